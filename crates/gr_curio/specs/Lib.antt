@@ -1,0 +1,5 @@
+pub mod Values
+pub mod Order
+pub mod Wants
+pub mod Moments
+pub mod Due

@@ -1,0 +1,59 @@
+ghost use Rattle.gr_curio.specs.Order.{is_at_most, greater_of, curiosity_laws};
+ghost use Rattle.gr_curio.specs.declared.values.Q3.TheVariants.{N};
+
+use gr_tick::Lattice;
+
+/// Nothing asked, asked, acknowledged.
+#[derive(Clone, Copy, Debug, PartialEq, Eq)]
+pub enum Q3 {
+    N,
+    C,
+    A,
+}
+
+impl Lattice for Q3 {
+    ghost least = { N };
+
+    ghost join_of = { greater_of };
+
+    ghost is_at_most = { is_at_most };
+
+    ghost laws = { curiosity_laws };
+
+    fn bottom() -> Q3 {
+        Q3::N
+    }
+
+    fn join(self, other: Q3) -> Q3 {
+        match self {
+            Q3::N => other,
+            Q3::C => match other {
+                Q3::N | Q3::C => Q3::C,
+                Q3::A => Q3::A,
+            },
+            Q3::A => Q3::A,
+        }
+    }
+
+    fn at_most(&self, other: &Q3) -> bool {
+        match self {
+            Q3::N => true,
+            Q3::C => match other {
+                Q3::N => false,
+                Q3::C | Q3::A => true,
+            },
+            Q3::A => match other {
+                Q3::N | Q3::C => false,
+                Q3::A => true,
+            },
+        }
+    }
+
+    fn same(&self, other: &Q3) -> bool {
+        *self == *other
+    }
+
+    fn share(&self) -> Q3 {
+        *self
+    }
+}

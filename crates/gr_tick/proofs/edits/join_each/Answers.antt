@@ -1,0 +1,36 @@
+use Rattle.std.proofs.Common.{◌+◌, ◌≤◌, drop, arith}
+use Rattle.gr_tick.specs.Stored.{needed}
+use Rattle.gr_tick.proofs.RunsLemmas.{growth-le}
+use Rattle.gr_tick.proofs.StepLemmas.{read_alone, needed-drop, needed_step, each_more}
+use Rattle.gr_tick.proofs.edits.join_each.Goals as goal
+
+pub join_over-requires-clause-room : goal.join_over-requires-clause-room
+join_over-requires-clause-room g c =
+    omega (
+      arith,
+      growth-le c.other-item.result.first c.other-item.result.last c.loop-other.runs.items,
+      needed-drop c.loop-other.runs.items c.args.others.now c.loop-other.other-index c.other-item.result (omega arith) c.other-item.is,
+    )
+
+pub join_over-requires-clause-from_one : goal.join_over-requires-clause-from_one
+join_over-requires-clause-from_one g c = (read_alone g.V.Lattice.least c.args.others.now c.loop-other.other-index c.other-item.result (omega arith) c.other-item.is c.requires.others).from_one
+
+pub join_over-requires-clause-ordered : goal.join_over-requires-clause-ordered
+join_over-requires-clause-ordered g c = (read_alone g.V.Lattice.least c.args.others.now c.loop-other.other-index c.other-item.result (omega arith) c.other-item.is c.requires.others).ordered
+
+pub join_over-requires-clause-upto : goal.join_over-requires-clause-upto
+join_over-requires-clause-upto g c = (read_alone g.V.Lattice.least c.args.others.now c.loop-other.other-index c.other-item.result (omega arith) c.other-item.is c.requires.others).upto
+
+pub join_over-requires-clause-known : goal.join_over-requires-clause-known
+join_over-requires-clause-known g c = (read_alone g.V.Lattice.least c.args.others.now c.loop-other.other-index c.other-item.result (omega arith) c.other-item.is c.requires.others).known
+
+pub loop-other-preserved : goal.loop-other-preserved
+loop-other-preserved g c =
+    let first = needed-drop c.loop-other.runs.items c.args.others.now c.loop-other.other-index c.other-item.result (omega arith) c.other-item.is in
+    let rest : needed c.join_over.new.runs.items (drop (c.loop-other.other-index + 1) c.args.others.now) ≤ needed c.loop-other.runs.items (drop (c.loop-other.other-index + 1) c.args.others.now) =
+    needed_step g.V.Lattice.least c.loop-other.runs.items c.join_over.new.runs.items c.args.others.now c.loop-other.other-index (needed c.loop-other.runs.items (drop c.loop-other.other-index c.args.others.now)) (needed c.loop-other.runs.items (drop (c.loop-other.other-index + 1) c.args.others.now)) c.other-item.result (omega arith) c.other-item.is c.requires.others c.join_over.ensures.later (omega arith) (omega (arith, first)) in
+    record {
+      runs = c.join_over.ensures.runs;
+      values = λ t. each_more g.V.Lattice.least g.V.Lattice.join_of g.V.Lattice.is_at_most c.args.others.now c.loop-other.other-index t c.other-item.result _ _ _ g.met.V.Lattice.laws (omega arith) c.other-item.is c.requires.others (c.loop-other.invariant.values t) (c.join_over.ensures.values t);
+      room = omega (arith, first, rest, growth-le c.other-item.result.first c.other-item.result.last c.loop-other.runs.items);
+    }

@@ -1,0 +1,458 @@
+//! Edits of a vector of runs. None takes memory: where one may leave more runs, it asks for the room.
+ghost use Rattle.std.specs.Prelude.{if◌then◌else◌, IfSome, ◌≡◌, ◌≢◌, ℕ, ◌+◌, ◌-◌, ◌<◌, ◌≤◌, ◌&&◌, nat_le, cond, List, [], ◌∷◌, ◌++◌, length, take, drop, insert, ◌^◌, ◌⊎◌};
+ghost use Rattle.std.specs.List.{HoldsAt};
+ghost use Rattle.std.specs.Vec.{vec_len, vec_capacity};
+ghost use Rattle.gr_tick.specs.Runs.{value_at, is_in};
+ghost use Rattle.gr_tick.specs.Stored.{IsRun, AreTickRuns, EndBefore, BeginAfter, part, room, growth, within, between, runs_in, needed};
+
+use crate::MAX_TICK;
+use crate::lattice::Lattice;
+use crate::run::Run;
+
+/// Inserts a run where there is room.
+fn insert_run<V: Lattice>(runs: &mut Vec<Run<V>>, i: usize, run: Run<V>)
+    requires within { i ≤ vec_len runs.old }
+    requires room { vec_len runs.old < vec_capacity runs.old }
+    ensures items { runs.new.items ≡ insert runs.old.items i run }
+    ensures len { vec_len runs.new ≡ vec_len runs.old + 1 }
+    ensures capacity { vec_capacity runs.old ≤ vec_capacity runs.new }
+{
+    match runs.insert(i, run) {
+        Ok(()) => {}
+        Err(_) => unreachable!(),
+    }
+}
+
+/// Inserts the run of a range at a place, if the range is not empty, and answers the place after it.
+fn insert_part<V: Lattice>(
+    runs: &mut Vec<Run<V>>,
+    i: usize,
+    first: u64,
+    last: u64,
+    value: &V,
+) -> usize
+    requires within { i ≤ vec_len runs.old }
+    requires room { first ≤ last → vec_len runs.old < vec_capacity runs.old }
+    ensures items { runs.new.items ≡ take i runs.old.items ++ (part first last value.now ++ drop i runs.old.items) }
+    ensures place { result ≡ i + length (part first last value.now) }
+    ensures within { result ≤ vec_len runs.new }
+    ensures capacity { vec_capacity runs.old ≤ vec_capacity runs.new }
+{
+    if first > last {
+        return i;
+    }
+    insert_run(
+        runs,
+        i,
+        Run {
+            first,
+            last,
+            value: value.share(),
+        },
+    );
+    i + 1
+}
+
+/// Where the runs that end at a tick or later begin.
+#[tactic(auto, using(crate::proofs::RunsLemmas::seek_steps))]
+fn seek<V: Lattice>(runs: &[Run<V>], tick: u64) -> usize
+    ensures within { result ≤ length runs.now }
+    ensures front { EndBefore (take result runs.now) tick }
+    ensures here { (r : Run V) (rs : List (Run V)) → drop result runs.now ≡ r ∷ rs → tick ≤ r.last }
+{
+    for (i, run) in runs.iter().enumerate() {
+        if tick <= run.last {
+            return i;
+        }
+    }
+    runs.len()
+}
+
+/// Joins the run before a place to a run that begins past it, where they form one run: removes it, and answers the place
+/// then, with the longer run.
+fn absorb_before<V: Lattice>(runs: &mut Vec<Run<V>>, i: usize, run: Run<V>) -> (usize, Run<V>)
+    requires within { i ≤ vec_len runs.old }
+    requires runs { AreTickRuns V.least (take i runs.old.items) }
+    requires past { EndBefore (take i runs.old.items) run.first }
+    requires alone { IsRun V.least run }
+    ensures within { result.0 ≤ vec_len runs.new }
+    ensures rest { drop result.0 runs.new.items ≡ drop i runs.old.items }
+    ensures runs { AreTickRuns V.least (take result.0 runs.new.items ++ result.1 ∷ []) }
+    ensures values { (d : V) (t : ℕ) → value_at d (take result.0 runs.new.items ++ result.1 ∷ []) t ≡ value_at d (take i runs.old.items ++ run ∷ []) t }
+    ensures last { result.1.last ≡ run.last }
+    ensures value { result.1.value ≡ run.value }
+    ensures first { result.1.first ≤ run.first }
+    ensures len { vec_len runs.new ≤ vec_len runs.old }
+    ensures capacity { vec_capacity runs.new ≡ vec_capacity runs.old }
+{
+    if i == 0 {
+        return (i, run);
+    }
+    let before = &runs[i - 1];
+    if before.last + 1 != run.first {
+        return (i, run);
+    }
+    if !before.value.same(&run.value) {
+        return (i, run);
+    }
+    let removed = runs.remove(i - 1);
+    (
+        i - 1,
+        Run {
+            first: removed.first,
+            last: run.last,
+            value: run.value,
+        },
+    )
+}
+
+/// Joins the run at a place to a run that ends ahead of it, where they form one run: removes it, and answers the longer run.
+fn absorb_after<V: Lattice>(runs: &mut Vec<Run<V>>, i: usize, run: Run<V>) -> Run<V>
+    requires within { i ≤ vec_len runs.old }
+    requires runs { AreTickRuns V.least (drop i runs.old.items) }
+    requires ahead { BeginAfter (drop i runs.old.items) run.last }
+    requires alone { IsRun V.least run }
+    ensures within { i ≤ vec_len runs.new }
+    ensures front { take i runs.new.items ≡ take i runs.old.items }
+    ensures runs { AreTickRuns V.least (result ∷ drop i runs.new.items) }
+    ensures values { (d : V) (t : ℕ) → value_at d (result ∷ drop i runs.new.items) t ≡ value_at d (run ∷ drop i runs.old.items) t }
+    ensures first { result.first ≡ run.first }
+    ensures value { result.value ≡ run.value }
+    ensures room { (last : ℕ) → room (run.last + 1) last (result ∷ drop i runs.new.items) + vec_len runs.new ≤ room (run.last + 1) last (drop i runs.old.items) + vec_len runs.old }
+    ensures later { (f l : ℕ) → run.last < f → f ≤ l → runs_in f l (result ∷ drop i runs.new.items) ≤ runs_in f l (drop i runs.old.items) }
+    ensures len { vec_len runs.new ≤ vec_len runs.old }
+    ensures capacity { vec_capacity runs.new ≡ vec_capacity runs.old }
+{
+    if i == runs.len() {
+        return run;
+    }
+    let after = &runs[i];
+    if run.last + 1 != after.first {
+        return run;
+    }
+    if !after.value.same(&run.value) {
+        return run;
+    }
+    let removed = runs.remove(i);
+    Run {
+        first: run.first,
+        last: removed.last,
+        value: run.value,
+    }
+}
+
+/// Puts a run into the gap before a place.
+pub fn put_run<V: Lattice>(runs: &mut Vec<Run<V>>, i: usize, run: Run<V>)
+    requires within { i ≤ vec_len runs.old }
+    requires room { vec_len runs.old < vec_capacity runs.old }
+    requires before { AreTickRuns V.least (take i runs.old.items) }
+    requires after { AreTickRuns V.least (drop i runs.old.items) }
+    requires past { EndBefore (take i runs.old.items) run.first }
+    requires ahead { BeginAfter (drop i runs.old.items) run.last }
+    requires alone { IsRun V.least run }
+    ensures runs { AreTickRuns V.least runs.new.items }
+    ensures values { (t : ℕ) → value_at V.least runs.new.items t ≡ cond (is_in t run) run.value (value_at V.least runs.old.items t) }
+    ensures room { (last : ℕ) → room (run.last + 1) last runs.new.items + vec_len runs.new ≤ room (run.last + 1) last (drop i runs.old.items) + vec_len runs.old + 1 }
+    ensures later { (f l : ℕ) → run.last < f → f ≤ l → runs_in f l runs.new.items ≤ runs_in f l (drop i runs.old.items) }
+    ensures len { vec_len runs.new ≤ vec_len runs.old + 1 }
+    ensures capacity { vec_capacity runs.old ≤ vec_capacity runs.new }
+{
+    let (place, longer) = absorb_before(runs, i, run);
+    let longest = absorb_after(runs, place, longer);
+    insert_run(runs, place, longest);
+}
+
+/// Inserts at a place what a run has outside a range of it, and answers where the range lies then.
+fn keep_rest<V: Lattice>(
+    runs: &mut Vec<Run<V>>,
+    i: usize,
+    run: &Run<V>,
+    first: u64,
+    last: u64,
+) -> usize
+    requires within { i ≤ vec_len runs.old }
+    requires room { vec_len runs.old + 1 < vec_capacity runs.old }
+    requires alone { IsRun V.least run.now }
+    requires begins { run.now.first ≤ first }
+    requires ordered { first ≤ last }
+    requires ends { last ≤ run.now.last }
+    ensures within { result ≤ vec_len runs.new }
+    ensures before { take result runs.new.items ≡ take i runs.old.items ++ part run.now.first (first - 1) run.now.value }
+    ensures after { drop result runs.new.items ≡ part (last + 1) run.now.last run.now.value ++ drop i runs.old.items }
+    ensures len { vec_len runs.new ≡ vec_len runs.old + length (part run.now.first (first - 1) run.now.value) + length (part (last + 1) run.now.last run.now.value) }
+    ensures capacity { vec_capacity runs.old ≤ vec_capacity runs.new }
+{
+    let place = insert_part(runs, i, run.first, first - 1, &run.value);
+    insert_part(runs, place, last + 1, run.last, &run.value);
+    place
+}
+
+/// Joins a value on a part of the gap before a place.
+fn join_gap<V: Lattice>(runs: &mut Vec<Run<V>>, i: usize, first: u64, last: u64, value: &V)
+    requires within { i ≤ vec_len runs.old }
+    requires room { vec_len runs.old < vec_capacity runs.old }
+    requires runs { AreTickRuns V.least runs.old.items }
+    requires past { EndBefore (take i runs.old.items) first }
+    requires ahead { BeginAfter (drop i runs.old.items) last }
+    requires from_one { 1 ≤ first }
+    requires ordered { first ≤ last }
+    requires upto { last ≤ 2 ^ 62 }
+    requires known { value.now ≢ V.least }
+    ensures runs { AreTickRuns V.least runs.new.items }
+    ensures values { (t : ℕ) → value_at V.least runs.new.items t ≡ (if within first last t then V.join_of (value_at V.least runs.old.items t) value.now else value_at V.least runs.old.items t) }
+    ensures room { (end : ℕ) → room (last + 1) end runs.new.items + vec_len runs.new ≤ room (last + 1) end (drop i runs.old.items) + vec_len runs.old + 1 }
+    ensures later { (f l : ℕ) → last < f → f ≤ l → runs_in f l runs.new.items ≤ runs_in f l runs.old.items }
+    ensures len { vec_len runs.new ≤ vec_len runs.old + 1 }
+    ensures capacity { vec_capacity runs.old ≤ vec_capacity runs.new }
+{
+    put_run(
+        runs,
+        i,
+        Run {
+            first,
+            last,
+            value: value.share(),
+        },
+    );
+}
+
+/// Joins a value on a part of the run at a place.
+fn join_run<V: Lattice>(runs: &mut Vec<Run<V>>, i: usize, first: u64, last: u64, value: &V)
+    requires within { i < vec_len runs.old }
+    requires room { HoldsAt (λ r. vec_len runs.old + length (part r.first (first - 1) r.value) < vec_capacity runs.old) runs.old.items i }
+    requires runs { AreTickRuns V.least runs.old.items }
+    requires holds { HoldsAt (λ r. (r.first ≤ first) × (last ≤ r.last)) runs.old.items i }
+    requires ordered { first ≤ last }
+    ensures runs { AreTickRuns V.least runs.new.items }
+    ensures values { (t : ℕ) → value_at V.least runs.new.items t ≡ (if within first last t then V.join_of (value_at V.least runs.old.items t) value.now else value_at V.least runs.old.items t) }
+    ensures growth { HoldsAt (λ r. (end : ℕ) → first ≤ end → (last ≡ end) ⊎ (last ≡ r.last) → growth (last + 1) end runs.new.items + vec_len runs.new ≤ growth first end runs.old.items + vec_len runs.old) runs.old.items i }
+    ensures later { (f l : ℕ) → last < f → f ≤ l → runs_in f l runs.new.items ≤ runs_in f l runs.old.items }
+    ensures capacity { vec_capacity runs.old ≤ vec_capacity runs.new }
+{
+    let run = runs.remove(i);
+    let place = keep_rest(runs, i, &run, first, last);
+    let joined = run.value.join(value.share());
+    put_run(
+        runs,
+        place,
+        Run {
+            first,
+            last,
+            value: joined,
+        },
+    );
+}
+
+/// Joins a value from one tick on, as far as one run or one gap goes, and answers the last tick that it came to.
+fn join_step<V: Lattice>(runs: &mut Vec<Run<V>>, first: u64, last: u64, value: &V) -> u64
+    requires room { growth first last runs.old.items + vec_len runs.old ≤ vec_capacity runs.old }
+    requires runs { AreTickRuns V.least runs.old.items }
+    requires from_one { 1 ≤ first }
+    requires ordered { first ≤ last }
+    requires upto { last ≤ 2 ^ 62 }
+    requires known { value.now ≢ V.least }
+    ensures forward { first ≤ result }
+    ensures inside { result ≤ last }
+    ensures runs { AreTickRuns V.least runs.new.items }
+    ensures values { (t : ℕ) → value_at V.least runs.new.items t ≡ (if within first result t then V.join_of (value_at V.least runs.old.items t) value.now else value_at V.least runs.old.items t) }
+    ensures growth { growth (result + 1) last runs.new.items + vec_len runs.new ≤ growth first last runs.old.items + vec_len runs.old }
+    ensures later { (f l : ℕ) → result < f → f ≤ l → runs_in f l runs.new.items ≤ runs_in f l runs.old.items }
+    ensures capacity { vec_capacity runs.old ≤ vec_capacity runs.new }
+{
+    let i = seek(runs, first);
+    if i == runs.len() {
+        join_gap(runs, i, first, last, value);
+        return last;
+    }
+    let start = runs[i].first;
+    let stop = runs[i].last;
+    if last < start {
+        join_gap(runs, i, first, last, value);
+        return last;
+    }
+    if first < start {
+        join_gap(runs, i, first, start - 1, value);
+        return start - 1;
+    }
+    if last < stop {
+        join_run(runs, i, first, last, value);
+        return last;
+    }
+    join_run(runs, i, first, stop, value);
+    stop
+}
+
+/// Joins a value on a range.
+pub fn join_over<V: Lattice>(runs: &mut Vec<Run<V>>, first: u64, last: u64, value: &V)
+    requires room { growth first last runs.old.items + vec_len runs.old ≤ vec_capacity runs.old }
+    requires runs { AreTickRuns V.least runs.old.items }
+    requires from_one { 1 ≤ first }
+    requires ordered { first ≤ last }
+    requires upto { last ≤ 2 ^ 62 }
+    requires known { value.now ≢ V.least }
+    ensures runs { AreTickRuns V.least runs.new.items }
+    ensures values { (t : ℕ) → value_at V.least runs.new.items t ≡ (if within first last t then V.join_of (value_at V.least runs.old.items t) value.now else value_at V.least runs.old.items t) }
+    ensures len { vec_len runs.new ≤ growth first last runs.old.items + vec_len runs.old }
+    ensures later { (f l : ℕ) → last < f → f ≤ l → runs_in f l runs.new.items ≤ runs_in f l runs.old.items }
+    ensures capacity { vec_capacity runs.old ≤ vec_capacity runs.new }
+{
+    let mut next = first;
+    while next <= last {
+        next = join_step(runs, next, last, value) + 1;
+    }
+}
+
+/// The value at a tick.
+pub fn value_in<V: Lattice>(runs: &[Run<V>], tick: u64) -> V
+    ensures { result ≡ value_at V.least runs.now tick }
+{
+    for run in runs {
+        if run.first <= tick && tick <= run.last {
+            return run.value.share();
+        }
+    }
+    V::bottom()
+}
+
+/// How many runs have a tick of a range.
+pub fn count_in<V: Lattice>(runs: &[Run<V>], first: u64, last: u64) -> usize
+    ensures { result ≡ runs_in first last runs.now }
+{
+    runs.iter()
+        .filter(|run| run.first <= last && first <= run.last)
+        .count()
+}
+
+/// The tick after a run that has the tick, and else the tick.
+fn after_run<V: Lattice>(run: &Run<V>, tick: u64) -> u64
+    requires { run.now.last ≤ 2 ^ 62 }
+    ensures { result ≡ (if is_in tick run.now then run.now.last + 1 else tick) }
+{
+    if run.first <= tick && tick <= run.last {
+        run.last + 1
+    } else {
+        tick
+    }
+}
+
+/// The least tick from `tick` on with the least value.
+pub fn next_bottom<V: Lattice>(runs: &[Run<V>], tick: u64) -> u64
+    requires runs { AreTickRuns V.least runs.now }
+    requires upto { tick ≤ 2 ^ 62 + 1 }
+    ensures forward { tick ≤ result }
+    ensures inside { result ≤ 2 ^ 62 + 1 }
+    ensures bottom { value_at V.least runs.now result ≡ V.least }
+    ensures least { (t : ℕ) → tick ≤ t → t < result → value_at V.least runs.now t ≢ V.least }
+{
+    let mut next = tick;
+    for run in runs {
+        next = after_run(run, next);
+    }
+    next
+}
+
+/// Takes a part of the run at a place out.
+fn lower_run<V: Lattice>(runs: &mut Vec<Run<V>>, i: usize, first: u64, last: u64)
+    requires within { i < vec_len runs.old }
+    requires room { vec_len runs.old < vec_capacity runs.old }
+    requires runs { AreTickRuns V.least runs.old.items }
+    requires holds { HoldsAt (λ r. (r.first ≤ first) × (last ≤ r.last)) runs.old.items i }
+    requires ordered { first ≤ last }
+    ensures runs { AreTickRuns V.least runs.new.items }
+    ensures values { (t : ℕ) → value_at V.least runs.new.items t ≡ (if within first last t then V.least else value_at V.least runs.old.items t) }
+    ensures len { HoldsAt (λ r. last ≡ r.last → vec_len runs.new ≤ vec_len runs.old) runs.old.items i }
+    ensures capacity { vec_capacity runs.old ≤ vec_capacity runs.new }
+{
+    let run = runs.remove(i);
+    keep_rest(runs, i, &run, first, last);
+}
+
+/// Puts the least value from one tick on, as far as one run or one gap goes, and answers the last tick that it came to.
+fn lower_step<V: Lattice>(runs: &mut Vec<Run<V>>, first: u64, last: u64) -> u64
+    requires room { vec_len runs.old < vec_capacity runs.old }
+    requires runs { AreTickRuns V.least runs.old.items }
+    requires ordered { first ≤ last }
+    ensures forward { first ≤ result }
+    ensures inside { result ≤ last }
+    ensures runs { AreTickRuns V.least runs.new.items }
+    ensures values { (t : ℕ) → value_at V.least runs.new.items t ≡ (if within first result t then V.least else value_at V.least runs.old.items t) }
+    ensures room { result < last → vec_len runs.new < vec_capacity runs.new }
+{
+    let i = seek(runs, first);
+    if i == runs.len() {
+        return last;
+    }
+    let start = runs[i].first;
+    let stop = runs[i].last;
+    if last < start {
+        return last;
+    }
+    if first < start {
+        return start - 1;
+    }
+    if last < stop {
+        lower_run(runs, i, first, last);
+        return last;
+    }
+    lower_run(runs, i, first, stop);
+    stop
+}
+
+/// Puts the least value on a range.
+pub fn lower_over<V: Lattice>(runs: &mut Vec<Run<V>>, first: u64, last: u64)
+    requires room { vec_len runs.old < vec_capacity runs.old }
+    requires runs { AreTickRuns V.least runs.old.items }
+    requires ordered { first ≤ last }
+    requires upto { last ≤ 2 ^ 62 }
+    ensures runs { AreTickRuns V.least runs.new.items }
+    ensures values { (t : ℕ) → value_at V.least runs.new.items t ≡ (if within first last t then V.least else value_at V.least runs.old.items t) }
+{
+    let mut next = first;
+    while next <= last {
+        next = lower_step(runs, next, last) + 1;
+    }
+}
+
+/// A tick up to which the value stays that of `tick`.
+pub fn steady_until<V: Lattice>(runs: &[Run<V>], tick: u64) -> u64
+    requires runs { AreTickRuns V.least runs.now }
+    requires upto { tick ≤ 2 ^ 62 }
+    ensures forward { tick ≤ result }
+    ensures inside { result ≤ 2 ^ 62 }
+    ensures steady { (t : ℕ) → tick ≤ t → t ≤ result → value_at V.least runs.now t ≡ value_at V.least runs.now tick }
+{
+    let i = seek(runs, tick);
+    if i == runs.len() {
+        return MAX_TICK;
+    }
+    let run = &runs[i];
+    if tick < run.first {
+        return run.first - 1;
+    }
+    run.last
+}
+
+/// The room that is enough to join each run of a list, if it is a number of the machine's.
+pub fn room_for<V: Lattice>(runs: &[Run<V>], others: &[Run<V>]) -> Option<usize>
+    ensures { IfSome result (λ n. n ≡ needed runs.now others.now) }
+{
+    let mut room = 0usize;
+    for other in others {
+        let more = count_in(runs, other.first, other.last).checked_add(1)?;
+        room = room.checked_add(more)?;
+    }
+    Some(room)
+}
+
+/// Joins each run of a list.
+pub fn join_each<V: Lattice>(runs: &mut Vec<Run<V>>, others: &[Run<V>])
+    requires room { needed runs.old.items others.now + vec_len runs.old ≤ vec_capacity runs.old }
+    requires runs { AreTickRuns V.least runs.old.items }
+    requires others { AreTickRuns V.least others.now }
+    ensures runs { AreTickRuns V.least runs.new.items }
+    ensures values { (t : ℕ) → value_at V.least runs.new.items t ≡ V.join_of (value_at V.least runs.old.items t) (value_at V.least others.now t) }
+{
+    for other in others {
+        join_over(runs, other.first, other.last, &other.value);
+    }
+}
