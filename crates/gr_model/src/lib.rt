@@ -3,5 +3,6 @@
 #![tactic(auto)]
 
 pub mod report;
+pub mod theorems;
 
 pub use report::{Report, Reports};
