@@ -53,7 +53,7 @@ event_at-step : (events : List (ℕ × Event)) (t : ℕ) → IsNone (suc t) (eve
 event_at-step [] t n = refl
 event_at-step (x ∷ xs) t n = rw (ne_eqb x.0 (suc t) (λ e. n.0 (sym e)), ne_eqb x.0 t (λ e. n.1.0 (ap suc (sym e)))) (event_at-step xs t n.1.1)
 
-log_know-is : (log : Log) → AreRunsOf Q (log_at log) (log_know log)
+pub log_know-is : (log : Log) → AreRunsOf Q (log_at log) (log_know log)
 unfolding log_know
 log_know-is log =
     tabulate-is Q same_K K_decides (log_at log) (1 ∷ (suc log.cut ∷ (suc log.settled ∷ event_points log.events))) (record {

@@ -1,0 +1,4 @@
+pub mod Host
+pub mod News
+pub mod Far
+pub mod Steps
