@@ -105,13 +105,10 @@ impl Know {
     pub fn clash(&self, piece: &Piece<K>) -> Option<Clash>
         ensures { MatchOption result ((t : ℕ) → clash_K (known_at self.now t) (known_at piece.now t) ≡ false) (λ c. IsLeastClash (known_at self.now) (known_at piece.now) c.tick c.kept c.came) }
     {
-        let found = find_clash(&self.stream, piece);
-        let _ = self.stream.len();
-        let _ = piece.len();
-        found
+        find_clash(&self.stream, piece)
     }
 
-    /// Joins a piece that clashes nowhere, and answers what is new of it: its values at the ticks that were unknown.
+    /// Joins a piece, and answers what is new of it: its values at the ticks that were unknown.
     /// `Memory` leaves the knowledge as it was.
     pub fn learn(&mut self, piece: &Piece<K>) -> Result<Piece<K>, AllocError>
         ensures fresh { IfOk result (λ fresh. RunsGive Q fresh (λ t. new_K (known_at self.old t) (known_at piece.now t))) }
@@ -147,9 +144,9 @@ impl Know {
     }
 }
 
-/// The least clashing tick within the range of ticks.
+/// The least clashing tick.
 fn find_clash(stream: &Stream<K>, piece: &Piece<K>) -> Option<Clash>
-    ensures { MatchOption result ((t : ℕ) → 1 ≤ t → t ≤ 2 ^ 62 → clash_K (known_at stream.now.runs t) (known_at piece.now t) ≡ false) (λ c. IsLeastClash (known_at stream.now.runs) (known_at piece.now) c.tick c.kept c.came) }
+    ensures { MatchOption result ((t : ℕ) → clash_K (known_at stream.now.runs t) (known_at piece.now t) ≡ false) (λ c. IsLeastClash (known_at stream.now.runs) (known_at piece.now) c.tick c.kept c.came) }
 {
     let mut next = 1;
     while next <= MAX_TICK {
@@ -164,6 +161,8 @@ fn find_clash(stream: &Stream<K>, piece: &Piece<K>) -> Option<Clash>
         }
         next = settled_until(stream, piece, next) + 1;
     }
+    let _ = stream.len();
+    let _ = piece.len();
     None
 }
 

@@ -1,9 +1,11 @@
 -- What a list of runs in range tells the layer above: it is canonical, it ends by the last tick, and its values determine it.
-use Rattle.std.proofs.Common.{◌≡◌, ◌≢◌, ℕ, suc, ◌+◌, ◌^◌, ◌≤◌, Bool, List, [], ◌∷◌, sym, ◌∙◌, arith}
+use Rattle.std.proofs.Common.{◌≡◌, ℕ, suc, ◌+◌, ◌^◌, ◌<◌, ◌≤◌, ◌⊎◌, inl, inr, Bool, false, nat_le, List, [], ◌∷◌, sym, ◌∙◌, arith}
+use Rattle.std.proofs.lemmas.Bool.{false≢true, le-leb, and_from, cases_lt}
 use Rattle.gr_tick.specs.declared.run.Run.{Run}
 use Rattle.gr_tick.specs.Runs.{value_at, AreRunsFrom, AreRuns, Decides_same, zip_runs, tabulate, IsSteady}
-use Rattle.gr_tick.specs.Stored.{AreTickRuns, EndBefore, RunsGive}
-use Rattle.gr_tick.proofs.RunLaws.{runs_equal, zip_runs-is, tabulate-is}
+use Rattle.gr_tick.specs.Stored.{within, AreTickRuns, EndBefore, RunsGive}
+use Rattle.gr_tick.proofs.RunLaws.{value_at-start, runs_equal, zip_runs-is, tabulate-is}
+use Rattle.gr_tick.proofs.RunsLemmas.{value_at_past}
 
 module _ {V : Type 0} where
   begins_from : ℕ → List (Run V) → Type 0
@@ -31,6 +33,15 @@ module _ {V : Type 0} where
   pub EndBefore-in_range : (least : V) (rs : List (Run V)) → AreTickRuns least rs → EndBefore rs (2 ^ 62 + 1)
   EndBefore-in_range least [] h = tt
   EndBefore-in_range least (r ∷ rs) h = (omega (arith, h.0.upto), EndBefore-in_range least rs h.2)
+
+  -- a tick out of range has the least value
+  pub value_at-outside : (least : V) (rs : List (Run V)) (t : ℕ) → AreRuns least rs → EndBefore rs (2 ^ 62 + 1) → within 1 (2 ^ 62) t ≡ false → value_at least rs t ≡ least
+  value_at-outside least rs t a b out = by_place (cases_lt t 1) (cases_lt (2 ^ 62) t)
+    where
+      by_place : (t < 1) ⊎ (1 ≤ t) → (2 ^ 62 < t) ⊎ (t ≤ 2 ^ 62) → value_at least rs t ≡ least
+      by_place (inl lt) p = value_at-start least 1 rs t a lt
+      by_place (inr ge) (inl gt) = value_at_past least rs (2 ^ 62 + 1) t b (omega arith)
+      by_place (inr ge) (inr le) = absurd (false≢true (sym out ∙ and_from (nat_le 1 t) (nat_le t (2 ^ 62)) (le-leb 1 t ge) (le-leb t (2 ^ 62) le)))
 
   pub RunsGive-in_range : (least : V) (rs : List (Run V)) (g : ℕ → V) → AreTickRuns least rs → ((t : ℕ) → value_at least rs t ≡ g t) → RunsGive least rs g
   RunsGive-in_range least rs g h v = record {

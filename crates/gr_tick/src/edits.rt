@@ -11,10 +11,7 @@ use crate::run::Run;
 use std::alloc::{AllocError, Global};
 
 /// Equal runs, or `AllocError`.
-pub fn copy_runs<V: Lattice>(
-    alloc: Global,
-    runs: &[Run<V>],
-) -> Result<Vec<Run<V>>, AllocError>
+pub fn copy_runs<V: Lattice>(alloc: Global, runs: &[Run<V>]) -> Result<Vec<Run<V>>, AllocError>
     ensures { IfOk result (λ copy. copy.items ≡ runs.now) }
 {
     let mut copy = Vec::new(alloc);

@@ -10,7 +10,6 @@ returns-then-from-upto-clause-ok g c =
     RunsGive-in_range g.V.Lattice.least c.args.self.now _ (rw c.self.view_is at c.self.invariant)
     (λ t. none_within (max c.args.first c.args.run.now.first) (min c.args.last c.args.run.now.last) t (value_at g.V.Lattice.least c.args.self.now t) c.args.run.now.value (omega arith))
 
-
 pub returns-then-from-upto-clause-past : goal.returns-then-from-upto-clause-past
 returns-then-from-upto-clause-past g c = λ t lt. EndBefore-later _ _ _ c.requires.past (omega (arith, c.requires.alone.ordered))
 
