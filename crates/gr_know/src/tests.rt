@@ -1,8 +1,8 @@
 use crate::knowledge::Know;
 use crate::values::K;
 use gr_event::Event;
-use std::test::Fail;
 use gr_tick::{Lattice, Piece, Run};
+use std::test::Fail;
 
 #[test]
 fn learns_what_is_new(rt: HostRuntime) -> Result<(), Fail> {

@@ -1,13 +1,31 @@
 //! Edits of a vector of runs. None takes memory: where one may leave more runs, it asks for the room.
-ghost use Rattle.std.specs.Prelude.{if◌then◌else◌, IfSome, ◌≡◌, ◌≢◌, ℕ, ◌+◌, ◌-◌, ◌<◌, ◌≤◌, ◌&&◌, nat_le, cond, List, [], ◌∷◌, ◌++◌, length, take, drop, insert, ◌^◌, ◌⊎◌};
+ghost use Rattle.std.specs.Prelude.{if◌then◌else◌, IfSome, IfOk, ◌≡◌, ◌≢◌, ℕ, ◌+◌, ◌-◌, ◌<◌, ◌≤◌, ◌&&◌, nat_le, cond, List, [], ◌∷◌, ◌++◌, length, take, drop, insert, ◌^◌, ◌⊎◌};
 ghost use Rattle.std.specs.List.{HoldsAt};
 ghost use Rattle.std.specs.Vec.{vec_len, vec_capacity};
 ghost use Rattle.gr_tick.specs.Runs.{value_at, is_in};
 ghost use Rattle.gr_tick.specs.Stored.{IsRun, AreTickRuns, EndBefore, BeginAfter, part, room, growth, within, between, runs_in, needed};
 
 use crate::MAX_TICK;
-use crate::lattice::Lattice;
+use crate::lattice::{Lattice, is_bottom};
 use crate::run::Run;
+use std::alloc::{AllocError, Global};
+
+/// Equal runs, or `AllocError`.
+pub fn copy_runs<V: Lattice>(alloc: Global, runs: &[Run<V>]) -> Result<Vec<Run<V>>, AllocError>
+    ensures { IfOk result (λ copy. copy.items ≡ runs.now) }
+{
+    let mut copy = Vec::new(alloc);
+    copy.reserve(runs.len())?;
+    for i in 0..runs.len() {
+        let run = &runs[i];
+        copy.push(Run {
+            first: run.first,
+            last: run.last,
+            value: run.value.share(),
+        })?;
+    }
+    Ok(copy)
+}
 
 /// Inserts a run where there is room.
 fn insert_run<V: Lattice>(runs: &mut Vec<Run<V>>, i: usize, run: Run<V>)
@@ -360,7 +378,8 @@ fn lower_run<V: Lattice>(runs: &mut Vec<Run<V>>, i: usize, first: u64, last: u64
     requires ordered { first ≤ last }
     ensures runs { AreTickRuns V.least runs.new.items }
     ensures values { (t : ℕ) → value_at V.least runs.new.items t ≡ (if within first last t then V.least else value_at V.least runs.old.items t) }
-    ensures len { HoldsAt (λ r. last ≡ r.last → vec_len runs.new ≤ vec_len runs.old) runs.old.items i }
+    ensures kept { HoldsAt (λ r. last ≡ r.last → vec_len runs.new ≤ vec_len runs.old) runs.old.items i }
+    ensures len { vec_len runs.new ≤ vec_len runs.old + 1 }
     ensures capacity { vec_capacity runs.old ≤ vec_capacity runs.new }
 {
     let run = runs.remove(i);
@@ -376,7 +395,9 @@ fn lower_step<V: Lattice>(runs: &mut Vec<Run<V>>, first: u64, last: u64) -> u64
     ensures inside { result ≤ last }
     ensures runs { AreTickRuns V.least runs.new.items }
     ensures values { (t : ℕ) → value_at V.least runs.new.items t ≡ (if within first result t then V.least else value_at V.least runs.old.items t) }
-    ensures room { result < last → vec_len runs.new < vec_capacity runs.new }
+    ensures kept { result < last → vec_len runs.new ≤ vec_len runs.old }
+    ensures len { vec_len runs.new ≤ vec_len runs.old + 1 }
+    ensures capacity { vec_capacity runs.old ≤ vec_capacity runs.new }
 {
     let i = seek(runs, first);
     if i == runs.len() {
@@ -406,6 +427,8 @@ pub fn lower_over<V: Lattice>(runs: &mut Vec<Run<V>>, first: u64, last: u64)
     requires upto { last ≤ 2 ^ 62 }
     ensures runs { AreTickRuns V.least runs.new.items }
     ensures values { (t : ℕ) → value_at V.least runs.new.items t ≡ (if within first last t then V.least else value_at V.least runs.old.items t) }
+    ensures len { vec_len runs.new ≤ vec_len runs.old + 1 }
+    ensures capacity { vec_capacity runs.old ≤ vec_capacity runs.new }
 {
     let mut next = first;
     while next <= last {
@@ -413,13 +436,34 @@ pub fn lower_over<V: Lattice>(runs: &mut Vec<Run<V>>, first: u64, last: u64)
     }
 }
 
-/// A tick up to which the value stays that of `tick`.
+/// Puts a value on a range.
+pub fn set_over<V: Lattice>(runs: &mut Vec<Run<V>>, first: u64, last: u64, value: &V)
+    requires room { vec_len runs.old + 2 ≤ vec_capacity runs.old }
+    requires runs { AreTickRuns V.least runs.old.items }
+    requires from_one { 1 ≤ first }
+    requires ordered { first ≤ last }
+    requires upto { last ≤ 2 ^ 62 }
+    ensures runs { AreTickRuns V.least runs.new.items }
+    ensures values { (t : ℕ) → value_at V.least runs.new.items t ≡ (if within first last t then value.now else value_at V.least runs.old.items t) }
+    ensures len { vec_len runs.new ≤ vec_len runs.old + 2 }
+    ensures capacity { vec_capacity runs.old ≤ vec_capacity runs.new }
+{
+    lower_over(runs, first, last);
+    if is_bottom(value) {
+        return;
+    }
+    let i = seek(runs, first);
+    join_gap(runs, i, first, last, value);
+}
+
+/// The greatest tick up to which the value stays that of `tick`.
 pub fn steady_until<V: Lattice>(runs: &[Run<V>], tick: u64) -> u64
     requires runs { AreTickRuns V.least runs.now }
     requires upto { tick ≤ 2 ^ 62 }
     ensures forward { tick ≤ result }
     ensures inside { result ≤ 2 ^ 62 }
     ensures steady { (t : ℕ) → tick ≤ t → t ≤ result → value_at V.least runs.now t ≡ value_at V.least runs.now tick }
+    ensures greatest { result < 2 ^ 62 → value_at V.least runs.now (result + 1) ≢ value_at V.least runs.now tick }
 {
     let i = seek(runs, tick);
     if i == runs.len() {

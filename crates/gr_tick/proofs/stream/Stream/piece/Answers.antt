@@ -15,6 +15,6 @@ loop-run-preserved g c =
     let runs : AreTickRuns g.V.Lattice.least c.deref-run-items.result.now = (subst (λ zs. AreTickRuns g.V.Lattice.least zs) (sym c.deref-run-items.ensures.value) c.self.invariant) in
     record {
       items = c.loop-run.invariant.items;
-      values = λ t. piece_more g.V.Lattice.least c.deref-run-items.result.now c.loop-run.run-index c.args.first c.args.last t c.run-item.result _ _ c.run-item.result.value (omega arith) c.run-item.is runs refl (c.loop-run.invariant.values t) (c.in_ok-push_cut.ensures.values t);
+      values = λ t. piece_more g.V.Lattice.least c.deref-run-items.result.now c.loop-run.run-index c.args.first c.args.last t c.run-item.result _ _ c.run-item.result.value (omega arith) c.run-item.is runs refl (c.loop-run.invariant.values t) (c.in_ok-push_cut.ensures.ok.values t);
       past = λ s rest e. next_begins g.V.Lattice.least c.deref-run-items.result.now _ c.loop-run.run-index c.run-item.result (omega arith) c.run-item.is runs c.in_ok-push_cut.ensures.past s rest e;
     }
