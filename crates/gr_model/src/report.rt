@@ -1,9 +1,12 @@
 //! The lines of a report.
 
+ghost use Rattle.std.specs.Prelude.{◌≡◌, ◌++◌, ◌∷◌, [], length, OnOk, OnErr, slice_get, ◌<◌, Some};
+
 use gr_curio::Q3;
 use gr_event::{Bytes, Event};
 use gr_know::K;
 use gr_tick::Piece;
+use std::alloc::{AllocError, Global};
 use std::marker::Model;
 
 /// One line of a report. Brokers, publishers and subscribers are numbers in the order of the topology.
@@ -184,4 +187,31 @@ impl Model for Reports {
     ghost Value = { List Report };
 
     ghost view = { λ r. r.lines.items };
+}
+
+impl Reports {
+    /// No line.
+    pub fn new(alloc: Global) -> Reports
+        ensures { result ≡ [] }
+    {
+        Reports {
+            lines: Vec::new(alloc),
+        }
+    }
+
+    /// Adds a line at the end. `Memory` leaves the list as it was.
+    pub fn push(&mut self, line: Report) -> Result<(), AllocError>
+        ensures ok { OnOk result (self.new ≡ self.old ++ line ∷ []) }
+        ensures err { OnErr result (self.new ≡ self.old) }
+    {
+        self.lines.push(line)?;
+        Ok(())
+    }
+
+    /// Its lines.
+    pub fn as_slice(&self) -> &[Report]
+        ensures { result.now ≡ self.now }
+    {
+        &self.lines
+    }
 }

@@ -5,7 +5,10 @@ use Rattle.std.proofs.lemmas.Bool.{ne_eqb, lt-leb, eqb-true, eq-eqb, cases_Bool,
 use Rattle.gr_event.specs.Event.{event_size}
 use Rattle.gr_event.specs.declared.event.Event.{Event}
 use Rattle.gr_tick.specs.declared.run.Run.{Run}
-use Rattle.gr_tick.specs.Runs.{value_at, AreRuns}
+use Rattle.gr_tick.specs.Runs.{value_at, AreRuns, is_in}
+use Rattle.gr_tick.specs.Stored.{RunsGive}
+use Rattle.gr_tick.proofs.Canonical.{given_runs}
+use Rattle.gr_tick.proofs.RunsLemmas.{covers_yes, covers_below, covers_above}
 use Rattle.gr_tick.proofs.RunLaws.{value_at-in, value_at-above, value_at-below}
 use Rattle.gr_know.specs.declared.values.K.{K}
 use Rattle.gr_know.specs.declared.values.K.TheVariants.{Q, S, D, F}
@@ -16,7 +19,7 @@ use Rattle.gryphon.specs.World.{EventsUpto, log_of_events, gate_of}
 use Rattle.gryphon.proofs.Host.{IsGrown}
 
 
-abbrev run_of : ℕ → ℕ → K → Run K
+abbrev pub run_of : ℕ → ℕ → K → Run K
 run_of first last v = record { first = first; last = last; value = v }
 
 -- what a publish at a tick makes known
@@ -172,3 +175,56 @@ grown last settled tick events e u lt size = record {
               ∙ ap (λ k. join_K (log_at (log_of_events last settled events) (suc n)) k) (sym (news-below settled tick e (suc n) lt h))
           | inl h ↦ past n h ∙ ap (λ k. join_K k (known_at (news settled tick e) (suc n))) (sym (log_at-past (log_of_events last settled events) (suc n) h))
         ]
+
+-- the values of the runs pushed one after another
+two_values : (settled tick : ℕ) (e : Event) (t : ℕ) → suc settled < tick → known_at (news settled tick e) t ≡ (if is_in t (run_of tick tick (D e)) then D e else (if is_in t (run_of (suc settled) (tick - 1) S) then S else Q))
+two_values settled tick e t lt =
+    elim (cases_lt settled t) [
+      | inr h ↦ news-below settled tick e t (omega arith) h
+          ∙ sym (ap₂ (λ a b. if a then D e else (if b then S else Q)) (covers_below (run_of tick tick (D e)) t (omega arith)) (covers_below (run_of (suc settled) (tick - 1) S) t (omega arith)))
+      | inl h ↦ elim (cases_lt t tick) [
+        | inl k ↦ news-between settled tick e t h k
+            ∙ sym (ap₂ (λ a b. if a then D e else (if b then S else Q)) (covers_below (run_of tick tick (D e)) t k) (covers_yes (run_of (suc settled) (tick - 1) S) t h (omega arith)))
+        | inr k ↦ elim (cases_lt tick t) [
+          | inl m ↦ news-above settled tick e t m
+              ∙ sym (ap₂ (λ a b. if a then D e else (if b then S else Q)) (covers_above (run_of tick tick (D e)) t m) (covers_above (run_of (suc settled) (tick - 1) S) t (omega arith)))
+          | inr m ↦
+              let q : t ≡ tick = omega arith in
+              ap (λ x. known_at (news settled tick e) x) q ∙ news-here settled tick e (omega arith)
+              ∙ sym (ap (λ a. if a then D e else (if is_in t (run_of (suc settled) (tick - 1) S) then S else Q)) (covers_yes (run_of tick tick (D e)) t k m))
+        ]
+      ]
+    ]
+
+one_value : (settled tick : ℕ) (e : Event) (t : ℕ) → settled < tick → tick ≤ suc settled → known_at (news settled tick e) t ≡ (if is_in t (run_of tick tick (D e)) then D e else Q)
+one_value settled tick e t lt le = by_silence (λ p. known_at p t ≡ (if is_in t (run_of tick tick (D e)) then D e else Q)) settled tick e (λ h. absurd (omega arith)) (λ h. refl)
+
+-- so the pushed piece is the one that the definition makes
+pub pushed_two : (settled tick : ℕ) (e : Event) (none one two : Known) → none ≡ [] → suc settled < tick →
+    RunsGive Q one (λ t. if is_in t (run_of (suc settled) (tick - 1) S) then S else known_at none t) →
+    RunsGive Q two (λ t. if is_in t (run_of tick tick (D e)) then D e else known_at one t) → two ≡ news settled tick e
+pushed_two settled tick e none one two z lt a b =
+    given_runs Q two (news settled tick e) (λ t. if is_in t (run_of tick tick (D e)) then D e else known_at one t) b (news-runs settled tick e (omega arith)) (λ t.
+    two_values settled tick e t lt
+    ∙ ap (λ x. if is_in t (run_of tick tick (D e)) then D e else x) (ap (λ rs. if is_in t (run_of (suc settled) (tick - 1) S) then S else known_at rs t) (sym z) ∙ sym (a.values t)))
+
+pub pushed_one : (settled tick : ℕ) (e : Event) (none one : Known) → none ≡ [] → settled < tick → tick ≤ suc settled →
+    RunsGive Q one (λ t. if is_in t (run_of tick tick (D e)) then D e else known_at none t) → one ≡ news settled tick e
+pushed_one settled tick e none one z lt le a =
+    given_runs Q one (news settled tick e) (λ t. if is_in t (run_of tick tick (D e)) then D e else known_at none t) a (news-runs settled tick e lt) (λ t.
+    one_value settled tick e t lt le ∙ ap (λ rs. if is_in t (run_of tick tick (D e)) then D e else known_at rs t) (sym z))
+
+-- the same, with what the calls were given
+pub given_two : (settled tick first : ℕ) (e given : Event) (none one base two : Known) → none ≡ [] → first ≡ suc settled → given ≡ e → base ≡ one → suc settled < tick →
+    RunsGive Q one (λ t. if is_in t (run_of first (tick - 1) S) then S else known_at none t) →
+    RunsGive Q two (λ t. if is_in t (run_of tick tick (D given)) then D given else known_at base t) → two ≡ news settled tick e
+given_two settled tick first e given none one base two z f g h lt a b =
+    let a2 : RunsGive Q one (λ t. if is_in t (run_of (suc settled) (tick - 1) S) then S else known_at none t) = subst (λ n. RunsGive Q one (λ t. if is_in t (run_of n (tick - 1) S) then S else known_at none t)) f a in
+    let b2 : RunsGive Q two (λ t. if is_in t (run_of tick tick (D e)) then D e else known_at base t) = subst (λ x. RunsGive Q two (λ t. if is_in t (run_of tick tick (D x)) then D x else known_at base t)) g b in
+    pushed_two settled tick e none one two z lt a2 (subst (λ rs. RunsGive Q two (λ t. if is_in t (run_of tick tick (D e)) then D e else known_at rs t)) h b2)
+
+pub given_one : (settled tick : ℕ) (e given : Event) (none base one : Known) → none ≡ [] → given ≡ e → base ≡ none → settled < tick → tick ≤ suc settled →
+    RunsGive Q one (λ t. if is_in t (run_of tick tick (D given)) then D given else known_at base t) → one ≡ news settled tick e
+given_one settled tick e given none base one z g h lt le a =
+    let b : RunsGive Q one (λ t. if is_in t (run_of tick tick (D e)) then D e else known_at base t) = subst (λ x. RunsGive Q one (λ t. if is_in t (run_of tick tick (D x)) then D x else known_at base t)) g a in
+    pushed_one settled tick e none one z lt le (subst (λ rs. RunsGive Q one (λ t. if is_in t (run_of tick tick (D e)) then D e else known_at rs t)) h b)

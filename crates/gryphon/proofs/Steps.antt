@@ -1,7 +1,9 @@
 -- The steps of the first path lead from one world of two brokers to another
-use Rattle.std.proofs.Common.{◌≡◌, ◌≢◌, ℕ, suc, zero, ◌+◌, ◌-◌, ◌≤◌, ◌<◌, ◌^◌, max, Bool, true, false, ◌&&◌, List, [], ◌∷◌, ◌++◌, refl, sym, ap, ap₂, ◌∙◌, subst, arith, inl, inr, le-leb, map, length, Option, Some, None}
+use Rattle.std.proofs.Common.{◌≡◌, ◌≢◌, ℕ, suc, zero, ◌+◌, ◌-◌, ◌≤◌, ◌<◌, ◌^◌, max, Bool, true, false, ◌&&◌, List, [], ◌∷◌, ◌++◌, refl, sym, ap, ap₂, ◌∙◌, subst, arith, ◌⊎◌, inl, inr, le-leb, map, length, Option, Some, None}
 use Rattle.std.specs.Prelude.{nat_eq, nat_le, nat_lt, if◌then◌else◌, slice_get}
-use Rattle.std.proofs.lemmas.List.{append-nil, map-append}
+use Rattle.std.proofs.lemmas.List.{append-nil, map-append, length-map}
+use Rattle.std.proofs.lemmas.Option.{slice_get-map, slice_get_past}
+use Rattle.std.specs.Option.{option_map}
 use Rattle.std.proofs.lemmas.Bool.{lt-leb, cases_Bool, cases_lt, leb-true, leb-false, ltb-false}
 use Rattle.gr_event.specs.Event.{event_size}
 use Rattle.gr_event.specs.declared.event.Event.{Event}
@@ -14,7 +16,7 @@ use Rattle.gr_model.specs.declared.report.Report.TheVariants as line
 use Rattle.gr_model.specs.Blank.{net0}
 use Rattle.gr_model.specs.Broker.{started, log_know, max_tick, View, Log, learn, publish, receive, clashes, with_event}
 use Rattle.gr_model.specs.World.{World, Told, next, publish_now, deliver_frame, absorbed, sent_line, start}
-use Rattle.gryphon.specs.World.{world_of, log_of_events, host_view, far_view, downward, gate_of, EventsUpto, Tells, passed_lines}
+use Rattle.gryphon.specs.World.{world_of, log_of_events, host_view, far_view, downward, gate_of, EventsUpto, Tells, Takes, passed_lines}
 use Rattle.gryphon.proofs.Host.{learn-host, IsGrown}
 use Rattle.gryphon.proofs.News.{news, grown, gate_of-append}
 use Rattle.gryphon.proofs.Far.{learn-far, HasLearned}
@@ -89,6 +91,19 @@ logged_step clock most last settled events sent know horizon n number e lo hi h 
     let call = logged_call clock number e log new lo hi h (logged_log last settled tick events e) (grown last settled tick events e u (omega arith) size) in
     rw (call, map-append downward sent (news settled tick e ∷ [])) refl
 
+-- the same, with what the call made
+pub logged_by : (clock most last settled : ℕ) (events : List (ℕ × Event)) (sent : List Known) (know : Known) (horizon n number : ℕ) (e : Event) (tick : ℕ) (piece : Known) (grown_events : List (ℕ × Event)) (grown_sent : List Known) (lines : List Report) →
+    last < number → number ≤ suc last → tick ≡ max (suc settled) clock → tick ≤ max_tick → EventsUpto settled events → event_size e ≤ 8192 →
+    piece ≡ news settled tick e → grown_events ≡ events ++ (tick, e) ∷ [] → grown_sent ≡ sent ++ piece ∷ [] → lines ≡ line.Logged 0 number tick ∷ (line.SentKnow (length sent + 1) 0 1 0 piece ∷ []) →
+    Tells (world_of clock most last settled events sent know horizon) n (Publish 0 number None e) (world_of clock most number tick grown_events grown_sent know horizon) lines
+logged_by clock most last settled events sent know horizon n number e tick piece grown_events grown_sent lines lo hi t inside u size p g s l =
+    let number_is : number ≡ suc last = omega arith in
+    let count : length sent + 1 ≡ suc (length (map downward sent)) = rw length-map (omega arith) in
+    rw (l, s, g, p, count, t, number_is) (subst (λ m. Tells (world_of clock most last settled events sent know horizon) n (Publish 0 m None e)
+    (world_of clock most (suc last) (max (suc settled) clock) (events ++ (max (suc settled) clock, e) ∷ []) (sent ++ news settled (max (suc settled) clock) e ∷ []) know horizon)
+    (line.Logged 0 m (max (suc settled) clock) ∷ (line.SentKnow (suc (length (map downward sent))) 0 1 0 (news settled (max (suc settled) clock) e) ∷ []))) number_is
+    (logged_step clock most last settled events sent know horizon n number e lo hi (subst (λ x. x ≤ max_tick) t inside) u size))
+
 -- there is no frame 0
 pub refused_zero : (clock most last settled : ℕ) (events : List (ℕ × Event)) (sent : List Known) (know : Known) (horizon n : ℕ) →
     Tells (world_of clock most last settled events sent know horizon) n (Deliver 0) (world_of clock most last settled events sent know horizon) (line.RefusedFrame n 0 (length (map downward sent)) ∷ [])
@@ -118,3 +133,44 @@ taken_step clock most last settled events sent know piece joined final from to n
 pub begin : start net0 ≡ world_of 0 0 0 0 [] [] [] 0
 unfolding start started log_know
 begin = refl
+
+-- a delivery of a number that no frame has
+pub refused_by : (clock most last settled : ℕ) (events : List (ℕ × Event)) (sent : List Known) (know : Known) (horizon n k : ℕ) (lines : List Report) → (k ≡ 0) ⊎ (length sent < k) → lines ≡ line.RefusedFrame n k (length sent) ∷ [] →
+    Tells (world_of clock most last settled events sent know horizon) n (Deliver k) (world_of clock most last settled events sent know horizon) lines
+refused_by clock most last settled events sent know horizon n zero lines h l =
+    let count_is : length (map downward sent) ≡ length sent = simp length-map in
+    rw (l, ← count_is) (refused_zero clock most last settled events sent know horizon n)
+refused_by clock most last settled events sent know horizon n (suc i) lines (inl e) l = absurd (omega (arith, e))
+refused_by clock most last settled events sent know horizon n (suc i) lines (inr h) l =
+    let count_is : length (map downward sent) ≡ length sent = simp length-map in
+    let none : slice_get (map downward sent) i ≡ None = slice_get_past (map downward sent) i (omega arith) in
+    rw (l, ← count_is) (refused_step clock most last settled events sent know horizon n i none)
+
+-- a delivery of a frame that clashes
+pub dropped_by : (clock most last settled : ℕ) (events : List (ℕ × Event)) (sent : List Known) (know piece : Known) (horizon n k : ℕ) (lines : List Report) → 0 < k → slice_get sent (k - 1) ≡ Some piece → clashes know piece ≡ true → lines ≡ [] →
+    Tells (world_of clock most last settled events sent know horizon) n (Deliver k) (world_of clock most last settled events sent know horizon) lines
+dropped_by clock most last settled events sent know piece horizon n zero lines h g c l = absurd (omega (arith, h))
+dropped_by clock most last settled events sent know piece horizon n (suc i) lines h g c l =
+    let e : suc i - 1 ≡ i = omega arith in
+    let some : slice_get (map downward sent) i ≡ Some (downward piece) = slice_get-map downward sent i ∙ ap (option_map downward) (ap (slice_get sent) (sym e) ∙ g) in
+    rw l (dropped_step clock most last settled events sent know piece horizon n i some c)
+
+-- a delivery of a frame that is taken
+pub taken_by : (clock most last settled : ℕ) (events : List (ℕ × Event)) (sent : List Known) (know piece final : Known) (from to n k : ℕ) (lines told : List Report) → 0 < k → slice_get sent (k - 1) ≡ Some piece → clashes know piece ≡ false → lines ≡ [] → Takes know piece from lines final to told →
+    Tells (world_of clock most last settled events sent know from) n (Deliver k) (world_of clock most last settled events sent final to) told
+taken_by clock most last settled events sent know piece final from to n zero lines told h g c l t = absurd (omega (arith, h))
+taken_by clock most last settled events sent know piece final from to n (suc i) lines told h g c l t =
+    let e : suc i - 1 ≡ i = omega arith in
+    let some : slice_get (map downward sent) i ≡ Some (downward piece) = slice_get-map downward sent i ∙ ap (option_map downward) (ap (slice_get sent) (sym e) ∙ g) in
+    let told_is : told ≡ passed_lines from to t.joined = t.told_is ∙ ap (λ xs. xs ++ passed_lines from to t.joined) l in
+    rw told_is (taken_step clock most last settled events sent know piece t.joined final from to n i some c (record {
+      know_runs = t.know_runs;
+      piece_runs = t.piece_runs;
+      joined_runs = t.joined_runs;
+      joined_at = t.joined_at;
+      reached = t.reached;
+      no_gap = t.no_gap;
+      ends = t.ends;
+      final_runs = t.final_runs;
+      final_at = t.final_at;
+    }))

@@ -1,8 +1,10 @@
 -- The world of a blank topology as a world of the machine
-use Rattle.std.specs.Prelude.{◌≡◌, ℕ, ◌+◌, ◌^◌, ◌≤◌, List, [], ◌∷◌, ◌++◌, map, nat_eq, if◌then◌else◌}
+use Rattle.std.specs.Prelude.{◌≡◌, ◌≢◌, ◌<◌, ℕ, suc, ◌&&◌, nat_le, ◌+◌, ◌^◌, ◌≤◌, List, [], ◌∷◌, ◌++◌, map, nat_eq, if◌then◌else◌}
 use Rattle.gr_event.specs.Event.{event_size}
 use Rattle.gr_event.specs.declared.event.Event.{Event}
-use Rattle.gr_know.specs.Values.{Known}
+use Rattle.gr_tick.specs.Runs.{AreRuns}
+use Rattle.gr_know.specs.declared.values.K.TheVariants.{Q, F}
+use Rattle.gr_know.specs.Values.{Known, known_at, join_K}
 use Rattle.gr_frame.specs.declared.Frame.{Frame}
 use Rattle.gr_frame.specs.declared.Body.TheVariants.{Knowledge}
 use Rattle.gr_sched.specs.declared.step.Step.{Step}
@@ -46,6 +48,21 @@ world_of clock most last settled events sent know horizon = record {
 -- what the subscriber is told where its horizon moves from one tick to another: the events that it passed, and its horizon
 abbrev pub passed_lines : ℕ → ℕ → Known → List Report
 passed_lines from to know = if nat_eq from to then [] else map (got_line 0 0) (data_ticks from to know) ++ line.Horizon 0 0 to ∷ []
+
+-- a broker with a horizon learned a piece: what it knew joined with what came, its horizon past all that is known without
+-- a gap, all up to there final, and the lines that this tells added
+pub record Takes (know piece : Known) (from : ℕ) (lines : List Report) (final : Known) (to : ℕ) (told : List Report) : Type 0 where
+  pub know_runs : AreRuns Q know
+  pub piece_runs : AreRuns Q piece
+  pub joined : Known
+  pub joined_runs : AreRuns Q joined
+  pub joined_at : (t : ℕ) → known_at joined t ≡ join_K (known_at know t) (known_at piece t)
+  pub reached : from ≤ to
+  pub no_gap : (t : ℕ) → from < t → t ≤ to → known_at joined t ≢ Q
+  pub ends : known_at joined (suc to) ≡ Q
+  pub final_runs : AreRuns Q final
+  pub final_at : (t : ℕ) → known_at final t ≡ (if nat_le 1 t && nat_le t to then F else known_at joined t)
+  pub told_is : told ≡ lines ++ passed_lines from to joined
 
 -- no event is past a tick
 abbrev pub EventsUpto : ℕ → List (ℕ × Event) → Type 0
