@@ -1,6 +1,17 @@
 //! Schedules: the steps that a user states, and the lines that they stand in.
+//!
+//! A scenario is a topology part and a step part with a separator between them (`split`). The step part is lines:
+//! `count` says how many of them are counted, and `parse` reads each as a step, or answers the first fault.
 #![tactic(auto)]
 
+pub mod fault;
+
 pub mod step;
+pub mod text;
+mod words;
+
+
+pub use fault::StepFault;
 
 pub use step::{Line, Names, Step, Steps, Stop};
+pub use text::{count, is_blank, split};
