@@ -5,13 +5,13 @@
 #![tactic(auto)]
 
 pub mod fault;
-
+pub mod schedule;
 pub mod step;
 pub mod text;
+mod verb;
 mod words;
 
-
 pub use fault::StepFault;
-
-pub use step::{Line, Names, Step, Steps, Stop};
+pub use schedule::parse;
+pub use step::{Line, MAX_BYTES, MAX_NUMBER, MAX_STEPS, Names, Step, Steps, Stop};
 pub use text::{count, is_blank, split};

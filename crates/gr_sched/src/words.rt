@@ -1,6 +1,6 @@
 //! The words of a line and its numbers. Nothing here takes memory.
 
-ghost use Rattle.std.specs.Prelude.{◌≡◌, ℕ, ◌+◌, ◌-◌, ◌*◌, ◌<◌, ◌≤◌, ◌^◌, true, length, drop, take};
+ghost use Rattle.std.specs.Prelude.{◌≡◌, ℕ, ◌+◌, ◌-◌, ◌*◌, ◌<◌, ◌≤◌, ◌^◌, IfOk, true, length, drop, take};
 ghost use Rattle.std.specs.List.{list_all};
 ghost use Rattle.gr_sched.specs.Words.{Gives, trimmed, trimmed_end, first_word, after_word, next_word, ended, known, is_digit, is_number, value_after, number_in, next_number};
 
@@ -84,7 +84,8 @@ fn value(digits: &[u8]) -> u64
 
 /// A word of line `line` as a number from `low` to `high`.
 fn number_in(line: u32, low: u64, high: u64, word: &[u8]) -> Result<u64, StepFault>
-    ensures { Gives (λ n. n) result (number_in line low high word.now) }
+    ensures gives { Gives (λ n. n) result (number_in line low high word.now) }
+    ensures range { IfOk result (λ n. n ≤ high) }
 {
     if is_number(word) {
         let number = value(word);
@@ -96,10 +97,24 @@ fn number_in(line: u32, low: u64, high: u64, word: &[u8]) -> Result<u64, StepFau
 }
 
 /// The next word of line `line` as a number from `low` to `high`, and what follows it.
-pub fn next_number(line: u32, low: u64, high: u64, text: &[u8]) -> Result<(u64, &[u8]), StepFault>
-    ensures { Gives (λ r. (r.0, r.1.now)) result (next_number line low high text.now) }
+pub fn next_number(
+    line: u32,
+    low: u64,
+    high: u64,
+    text: &[u8],
+) -> Result<(u64, &[u8]), StepFault>
+    ensures gives { Gives (λ r. (r.0, r.1.now)) result (next_number line low high text.now) }
+    ensures range { IfOk result (λ r. r.0 ≤ high) }
 {
     let (word, rest) = next_word(line, text)?;
     let number = number_in(line, low, high, word)?;
     Ok((number, rest))
+}
+
+/// The same for a number of one byte.
+pub fn next_small(line: u32, low: u8, high: u8, text: &[u8]) -> Result<(u8, &[u8]), StepFault>
+    ensures { Gives (λ r. (r.0, r.1.now)) result (next_number line low high text.now) }
+{
+    let (number, rest) = next_number(line, u64::from(low), u64::from(high), text)?;
+    Ok((number as u8, rest))
 }
