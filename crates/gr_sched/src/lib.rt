@@ -15,3 +15,6 @@ pub use fault::StepFault;
 pub use schedule::parse;
 pub use step::{Line, MAX_BYTES, MAX_NUMBER, MAX_STEPS, Names, Step, Steps, Stop};
 pub use text::{count, is_blank, split};
+
+#[cfg(test)]
+mod tests;

@@ -1,11 +1,12 @@
 //! From lines to steps.
 
-ghost use Rattle.std.specs.Prelude.{◌≡◌, ℕ, ◌+◌, ◌-◌, ◌<◌, ◌≤◌, ◌^◌, IfSome, length};
-ghost use Rattle.std.specs.List.{slice_get};
+ghost use Rattle.std.specs.Prelude.{◌≡◌, ℕ, ◌+◌, ◌-◌, ◌<◌, ◌≤◌, ◌^◌, IfSome, IfOk, IfErr, length};
+ghost use Rattle.std.specs.List.{All, slice_get};
 ghost use Rattle.std.specs.Option.{option_map};
 ghost use Rattle.gr_sched.specs.declared.step.TheConstants.{MAX_BYTES};
 ghost use Rattle.gr_sched.specs.Text.{counted_lines};
 ghost use Rattle.gr_sched.specs.Words.{Gives, ended, known, next_word};
+ghost use Rattle.gr_sched.specs.Ranges.{IsStep, IsFault};
 ghost use Rattle.gr_sched.specs.Grammar.{next_name, after_pick, stop_of, next_stop, event_of, publish_of, step_by, step_of, lines_of, steps_of};
 
 use crate::fault::StepFault;
@@ -215,7 +216,10 @@ fn read_lines<N: Names>(alloc: Global, steps: &[u8], names: &N) -> Result<Steps,
 /// `TooMany` comes exactly where `count` is above `MAX_STEPS`, and is tested before any line is read as a step.
 pub fn parse<N: Names>(alloc: Global, steps: &[u8], names: &N) -> Result<Steps, StepFault>
     requires { length steps.now ≤ MAX_BYTES }
-    ensures { Gives (λ s. s) result (steps_of (N.broker_of names.now) (N.publisher_of names.now) steps.now) }
+    ensures steps { Gives (λ s. s) result (steps_of (N.broker_of names.now) (N.publisher_of names.now) steps.now) }
+    ensures range { IfOk result (λ s. All (λ line. IsStep (N.broker_of names.now) (N.publisher_of names.now) line.step) s) }
+    ensures few { IfOk result (λ s. length s ≤ MAX_STEPS) }
+    ensures cause { IfErr result IsFault }
 {
     match past_limit(steps) {
         Some(number) => Err(StepFault::TooMany {
