@@ -1,16 +1,14 @@
 -- Reading an event never ends at want of memory
-use Rattle.std.proofs.Common.{◌≡◌, ℕ, List, [], ◌∷◌, Bool, true, false, cond, length}
+use Rattle.std.proofs.Common.{ℕ, List, Bool, true, false, cond, length}
 use Rattle.std.specs.Prelude.{ℤ, Result, Ok, Err, Option, Some, None, nat_lt, ◌||◌, ◌==◌}
 use Rattle.serde_json.specs.Data.{Data, null, boolean, number, string, array, object, Members, no_members, member}
 use Rattle.serde_json.specs.Find.{as_i64}
 use Rattle.serde_json.specs.Events.{members_len}
-use Rattle.gr_event.specs.declared.value.Value.{Value}
-use Rattle.gr_event.specs.declared.event.Event.{Event}
 use Rattle.gr_event.specs.declared.event.EventFault.{EventFault}
 use Rattle.gr_event.specs.declared.event.EventFault.TheVariants as fault
 use Rattle.gr_event.specs.Event.{event_size}
 use Rattle.gr_event.specs.Gives.{◌>>=◌}
-use Rattle.gr_event.specs.Json.{integer_from, text_from, value_from, name_from, pair_from, pairs_from, short_event, event_from, event_of_read, json_read, event_text}
+use Rattle.gr_event.specs.Json.{integer_from, value_from, name_from, pair_from, pairs_from, short_event, event_from, event_of_read, json_read, event_text}
 
 abbrev pub NotMemory : {A : Type 0} → Result A EventFault → Type 0
 NotMemory (Err fault.Memory) = ⊥

@@ -1,5 +1,5 @@
 -- Faults that pass through, and lines that stand before others
-use Rattle.std.proofs.Common.{◌≡◌, ℕ, List, [], ◌∷◌, ◌++◌, refl, append_assoc}
+use Rattle.std.proofs.Common.{◌≡◌, List, ◌++◌, refl}
 use Rattle.std.specs.Prelude.{Result, Ok, Err}
 use Rattle.gr_event.specs.declared.event.EventFault.{EventFault}
 use Rattle.gr_event.specs.declared.event.EventFault.TheVariants as fault

@@ -1,5 +1,5 @@
 -- Each part of the grammar gives numbers in their ranges and names that are known, so each step does
-use Rattle.std.proofs.Common.{◌≡◌, ℕ, ◌+◌, ◌≤◌, List, [], ◌∷◌, Bool, true, false, cond, length, refl, arith, sym, ◌∙◌, subst, ap, inl, inr}
+use Rattle.std.proofs.Common.{◌≡◌, ℕ, ◌<◌, ◌≤◌, List, [], ◌∷◌, Bool, true, false, cond, length, refl, arith, ◌∙◌, subst, ap, inl, inr}
 use Rattle.std.specs.Prelude.{Result, Ok, Err, Option, Some, None, nat_le, ◌&&◌, codes, bytes_eq, IfSome, IfOk, IfErr}
 use Rattle.std.specs.List.{All, slice_get}
 use Rattle.std.specs.Option.{option_map}
@@ -12,16 +12,13 @@ use Rattle.gr_event.specs.declared.event.EventFault.TheVariants as event
 use Rattle.gr_event.specs.Json.{event_text}
 use Rattle.gr_sched.specs.declared.fault.StepFault.{StepFault}
 use Rattle.gr_sched.specs.declared.fault.StepFault.TheVariants as fault
-use Rattle.gr_sched.specs.declared.step.TheConstants.{MAX_NUMBER, MAX_STEPS}
-use Rattle.gr_sched.specs.declared.step.Step.{Step}
-use Rattle.gr_sched.specs.declared.step.Step.TheVariants.{Clock, Publish, Wake, Deliver, Crash, Sweep, Show, Bytes}
-use Rattle.gr_sched.specs.declared.step.Stop.{Stop}
+use Rattle.gr_sched.specs.declared.step.TheConstants.{MAX_NUMBER}
+use Rattle.gr_sched.specs.declared.step.Step.TheVariants.{Clock, Wake, Deliver, Crash, Sweep, Show, Bytes}
 use Rattle.gr_sched.specs.declared.step.Line.{Line}
 use Rattle.gr_sched.specs.declared.verb.Verb.{Verb}
 use Rattle.gr_sched.specs.declared.verb.Verb.TheVariants as verb
-use Rattle.gr_sched.specs.Text.{counted_lines}
 use Rattle.gr_sched.specs.Words.{◌>>=◌, Gives, trimmed, first_word, after_word, next_word, ended, known, is_number, value_after, number_in, next_number}
-use Rattle.gr_sched.specs.Grammar.{verb_of, next_name, after_pick, stop_of, next_stop, event_or_fault, event_of, publish_of, step_by, step_of, lines_of, limited, steps_of}
+use Rattle.gr_sched.specs.Grammar.{verb_of, next_name, after_pick, stop_of, next_stop, event_or_fault, event_of, publish_of, step_by, step_of, lines_of}
 use Rattle.gr_sched.specs.Ranges.{IsNamed, IsStop, IsStep, IsFault, Holds}
 use Rattle.gr_sched.proofs.EventFaults.{NotMemory, texts}
 
@@ -131,7 +128,7 @@ gives_holds P (Err fault.Memory) read e h = tt
 gives_holds P (Err (fault.BadWord line)) read e h = tt
 gives_holds P (Err (fault.BadNumber line)) read e h = tt
 gives_holds P (Err (fault.BadEvent line f)) read e h = subst (Holds P) e h
-gives_holds P (Err (fault.TooMany line)) read e h = tt
+gives_holds P (Err (fault.TooMany line)) read e h = subst (Holds P) e h
 
 few_counted : (counted : List (ℕ × List ℕ)) (n : ℕ) → None ≡ option_map (λ c. c.0) (slice_get counted n) → length counted ≤ n
 few_counted counted n e = elim (slice_get_cases counted n).1 [ inl h ↦ absurd (let k : None ≡ Some h.0.0 = e ∙ ap (option_map (λ c. c.0)) h.2 in cc) | inr h ↦ h.0 ]
@@ -151,9 +148,33 @@ read_few broker_of publisher_of counted n r e none = part r (gives_holds _ r _ e
     part (Ok x) h = omega (arith, h.1, few_counted counted n none)
     part (Err f) h = tt
 
-pub read_cause : (broker_of publisher_of : List ℕ → Option ℕ) (counted : List (ℕ × List ℕ)) (r : Result (List Line) StepFault) → Gives (λ s. s) r (lines_of broker_of publisher_of counted) → IfErr r IsFault
-read_cause broker_of publisher_of counted r e = part r (gives_holds _ r _ e (all_steps broker_of publisher_of counted))
+-- a fault of a line is such a fault however many lines are counted
+any_count : (n : ℕ) (f : StepFault) → IsFault 0 f → IsFault n f
+any_count n fault.Memory h = tt
+any_count n (fault.BadWord line) h = tt
+any_count n (fault.BadNumber line) h = tt
+any_count n (fault.BadEvent line event.Memory) h = h
+any_count n (fault.BadEvent line event.NotObject) h = tt
+any_count n (fault.BadEvent line event.BadName) h = tt
+any_count n (fault.BadEvent line event.BadValue) h = tt
+any_count n (fault.BadEvent line event.TooMany) h = tt
+any_count n (fault.BadEvent line event.TooLong) h = tt
+any_count n (fault.BadEvent line (event.Short at)) h = tt
+any_count n (fault.BadEvent line (event.BadKind at)) h = tt
+any_count n (fault.BadEvent line (event.NotSorted at)) h = tt
+any_count n (fault.BadEvent line (event.Trailing at)) h = tt
+any_count n (fault.BadEvent line event.NotJson) h = tt
+any_count n (fault.BadEvent line (event.BadText at)) h = tt
+any_count n (fault.BadEvent line (event.BadLength at)) h = tt
+any_count n (fault.TooMany line) h = absurd (omega (arith, h))
+
+pub read_cause : (broker_of publisher_of : List ℕ → Option ℕ) (counted : List (ℕ × List ℕ)) (n : ℕ) (r : Result (List Line) StepFault) → Gives (λ s. s) r (lines_of broker_of publisher_of counted) → IfErr r (IsFault n)
+read_cause broker_of publisher_of counted n r e = part r (gives_holds _ r _ e (all_steps broker_of publisher_of counted))
   where
-    part : (r : Result (List Line) StepFault) → Holds (AreSteps broker_of publisher_of (length counted)) r → IfErr r IsFault
+    part : (r : Result (List Line) StepFault) → Holds (AreSteps broker_of publisher_of (length counted)) r → IfErr r (IsFault n)
     part (Ok x) h = tt
-    part (Err f) h = h
+    part (Err f) h = any_count n f h
+
+-- a line past the limit is one of more lines than the limit
+pub many_counted : (counted : List (ℕ × List ℕ)) (n line : ℕ) → Some line ≡ option_map (λ c. c.0) (slice_get counted n) → n < length counted
+many_counted counted n line e = elim (slice_get_cases counted n).1 [ inl h ↦ h.1 | inr h ↦ absurd (let k : Some line ≡ None = e ∙ ap (option_map (λ c. c.0)) h.1 in cc) ]

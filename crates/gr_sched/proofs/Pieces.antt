@@ -1,7 +1,7 @@
 -- Where a text is cut into pieces: behind its first LF, or nowhere
-use Rattle.std.proofs.Common.{◌≡◌, ℕ, ◌+◌, ◌-◌, ◌<◌, ◌≤◌, List, [], ◌∷◌, ◌++◌, length, take, drop, arith, refl, ap, sym, ◌∙◌, zero, suc, Bool, true, false, cond, add-one, append_assoc}
+use Rattle.std.proofs.Common.{◌≡◌, ℕ, ◌+◌, ◌-◌, ◌<◌, ◌≤◌, List, [], ◌∷◌, ◌++◌, length, take, drop, arith, refl, ap, sym, ◌∙◌, suc, Bool, true, false, cond, append_assoc}
 use Rattle.std.specs.Prelude.{◌==◌, not, Option, Some, None, nat_lt}
-use Rattle.std.specs.List.{position_or_len, position, prefix_len}
+use Rattle.std.specs.List.{position_or_len, position}
 use Rattle.std.specs.Option.{unwrap_or}
 use Rattle.std.proofs.lemmas.List.Sums.{prefix_len-le-length}
 use Rattle.std.proofs.Math.Seq.{take-length, drop-length, take-add}
@@ -30,7 +30,7 @@ cut (b ∷ bs) h = step (b == 10) (position_or_len (λ b. b == 10) bs) (cut bs) 
   where
     step : (v : Bool) (place : ℕ) → (place < length bs → pieces_of bs ≡ take (suc place) bs ∷ pieces_of (drop (suc place) bs)) → cond (not v) (1 + place) 0 < length (b ∷ bs) → cond v ((b ∷ []) ∷ pieces_of bs) (longer b (pieces_of bs)) ≡ (b ∷ take (cond (not v) (1 + place) 0) bs) ∷ pieces_of (drop (cond (not v) (1 + place) 0) bs)
     step true place rest h = refl
-    step false place rest h = 
+    step false place rest h =
         let k : 1 + place ≡ suc place = omega arith in
         let here : place < length bs = omega (arith, h) in
         rw k (ap (λ ps. longer b ps) (rest here))
@@ -49,7 +49,7 @@ whole b (c ∷ cs) e = step (b == 10) (position_or_len (λ b. b == 10) (c ∷ cs
     step false place rest e = ap (λ ps. longer b ps) (rest (omega (arith, e)))
 
 pub piece_cut : (text : List ℕ) (n m : ℕ) → n ≡ position_or_len (λ b. b == 10) text → n < length text → m ≡ n + 1 → pieces_of text ≡ take m text ∷ pieces_of (drop m text)
-piece_cut text n m e h k = 
+piece_cut text n m e h k =
     let s : m ≡ suc n = omega (arith, k) in
     rw (s, e) (cut text (rw e at h))
 
@@ -72,7 +72,7 @@ joined_pieces (b ∷ bs) = step (b == 10) (pieces_of bs) (joined_pieces bs)
 -- ---- the walk of `split` from piece to piece
 
 at_rest : (bytes rest : List ℕ) (start end : ℕ) → rest ≡ take (length bytes - start) (drop start bytes) → pieces_of rest ≡ take end rest ∷ pieces_of (drop end rest) → pieces_of (drop start bytes) ≡ take end rest ∷ pieces_of (drop (start + end) bytes)
-at_rest bytes rest start end e parts = 
+at_rest bytes rest start end e parts =
     let k : rest ≡ drop start bytes = e ∙ take_rest bytes start in
     ap (λ xs. pieces_of xs) (sym k) ∙ parts ∙ ap (λ xs. take end rest ∷ pieces_of xs) (ap (λ xs. drop end xs) k ∙ drop-drop end start bytes)
 

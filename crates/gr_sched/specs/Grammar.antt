@@ -1,5 +1,5 @@
 -- The steps of a schedule, by the grammar of its lines, or the first fault in reading order
-use Rattle.std.specs.Prelude.{ℕ, ◌+◌, Bool, if◌then◌else◌, List, [], ◌∷◌, ◌++◌, codes, bytes_eq, Option, None, Some, Result, Ok, Err}
+use Rattle.std.specs.Prelude.{ℕ, if◌then◌else◌, List, [], ◌∷◌, codes, bytes_eq, Option, None, Some, Result, Ok, Err}
 use Rattle.std.specs.List.{slice_get}
 use Rattle.gr_event.specs.declared.event.Event.{Event}
 use Rattle.gr_event.specs.declared.event.EventFault.{EventFault}

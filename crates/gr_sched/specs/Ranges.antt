@@ -1,9 +1,9 @@
 -- What holds of every schedule that is read, and of every fault
-use Rattle.std.specs.Prelude.{◌≡◌, ℕ, ◌≤◌, List, Option, None, Some, Result, Ok, Err, IfSome}
+use Rattle.std.specs.Prelude.{◌≡◌, ℕ, ◌<◌, ◌≤◌, List, Option, Some, Result, Ok, Err, IfSome}
 use Rattle.gr_event.specs.declared.event.EventFault.TheVariants as event
 use Rattle.gr_sched.specs.declared.fault.StepFault.{StepFault}
-use Rattle.gr_sched.specs.declared.fault.StepFault.TheVariants.{BadEvent}
-use Rattle.gr_sched.specs.declared.step.TheConstants.{MAX_NUMBER}
+use Rattle.gr_sched.specs.declared.fault.StepFault.TheVariants.{BadEvent, TooMany}
+use Rattle.gr_sched.specs.declared.step.TheConstants.{MAX_NUMBER, MAX_STEPS}
 use Rattle.gr_sched.specs.declared.step.Step.{Step}
 use Rattle.gr_sched.specs.declared.step.Step.TheVariants.{Clock, Publish, Wake, Deliver, Crash, Sweep, Show, Bytes}
 use Rattle.gr_sched.specs.declared.step.Stop.{Stop}
@@ -27,12 +27,13 @@ IsStep broker_of publisher_of Sweep = Unit {0}
 IsStep broker_of publisher_of Show = Unit {0}
 IsStep broker_of publisher_of (Bytes frame) = frame ≤ MAX_NUMBER
 
--- the fault of an event is never want of memory
-abbrev pub IsFault : StepFault → Type 0
-IsFault (BadEvent line event.Memory) = ⊥
-IsFault _ = Unit {0}
+-- where n lines are counted: there are too many only above the limit, and the fault of an event is never want of memory
+abbrev pub IsFault : ℕ → StepFault → Type 0
+IsFault n (TooMany line) = MAX_STEPS < n
+IsFault n (BadEvent line event.Memory) = ⊥
+IsFault n _ = Unit {0}
 
--- a value of which P holds, or such a fault
+-- a value of which P holds, or a fault of reading a line
 abbrev pub Holds : {A : Type 0} → (A → Type 0) → Result A StepFault → Type 0
 Holds P (Ok x) = P x
-Holds P (Err fault) = IsFault fault
+Holds P (Err fault) = IsFault 0 fault

@@ -1,5 +1,5 @@
 -- The lines of a text, the separator between the two parts of a scenario, and the counted lines of a schedule
-use Rattle.std.specs.Prelude.{ℕ, ◌+◌, ◌==◌, ◌&&◌, ◌||◌, Bool, true, false, not, if◌then◌else◌, List, [], ◌∷◌, ◌++◌, length, reverse, codes, bytes_eq, drop}
+use Rattle.std.specs.Prelude.{ℕ, ◌+◌, ◌==◌, ◌||◌, Bool, false, not, if◌then◌else◌, List, [], ◌∷◌, ◌++◌, codes, bytes_eq, drop}
 use Rattle.std.specs.List.{list_all, position_or_len}
 use Rattle.std.specs.Io.BufRead.{ends_with_byte, strip_last}
 

@@ -1,8 +1,8 @@
 -- The words of a line and its numbers, with the fault of a word that does not fit
-use Rattle.std.specs.Prelude.{◌≡◌, ℕ, ◌+◌, ◌-◌, ◌*◌, ◌&&◌, nat_le, nat_lt, Bool, true, false, not, if◌then◌else◌, List, [], ◌∷◌, length, reverse, drop, take, Option, None, Some, Result, Ok, Err}
+use Rattle.std.specs.Prelude.{◌≡◌, ℕ, ◌+◌, ◌-◌, ◌*◌, ◌&&◌, nat_le, nat_lt, Bool, if◌then◌else◌, List, [], ◌∷◌, length, reverse, drop, take, Option, None, Some, Result, Ok, Err}
 use Rattle.std.specs.List.{list_all, position_or_len}
 use Rattle.gr_sched.specs.declared.fault.StepFault.{StepFault}
-use Rattle.gr_sched.specs.declared.fault.StepFault.TheVariants.{Memory, BadWord, BadNumber, BadEvent, TooMany}
+use Rattle.gr_sched.specs.declared.fault.StepFault.TheVariants.{Memory, BadWord, BadNumber}
 use Rattle.gr_sched.specs.Text.{is_gap, without_gaps}
 
 -- ---- one fault after the other

@@ -29,7 +29,11 @@ fn ended(line: u32, rest: &[u8], step: Step) -> Result<Step, StepFault>
 }
 
 /// The next word of line `line` as a broker's name, and what follows it.
-fn next_broker<'a, N: Names>(line: u32, text: &'a [u8], names: &N) -> Result<(u16, &'a [u8]), StepFault>
+fn next_broker<'a, N: Names>(
+    line: u32,
+    text: &'a [u8],
+    names: &N,
+) -> Result<(u16, &'a [u8]), StepFault>
     ensures { Gives (λ r. (r.0, r.1.now)) result (next_name (N.broker_of names.now) line text.now) }
 {
     let (word, rest) = next_word(line, text)?;
@@ -40,7 +44,11 @@ fn next_broker<'a, N: Names>(line: u32, text: &'a [u8], names: &N) -> Result<(u1
 }
 
 /// The next word of line `line` as a publisher's name, and what follows it.
-fn next_publisher<'a, N: Names>(line: u32, text: &'a [u8], names: &N) -> Result<(u16, &'a [u8]), StepFault>
+fn next_publisher<'a, N: Names>(
+    line: u32,
+    text: &'a [u8],
+    names: &N,
+) -> Result<(u16, &'a [u8]), StepFault>
     ensures { Gives (λ r. (r.0, r.1.now)) result (next_name (N.publisher_of names.now) line text.now) }
 {
     let (word, rest) = next_word(line, text)?;
@@ -99,12 +107,7 @@ fn event_of(alloc: Global, line: u32, text: &[u8]) -> Result<Event, StepFault>
 }
 
 /// The publish of line `line` behind its word.
-fn publish_of<N: Names>(
-    alloc: Global,
-    line: u32,
-    text: &[u8],
-    names: &N,
-) -> Result<Step, StepFault>
+fn publish_of<N: Names>(alloc: Global, line: u32, text: &[u8], names: &N) -> Result<Step, StepFault>
     ensures { Gives (λ s. s) result (publish_of (N.publisher_of names.now) line text.now) }
 {
     let (publisher, rest) = next_publisher(line, text, names)?;
@@ -157,12 +160,7 @@ fn step_by<N: Names>(
 }
 
 /// The step of line `number`.
-fn step_of<N: Names>(
-    alloc: Global,
-    number: u32,
-    line: &[u8],
-    names: &N,
-) -> Result<Step, StepFault>
+fn step_of<N: Names>(alloc: Global, number: u32, line: &[u8], names: &N) -> Result<Step, StepFault>
     ensures { Gives (λ s. s) result (step_of (N.broker_of names.now) (N.publisher_of names.now) number line.now) }
 {
     let (word, rest) = next_word(number, trimmed(line))?;
@@ -219,7 +217,7 @@ pub fn parse<N: Names>(alloc: Global, steps: &[u8], names: &N) -> Result<Steps, 
     ensures steps { Gives (λ s. s) result (steps_of (N.broker_of names.now) (N.publisher_of names.now) steps.now) }
     ensures range { IfOk result (λ s. All (λ line. IsStep (N.broker_of names.now) (N.publisher_of names.now) line.step) s) }
     ensures few { IfOk result (λ s. length s ≤ MAX_STEPS) }
-    ensures cause { IfErr result IsFault }
+    ensures cause { IfErr result (IsFault (length (counted_lines steps.now))) }
 {
     match past_limit(steps) {
         Some(number) => Err(StepFault::TooMany {

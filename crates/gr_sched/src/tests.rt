@@ -5,8 +5,8 @@ use crate::schedule::parse;
 use crate::step::{Line, Names, Step, Steps};
 use crate::text::{count, is_blank, split};
 use std::alloc::{AllocError, Global};
-use std::process::Abort;
 use std::fmt::Write;
+use std::process::Abort;
 use std::str;
 use std::test::Fail;
 
@@ -110,7 +110,10 @@ fn reads_as(rt: &impl Abort, alloc: Global, rows: &[(&str, &str)]) -> Result<(),
 fn numbers_stay_in_their_ranges(rt: HostRuntime) -> Result<(), Fail> {
     let rows = [
         ("clock 0", "1: clock 0;"),
-        ("clock 4611686018427387904\n", "1: clock 4611686018427387904;"),
+        (
+            "clock 4611686018427387904\n",
+            "1: clock 4611686018427387904;",
+        ),
         ("clock 4611686018427387905\n", "bad-number 1"),
         ("clock 9999999999999999999", "bad-number 1"),
         ("clock 00000000000000000007", "bad-number 1"),
@@ -128,7 +131,10 @@ fn numbers_stay_in_their_ranges(rt: HostRuntime) -> Result<(), Fail> {
         ("bytes", "bad-word 1"),
         ("bytes 1 2", "bad-word 1"),
         ("publish P 0 {}", "bad-number 1"),
-        ("publish P 4611686018427387904 {}", "1: publish 0 4611686018427387904 {};"),
+        (
+            "publish P 4611686018427387904 {}",
+            "1: publish 0 4611686018427387904 {};",
+        ),
     ];
     reads_as(&rt, rt.alloc(), &rows)
 }
@@ -143,7 +149,10 @@ fn lines_are_cut_and_numbered(rt: HostRuntime) -> Result<(), Fail> {
         ("clock 5\r", "bad-number 1"),
         ("clock 5\r\r\n", "bad-number 1"),
         ("\t clock\t \t5 \t\n", "1: clock 5;"),
-        ("clock 5\n\n# x\n  \t\n\t# clock x\nsweep\n", "1: clock 5;6: sweep;"),
+        (
+            "clock 5\n\n# x\n  \t\n\t# clock x\nsweep\n",
+            "1: clock 5;6: sweep;",
+        ),
         ("#clock x\nshow", "2: show;"),
         ("clock 5 # x", "bad-word 1"),
         ("sweep\nshow", "1: sweep;2: show;"),
@@ -178,8 +187,14 @@ fn names_are_those_of_the_topology(rt: HostRuntime) -> Result<(), Fail> {
 fn an_event_is_the_rest_of_its_line(rt: HostRuntime) -> Result<(), Fail> {
     let rows = [
         ("publish P 1 {\"n\":1}", "1: publish 0 1 {\"n\":1};"),
-        ("publish P 1 \t {\"n\" : 1 } \t\r\n", "1: publish 0 1 {\"n\":1};"),
-        ("publish P 1 {\"s\":\"a  b # c\"}", "1: publish 0 1 {\"s\":\"a  b # c\"};"),
+        (
+            "publish P 1 \t {\"n\" : 1 } \t\r\n",
+            "1: publish 0 1 {\"n\":1};",
+        ),
+        (
+            "publish P 1 {\"s\":\"a  b # c\"}",
+            "1: publish 0 1 {\"s\":\"a  b # c\"};",
+        ),
         ("publish", "bad-word 1"),
         ("publish P", "bad-word 1"),
         ("publish P 1", "bad-word 1"),
@@ -199,8 +214,14 @@ fn an_event_is_the_rest_of_its_line(rt: HostRuntime) -> Result<(), Fail> {
 #[test]
 fn a_stop_has_its_place(rt: HostRuntime) -> Result<(), Fail> {
     let rows = [
-        ("publish P 1 stop 1 pick 0 {\"n\":1}", "1: publish 0 1 stop 1 pick 0 {\"n\":1};"),
-        ("publish P 1 stop 4 pick 255 {}", "1: publish 0 1 stop 4 pick 255 {};"),
+        (
+            "publish P 1 stop 1 pick 0 {\"n\":1}",
+            "1: publish 0 1 stop 1 pick 0 {\"n\":1};",
+        ),
+        (
+            "publish P 1 stop 4 pick 255 {}",
+            "1: publish 0 1 stop 4 pick 255 {};",
+        ),
         ("publish P 1 stop 0 pick 0 {}", "bad-number 1"),
         ("publish P 1 stop 5 pick 0 {}", "bad-number 1"),
         ("publish P 1 stop x pick 0 {}", "bad-number 1"),

@@ -97,12 +97,7 @@ fn number_in(line: u32, low: u64, high: u64, word: &[u8]) -> Result<u64, StepFau
 }
 
 /// The next word of line `line` as a number from `low` to `high`, and what follows it.
-pub fn next_number(
-    line: u32,
-    low: u64,
-    high: u64,
-    text: &[u8],
-) -> Result<(u64, &[u8]), StepFault>
+pub fn next_number(line: u32, low: u64, high: u64, text: &[u8]) -> Result<(u64, &[u8]), StepFault>
     ensures gives { Gives (λ r. (r.0, r.1.now)) result (next_number line low high text.now) }
     ensures range { IfOk result (λ r. r.0 ≤ high) }
 {

@@ -1,5 +1,5 @@
 -- A piece that is no separator lengthens the front; behind a separator stands the back.
-use Rattle.std.proofs.Common.{◌≡◌, refl, arith, ◌∙◌, sym}
+use Rattle.std.proofs.Common.{refl, arith, ◌∙◌, sym}
 use Rattle.gr_sched.proofs.Pieces.{front_grows, back_stays, back_found}
 use Rattle.gr_sched.proofs.text.split.Goals as goal
 

@@ -1,5 +1,5 @@
 -- A space or a tab at the end is left off.
-use Rattle.std.proofs.Common.{◌≡◌, ◌∙◌, sym, arith}
+use Rattle.std.proofs.Common.{◌∙◌, sym, arith}
 use Rattle.gr_sched.proofs.Ends.{end_falls}
 use Rattle.gr_sched.proofs.words.without_end_gaps.Goals as goal
 
