@@ -1,3 +1,4 @@
+pub mod Decoding
 pub mod Reading
 pub mod SameEvent
 pub mod Writing

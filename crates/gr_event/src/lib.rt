@@ -1,6 +1,8 @@
 //! Events: what publishers publish, as a list of names and values, rising by name.
 #![tactic(auto)]
 
+pub mod decode;
+pub mod encode;
 pub mod event;
 pub mod json;
 pub mod text;
