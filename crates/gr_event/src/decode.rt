@@ -7,7 +7,7 @@ ghost use Rattle.std.specs.Ordering.{nat_cmp};
 ghost use Rattle.std.specs.Cmp.Lexicographic.{slice_cmp};
 ghost use Rattle.std.specs.declared.cmp.Ordering.TheVariants.{Less};
 ghost use Rattle.std.specs.List.{AllByRecursion};
-ghost use Rattle.gr_event.specs.Event.{value_size, pairs_size};
+ghost use Rattle.gr_event.specs.Event.{event_bytes, value_size, pairs_size};
 ghost use Rattle.gr_event.specs.Gives.{Gives, GivesPairs};
 ghost use Rattle.gr_event.specs.Limits.{IsName, IsPair, IsValue, IsEvent, Rise, names};
 ghost use Rattle.gr_event.specs.Decode.{byte_at, field_at, name_at, integer_at, text_value_at, truth_at, value_at, pairs_at, event_decoded};
@@ -26,7 +26,8 @@ impl Event {
     /// `BadLength`, `BadText`, `NotSorted` and `BadKind` at their places, and last `Trailing`.
     #[tactic(auto, unfolding(crate::specs::Decode::event_decoded))]
     pub fn decode(alloc: Global, bytes: &[u8]) -> Result<Event, EventFault>
-        ensures { Gives result (event_decoded bytes.now) }
+        ensures gives { Gives result (event_decoded bytes.now) }
+        ensures spelled { IfOk result (λ e. bytes.now ≡ event_bytes e) }
     {
         if bytes.len() > 8192 {
             return Err(EventFault::TooLong);

@@ -1,9 +1,10 @@
 //! The form of an event in bytes, written.
 
-ghost use Rattle.std.specs.Prelude.{◌≡◌, ◌+◌, ◌≤◌, ◌∷◌, ◌++◌, length};
+ghost use Rattle.std.specs.Prelude.{◌≡◌, Ok, ◌+◌, ◌≤◌, ◌∷◌, ◌++◌, length};
 ghost use Rattle.std.specs.Int.{to_be_bytes, cast_unsigned, w16, w64};
 ghost use Rattle.std.specs.List.{AllByRecursion};
 ghost use Rattle.gr_event.specs.Event.{event_size, event_bytes, pairs_size, pairs_bytes, value_size, value_bytes};
+ghost use Rattle.gr_event.specs.Decode.{event_decoded};
 ghost use Rattle.gr_event.specs.Limits.{IsPair, IsValue};
 
 use crate::event::{Event, size_of_value};
@@ -19,13 +20,23 @@ impl Event {
     /// Writes its form in bytes into a slice of exactly its size. Takes no memory.
     pub fn encode_into(&self, into: &mut [u8])
         requires { length into.old ≡ event_size self.now }
-        ensures { into.new ≡ event_bytes self.now }
+        ensures bytes { into.new ≡ event_bytes self.now }
+        ensures decodes_back { event_decoded into.new ≡ Ok self.now }
     {
-        let pairs = self.pairs();
-        let (count, rest) = into.split_at_mut(1);
-        count[0] = pairs.len() as u8;
-        put_pairs(pairs, rest);
+        put_event(self.pairs(), into);
     }
+}
+
+/// Writes pairs behind their count into a slice of exactly their size.
+fn put_event(pairs: &[(Text, Value)], into: &mut [u8])
+    requires few { length pairs.now ≤ 32 }
+    requires each { AllByRecursion IsPair pairs.now }
+    requires room { length into.old ≡ event_size pairs.now }
+    ensures { into.new ≡ event_bytes pairs.now }
+{
+    let (count, rest) = into.split_at_mut(1);
+    count[0] = pairs.len() as u8;
+    put_pairs(pairs, rest);
 }
 
 /// Writes pairs into a slice of exactly their size.

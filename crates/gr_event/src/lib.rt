@@ -5,6 +5,8 @@ pub mod decode;
 pub mod encode;
 pub mod event;
 pub mod json;
+#[cfg(test)]
+mod tests;
 pub mod text;
 pub mod value;
 
