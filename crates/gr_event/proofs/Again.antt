@@ -13,7 +13,7 @@ use Rattle.gr_event.specs.declared.value.Value.TheVariants.{Int, Text, Bool as T
 use Rattle.gr_event.specs.declared.event.Event.{Event}
 use Rattle.gr_event.specs.Event.{event_size}
 use Rattle.gr_event.specs.Limits.{IsName, IsValue, IsPair, IsEvent}
-use Rattle.gr_event.specs.Json.{data_of, members_of, json_of, value_from, name_from, pairs_from, short_event, event_from, event_text}
+use Rattle.gr_event.specs.Json.{data_of, members_of, json_of, value_from, name_from, pairs_from, event_from, event_text}
 use Rattle.gr_event.proofs.Reading.{read_as}
 
 value_depth : (v : Value) → depth (data_of v) ≡ 0

@@ -1,5 +1,5 @@
 -- Bytes that are text, and numbers in bytes
-use Rattle.std.proofs.Common.{◌≡◌, ◌≤◌, ◌<◌, ◌+◌, ◌-◌, suc, zero, ℕ, arith, rules, length, take, drop, get_or, nat_cmp, Less, append_assoc, append-nil, if◌then◌else◌, nat_lt, ◌==◌, [], ◌∷◌, ◌++◌, ap, List, Bool, true, false, Result, Ok, Err, sym, ◌∙◌, refl}
+use Rattle.std.proofs.Common.{◌≡◌, ◌<◌, ◌+◌, suc, zero, ℕ, arith, rules, length, drop, nat_cmp, Less, append-nil, if◌then◌else◌, ◌==◌, [], ◌∷◌, ◌++◌, ap, List, Bool, true, false, Result, Ok, Err, sym, ◌∙◌, refl}
 use Rattle.std.proofs.lemmas.List.{drop_all, map-append}
 use Rattle.std.proofs.lemmas.Cmp.{nat_list_cmp_total}
 use Rattle.std.specs.List.{AllByRecursion}
@@ -10,7 +10,7 @@ use Rattle.gr_event.specs.declared.event.Event.{Event}
 use Rattle.gr_event.specs.declared.event.EventFault.{EventFault}
 use Rattle.gr_event.specs.declared.event.EventFault.TheVariants as fault
 use Rattle.gr_event.specs.Event.{value_size, pairs_size}
-use Rattle.gr_event.specs.Gives.{◌>>=◌, Fails}
+use Rattle.gr_event.specs.Gives.{Fails}
 use Rattle.gr_event.specs.Limits.{names, Rise}
 use Rattle.gr_event.specs.Decode.{name_at, value_at, pairs_at}
 use Rattle.gr_event.proofs.Reading.{with_front, after}

@@ -1,11 +1,8 @@
 -- The bytes of an event decode to it, and no other bytes do
-use Rattle.std.proofs.Common.{suc, zero, ◌≡◌, ◌<◌, ◌≤◌, ◌+◌, ◌-◌, ◌^◌, ◌==◌, ◌||◌, ◌&&◌, ℕ, ℤ, List, [], ◌∷◌, ◌++◌, length, take, drop, get_or, true, false, Bool, nat_lt, nat_le, if◌then◌else◌, Result, Ok, Err, Less, nat_cmp, FitsSigned, ap, refl, sym, subst, ◌∙◌, arith, rules, append_assoc, append-nil, length-append}
-use Rattle.std.specs.Prelude.{IsUtf8, slice_range, slice_index}
+use Rattle.std.proofs.Common.{◌≡◌, ◌<◌, ◌≤◌, ◌+◌, ◌-◌, ◌==◌, ℕ, ℤ, List, [], ◌∷◌, ◌++◌, length, take, drop, true, false, Bool, nat_lt, nat_le, if◌then◌else◌, Ok, Less, nat_cmp, FitsSigned, ap, refl, sym, ◌∙◌, arith, rules, append_assoc, append-nil, length-append}
 use Rattle.std.specs.Int.{to_be_bytes, from_be_bytes, cast_signed, cast_unsigned, w16, w64}
 use Rattle.std.specs.List.{AllByRecursion}
 use Rattle.std.specs.List.Sorted.{IsStrictlySortedBy}
-use Rattle.std.specs.Str.{is_utf8}
-use Rattle.std.specs.Ordering.{is_lt}
 use Rattle.std.specs.Cmp.Lexicographic.{slice_cmp}
 use Rattle.std.proofs.lemmas.Int.{to_z-of_z}
 use Rattle.std.proofs.Math.Facts.{Fits-of_z}
@@ -15,12 +12,10 @@ use Rattle.std.proofs.lemmas.Nat.{from_be_bytes-to_be_bytes_2, from_be_bytes-to_
 use Rattle.gr_event.specs.declared.value.Value.{Value}
 use Rattle.gr_event.specs.declared.value.Value.TheVariants.{Int, Text, Bool as Truth}
 use Rattle.gr_event.specs.declared.event.Event.{Event}
-use Rattle.gr_event.specs.declared.event.EventFault.{EventFault}
-use Rattle.gr_event.specs.declared.event.EventFault.TheVariants as fault
-use Rattle.gr_event.specs.Event.{event_size, event_bytes, pairs_size, pairs_bytes, value_bytes, value_size}
+use Rattle.gr_event.specs.Event.{event_bytes, pairs_size, pairs_bytes, value_bytes, value_size}
 use Rattle.gr_event.specs.Gives.{◌>>=◌}
 use Rattle.gr_event.specs.Limits.{IsName, IsValue, IsPair, IsEvent, Rise, names}
-use Rattle.gr_event.specs.Decode.{byte_at, field_at, text_at, risen_at, name_of_length, name_at, text_of_length, truth_of, integer_at, text_value_at, truth_at, value_of_kind, value_at, pairs_at, pairs_of_count, event_decoded}
+use Rattle.gr_event.specs.Decode.{byte_at, field_at, name_of_length, name_at, text_of_length, integer_at, text_value_at, truth_at, value_of_kind, value_at, pairs_at, pairs_of_count, event_decoded}
 
 -- Reading what stands at a place
 

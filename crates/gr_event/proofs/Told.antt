@@ -1,5 +1,5 @@
 -- Bytes that decode to an event are its bytes
-use Rattle.std.proofs.Common.{suc, zero, ◌≡◌, ◌<◌, ◌≤◌, ◌+◌, ◌-◌, ◌*◌, ◌^◌, ◌==◌, ◌||◌, ◌⊎◌, inl, inr, ℕ, ℤ, List, [], ◌∷◌, ◌++◌, length, take, drop, get_or, true, false, Bool, nat_lt, nat_le, if◌then◌else◌, Result, Ok, Err, ap, refl, sym, subst, ◌∙◌, arith, rules, append_assoc, length-append, eqb-true, lit<}
+use Rattle.std.proofs.Common.{suc, zero, ◌≡◌, ◌<◌, ◌≤◌, ◌+◌, ◌-◌, ◌^◌, ◌==◌, ◌||◌, ◌⊎◌, inl, inr, ℕ, List, [], ◌∷◌, ◌++◌, length, take, drop, get_or, true, false, Bool, nat_lt, nat_le, if◌then◌else◌, Result, Ok, Err, ap, refl, sym, subst, ◌∙◌, arith, rules, append_assoc, eqb-true, lit<}
 use Rattle.std.specs.Prelude.{slice_range, slice_index}
 use Rattle.std.specs.Int.{to_be_bytes, from_be_bytes, cast_signed, cast_unsigned, w16, w64}
 use Rattle.std.specs.Str.{is_utf8}
@@ -42,34 +42,35 @@ within n k h = grind (arith, rules)
 byte_told : (bytes : List ℕ) (at x : ℕ) → byte_at bytes at ≡ Ok x → drop at bytes ≡ x ∷ drop (at + 1) bytes
 byte_told bytes at x h =
     elim (either_told (nat_lt at (length bytes)) (Ok (slice_index bytes at)) (Err (fault.Short (length bytes))) x h) [
-      inl k ↦ drop_more bytes at 0 (below at (length bytes) k.0) ∙ ap (λ y. y ∷ drop (at + 1) bytes) (let e : get_or bytes at 0 ≡ x = cc in e)
-    | inr k ↦ absurd (let f = k.1 in cc)
+      | inl k ↦ drop_more bytes at 0 (below at (length bytes) k.0) ∙ ap (λ y. y ∷ drop (at + 1) bytes) (let e : get_or bytes at 0 ≡ x = cc in e)
+      | inr k ↦ absurd (let f = k.1 in cc)
     ]
 
 field_told : (bytes : List ℕ) (at n : ℕ) (f : List ℕ) → field_at bytes at n ≡ Ok f → (drop at bytes ≡ f ++ drop (at + n) bytes) × (length f ≡ n)
 field_told bytes at n f h =
     elim (either_told (nat_le (at + n) (length bytes)) (Ok (slice_range bytes at (at + n))) (Err (fault.Short (length bytes))) f h) [
-      inl k ↦ let inside = within (at + n) (length bytes) k.0 in
-        let size : at + n - at ≡ n = omega arith in
-        let is : take (at + n - at) (drop at bytes) ≡ f = let e = k.1 in cc in
-        let cut : take n (drop at bytes) ≡ f = rw size at is in
-        (sym (take-append-drop n (drop at bytes)) ∙ ap (λ l. l ++ drop n (drop at bytes)) cut ∙ ap (λ l. f ++ l) (drop-drop n at bytes),
-         ap length (sym cut) ∙ length-take n (drop at bytes) ∙ omega (arith, length-drop at bytes))
-    | inr k ↦ absurd (let e = k.1 in cc)
+      | inl k ↦ let inside = within (at + n) (length bytes) k.0 in
+          let size : at + n - at ≡ n = omega arith in
+          let is : take (at + n - at) (drop at bytes) ≡ f = let e = k.1 in cc in
+          let cut : take n (drop at bytes) ≡ f = rw size at is in (
+            sym (take-append-drop n (drop at bytes)) ∙ ap (λ l. l ++ drop n (drop at bytes)) cut ∙ ap (λ l. f ++ l) (drop-drop n at bytes),
+            ap length (sym cut) ∙ length-take n (drop at bytes) ∙ omega (arith, length-drop at bytes),
+          )
+      | inr k ↦ absurd (let e = k.1 in cc)
     ]
 
 text_told : (at : ℕ) (t s : List ℕ) → text_at at t ≡ Ok s → t ≡ s
 text_told at t s h =
     elim (either_told (is_utf8 t) (Ok t) (Err (fault.BadText at)) s h) [
-      inl k ↦ (let e = k.1 in cc)
-    | inr k ↦ absurd (let e = k.1 in cc)
+      | inl k ↦ (let e = k.1 in cc)
+      | inr k ↦ absurd (let e = k.1 in cc)
     ]
 
 risen_told : (at : ℕ) (before n m : List ℕ) → risen_at at before n ≡ Ok m → n ≡ m
 risen_told at before n m h =
     elim (either_told (is_lt (slice_cmp nat_cmp before n)) (Ok n) (Err (fault.NotSorted at)) m h) [
-      inl k ↦ (let e = k.1 in cc)
-    | inr k ↦ absurd (let e = k.1 in cc)
+      | inl k ↦ (let e = k.1 in cc)
+      | inr k ↦ absurd (let e = k.1 in cc)
     ]
 
 name_told : (bytes before name : List ℕ) (at : ℕ) → name_at bytes at before ≡ Ok name → drop at bytes ≡ (length name ∷ name) ++ drop (at + 1 + length name) bytes
@@ -92,9 +93,9 @@ name_told bytes before name at h =
 field_fits : (bytes f rest : List ℕ) (at : ℕ) → ((i : ℕ) → get_or bytes i 0 < 256) → drop at bytes ≡ f ++ rest → (i : ℕ) → get_or f i 0 < 256
 field_fits bytes f rest at fits e i =
     elim (cases_lt i (length f)) [
-      inl k ↦ let here : get_or f i 0 ≡ get_or bytes (at + i) 0 = sym (get_or_append_left f rest 0 i k) ∙ ap (λ l. get_or l i 0) (sym e) ∙ get_or-drop at bytes i 0 in
-        rw here (fits (at + i))
-    | inr k ↦ rw (get_or_past f i 0 k) (lit< tt)
+      | inl k ↦ let here : get_or f i 0 ≡ get_or bytes (at + i) 0 = sym (get_or_append_left f rest 0 i k) ∙ ap (λ l. get_or l i 0) (sym e) ∙ get_or-drop at bytes i 0 in
+          rw here (fits (at + i))
+      | inr k ↦ rw (get_or_past f i 0 k) (lit< tt)
     ]
 
 number_fits : (f : List ℕ) → ((i : ℕ) → get_or f i 0 < 256) → from_be_bytes w64 f < 2 ^ 64
@@ -111,7 +112,7 @@ integer_told bytes at v fits h =
     let n = from_be_bytes w64 f in
     let is : Int (cast_signed w64 n) ≡ v = let e = one.2 in cc in
     let spelled : to_be_bytes w64 (cast_unsigned w64 (cast_signed w64 n)) ≡ f =
-      ap (to_be_bytes w64) (of_z-to_z w64 n (number_fits f each)) ∙ be_bytes_8 f n field.1 each refl in
+    ap (to_be_bytes w64) (of_z-to_z w64 n (number_fits f each)) ∙ be_bytes_8 f n field.1 each refl in
     subst (λ (w : Value). drop at bytes ≡ drop 1 (value_bytes w) ++ drop (at + value_size w) bytes × (value_bytes w ≡ 1 ∷ drop 1 (value_bytes w))) is
     (field.0 ∙ ap (λ l. l ++ drop (at + 8) bytes) (sym spelled), refl)
 
@@ -132,10 +133,12 @@ text_value_told bytes at v fits h =
     let is : Text t ≡ v = let e = three.2 in let same = text_told (at + 2) t three.0 four.2 in cc in
     let spelled : to_be_bytes w16 (length t) ≡ f = be_bytes_2 f (length t) len.1 each field.1 in
     let place : at + 2 + n ≡ at + (2 + length t) = omega (arith, field.1) in
-    subst (λ (w : Value). drop at bytes ≡ drop 1 (value_bytes w) ++ drop (at + value_size w) bytes × (value_bytes w ≡ 2 ∷ drop 1 (value_bytes w))) is
-    (len.0 ∙ ap (λ l. f ++ l) field.0 ∙ sym (append_assoc f t (drop (at + 2 + n) bytes))
-      ∙ ap (λ l. (l ++ t) ++ drop (at + 2 + n) bytes) (sym spelled)
-      ∙ ap (λ k. (to_be_bytes w16 (length t) ++ t) ++ drop k bytes) place, refl)
+    subst (λ (w : Value). drop at bytes ≡ drop 1 (value_bytes w) ++ drop (at + value_size w) bytes × (value_bytes w ≡ 2 ∷ drop 1 (value_bytes w))) is (
+      len.0 ∙ ap (λ l. f ++ l) field.0 ∙ sym (append_assoc f t (drop (at + 2 + n) bytes))
+          ∙ ap (λ l. (l ++ t) ++ drop (at + 2 + n) bytes) (sym spelled)
+          ∙ ap (λ k. (to_be_bytes w16 (length t) ++ t) ++ drop k bytes) place,
+      refl,
+    )
 
 truth_told : (bytes : List ℕ) (at : ℕ) (v : Value) → truth_at bytes at ≡ Ok v
     → drop at bytes ≡ drop 1 (value_bytes v) ++ drop (at + value_size v) bytes × (value_bytes v ≡ 3 ∷ drop 1 (value_bytes v))
@@ -146,10 +149,10 @@ truth_told bytes at v h =
     let byte = byte_told bytes at b one.1 in
     let P = λ (w : Value). drop at bytes ≡ drop 1 (value_bytes w) ++ drop (at + value_size w) bytes × (value_bytes w ≡ 3 ∷ drop 1 (value_bytes w)) in
     elim (either_told (b == 0) (Ok (Truth false)) (if b == 1 then Ok (Truth true) else Err (fault.BadKind at)) v one.2) [
-      inl k ↦ subst P (let is : Truth false ≡ v = let e = k.1 in cc in is) (byte ∙ ap (λ x. x ∷ drop (at + 1) bytes) (eqb-true b 0 k.0), refl)
-    | inr k ↦ elim (either_told (b == 1) (Ok (Truth true)) (Err (fault.BadKind at)) v k.1) [
-        inl j ↦ subst P (let is : Truth true ≡ v = let e = j.1 in cc in is) (byte ∙ ap (λ x. x ∷ drop (at + 1) bytes) (eqb-true b 1 j.0), refl)
-      | inr j ↦ absurd (let e = j.1 in cc)
+      | inl k ↦ subst P (let is : Truth false ≡ v = let e = k.1 in cc in is) (byte ∙ ap (λ x. x ∷ drop (at + 1) bytes) (eqb-true b 0 k.0), refl)
+      | inr k ↦ elim (either_told (b == 1) (Ok (Truth true)) (Err (fault.BadKind at)) v k.1) [
+        | inl j ↦ subst P (let is : Truth true ≡ v = let e = j.1 in cc in is) (byte ∙ ap (λ x. x ∷ drop (at + 1) bytes) (eqb-true b 1 j.0), refl)
+        | inr j ↦ absurd (let e = j.1 in cc)
       ]
     ]
 
@@ -169,12 +172,12 @@ value_told bytes at v fits h =
     let third = if kind == 3 then truth_at bytes (at + 1) else Err (fault.BadKind at) in
     let second = if kind == 2 then text_value_at bytes (at + 1) else third in
     elim (either_told (kind == 1) (integer_at bytes (at + 1)) second v one.2) [
-      inl k ↦ behind_kind bytes at 1 v (byte ∙ ap (λ x. x ∷ drop (at + 1) bytes) (eqb-true kind 1 k.0)) (integer_told bytes (at + 1) v fits k.1)
-    | inr k ↦ elim (either_told (kind == 2) (text_value_at bytes (at + 1)) third v k.1) [
-        inl j ↦ behind_kind bytes at 2 v (byte ∙ ap (λ x. x ∷ drop (at + 1) bytes) (eqb-true kind 2 j.0)) (text_value_told bytes (at + 1) v fits j.1)
-      | inr j ↦ elim (either_told (kind == 3) (truth_at bytes (at + 1)) (Err (fault.BadKind at)) v j.1) [
-          inl i ↦ behind_kind bytes at 3 v (byte ∙ ap (λ x. x ∷ drop (at + 1) bytes) (eqb-true kind 3 i.0)) (truth_told bytes (at + 1) v i.1)
-        | inr i ↦ absurd (let e = i.1 in cc)
+      | inl k ↦ behind_kind bytes at 1 v (byte ∙ ap (λ x. x ∷ drop (at + 1) bytes) (eqb-true kind 1 k.0)) (integer_told bytes (at + 1) v fits k.1)
+      | inr k ↦ elim (either_told (kind == 2) (text_value_at bytes (at + 1)) third v k.1) [
+        | inl j ↦ behind_kind bytes at 2 v (byte ∙ ap (λ x. x ∷ drop (at + 1) bytes) (eqb-true kind 2 j.0)) (text_value_told bytes (at + 1) v fits j.1)
+        | inr j ↦ elim (either_told (kind == 3) (truth_at bytes (at + 1)) (Err (fault.BadKind at)) v j.1) [
+          | inl i ↦ behind_kind bytes at 3 v (byte ∙ ap (λ x. x ∷ drop (at + 1) bytes) (eqb-true kind 3 i.0)) (truth_told bytes (at + 1) v i.1)
+          | inr i ↦ absurd (let e = i.1 in cc)
         ]
       ]
     ]
@@ -183,8 +186,8 @@ end_told : (bytes before : List ℕ) (at : ℕ) (ps : Event) → pairs_at bytes 
 unfolding pairs_at
 end_told bytes before at ps h =
     elim (either_told (at == length bytes) (Ok []) (Err (fault.Trailing at)) ps h) [
-      inl k ↦ (eqb-true at (length bytes) k.0, let e = k.1 in cc)
-    | inr k ↦ absurd (let e = k.1 in cc)
+      | inl k ↦ (eqb-true at (length bytes) k.0, let e = k.1 in cc)
+      | inr k ↦ absurd (let e = k.1 in cc)
     ]
 
 pairs_told : (bytes : List ℕ) (n at : ℕ) (before : List ℕ) (ps : Event) → ((i : ℕ) → get_or bytes i 0 < 256) → pairs_at bytes n at before ≡ Ok ps
@@ -207,9 +210,11 @@ pairs_told bytes (suc n) at before ps fits h =
     let rest_is = pairs_told bytes n next name rest fits three.1 in
     let place : at + 1 + length name + 1 + value_size v ≡ next = omega arith in
     let head = length name ∷ name in
-    subst (λ (l : Event). (drop at bytes ≡ pairs_bytes l) × (suc n ≡ length l)) is
-    (name_is ∙ ap (λ l. head ++ l) (value_is ∙ ap (λ k. value_bytes v ++ drop k bytes) place ∙ ap (λ l. value_bytes v ++ l) rest_is.0)
-      ∙ sym (append_assoc head (value_bytes v) (pairs_bytes rest)), ap suc rest_is.1)
+    subst (λ (l : Event). (drop at bytes ≡ pairs_bytes l) × (suc n ≡ length l)) is (
+      name_is ∙ ap (λ l. head ++ l) (value_is ∙ ap (λ k. value_bytes v ++ drop k bytes) place ∙ ap (λ l. value_bytes v ++ l) rest_is.0)
+          ∙ sym (append_assoc head (value_bytes v) (pairs_bytes rest)),
+      ap suc rest_is.1,
+    )
 
 -- the bytes of what decodes are its bytes
 pub only_its_bytes : (bytes : List ℕ) (e : Event) → ((i : ℕ) → get_or bytes i 0 < 256) → event_decoded bytes ≡ Ok e → bytes ≡ event_bytes e

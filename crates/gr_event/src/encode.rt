@@ -13,7 +13,9 @@ use crate::value::Value;
 use byteorder::{BigEndian, ByteOrder};
 
 const INTEGER: u8 = 1;
+
 const TEXT: u8 = 2;
+
 const TRUTH: u8 = 3;
 
 impl Event {

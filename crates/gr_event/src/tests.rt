@@ -7,11 +7,16 @@ fn reads_writes_and_decodes(rt: HostRuntime) -> Result<(), Fail> {
     let mut bytes = [0u8; 16];
     assert_eq!(rt; event.size(), 16);
     event.encode_into(&mut bytes);
-    let spelled = [1, 5, 0x70, 0x72, 0x69, 0x63, 0x65, 1, 0, 0, 0, 0, 0, 0, 0, 0x52];
+    let spelled = [
+        1, 5, 0x70, 0x72, 0x69, 0x63, 0x65, 1, 0, 0, 0, 0, 0, 0, 0, 0x52,
+    ];
     assert_eq!(rt; bytes.as_slice(), spelled.as_slice());
     let decoded = Event::decode(rt.alloc(), &bytes)?;
     assert!(rt; decoded.same(&event));
-    assert_eq!(rt; decoded.json(rt.alloc())?.as_slice(), b"{\"price\":82}".as_slice());
+    assert_eq!(rt;
+        decoded.json(rt.alloc())?.as_slice(),
+        b"{\"price\":82}".as_slice()
+    );
     assert!(rt; matches!(event.share().get(b"price"), Some(Part::Int(82))));
     assert!(rt; event.get(b"qty").is_none());
     Ok(())
@@ -38,7 +43,10 @@ fn refuses_with_the_first_fault(rt: HostRuntime) -> Result<(), Fail> {
         (&[33], EventFault::BadLength { at: 0 }),
         (&[1, 0], EventFault::BadLength { at: 1 }),
         (&[1, 1, 0xff, 3, 1], EventFault::BadText { at: 2 }),
-        (&[2, 1, 0x62, 3, 1, 1, 0x61, 3, 1], EventFault::NotSorted { at: 6 }),
+        (
+            &[2, 1, 0x62, 3, 1, 1, 0x61, 3, 1],
+            EventFault::NotSorted { at: 6 },
+        ),
         (&[1, 1, 0x61, 3, 2], EventFault::BadKind { at: 4 }),
         (&[1, 1, 0x61, 2, 4, 1], EventFault::BadLength { at: 4 }),
     ];
@@ -58,7 +66,10 @@ fn makes_lists(rt: HostRuntime) -> Result<(), Fail> {
     let mut bytes = Bytes::new(rt.alloc());
     bytes.push(1)?;
     bytes.append(&[2, 3])?;
-    assert_eq!(rt; bytes.as_slice(), Bytes::from_slice(rt.alloc(), &[1, 2, 3])?.as_slice());
+    assert_eq!(rt;
+        bytes.as_slice(),
+        Bytes::from_slice(rt.alloc(), &[1, 2, 3])?.as_slice()
+    );
     assert_eq!(rt; bytes.len(), 3);
     let mut numbers = Numbers::from_slice(rt.alloc(), &[7])?;
     numbers.push(9)?;

@@ -1,5 +1,5 @@
 -- What was read so far, before what is left, is what all gives; a pair of whole fields goes behind it
-use Rattle.std.proofs.Common.{◌≡◌, ◌-◌, ◌+◌, ◌++◌, ◌∷◌, [], suc, arith, length, refl, ap, sym, ◌∙◌, rules}
+use Rattle.std.proofs.Common.{◌≡◌, ◌-◌, ◌+◌, ◌++◌, ◌∷◌, [], arith, refl, ap, ◌∙◌}
 use Rattle.std.specs.List.Sorted.{IsStrictlySortedBy}
 use Rattle.std.proofs.lemmas.List.{length_push}
 use Rattle.std.proofs.lemmas.Result.{err_from_is_err_and}
@@ -13,14 +13,14 @@ unfolding IsStrictlySortedBy
 loop-init c =
     let all : c.args.count - 0 ≡ c.args.count = omega arith in
     rw c.new-found.ensures.items record {
-  place = refl;
-  inside = c.requires.some;
-  read = no_front _ ∙ ap (λ n. pairs_at c.args.bytes.now n 1 []) all;
-  each = tt;
-  many = refl;
-  rise = tt;
-  above = λ n h. (tt, tt);
-}
+      place = refl;
+      inside = c.requires.some;
+      read = no_front _ ∙ ap (λ n. pairs_at c.args.bytes.now n 1 []) all;
+      each = tt;
+      many = refl;
+      rise = tt;
+      above = λ n h. (tt, tt);
+    }
 
 pub returns-in_err-name-clause-gives : goal.returns-in_err-name-clause-gives
 returns-in_err-name-clause-gives c =

@@ -1,5 +1,5 @@
 -- Bytes that decode to an event are its bytes
-use Rattle.std.proofs.Common.{◌∙◌, rules}
+use Rattle.std.proofs.Common.{rules}
 use Rattle.gr_event.specs.Decode.{event_decoded}
 use Rattle.gr_event.proofs.Told.{only_its_bytes}
 use Rattle.gr_event.proofs.event.Event.decode.Goals as goal
