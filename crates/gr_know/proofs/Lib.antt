@@ -1,1 +1,2 @@
 pub mod KnowLemmas
+pub mod ForgetLemmas
