@@ -1,5 +1,5 @@
 -- Outside the range of ticks nothing is known, so that nothing clashes there and nothing is new.
-use Rattle.std.proofs.Common.{◌≡◌, ℕ, ◌+◌, ◌^◌, false, List, refl, ap₂, ◌∙◌}
+use Rattle.std.proofs.Common.{◌≡◌, ℕ, ◌+◌, ◌^◌, false, List, ap₂}
 use Rattle.gr_tick.specs.declared.run.Run.{Run}
 use Rattle.gr_tick.specs.Runs.{AreRuns}
 use Rattle.gr_tick.specs.Stored.{within, EndBefore}

@@ -1,8 +1,9 @@
-ghost use Rattle.std.specs.Prelude.{if◌then◌else◌, ◌≡◌, ◌≢◌, ℕ, suc, ◌+◌, ◌-◌, ◌^◌, ◌<◌, ◌≤◌, [], length, slice_get, Some, true, false, MatchOption, IfOk, OnOk, OnErr};
+ghost use Rattle.std.specs.Prelude.{if◌then◌else◌, ◌&&◌, nat_le, take, drop, ◌++◌, ◌≡◌, ◌≢◌, ℕ, suc, ◌+◌, ◌-◌, ◌^◌, ◌<◌, ◌≤◌, [], length, slice_get, Some, true, false, MatchOption, IfOk, OnOk, OnErr};
 ghost use Rattle.gr_tick.specs.Runs.{value_at, AreRuns, first_bottom_from, top_of};
 ghost use Rattle.gr_tick.specs.Stored.{within, IsRun, EndBefore, RunsGive};
-ghost use Rattle.gr_know.specs.Values.{known_at, join_K, new_K, clash_K};
+ghost use Rattle.gr_know.specs.Values.{known_at, is_D, join_K, new_K, clash_K};
 ghost use Rattle.gr_know.specs.Clash.{IsLeastClash};
+ghost use Rattle.gr_know.specs.Forget.{data_of, data_count, lower_data, forgotten};
 ghost use Rattle.gr_know.specs.declared.values.K.TheVariants.{Q, F};
 
 use crate::values::K;
@@ -142,6 +143,19 @@ impl Know {
         self.stream.set_range(first, last, K::F);
         Ok(())
     }
+
+    /// Makes the least ticks with an event unknown, up to a tick, until no more than `limit` such ticks are left.
+    /// `Memory` leaves the knowledge as it was.
+    pub fn forget(&mut self, limit: u32, upto: u64) -> Result<(), AllocError>
+        ensures forgotten { OnOk result (self.new ≡ forgotten limit upto self.old) }
+        ensures canonical { OnOk result (AreRuns Q self.new) }
+        ensures in_range { OnOk result (EndBefore self.new (2 ^ 62 + 1)) }
+        ensures err { OnErr result (self.new ≡ self.old) }
+    {
+        forget_data(&mut self.stream, u64::from(limit), upto);
+        let _ = self.stream.len();
+        Ok(())
+    }
 }
 
 /// The least clashing tick.
@@ -226,4 +240,80 @@ fn fresh_piece(alloc: Global, stream: &Stream<K>, piece: &Piece<K>) -> Result<Pi
     let _ = stream.len();
     let _ = piece.len();
     Ok(fresh)
+}
+
+/// Whether a run has an event.
+fn is_data(run: &Run<K>) -> bool
+    ensures { result ≡ is_D run.now.value }
+{
+    match &run.value {
+        K::D(_) => true,
+        K::Q | K::S | K::F => false,
+    }
+}
+
+/// Whether a run has an event at a tick up to a given one.
+fn may_lower(run: &Run<K>, upto: u64) -> bool
+    ensures { result ≡ (is_D run.now.value && nat_le run.now.first upto) }
+{
+    is_data(run) && run.first <= upto
+}
+
+/// How many ticks of a run have an event.
+fn data_of(run: &Run<K>) -> u64
+    requires { IsRun Q run.now }
+    ensures { result ≡ data_of run.now }
+{
+    if is_data(run) {
+        run.last - run.first + 1
+    } else {
+        0
+    }
+}
+
+/// How many ticks have an event.
+fn data_count(stream: &Stream<K>) -> u64
+    ensures { result ≡ data_count stream.now.runs }
+{
+    let mut count = 0u64;
+    for i in 0..stream.len() {
+        count += data_of(stream.run(i));
+    }
+    count
+}
+
+/// Lowers the least ticks with an event, up to a tick, until no more than the limit are left.
+fn forget_data(stream: &mut Stream<K>, limit: u64, upto: u64)
+    ensures { stream.new.runs ≡ forgotten limit upto stream.old.runs }
+{
+    let mut left = data_count(stream).saturating_sub(limit);
+    let mut i = 0;
+    while left > 0 && i < stream.len() {
+        (i, left) = lower_run(stream, i, left, upto);
+    }
+    let _ = stream.len();
+}
+
+/// Lowers what is to be lowered of the run at a place, and answers the place to go on at, and how many ticks are left to lower.
+fn lower_run(stream: &mut Stream<K>, i: usize, left: u64, upto: u64) -> (usize, u64)
+    requires within { i < length stream.old.runs }
+    requires some { 0 < left }
+    ensures within { result.0 ≤ length stream.new.runs }
+    ensures smaller { length stream.new.runs - result.0 < length stream.old.runs - i }
+    ensures lowered { take result.0 stream.new.runs ++ lower_data result.1 upto (drop result.0 stream.new.runs) ≡ take i stream.old.runs ++ lower_data left upto (drop i stream.old.runs) }
+{
+    let _ = stream.len();
+    let run = stream.run(i);
+    if !may_lower(run, upto) {
+        return (i + 1, left);
+    }
+    let first = run.first;
+    let last = run.last;
+    let ticks = left.min(last.min(upto) - first + 1);
+    let end = first + (ticks - 1);
+    stream.lower_front(i, end);
+    if end == last {
+        return (i, left - ticks);
+    }
+    (i + 1, left - ticks)
 }

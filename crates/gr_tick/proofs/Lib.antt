@@ -6,3 +6,4 @@ pub mod StepLemmas
 pub mod LawLemmas
 pub mod WalkLemmas
 pub mod SteadyLemmas
+pub mod SeekLemmas

@@ -54,6 +54,11 @@ module _ {V : Type 0} where
     pub in_range : EndBefore rs (2 ^ 62 + 1)
     pub values : (t : ℕ) → value_at least rs t ≡ g t
 
+  -- each run begins by the tick
+  abbrev pub BeginBy : List (Run V) → ℕ → Type 0
+  BeginBy [] t = Unit {0}
+  BeginBy (r ∷ rs) t = (r.first ≤ t) × BeginBy rs t
+
   -- each run begins after the tick
   abbrev pub BeginAfter : List (Run V) → ℕ → Type 0
   BeginAfter [] t = Unit {0}

@@ -3,7 +3,7 @@ ghost use Rattle.std.specs.Prelude.{if◌then◌else◌, IfSome, IfOk, ◌≡◌
 ghost use Rattle.std.specs.List.{HoldsAt};
 ghost use Rattle.std.specs.Vec.{vec_len, vec_capacity};
 ghost use Rattle.gr_tick.specs.Runs.{value_at, is_in};
-ghost use Rattle.gr_tick.specs.Stored.{IsRun, AreTickRuns, EndBefore, BeginAfter, part, room, growth, within, between, runs_in, needed};
+ghost use Rattle.gr_tick.specs.Stored.{IsRun, AreTickRuns, EndBefore, BeginBy, BeginAfter, part, room, growth, within, between, runs_in, needed};
 
 use crate::MAX_TICK;
 use crate::lattice::{Lattice, is_bottom};
@@ -72,18 +72,42 @@ fn insert_part<V: Lattice>(
 }
 
 /// Where the runs that end at a tick or later begin.
-#[tactic(auto, using(crate::proofs::RunsLemmas::seek_steps))]
-fn seek<V: Lattice>(runs: &[Run<V>], tick: u64) -> usize
+pub fn seek<V: Lattice>(runs: &[Run<V>], tick: u64) -> usize
+    requires { AreTickRuns V.least runs.now }
     ensures within { result ≤ length runs.now }
     ensures front { EndBefore (take result runs.now) tick }
     ensures here { (r : Run V) (rs : List (Run V)) → drop result runs.now ≡ r ∷ rs → tick ≤ r.last }
 {
-    for (i, run) in runs.iter().enumerate() {
-        if tick <= run.last {
-            return i;
+    let mut low = 0;
+    let mut high = runs.len();
+    while low < high {
+        let middle = low + (high - low) / 2;
+        let run = &runs[middle];
+        if run.last < tick {
+            low = middle + 1;
+        } else {
+            high = middle;
         }
     }
-    runs.len()
+    low
+}
+
+/// How many runs begin by a tick.
+pub fn begun_by<V: Lattice>(runs: &[Run<V>], tick: u64) -> usize
+    requires { AreTickRuns V.least runs.now }
+    ensures within { result ≤ length runs.now }
+    ensures front { BeginBy (take result runs.now) tick }
+    ensures ahead { BeginAfter (drop result runs.now) tick }
+{
+    let i = seek(runs, tick);
+    if i == runs.len() {
+        return i;
+    }
+    let run = &runs[i];
+    if tick < run.first {
+        return i;
+    }
+    i + 1
 }
 
 /// Joins the run before a place to a run that begins past it, where they form one run: removes it, and answers the place
@@ -322,23 +346,28 @@ pub fn join_over<V: Lattice>(runs: &mut Vec<Run<V>>, first: u64, last: u64, valu
 
 /// The value at a tick.
 pub fn value_in<V: Lattice>(runs: &[Run<V>], tick: u64) -> V
+    requires { AreTickRuns V.least runs.now }
     ensures { result ≡ value_at V.least runs.now tick }
 {
-    for run in runs {
-        if run.first <= tick && tick <= run.last {
-            return run.value.share();
-        }
+    let i = seek(runs, tick);
+    if i == runs.len() {
+        return V::bottom();
     }
-    V::bottom()
+    let run = &runs[i];
+    if tick < run.first {
+        return V::bottom();
+    }
+    run.value.share()
 }
 
 /// How many runs have a tick of a range.
 pub fn count_in<V: Lattice>(runs: &[Run<V>], first: u64, last: u64) -> usize
+    requires { AreTickRuns V.least runs.now }
     ensures { result ≡ runs_in first last runs.now }
 {
-    runs.iter()
-        .filter(|run| run.first <= last && first <= run.last)
-        .count()
+    let begin = seek(runs, first);
+    let end = begun_by(runs, last);
+    end.saturating_sub(begin)
 }
 
 /// The tick after a run that has the tick, and else the tick.
@@ -363,10 +392,26 @@ pub fn next_bottom<V: Lattice>(runs: &[Run<V>], tick: u64) -> u64
     ensures least { (t : ℕ) → tick ≤ t → t < result → value_at V.least runs.now t ≢ V.least }
 {
     let mut next = tick;
-    for run in runs {
+    for i in seek(runs, tick)..runs.len() {
+        let run = &runs[i];
+        if next < run.first {
+            return next;
+        }
         next = after_run(run, next);
     }
     next
+}
+
+/// Takes the first ticks of the run at a place out, up to one of them.
+pub fn lower_front<V: Lattice>(runs: &mut Vec<Run<V>>, i: usize, last: u64)
+    requires within { i < vec_len runs.old }
+    requires runs { AreTickRuns V.least runs.old.items }
+    requires holds { HoldsAt (λ r. (r.first ≤ last) × (last ≤ r.last)) runs.old.items i }
+    ensures items { HoldsAt (λ r. runs.new.items ≡ take i runs.old.items ++ (part (last + 1) r.last r.value ++ drop (i + 1) runs.old.items)) runs.old.items i }
+    ensures runs { AreTickRuns V.least runs.new.items }
+{
+    let run = runs.remove(i);
+    insert_part(runs, i, last + 1, run.last, &run.value);
 }
 
 /// Takes a part of the run at a place out.
@@ -478,6 +523,7 @@ pub fn steady_until<V: Lattice>(runs: &[Run<V>], tick: u64) -> u64
 
 /// The room that is enough to join each run of a list, if it is a number of the machine's.
 pub fn room_for<V: Lattice>(runs: &[Run<V>], others: &[Run<V>]) -> Option<usize>
+    requires { AreTickRuns V.least runs.now }
     ensures { IfSome result (λ n. n ≡ needed runs.now others.now) }
 {
     let mut room = 0usize;

@@ -1,11 +1,11 @@
 ghost use Rattle.std.specs.Prelude.{if◌then◌else◌, ◌≡◌, ◌≢◌, ℕ, ◌+◌, ◌^◌, ◌<◌, ◌≤◌, [], ◌∷◌, ◌++◌, length, take, drop, slice_get, Some, OnOk, OnErr, IfOk};
 ghost use Rattle.std.specs.List.{HoldsAt};
 ghost use Rattle.gr_tick.specs.Runs.{value_at, AreRuns, first_bottom_from, top_of};
-ghost use Rattle.gr_tick.specs.Stored.{runs_in, within, IsRun, EndBefore, RunsGive, part};
+ghost use Rattle.gr_tick.specs.Stored.{runs_in, within, IsRun, AreTickRuns, EndBefore, RunsGive, part};
 
 use crate::edits::{
-    copy_runs, count_in, join_each, join_over, lower_over, next_bottom, room_for, set_over,
-    steady_until, value_in,
+    begun_by, copy_runs, count_in, join_each, join_over, lower_front, lower_over, next_bottom,
+    room_for, seek, set_over, steady_until, value_in,
 };
 use crate::lattice::{Lattice, is_bottom};
 use crate::piece::Piece;
@@ -171,6 +171,15 @@ impl<V: Lattice> Stream<V> {
         Ok(())
     }
 
+    /// Puts the least value at the first ticks of a run, up to one of them. Takes no memory.
+    pub fn lower_front(&mut self, i: usize, last: u64)
+        requires within { i < length self.old.runs }
+        requires holds { HoldsAt (λ r. (r.first ≤ last) × (last ≤ r.last)) self.old.runs i }
+        ensures { HoldsAt (λ r. self.new.runs ≡ take i self.old.runs ++ (part (last + 1) r.last r.value ++ drop (i + 1) self.old.runs)) self.old.runs i }
+    {
+        lower_front(&mut self.runs, i, last);
+    }
+
     /// The least tick from `tick` on with the least value, or `MAX_TICK + 1`.
     pub fn first_bottom_from(&self, tick: u64) -> u64
         requires from_one { 1 ≤ tick }
@@ -191,11 +200,27 @@ impl<V: Lattice> Stream<V> {
         requires upto { last ≤ 2 ^ 62 }
         ensures { IfOk result (λ piece. RunsGive V.least piece (λ t. if within first last t then value_at V.least self.now.runs t else V.least)) }
     {
-        let mut piece = Piece::new(*self.runs.allocator());
-        for run in &self.runs {
-            piece.push_cut(run, first, last)?;
-        }
-        let _ = piece.len();
-        Ok(piece)
+        piece_of(*self.runs.allocator(), &self.runs, first, last)
     }
+}
+
+/// The runs of a range, cut at its ends.
+fn piece_of<V: Lattice>(
+    alloc: Global,
+    runs: &[Run<V>],
+    first: u64,
+    last: u64,
+) -> Result<Piece<V>, AllocError>
+    requires runs { AreTickRuns V.least runs.now }
+    requires from_one { 1 ≤ first }
+    requires ordered { first ≤ last }
+    requires upto { last ≤ 2 ^ 62 }
+    ensures { IfOk result (λ piece. RunsGive V.least piece (λ t. if within first last t then value_at V.least runs.now t else V.least)) }
+{
+    let mut piece = Piece::new(alloc);
+    for i in seek(runs, first)..begun_by(runs, last) {
+        piece.push_cut(&runs[i], first, last)?;
+    }
+    let _ = piece.len();
+    Ok(piece)
 }

@@ -1,4 +1,4 @@
-use Rattle.std.proofs.Common.{◌≡◌, ℕ, ◌+◌, ◌-◌, ◌<◌, ◌≤◌, cond}
+use Rattle.std.proofs.Common.{◌≡◌, ℕ, ◌+◌, ◌-◌, ◌≤◌, cond}
 use Rattle.std.specs.Vec.{vec_len, vec_capacity}
 use Rattle.gr_tick.specs.Runs.{value_at}
 use Rattle.gr_tick.specs.Stored.{AreTickRuns, between}
