@@ -2,9 +2,10 @@
 #![tactic(auto)]
 
 pub mod event;
+pub mod json;
 pub mod text;
 pub mod value;
 
-pub use event::{Event, EventFault};
+pub use event::{Event, EventFault, Memory};
 pub use text::{Bytes, Numbers, Text};
 pub use value::{Part, Value};
