@@ -2,6 +2,10 @@
 //! headline that every report meets.
 #![tactic(auto)]
 
+mod lines;
+
 pub mod report;
+mod words;
+
 
 pub use report::{Report, Reports};
