@@ -3,9 +3,9 @@
 #![tactic(auto)]
 
 mod lines;
-
+pub mod print;
 pub mod report;
 mod words;
 
-
+pub use print::{Memory, PutFault, put};
 pub use report::{Report, Reports};

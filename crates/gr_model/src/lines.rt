@@ -3,6 +3,7 @@
 ghost use Rattle.std.specs.Prelude.{◌≡◌, ◌<◌, ◌≤◌, ◌++◌, [], ◌∷◌, length, map, codes, OnOk};
 ghost use Rattle.std.specs.Fmt.{decimal};
 ghost use Rattle.std.specs.List.{flat_map};
+ghost use Rattle.gr_topo.specs.Topology.{name_at};
 ghost use Rattle.gr_event.specs.Json.{json_text};
 ghost use Rattle.gr_model.specs.Text.{labels_of, know_letter, want_letter, run_word, fault_word, hex_pair, publisher_words, log_words, sent_words, line_words, AreNamed, IsSentNamed, IsNamed};
 
@@ -15,6 +16,52 @@ use gr_tick::{Lattice, Piece, Run};
 use gr_topo::Topology;
 use std::alloc::{AllocError, Global};
 
+/// The name of a broker.
+fn push_broker(words: &mut Words, topo: &Topology, broker: u16) -> Result<(), AllocError>
+    requires { broker < length topo.now.brokers }
+    ensures { OnOk result (words.new ≡ words.old ++ name_at topo.now.brokers broker ∷ []) }
+{
+    words.push(topo.broker_name(broker).as_slice())
+}
+
+/// The name of a publisher.
+fn push_publisher(words: &mut Words, topo: &Topology, publisher: u16) -> Result<(), AllocError>
+    requires { publisher < length topo.now.publishers }
+    ensures { OnOk result (words.new ≡ words.old ++ name_at topo.now.publishers publisher ∷ []) }
+{
+    words.push(topo.publisher_name(publisher).as_slice())
+}
+
+/// The name of a subscriber.
+fn push_subscriber(words: &mut Words, topo: &Topology, subscriber: u16) -> Result<(), AllocError>
+    requires { subscriber < length topo.now.subscribers }
+    ensures { OnOk result (words.new ≡ words.old ++ name_at topo.now.subscribers subscriber ∷ []) }
+{
+    words.push(topo.subscriber_name(subscriber).as_slice())
+}
+
+/// A word and a number.
+fn push_pair(words: &mut Words, word: &[u8], number: u64) -> Result<(), AllocError>
+    ensures { OnOk result (words.new ≡ words.old ++ word.now ∷ decimal number ∷ []) }
+{
+    words.push(word)?;
+    words.push_number(number)
+}
+
+/// A word and the name of a publisher.
+fn push_named(
+    words: &mut Words,
+    topo: &Topology,
+    word: &[u8],
+    publisher: u16,
+) -> Result<(), AllocError>
+    requires { publisher < length topo.now.publishers }
+    ensures { OnOk result (words.new ≡ words.old ++ word.now ∷ name_at topo.now.publishers publisher ∷ []) }
+{
+    words.push(word)?;
+    push_publisher(words, topo, publisher)
+}
+
 /// A line of a publisher and numbers.
 fn push_publisher_line(
     words: &mut Words,
@@ -26,8 +73,7 @@ fn push_publisher_line(
     requires { publisher < length topo.now.publishers }
     ensures { OnOk result (words.new ≡ words.old ++ publisher_words (labels_of topo.now) first.now publisher numbers.now) }
 {
-    words.push(first)?;
-    words.push(topo.publisher_name(publisher).as_slice())?;
+    push_named(words, topo, first, publisher)?;
     push_numbers(words, numbers)
 }
 
@@ -54,14 +100,22 @@ fn push_log(
     requires { publisher < length topo.now.publishers }
     ensures { OnOk result (words.new ≡ words.old ++ log_words (labels_of topo.now) first.now publisher last settled cut) }
 {
-    words.push(first)?;
-    words.push(topo.publisher_name(publisher).as_slice())?;
-    words.push(b"last")?;
-    words.push_number(last)?;
-    words.push(b"settled")?;
-    words.push_number(settled)?;
-    words.push(b"cut")?;
-    words.push_number(cut)
+    push_named(words, topo, first, publisher)?;
+    push_log_numbers(words, last, settled, cut)
+}
+
+/// The numbers of a log.
+fn push_log_numbers(
+    words: &mut Words,
+    last: u64,
+    settled: u64,
+    cut: u64,
+) -> Result<(), AllocError>
+    ensures { OnOk result (words.new ≡ words.old ++ codes "last" ∷ decimal last ∷ codes "settled" ∷ decimal settled ∷ codes "cut" ∷ decimal cut ∷ []) }
+{
+    push_pair(words, b"last", last)?;
+    push_pair(words, b"settled", settled)?;
+    push_pair(words, b"cut", cut)
 }
 
 /// The line of a log that is shown.
@@ -78,8 +132,7 @@ fn push_shown_log(
     ensures { OnOk result (words.new ≡ words.old ++ line_words (labels_of topo.now) (Report.LogOf publisher last settled cut kept)) }
 {
     push_log(words, topo, b"log", publisher, last, settled, cut)?;
-    words.push(b"kept")?;
-    words.push_number(kept)
+    push_pair(words, b"kept", kept)
 }
 
 /// The line of a gap.
@@ -94,10 +147,9 @@ fn push_gap(
     ensures { OnOk result (words.new ≡ words.old ++ line_words (labels_of topo.now) (Report.Gap publisher number next)) }
 {
     words.push(b"gap")?;
-    words.push(topo.publisher_name(publisher).as_slice())?;
+    push_publisher(words, topo, publisher)?;
     words.push_number(number)?;
-    words.push(b"next")?;
-    words.push_number(next)
+    push_pair(words, b"next", next)
 }
 
 /// The line of an event that a subscriber got.
@@ -114,8 +166,8 @@ fn push_got(
     ensures { OnOk result (words.new ≡ words.old ++ line_words (labels_of topo.now) (Report.Got subscriber publisher tick event.now)) }
 {
     words.push(b"got")?;
-    words.push(topo.subscriber_name(subscriber).as_slice())?;
-    words.push(topo.publisher_name(publisher).as_slice())?;
+    push_subscriber(words, topo, subscriber)?;
+    push_publisher(words, topo, publisher)?;
     words.push_number(tick)?;
     words.push_text(event.json(alloc)?)
 }
@@ -132,8 +184,8 @@ fn push_horizon(
     ensures { OnOk result (words.new ≡ words.old ++ line_words (labels_of topo.now) (Report.Horizon subscriber publisher tick)) }
 {
     words.push(b"horizon")?;
-    words.push(topo.subscriber_name(subscriber).as_slice())?;
-    words.push(topo.publisher_name(publisher).as_slice())?;
+    push_subscriber(words, topo, subscriber)?;
+    push_publisher(words, topo, publisher)?;
     words.push_number(tick)
 }
 
@@ -150,8 +202,8 @@ fn push_doubt(
     ensures { OnOk result (words.new ≡ words.old ++ line_words (labels_of topo.now) (Report.Doubt broker publisher tick)) }
 {
     words.push(b"doubt")?;
-    words.push(topo.broker_name(broker).as_slice())?;
-    words.push(topo.publisher_name(publisher).as_slice())?;
+    push_broker(words, topo, broker)?;
+    push_publisher(words, topo, publisher)?;
     words.push_number(tick)
 }
 
@@ -168,12 +220,11 @@ fn push_sent(
     requires { IsSentNamed topo.now from to publisher }
     ensures { OnOk result (words.new ≡ words.old ++ sent_words (labels_of topo.now) number from to kind.now publisher) }
 {
-    words.push(b"sent")?;
-    words.push_number(number)?;
-    words.push(topo.broker_name(from).as_slice())?;
-    words.push(topo.broker_name(to).as_slice())?;
+    push_pair(words, b"sent", number)?;
+    push_broker(words, topo, from)?;
+    push_broker(words, topo, to)?;
     words.push(kind)?;
-    words.push(topo.publisher_name(publisher).as_slice())
+    push_publisher(words, topo, publisher)
 }
 
 /// The letter of what is known.
@@ -282,21 +333,13 @@ fn push_sent_expect(
     words.push_number(tick)
 }
 
-/// A line of one number.
-fn push_counted(words: &mut Words, first: &[u8], number: u64) -> Result<(), AllocError>
-    ensures { OnOk result (words.new ≡ words.old ++ first.now ∷ decimal number ∷ []) }
-{
-    words.push(first)?;
-    words.push_number(number)
-}
-
 /// The line of a crash.
 fn push_crashed(words: &mut Words, topo: &Topology, broker: u16) -> Result<(), AllocError>
     requires { broker < length topo.now.brokers }
     ensures { OnOk result (words.new ≡ words.old ++ line_words (labels_of topo.now) (Report.Crashed broker)) }
 {
     words.push(b"crashed")?;
-    words.push(topo.broker_name(broker).as_slice())
+    push_broker(words, topo, broker)
 }
 
 /// The begin of the line of a refused step.
@@ -315,7 +358,7 @@ fn push_refused_hosts(words: &mut Words, topo: &Topology, line: u32, broker: u16
     ensures { OnOk result (words.new ≡ words.old ++ line_words (labels_of topo.now) (Report.RefusedHosts line broker)) }
 {
     push_refused(words, line, b"hosts-subscriber")?;
-    words.push(topo.broker_name(broker).as_slice())
+    push_broker(words, topo, broker)
 }
 
 /// The line of a frame that is not there.
@@ -323,9 +366,15 @@ fn push_refused_frame(words: &mut Words, line: u32, frame: u64, sent: u64) -> Re
     ensures { OnOk result (words.new ≡ words.old ++ codes "refused" ∷ codes "line" ∷ decimal line ∷ codes "no-frame" ∷ decimal frame ∷ codes "of" ∷ decimal sent ∷ []) }
 {
     push_refused(words, line, b"no-frame")?;
+    push_missing(words, frame, sent)
+}
+
+/// Which frame is not there, and how many are.
+fn push_missing(words: &mut Words, frame: u64, sent: u64) -> Result<(), AllocError>
+    ensures { OnOk result (words.new ≡ words.old ++ decimal frame ∷ codes "of" ∷ decimal sent ∷ []) }
+{
     words.push_number(frame)?;
-    words.push(b"of")?;
-    words.push_number(sent)
+    push_pair(words, b"of", sent)
 }
 
 /// The line of a sweep past the last tick.
@@ -342,7 +391,7 @@ fn push_dropped(words: &mut Words, topo: &Topology, broker: u16, cause: &[u8]) -
     ensures { OnOk result (words.new ≡ words.old ++ codes "dropped" ∷ (labels_of topo.now).broker broker ∷ cause.now ∷ []) }
 {
     words.push(b"dropped")?;
-    words.push(topo.broker_name(broker).as_slice())?;
+    push_broker(words, topo, broker)?;
     words.push(cause)
 }
 
@@ -366,14 +415,22 @@ fn word_of_fault(fault: u8) -> &'static [u8]
     }
 }
 
+/// The word of why bytes are no frame, and where.
+fn push_fault(words: &mut Words, fault: u8, at: u64) -> Result<(), AllocError>
+    requires from_one { 1 ≤ fault }
+    requires to_nine { fault ≤ 9 }
+    ensures { OnOk result (words.new ≡ words.old ++ fault_word fault ∷ decimal at ∷ []) }
+{
+    push_pair(words, word_of_fault(fault), at)
+}
+
 /// The line of a datagram that is no frame.
 fn push_not_frame(words: &mut Words, topo: &Topology, broker: u16, fault: u8, at: u64) -> Result<(), AllocError>
     requires { IsNamed topo.now (Report.DroppedNotFrame broker fault at) }
     ensures { OnOk result (words.new ≡ words.old ++ line_words (labels_of topo.now) (Report.DroppedNotFrame broker fault at)) }
 {
     push_dropped(words, topo, broker, b"not-frame")?;
-    words.push(word_of_fault(fault))?;
-    words.push_number(at)
+    push_fault(words, fault, at)
 }
 
 /// The line of a frame that does not fit.
@@ -400,7 +457,42 @@ fn push_clash(words: &mut Words, topo: &Topology, broker: u16, tick: u64, kept: 
 fn push_bytes(alloc: Global, words: &mut Words, frame: u64, bytes: &Bytes) -> Result<(), AllocError>
     ensures { OnOk result (words.new ≡ words.old ++ codes "bytes" ∷ decimal frame ∷ flat_map hex_pair bytes.now ∷ []) }
 {
-    words.push(b"bytes")?;
-    words.push_number(frame)?;
+    push_pair(words, b"bytes", frame)?;
     words.push_text(hex_text(alloc, bytes.as_slice())?)
+}
+
+/// The words of a line, which go behind those that are there.
+pub(crate) fn push_line(alloc: Global, words: &mut Words, report: &Report, topo: &Topology) -> Result<(), AllocError>
+    requires { IsNamed topo.now report.now }
+    ensures { OnOk result (words.new ≡ words.old ++ line_words (labels_of topo.now) report.now) }
+{
+    match report {
+        Report::Opened { publisher, last, settled, cut } => push_log(words, topo, b"opened", *publisher, *last, *settled, *cut),
+        Report::Logged { publisher, number, tick } => push_publisher_line(words, topo, b"logged", *publisher, &[*number, *tick]),
+        Report::Already { publisher, number } => push_publisher_line(words, topo, b"already", *publisher, &[*number]),
+        Report::Gap { publisher, number, next } => push_gap(words, topo, *publisher, *number, *next),
+        Report::Exhausted { publisher, number } => push_publisher_line(words, topo, b"exhausted", *publisher, &[*number]),
+        Report::Kept { publisher, number, tick } => push_publisher_line(words, topo, b"kept", *publisher, &[*number, *tick]),
+        Report::Lost { publisher, number, tick } => push_publisher_line(words, topo, b"lost", *publisher, &[*number, *tick]),
+        Report::Mark { publisher, tick } => push_publisher_line(words, topo, b"mark", *publisher, &[*tick]),
+        Report::Cut { publisher, tick } => push_publisher_line(words, topo, b"cut", *publisher, &[*tick]),
+        Report::Got { subscriber, publisher, tick, event } => push_got(alloc, words, topo, *subscriber, *publisher, *tick, event),
+        Report::Horizon { subscriber, publisher, tick } => push_horizon(words, topo, *subscriber, *publisher, *tick),
+        Report::SentKnow { number, from, to, publisher, runs } => push_sent_know(alloc, words, topo, *number, *from, *to, *publisher, runs),
+        Report::SentWant { number, from, to, publisher, runs } => push_sent_want(alloc, words, topo, *number, *from, *to, *publisher, runs),
+        Report::SentExpect { number, from, to, publisher, tick } => push_sent_expect(words, topo, *number, *from, *to, *publisher, *tick),
+        Report::Crashed { broker } => push_crashed(words, topo, *broker),
+        Report::Swept { moment } => push_pair(words, b"swept", *moment),
+        Report::RefusedHosts { line, broker } => push_refused_hosts(words, topo, *line, *broker),
+        Report::RefusedFrame { line, frame, sent } => push_refused_frame(words, *line, *frame, *sent),
+        Report::RefusedClock { line, moment } => push_refused_clock(words, *line, *moment),
+        Report::DroppedNotFrame { broker, fault, at } => push_not_frame(words, topo, *broker, *fault, *at),
+        Report::DroppedStray { broker, from, to, publisher } => push_stray(words, topo, *broker, &[*from as u64, *to as u64, *publisher as u64]),
+        Report::DroppedClash { broker, tick, kept, came } => push_clash(words, topo, *broker, *tick, kept, came),
+        Report::Damaged { publisher, at } => push_publisher_line(words, topo, b"damaged", *publisher, &[*at]),
+        Report::Frames { count } => push_pair(words, b"frames", *count),
+        Report::LogOf { publisher, last, settled, cut, kept } => push_shown_log(words, topo, *publisher, *last, *settled, *cut, *kept),
+        Report::Doubt { broker, publisher, tick } => push_doubt(words, topo, *broker, *publisher, *tick),
+        Report::BytesOf { frame, bytes } => push_bytes(alloc, words, *frame, bytes),
+    }
 }
