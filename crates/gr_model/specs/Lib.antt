@@ -8,3 +8,4 @@ pub mod Said
 pub mod Fits
 pub mod Order
 pub mod Blank
+pub mod Text
