@@ -34,3 +34,4 @@ pub mod Path
 pub mod PathUp
 pub mod PathWake
 pub mod PathWakeUp
+pub mod Examples

@@ -8,3 +8,5 @@ pub mod Said
 pub mod Fits
 pub mod Order
 pub mod Blank
+pub mod SmallNets
+pub mod Examples
