@@ -35,3 +35,5 @@ pub mod PathUp
 pub mod PathWake
 pub mod PathWakeUp
 pub mod Examples
+pub mod RecordLines
+pub mod RecordSteps

@@ -51,7 +51,7 @@ cutting_core net p b v log = go (nat_lt log.cut (done_upto (consolidated (keeps_
     go true = refl
     go false = refl
 
-marking_core : (net : Net) (p b now : ℕ) (v : View) (log : Log) → core (marking net p b now v log).log ≡ marked net now (core log)
+pub marking_core : (net : Net) (p b now : ℕ) (v : View) (log : Log) → core (marking net p b now v log).log ≡ marked net now (core log)
 unfolding marking
 marking_core net p b now v log = go (nat_le (log.settled + net.quiet) now)
   where
