@@ -1,5 +1,5 @@
 -- The recorded lines of each step are those that the record and the step demand
-use Rattle.std.proofs.Common.{◌≡◌, ◌≢◌, ◌⊎◌, inl, inr, ⊎_elim, ℕ, suc, zero, ◌+◌, ◌-◌, ◌≤◌, ◌<◌, max, Bool, true, false, ◌&&◌, List, [], ◌∷◌, ◌++◌, map, length, refl, sym, ap, ap₂, ◌∙◌, subst, arith, append-nil}
+use Rattle.std.proofs.Common.{◌≡◌, ◌≢◌, ◌⊎◌, inl, inr, ⊎_elim, ℕ, suc, zero, ◌+◌, ◌-◌, ◌≤◌, ◌<◌, max, Bool, true, false, ◌&&◌, List, [], ◌∷◌, ◌++◌, map, length, refl, sym, ap, ap₂, ◌∙◌, subst, arith, append-nil, append_assoc}
 use Rattle.std.specs.Prelude.{nat_eq, nat_le, nat_lt, if◌then◌else◌, flat_map, filter, cond}
 use Rattle.std.proofs.lemmas.Bool.{cases_Bool, cases_eq, eq-eqb, ne_eqb, lt-ltb, le-ltb, leb-true, le-leb, and_parts}
 use Rattle.std.proofs.lemmas.List.Elements.{filter-append}
@@ -212,44 +212,64 @@ sents_append xs ys = ap length (filter-append is_sent xs ys) ∙ length_append (
     length_append [] ys = omega arith
     length_append (x ∷ xs) ys = let e = length_append xs ys in omega (arith, e)
 
-sent_all : (n : ℕ) (fs : List Frame) → sent_count (sent_lines (suc n) fs) ≡ length fs
+-- the lines of frames are sent lines
+sent_itself : (n : ℕ) (fs : List Frame) → filter is_sent (sent_lines (suc n) fs) ≡ sent_lines (suc n) fs
 unfolding sent_line
-sent_all n [] = refl
-sent_all n (f ∷ fs) = let e = sents_append (sent_line (suc n) f ∷ []) (sent_lines (suc (suc n)) fs) in let o = one f.body in let r = sent_all (suc n) fs in omega (arith, e, o, r)
+sent_itself n [] = refl
+sent_itself n (f ∷ fs) = filter-append is_sent (sent_line (suc n) f ∷ []) (sent_lines (suc (suc n)) fs) ∙ ap₂ (λ (x y : List Report). x ++ y) (one f.body) (sent_itself (suc n) fs)
   where
-    one : (y : Body) → sent_count ((elim y [ body.Knowledge runs ↦ line.SentKnow (suc n) f.head.from f.head.to f.head.publisher runs | body.Curiosity runs ↦ line.SentWant (suc n) f.head.from f.head.to f.head.publisher runs | body.Expect tick ↦ line.SentExpect (suc n) f.head.from f.head.to f.head.publisher tick ]) ∷ []) ≡ 1
+    one : (y : Body) → (let x : Report = elim y [ body.Knowledge runs ↦ line.SentKnow (suc n) f.head.from f.head.to f.head.publisher runs | body.Curiosity runs ↦ line.SentWant (suc n) f.head.from f.head.to f.head.publisher runs | body.Expect tick ↦ line.SentExpect (suc n) f.head.from f.head.to f.head.publisher tick ] in filter is_sent (x ∷ []) ≡ x ∷ [])
     one (body.Knowledge runs) = rw (lt-ltb 0 (suc n) (omega arith)) refl
     one (body.Curiosity runs) = rw (lt-ltb 0 (suc n) (omega arith)) refl
     one (body.Expect tick) = rw (lt-ltb 0 (suc n) (omega arith)) refl
+
+pub sent_lines-append : (n : ℕ) (xs ys : List Frame) → sent_lines n (xs ++ ys) ≡ sent_lines n xs ++ sent_lines (n + length xs) ys
+sent_lines-append n [] ys = ap (λ m. sent_lines m ys) (omega arith)
+sent_lines-append n (x ∷ xs) ys = ap (λ (z : List Report). sent_line n x ∷ z) (sent_lines-append (suc n) xs ys ∙ ap (λ m. sent_lines (suc n) xs ++ sent_lines m ys) (omega arith))
 
 absorbed_recs : (w : World) (b p : ℕ) (o : Outcome) → recs (absorbed w b p o).lines ≡ recs o.lines
 unfolding absorbed
 absorbed_recs w b p o = filter-append is_record_line o.lines (sent_lines (suc (length w.frames)) o.frames) ∙ (ap (λ z. recs o.lines ++ z) (sent_recs (suc (length w.frames)) o.frames) ∙ append-nil (recs o.lines))
 
--- as many sent lines as frames
-abbrev pub Counts : World → Told → Type 0
-Counts w t = length t.world.frames ≡ length w.frames + sent_count t.lines
+-- the sent lines are those of the frames that were sent
+pub record Sends (w : World) (t : Told) : Type 0 where
+  pub more : List Frame
+  pub frames : t.world.frames ≡ w.frames ++ more
+  pub told : filter is_sent t.lines ≡ sent_lines (suc (length w.frames)) more
 
-absorbed_counts : (w : World) (b p : ℕ) (o : Outcome) → filter is_sent o.lines ≡ [] → Counts w (absorbed w b p o)
-unfolding absorbed
-absorbed_counts w b p o e =
-    let l = length_append w.frames o.frames in
-    let s = sents_append o.lines (sent_lines (suc (length w.frames)) o.frames) in
-    let a = sent_all (length w.frames) o.frames in
-    let z : sent_count o.lines ≡ 0 = ap length e in
-    omega (arith, l, s, a, z)
+pub sends_none : (w : World) (t : Told) → t.world.frames ≡ w.frames → filter is_sent t.lines ≡ [] → Sends w t
+sends_none w t e h = record { more = []; frames = e ∙ sym (append-nil w.frames); told = h }
+
+pub sends_seq : (w : World) (t : Told) (f : World → Told) → Sends w t → Sends t.world (f t.world) → Sends w (after t f)
+sends_seq w t f a b = record {
+  more = a.more ++ b.more;
+  frames = b.frames ∙ (ap (λ (z : List Frame). z ++ b.more) a.frames ∙ append_assoc w.frames a.more b.more);
+  told = filter-append is_sent t.lines (f t.world).lines
+      ∙ (ap₂ (λ (x y : List Report). x ++ y) a.told (b.told ∙ ap (λ m. sent_lines m b.more) long) ∙ sym (sent_lines-append (suc (length w.frames)) a.more b.more));
+}
   where
     length_append : (xs ys : List Frame) → length (xs ++ ys) ≡ length xs + length ys
     length_append [] ys = omega arith
     length_append (x ∷ xs) ys = let e = length_append xs ys in omega (arith, e)
 
+    long : suc (length t.world.frames) ≡ suc (length w.frames) + length a.more
+    long = let l = ap length a.frames in let k = length_append w.frames a.more in omega (arith, l, k)
+
+absorbed_sends : (w : World) (b p : ℕ) (o : Outcome) → filter is_sent o.lines ≡ [] → Sends w (absorbed w b p o)
+unfolding absorbed
+absorbed_sends w b p o e = record {
+  more = o.frames;
+  frames = refl;
+  told = filter-append is_sent o.lines (sent_lines (suc (length w.frames)) o.frames) ∙ ap₂ (λ (x y : List Report). x ++ y) e (sent_itself (length w.frames) o.frames);
+}
+
 pub wake_for_recs : (net : Net) (w : World) (b p : ℕ) → 1 ≤ net.quiet → recs (wake_for net w b p).lines ≡ mark_line net b w.clock p (core_of w p)
 unfolding wake_for
 wake_for_recs net w b p z = absorbed_recs w b p (wake net p b w.clock (view_of w b p) (log_of w p)) ∙ wake_recs net p b w.clock (view_of w b p) (log_of w p) z
 
-wake_for_counts : (net : Net) (w : World) (b p : ℕ) → Counts w (wake_for net w b p)
+wake_for_sends : (net : Net) (w : World) (b p : ℕ) → Sends w (wake_for net w b p)
 unfolding wake_for
-wake_for_counts net w b p = absorbed_counts w b p (wake net p b w.clock (view_of w b p) (log_of w p)) (wake_unsent net p b w.clock (view_of w b p) (log_of w p))
+wake_for_sends net w b p = absorbed_sends w b p (wake net p b w.clock (view_of w b p) (log_of w p)) (wake_unsent net p b w.clock (view_of w b p) (log_of w p))
 
 pub deliver_recs : (net : Net) (w : World) (x : Frame) → recs (deliver_frame net w x).lines ≡ []
 unfolding deliver_frame
@@ -257,11 +277,11 @@ deliver_recs net w x =
     let o = receive net w.clock x (view_of w x.head.to x.head.publisher) (log_of w x.head.publisher) in
     absorbed_recs w x.head.to x.head.publisher o ∙ receive_none is_record_line net w.clock x (view_of w x.head.to x.head.publisher) (log_of w x.head.publisher) records_skip
 
-pub deliver_counts : (net : Net) (w : World) (x : Frame) → Counts w (deliver_frame net w x)
+pub deliver_sends : (net : Net) (w : World) (x : Frame) → Sends w (deliver_frame net w x)
 unfolding deliver_frame
-deliver_counts net w x =
+deliver_sends net w x =
     let o = receive net w.clock x (view_of w x.head.to x.head.publisher) (log_of w x.head.publisher) in
-    absorbed_counts w x.head.to x.head.publisher o (receive_none is_sent net w.clock x (view_of w x.head.to x.head.publisher) (log_of w x.head.publisher) sents_skip)
+    absorbed_sends w x.head.to x.head.publisher o (receive_none is_sent net w.clock x (view_of w x.head.to x.head.publisher) (log_of w x.head.publisher) sents_skip)
 
 pub publish_now_recs : (net : Net) (w : World) (p number : ℕ) (e : Event) → recs (publish_now net w p number e).lines ≡ publish_line p w.clock number (core_of w p) ∷ []
 unfolding publish_now
@@ -270,19 +290,19 @@ publish_now_recs net w p number e =
     absorbed_recs w (net.host p) p (publish net p (net.host p) w.clock number e v (log_of w p))
     ∙ (publish_some is_record_line net p (net.host p) w.clock number e v (log_of w p) records_skip ∙ publish_line_recorded p w.clock number (core_of w p))
 
-pub publish_now_counts : (net : Net) (w : World) (p number : ℕ) (e : Event) → Counts w (publish_now net w p number e)
+pub publish_now_sends : (net : Net) (w : World) (p number : ℕ) (e : Event) → Sends w (publish_now net w p number e)
 unfolding publish_now
-publish_now_counts net w p number e =
+publish_now_sends net w p number e =
     let v = view_of w (net.host p) p in
-    absorbed_counts w (net.host p) p (publish net p (net.host p) w.clock number e v (log_of w p))
+    absorbed_sends w (net.host p) p (publish net p (net.host p) w.clock number e v (log_of w p))
     (publish_some is_sent net p (net.host p) w.clock number e v (log_of w p) sents_skip ∙ publish_line_unsent p w.clock number (core_of w p))
 
-pub counts_chain : (net : Net) → Chains net Counts
-counts_chain net = record {
-  nil = λ w f. omega arith;
-  seq = λ w t f g k a x b. let s = sents_append t.lines (f t.world).lines in omega (arith, a, b, s);
-  wake = λ w b p f i j. wake_for_counts net w b p;
-  deliver = λ w x f t. deliver_counts net w x;
+pub sends_chain : (net : Net) → Chains net Sends
+sends_chain net = record {
+  nil = λ w f. sends_none w (unchanged w []) refl refl;
+  seq = λ w t f g k a x b. sends_seq w t f a b;
+  wake = λ w b p f i j. wake_for_sends net w b p;
+  deliver = λ w x f t. deliver_sends net w x;
 }
 
 -- Waking for all publishers

@@ -1,4 +1,4 @@
--- Every step tells the recorded lines that the record and the step demand, and as many sent lines as frames
+-- What every step tells: the recorded lines that the record and the step demand, and a sent line for each frame sent
 use Rattle.std.proofs.Common.{◌≡◌, inl, inr, ℕ, suc, zero, ◌+◌, ◌≤◌, ◌<◌, max, Bool, true, false, not, ◌&&◌, List, [], ◌∷◌, ◌++◌, map, length, set, get_or, refl, sym, ap, ap₂, ◌∙◌, subst, Option, Some, None, arith}
 use Rattle.std.specs.Prelude.{nat_eq, nat_le, nat_lt, if◌then◌else◌, flat_map, filter}
 use Rattle.std.proofs.lemmas.Bool.{cases_eq, le-leb, lt-leb, ltb-true, ltb-false}
@@ -24,7 +24,7 @@ use Rattle.gr_model.proofs.Records.{core, core_of}
 use Rattle.gr_model.proofs.Recorded.{RecordsFit, record_core, next_records, get_map, opened_no_kept, sweep_same, settled_below}
 use Rattle.gr_model.proofs.Schedules.{clocked_fits}
 use Rattle.gr_model.proofs.Chains.{wake_all_chain, sweeps_chain}
-use Rattle.gr_model.proofs.RecordLines.{recs, Counts, counts_chain, sents_append, deliver_recs, deliver_counts, publish_now_recs, publish_now_counts, wakes_recs, sweeps_recs, mark_line}
+use Rattle.gr_model.proofs.RecordLines.{recs, Sends, sends_chain, sends_none, sends_seq, deliver_recs, deliver_sends, publish_now_recs, publish_now_sends, wakes_recs, sweeps_recs, mark_line}
 
 -- What is opened
 
@@ -61,20 +61,20 @@ opened_recs net logs b = go (numbers net.publishers)
     go [] = refl
     go (p ∷ ps) = filter-append is_record_line (here p) (flat_map here ps) ∙ ap₂ (λ (x y : List Report). x ++ y) (one p (nat_eq (net.host p) b && nat_lt 0 (get_or logs p empty_log).settled)) (go ps)
 
-opened_unsent : (net : Net) (logs : List Log) (b : ℕ) → sent_count (opened_lines net logs b) ≡ 0
+opened_unsent : (net : Net) (logs : List Log) (b : ℕ) → filter is_sent (opened_lines net logs b) ≡ []
 unfolding opened_lines
 opened_unsent net logs b = go (numbers net.publishers)
   where
-    one : (p : ℕ) (c : Bool) → sent_count (let log = get_or logs p empty_log in if c then line.Opened p log.last log.settled log.cut ∷ [] else []) ≡ 0
+    one : (p : ℕ) (c : Bool) → filter is_sent (let log = get_or logs p empty_log in if c then line.Opened p log.last log.settled log.cut ∷ [] else []) ≡ []
     one p true = refl
     one p false = refl
 
     here : ℕ → List Report
     here p = let log = get_or logs p empty_log in if nat_eq (net.host p) b && nat_lt 0 log.settled then line.Opened p log.last log.settled log.cut ∷ [] else []
 
-    go : (ps : List ℕ) → sent_count (flat_map here ps) ≡ 0
+    go : (ps : List ℕ) → filter is_sent (flat_map here ps) ≡ []
     go [] = refl
-    go (p ∷ ps) = let e = sents_append (here p) (flat_map here ps) in let o = one p (nat_eq (net.host p) b && nat_lt 0 (get_or logs p empty_log).settled) in let r = go ps in omega (arith, e, o, r)
+    go (p ∷ ps) = filter-append is_sent (here p) (flat_map here ps) ∙ ap₂ (λ (x y : List Report). x ++ y) (one p (nat_eq (net.host p) b && nat_lt 0 (get_or logs p empty_log).settled)) (go ps)
 
 crash_recs : (net : Net) (w : World) (b : ℕ) (ls : List Report) → CutsTold net w.logs ls → recs (crash net w b).lines ≡ line.Crashed b ∷ opened_of net (map core w.logs) ls b
 unfolding crash
@@ -127,9 +127,9 @@ stopped_recs net w k p number stop e ls f j c = go (not_empty (net.subscribers_a
         ap (λ (z : List Report). line.Crashed (net.host p) ∷ (line.Lost p number tick ∷ z)) (opened_recs net w.logs (net.host p) ∙ opened_same net w.logs ls (net.host p) c)
         ∙ sym (ap (λ q. line.Crashed (net.host p) ∷ ((if q then line.Kept p number tick else line.Lost p number tick) ∷ opened_of net (map core w.logs) ls (net.host p))) (opened_no_kept net w.logs (net.host p)))
 
-stopped_counts : (net : Net) (w : World) (k p number : ℕ) (stop : Stop) (e : Event) → Counts w (publish_stopped net w k p number stop e)
+stopped_sends : (net : Net) (w : World) (k p number : ℕ) (stop : Stop) (e : Event) → Sends w (publish_stopped net w k p number stop e)
 unfolding publish_stopped restarted
-stopped_counts net w k p number stop e = go (not_empty (net.subscribers_at (net.host p))) (nat_eq number (suc log.last) && nat_le tick max_tick) (is_kept log.gate stop.call stop.pick)
+stopped_sends net w k p number stop e = go (not_empty (net.subscribers_at (net.host p))) (nat_eq number (suc log.last) && nat_le tick max_tick) (is_kept log.gate stop.call stop.pick)
   where
     log : Log
     log = log_of w p
@@ -145,11 +145,11 @@ stopped_counts net w k p number stop e = go (not_empty (net.subscribers_at (net.
           lines = line.Crashed (net.host p) ∷ ((if q then line.Kept p number tick else line.Lost p number tick) ∷ opened_lines net logs (net.host p));
         }
 
-    go : (x y z : Bool) → (let t : Told = elim x [ true ↦ unchanged w (line.RefusedHosts k (net.host p) ∷ []) | false ↦ elim y [ false ↦ publish_now net w p number e | true ↦ told_by z ] ] in Counts w t)
-    go true y z = omega arith
-    go false false z = publish_now_counts net w p number e
-    go false true true = let o = opened_unsent net (set w.logs p (with_event log tick e)) (net.host p) in omega (arith, o)
-    go false true false = let o = opened_unsent net w.logs (net.host p) in omega (arith, o)
+    go : (x y z : Bool) → (let t : Told = elim x [ true ↦ unchanged w (line.RefusedHosts k (net.host p) ∷ []) | false ↦ elim y [ false ↦ publish_now net w p number e | true ↦ told_by z ] ] in Sends w t)
+    go true y z = sends_none w (unchanged w (line.RefusedHosts k (net.host p) ∷ [])) refl refl
+    go false false z = publish_now_sends net w p number e
+    go false true true = sends_none w (told_by true) refl (opened_unsent net (set w.logs p (with_event log tick e)) (net.host p))
+    go false true false = sends_none w (told_by false) refl (opened_unsent net w.logs (net.host p))
 
 -- A show
 
@@ -186,7 +186,7 @@ show_recs net w h r s c = ap₂ (λ n (ls : List Report). line.Frames n ∷ ls) 
     logs a zero k = doubts (numbers net.brokers)
     logs a (suc n) k = ap₂ (λ x (ls : List Report). x ∷ ls) (ap₂ (line_of a) (sym (record_core net w h a r)) (sym (c a (omega arith)))) (logs (suc a) n (omega arith))
 
-show_unsent : (net : Net) (w : World) → sent_count (show net w) ≡ 0
+show_unsent : (net : Net) (w : World) → filter is_sent (show net w) ≡ []
 unfolding show
 show_unsent net w = logs (numbers net.publishers)
   where
@@ -199,19 +199,19 @@ show_unsent net w = logs (numbers net.publishers)
     there : ℕ → List Report
     there b = flat_map (here b) (numbers net.publishers)
 
-    one : (b p : ℕ) (q : Bool) → sent_count (if q then line.Doubt b p (view_of w b p).horizon ∷ [] else []) ≡ 0
+    one : (b p : ℕ) (q : Bool) → filter is_sent (if q then line.Doubt b p (view_of w b p).horizon ∷ [] else []) ≡ []
     one b p true = refl
     one b p false = refl
 
-    row : (b : ℕ) (ps : List ℕ) → sent_count (flat_map (here b) ps) ≡ 0
+    row : (b : ℕ) (ps : List ℕ) → filter is_sent (flat_map (here b) ps) ≡ []
     row b [] = refl
-    row b (p ∷ ps) = let e = sents_append (here b p) (flat_map (here b) ps) in let o = one b p (keeps_horizon net p b) in let r = row b ps in omega (arith, e, o, r)
+    row b (p ∷ ps) = filter-append is_sent (here b p) (flat_map (here b) ps) ∙ ap₂ (λ (x y : List Report). x ++ y) (one b p (keeps_horizon net p b)) (row b ps)
 
-    doubts : (bs : List ℕ) → sent_count (flat_map there bs) ≡ 0
+    doubts : (bs : List ℕ) → filter is_sent (flat_map there bs) ≡ []
     doubts [] = refl
-    doubts (b ∷ bs) = let e = sents_append (there b) (flat_map there bs) in let o = row b (numbers net.publishers) in let r = doubts bs in omega (arith, e, o, r)
+    doubts (b ∷ bs) = filter-append is_sent (there b) (flat_map there bs) ∙ ap₂ (λ (x y : List Report). x ++ y) (row b (numbers net.publishers)) (doubts bs)
 
-    logs : (ps : List ℕ) → sent_count (map log_line ps ++ flat_map there (numbers net.brokers)) ≡ 0
+    logs : (ps : List ℕ) → filter is_sent (map log_line ps ++ flat_map there (numbers net.brokers)) ≡ []
     logs [] = doubts (numbers net.brokers)
     logs (p ∷ ps) = logs ps
 
@@ -242,9 +242,9 @@ sweep_recs net w h k n z f r = go (nat_lt max_tick m) refl
         ∙ (ap (λ (z : List Report). z ++ line.Swept m ∷ []) (sweeps_recs net u 0 net.publishers n z (clocked_fits net w m (max m w.most) f) (omega arith) (λ q a b. settled_below net w q f (omega arith)))
         ∙ (ap (λ c. map (λ p. line.Mark p c) (numbers net.publishers) ++ line.Swept c ∷ []) (sym same) ∙ sym (ap (λ c. if c then map (λ p. line.Mark p (sweep_at net h)) (numbers net.publishers) ++ line.Swept (sweep_at net h) ∷ [] else []) yes)))
 
-sweep_counts : (net : Net) (w : World) (k : ℕ) → IsNet net → WorldFits net w → Counts w (sweep net w k)
+sweep_sends : (net : Net) (w : World) (k : ℕ) → IsNet net → WorldFits net w → Sends w (sweep net w k)
 unfolding sweep
-sweep_counts net w k n f = go (nat_lt max_tick m)
+sweep_sends net w k n f = go (nat_lt max_tick m)
   where
     m : ℕ
     m = sweep_moment net w
@@ -252,12 +252,13 @@ sweep_counts net w k n f = go (nat_lt max_tick m)
     u : World
     u = record { clock = m; most = max m w.most; frames = w.frames; views = w.views; logs = w.logs }
 
-    go : (q : Bool) → Counts w (elim q [ true ↦ unchanged w (line.RefusedClock k m ∷ []) | false ↦ after (in_turn (sweep_for net) (numbers net.publishers) u) (λ x. unchanged x (line.Swept m ∷ [])) ])
-    go true = omega arith
+    go : (q : Bool) → Sends w (elim q [ true ↦ unchanged w (line.RefusedClock k m ∷ []) | false ↦ after (in_turn (sweep_for net) (numbers net.publishers) u) (λ x. unchanged x (line.Swept m ∷ [])) ])
+    go true = sends_none w (unchanged w (line.RefusedClock k m ∷ [])) refl refl
     go false =
-        let c = (sweeps_chain net Counts u (counts_chain net) n (clocked_fits net w m (max m w.most) f)).holds in
-        let e = sents_append (in_turn (sweep_for net) (numbers net.publishers) u).lines (line.Swept m ∷ []) in
-        omega (arith, c, e)
+        let s = in_turn (sweep_for net) (numbers net.publishers) u in
+        let c = (sweeps_chain net Sends u (sends_chain net) n (clocked_fits net w m (max m w.most) f)).holds in
+        let d : Sends u (after s (λ x. unchanged x (line.Swept m ∷ []))) = sends_seq u s (λ x. unchanged x (line.Swept m ∷ [])) c (sends_none s.world (unchanged s.world (line.Swept m ∷ [])) refl refl) in
+        record { more = d.more; frames = d.frames; told = d.told }
 
 -- Every step
 
@@ -302,30 +303,34 @@ pub step_records : (net : Net) (w : World) (h : History) (l : Line) → IsNet ne
 step_records net w h l n z f r s c i =
     record_by net w h l.number l.step n z f r s c i (sym (after_records net h l (next net w l).lines) ∙ (next_records net w h l n z f r i).records)
 
-counts_by : (net : Net) (w : World) (k : ℕ) (s : Step) → IsNet net → WorldFits net w → StepIn net s → Counts w (next net w (record { number = k; step = s }))
-unfolding next crash restarted
-counts_by net w k (step.Clock now) n f i = omega arith
-counts_by net w k (step.Publish p number None e) n f i = publish_now_counts net w p number e
-counts_by net w k (step.Publish p number (Some stop) e) n f i = stopped_counts net w k p number stop e
-counts_by net w k (step.Wake b) n f i = (wake_all_chain net Counts w b (counts_chain net) n f i).holds
-counts_by net w k (step.Deliver j) n f i = go (frame_at w j)
-  where
-    go : (o : Option Frame) → Counts w (elim o [ None ↦ unchanged w (line.RefusedFrame k j (length w.frames) ∷ []) | Some x ↦ deliver_frame net w x ])
-    go None = omega arith
-    go (Some x) = deliver_counts net w x
-counts_by net w k (step.Crash b) n f i = go (not_empty (net.subscribers_at b))
-  where
-    go : (q : Bool) → Counts w (elim q [ true ↦ unchanged w (line.RefusedHosts k b ∷ []) | false ↦ crash net w b ])
-    go true = omega arith
-    go false = let o = opened_unsent net w.logs b in omega (arith, o)
-counts_by net w k step.Sweep n f i = sweep_counts net w k n f
-counts_by net w k step.Show n f i = let o = show_unsent net w in omega (arith, o)
-counts_by net w k (step.Bytes j) n f i = go (frame_at w j)
-  where
-    go : (o : Option Frame) → Counts w (elim o [ None ↦ unchanged w (line.RefusedFrame k j (length w.frames) ∷ []) | Some x ↦ unchanged w (line.BytesOf j (frame_bytes x) ∷ []) ])
-    go None = omega arith
-    go (Some x) = omega arith
+crash_sends : (net : Net) (w : World) (b : ℕ) → Sends w (crash net w b)
+unfolding crash restarted
+crash_sends net w b = sends_none w (crash net w b) refl (opened_unsent net w.logs b)
 
--- each step sends as many frames as it tells of
-pub step_counts : (net : Net) (w : World) (l : Line) → IsNet net → WorldFits net w → StepIn net l.step → length (next net w l).world.frames ≡ length w.frames + sent_count (next net w l).lines
-step_counts net w l n f i = counts_by net w l.number l.step n f i
+sends_by : (net : Net) (w : World) (k : ℕ) (s : Step) → IsNet net → WorldFits net w → StepIn net s → Sends w (next net w (record { number = k; step = s }))
+unfolding next
+sends_by net w k (step.Clock now) n f i = sends_none w (next net w (record { number = k; step = step.Clock now })) refl refl
+sends_by net w k (step.Publish p number None e) n f i = publish_now_sends net w p number e
+sends_by net w k (step.Publish p number (Some stop) e) n f i = stopped_sends net w k p number stop e
+sends_by net w k (step.Wake b) n f i = (wake_all_chain net Sends w b (sends_chain net) n f i).holds
+sends_by net w k (step.Deliver j) n f i = go (frame_at w j)
+  where
+    go : (o : Option Frame) → Sends w (elim o [ None ↦ unchanged w (line.RefusedFrame k j (length w.frames) ∷ []) | Some x ↦ deliver_frame net w x ])
+    go None = sends_none w (unchanged w (line.RefusedFrame k j (length w.frames) ∷ [])) refl refl
+    go (Some x) = deliver_sends net w x
+sends_by net w k (step.Crash b) n f i = go (not_empty (net.subscribers_at b))
+  where
+    go : (q : Bool) → Sends w (elim q [ true ↦ unchanged w (line.RefusedHosts k b ∷ []) | false ↦ crash net w b ])
+    go true = sends_none w (unchanged w (line.RefusedHosts k b ∷ [])) refl refl
+    go false = crash_sends net w b
+sends_by net w k step.Sweep n f i = sweep_sends net w k n f
+sends_by net w k step.Show n f i = sends_none w (unchanged w (show net w)) refl (show_unsent net w)
+sends_by net w k (step.Bytes j) n f i = go (frame_at w j)
+  where
+    go : (o : Option Frame) → Sends w (elim o [ None ↦ unchanged w (line.RefusedFrame k j (length w.frames) ∷ []) | Some x ↦ unchanged w (line.BytesOf j (frame_bytes x) ∷ []) ])
+    go None = sends_none w (unchanged w (line.RefusedFrame k j (length w.frames) ∷ [])) refl refl
+    go (Some x) = sends_none w (unchanged w (line.BytesOf j (frame_bytes x) ∷ [])) refl refl
+
+-- the sent lines of each step are those of the frames that it sends
+pub step_sends : (net : Net) (w : World) (l : Line) → IsNet net → WorldFits net w → StepIn net l.step → Sends w (next net w l)
+step_sends net w l n f i = sends_by net w l.number l.step n f i
