@@ -37,3 +37,4 @@ pub mod PathWakeUp
 pub mod Examples
 pub mod RecordLines
 pub mod RecordSteps
+pub mod HeardCalls
