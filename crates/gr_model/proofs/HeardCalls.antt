@@ -155,7 +155,7 @@ started_heard net p b log H host none = rw host (record {
   kept = λ t x y. absurd (false≢true (sym (none t) ∙ y));
 })
 
-pub restarted_heard : (net : Net) (w : World) (logs : List Log) (b : ℕ) (H K : ℕ → ℕ → ℕ → Bool) → WorldFits net w → b < net.brokers → ((p t : ℕ) → K b p t ≡ false) → ((c p t : ℕ) → c ≢ b → K c p t ≡ H c p t) → HeardsFit net w H → HeardsFit net (restarted net (with_logs w logs) b) K
+pub restarted_heard : (net : Net) (w : World) (logs : List Log) (b : ℕ) (H K : ℕ → ℕ → ℕ → Bool) → WorldFits net w → b < net.brokers → ((p t : ℕ) → p < net.publishers → K b p t ≡ false) → ((c p t : ℕ) → c ≢ b → K c p t ≡ H c p t) → HeardsFit net w H → HeardsFit net (restarted net (with_logs w logs) b) K
 unfolding restarted
 restarted_heard net w logs b H K f i none same h c q x y =
     let g : ℕ → View = λ p. started net p b (get_or logs p empty_log) in
@@ -163,7 +163,7 @@ restarted_heard net w logs b H K f i none same h c q x y =
     let here : view_of u b q ≡ started net (0 + q) b (get_or logs (0 + q) empty_log) = ap (λ row. get_or row q blank_view) (get_or-set_same w.views b (map g (numbers net.publishers)) [] (omega (arith, f.views_long))) ∙ get_numbers g 0 net.publishers q blank_view y in
     elim (cases_eq c b) [
       | inl e ↦ subst (λ z. is_host net q z ≡ false → keeps_horizon net q z ≡ true → HeardFits (view_of u z q) (K z q)) (sym e)
-          (λ host keeps. subst (λ v. HeardFits v (K b q)) (sym here) (started_heard net (0 + q) b (get_or logs (0 + q) empty_log) (K b q) (subst (λ z. is_host net z b ≡ false) (omega arith) host) (none q)))
+          (λ host keeps. subst (λ v. HeardFits v (K b q)) (sym here) (started_heard net (0 + q) b (get_or logs (0 + q) empty_log) (K b q) (subst (λ z. is_host net z b ≡ false) (omega arith) host) (λ t. none q t y)))
       | inr e ↦ λ host keeps.
           let other : view_of u c q ≡ view_of w c q = ap (λ row. get_or row q blank_view) (get_or-set_other w.views b c (map g (numbers net.publishers)) [] e) in
           heard_as (view_of u c q) (H c q) (K c q) (λ t. same c q t e) (subst (λ v. HeardFits v (H c q)) (sym other) (h c q x y host keeps))

@@ -38,3 +38,4 @@ pub mod Examples
 pub mod RecordLines
 pub mod RecordSteps
 pub mod HeardCalls
+pub mod HeardSteps

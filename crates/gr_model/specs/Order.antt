@@ -1,10 +1,12 @@
 -- The order of the cut lines of one publisher, and what stands before them
-use Rattle.std.specs.Prelude.{◌≡◌, ℕ, ◌≤◌, ◌<◌, true, List, [], ◌∷◌, ◌++◌, map, filter, Contains}
+use Rattle.std.specs.Prelude.{◌≡◌, ℕ, ◌≤◌, ◌<◌, true, List, [], ◌∷◌, ◌++◌, map, filter, Contains, Bool, false}
 use Rattle.gr_event.specs.declared.event.Event.{Event}
 use Rattle.gr_model.specs.declared.report.Report.{Report}
 use Rattle.gr_model.specs.declared.report.Report.TheVariants as line
 use Rattle.gr_model.specs.Net.{Net}
 use Rattle.gr_sched.specs.declared.step.Line.{Line}
+use Rattle.gr_sched.specs.declared.step.Step.{Step}
+use Rattle.gr_sched.specs.declared.step.Step.TheVariants as step
 use Rattle.gr_model.specs.Headline.{History, record_of, last_cut, last_horizon, IsDoubt, GetsExactly, is_record_line, record_lines, is_doubt_line, doubt_place, doubts_shown, after, begin}
 use Rattle.gr_model.specs.Tree.{IsSubscriber}
 
@@ -33,3 +35,13 @@ Reported_from net h (l ∷ ls) [] = ⊥
 abbrev pub HeadlineSoFar : Net → List Line → List (List Report) → Type 0
 HeadlineSoFar net steps [] = ⊥
 HeadlineSoFar net steps (r ∷ rs) = (r ≡ []) × Reported_from net (begin net) steps rs
+
+-- a sweep
+abbrev pub is_sweep : Step → Bool
+is_sweep step.Sweep = true
+is_sweep _ = false
+
+-- no step is a sweep
+abbrev pub SweepsNowhere : List Line → Type 0
+SweepsNowhere [] = Unit {0}
+SweepsNowhere (l ∷ ls) = (is_sweep l.step ≡ false) × SweepsNowhere ls
