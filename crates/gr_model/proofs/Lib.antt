@@ -39,3 +39,4 @@ pub mod RecordLines
 pub mod RecordSteps
 pub mod HeardCalls
 pub mod HeardSteps
+pub mod BareHosts
