@@ -269,3 +269,191 @@ publish_bare net p w q number v n f j keeps =
               let s = publish_still net p b w.clock number v (view_of w b p) (log_of w p) y in
               tells_still net p w (absorbed w b p o) (told p ∙ y) (ap (λ a. a.horizon) (c.view ∙ s.0)) (ap (λ l. l.settled) (c.log ∙ s.1))
         ]
+
+-- Starting again
+
+started_horizon : (net : Net) (p b : ℕ) (log : Log) → (started net p b log).horizon ≡ 0
+unfolding started
+started_horizon net p b log = refl
+
+restarted_here : (net : Net) (w : World) (logs : List Log) (b p : ℕ) → WorldFits net w → b < net.brokers → p < net.publishers → net.host p ≡ b → host_horizon net p (restarted net (with_logs w logs) b) ≡ 0
+unfolding restarted
+restarted_here net w logs b p f i j g =
+    let k : ℕ → View = λ q. started net q b (get_or logs q empty_log) in
+    let u = restarted net (with_logs w logs) b in
+    let here : view_of u b p ≡ started net (0 + p) b (get_or logs (0 + p) empty_log) = ap (λ row. get_or row p blank_view) (get_or-set_same w.views b (map k (numbers net.publishers)) [] (omega (arith, f.views_long))) ∙ get_numbers k 0 net.publishers p blank_view j in
+    ap (λ a. (view_of u a p).horizon) g ∙ (ap (λ v. v.horizon) here ∙ started_horizon net (0 + p) b (get_or logs (0 + p) empty_log))
+
+restarted_there : (net : Net) (w : World) (logs : List Log) (b p : ℕ) → net.host p ≢ b → host_horizon net p (restarted net (with_logs w logs) b) ≡ host_horizon net p w
+unfolding restarted
+restarted_there net w logs b p e = ap (λ (row : List View). (get_or row p blank_view).horizon) (get_or-set_other w.views b (net.host p) (map (λ q. started net q b (get_or logs q empty_log)) (numbers net.publishers)) [] e)
+
+restarted_settled : (net : Net) (w : World) (logs : List Log) (b p : ℕ) → host_settled p (restarted net (with_logs w logs) b) ≡ (let l = get_or logs p empty_log in l.settled)
+unfolding restarted
+restarted_settled net w logs b p = refl
+
+opened_untold : (net : Net) (p : ℕ) (logs : List Log) (b : ℕ) → told_of p (opened_lines net logs b) ≡ false
+unfolding opened_lines
+opened_untold net p logs b = go (numbers net.publishers)
+  where
+    here : ℕ → List Report
+    here q = let log = get_or logs q empty_log in if nat_eq (net.host q) b && nat_lt 0 log.settled then line.Opened q log.last log.settled log.cut ∷ [] else []
+
+    one : (q : ℕ) (c : Bool) → told_of p (let log = get_or logs q empty_log in if c then line.Opened q log.last log.settled log.cut ∷ [] else []) ≡ false
+    one q true = refl
+    one q false = refl
+
+    go : (qs : List ℕ) → told_of p (flat_map here qs) ≡ false
+    go [] = refl
+    go (q ∷ qs) = told_append p (here q) (flat_map here qs) ∙ ap₂ (λ a b. a || b) (one q (nat_eq (net.host q) b && nat_lt 0 (get_or logs q empty_log).settled)) (go qs)
+
+show_untold : (net : Net) (p : ℕ) (w : World) → told_of p (show net w) ≡ false
+unfolding show
+show_untold net p w = logs (numbers net.publishers)
+  where
+    log_line : ℕ → Report
+    log_line q = let l = log_of w q in line.LogOf q l.last l.settled l.cut (kept_events l)
+
+    here : ℕ → ℕ → List Report
+    here b q = if keeps_horizon net q b then line.Doubt b q (view_of w b q).horizon ∷ [] else []
+
+    there : ℕ → List Report
+    there b = flat_map (here b) (numbers net.publishers)
+
+    one : (b q : ℕ) (c : Bool) → told_of p (if c then line.Doubt b q (view_of w b q).horizon ∷ [] else []) ≡ false
+    one b q true = refl
+    one b q false = refl
+
+    row : (b : ℕ) (qs : List ℕ) → told_of p (flat_map (here b) qs) ≡ false
+    row b [] = refl
+    row b (q ∷ qs) = told_append p (here b q) (flat_map (here b) qs) ∙ ap₂ (λ a b. a || b) (one b q (keeps_horizon net q b)) (row b qs)
+
+    doubts : (bs : List ℕ) → told_of p (flat_map there bs) ≡ false
+    doubts [] = refl
+    doubts (b ∷ bs) = told_append p (there b) (flat_map there bs) ∙ ap₂ (λ a b. a || b) (row b (numbers net.publishers)) (doubts bs)
+
+    logs : (qs : List ℕ) → told_of p (map log_line qs ++ flat_map there (numbers net.brokers)) ≡ false
+    logs [] = doubts (numbers net.brokers)
+    logs (q ∷ qs) = logs qs
+
+-- The flags
+
+-- the horizon of a host that has the flag
+abbrev pub bare_horizon : Net → List Bool → World → ℕ → ℕ
+bare_horizon net bare w p = if get_or bare p true && may_crash net (net.host p) then 0 else (log_of w p).settled
+
+pub record Bare (net : Net) (w : World) (bare : List Bool) : Type 0 where
+  pub long : length bare ≡ net.publishers
+  pub fits : (p : ℕ) → p < net.publishers → keeps_horizon net p (net.host p) ≡ true → host_horizon net p w ≡ bare_horizon net bare w p
+
+each_bare-long : (f : ℕ → Bool → Bool) (a : ℕ) (bs : List Bool) → length (each_bare f a bs) ≡ length bs
+each_bare-long f a [] = refl
+each_bare-long f a (b ∷ bs) = ap suc (each_bare-long f (suc a) bs)
+
+each_bare-get : (f : ℕ → Bool → Bool) (a : ℕ) (bs : List Bool) (i : ℕ) → i < length bs → get_or (each_bare f a bs) i true ≡ f (a + i) (get_or bs i true)
+each_bare-get f a [] i h = absurd (omega arith)
+each_bare-get f a (b ∷ bs) zero h = ap (λ k. f k b) (omega arith)
+each_bare-get f a (b ∷ bs) (suc i) h = each_bare-get f (suc a) bs i (omega arith) ∙ ap (λ k. f k (get_or bs i true)) (omega arith)
+
+-- a step without a crash
+tells_bare : (net : Net) (w : World) (t : Told) (bare : List Bool) → Bare net w bare → ((p : ℕ) → p < net.publishers → keeps_horizon net p (net.host p) ≡ true → Tells net p w t) → Bare net t.world (each_bare (λ p x. x && not (list_any (is_record_of p) t.lines)) 0 bare)
+tells_bare net w t bare b a = record {
+  long = each_bare-long f 0 bare ∙ b.long;
+  fits = λ p j keeps.
+      let g : get_or (each_bare f 0 bare) p true ≡ (get_or bare p true && not (told_of p t.lines)) = each_bare-get f 0 bare p (omega (arith, j, b.long)) ∙ ap (λ k. get_or bare p true && not (told_of k t.lines)) (omega arith) in
+      elim (cases_Bool (told_of p t.lines)) [
+        | inl e ↦ (a p j keeps).told e ∙ sym (ap (λ x. if x && may_crash net (net.host p) then 0 else host_settled p t.world) (g ∙ (ap (λ y. get_or bare p true && not y) e ∙ and_false (get_or bare p true))))
+        | inr e ↦ ((a p j keeps).still e).0 ∙ (b.fits p j keeps ∙ (ap (λ s. if get_or bare p true && may_crash net (net.host p) then 0 else s) (sym ((a p j keeps).still e).1)
+            ∙ sym (ap (λ x. if x && may_crash net (net.host p) then 0 else host_settled p t.world) (g ∙ (ap (λ y. get_or bare p true && not y) e ∙ and_true (get_or bare p true))))))
+      ];
+}
+  where
+    f : ℕ → Bool → Bool
+    f p x = x && not (list_any (is_record_of p) t.lines)
+
+    and_true : (x : Bool) → (x && true) ≡ x
+    and_true true = refl
+    and_true false = refl
+
+-- a crash of b, with other logs for its publishers alone
+restarted_bare : (net : Net) (w : World) (logs : List Log) (b : ℕ) (bare : List Bool) → WorldFits net w → b < net.brokers → may_crash net b ≡ true → ((p : ℕ) → p < net.publishers → net.host p ≢ b → get_or logs p empty_log ≡ log_of w p) → Bare net w bare → Bare net (restarted net (with_logs w logs) b) (each_bare (λ p x. is_host net p b || x) 0 bare)
+restarted_bare net w logs b bare f i may same h = record {
+  long = each_bare-long (λ p x. is_host net p b || x) 0 bare ∙ h.long;
+  fits = λ p j keeps.
+      let u = restarted net (with_logs w logs) b in
+      let g : get_or (each_bare (λ p x. is_host net p b || x) 0 bare) p true ≡ (is_host net p b || get_or bare p true) = each_bare-get (λ p x. is_host net p b || x) 0 bare p (omega (arith, j, h.long)) ∙ ap (λ k. is_host net k b || get_or bare p true) (omega arith) in
+      elim (cases_eq (net.host p) b) [
+        | inl e ↦ restarted_here net w logs b p f i j e ∙ sym (ap₂ (λ x y. if x && y then 0 else host_settled p u) (g ∙ ap (λ c. c || get_or bare p true) (eq-eqb (net.host p) b e)) (ap (may_crash net) e ∙ may))
+        | inr e ↦ restarted_there net w logs b p e ∙ (h.fits p j keeps ∙ (ap (λ s. if get_or bare p true && may_crash net (net.host p) then 0 else s) (sym (restarted_settled net w logs b p ∙ ap (λ l. l.settled) (same p j e)))
+            ∙ sym (ap (λ x. if x && may_crash net (net.host p) then 0 else host_settled p u) (g ∙ ap (λ c. c || get_or bare p true) (ne_eqb (net.host p) b e)))))
+      ];
+}
+
+crash_bare : (net : Net) (w : World) (b : ℕ) (bare : List Bool) → WorldFits net w → b < net.brokers → may_crash net b ≡ true → Bare net w bare → Bare net (crash net w b).world (each_bare (λ p x. is_host net p b || x) 0 bare)
+unfolding crash
+crash_bare net w b bare f i may h = let r = restarted_bare net w w.logs b bare f i may (λ p j e. refl) h in record { long = r.long; fits = r.fits }
+
+-- the flags after a step that may crash a broker
+abbrev flags : Net → Option ℕ → List Bool → List Report → List Bool
+flags net o bare ls = elim o [ Some b ↦ each_bare (λ p x. is_host net p b || x) 0 bare | None ↦ each_bare (λ p x. x && not (list_any (is_record_of p) ls)) 0 bare ]
+
+stopped_bare : (net : Net) (w : World) (k q number : ℕ) (stop : Stop) (e : Event) (bare : List Bool) → IsNet net → WorldFits net w → q < net.publishers → Bare net w bare →
+    (let t = publish_stopped net w k q number stop e in Bare net t.world (flags net (if may_crash net (net.host q) && is_next w.clock (core_of w q) number then Some (net.host q) else None) bare t.lines))
+unfolding publish_stopped
+stopped_bare net w k q number stop e bare n f j h = go (not_empty (net.subscribers_at (net.host q))) (nat_eq number (suc log.last) && nat_le tick max_tick) refl
+  where
+    log : Log
+    log = log_of w q
+
+    tick : ℕ
+    tick = max (suc log.settled) w.clock
+
+    logs : List Log
+    logs = if is_kept log.gate stop.call stop.pick then set w.logs q (with_event log tick e) else w.logs
+
+    stopped : Told
+    stopped = record {
+      world = restarted net (with_logs w logs) (net.host q);
+      lines = line.Crashed (net.host q) ∷ ((if is_kept log.gate stop.call stop.pick then line.Kept q number tick else line.Lost q number tick) ∷ opened_lines net logs (net.host q));
+    }
+
+    same : (c : Bool) (p : ℕ) → p < net.publishers → net.host p ≢ net.host q → get_or (if c then set w.logs q (with_event log tick e) else w.logs) p empty_log ≡ log_of w p
+    same true p i x = get_or-set_other w.logs q p (with_event log tick e) empty_log (λ y. x (ap net.host y))
+    same false p i x = refl
+
+    go : (x y : Bool) → not_empty (net.subscribers_at (net.host q)) ≡ x → (let t : Told = elim x [ true ↦ unchanged w (line.RefusedHosts k (net.host q) ∷ []) | false ↦ elim y [ false ↦ publish_now net w q number e | true ↦ stopped ] ] in Bare net t.world (flags net (if not x && y then Some (net.host q) else None) bare t.lines))
+    go true y z = tells_bare net w (unchanged w (line.RefusedHosts k (net.host q) ∷ [])) bare h (λ p i keeps. tells_still net p w (unchanged w (line.RefusedHosts k (net.host q) ∷ [])) refl refl refl)
+    go false false z = tells_bare net w (publish_now net w q number e) bare h (λ p i keeps. publish_bare net p w q number e n f j keeps)
+    go false true z = restarted_bare net w logs (net.host q) bare f (n.host_in q j) (ap not z) (same (is_kept log.gate stop.call stop.pick)) h
+
+bare_by : (net : Net) (w : World) (h : History) (k : ℕ) (s : Step) → IsNet net → 1 ≤ net.quiet → WorldFits net w → RecordsFit net w h → Each (ExpectFits net) w.frames → StepIn net s → is_sweep s ≡ false → Bare net w h.bare → Bare net (next net w (record { number = k; step = s })).world (bare_after net h (record { number = k; step = s }) (next net w (record { number = k; step = s })).lines)
+unfolding next bare_after wake_all
+bare_by net w h k (step.Clock now) n z f r x i y a =
+    let t = next net w (record { number = k; step = step.Clock now }) in
+    tells_bare net w t h.bare a (λ p j keeps. tells_still net p w t refl refl refl)
+bare_by net w h k (step.Publish q number None v) n z f r x i y a = tells_bare net w (publish_now net w q number v) h.bare a (λ p j keeps. publish_bare net p w q number v n f i keeps)
+bare_by net w h k (step.Publish q number (Some stop) v) n z f r x i y a =
+    let t = publish_stopped net w k q number stop v in
+    subst (λ c. Bare net t.world (flags net (if may_crash net (net.host q) && c then Some (net.host q) else None) h.bare t.lines)) (sym (ap₂ (λ m x. is_next m x number) r.clock (record_core net w h q r))) (stopped_bare net w k q number stop v h.bare n f i a)
+bare_by net w h k (step.Wake b) n z f r x i y a =
+    tells_bare net w (in_turn (λ u q. wake_for net u b q) (numbers_from 0 net.publishers) w) h.bare a (λ p j keeps. wakes_bare net p w 0 net.publishers b n z f i (omega arith) keeps)
+bare_by net w h k (step.Deliver j) n z f r x i y a = go (frame_at w j) refl
+  where
+    go : (o : Option Frame) → frame_at w j ≡ o → (let t : Told = elim o [ None ↦ unchanged w (line.RefusedFrame k j (length w.frames) ∷ []) | Some x ↦ deliver_frame net w x ] in Bare net t.world (each_bare (λ p x. x && not (list_any (is_record_of p) t.lines)) 0 h.bare))
+    go None e = tells_bare net w (unchanged w (line.RefusedFrame k j (length w.frames) ∷ [])) h.bare a (λ p m keeps. tells_still net p w (unchanged w (line.RefusedFrame k j (length w.frames) ∷ [])) refl refl refl)
+    go (Some m) e = tells_bare net w (deliver_frame net w m) h.bare a (λ p q keeps. deliver_bare net p w m f (frame_at_true net w j m f e) (frame_at_ready (ExpectFits net) w j m x e))
+bare_by net w h k (step.Crash b) n z f r x i y a = go (not_empty (net.subscribers_at b)) refl
+  where
+    go : (q : Bool) → not_empty (net.subscribers_at b) ≡ q → (let t : Told = elim q [ true ↦ unchanged w (line.RefusedHosts k b ∷ []) | false ↦ crash net w b ] in Bare net t.world (flags net (if not q then Some b else None) h.bare t.lines))
+    go true e = tells_bare net w (unchanged w (line.RefusedHosts k b ∷ [])) h.bare a (λ p m keeps. tells_still net p w (unchanged w (line.RefusedHosts k b ∷ [])) refl refl refl)
+    go false e = crash_bare net w b h.bare f i (ap not e) a
+bare_by net w h k step.Sweep n z f r x i y a = absurd (true≢false y)
+bare_by net w h k step.Show n z f r x i y a = tells_bare net w (unchanged w (show net w)) h.bare a (λ p j keeps. tells_still net p w (unchanged w (show net w)) (show_untold net p w) refl refl)
+bare_by net w h k (step.Bytes j) n z f r x i y a = go (frame_at w j)
+  where
+    go : (o : Option Frame) → (let t : Told = elim o [ None ↦ unchanged w (line.RefusedFrame k j (length w.frames) ∷ []) | Some x ↦ unchanged w (line.BytesOf j (frame_bytes x) ∷ []) ] in Bare net t.world (each_bare (λ p x. x && not (list_any (is_record_of p) t.lines)) 0 h.bare))
+    go None = tells_bare net w (unchanged w (line.RefusedFrame k j (length w.frames) ∷ [])) h.bare a (λ p m keeps. tells_still net p w (unchanged w (line.RefusedFrame k j (length w.frames) ∷ [])) refl refl refl)
+    go (Some x) = tells_bare net w (unchanged w (line.BytesOf j (frame_bytes x) ∷ [])) h.bare a (λ p m keeps. tells_still net p w (unchanged w (line.BytesOf j (frame_bytes x) ∷ [])) refl refl refl)
+
+pub step_bare : (net : Net) (w : World) (h : History) (l : Line) → IsNet net → 1 ≤ net.quiet → WorldFits net w → RecordsFit net w h → Each (ExpectFits net) w.frames → StepIn net l.step → is_sweep l.step ≡ false → Bare net w h.bare → Bare net (next net w l).world (bare_after net h l (next net w l).lines)
+step_bare net w h l n z f r x i y a = bare_by net w h l.number l.step n z f r x i y a
