@@ -20,7 +20,7 @@ use Rattle.gr_model.specs.Broker.{View, Log, Outcome, know_frames, want_frames, 
 use Rattle.gr_frame.specs.Bytes.{known_run_size, wanted_run_size, cut_frames}
 use Rattle.gr_model.specs.World.{World, blank_view, view_of, log_of, with_view, absorbed, wake_for, deliver_frame, publish_now, restarted, start, run_all}
 use Rattle.gr_model.specs.Tree.{IsNet}
-use Rattle.gr_model.specs.Fits.{WorldFits, FrameTrue, StepsIn}
+use Rattle.gr_model.specs.Fits.{BodyFits, WorldFits, FrameTrue, StepsIn}
 use Rattle.gr_model.proofs.Worlds.{Each}
 use Rattle.gr_model.proofs.Schedules.{get_numbers}
 use Rattle.gr_model.proofs.Closed.{clocked, with_logs, IsClosed, holds_always}
@@ -173,10 +173,10 @@ expect_all : (net : Net) (p b now tick : ℕ) (v : View) (log : Log) (P : Moment
 unfolding expect
 expect_all net p b now tick v log P z h a = asking_all net p b now (λ t. any_C v.wants t || (keeps_horizon net p b && nat_lt v.horizon t && nat_le t tick)) (all_points v.wants ++ (suc v.horizon ∷ (suc tick ∷ []))) v log P z h a
 
--- an Expect goes to a broker that is not the host
+-- knowledge, and what to expect, go to a broker that is not the host
 abbrev pub ExpectBody : Net → ℕ → ℕ → Body → Type 0
-ExpectBody net p to (body.Expect tick) = is_host net p to ≡ false
-ExpectBody net p to _ = Unit {0}
+ExpectBody net p to (body.Curiosity runs) = Unit {0}
+ExpectBody net p to _ = is_host net p to ≡ false
 
 abbrev pub ExpectFits : Net → Frame → Type 0
 ExpectFits net f = ExpectBody net f.head.publisher f.head.to f.body
@@ -226,12 +226,12 @@ pub Each-on : {X : Type 0} (P : X → Type 0) (xs ys : List X) → Each P xs →
 Each-on P [] ys a b = b
 Each-on P (x ∷ xs) ys a b = (a.0, Each-on P xs ys a.1 b)
 
-know_frames_fit : (net : Net) (from to p : ℕ) (runs : Known) → Each (ExpectFits net) (know_frames from to p runs)
-know_frames_fit net from to p runs = go (cut_frames known_run_size runs)
+know_frames_fit : (net : Net) (from to p : ℕ) (runs : Known) → is_host net p to ≡ false → Each (ExpectFits net) (know_frames from to p runs)
+know_frames_fit net from to p runs h = go (cut_frames known_run_size runs)
   where
     go : (parts : List Known) → Each (ExpectFits net) (map (λ part. record { head = head from to p; body = body.Knowledge part }) parts)
     go [] = tt
-    go (x ∷ xs) = (tt, go xs)
+    go (x ∷ xs) = (h, go xs)
 
 up_frames_fit : (net : Net) (p b : ℕ) (runs : Wanted) → Each (ExpectFits net) (up_frames net p b runs)
 up_frames_fit net p b runs = at (net.up p b)
@@ -244,10 +244,10 @@ up_frames_fit net p b runs = at (net.up p b)
     at None = tt
     at (Some u) = go u (cut_frames wanted_run_size runs)
 
-forward_frames_fit : (net : Net) (p b : ℕ) (new : Known) (cs : List ℕ) (ws : List Wanted) → Each (ExpectFits net) (forward_frames net p b new cs ws)
-forward_frames_fit net p b new [] ws = tt
-forward_frames_fit net p b new (c ∷ cs) [] = tt
-forward_frames_fit net p b new (c ∷ cs) (w ∷ ws) = Each-on (ExpectFits net) (know_frames b c p (forward net p c w new)) (forward_frames net p b new cs ws) (know_frames_fit net b c p (forward net p c w new)) (forward_frames_fit net p b new cs ws)
+forward_frames_fit : (net : Net) (p b : ℕ) (new : Known) (cs : List ℕ) (ws : List Wanted) → ((c : ℕ) → list_any (λ x. nat_eq x c) cs ≡ true → is_host net p c ≡ false) → Each (ExpectFits net) (forward_frames net p b new cs ws)
+forward_frames_fit net p b new [] ws h = tt
+forward_frames_fit net p b new (c ∷ cs) [] h = tt
+forward_frames_fit net p b new (c ∷ cs) (w ∷ ws) h = Each-on (ExpectFits net) (know_frames b c p (forward net p c w new)) (forward_frames net p b new cs ws) (know_frames_fit net b c p (forward net p c w new) (h c (or_left (nat_eq c c) (list_any (λ x. nat_eq x c) cs) (eq-eqb c c refl)))) (forward_frames_fit net p b new cs ws (λ d m. h d (or_right (nat_eq c d) (list_any (λ x. nat_eq x d) cs) m)))
 
 expect_frames_fit : (net : Net) (p b tick : ℕ) (cs : List ℕ) (ws : List Wanted) → ((c : ℕ) → list_any (λ x. nat_eq x c) cs ≡ true → is_host net p c ≡ false) → Each (ExpectFits net) (expect_frames p b tick cs ws)
 expect_frames_fit net p b tick [] ws h = tt
@@ -258,31 +258,31 @@ expect_frames_fit net p b tick (c ∷ cs) (w ∷ ws) h = Each-on (ExpectFits net
     go true = tt
     go false = (h c (or_left (nat_eq c c) (list_any (λ x. nat_eq x c) cs) (eq-eqb c c refl)), tt)
 
-learn_frames_fit : (net : Net) (p b : ℕ) (piece : Known) (v : View) (log : Log) → Each (ExpectFits net) (learn net p b piece v log).frames
+learn_frames_fit : (net : Net) (p b : ℕ) (piece : Known) (v : View) (log : Log) → ((c : ℕ) → list_any (λ x. nat_eq x c) (net.children p b) ≡ true → is_host net p c ≡ false) → Each (ExpectFits net) (learn net p b piece v log).frames
 unfolding learn
-learn_frames_fit net p b piece v log = forward_frames_fit net p b (new_ticks v.know piece) (net.children p b) v.wants
+learn_frames_fit net p b piece v log h = forward_frames_fit net p b (new_ticks v.know piece) (net.children p b) v.wants h
 
 asking_frames_fit : (net : Net) (p b now : ℕ) (wanted : ℕ → Bool) (ps : List ℕ) (v : View) (log : Log) → Each (ExpectFits net) (asking net p b now wanted ps v log).frames
 unfolding asking
 asking_frames_fit net p b now wanted ps v log = up_frames_fit net p b _
 
-curiosity_frames_fit : (net : Net) (p b now c i : ℕ) (piece : Wanted) (v : View) (log : Log) → Each (ExpectFits net) (curiosity net p b now c i piece v log).frames
+curiosity_frames_fit : (net : Net) (p b now c i : ℕ) (piece : Wanted) (v : View) (log : Log) → is_host net p c ≡ false → Each (ExpectFits net) (curiosity net p b now c i piece v log).frames
 unfolding curiosity
-curiosity_frames_fit net p b now c i piece v log = Each-on (ExpectFits net) _ _ (know_frames_fit net b c p _) (up_frames_fit net p b _)
+curiosity_frames_fit net p b now c i piece v log h = Each-on (ExpectFits net) _ _ (know_frames_fit net b c p _ h) (up_frames_fit net p b _)
 
 expect_call_frames_fit : (net : Net) (p b now tick : ℕ) (v : View) (log : Log) → ((c : ℕ) → list_any (λ x. nat_eq x c) (net.children p b) ≡ true → is_host net p c ≡ false) → Each (ExpectFits net) (expect net p b now tick v log).frames
 unfolding expect
 expect_call_frames_fit net p b now tick v log h = Each-on (ExpectFits net) _ _ (asking_frames_fit net p b now _ _ v log) (expect_frames_fit net p b tick (net.children p b) v.wants h)
 
-marking_frames_fit : (net : Net) (p b now : ℕ) (v : View) (log : Log) → Each (ExpectFits net) (marking net p b now v log).frames
+marking_frames_fit : (net : Net) (p b now : ℕ) (v : View) (log : Log) → ((c : ℕ) → list_any (λ x. nat_eq x c) (net.children p b) ≡ true → is_host net p c ≡ false) → Each (ExpectFits net) (marking net p b now v log).frames
 unfolding marking
-marking_frames_fit net p b now v log = go (nat_le (log.settled + net.quiet) now)
+marking_frames_fit net p b now v log h = go (nat_le (log.settled + net.quiet) now)
   where
     o : Outcome
     o = learn net p b (silence (suc log.settled) now []) v (with_mark log now)
 
     go : (q : Bool) → Each (ExpectFits net) (let x : Outcome = elim q [ true ↦ record { view = o.view; log = o.log; lines = o.lines; frames = o.frames } | false ↦ record { view = v; log = log; lines = []; frames = [] } ] in x.frames)
-    go true = learn_frames_fit net p b (silence (suc log.settled) now []) v (with_mark log now)
+    go true = learn_frames_fit net p b (silence (suc log.settled) now []) v (with_mark log now) h
     go false = tt
 
 pub wake_frames_fit : (net : Net) (p b now : ℕ) (v : View) (log : Log) → ((c : ℕ) → list_any (λ x. nat_eq x c) (net.children p b) ≡ true → is_host net p c ≡ false) → Each (ExpectFits net) (wake net p b now v log).frames
@@ -297,29 +297,29 @@ wake_frames_fit net p b now v log h = go (is_host net p b)
     more false tick = tt
 
     go : (q : Bool) → Each (ExpectFits net) (let x : Outcome = elim q [ true ↦ wake_host net p b now v log | false ↦ wake_below net p b now v log ] in x.frames)
-    go true = Each-on (ExpectFits net) o.frames _ (marking_frames_fit net p b now v log) (more (nat_lt 0 (cutting net p b o.view o.log).settled) (cutting net p b o.view o.log).settled)
+    go true = Each-on (ExpectFits net) o.frames _ (marking_frames_fit net p b now v log h) (more (nat_lt 0 (cutting net p b o.view o.log).settled) (cutting net p b o.view o.log).settled)
     go false = asking_frames_fit net p b now _ _ v log
 
-pub receive_frames_fit : (net : Net) (now : ℕ) (f : Frame) (v : View) (log : Log) → ((c : ℕ) → list_any (λ x. nat_eq x c) (net.children f.head.publisher f.head.to) ≡ true → is_host net f.head.publisher c ≡ false) → Each (ExpectFits net) (receive net now f v log).frames
+pub receive_frames_fit : (net : Net) (now : ℕ) (f : Frame) (v : View) (log : Log) → ((c : ℕ) → list_any (λ x. nat_eq x c) (net.children f.head.publisher f.head.to) ≡ true → is_host net f.head.publisher c ≡ false) → BodyFits net f.head.publisher f.head.from f.head.to f.body → Each (ExpectFits net) (receive net now f v log).frames
 unfolding receive
-receive_frames_fit net now f v log h = go f.body
+receive_frames_fit net now f v log h fits = go f.body fits
   where
     learned : (runs : Known) (q : Bool) → Each (ExpectFits net) (let o : Outcome = elim q [ true ↦ record { view = v; log = log; lines = []; frames = [] } | false ↦ learn net f.head.publisher f.head.to runs v log ] in o.frames)
     learned runs true = tt
-    learned runs false = learn_frames_fit net f.head.publisher f.head.to runs v log
+    learned runs false = learn_frames_fit net f.head.publisher f.head.to runs v log h
 
-    go : (y : Body) → Each (ExpectFits net) (let o : Outcome = elim y [
+    go : (y : Body) → BodyFits net f.head.publisher f.head.from f.head.to y → Each (ExpectFits net) (let o : Outcome = elim y [
       | body.Knowledge runs ↦ elim (clashes v.know runs) [ true ↦ record { view = v; log = log; lines = []; frames = [] } | false ↦ learn net f.head.publisher f.head.to runs v log ]
       | body.Curiosity runs ↦ curiosity net f.head.publisher f.head.to now f.head.from (place_of f.head.from (net.children f.head.publisher f.head.to)) runs v log
       | body.Expect tick ↦ expect net f.head.publisher f.head.to now tick v log
     ] in o.frames)
-    go (body.Knowledge runs) = learned runs (clashes v.know runs)
-    go (body.Curiosity runs) = curiosity_frames_fit net f.head.publisher f.head.to now f.head.from (place_of f.head.from (net.children f.head.publisher f.head.to)) runs v log
-    go (body.Expect tick) = expect_call_frames_fit net f.head.publisher f.head.to now tick v log h
+    go (body.Knowledge runs) m = learned runs (clashes v.know runs)
+    go (body.Curiosity runs) m = curiosity_frames_fit net f.head.publisher f.head.to now f.head.from (place_of f.head.from (net.children f.head.publisher f.head.to)) runs v log (h f.head.from m)
+    go (body.Expect tick) m = expect_call_frames_fit net f.head.publisher f.head.to now tick v log h
 
-publish_frames_fit : (net : Net) (p b now number : ℕ) (e : Event) (v : View) (log : Log) → Each (ExpectFits net) (publish net p b now number e v log).frames
+publish_frames_fit : (net : Net) (p b now number : ℕ) (e : Event) (v : View) (log : Log) → ((c : ℕ) → list_any (λ x. nat_eq x c) (net.children p b) ≡ true → is_host net p c ≡ false) → Each (ExpectFits net) (publish net p b now number e v log).frames
 unfolding publish
-publish_frames_fit net p b now number e v log = first (nat_le number log.last)
+publish_frames_fit net p b now number e v log h = first (nat_le number log.last)
   where
     tick : ℕ
     tick = max (suc log.settled) now
@@ -329,7 +329,7 @@ publish_frames_fit net p b now number e v log = first (nat_le number log.last)
 
     third : (q : Bool) → Each (ExpectFits net) (let x : Outcome = elim q [ true ↦ record { view = v; log = log; lines = line.Exhausted p number ∷ []; frames = [] } | false ↦ record { view = o.view; log = o.log; lines = line.Logged p number tick ∷ o.lines; frames = o.frames } ] in x.frames)
     third true = tt
-    third false = learn_frames_fit net p b (silence (suc log.settled) (tick - 1) (record { first = tick; last = tick; value = D e } ∷ [])) v (with_event log tick e)
+    third false = learn_frames_fit net p b (silence (suc log.settled) (tick - 1) (record { first = tick; last = tick; value = D e } ∷ [])) v (with_event log tick e) h
 
     second : (q : Bool) → Each (ExpectFits net) (let x : Outcome = elim q [ true ↦ record { view = v; log = log; lines = line.Gap p number (suc log.last) ∷ []; frames = [] } | false ↦ elim (nat_lt max_tick tick) [ true ↦ record { view = v; log = log; lines = line.Exhausted p number ∷ []; frames = [] } | false ↦ record { view = o.view; log = o.log; lines = line.Logged p number tick ∷ o.lines; frames = o.frames } ] ] in x.frames)
     second true = tt
@@ -411,14 +411,14 @@ unfolding deliver_frame
 deliver_asks net n w x f t r a =
     let o = receive net w.clock x (view_of w x.head.to x.head.publisher) (log_of w x.head.publisher) in
     taken_asks net w (absorbed w x.head.to x.head.publisher o).world x.head.to x.head.publisher o t.fits.to_in t.publisher_in (absorbed_taken net w x.head.to x.head.publisher o f t.fits.to_in t.publisher_in) (receive_asks net w.clock x (view_of w x.head.to x.head.publisher) (log_of w x.head.publisher) r)
-    (receive_frames_fit net w.clock x (view_of w x.head.to x.head.publisher) (log_of w x.head.publisher) (λ c m. (n.place x.head.publisher x.head.to t.publisher_in t.fits.to_in).child_not_host c m)) a
+    (receive_frames_fit net w.clock x (view_of w x.head.to x.head.publisher) (log_of w x.head.publisher) (λ c m. (n.place x.head.publisher x.head.to t.publisher_in t.fits.to_in).child_not_host c m) t.fits.body) a
 
 publish_now_asks : (net : Net) → IsNet net → (w : World) (p number : ℕ) (e : Event) → WorldFits net w → p < net.publishers → AsksFit net w → AsksFit net (publish_now net w p number e).world
 unfolding publish_now
 publish_now_asks net n w p number e f j a =
     let b = net.host p in
     let o = publish net p b w.clock number e (view_of w b p) (log_of w p) in
-    taken_asks net w (absorbed w b p o).world b p o (n.host_in p j) j (absorbed_taken net w b p o f (n.host_in p j) j) (same_asks net p b w.clock (view_of w b p) o (publish_asks net p b w.clock number e (view_of w b p) (log_of w p))) (publish_frames_fit net p b w.clock number e (view_of w b p) (log_of w p)) a
+    taken_asks net w (absorbed w b p o).world b p o (n.host_in p j) j (absorbed_taken net w b p o f (n.host_in p j) j) (same_asks net p b w.clock (view_of w b p) o (publish_asks net p b w.clock number e (view_of w b p) (log_of w p))) (publish_frames_fit net p b w.clock number e (view_of w b p) (log_of w p) (λ c m. (n.place p b j (n.host_in p j)).child_not_host c m)) a
 
 started_asks : (net : Net) (p b : ℕ) (log : Log) → (started net p b log).asks ≡ []
 unfolding started

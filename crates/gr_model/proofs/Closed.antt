@@ -155,7 +155,7 @@ frame_ready R (x ∷ xs) zero f a e = subst R (some_some x f e) a.0
     some_some x f e = cc
 frame_ready R (x ∷ xs) (suc k) f a e = frame_ready R xs k f a.1 e
 
-frame_at_ready : (R : Frame → Type 0) (w : World) (k : ℕ) (f : Frame) → Each R w.frames → frame_at w k ≡ Some f → R f
+pub frame_at_ready : (R : Frame → Type 0) (w : World) (k : ℕ) (f : Frame) → Each R w.frames → frame_at w k ≡ Some f → R f
 frame_at_ready R w zero f a e = absurd (none_some f e)
   where
     none_some : (f : Frame) → None ≡ Some f → ⊥

@@ -29,13 +29,13 @@ pub record HeardFits (v : View) (heard : ℕ → Bool) : Type 0 where
 abbrev pub hears : (ℕ → Bool) → Known → ℕ → Bool
 hears heard piece t = heard t || not (is_Q (known_at piece t))
 
-is_Q_at : (k : K) → k ≢ Q → not (is_Q k) ≡ true
+pub is_Q_at : (k : K) → k ≢ Q → not (is_Q k) ≡ true
 is_Q_at Q n = absurd (n refl)
 is_Q_at S n = refl
 is_Q_at (D e) n = refl
 is_Q_at F n = refl
 
-not_Q_at : (k : K) → not (is_Q k) ≡ true → k ≢ Q
+pub not_Q_at : (k : K) → not (is_Q k) ≡ true → k ≢ Q
 not_Q_at Q e = absurd (false≢true e)
 not_Q_at S e = λ h. cc
 not_Q_at (D v) e = λ h. cc
@@ -52,7 +52,7 @@ not_done : (h t : ℕ) (ws : List Wanted) → h < t → is_settled true h ws t �
 not_done h t ws l = ap (λ b. b && all_A ws t) (ap (λ b. nat_le 1 t && b) (lt-leb t h l) ∙ and_right (nat_le 1 t) false refl)
 
 -- a view's knowledge above its horizon, after trimming and consolidation
-kept_above : (net : Net) (f : Facts) (p b : ℕ) (know : Known) (ws : List Wanted) (v : View) (t : ℕ) → keeps_horizon net p b ≡ true → AreRuns Q know → AllWantTruth net f p (net.children p b) ws → v.know ≡ finished know (consolidated (keeps_horizon net p b) v.horizon ws) → v.horizon < t → known_at (trimmed net p b v).know t ≡ known_at know t
+pub kept_above : (net : Net) (f : Facts) (p b : ℕ) (know : Known) (ws : List Wanted) (v : View) (t : ℕ) → keeps_horizon net p b ≡ true → AreRuns Q know → AllWantTruth net f p (net.children p b) ws → v.know ≡ finished know (consolidated (keeps_horizon net p b) v.horizon ws) → v.horizon < t → known_at (trimmed net p b v).know t ≡ known_at know t
 unfolding trimmed
 kept_above net f p b know ws v t keeps r a e l = go (is_host net p b)
   where

@@ -1,6 +1,7 @@
 -- A host with subscribers has its horizon where its log is settled
 use Rattle.std.proofs.Common.{◌≡◌, inl, inr, ℕ, suc, ◌+◌, ◌-◌, ◌≤◌, ◌<◌, max, Bool, true, false, [], ◌∷◌, refl, sym, ap, ◌∙◌, subst, arith, le_refl, le_antisymm}
-use Rattle.std.specs.Prelude.{nat_le, nat_lt}
+use Rattle.std.specs.Prelude.{nat_le, nat_lt, if◌then◌else◌}
+use Rattle.gr_model.specs.Headline.{is_record_of, publish_line}
 use Rattle.std.proofs.lemmas.Bool.{cases_lt, cases_eq, eq-eqb, ne_eqb, or_left, leb-true, false≢true}
 use Rattle.gr_event.specs.declared.event.Event.{Event}
 use Rattle.gr_know.specs.declared.values.K.TheVariants.{Q, D}
@@ -18,7 +19,7 @@ use Rattle.gr_tick.proofs.RunLaws.{first_bottom_from-is}
 use Rattle.gr_model.proofs.CallTruth.{joined-is, learned_horizon, ViewTrue-later}
 use Rattle.gr_model.proofs.Calls.{CallTrue, learn_horizon, cutting_same, marking_call, wake_call, publish_call, receive_call, later_facts, silence_true, nothing_true, said_more, published_piece, run_at}
 use Rattle.gr_model.proofs.Heard.{learn_above, horizon_keeps}
-use Rattle.gr_model.proofs.Records.{receive_log}
+use Rattle.gr_model.proofs.Records.{core, receive_log}
 use Rattle.gr_model.proofs.Worlds.{absorbed_changed}
 
 -- a call leaves the horizon within what is settled
@@ -50,7 +51,7 @@ Meets v log = v.horizon ≡ log.settled
 settled_meets : (net : Net) (p b : ℕ) (v : View) (log : Log) (reached : ℕ → ℕ) (o : Outcome) → CallTrue net p b v log reached o → o.log.settled ≡ log.settled → Meets v log → Meets o.view o.log
 settled_meets net p b v log reached o c s m = let w = call_within net p b v log reached o c in le_antisymm w (omega (arith, c.horizon, m, s))
 
-marking_meets : (net : Net) (p b now : ℕ) (v : View) (log : Log) (reached : ℕ → ℕ) → IsNet net → p < net.publishers → b < net.brokers → is_host net p b ≡ true → keeps_horizon net p b ≡ true → LogFits log → ViewTrue net (facts log reached) p b v → HostKnows v log.settled → Meets v log → Meets (marking net p b now v log).view (marking net p b now v log).log
+marking_meets : (net : Net) (p b now : ℕ) (v : View) (log : Log) (reached : ℕ → ℕ) → IsNet net → p < net.publishers → b < net.brokers → is_host net p b ≡ true → keeps_horizon net p b ≡ true → LogFits log → ViewTrue net (facts log reached) p b v → HostKnows v log.settled → (nat_le (log.settled + net.quiet) now ≡ false → Meets v log) → Meets (marking net p b now v log).view (marking net p b now v log).log
 unfolding marking
 marking_meets net p b now v log reached n i j host keeps fit h known m = go (nat_le (log.settled + net.quiet) now) refl (marking_call net p b now v log reached n i j host fit h)
   where
@@ -64,7 +65,7 @@ marking_meets net p b now v log reached n i j host keeps fit h known m = go (nat
     o = learn net p b piece v new
 
     go : (q : Bool) → nat_le (log.settled + net.quiet) now ≡ q → (let u : Outcome = elim q [ true ↦ record { view = o.view; log = o.log; lines = o.lines; frames = o.frames } | false ↦ record { view = v; log = log; lines = []; frames = [] } ] in CallTrue net p b v log reached u → Meets u.view u.log)
-    go false e c = m
+    go false e c = m e
     go true e c =
         let l : log.settled ≤ now = omega (arith, leb-true (log.settled + net.quiet) now e) in
         le_antisymm (call_within net p b v log reached _ c)
@@ -73,7 +74,7 @@ marking_meets net p b now v log reached n i j host keeps fit h known m = go (nat
         (silence_true net (facts new reached) p b (suc log.settled) now [] (omega arith) (le_refl now) (λ t x y. fit.past t x) (nothing_true net (facts new reached) p b) tt tt)
         (c.known host known))
 
-wake_meets : (net : Net) (p b now : ℕ) (v : View) (log : Log) (reached : ℕ → ℕ) → IsNet net → p < net.publishers → b < net.brokers → is_host net p b ≡ true → keeps_horizon net p b ≡ true → LogFits log → ViewTrue net (facts log reached) p b v → HostKnows v log.settled → Meets v log → Meets (wake net p b now v log).view (wake net p b now v log).log
+pub wake_meets : (net : Net) (p b now : ℕ) (v : View) (log : Log) (reached : ℕ → ℕ) → IsNet net → p < net.publishers → b < net.brokers → is_host net p b ≡ true → keeps_horizon net p b ≡ true → LogFits log → ViewTrue net (facts log reached) p b v → HostKnows v log.settled → (nat_le (log.settled + net.quiet) now ≡ false → Meets v log) → Meets (wake net p b now v log).view (wake net p b now v log).log
 unfolding wake wake_host
 wake_meets net p b now v log reached n i j host keeps fit h known m = go (is_host net p b) host
   where
@@ -84,9 +85,9 @@ wake_meets net p b now v log reached n i j host keeps fit h known m = go (is_hos
     go false e = absurd (false≢true e)
     go true e = marking_meets net p b now v log reached n i j host keeps fit h known m ∙ sym (cutting_same net p b o.view o.log).settled
 
-publish_meets : (net : Net) (p b now number : ℕ) (e : Event) (v : View) (log : Log) (reached : ℕ → ℕ) → IsNet net → p < net.publishers → b < net.brokers → is_host net p b ≡ true → keeps_horizon net p b ≡ true → LogFits log → ViewTrue net (facts log reached) p b v → HostKnows v log.settled → Meets v log → Meets (publish net p b now number e v log).view (publish net p b now number e v log).log
+pub publish_meets : (net : Net) (p b now number : ℕ) (e : Event) (v : View) (log : Log) (reached : ℕ → ℕ) → IsNet net → p < net.publishers → b < net.brokers → is_host net p b ≡ true → keeps_horizon net p b ≡ true → LogFits log → ViewTrue net (facts log reached) p b v → HostKnows v log.settled → (is_record_of p (publish_line p now number (core log)) ≡ false → Meets v log) → Meets (publish net p b now number e v log).view (publish net p b now number e v log).log
 unfolding publish
-publish_meets net p b now number e v log reached n i j host keeps fit h known m = first (nat_le number log.last) (publish_call net p b now number e v log reached n i j host fit h)
+publish_meets net p b now number e v log reached n i j host keeps fit h known m = first (nat_le number log.last) (nat_lt (suc log.last) number) (nat_lt max_tick tick) m (publish_call net p b now number e v log reached n i j host fit h)
   where
     tick : ℕ
     tick = max (suc log.settled) now
@@ -100,22 +101,17 @@ publish_meets net p b now number e v log reached n i j host keeps fit h known m 
     o : Outcome
     o = learn net p b piece v new
 
-    third : (q : Bool) → (let u : Outcome = elim q [ true ↦ record { view = v; log = log; lines = line.Exhausted p number ∷ []; frames = [] } | false ↦ record { view = o.view; log = o.log; lines = line.Logged p number tick ∷ o.lines; frames = o.frames } ] in CallTrue net p b v log reached u → Meets u.view u.log)
-    third true c = m
-    third false c =
+    first : (x y z : Bool) → (is_record_of p (if x then line.Already p number else (if y then line.Gap p number (suc log.last) else (if z then line.Exhausted p number else line.Logged p number tick))) ≡ false → Meets v log) →
+        (let u : Outcome = elim x [ true ↦ record { view = v; log = log; lines = line.Already p number ∷ []; frames = [] } | false ↦ elim y [ true ↦ record { view = v; log = log; lines = line.Gap p number (suc log.last) ∷ []; frames = [] } | false ↦ elim z [ true ↦ record { view = v; log = log; lines = line.Exhausted p number ∷ []; frames = [] } | false ↦ record { view = o.view; log = o.log; lines = line.Logged p number tick ∷ o.lines; frames = o.frames } ] ] ] in CallTrue net p b v log reached u → Meets u.view u.log)
+    first true y z m c = m refl
+    first false true z m c = m refl
+    first false false true m c = m refl
+    first false false false m c =
         le_antisymm (call_within net p b v log reached _ c)
         (learn_reaches net p b o.log.settled piece v new new reached n i j keeps
         (ViewTrue-later net (facts log reached) (facts new reached) p b v (later_facts log new reached reached (omega arith) (λ t x. said_more log.events tick t e (λ q. omega (arith, q))) (λ s. le_refl (reached s))) h)
         (published_piece net p b tick e log reached host fit (omega arith))
         (c.known host known))
-
-    second : (q : Bool) → (let u : Outcome = elim q [ true ↦ record { view = v; log = log; lines = line.Gap p number (suc log.last) ∷ []; frames = [] } | false ↦ elim (nat_lt max_tick tick) [ true ↦ record { view = v; log = log; lines = line.Exhausted p number ∷ []; frames = [] } | false ↦ record { view = o.view; log = o.log; lines = line.Logged p number tick ∷ o.lines; frames = o.frames } ] ] in CallTrue net p b v log reached u → Meets u.view u.log)
-    second true c = m
-    second false c = third (nat_lt max_tick tick) c
-
-    first : (q : Bool) → (let u : Outcome = elim q [ true ↦ record { view = v; log = log; lines = line.Already p number ∷ []; frames = [] } | false ↦ elim (nat_lt (suc log.last) number) [ true ↦ record { view = v; log = log; lines = line.Gap p number (suc log.last) ∷ []; frames = [] } | false ↦ elim (nat_lt max_tick tick) [ true ↦ record { view = v; log = log; lines = line.Exhausted p number ∷ []; frames = [] } | false ↦ record { view = o.view; log = o.log; lines = line.Logged p number tick ∷ o.lines; frames = o.frames } ] ] ] in CallTrue net p b v log reached u → Meets u.view u.log)
-    first true c = m
-    first false c = second (nat_lt (suc log.last) number) c
 
 -- Worlds
 
@@ -142,7 +138,7 @@ pub wake_for_meets : (net : Net) (w : World) (b p : ℕ) → IsNet net → World
 unfolding wake_for
 wake_for_meets net w b p n f i j m = absorbed_meets net w b p (wake net p b w.clock (view_of w b p) (log_of w p)) f i j
     (wake_call net p b w.clock (view_of w b p) (log_of w p) (reached_in net w p) n j i (f.logs p j) (f.views p b j i))
-    (λ host keeps known x. wake_meets net p b w.clock (view_of w b p) (log_of w p) (reached_in net w p) n j i host keeps (f.logs p j) (f.views p b j i) known x) m
+    (λ host keeps known x. wake_meets net p b w.clock (view_of w b p) (log_of w p) (reached_in net w p) n j i host keeps (f.logs p j) (f.views p b j i) known (λ e. x)) m
 
 pub deliver_meets : (net : Net) (w : World) (x : Frame) → IsNet net → WorldFits net w → FrameTrue net w x → HostsMeet net w → HostsMeet net (deliver_frame net w x).world
 unfolding deliver_frame
@@ -159,4 +155,4 @@ publish_now_meets net w p number e n f j m =
     let i = n.host_in p j in
     absorbed_meets net w b p (publish net p b w.clock number e (view_of w b p) (log_of w p)) f i j
     (publish_call net p b w.clock number e (view_of w b p) (log_of w p) (reached_in net w p) n j i (eq-eqb b b refl) (f.logs p j) (f.views p b j i))
-    (λ host keeps known x. publish_meets net p b w.clock number e (view_of w b p) (log_of w p) (reached_in net w p) n j i host keeps (f.logs p j) (f.views p b j i) known x) m
+    (λ host keeps known x. publish_meets net p b w.clock number e (view_of w b p) (log_of w p) (reached_in net w p) n j i host keeps (f.logs p j) (f.views p b j i) known (λ z. x)) m

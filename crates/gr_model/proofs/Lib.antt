@@ -35,3 +35,9 @@ pub mod PathUp
 pub mod PathWake
 pub mod PathWakeUp
 pub mod RunWords
+pub mod Examples
+pub mod RecordLines
+pub mod RecordSteps
+pub mod HeardCalls
+pub mod HeardSteps
+pub mod BareHosts

@@ -34,7 +34,7 @@ length_map : {A B : Type 0} (f : A → B) (xs : List A) → length (map f xs) �
 length_map f [] = refl
 length_map f (x ∷ xs) = ap suc (length_map f xs)
 
-get_map : {A B : Type 0} (f : A → B) (xs : List A) (i : ℕ) (d : A) → get_or (map f xs) i (f d) ≡ f (get_or xs i d)
+pub get_map : {A B : Type 0} (f : A → B) (xs : List A) (i : ℕ) (d : A) → get_or (map f xs) i (f d) ≡ f (get_or xs i d)
 get_map f [] i d = refl
 get_map f (x ∷ xs) zero d = refl
 get_map f (x ∷ xs) (suc i) d = get_map f xs i d
@@ -136,7 +136,7 @@ map_again : {A B C : Type 0} (f : A → B) (g : B → C) (xs : List A) → map g
 map_again f g [] = refl
 map_again f g (x ∷ xs) = ap (λ z. g (f x) ∷ z) (map_again f g xs)
 
-sweep_same : (net : Net) (w : World) (h : History) → RecordsFit net w h → sweep_at net h ≡ sweep_moment net w
+pub sweep_same : (net : Net) (w : World) (h : History) → RecordsFit net w h → sweep_at net h ≡ sweep_moment net w
 unfolding sweep_moment
 sweep_same net w h r = ap₂ (λ m s. max m s + net.gap + net.idle + net.retry + net.quiet + 1) r.most (ap (λ z. greatest (map (λ x. x.settled) z)) r.records ∙ (ap greatest (map_again core (λ x. x.settled) w.logs) ∙ greatest_same (map (λ l. l.settled) w.logs)))
   where
@@ -150,7 +150,7 @@ below_greatest [] i h = absurd (omega arith)
 below_greatest (n ∷ ns) zero h = omega arith
 below_greatest (n ∷ ns) (suc i) h = omega (arith, below_greatest ns i (omega arith))
 
-settled_below : (net : Net) (w : World) (q : ℕ) → WorldFits net w → q < net.publishers → (log_of w q).settled + net.quiet ≤ sweep_moment net w
+pub settled_below : (net : Net) (w : World) (q : ℕ) → WorldFits net w → q < net.publishers → (log_of w q).settled + net.quiet ≤ sweep_moment net w
 unfolding sweep_moment
 settled_below net w q f j =
     let e : get_or (map (λ l. l.settled) w.logs) q 0 ≡ (log_of w q).settled = get_map (λ l. l.settled) w.logs q empty_log in
@@ -201,7 +201,7 @@ sweep_records net w u h m f g r c =
 
 -- A stopped publish
 
-opened_no_kept : (net : Net) (logs : List Log) (b : ℕ) → says_kept (opened_lines net logs b) ≡ false
+pub opened_no_kept : (net : Net) (logs : List Log) (b : ℕ) → says_kept (opened_lines net logs b) ≡ false
 unfolding opened_lines
 opened_no_kept net logs b = go (numbers net.publishers)
   where

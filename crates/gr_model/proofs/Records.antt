@@ -51,7 +51,7 @@ cutting_core net p b v log = go (nat_lt log.cut (done_upto (consolidated (keeps_
     go true = refl
     go false = refl
 
-marking_core : (net : Net) (p b now : ℕ) (v : View) (log : Log) → core (marking net p b now v log).log ≡ marked net now (core log)
+pub marking_core : (net : Net) (p b now : ℕ) (v : View) (log : Log) → core (marking net p b now v log).log ≡ marked net now (core log)
 unfolding marking
 marking_core net p b now v log = go (nat_le (log.settled + net.quiet) now)
   where
@@ -62,7 +62,7 @@ marking_core net p b now v log = go (nat_le (log.settled + net.quiet) now)
     go true = ap core (learn_log net p b (silence (suc log.settled) now []) v (with_mark log now))
     go false = refl
 
-wake_core : (net : Net) (p b now : ℕ) (v : View) (log : Log) → core (wake net p b now v log).log ≡ (if is_host net p b then marked net now (core log) else core log)
+pub wake_core : (net : Net) (p b now : ℕ) (v : View) (log : Log) → core (wake net p b now v log).log ≡ (if is_host net p b then marked net now (core log) else core log)
 unfolding wake wake_host wake_below asking
 wake_core net p b now v log = go (is_host net p b)
   where

@@ -1,13 +1,17 @@
 -- The headline as far as it is proved, after each step of every schedule
-use Rattle.std.proofs.Common.{◌≡◌, ℕ, ◌≤◌, ◌<◌, true, false, ◌&&◌, ap, get_or, List, [], ◌∷◌, ◌++◌, refl, sym, ap₂, ◌∙◌, subst}
-use Rattle.std.specs.Prelude.{Contains, not, nat_eq, if◌then◌else◌}
+use Rattle.std.proofs.lemmas.List.Elements.{filter-append}
+use Rattle.gr_frame.specs.declared.Frame.{Frame}
+use Rattle.std.proofs.Common.{◌≡◌, suc, ◌+◌, length, arith, ℕ, ◌≤◌, ◌<◌, true, false, ◌&&◌, ap, get_or, List, [], ◌∷◌, ◌++◌, refl, sym, ap₂, ◌∙◌, subst}
+use Rattle.std.specs.Prelude.{filter, Contains, not, nat_eq, if◌then◌else◌}
 use Rattle.std.proofs.lemmas.Bool.{and_right, both_ways, eq-eqb}
 use Rattle.gr_sched.specs.declared.step.Line.{Line}
 use Rattle.gr_model.specs.declared.report.Report.{Report}
 use Rattle.gr_model.specs.declared.report.Report.TheVariants as line
 use Rattle.gr_model.specs.Net.{Net, is_host, not_empty}
-use Rattle.gr_model.specs.World.{World, view_of, log_of, start, next, run_from, report_of}
-use Rattle.gr_model.specs.Headline.{History, record_of, after, begin, last_horizon, may_crash, HorizonsRise}
+use Rattle.gr_model.specs.World.{sent_lines, World, view_of, log_of, start, next, run_from, report_of}
+use Rattle.gr_model.specs.Headline.{History, record_of, after, begin, last_horizon, may_crash, HorizonsRise, sent_count, is_sent}
+use Rattle.gr_model.proofs.RecordLines.{sent_lines-append}
+use Rattle.gr_model.proofs.RecordSteps.{step_records, step_sends}
 use Rattle.gr_model.specs.Said.{due_upto}
 use Rattle.gr_model.specs.Tree.{IsNet}
 use Rattle.gr_model.specs.Fits.{WorldFits, LinesFit, StepIn, StepsIn}
@@ -27,6 +31,15 @@ record Stands (net : Net) (w : World) (h : History) : Type 0 where
   records : RecordsFit net w h
   lines : LinesFit net w h.lines
   ordered : Ordered net w h.lines
+  sent : filter is_sent h.lines ≡ sent_lines 1 w.frames
+
+lines_long : (n : ℕ) (fs : List Frame) → length (sent_lines n fs) ≡ length fs
+lines_long n [] = refl
+lines_long n (f ∷ fs) = ap suc (lines_long (suc n) fs)
+
+-- as many frames as sent lines
+sent_count_is : (net : Net) (w : World) (h : History) → Stands net w h → sent_count h.lines ≡ length w.frames
+sent_count_is net w h k = ap length k.sent ∙ lines_long 1 w.frames
 
 -- at a split of the lines
 rise_at : (s p n m : ℕ) (xs ys : List Report) → HorizonsRise s p m (xs ++ line.Horizon s p n ∷ ys) → last_horizon s p m xs < n
@@ -71,12 +84,20 @@ next_stands net w h l n z i k =
       records = next_records net w h l n z k.fits k.records i;
       lines = subst (λ y. LinesFit net (next net w l).world y) (sym e) (x.lines h.lines k.lines);
       ordered = subst (λ y. Ordered net (next net w l).world y) (sym e) (next_orders net w l n k.fits i h.lines k.lines k.ordered);
+      sent =
+          let c = step_sends net w l n k.fits i in
+          ap (filter is_sent) e ∙ (filter-append is_sent h.lines (next net w l).lines
+          ∙ (ap₂ (λ (y z : List Report). y ++ z) k.sent c.told ∙ (sym (sent_lines-append 1 w.frames c.more ∙ ap (λ m. sent_lines 1 w.frames ++ sent_lines m c.more) (omega arith)) ∙ ap (sent_lines 1) (sym c.frames))));
     }
 
 from_stands : (net : Net) (w : World) (h : History) (ls : List Line) → IsNet net → 1 ≤ net.quiet → StepsIn net ls → Stands net w h → Reported_from net h ls (run_from net w ls)
 unfolding run_from
 from_stands net w h [] n z i k = reported net w h k
-from_stands net w h (l ∷ ls) n z i k = (reported net w h k, doubts_stand net w l n k.fits i.0, from_stands net (next net w l).world (after net h l (next net w l).lines) ls n z i.1 (next_stands net w h l n z i.0 k))
+from_stands net w h (l ∷ ls) n z i k = (reported net w h k, step_records net w h l n z k.fits k.records (sent_count_is net w h k) k.ordered.last i.0, doubts_stand net w l n k.fits i.0, from_stands net (next net w l).world (after net h l (next net w l).lines) ls n z i.1 (next_stands net w h l n z i.0 k))
+
+start_frames : (net : Net) → (start net).frames ≡ []
+unfolding start
+start_frames net = refl
 
 pub headline_so_far : (net : Net) (ls : List Line) → IsNet net → 1 ≤ net.quiet → StepsIn net ls → HeadlineSoFar net ls (report_of net ls)
 unfolding report_of
@@ -87,5 +108,6 @@ headline_so_far net ls n z i = (
     records = begin_fits net;
     lines = subst (λ y. LinesFit net (start net) y) (sym (begin_lines net)) (start_lines net);
     ordered = subst (λ y. Ordered net (start net) y) (sym (begin_lines net)) (start_ordered net n);
+    sent = ap (filter is_sent) (begin_lines net) ∙ ap (sent_lines 1) (sym (start_frames net));
   }),
 )

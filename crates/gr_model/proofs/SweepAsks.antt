@@ -60,7 +60,7 @@ unfolding deliver_frame
 deliver_now net m n w x f t r a =
     let o = receive net w.clock x (view_of w x.head.to x.head.publisher) (log_of w x.head.publisher) in
     taken_now net m w (absorbed w x.head.to x.head.publisher o).world x.head.to x.head.publisher o t.fits.to_in t.publisher_in (absorbed_taken net w x.head.to x.head.publisher o f t.fits.to_in t.publisher_in) (receive_asks net w.clock x (view_of w x.head.to x.head.publisher) (log_of w x.head.publisher) r)
-    (receive_frames_fit net w.clock x (view_of w x.head.to x.head.publisher) (log_of w x.head.publisher) (λ c k. (n.place x.head.publisher x.head.to t.publisher_in t.fits.to_in).child_not_host c k)) a
+    (receive_frames_fit net w.clock x (view_of w x.head.to x.head.publisher) (log_of w x.head.publisher) (λ c k. (n.place x.head.publisher x.head.to t.publisher_in t.fits.to_in).child_not_host c k) t.fits.body) a
 
 -- each wake and delivery at the moment keeps it
 pub now_closed : (net : Net) (m : ℕ) → IsNet net → IsCallClosed net (ExpectFits net) (AsksNow net m)

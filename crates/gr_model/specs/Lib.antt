@@ -9,3 +9,5 @@ pub mod Fits
 pub mod Order
 pub mod Blank
 pub mod Text
+pub mod SmallNets
+pub mod Examples

@@ -14,10 +14,16 @@ ghost use Rattle.gr_model.specs.Fits.{StepIn, StepsIn, WorldFits, history_of};
 ghost use Rattle.gr_model.specs.Headline.{GetsExactly, is_doubt_line, doubt_place, doubts_shown};
 ghost use Rattle.gr_model.specs.Order.{CutsInOrder, HeadlineSoFar};
 ghost use Rattle.gr_model.specs.Blank.{net0};
+ghost use Rattle.gr_model.specs.Examples.{WorkedExamples};
 
 /// The topology of the small examples is a tree, so the theorems speak of something.
 pub fn net0_is_a_tree()
     ensures { IsNet net0 }
+{}
+
+/// The worked examples: the whole report of each of some twenty small schedules.
+pub fn worked_examples()
+    ensures { WorkedExamples }
 {}
 
 /// After every schedule all that any broker knows, all that any frame says and all that was cut is true, and each
