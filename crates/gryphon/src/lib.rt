@@ -1,4 +1,6 @@
 //! scratch
 #![tactic(auto)]
 
+pub mod asked;
+pub mod scenario;
 pub mod world;
