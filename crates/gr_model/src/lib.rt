@@ -9,3 +9,6 @@ mod words;
 
 pub use print::{Memory, PutFault, put};
 pub use report::{Report, Reports};
+
+#[cfg(test)]
+mod tests;
