@@ -25,25 +25,13 @@ fn reads(rt: &impl Abort, alloc: Global, report: &Report, text: &str) -> Result<
 }
 
 #[test]
-fn prints_what_a_log_tells(rt: HostRuntime) -> Result<(), Fail> {
+fn prints_publishes(rt: HostRuntime) -> Result<(), Fail> {
     let alloc = rt.alloc();
-    let publisher = 0;
-    reads(
-        &rt,
-        alloc,
-        &Report::Opened {
-            publisher,
-            last: 1,
-            settled: 1000,
-            cut: 7,
-        },
-        "opened P last 1 settled 1000 cut 7",
-    )?;
     reads(
         &rt,
         alloc,
         &Report::Logged {
-            publisher,
+            publisher: 0,
             number: 1,
             tick: 1000,
         },
@@ -53,7 +41,7 @@ fn prints_what_a_log_tells(rt: HostRuntime) -> Result<(), Fail> {
         &rt,
         alloc,
         &Report::Already {
-            publisher,
+            publisher: 0,
             number: 1,
         },
         "already P 1",
@@ -62,7 +50,7 @@ fn prints_what_a_log_tells(rt: HostRuntime) -> Result<(), Fail> {
         &rt,
         alloc,
         &Report::Gap {
-            publisher,
+            publisher: 0,
             number: 5,
             next: 2,
         },
@@ -72,16 +60,21 @@ fn prints_what_a_log_tells(rt: HostRuntime) -> Result<(), Fail> {
         &rt,
         alloc,
         &Report::Exhausted {
-            publisher,
+            publisher: 0,
             number: 2,
         },
         "exhausted P 2",
-    )?;
+    )
+}
+
+#[test]
+fn prints_stopped_publishes(rt: HostRuntime) -> Result<(), Fail> {
+    let alloc = rt.alloc();
     reads(
         &rt,
         alloc,
         &Report::Kept {
-            publisher,
+            publisher: 0,
             number: 1,
             tick: 1000,
         },
@@ -91,7 +84,7 @@ fn prints_what_a_log_tells(rt: HostRuntime) -> Result<(), Fail> {
         &rt,
         alloc,
         &Report::Lost {
-            publisher,
+            publisher: 0,
             number: 1,
             tick: 1000,
         },
@@ -101,7 +94,7 @@ fn prints_what_a_log_tells(rt: HostRuntime) -> Result<(), Fail> {
         &rt,
         alloc,
         &Report::Mark {
-            publisher,
+            publisher: 0,
             tick: 5000,
         },
         "mark P 5000",
@@ -110,16 +103,32 @@ fn prints_what_a_log_tells(rt: HostRuntime) -> Result<(), Fail> {
         &rt,
         alloc,
         &Report::Cut {
-            publisher,
+            publisher: 0,
             tick: 1000,
         },
         "cut P 1000",
+    )
+}
+
+#[test]
+fn prints_logs(rt: HostRuntime) -> Result<(), Fail> {
+    let alloc = rt.alloc();
+    reads(
+        &rt,
+        alloc,
+        &Report::Opened {
+            publisher: 0,
+            last: 1,
+            settled: 1000,
+            cut: 7,
+        },
+        "opened P last 1 settled 1000 cut 7",
     )?;
     reads(
         &rt,
         alloc,
         &Report::LogOf {
-            publisher,
+            publisher: 0,
             last: 1,
             settled: 1000,
             cut: 0,
@@ -130,42 +139,33 @@ fn prints_what_a_log_tells(rt: HostRuntime) -> Result<(), Fail> {
     reads(
         &rt,
         alloc,
-        &Report::Damaged { publisher, at: 6 },
+        &Report::Damaged {
+            publisher: 0,
+            at: 6,
+        },
         "damaged P 6",
     )
 }
 
 #[test]
-fn prints_what_was_sent_and_got(rt: HostRuntime) -> Result<(), Fail> {
+fn prints_sent_knowledge(rt: HostRuntime) -> Result<(), Fail> {
     let alloc = rt.alloc();
-    let publisher = 0;
     let event = Event::from_text(alloc, b"{\"n\":82}")?;
-    let mut known = Piece::new(alloc);
-    known.push(Run {
+    let mut runs = Piece::new(alloc);
+    runs.push(Run {
         first: 1,
         last: 999,
         value: K::S,
     })?;
-    known.push(Run {
+    runs.push(Run {
         first: 1000,
         last: 1000,
-        value: K::D(event.share()),
+        value: K::D(event),
     })?;
-    known.push(Run {
+    runs.push(Run {
         first: 1001,
         last: 4611686018427387904,
         value: K::F,
-    })?;
-    let mut asked = Piece::new(alloc);
-    asked.push(Run {
-        first: 1,
-        last: 1000,
-        value: Q3::A,
-    })?;
-    asked.push(Run {
-        first: 1001,
-        last: 3801,
-        value: Q3::C,
     })?;
     reads(
         &rt,
@@ -174,11 +174,27 @@ fn prints_what_was_sent_and_got(rt: HostRuntime) -> Result<(), Fail> {
             number: 1,
             from: 0,
             to: 1,
-            publisher,
-            runs: known,
+            publisher: 0,
+            runs,
         },
         "sent 1 A B know P S1-999 D1000-1000 F1001-4611686018427387904",
-    )?;
+    )
+}
+
+#[test]
+fn prints_sent_curiosity(rt: HostRuntime) -> Result<(), Fail> {
+    let alloc = rt.alloc();
+    let mut runs = Piece::new(alloc);
+    runs.push(Run {
+        first: 1,
+        last: 1000,
+        value: Q3::A,
+    })?;
+    runs.push(Run {
+        first: 1001,
+        last: 3801,
+        value: Q3::C,
+    })?;
     reads(
         &rt,
         alloc,
@@ -186,8 +202,8 @@ fn prints_what_was_sent_and_got(rt: HostRuntime) -> Result<(), Fail> {
             number: 7,
             from: 1,
             to: 0,
-            publisher,
-            runs: asked,
+            publisher: 0,
+            runs,
         },
         "sent 7 B A want P A1-1000 C1001-3801",
     )?;
@@ -198,17 +214,23 @@ fn prints_what_was_sent_and_got(rt: HostRuntime) -> Result<(), Fail> {
             number: 2,
             from: 0,
             to: 1,
-            publisher,
+            publisher: 0,
             tick: 5000,
         },
         "sent 2 A B expect P 5000",
-    )?;
+    )
+}
+
+#[test]
+fn prints_deliveries(rt: HostRuntime) -> Result<(), Fail> {
+    let alloc = rt.alloc();
+    let event = Event::from_text(alloc, b"{\"n\":82}")?;
     reads(
         &rt,
         alloc,
         &Report::Got {
             subscriber: 0,
-            publisher,
+            publisher: 0,
             tick: 1000,
             event,
         },
@@ -219,7 +241,7 @@ fn prints_what_was_sent_and_got(rt: HostRuntime) -> Result<(), Fail> {
         alloc,
         &Report::Horizon {
             subscriber: 0,
-            publisher,
+            publisher: 0,
             tick: 1000,
         },
         "horizon S P 1000",
@@ -229,7 +251,7 @@ fn prints_what_was_sent_and_got(rt: HostRuntime) -> Result<(), Fail> {
         alloc,
         &Report::Doubt {
             broker: 1,
-            publisher,
+            publisher: 0,
             tick: 1000,
         },
         "doubt B P 1000",
@@ -237,11 +259,23 @@ fn prints_what_was_sent_and_got(rt: HostRuntime) -> Result<(), Fail> {
 }
 
 #[test]
-fn prints_what_was_done_and_refused(rt: HostRuntime) -> Result<(), Fail> {
+fn prints_what_was_done(rt: HostRuntime) -> Result<(), Fail> {
     let alloc = rt.alloc();
     let bytes = Bytes::from_slice(alloc, &[0x47, 0x4b, 0x01, 0x03, 0xe8])?;
     reads(&rt, alloc, &Report::Crashed { broker: 0 }, "crashed A")?;
     reads(&rt, alloc, &Report::Swept { moment: 4801 }, "swept 4801")?;
+    reads(&rt, alloc, &Report::Frames { count: 5 }, "frames 5")?;
+    reads(
+        &rt,
+        alloc,
+        &Report::BytesOf { frame: 4, bytes },
+        "bytes 4 474b0103e8",
+    )
+}
+
+#[test]
+fn prints_refusals(rt: HostRuntime) -> Result<(), Fail> {
+    let alloc = rt.alloc();
     reads(
         &rt,
         alloc,
@@ -266,7 +300,13 @@ fn prints_what_was_done_and_refused(rt: HostRuntime) -> Result<(), Fail> {
             moment: 4611686018427390605,
         },
         "refused line 4 clock-range 4611686018427390605",
-    )?;
+    )
+}
+
+#[test]
+fn prints_dropped_frames(rt: HostRuntime) -> Result<(), Fail> {
+    let alloc = rt.alloc();
+    let came = K::D(Event::from_text(alloc, b"{}")?);
     reads(
         &rt,
         alloc,
@@ -285,16 +325,9 @@ fn prints_what_was_done_and_refused(rt: HostRuntime) -> Result<(), Fail> {
             broker: 1,
             tick: 3,
             kept: K::S,
-            came: K::D(Event::from_text(alloc, b"{}")?),
+            came,
         },
         "dropped B clash 3 S D",
-    )?;
-    reads(&rt, alloc, &Report::Frames { count: 5 }, "frames 5")?;
-    reads(
-        &rt,
-        alloc,
-        &Report::BytesOf { frame: 4, bytes },
-        "bytes 4 474b0103e8",
     )
 }
 
@@ -312,12 +345,8 @@ fn prints_why_bytes_are_no_frame(rt: HostRuntime) -> Result<(), Fail> {
         "trailing",
         "too-long",
     ];
-    let mut fault = 0;
-    for word in words {
-        fault += 1;
-        if fault > 9 {
-            break;
-        }
+    for fault in 1..10u8 {
+        let word = words[fault as usize - 1];
         let text = format!(in alloc; "dropped B not-frame {word} 16384")?;
         reads(
             &rt,
