@@ -26,7 +26,8 @@ use Rattle.gr_event.specs.Json.{pair_from, pairs_from, short_event, event_from, 
 abbrev pub with_front : Event → Result Event EventFault → Result Event EventFault
 with_front front read = read >>= λ rest. Ok (front ++ rest)
 
-after : (front : Event) (p : List ℕ × Value) (r : Result Event EventFault)
+-- one more pair in front of the rest
+pub after : (front : Event) (p : List ℕ × Value) (r : Result Event EventFault)
     → with_front front (r >>= λ rest. Ok (p ∷ rest)) ≡ with_front (front ++ p ∷ []) r
 after front p (Ok rest) = ap (λ l. Ok l) (sym (append_assoc front (p ∷ []) rest))
 after front p (Err e) = refl

@@ -1,14 +1,15 @@
 //! Events and their two forms.
 
-ghost use Rattle.std.specs.Prelude.{◌≡◌, ◌↔◌, ◌+◌, ◌≤◌, ◌*◌, IsTrue, IfOk, length};
+ghost use Rattle.std.specs.Prelude.{◌≡◌, ◌↔◌, ◌+◌, ◌≤◌, ◌*◌, IsTrue, IfOk, length, option_map};
 ghost use Rattle.std.specs.List.{AllByRecursion};
 ghost use Rattle.gr_event.specs.Event.{same_event, event_size, pairs_size, value_size};
 ghost use Rattle.gr_event.specs.Limits.{IsEvent, ArePairs, IsPair, IsValue};
+ghost use Rattle.gr_event.specs.Get.{part_value, value_of};
 ghost use Rattle.gr_event.specs.Gives.{Gives};
 ghost use Rattle.gr_event.specs.Json.{short_event};
 
 use crate::text::Text;
-use crate::value::Value;
+use crate::value::{Part, Value};
 use std::alloc::{AllocError, AllocFailed, Global};
 use std::marker::Model;
 
@@ -83,6 +84,13 @@ impl Event {
         1 + size_of_pairs(self.pairs)
     }
 
+    /// The value of a name, if the event has it. Takes no memory.
+    pub fn get(&self, name: &[u8]) -> Option<Part<'_>>
+        ensures { option_map part_value result ≡ value_of name.now self.now }
+    {
+        find(self.pairs, name)
+    }
+
     /// Its pairs.
     pub(crate) fn pairs(&self) -> &[(Text, Value)]
         ensures pairs { result.now ≡ self.now }
@@ -121,7 +129,7 @@ fn size_of_pairs(pairs: &[(Text, Value)]) -> usize
 }
 
 /// How many bytes a value takes behind its kind.
-fn size_of_value(value: &Value) -> usize
+pub(crate) fn size_of_value(value: &Value) -> usize
     requires { IsValue value.now }
     ensures size { result ≡ value_size value.now }
     ensures bound { result ≤ 1026 }
@@ -130,6 +138,22 @@ fn size_of_value(value: &Value) -> usize
         Value::Int(_) => 8,
         Value::Text(text) => 2 + text.len(),
         Value::Bool(_) => 1,
+    }
+}
+
+/// The value of a name among pairs.
+fn find<'a>(pairs: &'a [(Text, Value)], name: &[u8]) -> Option<Part<'a>>
+    ensures { option_map part_value result ≡ value_of name.now pairs.now }
+{
+    match pairs {
+        [] => None,
+        [first, rest @ ..] => {
+            if first.0.as_slice() == name {
+                Some(first.1.part())
+            } else {
+                find(rest, name)
+            }
+        }
     }
 }
 

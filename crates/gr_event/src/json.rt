@@ -1,6 +1,6 @@
 //! Events from JSON and to JSON, by `serde_json`.
 
-ghost use Rattle.std.specs.Prelude.{◌≡◌, IfOk, IsUtf8, string_bytes, map};
+ghost use Rattle.std.specs.Prelude.{◌≡◌, Ok, IfOk, IsUtf8, string_bytes, map};
 ghost use Rattle.std.specs.List.{AllByRecursion};
 ghost use Rattle.serde_json.specs.View.{view, members_view};
 ghost use Rattle.gr_event.specs.Gives.{Gives, GivesPairs};
@@ -58,7 +58,8 @@ impl Event {
 
     /// Its compact JSON text: `{"name":value,...}` without spaces, names rising.
     pub fn json(&self, alloc: Global) -> Result<Text, Memory>
-        ensures { IfOk result (λ t. t ≡ json_text self.now) }
+        ensures text { IfOk result (λ t. t ≡ json_text self.now) }
+        ensures reads_back { IfOk result (λ t. event_text t ≡ Ok self.now) }
     {
         let map = json_map(alloc, self.pairs())?;
         let text = Json::Object(map).to_vec(alloc)?;

@@ -1,8 +1,12 @@
 //! Events: what publishers publish, as a list of names and values, rising by name.
 #![tactic(auto)]
 
+pub mod decode;
+pub mod encode;
 pub mod event;
 pub mod json;
+#[cfg(test)]
+mod tests;
 pub mod text;
 pub mod value;
 

@@ -1,5 +1,5 @@
 -- The order of the knowledge values, and its laws
-use Rattle.std.specs.Prelude.{◌≡◌, ◌↔◌, ◌⊎◌, IsTrue, ℕ, Bool, true, false, cond, List, [], ◌∷◌, refl}
+use Rattle.std.specs.Prelude.{◌≡◌, ◌↔◌, ◌⊎◌, IsTrue, Bool, true, false, refl}
 use Rattle.gr_tick.specs.Laws.{LatticeLaws}
 use Rattle.gr_event.specs.Event.{same_event}
 use Rattle.gr_event.specs.declared.event.Event.{Event}

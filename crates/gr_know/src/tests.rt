@@ -1,58 +1,58 @@
+ghost use Rattle.std.specs.Prelude.{◌≤◌, ◌^◌};
+
 use crate::knowledge::Know;
 use crate::values::K;
-use gr_event::Event;
-use std::test::Fail;
 use gr_tick::{Lattice, Piece, Run};
+use std::alloc::Global;
+use std::test::Fail;
+
+/// One run of silence, or of what is final.
+fn piece_of(alloc: Global, first: u64, last: u64, is_final: bool) -> Result<Piece<K>, Fail>
+    requires from_one { 1 ≤ first }
+    requires ordered { first ≤ last }
+    requires upto { last ≤ 2 ^ 62 }
+{
+    let mut piece = Piece::new(alloc);
+    let value = if is_final { K::F } else { K::S };
+    piece.push(Run { first, last, value })?;
+    Ok(piece)
+}
 
 #[test]
 fn learns_what_is_new(rt: HostRuntime) -> Result<(), Fail> {
     let mut know = Know::new(rt.alloc());
-    let mut first = Piece::new(rt.alloc());
-    first.push(Run {
-        first: 1,
-        last: 5,
-        value: K::S,
-    })?;
-    let _ = know.learn(&first)?;
-    let mut second = Piece::new(rt.alloc());
-    second.push(Run {
-        first: 4,
-        last: 8,
-        value: K::S,
-    })?;
-    let fresh = know.learn(&second)?;
+    let _ = know.learn(&piece_of(rt.alloc(), 1, 5, false)?)?;
+    let fresh = know.learn(&piece_of(rt.alloc(), 4, 8, false)?)?;
     assert_eq!(rt; fresh.len(), 1);
     assert_eq!(rt; fresh.run(0).first, 6);
     assert_eq!(rt; fresh.run(0).last, 8);
+    assert!(rt; fresh.run(0).value.same(&K::S));
     assert_eq!(rt; know.horizon_from(0), 8);
+    assert_eq!(rt; know.top(), 8);
     Ok(())
 }
 
 #[test]
-fn finds_the_clash(rt: HostRuntime) -> Result<(), Fail> {
+fn silence_and_final_do_not_clash(rt: HostRuntime) -> Result<(), Fail> {
     let mut know = Know::new(rt.alloc());
-    let mut kept = Piece::new(rt.alloc());
-    kept.push(Run {
-        first: 3,
-        last: 3,
-        value: K::S,
-    })?;
-    let _ = know.learn(&kept)?;
-    let mut came = Piece::new(rt.alloc());
-    came.push(Run {
-        first: 3,
-        last: 3,
-        value: K::D(Event::new(b"e")),
-    })?;
-    let clash = know.clash(&came).ok_or("no clash")?;
-    assert_eq!(rt; clash.tick, 3);
-    assert!(rt; clash.kept.same(&K::S));
-    let mut last = Piece::new(rt.alloc());
-    last.push(Run {
-        first: 3,
-        last: 3,
-        value: K::F,
-    })?;
-    assert!(rt; know.clash(&last).is_none());
+    let _ = know.learn(&piece_of(rt.alloc(), 3, 3, false)?)?;
+    assert!(rt; know.clash(&piece_of(rt.alloc(), 3, 3, true)?).is_none());
+    Ok(())
+}
+
+#[test]
+fn finishes_and_cuts(rt: HostRuntime) -> Result<(), Fail> {
+    let mut know = Know::new(rt.alloc());
+    let _ = know.learn(&piece_of(rt.alloc(), 1, 9, false)?)?;
+    know.finish(4, 5)?;
+    know.forget(0, 9)?;
+    let copy = know.copy()?;
+    assert_eq!(rt; copy.len(), 3);
+    assert_eq!(rt; copy.run(1).first, 4);
+    assert_eq!(rt; copy.run(1).last, 5);
+    assert!(rt; copy.at(5).same(&K::F));
+    let piece = know.piece(5, 6)?;
+    assert_eq!(rt; piece.len(), 2);
+    assert!(rt; piece.run(1).value.same(&K::S));
     Ok(())
 }

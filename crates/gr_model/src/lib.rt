@@ -5,6 +5,7 @@
 mod lines;
 pub mod print;
 pub mod report;
+pub mod theorems;
 mod words;
 
 pub use print::{Memory, PutFault, put};

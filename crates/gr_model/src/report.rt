@@ -200,11 +200,11 @@ impl Reports {
     }
 
     /// Puts a line at the end. At want of memory the list stays as it was, and the line is dropped.
-    pub fn push(&mut self, report: Report) -> Result<(), AllocError>
-        ensures ok { OnOk result (self.new ≡ self.old ++ report ∷ []) }
+    pub fn push(&mut self, line: Report) -> Result<(), AllocError>
+        ensures ok { OnOk result (self.new ≡ self.old ++ line ∷ []) }
         ensures err { OnErr result (self.new ≡ self.old) }
     {
-        self.lines.push(report)?;
+        self.lines.push(line)?;
         Ok(())
     }
 
@@ -215,7 +215,7 @@ impl Reports {
         self.lines.len()
     }
 
-    /// The lines, in order.
+    /// Its lines, in order.
     pub fn as_slice(&self) -> &[Report]
         ensures { result.now ≡ self.now }
     {

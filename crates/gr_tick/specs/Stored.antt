@@ -2,6 +2,7 @@
 use Rattle.std.specs.Prelude.{◌≡◌, ◌≢◌, ℕ, ◌+◌, ◌^◌, ◌<◌, ◌≤◌, ◌==◌, Bool, not, ◌&&◌, nat_le, nat_lt, cond, List, [], ◌∷◌}
 use Rattle.std.specs.List.{count_by}
 use Rattle.gr_tick.specs.declared.run.Run.{Run}
+use Rattle.gr_tick.specs.Runs.{value_at, AreRuns}
 
 -- whether a tick lies in a range
 abbrev pub within : ℕ → ℕ → ℕ → Bool
@@ -46,6 +47,17 @@ module _ {V : Type 0} where
   abbrev pub EndBefore : List (Run V) → ℕ → Type 0
   EndBefore [] t = Unit {0}
   EndBefore (r ∷ rs) t = (r.last < t) × EndBefore rs t
+
+  -- canonical runs of ticks in range, with a function's value at each tick
+  pub record RunsGive (least : V) (rs : List (Run V)) (g : ℕ → V) : Type 0 where
+    pub canonical : AreRuns least rs
+    pub in_range : EndBefore rs (2 ^ 62 + 1)
+    pub values : (t : ℕ) → value_at least rs t ≡ g t
+
+  -- each run begins by the tick
+  abbrev pub BeginBy : List (Run V) → ℕ → Type 0
+  BeginBy [] t = Unit {0}
+  BeginBy (r ∷ rs) t = (r.first ≤ t) × BeginBy rs t
 
   -- each run begins after the tick
   abbrev pub BeginAfter : List (Run V) → ℕ → Type 0

@@ -1,13 +1,31 @@
 //! Edits of a vector of runs. None takes memory: where one may leave more runs, it asks for the room.
-ghost use Rattle.std.specs.Prelude.{if◌then◌else◌, IfSome, ◌≡◌, ◌≢◌, ℕ, ◌+◌, ◌-◌, ◌<◌, ◌≤◌, ◌&&◌, nat_le, cond, List, [], ◌∷◌, ◌++◌, length, take, drop, insert, ◌^◌, ◌⊎◌};
+ghost use Rattle.std.specs.Prelude.{if◌then◌else◌, IfSome, IfOk, ◌≡◌, ◌≢◌, ℕ, ◌+◌, ◌-◌, ◌<◌, ◌≤◌, ◌&&◌, nat_le, cond, List, [], ◌∷◌, ◌++◌, length, take, drop, insert, ◌^◌, ◌⊎◌};
 ghost use Rattle.std.specs.List.{HoldsAt};
 ghost use Rattle.std.specs.Vec.{vec_len, vec_capacity};
 ghost use Rattle.gr_tick.specs.Runs.{value_at, is_in};
-ghost use Rattle.gr_tick.specs.Stored.{IsRun, AreTickRuns, EndBefore, BeginAfter, part, room, growth, within, between, runs_in, needed};
+ghost use Rattle.gr_tick.specs.Stored.{IsRun, AreTickRuns, EndBefore, BeginBy, BeginAfter, part, room, growth, within, between, runs_in, needed};
 
 use crate::MAX_TICK;
-use crate::lattice::Lattice;
+use crate::lattice::{Lattice, is_bottom};
 use crate::run::Run;
+use std::alloc::{AllocError, Global};
+
+/// Equal runs, or `AllocError`.
+pub fn copy_runs<V: Lattice>(alloc: Global, runs: &[Run<V>]) -> Result<Vec<Run<V>>, AllocError>
+    ensures { IfOk result (λ copy. copy.items ≡ runs.now) }
+{
+    let mut copy = Vec::new(alloc);
+    copy.reserve(runs.len())?;
+    for i in 0..runs.len() {
+        let run = &runs[i];
+        copy.push(Run {
+            first: run.first,
+            last: run.last,
+            value: run.value.share(),
+        })?;
+    }
+    Ok(copy)
+}
 
 /// Inserts a run where there is room.
 fn insert_run<V: Lattice>(runs: &mut Vec<Run<V>>, i: usize, run: Run<V>)
@@ -54,18 +72,42 @@ fn insert_part<V: Lattice>(
 }
 
 /// Where the runs that end at a tick or later begin.
-#[tactic(auto, using(crate::proofs::RunsLemmas::seek_steps))]
-fn seek<V: Lattice>(runs: &[Run<V>], tick: u64) -> usize
+pub fn seek<V: Lattice>(runs: &[Run<V>], tick: u64) -> usize
+    requires { AreTickRuns V.least runs.now }
     ensures within { result ≤ length runs.now }
     ensures front { EndBefore (take result runs.now) tick }
     ensures here { (r : Run V) (rs : List (Run V)) → drop result runs.now ≡ r ∷ rs → tick ≤ r.last }
 {
-    for (i, run) in runs.iter().enumerate() {
-        if tick <= run.last {
-            return i;
+    let mut low = 0;
+    let mut high = runs.len();
+    while low < high {
+        let middle = low + (high - low) / 2;
+        let run = &runs[middle];
+        if run.last < tick {
+            low = middle + 1;
+        } else {
+            high = middle;
         }
     }
-    runs.len()
+    low
+}
+
+/// How many runs begin by a tick.
+pub fn begun_by<V: Lattice>(runs: &[Run<V>], tick: u64) -> usize
+    requires { AreTickRuns V.least runs.now }
+    ensures within { result ≤ length runs.now }
+    ensures front { BeginBy (take result runs.now) tick }
+    ensures ahead { BeginAfter (drop result runs.now) tick }
+{
+    let i = seek(runs, tick);
+    if i == runs.len() {
+        return i;
+    }
+    let run = &runs[i];
+    if tick < run.first {
+        return i;
+    }
+    i + 1
 }
 
 /// Joins the run before a place to a run that begins past it, where they form one run: removes it, and answers the place
@@ -304,23 +346,28 @@ pub fn join_over<V: Lattice>(runs: &mut Vec<Run<V>>, first: u64, last: u64, valu
 
 /// The value at a tick.
 pub fn value_in<V: Lattice>(runs: &[Run<V>], tick: u64) -> V
+    requires { AreTickRuns V.least runs.now }
     ensures { result ≡ value_at V.least runs.now tick }
 {
-    for run in runs {
-        if run.first <= tick && tick <= run.last {
-            return run.value.share();
-        }
+    let i = seek(runs, tick);
+    if i == runs.len() {
+        return V::bottom();
     }
-    V::bottom()
+    let run = &runs[i];
+    if tick < run.first {
+        return V::bottom();
+    }
+    run.value.share()
 }
 
 /// How many runs have a tick of a range.
 pub fn count_in<V: Lattice>(runs: &[Run<V>], first: u64, last: u64) -> usize
+    requires { AreTickRuns V.least runs.now }
     ensures { result ≡ runs_in first last runs.now }
 {
-    runs.iter()
-        .filter(|run| run.first <= last && first <= run.last)
-        .count()
+    let begin = seek(runs, first);
+    let end = begun_by(runs, last);
+    end.saturating_sub(begin)
 }
 
 /// The tick after a run that has the tick, and else the tick.
@@ -345,10 +392,26 @@ pub fn next_bottom<V: Lattice>(runs: &[Run<V>], tick: u64) -> u64
     ensures least { (t : ℕ) → tick ≤ t → t < result → value_at V.least runs.now t ≢ V.least }
 {
     let mut next = tick;
-    for run in runs {
+    for i in seek(runs, tick)..runs.len() {
+        let run = &runs[i];
+        if next < run.first {
+            return next;
+        }
         next = after_run(run, next);
     }
     next
+}
+
+/// Takes the first ticks of the run at a place out, up to one of them.
+pub fn lower_front<V: Lattice>(runs: &mut Vec<Run<V>>, i: usize, last: u64)
+    requires within { i < vec_len runs.old }
+    requires runs { AreTickRuns V.least runs.old.items }
+    requires holds { HoldsAt (λ r. (r.first ≤ last) × (last ≤ r.last)) runs.old.items i }
+    ensures items { HoldsAt (λ r. runs.new.items ≡ take i runs.old.items ++ (part (last + 1) r.last r.value ++ drop (i + 1) runs.old.items)) runs.old.items i }
+    ensures runs { AreTickRuns V.least runs.new.items }
+{
+    let run = runs.remove(i);
+    insert_part(runs, i, last + 1, run.last, &run.value);
 }
 
 /// Takes a part of the run at a place out.
@@ -360,7 +423,8 @@ fn lower_run<V: Lattice>(runs: &mut Vec<Run<V>>, i: usize, first: u64, last: u64
     requires ordered { first ≤ last }
     ensures runs { AreTickRuns V.least runs.new.items }
     ensures values { (t : ℕ) → value_at V.least runs.new.items t ≡ (if within first last t then V.least else value_at V.least runs.old.items t) }
-    ensures len { HoldsAt (λ r. last ≡ r.last → vec_len runs.new ≤ vec_len runs.old) runs.old.items i }
+    ensures kept { HoldsAt (λ r. last ≡ r.last → vec_len runs.new ≤ vec_len runs.old) runs.old.items i }
+    ensures len { vec_len runs.new ≤ vec_len runs.old + 1 }
     ensures capacity { vec_capacity runs.old ≤ vec_capacity runs.new }
 {
     let run = runs.remove(i);
@@ -376,7 +440,9 @@ fn lower_step<V: Lattice>(runs: &mut Vec<Run<V>>, first: u64, last: u64) -> u64
     ensures inside { result ≤ last }
     ensures runs { AreTickRuns V.least runs.new.items }
     ensures values { (t : ℕ) → value_at V.least runs.new.items t ≡ (if within first result t then V.least else value_at V.least runs.old.items t) }
-    ensures room { result < last → vec_len runs.new < vec_capacity runs.new }
+    ensures kept { result < last → vec_len runs.new ≤ vec_len runs.old }
+    ensures len { vec_len runs.new ≤ vec_len runs.old + 1 }
+    ensures capacity { vec_capacity runs.old ≤ vec_capacity runs.new }
 {
     let i = seek(runs, first);
     if i == runs.len() {
@@ -406,6 +472,8 @@ pub fn lower_over<V: Lattice>(runs: &mut Vec<Run<V>>, first: u64, last: u64)
     requires upto { last ≤ 2 ^ 62 }
     ensures runs { AreTickRuns V.least runs.new.items }
     ensures values { (t : ℕ) → value_at V.least runs.new.items t ≡ (if within first last t then V.least else value_at V.least runs.old.items t) }
+    ensures len { vec_len runs.new ≤ vec_len runs.old + 1 }
+    ensures capacity { vec_capacity runs.old ≤ vec_capacity runs.new }
 {
     let mut next = first;
     while next <= last {
@@ -413,13 +481,34 @@ pub fn lower_over<V: Lattice>(runs: &mut Vec<Run<V>>, first: u64, last: u64)
     }
 }
 
-/// A tick up to which the value stays that of `tick`.
+/// Puts a value on a range.
+pub fn set_over<V: Lattice>(runs: &mut Vec<Run<V>>, first: u64, last: u64, value: &V)
+    requires room { vec_len runs.old + 2 ≤ vec_capacity runs.old }
+    requires runs { AreTickRuns V.least runs.old.items }
+    requires from_one { 1 ≤ first }
+    requires ordered { first ≤ last }
+    requires upto { last ≤ 2 ^ 62 }
+    ensures runs { AreTickRuns V.least runs.new.items }
+    ensures values { (t : ℕ) → value_at V.least runs.new.items t ≡ (if within first last t then value.now else value_at V.least runs.old.items t) }
+    ensures len { vec_len runs.new ≤ vec_len runs.old + 2 }
+    ensures capacity { vec_capacity runs.old ≤ vec_capacity runs.new }
+{
+    lower_over(runs, first, last);
+    if is_bottom(value) {
+        return;
+    }
+    let i = seek(runs, first);
+    join_gap(runs, i, first, last, value);
+}
+
+/// The greatest tick up to which the value stays that of `tick`.
 pub fn steady_until<V: Lattice>(runs: &[Run<V>], tick: u64) -> u64
     requires runs { AreTickRuns V.least runs.now }
     requires upto { tick ≤ 2 ^ 62 }
     ensures forward { tick ≤ result }
     ensures inside { result ≤ 2 ^ 62 }
     ensures steady { (t : ℕ) → tick ≤ t → t ≤ result → value_at V.least runs.now t ≡ value_at V.least runs.now tick }
+    ensures greatest { result < 2 ^ 62 → value_at V.least runs.now (result + 1) ≢ value_at V.least runs.now tick }
 {
     let i = seek(runs, tick);
     if i == runs.len() {
@@ -434,6 +523,7 @@ pub fn steady_until<V: Lattice>(runs: &[Run<V>], tick: u64) -> u64
 
 /// The room that is enough to join each run of a list, if it is a number of the machine's.
 pub fn room_for<V: Lattice>(runs: &[Run<V>], others: &[Run<V>]) -> Option<usize>
+    requires { AreTickRuns V.least runs.now }
     ensures { IfSome result (λ n. n ≡ needed runs.now others.now) }
 {
     let mut room = 0usize;

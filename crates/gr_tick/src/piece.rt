@@ -1,8 +1,8 @@
-ghost use Rattle.std.specs.Prelude.{if◌then◌else◌, ◌≡◌, ℕ, ◌<◌, ◌≤◌, ◌^◌, List, [], ◌∷◌, ◌++◌, length, slice_get, Some, OnOk, OnErr, min, max};
-ghost use Rattle.gr_tick.specs.Runs.{value_at, is_in};
-ghost use Rattle.gr_tick.specs.Stored.{within, IsRun, AreTickRuns, EndBefore};
+ghost use Rattle.std.specs.Prelude.{if◌then◌else◌, ◌≡◌, ◌≢◌, ◌↔◌, IsTrue, ℕ, ◌+◌, ◌<◌, ◌≤◌, ◌^◌, List, [], ◌∷◌, ◌++◌, length, slice_get, Some, OnOk, OnErr, IfOk, min, max};
+ghost use Rattle.gr_tick.specs.Runs.{value_at, is_in, AreRuns};
+ghost use Rattle.gr_tick.specs.Stored.{within, IsRun, AreTickRuns, EndBefore, RunsGive};
 
-use crate::edits::{put_run, steady_until, value_in};
+use crate::edits::{copy_runs, put_run, steady_until, value_in};
 use crate::lattice::Lattice;
 use crate::run::Run;
 use std::alloc::{AllocError, Global};
@@ -27,6 +27,7 @@ impl<V: Lattice> Model for Piece<V> {
 }
 
 impl<V: Lattice> Piece<V> {
+    /// The piece with no run.
     pub fn new(alloc: Global) -> Piece<V>
         ensures { result ≡ [] }
     {
@@ -35,11 +36,19 @@ impl<V: Lattice> Piece<V> {
         }
     }
 
-    /// Adds a run past the last one, and joins it to that where the two form one run.
+    /// An equal piece, or `Memory`.
+    pub fn copy(&self) -> Result<Piece<V>, AllocError>
+        ensures { IfOk result (λ piece. piece ≡ self.now) }
+    {
+        let runs = copy_runs(*self.runs.allocator(), &self.runs)?;
+        Ok(Piece { runs })
+    }
+
+    /// Adds a run past the last one, and joins it to that where the two form one run. `Memory` leaves the piece as it was.
     pub fn push(&mut self, run: Run<V>) -> Result<(), AllocError>
         requires alone { IsRun V.least run }
         requires past { EndBefore self.old run.first }
-        ensures values { OnOk result ((t : ℕ) → value_at V.least self.new t ≡ (if is_in t run then run.value else value_at V.least self.old t)) }
+        ensures ok { OnOk result (RunsGive V.least self.new (λ t. if is_in t run then run.value else value_at V.least self.old t)) }
         ensures past { OnOk result ((t : ℕ) → run.last < t → EndBefore self.new t) }
         ensures err { OnErr result (self.new ≡ self.old) }
     {
@@ -49,15 +58,16 @@ impl<V: Lattice> Piece<V> {
         Ok(())
     }
 
-    /// Adds what a run past the last one has in a range.
+    /// Adds what a run past the last one has in a range. `Memory` leaves the piece as it was.
     pub fn push_cut(&mut self, run: &Run<V>, first: u64, last: u64) -> Result<(), AllocError>
         requires from_one { 1 ≤ first }
         requires alone { IsRun V.least run.now }
         requires past { EndBefore self.old run.now.first }
-        ensures values { OnOk result ((t : ℕ) → value_at V.least self.new t ≡ (if within (max first run.now.first) (min last run.now.last) t then run.now.value else value_at V.least self.old t)) }
+        ensures ok { OnOk result (RunsGive V.least self.new (λ t. if within (max first run.now.first) (min last run.now.last) t then run.now.value else value_at V.least self.old t)) }
         ensures past { OnOk result ((t : ℕ) → run.now.last < t → EndBefore self.new t) }
         ensures err { OnErr result (self.new ≡ self.old) }
     {
+        let _ = &self.runs;
         let from = first.max(run.first);
         let upto = last.min(run.last);
         if from > upto {
@@ -78,16 +88,27 @@ impl<V: Lattice> Piece<V> {
         &self.runs
     }
 
+    /// How many runs it has. They are canonical, and none ends past `MAX_TICK`.
     pub fn len(&self) -> usize
         ensures len { result ≡ length self.now }
-        ensures runs { AreTickRuns V.least self.now }
+        ensures canonical { AreRuns V.least self.now }
+        ensures in_range { EndBefore self.now (2 ^ 62 + 1) }
     {
         self.runs.len()
     }
 
+    /// Whether each tick has the least value.
+    pub fn is_empty(&self) -> bool
+        ensures { IsTrue result ↔ (self.now ≡ []) }
+    {
+        self.runs.is_empty()
+    }
+
+    /// The run at a place.
     pub fn run(&self, i: usize) -> &Run<V>
         requires { i < length self.now }
-        ensures { slice_get self.now i ≡ Some result.now }
+        ensures run { slice_get self.now i ≡ Some result.now }
+        ensures alone { IsRun V.least result.now }
     {
         &self.runs[i]
     }
@@ -99,12 +120,13 @@ impl<V: Lattice> Piece<V> {
         value_in(&self.runs, tick)
     }
 
-    /// A tick up to which the value stays that of `tick`.
+    /// The greatest tick up to which the value stays that of `tick`.
     pub fn steady_until(&self, tick: u64) -> u64
         requires { tick ≤ 2 ^ 62 }
         ensures forward { tick ≤ result }
         ensures inside { result ≤ 2 ^ 62 }
         ensures steady { (t : ℕ) → tick ≤ t → t ≤ result → value_at V.least self.now t ≡ value_at V.least self.now tick }
+        ensures greatest { result < 2 ^ 62 → value_at V.least self.now (result + 1) ≢ value_at V.least self.now tick }
     {
         steady_until(&self.runs, tick)
     }

@@ -1,9 +1,11 @@
-ghost use Rattle.std.specs.Prelude.{if◌then◌else◌, ◌≡◌, ◌≢◌, ℕ, ◌+◌, ◌^◌, ◌<◌, ◌≤◌, [], length, OnOk, OnErr, IfOk};
-ghost use Rattle.gr_tick.specs.Runs.{value_at};
-ghost use Rattle.gr_tick.specs.Stored.{runs_in, within};
+ghost use Rattle.std.specs.Prelude.{if◌then◌else◌, ◌≡◌, ◌≢◌, ℕ, ◌+◌, ◌^◌, ◌<◌, ◌≤◌, [], ◌∷◌, ◌++◌, length, take, drop, slice_get, Some, OnOk, OnErr, IfOk};
+ghost use Rattle.std.specs.List.{HoldsAt};
+ghost use Rattle.gr_tick.specs.Runs.{value_at, AreRuns, first_bottom_from, top_of};
+ghost use Rattle.gr_tick.specs.Stored.{runs_in, within, IsRun, AreTickRuns, EndBefore, RunsGive, part};
 
 use crate::edits::{
-    count_in, join_each, join_over, lower_over, next_bottom, room_for, steady_until, value_in,
+    begun_by, copy_runs, count_in, join_each, join_over, lower_front, lower_over, next_bottom,
+    room_for, seek, set_over, steady_until, value_in,
 };
 use crate::lattice::{Lattice, is_bottom};
 use crate::piece::Piece;
@@ -31,6 +33,7 @@ impl<V: Lattice> Model for Stream<V> {
 }
 
 impl<V: Lattice> Stream<V> {
+    /// The stream with no run.
     pub fn new(alloc: Global) -> Stream<V>
         ensures runs { result.runs ≡ [] }
         ensures spare { result.spare ≡ 0 }
@@ -40,6 +43,43 @@ impl<V: Lattice> Stream<V> {
         }
     }
 
+    /// A stream with equal runs, or `Memory`.
+    pub fn copy(&self) -> Result<Stream<V>, AllocError>
+        ensures { IfOk result (λ stream. stream.runs ≡ self.now.runs) }
+    {
+        let runs = copy_runs(*self.runs.allocator(), &self.runs)?;
+        Ok(Stream { runs })
+    }
+
+    /// How many runs it has. They are canonical, and none ends past `MAX_TICK`.
+    pub fn len(&self) -> usize
+        ensures len { result ≡ length self.now.runs }
+        ensures canonical { AreRuns V.least self.now.runs }
+        ensures in_range { EndBefore self.now.runs (2 ^ 62 + 1) }
+    {
+        self.runs.len()
+    }
+
+    /// The run at a place.
+    pub fn run(&self, i: usize) -> &Run<V>
+        requires { i < length self.now.runs }
+        ensures run { slice_get self.now.runs i ≡ Some result.now }
+        ensures alone { IsRun V.least result.now }
+    {
+        &self.runs[i]
+    }
+
+    /// The greatest tick of a run, or 0.
+    pub fn top(&self) -> u64
+        ensures { result ≡ top_of self.now.runs }
+    {
+        let count = self.runs.len();
+        if count == 0 {
+            return 0;
+        }
+        self.runs[count - 1].last
+    }
+
     /// The value at a tick.
     pub fn at(&self, tick: u64) -> V
         ensures { result ≡ value_at V.least self.now.runs tick }
@@ -47,12 +87,13 @@ impl<V: Lattice> Stream<V> {
         value_in(&self.runs, tick)
     }
 
-    /// A tick up to which the value stays that of `tick`.
+    /// The greatest tick up to which the value stays that of `tick`.
     pub fn steady_until(&self, tick: u64) -> u64
         requires { tick ≤ 2 ^ 62 }
         ensures forward { tick ≤ result }
         ensures inside { result ≤ 2 ^ 62 }
         ensures steady { (t : ℕ) → tick ≤ t → t ≤ result → value_at V.least self.now.runs t ≡ value_at V.least self.now.runs tick }
+        ensures greatest { result < 2 ^ 62 → value_at V.least self.now.runs (result + 1) ≢ value_at V.least self.now.runs tick }
     {
         steady_until(&self.runs, tick)
     }
@@ -64,7 +105,7 @@ impl<V: Lattice> Stream<V> {
         count_in(&self.runs, first, last)
     }
 
-    /// Makes room for `n` runs more.
+    /// Makes room for `n` runs more. `Memory` leaves the stream as it was.
     pub fn reserve(&mut self, n: usize) -> Result<(), AllocError>
         ensures runs { self.new.runs ≡ self.old.runs }
         ensures spare { OnOk result (n ≤ self.new.spare) }
@@ -80,19 +121,20 @@ impl<V: Lattice> Stream<V> {
         requires ordered { first ≤ last }
         requires upto { last ≤ 2 ^ 62 }
         requires room { runs_in first last self.old.runs + 1 ≤ self.old.spare }
-        ensures values { (t : ℕ) → value_at V.least self.new.runs t ≡ (if within first last t then V.join_of (value_at V.least self.old.runs t) value else value_at V.least self.old.runs t) }
+        ensures joined { RunsGive V.least self.new.runs (λ t. if within first last t then V.join_of (value_at V.least self.old.runs t) value else value_at V.least self.old.runs t) }
         ensures spare { self.old.spare ≤ self.new.spare + (runs_in first last self.old.runs + 1) }
         ensures later { (f l : ℕ) → last < f → f ≤ l → runs_in f l self.new.runs ≤ runs_in f l self.old.runs }
     {
+        let _ = &self.runs;
         if is_bottom(&value) {
             return;
         }
         join_over(&mut self.runs, first, last, &value);
     }
 
-    /// Joins a piece, tick by tick.
+    /// Joins a piece, tick by tick. `Memory` leaves the stream as it was.
     pub fn join_piece(&mut self, piece: &Piece<V>) -> Result<(), AllocError>
-        ensures values { OnOk result ((t : ℕ) → value_at V.least self.new.runs t ≡ V.join_of (value_at V.least self.old.runs t) (value_at V.least piece.now t)) }
+        ensures joined { OnOk result (RunsGive V.least self.new.runs (λ t. V.join_of (value_at V.least self.old.runs t) (value_at V.least piece.now t))) }
         ensures err { OnErr result (self.new ≡ self.old) }
     {
         let others = piece.runs();
@@ -104,12 +146,24 @@ impl<V: Lattice> Stream<V> {
         Ok(())
     }
 
-    /// Puts the least value at each tick of the range.
+    /// Puts the value at each tick of the range, whatever was there. Takes no memory.
+    pub fn set_range(&mut self, first: u64, last: u64, value: V)
+        requires from_one { 1 ≤ first }
+        requires ordered { first ≤ last }
+        requires upto { last ≤ 2 ^ 62 }
+        requires room { 2 ≤ self.old.spare }
+        ensures put { RunsGive V.least self.new.runs (λ t. if within first last t then value else value_at V.least self.old.runs t) }
+        ensures spare { self.old.spare ≤ self.new.spare + 2 }
+    {
+        set_over(&mut self.runs, first, last, &value);
+    }
+
+    /// Puts the least value at each tick of the range. `Memory` leaves the stream as it was.
     pub fn lower_range(&mut self, first: u64, last: u64) -> Result<(), AllocError>
         requires from_one { 1 ≤ first }
         requires ordered { first ≤ last }
         requires upto { last ≤ 2 ^ 62 }
-        ensures values { OnOk result ((t : ℕ) → value_at V.least self.new.runs t ≡ (if within first last t then V.least else value_at V.least self.old.runs t)) }
+        ensures lowered { OnOk result (RunsGive V.least self.new.runs (λ t. if within first last t then V.least else value_at V.least self.old.runs t)) }
         ensures err { OnErr result (self.new ≡ self.old) }
     {
         self.runs.reserve(1)?;
@@ -117,29 +171,56 @@ impl<V: Lattice> Stream<V> {
         Ok(())
     }
 
+    /// Puts the least value at the first ticks of a run, up to one of them. Takes no memory.
+    pub fn lower_front(&mut self, i: usize, last: u64)
+        requires within { i < length self.old.runs }
+        requires holds { HoldsAt (λ r. (r.first ≤ last) × (last ≤ r.last)) self.old.runs i }
+        ensures { HoldsAt (λ r. self.new.runs ≡ take i self.old.runs ++ (part (last + 1) r.last r.value ++ drop (i + 1) self.old.runs)) self.old.runs i }
+    {
+        lower_front(&mut self.runs, i, last);
+    }
+
     /// The least tick from `tick` on with the least value, or `MAX_TICK + 1`.
     pub fn first_bottom_from(&self, tick: u64) -> u64
         requires from_one { 1 ≤ tick }
         requires upto { tick ≤ 2 ^ 62 + 1 }
+        ensures first { result ≡ first_bottom_from self.now.runs tick }
         ensures forward { tick ≤ result }
         ensures inside { result ≤ 2 ^ 62 + 1 }
         ensures bottom { value_at V.least self.now.runs result ≡ V.least }
-        ensures least { (t : ℕ) → tick ≤ t → t < result → value_at V.least self.now.runs t ≢ V.least }
+        ensures known { (t : ℕ) → tick ≤ t → t < result → value_at V.least self.now.runs t ≢ V.least }
     {
         next_bottom(&self.runs, tick)
     }
 
-    /// The runs of a range, cut at its ends.
+    /// The runs of a range, cut at its ends, or `Memory`.
     pub fn piece(&self, first: u64, last: u64) -> Result<Piece<V>, AllocError>
         requires from_one { 1 ≤ first }
         requires ordered { first ≤ last }
         requires upto { last ≤ 2 ^ 62 }
-        ensures { IfOk result (λ p. (t : ℕ) → value_at V.least p t ≡ (if within first last t then value_at V.least self.now.runs t else V.least)) }
+        ensures { IfOk result (λ piece. RunsGive V.least piece (λ t. if within first last t then value_at V.least self.now.runs t else V.least)) }
     {
-        let mut piece = Piece::new(*self.runs.allocator());
-        for run in &self.runs {
-            piece.push_cut(run, first, last)?;
-        }
-        Ok(piece)
+        piece_of(*self.runs.allocator(), &self.runs, first, last)
     }
+}
+
+/// The runs of a range, cut at its ends.
+fn piece_of<V: Lattice>(
+    alloc: Global,
+    runs: &[Run<V>],
+    first: u64,
+    last: u64,
+) -> Result<Piece<V>, AllocError>
+    requires runs { AreTickRuns V.least runs.now }
+    requires from_one { 1 ≤ first }
+    requires ordered { first ≤ last }
+    requires upto { last ≤ 2 ^ 62 }
+    ensures { IfOk result (λ piece. RunsGive V.least piece (λ t. if within first last t then value_at V.least runs.now t else V.least)) }
+{
+    let mut piece = Piece::new(alloc);
+    for i in seek(runs, first)..begun_by(runs, last) {
+        piece.push_cut(&runs[i], first, last)?;
+    }
+    let _ = piece.len();
+    Ok(piece)
 }

@@ -19,7 +19,7 @@ loop-next-preserved c =
       | then-not-is_bottom+in_ok-push w ↦ record {
         forward = omega arith;
         inside = omega arith;
-        values = λ t. ap (λ p. value_at N p t) w.due-is ∙ walk_push 1 c.loop-next.next c.min-end.result t _ c.due_value-value.result _ _ N c.loop-next.invariant.forward (omega arith) (c.loop-next.invariant.values t) (w.in_ok-push.ensures.values t) (told t);
+        values = λ t. ap (λ p. value_at N p t) w.due-is ∙ walk_push 1 c.loop-next.next c.min-end.result t _ c.due_value-value.result _ _ N c.loop-next.invariant.forward (omega arith) (c.loop-next.invariant.values t) (w.in_ok-push.ensures.ok.values t) (told t);
         past = subst (λ p. EndBefore p (c.min-end.result + 1)) (sym w.due-is) (w.in_ok-push.ensures.past (c.min-end.result + 1) (omega arith));
       }
       | else-not-is_bottom w ↦ record {

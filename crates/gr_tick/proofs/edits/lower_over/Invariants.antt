@@ -1,4 +1,4 @@
-use Rattle.std.proofs.Common.{◌≡◌, ℕ, ◌+◌, ◌-◌, ◌<◌, ◌≤◌, cond}
+use Rattle.std.proofs.Common.{◌≡◌, ℕ, ◌+◌, ◌-◌, ◌≤◌, cond}
 use Rattle.std.specs.Vec.{vec_len, vec_capacity}
 use Rattle.gr_tick.specs.Runs.{value_at}
 use Rattle.gr_tick.specs.Stored.{AreTickRuns, between}
@@ -13,7 +13,9 @@ invariant-loop-next g l =
       inside : l.next ≤ l.last + 1;
       runs : AreTickRuns least l.runs.items;
       values : (t : ℕ) → value_at least l.runs.items t ≡ cond (between l.first l.next t) least (value_at least l.fn.runs.items t);
-      room : l.next ≤ l.last → vec_len l.runs < vec_capacity l.runs;
+      kept : l.next ≤ l.last → vec_len l.runs ≤ vec_len l.fn.runs;
+      len : vec_len l.runs ≤ vec_len l.fn.runs + 1;
+      capacity : vec_capacity l.fn.runs ≤ vec_capacity l.runs;
     }
 
 abbrev pub decreases-loop-next : goal.decreases-loop-next

@@ -1,5 +1,7 @@
 use Rattle.std.proofs.Common.{arith}
+use Rattle.gr_tick.proofs.EditLemmas.{drop_read}
 use Rattle.gr_tick.proofs.StepLemmas.{ahead_at, ahead_none, gap_steady, read_alone, run_steady}
+use Rattle.gr_tick.proofs.SteadyLemmas.{gap_changes, run_changes}
 use Rattle.gr_tick.proofs.edits.steady_until.Goals as goal
 
 pub returns-then-i-runs-clause-steady : goal.returns-then-i-runs-clause-steady
@@ -21,3 +23,11 @@ returns-clause-inside g c = (read_alone g.V.Lattice.least c.args.runs.now c.seek
 pub returns-clause-steady : goal.returns-clause-steady
 returns-clause-steady g c = λ t lo hi.
     run_steady g.V.Lattice.least c.args.runs.now c.seek-i.result c.args.tick t c.index-runs-i.result (omega arith) c.index-runs-i.is c.requires.runs (omega arith) lo hi
+
+pub returns-then-tick-run-clause-greatest : goal.returns-then-tick-run-clause-greatest
+returns-then-tick-run-clause-greatest g c = λ lt.
+    gap_changes g.V.Lattice.least c.args.runs.now c.seek-i.result c.args.tick _ c.index-runs-i.result (omega arith) c.index-runs-i.is c.requires.runs c.seek-i.ensures.front (omega arith) (omega arith)
+
+pub returns-clause-greatest : goal.returns-clause-greatest
+returns-clause-greatest g c = λ lt.
+    run_changes g.V.Lattice.least c.args.runs.now c.seek-i.result c.args.tick c.index-runs-i.result (omega arith) c.index-runs-i.is c.requires.runs (omega arith) (c.seek-i.ensures.here _ _ (drop_read c.args.runs.now c.seek-i.result c.index-runs-i.result (omega arith) c.index-runs-i.is))

@@ -14,7 +14,7 @@ loop-next-preserved c =
       | then-all_acknowledge+in_ok-push w ↦ record {
         forward = omega arith;
         inside = omega arith;
-        values = λ t. ap (λ p. value_at N p t) w.piece-is ∙ walk_push 1 c.loop-next.next c.agree_until-end.result t _ A _ _ N c.loop-next.invariant.forward c.agree_until-end.ensures.forward (c.loop-next.invariant.values t) (w.in_ok-push.ensures.values t)
+        values = λ t. ap (λ p. value_at N p t) w.piece-is ∙ walk_push 1 c.loop-next.next c.agree_until-end.result t _ A _ _ N c.loop-next.invariant.forward c.agree_until-end.ensures.forward (c.loop-next.invariant.values t) (w.in_ok-push.ensures.ok.values t)
             (λ lo hi. consolidated_all c.deref.result.now c.deref-in-loop-next.result.now c.args.self.now c.loop-next.next t c.all_acknowledge.result (c.deref.ensures.value ∙ c.self.view_is) (c.deref-in-loop-next.ensures.value ∙ c.self.view_is) (c.agree_until-end.ensures.steady t lo hi) c.all_acknowledge.ensures w.if-all_acknowledge.true);
         past = subst (λ p. EndBefore p (c.agree_until-end.result + 1)) (sym w.piece-is) (w.in_ok-push.ensures.past (c.agree_until-end.result + 1) (omega arith));
       }

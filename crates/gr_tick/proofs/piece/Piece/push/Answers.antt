@@ -1,7 +1,13 @@
 use Rattle.std.proofs.Common.{cond, ap, ◌∙◌}
 use Rattle.gr_tick.specs.Runs.{is_in, value_at}
+use Rattle.gr_tick.proofs.Canonical.{RunsGive-in_range}
 use Rattle.gr_tick.proofs.StepLemmas.{pushed_past}
 use Rattle.gr_tick.proofs.piece.Piece.push.Goals as goal
+
+pub returns-clause-ok : goal.returns-clause-ok
+returns-clause-ok g c =
+    RunsGive-in_range g.V.Lattice.least c.put_run.new.runs.items _ c.put_run.ensures.runs
+    (λ n. c.put_run.ensures.values n ∙ ap (λ zs. cond (is_in n c.args.run) c.args.run.value (value_at g.V.Lattice.least zs n)) (c.reserve.ensures.items ∙ c.self.view_is))
 
 pub returns-clause-past : goal.returns-clause-past
 returns-clause-past g c = λ t lt.

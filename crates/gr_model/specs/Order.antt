@@ -1,0 +1,47 @@
+-- The order of the cut lines of one publisher, and what stands before them
+use Rattle.std.specs.Prelude.{◌≡◌, ℕ, ◌≤◌, ◌<◌, true, List, [], ◌∷◌, ◌++◌, map, filter, Contains, Bool, false}
+use Rattle.gr_event.specs.declared.event.Event.{Event}
+use Rattle.gr_model.specs.declared.report.Report.{Report}
+use Rattle.gr_model.specs.declared.report.Report.TheVariants as line
+use Rattle.gr_model.specs.Net.{Net}
+use Rattle.gr_sched.specs.declared.step.Line.{Line}
+use Rattle.gr_sched.specs.declared.step.Step.{Step}
+use Rattle.gr_sched.specs.declared.step.Step.TheVariants as step
+use Rattle.gr_model.specs.Headline.{History, record_of, last_cut, last_horizon, IsDoubt, GetsExactly, is_record_line, record_lines, is_doubt_line, doubt_place, doubts_shown, after, begin}
+use Rattle.gr_model.specs.Tree.{IsSubscriber}
+
+-- discarded only after delivery, for one publisher: cuts rise strictly, none is past what is settled, and each event up to a cut was got before it by each subscriber that wants it
+pub record CutsInOrder (net : Net) (h : History) (p : ℕ) : Type 0 where
+  pub cuts : (t : ℕ) (xs ys : List Report) → h.lines ≡ xs ++ line.Cut p t ∷ ys → last_cut p 0 xs < t
+  pub cut_settled : (t : ℕ) (xs ys : List Report) → h.lines ≡ xs ++ line.Cut p t ∷ ys → t ≤ (record_of h p).settled
+  pub cut_got : (t : ℕ) (xs ys : List Report) → h.lines ≡ xs ++ line.Cut p t ∷ ys →
+      (s u : ℕ) (e : Event) → Contains (record_of h p).events (u, e) → u ≤ t → IsSubscriber net s → net.wants s e ≡ true → Contains xs (line.Got s p u e)
+
+-- delivered exactly and rising horizons for each subscriber, discarded only after delivery for each publisher, and doubt horizons for each subscriber at the host
+pub record Reported (net : Net) (h : History) : Type 0 where
+  pub gets : (s p : ℕ) → p < net.publishers → IsSubscriber net s → GetsExactly net h s p
+  pub cuts : (p : ℕ) → p < net.publishers → CutsInOrder net h p
+  pub horizons : (s p n : ℕ) (xs ys : List Report) → p < net.publishers → IsSubscriber net s → h.lines ≡ xs ++ line.Horizon s p n ∷ ys → last_horizon s p 0 xs < n
+  pub doubt_at_host : (s p : ℕ) → p < net.publishers → IsSubscriber net s → net.host p ≡ net.at s → IsDoubt net h (net.at s) p (last_horizon s p 0 h.lines)
+
+-- the same after each step, and of each step the recorded lines and the places of the doubt lines
+abbrev pub Reported_from : Net → History → List Line → List (List Report) → Type 0
+Reported_from net h [] [] = Reported net h
+Reported_from net h (l ∷ ls) (r ∷ rs) = Reported net h × (filter is_record_line r ≡ record_lines net h l r) × (map doubt_place (filter is_doubt_line r) ≡ doubts_shown net l) × Reported_from net (after net h l r) ls rs
+Reported_from net h [] (r ∷ rs) = ⊥
+Reported_from net h (l ∷ ls) [] = ⊥
+
+-- the same of a whole report, whose first list is of the start and empty
+abbrev pub HeadlineSoFar : Net → List Line → List (List Report) → Type 0
+HeadlineSoFar net steps [] = ⊥
+HeadlineSoFar net steps (r ∷ rs) = (r ≡ []) × Reported_from net (begin net) steps rs
+
+-- a sweep
+abbrev pub is_sweep : Step → Bool
+is_sweep step.Sweep = true
+is_sweep _ = false
+
+-- no step is a sweep
+abbrev pub SweepsNowhere : List Line → Type 0
+SweepsNowhere [] = Unit {0}
+SweepsNowhere (l ∷ ls) = (is_sweep l.step ≡ false) × SweepsNowhere ls

@@ -1,0 +1,22 @@
+use Rattle.std.proofs.Common.{arith}
+use Rattle.gr_tick.proofs.EditLemmas.{drop_read, AreTickRuns-take}
+use Rattle.gr_tick.proofs.StepLemmas.{ahead_at}
+use Rattle.gr_tick.proofs.SeekLemmas.{BeginBy-ended, begun_with, ahead_with}
+use Rattle.gr_tick.proofs.edits.begun_by.Goals as goal
+
+pub returns-then-i-runs-clause-front : goal.returns-then-i-runs-clause-front
+returns-then-i-runs-clause-front g c = BeginBy-ended g.V.Lattice.least _ c.args.tick (AreTickRuns-take g.V.Lattice.least c.args.runs.now c.seek-i.result c.requires) c.seek-i.ensures.front
+
+pub returns-then-tick-run-clause-front : goal.returns-then-tick-run-clause-front
+returns-then-tick-run-clause-front g c = BeginBy-ended g.V.Lattice.least _ c.args.tick (AreTickRuns-take g.V.Lattice.least c.args.runs.now c.seek-i.result c.requires) c.seek-i.ensures.front
+
+pub returns-then-tick-run-clause-ahead : goal.returns-then-tick-run-clause-ahead
+returns-then-tick-run-clause-ahead g c = ahead_at g.V.Lattice.least c.args.runs.now c.seek-i.result c.args.tick c.index-runs-i.result (omega arith) c.index-runs-i.is c.requires c.if-tick-run.true
+
+pub returns-clause-front : goal.returns-clause-front
+returns-clause-front g c = begun_with g.V.Lattice.least c.args.runs.now c.seek-i.result c.args.tick c.index-runs-i.result (omega arith) c.index-runs-i.is c.requires c.seek-i.ensures.front (omega arith)
+
+pub returns-clause-ahead : goal.returns-clause-ahead
+returns-clause-ahead g c =
+    ahead_with g.V.Lattice.least c.args.runs.now c.seek-i.result c.args.tick c.index-runs-i.result (omega arith) c.index-runs-i.is c.requires
+    (c.seek-i.ensures.here _ _ (drop_read c.args.runs.now c.seek-i.result c.index-runs-i.result (omega arith) c.index-runs-i.is))

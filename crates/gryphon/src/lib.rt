@@ -1,0 +1,4 @@
+//! scratch
+#![tactic(auto)]
+
+pub mod world;
