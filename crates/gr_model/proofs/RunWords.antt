@@ -13,7 +13,7 @@ take_one_more xs i x at = take_more xs i x (slice_get_within xs i x at) ∙ ap (
 pub words_more : {X Y : Type 0} (f : X → Y) (new mid old : List Y) (xs : List X) (i : ℕ) (x : X) (w : Y) → new ≡ mid ++ w ∷ [] → mid ≡ old ++ map f (take i xs) → slice_get xs i ≡ Some x → f x ≡ w → new ≡ old ++ map f (take (i + 1) xs)
 words_more f new mid old xs i x w pushed before at same =
     let last : map f (take i xs) ++ w ∷ [] ≡ map f (take (i + 1) xs) =
-        ap (λ v. map f (take i xs) ++ v ∷ []) (sym same) ∙ sym (map-append f (take i xs) (x ∷ [])) ∙ ap (λ ys. map f ys) (sym (take_one_more xs i x at)) in
+    ap (λ v. map f (take i xs) ++ v ∷ []) (sym same) ∙ sym (map-append f (take i xs) (x ∷ [])) ∙ ap (λ ys. map f ys) (sym (take_one_more xs i x at)) in
     pushed ∙ ap (λ ys. ys ++ w ∷ []) before ∙ append_assoc old (map f (take i xs)) (w ∷ []) ∙ ap (λ ys. old ++ ys) last
 
 -- words behind words, by a last call whose result is handed on

@@ -10,3 +10,6 @@ mod words;
 
 pub use print::{Memory, PutFault, put};
 pub use report::{Report, Reports};
+
+#[cfg(test)]
+mod tests;

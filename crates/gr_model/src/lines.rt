@@ -105,12 +105,7 @@ fn push_log(
 }
 
 /// The numbers of a log.
-fn push_log_numbers(
-    words: &mut Words,
-    last: u64,
-    settled: u64,
-    cut: u64,
-) -> Result<(), AllocError>
+fn push_log_numbers(words: &mut Words, last: u64, settled: u64, cut: u64) -> Result<(), AllocError>
     ensures { OnOk result (words.new ≡ words.old ++ codes "last" ∷ decimal last ∷ codes "settled" ∷ decimal settled ∷ codes "cut" ∷ decimal cut ∷ []) }
 {
     push_pair(words, b"last", last)?;
@@ -251,7 +246,13 @@ fn letter_of_want(value: &Q3) -> &'static str
 }
 
 /// The word of a run whose value has this letter.
-fn push_run(words: &mut Words, alloc: Global, letter: &str, first: u64, last: u64) -> Result<(), AllocError>
+fn push_run(
+    words: &mut Words,
+    alloc: Global,
+    letter: &str,
+    first: u64,
+    last: u64,
+) -> Result<(), AllocError>
     ensures { OnOk result (words.new ≡ words.old ++ (letter.now ++ (decimal first ++ (codes "-" ++ decimal last))) ∷ []) }
 {
     let word = format!(in alloc; "{letter}{first}-{last}")?;
@@ -264,7 +265,13 @@ fn push_know_runs(alloc: Global, words: &mut Words, runs: &Piece<K>) -> Result<(
 {
     for i in 0..runs.len() {
         let run = runs.run(i);
-        push_run(words, alloc, letter_of_know(&run.value), run.first, run.last)?;
+        push_run(
+            words,
+            alloc,
+            letter_of_know(&run.value),
+            run.first,
+            run.last,
+        )?;
     }
     Ok(())
 }
@@ -275,7 +282,13 @@ fn push_want_runs(alloc: Global, words: &mut Words, runs: &Piece<Q3>) -> Result<
 {
     for i in 0..runs.len() {
         let run = runs.run(i);
-        push_run(words, alloc, letter_of_want(&run.value), run.first, run.last)?;
+        push_run(
+            words,
+            alloc,
+            letter_of_want(&run.value),
+            run.first,
+            run.last,
+        )?;
     }
     Ok(())
 }
@@ -353,7 +366,12 @@ fn push_refused(words: &mut Words, line: u32, cause: &[u8]) -> Result<(), AllocE
 }
 
 /// The line of a crash that is refused.
-fn push_refused_hosts(words: &mut Words, topo: &Topology, line: u32, broker: u16) -> Result<(), AllocError>
+fn push_refused_hosts(
+    words: &mut Words,
+    topo: &Topology,
+    line: u32,
+    broker: u16,
+) -> Result<(), AllocError>
     requires { broker < length topo.now.brokers }
     ensures { OnOk result (words.new ≡ words.old ++ line_words (labels_of topo.now) (Report.RefusedHosts line broker)) }
 {
@@ -386,7 +404,12 @@ fn push_refused_clock(words: &mut Words, line: u32, moment: u64) -> Result<(), A
 }
 
 /// The begin of the line of a dropped datagram.
-fn push_dropped(words: &mut Words, topo: &Topology, broker: u16, cause: &[u8]) -> Result<(), AllocError>
+fn push_dropped(
+    words: &mut Words,
+    topo: &Topology,
+    broker: u16,
+    cause: &[u8],
+) -> Result<(), AllocError>
     requires { broker < length topo.now.brokers }
     ensures { OnOk result (words.new ≡ words.old ++ codes "dropped" ∷ (labels_of topo.now).broker broker ∷ cause.now ∷ []) }
 {
@@ -425,7 +448,13 @@ fn push_fault(words: &mut Words, fault: u8, at: u64) -> Result<(), AllocError>
 }
 
 /// The line of a datagram that is no frame.
-fn push_not_frame(words: &mut Words, topo: &Topology, broker: u16, fault: u8, at: u64) -> Result<(), AllocError>
+fn push_not_frame(
+    words: &mut Words,
+    topo: &Topology,
+    broker: u16,
+    fault: u8,
+    at: u64,
+) -> Result<(), AllocError>
     requires { IsNamed topo.now (Report.DroppedNotFrame broker fault at) }
     ensures { OnOk result (words.new ≡ words.old ++ line_words (labels_of topo.now) (Report.DroppedNotFrame broker fault at)) }
 {
@@ -434,7 +463,12 @@ fn push_not_frame(words: &mut Words, topo: &Topology, broker: u16, fault: u8, at
 }
 
 /// The line of a frame that does not fit.
-fn push_stray(words: &mut Words, topo: &Topology, broker: u16, head: &[u64]) -> Result<(), AllocError>
+fn push_stray(
+    words: &mut Words,
+    topo: &Topology,
+    broker: u16,
+    head: &[u64],
+) -> Result<(), AllocError>
     requires { broker < length topo.now.brokers }
     ensures { OnOk result (words.new ≡ words.old ++ (codes "dropped" ∷ (labels_of topo.now).broker broker ∷ codes "stray" ∷ map decimal head.now)) }
 {
@@ -443,7 +477,14 @@ fn push_stray(words: &mut Words, topo: &Topology, broker: u16, head: &[u64]) -> 
 }
 
 /// The line of a frame that clashes.
-fn push_clash(words: &mut Words, topo: &Topology, broker: u16, tick: u64, kept: &K, came: &K) -> Result<(), AllocError>
+fn push_clash(
+    words: &mut Words,
+    topo: &Topology,
+    broker: u16,
+    tick: u64,
+    kept: &K,
+    came: &K,
+) -> Result<(), AllocError>
     requires { broker < length topo.now.brokers }
     ensures { OnOk result (words.new ≡ words.old ++ line_words (labels_of topo.now) (Report.DroppedClash broker tick kept.now came.now)) }
 {
@@ -462,37 +503,149 @@ fn push_bytes(alloc: Global, words: &mut Words, frame: u64, bytes: &Bytes) -> Re
 }
 
 /// The words of a line, which go behind those that are there.
-pub(crate) fn push_line(alloc: Global, words: &mut Words, report: &Report, topo: &Topology) -> Result<(), AllocError>
+pub(crate) fn push_line(
+    alloc: Global,
+    words: &mut Words,
+    report: &Report,
+    topo: &Topology,
+) -> Result<(), AllocError>
     requires { IsNamed topo.now report.now }
     ensures { OnOk result (words.new ≡ words.old ++ line_words (labels_of topo.now) report.now) }
 {
     match report {
-        Report::Opened { publisher, last, settled, cut } => push_log(words, topo, b"opened", *publisher, *last, *settled, *cut),
-        Report::Logged { publisher, number, tick } => push_publisher_line(words, topo, b"logged", *publisher, &[*number, *tick]),
-        Report::Already { publisher, number } => push_publisher_line(words, topo, b"already", *publisher, &[*number]),
-        Report::Gap { publisher, number, next } => push_gap(words, topo, *publisher, *number, *next),
-        Report::Exhausted { publisher, number } => push_publisher_line(words, topo, b"exhausted", *publisher, &[*number]),
-        Report::Kept { publisher, number, tick } => push_publisher_line(words, topo, b"kept", *publisher, &[*number, *tick]),
-        Report::Lost { publisher, number, tick } => push_publisher_line(words, topo, b"lost", *publisher, &[*number, *tick]),
-        Report::Mark { publisher, tick } => push_publisher_line(words, topo, b"mark", *publisher, &[*tick]),
-        Report::Cut { publisher, tick } => push_publisher_line(words, topo, b"cut", *publisher, &[*tick]),
-        Report::Got { subscriber, publisher, tick, event } => push_got(alloc, words, topo, *subscriber, *publisher, *tick, event),
-        Report::Horizon { subscriber, publisher, tick } => push_horizon(words, topo, *subscriber, *publisher, *tick),
-        Report::SentKnow { number, from, to, publisher, runs } => push_sent_know(alloc, words, topo, *number, *from, *to, *publisher, runs),
-        Report::SentWant { number, from, to, publisher, runs } => push_sent_want(alloc, words, topo, *number, *from, *to, *publisher, runs),
-        Report::SentExpect { number, from, to, publisher, tick } => push_sent_expect(words, topo, *number, *from, *to, *publisher, *tick),
+        Report::Opened {
+            publisher,
+            last,
+            settled,
+            cut,
+        } => push_log(words, topo, b"opened", *publisher, *last, *settled, *cut),
+        Report::Logged {
+            publisher,
+            number,
+            tick,
+        } => push_publisher_line(words, topo, b"logged", *publisher, &[*number, *tick]),
+        Report::Already { publisher, number } => push_publisher_line(
+            words,
+            topo,
+            b"already",
+            *publisher,
+            &[*number],
+        ),
+        Report::Gap {
+            publisher,
+            number,
+            next,
+        } => push_gap(words, topo, *publisher, *number, *next),
+        Report::Exhausted { publisher, number } => push_publisher_line(
+            words,
+            topo,
+            b"exhausted",
+            *publisher,
+            &[*number],
+        ),
+        Report::Kept {
+            publisher,
+            number,
+            tick,
+        } => push_publisher_line(words, topo, b"kept", *publisher, &[*number, *tick]),
+        Report::Lost {
+            publisher,
+            number,
+            tick,
+        } => push_publisher_line(words, topo, b"lost", *publisher, &[*number, *tick]),
+        Report::Mark { publisher, tick } => push_publisher_line(
+            words,
+            topo,
+            b"mark",
+            *publisher,
+            &[*tick],
+        ),
+        Report::Cut { publisher, tick } => push_publisher_line(
+            words,
+            topo,
+            b"cut",
+            *publisher,
+            &[*tick],
+        ),
+        Report::Got {
+            subscriber,
+            publisher,
+            tick,
+            event,
+        } => push_got(alloc, words, topo, *subscriber, *publisher, *tick, event),
+        Report::Horizon {
+            subscriber,
+            publisher,
+            tick,
+        } => push_horizon(words, topo, *subscriber, *publisher, *tick),
+        Report::SentKnow {
+            number,
+            from,
+            to,
+            publisher,
+            runs,
+        } => push_sent_know(alloc, words, topo, *number, *from, *to, *publisher, runs),
+        Report::SentWant {
+            number,
+            from,
+            to,
+            publisher,
+            runs,
+        } => push_sent_want(alloc, words, topo, *number, *from, *to, *publisher, runs),
+        Report::SentExpect {
+            number,
+            from,
+            to,
+            publisher,
+            tick,
+        } => push_sent_expect(words, topo, *number, *from, *to, *publisher, *tick),
         Report::Crashed { broker } => push_crashed(words, topo, *broker),
         Report::Swept { moment } => push_pair(words, b"swept", *moment),
         Report::RefusedHosts { line, broker } => push_refused_hosts(words, topo, *line, *broker),
-        Report::RefusedFrame { line, frame, sent } => push_refused_frame(words, *line, *frame, *sent),
+        Report::RefusedFrame { line, frame, sent } => push_refused_frame(
+            words, *line, *frame, *sent,
+        ),
         Report::RefusedClock { line, moment } => push_refused_clock(words, *line, *moment),
-        Report::DroppedNotFrame { broker, fault, at } => push_not_frame(words, topo, *broker, *fault, *at),
-        Report::DroppedStray { broker, from, to, publisher } => push_stray(words, topo, *broker, &[*from as u64, *to as u64, *publisher as u64]),
-        Report::DroppedClash { broker, tick, kept, came } => push_clash(words, topo, *broker, *tick, kept, came),
-        Report::Damaged { publisher, at } => push_publisher_line(words, topo, b"damaged", *publisher, &[*at]),
+        Report::DroppedNotFrame { broker, fault, at } => push_not_frame(
+            words, topo, *broker, *fault, *at,
+        ),
+        Report::DroppedStray {
+            broker,
+            from,
+            to,
+            publisher,
+        } => push_stray(
+            words,
+            topo,
+            *broker,
+            &[*from as u64, *to as u64, *publisher as u64],
+        ),
+        Report::DroppedClash {
+            broker,
+            tick,
+            kept,
+            came,
+        } => push_clash(words, topo, *broker, *tick, kept, came),
+        Report::Damaged { publisher, at } => push_publisher_line(
+            words,
+            topo,
+            b"damaged",
+            *publisher,
+            &[*at],
+        ),
         Report::Frames { count } => push_pair(words, b"frames", *count),
-        Report::LogOf { publisher, last, settled, cut, kept } => push_shown_log(words, topo, *publisher, *last, *settled, *cut, *kept),
-        Report::Doubt { broker, publisher, tick } => push_doubt(words, topo, *broker, *publisher, *tick),
+        Report::LogOf {
+            publisher,
+            last,
+            settled,
+            cut,
+            kept,
+        } => push_shown_log(words, topo, *publisher, *last, *settled, *cut, *kept),
+        Report::Doubt {
+            broker,
+            publisher,
+            tick,
+        } => push_doubt(words, topo, *broker, *publisher, *tick),
         Report::BytesOf { frame, bytes } => push_bytes(alloc, words, *frame, bytes),
     }
 }

@@ -1,6 +1,6 @@
 //! The lines of a report.
 
-ghost use Rattle.std.specs.Prelude.{◌≡◌, ◌++◌, ◌∷◌, [], length, OnOk, OnErr, slice_get, ◌<◌, Some};
+ghost use Rattle.std.specs.Prelude.{◌≡◌, ◌++◌, ◌∷◌, [], length, OnOk, OnErr};
 
 use gr_curio::Q3;
 use gr_event::{Bytes, Event};
@@ -190,7 +190,7 @@ impl Model for Reports {
 }
 
 impl Reports {
-    /// No line.
+    /// No lines. Takes no memory.
     pub fn new(alloc: Global) -> Reports
         ensures { result ≡ [] }
     {
@@ -199,7 +199,7 @@ impl Reports {
         }
     }
 
-    /// Adds a line at the end. `Memory` leaves the list as it was.
+    /// Puts a line at the end. At want of memory the list stays as it was, and the line is dropped.
     pub fn push(&mut self, line: Report) -> Result<(), AllocError>
         ensures ok { OnOk result (self.new ≡ self.old ++ line ∷ []) }
         ensures err { OnErr result (self.new ≡ self.old) }
@@ -208,7 +208,14 @@ impl Reports {
         Ok(())
     }
 
-    /// Its lines.
+    /// How many lines there are.
+    pub fn len(&self) -> usize
+        ensures { result ≡ length self.now }
+    {
+        self.lines.len()
+    }
+
+    /// Its lines, in order.
     pub fn as_slice(&self) -> &[Report]
         ensures { result.now ≡ self.now }
     {
