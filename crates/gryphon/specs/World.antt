@@ -10,6 +10,8 @@ use Rattle.gr_frame.specs.declared.Body.TheVariants.{Knowledge}
 use Rattle.gr_sched.specs.declared.step.Step.{Step}
 use Rattle.gr_model.specs.declared.report.Report.{Report}
 use Rattle.gr_model.specs.declared.report.Report.TheVariants as line
+use Rattle.gr_topo.specs.Topology.{blank}
+use Rattle.gr_model.specs.Text.{IsNamed}
 use Rattle.gr_model.specs.Broker.{View, Log, log_know, data_ticks, got_line}
 use Rattle.gr_model.specs.World.{World, Told, next}
 use Rattle.gr_model.specs.Blank.{net0}
@@ -80,3 +82,8 @@ pub record IsWorld (clock last settled : ℕ) (events : List (ℕ × Event)) (ho
 -- the step at this line leads from one world to the other and tells these lines
 abbrev pub Tells : World → ℕ → Step → World → List Report → Type 0
 Tells old n step new lines = next net0 old (record { number = n; step = step }) ≡ record { world = new; lines = lines }
+
+-- each line speaks of brokers, publishers and subscribers that the blank topology has
+abbrev pub AllNamed : List Report → Type 0
+AllNamed [] = Unit {0}
+AllNamed (r ∷ rs) = IsNamed blank r × AllNamed rs

@@ -2,5 +2,6 @@
 #![tactic(auto)]
 
 pub mod asked;
+pub mod replay;
 pub mod scenario;
 pub mod world;

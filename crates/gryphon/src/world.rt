@@ -10,7 +10,7 @@ ghost use Rattle.gr_know.specs.declared.values.K.TheVariants.{Q, D, F};
 ghost use Rattle.gr_sched.specs.declared.step.Step.TheVariants.{Clock, Publish, Deliver};
 ghost use Rattle.gr_know.specs.Values.{known_at};
 ghost use Rattle.gr_tick.specs.Stored.{RunsGive};
-ghost use Rattle.gryphon.specs.World.{Tells, Takes, passed_lines};
+ghost use Rattle.gryphon.specs.World.{Tells, Takes, AllNamed, passed_lines};
 
 use gr_event::Event;
 use gr_know::{K, Know};
@@ -81,7 +81,8 @@ impl World {
     /// Publishes an event.
     pub fn publish(&mut self, number: u64, event: &Event) -> Result<Reports, AllocError>
         requires { number ≤ MAX_TICK }
-        ensures { IfOk result (λ lines. (n : ℕ) → Tells self.old n (Publish 0 number None event.now) self.new lines) }
+        ensures told { IfOk result (λ lines. (n : ℕ) → Tells self.old n (Publish 0 number None event.now) self.new lines) }
+        ensures named { IfOk result AllNamed }
     {
         let mut lines = Reports::new(self.alloc);
         if number <= self.last {
@@ -132,7 +133,8 @@ impl World {
 
     /// Delivers the frame of this number to the broker of the subscriber.
     pub fn deliver(&mut self, line: u32, frame: u64) -> Result<Reports, AllocError>
-        ensures { IfOk result (λ lines. Tells self.old line (Deliver frame) self.new lines) }
+        ensures told { IfOk result (λ lines. Tells self.old line (Deliver frame) self.new lines) }
+        ensures named { IfOk result AllNamed }
     {
         let mut lines = Reports::new(self.alloc);
         let sent = self.sent.len() as u64;
