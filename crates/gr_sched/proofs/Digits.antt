@@ -1,11 +1,11 @@
 -- Digits and their value.
-use Rattle.std.proofs.Common.{◌≡◌, ℕ, ◌+◌, ◌-◌, ◌*◌, ◌^◌, ◌<◌, ◌≤◌, List, [], ◌∷◌, ◌++◌, length, take, get_or, Bool, true, false, refl, ap, sym, ◌∙◌, arith, zero, suc, add-one}
-use Rattle.std.specs.Prelude.{nat_le, nat_lt, ◌&&◌}
+use Rattle.std.proofs.Common.{◌≡◌, ℕ, ◌+◌, ◌-◌, ◌*◌, ◌^◌, ◌<◌, ◌≤◌, List, [], ◌∷◌, ◌++◌, length, take, get_or, Bool, true, false, refl, ap, ◌∙◌, arith, zero, suc, add-one}
+use Rattle.std.specs.Prelude.{◌&&◌}
 use Rattle.std.specs.List.{list_all}
 use Rattle.std.proofs.lemmas.List.{take_more}
 use Rattle.std.proofs.lemmas.Bool.Decides.{nat_tests}
 use Rattle.std.proofs.Math.Nat.{pow-suc, pow-le-pow_right}
-use Rattle.gr_sched.specs.Words.{is_digit, value_after, is_number}
+use Rattle.gr_sched.specs.Words.{is_digit, value_after}
 
 value_snoc : (n : ℕ) (xs : List ℕ) (d : ℕ) → value_after n (xs ++ d ∷ []) ≡ value_after n xs * 10 + (d - 48)
 value_snoc n [] d = refl
@@ -36,12 +36,6 @@ more digits i value d short all here is small e =
     let most : 10 ^ i ≤ 10 ^ 18 = pow-le-pow_right (let k : 1 ≤ 10 = omega arith in k) (let k : i ≤ 18 = omega arith in k) in
     let next : value_after 0 (take (i + 1) digits) ≡ value_after 0 (take i digits) * 10 + (get_or digits i 0 - 48) = ap (value_after 0) (take_more digits i 0 here) ∙ value_snoc 0 (take i digits) (get_or digits i 0) in
     (omega (arith, digit.0, digit.1, most), omega (arith, next, is, e), omega (arith, digit.0, digit.1, grows))
-
-pub number_is : (w : List ℕ) (b : Bool) → b ≡ list_all is_digit w → 0 < length w → length w ≤ 19 → b ≡ is_number w
-number_is w b e low high = e ∙ ap (λ x. x && list_all is_digit w) (sym (tests (length w) low high))
-  where
-    tests : (n : ℕ) → 0 < n → n ≤ 19 → (nat_lt 0 n && nat_le n 19) ≡ true
-    tests n a b = grind (arith, nat_tests)
 
 -- there is room for one more digit
 pub room : (i n value : ℕ) → n ≤ 19 → i < n → value < 10 ^ i → value * 10 + 9 < 2 ^ 64

@@ -141,6 +141,13 @@ read_range broker_of publisher_of counted r e = part r (gives_holds _ r _ e (all
     part (Ok x) h = h.0
     part (Err f) h = tt
 
+pub read_all : (broker_of publisher_of : List ℕ → Option ℕ) (counted : List (ℕ × List ℕ)) (r : Result (List Line) StepFault) → Gives (λ s. s) r (lines_of broker_of publisher_of counted) → IfOk r (λ s. length s ≡ length counted)
+read_all broker_of publisher_of counted r e = part r (gives_holds _ r _ e (all_steps broker_of publisher_of counted))
+  where
+    part : (r : Result (List Line) StepFault) → Holds (AreSteps broker_of publisher_of (length counted)) r → IfOk r (λ s. length s ≡ length counted)
+    part (Ok x) h = h.1
+    part (Err f) h = tt
+
 pub read_few : (broker_of publisher_of : List ℕ → Option ℕ) (counted : List (ℕ × List ℕ)) (n : ℕ) (r : Result (List Line) StepFault) → Gives (λ s. s) r (lines_of broker_of publisher_of counted) → None ≡ option_map (λ c. c.0) (slice_get counted n) → IfOk r (λ s. length s ≤ n)
 read_few broker_of publisher_of counted n r e none = part r (gives_holds _ r _ e (all_steps broker_of publisher_of counted))
   where

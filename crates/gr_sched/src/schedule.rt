@@ -216,6 +216,7 @@ pub fn parse<N: Names>(alloc: Global, steps: &[u8], names: &N) -> Result<Steps, 
     requires { length steps.now ≤ MAX_BYTES }
     ensures steps { Gives (λ s. s) result (steps_of (N.broker_of names.now) (N.publisher_of names.now) steps.now) }
     ensures range { IfOk result (λ s. All (λ line. IsStep (N.broker_of names.now) (N.publisher_of names.now) line.step) s) }
+    ensures all { IfOk result (λ s. length s ≡ length (counted_lines steps.now)) }
     ensures few { IfOk result (λ s. length s ≤ MAX_STEPS) }
     ensures cause { IfErr result (IsFault (length (counted_lines steps.now))) }
 {
