@@ -33,8 +33,8 @@ get_past whole front back x i j e below place past is =
     let k : i - length front < length back = omega (arith, ap length e, length-append front (reverse back), length-reverse back) in
     let far : length back - 1 - (i - length front) ≡ j = omega (arith, ap length e, length-append front (reverse back), length-reverse back) in
     let there : get_or whole i x ≡ get_or back j x =
-        ap (λ w. get_or w i x) e ∙ get_or-append_right front (reverse back) (length front) i x refl past
-        ∙ get_or-reverse back (i - length front) x k ∙ ap (λ n. get_or back n x) far in
+    ap (λ w. get_or w i x) e ∙ get_or-append_right front (reverse back) (length front) i x refl past
+    ∙ get_or-reverse back (i - length front) x k ∙ ap (λ n. get_or back n x) far in
     slice_get_read whole (length whole) i x refl below (is ∙ sym there)
 
 -- a write past the gap

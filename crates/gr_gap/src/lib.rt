@@ -2,6 +2,8 @@
 #![tactic(auto)]
 
 pub mod gap;
+#[cfg(test)]
+mod tests;
 
 pub use gap::Gap;
 

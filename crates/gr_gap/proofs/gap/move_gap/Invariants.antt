@@ -7,7 +7,7 @@ invariant-loop-back g l = record {
   rest : vec_len l.front + vec_len l.back ≡ vec_len l.fn.front + vec_len l.fn.back;
   items : l.front.items ++ reverse l.back.items ≡ l.fn.front.items ++ reverse l.fn.back.items;
   front_capacity : vec_capacity l.front ≡ vec_capacity l.fn.front;
-  back_capacity : vec_capacity l.back ≡ vec_capacity l.fn.back
+  back_capacity : vec_capacity l.back ≡ vec_capacity l.fn.back;
 }
 
 abbrev pub decreases-loop-back : goal.decreases-loop-back
@@ -19,7 +19,7 @@ invariant-loop-front g l = record {
   rest : vec_len l.front + vec_len l.back ≡ vec_len l.fn.front + vec_len l.fn.back;
   items : l.front.items ++ reverse l.back.items ≡ l.fn.front.items ++ reverse l.fn.back.items;
   front_capacity : vec_capacity l.front ≡ vec_capacity l.fn.front;
-  back_capacity : vec_capacity l.back ≡ vec_capacity l.fn.back
+  back_capacity : vec_capacity l.back ≡ vec_capacity l.fn.back;
 }
 
 abbrev pub decreases-loop-front : goal.decreases-loop-front

@@ -10,5 +10,5 @@ returns-clause-items g c =
     let back = c.pop.new.self in
     let place : length front.items ≡ c.args.i = omega arith in
     let whole = sym (ap (λ v. v.items) c.self.view_is) ∙ sym c.move_gap.ensures.items ∙ ap (λ b. front.items ++ reverse b) c.pop.ensures.items
-        ∙ ap (λ o. front.items ++ reverse (back.items ++ option_to_list o)) c.unwrap.ensures in
+    ∙ ap (λ o. front.items ++ reverse (back.items ++ option_to_list o)) c.unwrap.ensures in
     remove_at _ front.items back.items c.unwrap.result c.args.i whole place

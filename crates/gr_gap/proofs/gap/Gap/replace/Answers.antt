@@ -1,5 +1,5 @@
 -- Before the gap a write is one into the front, past it one into the back in reverse.
-use Rattle.std.proofs.Common.{◌≡◌, ◌+◌, ◌-◌, ◌<◌, ◌≤◌, ◌∙◌, sym, ap, length, length-append, reverse, ◌++◌, slice_set, get_or, arith}
+use Rattle.std.proofs.Common.{◌≡◌, ◌+◌, ◌-◌, ◌<◌, ◌∙◌, sym, ap, length, length-append, reverse, ◌++◌, slice_set, get_or, arith}
 use Rattle.std.proofs.lemmas.List.{set-append_left, length-reverse}
 use Rattle.gr_gap.proofs.Mirrored.{get_past, set_past}
 use Rattle.gr_gap.proofs.gap.Gap.replace.Goals as goal
