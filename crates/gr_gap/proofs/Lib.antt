@@ -1,1 +1,5 @@
 pub mod Mirrored
+pub mod Words
+pub mod StickyLaws
+pub mod LooseValues
+pub mod OwnerSteps

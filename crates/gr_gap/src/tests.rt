@@ -1,4 +1,4 @@
-use crate::Gap;
+use crate::{Gap, Shared};
 use std::alloc::Global;
 use std::cell::Cell;
 use std::test::Fail;
@@ -90,5 +90,30 @@ fn each_value_is_dropped_once(rt: HostRuntime) -> Result<(), Fail> {
         assert_eq!(rt; drops.get(), 2);
     }
     assert_eq!(rt; drops.get(), 5);
+    Ok(())
+}
+
+#[test]
+fn the_last_owner_drops_the_value(rt: HostRuntime) -> Result<(), Fail> {
+    let drops = Cell::new(0);
+    {
+        let first = Shared::new(rt.alloc(), (7u64, Counted(&drops)))?;
+        let second = first.share();
+        let third = second.share();
+        assert_eq!(rt; third.get().0, 7);
+        drop(first);
+        drop(third);
+        assert_eq!(rt; drops.get(), 0);
+        assert_eq!(rt; second.get().0, 7);
+        let mut kept = Vec::new(rt.alloc());
+        for _ in 0..100 {
+            kept.push(second.share())?;
+        }
+        drop(second);
+        assert_eq!(rt; drops.get(), 0);
+        assert_eq!(rt; kept.len(), 100);
+        assert_eq!(rt; kept[99].get().0, 7);
+    }
+    assert_eq!(rt; drops.get(), 1);
     Ok(())
 }
