@@ -1,4 +1,4 @@
-pub mod Mirrored
+pub mod Unrolled
 pub mod Words
 pub mod StickyLaws
 pub mod LooseValues

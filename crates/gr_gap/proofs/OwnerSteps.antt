@@ -1,7 +1,7 @@
 -- What the walks of a counted owner share: its two pointers as a machine value, and the heap's handle. Assumes `Logic`.
 use mathlib.Core.Path.{◌≡◌, refl, subst}
 use mathlib.Core.Bool.{Bool, true, false, ◌&&◌}
-use lib.Dec.{T, lit<}
+use lib.Dec.{T}
 use mathlib.Core.List.{List, [], ◌∷◌, ◌++◌}
 use seplogic.Ra.Ura.{Ura}
 use mir.Syntax.{Ty, ty_ptr, ty_struct, tcons, tnil}

@@ -1,8 +1,11 @@
-// A gap buffer: the values before the gap, and those after it in reverse. To move the gap is to hand over what lies between.
-ghost use Rattle.std.specs.Prelude.{◌≡◌, ℕ, ◌+◌, ◌-◌, ◌<◌, ◌≤◌, List, [], ◌++◌, length, reverse, insert, remove, slice_get, slice_set, Some, Ok, OnOk, OnErr, IsOk, vec_len, vec_capacity};
+// A gap buffer in one block: a ring, whose free part is the gap. The values past the gap stand first in the ring, then those before it.
+ghost use Rattle.std.specs.Prelude.{◌≡◌, ℕ, ◌+◌, ◌-◌, ◌<◌, ◌≤◌, List, [], length, insert, remove, slice_get, slice_set, Some, Ok, OnOk, OnErr, IsOk};
+ghost use Rattle.std.specs.VecDeque.{deque_len, deque_capacity};
+ghost use Rattle.gr_gap.specs.Contents.{unrolled, place_of};
 
 use crate::Memory;
 use std::alloc::{AllocError, Global};
+use std::collections::VecDeque;
 use std::marker::Model;
 use std::mem;
 
@@ -10,21 +13,23 @@ use std::mem;
 /// An edit costs the distance from the last one.
 #[derive(Drop)]
 pub struct Gap<T> {
-    front: Vec<T>,
-    back: Vec<T>,
+    ring: VecDeque<T>,
+    // How many values stand before the gap.
+    before: usize,
     // How many values fit in all.
     room: usize,
 }
 
 impl<T> Model for Gap<T> {
-    ghost use Rattle.std.specs.Prelude.{◌+◌, ◌-◌, ◌≤◌, ◌++◌, reverse, vec_len, vec_capacity};
-    ghost use Rattle.gr_gap.specs.Contents.{Contents};
+    ghost use Rattle.std.specs.Prelude.{◌-◌, ◌≤◌};
+    ghost use Rattle.std.specs.VecDeque.{deque_len, deque_capacity};
+    ghost use Rattle.gr_gap.specs.Contents.{Contents, unrolled};
 
     ghost Value = { Contents T };
 
-    ghost view = { λ g. record { items = g.front.items ++ reverse g.back.items; spare = g.room - (vec_len g.front + vec_len g.back) } };
+    ghost view = { λ g. record { items = unrolled g.before g.ring.items; spare = g.room - deque_len g.ring } };
 
-    ghost invariant = { λ g. (vec_len g.front + vec_len g.back ≤ g.room) × (g.room ≤ vec_capacity g.front) × (g.room ≤ vec_capacity g.back) };
+    ghost invariant = { λ g. (g.before ≤ deque_len g.ring) × (deque_len g.ring ≤ g.room) × (g.room ≤ deque_capacity g.ring) };
 }
 
 impl<T> Gap<T> {
@@ -34,8 +39,8 @@ impl<T> Gap<T> {
         ensures spare { result.spare ≡ 0 }
     {
         Gap {
-            front: Vec::new(alloc),
-            back: Vec::new(alloc),
+            ring: VecDeque::new(alloc),
+            before: 0,
             room: 0,
         }
     }
@@ -48,16 +53,11 @@ impl<T> Gap<T> {
         ensures succeeds { n ≤ self.old.spare → IsOk result }
         ensures err { OnErr result (self.new ≡ self.old) }
     {
-        let len = self.front.len() + self.back.len();
-        if n <= self.room - len {
+        if n <= self.room - self.ring.len() {
             return Ok(());
         }
-        let Some(room) = len.checked_add(n) else {
-            return Err(AllocError);
-        };
-        self.front.reserve(room - self.front.len())?;
-        self.back.reserve(room - self.back.len())?;
-        self.room = room;
+        self.ring.reserve(n)?;
+        self.room = self.ring.capacity();
         Ok(())
     }
 
@@ -68,8 +68,9 @@ impl<T> Gap<T> {
         ensures items { self.new.items ≡ insert self.old.items i value }
         ensures spare { self.new.spare + 1 ≡ self.old.spare }
     {
-        move_gap(&mut self.front, &mut self.back, i);
-        self.front.push_reserved(value);
+        move_gap(&mut self.ring, &mut self.before, i);
+        self.ring.push_back_reserved(value);
+        self.before += 1;
     }
 
     /// Takes out the value at `i`.
@@ -79,8 +80,8 @@ impl<T> Gap<T> {
         ensures items { self.new.items ≡ remove self.old.items i }
         ensures spare { self.new.spare ≡ self.old.spare + 1 }
     {
-        move_gap(&mut self.front, &mut self.back, i);
-        self.back.pop().unwrap()
+        move_gap(&mut self.ring, &mut self.before, i);
+        self.ring.pop_front().unwrap()
     }
 
     /// The value at `i`.
@@ -88,11 +89,8 @@ impl<T> Gap<T> {
         requires { i < length self.now.items }
         ensures { slice_get self.now.items i ≡ Some result.now }
     {
-        if i < self.front.len() {
-            &self.front[i]
-        } else {
-            &self.back[self.back.len() - 1 - (i - self.front.len())]
-        }
+        let at = place(&self.ring, self.before, i);
+        &self.ring[at]
     }
 
     /// Puts a value in place of the one at `i`, which it answers.
@@ -102,37 +100,49 @@ impl<T> Gap<T> {
         ensures items { self.new.items ≡ slice_set self.old.items i value }
         ensures spare { self.new.spare ≡ self.old.spare }
     {
-        if i < self.front.len() {
-            mem::replace(&mut self.front[i], value)
-        } else {
-            let at = self.back.len() - 1 - (i - self.front.len());
-            mem::replace(&mut self.back[at], value)
-        }
+        let at = place(&self.ring, self.before, i);
+        mem::replace(&mut self.ring[at], value)
     }
 
     /// How many values there are.
     pub fn len(&self) -> usize
         ensures { result ≡ length self.now.items }
     {
-        self.front.len() + self.back.len()
+        self.ring.len()
     }
 }
 
-// Moves the gap to `i`: only what lies between the old place and the new one goes over.
-fn move_gap<T>(front: &mut Vec<T>, back: &mut Vec<T>, i: usize)
-    requires within { i ≤ vec_len front.old + vec_len back.old }
-    requires front_room { vec_len front.old + vec_len back.old ≤ vec_capacity front.old }
-    requires back_room { vec_len front.old + vec_len back.old ≤ vec_capacity back.old }
-    ensures place { vec_len front.new ≡ i }
-    ensures rest { vec_len front.new + vec_len back.new ≡ vec_len front.old + vec_len back.old }
-    ensures items { front.new.items ++ reverse back.new.items ≡ front.old.items ++ reverse back.old.items }
-    ensures front_capacity { vec_capacity front.new ≡ vec_capacity front.old }
-    ensures back_capacity { vec_capacity back.new ≡ vec_capacity back.old }
+// Where the value at `i` of the list stands in the ring.
+fn place<T>(ring: &VecDeque<T>, before: usize, i: usize) -> usize
+    requires within { i < deque_len ring.now }
+    requires gap { before ≤ deque_len ring.now }
+    ensures { result ≡ place_of before (deque_len ring.now) i }
 {
-    while front.len() > i {
-        back.push_reserved(front.pop().unwrap());
+    if i < before {
+        ring.len() - before + i
+    } else {
+        i - before
     }
-    while front.len() < i {
-        front.push_reserved(back.pop().unwrap());
+}
+
+// Moves the gap to `i`: only what lies between the old place and the new one goes round.
+fn move_gap<T>(ring: &mut VecDeque<T>, before: &mut usize, i: usize)
+    requires within { i ≤ deque_len ring.old }
+    requires gap { before.old ≤ deque_len ring.old }
+    requires room { deque_len ring.old ≤ deque_capacity ring.old }
+    ensures place { before.new ≡ i }
+    ensures len { deque_len ring.new ≡ deque_len ring.old }
+    ensures items { unrolled before.new ring.new.items ≡ unrolled before.old ring.old.items }
+    ensures capacity { deque_capacity ring.new ≡ deque_capacity ring.old }
+{
+    while *before > i {
+        let value = ring.pop_back().unwrap();
+        ring.push_front_reserved(value);
+        *before -= 1;
+    }
+    while *before < i {
+        let value = ring.pop_front().unwrap();
+        ring.push_back_reserved(value);
+        *before += 1;
     }
 }

@@ -1,35 +1,16 @@
--- Before the gap a write is one into the front, past it one into the back in reverse.
-use Rattle.std.proofs.Common.{◌≡◌, ◌+◌, ◌-◌, ◌<◌, ◌∙◌, sym, ap, length, length-append, reverse, ◌++◌, slice_set, get_or, arith}
-use Rattle.std.proofs.lemmas.List.{set-append_left, length-reverse}
-use Rattle.gr_gap.proofs.Mirrored.{get_past, set_past}
+-- The write into the ring is one into the list.
+use Rattle.std.proofs.Common.{◌≡◌, length, slice_set, sym, ap, ◌∙◌, arith}
+use Rattle.std.specs.VecDeque.{deque_len}
+use Rattle.gr_gap.specs.Contents.{unrolled, place_of}
+use Rattle.gr_gap.proofs.Unrolled.{length-unrolled, unrolled-set}
 use Rattle.gr_gap.proofs.gap.Gap.replace.Goals as goal
 
-pub returns-then-i-len-clause-items : goal.returns-then-i-len-clause-items
-returns-then-i-len-clause-items g c =
-    let front = c.self.inside.front in
-    let back = c.self.inside.back in
-    let i = c.args.i in
-    let below : i < length front.items = omega arith in
-    ap (λ v. slice_set front.items i v ++ reverse back.items) c.replace.ensures.after
-    ∙ sym (set-append_left front.items (reverse back.items) i c.args.value below)
-    ∙ ap (λ v. slice_set v.items i c.args.value) c.self.view_is
-
-pub returns-else-i-len-clause-value : goal.returns-else-i-len-clause-value
-returns-else-i-len-clause-value g c =
-    let front = c.self.inside.front.items in
-    let back = c.self.inside.back.items in
-    let whole : c.args.self.now.items ≡ front ++ reverse back = sym (ap (λ v. v.items) c.self.view_is) in
-    let size : length c.args.self.now.items ≡ length front + length back = ap length whole ∙ length-append front (reverse back) ∙ ap (λ n. length front + n) (length-reverse back) in
-    let at = c.len-else-i-len.result - 1 - (c.args.i - c.len-else-i-len-2.result) in
-    let is = c.replace-else-i-len.ensures.value ∙ c.index_mut-else-i-len.ensures.value ∙ ap (λ d. get_or back at d) (sym c.replace-else-i-len.ensures.value) in
-    get_past c.args.self.now.items front back c.replace-else-i-len.result c.args.i at whole c.requires (omega arith) (omega arith) is
-
-pub returns-else-i-len-clause-items : goal.returns-else-i-len-clause-items
-returns-else-i-len-clause-items g c =
-    let front = c.self.inside.front.items in
-    let back = c.self.inside.back.items in
-    let whole : c.args.self.now.items ≡ front ++ reverse back = sym (ap (λ v. v.items) c.self.view_is) in
-    let size : length c.args.self.now.items ≡ length front + length back = ap length whole ∙ length-append front (reverse back) ∙ ap (λ n. length front + n) (length-reverse back) in
-    let at = c.len-else-i-len.result - 1 - (c.args.i - c.len-else-i-len-2.result) in
-    ap (λ v. front ++ reverse (slice_set back at v)) c.replace-else-i-len.ensures.after
-    ∙ set_past c.args.self.now.items front back c.args.value c.args.i at whole c.requires (omega arith) (omega arith)
+pub returns-clause-items : goal.returns-clause-items
+returns-clause-items g c =
+    let n = c.self.inside.before in
+    let ring = c.self.inside.ring.items in
+    let size : length ring ≡ deque_len c.self.inside.ring = omega arith in
+    let at = c.place-at.ensures ∙ ap (λ k. place_of n k c.args.i) (sym size) in
+    let count : length c.args.self.now.items ≡ length ring = sym (ap (λ v. length v.items) c.self.view_is) ∙ length-unrolled n ring in
+    ap (λ k. unrolled n (slice_set ring k c.replace.new.dest)) at ∙ ap (λ v. unrolled n (slice_set ring (place_of n (length ring) c.args.i) v)) c.replace.ensures.after
+    ∙ unrolled-set ring n c.args.i c.args.value (omega arith) (omega arith) ∙ ap (λ v. slice_set v.items c.args.i c.args.value) c.self.view_is

@@ -21,7 +21,7 @@ use denote.Memory.{lone}
 use denote.Param.{layouts}
 use denote.Param.Laws.{param_laws}
 use denote.RattleType.{RattleType, owns}
-use denote.RawPtr.{Ptr, block_ptr, block_of, count_of, lies_at}
+use denote.RawPtr.{Ptr, block_ptr, lies_at}
 use denote.Shares.{Shares-less}
 use denote.Signature.{types_at, plain}
 use denote.Steps.{nothing, heard}

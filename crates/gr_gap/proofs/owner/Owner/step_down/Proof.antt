@@ -1,10 +1,10 @@
 -- `step_down` gives an owner up. At a count of 1 it is the last, and has the value and the count; a full count stands still; any other is lowered by one.
-use Rattle.std.proofs.Common.{◌≡◌, ℕ, ◌+◌, ◌-◌, ◌<◌, ◌^◌, List, [], ◌∷◌, ◌++◌, refl, sym, ap, subst, lit<, arith}
-use mathlib.Core.Bool.{Bool, true, false}
+use Rattle.std.proofs.Common.{ℕ, ◌-◌, ◌<◌, ◌^◌, List, [], ◌∷◌, ◌++◌, refl, sym, ap, subst, lit<, arith}
+use mathlib.Core.Bool.{Bool, true}
 use lib.Dec.{T, eqb→eq}
 use seplogic.Ra.Ura.{Ura}
 use base.Fraction.{full_share}
-use base.Logic.{SProp, ent, sep, wand, id⊢, via, fst∗, snd∗, apply∗}
+use base.Logic.{SProp, ent, wand, id⊢, via, fst∗, snd∗, apply∗}
 use base.Fml.{Lft, Share, Fml, ftrue, fat, flft, ftok}
 use base.Mask.{every}
 use contract.Beside.{Carries}
