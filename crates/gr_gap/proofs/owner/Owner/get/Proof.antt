@@ -2,22 +2,21 @@
 use mathlib.Core.Path.{◌≡◌, refl, sym, subst}
 use mathlib.Core.Bool.{Bool}
 use Prim.Native.Nat.{ℕ}
-use mir.Syntax.{Fn, Args, Ty, a_type, ty_ptr, ty_struct, tcons, tnil}
+use mir.Syntax.{Fn, Args, Ty, a_type, ty_ptr}
 use mir.Val.{Val, vptr, vcons, vnil, vstruct, of_list}
 use mir.Raw.{raw as bare}
 use base.Logic.{SProp, ent, via, fst∗, snd∗, id⊢}
 use base.Fml.{Lft, Share, Fml, ftrue, flft, fhide, fat}
 use prog.Wp.{Env, Calls, Loops, WpFn, Tables}
-use types.Kit.{Item, Goal, Step, step, ‵, raw, ◌⊛◌, at_ret, ◌$◌, ◌∵◌, !, qed, move, keep, drop, rewrite, use1, split, join, fsplit, fjoin, fpick, fpack, feq_i, feq_l, suffices, done}
+use types.Kit.{Item, ‵, raw, ◌⊛◌, at_ret, ◌$◌, ◌∵◌, !, qed, move, keep, drop, rewrite, use1, split, join, fsplit, fjoin, fpick, feq_i, feq_l, suffices, done}
 use types.Run.{hop, stop, fld, of_opd, addr, first, blocks, exec, returns, enter}
 use types.Part.{look_in, sub, whole}
 use types.ByLocal.{sets_last, alloc_all, pass_all, free_all, look_at, get, through, sets, env}
-use denote.RattleType.{RattleType, RowLaws, owns, Valss}
+use denote.RattleType.{RattleType, RowLaws, owns}
 use denote.RawPtr.{coded_ptr, ptr_own, rawptr_pure, Ptr, RawPtr, ptr_val, block_of, count_of, in_a_block}
 use denote.Builtin.{RefOf}
 use denote.Steps.{nothing, looks, shuts}
 use denote.Copied.{Copied, plain_Copied, Struct-Copied}
-use denote.Struct.Struct.{Struct, within}
 use denote.Struct.Laws.{RawPtr-laws}
 use denote.Memory.{cell_at}
 use denote.Triple.Walked.{says, Stays, stay_dropped, walk_of, ends_at, Goes-dropped, walk_Meets}
@@ -51,6 +50,7 @@ use Rattle.gr_gap.specs.Sticky as s
 use Rattle.gr_gap.specs.Sticky.{Id, ι}
 use Rattle.gr_gap.specs.Ownership as o
 use Rattle.gr_gap.proofs.StickyLaws as laws
+use Rattle.gr_gap.proofs.OwnerSteps as steps
 use Rattle.gr_gap.specs.contracts.owner.Owner as RC
 use Rattle.gr_gap.specs.contracts.owner.Owner.get as F
 use Rattle.gr_gap.specs.contracts.owner.Owner.get.Key.{name as #self}
@@ -112,7 +112,7 @@ module _ (Y : RattleType) (Yl : RowLaws (F.T-row Y)) {M : Type 1} {𝓤 : Ura M}
     t = lent_at R p x
 
     abbrev Word : RattleType
-    Word = Struct (record { name = (RC.the_type R).name; args = []; types = R ∷ []; fields = RawPtr ∷ RawPtr ∷ [] })
+    Word = steps.Word R
 
     abbrev lent : Lft → Fml
     lent = s.shared_lends 64 kk S P t
@@ -127,14 +127,10 @@ module _ (Y : RattleType) (Yl : RowLaws (F.T-row Y)) {M : Type 1} {𝓤 : Ura M}
     word r = vstruct (vcons (ptr_val c) (vcons (ptr_val r) vnil))
 
     abbrev wty : Ty
-    wty = ty_struct (RC.the_type R).name (tcons ty_ptr (tcons ty_ptr tnil))
+    wty = steps.word_ty R
 
     abbrev tlaws : ShrLaws t
     tlaws = lent_at_shr_laws R Yl p x
-
-    made : {K : Type 0} → K → {Γ : List (Item 𝓤)} {G : Goal 𝓤 𝓛.H} → Step K 𝓛 (‵ (Word.own_val (c, (p, tt)) (word p ∷ [])) ∷ Γ) G Γ G
-    made k = step (λ next. nothing k $ feq_i k (List Val) (ptr_val p ∷ []) (ptr_val p ∷ []) refl $ fjoin k $ feq_i k (List Val) (ptr_val c ∷ []) (ptr_val c ∷ []) refl $ fjoin k $
-        feq_i k (List Val) (word p ∷ []) (word p ∷ []) refl $ fjoin k $ fpack k (Valss (RawPtr ∷ RawPtr ∷ [])) (within (record { name = (RC.the_type R).name; args = []; types = R ∷ []; fields = RawPtr ∷ RawPtr ∷ [] }) (c, (p, tt)) (word p ∷ [])) (ptr_val c ∷ [], (ptr_val p ∷ [], tt)) $ next)
 
     abbrev asked : Item 𝓤
     asked = raw ((F.clauses Y 𝓛 at_mem run z.0.0 z.0.3).requires z.1)
@@ -163,7 +159,7 @@ module _ (Y : RattleType) (Yl : RowLaws (F.T-row Y)) {M : Type 1} {𝓤 : Ura M}
         let En : Env 𝓤 H = env (fn' Y).locals l in
         let at : Val = vptr cb co in
         let raw_copied : Copied 𝓛 RawPtr = plain_Copied 𝓛 Ptr coded_ptr (ty_ptr ∷ []) ptr_own rawptr_pure ptr_val RawPtr-laws.tells in
-        let copied : Copied 𝓛 Word = Struct-Copied 𝓛 (record { name = (RC.the_type R).name; args = []; types = R ∷ []; fields = RawPtr ∷ RawPtr ∷ [] }) (refl, (refl, tt)) (raw_copied, (raw_copied, tt)) in
+        let copied : Copied 𝓛 Word = Struct-Copied 𝓛 (steps.pointers R) (refl, (refl, tt)) (raw_copied, (raw_copied, tt)) in
         move ! (1 ∷ 2 ∷ []) $
         looks ! tt Word copied.opens (c, (p, tt)) b o' (λ q' vs. move ! (3 ∷ []) $ drop ! $ move ! (1 ∷ []) $
         fpick ! (λ vss. fsplit ! $ feq_l ! (λ ev. fsplit ! $ feq_l ! (λ e0. fsplit ! $ feq_l ! (λ e1. drop ! $
@@ -173,7 +169,7 @@ module _ (Y : RattleType) (Yl : RowLaws (F.T-row Y)) {M : Type 1} {𝓤 : Ura M}
         sets_last ! (addr ! (through ! refl (fld ! refl (hop ! (look_in ! 0 (sub ! 1 refl (whole !))) (stop !))))) refl (tt, tt) $
         exec ! C Λ En (after 1 (fn' Y).body) (at_ret En (Post us)) $ sets ! (of_opd ! (get ! refl)) refl (tt, tt) $
         rewrite ! 0 (λ (r : Ptr). ‵ (fat q' wty b o' (word r))) (sym e) refl $
-        use1 𝓛 (‵ (fat q' (bare wty) b o' (word p))) (𝓛.laws.at_raw q' wty b o' (word p)) $ made ! $ move ! (1 ∷ 0 ∷ []) $ shuts ! tt Word q' (c, (p, tt)) (word p ∷ []) b o' $
+        use1 𝓛 (‵ (fat q' (bare wty) b o' (word p))) (𝓛.laws.at_raw q' wty b o' (word p)) $ steps.word_made R c p ! $ move ! (1 ∷ 0 ∷ []) $ shuts ! tt Word q' (c, (p, tt)) (word p ∷ []) b o' $
         move ! (1 ∷ []) $ feq_i ! (List Val) (at ∷ []) (at ∷ []) refl $ fjoin ! $ returns ! (look_at ! 0 refl) $ free_all ! refl $ keep ! (0 ∷ 1 ∷ 2 ∷ []) $
         suffices ! _ (ends_at 𝓛 (ended Y) (stayed Y) held (At us) at (record { ref_ptr = (cb, co); now = x }) (tt, tt) (tt, tt)) $
         says ! refl $ nothing ! $ nothing ! $ fjoin ! $ join ! $ move ! (1 ∷ 2 ∷ []) $ join ! $ join ! $ done !)))))))

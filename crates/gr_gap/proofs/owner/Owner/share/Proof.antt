@@ -5,26 +5,25 @@ use Prim.Native.Nat.{ℕ, ◌+◌, ◌-◌, ◌<◌, ◌^◌}
 use native.Mathlib.Omega.{arith}
 use lib.Dec.{lit<}
 use base.Fraction.{full_share}
-use mir.Syntax.{Fn, Args, Ty, a_type, ty_ptr, ty_int, w64, ty_struct, tcons, tnil}
+use mir.Syntax.{Fn, Args, Ty, a_type, ty_ptr, ty_int, w64}
 use mir.Val.{Val, vptr, vint, vcons, vnil, vstruct, of_list}
 use mir.Raw.{raw as bare}
 use base.Logic.{SProp, ent, via, fst∗, snd∗, id⊢}
 use base.Fml.{Lft, Share, Fml, ftrue, flft, fhide, ftok, fat}
 use prog.Wp.{Env, Calls, Loops, WpFn, Tables}
-use types.Kit.{Item, Goal, Step, step, ‵, raw, some, later, ◌⊛◌, at_ret, ◌$◌, ◌∵◌, !, qed, move, keep, drop, group, await, pick, rewrite, use1, use2, use3, split, split3, join, fsplit, fsplit3, fjoin, fpick, fpack, feq_i, feq_l, suffices, frame, done}
+use types.Kit.{Item, ‵, raw, some, later, ◌⊛◌, at_ret, ◌$◌, ◌∵◌, !, qed, move, keep, drop, group, await, pick, rewrite, use1, use2, use3, split, split3, join, fsplit, fsplit3, fjoin, fpick, feq_l, suffices, frame, done}
 use types.Run.{look, store, stop, fld, load, lit, neg_lit, bin, of_opd, and_then, no_more, assigns_last, first, blocks, skips, branches, exec, returns, enter, well_typed}
 use types.Part.{look_in, sub, whole, agg}
 use types.Tokens.{shr_bor-open, obor_close}
 use types.Within.{tokens_halve}
 use types.Na.{na_inv_dup}
 use types.ByLocal.{alloc_all, pass_all, free_all, look_at, get, through, sets, is, env}
-use denote.RattleType.{RattleType, RowLaws, owns, Valss}
+use denote.RattleType.{RattleType, RowLaws, owns}
 use denote.RawPtr.{coded_ptr, ptr_own, rawptr_pure, Ptr, RawPtr, ptr_val, block_ptr, block_of, count_of, in_a_block, lies_at}
 use denote.Plain.{uint_in, uint_out}
 use denote.Builtin.{RefOf, u64}
 use denote.Steps.{nothing, looks, shuts}
 use denote.Copied.{Copied, plain_Copied, Struct-Copied}
-use denote.Struct.Struct.{Struct, within, as_fields}
 use denote.Struct.Laws.{RawPtr-laws}
 use denote.Memory.{cell_at}
 use base.Share
@@ -61,6 +60,7 @@ use Rattle.gr_gap.specs.Sticky as s
 use Rattle.gr_gap.specs.Sticky.{Id, ι}
 use Rattle.gr_gap.specs.Ownership as o
 use Rattle.gr_gap.proofs.StickyLaws as laws
+use Rattle.gr_gap.proofs.OwnerSteps as steps
 use Rattle.gr_gap.specs.contracts.owner.Owner as RC
 use Rattle.gr_gap.specs.contracts.owner.Owner.share as F
 use Rattle.gr_gap.specs.contracts.owner.Owner.share.Key.{name as #self}
@@ -122,7 +122,7 @@ module _ (Y : RattleType) (Yl : RowLaws (F.T-row Y)) {M : Type 1} {𝓤 : Ura M}
     t = lent_at R p x
 
     abbrev Word : RattleType
-    Word = Struct (record { name = (RC.the_type R).name; args = []; types = R ∷ []; fields = RawPtr ∷ RawPtr ∷ [] })
+    Word = steps.Word R
 
     abbrev lent : Lft → Fml
     lent = s.shared_lends 64 kk S P t
@@ -137,14 +137,10 @@ module _ (Y : RattleType) (Yl : RowLaws (F.T-row Y)) {M : Type 1} {𝓤 : Ura M}
     word c' = vstruct (vcons (ptr_val c') (vcons (ptr_val p) vnil))
 
     abbrev wty : Ty
-    wty = ty_struct (RC.the_type R).name (tcons ty_ptr (tcons ty_ptr tnil))
+    wty = steps.word_ty R
 
     abbrev tlaws : ShrLaws t
     tlaws = lent_at_shr_laws R Yl p x
-
-    made : {K : Type 0} → K → {Γ : List (Item 𝓤)} {G : Goal 𝓤 𝓛.H} → Step K 𝓛 (‵ (Word.own_val (c, (p, tt)) (word c ∷ [])) ∷ Γ) G Γ G
-    made k = step (λ next. nothing k $ feq_i k (List Val) (ptr_val p ∷ []) (ptr_val p ∷ []) refl $ fjoin k $ feq_i k (List Val) (ptr_val c ∷ []) (ptr_val c ∷ []) refl $ fjoin k $
-        feq_i k (List Val) (word c ∷ []) (word c ∷ []) refl $ fjoin k $ fpack k (Valss (RawPtr ∷ RawPtr ∷ [])) (within (record { name = (RC.the_type R).name; args = []; types = R ∷ []; fields = RawPtr ∷ RawPtr ∷ [] }) (c, (p, tt)) (word c ∷ [])) (ptr_val c ∷ [], (ptr_val p ∷ [], tt)) $ next)
 
     abbrev asked : Item 𝓤
     asked = raw ((F.clauses Y 𝓛 at_mem run z.0.0 z.0.3).requires z.1)
@@ -172,7 +168,7 @@ module _ (Y : RattleType) (Yl : RowLaws (F.T-row Y)) {M : Type 1} {𝓤 : Ura M}
         -- [the word; what is lent; the token of κ; the thread's; others; the locals]
         move ! (2 ∷ []) $ use1 𝓛 (‵ (flft κ (Share.left q)) ⊛ ‵ (flft κ (Share.right q))) (𝓛.lfts.lft_split κ q) $ split ! $ move ! (2 ∷ 1 ∷ []) $
         let raw_copied : Copied 𝓛 RawPtr = plain_Copied 𝓛 Ptr coded_ptr (ty_ptr ∷ []) ptr_own rawptr_pure ptr_val RawPtr-laws.tells in
-        let copied : Copied 𝓛 Word = Struct-Copied 𝓛 (record { name = (RC.the_type R).name; args = []; types = R ∷ []; fields = RawPtr ∷ RawPtr ∷ [] }) (refl, (refl, tt)) (raw_copied, (raw_copied, tt)) in
+        let copied : Copied 𝓛 Word = Struct-Copied 𝓛 (steps.pointers R) (refl, (refl, tt)) (raw_copied, (raw_copied, tt)) in
         looks ! tt Word copied.opens (c, (p, tt)) b o' (λ q' vs. move ! (3 ∷ []) $ drop ! $ move ! (1 ∷ []) $
         fpick ! (λ vss. fsplit ! $ feq_l ! (λ ev. fsplit ! $ feq_l ! (λ e0. fsplit ! $ feq_l ! (λ e1. drop ! $
         let word_is = subst (λ (ws : List Val). vs ≡ vstruct (of_list ((ptr_val c ∷ []) ++ (ws ++ []))) ∷ []) e1 (subst (λ (ws : List Val). vs ≡ vstruct (of_list (ws ++ (vss.1.0 ++ []))) ∷ []) e0 ev) in
@@ -195,10 +191,10 @@ module _ (Y : RattleType) (Yl : RowLaws (F.T-row Y)) {M : Type 1} {𝓤 : Ura M}
         move ! (2 ∷ 0 ∷ 4 ∷ 1 ∷ []) $
         use1 𝓛 (‵ (lies_at u64 full_share (block_ptr cb co) (n + 1))) (uint_in 𝓛 full_share w64 (n + 1) cb co) $ rewrite ! 0 (λ (r : Ptr). ‵ (lies_at u64 full_share r (n + 1))) (sym e) refl $ group ! 3 $
         use1 𝓛 (later (‵ (ftok every))) (laws.shut 64 kk S P 𝓛 a every w (n + 1)) $ await ! tt $
-        sets ! (is ! (agg ! (and_then ! (get ! refl) (and_then ! (get ! refl) (no_more !)))) (ap word (sym e))) refl (as_fields (ty_ptr ∷ ty_ptr ∷ []) (ptr_val c ∷ ptr_val p ∷ []) (Ptr-Good c, (Ptr-Good p, tt))) $
+        sets ! (is ! (agg ! (and_then ! (get ! refl) (and_then ! (get ! refl) (no_more !)))) (ap word (sym e))) refl (steps.word-Good R c p) $
         move ! (4 ∷ 2 ∷ []) $ obor_close ! tt $ drop ! $ move ! (5 ∷ 6 ∷ []) $
-        use1 𝓛 (‵ (fat q' (bare wty) b o' (word c))) (𝓛.laws.at_raw q' wty b o' (word c)) $ made ! $ move ! (1 ∷ 0 ∷ []) $ shuts ! tt Word q' (c, (p, tt)) (word c ∷ []) b o' $
-        move ! (1 ∷ 0 ∷ []) $ use2 𝓛 (‵ (flft κ q)) (𝓛.lfts.lft_join κ q) $ move ! (2 ∷ 3 ∷ 4 ∷ []) $ group ! 3 $ use1 𝓛 (‵ (s.shared_owns 64 kk S P t)) (laws.packed 64 kk S P 𝓛 t tlaws a w) $ made ! $ fjoin ! $
+        use1 𝓛 (‵ (fat q' (bare wty) b o' (word c))) (𝓛.laws.at_raw q' wty b o' (word c)) $ steps.word_made R c p ! $ move ! (1 ∷ 0 ∷ []) $ shuts ! tt Word q' (c, (p, tt)) (word c ∷ []) b o' $
+        move ! (1 ∷ 0 ∷ []) $ use2 𝓛 (‵ (flft κ q)) (𝓛.lfts.lft_join κ q) $ move ! (2 ∷ 3 ∷ 4 ∷ []) $ group ! 3 $ use1 𝓛 (‵ (s.shared_owns 64 kk S P t)) (laws.packed 64 kk S P 𝓛 t tlaws a w) $ steps.word_made R c p ! $ fjoin ! $
         returns ! (look_at ! 0 refl) $ free_all ! refl $ keep ! (0 ∷ 1 ∷ 3 ∷ 2 ∷ []) $
         suffices ! _ (ends_at 𝓛 (ended Y) (stayed Y) held (At us) (word c) (record { count = c; ptr = p; value = x }) (tt, tt) (tt, tt)) $ nothing ! $ nothing ! $ fjoin ! $ join ! $ move ! (1 ∷ 2 ∷ []) $ join ! $ join ! $ frame ! $ says ! refl $ done !)
         )
@@ -207,10 +203,10 @@ module _ (Y : RattleType) (Yl : RowLaws (F.T-row Y)) {M : Type 1} {𝓤 : Ura M}
         move ! (2 ∷ 0 ∷ 4 ∷ 1 ∷ []) $
         use1 𝓛 (‵ (lies_at u64 full_share (block_ptr cb co) (n))) (uint_in 𝓛 full_share w64 (n) cb co) $ rewrite ! 0 (λ (r : Ptr). ‵ (lies_at u64 full_share r (n))) (sym e) refl $ group ! 3 $
         use1 𝓛 (later (‵ (ftok every))) (laws.shut 64 kk S P 𝓛 a every false (n)) $ await ! tt $
-        sets ! (is ! (agg ! (and_then ! (get ! refl) (and_then ! (get ! refl) (no_more !)))) (ap word (sym e))) refl (as_fields (ty_ptr ∷ ty_ptr ∷ []) (ptr_val c ∷ ptr_val p ∷ []) (Ptr-Good c, (Ptr-Good p, tt))) $
+        sets ! (is ! (agg ! (and_then ! (get ! refl) (and_then ! (get ! refl) (no_more !)))) (ap word (sym e))) refl (steps.word-Good R c p) $
         move ! (4 ∷ 2 ∷ []) $ obor_close ! tt $ drop ! $ move ! (5 ∷ 6 ∷ []) $
-        use1 𝓛 (‵ (fat q' (bare wty) b o' (word c))) (𝓛.laws.at_raw q' wty b o' (word c)) $ made ! $ move ! (1 ∷ 0 ∷ []) $ shuts ! tt Word q' (c, (p, tt)) (word c ∷ []) b o' $
-        move ! (1 ∷ 0 ∷ []) $ use2 𝓛 (‵ (flft κ q)) (𝓛.lfts.lft_join κ q) $ move ! (2 ∷ 3 ∷ 4 ∷ []) $ group ! 3 $ use1 𝓛 (‵ (s.shared_owns 64 kk S P t)) (laws.packed 64 kk S P 𝓛 t tlaws a false) $ made ! $ fjoin ! $
+        use1 𝓛 (‵ (fat q' (bare wty) b o' (word c))) (𝓛.laws.at_raw q' wty b o' (word c)) $ steps.word_made R c p ! $ move ! (1 ∷ 0 ∷ []) $ shuts ! tt Word q' (c, (p, tt)) (word c ∷ []) b o' $
+        move ! (1 ∷ 0 ∷ []) $ use2 𝓛 (‵ (flft κ q)) (𝓛.lfts.lft_join κ q) $ move ! (2 ∷ 3 ∷ 4 ∷ []) $ group ! 3 $ use1 𝓛 (‵ (s.shared_owns 64 kk S P t)) (laws.packed 64 kk S P 𝓛 t tlaws a false) $ steps.word_made R c p ! $ fjoin ! $
         returns ! (look_at ! 0 refl) $ free_all ! refl $ keep ! (0 ∷ 1 ∷ 3 ∷ 2 ∷ []) $
         suffices ! _ (ends_at 𝓛 (ended Y) (stayed Y) held (At us) (word c) (record { count = c; ptr = p; value = x }) (tt, tt) (tt, tt)) $ nothing ! $ nothing ! $ fjoin ! $ join ! $ move ! (1 ∷ 2 ∷ []) $ join ! $ join ! $ frame ! $ says ! refl $ done !
         ))))))))))))
