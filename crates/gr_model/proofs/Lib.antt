@@ -40,3 +40,4 @@ pub mod RecordSteps
 pub mod HeardCalls
 pub mod HeardSteps
 pub mod BareHosts
+pub mod NamedLines
