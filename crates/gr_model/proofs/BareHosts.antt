@@ -272,7 +272,7 @@ publish_bare net p w q number v n f j keeps =
 
 -- Starting again
 
-started_horizon : (net : Net) (p b : ℕ) (log : Log) → (started net p b log).horizon ≡ 0
+pub started_horizon : (net : Net) (p b : ℕ) (log : Log) → (started net p b log).horizon ≡ 0
 unfolding started
 started_horizon net p b log = refl
 

@@ -146,7 +146,7 @@ publish_now_heard net w p number e H n f j h =
     (λ host keeps k. absurd (both_ways (is_host net p (net.host p)) host (eq-eqb (net.host p) (net.host p) refl))) (λ c q t x. refl) h
 
 -- a started broker has heard nothing
-started_heard : (net : Net) (p b : ℕ) (log : Log) (H : ℕ → Bool) → is_host net p b ≡ false → ((t : ℕ) → H t ≡ false) → HeardFits (started net p b log) H
+pub started_heard : (net : Net) (p b : ℕ) (log : Log) (H : ℕ → Bool) → is_host net p b ≡ false → ((t : ℕ) → H t ≡ false) → HeardFits (started net p b log) H
 unfolding started
 started_heard net p b log H host none = rw host (record {
   below = λ t x y. absurd (omega (arith, x, y));

@@ -7,7 +7,7 @@ use Rattle.gr_model.specs.Net.{Net}
 use Rattle.gr_sched.specs.declared.step.Line.{Line}
 use Rattle.gr_sched.specs.declared.step.Step.{Step}
 use Rattle.gr_sched.specs.declared.step.Step.TheVariants as step
-use Rattle.gr_model.specs.Headline.{History, record_of, last_cut, last_horizon, IsDoubt, GetsExactly, is_record_line, record_lines, is_doubt_line, doubt_place, doubts_shown, after, begin}
+use Rattle.gr_model.specs.Headline.{History, record_of, last_cut, last_horizon, IsDoubt, GetsExactly, InOrder, is_record_line, record_lines, is_doubt_line, doubt_place, doubts_shown, after, begin}
 use Rattle.gr_model.specs.Tree.{IsSubscriber}
 
 -- discarded only after delivery, for one publisher: cuts rise strictly, none is past what is settled, and each event up to a cut was got before it by each subscriber that wants it
@@ -17,11 +17,10 @@ pub record CutsInOrder (net : Net) (h : History) (p : ℕ) : Type 0 where
   pub cut_got : (t : ℕ) (xs ys : List Report) → h.lines ≡ xs ++ line.Cut p t ∷ ys →
       (s u : ℕ) (e : Event) → Contains (record_of h p).events (u, e) → u ≤ t → IsSubscriber net s → net.wants s e ≡ true → Contains xs (line.Got s p u e)
 
--- delivered exactly and rising horizons for each subscriber, discarded only after delivery for each publisher, and doubt horizons for each subscriber at the host
+-- delivered exactly and rising horizons for each subscriber, discarded only after delivery, and doubt horizons for each subscriber at the host
 pub record Reported (net : Net) (h : History) : Type 0 where
   pub gets : (s p : ℕ) → p < net.publishers → IsSubscriber net s → GetsExactly net h s p
-  pub cuts : (p : ℕ) → p < net.publishers → CutsInOrder net h p
-  pub horizons : (s p n : ℕ) (xs ys : List Report) → p < net.publishers → IsSubscriber net s → h.lines ≡ xs ++ line.Horizon s p n ∷ ys → last_horizon s p 0 xs < n
+  pub order : InOrder net h
   pub doubt_at_host : (s p : ℕ) → p < net.publishers → IsSubscriber net s → net.host p ≡ net.at s → IsDoubt net h (net.at s) p (last_horizon s p 0 h.lines)
 
 -- the same after each step, and of each step the recorded lines and the places of the doubt lines
