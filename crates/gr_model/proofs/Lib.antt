@@ -41,3 +41,4 @@ pub mod HeardCalls
 pub mod HeardSteps
 pub mod BareHosts
 pub mod NamedLines
+pub mod WithoutSweeps

@@ -1,5 +1,5 @@
 -- The cut and horizon lines of each step name publishers and subscribers of the topology, and its doubt lines say the horizons
-use Rattle.std.proofs.Common.{◌≡◌, ◌<◌, subst, sym, arith, ℕ, suc, ◌+◌, ◌-◌, max, Bool, true, false, ◌&&◌, List, [], ◌∷◌, ◌++◌, map, length, set, refl, ap, ap₂, ◌∙◌, Option, Some, None}
+use Rattle.std.proofs.Common.{◌≡◌, ◌<◌, subst, sym, arith, ℕ, suc, ◌+◌, ◌-◌, max, Bool, true, false, ◌&&◌, List, [], ◌∷◌, ◌++◌, map, length, set, refl, Option, Some, None}
 use Rattle.std.specs.Prelude.{nat_eq, nat_le, nat_lt, if◌then◌else◌, flat_map, filter, get_or}
 use Rattle.gr_event.specs.declared.event.Event.{Event}
 use Rattle.gr_frame.specs.declared.Body.{Body}
@@ -22,7 +22,7 @@ use Rattle.gr_model.specs.Fits.{WorldFits, StepIn}
 use Rattle.gr_model.proofs.Calls.{run_at}
 use Rattle.gr_model.proofs.Schedules.{clocked_fits, frame_at_true}
 use Rattle.std.specs.List.{list_any}
-use Rattle.std.proofs.lemmas.Bool.{eq-eqb, or_left, or_right, cases_Bool}
+use Rattle.std.proofs.lemmas.Bool.{eq-eqb, or_left, or_right}
 use Rattle.gr_model.proofs.Worlds.{Each, numbers_below}
 use Rattle.gr_model.proofs.Chains.{Chains, wake_all_chain, sweeps_chain}
 

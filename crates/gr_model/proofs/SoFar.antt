@@ -1,7 +1,7 @@
 -- The headline as far as it is proved, after each step of every schedule
 use Rattle.std.proofs.lemmas.List.Elements.{filter-append}
 use Rattle.gr_frame.specs.declared.Frame.{Frame}
-use Rattle.std.proofs.Common.{◌≡◌, zero, suc, ◌+◌, length, arith, ℕ, ◌≤◌, ◌<◌, true, false, ◌&&◌, ap, get_or, List, [], ◌∷◌, ◌++◌, refl, sym, ap₂, ◌∙◌, subst}
+use Rattle.std.proofs.Common.{◌≡◌, zero, suc, length, arith, ℕ, ◌≤◌, ◌<◌, true, false, ◌&&◌, ap, get_or, List, [], ◌∷◌, ◌++◌, refl, sym, ap₂, ◌∙◌, subst}
 use Rattle.std.specs.Prelude.{filter, slice_index_or, Contains, not, nat_eq, if◌then◌else◌}
 use Rattle.std.proofs.lemmas.Bool.{and_right, both_ways, eq-eqb}
 use Rattle.gr_sched.specs.declared.step.Line.{Line}
@@ -33,19 +33,19 @@ Any b p t = Unit {0}
 
 -- a world and the history of the steps to it
 pub record Stands (net : Net) (w : World) (h : History) : Type 0 where
-  fits : WorldFits net w
-  records : RecordsFit net w h
-  lines : LinesFit net w h.lines
-  ordered : Ordered net w h.lines
-  sent : filter is_sent h.lines ≡ sent_lines 1 w.frames
-  named : Named net Any h.lines
+  pub fits : WorldFits net w
+  pub records : RecordsFit net w h
+  pub lines : LinesFit net w h.lines
+  pub ordered : Ordered net w h.lines
+  pub sent : filter is_sent h.lines ≡ sent_lines 1 w.frames
+  pub named : Named net Any h.lines
 
 lines_long : (n : ℕ) (fs : List Frame) → length (sent_lines n fs) ≡ length fs
 lines_long n [] = refl
 lines_long n (f ∷ fs) = ap suc (lines_long (suc n) fs)
 
 -- as many frames as sent lines
-sent_count_is : (net : Net) (w : World) (h : History) → Stands net w h → sent_count h.lines ≡ length w.frames
+pub sent_count_is : (net : Net) (w : World) (h : History) → Stands net w h → sent_count h.lines ≡ length w.frames
 sent_count_is net w h k = ap length k.sent ∙ lines_long 1 w.frames
 
 -- at a split of the lines
@@ -55,12 +55,12 @@ rise_at s p n m (line.Horizon r q t ∷ xs) ys a = rise_at s p n (if nat_eq r s 
 rise_at s p n m (l ∷ xs) ys a = rise_at s p n m xs ys a
 
 -- the place of an element in a list
-record IsSplit {X : Type 0} (xs : List X) (x : X) : Type 0 where
-  front : List X
-  back : List X
-  is : xs ≡ front ++ x ∷ back
+pub record IsSplit {X : Type 0} (xs : List X) (x : X) : Type 0 where
+  pub front : List X
+  pub back : List X
+  pub is : xs ≡ front ++ x ∷ back
 
-split_from : {X : Type 0} (xs : List X) (x : X) (k : ℕ) → k < length xs → slice_index_or xs k x ≡ x → IsSplit xs x
+pub split_from : {X : Type 0} (xs : List X) (x : X) (k : ℕ) → k < length xs → slice_index_or xs k x ≡ x → IsSplit xs x
 split_from [] x k h e = absurd (omega arith)
 split_from (y ∷ ys) x zero h e = record { front = []; back = ys; is = ap (λ z. z ∷ ys) e }
 split_from {X} (y ∷ ys) x (suc k) h e = let s = split_from ys x k (omega arith) e in record { front = y ∷ s.front; back = s.back; is = ap (λ (z : List X). y ∷ z) s.is }
@@ -79,7 +79,7 @@ named_horizon net G s p t (line.Horizon r q u ∷ xs) ys a = named_horizon net G
 named_horizon net G s p t (line.Doubt b q u ∷ xs) ys a = named_horizon net G s p t xs ys a.1
 named_horizon net G s p t (l ∷ xs) ys a = named_horizon net G s p t xs ys a
 
-named_doubt : (net : Net) (G : ℕ → ℕ → ℕ → Type 0) (b p t : ℕ) (xs ys : List Report) → Named net G (xs ++ line.Doubt b p t ∷ ys) → G b p t
+pub named_doubt : (net : Net) (G : ℕ → ℕ → ℕ → Type 0) (b p t : ℕ) (xs ys : List Report) → Named net G (xs ++ line.Doubt b p t ∷ ys) → G b p t
 named_doubt net G b p t [] ys a = a.0
 named_doubt net G b p t (line.Cut q u ∷ xs) ys a = named_doubt net G b p t xs ys a.1
 named_doubt net G b p t (line.Horizon r q u ∷ xs) ys a = named_doubt net G b p t xs ys a.1

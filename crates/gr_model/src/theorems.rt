@@ -11,8 +11,8 @@ ghost use Rattle.gr_model.specs.Tree.{IsNet, IsSubscriber};
 ghost use Rattle.gr_model.specs.Broker.{clashes};
 ghost use Rattle.gr_model.specs.World.{view_of, log_of, frame_at, run_all, start, next, report_of};
 ghost use Rattle.gr_model.specs.Fits.{StepIn, StepsIn, WorldFits, history_of};
-ghost use Rattle.gr_model.specs.Headline.{GetsExactly, is_doubt_line, doubt_place, doubts_shown};
-ghost use Rattle.gr_model.specs.Order.{CutsInOrder, HeadlineSoFar};
+ghost use Rattle.gr_model.specs.Headline.{GetsExactly, Headline, is_doubt_line, doubt_place, doubts_shown};
+ghost use Rattle.gr_model.specs.Order.{CutsInOrder, HeadlineSoFar, SweepsNowhere};
 ghost use Rattle.gr_model.specs.Blank.{net0};
 ghost use Rattle.gr_model.specs.Examples.{WorkedExamples};
 
@@ -63,4 +63,10 @@ pub fn doubts_stand()
 /// The headline as far as it is proved, over every schedule and after each of its steps.
 pub fn headline_so_far()
     ensures { (net : Net) (steps : List Line) → IsNet net → 1 ≤ net.quiet → StepsIn net steps → HeadlineSoFar net steps (report_of net steps) }
+{}
+
+/// The headline, whole, over every schedule without a sweep and after each of its steps: recorded lines, delivered
+/// exactly, doubt horizons, horizons rise, discarded only after delivery.
+pub fn headline_without_sweeps()
+    ensures { (net : Net) (steps : List Line) → IsNet net → 1 ≤ net.quiet → StepsIn net steps → SweepsNowhere steps → Headline net steps (report_of net steps) }
 {}
