@@ -34,7 +34,7 @@ use Rattle.gr_model.proofs.Worlds.{Each, absorbed_changed, wake_for_kept}
 use Rattle.gr_model.proofs.Schedules.{frame_at_true, get_numbers}
 
 -- some line says that something was logged or marked for p
-abbrev told_of : ℕ → List Report → Bool
+abbrev pub told_of : ℕ → List Report → Bool
 told_of p ls = list_any (is_record_of p) ls
 
 not_record : (p : ℕ) (l : Report) → is_record_line l ≡ false → is_record_of p l ≡ false
@@ -42,7 +42,7 @@ not_record p (line.Logged q n t) e = absurd (true≢false e)
 not_record p (line.Mark q t) e = absurd (true≢false e)
 not_record p _ e = refl
 
-told_recs : (p : ℕ) (ls : List Report) → told_of p ls ≡ told_of p (recs ls)
+pub told_recs : (p : ℕ) (ls : List Report) → told_of p ls ≡ told_of p (recs ls)
 told_recs p [] = refl
 told_recs p (l ∷ ls) =
     elim (cases_Bool (is_record_line l)) [
@@ -50,7 +50,7 @@ told_recs p (l ∷ ls) =
       | inr e ↦ rw e (rw (not_record p l e) (told_recs p ls))
     ]
 
-told_append : (p : ℕ) (xs ys : List Report) → told_of p (xs ++ ys) ≡ (told_of p xs || told_of p ys)
+pub told_append : (p : ℕ) (xs ys : List Report) → told_of p (xs ++ ys) ≡ (told_of p xs || told_of p ys)
 told_append p [] ys = refl
 told_append p (x ∷ xs) ys = go (is_record_of p x) (told_append p xs ys)
   where
@@ -66,11 +66,11 @@ abbrev pub host_settled : ℕ → World → ℕ
 host_settled p w = (log_of w p).settled
 
 -- where something was logged or marked the horizon is where the log is settled; else both stay
-record Tells (net : Net) (p : ℕ) (w : World) (t : Told) : Type 0 where
-  told : told_of p t.lines ≡ true → host_horizon net p t.world ≡ host_settled p t.world
-  still : told_of p t.lines ≡ false → (host_horizon net p t.world ≡ host_horizon net p w) × (host_settled p t.world ≡ host_settled p w)
+pub record Tells (net : Net) (p : ℕ) (w : World) (t : Told) : Type 0 where
+  pub told : told_of p t.lines ≡ true → host_horizon net p t.world ≡ host_settled p t.world
+  pub still : told_of p t.lines ≡ false → (host_horizon net p t.world ≡ host_horizon net p w) × (host_settled p t.world ≡ host_settled p w)
 
-tells_still : (net : Net) (p : ℕ) (w : World) (t : Told) → told_of p t.lines ≡ false → host_horizon net p t.world ≡ host_horizon net p w → host_settled p t.world ≡ host_settled p w → Tells net p w t
+pub tells_still : (net : Net) (p : ℕ) (w : World) (t : Told) → told_of p t.lines ≡ false → host_horizon net p t.world ≡ host_horizon net p w → host_settled p t.world ≡ host_settled p w → Tells net p w t
 tells_still net p w t e h s = record { told = λ x. absurd (false≢true (sym e ∙ x)); still = λ x. (h, s) }
 
 tells_seq : (net : Net) (p : ℕ) (w : World) (t : Told) (f : World → Told) → Tells net p w t → Tells net p t.world (f t.world) → Tells net p w (after t f)
@@ -355,7 +355,7 @@ each_bare-get f a (b ∷ bs) zero h = ap (λ k. f k b) (omega arith)
 each_bare-get f a (b ∷ bs) (suc i) h = each_bare-get f (suc a) bs i (omega arith) ∙ ap (λ k. f k (get_or bs i true)) (omega arith)
 
 -- a step without a crash
-tells_bare : (net : Net) (w : World) (t : Told) (bare : List Bool) → Bare net w bare → ((p : ℕ) → p < net.publishers → keeps_horizon net p (net.host p) ≡ true → Tells net p w t) → Bare net t.world (each_bare (λ p x. x && not (list_any (is_record_of p) t.lines)) 0 bare)
+pub tells_bare : (net : Net) (w : World) (t : Told) (bare : List Bool) → Bare net w bare → ((p : ℕ) → p < net.publishers → keeps_horizon net p (net.host p) ≡ true → Tells net p w t) → Bare net t.world (each_bare (λ p x. x && not (list_any (is_record_of p) t.lines)) 0 bare)
 tells_bare net w t bare b a = record {
   long = each_bare-long f 0 bare ∙ b.long;
   fits = λ p j keeps.

@@ -42,3 +42,4 @@ pub mod HeardSteps
 pub mod BareHosts
 pub mod NamedLines
 pub mod WithoutSweeps
+pub mod SweepHosts

@@ -8,14 +8,14 @@ use Rattle.gr_sched.specs.declared.step.Line.{Line}
 use Rattle.gr_model.specs.declared.report.Report.{Report}
 use Rattle.gr_model.specs.declared.report.Report.TheVariants as line
 use Rattle.gr_model.specs.Net.{Net, is_host, not_empty}
-use Rattle.gr_model.specs.World.{sent_lines, World, view_of, log_of, start, next, run_from, report_of}
-use Rattle.gr_model.specs.Headline.{InOrder, History, record_of, after, begin, last_horizon, may_crash, HorizonsRise, sent_count, is_sent}
+use Rattle.gr_model.specs.World.{sent_lines, World, view_of, log_of, start, next, run_all, run_from, report_of}
+use Rattle.gr_model.specs.Headline.{InOrder, History, history, record_of, after, begin, last_horizon, may_crash, HorizonsRise, sent_count, is_sent}
 use Rattle.gr_model.proofs.RecordLines.{sent_lines-append}
 use Rattle.gr_model.proofs.RecordSteps.{step_records, step_sends}
 use Rattle.gr_model.specs.Said.{due_upto}
 use Rattle.gr_model.specs.Tree.{IsNet, IsSubscriber}
 use Rattle.gr_model.specs.Fits.{WorldFits, LinesFit, StepIn, StepsIn}
-use Rattle.gr_model.specs.Order.{CutsInOrder, Reported, Reported_from, HeadlineSoFar}
+use Rattle.gr_model.specs.Order.{FramesSent, CutsInOrder, Reported, Reported_from, HeadlineSoFar}
 use Rattle.gr_model.proofs.Records.{core_of}
 use Rattle.gr_model.proofs.Recorded.{RecordsFit, record_core, next_records, begin_fits, begin_lines, after_lines}
 use Rattle.gr_model.proofs.Schedules.{next_kept, start_fits, start_lines}
@@ -164,3 +164,12 @@ start_stands net n = record {
 pub headline_so_far : (net : Net) (ls : List Line) → IsNet net → 1 ≤ net.quiet → StepsIn net ls → HeadlineSoFar net ls (report_of net ls)
 unfolding report_of
 headline_so_far net ls n z i = (refl, from_stands net (start net) (begin net) ls n z i (start_stands net n))
+
+-- the world after a schedule stands with its history
+pub stands_run : (net : Net) (w : World) (h : History) (ls : List Line) → IsNet net → 1 ≤ net.quiet → StepsIn net ls → Stands net w h → Stands net (run_all net w ls).world (history net h ls (run_from net w ls))
+unfolding run_from
+stands_run net w h [] n z i k = k
+stands_run net w h (l ∷ ls) n z i k = stands_run net (next net w l).world (after net h l (next net w l).lines) ls n z i.1 (next_stands net w h l n z i.0 k)
+
+pub frames_sent : (net : Net) (ls : List Line) → IsNet net → 1 ≤ net.quiet → StepsIn net ls → FramesSent net ls
+frames_sent net ls n z i = (stands_run net (start net) (begin net) ls n z i (start_stands net n)).sent

@@ -7,8 +7,10 @@ use Rattle.gr_model.specs.Net.{Net}
 use Rattle.gr_sched.specs.declared.step.Line.{Line}
 use Rattle.gr_sched.specs.declared.step.Step.{Step}
 use Rattle.gr_sched.specs.declared.step.Step.TheVariants as step
-use Rattle.gr_model.specs.Headline.{History, record_of, last_cut, last_horizon, IsDoubt, GetsExactly, InOrder, is_record_line, record_lines, is_doubt_line, doubt_place, doubts_shown, after, begin}
+use Rattle.gr_model.specs.Headline.{History, record_of, last_cut, last_horizon, IsDoubt, GetsExactly, InOrder, is_record_line, is_sent, record_lines, is_doubt_line, doubt_place, doubts_shown, after, begin}
 use Rattle.gr_model.specs.Tree.{IsSubscriber}
+use Rattle.gr_model.specs.World.{start, run_all, sent_lines}
+use Rattle.gr_model.specs.Fits.{history_of}
 
 -- discarded only after delivery, for one publisher: cuts rise strictly, none is past what is settled, and each event up to a cut was got before it by each subscriber that wants it
 pub record CutsInOrder (net : Net) (h : History) (p : ℕ) : Type 0 where
@@ -44,3 +46,7 @@ is_sweep _ = false
 abbrev pub SweepsNowhere : List Line → Type 0
 SweepsNowhere [] = Unit {0}
 SweepsNowhere (l ∷ ls) = (is_sweep l.step ≡ false) × SweepsNowhere ls
+
+-- frames sent: the sent lines are numbered 1, 2, 3 and so on, and say the frames that the calls sent, in their order
+abbrev pub FramesSent : Net → List Line → Type 0
+FramesSent net steps = filter is_sent (history_of net steps).lines ≡ sent_lines 1 (run_all net (start net) steps).world.frames
