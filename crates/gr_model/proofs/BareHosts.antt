@@ -12,7 +12,6 @@ use Rattle.gr_frame.specs.Bytes.{frame_bytes}
 use Rattle.gr_sched.specs.declared.step.Stop.{Stop}
 use Rattle.gr_sched.specs.declared.step.Step.{Step}
 use Rattle.gr_sched.specs.declared.step.Step.TheVariants as step
-use Rattle.gr_sched.specs.declared.step.Line.{Line}
 use Rattle.gr_know.specs.declared.values.K.TheVariants.{D}
 use Rattle.gr_model.specs.declared.report.Report.{Report}
 use Rattle.gr_model.specs.declared.report.Report.TheVariants as line
@@ -425,7 +424,7 @@ stopped_bare net w k q number stop e bare n f j h = go (not_empty (net.subscribe
     go false false z = tells_bare net w (publish_now net w q number e) bare h (λ p i keeps. publish_bare net p w q number e n f j keeps)
     go false true z = restarted_bare net w logs (net.host q) bare f (n.host_in q j) (ap not z) (same (is_kept log.gate stop.call stop.pick)) h
 
-bare_by : (net : Net) (w : World) (h : History) (k : ℕ) (s : Step) → IsNet net → 1 ≤ net.quiet → WorldFits net w → RecordsFit net w h → Each (ExpectFits net) w.frames → StepIn net s → is_sweep s ≡ false → Bare net w h.bare → Bare net (next net w (record { number = k; step = s })).world (bare_after net h (record { number = k; step = s }) (next net w (record { number = k; step = s })).lines)
+pub bare_by : (net : Net) (w : World) (h : History) (k : ℕ) (s : Step) → IsNet net → 1 ≤ net.quiet → WorldFits net w → RecordsFit net w h → Each (ExpectFits net) w.frames → StepIn net s → is_sweep s ≡ false → Bare net w h.bare → Bare net (next net w (record { number = k; step = s })).world (bare_after net h (record { number = k; step = s }) (next net w (record { number = k; step = s })).lines)
 unfolding next bare_after wake_all
 bare_by net w h k (step.Clock now) n z f r x i y a =
     let t = next net w (record { number = k; step = step.Clock now }) in
@@ -453,6 +452,3 @@ bare_by net w h k (step.Bytes j) n z f r x i y a = go (frame_at w j)
     go : (o : Option Frame) → (let t : Told = elim o [ None ↦ unchanged w (line.RefusedFrame k j (length w.frames) ∷ []) | Some x ↦ unchanged w (line.BytesOf j (frame_bytes x) ∷ []) ] in Bare net t.world (each_bare (λ p x. x && not (list_any (is_record_of p) t.lines)) 0 h.bare))
     go None = tells_bare net w (unchanged w (line.RefusedFrame k j (length w.frames) ∷ [])) h.bare a (λ p m keeps. tells_still net p w (unchanged w (line.RefusedFrame k j (length w.frames) ∷ [])) refl refl refl)
     go (Some x) = tells_bare net w (unchanged w (line.BytesOf j (frame_bytes x) ∷ [])) h.bare a (λ p m keeps. tells_still net p w (unchanged w (line.BytesOf j (frame_bytes x) ∷ [])) refl refl refl)
-
-pub step_bare : (net : Net) (w : World) (h : History) (l : Line) → IsNet net → 1 ≤ net.quiet → WorldFits net w → RecordsFit net w h → Each (ExpectFits net) w.frames → StepIn net l.step → is_sweep l.step ≡ false → Bare net w h.bare → Bare net (next net w l).world (bare_after net h l (next net w l).lines)
-step_bare net w h l n z f r x i y a = bare_by net w h l.number l.step n z f r x i y a

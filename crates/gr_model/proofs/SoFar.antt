@@ -1,30 +1,36 @@
 -- The headline as far as it is proved, after each step of every schedule
 use Rattle.std.proofs.lemmas.List.Elements.{filter-append}
 use Rattle.gr_frame.specs.declared.Frame.{Frame}
-use Rattle.std.proofs.Common.{◌≡◌, zero, suc, length, arith, ℕ, ◌≤◌, ◌<◌, true, false, ◌&&◌, ap, get_or, List, [], ◌∷◌, ◌++◌, refl, sym, ap₂, ◌∙◌, subst}
+use Rattle.std.proofs.Common.{◌≡◌, zero, suc, length, arith, ℕ, ◌≤◌, ◌<◌, true, false, ◌&&◌, ap, get_or, List, [], ◌∷◌, ◌++◌, refl, sym, ap₂, ◌∙◌, subst, Bool}
 use Rattle.std.specs.Prelude.{filter, slice_index_or, Contains, not, nat_eq, if◌then◌else◌}
-use Rattle.std.proofs.lemmas.Bool.{and_right, both_ways, eq-eqb}
+use Rattle.std.proofs.lemmas.Bool.{eqb-true, and_right, both_ways, eq-eqb}
 use Rattle.gr_sched.specs.declared.step.Line.{Line}
 use Rattle.gr_model.specs.declared.report.Report.{Report}
 use Rattle.gr_model.specs.declared.report.Report.TheVariants as line
-use Rattle.gr_model.specs.Net.{Net, is_host, not_empty}
+use Rattle.gr_model.specs.Net.{keeps_horizon, Net, is_host, not_empty}
 use Rattle.gr_model.specs.World.{sent_lines, World, view_of, log_of, start, next, run_all, run_from, report_of}
-use Rattle.gr_model.specs.Headline.{InOrder, History, history, record_of, after, begin, last_horizon, may_crash, HorizonsRise, sent_count, is_sent}
+use Rattle.gr_model.specs.Headline.{bare_after, InOrder, History, history, record_of, after, begin, last_horizon, may_crash, HorizonsRise, sent_count, is_sent}
 use Rattle.gr_model.proofs.RecordLines.{sent_lines-append}
 use Rattle.gr_model.proofs.RecordSteps.{step_records, step_sends}
 use Rattle.gr_model.specs.Said.{due_upto}
 use Rattle.gr_model.specs.Tree.{IsNet, IsSubscriber}
 use Rattle.gr_model.specs.Fits.{WorldFits, LinesFit, StepIn, StepsIn}
-use Rattle.gr_model.specs.Order.{FramesSent, CutsInOrder, Reported, Reported_from, HeadlineSoFar}
+use Rattle.gr_model.specs.Order.{StepReported, FramesSent, CutsInOrder, Reported, Reported_from, HeadlineSoFar}
 use Rattle.gr_model.proofs.Records.{core_of}
 use Rattle.gr_model.proofs.Recorded.{RecordsFit, record_core, next_records, begin_fits, begin_lines, after_lines}
-use Rattle.gr_model.proofs.Schedules.{next_kept, start_fits, start_lines}
+use Rattle.gr_model.proofs.Schedules.{start_is, start_log, next_kept, start_fits, start_lines}
 use Rattle.gr_model.proofs.Cutlines.{CutsHave, CutsHave-at}
 use Rattle.gr_model.proofs.Orders.{CutFits, Ordered, has_one}
 use Rattle.gr_model.proofs.Worlds.{reached_here}
 use Rattle.gr_model.proofs.Ordering.{next_orders}
 use Rattle.gr_model.proofs.CutOrder.{got_in, said_listed, start_ordered}
 use Rattle.gr_model.proofs.Doubtlines.{doubts_stand}
+use Rattle.gr_model.proofs.BareHosts.{Bare, bare_horizon, host_horizon, started_horizon}
+use Rattle.gr_model.proofs.SweepHosts.{step_bare}
+use Rattle.gr_model.proofs.AskMoments.{ExpectFits, AsksFit, asks_closed, start_asks}
+use Rattle.gr_model.proofs.Closed.{next_holds}
+use Rattle.std.proofs.lemmas.List.{get_or-replicate, length-replicate}
+use Rattle.gr_model.specs.Broker.{empty_log}
 use Rattle.gr_model.proofs.NamedLines.{Named, Named-append, Named-map, IsShown, step_named}
 
 -- no matter what a doubt line says
@@ -39,6 +45,8 @@ pub record Stands (net : Net) (w : World) (h : History) : Type 0 where
   pub ordered : Ordered net w h.lines
   pub sent : filter is_sent h.lines ≡ sent_lines 1 w.frames
   pub named : Named net Any h.lines
+  pub bare : Bare net w h.bare
+  pub asks : AsksFit net w
 
 lines_long : (n : ℕ) (fs : List Frame) → length (sent_lines n fs) ≡ length fs
 lines_long n [] = refl
@@ -126,6 +134,32 @@ reported net w h n k = record {
       };
 }
 
+after_bare : (net : Net) (h : History) (l : Line) (ls : List Report) → (after net h l ls).bare ≡ bare_after net h l ls
+unfolding after
+after_bare net h l ls = refl
+
+-- a horizon that a host keeps is its doubt horizon
+pub doubt_at : (net : Net) (w : World) (h : History) (b p : ℕ) → Stands net w h → p < net.publishers → keeps_horizon net p b ≡ true → is_host net p b ≡ true → (view_of w b p).horizon ≡ (if get_or h.bare p true && may_crash net b then 0 else (record_of h p).settled)
+doubt_at net w h b p k j keeps x =
+    let g : net.host p ≡ b = eqb-true (net.host p) b x in
+    let c : record_of h p ≡ core_of w p = record_core net w h p k.records in
+    let f : host_horizon net p w ≡ bare_horizon net h.bare w p = k.bare.fits p j (subst (λ z. keeps_horizon net p z ≡ true) (sym g) keeps) in
+    subst (λ z. (view_of w z p).horizon ≡ (if get_or h.bare p true && may_crash net z then 0 else (log_of w p).settled)) g f ∙ ap (λ s. if get_or h.bare p true && may_crash net b then 0 else s) (ap (λ r. r.settled) (sym c))
+
+step_reported : (net : Net) (w : World) (h : History) (l : Line) → IsNet net → 1 ≤ net.quiet → StepIn net l.step → Stands net w h → StepReported net h l (next net w l).lines
+step_reported net w h l n z i k = record {
+  records = step_records net w h l n z k.fits k.records (sent_count_is net w h k) k.ordered.last i;
+  doubts_stand = doubts_stand net w l n k.fits i;
+  doubts_at_host = λ b p t c x.
+      let s = split_from (next net w l).lines (line.Doubt b p t) c.0 c.1 c.2 in
+      let d : IsShown net w b p t = named_doubt net (IsShown net w) b p t s.front s.back (subst (Named net (IsShown net w)) s.is (step_named net w l n k.fits i)) in
+      record {
+        at_host = λ y. d.tick ∙ doubt_at net w h b p k d.publisher d.keeps x;
+        below = λ y u v e. absurd (both_ways (is_host net p b) y x);
+        ends = λ y. absurd (both_ways (is_host net p b) y x);
+      };
+}
+
 pub next_stands : (net : Net) (w : World) (h : History) (l : Line) → IsNet net → 1 ≤ net.quiet → StepIn net l.step → Stands net w h → Stands net (next net w l).world (after net h l (next net w l).lines)
 next_stands net w h l n z i k =
     let x = next_kept net w l n k.fits i in
@@ -140,16 +174,30 @@ next_stands net w h l n z i k =
           ap (filter is_sent) e ∙ (filter-append is_sent h.lines (next net w l).lines
           ∙ (ap₂ (λ (y z : List Report). y ++ z) k.sent c.told ∙ (sym (sent_lines-append 1 w.frames c.more ∙ ap (λ m. sent_lines 1 w.frames ++ sent_lines m c.more) (omega arith)) ∙ ap (sent_lines 1) (sym c.frames))));
       named = subst (Named net Any) (sym e) (Named-append net Any h.lines (next net w l).lines k.named (Named-map net (IsShown net w) Any (next net w l).lines (λ b p t x. tt) (step_named net w l n k.fits i)));
+      bare = subst (Bare net (next net w l).world) (sym (after_bare net h l (next net w l).lines)) (step_bare net w h l n z k.fits k.records k.asks.sent i k.bare);
+      asks = next_holds net (ExpectFits net) (AsksFit net) w l n (asks_closed net n) k.fits k.asks i;
     }
 
 from_stands : (net : Net) (w : World) (h : History) (ls : List Line) → IsNet net → 1 ≤ net.quiet → StepsIn net ls → Stands net w h → Reported_from net h ls (run_from net w ls)
 unfolding run_from
 from_stands net w h [] n z i k = reported net w h n k
-from_stands net w h (l ∷ ls) n z i k = (reported net w h n k, step_records net w h l n z k.fits k.records (sent_count_is net w h k) k.ordered.last i.0, doubts_stand net w l n k.fits i.0, from_stands net (next net w l).world (after net h l (next net w l).lines) ls n z i.1 (next_stands net w h l n z i.0 k))
+from_stands net w h (l ∷ ls) n z i k = (reported net w h n k, step_reported net w h l n z i.0 k, from_stands net (next net w l).world (after net h l (next net w l).lines) ls n z i.1 (next_stands net w h l n z i.0 k))
 
 start_frames : (net : Net) → (start net).frames ≡ []
 unfolding start
 start_frames net = refl
+
+start_bare : (net : Net) → IsNet net → Bare net (start net) (begin net).bare
+unfolding begin
+start_bare net n = record {
+  long = length-replicate net.publishers true;
+  fits = λ p j keeps. ap (λ v. v.horizon) (start_is net (net.host p) p (n.host_in p j) j) ∙ (started_horizon net p (net.host p) empty_log
+      ∙ sym (ap (λ x. if x && may_crash net (net.host p) then 0 else (log_of (start net) p).settled) (get_or-replicate net.publishers p true true j) ∙ (ap (λ s. if may_crash net (net.host p) then 0 else s) (ap (λ l. l.settled) (start_log net p j)) ∙ zero_both (may_crash net (net.host p)))));
+}
+  where
+    zero_both : (c : Bool) → (let z : ℕ = if c then 0 else 0 in z ≡ 0)
+    zero_both true = refl
+    zero_both false = refl
 
 pub start_stands : (net : Net) → IsNet net → Stands net (start net) (begin net)
 start_stands net n = record {
@@ -159,6 +207,8 @@ start_stands net n = record {
   ordered = subst (λ y. Ordered net (start net) y) (sym (begin_lines net)) (start_ordered net n);
   sent = ap (filter is_sent) (begin_lines net) ∙ ap (sent_lines 1) (sym (start_frames net));
   named = subst (Named net Any) (sym (begin_lines net)) tt;
+  bare = start_bare net n;
+  asks = start_asks net n;
 }
 
 pub headline_so_far : (net : Net) (ls : List Line) → IsNet net → 1 ≤ net.quiet → StepsIn net ls → HeadlineSoFar net ls (report_of net ls)

@@ -1,25 +1,28 @@
 -- After a sweep every host that keeps a horizon has it where its log is settled
-use Rattle.std.proofs.Common.{◌≡◌, ◌≢◌, ◌⊎◌, inl, inr, ⊎_elim, ℕ, suc, zero, ◌+◌, ◌≤◌, ◌<◌, max, Bool, true, false, not, ◌&&◌, ◌||◌, List, [], ◌∷◌, ◌++◌, map, refl, sym, ap, ◌∙◌, subst, arith, le_antisymm, le_trans}
-use Rattle.std.specs.Prelude.{nat_eq, nat_le, nat_lt, if◌then◌else◌}
-use Rattle.std.proofs.lemmas.Bool.{cases_Bool, cases_eq, eq-eqb, ne_eqb, or_left, or_right, true≢false, both_ways, ltb-false}
+use Rattle.std.proofs.Common.{◌≡◌, ◌⊎◌, inl, inr, ⊎_elim, ℕ, suc, zero, ◌+◌, ◌≤◌, ◌<◌, max, Bool, true, false, [], ◌∷◌, ◌++◌, map, refl, sym, ap, ◌∙◌, subst, arith, le_antisymm, le_trans}
+use Rattle.std.specs.Prelude.{nat_eq, nat_le, nat_lt}
+use Rattle.std.proofs.lemmas.Bool.{cases_Bool, cases_eq, eq-eqb, ne_eqb, or_left, or_right, true≢false, both_ways}
 use Rattle.gr_frame.specs.declared.Frame.{Frame}
-use Rattle.gr_model.specs.declared.report.Report.{Report}
 use Rattle.gr_model.specs.declared.report.Report.TheVariants as line
-use Rattle.gr_model.specs.Net.{Net, is_host, keeps_horizon, numbers, numbers_from}
+use Rattle.gr_model.specs.Net.{Net, keeps_horizon, numbers, numbers_from}
 use Rattle.gr_model.specs.Broker.{Outcome, wake, receive, max_tick}
 use Rattle.gr_model.specs.World.{World, Told, view_of, log_of, absorbed, unchanged, after, in_turn, wake_for, deliver_frame, sweep, sweep_for, sweep_moment, next}
-use Rattle.gr_model.specs.Headline.{History, bare_after, is_record_of}
+use Rattle.gr_model.specs.Headline.{History, bare_after}
 use Rattle.gr_model.specs.Tree.{IsNet}
-use Rattle.gr_model.specs.Fits.{WorldFits, FrameTrue, HostKnows, reached_in}
+use Rattle.gr_sched.specs.declared.step.Step.{Step}
+use Rattle.gr_sched.specs.declared.step.Step.TheVariants as step
+use Rattle.gr_sched.specs.declared.step.Line.{Line}
+use Rattle.gr_model.specs.Fits.{WorldFits, FrameTrue, HostKnows, StepIn, reached_in}
 use Rattle.gr_model.proofs.Calls.{CallTrue, wake_call, receive_call}
-use Rattle.gr_model.proofs.Records.{core, core_of, receive_log, wake_core}
-use Rattle.gr_model.proofs.Recorded.{Sweeps, sweeps_from, marked_now, settled_below}
-use Rattle.gr_model.proofs.RecordLines.{recs, sweeps_recs}
+use Rattle.gr_model.proofs.Records.{core_of, receive_log, wake_core}
+use Rattle.gr_model.proofs.Recorded.{RecordsFit, Sweeps, sweeps_from, marked_now, settled_below}
+use Rattle.gr_model.proofs.RecordLines.{sweeps_recs}
 use Rattle.gr_model.proofs.HostHorizon.{wake_meets}
-use Rattle.gr_model.proofs.Worlds.{Kept, absorbed_changed}
+use Rattle.gr_model.proofs.Worlds.{Each, absorbed_changed}
+use Rattle.gr_model.proofs.AskMoments.{ExpectFits}
 use Rattle.gr_model.proofs.Chains.{Chains, sweeps_chain}
 use Rattle.gr_model.proofs.Schedules.{clocked_fits}
-use Rattle.gr_model.proofs.BareHosts.{Bare, Tells, tells_bare, tells_still, told_of, told_recs, told_append, host_horizon, host_settled}
+use Rattle.gr_model.proofs.BareHosts.{Bare, bare_by, Tells, tells_bare, tells_still, told_of, told_recs, told_append, host_horizon, host_settled}
 
 -- the horizon of the host only rises, and where the log went on it has come there
 record Moves (net : Net) (p : ℕ) (w : World) (t : Told) : Type 0 where
@@ -134,3 +137,12 @@ sweep_tells net w k p n z f j keeps = go (nat_lt max_tick m)
     go : (q : Bool) → Tells net p w (elim q [ true ↦ unchanged w (line.RefusedClock k m ∷ []) | false ↦ after swept (λ x. unchanged x (line.Swept m ∷ [])) ])
     go true = tells_still net p w (unchanged w (line.RefusedClock k m ∷ [])) refl refl refl
     go false = record { told = λ x. reached; still = λ x. absurd (true≢false (sym told ∙ x)) }
+
+bare_at : (net : Net) (w : World) (h : History) (k : ℕ) (s : Step) → IsNet net → 1 ≤ net.quiet → WorldFits net w → RecordsFit net w h → Each (ExpectFits net) w.frames → StepIn net s → Bare net w h.bare → Bare net (next net w (record { number = k; step = s })).world (bare_after net h (record { number = k; step = s }) (next net w (record { number = k; step = s })).lines)
+unfolding next bare_after
+bare_at net w h k step.Sweep n z f r x i a = tells_bare net w (sweep net w k) h.bare a (λ p j keeps. sweep_tells net w k p n z f j keeps)
+bare_at net w h k s n z f r x i a = bare_by net w h k s n z f r x i refl a
+
+-- each step keeps what the flags say of the hosts
+pub step_bare : (net : Net) (w : World) (h : History) (l : Line) → IsNet net → 1 ≤ net.quiet → WorldFits net w → RecordsFit net w h → Each (ExpectFits net) w.frames → StepIn net l.step → Bare net w h.bare → Bare net (next net w l).world (bare_after net h l (next net w l).lines)
+step_bare net w h l n z f r x i a = bare_at net w h l.number l.step n z f r x i a

@@ -1,49 +1,37 @@
 -- The headline, whole, over every schedule without a sweep
-use Rattle.std.proofs.Common.{◌≡◌, ℕ, ◌≤◌, ◌<◌, Bool, true, false, ◌&&◌, List, [], ◌∷◌, length, get_or, replicate, refl, sym, ap, ◌∙◌, subst}
-use Rattle.std.specs.Prelude.{if◌then◌else◌}
-use Rattle.std.proofs.lemmas.Bool.{eqb-true, or_left}
+use Rattle.std.proofs.Common.{◌≡◌, ℕ, ◌≤◌, ◌<◌, true, false, List, [], ◌∷◌, length, get_or, replicate, refl, sym, ap, ◌∙◌, subst}
+use Rattle.std.proofs.lemmas.Bool.{or_left}
 use Rattle.std.proofs.lemmas.List.{get_or-replicate, length-replicate}
 use Rattle.gr_know.specs.Values.{Known}
 use Rattle.gr_sched.specs.declared.step.Line.{Line}
 use Rattle.gr_model.specs.declared.report.Report.TheVariants as line
 use Rattle.gr_model.specs.Net.{Net, keeps_horizon, not_empty, is_empty}
 use Rattle.gr_model.specs.Broker.{empty_log}
-use Rattle.gr_model.specs.World.{World, view_of, log_of, start, next, run_from, report_of}
-use Rattle.gr_model.specs.Headline.{History, record_of, after, begin, may_crash, is_heard, IsDoubt, Delivered, StepTold, Holds_from, Headline}
+use Rattle.gr_model.specs.World.{World, view_of, start, next, run_from, report_of}
+use Rattle.gr_model.specs.Headline.{History, after, begin, is_heard, IsDoubt, Delivered, StepTold, Holds_from, Headline}
 use Rattle.gr_model.specs.Tree.{IsNet}
 use Rattle.gr_model.specs.Fits.{StepIn, StepsIn}
 use Rattle.gr_model.specs.Order.{is_sweep, SweepsNowhere}
-use Rattle.gr_model.proofs.Records.{core_of}
-use Rattle.gr_model.proofs.Recorded.{record_core}
 use Rattle.gr_model.proofs.RecordSteps.{step_records}
 use Rattle.gr_model.proofs.Doubtlines.{doubts_stand}
 use Rattle.gr_model.proofs.NamedLines.{Named, IsShown, step_named}
 use Rattle.gr_model.proofs.Heard.{HeardFits}
-use Rattle.gr_model.proofs.SoFar.{Stands, reported, in_order, next_stands, start_stands, sent_count_is, split_from, named_doubt}
+use Rattle.gr_model.proofs.SoFar.{doubt_at, Stands, reported, in_order, next_stands, start_stands, sent_count_is, split_from, named_doubt}
 use Rattle.gr_model.proofs.HeardCalls.{started_heard}
 use Rattle.gr_model.proofs.HeardSteps.{Hears, heard_in, step_hears}
-use Rattle.gr_model.proofs.BareHosts.{Bare, bare_horizon, host_horizon, step_bare, started_horizon}
-use Rattle.gr_model.proofs.AskMoments.{ExpectFits, AsksFit, asks_closed, start_asks}
-use Rattle.gr_model.proofs.Closed.{next_holds}
 use Rattle.gr_model.proofs.Worlds.{reached_here}
 use Rattle.gr_model.proofs.Orders.{has_one}
-use Rattle.gr_model.proofs.Schedules.{start_is, start_log}
+use Rattle.gr_model.proofs.Schedules.{start_is}
 
--- what stands, with what was heard, what the hosts' flags say, and what was asked
+-- what stands, with what was heard
 record Whole (net : Net) (w : World) (h : History) : Type 0 where
   stands : Stands net w h
   hears : Hears net w h.heard
-  bare : Bare net w h.bare
-  asks : AsksFit net w
 
 -- a kept horizon is the doubt horizon
 doubt_is : (net : Net) (w : World) (h : History) (b p : ℕ) → Whole net w h → b < net.brokers → p < net.publishers → keeps_horizon net p b ≡ true → IsDoubt net h b p (view_of w b p).horizon
 doubt_is net w h b p k i j keeps = record {
-  at_host = λ x.
-      let g : net.host p ≡ b = eqb-true (net.host p) b x in
-      let c : record_of h p ≡ core_of w p = record_core net w h p k.stands.records in
-      let f : host_horizon net p w ≡ bare_horizon net h.bare w p = k.bare.fits p j (subst (λ z. keeps_horizon net p z ≡ true) (sym g) keeps) in
-      subst (λ z. (view_of w z p).horizon ≡ (if get_or h.bare p true && may_crash net z then 0 else (log_of w p).settled)) g f ∙ ap (λ s. if get_or h.bare p true && may_crash net b then 0 else s) (ap (λ r. r.settled) (sym c));
+  at_host = λ x. doubt_at net w h b p k.stands j keeps x;
   below = λ x t a c. (k.hears.fits b p i j x keeps).below t a c;
   ends = λ x. (k.hears.fits b p i j x keeps).stops;
 }
@@ -72,8 +60,6 @@ unfolding after
 next_whole net w h l n z i y k = record {
   stands = next_stands net w h l n z i k.stands;
   hears = step_hears net w h l (next net w l).lines n k.stands.fits k.stands.records k.stands.sent i y k.hears;
-  bare = step_bare net w h l n z k.stands.fits k.stands.records k.asks.sent i y k.bare;
-  asks = next_holds net (ExpectFits net) (AsksFit net) w l n (asks_closed net n) k.stands.fits k.asks i;
 }
 
 holds_from : (net : Net) (w : World) (h : History) (ls : List Line) → IsNet net → 1 ≤ net.quiet → StepsIn net ls → SweepsNowhere ls → Whole net w h → Holds_from net h ls (run_from net w ls)
@@ -96,18 +82,6 @@ start_hears net = record {
   fits = λ b p i j host keeps. subst (λ v. HeardFits v (heard_in (begin net).heard b p)) (sym (start_is net b p i j)) (started_heard net p b empty_log (heard_in (begin net).heard b p) host (λ t. nothing_heard net b p t i j));
 }
 
-start_bare : (net : Net) → IsNet net → Bare net (start net) (begin net).bare
-unfolding begin
-start_bare net n = record {
-  long = length-replicate net.publishers true;
-  fits = λ p j keeps. ap (λ v. v.horizon) (start_is net (net.host p) p (n.host_in p j) j) ∙ (started_horizon net p (net.host p) empty_log
-      ∙ sym (ap (λ x. if x && may_crash net (net.host p) then 0 else (log_of (start net) p).settled) (get_or-replicate net.publishers p true true j) ∙ (ap (λ s. if may_crash net (net.host p) then 0 else s) (ap (λ l. l.settled) (start_log net p j)) ∙ zero_both (may_crash net (net.host p)))));
-}
-  where
-    zero_both : (c : Bool) → (let z : ℕ = if c then 0 else 0 in z ≡ 0)
-    zero_both true = refl
-    zero_both false = refl
-
 pub headline_without_sweeps : (net : Net) (ls : List Line) → IsNet net → 1 ≤ net.quiet → StepsIn net ls → SweepsNowhere ls → Headline net ls (report_of net ls)
 unfolding report_of
 headline_without_sweeps net ls n z i y = (
@@ -115,7 +89,5 @@ headline_without_sweeps net ls n z i y = (
   holds_from net (start net) (begin net) ls n z i y (record {
     stands = start_stands net n;
     hears = start_hears net;
-    bare = start_bare net n;
-    asks = start_asks net n;
   }),
 )

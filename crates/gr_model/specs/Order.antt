@@ -3,7 +3,7 @@ use Rattle.std.specs.Prelude.{◌≡◌, ℕ, ◌≤◌, ◌<◌, true, List, []
 use Rattle.gr_event.specs.declared.event.Event.{Event}
 use Rattle.gr_model.specs.declared.report.Report.{Report}
 use Rattle.gr_model.specs.declared.report.Report.TheVariants as line
-use Rattle.gr_model.specs.Net.{Net}
+use Rattle.gr_model.specs.Net.{Net, is_host}
 use Rattle.gr_sched.specs.declared.step.Line.{Line}
 use Rattle.gr_sched.specs.declared.step.Step.{Step}
 use Rattle.gr_sched.specs.declared.step.Step.TheVariants as step
@@ -25,10 +25,16 @@ pub record Reported (net : Net) (h : History) : Type 0 where
   pub order : InOrder net h
   pub doubt_at_host : (s p : ℕ) → p < net.publishers → IsSubscriber net s → net.host p ≡ net.at s → IsDoubt net h (net.at s) p (last_horizon s p 0 h.lines)
 
--- the same after each step, and of each step the recorded lines and the places of the doubt lines
+-- of one step: the recorded lines, the places of the doubt lines, and their horizons at hosts
+pub record StepReported (net : Net) (h : History) (l : Line) (ls : List Report) : Type 0 where
+  pub records : filter is_record_line ls ≡ record_lines net h l ls
+  pub doubts_stand : map doubt_place (filter is_doubt_line ls) ≡ doubts_shown net l
+  pub doubts_at_host : (b p t : ℕ) → Contains ls (line.Doubt b p t) → is_host net p b ≡ true → IsDoubt net h b p t
+
+-- the same after each step, and of each step
 abbrev pub Reported_from : Net → History → List Line → List (List Report) → Type 0
 Reported_from net h [] [] = Reported net h
-Reported_from net h (l ∷ ls) (r ∷ rs) = Reported net h × (filter is_record_line r ≡ record_lines net h l r) × (map doubt_place (filter is_doubt_line r) ≡ doubts_shown net l) × Reported_from net (after net h l r) ls rs
+Reported_from net h (l ∷ ls) (r ∷ rs) = Reported net h × StepReported net h l r × Reported_from net (after net h l r) ls rs
 Reported_from net h [] (r ∷ rs) = ⊥
 Reported_from net h (l ∷ ls) [] = ⊥
 
