@@ -465,7 +465,7 @@ asks_closed net n = record {
   restarts = λ w logs b f i a. restarted_asks net n w logs b f i a;
 }
 
-start_asks : (net : Net) → IsNet net → AsksFit net (start net)
+pub start_asks : (net : Net) → IsNet net → AsksFit net (start net)
 unfolding start
 start_asks net n =
     let g : ℕ → ℕ → View = λ c p. started net p c empty_log in

@@ -1,8 +1,8 @@
 -- A host that keeps a horizon has it where its log is settled, or at 0 while nothing was logged or marked since it started: over every schedule without a sweep
-use Rattle.std.proofs.Common.{◌≡◌, ◌≢◌, ◌⊎◌, inl, inr, ⊎_elim, ℕ, suc, zero, ◌+◌, ◌-◌, ◌≤◌, ◌<◌, max, Bool, true, false, not, ◌&&◌, ◌||◌, List, [], ◌∷◌, ◌++◌, map, length, set, get_or, refl, sym, ap, ap₂, ◌∙◌, subst, Option, Some, None, arith}
-use Rattle.std.specs.Prelude.{nat_eq, nat_le, nat_lt, if◌then◌else◌, filter, flat_map}
+use Rattle.std.proofs.Common.{◌≡◌, ◌≢◌, ◌⊎◌, inl, inr, ℕ, suc, zero, ◌+◌, ◌-◌, ◌≤◌, ◌<◌, max, Bool, true, false, not, ◌&&◌, ◌||◌, List, [], ◌∷◌, ◌++◌, map, length, set, get_or, refl, sym, ap, ap₂, ◌∙◌, subst, Option, Some, None, arith}
+use Rattle.std.specs.Prelude.{nat_eq, nat_le, nat_lt, if◌then◌else◌, flat_map}
 use Rattle.std.specs.List.{list_any}
-use Rattle.std.proofs.lemmas.Bool.{cases_Bool, cases_eq, eq-eqb, ne_eqb, eqb-true, false≢true, true≢false, both_ways}
+use Rattle.std.proofs.lemmas.Bool.{cases_Bool, cases_eq, eq-eqb, ne_eqb, false≢true, true≢false, both_ways}
 use Rattle.std.proofs.lemmas.List.{get_or-set_other, get_or-set_same}
 use Rattle.gr_event.specs.declared.event.Event.{Event}
 use Rattle.gr_frame.specs.declared.Body.{Body}
@@ -12,30 +12,28 @@ use Rattle.gr_frame.specs.Bytes.{frame_bytes}
 use Rattle.gr_sched.specs.declared.step.Stop.{Stop}
 use Rattle.gr_sched.specs.declared.step.Step.{Step}
 use Rattle.gr_sched.specs.declared.step.Step.TheVariants as step
-use Rattle.gr_sched.specs.declared.step.Line.{Line}
 use Rattle.gr_know.specs.declared.values.K.TheVariants.{D}
-use Rattle.gr_know.specs.Values.{Known}
 use Rattle.gr_model.specs.declared.report.Report.{Report}
 use Rattle.gr_model.specs.declared.report.Report.TheVariants as line
 use Rattle.gr_model.specs.Net.{Net, is_host, keeps_horizon, numbers, numbers_from, not_empty}
 use Rattle.gr_model.specs.Broker.{View, Log, Outcome, empty_log, learn, marking, publish, wake, wake_host, wake_below, curiosity, receive, clashes, expect, place_of, silence, with_event, with_mark, is_kept, max_tick, started}
 use Rattle.gr_model.specs.World.{World, Told, blank_view, view_of, log_of, absorbed, unchanged, after, in_turn, wake_for, wake_all, deliver_frame, frame_at, publish_now, publish_stopped, restarted, crash, next, show, opened_lines, kept_events}
-use Rattle.gr_model.specs.Headline.{Recorded, History, record_of, is_record_line, is_record_of, publish_line, bare_after, crashed_by, each_bare, may_crash, is_next}
+use Rattle.gr_model.specs.Headline.{Recorded, History, is_record_line, is_record_of, publish_line, bare_after, each_bare, may_crash, is_next}
 use Rattle.gr_model.specs.Tree.{IsNet}
 use Rattle.gr_model.specs.Fits.{WorldFits, FrameTrue, HostKnows, StepIn, reached_in}
 use Rattle.gr_model.specs.Order.{is_sweep}
 use Rattle.gr_model.proofs.Calls.{run_at, trimmed_horizon}
 use Rattle.gr_model.proofs.Records.{core, core_of, receive_log, wake_core}
 use Rattle.gr_model.proofs.Recorded.{RecordsFit, record_core}
-use Rattle.gr_model.proofs.RecordLines.{recs, mark_line, wake_for_recs, deliver_recs, publish_now_recs}
+use Rattle.gr_model.proofs.RecordLines.{recs, wake_for_recs, deliver_recs, publish_now_recs}
 use Rattle.gr_model.proofs.HostHorizon.{wake_meets, publish_meets}
 use Rattle.gr_model.proofs.AskMoments.{ExpectFits, ExpectBody}
 use Rattle.gr_model.proofs.Closed.{with_logs, frame_at_ready}
-use Rattle.gr_model.proofs.Worlds.{Each, Changed, absorbed_changed, wake_for_kept}
+use Rattle.gr_model.proofs.Worlds.{Each, absorbed_changed, wake_for_kept}
 use Rattle.gr_model.proofs.Schedules.{frame_at_true, get_numbers}
 
 -- some line says that something was logged or marked for p
-abbrev told_of : ℕ → List Report → Bool
+abbrev pub told_of : ℕ → List Report → Bool
 told_of p ls = list_any (is_record_of p) ls
 
 not_record : (p : ℕ) (l : Report) → is_record_line l ≡ false → is_record_of p l ≡ false
@@ -43,7 +41,7 @@ not_record p (line.Logged q n t) e = absurd (true≢false e)
 not_record p (line.Mark q t) e = absurd (true≢false e)
 not_record p _ e = refl
 
-told_recs : (p : ℕ) (ls : List Report) → told_of p ls ≡ told_of p (recs ls)
+pub told_recs : (p : ℕ) (ls : List Report) → told_of p ls ≡ told_of p (recs ls)
 told_recs p [] = refl
 told_recs p (l ∷ ls) =
     elim (cases_Bool (is_record_line l)) [
@@ -51,7 +49,7 @@ told_recs p (l ∷ ls) =
       | inr e ↦ rw e (rw (not_record p l e) (told_recs p ls))
     ]
 
-told_append : (p : ℕ) (xs ys : List Report) → told_of p (xs ++ ys) ≡ (told_of p xs || told_of p ys)
+pub told_append : (p : ℕ) (xs ys : List Report) → told_of p (xs ++ ys) ≡ (told_of p xs || told_of p ys)
 told_append p [] ys = refl
 told_append p (x ∷ xs) ys = go (is_record_of p x) (told_append p xs ys)
   where
@@ -60,18 +58,18 @@ told_append p (x ∷ xs) ys = go (is_record_of p x) (told_append p xs ys)
     go false e = e
 
 -- the horizon of a publisher's host, and where its log is settled
-abbrev host_horizon : Net → ℕ → World → ℕ
+abbrev pub host_horizon : Net → ℕ → World → ℕ
 host_horizon net p w = (view_of w (net.host p) p).horizon
 
-abbrev host_settled : ℕ → World → ℕ
+abbrev pub host_settled : ℕ → World → ℕ
 host_settled p w = (log_of w p).settled
 
 -- where something was logged or marked the horizon is where the log is settled; else both stay
-record Tells (net : Net) (p : ℕ) (w : World) (t : Told) : Type 0 where
-  told : told_of p t.lines ≡ true → host_horizon net p t.world ≡ host_settled p t.world
-  still : told_of p t.lines ≡ false → (host_horizon net p t.world ≡ host_horizon net p w) × (host_settled p t.world ≡ host_settled p w)
+pub record Tells (net : Net) (p : ℕ) (w : World) (t : Told) : Type 0 where
+  pub told : told_of p t.lines ≡ true → host_horizon net p t.world ≡ host_settled p t.world
+  pub still : told_of p t.lines ≡ false → (host_horizon net p t.world ≡ host_horizon net p w) × (host_settled p t.world ≡ host_settled p w)
 
-tells_still : (net : Net) (p : ℕ) (w : World) (t : Told) → told_of p t.lines ≡ false → host_horizon net p t.world ≡ host_horizon net p w → host_settled p t.world ≡ host_settled p w → Tells net p w t
+pub tells_still : (net : Net) (p : ℕ) (w : World) (t : Told) → told_of p t.lines ≡ false → host_horizon net p t.world ≡ host_horizon net p w → host_settled p t.world ≡ host_settled p w → Tells net p w t
 tells_still net p w t e h s = record { told = λ x. absurd (false≢true (sym e ∙ x)); still = λ x. (h, s) }
 
 tells_seq : (net : Net) (p : ℕ) (w : World) (t : Told) (f : World → Told) → Tells net p w t → Tells net p t.world (f t.world) → Tells net p w (after t f)
@@ -272,7 +270,7 @@ publish_bare net p w q number v n f j keeps =
 
 -- Starting again
 
-started_horizon : (net : Net) (p b : ℕ) (log : Log) → (started net p b log).horizon ≡ 0
+pub started_horizon : (net : Net) (p b : ℕ) (log : Log) → (started net p b log).horizon ≡ 0
 unfolding started
 started_horizon net p b log = refl
 
@@ -356,7 +354,7 @@ each_bare-get f a (b ∷ bs) zero h = ap (λ k. f k b) (omega arith)
 each_bare-get f a (b ∷ bs) (suc i) h = each_bare-get f (suc a) bs i (omega arith) ∙ ap (λ k. f k (get_or bs i true)) (omega arith)
 
 -- a step without a crash
-tells_bare : (net : Net) (w : World) (t : Told) (bare : List Bool) → Bare net w bare → ((p : ℕ) → p < net.publishers → keeps_horizon net p (net.host p) ≡ true → Tells net p w t) → Bare net t.world (each_bare (λ p x. x && not (list_any (is_record_of p) t.lines)) 0 bare)
+pub tells_bare : (net : Net) (w : World) (t : Told) (bare : List Bool) → Bare net w bare → ((p : ℕ) → p < net.publishers → keeps_horizon net p (net.host p) ≡ true → Tells net p w t) → Bare net t.world (each_bare (λ p x. x && not (list_any (is_record_of p) t.lines)) 0 bare)
 tells_bare net w t bare b a = record {
   long = each_bare-long f 0 bare ∙ b.long;
   fits = λ p j keeps.
@@ -426,7 +424,7 @@ stopped_bare net w k q number stop e bare n f j h = go (not_empty (net.subscribe
     go false false z = tells_bare net w (publish_now net w q number e) bare h (λ p i keeps. publish_bare net p w q number e n f j keeps)
     go false true z = restarted_bare net w logs (net.host q) bare f (n.host_in q j) (ap not z) (same (is_kept log.gate stop.call stop.pick)) h
 
-bare_by : (net : Net) (w : World) (h : History) (k : ℕ) (s : Step) → IsNet net → 1 ≤ net.quiet → WorldFits net w → RecordsFit net w h → Each (ExpectFits net) w.frames → StepIn net s → is_sweep s ≡ false → Bare net w h.bare → Bare net (next net w (record { number = k; step = s })).world (bare_after net h (record { number = k; step = s }) (next net w (record { number = k; step = s })).lines)
+pub bare_by : (net : Net) (w : World) (h : History) (k : ℕ) (s : Step) → IsNet net → 1 ≤ net.quiet → WorldFits net w → RecordsFit net w h → Each (ExpectFits net) w.frames → StepIn net s → is_sweep s ≡ false → Bare net w h.bare → Bare net (next net w (record { number = k; step = s })).world (bare_after net h (record { number = k; step = s }) (next net w (record { number = k; step = s })).lines)
 unfolding next bare_after wake_all
 bare_by net w h k (step.Clock now) n z f r x i y a =
     let t = next net w (record { number = k; step = step.Clock now }) in
@@ -454,6 +452,3 @@ bare_by net w h k (step.Bytes j) n z f r x i y a = go (frame_at w j)
     go : (o : Option Frame) → (let t : Told = elim o [ None ↦ unchanged w (line.RefusedFrame k j (length w.frames) ∷ []) | Some x ↦ unchanged w (line.BytesOf j (frame_bytes x) ∷ []) ] in Bare net t.world (each_bare (λ p x. x && not (list_any (is_record_of p) t.lines)) 0 h.bare))
     go None = tells_bare net w (unchanged w (line.RefusedFrame k j (length w.frames) ∷ [])) h.bare a (λ p m keeps. tells_still net p w (unchanged w (line.RefusedFrame k j (length w.frames) ∷ [])) refl refl refl)
     go (Some x) = tells_bare net w (unchanged w (line.BytesOf j (frame_bytes x) ∷ [])) h.bare a (λ p m keeps. tells_still net p w (unchanged w (line.BytesOf j (frame_bytes x) ∷ [])) refl refl refl)
-
-pub step_bare : (net : Net) (w : World) (h : History) (l : Line) → IsNet net → 1 ≤ net.quiet → WorldFits net w → RecordsFit net w h → Each (ExpectFits net) w.frames → StepIn net l.step → is_sweep l.step ≡ false → Bare net w h.bare → Bare net (next net w l).world (bare_after net h l (next net w l).lines)
-step_bare net w h l n z f r x i y a = bare_by net w h l.number l.step n z f r x i y a

@@ -41,3 +41,6 @@ pub mod RecordSteps
 pub mod HeardCalls
 pub mod HeardSteps
 pub mod BareHosts
+pub mod NamedLines
+pub mod WithoutSweeps
+pub mod SweepHosts

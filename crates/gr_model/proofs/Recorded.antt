@@ -157,18 +157,18 @@ settled_below net w q f j =
     let b = below_greatest (map (λ l. l.settled) w.logs) q (omega (arith, length_map (λ l. l.settled) w.logs, f.logs_long)) in
     omega (arith, e, b)
 
-marked_now : (net : Net) (m : ℕ) (r : Recorded) → r.settled + net.quiet ≤ m → marked net m r ≡ settling m r
+pub marked_now : (net : Net) (m : ℕ) (r : Recorded) → r.settled + net.quiet ≤ m → marked net m r ≡ settling m r
 marked_now net m r h = rw (le-leb (r.settled + net.quiet) m h) refl
 
 -- a sweep over the publishers from a on
-record Sweeps (net : Net) (w u : World) (a n : ℕ) : Type 0 where
-  fits : WorldFits net u
-  clock : u.clock ≡ w.clock
-  most : u.most ≡ w.most
-  inside : (q : ℕ) → a ≤ q → q < a + n → core_of u q ≡ marked net w.clock (core_of w q)
-  outside : (q : ℕ) → (q < a) ⊎ (a + n ≤ q) → core_of u q ≡ core_of w q
+pub record Sweeps (net : Net) (w u : World) (a n : ℕ) : Type 0 where
+  pub fits : WorldFits net u
+  pub clock : u.clock ≡ w.clock
+  pub most : u.most ≡ w.most
+  pub inside : (q : ℕ) → a ≤ q → q < a + n → core_of u q ≡ marked net w.clock (core_of w q)
+  pub outside : (q : ℕ) → (q < a) ⊎ (a + n ≤ q) → core_of u q ≡ core_of w q
 
-sweeps_from : (net : Net) (w : World) (a n : ℕ) → IsNet net → 1 ≤ net.quiet → WorldFits net w → a + n ≤ net.publishers → Sweeps net w (in_turn (sweep_for net) (numbers_from a n) w).world a n
+pub sweeps_from : (net : Net) (w : World) (a n : ℕ) → IsNet net → 1 ≤ net.quiet → WorldFits net w → a + n ≤ net.publishers → Sweeps net w (in_turn (sweep_for net) (numbers_from a n) w).world a n
 sweeps_from net w a zero k z f h = record { fits = f; clock = refl; most = refl; inside = λ q x y. absurd (omega arith); outside = λ q x. refl }
 sweeps_from net w a (suc n) k z f h =
     let j : a < net.publishers = omega arith in

@@ -11,8 +11,8 @@ ghost use Rattle.gr_model.specs.Tree.{IsNet, IsSubscriber};
 ghost use Rattle.gr_model.specs.Broker.{clashes};
 ghost use Rattle.gr_model.specs.World.{view_of, log_of, frame_at, run_all, start, next, report_of};
 ghost use Rattle.gr_model.specs.Fits.{StepIn, StepsIn, WorldFits, history_of};
-ghost use Rattle.gr_model.specs.Headline.{GetsExactly, is_doubt_line, doubt_place, doubts_shown};
-ghost use Rattle.gr_model.specs.Order.{CutsInOrder, HeadlineSoFar};
+ghost use Rattle.gr_model.specs.Headline.{GetsExactly, Headline, is_doubt_line, doubt_place, doubts_shown};
+ghost use Rattle.gr_model.specs.Order.{CutsInOrder, FramesSent, HeadlineSoFar, SweepsNowhere};
 ghost use Rattle.gr_model.specs.Blank.{net0};
 ghost use Rattle.gr_model.specs.Examples.{WorkedExamples};
 
@@ -60,7 +60,19 @@ pub fn doubts_stand()
     ensures { (net : Net) (steps : List Line) (l : Line) → IsNet net → StepsIn net steps → StepIn net l.step → map doubt_place (filter is_doubt_line (next net (run_all net (start net) steps).world l).lines) ≡ doubts_shown net l }
 {}
 
+/// Frames sent: over every schedule the sent lines are numbered 1, 2, 3 and so on, and say the frames that the calls
+/// of brokers sent, in their order.
+pub fn frames_sent()
+    ensures { (net : Net) (steps : List Line) → IsNet net → 1 ≤ net.quiet → StepsIn net steps → FramesSent net steps }
+{}
+
 /// The headline as far as it is proved, over every schedule and after each of its steps.
 pub fn headline_so_far()
     ensures { (net : Net) (steps : List Line) → IsNet net → 1 ≤ net.quiet → StepsIn net steps → HeadlineSoFar net steps (report_of net steps) }
+{}
+
+/// The headline, whole, over every schedule without a sweep and after each of its steps: recorded lines, delivered
+/// exactly, doubt horizons, horizons rise, discarded only after delivery.
+pub fn headline_without_sweeps()
+    ensures { (net : Net) (steps : List Line) → IsNet net → 1 ≤ net.quiet → StepsIn net steps → SweepsNowhere steps → Headline net steps (report_of net steps) }
 {}
