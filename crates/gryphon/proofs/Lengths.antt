@@ -23,5 +23,5 @@ after_le (piece ∷ pieces) =
       | false ↦ omega (arith, length-append piece (joined pieces), after_le pieces)
     ]
 
-pub after_separator-le : (bytes : List ℕ) → length (after_separator (pieces_of bytes)) ≤ length bytes
-after_separator-le bytes = omega (arith, after_le (pieces_of bytes), ap length (joined-pieces_of bytes))
+pub after_separator_le : (bytes : List ℕ) → length (after_separator (pieces_of bytes)) ≤ length bytes
+after_separator_le bytes = omega (arith, after_le (pieces_of bytes), ap length (joined-pieces_of bytes))

@@ -5,4 +5,7 @@ pub mod Steps
 pub mod Walk
 pub mod Named
 pub mod TakenLemmas
+pub mod TextLemmas
+pub mod StepLemmas
 pub mod Lengths
+pub mod Ready

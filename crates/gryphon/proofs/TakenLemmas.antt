@@ -2,6 +2,8 @@
 use Rattle.std.proofs.Common.{◌≡◌, ℕ, ◌+◌, ◌<◌, List, [], ◌∷◌, ◌++◌, take, drop, length, Option, Some, None, refl, sym, ap, ◌∙◌, append_assoc}
 use Rattle.std.proofs.lemmas.List.{append-nil, take-append-drop}
 use Rattle.gr_out.specs.Bytes.{with_more}
+use Rattle.gr_model.specs.declared.print.PutFault.{PutFault}
+use Rattle.gr_model.specs.declared.print.PutFault.TheVariants.{Memory, Write}
 use Rattle.gryphon.specs.Taken.{TakesFront}
 
 pub with_more-twice : (old : Option (List ℕ)) (xs ys : List ℕ) → with_more (with_more old xs) ys ≡ with_more old (xs ++ ys)
@@ -32,3 +34,8 @@ front-later old middle new done text rest all m a f = record {
   whole = a ∙ ap (λ xs. done ++ (xs ++ rest)) f.whole ∙ ap (λ xs. done ++ xs) (append_assoc f.part f.rest rest) ∙ sym (append_assoc done f.part (f.rest ++ rest));
   taken = f.taken ∙ ap (λ x. with_more x f.part) m ∙ with_more-twice old done f.part;
 }
+
+-- what a sink took of a line that could not be put
+pub front_of_put : (fault : PutFault) (old new : Option (List ℕ)) (text : List ℕ) → (fault ≡ Write → (n : ℕ) × (n < length text) × (new ≡ with_more old (take n text))) → (fault ≡ Memory → new ≡ old) → TakesFront old new text
+front_of_put Write old new text w m = let x = w refl in front-take old new text x.0 x.2
+front_of_put Memory old new text w m = front-nothing old new text (m refl)

@@ -36,7 +36,10 @@ pub fn replay<K: Sink>(
 {
     let mut world = World::new(alloc);
     'steps: for line in steps {
-        print_step(alloc, topology, &mut world, line, sink)?;
+        match print_step(alloc, topology, &mut world, line, sink) {
+            Ok(()) => {}
+            Err(fault) => return Err(fault),
+        }
     }
     Ok(())
 }
@@ -103,7 +106,10 @@ fn put_all<K: Sink>(
     ensures same { result ≢ Err PutFault.Write → K.faults sink.new ≡ K.faults sink.old }
 {
     'lines: for line in lines {
-        put(alloc, line, topology, sink)?;
+        match put(alloc, line, topology, sink) {
+            Ok(()) => {}
+            Err(fault) => return Err(fault),
+        }
     }
     Ok(())
 }

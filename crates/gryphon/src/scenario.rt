@@ -1,6 +1,6 @@
 //! Reading what the bytes of a source ask.
 
-ghost use Rattle.std.specs.Prelude.{◌≡◌, ◌≢◌, ◌≤◌, ◌++◌, true, length, IfOk, Result, Ok, Err, codes};
+ghost use Rattle.std.specs.Prelude.{◌≡◌, ◌≢◌, ◌≤◌, ◌++◌, true, length, IfOk, Result, Ok, Err, codes, string_bytes};
 ghost use Rattle.std.specs.List.{All};
 ghost use Rattle.std.specs.Fmt.{decimal};
 ghost use Rattle.gr_sched.specs.Grammar.{steps_of};
@@ -17,6 +17,7 @@ use gr_topo::Topology;
 use std::alloc::{AllocError, Global};
 
 /// Reads the bytes of a source, with the names of the blank topology.
+#[tactic(auto, using(crate::proofs::Lengths::after_separator_le))]
 pub fn read(alloc: Global, topology: &Topology, bytes: &[u8]) -> Result<Asked, AllocError>
     requires { topology.now ≡ blank }
     ensures asked { IfOk result (λ asked. asked ≡ asked_by bytes.now) }
@@ -59,7 +60,7 @@ fn if_built(alloc: Global, lines: Steps) -> Result<Asked, AllocError>
         None => Ok(Asked::Replayed(lines)),
         Some(line) => {
             let text = format!(in alloc; "step 0 not-built line {line}")?;
-            Ok(Asked::Refused(Text::from_slice(alloc, text.as_bytes())?))
+            Ok(Asked::Refused(text_of(alloc, text)?))
         }
     }
 }
@@ -95,16 +96,26 @@ fn is_built(step: &Step) -> bool
 fn line_of_fault(alloc: Global, fault: StepFault) -> Result<Text, AllocError>
     ensures { IfOk result (λ text. text ≡ fault_line fault) }
 {
-    let text = match fault {
-        StepFault::Memory => return Ok(Text::new(alloc)),
-        StepFault::BadWord { line } => format!(in alloc; "step 1 bad-word line {line}")?,
-        StepFault::BadNumber { line } => format!(in alloc; "step 2 bad-number line {line}")?,
+    match fault {
+        StepFault::Memory => Ok(Text::new(alloc)),
+        StepFault::BadWord { line } => {
+            text_of(alloc, format!(in alloc; "step 1 bad-word line {line}")?)
+        }
+        StepFault::BadNumber { line } => {
+            text_of(alloc, format!(in alloc; "step 2 bad-number line {line}")?)
+        }
         StepFault::BadEvent { line, fault } => {
             let word = event_fault_word(fault);
-            format!(in alloc; "step 3 bad-event line {line} {word}")?
+            text_of(alloc, format!(in alloc; "step 3 bad-event line {line} {word}")?)
         }
-        StepFault::TooMany { .. } => return Text::from_slice(alloc, b"too-large steps"),
-    };
+        StepFault::TooMany { .. } => Text::from_slice(alloc, b"too-large steps"),
+    }
+}
+
+/// The bytes of a string as a text.
+fn text_of(alloc: Global, text: String) -> Result<Text, AllocError>
+    ensures { IfOk result (λ t. t ≡ string_bytes text) }
+{
     Text::from_slice(alloc, text.as_bytes())
 }
 

@@ -7,6 +7,6 @@ use Rattle.gryphon.proofs.replay.put_all.Given as goal
 -- the lines so far were taken, and no fault was counted
 abbrev pub invariant-lines : goal.invariant-lines
 invariant-lines g l = record {
-  taken : g.K.taken l.sink ≡ with_more (g.K.taken l.initial.sink) (report_text (labels_of blank) (take l.line-index l.lines));
-  same : g.K.faults l.sink ≡ g.K.faults l.initial.sink;
+  taken : g.K.Sink.taken l.sink ≡ with_more (g.K.Sink.taken l.initial.sink) (report_text (labels_of blank) (take l.line-index l.lines));
+  same : g.K.Sink.faults l.sink ≡ g.K.Sink.faults l.initial.sink;
 }
