@@ -1,8 +1,8 @@
 -- A host that keeps a horizon has it where its log is settled, or at 0 while nothing was logged or marked since it started: over every schedule without a sweep
-use Rattle.std.proofs.Common.{◌≡◌, ◌≢◌, ◌⊎◌, inl, inr, ⊎_elim, ℕ, suc, zero, ◌+◌, ◌-◌, ◌≤◌, ◌<◌, max, Bool, true, false, not, ◌&&◌, ◌||◌, List, [], ◌∷◌, ◌++◌, map, length, set, get_or, refl, sym, ap, ap₂, ◌∙◌, subst, Option, Some, None, arith}
-use Rattle.std.specs.Prelude.{nat_eq, nat_le, nat_lt, if◌then◌else◌, filter, flat_map}
+use Rattle.std.proofs.Common.{◌≡◌, ◌≢◌, ◌⊎◌, inl, inr, ℕ, suc, zero, ◌+◌, ◌-◌, ◌≤◌, ◌<◌, max, Bool, true, false, not, ◌&&◌, ◌||◌, List, [], ◌∷◌, ◌++◌, map, length, set, get_or, refl, sym, ap, ap₂, ◌∙◌, subst, Option, Some, None, arith}
+use Rattle.std.specs.Prelude.{nat_eq, nat_le, nat_lt, if◌then◌else◌, flat_map}
 use Rattle.std.specs.List.{list_any}
-use Rattle.std.proofs.lemmas.Bool.{cases_Bool, cases_eq, eq-eqb, ne_eqb, eqb-true, false≢true, true≢false, both_ways}
+use Rattle.std.proofs.lemmas.Bool.{cases_Bool, cases_eq, eq-eqb, ne_eqb, false≢true, true≢false, both_ways}
 use Rattle.std.proofs.lemmas.List.{get_or-set_other, get_or-set_same}
 use Rattle.gr_event.specs.declared.event.Event.{Event}
 use Rattle.gr_frame.specs.declared.Body.{Body}
@@ -14,24 +14,23 @@ use Rattle.gr_sched.specs.declared.step.Step.{Step}
 use Rattle.gr_sched.specs.declared.step.Step.TheVariants as step
 use Rattle.gr_sched.specs.declared.step.Line.{Line}
 use Rattle.gr_know.specs.declared.values.K.TheVariants.{D}
-use Rattle.gr_know.specs.Values.{Known}
 use Rattle.gr_model.specs.declared.report.Report.{Report}
 use Rattle.gr_model.specs.declared.report.Report.TheVariants as line
 use Rattle.gr_model.specs.Net.{Net, is_host, keeps_horizon, numbers, numbers_from, not_empty}
 use Rattle.gr_model.specs.Broker.{View, Log, Outcome, empty_log, learn, marking, publish, wake, wake_host, wake_below, curiosity, receive, clashes, expect, place_of, silence, with_event, with_mark, is_kept, max_tick, started}
 use Rattle.gr_model.specs.World.{World, Told, blank_view, view_of, log_of, absorbed, unchanged, after, in_turn, wake_for, wake_all, deliver_frame, frame_at, publish_now, publish_stopped, restarted, crash, next, show, opened_lines, kept_events}
-use Rattle.gr_model.specs.Headline.{Recorded, History, record_of, is_record_line, is_record_of, publish_line, bare_after, crashed_by, each_bare, may_crash, is_next}
+use Rattle.gr_model.specs.Headline.{Recorded, History, is_record_line, is_record_of, publish_line, bare_after, each_bare, may_crash, is_next}
 use Rattle.gr_model.specs.Tree.{IsNet}
 use Rattle.gr_model.specs.Fits.{WorldFits, FrameTrue, HostKnows, StepIn, reached_in}
 use Rattle.gr_model.specs.Order.{is_sweep}
 use Rattle.gr_model.proofs.Calls.{run_at, trimmed_horizon}
 use Rattle.gr_model.proofs.Records.{core, core_of, receive_log, wake_core}
 use Rattle.gr_model.proofs.Recorded.{RecordsFit, record_core}
-use Rattle.gr_model.proofs.RecordLines.{recs, mark_line, wake_for_recs, deliver_recs, publish_now_recs}
+use Rattle.gr_model.proofs.RecordLines.{recs, wake_for_recs, deliver_recs, publish_now_recs}
 use Rattle.gr_model.proofs.HostHorizon.{wake_meets, publish_meets}
 use Rattle.gr_model.proofs.AskMoments.{ExpectFits, ExpectBody}
 use Rattle.gr_model.proofs.Closed.{with_logs, frame_at_ready}
-use Rattle.gr_model.proofs.Worlds.{Each, Changed, absorbed_changed, wake_for_kept}
+use Rattle.gr_model.proofs.Worlds.{Each, absorbed_changed, wake_for_kept}
 use Rattle.gr_model.proofs.Schedules.{frame_at_true, get_numbers}
 
 -- some line says that something was logged or marked for p

@@ -1,6 +1,5 @@
 -- Each call keeps that a broker below the host knows above its horizon what it has heard
-use Rattle.std.proofs.Common.{◌≡◌, ◌≢◌, ◌⊎◌, inl, inr, ℕ, suc, ◌+◌, ◌≤◌, ◌<◌, Bool, true, false, ◌&&◌, ◌||◌, List, [], ◌∷◌, ◌++◌, map, set, get_or, refl, sym, ap, ◌∙◌, subst, arith}
-use Rattle.std.specs.Prelude.{nat_le, nat_lt, if◌then◌else◌}
+use Rattle.std.proofs.Common.{◌≡◌, ◌≢◌, ◌⊎◌, inl, inr, ℕ, suc, ◌+◌, ◌<◌, Bool, true, false, List, [], map, set, get_or, refl, sym, ap, ◌∙◌, subst, arith}
 use Rattle.std.proofs.lemmas.Bool.{cases_eq, eq-eqb, false≢true, both_ways}
 use Rattle.std.proofs.lemmas.List.{get_or-set_other, get_or-set_same}
 use Rattle.gr_event.specs.declared.event.Event.{Event}
@@ -8,12 +7,11 @@ use Rattle.gr_frame.specs.declared.Body.{Body}
 use Rattle.gr_frame.specs.declared.Body.TheVariants as body
 use Rattle.gr_frame.specs.declared.Frame.{Frame}
 use Rattle.gr_know.specs.declared.values.K.TheVariants.{Q}
-use Rattle.gr_curio.specs.declared.values.Q3.TheVariants.{C}
-use Rattle.gr_tick.specs.Runs.{AreRuns, points}
-use Rattle.gr_know.specs.Values.{Known, known_at, is_Q}
-use Rattle.gr_curio.specs.Values.{Wanted, Asked, wanted_at, is_C}
+use Rattle.gr_tick.specs.Runs.{AreRuns}
+use Rattle.gr_know.specs.Values.{Known, known_at}
+use Rattle.gr_curio.specs.Values.{Wanted}
 use Rattle.gr_model.specs.Net.{Net, is_host, keeps_horizon, numbers}
-use Rattle.gr_model.specs.Broker.{View, Log, Outcome, empty_log, learn, asking, expect, curiosity, wake, wake_host, wake_below, wanted_at_wake, receive, clashes, consolidated, finished, stored, acknowledged, answers, place_of, all_points, any_C, due, noted, publish, started}
+use Rattle.gr_model.specs.Broker.{View, Log, Outcome, empty_log, learn, asking, expect, curiosity, wake, wake_host, wake_below, receive, clashes, stored, acknowledged, place_of, due, noted, publish, started}
 use Rattle.gr_model.specs.World.{World, blank_view, view_of, log_of, absorbed, wake_for, deliver_frame, publish_now, restarted}
 use Rattle.gr_model.specs.Truth.{Facts, AllWantTruth}
 use Rattle.gr_model.specs.Tree.{IsNet, IsPlace}

@@ -1,8 +1,8 @@
 -- What a history has heard is what the brokers below the host have heard, over every schedule without a sweep
-use Rattle.std.proofs.Common.{◌≡◌, ◌≢◌, ◌⊎◌, inl, inr, ℕ, suc, zero, ◌+◌, ◌≤◌, ◌<◌, max, Bool, true, false, not, ◌&&◌, ◌||◌, List, [], ◌∷◌, ◌++◌, map, length, set, get_or, replicate, refl, sym, ap, ap₂, ◌∙◌, subst, Option, Some, None, arith}
+use Rattle.std.proofs.Common.{◌≡◌, ◌≢◌, ◌⊎◌, inl, inr, ℕ, suc, zero, ◌+◌, ◌≤◌, ◌<◌, max, Bool, true, false, not, ◌&&◌, ◌||◌, List, [], ◌∷◌, ◌++◌, length, set, get_or, replicate, refl, sym, ap, ap₂, ◌∙◌, subst, Option, Some, None, arith}
 use Rattle.std.specs.Prelude.{nat_eq, nat_le, nat_lt, if◌then◌else◌, filter, slice_get}
 use Rattle.std.specs.List.{list_any}
-use Rattle.std.proofs.lemmas.Bool.{cases_Bool, cases_eq, eq-eqb, ne_eqb, lt-ltb, eqb-true, false≢true, true≢false}
+use Rattle.std.proofs.lemmas.Bool.{cases_Bool, cases_eq, eq-eqb, ne_eqb, lt-ltb, true≢false}
 use Rattle.std.proofs.lemmas.List.{get_or-set_other, get_or-set_same, length-set, get_or-replicate, length-replicate}
 use Rattle.gr_event.specs.declared.event.Event.{Event}
 use Rattle.gr_frame.specs.declared.Body.{Body}
@@ -19,16 +19,16 @@ use Rattle.gr_tick.specs.Runs.{AreRuns, AreRunsFrom, is_in}
 use Rattle.gr_know.specs.Values.{Known, known_at, is_Q}
 use Rattle.gr_model.specs.declared.report.Report.{Report}
 use Rattle.gr_model.specs.declared.report.Report.TheVariants as line
-use Rattle.gr_model.specs.Net.{Net, is_host, keeps_horizon, numbers, not_empty}
+use Rattle.gr_model.specs.Net.{Net, numbers, not_empty}
 use Rattle.gr_model.specs.Broker.{Log, with_event, is_kept, max_tick}
-use Rattle.gr_model.specs.World.{World, Told, view_of, log_of, unchanged, wake_for, wake_all, deliver_frame, frame_at, publish_now, publish_stopped, restarted, crash, next, show, sent_line, sent_lines, opened_lines}
-use Rattle.gr_model.specs.Headline.{History, record_of, is_sent, sent_number, line_of_frame, know_of_line, hearing, deaf, is_heard, heard_after, crashed_by, may_crash, is_next}
+use Rattle.gr_model.specs.World.{World, Told, log_of, unchanged, wake_for, wake_all, deliver_frame, frame_at, publish_now, publish_stopped, restarted, crash, next, sent_line, sent_lines, opened_lines}
+use Rattle.gr_model.specs.Headline.{History, is_sent, sent_number, line_of_frame, know_of_line, hearing, deaf, is_heard, heard_after, may_crash, is_next}
 use Rattle.gr_model.specs.Tree.{IsNet}
 use Rattle.gr_model.specs.Fits.{WorldFits, BodyTrue, StepIn, facts_of}
 use Rattle.gr_model.specs.Order.{is_sweep}
 use Rattle.gr_model.proofs.Records.{core_of}
 use Rattle.gr_model.proofs.Recorded.{RecordsFit, record_core}
-use Rattle.gr_model.proofs.Heard.{HeardFits, hears, is_Q_at}
+use Rattle.gr_model.proofs.Heard.{hears, is_Q_at}
 use Rattle.gr_model.proofs.HeardCalls.{HeardsFit, SameBut, hears_body, wake_for_heard, deliver_heard, publish_now_heard, restarted_heard}
 use Rattle.gr_model.proofs.Closed.{in_turn_goes, with_logs}
 use Rattle.gr_model.proofs.Worlds.{wake_for_kept, numbers_below}

@@ -1,7 +1,7 @@
 -- The headline as far as it is proved, after each step of every schedule
 use Rattle.std.proofs.lemmas.List.Elements.{filter-append}
 use Rattle.gr_frame.specs.declared.Frame.{Frame}
-use Rattle.std.proofs.Common.{◌≡◌, suc, ◌+◌, length, arith, ℕ, ◌≤◌, ◌<◌, true, false, ◌&&◌, ap, get_or, List, [], ◌∷◌, ◌++◌, refl, sym, ap₂, ◌∙◌, subst}
+use Rattle.std.proofs.Common.{◌≡◌, suc, length, arith, ℕ, ◌≤◌, ◌<◌, true, false, ◌&&◌, ap, get_or, List, [], ◌∷◌, ◌++◌, refl, sym, ap₂, ◌∙◌, subst}
 use Rattle.std.specs.Prelude.{filter, Contains, not, nat_eq, if◌then◌else◌}
 use Rattle.std.proofs.lemmas.Bool.{and_right, both_ways, eq-eqb}
 use Rattle.gr_sched.specs.declared.step.Line.{Line}
