@@ -2,6 +2,8 @@
 use Rattle.std.proofs.Common.{◌≡◌, ℕ, zero, suc, ◌+◌, ◌<◌, ◌≤◌, Bool, true, false, List, [], ◌∷◌, length, refl, sym, ap, ◌∙◌, subst, arith, Option, Some, None}
 use Rattle.std.specs.Prelude.{if◌then◌else◌}
 use Rattle.std.specs.List.{All}
+use Rattle.std.specs.Prelude.{bytes_eq}
+use Rattle.std.proofs.lemmas.List.Quantifiers.{position-Some}
 use Rattle.gr_sched.specs.declared.step.Step.{Step}
 use Rattle.gr_sched.specs.declared.step.Step.TheVariants as step
 use Rattle.gr_sched.specs.declared.step.Line.{Line}
@@ -11,7 +13,7 @@ use Rattle.gryphon.specs.Scenario.{is_built, first_unbuilt, IsReady, AreReady}
 
 -- there is one publisher
 only_publisher : (p : ℕ) → IsNamed (number_of blank.publishers) p → p ≡ 0
-only_publisher p h = ?
+only_publisher p h = let one = (position-Some (λ known. bytes_eq known h.0) blank.publishers p [] h.1).0 in omega (arith, one)
 
 step_ready : (s : Step) → IsStep (number_of blank.brokers) (number_of blank.publishers) s → is_built s ≡ true → IsReady s
 step_ready (step.Clock now) h b = h
