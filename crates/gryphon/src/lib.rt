@@ -4,4 +4,5 @@
 pub mod asked;
 pub mod replay;
 pub mod scenario;
+pub mod top;
 pub mod world;
