@@ -43,3 +43,4 @@ pub mod BareHosts
 pub mod NamedLines
 pub mod WithoutSweeps
 pub mod SweepHosts
+pub mod SweepHears
