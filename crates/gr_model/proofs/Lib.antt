@@ -44,3 +44,4 @@ pub mod NamedLines
 pub mod WithoutSweeps
 pub mod SweepHosts
 pub mod SweepHears
+pub mod AfterSweeps
