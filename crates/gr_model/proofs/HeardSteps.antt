@@ -252,7 +252,7 @@ stopped_hears net w k p number stop e heard n f j h = go (not_empty (net.subscri
     go false false = record { long = h.long; fits = publish_now_heard net w p number e (heard_in heard) n f j h.fits }
     go false true = restarted_hears net w logs (net.host p) heard f (n.host_in p j) h
 
-hears_by : (net : Net) (w : World) (h : History) (k : ℕ) (s : Step) (ls : List Report) → IsNet net → WorldFits net w → RecordsFit net w h → filter is_sent h.lines ≡ sent_lines 1 w.frames → StepIn net s → is_sweep s ≡ false → Hears net w h.heard → Hears net (next net w (record { number = k; step = s })).world (heard_after net h (record { number = k; step = s }) ls)
+pub hears_by : (net : Net) (w : World) (h : History) (k : ℕ) (s : Step) (ls : List Report) → IsNet net → WorldFits net w → RecordsFit net w h → filter is_sent h.lines ≡ sent_lines 1 w.frames → StepIn net s → is_sweep s ≡ false → Hears net w h.heard → Hears net (next net w (record { number = k; step = s })).world (heard_after net h (record { number = k; step = s }) ls)
 unfolding next heard_after
 hears_by net w h k (step.Clock now) ls n f r e i z a = record { long = a.long; fits = a.fits }
 hears_by net w h k (step.Publish p number None v) ls n f r e i z a = record { long = a.long; fits = publish_now_heard net w p number v (heard_in h.heard) n f i a.fits }
