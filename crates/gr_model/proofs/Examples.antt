@@ -4,6 +4,8 @@ use Rattle.std.specs.Prelude.{if◌then◌else◌}
 use Rattle.gr_model.specs.declared.report.Report.TheVariants as line
 use Rattle.gr_model.specs.Broker.{Log, with_event, is_kept}
 use Rattle.gr_model.specs.World.{World, Told, log_of}
+use Rattle.gr_model.specs.Headline as headline
+use Rattle.gr_model.specs.SmallNets.{inner_net, filtered_net}
 use Rattle.gr_model.specs.Blank.{net0}
 use Rattle.gr_sched.specs.declared.step.Step.{Step}
 use Rattle.gr_model.specs.declared.report.Report.{Report}
@@ -11,7 +13,7 @@ use Rattle.gr_frame.specs.Bytes as frames
 use Rattle.gr_model.specs.Net.{Net}
 use Rattle.gr_model.specs.Broker as broker
 use Rattle.gr_model.specs.World as world
-use Rattle.gr_model.specs.Examples.{WorkedExamples, report, stopped_then_again, kept_lines, lost_lines, publish, n_is}
+use Rattle.gr_model.specs.Examples.{heard_upto, losses_then_sweep, crashes_then_sweep, WorkedExamples, report, stopped_then_again, kept_lines, lost_lines, publish, n_is}
 
 -- with this one open the whole machine computes
 unfoldable machine : Net → List Step → List Report
@@ -46,8 +48,16 @@ unfolding machine report_as stopped_as clocked_world kept_lines lost_lines
 report_tells true = refl
 report_tells false = refl
 
+inner_heard : (heard_upto inner_net losses_then_sweep 1 ≡ 5801) × (heard_upto inner_net losses_then_sweep 2 ≡ 5801) × (heard_upto inner_net losses_then_sweep 4 ≡ 5801)
+unfolding machine heard_upto losses_then_sweep headline.begin headline.after headline.records_after headline.clock_after headline.most_after headline.heard_after headline.bare_after
+inner_heard = (refl, refl, refl)
+
+filtered_heard : (heard_upto filtered_net crashes_then_sweep 3 ≡ 3702) × (heard_upto filtered_net crashes_then_sweep 4 ≡ 3702)
+unfolding machine heard_upto crashes_then_sweep headline.begin headline.after headline.records_after headline.clock_after headline.most_after headline.heard_after headline.bare_after
+filtered_heard = (refl, refl)
+
 pub examples : WorkedExamples
-unfolding machine
+unfolding machine losses_then_sweep crashes_then_sweep
 examples = record {
   published_is_got = refl;
   nothing_tells_nothing = refl;
@@ -72,4 +82,6 @@ examples = record {
   equal_events_are_one_run = refl;
   sweep_after_losses = refl;
   sweep_after_crashes = refl;
+  sweep_is_heard = inner_heard;
+  crashes_are_heard = filtered_heard;
 }

@@ -35,7 +35,7 @@ use Rattle.gr_model.proofs.Worlds.{wake_for_kept, numbers_below}
 use Rattle.gr_model.proofs.Schedules.{frame_at_true}
 
 -- the pieces heard, broker by broker and publisher by publisher
-abbrev Pieces : Type 0
+abbrev pub Pieces : Type 0
 Pieces = List (List (List Known))
 
 -- a broker has heard a tick of a publisher
@@ -166,11 +166,11 @@ line_is w (suc k) ls e = line_sent k ls ∙ (ap (line_of_frame (suc k)) e ∙ su
 
 -- A delivery
 
-abbrev know_of_body : Head → Body → Option (ℕ × ℕ × Known)
+abbrev pub know_of_body : Head → Body → Option (ℕ × ℕ × Known)
 know_of_body h (body.Knowledge runs) = Some (h.to, h.publisher, runs)
 know_of_body h _ = None
 
-know_of_sent : (k : ℕ) (x : Frame) → know_of_line (sent_line k x) ≡ know_of_body x.head x.body
+pub know_of_sent : (k : ℕ) (x : Frame) → know_of_line (sent_line k x) ≡ know_of_body x.head x.body
 unfolding sent_line
 know_of_sent k x = go x.body
   where
@@ -180,12 +180,12 @@ know_of_sent k x = go x.body
     go (body.Expect tick) = refl
 
 -- what a delivered frame adds
-record Adds (net : Net) (heard more : Pieces) (h : Head) (y : Body) : Type 0 where
-  long : HeardLong net more
-  here : (t : ℕ) → heard_in more h.to h.publisher t ≡ hears_body (heard_in heard h.to h.publisher) y t
-  same : SameBut (heard_in heard) (heard_in more) h.to h.publisher
+pub record Adds (net : Net) (heard more : Pieces) (h : Head) (y : Body) : Type 0 where
+  pub long : HeardLong net more
+  pub here : (t : ℕ) → heard_in more h.to h.publisher t ≡ hears_body (heard_in heard h.to h.publisher) y t
+  pub same : SameBut (heard_in heard) (heard_in more) h.to h.publisher
 
-body_adds : (net : Net) (w : World) (heard : Pieces) (h : Head) (y : Body) → HeardLong net heard → h.to < net.brokers → h.publisher < net.publishers → BodyTrue net (facts_of net w h.publisher) h.publisher h.from h.to y → Adds net heard (hearing heard (know_of_body h y)) h y
+pub body_adds : (net : Net) (w : World) (heard : Pieces) (h : Head) (y : Body) → HeardLong net heard → h.to < net.brokers → h.publisher < net.publishers → BodyTrue net (facts_of net w h.publisher) h.publisher h.from h.to y → Adds net heard (hearing heard (know_of_body h y)) h y
 body_adds net w heard h (body.Knowledge runs) l i j tr = record {
   long = hearing_long net heard h.to h.publisher runs l i;
   here = λ t. ap (λ pieces. is_heard pieces t) (hearing_here net heard h.to h.publisher runs l i j) ∙ heard_more (get_or (get_or heard h.to []) h.publisher []) runs t tr.runs;
@@ -252,7 +252,7 @@ stopped_hears net w k p number stop e heard n f j h = go (not_empty (net.subscri
     go false false = record { long = h.long; fits = publish_now_heard net w p number e (heard_in heard) n f j h.fits }
     go false true = restarted_hears net w logs (net.host p) heard f (n.host_in p j) h
 
-hears_by : (net : Net) (w : World) (h : History) (k : ℕ) (s : Step) (ls : List Report) → IsNet net → WorldFits net w → RecordsFit net w h → filter is_sent h.lines ≡ sent_lines 1 w.frames → StepIn net s → is_sweep s ≡ false → Hears net w h.heard → Hears net (next net w (record { number = k; step = s })).world (heard_after net h (record { number = k; step = s }) ls)
+pub hears_by : (net : Net) (w : World) (h : History) (k : ℕ) (s : Step) (ls : List Report) → IsNet net → WorldFits net w → RecordsFit net w h → filter is_sent h.lines ≡ sent_lines 1 w.frames → StepIn net s → is_sweep s ≡ false → Hears net w h.heard → Hears net (next net w (record { number = k; step = s })).world (heard_after net h (record { number = k; step = s }) ls)
 unfolding next heard_after
 hears_by net w h k (step.Clock now) ls n f r e i z a = record { long = a.long; fits = a.fits }
 hears_by net w h k (step.Publish p number None v) ls n f r e i z a = record { long = a.long; fits = publish_now_heard net w p number v (heard_in h.heard) n f i a.fits }

@@ -44,3 +44,5 @@ pub mod BareHosts
 pub mod NamedLines
 pub mod WithoutSweeps
 pub mod SweepHosts
+pub mod SweepHears
+pub mod AfterSweeps

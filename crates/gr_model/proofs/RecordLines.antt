@@ -28,8 +28,8 @@ recs ls = filter is_record_line ls
 
 -- a test that passes none of the lines that subscribers are told
 pub record Skips (f : Report → Bool) : Type 0 where
-  got : (s p t : ℕ) (e : Event) → f (line.Got s p t e) ≡ false
-  horizon : (s p t : ℕ) → f (line.Horizon s p t) ≡ false
+  pub got : (s p t : ℕ) (e : Event) → f (line.Got s p t e) ≡ false
+  pub horizon : (s p t : ℕ) → f (line.Horizon s p t) ≡ false
 
 pub records_skip : Skips is_record_line
 records_skip = record { got = λ s p t e. refl; horizon = λ s p t. refl }
@@ -62,7 +62,7 @@ learn_none f net p b piece v log k = go _ _ (net.subscribers_at b)
     go h items [] = refl
     go h items (x ∷ xs) = filter-append f (told net p v.horizon h items x) (flat_map (told net p v.horizon h items) xs) ∙ ap₂ (λ a c. a ++ c) (told_none f net p v.horizon h x items k) (go h items xs)
 
-receive_none : (f : Report → Bool) (net : Net) (now : ℕ) (x : Frame) (v : View) (log : Log) → Skips f → filter f (receive net now x v log).lines ≡ []
+pub receive_none : (f : Report → Bool) (net : Net) (now : ℕ) (x : Frame) (v : View) (log : Log) → Skips f → filter f (receive net now x v log).lines ≡ []
 unfolding receive expect curiosity asking
 receive_none f net now x v log k = go x.body
   where
@@ -119,7 +119,7 @@ publish_line_unsent p now number r = go (nat_le number r.last) (nat_lt (suc r.la
     go false false true = refl
     go false false false = refl
 
-marking_none : (f : Report → Bool) (net : Net) (p b now : ℕ) (v : View) (log : Log) → Skips f → filter f (marking net p b now v log).lines ≡ []
+pub marking_none : (f : Report → Bool) (net : Net) (p b now : ℕ) (v : View) (log : Log) → Skips f → filter f (marking net p b now v log).lines ≡ []
 unfolding marking
 marking_none f net p b now v log k = go (nat_le (log.settled + net.quiet) now)
   where
@@ -131,7 +131,7 @@ marking_none f net p b now v log k = go (nat_le (log.settled + net.quiet) now)
     go false = refl
 
 -- the lines of a woken host before those that subscribers are told
-abbrev front : ℕ → ℕ → ℕ → Bool → Bool → List Report
+abbrev pub front : ℕ → ℕ → ℕ → Bool → Bool → List Report
 front p now cut c d = (if c then line.Mark p now ∷ [] else []) ++ (if d then line.Cut p cut ∷ [] else [])
 
 -- a wake marks where the log was silent for long

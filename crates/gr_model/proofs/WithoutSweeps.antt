@@ -8,7 +8,7 @@ use Rattle.gr_model.specs.declared.report.Report.TheVariants as line
 use Rattle.gr_model.specs.Net.{Net, keeps_horizon, not_empty, is_empty}
 use Rattle.gr_model.specs.Broker.{empty_log}
 use Rattle.gr_model.specs.World.{World, view_of, start, next, run_from, report_of}
-use Rattle.gr_model.specs.Headline.{History, after, begin, is_heard, IsDoubt, Delivered, StepTold, Holds_from, Headline}
+use Rattle.gr_model.specs.Headline.{heard_after, History, after, begin, is_heard, IsDoubt, Delivered, StepTold, Holds_from, Headline}
 use Rattle.gr_model.specs.Tree.{IsNet}
 use Rattle.gr_model.specs.Fits.{StepIn, StepsIn}
 use Rattle.gr_model.specs.Order.{is_sweep, SweepsNowhere}
@@ -23,10 +23,15 @@ use Rattle.gr_model.proofs.Worlds.{reached_here}
 use Rattle.gr_model.proofs.Orders.{has_one}
 use Rattle.gr_model.proofs.Schedules.{start_is}
 
+-- each line
+abbrev pub AllLines : (Line → Type 0) → List Line → Type 0
+AllLines ok [] = Unit {0}
+AllLines ok (l ∷ ls) = ok l × AllLines ok ls
+
 -- what stands, with what was heard
-record Whole (net : Net) (w : World) (h : History) : Type 0 where
-  stands : Stands net w h
-  hears : Hears net w h.heard
+pub record Whole (net : Net) (w : World) (h : History) : Type 0 where
+  pub stands : Stands net w h
+  pub hears : Hears net w h.heard
 
 -- a kept horizon is the doubt horizon
 doubt_is : (net : Net) (w : World) (h : History) (b p : ℕ) → Whole net w h → b < net.brokers → p < net.publishers → keeps_horizon net p b ≡ true → IsDoubt net h b p (view_of w b p).horizon
@@ -55,17 +60,20 @@ step_told net w h l n z i k = record {
       subst (IsDoubt net h b p) (sym d.tick) (doubt_is net w h b p k d.broker d.publisher d.keeps);
 }
 
-next_whole : (net : Net) (w : World) (h : History) (l : Line) → IsNet net → 1 ≤ net.quiet → StepIn net l.step → is_sweep l.step ≡ false → Whole net w h → Whole net (next net w l).world (after net h l (next net w l).lines)
+next_whole : (net : Net) (w : World) (h : History) (l : Line) → IsNet net → 1 ≤ net.quiet → StepIn net l.step → Hears net (next net w l).world (heard_after net h l (next net w l).lines) → Whole net w h → Whole net (next net w l).world (after net h l (next net w l).lines)
 unfolding after
-next_whole net w h l n z i y k = record {
-  stands = next_stands net w h l n z i k.stands;
-  hears = step_hears net w h l (next net w l).lines n k.stands.fits k.stands.records k.stands.sent i y k.hears;
-}
+next_whole net w h l n z i y k = record { stands = next_stands net w h l n z i k.stands; hears = record { long = y.long; fits = y.fits } }
 
-holds_from : (net : Net) (w : World) (h : History) (ls : List Line) → IsNet net → 1 ≤ net.quiet → StepsIn net ls → SweepsNowhere ls → Whole net w h → Holds_from net h ls (run_from net w ls)
+-- the headline from here on, where each step keeps what was heard
+pub holds_from : (net : Net) (ok : Line → Type 0) (w : World) (h : History) (ls : List Line) → IsNet net → 1 ≤ net.quiet → ((u : World) (g : History) (l : Line) → StepIn net l.step → ok l → Whole net u g → Hears net (next net u l).world (heard_after net g l (next net u l).lines)) → StepsIn net ls → AllLines ok ls → Whole net w h → Holds_from net h ls (run_from net w ls)
 unfolding run_from
-holds_from net w h [] n z i y k = (delivered net w h n k, in_order net w h n k.stands)
-holds_from net w h (l ∷ ls) n z i y k = (delivered net w h n k, in_order net w h n k.stands, step_told net w h l n z i.0 k, holds_from net (next net w l).world (after net h l (next net w l).lines) ls n z i.1 y.1 (next_whole net w h l n z i.0 y.0 k))
+holds_from net ok w h [] n z keep i y k = (delivered net w h n k, in_order net w h n k.stands)
+holds_from net ok w h (l ∷ ls) n z keep i y k = (
+  delivered net w h n k,
+  in_order net w h n k.stands,
+  step_told net w h l n z i.0 k,
+  holds_from net ok (next net w l).world (after net h l (next net w l).lines) ls n z keep i.1 y.1 (next_whole net w h l n z i.0 (keep w h l i.0 y.0 k) k),
+)
 
 -- at the start nothing was heard, and every host has its flag
 nothing_heard : (net : Net) (b p t : ℕ) → b < net.brokers → p < net.publishers → heard_in (begin net).heard b p t ≡ false
@@ -82,12 +90,18 @@ start_hears net = record {
   fits = λ b p i j host keeps. subst (λ v. HeardFits v (heard_in (begin net).heard b p)) (sym (start_is net b p i j)) (started_heard net p b empty_log (heard_in (begin net).heard b p) host (λ t. nothing_heard net b p t i j));
 }
 
+pub start_whole : (net : Net) → IsNet net → Whole net (start net) (begin net)
+start_whole net n = record { stands = start_stands net n; hears = start_hears net }
+
+no_sweeps : (ls : List Line) → SweepsNowhere ls → AllLines (λ l. is_sweep l.step ≡ false) ls
+no_sweeps [] y = tt
+no_sweeps (l ∷ ls) y = (y.0, no_sweeps ls y.1)
+
 pub headline_without_sweeps : (net : Net) (ls : List Line) → IsNet net → 1 ≤ net.quiet → StepsIn net ls → SweepsNowhere ls → Headline net ls (report_of net ls)
 unfolding report_of
 headline_without_sweeps net ls n z i y = (
   refl,
-  holds_from net (start net) (begin net) ls n z i y (record {
-    stands = start_stands net n;
-    hears = start_hears net;
-  }),
+  holds_from net (λ l. is_sweep l.step ≡ false) (start net) (begin net) ls n z
+      (λ u g l j e k. step_hears net u g l (next net u l).lines n k.stands.fits k.stands.records k.stands.sent j e k.hears)
+      i (no_sweeps ls y) (start_whole net n),
 )

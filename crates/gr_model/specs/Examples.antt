@@ -1,5 +1,5 @@
 -- Worked examples: small schedules, and the whole report of each
-use Rattle.std.specs.Prelude.{◌≡◌, ℕ, suc, Bool, true, false, List, [], ◌∷◌, filter, flat_map, if◌then◌else◌, pos, Some, None}
+use Rattle.std.specs.Prelude.{◌≡◌, ℕ, suc, Bool, true, false, List, [], ◌∷◌, filter, flat_map, if◌then◌else◌, pos, Some, None, get_or, ◌-◌}
 use Rattle.gr_event.specs.declared.value.Value.TheVariants as value
 use Rattle.gr_event.specs.declared.event.Event.{Event}
 use Rattle.gr_know.specs.declared.values.K.{K}
@@ -15,6 +15,11 @@ use Rattle.gr_model.specs.declared.report.Report.TheVariants as line
 use Rattle.gr_model.specs.Net.{Net, numbers}
 use Rattle.gr_model.specs.Broker.{is_kept}
 use Rattle.gr_model.specs.World.{report_of}
+use Rattle.gr_model.specs.Headline.{is_heard}
+use Rattle.gr_model.specs.Fits.{history_of}
+use Rattle.gr_event.specs.Event.{same_bool}
+use Rattle.gr_know.specs.Values.{Known}
+use Rattle.gr_tick.specs.Runs.{tabulate, points, first_bottom_from}
 use Rattle.gr_model.specs.Blank.{net0}
 use Rattle.gr_model.specs.SmallNets.{net1, net1_both, net2, net2_forgetful, net3, net4, net5, inner_net, filtered_net, price}
 
@@ -83,6 +88,20 @@ lost_lines = line.Crashed 0 ∷ line.Lost 0 1 1000 ∷ line.Logged 0 1 1000 ∷ 
 
 unfoldable pub kept_lines : List Report
 kept_lines = line.Crashed 0 ∷ line.Kept 0 1 1000 ∷ line.Opened 0 1 1000 0 ∷ line.Already 0 1 ∷ []
+
+-- lost frames, two crashes, a sweep and a show
+unfoldable pub losses_then_sweep : List Step
+losses_then_sweep = clock 1000 ∷ publish 1 (n_is 1) ∷ clock 2000 ∷ publish 2 (n_is 2) ∷ clock 3000 ∷ publish 3 (n_is 3) ∷ deliver 3 ∷ deliver 2 ∷ wake 0 ∷ clock 3100 ∷ wake 2 ∷ step.Crash 4 ∷ step.Crash 3 ∷ step.Sweep ∷ step.Show ∷ []
+
+-- a crash of a whole branch and of the host, a sweep and a show
+unfoldable pub crashes_then_sweep : List Step
+crashes_then_sweep = clock 1000 ∷ publish 1 (int_event price 90) ∷ publish 2 (int_event price 7) ∷ deliver 1 ∷ deliver 3 ∷ deliver 5 ∷ deliver 6 ∷ deliver 7 ∷ wake 3 ∷ deliver 8 ∷ wake 2 ∷ wake 1 ∷ step.Crash 3 ∷ step.Crash 0 ∷ step.Crash 2 ∷ step.Sweep ∷ step.Show ∷ []
+
+-- the greatest tick up to which a broker has heard all, by the history of the steps
+unfoldable pub heard_upto : Net → List Step → ℕ → ℕ
+heard_upto net steps b =
+    let pieces : List Known = get_or (get_or (history_of net (lined 1 steps)).heard b []) 0 [] in
+    first_bottom_from (tabulate false same_bool (is_heard pieces) (flat_map points pieces)) 1 - 1
 
 -- The examples
 
@@ -274,10 +293,13 @@ pub record WorkedExamples : Type 0 where
       line.Got 0 0 1001 (n_is 7) ∷
       line.Horizon 0 0 1001 ∷ []
   -- After lost frames, crashes and forgetting, with subscribers at inner brokers, a sweep brings every horizon to its moment and cuts the log there
-  pub sweep_after_losses : filter is_end (report inner_net (clock 1000 ∷ publish 1 (n_is 1) ∷ clock 2000 ∷ publish 2 (n_is 2) ∷ clock 3000 ∷ publish 3 (n_is 3) ∷ deliver 3 ∷ deliver 2 ∷ wake 0 ∷ clock 3100 ∷ wake 2 ∷ step.Crash 4 ∷ step.Crash 3 ∷ step.Sweep ∷ step.Show ∷ [])) ≡
+  pub sweep_after_losses : filter is_end (report inner_net losses_then_sweep) ≡
       line.Horizon 0 0 3000 ∷ line.Horizon 0 0 5801 ∷ line.Horizon 1 0 3000 ∷ line.Horizon 1 0 5801 ∷ line.Swept 5801 ∷
       line.LogOf 0 3 5801 5801 0 ∷ line.Doubt 1 0 5801 ∷ line.Doubt 2 0 5801 ∷ line.Doubt 4 0 5801 ∷ []
   -- The same where a whole branch and the host have crashed and a filter stands before the only subscriber
-  pub sweep_after_crashes : filter is_end (report filtered_net (clock 1000 ∷ publish 1 (int_event price 90) ∷ publish 2 (int_event price 7) ∷ deliver 1 ∷ deliver 3 ∷ deliver 5 ∷ deliver 6 ∷ deliver 7 ∷ wake 3 ∷ deliver 8 ∷ wake 2 ∷ wake 1 ∷ step.Crash 3 ∷ step.Crash 0 ∷ step.Crash 2 ∷ step.Sweep ∷ step.Show ∷ [])) ≡
+  pub sweep_after_crashes : filter is_end (report filtered_net crashes_then_sweep) ≡
       line.Horizon 0 0 1001 ∷ line.Horizon 0 0 3702 ∷ line.Swept 3702 ∷
       line.LogOf 0 2 3702 3702 0 ∷ line.Doubt 3 0 3702 ∷ line.Doubt 4 0 3702 ∷ []
+  -- In both, each broker with a horizon has heard all up to the sweep's moment and not the tick after it
+  pub sweep_is_heard : (heard_upto inner_net losses_then_sweep 1 ≡ 5801) × (heard_upto inner_net losses_then_sweep 2 ≡ 5801) × (heard_upto inner_net losses_then_sweep 4 ≡ 5801)
+  pub crashes_are_heard : (heard_upto filtered_net crashes_then_sweep 3 ≡ 3702) × (heard_upto filtered_net crashes_then_sweep 4 ≡ 3702)

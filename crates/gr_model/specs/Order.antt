@@ -1,4 +1,4 @@
--- The order of the cut lines of one publisher, and what stands before them
+-- What is proved of every schedule: the parts of the headline that are proved over sweeps too, and which schedules have no sweep
 use Rattle.std.specs.Prelude.{◌≡◌, ℕ, ◌≤◌, ◌<◌, true, List, [], ◌∷◌, ◌++◌, map, filter, Contains, Bool, false}
 use Rattle.gr_event.specs.declared.event.Event.{Event}
 use Rattle.gr_model.specs.declared.report.Report.{Report}
