@@ -1,20 +1,36 @@
--- What the children ask and acknowledge, tick by tick.
-use Rattle.std.specs.Prelude.{ℕ, Bool, true, false, cond, List}
-use Rattle.std.specs.List.{list_all}
+-- What the children ask and acknowledge, tick by tick
+use Rattle.std.specs.Prelude.{ℕ, Bool, true, ◌&&◌, nat_le, if◌then◌else◌, List, [], map, get_or, Option, Some, None}
+use Rattle.std.specs.List.{list_any, list_all}
 use Rattle.gr_tick.specs.Kept.{Kept}
-use Rattle.gr_tick.specs.Runs.{value_at}
+use Rattle.gr_curio.specs.Values.{Wanted, wanted_at, is_C, is_A}
 use Rattle.gr_curio.specs.declared.values.Q3.{Q3}
-use Rattle.gr_curio.specs.declared.values.Q3.TheVariants.{N, C, A}
+use Rattle.gr_curio.specs.declared.values.Q3.TheVariants.{N}
 
-abbrev pub is_acknowledged : Q3 → Bool
-is_acknowledged N = false
-is_acknowledged C = false
-is_acknowledged A = true
+-- each child's runs
+abbrev pub runs_of : List (Kept Q3) → List Wanted
+runs_of children = map (λ child. child.runs) children
 
--- whether a child has acknowledged a tick
-abbrev pub acknowledges : ℕ → Kept Q3 → Bool
-acknowledges t child = is_acknowledged (value_at N child.runs t)
+-- the runs of one child
+abbrev pub wants_of : List Wanted → ℕ → Wanted
+wants_of wants child = get_or wants child []
 
--- acknowledged where every child has acknowledged, else nothing
-abbrev pub consolidated_at : List (Kept Q3) → ℕ → Q3
-consolidated_at children t = cond (list_all (acknowledges t) children) A N
+-- whether each child has acknowledged a tick
+abbrev pub all_A : List Wanted → ℕ → Bool
+all_A wants t = list_all (λ w. is_A (wanted_at w t)) wants
+
+-- whether some child asks for a tick
+abbrev pub any_C : List Wanted → ℕ → Bool
+any_C wants t = list_any (λ w. is_C (wanted_at w t)) wants
+
+-- whether the horizon, if one is kept, has come to a tick
+abbrev pub is_reached : Option ℕ → ℕ → Bool
+is_reached None t = true
+is_reached (Some h) t = nat_le t h
+
+-- whether a tick is consolidated
+abbrev pub is_consolidated : Option ℕ → List Wanted → ℕ → Bool
+is_consolidated horizon wants t = nat_le 1 t && is_reached horizon t && all_A wants t
+
+-- a child's curiosity where a range of ticks was answered
+abbrev pub answered_of : Bool → Q3 → Q3
+answered_of inside a = if inside && is_C a then N else a

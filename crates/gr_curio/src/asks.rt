@@ -1,16 +1,17 @@
-ghost use Rattle.std.specs.Prelude.{if◌then◌else◌, ◌≡◌, ℕ, ◌^◌, ◌≤◌, IfOk};
-ghost use Rattle.gr_tick.specs.Runs.{value_at};
-ghost use Rattle.gr_tick.specs.Stored.{within};
+ghost use Rattle.std.specs.Prelude.{◌≡◌, ℕ, ◌+◌, ◌^◌, ◌<◌, ◌≤◌, IfOk, OnOk, OnErr, [], length, slice_get, Some};
+ghost use Rattle.gr_tick.specs.Runs.{AreRuns};
+ghost use Rattle.gr_tick.specs.Stored.{IsRun, EndBefore, RunsGive};
 ghost use Rattle.gr_curio.specs.Moments.{is_at_most, later_of, moment_laws};
-ghost use Rattle.gr_curio.specs.Values.{is_outstanding};
-ghost use Rattle.gr_curio.specs.Due.{due_of};
+ghost use Rattle.gr_curio.specs.Values.{wanted_at, asked_at, is_outstanding};
+ghost use Rattle.gr_curio.specs.Due.{due_of, noted_of};
 ghost use Rattle.gr_curio.specs.declared.asks.Moment.TheVariants.{Never};
 ghost use Rattle.gr_curio.specs.declared.values.Q3.TheVariants.{N};
 
+use crate::mark::mark_asked;
 use crate::values::Q3;
+use gr_tick::{Lattice, MAX_TICK, Piece, Run, Stream, is_bottom};
 use std::alloc::{AllocError, Global};
 use std::marker::Model;
-use gr_tick::{Lattice, MAX_TICK, Piece, Run, Stream, is_bottom};
 
 /// When a tick was last asked.
 #[derive(Clone, Copy, Debug, PartialEq, Eq)]
@@ -79,11 +80,59 @@ impl Model for Asks {
 }
 
 impl Asks {
-    /// The wanted ticks that are not outstanding.
+    /// Nothing was asked.
+    pub fn new(alloc: Global) -> Asks
+        ensures { result ≡ [] }
+    {
+        Asks {
+            alloc,
+            moments: Stream::new(alloc),
+        }
+    }
+
+    /// An equal object, or `Memory`.
+    pub fn copy(&self) -> Result<Asks, AllocError>
+        ensures { IfOk result (λ asks. asks ≡ self.now) }
+    {
+        let moments = self.moments.copy()?;
+        Ok(Asks {
+            alloc: self.alloc,
+            moments,
+        })
+    }
+
+    /// How many runs it has. They are canonical, and none ends past `MAX_TICK`.
+    pub fn len(&self) -> usize
+        ensures len { result ≡ length self.now }
+        ensures canonical { AreRuns Never self.now }
+        ensures in_range { EndBefore self.now (2 ^ 62 + 1) }
+    {
+        self.moments.len()
+    }
+
+    /// The run at a place.
+    pub fn run(&self, i: usize) -> &Run<Moment>
+        requires { i < length self.now }
+        ensures run { slice_get self.now i ≡ Some result.now }
+        ensures alone { IsRun Never result.now }
+    {
+        self.moments.run(i)
+    }
+
+    /// The wanted ticks whose last ask is not outstanding: it was made after `now`, or `retry` milliseconds or more before it.
     pub fn due(&self, wanted: &Piece<Q3>, now: u64, retry: u64) -> Result<Piece<Q3>, AllocError>
-        ensures { IfOk result (λ p. (t : ℕ) → value_at N p t ≡ (if within 1 (2 ^ 62) t then due_of (value_at Never self.now t) (value_at N wanted.now t) now retry else N)) }
+        ensures { IfOk result (λ piece. RunsGive N piece (λ t. due_of (asked_at self.now t) (wanted_at wanted.now t) now retry)) }
     {
         due_piece(self.alloc, &self.moments, wanted, now, retry)
+    }
+
+    /// Notes that the ticks that a piece asks were asked now. `Memory` leaves all as it was.
+    pub fn asked(&mut self, piece: &Piece<Q3>, now: u64) -> Result<(), AllocError>
+        ensures asked { OnOk result (RunsGive Never self.new (λ t. noted_of now (asked_at self.old t) (wanted_at piece.now t))) }
+        ensures err { OnErr result (self.new ≡ self.old) }
+    {
+        mark_asked(&mut self.moments, piece, &Moment::At(now))?;
+        Ok(())
     }
 }
 
@@ -111,6 +160,20 @@ fn due_value(moment: &Moment, wanted: Q3, now: u64, retry: u64) -> Q3
     }
 }
 
+/// A tick up to which neither what is wanted, nor where it is wanted the moment of the last ask, changes.
+fn same_until(moments: &Stream<Moment>, wanted: &Piece<Q3>, tick: u64) -> u64
+    requires { tick ≤ 2 ^ 62 }
+    ensures forward { tick ≤ result }
+    ensures inside { result ≤ 2 ^ 62 }
+    ensures due { (t now retry : ℕ) → tick ≤ t → t ≤ result → due_of (asked_at moments.now.runs t) (wanted_at wanted.now t) now retry ≡ due_of (asked_at moments.now.runs tick) (wanted_at wanted.now tick) now retry }
+{
+    let end = wanted.steady_until(tick);
+    if is_bottom(&wanted.at(tick)) {
+        return end;
+    }
+    end.min(moments.steady_until(tick))
+}
+
 fn due_piece(
     alloc: Global,
     moments: &Stream<Moment>,
@@ -118,12 +181,12 @@ fn due_piece(
     now: u64,
     retry: u64,
 ) -> Result<Piece<Q3>, AllocError>
-    ensures { IfOk result (λ p. (t : ℕ) → value_at N p t ≡ (if within 1 (2 ^ 62) t then due_of (value_at Never moments.now.runs t) (value_at N wanted.now t) now retry else N)) }
+    ensures { IfOk result (λ piece. RunsGive N piece (λ t. due_of (asked_at moments.now.runs t) (wanted_at wanted.now t) now retry)) }
 {
     let mut due = Piece::new(alloc);
     let mut next = 1;
     while next <= MAX_TICK {
-        let end = moments.steady_until(next).min(wanted.steady_until(next));
+        let end = same_until(moments, wanted, next);
         let value = due_value(&moments.at(next), wanted.at(next), now, retry);
         if !is_bottom(&value) {
             due.push(Run {
@@ -134,5 +197,7 @@ fn due_piece(
         }
         next = end + 1;
     }
+    let _ = due.len();
+    let _ = wanted.len();
     Ok(due)
 }

@@ -1,17 +1,23 @@
-ghost use Rattle.std.specs.Prelude.{if◌then◌else◌, ◌≡◌, ℕ, ◌^◌, ◌≤◌, IfOk, List, length, unwrap_or};
-ghost use Rattle.std.specs.Option.{ForSome};
-ghost use Rattle.std.specs.List.{list_all};
-ghost use Rattle.gr_tick.specs.Runs.{value_at};
-ghost use Rattle.gr_tick.specs.Stored.{within};
-ghost use Rattle.gr_curio.specs.Wants.{acknowledges, consolidated_at};
-ghost use Rattle.gr_curio.specs.declared.values.Q3.TheVariants.{N};
+ghost use Rattle.std.specs.Prelude.{if◌then◌else◌, ◌≡◌, ◌↔◌, IsTrue, ℕ, ◌+◌, ◌^◌, ◌<◌, ◌≤◌, IfOk, OnOk, OnErr, List, [], length, map, set, replicate, slice_get, Some, true, unwrap_or, is_some};
+ghost use Rattle.std.specs.Option.{ForSome, ForNone};
+ghost use Rattle.std.specs.List.{list_all, list_any};
+ghost use Rattle.gr_tick.specs.Runs.{value_at, AreRuns};
+ghost use Rattle.gr_tick.specs.Stored.{within, IsRun, EndBefore, RunsGive};
+ghost use Rattle.gr_curio.specs.Values.{wanted_at, is_A, is_C};
+ghost use Rattle.gr_curio.specs.Order.{greater_of};
+ghost use Rattle.gr_curio.specs.Wants.{runs_of, wants_of, all_A, any_C, is_consolidated, answered_of};
+ghost use Rattle.gr_curio.specs.declared.values.Q3.TheVariants.{N, C, A};
 
+use crate::children::{
+    consolidated_piece, copy_children, covers_upto, curious_piece, quiet_children,
+};
+use crate::mark::mark_asked;
 use crate::values::Q3;
-use std::alloc::AllocError;
+use gr_tick::{Piece, Run, Stream};
+use std::alloc::{AllocError, Global};
 use std::marker::Model;
-use gr_tick::{Lattice, MAX_TICK, Piece, Run, Stream};
 
-/// The curiosity of each child.
+/// The curiosity of each child, seen as its list of runs for each.
 #[derive(Drop)]
 pub struct Wants {
     children: Vec<Stream<Q3>>,
@@ -19,65 +25,127 @@ pub struct Wants {
 
 impl Model for Wants {
     ghost use Rattle.std.specs.Prelude.{List};
-    ghost use Rattle.gr_tick.specs.Kept.{Kept};
+    ghost use Rattle.gr_tick.specs.declared.run.Run.{Run};
     ghost use Rattle.gr_curio.specs.declared.values.Q3.{Q3};
+    ghost use Rattle.gr_curio.specs.Wants.{runs_of};
 
-    ghost Value = { List (Kept Q3) };
+    ghost Value = { List (List (Run Q3)) };
 
-    ghost view = { λ w. w.children.items };
+    ghost view = { λ w. runs_of w.children.items };
 }
 
 impl Wants {
-    /// Acknowledged at the ticks, up to the horizon if there is one, that every child has acknowledged.
-    pub fn consolidate(&self, horizon: Option<u64>) -> Result<Piece<Q3>, AllocError>
-        requires { ForSome horizon (λ h. h ≤ 2 ^ 62) }
-        ensures { IfOk result (λ p. (t : ℕ) → value_at N p t ≡ (if within 1 (unwrap_or horizon (2 ^ 62)) t then consolidated_at self.now t else N)) }
+    /// A number of children that ask and acknowledge nothing, or `Memory`.
+    pub fn new(alloc: Global, children: usize) -> Result<Wants, AllocError>
+        ensures { IfOk result (λ wants. wants ≡ replicate children []) }
     {
-        let limit = horizon.unwrap_or(MAX_TICK);
-        let mut piece = Piece::new(*self.children.allocator());
-        let mut next = 1;
-        while next <= limit {
-            let end = agree_until(&self.children, next, limit);
-            if all_acknowledge(&self.children, next) {
-                piece.push(Run {
-                    first: next,
-                    last: end,
-                    value: Q3::A,
-                })?;
-            }
-            next = end + 1;
-        }
-        Ok(piece)
+        let children = quiet_children(alloc, children)?;
+        Ok(Wants { children })
     }
-}
 
-/// Whether every child has acknowledged a tick.
-fn all_acknowledge(children: &[Stream<Q3>], tick: u64) -> bool
-    ensures { result ≡ list_all (acknowledges tick) children.now }
-{
-    children.iter().all(|child| acknowledges_at(child, tick))
-}
-
-fn acknowledges_at(child: &Stream<Q3>, tick: u64) -> bool
-    ensures { result ≡ acknowledges tick child.now }
-{
-    match child.at(tick) {
-        Q3::A => true,
-        Q3::N | Q3::C => false,
+    /// An equal object, or `Memory`.
+    pub fn copy(&self) -> Result<Wants, AllocError>
+        ensures { IfOk result (λ wants. wants ≡ self.now) }
+    {
+        let children = copy_children(*self.children.allocator(), &self.children)?;
+        Ok(Wants { children })
     }
-}
 
-/// A tick up to which each child's value stays that of `tick`.
-fn agree_until(children: &[Stream<Q3>], tick: u64, limit: u64) -> u64
-    requires ordered { tick ≤ limit }
-    requires upto { limit ≤ 2 ^ 62 }
-    ensures forward { tick ≤ result }
-    ensures inside { result ≤ limit }
-    ensures steady { (t : ℕ) → tick ≤ t → t ≤ result → list_all (acknowledges t) children.now ≡ list_all (acknowledges tick) children.now }
-{
-    let mut end = limit;
-    for child in children {
-        end = end.min(child.steady_until(tick));
+    /// How many children there are.
+    pub fn children(&self) -> usize
+        ensures { result ≡ length self.now }
+    {
+        self.children.len()
     }
-    end
+
+    /// How many runs a child has. They are canonical, and none ends past `MAX_TICK`.
+    pub fn len(&self, child: usize) -> usize
+        requires { child < length self.now }
+        ensures len { result ≡ length (wants_of self.now child) }
+        ensures canonical { AreRuns N (wants_of self.now child) }
+        ensures in_range { EndBefore (wants_of self.now child) (2 ^ 62 + 1) }
+    {
+        self.children[child].len()
+    }
+
+    /// A child's run at a place.
+    pub fn run(&self, child: usize, i: usize) -> &Run<Q3>
+        requires child { child < length self.now }
+        requires place { i < length (wants_of self.now child) }
+        ensures run { slice_get (wants_of self.now child) i ≡ Some result.now }
+        ensures alone { IsRun N result.now }
+    {
+        self.children[child].run(i)
+    }
+
+    /// A child's value at a tick.
+    pub fn at(&self, child: usize, tick: u64) -> Q3
+        requires { child < length self.now }
+        ensures { result ≡ wanted_at (wants_of self.now child) tick }
+    {
+        self.children[child].at(tick)
+    }
+
+    /// Joins a piece to a child's curiosity. `Memory` leaves all as it was.
+    pub fn raise(&mut self, child: usize, piece: &Piece<Q3>) -> Result<(), AllocError>
+        requires { child < length self.old }
+        ensures raised { OnOk result (RunsGive N (wants_of self.new child) (λ t. greater_of (wanted_at (wants_of self.old child) t) (wanted_at piece.now t))) }
+        ensures others { OnOk result (self.new ≡ set self.old child (wants_of self.new child)) }
+        ensures err { OnErr result (self.new ≡ self.old) }
+    {
+        let stream = &mut self.children[child];
+        stream.join_piece(piece)?;
+        Ok(())
+    }
+
+    /// Asks no more at the ticks of a range for a child. `Memory` leaves all as it was.
+    pub fn answered(&mut self, child: usize, first: u64, last: u64) -> Result<(), AllocError>
+        requires child { child < length self.old }
+        requires from_one { 1 ≤ first }
+        requires ordered { first ≤ last }
+        requires upto { last ≤ 2 ^ 62 }
+        ensures answered { OnOk result (RunsGive N (wants_of self.new child) (λ t. answered_of (within first last t) (wanted_at (wants_of self.old child) t))) }
+        ensures others { OnOk result (self.new ≡ set self.old child (wants_of self.new child)) }
+        ensures err { OnErr result (self.new ≡ self.old) }
+    {
+        let stream = &mut self.children[child];
+        let piece = stream.piece(first, last)?;
+        mark_asked(stream, &piece, &Q3::N)?;
+        Ok(())
+    }
+
+    /// The runs of a child in a range, cut at its ends, or `Memory`.
+    pub fn piece(&self, child: usize, first: u64, last: u64) -> Result<Piece<Q3>, AllocError>
+        requires child { child < length self.now }
+        requires from_one { 1 ≤ first }
+        requires ordered { first ≤ last }
+        requires upto { last ≤ 2 ^ 62 }
+        ensures { IfOk result (λ piece. RunsGive N piece (λ t. if within first last t then wanted_at (wants_of self.now child) t else N)) }
+    {
+        self.children[child].piece(first, last)
+    }
+
+    /// Whether a child has acknowledged each tick from 1 to `upto`.
+    pub fn covers(&self, child: usize, upto: u64) -> bool
+        requires { child < length self.now }
+        ensures { IsTrue result ↔ ((t : ℕ) → 1 ≤ t → t ≤ upto → is_A (wanted_at (wants_of self.now child) t) ≡ true) }
+    {
+        covers_upto(&self.children[child], upto)
+    }
+
+    /// Acknowledged at the ticks that every child has acknowledged, and that the horizon, if one is kept, has come to.
+    pub fn consolidate(&self, horizon: Option<u64>) -> Result<Piece<Q3>, AllocError>
+        requires some { ForNone horizon (0 < length self.now) }
+        requires upto { ForSome horizon (λ h. h ≤ 2 ^ 62) }
+        ensures { IfOk result (λ piece. RunsGive N piece (λ t. if is_consolidated horizon self.now t then A else N)) }
+    {
+        consolidated_piece(*self.children.allocator(), &self.children, horizon)
+    }
+
+    /// Asked at the ticks that some child asks.
+    pub fn curious(&self) -> Result<Piece<Q3>, AllocError>
+        ensures { IfOk result (λ piece. RunsGive N piece (λ t. if any_C self.now t then C else N)) }
+    {
+        curious_piece(*self.children.allocator(), &self.children)
+    }
 }

@@ -85,7 +85,8 @@ impl Know {
 
     /// The greatest known tick, or 0.
     pub fn top(&self) -> u64
-        ensures { result ≡ top_of self.now }
+        ensures top { result ≡ top_of self.now }
+        ensures inside { result ≤ 2 ^ 62 }
     {
         self.stream.top()
     }

@@ -34,6 +34,20 @@ module _ {V : Type 0} where
   EndBefore-in_range least [] h = tt
   EndBefore-in_range least (r ∷ rs) h = (omega (arith, h.0.upto), EndBefore-in_range least rs h.2)
 
+  -- and what is canonical and ends by the last tick are runs in range
+  AreTickRuns-from : (least : V) (n : ℕ) (rs : List (Run V)) → 1 ≤ n → AreRunsFrom least n rs → EndBefore rs (2 ^ 62 + 1) → AreTickRuns least rs
+  AreTickRuns-from least n [] le a b = tt
+  AreTickRuns-from least n (r ∷ []) le a b =
+      (record { from_one = omega (arith, a.0); ordered = a.1; upto = omega (arith, b.0); known = a.2 }, tt, tt)
+  AreTickRuns-from least n (r ∷ s ∷ ss) le a b = (
+    record { from_one = omega (arith, a.0); ordered = a.1; upto = omega (arith, b.0); known = a.2 },
+    record { later = omega (arith, a.4.0); apart = λ e v. a.3 (omega (arith, e)) (sym v) },
+    AreTickRuns-from least (suc r.last) (s ∷ ss) (omega arith) a.4 b.1,
+  )
+
+  pub AreTickRuns-canonical : (least : V) (rs : List (Run V)) → AreRuns least rs → EndBefore rs (2 ^ 62 + 1) → AreTickRuns least rs
+  AreTickRuns-canonical least rs a b = AreTickRuns-from least 1 rs (omega arith) a b
+
   -- a tick out of range has the least value
   pub value_at-outside : (least : V) (rs : List (Run V)) (t : ℕ) → AreRuns least rs → EndBefore rs (2 ^ 62 + 1) → within 1 (2 ^ 62) t ≡ false → value_at least rs t ≡ least
   value_at-outside least rs t a b out = by_place (cases_lt t 1) (cases_lt (2 ^ 62) t)

@@ -71,13 +71,12 @@ impl<V: Lattice> Stream<V> {
 
     /// The greatest tick of a run, or 0.
     pub fn top(&self) -> u64
-        ensures { result ≡ top_of self.now.runs }
+        ensures top { result ≡ top_of self.now.runs }
+        ensures inside { result ≤ 2 ^ 62 }
+        ensures canonical { AreRuns V.least self.now.runs }
+        ensures past { EndBefore self.now.runs (result + 1) }
     {
-        let count = self.runs.len();
-        if count == 0 {
-            return 0;
-        }
-        self.runs[count - 1].last
+        last_of(&self.runs)
     }
 
     /// The value at a tick.
@@ -223,4 +222,19 @@ fn piece_of<V: Lattice>(
     }
     let _ = piece.len();
     Ok(piece)
+}
+
+/// The greatest tick of a run, or 0.
+fn last_of<V: Lattice>(runs: &[Run<V>]) -> u64
+    requires { AreTickRuns V.least runs.now }
+    ensures top { result ≡ top_of runs.now }
+    ensures inside { result ≤ 2 ^ 62 }
+    ensures past { EndBefore runs.now (result + 1) }
+{
+    let count = runs.len();
+    if count == 0 {
+        return 0;
+    }
+    let run = &runs[count - 1];
+    run.last
 }

@@ -42,15 +42,15 @@ horizon_is : (joined : Known) (from to : ℕ) → AreRuns Q joined → from ≤ 
 horizon_is joined from to a le g e =
     let f = first_bottom_from-is Q 1 joined (suc from) a in
     let low : suc to ≤ first_bottom_from joined (suc from) =
-      elim (cases_lt (first_bottom_from joined (suc from)) (suc to)) [
-        | inl h ↦ absurd (g (first_bottom_from joined (suc from)) (omega (arith, f.reached)) (omega arith) f.stops)
-        | inr h ↦ h
-      ] in
+    elim (cases_lt (first_bottom_from joined (suc from)) (suc to)) [
+      | inl h ↦ absurd (g (first_bottom_from joined (suc from)) (omega (arith, f.reached)) (omega arith) f.stops)
+      | inr h ↦ h
+    ] in
     let high : first_bottom_from joined (suc from) ≤ suc to =
-      elim (cases_lt (suc to) (first_bottom_from joined (suc from))) [
-        | inl h ↦ absurd (f.known (suc to) (omega arith) h e)
-        | inr h ↦ h
-      ] in
+    elim (cases_lt (suc to) (first_bottom_from joined (suc from))) [
+      | inl h ↦ absurd (f.known (suc to) (omega arith) h e)
+      | inr h ↦ h
+    ] in
     omega arith
 
 final_value : (b : Bool) (k : K) (t : ℕ) → (if b then F else k) ≡ (if is_A (if b && true then A else N) then F else k)
@@ -75,10 +75,10 @@ lowered_none n upto from [] one a h = refl
 lowered_none n upto from (r ∷ rs) one a h =
     let rest : lower_data n upto rs ≡ rs = lowered_none n upto (suc r.last) rs (omega arith) a.4 (λ t lo hi. sym (value_at-above Q r rs t (omega arith)) ∙ h t (omega (arith, a.0, a.1)) hi) in
     let none : (is_D r.value && nat_le r.first upto) ≡ false =
-      elim (cases_lt upto r.first) [
-        | inl b ↦ and_right (is_D r.value) (nat_le r.first upto) (lt-leb r.first upto b)
-        | inr b ↦ and_left (is_D r.value) (nat_le r.first upto) (not_data r.value (sym (value_at-in Q r rs r.first (omega arith) a.1) ∙ h r.first a.0 b))
-      ] in
+    elim (cases_lt upto r.first) [
+      | inl b ↦ and_right (is_D r.value) (nat_le r.first upto) (lt-leb r.first upto b)
+      | inr b ↦ and_left (is_D r.value) (nat_le r.first upto) (not_data r.value (sym (value_at-in Q r rs r.first (omega arith) a.1) ∙ h r.first a.0 b))
+    ] in
     rw (lower_data, none) (ap (λ xs. r ∷ xs) rest)
 
 final_up : (joined final : Known) (to : ℕ) → ((t : ℕ) → known_at final t ≡ (if nat_le 1 t && nat_le t to then F else known_at joined t)) → (t : ℕ) → 1 ≤ t → t ≤ to → known_at final t ≡ F

@@ -80,7 +80,7 @@ learn-host old new piece g =
     let b = log_know-is new in
     let new_is : new_ticks (log_know old) piece ≡ piece = new_ticks-unknown (log_know old) piece a.runs g.runs (λ t e. g.unknown t (ap is_Q (sym (a.same_at t)) ∙ e)) in
     let know_is : zip_runs Q Q Q same_K join_K (log_know old) piece ≡ log_know new =
-      zip_runs-equals Q Q Q same_K K_decides join_K (log_know old) piece (log_know new) refl a.runs g.runs b.runs (λ t. b.same_at t ∙ (g.joined t ∙ ap (λ k. join_K k (known_at piece t)) (sym (a.same_at t)))) in
+    zip_runs-equals Q Q Q same_K K_decides join_K (log_know old) piece (log_know new) refl a.runs g.runs b.runs (λ t. b.same_at t ∙ (g.joined t ∙ ap (λ k. join_K k (known_at piece t)) (sym (a.same_at t)))) in
     let f = forward-all piece g.runs in
     let q = quenched-nothing piece g.runs in
     let n = finished-nothing (log_know new) b.runs in

@@ -18,7 +18,6 @@ use Rattle.gr_model.specs.Broker.{Log, with_event, event_at, log_at, silence}
 use Rattle.gryphon.specs.World.{EventsUpto, log_of_events, gate_of}
 use Rattle.gryphon.proofs.Host.{IsGrown}
 
-
 abbrev pub run_of : ℕ → ℕ → K → Run K
 run_of first last v = record { first = first; last = last; value = v }
 

@@ -10,9 +10,7 @@ ghost use Rattle.gryphon.specs.Scenario.{is_built, first_unbuilt, fault_line, ev
 
 use crate::asked::Asked;
 use gr_event::{EventFault, Text};
-use gr_sched::{
-    Line, MAX_BYTES, MAX_STEPS, Step, StepFault, Steps, count, is_blank, parse, split,
-};
+use gr_sched::{Line, MAX_BYTES, MAX_STEPS, Step, StepFault, Steps, count, is_blank, parse, split};
 use gr_topo::Topology;
 use std::alloc::{AllocError, Global};
 
@@ -84,11 +82,8 @@ fn is_built(step: &Step) -> bool
     match step {
         Step::Clock { .. } | Step::Deliver { .. } => true,
         Step::Publish { stop, .. } => stop.is_none(),
-        Step::Wake { .. }
-        | Step::Crash { .. }
-        | Step::Sweep
-        | Step::Show
-        | Step::Bytes { .. } => false,
+        Step::Wake { .. } | Step::Crash { .. } | Step::Sweep | Step::Show | Step::Bytes { .. } =>
+            false,
     }
 }
 
@@ -106,7 +101,10 @@ fn line_of_fault(alloc: Global, fault: StepFault) -> Result<Text, AllocError>
         }
         StepFault::BadEvent { line, fault } => {
             let word = event_fault_word(fault);
-            text_of(alloc, format!(in alloc; "step 3 bad-event line {line} {word}")?)
+            text_of(
+                alloc,
+                format!(in alloc; "step 3 bad-event line {line} {word}")?,
+            )
         }
         StepFault::TooMany { .. } => Text::from_slice(alloc, b"too-large steps"),
     }

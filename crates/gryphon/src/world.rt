@@ -21,8 +21,11 @@ use std::marker::Model;
 
 /// The broker of the publisher, the broker of the subscriber, and the frames between them.
 const HOST: u16 = 0;
+
 const FAR: u16 = 1;
+
 const PUBLISHER: u16 = 0;
+
 const SUBSCRIBER: u16 = 0;
 
 /// Both brokers and all frames that were sent, seen as a world of the machine.
@@ -208,12 +211,7 @@ fn tell_passed(lines: &mut Reports, know: &Know, from: u64, to: u64) -> Result<(
 }
 
 /// What a publish at a tick makes known: silence since the last settled tick, and the event.
-fn new_ticks(
-    alloc: Global,
-    settled: u64,
-    tick: u64,
-    event: &Event,
-) -> Result<Piece<K>, AllocError>
+fn new_ticks(alloc: Global, settled: u64, tick: u64, event: &Event) -> Result<Piece<K>, AllocError>
     requires after { settled < tick }
     requires inside { tick ≤ MAX_TICK }
     ensures { IfOk result (λ piece. piece ≡ silence (suc settled) (tick - 1) (record { first = tick; last = tick; value = D event.now } ∷ [])) }

@@ -1,8 +1,8 @@
 use Rattle.std.proofs.Common.{◌≡◌, ℕ, ◌+◌, ◌-◌, ◌^◌, ◌≤◌, cond}
 use Rattle.gr_tick.specs.Runs.{value_at}
 use Rattle.gr_tick.specs.Stored.{EndBefore, between}
+use Rattle.gr_curio.specs.Values.{asked_at, wanted_at}
 use Rattle.gr_curio.specs.Due.{due_of}
-use Rattle.gr_curio.specs.declared.asks.Moment.TheVariants.{Never}
 use Rattle.gr_curio.specs.declared.values.Q3.TheVariants.{N}
 use Rattle.gr_curio.proofs.asks.due_piece.Given as goal
 
@@ -11,7 +11,7 @@ abbrev pub invariant-loop-next : goal.invariant-loop-next
 invariant-loop-next l = record {
   forward : 1 ≤ l.next;
   inside : l.next ≤ 2 ^ 62 + 1;
-  values : (t : ℕ) → value_at N l.due t ≡ cond (between 1 l.next t) (due_of (value_at Never l.moments.runs t) (value_at N l.wanted t) l.now l.retry) N;
+  values : (t : ℕ) → value_at N l.due t ≡ cond (between 1 l.next t) (due_of (asked_at l.moments.runs t) (wanted_at l.wanted t) l.now l.retry) N;
   past : EndBefore l.due l.next;
 }
 

@@ -14,9 +14,9 @@ put-requires g c = rw c.requires.names (named_at c.args.lines.now c.lines.line-i
 pub returns-in-Err-clause-err : goal.returns-in-Err-clause-err
 returns-in-Err-clause-err g c =
     let front : TakesFront (g.K.Sink.taken c.lines.sink) (g.K.Sink.taken c.put.new.sink) (whole_line (labels_of blank) c.line-item.result) =
-      subst (λ t. TakesFront (g.K.Sink.taken c.lines.sink) (g.K.Sink.taken c.put.new.sink) (whole_line (labels_of t) c.line-item.result)) c.requires.names
-      (front_of_put c.in-Err.fault (g.K.Sink.taken c.lines.sink) (g.K.Sink.taken c.put.new.sink) (whole_line (labels_of c.args.topology.now) c.line-item.result)
-      (λ e. c.in-Err.ensures.write (ap (λ x. Err x) e)) (λ e. ap g.K.Sink.taken (c.in-Err.ensures.memory (ap (λ x. Err x) e)))) in
+    subst (λ t. TakesFront (g.K.Sink.taken c.lines.sink) (g.K.Sink.taken c.put.new.sink) (whole_line (labels_of t) c.line-item.result)) c.requires.names
+    (front_of_put c.in-Err.fault (g.K.Sink.taken c.lines.sink) (g.K.Sink.taken c.put.new.sink) (whole_line (labels_of c.args.topology.now) c.line-item.result)
+    (λ e. c.in-Err.ensures.write (ap (λ x. Err x) e)) (λ e. ap g.K.Sink.taken (c.in-Err.ensures.memory (ap (λ x. Err x) e)))) in
     front-later (g.K.Sink.taken c.args.sink.now) (g.K.Sink.taken c.lines.sink) (g.K.Sink.taken c.put.new.sink)
     (report_text (labels_of blank) (take c.lines.line-index c.args.lines.now)) (whole_line (labels_of blank) c.line-item.result) (report_text (labels_of blank) (drop (c.lines.line-index + 1) c.args.lines.now)) (report_text (labels_of blank) c.args.lines.now)
     c.lines.invariant.taken (text_cut (labels_of blank) c.args.lines.now c.lines.line-index c.line-item.result c.lines-test.true c.line-item.is) front

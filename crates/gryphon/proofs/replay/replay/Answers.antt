@@ -25,13 +25,14 @@ returns-in-Err-clause-err g c =
 
 pub steps-preserved : goal.steps-preserved
 steps-preserved g c =
-    let i = c.steps.invariant in
-    (i.0 ++ report_text (labels_of blank) (next net0 c.steps.world c.line-item.result).lines,
-    c.in-Ok.ensures.ok ∙ ap (λ x. with_more x (report_text (labels_of blank) (next net0 c.steps.world c.line-item.result).lines)) i.1 ∙ with_more-twice (g.K.Sink.taken c.args.sink.now) i.0 (report_text (labels_of blank) (next net0 c.steps.world c.line-item.result).lines),
-    i.2 ∙ ap (λ xs. i.0 ++ xs) (text_from-at c.steps.world c.args.steps.now c.steps.line-index c.line-item.result c.steps-test.true c.line-item.is)
-    ∙ sym (append_assoc i.0 (report_text (labels_of blank) (next net0 c.steps.world c.line-item.result).lines) (text_from (next net0 c.steps.world c.line-item.result).world (drop (c.steps.line-index + 1) c.args.steps.now)))
-    ∙ ap (λ w. (i.0 ++ report_text (labels_of blank) (next net0 c.steps.world c.line-item.result).lines) ++ text_from w (drop (c.steps.line-index + 1) c.args.steps.now)) (sym c.in-Ok.ensures.world),
-    c.in-Ok.ensures.same (λ e. cc) ∙ i.3)
+    let i = c.steps.invariant in (
+      i.0 ++ report_text (labels_of blank) (next net0 c.steps.world c.line-item.result).lines,
+      c.in-Ok.ensures.ok ∙ ap (λ x. with_more x (report_text (labels_of blank) (next net0 c.steps.world c.line-item.result).lines)) i.1 ∙ with_more-twice (g.K.Sink.taken c.args.sink.now) i.0 (report_text (labels_of blank) (next net0 c.steps.world c.line-item.result).lines),
+      i.2 ∙ ap (λ xs. i.0 ++ xs) (text_from-at c.steps.world c.args.steps.now c.steps.line-index c.line-item.result c.steps-test.true c.line-item.is)
+          ∙ sym (append_assoc i.0 (report_text (labels_of blank) (next net0 c.steps.world c.line-item.result).lines) (text_from (next net0 c.steps.world c.line-item.result).world (drop (c.steps.line-index + 1) c.args.steps.now)))
+          ∙ ap (λ w. (i.0 ++ report_text (labels_of blank) (next net0 c.steps.world c.line-item.result).lines) ++ text_from w (drop (c.steps.line-index + 1) c.args.steps.now)) (sym c.in-Ok.ensures.world),
+      c.in-Ok.ensures.same (λ e. cc) ∙ i.3,
+    )
 
 pub returns-clause-ok : goal.returns-clause-ok
 returns-clause-ok g c =

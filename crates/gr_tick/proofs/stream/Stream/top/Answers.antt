@@ -1,9 +1,7 @@
-use Rattle.std.proofs.Common.{◌-◌, ap, ◌∙◌, arith}
-use Rattle.gr_tick.specs.Runs.{top_of}
-use Rattle.gr_tick.proofs.SteadyLemmas.{top_of-last}
+use Rattle.std.proofs.Common.{ap, subst}
+use Rattle.gr_tick.specs.Stored.{AreTickRuns}
+use Rattle.gr_tick.proofs.Canonical.{AreRuns-in_range}
 use Rattle.gr_tick.proofs.stream.Stream.top.Goals as goal
 
-pub returns : goal.returns
-returns g c =
-    top_of-last c.self.inside.runs.items (c.len-count.result - 1) c.index.result.now (omega arith) c.index.ensures
-    ∙ ap (λ k. top_of k.runs) c.self.view_is
+pub returns-clause-canonical : goal.returns-clause-canonical
+returns-clause-canonical g c = AreRuns-in_range g.V.Lattice.least c.args.self.now.runs (subst (λ zs. AreTickRuns g.V.Lattice.least zs) (ap (λ k. k.runs) c.self.view_is) c.self.invariant)

@@ -1,16 +1,16 @@
 use Rattle.std.proofs.Common.{◌≡◌, ℕ, ◌+◌, ◌-◌, ◌≤◌, cond}
 use Rattle.gr_tick.specs.Runs.{value_at}
 use Rattle.gr_tick.specs.Stored.{EndBefore, between}
-use Rattle.gr_curio.specs.Wants.{consolidated_at}
-use Rattle.gr_curio.specs.declared.values.Q3.TheVariants.{N}
-use Rattle.gr_curio.proofs.wants.Wants.consolidate.Given as goal
+use Rattle.gr_curio.specs.Wants.{runs_of, is_consolidated}
+use Rattle.gr_curio.specs.declared.values.Q3.TheVariants.{N, A}
+use Rattle.gr_curio.proofs.children.consolidated_piece.Given as goal
 
--- the piece has what is consolidated before the next tick, and ends before it
+-- the piece has what comes before the next tick, and ends before it
 abbrev pub invariant-loop-next : goal.invariant-loop-next
 invariant-loop-next l = record {
   forward : 1 ≤ l.next;
   inside : l.next ≤ l.limit + 1;
-  values : (t : ℕ) → value_at N l.piece t ≡ cond (between 1 l.next t) (consolidated_at l.self t) N;
+  values : (t : ℕ) → value_at N l.piece t ≡ cond (between 1 l.next t) (cond (is_consolidated l.fn.horizon (runs_of l.children) t) A N) N;
   past : EndBefore l.piece l.next;
 }
 

@@ -1,0 +1,164 @@
+-- What the children's streams say, as lists of runs; what is asked and acknowledged out of range is nothing.
+use Rattle.std.proofs.Common.{◌≡◌, ◌≢◌, ℕ, ◌+◌, ◌^◌, ◌<◌, ◌≤◌, ◌⊎◌, inl, inr, Bool, true, false, ◌&&◌, ◌||◌, nat_le, cond, List, [], ◌∷◌, ◌++◌, length, set, take, replicate, get_or, Option, Some, IsTrue, refl, sym, ap, ap₂, ◌∙◌, subst, arith}
+use Rattle.std.proofs.lemmas.Bool.{cases_lt, le-leb, lt-leb, leb-true, and_left, and_right, and_from, cond-true, cond-false, false≢true}
+use Rattle.std.proofs.lemmas.List.{get_or-map, map-set, map-append, length-map, get_or-set_same, take_more, take_all, replicate_more}
+use Rattle.std.proofs.lemmas.List.Folds.{list_all-append, list_any-append}
+use Rattle.std.specs.List.{list_all, list_any}
+use Rattle.gr_tick.specs.declared.run.Run.{Run}
+use Rattle.gr_tick.specs.Kept.{Kept}
+use Rattle.gr_tick.specs.Runs.{AreRuns}
+use Rattle.gr_tick.specs.Stored.{within, EndBefore, RunsGive}
+use Rattle.gr_tick.proofs.RunLaws.{value_at-start}
+use Rattle.gr_tick.proofs.RunsLemmas.{value_at_past}
+use Rattle.gr_curio.specs.Values.{wanted_at, is_A, is_C}
+use Rattle.gr_curio.specs.Wants.{runs_of, wants_of, all_A, any_C, is_reached, is_consolidated}
+use Rattle.gr_curio.specs.declared.values.Q3.{Q3}
+use Rattle.gr_curio.specs.declared.values.Q3.TheVariants.{N, C, A}
+
+-- the runs of a child that is read
+pub read_child : (children : List (Kept Q3)) (i : ℕ) (child : Kept Q3) → i < length children → child ≡ get_or children i child → child.runs ≡ wants_of (runs_of children) i
+read_child children i child lt e =
+    ap (λ c. c.runs) e ∙ sym (get_or-map (λ c. c.runs) children i child [] lt)
+
+-- the runs of the children where one was put in place
+pub put_child : (children : List (Kept Q3)) (i : ℕ) (child : Kept Q3) → i < length children → runs_of (set children i child) ≡ set (runs_of children) i (wants_of (runs_of (set children i child)) i)
+put_child children i child lt =
+    map-set (λ c. c.runs) children i child ∙ ap (set (runs_of children) i) (sym (put_here children i child lt))
+  where
+    put_here : (children : List (Kept Q3)) (i : ℕ) (child : Kept Q3) → i < length children → wants_of (runs_of (set children i child)) i ≡ child.runs
+    put_here children i child lt =
+        ap (λ ws. get_or ws i []) (map-set (λ c. c.runs) children i child)
+        ∙ get_or-set_same (runs_of children) i child.runs [] (subst (λ n. i < n) (sym (length-map children (λ c. c.runs))) lt)
+
+pub put_runs : (children : List (Kept Q3)) (i : ℕ) (child : Kept Q3) → i < length children → child.runs ≡ wants_of (runs_of (set children i child)) i
+put_runs children i child lt =
+    sym (ap (λ ws. get_or ws i []) (map-set (λ c. c.runs) children i child)
+    ∙ get_or-set_same (runs_of children) i child.runs [] (subst (λ n. i < n) (sym (length-map children (λ c. c.runs))) lt))
+
+-- only acknowledged is acknowledged
+pub is_A-only : (x : Q3) → is_A x ≡ true → x ≡ A
+is_A-only N h = cc
+is_A-only C h = cc
+is_A-only A h = refl
+
+-- a tick outside a stream's runs
+pub wanted_outside : (rs : List (Run Q3)) (last t : ℕ) → AreRuns N rs → EndBefore rs (last + 1) → within 1 last t ≡ false → wanted_at rs t ≡ N
+wanted_outside rs last t a b out = by_place (cases_lt t 1) (cases_lt last t)
+  where
+    by_place : (t < 1) ⊎ (1 ≤ t) → (last < t) ⊎ (t ≤ last) → wanted_at rs t ≡ N
+    by_place (inl lt) p = value_at-start N 1 rs t a lt
+    by_place (inr ge) (inl gt) = value_at_past N rs (last + 1) t b (omega arith)
+    by_place (inr ge) (inr le) = absurd (false≢true (sym out ∙ and_from (nat_le 1 t) (nat_le t last) (le-leb 1 t ge) (le-leb t last le)))
+
+-- runs with the values of a function, seen as a child's
+pub give_child : (rs ws : List (Run Q3)) (g h : ℕ → Q3) → RunsGive N rs g → rs ≡ ws → ((t : ℕ) → g t ≡ h t) → RunsGive N ws h
+give_child rs ws g h k e same = record {
+  canonical = subst (λ z. AreRuns N z) e k.canonical;
+  in_range = subst (λ z. EndBefore z (2 ^ 62 + 1)) e k.in_range;
+  values = λ t. sym (ap (λ z. wanted_at z t) e) ∙ k.values t ∙ same t;
+}
+
+-- one child more
+pub all_more : (p q : Kept Q3 → Bool) (cs : List (Kept Q3)) (i : ℕ) (c : Kept Q3) → i < length cs → c ≡ get_or cs i c → list_all p (take i cs) ≡ list_all q (take i cs) → p c ≡ q c → list_all p (take (i + 1) cs) ≡ list_all q (take (i + 1) cs)
+all_more p q cs i c lt e so_far here =
+    ap (list_all p) (more cs i c lt e) ∙ list_all-append p (take i cs) (c ∷ [])
+    ∙ ap₂ (λ a b. a && b) so_far (ap (λ b. b && true) here)
+    ∙ sym (ap (list_all q) (more cs i c lt e) ∙ list_all-append q (take i cs) (c ∷ []))
+  where
+    more : (cs : List (Kept Q3)) (i : ℕ) (c : Kept Q3) → i < length cs → c ≡ get_or cs i c → take (i + 1) cs ≡ take i cs ++ c ∷ []
+    more cs i c lt e = take_more cs i c lt ∙ ap (λ z. take i cs ++ z ∷ []) (sym e)
+
+pub any_more : (p q : Kept Q3 → Bool) (cs : List (Kept Q3)) (i : ℕ) (c : Kept Q3) → i < length cs → c ≡ get_or cs i c → list_any p (take i cs) ≡ list_any q (take i cs) → p c ≡ q c → list_any p (take (i + 1) cs) ≡ list_any q (take (i + 1) cs)
+any_more p q cs i c lt e so_far here =
+    ap (list_any p) (more cs i c lt e) ∙ list_any-append p (take i cs) (c ∷ [])
+    ∙ ap₂ (λ a b. a || b) so_far (ap (λ b. b || false) here)
+    ∙ sym (ap (list_any q) (more cs i c lt e) ∙ list_any-append q (take i cs) (c ∷ []))
+  where
+    more : (cs : List (Kept Q3)) (i : ℕ) (c : Kept Q3) → i < length cs → c ≡ get_or cs i c → take (i + 1) cs ≡ take i cs ++ c ∷ []
+    more cs i c lt e = take_more cs i c lt ∙ ap (λ z. take i cs ++ z ∷ []) (sym e)
+
+pub none_more : (p : Kept Q3 → Bool) (cs : List (Kept Q3)) (i : ℕ) (c : Kept Q3) → i < length cs → c ≡ get_or cs i c → list_any p (take i cs) ≡ false → p c ≡ false → list_any p (take (i + 1) cs) ≡ false
+none_more p cs i c lt e so_far here =
+    ap (list_any p) (take_more cs i c lt ∙ ap (λ z. take i cs ++ z ∷ []) (sym e)) ∙ list_any-append p (take i cs) (c ∷ [])
+    ∙ ap₂ (λ a b. a || b) so_far (ap (λ b. b || false) here)
+
+pub within_less : (l m t : ℕ) → l ≤ m → within 1 m t ≡ false → within 1 l t ≡ false
+within_less l m t le out = by_place (cases_lt t 1) (cases_lt m t)
+  where
+    by_place : (t < 1) ⊎ (1 ≤ t) → (m < t) ⊎ (t ≤ m) → within 1 l t ≡ false
+    by_place (inl lt) p = and_left (nat_le 1 t) (nat_le t l) (lt-leb 1 t lt)
+    by_place (inr ge) (inl gt) = let past : l < t = omega arith in and_right (nat_le 1 t) (nat_le t l) (lt-leb t l past)
+    by_place (inr ge) (inr k) = absurd (false≢true (sym out ∙ and_from (nat_le 1 t) (nat_le t m) (le-leb 1 t ge) (le-leb t m k)))
+
+-- the first run tells whether a child covers the ticks up to one
+pub covered : (rs : List (Run Q3)) (upto end : ℕ) → EndBefore rs (2 ^ 62 + 1) → is_A (wanted_at rs 1) ≡ true → end ≤ 2 ^ 62 → ((t : ℕ) → 1 ≤ t → t ≤ end → wanted_at rs t ≡ wanted_at rs 1) → (end < 2 ^ 62 → wanted_at rs (end + 1) ≢ wanted_at rs 1) → (IsTrue (nat_le upto end) → (t : ℕ) → 1 ≤ t → t ≤ upto → is_A (wanted_at rs t) ≡ true) × (((t : ℕ) → 1 ≤ t → t ≤ upto → is_A (wanted_at rs t) ≡ true) → IsTrue (nat_le upto end))
+covered rs upto end b first inside steady changes =
+    (λ y t lo hi. let reach : t ≤ end = omega (arith, leb-true upto end y, hi) in ap is_A (steady t lo reach) ∙ first, λ all. by_place (cases_lt end upto) all)
+  where
+    by_end : end < upto → (end < 2 ^ 62) ⊎ (2 ^ 62 ≤ end) → is_A (wanted_at rs (end + 1)) ≡ true → IsTrue (nat_le upto end)
+    by_end lt (inl below) h = absurd (changes below (is_A-only (wanted_at rs (end + 1)) h ∙ sym (is_A-only (wanted_at rs 1) first)))
+    by_end lt (inr last) h = absurd (false≢true (sym (ap is_A (value_at_past N rs (2 ^ 62 + 1) (end + 1) b (omega arith))) ∙ h))
+
+    by_place : (end < upto) ⊎ (upto ≤ end) → ((t : ℕ) → 1 ≤ t → t ≤ upto → is_A (wanted_at rs t) ≡ true) → IsTrue (nat_le upto end)
+    by_place (inl lt) all = by_end lt (cases_lt end (2 ^ 62)) (all (end + 1) (omega arith) (omega arith))
+    by_place (inr le) all = le-leb upto end le
+
+-- what the first child has not acknowledged is not consolidated
+pub unacknowledged : (horizon : Option ℕ) (cs : List (Kept Q3)) (c : Kept Q3) (last t : ℕ) → 0 < length cs → c ≡ get_or cs 0 c → EndBefore c.runs (last + 1) → last < t → is_consolidated horizon (runs_of cs) t ≡ false
+unacknowledged horizon [] c last t lt e b past = absurd (omega (arith, lt))
+unacknowledged horizon (d ∷ cs) c last t lt e b past =
+    let none : wanted_at d.runs t ≡ N = ap (λ z. wanted_at z.runs t) (sym e) ∙ value_at_past N c.runs (last + 1) t b (omega arith) in
+    and_right (nat_le 1 t && is_reached horizon t) (all_A (runs_of (d ∷ cs)) t) (and_left (is_A (wanted_at d.runs t)) (all_A (runs_of cs) t) (ap is_A none))
+
+-- nor what the horizon has not come to
+pub unreached : (reached : ℕ) (ws : List (List (Run Q3))) (t : ℕ) → reached < t → is_consolidated (Some reached) ws t ≡ false
+unreached reached ws t lt =
+    and_left (nat_le 1 t && nat_le t reached) (all_A ws t) (and_right (nat_le 1 t) (nat_le t reached) (lt-leb t reached lt))
+
+all_runs : (t : ℕ) (cs : List (Kept Q3)) → all_A (runs_of cs) t ≡ list_all (λ c. is_A (wanted_at c.runs t)) cs
+all_runs t [] = refl
+all_runs t (c ∷ cs) = ap (λ b. is_A (wanted_at c.runs t) && b) (all_runs t cs)
+
+any_runs : (t : ℕ) (cs : List (Kept Q3)) → any_C (runs_of cs) t ≡ list_any (λ c. is_C (wanted_at c.runs t)) cs
+any_runs t [] = refl
+any_runs t (c ∷ cs) = ap (λ b. is_C (wanted_at c.runs t) || b) (any_runs t cs)
+
+pub consolidated_yes : (horizon : Option ℕ) (cs : List (Kept Q3)) (n t : ℕ) (b : Bool) → 1 ≤ t → is_reached horizon t ≡ true → list_all (λ c. is_A (wanted_at c.runs t)) cs ≡ list_all (λ c. is_A (wanted_at c.runs n)) cs → b ≡ list_all (λ c. is_A (wanted_at c.runs n)) cs → b ≡ true → A ≡ cond (is_consolidated horizon (runs_of cs) t) A N
+consolidated_yes horizon cs n t b lo reached steady told holds =
+    let all : all_A (runs_of cs) t ≡ true = all_runs t cs ∙ steady ∙ sym told ∙ holds in
+    sym (cond-true (is_consolidated horizon (runs_of cs) t) A N (and_from (nat_le 1 t && is_reached horizon t) (all_A (runs_of cs) t) (and_from (nat_le 1 t) (is_reached horizon t) (le-leb 1 t lo) reached) all))
+
+pub consolidated_no : (horizon : Option ℕ) (cs : List (Kept Q3)) (n t : ℕ) (b : Bool) → list_all (λ c. is_A (wanted_at c.runs t)) cs ≡ list_all (λ c. is_A (wanted_at c.runs n)) cs → b ≡ list_all (λ c. is_A (wanted_at c.runs n)) cs → b ≡ false → N ≡ cond (is_consolidated horizon (runs_of cs) t) A N
+consolidated_no horizon cs n t b steady told fails =
+    let not_all : all_A (runs_of cs) t ≡ false = all_runs t cs ∙ steady ∙ sym told ∙ fails in
+    sym (cond-false (is_consolidated horizon (runs_of cs) t) A N (and_right (nat_le 1 t && is_reached horizon t) (all_A (runs_of cs) t) not_all))
+
+pub consolidated_outside : (horizon : Option ℕ) (ws : List (List (Run Q3))) (last t : ℕ) → ((u : ℕ) → last < u → is_consolidated horizon ws u ≡ false) → within 1 last t ≡ false → cond (is_consolidated horizon ws t) A N ≡ N
+consolidated_outside horizon ws last t past out = cond-false (is_consolidated horizon ws t) A N (by_place (cases_lt t 1) (cases_lt last t))
+  where
+    by_place : (t < 1) ⊎ (1 ≤ t) → (last < t) ⊎ (t ≤ last) → is_consolidated horizon ws t ≡ false
+    by_place (inl lt) p = and_left (nat_le 1 t && is_reached horizon t) (all_A ws t) (and_left (nat_le 1 t) (is_reached horizon t) (lt-leb 1 t lt))
+    by_place (inr ge) (inl gt) = past t gt
+    by_place (inr ge) (inr k) = absurd (false≢true (sym out ∙ and_from (nat_le 1 t) (nat_le t last) (le-leb 1 t ge) (le-leb t last k)))
+
+pub curious_yes : (cs : List (Kept Q3)) (n t : ℕ) (b : Bool) → list_any (λ c. is_C (wanted_at c.runs t)) cs ≡ list_any (λ c. is_C (wanted_at c.runs n)) cs → b ≡ list_any (λ c. is_C (wanted_at c.runs n)) cs → b ≡ true → C ≡ cond (any_C (runs_of cs) t) C N
+curious_yes cs n t b steady told holds = sym (cond-true (any_C (runs_of cs) t) C N (any_runs t cs ∙ steady ∙ sym told ∙ holds))
+
+pub curious_no : (cs : List (Kept Q3)) (n t : ℕ) (b : Bool) → list_any (λ c. is_C (wanted_at c.runs t)) cs ≡ list_any (λ c. is_C (wanted_at c.runs n)) cs → b ≡ list_any (λ c. is_C (wanted_at c.runs n)) cs → b ≡ false → N ≡ cond (any_C (runs_of cs) t) C N
+curious_no cs n t b steady told fails = sym (cond-false (any_C (runs_of cs) t) C N (any_runs t cs ∙ steady ∙ sym told ∙ fails))
+
+pub curious_outside : (cs : List (Kept Q3)) (t : ℕ) → list_any (λ c. is_C (wanted_at c.runs t)) cs ≡ false → cond (any_C (runs_of cs) t) C N ≡ N
+curious_outside cs t none = cond-false (any_C (runs_of cs) t) C N (any_runs t cs ∙ none)
+
+-- one child more is made, or copied
+pub quiet_more : (cs new : List (Kept Q3)) (c : Kept Q3) (n : ℕ) → new ≡ cs ++ c ∷ [] → c.runs ≡ [] → runs_of cs ≡ replicate n [] → runs_of new ≡ replicate (n + 1) []
+quiet_more cs new c n en none so_far =
+    ap runs_of en ∙ map-append (λ k. k.runs) cs (c ∷ []) ∙ ap₂ (λ a b. a ++ b ∷ []) so_far none ∙ replicate_more n []
+
+pub copied_more : (cs new children : List (Kept Q3)) (c d : Kept Q3) (i : ℕ) → i < length children → d ≡ get_or children i d → c.runs ≡ d.runs → new ≡ cs ++ c ∷ [] → runs_of cs ≡ take i (runs_of children) → runs_of new ≡ take (i + 1) (runs_of children)
+copied_more cs new children c d i lt e same en so_far =
+    ap runs_of en ∙ map-append (λ k. k.runs) cs (c ∷ []) ∙ ap₂ (λ a b. a ++ b ∷ []) so_far (same ∙ read_child children i d lt e)
+    ∙ sym (take_more (runs_of children) i [] (subst (λ n. i < n) (sym (length-map children (λ k. k.runs))) lt))
+
+pub copied_all : (cs children : List (Kept Q3)) (i : ℕ) → length children ≤ i → runs_of cs ≡ take i (runs_of children) → runs_of cs ≡ runs_of children
+copied_all cs children i le so_far = so_far ∙ take_all i (runs_of children) (subst (λ n. n ≤ i) (sym (length-map children (λ k. k.runs))) le)
