@@ -169,7 +169,7 @@ negated_of bytes x tail l token.Like = for_name x tail (λ name. like_at bytes t
 negated_of bytes x tail l _ = Err (misfit l)
 
 unfoldable pub negated_at : List ℕ → Operand → Lexeme → Read Tree
-negated_at bytes x no = let l = lexeme bytes no.to in negated_of bytes x no.from l l.token
+negated_at bytes x word = let l = lexeme bytes word.to in negated_of bytes x word.from l l.token
 
 -- the tail of a test behind its operand
 abbrev pub tail_of : List ℕ → Operand → ℕ → Lexeme → Token → Read Tree

@@ -9,6 +9,8 @@ pub mod like;
 pub mod node;
 pub mod parser;
 pub mod print;
+#[cfg(test)]
+mod tests;
 pub mod token;
 
 pub use fault::{FilterFault, Memory};

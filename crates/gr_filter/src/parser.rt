@@ -2,12 +2,13 @@
 
 ghost use Rattle.std.specs.Prelude.{◌≡◌, ◌≤◌, ◌++◌, ◌∷◌, [], Ok, IfOk, length, slice_range};
 ghost use Rattle.gr_filter.specs.Gives.{Gives, as_it_is, as_tree, filter_tree};
+ghost use Rattle.gr_filter.specs.Tree.{tree_of, both, either};
 ghost use Rattle.gr_filter.specs.Grammar.{misfit, literal_at, operand_at, text_of, open_at, close_at, and_word_at, null_at, pattern_at, between_at, literals_at, one_of_at, like_at, null_test_at, alone_at, negated_at, tail_at, test_at, not_at, and_at, or_at, filter_text};
 
-use crate::fault::FilterFault;
+use crate::fault::{FilterFault, Memory};
 use crate::filter::Filter;
 use crate::node::{Node, Operand, Operands};
-use crate::token::{Lexeme, Token, lexeme, put_undoubled};
+use crate::token::{Lexeme, Token, next_token, put_undoubled};
 use gr_event::Text;
 use std::alloc::Global;
 
@@ -25,7 +26,7 @@ pub fn parse(alloc: Global, text: &[u8]) -> Result<Filter, FilterFault>
         return Err(FilterFault::TooLong);
     }
     let (root, behind) = or_at(alloc, text, LEVELS, 0)?;
-    let next = lexeme(text, behind);
+    let next = next_token(text, behind);
     match next.token {
         Token::End => Ok(Filter { root }),
         _ => Err(misfit(next)),
@@ -72,7 +73,7 @@ fn literal_at(alloc: Global, bytes: &[u8], at: usize) -> Result<(Operand, usize)
     ensures gives { Gives as_it_is result (literal_at bytes.now at) }
     ensures within { IfOk result (λ r. r.1 ≤ length bytes.now) }
 {
-    let next = lexeme(bytes, at);
+    let next = next_token(bytes, at);
     match next.token {
         Token::Integer(number) => Ok((Operand::Int(number), next.to)),
         Token::Text => Ok((Operand::Text(text_of(alloc, bytes, next)?), next.to)),
@@ -89,7 +90,7 @@ fn operand_at(alloc: Global, bytes: &[u8], at: usize) -> Result<(Operand, usize)
     ensures gives { Gives as_it_is result (operand_at bytes.now at) }
     ensures within { IfOk result (λ r. r.1 ≤ length bytes.now) }
 {
-    let next = lexeme(bytes, at);
+    let next = next_token(bytes, at);
     match next.token {
         Token::Name => Ok((Operand::Name(name_of(alloc, bytes, next)?), next.to)),
         _ => literal_at(alloc, bytes, at),
@@ -103,7 +104,7 @@ fn open_at(bytes: &[u8], at: usize) -> Result<usize, FilterFault>
     ensures gives { result ≡ open_at bytes.now at }
     ensures within { IfOk result (λ r. r ≤ length bytes.now) }
 {
-    let next = lexeme(bytes, at);
+    let next = next_token(bytes, at);
     match next.token {
         Token::Open => Ok(next.to),
         _ => Err(misfit(next)),
@@ -117,7 +118,7 @@ fn close_at(bytes: &[u8], at: usize) -> Result<usize, FilterFault>
     ensures gives { result ≡ close_at bytes.now at }
     ensures within { IfOk result (λ r. r ≤ length bytes.now) }
 {
-    let next = lexeme(bytes, at);
+    let next = next_token(bytes, at);
     match next.token {
         Token::Close => Ok(next.to),
         _ => Err(misfit(next)),
@@ -131,7 +132,7 @@ fn and_word_at(bytes: &[u8], at: usize) -> Result<usize, FilterFault>
     ensures gives { result ≡ and_word_at bytes.now at }
     ensures within { IfOk result (λ r. r ≤ length bytes.now) }
 {
-    let next = lexeme(bytes, at);
+    let next = next_token(bytes, at);
     match next.token {
         Token::And => Ok(next.to),
         _ => Err(misfit(next)),
@@ -145,7 +146,7 @@ fn null_at(bytes: &[u8], at: usize) -> Result<usize, FilterFault>
     ensures gives { result ≡ null_at bytes.now at }
     ensures within { IfOk result (λ r. r ≤ length bytes.now) }
 {
-    let next = lexeme(bytes, at);
+    let next = next_token(bytes, at);
     match next.token {
         Token::Null => Ok(next.to),
         _ => Err(misfit(next)),
@@ -159,7 +160,7 @@ fn pattern_at(alloc: Global, bytes: &[u8], at: usize) -> Result<(Text, usize), F
     ensures gives { Gives as_it_is result (pattern_at bytes.now at) }
     ensures within { IfOk result (λ r. r.1 ≤ length bytes.now) }
 {
-    let next = lexeme(bytes, at);
+    let next = next_token(bytes, at);
     match next.token {
         Token::Text => Ok((text_of(alloc, bytes, next)?, next.to)),
         _ => Err(misfit(next)),
@@ -207,8 +208,8 @@ fn literals_at(
     let mut found = Operands::new(alloc);
     found.push(first)?;
     let mut behind = at;
-    for _ in 0..bytes.len() {
-        let next = lexeme(bytes, behind);
+    'literals: for _ in 0..bytes.len() {
+        let next = next_token(bytes, behind);
         match next.token {
             Token::Comma => {
                 let (literal, end) = literal_at(alloc, bytes, next.to)?;
@@ -281,7 +282,7 @@ fn null_test_at(bytes: &[u8], name: Text, at: usize) -> Result<(Node, usize), Fi
     ensures gives { Gives as_tree result (null_test_at bytes.now name at) }
     ensures within { IfOk result (λ r. r.1 ≤ length bytes.now) }
 {
-    let next = lexeme(bytes, at);
+    let next = next_token(bytes, at);
     match next.token {
         Token::Not => {
             let behind = null_at(bytes, next.to)?;
@@ -322,7 +323,7 @@ fn negated_at(
     ensures gives { Gives as_tree result (negated_at bytes.now operand no) }
     ensures within { IfOk result (λ r. r.1 ≤ length bytes.now) }
 {
-    let next = lexeme(bytes, no.to);
+    let next = next_token(bytes, no.to);
     match next.token {
         Token::Between => between_at(alloc, bytes, true, operand, next.to),
         Token::In => match operand {
@@ -350,7 +351,7 @@ fn tail_at(
     ensures gives { Gives as_tree result (tail_at bytes.now operand at) }
     ensures within { IfOk result (λ r. r.1 ≤ length bytes.now) }
 {
-    let next = lexeme(bytes, at);
+    let next = next_token(bytes, at);
     match next.token {
         Token::Sign(sign) => {
             let (right, behind) = operand_at(alloc, bytes, next.to)?;
@@ -400,7 +401,7 @@ fn not_at(
     ensures gives { Gives as_tree result (not_at bytes.now levels at) }
     ensures within { IfOk result (λ r. r.1 ≤ length bytes.now) }
 {
-    let next = lexeme(bytes, at);
+    let next = next_token(bytes, at);
     match next.token {
         Token::Not => {
             if levels == 0 {
@@ -436,12 +437,13 @@ fn and_at(
     ensures within { IfOk result (λ r. r.1 ≤ length bytes.now) }
 {
     let (mut found, mut behind) = not_at(alloc, bytes, levels, at)?;
-    for _ in 0..bytes.len() {
-        let next = lexeme(bytes, behind);
+    'ands: for _ in 0..bytes.len() {
+        let next = next_token(bytes, behind);
         match next.token {
             Token::And => {
                 let (right, end) = not_at(alloc, bytes, levels, next.to)?;
-                found = Node::And(Box::new(alloc, found)?, Box::new(alloc, right)?);
+                let joined = joined_by_and(alloc, found, right)?;
+                found = joined;
                 behind = end;
             }
             _ => return Ok((found, behind)),
@@ -465,16 +467,33 @@ fn or_at(
     ensures within { IfOk result (λ r. r.1 ≤ length bytes.now) }
 {
     let (mut found, mut behind) = and_at(alloc, bytes, levels, at)?;
-    for _ in 0..bytes.len() {
-        let next = lexeme(bytes, behind);
+    'ors: for _ in 0..bytes.len() {
+        let next = next_token(bytes, behind);
         match next.token {
             Token::Or => {
                 let (right, end) = and_at(alloc, bytes, levels, next.to)?;
-                found = Node::Or(Box::new(alloc, found)?, Box::new(alloc, right)?);
+                let joined = joined_by_or(alloc, found, right)?;
+                found = joined;
                 behind = end;
             }
             _ => return Ok((found, behind)),
         }
     }
     Ok((found, behind))
+}
+
+fn joined_by_and(alloc: Global, left: Node, right: Node) -> Result<Node, Memory>
+    ensures { IfOk result (λ n. tree_of n ≡ both (tree_of left) (tree_of right)) }
+{
+    let left = Box::new(alloc, left)?;
+    let right = Box::new(alloc, right)?;
+    Ok(Node::And(left, right))
+}
+
+fn joined_by_or(alloc: Global, left: Node, right: Node) -> Result<Node, Memory>
+    ensures { IfOk result (λ n. tree_of n ≡ either (tree_of left) (tree_of right)) }
+{
+    let left = Box::new(alloc, left)?;
+    let right = Box::new(alloc, right)?;
+    Ok(Node::Or(left, right))
 }

@@ -1,6 +1,7 @@
 //! The tokens of a filter's text.
 
-ghost use Rattle.std.specs.Prelude.{◌≡◌, ◌+◌, ◌-◌, ◌≤◌, ◌<◌, ◌^◌, length, take, IfSome, Some, IfOk, OnOk, ◌++◌, ForSome};
+ghost use Rattle.std.specs.Prelude.{◌≡◌, ◌+◌, ◌-◌, ◌≤◌, ◌<◌, ◌^◌, length, take, IfSome, Some, IfOk, OnOk, ◌++◌};
+ghost use Rattle.std.specs.Option.{ForSome};
 ghost use Rattle.std.specs.Str.{is_utf8};
 ghost use Rattle.gr_filter.specs.Token.{is_space, is_digit, begins_name, goes_on, front, capital, is_word, word_token, number_from, integer_token, number_token, text_len, quote_len, undoubled, behind_quote, text_token, sign_token, less_token, greater_token, minus_token, token_of, lexeme};
 
@@ -46,7 +47,7 @@ pub struct Lexeme {
 }
 
 /// The first token from a place on.
-pub(crate) fn lexeme(bytes: &[u8], at: usize) -> Lexeme
+pub(crate) fn next_token(bytes: &[u8], at: usize) -> Lexeme
     requires few { length bytes.now ≤ 4096 }
     requires inside { at ≤ length bytes.now }
     ensures is { result ≡ lexeme bytes.now at }
@@ -169,6 +170,7 @@ fn word_token(word: &[u8]) -> Token
 }
 
 /// The number that digits spell behind those that were read, or 2^64 - 1 where it is above 2^63.
+#[tactic(auto, using(crate::proofs::Numbers::passes))]
 fn number_from(read: u64, digits: &[u8]) -> u64
     ensures exact { number_from read digits.now ≤ 2 ^ 63 → result ≡ number_from read digits.now }
     ensures above { 2 ^ 63 < number_from read digits.now → 2 ^ 63 < result }

@@ -11,3 +11,15 @@ decreases-and_at l = 3 * l.levels + 1
 
 abbrev pub decreases-or_at : goal.decreases-or_at
 decreases-or_at l = 3 * l.levels + 2
+
+abbrev pub invariant-and_at-ands : goal.invariant-and_at-ands
+invariant-and_at-ands l = record {
+  inside : l.behind ≤ length l.bytes;
+  read : and_more l.bytes (not_at l.bytes l.levels) (length l.bytes - l.counter) (tree_of l.found) l.behind ≡ and_at l.bytes (not_at l.bytes l.levels) l.fn.at;
+}
+
+abbrev pub invariant-or_at-ors : goal.invariant-or_at-ors
+invariant-or_at-ors l = record {
+  inside : l.behind ≤ length l.bytes;
+  read : or_more l.bytes (not_at l.bytes l.levels) (length l.bytes - l.counter) (tree_of l.found) l.behind ≡ or_at l.bytes (not_at l.bytes l.levels) l.fn.at;
+}
