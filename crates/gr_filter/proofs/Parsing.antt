@@ -10,7 +10,7 @@ use Rattle.gr_filter.specs.declared.token.Lexeme.{Lexeme}
 use Rattle.gr_filter.specs.Token.{is_space, front, token_of, lexeme}
 use Rattle.std.proofs.lemmas.List.{take_rest}
 use Rattle.gr_filter.specs.Gives.{Fails}
-use Rattle.gr_filter.specs.Grammar.{◌>>=◌, Read, is_and, is_or, is_comma, close_at, literal_at, literals_at, and_more, and_at, or_more, or_at}
+use Rattle.gr_filter.specs.Grammar.{◌>>=◌, Read, is_and, is_or, is_comma, close_at, literal_at, literals_at, and_more, and_at, or_more, or_at, nested, not_nested, not_at, test_at}
 
 -- a fault that is known is a failure with it
 fails_with : {X : Type 0} (f : FilterFault) (all : Result X FilterFault) → all ≡ Err f → Fails f all
@@ -129,3 +129,31 @@ literals_closed_end bytes n found at behind all e h so_far = sym so_far ∙ clos
 pub literals_open_end : (bytes : List ℕ) (n : ℕ) (found : List Operand) (at : ℕ) (f : FilterFault) (all : Read (List Operand)) → n ≡ zero
     → close_at bytes at ≡ Err f → literals_at bytes n found at ≡ all → Fails f all
 literals_open_end bytes n found at f all e h so_far = fails_with f all (sym so_far ∙ closing_end bytes n found at e ∙ rw h refl)
+
+-- Parentheses, and tests without
+
+pub open_fails : (bytes : List ℕ) (levels m at : ℕ) (l : Lexeme) (f : FilterFault) → levels ≡ suc m → lexeme bytes at ≡ l → l.token ≡ token.Open
+    → Fails f (or_at bytes (not_at bytes m) l.to) → Fails f (not_at bytes levels at)
+unfolding not_at
+open_fails bytes levels m at l fault.Memory e d is h = tt
+open_fails bytes levels m at l f e d is h = rw (e, d, is, h) refl
+
+pub close_fails : (bytes : List ℕ) (levels m at : ℕ) (l : Lexeme) (r : Tree × ℕ) (f : FilterFault) → levels ≡ suc m → lexeme bytes at ≡ l → l.token ≡ token.Open
+    → or_at bytes (not_at bytes m) l.to ≡ Ok r → close_at bytes r.1 ≡ Err f → Fails f (not_at bytes levels at)
+unfolding not_at
+close_fails bytes levels m at l r f e d is h k = fails_with f (not_at bytes levels at) (rw (e, d, is, h, k) refl)
+
+plain_nested : (bytes : List ℕ) (inner : ℕ → Read Tree) (l : Lexeme) (t : Token) (test : Read Tree) → (t ≡ token.Not → ⊥) → (t ≡ token.Open → ⊥) → nested bytes inner l t test ≡ test
+plain_nested bytes inner l token.Not test n o = absurd (n refl)
+plain_nested bytes inner l token.Open test n o = absurd (o refl)
+plain_nested bytes inner l _ test n o = refl
+
+plain_not_nested : (l : Lexeme) (t : Token) (test : Read Tree) → (t ≡ token.Not → ⊥) → (t ≡ token.Open → ⊥) → not_nested l t test ≡ test
+plain_not_nested l token.Not test n o = absurd (n refl)
+plain_not_nested l token.Open test n o = absurd (o refl)
+plain_not_nested l _ test n o = refl
+
+pub not_plain : (bytes : List ℕ) (levels at : ℕ) (l : Lexeme) → lexeme bytes at ≡ l → (l.token ≡ token.Not → ⊥) → (l.token ≡ token.Open → ⊥) → not_at bytes levels at ≡ test_at bytes at
+unfolding not_at
+not_plain bytes zero at l d n o = rw d (plain_not_nested l l.token (test_at bytes at) n o)
+not_plain bytes (suc levels) at l d n o = rw d (plain_nested bytes (not_at bytes levels) l l.token (test_at bytes at) n o)

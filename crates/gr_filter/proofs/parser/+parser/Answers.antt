@@ -3,7 +3,7 @@ use Rattle.std.proofs.Common.{◌≡◌, ◌-◌, ◌+◌, suc, zero, arith, len
 use Rattle.std.proofs.lemmas.Result.{err_from_is_err_and}
 use Rattle.gr_filter.specs.Tree.{tree_of}
 use Rattle.gr_filter.specs.Grammar.{is_and, is_or, not_at, and_at, or_at}
-use Rattle.gr_filter.proofs.Parsing.{and_begins, and_goes, and_fails, and_stops, and_ends, or_begins, or_goes, or_fails, or_stops, or_ends}
+use Rattle.gr_filter.proofs.Parsing.{and_begins, and_goes, and_fails, and_stops, and_ends, or_begins, or_goes, or_fails, or_stops, or_ends, open_fails, close_fails, not_plain}
 use Rattle.gr_filter.proofs.parser.+parser.Goals as goal
 
 pub and_at-returns-in_err-right-in-And-clause-gives : goal.and_at-returns-in_err-right-in-And-clause-gives
@@ -58,4 +58,20 @@ pub or_at-ors-preserved : goal.or_at-ors-preserved
 or_at-ors-preserved t c = record {
   inside = c.in_ok-right-in-Or.ensures.within;
   read = rw c.in_ok-joined-in-Or.ensures (or_goes c.args.bytes.now (not_at c.args.bytes.now c.args.levels) (length c.args.bytes.now - c.ors.counter) (length c.args.bytes.now - (c.ors.counter + 1)) (tree_of c.ors.found) c.ors.behind (tree_of c.in_ok-right-in-Or.right, c.in_ok-right-in-Or.end) c.next_token-next.result _ (omega arith) (sym c.next_token-next.ensures.is) (ap is_or c.in-Or.is) c.in_ok-right-in-Or.ensures.gives c.ors.invariant.read);
+}
+
+pub not_at-returns-in_err-node-in-Open-clause-gives : goal.not_at-returns-in_err-node-in-Open-clause-gives
+not_at-returns-in_err-node-in-Open-clause-gives t c =
+    let p = err_from_is_err_and c.from_residual-in_err-node-in-Open.result c.from_residual-in_err-node-in-Open.ensures.1 in
+    rw (p.1, p.2) (open_fails c.args.bytes.now c.args.levels (c.args.levels - 1) c.args.at c.next_token-next.result c.in_err-node-in-Open.field-0.0 (omega arith) (sym c.next_token-next.ensures.is) c.in-Open.is c.in_err-node-in-Open.ensures.gives)
+
+pub not_at-returns-in_err-behind-in-Open-clause-gives : goal.not_at-returns-in_err-behind-in-Open-clause-gives
+not_at-returns-in_err-behind-in-Open-clause-gives t c =
+    let p = err_from_is_err_and c.from_residual-in_err-behind-in-Open.result c.from_residual-in_err-behind-in-Open.ensures.1 in
+    rw (p.1, p.2) (close_fails c.args.bytes.now c.args.levels (c.args.levels - 1) c.args.at c.next_token-next.result (tree_of c.in_ok-node-in-Open.node, c.in_ok-node-in-Open.behind) c.in_err-behind-in-Open.field-0.0 (omega arith) (sym c.next_token-next.ensures.is) c.in-Open.is c.in_ok-node-in-Open.ensures.gives (sym c.in_err-behind-in-Open.ensures.gives))
+
+pub not_at-returns-in_default : goal.not_at-returns-in_default
+not_at-returns-in_default t c = record {
+  gives = rw (not_plain c.args.bytes.now c.args.levels c.args.at c.next_token-next.result (sym c.next_token-next.ensures.is) c.in_default.not-Not c.in_default.not-Open) c.test_at.ensures.gives;
+  within = c.test_at.ensures.within;
 }
