@@ -1,5 +1,5 @@
 -- One part more of a list of parts, and its end
-use Rattle.std.proofs.Common.{◌≡◌, ℕ, zero, suc, ◌+◌, ◌-◌, Bool, true, false, if◌then◌else◌, List, [], ◌∷◌, ◌++◌, length, take, drop, Result, Ok, Err, refl, sym, ap, ◌∙◌}
+use Rattle.std.proofs.Common.{◌≡◌, ℕ, zero, suc, ◌+◌, ◌-◌, true, false, List, [], ◌∷◌, ◌++◌, length, take, drop, Result, Ok, Err, refl, sym, ◌∙◌}
 use Rattle.gr_filter.specs.declared.fault.FilterFault.{FilterFault}
 use Rattle.gr_filter.specs.declared.fault.FilterFault.TheVariants as fault
 use Rattle.gr_filter.specs.declared.node.Operand.{Operand}

@@ -1,5 +1,5 @@
 -- What a reader of filters answers: what a total function of the text gives, unless memory is refused
-use Rattle.std.specs.Prelude.{◌≡◌, ℕ, List, Result, Ok, Err}
+use Rattle.std.specs.Prelude.{◌≡◌, ℕ, Result, Ok, Err}
 use Rattle.gr_filter.specs.declared.fault.FilterFault.{FilterFault}
 use Rattle.gr_filter.specs.declared.fault.FilterFault.TheVariants as fault
 use Rattle.gr_filter.specs.declared.node.Node.{Node}

@@ -1,15 +1,14 @@
 -- The grammar of filters, token by token, with the place of the first fault
-use Rattle.std.specs.Prelude.{ℕ, zero, suc, ◌+◌, ◌-◌, Bool, true, false, nat_lt, if◌then◌else◌, ◌≡◌, List, [], ◌∷◌, ◌++◌, length, take, drop, slice_range, Result, Ok, Err}
+use Rattle.std.specs.Prelude.{ℕ, zero, suc, ◌-◌, Bool, true, false, nat_lt, if◌then◌else◌, List, [], ◌∷◌, ◌++◌, length, take, drop, slice_range, Result, Ok, Err}
 use Rattle.gr_filter.specs.declared.fault.FilterFault.{FilterFault}
 use Rattle.gr_filter.specs.declared.fault.FilterFault.TheVariants as fault
-use Rattle.gr_filter.specs.declared.node.Node.{Node}
 use Rattle.gr_filter.specs.declared.node.Operand.{Operand}
 use Rattle.gr_filter.specs.declared.node.Operand.TheVariants as operand
 use Rattle.gr_filter.specs.declared.token.Token.{Token}
 use Rattle.gr_filter.specs.declared.token.Token.TheVariants as token
 use Rattle.gr_filter.specs.declared.token.Lexeme.{Lexeme}
 use Rattle.gr_filter.specs.Token.{undoubled, lexeme}
-use Rattle.gr_filter.specs.Tree.{Tree, alone, compare, between, one_of, like, is_null, negation, both, either, tree_of}
+use Rattle.gr_filter.specs.Tree.{Tree, alone, compare, between, one_of, like, is_null, negation, both, either}
 
 -- one step after another: the first fault ends it
 infixl 10 ◌>>=◌

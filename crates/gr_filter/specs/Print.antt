@@ -1,5 +1,5 @@
 -- The printed form of a filter, with all its parentheses
-use Rattle.std.specs.Prelude.{ℕ, ◌==◌, Bool, true, false, if◌then◌else◌, List, [], ◌∷◌, ◌++◌, codes}
+use Rattle.std.specs.Prelude.{ℕ, ◌==◌, Bool, if◌then◌else◌, List, [], ◌∷◌, ◌++◌, codes}
 use Rattle.std.specs.Fmt.{signed_decimal}
 use Rattle.gr_filter.specs.declared.node.Operand.{Operand}
 use Rattle.gr_filter.specs.declared.node.Operand.TheVariants as operand

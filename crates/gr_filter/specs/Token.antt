@@ -1,5 +1,5 @@
 -- The tokens of a filter's text
-use Rattle.std.specs.Prelude.{ℕ, ℤ, suc, pos, neg_ℤ, ◌+◌, ◌-◌, ◌*◌, ◌^◌, ◌==◌, ◌&&◌, ◌||◌, nat_le, nat_lt, Bool, true, false, not, if◌then◌else◌, List, [], ◌∷◌, length, take, drop, slice_range, Option, Some, None, codes}
+use Rattle.std.specs.Prelude.{ℕ, pos, neg_ℤ, ◌+◌, ◌-◌, ◌*◌, ◌^◌, ◌==◌, ◌&&◌, ◌||◌, nat_le, nat_lt, Bool, true, false, if◌then◌else◌, List, [], ◌∷◌, take, drop, Option, Some, None, codes}
 use Rattle.std.specs.Option.{option_map}
 use Rattle.std.specs.Str.{is_utf8}
 use Rattle.gr_filter.specs.declared.node.Sign.TheVariants.{Equal, Differs, Less, AtMost, Greater, AtLeast}

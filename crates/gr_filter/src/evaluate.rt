@@ -141,8 +141,9 @@ fn one_of(operand: Option<Part>, event: &Event, literals: &[Operand]) -> Kleene
 {
     match literals {
         [] => Kleene::False,
-        [first, rest @ ..] => compare(Sign::Equal, operand, value(&*first, &*event))
-            .greatest(one_of(operand, event, rest)),
+        [first, rest @ ..] => compare(Sign::Equal, operand, value(&*first, &*event)).greatest(
+            one_of(operand, event, rest),
+        ),
     }
 }
 

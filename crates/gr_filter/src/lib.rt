@@ -13,10 +13,10 @@ pub mod print;
 mod tests;
 pub mod token;
 
+pub use evaluate::truth;
 pub use fault::{FilterFault, Memory};
 pub use filter::Filter;
 pub use kleene::Kleene;
 pub use node::{Node, Operand, Operands, Sign};
 pub use parser::parse;
 pub use print::text;
-pub use evaluate::truth;

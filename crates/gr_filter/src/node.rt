@@ -73,7 +73,10 @@ pub enum Node {
         pattern: Text,
     },
     /// IS NULL.
-    IsNull { negated: bool, name: Text },
+    IsNull {
+        negated: bool,
+        name: Text,
+    },
     /// NOT.
     Not(Box<Node>),
     /// AND.

@@ -390,12 +390,7 @@ fn test_at(alloc: Global, bytes: &[u8], at: usize) -> Result<(Node, usize), Filt
 /// NOT, a filter in parentheses, or a test, with so many levels left.
 #[cycle(parser)]
 #[tactic(auto, unfolding(crate::specs::Grammar::not_at))]
-fn not_at(
-    alloc: Global,
-    bytes: &[u8],
-    levels: u8,
-    at: usize,
-) -> Result<(Node, usize), FilterFault>
+fn not_at(alloc: Global, bytes: &[u8], levels: u8, at: usize) -> Result<(Node, usize), FilterFault>
     requires few { length bytes.now ≤ 4096 }
     requires inside { at ≤ length bytes.now }
     ensures gives { Gives as_tree result (not_at bytes.now levels at) }
@@ -425,12 +420,7 @@ fn not_at(
 /// Tests joined by AND, grouped from the left.
 #[cycle(parser)]
 #[tactic(auto, unfolding(crate::specs::Grammar::and_at, crate::specs::Grammar::and_more))]
-fn and_at(
-    alloc: Global,
-    bytes: &[u8],
-    levels: u8,
-    at: usize,
-) -> Result<(Node, usize), FilterFault>
+fn and_at(alloc: Global, bytes: &[u8], levels: u8, at: usize) -> Result<(Node, usize), FilterFault>
     requires few { length bytes.now ≤ 4096 }
     requires inside { at ≤ length bytes.now }
     ensures gives { Gives as_tree result (and_at bytes.now (not_at bytes.now levels) at) }
@@ -455,12 +445,7 @@ fn and_at(
 /// Parts joined by OR, grouped from the left.
 #[cycle(parser)]
 #[tactic(auto, unfolding(crate::specs::Grammar::or_at, crate::specs::Grammar::or_more))]
-fn or_at(
-    alloc: Global,
-    bytes: &[u8],
-    levels: u8,
-    at: usize,
-) -> Result<(Node, usize), FilterFault>
+fn or_at(alloc: Global, bytes: &[u8], levels: u8, at: usize) -> Result<(Node, usize), FilterFault>
     requires few { length bytes.now ≤ 4096 }
     requires inside { at ≤ length bytes.now }
     ensures gives { Gives as_tree result (or_at bytes.now (not_at bytes.now levels) at) }

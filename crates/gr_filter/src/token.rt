@@ -124,7 +124,11 @@ fn name_bytes(text: &[u8]) -> usize
 fn capital(byte: u8) -> u8
     ensures { result ≡ capital byte }
 {
-    if byte >= b'a' && byte <= b'z' { byte - 32 } else { byte }
+    if byte >= b'a' && byte <= b'z' {
+        byte - 32
+    } else {
+        byte
+    }
 }
 
 /// Whether the word is the keyword, in any case.

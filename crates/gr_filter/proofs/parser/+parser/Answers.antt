@@ -1,8 +1,8 @@
 -- What was read so far and what is left are the parts of the whole
-use Rattle.std.proofs.Common.{◌≡◌, ◌-◌, ◌+◌, suc, zero, arith, length, refl, ap, sym, ◌∙◌, rules}
+use Rattle.std.proofs.Common.{◌≡◌, ◌-◌, ◌+◌, arith, length, ap, sym}
 use Rattle.std.proofs.lemmas.Result.{err_from_is_err_and}
 use Rattle.gr_filter.specs.Tree.{tree_of}
-use Rattle.gr_filter.specs.Grammar.{is_and, is_or, not_at, and_at, or_at}
+use Rattle.gr_filter.specs.Grammar.{is_and, is_or, not_at}
 use Rattle.gr_filter.proofs.Parsing.{and_begins, and_goes, and_fails, and_stops, and_ends, or_begins, or_goes, or_fails, or_stops, or_ends, open_fails, close_fails, not_plain}
 use Rattle.gr_filter.proofs.parser.+parser.Goals as goal
 

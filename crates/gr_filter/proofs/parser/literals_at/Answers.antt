@@ -1,5 +1,5 @@
 -- What was read so far and what is left are the literals of the whole
-use Rattle.std.proofs.Common.{◌≡◌, ◌-◌, ◌+◌, ◌++◌, ◌∷◌, [], suc, zero, arith, length, List, refl, ap, sym, ◌∙◌, rules}
+use Rattle.std.proofs.Common.{◌-◌, ◌+◌, arith, length, ap, sym}
 use Rattle.std.proofs.lemmas.Result.{err_from_is_err_and}
 use Rattle.gr_filter.specs.Grammar.{is_comma}
 use Rattle.gr_filter.proofs.Parsing.{literals_go, literals_fail, literals_closed, literals_open, literals_closed_end, literals_open_end}
