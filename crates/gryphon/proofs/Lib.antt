@@ -9,3 +9,4 @@ pub mod TextLemmas
 pub mod StepLemmas
 pub mod Lengths
 pub mod Ready
+pub mod TopLemmas

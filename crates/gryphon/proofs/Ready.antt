@@ -28,8 +28,8 @@ step_ready (step.Bytes frame) h b = cc
 
 pub ready_from : (lines : List Line) → All (λ l. IsStep (number_of blank.brokers) (number_of blank.publishers) l.step) lines → first_unbuilt lines ≡ None → AreReady lines
 ready_from [] h e = tt
-ready_from (l ∷ ls) h e = go (is_built l.step) refl e
+ready_from (l ∷ ls) h e = go (is_built l.step) refl e (λ f. ready_from ls (λ k d lt. h (suc k) d (omega arith)) f)
   where
-    go : (b : Bool) → is_built l.step ≡ b → (if b then first_unbuilt ls else Some l.number) ≡ None → AreReady (l ∷ ls)
-    go true b f = (step_ready l.step (h 0 l (omega arith)) b, ready_from ls (λ k d lt. h (suc k) d (omega arith)) f)
-    go false b f = cc
+    go : (b : Bool) → is_built l.step ≡ b → (if b then first_unbuilt ls else Some l.number) ≡ None → (first_unbuilt ls ≡ None → AreReady ls) → AreReady (l ∷ ls)
+    go true b f rest = (step_ready l.step (h 0 l (omega arith)) b, rest f)
+    go false b f rest = cc

@@ -81,10 +81,13 @@ fn make_step(alloc: Global, world: &mut World, line: &Line) -> Result<Reports, A
         }
         Step::Publish {
             number,
-            stop: None,
+            stop,
             event,
             ..
-        } => world.publish(*number, event),
+        } => match stop {
+            None => world.publish(*number, event),
+            Some(_) => unreachable!(),
+        },
         Step::Deliver { frame } => world.deliver(line.number, *frame),
         _ => unreachable!(),
     }
