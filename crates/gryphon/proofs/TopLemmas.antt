@@ -75,7 +75,7 @@ asks_the_same P old (Some rest) bytes e z p =
         subst (λ xs. P (asked_by xs)) (sym (ap (λ r. bytes ++ r) end ∙ append-nil bytes)) p
 
 -- a fault that is not want of memory is the one that reading gives
-pub gives_fault : {X : Type 0} (fault : StepFault) (read : Result X StepFault) → (fault ≡ Memory → ⊥) → Gives {X} {X} (λ x. x) (Err fault) read → read ≡ Err fault
+pub gives_fault : {X : Type 0} (fault : StepFault) (read : Result X StepFault) → (fault ≡ Memory → ⊥) → Gives {X = X} {Y = X} (λ x. x) (Err fault) read → read ≡ Err fault
 gives_fault Memory read n h = absurd (n refl)
 gives_fault (BadWord line) read n h = h
 gives_fault (BadNumber line) read n h = h

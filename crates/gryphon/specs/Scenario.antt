@@ -62,7 +62,7 @@ abbrev pub fault_line : StepFault → List ℕ
 fault_line fault.Memory = []
 fault_line (fault.BadWord line) = codes "step 1 bad-word line " ++ decimal line
 fault_line (fault.BadNumber line) = codes "step 2 bad-number line " ++ decimal line
-fault_line (fault.BadEvent line why) = codes "step 3 bad-event line " ++ decimal line ++ codes " " ++ event_fault_word why
+fault_line (fault.BadEvent line why) = codes "step 3 bad-event line " ++ (decimal line ++ (codes " " ++ event_fault_word why))
 fault_line (fault.TooMany line) = codes "too-large steps"
 
 -- What is asked

@@ -43,7 +43,6 @@ fn read_steps(alloc: Global, topology: &Topology, steps: &[u8]) -> Result<Asked,
 {
     match parse(alloc, steps, topology) {
         Ok(lines) => if_built(alloc, lines),
-        Err(StepFault::Memory) => Err(AllocError),
         Err(fault) => Ok(Asked::Refused(line_of_fault(alloc, fault)?)),
     }
 }
@@ -89,10 +88,11 @@ fn is_built(step: &Step) -> bool
 
 /// The line of a step fault.
 fn line_of_fault(alloc: Global, fault: StepFault) -> Result<Text, AllocError>
-    ensures { IfOk result (λ text. text ≡ fault_line fault) }
+    ensures line { IfOk result (λ text. text ≡ fault_line fault) }
+    ensures known { IfOk result (λ text. fault ≢ StepFault.Memory) }
 {
     match fault {
-        StepFault::Memory => Ok(Text::new(alloc)),
+        StepFault::Memory => Err(AllocError),
         StepFault::BadWord { line } => {
             text_of(alloc, format!(in alloc; "step 1 bad-word line {line}")?)
         }
