@@ -8,10 +8,10 @@ use std::test::Fail;
 /// The line for words that are no command.
 const USAGE: &str = "usage: gryphon replay | serve TURNS BROKER... | match | soak N\n";
 
-/// A scenario whose report has four lines: the first two are those of the publish.
+/// One event, published and delivered.
 const FIRST: &str = "---\nclock 1000\npublish P 1 {\"n\":82}\ndeliver 1\n";
 
-/// What came of the words, over a source of these bytes and a sink with this room, each with the calls that are to fail.
+/// Words, a source of some bytes and a sink with some room, and the numbers of the calls of each that are to fail.
 #[derive(Clone, Copy)]
 struct Case<'a> {
     words: &'a [&'a str],
@@ -98,7 +98,7 @@ fn a_schedule_prints_its_report(rt: HostRuntime) -> Result<(), Fail> {
         ),
         // No such frame.
         ("---\ndeliver 9\n", "refused line 1 no-frame 9 of 0\n"),
-        // Lines that are passed over count, a line may end with CR, and the last one without an end.
+        // Lines that are passed over are numbered too. A line may end with CR and LF, and the last one with nothing.
         (
             "---\r\n\r\n# x\r\n\tclock  5 \r\n\r\ndeliver 0",
             "refused line 5 no-frame 0 of 0\n",
