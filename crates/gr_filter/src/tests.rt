@@ -1,5 +1,5 @@
 use crate::{FilterFault, Kleene, Node, parse, text, truth};
-use gr_event::Event;
+use gr_event::{Event, Text};
 use std::alloc::Global;
 use std::test::Fail;
 
@@ -161,29 +161,40 @@ fn refuses_with_the_first_fault(rt: HostRuntime) -> Result<(), Fail> {
     Ok(())
 }
 
+/// What a copy of the filter prints.
+fn printed(alloc: Global, written: &[u8]) -> Result<Text, Fail> {
+    let filter = parse(alloc, written)?;
+    let copied = filter.copy(alloc)?;
+    Ok(text(alloc, &copied)?)
+}
+
+static PRINTED: [(&str, &str); 5] = [
+    (
+        "price > 80 and not sym in ('A','B')",
+        "(price > 80 AND (NOT sym IN ('A', 'B')))",
+    ),
+    ("sym NOT  IN ('A' , 'B')", "sym NOT IN ('A', 'B')"),
+    (
+        "a='it''s' or b between -1 and 2 or c is not null",
+        "((a = 'it''s' OR b BETWEEN -1 AND 2) OR c IS NOT NULL)",
+    ),
+    ("(((hot)))", "hot"),
+    ("x not like '%a_'", "x NOT LIKE '%a_'"),
+];
+
 #[test]
 fn prints_and_reads_again(rt: HostRuntime) -> Result<(), Fail> {
-    let cases: [(&[u8], &[u8]); 5] = [
-        (
-            b"price > 80 and not sym in ('A','B')",
-            b"(price > 80 AND (NOT sym IN ('A', 'B')))",
-        ),
-        (b"sym NOT  IN ('A' , 'B')", b"sym NOT IN ('A', 'B')"),
-        (
-            b"a='it''s' or b between -1 and 2 or c is not null",
-            b"((a = 'it''s' OR b BETWEEN -1 AND 2) OR c IS NOT NULL)",
-        ),
-        (b"(((hot)))", b"hot"),
-        (b"x not like '%a_'", b"x NOT LIKE '%a_'"),
-    ];
-    for (written, printed) in cases {
-        let filter = parse(rt.alloc(), written)?;
-        let copied = filter.copy(rt.alloc())?;
-        let out = text(rt.alloc(), &copied)?;
-        assert_eq!(rt; out.as_slice(), printed);
-        let again = parse(rt.alloc(), out.as_slice())?;
-        assert_eq!(rt; text(rt.alloc(), &again)?.as_slice(), printed);
+    for (written, wanted) in PRINTED.iter() {
+        let once = printed(rt.alloc(), written.as_bytes())?;
+        assert_eq!(rt; once.as_slice(), wanted.as_bytes());
+        let again = printed(rt.alloc(), once.as_slice())?;
+        assert_eq!(rt; again.as_slice(), wanted.as_bytes());
     }
+    Ok(())
+}
+
+#[test]
+fn shows_its_root(rt: HostRuntime) -> Result<(), Fail> {
     let filter = parse(rt.alloc(), b"hot")?;
     assert!(rt; matches!(filter.root(), Node::Alone(_)));
     Ok(())

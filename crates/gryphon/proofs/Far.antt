@@ -1,26 +1,23 @@
 -- What a delivery does at the broker of the subscriber: it learns, its horizon moves over all that is known without a
 -- gap, and its subscriber is told what the horizon passed
-use Rattle.std.proofs.Common.{◌≡◌, ◌≢◌, ℕ, suc, zero, ◌+◌, ◌-◌, ◌≤◌, ◌<◌, min, Bool, true, false, not, ◌&&◌, List, [], ◌∷◌, ◌++◌, refl, sym, ap, ap₂, ◌∙◌, subst, arith, inl, inr, le-leb, map}
-use Rattle.std.specs.Prelude.{nat_eq, nat_le, nat_lt, if◌then◌else◌, filter}
+use Rattle.std.proofs.Common.{◌≡◌, ◌≢◌, ℕ, suc, ◌-◌, ◌≤◌, ◌<◌, Bool, true, false, ◌&&◌, List, [], ◌∷◌, ◌++◌, refl, sym, ap, ap₂, ◌∙◌, arith, inl, inr, le-leb, map}
+use Rattle.std.specs.Prelude.{nat_eq, nat_le, if◌then◌else◌, filter}
 use Rattle.std.proofs.lemmas.List.{append-nil}
-use Rattle.std.proofs.lemmas.Bool.{lt-leb, cases_Bool, cases_lt, leb-true, leb-false, and_left, and_right, and_parts, false≢true}
+use Rattle.std.proofs.lemmas.Bool.{lt-leb, cases_lt, and_left, and_right}
 use Rattle.gr_event.specs.declared.event.Event.{Event}
-use Rattle.gr_tick.specs.declared.run.Run.{Run}
-use Rattle.gr_tick.specs.Runs.{value_at, AreRuns, AreRunsFrom, zip_runs, first_bottom_from}
-use Rattle.gr_tick.proofs.RunLaws.{zip_runs-is, runs_equal, value_at-in, value_at-above, value_at-start, first_bottom_from-is}
+use Rattle.gr_tick.specs.Runs.{AreRuns, AreRunsFrom, zip_runs, first_bottom_from}
+use Rattle.gr_tick.proofs.RunLaws.{zip_runs-is, value_at-in, value_at-above, first_bottom_from-is}
 use Rattle.gr_know.specs.declared.values.K.{K}
-use Rattle.gr_know.specs.declared.values.K.TheVariants.{Q, S, D, F}
+use Rattle.gr_know.specs.declared.values.K.TheVariants.{Q, F}
 use Rattle.gr_know.specs.Values.{Known, known_at, same_K, join_K, clash_K, is_D}
 use Rattle.gr_know.proofs.ValueLaws.{K_decides}
-use Rattle.gr_curio.specs.declared.values.Q3.{Q3}
-use Rattle.gr_curio.specs.declared.values.Q3.TheVariants.{N, C, A}
+use Rattle.gr_curio.specs.declared.values.Q3.TheVariants.{N, A}
 use Rattle.gr_curio.specs.Values.{Wanted, wanted_at, same_Q3, is_A}
 use Rattle.gr_curio.proofs.ValueLaws.{Q3_decides}
-use Rattle.gr_model.specs.declared.report.Report.{Report}
 use Rattle.gr_model.specs.declared.report.Report.TheVariants.{Horizon}
 use Rattle.gr_model.specs.Blank.{net0}
 use Rattle.gr_model.specs.Net.{not_empty}
-use Rattle.gr_model.specs.Broker.{Log, View, Outcome, learn, finished, consolidated, is_settled, lower_data, forgotten, data_count, trimmed, horizon_after, data_ticks, got_line, told, clashes}
+use Rattle.gr_model.specs.Broker.{Log, learn, finished, consolidated, lower_data, forgotten, data_count, trimmed, horizon_after, data_ticks, got_line, told, clashes}
 use Rattle.gryphon.specs.World.{far_view, passed_lines}
 use Rattle.gryphon.proofs.Host.{zip_runs-equals}
 use Rattle.gr_model.proofs.Pieces.{consolidated-is}

@@ -1,25 +1,22 @@
 -- What a publish does at the broker of the publisher: the log grows by one event, and the broker of the subscriber is
 -- sent what became known
-use Rattle.std.proofs.Common.{◌≡◌, ◌≢◌, ℕ, suc, zero, ◌+◌, ◌-◌, ◌≤◌, ◌<◌, max, Bool, true, false, not, ◌&&◌, List, [], ◌∷◌, ◌++◌, refl, sym, ap, ap₂, ◌∙◌, subst, arith, inl, inr, le-leb, map}
-use Rattle.std.specs.Prelude.{nat_eq, nat_le, nat_lt, if◌then◌else◌}
-use Rattle.std.proofs.lemmas.Bool.{lt-leb, eqb-false, eqb-true, eq-eqb, cases_Bool, cases_lt, leb-true, leb-false, and_right, false≢true}
-use Rattle.gr_event.specs.declared.event.Event.{Event}
+use Rattle.std.proofs.Common.{◌≡◌, ℕ, Bool, false, not, ◌&&◌, List, [], ◌∷◌, refl, sym, ap, ◌∙◌}
+use Rattle.std.specs.Prelude.{if◌then◌else◌}
 use Rattle.gr_tick.specs.declared.run.Run.{Run}
 use Rattle.gr_tick.specs.Runs.{value_at, AreRuns, zip_runs, Decides_same}
-use Rattle.gr_tick.proofs.RunLaws.{zip_runs-is, runs_equal, value_at-in, value_at-above, value_at-below, AreRunsOf}
+use Rattle.gr_tick.proofs.RunLaws.{zip_runs-is, runs_equal}
 use Rattle.gr_know.specs.declared.values.K.{K}
 use Rattle.gr_know.specs.declared.values.K.TheVariants.{Q, S, D, F}
 use Rattle.gr_know.specs.Values.{Known, known_at, same_K, join_K, is_Q}
 use Rattle.gr_know.proofs.ValueLaws.{K_decides}
-use Rattle.gr_curio.specs.declared.values.Q3.{Q3}
-use Rattle.gr_curio.specs.declared.values.Q3.TheVariants.{N, C, A}
-use Rattle.gr_curio.specs.Values.{Wanted, wanted_at, same_Q3, is_A, is_C}
+use Rattle.gr_curio.specs.declared.values.Q3.TheVariants.{N}
+use Rattle.gr_curio.specs.Values.{same_Q3, is_A, is_C}
 use Rattle.gr_curio.proofs.ValueLaws.{Q3_decides}
 use Rattle.gr_frame.specs.Bytes.{known_run_size, cut_frames}
 use Rattle.gr_model.specs.Blank.{net0}
 use Rattle.gr_model.specs.Net.{pass}
-use Rattle.gr_model.specs.Broker.{Log, View, Outcome, with_event, event_at, log_at, log_know, silence, learn, new_ticks, forward, quenched, finished, consolidated, trimmed, horizon_after}
-use Rattle.gryphon.specs.World.{EventsUpto, log_of_events, gate_of, host_view, downward}
+use Rattle.gr_model.specs.Broker.{Log, log_at, log_know, learn, new_ticks, forward, quenched, finished, consolidated, trimmed, horizon_after}
+use Rattle.gryphon.specs.World.{host_view, downward}
 use Rattle.gr_model.proofs.Schedules.{log_know-is}
 
 -- a list made tick by tick is the canonical list that has these values

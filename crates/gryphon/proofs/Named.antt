@@ -1,6 +1,6 @@
 -- The lines of the first path speak of what the blank topology has
-use Rattle.std.proofs.Common.{◌≡◌, ℕ, zero, suc, ◌+◌, ◌<◌, Bool, true, false, List, [], ◌∷◌, ◌++◌, get_or, length, map, sym, subst, arith, Some, lit<}
-use Rattle.std.specs.Prelude.{nat_eq, slice_get, if◌then◌else◌}
+use Rattle.std.proofs.Common.{◌≡◌, ℕ, zero, suc, ◌<◌, true, false, List, [], ◌∷◌, ◌++◌, get_or, length, map, sym, subst, arith, lit<}
+use Rattle.std.specs.Prelude.{nat_eq, if◌then◌else◌}
 use Rattle.gr_event.specs.declared.event.Event.{Event}
 use Rattle.gr_know.specs.Values.{Known}
 use Rattle.gr_topo.specs.Topology.{blank}

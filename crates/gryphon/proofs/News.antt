@@ -1,11 +1,11 @@
 -- What a publish makes known: silence since the last settled tick, and the event
-use Rattle.std.proofs.Common.{◌≡◌, ◌≢◌, ℕ, suc, zero, ◌+◌, ◌-◌, ◌≤◌, ◌<◌, max, Bool, true, false, ◌&&◌, List, [], ◌∷◌, ◌++◌, refl, sym, ap, ap₂, ◌∙◌, subst, arith, inl, inr, le-leb}
-use Rattle.std.specs.Prelude.{nat_eq, nat_le, nat_lt, if◌then◌else◌}
-use Rattle.std.proofs.lemmas.Bool.{ne_eqb, lt-leb, eqb-true, eq-eqb, cases_Bool, cases_lt, leb-true, leb-false, and_right, and_parts, false≢true}
+use Rattle.std.proofs.Common.{◌≡◌, ◌≢◌, ℕ, suc, zero, ◌+◌, ◌-◌, ◌≤◌, ◌<◌, true, false, List, [], ◌∷◌, ◌++◌, refl, sym, ap, ap₂, ◌∙◌, subst, arith, inl, inr, le-leb}
+use Rattle.std.specs.Prelude.{nat_eq, nat_le, if◌then◌else◌}
+use Rattle.std.proofs.lemmas.Bool.{ne_eqb, lt-leb, eq-eqb, cases_Bool, cases_lt, leb-true, leb-false, and_right, false≢true}
 use Rattle.gr_event.specs.Event.{event_size}
 use Rattle.gr_event.specs.declared.event.Event.{Event}
 use Rattle.gr_tick.specs.declared.run.Run.{Run}
-use Rattle.gr_tick.specs.Runs.{value_at, AreRuns, is_in}
+use Rattle.gr_tick.specs.Runs.{AreRuns, is_in}
 use Rattle.gr_tick.specs.Stored.{RunsGive}
 use Rattle.gr_tick.proofs.Canonical.{given_runs}
 use Rattle.gr_tick.proofs.RunsLemmas.{covers_yes, covers_below, covers_above}
@@ -14,7 +14,7 @@ use Rattle.gr_know.specs.declared.values.K.{K}
 use Rattle.gr_know.specs.declared.values.K.TheVariants.{Q, S, D, F}
 use Rattle.gr_know.specs.Values.{Known, known_at, join_K, is_Q}
 use Rattle.gr_frame.specs.Bytes.{known_run_size, cut_frames, cut_from}
-use Rattle.gr_model.specs.Broker.{Log, with_event, event_at, log_at, silence}
+use Rattle.gr_model.specs.Broker.{Log, event_at, log_at, silence}
 use Rattle.gryphon.specs.World.{EventsUpto, log_of_events, gate_of}
 use Rattle.gryphon.proofs.Host.{IsGrown}
 

@@ -1,18 +1,17 @@
 -- A line's step, made by the call for its kind
-use Rattle.std.proofs.Common.{◌≡◌, ℕ, zero, suc, ◌+◌, ◌<◌, arith, add-one, drop, get_or, length, drop-cons, List, [], ◌∷◌, ◌++◌, refl, sym, ap, ◌∙◌, subst, Option, Some, None, Result, Ok, Err, IfOk, append_assoc}
-use Rattle.std.specs.Prelude.{flat_map}
+use Rattle.std.proofs.Common.{◌≡◌, ℕ, zero, suc, ◌+◌, ◌<◌, arith, add-one, drop, get_or, length, drop-cons, List, [], ◌∷◌, ◌++◌, refl, sym, ap, ◌∙◌, subst, Option, Some, None, Result, Ok, Err, IfOk}
 use Rattle.std.specs.declared.alloc.AllocError.{AllocError}
 use Rattle.std.proofs.lemmas.Grind.{flat_map-append}
 use Rattle.gr_event.specs.declared.event.Event.{Event}
 use Rattle.gr_sched.specs.declared.step.Step.{Step}
-use Rattle.gr_sched.specs.declared.step.Step.TheVariants.{Clock, Publish}
+use Rattle.gr_sched.specs.declared.step.Step.TheVariants.{Publish}
 use Rattle.gr_sched.specs.declared.step.Stop.{Stop}
 use Rattle.gr_sched.specs.declared.step.Line.{Line}
 use Rattle.gr_topo.specs.Topology.{blank}
 use Rattle.gr_model.specs.declared.report.Report.{Report}
 use Rattle.gr_model.specs.Blank.{net0}
 use Rattle.gr_model.specs.Text.{labels_of, report_text, whole_line}
-use Rattle.gr_model.specs.World.{World, Told, next, start, run_from, report_of}
+use Rattle.gr_model.specs.World.{World, next, start, run_from, report_of}
 use Rattle.gryphon.specs.World.{Tells}
 use Rattle.gryphon.specs.Scenario.{IsReady, AreReady, all_lines, replayed_text}
 

@@ -1,22 +1,20 @@
 -- The steps of the first path lead from one world of two brokers to another
-use Rattle.std.proofs.Common.{◌≡◌, ◌≢◌, ℕ, suc, zero, ◌+◌, ◌-◌, ◌≤◌, ◌<◌, ◌^◌, max, Bool, true, false, ◌&&◌, List, [], ◌∷◌, ◌++◌, refl, sym, ap, ap₂, ◌∙◌, subst, arith, ◌⊎◌, inl, inr, le-leb, map, length, Option, Some, None}
-use Rattle.std.specs.Prelude.{nat_eq, nat_le, nat_lt, if◌then◌else◌, slice_get}
+use Rattle.std.proofs.Common.{◌≡◌, ℕ, suc, zero, ◌+◌, ◌-◌, ◌≤◌, ◌<◌, max, true, false, List, [], ◌∷◌, ◌++◌, refl, sym, ap, ◌∙◌, subst, arith, ◌⊎◌, inl, inr, le-leb, map, length, Some, None}
+use Rattle.std.specs.Prelude.{nat_lt, slice_get}
 use Rattle.std.proofs.lemmas.List.{append-nil, map-append, length-map}
 use Rattle.std.proofs.lemmas.Option.{slice_get-map, slice_get_past}
 use Rattle.std.specs.Option.{option_map}
-use Rattle.std.proofs.lemmas.Bool.{lt-leb, cases_Bool, cases_lt, leb-true, leb-false, ltb-false}
+use Rattle.std.proofs.lemmas.Bool.{lt-leb}
 use Rattle.gr_event.specs.Event.{event_size}
 use Rattle.gr_event.specs.declared.event.Event.{Event}
 use Rattle.gr_know.specs.Values.{Known}
-use Rattle.gr_frame.specs.declared.Frame.{Frame}
 use Rattle.gr_sched.specs.declared.step.Step.TheVariants.{Clock, Publish, Deliver}
-use Rattle.gr_sched.specs.declared.step.Line.{Line}
 use Rattle.gr_model.specs.declared.report.Report.{Report}
 use Rattle.gr_model.specs.declared.report.Report.TheVariants as line
 use Rattle.gr_model.specs.Blank.{net0}
-use Rattle.gr_model.specs.Broker.{started, log_know, max_tick, View, Log, learn, publish, receive, clashes, with_event}
-use Rattle.gr_model.specs.World.{World, Told, next, publish_now, deliver_frame, absorbed, sent_line, start}
-use Rattle.gryphon.specs.World.{world_of, log_of_events, host_view, far_view, downward, gate_of, EventsUpto, Tells, Takes, passed_lines}
+use Rattle.gr_model.specs.Broker.{started, log_know, max_tick, View, Log, publish, receive, clashes, with_event}
+use Rattle.gr_model.specs.World.{next, publish_now, deliver_frame, absorbed, sent_line, start}
+use Rattle.gryphon.specs.World.{world_of, log_of_events, host_view, downward, EventsUpto, Tells, Takes, passed_lines}
 use Rattle.gryphon.proofs.Host.{learn-host, IsGrown}
 use Rattle.gryphon.proofs.News.{news, grown, gate_of-append}
 use Rattle.gryphon.proofs.Far.{learn-far, HasLearned}

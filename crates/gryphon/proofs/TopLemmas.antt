@@ -1,6 +1,6 @@
 -- What the top call rests on: the one command word, the headline of a schedule that was replayed, and what a source's bytes ask
-use Rattle.std.proofs.Common.{◌≡◌, ℕ, suc, ◌+◌, ◌<◌, ◌≤◌, Bool, true, false, List, [], ◌∷◌, ◌++◌, length, map, get_or, Bor, ap, sym, ◌∙◌, subst, arith, refl, Option, Some, None, Result, Ok, Err, IfSome, IfOk, length-append, lit≤}
-use Rattle.std.specs.Prelude.{nat_lt, if◌then◌else◌}
+use Rattle.std.proofs.Common.{◌≡◌, ℕ, suc, ◌+◌, ◌<◌, ◌≤◌, Bool, true, false, List, [], ◌∷◌, ◌++◌, length, map, get_or, Bor, ap, sym, ◌∙◌, subst, arith, refl, Option, Some, None, Result, Err, IfSome, length-append, lit≤}
+use Rattle.std.specs.Prelude.{nat_lt}
 use lib.Pointwise.{pointwise, bytes_decides}
 use lib.Dec.{eqb}
 use Rattle.std.specs.Bool.{IsTrue}

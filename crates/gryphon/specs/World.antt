@@ -13,7 +13,7 @@ use Rattle.gr_model.specs.declared.report.Report.TheVariants as line
 use Rattle.gr_topo.specs.Topology.{blank}
 use Rattle.gr_model.specs.Text.{IsNamed}
 use Rattle.gr_model.specs.Broker.{View, Log, log_know, data_ticks, got_line}
-use Rattle.gr_model.specs.World.{World, Told, next}
+use Rattle.gr_model.specs.World.{World, next}
 use Rattle.gr_model.specs.Blank.{net0}
 
 -- the place of the closed gate of a lane with these events

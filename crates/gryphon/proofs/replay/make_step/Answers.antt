@@ -1,4 +1,4 @@
-use Rattle.std.proofs.Common.{◌≡◌, sym, ap, ◌∙◌, subst}
+use Rattle.std.proofs.Common.{sym, subst}
 use Rattle.gr_sched.specs.declared.step.Step.TheVariants.{Clock}
 use Rattle.gryphon.specs.World.{Tells}
 use Rattle.gryphon.proofs.StepLemmas.{step_told, publish_told}
@@ -12,4 +12,4 @@ returns-in-Clock-clause-told c =
 pub returns-in-None-clause-told : goal.returns-in-None-clause-told
 returns-in-None-clause-told c =
     publish_told c.publish.result c.args.world.now c.publish.new.self c.args.line.now c.in-Publish.publisher c.in-Publish.number c.in-Publish.stop c.in-Publish.event
-        c.in-Publish.is c.in-None.is c.requires c.publish.ensures.told
+    c.in-Publish.is c.in-None.is c.requires c.publish.ensures.told

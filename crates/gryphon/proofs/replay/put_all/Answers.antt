@@ -1,7 +1,7 @@
-use Rattle.std.proofs.Common.{◌≡◌, ◌++◌, ◌+◌, ◌<◌, ℕ, List, take, drop, length, sym, ap, ◌∙◌, subst, Err}
+use Rattle.std.proofs.Common.{◌+◌, take, drop, sym, ap, ◌∙◌, subst, Err}
 use Rattle.gr_out.specs.Bytes.{with_more}
 use Rattle.gr_topo.specs.Topology.{blank}
-use Rattle.gr_model.specs.Text.{labels_of, report_text, whole_line, IsNamed}
+use Rattle.gr_model.specs.Text.{labels_of, report_text, whole_line}
 use Rattle.gryphon.specs.Taken.{TakesFront}
 use Rattle.gryphon.proofs.Named.{named_at}
 use Rattle.gryphon.proofs.TakenLemmas.{with_more-twice, front_of_put, front-later}

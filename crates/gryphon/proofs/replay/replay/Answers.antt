@@ -1,11 +1,11 @@
-use Rattle.std.proofs.Common.{◌≡◌, ◌++◌, ◌+◌, ℕ, List, [], drop, length, sym, ap, ◌∙◌, subst, refl, arith, append_assoc}
+use Rattle.std.proofs.Common.{◌≡◌, ◌++◌, ◌+◌, [], drop, sym, ap, ◌∙◌, refl, arith, append_assoc}
 use Rattle.std.proofs.lemmas.List.{append-nil, drop_all}
 use Rattle.gr_out.specs.Bytes.{with_more}
 use Rattle.gr_topo.specs.Topology.{blank}
 use Rattle.gr_model.specs.Blank.{net0}
 use Rattle.gr_model.specs.World.{next}
 use Rattle.gr_model.specs.Text.{labels_of, report_text}
-use Rattle.gryphon.specs.Scenario.{replayed_text, IsReady}
+use Rattle.gryphon.specs.Scenario.{replayed_text}
 use Rattle.gryphon.proofs.TakenLemmas.{with_more-twice, with_more-nil, front-later}
 use Rattle.gryphon.proofs.StepLemmas.{text_from, text_from-at, text_from-nil, ready_at, replayed_text-is}
 use Rattle.gryphon.proofs.replay.replay.Goals as goal

@@ -9,6 +9,6 @@ returns-in_ok-format-in-BadEvent-clause-line c =
     let word : c.event_fault_word-word.result.now ≡ event_fault_word c.in-BadEvent.fault = c.event_fault_word-word.ensures in
     let printed : string_bytes c.in_ok-format-in-BadEvent.field-0 ≡ codes "step 3 bad-event line " ++ (decimal c.in-BadEvent.line ++ (codes " " ++ c.event_fault_word-word.result.now)) = c.in_ok-format-in-BadEvent.ensures.ok in
     let line : string_bytes c.in_ok-format-in-BadEvent.field-0 ≡ fault_line (BadEvent c.in-BadEvent.line c.in-BadEvent.fault) =
-        printed ∙ ap (λ w. codes "step 3 bad-event line " ++ (decimal c.in-BadEvent.line ++ (codes " " ++ w))) word in
+    printed ∙ ap (λ w. codes "step 3 bad-event line " ++ (decimal c.in-BadEvent.line ++ (codes " " ++ w))) word in
     subst (λ f. IfOk c.text_of-in-BadEvent.result (λ text. text ≡ fault_line f)) (sym c.in-BadEvent.is)
-        (subst (λ x. IfOk c.text_of-in-BadEvent.result (λ text. text ≡ x)) line c.text_of-in-BadEvent.ensures)
+    (subst (λ x. IfOk c.text_of-in-BadEvent.result (λ text. text ≡ x)) line c.text_of-in-BadEvent.ensures)

@@ -1,4 +1,4 @@
-use Rattle.std.proofs.Common.{◌≡◌, ◌<◌, ◌⊎◌, ◌-◌, [], ◌∷◌, inl, inr, length, arith, sym, ap, ◌∙◌, Some, refl}
+use Rattle.std.proofs.Common.{◌≡◌, ◌<◌, ◌⊎◌, ◌-◌, [], ◌∷◌, inl, inr, length, arith, sym, Some, refl}
 use Rattle.std.specs.Prelude.{slice_get}
 use Rattle.std.proofs.lemmas.Option.{slice_get_read}
 use Rattle.gr_model.specs.declared.report.Report.TheVariants.{RefusedFrame}

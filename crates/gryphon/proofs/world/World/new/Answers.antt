@@ -1,4 +1,4 @@
-use Rattle.std.proofs.Common.{◌≡◌, [], sym}
+use Rattle.std.proofs.Common.{sym}
 use Rattle.gryphon.proofs.Steps.{begin}
 use Rattle.gryphon.proofs.world.World.new.Goals as goal
 

@@ -1,5 +1,4 @@
-use Rattle.std.proofs.Common.{◌≡◌, ◌≤◌, ◌<◌, ℕ, suc, max, arith, sym, ap, ◌∙◌, refl, add-one, length, lit<}
-use Rattle.gryphon.specs.World.{EventsUpto}
+use Rattle.std.proofs.Common.{◌≡◌, arith, refl, add-one, length, lit<}
 use Rattle.gryphon.proofs.News.{EventsUpto-append}
 use Rattle.gryphon.proofs.Steps.{already_step, gap_step, exhausted_step, logged_by}
 use Rattle.gryphon.proofs.world.World.publish.Goals as goal
