@@ -11,20 +11,33 @@ mod top;
 mod world;
 
 use adapters::{StdSink, StdSource};
+use std::env;
+use std::io::ErrorKind;
 use std::process::ExitCode;
-use std::{env, io};
 
-fn main(rt: HostRuntime) -> io::Result<ExitCode> {
+/// Carries out the command that the words name, from standard input to standard output. A word that is no text names no
+/// command. Want of memory for the words ends with status 7.
+fn main(rt: HostRuntime) -> ExitCode {
     let mut texts = Vec::new(rt.alloc());
-    for text in env::args(&rt)?.skip(1) {
-        texts.push(text)?;
+    match env::args(&rt) {
+        Ok(args) => {
+            for text in args.skip(1) {
+                if texts.push(text).is_err() {
+                    return ExitCode::from(7);
+                }
+            }
+        }
+        Err(error) if error.kind() == ErrorKind::InvalidData => {}
+        Err(_) => return ExitCode::from(7),
     }
     let mut words = Vec::new(rt.alloc());
     for text in &texts {
-        words.push(text.as_str())?;
+        if words.push(text.as_str()).is_err() {
+            return ExitCode::from(7);
+        }
     }
     let mut source = StdSource::new(rt.stdin());
     let mut sink = StdSink::new(rt.stdout());
     let status = top::gryphon(rt.alloc(), words.as_slice(), &mut source, &mut sink);
-    Ok(ExitCode::from(status))
+    ExitCode::from(status)
 }
