@@ -1,11 +1,20 @@
 //! Events and their two forms.
 
-ghost use Rattle.std.specs.Prelude.{◌≡◌, ◌↔◌, IsTrue};
-ghost use Rattle.gr_event.specs.Event.{same_event};
+ghost use Rattle.std.specs.Prelude.{◌≡◌, ◌↔◌, ◌+◌, ◌≤◌, ◌*◌, IsTrue, IfOk, length, option_map};
+ghost use Rattle.std.specs.List.{AllByRecursion};
+ghost use Rattle.gr_event.specs.Event.{same_event, event_size, pairs_size, value_size};
+ghost use Rattle.gr_event.specs.Limits.{IsEvent, ArePairs, IsPair, IsValue};
+ghost use Rattle.gr_event.specs.Get.{part_value, value_of};
+ghost use Rattle.gr_event.specs.Gives.{Gives};
+ghost use Rattle.gr_event.specs.Json.{short_event};
 
 use crate::text::Text;
-use crate::value::Value;
+use crate::value::{Part, Value};
+use std::alloc::{AllocError, AllocFailed, Global};
 use std::marker::Model;
+
+/// No memory was given.
+pub type Memory = AllocError;
 
 /// An event, seen as its list of names and values, rising by name.
 #[derive(Drop)]
@@ -19,10 +28,39 @@ impl Model for Event {
 
     ghost Value = { List (List ℕ × EventValue) };
 
+    ghost use Rattle.gr_event.specs.Limits.{IsEvent};
+
     ghost view = { λ e. e.pairs.now.items };
+
+    ghost invariant = { λ e. IsEvent e.pairs.now.items };
 }
 
 impl Event {
+    /// The event of these pairs.
+    pub(crate) fn of_pairs(alloc: Global, pairs: Vec<(Text, Value)>) -> Result<Event, Memory>
+        requires { IsEvent pairs.items }
+        ensures { IfOk result (λ e. e ≡ pairs.items) }
+    {
+        let kept = Box::new(alloc, pairs)?;
+        Ok(Event {
+            pairs: Box::leak(kept),
+        })
+    }
+
+    /// The event of these pairs, unless its form in bytes is too long.
+    pub(crate) fn of_short_pairs(
+        alloc: Global,
+        pairs: Vec<(Text, Value)>,
+    ) -> Result<Event, EventFault>
+        requires { ArePairs pairs.items }
+        ensures { Gives result (short_event pairs.items) }
+    {
+        if 1 + size_of_pairs(&pairs) > 8192 {
+            return Err(EventFault::TooLong);
+        }
+        Ok(Event::of_pairs(alloc, pairs)?)
+    }
+
     /// An equal event. Takes no memory and is never refused.
     pub fn share(&self) -> Event
         ensures { result ≡ self.now }
@@ -35,6 +73,30 @@ impl Event {
         ensures { IsTrue result ↔ (self.now ≡ other.now) }
     {
         same_pairs(self.pairs, other.pairs)
+    }
+
+    /// How many bytes its form in bytes has, at most 8,192. Takes no memory.
+    pub fn size(&self) -> usize
+        ensures size { result ≡ event_size self.now }
+        ensures short { result ≤ 8192 }
+        ensures event { IsEvent self.now }
+    {
+        1 + size_of_pairs(self.pairs)
+    }
+
+    /// The value of a name, if the event has it. Takes no memory.
+    pub fn get(&self, name: &[u8]) -> Option<Part<'_>>
+        ensures { option_map part_value result ≡ value_of name.now self.now }
+    {
+        find(self.pairs, name)
+    }
+
+    /// Its pairs.
+    pub(crate) fn pairs(&self) -> &[(Text, Value)]
+        ensures pairs { result.now ≡ self.now }
+        ensures event { IsEvent self.now }
+    {
+        self.pairs
     }
 }
 
@@ -53,20 +115,97 @@ fn same_pairs(left: &[(Text, Value)], right: &[(Text, Value)]) -> bool
     }
 }
 
+/// How many bytes the pairs take.
+fn size_of_pairs(pairs: &[(Text, Value)]) -> usize
+    requires few { length pairs.now ≤ 32 }
+    requires each { AllByRecursion IsPair pairs.now }
+    ensures size { result ≡ pairs_size pairs.now }
+    ensures bound { result ≤ 1092 * length pairs.now }
+{
+    match pairs {
+        [] => 0,
+        [first, rest @ ..] => 2 + first.0.len() + size_of_value(&first.1) + size_of_pairs(rest),
+    }
+}
+
+/// How many bytes a value takes behind its kind.
+pub(crate) fn size_of_value(value: &Value) -> usize
+    requires { IsValue value.now }
+    ensures size { result ≡ value_size value.now }
+    ensures bound { result ≤ 1026 }
+{
+    match value {
+        Value::Int(_) => 8,
+        Value::Text(text) => 2 + text.len(),
+        Value::Bool(_) => 1,
+    }
+}
+
+/// The value of a name among pairs.
+fn find<'a>(pairs: &'a [(Text, Value)], name: &[u8]) -> Option<Part<'a>>
+    ensures { option_map part_value result ≡ value_of name.now pairs.now }
+{
+    match pairs {
+        [] => None,
+        [first, rest @ ..] => {
+            if first.0.as_slice() == name {
+                Some(first.1.part())
+            } else {
+                find(rest, name)
+            }
+        }
+    }
+}
+
 /// Why bytes or a JSON value are no event.
 #[derive(Clone, Copy, Debug, PartialEq, Eq)]
 pub enum EventFault {
+    /// No memory was given.
     Memory,
+    /// The JSON value is no object.
     NotObject,
+    /// A name of a JSON object is empty or has more than 64 bytes.
     BadName,
+    /// A value of a JSON object is no integer of 64 bits, no text and no truth value.
     BadValue,
+    /// A JSON object has more than 32 names.
     TooMany,
+    /// A text has more than 1,024 bytes, or the form in bytes more than 8,192.
     TooLong,
+    /// The bytes end within a field; `at` is their number.
     Short { at: usize },
+    /// The kind or truth byte at `at` is none of the table.
     BadKind { at: usize },
+    /// The name that begins at `at` is not above the one before.
     NotSorted { at: usize },
+    /// Bytes are left from `at` on.
     Trailing { at: usize },
+    /// The bytes are no JSON text.
     NotJson,
+    /// The name or text that begins at `at` is not UTF-8.
     BadText { at: usize },
+    /// The count or length at `at` is outside its limits.
     BadLength { at: usize },
+}
+
+impl From<AllocError> for EventFault {
+    ghost use Rattle.std.specs.Prelude.{◌≡◌};
+    ghost use Rattle.gr_event.specs.declared.event.EventFault.TheVariants.{Memory as OutOfMemory};
+
+    ghost from_gives = { λ _ e. e ≡ OutOfMemory };
+
+    fn from(_refused: AllocError) -> EventFault {
+        EventFault::Memory
+    }
+}
+
+impl<T: Drop> From<AllocFailed<T>> for EventFault {
+    ghost use Rattle.std.specs.Prelude.{◌≡◌};
+    ghost use Rattle.gr_event.specs.declared.event.EventFault.TheVariants.{Memory as OutOfMemory};
+
+    ghost from_gives = { λ _ e. e ≡ OutOfMemory };
+
+    fn from(_refused: AllocFailed<T>) -> EventFault {
+        EventFault::Memory
+    }
 }

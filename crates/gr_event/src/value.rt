@@ -2,6 +2,7 @@
 
 ghost use Rattle.std.specs.Prelude.{◌≡◌};
 ghost use Rattle.gr_event.specs.Event.{same_value};
+ghost use Rattle.gr_event.specs.Get.{part_value};
 
 use crate::text::Text;
 
@@ -17,6 +18,17 @@ pub enum Value {
 }
 
 impl Value {
+    /// The value as a reader sees it. Takes no memory.
+    pub fn part(&self) -> Part<'_>
+        ensures { part_value result ≡ self.now }
+    {
+        match self {
+            Value::Int(number) => Part::Int(*number),
+            Value::Text(text) => Part::Text(text.as_slice()),
+            Value::Bool(holds) => Part::Bool(*holds),
+        }
+    }
+
     /// Whether both are the same value of one type.
     pub fn same(&self, other: &Value) -> bool
         ensures { result ≡ same_value self.now other.now }

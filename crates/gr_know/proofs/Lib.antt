@@ -1,2 +1,3 @@
+pub mod ValueLaws
 pub mod KnowLemmas
 pub mod ForgetLemmas

@@ -1,0 +1,13 @@
+pub mod Net
+pub mod Broker
+pub mod World
+pub mod Headline
+pub mod Tree
+pub mod Truth
+pub mod Said
+pub mod Fits
+pub mod Order
+pub mod Blank
+pub mod Text
+pub mod SmallNets
+pub mod Examples

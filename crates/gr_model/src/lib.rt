@@ -2,6 +2,14 @@
 //! headline that every report meets.
 #![tactic(auto)]
 
+mod lines;
+pub mod print;
 pub mod report;
+pub mod theorems;
+mod words;
 
+pub use print::{Memory, PutFault, put};
 pub use report::{Report, Reports};
+
+#[cfg(test)]
+mod tests;

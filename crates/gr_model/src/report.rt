@@ -1,9 +1,12 @@
 //! The lines of a report.
 
+ghost use Rattle.std.specs.Prelude.{◌≡◌, ◌++◌, ◌∷◌, [], length, OnOk, OnErr};
+
 use gr_curio::Q3;
 use gr_event::{Bytes, Event};
 use gr_know::K;
 use gr_tick::Piece;
+use std::alloc::{AllocError, Global};
 use std::marker::Model;
 
 /// One line of a report. Brokers, publishers and subscribers are numbers in the order of the topology.
@@ -184,4 +187,38 @@ impl Model for Reports {
     ghost Value = { List Report };
 
     ghost view = { λ r. r.lines.items };
+}
+
+impl Reports {
+    /// No lines. Takes no memory.
+    pub fn new(alloc: Global) -> Reports
+        ensures { result ≡ [] }
+    {
+        Reports {
+            lines: Vec::new(alloc),
+        }
+    }
+
+    /// Puts a line at the end. At want of memory the list stays as it was, and the line is dropped.
+    pub fn push(&mut self, line: Report) -> Result<(), AllocError>
+        ensures ok { OnOk result (self.new ≡ self.old ++ line ∷ []) }
+        ensures err { OnErr result (self.new ≡ self.old) }
+    {
+        self.lines.push(line)?;
+        Ok(())
+    }
+
+    /// How many lines there are.
+    pub fn len(&self) -> usize
+        ensures { result ≡ length self.now }
+    {
+        self.lines.len()
+    }
+
+    /// Its lines, in order.
+    pub fn as_slice(&self) -> &[Report]
+        ensures { result.now ≡ self.now }
+    {
+        &self.lines
+    }
 }

@@ -1,6 +1,20 @@
 //! Schedules: the steps that a user states, and the lines that they stand in.
+//!
+//! A scenario is a topology part and a step part with a separator between them (`split`). The step part is lines:
+//! `count` says how many of them are counted, and `parse` reads each as a step, or answers the first fault.
 #![tactic(auto)]
 
+pub mod fault;
+pub mod schedule;
 pub mod step;
+pub mod text;
+mod verb;
+mod words;
 
-pub use step::{Line, Names, Step, Steps, Stop};
+pub use fault::StepFault;
+pub use schedule::parse;
+pub use step::{Line, MAX_BYTES, MAX_NUMBER, MAX_STEPS, Names, Step, Steps, Stop};
+pub use text::{count, is_blank, split};
+
+#[cfg(test)]
+mod tests;

@@ -1,7 +1,19 @@
 //! The steps of a schedule.
 
+ghost use Rattle.std.specs.Prelude.{◌≡◌, ◌∷◌, ◌++◌, [], length, OnOk, OnErr};
+
 use gr_event::Event;
+use std::alloc::{AllocError, Global};
 use std::marker::Model;
+
+/// The greatest moment, publish number and frame number that a step may name.
+pub const MAX_NUMBER: u64 = 1 << 62;
+
+/// How many counted lines a schedule may have.
+pub const MAX_STEPS: u64 = 100_000;
+
+/// How many bytes a schedule may have.
+pub const MAX_BYTES: usize = 4_194_304;
 
 /// Where a publish is stopped inside: at the disk call `call`, counted from 1 to 4, and which image the crash leaves.
 #[derive(Clone, Copy, Debug, PartialEq, Eq)]
@@ -58,6 +70,40 @@ impl Model for Steps {
     ghost Value = { List Line };
 
     ghost view = { λ s. s.lines.items };
+}
+
+impl Steps {
+    /// No lines.
+    pub fn new(alloc: Global) -> Steps
+        ensures { result ≡ [] }
+    {
+        Steps {
+            lines: Vec::new(alloc),
+        }
+    }
+
+    /// One more line at the end. At want of memory the lines are as they were.
+    pub fn push(&mut self, line: Line) -> Result<(), AllocError>
+        ensures pushed { OnOk result (self.new ≡ self.old ++ line ∷ []) }
+        ensures unchanged { OnErr result (self.new ≡ self.old) }
+    {
+        self.lines.push(line)?;
+        Ok(())
+    }
+
+    /// How many lines there are.
+    pub fn len(&self) -> usize
+        ensures { result ≡ length self.now }
+    {
+        self.lines.len()
+    }
+
+    /// The lines.
+    pub fn as_slice(&self) -> &[Line]
+        ensures { result.now ≡ self.now }
+    {
+        self.lines.as_slice()
+    }
 }
 
 /// The names that a schedule may use.

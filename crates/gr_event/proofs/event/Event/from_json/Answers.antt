@@ -1,0 +1,26 @@
+-- The members are read one by one, and then the size is asked
+use Rattle.std.proofs.Common.{rules, arith, ap, ◌∙◌}
+use Rattle.serde_json.specs.View.{view}
+use Rattle.serde_json.proofs.Views.{view-Object}
+use Rattle.gr_event.proofs.Reading.{too_many, few, are_pairs, gives_short, fails_first}
+use Rattle.gr_event.proofs.event.Event.from_json.Goals as goal
+
+pub returns-then-len-gt32 : goal.returns-then-len-gt32
+returns-then-len-gt32 c =
+    let is = ap view c.in-Object.is ∙ view-Object c.in-Object.map in
+    too_many _ _ c.len.result is c.len.ensures.len (search rules)
+
+pub of_short_pairs-requires : goal.of_short_pairs-requires
+of_short_pairs-requires c = are_pairs c.in-Object.map c.in-Ok.pairs.items c.len.ensures.ordered (omega (arith, c.len.ensures.len)) c.in-Ok.ensures.names c.in-Ok.ensures.each
+
+pub returns-in-Ok : goal.returns-in-Ok
+returns-in-Ok c =
+    let is = ap view c.in-Object.is ∙ view-Object c.in-Object.map in
+    let same = few _ _ c.len.result is c.len.ensures.len (search rules) in
+    rw same (gives_short c.of_short_pairs.result c.in-Ok.pairs.items _ c.in-Ok.ensures.gives c.of_short_pairs.ensures)
+
+pub returns-in-Err : goal.returns-in-Err
+returns-in-Err c =
+    let is = ap view c.in-Object.is ∙ view-Object c.in-Object.map in
+    let same = few _ _ c.len.result is c.len.ensures.len (search rules) in
+    rw same (fails_first c.in-Err.fault _ c.in-Err.ensures.gives)

@@ -1,0 +1,200 @@
+//! The form of an event in bytes, read.
+
+ghost use Rattle.std.specs.Prelude.{◌≡◌, ◌+◌, ◌≤◌, ◌<◌, ◌^◌, [], length, IfOk, IsTrue, MatchResult, Ok, Err};
+ghost use Rattle.std.specs.Int.{from_be_bytes, cast_signed, w16, w64};
+ghost use Rattle.std.specs.Str.{is_utf8};
+ghost use Rattle.std.specs.Ordering.{nat_cmp};
+ghost use Rattle.std.specs.Cmp.Lexicographic.{slice_cmp};
+ghost use Rattle.std.specs.declared.cmp.Ordering.TheVariants.{Less};
+ghost use Rattle.std.specs.List.{AllByRecursion};
+ghost use Rattle.gr_event.specs.Event.{event_bytes, value_size, pairs_size};
+ghost use Rattle.gr_event.specs.Gives.{Gives, GivesPairs};
+ghost use Rattle.gr_event.specs.Limits.{IsName, IsPair, IsValue, IsEvent, Rise, names};
+ghost use Rattle.gr_event.specs.Decode.{byte_at, field_at, name_at, integer_at, text_value_at, truth_at, value_at, pairs_at, event_decoded};
+
+use crate::event::{Event, EventFault, size_of_value};
+use crate::text::Text;
+use crate::value::Value;
+use byteorder::{BigEndian, ByteOrder};
+use std::alloc::Global;
+use std::cmp::Ordering;
+
+impl Event {
+    /// The event that the bytes spell.
+    ///
+    /// The first fault comes: `TooLong` for more than 8,192 bytes, and then, field by field, `Short`,
+    /// `BadLength`, `BadText`, `NotSorted` and `BadKind` at their places, and last `Trailing`.
+    #[tactic(auto, unfolding(crate::specs::Decode::event_decoded))]
+    pub fn decode(alloc: Global, bytes: &[u8]) -> Result<Event, EventFault>
+        ensures gives { Gives result (event_decoded bytes.now) }
+        ensures spelled { IfOk result (λ e. bytes.now ≡ event_bytes e) }
+    {
+        if bytes.len() > 8192 {
+            return Err(EventFault::TooLong);
+        }
+        let count = byte_at(bytes, 0)?;
+        if count > 32 {
+            return Err(EventFault::BadLength { at: 0 });
+        }
+        let pairs = pairs_at(alloc, bytes, count)?;
+        Ok(Event::of_pairs(alloc, pairs)?)
+    }
+}
+
+/// The byte at a place.
+fn byte_at(bytes: &[u8], at: usize) -> Result<u8, EventFault>
+    ensures { result ≡ byte_at bytes.now at }
+{
+    if at < bytes.len() {
+        Ok(bytes[at])
+    } else {
+        Err(EventFault::Short { at: bytes.len() })
+    }
+}
+
+/// A field of so many bytes from a place on.
+fn field_at(bytes: &[u8], at: usize, len: usize) -> Result<&[u8], EventFault>
+    requires { at + len < 2 ^ 64 }
+    ensures gives { MatchResult result (λ f. field_at bytes.now at len ≡ Ok f.now) (λ e. field_at bytes.now at len ≡ Err e) }
+    ensures whole { IfOk result (λ f. length f.now ≡ len) }
+    ensures within { IfOk result (λ f. at + len ≤ length bytes.now) }
+{
+    if at + len <= bytes.len() {
+        Ok(&bytes[at..at + len])
+    } else {
+        Err(EventFault::Short { at: bytes.len() })
+    }
+}
+
+/// Whether bytes are UTF-8.
+fn is_text(bytes: &[u8]) -> bool
+    ensures { result ≡ is_utf8 bytes.now }
+{
+    std::str::from_utf8(bytes).is_ok()
+}
+
+/// The name behind its length, above the one before.
+#[tactic(auto, unfolding(crate::specs::Decode::name_at, crate::specs::Decode::name_of_length), using(crate::proofs::Decoding::told_text))]
+fn name_at<'a>(bytes: &'a [u8], at: usize, before: &[u8]) -> Result<&'a [u8], EventFault>
+    requires few { length bytes.now ≤ 8192 }
+    requires inside { at ≤ length bytes.now }
+    ensures gives { MatchResult result (λ n. name_at bytes.now at before.now ≡ Ok n.now) (λ e. name_at bytes.now at before.now ≡ Err e) }
+    ensures name { IfOk result (λ n. IsName n.now) }
+    ensures within { IfOk result (λ n. at + 1 + length n.now ≤ length bytes.now) }
+    ensures above { IfOk result (λ n. slice_cmp nat_cmp before.now n.now ≡ Less) }
+{
+    let len = byte_at(bytes, at)?;
+    if len == 0 || len > 64 {
+        return Err(EventFault::BadLength { at });
+    }
+    let name = field_at(bytes, at + 1, usize::from(len))?;
+    if !is_text(name) {
+        return Err(EventFault::BadText { at: at + 1 });
+    }
+    match before.cmp(name) {
+        Ordering::Less => Ok(name),
+        Ordering::Equal | Ordering::Greater => Err(EventFault::NotSorted { at: at + 1 }),
+    }
+}
+
+/// The value behind its kind.
+#[tactic(auto, unfolding(crate::specs::Decode::value_at, crate::specs::Decode::value_of_kind))]
+fn value_at(alloc: Global, bytes: &[u8], at: usize) -> Result<Value, EventFault>
+    requires few { length bytes.now ≤ 8192 }
+    requires inside { at ≤ length bytes.now }
+    ensures gives { Gives result (value_at bytes.now at) }
+    ensures value { IfOk result IsValue }
+    ensures within { IfOk result (λ v. at + 1 + value_size v ≤ length bytes.now) }
+{
+    match byte_at(bytes, at)? {
+        1 => integer_at(bytes, at + 1),
+        2 => text_value_at(alloc, bytes, at + 1),
+        3 => truth_at(bytes, at + 1),
+        _ => Err(EventFault::BadKind { at }),
+    }
+}
+
+/// An integer of eight bytes.
+#[tactic(auto, unfolding(crate::specs::Decode::integer_at))]
+fn integer_at(bytes: &[u8], at: usize) -> Result<Value, EventFault>
+    requires { at + 8 < 2 ^ 64 }
+    ensures gives { result ≡ integer_at bytes.now at }
+    ensures value { IfOk result IsValue }
+    ensures within { IfOk result (λ v. at + value_size v ≤ length bytes.now) }
+{
+    let field = field_at(bytes, at, 8)?;
+    Ok(Value::Int(number_of(field)))
+}
+
+/// A text behind its length of two bytes.
+#[tactic(auto, unfolding(crate::specs::Decode::text_value_at, crate::specs::Decode::text_of_length), using(crate::proofs::Decoding::told_text))]
+fn text_value_at(alloc: Global, bytes: &[u8], at: usize) -> Result<Value, EventFault>
+    requires { at + 65538 < 2 ^ 64 }
+    ensures gives { Gives result (text_value_at bytes.now at) }
+    ensures value { IfOk result IsValue }
+    ensures within { IfOk result (λ v. at + value_size v ≤ length bytes.now) }
+{
+    let len = length_of(field_at(bytes, at, 2)?);
+    if len > 1024 {
+        return Err(EventFault::BadLength { at });
+    }
+    let text = field_at(bytes, at + 2, usize::from(len))?;
+    if !is_text(text) {
+        return Err(EventFault::BadText { at: at + 2 });
+    }
+    Ok(Value::Text(Text::from_slice(alloc, text)?))
+}
+
+/// A truth value of one byte.
+#[tactic(auto, unfolding(crate::specs::Decode::truth_at))]
+fn truth_at(bytes: &[u8], at: usize) -> Result<Value, EventFault>
+    ensures gives { result ≡ truth_at bytes.now at }
+    ensures value { IfOk result IsValue }
+    ensures within { IfOk result (λ v. at + value_size v ≤ length bytes.now) }
+{
+    match byte_at(bytes, at)? {
+        0 => Ok(Value::Bool(false)),
+        1 => Ok(Value::Bool(true)),
+        _ => Err(EventFault::BadKind { at }),
+    }
+}
+
+/// So many pairs behind their count, and nothing after them.
+fn pairs_at(alloc: Global, bytes: &[u8], count: u8) -> Result<Vec<(Text, Value)>, EventFault>
+    requires some { 1 ≤ length bytes.now }
+    requires short { length bytes.now ≤ 8192 }
+    requires few { count ≤ 32 }
+    ensures gives { GivesPairs result (pairs_at bytes.now count 1 []) }
+    ensures event { IfOk result (λ v. IsEvent v.items) }
+{
+    let mut found = Vec::new(alloc);
+    let mut before: &[u8] = &[];
+    let mut at = 1;
+    for _ in 0..count {
+        let name = name_at(bytes, at, before)?;
+        let value = value_at(alloc, bytes, at + 1 + name.len())?;
+        at += 2 + name.len() + size_of_value(&value);
+        found.push((Text::from_slice(alloc, name)?, value))?;
+        before = name;
+    }
+    if at < bytes.len() {
+        return Err(EventFault::Trailing { at });
+    }
+    Ok(found)
+}
+
+/// The integer that eight bytes spell.
+fn number_of(field: &[u8]) -> i64
+    requires { length field.now ≡ 8 }
+    ensures { result ≡ cast_signed w64 (from_be_bytes w64 field.now) }
+{
+    BigEndian::read_i64(field)
+}
+
+/// The length that two bytes spell.
+fn length_of(field: &[u8]) -> u16
+    requires { length field.now ≡ 2 }
+    ensures { result ≡ from_be_bytes w16 field.now }
+{
+    BigEndian::read_u16(field)
+}

@@ -1,0 +1,80 @@
+use crate::{Bytes, Event, EventFault, Numbers, Part, Text};
+use std::test::Fail;
+
+#[test]
+fn reads_writes_and_decodes(rt: HostRuntime) -> Result<(), Fail> {
+    let event = Event::from_text(rt.alloc(), b"{\"price\":82}")?;
+    let mut bytes = [0u8; 16];
+    assert_eq!(rt; event.size(), 16);
+    event.encode_into(&mut bytes);
+    let spelled = [
+        1, 5, 0x70, 0x72, 0x69, 0x63, 0x65, 1, 0, 0, 0, 0, 0, 0, 0, 0x52,
+    ];
+    assert_eq!(rt; bytes.as_slice(), spelled.as_slice());
+    let decoded = Event::decode(rt.alloc(), &bytes)?;
+    assert!(rt; decoded.same(&event));
+    assert_eq!(rt;
+        decoded.json(rt.alloc())?.as_slice(),
+        b"{\"price\":82}".as_slice()
+    );
+    assert!(rt; matches!(event.share().get(b"price"), Some(Part::Int(82))));
+    assert!(rt; event.get(b"qty").is_none());
+    Ok(())
+}
+
+#[test]
+fn refuses_with_the_first_fault(rt: HostRuntime) -> Result<(), Fail> {
+    let texts: [(&[u8], EventFault); 7] = [
+        (b"[1]", EventFault::NotObject),
+        (b"{\"\":1}", EventFault::BadName),
+        (b"{\"a\":null}", EventFault::BadValue),
+        (b"{", EventFault::NotJson),
+        (b"{\"a\":-0}", EventFault::BadValue),
+        (b"{\"a\":1e999}", EventFault::NotJson),
+        (b"{\"a\":9223372036854775808}", EventFault::BadValue),
+    ];
+    for (text, fault) in texts {
+        assert!(rt; Event::from_text(rt.alloc(), text).is_err_and(|found| found == fault));
+    }
+    let forms: [(&[u8], EventFault); 9] = [
+        (&[1, 1, 0x61, 9], EventFault::BadKind { at: 3 }),
+        (&[0, 0], EventFault::Trailing { at: 1 }),
+        (&[], EventFault::Short { at: 0 }),
+        (&[33], EventFault::BadLength { at: 0 }),
+        (&[1, 0], EventFault::BadLength { at: 1 }),
+        (&[1, 1, 0xff, 3, 1], EventFault::BadText { at: 2 }),
+        (
+            &[2, 1, 0x62, 3, 1, 1, 0x61, 3, 1],
+            EventFault::NotSorted { at: 6 },
+        ),
+        (&[1, 1, 0x61, 3, 2], EventFault::BadKind { at: 4 }),
+        (&[1, 1, 0x61, 2, 4, 1], EventFault::BadLength { at: 4 }),
+    ];
+    for (form, fault) in forms {
+        assert!(rt; Event::decode(rt.alloc(), form).is_err_and(|found| found == fault));
+    }
+    Ok(())
+}
+
+#[test]
+fn makes_lists(rt: HostRuntime) -> Result<(), Fail> {
+    let mut text = Text::new(rt.alloc());
+    text.push(b'a')?;
+    text.append(b"bc")?;
+    assert!(rt; text.same(&Text::from_slice(rt.alloc(), b"abc")?));
+    assert_eq!(rt; text.len(), 3);
+    let mut bytes = Bytes::new(rt.alloc());
+    bytes.push(1)?;
+    bytes.append(&[2, 3])?;
+    assert_eq!(rt;
+        bytes.as_slice(),
+        Bytes::from_slice(rt.alloc(), &[1, 2, 3])?.as_slice()
+    );
+    assert_eq!(rt; bytes.len(), 3);
+    let mut numbers = Numbers::from_slice(rt.alloc(), &[7])?;
+    numbers.push(9)?;
+    assert_eq!(rt; numbers.as_slice(), [7, 9].as_slice());
+    assert_eq!(rt; numbers.len(), 2);
+    assert_eq!(rt; Numbers::new(rt.alloc()).len(), 0);
+    Ok(())
+}

@@ -1,0 +1,175 @@
+//! The printed form of a filter.
+
+ghost use Rattle.std.specs.Prelude.{◌≡◌, ◌++◌, IfOk, OnOk};
+ghost use Rattle.gr_filter.specs.Tree.{tree_of};
+ghost use Rattle.gr_filter.specs.Print.{sign_text, doubled, quoted, operand_text, more_text, literals_text, not_text, tree_text};
+
+use crate::fault::Memory;
+use crate::filter::Filter;
+use crate::node::{Node, Operand, Sign};
+use gr_event::Text;
+use std::alloc::Global;
+
+/// The filter's text, with all parentheses: it reads as the filter again, within the limits.
+pub fn text(alloc: Global, filter: &Filter) -> Result<Text, Memory>
+    ensures { IfOk result (λ t. t ≡ tree_text (tree_of filter.now.root)) }
+{
+    let mut out = Text::new(alloc);
+    put_node(alloc, &mut out, filter.root())?;
+    Ok(out)
+}
+
+fn put_node(alloc: Global, out: &mut Text, node: &Node) -> Result<(), Memory>
+    ensures { OnOk result (out.new ≡ out.old ++ tree_text (tree_of node.now)) }
+{
+    match node {
+        Node::Alone(operand) => put_operand(alloc, out, operand),
+        Node::Compare { left, sign, right } => {
+            put_operand(alloc, out, left)?;
+            out.append(sign_text(*sign))?;
+            put_operand(alloc, out, right)
+        }
+        Node::Between {
+            negated,
+            operand,
+            low,
+            high,
+        } => {
+            put_operand(alloc, out, operand)?;
+            out.append(not_text(*negated))?;
+            out.append(b" BETWEEN ")?;
+            put_operand(alloc, out, low)?;
+            out.append(b" AND ")?;
+            put_operand(alloc, out, high)
+        }
+        Node::OneOf {
+            negated,
+            name,
+            literals,
+        } => {
+            out.append(name.as_slice())?;
+            out.append(not_text(*negated))?;
+            out.append(b" IN (")?;
+            put_literals(alloc, out, literals.as_slice())?;
+            out.append(b")")
+        }
+        Node::Like {
+            negated,
+            name,
+            pattern,
+        } => {
+            out.append(name.as_slice())?;
+            out.append(not_text(*negated))?;
+            out.append(b" LIKE ")?;
+            put_quoted(out, pattern.as_slice())
+        }
+        Node::IsNull { negated, name } => {
+            out.append(name.as_slice())?;
+            out.append(b" IS")?;
+            out.append(not_text(*negated))?;
+            out.append(b" NULL")
+        }
+        Node::Not(node) => {
+            out.append(b"(NOT ")?;
+            put_node(alloc, out, node)?;
+            out.append(b")")
+        }
+        Node::And(left, right) => {
+            out.append(b"(")?;
+            put_node(alloc, out, left)?;
+            out.append(b" AND ")?;
+            put_node(alloc, out, right)?;
+            out.append(b")")
+        }
+        Node::Or(left, right) => {
+            out.append(b"(")?;
+            put_node(alloc, out, left)?;
+            out.append(b" OR ")?;
+            put_node(alloc, out, right)?;
+            out.append(b")")
+        }
+    }
+}
+
+fn sign_text(sign: Sign) -> &'static [u8]
+    ensures { result.now ≡ sign_text sign }
+{
+    match sign {
+        Sign::Equal => b" = ",
+        Sign::Differs => b" <> ",
+        Sign::Less => b" < ",
+        Sign::AtMost => b" <= ",
+        Sign::Greater => b" > ",
+        Sign::AtLeast => b" >= ",
+    }
+}
+
+fn not_text(negated: bool) -> &'static [u8]
+    ensures { result.now ≡ not_text negated }
+{
+    if negated { b" NOT" } else { b"" }
+}
+
+fn put_operand(alloc: Global, out: &mut Text, operand: &Operand) -> Result<(), Memory>
+    ensures { OnOk result (out.new ≡ out.old ++ operand_text operand.now) }
+{
+    match operand {
+        Operand::Name(name) => out.append(name.as_slice()),
+        Operand::Int(number) => {
+            let digits = format!(in alloc; "{number}")?;
+            out.append(digits.as_bytes())
+        }
+        Operand::Text(text) => put_quoted(out, text.as_slice()),
+        Operand::Bool(true) => out.append(b"TRUE"),
+        Operand::Bool(false) => out.append(b"FALSE"),
+    }
+}
+
+/// Puts a text in quotes, with each quote of it doubled.
+fn put_quoted(out: &mut Text, text: &[u8]) -> Result<(), Memory>
+    ensures { OnOk result (out.new ≡ out.old ++ quoted text.now) }
+{
+    out.push(b'\'')?;
+    put_doubled(out, text)?;
+    out.push(b'\'')
+}
+
+fn put_doubled(out: &mut Text, text: &[u8]) -> Result<(), Memory>
+    ensures { OnOk result (out.new ≡ out.old ++ doubled text.now) }
+{
+    match text {
+        [] => Ok(()),
+        [first, rest @ ..] => {
+            if *first == b'\'' {
+                out.push(b'\'')?;
+            }
+            out.push(*first)?;
+            put_doubled(out, rest)
+        }
+    }
+}
+
+fn put_literals(alloc: Global, out: &mut Text, literals: &[Operand]) -> Result<(), Memory>
+    ensures { OnOk result (out.new ≡ out.old ++ literals_text literals.now) }
+{
+    match literals {
+        [] => Ok(()),
+        [first, rest @ ..] => {
+            put_operand(alloc, out, first)?;
+            put_more(alloc, out, rest)
+        }
+    }
+}
+
+fn put_more(alloc: Global, out: &mut Text, literals: &[Operand]) -> Result<(), Memory>
+    ensures { OnOk result (out.new ≡ out.old ++ more_text literals.now) }
+{
+    match literals {
+        [] => Ok(()),
+        [first, rest @ ..] => {
+            out.append(b", ")?;
+            put_operand(alloc, out, first)?;
+            put_more(alloc, out, rest)
+        }
+    }
+}

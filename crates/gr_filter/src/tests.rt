@@ -1,0 +1,190 @@
+use crate::{FilterFault, Kleene, Node, parse, text, truth};
+use gr_event::Event;
+use std::alloc::Global;
+use std::test::Fail;
+
+static EVENTS: [&str; 12] = [
+    "{}",
+    "{\"price\":82}",
+    "{\"price\":80}",
+    "{\"price\":7,\"sym\":\"IBM\"}",
+    "{\"price\":82,\"sym\":\"IBM\"}",
+    "{\"sym\":\"HP\"}",
+    "{\"price\":\"82\"}",
+    "{\"hot\":true}",
+    "{\"hot\":false,\"price\":-5}",
+    "{\"price\":100,\"sym\":\"I%M\"}",
+    "{\"hot\":true,\"sym\":\"Ünit\"}",
+    "{\"a\":1,\"b\":1,\"sym\":\"\"}",
+];
+
+// The truth of each filter on each of the events: T true, F false, U unknown. Worked out by hand.
+static TRUTHS: [(&str, &str); 71] = [
+    ("price > 80", "UTFFTUFUFTUU"),
+    ("price >= 80", "UTTFTUFUFTUU"),
+    ("price < 80", "UFFTFUFUTFUU"),
+    ("price <= 80", "UFTTFUFUTFUU"),
+    ("price = 82", "UTFFTUFUFFUU"),
+    ("price <> 82", "UFTTFUFUTTUU"),
+    ("80 < price", "UTFFTUFUFTUU"),
+    ("NOT price > 80", "UFTTFUTUTFUU"),
+    ("price = '82'", "UFFFFUTUFFUU"),
+    ("price <> '82'", "UFFFFUFUFFUU"),
+    ("price < '9'", "UFFFFUFUFFUU"),
+    ("price BETWEEN 7 AND 82", "UTTTTUFUFFUU"),
+    ("price NOT BETWEEN 7 AND 82", "UFFFFUFUTTUU"),
+    ("NOT price BETWEEN 7 AND 82", "UFFFFUTUTTUU"),
+    ("price BETWEEN 82 AND 7", "UFFFFUFUFFUU"),
+    ("price NOT BETWEEN 82 AND 7", "UTTTTUFUTTUU"),
+    ("price IN (7)", "UFFTFUFUFFUU"),
+    ("price IN (7, 82, 'x')", "UTFTTUFUFFUU"),
+    ("price NOT IN (7, 82)", "UFTFFUTUTTUU"),
+    ("price IN (TRUE, '82')", "UFFFFUTUFFUU"),
+    ("price IS NULL", "TFFFFTFTFFTT"),
+    ("price IS NOT NULL", "FTTTTFTFTTFF"),
+    ("sym = 'IBM'", "UUUTTFUUUFFF"),
+    ("sym <> 'IBM'", "UUUFFTUUUTTT"),
+    ("sym < 'IBM'", "UUUFFFUUUFFF"),
+    ("sym >= 'IBM'", "UUUFFFUUUFFF"),
+    ("sym = ''", "UUUFFFUUUFFT"),
+    ("sym LIKE 'I%'", "UUUTTFUUUTFF"),
+    ("sym LIKE '%'", "UUUTTTUUUTTT"),
+    ("sym LIKE ''", "UUUFFFUUUFFT"),
+    ("sym LIKE '_'", "UUUFFFUUUFFF"),
+    ("sym LIKE '__'", "UUUFFTUUUFFF"),
+    ("sym LIKE '____'", "UUUFFFUUUFTF"),
+    ("sym LIKE '_nit'", "UUUFFFUUUFTF"),
+    ("sym LIKE '%M'", "UUUTTFUUUTFF"),
+    ("sym LIKE 'I_M'", "UUUTTFUUUTFF"),
+    ("sym LIKE '%P%'", "UUUFFTUUUFFF"),
+    ("sym LIKE 'ibm'", "UUUFFFUUUFFF"),
+    ("sym NOT LIKE 'I%'", "UUUFFTUUUFTT"),
+    ("NOT sym LIKE 'I%'", "UUUFFTUUUFTT"),
+    ("price LIKE '8%'", "UFFFFUTUFFUU"),
+    ("hot", "UUUUUUUTFUTU"),
+    ("NOT hot", "UUUUUUUFTUFU"),
+    ("hot = TRUE", "UUUUUUUTFUTU"),
+    ("hot <> TRUE", "UUUUUUUFTUFU"),
+    ("hot < TRUE", "UUUUUUUFFUFU"),
+    ("price", "UFFFFUFUFFUU"),
+    ("TRUE", "TTTTTTTTTTTT"),
+    ("false", "FFFFFFFFFFFF"),
+    ("NOT TRUE OR FALSE", "FFFFFFFFFFFF"),
+    ("price > 80 AND sym = 'IBM'", "UUFFTFFUFFFF"),
+    ("price > 80 OR sym = 'IBM'", "UTUTTUUUUTUU"),
+    ("price > 80 AND hot", "UUFFUUFUFUUU"),
+    ("price > 80 OR hot", "UTUUTUUTFTTU"),
+    ("NOT (price > 80 OR hot)", "UFUUFUUFTFFU"),
+    ("price IS NULL OR price > 80", "TTFFTTFTFTTT"),
+    ("a = b", "UUUUUUUUUUUT"),
+    ("a < b", "UUUUUUUUUUUF"),
+    ("a = price", "UUUUUUUUUUUU"),
+    ("a <> b OR TRUE", "TTTTTTTTTTTT"),
+    ("a = 1 AND b = 1 OR price = 7", "UUUTUUUUUUUT"),
+    ("a = 1 AND (b = 1 OR price = 7)", "UUUUUUUUUUUT"),
+    ("NOT NOT hot", "UUUUUUUTFUTU"),
+    ("1 = 1", "TTTTTTTTTTTT"),
+    ("'it''s' = 'it''s'", "TTTTTTTTTTTT"),
+    ("1 = 'x'", "FFFFFFFFFFFF"),
+    ("TRUE = TRUE", "TTTTTTTTTTTT"),
+    ("sym BETWEEN 'A' AND 'Z'", "UUUFFFUUUFFF"),
+    ("price BETWEEN a AND 100", "UUUUUUFUUUUU"),
+    ("sym IN ('IBM', 'HP')", "UUUTTTUUUFFF"),
+    ("price = -5", "UFFFFUFUTFUU"),
+];
+
+fn letter(value: Kleene) -> u8 {
+    match value {
+        Kleene::False => b'F',
+        Kleene::Unknown => b'U',
+        Kleene::True => b'T',
+    }
+}
+
+/// The truth of a filter on each of the events.
+fn letters(alloc: Global, written: &str) -> Result<Vec<u8>, Fail> {
+    let filter = parse(alloc, written.as_bytes())?;
+    let mut found = Vec::new(alloc);
+    for event in EVENTS.iter() {
+        let event = Event::from_text(alloc, event.as_bytes())?;
+        found.push(letter(truth(&filter, &event)))?;
+    }
+    Ok(found)
+}
+
+#[test]
+fn judges_events(rt: HostRuntime) -> Result<(), Fail> {
+    for (written, wanted) in TRUTHS.iter() {
+        let found = letters(rt.alloc(), written)?;
+        assert_eq!(rt; found.as_slice(), wanted.as_bytes(), "{written}");
+    }
+    Ok(())
+}
+
+#[test]
+fn refuses_with_the_first_fault(rt: HostRuntime) -> Result<(), Fail> {
+    let deep = [b'('; 65];
+    let long = [b' '; 4097];
+    let cases: [(&[u8], FilterFault); 22] = [
+        (b"price > 80 AND", FilterFault::Expected { at: 14 }),
+        (b"a = 1.5", FilterFault::BadToken { at: 4 }),
+        (b"a = 'x", FilterFault::BadToken { at: 4 }),
+        (b"a = '\xff'", FilterFault::BadToken { at: 4 }),
+        (b"9 IS NULL", FilterFault::Expected { at: 2 }),
+        (
+            b"a = 9223372036854775808",
+            FilterFault::NumberRange { at: 4 },
+        ),
+        (
+            b"a = -9223372036854775809",
+            FilterFault::NumberRange { at: 4 },
+        ),
+        (b"n 9223372036854775808", FilterFault::NumberRange { at: 2 }),
+        (b"9 NOT x", FilterFault::Expected { at: 6 }),
+        (b"9 NOT IN (1)", FilterFault::Expected { at: 2 }),
+        (b"", FilterFault::Expected { at: 0 }),
+        (b"a = -", FilterFault::BadToken { at: 4 }),
+        (b"'x'", FilterFault::Expected { at: 3 }),
+        (b"a b", FilterFault::Expected { at: 2 }),
+        (b"in", FilterFault::Expected { at: 0 }),
+        (b"(a", FilterFault::Expected { at: 2 }),
+        (b"a IN ()", FilterFault::Expected { at: 6 }),
+        (b"a IN (b)", FilterFault::Expected { at: 6 }),
+        (b"a LIKE b", FilterFault::Expected { at: 7 }),
+        (b"a BETWEEN 1 OR 2", FilterFault::Expected { at: 12 }),
+        (&deep, FilterFault::TooDeep { at: 64 }),
+        (&long, FilterFault::TooLong),
+    ];
+    for (written, fault) in cases {
+        assert!(rt; parse(rt.alloc(), written).is_err_and(|found| found == fault));
+    }
+    Ok(())
+}
+
+#[test]
+fn prints_and_reads_again(rt: HostRuntime) -> Result<(), Fail> {
+    let cases: [(&[u8], &[u8]); 5] = [
+        (
+            b"price > 80 and not sym in ('A','B')",
+            b"(price > 80 AND (NOT sym IN ('A', 'B')))",
+        ),
+        (b"sym NOT  IN ('A' , 'B')", b"sym NOT IN ('A', 'B')"),
+        (
+            b"a='it''s' or b between -1 and 2 or c is not null",
+            b"((a = 'it''s' OR b BETWEEN -1 AND 2) OR c IS NOT NULL)",
+        ),
+        (b"(((hot)))", b"hot"),
+        (b"x not like '%a_'", b"x NOT LIKE '%a_'"),
+    ];
+    for (written, printed) in cases {
+        let filter = parse(rt.alloc(), written)?;
+        let copied = filter.copy(rt.alloc())?;
+        let out = text(rt.alloc(), &copied)?;
+        assert_eq!(rt; out.as_slice(), printed);
+        let again = parse(rt.alloc(), out.as_slice())?;
+        assert_eq!(rt; text(rt.alloc(), &again)?.as_slice(), printed);
+    }
+    let filter = parse(rt.alloc(), b"hot")?;
+    assert!(rt; matches!(filter.root(), Node::Alone(_)));
+    Ok(())
+}

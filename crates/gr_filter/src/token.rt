@@ -1,0 +1,393 @@
+//! The tokens of a filter's text.
+
+ghost use Rattle.std.specs.Prelude.{◌≡◌, ◌+◌, ◌-◌, ◌≤◌, ◌<◌, ◌^◌, length, take, IfSome, Some, IfOk, OnOk, ◌++◌};
+ghost use Rattle.std.specs.Option.{ForSome};
+ghost use Rattle.std.specs.Str.{is_utf8};
+ghost use Rattle.gr_filter.specs.Token.{is_space, is_digit, begins_name, goes_on, front, capital, is_word, word_token, number_from, integer_token, number_token, text_len, quote_len, undoubled, behind_quote, text_token, sign_token, less_token, greater_token, minus_token, token_of, lexeme};
+
+use crate::fault::Memory;
+use crate::node::Sign;
+use gr_event::Text;
+
+/// What a piece of text is.
+#[derive(Clone, Copy)]
+pub enum Token {
+    /// The end of the text.
+    End,
+    Name,
+    Integer(i64),
+    /// A text with its quotes.
+    Text,
+    And,
+    Or,
+    Not,
+    Between,
+    In,
+    Like,
+    Is,
+    Null,
+    True,
+    False,
+    Sign(Sign),
+    Open,
+    Close,
+    Comma,
+    /// No token begins here.
+    Bad,
+    /// An integer of more than 64 bits.
+    Wide,
+}
+
+/// A token and the bytes `from..to` that it has.
+#[derive(Clone, Copy)]
+pub struct Lexeme {
+    pub token: Token,
+    pub from: usize,
+    pub to: usize,
+}
+
+/// The first token from a place on.
+pub(crate) fn next_token(bytes: &[u8], at: usize) -> Lexeme
+    requires few { length bytes.now ≤ 4096 }
+    requires inside { at ≤ length bytes.now }
+    ensures is { result ≡ lexeme bytes.now at }
+    ensures rises { at ≤ result.from }
+    ensures forward { result.from ≤ result.to }
+    ensures within { result.to ≤ length bytes.now }
+{
+    let from = at + spaces(&bytes[at..]);
+    let (token, len) = token_of(&bytes[from..]);
+    Lexeme {
+        token,
+        from,
+        to: from + len,
+    }
+}
+
+fn is_space(byte: u8) -> bool
+    ensures { result ≡ is_space byte }
+{
+    byte == b' ' || byte == b'\t' || byte == b'\r' || byte == b'\n'
+}
+
+fn is_digit(byte: u8) -> bool
+    ensures { result ≡ is_digit byte }
+{
+    byte >= b'0' && byte <= b'9'
+}
+
+fn begins_name(byte: u8) -> bool
+    ensures { result ≡ begins_name byte }
+{
+    (byte >= b'A' && byte <= b'Z') || (byte >= b'a' && byte <= b'z') || byte == b'_' || byte == b'$'
+}
+
+fn goes_on(byte: u8) -> bool
+    ensures { result ≡ goes_on byte }
+{
+    begins_name(byte) || is_digit(byte) || byte == b'.'
+}
+
+/// How many spaces the text begins with.
+fn spaces(text: &[u8]) -> usize
+    ensures is { result ≡ front is_space text.now }
+    ensures within { result ≤ length text.now }
+{
+    match text {
+        [first, rest @ ..] if is_space(*first) => 1 + spaces(rest),
+        _ => 0,
+    }
+}
+
+/// How many digits the text begins with.
+fn digits(text: &[u8]) -> usize
+    ensures is { result ≡ front is_digit text.now }
+    ensures within { result ≤ length text.now }
+{
+    match text {
+        [first, rest @ ..] if is_digit(*first) => 1 + digits(rest),
+        _ => 0,
+    }
+}
+
+/// How many bytes of a name the text begins with.
+fn name_bytes(text: &[u8]) -> usize
+    ensures is { result ≡ front goes_on text.now }
+    ensures within { result ≤ length text.now }
+{
+    match text {
+        [first, rest @ ..] if goes_on(*first) => 1 + name_bytes(rest),
+        _ => 0,
+    }
+}
+
+fn capital(byte: u8) -> u8
+    ensures { result ≡ capital byte }
+{
+    if byte >= b'a' && byte <= b'z' {
+        byte - 32
+    } else {
+        byte
+    }
+}
+
+/// Whether the word is the keyword, in any case.
+fn is_word(word: &[u8], keyword: &[u8]) -> bool
+    ensures { result ≡ is_word word.now keyword.now }
+{
+    match word {
+        [] => keyword.is_empty(),
+        [first, rest @ ..] => match keyword {
+            [] => false,
+            [letter, letters @ ..] => capital(*first) == *letter && is_word(rest, letters),
+        },
+    }
+}
+
+#[tactic(auto, unfolding(crate::specs::Token::word_token))]
+fn word_token(word: &[u8]) -> Token
+    ensures { result ≡ word_token word.now }
+{
+    if is_word(word, b"AND") {
+        Token::And
+    } else if is_word(word, b"OR") {
+        Token::Or
+    } else if is_word(word, b"NOT") {
+        Token::Not
+    } else if is_word(word, b"BETWEEN") {
+        Token::Between
+    } else if is_word(word, b"IN") {
+        Token::In
+    } else if is_word(word, b"LIKE") {
+        Token::Like
+    } else if is_word(word, b"IS") {
+        Token::Is
+    } else if is_word(word, b"NULL") {
+        Token::Null
+    } else if is_word(word, b"TRUE") {
+        Token::True
+    } else if is_word(word, b"FALSE") {
+        Token::False
+    } else {
+        Token::Name
+    }
+}
+
+/// The number that digits spell behind those that were read, or 2^64 - 1 where it is above 2^63.
+#[tactic(auto, using(crate::proofs::Numbers::passes))]
+fn number_from(read: u64, digits: &[u8]) -> u64
+    ensures exact { number_from read digits.now ≤ 2 ^ 63 → result ≡ number_from read digits.now }
+    ensures above { 2 ^ 63 < number_from read digits.now → 2 ^ 63 < result }
+{
+    match digits {
+        [] => read,
+        [first, rest @ ..] => {
+            if read >= 1_000_000_000_000_000_000 {
+                u64::MAX
+            } else {
+                number_from(10 * read + u64::from(first.saturating_sub(48)), rest)
+            }
+        }
+    }
+}
+
+fn integer_token(minus: bool, number: u64) -> Token
+    ensures { result ≡ integer_token minus number }
+{
+    if minus {
+        if number < 1 << 63 {
+            Token::Integer(-(number as i64))
+        } else if number == 1 << 63 {
+            Token::Integer(i64::MIN)
+        } else {
+            Token::Wide
+        }
+    } else if number < 1 << 63 {
+        Token::Integer(number as i64)
+    } else {
+        Token::Wide
+    }
+}
+
+/// The token of the digits that the text begins with, behind a minus or not.
+#[tactic(auto, unfolding(crate::specs::Token::number_token))]
+fn number_token(minus: bool, text: &[u8]) -> Token
+    ensures { result ≡ number_token minus text.now }
+{
+    let len = digits(text);
+    match &text[len..] {
+        [next, ..] if goes_on(*next) => Token::Bad,
+        _ => integer_token(minus, number_from(0, &text[..len])),
+    }
+}
+
+/// How many bytes a text has behind its first quote, with its last one.
+#[cycle(text_len)]
+fn text_len(text: &[u8]) -> Option<usize>
+    ensures is { result ≡ text_len text.now }
+    ensures some { ForSome result (λ n. 1 ≤ n) }
+    ensures within { ForSome result (λ n. n ≤ length text.now) }
+{
+    match text {
+        [] => None,
+        [first, rest @ ..] => {
+            if *first == b'\'' {
+                quote_len(rest)
+            } else {
+                match text_len(rest) {
+                    Some(len) => Some(len + 1),
+                    None => None,
+                }
+            }
+        }
+    }
+}
+
+/// The same where a quote was just read: another one stands inside, and anything else is behind the end.
+#[cycle(text_len)]
+fn quote_len(text: &[u8]) -> Option<usize>
+    ensures is { result ≡ quote_len text.now }
+    ensures some { ForSome result (λ n. 1 ≤ n) }
+    ensures within { ForSome result (λ n. n ≤ length text.now + 1) }
+{
+    match text {
+        [] => Some(1),
+        [first, rest @ ..] => {
+            if *first == b'\'' {
+                match text_len(rest) {
+                    Some(len) => Some(len + 2),
+                    None => None,
+                }
+            } else {
+                Some(1)
+            }
+        }
+    }
+}
+
+/// The text behind its first quote.
+fn text_token(text: &[u8]) -> (Token, usize)
+    ensures is { result ≡ text_token text.now (text_len text.now) }
+    ensures within { result.1 ≤ length text.now + 1 }
+{
+    match text_len(text) {
+        None => (Token::Bad, 1),
+        Some(len) => {
+            if is_text(&text[..len - 1]) {
+                (Token::Text, len + 1)
+            } else {
+                (Token::Bad, 1)
+            }
+        }
+    }
+}
+
+/// Whether bytes are UTF-8.
+fn is_text(bytes: &[u8]) -> bool
+    ensures { result ≡ is_utf8 bytes.now }
+{
+    std::str::from_utf8(bytes).is_ok()
+}
+
+fn less_token(text: &[u8]) -> (Token, usize)
+    ensures is { result ≡ less_token text.now }
+    ensures within { result.1 ≤ length text.now + 1 }
+{
+    match text {
+        [b'>', ..] => (Token::Sign(Sign::Differs), 2),
+        [b'=', ..] => (Token::Sign(Sign::AtMost), 2),
+        _ => (Token::Sign(Sign::Less), 1),
+    }
+}
+
+fn greater_token(text: &[u8]) -> (Token, usize)
+    ensures is { result ≡ greater_token text.now }
+    ensures within { result.1 ≤ length text.now + 1 }
+{
+    match text {
+        [b'=', ..] => (Token::Sign(Sign::AtLeast), 2),
+        _ => (Token::Sign(Sign::Greater), 1),
+    }
+}
+
+fn sign_token(first: u8, rest: &[u8]) -> (Token, usize)
+    ensures is { result ≡ sign_token first rest.now }
+    ensures within { result.1 ≤ length rest.now + 1 }
+{
+    match first {
+        b'(' => (Token::Open, 1),
+        b')' => (Token::Close, 1),
+        b',' => (Token::Comma, 1),
+        b'=' => (Token::Sign(Sign::Equal), 1),
+        b'<' => less_token(rest),
+        b'>' => greater_token(rest),
+        _ => (Token::Bad, 1),
+    }
+}
+
+fn minus_token(rest: &[u8]) -> (Token, usize)
+    requires { length rest.now ≤ 4096 }
+    ensures is { result ≡ minus_token rest.now }
+    ensures within { result.1 ≤ length rest.now + 1 }
+{
+    let len = digits(rest);
+    if len == 0 {
+        (Token::Bad, 1)
+    } else {
+        (number_token(true, rest), 1 + len)
+    }
+}
+
+/// The token at the front of a text that begins with no space, and how many bytes it has.
+#[tactic(auto, unfolding(crate::specs::Token::token_of))]
+fn token_of(text: &[u8]) -> (Token, usize)
+    requires { length text.now ≤ 4096 }
+    ensures is { result ≡ token_of text.now }
+    ensures within { result.1 ≤ length text.now }
+{
+    match text {
+        [] => (Token::End, 0),
+        [first, rest @ ..] => {
+            if begins_name(*first) {
+                let len = name_bytes(text);
+                (word_token(&text[..len]), len)
+            } else if is_digit(*first) {
+                (number_token(false, text), digits(text))
+            } else if *first == b'-' {
+                minus_token(rest)
+            } else if *first == b'\'' {
+                text_token(rest)
+            } else {
+                sign_token(*first, rest)
+            }
+        }
+    }
+}
+
+/// Puts what stands between quotes behind a text, each doubled quote once.
+#[cycle(put_undoubled)]
+pub(crate) fn put_undoubled(out: &mut Text, text: &[u8]) -> Result<(), Memory>
+    ensures { OnOk result (out.new ≡ out.old ++ undoubled text.now) }
+{
+    match text {
+        [] => Ok(()),
+        [first, rest @ ..] => {
+            out.push(*first)?;
+            if *first == b'\'' {
+                put_behind_quote(out, rest)
+            } else {
+                put_undoubled(out, rest)
+            }
+        }
+    }
+}
+
+#[cycle(put_undoubled)]
+fn put_behind_quote(out: &mut Text, text: &[u8]) -> Result<(), Memory>
+    ensures { OnOk result (out.new ≡ out.old ++ behind_quote text.now) }
+{
+    match text {
+        [] => Ok(()),
+        [_, rest @ ..] => put_undoubled(out, rest),
+    }
+}

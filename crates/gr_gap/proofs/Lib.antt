@@ -1,0 +1,5 @@
+pub mod Unrolled
+pub mod Words
+pub mod StickyLaws
+pub mod LooseValues
+pub mod OwnerSteps

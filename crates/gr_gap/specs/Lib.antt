@@ -1,0 +1,3 @@
+pub mod Contents
+pub mod Sticky
+pub mod Ownership

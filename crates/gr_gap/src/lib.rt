@@ -1,0 +1,16 @@
+//! Memory in the two forms that the crates above need: a list that is edited in one place at a time, with room kept ready;
+//! and a value with any number of owners. Only this crate has raw pointers.
+#![tactic(auto)]
+
+pub mod gap;
+mod loose;
+mod owner;
+pub mod shared;
+#[cfg(test)]
+mod tests;
+
+pub use gap::Gap;
+pub use shared::Shared;
+
+/// What a call answers where memory is refused.
+pub type Memory = std::alloc::AllocError;

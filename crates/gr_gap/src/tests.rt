@@ -1,0 +1,119 @@
+use crate::{Gap, Shared};
+use std::alloc::Global;
+use std::cell::Cell;
+use std::test::Fail;
+
+fn listed(alloc: Global, gap: &Gap<u64>) -> Result<Vec<u64>, Fail> {
+    let mut items = Vec::new(alloc);
+    for i in 0..gap.len() {
+        items.push(*gap.get(i))?;
+    }
+    Ok(items)
+}
+
+#[test]
+fn an_edit_at_each_place(rt: HostRuntime) -> Result<(), Fail> {
+    let mut gap = Gap::new(rt.alloc());
+    gap.reserve(3)?;
+    gap.insert(0, 7);
+    gap.insert(0, 8);
+    gap.insert(1, 9);
+    assert_eq!(rt; listed(rt.alloc(), &gap)?.as_slice(), [8, 9, 7].as_slice());
+    assert_eq!(rt; gap.replace(1, 5), 9);
+    assert_eq!(rt; gap.replace(1, 9), 5);
+    assert_eq!(rt; gap.remove(0), 8);
+    assert_eq!(rt; listed(rt.alloc(), &gap)?.as_slice(), [9, 7].as_slice());
+    Ok(())
+}
+
+// A plain `Vec` beside it, through a few hundred edits that jump about.
+#[test]
+fn the_same_as_a_vec(rt: HostRuntime) -> Result<(), Fail> {
+    let mut gap = Gap::new(rt.alloc());
+    let mut plain: Vec<u64> = Vec::new(rt.alloc());
+    let mut seed: u64 = 1;
+    for step in 0..400u64 {
+        seed = seed
+            .wrapping_mul(6_364_136_223_846_793_005)
+            .wrapping_add(1_442_695_040_888_963_407);
+        let len = gap.len();
+        assert_eq!(rt; plain.len(), len);
+        let place = (seed >> 33) as usize;
+        if seed % 5 < 3 || len == 0 {
+            let i = if len == 0 { 0 } else { place % len };
+            gap.reserve(1)?;
+            gap.insert(i, step);
+            plain.insert(i, step)?;
+        } else if seed % 5 == 3 {
+            let i = place % len;
+            assert_eq!(rt; gap.remove(i), plain.remove(i), "at step {step}");
+        } else {
+            let i = place % len;
+            assert_eq!(rt; gap.replace(i, step), plain[i], "at step {step}");
+            plain[i] = step;
+        }
+        assert_eq!(rt;
+            listed(rt.alloc(), &gap)?.as_slice(),
+            plain.as_slice(),
+            "at step {step}"
+        );
+    }
+    Ok(())
+}
+
+// A value that counts its drops.
+struct Counted<'a>(&'a Cell<u64>);
+
+impl Drop for Counted<'_> {
+    fn drop(self) {
+        let Counted(drops) = self;
+        drops.set(drops.get().wrapping_add(1));
+    }
+}
+
+#[test]
+fn each_value_is_dropped_once(rt: HostRuntime) -> Result<(), Fail> {
+    let drops = Cell::new(0);
+    {
+        let mut gap = Gap::new(rt.alloc());
+        gap.reserve(4)?;
+        gap.insert(0, Counted(&drops));
+        gap.insert(0, Counted(&drops));
+        gap.insert(1, Counted(&drops));
+        gap.insert(3, Counted(&drops));
+        assert_eq!(rt; drops.get(), 0);
+        drop(gap.remove(2));
+        assert_eq!(rt; drops.get(), 1);
+        drop(gap.replace(0, Counted(&drops)));
+        assert_eq!(rt; drops.get(), 2);
+        gap.reserve(10)?;
+        assert_eq!(rt; drops.get(), 2);
+    }
+    assert_eq!(rt; drops.get(), 5);
+    Ok(())
+}
+
+#[test]
+fn the_last_owner_drops_the_value(rt: HostRuntime) -> Result<(), Fail> {
+    let drops = Cell::new(0);
+    {
+        let first = Shared::new(rt.alloc(), (7u64, Counted(&drops)))?;
+        let second = first.share();
+        let third = second.share();
+        assert_eq!(rt; third.get().0, 7);
+        drop(first);
+        drop(third);
+        assert_eq!(rt; drops.get(), 0);
+        assert_eq!(rt; second.get().0, 7);
+        let mut kept = Vec::new(rt.alloc());
+        for _ in 0..100 {
+            kept.push(second.share())?;
+        }
+        drop(second);
+        assert_eq!(rt; drops.get(), 0);
+        assert_eq!(rt; kept.len(), 100);
+        assert_eq!(rt; kept[99].get().0, 7);
+    }
+    assert_eq!(rt; drops.get(), 1);
+    Ok(())
+}

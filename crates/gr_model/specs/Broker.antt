@@ -1,0 +1,421 @@
+-- One broker's calls for one publisher
+use Rattle.std.specs.Prelude.{ℕ, suc, ◌+◌, ◌-◌, ◌*◌, ◌%◌, ◌^◌, min, max, Bool, true, false, not, ◌&&◌, ◌||◌, nat_eq, nat_le, nat_lt, if◌then◌else◌, List, [], ◌∷◌, ◌++◌, map, filter, get_or, set, Some, None, flat_map}
+use Rattle.std.specs.List.{list_any, list_all}
+use Rattle.gr_event.specs.declared.event.Event.{Event}
+use Rattle.gr_know.specs.declared.values.K.{K}
+use Rattle.gr_know.specs.declared.values.K.TheVariants.{Q, S, D, F}
+use Rattle.gr_curio.specs.declared.values.Q3.{Q3}
+use Rattle.gr_curio.specs.declared.values.Q3.TheVariants.{N, C, A}
+use Rattle.gr_tick.specs.declared.run.Run.{Run}
+use Rattle.gr_frame.specs.declared.Body.TheVariants as body
+use Rattle.gr_frame.specs.declared.Head.{Head}
+use Rattle.gr_frame.specs.declared.Frame.{Frame}
+use Rattle.gr_frame.specs.Bytes.{known_run_size, wanted_run_size, cut_frames}
+use Rattle.gr_event.specs.Event.{event_size}
+use Rattle.gr_curio.specs.declared.asks.Moment.TheVariants.{Never, At}
+use Rattle.gr_model.specs.declared.report.Report.{Report}
+use Rattle.gr_model.specs.declared.report.Report.TheVariants as line
+use Rattle.gr_tick.specs.Runs.{points, zip_runs, first_bottom_from, top_of}
+use Rattle.gr_know.specs.Values.{Known, known_at, knowns, same_K, is_Q, is_D, join_K, clash_K}
+use Rattle.gr_curio.specs.Values.{Wanted, Asked, wanted_at, asked_at, wanteds, same_Q3, same_moment, is_C, is_A, is_outstanding}
+use Rattle.gr_model.specs.Net.{Net, keeps_horizon, is_host, pass, not_empty, numbers_from}
+
+-- the last tick
+abbrev pub max_tick : ℕ
+max_tick = 2 ^ 62
+
+-- what a broker keeps for one publisher
+pub record View : Type 0 where
+  pub know : Known
+  pub wants : List Wanted  -- one for each child, in order
+  pub asks : Asked
+  pub horizon : ℕ
+
+-- what a publisher's log holds
+pub record Log : Type 0 where
+  pub last : ℕ
+  pub settled : ℕ
+  pub cut : ℕ
+  pub events : List (ℕ × Event)  -- all that were logged, by rising tick
+  pub gate : ℕ  -- the place of the closed gate in the lane
+
+-- what a call leaves, tells and sends
+pub record Outcome : Type 0 where
+  pub view : View
+  pub log : Log
+  pub lines : List Report
+  pub frames : List Frame
+
+-- Frames
+
+-- who sends to whom, of which publisher
+abbrev pub head : ℕ → ℕ → ℕ → Head
+head from to p = record { from = from; to = to; publisher = p }
+
+-- what is known, wanted or to be expected as frames; nothing makes no frame
+abbrev pub know_frames : ℕ → ℕ → ℕ → Known → List Frame
+know_frames from to p runs = map (λ part. record { head = head from to p; body = body.Knowledge part }) (cut_frames known_run_size runs)
+
+abbrev pub want_frames : ℕ → ℕ → ℕ → Wanted → List Frame
+want_frames from to p runs = map (λ part. record { head = head from to p; body = body.Curiosity part }) (cut_frames wanted_run_size runs)
+
+abbrev pub expect_frame : ℕ → ℕ → ℕ → ℕ → Frame
+expect_frame from to p tick = record { head = head from to p; body = body.Expect tick }
+
+-- Consolidation
+
+-- acknowledged by each child
+abbrev pub all_A : List Wanted → ℕ → Bool
+all_A ws t = list_all (λ w. is_A (wanted_at w t)) ws
+
+-- asked by some child
+abbrev pub any_C : List Wanted → ℕ → Bool
+any_C ws t = list_any (λ w. is_C (wanted_at w t)) ws
+
+-- where some child's curiosity may change
+abbrev pub all_points : List Wanted → List ℕ
+all_points ws = flat_map points ws
+
+-- the tick is consolidated
+abbrev pub is_settled : Bool → ℕ → List Wanted → ℕ → Bool
+is_settled keeps h ws t = nat_le 1 t && (not keeps || nat_le t h) && all_A ws t
+
+-- A on the consolidated ticks
+unfoldable pub consolidated : Bool → ℕ → List Wanted → Wanted
+consolidated keeps h ws = wanteds (λ t. if is_settled keeps h ws t then A else N) (1 ∷ (suc h ∷ all_points ws))
+
+-- F on the consolidated ticks
+unfoldable pub finished : Known → Wanted → Known
+finished know done = zip_runs Q N Q same_K (λ k c. if is_A c then F else k) know done
+
+-- Forgetting
+
+-- how many ticks have an event
+abbrev pub data_count : Known → ℕ
+data_count [] = 0
+data_count (r ∷ rs) = (if is_D r.value then suc r.last - r.first else 0) + data_count rs
+
+-- the run without its first n ticks, on top of the rest
+abbrev pub without_front : ℕ → Run K → Known → Known
+without_front n r rs = if nat_lt r.last (r.first + n) then rs else record { first = r.first + n; last = r.last; value = r.value } ∷ rs
+
+-- the least n data ticks up to a tick lowered
+unfoldable pub lower_data : ℕ → ℕ → Known → Known
+lower_data n upto [] = []
+lower_data n upto (r ∷ rs) =
+    elim (is_D r.value && nat_le r.first upto) [
+      | true ↦ let k = min n (suc (min r.last upto) - r.first) in without_front k r (lower_data (n - k) upto rs)
+      | false ↦ r ∷ lower_data n upto rs
+    ]
+
+-- with at most limit events: the least ones up to a tick become unknown again
+unfoldable pub forgotten : ℕ → ℕ → Known → Known
+forgotten limit upto know = lower_data (data_count know - limit) upto know
+
+-- by the rule of forgetting, which does not bind the host
+unfoldable pub trimmed : Net → ℕ → ℕ → View → View
+trimmed net p b v =
+    elim (is_host net p b) [
+      | true ↦ v
+      | false ↦ record { know = forgotten net.cache (if keeps_horizon net p b then v.horizon else max_tick) v.know; wants = v.wants; asks = v.asks; horizon = v.horizon }
+    ]
+
+-- The horizon
+
+-- a kept horizon moves to just before the next unknown tick
+unfoldable pub horizon_after : Bool → ℕ → Known → ℕ
+horizon_after keeps h know = if keeps then first_bottom_from know (suc h) - 1 else h
+
+-- the data ticks of a run from lo + 1 to hi
+abbrev pub data_of_run : ℕ → ℕ → Run K → List (ℕ × Event)
+data_of_run lo hi r =
+    elim r.value [
+      | D e ↦ map (λ t. (t, e)) (numbers_from (max (suc lo) r.first) (suc (min r.last hi) - max (suc lo) r.first))
+      | _ ↦ []
+    ]
+
+-- the data ticks from lo + 1 to hi
+unfoldable pub data_ticks : ℕ → ℕ → Known → List (ℕ × Event)
+data_ticks lo hi know = flat_map (data_of_run lo hi) know
+
+-- what a subscriber gets at a tick
+abbrev pub got_line : ℕ → ℕ → ℕ × Event → Report
+got_line s p x = line.Got s p x.0 x.1
+
+-- what one subscriber here gets where the horizon moves
+unfoldable pub told : Net → ℕ → ℕ → ℕ → List (ℕ × Event) → ℕ → List Report
+told net p h h' items s = if nat_eq h h' then [] else map (got_line s p) (filter (λ x. net.wants s x.1) items) ++ line.Horizon s p h' ∷ []
+
+-- Forwarding
+
+-- the new ticks: those that nothing was known of
+unfoldable pub new_ticks : Known → Known → Known
+new_ticks know piece = zip_runs Q Q Q same_K (λ k x. if is_Q k then x else Q) know piece
+
+-- what a child is sent of them
+unfoldable pub forward : Net → ℕ → ℕ → Wanted → Known → Known
+forward net p c w new = zip_runs Q N Q same_K (λ v a. if is_A a then Q else pass net p c v) new w
+
+-- what the child's curiosity is then
+unfoldable pub quenched : Wanted → Known → Wanted
+quenched w sent = zip_runs N Q N same_Q3 (λ a v. if is_C a && not (is_Q v) then N else a) w sent
+
+-- the new ticks as frames to each child
+abbrev pub forward_frames : Net → ℕ → ℕ → Known → List ℕ → List Wanted → List Frame
+forward_frames net p b new [] ws = []
+forward_frames net p b new (c ∷ cs) [] = []
+forward_frames net p b new (c ∷ cs) (w ∷ ws) = know_frames b c p (forward net p c w new) ++ forward_frames net p b new cs ws
+
+-- each child's curiosity after that
+abbrev pub forward_wants : Net → ℕ → Known → List ℕ → List Wanted → List Wanted
+forward_wants net p new [] ws = []
+forward_wants net p new (c ∷ cs) [] = []
+forward_wants net p new (c ∷ cs) (w ∷ ws) = quenched w (forward net p c w new) ∷ forward_wants net p new cs ws
+
+-- New ticks come to a broker
+unfoldable pub learn : Net → ℕ → ℕ → Known → View → Log → Outcome
+learn net p b piece v log =
+    let keeps = keeps_horizon net p b in
+    let new = new_ticks v.know piece in
+    let know = zip_runs Q Q Q same_K join_K v.know piece in
+    let h = horizon_after keeps v.horizon know in
+    let items = data_ticks v.horizon h know in
+    let ws = forward_wants net p new (net.children p b) v.wants in
+    record {
+      view = trimmed net p b (record { know = finished know (consolidated keeps h ws); wants = ws; asks = v.asks; horizon = h });
+      log = log;
+      lines = flat_map (told net p v.horizon h items) (net.subscribers_at b);
+      frames = forward_frames net p b new (net.children p b) v.wants;
+    }
+
+-- Asking
+
+-- the ticks of a wanted set that are asked
+unfoldable pub due : ℕ → ℕ → Known → Asked → (ℕ → Bool) → List ℕ → Wanted
+due now retry know asks wanted ps = wanteds (λ t. if wanted t && is_Q (known_at know t) && not (is_outstanding (asked_at asks t) now retry) then C else N) (ps ++ points know ++ points asks)
+
+-- the asked ticks get the moment of their ask
+unfoldable pub noted : ℕ → Asked → Wanted → Asked
+noted now asks asked = zip_runs Never N Never same_moment (λ a w. if is_C w then At now else a) asks asked
+
+-- what goes upstream: the consolidated ticks as acknowledged, and what is asked
+unfoldable pub upward : Wanted → Wanted → Wanted
+upward done asked = zip_runs N N N same_Q3 (λ c a. if is_A c then A else a) done asked
+
+-- to the next broker towards the host
+abbrev pub up_frames : Net → ℕ → ℕ → Wanted → List Frame
+up_frames net p b runs = elim (net.up p b) [ Some u ↦ want_frames b u p runs | None ↦ [] ]
+
+-- Curiosity comes from the child of this place in the order of children
+
+-- an acknowledgement stays
+unfoldable pub acknowledged : Wanted → Wanted → Wanted
+acknowledged w piece = zip_runs N N N same_Q3 (λ a x. if is_A x then A else a) w piece
+
+-- what one asked tick is answered: final where it was acknowledged, else what is known as it passes the edge
+abbrev pub answer : Net → ℕ → ℕ → K → Q3 → Q3 → K
+answer net p c k a C = if is_A a then F else pass net p c k
+answer net p c k a _ = Q
+
+-- the answers to c, whose curiosity is w
+unfoldable pub answers : Net → ℕ → ℕ → Known → Wanted → Wanted → Known
+answers net p c know w piece = knowns (λ t. answer net p c (known_at know t) (wanted_at w t) (wanted_at piece t)) (points know ++ points w ++ points piece)
+
+-- what is kept of a child's ask: it stays asked where nothing is known yet, and is done where it was answered
+abbrev pub curious : K → Q3 → Q3 → Q3
+curious k a C = if is_A a then A else (if is_Q k then C else N)
+curious k a _ = a
+
+-- the child's curiosity after its asks
+unfoldable pub stored : Known → Wanted → Wanted → Wanted
+stored know w piece = wanteds (λ t. curious (known_at know t) (wanted_at w t) (wanted_at piece t)) (points know ++ points w ++ points piece)
+
+-- asked and acknowledged ticks come from a child: they are answered from what is known, stored, and asked upstream where unknown
+unfoldable pub curiosity : Net → ℕ → ℕ → ℕ → ℕ → ℕ → Wanted → View → Log → Outcome
+curiosity net p b now c i piece v log =
+    let keeps = keeps_horizon net p b in
+    let w = acknowledged (get_or v.wants i []) piece in
+    let reply = answers net p c v.know w piece in
+    let ws = set v.wants i (stored v.know w piece) in
+    let know = finished v.know (consolidated keeps v.horizon ws) in
+    let asked : Wanted = elim (is_host net p b) [
+      | true ↦ []
+      | false ↦ due now net.retry know v.asks (λ t. is_C (wanted_at piece t) && is_Q (known_at reply t)) (points piece ++ points reply)
+    ] in
+    record {
+      view = trimmed net p b (record { know = know; wants = ws; asks = noted now v.asks asked; horizon = v.horizon });
+      log = log;
+      lines = [];
+      frames = know_frames b c p reply ++ up_frames net p b asked;
+    }
+
+-- A broker that is not the host asks for a wanted set, and tells what is consolidated
+unfoldable pub asking : Net → ℕ → ℕ → ℕ → (ℕ → Bool) → List ℕ → View → Log → Outcome
+asking net p b now wanted ps v log =
+    let done = consolidated (keeps_horizon net p b) v.horizon v.wants in
+    let asked = due now net.retry v.know v.asks wanted ps in
+    record {
+      view = trimmed net p b (record { know = v.know; wants = v.wants; asks = noted now v.asks asked; horizon = v.horizon });
+      log = log;
+      lines = [];
+      frames = up_frames net p b (upward done asked);
+    }
+
+-- a woken broker wants what a child asked, what is unknown and idle, and what is unknown for a gap's time below something known
+abbrev pub wanted_at_wake : Net → Bool → ℕ → View → ℕ → Bool
+wanted_at_wake net keeps now v t =
+    any_C v.wants t || (keeps && nat_lt v.horizon t && (nat_le (t + net.idle) now || (nat_le (t + net.gap) now && nat_lt t (top_of v.know))))
+
+-- a broker below the host is woken
+unfoldable pub wake_below : Net → ℕ → ℕ → ℕ → View → Log → Outcome
+wake_below net p b now v log =
+    asking net p b now (wanted_at_wake net (keeps_horizon net p b) now v)
+    (all_points v.wants ++ (suc v.horizon ∷ (suc (now - net.idle) ∷ (suc (now - net.gap) ∷ (top_of v.know ∷ []))))) v log
+
+-- A child has an A at each tick of 1 to upto
+abbrev pub covers : Wanted → ℕ → Bool
+covers w upto = list_all (λ t. is_A (wanted_at w t)) (filter (λ t. nat_le 1 t && nat_le t upto) (1 ∷ points w))
+
+-- the tick to each child that has not acknowledged all up to it
+abbrev pub expect_frames : ℕ → ℕ → ℕ → List ℕ → List Wanted → List Frame
+expect_frames p b tick [] ws = []
+expect_frames p b tick (c ∷ cs) [] = []
+expect_frames p b tick (c ∷ cs) (w ∷ ws) = (if covers w tick then [] else expect_frame b c p tick ∷ []) ++ expect_frames p b tick cs ws
+
+-- Expect comes from upstream
+unfoldable pub expect : Net → ℕ → ℕ → ℕ → ℕ → View → Log → Outcome
+expect net p b now tick v log =
+    let o = asking net p b now (λ t. any_C v.wants t || (keeps_horizon net p b && nat_lt v.horizon t && nat_le t tick)) (all_points v.wants ++ (suc v.horizon ∷ (suc tick ∷ []))) v log in
+    record { view = o.view; log = o.log; lines = o.lines; frames = o.frames ++ expect_frames p b tick (net.children p b) v.wants }
+
+-- The publisher
+
+-- a log in which nothing was logged
+abbrev pub empty_log : Log
+empty_log = record { last = 0; settled = 0; cut = 0; events = []; gate = 5 }
+
+-- the log with a further event; with a mark; with a cut
+abbrev pub with_event : Log → ℕ → Event → Log
+with_event log tick e = record { last = suc log.last; settled = tick; cut = log.cut; events = log.events ++ (tick, e) ∷ []; gate = log.gate + 22 + event_size e }
+
+abbrev pub with_mark : Log → ℕ → Log
+with_mark log tick = record { last = log.last; settled = tick; cut = log.cut; events = log.events; gate = log.gate + 10 }
+
+abbrev pub with_cut : Log → ℕ → Log
+with_cut log tick = record { last = log.last; settled = log.settled; cut = tick; events = log.events; gate = log.gate + 10 }
+
+-- the event at a tick, else silence
+abbrev pub event_at : List (ℕ × Event) → ℕ → K
+event_at [] t = S
+event_at (x ∷ xs) t = if nat_eq x.0 t then D x.1 else event_at xs t
+
+-- what a log says of a tick
+abbrev pub log_at : Log → ℕ → K
+log_at log t = if nat_le 1 t && nat_le t log.settled then (if nat_le t log.cut then F else event_at log.events t) else Q
+
+-- where the events may change the value
+abbrev pub event_points : List (ℕ × Event) → List ℕ
+event_points [] = []
+event_points (x ∷ xs) = x.0 ∷ (suc x.0 ∷ event_points xs)
+
+-- the log as knowledge
+unfoldable pub log_know : Log → Known
+log_know log = knowns (log_at log) (1 ∷ (suc log.cut ∷ (suc log.settled ∷ event_points log.events)))
+
+-- silence on a range, on top of the rest
+unfoldable pub silence : ℕ → ℕ → Known → Known
+silence first last rest = if nat_le first last then record { first = first; last = last; value = S } ∷ rest else rest
+
+-- a publish: said already, out of turn, past the last tick, or logged at its tick and then learned with the silence before it
+unfoldable pub publish : Net → ℕ → ℕ → ℕ → ℕ → Event → View → Log → Outcome
+publish net p b now number e v log =
+    let tick = max (suc log.settled) now in
+    elim (nat_le number log.last) [
+      | true ↦ record { view = v; log = log; lines = line.Already p number ∷ []; frames = [] }
+      | false ↦ elim (nat_lt (suc log.last) number) [
+        | true ↦ record { view = v; log = log; lines = line.Gap p number (suc log.last) ∷ []; frames = [] }
+        | false ↦ elim (nat_lt max_tick tick) [
+          | true ↦ record { view = v; log = log; lines = line.Exhausted p number ∷ []; frames = [] }
+          | false ↦
+              let o = learn net p b (silence (suc log.settled) (tick - 1) (record { first = tick; last = tick; value = D e } ∷ [])) v (with_event log tick e) in
+              record { view = o.view; log = o.log; lines = line.Logged p number tick ∷ o.lines; frames = o.frames }
+        ]
+      ]
+    ]
+
+-- the greatest tick up to which all is consolidated
+unfoldable pub done_upto : Wanted → ℕ → ℕ
+done_upto done upto = min upto (first_bottom_from done 1 - 1)
+
+-- a Cut where more is consolidated than was cut
+unfoldable pub cutting : Net → ℕ → ℕ → View → Log → Log
+cutting net p b v log =
+    let a = done_upto (consolidated (keeps_horizon net p b) v.horizon v.wants) log.settled in
+    if nat_lt log.cut a then with_cut log a else log
+
+-- a log that was silent for long is marked and its silence learned
+unfoldable pub marking : Net → ℕ → ℕ → ℕ → View → Log → Outcome
+marking net p b now v log =
+    elim (nat_le (log.settled + net.quiet) now) [
+      | true ↦
+          let o = learn net p b (silence (suc log.settled) now []) v (with_mark log now) in
+          record { view = o.view; log = o.log; lines = o.lines; frames = o.frames }
+      | false ↦ record { view = v; log = log; lines = []; frames = [] }
+    ]
+
+-- the host is woken: it marks, cuts, and tells its children what to expect
+unfoldable pub wake_host : Net → ℕ → ℕ → ℕ → View → Log → Outcome
+wake_host net p b now v log =
+    let o = marking net p b now v log in
+    let cut = cutting net p b o.view o.log in
+    record {
+      view = o.view;
+      log = cut;
+      lines = (if nat_lt log.settled o.log.settled then line.Mark p now ∷ [] else [])
+          ++ (if nat_lt o.log.cut cut.cut then line.Cut p cut.cut ∷ [] else [])
+          ++ o.lines;
+      frames = o.frames ++ (if nat_lt 0 cut.settled then expect_frames p b cut.settled (net.children p b) o.view.wants else []);
+    }
+
+-- a broker is woken
+unfoldable pub wake : Net → ℕ → ℕ → ℕ → View → Log → Outcome
+wake net p b now v log = elim (is_host net p b) [ true ↦ wake_host net p b now v log | false ↦ wake_below net p b now v log ]
+
+-- Start, and start again
+
+-- what a broker knows when it starts: at the host, what the log says
+unfoldable pub started : Net → ℕ → ℕ → Log → View
+started net p b log = record {
+  know = if is_host net p b then log_know log else [];
+  wants = map (λ _. []) (net.children p b);
+  asks = [];
+  horizon = 0;
+}
+
+-- a stop at a disk call, with the picked image: the opened log has the record
+abbrev pub is_kept : ℕ → ℕ → ℕ → Bool
+is_kept gate call pick = nat_le 3 call && (nat_eq pick 1 || (nat_lt 1 pick && nat_eq ((gate * pick) % 256) 1))
+
+-- A frame comes
+
+-- some tick clashes
+unfoldable pub clashes : Known → Known → Bool
+clashes know piece = not_empty (zip_runs Q Q N same_Q3 (λ k x. if clash_K k x then A else N) know piece)
+
+-- the place of a number in a list
+abbrev pub place_of : ℕ → List ℕ → ℕ
+place_of c [] = 0
+place_of c (x ∷ xs) = if nat_eq x c then 0 else suc (place_of c xs)
+
+-- a frame comes; one that clashes is dropped
+unfoldable pub receive : Net → ℕ → Frame → View → Log → Outcome
+receive net now f v log =
+    elim f.body [
+      | body.Knowledge runs ↦
+          elim (clashes v.know runs) [
+            | true ↦ record { view = v; log = log; lines = []; frames = [] }
+            | false ↦ learn net f.head.publisher f.head.to runs v log
+          ]
+      | body.Curiosity runs ↦ curiosity net f.head.publisher f.head.to now f.head.from (place_of f.head.from (net.children f.head.publisher f.head.to)) runs v log
+      | body.Expect tick ↦ expect net f.head.publisher f.head.to now tick v log
+    ]

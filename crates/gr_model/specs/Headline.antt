@@ -1,0 +1,381 @@
+-- What the report of a schedule says, apart from any machine: the record, the gots, the horizons, the cuts
+use Rattle.std.specs.Prelude.{◌≡◌, ℕ, suc, ◌+◌, ◌≤◌, ◌<◌, max, Bool, true, false, not, ◌&&◌, ◌||◌, nat_eq, nat_le, nat_lt, if◌then◌else◌, List, [], ◌∷◌, ◌++◌, length, map, filter, get_or, set, replicate, Option, Some, None, flat_map, Contains, IsTrue}
+use Rattle.std.specs.List.{list_any}
+use Rattle.gr_event.specs.declared.event.Event.{Event}
+use Rattle.gr_sched.specs.declared.step.Step.TheVariants as step
+use Rattle.gr_sched.specs.declared.step.Line.{Line}
+use Rattle.gr_model.specs.declared.report.Report.{Report}
+use Rattle.gr_model.specs.declared.report.Report.TheVariants as line
+use Rattle.gr_tick.specs.Runs.{is_in}
+use Rattle.gr_know.specs.Values.{Known}
+use Rattle.gr_model.specs.Net.{Net, keeps_horizon, is_host, not_empty, numbers}
+use Rattle.gr_model.specs.Broker.{max_tick}
+
+-- what was recorded of one publisher: the last number, the tick up to which all is settled, and the events by tick
+pub record Recorded : Type 0 where
+  pub last : ℕ
+  pub settled : ℕ
+  pub events : List (ℕ × Event)
+
+abbrev pub nothing_recorded : Recorded
+nothing_recorded = record { last = 0; settled = 0; events = [] }
+
+-- what the steps and lines so far say
+pub record History : Type 0 where
+  pub clock : ℕ
+  pub most : ℕ
+  pub records : List Recorded
+  pub lines : List Report
+  pub heard : List (List (List Known))  -- broker by broker, publisher by publisher: the pieces heard since the last crash
+  pub bare : List Bool  -- publisher by publisher: nothing was logged or marked since its host started
+
+-- the record of a publisher
+abbrev pub record_of : History → ℕ → Recorded
+record_of h p = get_or h.records p nothing_recorded
+
+-- The record
+
+-- the tick that the next publish is given
+abbrev pub tick_of : ℕ → Recorded → ℕ
+tick_of clock r = max (suc r.settled) clock
+
+-- the publish is of the next number and its tick does not pass the last one
+abbrev pub is_next : ℕ → Recorded → ℕ → Bool
+is_next clock r number = nat_eq number (suc r.last) && nat_le (tick_of clock r) max_tick
+
+-- the record with a further event
+abbrev pub recording : ℕ → Recorded → Event → Recorded
+recording clock r e = record { last = suc r.last; settled = tick_of clock r; events = r.events ++ (tick_of clock r, e) ∷ [] }
+
+-- the record settled up to a tick
+abbrev pub settling : ℕ → Recorded → Recorded
+settling tick r = record { last = r.last; settled = tick; events = r.events }
+
+-- a stopped publish was kept
+abbrev pub is_kept_line : Report → Bool
+is_kept_line (line.Kept p n t) = true
+is_kept_line _ = false
+
+-- some line says that the stopped publish was kept
+abbrev pub says_kept : List Report → Bool
+says_kept ls = list_any is_kept_line ls
+
+-- the greatest of the numbers, or 0
+abbrev pub greatest : List ℕ → ℕ
+greatest [] = 0
+greatest (n ∷ ns) = max n (greatest ns)
+
+-- the moment of a sweep
+abbrev pub sweep_at : Net → History → ℕ
+sweep_at net h = max h.most (greatest (map (λ r. r.settled) h.records)) + net.gap + net.idle + net.retry + net.quiet + 1
+
+-- a sweep is not refused
+abbrev pub is_swept : Net → History → Bool
+is_swept net h = nat_le (sweep_at net h) max_tick
+
+-- no subscriber is there
+abbrev pub may_crash : Net → ℕ → Bool
+may_crash net b = not (not_empty (net.subscribers_at b))
+
+-- marked where the log was silent for long
+abbrev pub marked : Net → ℕ → Recorded → Recorded
+marked net clock r = if nat_le (r.settled + net.quiet) clock then settling clock r else r
+
+-- the records of the publishers from p on, each changed
+abbrev pub each_record : (ℕ → Recorded → Recorded) → ℕ → List Recorded → List Recorded
+each_record f p [] = []
+each_record f p (r ∷ rs) = f p r ∷ each_record f (suc p) rs
+
+-- the records after a step and its lines
+unfoldable pub records_after : Net → History → Line → List Report → List Recorded
+records_after net h l ls =
+    elim l.step [
+      | step.Publish p number stop e ↦
+          let r = record_of h p in
+          if is_next h.clock r number && elim stop [ None ↦ true | Some s ↦ says_kept ls ] then set h.records p (recording h.clock r e) else h.records
+      | step.Wake b ↦ each_record (λ p r. if is_host net p b then marked net h.clock r else r) 0 h.records
+      | step.Sweep ↦ if is_swept net h then map (settling (sweep_at net h)) h.records else h.records
+      | _ ↦ h.records
+    ]
+
+-- the clock after a step; the greatest moment so far
+unfoldable pub clock_after : Net → History → Line → ℕ
+clock_after net h l =
+    elim l.step [
+      | step.Clock now ↦ now
+      | step.Sweep ↦ if is_swept net h then sweep_at net h else h.clock
+      | _ ↦ h.clock
+    ]
+
+unfoldable pub most_after : Net → History → Line → ℕ
+most_after net h l =
+    elim l.step [
+      | step.Clock now ↦ max now h.most
+      | step.Sweep ↦ if is_swept net h then max (sweep_at net h) h.most else h.most
+      | _ ↦ h.most
+    ]
+
+-- What was heard
+
+-- the Knowledge of a sent line: to, publisher, runs
+abbrev pub know_of_line : Report → Option (ℕ × ℕ × Known)
+know_of_line (line.SentKnow n from to p runs) = Some (to, p, runs)
+know_of_line _ = None
+
+-- the number of a sent line's frame; 0 for other lines
+abbrev pub sent_number : Report → ℕ
+sent_number (line.SentKnow n from to p runs) = n
+sent_number (line.SentWant n from to p runs) = n
+sent_number (line.SentExpect n from to p tick) = n
+sent_number _ = 0
+
+-- the line is of a frame that was sent
+abbrev pub is_sent : Report → Bool
+is_sent r = nat_lt 0 (sent_number r)
+
+-- how many frames were sent
+abbrev pub sent_count : List Report → ℕ
+sent_count ls = length (filter is_sent ls)
+
+-- the line of frame k
+abbrev pub line_of_frame : ℕ → List Report → Option Report
+line_of_frame k [] = None
+line_of_frame k (l ∷ ls) = if nat_lt 0 k && nat_eq (sent_number l) k then Some l else line_of_frame k ls
+
+-- one more piece heard
+abbrev pub hearing : List (List (List Known)) → Option (ℕ × ℕ × Known) → List (List (List Known))
+hearing heard None = heard
+hearing heard (Some x) = set heard x.0 (set (get_or heard x.0 []) x.1 (get_or (get_or heard x.0 []) x.1 [] ++ x.2 ∷ []))
+
+-- what all sent lines carry heard
+abbrev pub hearing_all : List (List (List Known)) → List Report → List (List (List Known))
+hearing_all heard [] = heard
+hearing_all heard (l ∷ ls) = hearing_all (hearing heard (know_of_line l)) ls
+
+-- a broker that starts again has heard nothing
+abbrev pub deaf : Net → List (List (List Known)) → ℕ → List (List (List Known))
+deaf net heard b = set heard b (replicate net.publishers [])
+
+-- the step crashes this broker
+abbrev pub crashed_by : Net → History → Line → Option ℕ
+crashed_by net h l =
+    elim l.step [
+      | step.Crash b ↦ if may_crash net b then Some b else None
+      | step.Publish p number stop e ↦ elim stop [ None ↦ None | Some s ↦ if may_crash net (net.host p) && is_next h.clock (record_of h p) number then Some (net.host p) else None ]
+      | _ ↦ None
+    ]
+
+-- what was heard after a step: a delivered frame, or all that a sweep sent
+unfoldable pub heard_after : Net → History → Line → List Report → List (List (List Known))
+heard_after net h l ls =
+    elim l.step [
+      | step.Deliver k ↦ elim (line_of_frame k h.lines) [ None ↦ h.heard | Some s ↦ hearing h.heard (know_of_line s) ]
+      | step.Sweep ↦ if is_swept net h then hearing_all h.heard ls else h.heard
+      | _ ↦ elim (crashed_by net h l) [ None ↦ h.heard | Some b ↦ deaf net h.heard b ]
+    ]
+
+-- the line says that something was logged or marked for the publisher
+abbrev pub is_record_of : ℕ → Report → Bool
+is_record_of p (line.Logged q n t) = nat_eq q p
+is_record_of p (line.Mark q t) = nat_eq q p
+is_record_of p _ = false
+
+-- the flags of the publishers from p on, each changed
+abbrev pub each_bare : (ℕ → Bool → Bool) → ℕ → List Bool → List Bool
+each_bare f p [] = []
+each_bare f p (b ∷ bs) = f p b ∷ each_bare f (suc p) bs
+
+-- which hosts have logged and marked nothing since their start
+unfoldable pub bare_after : Net → History → Line → List Report → List Bool
+bare_after net h l ls =
+    elim (crashed_by net h l) [
+      | Some b ↦ each_bare (λ p x. is_host net p b || x) 0 h.bare
+      | None ↦ each_bare (λ p x. x && not (list_any (is_record_of p) ls)) 0 h.bare
+    ]
+
+-- the history after one more step and its lines
+unfoldable pub after : Net → History → Line → List Report → History
+after net h l ls = record {
+  clock = clock_after net h l;
+  most = most_after net h l;
+  records = records_after net h l ls;
+  lines = h.lines ++ ls;
+  heard = heard_after net h l ls;
+  bare = bare_after net h l ls;
+}
+
+-- before the first step
+unfoldable pub begin : Net → History
+begin net = record {
+  clock = 0;
+  most = 0;
+  records = replicate net.publishers nothing_recorded;
+  lines = [];
+  heard = replicate net.brokers (replicate net.publishers []);
+  bare = replicate net.publishers true;
+}
+
+-- a tick was heard in some piece
+abbrev pub is_heard : List Known → ℕ → Bool
+is_heard pieces t = list_any (λ runs. list_any (is_in t) runs) pieces
+
+-- n is a broker's doubt horizon: below the host all up to n was heard since the last crash and n + 1 was not; at the host it is where the log is settled
+pub record IsDoubt (net : Net) (h : History) (b p n : ℕ) : Type 0 where
+  pub at_host : IsTrue (is_host net p b) → n ≡ (if get_or h.bare p true && may_crash net b then 0 else (record_of h p).settled)
+  pub below : is_host net p b ≡ false → (t : ℕ) → 1 ≤ t → t ≤ n → IsTrue (is_heard (get_or (get_or h.heard b []) p []) t)
+  pub ends : is_host net p b ≡ false → is_heard (get_or (get_or h.heard b []) p []) (suc n) ≡ false
+
+-- What was told
+
+-- the tick of the last cut line of p, or c
+abbrev pub last_cut : ℕ → ℕ → List Report → ℕ
+last_cut p c [] = c
+last_cut p c (line.Cut q t ∷ ls) = last_cut p (if nat_eq q p then t else c) ls
+last_cut p c (_ ∷ ls) = last_cut p c ls
+
+-- the tick of the last horizon line of s and p, or n
+abbrev pub last_horizon : ℕ → ℕ → ℕ → List Report → ℕ
+last_horizon s p n [] = n
+last_horizon s p n (line.Horizon r q t ∷ ls) = last_horizon s p (if nat_eq r s && nat_eq q p then t else n) ls
+last_horizon s p n (_ ∷ ls) = last_horizon s p n ls
+
+-- the horizon lines of s and p rise strictly, from above n on
+abbrev pub HorizonsRise : ℕ → ℕ → ℕ → List Report → Type 0
+HorizonsRise s p n [] = Unit {0}
+HorizonsRise s p n (line.Horizon r q t ∷ ls) = (IsTrue (nat_eq r s && nat_eq q p) → n < t) × HorizonsRise s p (if nat_eq r s && nat_eq q p then t else n) ls
+HorizonsRise s p n (_ ∷ ls) = HorizonsRise s p n ls
+
+-- what s got from p
+abbrev pub gots : ℕ → ℕ → List Report → List (ℕ × Event)
+gots s p [] = []
+gots s p (line.Got r q t e ∷ ls) = (if nat_eq r s && nat_eq q p then (t, e) ∷ [] else []) ++ gots s p ls
+gots s p (_ ∷ ls) = gots s p ls
+
+-- what s is to have got from p up to tick n
+abbrev pub expected : Net → History → ℕ → ℕ → ℕ → List (ℕ × Event)
+expected net h s p n = filter (λ x. nat_le x.0 n && net.wants s x.1) (record_of h p).events
+
+-- The recorded lines
+
+-- a line of the record or of what is shown of it
+abbrev pub is_record_line : Report → Bool
+is_record_line (line.Opened p last settled cut) = true
+is_record_line (line.Logged p n t) = true
+is_record_line (line.Already p n) = true
+is_record_line (line.Gap p n next) = true
+is_record_line (line.Exhausted p n) = true
+is_record_line (line.Kept p n t) = true
+is_record_line (line.Lost p n t) = true
+is_record_line (line.Mark p t) = true
+is_record_line (line.Crashed b) = true
+is_record_line (line.Swept m) = true
+is_record_line (line.Frames n) = true
+is_record_line (line.LogOf p last settled cut kept) = true
+is_record_line _ = false
+
+-- the opened lines of a broker that starts
+abbrev pub opened_of : Net → List Recorded → List Report → ℕ → List Report
+opened_of net records lines b =
+    flat_map (λ p. let r = get_or records p nothing_recorded in if is_host net p b && nat_lt 0 r.settled then line.Opened p r.last r.settled (last_cut p 0 lines) ∷ [] else []) (numbers net.publishers)
+
+-- the line that a publish gets
+abbrev pub publish_line : ℕ → ℕ → ℕ → Recorded → Report
+publish_line p clock number r =
+    if nat_le number r.last then line.Already p number
+    else (if nat_lt (suc r.last) number then line.Gap p number (suc r.last)
+    else (if nat_lt max_tick (tick_of clock r) then line.Exhausted p number
+    else line.Logged p number (tick_of clock r)))
+
+-- how many events are past a tick
+abbrev pub count_past : ℕ → List (ℕ × Event) → ℕ
+count_past c events = length (filter (λ x. nat_lt c x.0) events)
+
+-- the lines of the record that a step is to tell
+unfoldable pub record_lines : Net → History → Line → List Report → List Report
+record_lines net h l ls =
+    elim l.step [
+      | step.Publish p number stop e ↦
+          let r = record_of h p in
+          elim stop [
+            | None ↦ publish_line p h.clock number r ∷ []
+            | Some s ↦
+                elim (may_crash net (net.host p)) [
+                  | false ↦ []
+                  | true ↦
+                      elim (is_next h.clock r number) [
+                        | false ↦ publish_line p h.clock number r ∷ []
+                        | true ↦
+                            line.Crashed (net.host p) ∷
+                            ((if says_kept ls then line.Kept p number (tick_of h.clock r) else line.Lost p number (tick_of h.clock r)) ∷
+                            opened_of net (records_after net h l ls) h.lines (net.host p))
+                      ]
+                ]
+          ]
+      | step.Wake b ↦ flat_map (λ p. if is_host net p b && nat_le ((record_of h p).settled + net.quiet) h.clock then line.Mark p h.clock ∷ [] else []) (numbers net.publishers)
+      | step.Sweep ↦ if is_swept net h then map (λ p. line.Mark p (sweep_at net h)) (numbers net.publishers) ++ line.Swept (sweep_at net h) ∷ [] else []
+      | step.Crash b ↦ if may_crash net b then line.Crashed b ∷ opened_of net h.records h.lines b else []
+      | step.Show ↦
+          line.Frames (sent_count h.lines) ∷
+          map (λ p. let r = record_of h p in let c = last_cut p 0 h.lines in line.LogOf p r.last r.settled c (count_past c r.events)) (numbers net.publishers)
+      | _ ↦ []
+    ]
+
+-- the line is of a broker's horizon
+abbrev pub is_doubt_line : Report → Bool
+is_doubt_line (line.Doubt b p t) = true
+is_doubt_line _ = false
+
+-- the brokers and publishers of the doubt lines of a show
+abbrev pub doubts_shown : Net → Line → List (ℕ × ℕ)
+doubts_shown net l =
+    elim l.step [
+      | step.Show ↦ flat_map (λ b. flat_map (λ p. if keeps_horizon net p b then (b, p) ∷ [] else []) (numbers net.publishers)) (numbers net.brokers)
+      | _ ↦ []
+    ]
+
+-- the broker and publisher of a doubt line
+abbrev pub doubt_place : Report → ℕ × ℕ
+doubt_place (line.Doubt b p t) = (b, p)
+doubt_place _ = (0, 0)
+
+-- of one step: the recorded lines, the places of the doubt lines, and their horizons
+pub record StepTold (net : Net) (h : History) (l : Line) (ls : List Report) : Type 0 where
+  pub records : filter is_record_line ls ≡ record_lines net h l ls
+  pub doubts_stand : map doubt_place (filter is_doubt_line ls) ≡ doubts_shown net l
+  pub doubts_true : (b p t : ℕ) → Contains ls (line.Doubt b p t) → IsDoubt net h b p t
+
+-- delivered exactly, and doubt horizons, after each step
+pub record Delivered (net : Net) (h : History) : Type 0 where
+  pub got : (s p : ℕ) → s < net.subscribers → p < net.publishers → gots s p h.lines ≡ expected net h s p (last_horizon s p 0 h.lines)
+  pub doubt : (s p : ℕ) → s < net.subscribers → p < net.publishers → IsDoubt net h (net.at s) p (last_horizon s p 0 h.lines)
+
+-- horizons rise, and discarded only after delivery, of all lines of the history h
+pub record InOrder (net : Net) (h : History) : Type 0 where
+  pub horizons : (s p n : ℕ) (xs ys : List Report) → h.lines ≡ xs ++ line.Horizon s p n ∷ ys → last_horizon s p 0 xs < n
+  pub cuts : (p t : ℕ) (xs ys : List Report) → h.lines ≡ xs ++ line.Cut p t ∷ ys → last_cut p 0 xs < t
+  pub cut_settled : (p t : ℕ) → Contains h.lines (line.Cut p t) → t ≤ (record_of h p).settled
+  pub cut_got : (p t : ℕ) (xs ys : List Report) → h.lines ≡ xs ++ line.Cut p t ∷ ys →
+      (s u : ℕ) (e : Event) → Contains (record_of h p).events (u, e) → u ≤ t → s < net.subscribers → IsTrue (net.wants s e) → Contains xs (line.Got s p u e)
+
+-- what the headline says, step by step
+abbrev pub Holds_from : Net → History → List Line → List (List Report) → Type 0
+Holds_from net h [] [] = Delivered net h × InOrder net h
+Holds_from net h (l ∷ ls) (r ∷ rs) = Delivered net h × InOrder net h × StepTold net h l r × Holds_from net (after net h l r) ls rs
+Holds_from net h [] (r ∷ rs) = ⊥
+Holds_from net h (l ∷ ls) [] = ⊥
+
+-- the headline: every step of a report says what the record, the frames heard and the topology demand
+abbrev pub Headline : Net → List Line → List (List Report) → Type 0
+Headline net steps [] = ⊥
+Headline net steps (r ∷ rs) = (r ≡ []) × Holds_from net (begin net) steps rs
+
+-- the history after steps and the lines of each
+abbrev pub history : Net → History → List Line → List (List Report) → History
+history net h [] rs = h
+history net h (l ∷ ls) [] = h
+history net h (l ∷ ls) (r ∷ rs) = history net (after net h l r) ls rs
+
+-- delivered exactly, and horizons rise, for one subscriber and publisher
+pub record GetsExactly (net : Net) (h : History) (s p : ℕ) : Type 0 where
+  pub got : gots s p h.lines ≡ expected net h s p (last_horizon s p 0 h.lines)
+  pub rise : HorizonsRise s p 0 h.lines

@@ -1,0 +1,60 @@
+-- A topology as the machine sees it: brokers, publishers and subscribers are numbers from 0
+use Rattle.std.specs.Prelude.{ℕ, zero, suc, Bool, true, false, ◌||◌, nat_eq, List, [], ◌∷◌, Option}
+use Rattle.std.specs.List.{list_any}
+use Rattle.gr_event.specs.declared.event.Event.{Event}
+use Rattle.gr_know.specs.declared.values.K.{K}
+use Rattle.gr_know.specs.declared.values.K.TheVariants.{Q, S, D, F}
+
+pub record Net : Type 0 where
+  pub brokers : ℕ  -- how many
+  pub publishers : ℕ
+  pub subscribers : ℕ
+  pub host : ℕ → ℕ  -- the broker of a publisher
+  pub at : ℕ → ℕ  -- the broker of a subscriber
+  pub up : ℕ → ℕ → Option ℕ  -- for a publisher, the next broker from a broker towards the host; the host has none
+  pub children : ℕ → ℕ → List ℕ  -- for a publisher, the next brokers away from the host, in rising order
+  pub subscribers_at : ℕ → List ℕ  -- the subscribers at a broker, in rising order
+  pub below : ℕ → ℕ → List ℕ  -- for a publisher, the subscribers at a broker and beyond it
+  pub depth : ℕ → ℕ → ℕ  -- for a publisher, how many edges a broker is from the host
+  pub wants : ℕ → Event → Bool  -- a subscriber's filter is true of an event
+  pub gap : ℕ  -- the age at which a tick is asked where something later is known, in milliseconds
+  pub idle : ℕ  -- the age at which any tick is asked
+  pub retry : ℕ  -- how long an ask is outstanding
+  pub quiet : ℕ  -- how long a log is silent before it is marked
+  pub cache : ℕ  -- how many event ticks a broker below the host keeps for a publisher
+
+-- so many numbers in a row, from the first on
+abbrev pub numbers_from : ℕ → ℕ → List ℕ
+numbers_from n zero = []
+numbers_from n (suc k) = n ∷ numbers_from (suc n) k
+
+-- 0, 1, .. below a number
+abbrev pub numbers : ℕ → List ℕ
+numbers n = numbers_from 0 n
+
+abbrev pub is_empty : {A : Type 0} → List A → Bool
+is_empty [] = true
+is_empty (x ∷ xs) = false
+
+abbrev pub not_empty : {A : Type 0} → List A → Bool
+not_empty [] = false
+not_empty (x ∷ xs) = true
+
+-- a broker keeps a horizon for a publisher where it has subscribers or is a leaf
+abbrev pub keeps_horizon : Net → ℕ → ℕ → Bool
+keeps_horizon net p b = not_empty (net.subscribers_at b) || is_empty (net.children p b)
+
+-- the publisher is at the broker
+abbrev pub is_host : Net → ℕ → ℕ → Bool
+is_host net p b = nat_eq (net.host p) b
+
+-- some subscriber at the broker or beyond it wants the event
+abbrev pub wanted_below : Net → ℕ → ℕ → Event → Bool
+wanted_below net p b e = list_any (λ s. net.wants s e) (net.below p b)
+
+-- what the edge to a child lets pass: an event that nobody there wants becomes silence
+abbrev pub pass : Net → ℕ → ℕ → K → K
+pass net p c Q = Q
+pass net p c S = S
+pass net p c F = F
+pass net p c (D e) = elim (wanted_below net p c e) [ true ↦ D e | false ↦ S ]

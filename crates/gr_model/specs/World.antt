@@ -1,0 +1,268 @@
+-- All brokers, the frames sent, and the report of a schedule
+use Rattle.std.specs.Prelude.{ℕ, zero, suc, ◌+◌, max, Bool, true, false, ◌&&◌, nat_eq, nat_le, nat_lt, if◌then◌else◌, List, [], ◌∷◌, ◌++◌, length, map, filter, get_or, set, Option, Some, None, slice_get, flat_map}
+use Rattle.gr_event.specs.declared.event.Event.{Event}
+use Rattle.gr_frame.specs.declared.Body.TheVariants as body
+use Rattle.gr_frame.specs.declared.Frame.{Frame}
+use Rattle.gr_frame.specs.Bytes.{frame_bytes}
+use Rattle.gr_sched.specs.declared.step.Stop.{Stop}
+use Rattle.gr_sched.specs.declared.step.Step.TheVariants as step
+use Rattle.gr_sched.specs.declared.step.Line.{Line}
+use Rattle.gr_model.specs.declared.report.Report.{Report}
+use Rattle.gr_model.specs.declared.report.Report.TheVariants as line
+use Rattle.gr_model.specs.Net.{Net, keeps_horizon, not_empty, numbers}
+use Rattle.gr_model.specs.Broker.{max_tick, View, Log, Outcome, empty_log, with_event, publish, wake, receive, started, is_kept}
+
+pub record World : Type 0 where
+  pub clock : ℕ
+  pub most : ℕ  -- the greatest of all moments that the clock had
+  pub frames : List Frame  -- all that were sent; a frame's number is its place from 1
+  pub views : List (List View)  -- broker by broker, publisher by publisher
+  pub logs : List Log  -- publisher by publisher
+
+-- a world and the lines told on the way to it
+pub record Told : Type 0 where
+  pub world : World
+  pub lines : List Report
+
+-- a view in which nothing is known or asked
+abbrev pub blank_view : View
+blank_view = record { know = []; wants = []; asks = []; horizon = 0 }
+
+-- what a broker keeps for a publisher; the log of a publisher
+abbrev pub view_of : World → ℕ → ℕ → View
+view_of w b p = get_or (get_or w.views b []) p blank_view
+
+abbrev pub log_of : World → ℕ → Log
+log_of w p = get_or w.logs p empty_log
+
+-- the views with one changed
+abbrev pub with_view : List (List View) → ℕ → ℕ → View → List (List View)
+with_view views b p v = set views b (set (get_or views b []) p v)
+
+-- the line of a frame with its number
+unfoldable pub sent_line : ℕ → Frame → Report
+sent_line n f =
+    elim f.body [
+      | body.Knowledge runs ↦ line.SentKnow n f.head.from f.head.to f.head.publisher runs
+      | body.Curiosity runs ↦ line.SentWant n f.head.from f.head.to f.head.publisher runs
+      | body.Expect tick ↦ line.SentExpect n f.head.from f.head.to f.head.publisher tick
+    ]
+
+-- the lines of frames with numbers from n on
+abbrev pub sent_lines : ℕ → List Frame → List Report
+sent_lines n [] = []
+sent_lines n (f ∷ fs) = sent_line n f ∷ sent_lines (suc n) fs
+
+-- a broker's call for a publisher is taken up
+unfoldable pub absorbed : World → ℕ → ℕ → Outcome → Told
+absorbed w b p o = record {
+  world = record {
+    clock = w.clock;
+    most = w.most;
+    frames = w.frames ++ o.frames;
+    views = with_view w.views b p o.view;
+    logs = set w.logs p o.log;
+  };
+  lines = o.lines ++ sent_lines (suc (length w.frames)) o.frames;
+}
+
+-- the world stays, and some lines are told
+abbrev pub unchanged : World → List Report → Told
+unchanged w ls = record { world = w; lines = ls }
+
+-- one after another
+abbrev pub after : Told → (World → Told) → Told
+after s f = let r = f s.world in record { world = r.world; lines = s.lines ++ r.lines }
+
+-- for each of a list, one after another
+abbrev pub in_turn : {X : Type 0} → (World → X → Told) → List X → World → Told
+in_turn f [] w = unchanged w []
+in_turn f (x ∷ xs) w = after (f w x) (in_turn f xs)
+
+-- one broker is woken for one publisher; for all
+unfoldable pub wake_for : Net → World → ℕ → ℕ → Told
+wake_for net w b p = absorbed w b p (wake net p b w.clock (view_of w b p) (log_of w p))
+
+unfoldable pub wake_all : Net → World → ℕ → Told
+wake_all net w b = in_turn (λ u p. wake_for net u b p) (numbers net.publishers) w
+
+-- a frame reaches its receiver
+unfoldable pub deliver_frame : Net → World → Frame → Told
+deliver_frame net w f = absorbed w f.head.to f.head.publisher (receive net w.clock f (view_of w f.head.to f.head.publisher) (log_of w f.head.publisher))
+
+-- the frame of this number, from 1
+abbrev pub frame_at : World → ℕ → Option Frame
+frame_at w zero = None
+frame_at w (suc k) = slice_get w.frames k
+
+-- a publish at the host
+unfoldable pub publish_now : Net → World → ℕ → ℕ → Event → Told
+publish_now net w p number e = absorbed w (net.host p) p (publish net p (net.host p) w.clock number e (view_of w (net.host p) p) (log_of w p))
+
+-- the opened lines of a broker's publishers
+unfoldable pub opened_lines : Net → List Log → ℕ → List Report
+opened_lines net logs b =
+    flat_map (λ p. let log = get_or logs p empty_log in if nat_eq (net.host p) b && nat_lt 0 log.settled then line.Opened p log.last log.settled log.cut ∷ [] else []) (numbers net.publishers)
+
+-- the broker starts again
+unfoldable pub restarted : Net → World → ℕ → World
+restarted net w b = record {
+  clock = w.clock;
+  most = w.most;
+  frames = w.frames;
+  logs = w.logs;
+  views = set w.views b (map (λ p. started net p b (get_or w.logs p empty_log)) (numbers net.publishers));
+}
+
+-- a broker stops and starts again
+unfoldable pub crash : Net → World → ℕ → Told
+crash net w b = record { world = restarted net w b; lines = line.Crashed b ∷ opened_lines net w.logs b }
+
+-- a publish stops within: the host crashes with the event kept or lost, unless a subscriber is there
+unfoldable pub publish_stopped : Net → World → ℕ → ℕ → ℕ → Stop → Event → Told
+publish_stopped net w number_of_line p number stop e =
+    let b = net.host p in
+    let log = log_of w p in
+    let tick = max (suc log.settled) w.clock in
+    elim (not_empty (net.subscribers_at b)) [
+      | true ↦ unchanged w (line.RefusedHosts number_of_line b ∷ [])
+      | false ↦ elim (nat_eq number (suc log.last) && nat_le tick max_tick) [
+        | false ↦ publish_now net w p number e
+        | true ↦
+            let kept = is_kept log.gate stop.call stop.pick in
+            let logs = if kept then set w.logs p (with_event log tick e) else w.logs in
+            let u : World = record { clock = w.clock; most = w.most; frames = w.frames; views = w.views; logs = logs } in
+            record {
+              world = restarted net u b;
+              lines = line.Crashed b ∷ ((if kept then line.Kept p number tick else line.Lost p number tick) ∷ opened_lines net logs b);
+            }
+      ]
+    ]
+
+-- The sweep
+
+-- the greatest of the numbers, or 0
+abbrev pub greatest : List ℕ → ℕ
+greatest [] = 0
+greatest (n ∷ ns) = max n (greatest ns)
+
+-- a moment at which every ask is due again and every log is silent for long
+unfoldable pub sweep_moment : Net → World → ℕ
+sweep_moment net w = max w.most (greatest (map (λ l. l.settled) w.logs)) + net.gap + net.idle + net.retry + net.quiet + 1
+
+-- the brokers at one depth
+abbrev pub at_depth : Net → ℕ → ℕ → List ℕ
+at_depth net p d = filter (λ b. nat_eq (net.depth p b) d) (numbers net.brokers)
+
+-- all brokers by rising depth; by falling depth
+abbrev pub outwards : Net → ℕ → List ℕ
+outwards net p = flat_map (at_depth net p) (numbers net.brokers)
+
+-- n - 1, n - 2, .. 0
+abbrev pub numbers_down : ℕ → List ℕ
+numbers_down zero = []
+numbers_down (suc n) = n ∷ numbers_down n
+
+abbrev pub inwards : Net → ℕ → List ℕ
+inwards net p = flat_map (at_depth net p) (numbers_down net.brokers)
+
+-- the frame goes upwards
+abbrev pub is_want : Frame → Bool
+is_want f = elim f.body [ body.Curiosity runs ↦ true | _ ↦ false ]
+
+-- the frame brings knowledge of p to b
+abbrev pub is_know_to : ℕ → ℕ → Frame → Bool
+is_know_to p b f = elim f.body [ body.Knowledge runs ↦ nat_eq f.head.publisher p && nat_eq f.head.to b | _ ↦ false ]
+
+-- the frames of a world past the first so many
+abbrev pub frames_past : ℕ → List Frame → List Frame
+frames_past zero fs = fs
+frames_past (suc n) [] = []
+frames_past (suc n) (f ∷ fs) = frames_past n fs
+
+-- the frames that were sent between two worlds
+abbrev pub sent_since : World → World → List Frame
+sent_since old new = frames_past (length old.frames) new.frames
+
+-- the upward frames are delivered at once, with those that this sends, at most so deep
+unfoldable pub deliver_up : Net → ℕ → List Frame → World → Told
+deliver_up net zero fs w = unchanged w []
+deliver_up net (suc fuel) fs w = in_turn (λ u f. after (deliver_frame net u f) (λ x. deliver_up net fuel (filter is_want (sent_since u x)) x)) fs w
+
+-- a broker is woken, and the upward frames that this sends are delivered at once
+unfoldable pub wake_up : Net → ℕ → World → ℕ → Told
+wake_up net p w b = after (wake_for net w b p) (λ u. deliver_up net net.brokers (filter is_want (sent_since w u)) u)
+
+-- the knowledge sent to a broker in this sweep is delivered
+unfoldable pub hand_down : Net → ℕ → ℕ → World → ℕ → Told
+hand_down net p first w b = in_turn (deliver_frame net) (filter (is_know_to p b) (frames_past first w.frames)) w
+
+-- the three phases for a publisher
+unfoldable pub sweep_for : Net → World → ℕ → Told
+sweep_for net w p =
+    let first = length w.frames in
+    after (after (in_turn (wake_up net p) (inwards net p) w) (in_turn (hand_down net p first) (outwards net p))) (in_turn (wake_up net p) (inwards net p))
+
+-- a sweep moves the clock far ahead and settles each publisher, unless the clock would pass the last tick
+unfoldable pub sweep : Net → World → ℕ → Told
+sweep net w number_of_line =
+    let m = sweep_moment net w in
+    elim (nat_lt max_tick m) [
+      | true ↦ unchanged w (line.RefusedClock number_of_line m ∷ [])
+      | false ↦
+          let u : World = record { clock = m; most = max m w.most; frames = w.frames; views = w.views; logs = w.logs } in
+          after (in_turn (sweep_for net) (numbers net.publishers) u) (λ x. unchanged x (line.Swept m ∷ []))
+    ]
+
+-- What is shown
+
+-- how many events are past the cut
+abbrev pub kept_events : Log → ℕ
+kept_events log = length (filter (λ x. nat_lt log.cut x.0) log.events)
+
+-- how many frames were sent, each log, and each kept horizon
+unfoldable pub show : Net → World → List Report
+show net w =
+    line.Frames (length w.frames) ∷
+    (map (λ p. let l = log_of w p in line.LogOf p l.last l.settled l.cut (kept_events l)) (numbers net.publishers)
+    ++ flat_map (λ b. flat_map (λ p. if keeps_horizon net p b then line.Doubt b p (view_of w b p).horizon ∷ [] else []) (numbers net.publishers)) (numbers net.brokers))
+
+-- One step, and all
+
+-- what a step leaves and tells
+unfoldable pub next : Net → World → Line → Told
+next net w l =
+    elim l.step [
+      | step.Clock now ↦ unchanged (record { clock = now; most = max now w.most; frames = w.frames; views = w.views; logs = w.logs }) []
+      | step.Publish p number stop e ↦ elim stop [ None ↦ publish_now net w p number e | Some s ↦ publish_stopped net w l.number p number s e ]
+      | step.Wake b ↦ wake_all net w b
+      | step.Deliver k ↦ elim (frame_at w k) [ None ↦ unchanged w (line.RefusedFrame l.number k (length w.frames) ∷ []) | Some f ↦ deliver_frame net w f ]
+      | step.Crash b ↦ elim (not_empty (net.subscribers_at b)) [ true ↦ unchanged w (line.RefusedHosts l.number b ∷ []) | false ↦ crash net w b ]
+      | step.Sweep ↦ sweep net w l.number
+      | step.Show ↦ unchanged w (show net w)
+      | step.Bytes k ↦ elim (frame_at w k) [ None ↦ unchanged w (line.RefusedFrame l.number k (length w.frames) ∷ []) | Some f ↦ unchanged w (line.BytesOf k (frame_bytes f) ∷ []) ]
+    ]
+
+-- the world before the first step
+unfoldable pub start : Net → World
+start net = record {
+  clock = 0;
+  most = 0;
+  frames = [];
+  views = map (λ b. map (λ p. started net p b empty_log) (numbers net.publishers)) (numbers net.brokers);
+  logs = map (λ p. empty_log) (numbers net.publishers);
+}
+
+-- the lines of each step
+unfoldable pub run_from : Net → World → List Line → List (List Report)
+run_from net w [] = []
+run_from net w (l ∷ ls) = let s = next net w l in s.lines ∷ run_from net s.world ls
+
+-- the lines of each step, the first for the start
+unfoldable pub report_of : Net → List Line → List (List Report)
+report_of net steps = [] ∷ run_from net (start net) steps
+
+-- a whole schedule: the world after it, and all that is told
+abbrev pub run_all : Net → World → List Line → Told
+run_all net w [] = unchanged w []
+run_all net w (l ∷ ls) = after (next net w l) (λ u. run_all net u ls)

@@ -1,0 +1,651 @@
+//! The words of each line of a report.
+
+ghost use Rattle.std.specs.Prelude.{◌≡◌, ◌<◌, ◌≤◌, ◌++◌, [], ◌∷◌, length, map, codes, OnOk};
+ghost use Rattle.std.specs.Fmt.{decimal};
+ghost use Rattle.std.specs.List.{flat_map};
+ghost use Rattle.gr_topo.specs.Topology.{name_at};
+ghost use Rattle.gr_event.specs.Json.{json_text};
+ghost use Rattle.gr_model.specs.Text.{labels_of, know_letter, want_letter, run_word, fault_word, hex_pair, publisher_words, log_words, sent_words, line_words, AreNamed, IsSentNamed, IsNamed};
+
+use crate::report::Report;
+use crate::words::{Words, hex_text};
+use gr_curio::Q3;
+use gr_event::{Bytes, Event};
+use gr_know::K;
+use gr_tick::{Lattice, Piece, Run};
+use gr_topo::Topology;
+use std::alloc::{AllocError, Global};
+
+/// The name of a broker.
+fn push_broker(words: &mut Words, topo: &Topology, broker: u16) -> Result<(), AllocError>
+    requires { broker < length topo.now.brokers }
+    ensures { OnOk result (words.new ≡ words.old ++ name_at topo.now.brokers broker ∷ []) }
+{
+    words.push(topo.broker_name(broker).as_slice())
+}
+
+/// The name of a publisher.
+fn push_publisher(words: &mut Words, topo: &Topology, publisher: u16) -> Result<(), AllocError>
+    requires { publisher < length topo.now.publishers }
+    ensures { OnOk result (words.new ≡ words.old ++ name_at topo.now.publishers publisher ∷ []) }
+{
+    words.push(topo.publisher_name(publisher).as_slice())
+}
+
+/// The name of a subscriber.
+fn push_subscriber(words: &mut Words, topo: &Topology, subscriber: u16) -> Result<(), AllocError>
+    requires { subscriber < length topo.now.subscribers }
+    ensures { OnOk result (words.new ≡ words.old ++ name_at topo.now.subscribers subscriber ∷ []) }
+{
+    words.push(topo.subscriber_name(subscriber).as_slice())
+}
+
+/// A word and a number.
+fn push_pair(words: &mut Words, word: &[u8], number: u64) -> Result<(), AllocError>
+    ensures { OnOk result (words.new ≡ words.old ++ word.now ∷ decimal number ∷ []) }
+{
+    words.push(word)?;
+    words.push_number(number)
+}
+
+/// A word and the name of a publisher.
+fn push_named(
+    words: &mut Words,
+    topo: &Topology,
+    word: &[u8],
+    publisher: u16,
+) -> Result<(), AllocError>
+    requires { publisher < length topo.now.publishers }
+    ensures { OnOk result (words.new ≡ words.old ++ word.now ∷ name_at topo.now.publishers publisher ∷ []) }
+{
+    words.push(word)?;
+    push_publisher(words, topo, publisher)
+}
+
+/// A line of a publisher and numbers.
+fn push_publisher_line(
+    words: &mut Words,
+    topo: &Topology,
+    first: &[u8],
+    publisher: u16,
+    numbers: &[u64],
+) -> Result<(), AllocError>
+    requires { publisher < length topo.now.publishers }
+    ensures { OnOk result (words.new ≡ words.old ++ publisher_words (labels_of topo.now) first.now publisher numbers.now) }
+{
+    push_named(words, topo, first, publisher)?;
+    push_numbers(words, numbers)
+}
+
+/// Numbers, one word each.
+fn push_numbers(words: &mut Words, numbers: &[u64]) -> Result<(), AllocError>
+    ensures { OnOk result (words.new ≡ words.old ++ map decimal numbers.now) }
+{
+    for number in numbers {
+        words.push_number(*number)?;
+    }
+    Ok(())
+}
+
+/// The line of a log.
+fn push_log(
+    words: &mut Words,
+    topo: &Topology,
+    first: &[u8],
+    publisher: u16,
+    last: u64,
+    settled: u64,
+    cut: u64,
+) -> Result<(), AllocError>
+    requires { publisher < length topo.now.publishers }
+    ensures { OnOk result (words.new ≡ words.old ++ log_words (labels_of topo.now) first.now publisher last settled cut) }
+{
+    push_named(words, topo, first, publisher)?;
+    push_log_numbers(words, last, settled, cut)
+}
+
+/// The numbers of a log.
+fn push_log_numbers(words: &mut Words, last: u64, settled: u64, cut: u64) -> Result<(), AllocError>
+    ensures { OnOk result (words.new ≡ words.old ++ codes "last" ∷ decimal last ∷ codes "settled" ∷ decimal settled ∷ codes "cut" ∷ decimal cut ∷ []) }
+{
+    push_pair(words, b"last", last)?;
+    push_pair(words, b"settled", settled)?;
+    push_pair(words, b"cut", cut)
+}
+
+/// The line of a log that is shown.
+fn push_shown_log(
+    words: &mut Words,
+    topo: &Topology,
+    publisher: u16,
+    last: u64,
+    settled: u64,
+    cut: u64,
+    kept: u64,
+) -> Result<(), AllocError>
+    requires { publisher < length topo.now.publishers }
+    ensures { OnOk result (words.new ≡ words.old ++ line_words (labels_of topo.now) (Report.LogOf publisher last settled cut kept)) }
+{
+    push_log(words, topo, b"log", publisher, last, settled, cut)?;
+    push_pair(words, b"kept", kept)
+}
+
+/// The line of a gap.
+fn push_gap(
+    words: &mut Words,
+    topo: &Topology,
+    publisher: u16,
+    number: u64,
+    next: u64,
+) -> Result<(), AllocError>
+    requires { publisher < length topo.now.publishers }
+    ensures { OnOk result (words.new ≡ words.old ++ line_words (labels_of topo.now) (Report.Gap publisher number next)) }
+{
+    words.push(b"gap")?;
+    push_publisher(words, topo, publisher)?;
+    words.push_number(number)?;
+    push_pair(words, b"next", next)
+}
+
+/// The line of an event that a subscriber got.
+fn push_got(
+    alloc: Global,
+    words: &mut Words,
+    topo: &Topology,
+    subscriber: u16,
+    publisher: u16,
+    tick: u64,
+    event: &Event,
+) -> Result<(), AllocError>
+    requires { AreNamed topo.now subscriber publisher }
+    ensures { OnOk result (words.new ≡ words.old ++ line_words (labels_of topo.now) (Report.Got subscriber publisher tick event.now)) }
+{
+    words.push(b"got")?;
+    push_subscriber(words, topo, subscriber)?;
+    push_publisher(words, topo, publisher)?;
+    words.push_number(tick)?;
+    words.push_text(event.json(alloc)?)
+}
+
+/// The line of a horizon that moved.
+fn push_horizon(
+    words: &mut Words,
+    topo: &Topology,
+    subscriber: u16,
+    publisher: u16,
+    tick: u64,
+) -> Result<(), AllocError>
+    requires { AreNamed topo.now subscriber publisher }
+    ensures { OnOk result (words.new ≡ words.old ++ line_words (labels_of topo.now) (Report.Horizon subscriber publisher tick)) }
+{
+    words.push(b"horizon")?;
+    push_subscriber(words, topo, subscriber)?;
+    push_publisher(words, topo, publisher)?;
+    words.push_number(tick)
+}
+
+/// The line of a doubt horizon.
+fn push_doubt(
+    words: &mut Words,
+    topo: &Topology,
+    broker: u16,
+    publisher: u16,
+    tick: u64,
+) -> Result<(), AllocError>
+    requires broker { broker < length topo.now.brokers }
+    requires publisher { publisher < length topo.now.publishers }
+    ensures { OnOk result (words.new ≡ words.old ++ line_words (labels_of topo.now) (Report.Doubt broker publisher tick)) }
+{
+    words.push(b"doubt")?;
+    push_broker(words, topo, broker)?;
+    push_publisher(words, topo, publisher)?;
+    words.push_number(tick)
+}
+
+/// The begin of the line of a frame that was sent.
+fn push_sent(
+    words: &mut Words,
+    topo: &Topology,
+    number: u64,
+    from: u16,
+    to: u16,
+    kind: &[u8],
+    publisher: u16,
+) -> Result<(), AllocError>
+    requires { IsSentNamed topo.now from to publisher }
+    ensures { OnOk result (words.new ≡ words.old ++ sent_words (labels_of topo.now) number from to kind.now publisher) }
+{
+    push_pair(words, b"sent", number)?;
+    push_broker(words, topo, from)?;
+    push_broker(words, topo, to)?;
+    words.push(kind)?;
+    push_publisher(words, topo, publisher)
+}
+
+/// The letter of what is known.
+fn letter_of_know(value: &K) -> &'static str
+    ensures { result.now ≡ know_letter value.now }
+{
+    match value {
+        K::Q => "Q",
+        K::S => "S",
+        K::D(_) => "D",
+        K::F => "F",
+    }
+}
+
+/// The letter of what is asked.
+fn letter_of_want(value: &Q3) -> &'static str
+    ensures { result.now ≡ want_letter value.now }
+{
+    match value {
+        Q3::N => "N",
+        Q3::C => "C",
+        Q3::A => "A",
+    }
+}
+
+/// The word of a run whose value has this letter.
+fn push_run(
+    words: &mut Words,
+    alloc: Global,
+    letter: &str,
+    first: u64,
+    last: u64,
+) -> Result<(), AllocError>
+    ensures { OnOk result (words.new ≡ words.old ++ (letter.now ++ (decimal first ++ (codes "-" ++ decimal last))) ∷ []) }
+{
+    let word = format!(in alloc; "{letter}{first}-{last}")?;
+    words.push(word.as_bytes())
+}
+
+/// The words of runs of what is known.
+fn push_know_runs(alloc: Global, words: &mut Words, runs: &Piece<K>) -> Result<(), AllocError>
+    ensures { OnOk result (words.new ≡ words.old ++ map (run_word know_letter) runs.now) }
+{
+    for i in 0..runs.len() {
+        let run = runs.run(i);
+        push_run(
+            words,
+            alloc,
+            letter_of_know(&run.value),
+            run.first,
+            run.last,
+        )?;
+    }
+    Ok(())
+}
+
+/// The words of runs of what is asked.
+fn push_want_runs(alloc: Global, words: &mut Words, runs: &Piece<Q3>) -> Result<(), AllocError>
+    ensures { OnOk result (words.new ≡ words.old ++ map (run_word want_letter) runs.now) }
+{
+    for i in 0..runs.len() {
+        let run = runs.run(i);
+        push_run(
+            words,
+            alloc,
+            letter_of_want(&run.value),
+            run.first,
+            run.last,
+        )?;
+    }
+    Ok(())
+}
+
+/// The line of a frame of knowledge.
+fn push_sent_know(
+    alloc: Global,
+    words: &mut Words,
+    topo: &Topology,
+    number: u64,
+    from: u16,
+    to: u16,
+    publisher: u16,
+    runs: &Piece<K>,
+) -> Result<(), AllocError>
+    requires { IsSentNamed topo.now from to publisher }
+    ensures { OnOk result (words.new ≡ words.old ++ line_words (labels_of topo.now) (Report.SentKnow number from to publisher runs.now)) }
+{
+    push_sent(words, topo, number, from, to, b"know", publisher)?;
+    push_know_runs(alloc, words, runs)
+}
+
+/// The line of a frame of curiosity.
+fn push_sent_want(
+    alloc: Global,
+    words: &mut Words,
+    topo: &Topology,
+    number: u64,
+    from: u16,
+    to: u16,
+    publisher: u16,
+    runs: &Piece<Q3>,
+) -> Result<(), AllocError>
+    requires { IsSentNamed topo.now from to publisher }
+    ensures { OnOk result (words.new ≡ words.old ++ line_words (labels_of topo.now) (Report.SentWant number from to publisher runs.now)) }
+{
+    push_sent(words, topo, number, from, to, b"want", publisher)?;
+    push_want_runs(alloc, words, runs)
+}
+
+/// The line of a frame that tells what to expect.
+fn push_sent_expect(
+    words: &mut Words,
+    topo: &Topology,
+    number: u64,
+    from: u16,
+    to: u16,
+    publisher: u16,
+    tick: u64,
+) -> Result<(), AllocError>
+    requires { IsSentNamed topo.now from to publisher }
+    ensures { OnOk result (words.new ≡ words.old ++ line_words (labels_of topo.now) (Report.SentExpect number from to publisher tick)) }
+{
+    push_sent(words, topo, number, from, to, b"expect", publisher)?;
+    words.push_number(tick)
+}
+
+/// The line of a crash.
+fn push_crashed(words: &mut Words, topo: &Topology, broker: u16) -> Result<(), AllocError>
+    requires { broker < length topo.now.brokers }
+    ensures { OnOk result (words.new ≡ words.old ++ line_words (labels_of topo.now) (Report.Crashed broker)) }
+{
+    words.push(b"crashed")?;
+    push_broker(words, topo, broker)
+}
+
+/// The begin of the line of a refused step.
+fn push_refused(words: &mut Words, line: u32, cause: &[u8]) -> Result<(), AllocError>
+    ensures { OnOk result (words.new ≡ words.old ++ codes "refused" ∷ codes "line" ∷ decimal line ∷ cause.now ∷ []) }
+{
+    words.push(b"refused")?;
+    words.push(b"line")?;
+    words.push_number(line as u64)?;
+    words.push(cause)
+}
+
+/// The line of a crash that is refused.
+fn push_refused_hosts(
+    words: &mut Words,
+    topo: &Topology,
+    line: u32,
+    broker: u16,
+) -> Result<(), AllocError>
+    requires { broker < length topo.now.brokers }
+    ensures { OnOk result (words.new ≡ words.old ++ line_words (labels_of topo.now) (Report.RefusedHosts line broker)) }
+{
+    push_refused(words, line, b"hosts-subscriber")?;
+    push_broker(words, topo, broker)
+}
+
+/// The line of a frame that is not there.
+fn push_refused_frame(words: &mut Words, line: u32, frame: u64, sent: u64) -> Result<(), AllocError>
+    ensures { OnOk result (words.new ≡ words.old ++ codes "refused" ∷ codes "line" ∷ decimal line ∷ codes "no-frame" ∷ decimal frame ∷ codes "of" ∷ decimal sent ∷ []) }
+{
+    push_refused(words, line, b"no-frame")?;
+    push_missing(words, frame, sent)
+}
+
+/// Which frame is not there, and how many are.
+fn push_missing(words: &mut Words, frame: u64, sent: u64) -> Result<(), AllocError>
+    ensures { OnOk result (words.new ≡ words.old ++ decimal frame ∷ codes "of" ∷ decimal sent ∷ []) }
+{
+    words.push_number(frame)?;
+    push_pair(words, b"of", sent)
+}
+
+/// The line of a sweep past the last tick.
+fn push_refused_clock(words: &mut Words, line: u32, moment: u64) -> Result<(), AllocError>
+    ensures { OnOk result (words.new ≡ words.old ++ codes "refused" ∷ codes "line" ∷ decimal line ∷ codes "clock-range" ∷ decimal moment ∷ []) }
+{
+    push_refused(words, line, b"clock-range")?;
+    words.push_number(moment)
+}
+
+/// The begin of the line of a dropped datagram.
+fn push_dropped(
+    words: &mut Words,
+    topo: &Topology,
+    broker: u16,
+    cause: &[u8],
+) -> Result<(), AllocError>
+    requires { broker < length topo.now.brokers }
+    ensures { OnOk result (words.new ≡ words.old ++ codes "dropped" ∷ (labels_of topo.now).broker broker ∷ cause.now ∷ []) }
+{
+    words.push(b"dropped")?;
+    push_broker(words, topo, broker)?;
+    words.push(cause)
+}
+
+/// The word of why bytes are no frame.
+fn word_of_fault(fault: u8) -> &'static [u8]
+    requires from_one { 1 ≤ fault }
+    requires to_nine { fault ≤ 9 }
+    ensures { result.now ≡ fault_word fault }
+{
+    match fault {
+        1 => b"short",
+        2 => b"bad-magic",
+        3 => b"bad-version",
+        4 => b"bad-kind",
+        5 => b"bad-range",
+        6 => b"bad-order",
+        7 => b"bad-event",
+        8 => b"trailing",
+        9 => b"too-long",
+        _ => unreachable!(),
+    }
+}
+
+/// The word of why bytes are no frame, and where.
+fn push_fault(words: &mut Words, fault: u8, at: u64) -> Result<(), AllocError>
+    requires from_one { 1 ≤ fault }
+    requires to_nine { fault ≤ 9 }
+    ensures { OnOk result (words.new ≡ words.old ++ fault_word fault ∷ decimal at ∷ []) }
+{
+    push_pair(words, word_of_fault(fault), at)
+}
+
+/// The line of a datagram that is no frame.
+fn push_not_frame(
+    words: &mut Words,
+    topo: &Topology,
+    broker: u16,
+    fault: u8,
+    at: u64,
+) -> Result<(), AllocError>
+    requires { IsNamed topo.now (Report.DroppedNotFrame broker fault at) }
+    ensures { OnOk result (words.new ≡ words.old ++ line_words (labels_of topo.now) (Report.DroppedNotFrame broker fault at)) }
+{
+    push_dropped(words, topo, broker, b"not-frame")?;
+    push_fault(words, fault, at)
+}
+
+/// The line of a frame that does not fit.
+fn push_stray(
+    words: &mut Words,
+    topo: &Topology,
+    broker: u16,
+    head: &[u64],
+) -> Result<(), AllocError>
+    requires { broker < length topo.now.brokers }
+    ensures { OnOk result (words.new ≡ words.old ++ (codes "dropped" ∷ (labels_of topo.now).broker broker ∷ codes "stray" ∷ map decimal head.now)) }
+{
+    push_dropped(words, topo, broker, b"stray")?;
+    push_numbers(words, head)
+}
+
+/// The line of a frame that clashes.
+fn push_clash(
+    words: &mut Words,
+    topo: &Topology,
+    broker: u16,
+    tick: u64,
+    kept: &K,
+    came: &K,
+) -> Result<(), AllocError>
+    requires { broker < length topo.now.brokers }
+    ensures { OnOk result (words.new ≡ words.old ++ line_words (labels_of topo.now) (Report.DroppedClash broker tick kept.now came.now)) }
+{
+    push_dropped(words, topo, broker, b"clash")?;
+    words.push_number(tick)?;
+    words.push(letter_of_know(kept).as_bytes())?;
+    words.push(letter_of_know(came).as_bytes())
+}
+
+/// The line of a frame's bytes.
+fn push_bytes(alloc: Global, words: &mut Words, frame: u64, bytes: &Bytes) -> Result<(), AllocError>
+    ensures { OnOk result (words.new ≡ words.old ++ codes "bytes" ∷ decimal frame ∷ flat_map hex_pair bytes.now ∷ []) }
+{
+    push_pair(words, b"bytes", frame)?;
+    words.push_text(hex_text(alloc, bytes.as_slice())?)
+}
+
+/// The words of a line, which go behind those that are there.
+pub(crate) fn push_line(
+    alloc: Global,
+    words: &mut Words,
+    report: &Report,
+    topo: &Topology,
+) -> Result<(), AllocError>
+    requires { IsNamed topo.now report.now }
+    ensures { OnOk result (words.new ≡ words.old ++ line_words (labels_of topo.now) report.now) }
+{
+    match report {
+        Report::Opened {
+            publisher,
+            last,
+            settled,
+            cut,
+        } => push_log(words, topo, b"opened", *publisher, *last, *settled, *cut),
+        Report::Logged {
+            publisher,
+            number,
+            tick,
+        } => push_publisher_line(words, topo, b"logged", *publisher, &[*number, *tick]),
+        Report::Already { publisher, number } => push_publisher_line(
+            words,
+            topo,
+            b"already",
+            *publisher,
+            &[*number],
+        ),
+        Report::Gap {
+            publisher,
+            number,
+            next,
+        } => push_gap(words, topo, *publisher, *number, *next),
+        Report::Exhausted { publisher, number } => push_publisher_line(
+            words,
+            topo,
+            b"exhausted",
+            *publisher,
+            &[*number],
+        ),
+        Report::Kept {
+            publisher,
+            number,
+            tick,
+        } => push_publisher_line(words, topo, b"kept", *publisher, &[*number, *tick]),
+        Report::Lost {
+            publisher,
+            number,
+            tick,
+        } => push_publisher_line(words, topo, b"lost", *publisher, &[*number, *tick]),
+        Report::Mark { publisher, tick } => push_publisher_line(
+            words,
+            topo,
+            b"mark",
+            *publisher,
+            &[*tick],
+        ),
+        Report::Cut { publisher, tick } => push_publisher_line(
+            words,
+            topo,
+            b"cut",
+            *publisher,
+            &[*tick],
+        ),
+        Report::Got {
+            subscriber,
+            publisher,
+            tick,
+            event,
+        } => push_got(alloc, words, topo, *subscriber, *publisher, *tick, event),
+        Report::Horizon {
+            subscriber,
+            publisher,
+            tick,
+        } => push_horizon(words, topo, *subscriber, *publisher, *tick),
+        Report::SentKnow {
+            number,
+            from,
+            to,
+            publisher,
+            runs,
+        } => push_sent_know(alloc, words, topo, *number, *from, *to, *publisher, runs),
+        Report::SentWant {
+            number,
+            from,
+            to,
+            publisher,
+            runs,
+        } => push_sent_want(alloc, words, topo, *number, *from, *to, *publisher, runs),
+        Report::SentExpect {
+            number,
+            from,
+            to,
+            publisher,
+            tick,
+        } => push_sent_expect(words, topo, *number, *from, *to, *publisher, *tick),
+        Report::Crashed { broker } => push_crashed(words, topo, *broker),
+        Report::Swept { moment } => push_pair(words, b"swept", *moment),
+        Report::RefusedHosts { line, broker } => push_refused_hosts(words, topo, *line, *broker),
+        Report::RefusedFrame { line, frame, sent } => push_refused_frame(
+            words, *line, *frame, *sent,
+        ),
+        Report::RefusedClock { line, moment } => push_refused_clock(words, *line, *moment),
+        Report::DroppedNotFrame { broker, fault, at } => push_not_frame(
+            words, topo, *broker, *fault, *at,
+        ),
+        Report::DroppedStray {
+            broker,
+            from,
+            to,
+            publisher,
+        } => push_stray(
+            words,
+            topo,
+            *broker,
+            &[*from as u64, *to as u64, *publisher as u64],
+        ),
+        Report::DroppedClash {
+            broker,
+            tick,
+            kept,
+            came,
+        } => push_clash(words, topo, *broker, *tick, kept, came),
+        Report::Damaged { publisher, at } => push_publisher_line(
+            words,
+            topo,
+            b"damaged",
+            *publisher,
+            &[*at],
+        ),
+        Report::Frames { count } => push_pair(words, b"frames", *count),
+        Report::LogOf {
+            publisher,
+            last,
+            settled,
+            cut,
+            kept,
+        } => push_shown_log(words, topo, *publisher, *last, *settled, *cut, *kept),
+        Report::Doubt {
+            broker,
+            publisher,
+            tick,
+        } => push_doubt(words, topo, *broker, *publisher, *tick),
+        Report::BytesOf { frame, bytes } => push_bytes(alloc, words, *frame, bytes),
+    }
+}

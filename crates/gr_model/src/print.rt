@@ -1,0 +1,66 @@
+//! A line of a report, written to a sink.
+
+ghost use Rattle.std.specs.Prelude.{◌≡◌, ◌≢◌, ℕ, ◌<◌, ◌≤◌, length, take, IfOk, OnOk, IsErrOf};
+ghost use Rattle.gr_out.specs.Faults.{Rose};
+ghost use Rattle.gr_out.specs.Bytes.{with_more};
+ghost use Rattle.gr_model.specs.Text.{labels_of, whole_line, IsNamed};
+
+use crate::lines::push_line;
+use crate::report::Report;
+use crate::words::Words;
+use gr_event::Text;
+use gr_out::{Sink, write_all};
+use gr_topo::Topology;
+use std::alloc::Global;
+
+/// Want of memory.
+pub type Memory = std::alloc::AllocError;
+
+/// Why a line could not be put.
+#[derive(Clone, Copy, Debug, PartialEq, Eq)]
+pub enum PutFault {
+    /// Want of memory.
+    Memory,
+    /// The sink failed.
+    Write,
+}
+
+/// Writes a line of a report with its end. Each number for which it prints a name or a word is in range.
+///
+/// After `Write` the sink's count of faults rose in this call, and it took a front of the line, not all. After `Memory`
+/// the sink is unchanged.
+pub fn put<K: Sink>(
+    alloc: Global,
+    report: &Report,
+    topo: &Topology,
+    sink: &mut K,
+) -> Result<(), PutFault>
+    requires { IsNamed topo.now report.now }
+    ensures ok { OnOk result (K.taken sink.new ≡ with_more (K.taken sink.old) (whole_line (labels_of topo.now) report.now)) }
+    ensures write { IsErrOf result PutFault.Write → (n : ℕ) × (n < length (whole_line (labels_of topo.now) report.now)) × (K.taken sink.new ≡ with_more (K.taken sink.old) (take n (whole_line (labels_of topo.now) report.now))) }
+    ensures memory { IsErrOf result PutFault.Memory → sink.new ≡ sink.old }
+    ensures never_falls { K.faults sink.old ≤ K.faults sink.new }
+    ensures failed { IsErrOf result PutFault.Write → Rose (K.faults sink.old) (K.faults sink.new) }
+    ensures same { result ≢ Err PutFault.Write → K.faults sink.new ≡ K.faults sink.old }
+{
+    let line = match text_of(alloc, report, topo) {
+        Ok(line) => line,
+        Err(_) => return Err(PutFault::Memory),
+    };
+    match write_all(sink, line.as_slice()) {
+        Ok(()) => Ok(()),
+        Err(_) => Err(PutFault::Write),
+    }
+}
+
+/// The text of a line with its end.
+fn text_of(alloc: Global, report: &Report, topo: &Topology) -> Result<Text, Memory>
+    requires { IsNamed topo.now report.now }
+    ensures { IfOk result (λ t. t ≡ whole_line (labels_of topo.now) report.now) }
+{
+    let mut words = Words::new(alloc);
+    push_line(alloc, &mut words, report, topo)?;
+    let mut line = words.line()?;
+    line.push(b'\n')?;
+    Ok(line)
+}

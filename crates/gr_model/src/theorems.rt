@@ -1,0 +1,78 @@
+//! What holds of every schedule of the machine, on every topology that is a tree. Each function here does nothing: its
+//! contract is the theorem.
+
+ghost use Rattle.std.specs.Prelude.{List, ℕ, true, false, map, filter, ◌≡◌, ◌<◌, ◌≤◌, Some};
+ghost use Rattle.gr_frame.specs.declared.Frame.{Frame};
+ghost use Rattle.gr_frame.specs.declared.Body.TheVariants as body;
+ghost use Rattle.gr_know.specs.Values.{Known};
+ghost use Rattle.gr_sched.specs.declared.step.Line.{Line};
+ghost use Rattle.gr_model.specs.Net.{Net, not_empty};
+ghost use Rattle.gr_model.specs.Tree.{IsNet, IsSubscriber};
+ghost use Rattle.gr_model.specs.Broker.{clashes};
+ghost use Rattle.gr_model.specs.World.{view_of, log_of, frame_at, run_all, start, next, report_of};
+ghost use Rattle.gr_model.specs.Fits.{StepIn, StepsIn, WorldFits, history_of};
+ghost use Rattle.gr_model.specs.Headline.{GetsExactly, Headline, is_doubt_line, doubt_place, doubts_shown};
+ghost use Rattle.gr_model.specs.Order.{CutsInOrder, FramesSent, HeadlineSoFar, SweepsNowhere};
+ghost use Rattle.gr_model.specs.Blank.{net0};
+ghost use Rattle.gr_model.specs.Examples.{WorkedExamples};
+
+/// The topology of the small examples is a tree, so the theorems speak of something.
+pub fn net0_is_a_tree()
+    ensures { IsNet net0 }
+{}
+
+/// The worked examples: the whole report of each of some twenty small schedules.
+pub fn worked_examples()
+    ensures { WorkedExamples }
+{}
+
+/// After every schedule all that any broker knows, all that any frame says and all that was cut is true, and each
+/// host knows every tick up to where its log is settled.
+pub fn always_true()
+    ensures { (net : Net) (steps : List Line) → IsNet net → StepsIn net steps → WorldFits net (run_all net (start net) steps).world }
+{}
+
+/// No frame of knowledge that was ever sent clashes with what its receiver knows, however late it is delivered.
+pub fn never_clashes()
+    ensures { (net : Net) (steps : List Line) (k : ℕ) (f : Frame) (runs : Known) → IsNet net → StepsIn net steps → frame_at (run_all net (start net) steps).world k ≡ Some f → f.body ≡ body.Knowledge runs → clashes (view_of (run_all net (start net) steps).world f.head.to f.head.publisher).know runs ≡ false }
+{}
+
+/// Delivered exactly: over every schedule, what each subscriber got from each publisher is exactly the logged events
+/// that it wants up to its last horizon, once each and in order; and its horizons only rise.
+pub fn gets_exactly()
+    ensures { (net : Net) (steps : List Line) (s p : ℕ) → IsNet net → 1 ≤ net.quiet → StepsIn net steps → p < net.publishers → IsSubscriber net s → GetsExactly net (history_of net steps) s p }
+{}
+
+/// Discarded only after delivery: over every schedule, a publisher's cuts rise strictly, none is past what is settled,
+/// and each event up to a cut was got, before that cut's line, by each subscriber that wants it.
+pub fn cuts_in_order()
+    ensures { (net : Net) (steps : List Line) (p : ℕ) → IsNet net → 1 ≤ net.quiet → StepsIn net steps → p < net.publishers → CutsInOrder net (history_of net steps) p }
+{}
+
+/// After every schedule, a host with subscribers has its horizon where its log is settled.
+pub fn hosts_meet()
+    ensures { (net : Net) (steps : List Line) (p : ℕ) → IsNet net → StepsIn net steps → p < net.publishers → not_empty (net.subscribers_at (net.host p)) ≡ true → (view_of (run_all net (start net) steps).world (net.host p) p).horizon ≡ (log_of (run_all net (start net) steps).world p).settled }
+{}
+
+/// After every schedule, the doubt lines of the next step stand for the places that a show shows, in order, and no
+/// other step has one.
+pub fn doubts_stand()
+    ensures { (net : Net) (steps : List Line) (l : Line) → IsNet net → StepsIn net steps → StepIn net l.step → map doubt_place (filter is_doubt_line (next net (run_all net (start net) steps).world l).lines) ≡ doubts_shown net l }
+{}
+
+/// Frames sent: over every schedule the sent lines are numbered 1, 2, 3 and so on, and say the frames that the calls
+/// of brokers sent, in their order.
+pub fn frames_sent()
+    ensures { (net : Net) (steps : List Line) → IsNet net → 1 ≤ net.quiet → StepsIn net steps → FramesSent net steps }
+{}
+
+/// The headline as far as it is proved, over every schedule and after each of its steps.
+pub fn headline_so_far()
+    ensures { (net : Net) (steps : List Line) → IsNet net → 1 ≤ net.quiet → StepsIn net steps → HeadlineSoFar net steps (report_of net steps) }
+{}
+
+/// The headline, whole, over every schedule without a sweep and after each of its steps: recorded lines, delivered
+/// exactly, doubt horizons, horizons rise, discarded only after delivery.
+pub fn headline_without_sweeps()
+    ensures { (net : Net) (steps : List Line) → IsNet net → 1 ≤ net.quiet → StepsIn net steps → SweepsNowhere steps → Headline net steps (report_of net steps) }
+{}

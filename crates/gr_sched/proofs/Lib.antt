@@ -1,0 +1,6 @@
+pub mod Pieces
+pub mod Digits
+pub mod Ends
+pub mod EventFaults
+pub mod Faults
+pub mod InRange

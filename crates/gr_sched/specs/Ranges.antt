@@ -1,0 +1,39 @@
+-- What holds of every schedule that is read, and of every fault
+use Rattle.std.specs.Prelude.{◌≡◌, ℕ, ◌<◌, ◌≤◌, List, Option, Some, Result, Ok, Err, IfSome}
+use Rattle.gr_event.specs.declared.event.EventFault.TheVariants as event
+use Rattle.gr_sched.specs.declared.fault.StepFault.{StepFault}
+use Rattle.gr_sched.specs.declared.fault.StepFault.TheVariants.{BadEvent, TooMany}
+use Rattle.gr_sched.specs.declared.step.TheConstants.{MAX_NUMBER, MAX_STEPS}
+use Rattle.gr_sched.specs.declared.step.Step.{Step}
+use Rattle.gr_sched.specs.declared.step.Step.TheVariants.{Clock, Publish, Wake, Deliver, Crash, Sweep, Show, Bytes}
+use Rattle.gr_sched.specs.declared.step.Stop.{Stop}
+
+-- the number of a name
+abbrev pub IsNamed : (List ℕ → Option ℕ) → ℕ → Type 0
+IsNamed number_of number = (name : List ℕ) × (number_of name ≡ Some number)
+
+-- at one of the disk calls 1 to 4, with an image from 0 to 255
+abbrev pub IsStop : Stop → Type 0
+IsStop stop = (1 ≤ stop.call) × (stop.call ≤ 4) × (stop.pick ≤ 255)
+
+-- a step whose numbers are in their ranges, and whose brokers and publishers are named
+abbrev pub IsStep : (List ℕ → Option ℕ) → (List ℕ → Option ℕ) → Step → Type 0
+IsStep broker_of publisher_of (Clock now) = now ≤ MAX_NUMBER
+IsStep broker_of publisher_of (Publish publisher number stop event) = IsNamed publisher_of publisher × (1 ≤ number) × (number ≤ MAX_NUMBER) × IfSome stop IsStop
+IsStep broker_of publisher_of (Wake broker) = IsNamed broker_of broker
+IsStep broker_of publisher_of (Deliver frame) = frame ≤ MAX_NUMBER
+IsStep broker_of publisher_of (Crash broker) = IsNamed broker_of broker
+IsStep broker_of publisher_of Sweep = Unit {0}
+IsStep broker_of publisher_of Show = Unit {0}
+IsStep broker_of publisher_of (Bytes frame) = frame ≤ MAX_NUMBER
+
+-- where n lines are counted: there are too many only above the limit, and the fault of an event is never want of memory
+abbrev pub IsFault : ℕ → StepFault → Type 0
+IsFault n (TooMany line) = MAX_STEPS < n
+IsFault n (BadEvent line event.Memory) = ⊥
+IsFault n _ = Unit {0}
+
+-- a value of which P holds, or a fault of reading a line
+abbrev pub Holds : {A : Type 0} → (A → Type 0) → Result A StepFault → Type 0
+Holds P (Ok x) = P x
+Holds P (Err fault) = IsFault 0 fault

@@ -1,0 +1,229 @@
+//! From lines to steps.
+
+ghost use Rattle.std.specs.Prelude.{◌≡◌, ℕ, ◌+◌, ◌-◌, ◌<◌, ◌≤◌, ◌^◌, IfSome, IfOk, IfErr, length};
+ghost use Rattle.std.specs.List.{All, slice_get};
+ghost use Rattle.std.specs.Option.{option_map};
+ghost use Rattle.gr_sched.specs.declared.step.TheConstants.{MAX_BYTES};
+ghost use Rattle.gr_sched.specs.Text.{counted_lines};
+ghost use Rattle.gr_sched.specs.Words.{Gives, ended, known, next_word};
+ghost use Rattle.gr_sched.specs.Ranges.{IsStep, IsFault};
+ghost use Rattle.gr_sched.specs.Grammar.{next_name, after_pick, stop_of, next_stop, event_of, publish_of, step_by, step_of, lines_of, steps_of};
+
+use crate::fault::StepFault;
+use crate::step::{Line, MAX_NUMBER, MAX_STEPS, Names, Step, Steps, Stop};
+use crate::text::next_counted;
+use crate::verb::{Verb, verb_of};
+use crate::words::{after_word, first_word, next_number, next_small, next_word, trimmed};
+use gr_event::{Event, EventFault};
+use std::alloc::Global;
+
+/// A step of line `line` that nothing may follow.
+fn ended(line: u32, rest: &[u8], step: Step) -> Result<Step, StepFault>
+    ensures { Gives (λ s. s) result (ended line rest.now step) }
+{
+    if rest.is_empty() {
+        Ok(step)
+    } else {
+        Err(StepFault::BadWord { line })
+    }
+}
+
+/// The next word of line `line` as a broker's name, and what follows it.
+fn next_broker<'a, N: Names>(
+    line: u32,
+    text: &'a [u8],
+    names: &N,
+) -> Result<(u16, &'a [u8]), StepFault>
+    ensures { Gives (λ r. (r.0, r.1.now)) result (next_name (N.broker_of names.now) line text.now) }
+{
+    let (word, rest) = next_word(line, text)?;
+    match names.broker(word) {
+        Some(broker) => Ok((broker, rest)),
+        None => Err(StepFault::BadWord { line }),
+    }
+}
+
+/// The next word of line `line` as a publisher's name, and what follows it.
+fn next_publisher<'a, N: Names>(
+    line: u32,
+    text: &'a [u8],
+    names: &N,
+) -> Result<(u16, &'a [u8]), StepFault>
+    ensures { Gives (λ r. (r.0, r.1.now)) result (next_name (N.publisher_of names.now) line text.now) }
+{
+    let (word, rest) = next_word(line, text)?;
+    match names.publisher(word) {
+        Some(publisher) => Ok((publisher, rest)),
+        None => Err(StepFault::BadWord { line }),
+    }
+}
+
+/// What follows `pick` in line `line`.
+fn after_pick(line: u32, text: &[u8]) -> Result<&[u8], StepFault>
+    ensures { Gives (λ r. r.now) result (after_pick line text.now) }
+{
+    let (word, rest) = next_word(line, text)?;
+    if word == b"pick".as_slice() {
+        Ok(rest)
+    } else {
+        Err(StepFault::BadWord { line })
+    }
+}
+
+/// A stop of line `line` behind its word, and what follows it.
+fn stop_of(line: u32, text: &[u8]) -> Result<(Stop, &[u8]), StepFault>
+    ensures { Gives (λ r. (r.0, r.1.now)) result (stop_of line text.now) }
+{
+    let (call, rest) = next_small(line, 1, 4, text)?;
+    let rest = after_pick(line, rest)?;
+    let (pick, rest) = next_small(line, 0, 255, rest)?;
+    Ok((Stop { call, pick }, rest))
+}
+
+/// A stop of line `line` where the next word is `stop`, else none, and what follows it.
+fn next_stop(line: u32, text: &[u8]) -> Result<(Option<Stop>, &[u8]), StepFault>
+    ensures { Gives (λ r. (r.0, r.1.now)) result (next_stop line text.now) }
+{
+    if first_word(text) == b"stop".as_slice() {
+        let (stop, rest) = stop_of(line, after_word(text))?;
+        return Ok((Some(stop), rest));
+    }
+    Ok((None, text))
+}
+
+/// The rest of line `line` as an event.
+#[tactic(auto, using(crate::proofs::Faults::other_fault))]
+fn event_of(alloc: Global, line: u32, text: &[u8]) -> Result<Event, StepFault>
+    ensures { Gives (λ e. e) result (event_of line text.now) }
+{
+    if text.is_empty() {
+        return Err(StepFault::BadWord { line });
+    }
+    match Event::from_text(alloc, text) {
+        Ok(event) => Ok(event),
+        Err(EventFault::Memory) => Err(StepFault::Memory),
+        Err(fault) => Err(StepFault::BadEvent { line, fault }),
+    }
+}
+
+/// The publish of line `line` behind its word.
+fn publish_of<N: Names>(alloc: Global, line: u32, text: &[u8], names: &N) -> Result<Step, StepFault>
+    ensures { Gives (λ s. s) result (publish_of (N.publisher_of names.now) line text.now) }
+{
+    let (publisher, rest) = next_publisher(line, text, names)?;
+    let (number, rest) = next_number(line, 1, MAX_NUMBER, rest)?;
+    let (stop, rest) = next_stop(line, rest)?;
+    let event = event_of(alloc, line, rest)?;
+    Ok(Step::Publish {
+        publisher,
+        number,
+        stop,
+        event,
+    })
+}
+
+/// The step of line `line` behind its word.
+fn step_by<N: Names>(
+    alloc: Global,
+    line: u32,
+    verb: Verb,
+    text: &[u8],
+    names: &N,
+) -> Result<Step, StepFault>
+    ensures { Gives (λ s. s) result (step_by (N.broker_of names.now) (N.publisher_of names.now) line verb text.now) }
+{
+    match verb {
+        Verb::Clock => {
+            let (now, rest) = next_number(line, 0, MAX_NUMBER, text)?;
+            ended(line, rest, Step::Clock { now })
+        }
+        Verb::Publish => publish_of(alloc, line, text, names),
+        Verb::Wake => {
+            let (broker, rest) = next_broker(line, text, names)?;
+            ended(line, rest, Step::Wake { broker })
+        }
+        Verb::Deliver => {
+            let (frame, rest) = next_number(line, 0, MAX_NUMBER, text)?;
+            ended(line, rest, Step::Deliver { frame })
+        }
+        Verb::Crash => {
+            let (broker, rest) = next_broker(line, text, names)?;
+            ended(line, rest, Step::Crash { broker })
+        }
+        Verb::Sweep => ended(line, text, Step::Sweep),
+        Verb::Show => ended(line, text, Step::Show),
+        Verb::Bytes => {
+            let (frame, rest) = next_number(line, 0, MAX_NUMBER, text)?;
+            ended(line, rest, Step::Bytes { frame })
+        }
+    }
+}
+
+/// The step of line `number`.
+fn step_of<N: Names>(alloc: Global, number: u32, line: &[u8], names: &N) -> Result<Step, StepFault>
+    ensures { Gives (λ s. s) result (step_of (N.broker_of names.now) (N.publisher_of names.now) number line.now) }
+{
+    let (word, rest) = next_word(number, trimmed(line))?;
+    match verb_of(word) {
+        Some(verb) => step_by(alloc, number, verb, rest, names),
+        None => Err(StepFault::BadWord { line: number }),
+    }
+}
+
+/// The number of the first counted line past the limit, if there are so many.
+fn past_limit(steps: &[u8]) -> Option<u64>
+    ensures number { result ≡ option_map (λ c. c.0) (slice_get (counted_lines steps.now) MAX_STEPS) }
+    ensures within { IfSome result (λ n. n ≤ length steps.now) }
+{
+    let mut seen = 0;
+    let mut before = 0;
+    let mut rest = steps;
+    'lines: while let Some(counted) = next_counted(before, rest) {
+        if seen == MAX_STEPS {
+            return Some(counted.number);
+        }
+        seen += 1;
+        before = counted.number;
+        rest = counted.rest;
+    }
+    None
+}
+
+/// The steps of the counted lines.
+fn read_lines<N: Names>(alloc: Global, steps: &[u8], names: &N) -> Result<Steps, StepFault>
+    requires { length steps.now ≤ MAX_BYTES }
+    ensures { Gives (λ s. s) result (lines_of (N.broker_of names.now) (N.publisher_of names.now) (counted_lines steps.now)) }
+{
+    let mut found = Steps::new(alloc);
+    let mut before = 0;
+    let mut rest = steps;
+    'lines: while let Some(counted) = next_counted(before, rest) {
+        let number = counted.number as u32;
+        match step_of(alloc, number, counted.line, names) {
+            Ok(step) => found.push(Line { number, step })?,
+            Err(fault) => return Err(fault),
+        }
+        before = counted.number;
+        rest = counted.rest;
+    }
+    Ok(found)
+}
+
+/// The steps of a schedule, or its first fault in reading order, word by word.
+///
+/// `TooMany` comes exactly where `count` is above `MAX_STEPS`, and is tested before any line is read as a step.
+pub fn parse<N: Names>(alloc: Global, steps: &[u8], names: &N) -> Result<Steps, StepFault>
+    requires { length steps.now ≤ MAX_BYTES }
+    ensures steps { Gives (λ s. s) result (steps_of (N.broker_of names.now) (N.publisher_of names.now) steps.now) }
+    ensures range { IfOk result (λ s. All (λ line. IsStep (N.broker_of names.now) (N.publisher_of names.now) line.step) s) }
+    ensures all { IfOk result (λ s. length s ≡ length (counted_lines steps.now)) }
+    ensures few { IfOk result (λ s. length s ≤ MAX_STEPS) }
+    ensures cause { IfErr result (IsFault (length (counted_lines steps.now))) }
+{
+    match past_limit(steps) {
+        Some(number) => Err(StepFault::TooMany {
+            line: number as u32,
+        }),
+        None => read_lines(alloc, steps, names),
+    }
+}

@@ -1,0 +1,5 @@
+pub mod World
+pub mod Scenario
+pub mod Taken
+pub mod Sent
+pub mod Top
