@@ -2,6 +2,7 @@ ghost use Rattle.std.specs.Prelude.{◌≤◌, ◌^◌};
 
 use crate::knowledge::Know;
 use crate::values::K;
+use gr_event::Event;
 use gr_tick::{Lattice, Piece, Run};
 use std::alloc::Global;
 use std::test::Fail;
@@ -54,5 +55,46 @@ fn finishes_and_cuts(rt: HostRuntime) -> Result<(), Fail> {
     let piece = know.piece(5, 6)?;
     assert_eq!(rt; piece.len(), 2);
     assert!(rt; piece.run(1).value.same(&K::S));
+    Ok(())
+}
+
+/// The event `{"price":82}`.
+fn price(alloc: Global) -> Result<Event, Fail> {
+    let bytes = b"\x01\x05price\x01\x00\x00\x00\x00\x00\x00\x00\x52";
+    Ok(Event::decode(alloc, bytes)?)
+}
+
+#[test]
+fn an_event_clashes_with_silence(rt: HostRuntime) -> Result<(), Fail> {
+    let mut know = Know::new(rt.alloc());
+    let _ = know.learn(&piece_of(rt.alloc(), 3, 3, false)?)?;
+    let event = price(rt.alloc())?;
+    let mut came = Piece::new(rt.alloc());
+    came.push(Run {
+        first: 3,
+        last: 3,
+        value: K::D(event.share()),
+    })?;
+    let clash = know.clash(&came).ok_or("no clash")?;
+    assert_eq!(rt; clash.tick, 3);
+    assert!(rt; clash.kept.same(&K::S));
+    assert!(rt; clash.came.same(&K::D(event)));
+    Ok(())
+}
+
+#[test]
+fn forgets_the_least_events(rt: HostRuntime) -> Result<(), Fail> {
+    let mut know = Know::new(rt.alloc());
+    let event = price(rt.alloc())?;
+    let mut piece = Piece::new(rt.alloc());
+    piece.push(Run {
+        first: 2,
+        last: 6,
+        value: K::D(event),
+    })?;
+    let _ = know.learn(&piece)?;
+    know.forget(2, 9)?;
+    assert_eq!(rt; know.len(), 1);
+    assert_eq!(rt; know.run(0).first, 5);
     Ok(())
 }
