@@ -45,4 +45,5 @@ pub mod NamedLines
 pub mod WithoutSweeps
 pub mod SweepHosts
 pub mod SweepHears
+pub mod SweepStates
 pub mod AfterSweeps
