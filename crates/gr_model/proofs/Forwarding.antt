@@ -121,15 +121,15 @@ pass_not_Q net p c (D e) h = go (wanted_below net p c e)
     go true = λ x. cc
     go false = λ x. cc
 
-not_A : (q : Q3) → q ≢ A → is_A q ≡ false
+pub not_A : (q : Q3) → q ≢ A → is_A q ≡ false
 not_A N h = refl
 not_A C h = refl
 not_A A h = absurd (h refl)
 
-is_Q_of : (k : K) → k ≡ Q → is_Q k ≡ true
+pub is_Q_of : (k : K) → k ≡ Q → is_Q k ≡ true
 is_Q_of k e = ap is_Q e
 
-not_Q_of : (k : K) → k ≢ Q → is_Q k ≡ false
+pub not_Q_of : (k : K) → k ≢ Q → is_Q k ≡ false
 not_Q_of Q h = absurd (h refl)
 not_Q_of S h = refl
 not_Q_of (D e) h = refl

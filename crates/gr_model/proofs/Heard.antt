@@ -41,7 +41,7 @@ not_Q_at S e = λ h. cc
 not_Q_at (D v) e = λ h. cc
 not_Q_at F e = λ h. cc
 
-cases_Q : (k : K) → (k ≡ Q) ⊎ (k ≢ Q)
+pub cases_Q : (k : K) → (k ≡ Q) ⊎ (k ≢ Q)
 cases_Q Q = inl refl
 cases_Q S = inr (λ h. cc)
 cases_Q (D e) = inr (λ h. cc)

@@ -33,7 +33,7 @@ Has-past P zero xs ys h = Has-front P xs ys h
 Has-past P (suc n) [] ys h = absurd h
 Has-past P (suc n) (x ∷ xs) ys h = Has-past P n xs ys h
 
-Has-last : (P : Frame → Type 0) (n : ℕ) (xs ys : List Frame) → n ≤ length xs → Has P ys → Has P (frames_past n (xs ++ ys))
+pub Has-last : (P : Frame → Type 0) (n : ℕ) (xs ys : List Frame) → n ≤ length xs → Has P ys → Has P (frames_past n (xs ++ ys))
 Has-last P zero xs ys l h = Has-back P xs ys h
 Has-last P (suc n) [] ys l h = absurd (omega (arith, l))
 Has-last P (suc n) (x ∷ xs) ys l h = Has-last P n xs ys (omega (arith, l)) h
