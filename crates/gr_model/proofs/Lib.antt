@@ -47,4 +47,6 @@ pub mod SweepHosts
 pub mod SweepHears
 pub mod SweepStates
 pub mod SecondTurn
+pub mod SecondOrder
+pub mod SecondPhase
 pub mod AfterSweeps

@@ -1,9 +1,9 @@
 -- A broker's turn in the second phase: each tick that comes goes on to each child that waits for it, and the horizon passes all that came
-use Rattle.std.proofs.Common.{◌≡◌, ◌≢◌, ◌⊎◌, inl, inr, ⊎_elim, ℕ, suc, ◌-◌, ◌≤◌, ◌<◌, Bool, true, false, not, ◌&&◌, ◌||◌, List, [], ◌∷◌, ◌++◌, length, refl, sym, ap, ap₂, ◌∙◌, subst, arith}
+use Rattle.std.proofs.Common.{◌≡◌, ◌≢◌, ◌⊎◌, inl, inr, ⊎_elim, ℕ, suc, ◌-◌, ◌≤◌, ◌<◌, Bool, true, false, not, ◌&&◌, ◌||◌, List, [], ◌∷◌, ◌++◌, length, refl, sym, ap, ap₂, ◌∙◌, subst, arith, append-nil, append_assoc}
 use Rattle.std.specs.Prelude.{nat_eq, nat_le, filter, if◌then◌else◌}
 use Rattle.std.specs.List.{list_any}
 use Rattle.std.proofs.lemmas.List.{length-append}
-use Rattle.std.proofs.lemmas.Bool.{cases_Bool, cases_lt, false≢true, true≢false, or_cases, or_left, or_right, and_parts, eqb-true}
+use Rattle.std.proofs.lemmas.Bool.{cases_Bool, cases_lt, false≢true, true≢false, or_cases, or_left, or_right, and_parts, eqb-true, eq-eqb}
 use Rattle.gr_know.specs.declared.values.K.{K}
 use Rattle.gr_know.specs.declared.values.K.TheVariants.{Q, S, D, F}
 use Rattle.gr_curio.specs.declared.values.Q3.{Q3}
@@ -16,7 +16,7 @@ use Rattle.gr_know.specs.Values.{Known, known_at, is_Q, join_K, same_K}
 use Rattle.gr_curio.specs.Values.{Wanted, wanted_at, asked_at, is_C, is_A}
 use Rattle.gr_model.specs.Net.{Net, is_host, keeps_horizon, pass}
 use Rattle.gr_model.specs.Broker.{View, Log, Outcome, learn, receive, clashes, any_C, is_settled, forward, forward_wants, new_ticks, quenched, consolidated, finished, trimmed, horizon_after}
-use Rattle.gr_model.specs.World.{World, view_of, log_of, absorbed, in_turn, deliver_frame, frames_past, is_know_to}
+use Rattle.gr_model.specs.World.{World, view_of, log_of, absorbed, in_turn, deliver_frame, hand_down, frames_past, is_know_to}
 use Rattle.gr_model.specs.Truth.{Facts, KnowsTruth, AllWantTruth}
 use Rattle.gr_model.specs.Tree.{IsNet, IsPlace}
 use Rattle.gr_model.specs.Fits.{WorldFits, FrameTrue, BodyTrue, ViewTrue, facts_of, reached_in}
@@ -25,7 +25,7 @@ use Rattle.gr_model.proofs.CallTruth.{learned_horizon, joined-is, learn_wants, n
 use Rattle.gr_model.proofs.Calls.{CallTrue, receive_call, join_not_Q}
 use Rattle.gr_model.proofs.Clash.{true_pieces}
 use Rattle.gr_model.proofs.Heard.{cases_Q, horizon_keeps, learn_above}
-use Rattle.gr_model.proofs.Worlds.{Each, IsLaterWorld, FrameTrue-later, deliver_kept}
+use Rattle.gr_model.proofs.Worlds.{Each, IsLaterWorld, FrameTrue-later, deliver_kept, filter_frames, frames_past_true}
 use Rattle.gr_model.proofs.AskMoments.{Taken, absorbed_taken}
 use Rattle.gr_model.proofs.CallTicks.{trimmed-is}
 use Rattle.gr_model.proofs.Forwarding.{Has, Has-on, TellsTick, TellsBody, pass_not_Q, is_Q_of, not_A, wants_of, quenched_at, known_then, LearnTicks, learn_ticks}
@@ -293,4 +293,76 @@ risen net m p b w h =
               (λ q. absurd q)
               z)
           h.edge
+    ]
+
+-- What else a turn leaves
+
+-- frames are added, the log and the other brokers' views stay, no question is new, and no ask
+pub record Leaves (net : Net) (old : World) (p b : ℕ) (w : World) (rest : List Frame) : Type 0 where
+  pub more : List Frame
+  pub frames : w.frames ≡ old.frames ++ more
+  pub log : log_of w p ≡ log_of old p
+  pub other : (c : ℕ) → c ≢ b → view_of w c p ≡ view_of old c p
+  pub asks : (view_of w b p).asks ≡ (view_of old b p).asks
+  pub wants : (t : ℕ) → any_C (view_of w b p).wants t ≡ true → any_C (view_of old b p).wants t ≡ true
+
+leaves_step : (net : Net) (old : World) → IsNet net → TurnKeeps net (Leaves net old)
+leaves_step net old n w x runs fs f tr e h =
+    let p = x.head.publisher in
+    let b = x.head.to in
+    let y = (deliver_frame net w x).world in
+    let o = learned net w x runs in
+    let d = delivered_know net w x runs n f tr e in
+    record {
+      more = h.more ++ o.frames;
+      frames = d.taken.frames ∙ (ap (λ (z : List Frame). z ++ o.frames) h.frames ∙ append_assoc old.frames h.more o.frames);
+      log = d.taken.log ∙ (d.log ∙ h.log);
+      other = λ c k. d.taken.other c p k ∙ h.other c k;
+      asks = ap (λ z. z.asks) d.taken.view ∙ (d.ticks.asks ∙ h.asks);
+      wants = λ t c. h.wants t (d.old t (subst (λ z. any_C z.wants t ≡ true) d.taken.view c));
+    }
+
+-- The whole turn
+
+-- the frames that a broker is handed
+abbrev pub handed : ℕ → ℕ → ℕ → World → List Frame
+handed p first b w = filter (is_know_to p b) (frames_past first w.frames)
+
+handed_true : (net : Net) (p first b : ℕ) (w : World) → WorldFits net w → Each (FrameTrue net w) (handed p first b w)
+handed_true net p first b w f = filter_frames net w (is_know_to p b) (frames_past first w.frames) (frames_past_true net w first w.frames f.frames)
+
+pub turn_leaves : (net : Net) (p first : ℕ) (w : World) (b : ℕ) → IsNet net → WorldFits net w → Leaves net w p b (hand_down net p first w b).world []
+unfolding hand_down
+turn_leaves net p first w b n f =
+    turn_keeps net (Leaves net w) n (leaves_step net w n) p b (handed p first b w) w f (handed_true net p first b w f) (all_know_to p b (frames_past first w.frames))
+    (record { more = []; frames = sym (append-nil w.frames); log = refl; other = λ c k. refl; asks = refl; wants = λ t c. c })
+
+pub turn_tells : (net : Net) (c t first p b : ℕ) (w : World) → IsNet net → WorldFits net w → Waits net c t first p b w (handed p first b w) → Has (TellsKnown p b c t) (frames_past first (hand_down net p first w b).world.frames)
+unfolding hand_down
+turn_tells net c t first p b w n f h =
+    ⊎_elim (λ z. z) (λ z. absurd z.2)
+    (turn_keeps net (Waits net c t first) n (waits_step net c t first n) p b (handed p first b w) w f (handed_true net p first b w f) (all_know_to p b (frames_past first w.frames)) h).state
+
+pub turn_rises : (net : Net) (m p first b : ℕ) (w : World) → IsNet net → WorldFits net w → Rising net m p b w (handed p first b w) → m ≤ (view_of (hand_down net p first w b).world b p).horizon
+unfolding hand_down
+turn_rises net m p first b w n f h =
+    risen net m p b (in_turn (deliver_frame net) (handed p first b w) w).world
+    (turn_keeps net (Rising net m) n (rising_step net m n) p b (handed p first b w) w f (handed_true net p first b w f) (all_know_to p b (frames_past first w.frames)) h)
+
+tells_is_know : (p u b t : ℕ) (f : Frame) → TellsKnown p u b t f → (is_know_to p b f ≡ true) × Knows t f
+tells_is_know p u b t f h = go f.body h.value h.known h.tells.body
+  where
+    go : (y : Body) (k : K) → k ≢ Q → TellsBody t k y → ((elim y as (λ q. Bool) [ body.Knowledge runs ↦ nat_eq f.head.publisher p && nat_eq f.head.to b | _ ↦ false ]) ≡ true) × KnowsBody t y
+    go (body.Knowledge runs) k n e = (ap₂ (λ x y. x && y) (eq-eqb f.head.publisher p h.tells.publisher) (eq-eqb f.head.to b h.tells.to_is), λ q. n (sym e ∙ q))
+    go (body.Curiosity runs) k n e = absurd e
+    go (body.Expect tick) k n e = absurd e
+
+-- a tick that a frame tells the broker is among those that it is handed
+pub told_handed : (p u b t : ℕ) (fs : List Frame) → Has (TellsKnown p u b t) fs → Has (Knows t) (filter (is_know_to p b) fs)
+told_handed p u b t [] h = absurd h
+told_handed p u b t (f ∷ fs) (inl h) = let k = tells_is_know p u b t f h in rw (k.0) (inl k.1)
+told_handed p u b t (f ∷ fs) (inr h) =
+    elim (cases_Bool (is_know_to p b f)) [
+      | inl e ↦ rw e (inr (told_handed p u b t fs h))
+      | inr e ↦ rw e (told_handed p u b t fs h)
     ]
