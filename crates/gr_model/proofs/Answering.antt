@@ -91,7 +91,7 @@ wants_true_at net f p (d ∷ cs) (w ∷ ws) c a m =
     ]
 
 -- the answers, the curiosity with its acknowledgements, and what is stored, tick by tick
-acknowledged-is : (w piece : Wanted) → AreRuns N w → AreRuns N piece → AreRunsOf N (λ t. if is_A (wanted_at piece t) then A else wanted_at w t) (acknowledged w piece)
+pub acknowledged-is : (w piece : Wanted) → AreRuns N w → AreRuns N piece → AreRunsOf N (λ t. if is_A (wanted_at piece t) then A else wanted_at w t) (acknowledged w piece)
 unfolding acknowledged
 acknowledged-is w piece h i = zip_runs-is N N N same_Q3 Q3_decides (λ a x. if is_A x then A else a) w piece refl h i
 
@@ -112,7 +112,7 @@ answers-is net p c know w piece r =
     tabulate-is Q same_K K_decides (λ t. answer net p c (known_at know t) (wanted_at w t) (wanted_at piece t)) (points know ++ points w ++ points piece)
     (three_steady Q (answer net p c) know w piece (λ k a. refl) r (λ t n. ap (answer net p c (known_at know t) (wanted_at w t)) (value_at-past N piece t (IsPast-append t (points know ++ points w) (points piece) n).1)))
 
-stored-is : (know : Known) (w piece : Wanted) → AreRuns N w → AreRuns N piece → AreRunsOf N (λ t. curious (known_at know t) (wanted_at w t) (wanted_at piece t)) (stored know w piece)
+pub stored-is : (know : Known) (w piece : Wanted) → AreRuns N w → AreRuns N piece → AreRunsOf N (λ t. curious (known_at know t) (wanted_at w t) (wanted_at piece t)) (stored know w piece)
 unfolding stored
 stored-is know w piece rw_ rp =
     tabulate-is N same_Q3 Q3_decides (λ t. curious (known_at know t) (wanted_at w t) (wanted_at piece t)) (points know ++ points w ++ points piece) (record {

@@ -110,7 +110,7 @@ trimmed_horizon net p b v = go (is_host net p b)
     go true = refl
     go false = refl
 
-trimmed_wants : (net : Net) (p b : ℕ) (v : View) → (trimmed net p b v).wants ≡ v.wants
+pub trimmed_wants : (net : Net) (p b : ℕ) (v : View) → (trimmed net p b v).wants ≡ v.wants
 unfolding trimmed
 trimmed_wants net p b v = go (is_host net p b)
   where

@@ -215,7 +215,7 @@ learn_ticks net f p b piece v log place h k =
     F_if true x = refl
     F_if false x = refl
 
-quench_not_C : (net : Net) (p c : ℕ) (k : K) (q : Q3) → k ≢ Q → quenched_at net p c k q ≢ C
+pub quench_not_C : (net : Net) (p c : ℕ) (k : K) (q : Q3) → k ≢ Q → quenched_at net p c k q ≢ C
 quench_not_C net p c k N h = λ e. cc
 quench_not_C net p c k A h = λ e. cc
 quench_not_C net p c k C h = λ e. N_not_C (sym (ap (λ x. if not x then N else C) (not_Q_of (pass net p c k) (pass_not_Q net p c k h))) ∙ e)

@@ -46,7 +46,9 @@ pub mod WithoutSweeps
 pub mod SweepHosts
 pub mod SweepHears
 pub mod SweepStates
+pub mod FirstUnknown
 pub mod SecondTurn
 pub mod SecondOrder
 pub mod SecondPhase
+pub mod SecondParts
 pub mod AfterSweeps
