@@ -51,4 +51,5 @@ pub mod SecondTurn
 pub mod SecondOrder
 pub mod SecondPhase
 pub mod SecondParts
+pub mod SecondBrings
 pub mod AfterSweeps

@@ -67,7 +67,7 @@ stored_needs net p u c t w h =
     ap₂ (λ x y. x && (y || (keeps_horizon net p u && nat_lt (view_of w u p).horizon t))) (ap is_Q h.unknown) (any_C_of (view_of w u p).wants (place_of c (net.children p u)) t (ap is_C h.asks))
 
 -- and so does who does not know a tick above the horizon that it keeps
-above_needs : (net : Net) (p b t : ℕ) (v : View) → keeps_horizon net p b ≡ true → known_at v.know t ≡ Q → v.horizon < t → needs net p b v t ≡ true
+pub above_needs : (net : Net) (p b t : ℕ) (v : View) → keeps_horizon net p b ≡ true → known_at v.know t ≡ Q → v.horizon < t → needs net p b v t ≡ true
 above_needs net p b t v keeps k l = ap₂ (λ x y. x && y) (ap is_Q k) (or_right (any_C v.wants t) (keeps_horizon net p b && nat_lt v.horizon t) (ap₂ (λ x y. x && y) keeps (lt-ltb v.horizon t l)))
 
 -- what is due was unknown
