@@ -53,3 +53,4 @@ pub mod SecondPhase
 pub mod SecondParts
 pub mod SecondBrings
 pub mod AfterSweeps
+pub mod SecondReaches
