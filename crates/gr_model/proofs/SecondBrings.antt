@@ -1,35 +1,33 @@
 -- A sweep brings each broker below the host each tick up to its moment: those that it does not know come in frames of the sweep, and its horizon passes them
-use Rattle.std.proofs.Common.{◌≡◌, ◌≢◌, ◌⊎◌, inl, inr, ⊎_elim, ℕ, suc, zero, ◌+◌, ◌≤◌, ◌<◌, max, Bool, true, false, not, ◌&&◌, ◌||◌, List, [], ◌∷◌, ◌++◌, length, refl, sym, ap, ap₂, ◌∙◌, subst, arith, le_trans, le_refl, append-nil, append_assoc}
-use Rattle.std.specs.Prelude.{nat_eq, nat_le, if◌then◌else◌}
+use Rattle.std.proofs.Common.{◌≡◌, ◌≢◌, ◌⊎◌, inl, inr, ⊎_elim, ℕ, suc, zero, ◌+◌, ◌≤◌, ◌<◌, Bool, true, false, ◌&&◌, ◌||◌, List, [], ◌∷◌, ◌++◌, length, refl, sym, ap, ap₂, ◌∙◌, subst, arith, le_trans, le_refl, append-nil, append_assoc}
+use Rattle.std.specs.Prelude.{if◌then◌else◌}
 use Rattle.std.specs.List.{list_any}
 use Rattle.std.proofs.lemmas.Bool.{cases_Bool, cases_lt, cases_eq, false≢true, eq-eqb, or_left, or_right}
 use Rattle.gr_know.specs.declared.values.K.{K}
 use Rattle.gr_know.specs.declared.values.K.TheVariants.{Q, F}
-use Rattle.gr_curio.specs.declared.asks.Moment.TheVariants.{At}
 use Rattle.gr_frame.specs.declared.Body.{Body}
 use Rattle.gr_frame.specs.declared.Body.TheVariants as body
 use Rattle.gr_frame.specs.declared.Frame.{Frame}
-use Rattle.gr_know.specs.Values.{known_at, is_Q}
+use Rattle.gr_know.specs.Values.{known_at}
 use Rattle.gr_curio.specs.Values.{Wanted, asked_at}
 use Rattle.gr_model.specs.Net.{Net, is_host, keeps_horizon, numbers_from}
-use Rattle.gr_model.specs.Broker.{View, Log, Outcome, wake, receive, is_settled, all_A}
-use Rattle.gr_model.specs.World.{World, view_of, log_of, absorbed, in_turn, wake_for, deliver_frame, wake_up, hand_down, sweep_for, outwards, inwards, numbers_down, frames_past, is_want}
+use Rattle.gr_model.specs.Broker.{View, Outcome, wake, receive, is_settled}
+use Rattle.gr_model.specs.World.{World, view_of, log_of, absorbed, in_turn, wake_for, deliver_frame, wake_up, sweep_for, inwards, numbers_down, frames_past, is_want}
 use Rattle.gr_model.specs.Tree.{IsNet}
 use Rattle.gr_model.specs.Fits.{WorldFits, FrameTrue, reached_in}
-use Rattle.gr_model.proofs.Calls.{CallTrue, wake_call, receive_call}
+use Rattle.gr_model.proofs.Calls.{wake_call, receive_call}
 use Rattle.gr_model.proofs.Heard.{cases_Q, is_Q_at, not_done}
 use Rattle.gr_model.proofs.Worlds.{Each, depths_in, numbers_below}
-use Rattle.gr_model.proofs.AskMoments.{Taken, absorbed_taken, ExpectFits}
-use Rattle.gr_model.proofs.SweepAsks.{AsksNow, sweep_for_now}
+use Rattle.gr_model.proofs.AskMoments.{Taken, absorbed_taken}
+use Rattle.gr_model.proofs.SweepAsks.{sweep_for_now}
 use Rattle.gr_model.proofs.Closed.{Goes, IsCallClosed, in_turn_goes, wake_up_goes, sweep_for_goes}
-use Rattle.gr_model.proofs.Forwarding.{Has, Has-on, TellsBody}
-use Rattle.gr_model.proofs.Serves.{TellsKnown, frames_past_all, want_body}
+use Rattle.gr_model.proofs.Forwarding.{Has, TellsBody}
+use Rattle.gr_model.proofs.Serves.{TellsKnown, frames_past_all}
 use Rattle.gr_model.proofs.Stays.{DeliveredWant, delivered_want, WokenBelow, woken_below}
 use Rattle.gr_model.proofs.SweepHears.{tells_to, tells_body}
 use Rattle.gr_model.proofs.SweepStates.{Unknowns, Begins, Asked, first_phase, second_phase}
 use Rattle.gr_model.proofs.FirstUnknown.{unknown_calls}
-use Rattle.gr_model.proofs.SecondTurn.{IsKnowTo}
-use Rattle.gr_model.proofs.SecondParts.{IsUpKept, IsDownKept, inwards_goes, sweep_goes}
+use Rattle.gr_model.proofs.SecondParts.{inwards_goes, sweep_goes}
 use Rattle.gr_model.proofs.SecondOrder.{Had}
 use Rattle.gr_model.proofs.SecondPhase.{IsDue, Handed, handed_all, comes, above_needs}
 

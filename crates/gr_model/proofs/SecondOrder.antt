@@ -1,8 +1,8 @@
 -- All brokers by rising depth, one after another: what holds as each has had its turn
-use Rattle.std.proofs.Common.{◌≡◌, ◌≢◌, ◌⊎◌, inl, inr, ℕ, suc, zero, ◌+◌, ◌<◌, true, false, List, [], ◌∷◌, ◌++◌, refl, sym, ap, ◌∙◌, subst, arith}
+use Rattle.std.proofs.Common.{◌≡◌, ◌≢◌, ◌⊎◌, inl, inr, ℕ, suc, zero, ◌+◌, ◌<◌, List, [], ◌∷◌, ◌++◌, refl, sym, subst, arith}
 use Rattle.std.specs.Prelude.{nat_eq, filter, flat_map}
 use Rattle.std.proofs.lemmas.Bool.{cases_eq, eq-eqb, ne_eqb}
-use Rattle.gr_model.specs.Net.{Net, numbers, numbers_from}
+use Rattle.gr_model.specs.Net.{Net, numbers_from}
 use Rattle.gr_model.specs.World.{World, Told, in_turn, at_depth, outwards}
 
 pub in_turn_append : {X : Type 0} (f : World → X → Told) (xs ys : List X) (w : World) → (in_turn f (xs ++ ys) w).world ≡ (in_turn f ys (in_turn f xs w).world).world

@@ -1,11 +1,11 @@
 -- What the calls for one publisher keep holds over the phases of its sweep: the wakes, what they lead to upwards, and what is handed down
-use Rattle.std.proofs.Common.{◌≡◌, ◌≢◌, inl, inr, ℕ, suc, zero, ◌≤◌, ◌<◌, Bool, true, false, List, [], ◌∷◌, ◌++◌, length, refl, sym, ap, ◌∙◌, subst, arith}
+use Rattle.std.proofs.Common.{◌≡◌, inl, inr, ℕ, suc, zero, ◌<◌, true, List, [], ◌∷◌, length, sym, subst}
 use Rattle.std.specs.Prelude.{filter}
 use Rattle.std.proofs.lemmas.Bool.{cases_Bool}
 use Rattle.gr_frame.specs.declared.Frame.{Frame}
 use Rattle.gr_model.specs.Net.{Net, numbers}
 use Rattle.gr_model.specs.Broker.{Outcome, wake, receive}
-use Rattle.gr_model.specs.World.{World, Told, view_of, log_of, absorbed, after, in_turn, wake_for, deliver_frame, deliver_up, wake_up, hand_down, sweep_for, frames_past, sent_since, is_want, is_know_to, outwards, inwards, numbers_down}
+use Rattle.gr_model.specs.World.{World, view_of, log_of, absorbed, after, in_turn, wake_for, deliver_frame, deliver_up, wake_up, hand_down, sweep_for, frames_past, sent_since, is_want, is_know_to, outwards, inwards, numbers_down}
 use Rattle.gr_model.specs.Tree.{IsNet}
 use Rattle.gr_model.specs.Fits.{WorldFits, FrameTrue, AllFit, AllFramesTrue, reached_in}
 use Rattle.gr_model.proofs.Calls.{wake_call, receive_call}

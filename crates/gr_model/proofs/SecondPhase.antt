@@ -1,19 +1,18 @@
 -- The second phase: by rising depth each broker is handed what it needs and hands it on, so each kept horizon comes to the moment
-use Rattle.std.proofs.Common.{◌≡◌, ◌≢◌, ◌⊎◌, inl, inr, ⊎_elim, ℕ, suc, zero, ◌+◌, ◌≤◌, ◌<◌, Bool, true, false, ◌&&◌, ◌||◌, List, [], ◌∷◌, ◌++◌, length, get_or, refl, sym, ap, ap₂, ◌∙◌, subst, Some, arith, append-nil, append_assoc, le_antisymm}
-use Rattle.std.specs.Prelude.{nat_eq, nat_lt}
-use Rattle.std.specs.List.{list_any}
+use Rattle.std.proofs.Common.{◌≡◌, ◌≢◌, ◌⊎◌, inl, inr, ⊎_elim, ℕ, suc, zero, ◌≤◌, ◌<◌, true, false, ◌&&◌, ◌||◌, List, [], ◌∷◌, ◌++◌, length, get_or, refl, sym, ap, ap₂, ◌∙◌, subst, Some, arith, append-nil, append_assoc, le_antisymm}
+use Rattle.std.specs.Prelude.{nat_lt}
 use Rattle.std.proofs.lemmas.List.{length-append}
-use Rattle.std.proofs.lemmas.Bool.{cases_Bool, cases_lt, cases_eq, false≢true, true≢false, or_left, or_right, and_parts, eqb-true, lt-ltb, both_ways}
+use Rattle.std.proofs.lemmas.Bool.{cases_Bool, cases_lt, cases_eq, false≢true, or_left, or_right, and_parts, eqb-true, lt-ltb, both_ways}
 use Rattle.gr_know.specs.declared.values.K.{K}
 use Rattle.gr_know.specs.declared.values.K.TheVariants.{Q, S, D, F}
-use Rattle.gr_curio.specs.declared.values.Q3.TheVariants.{N, C, A}
+use Rattle.gr_curio.specs.declared.values.Q3.TheVariants.{C, A}
 use Rattle.gr_curio.specs.declared.asks.Moment.TheVariants.{At}
 use Rattle.gr_frame.specs.declared.Frame.{Frame}
 use Rattle.gr_know.specs.Values.{known_at, is_Q}
 use Rattle.gr_curio.specs.Values.{Wanted, wanted_at, asked_at, is_C}
 use Rattle.gr_model.specs.Net.{Net, is_host, keeps_horizon}
 use Rattle.gr_model.specs.Broker.{View, any_C, place_of}
-use Rattle.gr_model.specs.World.{World, view_of, log_of, in_turn, hand_down, outwards, frames_past}
+use Rattle.gr_model.specs.World.{World, view_of, log_of, hand_down, frames_past}
 use Rattle.gr_model.specs.Tree.{IsNet}
 use Rattle.gr_model.specs.Fits.{WorldFits}
 use Rattle.gr_model.proofs.Heard.{cases_Q}
@@ -25,7 +24,7 @@ use Rattle.gr_model.proofs.Forwarding.{Has, wants_of}
 use Rattle.gr_model.proofs.Serves.{TellsKnown, Stores}
 use Rattle.gr_model.proofs.Path.{Has-past}
 use Rattle.gr_model.proofs.SweepStates.{IsChild, Begins, Asked, Calm, first_phase, second_phase}
-use Rattle.gr_model.proofs.SecondTurn.{Knows, Waits, Rising, Leaves, turn_leaves, turn_tells, turn_rises, handed, told_handed}
+use Rattle.gr_model.proofs.SecondTurn.{Knows, Leaves, turn_leaves, turn_tells, turn_rises, handed, told_handed}
 use Rattle.gr_model.proofs.SecondOrder.{Had, InOrder, outwards_in_turn}
 
 -- a tick that the second phase brings to a broker: one past what was settled, or one that it needs after the first phase

@@ -1,16 +1,12 @@
 -- Every sweep that is not refused reaches each broker below the host that keeps a horizon, so the headline holds whole over every schedule
-use Rattle.std.proofs.Common.{◌≡◌, ◌≢◌, ◌⊎◌, inl, inr, ⊎_elim, ℕ, ◌+◌, ◌≤◌, ◌<◌, max, Bool, true, false, ◌||◌, List, [], ◌∷◌, ◌++◌, length, refl, sym, ap, ◌∙◌, subst, arith, le_antisymm}
+use Rattle.std.proofs.Common.{◌≡◌, inl, inr, ⊎_elim, ℕ, ◌≤◌, ◌<◌, max, Bool, true, false, List, [], ◌∷◌, length, refl, sym, ap, ◌∙◌, subst, arith, le_antisymm}
 use Rattle.std.specs.Prelude.{nat_lt}
 use Rattle.std.specs.List.{list_any}
 use Rattle.std.proofs.lemmas.Bool.{cases_lt, true≢false, or_left, or_right}
 use Rattle.gr_frame.specs.declared.Frame.{Frame}
 use Rattle.gr_sched.specs.declared.step.Line.{Line}
-use Rattle.gr_know.specs.declared.values.K.TheVariants.{Q}
-use Rattle.gr_know.specs.Values.{known_at}
-use Rattle.gr_curio.specs.declared.asks.Moment.TheVariants.{At}
-use Rattle.gr_curio.specs.Values.{asked_at}
 use Rattle.gr_model.specs.declared.report.Report.TheVariants as line
-use Rattle.gr_model.specs.Net.{Net, is_host, keeps_horizon, numbers}
+use Rattle.gr_model.specs.Net.{Net, numbers}
 use Rattle.gr_model.specs.Broker.{max_tick}
 use Rattle.gr_model.specs.World.{World, Told, view_of, log_of, unchanged, after, in_turn, sweep, sweep_for, sweep_moment, report_of, frames_past}
 use Rattle.gr_model.specs.Headline.{Headline}
@@ -22,11 +18,11 @@ use Rattle.gr_model.proofs.Schedules.{clocked_fits, sweep_kept}
 use Rattle.gr_model.proofs.AskMoments.{AsksFit, asked_upto}
 use Rattle.gr_model.proofs.SweepAsks.{sweep_begins}
 use Rattle.gr_model.proofs.Heard.{HeardFits}
-use Rattle.gr_model.proofs.HeardSteps.{Pieces, Hears, heard_in}
+use Rattle.gr_model.proofs.HeardSteps.{heard_in}
 use Rattle.gr_model.proofs.SweepHears.{SweepAdds, sweep_adds, tells_to}
 use Rattle.gr_model.proofs.Serves.{frames_past_all}
 use Rattle.gr_model.proofs.SweepStates.{Unknowns, Begins}
-use Rattle.gr_model.proofs.AfterSweeps.{Reaches, SweepsReach, swept_settled, headline_where_sweeps_reach}
+use Rattle.gr_model.proofs.AfterSweeps.{SweepsReach, swept_settled, headline_where_sweeps_reach}
 use Rattle.gr_model.proofs.SecondBrings.{Brings, FirstAsks, sweeps_bring}
 
 -- the world at a sweep's moment

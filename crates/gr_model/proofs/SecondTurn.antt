@@ -1,11 +1,11 @@
 -- A broker's turn in the second phase: each tick that comes goes on to each child that waits for it, and the horizon passes all that came
-use Rattle.std.proofs.Common.{◌≡◌, ◌≢◌, ◌⊎◌, inl, inr, ⊎_elim, ℕ, suc, ◌-◌, ◌≤◌, ◌<◌, Bool, true, false, not, ◌&&◌, ◌||◌, List, [], ◌∷◌, ◌++◌, length, refl, sym, ap, ap₂, ◌∙◌, subst, arith, append-nil, append_assoc}
-use Rattle.std.specs.Prelude.{nat_eq, nat_le, filter, if◌then◌else◌}
+use Rattle.std.proofs.Common.{◌≡◌, ◌≢◌, ◌⊎◌, inl, inr, ⊎_elim, ℕ, suc, ◌-◌, ◌≤◌, ◌<◌, Bool, true, false, not, ◌&&◌, List, [], ◌∷◌, ◌++◌, length, refl, sym, ap, ap₂, ◌∙◌, subst, arith, append-nil, append_assoc}
+use Rattle.std.specs.Prelude.{nat_eq, filter, if◌then◌else◌}
 use Rattle.std.specs.List.{list_any}
 use Rattle.std.proofs.lemmas.List.{length-append}
-use Rattle.std.proofs.lemmas.Bool.{cases_Bool, cases_lt, false≢true, true≢false, or_cases, or_left, or_right, and_parts, eqb-true, eq-eqb}
+use Rattle.std.proofs.lemmas.Bool.{cases_Bool, cases_lt, false≢true, or_cases, or_left, or_right, and_parts, eqb-true, eq-eqb}
 use Rattle.gr_know.specs.declared.values.K.{K}
-use Rattle.gr_know.specs.declared.values.K.TheVariants.{Q, S, D, F}
+use Rattle.gr_know.specs.declared.values.K.TheVariants.{Q, F}
 use Rattle.gr_curio.specs.declared.values.Q3.{Q3}
 use Rattle.gr_curio.specs.declared.values.Q3.TheVariants.{N, C, A}
 use Rattle.gr_frame.specs.declared.Body.{Body}
@@ -13,9 +13,9 @@ use Rattle.gr_frame.specs.declared.Body.TheVariants as body
 use Rattle.gr_frame.specs.declared.Frame.{Frame}
 use Rattle.gr_tick.specs.Runs.{AreRuns, first_bottom_from, zip_runs}
 use Rattle.gr_know.specs.Values.{Known, known_at, is_Q, join_K, same_K}
-use Rattle.gr_curio.specs.Values.{Wanted, wanted_at, asked_at, is_C, is_A}
-use Rattle.gr_model.specs.Net.{Net, is_host, keeps_horizon, pass}
-use Rattle.gr_model.specs.Broker.{View, Log, Outcome, learn, receive, clashes, any_C, is_settled, forward, forward_wants, new_ticks, quenched, consolidated, finished, trimmed, horizon_after}
+use Rattle.gr_curio.specs.Values.{Wanted, wanted_at, is_C}
+use Rattle.gr_model.specs.Net.{Net, keeps_horizon, pass}
+use Rattle.gr_model.specs.Broker.{View, Log, Outcome, learn, receive, clashes, any_C, is_settled, forward, forward_wants, new_ticks, quenched, consolidated, finished}
 use Rattle.gr_model.specs.World.{World, view_of, log_of, absorbed, in_turn, deliver_frame, hand_down, frames_past, is_know_to}
 use Rattle.gr_model.specs.Truth.{Facts, KnowsTruth, AllWantTruth}
 use Rattle.gr_model.specs.Tree.{IsNet, IsPlace}
@@ -28,7 +28,7 @@ use Rattle.gr_model.proofs.Heard.{cases_Q, horizon_keeps, learn_above}
 use Rattle.gr_model.proofs.Worlds.{Each, IsLaterWorld, FrameTrue-later, deliver_kept, filter_frames, frames_past_true}
 use Rattle.gr_model.proofs.AskMoments.{Taken, absorbed_taken}
 use Rattle.gr_model.proofs.CallTicks.{trimmed-is}
-use Rattle.gr_model.proofs.Forwarding.{Has, Has-on, TellsTick, TellsBody, pass_not_Q, is_Q_of, not_A, wants_of, quenched_at, known_then, LearnTicks, learn_ticks}
+use Rattle.gr_model.proofs.Forwarding.{Has, TellsBody, pass_not_Q, is_Q_of, not_A, wants_of, quenched_at, LearnTicks, learn_ticks}
 use Rattle.gr_model.proofs.Answering.{not_settled}
 use Rattle.gr_model.proofs.Serves.{TellsKnown, known_of}
 use Rattle.gr_model.proofs.Path.{Has-past, Has-last}
@@ -220,7 +220,7 @@ waits_step net c t first n w x runs fs f tr e h = record {
     waits_on : known_at v.know t ≡ Q → known_at runs t ≡ Q → wanted_at (wants_of net p b v c) t ≢ A → Has (Knows t) fs → State
     waits_on q k a has =
         let wants : wanted_at (wants_of net p b (view_of y b p) c) t ≡ wanted_at (wants_of net p b v c) t = ap (λ z. wanted_at (wants_of net p b z c) t) d.taken.view ∙ (d.ticks.wants c t h.child
-            ∙ (ap (λ z. quenched_at net p c (if z then known_at runs t else Q) (wanted_at (wants_of net p b v c) t)) (is_Q_of (known_at v.know t) q) ∙ (ap (λ z. quenched_at net p c z (wanted_at (wants_of net p b v c) t)) k ∙ still_wants net p c (wanted_at (wants_of net p b v c) t)))) in
+        ∙ (ap (λ z. quenched_at net p c (if z then known_at runs t else Q) (wanted_at (wants_of net p b v c) t)) (is_Q_of (known_at v.know t) q) ∙ (ap (λ z. quenched_at net p c z (wanted_at (wants_of net p b v c) t)) k ∙ still_wants net p c (wanted_at (wants_of net p b v c) t)))) in
         let a1 : wanted_at (wants_of net p b (view_of y b p) c) t ≢ A = λ z. a (sym wants ∙ z) in
         let no = not_settled net (facts_of net y p) p b c t o.view.horizon (view_of y b p).wants (d.fits.views p b tr.publisher_in tr.fits.to_in).wants h.child (not_A (wanted_at (wants_of net p b (view_of y b p) c) t) a1) in
         let no1 : is_settled (keeps_horizon net p b) o.view.horizon o.view.wants t ≡ false = ap (λ z. is_settled (keeps_horizon net p b) o.view.horizon z.wants t) (sym d.taken.view) ∙ no in
@@ -289,9 +289,9 @@ risen net m p b w h =
       | inl l ↦ ⊎_elim
           (λ z. z)
           (λ z. ⊎_elim
-              (λ q. ⊎_elim (λ a. absurd (omega (arith, a))) (λ a. ⊎_elim (λ k. absurd (k q)) (λ k. absurd k) a) (h.each (suc (view_of w b p).horizon) (omega arith) (omega (arith, l))))
-              (λ q. absurd q)
-              z)
+          (λ q. ⊎_elim (λ a. absurd (omega (arith, a))) (λ a. ⊎_elim (λ k. absurd (k q)) (λ k. absurd k) a) (h.each (suc (view_of w b p).horizon) (omega arith) (omega (arith, l))))
+          (λ q. absurd q)
+          z)
           h.edge
     ]
 
