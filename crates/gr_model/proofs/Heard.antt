@@ -48,7 +48,7 @@ cases_Q (D e) = inr (λ h. cc)
 cases_Q F = inr (λ h. cc)
 
 -- above the horizon nothing is consolidated where one is kept
-not_done : (h t : ℕ) (ws : List Wanted) → h < t → is_settled true h ws t ≡ false
+pub not_done : (h t : ℕ) (ws : List Wanted) → h < t → is_settled true h ws t ≡ false
 not_done h t ws l = ap (λ b. b && all_A ws t) (ap (λ b. nat_le 1 t && b) (lt-leb t h l) ∙ and_right (nat_le 1 t) false refl)
 
 -- a view's knowledge above its horizon, after trimming and consolidation
