@@ -265,7 +265,7 @@ cases_K S h = h (λ e. cc)
 cases_K (D x) h = h (λ e. cc)
 cases_K F h = h (λ e. cc)
 
-Q_is : (k : K) → is_Q k ≡ true → k ≡ Q
+pub Q_is : (k : K) → is_Q k ≡ true → k ≡ Q
 Q_is Q e = refl
 Q_is S e = absurd (true≢false (sym e))
 Q_is (D x) e = absurd (true≢false (sym e))

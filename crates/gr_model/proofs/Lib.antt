@@ -47,4 +47,5 @@ pub mod SweepHosts
 pub mod SweepHears
 pub mod SweepStates
 pub mod FirstUnknown
+pub mod FirstPending
 pub mod AfterSweeps
