@@ -48,4 +48,5 @@ pub mod SweepHears
 pub mod SweepStates
 pub mod FirstUnknown
 pub mod FirstPending
+pub mod FirstWake
 pub mod AfterSweeps
