@@ -49,4 +49,7 @@ pub mod SweepStates
 pub mod FirstUnknown
 pub mod FirstPending
 pub mod FirstWake
+pub mod FirstOrder
+pub mod FirstTurns
+pub mod FirstHost
 pub mod AfterSweeps
