@@ -1,25 +1,24 @@
 -- The wake of the host in a sweep: it sends no curiosity, tells each child of the mark, and acknowledges nothing new
-use Rattle.std.proofs.Common.{◌≡◌, ◌≢◌, ◌⊎◌, inl, inr, ⊎_elim, ℕ, suc, zero, ◌+◌, ◌≤◌, ◌<◌, Bool, true, false, not, ◌&&◌, List, [], ◌∷◌, ◌++◌, length, refl, sym, ap, ◌∙◌, subst, Some, arith, le_refl}
-use Rattle.std.specs.Prelude.{filter, nat_eq, nat_le, nat_lt, if◌then◌else◌}
-use Rattle.std.specs.List.{list_any}
-use Rattle.std.proofs.lemmas.Bool.{cases_Bool, false≢true, true≢false, eq-eqb, leb-true, both_ways}
+use Rattle.std.proofs.Common.{◌≡◌, ◌≢◌, ℕ, suc, zero, ◌+◌, ◌≤◌, ◌<◌, Bool, true, false, List, [], ◌∷◌, length, refl, sym, ap, ◌∙◌, subst, Some, arith, le_refl}
+use Rattle.std.specs.Prelude.{filter, nat_le, nat_lt, if◌then◌else◌}
+use Rattle.std.proofs.lemmas.Bool.{false≢true, true≢false, eq-eqb, leb-true}
 use Rattle.gr_know.specs.declared.values.K.{K}
 use Rattle.gr_know.specs.declared.values.K.TheVariants.{Q, S}
 use Rattle.gr_curio.specs.declared.values.Q3.{Q3}
-use Rattle.gr_curio.specs.declared.values.Q3.TheVariants.{N, C, A}
+use Rattle.gr_curio.specs.declared.values.Q3.TheVariants.{N, A}
 use Rattle.gr_frame.specs.declared.Frame.{Frame}
-use Rattle.gr_know.specs.Values.{Known, known_at, is_Q}
-use Rattle.gr_curio.specs.Values.{wanted_at, is_C}
+use Rattle.gr_know.specs.Values.{Known, known_at}
+use Rattle.gr_curio.specs.Values.{wanted_at}
 use Rattle.gr_model.specs.Net.{Net, is_host, pass}
 use Rattle.gr_model.specs.Broker.{View, Log, Outcome, learn, marking, cutting, silence, with_mark, wake, wake_host, wake_below, expect_frames}
 use Rattle.gr_model.specs.World.{World, view_of, log_of, wake_for, wake_up, deliver_up, frames_past, sent_since, is_want}
 use Rattle.gr_model.specs.Tree.{IsNet, IsPlace}
-use Rattle.gr_model.specs.Fits.{WorldFits, ViewTrue, LogFits, facts, reached_in}
+use Rattle.gr_model.specs.Fits.{WorldFits, ViewTrue, LogFits, facts}
 use Rattle.gr_model.proofs.CallTruth.{ViewTrue-later}
 use Rattle.gr_model.proofs.Calls.{later_facts, silence_true, nothing_true, silence_in}
 use Rattle.gr_model.proofs.Worlds.{Each}
 use Rattle.gr_model.proofs.AskMoments.{Each-on, Taken, absorbed_taken}
-use Rattle.gr_model.proofs.Forwarding.{Has, Has-front, TellsTick, LearnTicks, learn_ticks, quenched_at, wants_of}
+use Rattle.gr_model.proofs.Forwarding.{Has, Has-front, TellsTick, LearnTicks, learn_ticks, wants_of}
 use Rattle.gr_model.proofs.Serves.{frames_past_all}
 use Rattle.gr_model.proofs.Upward.{SentBy, learn_each, expects_each}
 use Rattle.gr_model.proofs.SweepStates.{IsChild}

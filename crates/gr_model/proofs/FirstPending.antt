@@ -1,12 +1,11 @@
 -- What holds of one tick while the brokers are woken from the deepest on, kept by each nested delivery: curiosity only goes to brokers less deep than the woken one
-use Rattle.std.proofs.Common.{◌≡◌, ◌≢◌, ◌⊎◌, inl, inr, ⊎_elim, ℕ, suc, ◌+◌, ◌≤◌, ◌<◌, Bool, true, false, not, ◌&&◌, ◌||◌, List, [], ◌∷◌, ◌++◌, length, get_or, refl, sym, ap, ap₂, ◌∙◌, subst, Some, arith}
-use Rattle.std.specs.Prelude.{filter, nat_eq, nat_le, nat_lt, if◌then◌else◌}
+use Rattle.std.proofs.Common.{◌≡◌, ◌≢◌, ◌⊎◌, inl, inr, ⊎_elim, ℕ, ◌+◌, ◌≤◌, ◌<◌, true, false, ◌&&◌, ◌||◌, List, [], ◌∷◌, ◌++◌, length, sym, ap, ◌∙◌, subst, Some, arith}
+use Rattle.std.specs.Prelude.{filter, nat_eq, nat_lt, if◌then◌else◌}
 use Rattle.std.specs.List.{list_any}
-use Rattle.std.proofs.lemmas.Bool.{cases_Bool, cases_eq, false≢true, true≢false, and_parts, or_cases, or_right, ltb-true}
+use Rattle.std.proofs.lemmas.Bool.{cases_Bool, cases_eq, and_parts, or_cases, or_right, ltb-true}
 use Rattle.std.proofs.lemmas.List.{length-append}
-use Rattle.gr_know.specs.declared.values.K.{K}
-use Rattle.gr_know.specs.declared.values.K.TheVariants.{Q, S, D, F}
-use Rattle.gr_curio.specs.declared.values.Q3.TheVariants.{N, C, A}
+use Rattle.gr_know.specs.declared.values.K.TheVariants.{Q, F}
+use Rattle.gr_curio.specs.declared.values.Q3.TheVariants.{C, A}
 use Rattle.gr_curio.specs.declared.asks.Moment.TheVariants.{At}
 use Rattle.gr_frame.specs.declared.Body.TheVariants as body
 use Rattle.gr_frame.specs.declared.Frame.{Frame}
@@ -23,7 +22,7 @@ use Rattle.gr_model.proofs.SweepAsks.{AsksNow, now_closed, asked_now}
 use Rattle.gr_model.proofs.CallTicks.{needs}
 use Rattle.gr_model.proofs.Heard.{not_done}
 use Rattle.gr_model.proofs.Forwarding.{wants_of}
-use Rattle.gr_model.proofs.Answering.{AsksUp, UpAsks, Q_is}
+use Rattle.gr_model.proofs.Answering.{UpAsks, Q_is}
 use Rattle.gr_model.proofs.Serves.{Stores, frames_past_all, receive_curiosity}
 use Rattle.gr_model.proofs.Stays.{DeliveredWant, delivered_want, stores_stay, noted_stays}
 use Rattle.gr_model.proofs.Pending.{sent_up, IsPending}

@@ -3,7 +3,6 @@ use Rattle.std.proofs.Common.{◌≡◌, ◌⊎◌, inl, inr, ⊎_elim, ℕ, ◌
 use Rattle.std.specs.Prelude.{nat_eq, filter}
 use Rattle.std.specs.List.{list_any}
 use Rattle.std.proofs.lemmas.Bool.{eq-eqb, false≢true, or_left, or_right, or_cases}
-use Rattle.gr_frame.specs.declared.Frame.{Frame}
 use Rattle.gr_model.specs.Headline.{Recorded}
 use Rattle.gr_model.specs.Net.{Net, is_host}
 use Rattle.gr_model.specs.World.{World, Told, in_turn, wake_for, wake_up, sent_since, is_want}

@@ -1,5 +1,5 @@
 -- A broker below the host that is woken in the first phase of a sweep has asked all it should, and what it sends up keeps what holds of a tick
-use Rattle.std.proofs.Common.{◌≡◌, ◌≢◌, ◌⊎◌, inl, inr, ⊎_elim, ℕ, suc, ◌+◌, ◌≤◌, ◌<◌, Bool, true, false, not, ◌&&◌, ◌||◌, List, [], ◌∷◌, ◌++◌, length, refl, sym, ap, ap₂, ◌∙◌, subst, Some, arith, append-nil}
+use Rattle.std.proofs.Common.{◌≡◌, ◌≢◌, ◌⊎◌, inl, inr, ⊎_elim, ℕ, ◌+◌, ◌≤◌, ◌<◌, Bool, true, false, not, ◌&&◌, ◌||◌, List, [], ◌∷◌, length, refl, sym, ap, ap₂, ◌∙◌, subst, Some, arith, append-nil}
 use Rattle.std.specs.Prelude.{filter, nat_eq, nat_le, nat_lt, if◌then◌else◌}
 use Rattle.std.specs.List.{list_any}
 use Rattle.std.proofs.lemmas.Bool.{cases_Bool, cases_eq, false≢true, true≢false, and_parts, or_cases, or_left, or_right, ltb-true, eqb-true}
@@ -12,12 +12,12 @@ use Rattle.gr_know.specs.Values.{known_at, is_Q}
 use Rattle.gr_curio.specs.Values.{Wanted, wanted_at, asked_at, is_C, is_outstanding}
 use Rattle.gr_tick.specs.Runs.{top_of}
 use Rattle.gr_model.specs.Net.{Net, is_host, keeps_horizon}
-use Rattle.gr_model.specs.Broker.{View, Outcome, any_C, is_settled, place_of, wake, up_frames, wanted_at_wake}
+use Rattle.gr_model.specs.Broker.{View, Outcome, any_C, is_settled, wake, up_frames, wanted_at_wake}
 use Rattle.gr_model.specs.World.{World, view_of, log_of, wake_for, wake_up, frames_past, sent_since, is_want}
 use Rattle.gr_model.specs.Tree.{IsNet}
 use Rattle.gr_model.specs.Fits.{WorldFits, FrameTrue}
 use Rattle.gr_model.proofs.Worlds.{Each, wake_for_kept, filter_frames, frames_past_true}
-use Rattle.gr_model.proofs.SweepAsks.{AsksNow, now_closed, asked_now}
+use Rattle.gr_model.proofs.SweepAsks.{now_closed, asked_now}
 use Rattle.gr_model.proofs.CallTicks.{needs, wake_piece, wake_asked, asked_is_needed, needed_is_asked, asked_is_noted}
 use Rattle.gr_model.proofs.Forwarding.{Has, WantsTick, up_frames_want, wants_of}
 use Rattle.gr_model.proofs.Answering.{SentUp, up_frames_sent, Q_is}
@@ -26,9 +26,8 @@ use Rattle.gr_model.proofs.Stays.{WokenBelow, woken_below, stores_stay_wake}
 use Rattle.gr_model.proofs.Upward.{rank_of, up_kept}
 use Rattle.gr_model.proofs.Pending.{deliver_up_all}
 use Rattle.gr_model.proofs.Path.{Path, Has-past, Has-wants}
-use Rattle.gr_model.proofs.SweepStates.{IsChild}
 use Rattle.gr_model.proofs.FirstUnknown.{unknown_calls}
-use Rattle.gr_model.proofs.FirstPending.{Waits, ChildAsks, OpenBy, HasAsked, IsIn, FirstAt, opened_not_settled, needed_not_settled, same_asked, longer, first_pending}
+use Rattle.gr_model.proofs.FirstPending.{Waits, OpenBy, HasAsked, IsIn, FirstAt, opened_not_settled, needed_not_settled, same_asked, longer, first_pending}
 
 C_of : (q : Q3) → is_C q ≡ true → q ≡ C
 C_of N e = absurd (false≢true e)

@@ -52,4 +52,5 @@ pub mod FirstWake
 pub mod FirstOrder
 pub mod FirstTurns
 pub mod FirstHost
+pub mod FirstPhase
 pub mod AfterSweeps
