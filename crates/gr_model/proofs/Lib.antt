@@ -47,6 +47,12 @@ pub mod SweepHosts
 pub mod SweepHears
 pub mod SweepStates
 pub mod FirstUnknown
+pub mod FirstPending
+pub mod FirstWake
+pub mod FirstOrder
+pub mod FirstTurns
+pub mod FirstHost
+pub mod FirstPhase
 pub mod SecondTurn
 pub mod SecondOrder
 pub mod SecondPhase

@@ -27,6 +27,7 @@ use Rattle.gr_model.proofs.Stays.{DeliveredWant, delivered_want, WokenBelow, wok
 use Rattle.gr_model.proofs.SweepHears.{tells_to, tells_body}
 use Rattle.gr_model.proofs.SweepStates.{Unknowns, Begins, Asked, first_phase, second_phase}
 use Rattle.gr_model.proofs.FirstUnknown.{unknown_calls}
+use Rattle.gr_model.proofs.FirstPhase.{first_phase_asks}
 use Rattle.gr_model.proofs.SecondParts.{inwards_goes, sweep_goes}
 use Rattle.gr_model.proofs.SecondOrder.{Had}
 use Rattle.gr_model.proofs.SecondPhase.{IsDue, Handed, handed_all, comes, above_needs}
@@ -287,10 +288,6 @@ phases_bring net p m b w n begin a i host keeps = record {
 
 -- Publisher by publisher
 
--- what the first phase of a publisher gives
-abbrev pub FirstAsks : Net → Type 0
-FirstAsks net = (p m : ℕ) (w : World) → Begins net p m w → Asked net p (log_of w p).settled m (length w.frames) (first_phase net w p)
-
 -- the sweep of another publisher leaves what stands before
 begins_on : (net : Net) (p q m : ℕ) (w : World) → IsNet net → p ≢ q → q < net.publishers → Begins net p m w → Begins net p m (sweep_for net w q).world
 begins_on net p q m w n k j h =
@@ -309,21 +306,21 @@ phases_then : (net : Net) (b p : ℕ) (w : World) → IsNet net → WorldFits ne
 unfolding sweep_for
 phases_then net b p w n f j = (inwards_since net b p p (second_phase net w p) n f j).holds
 
-pub sweeps_bring : (net : Net) (p m b a k : ℕ) (w : World) → IsNet net → FirstAsks net → b < net.brokers → is_host net p b ≡ false → keeps_horizon net p b ≡ true → a ≤ p → p < a + k → a + k ≤ net.publishers → Begins net p m w → Brings net m b p w (in_turn (sweep_for net) (numbers_from a k) w).world
-sweeps_bring net p m b a zero w n asks i host keeps x y z h = absurd (omega (arith, x, y))
-sweeps_bring net p m b a (suc k) w n asks i host keeps x y z h =
+pub sweeps_bring : (net : Net) (p m b a k : ℕ) (w : World) → IsNet net → 1 ≤ net.retry → 1 ≤ net.quiet → b < net.brokers → is_host net p b ≡ false → keeps_horizon net p b ≡ true → a ≤ p → p < a + k → a + k ≤ net.publishers → Begins net p m w → Brings net m b p w (in_turn (sweep_for net) (numbers_from a k) w).world
+sweeps_bring net p m b a zero w n retry quiet i host keeps x y z h = absurd (omega (arith, x, y))
+sweeps_bring net p m b a (suc k) w n retry quiet i host keeps x y z h =
     elim (cases_eq p a) [
       | inr e ↦
           let u = (sweep_for net w a).world in
           let next = begins_on net p a m w n e (omega (arith, z)) h in
           brings_before net m b p w u (in_turn (sweep_for net) (numbers_from (suc a) k) u).world ((sweep_same_for net p a w n h.fits e (omega (arith, z))).views b)
           (sweep_for_goes net (λ q. Unit {0}) (Since net b p w) w a n (since_closed net b p w n) h.fits (since_refl net b p w) (omega (arith, z))).holds
-          (sweeps_bring net p m b (suc a) k u n asks i host keeps (omega (arith, x, e)) (omega (arith, y)) (omega (arith, z)) next)
+          (sweeps_bring net p m b (suc a) k u n retry quiet i host keeps (omega (arith, x, e)) (omega (arith, y)) (omega (arith, z)) next)
       | inl e ↦
           subst (λ q. Brings net m b p w (in_turn (sweep_for net) (numbers_from (suc a) k) (sweep_for net w q).world).world) e
           (let u = (sweep_for net w p).world in
           let two = second_phase net w p in
-          let asked = asks p m w h in
+          let asked = first_phase_asks net p m w n retry quiet h in
           let f = (handed_all net p m w n h asked).fits in
           let g = sweep_for_now net m w p n h.fits h.now h.publisher in
           let rest = sweeps_since net b p (suc a) k u n g.kept.fits (omega (arith, z)) in

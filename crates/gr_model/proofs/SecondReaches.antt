@@ -23,7 +23,7 @@ use Rattle.gr_model.proofs.SweepHears.{SweepAdds, sweep_adds, tells_to}
 use Rattle.gr_model.proofs.Serves.{frames_past_all}
 use Rattle.gr_model.proofs.SweepStates.{Unknowns, Begins}
 use Rattle.gr_model.proofs.AfterSweeps.{SweepsReach, swept_settled, headline_where_sweeps_reach}
-use Rattle.gr_model.proofs.SecondBrings.{Brings, FirstAsks, sweeps_bring}
+use Rattle.gr_model.proofs.SecondBrings.{Brings, sweeps_bring}
 
 -- the world at a sweep's moment
 abbrev pub at_moment : Net → World → World
@@ -54,9 +54,8 @@ moment_begins net w p f a u j = record {
   far = settled_far net w p f j;
 }
 
--- where each publisher's first phase asks for what is needed
-pub sweeps_reach : (net : Net) (n : IsNet net) → 1 ≤ net.quiet → FirstAsks net → SweepsReach net n
-sweeps_reach net n z asks w k heard f a u h ok b p i j host keeps = record {
+pub sweeps_reach : (net : Net) (n : IsNet net) → 1 ≤ net.quiet → 1 ≤ net.retry → SweepsReach net n
+sweeps_reach net n z r w k heard f a u h ok b p i j host keeps = record {
   horizon = le_antisymm (omega (arith, (g.views p b j i).horizon.settled, settled)) brings.horizon;
   heard = λ t x y. ⊎_elim
       (λ l. or_left (heard_in heard b p t) (list_any (tells_to b p t) adds.more) (was.below t x l))
@@ -86,11 +85,11 @@ sweeps_reach net n z asks w k heard f a u h ok b p i j host keeps = record {
     adds = sweep_adds net w k n f
 
     brings : Brings net m b p (at_moment net w) y
-    brings = subst (Brings net m b p (at_moment net w)) (sym (swept_world net w k ok)) (sweeps_bring net p m b 0 net.publishers (at_moment net w) n asks i host keeps (omega arith) (omega (arith, j)) (omega arith) (moment_begins net w p f a u j))
+    brings = subst (Brings net m b p (at_moment net w)) (sym (swept_world net w k ok)) (sweeps_bring net p m b 0 net.publishers (at_moment net w) n r z i host keeps (omega arith) (omega (arith, j)) (omega arith) (moment_begins net w p f a u j))
 
     same_more : brings.more ≡ adds.more
     same_more = sym (frames_past_all w.frames brings.more) ∙ (ap (frames_past (length w.frames)) (sym brings.frames ∙ adds.frames) ∙ frames_past_all w.frames adds.more)
 
 -- the headline, whole, over every schedule
-pub headline_by_phases : (net : Net) (ls : List Line) → IsNet net → 1 ≤ net.quiet → FirstAsks net → StepsIn net ls → Headline net ls (report_of net ls)
-headline_by_phases net ls n z asks i = headline_where_sweeps_reach net ls n (sweeps_reach net n z asks) z i
+pub headline_always : (net : Net) (ls : List Line) → IsNet net → 1 ≤ net.quiet → 1 ≤ net.retry → StepsIn net ls → Headline net ls (report_of net ls)
+headline_always net ls n z r i = headline_where_sweeps_reach net ls n (sweeps_reach net n z r) z i

@@ -46,7 +46,7 @@ forward_each net p b R new [] ws s = tt
 forward_each net p b R new (c ∷ cs) [] s = tt
 forward_each net p b R new (c ∷ cs) (w ∷ ws) s = Each-on R (know_frames b c p (forward net p c w new)) (forward_frames net p b new cs ws) (know_each net p b c R (forward net p c w new) s) (forward_each net p b R new cs ws s)
 
-expects_each : (net : Net) (p b tick : ℕ) (R : Frame → Type 0) (cs : List ℕ) (ws : List Wanted) → SentBy net p b R → Each R (expect_frames p b tick cs ws)
+pub expects_each : (net : Net) (p b tick : ℕ) (R : Frame → Type 0) (cs : List ℕ) (ws : List Wanted) → SentBy net p b R → Each R (expect_frames p b tick cs ws)
 expects_each net p b tick R [] ws s = tt
 expects_each net p b tick R (c ∷ cs) [] s = tt
 expects_each net p b tick R (c ∷ cs) (w ∷ ws) s = Each-on R (if covers w tick then [] else expect_frame b c p tick ∷ []) (expect_frames p b tick cs ws) (go (covers w tick)) (expects_each net p b tick R cs ws s)
@@ -55,7 +55,7 @@ expects_each net p b tick R (c ∷ cs) (w ∷ ws) s = Each-on R (if covers w tic
     go true = tt
     go false = (s.expect c tick, tt)
 
-learn_each : (net : Net) (p b : ℕ) (R : Frame → Type 0) (piece : Known) (v : View) (log : Log) → SentBy net p b R → Each R (learn net p b piece v log).frames
+pub learn_each : (net : Net) (p b : ℕ) (R : Frame → Type 0) (piece : Known) (v : View) (log : Log) → SentBy net p b R → Each R (learn net p b piece v log).frames
 unfolding learn
 learn_each net p b R piece v log s = forward_each net p b R (new_ticks v.know piece) (net.children p b) v.wants s
 
@@ -110,7 +110,7 @@ pub record HasDepths (net : Net) : Type 0 where
 abbrev pub rank_of : Net → Frame → ℕ
 rank_of net f = net.depth f.head.publisher f.head.to
 
-up_kept : (P R : Frame → Type 0) (fs : List Frame) → ((f : Frame) → is_want f ≡ true → P f → R f) → Each P fs → Each R (filter is_want fs)
+pub up_kept : (P R : Frame → Type 0) (fs : List Frame) → ((f : Frame) → is_want f ≡ true → P f → R f) → Each P fs → Each R (filter is_want fs)
 up_kept P R [] h a = tt
 up_kept P R (f ∷ fs) h a =
     elim (cases_Bool (is_want f)) [

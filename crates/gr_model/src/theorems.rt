@@ -76,3 +76,9 @@ pub fn headline_so_far()
 pub fn headline_without_sweeps()
     ensures { (net : Net) (steps : List Line) → IsNet net → 1 ≤ net.quiet → StepsIn net steps → SweepsNowhere steps → Headline net steps (report_of net steps) }
 {}
+
+/// The headline, whole, over every schedule, sweeps included, and after each of its steps: recorded lines, delivered
+/// exactly, doubt horizons, horizons rise, discarded only after delivery.
+pub fn headline_always()
+    ensures { (net : Net) (steps : List Line) → IsNet net → 1 ≤ net.quiet → 1 ≤ net.retry → StepsIn net steps → Headline net steps (report_of net steps) }
+{}
