@@ -13,6 +13,7 @@ ghost use Rattle.gr_model.specs.World.{view_of, log_of, frame_at, run_all, start
 ghost use Rattle.gr_model.specs.Fits.{StepIn, StepsIn, WorldFits, history_of};
 ghost use Rattle.gr_model.specs.Headline.{GetsExactly, Headline, is_doubt_line, doubt_place, doubts_shown};
 ghost use Rattle.gr_model.specs.Order.{CutsInOrder, FramesSent, HeadlineSoFar, SweepsNowhere};
+ghost use Rattle.gr_model.specs.Replies.{Replied};
 ghost use Rattle.gr_model.specs.Blank.{net0};
 ghost use Rattle.gr_model.specs.Examples.{WorkedExamples};
 
@@ -64,6 +65,12 @@ pub fn doubts_stand()
 /// of brokers sent, in their order.
 pub fn frames_sent()
     ensures { (net : Net) (steps : List Line) → IsNet net → 1 ≤ net.quiet → StepsIn net steps → FramesSent net steps }
+{}
+
+/// Every step is replied as the schedule and the frames sent demand: refused where it is to be refused and nowhere else,
+/// the bytes of a frame shown as those of its sent line, and frames numbered on without a gap.
+pub fn replies_stand()
+    ensures { (net : Net) (steps : List Line) → IsNet net → 1 ≤ net.quiet → StepsIn net steps → Replied net steps (report_of net steps) }
 {}
 
 /// The headline as far as it is proved, over every schedule and after each of its steps.
