@@ -47,4 +47,5 @@ pub mod SweepHosts
 pub mod SweepHears
 pub mod SweepStates
 pub mod ReplyLines
+pub mod Strays
 pub mod AfterSweeps
