@@ -46,6 +46,8 @@ pub mod WithoutSweeps
 pub mod SweepHosts
 pub mod SweepHears
 pub mod SweepStates
+pub mod ReplyLines
+pub mod Strays
 pub mod FirstUnknown
 pub mod FirstPending
 pub mod FirstWake

@@ -7,6 +7,8 @@ pub mod Truth
 pub mod Said
 pub mod Fits
 pub mod Order
+pub mod Replies
+pub mod Edges
 pub mod Blank
 pub mod Text
 pub mod SmallNets
