@@ -26,7 +26,7 @@ use Rattle.gr_model.proofs.Heard.{not_Q_at}
 use Rattle.gr_model.proofs.HeardSteps.{hears_by, Pieces, Hears, HeardLong, heard_in, Adds, body_adds, know_of_body}
 use Rattle.gr_model.proofs.SweepHears.{SweepAdds, sweep_adds, hear_frames, heard_of_frames, tells_to, tells_body}
 use Rattle.gr_model.proofs.AskMoments.{AsksFit}
-use Rattle.gr_model.proofs.WithoutSweeps.{Whole, AllLines, holds_from, start_whole}
+use Rattle.gr_model.proofs.WithoutSweeps.{Whole, holds_from, start_whole}
 use Rattle.gr_model.proofs.Worlds.{Each}
 use Rattle.gr_model.proofs.Closed.{next_holds}
 use Rattle.gr_model.proofs.SweepStates.{Unknowns}
@@ -172,14 +172,10 @@ unfolding next heard_after
 hears_at net n w h k step.Sweep reach z i x o = sweep_hears net n w h k reach z x o
 hears_at net n w h k s reach z i x o = hears_by net w h k s (next net w (record { number = k; step = s })).lines n x.stands.fits x.stands.records x.stands.sent i refl x.hears
 
-all_lines : (ls : List Line) → AllLines (λ l. Unit {0}) ls
-all_lines [] = tt
-all_lines (l ∷ ls) = (tt, all_lines ls)
-
 -- where every sweep reaches each broker below the host, the headline holds whole over every schedule
 pub headline_where_sweeps_reach : (net : Net) (ls : List Line) (n : IsNet net) → SweepsReach net n → 1 ≤ net.quiet → StepsIn net ls → Headline net ls (report_of net ls)
 unfolding report_of
 headline_where_sweeps_reach net ls n reach z i = (
   refl,
-  holds_from net (λ l. Unit {0}) (Unknowns net) (start net) (begin net) ls n z (λ u l j f x. next_holds net (λ y. Unit {0}) (Unknowns net) u l n (unknown_closed net n) f x j) (λ u g l j e k x. hears_at net n u g l.number l.step reach z j k x) i (all_lines ls) (start_whole net n) (unknowns_always net [] n tt),
+  holds_from net (Unknowns net) (start net) (begin net) ls n z (λ u l j f x. next_holds net (λ y. Unit {0}) (Unknowns net) u l n (unknown_closed net n) f x j) (λ u g l j k x. hears_at net n u g l.number l.step reach z j k x) i (start_whole net n) (unknowns_always net [] n tt),
 )

@@ -1,4 +1,4 @@
--- What a history has heard is what the brokers below the host have heard, over every schedule without a sweep
+-- What a history has heard is what the brokers below the host have heard, after each step but a sweep
 use Rattle.std.proofs.Common.{◌≡◌, ◌≢◌, ◌⊎◌, inl, inr, ℕ, suc, zero, ◌+◌, ◌≤◌, ◌<◌, max, Bool, true, false, not, ◌&&◌, ◌||◌, List, [], ◌∷◌, ◌++◌, length, set, get_or, replicate, refl, sym, ap, ap₂, ◌∙◌, subst, Option, Some, None, arith}
 use Rattle.std.specs.Prelude.{nat_eq, nat_le, nat_lt, if◌then◌else◌, filter, slice_get}
 use Rattle.std.specs.List.{list_any}
@@ -13,7 +13,6 @@ use Rattle.gr_frame.specs.Bytes.{frame_bytes}
 use Rattle.gr_sched.specs.declared.step.Stop.{Stop}
 use Rattle.gr_sched.specs.declared.step.Step.{Step}
 use Rattle.gr_sched.specs.declared.step.Step.TheVariants as step
-use Rattle.gr_sched.specs.declared.step.Line.{Line}
 use Rattle.gr_know.specs.declared.values.K.TheVariants.{Q}
 use Rattle.gr_tick.specs.Runs.{AreRuns, AreRunsFrom, is_in}
 use Rattle.gr_know.specs.Values.{Known, known_at, is_Q}
@@ -275,6 +274,3 @@ hears_by net w h k (step.Bytes j) ls n f r e i z a = go (frame_at w j)
     go : (o : Option Frame) → Hears net (let t : Told = elim o [ None ↦ unchanged w (line.RefusedFrame k j (length w.frames) ∷ []) | Some x ↦ unchanged w (line.BytesOf j (frame_bytes x) ∷ []) ] in t.world) h.heard
     go None = record { long = a.long; fits = a.fits }
     go (Some x) = record { long = a.long; fits = a.fits }
-
-pub step_hears : (net : Net) (w : World) (h : History) (l : Line) (ls : List Report) → IsNet net → WorldFits net w → RecordsFit net w h → filter is_sent h.lines ≡ sent_lines 1 w.frames → StepIn net l.step → is_sweep l.step ≡ false → Hears net w h.heard → Hears net (next net w l).world (heard_after net h l ls)
-step_hears net w h l ls n f r e i z a = hears_by net w h l.number l.step ls n f r e i z a

@@ -1,30 +1,28 @@
--- The headline as far as it is proved, after each step of every schedule
+-- What stands after each step of every schedule, and what it says of the lines so far: delivered exactly, horizons rise, discarded only after delivery
 use Rattle.std.proofs.lemmas.List.Elements.{filter-append}
 use Rattle.gr_frame.specs.declared.Frame.{Frame}
 use Rattle.std.proofs.Common.{◌≡◌, zero, suc, length, arith, ℕ, ◌≤◌, ◌<◌, true, false, ◌&&◌, ap, get_or, List, [], ◌∷◌, ◌++◌, refl, sym, ap₂, ◌∙◌, subst, Bool}
-use Rattle.std.specs.Prelude.{filter, slice_index_or, Contains, not, nat_eq, if◌then◌else◌}
-use Rattle.std.proofs.lemmas.Bool.{eqb-true, and_right, both_ways, eq-eqb}
+use Rattle.std.specs.Prelude.{filter, slice_index_or, Contains, nat_eq, if◌then◌else◌}
+use Rattle.std.proofs.lemmas.Bool.{eqb-true, eq-eqb}
 use Rattle.gr_sched.specs.declared.step.Line.{Line}
 use Rattle.gr_model.specs.declared.report.Report.{Report}
 use Rattle.gr_model.specs.declared.report.Report.TheVariants as line
-use Rattle.gr_model.specs.Net.{keeps_horizon, Net, is_host, not_empty}
-use Rattle.gr_model.specs.World.{sent_lines, World, view_of, log_of, start, next, run_all, run_from, report_of}
-use Rattle.gr_model.specs.Headline.{bare_after, InOrder, History, history, record_of, after, begin, last_horizon, may_crash, HorizonsRise, sent_count, is_sent}
+use Rattle.gr_model.specs.Net.{keeps_horizon, Net, is_host}
+use Rattle.gr_model.specs.World.{sent_lines, World, view_of, log_of, start, next, run_all, run_from}
+use Rattle.gr_model.specs.Headline.{GetsExactly, bare_after, InOrder, History, history, record_of, after, begin, last_horizon, may_crash, HorizonsRise, sent_count, is_sent}
 use Rattle.gr_model.proofs.RecordLines.{sent_lines-append}
-use Rattle.gr_model.proofs.RecordSteps.{step_records, step_sends}
+use Rattle.gr_model.proofs.RecordSteps.{step_sends}
 use Rattle.gr_model.specs.Said.{due_upto}
 use Rattle.gr_model.specs.Tree.{IsNet, IsSubscriber}
 use Rattle.gr_model.specs.Fits.{WorldFits, LinesFit, StepIn, StepsIn}
-use Rattle.gr_model.specs.Order.{StepReported, FramesSent, CutsInOrder, Reported, Reported_from, HeadlineSoFar}
+use Rattle.gr_model.specs.Order.{FramesSent, CutsInOrder}
 use Rattle.gr_model.proofs.Records.{core_of}
 use Rattle.gr_model.proofs.Recorded.{RecordsFit, record_core, next_records, begin_fits, begin_lines, after_lines}
 use Rattle.gr_model.proofs.Schedules.{start_is, start_log, next_kept, start_fits, start_lines}
 use Rattle.gr_model.proofs.Cutlines.{CutsHave, CutsHave-at}
-use Rattle.gr_model.proofs.Orders.{CutFits, Ordered, has_one}
-use Rattle.gr_model.proofs.Worlds.{reached_here}
+use Rattle.gr_model.proofs.Orders.{CutFits, Ordered}
 use Rattle.gr_model.proofs.Ordering.{next_orders}
 use Rattle.gr_model.proofs.CutOrder.{got_in, said_listed, start_ordered}
-use Rattle.gr_model.proofs.Doubtlines.{doubts_stand}
 use Rattle.gr_model.proofs.BareHosts.{Bare, bare_horizon, host_horizon, started_horizon}
 use Rattle.gr_model.proofs.SweepHosts.{step_bare}
 use Rattle.gr_model.proofs.AskMoments.{ExpectFits, AsksFit, asks_closed, start_asks}
@@ -114,24 +112,10 @@ in_order net w h n k = record {
   cut_got = λ p t xs ys e s u v m l b wants. (cuts_of net w h p k (named_cut net Any p t xs ys (subst (Named net Any) e k.named))).cut_got t xs ys e s u v m l (n.subscriber s b) wants;
 }
 
-pub reported : (net : Net) (w : World) (h : History) → IsNet net → Stands net w h → Reported net h
-reported net w h n k = record {
-  gets = λ s p j y. record {
-    got = k.lines.got p s j y ∙ ap₂ (λ m r. due_upto net s m r.events) (sym (k.lines.horizon p s j y)) (sym (record_core net w h p k.records));
-    rise = k.lines.rise p s j y;
-  };
-  order = in_order net w h n k;
-  doubt_at_host = λ s p j y host.
-      let c : record_of h p ≡ core_of w p = record_core net w h p k.records in
-      let some : not_empty (net.subscribers_at (net.at s)) ≡ true = has_one (net.subscribers_at (net.at s)) s y.here in
-      let no : (get_or h.bare p true && may_crash net (net.at s)) ≡ false = and_right (get_or h.bare p true) (may_crash net (net.at s)) (ap not some) in
-      let m : (view_of w (net.at s) p).horizon ≡ (log_of w p).settled = subst (λ b. (view_of w b p).horizon ≡ (log_of w p).settled) host (k.ordered.meets p j (subst (λ b. not_empty (net.subscribers_at b) ≡ true) (sym host) some)) in
-      let e : last_horizon s p 0 h.lines ≡ (record_of h p).settled = k.lines.horizon p s j y ∙ (reached_here net w p s y ∙ (m ∙ ap (λ r. r.settled) (sym c))) in
-      record {
-        at_host = λ x. e ∙ sym (ap (λ q. if q then 0 else (record_of h p).settled) no);
-        below = λ x t a b. absurd (both_ways (is_host net p (net.at s)) x (eq-eqb (net.host p) (net.at s) host));
-        ends = λ x. absurd (both_ways (is_host net p (net.at s)) x (eq-eqb (net.host p) (net.at s) host));
-      };
+pub gets_now : (net : Net) (w : World) (h : History) (s p : ℕ) → Stands net w h → p < net.publishers → IsSubscriber net s → GetsExactly net h s p
+gets_now net w h s p k j y = record {
+  got = k.lines.got p s j y ∙ ap₂ (λ m r. due_upto net s m r.events) (sym (k.lines.horizon p s j y)) (sym (record_core net w h p k.records));
+  rise = k.lines.rise p s j y;
 }
 
 after_bare : (net : Net) (h : History) (l : Line) (ls : List Report) → (after net h l ls).bare ≡ bare_after net h l ls
@@ -145,20 +129,6 @@ doubt_at net w h b p k j keeps x =
     let c : record_of h p ≡ core_of w p = record_core net w h p k.records in
     let f : host_horizon net p w ≡ bare_horizon net h.bare w p = k.bare.fits p j (subst (λ z. keeps_horizon net p z ≡ true) (sym g) keeps) in
     subst (λ z. (view_of w z p).horizon ≡ (if get_or h.bare p true && may_crash net z then 0 else (log_of w p).settled)) g f ∙ ap (λ s. if get_or h.bare p true && may_crash net b then 0 else s) (ap (λ r. r.settled) (sym c))
-
-step_reported : (net : Net) (w : World) (h : History) (l : Line) → IsNet net → 1 ≤ net.quiet → StepIn net l.step → Stands net w h → StepReported net h l (next net w l).lines
-step_reported net w h l n z i k = record {
-  records = step_records net w h l n z k.fits k.records (sent_count_is net w h k) k.ordered.last i;
-  doubts_stand = doubts_stand net w l n k.fits i;
-  doubts_at_host = λ b p t c x.
-      let s = split_from (next net w l).lines (line.Doubt b p t) c.0 c.1 c.2 in
-      let d : IsShown net w b p t = named_doubt net (IsShown net w) b p t s.front s.back (subst (Named net (IsShown net w)) s.is (step_named net w l n k.fits i)) in
-      record {
-        at_host = λ y. d.tick ∙ doubt_at net w h b p k d.publisher d.keeps x;
-        below = λ y u v e. absurd (both_ways (is_host net p b) y x);
-        ends = λ y. absurd (both_ways (is_host net p b) y x);
-      };
-}
 
 pub next_stands : (net : Net) (w : World) (h : History) (l : Line) → IsNet net → 1 ≤ net.quiet → StepIn net l.step → Stands net w h → Stands net (next net w l).world (after net h l (next net w l).lines)
 next_stands net w h l n z i k =
@@ -177,11 +147,6 @@ next_stands net w h l n z i k =
       bare = subst (Bare net (next net w l).world) (sym (after_bare net h l (next net w l).lines)) (step_bare net w h l n z k.fits k.records k.asks.sent i k.bare);
       asks = next_holds net (ExpectFits net) (AsksFit net) w l n (asks_closed net n) k.fits k.asks i;
     }
-
-from_stands : (net : Net) (w : World) (h : History) (ls : List Line) → IsNet net → 1 ≤ net.quiet → StepsIn net ls → Stands net w h → Reported_from net h ls (run_from net w ls)
-unfolding run_from
-from_stands net w h [] n z i k = reported net w h n k
-from_stands net w h (l ∷ ls) n z i k = (reported net w h n k, step_reported net w h l n z i.0 k, from_stands net (next net w l).world (after net h l (next net w l).lines) ls n z i.1 (next_stands net w h l n z i.0 k))
 
 start_frames : (net : Net) → (start net).frames ≡ []
 unfolding start
@@ -210,10 +175,6 @@ start_stands net n = record {
   bare = start_bare net n;
   asks = start_asks net n;
 }
-
-pub headline_so_far : (net : Net) (ls : List Line) → IsNet net → 1 ≤ net.quiet → StepsIn net ls → HeadlineSoFar net ls (report_of net ls)
-unfolding report_of
-headline_so_far net ls n z i = (refl, from_stands net (start net) (begin net) ls n z i (start_stands net n))
 
 -- the world after a schedule stands with its history
 pub stands_run : (net : Net) (w : World) (h : History) (ls : List Line) → IsNet net → 1 ≤ net.quiet → StepsIn net ls → Stands net w h → Stands net (run_all net w ls).world (history net h ls (run_from net w ls))

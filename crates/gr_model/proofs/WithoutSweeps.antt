@@ -1,5 +1,5 @@
--- The headline, whole, over every schedule without a sweep
-use Rattle.std.proofs.Common.{◌≡◌, ℕ, ◌≤◌, ◌<◌, true, false, List, [], ◌∷◌, length, get_or, replicate, refl, sym, ap, ◌∙◌, subst}
+-- The headline, whole, over each schedule whose steps keep what was heard
+use Rattle.std.proofs.Common.{◌≡◌, ℕ, ◌≤◌, ◌<◌, true, false, List, [], ◌∷◌, length, get_or, replicate, sym, ap, ◌∙◌, subst}
 use Rattle.std.proofs.lemmas.Bool.{or_left}
 use Rattle.std.proofs.lemmas.List.{get_or-replicate, length-replicate}
 use Rattle.gr_know.specs.Values.{Known}
@@ -7,26 +7,20 @@ use Rattle.gr_sched.specs.declared.step.Line.{Line}
 use Rattle.gr_model.specs.declared.report.Report.TheVariants as line
 use Rattle.gr_model.specs.Net.{Net, keeps_horizon, not_empty, is_empty}
 use Rattle.gr_model.specs.Broker.{empty_log}
-use Rattle.gr_model.specs.World.{World, view_of, start, next, run_from, report_of}
-use Rattle.gr_model.specs.Headline.{heard_after, History, after, begin, is_heard, IsDoubt, Delivered, StepTold, Holds_from, Headline}
+use Rattle.gr_model.specs.World.{World, view_of, start, next, run_from}
+use Rattle.gr_model.specs.Headline.{heard_after, History, after, begin, is_heard, IsDoubt, Delivered, StepTold, Holds_from}
 use Rattle.gr_model.specs.Tree.{IsNet}
 use Rattle.gr_model.specs.Fits.{StepIn, StepsIn, WorldFits}
-use Rattle.gr_model.specs.Order.{is_sweep, SweepsNowhere}
 use Rattle.gr_model.proofs.RecordSteps.{step_records}
 use Rattle.gr_model.proofs.Doubtlines.{doubts_stand}
 use Rattle.gr_model.proofs.NamedLines.{Named, IsShown, step_named}
 use Rattle.gr_model.proofs.Heard.{HeardFits}
-use Rattle.gr_model.proofs.SoFar.{doubt_at, Stands, reported, in_order, next_stands, start_stands, sent_count_is, split_from, named_doubt}
+use Rattle.gr_model.proofs.SoFar.{doubt_at, Stands, gets_now, in_order, next_stands, start_stands, sent_count_is, split_from, named_doubt}
 use Rattle.gr_model.proofs.HeardCalls.{started_heard}
-use Rattle.gr_model.proofs.HeardSteps.{Hears, heard_in, step_hears}
+use Rattle.gr_model.proofs.HeardSteps.{Hears, heard_in}
 use Rattle.gr_model.proofs.Worlds.{reached_here}
 use Rattle.gr_model.proofs.Orders.{has_one}
 use Rattle.gr_model.proofs.Schedules.{start_is}
-
--- each line
-abbrev pub AllLines : (Line → Type 0) → List Line → Type 0
-AllLines ok [] = Unit {0}
-AllLines ok (l ∷ ls) = ok l × AllLines ok ls
 
 -- what stands, with what was heard
 pub record Whole (net : Net) (w : World) (h : History) : Type 0 where
@@ -43,7 +37,7 @@ doubt_is net w h b p k i j keeps = record {
 
 delivered : (net : Net) (w : World) (h : History) → IsNet net → Whole net w h → Delivered net h
 delivered net w h n k = record {
-  got = λ s p i j. ((reported net w h n k.stands).gets s p j (n.subscriber s i)).got;
+  got = λ s p i j. (gets_now net w h s p k.stands j (n.subscriber s i)).got;
   doubt = λ s p i j.
       let y = n.subscriber s i in
       let keeps : keeps_horizon net p (net.at s) ≡ true = or_left (not_empty (net.subscribers_at (net.at s))) (is_empty (net.children p (net.at s))) (has_one (net.subscribers_at (net.at s)) s y.here) in
@@ -65,15 +59,15 @@ unfolding after
 next_whole net w h l n z i y k = record { stands = next_stands net w h l n z i k.stands; hears = record { long = y.long; fits = y.fits } }
 
 -- the headline from here on, where each step keeps a property of worlds, and what was heard
-pub holds_from : (net : Net) (ok : Line → Type 0) (P : World → Type 0) (w : World) (h : History) (ls : List Line) → IsNet net → 1 ≤ net.quiet → ((u : World) (l : Line) → StepIn net l.step → WorldFits net u → P u → P (next net u l).world) →
-    ((u : World) (g : History) (l : Line) → StepIn net l.step → ok l → Whole net u g → P u → Hears net (next net u l).world (heard_after net g l (next net u l).lines)) → StepsIn net ls → AllLines ok ls → Whole net w h → P w → Holds_from net h ls (run_from net w ls)
+pub holds_from : (net : Net) (P : World → Type 0) (w : World) (h : History) (ls : List Line) → IsNet net → 1 ≤ net.quiet → ((u : World) (l : Line) → StepIn net l.step → WorldFits net u → P u → P (next net u l).world) →
+    ((u : World) (g : History) (l : Line) → StepIn net l.step → Whole net u g → P u → Hears net (next net u l).world (heard_after net g l (next net u l).lines)) → StepsIn net ls → Whole net w h → P w → Holds_from net h ls (run_from net w ls)
 unfolding run_from
-holds_from net ok P w h [] n z on keep i y k x = (delivered net w h n k, in_order net w h n k.stands)
-holds_from net ok P w h (l ∷ ls) n z on keep i y k x = (
+holds_from net P w h [] n z on keep i k x = (delivered net w h n k, in_order net w h n k.stands)
+holds_from net P w h (l ∷ ls) n z on keep i k x = (
   delivered net w h n k,
   in_order net w h n k.stands,
   step_told net w h l n z i.0 k,
-  holds_from net ok P (next net w l).world (after net h l (next net w l).lines) ls n z on keep i.1 y.1 (next_whole net w h l n z i.0 (keep w h l i.0 y.0 k x) k) (on w l i.0 k.stands.fits x),
+  holds_from net P (next net w l).world (after net h l (next net w l).lines) ls n z on keep i.1 (next_whole net w h l n z i.0 (keep w h l i.0 k x) k) (on w l i.0 k.stands.fits x),
 )
 
 -- at the start nothing was heard, and every host has its flag
@@ -93,16 +87,3 @@ start_hears net = record {
 
 pub start_whole : (net : Net) → IsNet net → Whole net (start net) (begin net)
 start_whole net n = record { stands = start_stands net n; hears = start_hears net }
-
-no_sweeps : (ls : List Line) → SweepsNowhere ls → AllLines (λ l. is_sweep l.step ≡ false) ls
-no_sweeps [] y = tt
-no_sweeps (l ∷ ls) y = (y.0, no_sweeps ls y.1)
-
-pub headline_without_sweeps : (net : Net) (ls : List Line) → IsNet net → 1 ≤ net.quiet → StepsIn net ls → SweepsNowhere ls → Headline net ls (report_of net ls)
-unfolding report_of
-headline_without_sweeps net ls n z i y = (
-  refl,
-  holds_from net (λ l. is_sweep l.step ≡ false) (λ u. Unit {0}) (start net) (begin net) ls n z (λ u l j f x. tt)
-      (λ u g l j e k x. step_hears net u g l (next net u l).lines n k.stands.fits k.stands.records k.stands.sent j e k.hears)
-      i (no_sweeps ls y) (start_whole net n) tt,
-)

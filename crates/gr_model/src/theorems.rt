@@ -12,7 +12,7 @@ ghost use Rattle.gr_model.specs.Broker.{clashes};
 ghost use Rattle.gr_model.specs.World.{view_of, log_of, frame_at, run_all, start, next, report_of};
 ghost use Rattle.gr_model.specs.Fits.{StepIn, StepsIn, WorldFits, history_of};
 ghost use Rattle.gr_model.specs.Headline.{GetsExactly, Headline, is_doubt_line, doubt_place, doubts_shown};
-ghost use Rattle.gr_model.specs.Order.{CutsInOrder, FramesSent, HeadlineSoFar, SweepsNowhere};
+ghost use Rattle.gr_model.specs.Order.{CutsInOrder, FramesSent};
 ghost use Rattle.gr_model.specs.Replies.{Replied};
 ghost use Rattle.gr_model.specs.Edges.{GoesOverEdge};
 ghost use Rattle.gr_model.specs.Blank.{net0};
@@ -78,17 +78,6 @@ pub fn frames_sent()
 /// the bytes of a frame shown as those of its sent line, and frames numbered on without a gap.
 pub fn replies_stand()
     ensures { (net : Net) (steps : List Line) → IsNet net → 1 ≤ net.quiet → StepsIn net steps → Replied net steps (report_of net steps) }
-{}
-
-/// The headline as far as it is proved, over every schedule and after each of its steps.
-pub fn headline_so_far()
-    ensures { (net : Net) (steps : List Line) → IsNet net → 1 ≤ net.quiet → StepsIn net steps → HeadlineSoFar net steps (report_of net steps) }
-{}
-
-/// The headline, whole, over every schedule without a sweep and after each of its steps: recorded lines, delivered
-/// exactly, doubt horizons, horizons rise, discarded only after delivery.
-pub fn headline_without_sweeps()
-    ensures { (net : Net) (steps : List Line) → IsNet net → 1 ≤ net.quiet → StepsIn net steps → SweepsNowhere steps → Headline net steps (report_of net steps) }
 {}
 
 /// The headline, whole, over every schedule, sweeps included, and after each of its steps: recorded lines, delivered

@@ -16,9 +16,8 @@ use Rattle.gr_sched.specs.declared.step.Line.{Line}
 use Rattle.gr_sched.specs.Words.{Gives}
 use Rattle.gr_model.specs.Blank.{net0}
 use Rattle.gr_model.specs.Fits.{StepIn, StepsIn}
-use Rattle.gr_model.specs.Order.{is_sweep, SweepsNowhere}
 use Rattle.gr_model.proofs.BlankNet.{net0_is}
-use Rattle.gr_model.proofs.WithoutSweeps.{headline_without_sweeps}
+use Rattle.gr_model.proofs.SecondReaches.{headline_always}
 use Rattle.gr_model.proofs.SoFar.{frames_sent}
 use Rattle.gr_model.proofs.ReplyLines.{replied_always}
 use Rattle.gryphon.specs.declared.asked.Asked.{Asked}
@@ -31,11 +30,11 @@ one_word (w ∷ []) d b text low high e =
     (λ h. ap (λ t. t ∷ []) ((bytes_decides w.now text).0 (sym e ∙ h)), λ h. e ∙ (bytes_decides w.now text).1 (let k : w.now ≡ text = cc in k))
 one_word (w ∷ v ∷ ws) d b text low high e = absurd (omega arith)
 
--- ready steps are in range, and none is a sweep
-step_in : (s : Step) → IsReady s → StepIn net0 s × (is_sweep s ≡ false)
-step_in (step.Clock now) h = (tt, refl)
-step_in (step.Deliver frame) h = (tt, refl)
-step_in (step.Publish p n None e) h = (omega (arith, h.0), refl)
+-- ready steps are in range
+step_in : (s : Step) → IsReady s → StepIn net0 s
+step_in (step.Clock now) h = tt
+step_in (step.Deliver frame) h = tt
+step_in (step.Publish p n None e) h = omega (arith, h.0)
 step_in (step.Publish p n (Some stop) e) h = absurd h
 step_in (step.Wake broker) h = absurd h
 step_in (step.Crash broker) h = absurd h
@@ -43,18 +42,18 @@ step_in step.Sweep h = absurd h
 step_in step.Show h = absurd h
 step_in (step.Bytes frame) h = absurd h
 
-steps_in : (lines : List Line) → AreReady lines → StepsIn net0 lines × SweepsNowhere lines
-steps_in [] h = (tt, tt)
-steps_in (l ∷ ls) h = let s = step_in l.step h.0 in let r = steps_in ls h.1 in ((s.0, r.0), (s.1, r.1))
+steps_in : (lines : List Line) → AreReady lines → StepsIn net0 lines
+steps_in [] h = tt
+steps_in (l ∷ ls) h = (step_in l.step h.0, steps_in ls h.1)
 
 -- every schedule of ready steps meets the headline
 pub meets_headline : (lines : List Line) → AreReady lines → MeetsHeadline lines
 meets_headline lines h =
     let s = steps_in lines h in
     record {
-      headline = headline_without_sweeps net0 lines net0_is (lit≤ tt) s.0 s.1;
-      sent = frames_sent net0 lines net0_is (lit≤ tt) s.0;
-      replied = replied_always net0 lines net0_is (lit≤ tt) s.0;
+      headline = headline_always net0 lines net0_is (lit≤ tt) (lit≤ tt) s;
+      sent = frames_sent net0 lines net0_is (lit≤ tt) s;
+      replied = replied_always net0 lines net0_is (lit≤ tt) s;
     }
 
 -- too many bytes ask the same, whatever follows
