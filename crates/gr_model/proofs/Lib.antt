@@ -46,4 +46,5 @@ pub mod WithoutSweeps
 pub mod SweepHosts
 pub mod SweepHears
 pub mod SweepStates
+pub mod SettleAcks
 pub mod AfterSweeps
