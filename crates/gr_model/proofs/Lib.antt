@@ -47,4 +47,5 @@ pub mod SweepHosts
 pub mod SweepHears
 pub mod SweepStates
 pub mod SettleAcks
+pub mod Settling
 pub mod AfterSweeps
