@@ -46,6 +46,8 @@ pub mod WithoutSweeps
 pub mod SweepHosts
 pub mod SweepHears
 pub mod SweepStates
+pub mod Rounds
 pub mod SettleAcks
 pub mod Settling
+pub mod ThirdPhase
 pub mod AfterSweeps

@@ -32,6 +32,7 @@ use Rattle.gr_model.proofs.Answering.{same_length, acknowledged_at}
 use Rattle.gr_model.proofs.Serves.{receive_curiosity, frames_past_all}
 use Rattle.gr_model.proofs.Stays.{DeliveredWant, delivered_want, WokenBelow, woken_below}
 use Rattle.gr_model.proofs.Pending.{sent_up}
+use Rattle.gr_model.proofs.Rounds.{stands}
 use Rattle.gr_model.proofs.SettleAcks.{quiet_frames, quiet_any_C, all_A_of}
 
 -- a Curiosity frame of the publisher that asks nothing
@@ -44,10 +45,6 @@ pub record Acks (p : ℕ) (f : Frame) : Type 0 where
 -- the frame brings no knowledge
 abbrev pub NoKnow : Frame → Type 0
 NoKnow f = (runs : Known) → f.body ≢ body.Knowledge runs
-
--- the broker stands in the list
-abbrev pub stands : List ℕ → ℕ → Bool
-stands xs b = list_any (λ x. nat_eq x b) xs
 
 -- in the third phase, with the brokers that are still to be woken and the upward frames that wait; base are the frames sent before the phase
 pub record Settling (net : Net) (p m : ℕ) (base : List Frame) (rest : List ℕ) (w : World) (pending : List Frame) : Type 0 where
@@ -127,7 +124,7 @@ acks_delivered_here net m base rest w x fs n f tr s =
     asked_here : (t : ℕ) → is_host net p x.head.to ≡ false → any_C (view_of y x.head.to p).wants t ≡ true → asked_at (view_of y x.head.to p).asks t ≡ At m
     asked_here t host c =
         let before : any_C (view_of w x.head.to p).wants t ≡ true = quiet_any_C net (facts_of net w p) p x.head.to w.clock x.head.from t a.runs (view_of w x.head.to p) (log_of w p) (f.views p x.head.to tr.publisher_in tr.fits.to_in) here (subst (BodyTrue net (facts_of net w p) p x.head.from x.head.to) a.body tr.told) (a.quiet t)
-            (ap (λ z. any_C z.view.wants t) (sym (receive_curiosity net w.clock x a.runs (view_of w x.head.to p) (log_of w p) a.body)) ∙ (ap (λ v. any_C v.wants t) (sym d.taken.view) ∙ c)) in
+        (ap (λ z. any_C z.view.wants t) (sym (receive_curiosity net w.clock x a.runs (view_of w x.head.to p) (log_of w p) a.body)) ∙ (ap (λ v. any_C v.wants t) (sym d.taken.view) ∙ c)) in
         ap (λ v. asked_at v.asks t) d.taken.view ∙ ⊎_elim (λ z. z ∙ ap (λ k. At k) s.clock) (λ z. z ∙ s.asked x.head.to t tr.fits.to_in host before) (d.ticks.asks t)
 
     stored : (b u t : ℕ) → list_any (λ z. nat_eq z b) (net.children p u) ≡ true → wanted_at (wants_of net p u (view_of w u p) b) t ≡ A → wanted_at (wants_of net p u (view_of y u p) b) t ≡ A
