@@ -50,4 +50,5 @@ pub mod Rounds
 pub mod SettleAcks
 pub mod Settling
 pub mod ThirdPhase
+pub mod SweepCalls
 pub mod AfterSweeps
