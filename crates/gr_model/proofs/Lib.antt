@@ -51,4 +51,5 @@ pub mod SettleAcks
 pub mod Settling
 pub mod ThirdPhase
 pub mod SweepCalls
+pub mod SweepNumbers
 pub mod AfterSweeps
