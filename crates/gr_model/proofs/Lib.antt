@@ -52,4 +52,5 @@ pub mod Settling
 pub mod ThirdPhase
 pub mod SweepCalls
 pub mod SweepNumbers
+pub mod SweepSends
 pub mod AfterSweeps

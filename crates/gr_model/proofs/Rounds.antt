@@ -64,7 +64,7 @@ stands_outwards net p b i l = stands_up net p b 0 net.brokers i (omega arith) (o
 
 -- Depths
 
-each_tested : (test : ℕ → Bool) (xs : List ℕ) → Each (λ x. test x ≡ true) (filter test xs)
+pub each_tested : {X : Type 0} (test : X → Bool) (xs : List X) → Each (λ x. test x ≡ true) (filter test xs)
 each_tested test [] = tt
 each_tested test (x ∷ xs) =
     elim (cases_Bool (test x)) [
