@@ -53,4 +53,5 @@ pub mod ThirdPhase
 pub mod SweepCalls
 pub mod SweepNumbers
 pub mod SweepSends
+pub mod SweepOnce
 pub mod AfterSweeps

@@ -135,7 +135,7 @@ calls_are {X} {Y} net R g f stays one (x ∷ xs) (y ∷ ys) w a =
     on (u ∷ us) [] b = absurd b
     on (u ∷ us) (v ∷ vs) b = (stays w (all_made net (g w x) w).world u v (all_made_grows net (g w x) w) b.0, on us vs b.1)
 
-made_is : (net : Net) (w : World) (k : ℕ) (f : Frame) → IsAt w k f → made net w (delivers k) ≡ deliver_frame net w f
+pub made_is : (net : Net) (w : World) (k : ℕ) (f : Frame) → IsAt w k f → made net w (delivers k) ≡ deliver_frame net w f
 made_is net w k f e = ap (λ o. let t : Told = elim o [ None ↦ unchanged w [] | Some f ↦ deliver_frame net w f ] in t) e
 
 pub up_are : (net : Net) (fuel : ℕ) (ks : List ℕ) (fs : List Frame) (w : World) → Pairs (IsAt w) ks fs → all_made net (up_calls net fuel ks w) w ≡ deliver_up net fuel fs w
