@@ -54,4 +54,5 @@ pub mod SweepCalls
 pub mod SweepNumbers
 pub mod SweepSends
 pub mod SweepOnce
+pub mod SettlesAll
 pub mod AfterSweeps

@@ -29,7 +29,7 @@ units : {X : Type 0} (xs : List X) → Each (λ x. Unit {0}) xs
 units [] = tt
 units (x ∷ xs) = (tt, units xs)
 
-in_turn_grows : {X : Type 0} (f : World → X → Told) → ((w : World) (x : X) → Grows w (f w x).world) → (xs : List X) (w : World) → Grows w (in_turn f xs w).world
+pub in_turn_grows : {X : Type 0} (f : World → X → Told) → ((w : World) (x : X) → Grows w (f w x).world) → (xs : List X) (w : World) → Grows w (in_turn f xs w).world
 in_turn_grows f g [] w = grows_none w
 in_turn_grows f g (x ∷ xs) w = grows_on w (f w x).world (in_turn f xs (f w x).world).world (g w x) (in_turn_grows f g xs (f w x).world)
 
