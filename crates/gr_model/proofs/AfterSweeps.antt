@@ -28,6 +28,9 @@ use Rattle.gr_model.proofs.SweepHears.{SweepAdds, sweep_adds, hear_frames, heard
 use Rattle.gr_model.proofs.AskMoments.{AsksFit}
 use Rattle.gr_model.proofs.WithoutSweeps.{Whole, AllLines, holds_from, start_whole}
 use Rattle.gr_model.proofs.Worlds.{Each}
+use Rattle.gr_model.proofs.Closed.{next_holds}
+use Rattle.gr_model.proofs.SweepStates.{Unknowns}
+use Rattle.gr_model.proofs.FirstUnknown.{unknown_closed, unknowns_always}
 use Rattle.gr_model.proofs.Schedules.{clocked_fits, sweep_kept}
 
 -- what is known is settled
@@ -69,7 +72,7 @@ pub record Reaches (net : Net) (w : World) (k : ℕ) (before : Pieces) (more : L
   pub heard : (t : ℕ) → 1 ≤ t → t ≤ sweep_moment net w → (heard_in before b p t || list_any (tells_to b p t) more) ≡ true
 
 -- the logs after a sweep that is not refused
-swept_settled : (net : Net) (w : World) (k p : ℕ) → IsNet net → 1 ≤ net.quiet → WorldFits net w → p < net.publishers → nat_lt max_tick (sweep_moment net w) ≡ false → (log_of (sweep net w k).world p).settled ≡ sweep_moment net w
+pub swept_settled : (net : Net) (w : World) (k p : ℕ) → IsNet net → 1 ≤ net.quiet → WorldFits net w → p < net.publishers → nat_lt max_tick (sweep_moment net w) ≡ false → (log_of (sweep net w k).world p).settled ≡ sweep_moment net w
 unfolding sweep
 swept_settled net w k p n z f j ok = go (nat_lt max_tick m) ok
   where
@@ -131,7 +134,7 @@ swept_hears net w k heard more n z f ok fr h r = record {
 
 -- every sweep that is not refused reaches each broker below the host that keeps a horizon
 abbrev pub SweepsReach : (net : Net) → IsNet net → Type 0
-SweepsReach net n = (w : World) (k : ℕ) (heard : Pieces) → (f : WorldFits net w) → AsksFit net w → Hears net w heard → nat_lt max_tick (sweep_moment net w) ≡ false → (b p : ℕ) → b < net.brokers → p < net.publishers → is_host net p b ≡ false → keeps_horizon net p b ≡ true →
+SweepsReach net n = (w : World) (k : ℕ) (heard : Pieces) → (f : WorldFits net w) → AsksFit net w → Unknowns net w → Hears net w heard → nat_lt max_tick (sweep_moment net w) ≡ false → (b p : ℕ) → b < net.brokers → p < net.publishers → is_host net p b ≡ false → keeps_horizon net p b ≡ true →
     (let a : SweepAdds net w k = sweep_adds net w k n f in Reaches net w k heard a.more b p)
 
 refused_world : (net : Net) (w : World) (k : ℕ) → nat_lt max_tick (sweep_moment net w) ≡ true → (sweep net w k).world ≡ w
@@ -149,8 +152,8 @@ refused_world net w k e = go (nat_lt max_tick m) e
     go false e = absurd (false≢true e)
 
 -- what a sweep leaves of what was heard
-sweep_hears : (net : Net) (n : IsNet net) (w : World) (h : History) (k : ℕ) → SweepsReach net n → 1 ≤ net.quiet → Whole net w h → Hears net (sweep net w k).world (if is_swept net h then hearing_all h.heard (sweep net w k).lines else h.heard)
-sweep_hears net n w h k reach z x =
+sweep_hears : (net : Net) (n : IsNet net) (w : World) (h : History) (k : ℕ) → SweepsReach net n → 1 ≤ net.quiet → Whole net w h → Unknowns net w → Hears net (sweep net w k).world (if is_swept net h then hearing_all h.heard (sweep net w k).lines else h.heard)
+sweep_hears net n w h k reach z x o =
     let f = x.stands.fits in
     let same : sweep_at net h ≡ sweep_moment net w = sweep_same net w h x.stands.records in
     let a : SweepAdds net w k = sweep_adds net w k n f in
@@ -161,13 +164,13 @@ sweep_hears net n w h k reach z x =
       | inr e ↦
           let yes : is_swept net h ≡ true = ap (λ c. nat_le c max_tick) same ∙ le-leb (sweep_moment net w) max_tick (ltb-false max_tick (sweep_moment net w) e) in
           subst (λ c. Hears net (sweep net w k).world (if c then hearing_all h.heard (sweep net w k).lines else h.heard)) (sym yes) (subst (λ p. Hears net (sweep net w k).world p) (sym (a.lines h.heard))
-          (swept_hears net w k h.heard a.more n z f e a.frames x.hears (λ b p i j host keeps. reach w k h.heard f x.stands.asks x.hears e b p i j host keeps)))
+          (swept_hears net w k h.heard a.more n z f e a.frames x.hears (λ b p i j host keeps. reach w k h.heard f x.stands.asks o x.hears e b p i j host keeps)))
     ]
 
-hears_at : (net : Net) (n : IsNet net) (w : World) (h : History) (k : ℕ) (s : Step) → SweepsReach net n → 1 ≤ net.quiet → StepIn net s → Whole net w h → Hears net (next net w (record { number = k; step = s })).world (heard_after net h (record { number = k; step = s }) (next net w (record { number = k; step = s })).lines)
+hears_at : (net : Net) (n : IsNet net) (w : World) (h : History) (k : ℕ) (s : Step) → SweepsReach net n → 1 ≤ net.quiet → StepIn net s → Whole net w h → Unknowns net w → Hears net (next net w (record { number = k; step = s })).world (heard_after net h (record { number = k; step = s }) (next net w (record { number = k; step = s })).lines)
 unfolding next heard_after
-hears_at net n w h k step.Sweep reach z i x = sweep_hears net n w h k reach z x
-hears_at net n w h k s reach z i x = hears_by net w h k s (next net w (record { number = k; step = s })).lines n x.stands.fits x.stands.records x.stands.sent i refl x.hears
+hears_at net n w h k step.Sweep reach z i x o = sweep_hears net n w h k reach z x o
+hears_at net n w h k s reach z i x o = hears_by net w h k s (next net w (record { number = k; step = s })).lines n x.stands.fits x.stands.records x.stands.sent i refl x.hears
 
 all_lines : (ls : List Line) → AllLines (λ l. Unit {0}) ls
 all_lines [] = tt
@@ -178,5 +181,5 @@ pub headline_where_sweeps_reach : (net : Net) (ls : List Line) (n : IsNet net) �
 unfolding report_of
 headline_where_sweeps_reach net ls n reach z i = (
   refl,
-  holds_from net (λ l. Unit {0}) (start net) (begin net) ls n z (λ u g l j e k. hears_at net n u g l.number l.step reach z j k) i (all_lines ls) (start_whole net n),
+  holds_from net (λ l. Unit {0}) (Unknowns net) (start net) (begin net) ls n z (λ u l j f x. next_holds net (λ y. Unit {0}) (Unknowns net) u l n (unknown_closed net n) f x j) (λ u g l j e k x. hears_at net n u g l.number l.step reach z j k x) i (all_lines ls) (start_whole net n) (unknowns_always net [] n tt),
 )

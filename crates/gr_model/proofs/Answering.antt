@@ -2,10 +2,10 @@
 use Rattle.std.proofs.Common.{◌≡◌, ◌≢◌, ◌⊎◌, inl, inr, ⊎_elim, ℕ, suc, ◌≤◌, Bool, true, false, not, ◌&&◌, ◌||◌, List, [], ◌∷◌, ◌++◌, set, get_or, map, refl, sym, ap, ap₂, ◌∙◌, subst, Option, Some, None, arith}
 use Rattle.std.specs.Prelude.{nat_eq, nat_le, if◌then◌else◌}
 use Rattle.std.specs.List.{list_any}
-use Rattle.std.proofs.lemmas.Bool.{cases_Bool, false≢true, eqb-true, and_right}
+use Rattle.std.proofs.lemmas.Bool.{cases_Bool, false≢true, true≢false, eqb-true, and_right, and_parts}
 use Rattle.std.proofs.lemmas.List.{get_or-set_other}
 use Rattle.gr_know.specs.declared.values.K.{K}
-use Rattle.gr_know.specs.declared.values.K.TheVariants.{Q, F}
+use Rattle.gr_know.specs.declared.values.K.TheVariants.{Q, S, D, F}
 use Rattle.gr_curio.specs.declared.values.Q3.{Q3}
 use Rattle.gr_curio.specs.declared.values.Q3.TheVariants.{N, C, A}
 use Rattle.gr_frame.specs.declared.Frame.{Frame}
@@ -15,6 +15,7 @@ use Rattle.gr_curio.specs.Values.{Wanted, wanted_at, asked_at, is_C, is_A, same_
 use Rattle.gr_model.specs.Net.{Net, is_host, keeps_horizon, pass}
 use Rattle.gr_model.specs.Broker.{View, Log, Outcome, want_frames, know_frames, all_A, consolidated, is_settled, finished, due, noted, up_frames, place_of, answer, answers, curious, stored, acknowledged, curiosity, head}
 use Rattle.gr_frame.specs.Bytes.{cut_frames, known_run_size, wanted_run_size}
+use Rattle.gr_model.specs.World.{is_want}
 use Rattle.gr_model.specs.Truth.{Facts, WantsTruth, AllWantTruth}
 use Rattle.gr_model.specs.Fits.{ViewTrue}
 use Rattle.gr_tick.proofs.RunLaws.{AreRunsOf, tabulate-is, zip_runs-is, IsNone-append, IsPast-append, value_at-step, value_at-past, value_at-start}
@@ -173,6 +174,68 @@ no_A_up net t p b runs a n = at (net.up p b)
     at None = tt
     at (Some u) = go u (cut_frames wanted_run_size runs) (cut_frames-parts N wanted_run_size runs a)
 
+-- a Curiosity frame from a broker to the next one up, that has of a tick what a piece has, or nothing
+pub record SentUp (net : Net) (p b t : ℕ) (runs : Wanted) (f : Frame) : Type 0 where
+  pub part : Wanted
+  pub body_is : f.body ≡ body.Curiosity part
+  pub from_is : f.head.from ≡ b
+  pub publisher : f.head.publisher ≡ p
+  pub up : net.up p b ≡ Some f.head.to
+  pub value : (wanted_at part t ≡ wanted_at runs t) ⊎ (wanted_at part t ≡ N)
+
+pub up_frames_sent : (net : Net) (t p b : ℕ) (runs : Wanted) → AreRuns N runs → Each (SentUp net p b t runs) (up_frames net p b runs)
+up_frames_sent net t p b runs a = at (net.up p b) refl
+  where
+    go : (u : ℕ) (parts : List Wanted) → net.up p b ≡ Some u → AllParts N parts runs → Each (SentUp net p b t runs) (map (λ part. record { head = head b u p; body = body.Curiosity part }) parts)
+    go u [] e h = tt
+    go u (x ∷ xs) e h = (record { part = x; body_is = refl; from_is = refl; publisher = refl; up = e; value = h.0.1 t }, go u xs e h.1)
+
+    at : (u : Option ℕ) → net.up p b ≡ u → Each (SentUp net p b t runs) (elim u [ Some u ↦ want_frames b u p runs | None ↦ [] ])
+    at None e = tt
+    at (Some u) e = go u (cut_frames wanted_run_size runs) e (cut_frames-parts N wanted_run_size runs a)
+
+-- what goes up of a tick has no A, and a C is noted with this moment
+pub record AsksUp (net : Net) (p b t now : ℕ) (v : View) (f : Frame) : Type 0 where
+  pub part : Wanted
+  pub body_is : f.body ≡ body.Curiosity part
+  pub from_is : f.head.from ≡ b
+  pub publisher : f.head.publisher ≡ p
+  pub up : net.up p b ≡ Some f.head.to
+  pub no_A : wanted_at part t ≢ A
+  pub noted : wanted_at part t ≡ C → asked_at v.asks t ≡ At now
+
+-- each frame that goes up is such
+abbrev pub UpAsks : Net → ℕ → ℕ → ℕ → ℕ → View → Frame → Type 0
+UpAsks net p b t now v f = is_want f ≡ true → AsksUp net p b t now v f
+
+up_asks_know : (net : Net) (p b t now c : ℕ) (v : View) (runs : Known) → Each (UpAsks net p b t now v) (know_frames b c p runs)
+up_asks_know net p b t now c v runs = go (cut_frames known_run_size runs)
+  where
+    go : (parts : List Known) → Each (UpAsks net p b t now v) (map (λ part. record { head = head b c p; body = body.Knowledge part }) parts)
+    go [] = tt
+    go (x ∷ xs) = (λ e. absurd (false≢true e), go xs)
+
+up_asks_up : (net : Net) (p b t now : ℕ) (v : View) (runs : Wanted) → wanted_at runs t ≢ A → (wanted_at runs t ≡ C → asked_at v.asks t ≡ At now) → (fs : List Frame) → Each (SentUp net p b t runs) fs → Each (UpAsks net p b t now v) fs
+up_asks_up net p b t now v runs n k [] a = tt
+up_asks_up net p b t now v runs n k (f ∷ fs) a = (
+  λ e. record {
+    part = a.0.part;
+    body_is = a.0.body_is;
+    from_is = a.0.from_is;
+    publisher = a.0.publisher;
+    up = a.0.up;
+    no_A = λ z. ⊎_elim (λ y. n (sym y ∙ z)) (λ y. N_not_A (sym y ∙ z)) a.0.value;
+    noted = λ z. ⊎_elim (λ y. k (sym y ∙ z)) (λ y. absurd (N_not_C (sym y ∙ z))) a.0.value;
+  },
+  up_asks_up net p b t now v runs n k fs a.1,
+)
+  where
+    N_not_A : N ≡ A → ⊥
+    N_not_A e = cc
+
+    N_not_C : N ≡ C → ⊥
+    N_not_C e = cc
+
 pub record CuriosityTicks (net : Net) (p b now c : ℕ) (piece : Wanted) (v : View) (o : Outcome) : Type 0 where
   pub answered : (t : ℕ) → wanted_at piece t ≡ C → wanted_at (wants_of net p b v c) t ≢ A → known_at v.know t ≢ Q → Has (TellsTick p b c t (pass net p c (known_at v.know t))) o.frames
   pub told_F : (t : ℕ) → wanted_at piece t ≡ C → wanted_at (wants_of net p b v c) t ≡ A → Has (TellsTick p b c t F) o.frames
@@ -182,7 +245,9 @@ pub record CuriosityTicks (net : Net) (p b now c : ℕ) (piece : Wanted) (v : Vi
   pub asked : (t : ℕ) → is_host net p b ≡ false → wanted_at piece t ≡ C → wanted_at (wants_of net p b v c) t ≢ A → known_at v.know t ≡ Q → is_outstanding (asked_at v.asks t) now net.retry ≡ false → ((u : ℕ) → net.up p b ≡ Some u → Has (WantsTick p b u t C) o.frames) × (asked_at o.view.asks t ≡ At now)
   pub asks : (t : ℕ) → (asked_at o.view.asks t ≡ At now) ⊎ (asked_at o.view.asks t ≡ asked_at v.asks t)
   pub asks_new : (t : ℕ) → asked_at o.view.asks t ≡ At now → (asked_at v.asks t ≡ At now) ⊎ ((u : ℕ) → net.up p b ≡ Some u → Has (WantsTick p b u t C) o.frames)
+  pub asks_stored : (t : ℕ) → asked_at o.view.asks t ≡ At now → (asked_at v.asks t ≡ At now) ⊎ ((wanted_at piece t ≡ C) × (wanted_at (wants_of net p b o.view c) t ≡ C))
   pub no_A : (t : ℕ) → Each (NoA t) o.frames
+  pub sends : (t : ℕ) → Each (UpAsks net p b t now o.view) o.frames
   pub horizon : o.view.horizon ≡ v.horizon
   pub know : (t : ℕ) → (known_at o.view.know t ≡ (if is_settled (keeps_horizon net p b) v.horizon o.view.wants t then F else known_at v.know t)) ⊎ ((known_at o.view.know t ≡ Q) × (is_host net p b ≡ false) × (keeps_horizon net p b ≡ true → t ≤ v.horizon))
 
@@ -192,6 +257,19 @@ curiosity_wanted reply piece r = record {
   step = λ t n. let k = IsNone-append (suc t) (points piece) (points reply) n in ap₂ (λ q x. is_C q && is_Q x) (value_at-step N piece t k.0) (value_at-step Q reply t k.1);
   past = λ t n. let k = IsPast-append t (points piece) (points reply) n in ap (λ q. is_C q && is_Q (known_at reply t)) (value_at-past N piece t k.0);
 }
+
+-- a value is Q where it cannot be anything else
+cases_K : (k : K) → ((k ≢ Q) → k ≡ Q) → k ≡ Q
+cases_K Q h = refl
+cases_K S h = h (λ e. cc)
+cases_K (D x) h = h (λ e. cc)
+cases_K F h = h (λ e. cc)
+
+pub Q_is : (k : K) → is_Q k ≡ true → k ≡ Q
+Q_is Q e = refl
+Q_is S e = absurd (true≢false (sym e))
+Q_is (D x) e = absurd (true≢false (sym e))
+Q_is F e = absurd (true≢false (sym e))
 
 pub curiosity_ticks : (net : Net) (f : Facts) (p b now c : ℕ) (piece : Wanted) (v : View) (log : Log) → ViewTrue net f p b v → list_any (λ y. nat_eq y c) (net.children p b) ≡ true → WantsTruth net f p c piece →
     CuriosityTicks net p b now c piece v (curiosity net p b now c (place_of c (net.children p b)) piece v log)
@@ -221,6 +299,12 @@ curiosity_ticks net f p b now c piece v log h child wt =
             (subst (λ y. Has (WantsTick p b u t y) (up_frames net p b (asked (is_host net p b)))) z (up_frames_want net p b u t (asked (is_host net p b)) up (λ y. C_not_N (sym z ∙ y)))))
         | inr e ↦ inl (sym (ap (λ a. asked_at a t) i.asks ∙ (noted_is.same_at t ∙ ap (λ q. if q then At now else asked_at v.asks t) e)) ∙ g)
       ];
+      asks_stored = λ t g. elim (cases_Bool (is_C (wanted_at (asked (is_host net p b)) t))) [
+        | inl e ↦ let z = asked_parts (is_host net p b) t (C_of (wanted_at (asked (is_host net p b)) t) e) in inr (z.0, ap (λ y. wanted_at (get_or y at []) t) i.wants ∙ stored_C t z.0 z.1 z.2)
+        | inr e ↦ inl (sym (ap (λ a. asked_at a t) i.asks ∙ (noted_is.same_at t ∙ ap (λ q. if q then At now else asked_at v.asks t) e)) ∙ g)
+      ];
+      sends = λ t. Each-on (UpAsks net p b t now (curiosity net p b now c at piece v log).view) (know_frames b c p reply) (up_frames net p b (asked (is_host net p b))) (up_asks_know net p b t now c (curiosity net p b now c at piece v log).view reply)
+          (up_asks_up net p b t now (curiosity net p b now c at piece v log).view (asked (is_host net p b)) (asked_not_A (is_host net p b) t) (λ e. ap (λ a. asked_at a t) i.asks ∙ (noted_is.same_at t ∙ ap (λ q. if is_C q then At now else asked_at v.asks t) e)) (up_frames net p b (asked (is_host net p b))) (up_frames_sent net t p b (asked (is_host net p b)) (asked_runs (is_host net p b))));
       no_A = λ t. Each-on (NoA t) (know_frames b c p reply) (up_frames net p b (asked (is_host net p b))) (no_A_know t b c p reply) (no_A_up net t p b (asked (is_host net p b)) (asked_runs (is_host net p b)) (asked_not_A (is_host net p b) t));
       horizon = i.horizon;
       know = λ t. ⊎_elim (λ x. inl (x ∙ (fin t ∙ ap (λ z. if is_settled keeps v.horizon z t then F else known_at v.know t) (sym i.wants)))) (λ x. inr x) (i.each t);
@@ -308,6 +392,37 @@ curiosity_ticks net f p b now c piece v log h child wt =
     asked_not_A true t = λ e. C_not_A false e
     asked_not_A false t = λ e. C_not_A ((is_C (wanted_at piece t) && is_Q (known_at reply t)) && is_Q (known_at know t) && not (is_outstanding (asked_at v.asks t) now net.retry)) (sym (di.same_at t) ∙ e)
 
+    C_of : (q : Q3) → is_C q ≡ true → q ≡ C
+    C_of N e = absurd (false≢true e)
+    C_of A e = absurd (false≢true e)
+    C_of C e = refl
+
+    C_not_N : C ≡ N → ⊥
+    C_not_N e = cc
+
+    C_if : (q : Bool) → (if q then C else N) ≡ C → q ≡ true
+    C_if true e = refl
+    C_if false e = absurd (C_not_N (sym e))
+
+    passes_Q : (k : K) → is_Q (pass net p c k) ≡ true → k ≡ Q
+    passes_Q k e = cases_K k (λ n. absurd (pass_not_Q net p c k n (Q_is (pass net p c k) e)))
+
+    -- what is answered Q was neither acknowledged nor known
+    unanswered : (a : Q3) (k : K) → is_Q (answer net p c k a C) ≡ true → (k ≡ Q) × (a ≢ A)
+    unanswered A k e = absurd (false≢true e)
+    unanswered N k e = (passes_Q k e, λ h. cc)
+    unanswered C k e = (passes_Q k e, λ h. cc)
+
+    asked_parts : (q : Bool) (t : ℕ) → wanted_at (asked q) t ≡ C → (wanted_at piece t ≡ C) × (wanted_at w0 t ≢ A) × (known_at v.know t ≡ Q)
+    asked_parts true t e = absurd (C_not_N (sym e))
+    asked_parts false t e =
+        let r = known_at reply t in
+        let x = C_if ((is_C (wanted_at piece t) && is_Q r) && is_Q (known_at know t) && not (is_outstanding (asked_at v.asks t) now net.retry)) (sym (di.same_at t) ∙ e) in
+        let y = and_parts (is_C (wanted_at piece t)) (is_Q r) (and_parts (is_C (wanted_at piece t) && is_Q r) (is_Q (known_at know t)) (and_parts ((is_C (wanted_at piece t) && is_Q r) && is_Q (known_at know t)) (not (is_outstanding (asked_at v.asks t) now net.retry)) x).0).0 in
+        let g = C_of (wanted_at piece t) y.0 in
+        let u = unanswered (wanted_at w0 t) (known_at v.know t) (sym (ap is_Q (ri.same_at t ∙ ap₂ (answer net p c (known_at v.know t)) (w_C t g) g)) ∙ y.1) in
+        (g, u.1, u.0)
+
     noted_is : AreRunsOf Never (λ t. if is_C (wanted_at (asked (is_host net p b)) t) then At now else asked_at v.asks t) (noted now v.asks (asked (is_host net p b)))
     noted_is = noted-at now v.asks (asked (is_host net p b)) h.asks (asked_runs (is_host net p b))
 
@@ -325,13 +440,5 @@ curiosity_ticks net f p b now c piece v log h child wt =
     now_or true t e = inl e
     now_or false t e = inr e
 
-    C_of : (q : Q3) → is_C q ≡ true → q ≡ C
-    C_of N e = absurd (false≢true e)
-    C_of A e = absurd (false≢true e)
-    C_of C e = refl
-
     F_not_Q : F ≡ Q → ⊥
     F_not_Q e = cc
-
-    C_not_N : C ≡ N → ⊥
-    C_not_N e = cc

@@ -110,7 +110,7 @@ trimmed_horizon net p b v = go (is_host net p b)
     go true = refl
     go false = refl
 
-trimmed_wants : (net : Net) (p b : ℕ) (v : View) → (trimmed net p b v).wants ≡ v.wants
+pub trimmed_wants : (net : Net) (p b : ℕ) (v : View) → (trimmed net p b v).wants ≡ v.wants
 unfolding trimmed
 trimmed_wants net p b v = go (is_host net p b)
   where
@@ -334,7 +334,7 @@ silence_true net f p b first last rest one upto none k a s =
       | inr e ↦ rw e k
     ]
 
-silence_in : (first last : ℕ) (rest : Known) (t : ℕ) → first ≤ t → t ≤ last → known_at (silence first last rest) t ≡ S
+pub silence_in : (first last : ℕ) (rest : Known) (t : ℕ) → first ≤ t → t ≤ last → known_at (silence first last rest) t ≡ S
 unfolding silence
 silence_in first last rest t h k = rw (le-leb first last (le_trans h k)) (value_at-in Q (run_at first last S) rest t h k)
 

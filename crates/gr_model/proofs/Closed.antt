@@ -74,7 +74,7 @@ Each-kept P test (x ∷ xs) a =
       | inr e ↦ rw e (Each-kept P test xs a.1)
     ]
 
-Each-both : {X : Type 0} (P R : X → Type 0) (xs : List X) → Each P xs → Each R xs → Each (λ x. P x × R x) xs
+pub Each-both : {X : Type 0} (P R : X → Type 0) (xs : List X) → Each P xs → Each R xs → Each (λ x. P x × R x) xs
 Each-both P R [] a b = tt
 Each-both P R (x ∷ xs) a b = ((a.0, b.0), Each-both P R xs a.1 b.1)
 

@@ -121,15 +121,15 @@ pass_not_Q net p c (D e) h = go (wanted_below net p c e)
     go true = λ x. cc
     go false = λ x. cc
 
-not_A : (q : Q3) → q ≢ A → is_A q ≡ false
+pub not_A : (q : Q3) → q ≢ A → is_A q ≡ false
 not_A N h = refl
 not_A C h = refl
 not_A A h = absurd (h refl)
 
-is_Q_of : (k : K) → k ≡ Q → is_Q k ≡ true
+pub is_Q_of : (k : K) → k ≡ Q → is_Q k ≡ true
 is_Q_of k e = ap is_Q e
 
-not_Q_of : (k : K) → k ≢ Q → is_Q k ≡ false
+pub not_Q_of : (k : K) → k ≢ Q → is_Q k ≡ false
 not_Q_of Q h = absurd (h refl)
 not_Q_of S h = refl
 not_Q_of (D e) h = refl
@@ -215,7 +215,7 @@ learn_ticks net f p b piece v log place h k =
     F_if true x = refl
     F_if false x = refl
 
-quench_not_C : (net : Net) (p c : ℕ) (k : K) (q : Q3) → k ≢ Q → quenched_at net p c k q ≢ C
+pub quench_not_C : (net : Net) (p c : ℕ) (k : K) (q : Q3) → k ≢ Q → quenched_at net p c k q ≢ C
 quench_not_C net p c k N h = λ e. cc
 quench_not_C net p c k A h = λ e. cc
 quench_not_C net p c k C h = λ e. N_not_C (sym (ap (λ x. if not x then N else C) (not_Q_of (pass net p c k) (pass_not_Q net p c k h))) ∙ e)

@@ -41,14 +41,14 @@ not_Q_at S e = λ h. cc
 not_Q_at (D v) e = λ h. cc
 not_Q_at F e = λ h. cc
 
-cases_Q : (k : K) → (k ≡ Q) ⊎ (k ≢ Q)
+pub cases_Q : (k : K) → (k ≡ Q) ⊎ (k ≢ Q)
 cases_Q Q = inl refl
 cases_Q S = inr (λ h. cc)
 cases_Q (D e) = inr (λ h. cc)
 cases_Q F = inr (λ h. cc)
 
 -- above the horizon nothing is consolidated where one is kept
-not_done : (h t : ℕ) (ws : List Wanted) → h < t → is_settled true h ws t ≡ false
+pub not_done : (h t : ℕ) (ws : List Wanted) → h < t → is_settled true h ws t ≡ false
 not_done h t ws l = ap (λ b. b && all_A ws t) (ap (λ b. nat_le 1 t && b) (lt-leb t h l) ∙ and_right (nat_le 1 t) false refl)
 
 -- a view's knowledge above its horizon, after trimming and consolidation

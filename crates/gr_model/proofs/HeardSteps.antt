@@ -137,7 +137,7 @@ line_sent k (l ∷ ls) =
     and_false true = refl
     and_false false = refl
 
-sent_line_number : (n : ℕ) (x : Frame) → sent_number (sent_line n x) ≡ n
+pub sent_line_number : (n : ℕ) (x : Frame) → sent_number (sent_line n x) ≡ n
 unfolding sent_line
 sent_line_number n x = go x.body
   where
@@ -146,7 +146,7 @@ sent_line_number n x = go x.body
     go (body.Curiosity runs) = refl
     go (body.Expect tick) = refl
 
-abbrev line_at : ℕ → Option Frame → Option Report
+abbrev pub line_at : ℕ → Option Frame → Option Report
 line_at k o = elim o [ None ↦ None | Some x ↦ Some (sent_line k x) ]
 
 line_in : (n i : ℕ) (fs : List Frame) → 1 ≤ n → line_of_frame (n + i) (sent_lines n fs) ≡ line_at (n + i) (slice_get fs i)

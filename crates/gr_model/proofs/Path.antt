@@ -33,7 +33,7 @@ Has-past P zero xs ys h = Has-front P xs ys h
 Has-past P (suc n) [] ys h = absurd h
 Has-past P (suc n) (x ∷ xs) ys h = Has-past P n xs ys h
 
-Has-last : (P : Frame → Type 0) (n : ℕ) (xs ys : List Frame) → n ≤ length xs → Has P ys → Has P (frames_past n (xs ++ ys))
+pub Has-last : (P : Frame → Type 0) (n : ℕ) (xs ys : List Frame) → n ≤ length xs → Has P ys → Has P (frames_past n (xs ++ ys))
 Has-last P zero xs ys l h = Has-back P xs ys h
 Has-last P (suc n) [] ys l h = absurd (omega (arith, l))
 Has-last P (suc n) (x ∷ xs) ys l h = Has-last P n xs ys (omega (arith, l)) h
@@ -55,10 +55,10 @@ Has-wants p c u t (f ∷ fs) (inr h) =
       | inr e ↦ rw e (Has-wants p c u t fs h)
     ]
 
--- the delivery of a Curiosity frame without an A at the tick keeps the claim, and what it asks on is pending
-pub claim_delivered : (net : Net) (p t first : ℕ) (w : World) (x : Frame) (runs : Wanted) (fs : List Frame) → IsNet net → WorldFits net w → FrameTrue net w x → AsksNow net w.clock w → x.body ≡ body.Curiosity runs → wanted_at runs t ≢ A → first ≤ length w.frames →
+-- the delivery of a Curiosity frame keeps the claim, where it has no A at the tick from a broker that asked it at this moment; and what it asks on is pending
+pub claim_kept : (net : Net) (p t first : ℕ) (w : World) (x : Frame) (runs : Wanted) (fs : List Frame) → IsNet net → WorldFits net w → FrameTrue net w x → AsksNow net w.clock w → x.body ≡ body.Curiosity runs → (asked_at (view_of w x.head.from p).asks t ≡ At w.clock → wanted_at runs t ≢ A) → first ≤ length w.frames →
     Claim net p t w.clock first w (x ∷ fs) → Claim net p t w.clock first (deliver_frame net w x).world (sent_up net w x ++ fs)
-claim_delivered net p t first w x runs fs n f tr an e na l claim c u child up asked = ⊎_elim old new before
+claim_kept net p t first w x runs fs n f tr an e na l claim c u child up asked = ⊎_elim old new before
   where
     y : World
     y = (deliver_frame net w x).world
@@ -87,9 +87,9 @@ claim_delivered net p t first w x runs fs n f tr an e na l claim c u child up as
     new : Has (WantsTick p c u t C) sent → Path net p t w.clock first y c u ⊎ Has (WantsTick p c u t C) (sent_up net w x ++ fs)
     new h = inr (Has-front (WantsTick p c u t C) (sent_up net w x) fs (Has-wants p c u t (sent_since w y) (subst (Has (WantsTick p c u t C)) (sym since) h)))
 
-    stays : Path net p t w.clock first w c u → Path net p t w.clock first y c u
-    stays (inl h) = inl (subst (λ z. Has (TellsKnown p u c t) (frames_past first z)) (sym d.taken.frames) (Has-past (TellsKnown p u c t) first w.frames sent h))
-    stays (inr h) = inr (stores_stay net w x runs p u c t n f tr e child (λ a b z. na) h.0, ⊎_elim (λ z. inl z) (λ z. inr (noted_stays net w x runs p u t n f tr e z)) h.1)
+    stays : asked_at (view_of w c p).asks t ≡ At w.clock → Path net p t w.clock first w c u → Path net p t w.clock first y c u
+    stays g (inl h) = inl (subst (λ z. Has (TellsKnown p u c t) (frames_past first z)) (sym d.taken.frames) (Has-past (TellsKnown p u c t) first w.frames sent h))
+    stays g (inr h) = inr (stores_stay net w x runs p u c t n f tr e child (λ a b z. na (subst (λ q. asked_at (view_of w q p).asks t ≡ At w.clock) (sym z) g)) h.0, ⊎_elim (λ z. inl z) (λ z. inr (noted_stays net w x runs p u t n f tr e z)) h.1)
 
     served : WantsTick p c u t C x → Path net p t w.clock first y c u
     served h =
@@ -100,4 +100,9 @@ claim_delivered net p t first w x runs fs n f tr an e na l claim c u child up as
         (λ z. inr (z.0, ⊎_elim (λ a. inl a) (λ a. inr a.noted) z.1)) s1
 
     old : asked_at (view_of w c p).asks t ≡ At w.clock → Path net p t w.clock first y c u ⊎ Has (WantsTick p c u t C) (sent_up net w x ++ fs)
-    old a = ⊎_elim (λ z. inl (stays z)) (λ z. ⊎_elim (λ h. inl (served h)) (λ h. inr (Has-back (WantsTick p c u t C) (sent_up net w x) fs h)) z) (claim c u child up a)
+    old a = ⊎_elim (λ z. inl (stays a z)) (λ z. ⊎_elim (λ h. inl (served h)) (λ h. inr (Has-back (WantsTick p c u t C) (sent_up net w x) fs h)) z) (claim c u child up a)
+
+-- so does one without an A at the tick
+pub claim_delivered : (net : Net) (p t first : ℕ) (w : World) (x : Frame) (runs : Wanted) (fs : List Frame) → IsNet net → WorldFits net w → FrameTrue net w x → AsksNow net w.clock w → x.body ≡ body.Curiosity runs → wanted_at runs t ≢ A → first ≤ length w.frames →
+    Claim net p t w.clock first w (x ∷ fs) → Claim net p t w.clock first (deliver_frame net w x).world (sent_up net w x ++ fs)
+claim_delivered net p t first w x runs fs n f tr an e na l claim = claim_kept net p t first w x runs fs n f tr an e (λ g. na) l claim

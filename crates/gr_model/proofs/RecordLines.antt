@@ -84,7 +84,7 @@ one_of : (f : Report → Bool) (x : Report) (xs : List Report) → filter f xs �
 one_of f x xs e = ap (λ (z : List Report). cond (f x) (x ∷ z) z) e
 
 -- of a publish the test passes at most its own line
-publish_some : (f : Report → Bool) (net : Net) (p b now number : ℕ) (e : Event) (v : View) (log : Log) → Skips f → filter f (publish net p b now number e v log).lines ≡ filter f (publish_line p now number (core log) ∷ [])
+pub publish_some : (f : Report → Bool) (net : Net) (p b now number : ℕ) (e : Event) (v : View) (log : Log) → Skips f → filter f (publish net p b now number e v log).lines ≡ filter f (publish_line p now number (core log) ∷ [])
 unfolding publish
 publish_some f net p b now number e v log k = first (nat_le number log.last) (nat_lt (suc log.last) number) (nat_lt max_tick tick)
   where

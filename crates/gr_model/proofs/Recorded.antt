@@ -157,6 +157,19 @@ settled_below net w q f j =
     let b = below_greatest (map (λ l. l.settled) w.logs) q (omega (arith, length_map (λ l. l.settled) w.logs, f.logs_long)) in
     omega (arith, e, b)
 
+-- and by idle and quiet and one more
+pub settled_far : (net : Net) (w : World) (q : ℕ) → WorldFits net w → q < net.publishers → (log_of w q).settled + net.idle + net.quiet + 1 ≤ sweep_moment net w
+unfolding sweep_moment
+settled_far net w q f j =
+    let e : get_or (map (λ l. l.settled) w.logs) q 0 ≡ (log_of w q).settled = get_map (λ l. l.settled) w.logs q empty_log in
+    let b = below_greatest (map (λ l. l.settled) w.logs) q (omega (arith, length_map (λ l. l.settled) w.logs, f.logs_long)) in
+    omega (arith, e, b)
+
+-- so is the greatest moment of the clock
+pub most_before : (net : Net) (w : World) → w.most < sweep_moment net w
+unfolding sweep_moment
+most_before net w = omega arith
+
 pub marked_now : (net : Net) (m : ℕ) (r : Recorded) → r.settled + net.quiet ≤ m → marked net m r ≡ settling m r
 marked_now net m r h = rw (le-leb (r.settled + net.quiet) m h) refl
 

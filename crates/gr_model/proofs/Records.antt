@@ -239,7 +239,7 @@ sweep_for_marks net w p n h f j =
 -- The host is marked in a sweep
 
 -- a member of a list of numbers
-abbrev Has : ℕ → List ℕ → Type 0
+abbrev pub Has : ℕ → List ℕ → Type 0
 Has s xs = list_any (λ x. nat_eq x s) xs ≡ true
 
 has_append_left : (s : ℕ) (xs ys : List ℕ) → Has s xs → Has s (xs ++ ys)
@@ -280,7 +280,7 @@ has_flat f d s [] h k = absurd (false≢true h)
 has_flat f d s (x ∷ xs) h k =
     ⊎_elim (λ e. has_append_left s (f x) (flat_map f xs) (subst (λ z. Has s (f z)) (sym (eqb-true x d e)) k)) (λ e. has_append_right s (f x) (flat_map f xs) (has_flat f d s xs e k)) (or_cases (nat_eq x d) (list_any (λ z. nat_eq z d) xs) h)
 
-has_inwards : (net : Net) (p b : ℕ) → IsNet net → p < net.publishers → b < net.brokers → Has b (inwards net p)
+pub has_inwards : (net : Net) (p b : ℕ) → IsNet net → p < net.publishers → b < net.brokers → Has b (inwards net p)
 has_inwards net p b n j i = has_flat (at_depth net p) (net.depth p b) b (numbers_down net.brokers) (has_down net.brokers (net.depth p b) (n.depth_in p b j i)) (has_filter (λ c. nat_eq (net.depth p c) (net.depth p b)) b (numbers net.brokers) (eq-eqb (net.depth p b) (net.depth p b) refl) (has_number 0 net.brokers b (omega arith) (omega arith)))
 
 -- the log of p is marked

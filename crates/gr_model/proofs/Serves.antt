@@ -75,7 +75,7 @@ Q_of F e = absurd (true≢false (sym e))
 F_not_Q : F ≡ Q → ⊥
 F_not_Q e = cc
 
-known_of : (p u c t : ℕ) (k : K) (fs : List Frame) → k ≢ Q → Has (TellsTick p u c t k) fs → Has (TellsKnown p u c t) fs
+pub known_of : (p u c t : ℕ) (k : K) (fs : List Frame) → k ≢ Q → Has (TellsTick p u c t k) fs → Has (TellsKnown p u c t) fs
 known_of p u c t k fs n h = Has-on (TellsTick p u c t k) (TellsKnown p u c t) fs (λ f y. record { value = k; known = n; tells = y }) h
 
 -- a tick asked of a broker by a delivered frame is answered, or stored there and asked on, or stored at the host

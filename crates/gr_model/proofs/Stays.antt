@@ -69,7 +69,7 @@ stays_here net w y x runs o c t i j d child na s =
       unknown = ap (λ z. known_at z.know t) d.taken.view ∙ ⊎_elim (λ z. z ∙ (ap (λ b. if b then F else known_at v.know t) no1 ∙ s.unknown)) (λ z. z.0) (k.know t);
     }
 
-same_stores : (net : Net) (w y : World) (p u c t : ℕ) → view_of y u p ≡ view_of w u p → Stores net w p u c t → Stores net y p u c t
+pub same_stores : (net : Net) (w y : World) (p u c t : ℕ) → view_of y u p ≡ view_of w u p → Stores net w p u c t → Stores net y p u c t
 same_stores net w y p u c t e s = record { asks = ap (λ z. wanted_at (wants_of net p u z c) t) e ∙ s.asks; unknown = ap (λ z. known_at z.know t) e ∙ s.unknown }
 
 -- a stored question stays where a Curiosity frame is delivered, unless it acknowledges the tick from that child to that broker

@@ -1,5 +1,5 @@
 -- What stands before a publisher's sweep, after its first phase, and after its second: the facts by which the phases are joined
-use Rattle.std.proofs.Common.{◌≡◌, ◌≢◌, ◌⊎◌, ℕ, ◌+◌, ◌≤◌, ◌<◌, true, false, List, length}
+use Rattle.std.proofs.Common.{◌≡◌, ◌≢◌, ◌⊎◌, ℕ, ◌+◌, ◌≤◌, ◌<◌, true, false, length}
 use Rattle.std.specs.Prelude.{nat_eq}
 use Rattle.std.specs.List.{list_any}
 use Rattle.gr_know.specs.declared.values.K.TheVariants.{Q}
@@ -23,6 +23,7 @@ IsChild net p b c = list_any (λ x. nat_eq x c) (net.children p b) ≡ true
 -- a broker that has stored a child's question does not know the tick
 pub record Unknowns (net : Net) (w : World) : Type 0 where
   pub each : (p b c t : ℕ) → p < net.publishers → b < net.brokers → IsChild net p b c → wanted_at (wants_of net p b (view_of w b p) c) t ≡ C → known_at (view_of w b p).know t ≡ Q
+  pub any : (p b t : ℕ) → p < net.publishers → b < net.brokers → any_C (view_of w b p).wants t ≡ true → known_at (view_of w b p).know t ≡ Q
 
 -- where the sweep of a publisher begins: no ask has its moment yet, and the moment is far past what is settled
 pub record Begins (net : Net) (p m : ℕ) (w : World) : Type 0 where

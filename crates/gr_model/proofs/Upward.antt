@@ -110,7 +110,7 @@ pub record HasDepths (net : Net) : Type 0 where
 abbrev pub rank_of : Net → Frame → ℕ
 rank_of net f = net.depth f.head.publisher f.head.to
 
-up_kept : (P R : Frame → Type 0) (fs : List Frame) → ((f : Frame) → is_want f ≡ true → P f → R f) → Each P fs → Each R (filter is_want fs)
+pub up_kept : (P R : Frame → Type 0) (fs : List Frame) → ((f : Frame) → is_want f ≡ true → P f → R f) → Each P fs → Each R (filter is_want fs)
 up_kept P R [] h a = tt
 up_kept P R (f ∷ fs) h a =
     elim (cases_Bool (is_want f)) [

@@ -10,7 +10,7 @@ use Rattle.gr_model.specs.Broker.{empty_log}
 use Rattle.gr_model.specs.World.{World, view_of, start, next, run_from, report_of}
 use Rattle.gr_model.specs.Headline.{heard_after, History, after, begin, is_heard, IsDoubt, Delivered, StepTold, Holds_from, Headline}
 use Rattle.gr_model.specs.Tree.{IsNet}
-use Rattle.gr_model.specs.Fits.{StepIn, StepsIn}
+use Rattle.gr_model.specs.Fits.{StepIn, StepsIn, WorldFits}
 use Rattle.gr_model.specs.Order.{is_sweep, SweepsNowhere}
 use Rattle.gr_model.proofs.RecordSteps.{step_records}
 use Rattle.gr_model.proofs.Doubtlines.{doubts_stand}
@@ -64,15 +64,16 @@ next_whole : (net : Net) (w : World) (h : History) (l : Line) → IsNet net → 
 unfolding after
 next_whole net w h l n z i y k = record { stands = next_stands net w h l n z i k.stands; hears = record { long = y.long; fits = y.fits } }
 
--- the headline from here on, where each step keeps what was heard
-pub holds_from : (net : Net) (ok : Line → Type 0) (w : World) (h : History) (ls : List Line) → IsNet net → 1 ≤ net.quiet → ((u : World) (g : History) (l : Line) → StepIn net l.step → ok l → Whole net u g → Hears net (next net u l).world (heard_after net g l (next net u l).lines)) → StepsIn net ls → AllLines ok ls → Whole net w h → Holds_from net h ls (run_from net w ls)
+-- the headline from here on, where each step keeps a property of worlds, and what was heard
+pub holds_from : (net : Net) (ok : Line → Type 0) (P : World → Type 0) (w : World) (h : History) (ls : List Line) → IsNet net → 1 ≤ net.quiet → ((u : World) (l : Line) → StepIn net l.step → WorldFits net u → P u → P (next net u l).world) →
+    ((u : World) (g : History) (l : Line) → StepIn net l.step → ok l → Whole net u g → P u → Hears net (next net u l).world (heard_after net g l (next net u l).lines)) → StepsIn net ls → AllLines ok ls → Whole net w h → P w → Holds_from net h ls (run_from net w ls)
 unfolding run_from
-holds_from net ok w h [] n z keep i y k = (delivered net w h n k, in_order net w h n k.stands)
-holds_from net ok w h (l ∷ ls) n z keep i y k = (
+holds_from net ok P w h [] n z on keep i y k x = (delivered net w h n k, in_order net w h n k.stands)
+holds_from net ok P w h (l ∷ ls) n z on keep i y k x = (
   delivered net w h n k,
   in_order net w h n k.stands,
   step_told net w h l n z i.0 k,
-  holds_from net ok (next net w l).world (after net h l (next net w l).lines) ls n z keep i.1 y.1 (next_whole net w h l n z i.0 (keep w h l i.0 y.0 k) k),
+  holds_from net ok P (next net w l).world (after net h l (next net w l).lines) ls n z on keep i.1 y.1 (next_whole net w h l n z i.0 (keep w h l i.0 y.0 k x) k) (on w l i.0 k.stands.fits x),
 )
 
 -- at the start nothing was heard, and every host has its flag
@@ -101,7 +102,7 @@ pub headline_without_sweeps : (net : Net) (ls : List Line) → IsNet net → 1 �
 unfolding report_of
 headline_without_sweeps net ls n z i y = (
   refl,
-  holds_from net (λ l. is_sweep l.step ≡ false) (start net) (begin net) ls n z
-      (λ u g l j e k. step_hears net u g l (next net u l).lines n k.stands.fits k.stands.records k.stands.sent j e k.hears)
-      i (no_sweeps ls y) (start_whole net n),
+  holds_from net (λ l. is_sweep l.step ≡ false) (λ u. Unit {0}) (start net) (begin net) ls n z (λ u l j f x. tt)
+      (λ u g l j e k x. step_hears net u g l (next net u l).lines n k.stands.fits k.stands.records k.stands.sent j e k.hears)
+      i (no_sweeps ls y) (start_whole net n) tt,
 )

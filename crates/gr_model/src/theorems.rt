@@ -13,6 +13,8 @@ ghost use Rattle.gr_model.specs.World.{view_of, log_of, frame_at, run_all, start
 ghost use Rattle.gr_model.specs.Fits.{StepIn, StepsIn, WorldFits, history_of};
 ghost use Rattle.gr_model.specs.Headline.{GetsExactly, Headline, is_doubt_line, doubt_place, doubts_shown};
 ghost use Rattle.gr_model.specs.Order.{CutsInOrder, FramesSent, HeadlineSoFar, SweepsNowhere};
+ghost use Rattle.gr_model.specs.Replies.{Replied};
+ghost use Rattle.gr_model.specs.Edges.{GoesOverEdge};
 ghost use Rattle.gr_model.specs.Blank.{net0};
 ghost use Rattle.gr_model.specs.Examples.{WorkedExamples};
 
@@ -35,6 +37,12 @@ pub fn always_true()
 /// No frame of knowledge that was ever sent clashes with what its receiver knows, however late it is delivered.
 pub fn never_clashes()
     ensures { (net : Net) (steps : List Line) (k : ℕ) (f : Frame) (runs : Known) → IsNet net → StepsIn net steps → frame_at (run_all net (start net) steps).world k ≡ Some f → f.body ≡ body.Knowledge runs → clashes (view_of (run_all net (start net) steps).world f.head.to f.head.publisher).know runs ≡ false }
+{}
+
+/// No frame that was ever sent is a stray: each is of a publisher of the topology and goes over an edge of the tree, from a
+/// broker to a child with knowledge or a tick to expect, or to the next broker up with curiosity.
+pub fn never_strays()
+    ensures { (net : Net) (steps : List Line) (k : ℕ) (f : Frame) → IsNet net → StepsIn net steps → frame_at (run_all net (start net) steps).world k ≡ Some f → GoesOverEdge net f }
 {}
 
 /// Delivered exactly: over every schedule, what each subscriber got from each publisher is exactly the logged events
@@ -66,6 +74,12 @@ pub fn frames_sent()
     ensures { (net : Net) (steps : List Line) → IsNet net → 1 ≤ net.quiet → StepsIn net steps → FramesSent net steps }
 {}
 
+/// Every step is replied as the schedule and the frames sent demand: refused where it is to be refused and nowhere else,
+/// the bytes of a frame shown as those of its sent line, and frames numbered on without a gap.
+pub fn replies_stand()
+    ensures { (net : Net) (steps : List Line) → IsNet net → 1 ≤ net.quiet → StepsIn net steps → Replied net steps (report_of net steps) }
+{}
+
 /// The headline as far as it is proved, over every schedule and after each of its steps.
 pub fn headline_so_far()
     ensures { (net : Net) (steps : List Line) → IsNet net → 1 ≤ net.quiet → StepsIn net steps → HeadlineSoFar net steps (report_of net steps) }
@@ -75,4 +89,10 @@ pub fn headline_so_far()
 /// exactly, doubt horizons, horizons rise, discarded only after delivery.
 pub fn headline_without_sweeps()
     ensures { (net : Net) (steps : List Line) → IsNet net → 1 ≤ net.quiet → StepsIn net steps → SweepsNowhere steps → Headline net steps (report_of net steps) }
+{}
+
+/// The headline, whole, over every schedule, sweeps included, and after each of its steps: recorded lines, delivered
+/// exactly, doubt horizons, horizons rise, discarded only after delivery.
+pub fn headline_always()
+    ensures { (net : Net) (steps : List Line) → IsNet net → 1 ≤ net.quiet → 1 ≤ net.retry → StepsIn net steps → Headline net steps (report_of net steps) }
 {}

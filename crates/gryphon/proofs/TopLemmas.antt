@@ -20,6 +20,7 @@ use Rattle.gr_model.specs.Order.{is_sweep, SweepsNowhere}
 use Rattle.gr_model.proofs.BlankNet.{net0_is}
 use Rattle.gr_model.proofs.WithoutSweeps.{headline_without_sweeps}
 use Rattle.gr_model.proofs.SoFar.{frames_sent}
+use Rattle.gr_model.proofs.ReplyLines.{replied_always}
 use Rattle.gryphon.specs.declared.asked.Asked.{Asked}
 use Rattle.gryphon.specs.Scenario.{asked_by, IsReady, AreReady}
 use Rattle.gryphon.specs.Top.{MeetsHeadline}
@@ -53,6 +54,7 @@ meets_headline lines h =
     record {
       headline = headline_without_sweeps net0 lines net0_is (lit≤ tt) s.0 s.1;
       sent = frames_sent net0 lines net0_is (lit≤ tt) s.0;
+      replied = replied_always net0 lines net0_is (lit≤ tt) s.0;
     }
 
 -- too many bytes ask the same, whatever follows

@@ -9,16 +9,19 @@ use Rattle.gryphon.specs.declared.asked.Asked.{Asked}
 use Rattle.gryphon.specs.declared.asked.Asked.TheVariants.{Replayed}
 use Rattle.gryphon.specs.Scenario.{replayed_text}
 use Rattle.gr_model.specs.Order.{FramesSent}
+use Rattle.gr_model.specs.Replies.{Replied}
 
 -- the words are those of the one command
 abbrev pub IsReplay : List (List ℕ) → Type 0
 IsReplay words = words ≡ codes "replay" ∷ []
 
 -- the report of a schedule meets the headline: recorded lines, delivered exactly, doubt horizons, horizons rise and discarded
--- only after delivery, step by step; and its sent lines, numbered 1, 2, 3 and so on, are the frames that the brokers' calls sent
+-- only after delivery, step by step; its sent lines, numbered 1, 2, 3 and so on, are the frames that the brokers' calls sent;
+-- and each step is refused, and bytes are shown, exactly where the schedule and the frames sent demand it
 pub record MeetsHeadline (lines : List Line) : Type 0 where
   pub headline : Headline net0 lines (report_of net0 lines)
   pub sent : FramesSent net0 lines
+  pub replied : Replied net0 lines (report_of net0 lines)
 
 -- a schedule was asked for, its report was taken whole, and it meets the headline
 pub record WasReplayed (old new : Option (List ℕ)) (asked : Asked) : Type 0 where
