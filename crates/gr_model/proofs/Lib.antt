@@ -54,7 +54,6 @@ pub mod SweepCalls
 pub mod SweepNumbers
 pub mod SweepSends
 pub mod SweepOnce
-pub mod SettlesAll
 pub mod ReplyLines
 pub mod Strays
 pub mod FirstUnknown
@@ -71,3 +70,5 @@ pub mod SecondParts
 pub mod SecondBrings
 pub mod AfterSweeps
 pub mod SecondReaches
+pub mod SettlesAll
+pub mod SettlesAlways

@@ -175,6 +175,10 @@ mark_in c p a (suc n) l h =
 not_expect : (f : Frame) → is_expect f ≡ false → is_due f ≡ true
 not_expect f e = ap not e
 
+-- a broker with a subscriber keeps horizons
+pub keeps_at_subscriber : (net : Net) (p s : ℕ) → IsSubscriber net s → keeps_horizon net p (net.at s) ≡ true
+keeps_at_subscriber net p s y = or_left (not_empty (net.subscribers_at (net.at s))) (is_empty (net.children p (net.at s))) (has_one (net.subscribers_at (net.at s)) s y.here)
+
 -- where each publisher in turn is calm, the sweep settles everything
 pub settles_where_calm : (net : Net) (w : World) (k : ℕ) (before : List Report) → IsNet net → 1 ≤ net.quiet → 1 ≤ net.retry → WorldFits net w → LinesFit net w before → Ordered net w before → nat_lt max_tick (sweep_moment net w) ≡ false → CalmTurns net (sweep_moment net w) (numbers net.publishers) (at_sweep net w) → SweepSettles net w k
 unfolding sweep_calls
@@ -190,7 +194,7 @@ settles_where_calm net w k before n z r f lf of ok calm = record {
   last_horizons = λ s p i j.
       let y = n.subscriber s i in
       horizon_own s p (last_horizon s p 0 before) m (sweep net w k).lines
-      (sym (last_horizon-append s p 0 before (sweep net w k).lines) ∙ ((kept.lines before lf).horizon p s j y ∙ (reached_here net (sweep net w k).world p s y ∙ horizons p (net.at s) j y.at_in (keeps p s y))))
+      (sym (last_horizon-append s p 0 before (sweep net w k).lines) ∙ ((kept.lines before lf).horizon p s j y ∙ (reached_here net (sweep net w k).world p s y ∙ horizons p (net.at s) j y.at_in (keeps_at_subscriber net p s y))))
       (λ e. omega (arith, e, lf.horizon p s j y, reached_here net w p s y, (f.views p (net.at s) j y.at_in).horizon.settled, settled_below net w p f j, z));
 }
   where
@@ -235,6 +239,3 @@ settles_where_calm net w k before n z r f lf of ok calm = record {
 
     cut : (p : ℕ) → p < net.publishers → (log_of (sweep net w k).world p).cut ≡ m
     cut p j = omega (arith, (reach p j).cut, (kept.fits.logs p j).cut, settled p j)
-
-    keeps : (p s : ℕ) → IsSubscriber net s → keeps_horizon net p (net.at s) ≡ true
-    keeps p s y = or_left (not_empty (net.subscribers_at (net.at s))) (is_empty (net.children p (net.at s))) (has_one (net.subscribers_at (net.at s)) s y.here)
