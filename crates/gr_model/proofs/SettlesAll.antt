@@ -31,7 +31,7 @@ use Rattle.gr_model.proofs.SweepStates.{Calm, second_phase}
 use Rattle.gr_model.proofs.ThirdPhase.{Still, third_phase, third_phase_cuts}
 use Rattle.gr_model.proofs.Rounds.{stands, stands_numbers}
 use Rattle.gr_model.proofs.SweepCalls.{Grows, grows_on, grows_long, all_made_grows, sweep_for_are, sweeps_are, sweep_is_calls}
-use Rattle.gr_model.proofs.SweepNumbers.{count, count-append, sent_split, sent_none, sent_once}
+use Rattle.gr_model.proofs.SweepNumbers.{count, count-append, sent_split, sent_none, sent_once, sent_never, sent_not_before}
 use Rattle.gr_model.proofs.SweepOnce.{is_due, in_turn_grows, sweep_for_once}
 
 -- each publisher in turn is calm after the second phase of its sweep
@@ -172,6 +172,9 @@ mark_in c p a (suc n) l h =
       | inr e ↦ past_one (line.Mark a c) (line.Mark p c) (map (λ q. line.Mark q c) (numbers_from (suc a) n)) (mark_in c p (suc a) n (omega (arith, l, e)) (omega (arith, h)))
     ]
 
+is_not_due : (f : Frame) → is_expect f ≡ true → is_due f ≡ false
+is_not_due f e = ap not e
+
 not_expect : (f : Frame) → is_expect f ≡ false → is_due f ≡ true
 not_expect f e = ap not e
 
@@ -187,7 +190,12 @@ settles_where_calm net w k before n z r f lf of ok calm = record {
   settled = settled;
   cut = cut;
   calls = sweep_is_calls net w k ok;
-  once = λ i x l e d. turns_once net i m (numbers net.publishers) u n z r g ins calm ∙ sent_once (length w.frames) i is_due v x l (ap (λ t. frame_at t.world i) (sym is) ∙ e) (not_expect x d);
+  once = λ i x l e d. counted i ∙ sent_once (length w.frames) i is_due v x l (ap (λ t. frame_at t.world i) (sym is) ∙ e) (not_expect x d);
+  none_before = λ i l. counted i ∙ sent_not_before (length w.frames) i is_due v l;
+  no_expect = λ i x e d. elim (cases_lt (length w.frames) i) [
+    | inl l ↦ counted i ∙ sent_never (length w.frames) i is_due v x l (ap (λ t. frame_at t.world i) (sym is) ∙ e) (is_not_due x d)
+    | inr l ↦ counted i ∙ sent_not_before (length w.frames) i is_due v l
+  ];
   marked = λ p j. subst (λ t. Contains t.lines (line.Mark p m)) (sym is) (Contains-append_left swept.lines (line.Swept m ∷ []) (line.Mark p m) (kept_contains is_record_line swept.lines (line.Mark p m)
       (subst (λ ls. Contains ls (line.Mark p m)) (sym (sweeps_recs net u 0 net.publishers n z g (omega arith) (λ q x y. settled_below net w q f (omega (arith, y))))) (mark_in m p 0 net.publishers (omega arith) (omega (arith, j))))));
   last_cuts = λ p j. cut_own p (last_cut p 0 before) m (sweep net w k).lines (sym (last_cut-append p 0 before (sweep net w k).lines) ∙ (ordered.last p j ∙ cut p j)) (λ e. omega (arith, e, of.last p j, (f.logs p j).cut, settled_below net w p f j, z));
@@ -218,6 +226,9 @@ settles_where_calm net w k before n z r f lf of ok calm = record {
 
     is : sweep net w k ≡ after swept (λ x. unchanged x (line.Swept m ∷ []))
     is = sweep_is_calls net w k ok ∙ ap (λ (t : Told). after t (λ x. unchanged x (line.Swept m ∷ []))) (sweeps_are net (numbers net.publishers) u)
+
+    counted : (i : ℕ) → count i (calls_in_turn net (sweep_calls_for net) (numbers net.publishers) u) ≡ times i (sent_past is_due (length w.frames) v)
+    counted i = turns_once net i m (numbers net.publishers) u n z r g ins calm
 
     all : Sweeps net u v 0 net.publishers
     all = sweeps_from net u 0 net.publishers n z g (omega arith)

@@ -123,6 +123,19 @@ listed_once n (suc i) test (x ∷ fs) f e t = go (test x) (subst (λ z. times z 
     go true rest = ap₂ (λ q z. (if q then 1 else 0) + z) (ne_eqb n (n + suc i) (λ e. omega (arith, e))) rest
     go false rest = rest
 
+listed_never : (n i : ℕ) (test : Frame → Bool) (fs : List Frame) (f : Frame) → slice_get fs i ≡ Some f → test f ≡ false → times (n + i) (numbers_of test n fs) ≡ 0
+listed_never n i test [] f e t = refl
+listed_never n zero test (x ∷ fs) f e t =
+    ap (λ q. times (n + 0) ((if q then n ∷ [] else []) ++ numbers_of test (suc n) fs)) (ap test (some_some x f e) ∙ t) ∙ times_below (n + 0) (suc n) test fs (omega arith)
+  where
+    some_some : (x f : Frame) → Some x ≡ Some f → x ≡ f
+    some_some x f e = cc
+listed_never n (suc i) test (x ∷ fs) f e t = go (test x) (subst (λ z. times z (numbers_of test (suc n) fs) ≡ 0) (omega arith) (listed_never (suc n) i test fs f e t))
+  where
+    go : (q : Bool) → times (n + suc i) (numbers_of test (suc n) fs) ≡ 0 → times (n + suc i) ((if q then n ∷ [] else []) ++ numbers_of test (suc n) fs) ≡ 0
+    go true rest = ap₂ (λ q z. (if q then 1 else 0) + z) (ne_eqb n (n + suc i) (λ e. omega (arith, e))) rest
+    go false rest = rest
+
 past_get : (a i : ℕ) (fs : List Frame) → slice_get (frames_past a fs) i ≡ slice_get fs (a + i)
 past_get zero i fs = let e : i ≡ 0 + i = omega arith in ap (slice_get fs) e
 past_get (suc a) i [] = refl
@@ -136,3 +149,15 @@ sent_once first (suc n) test w f l e t =
     let at : first + i ≡ n = omega (arith, l) in
     let number : suc first + i ≡ suc n = omega (arith, l) in
     subst (λ z. times z (numbers_of test (suc first) (frames_past first w.frames)) ≡ 1) number (listed_once (suc first) i test (frames_past first w.frames) f (past_get first i w.frames ∙ (ap (slice_get w.frames) at ∙ e)) t)
+
+-- a frame that does not pass the test has no number there, nor has one of the first so many
+pub sent_never : (first n : ℕ) (test : Frame → Bool) (w : World) (f : Frame) → first < n → frame_at w n ≡ Some f → test f ≡ false → times n (sent_past test first w) ≡ 0
+sent_never first zero test w f l e t = absurd (omega (arith, l))
+sent_never first (suc n) test w f l e t =
+    let i : ℕ = n - first in
+    let at : first + i ≡ n = omega (arith, l) in
+    let number : suc first + i ≡ suc n = omega (arith, l) in
+    subst (λ z. times z (numbers_of test (suc first) (frames_past first w.frames)) ≡ 0) number (listed_never (suc first) i test (frames_past first w.frames) f (past_get first i w.frames ∙ (ap (slice_get w.frames) at ∙ e)) t)
+
+pub sent_not_before : (first n : ℕ) (test : Frame → Bool) (w : World) → n ≤ first → times n (sent_past test first w) ≡ 0
+sent_not_before first n test w l = times_below n (suc first) test (frames_past first w.frames) (omega (arith, l))

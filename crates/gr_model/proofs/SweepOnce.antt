@@ -20,14 +20,10 @@ use Rattle.gr_model.proofs.PathWakeUp.{ranks}
 use Rattle.gr_model.proofs.Rounds.{stands, Each-map, Each-join, AllDeeper, outwards_deeper, outwards_once, stands_outwards}
 use Rattle.gr_model.proofs.SweepCalls.{Grows, Pairs, IsAt, grows_none, grows_on, grows_long, wake_grows, deliver_grows, all_made_grows, at_stays, sent_at, up_are, wakes_are, downs_are, wake_turns_are, down_turns_are, made_is}
 use Rattle.gr_model.proofs.SweepNumbers.{count, count-append, count_deliveries, times-append, sent_more, sent_new, sent_split, sent_none, one, times_parts, times_none}
-use Rattle.gr_model.proofs.SweepSends.{Adds, adds_on, adds_grow, adds_map, Of, deliver_of, wake_turns_of, is_know, Down, hand_down_adds, KnowOf, hand_turns_add}
+use Rattle.gr_model.proofs.SweepSends.{Adds, adds_on, adds_grow, adds_map, Of, deliver_of, wake_turns_of, is_know, Down, hand_down_adds, KnowOf, hand_turns_add, units}
 use Rattle.gr_model.proofs.Settling.{NoKnow}
 
 -- The upward frames
-
-units : {X : Type 0} (xs : List X) → Each (λ x. Unit {0}) xs
-units [] = tt
-units (x ∷ xs) = (tt, units xs)
 
 pub in_turn_grows : {X : Type 0} (f : World → X → Told) → ((w : World) (x : X) → Grows w (f w x).world) → (xs : List X) (w : World) → Grows w (in_turn f xs w).world
 in_turn_grows f g [] w = grows_none w

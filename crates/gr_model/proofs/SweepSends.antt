@@ -101,7 +101,7 @@ wake_up_of net p w b =
     let d = wake_of net w b p in
     adds_on (Of p) w y (deliver_up net net.brokers (filter is_want (sent_since w y)) y).world d (deliver_up_of net p net.brokers (filter is_want (sent_since w y)) y (Each-kept (Of p) is_want (sent_since w y) (since_adds (Of p) w y d)))
 
-units : {X : Type 0} (xs : List X) → Each (λ x. Unit {0}) xs
+pub units : {X : Type 0} (xs : List X) → Each (λ x. Unit {0}) xs
 units [] = tt
 units (x ∷ xs) = (tt, units xs)
 

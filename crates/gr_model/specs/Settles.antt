@@ -1,5 +1,5 @@
 -- The calls of a sweep in their order, and what it says that a sweep settles everything
-use Rattle.std.specs.Prelude.{◌≡◌, ℕ, zero, suc, ◌+◌, ◌<◌, max, Bool, true, false, nat_eq, if◌then◌else◌, List, [], ◌∷◌, ◌++◌, length, map, filter, nat_le, Some, None, Contains}
+use Rattle.std.specs.Prelude.{◌≡◌, ℕ, zero, suc, ◌+◌, ◌≤◌, ◌<◌, max, Bool, true, false, nat_eq, if◌then◌else◌, List, [], ◌∷◌, ◌++◌, length, map, filter, nat_le, Some, None, Contains}
 use Rattle.gr_frame.specs.declared.Body.TheVariants as body
 use Rattle.gr_frame.specs.declared.Frame.{Frame}
 use Rattle.gr_model.specs.declared.report.Report.{Report}
@@ -91,6 +91,9 @@ pub record SweepSettles (net : Net) (w : World) (k : ℕ) : Type 0 where
   -- it is these calls, and each frame that it sends but an Expect is delivered by exactly one of them
   pub calls : sweep net w k ≡ after (all_made net (sweep_calls net w) (at_sweep net w)) (λ x. unchanged x (line.Swept (sweep_moment net w) ∷ []))
   pub once : (n : ℕ) (f : Frame) → length w.frames < n → frame_at (sweep net w k).world n ≡ Some f → is_expect f ≡ false → times n (delivered (sweep_calls net w)) ≡ 1
+  -- nothing else is delivered in it: no frame of before, and no Expect
+  pub none_before : (n : ℕ) → n ≤ length w.frames → times n (delivered (sweep_calls net w)) ≡ 0
+  pub no_expect : (n : ℕ) (f : Frame) → frame_at (sweep net w k).world n ≡ Some f → is_expect f ≡ true → times n (delivered (sweep_calls net w)) ≡ 0
   -- its lines hold the mark of each publisher at M, the last cut line of each publisher is at M, and the last horizon line of each subscriber and publisher too
   pub marked : (p : ℕ) → p < net.publishers → Contains (sweep net w k).lines (line.Mark p (sweep_moment net w))
   pub last_cuts : (p : ℕ) → p < net.publishers → last_cut p 0 (sweep net w k).lines ≡ sweep_moment net w
