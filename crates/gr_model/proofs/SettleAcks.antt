@@ -1,10 +1,10 @@
 -- A Curiosity frame that asks nothing is delivered without an answer: its receiver has nothing new to ask, tell or forget
-use Rattle.std.proofs.Common.{◌≡◌, ◌≢◌, ◌⊎◌, inl, inr, ⊎_elim, ℕ, suc, zero, ◌<◌, Bool, true, false, not, ◌&&◌, ◌||◌, List, [], ◌∷◌, ◌++◌, set, get_or, refl, sym, ap, ap₂, ◌∙◌, subst, Option, Some, None, arith}
+use Rattle.std.proofs.Common.{◌≡◌, ◌≢◌, ⊎_elim, ℕ, suc, zero, Bool, true, false, not, ◌&&◌, List, [], ◌∷◌, ◌++◌, set, get_or, refl, sym, ap, ap₂, ◌∙◌, subst, Option, Some, None}
 use Rattle.std.specs.Prelude.{nat_eq, if◌then◌else◌}
 use Rattle.std.specs.List.{list_any}
-use Rattle.std.proofs.lemmas.Bool.{cases_Bool, false≢true, true≢false, or_cases, or_left, or_right, both_ways, eqb-true, eq-eqb, ne_eqb}
+use Rattle.std.proofs.lemmas.Bool.{false≢true, or_cases, or_left, or_right, both_ways, eq-eqb, ne_eqb}
 use Rattle.gr_know.specs.declared.values.K.{K}
-use Rattle.gr_know.specs.declared.values.K.TheVariants.{Q, F}
+use Rattle.gr_know.specs.declared.values.K.TheVariants.{Q}
 use Rattle.gr_curio.specs.declared.values.Q3.{Q3}
 use Rattle.gr_curio.specs.declared.values.Q3.TheVariants.{N, C, A}
 use Rattle.gr_frame.specs.declared.Frame.{Frame}
@@ -13,15 +13,14 @@ use Rattle.gr_tick.specs.Runs.{AreRuns, points}
 use Rattle.gr_know.specs.Values.{Known, known_at, is_Q}
 use Rattle.gr_curio.specs.Values.{Wanted, wanted_at, asked_at, is_C, is_A, is_outstanding}
 use Rattle.gr_model.specs.Net.{Net, is_host, keeps_horizon}
-use Rattle.gr_model.specs.Broker.{View, Log, Outcome, know_frames, want_frames, all_A, any_C, consolidated, finished, forgotten, trimmed, max_tick, due, up_frames, place_of, answer, answers, curious, stored, acknowledged, curiosity}
+use Rattle.gr_model.specs.Broker.{View, Log, know_frames, want_frames, all_A, any_C, consolidated, finished, forgotten, trimmed, max_tick, due, up_frames, place_of, answer, answers, curious, stored, acknowledged, curiosity}
 use Rattle.gr_model.specs.Tree.{IsDistinct}
-use Rattle.gr_model.specs.Truth.{Facts, WantsTruth, AllWantTruth}
+use Rattle.gr_model.specs.Truth.{Facts, WantsTruth}
 use Rattle.gr_model.specs.Fits.{ViewTrue}
 use Rattle.gr_tick.proofs.RunLaws.{AreRunsOf, runs_equal}
-use Rattle.gr_model.proofs.CallTruth.{finished-is, curiosity_wants, done_runs}
 use Rattle.gr_model.proofs.CallTicks.{due-at}
 use Rattle.gr_model.proofs.Forwarding.{wants_of}
-use Rattle.gr_model.proofs.Answering.{SameLength, same_length, wants_true_at, acknowledged-is, answers-is, stored-is, curiosity_wanted}
+use Rattle.gr_model.proofs.Answering.{SameLength, wants_true_at, acknowledged-is, answers-is, stored-is, curiosity_wanted}
 
 -- Lists of runs in which nothing stands
 

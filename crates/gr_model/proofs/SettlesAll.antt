@@ -1,36 +1,33 @@
 -- A sweep settles everything, where each publisher in turn is calm after the second phase of its sweep: later sweeps take nothing of it back
-use Rattle.std.proofs.Common.{◌≡◌, ◌≢◌, ◌⊎◌, inl, inr, ⊎_elim, ℕ, suc, zero, ◌+◌, ◌≤◌, ◌<◌, max, Bool, true, false, not, ◌&&◌, ◌||◌, List, [], ◌∷◌, ◌++◌, map, length, refl, sym, ap, ap₂, ◌∙◌, subst, Some, None, arith, le_refl, le_trans, le_antisymm}
-use Rattle.std.specs.Prelude.{nat_eq, nat_le, nat_lt, filter, if◌then◌else◌, Contains}
-use Rattle.std.specs.List.{list_any}
-use Rattle.std.proofs.lemmas.Bool.{cases_Bool, cases_eq, cases_lt, false≢true, true≢false, or_cases, or_left, eqb-true, eq-eqb, le-leb}
+use Rattle.std.proofs.Common.{◌≡◌, ◌≢◌, ◌⊎◌, inl, inr, ⊎_elim, ℕ, suc, zero, ◌+◌, ◌≤◌, ◌<◌, max, Bool, true, false, not, ◌&&◌, List, [], ◌∷◌, ◌++◌, map, length, refl, sym, ap, ◌∙◌, subst, arith, le_refl, le_trans}
+use Rattle.std.specs.Prelude.{nat_eq, nat_lt, filter, if◌then◌else◌, Contains}
+use Rattle.std.proofs.lemmas.Bool.{cases_Bool, cases_eq, cases_lt, false≢true, or_cases, or_left, eqb-true}
 use Rattle.std.proofs.lemmas.List.Elements.{Contains-append_left}
-use Rattle.gr_event.specs.declared.event.Event.{Event}
 use Rattle.gr_frame.specs.declared.Frame.{Frame}
 use Rattle.gr_model.specs.declared.report.Report.{Report}
 use Rattle.gr_model.specs.declared.report.Report.TheVariants as line
 use Rattle.gr_model.specs.Net.{Net, keeps_horizon, is_empty, not_empty, numbers, numbers_from}
-use Rattle.gr_model.specs.Broker.{Outcome, Log, wake, receive, max_tick}
-use Rattle.gr_model.specs.World.{World, Told, view_of, log_of, absorbed, unchanged, after, in_turn, wake_for, deliver_frame, frame_at, wake_up, hand_down, sweep_for, inwards, outwards, sweep_moment, sweep}
-use Rattle.gr_model.specs.Headline.{is_record_line, last_cut, last_horizon, gots}
-use Rattle.gr_model.specs.Said.{said_at, TicksRise, due_upto}
-use Rattle.gr_model.specs.Settles.{Call, all_made, calls_in_turn, sweep_calls_for, sweep_calls, at_sweep, sent_past, delivered, times, is_expect, SweepSettles}
+use Rattle.gr_model.specs.Broker.{Outcome, wake, receive, max_tick}
+use Rattle.gr_model.specs.World.{World, Told, view_of, log_of, absorbed, unchanged, after, in_turn, wake_for, deliver_frame, frame_at, sweep_for, sweep_moment, sweep}
+use Rattle.gr_model.specs.Headline.{is_record_line, last_cut, last_horizon}
+use Rattle.gr_model.specs.Settles.{all_made, calls_in_turn, sweep_calls_for, sweep_calls, at_sweep, sent_past, times, is_expect, SweepSettles}
 use Rattle.gr_model.specs.Tree.{IsNet, IsSubscriber}
-use Rattle.gr_model.specs.Fits.{WorldFits, LinesFit, FrameTrue, LogFits, reached_in}
+use Rattle.gr_model.specs.Fits.{WorldFits, LinesFit, reached_in}
 use Rattle.gr_model.proofs.Calls.{wake_call, receive_call}
 use Rattle.gr_model.proofs.Cutlines.{CallCuts, wake_cuts, receive_cuts, last_cut-append}
 use Rattle.gr_model.proofs.Telling.{last_horizon-append}
 use Rattle.gr_model.proofs.Records.{core_of}
 use Rattle.gr_model.proofs.Recorded.{Sweeps, sweeps_from, marked_now, settled_below}
-use Rattle.gr_model.proofs.RecordLines.{recs, sweeps_recs}
+use Rattle.gr_model.proofs.RecordLines.{sweeps_recs}
 use Rattle.gr_model.proofs.Worlds.{Each, Kept, absorbed_changed, sweep_for_kept, reached_here, numbers_below}
-use Rattle.gr_model.proofs.Chains.{Chains, Both, in_turn_both, sweep_for_chain}
+use Rattle.gr_model.proofs.Chains.{Chains, in_turn_both, sweep_for_chain}
 use Rattle.gr_model.proofs.Schedules.{clocked_fits, sweep_kept}
 use Rattle.gr_model.proofs.Orders.{Ordered, has_one}
 use Rattle.gr_model.proofs.Ordering.{sweep_orders}
 use Rattle.gr_model.proofs.SweepStates.{Calm, second_phase}
-use Rattle.gr_model.proofs.ThirdPhase.{Still, third_phase, third_phase_cuts}
+use Rattle.gr_model.proofs.ThirdPhase.{Still, third_phase_cuts}
 use Rattle.gr_model.proofs.Rounds.{stands, stands_numbers}
-use Rattle.gr_model.proofs.SweepCalls.{Grows, grows_on, grows_long, all_made_grows, sweep_for_are, sweeps_are, sweep_is_calls}
+use Rattle.gr_model.proofs.SweepCalls.{Grows, grows_long, all_made_grows, sweep_for_are, sweeps_are, sweep_is_calls}
 use Rattle.gr_model.proofs.SweepNumbers.{count, count-append, sent_split, sent_none, sent_once, sent_never, sent_not_before}
 use Rattle.gr_model.proofs.SweepOnce.{is_due, in_turn_grows, sweep_for_once}
 
@@ -116,8 +113,13 @@ turns_once net k m (p ∷ ps) w n z r f a c =
     let v = (in_turn (sweep_for net) ps y).world in
     let rest = turns_once net k m ps y n z r (sweep_for_kept net w p n f a.0).fits a.1 c.1 in
     let rest1 : count k (calls_in_turn net (sweep_calls_for net) ps (all_made net (sweep_calls_for net w p) w).world) ≡ times k (sent_past is_due (length y.frames) v) = subst (λ s. count k (calls_in_turn net (sweep_calls_for net) ps s.world) ≡ times k (sent_past is_due (length y.frames) v)) (sym (sweep_for_are net w p)) rest in
-    omega (arith, count-append k (sweep_calls_for net w p) (calls_in_turn net (sweep_calls_for net) ps (all_made net (sweep_calls_for net w p) w).world), turn_once net k p m w n z r f a.0 c.0, rest1,
-      sent_split k is_due (length w.frames) y v (grows_long w y (length w.frames) (sweep_for_grows net w p) (omega arith)) (in_turn_grows (sweep_for net) (sweep_for_grows net) ps y))
+    omega (
+      arith,
+      count-append k (sweep_calls_for net w p) (calls_in_turn net (sweep_calls_for net) ps (all_made net (sweep_calls_for net w p) w).world),
+      turn_once net k p m w n z r f a.0 c.0,
+      rest1,
+      sent_split k is_due (length w.frames) y v (grows_long w y (length w.frames) (sweep_for_grows net w p) (omega arith)) (in_turn_grows (sweep_for net) (sweep_for_grows net) ps y),
+    )
 
 -- Lines
 

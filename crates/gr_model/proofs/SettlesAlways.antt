@@ -1,16 +1,15 @@
 -- After every schedule a sweep settles everything, since each publisher in turn is calm after its second phase, and every subscriber has all that was logged for it
-use Rattle.std.proofs.Common.{◌≡◌, inl, inr, ℕ, suc, zero, ◌+◌, ◌≤◌, ◌<◌, Bool, true, false, ◌&&◌, List, [], ◌∷◌, ◌++◌, refl, sym, ap, ◌∙◌, subst, Option, Some, None, arith}
-use Rattle.std.specs.Prelude.{nat_eq, nat_le, nat_lt, filter, if◌then◌else◌}
+use Rattle.std.proofs.Common.{◌≡◌, inl, inr, ℕ, suc, zero, ◌+◌, ◌≤◌, ◌<◌, Bool, true, false, ◌&&◌, List, [], ◌∷◌, refl, sym, ap, ◌∙◌, Some, None, arith}
+use Rattle.std.specs.Prelude.{nat_le, filter, if◌then◌else◌}
 use Rattle.std.proofs.lemmas.Bool.{cases_lt, le-leb, le-ltb, leb-true}
 use Rattle.gr_event.specs.declared.event.Event.{Event}
-use Rattle.gr_model.specs.declared.report.Report.{Report}
-use Rattle.gr_model.specs.Net.{Net, numbers, numbers_from}
+use Rattle.gr_model.specs.Net.{Net, numbers_from}
 use Rattle.gr_model.specs.Broker.{max_tick}
-use Rattle.gr_model.specs.World.{World, log_of, sweep_for, sweep_moment, sweep, run_all, start, view_of}
+use Rattle.gr_model.specs.World.{World, log_of, sweep_for, sweep_moment, sweep, run_all, start}
 use Rattle.gr_model.specs.Said.{said_at, TicksRise, due_upto}
 use Rattle.gr_model.specs.Settles.{SweepSettles, AllGot, is_accepted, at_sweep}
 use Rattle.gr_model.specs.Tree.{IsNet}
-use Rattle.gr_model.specs.Fits.{WorldFits, LinesFit, StepsIn, reached_in}
+use Rattle.gr_model.specs.Fits.{StepsIn, reached_in}
 use Rattle.gr_sched.specs.declared.step.Line.{Line}
 use Rattle.gr_model.proofs.Told.{said_at-here, said_at-past}
 use Rattle.gr_model.proofs.Schedules.{always_true, lines_always, sweep_kept}

@@ -1,8 +1,8 @@
 -- The third phase of a sweep, one call after another: each woken broker sends what is consolidated and asks nothing, and its next broker up stores that at once
-use Rattle.std.proofs.Common.{◌≡◌, ◌≢◌, ◌⊎◌, inl, inr, ⊎_elim, ℕ, suc, zero, ◌+◌, ◌-◌, ◌≤◌, ◌<◌, min, Bool, true, false, not, ◌&&◌, ◌||◌, List, [], ◌∷◌, ◌++◌, map, length, get_or, refl, sym, ap, ap₂, ◌∙◌, subst, Option, Some, None, arith, append-nil, append_assoc}
+use Rattle.std.proofs.Common.{◌≡◌, ◌≢◌, ◌⊎◌, inl, inr, ⊎_elim, ℕ, ◌+◌, ◌-◌, ◌≤◌, ◌<◌, min, Bool, true, false, not, ◌&&◌, ◌||◌, List, [], ◌∷◌, ◌++◌, map, length, get_or, refl, sym, ap, ap₂, ◌∙◌, subst, Option, Some, None, arith, append-nil, append_assoc}
 use Rattle.std.specs.Prelude.{nat_eq, nat_le, nat_lt, if◌then◌else◌, filter}
 use Rattle.std.specs.List.{list_any}
-use Rattle.std.proofs.lemmas.Bool.{cases_Bool, cases_eq, cases_lt, false≢true, true≢false, or_cases, or_left, or_right, both_ways, eqb-true, eq-eqb, ne_eqb, le-leb, lt-leb, ltb-true, ltb-false, leb-true}
+use Rattle.std.proofs.lemmas.Bool.{cases_eq, cases_lt, false≢true, true≢false, both_ways, eq-eqb, ne_eqb, le-leb, lt-leb, ltb-true, ltb-false}
 use Rattle.gr_curio.specs.declared.values.Q3.{Q3}
 use Rattle.gr_curio.specs.declared.values.Q3.TheVariants.{N, C, A}
 use Rattle.gr_frame.specs.declared.Body.{Body}
@@ -11,13 +11,13 @@ use Rattle.gr_frame.specs.declared.Frame.{Frame}
 use Rattle.gr_frame.specs.Bytes.{cut_frames, wanted_run_size}
 use Rattle.gr_tick.specs.Runs.{AreRuns, first_bottom_from, top_of}
 use Rattle.gr_know.specs.Values.{Known, known_at, is_Q}
-use Rattle.gr_curio.specs.Values.{Wanted, wanted_at, asked_at, is_C, is_A, is_outstanding}
+use Rattle.gr_curio.specs.Values.{Wanted, wanted_at, asked_at, is_C, is_outstanding}
 use Rattle.gr_model.specs.Net.{Net, is_host, keeps_horizon}
-use Rattle.gr_model.specs.Broker.{View, Log, Outcome, all_A, any_C, is_settled, consolidated, up_frames, want_frames, place_of, head, wake, wake_host, wake_below, asking, marking, cutting, with_cut, done_upto, expect_frames, expect_frame, covers, curious, receive}
-use Rattle.gr_model.specs.World.{World, view_of, log_of, absorbed, wake_for, deliver_frame, sent_since, frames_past, is_want}
+use Rattle.gr_model.specs.Broker.{View, Log, Outcome, any_C, is_settled, consolidated, up_frames, want_frames, place_of, head, wake, wake_host, wake_below, asking, marking, cutting, with_cut, done_upto, expect_frames, expect_frame, covers, curious, receive}
+use Rattle.gr_model.specs.World.{World, view_of, log_of, wake_for, deliver_frame, sent_since, frames_past, is_want}
 use Rattle.gr_model.specs.Truth.{Facts, AllWantTruth}
 use Rattle.gr_model.specs.Tree.{IsNet}
-use Rattle.gr_model.specs.Fits.{LogFits, ViewTrue, WorldFits, FrameTrue, BodyFits, BodyTrue, facts_of}
+use Rattle.gr_model.specs.Fits.{WorldFits, FrameTrue, BodyFits, BodyTrue, facts_of}
 use Rattle.gr_curio.specs.declared.asks.Moment.TheVariants.{At}
 use Rattle.gr_tick.proofs.RunLaws.{first_bottom_from-is}
 use Rattle.gr_model.proofs.Pieces.{AllParts, cut_frames-parts}
@@ -26,8 +26,8 @@ use Rattle.gr_model.proofs.Calls.{cutting_same}
 use Rattle.gr_model.proofs.Records.{receive_log}
 use Rattle.gr_model.proofs.Worlds.{Each}
 use Rattle.gr_model.proofs.AskMoments.{Each-on, Taken, absorbed_taken}
-use Rattle.gr_model.proofs.CallTicks.{WakeTicks, wake_piece, wake_asked, not_asked, just_asked}
-use Rattle.gr_model.proofs.Forwarding.{Has, Has-map, WantsTick, WantsBody, wants_of, up_frames_want}
+use Rattle.gr_model.proofs.CallTicks.{wake_piece, wake_asked, not_asked, just_asked}
+use Rattle.gr_model.proofs.Forwarding.{Has, WantsTick, WantsBody, wants_of, up_frames_want}
 use Rattle.gr_model.proofs.Answering.{same_length, acknowledged_at}
 use Rattle.gr_model.proofs.Serves.{receive_curiosity, frames_past_all}
 use Rattle.gr_model.proofs.Stays.{DeliveredWant, delivered_want, WokenBelow, woken_below}

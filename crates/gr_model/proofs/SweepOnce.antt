@@ -1,15 +1,13 @@
 -- Each frame that a publisher's sweep sends, but an Expect, is delivered in it exactly once: upward frames when they are sent, knowledge at its receiver's turn
-use Rattle.std.proofs.Common.{◌≡◌, ◌≢◌, inl, inr, ⊎_elim, ℕ, suc, zero, ◌+◌, ◌≤◌, ◌<◌, Bool, true, false, not, ◌&&◌, ◌||◌, List, [], ◌∷◌, ◌++◌, map, length, refl, sym, ap, ap₂, ◌∙◌, subst, Some, None, arith}
-use Rattle.std.specs.Prelude.{nat_eq, filter, if◌then◌else◌}
-use Rattle.std.specs.List.{list_any}
-use Rattle.std.proofs.lemmas.Bool.{cases_Bool, cases_eq, false≢true, true≢false, and_parts, and_right, eq-eqb, ne_eqb, eqb-true}
-use Rattle.gr_know.specs.Values.{Known}
+use Rattle.std.proofs.Common.{◌≡◌, ℕ, suc, zero, ◌+◌, ◌≤◌, ◌<◌, Bool, true, false, not, ◌&&◌, ◌||◌, List, [], ◌∷◌, ◌++◌, length, refl, sym, ap, ◌∙◌, subst, arith}
+use Rattle.std.specs.Prelude.{nat_eq, filter}
+use Rattle.std.proofs.lemmas.Bool.{false≢true, true≢false, and_right, eq-eqb, ne_eqb, eqb-true}
 use Rattle.gr_frame.specs.declared.Body.{Body}
 use Rattle.gr_frame.specs.declared.Body.TheVariants as body
 use Rattle.gr_frame.specs.declared.Frame.{Frame}
 use Rattle.gr_model.specs.Net.{Net}
 use Rattle.gr_model.specs.World.{World, Told, in_turn, wake_for, deliver_frame, frames_past, sent_since, is_want, is_know_to, deliver_up, wake_up, hand_down, sweep_for, inwards, outwards, numbers_down}
-use Rattle.gr_model.specs.Settles.{Call, wakes, delivers, made, all_made, numbers_of, sent_past, calls_in_turn, up_calls, wake_calls, down_calls, sweep_calls_for, delivered, times, is_expect}
+use Rattle.gr_model.specs.Settles.{Call, delivers, made, all_made, numbers_of, sent_past, calls_in_turn, up_calls, wake_calls, down_calls, sweep_calls_for, times, is_expect}
 use Rattle.gr_model.specs.Tree.{IsNet, IsDistinct}
 use Rattle.gr_model.specs.Fits.{WorldFits, FrameTrue, AllFramesTrue}
 use Rattle.gr_model.proofs.Worlds.{Each, FrameTrue-later, wake_for_kept, deliver_kept, wake_up_kept, hand_down_kept, in_turn_kept, filter_frames, frames_past_true, depths_in}
@@ -17,10 +15,10 @@ use Rattle.gr_model.proofs.Serves.{frames_past_all}
 use Rattle.gr_model.proofs.Pending.{sent_up, delivered_up, one_kept, up_true, Each-weaker}
 use Rattle.gr_model.proofs.Upward.{rank_of, sent_up_less}
 use Rattle.gr_model.proofs.PathWakeUp.{ranks}
-use Rattle.gr_model.proofs.Rounds.{stands, Each-map, Each-join, AllDeeper, outwards_deeper, outwards_once, stands_outwards}
+use Rattle.gr_model.proofs.Rounds.{stands, Each-map, AllDeeper, outwards_deeper, outwards_once, stands_outwards}
 use Rattle.gr_model.proofs.SweepCalls.{Grows, Pairs, IsAt, grows_none, grows_on, grows_long, wake_grows, deliver_grows, all_made_grows, at_stays, sent_at, up_are, wakes_are, downs_are, wake_turns_are, down_turns_are, made_is}
-use Rattle.gr_model.proofs.SweepNumbers.{count, count-append, count_deliveries, times-append, sent_more, sent_new, sent_split, sent_none, one, times_parts, times_none}
-use Rattle.gr_model.proofs.SweepSends.{Adds, adds_on, adds_grow, adds_map, Of, deliver_of, wake_turns_of, is_know, Down, hand_down_adds, KnowOf, hand_turns_add, units}
+use Rattle.gr_model.proofs.SweepNumbers.{count, count-append, count_deliveries, sent_more, sent_split, sent_none, one, times_parts, times_none}
+use Rattle.gr_model.proofs.SweepSends.{Adds, adds_on, adds_grow, adds_map, Of, wake_turns_of, is_know, Down, hand_down_adds, KnowOf, hand_turns_add, units}
 use Rattle.gr_model.proofs.Settling.{NoKnow}
 
 -- The upward frames
@@ -62,7 +60,7 @@ up_turns net k fuel n up (j ∷ js) (x ∷ xs) w a f t r =
     let v = (in_turn (delivered_up net fuel) xs z).world in
     let here = up (sent_past is_want (length w.frames) y) (sent_up net w x) y (sent_at is_want (length w.frames) y (grows_long w y (length w.frames) (deliver_grows net w x) (omega arith))) d.fits (up_true net w x n f t.0) below in
     let here1 : count k (up_calls net fuel (sent_past is_want (length w.frames) (made net w (delivers j)).world) (made net w (delivers j)).world) ≡ times k (sent_past is_want (length w.frames) y) + times k (sent_past is_want (length y.frames) z) =
-        subst (λ s. count k (up_calls net fuel (sent_past is_want (length w.frames) s.world) s.world) ≡ times k (sent_past is_want (length w.frames) y) + times k (sent_past is_want (length y.frames) z)) (sym (made_is net w j x a.0)) here in
+    subst (λ s. count k (up_calls net fuel (sent_past is_want (length w.frames) s.world) s.world) ≡ times k (sent_past is_want (length w.frames) y) + times k (sent_past is_want (length y.frames) z)) (sym (made_is net w j x a.0)) here in
     let g1 = deliver_grows net w x in
     let g2 : Grows y z = deliver_up_grows net fuel (sent_up net w x) y in
     let g3 : Grows z v = in_turn_grows (delivered_up net fuel) (λ u f. grows_on u (deliver_frame net u f).world (delivered_up net fuel u f).world (deliver_grows net u f) (deliver_up_grows net fuel (sent_up net u f) (deliver_frame net u f).world)) xs z in
@@ -110,8 +108,13 @@ wake_turns_once net k p (b ∷ bs) w n f a j =
     let z = (in_turn (wake_up net p) bs y).world in
     let rest = wake_turns_once net k p bs y n (wake_up_kept net p w b n f a.0 j).fits a.1 j in
     let rest1 : count k (calls_in_turn net (wake_calls net p) bs (all_made net (wake_calls net p w b) w).world) ≡ times k (sent_past is_want (length y.frames) z) = subst (λ s. count k (calls_in_turn net (wake_calls net p) bs s.world) ≡ times k (sent_past is_want (length y.frames) z)) (sym (wakes_are net p w b)) rest in
-    omega (arith, count-append k (wake_calls net p w b) (calls_in_turn net (wake_calls net p) bs (all_made net (wake_calls net p w b) w).world), wake_once net k p w b n f a.0 j, rest1,
-      sent_split k is_want (length w.frames) y z (grows_long w y (length w.frames) (wake_up_grows net p w b) (omega arith)) (in_turn_grows (wake_up net p) (λ u c. wake_up_grows net p u c) bs y))
+    omega (
+      arith,
+      count-append k (wake_calls net p w b) (calls_in_turn net (wake_calls net p) bs (all_made net (wake_calls net p w b) w).world),
+      wake_once net k p w b n f a.0 j,
+      rest1,
+      sent_split k is_want (length w.frames) y z (grows_long w y (length w.frames) (wake_up_grows net p w b) (omega arith)) (in_turn_grows (wake_up net p) (λ u c. wake_up_grows net p u c) bs y),
+    )
 
 -- Knowledge
 
@@ -134,7 +137,7 @@ turn_parts p b bs f off = go (is_know f && nat_eq f.head.publisher p) (nat_eq b 
     go : (k q : Bool) → nat_eq b f.head.to ≡ q → one (k && not (stands bs f.head.to)) ≡ one (k && not (q || stands bs f.head.to)) + one (k && nat_eq f.head.to b)
     go false q e = refl
     go true true e = ap (λ x. one (not x)) (subst (λ z. stands bs z ≡ false) (eqb-true b f.head.to e) off) ∙ ap (λ x. 0 + one x) (sym (eq-eqb f.head.to b (sym (eqb-true b f.head.to e))))
-    go true false e = (let z : one (not (stands bs f.head.to)) ≡ one (not (stands bs f.head.to)) + 0 = omega arith in z) ∙ ap (λ x. one (not (stands bs f.head.to)) + one x) (sym (ne_eqb f.head.to b (λ g. true≢false (sym (eq-eqb b f.head.to (sym g)) ∙ e)))) 
+    go true false e = (let z : one (not (stands bs f.head.to)) ≡ one (not (stands bs f.head.to)) + 0 = omega arith in z) ∙ ap (λ x. one (not (stands bs f.head.to)) + one x) (sym (ne_eqb f.head.to b (λ g. true≢false (sym (eq-eqb b f.head.to (sym g)) ∙ e))))
 
 hand_grows : (net : Net) (p first : ℕ) (w : World) (b : ℕ) → Grows w (hand_down net p first w b).world
 hand_grows net p first w b = adds_grow (Down net p b) w (hand_down net p first w b).world (hand_down_adds net p first w b)
@@ -153,11 +156,17 @@ down_turns_once net k p first (b ∷ bs) w n j a d o l =
     let g = hand_down_adds net p first w b in
     let rest = down_turns_once net k p first bs y n j a.1 d.1 o.1 (grows_long w y first (hand_grows net p first w b) l) in
     let rest1 : times k (sent_past (know_off p bs) first y) + count k (calls_in_turn net (down_calls net p first) bs (all_made net (down_calls net p first w b) w).world) ≡ times k (sent_past (know_off p []) first z) =
-        subst (λ s. times k (sent_past (know_off p bs) first y) + count k (calls_in_turn net (down_calls net p first) bs s.world) ≡ times k (sent_past (know_off p []) first z)) (sym (downs_are net p first w b l)) rest in
+    subst (λ s. times k (sent_past (know_off p bs) first y) + count k (calls_in_turn net (down_calls net p first) bs s.world) ≡ times k (sent_past (know_off p []) first z)) (sym (downs_are net p first w b l)) rest in
     let new : times k (numbers_of (know_off p bs) (suc (length w.frames)) g.more) ≡ 0 = times_none k (suc (length w.frames)) (know_off p bs) g.more (Each-map (Down net p b) (λ f. know_off p bs f ≡ false) g.more later g.each) in
-    omega (arith, count-append k (down_calls net p first w b) (calls_in_turn net (down_calls net p first) bs (all_made net (down_calls net p first w b) w).world), rest1, new, down_once net k p first w b,
+    omega (
+      arith,
+      count-append k (down_calls net p first w b) (calls_in_turn net (down_calls net p first) bs (all_made net (down_calls net p first w b) w).world),
+      rest1,
+      new,
+      down_once net k p first w b,
       sent_more k (know_off p bs) first w y g.more l g.frames,
-      times_parts k (suc first) (λ f. Unit {0}) (know_off p bs) (know_off p (b ∷ bs)) (is_know_to p b) (frames_past first w.frames) (λ f t. turn_parts p b bs f d.0) (units (frames_past first w.frames)))
+      times_parts k (suc first) (λ f. Unit {0}) (know_off p bs) (know_off p (b ∷ bs)) (is_know_to p b) (frames_past first w.frames) (λ f t. turn_parts p b bs f d.0) (units (frames_past first w.frames)),
+    )
   where
     later : (f : Frame) → Down net p b f → know_off p bs f ≡ false
     later f x =

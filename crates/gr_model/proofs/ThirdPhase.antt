@@ -1,16 +1,16 @@
 -- The third phase of a sweep: from where every horizon has come to the moment, it ends with the log cut there, and sends no knowledge
-use Rattle.std.proofs.Common.{◌≡◌, ◌⊎◌, inl, inr, ⊎_elim, ℕ, suc, zero, ◌+◌, ◌≤◌, ◌<◌, Bool, true, false, List, [], ◌∷◌, ◌++◌, length, refl, sym, ap, ◌∙◌, subst, Some, arith, append-nil}
+use Rattle.std.proofs.Common.{◌≡◌, ⊎_elim, ℕ, ◌≤◌, ◌<◌, true, false, List, [], ◌∷◌, ◌++◌, length, refl, sym, subst, arith, append-nil}
 use Rattle.std.specs.Prelude.{nat_eq, filter}
 use Rattle.std.specs.List.{list_any}
-use Rattle.std.proofs.lemmas.Bool.{cases_Bool, false≢true, both_ways}
+use Rattle.std.proofs.lemmas.Bool.{cases_Bool, both_ways}
 use Rattle.gr_frame.specs.declared.Frame.{Frame}
 use Rattle.gr_model.specs.Net.{Net, is_host, keeps_horizon}
 use Rattle.gr_model.specs.World.{World, view_of, log_of, in_turn, wake_for, wake_up, inwards, numbers_down, sent_since, is_want}
 use Rattle.gr_model.specs.Tree.{IsNet}
-use Rattle.gr_model.specs.Fits.{WorldFits, FrameTrue}
+use Rattle.gr_model.specs.Fits.{WorldFits}
 use Rattle.gr_model.proofs.Worlds.{Each, wake_for_kept, wake_up_kept, filter_frames, frames_past_true, depths_in}
 use Rattle.gr_model.proofs.Pending.{IsPending, deliver_up_all}
-use Rattle.gr_model.proofs.Upward.{HasDepths, rank_of, sent_up_less}
+use Rattle.gr_model.proofs.Upward.{rank_of, sent_up_less}
 use Rattle.gr_model.proofs.PathWakeUp.{ranks}
 use Rattle.gr_model.proofs.SweepStates.{Calm}
 use Rattle.gr_model.proofs.Rounds.{stands, Falls, stands_inwards, inwards_falls, deeper_stands_not}
