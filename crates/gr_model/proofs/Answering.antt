@@ -107,7 +107,7 @@ three_steady bottom g know w piece z r p = record {
   past = p;
 }
 
-answers-is : (net : Net) (p c : ℕ) (know : Known) (w piece : Wanted) → AreRuns N piece → AreRunsOf Q (λ t. answer net p c (known_at know t) (wanted_at w t) (wanted_at piece t)) (answers net p c know w piece)
+pub answers-is : (net : Net) (p c : ℕ) (know : Known) (w piece : Wanted) → AreRuns N piece → AreRunsOf Q (λ t. answer net p c (known_at know t) (wanted_at w t) (wanted_at piece t)) (answers net p c know w piece)
 unfolding answers
 answers-is net p c know w piece r =
     tabulate-is Q same_K K_decides (λ t. answer net p c (known_at know t) (wanted_at w t) (wanted_at piece t)) (points know ++ points w ++ points piece)
@@ -251,7 +251,7 @@ pub record CuriosityTicks (net : Net) (p b now c : ℕ) (piece : Wanted) (v : Vi
   pub horizon : o.view.horizon ≡ v.horizon
   pub know : (t : ℕ) → (known_at o.view.know t ≡ (if is_settled (keeps_horizon net p b) v.horizon o.view.wants t then F else known_at v.know t)) ⊎ ((known_at o.view.know t ≡ Q) × (is_host net p b ≡ false) × (keeps_horizon net p b ≡ true → t ≤ v.horizon))
 
-curiosity_wanted : (reply : Known) (piece : Wanted) → AreRuns N piece → IsWanted (λ t. is_C (wanted_at piece t) && is_Q (known_at reply t)) (points piece ++ points reply)
+pub curiosity_wanted : (reply : Known) (piece : Wanted) → AreRuns N piece → IsWanted (λ t. is_C (wanted_at piece t) && is_Q (known_at reply t)) (points piece ++ points reply)
 curiosity_wanted reply piece r = record {
   start = ap (λ q. is_C q && is_Q (known_at reply 0)) (value_at-start N 1 piece 0 r (omega arith));
   step = λ t n. let k = IsNone-append (suc t) (points piece) (points reply) n in ap₂ (λ q x. is_C q && is_Q x) (value_at-step N piece t k.0) (value_at-step Q reply t k.1);

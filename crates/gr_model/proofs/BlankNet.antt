@@ -43,6 +43,7 @@ net0_is = record {
       (λ e. absurd (none_some u e))
       (λ e. subst (λ z. (z < 2) × (list_any (λ x. nat_eq x 1) (net0.children p z) ≡ true)) (some_some 0 u e) (omega arith, refl)) b j;
   distinct = λ b j. two (λ z. IsDistinct (net0.subscribers_at z)) tt (refl, tt) b j;
+  children_once = λ p b i j. two (λ z. IsDistinct (net0.children p z)) (refl, tt) tt b j;
   here_below = λ p b s i j. two (λ z. list_any (λ x. nat_eq x s) (net0.subscribers_at z) ≡ true → is_below net0 p z s ≡ true) (λ m. absurd (false≢true m)) (λ m. subst (λ z. is_below net0 p 1 z ≡ true) (only_one 0 s m) refl) b j;
   all_below = λ p s i j m. two (λ z. list_any (λ x. nat_eq x s) (net0.subscribers_at z) ≡ true → is_below net0 p 0 s ≡ true) (λ k. absurd (false≢true k)) (λ k. subst (λ z. is_below net0 p 0 z ≡ true) (only_one 0 s k) refl) (net0.at s) j m;
   depth_up = λ p b u i j. two (λ z. net0.up p z ≡ Some u → z ≡ suc u) (λ e. absurd (none_some u e)) (λ e. ap suc (some_some 0 u e)) b j;

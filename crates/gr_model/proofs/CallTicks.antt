@@ -248,7 +248,7 @@ needed_is_asked net p b now t v o k e h n =
 pub asked_is_noted : (net : Net) (p b now t : ℕ) (v : View) (o : Outcome) → WakeTicks net p b now v o → wanted_at (wake_asked net p b now v) t ≡ C → asked_at o.view.asks t ≡ At now
 asked_is_noted net p b now t v o k e = k.asks t ∙ ap (λ x. if is_C x then At now else asked_at v.asks t) e
 
-not_asked : (w q o : Bool) → (q ≡ true → w ≡ true → o ≡ true) → (if w && q && not o then C else N) ≡ N
+pub not_asked : (w q o : Bool) → (q ≡ true → w ≡ true → o ≡ true) → (if w && q && not o then C else N) ≡ N
 not_asked true true o h = ap (λ x. if not x then C else N) (h refl refl)
 not_asked true false o h = refl
 not_asked false true o h = refl

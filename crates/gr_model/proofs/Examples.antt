@@ -5,7 +5,7 @@ use Rattle.gr_model.specs.declared.report.Report.TheVariants as line
 use Rattle.gr_model.specs.Broker.{Log, with_event, is_kept}
 use Rattle.gr_model.specs.World.{World, Told, log_of}
 use Rattle.gr_model.specs.Headline as headline
-use Rattle.gr_model.specs.SmallNets.{inner_net, filtered_net}
+use Rattle.gr_model.specs.SmallNets.{net5, inner_net, filtered_net}
 use Rattle.gr_model.specs.Blank.{net0}
 use Rattle.gr_sched.specs.declared.step.Step.{Step}
 use Rattle.gr_model.specs.declared.report.Report.{Report}
@@ -13,7 +13,9 @@ use Rattle.gr_frame.specs.Bytes as frames
 use Rattle.gr_model.specs.Net.{Net}
 use Rattle.gr_model.specs.Broker as broker
 use Rattle.gr_model.specs.World as world
-use Rattle.gr_model.specs.Examples.{heard_upto, losses_then_sweep, crashes_then_sweep, WorkedExamples, report, stopped_then_again, kept_lines, lost_lines, publish, n_is}
+use Rattle.gr_model.specs.Settles as settles
+use Rattle.gr_model.specs.Settles.{wakes, delivers}
+use Rattle.gr_model.specs.Examples.{branch_crashes, calls_after, heard_upto, losses_then_sweep, crashes_then_sweep, WorkedExamples, report, stopped_then_again, kept_lines, lost_lines, publish, n_is}
 
 -- with this one open the whole machine computes
 unfoldable machine : Net → List Step → List Report
@@ -56,6 +58,10 @@ filtered_heard : (heard_upto filtered_net crashes_then_sweep 3 ≡ 3702) × (hea
 unfolding machine heard_upto crashes_then_sweep headline.begin headline.after headline.records_after headline.clock_after headline.most_after headline.heard_after headline.bare_after
 filtered_heard = (refl, refl)
 
+calls_in_order : calls_after net5 branch_crashes ≡ wakes 2 0 ∷ delivers 7 ∷ delivers 8 ∷ wakes 1 0 ∷ delivers 9 ∷ wakes 0 0 ∷ delivers 10 ∷ delivers 12 ∷ wakes 2 0 ∷ delivers 13 ∷ wakes 1 0 ∷ delivers 14 ∷ wakes 0 0 ∷ []
+unfolding machine calls_after branch_crashes settles.sweep_calls settles.sweep_calls_for settles.wake_calls settles.down_calls settles.up_calls
+calls_in_order = refl
+
 pub examples : WorkedExamples
 unfolding machine losses_then_sweep crashes_then_sweep
 examples = record {
@@ -84,4 +90,5 @@ examples = record {
   sweep_after_crashes = refl;
   sweep_is_heard = inner_heard;
   crashes_are_heard = filtered_heard;
+  sweep_in_order = calls_in_order;
 }

@@ -46,6 +46,14 @@ pub mod WithoutSweeps
 pub mod SweepHosts
 pub mod SweepHears
 pub mod SweepStates
+pub mod Rounds
+pub mod SettleAcks
+pub mod Settling
+pub mod ThirdPhase
+pub mod SweepCalls
+pub mod SweepNumbers
+pub mod SweepSends
+pub mod SweepOnce
 pub mod ReplyLines
 pub mod Strays
 pub mod FirstUnknown
@@ -62,3 +70,5 @@ pub mod SecondParts
 pub mod SecondBrings
 pub mod AfterSweeps
 pub mod SecondReaches
+pub mod SettlesAll
+pub mod SettlesAlways

@@ -155,7 +155,7 @@ clocked_orders net w clock most t k ls l o =
     k ls (record { got = l.got; horizon = l.horizon; rise = l.rise })
     (record { meets = o.meets; last = o.last; each = λ q j. CutsHave-map (CutFits net w q) (CutFits net (clocked w clock most) q) q [] ls (λ t xs c. CutFits-later net w (clocked w clock most) q t xs (clocked_later net w clock most q) c) (o.each q j) })
 
-sweep_orders : (net : Net) (w : World) (k : ℕ) → IsNet net → WorldFits net w → Orders net w (sweep net w k)
+pub sweep_orders : (net : Net) (w : World) (k : ℕ) → IsNet net → WorldFits net w → Orders net w (sweep net w k)
 unfolding sweep
 sweep_orders net w k n f = go (nat_lt max_tick m)
   where

@@ -12,7 +12,7 @@ use Rattle.gr_model.proofs.Upward.{HasDepths, rank_of}
 use Rattle.gr_model.proofs.PathUp.{ClaimsAt, claims_delivered}
 use Rattle.gr_model.proofs.PathWake.{claims_woken}
 
-ranks : (net : Net) (w : World) (fs : List Frame) → IsNet net → Each (FrameTrue net w) fs → Each (λ z. rank_of net z < net.brokers) fs
+pub ranks : (net : Net) (w : World) (fs : List Frame) → IsNet net → Each (FrameTrue net w) fs → Each (λ z. rank_of net z < net.brokers) fs
 ranks net w [] n a = tt
 ranks net w (x ∷ xs) n a = (n.depth_in x.head.publisher x.head.to a.0.publisher_in a.0.fits.to_in, ranks net w xs n a.1)
 

@@ -17,15 +17,15 @@ pub record IsPending (net : Net) (rank : Frame → ℕ) (I : World → List Fram
   pub step : (w : World) (x : Frame) (fs : List Frame) → WorldFits net w → FrameTrue net w x → I w (x ∷ fs) → I (deliver_frame net w x).world (sent_up net w x ++ fs)
   pub less : (w : World) (x : Frame) → WorldFits net w → FrameTrue net w x → Each (λ z. rank z < rank x) (sent_up net w x)
 
-Each-weaker : {X : Type 0} (P R : X → Type 0) (xs : List X) → ((x : X) → P x → R x) → Each P xs → Each R xs
+pub Each-weaker : {X : Type 0} (P R : X → Type 0) (xs : List X) → ((x : X) → P x → R x) → Each P xs → Each R xs
 Each-weaker P R [] f a = tt
 Each-weaker P R (x ∷ xs) f a = (f x a.0, Each-weaker P R xs f a.1)
 
-none_below : (rank : Frame → ℕ) (fs : List Frame) → Each (λ z. rank z < 0) fs → fs ≡ []
+pub none_below : (rank : Frame → ℕ) (fs : List Frame) → Each (λ z. rank z < 0) fs → fs ≡ []
 none_below rank [] a = refl
 none_below rank (x ∷ xs) a = absurd (omega (arith, a.0))
 
-up_true : (net : Net) (w : World) (x : Frame) → IsNet net → WorldFits net w → FrameTrue net w x → Each (FrameTrue net (deliver_frame net w x).world) (sent_up net w x)
+pub up_true : (net : Net) (w : World) (x : Frame) → IsNet net → WorldFits net w → FrameTrue net w x → Each (FrameTrue net (deliver_frame net w x).world) (sent_up net w x)
 up_true net w x n f t =
     let y = (deliver_frame net w x).world in
     let k = deliver_kept net w x n f t in
@@ -35,7 +35,7 @@ up_true net w x n f t =
 abbrev pub delivered_up : Net → ℕ → World → Frame → Told
 delivered_up net fuel u f = after (deliver_frame net u f) (λ x. deliver_up net fuel (filter is_want (sent_since u x)) x)
 
-one_kept : (net : Net) (fuel : ℕ) (w : World) (x : Frame) → IsNet net → WorldFits net w → FrameTrue net w x → Kept net w (delivered_up net fuel w x)
+pub one_kept : (net : Net) (fuel : ℕ) (w : World) (x : Frame) → IsNet net → WorldFits net w → FrameTrue net w x → Kept net w (delivered_up net fuel w x)
 one_kept net fuel w x n f t =
     let k = deliver_kept net w x n f t in
     Kept-after net w (deliver_frame net w x) (λ y. deliver_up net fuel (filter is_want (sent_since w y)) y) k (deliver_up_kept net fuel (sent_up net w x) (deliver_frame net w x).world n k.fits (up_true net w x n f t))

@@ -289,7 +289,7 @@ phases_bring net p m b w n begin a i host keeps = record {
 -- Publisher by publisher
 
 -- the sweep of another publisher leaves what stands before
-begins_on : (net : Net) (p q m : ℕ) (w : World) → IsNet net → p ≢ q → q < net.publishers → Begins net p m w → Begins net p m (sweep_for net w q).world
+pub begins_on : (net : Net) (p q m : ℕ) (w : World) → IsNet net → p ≢ q → q < net.publishers → Begins net p m w → Begins net p m (sweep_for net w q).world
 begins_on net p q m w n k j h =
     let same = sweep_same_for net p q w n h.fits k j in
     let g = sweep_for_now net m w q n h.fits h.now j in

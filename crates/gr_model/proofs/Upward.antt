@@ -23,7 +23,7 @@ pub record SentBy (net : Net) (p b : ℕ) (R : Frame → Type 0) : Type 0 where
   pub want : (u : ℕ) (part : Wanted) → net.up p b ≡ Some u → R (record { head = head b u p; body = body.Curiosity part })
   pub expect : (c tick : ℕ) → R (expect_frame b c p tick)
 
-know_each : (net : Net) (p b c : ℕ) (R : Frame → Type 0) (runs : Known) → SentBy net p b R → Each R (know_frames b c p runs)
+pub know_each : (net : Net) (p b c : ℕ) (R : Frame → Type 0) (runs : Known) → SentBy net p b R → Each R (know_frames b c p runs)
 know_each net p b c R runs s = go (cut_frames known_run_size runs)
   where
     go : (parts : List Known) → Each R (map (λ part. record { head = head b c p; body = body.Knowledge part }) parts)
@@ -59,7 +59,7 @@ pub learn_each : (net : Net) (p b : ℕ) (R : Frame → Type 0) (piece : Known) 
 unfolding learn
 learn_each net p b R piece v log s = forward_each net p b R (new_ticks v.know piece) (net.children p b) v.wants s
 
-asking_each : (net : Net) (p b now : ℕ) (R : Frame → Type 0) (wanted : ℕ → Bool) (ps : List ℕ) (v : View) (log : Log) → SentBy net p b R → Each R (asking net p b now wanted ps v log).frames
+pub asking_each : (net : Net) (p b now : ℕ) (R : Frame → Type 0) (wanted : ℕ → Bool) (ps : List ℕ) (v : View) (log : Log) → SentBy net p b R → Each R (asking net p b now wanted ps v log).frames
 unfolding asking
 asking_each net p b now R wanted ps v log s = up_each net p b R _ s
 

@@ -14,7 +14,8 @@ use Rattle.gr_model.specs.declared.report.Report.{Report}
 use Rattle.gr_model.specs.declared.report.Report.TheVariants as line
 use Rattle.gr_model.specs.Net.{Net, numbers}
 use Rattle.gr_model.specs.Broker.{is_kept}
-use Rattle.gr_model.specs.World.{report_of}
+use Rattle.gr_model.specs.World.{report_of, run_all, start}
+use Rattle.gr_model.specs.Settles.{Call, wakes, delivers, sweep_calls}
 use Rattle.gr_model.specs.Headline.{is_heard}
 use Rattle.gr_model.specs.Fits.{history_of}
 use Rattle.gr_event.specs.Event.{same_bool}
@@ -96,6 +97,14 @@ losses_then_sweep = clock 1000 ∷ publish 1 (n_is 1) ∷ clock 2000 ∷ publish
 -- a crash of a whole branch and of the host, a sweep and a show
 unfoldable pub crashes_then_sweep : List Step
 crashes_then_sweep = clock 1000 ∷ publish 1 (int_event price 90) ∷ publish 2 (int_event price 7) ∷ deliver 1 ∷ deliver 3 ∷ deliver 5 ∷ deliver 6 ∷ deliver 7 ∷ wake 3 ∷ deliver 8 ∷ wake 2 ∷ wake 1 ∷ step.Crash 3 ∷ step.Crash 0 ∷ step.Crash 2 ∷ step.Sweep ∷ step.Show ∷ []
+
+-- a branch of two brokers crashes with what it has heard, and asks again
+unfoldable pub branch_crashes : List Step
+branch_crashes = clock 1000 ∷ publish 1 (n_is 1) ∷ deliver 1 ∷ deliver 2 ∷ wake 2 ∷ step.Crash 2 ∷ step.Crash 1 ∷ deliver 3 ∷ clock 2100 ∷ wake 2 ∷ deliver 4 ∷ deliver 5 ∷ []
+
+-- the calls of a sweep after some steps
+unfoldable pub calls_after : Net → List Step → List Call
+calls_after net steps = sweep_calls net (run_all net (start net) (lined 1 steps)).world
 
 -- the greatest tick up to which a broker has heard all, by the history of the steps
 unfoldable pub heard_upto : Net → List Step → ℕ → ℕ
@@ -303,3 +312,8 @@ pub record WorkedExamples : Type 0 where
   -- In both, each broker with a horizon has heard all up to the sweep's moment and not the tick after it
   pub sweep_is_heard : (heard_upto inner_net losses_then_sweep 1 ≡ 5801) × (heard_upto inner_net losses_then_sweep 2 ≡ 5801) × (heard_upto inner_net losses_then_sweep 4 ≡ 5801)
   pub crashes_are_heard : (heard_upto filtered_net crashes_then_sweep 3 ≡ 3702) × (heard_upto filtered_net crashes_then_sweep 4 ≡ 3702)
+  -- After the crashes of the branch, frames 1 to 6 sent: the sweep wakes L, whose questions 7 and 8 go up at once, M with 9, and the host; the mark 10 goes down to M, and as 12 to L; each wakes again and acknowledges, 13 and 14. The Expect 11 is not delivered
+  pub sweep_in_order : calls_after net5 branch_crashes ≡
+      wakes 2 0 ∷ delivers 7 ∷ delivers 8 ∷ wakes 1 0 ∷ delivers 9 ∷ wakes 0 0 ∷
+      delivers 10 ∷ delivers 12 ∷
+      wakes 2 0 ∷ delivers 13 ∷ wakes 1 0 ∷ delivers 14 ∷ wakes 0 0 ∷ []

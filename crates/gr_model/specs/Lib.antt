@@ -7,6 +7,7 @@ pub mod Truth
 pub mod Said
 pub mod Fits
 pub mod Order
+pub mod Settles
 pub mod Replies
 pub mod Edges
 pub mod Blank

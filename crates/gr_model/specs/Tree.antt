@@ -35,6 +35,7 @@ pub record IsNet (net : Net) : Type 0 where
   pub all_below : (p s : ℕ) → p < net.publishers → net.at s < net.brokers → list_any (λ x. nat_eq x s) (net.subscribers_at (net.at s)) ≡ true → is_below net p (net.host p) s ≡ true
   pub here_at : (b s : ℕ) → b < net.brokers → list_any (λ x. nat_eq x s) (net.subscribers_at b) ≡ true → net.at s ≡ b
   pub depth_up : (p b u : ℕ) → p < net.publishers → b < net.brokers → net.up p b ≡ Some u → net.depth p b ≡ suc (net.depth p u)
+  pub children_once : (p b : ℕ) → p < net.publishers → b < net.brokers → IsDistinct (net.children p b)
   pub subscriber : (s : ℕ) → s < net.subscribers → IsSubscriber net s
   pub up_below : (p b : ℕ) → p < net.publishers → b < net.brokers → is_host net p b ≡ false → (u : ℕ) × (net.up p b ≡ Some u)
   pub child_up : (p b c : ℕ) → p < net.publishers → b < net.brokers → list_any (λ x. nat_eq x c) (net.children p b) ≡ true → net.up p c ≡ Some b

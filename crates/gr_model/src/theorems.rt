@@ -15,6 +15,7 @@ ghost use Rattle.gr_model.specs.Headline.{GetsExactly, Headline, is_doubt_line, 
 ghost use Rattle.gr_model.specs.Order.{CutsInOrder, FramesSent};
 ghost use Rattle.gr_model.specs.Replies.{Replied};
 ghost use Rattle.gr_model.specs.Edges.{GoesOverEdge};
+ghost use Rattle.gr_model.specs.Settles.{SweepSettles, AllGot, is_accepted};
 ghost use Rattle.gr_model.specs.Blank.{net0};
 ghost use Rattle.gr_model.specs.Examples.{WorkedExamples};
 
@@ -84,4 +85,16 @@ pub fn replies_stand()
 /// exactly, doubt horizons, horizons rise, discarded only after delivery.
 pub fn headline_always()
     ensures { (net : Net) (steps : List Line) → IsNet net → 1 ≤ net.quiet → 1 ≤ net.retry → StepsIn net steps → Headline net steps (report_of net steps) }
+{}
+
+/// A sweep settles everything: after every schedule, a sweep that is not refused ends with every kept horizon, what is
+/// settled of every log, and every cut at its moment; each frame that it sends but an Expect is delivered in it exactly
+/// once; and its lines say so.
+pub fn sweep_settles()
+    ensures { (net : Net) (steps : List Line) (k : ℕ) → IsNet net → 1 ≤ net.quiet → 1 ≤ net.retry → StepsIn net steps → is_accepted net (run_all net (start net) steps).world ≡ true → SweepSettles net (run_all net (start net) steps).world k }
+{}
+
+/// After a sweep that is not refused, each subscriber has got exactly what was logged that it wants.
+pub fn sweep_hands_over()
+    ensures { (net : Net) (steps : List Line) (k : ℕ) → IsNet net → 1 ≤ net.quiet → 1 ≤ net.retry → StepsIn net steps → is_accepted net (run_all net (start net) steps).world ≡ true → AllGot net (run_all net (start net) steps).world k (run_all net (start net) steps).lines }
 {}
