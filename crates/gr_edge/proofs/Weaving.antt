@@ -1,5 +1,5 @@
 -- The filters of an edge, by the subscribers that have one
-use Rattle.std.proofs.Common.{◌≡◌, ℕ, ◌+◌, ◌≤◌, Bool, true, false, ◌||◌, List, [], ◌∷◌, ◌++◌, length, Option, Some, None, refl, ap, ◌∙◌, arith}
+use Rattle.std.proofs.Common.{◌≡◌, ◌≤◌, Bool, true, false, ◌||◌, List, [], ◌∷◌, ◌++◌, length, Some, None, refl, sym, ap, ◌∙◌, subst, arith}
 use Rattle.std.specs.List.{list_any}
 use Rattle.gr_event.specs.declared.event.Event.{Event}
 use Rattle.gr_filter.specs.Tree.{Tree}
@@ -58,3 +58,23 @@ wanted_woven [] (f ∷ fs) e h = absurd h
 wanted_woven (Everything ∷ ws) fs e h = refl
 wanted_woven (Filtered ∷ ws) [] e h = absurd h
 wanted_woven (Filtered ∷ ws) (f ∷ fs) e h = either_order (list_any is_everything ws) (matches f e) (any fs e) ∙ ap (λ b. matches f e || b) (wanted_woven ws fs e h)
+
+-- someone wants everything
+pub wanted_all : (ws : List Wish) (fs : List Tree) (e : Event) (r : Bool) → AreWoven ws fs → r ≡ list_any is_everything ws → r ≡ true → r ≡ wanted (woven ws fs) e
+wanted_all ws fs e r h q t = t ∙ sym (ap (λ b. b || any fs e) (sym q ∙ t)) ∙ wanted_woven ws fs e h
+
+-- nobody wants everything, and the filters decide
+pub wanted_filtered : (ws : List Wish) (fs : List Tree) (e : Event) (r s : Bool) → AreWoven ws fs → r ≡ list_any is_everything ws → r ≡ false → s ≡ any fs e → s ≡ wanted (woven ws fs) e
+wanted_filtered ws fs e r s h q f p = p ∙ sym (ap (λ b. b || any fs e) (sym q ∙ f)) ∙ wanted_woven ws fs e h
+
+-- one subscriber more, with a filter
+pub filtered_added : (ws ws2 : List Wish) (fs fs2 : List Tree) (f : Tree) → AreWoven ws fs → ws2 ≡ ws ++ Filtered ∷ [] → fs2 ≡ fs ++ f ∷ [] → AreWoven ws2 fs2 × (woven ws2 fs2 ≡ woven ws fs ++ Some f ∷ [])
+filtered_added ws ws2 fs fs2 f h e q = (
+  subst (λ xs. AreWoven xs fs2) (sym e) (subst (AreWoven (ws ++ Filtered ∷ [])) (sym q) (are_woven_filtered ws fs f h)),
+  ap (λ xs. woven xs fs2) e ∙ ap (woven (ws ++ Filtered ∷ [])) q ∙ woven_filtered ws fs f h,
+)
+
+-- one subscriber more, without one
+pub everything_added : (ws ws2 : List Wish) (fs : List Tree) → AreWoven ws fs → ws2 ≡ ws ++ Everything ∷ [] → AreWoven ws2 fs × (woven ws2 fs ≡ woven ws fs ++ None ∷ [])
+everything_added ws ws2 fs h e =
+    (subst (λ xs. AreWoven xs fs) (sym e) (are_woven_everything ws fs h), ap (λ xs. woven xs fs) e ∙ woven_everything ws fs h)

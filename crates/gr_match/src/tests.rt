@@ -62,7 +62,10 @@ fn asks_no_filter_in_vain(rt: HostRuntime) -> Result<(), Fail> {
         ("{\"price\":82,\"sym\":\"IBM\"}", &[0, 1, 3, 5]),
         ("{\"qty\":1}", &[]),
         ("{\"price\":7}", &[2, 3]),
-        ("{\"hot\":true,\"price\":7,\"sym\":\"HP\"}", &[2, 3, 4, 7, 8]),
+        (
+            "{\"hot\":true,\"price\":7,\"sym\":\"HP\"}",
+            &[2, 3, 4, 7, 8],
+        ),
         ("{\"hot\":true,\"sym\":\"IBM\"}", &[3, 5, 6]),
         ("{\"price\":\"7\",\"sym\":7}", &[2, 7]),
         ("{\"hot\":false,\"price\":82,\"sym\":\"ibm\"}", &[0, 7, 9]),

@@ -64,13 +64,7 @@ impl MatchTree {
         let copy = filter.copy(self.alloc)?;
         self.filters.reserve(1)?;
         let place = self.filters.len() as u16;
-        enter(
-            self.alloc,
-            &mut self.rest,
-            &mut self.buckets,
-            filter,
-            place,
-        )?;
+        enter(self.alloc, &mut self.rest, &mut self.buckets, filter, place)?;
         self.filters.push(copy)?;
         Ok(())
     }
