@@ -6,6 +6,7 @@ use gr_filter::parse;
 use gr_know::K;
 use gr_tick::{Lattice, Piece, Run};
 use std::alloc::Global;
+use std::process::Abort;
 use std::test::Fail;
 
 /// An edge with one subscriber behind it.

@@ -11,7 +11,7 @@ use std::alloc::Global;
 
 /// The places of the filters that have the part `name = value`, rising.
 #[derive(Drop)]
-pub struct Bucket {
+pub(crate) struct Bucket {
     pub(crate) name: Text,
     pub(crate) value: Value,
     pub(crate) places: Numbers,

@@ -1,8 +1,8 @@
 //! Matching one event against many filters, without asking each of them.
 #![tactic(auto)]
 
-pub mod bucket;
-pub mod pair;
+mod bucket;
+mod pair;
 #[cfg(test)]
 mod tests;
 pub mod tree;

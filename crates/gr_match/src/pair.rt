@@ -11,9 +11,9 @@ use gr_filter::{Node, Operand, Sign};
 
 /// A name and the value that it is to have.
 #[derive(Clone, Copy)]
-pub struct NamedPart<'a> {
-    pub name: &'a [u8],
-    pub part: Part<'a>,
+pub(crate) struct NamedPart<'a> {
+    pub(crate) name: &'a [u8],
+    pub(crate) part: Part<'a>,
 }
 
 /// The first `name = literal` among the parts that the outermost ANDs join.

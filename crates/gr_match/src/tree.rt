@@ -55,7 +55,7 @@ impl MatchTree {
         }
     }
 
-    /// Puts a copy of the filter at the end of the list. `Memory` leaves the list as it was.
+    /// Puts a copy of the filter at the end of the list. `Memory`, where no memory was given, leaves the list as it was.
     pub fn add(&mut self, filter: &Filter) -> Result<(), Memory>
         requires { length self.old < 65536 }
         ensures ok { OnOk result (self.new ≡ self.old ++ tree_of filter.now.root ∷ []) }
@@ -69,7 +69,8 @@ impl MatchTree {
         Ok(())
     }
 
-    /// The places, from 0 on and rising, of exactly the filters that match the event.
+    /// The places, from 0 on and rising, of exactly the filters that match the event: those whose truth is true.
+    /// `Memory` where no memory was given for them.
     pub fn matches(&self, event: &Event) -> Result<Numbers, Memory>
         ensures { IfOk result (λ places. places ≡ matches self.now event.now) }
     {
