@@ -1,0 +1,8 @@
+//! The edges of a tree of brokers: what is known passes them, but for the events that nobody behind them wants.
+#![tactic(auto)]
+
+pub mod edge;
+#[cfg(test)]
+mod tests;
+
+pub use edge::Edge;

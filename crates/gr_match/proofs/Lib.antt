@@ -1,0 +1,4 @@
+pub mod Times
+pub mod Asking
+pub mod Answer
+pub mod Adding

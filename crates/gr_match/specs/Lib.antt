@@ -1,0 +1,4 @@
+pub mod Needed
+pub mod Matches
+pub mod Index
+pub mod Code

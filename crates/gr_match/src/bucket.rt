@@ -1,0 +1,97 @@
+//! Buckets: the filters that match only events with one value under one name.
+
+ghost use Rattle.std.specs.Prelude.{◌≡◌, ◌++◌, ◌∷◌, [], IfOk, OnOk, OnErr};
+ghost use Rattle.gr_event.specs.Get.{part_value};
+ghost use Rattle.gr_match.specs.Needed.{Pair, pair_of, has, is_pair};
+ghost use Rattle.gr_match.specs.Index.{bucket_pair, with_place, put, asked};
+
+use crate::pair::{NamedPart, has, is_part};
+use gr_event::{Event, Memory, Numbers, Part, Text, Value};
+use std::alloc::Global;
+
+/// The places of the filters that have the part `name = value`, rising.
+#[derive(Drop)]
+pub(crate) struct Bucket {
+    pub(crate) name: Text,
+    pub(crate) value: Value,
+    pub(crate) places: Numbers,
+}
+
+impl Bucket {
+    /// Whether its filters are to be asked: the event has its value under its name.
+    pub(crate) fn is_asked(&self, event: &Event) -> bool
+        ensures { result ≡ has (bucket_pair self.now) event.now }
+    {
+        has(event, self.name.as_slice(), &self.value)
+    }
+
+    /// Whether it is the bucket of a pair.
+    fn is_of(&self, pair: NamedPart<'_>) -> bool
+        ensures { result ≡ is_pair (pair_of pair.entry) (bucket_pair self.now) }
+    {
+        pair.name == self.name.as_slice() && is_part(pair.part, &self.value)
+    }
+}
+
+/// The value that a reader sees.
+fn copied(alloc: Global, part: Part<'_>) -> Result<Value, Memory>
+    ensures { IfOk result (λ v. v ≡ part_value part.entry) }
+{
+    match part {
+        Part::Int(number) => Ok(Value::Int(number)),
+        Part::Text(text) => Ok(Value::Text(Text::from_slice(alloc, text)?)),
+        Part::Bool(holds) => Ok(Value::Bool(holds)),
+    }
+}
+
+/// The bucket of a pair, with one place.
+fn bucket_of(alloc: Global, pair: NamedPart<'_>, place: u16) -> Result<Bucket, Memory>
+    ensures { IfOk result (λ b. b ≡ with_place (pair_of pair.entry) place) }
+{
+    let mut places = Numbers::new(alloc);
+    places.push(place)?;
+    Ok(Bucket {
+        name: Text::from_slice(alloc, pair.name)?,
+        value: copied(alloc, pair.part)?,
+        places,
+    })
+}
+
+/// Puts a place into the bucket of its pair, which is a new one where there is none. At want of memory
+/// the buckets stay as they were.
+pub(crate) fn put(
+    alloc: Global,
+    buckets: &mut Vec<Bucket>,
+    pair: NamedPart<'_>,
+    place: u16,
+) -> Result<(), Memory>
+    ensures ok { OnOk result (buckets.new.items ≡ put (pair_of pair.entry) place buckets.old.items) }
+    ensures err { OnErr result (buckets.new.items ≡ buckets.old.items) }
+{
+    for i in 0..buckets.len() {
+        if buckets[i].is_of(pair) {
+            return buckets[i].places.push(place);
+        }
+    }
+    let bucket = bucket_of(alloc, pair, place)?;
+    buckets.push(bucket)?;
+    Ok(())
+}
+
+/// The places to ask for an event: those of the rest, and those of the buckets whose pair it has.
+pub(crate) fn asked(
+    alloc: Global,
+    rest: &Numbers,
+    buckets: &[Bucket],
+    event: &Event,
+) -> Result<Vec<u16>, Memory>
+    ensures { IfOk result (λ places. places.items ≡ rest.now ++ asked event.now buckets.now) }
+{
+    let mut places = Vec::from_slice(alloc, rest.as_slice())?;
+    for bucket in buckets {
+        if bucket.is_asked(event) {
+            places.extend_from_slice(bucket.places.as_slice())?;
+        }
+    }
+    Ok(places)
+}

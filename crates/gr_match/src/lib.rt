@@ -1,0 +1,10 @@
+//! Matching one event against many filters, without asking each of them.
+#![tactic(auto)]
+
+mod bucket;
+mod pair;
+#[cfg(test)]
+mod tests;
+pub mod tree;
+
+pub use tree::MatchTree;
