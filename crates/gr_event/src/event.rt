@@ -10,6 +10,7 @@ ghost use Rattle.gr_event.specs.Json.{short_event};
 
 use crate::text::Text;
 use crate::value::{Part, Value};
+use gr_gap::Shared;
 use std::alloc::{AllocError, AllocFailed, Global};
 use std::marker::Model;
 
@@ -19,7 +20,7 @@ pub type Memory = AllocError;
 /// An event, seen as its list of names and values, rising by name.
 #[derive(Drop)]
 pub struct Event {
-    pairs: &'static Vec<(Text, Value)>,
+    pairs: Shared<Vec<(Text, Value)>>,
 }
 
 impl Model for Event {
@@ -30,9 +31,9 @@ impl Model for Event {
 
     ghost use Rattle.gr_event.specs.Limits.{IsEvent};
 
-    ghost view = { λ e. e.pairs.now.items };
+    ghost view = { λ e. e.pairs.items };
 
-    ghost invariant = { λ e. IsEvent e.pairs.now.items };
+    ghost invariant = { λ e. IsEvent e.pairs.items };
 }
 
 impl Event {
@@ -41,9 +42,8 @@ impl Event {
         requires { IsEvent pairs.items }
         ensures { IfOk result (λ e. e ≡ pairs.items) }
     {
-        let kept = Box::new(alloc, pairs)?;
         Ok(Event {
-            pairs: Box::leak(kept),
+            pairs: Shared::new(alloc, pairs)?,
         })
     }
 
@@ -65,14 +65,16 @@ impl Event {
     pub fn share(&self) -> Event
         ensures { result ≡ self.now }
     {
-        Event { pairs: self.pairs }
+        Event {
+            pairs: self.pairs.share(),
+        }
     }
 
     /// Whether both have the same names with the same values. Takes no memory.
     pub fn same(&self, other: &Event) -> bool
         ensures { IsTrue result ↔ (self.now ≡ other.now) }
     {
-        same_pairs(self.pairs, other.pairs)
+        same_pairs(self.pairs.get(), other.pairs.get())
     }
 
     /// How many bytes its form in bytes has, at most 8,192. Takes no memory.
@@ -81,14 +83,14 @@ impl Event {
         ensures short { result ≤ 8192 }
         ensures event { IsEvent self.now }
     {
-        1 + size_of_pairs(self.pairs)
+        1 + size_of_pairs(self.pairs.get())
     }
 
     /// The value of a name, if the event has it. Takes no memory.
     pub fn get(&self, name: &[u8]) -> Option<Part<'_>>
         ensures { option_map part_value result ≡ value_of name.now self.now }
     {
-        find(self.pairs, name)
+        find(self.pairs.get(), name)
     }
 
     /// Its pairs.
@@ -96,7 +98,7 @@ impl Event {
         ensures pairs { result.now ≡ self.now }
         ensures event { IsEvent self.now }
     {
-        self.pairs
+        self.pairs.get()
     }
 }
 

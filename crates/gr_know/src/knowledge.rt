@@ -234,6 +234,8 @@ fn fresh_piece(alloc: Global, stream: &Stream<K>, piece: &Piece<K>) -> Result<Pi
                 last: end,
                 value,
             })?;
+        } else {
+            drop(value);
         }
         next = end + 1;
     }

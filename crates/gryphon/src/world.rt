@@ -162,7 +162,10 @@ fn has_clash(know: &Know, piece: &Piece<K>) -> bool
     let _ = piece.len();
     match know.clash(piece) {
         None => false,
-        Some(_) => true,
+        Some(clash) => {
+            drop(clash);
+            true
+        }
     }
 }
 

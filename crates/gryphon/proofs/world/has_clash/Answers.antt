@@ -6,4 +6,4 @@ pub returns-in-None : goal.returns-in-None
 returns-in-None c = sym (clashes-none c.args.know.now c.args.piece.now c.len.ensures.canonical c.len-2.ensures.canonical c.in-None.ensures)
 
 pub returns-in-Some : goal.returns-in-Some
-returns-in-Some c = sym (clashes-some c.args.know.now c.args.piece.now c.in-Some.field-0.tick c.len.ensures.canonical c.len-2.ensures.canonical c.in-Some.ensures.clash)
+returns-in-Some c = sym (clashes-some c.args.know.now c.args.piece.now c.in-Some.clash.tick c.len.ensures.canonical c.len-2.ensures.canonical c.in-Some.ensures.clash)
