@@ -9,8 +9,8 @@ use std::alloc::Global;
 use std::test::Fail;
 use std::time::Instant;
 
-/// How many calls are timed at once.
-const CALLS: u64 = 500;
+/// How many calls are timed together, after one that is not timed.
+const CALLS: u64 = 50;
 
 /// Silence at so many odd ticks, each a run.
 fn odd_ticks(alloc: Global, runs: u64) -> Result<Stream<K>, Fail>
@@ -28,7 +28,7 @@ fn odd_ticks(alloc: Global, runs: u64) -> Result<Stream<K>, Fail>
 fn place(runs: u64, call: u64, jumps: bool) -> u64
     requires runs { runs ≤ 100000 }
     requires some { 1 ≤ runs }
-    requires call { call < 500 }
+    requires call { call ≤ 50 }
     ensures from_one { 1 ≤ result }
     ensures upto { result ≤ 400000 }
 {
@@ -39,19 +39,42 @@ fn place(runs: u64, call: u64, jumps: bool) -> u64
     }
 }
 
+/// Makes an even tick final, by a join.
+fn join_at(stream: &mut Stream<K>, tick: u64) -> Result<(), Fail>
+    requires from_one { 1 ≤ tick }
+    requires upto { tick ≤ 400000 }
+{
+    let room = stream.runs_in(tick, tick).checked_add(1).ok_or("room")?;
+    stream.reserve(room)?;
+    stream.join_range(tick, tick, K::F);
+    Ok(())
+}
+
+/// Learns that an even tick is final.
+fn learn_at(alloc: Global, know: &mut Know, tick: u64) -> Result<(), Fail>
+    requires from_one { 1 ≤ tick }
+    requires upto { tick ≤ 400000 }
+{
+    let mut piece = Piece::new(alloc);
+    piece.push(Run {
+        first: tick,
+        last: tick,
+        value: K::F,
+    })?;
+    let _ = know.learn(&piece)?;
+    Ok(())
+}
+
 /// Nanoseconds for a join of one tick.
 fn joining(rt: &HostRuntime, runs: u64, jumps: bool) -> Result<u128, Fail>
     requires runs { runs ≤ 100000 }
     requires some { 1 ≤ runs }
 {
     let mut stream = odd_ticks(rt.alloc(), runs)?;
+    join_at(&mut stream, place(runs, 0, jumps))?;
     let start = Instant::now(rt)?;
-    for call in 0..CALLS {
-        let tick = place(runs, call, jumps);
-        stream.reserve(2)?;
-        if stream.runs_in(tick, tick) == 0 {
-            stream.join_range(tick, tick, K::F);
-        }
+    for call in 1..=CALLS {
+        join_at(&mut stream, place(runs, call, jumps))?;
     }
     Ok(start.elapsed(rt)?.as_nanos() / u128::from(CALLS))
 }
@@ -63,16 +86,10 @@ fn learning(rt: &HostRuntime, runs: u64, jumps: bool) -> Result<u128, Fail>
 {
     let mut know = Know::new(rt.alloc());
     let _ = know.learn(&odd_ticks(rt.alloc(), runs)?.piece(1, MAX_TICK)?)?;
+    learn_at(rt.alloc(), &mut know, place(runs, 0, jumps))?;
     let start = Instant::now(rt)?;
-    for call in 0..CALLS {
-        let tick = place(runs, call, jumps);
-        let mut piece = Piece::new(rt.alloc());
-        piece.push(Run {
-            first: tick,
-            last: tick,
-            value: K::F,
-        })?;
-        let _ = know.learn(&piece)?;
+    for call in 1..=CALLS {
+        learn_at(rt.alloc(), &mut know, place(runs, call, jumps))?;
     }
     Ok(start.elapsed(rt)?.as_nanos() / u128::from(CALLS))
 }
