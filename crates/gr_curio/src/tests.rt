@@ -1,10 +1,11 @@
 ghost use Rattle.std.specs.Prelude.{◌≤◌, ◌<◌, ◌^◌, ℕ};
 
-use crate::asks::Asks;
+use crate::asks::{Asks, Moment};
 use crate::values::Q3;
 use crate::wants::Wants;
-use gr_tick::{Lattice, Piece, Run, Stream};
+use gr_tick::{Lattice, MAX_TICK, Piece, Run, Stream};
 use std::alloc::Global;
+use std::process::Abort;
 use std::test::Fail;
 
 #[test]
@@ -55,6 +56,11 @@ fn consolidates_what_both_acknowledge(rt: HostRuntime) -> Result<(), Fail> {
     assert_eq!(rt; part.len(), 1);
     assert_eq!(rt; part.run(0).last, 2);
     assert!(rt; wants.covers(1, 4));
+    assert!(rt; !wants.covers(1, 5));
+    assert!(rt; wants.covers(1, 0));
+    assert_eq!(rt; wants.children(), 2);
+    assert_eq!(rt; wants.len(1), 1);
+    assert_eq!(rt; wants.run(1, 0).last, 4);
     Ok(())
 }
 
@@ -62,6 +68,9 @@ fn consolidates_what_both_acknowledge(rt: HostRuntime) -> Result<(), Fail> {
 fn asks_what_is_due(rt: HostRuntime) -> Result<(), Fail> {
     let mut asks = Asks::new(rt.alloc());
     asks.asked(&piece_of(rt.alloc(), 1, 10, false)?, 1000)?;
+    assert_eq!(rt; asks.len(), 1);
+    assert_eq!(rt; asks.run(0).last, 10);
+    assert_eq!(rt; asks.run(0).value, Moment::At(1000));
     let wanted = piece_of(rt.alloc(), 5, 12, false)?;
     for (now, first) in [(1499, 11), (1500, 5), (900, 5)] {
         let due = asks.copy()?.due(&wanted, now, 500)?;
@@ -84,5 +93,122 @@ fn answers_end_questions(rt: HostRuntime) -> Result<(), Fail> {
     assert_eq!(rt; asked.run(0).first, 7);
     let piece = copy.piece(0, 8, 9)?;
     assert_eq!(rt; piece.len(), 1);
+    Ok(())
+}
+
+// Two children ask for 1 to 1100. What is known of 1 to 1000 is sent to both.
+#[test]
+fn what_was_sent_is_asked_no_more(rt: HostRuntime) -> Result<(), Fail> {
+    let mut wants = Wants::new(rt.alloc(), 2)?;
+    let asked = piece_of(rt.alloc(), 1, 1100, false)?;
+    wants.raise(0, &asked)?;
+    wants.raise(1, &asked)?;
+    wants.answered(0, 1, 999)?;
+    wants.answered(0, 1000, 1000)?;
+    let asked = wants.curious()?;
+    assert_eq!(rt; asked.len(), 1);
+    assert_eq!(rt; asked.run(0).first, 1);
+    wants.answered(1, 1, 1000)?;
+    let asked = wants.curious()?;
+    assert_eq!(rt; asked.len(), 1);
+    assert_eq!(rt; asked.run(0).first, 1001);
+    assert_eq!(rt; asked.run(0).last, 1100);
+    Ok(())
+}
+
+#[test]
+fn a_piece_and_its_copy(rt: HostRuntime) -> Result<(), Fail> {
+    let mut piece = Piece::new(rt.alloc());
+    assert!(rt; piece.is_empty());
+    piece.push(Run {
+        first: 1,
+        last: 9,
+        value: Q3::C,
+    })?;
+    let copy = piece.copy()?;
+    assert!(rt; !copy.is_empty());
+    assert_eq!(rt; copy.len(), 1);
+    assert_eq!(rt; copy.at(9), Q3::C);
+    assert_eq!(rt; copy.at(10), Q3::N);
+    assert_eq!(rt; copy.steady_until(1), 9);
+    assert_eq!(rt; copy.steady_until(10), MAX_TICK);
+    Ok(())
+}
+
+#[test]
+fn the_last_tick(rt: HostRuntime) -> Result<(), Fail> {
+    let mut stream = Stream::new(rt.alloc());
+    stream.reserve(1)?;
+    assert!(rt; stream.runs_in(MAX_TICK, MAX_TICK) == 0);
+    stream.join_range(MAX_TICK, MAX_TICK, Q3::C);
+    assert_eq!(rt; stream.top(), MAX_TICK);
+    assert_eq!(rt; stream.first_bottom_from(MAX_TICK), MAX_TICK + 1);
+    let copy = stream.copy()?;
+    assert_eq!(rt; copy.len(), 1);
+    assert_eq!(rt; copy.run(0).first, MAX_TICK);
+    Ok(())
+}
+
+// The ticks of the plain program below.
+const TICKS: u64 = 24;
+
+// A value for each tick from 1 on, beside the stream: each tick is looked at after each edit.
+fn agrees(rt: &impl Abort, stream: &Stream<Q3>, plain: &[Q3; 26]) {
+    let mut runs = 0usize;
+    let mut before = Q3::N;
+    for tick in 1..=TICKS {
+        let value = plain[tick as usize];
+        assert_eq!(rt; stream.at(tick), value, "at tick {tick}");
+        if value != Q3::N && value != before {
+            runs = runs.wrapping_add(1);
+        }
+        before = value;
+        let mut end = tick;
+        for later in tick..=TICKS {
+            if end == later && plain[(later + 1) as usize] == value {
+                end = later + 1;
+            }
+        }
+        if end <= TICKS {
+            assert_eq!(rt; stream.steady_until(tick), end, "from tick {tick}");
+        }
+    }
+    assert_eq!(rt; stream.len(), runs);
+}
+
+#[test]
+fn the_same_as_a_value_for_each_tick(rt: HostRuntime) -> Result<(), Fail> {
+    let mut stream = Stream::new(rt.alloc());
+    let mut plain = [Q3::N; 26];
+    let mut seed: u64 = 1;
+    for _ in 0..300u64 {
+        seed = seed
+            .wrapping_mul(6_364_136_223_846_793_005)
+            .wrapping_add(1_442_695_040_888_963_407);
+        let one = 1 + (seed >> 33) % TICKS;
+        let other = 1 + (seed >> 43) % TICKS;
+        let (first, last) = (one.min(other), one.max(other));
+        let value = [Q3::C, Q3::A][(seed >> 60) as usize % 2];
+        let kind = (seed >> 53) % 4;
+        if kind == 0 {
+            stream.lower_range(first, last)?;
+        } else if kind == 1 {
+            stream.reserve(2)?;
+            stream.set_range(first, last, value);
+        } else {
+            let room = stream.runs_in(first, last).checked_add(1).ok_or("room")?;
+            stream.reserve(room)?;
+            stream.join_range(first, last, value);
+        }
+        for tick in first..=last {
+            let place = tick as usize % 26;
+            plain[place] = match kind {
+                0 => Q3::N,
+                1 => value,
+                _ => plain[place].join(value),
+            };
+        }
+        agrees(&rt, &stream, &plain);
+    }
     Ok(())
 }

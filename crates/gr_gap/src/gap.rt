@@ -1,5 +1,5 @@
 // A gap buffer in one block: a ring, whose free part is the gap. The values past the gap stand first in the ring, then those before it.
-ghost use Rattle.std.specs.Prelude.{◌≡◌, ℕ, ◌+◌, ◌-◌, ◌<◌, ◌≤◌, List, [], length, insert, remove, slice_get, slice_set, Some, Ok, OnOk, OnErr, IsOk};
+ghost use Rattle.std.specs.Prelude.{◌≡◌, ℕ, ◌+◌, ◌-◌, ◌^◌, ◌<◌, ◌≤◌, List, [], length, insert, remove, slice_index_or, slice_set, Ok, OnOk, OnErr, IsOk};
 ghost use Rattle.std.specs.VecDeque.{deque_len, deque_capacity};
 ghost use Rattle.gr_gap.specs.Contents.{unrolled, place_of};
 
@@ -67,6 +67,7 @@ impl<T> Gap<T> {
         requires room { 0 < self.old.spare }
         ensures items { self.new.items ≡ insert self.old.items i value }
         ensures spare { self.new.spare + 1 ≡ self.old.spare }
+        ensures counted { length self.new.items < 2 ^ 64 }
     {
         move_gap(&mut self.ring, &mut self.before, i);
         self.ring.push_back_reserved(value);
@@ -76,7 +77,7 @@ impl<T> Gap<T> {
     /// Takes out the value at `i`.
     pub fn remove(&mut self, i: usize) -> T
         requires { i < length self.old.items }
-        ensures value { slice_get self.old.items i ≡ Some result }
+        ensures value { result ≡ slice_index_or self.old.items i result }
         ensures items { self.new.items ≡ remove self.old.items i }
         ensures spare { self.new.spare ≡ self.old.spare + 1 }
     {
@@ -87,7 +88,7 @@ impl<T> Gap<T> {
     /// The value at `i`.
     pub fn get(&self, i: usize) -> &T
         requires { i < length self.now.items }
-        ensures { slice_get self.now.items i ≡ Some result.now }
+        ensures { result.now ≡ slice_index_or self.now.items i result.now }
     {
         let at = place(&self.ring, self.before, i);
         &self.ring[at]
@@ -96,12 +97,17 @@ impl<T> Gap<T> {
     /// Puts a value in place of the one at `i`, which it answers.
     pub fn replace(&mut self, i: usize, value: T) -> T
         requires { i < length self.old.items }
-        ensures value { slice_get self.old.items i ≡ Some result }
+        ensures value { result ≡ slice_index_or self.old.items i result }
         ensures items { self.new.items ≡ slice_set self.old.items i value }
         ensures spare { self.new.spare ≡ self.old.spare }
     {
         let at = place(&self.ring, self.before, i);
         mem::replace(&mut self.ring[at], value)
+    }
+
+    /// Where its memory comes from.
+    pub fn allocator(&self) -> Global {
+        *self.ring.allocator()
     }
 
     /// How many values there are.

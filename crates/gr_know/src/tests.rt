@@ -1,4 +1,4 @@
-ghost use Rattle.std.specs.Prelude.{◌≤◌, ◌^◌};
+ghost use Rattle.std.specs.Prelude.{ℕ, ◌<◌, ◌≤◌, ◌^◌, ◌-◌};
 
 use crate::knowledge::Know;
 use crate::values::K;
@@ -96,5 +96,79 @@ fn forgets_the_least_events(rt: HostRuntime) -> Result<(), Fail> {
     know.forget(2, 9)?;
     assert_eq!(rt; know.len(), 1);
     assert_eq!(rt; know.run(0).first, 5);
+    Ok(())
+}
+
+/// The event `{"n":NUMBER}`, for a small number.
+fn numbered(alloc: Global, number: u8) -> Result<Event, Fail> {
+    let bytes = [1, 1, b'n', 1, 0, 0, 0, 0, 0, 0, 0, number];
+    Ok(Event::decode(alloc, &bytes)?)
+}
+
+/// Silence from a tick on, and an event at the tick after it.
+fn quiet_then(alloc: Global, first: u64, tick: u64, event: &Event) -> Result<Piece<K>, Fail>
+    requires from_one { 1 ≤ first }
+    requires ordered { first < tick }
+    requires upto { tick ≤ 2 ^ 62 }
+{
+    let mut piece = Piece::new(alloc);
+    piece.push(Run {
+        first,
+        last: tick - 1,
+        value: K::S,
+    })?;
+    piece.push(Run {
+        first: tick,
+        last: tick,
+        value: K::D(event.share()),
+    })?;
+    Ok(piece)
+}
+
+// Two events come in the wrong order; the older one is answered from what is kept, then forgotten, and all is final at last.
+#[test]
+fn a_gap_is_filled_answered_and_forgotten(rt: HostRuntime) -> Result<(), Fail> {
+    let one = numbered(rt.alloc(), 1)?;
+    let two = numbered(rt.alloc(), 2)?;
+    let mut know = Know::new(rt.alloc());
+    let _ = know.learn(&quiet_then(rt.alloc(), 1001, 2000, &two)?)?;
+    assert_eq!(rt; know.horizon_from(0), 0);
+    assert_eq!(rt; know.top(), 2000);
+    let fresh = know.learn(&quiet_then(rt.alloc(), 1, 1000, &one)?)?;
+    assert_eq!(rt; fresh.len(), 2);
+    assert_eq!(rt; know.horizon_from(0), 2000);
+    let answer = know.piece(1, 1000)?;
+    assert_eq!(rt; answer.len(), 2);
+    assert_eq!(rt; answer.run(0).last, 999);
+    assert!(rt; answer.run(1).value.same(&K::D(one.share())));
+    know.forget(1, 2000)?;
+    assert_eq!(rt; know.len(), 3);
+    assert_eq!(rt; know.horizon_from(0), 999);
+    assert_eq!(rt; know.run(1).first, 1001);
+    assert!(rt; know.at(2000).same(&K::D(two.share())));
+    know.forget(0, 1999)?;
+    assert_eq!(rt; know.len(), 3);
+    know.finish(1, 2000)?;
+    assert_eq!(rt; know.len(), 1);
+    assert!(rt; know.at(1000).same(&K::F));
+    Ok(())
+}
+
+// Two equal events on neighbouring ticks are one run.
+#[test]
+fn equal_events_are_one_run(rt: HostRuntime) -> Result<(), Fail> {
+    let event = numbered(rt.alloc(), 7)?;
+    let mut know = Know::new(rt.alloc());
+    let _ = know.learn(&quiet_then(rt.alloc(), 1, 1000, &event)?)?;
+    let mut piece = Piece::new(rt.alloc());
+    piece.push(Run {
+        first: 1001,
+        last: 1001,
+        value: K::D(event),
+    })?;
+    let _ = know.learn(&piece)?;
+    assert_eq!(rt; know.len(), 2);
+    assert_eq!(rt; know.run(1).first, 1000);
+    assert_eq!(rt; know.run(1).last, 1001);
     Ok(())
 }

@@ -1,12 +1,12 @@
 -- Edits of a list of runs around a place.
-use Rattle.std.proofs.Common.{◌≡◌, ◌≢◌, ℕ, ◌+◌, ◌-◌, ◌<◌, ◌≤◌, cond, List, [], ◌∷◌, ◌++◌, length, take, drop, get_or, suc, sym, ap, ◌∙◌, add-one, append_assoc, length-append, arith}
+use Rattle.std.proofs.Common.{◌≡◌, ◌≢◌, ℕ, ◌+◌, ◌-◌, ◌<◌, ◌≤◌, Bool, cond, List, [], ◌∷◌, ◌++◌, length, take, drop, get_or, suc, sym, ap, ◌∙◌, add-one, append_assoc, length-append, arith}
 use Rattle.std.proofs.lemmas.List.{take_more, take_at, drop_at, length-take-le, drop_more, get_or_default, take-append-drop, length-drop}
 use Rattle.std.proofs.lemmas.Bool.Decides.{nat_tests}
 use Rattle.std.specs.List.{remove}
 use Rattle.gr_tick.specs.declared.run.Run.{Run}
 use Rattle.gr_tick.specs.Runs.{value_at}
-use Rattle.gr_tick.specs.Stored.{within, IsRun, AreTickRuns, EndBefore}
-use Rattle.gr_tick.proofs.RunsLemmas.{value_at-append, AreTickRuns-front, AreTickRuns-back, AreTickRuns-join, AreTickRuns-other_last}
+use Rattle.gr_tick.specs.Stored.{within, IsRun, FollowedBy, AreTickRuns, EndBefore, needs_room, room}
+use Rattle.gr_tick.proofs.RunsLemmas.{value_at-append, room-cons, AreTickRuns-front, AreTickRuns-back, AreTickRuns-join, AreTickRuns-other_last}
 
 -- what is left round a place where one element was removed
 pub take-remove : {X : Type 0} (xs : List X) (i : ℕ) → i < length xs → take i (remove xs i) ≡ take i xs
@@ -33,6 +33,12 @@ drop_read xs i q lt e = drop_more xs i q lt ∙ ap (λ y. y ∷ drop (i + 1) xs)
 pub split_read : {X : Type 0} (xs : List X) (i : ℕ) (q : X) → i < length xs → q ≡ get_or xs i q → xs ≡ take i xs ++ q ∷ drop (i + 1) xs
 split_read xs i q lt e = sym (take-append-drop i xs) ∙ ap (λ ys. take i xs ++ ys) (drop_read xs i q lt e)
 
+-- what stands where an element was removed and a list was put in its place
+pub put_in_place : {X : Type 0} (xs rest new p : List X) (i : ℕ) → i < length xs → rest ≡ remove xs i → new ≡ take i rest ++ (p ++ drop i rest) → new ≡ take i xs ++ (p ++ drop (i + 1) xs)
+put_in_place xs rest new p i lt e f =
+    f ∙ ap (λ zs. take i zs ++ (p ++ drop i zs)) e ∙ ap (λ ys. ys ++ (p ++ drop i (remove xs i))) (take-remove xs i lt)
+    ∙ ap (λ ys. take i xs ++ (p ++ ys)) (drop-remove xs i lt)
+
 -- what comes after a list that was put in
 pub drop-put : {X : Type 0} (s p : List X) (i : ℕ) → i ≤ length s → drop (i + length p) (take i s ++ (p ++ drop i s)) ≡ drop i s
 drop-put s p i le =
@@ -47,6 +53,9 @@ pub drop-put_two : {X : Type 0} (s p q a b : List X) (i place : ℕ) → i ≤ l
 drop-put_two s p q a b i place le e ea eb pl =
     ap (drop place) eb ∙ drop_at (take place a) (q ++ drop place a) place (length-take-le place a pl)
     ∙ ap (λ zs. q ++ zs) (ap (drop place) ea ∙ ap (λ k. drop k (take i s ++ (p ++ drop i s))) e ∙ drop-put s p i le)
+
+one_or_none : (b : Bool) → cond b 1 0 ≤ 1
+one_or_none b = grind (arith, nat_tests)
 
 module _ {V : Type 0} where
   EndBefore-back : (ys zs : List (Run V)) (t : ℕ) → EndBefore (ys ++ zs) t → EndBefore zs t
@@ -95,6 +104,45 @@ module _ {V : Type 0} where
       ∙ ap (λ v. value_at v (take (i - 1) xs) t) (merged q.first q.last r.first r.last t q.value r.value d iq.ordered touch is.ordered same)
       ∙ sym (value_at-append d (take (i - 1) xs) (q ∷ r ∷ []) t)
       ∙ ap (λ ys. value_at d ys t) (sym (append_assoc (take (i - 1) xs) (q ∷ []) (r ∷ [])) ∙ ap (λ ys. ys ++ r ∷ []) (sym s))
+
+  -- two runs that touch have the ticks of one run, whichever of the equal values it has
+  merged_after : (a b c e t : ℕ) (x y d : V) → a ≤ b → b + 1 ≡ c → c ≤ e → y ≡ x → cond (within a e t) x d ≡ cond (within a b t) x (cond (within c e t) y d)
+  merged_after a b c e t x y d ab bc ce yx = grind (arith, nat_tests)
+
+  followed_alike : (q s : Run V) (ys : List (Run V)) → q.last ≡ s.last → q.value ≡ s.value → FollowedBy q ys → FollowedBy s ys
+  followed_alike q s [] el ev f = tt
+  followed_alike q s (y ∷ ys) el ev f = record { later = omega (arith, f.later, el); apart = λ e z. f.apart (omega (arith, e, el)) (ev ∙ z) }
+
+  -- a run with the one after it
+  pub right_absorbed : (least : V) (xs : List (Run V)) (i : ℕ) (q r s : Run V) → i < length xs → q ≡ get_or xs i q → AreTickRuns least (drop i xs) → IsRun least r → r.last + 1 ≡ q.first → q.value ≡ r.value → s.first ≡ r.first → s.last ≡ q.last → s.value ≡ r.value → AreTickRuns least (s ∷ drop (i + 1) xs)
+  right_absorbed least xs i q r s lt e h is touch same ef el ev =
+      let k : AreTickRuns least (q ∷ drop (i + 1) xs) = rw (drop_read xs i q lt e) at h in (
+        record {
+          from_one = omega (arith, is.from_one, ef);
+          ordered = omega (arith, is.ordered, k.0.ordered, touch, ef, el);
+          upto = omega (arith, k.0.upto, el);
+          known = λ z. is.known (sym ev ∙ z);
+        },
+        followed_alike q s (drop (i + 1) xs) (sym el) (same ∙ sym ev) k.1,
+        k.2,
+      )
+
+  pub right_absorbed_values : (least : V) (xs : List (Run V)) (i : ℕ) (q r : Run V) → i < length xs → q ≡ get_or xs i q → AreTickRuns least (drop i xs) → IsRun least r → r.last + 1 ≡ q.first → q.value ≡ r.value → (d : V) (t : ℕ) → value_at d (record { first = r.first; last = q.last; value = r.value } ∷ drop (i + 1) xs) t ≡ value_at d (r ∷ drop i xs) t
+  right_absorbed_values least xs i q r lt e h is touch same d t =
+      let k : AreTickRuns least (q ∷ drop (i + 1) xs) = rw (drop_read xs i q lt e) at h in
+      merged_after r.first r.last q.first q.last t r.value q.value (value_at d (drop (i + 1) xs) t) is.ordered touch k.0.ordered same
+      ∙ ap (λ ys. value_at d (r ∷ ys) t) (sym (drop_read xs i q lt e))
+
+  -- a run in place of the one that is read needs no more room than one more run
+  pub room_in_place : (at last : ℕ) (xs : List (Run V)) (i : ℕ) (q s : Run V) → i < length xs → q ≡ get_or xs i q → room at last (s ∷ drop (i + 1) xs) ≤ room at last (drop i xs) + 1
+  room_in_place at last xs i q s lt e =
+      omega (
+        arith,
+        room-cons at last s (drop (i + 1) xs),
+        one_or_none (needs_room at last s),
+        room-cons at last q (drop (i + 1) xs),
+        ap (room at last) (drop_read xs i q lt e),
+      )
 
   pub AreTickRuns-take : (least : V) (xs : List (Run V)) (i : ℕ) → AreTickRuns least xs → AreTickRuns least (take i xs)
   AreTickRuns-take least xs i h = AreTickRuns-front least (take i xs) (drop i xs) (rw (take-append-drop i xs) h)

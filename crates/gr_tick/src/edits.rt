@@ -1,66 +1,55 @@
-//! Edits of a vector of runs. None takes memory: where one may leave more runs, it asks for the room.
+//! Edits of a list of runs. None takes memory: where one may leave more runs, it asks for the spare room.
 ghost use Rattle.std.specs.Prelude.{if◌then◌else◌, IfSome, IfOk, ◌≡◌, ◌≢◌, ℕ, ◌+◌, ◌-◌, ◌<◌, ◌≤◌, ◌&&◌, nat_le, cond, List, [], ◌∷◌, ◌++◌, length, take, drop, insert, ◌^◌, ◌⊎◌};
 ghost use Rattle.std.specs.List.{HoldsAt};
-ghost use Rattle.std.specs.Vec.{vec_len, vec_capacity};
 ghost use Rattle.gr_tick.specs.Runs.{value_at, is_in};
 ghost use Rattle.gr_tick.specs.Stored.{IsRun, AreTickRuns, EndBefore, BeginBy, BeginAfter, part, room, growth, within, between, runs_in, needed};
 
 use crate::MAX_TICK;
 use crate::lattice::{Lattice, is_bottom};
 use crate::run::Run;
-use std::alloc::{AllocError, Global};
+use gr_gap::Gap;
+use std::alloc::AllocError;
 
 /// Equal runs, or `AllocError`.
-pub fn copy_runs<V: Lattice>(alloc: Global, runs: &[Run<V>]) -> Result<Vec<Run<V>>, AllocError>
-    ensures { IfOk result (λ copy. copy.items ≡ runs.now) }
+pub fn copy_runs<V: Lattice>(runs: &Gap<Run<V>>) -> Result<Gap<Run<V>>, AllocError>
+    ensures { IfOk result (λ copy. copy.items ≡ runs.now.items) }
 {
-    let mut copy = Vec::new(alloc);
-    copy.reserve(runs.len())?;
-    for i in 0..runs.len() {
-        let run = &runs[i];
-        copy.push(Run {
-            first: run.first,
-            last: run.last,
-            value: run.value.share(),
-        })?;
+    let mut copy = Gap::new(runs.allocator());
+    let count = runs.len();
+    copy.reserve(count)?;
+    for i in 0..count {
+        let run = runs.get(i);
+        copy.insert(
+            i,
+            Run {
+                first: run.first,
+                last: run.last,
+                value: run.value.share(),
+            },
+        );
     }
     Ok(copy)
 }
 
-/// Inserts a run where there is room.
-fn insert_run<V: Lattice>(runs: &mut Vec<Run<V>>, i: usize, run: Run<V>)
-    requires within { i ≤ vec_len runs.old }
-    requires room { vec_len runs.old < vec_capacity runs.old }
-    ensures items { runs.new.items ≡ insert runs.old.items i run }
-    ensures len { vec_len runs.new ≡ vec_len runs.old + 1 }
-    ensures capacity { vec_capacity runs.old ≤ vec_capacity runs.new }
-{
-    match runs.insert(i, run) {
-        Ok(()) => {}
-        Err(_) => unreachable!(),
-    }
-}
-
 /// Inserts the run of a range at a place, if the range is not empty, and answers the place after it.
 fn insert_part<V: Lattice>(
-    runs: &mut Vec<Run<V>>,
+    runs: &mut Gap<Run<V>>,
     i: usize,
     first: u64,
     last: u64,
     value: &V,
 ) -> usize
-    requires within { i ≤ vec_len runs.old }
-    requires room { first ≤ last → vec_len runs.old < vec_capacity runs.old }
+    requires within { i ≤ length runs.old.items }
+    requires room { first ≤ last → 0 < runs.old.spare }
     ensures items { runs.new.items ≡ take i runs.old.items ++ (part first last value.now ++ drop i runs.old.items) }
     ensures place { result ≡ i + length (part first last value.now) }
-    ensures within { result ≤ vec_len runs.new }
-    ensures capacity { vec_capacity runs.old ≤ vec_capacity runs.new }
+    ensures within { result ≤ length runs.new.items }
+    ensures spare { runs.new.spare + length (part first last value.now) ≡ runs.old.spare }
 {
     if first > last {
         return i;
     }
-    insert_run(
-        runs,
+    runs.insert(
         i,
         Run {
             first,
@@ -72,17 +61,17 @@ fn insert_part<V: Lattice>(
 }
 
 /// Where the runs that end at a tick or later begin.
-pub fn seek<V: Lattice>(runs: &[Run<V>], tick: u64) -> usize
-    requires { AreTickRuns V.least runs.now }
-    ensures within { result ≤ length runs.now }
-    ensures front { EndBefore (take result runs.now) tick }
-    ensures here { (r : Run V) (rs : List (Run V)) → drop result runs.now ≡ r ∷ rs → tick ≤ r.last }
+pub fn seek<V: Lattice>(runs: &Gap<Run<V>>, tick: u64) -> usize
+    requires { AreTickRuns V.least runs.now.items }
+    ensures within { result ≤ length runs.now.items }
+    ensures front { EndBefore (take result runs.now.items) tick }
+    ensures here { (r : Run V) (rs : List (Run V)) → drop result runs.now.items ≡ r ∷ rs → tick ≤ r.last }
 {
     let mut low = 0;
     let mut high = runs.len();
     while low < high {
         let middle = low + (high - low) / 2;
-        let run = &runs[middle];
+        let run = runs.get(middle);
         if run.last < tick {
             low = middle + 1;
         } else {
@@ -93,17 +82,17 @@ pub fn seek<V: Lattice>(runs: &[Run<V>], tick: u64) -> usize
 }
 
 /// How many runs begin by a tick.
-pub fn begun_by<V: Lattice>(runs: &[Run<V>], tick: u64) -> usize
-    requires { AreTickRuns V.least runs.now }
-    ensures within { result ≤ length runs.now }
-    ensures front { BeginBy (take result runs.now) tick }
-    ensures ahead { BeginAfter (drop result runs.now) tick }
+pub fn begun_by<V: Lattice>(runs: &Gap<Run<V>>, tick: u64) -> usize
+    requires { AreTickRuns V.least runs.now.items }
+    ensures within { result ≤ length runs.now.items }
+    ensures front { BeginBy (take result runs.now.items) tick }
+    ensures ahead { BeginAfter (drop result runs.now.items) tick }
 {
     let i = seek(runs, tick);
     if i == runs.len() {
         return i;
     }
-    let run = &runs[i];
+    let run = runs.get(i);
     if tick < run.first {
         return i;
     }
@@ -112,25 +101,24 @@ pub fn begun_by<V: Lattice>(runs: &[Run<V>], tick: u64) -> usize
 
 /// Joins the run before a place to a run that begins past it, where they form one run: removes it, and answers the place
 /// then, with the longer run.
-fn absorb_before<V: Lattice>(runs: &mut Vec<Run<V>>, i: usize, run: Run<V>) -> (usize, Run<V>)
-    requires within { i ≤ vec_len runs.old }
+fn absorb_before<V: Lattice>(runs: &mut Gap<Run<V>>, i: usize, run: Run<V>) -> (usize, Run<V>)
+    requires within { i ≤ length runs.old.items }
     requires runs { AreTickRuns V.least (take i runs.old.items) }
     requires past { EndBefore (take i runs.old.items) run.first }
     requires alone { IsRun V.least run }
-    ensures within { result.0 ≤ vec_len runs.new }
+    ensures within { result.0 ≤ length runs.new.items }
     ensures rest { drop result.0 runs.new.items ≡ drop i runs.old.items }
     ensures runs { AreTickRuns V.least (take result.0 runs.new.items ++ result.1 ∷ []) }
     ensures values { (d : V) (t : ℕ) → value_at d (take result.0 runs.new.items ++ result.1 ∷ []) t ≡ value_at d (take i runs.old.items ++ run ∷ []) t }
     ensures last { result.1.last ≡ run.last }
     ensures value { result.1.value ≡ run.value }
     ensures first { result.1.first ≤ run.first }
-    ensures len { vec_len runs.new ≤ vec_len runs.old }
-    ensures capacity { vec_capacity runs.new ≡ vec_capacity runs.old }
+    ensures spare { runs.old.spare ≤ runs.new.spare }
 {
     if i == 0 {
         return (i, run);
     }
-    let before = &runs[i - 1];
+    let before = runs.get(i - 1);
     if before.last + 1 != run.first {
         return (i, run);
     }
@@ -149,26 +137,25 @@ fn absorb_before<V: Lattice>(runs: &mut Vec<Run<V>>, i: usize, run: Run<V>) -> (
 }
 
 /// Joins the run at a place to a run that ends ahead of it, where they form one run: removes it, and answers the longer run.
-fn absorb_after<V: Lattice>(runs: &mut Vec<Run<V>>, i: usize, run: Run<V>) -> Run<V>
-    requires within { i ≤ vec_len runs.old }
+fn absorb_after<V: Lattice>(runs: &mut Gap<Run<V>>, i: usize, run: Run<V>) -> Run<V>
+    requires within { i ≤ length runs.old.items }
     requires runs { AreTickRuns V.least (drop i runs.old.items) }
     requires ahead { BeginAfter (drop i runs.old.items) run.last }
     requires alone { IsRun V.least run }
-    ensures within { i ≤ vec_len runs.new }
+    ensures within { i ≤ length runs.new.items }
     ensures front { take i runs.new.items ≡ take i runs.old.items }
     ensures runs { AreTickRuns V.least (result ∷ drop i runs.new.items) }
     ensures values { (d : V) (t : ℕ) → value_at d (result ∷ drop i runs.new.items) t ≡ value_at d (run ∷ drop i runs.old.items) t }
     ensures first { result.first ≡ run.first }
     ensures value { result.value ≡ run.value }
-    ensures room { (last : ℕ) → room (run.last + 1) last (result ∷ drop i runs.new.items) + vec_len runs.new ≤ room (run.last + 1) last (drop i runs.old.items) + vec_len runs.old }
+    ensures room { (last : ℕ) → room (run.last + 1) last (result ∷ drop i runs.new.items) + runs.old.spare ≤ room (run.last + 1) last (drop i runs.old.items) + runs.new.spare }
     ensures later { (f l : ℕ) → run.last < f → f ≤ l → runs_in f l (result ∷ drop i runs.new.items) ≤ runs_in f l (drop i runs.old.items) }
-    ensures len { vec_len runs.new ≤ vec_len runs.old }
-    ensures capacity { vec_capacity runs.new ≡ vec_capacity runs.old }
+    ensures spare { runs.old.spare ≤ runs.new.spare }
 {
     if i == runs.len() {
         return run;
     }
-    let after = &runs[i];
+    let after = runs.get(i);
     if run.last + 1 != after.first {
         return run;
     }
@@ -184,9 +171,9 @@ fn absorb_after<V: Lattice>(runs: &mut Vec<Run<V>>, i: usize, run: Run<V>) -> Ru
 }
 
 /// Puts a run into the gap before a place.
-pub fn put_run<V: Lattice>(runs: &mut Vec<Run<V>>, i: usize, run: Run<V>)
-    requires within { i ≤ vec_len runs.old }
-    requires room { vec_len runs.old < vec_capacity runs.old }
+pub fn put_run<V: Lattice>(runs: &mut Gap<Run<V>>, i: usize, run: Run<V>)
+    requires within { i ≤ length runs.old.items }
+    requires room { 0 < runs.old.spare }
     requires before { AreTickRuns V.least (take i runs.old.items) }
     requires after { AreTickRuns V.least (drop i runs.old.items) }
     requires past { EndBefore (take i runs.old.items) run.first }
@@ -194,35 +181,33 @@ pub fn put_run<V: Lattice>(runs: &mut Vec<Run<V>>, i: usize, run: Run<V>)
     requires alone { IsRun V.least run }
     ensures runs { AreTickRuns V.least runs.new.items }
     ensures values { (t : ℕ) → value_at V.least runs.new.items t ≡ cond (is_in t run) run.value (value_at V.least runs.old.items t) }
-    ensures room { (last : ℕ) → room (run.last + 1) last runs.new.items + vec_len runs.new ≤ room (run.last + 1) last (drop i runs.old.items) + vec_len runs.old + 1 }
+    ensures room { (last : ℕ) → room (run.last + 1) last runs.new.items + runs.old.spare ≤ room (run.last + 1) last (drop i runs.old.items) + runs.new.spare + 1 }
     ensures later { (f l : ℕ) → run.last < f → f ≤ l → runs_in f l runs.new.items ≤ runs_in f l (drop i runs.old.items) }
-    ensures len { vec_len runs.new ≤ vec_len runs.old + 1 }
-    ensures capacity { vec_capacity runs.old ≤ vec_capacity runs.new }
+    ensures spare { runs.old.spare ≤ runs.new.spare + 1 }
 {
     let (place, longer) = absorb_before(runs, i, run);
     let longest = absorb_after(runs, place, longer);
-    insert_run(runs, place, longest);
+    runs.insert(place, longest);
 }
 
 /// Inserts at a place what a run has outside a range of it, and answers where the range lies then.
 fn keep_rest<V: Lattice>(
-    runs: &mut Vec<Run<V>>,
+    runs: &mut Gap<Run<V>>,
     i: usize,
     run: &Run<V>,
     first: u64,
     last: u64,
 ) -> usize
-    requires within { i ≤ vec_len runs.old }
-    requires room { vec_len runs.old + 1 < vec_capacity runs.old }
+    requires within { i ≤ length runs.old.items }
+    requires room { 1 < runs.old.spare }
     requires alone { IsRun V.least run.now }
     requires begins { run.now.first ≤ first }
     requires ordered { first ≤ last }
     requires ends { last ≤ run.now.last }
-    ensures within { result ≤ vec_len runs.new }
+    ensures within { result ≤ length runs.new.items }
     ensures before { take result runs.new.items ≡ take i runs.old.items ++ part run.now.first (first - 1) run.now.value }
     ensures after { drop result runs.new.items ≡ part (last + 1) run.now.last run.now.value ++ drop i runs.old.items }
-    ensures len { vec_len runs.new ≡ vec_len runs.old + length (part run.now.first (first - 1) run.now.value) + length (part (last + 1) run.now.last run.now.value) }
-    ensures capacity { vec_capacity runs.old ≤ vec_capacity runs.new }
+    ensures spare { runs.new.spare + length (part run.now.first (first - 1) run.now.value) + length (part (last + 1) run.now.last run.now.value) ≡ runs.old.spare }
 {
     let place = insert_part(runs, i, run.first, first - 1, &run.value);
     insert_part(runs, place, last + 1, run.last, &run.value);
@@ -230,9 +215,9 @@ fn keep_rest<V: Lattice>(
 }
 
 /// Joins a value on a part of the gap before a place.
-fn join_gap<V: Lattice>(runs: &mut Vec<Run<V>>, i: usize, first: u64, last: u64, value: &V)
-    requires within { i ≤ vec_len runs.old }
-    requires room { vec_len runs.old < vec_capacity runs.old }
+fn join_gap<V: Lattice>(runs: &mut Gap<Run<V>>, i: usize, first: u64, last: u64, value: &V)
+    requires within { i ≤ length runs.old.items }
+    requires room { 0 < runs.old.spare }
     requires runs { AreTickRuns V.least runs.old.items }
     requires past { EndBefore (take i runs.old.items) first }
     requires ahead { BeginAfter (drop i runs.old.items) last }
@@ -242,10 +227,9 @@ fn join_gap<V: Lattice>(runs: &mut Vec<Run<V>>, i: usize, first: u64, last: u64,
     requires known { value.now ≢ V.least }
     ensures runs { AreTickRuns V.least runs.new.items }
     ensures values { (t : ℕ) → value_at V.least runs.new.items t ≡ (if within first last t then V.join_of (value_at V.least runs.old.items t) value.now else value_at V.least runs.old.items t) }
-    ensures room { (end : ℕ) → room (last + 1) end runs.new.items + vec_len runs.new ≤ room (last + 1) end (drop i runs.old.items) + vec_len runs.old + 1 }
+    ensures room { (end : ℕ) → room (last + 1) end runs.new.items + runs.old.spare ≤ room (last + 1) end (drop i runs.old.items) + runs.new.spare + 1 }
     ensures later { (f l : ℕ) → last < f → f ≤ l → runs_in f l runs.new.items ≤ runs_in f l runs.old.items }
-    ensures len { vec_len runs.new ≤ vec_len runs.old + 1 }
-    ensures capacity { vec_capacity runs.old ≤ vec_capacity runs.new }
+    ensures spare { runs.old.spare ≤ runs.new.spare + 1 }
 {
     put_run(
         runs,
@@ -259,17 +243,16 @@ fn join_gap<V: Lattice>(runs: &mut Vec<Run<V>>, i: usize, first: u64, last: u64,
 }
 
 /// Joins a value on a part of the run at a place.
-fn join_run<V: Lattice>(runs: &mut Vec<Run<V>>, i: usize, first: u64, last: u64, value: &V)
-    requires within { i < vec_len runs.old }
-    requires room { HoldsAt (λ r. vec_len runs.old + length (part r.first (first - 1) r.value) < vec_capacity runs.old) runs.old.items i }
+fn join_run<V: Lattice>(runs: &mut Gap<Run<V>>, i: usize, first: u64, last: u64, value: &V)
+    requires within { i < length runs.old.items }
+    requires room { HoldsAt (λ r. length (part r.first (first - 1) r.value) < runs.old.spare) runs.old.items i }
     requires runs { AreTickRuns V.least runs.old.items }
     requires holds { HoldsAt (λ r. (r.first ≤ first) × (last ≤ r.last)) runs.old.items i }
     requires ordered { first ≤ last }
     ensures runs { AreTickRuns V.least runs.new.items }
     ensures values { (t : ℕ) → value_at V.least runs.new.items t ≡ (if within first last t then V.join_of (value_at V.least runs.old.items t) value.now else value_at V.least runs.old.items t) }
-    ensures growth { HoldsAt (λ r. (end : ℕ) → first ≤ end → (last ≡ end) ⊎ (last ≡ r.last) → growth (last + 1) end runs.new.items + vec_len runs.new ≤ growth first end runs.old.items + vec_len runs.old) runs.old.items i }
+    ensures growth { HoldsAt (λ r. (end : ℕ) → first ≤ end → (last ≡ end) ⊎ (last ≡ r.last) → growth (last + 1) end runs.new.items + runs.old.spare ≤ growth first end runs.old.items + runs.new.spare) runs.old.items i }
     ensures later { (f l : ℕ) → last < f → f ≤ l → runs_in f l runs.new.items ≤ runs_in f l runs.old.items }
-    ensures capacity { vec_capacity runs.old ≤ vec_capacity runs.new }
 {
     let run = runs.remove(i);
     let place = keep_rest(runs, i, &run, first, last);
@@ -286,8 +269,8 @@ fn join_run<V: Lattice>(runs: &mut Vec<Run<V>>, i: usize, first: u64, last: u64,
 }
 
 /// Joins a value from one tick on, as far as one run or one gap goes, and answers the last tick that it came to.
-fn join_step<V: Lattice>(runs: &mut Vec<Run<V>>, first: u64, last: u64, value: &V) -> u64
-    requires room { growth first last runs.old.items + vec_len runs.old ≤ vec_capacity runs.old }
+fn join_step<V: Lattice>(runs: &mut Gap<Run<V>>, first: u64, last: u64, value: &V) -> u64
+    requires room { growth first last runs.old.items ≤ runs.old.spare }
     requires runs { AreTickRuns V.least runs.old.items }
     requires from_one { 1 ≤ first }
     requires ordered { first ≤ last }
@@ -297,17 +280,17 @@ fn join_step<V: Lattice>(runs: &mut Vec<Run<V>>, first: u64, last: u64, value: &
     ensures inside { result ≤ last }
     ensures runs { AreTickRuns V.least runs.new.items }
     ensures values { (t : ℕ) → value_at V.least runs.new.items t ≡ (if within first result t then V.join_of (value_at V.least runs.old.items t) value.now else value_at V.least runs.old.items t) }
-    ensures growth { growth (result + 1) last runs.new.items + vec_len runs.new ≤ growth first last runs.old.items + vec_len runs.old }
+    ensures growth { growth (result + 1) last runs.new.items + runs.old.spare ≤ growth first last runs.old.items + runs.new.spare }
     ensures later { (f l : ℕ) → result < f → f ≤ l → runs_in f l runs.new.items ≤ runs_in f l runs.old.items }
-    ensures capacity { vec_capacity runs.old ≤ vec_capacity runs.new }
 {
     let i = seek(runs, first);
     if i == runs.len() {
         join_gap(runs, i, first, last, value);
         return last;
     }
-    let start = runs[i].first;
-    let stop = runs[i].last;
+    let run = runs.get(i);
+    let start = run.first;
+    let stop = run.last;
     if last < start {
         join_gap(runs, i, first, last, value);
         return last;
@@ -325,8 +308,8 @@ fn join_step<V: Lattice>(runs: &mut Vec<Run<V>>, first: u64, last: u64, value: &
 }
 
 /// Joins a value on a range.
-pub fn join_over<V: Lattice>(runs: &mut Vec<Run<V>>, first: u64, last: u64, value: &V)
-    requires room { growth first last runs.old.items + vec_len runs.old ≤ vec_capacity runs.old }
+pub fn join_over<V: Lattice>(runs: &mut Gap<Run<V>>, first: u64, last: u64, value: &V)
+    requires room { growth first last runs.old.items ≤ runs.old.spare }
     requires runs { AreTickRuns V.least runs.old.items }
     requires from_one { 1 ≤ first }
     requires ordered { first ≤ last }
@@ -334,9 +317,8 @@ pub fn join_over<V: Lattice>(runs: &mut Vec<Run<V>>, first: u64, last: u64, valu
     requires known { value.now ≢ V.least }
     ensures runs { AreTickRuns V.least runs.new.items }
     ensures values { (t : ℕ) → value_at V.least runs.new.items t ≡ (if within first last t then V.join_of (value_at V.least runs.old.items t) value.now else value_at V.least runs.old.items t) }
-    ensures len { vec_len runs.new ≤ growth first last runs.old.items + vec_len runs.old }
+    ensures spare { runs.old.spare ≤ growth first last runs.old.items + runs.new.spare }
     ensures later { (f l : ℕ) → last < f → f ≤ l → runs_in f l runs.new.items ≤ runs_in f l runs.old.items }
-    ensures capacity { vec_capacity runs.old ≤ vec_capacity runs.new }
 {
     let mut next = first;
     while next <= last {
@@ -345,15 +327,15 @@ pub fn join_over<V: Lattice>(runs: &mut Vec<Run<V>>, first: u64, last: u64, valu
 }
 
 /// The value at a tick.
-pub fn value_in<V: Lattice>(runs: &[Run<V>], tick: u64) -> V
-    requires { AreTickRuns V.least runs.now }
-    ensures { result ≡ value_at V.least runs.now tick }
+pub fn value_in<V: Lattice>(runs: &Gap<Run<V>>, tick: u64) -> V
+    requires { AreTickRuns V.least runs.now.items }
+    ensures { result ≡ value_at V.least runs.now.items tick }
 {
     let i = seek(runs, tick);
     if i == runs.len() {
         return V::bottom();
     }
-    let run = &runs[i];
+    let run = runs.get(i);
     if tick < run.first {
         return V::bottom();
     }
@@ -361,9 +343,9 @@ pub fn value_in<V: Lattice>(runs: &[Run<V>], tick: u64) -> V
 }
 
 /// How many runs have a tick of a range.
-pub fn count_in<V: Lattice>(runs: &[Run<V>], first: u64, last: u64) -> usize
-    requires { AreTickRuns V.least runs.now }
-    ensures { result ≡ runs_in first last runs.now }
+pub fn count_in<V: Lattice>(runs: &Gap<Run<V>>, first: u64, last: u64) -> usize
+    requires { AreTickRuns V.least runs.now.items }
+    ensures { result ≡ runs_in first last runs.now.items }
 {
     let begin = seek(runs, first);
     let end = begun_by(runs, last);
@@ -383,17 +365,17 @@ fn after_run<V: Lattice>(run: &Run<V>, tick: u64) -> u64
 }
 
 /// The least tick from `tick` on with the least value.
-pub fn next_bottom<V: Lattice>(runs: &[Run<V>], tick: u64) -> u64
-    requires runs { AreTickRuns V.least runs.now }
+pub fn next_bottom<V: Lattice>(runs: &Gap<Run<V>>, tick: u64) -> u64
+    requires runs { AreTickRuns V.least runs.now.items }
     requires upto { tick ≤ 2 ^ 62 + 1 }
     ensures forward { tick ≤ result }
     ensures inside { result ≤ 2 ^ 62 + 1 }
-    ensures bottom { value_at V.least runs.now result ≡ V.least }
-    ensures least { (t : ℕ) → tick ≤ t → t < result → value_at V.least runs.now t ≢ V.least }
+    ensures bottom { value_at V.least runs.now.items result ≡ V.least }
+    ensures least { (t : ℕ) → tick ≤ t → t < result → value_at V.least runs.now.items t ≢ V.least }
 {
     let mut next = tick;
     for i in seek(runs, tick)..runs.len() {
-        let run = &runs[i];
+        let run = runs.get(i);
         if next < run.first {
             return next;
         }
@@ -403,8 +385,8 @@ pub fn next_bottom<V: Lattice>(runs: &[Run<V>], tick: u64) -> u64
 }
 
 /// Takes the first ticks of the run at a place out, up to one of them.
-pub fn lower_front<V: Lattice>(runs: &mut Vec<Run<V>>, i: usize, last: u64)
-    requires within { i < vec_len runs.old }
+pub fn lower_front<V: Lattice>(runs: &mut Gap<Run<V>>, i: usize, last: u64)
+    requires within { i < length runs.old.items }
     requires runs { AreTickRuns V.least runs.old.items }
     requires holds { HoldsAt (λ r. (r.first ≤ last) × (last ≤ r.last)) runs.old.items i }
     ensures items { HoldsAt (λ r. runs.new.items ≡ take i runs.old.items ++ (part (last + 1) r.last r.value ++ drop (i + 1) runs.old.items)) runs.old.items i }
@@ -415,41 +397,40 @@ pub fn lower_front<V: Lattice>(runs: &mut Vec<Run<V>>, i: usize, last: u64)
 }
 
 /// Takes a part of the run at a place out.
-fn lower_run<V: Lattice>(runs: &mut Vec<Run<V>>, i: usize, first: u64, last: u64)
-    requires within { i < vec_len runs.old }
-    requires room { vec_len runs.old < vec_capacity runs.old }
+fn lower_run<V: Lattice>(runs: &mut Gap<Run<V>>, i: usize, first: u64, last: u64)
+    requires within { i < length runs.old.items }
+    requires room { 0 < runs.old.spare }
     requires runs { AreTickRuns V.least runs.old.items }
     requires holds { HoldsAt (λ r. (r.first ≤ first) × (last ≤ r.last)) runs.old.items i }
     requires ordered { first ≤ last }
     ensures runs { AreTickRuns V.least runs.new.items }
     ensures values { (t : ℕ) → value_at V.least runs.new.items t ≡ (if within first last t then V.least else value_at V.least runs.old.items t) }
-    ensures kept { HoldsAt (λ r. last ≡ r.last → vec_len runs.new ≤ vec_len runs.old) runs.old.items i }
-    ensures len { vec_len runs.new ≤ vec_len runs.old + 1 }
-    ensures capacity { vec_capacity runs.old ≤ vec_capacity runs.new }
+    ensures kept { HoldsAt (λ r. last ≡ r.last → runs.old.spare ≤ runs.new.spare) runs.old.items i }
+    ensures spare { runs.old.spare ≤ runs.new.spare + 1 }
 {
     let run = runs.remove(i);
     keep_rest(runs, i, &run, first, last);
 }
 
 /// Puts the least value from one tick on, as far as one run or one gap goes, and answers the last tick that it came to.
-fn lower_step<V: Lattice>(runs: &mut Vec<Run<V>>, first: u64, last: u64) -> u64
-    requires room { vec_len runs.old < vec_capacity runs.old }
+fn lower_step<V: Lattice>(runs: &mut Gap<Run<V>>, first: u64, last: u64) -> u64
+    requires room { 0 < runs.old.spare }
     requires runs { AreTickRuns V.least runs.old.items }
     requires ordered { first ≤ last }
     ensures forward { first ≤ result }
     ensures inside { result ≤ last }
     ensures runs { AreTickRuns V.least runs.new.items }
     ensures values { (t : ℕ) → value_at V.least runs.new.items t ≡ (if within first result t then V.least else value_at V.least runs.old.items t) }
-    ensures kept { result < last → vec_len runs.new ≤ vec_len runs.old }
-    ensures len { vec_len runs.new ≤ vec_len runs.old + 1 }
-    ensures capacity { vec_capacity runs.old ≤ vec_capacity runs.new }
+    ensures kept { result < last → runs.old.spare ≤ runs.new.spare }
+    ensures spare { runs.old.spare ≤ runs.new.spare + 1 }
 {
     let i = seek(runs, first);
     if i == runs.len() {
         return last;
     }
-    let start = runs[i].first;
-    let stop = runs[i].last;
+    let run = runs.get(i);
+    let start = run.first;
+    let stop = run.last;
     if last < start {
         return last;
     }
@@ -465,15 +446,14 @@ fn lower_step<V: Lattice>(runs: &mut Vec<Run<V>>, first: u64, last: u64) -> u64
 }
 
 /// Puts the least value on a range.
-pub fn lower_over<V: Lattice>(runs: &mut Vec<Run<V>>, first: u64, last: u64)
-    requires room { vec_len runs.old < vec_capacity runs.old }
+pub fn lower_over<V: Lattice>(runs: &mut Gap<Run<V>>, first: u64, last: u64)
+    requires room { 0 < runs.old.spare }
     requires runs { AreTickRuns V.least runs.old.items }
     requires ordered { first ≤ last }
     requires upto { last ≤ 2 ^ 62 }
     ensures runs { AreTickRuns V.least runs.new.items }
     ensures values { (t : ℕ) → value_at V.least runs.new.items t ≡ (if within first last t then V.least else value_at V.least runs.old.items t) }
-    ensures len { vec_len runs.new ≤ vec_len runs.old + 1 }
-    ensures capacity { vec_capacity runs.old ≤ vec_capacity runs.new }
+    ensures spare { runs.old.spare ≤ runs.new.spare + 1 }
 {
     let mut next = first;
     while next <= last {
@@ -482,16 +462,15 @@ pub fn lower_over<V: Lattice>(runs: &mut Vec<Run<V>>, first: u64, last: u64)
 }
 
 /// Puts a value on a range.
-pub fn set_over<V: Lattice>(runs: &mut Vec<Run<V>>, first: u64, last: u64, value: &V)
-    requires room { vec_len runs.old + 2 ≤ vec_capacity runs.old }
+pub fn set_over<V: Lattice>(runs: &mut Gap<Run<V>>, first: u64, last: u64, value: &V)
+    requires room { 2 ≤ runs.old.spare }
     requires runs { AreTickRuns V.least runs.old.items }
     requires from_one { 1 ≤ first }
     requires ordered { first ≤ last }
     requires upto { last ≤ 2 ^ 62 }
     ensures runs { AreTickRuns V.least runs.new.items }
     ensures values { (t : ℕ) → value_at V.least runs.new.items t ≡ (if within first last t then value.now else value_at V.least runs.old.items t) }
-    ensures len { vec_len runs.new ≤ vec_len runs.old + 2 }
-    ensures capacity { vec_capacity runs.old ≤ vec_capacity runs.new }
+    ensures spare { runs.old.spare ≤ runs.new.spare + 2 }
 {
     lower_over(runs, first, last);
     if is_bottom(value) {
@@ -502,19 +481,19 @@ pub fn set_over<V: Lattice>(runs: &mut Vec<Run<V>>, first: u64, last: u64, value
 }
 
 /// The greatest tick up to which the value stays that of `tick`.
-pub fn steady_until<V: Lattice>(runs: &[Run<V>], tick: u64) -> u64
-    requires runs { AreTickRuns V.least runs.now }
+pub fn steady_until<V: Lattice>(runs: &Gap<Run<V>>, tick: u64) -> u64
+    requires runs { AreTickRuns V.least runs.now.items }
     requires upto { tick ≤ 2 ^ 62 }
     ensures forward { tick ≤ result }
     ensures inside { result ≤ 2 ^ 62 }
-    ensures steady { (t : ℕ) → tick ≤ t → t ≤ result → value_at V.least runs.now t ≡ value_at V.least runs.now tick }
-    ensures greatest { result < 2 ^ 62 → value_at V.least runs.now (result + 1) ≢ value_at V.least runs.now tick }
+    ensures steady { (t : ℕ) → tick ≤ t → t ≤ result → value_at V.least runs.now.items t ≡ value_at V.least runs.now.items tick }
+    ensures greatest { result < 2 ^ 62 → value_at V.least runs.now.items (result + 1) ≢ value_at V.least runs.now.items tick }
 {
     let i = seek(runs, tick);
     if i == runs.len() {
         return MAX_TICK;
     }
-    let run = &runs[i];
+    let run = runs.get(i);
     if tick < run.first {
         return run.first - 1;
     }
@@ -522,12 +501,13 @@ pub fn steady_until<V: Lattice>(runs: &[Run<V>], tick: u64) -> u64
 }
 
 /// The room that is enough to join each run of a list, if it is a number of the machine's.
-pub fn room_for<V: Lattice>(runs: &[Run<V>], others: &[Run<V>]) -> Option<usize>
-    requires { AreTickRuns V.least runs.now }
-    ensures { IfSome result (λ n. n ≡ needed runs.now others.now) }
+pub fn room_for<V: Lattice>(runs: &Gap<Run<V>>, others: &Gap<Run<V>>) -> Option<usize>
+    requires { AreTickRuns V.least runs.now.items }
+    ensures { IfSome result (λ n. n ≡ needed runs.now.items others.now.items) }
 {
     let mut room = 0usize;
-    for other in others {
+    for i in 0..others.len() {
+        let other = others.get(i);
         let more = count_in(runs, other.first, other.last).checked_add(1)?;
         room = room.checked_add(more)?;
     }
@@ -535,14 +515,15 @@ pub fn room_for<V: Lattice>(runs: &[Run<V>], others: &[Run<V>]) -> Option<usize>
 }
 
 /// Joins each run of a list.
-pub fn join_each<V: Lattice>(runs: &mut Vec<Run<V>>, others: &[Run<V>])
-    requires room { needed runs.old.items others.now + vec_len runs.old ≤ vec_capacity runs.old }
+pub fn join_each<V: Lattice>(runs: &mut Gap<Run<V>>, others: &Gap<Run<V>>)
+    requires room { needed runs.old.items others.now.items ≤ runs.old.spare }
     requires runs { AreTickRuns V.least runs.old.items }
-    requires others { AreTickRuns V.least others.now }
+    requires others { AreTickRuns V.least others.now.items }
     ensures runs { AreTickRuns V.least runs.new.items }
-    ensures values { (t : ℕ) → value_at V.least runs.new.items t ≡ V.join_of (value_at V.least runs.old.items t) (value_at V.least others.now t) }
+    ensures values { (t : ℕ) → value_at V.least runs.new.items t ≡ V.join_of (value_at V.least runs.old.items t) (value_at V.least others.now.items t) }
 {
-    for other in others {
+    for i in 0..others.len() {
+        let other = others.get(i);
         join_over(runs, other.first, other.last, &other.value);
     }
 }

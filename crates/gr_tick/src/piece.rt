@@ -5,13 +5,14 @@ ghost use Rattle.gr_tick.specs.Stored.{within, IsRun, AreTickRuns, EndBefore, Ru
 use crate::edits::{copy_runs, put_run, steady_until, value_in};
 use crate::lattice::Lattice;
 use crate::run::Run;
+use gr_gap::Gap;
 use std::alloc::{AllocError, Global};
 use std::marker::Model;
 
 /// A function from ticks to values that is the least value but on a list of runs.
 #[derive(Drop)]
 pub struct Piece<V: Lattice> {
-    runs: Vec<Run<V>>,
+    runs: Gap<Run<V>>,
 }
 
 impl<V: Lattice> Model for Piece<V> {
@@ -32,7 +33,7 @@ impl<V: Lattice> Piece<V> {
         ensures { result ≡ [] }
     {
         Piece {
-            runs: Vec::new(alloc),
+            runs: Gap::new(alloc),
         }
     }
 
@@ -40,7 +41,7 @@ impl<V: Lattice> Piece<V> {
     pub fn copy(&self) -> Result<Piece<V>, AllocError>
         ensures { IfOk result (λ piece. piece ≡ self.now) }
     {
-        let runs = copy_runs(*self.runs.allocator(), &self.runs)?;
+        let runs = copy_runs(&self.runs)?;
         Ok(Piece { runs })
     }
 
@@ -81,9 +82,9 @@ impl<V: Lattice> Piece<V> {
     }
 
     /// Its runs.
-    pub(crate) fn runs(&self) -> &[Run<V>]
-        ensures items { result.now ≡ self.now }
-        ensures runs { AreTickRuns V.least result.now }
+    pub(crate) fn runs(&self) -> &Gap<Run<V>>
+        ensures items { result.now.items ≡ self.now }
+        ensures runs { AreTickRuns V.least result.now.items }
     {
         &self.runs
     }
@@ -101,7 +102,7 @@ impl<V: Lattice> Piece<V> {
     pub fn is_empty(&self) -> bool
         ensures { IsTrue result ↔ (self.now ≡ []) }
     {
-        self.runs.is_empty()
+        self.runs.len() == 0
     }
 
     /// The run at a place.
@@ -110,7 +111,7 @@ impl<V: Lattice> Piece<V> {
         ensures run { slice_get self.now i ≡ Some result.now }
         ensures alone { IsRun V.least result.now }
     {
-        &self.runs[i]
+        self.runs.get(i)
     }
 
     /// The value at a tick.

@@ -10,24 +10,23 @@ use crate::edits::{
 use crate::lattice::{Lattice, is_bottom};
 use crate::piece::Piece;
 use crate::run::Run;
+use gr_gap::Gap;
 use std::alloc::{AllocError, Global};
 use std::marker::Model;
 
 /// A function from ticks to values that is the least value but on a list of runs, with room for more runs.
 #[derive(Drop)]
 pub struct Stream<V: Lattice> {
-    runs: Vec<Run<V>>,
+    runs: Gap<Run<V>>,
 }
 
 impl<V: Lattice> Model for Stream<V> {
-    ghost use Rattle.std.specs.Prelude.{◌-◌};
-    ghost use Rattle.std.specs.Vec.{vec_len, vec_capacity};
     ghost use Rattle.gr_tick.specs.Stored.{AreTickRuns};
     ghost use Rattle.gr_tick.specs.Kept.{Kept};
 
     ghost Value = { Kept V };
 
-    ghost view = { λ s. record { runs = s.runs.items; spare = vec_capacity s.runs - vec_len s.runs } };
+    ghost view = { λ s. record { runs = s.runs.items; spare = s.runs.spare } };
 
     ghost invariant = { λ s. AreTickRuns V.least s.runs.items };
 }
@@ -39,7 +38,7 @@ impl<V: Lattice> Stream<V> {
         ensures spare { result.spare ≡ 0 }
     {
         Stream {
-            runs: Vec::new(alloc),
+            runs: Gap::new(alloc),
         }
     }
 
@@ -47,7 +46,7 @@ impl<V: Lattice> Stream<V> {
     pub fn copy(&self) -> Result<Stream<V>, AllocError>
         ensures { IfOk result (λ stream. stream.runs ≡ self.now.runs) }
     {
-        let runs = copy_runs(*self.runs.allocator(), &self.runs)?;
+        let runs = copy_runs(&self.runs)?;
         Ok(Stream { runs })
     }
 
@@ -66,7 +65,7 @@ impl<V: Lattice> Stream<V> {
         ensures run { slice_get self.now.runs i ≡ Some result.now }
         ensures alone { IsRun V.least result.now }
     {
-        &self.runs[i]
+        self.runs.get(i)
     }
 
     /// The greatest tick of a run, or 0.
@@ -199,42 +198,38 @@ impl<V: Lattice> Stream<V> {
         requires upto { last ≤ 2 ^ 62 }
         ensures { IfOk result (λ piece. RunsGive V.least piece (λ t. if within first last t then value_at V.least self.now.runs t else V.least)) }
     {
-        piece_of(*self.runs.allocator(), &self.runs, first, last)
+        piece_of(&self.runs, first, last)
     }
 }
 
 /// The runs of a range, cut at its ends.
-fn piece_of<V: Lattice>(
-    alloc: Global,
-    runs: &[Run<V>],
-    first: u64,
-    last: u64,
-) -> Result<Piece<V>, AllocError>
-    requires runs { AreTickRuns V.least runs.now }
+fn piece_of<V: Lattice>(runs: &Gap<Run<V>>, first: u64, last: u64) -> Result<Piece<V>, AllocError>
+    requires runs { AreTickRuns V.least runs.now.items }
     requires from_one { 1 ≤ first }
     requires ordered { first ≤ last }
     requires upto { last ≤ 2 ^ 62 }
-    ensures { IfOk result (λ piece. RunsGive V.least piece (λ t. if within first last t then value_at V.least runs.now t else V.least)) }
+    ensures { IfOk result (λ piece. RunsGive V.least piece (λ t. if within first last t then value_at V.least runs.now.items t else V.least)) }
 {
-    let mut piece = Piece::new(alloc);
+    let mut piece = Piece::new(runs.allocator());
     for i in seek(runs, first)..begun_by(runs, last) {
-        piece.push_cut(&runs[i], first, last)?;
+        let run = runs.get(i);
+        piece.push_cut(run, first, last)?;
     }
     let _ = piece.len();
     Ok(piece)
 }
 
 /// The greatest tick of a run, or 0.
-fn last_of<V: Lattice>(runs: &[Run<V>]) -> u64
-    requires { AreTickRuns V.least runs.now }
-    ensures top { result ≡ top_of runs.now }
+fn last_of<V: Lattice>(runs: &Gap<Run<V>>) -> u64
+    requires { AreTickRuns V.least runs.now.items }
+    ensures top { result ≡ top_of runs.now.items }
     ensures inside { result ≤ 2 ^ 62 }
-    ensures past { EndBefore runs.now (result + 1) }
+    ensures past { EndBefore runs.now.items (result + 1) }
 {
     let count = runs.len();
     if count == 0 {
         return 0;
     }
-    let run = &runs[count - 1];
+    let run = runs.get(count - 1);
     run.last
 }

@@ -4,19 +4,19 @@ use Rattle.gr_tick.proofs.StepLemmas.{ahead_at}
 use Rattle.gr_tick.proofs.SeekLemmas.{BeginBy-ended, begun_with, ahead_with}
 use Rattle.gr_tick.proofs.edits.begun_by.Goals as goal
 
-pub returns-then-i-runs-clause-front : goal.returns-then-i-runs-clause-front
-returns-then-i-runs-clause-front g c = BeginBy-ended g.V.Lattice.least _ c.args.tick (AreTickRuns-take g.V.Lattice.least c.args.runs.now c.seek-i.result c.requires) c.seek-i.ensures.front
+pub returns-then-i-len-clause-front : goal.returns-then-i-len-clause-front
+returns-then-i-len-clause-front g c = BeginBy-ended g.V.Lattice.least _ c.args.tick (AreTickRuns-take g.V.Lattice.least c.args.runs.now.items c.seek-i.result c.requires) c.seek-i.ensures.front
 
 pub returns-then-tick-run-clause-front : goal.returns-then-tick-run-clause-front
-returns-then-tick-run-clause-front g c = BeginBy-ended g.V.Lattice.least _ c.args.tick (AreTickRuns-take g.V.Lattice.least c.args.runs.now c.seek-i.result c.requires) c.seek-i.ensures.front
+returns-then-tick-run-clause-front g c = BeginBy-ended g.V.Lattice.least _ c.args.tick (AreTickRuns-take g.V.Lattice.least c.args.runs.now.items c.seek-i.result c.requires) c.seek-i.ensures.front
 
 pub returns-then-tick-run-clause-ahead : goal.returns-then-tick-run-clause-ahead
-returns-then-tick-run-clause-ahead g c = ahead_at g.V.Lattice.least c.args.runs.now c.seek-i.result c.args.tick c.index-runs-i.result (omega arith) c.index-runs-i.is c.requires c.if-tick-run.true
+returns-then-tick-run-clause-ahead g c = ahead_at g.V.Lattice.least c.args.runs.now.items c.seek-i.result c.args.tick c.get-run.result.now (omega arith) c.get-run.ensures c.requires c.if-tick-run.true
 
 pub returns-clause-front : goal.returns-clause-front
-returns-clause-front g c = begun_with g.V.Lattice.least c.args.runs.now c.seek-i.result c.args.tick c.index-runs-i.result (omega arith) c.index-runs-i.is c.requires c.seek-i.ensures.front (omega arith)
+returns-clause-front g c = begun_with g.V.Lattice.least c.args.runs.now.items c.seek-i.result c.args.tick c.get-run.result.now (omega arith) c.get-run.ensures c.requires c.seek-i.ensures.front (omega arith)
 
 pub returns-clause-ahead : goal.returns-clause-ahead
 returns-clause-ahead g c =
-    ahead_with g.V.Lattice.least c.args.runs.now c.seek-i.result c.args.tick c.index-runs-i.result (omega arith) c.index-runs-i.is c.requires
-    (c.seek-i.ensures.here _ _ (drop_read c.args.runs.now c.seek-i.result c.index-runs-i.result (omega arith) c.index-runs-i.is))
+    ahead_with g.V.Lattice.least c.args.runs.now.items c.seek-i.result c.args.tick c.get-run.result.now (omega arith) c.get-run.ensures c.requires
+    (c.seek-i.ensures.here _ _ (drop_read c.args.runs.now.items c.seek-i.result c.get-run.result.now (omega arith) c.get-run.ensures))

@@ -8,29 +8,29 @@ pub join_over-requires-clause-room : goal.join_over-requires-clause-room
 join_over-requires-clause-room g c =
     omega (
       arith,
-      growth-le c.other-item.result.first c.other-item.result.last c.loop-other.runs.items,
-      needed-drop c.loop-other.runs.items c.args.others.now c.loop-other.other-index c.other-item.result (omega arith) c.other-item.is,
+      growth-le c.get-other.result.now.first c.get-other.result.now.last c.loop-i.runs.items,
+      needed-drop c.loop-i.runs.items c.args.others.now.items c.loop-i.i c.get-other.result.now (omega arith) c.get-other.ensures,
     )
 
 pub join_over-requires-clause-from_one : goal.join_over-requires-clause-from_one
-join_over-requires-clause-from_one g c = (read_alone g.V.Lattice.least c.args.others.now c.loop-other.other-index c.other-item.result (omega arith) c.other-item.is c.requires.others).from_one
+join_over-requires-clause-from_one g c = (read_alone g.V.Lattice.least c.args.others.now.items c.loop-i.i c.get-other.result.now (omega arith) c.get-other.ensures c.requires.others).from_one
 
 pub join_over-requires-clause-ordered : goal.join_over-requires-clause-ordered
-join_over-requires-clause-ordered g c = (read_alone g.V.Lattice.least c.args.others.now c.loop-other.other-index c.other-item.result (omega arith) c.other-item.is c.requires.others).ordered
+join_over-requires-clause-ordered g c = (read_alone g.V.Lattice.least c.args.others.now.items c.loop-i.i c.get-other.result.now (omega arith) c.get-other.ensures c.requires.others).ordered
 
 pub join_over-requires-clause-upto : goal.join_over-requires-clause-upto
-join_over-requires-clause-upto g c = (read_alone g.V.Lattice.least c.args.others.now c.loop-other.other-index c.other-item.result (omega arith) c.other-item.is c.requires.others).upto
+join_over-requires-clause-upto g c = (read_alone g.V.Lattice.least c.args.others.now.items c.loop-i.i c.get-other.result.now (omega arith) c.get-other.ensures c.requires.others).upto
 
 pub join_over-requires-clause-known : goal.join_over-requires-clause-known
-join_over-requires-clause-known g c = (read_alone g.V.Lattice.least c.args.others.now c.loop-other.other-index c.other-item.result (omega arith) c.other-item.is c.requires.others).known
+join_over-requires-clause-known g c = (read_alone g.V.Lattice.least c.args.others.now.items c.loop-i.i c.get-other.result.now (omega arith) c.get-other.ensures c.requires.others).known
 
-pub loop-other-preserved : goal.loop-other-preserved
-loop-other-preserved g c =
-    let first = needed-drop c.loop-other.runs.items c.args.others.now c.loop-other.other-index c.other-item.result (omega arith) c.other-item.is in
-    let rest : needed c.join_over.new.runs.items (drop (c.loop-other.other-index + 1) c.args.others.now) ≤ needed c.loop-other.runs.items (drop (c.loop-other.other-index + 1) c.args.others.now) =
-    needed_step g.V.Lattice.least c.loop-other.runs.items c.join_over.new.runs.items c.args.others.now c.loop-other.other-index (needed c.loop-other.runs.items (drop c.loop-other.other-index c.args.others.now)) (needed c.loop-other.runs.items (drop (c.loop-other.other-index + 1) c.args.others.now)) c.other-item.result (omega arith) c.other-item.is c.requires.others c.join_over.ensures.later (omega arith) (omega (arith, first)) in
+pub loop-i-preserved : goal.loop-i-preserved
+loop-i-preserved g c =
+    let first = needed-drop c.loop-i.runs.items c.args.others.now.items c.loop-i.i c.get-other.result.now (omega arith) c.get-other.ensures in
+    let rest : needed c.join_over.new.runs.items (drop (c.loop-i.i + 1) c.args.others.now.items) ≤ needed c.loop-i.runs.items (drop (c.loop-i.i + 1) c.args.others.now.items) =
+    needed_step g.V.Lattice.least c.loop-i.runs.items c.join_over.new.runs.items c.args.others.now.items c.loop-i.i (needed c.loop-i.runs.items (drop c.loop-i.i c.args.others.now.items)) (needed c.loop-i.runs.items (drop (c.loop-i.i + 1) c.args.others.now.items)) c.get-other.result.now (omega arith) c.get-other.ensures c.requires.others c.join_over.ensures.later (omega arith) (omega (arith, first)) in
     record {
       runs = c.join_over.ensures.runs;
-      values = λ t. each_more g.V.Lattice.least g.V.Lattice.join_of g.V.Lattice.is_at_most c.args.others.now c.loop-other.other-index t c.other-item.result _ _ _ g.met.V.Lattice.laws (omega arith) c.other-item.is c.requires.others (c.loop-other.invariant.values t) (c.join_over.ensures.values t);
-      room = omega (arith, first, rest, growth-le c.other-item.result.first c.other-item.result.last c.loop-other.runs.items);
+      values = λ t. each_more g.V.Lattice.least g.V.Lattice.join_of g.V.Lattice.is_at_most c.args.others.now.items c.loop-i.i t c.get-other.result.now _ _ _ g.met.V.Lattice.laws (omega arith) c.get-other.ensures c.requires.others (c.loop-i.invariant.values t) (c.join_over.ensures.values t);
+      room = omega (arith, first, rest, growth-le c.get-other.result.now.first c.get-other.result.now.last c.loop-i.runs.items);
     }

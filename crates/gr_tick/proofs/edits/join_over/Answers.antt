@@ -10,5 +10,4 @@ loop-next-preserved g c = record {
   values = λ t. join_more c.args.first c.loop-next.next c.join_step-next.result t _ _ _ g.V.Lattice.join_of c.args.value.now c.loop-next.invariant.forward c.join_step-next.ensures.forward (c.loop-next.invariant.values t) (c.join_step-next.ensures.values t);
   room = omega arith;
   later = λ f r lo le. omega (arith, c.join_step-next.ensures.later f r (omega (arith, lo)) le, c.loop-next.invariant.later f r (omega (arith, lo, c.join_step-next.ensures.forward)) le);
-  capacity = omega arith;
 }

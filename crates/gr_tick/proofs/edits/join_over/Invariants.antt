@@ -1,5 +1,4 @@
 use Rattle.std.proofs.Common.{◌≡◌, ℕ, ◌+◌, ◌-◌, ◌≤◌, cond}
-use Rattle.std.specs.Vec.{vec_len, vec_capacity}
 use Rattle.gr_tick.specs.Runs.{value_at}
 use Rattle.gr_tick.specs.Stored.{AreTickRuns, between, growth, runs_in}
 use Rattle.gr_tick.proofs.edits.join_over.Given as goal
@@ -13,9 +12,8 @@ invariant-loop-next g l =
       inside : l.next ≤ l.last + 1;
       runs : AreTickRuns least l.runs.items;
       values : (t : ℕ) → value_at least l.runs.items t ≡ cond (between l.first l.next t) (g.V.Lattice.join_of (value_at least l.fn.runs.items t) l.value) (value_at least l.fn.runs.items t);
-      room : growth l.next l.last l.runs.items + vec_len l.runs ≤ growth l.first l.last l.fn.runs.items + vec_len l.fn.runs;
+      room : growth l.next l.last l.runs.items + l.fn.runs.spare ≤ growth l.first l.last l.fn.runs.items + l.runs.spare;
       later : (f r : ℕ) → l.next ≤ f → f ≤ r → runs_in f r l.runs.items ≤ runs_in f r l.fn.runs.items;
-      capacity : vec_capacity l.fn.runs ≤ vec_capacity l.runs;
     }
 
 abbrev pub decreases-loop-next : goal.decreases-loop-next

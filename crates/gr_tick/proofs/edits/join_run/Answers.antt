@@ -50,7 +50,7 @@ pub returns-clause-growth : goal.returns-clause-growth
 returns-clause-growth g c = λ d end le which.
     let k = carved_is g.V.Lattice.least c.args.runs.now.items c.remove-run.new.self.items c.keep_rest-place.new.runs.items c.args.i c.keep_rest-place.result c.args.first c.args.last c.remove-run.result (omega arith) c.remove-run.ensures.value c.requires.runs (c.requires.holds _).0 c.requires.ordered (c.requires.holds _).1 c.remove-run.ensures.items c.keep_rest-place.ensures.before c.keep_rest-place.ensures.after in
     let same : get_or c.args.runs.now.items c.args.i d ≡ c.remove-run.result = get_or_default c.args.runs.now.items c.args.i d c.remove-run.result (omega arith) ∙ sym c.remove-run.ensures.value in
-    joined_growth g.V.Lattice.least c.args.runs.now.items c.keep_rest-place.new.runs.items c.args.i c.keep_rest-place.result c.args.first c.args.last c.remove-run.result k c.put_run.new.runs.items end _ _ _ le (elim which [ inl e ↦ inl e | inr e ↦ inr (e ∙ ap (λ r. r.last) same) ]) (omega arith) c.put_run.ensures.len (c.put_run.ensures.room end)
+    joined_growth g.V.Lattice.least c.args.runs.now.items c.keep_rest-place.new.runs.items c.args.i c.keep_rest-place.result c.args.first c.args.last c.remove-run.result k c.put_run.new.runs.items end c.put_run.new.runs.spare (c.args.runs.now.spare + c.put_run.new.runs.spare - c.keep_rest-place.new.runs.spare) c.args.runs.now.spare le (elim which [ inl e ↦ inl e | inr e ↦ inr (e ∙ ap (λ r. r.last) same) ]) (omega (arith, c.requires.room c.remove-run.result)) (omega (arith, c.requires.room c.remove-run.result)) (omega (arith, c.requires.room c.remove-run.result, c.put_run.ensures.room end))
 
 pub returns-clause-later : goal.returns-clause-later
 returns-clause-later g c = λ f l lt le.

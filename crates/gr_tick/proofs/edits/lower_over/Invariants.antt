@@ -1,5 +1,4 @@
 use Rattle.std.proofs.Common.{◌≡◌, ℕ, ◌+◌, ◌-◌, ◌≤◌, cond}
-use Rattle.std.specs.Vec.{vec_len, vec_capacity}
 use Rattle.gr_tick.specs.Runs.{value_at}
 use Rattle.gr_tick.specs.Stored.{AreTickRuns, between}
 use Rattle.gr_tick.proofs.edits.lower_over.Given as goal
@@ -13,9 +12,8 @@ invariant-loop-next g l =
       inside : l.next ≤ l.last + 1;
       runs : AreTickRuns least l.runs.items;
       values : (t : ℕ) → value_at least l.runs.items t ≡ cond (between l.first l.next t) least (value_at least l.fn.runs.items t);
-      kept : l.next ≤ l.last → vec_len l.runs ≤ vec_len l.fn.runs;
-      len : vec_len l.runs ≤ vec_len l.fn.runs + 1;
-      capacity : vec_capacity l.fn.runs ≤ vec_capacity l.runs;
+      kept : l.next ≤ l.last → l.fn.runs.spare ≤ l.runs.spare;
+      spare : l.fn.runs.spare ≤ l.runs.spare + 1;
     }
 
 abbrev pub decreases-loop-next : goal.decreases-loop-next

@@ -7,9 +7,9 @@ abbrev pub invariant-loop-i : goal.invariant-loop-i
 invariant-loop-i g l =
     let least = g.V.Lattice.least in
     record {
-      upto : l.i ≤ length l.runs;
+      upto : l.i ≤ length l.runs.items;
       forward : l.tick ≤ l.next;
       inside : l.next ≤ 2 ^ 62 + 1;
-      past : value_at least (take l.i l.runs) l.next ≡ least;
-      least : (t : ℕ) → l.tick ≤ t → t < l.next → value_at least l.runs t ≢ least;
+      past : value_at least (take l.i l.runs.items) l.next ≡ least;
+      least : (t : ℕ) → l.tick ≤ t → t < l.next → value_at least l.runs.items t ≢ least;
     }

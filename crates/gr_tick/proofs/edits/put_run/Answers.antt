@@ -10,12 +10,12 @@ absorb_after-longest-requires-clause-alone g c = alone_at_end _ _ _ c.absorb_bef
 
 pub returns-clause-runs : goal.returns-clause-runs
 returns-clause-runs g c =
-    rw (c.insert_run.ensures.items, c.absorb_after-longest.ensures.front)
+    rw (c.insert.ensures.items, c.absorb_after-longest.ensures.front)
     (put_runs _ _ _ c.absorb_before-place.result.1 _ c.absorb_before-place.ensures.runs c.absorb_after-longest.ensures.runs c.absorb_after-longest.ensures.first c.absorb_after-longest.ensures.value)
 
 pub returns-clause-values : goal.returns-clause-values
 returns-clause-values g c = λ t.
-    rw (c.insert_run.ensures.items, c.absorb_after-longest.ensures.front)
+    rw (c.insert.ensures.items, c.absorb_after-longest.ensures.front)
     (put_values _ (take c.args.i c.args.runs.now.items) _ (drop c.args.i c.args.runs.now.items) _ c.args.run c.absorb_before-place.result.1 _ c.absorb_before-place.ensures.values
     (λ d n. c.absorb_after-longest.ensures.values d n ∙ ap (λ zs. value_at d (c.absorb_before-place.result.1 ∷ zs) n) c.absorb_before-place.ensures.rest)
     c.requires.past t
@@ -25,7 +25,7 @@ pub returns-clause-room : goal.returns-clause-room
 returns-clause-room g c = λ last.
     omega (
       arith,
-      ap (room (c.args.run.last + 1) last) c.insert_run.ensures.items,
+      ap (room (c.args.run.last + 1) last) c.insert.ensures.items,
       put_room g.V.Lattice.least (c.args.run.last + 1) last (take c.absorb_before-place.result.0 c.absorb_before-place.new.runs.items) c.absorb_before-place.result.1 (c.absorb_after-longest.result ∷ drop c.absorb_before-place.result.0 c.absorb_after-longest.new.runs.items) c.absorb_before-place.ensures.runs (omega arith),
       ap (λ xs. room (c.args.run.last + 1) last (xs ++ c.absorb_after-longest.result ∷ drop c.absorb_before-place.result.0 c.absorb_after-longest.new.runs.items)) c.absorb_after-longest.ensures.front,
       ap (λ n. room (n + 1) last (c.absorb_after-longest.result ∷ drop c.absorb_before-place.result.0 c.absorb_after-longest.new.runs.items)) c.absorb_before-place.ensures.last,
@@ -38,7 +38,7 @@ pub returns-clause-later : goal.returns-clause-later
 returns-clause-later g c = λ f l lt le.
     omega (
       arith,
-      ap (runs_in f l) c.insert_run.ensures.items,
+      ap (runs_in f l) c.insert.ensures.items,
       ap (λ xs. runs_in f l (xs ++ c.absorb_after-longest.result ∷ drop c.absorb_before-place.result.0 c.absorb_after-longest.new.runs.items)) c.absorb_after-longest.ensures.front,
       put_later g.V.Lattice.least f l (take c.absorb_before-place.result.0 c.absorb_before-place.new.runs.items) c.absorb_before-place.result.1 (c.absorb_after-longest.result ∷ drop c.absorb_before-place.result.0 c.absorb_after-longest.new.runs.items) c.absorb_before-place.ensures.runs (omega (arith, c.absorb_before-place.ensures.first, c.requires.alone.ordered, lt)),
       c.absorb_after-longest.ensures.later f l (omega (arith, c.absorb_before-place.ensures.last, lt)) le,

@@ -3,8 +3,8 @@ use Rattle.gr_tick.specs.Stored.{needed}
 use Rattle.gr_tick.proofs.StepLemmas.{needed_more}
 use Rattle.gr_tick.proofs.edits.room_for.Goals as goal
 
-pub loop-other-preserved : goal.loop-other-preserved
-loop-other-preserved g c =
-    let more = needed_more c.args.runs.now c.args.others.now c.loop-other.other-index c.other-item.result (omega arith) c.other-item.is in
-    let so_far : c.loop-other.room ≡ needed c.args.runs.now (take c.loop-other.other-index c.args.others.now) = c.loop-other.invariant in
+pub loop-i-preserved : goal.loop-i-preserved
+loop-i-preserved g c =
+    let more = needed_more c.args.runs.now.items c.args.others.now.items c.loop-i.i c.get-other.result.now (omega arith) c.get-other.ensures in
+    let so_far : c.loop-i.room ≡ needed c.args.runs.now.items (take c.loop-i.i c.args.others.now.items) = c.loop-i.invariant in
     omega (arith, more, so_far, c.count_in.ensures, c.in_ok-more.ensures, c.in_ok-room.ensures)

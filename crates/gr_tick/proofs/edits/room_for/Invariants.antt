@@ -3,5 +3,5 @@ use Rattle.gr_tick.specs.Stored.{needed}
 use Rattle.gr_tick.proofs.edits.room_for.Given as goal
 
 -- the room for the runs so far
-abbrev pub invariant-loop-other : goal.invariant-loop-other
-invariant-loop-other g l = l.room ≡ needed l.runs (take l.other-index l.others)
+abbrev pub invariant-loop-i : goal.invariant-loop-i
+invariant-loop-i g l = l.room ≡ needed l.runs.items (take l.i l.others.items)

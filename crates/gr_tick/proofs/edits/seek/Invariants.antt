@@ -7,9 +7,9 @@ use Rattle.gr_tick.proofs.edits.seek.Given as goal
 abbrev pub invariant-loop-low : goal.invariant-loop-low
 invariant-loop-low g l = record {
   ordered : l.low ≤ l.high;
-  within : l.high ≤ length l.runs;
-  front : EndBefore (take l.low l.runs) l.tick;
-  here : (r : Run g.row.V.Denot) (rs : List (Run g.row.V.Denot)) → drop l.high l.runs ≡ r ∷ rs → l.tick ≤ r.last;
+  within : l.high ≤ length l.runs.items;
+  front : EndBefore (take l.low l.runs.items) l.tick;
+  here : (r : Run g.row.V.Denot) (rs : List (Run g.row.V.Denot)) → drop l.high l.runs.items ≡ r ∷ rs → l.tick ≤ r.last;
 }
 
 abbrev pub decreases-loop-low : goal.decreases-loop-low

@@ -14,21 +14,21 @@ loop-i-init g c = record {
 }
 
 pub push_cut-requires-clause-alone : goal.push_cut-requires-clause-alone
-push_cut-requires-clause-alone g c = read_alone g.V.Lattice.least c.args.runs.now c.loop-i.i c.index-runs-i.result (omega arith) c.index-runs-i.is c.requires.runs
+push_cut-requires-clause-alone g c = read_alone g.V.Lattice.least c.args.runs.now.items c.loop-i.i c.get-run.result.now (omega arith) c.get-run.ensures c.requires.runs
 
 pub push_cut-requires-clause-past : goal.push_cut-requires-clause-past
-push_cut-requires-clause-past g c = c.loop-i.invariant.past c.index-runs-i.result _ (drop_read c.args.runs.now c.loop-i.i c.index-runs-i.result (omega arith) c.index-runs-i.is)
+push_cut-requires-clause-past g c = c.loop-i.invariant.past c.get-run.result.now _ (drop_read c.args.runs.now.items c.loop-i.i c.get-run.result.now (omega arith) c.get-run.ensures)
 
 pub loop-i-preserved : goal.loop-i-preserved
 loop-i-preserved g c = record {
   upto = omega arith;
-  values = λ t. piece_more g.V.Lattice.least c.args.runs.now c.loop-i.i c.args.first c.args.last t c.index-runs-i.result _ _ c.index-runs-i.result.value (omega arith) c.index-runs-i.is c.requires.runs refl (c.loop-i.invariant.values t) (c.in_ok-push_cut.ensures.ok.values t);
-  past = λ s rest e. next_begins g.V.Lattice.least c.args.runs.now _ c.loop-i.i c.index-runs-i.result (omega arith) c.index-runs-i.is c.requires.runs c.in_ok-push_cut.ensures.past s rest e;
+  values = λ t. piece_more g.V.Lattice.least c.args.runs.now.items c.loop-i.i c.args.first c.args.last t c.get-run.result.now _ _ c.get-run.result.now.value (omega arith) c.get-run.ensures c.requires.runs refl (c.loop-i.invariant.values t) (c.in_ok-push_cut.ensures.ok.values t);
+  past = λ s rest e. next_begins g.V.Lattice.least c.args.runs.now.items _ c.loop-i.i c.get-run.result.now (omega arith) c.get-run.ensures c.requires.runs c.in_ok-push_cut.ensures.past s rest e;
 }
 
 pub returns : goal.returns
 returns g c = record {
   canonical = c.len.ensures.canonical;
   in_range = c.len.ensures.in_range;
-  values = λ t. c.loop-i.invariant.values t ∙ piece_whole g.V.Lattice.least c.args.runs.now c.loop-i.i c.begun_by-i-end.result c.args.first c.args.last t (omega arith) c.begun_by-i-end.ensures.ahead;
+  values = λ t. c.loop-i.invariant.values t ∙ piece_whole g.V.Lattice.least c.args.runs.now.items c.loop-i.i c.begun_by-i-end.result c.args.first c.args.last t (omega arith) c.begun_by-i-end.ensures.ahead;
 }

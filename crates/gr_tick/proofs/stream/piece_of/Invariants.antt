@@ -9,7 +9,7 @@ abbrev pub invariant-loop-i : goal.invariant-loop-i
 invariant-loop-i g l =
     let least = g.V.Lattice.least in
     record {
-      upto : l.i ≤ length l.runs;
-      values : (t : ℕ) → value_at least l.piece t ≡ cond (within l.first l.last t) (value_at least (take l.i l.runs) t) least;
-      past : (s : Run g.row.V.Denot) (rest : List (Run g.row.V.Denot)) → drop l.i l.runs ≡ s ∷ rest → EndBefore l.piece s.first;
+      upto : l.i ≤ length l.runs.items;
+      values : (t : ℕ) → value_at least l.piece t ≡ cond (within l.first l.last t) (value_at least (take l.i l.runs.items) t) least;
+      past : (s : Run g.row.V.Denot) (rest : List (Run g.row.V.Denot)) → drop l.i l.runs.items ≡ s ∷ rest → EndBefore l.piece s.first;
     }

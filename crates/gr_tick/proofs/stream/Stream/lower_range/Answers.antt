@@ -8,4 +8,4 @@ pub returns-clause-lowered : goal.returns-clause-lowered
 returns-clause-lowered g c =
     rw (← ap (λ k. k.runs) c.self.view_is)
     (RunsGive-in_range _ _ _ c.lower_over.ensures.runs
-    (λ t. c.lower_over.ensures.values t ∙ ap (λ zs. cond (within c.args.first c.args.last t) g.V.Lattice.least (value_at g.V.Lattice.least zs t)) c.reserve.ensures.items))
+    (λ t. c.lower_over.ensures.values t ∙ ap (λ zs. cond (within c.args.first c.args.last t) g.V.Lattice.least (value_at g.V.Lattice.least zs t)) c.reserve.ensures.kept))

@@ -4,4 +4,4 @@ use Rattle.gr_tick.proofs.stream.Stream.run.Goals as goal
 
 pub returns-clause-alone : goal.returns-clause-alone
 returns-clause-alone g c =
-    read_alone g.V.Lattice.least c.self.inside.runs.items c.args.i c.index.result.now (omega (arith, ap (λ k. length k.runs) c.self.view_is)) c.index.ensures c.self.invariant
+    read_alone g.V.Lattice.least c.self.inside.runs.items c.args.i c.get.result.now (omega (arith, ap (λ k. length k.runs) c.self.view_is)) c.get.ensures c.self.invariant
