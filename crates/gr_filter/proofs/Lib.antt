@@ -1,3 +1,11 @@
 pub mod Fronts
+pub mod Lexing
+pub mod Meanings
 pub mod Numbers
+pub mod Numerals
+pub mod OnlyWritten
 pub mod Parsing
+pub mod Pieces
+pub mod PrintedTests
+pub mod Quotes
+pub mod ReadsBack

@@ -3,7 +3,6 @@ use Rattle.std.specs.Prelude.{◌≡◌, ℕ, Result, Ok, Err}
 use Rattle.gr_filter.specs.declared.fault.FilterFault.{FilterFault}
 use Rattle.gr_filter.specs.declared.fault.FilterFault.TheVariants as fault
 use Rattle.gr_filter.specs.declared.node.Node.{Node}
-use Rattle.gr_filter.specs.declared.filter.Filter.{Filter}
 use Rattle.gr_filter.specs.Tree.{Tree, tree_of}
 
 abbrev pub Fails : {X : Type 0} → FilterFault → Result X FilterFault → Type 0
@@ -18,10 +17,6 @@ Gives view (Err e) read = Fails e read
 -- a node and the place behind it
 abbrev pub as_tree : Node × ℕ → Tree × ℕ
 as_tree r = (tree_of r.0, r.1)
-
--- a filter's tree
-abbrev pub filter_tree : Filter → Tree
-filter_tree f = tree_of f.root
 
 abbrev pub as_it_is : {X : Type 0} → X → X
 as_it_is x = x

@@ -6,3 +6,4 @@ pub mod Print
 pub mod Token
 pub mod Tree
 pub mod Truth
+pub mod Written

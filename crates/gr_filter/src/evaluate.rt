@@ -14,7 +14,7 @@ use std::cmp::Ordering;
 
 /// Whether the filter holds of the event; it matches where this is `True`. Takes no memory.
 pub fn truth(filter: &Filter, event: &Event) -> Kleene
-    ensures { result ≡ truth (tree_of filter.now.root) event.now }
+    ensures { result ≡ truth (tree_of filter.now) event.now }
 {
     truth_of(filter.root(), event)
 }

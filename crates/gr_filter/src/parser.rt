@@ -1,7 +1,7 @@
 //! Reading a filter.
 
 ghost use Rattle.std.specs.Prelude.{◌≡◌, ◌≤◌, ◌++◌, ◌∷◌, [], Ok, IfOk, length, slice_range};
-ghost use Rattle.gr_filter.specs.Gives.{Gives, as_it_is, as_tree, filter_tree};
+ghost use Rattle.gr_filter.specs.Gives.{Gives, as_it_is, as_tree};
 ghost use Rattle.gr_filter.specs.Tree.{tree_of, both, either};
 ghost use Rattle.gr_filter.specs.Grammar.{misfit, literal_at, operand_at, text_of, open_at, close_at, and_word_at, null_at, pattern_at, between_at, literals_at, one_of_at, like_at, null_test_at, alone_at, negated_at, tail_at, test_at, not_at, and_at, or_at, filter_text};
 
@@ -20,7 +20,7 @@ const LEVELS: u8 = 64;
 /// each with its place.
 #[tactic(auto, unfolding(crate::specs::Grammar::filter_text))]
 pub fn parse(alloc: Global, text: &[u8]) -> Result<Filter, FilterFault>
-    ensures { Gives filter_tree result (filter_text text.now) }
+    ensures { Gives tree_of result (filter_text text.now) }
 {
     if text.len() > 4096 {
         return Err(FilterFault::TooLong);

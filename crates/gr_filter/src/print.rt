@@ -1,7 +1,9 @@
 //! The printed form of a filter.
 
-ghost use Rattle.std.specs.Prelude.{◌≡◌, ◌++◌, IfOk, OnOk};
+ghost use Rattle.std.specs.Prelude.{◌≡◌, ◌++◌, ◌≤◌, Ok, length, IfOk, OnOk};
+ghost use Rattle.gr_filter.specs.Grammar.{filter_text};
 ghost use Rattle.gr_filter.specs.Tree.{tree_of};
+ghost use Rattle.gr_filter.specs.Written.{depth};
 ghost use Rattle.gr_filter.specs.Print.{sign_text, doubled, quoted, operand_text, more_text, literals_text, not_text, tree_text};
 
 use crate::fault::Memory;
@@ -10,9 +12,12 @@ use crate::node::{Node, Operand, Sign};
 use gr_event::Text;
 use std::alloc::Global;
 
-/// The filter's text, with all parentheses: it reads as the filter again, within the limits.
+/// The filter's text, with all parentheses.
+///
+/// Where it has at most 4,096 bytes and nests at most 64 deep, it reads as the filter again.
 pub fn text(alloc: Global, filter: &Filter) -> Result<Text, Memory>
-    ensures { IfOk result (λ t. t ≡ tree_text (tree_of filter.now.root)) }
+    ensures text { IfOk result (λ t. t ≡ tree_text (tree_of filter.now)) }
+    ensures reads_back { IfOk result (λ t. length t ≤ 4096 → depth (tree_of filter.now) ≤ 64 → filter_text t ≡ Ok (tree_of filter.now)) }
 {
     let mut out = Text::new(alloc);
     put_node(alloc, &mut out, filter.root())?;
