@@ -5,7 +5,9 @@ pub mod fault;
 mod field;
 mod laws;
 mod reading;
-pub mod value;
+#[cfg(test)]
+mod tests;
+mod value;
 mod writing;
 
 pub use fault::{FrameFault, FrameKind};
