@@ -1,9 +1,28 @@
 //! Frames: what brokers send to each other.
 #![tactic(auto)]
 
+pub mod fault;
+mod field;
+mod laws;
+mod reading;
+#[cfg(test)]
+mod tests;
+mod value;
+mod writing;
+
+pub use fault::{FrameFault, FrameKind};
 use gr_curio::Q3;
 use gr_know::K;
 use gr_tick::Piece;
+pub use laws::{
+    bytes_spell_one_frame, cut_loses_nothing, decodes_what_is_spelled, one_frame_is_not_cut,
+    spells_no_prefix,
+};
+pub use reading::decode;
+pub use writing::{Frames, encode};
+
+/// How many bytes a frame has at most.
+pub const MAX_BYTES: usize = 16_384;
 
 /// Who sends a frame to whom, and of which publisher it speaks, each by number.
 #[derive(Clone, Copy, Debug, PartialEq, Eq)]

@@ -1,0 +1,7 @@
+pub mod Cutting
+pub mod Events
+pub mod Fields
+pub mod Forms
+pub mod Loop
+pub mod Spelled
+pub mod Told

@@ -1,0 +1,16 @@
+use Rattle.std.proofs.Common.{◌≡◌, ◌≤◌, ◌-◌, ◌++◌, length, drop, take, map}
+use Rattle.std.specs.List.{AllByRecursion}
+use Rattle.gr_frame.specs.Bytes.{head_bytes, runs_bytes, cut_frames}
+use Rattle.gr_frame.specs.Decode.{kind_number}
+use Rattle.gr_frame.proofs.writing.cut.Given as goal
+
+abbrev pub invariant-parts : goal.invariant-parts
+invariant-parts g l = record {
+  within : l.start ≤ length l.piece;
+  made : l.frames ++ map (λ part. head_bytes (kind_number l.fn.kind) l.fn.head (length part) ++ runs_bytes g.V.FrameValue.form.bytes part) (cut_frames g.V.FrameValue.form.size (drop l.start l.piece))
+      ≡ map (λ part. head_bytes (kind_number l.fn.kind) l.fn.head (length part) ++ runs_bytes g.V.FrameValue.form.bytes part) (cut_frames g.V.FrameValue.form.size l.piece);
+  each : AllByRecursion (λ r. g.V.FrameValue.fits r.value) (take l.start l.piece);
+}
+
+abbrev pub decreases-parts : goal.decreases-parts
+decreases-parts g l = length l.piece - l.start

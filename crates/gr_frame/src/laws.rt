@@ -1,0 +1,42 @@
+//! Laws of the format: each is the contract of a function that does nothing.
+
+ghost use Rattle.std.specs.Prelude.{◌≡◌, ◌≢◌, ◌↔◌, ◌≤◌, ◌∷◌, ◌++◌, [], ℕ, List, Ok, length};
+ghost use Rattle.std.specs.List.{AllByRecursion};
+ghost use Rattle.gr_tick.specs.declared.run.Run.{Run};
+ghost use Rattle.gr_know.specs.declared.values.K.{K};
+ghost use Rattle.gr_curio.specs.declared.values.Q3.{Q3};
+ghost use Rattle.gr_frame.specs.declared.Frame.{Frame};
+ghost use Rattle.gr_frame.specs.Bytes.{frame_bytes, cut_frames, known_run_size, wanted_run_size};
+ghost use Rattle.gr_frame.specs.Cut.{parts_of, joined};
+ghost use Rattle.gr_frame.specs.Decode.{frame_decoded};
+ghost use Rattle.gr_frame.specs.Limits.{IsFrame, IsWhole};
+
+/// Reading gives a frame exactly where the bytes spell it.
+pub fn decodes_what_is_spelled(bytes: &[u8])
+    ensures { (f : Frame) → (frame_decoded bytes.now ≡ Ok f) ↔ IsFrame bytes.now f }
+{
+    let _ = bytes;
+}
+
+/// Bytes spell one frame alone, and a frame has one spelling.
+pub fn bytes_spell_one_frame()
+    ensures frame { (bytes : List ℕ) (f g : Frame) → IsFrame bytes f → IsFrame bytes g → f ≡ g }
+    ensures spelling { (a b : List ℕ) (f : Frame) → IsFrame a f → IsFrame b f → a ≡ b }
+{}
+
+/// No spelling of a frame is a proper prefix of another.
+pub fn spells_no_prefix()
+    ensures { (bytes rest : List ℕ) (f g : Frame) → IsFrame bytes f → IsFrame (bytes ++ rest) g → rest ≡ [] }
+{}
+
+/// The frames of a frame all have its head, and the runs of its piece one after another.
+pub fn cut_loses_nothing()
+    ensures heads { (f : Frame) → AllByRecursion (λ p. p.head ≡ f.head) (parts_of f) }
+    ensures known { (rs : List (Run K)) → joined (cut_frames known_run_size rs) ≡ rs }
+    ensures wanted { (rs : List (Run Q3)) → joined (cut_frames wanted_run_size rs) ≡ rs }
+{}
+
+/// Only a frame that is too long is cut.
+pub fn one_frame_is_not_cut()
+    ensures { (bytes : List ℕ) (f : Frame) → IsFrame bytes f → parts_of f ≡ f ∷ [] }
+{}
