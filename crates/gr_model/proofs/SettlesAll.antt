@@ -27,7 +27,7 @@ use Rattle.gr_model.proofs.Ordering.{sweep_orders}
 use Rattle.gr_model.proofs.SweepStates.{Calm, second_phase}
 use Rattle.gr_model.proofs.ThirdPhase.{Still, third_phase_cuts}
 use Rattle.gr_model.proofs.Rounds.{stands, stands_numbers}
-use Rattle.gr_model.proofs.SweepCalls.{Grows, grows_long, all_made_grows, sweep_for_are, sweeps_are, sweep_is_calls}
+use Rattle.gr_model.proofs.SweepCalls.{Grows, grows_long, all_made_grows, sweep_for_are, sweeps_are, sweep_is_calls, sweep_sent}
 use Rattle.gr_model.proofs.SweepNumbers.{count, count-append, sent_split, sent_none, sent_once, sent_never, sent_not_before}
 use Rattle.gr_model.proofs.SweepOnce.{is_due, in_turn_grows, sweep_for_once}
 
@@ -192,6 +192,7 @@ settles_where_calm net w k before n z r f lf of ok calm = record {
   settled = settled;
   cut = cut;
   calls = sweep_is_calls net w k ok;
+  sent = sweep_sent net w;
   once = λ i x l e d. counted i ∙ sent_once (length w.frames) i is_due v x l (ap (λ t. frame_at t.world i) (sym is) ∙ e) (not_expect x d);
   none_before = λ i l. counted i ∙ sent_not_before (length w.frames) i is_due v l;
   no_expect = λ i x e d. elim (cases_lt (length w.frames) i) [

@@ -8,7 +8,7 @@ use Rattle.gr_model.specs.declared.report.Report.TheVariants as line
 use Rattle.gr_model.specs.Net.{Net, numbers}
 use Rattle.gr_model.specs.Broker.{Outcome, max_tick, wake, receive}
 use Rattle.gr_model.specs.World.{World, Told, view_of, log_of, absorbed, unchanged, after, in_turn, wake_for, deliver_frame, frame_at, frames_past, sent_since, is_want, is_know_to, deliver_up, wake_up, hand_down, sweep_for, inwards, outwards, sweep_moment, sweep}
-use Rattle.gr_model.specs.Settles.{Call, wakes, delivers, made, all_made, numbers_of, sent_past, calls_in_turn, up_calls, wake_calls, down_calls, sweep_calls_for, at_sweep, sweep_calls}
+use Rattle.gr_model.specs.Settles.{Call, wakes, delivers, made, EachSent, all_made, numbers_of, sent_past, calls_in_turn, up_calls, wake_calls, down_calls, sweep_calls_for, at_sweep, sweep_calls}
 
 -- Frames are only added
 
@@ -225,3 +225,69 @@ sweep_is_calls net w k ok = go (nat_lt max_tick (sweep_moment net w)) ok
     go : (q : Bool) → q ≡ false → (let t : Told = elim q [ true ↦ unchanged w (line.RefusedClock k (sweep_moment net w) ∷ []) | false ↦ after swept (λ x. unchanged x (line.Swept (sweep_moment net w) ∷ [])) ] in t) ≡ after (all_made net (calls_in_turn net (sweep_calls_for net) (numbers net.publishers) (at_sweep net w)) (at_sweep net w)) (λ x. unchanged x (line.Swept (sweep_moment net w) ∷ []))
     go true e = absurd (true≢false e)
     go false e = ap (λ (t : Told). after t (λ x. unchanged x (line.Swept (sweep_moment net w) ∷ []))) (sym (sweeps_are net (numbers net.publishers) (at_sweep net w)))
+
+-- Each frame is there when it is delivered
+
+sent_append : (net : Net) (xs ys : List Call) (w : World) → EachSent net xs w → EachSent net ys (all_made net xs w).world → EachSent net (xs ++ ys) w
+sent_append net [] ys w a b = b
+sent_append net (x ∷ xs) ys w a b = (a.0, sent_append net xs ys (made net w x).world a.1 b)
+
+calls_sent : {X Y : Type 0} (net : Net) (R : World → X → Y → Type 0) (g : World → X → List Call) → ((w u : World) (x : X) (y : Y) → Grows w u → R w x y → R u x y) → ((w : World) (x : X) (y : Y) → R w x y → EachSent net (g w x) w) → (xs : List X) (ys : List Y) (w : World) → Pairs (R w) xs ys → EachSent net (calls_in_turn net g xs w) w
+calls_sent net R g stays one [] ys w a = tt
+calls_sent net R g stays one (x ∷ xs) [] w a = absurd a
+calls_sent {X} {Y} net R g stays one (x ∷ xs) (y ∷ ys) w a =
+    let u = (all_made net (g w x) w).world in
+    sent_append net (g w x) (calls_in_turn net g xs u) w (one w x y a.0) (calls_sent net R g stays one xs ys u (on xs ys a.1))
+  where
+    on : (xs : List X) (ys : List Y) → Pairs (R w) xs ys → Pairs (R (all_made net (g w x) w).world) xs ys
+    on [] [] b = tt
+    on [] (v ∷ vs) b = absurd b
+    on (u ∷ us) [] b = absurd b
+    on (u ∷ us) (v ∷ vs) b = (stays w (all_made net (g w x) w).world u v (all_made_grows net (g w x) w) b.0, on us vs b.1)
+
+up_sent : (net : Net) (fuel : ℕ) (ks : List ℕ) (fs : List Frame) (w : World) → Pairs (IsAt w) ks fs → EachSent net (up_calls net fuel ks w) w
+unfolding up_calls
+up_sent net zero ks fs w a = tt
+up_sent net (suc fuel) ks fs w a = calls_sent net (λ u k f. IsAt u k f) (λ u k. let x = (made net u (delivers k)).world in delivers k ∷ up_calls net fuel (sent_past is_want (length u.frames) x) x)
+    (λ u v k f g e. at_stays u v k f g e)
+    (λ u k f e. let x = (made net u (delivers k)).world in (
+      (f, e),
+      up_sent net fuel (sent_past is_want (length u.frames) x) (filter is_want (frames_past (length u.frames) x.frames)) x (sent_at is_want (length u.frames) x (grows_long u x (length u.frames) (made_grows net u (delivers k)) (omega arith))),
+    ))
+    ks fs w a
+
+wakes_sent : (net : Net) (p : ℕ) (w : World) (b : ℕ) → EachSent net (wake_calls net p w b) w
+unfolding wake_calls
+wakes_sent net p w b = let x = (wake_for net w b p).world in (tt, up_sent net net.brokers (sent_past is_want (length w.frames) x) (filter is_want (frames_past (length w.frames) x.frames)) x (sent_at is_want (length w.frames) x (grows_long w x (length w.frames) (wake_grows net w b p) (omega arith))))
+
+deliveries_sent : (net : Net) (ks : List ℕ) (fs : List Frame) (w : World) → Pairs (IsAt w) ks fs → EachSent net (map delivers ks) w
+deliveries_sent net [] fs w a = tt
+deliveries_sent net (k ∷ ks) [] w a = absurd a
+deliveries_sent net (k ∷ ks) (f ∷ fs) w a = let x = (made net w (delivers k)).world in ((f, a.0), deliveries_sent net ks fs x (pairs_stay w x ks fs (made_grows net w (delivers k)) a.1))
+
+downs_sent : (net : Net) (p first : ℕ) (w : World) (b : ℕ) → first ≤ length w.frames → EachSent net (down_calls net p first w b) w
+unfolding down_calls
+downs_sent net p first w b l = deliveries_sent net (sent_past (is_know_to p b) first w) (filter (is_know_to p b) (frames_past first w.frames)) w (sent_at (is_know_to p b) first w l)
+
+wake_turns_sent : (net : Net) (p : ℕ) (bs : List ℕ) (w : World) → EachSent net (calls_in_turn net (wake_calls net p) bs w) w
+wake_turns_sent net p bs w = calls_sent net (λ u x y. x ≡ y) (wake_calls net p) (λ u v x y g e. e) (λ u x y e. wakes_sent net p u x) bs bs w (pairs_same (λ x y. x ≡ y) bs (λ x. refl))
+
+down_turns_sent : (net : Net) (p first : ℕ) (bs : List ℕ) (w : World) → first ≤ length w.frames → EachSent net (calls_in_turn net (down_calls net p first) bs w) w
+down_turns_sent net p first bs w l = calls_sent net (λ u x y. first ≤ length u.frames) (down_calls net p first) (λ u v x y g e. grows_long u v first g e) (λ u x y e. downs_sent net p first u x e) bs bs w (pairs_same (λ x y. first ≤ length w.frames) bs (λ x. l))
+
+sweep_for_sent : (net : Net) (w : World) (p : ℕ) → EachSent net (sweep_calls_for net w p) w
+unfolding sweep_calls_for
+sweep_for_sent net w p =
+    let first = length w.frames in
+    let a = calls_in_turn net (wake_calls net p) (inwards net p) w in
+    let x = (all_made net a w).world in
+    let b = calls_in_turn net (down_calls net p first) (outwards net p) x in
+    let y = (all_made net b x).world in
+    let c = calls_in_turn net (wake_calls net p) (inwards net p) y in
+    sent_append net (a ++ b) c w (sent_append net a b w (wake_turns_sent net p (inwards net p) w) (down_turns_sent net p first (outwards net p) x (grows_long w x first (all_made_grows net a w) (omega arith))))
+    (subst (λ u. EachSent net c u) (sym (ap (λ t. t.world) (all_made-append net a b w))) (wake_turns_sent net p (inwards net p) y))
+
+-- each frame that a sweep delivers was sent before
+pub sweep_sent : (net : Net) (w : World) → EachSent net (sweep_calls net w) (at_sweep net w)
+unfolding sweep_calls
+sweep_sent net w = calls_sent net (λ u x y. x ≡ y) (sweep_calls_for net) (λ u v x y g e. e) (λ u x y e. sweep_for_sent net u x) (numbers net.publishers) (numbers net.publishers) (at_sweep net w) (pairs_same (λ x y. x ≡ y) (numbers net.publishers) (λ x. refl))

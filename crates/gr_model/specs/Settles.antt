@@ -23,6 +23,16 @@ made net w (delivers k) = elim (frame_at w k) [ None ↦ unchanged w [] | Some f
 abbrev pub all_made : Net → List Call → World → Told
 all_made net cs w = in_turn (made net) cs w
 
+-- a frame that is delivered was sent before
+abbrev pub WasSent : World → Call → Type 0
+WasSent w (wakes b p) = Unit {0}
+WasSent w (delivers k) = (f : Frame) × (frame_at w k ≡ Some f)
+
+-- so it is of each call of a list
+abbrev pub EachSent : Net → List Call → World → Type 0
+EachSent net [] w = Unit {0}
+EachSent net (c ∷ cs) w = WasSent w c × EachSent net cs (made net w c).world
+
 -- the numbers of the frames that pass a test, where the first has number n
 abbrev pub numbers_of : (Frame → Bool) → ℕ → List Frame → List ℕ
 numbers_of test n [] = []
@@ -88,8 +98,9 @@ pub record SweepSettles (net : Net) (w : World) (k : ℕ) : Type 0 where
   pub horizons : (p b : ℕ) → p < net.publishers → b < net.brokers → keeps_horizon net p b ≡ true → (view_of (sweep net w k).world b p).horizon ≡ sweep_moment net w
   pub settled : (p : ℕ) → p < net.publishers → (log_of (sweep net w k).world p).settled ≡ sweep_moment net w
   pub cut : (p : ℕ) → p < net.publishers → (log_of (sweep net w k).world p).cut ≡ sweep_moment net w
-  -- it is these calls, and each frame that it sends but an Expect is delivered by exactly one of them
+  -- it is these calls, each frame is there when it is delivered, and each one that the sweep sends but an Expect is delivered by exactly one of them
   pub calls : sweep net w k ≡ after (all_made net (sweep_calls net w) (at_sweep net w)) (λ x. unchanged x (line.Swept (sweep_moment net w) ∷ []))
+  pub sent : EachSent net (sweep_calls net w) (at_sweep net w)
   pub once : (n : ℕ) (f : Frame) → length w.frames < n → frame_at (sweep net w k).world n ≡ Some f → is_expect f ≡ false → times n (delivered (sweep_calls net w)) ≡ 1
   -- nothing else is delivered in it: no frame of before, and no Expect
   pub none_before : (n : ℕ) → n ≤ length w.frames → times n (delivered (sweep_calls net w)) ≡ 0
