@@ -1,4 +1,4 @@
-pub mod Fronts
+pub mod FirstFit
 pub mod Lexing
 pub mod Meanings
 pub mod Numbers

@@ -19,7 +19,7 @@ static EVENTS: [&str; 12] = [
 ];
 
 // The truth of each filter on each of the events: T true, F false, U unknown. Worked out by hand.
-static TRUTHS: [(&str, &str); 71] = [
+static TRUTHS: [(&str, &str); 75] = [
     ("price > 80", "UTFFTUFUFTUU"),
     ("price >= 80", "UTTFTUFUFTUU"),
     ("price < 80", "UFFTFUFUTFUU"),
@@ -57,6 +57,10 @@ static TRUTHS: [(&str, &str); 71] = [
     ("sym LIKE '%M'", "UUUTTFUUUTFF"),
     ("sym LIKE 'I_M'", "UUUTTFUUUTFF"),
     ("sym LIKE '%P%'", "UUUFFTUUUFFF"),
+    ("sym LIKE 'I%M%'", "UUUTTFUUUTFF"),
+    ("sym LIKE '%_I%'", "UUUFFFUUUFFF"),
+    ("sym LIKE '%_n%t'", "UUUFFFUUUFTF"),
+    ("sym LIKE '%%'", "UUUTTTUUUTTT"),
     ("sym LIKE 'ibm'", "UUUFFFUUUFFF"),
     ("sym NOT LIKE 'I%'", "UUUFFTUUUFTT"),
     ("NOT sym LIKE 'I%'", "UUUFFTUUUFTT"),
@@ -118,6 +122,31 @@ fn judges_events(rt: HostRuntime) -> Result<(), Fail> {
         let found = letters(rt.alloc(), written)?;
         assert_eq!(rt; found.as_slice(), wanted.as_bytes(), "{written}");
     }
+    Ok(())
+}
+
+/// The truth of `sym LIKE` a pattern of thirty times `%a` and an end, where `sym` is a thousand times `a`.
+fn long_like(alloc: Global, end: &[u8]) -> Result<Kleene, Fail> {
+    let mut written = Text::from_slice(alloc, b"sym LIKE '")?;
+    for _ in 0..30 {
+        written.append(b"%a")?;
+    }
+    written.append(end)?;
+    let mut json = Text::from_slice(alloc, b"{\"sym\":\"")?;
+    for _ in 0..1000 {
+        json.push(b'a')?;
+    }
+    json.append(b"\"}")?;
+    let filter = parse(alloc, written.as_slice())?;
+    let event = Event::from_text(alloc, json.as_slice())?;
+    Ok(truth(&filter, &event))
+}
+
+// A search that tries each choice again does not end within the time of a test.
+#[test]
+fn takes_no_choice_back(rt: HostRuntime) -> Result<(), Fail> {
+    assert_eq!(rt; long_like(rt.alloc(), b"%a'")?, Kleene::True);
+    assert_eq!(rt; long_like(rt.alloc(), b"%b'")?, Kleene::False);
     Ok(())
 }
 
