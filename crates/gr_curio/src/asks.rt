@@ -13,10 +13,12 @@ use gr_tick::{Lattice, MAX_TICK, Piece, Run, Stream, is_bottom};
 use std::alloc::{AllocError, Global};
 use std::marker::Model;
 
-/// When a tick was last asked.
+/// When a tick was last asked: never, or at a moment in milliseconds. The join is the later one.
 #[derive(Clone, Copy, Debug, PartialEq, Eq)]
 pub enum Moment {
+    /// It was not asked.
     Never,
+    /// It was last asked at this moment.
     At(u64),
 }
 
@@ -62,7 +64,7 @@ impl Lattice for Moment {
     }
 }
 
-/// When each tick was last asked.
+/// When a broker last asked each tick upstream, for one publisher, seen as its list of runs.
 #[derive(Drop)]
 pub struct Asks {
     alloc: Global,
@@ -80,7 +82,7 @@ impl Model for Asks {
 }
 
 impl Asks {
-    /// Nothing was asked.
+    /// Nothing was asked. It takes no memory.
     pub fn new(alloc: Global) -> Asks
         ensures { result ≡ [] }
     {
@@ -90,7 +92,7 @@ impl Asks {
         }
     }
 
-    /// An equal object, or `Memory`.
+    /// An equal object. It fails only where memory is refused.
     pub fn copy(&self) -> Result<Asks, AllocError>
         ensures { IfOk result (λ asks. asks ≡ self.now) }
     {
@@ -110,7 +112,7 @@ impl Asks {
         self.moments.len()
     }
 
-    /// The run at a place.
+    /// The run at place `i`, from 0.
     pub fn run(&self, i: usize) -> &Run<Moment>
         requires { i < length self.now }
         ensures run { slice_get self.now i ≡ Some result.now }
@@ -119,14 +121,15 @@ impl Asks {
         self.moments.run(i)
     }
 
-    /// The wanted ticks whose last ask is not outstanding: it was made after `now`, or `retry` milliseconds or more before it.
+    /// The ticks that `wanted` asks and whose last ask is not outstanding at `now`. An ask is outstanding from its moment on, for
+    /// `retry` milliseconds. All moments are milliseconds. It fails only where memory is refused.
     pub fn due(&self, wanted: &Piece<Q3>, now: u64, retry: u64) -> Result<Piece<Q3>, AllocError>
         ensures { IfOk result (λ piece. RunsGive N piece (λ t. due_of (asked_at self.now t) (wanted_at wanted.now t) now retry)) }
     {
         due_piece(self.alloc, &self.moments, wanted, now, retry)
     }
 
-    /// Notes that the ticks that a piece asks were asked now. `Memory` leaves all as it was.
+    /// Notes that the ticks that a piece asks were asked at `now`. It fails only where memory is refused; then all is as it was.
     pub fn asked(&mut self, piece: &Piece<Q3>, now: u64) -> Result<(), AllocError>
         ensures asked { OnOk result (RunsGive Never self.new (λ t. noted_of now (asked_at self.old t) (wanted_at piece.now t))) }
         ensures err { OnErr result (self.new ≡ self.old) }

@@ -3,11 +3,15 @@ ghost use Rattle.gr_curio.specs.declared.values.Q3.TheVariants.{N};
 
 use gr_tick::Lattice;
 
-/// Nothing asked, asked, acknowledged.
+/// What a neighbour wants to know of a tick of one publisher. Nothing asked is below asked, and that is below acknowledged; the
+/// join is the greater one.
 #[derive(Clone, Copy, Debug, PartialEq, Eq)]
 pub enum Q3 {
+    /// Nothing is asked.
     N,
+    /// The tick is asked.
     C,
+    /// The tick is acknowledged: it was heard, and is not asked again.
     A,
 }
 

@@ -17,7 +17,8 @@ use gr_tick::{Piece, Run, Stream};
 use std::alloc::{AllocError, Global};
 use std::marker::Model;
 
-/// The curiosity of each child, seen as its list of runs for each.
+/// What each child of a broker asks and has acknowledged, for one publisher. The children are numbered from 0. It is seen as the
+/// list of each child's runs.
 #[derive(Drop)]
 pub struct Wants {
     children: Vec<Stream<Q3>>,
@@ -35,7 +36,7 @@ impl Model for Wants {
 }
 
 impl Wants {
-    /// A number of children that ask and acknowledge nothing, or `Memory`.
+    /// So many children that ask and acknowledge nothing. It fails only where memory is refused.
     pub fn new(alloc: Global, children: usize) -> Result<Wants, AllocError>
         ensures { IfOk result (λ wants. wants ≡ replicate children []) }
     {
@@ -43,7 +44,7 @@ impl Wants {
         Ok(Wants { children })
     }
 
-    /// An equal object, or `Memory`.
+    /// An equal object. It fails only where memory is refused.
     pub fn copy(&self) -> Result<Wants, AllocError>
         ensures { IfOk result (λ wants. wants ≡ self.now) }
     {
@@ -68,7 +69,7 @@ impl Wants {
         self.children[child].len()
     }
 
-    /// A child's run at a place.
+    /// A child's run at place `i`, from 0.
     pub fn run(&self, child: usize, i: usize) -> &Run<Q3>
         requires child { child < length self.now }
         requires place { i < length (wants_of self.now child) }
@@ -78,7 +79,7 @@ impl Wants {
         self.children[child].run(i)
     }
 
-    /// A child's value at a tick.
+    /// A child's value at a tick. It takes no memory.
     pub fn at(&self, child: usize, tick: u64) -> Q3
         requires { child < length self.now }
         ensures { result ≡ wanted_at (wants_of self.now child) tick }
@@ -86,7 +87,8 @@ impl Wants {
         self.children[child].at(tick)
     }
 
-    /// Joins a piece to a child's curiosity. `Memory` leaves all as it was.
+    /// Joins a piece to a child's curiosity, and leaves that of the others. It fails only where memory is refused; then all is as
+    /// it was.
     pub fn raise(&mut self, child: usize, piece: &Piece<Q3>) -> Result<(), AllocError>
         requires { child < length self.old }
         ensures raised { OnOk result (RunsGive N (wants_of self.new child) (λ t. greater_of (wanted_at (wants_of self.old child) t) (wanted_at piece.now t))) }
@@ -98,7 +100,8 @@ impl Wants {
         Ok(())
     }
 
-    /// Asks no more at the ticks of a range for a child. `Memory` leaves all as it was.
+    /// Where a child asked for ticks of the range, it asks nothing now; what it has acknowledged stays, and so do the others. It
+    /// fails only where memory is refused; then all is as it was.
     pub fn answered(&mut self, child: usize, first: u64, last: u64) -> Result<(), AllocError>
         requires child { child < length self.old }
         requires from_one { 1 ≤ first }
@@ -114,7 +117,7 @@ impl Wants {
         Ok(())
     }
 
-    /// The runs of a child in a range, cut at its ends, or `Memory`.
+    /// A child's runs in the range, cut at its ends. It fails only where memory is refused.
     pub fn piece(&self, child: usize, first: u64, last: u64) -> Result<Piece<Q3>, AllocError>
         requires child { child < length self.now }
         requires from_one { 1 ≤ first }
@@ -125,7 +128,7 @@ impl Wants {
         self.children[child].piece(first, last)
     }
 
-    /// Whether a child has acknowledged each tick from 1 to `upto`.
+    /// Whether a child has acknowledged each tick from 1 to `upto`; for 0 it has. It takes no memory.
     pub fn covers(&self, child: usize, upto: u64) -> bool
         requires { child < length self.now }
         ensures { IsTrue result ↔ ((t : ℕ) → 1 ≤ t → t ≤ upto → is_A (wanted_at (wants_of self.now child) t) ≡ true) }
@@ -133,7 +136,8 @@ impl Wants {
         covers_upto(&self.children[child], upto)
     }
 
-    /// Acknowledged at the ticks that every child has acknowledged, and that the horizon, if one is kept, has come to.
+    /// Acknowledged at the ticks that every child has acknowledged, and that the horizon, if one is kept, has come to: what a
+    /// broker may acknowledge upstream. There has to be a child or a horizon. It fails only where memory is refused.
     pub fn consolidate(&self, horizon: Option<u64>) -> Result<Piece<Q3>, AllocError>
         requires some { ForNone horizon (0 < length self.now) }
         requires upto { ForSome horizon (λ h. h ≤ 2 ^ 62) }
@@ -142,7 +146,7 @@ impl Wants {
         consolidated_piece(*self.children.allocator(), &self.children, horizon)
     }
 
-    /// Asked at the ticks that some child asks.
+    /// Asked at the ticks that some child asks. It fails only where memory is refused.
     pub fn curious(&self) -> Result<Piece<Q3>, AllocError>
         ensures { IfOk result (λ piece. RunsGive N piece (λ t. if any_C self.now t then C else N)) }
     {

@@ -11,15 +11,18 @@ use gr_tick::{Lattice, MAX_TICK, Piece, Run, Stream, is_bottom};
 use std::alloc::{AllocError, Global};
 use std::marker::Model;
 
-/// A tick where what came does not go with what is kept.
+/// A tick where what came does not go with what is kept: silence against an event, or two events.
 #[derive(Drop)]
 pub struct Clash {
+    /// The tick.
     pub tick: u64,
+    /// What is known of it.
     pub kept: K,
+    /// What came.
     pub came: K,
 }
 
-/// What is known of each tick, seen as its list of runs.
+/// What a broker knows of each tick of one publisher, seen as its list of runs.
 #[derive(Drop)]
 pub struct Know {
     alloc: Global,
@@ -37,7 +40,7 @@ impl Model for Know {
 }
 
 impl Know {
-    /// Nothing is known of any tick.
+    /// Nothing is known of any tick. It takes no memory.
     pub fn new(alloc: Global) -> Know
         ensures { result ≡ [] }
     {
@@ -47,7 +50,7 @@ impl Know {
         }
     }
 
-    /// An equal object, or `Memory`.
+    /// An equal object. It fails only where memory is refused.
     pub fn copy(&self) -> Result<Know, AllocError>
         ensures { IfOk result (λ know. know ≡ self.now) }
     {
@@ -67,7 +70,7 @@ impl Know {
         self.stream.len()
     }
 
-    /// The run at a place.
+    /// The run at place `i`, from 0.
     pub fn run(&self, i: usize) -> &Run<K>
         requires { i < length self.now }
         ensures run { slice_get self.now i ≡ Some result.now }
@@ -76,14 +79,14 @@ impl Know {
         self.stream.run(i)
     }
 
-    /// The value at a tick.
+    /// What is known of a tick. It takes no memory.
     pub fn at(&self, tick: u64) -> K
         ensures { result ≡ known_at self.now tick }
     {
         self.stream.at(tick)
     }
 
-    /// The greatest known tick, or 0.
+    /// The greatest known tick, or 0 where nothing is known. It takes no memory.
     pub fn top(&self) -> u64
         ensures top { result ≡ top_of self.now }
         ensures inside { result ≤ 2 ^ 62 }
@@ -91,7 +94,8 @@ impl Know {
         self.stream.top()
     }
 
-    /// The greatest tick up to which, from the horizon on, nothing is unknown.
+    /// The greatest tick up to which, from the one after the horizon on, nothing is unknown: where a horizon moves to. It takes no
+    /// memory.
     pub fn horizon_from(&self, horizon: u64) -> u64
         requires { horizon ≤ 2 ^ 62 }
         ensures horizon { result ≡ first_bottom_from self.now (suc horizon) - 1 }
@@ -103,15 +107,15 @@ impl Know {
         self.stream.first_bottom_from(horizon + 1) - 1
     }
 
-    /// The least clashing tick.
+    /// The least tick at which the piece clashes with what is known, if there is one. It takes no memory.
     pub fn clash(&self, piece: &Piece<K>) -> Option<Clash>
         ensures { MatchOption result ((t : ℕ) → clash_K (known_at self.now t) (known_at piece.now t) ≡ false) (λ c. IsLeastClash (known_at self.now) (known_at piece.now) c.tick c.kept c.came) }
     {
         find_clash(&self.stream, piece)
     }
 
-    /// Joins a piece, and answers what is new of it: its values at the ticks that were unknown.
-    /// `Memory` leaves the knowledge as it was.
+    /// Joins a piece, and answers what is new of it: its values at exactly the ticks that were unknown. It fails only where memory
+    /// is refused; then the knowledge is as it was.
     pub fn learn(&mut self, piece: &Piece<K>) -> Result<Piece<K>, AllocError>
         ensures fresh { IfOk result (λ fresh. RunsGive Q fresh (λ t. new_K (known_at self.old t) (known_at piece.now t))) }
         ensures joined { OnOk result (RunsGive Q self.new (λ t. join_K (known_at self.old t) (known_at piece.now t))) }
@@ -122,7 +126,7 @@ impl Know {
         Ok(fresh)
     }
 
-    /// The runs of a range, cut at its ends, or `Memory`.
+    /// The runs of the range, cut at its ends. It fails only where memory is refused.
     pub fn piece(&self, first: u64, last: u64) -> Result<Piece<K>, AllocError>
         requires from_one { 1 ≤ first }
         requires ordered { first ≤ last }
@@ -132,7 +136,8 @@ impl Know {
         self.stream.piece(first, last)
     }
 
-    /// Makes each tick of the range final. `Memory` leaves the knowledge as it was.
+    /// Makes each tick of the range final, whatever was known of it. It fails only where memory is refused; then the knowledge is
+    /// as it was.
     pub fn finish(&mut self, first: u64, last: u64) -> Result<(), AllocError>
         requires from_one { 1 ≤ first }
         requires ordered { first ≤ last }
@@ -145,8 +150,8 @@ impl Know {
         Ok(())
     }
 
-    /// Makes the least ticks with an event unknown, up to a tick, until no more than `limit` such ticks are left.
-    /// `Memory` leaves the knowledge as it was.
+    /// Makes ticks with an event unknown, the least ones first and none past `upto`, until no more than `limit` ticks with an event
+    /// are left, or none up to `upto`. So a broker's cache is bounded: what it has forgotten it asks again. It takes no memory.
     pub fn forget(&mut self, limit: u32, upto: u64) -> Result<(), AllocError>
         ensures forgotten { OnOk result (self.new ≡ forgotten limit upto self.old) }
         ensures canonical { OnOk result (AreRuns Q self.new) }

@@ -5,12 +5,17 @@ ghost use Rattle.gr_know.specs.declared.values.K.TheVariants.{Q};
 use gr_event::Event;
 use gr_tick::Lattice;
 
-/// Unknown, silence, an event, final.
+/// What is known of a tick of one publisher. Unknown is below all, final is above all, and no two others are related: silence
+/// and an event, or two events, join to final.
 #[derive(Drop)]
 pub enum K {
+    /// Unknown.
     Q,
+    /// Silence: nothing was published.
     S,
+    /// This event was published.
     D(Event),
+    /// Final: nobody below needs to know more.
     F,
 }
 

@@ -16,7 +16,11 @@ use Rattle.gr_curio.specs.declared.asks.Moment.TheVariants.{Never, At}
 use Rattle.gr_model.specs.declared.report.Report.{Report}
 use Rattle.gr_model.specs.declared.report.Report.TheVariants as line
 use Rattle.gr_tick.specs.Runs.{points, zip_runs, first_bottom_from, top_of}
-use Rattle.gr_know.specs.Values.{Known, known_at, knowns, same_K, is_Q, is_D, join_K, clash_K}
+use Rattle.gr_know.specs.Values.{Known, known_at, knowns, same_K, is_Q, is_D, join_K, new_K, clash_K}
+pub use Rattle.gr_know.specs.Forget.{data_count, without_front}
+unfoldable pub use Rattle.gr_know.specs.Forget.{lower_data, forgotten}
+pub use Rattle.gr_curio.specs.Wants.{all_A, any_C}
+use Rattle.gr_curio.specs.Due.{noted_of}
 use Rattle.gr_curio.specs.Values.{Wanted, Asked, wanted_at, asked_at, wanteds, same_Q3, same_moment, is_C, is_A, is_outstanding}
 use Rattle.gr_model.specs.Net.{Net, keeps_horizon, is_host, pass, not_empty, numbers_from}
 
@@ -64,14 +68,6 @@ expect_frame from to p tick = record { head = head from to p; body = body.Expect
 
 -- Consolidation
 
--- acknowledged by each child
-abbrev pub all_A : List Wanted → ℕ → Bool
-all_A ws t = list_all (λ w. is_A (wanted_at w t)) ws
-
--- asked by some child
-abbrev pub any_C : List Wanted → ℕ → Bool
-any_C ws t = list_any (λ w. is_C (wanted_at w t)) ws
-
 -- where some child's curiosity may change
 abbrev pub all_points : List Wanted → List ℕ
 all_points ws = flat_map points ws
@@ -89,28 +85,6 @@ unfoldable pub finished : Known → Wanted → Known
 finished know done = zip_runs Q N Q same_K (λ k c. if is_A c then F else k) know done
 
 -- Forgetting
-
--- how many ticks have an event
-abbrev pub data_count : Known → ℕ
-data_count [] = 0
-data_count (r ∷ rs) = (if is_D r.value then suc r.last - r.first else 0) + data_count rs
-
--- the run without its first n ticks, on top of the rest
-abbrev pub without_front : ℕ → Run K → Known → Known
-without_front n r rs = if nat_lt r.last (r.first + n) then rs else record { first = r.first + n; last = r.last; value = r.value } ∷ rs
-
--- the least n data ticks up to a tick lowered
-unfoldable pub lower_data : ℕ → ℕ → Known → Known
-lower_data n upto [] = []
-lower_data n upto (r ∷ rs) =
-    elim (is_D r.value && nat_le r.first upto) [
-      | true ↦ let k = min n (suc (min r.last upto) - r.first) in without_front k r (lower_data (n - k) upto rs)
-      | false ↦ r ∷ lower_data n upto rs
-    ]
-
--- with at most limit events: the least ones up to a tick become unknown again
-unfoldable pub forgotten : ℕ → ℕ → Known → Known
-forgotten limit upto know = lower_data (data_count know - limit) upto know
 
 -- by the rule of forgetting, which does not bind the host
 unfoldable pub trimmed : Net → ℕ → ℕ → View → View
@@ -150,7 +124,7 @@ told net p h h' items s = if nat_eq h h' then [] else map (got_line s p) (filter
 
 -- the new ticks: those that nothing was known of
 unfoldable pub new_ticks : Known → Known → Known
-new_ticks know piece = zip_runs Q Q Q same_K (λ k x. if is_Q k then x else Q) know piece
+new_ticks know piece = zip_runs Q Q Q same_K new_K know piece
 
 -- what a child is sent of them
 unfoldable pub forward : Net → ℕ → ℕ → Wanted → Known → Known
@@ -196,7 +170,7 @@ due now retry know asks wanted ps = wanteds (λ t. if wanted t && is_Q (known_at
 
 -- the asked ticks get the moment of their ask
 unfoldable pub noted : ℕ → Asked → Wanted → Asked
-noted now asks asked = zip_runs Never N Never same_moment (λ a w. if is_C w then At now else a) asks asked
+noted now asks asked = zip_runs Never N Never same_moment (noted_of now) asks asked
 
 -- what goes upstream: the consolidated ticks as acknowledged, and what is asked
 unfoldable pub upward : Wanted → Wanted → Wanted

@@ -9,7 +9,10 @@ use gr_gap::Gap;
 use std::alloc::{AllocError, Global};
 use std::marker::Model;
 
-/// A function from ticks to values that is the least value but on a list of runs.
+/// A function from ticks to values that is the least value but on a list of runs: what one frame tells, or what one call answers.
+/// It is made from its first run to its last, and seen as the list of its runs.
+///
+/// The runs rise, are disjoint and maximal, and none has the least value. So each function has one list.
 #[derive(Drop)]
 pub struct Piece<V: Lattice> {
     runs: Gap<Run<V>>,
@@ -28,7 +31,7 @@ impl<V: Lattice> Model for Piece<V> {
 }
 
 impl<V: Lattice> Piece<V> {
-    /// The piece with no run.
+    /// The piece with no run: each tick has the least value. It takes no memory.
     pub fn new(alloc: Global) -> Piece<V>
         ensures { result ≡ [] }
     {
@@ -37,7 +40,7 @@ impl<V: Lattice> Piece<V> {
         }
     }
 
-    /// An equal piece, or `Memory`.
+    /// An equal piece. It fails only where memory is refused.
     pub fn copy(&self) -> Result<Piece<V>, AllocError>
         ensures { IfOk result (λ piece. piece ≡ self.now) }
     {
@@ -45,7 +48,8 @@ impl<V: Lattice> Piece<V> {
         Ok(Piece { runs })
     }
 
-    /// Adds a run past the last one, and joins it to that where the two form one run. `Memory` leaves the piece as it was.
+    /// Adds a run past the last one, and joins it to that where the two touch and have the same value. It fails only where memory
+    /// is refused; then the piece is as it was.
     pub fn push(&mut self, run: Run<V>) -> Result<(), AllocError>
         requires alone { IsRun V.least run }
         requires past { EndBefore self.old run.first }
@@ -59,7 +63,8 @@ impl<V: Lattice> Piece<V> {
         Ok(())
     }
 
-    /// Adds what a run past the last one has in a range. `Memory` leaves the piece as it was.
+    /// Adds what a run past the last one has in the range from `first` to `last`, if it has a tick there. It fails only where
+    /// memory is refused; then the piece is as it was.
     pub fn push_cut(&mut self, run: &Run<V>, first: u64, last: u64) -> Result<(), AllocError>
         requires from_one { 1 ≤ first }
         requires alone { IsRun V.least run.now }
@@ -105,7 +110,7 @@ impl<V: Lattice> Piece<V> {
         self.runs.len() == 0
     }
 
-    /// The run at a place.
+    /// The run at place `i`, from 0.
     pub fn run(&self, i: usize) -> &Run<V>
         requires { i < length self.now }
         ensures run { slice_get self.now i ≡ Some result.now }
@@ -114,14 +119,14 @@ impl<V: Lattice> Piece<V> {
         self.runs.get(i)
     }
 
-    /// The value at a tick.
+    /// The value at a tick: that of its run, or the least value. It takes no memory.
     pub fn at(&self, tick: u64) -> V
         ensures { result ≡ value_at V.least self.now tick }
     {
         value_in(&self.runs, tick)
     }
 
-    /// The greatest tick up to which the value stays that of `tick`.
+    /// The greatest tick, at most `MAX_TICK`, up to which the value stays that of `tick`. It takes no memory.
     pub fn steady_until(&self, tick: u64) -> u64
         requires { tick ≤ 2 ^ 62 }
         ensures forward { tick ≤ result }

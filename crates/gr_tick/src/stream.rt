@@ -14,7 +14,11 @@ use gr_gap::Gap;
 use std::alloc::{AllocError, Global};
 use std::marker::Model;
 
-/// A function from ticks to values that is the least value but on a list of runs, with room for more runs.
+/// A function from ticks to values that is the least value but on a list of runs, which is edited in place: what is known, or
+/// asked, of each tick. It is seen as the list of its runs and its spare, how many runs more fit before memory is asked for.
+///
+/// The runs rise, are disjoint and maximal, and none has the least value. So each function has one list. A look-up costs the
+/// logarithm of the runs, and an edit the runs that it changes and the way from the edit before.
 #[derive(Drop)]
 pub struct Stream<V: Lattice> {
     runs: Gap<Run<V>>,
@@ -32,7 +36,7 @@ impl<V: Lattice> Model for Stream<V> {
 }
 
 impl<V: Lattice> Stream<V> {
-    /// The stream with no run.
+    /// The stream with no run: each tick has the least value. It takes no memory.
     pub fn new(alloc: Global) -> Stream<V>
         ensures runs { result.runs ≡ [] }
         ensures spare { result.spare ≡ 0 }
@@ -42,7 +46,7 @@ impl<V: Lattice> Stream<V> {
         }
     }
 
-    /// A stream with equal runs, or `Memory`.
+    /// A stream with equal runs. It fails only where memory is refused.
     pub fn copy(&self) -> Result<Stream<V>, AllocError>
         ensures { IfOk result (λ stream. stream.runs ≡ self.now.runs) }
     {
@@ -59,7 +63,7 @@ impl<V: Lattice> Stream<V> {
         self.runs.len()
     }
 
-    /// The run at a place.
+    /// The run at place `i`, from 0.
     pub fn run(&self, i: usize) -> &Run<V>
         requires { i < length self.now.runs }
         ensures run { slice_get self.now.runs i ≡ Some result.now }
@@ -68,7 +72,7 @@ impl<V: Lattice> Stream<V> {
         self.runs.get(i)
     }
 
-    /// The greatest tick of a run, or 0.
+    /// The greatest tick of a run, or 0 where there is none. It takes no memory.
     pub fn top(&self) -> u64
         ensures top { result ≡ top_of self.now.runs }
         ensures inside { result ≤ 2 ^ 62 }
@@ -78,14 +82,14 @@ impl<V: Lattice> Stream<V> {
         last_of(&self.runs)
     }
 
-    /// The value at a tick.
+    /// The value at a tick: that of its run, or the least value. It takes no memory.
     pub fn at(&self, tick: u64) -> V
         ensures { result ≡ value_at V.least self.now.runs tick }
     {
         value_in(&self.runs, tick)
     }
 
-    /// The greatest tick up to which the value stays that of `tick`.
+    /// The greatest tick, at most `MAX_TICK`, up to which the value stays that of `tick`. It takes no memory.
     pub fn steady_until(&self, tick: u64) -> u64
         requires { tick ≤ 2 ^ 62 }
         ensures forward { tick ≤ result }
@@ -96,14 +100,14 @@ impl<V: Lattice> Stream<V> {
         steady_until(&self.runs, tick)
     }
 
-    /// How many runs have a tick of the range.
+    /// How many runs have a tick of the range: with one more, the spare that a join on it needs. It takes no memory.
     pub fn runs_in(&self, first: u64, last: u64) -> usize
         ensures { result ≡ runs_in first last self.now.runs }
     {
         count_in(&self.runs, first, last)
     }
 
-    /// Makes room for `n` runs more. `Memory` leaves the stream as it was.
+    /// Makes room for at least `n` runs more. It fails only where memory is refused; then the stream is as it was.
     pub fn reserve(&mut self, n: usize) -> Result<(), AllocError>
         ensures runs { self.new.runs ≡ self.old.runs }
         ensures spare { OnOk result (n ≤ self.new.spare) }
@@ -113,7 +117,8 @@ impl<V: Lattice> Stream<V> {
         Ok(())
     }
 
-    /// Joins the value at each tick of the range. Takes no memory.
+    /// Joins the value to that of each tick of the range. It takes no memory: the spare has to be enough for the runs in the
+    /// range and one more, and is lowered by at most that. The runs of later ranges do not grow in number.
     pub fn join_range(&mut self, first: u64, last: u64, value: V)
         requires from_one { 1 ≤ first }
         requires ordered { first ≤ last }
@@ -130,7 +135,8 @@ impl<V: Lattice> Stream<V> {
         join_over(&mut self.runs, first, last, &value);
     }
 
-    /// Joins a piece, tick by tick. `Memory` leaves the stream as it was.
+    /// Joins a piece, tick by tick. It takes the memory for all its runs before the first join, and fails only where that is
+    /// refused; then the stream is as it was.
     pub fn join_piece(&mut self, piece: &Piece<V>) -> Result<(), AllocError>
         ensures joined { OnOk result (RunsGive V.least self.new.runs (λ t. V.join_of (value_at V.least self.old.runs t) (value_at V.least piece.now t))) }
         ensures err { OnErr result (self.new ≡ self.old) }
@@ -144,7 +150,7 @@ impl<V: Lattice> Stream<V> {
         Ok(())
     }
 
-    /// Puts the value at each tick of the range, whatever was there. Takes no memory.
+    /// Puts the value at each tick of the range, whatever was there. It takes no memory: a spare of 2 has to be there.
     pub fn set_range(&mut self, first: u64, last: u64, value: V)
         requires from_one { 1 ≤ first }
         requires ordered { first ≤ last }
@@ -156,7 +162,7 @@ impl<V: Lattice> Stream<V> {
         set_over(&mut self.runs, first, last, &value);
     }
 
-    /// Puts the least value at each tick of the range. `Memory` leaves the stream as it was.
+    /// Puts the least value at each tick of the range. It fails only where memory is refused; then the stream is as it was.
     pub fn lower_range(&mut self, first: u64, last: u64) -> Result<(), AllocError>
         requires from_one { 1 ≤ first }
         requires ordered { first ≤ last }
@@ -169,7 +175,8 @@ impl<V: Lattice> Stream<V> {
         Ok(())
     }
 
-    /// Puts the least value at the first ticks of a run, up to one of them. Takes no memory.
+    /// Puts the least value at the first ticks of the run at place `i`, up to `last`, which is one of its ticks. It takes no
+    /// memory.
     pub fn lower_front(&mut self, i: usize, last: u64)
         requires within { i < length self.old.runs }
         requires holds { HoldsAt (λ r. (r.first ≤ last) × (last ≤ r.last)) self.old.runs i }
@@ -178,7 +185,7 @@ impl<V: Lattice> Stream<V> {
         lower_front(&mut self.runs, i, last);
     }
 
-    /// The least tick from `tick` on with the least value, or `MAX_TICK + 1`.
+    /// The least tick from `tick` on with the least value, or `MAX_TICK + 1`. It takes no memory.
     pub fn first_bottom_from(&self, tick: u64) -> u64
         requires from_one { 1 ≤ tick }
         requires upto { tick ≤ 2 ^ 62 + 1 }
@@ -191,7 +198,7 @@ impl<V: Lattice> Stream<V> {
         next_bottom(&self.runs, tick)
     }
 
-    /// The runs of a range, cut at its ends, or `Memory`.
+    /// The runs of the range, cut at its ends. It fails only where memory is refused.
     pub fn piece(&self, first: u64, last: u64) -> Result<Piece<V>, AllocError>
         requires from_one { 1 ≤ first }
         requires ordered { first ≤ last }
