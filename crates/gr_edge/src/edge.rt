@@ -66,7 +66,7 @@ impl Edge {
     /// Puts a copy of a subscriber's filter at the end of the list. `Memory`, where no memory was given, leaves the list as it was.
     pub fn add(&mut self, filter: Option<&Filter>) -> Result<(), Memory>
         requires { length self.old < 65536 }
-        ensures ok { OnOk result (self.new ≡ self.old ++ option_map (λ f. tree_of f.now.root) filter.entry ∷ []) }
+        ensures ok { OnOk result (self.new ≡ self.old ++ option_map (λ f. tree_of f.now) filter.entry ∷ []) }
         ensures err { OnErr result (self.new ≡ self.old) }
     {
         self.wishes.reserve(1)?;

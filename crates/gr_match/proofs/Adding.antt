@@ -115,10 +115,10 @@ entered fs f None rest bs n h l e q = added_to_rest fs f rest bs n h l e
 entered fs f (Some p) rest bs n h l e q = added_to_bucket fs f p rest bs n h l e q
 
 -- one filter more, with an equal tree
-pub added : (old new : List Filter) (g : Filter) (f : Tree) (n : ℕ) (rest rest2 : List ℕ) (bs bs2 : List Bucket) → IsIndex (trees old) rest bs → length (trees old) < 65536 → n ≡ length (trees old) → new ≡ old ++ g ∷ [] → tree_of g.root ≡ f
+pub added : (old new : List Filter) (g : Filter) (f : Tree) (n : ℕ) (rest rest2 : List ℕ) (bs bs2 : List Bucket) → IsIndex (trees old) rest bs → length (trees old) < 65536 → n ≡ length (trees old) → new ≡ old ++ g ∷ [] → tree_of g ≡ f
     → rest2 ≡ rest_with (needed f) n rest → bs2 ≡ buckets_with (needed f) n bs → IsIndex (trees new) rest2 bs2
 added old new g f n rest rest2 bs bs2 h l e more same er eb =
-    let all : trees new ≡ trees old ++ f ∷ [] = ap trees more ∙ map-append (λ x. tree_of x.root) old (g ∷ []) ∙ ap (λ t. trees old ++ t ∷ []) same in
+    let all : trees new ≡ trees old ++ f ∷ [] = ap trees more ∙ map-append (λ x. tree_of x) old (g ∷ []) ∙ ap (λ t. trees old ++ t ∷ []) same in
     subst (λ fs. IsIndex fs rest2 bs2) (sym all)
     (subst (λ ns. IsIndex (trees old ++ f ∷ []) ns bs2) (sym er)
     (subst (λ xs. IsIndex (trees old ++ f ∷ []) (rest_with (needed f) n rest) xs) (sym eb) (entered (trees old) f (needed f) rest bs n h l e refl)))

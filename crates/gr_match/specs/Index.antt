@@ -10,7 +10,7 @@ use Rattle.gr_match.specs.Needed.{Pair, needed, has, is_pair}
 
 -- the filters of a list as trees
 abbrev pub trees : List Filter → List Tree
-trees fs = map (λ f. tree_of f.root) fs
+trees fs = map (λ f. tree_of f) fs
 
 abbrev pub is_match : Event → Option Tree → Bool
 is_match e None = false

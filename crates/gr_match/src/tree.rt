@@ -58,7 +58,7 @@ impl MatchTree {
     /// Puts a copy of the filter at the end of the list. `Memory`, where no memory was given, leaves the list as it was.
     pub fn add(&mut self, filter: &Filter) -> Result<(), Memory>
         requires { length self.old < 65536 }
-        ensures ok { OnOk result (self.new ≡ self.old ++ tree_of filter.now.root ∷ []) }
+        ensures ok { OnOk result (self.new ≡ self.old ++ tree_of filter.now ∷ []) }
         ensures err { OnErr result (self.new ≡ self.old) }
     {
         let copy = filter.copy(self.alloc)?;
@@ -96,8 +96,8 @@ fn enter(
     filter: &Filter,
     place: u16,
 ) -> Result<(), Memory>
-    ensures rest { OnOk result (rest.new ≡ rest_with (needed (tree_of filter.now.root)) place rest.old) }
-    ensures buckets { OnOk result (buckets.new.items ≡ buckets_with (needed (tree_of filter.now.root)) place buckets.old.items) }
+    ensures rest { OnOk result (rest.new ≡ rest_with (needed (tree_of filter.now)) place rest.old) }
+    ensures buckets { OnOk result (buckets.new.items ≡ buckets_with (needed (tree_of filter.now)) place buckets.old.items) }
     ensures same_rest { OnErr result (rest.new ≡ rest.old) }
     ensures same_buckets { OnErr result (buckets.new.items ≡ buckets.old.items) }
 {

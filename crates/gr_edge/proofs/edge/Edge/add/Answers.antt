@@ -12,7 +12,7 @@ add-requires c =
 pub invariant_of-self-in-Continue-branch-3 : goal.invariant_of-self-in-Continue-branch-3
 invariant_of-self-in-Continue-branch-3 c =
     let more : c.push.new.self.items ≡ c.self.inside.wishes.items ++ Filtered ∷ [] = search rules in
-    (filtered_added c.self.inside.wishes.items c.push.new.self.items c.self.inside.filters c.add.new.self (tree_of c.in-Some.filter.now.root) c.self.invariant more c.in_ok-add-in-Some.ensures.ok).0
+    (filtered_added c.self.inside.wishes.items c.push.new.self.items c.self.inside.filters c.add.new.self (tree_of c.in-Some.filter.now) c.self.invariant more c.in_ok-add-in-Some.ensures.ok).0
 
 pub invariant_of-self-in-Continue-branch-4 : goal.invariant_of-self-in-Continue-branch-4
 invariant_of-self-in-Continue-branch-4 c =
@@ -22,13 +22,13 @@ invariant_of-self-in-Continue-branch-4 c =
 pub returns-in_ok-push-in-Some-clause-ok : goal.returns-in_ok-push-in-Some-clause-ok
 returns-in_ok-push-in-Some-clause-ok c =
     let more : c.push.new.self.items ≡ c.self.inside.wishes.items ++ Filtered ∷ [] = search rules in
-    (filtered_added c.self.inside.wishes.items c.push.new.self.items c.self.inside.filters c.add.new.self (tree_of c.in-Some.filter.now.root) c.self.invariant more c.in_ok-add-in-Some.ensures.ok).1
-    ∙ ap (λ fs. fs ++ Some (tree_of c.in-Some.filter.now.root) ∷ []) c.self.view_is
-    ∙ ap (λ o. c.args.self.now ++ option_map (λ f. tree_of f.now.root) o ∷ []) (sym c.in-Some.is)
+    (filtered_added c.self.inside.wishes.items c.push.new.self.items c.self.inside.filters c.add.new.self (tree_of c.in-Some.filter.now) c.self.invariant more c.in_ok-add-in-Some.ensures.ok).1
+    ∙ ap (λ fs. fs ++ Some (tree_of c.in-Some.filter.now) ∷ []) c.self.view_is
+    ∙ ap (λ o. c.args.self.now ++ option_map (λ f. tree_of f.now) o ∷ []) (sym c.in-Some.is)
 
 pub returns-in_ok-push-in-None-clause-ok : goal.returns-in_ok-push-in-None-clause-ok
 returns-in_ok-push-in-None-clause-ok c =
     let more : c.push-in-None.new.self.items ≡ c.self.inside.wishes.items ++ Everything ∷ [] = search rules in
     (everything_added c.self.inside.wishes.items c.push-in-None.new.self.items c.self.inside.filters c.self.invariant more).1
     ∙ ap (λ fs. fs ++ None ∷ []) c.self.view_is
-    ∙ ap (λ o. c.args.self.now ++ option_map (λ f. tree_of f.now.root) o ∷ []) (sym c.in-None.is)
+    ∙ ap (λ o. c.args.self.now ++ option_map (λ f. tree_of f.now) o ∷ []) (sym c.in-None.is)

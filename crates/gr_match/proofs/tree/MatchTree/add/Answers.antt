@@ -9,7 +9,7 @@ pub invariant_of-self-2 : goal.invariant_of-self-2
 invariant_of-self-2 c =
     let t = c.self.inside in
     let few : length (trees t.filters.items) < 65536 = omega (arith, ap length c.self.view_is, c.requires) in
-    let mapped = length-map t.filters.items (λ f. tree_of f.root) in
+    let mapped = length-map t.filters.items (λ f. tree_of f) in
     let place : c.len-place.result ≡ length (trees t.filters.items) = omega (arith, mapped, c.len-place.ensures, c.reserve.ensures.len) in
     let more : c.push.new.self.items ≡ t.filters.items ++ c.in_ok-copy.copy ∷ [] = search rules in
-    added t.filters.items c.push.new.self.items c.in_ok-copy.copy (tree_of c.args.filter.now.root) c.len-place.result t.rest c.enter.new.rest t.buckets.items c.enter.new.buckets.items c.self.invariant few place more c.in_ok-copy.ensures c.in_ok-enter.ensures.rest c.in_ok-enter.ensures.buckets
+    added t.filters.items c.push.new.self.items c.in_ok-copy.copy (tree_of c.args.filter.now) c.len-place.result t.rest c.enter.new.rest t.buckets.items c.enter.new.buckets.items c.self.invariant few place more c.in_ok-copy.ensures c.in_ok-enter.ensures.rest c.in_ok-enter.ensures.buckets
