@@ -1,35 +1,15 @@
 -- One run after another passes an edge
-use Rattle.std.proofs.Common.{◌≡◌, ◌≢◌, ℕ, ◌+◌, ◌<◌, Bool, true, false, cond, List, length, take, refl, sym, ap, ◌∙◌, Option, Some}
+use Rattle.std.proofs.Common.{◌≡◌, ℕ, ◌+◌, ◌<◌, Bool, true, false, cond, List, length, take, refl, sym, ap, ◌∙◌, Option, Some}
 use Rattle.std.specs.List.{slice_get}
 use Rattle.std.proofs.lemmas.Option.{get_or_from_slice_get}
 use Rattle.gr_filter.specs.Tree.{Tree}
 use Rattle.gr_tick.specs.declared.run.Run.{Run}
 use Rattle.gr_tick.specs.Runs.{value_at, is_in}
-use Rattle.gr_tick.specs.Stored.{IsRun, AreTickRuns}
+use Rattle.gr_tick.specs.Stored.{AreTickRuns}
 use Rattle.gr_tick.proofs.StepLemmas.{read_values}
 use Rattle.gr_know.specs.declared.values.K.{K}
-use Rattle.gr_know.specs.declared.values.K.TheVariants.{Q, S, D, F}
-use Rattle.gr_edge.specs.Pass.{wanted, pass}
-
-event_passes : (b : Bool) (x : K) → x ≢ Q → elim b [ true ↦ x | false ↦ S ] ≢ Q
-event_passes true x h = h
-event_passes false x h = λ e. cc
-
--- what is known stays known
-pub pass_known : (fs : List (Option Tree)) (x v : K) → v ≡ pass fs x → x ≢ Q → v ≢ Q
-pass_known fs Q v e h = absurd (h refl)
-pass_known fs S v e h = λ q. cc
-pass_known fs F v e h = λ q. cc
-pass_known fs (D d) v e h = λ q. event_passes (wanted fs d) (D d) h (sym e ∙ q)
-
--- the run of a value that passed
-pub passed_run : (fs : List (Option Tree)) (r : Run K) (v : K) → v ≡ pass fs r.value → IsRun Q r → IsRun Q (record { first = r.first; last = r.last; value = v })
-passed_run fs r v e h = record {
-  from_one = h.from_one;
-  ordered = h.ordered;
-  upto = h.upto;
-  known = pass_known fs r.value v e h.known;
-}
+use Rattle.gr_know.specs.declared.values.K.TheVariants.{Q}
+use Rattle.gr_edge.specs.Pass.{pass}
 
 step_value : (fs : List (Option Tree)) (b : Bool) (x y v p q z : K) → v ≡ pass fs x → p ≡ pass fs y → q ≡ cond b v p → z ≡ cond b x y → q ≡ pass fs z
 step_value fs true x y v p q z ev ep eq ez = eq ∙ ev ∙ ap (pass fs) (sym ez)

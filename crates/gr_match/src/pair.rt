@@ -36,20 +36,13 @@ fn equation<'a>(left: &'a Operand, sign: Sign, right: &'a Operand) -> Option<Nam
 {
     match left {
         Operand::Name(name) => match sign {
-            Sign::Equal => named(name.as_slice(), literal(right)),
+            Sign::Equal => literal(right).map(|part| NamedPart {
+                name: name.as_slice(),
+                part,
+            }),
             _ => None,
         },
         _ => None,
-    }
-}
-
-/// A literal's value under a name.
-fn named<'a>(name: &'a [u8], part: Option<Part<'a>>) -> Option<NamedPart<'a>>
-    ensures { option_map pair_of result ≡ option_map (λ v. (name.now, v)) (option_map part_value part.entry) }
-{
-    match part {
-        Some(part) => Some(NamedPart { name, part }),
-        None => None,
     }
 }
 
