@@ -46,7 +46,7 @@ same_length net f p [] (w ∷ ws) a = absurd a
 same_length net f p (c ∷ cs) [] a = absurd a
 same_length net f p (c ∷ cs) (w ∷ ws) a = same_length net f p cs ws a.1
 
-set_here : (cs : List ℕ) (ws : List Wanted) (c : ℕ) (x : Wanted) → SameLength cs ws → list_any (λ y. nat_eq y c) cs ≡ true → get_or (set ws (place_of c cs) x) (place_of c cs) [] ≡ x
+pub set_here : (cs : List ℕ) (ws : List Wanted) (c : ℕ) (x : Wanted) → SameLength cs ws → list_any (λ y. nat_eq y c) cs ≡ true → get_or (set ws (place_of c cs) x) (place_of c cs) [] ≡ x
 set_here [] ws c x l m = absurd (false≢true m)
 set_here (d ∷ cs) [] c x l m = absurd l
 set_here (d ∷ cs) (w ∷ ws) c x l m =
@@ -55,7 +55,7 @@ set_here (d ∷ cs) (w ∷ ws) c x l m =
       | inr e ↦ rw e (set_here cs ws c x l (subst (λ q. (q || list_any (λ y. nat_eq y c) cs) ≡ true) e m))
     ]
 
-place_apart : (cs : List ℕ) (c d : ℕ) → list_any (λ y. nat_eq y c) cs ≡ true → list_any (λ y. nat_eq y d) cs ≡ true → (d ≢ c) → place_of d cs ≢ place_of c cs
+pub place_apart : (cs : List ℕ) (c d : ℕ) → list_any (λ y. nat_eq y c) cs ≡ true → list_any (λ y. nat_eq y d) cs ≡ true → (d ≢ c) → place_of d cs ≢ place_of c cs
 place_apart [] c d m k n = absurd (false≢true m)
 place_apart (x ∷ cs) c d m k n =
     elim (cases_Bool (nat_eq x c)) [

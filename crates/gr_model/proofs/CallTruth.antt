@@ -406,7 +406,7 @@ wake_below_true net f p b now v log place h =
     asking_true net f p b now (wanted_at_wake net (keeps_horizon net p b) now v)
     (all_points v.wants ++ (suc v.horizon ∷ (suc (now - net.idle) ∷ (suc (now - net.gap) ∷ (top_of v.know ∷ []))))) v log place h (wake_wanted net f p b now v h (keeps_horizon net p b))
 
-expect_wanted : (net : Net) (f : Facts) (p b tick : ℕ) (v : View) → ViewTrue net f p b v → (keeps : Bool) → IsWanted (λ t. any_C v.wants t || (keeps && nat_lt v.horizon t && nat_le t tick)) (all_points v.wants ++ (suc v.horizon ∷ (suc tick ∷ [])))
+pub expect_wanted : (net : Net) (f : Facts) (p b tick : ℕ) (v : View) → ViewTrue net f p b v → (keeps : Bool) → IsWanted (λ t. any_C v.wants t || (keeps && nat_lt v.horizon t && nat_le t tick)) (all_points v.wants ++ (suc v.horizon ∷ (suc tick ∷ [])))
 expect_wanted net f p b tick v h keeps = record {
   start = ap₂ (λ x y. x || y) (any_C-start net f p (net.children p b) v.wants h.wants) (ap₂ (λ x y. keeps && x && y) (le-ltb v.horizon 0 (omega arith)) refl ∙ rw and_false refl);
   step = λ t n.

@@ -338,7 +338,7 @@ pub silence_in : (first last : ℕ) (rest : Known) (t : ℕ) → first ≤ t →
 unfolding silence
 silence_in first last rest t h k = rw (le-leb first last (le_trans h k)) (value_at-in Q (run_at first last S) rest t h k)
 
-silence_above : (first last : ℕ) (rest : Known) (t : ℕ) → last < t → known_at (silence first last rest) t ≡ known_at rest t
+pub silence_above : (first last : ℕ) (rest : Known) (t : ℕ) → last < t → known_at (silence first last rest) t ≡ known_at rest t
 unfolding silence
 silence_above first last rest t h =
     elim (cases_Bool (nat_le first last)) [

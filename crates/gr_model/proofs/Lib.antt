@@ -55,6 +55,10 @@ pub mod SweepNumbers
 pub mod SweepSends
 pub mod SweepOnce
 pub mod ReplyLines
+pub mod Forgetting
+pub mod CallRules
+pub mod HostRules
+pub mod Obeying
 pub mod Strays
 pub mod FirstUnknown
 pub mod FirstPending

@@ -144,7 +144,7 @@ said_append_front (x ∷ xs) ys t e h =
       | inr g ↦ said_at-past x (xs ++ ys) t g ∙ said_append_front xs ys t e (sym (said_at-past x xs t g) ∙ h)
     ]
 
-abbrev data_of : K → Option Event
+abbrev pub data_of : K → Option Event
 data_of (D e) = Some e
 data_of _ = None
 

@@ -8,6 +8,8 @@ pub mod Said
 pub mod Fits
 pub mod Order
 pub mod Settles
+pub mod Rules
+pub mod Obeys
 pub mod Replies
 pub mod Edges
 pub mod Blank

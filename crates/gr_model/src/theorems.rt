@@ -15,6 +15,7 @@ ghost use Rattle.gr_model.specs.Headline.{GetsExactly, Headline, is_doubt_line, 
 ghost use Rattle.gr_model.specs.Order.{CutsInOrder, FramesSent};
 ghost use Rattle.gr_model.specs.Replies.{Replied};
 ghost use Rattle.gr_model.specs.Edges.{GoesOverEdge};
+ghost use Rattle.gr_model.specs.Obeys.{StepObeys};
 ghost use Rattle.gr_model.specs.Settles.{SweepSettles, AllGot, is_accepted};
 ghost use Rattle.gr_model.specs.Blank.{net0};
 ghost use Rattle.gr_model.specs.Examples.{WorkedExamples};
@@ -73,6 +74,13 @@ pub fn doubts_stand()
 /// of brokers sent, in their order.
 pub fn frames_sent()
     ensures { (net : Net) (steps : List Line) → IsNet net → 1 ≤ net.quiet → StepsIn net steps → FramesSent net steps }
+{}
+
+/// Every call follows the rules: over every schedule, each step's lines are those of its calls of brokers, in order, and
+/// then its own; and what each call keeps, tells and sends, and to whom, is what the rules say tick by tick of the broker's
+/// view and the publisher's log at that moment.
+pub fn calls_obey_rules()
+    ensures { (net : Net) (steps : List Line) (l : Line) → IsNet net → 1 ≤ net.quiet → StepsIn net steps → StepIn net l.step → StepObeys net (run_all net (start net) steps).world l }
 {}
 
 /// Every step is replied as the schedule and the frames sent demand: refused where it is to be refused and nowhere else,
