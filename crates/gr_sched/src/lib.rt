@@ -15,6 +15,7 @@ pub use fault::StepFault;
 pub use schedule::parse;
 pub use step::{Line, MAX_BYTES, MAX_NUMBER, MAX_STEPS, Names, Step, Steps, Stop};
 pub use text::{count, is_blank, split};
+pub use words::is_number_in;
 
 #[cfg(test)]
 mod tests;
