@@ -46,3 +46,4 @@ pub mod WithoutSweeps
 pub mod SweepHosts
 pub mod SweepHears
 pub mod AfterSweeps
+pub mod NetOf

@@ -5,6 +5,7 @@
 #![tactic(auto)]
 
 pub mod fault;
+pub mod law;
 pub mod schedule;
 pub mod step;
 pub mod text;
