@@ -46,7 +46,7 @@ net0_is = record {
   children_once = λ p b i j. two (λ z. IsDistinct (net0.children p z)) (refl, tt) tt b j;
   here_below = λ p b s i j. two (λ z. list_any (λ x. nat_eq x s) (net0.subscribers_at z) ≡ true → is_below net0 p z s ≡ true) (λ m. absurd (false≢true m)) (λ m. subst (λ z. is_below net0 p 1 z ≡ true) (only_one 0 s m) refl) b j;
   all_below = λ p s i j m. two (λ z. list_any (λ x. nat_eq x s) (net0.subscribers_at z) ≡ true → is_below net0 p 0 s ≡ true) (λ k. absurd (false≢true k)) (λ k. subst (λ z. is_below net0 p 0 z ≡ true) (only_one 0 s k) refl) (net0.at s) j m;
-  depth_up = λ p b u i j. two (λ z. net0.up p z ≡ Some u → z ≡ suc u) (λ e. absurd (none_some u e)) (λ e. ap suc (some_some 0 u e)) b j;
+  depth_up = λ p b u i j. two (λ z. net0.up p z ≡ Some u → net0.depth p z ≡ suc (net0.depth p u)) (λ e. absurd (none_some u e)) (λ e. ap (λ v. suc (net0.depth p v)) (some_some 0 u e)) b j;
   subscriber = λ s i. one (IsSubscriber net0) (record { at_in = omega arith; here = refl }) s i;
   up_below = λ p b i j. two (λ z. is_host net0 p z ≡ false → (u : ℕ) × (net0.up p z ≡ Some u)) (λ e. absurd (true≢false e)) (λ e. (0, refl)) b j;
   child_up = λ p b c i j. two (λ z. list_any (λ x. nat_eq x c) (net0.children p z) ≡ true → net0.up p c ≡ Some z) (λ m. subst (λ z. net0.up p z ≡ Some 0) (only_one 1 c m) refl) (λ m. absurd (false≢true m)) b j;

@@ -76,3 +76,4 @@ pub mod AfterSweeps
 pub mod SecondReaches
 pub mod SettlesAll
 pub mod SettlesAlways
+pub mod NetOf

@@ -16,3 +16,4 @@ pub mod Blank
 pub mod Text
 pub mod SmallNets
 pub mod Examples
+pub mod NetOf

@@ -6,6 +6,7 @@ mod lines;
 pub mod print;
 pub mod report;
 pub mod theorems;
+pub mod topologies;
 mod words;
 
 pub use print::{Memory, PutFault, put};

@@ -4,3 +4,4 @@ pub mod Ends
 pub mod EventFaults
 pub mod Faults
 pub mod InRange
+pub mod ReadsBack

@@ -66,6 +66,10 @@ abbrev pub value_after : ℕ → List ℕ → ℕ
 value_after value [] = value
 value_after value (b ∷ bs) = value_after (value * 10 + (b - 48)) bs
 
+-- a word is a number of at most so many digits, from low to high
+abbrev pub is_number_in : ℕ → ℕ → ℕ → List ℕ → Bool
+is_number_in digits low high word = nat_le (length word) digits && is_number word && nat_le low (value_after 0 word) && nat_le (value_after 0 word) high
+
 -- a word as a number from low to high
 abbrev pub number_in : ℕ → ℕ → ℕ → List ℕ → Result ℕ StepFault
 number_in n low high word = if is_number word && nat_le low (value_after 0 word) && nat_le (value_after 0 word) high then Ok (value_after 0 word) else Err (BadNumber n)

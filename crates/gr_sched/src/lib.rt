@@ -5,6 +5,7 @@
 #![tactic(auto)]
 
 pub mod fault;
+pub mod law;
 pub mod schedule;
 pub mod step;
 pub mod text;
@@ -15,6 +16,7 @@ pub use fault::StepFault;
 pub use schedule::parse;
 pub use step::{Line, MAX_BYTES, MAX_NUMBER, MAX_STEPS, Names, Step, Steps, Stop};
 pub use text::{count, is_blank, split};
+pub use words::is_number_in;
 
 #[cfg(test)]
 mod tests;

@@ -2,7 +2,7 @@
 
 ghost use Rattle.std.specs.Prelude.{◌≡◌, ℕ, ◌+◌, ◌-◌, ◌*◌, ◌<◌, ◌≤◌, ◌^◌, IfOk, true, length, drop, take};
 ghost use Rattle.std.specs.List.{list_all};
-ghost use Rattle.gr_sched.specs.Words.{Gives, trimmed, trimmed_end, first_word, after_word, next_word, ended, known, is_digit, is_number, value_after, number_in, next_number};
+ghost use Rattle.gr_sched.specs.Words.{Gives, trimmed, trimmed_end, first_word, after_word, next_word, ended, known, is_digit, is_number, value_after, is_number_in, number_in, next_number};
 
 use crate::fault::StepFault;
 use crate::text::{is_gap, without_gaps, word_len};
@@ -80,6 +80,17 @@ fn value(digits: &[u8]) -> u64
         value = value * 10 + u64::from(*digit - b'0');
     }
     value
+}
+
+/// Whether a word is a number of at most so many digits, from `low` to `high`.
+pub fn is_number_in(digits: usize, low: u64, high: u64, word: &[u8]) -> bool
+    ensures { result ≡ is_number_in digits low high word.now }
+{
+    if word.len() > digits || !is_number(word) {
+        return false;
+    }
+    let number = value(word);
+    low <= number && number <= high
 }
 
 /// A word of line `line` as a number from `low` to `high`.

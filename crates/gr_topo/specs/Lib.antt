@@ -1,1 +1,10 @@
 pub mod Topology
+pub mod Gives
+pub mod Draft
+pub mod Shape
+pub mod Seen
+pub mod Checks
+pub mod Read
+pub mod Parts
+pub mod TreeCode
+pub mod Columns

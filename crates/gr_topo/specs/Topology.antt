@@ -1,12 +1,26 @@
 -- A topology as callers see it.
-use Rattle.std.specs.Prelude.{ℕ, ◌≤◌, List, [], ◌∷◌, length, Option, bytes_eq, codes, slice_index_or}
-use Rattle.std.specs.List.{position}
+use Rattle.std.specs.Prelude.{◌≡◌, ℕ, ◌<◌, ◌≤◌, Bool, true, false, not, ◌&&◌, ◌||◌, nat_eq, List, [], ◌∷◌, length, filter, Option, Some, None, bytes_eq, codes, slice_index, slice_index_or}
+use Rattle.std.specs.List.{position, list_any}
+use Rattle.gr_event.specs.declared.event.Event.{Event}
+use Rattle.gr_filter.specs.Tree.{Tree}
+use Rattle.gr_filter.specs.Truth.{matches}
+use Rattle.gr_tree.specs.declared.link.Link.{Link}
+use Rattle.gr_tree.specs.declared.link.Place.{Place}
+use Rattle.gr_tree.specs.Walks.{numbers, is_linked, IsWithin, is_tree, distance, up_of, place_of, places_of, path_of, IsRooted, HasOnlyPaths}
+use Rattle.gr_topo.specs.declared.settings.Settings.{Settings}
 
--- Brokers, publishers and subscribers by their numbers, from 0: the names of each.
+-- Brokers, publishers and subscribers by their numbers, from 0: the names of each; the links between brokers; the brokers
+-- of publishers and of subscribers; the filters of subscribers and the addresses of brokers, where there are any; the settings.
 pub record TopologyView : Type 0 where
   pub brokers : List (List ℕ)
   pub publishers : List (List ℕ)
   pub subscribers : List (List ℕ)
+  pub links : List Link
+  pub hosts : List ℕ
+  pub homes : List ℕ
+  pub filters : List (Option Tree)
+  pub addresses : List (Option (List ℕ))
+  pub settings : Settings
 
 -- how many of each there may be
 pub record IsWithinLimits (t : TopologyView) : Type 0 where
@@ -22,10 +36,120 @@ name_at names number = slice_index_or names number []
 abbrev pub number_of : List (List ℕ) → List ℕ → Option ℕ
 number_of names name = position (λ known. bytes_eq known name) names
 
--- what stands for an empty topology part: brokers A and B, publisher P, subscriber S
+-- ---- the readers
+
+abbrev pub size : TopologyView → ℕ
+size t = length t.brokers
+
+-- the broker of a publisher, and of a subscriber
+abbrev pub host_of : TopologyView → ℕ → ℕ
+host_of t p = slice_index t.hosts p
+
+abbrev pub home_of : TopologyView → ℕ → ℕ
+home_of t s = slice_index t.homes s
+
+abbrev pub filter_of : TopologyView → ℕ → Option Tree
+filter_of t s = slice_index_or t.filters s None
+
+abbrev pub address_of : TopologyView → ℕ → Option (List ℕ)
+address_of t b = slice_index_or t.addresses b None
+
+-- every event matches where there is no filter
+abbrev pub passes_filter : Option Tree → Event → Bool
+passes_filter None e = true
+passes_filter (Some tree) e = matches tree e
+
+abbrev pub wants : TopologyView → ℕ → Event → Bool
+wants t s e = passes_filter (filter_of t s) e
+
+-- ---- the tree, seen from the host of a publisher
+
+-- the next broker on the path to the host; the host has none
+abbrev pub up_at : TopologyView → ℕ → ℕ → Option ℕ
+up_at t p b = up_of (size t) t.links (host_of t p) b
+
+-- how many links lie between a broker and the host
+abbrev pub depth_at : TopologyView → ℕ → ℕ → ℕ
+depth_at t p b = distance (size t) t.links (host_of t p) b
+
+abbrev pub is_this : Option ℕ → ℕ → Bool
+is_this None c = false
+is_this (Some u) c = nat_eq u c
+
+-- the children of a broker are its neighbours but for the next one to the host, in order
+abbrev pub is_child_at : TopologyView → ℕ → ℕ → ℕ → Bool
+is_child_at t p b c = is_linked t.links b c && not (is_this (up_at t p b) c)
+
+abbrev pub children_of : TopologyView → ℕ → ℕ → List ℕ
+children_of t p b = filter (is_child_at t p b) (numbers (size t))
+
+-- the subscribers at a broker, in order
+abbrev pub subscribers_of : TopologyView → ℕ → List ℕ
+subscribers_of t b = filter (λ s. nat_eq (home_of t s) b) (numbers (length t.subscribers))
+
+-- the path from a broker to the host, both included
+abbrev pub path_to_host : TopologyView → ℕ → ℕ → List ℕ
+path_to_host t p b = b ∷ path_of (size t) t.links (host_of t p) b
+
+-- the path from a broker to the host passes this one
+abbrev pub passes_by : TopologyView → ℕ → ℕ → ℕ → Bool
+passes_by t p b from = list_any (λ x. nat_eq x b) (path_to_host t p from)
+
+-- the subscribers whose broker's path to the host passes a broker, in order
+abbrev pub below_of : TopologyView → ℕ → ℕ → List ℕ
+below_of t p b = filter (λ s. passes_by t p b (home_of t s)) (numbers (length t.subscribers))
+
+abbrev pub is_some_list : {A : Type 0} → List A → Bool
+is_some_list [] = false
+is_some_list (x ∷ xs) = true
+
+-- a broker keeps a horizon for a publisher where it has subscribers or no children
+abbrev pub keeps_horizon_at : TopologyView → ℕ → ℕ → Bool
+keeps_horizon_at t p b = is_some_list (subscribers_of t b) || not (is_some_list (children_of t p b))
+
+-- ---- what holds of every topology
+
+pub record IsInRange (s : Settings) : Type 0 where
+  pub gap : (1 ≤ s.gap) × (s.gap ≤ 1000000000)
+  pub idle : (1 ≤ s.idle) × (s.idle ≤ 1000000000)
+  pub retry : (1 ≤ s.retry) × (s.retry ≤ 1000000000)
+  pub quiet : (1 ≤ s.quiet) × (s.quiet ≤ 1000000000)
+  pub cache : (1 ≤ s.cache) × (s.cache ≤ 1000000)
+
+-- the parts of a topology fit one another: each number is one of a broker, and the brokers are a tree
+pub record IsSound (t : TopologyView) : Type 0 where
+  pub limits : IsWithinLimits t
+  pub hosts : length t.hosts ≡ length t.publishers
+  pub homes : length t.homes ≡ length t.subscribers
+  pub filters : length t.filters ≡ length t.subscribers
+  pub addresses : length t.addresses ≡ length t.brokers
+  pub host_in : (p : ℕ) → p < length t.publishers → host_of t p < size t
+  pub home_in : (s : ℕ) → s < length t.subscribers → home_of t s < size t
+  pub links : IsWithin (size t) t.links
+  pub tree : is_tree (size t) t.links ≡ true
+  pub settings : IsInRange t.settings
+
+-- seen from each host: the tree, and each path as the one walk over links without a repeat
+pub record IsTopology (t : TopologyView) : Type 0 where
+  pub sound : IsSound t
+  pub rooted : (p : ℕ) → p < length t.publishers → IsRooted (size t) t.links (host_of t p)
+  pub paths : (p : ℕ) → p < length t.publishers → HasOnlyPaths (size t) t.links (host_of t p)
+
+-- ---- what stands for an empty topology part
+
+abbrev pub default_values : Settings
+default_values = record { gap = 200; idle = 1000; retry = 500; quiet = 1000; cache = 1024 }
+
+-- brokers A and B, linked; publisher P at A; subscriber S at B, who wants every event
 abbrev pub blank : TopologyView
 blank = record {
   brokers = codes "A" ∷ codes "B" ∷ [];
   publishers = codes "P" ∷ [];
   subscribers = codes "S" ∷ [];
+  links = record { one = 0; other = 1 } ∷ [];
+  hosts = 0 ∷ [];
+  homes = 1 ∷ [];
+  filters = None ∷ [];
+  addresses = None ∷ None ∷ [];
+  settings = default_values;
 }

@@ -1,11 +1,23 @@
-//! Topologies: the brokers, publishers and subscribers of a run, and their names.
+//! Topologies: the brokers, publishers and subscribers of a run, the tree that links make of the brokers, and what a
+//! user sets.
 //!
-//! Each of them is a number, from 0 in the order of the topology.
+//! Brokers, publishers and subscribers are numbers, from 0 in the order of the topology. `Topology::read` reads one
+//! from TOML, or answers the first refusal; all other calls are look-ups.
 #![tactic(auto)]
 
+mod check;
+mod draft;
+pub mod fault;
+mod names;
+mod parts;
+mod read;
+pub mod settings;
+mod shape;
 pub mod topology;
 
-pub use topology::{Memory, Topology};
+pub use fault::{Memory, TopoFault};
+pub use settings::Settings;
+pub use topology::Topology;
 
 #[cfg(test)]
 mod tests;

@@ -1,0 +1,11 @@
+pub mod Faults
+pub mod Walked
+pub mod Numbering
+pub mod NameTurns
+pub mod Rows
+pub mod TreeLists
+pub mod Sound
+pub mod Children
+pub mod Routes
+pub mod Blank
+pub mod Documents

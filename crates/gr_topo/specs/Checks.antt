@@ -1,0 +1,141 @@
+-- What is tested of a topology part whose shape is right, one test after the other
+use Rattle.std.specs.Prelude.{ℕ, zero, suc, ℤ, pos, negsuc, ◌+◌, ◌-◌, ◌==◌, Bool, true, false, not, ◌&&◌, ◌||◌, nat_le, nat_lt, if◌then◌else◌, List, [], ◌∷◌, ◌++◌, length, map, take, drop, Option, Some, None, Result, Ok, Err, codes, bytes_eq}
+use Rattle.std.specs.List.{list_all, list_any, slice_get, position_or_len}
+use Rattle.std.specs.Option.{option_and_then}
+use Rattle.gr_filter.specs.declared.fault.FilterFault.{FilterFault}
+use Rattle.gr_filter.specs.Grammar.{filter_text}
+use Rattle.gr_filter.specs.Tree.{Tree}
+use Rattle.gr_sched.specs.Words.{is_number_in}
+use Rattle.gr_tree.specs.declared.link.Link.{Link}
+use Rattle.gr_tree.specs.Walks.{is_tree}
+use Rattle.gr_topo.specs.declared.fault.TopoFault.{TopoFault}
+use Rattle.gr_topo.specs.declared.fault.TopoFault.TheVariants.{Twice, Unknown, NotTree, BadFilter, TooMany, BadAddress, BadName, BadRange}
+use Rattle.gr_topo.specs.declared.settings.Settings.{Settings}
+use Rattle.gr_topo.specs.declared.settings.WrittenSettings.{WrittenSettings}
+use Rattle.gr_topo.specs.Draft.{EntryLists, AddressLists, DraftLists}
+use Rattle.gr_topo.specs.Gives.{◌>>=◌, walk, each}
+use Rattle.gr_topo.specs.Topology.{TopologyView, name_at, number_of}
+
+-- a test that says nothing but its fault
+abbrev pub passes : Bool → TopoFault → Result (Unit {0}) TopoFault
+passes true fault = Ok tt
+passes false fault = Err fault
+
+-- ---- names
+
+-- no more than so many
+abbrev pub few : ℕ → List ℕ → ℕ → Result (Unit {0}) TopoFault
+few most key count = passes (nat_le count most) (TooMany key)
+
+abbrev pub is_letter : ℕ → Bool
+is_letter c = (nat_le 65 c && nat_le c 90) || (nat_le 97 c && nat_le c 122)
+
+-- a letter, a digit, '_', '.' or '-'
+abbrev pub is_name_byte : ℕ → Bool
+is_name_byte c = is_letter c || (nat_le 48 c && nat_le c 57) || c == 95 || c == 46 || c == 45
+
+abbrev pub is_name : List ℕ → Bool
+is_name name = nat_lt 0 (length name) && nat_le (length name) 64 && list_all is_name_byte name
+
+-- each name is one
+abbrev pub good_name : Unit {0} → List ℕ → Result (Unit {0}) TopoFault
+good_name _ name = passes (is_name name) (BadName name)
+
+abbrev pub good_names : List (List ℕ) → Result (Unit {0}) TopoFault
+good_names names = walk good_name tt names
+
+-- no name twice: those that were seen, with one more
+abbrev pub seen_once : List (List ℕ) → List ℕ → Result (List (List ℕ)) TopoFault
+seen_once seen name = passes (not (list_any (bytes_eq name) seen)) (Twice name) >>= λ _. Ok (seen ++ name ∷ [])
+
+abbrev pub apart : List (List ℕ) → Result (Unit {0}) TopoFault
+apart names = walk seen_once [] names >>= λ _. Ok tt
+
+-- ---- brokers by their names
+
+abbrev pub known : List ℕ → Option ℕ → Result ℕ TopoFault
+known name None = Err (Unknown name)
+known name (Some number) = Ok number
+
+abbrev pub broker_in : List (List ℕ) → List ℕ → Result ℕ TopoFault
+broker_in brokers name = known name (number_of brokers name)
+
+abbrev pub brokers_in : List (List ℕ) → List (List ℕ) → Result (List ℕ) TopoFault
+brokers_in brokers names = each (broker_in brokers) names
+
+abbrev pub link_in : List (List ℕ) → List ℕ × List ℕ → Result Link TopoFault
+link_in brokers ends = do
+  one ← broker_in brokers ends.0
+  other ← broker_in brokers ends.1
+  Ok (record { one = one; other = other })
+
+abbrev pub links_in : List (List ℕ) → List (List ℕ × List ℕ) → Result (List Link) TopoFault
+links_in brokers pairs = each (link_in brokers) pairs
+
+abbrev pub tree_of : ℕ → List Link → Result (Unit {0}) TopoFault
+tree_of brokers links = passes (is_tree brokers links) NotTree
+
+-- ---- settings
+
+-- an integer from 1 to the most
+abbrev pub in_range : List ℕ → ℕ → ℤ → Result ℕ TopoFault
+in_range key most (pos n) = if nat_le 1 n && nat_le n most then Ok n else Err (BadRange key)
+in_range key most (negsuc n) = Err (BadRange key)
+
+unfoldable pub settings_of : WrittenSettings → Result Settings TopoFault
+settings_of w = do
+  gap ← in_range (codes "gap") 1000000000 w.gap
+  idle ← in_range (codes "idle") 1000000000 w.idle
+  retry ← in_range (codes "retry") 1000000000 w.retry
+  quiet ← in_range (codes "quiet") 1000000000 w.quiet
+  cache ← in_range (codes "cache") 1000000 w.cache
+  Ok (record { gap = gap; idle = idle; retry = retry; quiet = quiet; cache = cache })
+
+-- ---- filters
+
+-- the tree, or the fault with the subscriber's name
+abbrev pub filter_or_fault : List ℕ → Result Tree FilterFault → Result (Option Tree) TopoFault
+filter_or_fault name (Ok tree) = Ok (Some tree)
+filter_or_fault name (Err fault) = Err (BadFilter name fault)
+
+abbrev pub filter_in : List ℕ → Option (List ℕ) → Result (Option Tree) TopoFault
+filter_in name None = Ok None
+filter_in name (Some text) = filter_or_fault name (filter_text text)
+
+-- the filter of a subscriber, beside its name
+abbrev pub filter_beside : List ℕ × Option (List ℕ) → Result (Option Tree) TopoFault
+filter_beside s = filter_in s.0 s.1
+
+abbrev pub filters_in : List (List ℕ × Option (List ℕ)) → Result (List (Option Tree)) TopoFault
+filters_in subscribers = each filter_beside subscribers
+
+-- ---- addresses
+
+-- a number of 0 to 255 in 1 to 3 digits before a mark: what follows the mark
+abbrev pub behind_octet : ℕ → List ℕ → Option (List ℕ)
+behind_octet mark text =
+    let end = position_or_len (λ c. c == mark) text in
+    if nat_lt end (length text) && is_number_in 3 0 255 (take end text) then Some (drop (end + 1) text) else None
+
+-- the port of an address: what follows four numbers, three dots between them and ':'; 46 is '.', 58 is ':'
+abbrev pub port_of : List ℕ → Option (List ℕ)
+port_of text = option_and_then (behind_octet 58) (option_and_then (behind_octet 46) (option_and_then (behind_octet 46) (behind_octet 46 text)))
+
+-- a port of 1 to 65535 in 1 to 5 digits
+abbrev pub is_port : Option (List ℕ) → Bool
+is_port None = false
+is_port (Some text) = is_number_in 5 1 65535 text
+
+unfoldable pub is_address : List ℕ → Bool
+is_address text = is_port (port_of text)
+
+-- the address of a broker, if it has one
+abbrev pub good_address : List ℕ → Option (List ℕ) → Result (Option (List ℕ)) TopoFault
+good_address name None = Ok None
+good_address name (Some text) = passes (is_address text) (BadAddress name) >>= λ _. Ok (Some text)
+
+abbrev pub address_in : AddressLists → List ℕ → Result (Option (List ℕ)) TopoFault
+address_in lists name = good_address name (option_and_then (slice_get lists.texts) (number_of lists.names name))
+
+abbrev pub addresses_of : AddressLists → List (List ℕ) → Result (List (Option (List ℕ))) TopoFault
+addresses_of lists brokers = each (address_in lists) brokers

@@ -1,0 +1,11 @@
+-- The columns of entries have one length
+use Rattle.std.specs.Prelude.{◌≡◌, length}
+use Rattle.gr_topo.specs.Draft.{EntryLists, DraftLists}
+
+pub record AreColumns (e : EntryLists) : Type 0 where
+  pub brokers : length e.brokers ≡ length e.names
+  pub filters : length e.filters ≡ length e.names
+
+pub record HasColumns (d : DraftLists) : Type 0 where
+  pub publishers : AreColumns d.publishers
+  pub subscribers : AreColumns d.subscribers

@@ -1,0 +1,33 @@
+//! The settings of a topology.
+
+/// The greatest value of the four settings in milliseconds.
+pub const MOST_TIME: u64 = 1_000_000_000;
+
+/// The greatest value of `cache`.
+pub const MOST_CACHE: u64 = 1_000_000;
+
+/// The settings of a run. The first four are milliseconds, from 1 to 1,000,000,000; `cache` is a count of ticks,
+/// from 1 to 1,000,000.
+#[derive(Clone, Copy, Debug, PartialEq, Eq)]
+pub struct Settings {
+    /// The age at which a tick is asked for where something later is known. Default 200.
+    pub gap: u64,
+    /// The age at which any tick is asked for. Default 1,000.
+    pub idle: u64,
+    /// How long an ask is outstanding. Default 500.
+    pub retry: u64,
+    /// How long a log is silent before it is marked. Default 1,000.
+    pub quiet: u64,
+    /// How many event ticks a broker below the host keeps for a publisher. Default 1,024.
+    pub cache: u32,
+}
+
+/// The settings as they are written, before their ranges are tested.
+#[derive(Clone, Copy, Debug, PartialEq, Eq)]
+pub struct WrittenSettings {
+    pub gap: i64,
+    pub idle: i64,
+    pub retry: i64,
+    pub quiet: i64,
+    pub cache: i64,
+}

@@ -1,0 +1,6 @@
+pub mod Numbers
+pub mod Links
+pub mod Growing
+pub mod Whole
+pub mod Paths
+pub mod Steps
