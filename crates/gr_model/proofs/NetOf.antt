@@ -173,6 +173,7 @@ net_is t is = record {
       put_among (λ z. passes_by t p (host_of t p) (home_of t z)) (length t.subscribers) s here.1 (passes_host t p is i (depth_at t p (home_of t s)) (home_of t s) j refl);
   here_at = λ b s j m. eqb-true (home_of t s) b (among (λ z. nat_eq (home_of t z) b) (length t.subscribers) s m).0;
   depth_up = λ p b u i j e. nearer t p b u is i j e;
+  children_once = λ p b i j. distinct_from (is_child_at t p b) 0 (size t);
   subscriber = λ s i. record { at_in = is.sound.home_in s i; here = put_among (λ z. nat_eq (home_of t z) (home_of t s)) (length t.subscribers) s i (eq-eqb (home_of t s) (home_of t s) refl) };
   up_below = λ p b i j e. (is.rooted p i).up_some b j (λ same. true≢false (sym (eq-eqb (host_of t p) b (sym same)) ∙ e));
   child_up = λ p b c i j m. child_up t p b c is i (among (is_child_at t p b) (size t) c m).0;

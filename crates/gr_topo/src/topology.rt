@@ -2,7 +2,7 @@
 
 ghost use Rattle.std.specs.Prelude.{◌≡◌, ℕ, ◌<◌, ◌≤◌, List, length, map, true, IfOk, OnOk, IfSome, slice_index};
 ghost use Rattle.std.specs.Option.{option_map};
-ghost use Rattle.gr_filter.specs.Gives.{filter_tree};
+ghost use Rattle.gr_filter.specs.Tree.{tree_of as filter_tree};
 ghost use Rattle.gr_tree.specs.Walks.{IsWithin, IsRooted, HasOnlyPaths, is_tree, places_of};
 ghost use Rattle.gr_topo.specs.Topology.{IsSound, IsTopology, name_at, number_of, blank, host_of, home_of, filter_of, address_of, up_at, depth_at, children_of, subscribers_of, passes_by, below_of, keeps_horizon_at, is_child_at, is_some_list};
 

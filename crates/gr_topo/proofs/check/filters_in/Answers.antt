@@ -4,7 +4,7 @@ use Rattle.std.specs.Slice.Iter.{iter_rest}
 use Rattle.std.specs.Iterator.Adapters.{zip_first, zip_second}
 use Rattle.std.proofs.lemmas.Slice.Zip.{Zip-more, either_empty_from_Zip}
 use Rattle.std.proofs.lemmas.List.{map-append}
-use Rattle.gr_filter.specs.Gives.{filter_tree}
+use Rattle.gr_filter.specs.Tree.{tree_of as filter_tree}
 use Rattle.gr_topo.specs.Gives.{walk, one_more}
 use Rattle.gr_topo.specs.Checks.{filter_beside}
 use Rattle.gr_topo.proofs.Faults.{fails_as}

@@ -2,7 +2,7 @@ use Rattle.std.proofs.Common.{◌≡◌, map, option_map}
 use Rattle.std.specs.List.{zip}
 use Rattle.std.specs.Slice.Iter.{iter_rest}
 use Rattle.std.specs.Iterator.Adapters.{zip_first, zip_second}
-use Rattle.gr_filter.specs.Gives.{filter_tree}
+use Rattle.gr_filter.specs.Tree.{tree_of as filter_tree}
 use Rattle.gr_topo.specs.Gives.{walk, one_more}
 use Rattle.gr_topo.specs.Checks.{filter_beside, filters_in}
 use Rattle.gr_topo.proofs.check.filters_in.Given as goal

@@ -1,5 +1,5 @@
 use Rattle.std.proofs.Common.{map, option_map}
-use Rattle.gr_filter.specs.Gives.{filter_tree}
+use Rattle.gr_filter.specs.Tree.{tree_of as filter_tree}
 use Rattle.gr_topo.specs.Draft.{draft_lists}
 use Rattle.gr_topo.specs.Parts.{resolved_lists}
 use Rattle.gr_topo.proofs.Sound.{read_sound}
