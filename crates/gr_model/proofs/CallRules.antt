@@ -34,11 +34,11 @@ by_turn g [] ws = []
 by_turn g (c ∷ cs) [] = []
 by_turn g (c ∷ cs) (w ∷ ws) = g c w ++ by_turn g cs ws
 
-flat_map_same : (f g : ℕ → List Frame) (cs : List ℕ) → ((d : ℕ) → list_any (λ x. nat_eq x d) cs ≡ true → f d ≡ g d) → flat_map f cs ≡ flat_map g cs
+pub flat_map_same : (f g : ℕ → List Frame) (cs : List ℕ) → ((d : ℕ) → list_any (λ x. nat_eq x d) cs ≡ true → f d ≡ g d) → flat_map f cs ≡ flat_map g cs
 flat_map_same f g [] h = refl
 flat_map_same f g (c ∷ cs) h = ap₂ (λ x y. x ++ y) (h c (or_left (nat_eq c c) (list_any (λ x. nat_eq x c) cs) (eq-eqb c c refl))) (flat_map_same f g cs (λ d m. h d (or_right (nat_eq c d) (list_any (λ x. nat_eq x d) cs) m)))
 
-apart : (c d : ℕ) (cs : List ℕ) → list_any (λ y. nat_eq y c) cs ≡ false → list_any (λ x. nat_eq x d) cs ≡ true → nat_eq c d ≡ false
+pub apart : (c d : ℕ) (cs : List ℕ) → list_any (λ y. nat_eq y c) cs ≡ false → list_any (λ x. nat_eq x d) cs ≡ true → nat_eq c d ≡ false
 apart c d cs n m =
     elim (cases_Bool (nat_eq c d)) [
       | inl e ↦ absurd (both_ways (list_any (λ y. nat_eq y c) cs) n (subst (λ x. list_any (λ y. nat_eq y x) cs ≡ true) (sym (eqb-true c d e)) m))

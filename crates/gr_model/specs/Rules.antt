@@ -251,3 +251,11 @@ abbrev pub Comes : Net → ℕ → ℕ → ℕ → ℕ → Body → View → Log
 Comes net p from to now (body.Knowledge runs) v log o = NewTicks net p to runs v log o
 Comes net p from to now (body.Curiosity runs) v log o = ChildAsks net p to now from runs v log o
 Comes net p from to now (body.Expect tick) v log o = Expects net p to now tick v log o
+
+-- The rules leave nothing open: of one view, one log and one moment, two outcomes by one rule are the same.
+pub record RulesDetermine (net : Net) (p b : ℕ) : Type 0 where
+  pub new_ticks : (piece : Known) (v : View) (log : Log) (o u : Outcome) → NewTicks net p b piece v log o → NewTicks net p b piece v log u → o ≡ u
+  pub child_asks : (now c : ℕ) (piece : Wanted) (v : View) (log : Log) (o u : Outcome) → ChildAsks net p b now c piece v log o → ChildAsks net p b now c piece v log u → o ≡ u
+  pub expects : (now tick : ℕ) (v : View) (log : Log) (o u : Outcome) → Expects net p b now tick v log o → Expects net p b now tick v log u → o ≡ u
+  pub wakes : (now : ℕ) (v : View) (log : Log) (o u : Outcome) → Wakes net p b now v log o → Wakes net p b now v log u → o ≡ u
+  pub publishes : (now number : ℕ) (e : Event) (v : View) (log : Log) (o u : Outcome) → Publishes net p b now number e v log o → Publishes net p b now number e v log u → o ≡ u
