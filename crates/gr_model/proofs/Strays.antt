@@ -1,5 +1,5 @@
 -- No frame is a stray: each goes over an edge of the tree, since a broker tells only its children and asks only the next broker up
-use Rattle.std.proofs.Common.{◌≡◌, ℕ, suc, ◌+◌, ◌-◌, ◌<◌, max, Bool, true, false, List, [], ◌∷◌, ◌++◌, map, refl, sym, subst, Option, Some, None}
+use Rattle.std.proofs.Common.{◌≡◌, ℕ, suc, ◌+◌, ◌-◌, ◌<◌, max, Bool, true, false, List, [], ◌∷◌, map, refl, Option, Some, None}
 use Rattle.std.specs.Prelude.{nat_eq, nat_le, nat_lt, if◌then◌else◌}
 use Rattle.std.specs.List.{list_any}
 use Rattle.std.proofs.lemmas.Bool.{eq-eqb, or_left, or_right}
@@ -16,9 +16,9 @@ use Rattle.gr_model.specs.declared.report.Report.TheVariants as line
 use Rattle.gr_model.specs.Net.{Net, is_host}
 use Rattle.gr_model.specs.Broker.{View, Log, Outcome, head, know_frames, want_frames, up_frames, expect_frame, forward, forward_frames, expect_frames, new_ticks, covers, learn, asking, curiosity, expect, marking, cutting, wake, wake_host, wake_below, receive, clashes, place_of, publish, silence, with_event, with_mark, max_tick}
 use Rattle.gr_model.specs.World.{World, view_of, log_of, absorbed, frame_at, wake_for, deliver_frame, publish_now, restarted, start, run_all}
-use Rattle.gr_model.specs.Edges.{GoesBetween, GoesOverEdge}
+use Rattle.gr_model.specs.Edges.{GoesOverEdge}
 use Rattle.gr_model.specs.Tree.{IsNet}
-use Rattle.gr_model.specs.Fits.{WorldFits, FrameTrue, BodyFits, StepsIn}
+use Rattle.gr_model.specs.Fits.{FrameTrue, BodyFits, StepsIn}
 use Rattle.gr_model.proofs.Worlds.{Each}
 use Rattle.gr_model.proofs.AskMoments.{Each-on}
 use Rattle.gr_model.proofs.Closed.{IsClosed, holds_always, frame_at_ready}
