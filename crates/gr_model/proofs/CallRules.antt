@@ -10,6 +10,7 @@ use Rattle.gr_curio.specs.declared.values.Q3.{Q3}
 use Rattle.gr_curio.specs.declared.values.Q3.TheVariants.{N, C, A}
 use Rattle.gr_curio.specs.declared.asks.Moment.TheVariants.{Never, At}
 use Rattle.gr_frame.specs.declared.Frame.{Frame}
+use Rattle.gr_frame.specs.Bytes.{cut_frames}
 use Rattle.gr_tick.specs.Runs.{AreRuns, IsNone, first_bottom_from, zip_runs, points}
 use Rattle.gr_know.specs.Values.{Known, known_at, is_Q, join_K, same_K}
 use Rattle.gr_curio.specs.Values.{Wanted, wanted_at, asked_at, is_C, is_A, is_outstanding}
@@ -19,7 +20,7 @@ use Rattle.gr_model.specs.Tree.{IsDistinct, IsPlace}
 use Rattle.gr_model.specs.Truth.{Facts, KnowsTruth, WantsTruth, AllWantTruth}
 use Rattle.gr_model.specs.Fits.{ViewTrue}
 use Rattle.gr_model.specs.Rules.{IsChild, wants_from, want_at, Moves, Forgets, Knows, event_of, TellsOn, NewTicks, ChildAsks, Asks, wanted_by_age, TellsToExpect, Expects}
-use Rattle.gr_tick.proofs.RunLaws.{AreRunsOf, first_bottom_from-is, value_at-step}
+use Rattle.gr_tick.proofs.RunLaws.{runs_equal, AreRunsOf, first_bottom_from-is, value_at-step}
 use Rattle.gr_model.proofs.Told.{data_of, data_ticks_rise, data_ticks_in, data_ticks_out}
 use Rattle.gr_model.proofs.CallTruth.{IsWanted, A_is, expect_wanted, new_ticks-is, forward-is, quenched-is, finished-is, joined-is, learn_wants, done_runs, done_values, learned_horizon, curiosity_wants}
 use Rattle.gr_model.proofs.CallTicks.{IsTrimmed, trimmed-is, due-at, noted-at, upward-at, wake_wanted, wake_points}
@@ -34,11 +35,11 @@ by_turn g [] ws = []
 by_turn g (c ∷ cs) [] = []
 by_turn g (c ∷ cs) (w ∷ ws) = g c w ++ by_turn g cs ws
 
-flat_map_same : (f g : ℕ → List Frame) (cs : List ℕ) → ((d : ℕ) → list_any (λ x. nat_eq x d) cs ≡ true → f d ≡ g d) → flat_map f cs ≡ flat_map g cs
+pub flat_map_same : (f g : ℕ → List Frame) (cs : List ℕ) → ((d : ℕ) → list_any (λ x. nat_eq x d) cs ≡ true → f d ≡ g d) → flat_map f cs ≡ flat_map g cs
 flat_map_same f g [] h = refl
 flat_map_same f g (c ∷ cs) h = ap₂ (λ x y. x ++ y) (h c (or_left (nat_eq c c) (list_any (λ x. nat_eq x c) cs) (eq-eqb c c refl))) (flat_map_same f g cs (λ d m. h d (or_right (nat_eq c d) (list_any (λ x. nat_eq x d) cs) m)))
 
-apart : (c d : ℕ) (cs : List ℕ) → list_any (λ y. nat_eq y c) cs ≡ false → list_any (λ x. nat_eq x d) cs ≡ true → nat_eq c d ≡ false
+pub apart : (c d : ℕ) (cs : List ℕ) → list_any (λ y. nat_eq y c) cs ≡ false → list_any (λ x. nat_eq x d) cs ≡ true → nat_eq c d ≡ false
 apart c d cs n m =
     elim (cases_Bool (nat_eq c d)) [
       | inl e ↦ absurd (both_ways (list_any (λ y. nat_eq y c) cs) n (subst (λ x. list_any (λ y. nat_eq y x) cs ≡ true) (sym (eqb-true c d e)) m))
@@ -140,6 +141,11 @@ knows_by net f p b at know u r a e =
 
 -- New ticks
 
+-- where nothing stands no frame is made
+nothing_sent : (b c p : ℕ) (x : Known) → AreRuns Q x → ((t : ℕ) → known_at x t ≡ Q) → know_frames b c p x ≡ []
+unfolding cut_frames
+nothing_sent b c p x r h = ap (know_frames b c p) (runs_equal Q 1 1 x [] r tt h)
+
 pub new_ticks_rule : (net : Net) (f : Facts) (p b : ℕ) (piece : Known) (v : View) (log : Log) → IsPlace net p b → IsDistinct (net.children p b) → ViewTrue net f p b v → KnowsTruth net f p b piece → NewTicks net p b piece v log (learn net p b piece v log)
 unfolding learn
 new_ticks_rule net f p b piece v log place distinct h k =
@@ -161,6 +167,7 @@ new_ticks_rule net f p b piece v log place distinct h k =
       sent = λ c. forward net p c (wants_from net p b v c) new;
       sent_is = λ c m. record { runs = (sends c m).runs; each = λ t. (sends c m).same_at t ∙ ap (λ x. if is_A (want_at net p b v c t) then Q else pass net p c x) (n.same_at t) };
       frames = forwarded_by_turn net p b new (net.children p b) v.wants ∙ turns_by_child (λ c w. know_frames b c p (forward net p c w new)) (net.children p b) v.wants long distinct;
+      none = λ c m h. nothing_sent b c p (forward net p c (wants_from net p b v c) new) (sends c m).runs h;
       wants = λ c m.
           let q = quenched-is (wants_from net p b v c) (forward net p c (wants_from net p b v c) new) (wants_true_at net f p (net.children p b) v.wants c h.wants m).runs (sends c m).runs in
           let e : get_or (trimmed net p b u).wants (place_of c (net.children p b)) [] ≡ quenched (wants_from net p b v c) (forward net p c (wants_from net p b v c) new) = ap (λ z. get_or z (place_of c (net.children p b)) []) i.wants ∙ quenched_by_child net p c new (net.children p b) v.wants long m in

@@ -58,6 +58,7 @@ pub mod ReplyLines
 pub mod Forgetting
 pub mod CallRules
 pub mod HostRules
+pub mod Determined
 pub mod Obeying
 pub mod Strays
 pub mod FirstUnknown

@@ -14,27 +14,39 @@ use Rattle.gr_model.specs.declared.report.Report.{Report}
 use Rattle.gr_model.specs.declared.report.Report.TheVariants as line
 use Rattle.gr_frame.specs.Bytes.{frame_bytes}
 use Rattle.gr_model.specs.Net.{Net, keeps_horizon, not_empty, numbers}
-use Rattle.gr_model.specs.Broker.{Log, with_event, is_kept, max_tick, publish, wake, receive}
-use Rattle.gr_model.specs.World.{World, Told, is_want, inwards, outwards, view_of, log_of, unchanged, in_turn, wake_for, wake_all, deliver_frame, frame_at, publish_now, opened_lines, restarted, crash, publish_stopped, sweep, sweep_moment, kept_events, show, next, start, run_all}
+use Rattle.gr_model.specs.Rules.{Publishes, Wakes, Comes}
+use Rattle.gr_model.specs.Broker.{View, Log, Outcome, with_event, is_kept, max_tick, publish, wake, receive}
+use Rattle.gr_model.specs.World.{absorbed, World, Told, is_want, inwards, outwards, view_of, log_of, unchanged, in_turn, wake_for, wake_all, deliver_frame, frame_at, publish_now, opened_lines, restarted, crash, publish_stopped, sweep, sweep_moment, kept_events, show, next, start, run_from, report_of}
 use Rattle.gr_model.specs.Tree.{IsNet}
 use Rattle.gr_model.specs.Fits.{WorldFits, StepIn, StepsIn, reached_in}
 use Rattle.gr_model.specs.Settles.{sent_past, Call, wakes, delivers, made, all_made, WasSent, EachSent, at_sweep, sweep_calls, is_accepted, calls_in_turn, up_calls, wake_calls, down_calls, sweep_calls_for}
-use Rattle.gr_model.specs.Obeys.{Action, publishes, makes, done, all_done, CallObeys, AllObey, is_next_of, calls_of, called_in, is_own, is_crashed, StepObeys}
+use Rattle.gr_model.specs.Obeys.{Action, publishes, makes, done, all_done, CallObeys, AllObey, is_next_of, calls_of, called_in, is_own, is_crashed, Obeys, StepObeys, StepsObey, CallsObey}
 use Rattle.gr_model.proofs.Worlds.{depths_in, Each, wake_for_kept, deliver_kept, numbers_below}
-use Rattle.gr_model.proofs.Schedules.{always_true, clocked_fits, frame_at_true}
+use Rattle.gr_model.proofs.Schedules.{start_fits, next_kept, clocked_fits, frame_at_true}
 use Rattle.gr_model.proofs.SweepCalls.{made_is, sweep_is_calls, sweep_sent}
 use Rattle.gr_model.proofs.Rounds.{Each-join}
 use Rattle.gr_model.proofs.HostRules.{wakes_rule, publishes_rule, comes_rule}
 
 -- One call
 
+-- what a call leaves is put in its places
+put_in : (net : Net) (w : World) (a : Action) (b p : ℕ) (Rule : View → Log → Outcome → Type 0) (o : Outcome) → Rule (view_of w b p) (log_of w p) o → done net w a ≡ absorbed w b p o → Obeys net w a b p Rule
+unfolding absorbed
+put_in net w a b p Rule o r e = record {
+  outcome = o;
+  rule = r;
+  lines = ap (λ x. x.lines) e;
+  frames = ap (λ x. x.world.frames) e;
+  views = ap (λ x. x.world.views) e;
+  logs = ap (λ x. x.world.logs) e;
+  clock = ap (λ x. x.world.clock) e;
+}
+
 wake_obeys : (net : Net) (w : World) (b p : ℕ) → IsNet net → 1 ≤ net.quiet → WorldFits net w → b < net.brokers → p < net.publishers → CallObeys net w (makes (wakes b p))
 unfolding wake_for
-wake_obeys net w b p n quiet f i j = record {
-  outcome = wake net p b w.clock (view_of w b p) (log_of w p);
-  rule = wakes_rule net p b w.clock (view_of w b p) (log_of w p) (reached_in net w p) n quiet j i (f.logs p j) (f.views p b j i);
-  does = refl;
-}
+wake_obeys net w b p n quiet f i j =
+    put_in net w (makes (wakes b p)) b p (Wakes net p b w.clock) (wake net p b w.clock (view_of w b p) (log_of w p))
+    (wakes_rule net p b w.clock (view_of w b p) (log_of w p) (reached_in net w p) n quiet j i (f.logs p j) (f.views p b j i)) refl
 
 delivery_obeys : (net : Net) (w : World) (k : ℕ) (x : Frame) → IsNet net → WorldFits net w → frame_at w k ≡ Some x → CallObeys net w (makes (delivers k))
 unfolding deliver_frame
@@ -43,22 +55,16 @@ delivery_obeys net w k x n f e =
     let p = x.head.publisher in (
       x,
       e,
-      record {
-        outcome = receive net w.clock x (view_of w x.head.to p) (log_of w p);
-        rule = comes_rule net w.clock x (view_of w x.head.to p) (log_of w p) (reached_in net w p) n t.publisher_in t.fits t.told (f.views p x.head.to t.publisher_in t.fits.to_in);
-        does = made_is net w k x e;
-      },
+      put_in net w (makes (delivers k)) x.head.to p (Comes net p x.head.from x.head.to w.clock x.body) (receive net w.clock x (view_of w x.head.to p) (log_of w p))
+          (comes_rule net w.clock x (view_of w x.head.to p) (log_of w p) (reached_in net w p) n t.publisher_in t.fits t.told (f.views p x.head.to t.publisher_in t.fits.to_in)) (made_is net w k x e),
     )
 
 publish_obeys : (net : Net) (w : World) (p number : ℕ) (e : Event) → IsNet net → WorldFits net w → p < net.publishers → CallObeys net w (publishes p number e)
 unfolding publish_now
 publish_obeys net w p number e n f j =
     let i = n.host_in p j in
-    record {
-      outcome = publish net p (net.host p) w.clock number e (view_of w (net.host p) p) (log_of w p);
-      rule = publishes_rule net p (net.host p) w.clock number e (view_of w (net.host p) p) (log_of w p) (reached_in net w p) n j i (eq-eqb (net.host p) (net.host p) refl) (f.logs p j) (f.views p (net.host p) j i);
-      does = refl;
-    }
+    put_in net w (publishes p number e) (net.host p) p (Publishes net p (net.host p) w.clock number e) (publish net p (net.host p) w.clock number e (view_of w (net.host p) p) (log_of w p))
+    (publishes_rule net p (net.host p) w.clock number e (view_of w (net.host p) p) (log_of w p) (reached_in net w p) n j i (eq-eqb (net.host p) (net.host p) refl) (f.logs p j) (f.views p (net.host p) j i)) refl
 
 -- The calls of a sweep
 
@@ -333,10 +339,16 @@ step_parts net w number step.Sweep n quiet f i = sweep_parts net w number n quie
 step_parts net w number step.Show n quiet f i = no_calls net w (unchanged w (show net w)) (show_own net w) refl (λ z. refl) (λ z. refl)
 step_parts net w number (step.Bytes k) n quiet f i = bytes_parts net w number k
 
-pub next_obeys : (net : Net) (w : World) (l : Line) → IsNet net → 1 ≤ net.quiet → WorldFits net w → StepIn net l.step → StepObeys net w l
+next_obeys : (net : Net) (w : World) (l : Line) → IsNet net → 1 ≤ net.quiet → WorldFits net w → StepIn net l.step → StepObeys net w l (next net w l).lines
 unfolding next calls_of called_in
 next_obeys net w l n quiet f i = let x = step_parts net w l.number l.step n quiet f i in record { obey = x.obey; own = x.own; lines = x.lines; own_only = x.own_only; frames = x.frames; views = x.views; logs = x.logs }
 
--- after every schedule the calls of the next step obey their rules
-pub always_obeys : (net : Net) (steps : List Line) (l : Line) → IsNet net → 1 ≤ net.quiet → StepsIn net steps → StepIn net l.step → StepObeys net (run_all net (start net) steps).world l
-always_obeys net steps l n quiet i j = next_obeys net (run_all net (start net) steps).world l n quiet (always_true net steps n i) j
+steps_obey : (net : Net) (w : World) (ls : List Line) → IsNet net → 1 ≤ net.quiet → WorldFits net w → StepsIn net ls → StepsObey net w ls (run_from net w ls)
+unfolding run_from
+steps_obey net w [] n quiet f i = tt
+steps_obey net w (l ∷ ls) n quiet f i = (next_obeys net w l n quiet f i.0, steps_obey net (next net w l).world ls n quiet (next_kept net w l n f i.0).fits i.1)
+
+-- over every schedule the calls of each step obey their rules
+pub always_obeys : (net : Net) (steps : List Line) → IsNet net → 1 ≤ net.quiet → StepsIn net steps → CallsObey net steps (report_of net steps)
+unfolding report_of
+always_obeys net steps n quiet i = (refl, steps_obey net (start net) steps n quiet (start_fits net n) i)

@@ -1,5 +1,5 @@
 -- Refused and bytes lines stand exactly where the steps and the frames sent demand, since no call of a broker tells one; and frames are numbered on
-use Rattle.std.proofs.Common.{◌≡◌, inl, inr, ℕ, suc, ◌+◌, ◌≤◌, max, Bool, true, false, ◌&&◌, List, [], ◌∷◌, ◌++◌, map, length, set, refl, sym, ap, ap₂, ◌∙◌, Option, Some, None}
+use Rattle.std.proofs.Common.{◌≡◌, inl, inr, ℕ, suc, ◌≤◌, max, Bool, true, false, ◌&&◌, List, [], ◌∷◌, ◌++◌, map, length, set, refl, sym, ap, ap₂, ◌∙◌, Option, Some, None}
 use Rattle.std.specs.Prelude.{nat_eq, nat_le, nat_lt, if◌then◌else◌, flat_map, filter, get_or, not}
 use Rattle.std.proofs.lemmas.List.Elements.{filter-append}
 use Rattle.std.proofs.lemmas.Bool.{cases_Bool, lt-leb, le-leb, ltb-true, ltb-false}
@@ -16,7 +16,7 @@ use Rattle.gr_model.specs.declared.report.Report.{Report}
 use Rattle.gr_model.specs.declared.report.Report.TheVariants as line
 use Rattle.gr_model.specs.Net.{Net, is_host, keeps_horizon, numbers, numbers_from, not_empty}
 use Rattle.gr_model.specs.Broker.{View, Log, Outcome, empty_log, is_kept, marking, cutting, wake, wake_host, wake_below, asking, publish, receive, with_event, max_tick}
-use Rattle.gr_model.specs.World.{World, Told, view_of, log_of, absorbed, unchanged, in_turn, sent_line, sent_lines, wake_for, deliver_frame, frame_at, publish_now, restarted, crash, publish_stopped, sweep_for, sweep, sweep_moment, next, show, start, opened_lines, kept_events, run_from, report_of}
+use Rattle.gr_model.specs.World.{World, Told, view_of, log_of, absorbed, unchanged, in_turn, sent_line, sent_lines, wake_for, wake_all, deliver_frame, frame_at, publish_now, restarted, crash, publish_stopped, sweep_for, sweep, sweep_moment, next, show, start, opened_lines, kept_events, run_from, report_of}
 use Rattle.gr_model.specs.World as world
 use Rattle.gr_model.specs.Headline.{Recorded, History, begin, after, publish_line, may_crash, sent_number, sent_count}
 use Rattle.gr_model.specs.Replies.{is_reply, frame_of_line, shown_bytes, replies, StepReplied, Replied_from, Replied}

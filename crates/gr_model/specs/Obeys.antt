@@ -1,5 +1,5 @@
 -- The calls of each step in their order: each obeys its rule, and the step's lines are theirs and its own
-use Rattle.std.specs.Prelude.{◌≡◌, ℕ, suc, max, Bool, true, false, ◌&&◌, ◌||◌, nat_eq, nat_le, if◌then◌else◌, List, [], ◌∷◌, ◌++◌, map, filter, Some, None}
+use Rattle.std.specs.Prelude.{◌≡◌, ℕ, suc, max, Bool, true, false, ◌&&◌, ◌||◌, nat_eq, nat_le, if◌then◌else◌, List, [], ◌∷◌, ◌++◌, length, map, filter, set, Some, None}
 use Rattle.std.specs.List.{list_any}
 use Rattle.gr_event.specs.declared.event.Event.{Event}
 use Rattle.gr_frame.specs.declared.Frame.{Frame}
@@ -9,7 +9,7 @@ use Rattle.gr_model.specs.declared.report.Report.{Report}
 use Rattle.gr_model.specs.declared.report.Report.TheVariants as line
 use Rattle.gr_model.specs.Net.{Net, not_empty, numbers}
 use Rattle.gr_model.specs.Broker.{View, Log, Outcome, max_tick}
-use Rattle.gr_model.specs.World.{World, Told, view_of, log_of, absorbed, in_turn, publish_now, frame_at, next}
+use Rattle.gr_model.specs.World.{World, Told, view_of, log_of, with_view, sent_lines, in_turn, publish_now, frame_at, next, start}
 use Rattle.gr_model.specs.Settles.{Call, wakes, delivers, made, at_sweep, sweep_calls, is_accepted}
 use Rattle.gr_model.specs.Rules.{Publishes, Wakes, Comes}
 
@@ -27,12 +27,17 @@ done net w (makes c) = made net w c
 abbrev pub all_done : Net → List Action → World → Told
 all_done net cs w = in_turn (done net) cs w
 
--- The call of broker b for publisher p has an outcome by the rule, of the view and the log that b and p have now. Its lines are
--- told, and then a line for each of its frames, numbered on from all that were sent before (`absorbed`).
+-- The call of broker b for publisher p has an outcome by the rule, of the view and the log that b and p have now
 pub record Obeys (net : Net) (w : World) (a : Action) (b p : ℕ) (Rule : View → Log → Outcome → Type 0) : Type 0 where
   pub outcome : Outcome
   pub rule : Rule (view_of w b p) (log_of w p) outcome
-  pub does : done net w a ≡ absorbed w b p outcome
+  -- its lines are told, and then a line for each of its frames, numbered on from all that were sent before
+  pub lines : (done net w a).lines ≡ outcome.lines ++ sent_lines (suc (length w.frames)) outcome.frames
+  pub frames : (done net w a).world.frames ≡ w.frames ++ outcome.frames
+  -- the view of b for p and the log of p are those of the outcome, and nothing else changes
+  pub views : (done net w a).world.views ≡ with_view w.views b p outcome.view
+  pub logs : (done net w a).world.logs ≡ set w.logs p outcome.log
+  pub clock : (done net w a).world.clock ≡ w.clock
 
 -- each call by its rule; the frame that is delivered is the one of that number
 abbrev pub CallObeys : Net → World → Action → Type 0
@@ -90,14 +95,27 @@ is_crashed _ = false
 abbrev pub called : Net → World → Line → Told
 called net w l = all_done net (calls_of net w l) (called_in net w l)
 
-pub record StepObeys (net : Net) (w : World) (l : Line) : Type 0 where
+-- Of one step and its lines
+pub record StepObeys (net : Net) (w : World) (l : Line) (ls : List Report) : Type 0 where
   -- each of its calls obeys its rule
   pub obey : AllObey net (calls_of net w l) (called_in net w l)
-  -- its lines are those of its calls, in order, and then its own
+  -- the lines are those of its calls, in order, and then its own
   pub own : List Report
-  pub lines : (next net w l).lines ≡ (called net w l).lines ++ own
+  pub lines : ls ≡ (called net w l).lines ++ own
   pub own_only : filter is_own own ≡ own
   -- no frame is sent but by its calls; and where no broker crashes, no view and no log changes but by them
   pub frames : (next net w l).world.frames ≡ (called net w l).world.frames
   pub views : list_any is_crashed own ≡ false → (next net w l).world.views ≡ (called net w l).world.views
   pub logs : list_any is_crashed own ≡ false → (next net w l).world.logs ≡ (called net w l).world.logs
+
+-- the same of each step, in the world that the steps before it leave
+abbrev pub StepsObey : Net → World → List Line → List (List Report) → Type 0
+StepsObey net w [] [] = Unit {0}
+StepsObey net w (l ∷ ls) (r ∷ rs) = StepObeys net w l r × StepsObey net (next net w l).world ls rs
+StepsObey net w [] (r ∷ rs) = ⊥
+StepsObey net w (l ∷ ls) [] = ⊥
+
+-- each step of a report, whose first list is of the start and empty
+abbrev pub CallsObey : Net → List Line → List (List Report) → Type 0
+CallsObey net steps [] = ⊥
+CallsObey net steps (r ∷ rs) = (r ≡ []) × StepsObey net (start net) steps rs

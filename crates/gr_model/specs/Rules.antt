@@ -107,6 +107,8 @@ pub record NewTicks (net : Net) (p b : ℕ) (piece : Known) (v : View) (log : Lo
   pub sent : ℕ → Known
   pub sent_is : (c : ℕ) → IsChild net p b c → HasKnown (λ t. if is_A (want_at net p b v c t) then Q else pass net p c (new_K (known_at v.know t) (known_at piece t))) (sent c)
   pub frames : o.frames ≡ frames_down net p b sent
+  -- A child that is sent nothing gets no frame.
+  pub none : (c : ℕ) → IsChild net p b c → ((t : ℕ) → known_at (sent c) t ≡ Q) → know_frames b c p (sent c) ≡ []
   -- What a child asked is done where it was sent something.
   pub wants : (c : ℕ) → IsChild net p b c → HasWanted (λ t. if is_C (want_at net p b v c t) && not (is_Q (known_at (sent c) t)) then N else want_at net p b v c t) (wants_from net p b o.view c)
   pub all_wants : HasAllWants net p b o.view
@@ -251,3 +253,11 @@ abbrev pub Comes : Net → ℕ → ℕ → ℕ → ℕ → Body → View → Log
 Comes net p from to now (body.Knowledge runs) v log o = NewTicks net p to runs v log o
 Comes net p from to now (body.Curiosity runs) v log o = ChildAsks net p to now from runs v log o
 Comes net p from to now (body.Expect tick) v log o = Expects net p to now tick v log o
+
+-- The rules leave nothing open: of one view, one log and one moment, two outcomes by one rule are the same.
+pub record RulesDetermine (net : Net) (p b : ℕ) : Type 0 where
+  pub new_ticks : (piece : Known) (v : View) (log : Log) (o u : Outcome) → NewTicks net p b piece v log o → NewTicks net p b piece v log u → o ≡ u
+  pub child_asks : (now c : ℕ) (piece : Wanted) (v : View) (log : Log) (o u : Outcome) → ChildAsks net p b now c piece v log o → ChildAsks net p b now c piece v log u → o ≡ u
+  pub expects : (now tick : ℕ) (v : View) (log : Log) (o u : Outcome) → Expects net p b now tick v log o → Expects net p b now tick v log u → o ≡ u
+  pub wakes : (now : ℕ) (v : View) (log : Log) (o u : Outcome) → Wakes net p b now v log o → Wakes net p b now v log u → o ≡ u
+  pub publishes : (now number : ℕ) (e : Event) (v : View) (log : Log) (o u : Outcome) → Publishes net p b now number e v log o → Publishes net p b now number e v log u → o ≡ u

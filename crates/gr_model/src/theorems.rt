@@ -15,7 +15,8 @@ ghost use Rattle.gr_model.specs.Headline.{GetsExactly, Headline, is_doubt_line, 
 ghost use Rattle.gr_model.specs.Order.{CutsInOrder, FramesSent};
 ghost use Rattle.gr_model.specs.Replies.{Replied};
 ghost use Rattle.gr_model.specs.Edges.{GoesOverEdge};
-ghost use Rattle.gr_model.specs.Obeys.{StepObeys};
+ghost use Rattle.gr_model.specs.Rules.{RulesDetermine};
+ghost use Rattle.gr_model.specs.Obeys.{CallsObey};
 ghost use Rattle.gr_model.specs.Settles.{SweepSettles, AllGot, is_accepted};
 ghost use Rattle.gr_model.specs.Blank.{net0};
 ghost use Rattle.gr_model.specs.Examples.{WorkedExamples};
@@ -80,7 +81,12 @@ pub fn frames_sent()
 /// then its own; and what each call keeps, tells and sends, and to whom, is what the rules say tick by tick of the broker's
 /// view and the publisher's log at that moment.
 pub fn calls_obey_rules()
-    ensures { (net : Net) (steps : List Line) (l : Line) → IsNet net → 1 ≤ net.quiet → StepsIn net steps → StepIn net l.step → StepObeys net (run_all net (start net) steps).world l }
+    ensures { (net : Net) (steps : List Line) → IsNet net → 1 ≤ net.quiet → StepsIn net steps → CallsObey net steps (report_of net steps) }
+{}
+
+/// The rules leave nothing open: what a call does is the only outcome by its rule, of one view, one log and one moment.
+pub fn rules_determine()
+    ensures { (net : Net) (p b : ℕ) → IsNet net → p < net.publishers → b < net.brokers → RulesDetermine net p b }
 {}
 
 /// Every step is replied as the schedule and the frames sent demand: refused where it is to be refused and nowhere else,
