@@ -25,7 +25,7 @@ use Rattle.gr_frame.specs.Bytes.{known_bytes, wanted_bytes, runs_bytes, frame_by
 use Rattle.gr_frame.specs.Cut.{parts_of, joined, AreFrames}
 use Rattle.gr_frame.specs.Decode.{run_size, known_form, wanted_form}
 use Rattle.gr_frame.specs.Form.{Form}
-use Rattle.gr_frame.specs.Limits.{IsKnown, IsWanted, IsPiece, IsBody, IsHead, IsFrame}
+use Rattle.gr_frame.specs.Limits.{IsKnown, IsWanted, IsPiece, IsBody, IsHead, IsWhole, IsFrame}
 use Rattle.gr_frame.proofs.Events.{length-event_bytes}
 
 module _ {V : Type 0} where
@@ -451,6 +451,32 @@ expect_framed f t bytes e head one upto made =
     let size : length bytes ≡ 20 = ap length made in
     let whole : IsBody f.body = subst IsBody (sym e) (one, upto) in
     subst (AreFrames (bytes ∷ [])) (sym (expect_parts f t e)) (record { whole = record { head = head; body = whole }; spelled = framed; short = omega (arith, size) }, tt)
+
+-- Parts of a frame
+
+-- what spells frames is not cut again
+each_not_cut : (bs : List (List ℕ)) (ps : List Frame) → AreFrames bs ps → AllByRecursion {X = Frame} (λ p. parts_of p ≡ p ∷ []) ps
+each_not_cut [] [] h = tt
+each_not_cut [] (p ∷ ps) h = elim h [ ]
+each_not_cut (b ∷ bs) [] h = elim h [ ]
+each_not_cut (b ∷ bs) (p ∷ ps) h = (not_cut b p h.0, each_not_cut bs ps h.1)
+
+parts_under : (h : Head) (x : Body) → IsHead h → IsBody x → AllByRecursion {X = Frame} (λ p. parts_of p ≡ p ∷ []) (parts_of (record { head = h; body = x }))
+parts_under h (body.Knowledge rs) head is =
+    let f : Frame = record { head = h; body = body.Knowledge rs } in
+    let made = map (λ part. head_bytes 1 h (length part) ++ runs_bytes known_bytes part) (cut_frames known_run_size rs) in
+    each_not_cut made (parts_of f) (known_framed f rs made refl head is refl)
+parts_under h (body.Curiosity rs) head is =
+    let f : Frame = record { head = h; body = body.Curiosity rs } in
+    let made = map (λ part. head_bytes 2 h (length part) ++ runs_bytes wanted_bytes part) (cut_frames wanted_run_size rs) in
+    each_not_cut made (parts_of f) (wanted_framed f rs made refl head is refl)
+parts_under h (body.Expect t) head is =
+    let f : Frame = record { head = h; body = body.Expect t } in
+    subst (AllByRecursion {X = Frame} (λ p. parts_of p ≡ p ∷ [])) (sym (expect_parts f t refl)) (expect_parts f t refl, tt)
+
+-- no part of a frame is cut again
+pub parts_not_cut : (f : Frame) → IsWhole f → AllByRecursion {X = Frame} (λ p. parts_of p ≡ p ∷ []) (parts_of f)
+parts_not_cut f is = parts_under f.head f.body is.head is.body
 
 -- Results
 

@@ -36,7 +36,8 @@ pub fn cut_loses_nothing()
     ensures wanted { (rs : List (Run Q3)) → joined (cut_frames wanted_run_size rs) ≡ rs }
 {}
 
-/// Only a frame that is too long is cut.
+/// Only a frame that is too long is cut, and none of its parts is cut again: a part is written as its one spelling.
 pub fn one_frame_is_not_cut()
-    ensures { (bytes : List ℕ) (f : Frame) → IsFrame bytes f → parts_of f ≡ f ∷ [] }
+    ensures whole { (bytes : List ℕ) (f : Frame) → IsFrame bytes f → parts_of f ≡ f ∷ [] }
+    ensures parts { (f : Frame) → IsWhole f → AllByRecursion (λ p. parts_of p ≡ p ∷ []) (parts_of f) }
 {}
