@@ -1,6 +1,6 @@
 -- What a lane in memory keeps of one more call.
-use Rattle.std.proofs.Common.{◌≡◌, ℕ, zero, suc, ◌+◌, ◌*◌, ◌-◌, ◌%◌, ◌<◌, ◌≤◌, Bool, true, false, if◌then◌else◌, List, [], ◌∷◌, ◌++◌, length, take, drop, get_or, set, refl, ap, sym, ◌∙◌, arith, append_assoc, append-nil, length-drop, length-take, length-append, replicate, min}
-use Rattle.std.proofs.lemmas.List.{drop-drop, take-append-le, drop-append-le, drop_at, take_all, drop_more, drop-set-lt, take_more_set, length-replicate, get_or_past, get_or_push, get_or-append_right, get_or_append_left}
+use Rattle.std.proofs.Common.{◌≡◌, ℕ, zero, suc, ◌+◌, ◌*◌, ◌-◌, ◌%◌, ◌<◌, ◌≤◌, Bool, true, false, if◌then◌else◌, List, [], ◌∷◌, ◌++◌, length, take, drop, get_or, set, refl, ap, sym, ◌∙◌, arith, append_assoc, length-drop, length-take, length-append, replicate, min}
+use Rattle.std.proofs.lemmas.List.{drop-drop, take-append-le, drop-append-le, drop_at, take_all, drop_more, drop-set-lt, take_more_set, length-replicate}
 use Rattle.gr_out.specs.declared.mem_lane.Entry.{Entry}
 use Rattle.gr_out.specs.declared.mem_lane.Entry.TheVariants as entry
 use Rattle.gr_out.specs.Lane.{Lane, lane_at, blank, Call, Write, Cut, Sync, FailedWrite, FailedCut, garbled, over, read_after, synced_after, fresh_after}

@@ -1,5 +1,5 @@
 -- A lane of a disk: the calls on it, what it reads, and what a crash may leave of it
-use Rattle.std.specs.Prelude.{◌≡◌, ◌⊎◌, ℕ, ◌+◌, ◌-◌, ◌*◌, ◌%◌, ◌≤◌, min, max, Bool, true, false, ◌||◌, nat_le, nat_eq, if◌then◌else◌, List, [], ◌∷◌, ◌++◌, length, take, drop, replicate, get_or}
+use Rattle.std.specs.Prelude.{◌≡◌, ◌⊎◌, ℕ, ◌+◌, ◌-◌, ◌*◌, ◌%◌, ◌≤◌, min, max, Bool, true, false, nat_le, nat_eq, if◌then◌else◌, List, [], ◌∷◌, ◌++◌, length, take, drop, replicate, get_or}
 use Rattle.gr_out.specs.declared.disk.Stop.{Stop}
 use Rattle.gr_out.specs.declared.disk.Stop.TheVariants.{Unset, After, Stopped}
 use Rattle.gr_out.specs.declared.disk.Fate.{Fate}

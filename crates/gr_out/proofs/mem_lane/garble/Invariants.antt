@@ -1,4 +1,4 @@
-use Rattle.std.proofs.Common.{◌≡◌, ◌++◌, length, take, drop}
+use Rattle.std.proofs.Common.{◌≡◌, ◌++◌, take, drop}
 use Rattle.gr_out.specs.Lane.{garbled}
 use Rattle.gr_out.proofs.mem_lane.garble.Given as goal
 

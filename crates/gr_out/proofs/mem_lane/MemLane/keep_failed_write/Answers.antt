@@ -1,11 +1,11 @@
 -- One more call is kept with the others
-use Rattle.std.proofs.Common.{◌≡◌, ◌<◌, ◌≤◌, List, [], ◌∷◌, length, take, ap, ◌∙◌, arith, length-take, refl}
+use Rattle.std.proofs.Common.{◌≡◌, ◌<◌, List, [], ◌∷◌, ap, ◌∙◌, arith}
 use Rattle.gr_out.specs.contracts.mem_lane.MemLane.{the_view}
 use Rattle.gr_out.specs.declared.mem_lane.Entry.{Entry}
 use Rattle.gr_out.specs.declared.mem_lane.Entry.TheVariants as entry
-use Rattle.gr_out.specs.Lane.{Lane, Call, Write, Cut, Sync, FailedWrite, FailedCut}
+use Rattle.gr_out.specs.Lane.{Lane, Call, FailedWrite}
 use Rattle.gr_out.specs.Kept.{calls_of, written_len, with_calls}
-use Rattle.gr_out.proofs.Lanes.{one_more_write, one_more_cut, one_more_sync, one_more_failed_write, one_more_failed_cut, written_len-append, one_call_less, one_write_less, kept_write, kept_cut, kept_sync, kept_failed_write, kept_failed_cut, length-over}
+use Rattle.gr_out.proofs.Lanes.{one_more_failed_write, written_len-append, one_call_less, kept_failed_write}
 use Rattle.gr_out.proofs.mem_lane.MemLane.keep_failed_write.Goals as goal
 
 pub invariant_of-self : goal.invariant_of-self

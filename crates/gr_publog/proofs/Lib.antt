@@ -1,0 +1,5 @@
+pub mod Numbers
+pub mod Reading
+pub mod Moments
+pub mod Appending
+pub mod Crash
