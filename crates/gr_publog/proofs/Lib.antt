@@ -3,3 +3,4 @@ pub mod Reading
 pub mod Moments
 pub mod Appending
 pub mod Crash
+pub mod Opening

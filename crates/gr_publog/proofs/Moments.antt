@@ -5,7 +5,7 @@ use Rattle.gr_out.specs.declared.disk.Stop.{Stop}
 use Rattle.gr_out.specs.declared.disk.Stop.TheVariants.{Unset, After, Stopped}
 use Rattle.gr_out.specs.declared.disk.Fate.{Fate}
 use Rattle.gr_out.specs.declared.disk.Fate.TheVariants.{Done, Failed, Broken, Lost}
-use Rattle.gr_out.specs.Lane.{Lane, Call, Write, Cut, Sync, FailedWrite, FailedCut, content, read_after, over, Torn, LeftAfter, MayLeave, moment, LeftFrom, LeftSince, LeavesOnly, is_due, fate_of, with_call, with_failed, with_broken, after_call}
+use Rattle.gr_out.specs.Lane.{Lane, Call, Write, Cut, Sync, FailedWrite, FailedCut, content, read_after, over, Torn, Shortened, LeftAfter, MayLeave, moment, LeftFrom, LeftSince, LeavesOnly, is_due, fate_of, with_call, with_failed, with_broken, after_call}
 
 -- now there is nothing but what may be left now
 pub only_now : (start : List ℕ) (calls : List Call) (image : List ℕ) → LeftFrom start calls (length calls) image → LeftAfter start calls image
@@ -99,3 +99,36 @@ torn_over at bytes old within = record {
 
 pub torn_same : (at n : ℕ) (old : List ℕ) → Torn at n old old
 torn_same at n old = record { before = take_min at old; after = refl; no_shorter = omega arith; no_longer = omega arith }
+
+-- Cuts
+
+module _ (start : List ℕ) (calls : List Call) (len : ℕ) where
+  cut_fate : (fate : Fate) (n : ℕ) (image : List ℕ) → LeftFrom start (with_call fate (Cut len) calls) n image
+      → LeftFrom start calls n image ⊎ ((old : List ℕ) × LeftAfter start calls old × Shortened len old image)
+  cut_fate Done n image (inl now) = inr now
+  cut_fate Done n image (inr before) = inl before.1
+  cut_fate Failed n image (inl now) = inr now
+  cut_fate Failed n image (inr before) = inl before.1
+  cut_fate Broken n image (inl now) = inr now
+  cut_fate Broken n image (inr before) = inl before.1
+  cut_fate Lost n image left = inl left
+
+pub cut_since : (l l' : Lane) (len : ℕ) (fails : Bool) → l' ≡ after_call (Cut len) fails l → (n : ℕ) (image : List ℕ) → LeftSince l' n image
+    → LeftSince l n image ⊎ ((old : List ℕ) × MayLeave l old × Shortened len old image)
+cut_since l l' len fails is n image left = cut_fate l.start l.calls len (fate_of fails l.stop) n image (subst (λ (x : Lane). LeftSince x n image) is left)
+
+pub was_cut : (l l' : Lane) (len : ℕ) → l' ≡ after_call (Cut len) false l → is_due l.stop ≡ false → content l' ≡ take len (content l)
+was_cut l l' len is due = ap content is ∙ ap (λ (f : Fate). read_after l.start (with_call f (Cut len) l.calls)) (done l.stop due)
+
+-- a lane that was cut leaves what a cut may leave
+pub cut_leaves : (l l' : Lane) (len : ℕ) → l' ≡ after_call (Cut len) false l → is_due l.stop ≡ false → (image : List ℕ) → MayLeave l' image → (old : List ℕ) × MayLeave l old × Shortened len old image
+cut_leaves l l' len is due image left =
+    subst (λ (f : Fate). LeftAfter l.start (with_call f (Cut len) l.calls) image) (done l.stop due) (subst (λ (x : Lane). MayLeave x image) is left)
+
+-- no image of a cut is longer than what was cut
+pub no_longer_cut : (n : ℕ) (old image : List ℕ) → Shortened n old image → length image ≤ length old
+no_longer_cut n old image s = omega (arith, ap length s.front, length-take (length image) old)
+
+-- no call takes a moment back
+pub sync_keeps : (l l' : Lane) (fails : Bool) → l' ≡ after_call Sync fails l → moment l ≤ moment l'
+sync_keeps l l' fails is = subst (λ (x : Lane). moment l ≤ moment x) (sym is) (sync_later l.start l.calls (fate_of fails l.stop))

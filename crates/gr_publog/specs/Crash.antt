@@ -1,7 +1,9 @@
 -- What a crash leaves while a record is appended
-use Rattle.std.specs.Prelude.{◌≡◌, ◌⊎◌, ℕ, ◌+◌, Bool, true, List, [], ◌∷◌, ◌++◌, length, Ok}
+use Rattle.std.specs.Prelude.{◌≡◌, ◌⊎◌, ℕ, ◌+◌, Bool, true, List, [], ◌∷◌, ◌++◌, length, Result, Ok, Err, IsErrOf}
 use Rattle.gr_out.specs.Lane.{Lane, content, over, Torn, LeavesOnly}
 use Rattle.gr_out.specs.Faults.{Rose}
+use Rattle.gr_publog.specs.declared.record.LogFault.{LogFault}
+use Rattle.gr_publog.specs.declared.record.LogFault.TheVariants as fault
 use Rattle.gr_publog.specs.declared.record.Record.{Record}
 use Rattle.gr_publog.specs.Text.{IsSpelled, log_text}
 
@@ -42,3 +44,23 @@ with_record r l = record { lane = l.lane; records = l.records ++ r ∷ []; broke
 -- no more to be used
 abbrev pub failed : LogView → LogView
 failed l = record { lane = l.lane; records = l.records; broken = true }
+
+-- a log is opened as what its lane reads: its records, or the place of the first fault
+abbrev pub OpensAs : Result LogView LogFault → Result (List Record) ℕ → Type 0
+OpensAs (Ok l) read = read ≡ Ok l.records
+OpensAs (Err fault.Memory) read = Unit {0}
+OpensAs (Err fault.Disk) read = Unit {0}
+OpensAs (Err (fault.Damaged at)) read = read ≡ Err at
+OpensAs (Err fault.Reopen) read = ⊥
+
+-- the call gave up for memory or for the disk
+abbrev pub GaveUp : {X : Type 0} → Result X LogFault → Type 0
+GaveUp (Ok x) = Unit {0}
+GaveUp (Err fault.Memory) = Unit {0}
+GaveUp (Err fault.Disk) = Unit {0}
+GaveUp (Err (fault.Damaged at)) = ⊥
+GaveUp (Err fault.Reopen) = ⊥
+
+-- the disk is told only where one of its two counts rose
+abbrev pub DiskRose : {X : Type 0} → Result X LogFault → ℕ → ℕ → ℕ → ℕ → Type 0
+DiskRose result faults faults' stops stops' = IsErrOf result fault.Disk → EitherRose faults faults' stops stops'
