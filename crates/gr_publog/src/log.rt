@@ -1,18 +1,18 @@
 //! A log on its lane.
 
-ghost use Rattle.std.specs.Prelude.{◌≡◌, ◌≢◌, ◌↔◌, ℕ, ◌+◌, ◌≤◌, ◌<◌, ◌^◌, ◌++◌, ◌∷◌, [], Bool, true, false, List, length, Err, OnErr, IsTrue, vec_len, IfOk, OnOk, IsErrOf, MatchResult};
+ghost use Rattle.std.specs.Prelude.{◌≡◌, ◌≢◌, ◌↔◌, ◌⊎◌, ℕ, ◌+◌, ◌≤◌, ◌<◌, ◌^◌, ◌++◌, ◌∷◌, [], Bool, true, false, List, length, Err, OnErr, IsTrue, vec_len, IfOk, OnOk, IsErrOf, MatchResult};
 ghost use Rattle.std.specs.Vec.{vec_capacity};
 ghost use Rattle.gr_event.specs.Event.{event_bytes};
-ghost use Rattle.gr_out.specs.Lane.{content, moment, LeftSince, with_room};
+ghost use Rattle.gr_out.specs.Lane.{content, moment, LeftSince, MayLeave, with_room};
 ghost use Rattle.gr_publog.specs.State.{empty_state, state_of, live_events, may_follow, Follow, IsSound};
 ghost use Rattle.gr_publog.specs.Text.{log_text, front_text, record_bytes, record_size};
-ghost use Rattle.gr_publog.specs.Crash.{LogView, with_record, failed, Stands, BeforeOrAfter, EitherRose};
+ghost use Rattle.gr_publog.specs.Crash.{LogView, with_record, failed, Stands, BeforeOrAfter, EitherRose, OpensAs, DiskRose};
 ghost use Rattle.gr_publog.specs.Gives.{Fails};
 ghost use Rattle.gr_publog.specs.declared.record.LogFault.TheVariants.{Memory as WantOfMemory, Disk as DiskFailed, Reopen as MustReopen};
 
 use crate::read::log_in;
 use crate::record::{Entry, LogFault, Memory, Record, State};
-use crate::steps::append_behind;
+use crate::steps::{append_behind, bytes_in, settle, start};
 use gr_event::Event;
 use gr_out::Disk;
 use std::alloc::{AllocError, Global};
@@ -136,6 +136,60 @@ fn prepare<D: Disk>(
 }
 
 impl Log {
+    /// Opens the log of a lane: room, a sync, and what the lane holds. A lane of at most 6 bytes is an empty log, and
+    /// gets the text of one. `Damaged` comes exactly where the lane holds no log, and `Disk` only where the disk
+    /// failed in this call.
+    pub fn open<D: Disk>(alloc: Global, disk: &mut D, lane: u16) -> Result<Log, LogFault>
+        ensures gives { D.tells → OpensAs result (log_text (content (D.lane_of disk.old lane))) }
+        ensures lane { IfOk result (λ l. l.lane ≡ lane) }
+        ensures whole { IfOk result (λ l. l.broken ≡ false) }
+        ensures stands { D.tells → IfOk result (λ l. Stands (D.lane_of disk.new lane) l.records) }
+        ensures any_moment { D.tells → (image : List ℕ) → LeftSince (D.lane_of disk.new lane) (moment (D.lane_of disk.old lane)) image → MayLeave (D.lane_of disk.old lane) image ⊎ (log_text image ≡ log_text (content (D.lane_of disk.old lane))) }
+        ensures never_reopen { result ≢ Err LogFault.Reopen }
+        ensures disk { DiskRose result (D.faults disk.old) (D.faults disk.new) (D.stops disk.old) (D.stops disk.new) }
+        ensures others { D.tells → (n : ℕ) → n ≢ lane → D.lane_of disk.new n ≡ D.lane_of disk.old n }
+    {
+        let size = match settle(disk, lane) {
+            Ok(size) => size,
+            Err(fault) => return Err(fault),
+        };
+        if size <= 6 {
+            return match start(disk, lane) {
+                Ok(()) => Ok(Log::empty(alloc, lane)),
+                Err(_) => Err(LogFault::Disk),
+            };
+        }
+        let bytes = match bytes_in(alloc, disk, lane, size) {
+            Ok(bytes) => bytes,
+            Err(fault) => return Err(fault),
+        };
+        match log_in(alloc, &bytes) {
+            Ok((records, state, gate)) => Ok(Log {
+                alloc,
+                lane,
+                gate: gate as u64,
+                records,
+                state,
+                broken: false,
+            }),
+            Err(fault) => Err(fault),
+        }
+    }
+
+    /// An empty log.
+    fn empty(alloc: Global, lane: u16) -> Log
+        ensures { result ≡ record { lane = lane; records = []; broken = false } }
+    {
+        Log {
+            alloc,
+            lane,
+            gate: 5,
+            records: Vec::new(alloc),
+            state: State::new(),
+            broken: false,
+        }
+    }
+
     /// Appends a record. `Ok` comes once it is synced. After `Memory` nothing has changed. After `Disk` the log has
     /// to be opened again, and answers `Reopen` from then on. It never answers `Damaged`.
     pub fn append<D: Disk>(&mut self, disk: &mut D, entry: &Record) -> Result<(), LogFault>

@@ -84,7 +84,12 @@ pub fn start<D: Disk>(disk: &mut D, lane: u16) -> Result<(), Failed>
 }
 
 /// The bytes of a lane.
-pub fn bytes_in<D: Disk>(alloc: Global, disk: &mut D, lane: u16, size: u64) -> Result<Vec<u8>, LogFault>
+pub fn bytes_in<D: Disk>(
+    alloc: Global,
+    disk: &mut D,
+    lane: u16,
+    size: u64,
+) -> Result<Vec<u8>, LogFault>
     requires { D.tells → size ≡ length (content (D.lane_of disk.old lane)) }
     ensures bytes { D.tells → IfOk result (λ v. v.items ≡ content (D.lane_of disk.old lane)) }
     ensures len { IfOk result (λ v. length v.items ≡ size) }
