@@ -1,3 +1,6 @@
 pub mod Faults
 pub mod Bytes
 pub mod Memory
+pub mod Lane
+pub mod Stops
+pub mod Kept

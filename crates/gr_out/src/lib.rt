@@ -4,13 +4,18 @@
 //! answer leaves the count as it was. `MemSource` and `MemSink` say exactly which calls fail.
 #![tactic(auto)]
 
+pub mod disk;
 pub mod fault;
+pub mod mem_disk;
+pub mod mem_lane;
 pub mod memory;
 pub mod sink;
 pub mod source;
 pub mod whole;
 
+pub use disk::{Disk, Fate, SimDisk, Stop};
 pub use fault::{Failed, Memory, RunFault};
+pub use mem_disk::MemDisk;
 pub use memory::{MemSink, MemSource};
 pub use sink::Sink;
 pub use source::Source;

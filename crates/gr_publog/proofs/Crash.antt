@@ -1,0 +1,158 @@
+-- What a crash leaves while a record is appended reads as the records before, or with the one more.
+use Rattle.std.proofs.Common.{◌≡◌, ◌≢◌, ◌⊎◌, inl, inr, ⊎_elim, ℕ, ◌+◌, ◌-◌, ◌≤◌, ◌<◌, true, List, [], ◌∷◌, ◌++◌, length, take, drop, get_or, Ok, refl, ap, sym, ◌∙◌, subst, arith, append_assoc, append-nil, length-append, length-take, take-append-drop, min}
+use Rattle.std.proofs.lemmas.Bool.{cases_eq}
+use Rattle.std.proofs.lemmas.List.{take_at, drop_at, drop_more}
+use Rattle.gr_out.specs.Lane.{Lane, content, moment, LeftSince, LeavesOnly, with_room, over, Torn}
+use Rattle.gr_publog.specs.declared.record.State.{State}
+use Rattle.gr_publog.proofs.Moments.{only_now}
+use Rattle.gr_publog.specs.declared.record.Record.{Record}
+use Rattle.gr_publog.specs.State.{empty_state, state_of, may_follow, IsSound, Follow, after_record}
+use Rattle.gr_publog.specs.Text.{record_bytes, blocks, header, front_text, log_text, Closes, IsSpelled}
+use Rattle.gr_publog.specs.Crash.{behind_gate, opened_gate, IsBetween, BeforeOrAfter, Stands}
+use Rattle.gr_publog.proofs.Reading.{reads, blocks-append, follow_more, state_more}
+
+-- the text with one more record
+front_more : (rs : List Record) (r : Record) (rest : List ℕ) → front_text (rs ++ r ∷ []) ++ rest ≡ front_text rs ++ 1 ∷ (record_bytes r ++ rest)
+front_more rs r rest = ap (λ (l : List ℕ). 71 ∷ (76 ∷ (79 ∷ (71 ∷ (1 ∷ l))))) (blocks-append rs r rest)
+
+pub length-front_more : (rs : List Record) (r : Record) → length (front_text (rs ++ r ∷ [])) ≡ length (front_text rs) + 1 + length (record_bytes r)
+length-front_more rs r =
+    omega (arith, ap length (front_more rs r []), length-append (front_text (rs ++ r ∷ [])) [], length-append (front_text rs) (1 ∷ (record_bytes r ++ [])), length-append (record_bytes r) [])
+
+module _ (rs : List Record) (r : Record) (old : List ℕ) (gate : ℕ) (h : IsSpelled old rs) (place : gate ≡ length (front_text rs)) (ok : may_follow (state_of rs) r ≡ true) (sound : IsSound r) where
+  abbrev pre : List ℕ
+  pre = front_text rs
+
+  abbrev shut : ℕ
+  shut = h.text.gate
+
+  abbrev bytes : List ℕ
+  bytes = record_bytes r ++ 0 ∷ []
+
+  up_to : length (pre ++ shut ∷ []) ≡ gate + 1
+  up_to = omega (arith, place, length-append pre (shut ∷ []))
+
+  old_is : old ≡ (pre ++ shut ∷ []) ++ h.text.tail
+  old_is = h.text.whole ∙ sym (append_assoc pre (shut ∷ []) h.text.tail)
+
+  long : gate + 1 ≤ length old
+  long = omega (arith, ap length old_is, length-append (pre ++ shut ∷ []) h.text.tail, up_to)
+
+  pub gate_inside : gate < length old
+  gate_inside = omega (arith, long)
+
+  front_old : take (gate + 1) old ≡ pre ++ shut ∷ []
+  front_old = ap (take (gate + 1)) old_is ∙ take_at (pre ++ shut ∷ []) h.text.tail (gate + 1) up_to
+
+  closed_reads : (tail : List ℕ) (image : List ℕ) → image ≡ pre ++ shut ∷ tail → log_text image ≡ Ok rs
+  closed_reads tail image is = ap log_text is ∙ reads rs shut tail h.follow h.text.closed
+
+  -- the closed gate stands in each image of the first write
+  pub torn_behind : (n : ℕ) (image : List ℕ) → Torn (gate + 1) n old image → log_text image ≡ Ok rs
+  torn_behind n image torn =
+      let m : min (gate + 1) (length old) ≡ gate + 1 = omega (arith, long) in
+      let front : take (gate + 1) image ≡ pre ++ shut ∷ [] = ap (λ (k : ℕ). take k image) (sym m) ∙ torn.before ∙ front_old in
+      let whole : image ≡ pre ++ shut ∷ drop (gate + 1) image =
+      sym (take-append-drop (gate + 1) image) ∙ ap (λ (l : List ℕ). l ++ drop (gate + 1) image) front ∙ append_assoc pre (shut ∷ []) (drop (gate + 1) image) in
+      closed_reads (drop (gate + 1) image) image whole
+
+  abbrev behind : List ℕ
+  behind = drop (gate + 1 + length bytes) old
+
+  abbrev staged : List ℕ
+  staged = behind_gate gate bytes old
+
+  staged_is : staged ≡ (pre ++ shut ∷ []) ++ (bytes ++ behind)
+  staged_is = ap (λ (l : List ℕ). l ++ (bytes ++ behind)) front_old
+
+  staged_split : staged ≡ pre ++ shut ∷ (bytes ++ behind)
+  staged_split = staged_is ∙ append_assoc pre (shut ∷ []) (bytes ++ behind)
+
+  front_staged : take gate staged ≡ pre
+  front_staged = ap (take gate) staged_split ∙ take_at pre (shut ∷ (bytes ++ behind)) gate (sym place)
+
+  back_staged : drop (gate + 1) staged ≡ bytes ++ behind
+  back_staged = ap (drop (gate + 1)) staged_is ∙ drop_at (pre ++ shut ∷ []) (bytes ++ behind) (gate + 1) up_to
+
+  staged_long : gate + 1 ≤ length staged
+  staged_long = omega (arith, ap length staged_is, length-append (pre ++ shut ∷ []) (bytes ++ behind), up_to)
+
+  -- the text with the record, where the gate is open
+  opened : pre ++ 1 ∷ (bytes ++ behind) ≡ front_text (rs ++ r ∷ []) ++ 0 ∷ behind
+  opened = ap (λ (l : List ℕ). pre ++ 1 ∷ l) (append_assoc (record_bytes r) (0 ∷ []) behind) ∙ sym (front_more rs r (0 ∷ behind))
+
+  follow : Follow empty_state (rs ++ r ∷ [])
+  follow = follow_more rs r h.follow ok sound
+
+  zero_shut : ◌≢◌ {A = ℕ} 0 1
+  zero_shut = λ e. cc e
+
+  -- the record stands whole in each image of the second write
+  pub torn_gate : (image : List ℕ) → Torn gate 1 staged image → BeforeOrAfter rs r image
+  torn_gate image torn =
+      let m : min gate (length staged) ≡ gate = omega (arith, staged_long) in
+      let x = get_or image gate 0 in
+      let front : take gate image ≡ pre = ap (λ (k : ℕ). take k image) (sym m) ∙ torn.before ∙ front_staged in
+      let back : drop gate image ≡ x ∷ (bytes ++ behind) = drop_more image gate 0 (omega (arith, torn.no_shorter, staged_long)) ∙ ap (λ (l : List ℕ). x ∷ l) (torn.after ∙ back_staged) in
+      let whole : image ≡ pre ++ x ∷ (bytes ++ behind) = sym (take-append-drop gate image) ∙ ap (λ (l : List ℕ). l ++ drop gate image) front ∙ ap (λ (l : List ℕ). pre ++ l) back in
+      ⊎_elim
+      (λ e. inr (ap log_text (whole ∙ ap (λ (g : ℕ). pre ++ g ∷ (bytes ++ behind)) e ∙ opened) ∙ reads (rs ++ r ∷ []) 0 behind follow zero_shut))
+      (λ ne. inl (ap log_text whole ∙ reads rs x (bytes ++ behind) h.follow ne))
+      (cases_eq x 1)
+
+  -- every moment of the append
+  pub between : (image : List ℕ) → IsBetween gate bytes old image → BeforeOrAfter rs r image
+  between image b = ⊎_elim (λ torn. inl (torn_behind (length bytes) image torn)) (torn_gate image) b
+
+  -- and once all is done
+  pub appended : (new : List ℕ) → new ≡ opened_gate gate staged → IsSpelled new (rs ++ r ∷ [])
+  appended new is = record {
+    text = record {
+      gate = 0;
+      tail = behind;
+      closed = zero_shut;
+      whole = is ∙ ap (λ (l : List ℕ). l ++ 1 ∷ drop (gate + 1) staged) front_staged ∙ ap (λ (l : List ℕ). pre ++ 1 ∷ l) back_staged ∙ opened;
+    };
+    follow = follow;
+  }
+
+-- Lanes
+
+stands_reads : (l : Lane) (rs : List Record) → Stands l rs → log_text (content l) ≡ Ok rs
+stands_reads l rs s = ap log_text s.text.text.whole ∙ reads rs s.text.text.gate s.text.text.tail s.text.follow s.text.text.closed
+
+-- where nothing was called
+pub stays : (l l' : Lane) (rs : List Record) (r : Record) → Stands l rs → l' ≡ l → (image : List ℕ) → LeftSince l' (moment l) image → BeforeOrAfter rs r image
+stays l l' rs r s e image left =
+    inl (ap log_text (s.only image (only_now l.start l.calls image (subst (λ (x : Lane). LeftSince x (moment l) image) e left))) ∙ stands_reads l rs s)
+
+pub stays_room : (l l' : Lane) (n : ℕ) (rs : List Record) (r : Record) → Stands l rs → l' ≡ with_room n l → (image : List ℕ) → LeftSince l' (moment l) image → BeforeOrAfter rs r image
+stays_room l l' n rs r s e image left =
+    inl (ap log_text (s.only image (only_now l.start l.calls image (subst (λ (x : Lane). LeftSince x (moment l) image) e left))) ∙ stands_reads l rs s)
+
+pub moments : (l l1 l2 : Lane) (n gate : ℕ) (rs : List Record) (r : Record) (b : List ℕ) → Stands l rs → l1 ≡ with_room n l → gate ≡ length (front_text rs)
+    → may_follow (state_of rs) r ≡ true → IsSound r → b ≡ record_bytes r ++ 0 ∷ []
+    → ((image : List ℕ) → LeftSince l2 (moment l1) image → IsBetween gate b (content l1) image) → (image : List ℕ) → LeftSince l2 (moment l) image → BeforeOrAfter rs r image
+moments l l1 l2 n gate rs r b s e place ok sound text any image left =
+    let here : IsBetween gate b (content l1) image = any image (subst (λ (m : ℕ). LeftSince l2 m image) (sym (ap moment e)) left) in
+    let there : IsBetween gate b (content l) image = subst (λ (c : List ℕ). IsBetween gate b c image) (ap content e) here in
+    between rs r (content l) gate s.text place ok sound image (subst (λ (c : List ℕ). IsBetween gate c (content l) image) text there)
+
+pub stands_after : (l l1 l2 : Lane) (n gate : ℕ) (rs : List Record) (r : Record) (b : List ℕ) → Stands l rs → l1 ≡ with_room n l → gate ≡ length (front_text rs)
+    → may_follow (state_of rs) r ≡ true → IsSound r → b ≡ record_bytes r ++ 0 ∷ []
+    → content l2 ≡ opened_gate gate (behind_gate gate b (content l1)) → LeavesOnly l2 (content l2) → Stands l2 (rs ++ r ∷ [])
+stands_after l l1 l2 n gate rs r b s e place ok sound text written only =
+    let is : content l2 ≡ opened_gate gate (behind_gate gate (record_bytes r ++ 0 ∷ []) (content l)) =
+    written ∙ ap (λ (c : List ℕ). opened_gate gate (behind_gate gate c (content l1))) text ∙ ap (λ (c : List ℕ). opened_gate gate (behind_gate gate (record_bytes r ++ 0 ∷ []) c)) (ap content e) in
+    record { text = appended rs r (content l) gate s.text place ok sound (content l2) is; only = only }
+
+-- What is kept of one record more
+pub log_more : (gate gate' : ℕ) (s s' : State) (rs rs' : List Record) (r k : Record) (b : List ℕ) → gate ≡ length (front_text rs) → s ≡ state_of rs → Follow empty_state rs
+    → may_follow (state_of rs) r ≡ true → IsSound r → rs' ≡ rs ++ k ∷ [] → k ≡ r → s' ≡ after_record s r → b ≡ record_bytes r ++ 0 ∷ [] → gate' ≡ gate + length b
+    → (gate' ≡ length (front_text rs')) × (s' ≡ state_of rs') × Follow empty_state rs'
+log_more gate gate' s s' rs rs' r k b place state follow ok sound more same later text gates =
+    let all : rs' ≡ rs ++ r ∷ [] = more ∙ ap (λ (x : Record). rs ++ x ∷ []) same in (
+      gates ∙ omega (arith, place, ap length text, length-append (record_bytes r) (0 ∷ []), length-front_more rs r) ∙ ap (λ (x : List Record). length (front_text x)) (sym all),
+      later ∙ ap (λ (x : State). after_record x r) state ∙ sym (state_more rs r) ∙ ap state_of (sym all),
+      subst (Follow empty_state) (sym all) (follow_more rs r follow ok sound),
+    )

@@ -1,0 +1,6 @@
+pub mod Numbers
+pub mod Reading
+pub mod Moments
+pub mod Appending
+pub mod Crash
+pub mod Opening

@@ -1,0 +1,14 @@
+use Rattle.std.proofs.Common.{◌≤◌, ◌+◌, length}
+use Rattle.gr_publog.specs.State.{empty_state}
+use Rattle.gr_publog.specs.Text.{records_in}
+use Rattle.gr_publog.proofs.Reading.{IsReading}
+use Rattle.gr_publog.proofs.read.records_in.Given as goal
+
+abbrev pub invariant-gates : goal.invariant-gates
+invariant-gates l = record {
+  within : length l.rest ≤ l.total;
+  reading : IsReading l.total l.bytes l.records.items l.state l.rest (records_in (l.total + 1) l.total empty_state l.bytes);
+}
+
+abbrev pub decreases-gates : goal.decreases-gates
+decreases-gates l = length l.rest

@@ -1,0 +1,40 @@
+-- Call by call: what a crash may leave since the first of them
+use Rattle.std.proofs.Common.{◌≡◌, ℕ, List, [], ◌∷◌, ap, subst, ◌∙◌, false}
+use Rattle.gr_out.specs.Lane.{Lane, content, over, LeavesOnly, is_due}
+use Rattle.gr_publog.specs.Crash.{behind_gate, opened_gate}
+use Rattle.gr_publog.proofs.Moments.{wrote, synced, synced_only}
+use Rattle.gr_publog.proofs.Appending.{not_due, after_write, after_sync, after_gate, after_all}
+use Rattle.gr_publog.proofs.steps.append_behind.Goals as goal
+
+pub returns-in_err-write_at-clause-any_moment : goal.returns-in_err-write_at-clause-any_moment
+returns-in_err-write_at-clause-any_moment g c = λ t.
+    let l = g.D.Disk.lane_of c.args.disk.now c.args.lane in
+    after_write l c.args.gate c.args.bytes.now (c.requires.within t) (c.requires.only t) _ _ (c.write_at.ensures.after t)
+
+pub returns-in_err-sync-clause-any_moment : goal.returns-in_err-sync-clause-any_moment
+returns-in_err-sync-clause-any_moment g c = λ t.
+    let l = g.D.Disk.lane_of c.args.disk.now c.args.lane in
+    let l1 = g.D.Disk.lane_of c.write_at.new.self c.args.lane in
+    let c1 = wrote l l1 _ _ (c.in_ok-write_at.ensures.after t) (not_due _ c.in_ok-write_at.ensures.cause.breaks) in
+    after_sync l c.args.gate c.args.bytes.now (c.requires.within t) (c.requires.only t) l1 _ _ (c.in_ok-write_at.ensures.after t) c1 (c.sync.ensures.after t)
+
+pub returns-in_err-write_at-2-clause-any_moment : goal.returns-in_err-write_at-2-clause-any_moment
+returns-in_err-write_at-2-clause-any_moment g c = λ t.
+    let l = g.D.Disk.lane_of c.args.disk.now c.args.lane in
+    let l1 = g.D.Disk.lane_of c.write_at.new.self c.args.lane in
+    let l2 = g.D.Disk.lane_of c.sync.new.self c.args.lane in
+    let c1 = wrote l l1 _ _ (c.in_ok-write_at.ensures.after t) (not_due _ c.in_ok-write_at.ensures.cause.breaks) in
+    let o2 = subst (λ (x : List ℕ). LeavesOnly l2 x) c1 (synced_only l1 l2 (c.in_ok-sync.ensures.after t) (not_due _ c.in_ok-sync.ensures.cause.breaks)) in
+    after_gate l c.args.gate c.args.bytes.now (c.requires.within t) (c.requires.only t) l1 l2 _ _ (c.in_ok-write_at.ensures.after t) c1 (c.in_ok-sync.ensures.after t) o2 (c.write_at-2.ensures.after t)
+
+pub returns-clause-any_moment : goal.returns-clause-any_moment
+returns-clause-any_moment g c = λ t.
+    let l = g.D.Disk.lane_of c.args.disk.now c.args.lane in
+    let l1 = g.D.Disk.lane_of c.write_at.new.self c.args.lane in
+    let l2 = g.D.Disk.lane_of c.sync.new.self c.args.lane in
+    let l3 = g.D.Disk.lane_of c.write_at-2.new.self c.args.lane in
+    let c1 = wrote l l1 _ _ (c.in_ok-write_at.ensures.after t) (not_due _ c.in_ok-write_at.ensures.cause.breaks) in
+    let c2 = synced l1 l2 (c.in_ok-sync.ensures.after t) (not_due _ c.in_ok-sync.ensures.cause.breaks) in
+    let o2 = subst (λ (x : List ℕ). LeavesOnly l2 x) c1 (synced_only l1 l2 (c.in_ok-sync.ensures.after t) (not_due _ c.in_ok-sync.ensures.cause.breaks)) in
+    let c3 = wrote l2 l3 _ _ (c.in_ok-write_at-2.ensures.after t) (not_due _ c.in_ok-write_at-2.ensures.cause.breaks) in
+    after_all l c.args.gate c.args.bytes.now (c.requires.within t) (c.requires.only t) l1 l2 l3 _ _ (c.in_ok-write_at.ensures.after t) c1 (c.in_ok-sync.ensures.after t) o2 (c.in_ok-write_at-2.ensures.after t) (c3 ∙ ap (λ (x : List ℕ). opened_gate c.args.gate x) (c2 ∙ c1)) (c.sync-2.ensures.after t)

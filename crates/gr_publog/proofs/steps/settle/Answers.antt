@@ -1,0 +1,19 @@
+-- One sync, and calls that change nothing
+use Rattle.std.proofs.Common.{refl}
+use Rattle.gr_publog.proofs.Opening.{no_call, one_sync}
+use Rattle.gr_publog.proofs.steps.settle.Goals as goal
+
+pub returns-in-Err-clause-any_moment : goal.returns-in-Err-clause-any_moment
+returns-in-Err-clause-any_moment g c = λ t. no_call _ _ (c.in-Err.ensures.err t)
+
+pub returns-in-Err-sync-clause-any_moment : goal.returns-in-Err-sync-clause-any_moment
+returns-in-Err-sync-clause-any_moment g c = λ t.
+    one_sync (g.D.Disk.lane_of c.args.disk.now c.args.lane) (g.D.Disk.lane_of c.reserve.new.self c.args.lane) (g.D.Disk.lane_of c.sync.new.self c.args.lane) (g.D.Disk.lane_of c.sync.new.self c.args.lane) _ _ (c.in-Ok.ensures.room t) (c.sync.ensures.after t) refl
+
+pub returns-in-Ok-size-clause-any_moment : goal.returns-in-Ok-size-clause-any_moment
+returns-in-Ok-size-clause-any_moment g c = λ t.
+    one_sync (g.D.Disk.lane_of c.args.disk.now c.args.lane) (g.D.Disk.lane_of c.reserve.new.self c.args.lane) (g.D.Disk.lane_of c.sync.new.self c.args.lane) (g.D.Disk.lane_of c.size.new.self c.args.lane) _ _ (c.in-Ok.ensures.room t) (c.sync.ensures.after t) (c.size.ensures.same t c.args.lane)
+
+pub returns-in-Err-size-clause-any_moment : goal.returns-in-Err-size-clause-any_moment
+returns-in-Err-size-clause-any_moment g c = λ t.
+    one_sync (g.D.Disk.lane_of c.args.disk.now c.args.lane) (g.D.Disk.lane_of c.reserve.new.self c.args.lane) (g.D.Disk.lane_of c.sync.new.self c.args.lane) (g.D.Disk.lane_of c.size.new.self c.args.lane) _ _ (c.in-Ok.ensures.room t) (c.sync.ensures.after t) (c.size.ensures.same t c.args.lane)

@@ -1,0 +1,4 @@
+pub mod State
+pub mod Text
+pub mod Gives
+pub mod Crash

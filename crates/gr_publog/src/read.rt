@@ -1,0 +1,306 @@
+//! The text of a log, read.
+
+ghost use Rattle.std.specs.Prelude.{◌≡◌, ◌+◌, ◌-◌, ◌≤◌, ◌<◌, ◌^◌, ◌==◌, ◌∷◌, ◌++◌, [], length, IfOk, MatchResult, Ok, Err, nat_le, true, drop};
+ghost use Rattle.std.specs.Int.{from_be_bytes, to_be_bytes, w32, w64};
+ghost use Rattle.gr_event.specs.Event.{event_bytes};
+ghost use Rattle.gr_event.specs.Limits.{IsEvent};
+ghost use Rattle.gr_publog.specs.State.{may_settle, may_cut, may_follow, IsSound, Follow, empty_state, state_of};
+ghost use Rattle.gr_publog.specs.Text.{field_in, number_in, event_in, logged_in, mark_in, cut_in, record_in, records_in, record_bytes, blocks, front_text, header, header_fault, Closes, IsSpelled, log_text};
+ghost use Rattle.gr_publog.specs.Gives.{Fails};
+
+use crate::record::{LogFault, Record, State};
+use byteorder::{BigEndian, ByteOrder};
+use gr_event::{Event, EventFault};
+use std::alloc::Global;
+
+/// A field of so many bytes, and what is left behind it.
+fn field_in(total: usize, len: usize, rest: &[u8]) -> Result<(&[u8], &[u8]), LogFault>
+    ensures gives { MatchResult result (λ x. field_in total len rest.now ≡ Ok (x.0.now, x.1.now)) (λ e. Fails e (field_in total len rest.now)) }
+    ensures parts { IfOk result (λ x. rest.now ≡ x.0.now ++ x.1.now) }
+    ensures len { IfOk result (λ x. length x.0.now ≡ len) }
+    ensures within { IfOk result (λ x. len + length x.1.now ≡ length rest.now) }
+{
+    if len <= rest.len() {
+        Ok(rest.split_at(len))
+    } else {
+        Err(LogFault::Damaged { at: total as u64 })
+    }
+}
+
+/// The place of what is left, in a lane of so many bytes.
+fn place(total: usize, rest: &[u8]) -> u64
+    requires { length rest.now ≤ total }
+    ensures { result ≡ total - length rest.now }
+{
+    (total - rest.len()) as u64
+}
+
+/// The number that eight bytes spell.
+#[tactic(auto, using(crate::proofs::Numbers::spells_eight))]
+fn eight(field: &[u8]) -> u64
+    requires { length field.now ≡ 8 }
+    ensures value { result ≡ from_be_bytes w64 field.now }
+    ensures spelled { to_be_bytes w64 result ≡ field.now }
+{
+    BigEndian::read_u64(field)
+}
+
+/// The number that four bytes spell.
+#[tactic(auto, using(crate::proofs::Numbers::spells_four))]
+fn four(field: &[u8]) -> u32
+    requires { length field.now ≡ 4 }
+    ensures value { result ≡ from_be_bytes w32 field.now }
+    ensures spelled { to_be_bytes w32 result ≡ field.now }
+{
+    BigEndian::read_u32(field)
+}
+
+/// The tick of an Event or a Mark.
+fn settling_in<'a>(total: usize, state: &State, rest: &'a [u8]) -> Result<(u64, &'a [u8]), LogFault>
+    requires { length rest.now ≤ total }
+    ensures gives { MatchResult result (λ x. number_in total 8 w64 (may_settle state.now) rest.now ≡ Ok (x.0, x.1.now)) (λ e. Fails e (number_in total 8 w64 (may_settle state.now) rest.now)) }
+    ensures may { IfOk result (λ x. may_settle state.now x.0 ≡ true) }
+    ensures spelled { IfOk result (λ x. rest.now ≡ to_be_bytes w64 x.0 ++ x.1.now) }
+    ensures within { IfOk result (λ x. 8 + length x.1.now ≡ length rest.now) }
+{
+    let (field, left) = field_in(total, 8, rest)?;
+    let tick = eight(field);
+    if !state.may_settle(tick) {
+        return Err(LogFault::Damaged {
+            at: place(total, rest),
+        });
+    }
+    Ok((tick, left))
+}
+
+/// The tick of a Cut.
+fn cutting_in<'a>(total: usize, state: &State, rest: &'a [u8]) -> Result<(u64, &'a [u8]), LogFault>
+    requires { length rest.now ≤ total }
+    ensures gives { MatchResult result (λ x. number_in total 8 w64 (may_cut state.now) rest.now ≡ Ok (x.0, x.1.now)) (λ e. Fails e (number_in total 8 w64 (may_cut state.now) rest.now)) }
+    ensures may { IfOk result (λ x. may_cut state.now x.0 ≡ true) }
+    ensures spelled { IfOk result (λ x. rest.now ≡ to_be_bytes w64 x.0 ++ x.1.now) }
+    ensures within { IfOk result (λ x. 8 + length x.1.now ≡ length rest.now) }
+{
+    let (field, left) = field_in(total, 8, rest)?;
+    let tick = eight(field);
+    if !state.may_cut(tick) {
+        return Err(LogFault::Damaged {
+            at: place(total, rest),
+        });
+    }
+    Ok((tick, left))
+}
+
+/// The number of an Event.
+fn next_in<'a>(total: usize, last: u64, rest: &'a [u8]) -> Result<(u64, &'a [u8]), LogFault>
+    requires { length rest.now ≤ total }
+    ensures gives { MatchResult result (λ x. number_in total 8 w64 (λ n. n == last + 1) rest.now ≡ Ok (x.0, x.1.now)) (λ e. Fails e (number_in total 8 w64 (λ n. n == last + 1) rest.now)) }
+    ensures next { IfOk result (λ x. x.0 ≡ last + 1) }
+    ensures spelled { IfOk result (λ x. rest.now ≡ to_be_bytes w64 x.0 ++ x.1.now) }
+    ensures within { IfOk result (λ x. 8 + length x.1.now ≡ length rest.now) }
+{
+    let (field, left) = field_in(total, 8, rest)?;
+    let number = eight(field);
+    if number == 0 || number - 1 != last {
+        return Err(LogFault::Damaged {
+            at: place(total, rest),
+        });
+    }
+    Ok((number, left))
+}
+
+/// The size of an event.
+fn size_in(total: usize, rest: &[u8]) -> Result<(usize, &[u8]), LogFault>
+    requires { length rest.now ≤ total }
+    ensures gives { MatchResult result (λ x. number_in total 4 w32 (λ n. nat_le n 8192) rest.now ≡ Ok (x.0, x.1.now)) (λ e. Fails e (number_in total 4 w32 (λ n. nat_le n 8192) rest.now)) }
+    ensures spelled { IfOk result (λ x. rest.now ≡ to_be_bytes w32 x.0 ++ x.1.now) }
+    ensures within { IfOk result (λ x. 4 + length x.1.now ≡ length rest.now) }
+{
+    let (field, left) = field_in(total, 4, rest)?;
+    let size = four(field);
+    if size > 8192 {
+        return Err(LogFault::Damaged {
+            at: place(total, rest),
+        });
+    }
+    Ok((size as usize, left))
+}
+
+/// An event of so many bytes.
+#[tactic(auto, unfolding(crate::specs::Text::event_in))]
+fn event_in<'a>(
+    alloc: Global,
+    total: usize,
+    size: usize,
+    rest: &'a [u8],
+) -> Result<(Event, &'a [u8]), LogFault>
+    requires { length rest.now ≤ total }
+    ensures gives { MatchResult result (λ x. event_in total size rest.now ≡ Ok (x.0, x.1.now)) (λ e. Fails e (event_in total size rest.now)) }
+    ensures spelled { IfOk result (λ x. rest.now ≡ event_bytes x.0 ++ x.1.now) }
+    ensures sized { IfOk result (λ x. length (event_bytes x.0) ≡ size) }
+    ensures event { IfOk result (λ x. IsEvent x.0) }
+    ensures within { IfOk result (λ x. length x.1.now ≤ length rest.now) }
+{
+    let (field, left) = field_in(total, size, rest)?;
+    match Event::decode(alloc, field) {
+        Ok(event) => {
+            let _ = event.size();
+            Ok((event, left))
+        }
+        Err(EventFault::Memory) => Err(LogFault::Memory),
+        Err(_) => Err(LogFault::Damaged {
+            at: place(total, rest),
+        }),
+    }
+}
+
+/// An Event behind its kind.
+#[tactic(auto, unfolding(crate::specs::Text::logged_in))]
+fn logged_in<'a>(
+    alloc: Global,
+    total: usize,
+    state: &State,
+    rest: &'a [u8],
+) -> Result<(Record, &'a [u8]), LogFault>
+    requires { length rest.now ≤ total }
+    ensures gives { MatchResult result (λ x. logged_in total state.now rest.now ≡ Ok (x.0, x.1.now)) (λ e. Fails e (logged_in total state.now rest.now)) }
+    ensures may { IfOk result (λ x. may_follow state.now x.0 ≡ true) }
+    ensures sound { IfOk result (λ x. IsSound x.0) }
+    ensures spelled { IfOk result (λ x. 1 ∷ rest.now ≡ record_bytes x.0 ++ x.1.now) }
+    ensures within { IfOk result (λ x. length x.1.now ≤ length rest.now) }
+{
+    let (tick, behind_tick) = settling_in(total, state, rest)?;
+    let (number, behind_number) = next_in(total, state.last, behind_tick)?;
+    let (size, behind_size) = size_in(total, behind_number)?;
+    let (event, left) = event_in(alloc, total, size, behind_size)?;
+    Ok((
+        Record::Event {
+            tick,
+            number,
+            event,
+        },
+        left,
+    ))
+}
+
+/// A Mark behind its kind.
+#[tactic(auto, unfolding(crate::specs::Text::mark_in))]
+fn mark_in<'a>(total: usize, state: &State, rest: &'a [u8]) -> Result<(Record, &'a [u8]), LogFault>
+    requires { length rest.now ≤ total }
+    ensures gives { MatchResult result (λ x. mark_in total state.now rest.now ≡ Ok (x.0, x.1.now)) (λ e. Fails e (mark_in total state.now rest.now)) }
+    ensures may { IfOk result (λ x. may_follow state.now x.0 ≡ true) }
+    ensures sound { IfOk result (λ x. IsSound x.0) }
+    ensures spelled { IfOk result (λ x. 2 ∷ rest.now ≡ record_bytes x.0 ++ x.1.now) }
+    ensures within { IfOk result (λ x. length x.1.now ≤ length rest.now) }
+{
+    let (tick, left) = settling_in(total, state, rest)?;
+    Ok((Record::Mark { tick }, left))
+}
+
+/// A Cut behind its kind.
+#[tactic(auto, unfolding(crate::specs::Text::cut_in))]
+fn cut_in<'a>(total: usize, state: &State, rest: &'a [u8]) -> Result<(Record, &'a [u8]), LogFault>
+    requires { length rest.now ≤ total }
+    ensures gives { MatchResult result (λ x. cut_in total state.now rest.now ≡ Ok (x.0, x.1.now)) (λ e. Fails e (cut_in total state.now rest.now)) }
+    ensures may { IfOk result (λ x. may_follow state.now x.0 ≡ true) }
+    ensures sound { IfOk result (λ x. IsSound x.0) }
+    ensures spelled { IfOk result (λ x. 3 ∷ rest.now ≡ record_bytes x.0 ++ x.1.now) }
+    ensures within { IfOk result (λ x. length x.1.now ≤ length rest.now) }
+{
+    let (tick, left) = cutting_in(total, state, rest)?;
+    Ok((Record::Cut { tick }, left))
+}
+
+/// A record, and what is left behind it.
+#[tactic(auto, unfolding(crate::specs::Text::record_in))]
+fn record_in<'a>(
+    alloc: Global,
+    total: usize,
+    state: &State,
+    rest: &'a [u8],
+) -> Result<(Record, &'a [u8]), LogFault>
+    requires { length rest.now ≤ total }
+    ensures gives { MatchResult result (λ x. record_in total state.now rest.now ≡ Ok (x.0, x.1.now)) (λ e. Fails e (record_in total state.now rest.now)) }
+    ensures may { IfOk result (λ x. may_follow state.now x.0 ≡ true) }
+    ensures sound { IfOk result (λ x. IsSound x.0) }
+    ensures spelled { IfOk result (λ x. rest.now ≡ record_bytes x.0 ++ x.1.now) }
+    ensures within { IfOk result (λ x. length x.1.now < length rest.now) }
+{
+    match rest {
+        [] => Err(LogFault::Damaged { at: total as u64 }),
+        [1, behind @ ..] => logged_in(alloc, total, state, behind),
+        [2, behind @ ..] => mark_in(total, state, behind),
+        [3, behind @ ..] => cut_in(total, state, behind),
+        _ => Err(LogFault::Damaged {
+            at: place(total, rest),
+        }),
+    }
+}
+
+/// The place of the first byte that differs from the header's five, or 5.
+fn header_fault(bytes: &[u8]) -> u64
+    ensures place { result ≡ header_fault 0 header bytes.now }
+    ensures spelled { result ≡ 5 → bytes.now ≡ header ++ drop 5 bytes.now }
+{
+    match bytes {
+        [b'G', b'L', b'O', b'G', 1, ..] => 5,
+        [b'G', b'L', b'O', b'G', ..] => 4,
+        [b'G', b'L', b'O', ..] => 3,
+        [b'G', b'L', ..] => 2,
+        [b'G', ..] => 1,
+        _ => 0,
+    }
+}
+
+/// The records behind the header of a lane of so many bytes, up to a closed gate, what they stand for, and how many
+/// bytes stand before that gate.
+fn records_in(
+    alloc: Global,
+    total: usize,
+    bytes: &[u8],
+) -> Result<(Vec<Record>, State, usize), LogFault>
+    requires within { length bytes.now ≤ total }
+    ensures gives { MatchResult result (λ x. records_in (total + 1) total empty_state bytes.now ≡ Ok x.0.items) (λ e. Fails e (records_in (total + 1) total empty_state bytes.now)) }
+    ensures state { IfOk result (λ x. x.1 ≡ state_of x.0.items) }
+    ensures follow { IfOk result (λ x. Follow empty_state x.0.items) }
+    ensures spelled { IfOk result (λ x. Closes bytes.now (blocks x.0.items)) }
+    ensures gate { IfOk result (λ x. x.2 ≡ length (blocks x.0.items)) }
+{
+    let mut records = Vec::new(alloc);
+    let mut state = State::new();
+    let mut rest = bytes;
+    'gates: loop {
+        if rest.is_empty() {
+            return Err(LogFault::Damaged { at: total as u64 });
+        }
+        if rest[0] != 1 {
+            return Ok((records, state, bytes.len() - rest.len()));
+        }
+        match record_in(alloc, total, &state, &rest[1..]) {
+            Ok((entry, left)) => {
+                state.note(&entry);
+                records.push(entry)?;
+                rest = left;
+            }
+            Err(fault) => return Err(fault),
+        }
+    }
+}
+
+/// The records of a lane of more than 6 bytes, what they stand for, and the place of the closed gate behind them.
+#[tactic(auto, unfolding(crate::specs::Text::log_text))]
+pub fn log_in(alloc: Global, bytes: &[u8]) -> Result<(Vec<Record>, State, usize), LogFault>
+    requires { 6 < length bytes.now }
+    ensures gives { MatchResult result (λ x. log_text bytes.now ≡ Ok x.0.items) (λ e. Fails e (log_text bytes.now)) }
+    ensures state { IfOk result (λ x. x.1 ≡ state_of x.0.items) }
+    ensures spelled { IfOk result (λ x. IsSpelled bytes.now x.0.items) }
+    ensures gate { IfOk result (λ x. x.2 ≡ length (front_text x.0.items)) }
+    ensures inside { IfOk result (λ x. x.2 < length bytes.now) }
+{
+    let fault = header_fault(bytes);
+    if fault != 5 {
+        return Err(LogFault::Damaged { at: fault });
+    }
+    let (records, state, behind) = records_in(alloc, bytes.len(), &bytes[5..])?;
+    Ok((records, state, 5 + behind))
+}

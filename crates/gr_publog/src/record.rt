@@ -1,0 +1,120 @@
+//! Records, what a list of them stands for, and the faults of a log.
+
+ghost use Rattle.std.specs.Prelude.{◌≡◌};
+ghost use Rattle.gr_publog.specs.State.{empty_state, after_record, may_settle, may_cut};
+ghost use Rattle.gr_publog.specs.declared.record.LogFault.TheVariants.{Memory as WantOfMemory};
+
+use gr_event::{Event, EventFault};
+use std::alloc::{AllocError, AllocFailed};
+
+/// Want of memory.
+pub type Memory = AllocError;
+
+/// The last tick, 2^62.
+pub const MAX_TICK: u64 = 1 << 62;
+
+/// A record of a log. Ticks are milliseconds, from 1 to 2^62.
+#[derive(Drop)]
+pub enum Record {
+    /// An event was published at a tick. Numbers rise by one from 1.
+    Event {
+        tick: u64,
+        number: u64,
+        event: Event,
+    },
+    /// Nothing more is published up to a tick.
+    Mark {
+        tick: u64,
+    },
+    /// Nothing up to a tick is asked for again.
+    Cut {
+        tick: u64,
+    },
+}
+
+/// A logged event.
+#[derive(Drop)]
+pub struct Entry {
+    pub tick: u64,
+    pub number: u64,
+    pub event: Event,
+}
+
+/// Why a log could not be opened or written.
+#[derive(Clone, Copy, Debug, PartialEq, Eq)]
+pub enum LogFault {
+    /// Want of memory.
+    Memory,
+    /// The disk failed.
+    Disk,
+    /// The lane holds no log; `at` is the first byte, from 0, of the first field that breaks it.
+    Damaged { at: u64 },
+    /// The disk failed before. The log has to be opened again.
+    Reopen,
+}
+
+impl From<AllocError> for LogFault {
+    ghost from_gives = { λ _ e. e ≡ WantOfMemory };
+
+    fn from(_refused: AllocError) -> LogFault {
+        LogFault::Memory
+    }
+}
+
+impl<T: Drop> From<AllocFailed<T>> for LogFault {
+    ghost from_gives = { λ _ e. e ≡ WantOfMemory };
+
+    fn from(_refused: AllocFailed<T>) -> LogFault {
+        LogFault::Memory
+    }
+}
+
+/// What a list of records stands for: the number of the last event, the greatest tick of an Event or a Mark, and the
+/// tick of the last Cut; each 0 where there is none.
+#[derive(Clone, Copy, Debug, PartialEq, Eq)]
+pub struct State {
+    pub last: u64,
+    pub settled: u64,
+    pub cut: u64,
+}
+
+impl State {
+    /// Before the first record.
+    pub fn new() -> State
+        ensures { result ≡ empty_state }
+    {
+        State {
+            last: 0,
+            settled: 0,
+            cut: 0,
+        }
+    }
+
+    /// Notes one more record.
+    pub fn note(&mut self, entry: &Record)
+        ensures { self.new ≡ after_record self.old entry.now }
+    {
+        match entry {
+            Record::Event { tick, number, .. } => {
+                self.last = *number;
+                self.settled = *tick;
+            }
+            Record::Mark { tick } => self.settled = *tick,
+            Record::Cut { tick } => self.cut = *tick,
+        }
+    }
+
+    /// Whether an Event or a Mark may have this tick.
+    pub fn may_settle(&self, tick: u64) -> bool
+        ensures { result ≡ may_settle self.now tick }
+    {
+        self.settled < tick && tick <= MAX_TICK
+    }
+
+    /// Whether a Cut may have this tick.
+    pub fn may_cut(&self, tick: u64) -> bool
+        ensures { result ≡ may_cut self.now tick }
+    {
+        self.cut < tick && tick <= self.settled
+    }
+}

@@ -1,0 +1,109 @@
+//! The four calls on a disk that append a record.
+
+ghost use Rattle.std.specs.Prelude.{◌≡◌, ◌≢◌, ℕ, ◌+◌, ◌^◌, ◌<◌, ◌≤◌, List, length, IsErr, OnOk, IfOk, ◌⊎◌, ◌++◌, ◌∷◌, []};
+ghost use Rattle.gr_out.specs.Lane.{content, moment, LeavesOnly, LeftSince, MayLeave};
+ghost use Rattle.gr_publog.specs.Text.{header};
+ghost use Rattle.gr_publog.specs.Crash.{behind_gate, opened_gate, IsBetween, EitherRose, GaveUp, DiskRose};
+
+use crate::record::LogFault;
+use gr_out::{Disk, Failed};
+use std::alloc::Global;
+
+/// Writes bytes behind a closed gate, and only once they are synced opens the gate.
+pub fn append_behind<D: Disk>(
+    disk: &mut D,
+    lane: u16,
+    gate: u64,
+    bytes: &[u8],
+) -> Result<(), Failed>
+    requires fits { gate + 1 < 2 ^ 64 }
+    requires within { D.tells → gate < length (content (D.lane_of disk.old lane)) }
+    requires room { D.tells → gate + 1 + length bytes.now ≤ (D.lane_of disk.old lane).room }
+    requires few { D.tells → 4 ≤ (D.lane_of disk.old lane).left }
+    requires only { D.tells → LeavesOnly (D.lane_of disk.old lane) (content (D.lane_of disk.old lane)) }
+    ensures written { D.tells → OnOk result (content (D.lane_of disk.new lane) ≡ opened_gate gate (behind_gate gate bytes.now (content (D.lane_of disk.old lane)))) }
+    ensures only { D.tells → OnOk result (LeavesOnly (D.lane_of disk.new lane) (content (D.lane_of disk.new lane))) }
+    ensures any_moment { D.tells → (image : List ℕ) → LeftSince (D.lane_of disk.new lane) (moment (D.lane_of disk.old lane)) image → IsBetween gate bytes.now (content (D.lane_of disk.old lane)) image }
+    ensures others { D.tells → (n : ℕ) → n ≢ lane → D.lane_of disk.new n ≡ D.lane_of disk.old n }
+    ensures cause { IsErr result → EitherRose (D.faults disk.old) (D.faults disk.new) (D.stops disk.old) (D.stops disk.new) }
+    ensures faults { D.faults disk.old ≤ D.faults disk.new }
+    ensures stops { D.stops disk.old ≤ D.stops disk.new }
+    ensures same { OnOk result (D.faults disk.new ≡ D.faults disk.old) }
+    ensures same_stops { OnOk result (D.stops disk.new ≡ D.stops disk.old) }
+{
+    disk.write_at(lane, gate + 1, bytes)?;
+    // Behind a gate that opened first, a crash could leave anything.
+    disk.sync(lane)?;
+    disk.write_at(lane, gate, &[1])?;
+    disk.sync(lane)
+}
+
+/// Makes room for an empty log in a lane and syncs it, and answers how many bytes it has.
+pub fn settle<D: Disk>(disk: &mut D, lane: u16) -> Result<u64, LogFault>
+    ensures size { D.tells → IfOk result (λ n. n ≡ length (content (D.lane_of disk.old lane))) }
+    ensures content { D.tells → content (D.lane_of disk.new lane) ≡ content (D.lane_of disk.old lane) }
+    ensures only { D.tells → OnOk result (LeavesOnly (D.lane_of disk.new lane) (content (D.lane_of disk.new lane))) }
+    ensures room { D.tells → OnOk result (6 ≤ (D.lane_of disk.new lane).room) }
+    ensures left { D.tells → OnOk result (3 ≤ (D.lane_of disk.new lane).left) }
+    ensures any_moment { D.tells → (image : List ℕ) → LeftSince (D.lane_of disk.new lane) (moment (D.lane_of disk.old lane)) image → MayLeave (D.lane_of disk.old lane) image ⊎ (image ≡ content (D.lane_of disk.old lane)) }
+    ensures later { D.tells → moment (D.lane_of disk.old lane) ≤ moment (D.lane_of disk.new lane) }
+    ensures gave_up { GaveUp result }
+    ensures others { D.tells → (n : ℕ) → n ≢ lane → D.lane_of disk.new n ≡ D.lane_of disk.old n }
+    ensures disk { DiskRose result (D.faults disk.old) (D.faults disk.new) (D.stops disk.old) (D.stops disk.new) }
+    ensures same { OnOk result ((D.faults disk.new ≡ D.faults disk.old) × (D.stops disk.new ≡ D.stops disk.old)) }
+{
+    match disk.reserve(lane, 6) {
+        Ok(()) => {}
+        Err(_) => return Err(LogFault::Memory),
+    }
+    match disk.sync(lane) {
+        Ok(()) => {}
+        Err(_) => return Err(LogFault::Disk),
+    }
+    match disk.size(lane) {
+        Ok(size) => Ok(size),
+        Err(_) => Err(LogFault::Disk),
+    }
+}
+
+/// Gives a lane of at most 6 bytes the text of an empty log.
+pub fn start<D: Disk>(disk: &mut D, lane: u16) -> Result<(), Failed>
+    requires short { D.tells → length (content (D.lane_of disk.old lane)) ≤ 6 }
+    requires room { D.tells → 6 ≤ (D.lane_of disk.old lane).room }
+    requires few { D.tells → 3 ≤ (D.lane_of disk.old lane).left }
+    requires only { D.tells → LeavesOnly (D.lane_of disk.old lane) (content (D.lane_of disk.old lane)) }
+    ensures written { D.tells → OnOk result (content (D.lane_of disk.new lane) ≡ header ++ 0 ∷ []) }
+    ensures only { D.tells → OnOk result (LeavesOnly (D.lane_of disk.new lane) (content (D.lane_of disk.new lane))) }
+    ensures any_moment { D.tells → (n : ℕ) (image : List ℕ) → LeftSince (D.lane_of disk.new lane) n image → LeftSince (D.lane_of disk.old lane) n image ⊎ (length image ≤ 6) }
+    ensures others { D.tells → (n : ℕ) → n ≢ lane → D.lane_of disk.new n ≡ D.lane_of disk.old n }
+    ensures cause { IsErr result → EitherRose (D.faults disk.old) (D.faults disk.new) (D.stops disk.old) (D.stops disk.new) }
+{
+    disk.cut(lane, 0)?;
+    disk.write_at(lane, 0, b"GLOG\x01\x00")?;
+    disk.sync(lane)
+}
+
+/// The bytes of a lane.
+pub fn bytes_in<D: Disk>(
+    alloc: Global,
+    disk: &mut D,
+    lane: u16,
+    size: u64,
+) -> Result<Vec<u8>, LogFault>
+    requires { D.tells → size ≡ length (content (D.lane_of disk.old lane)) }
+    ensures bytes { D.tells → IfOk result (λ v. v.items ≡ content (D.lane_of disk.old lane)) }
+    ensures len { IfOk result (λ v. length v.items ≡ size) }
+    ensures same { D.tells → (n : ℕ) → D.lane_of disk.new n ≡ D.lane_of disk.old n }
+    ensures gave_up { GaveUp result }
+    ensures disk { DiskRose result (D.faults disk.old) (D.faults disk.new) (D.stops disk.old) (D.stops disk.new) }
+{
+    let mut bytes = Vec::new(alloc);
+    match bytes.resize(size as usize, 0) {
+        Ok(()) => {}
+        Err(_) => return Err(LogFault::Memory),
+    }
+    match disk.read(lane, 0, &mut bytes) {
+        Ok(()) => Ok(bytes),
+        Err(_) => Err(LogFault::Disk),
+    }
+}
