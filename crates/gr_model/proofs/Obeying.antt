@@ -1,7 +1,6 @@
 -- Over every schedule each call obeys its rule, and each step's lines are those of its calls and its own
 use Rattle.std.proofs.Common.{◌≡◌, ℕ, suc, ◌≤◌, ◌<◌, max, Bool, true, false, ◌||◌, List, [], ◌∷◌, ◌++◌, map, length, set, refl, sym, ap, ap₂, ◌∙◌, subst, Option, Some, None, arith, append-nil}
 use Rattle.std.specs.Prelude.{zero, nat_le, if◌then◌else◌, filter, flat_map}
-use Rattle.std.specs.List.{list_any}
 use Rattle.std.proofs.lemmas.List.Elements.{filter-append}
 use Rattle.std.proofs.lemmas.Bool.{true≢false, eq-eqb, leb-true, leb-false, le-ltb, lt-ltb}
 use Rattle.gr_event.specs.declared.event.Event.{Event}
@@ -15,12 +14,13 @@ use Rattle.gr_model.specs.declared.report.Report.TheVariants as line
 use Rattle.gr_frame.specs.Bytes.{frame_bytes}
 use Rattle.gr_model.specs.Net.{Net, keeps_horizon, not_empty, numbers}
 use Rattle.gr_model.specs.Rules.{Publishes, Wakes, Comes}
-use Rattle.gr_model.specs.Broker.{View, Log, Outcome, with_event, is_kept, max_tick, publish, wake, receive}
+use Rattle.gr_model.specs.Broker.{View, Log, Outcome, started, with_event, is_kept, max_tick, publish, wake, receive}
 use Rattle.gr_model.specs.World.{absorbed, World, Told, is_want, inwards, outwards, view_of, log_of, unchanged, in_turn, wake_for, wake_all, deliver_frame, frame_at, publish_now, opened_lines, restarted, crash, publish_stopped, sweep, sweep_moment, kept_events, show, next, start, run_from, report_of}
 use Rattle.gr_model.specs.Tree.{IsNet}
 use Rattle.gr_model.specs.Fits.{WorldFits, StepIn, StepsIn, reached_in}
+use Rattle.gr_model.specs.Headline.{says_kept}
 use Rattle.gr_model.specs.Settles.{sent_past, Call, wakes, delivers, made, all_made, WasSent, EachSent, at_sweep, sweep_calls, is_accepted, calls_in_turn, up_calls, wake_calls, down_calls, sweep_calls_for}
-use Rattle.gr_model.specs.Obeys.{Action, publishes, makes, done, all_done, CallObeys, AllObey, is_next_of, calls_of, called_in, is_own, is_crashed, Obeys, StepObeys, StepsObey, CallsObey}
+use Rattle.gr_model.specs.Obeys.{Action, publishes, makes, done, all_done, CallObeys, AllObey, is_next_of, calls_of, called_in, is_own, crashed_in, Obeys, StepObeys, StepsObey, CallsObey}
 use Rattle.gr_model.proofs.Worlds.{depths_in, Each, wake_for_kept, deliver_kept, numbers_below}
 use Rattle.gr_model.proofs.Schedules.{start_fits, next_kept, clocked_fits, frame_at_true}
 use Rattle.gr_model.proofs.SweepCalls.{made_is, sweep_is_calls, sweep_sent}
@@ -40,6 +40,7 @@ put_in net w a b p Rule o r e = record {
   views = ap (λ x. x.world.views) e;
   logs = ap (λ x. x.world.logs) e;
   clock = ap (λ x. x.world.clock) e;
+  most = ap (λ x. x.world.most) e;
 }
 
 wake_obeys : (net : Net) (w : World) (b p : ℕ) → IsNet net → 1 ≤ net.quiet → WorldFits net w → b < net.brokers → p < net.publishers → CallObeys net w (makes (wakes b p))
@@ -174,24 +175,35 @@ show_own net w =
     ap (λ y. line.Frames (length w.frames) ∷ y) (filter-append is_own logs doubts ∙ ap₂ (λ y z. y ++ z) (own_map _ (numbers net.publishers) (λ p. refl))
     (own_flat _ (numbers net.brokers) (λ b. own_flat _ (numbers net.publishers) (λ p. own_if (keeps_horizon net p b) _ refl))))
 
+show_crash : (net : Net) (w : World) → crashed_in (show net w) ≡ None
+unfolding show
+show_crash net w = refl
+
 -- One step
 
 -- what is to be shown of what a step tells, its calls, and the world in which they are made
-record Parts (net : Net) (t : Told) (cs : List Action) (u : World) : Type 0 where
+record Parts (net : Net) (w : World) (t : Told) (cs : List Action) (u : World) : Type 0 where
   obey : AllObey net cs u
   own : List Report
   lines : t.lines ≡ (all_done net cs u).lines ++ own
   own_only : filter is_own own ≡ own
   frames : t.world.frames ≡ (all_done net cs u).world.frames
-  views : list_any is_crashed own ≡ false → t.world.views ≡ (all_done net cs u).world.views
-  logs : list_any is_crashed own ≡ false → t.world.logs ≡ (all_done net cs u).world.logs
+  views : crashed_in own ≡ None → t.world.views ≡ (all_done net cs u).world.views
+  restarts : (b : ℕ) → crashed_in own ≡ Some b → t.world.views ≡ set w.views b (map (λ p. started net p b (log_of t.world p)) (numbers net.publishers))
+  logs : says_kept own ≡ false → t.world.logs ≡ (all_done net cs u).world.logs
 
--- no call, and lines of the step's own
-no_calls : (net : Net) (w : World) (t : Told) → filter is_own t.lines ≡ t.lines → t.world.frames ≡ w.frames → (list_any is_crashed t.lines ≡ false → t.world.views ≡ w.views) → (list_any is_crashed t.lines ≡ false → t.world.logs ≡ w.logs) → Parts net t [] w
-no_calls net w t o f v g = record { obey = tt; own = t.lines; lines = refl; own_only = o; frames = f; views = v; logs = g }
+none_some : (b : ℕ) → None ≡ Some b → ⊥
+none_some b e = cc
+
+some_same : (b c : ℕ) → Some b ≡ Some c → b ≡ c
+some_same b c e = cc
+
+-- no call and no crash, and lines of the step's own
+no_calls : (net : Net) (w : World) (t : Told) → filter is_own t.lines ≡ t.lines → t.world.frames ≡ w.frames → t.world.views ≡ w.views → t.world.logs ≡ w.logs → crashed_in t.lines ≡ None → Parts net w t [] w
+no_calls net w t o f v g c = record { obey = tt; own = t.lines; lines = refl; own_only = o; frames = f; views = λ z. v; restarts = λ b z. absurd (none_some b (sym c ∙ z)); logs = λ z. g }
 
 -- the calls alone
-calls_alone : (net : Net) (t : Told) (cs : List Action) (w : World) → AllObey net cs w → t ≡ all_done net cs w → Parts net t cs w
+calls_alone : (net : Net) (t : Told) (cs : List Action) (w : World) → AllObey net cs w → t ≡ all_done net cs w → Parts net w t cs w
 calls_alone net t cs w a e = record {
   obey = a;
   own = [];
@@ -199,6 +211,7 @@ calls_alone net t cs w a e = record {
   own_only = refl;
   frames = ap (λ x. x.world.frames) e;
   views = λ z. ap (λ x. x.world.views) e;
+  restarts = λ b z. absurd (none_some b z);
   logs = λ z. ap (λ x. x.world.logs) e;
 }
 
@@ -206,16 +219,26 @@ calls_alone net t cs w a e = record {
 one_done : (net : Net) (w : World) (c : Action) → done net w c ≡ all_done net (c ∷ []) w
 one_done net w c = let s = done net w c in ap (λ ls. let t : Told = record { world = s.world; lines = ls } in t) (sym (append-nil s.lines))
 
-publish_parts : (net : Net) (w : World) (p number : ℕ) (e : Event) → IsNet net → WorldFits net w → p < net.publishers → Parts net (publish_now net w p number e) (publishes p number e ∷ []) w
+publish_parts : (net : Net) (w : World) (p number : ℕ) (e : Event) → IsNet net → WorldFits net w → p < net.publishers → Parts net w (publish_now net w p number e) (publishes p number e ∷ []) w
 publish_parts net w p number e n f j = calls_alone net (publish_now net w p number e) (publishes p number e ∷ []) w (publish_obeys net w p number e n f j, tt) (one_done net w (publishes p number e))
 
 -- a broker that crashes
-crash_parts : (net : Net) (w u : World) (b : ℕ) (ls : List Report) → u.frames ≡ w.frames → filter is_own ls ≡ ls → Parts net (record { world = restarted net u b; lines = line.Crashed b ∷ ls }) [] w
+crash_parts : (net : Net) (w u : World) (b : ℕ) (ls : List Report) → u.frames ≡ w.frames → u.views ≡ w.views → (says_kept (line.Crashed b ∷ ls) ≡ false → u.logs ≡ w.logs) → filter is_own ls ≡ ls → Parts net w (record { world = restarted net u b; lines = line.Crashed b ∷ ls }) [] w
 unfolding restarted
-crash_parts net w u b ls f o = no_calls net w (record { world = restarted net u b; lines = line.Crashed b ∷ ls }) (ap (λ x. line.Crashed b ∷ x) o) f (λ z. absurd (true≢false z)) (λ z. absurd (true≢false z))
+crash_parts net w u b ls f v g o = record {
+  obey = tt;
+  own = line.Crashed b ∷ ls;
+  lines = refl;
+  own_only = ap (λ x. line.Crashed b ∷ x) o;
+  frames = f;
+  views = λ z. absurd (none_some b (sym z));
+  restarts = λ c z. subst (λ d. (restarted net u b).views ≡ set w.views d (map (λ p. started net p d (log_of (restarted net u b) p)) (numbers net.publishers))) (some_same b c z)
+      (ap (λ x. set x b (map (λ p. started net p b (log_of (restarted net u b) p)) (numbers net.publishers))) v);
+  logs = g;
+}
 
 stopped_parts : (net : Net) (w : World) (k p number : ℕ) (stop : Stop) (e : Event) → IsNet net → WorldFits net w → p < net.publishers →
-    Parts net (publish_stopped net w k p number stop e) (if not_empty (net.subscribers_at (net.host p)) || is_next_of w p number then [] else publishes p number e ∷ []) w
+    Parts net w (publish_stopped net w k p number stop e) (if not_empty (net.subscribers_at (net.host p)) || is_next_of w p number then [] else publishes p number e ∷ []) w
 unfolding publish_stopped
 stopped_parts net w k p number stop e n f j = go (not_empty (net.subscribers_at (net.host p))) (is_next_of w p number)
   where
@@ -241,25 +264,29 @@ stopped_parts net w k p number stop e n f j = go (not_empty (net.subscribers_at 
     told_of true = refl
     told_of false = refl
 
-    go : (x y : Bool) → Parts net
+    keeps : (q : Bool) → says_kept (line.Crashed b ∷ ((if q then line.Kept p number tick else line.Lost p number tick) ∷ opened_lines net logs b)) ≡ false → (if q then set w.logs p (with_event log tick e) else w.logs) ≡ w.logs
+    keeps true z = absurd (true≢false z)
+    keeps false z = refl
+
+    go : (x y : Bool) → Parts net w
         (let t : Told = elim x [
           | true ↦ unchanged w (line.RefusedHosts k b ∷ [])
           | false ↦ elim y [ false ↦ publish_now net w p number e | true ↦ record { world = restarted net u b; lines = line.Crashed b ∷ ((if kept then line.Kept p number tick else line.Lost p number tick) ∷ opened_lines net logs b) } ]
         ] in t)
         (if x || y then [] else publishes p number e ∷ []) w
-    go true y = no_calls net w (unchanged w (line.RefusedHosts k b ∷ [])) refl refl (λ z. refl) (λ z. refl)
-    go false true = crash_parts net w u b ((if kept then line.Kept p number tick else line.Lost p number tick) ∷ opened_lines net logs b) refl (rw (told_of kept) (ap (λ x. (if kept then line.Kept p number tick else line.Lost p number tick) ∷ x) (opened_own net logs b)))
+    go true y = no_calls net w (unchanged w (line.RefusedHosts k b ∷ [])) refl refl refl refl refl
+    go false true = crash_parts net w u b ((if kept then line.Kept p number tick else line.Lost p number tick) ∷ opened_lines net logs b) refl refl (keeps kept) (rw (told_of kept) (ap (λ x. (if kept then line.Kept p number tick else line.Lost p number tick) ∷ x) (opened_own net logs b)))
     go false false = publish_parts net w p number e n f j
 
 deliver_parts : (net : Net) (w : World) (number k : ℕ) → IsNet net → WorldFits net w →
-    (let t : Told = elim (frame_at w k) [ None ↦ unchanged w (line.RefusedFrame number k (length w.frames) ∷ []) | Some x ↦ deliver_frame net w x ] in Parts net t (elim (frame_at w k) [ None ↦ [] | Some x ↦ makes (delivers k) ∷ [] ]) w)
+    (let t : Told = elim (frame_at w k) [ None ↦ unchanged w (line.RefusedFrame number k (length w.frames) ∷ []) | Some x ↦ deliver_frame net w x ] in Parts net w t (elim (frame_at w k) [ None ↦ [] | Some x ↦ makes (delivers k) ∷ [] ]) w)
 deliver_parts net w number k n f = go (frame_at w k) refl
   where
-    go : (o : Option Frame) → frame_at w k ≡ o → (let t : Told = elim o [ None ↦ unchanged w (line.RefusedFrame number k (length w.frames) ∷ []) | Some x ↦ deliver_frame net w x ] in Parts net t (elim o [ None ↦ [] | Some x ↦ makes (delivers k) ∷ [] ]) w)
-    go None e = no_calls net w (unchanged w (line.RefusedFrame number k (length w.frames) ∷ [])) refl refl (λ z. refl) (λ z. refl)
+    go : (o : Option Frame) → frame_at w k ≡ o → (let t : Told = elim o [ None ↦ unchanged w (line.RefusedFrame number k (length w.frames) ∷ []) | Some x ↦ deliver_frame net w x ] in Parts net w t (elim o [ None ↦ [] | Some x ↦ makes (delivers k) ∷ [] ]) w)
+    go None e = no_calls net w (unchanged w (line.RefusedFrame number k (length w.frames) ∷ [])) refl refl refl refl refl
     go (Some x) e = calls_alone net (deliver_frame net w x) (makes (delivers k) ∷ []) w (delivery_obeys net w k x n f e, tt) (sym (made_is net w k x e) ∙ one_done net w (makes (delivers k)))
 
-sweep_parts : (net : Net) (w : World) (number : ℕ) → IsNet net → 1 ≤ net.quiet → WorldFits net w → Parts net (sweep net w number) (if is_accepted net w then map makes (sweep_calls net w) else []) (if is_accepted net w then at_sweep net w else w)
+sweep_parts : (net : Net) (w : World) (number : ℕ) → IsNet net → 1 ≤ net.quiet → WorldFits net w → Parts net w (sweep net w number) (if is_accepted net w then map makes (sweep_calls net w) else []) (if is_accepted net w then at_sweep net w else w)
 unfolding sweep
 sweep_parts net w number n quiet f = go (is_accepted net w) refl
   where
@@ -269,8 +296,8 @@ sweep_parts net w number n quiet f = go (is_accepted net w) refl
     refused : nat_le m max_tick ≡ false → sweep net w number ≡ unchanged w (line.RefusedClock number m ∷ [])
     refused e = rw (sweep, lt-ltb max_tick m (leb-false m max_tick e)) refl
 
-    go : (q : Bool) → is_accepted net w ≡ q → Parts net (sweep net w number) (if q then map makes (sweep_calls net w) else []) (if q then at_sweep net w else w)
-    go false e = subst (λ (t : Told). Parts net t [] w) (sym (refused e)) (no_calls net w (unchanged w (line.RefusedClock number m ∷ [])) refl refl (λ z. refl) (λ z. refl))
+    go : (q : Bool) → is_accepted net w ≡ q → Parts net w (sweep net w number) (if q then map makes (sweep_calls net w) else []) (if q then at_sweep net w else w)
+    go false e = subst (λ (t : Told). Parts net w t [] w) (sym (refused e)) (no_calls net w (unchanged w (line.RefusedClock number m ∷ [])) refl refl refl refl refl)
     go true e =
         let cs = sweep_calls net w in
         let s = sweep_is_calls net w number (le-ltb max_tick m (leb-true m max_tick e)) in
@@ -282,23 +309,24 @@ sweep_parts net w number n quiet f = go (is_accepted net w) refl
           own_only = refl;
           frames = ap (λ x. x.world.frames) s ∙ ap (λ x. x.world.frames) (sym d);
           views = λ z. ap (λ x. x.world.views) s ∙ ap (λ x. x.world.views) (sym d);
+          restarts = λ b z. absurd (none_some b z);
           logs = λ z. ap (λ x. x.world.logs) s ∙ ap (λ x. x.world.logs) (sym d);
         }
 
-bytes_parts : (net : Net) (w : World) (number k : ℕ) → (let t : Told = elim (frame_at w k) [ None ↦ unchanged w (line.RefusedFrame number k (length w.frames) ∷ []) | Some x ↦ unchanged w (line.BytesOf k (frame_bytes x) ∷ []) ] in Parts net t [] w)
+bytes_parts : (net : Net) (w : World) (number k : ℕ) → (let t : Told = elim (frame_at w k) [ None ↦ unchanged w (line.RefusedFrame number k (length w.frames) ∷ []) | Some x ↦ unchanged w (line.BytesOf k (frame_bytes x) ∷ []) ] in Parts net w t [] w)
 bytes_parts net w number k = go (frame_at w k)
   where
-    go : (o : Option Frame) → (let t : Told = elim o [ None ↦ unchanged w (line.RefusedFrame number k (length w.frames) ∷ []) | Some x ↦ unchanged w (line.BytesOf k (frame_bytes x) ∷ []) ] in Parts net t [] w)
-    go None = no_calls net w (unchanged w (line.RefusedFrame number k (length w.frames) ∷ [])) refl refl (λ z. refl) (λ z. refl)
-    go (Some x) = no_calls net w (unchanged w (line.BytesOf k (frame_bytes x) ∷ [])) refl refl (λ z. refl) (λ z. refl)
+    go : (o : Option Frame) → (let t : Told = elim o [ None ↦ unchanged w (line.RefusedFrame number k (length w.frames) ∷ []) | Some x ↦ unchanged w (line.BytesOf k (frame_bytes x) ∷ []) ] in Parts net w t [] w)
+    go None = no_calls net w (unchanged w (line.RefusedFrame number k (length w.frames) ∷ [])) refl refl refl refl refl
+    go (Some x) = no_calls net w (unchanged w (line.BytesOf k (frame_bytes x) ∷ [])) refl refl refl refl refl
 
-crash_step_parts : (net : Net) (w : World) (number b : ℕ) → (let t : Told = elim (not_empty (net.subscribers_at b)) [ true ↦ unchanged w (line.RefusedHosts number b ∷ []) | false ↦ crash net w b ] in Parts net t [] w)
+crash_step_parts : (net : Net) (w : World) (number b : ℕ) → (let t : Told = elim (not_empty (net.subscribers_at b)) [ true ↦ unchanged w (line.RefusedHosts number b ∷ []) | false ↦ crash net w b ] in Parts net w t [] w)
 unfolding crash
 crash_step_parts net w number b = go (not_empty (net.subscribers_at b))
   where
-    go : (q : Bool) → (let t : Told = elim q [ true ↦ unchanged w (line.RefusedHosts number b ∷ []) | false ↦ record { world = restarted net w b; lines = line.Crashed b ∷ opened_lines net w.logs b } ] in Parts net t [] w)
-    go true = no_calls net w (unchanged w (line.RefusedHosts number b ∷ [])) refl refl (λ z. refl) (λ z. refl)
-    go false = crash_parts net w w b (opened_lines net w.logs b) refl (opened_own net w.logs b)
+    go : (q : Bool) → (let t : Told = elim q [ true ↦ unchanged w (line.RefusedHosts number b ∷ []) | false ↦ record { world = restarted net w b; lines = line.Crashed b ∷ opened_lines net w.logs b } ] in Parts net w t [] w)
+    go true = no_calls net w (unchanged w (line.RefusedHosts number b ∷ [])) refl refl refl refl refl
+    go false = crash_parts net w w b (opened_lines net w.logs b) refl refl (λ z. refl) (opened_own net w.logs b)
 
 -- what a step does, by its kind
 abbrev told_at : Net → World → ℕ → Step → Told
@@ -327,21 +355,21 @@ calls_at net w s =
 abbrev called_at : Net → World → Step → World
 called_at net w s = elim s [ step.Sweep ↦ if is_accepted net w then at_sweep net w else w | _ ↦ w ]
 
-step_parts : (net : Net) (w : World) (number : ℕ) (s : Step) → IsNet net → 1 ≤ net.quiet → WorldFits net w → StepIn net s → Parts net (told_at net w number s) (calls_at net w s) (called_at net w s)
+step_parts : (net : Net) (w : World) (number : ℕ) (s : Step) → IsNet net → 1 ≤ net.quiet → WorldFits net w → StepIn net s → Parts net w (told_at net w number s) (calls_at net w s) (called_at net w s)
 unfolding wake_all
-step_parts net w number (step.Clock now) n quiet f i = no_calls net w (unchanged (record { clock = now; most = max now w.most; frames = w.frames; views = w.views; logs = w.logs }) []) refl refl (λ z. refl) (λ z. refl)
+step_parts net w number (step.Clock now) n quiet f i = no_calls net w (unchanged (record { clock = now; most = max now w.most; frames = w.frames; views = w.views; logs = w.logs }) []) refl refl refl refl refl
 step_parts net w number (step.Publish p k None e) n quiet f i = publish_parts net w p k e n f i
 step_parts net w number (step.Publish p k (Some stop) e) n quiet f i = stopped_parts net w number p k stop e n f i
 step_parts net w number (step.Wake b) n quiet f i = calls_alone net (wake_all net w b) (map (λ p. makes (wakes b p)) (numbers net.publishers)) w (wakes_obey net b (numbers net.publishers) w n quiet f i (numbers_below 0 net.publishers net.publishers (omega arith))) (wakes_done net b (numbers net.publishers) w)
 step_parts net w number (step.Deliver k) n quiet f i = deliver_parts net w number k n f
 step_parts net w number (step.Crash b) n quiet f i = crash_step_parts net w number b
 step_parts net w number step.Sweep n quiet f i = sweep_parts net w number n quiet f
-step_parts net w number step.Show n quiet f i = no_calls net w (unchanged w (show net w)) (show_own net w) refl (λ z. refl) (λ z. refl)
+step_parts net w number step.Show n quiet f i = no_calls net w (unchanged w (show net w)) (show_own net w) refl refl refl (show_crash net w)
 step_parts net w number (step.Bytes k) n quiet f i = bytes_parts net w number k
 
 next_obeys : (net : Net) (w : World) (l : Line) → IsNet net → 1 ≤ net.quiet → WorldFits net w → StepIn net l.step → StepObeys net w l (next net w l).lines
 unfolding next calls_of called_in
-next_obeys net w l n quiet f i = let x = step_parts net w l.number l.step n quiet f i in record { obey = x.obey; own = x.own; lines = x.lines; own_only = x.own_only; frames = x.frames; views = x.views; logs = x.logs }
+next_obeys net w l n quiet f i = let x = step_parts net w l.number l.step n quiet f i in record { obey = x.obey; own = x.own; lines = x.lines; own_only = x.own_only; frames = x.frames; views = x.views; restarts = x.restarts; logs = x.logs }
 
 steps_obey : (net : Net) (w : World) (ls : List Line) → IsNet net → 1 ≤ net.quiet → WorldFits net w → StepsIn net ls → StepsObey net w ls (run_from net w ls)
 unfolding run_from

@@ -1,6 +1,5 @@
 -- The calls of each step in their order: each obeys its rule, and the step's lines are theirs and its own
-use Rattle.std.specs.Prelude.{◌≡◌, ℕ, suc, max, Bool, true, false, ◌&&◌, ◌||◌, nat_eq, nat_le, if◌then◌else◌, List, [], ◌∷◌, ◌++◌, length, map, filter, set, Some, None}
-use Rattle.std.specs.List.{list_any}
+use Rattle.std.specs.Prelude.{◌≡◌, ℕ, suc, max, Bool, true, false, ◌&&◌, ◌||◌, nat_eq, nat_le, if◌then◌else◌, List, [], ◌∷◌, ◌++◌, length, map, filter, set, Option, Some, None}
 use Rattle.gr_event.specs.declared.event.Event.{Event}
 use Rattle.gr_frame.specs.declared.Frame.{Frame}
 use Rattle.gr_sched.specs.declared.step.Step.TheVariants as step
@@ -8,8 +7,9 @@ use Rattle.gr_sched.specs.declared.step.Line.{Line}
 use Rattle.gr_model.specs.declared.report.Report.{Report}
 use Rattle.gr_model.specs.declared.report.Report.TheVariants as line
 use Rattle.gr_model.specs.Net.{Net, not_empty, numbers}
-use Rattle.gr_model.specs.Broker.{View, Log, Outcome, max_tick}
+use Rattle.gr_model.specs.Broker.{View, Log, Outcome, max_tick, started}
 use Rattle.gr_model.specs.World.{World, Told, view_of, log_of, with_view, sent_lines, in_turn, publish_now, frame_at, next, start}
+use Rattle.gr_model.specs.Headline.{says_kept}
 use Rattle.gr_model.specs.Settles.{Call, wakes, delivers, made, at_sweep, sweep_calls, is_accepted}
 use Rattle.gr_model.specs.Rules.{Publishes, Wakes, Comes}
 
@@ -38,6 +38,7 @@ pub record Obeys (net : Net) (w : World) (a : Action) (b p : ℕ) (Rule : View �
   pub views : (done net w a).world.views ≡ with_view w.views b p outcome.view
   pub logs : (done net w a).world.logs ≡ set w.logs p outcome.log
   pub clock : (done net w a).world.clock ≡ w.clock
+  pub most : (done net w a).world.most ≡ w.most
 
 -- each call by its rule; the frame that is delivered is the one of that number
 abbrev pub CallObeys : Net → World → Action → Type 0
@@ -87,9 +88,14 @@ is_own (line.RefusedClock n m) = true
 is_own (line.BytesOf k bytes) = true
 is_own _ = false
 
-abbrev pub is_crashed : Report → Bool
-is_crashed (line.Crashed b) = true
-is_crashed _ = false
+-- the broker that crashed, by the first of a step's own lines
+abbrev pub crashed_by_line : Report → Option ℕ
+crashed_by_line (line.Crashed b) = Some b
+crashed_by_line _ = None
+
+abbrev pub crashed_in : List Report → Option ℕ
+crashed_in [] = None
+crashed_in (l ∷ ls) = crashed_by_line l
 
 -- what a step's calls leave and tell
 abbrev pub called : Net → World → Line → Told
@@ -103,10 +109,13 @@ pub record StepObeys (net : Net) (w : World) (l : Line) (ls : List Report) : Typ
   pub own : List Report
   pub lines : ls ≡ (called net w l).lines ++ own
   pub own_only : filter is_own own ≡ own
-  -- no frame is sent but by its calls; and where no broker crashes, no view and no log changes but by them
+  -- no frame is sent but by its calls
   pub frames : (next net w l).world.frames ≡ (called net w l).world.frames
-  pub views : list_any is_crashed own ≡ false → (next net w l).world.views ≡ (called net w l).world.views
-  pub logs : list_any is_crashed own ≡ false → (next net w l).world.logs ≡ (called net w l).world.logs
+  -- where no broker crashes no view changes but by its calls; a broker that crashes starts again with what the logs then say
+  pub views : crashed_in own ≡ None → (next net w l).world.views ≡ (called net w l).world.views
+  pub restarts : (b : ℕ) → crashed_in own ≡ Some b → (next net w l).world.views ≡ set w.views b (map (λ p. started net p b (log_of (next net w l).world p)) (numbers net.publishers))
+  -- no log changes but by its calls, and by a stopped publish that was kept
+  pub logs : says_kept own ≡ false → (next net w l).world.logs ≡ (called net w l).world.logs
 
 -- the same of each step, in the world that the steps before it leave
 abbrev pub StepsObey : Net → World → List Line → List (List Report) → Type 0

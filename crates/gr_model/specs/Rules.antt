@@ -64,15 +64,16 @@ pub record Moves (keeps : Bool) (h k : ℕ) (at : ℕ → K) : Type 0 where
 abbrev pub forgets_upto : Net → ℕ → ℕ → ℕ → ℕ
 forgets_upto net p b h = if keeps_horizon net p b then h else max_tick
 
--- Forgetting makes the least event ticks unknown again, and leaves all else. The host forgets nothing. Elsewhere no tick past
--- a kept horizon is forgotten, and no more than are too many: either `cache` are left, or no more than that were there. And
--- if more are left, there is no other that may be forgotten.
+-- Forgetting makes event ticks unknown again, and leaves all else.
 pub record Forgets (net : Net) (p b h : ℕ) (full kept : Known) : Type 0 where
+  -- They are the least ones, up to a last tick. The host forgets none, and a broker that keeps a horizon none past it.
   pub last : ℕ
   pub at_host : is_host net p b ≡ true → last ≡ 0
   pub within : last ≤ forgets_upto net p b h
   pub kept_is : HasKnown (λ t. if is_D (known_at full t) && nat_le t last then Q else known_at full t) kept
+  -- No more are forgotten than are too many: where fewer than `cache` are left, none was.
   pub needed : data_count kept < net.cache → kept ≡ full
+  -- And as many as are too many: where more are left below the host, they may not be forgotten.
   pub enough : is_host net p b ≡ false → net.cache < data_count kept → (t : ℕ) → t ≤ forgets_upto net p b h → is_D (known_at kept t) ≡ false
 
 -- What is then known: final where consolidated, by each child's acknowledgement and the horizon; else as it was or came. Then
@@ -87,8 +88,8 @@ abbrev pub event_of : K → Option Event
 event_of (D e) = Some e
 event_of _ = None
 
--- Where the horizon moves from h to k, each subscriber here is told the events of the ticks past h and up to k that it wants,
--- by rising tick, and then k.
+-- Where the horizon moves from h to k, each subscriber here, in order, is told the events of the ticks past h and up to k that
+-- it wants, by rising tick, and then k (`told`).
 pub record TellsOn (net : Net) (p b h k : ℕ) (at : ℕ → K) (ls : List Report) : Type 0 where
   pub passed : List (ℕ × Event)
   pub rise : TicksRise 0 passed
@@ -97,7 +98,7 @@ pub record TellsOn (net : Net) (p b h k : ℕ) (at : ℕ → K) (ls : List Repor
 
 -- New ticks
 
--- to each child, in order, what it is sent as frames
+-- To each child, in order, what it is sent as frames. A piece makes the frames that the cutting rule gives (`cut_frames`).
 abbrev pub frames_down : Net → ℕ → ℕ → (ℕ → Known) → List Frame
 frames_down net p b sent = flat_map (λ c. know_frames b c p (sent c)) (net.children p b)
 
