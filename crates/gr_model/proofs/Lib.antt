@@ -47,3 +47,4 @@ pub mod SweepHosts
 pub mod SweepHears
 pub mod AfterSweeps
 pub mod NetOf
+pub mod BlankOf
