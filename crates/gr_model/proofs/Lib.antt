@@ -78,3 +78,4 @@ pub mod SecondReaches
 pub mod SettlesAll
 pub mod SettlesAlways
 pub mod NetOf
+pub mod BlankOf

@@ -1,6 +1,9 @@
 //! The topologies that are read are those that the theorems speak of.
 
+ghost use Rattle.std.specs.Prelude.{◌≡◌};
+ghost use Rattle.gr_topo.specs.Topology.{blank};
 ghost use Rattle.gr_model.specs.Tree.{IsNet};
+ghost use Rattle.gr_model.specs.Blank.{net0};
 ghost use Rattle.gr_model.specs.NetOf.{net_of};
 
 use gr_topo::Topology;
@@ -12,3 +15,8 @@ pub fn every_topology_is_a_tree(topology: &Topology)
 {
     let _ = topology.brokers();
 }
+
+/// The topology of the small examples is the blank one.
+pub fn the_blank_topology()
+    ensures { net0 ≡ net_of blank }
+{}

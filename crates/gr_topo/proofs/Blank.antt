@@ -1,12 +1,11 @@
 -- The blank topology is sound
-use Rattle.std.proofs.Common.{◌≡◌, ◌⊎◌, ℕ, zero, suc, ◌<◌, ◌≤◌, true, false, ◌||◌, List, [], ◌∷◌, length, get_or, Option, None, refl, sym, ap, ◌∙◌, subst, ⊎_elim, arith}
+use Rattle.std.proofs.Common.{◌≡◌, ℕ, zero, suc, ◌<◌, true, false, List, [], ◌∷◌, get_or, Option, refl, ⊎_elim, arith}
 use Rattle.std.proofs.lemmas.Bool.{false≢true, or_cases}
 use Rattle.gr_filter.specs.Tree.{Tree}
 use Rattle.gr_tree.specs.declared.link.Link.{Link}
 use Rattle.gr_tree.specs.Walks.{joins, IsWithin, is_reached, is_tree}
 use Rattle.gr_tree.proofs.Links.{ends}
-use Rattle.gr_topo.specs.declared.settings.Settings.{Settings}
-use Rattle.gr_topo.specs.Topology.{TopologyView, IsSound, blank, default_values}
+use Rattle.gr_topo.specs.Topology.{IsSound, blank, default_values}
 
 abbrev one_link : List Link
 one_link = blank.links

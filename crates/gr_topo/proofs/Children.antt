@@ -1,9 +1,9 @@
 -- The children of a broker are those whose next broker to the host it is
-use Rattle.std.proofs.Common.{◌≡◌, ◌⊎◌, ℕ, suc, ◌<◌, Bool, true, false, not, ◌&&◌, nat_eq, List, length, Option, Some, None, refl, sym, ap, ◌∙◌, subst, inl, inr, ⊎_elim, arith, eq-eqb}
-use Rattle.std.proofs.lemmas.Bool.{true≢false, false≢true, and_parts, and_from, cases_Bool, eqb-true, eqb-false, not-true, false_from_ne_true, not_from_false}
-use Rattle.gr_tree.specs.Walks.{is_linked, IsWithin, distance, up_of, IsRooted}
+use Rattle.std.proofs.Common.{◌≡◌, ℕ, ◌<◌, true, false, not, length, Option, Some, None, sym, ap, ◌∙◌, ⊎_elim, arith, eq-eqb}
+use Rattle.std.proofs.lemmas.Bool.{true≢false, false≢true, and_parts, and_from, cases_Bool, eqb-true, not-true, false_from_ne_true, not_from_false}
+use Rattle.gr_tree.specs.Walks.{is_linked}
 use Rattle.gr_tree.proofs.Links.{linked_swap}
-use Rattle.gr_topo.specs.Topology.{TopologyView, size, host_of, up_at, depth_at, is_this, is_child_at, IsTopology}
+use Rattle.gr_topo.specs.Topology.{TopologyView, size, up_at, is_this, is_child_at, IsTopology}
 
 some_same : (a b : ℕ) → Some a ≡ Some b → a ≡ b
 some_same a b e = cc

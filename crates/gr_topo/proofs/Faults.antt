@@ -1,5 +1,5 @@
 -- A fault of one reading is a fault of another that fails as it does
-use Rattle.std.proofs.Common.{◌≡◌, ℕ, List, Result, Ok, Err, refl, ap}
+use Rattle.std.proofs.Common.{◌≡◌, ℕ, List, Result, Err, refl, ap}
 use Rattle.gr_filter.specs.declared.fault.FilterFault.{FilterFault}
 use Rattle.gr_filter.specs.declared.fault.FilterFault.TheVariants as filter
 use Rattle.gr_filter.specs.Gives.{Fails as FilterFails}

@@ -1,11 +1,10 @@
 -- A turn of the loops over names: each is one, and none stands twice
-use Rattle.std.proofs.Common.{◌≡◌, ℕ, ◌+◌, ◌<◌, ◌≤◌, Bool, true, false, not, List, [], ◌∷◌, ◌++◌, length, drop, get_or, map, Vec, Global, Result, Ok, Err, refl, sym, ap, ◌∙◌, nat_eq}
+use Rattle.std.proofs.Common.{◌≡◌, ℕ, ◌+◌, ◌<◌, ◌≤◌, Bool, true, false, not, List, [], ◌∷◌, ◌++◌, length, drop, get_or, Vec, Global, Ok, Err, sym, ap, ◌∙◌, nat_eq}
 use Rattle.std.specs.List.{list_any}
 use Rattle.std.specs.Str.{bytes_eq}
 use Rattle.std.specs.Cmp.Lexicographic.{pointwise}
-use Rattle.std.proofs.lemmas.Bool.{not_from_true, not-true, not-false}
+use Rattle.std.proofs.lemmas.Bool.{not-true}
 use Rattle.indexmap.specs.IndexSet.{insert_key}
-use Rattle.gr_topo.specs.declared.fault.TopoFault.{TopoFault}
 use Rattle.gr_topo.specs.declared.fault.TopoFault.TheVariants.{BadName, Twice}
 use Rattle.gr_topo.specs.Gives.{walk, ◌>>=◌}
 use Rattle.gr_topo.specs.Checks.{passes, is_name, good_name, good_names, seen_once, apart}

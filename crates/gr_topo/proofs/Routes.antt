@@ -1,8 +1,8 @@
 -- A walk up the path to the host, a broker at a time
-use Rattle.std.proofs.Common.{◌≡◌, ℕ, zero, suc, ◌<◌, Bool, true, false, ◌||◌, nat_eq, List, [], ◌∷◌, length, Option, Some, None, refl, sym, ap, ◌∙◌, subst, arith, ne_eqb}
+use Rattle.std.proofs.Common.{◌≡◌, ℕ, zero, suc, ◌<◌, false, ◌||◌, nat_eq, List, [], ◌∷◌, length, Option, Some, None, refl, sym, ap, ◌∙◌, arith, ne_eqb}
 use Rattle.std.specs.List.{list_any}
 use Rattle.gr_tree.specs.declared.link.Link.{Link}
-use Rattle.gr_tree.specs.Walks.{distance, up_of, onward, steps_up, path_of, IsRooted}
+use Rattle.gr_tree.specs.Walks.{distance, up_of, onward, steps_up, path_of}
 use Rattle.gr_topo.specs.Topology.{TopologyView, size, host_of, up_at, depth_at, passes_by, IsTopology}
 
 path_next : (n : ℕ) (links : List Link) (root x u : ℕ) → up_of n links root x ≡ Some u → distance n links root x ≡ suc (distance n links root u) → path_of n links root x ≡ u ∷ path_of n links root u

@@ -1,12 +1,12 @@
 -- What every topology that is read keeps: columns of one length, numbers of brokers, links between them, settings in range
-use Rattle.std.proofs.Common.{◌≡◌, ◌⊎◌, ℕ, zero, suc, ℤ, pos, negsuc, ◌+◌, ◌<◌, ◌≤◌, min, Bool, true, false, ◌||◌, ◌&&◌, List, [], ◌∷◌, ◌++◌, length, get_or, Option, Some, None, Result, Ok, Err, refl, sym, ap, ◌∙◌, subst, inl, inr, ⊎_elim, arith, cond}
+use Rattle.std.proofs.Common.{◌≡◌, ◌⊎◌, ℕ, ℤ, pos, negsuc, ◌+◌, ◌<◌, ◌≤◌, Bool, true, false, ◌||◌, ◌&&◌, List, [], ◌∷◌, ◌++◌, length, get_or, Option, Some, None, Result, Ok, Err, refl, sym, ap, ◌∙◌, subst, inl, inr, ⊎_elim, arith, cond}
 use Rattle.std.specs.Prelude.{nat_le, codes, bytes_eq}
-use Rattle.std.specs.List.{list_any, zip, position}
-use Rattle.std.proofs.lemmas.List.{length-append, get_or_append_left, get_or_push, length_push}
+use Rattle.std.specs.List.{zip}
+use Rattle.std.proofs.lemmas.List.{get_or_append_left, get_or_push, length_push}
 use Rattle.std.proofs.lemmas.List.Folds.{list_any-append}
 use Rattle.std.proofs.lemmas.List.Quantifiers.{position-Some}
 use Rattle.std.proofs.lemmas.Slice.Zip.{length-zip}
-use Rattle.std.proofs.lemmas.Bool.{false≢true, true≢false, or_cases, and_parts, cases_eq, cases_Bool, leb-true, cond-true, cond-false}
+use Rattle.std.proofs.lemmas.Bool.{false≢true, or_cases, and_parts, cases_eq, cases_Bool, leb-true, cond-true, cond-false}
 use Rattle.toml.specs.Data.{Data, Members}
 use Rattle.gr_filter.specs.Tree.{Tree}
 use Rattle.gr_tree.specs.declared.link.Link.{Link}
@@ -17,12 +17,12 @@ use Rattle.gr_topo.specs.declared.fault.TopoFault.TheVariants.{TooMany, NotTree}
 use Rattle.gr_topo.specs.Read.{names_checked, ResolvedLists, resolved_in}
 use Rattle.gr_topo.specs.declared.settings.Settings.{Settings}
 use Rattle.gr_topo.specs.declared.settings.WrittenSettings.{WrittenSettings}
-use Rattle.gr_topo.specs.Draft.{EntryLists, DraftLists, AddressLists, with_entry, no_entries}
+use Rattle.gr_topo.specs.Draft.{EntryLists, DraftLists, with_entry, no_entries}
 use Rattle.gr_topo.specs.Gives.{◌>>=◌, walk, one_more, each}
 use Rattle.gr_topo.specs.Columns.{AreColumns, HasColumns}
-use Rattle.gr_topo.specs.Shape.{entry_in, one_entry, entries_in, array_in, items_list, members_list, root_key, no_draft, draft_in, texts_in, pairs_in, addresses_in, settings_in}
+use Rattle.gr_topo.specs.Shape.{entry_in, one_entry, entries_in, array_in, members_list, root_key, no_draft, draft_in, texts_in, pairs_in, addresses_in, settings_in}
 use Rattle.gr_topo.specs.Checks.{passes, few, known, broker_in, brokers_in, link_in, links_in, in_range, settings_of, filters_in, filter_beside, addresses_of, address_in, tree_of}
-use Rattle.gr_topo.specs.Topology.{TopologyView, number_of, IsInRange, IsSound, IsWithinLimits}
+use Rattle.gr_topo.specs.Topology.{number_of, IsInRange, IsSound}
 
 -- what gave a value, step by step
 pub first_gave : {A B : Type 0} (r : Result A TopoFault) (f : A → Result B TopoFault) (y : B) → (r >>= f) ≡ Ok y → (x : A) × (r ≡ Ok x) × (f x ≡ Ok y)

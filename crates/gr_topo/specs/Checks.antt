@@ -1,5 +1,5 @@
 -- What is tested of a topology part whose shape is right, one test after the other
-use Rattle.std.specs.Prelude.{ℕ, zero, suc, ℤ, pos, negsuc, ◌+◌, ◌-◌, ◌==◌, Bool, true, false, not, ◌&&◌, ◌||◌, nat_le, nat_lt, if◌then◌else◌, List, [], ◌∷◌, ◌++◌, length, map, take, drop, Option, Some, None, Result, Ok, Err, codes, bytes_eq}
+use Rattle.std.specs.Prelude.{ℕ, ℤ, pos, negsuc, ◌+◌, ◌==◌, Bool, true, false, not, ◌&&◌, ◌||◌, nat_le, nat_lt, if◌then◌else◌, List, [], ◌∷◌, ◌++◌, length, take, drop, Option, Some, None, Result, Ok, Err, codes, bytes_eq}
 use Rattle.std.specs.List.{list_all, list_any, slice_get, position_or_len}
 use Rattle.std.specs.Option.{option_and_then}
 use Rattle.gr_filter.specs.declared.fault.FilterFault.{FilterFault}
@@ -12,9 +12,9 @@ use Rattle.gr_topo.specs.declared.fault.TopoFault.{TopoFault}
 use Rattle.gr_topo.specs.declared.fault.TopoFault.TheVariants.{Twice, Unknown, NotTree, BadFilter, TooMany, BadAddress, BadName, BadRange}
 use Rattle.gr_topo.specs.declared.settings.Settings.{Settings}
 use Rattle.gr_topo.specs.declared.settings.WrittenSettings.{WrittenSettings}
-use Rattle.gr_topo.specs.Draft.{EntryLists, AddressLists, DraftLists}
+use Rattle.gr_topo.specs.Draft.{AddressLists}
 use Rattle.gr_topo.specs.Gives.{◌>>=◌, walk, each}
-use Rattle.gr_topo.specs.Topology.{TopologyView, name_at, number_of}
+use Rattle.gr_topo.specs.Topology.{number_of}
 
 -- a test that says nothing but its fault
 abbrev pub passes : Bool → TopoFault → Result (Unit {0}) TopoFault

@@ -1,9 +1,7 @@
 -- A topology as the code holds it
-use Rattle.std.specs.Prelude.{◌≡◌, List, Vec, map}
+use Rattle.std.specs.Prelude.{map}
 use Rattle.std.specs.Option.{option_map}
-use Rattle.std.specs.declared.alloc.Global.{Global}
 use Rattle.gr_filter.specs.Tree.{tree_of as filter_tree}
-use Rattle.gr_tree.specs.declared.link.Place.{Place}
 use Rattle.gr_topo.specs.declared.parts.Parts.{Parts}
 use Rattle.gr_topo.specs.declared.parts.Resolved.{Resolved}
 use Rattle.gr_topo.specs.Read.{ResolvedLists}

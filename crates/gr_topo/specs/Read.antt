@@ -1,5 +1,5 @@
 -- Reading a topology: one function of the bytes, with the first refusal
-use Rattle.std.specs.Prelude.{ℕ, ◌&&◌, if◌then◌else◌, List, [], ◌∷◌, length, Option, Some, None, Result, Ok, Err, codes}
+use Rattle.std.specs.Prelude.{ℕ, if◌then◌else◌, List, length, Option, Some, None, Result, Ok, Err, codes}
 use Rattle.std.specs.Str.{is_utf8}
 use Rattle.std.specs.List.{zip}
 use Rattle.toml.specs.Data.{Members}
@@ -8,7 +8,7 @@ use Rattle.gr_sched.specs.Text.{is_blank}
 use Rattle.gr_tree.specs.declared.link.Link.{Link}
 use Rattle.gr_topo.specs.declared.fault.TopoFault.{TopoFault}
 use Rattle.gr_topo.specs.declared.fault.TopoFault.TheVariants.{NotToml}
-use Rattle.gr_topo.specs.Draft.{EntryLists, DraftLists}
+use Rattle.gr_topo.specs.Draft.{DraftLists}
 use Rattle.gr_topo.specs.Gives.{◌>>=◌}
 use Rattle.gr_topo.specs.Shape.{draft_in, required}
 use Rattle.gr_topo.specs.Topology.{TopologyView, blank}

@@ -1,5 +1,5 @@
 -- What a topology part says, key by key, by the meaning of `toml`: its texts and numbers, or the first that is of another shape
-use Rattle.std.specs.Prelude.{ℕ, ℤ, pos, Bool, true, false, ◌&&◌, if◌then◌else◌, List, [], ◌∷◌, ◌++◌, Option, Some, None, Result, Ok, Err, codes, bytes_eq}
+use Rattle.std.specs.Prelude.{ℕ, ℤ, pos, Bool, true, false, ◌&&◌, if◌then◌else◌, List, [], ◌∷◌, Option, Some, None, Result, Ok, Err, codes, bytes_eq}
 use Rattle.toml.specs.Data.{Data, string, integer, array, table, Items, no_items, item, Members, no_members, member}
 use Rattle.gr_topo.specs.declared.fault.TopoFault.{TopoFault}
 use Rattle.gr_topo.specs.declared.fault.TopoFault.TheVariants.{BadKey, BadType, Missing}
@@ -7,7 +7,7 @@ use Rattle.gr_topo.specs.declared.settings.WrittenSettings.{WrittenSettings}
 use Rattle.gr_topo.specs.declared.draft.Entry.{Entry}
 use Rattle.gr_topo.specs.declared.draft.FoundEntry.{FoundEntry}
 use Rattle.gr_topo.specs.Draft.{EntryLists, AddressLists, DraftLists, no_entries, no_addresses, with_entry, with_address}
-use Rattle.gr_topo.specs.Gives.{◌>>=◌, walk, each, one_more}
+use Rattle.gr_topo.specs.Gives.{◌>>=◌, walk, each}
 
 -- the items of an array in their order
 abbrev pub items_list : Items → List Data

@@ -5,8 +5,7 @@ use Rattle.gr_event.specs.declared.event.Event.{Event}
 use Rattle.gr_filter.specs.Tree.{Tree}
 use Rattle.gr_filter.specs.Truth.{matches}
 use Rattle.gr_tree.specs.declared.link.Link.{Link}
-use Rattle.gr_tree.specs.declared.link.Place.{Place}
-use Rattle.gr_tree.specs.Walks.{numbers, is_linked, IsWithin, is_tree, distance, up_of, place_of, places_of, path_of, IsRooted, HasOnlyPaths}
+use Rattle.gr_tree.specs.Walks.{numbers, is_linked, IsWithin, is_tree, distance, up_of, path_of, IsRooted, HasOnlyPaths}
 use Rattle.gr_topo.specs.declared.settings.Settings.{Settings}
 
 -- Brokers, publishers and subscribers by their numbers, from 0: the names of each; the links between brokers; the brokers

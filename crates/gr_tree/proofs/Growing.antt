@@ -1,15 +1,15 @@
 -- The row of places grows by one node at a time, and each link that was used hangs one of its ends below the other
-use Rattle.std.proofs.Common.{◌≡◌, ◌⊎◌, ℕ, zero, suc, ◌+◌, ◌<◌, ◌≤◌, Bool, true, false, ◌||◌, ◌&&◌, not, cond, List, [], ◌∷◌, length, get_or, set, replicate, map, Option, Some, None, refl, sym, ap, ◌∙◌, subst, inl, inr, ⊎_elim, arith}
+use Rattle.std.proofs.Common.{◌≡◌, ◌⊎◌, ℕ, zero, suc, ◌+◌, ◌<◌, ◌≤◌, true, false, ◌&&◌, not, List, [], ◌∷◌, length, get_or, set, replicate, Option, Some, None, refl, sym, ap, ◌∙◌, subst, inl, inr, ⊎_elim, arith}
 use Rattle.std.specs.Option.{is_some, option_map}
-use Rattle.std.specs.List.{list_any, remove}
-use Rattle.std.proofs.lemmas.List.{length-set, get_or-set_same, get_or-set_other, length-replicate, get_or-replicate, get_or_past, get_or_default}
+use Rattle.std.specs.List.{remove}
+use Rattle.std.proofs.lemmas.List.{length-set, get_or-set_same, get_or-set_other, length-replicate, get_or-replicate, get_or_past}
 use Rattle.std.proofs.lemmas.List.Edits.{length-remove}
 use Rattle.std.proofs.lemmas.List.Folds.{list_any_at}
-use Rattle.std.proofs.lemmas.Bool.{false≢true, true≢false, or_cases, and_parts, cases_eq, cases_lt, cases_Bool, cond-true, cond-false, not-true}
+use Rattle.std.proofs.lemmas.Bool.{false≢true, true≢false, or_cases, and_parts, cases_eq, cases_lt, cond-true, cond-false, not-true}
 use Rattle.gr_tree.specs.declared.link.Link.{Link}
 use Rattle.gr_tree.specs.declared.link.Place.{Place}
 use Rattle.gr_tree.specs.Walks.{joins, is_linked, IsWithin}
-use Rattle.gr_tree.specs.Search.{is_placed, crosses, below, place_below, attached, IsShallow}
+use Rattle.gr_tree.specs.Search.{is_placed, crosses, below, attached}
 use Rattle.gr_tree.proofs.Links.{joins_one, joins_other, joins_same, linked_kept, linked_back}
 
 -- ---- how many nodes are placed

@@ -1,9 +1,9 @@
 -- From each node of a tree the steps up are the one walk to the root without a repeat: a walk that steps down once never comes up again
-use Rattle.std.proofs.Common.{◌≡◌, ◌⊎◌, ℕ, zero, suc, ◌+◌, ◌<◌, ◌≤◌, Bool, true, false, ◌||◌, nat_eq, List, [], ◌∷◌, Option, Some, None, refl, sym, ap, ◌∙◌, subst, inl, inr, ⊎_elim, arith, eq-eqb}
+use Rattle.std.proofs.Common.{◌≡◌, ℕ, zero, suc, ◌<◌, true, false, ◌||◌, nat_eq, List, [], ◌∷◌, Some, None, refl, sym, ap, ◌∙◌, subst, inl, inr, ⊎_elim, arith, eq-eqb}
 use Rattle.std.specs.List.{list_any}
-use Rattle.std.proofs.lemmas.Bool.{false≢true, true≢false, or_cases, or_parts, or_from, cases_eq, eqb-true, ne_eqb, false_from_ne_true}
+use Rattle.std.proofs.lemmas.Bool.{false≢true, true≢false, or_cases, or_parts, cases_eq, eqb-true, false_from_ne_true}
 use Rattle.gr_tree.specs.declared.link.Link.{Link}
-use Rattle.gr_tree.specs.Walks.{is_linked, IsWithin, IsWalk, IsDistinct, IsOnlyPath, distance, up_of, onward, steps_up, path_of, IsRooted, HasOnlyPaths}
+use Rattle.gr_tree.specs.Walks.{is_linked, IsWithin, IsWalk, IsDistinct, distance, up_of, onward, steps_up, path_of, IsRooted, HasOnlyPaths}
 
 some_same : (a b : ℕ) → Some a ≡ Some b → a ≡ b
 some_same a b e = cc

@@ -1,16 +1,16 @@
 -- A row in which every node is placed is what walks over the links say, and where no link is left to hang, no walk leads out of the row
 use Rattle.std.proofs.Common.{◌≡◌, ◌⊎◌, ℕ, zero, suc, ◌+◌, ◌-◌, ◌<◌, ◌≤◌, Bool, true, false, ◌||◌, ◌&&◌, not, nat_eq, nat_lt, List, [], ◌∷◌, length, get_or, map, Option, Some, None, refl, sym, ap, ◌∙◌, subst, inl, inr, ⊎_elim, arith, eq-eqb}
 use Rattle.std.specs.Option.{is_some}
-use Rattle.std.specs.List.{list_any, list_all, position}
+use Rattle.std.specs.List.{list_all}
 use Rattle.std.proofs.lemmas.List.{nil_from_length, same_lists, length-map}
-use Rattle.std.proofs.lemmas.Bool.{false≢true, true≢false, or_cases, or_left, or_right, and_parts, and_from, and_left, and_right, cases_eq, cases_lt, cases_Bool, eqb-true, ne_eqb, lt-ltb, false_from_ne_true, not_from_false}
+use Rattle.std.proofs.lemmas.Bool.{false≢true, true≢false, or_cases, or_left, or_right, and_parts, and_from, and_left, and_right, cases_eq, eqb-true, ne_eqb, lt-ltb, false_from_ne_true}
 use Rattle.gr_tree.specs.declared.link.Link.{Link}
 use Rattle.gr_tree.specs.declared.link.Place.{Place}
-use Rattle.gr_tree.specs.Walks.{numbers, is_linked, IsWithin, is_reached, is_tree, distance, up_of, place_of, places_of, IsRooted}
+use Rattle.gr_tree.specs.Walks.{numbers, is_linked, is_reached, is_tree, distance, up_of, place_of, places_of, IsRooted}
 use Rattle.gr_tree.specs.Search.{is_placed, crosses}
 use Rattle.gr_tree.proofs.Numbers.{any_in, any_from, all_at, all_from, least_is, first_is, first_none, length-numbers_from, at_number}
 use Rattle.gr_tree.proofs.Links.{Ends, ends, linked_swap}
-use Rattle.gr_tree.proofs.Growing.{placed, placed_all, top, IsKnown, IsUp, Grown}
+use Rattle.gr_tree.proofs.Growing.{placed_all, top, IsKnown, IsUp, Grown}
 
 -- ---- where a row ends
 

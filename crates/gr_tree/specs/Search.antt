@@ -1,5 +1,5 @@
 -- What the search for places keeps: a row with the place of each node that is placed so far
-use Rattle.std.specs.Prelude.{◌≡◌, ℕ, ◌+◌, ◌<◌, Bool, ◌&&◌, ◌||◌, not, if◌then◌else◌, List, Option, Some, None, IfSome, slice_index_or, slice_set}
+use Rattle.std.specs.Prelude.{◌≡◌, ℕ, ◌+◌, ◌<◌, Bool, ◌&&◌, ◌||◌, not, if◌then◌else◌, List, Option, Some, None, slice_index_or, slice_set}
 use Rattle.std.specs.Option.{is_some, option_map}
 use Rattle.gr_tree.specs.declared.link.Link.{Link}
 use Rattle.gr_tree.specs.declared.link.Place.{Place}

@@ -2,7 +2,7 @@ use Rattle.std.proofs.Common.{◌∙◌, sym, string_bytes}
 use Rattle.std.specs.Map.Iter.{deref_pair}
 use Rattle.std.proofs.lemmas.Map.Iter.{rest_more, rest_all}
 use Rattle.toml.specs.View.{view, table_view}
-use Rattle.gr_topo.specs.Shape.{root_key, no_draft}
+use Rattle.gr_topo.specs.Shape.{root_key}
 use Rattle.gr_topo.specs.Draft.{draft_lists}
 use Rattle.gr_topo.proofs.Faults.{fails_as}
 use Rattle.gr_topo.proofs.Sound.{draft_columns}

@@ -2,7 +2,7 @@ use Rattle.std.proofs.Common.{◌∙◌, sym, string_bytes}
 use Rattle.std.specs.Map.Iter.{deref_pair}
 use Rattle.std.proofs.lemmas.Map.Iter.{rest_more, rest_all}
 use Rattle.toml.specs.View.{view}
-use Rattle.gr_topo.specs.Shape.{entry_key, no_entry}
+use Rattle.gr_topo.specs.Shape.{entry_key}
 use Rattle.gr_topo.proofs.Faults.{fails_as}
 use Rattle.gr_topo.proofs.Walked.{members_more, members_refused, members_end}
 use Rattle.gr_topo.proofs.shape.entry_keys.Goals as goal

@@ -1,4 +1,4 @@
-use Rattle.std.proofs.Common.{◌≡◌, ◌∙◌, Err, sym, ap, arith}
+use Rattle.std.proofs.Common.{◌∙◌, Err, sym, ap, arith}
 use Rattle.toml.specs.View.{view}
 use Rattle.gr_topo.specs.declared.fault.TopoFault.TheVariants.{BadType}
 use Rattle.gr_topo.specs.Shape.{text_in}

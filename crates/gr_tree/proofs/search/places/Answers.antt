@@ -1,4 +1,4 @@
-use Rattle.std.proofs.Common.{◌+◌, ◌≡◌, length, sym, arith}
+use Rattle.std.proofs.Common.{sym, arith}
 use Rattle.gr_tree.proofs.Whole.{other_count}
 use Rattle.gr_tree.proofs.Steps.{begins, found, ends_in, shallow, goes_on, answered, settled_by, none_clause, tree_clause, places_clause, rooted_clause, paths_clause}
 use Rattle.gr_tree.proofs.search.places.Goals as goal

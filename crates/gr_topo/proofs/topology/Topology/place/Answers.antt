@@ -1,4 +1,4 @@
-use Rattle.std.proofs.Common.{◌<◌, ◌≡◌, ◌∙◌, length, ap, arith}
+use Rattle.std.proofs.Common.{◌<◌, ◌∙◌, length, ap, arith}
 use Rattle.gr_tree.specs.declared.link.Place.{Place}
 use Rattle.gr_topo.specs.Topology.{TopologyView, up_at, depth_at}
 use Rattle.gr_topo.proofs.Rows.{row_fits, place_is}
