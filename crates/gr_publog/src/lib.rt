@@ -8,3 +8,6 @@ pub mod steps;
 
 pub use log::Log;
 pub use record::{Entry, LogFault, Memory, Record};
+
+#[cfg(test)]
+mod tests;

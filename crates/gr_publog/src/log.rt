@@ -226,6 +226,19 @@ impl Log {
         Ok(())
     }
 
+    /// Whether a record may follow those of the log. Takes no memory.
+    pub fn may_follow(&self, entry: &Record) -> bool
+        ensures { result ≡ may_follow (state_of self.now.records) entry.now }
+    {
+        match entry {
+            Record::Event { tick, number, .. } => {
+                self.state.may_settle(*tick) && *number > 0 && *number - 1 == self.state.last
+            }
+            Record::Mark { tick } => self.state.may_settle(*tick),
+            Record::Cut { tick } => self.state.may_cut(*tick),
+        }
+    }
+
     /// The number of the last event, 0 where there is none. Takes no memory.
     pub fn last(&self) -> u64
         ensures { result ≡ (state_of self.now.records).last }
