@@ -12,6 +12,15 @@ chosen b x y h = rw h refl
 pub other : {A : Type 0} (b : Bool) (x y : A) → b ≡ false → (if b then x else y) ≡ y
 other b x y h = rw h refl
 
+-- what holds of a value, as a type of its own
+pub record Holds {A : Type 0} (P : A → Type 0) (x : A) : Type 0 where
+  pub it : P x
+
+-- what holds of both holds of the choice
+pub of_both : {A : Type 0} (P : A → Type 0) (b : Bool) (x y : A) → (b ≡ true → Holds P x) → (b ≡ false → Holds P y) → Holds P (if b then x else y)
+of_both P true x y f g = f refl
+of_both P false x y f g = g refl
+
 -- The next token
 
 -- at a place the next token is of this kind; its bytes, and what stands behind it

@@ -7,5 +7,6 @@ pub mod OnlyWritten
 pub mod Parsing
 pub mod Pieces
 pub mod PrintedTests
+pub mod QuotedUtf8
 pub mod Quotes
 pub mod ReadsBack

@@ -8,16 +8,8 @@ use Rattle.gr_filter.specs.Token.{is_space, is_digit, begins_name, goes_on, fron
 use Rattle.gr_filter.specs.Grammar.{inside_quotes}
 use Rattle.gr_filter.specs.Print.{doubled}
 use Rattle.gr_filter.specs.Written.{begins, IsName, IsText}
-use Rattle.gr_filter.proofs.Lexing.{chosen, other, front_step}
-
--- what holds of a value, as a type of its own
-pub record Holds {A : Type 0} (P : A → Type 0) (x : A) : Type 0 where
-  pub it : P x
-
--- what holds of both holds of the choice
-pub of_both : {A : Type 0} (P : A → Type 0) (b : Bool) (x y : A) → (b ≡ true → Holds P x) → (b ≡ false → Holds P y) → Holds P (if b then x else y)
-of_both P true x y f g = f refl
-of_both P false x y f g = g refl
+use Rattle.gr_filter.proofs.Lexing.{Holds, of_both, chosen, other, front_step}
+use Rattle.gr_filter.proofs.QuotedUtf8.{utf8_single}
 
 -- what a token of n bytes at the front of a text stands for
 abbrev pub Means : List ℕ → ℕ → Token → Type 0
@@ -146,7 +138,8 @@ inside_is n len cs e h =
 text_is : (cs : List ℕ) (n : ℕ) → Cut cs n → is_utf8 (take (n - 1) cs) ≡ true → IsText (undoubled (inside_quotes (take (n + 1) (39 ∷ cs))))
 text_is cs n r h =
     let short : n - 1 ≡ r.len = omega (arith, r.is) in
-    record { utf8 = ap (λ t. is_utf8 (doubled (undoubled t))) (inside_is n r.len cs r.is r.inside) ∙ ap is_utf8 r.again ∙ ap (λ k. is_utf8 (take k cs)) (sym short) ∙ h }
+    let text = undoubled (inside_quotes (take (n + 1) (39 ∷ cs))) in
+    record { utf8 = utf8_single text (ap (λ t. is_utf8 (doubled (undoubled t))) (inside_is n r.len cs r.is r.inside) ∙ ap is_utf8 r.again ∙ ap (λ k. is_utf8 (take k cs)) (sym short) ∙ h) }
 
 text_stands : (cs : List ℕ) (o : Option ℕ) → text_len cs ≡ o → Holds (Stands (39 ∷ cs)) (text_token cs o)
 text_stands cs None e = record { it = tt }

@@ -6,6 +6,7 @@ use Rattle.gr_filter.specs.Token.{text_len, quote_len, undoubled, behind_quote, 
 use Rattle.gr_filter.specs.Grammar.{inside_quotes}
 use Rattle.gr_filter.specs.Print.{doubled, quoted}
 use Rattle.gr_filter.specs.Written.{IsText}
+use Rattle.gr_filter.proofs.QuotedUtf8.{utf8_doubled}
 use Rattle.gr_filter.proofs.Lexing.{chosen, other, Lexes, spaced, lexes, breaks, first_is, broken}
 
 abbrev is_quote : ℕ → Bool
@@ -54,7 +55,7 @@ quoted_reads t rest w b =
     quote_begins ((doubled t ++ 39 ∷ []) ++ rest)
     ∙ ap (λ s. text_token s (text_len s)) (append_assoc (doubled t) (39 ∷ []) rest)
     ∙ ap (text_token (doubled t ++ 39 ∷ rest)) (text_len_doubled t rest (broken is_quote rest refl refl refl b))
-    ∙ text_reads (doubled t) (39 ∷ rest) w.utf8
+    ∙ text_reads (doubled t) (39 ∷ rest) (utf8_doubled t w.utf8)
     ∙ ap (λ k. (token.Text, k)) (sym (length-quoted t))
 
 pub lexes_text : (g : Bool) (bytes : List ℕ) (at : ℕ) (t rest : List ℕ) → IsText t → drop at bytes ≡ spaced g (quoted t ++ rest) → breaks rest ≡ true → Lexes bytes at token.Text (quoted t) rest

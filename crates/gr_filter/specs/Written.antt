@@ -7,7 +7,6 @@ use Rattle.gr_filter.specs.declared.node.Operand.{Operand}
 use Rattle.gr_filter.specs.declared.node.Operand.TheVariants as operand
 use Rattle.gr_filter.specs.declared.token.Token.TheVariants as token
 use Rattle.gr_filter.specs.Token.{begins_name, goes_on, front, word_token}
-use Rattle.gr_filter.specs.Print.{doubled}
 use Rattle.gr_filter.specs.Tree.{Tree, alone, compare, between, one_of, like, is_null, negation, both, either}
 
 abbrev pub begins : List ℕ → Bool
@@ -20,9 +19,9 @@ pub record IsName (n : List ℕ) : Type 0 where
   pub whole : front goes_on n ≡ length n
   pub no_keyword : word_token n ≡ token.Name
 
--- a text, with its quotes doubled as it stands between quotes, is UTF-8
+-- a text is UTF-8
 pub record IsText (t : List ℕ) : Type 0 where
-  pub utf8 : is_utf8 (doubled t) ≡ true
+  pub utf8 : is_utf8 t ≡ true
 
 abbrev pub IsOperand : Operand → Type 0
 IsOperand (operand.Name n) = IsName n
