@@ -1,4 +1,7 @@
-use crate::{Failed, MemSink, MemSource, ReadFault, RunFault, Sink, Source, read_all, write_all};
+use crate::{
+    Disk, Failed, MemDisk, MemSink, MemSource, ReadFault, RunFault, SimDisk, Sink, Source,
+    read_all, write_all,
+};
 use std::test::Fail;
 
 /// Reads of two bytes each from `abcde`, with a list of failing calls, and what each of five calls answers: how many
@@ -72,4 +75,49 @@ fn writes_a_whole_text(rt: HostRuntime) -> Result<(), Fail> {
 #[test]
 fn takes_want_of_memory(rt: HostRuntime) {
     assert_eq!(rt; RunFault::from(std::alloc::AllocError), RunFault::Memory);
+}
+
+/// A write behind `a`, and then a sync that the stop breaks, with the picks and what the crash leaves.
+#[test]
+fn crashes_with_the_picked_image(rt: HostRuntime) -> Result<(), Fail> {
+    let rows: [(u8, &[u8]); 4] = [
+        (0, b"abc"),
+        (1, b"aXYZ"),
+        (2, b"a\x02\x04\x06"),
+        (255, b"a\xff\xfe\xfd"),
+    ];
+    for (pick, image) in rows {
+        let mut disk = MemDisk::new(rt.alloc(), &[])?;
+        disk.put(0, b"abc")?;
+        disk.reserve(0, 8)?;
+        disk.stop_after(0, 2, pick);
+        assert_eq!(rt; disk.write_at(0, 1, b"XYZ"), Ok(()));
+        assert!(rt; !disk.stopped(0));
+        assert_eq!(rt; disk.sync(0), Err(Failed));
+        assert!(rt; disk.stopped(0));
+        disk.crash(0);
+        assert_eq!(rt; disk.lane(0), image);
+        assert!(rt; !disk.stopped(0));
+    }
+    Ok(())
+}
+
+/// A size, a read, a write, a cut and a sync, each of them failing in turn, and what the lane then reads.
+#[test]
+fn disk_calls_fail_where_listed(rt: HostRuntime) -> Result<(), Fail> {
+    let rows: [(u64, &[u8]); 4] = [(1, b"ab"), (3, b"ab"), (4, b"abcde"), (6, b"ab")];
+    for (call, left) in rows {
+        let mut disk = MemDisk::new(rt.alloc(), &[call])?;
+        disk.put(3, b"abcd")?;
+        disk.reserve(3, 8)?;
+        assert_eq!(rt; disk.size(3).is_err(), call == 1);
+        let mut piece = [0u8; 2];
+        assert_eq!(rt; disk.read(3, 1, &mut piece), Ok(()));
+        assert_eq!(rt; piece, *b"bc");
+        assert_eq!(rt; disk.write_at(3, 4, b"e").is_err(), call == 3);
+        assert_eq!(rt; disk.cut(3, 2).is_err(), call == 4);
+        assert_eq!(rt; disk.sync(3), Ok(()));
+        assert_eq!(rt; disk.lane(3), left);
+    }
+    Ok(())
 }

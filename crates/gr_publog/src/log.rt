@@ -145,6 +145,7 @@ impl Log {
         ensures whole { IfOk result (λ l. l.broken ≡ false) }
         ensures stands { D.tells → IfOk result (λ l. Stands (D.lane_of disk.new lane) l.records) }
         ensures any_moment { D.tells → (image : List ℕ) → LeftSince (D.lane_of disk.new lane) (moment (D.lane_of disk.old lane)) image → MayLeave (D.lane_of disk.old lane) image ⊎ (log_text image ≡ log_text (content (D.lane_of disk.old lane))) }
+        ensures reserved { D.tells → OnOk result ((D.lane_of disk.new lane).reserved ≡ true) }
         ensures never_reopen { result ≢ Err LogFault.Reopen }
         ensures disk { DiskRose result (D.faults disk.old) (D.faults disk.new) (D.stops disk.old) (D.stops disk.new) }
         ensures others { D.tells → (n : ℕ) → n ≢ lane → D.lane_of disk.new n ≡ D.lane_of disk.old n }
@@ -204,6 +205,7 @@ impl Log {
         ensures closed { IsErrOf result LogFault.Reopen → self.new ≡ self.old }
         ensures disk { IsErrOf result LogFault.Disk → EitherRose (D.faults disk.old) (D.faults disk.new) (D.stops disk.old) (D.stops disk.new) }
         ensures broken { IsErrOf result LogFault.Disk → self.new ≡ failed self.old }
+        ensures reserved { D.tells → (D.lane_of disk.old self.old.lane).reserved ≡ true → (D.lane_of disk.new self.old.lane).reserved ≡ true }
         ensures never_damaged { (at : ℕ) → result ≢ Err (LogFault.Damaged at) }
         ensures others { D.tells → (n : ℕ) → n ≢ self.old.lane → D.lane_of disk.new n ≡ D.lane_of disk.old n }
     {

@@ -1,6 +1,6 @@
 //! The four calls on a disk that append a record.
 
-ghost use Rattle.std.specs.Prelude.{◌≡◌, ◌≢◌, ℕ, ◌+◌, ◌^◌, ◌<◌, ◌≤◌, List, length, IsErr, OnOk, IfOk, ◌⊎◌, ◌++◌, ◌∷◌, []};
+ghost use Rattle.std.specs.Prelude.{◌≡◌, ◌≢◌, ℕ, ◌+◌, ◌^◌, ◌<◌, ◌≤◌, List, length, true, IsErr, OnOk, IfOk, ◌⊎◌, ◌++◌, ◌∷◌, []};
 ghost use Rattle.gr_out.specs.Lane.{content, moment, LeavesOnly, LeftSince, MayLeave};
 ghost use Rattle.gr_publog.specs.Text.{header};
 ghost use Rattle.gr_publog.specs.Crash.{behind_gate, opened_gate, IsBetween, EitherRose, GaveUp, DiskRose};
@@ -24,6 +24,7 @@ pub fn append_behind<D: Disk>(
     ensures written { D.tells → OnOk result (content (D.lane_of disk.new lane) ≡ opened_gate gate (behind_gate gate bytes.now (content (D.lane_of disk.old lane)))) }
     ensures only { D.tells → OnOk result (LeavesOnly (D.lane_of disk.new lane) (content (D.lane_of disk.new lane))) }
     ensures any_moment { D.tells → (image : List ℕ) → LeftSince (D.lane_of disk.new lane) (moment (D.lane_of disk.old lane)) image → IsBetween gate bytes.now (content (D.lane_of disk.old lane)) image }
+    ensures reserved { D.tells → (D.lane_of disk.new lane).reserved ≡ (D.lane_of disk.old lane).reserved }
     ensures others { D.tells → (n : ℕ) → n ≢ lane → D.lane_of disk.new n ≡ D.lane_of disk.old n }
     ensures cause { IsErr result → EitherRose (D.faults disk.old) (D.faults disk.new) (D.stops disk.old) (D.stops disk.new) }
     ensures faults { D.faults disk.old ≤ D.faults disk.new }
@@ -46,6 +47,7 @@ pub fn settle<D: Disk>(disk: &mut D, lane: u16) -> Result<u64, LogFault>
     ensures room { D.tells → OnOk result (6 ≤ (D.lane_of disk.new lane).room) }
     ensures left { D.tells → OnOk result (3 ≤ (D.lane_of disk.new lane).left) }
     ensures any_moment { D.tells → (image : List ℕ) → LeftSince (D.lane_of disk.new lane) (moment (D.lane_of disk.old lane)) image → MayLeave (D.lane_of disk.old lane) image ⊎ (image ≡ content (D.lane_of disk.old lane)) }
+    ensures reserved { D.tells → OnOk result ((D.lane_of disk.new lane).reserved ≡ true) }
     ensures later { D.tells → moment (D.lane_of disk.old lane) ≤ moment (D.lane_of disk.new lane) }
     ensures gave_up { GaveUp result }
     ensures others { D.tells → (n : ℕ) → n ≢ lane → D.lane_of disk.new n ≡ D.lane_of disk.old n }
@@ -75,6 +77,7 @@ pub fn start<D: Disk>(disk: &mut D, lane: u16) -> Result<(), Failed>
     ensures written { D.tells → OnOk result (content (D.lane_of disk.new lane) ≡ header ++ 0 ∷ []) }
     ensures only { D.tells → OnOk result (LeavesOnly (D.lane_of disk.new lane) (content (D.lane_of disk.new lane))) }
     ensures any_moment { D.tells → (n : ℕ) (image : List ℕ) → LeftSince (D.lane_of disk.new lane) n image → LeftSince (D.lane_of disk.old lane) n image ⊎ (length image ≤ 6) }
+    ensures reserved { D.tells → (D.lane_of disk.new lane).reserved ≡ (D.lane_of disk.old lane).reserved }
     ensures others { D.tells → (n : ℕ) → n ≢ lane → D.lane_of disk.new n ≡ D.lane_of disk.old n }
     ensures cause { IsErr result → EitherRose (D.faults disk.old) (D.faults disk.new) (D.stops disk.old) (D.stops disk.new) }
 {
