@@ -8,7 +8,7 @@ use Rattle.gr_topo.proofs.Children.{child_up, up_child}
 use Rattle.gr_topo.proofs.Routes.{next_in, passes_on, passes_not}
 use Rattle.gr_model.specs.Net.{Net, is_host}
 use Rattle.gr_model.specs.Tree.{IsNet, IsPlace, IsSubscriber, IsDistinct, is_below}
-use Rattle.gr_model.specs.NetOf.{net_of}
+use Rattle.gr_model.specs.NetOf.{net_of, IsRising, IsOrderly}
 
 -- ---- numbers that pass a test
 
@@ -57,6 +57,17 @@ distinct_from test from (suc k) =
     distinct_cond (test from) from (filter test (numbers_from (suc from) k))
     (false_from_ne_true _ (λ h. let r = in_from test (suc from) k from h in absurd (omega (arith, r.1))))
     (distinct_from test (suc from) k)
+
+rising_cond : (b : Bool) (x : ℕ) (xs : List ℕ) → ((y : ℕ) → list_any (λ z. nat_eq z y) xs ≡ true → x < y) → IsRising xs → IsRising (cond b (x ∷ xs) xs)
+rising_cond true x xs h r = (h, r)
+rising_cond false x xs h r = r
+
+pub rising_from : (test : ℕ → Bool) (from k : ℕ) → IsRising (filter test (numbers_from from k))
+rising_from test from zero = tt
+rising_from test from (suc k) =
+    rising_cond (test from) from (filter test (numbers_from (suc from) k))
+    (λ y h. let r = in_from test (suc from) k y h in omega (arith, r.1))
+    (rising_from test (suc from) k)
 
 -- ---- paths to the host
 
@@ -177,4 +188,22 @@ net_is t is = record {
   subscriber = λ s i. record { at_in = is.sound.home_in s i; here = put_among (λ z. nat_eq (home_of t z) (home_of t s)) (length t.subscribers) s i (eq-eqb (home_of t s) (home_of t s) refl) };
   up_below = λ p b i j e. (is.rooted p i).up_some b j (λ same. true≢false (sym (eq-eqb (host_of t p) b (sym same)) ∙ e));
   child_up = λ p b c i j m. child_up t p b c is i (among (is_child_at t p b) (size t) c m).0;
+}
+
+pub net_is_orderly : (t : TopologyView) → IsTopology t → IsOrderly (net_of t)
+net_is_orderly t is = record {
+  host_up = λ p i. (is.rooted p i).no_up;
+  host_depth = λ p i. (is.rooted p i).top;
+  children_distinct = λ p b. distinct_from (is_child_at t p b) 0 (size t);
+  children_rising = λ p b. rising_from (is_child_at t p b) 0 (size t);
+  subscribers_rising = λ b. rising_from (λ s. nat_eq (home_of t s) b) 0 (length t.subscribers);
+  subscribers_in = λ b s m. (among (λ z. nat_eq (home_of t z) b) (length t.subscribers) s m).1;
+  below_distinct = λ p b. distinct_from (λ s. passes_by t p b (home_of t s)) 0 (length t.subscribers);
+  below_rising = λ p b. rising_from (λ s. passes_by t p b (home_of t s)) 0 (length t.subscribers);
+  below_in = λ p b s m. (among (λ z. passes_by t p b (home_of t z)) (length t.subscribers) s m).1;
+  gap = is.sound.settings.gap.0;
+  idle = is.sound.settings.idle.0;
+  retry = is.sound.settings.retry.0;
+  quiet = is.sound.settings.quiet.0;
+  cache = is.sound.settings.cache.0;
 }
