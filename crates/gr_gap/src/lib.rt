@@ -3,6 +3,8 @@
 #![tactic(auto)]
 
 pub mod gap;
+mod cells;
+mod halves;
 mod loose;
 mod owner;
 pub mod shared;
