@@ -94,7 +94,8 @@ impl<T> Halves<T> {
     }
 
     pub(crate) fn before(&self) -> usize
-        ensures { result ≡ length self.now.front }
+        ensures count { result ≡ length self.now.front }
+        ensures within { length self.now.front + length self.now.back ≤ self.now.room }
     {
         self.before
     }
@@ -145,5 +146,80 @@ impl<T> Halves<T> {
         let place = self.room - self.after;
         self.after -= 1;
         self.cells.read(self.base, place)
+    }
+
+    // The place of the value at `i` of all.
+    fn place(&self, i: usize) -> usize
+        requires { i < length self.now.front + length self.now.back }
+        ensures front { i < length self.now.front → result ≡ i }
+        ensures back { length self.now.front ≤ i → result ≡ self.now.room - (length self.now.front + length self.now.back) + i }
+    {
+        if i < self.before {
+            i
+        } else {
+            self.room - (self.before + self.after) + i
+        }
+    }
+
+    // The value at `i` of all.
+    pub(crate) fn get(&self, i: usize) -> &T
+        requires { i < length self.now.front + length self.now.back }
+        ensures { result.now ≡ slice_index_or (self.now.front ++ self.now.back) i result.now }
+    {
+        self.cells.get(self.base, self.place(i))
+    }
+
+    // Puts a value in place of the one at `i` of all, which it answers. The gap stays where it is.
+    pub(crate) fn replace(&mut self, i: usize, value: T) -> T
+        requires { i < length self.old.front + length self.old.back }
+        ensures value { result ≡ slice_index_or (self.old.front ++ self.old.back) i result }
+        ensures items { self.new.front ++ self.new.back ≡ slice_set (self.old.front ++ self.old.back) i value }
+        ensures counts { (length self.new.front ≡ length self.old.front) × (length self.new.back ≡ length self.old.back) }
+        ensures room { self.new.room ≡ self.old.room }
+    {
+        let place = self.place(i);
+        let old = self.cells.read(self.base, place);
+        self.cells.write(self.base, place, value);
+        old
+    }
+
+    // Moves the gap to before the value at `i`, or to the end.
+    pub(crate) fn seek(&mut self, i: usize)
+        requires { i ≤ length self.old.front + length self.old.back }
+        ensures place { length self.new.front ≡ i }
+        ensures items { self.new.front ++ self.new.back ≡ self.old.front ++ self.old.back }
+        ensures room { self.new.room ≡ self.old.room }
+    {
+        while i < self.before() {
+            let value = self.take_before();
+            self.put_after(value);
+        }
+        while self.before() < i {
+            let value = self.take_after();
+            self.put_before(value);
+        }
+    }
+
+    // Moves all to a new block of so many places. Where memory is refused, all stays as it was.
+    pub(crate) fn widen(&mut self, room: usize) -> Result<(), AllocError>
+        requires { (length self.old.front + length self.old.back ≤ room) × (0 < room) }
+        ensures ok { OnOk result (self.new.room ≡ room) }
+        ensures items { self.new.front ++ self.new.back ≡ self.old.front ++ self.old.back }
+        ensures err { OnErr result (self.new ≡ self.old) }
+    {
+        if !may_hold::<T>(room) {
+            return Err(AllocError);
+        }
+        let mut wide = Halves::with_room(self.alloc, room)?;
+        let at = self.before();
+        self.seek(at + self.after());
+        while self.before() > 0 {
+            let value = self.take_before();
+            wide.put_after(value);
+        }
+        wide.seek(at);
+        let narrow = mem::replace(self, wide);
+        narrow.free();
+        Ok(())
     }
 }
