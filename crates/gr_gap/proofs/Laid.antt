@@ -1,5 +1,5 @@
 -- How values lie round a gap, and what a write and a read beside the gap make of it.
-use Rattle.std.proofs.Common.{◌≡◌, ℕ, zero, suc, ◌+◌, ◌-◌, ◌<◌, ◌≤◌, List, [], ◌∷◌, ◌++◌, map, length, take, drop, set, get_or, replicate, Option, Some, None, refl, sym, ap, ◌∙◌, subst, arith, length-append, take_at, drop_at, append_assoc, ◌⊎◌, inl, inr}
+use Rattle.std.proofs.Common.{◌≡◌, ℕ, zero, suc, ◌+◌, ◌-◌, ◌<◌, ◌≤◌, List, [], ◌∷◌, ◌++◌, map, length, drop, set, get_or, remove, replicate, Option, Some, None, refl, sym, ap, ◌∙◌, subst, arith, length-append, take_at, drop_at, append_assoc, ◌⊎◌, inl, inr}
 use Rattle.std.proofs.lemmas.List.{length-map, length-replicate}
 use Rattle.gr_gap.specs.Halves.{somes, laid, front_of, back_of, HasGap}
 
@@ -16,6 +16,12 @@ module _ {X : Type 0} where
   put-at [] ys x v (suc n) e = absurd (omega arith)
   put-at (y ∷ xs) ys x v zero e = absurd (omega arith)
   put-at (y ∷ xs) ys x v (suc n) e = ap (λ l. y ∷ l) (put-at xs ys x v n (omega arith))
+
+  pub gone : (xs ys : List X) (x : X) (n : ℕ) → n ≡ length xs → remove (xs ++ x ∷ ys) n ≡ xs ++ ys
+  gone [] ys x zero e = refl
+  gone [] ys x (suc n) e = absurd (omega arith)
+  gone (y ∷ xs) ys x zero e = absurd (omega arith)
+  gone (y ∷ xs) ys x (suc n) e = ap (λ l. y ∷ l) (gone xs ys x n (omega arith))
 
   abbrev free : Option X
   free = None
@@ -42,13 +48,16 @@ module _ {X : Type 0} where
       let front = ap (front_of before) is ∙ front_is f b k before ef in
       let start : room - after ≡ length f + k = omega arith in
       let back = ap (back_of (room - after)) is ∙ back_is f b k (room - after) start in
-      let gap : room - (before + after) ≡ k = omega arith in
-      (record {
-        front = ap length front ∙ sym ef;
-        back = ap length back ∙ sym eb;
-        within = omega arith;
-        places = is ∙ (λ i. laid (sym front i) (sym gap i) (sym back i));
-      }, front, back)
+      let gap : room - (before + after) ≡ k = omega arith in (
+        record {
+          front = ap length front ∙ sym ef;
+          back = ap length back ∙ sym eb;
+          within = omega arith;
+          places = is ∙ (λ i. laid (sym front i) (sym gap i) (sym back i));
+        },
+        front,
+        back,
+      )
 
   -- the last of the front and the rest, and the last free place and the back
   snoc : (f : List X) (v : X) (rest : List (Option X)) → map Some f ++ Some v ∷ rest ≡ map Some (f ++ v ∷ []) ++ rest
@@ -125,8 +134,8 @@ module _ {X : Type 0} where
   spot_back f b k i j p lt ei ep =
       let on = cut_at j b lt in let u = on.0 in let x = on.1 in let w = on.2 in let pre = map Some f ++ (replicate k None ++ map Some u) in
       let split : (v : X) → laid f k (u ++ v ∷ w) ≡ pre ++ Some v ∷ map Some w = λ v.
-          ap (λ l. map Some f ++ (replicate k None ++ l)) (map_two u (v ∷ w)) ∙ ap (λ l. map Some f ++ l) (sym (append_assoc (replicate k None) (map Some u) (Some v ∷ map Some w)))
-          ∙ sym (append_assoc (map Some f) (replicate k None ++ map Some u) (Some v ∷ map Some w)) in
+      ap (λ l. map Some f ++ (replicate k None ++ l)) (map_two u (v ∷ w)) ∙ ap (λ l. map Some f ++ l) (sym (append_assoc (replicate k None) (map Some u) (Some v ∷ map Some w)))
+      ∙ sym (append_assoc (map Some f) (replicate k None ++ map Some u) (Some v ∷ map Some w)) in
       let long : p ≡ length pre = omega (arith, on.4, length-append (map Some f) (replicate k None ++ map Some u), length-append (replicate k (free {X = X})) (map Some u), length-map f Some, length-replicate k (free {X = X}), length-map u Some) in
       record {
         value = x;
@@ -167,7 +176,7 @@ module _ {X : Type 0} (before after room : ℕ) (cs : List (Option X)) (h : HasG
       let is : cs ≡ map Some u ++ Some v ∷ rest = h.places ∙ ap (λ l. laid l k b) on.2 ∙ front_step u b k v in
       let at : before - 1 ≡ length (map Some u) = omega (arith, length-map u Some) in
       let made = has_gap u b (suc k) (before - 1) after room (set cs (before - 1) None)
-          (ap (λ l. set l (before - 1) None) is ∙ put-at (map Some u) rest (Some v) None (before - 1) at) (omega arith) (sym back) (omega (arith, h.within)) in
+      (ap (λ l. set l (before - 1) None) is ∙ put-at (map Some u) rest (Some v) None (before - 1) at) (omega arith) (sym back) (omega (arith, h.within)) in
       (v, ap (λ l. get_or l (before - 1) None) is ∙ item-at (map Some u) rest (Some v) (before - 1) None at, made.0, on.2 ∙ ap (λ l. l ++ v ∷ []) (sym made.1), made.2)
 
   pub put_back : before + after < room → (v : X) → let at = room - (after + 1) in let new = set cs at (Some v) in
@@ -189,7 +198,7 @@ module _ {X : Type 0} (before after room : ℕ) (cs : List (Option X)) (h : HasG
       let is : cs ≡ pre ++ Some v ∷ map Some w = h.places ∙ ap (λ l. laid f k l) on.2 ∙ back_step f w k (Some v) in
       let at : room - after ≡ length pre = omega (arith, h.within, length-append (map Some f) (replicate k (free {X = X})), length-map f Some, length-replicate k (free {X = X})) in
       let made = has_gap f w (suc k) before (after - 1) room (set cs (room - after) None)
-          (ap (λ l. set l (room - after) None) is ∙ put-at pre (map Some w) (Some v) None (room - after) at ∙ sym (free_step f w k)) (sym front) (omega arith) (omega (arith, h.within)) in
+      (ap (λ l. set l (room - after) None) is ∙ put-at pre (map Some w) (Some v) None (room - after) at ∙ sym (free_step f w k)) (sym front) (omega arith) (omega (arith, h.within)) in
       (v, ap (λ l. get_or l (room - after) None) is ∙ item-at pre (map Some w) (Some v) (room - after) None at, made.0, made.1, on.2 ∙ ap (λ l. v ∷ l) (sym made.2))
 
   below_or_not : (i n : ℕ) → (i < n) ⊎ (n ≤ i)

@@ -1,4 +1,3 @@
-pub mod Unrolled
 pub mod Words
 pub mod StickyLaws
 pub mod LooseValues

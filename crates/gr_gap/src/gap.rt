@@ -1,35 +1,43 @@
-// A gap buffer in one block: a ring, whose free part is the gap. The values past the gap stand first in the ring, then those before it.
-ghost use Rattle.std.specs.Prelude.{◌≡◌, ℕ, ◌+◌, ◌-◌, ◌^◌, ◌<◌, ◌≤◌, List, [], length, insert, remove, slice_index_or, slice_set, Ok, OnOk, OnErr, IsOk};
-ghost use Rattle.std.specs.VecDeque.{deque_len, deque_capacity};
-ghost use Rattle.gr_gap.specs.Contents.{unrolled, place_of};
+// A gap buffer: one block of memory, with its free places where the last edit was.
+ghost use Rattle.std.specs.Prelude.{◌≡◌, ◌+◌, ◌^◌, ◌<◌, ◌≤◌, [], length, insert, remove, slice_index_or, slice_set, OnOk, OnErr, IsOk};
 
 use crate::Memory;
+use crate::halves::Halves;
 use std::alloc::{AllocError, Global};
-use std::collections::VecDeque;
 use std::marker::Model;
-use std::mem;
+
+// The least room that is asked for.
+const LEAST_ROOM: usize = 4;
 
 /// A list with room for more values: its contracts see the values in order, and `spare`, how many more fit.
 /// An edit costs the distance from the last one.
-#[derive(Drop)]
 pub struct Gap<T> {
-    ring: VecDeque<T>,
-    // How many values stand before the gap.
-    before: usize,
-    // How many values fit in all.
-    room: usize,
+    halves: Halves<T>,
 }
 
 impl<T> Model for Gap<T> {
-    ghost use Rattle.std.specs.Prelude.{◌-◌, ◌≤◌};
-    ghost use Rattle.std.specs.VecDeque.{deque_len, deque_capacity};
-    ghost use Rattle.gr_gap.specs.Contents.{Contents, unrolled};
+    ghost use Rattle.std.specs.Prelude.{◌+◌, ◌-◌, ◌^◌, ◌<◌, ◌≤◌, ◌++◌, length};
+    ghost use Rattle.gr_gap.specs.Contents.{Contents};
 
     ghost Value = { Contents T };
 
-    ghost view = { λ g. record { items = unrolled g.before g.ring.items; spare = g.room - deque_len g.ring } };
+    ghost view = { λ g. record { items = g.halves.front ++ g.halves.back; spare = g.halves.room - (length g.halves.front + length g.halves.back) } };
 
-    ghost invariant = { λ g. (g.before ≤ deque_len g.ring) × (deque_len g.ring ≤ g.room) × (g.room ≤ deque_capacity g.ring) };
+    ghost invariant = { λ g. (length g.halves.front + length g.halves.back ≤ g.halves.room) × (g.halves.room < 2 ^ 64) };
+}
+
+// Drops each value once, and gives the block back.
+impl<T: Drop> Drop for Gap<T> {
+    fn drop(self) {
+        let Gap { mut halves } = self;
+        while halves.before() > 0 {
+            drop(halves.take_before());
+        }
+        while halves.after() > 0 {
+            drop(halves.take_after());
+        }
+        halves.free();
+    }
 }
 
 impl<T> Gap<T> {
@@ -39,9 +47,7 @@ impl<T> Gap<T> {
         ensures spare { result.spare ≡ 0 }
     {
         Gap {
-            ring: VecDeque::new(alloc),
-            before: 0,
-            room: 0,
+            halves: Halves::new(alloc),
         }
     }
 
@@ -53,12 +59,15 @@ impl<T> Gap<T> {
         ensures succeeds { n ≤ self.old.spare → IsOk result }
         ensures err { OnErr result (self.new ≡ self.old) }
     {
-        if n <= self.room - self.ring.len() {
+        let len = self.len();
+        let room = self.halves.room();
+        if n <= room - len {
             return Ok(());
         }
-        self.ring.reserve(n)?;
-        self.room = self.ring.capacity();
-        Ok(())
+        let Some(needed) = len.checked_add(n) else {
+            return Err(AllocError);
+        };
+        self.halves.widen(wider(room, needed))
     }
 
     /// Puts a value before the one at `i`, or at the end. It takes no memory.
@@ -69,9 +78,8 @@ impl<T> Gap<T> {
         ensures spare { self.new.spare + 1 ≡ self.old.spare }
         ensures counted { length self.new.items < 2 ^ 64 }
     {
-        move_gap(&mut self.ring, &mut self.before, i);
-        self.ring.push_back_reserved(value);
-        self.before += 1;
+        self.halves.seek(i);
+        self.halves.put_before(value);
     }
 
     /// Takes out the value at `i`.
@@ -81,8 +89,8 @@ impl<T> Gap<T> {
         ensures items { self.new.items ≡ remove self.old.items i }
         ensures spare { self.new.spare ≡ self.old.spare + 1 }
     {
-        move_gap(&mut self.ring, &mut self.before, i);
-        self.ring.pop_front().unwrap()
+        self.halves.seek(i);
+        self.halves.take_after()
     }
 
     /// The value at `i`.
@@ -90,8 +98,7 @@ impl<T> Gap<T> {
         requires { i < length self.now.items }
         ensures { result.now ≡ slice_index_or self.now.items i result.now }
     {
-        let at = place(&self.ring, self.before, i);
-        &self.ring[at]
+        self.halves.get(i)
     }
 
     /// Puts a value in place of the one at `i`, which it answers.
@@ -101,54 +108,25 @@ impl<T> Gap<T> {
         ensures items { self.new.items ≡ slice_set self.old.items i value }
         ensures spare { self.new.spare ≡ self.old.spare }
     {
-        let at = place(&self.ring, self.before, i);
-        mem::replace(&mut self.ring[at], value)
+        self.halves.replace(i, value)
     }
 
     /// Where its memory comes from.
     pub fn allocator(&self) -> Global {
-        *self.ring.allocator()
+        self.halves.allocator()
     }
 
     /// How many values there are.
     pub fn len(&self) -> usize
         ensures { result ≡ length self.now.items }
     {
-        self.ring.len()
+        self.halves.before() + self.halves.after()
     }
 }
 
-// Where the value at `i` of the list stands in the ring.
-fn place<T>(ring: &VecDeque<T>, before: usize, i: usize) -> usize
-    requires within { i < deque_len ring.now }
-    requires gap { before ≤ deque_len ring.now }
-    ensures { result ≡ place_of before (deque_len ring.now) i }
+// The next room: twice what there was, if that is enough.
+fn wider(room: usize, needed: usize) -> usize
+    ensures { (needed ≤ result) × (0 < result) }
 {
-    if i < before {
-        ring.len() - before + i
-    } else {
-        i - before
-    }
-}
-
-// Moves the gap to `i`: only what lies between the old place and the new one goes round.
-fn move_gap<T>(ring: &mut VecDeque<T>, before: &mut usize, i: usize)
-    requires within { i ≤ deque_len ring.old }
-    requires gap { before.old ≤ deque_len ring.old }
-    requires room { deque_len ring.old ≤ deque_capacity ring.old }
-    ensures place { before.new ≡ i }
-    ensures len { deque_len ring.new ≡ deque_len ring.old }
-    ensures items { unrolled before.new ring.new.items ≡ unrolled before.old ring.old.items }
-    ensures capacity { deque_capacity ring.new ≡ deque_capacity ring.old }
-{
-    while *before > i {
-        let value = ring.pop_back().unwrap();
-        ring.push_front_reserved(value);
-        *before -= 1;
-    }
-    while *before < i {
-        let value = ring.pop_front().unwrap();
-        ring.push_back_reserved(value);
-        *before += 1;
-    }
+    needed.max(room.saturating_mul(2)).max(LEAST_ROOM)
 }

@@ -133,8 +133,7 @@ impl<T> Halves<T> {
         ensures room { self.new.room ≡ self.old.room }
     {
         self.after += 1;
-        self.cells
-            .write(self.base, self.room - self.after, value);
+        self.cells.write(self.base, self.room - self.after, value);
     }
 
     pub(crate) fn take_after(&mut self) -> T

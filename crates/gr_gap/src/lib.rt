@@ -2,8 +2,8 @@
 //! and a value with any number of owners. Only this crate has raw pointers.
 #![tactic(auto)]
 
-pub mod gap;
 mod cells;
+pub mod gap;
 mod halves;
 mod loose;
 mod owner;

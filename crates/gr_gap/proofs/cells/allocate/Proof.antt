@@ -75,7 +75,6 @@ use Rattle.core.proofs.slots.Leases.{uncapped, block_ty, block_size, block_align
 use Rattle.std_alloc.proofs.VecSteps.Shapes.{head, arm_body}
 use Rattle.std_alloc.proofs.ResultValues.{ok_of, err_of}
 use Rattle.std_alloc.proofs.RcSteps.{first_Good}
-use Rattle.gr_gap.specs.Places.{deed_owns}
 use Rattle.gr_gap.proofs.CellSteps.{three_val, three_of, of_room, deed_some}
 use Rattle.gr_gap.specs.contracts.cells.Deed as D-type
 use Rattle.gr_gap.specs.contracts.cells.allocate as F

@@ -1,6 +1,6 @@
 -- `none` makes a row of no places, which begins at a local that is gone by then. Assumes `Logic`.
-use mathlib.Core.Path.{◌≡◌, refl, sym, ap, subst}
-use Prim.Native.Nat.{ℕ, ◌+◌, ◌*◌, ◌<◌, ◌≤◌, ◌^◌}
+use mathlib.Core.Path.{◌≡◌, refl, sym, subst}
+use Prim.Native.Nat.{ℕ, ◌*◌, ◌^◌}
 use native.Mathlib.Omega.{arith}
 use native.Mathlib.Nat.{zero-mul}
 use mathlib.Core.List.{List, [], ◌∷◌, ◌++◌}
@@ -18,13 +18,12 @@ use contract.Monad.{Fun}
 use contract.BorrowLft.{◌⊑◌}
 use contract.Running.{tables, tables_of}
 use sound.WpLaws.{WpFn-mono}
-use types.Kit.{Item, ⋆, ‵, ◌⊛◌, ◌$◌, ◌∵◌, !, qed, by, move, keep, drop, use0, use3, split, join, fsplit, fjoin, feq_l, flt_i, suffices, frame, done}
+use types.Kit.{Item, ⋆, ‵, ◌⊛◌, ◌$◌, ◌∵◌, !, qed, by, move, keep, use0, use3, split, join, fsplit, fjoin, feq_l, flt_i, suffices, frame, done}
 use types.Part.{agg}
 use types.Run.{stop, from, addr, and_then, no_more, returns, enter}
 use types.ByLocal.{alloc_all, pass_all, free_all, look_at, get, sets}
 use denote.Exit.{yes}
 use denote.RattleType.{RattleType, owns}
-use denote.Memory.{hidden_shr}
 use denote.Param.{layout}
 use denote.RawPtr.{Ptr, block_ptr}
 use denote.Ref.{Bor, ShrRef}
@@ -39,7 +38,7 @@ use denote.Triple.Table.{entered}
 use denote.Triple.Walked.{says, Stays, stay_dropped, walk_of, ends_at, Goes-dropped, walk_Meets}
 use Rattle.std_alloc.proofs.RcSteps.{Good, word, word-Good}
 use Rattle.core.proofs.mem.Param.{El, R}
-use Rattle.core.proofs.alloc.Calls.{Al, second}
+use Rattle.core.proofs.alloc.Calls.{Al}
 use Rattle.core.proofs.slots.Leases.{args, P}
 use Rattle.gr_gap.proofs.CellSteps.{Cr, Bs, Mark, sz, mark, mark_made, word_made, three_val, three_of}
 use Rattle.gr_gap.specs.contracts.cells.Deed as D-type

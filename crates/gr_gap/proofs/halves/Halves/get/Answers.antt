@@ -1,5 +1,5 @@
 -- The place has the value of that index.
-use Rattle.std.proofs.Common.{◌≡◌, ◌+◌, ◌-◌, ◌<◌, ◌≤◌, List, ◌++◌, length, Some, None, get_or, sym, ap, ◌∙◌, subst, arith}
+use Rattle.std.proofs.Common.{◌≡◌, ◌++◌, length, Some, get_or, sym, ap, ◌∙◌, arith}
 use Rattle.gr_gap.proofs.Laid.{holds}
 use Rattle.gr_gap.proofs.halves.Halves.get.Goals as goal
 

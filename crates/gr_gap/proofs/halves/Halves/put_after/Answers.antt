@@ -1,5 +1,5 @@
 -- The last free place is filled.
-use Rattle.std.proofs.Common.{◌≡◌, ◌+◌, ◌<◌, List, length, Some, set, sym, ap, ◌∙◌, subst, arith}
+use Rattle.std.proofs.Common.{◌+◌, length, sym, ap, ◌∙◌, subst, arith}
 use Rattle.gr_gap.specs.Halves.{HasGap}
 use Rattle.gr_gap.proofs.Laid.{put_back}
 use Rattle.gr_gap.proofs.halves.Halves.put_after.Goals as goal

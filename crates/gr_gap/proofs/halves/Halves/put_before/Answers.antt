@@ -1,6 +1,6 @@
 -- The first free place is filled.
-use Rattle.std.proofs.Common.{◌≡◌, ◌+◌, ◌<◌, List, [], ◌∷◌, ◌++◌, length, Some, set, sym, ap, ◌∙◌, subst, arith}
-use Rattle.gr_gap.specs.Halves.{Halves, front_of, HasGap}
+use Rattle.std.proofs.Common.{◌+◌, [], ◌∷◌, ◌++◌, length, sym, ap, ◌∙◌, subst, arith}
+use Rattle.gr_gap.specs.Halves.{front_of, HasGap}
 use Rattle.gr_gap.proofs.Laid.{put_front}
 use Rattle.gr_gap.proofs.halves.Halves.put_before.Goals as goal
 

@@ -1,5 +1,5 @@
 -- The place has the value of that index, and then the other one.
-use Rattle.std.proofs.Common.{◌≡◌, ◌+◌, ◌-◌, ◌<◌, ◌≤◌, List, ◌++◌, length, Some, None, get_or, set, sym, ap, ◌∙◌, subst, arith}
+use Rattle.std.proofs.Common.{◌≡◌, ◌-◌, ◌++◌, length, Some, get_or, set, sym, ap, ◌∙◌, subst, arith}
 use Rattle.gr_gap.specs.Halves.{HasGap, front_of, back_of}
 use Rattle.gr_gap.proofs.Laid.{holds, replaced}
 use Rattle.gr_gap.proofs.halves.Halves.replace.Goals as goal

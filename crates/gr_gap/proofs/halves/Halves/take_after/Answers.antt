@@ -1,5 +1,5 @@
 -- The first value after the gap leaves its place.
-use Rattle.std.proofs.Common.{◌≡◌, ◌+◌, ◌-◌, ◌<◌, List, [], ◌∷◌, ◌++◌, length, Some, None, set, sym, ap, ◌∙◌, subst, arith}
+use Rattle.std.proofs.Common.{◌-◌, length, sym, ap, ◌∙◌, subst, arith}
 use Rattle.gr_gap.specs.Halves.{HasGap}
 use Rattle.gr_gap.proofs.Laid.{take_back}
 use Rattle.gr_gap.proofs.halves.Halves.take_after.Goals as goal

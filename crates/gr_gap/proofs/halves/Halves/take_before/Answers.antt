@@ -1,5 +1,5 @@
 -- The last value before the gap leaves its place.
-use Rattle.std.proofs.Common.{◌≡◌, ◌+◌, ◌-◌, ◌<◌, List, [], ◌∷◌, ◌++◌, length, Some, None, set, sym, ap, ◌∙◌, subst, arith}
+use Rattle.std.proofs.Common.{◌≡◌, ◌-◌, [], ◌∷◌, ◌++◌, length, Some, sym, ap, ◌∙◌, subst, arith}
 use Rattle.gr_gap.specs.Halves.{front_of, HasGap}
 use Rattle.gr_gap.proofs.Laid.{take_front}
 use Rattle.gr_gap.proofs.halves.Halves.take_before.Goals as goal
