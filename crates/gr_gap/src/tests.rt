@@ -26,38 +26,52 @@ fn an_edit_at_each_place(rt: HostRuntime) -> Result<(), Fail> {
     Ok(())
 }
 
-// A plain `Vec` beside it, through a few hundred edits that jump about.
+// A plain `Vec` beside it, through several hundred edits that jump about. The gap grows by one place at a time or by many.
 #[test]
 fn the_same_as_a_vec(rt: HostRuntime) -> Result<(), Fail> {
-    let mut gap = Gap::new(rt.alloc());
-    let mut plain: Vec<u64> = Vec::new(rt.alloc());
-    let mut seed: u64 = 1;
-    for step in 0..400u64 {
-        seed = seed
-            .wrapping_mul(6_364_136_223_846_793_005)
-            .wrapping_add(1_442_695_040_888_963_407);
-        let len = gap.len();
-        assert_eq!(rt; plain.len(), len);
-        let place = (seed >> 33) as usize;
-        if seed % 5 < 3 || len == 0 {
-            let i = if len == 0 { 0 } else { place % len };
-            gap.reserve(1)?;
-            gap.insert(i, step);
-            plain.insert(i, step)?;
-        } else if seed % 5 == 3 {
-            let i = place % len;
-            assert_eq!(rt; gap.remove(i), plain.remove(i), "at step {step}");
-        } else {
-            let i = place % len;
-            assert_eq!(rt; gap.replace(i, step), plain[i], "at step {step}");
-            plain[i] = step;
+    for more in [1usize, 3, 70] {
+        let mut gap = Gap::new(rt.alloc());
+        let mut plain: Vec<u64> = Vec::new(rt.alloc());
+        let mut seed: u64 = 1;
+        for step in 0..400u64 {
+            seed = seed
+                .wrapping_mul(6_364_136_223_846_793_005)
+                .wrapping_add(1_442_695_040_888_963_407);
+            let len = gap.len();
+            assert_eq!(rt; plain.len(), len);
+            let place = (seed >> 33) as usize;
+            if seed % 5 < 3 || len == 0 {
+                let i = if len == 0 { 0 } else { place % len };
+                gap.reserve(more)?;
+                gap.insert(i, step);
+                plain.insert(i, step)?;
+            } else if seed % 5 == 3 {
+                let i = place % len;
+                assert_eq!(rt; gap.remove(i), plain.remove(i), "at step {step}");
+            } else {
+                let i = place % len;
+                assert_eq!(rt; gap.replace(i, step), plain[i], "at step {step}");
+                plain[i] = step;
+            }
+            assert_eq!(rt;
+                listed(rt.alloc(), &gap)?.as_slice(),
+                plain.as_slice(),
+                "at step {step}"
+            );
         }
-        assert_eq!(rt;
-            listed(rt.alloc(), &gap)?.as_slice(),
-            plain.as_slice(),
-            "at step {step}"
-        );
     }
+    Ok(())
+}
+
+#[test]
+fn values_of_no_size(rt: HostRuntime) -> Result<(), Fail> {
+    let mut gap = Gap::new(rt.alloc());
+    for _ in 0..20 {
+        gap.reserve(1)?;
+        gap.insert(0, ());
+    }
+    gap.remove(7);
+    assert_eq!(rt; gap.len(), 19);
     Ok(())
 }
 
@@ -90,6 +104,31 @@ fn each_value_is_dropped_once(rt: HostRuntime) -> Result<(), Fail> {
         assert_eq!(rt; drops.get(), 2);
     }
     assert_eq!(rt; drops.get(), 5);
+    Ok(())
+}
+
+// Values before the gap and after it, in a block that has grown several times, with some taken out.
+#[test]
+fn each_value_is_dropped_once_after_growth(rt: HostRuntime) -> Result<(), Fail> {
+    let drops = Cell::new(0);
+    {
+        let mut gap = Gap::new(rt.alloc());
+        for _ in 0..100 {
+            gap.reserve(1)?;
+            let middle = gap.len() / 2;
+            gap.insert(middle, Counted(&drops));
+        }
+        assert_eq!(rt; drops.get(), 0);
+        for _ in 0..30 {
+            let taken = gap.remove(20);
+            drop(taken);
+        }
+        assert_eq!(rt; drops.get(), 30);
+        gap.reserve(1_000)?;
+        assert_eq!(rt; drops.get(), 30);
+        assert_eq!(rt; gap.len(), 70);
+    }
+    assert_eq!(rt; drops.get(), 100);
     Ok(())
 }
 
