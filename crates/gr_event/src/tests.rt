@@ -1,4 +1,5 @@
-use crate::{Bytes, Event, EventFault, Numbers, Part, Text};
+use crate::{Bytes, Event, EventFault, Numbers, Part, Text, Value};
+use serde_json::Value as Json;
 use std::alloc::Global;
 use std::fs;
 use std::rt::Files;
@@ -22,6 +23,25 @@ fn reads_writes_and_decodes(rt: HostRuntime) -> Result<(), Fail> {
     );
     assert!(rt; matches!(event.share().get(b"price"), Some(Part::Int(82))));
     assert!(rt; event.get(b"qty").is_none());
+    Ok(())
+}
+
+// Two pairs: a count, six bytes of the text and its name, four of the truth value and its name.
+#[test]
+fn takes_a_json_value(rt: HostRuntime) -> Result<(), Fail> {
+    let value = Json::from_slice(rt.alloc(), b"{\"b\":true,\"a\":\"x\"}")?;
+    let event = Event::from_json(rt.alloc(), &value)?;
+    let mut bytes = [0u8; 11];
+    assert_eq!(rt; event.size(), 11);
+    event.encode_into(&mut bytes);
+    let spelled = [2, 1, 0x61, 2, 0, 1, 0x78, 1, 0x62, 3, 1];
+    assert_eq!(rt; bytes.as_slice(), spelled.as_slice());
+    assert_eq!(rt;
+        event.json(rt.alloc())?.as_slice(),
+        b"{\"a\":\"x\",\"b\":true}".as_slice()
+    );
+    assert!(rt; matches!(event.get(b"a"), Some(Part::Text(text)) if text == b"x".as_slice()));
+    assert!(rt; matches!(event.get(b"b"), Some(Part::Bool(true))));
     Ok(())
 }
 
@@ -79,6 +99,19 @@ fn makes_lists(rt: HostRuntime) -> Result<(), Fail> {
     assert_eq!(rt; numbers.as_slice(), [7, 9].as_slice());
     assert_eq!(rt; numbers.len(), 2);
     assert_eq!(rt; Numbers::new(rt.alloc()).len(), 0);
+    Ok(())
+}
+
+#[test]
+fn takes_vectors_and_shows_values(rt: HostRuntime) -> Result<(), Fail> {
+    let text = Text::from_vec(Vec::from_slice(rt.alloc(), b"ab")?);
+    assert_eq!(rt; text.as_slice(), b"ab".as_slice());
+    let bytes = Bytes::from_vec(Vec::from_slice(rt.alloc(), &[1, 2])?);
+    assert_eq!(rt; bytes.as_slice(), [1, 2].as_slice());
+    let value = Value::Text(text);
+    assert!(rt; matches!(value.part(), Part::Text(text) if text == b"ab".as_slice()));
+    assert!(rt; value.same(&Value::Text(Text::from_slice(rt.alloc(), b"ab")?)));
+    assert!(rt; !value.same(&Value::Bool(true)));
     Ok(())
 }
 
