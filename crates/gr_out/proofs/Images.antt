@@ -17,8 +17,8 @@ over_after at new old =
     ⊎_elim
     (λ beyond. drop_all (at + length new) (over at new old) (omega (arith, beyond, length-over at new old)) ∙ sym (drop_all (at + length new) old (omega (arith, beyond))))
     (λ within.
-        let len : length (take at old ++ new) ≡ at + length new = omega (arith, within, length-take at old, length-append (take at old) new) in
-        ap (λ l. drop (at + length new) l) (sym (append_assoc (take at old) new (drop (at + length new) old))) ∙ drop_at (take at old ++ new) (drop (at + length new) old) (at + length new) len)
+    let len : length (take at old ++ new) ≡ at + length new = omega (arith, within, length-take at old, length-append (take at old) new) in
+    ap (λ l. drop (at + length new) l) (sym (append_assoc (take at old) new (drop (at + length new) old))) ∙ drop_at (take at old ++ new) (drop (at + length new) old) (at + length new) len)
     (cases_lt (length old) at)
 
 torn_over : (at : ℕ) (bytes old : List ℕ) → Torn at (length bytes) old (over at bytes old)
