@@ -1,4 +1,4 @@
-ghost use Rattle.std.specs.Prelude.{if◌then◌else◌, ◌&&◌, nat_le, take, drop, ◌++◌, ◌≡◌, ◌≢◌, ℕ, suc, ◌+◌, ◌-◌, ◌^◌, ◌<◌, ◌≤◌, [], length, slice_get, Some, true, false, MatchOption, IfOk, OnOk, OnErr};
+ghost use Rattle.std.specs.Prelude.{if◌then◌else◌, ◌&&◌, nat_le, take, drop, ◌++◌, ◌≡◌, ◌≢◌, ◌⊎◌, ℕ, suc, ◌+◌, ◌-◌, ◌^◌, ◌<◌, ◌≤◌, [], length, slice_get, Some, true, false, MatchOption, IfOk, IsOk, OnOk, OnErr};
 ghost use Rattle.gr_tick.specs.Runs.{value_at, AreRuns, first_bottom_from, top_of};
 ghost use Rattle.gr_tick.specs.Stored.{within, IsRun, EndBefore, RunsGive};
 ghost use Rattle.gr_know.specs.Values.{known_at, is_D, join_K, new_K, clash_K};
@@ -151,8 +151,10 @@ impl Know {
     }
 
     /// Makes ticks with an event unknown, the least ones first and none past `upto`, until no more than `limit` ticks with an event
-    /// are left, or none up to `upto`. So a broker's cache is bounded: what it has forgotten it asks again. It takes no memory.
+    /// are left, or none up to `upto`. So a broker's cache is bounded: what it has forgotten it asks again. It takes no memory, and
+    /// never fails.
     pub fn forget(&mut self, limit: u32, upto: u64) -> Result<(), AllocError>
+        ensures succeeds { IsOk result }
         ensures forgotten { OnOk result (self.new ≡ forgotten limit upto self.old) }
         ensures canonical { OnOk result (AreRuns Q self.new) }
         ensures in_range { OnOk result (EndBefore self.new (2 ^ 62 + 1)) }
@@ -186,11 +188,12 @@ fn find_clash(stream: &Stream<K>, piece: &Piece<K>) -> Option<Clash>
     None
 }
 
-/// A tick up to which neither what came, nor what is kept where something came, changes.
+/// The greatest tick up to which neither what came, nor what is kept where something came, changes.
 fn settled_until(stream: &Stream<K>, piece: &Piece<K>, tick: u64) -> u64
     requires { tick ≤ 2 ^ 62 }
     ensures forward { tick ≤ result }
     ensures inside { result ≤ 2 ^ 62 }
+    ensures greatest { result < 2 ^ 62 → (known_at piece.now (result + 1) ≢ known_at piece.now tick) ⊎ (known_at stream.now.runs (result + 1) ≢ known_at stream.now.runs tick) }
     ensures clash { (t : ℕ) → tick ≤ t → t ≤ result → clash_K (known_at stream.now.runs t) (known_at piece.now t) ≡ clash_K (known_at stream.now.runs tick) (known_at piece.now tick) }
     ensures fresh { (t : ℕ) → tick ≤ t → t ≤ result → new_K (known_at stream.now.runs t) (known_at piece.now t) ≡ new_K (known_at stream.now.runs tick) (known_at piece.now tick) }
 {

@@ -3,8 +3,9 @@ ghost use Rattle.std.specs.Prelude.{ℕ, ◌<◌, ◌≤◌, ◌^◌, ◌-◌};
 use crate::knowledge::Know;
 use crate::values::K;
 use gr_event::Event;
-use gr_tick::{Lattice, Piece, Run};
+use gr_tick::{Lattice, Piece, Run, is_bottom};
 use std::alloc::Global;
+use std::process::Abort;
 use std::test::Fail;
 
 /// One run of silence, or of what is final.
@@ -170,5 +171,90 @@ fn equal_events_are_one_run(rt: HostRuntime) -> Result<(), Fail> {
     assert_eq!(rt; know.len(), 2);
     assert_eq!(rt; know.run(1).first, 1000);
     assert_eq!(rt; know.run(1).last, 1001);
+    Ok(())
+}
+
+/// Whether the join of two values is the one that is wanted, both ways round.
+fn joins_to<V: Lattice>(one: &V, other: &V, wanted: &V) -> bool {
+    let joined = one.share().join(other.share());
+    let turned = other.share().join(one.share());
+    joined.same(wanted) && turned.same(wanted)
+}
+
+/// Whether one value is below another one.
+fn is_below<V: Lattice>(low: &V, high: &V) -> bool {
+    low.at_most(high) && !high.at_most(low) && !low.same(high) && !high.same(low)
+}
+
+/// Two values between the least one and the greatest one, neither of which is below the other.
+fn are_apart<V: Lattice>(rt: &impl Abort, one: &V, other: &V, greatest: &V) {
+    let least = V::bottom();
+    assert!(rt; is_bottom(&least));
+    for value in [one, other] {
+        assert!(rt; !is_bottom(value));
+        assert!(rt; is_below(&least, value));
+        assert!(rt; is_below(value, greatest));
+        assert!(rt; joins_to(&least, value, value));
+        assert!(rt; joins_to(value, value, value));
+        assert!(rt; joins_to(value, greatest, greatest));
+        assert!(rt; value.share().same(value));
+    }
+    assert!(rt; !one.at_most(other));
+    assert!(rt; !other.at_most(one));
+    assert!(rt; !one.same(other));
+    assert!(rt; joins_to(one, other, greatest));
+}
+
+#[test]
+fn silence_and_events_are_apart(rt: HostRuntime) -> Result<(), Fail> {
+    let one = K::D(numbered(rt.alloc(), 1)?);
+    let two = K::D(numbered(rt.alloc(), 2)?);
+    let again = K::D(numbered(rt.alloc(), 1)?);
+    are_apart(&rt, &K::S, &one, &K::F);
+    are_apart(&rt, &one, &two, &K::F);
+    assert!(rt; joins_to(&one, &again, &one));
+    assert!(rt; one.at_most(&again));
+    assert!(rt; is_bottom(&K::Q));
+    assert!(rt; joins_to(&K::Q, &K::F, &K::F));
+    Ok(())
+}
+
+/// Whether a value that comes clashes with a value that is kept of the same tick.
+fn clashes(alloc: Global, kept: &K, came: &K) -> Result<bool, Fail> {
+    let mut know = Know::new(alloc);
+    let _ = know.learn(&at_three(alloc, kept)?)?;
+    match know.clash(&at_three(alloc, came)?) {
+        Some(clash) => Ok(clash.tick == 3 && clash.kept.same(kept) && clash.came.same(came)),
+        None => Ok(false),
+    }
+}
+
+/// A value at tick 3; no run where nothing is known.
+fn at_three(alloc: Global, value: &K) -> Result<Piece<K>, Fail> {
+    let mut piece = Piece::new(alloc);
+    if !is_bottom(value) {
+        piece.push(Run {
+            first: 3,
+            last: 3,
+            value: value.share(),
+        })?;
+    }
+    Ok(piece)
+}
+
+#[test]
+fn only_silence_and_events_clash(rt: HostRuntime) -> Result<(), Fail> {
+    let one = K::D(numbered(rt.alloc(), 1)?);
+    let two = K::D(numbered(rt.alloc(), 2)?);
+    assert!(rt; clashes(rt.alloc(), &K::S, &one)?);
+    assert!(rt; clashes(rt.alloc(), &one, &K::S)?);
+    assert!(rt; clashes(rt.alloc(), &one, &two)?);
+    for value in [&K::Q, &K::S, &one, &K::F] {
+        assert!(rt; !clashes(rt.alloc(), &K::Q, value)?);
+        assert!(rt; !clashes(rt.alloc(), value, &K::Q)?);
+        assert!(rt; !clashes(rt.alloc(), &K::F, value)?);
+        assert!(rt; !clashes(rt.alloc(), value, &K::F)?);
+        assert!(rt; !clashes(rt.alloc(), value, value)?);
+    }
     Ok(())
 }

@@ -1,5 +1,5 @@
 -- A run put into a gap, and a range taken out of a run.
-use Rattle.std.proofs.Common.{◌≡◌, ◌≢◌, ℕ, ◌+◌, ◌-◌, ◌<◌, ◌≤◌, ◌⊎◌, inl, inr, Bool, true, false, cond, leb, min, max, ◌^◌, List, [], ◌∷◌, ◌++◌, length, take, drop, get_or, refl, sym, ap, ◌∙◌, subst, zero-add, append_assoc, arith}
+use Rattle.std.proofs.Common.{◌≡◌, ◌≢◌, ℕ, zero, suc, ◌+◌, ◌-◌, ◌<◌, ◌≤◌, ◌⊎◌, inl, inr, Bool, true, false, cond, leb, min, max, ◌^◌, List, [], ◌∷◌, ◌++◌, length, take, drop, get_or, refl, sym, ap, ◌∙◌, subst, zero-add, append_assoc, arith}
 use Rattle.std.proofs.lemmas.List.{append-nil, take-append-drop, drop_all, take_more}
 use Rattle.std.proofs.lemmas.Bool.{cond_both, leb-true, leb-false, le-leb, lt-leb, cond-true, cond-false, and_parts, and_from, and_right, cases_lt, cases_Bool}
 use Rattle.std.proofs.lemmas.Bool.Decides.{nat_tests}
@@ -599,6 +599,11 @@ module _ {V : Type 0} where
   needed_more rs os i o lt e =
       let one : needed rs (o ∷ []) ≡ (runs_in o.first o.last rs + 1) + 0 = refl in
       omega (arith, ap (needed rs) (take_at_read os i o lt e), needed-append rs (take i os) (o ∷ []), one)
+
+  pub needed_upto : (rs os : List (Run V)) (k : ℕ) → needed rs (take k os) ≤ needed rs os
+  needed_upto rs os zero = omega arith
+  needed_upto rs [] (suc k) = omega arith
+  needed_upto rs (o ∷ os) (suc k) = omega (arith, needed_upto rs os k)
 
   -- a join at earlier ticks leaves enough room
   needed_later : (least : V) (old new os : List (Run V)) (b : ℕ) → AreTickRuns least os → BeginAfter os b → ((f l : ℕ) → b < f → f ≤ l → runs_in f l new ≤ runs_in f l old) → needed new os ≤ needed old os

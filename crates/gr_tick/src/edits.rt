@@ -1,5 +1,5 @@
 //! Edits of a list of runs. None takes memory: where one may leave more runs, it asks for the spare room.
-ghost use Rattle.std.specs.Prelude.{if◌then◌else◌, IfSome, IfOk, ◌≡◌, ◌≢◌, ℕ, ◌+◌, ◌-◌, ◌<◌, ◌≤◌, ◌&&◌, nat_le, cond, List, [], ◌∷◌, ◌++◌, length, take, drop, insert, ◌^◌, ◌⊎◌};
+ghost use Rattle.std.specs.Prelude.{if◌then◌else◌, MatchOption, IfOk, ◌≡◌, ◌≢◌, ℕ, ◌+◌, ◌-◌, ◌<◌, ◌≤◌, ◌&&◌, nat_le, cond, List, [], ◌∷◌, ◌++◌, length, take, drop, insert, ◌^◌, ◌⊎◌};
 ghost use Rattle.std.specs.List.{HoldsAt};
 ghost use Rattle.gr_tick.specs.Runs.{value_at, is_in};
 ghost use Rattle.gr_tick.specs.Stored.{IsRun, AreTickRuns, EndBefore, BeginBy, BeginAfter, part, room, growth, within, between, runs_in, needed};
@@ -500,16 +500,21 @@ pub fn steady_until<V: Lattice>(runs: &Gap<Run<V>>, tick: u64) -> u64
     run.last
 }
 
-/// The room that is enough to join each run of a list, if it is a number of the machine's.
+/// The room that is enough to join each run of a list, or None exactly where it is no number of the machine's.
 pub fn room_for<V: Lattice>(runs: &Gap<Run<V>>, others: &Gap<Run<V>>) -> Option<usize>
     requires { AreTickRuns V.least runs.now.items }
-    ensures { IfSome result (λ n. n ≡ needed runs.now.items others.now.items) }
+    ensures { MatchOption result (2 ^ 64 ≤ needed runs.now.items others.now.items) (λ n. n ≡ needed runs.now.items others.now.items) }
 {
     let mut room = 0usize;
     for i in 0..others.len() {
         let other = others.get(i);
-        let more = count_in(runs, other.first, other.last).checked_add(1)?;
-        room = room.checked_add(more)?;
+        let Some(more) = count_in(runs, other.first, other.last).checked_add(1) else {
+            return None;
+        };
+        let Some(sum) = room.checked_add(more) else {
+            return None;
+        };
+        room = sum;
     }
     Some(room)
 }

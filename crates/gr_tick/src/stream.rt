@@ -1,7 +1,7 @@
-ghost use Rattle.std.specs.Prelude.{if◌then◌else◌, ◌≡◌, ◌≢◌, ℕ, ◌+◌, ◌^◌, ◌<◌, ◌≤◌, [], ◌∷◌, ◌++◌, length, take, drop, slice_get, Some, OnOk, OnErr, IfOk};
+ghost use Rattle.std.specs.Prelude.{if◌then◌else◌, ◌≡◌, ◌≢◌, ℕ, ◌+◌, ◌^◌, ◌<◌, ◌≤◌, [], ◌∷◌, ◌++◌, length, take, drop, slice_get, Some, OnOk, OnErr, IfOk, IsOk};
 ghost use Rattle.std.specs.List.{HoldsAt};
 ghost use Rattle.gr_tick.specs.Runs.{value_at, AreRuns, first_bottom_from, top_of};
-ghost use Rattle.gr_tick.specs.Stored.{runs_in, within, IsRun, AreTickRuns, EndBefore, RunsGive, part};
+ghost use Rattle.gr_tick.specs.Stored.{runs_in, within, IsRun, AreTickRuns, EndBefore, RunsGive, needed, part};
 
 use crate::edits::{
     begun_by, copy_runs, count_in, join_each, join_over, lower_front, lower_over, next_bottom,
@@ -111,6 +111,8 @@ impl<V: Lattice> Stream<V> {
     pub fn reserve(&mut self, n: usize) -> Result<(), AllocError>
         ensures runs { self.new.runs ≡ self.old.runs }
         ensures spare { OnOk result (n ≤ self.new.spare) }
+        ensures never_less { self.old.spare ≤ self.new.spare }
+        ensures succeeds { n ≤ self.old.spare → IsOk result }
         ensures err { OnErr result (self.new ≡ self.old) }
     {
         self.runs.reserve(n)?;
@@ -139,6 +141,7 @@ impl<V: Lattice> Stream<V> {
     /// refused; then the stream is as it was.
     pub fn join_piece(&mut self, piece: &Piece<V>) -> Result<(), AllocError>
         ensures joined { OnOk result (RunsGive V.least self.new.runs (λ t. V.join_of (value_at V.least self.old.runs t) (value_at V.least piece.now t))) }
+        ensures succeeds { needed self.old.runs piece.now < 2 ^ 64 → needed self.old.runs piece.now ≤ self.old.spare → IsOk result }
         ensures err { OnErr result (self.new ≡ self.old) }
     {
         let others = piece.runs();
@@ -168,6 +171,8 @@ impl<V: Lattice> Stream<V> {
         requires ordered { first ≤ last }
         requires upto { last ≤ 2 ^ 62 }
         ensures lowered { OnOk result (RunsGive V.least self.new.runs (λ t. if within first last t then V.least else value_at V.least self.old.runs t)) }
+        ensures spare { self.old.spare ≤ self.new.spare + 1 }
+        ensures succeeds { 1 ≤ self.old.spare → IsOk result }
         ensures err { OnErr result (self.new ≡ self.old) }
     {
         self.runs.reserve(1)?;

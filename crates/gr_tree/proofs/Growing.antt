@@ -141,7 +141,7 @@ grown_more n links root row left k l node u q g h = record {
 
 -- ---- the step of the search
 
-placed_is : (o : Option Place) → is_some o ≡ true → (q : Place) × (o ≡ Some q)
+pub placed_is : (o : Option Place) → is_some o ≡ true → (q : Place) × (o ≡ Some q)
 placed_is None h = absurd (false≢true h)
 placed_is (Some q) h = (q, refl)
 

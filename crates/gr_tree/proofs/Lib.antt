@@ -3,4 +3,5 @@ pub mod Links
 pub mod Growing
 pub mod Whole
 pub mod Paths
+pub mod AnyRoot
 pub mod Steps

@@ -1,18 +1,17 @@
 -- What the search's steps leave: where it begins, where it goes on, and what it answers
-use Rattle.std.proofs.Common.{◌≡◌, ℕ, zero, suc, ◌+◌, ◌<◌, Bool, true, false, cond, ltb, List, [], ◌∷◌, length, get_or, set, replicate, take, drop, ◌++◌, map, Option, Some, None, Result, Ok, Err, Vec, Global, IfOk, IfSome, IfNone, OnSome, MatchOption, refl, sym, ap, ◌∙◌, subst, inl, inr, arith}
-use Rattle.std.specs.List.{position, position_or_len, remove}
+use Rattle.std.proofs.Common.{◌≡◌, ℕ, zero, suc, ◌+◌, ◌<◌, Bool, true, false, cond, List, [], ◌∷◌, length, get_or, set, replicate, take, drop, ◌++◌, map, Option, Some, None, Result, Ok, Err, Vec, Global, IfOk, IfSome, IfNone, OnSome, MatchOption, refl, sym, ap, ◌∙◌, subst, arith}
+use Rattle.std.specs.List.{position, remove}
 use Rattle.std.proofs.lemmas.List.{take_at, length-set}
-use Rattle.std.proofs.lemmas.List.Sums.{fails_before_first}
 use Rattle.std.proofs.lemmas.List.Quantifiers.{position-Some}
 use Rattle.std.proofs.lemmas.List.Folds.{list_any_at}
-use Rattle.std.proofs.lemmas.Bool.{cases_lt, cond-true, lt-ltb}
 use Rattle.gr_tree.specs.declared.link.Link.{Link}
 use Rattle.gr_tree.specs.declared.link.Place.{Place}
 use Rattle.gr_tree.specs.Walks.{joins, IsWithin, IsRooted, HasOnlyPaths, is_tree, places_of}
 use Rattle.gr_tree.specs.Search.{is_placed, crosses, place_below, attached, IsShallow}
 use Rattle.gr_tree.proofs.Links.{joins_one}
 use Rattle.gr_tree.proofs.Growing.{top, nowhere, Grown, grown_start, crossed}
-use Rattle.gr_tree.proofs.Whole.{Whole, no_tree, whole_from, rooted, a_tree, places_are}
+use Rattle.gr_tree.proofs.Whole.{Whole, no_tree, whole_from, rooted, places_are}
+use Rattle.gr_tree.proofs.AnyRoot.{none_found, any_root}
 use Rattle.gr_tree.proofs.Paths.{only_paths}
 
 pub begins : (n : ℕ) (links : List Link) (root : ℕ) (row : List (Option Place)) (left : List Link) → row ≡ replicate n nowhere → left ≡ links → root < n → length links + 1 ≡ n
@@ -58,16 +57,6 @@ goes_on n links root row seen new left after k count l within g f at is made cou
 
 -- ---- the answer
 
-none_found : (p : Link → Bool) (xs : List Link) → position p xs ≡ None → (k : ℕ) (d : Link) → k < length xs → p (get_or xs k d) ≡ false
-none_found p xs e k d lt =
-    elim (cases_lt (position_or_len p xs) (length xs)) [
-      | inl h ↦ absurd (some_none (position_or_len p xs) (sym (cond-true (ltb (position_or_len p xs) (length xs)) (Some (position_or_len p xs)) None (lt-ltb _ _ h)) ∙ e))
-      | inr h ↦ fails_before_first p xs k d (omega arith)
-    ]
-  where
-    some_none : (i : ℕ) → Some i ≡ None → ⊥
-    some_none i e = cc
-
 each_placed : (row : List (Option Place)) (ps : List Place) → map Some ps ≡ row → (b : ℕ) → b < length row → (p : Place) × (get_or row b None ≡ Some p)
 each_placed row ps is b lt = subst (λ r. b < length r → (p : Place) × (get_or r b None ≡ Some p)) is (at ps b) lt
   where
@@ -79,7 +68,7 @@ each_placed row ps is b lt = subst (λ r. b < length r → (p : Place) × (get_o
 -- what is known of the answer
 pub record Answer (n : ℕ) (links : List Link) (root : ℕ) (o : Option (List Place)) : Type 0 where
   pub none : IfNone o (is_tree n links ≡ false)
-  pub tree : OnSome o (root ≡ 0 → is_tree n links ≡ true)
+  pub tree : OnSome o (is_tree n links ≡ true)
   pub places : IfSome o (λ ps. ps ≡ places_of n links root)
   pub rooted : OnSome o (IsRooted n links root)
   pub paths : OnSome o (HasOnlyPaths n links root)
@@ -99,7 +88,7 @@ answered n links root row seen last left looked within g root_in size is same st
     at_end k d lt = none_found (crosses row) left (subst (λ r. position (crosses r) left ≡ None) is (subst (λ l. position (crosses seen) l ≡ None) same stop)) k d lt
 answered n links root row seen last left looked within g root_in size is same stop ended (Some ps) h = record {
   none = tt;
-  tree = λ e. a_tree n links root row whole size e;
+  tree = any_root n links root row within whole size;
   places = places_are n links root row ps whole (h ∙ ended);
   rooted = rooted n links root row whole;
   paths = only_paths n links root within (rooted n links root row whole);
@@ -132,7 +121,7 @@ none_clause n links root (Ok None) h = h.none
 none_clause n links root (Ok (Some ps)) h = tt
 none_clause n links root (Err e) h = tt
 
-pub tree_clause : {E : Type 0} (n : ℕ) (links : List Link) (root : ℕ) (r : Result (Option Places) E) → IfOk r (λ o. Answer n links root (items_of o)) → IfOk r (λ o. OnSome o (root ≡ 0 → is_tree n links ≡ true))
+pub tree_clause : {E : Type 0} (n : ℕ) (links : List Link) (root : ℕ) (r : Result (Option Places) E) → IfOk r (λ o. Answer n links root (items_of o)) → IfOk r (λ o. OnSome o (is_tree n links ≡ true))
 tree_clause n links root (Ok None) h = tt
 tree_clause n links root (Ok (Some ps)) h = h.tree
 tree_clause n links root (Err e) h = tt

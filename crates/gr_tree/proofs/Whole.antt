@@ -54,7 +54,7 @@ closed n links root row left g none a b h p =
     (g.settled a b h)
 
 -- what is reached from a placed node is placed
-reach_forward : (n : ℕ) (links : List Link) (row : List (Option Place)) → IsClosed links row → (k a b : ℕ) → is_placed row a ≡ true → is_reached n links k a b ≡ true → is_placed row b ≡ true
+pub reach_forward : (n : ℕ) (links : List Link) (row : List (Option Place)) → IsClosed links row → (k a b : ℕ) → is_placed row a ≡ true → is_reached n links k a b ≡ true → is_placed row b ≡ true
 unfolding is_reached
 reach_forward n links row shut zero a b p h = subst (λ z. is_placed row z ≡ true) (eqb-true a b h) p
 reach_forward n links row shut (suc k) a b p h =
@@ -66,7 +66,7 @@ reach_forward n links row shut (suc k) a b p h =
     (or_cases (is_reached n links k a b) _ h)
 
 -- and what reaches a placed node is placed
-reach_back : (n : ℕ) (links : List Link) (row : List (Option Place)) → IsClosed links row → (k a b : ℕ) → is_placed row b ≡ true → is_reached n links k a b ≡ true → is_placed row a ≡ true
+pub reach_back : (n : ℕ) (links : List Link) (row : List (Option Place)) → IsClosed links row → (k a b : ℕ) → is_placed row b ≡ true → is_reached n links k a b ≡ true → is_placed row a ≡ true
 unfolding is_reached
 reach_back n links row shut zero a b p h = subst (λ z. is_placed row z ≡ true) (sym (eqb-true a b h)) p
 reach_back n links row shut (suc k) a b p h =

@@ -11,7 +11,7 @@ use std::alloc::Global;
 /// Want of memory.
 pub type Memory = std::alloc::AllocError;
 
-/// The places of all nodes, seen from a root, or None where the links make no tree of the nodes.
+/// The places of all nodes, seen from a root, or None exactly where the links make no tree of the nodes, whatever the root.
 ///
 /// Links make a tree where there is a node, there is one link fewer than nodes, and every node is reached from
 /// node 0.
@@ -24,7 +24,7 @@ pub fn places(
     requires root { root < nodes }
     requires links { IsWithin nodes links.now }
     ensures none { IfOk result (λ r. IfNone r (is_tree nodes links.now ≡ false)) }
-    ensures tree { IfOk result (λ r. OnSome r (root ≡ 0 → is_tree nodes links.now ≡ true)) }
+    ensures tree { IfOk result (λ r. OnSome r (is_tree nodes links.now ≡ true)) }
     ensures places { IfOk result (λ r. IfSome r (λ p. p.items ≡ places_of nodes links.now root)) }
     ensures rooted { IfOk result (λ r. OnSome r (IsRooted nodes links.now root)) }
     ensures paths { IfOk result (λ r. OnSome r (HasOnlyPaths nodes links.now root)) }

@@ -1,4 +1,4 @@
-use Rattle.std.proofs.Common.{◌≡◌, ℕ, ◌+◌, ◌≤◌, take, drop}
+use Rattle.std.proofs.Common.{◌≡◌, ℕ, ◌≤◌, take, drop}
 use Rattle.gr_tick.specs.Runs.{value_at}
 use Rattle.gr_tick.specs.Stored.{AreTickRuns, needed}
 use Rattle.gr_tick.proofs.edits.join_each.Given as goal
