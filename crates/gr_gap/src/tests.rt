@@ -70,7 +70,9 @@ fn values_of_no_size(rt: HostRuntime) -> Result<(), Fail> {
         gap.reserve(1)?;
         gap.insert(0, ());
     }
-    gap.remove(7);
+    if 7 < gap.len() {
+        gap.remove(7);
+    }
     assert_eq!(rt; gap.len(), 19);
     Ok(())
 }
@@ -120,8 +122,9 @@ fn each_value_is_dropped_once_after_growth(rt: HostRuntime) -> Result<(), Fail> 
         }
         assert_eq!(rt; drops.get(), 0);
         for _ in 0..30 {
-            let taken = gap.remove(20);
-            drop(taken);
+            if 20 < gap.len() {
+                drop(gap.remove(20));
+            }
         }
         assert_eq!(rt; drops.get(), 30);
         gap.reserve(1_000)?;
