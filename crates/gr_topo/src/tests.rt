@@ -1,4 +1,5 @@
 use crate::{TopoFault, Topology};
+use gr_filter::text;
 use gr_sched::Names;
 use std::alloc::{AllocError, Global};
 use std::fmt::Write;
@@ -148,7 +149,24 @@ fn names_and_links(rt: HostRuntime) -> Result<(), Fail> {
             "brokers = [\"A\", \"A\"]\n[[publisher]]\nname = \"P!\"\nat = \"A\"",
             "11 bad-name P!",
         ),
+        // the names of brokers, publishers and subscribers go one after another
+        (
+            "brokers = [\"A\"]\n[[publisher]]\nname = \"\"\nat = \"A\"\n[[subscriber]]\nname = \"S!\"\nat = \"A\"",
+            "11 bad-name ",
+        ),
+        (
+            "brokers = [\"A\"]\n[[subscriber]]\nname = \"S\u{e9}\"\nat = \"A\"",
+            "11 bad-name S\u{e9}",
+        ),
         ("brokers = [\"A\", \"B\", \"A\", \"B\"]", "4 twice A"),
+        (
+            "brokers = [\"A\", \"A\"]\n[[publisher]]\nname = \"P\"\nat = \"A\"\n[[publisher]]\nname = \"P\"\nat = \"A\"",
+            "4 twice A",
+        ),
+        (
+            "brokers = [\"A\"]\n[[subscriber]]\nname = \"S\"\nat = \"X\"\n[[subscriber]]\nname = \"S\"\nat = \"A\"",
+            "4 twice S",
+        ),
         (
             "brokers = [\"A\"]\nlinks = [[\"A\", \"X\"]]\n[[publisher]]\nname = \"P\"\nat = \"A\"\n[[publisher]]\nname = \"P\"\nat = \"A\"",
             "4 twice P",
@@ -175,8 +193,21 @@ fn names_and_links(rt: HostRuntime) -> Result<(), Fail> {
             "5 unknown S",
         ),
         (
+            "brokers = [\"A\"]\nlinks = [[\"A\", \"L\"]]\n[[publisher]]\nname = \"P\"\nat = \"P\"",
+            "5 unknown L",
+        ),
+        (
+            "brokers = [\"A\"]\n[addresses]\nB = \"\"\n[[subscriber]]\nname = \"S\"\nat = \"S\"",
+            "5 unknown S",
+        ),
+        (
             "brokers = []\n[addresses]\nB = \"\"\nA = \"\"",
             "5 unknown A",
+        ),
+        // a name that is not known comes before links that are no tree
+        (
+            "brokers = [\"A\", \"B\"]\n[addresses]\nC = \"\"",
+            "5 unknown C",
         ),
         ("brokers = []", "6 not-tree"),
         ("brokers = [\"A\", \"B\"]", "6 not-tree"),
@@ -223,6 +254,18 @@ fn settings_filters_and_addresses(rt: HostRuntime) -> Result<(), Fail> {
         (
             "brokers = [\"A\"]\n[settings]\ncache = 0\nretry = 0\nquiet = 0",
             "12 bad-range retry",
+        ),
+        (
+            "brokers = [\"A\"]\n[settings]\nretry = 0\nidle = 0\ngap = 0",
+            "12 bad-range gap",
+        ),
+        (
+            "brokers = [\"A\"]\n[settings]\nretry = 0\nidle = 0",
+            "12 bad-range idle",
+        ),
+        (
+            "brokers = [\"A\"]\n[settings]\ncache = 0\nquiet = 0",
+            "12 bad-range quiet",
         ),
         (
             "brokers = [\"A\"]\n[settings]\ncache = 0\n[[subscriber]]\nname = \"S\"\nat = \"A\"\nfilter = \"\"",
@@ -376,5 +419,93 @@ fn limits(rt: HostRuntime) -> Result<(), Fail> {
         Err(TopoFault::BadName { name }) => assert_eq!(rt; name.len(), 65),
         _ => return Err("a name of 65 bytes is none".into()),
     }
+    Ok(())
+}
+
+/// These lines and so many publishers and subscribers at A.
+fn crowd(
+    alloc: Global,
+    head: &str,
+    publishers: u16,
+    subscribers: u16,
+) -> Result<String, AllocError> {
+    let mut text = String::from_str(alloc, head)?;
+    for p in 0..publishers {
+        write!(text, "\n[[publisher]]\nname = \"P{p}\"\nat = \"A\"")?;
+    }
+    for s in 0..subscribers {
+        write!(text, "\n[[subscriber]]\nname = \"S{s}\"\nat = \"A\"")?;
+    }
+    Ok(text)
+}
+
+#[test]
+fn as_many_as_there_may_be(rt: HostRuntime) -> Result<(), Fail> {
+    let rows = [
+        ("brokers = [\"A\"]", 64, 1024, "ok"),
+        ("brokers = [\"A\"]", 65, 0, "8 too-many publisher"),
+        ("brokers = [\"A\"]", 0, 1025, "8 too-many subscriber"),
+        ("brokers = [\"A\"]", 65, 1025, "8 too-many publisher"),
+        // what is missing comes before too many, and too many before a name that is none
+        ("links = []", 65, 0, "10 missing brokers"),
+        ("brokers = [\"A!\"]", 65, 0, "8 too-many publisher"),
+        ("brokers = [\"A!\"]", 0, 1025, "8 too-many subscriber"),
+    ];
+    for row in &rows {
+        let text = crowd(rt.alloc(), row.0, row.1, row.2)?;
+        let came = shown(rt.alloc(), text.as_bytes())?;
+        assert_eq!(rt; came.as_str(), row.3);
+    }
+    let mut text = many(rt.alloc(), 65, false)?;
+    text.push_str(crowd(rt.alloc(), "", 65, 0)?.as_str())?;
+    let came = shown(rt.alloc(), text.as_bytes())?;
+    assert_eq!(rt; came.as_str(), "8 too-many brokers");
+    Ok(())
+}
+
+// Broker B is linked with A, C and D; the publisher is at C.
+#[test]
+fn what_a_part_says(rt: HostRuntime) -> Result<(), Fail> {
+    let part =
+        "brokers = [\"A\", \"B\", \"C\", \"D\"]\nlinks = [[\"B\", \"A\"], [\"B\", \"C\"], [\"D\", \"B\"]]\n[[publisher]]\nname = \"P\"\nat = \"C\"\n[[subscriber]]\nname = \"S\"\nat = \"B\"\nfilter = \"a > 1\"\n[[subscriber]]\nname = \"T\"\nat = \"A\"\n[addresses]\nD = \"127.0.0.1:7\"\n[settings]\ngap = 1\nidle = 2\nretry = 3\nquiet = 4\ncache = 5\n";
+    let Ok(topology) = Topology::read(rt.alloc(), part.as_bytes()) else {
+        return Err("no topology".into());
+    };
+    assert_eq!(rt; topology.brokers(), 4);
+    assert_eq!(rt; topology.publishers(), 1);
+    assert_eq!(rt; topology.subscribers(), 2);
+    assert_eq!(rt; topology.host(0), 2);
+    for (broker, up, depth, horizon) in [
+        (0, Some(1), 2, true),
+        (1, Some(2), 1, true),
+        (2, None, 0, false),
+        (3, Some(1), 2, true),
+    ] {
+        assert_eq!(rt; topology.up(0, broker), up);
+        assert_eq!(rt; topology.depth(0, broker), depth);
+        assert_eq!(rt; topology.keeps_horizon(0, broker), horizon);
+    }
+    let alloc = rt.alloc();
+    assert_eq!(rt;
+        topology.children(alloc, 0, 1)?.as_slice(),
+        [0, 3].as_slice()
+    );
+    assert_eq!(rt; topology.children(alloc, 0, 2)?.as_slice(), [1].as_slice());
+    assert_eq!(rt; topology.below(alloc, 0, 1)?.as_slice(), [0, 1].as_slice());
+    assert_eq!(rt; topology.below(alloc, 0, 0)?.as_slice(), [1].as_slice());
+    assert_eq!(rt; topology.below(alloc, 0, 3)?.len(), 0);
+    assert_eq!(rt;
+        topology.subscribers_at(alloc, 1)?.as_slice(),
+        [0].as_slice()
+    );
+    assert!(rt; topology.address(0).is_none());
+    let address = topology.address(3).ok_or("no address")?;
+    assert_eq!(rt; address.as_slice(), b"127.0.0.1:7".as_slice());
+    assert!(rt; topology.filter(1).is_none());
+    let filter = topology.filter(0).ok_or("no filter")?;
+    assert_eq!(rt; text(alloc, filter)?.as_slice(), b"a > 1".as_slice());
+    let settings = topology.settings();
+    assert_eq!(rt; (settings.gap, settings.idle, settings.retry), (1, 2, 3));
+    assert_eq!(rt; (settings.quiet, settings.cache), (4, 5));
     Ok(())
 }
