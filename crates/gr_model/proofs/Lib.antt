@@ -79,3 +79,6 @@ pub mod SettlesAll
 pub mod SettlesAlways
 pub mod NetOf
 pub mod BlankOf
+pub mod Opening
+pub mod OverLogs
+pub mod Arriving

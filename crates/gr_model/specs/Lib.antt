@@ -17,3 +17,7 @@ pub mod Text
 pub mod SmallNets
 pub mod Examples
 pub mod NetOf
+pub mod Opening
+pub mod Arrivals
+pub mod Served
+pub mod Spelled

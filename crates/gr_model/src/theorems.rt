@@ -1,17 +1,18 @@
 //! What holds of every schedule of the machine, on every topology that is a tree. Each function here does nothing: its
 //! contract is the theorem.
 
-ghost use Rattle.std.specs.Prelude.{List, ℕ, true, false, map, filter, ◌≡◌, ◌<◌, ◌≤◌, Some};
+ghost use Rattle.std.specs.Prelude.{List, [], ℕ, true, false, map, filter, flat_map, ◌≡◌, ◌<◌, ◌≤◌, Some};
 ghost use Rattle.gr_frame.specs.declared.Frame.{Frame};
 ghost use Rattle.gr_frame.specs.declared.Body.TheVariants as body;
 ghost use Rattle.gr_know.specs.Values.{Known};
 ghost use Rattle.gr_sched.specs.declared.step.Line.{Line};
-ghost use Rattle.gr_model.specs.Net.{Net, not_empty};
+ghost use Rattle.gr_model.specs.Net.{Net, not_empty, numbers};
 ghost use Rattle.gr_model.specs.Tree.{IsNet, IsSubscriber};
-ghost use Rattle.gr_model.specs.Broker.{clashes};
-ghost use Rattle.gr_model.specs.World.{view_of, log_of, frame_at, run_all, start, next, report_of};
+ghost use Rattle.gr_model.specs.Broker.{Log, clashes};
+ghost use Rattle.gr_model.specs.World.{Told, view_of, log_of, frame_at, run_all, run_from, start, next, report_of};
+ghost use Rattle.gr_model.specs.Opening.{AreFound, opening, begin_over};
 ghost use Rattle.gr_model.specs.Fits.{StepIn, StepsIn, WorldFits, history_of};
-ghost use Rattle.gr_model.specs.Headline.{GetsExactly, Headline, is_doubt_line, doubt_place, doubts_shown};
+ghost use Rattle.gr_model.specs.Headline.{GetsExactly, Headline, Holds_from, History, is_record_line, opened_of, is_doubt_line, doubt_place, doubts_shown};
 ghost use Rattle.gr_model.specs.Order.{CutsInOrder, FramesSent};
 ghost use Rattle.gr_model.specs.Replies.{Replied};
 ghost use Rattle.gr_model.specs.Edges.{GoesOverEdge};
@@ -111,4 +112,12 @@ pub fn sweep_settles()
 /// After a sweep that is not refused, each subscriber has got exactly what was logged that it wants.
 pub fn sweep_hands_over()
     ensures { (net : Net) (steps : List Line) (k : ℕ) → IsNet net → 1 ≤ net.quiet → 1 ≤ net.retry → StepsIn net steps → is_accepted net (run_all net (start net) steps).world ≡ true → AllGot net (run_all net (start net) steps).world k (run_all net (start net) steps).lines }
+{}
+
+/// The headline over logs that were found, whole, over every schedule that begins on them: what each subscriber gets is
+/// exactly the events past the cut that was found, and those logged since, that it wants; and the opening tells each log
+/// that is not empty.
+pub fn headline_over_logs()
+    ensures schedules { (net : Net) (logs : List Log) (steps : List Line) → IsNet net → 1 ≤ net.quiet → 1 ≤ net.retry → AreFound net logs → StepsIn net steps → (let o : Told = opening net (numbers net.brokers) logs in Holds_from net (begin_over net logs o.lines) steps (run_from net o.world steps)) }
+    ensures told { (net : Net) (logs : List Log) → IsNet net → AreFound net logs → (let o : Told = opening net (numbers net.brokers) logs in let h : History = begin_over net logs [] in filter is_record_line o.lines ≡ flat_map (opened_of net h.found h.records []) (numbers net.brokers)) }
 {}

@@ -1,0 +1,8 @@
+use Rattle.gr_model.proofs.OverLogs.{headline_over_logs as by_steps, opened_tells}
+use Rattle.gr_model.proofs.theorems.headline_over_logs.Goals as goal
+
+pub returns-clause-schedules : goal.returns-clause-schedules
+returns-clause-schedules c = λ net logs steps n z r a i. by_steps net logs steps n z r a i
+
+pub returns-clause-told : goal.returns-clause-told
+returns-clause-told c = λ net logs n a. opened_tells net logs n a
