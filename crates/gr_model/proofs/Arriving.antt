@@ -2,7 +2,7 @@
 use Rattle.std.proofs.Common.{◌≡◌, ◌≢◌, ◌⊎◌, inl, inr, ⊎_elim, ℕ, suc, zero, ◌+◌, ◌-◌, ◌≤◌, ◌<◌, min, max, Bool, true, false, ◌&&◌, ◌||◌, List, [], ◌∷◌, ◌++◌, map, length, refl, sym, ap, ap₂, ◌∙◌, subst, Option, Some, None, arith, append-nil, append_assoc}
 use Rattle.std.specs.Prelude.{nat_eq, nat_le, nat_lt, bytes_eq, if◌then◌else◌, filter, flat_map, slice_get, Result, Ok, Err}
 use Rattle.std.specs.List.{list_any}
-use Rattle.std.proofs.lemmas.Bool.{cases_Bool, and_parts, eq-eqb, eqb-true, lt-ltb, false≢true, true≢false}
+use Rattle.std.proofs.lemmas.Bool.{cases_Bool, cond-true, cond-false, and_parts, eq-eqb, eqb-true, lt-ltb, false≢true, true≢false}
 use Rattle.std.proofs.lemmas.Slice.Eq.{bytes_eq-Decides}
 use Rattle.gr_frame.specs.declared.Body.{Body}
 use Rattle.gr_frame.specs.declared.Body.TheVariants as body
@@ -37,9 +37,11 @@ use Rattle.gr_model.proofs.ReplyLines.{frame_told}
 pub number_sent : (b : ℕ) (bytes : List ℕ) (ls : List Report) → number_of_bytes b bytes ls ≡ number_of_bytes b bytes (filter is_sent ls)
 number_sent b bytes [] = refl
 number_sent b bytes (l ∷ ls) =
+    let rest = filter is_sent ls in
+    let told : Bool = elim (frame_of_line l) [ Some f ↦ nat_eq f.head.to b && bytes_eq (frame_bytes f) bytes | None ↦ false ] in
     elim (cases_Bool (is_sent l)) [
-      | inl e ↦ rw e (ap (λ (o : Option ℕ). if tells_bytes b bytes l then Some (sent_number l) else o) (number_sent b bytes ls))
-      | inr e ↦ rw e (number_sent b bytes ls)
+      | inl e ↦ ap (λ (o : Option ℕ). if tells_bytes b bytes l then Some (sent_number l) else o) (number_sent b bytes ls) ∙ sym (ap (number_of_bytes b bytes) (cond-true (is_sent l) (l ∷ rest) rest e))
+      | inr e ↦ ap (λ c. if c && told then Some (sent_number l) else number_of_bytes b bytes ls) e ∙ (number_sent b bytes ls ∙ sym (ap (number_of_bytes b bytes) (cond-false (is_sent l) (l ∷ rest) rest e)))
     ]
 
 -- the frame that a number is of
@@ -86,7 +88,8 @@ pub record Sent (w : World) (k b : ℕ) (bytes : List ℕ) : Type 0 where
 pub number_is : (w : World) (k b : ℕ) (bytes : List ℕ) (ls : List Report) → filter is_sent ls ≡ sent_lines 1 w.frames → number_of_bytes b bytes ls ≡ Some k → Sent w k b bytes
 number_is w k b bytes ls e h =
     let x = number_found w.frames 1 k b bytes (sym (number_sent b bytes ls ∙ ap (number_of_bytes b bytes) e) ∙ h) in
-    record { frame = x.frame; there = subst (λ m. frame_at w m ≡ Some x.frame) (sym (x.number ∙ omega arith)) x.there; to = x.to; same = x.same }
+    let place : k ≡ suc x.place = omega (arith, x.number) in
+    record { frame = x.frame; there = subst (λ m. frame_at w m ≡ Some x.frame) (sym place) x.there; to = x.to; same = x.same }
 
 -- A frame that was sent is received
 
@@ -112,18 +115,18 @@ empty_first : (xs : Wanted) → not_empty xs ≡ false → first_of xs ≡ None
 empty_first [] e = refl
 empty_first (x ∷ xs) e = absurd (true≢false e)
 
+plain : (know runs : Known) → clashes know runs ≡ false → not_empty (clash_runs know runs) ≡ false
+unfolding clashes
+plain know runs h = h
+
 no_clash_here : (net : Net) (w : World) (k : ℕ) (f : Frame) → IsNet net → WorldFits net w → frame_at w k ≡ Some f → least_clash (view_of w f.head.to f.head.publisher).know f ≡ None
 no_clash_here net w k f n fit at = go f.body refl
   where
     know : Known
     know = (view_of w f.head.to f.head.publisher).know
 
-    go : (y : Body) → f.body ≡ y → (elim y [ body.Knowledge runs ↦ first_of (clash_runs know runs) | _ ↦ None ]) ≡ None
-    go (body.Knowledge runs) e = empty_first (clash_runs know runs) (plain runs (no_frame_clashes net w k f runs n fit at e))
-      where
-        plain : (runs : Known) → clashes know runs ≡ false → not_empty (clash_runs know runs) ≡ false
-        unfolding clashes
-        plain runs h = h
+    go : (y : Body) → f.body ≡ y → (let o : Option ℕ = elim y [ body.Knowledge runs ↦ first_of (clash_runs know runs) | _ ↦ None ] in o) ≡ None
+    go (body.Knowledge runs) e = empty_first (clash_runs know runs) (plain know runs (no_frame_clashes net w k f runs n fit at e))
     go (body.Curiosity runs) e = refl
     go (body.Expect tick) e = refl
 

@@ -82,3 +82,4 @@ pub mod BlankOf
 pub mod Opening
 pub mod OverLogs
 pub mod Arriving
+pub mod Serving
