@@ -79,3 +79,6 @@ pub mod SettlesAll
 pub mod SettlesAlways
 pub mod NetOf
 pub mod BlankOf
+pub mod SpelledRuns
+pub mod SpelledCalls
+pub mod Spelled

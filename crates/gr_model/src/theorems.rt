@@ -1,9 +1,12 @@
 //! What holds of every schedule of the machine, on every topology that is a tree. Each function here does nothing: its
 //! contract is the theorem.
 
-ghost use Rattle.std.specs.Prelude.{List, ℕ, true, false, map, filter, ◌≡◌, ◌<◌, ◌≤◌, Some};
+ghost use Rattle.std.specs.Prelude.{List, ℕ, true, false, map, filter, ◌≡◌, ◌<◌, ◌≤◌, ◌^◌, Some, Ok};
 ghost use Rattle.gr_frame.specs.declared.Frame.{Frame};
 ghost use Rattle.gr_frame.specs.declared.Body.TheVariants as body;
+ghost use Rattle.gr_frame.specs.Bytes.{frame_bytes};
+ghost use Rattle.gr_frame.specs.Decode.{frame_decoded};
+ghost use Rattle.gr_frame.specs.Limits.{IsFrame};
 ghost use Rattle.gr_know.specs.Values.{Known};
 ghost use Rattle.gr_sched.specs.declared.step.Line.{Line};
 ghost use Rattle.gr_model.specs.Net.{Net, not_empty};
@@ -15,6 +18,7 @@ ghost use Rattle.gr_model.specs.Headline.{GetsExactly, Headline, is_doubt_line, 
 ghost use Rattle.gr_model.specs.Order.{CutsInOrder, FramesSent};
 ghost use Rattle.gr_model.specs.Replies.{Replied};
 ghost use Rattle.gr_model.specs.Edges.{GoesOverEdge};
+ghost use Rattle.gr_model.specs.Spelled.{NumbersIn};
 ghost use Rattle.gr_model.specs.Rules.{RulesDetermine};
 ghost use Rattle.gr_model.specs.Obeys.{CallsObey};
 ghost use Rattle.gr_model.specs.Settles.{SweepSettles, AllGot, is_accepted};
@@ -46,6 +50,14 @@ pub fn never_clashes()
 /// broker to a child with knowledge or a tick to expect, or to the next broker up with curiosity.
 pub fn never_strays()
     ensures { (net : Net) (steps : List Line) (k : ℕ) (f : Frame) → IsNet net → StepsIn net steps → frame_at (run_all net (start net) steps).world k ≡ Some f → GoesOverEdge net f }
+{}
+
+/// Every frame that was ever sent is spelled by its bytes, which fit into one frame; so they decode to it and to no other.
+/// The topology has at most 65,536 brokers and as many publishers. The schedule names no moment past 2^62, and each event that it
+/// publishes is within the limits of events.
+pub fn frames_are_spelled()
+    ensures spelled { (net : Net) (steps : List Line) (k : ℕ) (f : Frame) → IsNet net → net.brokers ≤ 2 ^ 16 → net.publishers ≤ 2 ^ 16 → StepsIn net steps → NumbersIn steps → frame_at (run_all net (start net) steps).world k ≡ Some f → IsFrame (frame_bytes f) f }
+    ensures decodes { (net : Net) (steps : List Line) (k : ℕ) (f : Frame) → IsNet net → net.brokers ≤ 2 ^ 16 → net.publishers ≤ 2 ^ 16 → StepsIn net steps → NumbersIn steps → frame_at (run_all net (start net) steps).world k ≡ Some f → frame_decoded (frame_bytes f) ≡ Ok f }
 {}
 
 /// Delivered exactly: over every schedule, what each subscriber got from each publisher is exactly the logged events
