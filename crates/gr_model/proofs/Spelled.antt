@@ -1,5 +1,5 @@
 -- Every tick and event of every world is within the limits of frames, so each frame that is sent has a spelling that fits into one
-use Rattle.std.proofs.Common.{◌≡◌, ℕ, suc, ◌+◌, ◌≤◌, ◌<◌, ◌^◌, max, Bool, true, false, ◌&&◌, List, [], ◌∷◌, ◌++◌, map, length, set, get_or, refl, subst, Option, Some, None, Ok, arith, le_trans, length-append}
+use Rattle.std.proofs.Common.{◌≡◌, ℕ, suc, ◌+◌, ◌≤◌, ◌<◌, ◌^◌, max, Bool, true, false, ◌&&◌, List, [], ◌∷◌, ◌++◌, map, length, set, get_or, refl, Option, Some, None, Ok, arith, length-append}
 use Rattle.std.specs.Prelude.{nat_eq, nat_le, nat_lt, if◌then◌else◌}
 use Rattle.std.specs.List.{AllByRecursion}
 use Rattle.std.proofs.lemmas.Bool.{and_parts, leb-true, ltb-false}
@@ -22,16 +22,16 @@ use Rattle.gr_sched.specs.declared.step.Step.TheVariants as step
 use Rattle.gr_sched.specs.declared.step.Line.{Line}
 use Rattle.gr_model.specs.declared.report.Report.TheVariants as line
 use Rattle.gr_model.specs.Net.{Net, not_empty, numbers}
-use Rattle.gr_model.specs.Broker.{View, Log, Outcome, max_tick, empty_log, with_event, is_kept, publish, wake, receive, started}
+use Rattle.gr_model.specs.Broker.{Log, Outcome, max_tick, empty_log, with_event, is_kept, publish, wake, receive, started}
 use Rattle.gr_model.specs.World.{World, Told, blank_view, view_of, log_of, absorbed, unchanged, after, in_turn, wake_for, wake_all, deliver_frame, publish_now, sweep_for, sweep, sweep_moment, frame_at, restarted, crash, publish_stopped, opened_lines, next, start, show, run_all}
 use Rattle.gr_model.specs.Truth.{Facts}
 use Rattle.gr_model.specs.Tree.{IsNet}
 use Rattle.gr_model.specs.Fits.{facts_of, BodyTrue, FrameTrue, AllFramesTrue, WorldFits, StepIn, StepsIn}
 use Rattle.gr_model.specs.Spelled.{NumberIn, NumbersIn, IsSpelled, ViewIn, LogIn, WorldIn}
-use Rattle.gr_model.proofs.Worlds.{Each, wake_for_kept, deliver_kept, publish_kept, numbers_below}
+use Rattle.gr_model.proofs.Worlds.{wake_for_kept, deliver_kept, publish_kept, numbers_below}
 use Rattle.gr_model.proofs.Schedules.{next_kept, start_fits, clocked_fits, frame_at_true}
 use Rattle.gr_model.proofs.Closed.{clocked, with_logs, IsCallClosed, in_turn_goes, sweep_for_goes, wake_all_goes, frame_at_ready}
-use Rattle.gr_model.proofs.SpelledRuns.{all_on, all_back, all_set, all_get, all_made, ends_in, values_in, runs_in, total, total_is}
+use Rattle.gr_model.proofs.SpelledRuns.{all_on, all_set, all_get, all_made, ends_in, values_in, runs_in, total, total_is}
 use Rattle.gr_model.proofs.SpelledCalls.{BodyCut, FrameCut, AllCut, CallIn, BodyIn, wake_in, receive_in, publish_in, with_event_in, started_in}
 
 -- A frame

@@ -1,5 +1,5 @@
 -- A broker's call keeps every tick and event within the limits, and what it sends is cut into frames that are short enough
-use Rattle.std.proofs.Common.{◌≡◌, ◌≢◌, ℕ, suc, ◌+◌, ◌-◌, ◌≤◌, ◌<◌, min, max, Bool, true, false, ◌&&◌, ◌||◌, List, [], ◌∷◌, ◌++◌, map, set, get_or, refl, subst, Option, Some, None, arith, le_trans}
+use Rattle.std.proofs.Common.{◌≡◌, ℕ, suc, ◌+◌, ◌-◌, ◌≤◌, min, max, Bool, true, false, ◌&&◌, ◌||◌, List, [], ◌∷◌, ◌++◌, map, set, get_or, refl, Option, Some, None, arith, le_trans}
 use Rattle.std.specs.Prelude.{not, nat_eq, nat_le, nat_lt, if◌then◌else◌}
 use Rattle.std.specs.List.{AllByRecursion}
 use Rattle.std.proofs.lemmas.Bool.{leb-true, ltb-true, ltb-false}
@@ -26,7 +26,7 @@ use Rattle.gr_model.specs.declared.report.Report.TheVariants as line
 use Rattle.gr_model.specs.Net.{Net, is_host, keeps_horizon, wanted_below, pass}
 use Rattle.gr_model.specs.Broker.{View, Log, Outcome, max_tick, head, know_frames, want_frames, expect_frame, up_frames, all_points, is_settled, consolidated, finished, forgotten, trimmed, horizon_after, new_ticks, forward, quenched, forward_frames, forward_wants, learn, due, noted, upward, acknowledged, answer, answers, curious, stored, curiosity, asking, wanted_at_wake, wake_below, covers, expect_frames, expect, any_C, with_event, with_mark, with_cut, event_at, event_points, log_at, log_know, silence, publish, done_upto, cutting, marking, wake_host, wake, started, place_of, clashes, receive}
 use Rattle.gr_model.specs.Spelled.{RunsIn, IsMoment, ViewIn, LogIn}
-use Rattle.gr_model.proofs.SpelledRuns.{all_on, all_set, all_get, all_made, AreUpto, points_upto, all_points_upto, value_fits, tabulate_in, both_upto, zip_in, first_bottom_upto, top_upto, forgotten_in, total, IsPart, parts_in}
+use Rattle.gr_model.proofs.SpelledRuns.{all_on, all_set, all_get, all_made, AreUpto, points_upto, all_points_upto, value_fits, tabulate_in, both_upto, zip_in, first_bottom_upto, top_upto, forgotten_in, IsPart, parts_in}
 
 -- Frames that a broker sends
 

@@ -1,11 +1,11 @@
 -- Runs up to the last tick: what is made of them ends by it too, and so does each part that goes into a frame
-use Rattle.std.proofs.Common.{◌≡◌, ◌≢◌, inl, inr, ℕ, suc, ◌+◌, ◌-◌, ◌≤◌, ◌<◌, ◌^◌, min, max, Bool, true, false, ◌&&◌, List, [], ◌∷◌, ◌++◌, map, length, set, get_or, refl, sym, ap, ◌∙◌, subst, zero, arith, rules, length-append}
-use Rattle.std.specs.Prelude.{nat_eq, nat_le, nat_lt, if◌then◌else◌, flat_map, filter}
+use Rattle.std.proofs.Common.{◌≡◌, ◌≢◌, ℕ, suc, ◌+◌, ◌-◌, ◌≤◌, ◌^◌, min, max, Bool, true, false, ◌&&◌, List, [], ◌∷◌, ◌++◌, map, length, set, get_or, refl, zero, arith, length-append}
+use Rattle.std.specs.Prelude.{nat_eq, nat_le, nat_lt, if◌then◌else◌}
 use Rattle.std.specs.List.{AllByRecursion}
 use Rattle.std.specs.Int.{to_be_bytes, w64}
 use Rattle.std.proofs.lemmas.Bool.{leb-true, ltb-false}
 use Rattle.gr_tick.specs.declared.run.Run.{Run}
-use Rattle.gr_tick.specs.Runs.{AreRuns, AreRunsFrom, value_at, put_on, put, add_point, sorted, tabulate_from, tabulate_sorted, tabulate, points, zip_runs, first_bottom_from, top_of}
+use Rattle.gr_tick.specs.Runs.{AreRunsFrom, value_at, put_on, put, add_point, sorted, tabulate_from, tabulate_sorted, tabulate, points, zip_runs, first_bottom_from, top_of}
 use Rattle.gr_tick.specs.Stored.{EndBefore}
 use Rattle.gr_know.specs.declared.values.K.{K}
 use Rattle.gr_know.specs.Values.{is_D}
@@ -22,10 +22,6 @@ use Rattle.gr_model.specs.Spelled.{IsRunIn, RunsIn}
 pub all_on : {X : Type 0} (P : X → Type 0) (xs ys : List X) → AllByRecursion P xs → AllByRecursion P ys → AllByRecursion P (xs ++ ys)
 all_on P [] ys a b = b
 all_on P (x ∷ xs) ys a b = (a.0, all_on P xs ys a.1 b)
-
-pub all_back : {X : Type 0} (P : X → Type 0) (xs ys : List X) → AllByRecursion P (xs ++ ys) → AllByRecursion P ys
-all_back P [] ys a = a
-all_back P (x ∷ xs) ys a = all_back P xs ys a.1
 
 pub all_set : {X : Type 0} (P : X → Type 0) (xs : List X) (i : ℕ) (x : X) → AllByRecursion P xs → P x → AllByRecursion P (set xs i x)
 all_set P [] i x a h = tt
