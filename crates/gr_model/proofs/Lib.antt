@@ -83,3 +83,7 @@ pub mod Opening
 pub mod OverLogs
 pub mod Arriving
 pub mod Serving
+pub mod SpelledRuns
+pub mod SpelledCalls
+pub mod Spelled
+pub mod ServedOver

@@ -53,7 +53,7 @@ nothing net p = record { head = head (net.host p) (net.host p) p; body = body.Kn
 no_runs_true : (net : Net) (f : Facts) (p b : ℕ) → KnowsTruth net f p b []
 no_runs_true net f p b = record { runs = tt; each = λ t. tt }
 
-nothing_is_true : (net : Net) (w : World) (p : ℕ) → IsNet net → p < net.publishers → FrameTrue net w (nothing net p)
+pub nothing_is_true : (net : Net) (w : World) (p : ℕ) → IsNet net → p < net.publishers → FrameTrue net w (nothing net p)
 nothing_is_true net w p n j = record { publisher_in = j; fits = record { publisher = refl; to_in = n.host_in p j; body = tt }; told = no_runs_true net (facts_of net w p) p (net.host p) }
 
 abbrev learns : Net → World → ℕ → Outcome

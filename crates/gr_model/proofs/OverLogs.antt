@@ -37,7 +37,7 @@ use Rattle.gr_model.proofs.Opening.{Opening, MeetsAt, nothing, delivered_nothing
 
 -- Every publisher has its turn
 
-publishers_below : (net : Net) (bs : List ℕ) → Each (λ p. p < net.publishers) (publishers_at net bs)
+pub publishers_below : (net : Net) (bs : List ℕ) → Each (λ p. p < net.publishers) (publishers_at net bs)
 publishers_below net [] = tt
 publishers_below net (b ∷ bs) = Each-on (λ p. p < net.publishers) (filter (λ p. is_host net p b) (numbers net.publishers)) (publishers_at net bs) (Each-kept (λ p. p < net.publishers) (λ p. is_host net p b) (numbers net.publishers) (numbers_below 0 net.publishers net.publishers (omega arith))) (publishers_below net bs)
 

@@ -13,6 +13,7 @@ pub mod Obeys
 pub mod Replies
 pub mod Edges
 pub mod Blank
+pub mod Spelled
 pub mod Text
 pub mod SmallNets
 pub mod Examples

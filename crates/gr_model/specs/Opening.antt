@@ -3,17 +3,19 @@ use Rattle.std.specs.Prelude.{◌≡◌, ℕ, ◌≤◌, Bool, true, false, nat_
 use Rattle.gr_model.specs.declared.report.Report.{Report}
 use Rattle.gr_model.specs.declared.report.Report.TheVariants as line
 use Rattle.gr_model.specs.Net.{Net, is_host, not_empty, numbers}
-use Rattle.gr_model.specs.Broker.{Log, max_tick, empty_log, learn, started}
+use Rattle.gr_model.specs.Broker.{Log, empty_log, learn, started}
 use Rattle.gr_model.specs.World.{World, Told, view_of, log_of, absorbed, unchanged, after, in_turn}
 use Rattle.gr_model.specs.Said.{said_at}
 use Rattle.gr_model.specs.Fits.{LogFits}
+use Rattle.gr_model.specs.Spelled.{LogIn}
 use Rattle.gr_model.specs.Headline.{Recorded, History, opened_of}
 
--- a log as it was found. Its events are those past its cut: what was cut is told to nobody any more
+-- A log as it was found, with its ticks and events within their limits. Its events are those past its cut: what was cut is told
+-- to nobody any more
 pub record IsFound (log : Log) : Type 0 where
   pub fits : LogFits log
   pub past_cut : (t : ℕ) → t ≤ log.cut → said_at log.events t ≡ None
-  pub upto : log.settled ≤ max_tick
+  pub within : LogIn log
 
 -- the log of a publisher among those that were found
 abbrev pub found_log : List Log → ℕ → Log

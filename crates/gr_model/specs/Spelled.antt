@@ -1,5 +1,5 @@
 -- What a schedule may name, and what holds of a world in which every tick and event is within the limits of frames
-use Rattle.std.specs.Prelude.{ℕ, suc, ◌≤◌, List, [], ◌∷◌}
+use Rattle.std.specs.Prelude.{suc, ◌≤◌, List, [], ◌∷◌}
 use Rattle.std.specs.List.{AllByRecursion}
 use Rattle.gr_event.specs.Limits.{IsEvent}
 use Rattle.gr_tick.specs.declared.run.Run.{Run}

@@ -1,9 +1,12 @@
 //! What holds of every schedule of the machine, on every topology that is a tree. Each function here does nothing: its
 //! contract is the theorem.
 
-ghost use Rattle.std.specs.Prelude.{List, [], ℕ, true, false, map, filter, flat_map, ◌≡◌, ◌<◌, ◌≤◌, Some};
+ghost use Rattle.std.specs.Prelude.{List, [], ℕ, true, false, map, filter, flat_map, ◌≡◌, ◌<◌, ◌≤◌, ◌^◌, Some, Ok};
 ghost use Rattle.gr_frame.specs.declared.Frame.{Frame};
 ghost use Rattle.gr_frame.specs.declared.Body.TheVariants as body;
+ghost use Rattle.gr_frame.specs.Bytes.{frame_bytes};
+ghost use Rattle.gr_frame.specs.Decode.{frame_decoded};
+ghost use Rattle.gr_frame.specs.Limits.{IsFrame};
 ghost use Rattle.gr_know.specs.Values.{Known};
 ghost use Rattle.gr_sched.specs.declared.step.Line.{Line};
 ghost use Rattle.gr_model.specs.Net.{Net, not_empty, numbers};
@@ -11,11 +14,15 @@ ghost use Rattle.gr_model.specs.Tree.{IsNet, IsSubscriber};
 ghost use Rattle.gr_model.specs.Broker.{Log, clashes};
 ghost use Rattle.gr_model.specs.World.{Told, view_of, log_of, frame_at, run_all, run_from, start, next, report_of};
 ghost use Rattle.gr_model.specs.Opening.{AreFound, opening, begin_over};
+ghost use Rattle.gr_model.specs.Arrivals.{Arrival, publishes_of, served};
+ghost use Rattle.gr_model.specs.Served.{IsHonestRun, AllDoSteps, HeadlineServed};
+ghost use Rattle.gr_model.specs.declared.report.Report.{Report};
 ghost use Rattle.gr_model.specs.Fits.{StepIn, StepsIn, WorldFits, history_of};
 ghost use Rattle.gr_model.specs.Headline.{GetsExactly, Headline, Holds_from, History, is_record_line, opened_of, is_doubt_line, doubt_place, doubts_shown};
 ghost use Rattle.gr_model.specs.Order.{CutsInOrder, FramesSent};
 ghost use Rattle.gr_model.specs.Replies.{Replied};
 ghost use Rattle.gr_model.specs.Edges.{GoesOverEdge};
+ghost use Rattle.gr_model.specs.Spelled.{NumbersIn};
 ghost use Rattle.gr_model.specs.Rules.{RulesDetermine};
 ghost use Rattle.gr_model.specs.Obeys.{CallsObey};
 ghost use Rattle.gr_model.specs.Settles.{SweepSettles, AllGot, is_accepted};
@@ -47,6 +54,14 @@ pub fn never_clashes()
 /// broker to a child with knowledge or a tick to expect, or to the next broker up with curiosity.
 pub fn never_strays()
     ensures { (net : Net) (steps : List Line) (k : ℕ) (f : Frame) → IsNet net → StepsIn net steps → frame_at (run_all net (start net) steps).world k ≡ Some f → GoesOverEdge net f }
+{}
+
+/// Every frame that was ever sent is spelled by its bytes, which fit into one frame; so they decode to it and to no other.
+/// The topology has at most 65,536 brokers and as many publishers. The schedule names no moment past 2^62, and each event that it
+/// publishes is within the limits of events.
+pub fn frames_are_spelled()
+    ensures spelled { (net : Net) (steps : List Line) (k : ℕ) (f : Frame) → IsNet net → net.brokers ≤ 2 ^ 16 → net.publishers ≤ 2 ^ 16 → StepsIn net steps → NumbersIn steps → frame_at (run_all net (start net) steps).world k ≡ Some f → IsFrame (frame_bytes f) f }
+    ensures decodes { (net : Net) (steps : List Line) (k : ℕ) (f : Frame) → IsNet net → net.brokers ≤ 2 ^ 16 → net.publishers ≤ 2 ^ 16 → StepsIn net steps → NumbersIn steps → frame_at (run_all net (start net) steps).world k ≡ Some f → frame_decoded (frame_bytes f) ≡ Ok f }
 {}
 
 /// Delivered exactly: over every schedule, what each subscriber got from each publisher is exactly the logged events
@@ -120,4 +135,13 @@ pub fn sweep_hands_over()
 pub fn headline_over_logs()
     ensures schedules { (net : Net) (logs : List Log) (steps : List Line) → IsNet net → 1 ≤ net.quiet → 1 ≤ net.retry → AreFound net logs → StepsIn net steps → (let o : Told = opening net (numbers net.brokers) logs in Holds_from net (begin_over net logs o.lines) steps (run_from net o.world steps)) }
     ensures told { (net : Net) (logs : List Log) → IsNet net → AreFound net logs → (let o : Told = opening net (numbers net.brokers) logs in let h : History = begin_over net logs [] in filter is_record_line o.lines ≡ flat_map (opened_of net h.found h.records []) (numbers net.brokers)) }
+{}
+
+/// The headline of a server that hosts all brokers, over logs that were found and every honest journal, whatever of the
+/// frames sent arrives, in which order and how often: each arrival leaves what its steps of a schedule leave and tells
+/// their lines, each call of them obeys its rule, and of these steps the whole headline holds. So no datagram is dropped
+/// but one that is no frame.
+pub fn headline_served()
+    ensures headline { (net : Net) (logs : List Log) (steps : List Line) (arrivals : List Arrival) → IsNet net → net.brokers ≤ 2 ^ 16 → net.publishers ≤ 2 ^ 16 → 1 ≤ net.quiet → 1 ≤ net.retry → AreFound net logs → StepsIn net steps → NumbersIn steps → (let rs : List (List Report) = served net (numbers net.brokers) logs steps arrivals in IsHonestRun arrivals rs → HeadlineServed net logs steps arrivals rs) }
+    ensures calls { (net : Net) (logs : List Log) (steps : List Line) (arrivals : List Arrival) → IsNet net → net.brokers ≤ 2 ^ 16 → net.publishers ≤ 2 ^ 16 → 1 ≤ net.quiet → 1 ≤ net.retry → AreFound net logs → StepsIn net steps → NumbersIn steps → IsHonestRun arrivals (served net (numbers net.brokers) logs steps arrivals) → (let o : Told = opening net (numbers net.brokers) logs in AllDoSteps net o.world o.lines (publishes_of net (numbers net.brokers) steps) arrivals) }
 {}
