@@ -198,9 +198,9 @@ quiet_does net w left moment lines =
     let now : ℕ = min moment max_tick in
     let wakes = map (λ b. as_line (step.Wake b)) (numbers net.brokers) in
     does net w left (quiet moment) (steps_of_arrival net lines left (quiet moment)) refl (sym (
-      clock_first net w now (publish_step left ++ wakes) ∙ (run_append net u (publish_step left) wakes
-      ∙ (ap (λ (s : Told). after s (λ v. run_all net v wakes)) (published_run net u left)
-      ∙ (let s : Told = published_first net u left in ap (λ (r : Told). record { world = r.world; lines = s.lines ++ r.lines }) (wakes_run net (numbers net.brokers) s.world))))))
+    clock_first net w now (publish_step left ++ wakes) ∙ (run_append net u (publish_step left) wakes
+    ∙ (ap (λ (s : Told). after s (λ v. run_all net v wakes)) (published_run net u left)
+    ∙ (let s : Told = published_first net u left in ap (λ (r : Told). record { world = r.world; lines = s.lines ++ r.lines }) (wakes_run net (numbers net.brokers) s.world))))))
 
 pub frame_does : (net : Net) (w : World) (left : List Publish) (b moment k : ℕ) (bytes : List ℕ) (f : Frame) (lines : List Report) → IsNet net → WorldFits net (at_moment w moment) → frame_decoded bytes ≡ Ok f → frame_at w k ≡ Some f → f.head.to ≡ b → GoesOverEdge net f → number_of_bytes b bytes lines ≡ Some k →
     Does net w left (datagram b bytes moment) (steps_of_arrival net lines left (datagram b bytes moment))
@@ -211,8 +211,8 @@ frame_does net w left b moment k bytes f lines n fit d at to over number =
     let steps : List Line = as_line (step.Clock now) ∷ (as_line (step.Deliver k) ∷ []) in
     let is : steps_of_arrival net lines left (datagram b bytes moment) ≡ steps = ap₂ (λ (r : Result Frame FrameFault) (o : Option ℕ). as_line (step.Clock now) ∷ (if is_frame r then delivery_step o else [])) d number in
     subst (λ (z : List Line). Does net w left (datagram b bytes moment) z) (sym is) (does net w left (datagram b bytes moment) steps (ap (dropped_as b) d) (
-      ap (receives net u b) d ∙ (received net u k b f n fit at to over
-      ∙ sym (clock_first net w now (as_line (step.Deliver k) ∷ []) ∙ (ap (λ (s : Told). after s (λ v. unchanged v [])) (delivered_step net u k f at) ∙ one_step (deliver_frame net u f))))))
+    ap (receives net u b) d ∙ (received net u k b f n fit at to over
+    ∙ sym (clock_first net w now (as_line (step.Deliver k) ∷ []) ∙ (ap (λ (s : Told). after s (λ v. unchanged v [])) (delivered_step net u k f at) ∙ one_step (deliver_frame net u f))))))
 
 pub fault_does : (net : Net) (w : World) (left : List Publish) (b moment : ℕ) (bytes : List ℕ) (fault : FrameFault) (lines : List Report) → frame_decoded bytes ≡ Err fault → Does net w left (datagram b bytes moment) (steps_of_arrival net lines left (datagram b bytes moment))
 unfolding comes receives

@@ -87,3 +87,4 @@ pub mod SpelledRuns
 pub mod SpelledCalls
 pub mod Spelled
 pub mod ServedOver
+pub mod Undropped

@@ -22,7 +22,7 @@ use Rattle.gr_model.specs.World.{World, Told, view_of, log_of, frame_at, sent_li
 use Rattle.gr_model.specs.Edges.{GoesOverEdge}
 use Rattle.gr_model.specs.Opening.{AreFound, begin_over}
 use Rattle.gr_model.specs.Arrivals.{Arrival, datagram, quiet, Publish, is_hosted, publishes_in, publishes_of, left_after, at_moment, comes, show_hosted, served_from, served}
-use Rattle.gr_model.specs.Served.{number_of_bytes, IsHonestAt, IsHonest, DoesSteps, AllDoSteps, as_line, publish_step, delivery_step, is_frame, steps_of_arrival, dropped_as, dropped_line, HoldsServed, HeadlineServed}
+use Rattle.gr_model.specs.Served.{number_of_bytes, IsHonestAt, IsHonest, DoesSteps, AllDoSteps, as_line, publish_step, delivery_step, is_frame, steps_of_arrival, dropped_as, dropped_line, is_dropped_frame, HoldsServed, HeadlineServed}
 use Rattle.gr_model.specs.Spelled.{NumberIn, NumbersIn, IsSpelled}
 use Rattle.gr_model.specs.Headline.{History, history, Holds_from, is_sent}
 use Rattle.gr_model.specs.Tree.{IsNet}
@@ -33,6 +33,7 @@ use Rattle.gr_model.proofs.Schedules.{next_kept, clocked_fits, report_lines}
 use Rattle.gr_model.proofs.Records.{Has, has_number}
 use Rattle.gr_model.proofs.Recorded.{runs}
 use Rattle.gr_model.proofs.Obeying.{steps_obey}
+use Rattle.gr_model.proofs.Undropped.{run_none, arrival_plain}
 use Rattle.gr_model.proofs.Strays.{AllOver, over_closed}
 use Rattle.gr_model.proofs.SweepStates.{Unknowns}
 use Rattle.gr_model.proofs.WithoutSweeps.{Whole}
@@ -145,6 +146,14 @@ dropped_unsent (datagram b bytes moment) = go (frame_decoded bytes)
     go (Ok f) = refl
     go (Err fault) = refl
 
+dropped_taken : (a : Arrival) → filter is_dropped_frame (dropped_line a) ≡ []
+dropped_taken (quiet moment) = refl
+dropped_taken (datagram b bytes moment) = go (frame_decoded bytes)
+  where
+    go : (r : Result Frame FrameFault) → filter is_dropped_frame (dropped_as b r) ≡ []
+    go (Ok f) = refl
+    go (Err fault) = refl
+
 -- The run
 
 each_of : (P : Frame → Type 0) (fs : List Frame) → AllByRecursion P fs → Each P fs
@@ -226,11 +235,14 @@ module _ (net : Net) (n : IsNet net) (on : 1 ≤ net.quiet) (retry : 1 ≤ net.r
       let steps = steps_of_arrival net h.lines left a in
       let parts = run_from net w steps in
       let y = turn w h left a r l x.0 in
-      let g : History = history net h steps parts in (parts, (
-        y.does.lines ∙ ap (λ (z : List Report). z ++ dropped_line a) (sym (report_lines net w steps)),
-        holds_where_sweeps_reach net w h steps n (sweeps_reach net n on retry) on y.are_in.steps r.whole r.unknown,
-        subst (λ z. HoldsServed net g (left_after left a) arrivals (served_from net (numbers net.brokers) z (left_after left a) arrivals)) (sym y.does.world) (holds arrivals (run_all net w steps).world g (left_after left a) y.ready (left_in net left a l) (still_honest w h left a arrivals y x)),
-      ))
+      let g : History = history net h steps parts in (
+        parts,
+        (
+          y.does.lines ∙ ap (λ (z : List Report). z ++ dropped_line a) (sym (report_lines net w steps)),
+          holds_where_sweeps_reach net w h steps n (sweeps_reach net n on retry) on y.are_in.steps r.whole r.unknown,
+          subst (λ z. HoldsServed net g (left_after left a) arrivals (served_from net (numbers net.brokers) z (left_after left a) arrivals)) (sym y.does.world) (holds arrivals (run_all net w steps).world g (left_after left a) y.ready (left_in net left a l) (still_honest w h left a arrivals y x)),
+        ),
+      )
 
   -- the steps are the same by the lines of frames alone
   steps_same : (xs ys : List Report) (left : List Publish) (a : Arrival) → filter is_sent xs ≡ filter is_sent ys → steps_of_arrival net xs left a ≡ steps_of_arrival net ys left a
@@ -246,6 +258,11 @@ module _ (net : Net) (n : IsNet net) (on : 1 ≤ net.quiet) (retry : 1 ≤ net.r
       let y = turn w h left a r l x.0 in
       let g : History = history net h steps (run_from net w steps) in
       let same : filter is_sent g.lines ≡ filter is_sent (lines ++ t.lines) = sym y.same ∙ (filter-append is_sent h.lines t.lines ∙ (ap (λ (z : List Report). z ++ filter is_sent t.lines) e ∙ sym (filter-append is_sent lines t.lines))) in (
-        subst (λ (z : List Line). DoesSteps net w left a z) (steps_same h.lines lines left a e) (record { world = y.does.world; lines = y.does.lines; obey = steps_obey net w steps n on r.whole.stands.fits y.are_in.steps }),
+        subst (λ (z : List Line). DoesSteps net w left a z) (steps_same h.lines lines left a e) (record {
+          world = y.does.world;
+          lines = y.does.lines;
+          obey = steps_obey net w steps n on r.whole.stands.fits y.are_in.steps;
+          taken = ap (filter is_dropped_frame) y.does.lines ∙ (filter-append is_dropped_frame (run_all net w steps).lines (dropped_line a) ∙ ap₂ (λ (p q : List Report). p ++ q) (run_none net w steps (arrival_plain net h.lines left a)) (dropped_taken a));
+        }),
         subst (λ z. AllDoSteps net z (lines ++ t.lines) (left_after left a) arrivals) (sym y.does.world) (all_do arrivals (run_all net w steps).world g (left_after left a) (lines ++ t.lines) y.ready (left_in net left a l) same (still_honest w h left a arrivals y x)),
       )

@@ -78,12 +78,19 @@ dropped_line (quiet moment) = []
 abbrev pub joined : List (List Report) → List Report
 joined parts = flat_map (λ r. r) parts
 
--- An arrival leaves the world of its steps and tells their lines, and then that of a datagram that is no frame; each call of the
--- steps obeys its rule
+-- the line drops a frame: a stray, or one that clashes
+abbrev pub is_dropped_frame : Report → Bool
+is_dropped_frame (line.DroppedStray b from to p) = true
+is_dropped_frame (line.DroppedClash b t kept came) = true
+is_dropped_frame _ = false
+
+-- An arrival leaves the world of its steps and tells their lines, and then that of a datagram that is no frame. Each call of the
+-- steps obeys its rule, and no frame is dropped
 pub record DoesSteps (net : Net) (w : World) (left : List Publish) (a : Arrival) (steps : List Line) : Type 0 where
   pub world : (comes net (numbers net.brokers) w left a).world ≡ (run_all net w steps).world
   pub lines : (comes net (numbers net.brokers) w left a).lines ≡ (run_all net w steps).lines ++ dropped_line a
   pub obey : StepsObey net w steps (run_from net w steps)
+  pub taken : filter is_dropped_frame (comes net (numbers net.brokers) w left a).lines ≡ []
 
 -- so does each, in the world that those before it leave and after the lines told so far
 abbrev pub AllDoSteps : Net → World → List Report → List Publish → List Arrival → Type 0
