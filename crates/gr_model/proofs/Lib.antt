@@ -88,3 +88,4 @@ pub mod SpelledCalls
 pub mod Spelled
 pub mod ServedOver
 pub mod Undropped
+pub mod ServedExample

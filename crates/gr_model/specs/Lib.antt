@@ -22,3 +22,4 @@ pub mod Opening
 pub mod Arrivals
 pub mod Served
 pub mod Spelled
+pub mod ServedExample

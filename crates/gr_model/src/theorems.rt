@@ -28,6 +28,7 @@ ghost use Rattle.gr_model.specs.Obeys.{CallsObey};
 ghost use Rattle.gr_model.specs.Settles.{SweepSettles, AllGot, is_accepted};
 ghost use Rattle.gr_model.specs.Blank.{net0};
 ghost use Rattle.gr_model.specs.Examples.{WorkedExamples};
+ghost use Rattle.gr_model.specs.ServedExample.{ServedExamples};
 
 /// The topology of the small examples is a tree, so the theorems speak of something.
 pub fn net0_is_a_tree()
@@ -144,4 +145,9 @@ pub fn headline_over_logs()
 pub fn headline_served()
     ensures headline { (net : Net) (logs : List Log) (steps : List Line) (arrivals : List Arrival) → IsNet net → net.brokers ≤ 2 ^ 16 → net.publishers ≤ 2 ^ 16 → 1 ≤ net.quiet → 1 ≤ net.retry → AreFound net logs → StepsIn net steps → NumbersIn steps → (let rs : List (List Report) = served net (numbers net.brokers) logs steps arrivals in IsHonestRun arrivals rs → HeadlineServed net logs steps arrivals rs) }
     ensures calls { (net : Net) (logs : List Log) (steps : List Line) (arrivals : List Arrival) → IsNet net → net.brokers ≤ 2 ^ 16 → net.publishers ≤ 2 ^ 16 → 1 ≤ net.quiet → 1 ≤ net.retry → AreFound net logs → StepsIn net steps → NumbersIn steps → IsHonestRun arrivals (served net (numbers net.brokers) logs steps arrivals) → (let o : Told = opening net (numbers net.brokers) logs in AllDoSteps net o.world o.lines (publishes_of net (numbers net.brokers) steps) arrivals) }
+{}
+
+/// Worked examples of a server: a whole run over three arrivals, and a start over an old log.
+pub fn served_examples()
+    ensures { ServedExamples }
 {}
