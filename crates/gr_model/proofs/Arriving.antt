@@ -1,8 +1,8 @@
 -- An arrival does what its steps of a schedule do
-use Rattle.std.proofs.Common.{◌≡◌, ◌≢◌, ◌⊎◌, inl, inr, ⊎_elim, ℕ, suc, zero, ◌+◌, ◌-◌, ◌≤◌, ◌<◌, min, max, Bool, true, false, ◌&&◌, ◌||◌, List, [], ◌∷◌, ◌++◌, map, length, refl, sym, ap, ap₂, ◌∙◌, subst, Option, Some, None, arith, append-nil, append_assoc}
-use Rattle.std.specs.Prelude.{nat_eq, nat_le, nat_lt, bytes_eq, if◌then◌else◌, filter, flat_map, slice_get, Result, Ok, Err}
+use Rattle.std.proofs.Common.{◌≡◌, inl, inr, ℕ, suc, ◌+◌, min, max, Bool, true, false, ◌&&◌, List, [], ◌∷◌, ◌++◌, map, length, refl, sym, ap, ap₂, ◌∙◌, subst, Option, Some, None, arith, append-nil, append_assoc}
+use Rattle.std.specs.Prelude.{nat_eq, bytes_eq, if◌then◌else◌, filter, slice_get, Result, Ok, Err}
 use Rattle.std.specs.List.{list_any}
-use Rattle.std.proofs.lemmas.Bool.{cases_Bool, cond-true, cond-false, and_parts, eq-eqb, eqb-true, lt-ltb, false≢true, true≢false}
+use Rattle.std.proofs.lemmas.Bool.{cases_Bool, cond-true, cond-false, and_parts, eq-eqb, eqb-true, lt-ltb, true≢false}
 use Rattle.std.proofs.lemmas.Slice.Eq.{bytes_eq-Decides}
 use Rattle.gr_frame.specs.declared.Body.{Body}
 use Rattle.gr_frame.specs.declared.Body.TheVariants as body
@@ -25,8 +25,7 @@ use Rattle.gr_model.specs.Replies.{frame_of_line}
 use Rattle.gr_model.specs.Arrivals.{Arrival, datagram, quiet, Publish, at_moment, fits_broker, clash_runs, first_of, least_clash, clash_line, fault_number, takes, receives, published_first, quieted, comes}
 use Rattle.gr_model.specs.Served.{tells_bytes, number_of_bytes, as_line, publish_step, delivery_step, is_frame, steps_of_arrival, dropped_as, dropped_line}
 use Rattle.gr_model.specs.Tree.{IsNet}
-use Rattle.gr_model.specs.Fits.{WorldFits, FrameTrue}
-use Rattle.gr_model.proofs.Schedules.{frame_at_true}
+use Rattle.gr_model.specs.Fits.{WorldFits}
 use Rattle.gr_model.proofs.Clash.{no_frame_clashes}
 use Rattle.gr_model.proofs.HeardSteps.{sent_line_number}
 use Rattle.gr_model.proofs.ReplyLines.{frame_told}

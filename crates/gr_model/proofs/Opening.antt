@@ -1,5 +1,5 @@
 -- A start over logs that were found: each host with a subscriber has its horizon where its log is settled, and nothing else has happened
-use Rattle.std.proofs.Common.{◌≡◌, ◌≢◌, inl, inr, ℕ, suc, zero, ◌+◌, ◌≤◌, ◌<◌, Bool, true, false, ◌&&◌, List, [], ◌∷◌, ◌++◌, map, length, set, get_or, refl, sym, ap, ap₂, ◌∙◌, subst, None, Some, Option, arith, le_trans, le_refl, le_antisymm, append_assoc, append-nil}
+use Rattle.std.proofs.Common.{◌≡◌, ◌≢◌, inl, inr, ℕ, suc, ◌+◌, ◌≤◌, ◌<◌, Bool, true, false, ◌&&◌, List, [], ◌∷◌, ◌++◌, map, length, set, get_or, refl, sym, ap, ap₂, ◌∙◌, subst, None, Some, Option, arith, le_trans, le_antisymm, append_assoc, append-nil}
 use Rattle.std.specs.Prelude.{nat_eq, nat_lt, ◌||◌, if◌then◌else◌, filter}
 use Rattle.std.specs.List.{list_any}
 use Rattle.std.proofs.lemmas.Bool.{cases_eq, eq-eqb, ne_eqb, lt-leb, false≢true, both_ways}
@@ -10,27 +10,27 @@ use Rattle.gr_know.specs.declared.values.K.TheVariants.{Q}
 use Rattle.gr_curio.specs.declared.values.Q3.TheVariants.{N}
 use Rattle.gr_frame.specs.declared.Body.TheVariants as body
 use Rattle.gr_frame.specs.declared.Frame.{Frame}
-use Rattle.gr_frame.specs.Bytes.{cut_frames, known_run_size}
+use Rattle.gr_frame.specs.Bytes.{cut_frames}
 use Rattle.gr_tick.specs.Runs.{AreRuns}
 use Rattle.gr_tick.proofs.RunLaws.{runs_equal}
 use Rattle.gr_know.specs.Values.{Known, known_at, is_Q}
 use Rattle.gr_curio.specs.Values.{Wanted, wanted_at, is_A}
 use Rattle.gr_model.specs.declared.report.Report.{Report}
 use Rattle.gr_model.specs.declared.report.Report.TheVariants as line
-use Rattle.gr_model.specs.Net.{Net, is_host, keeps_horizon, not_empty, is_empty, numbers}
+use Rattle.gr_model.specs.Net.{Net, keeps_horizon, not_empty, is_empty, numbers}
 use Rattle.gr_model.specs.Broker.{View, Log, Outcome, empty_log, head, learn, receive, clashes, new_ticks, forward, forward_frames, know_frames, started}
 use Rattle.gr_model.specs.World.{World, Told, blank_view, view_of, log_of, absorbed, unchanged, in_turn, deliver_frame, sent_lines}
 use Rattle.gr_model.specs.Opening.{IsFound, found_log, AreFound, over_logs, opened_line, opened_for}
 use Rattle.gr_model.specs.Truth.{Facts, KnowsTruth, AllWantTruth}
-use Rattle.gr_model.specs.Said.{said_at, TicksRise, due_upto}
+use Rattle.gr_model.specs.Said.{TicksRise, due_upto}
 use Rattle.gr_model.specs.Tree.{IsNet, IsSubscriber}
 use Rattle.gr_model.specs.Fits.{facts, facts_of, reached_in, LogFits, ViewTrue, CutTrue, HostKnows, FrameTrue, AllFramesTrue, WorldFits, LinesFit}
 use Rattle.gr_model.specs.Headline.{is_sent}
 use Rattle.gr_model.proofs.CallTruth.{new_ticks-is, forward-is}
 use Rattle.gr_model.proofs.Clash.{true_pieces}
-use Rattle.gr_model.proofs.Worlds.{Kept, Each, absorbed_changed, deliver_kept, silent_lines, reached_here}
+use Rattle.gr_model.proofs.Worlds.{Each, absorbed_changed, deliver_kept, silent_lines, reached_here}
 use Rattle.gr_model.proofs.Schedules.{get_numbers, length_numbers, started_true, started_known}
-use Rattle.gr_model.proofs.Telling.{Neutral, Neutral-nil, Silent}
+use Rattle.gr_model.proofs.Telling.{Neutral-nil, Silent}
 use Rattle.gr_model.proofs.Cutlines.{CutFree, CutFree-append, learn_free, sent_free}
 use Rattle.gr_model.proofs.AskMoments.{learn_asks, started_asks}
 use Rattle.gr_model.proofs.BareHosts.{started_horizon}

@@ -1,34 +1,30 @@
 -- From a start over old logs the headline holds of every schedule
 use Rattle.std.proofs.lemmas.List.Elements.{filter-append}
 use Rattle.std.proofs.Common.{◌≡◌, inl, inr, ℕ, suc, zero, ◌+◌, ◌≤◌, ◌<◌, Bool, true, false, not, ◌&&◌, List, [], ◌∷◌, ◌++◌, map, get_or, replicate, refl, sym, ap, ap₂, ◌∙◌, subst, arith, append-nil, append_assoc}
-use Rattle.std.specs.Prelude.{nat_eq, nat_lt, if◌then◌else◌, filter, flat_map}
-use Rattle.std.specs.List.{list_any}
+use Rattle.std.specs.Prelude.{nat_lt, if◌then◌else◌, filter, flat_map}
 use Rattle.std.proofs.lemmas.Bool.{cases_Bool, eq-eqb}
 use Rattle.std.proofs.lemmas.List.{get_or-replicate, length-replicate}
 use Rattle.gr_frame.specs.declared.Frame.{Frame}
 use Rattle.gr_sched.specs.declared.step.Line.{Line}
 use Rattle.gr_model.specs.declared.report.Report.{Report}
 use Rattle.gr_model.specs.declared.report.Report.TheVariants as line
-use Rattle.gr_model.specs.Net.{Net, is_host, keeps_horizon, not_empty, numbers, numbers_from}
+use Rattle.gr_model.specs.Net.{Net, is_host, not_empty, numbers, numbers_from}
 use Rattle.gr_model.specs.Broker.{Log, learn}
-use Rattle.gr_model.specs.World.{World, Told, view_of, log_of, absorbed, unchanged, in_turn, sent_lines, run_from, run_all}
+use Rattle.gr_model.specs.World.{World, Told, view_of, log_of, absorbed, unchanged, in_turn, sent_lines, run_from}
 use Rattle.gr_model.specs.Opening.{found_log, AreFound, over_logs, opened_line, opened_for, publishers_at, opening, recorded_of, begin_over}
-use Rattle.gr_model.specs.Headline.{History, history, Holds_from, found_in, last_cut, may_crash, Recorded, nothing_recorded, is_record_line, is_sent, opened_of}
+use Rattle.gr_model.specs.Headline.{History, Holds_from, found_in, Recorded, nothing_recorded, is_record_line, opened_of}
 use Rattle.gr_model.specs.Tree.{IsNet}
 use Rattle.gr_model.specs.Fits.{StepsIn}
 use Rattle.gr_model.proofs.Worlds.{Each, numbers_below}
 use Rattle.gr_model.proofs.Schedules.{get_numbers}
 use Rattle.gr_model.proofs.Records.{Has, has_filter, has_flat, has_number, core}
-use Rattle.gr_model.proofs.Recorded.{RecordsFit}
 use Rattle.gr_model.proofs.Closed.{Each-kept}
-use Rattle.gr_model.proofs.AskMoments.{AsksFit, AsksUpto, ExpectFits, Each-on}
-use Rattle.gr_model.proofs.Cutlines.{CutsHave, CutFree-last, CutFree-have}
-use Rattle.gr_model.proofs.Orders.{CutFits, Ordered}
-use Rattle.gr_model.proofs.BareHosts.{Bare, host_horizon, bare_horizon}
+use Rattle.gr_model.proofs.AskMoments.{AsksUpto, ExpectFits, Each-on}
+use Rattle.gr_model.proofs.Cutlines.{CutFree-last, CutFree-have}
+use Rattle.gr_model.proofs.Orders.{CutFits}
 use Rattle.gr_model.proofs.HeardCalls.{heard_as}
 use Rattle.gr_model.proofs.HeardSteps.{Hears, heard_in}
 use Rattle.gr_model.proofs.SoFar.{Stands}
-use Rattle.gr_model.proofs.SweepStates.{Unknowns}
 use Rattle.gr_model.proofs.WithoutSweeps.{Whole, nothing_heard, nothing_long}
 use Rattle.gr_model.proofs.AfterSweeps.{holds_where_sweeps_reach}
 use Rattle.gr_model.proofs.SecondReaches.{sweeps_reach}

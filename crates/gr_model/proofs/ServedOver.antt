@@ -1,26 +1,22 @@
 -- The headline of a run over logs that were found and an honest journal
-use Rattle.std.proofs.Common.{◌≡◌, ℕ, ◌≤◌, ◌<◌, ◌^◌, Bool, true, false, List, [], ◌∷◌, ◌++◌, map, refl, sym, subst, arith}
-use Rattle.std.specs.Prelude.{Ok}
+use Rattle.std.proofs.Common.{◌≡◌, ℕ, ◌≤◌, ◌<◌, Bool, true, false, List, [], ◌∷◌, ◌++◌, map, refl, sym, subst, arith}
 use Rattle.std.specs.List.{AllByRecursion}
 use Rattle.gr_frame.specs.declared.Frame.{Frame}
 use Rattle.gr_frame.specs.Bytes.{frame_bytes}
-use Rattle.gr_frame.specs.Decode.{frame_decoded}
 use Rattle.gr_frame.proofs.Spelled.{spelled_decodes}
 use Rattle.gr_sched.specs.declared.step.Line.{Line}
 use Rattle.gr_model.specs.declared.report.Report.{Report}
 use Rattle.gr_model.specs.Net.{Net, not_empty, numbers}
-use Rattle.gr_model.specs.Broker.{Log, View, learn, started}
-use Rattle.gr_model.specs.World.{World, Told, view_of, log_of, absorbed, unchanged, in_turn, deliver_frame}
+use Rattle.gr_model.specs.Broker.{Log, learn, started}
+use Rattle.gr_model.specs.World.{World, Told, view_of, log_of, absorbed, unchanged, in_turn}
 use Rattle.gr_model.specs.Opening.{found_log, AreFound, over_logs, opened_for, publishers_at, opening, begin_over}
 use Rattle.gr_model.specs.Arrivals.{Arrival, publishes_of, served}
 use Rattle.gr_model.specs.Served.{IsHonestRun, AllDoSteps, HeadlineServed}
 use Rattle.gr_model.specs.Edges.{GoesOverEdge}
-use Rattle.gr_model.specs.Spelled.{NumbersIn, IsSpelled, ViewIn, LogIn, WorldIn}
-use Rattle.gr_model.specs.Headline.{History}
+use Rattle.gr_model.specs.Spelled.{NumbersIn, ViewIn, LogIn, WorldIn}
 use Rattle.gr_model.specs.Tree.{IsNet}
 use Rattle.gr_model.specs.Fits.{StepsIn}
 use Rattle.gr_model.proofs.Worlds.{Each}
-use Rattle.gr_model.proofs.Strays.{AllOver}
 use Rattle.gr_model.proofs.SpelledCalls.{started_in}
 use Rattle.gr_model.proofs.SpelledRuns.{all_made}
 use Rattle.gr_model.proofs.Spelled.{IsSmall, deliver_in, next_in}

@@ -1,28 +1,24 @@
 -- The headline of a run over an honest journal: each arrival does what its steps do, and of the steps the headline holds
 use Rattle.std.proofs.lemmas.List.Elements.{filter-append}
-use Rattle.std.proofs.Common.{◌≡◌, ◌≢◌, ◌⊎◌, inl, inr, ⊎_elim, ℕ, suc, zero, ◌+◌, ◌≤◌, ◌<◌, min, max, Bool, true, false, ◌&&◌, List, [], ◌∷◌, ◌++◌, map, length, refl, sym, ap, ap₂, ◌∙◌, subst, Option, Some, None, arith, append-nil, append_assoc}
-use Rattle.std.specs.Prelude.{nat_eq, nat_lt, if◌then◌else◌, filter, flat_map, Result, Ok, Err}
-use Rattle.std.specs.List.{list_any, AllByRecursion}
-use Rattle.std.proofs.lemmas.Bool.{cases_Bool, eq-eqb}
+use Rattle.std.proofs.Common.{◌≡◌, inl, inr, ⊎_elim, ℕ, suc, zero, ◌+◌, ◌≤◌, ◌<◌, min, max, Bool, true, false, List, [], ◌∷◌, ◌++◌, map, length, refl, sym, ap, ap₂, ◌∙◌, subst, Option, Some, None, arith, append-nil, append_assoc}
+use Rattle.std.specs.Prelude.{if◌then◌else◌, filter, flat_map, Result, Ok, Err}
+use Rattle.std.specs.List.{AllByRecursion}
 use Rattle.gr_event.specs.Limits.{IsEvent}
-use Rattle.gr_event.specs.declared.event.Event.{Event}
 use Rattle.gr_frame.specs.declared.Frame.{Frame}
 use Rattle.gr_frame.specs.declared.fault.FrameFault.{FrameFault}
 use Rattle.gr_frame.specs.Bytes.{frame_bytes}
 use Rattle.gr_frame.specs.Decode.{frame_decoded}
-use Rattle.gr_sched.specs.declared.step.Stop.{Stop}
 use Rattle.gr_sched.specs.declared.step.Step.{Step}
 use Rattle.gr_sched.specs.declared.step.Step.TheVariants as step
 use Rattle.gr_sched.specs.declared.step.Line.{Line}
 use Rattle.gr_model.specs.declared.report.Report.{Report}
 use Rattle.gr_model.specs.declared.report.Report.TheVariants as line
-use Rattle.gr_model.specs.Net.{Net, is_host, keeps_horizon, numbers, numbers_from}
-use Rattle.gr_model.specs.Broker.{Log, max_tick}
-use Rattle.gr_model.specs.World.{World, Told, view_of, log_of, frame_at, sent_lines, next, show, run_from, run_all, kept_events}
+use Rattle.gr_model.specs.Net.{Net, keeps_horizon, numbers, numbers_from}
+use Rattle.gr_model.specs.Broker.{max_tick}
+use Rattle.gr_model.specs.World.{World, Told, view_of, log_of, next, show, run_from, run_all, kept_events}
 use Rattle.gr_model.specs.Edges.{GoesOverEdge}
-use Rattle.gr_model.specs.Opening.{AreFound, begin_over}
-use Rattle.gr_model.specs.Arrivals.{Arrival, datagram, quiet, Publish, is_hosted, publishes_in, publishes_of, left_after, at_moment, comes, show_hosted, served_from, served}
-use Rattle.gr_model.specs.Served.{number_of_bytes, IsHonestAt, IsHonest, DoesSteps, AllDoSteps, as_line, publish_step, delivery_step, is_frame, steps_of_arrival, dropped_as, dropped_line, is_dropped_frame, HoldsServed, HeadlineServed}
+use Rattle.gr_model.specs.Arrivals.{Arrival, datagram, quiet, Publish, is_hosted, publishes_in, publishes_of, left_after, comes, show_hosted, served_from}
+use Rattle.gr_model.specs.Served.{number_of_bytes, IsHonestAt, IsHonest, DoesSteps, AllDoSteps, as_line, publish_step, delivery_step, is_frame, steps_of_arrival, dropped_as, dropped_line, is_dropped_frame, HoldsServed}
 use Rattle.gr_model.specs.Spelled.{NumberIn, NumbersIn, IsSpelled}
 use Rattle.gr_model.specs.Headline.{History, history, Holds_from, is_sent}
 use Rattle.gr_model.specs.Tree.{IsNet}
@@ -30,16 +26,16 @@ use Rattle.gr_model.specs.Fits.{WorldFits, StepIn, StepsIn}
 use Rattle.gr_model.proofs.Worlds.{Each}
 use Rattle.gr_model.proofs.Closed.{run_holds, frame_at_ready}
 use Rattle.gr_model.proofs.Schedules.{next_kept, clocked_fits, report_lines}
-use Rattle.gr_model.proofs.Records.{Has, has_number}
+use Rattle.gr_model.proofs.Records.{has_number}
 use Rattle.gr_model.proofs.Recorded.{runs}
 use Rattle.gr_model.proofs.Obeying.{steps_obey}
 use Rattle.gr_model.proofs.Undropped.{run_none, arrival_plain}
 use Rattle.gr_model.proofs.Strays.{AllOver, over_closed}
 use Rattle.gr_model.proofs.SweepStates.{Unknowns}
 use Rattle.gr_model.proofs.WithoutSweeps.{Whole}
-use Rattle.gr_model.proofs.AfterSweeps.{SweepsReach, holds_where_sweeps_reach, stands_where_sweeps_reach}
+use Rattle.gr_model.proofs.AfterSweeps.{holds_where_sweeps_reach, stands_where_sweeps_reach}
 use Rattle.gr_model.proofs.SecondReaches.{sweeps_reach}
-use Rattle.gr_model.proofs.Arriving.{number_sent, Sent, number_is, Does, quiet_does, frame_does, fault_does}
+use Rattle.gr_model.proofs.Arriving.{number_sent, number_is, Does, quiet_does, frame_does, fault_does}
 
 -- The end: all brokers are hosted, so all is shown
 

@@ -7,6 +7,7 @@ use Rattle.gr_model.specs.Net.{Net, numbers_from}
 use Rattle.gr_model.specs.Broker.{max_tick}
 use Rattle.gr_model.specs.World.{World, log_of, sweep_for, sweep_moment, sweep, run_all, start}
 use Rattle.gr_model.specs.Said.{said_at, TicksRise, due_upto}
+use Rattle.gr_model.specs.Headline.{found_in, begin}
 use Rattle.gr_model.specs.Settles.{SweepSettles, AllGot, is_accepted, at_sweep}
 use Rattle.gr_model.specs.Tree.{IsNet}
 use Rattle.gr_model.specs.Fits.{StepsIn, reached_in}

@@ -1,5 +1,5 @@
 -- A server: what comes to its brokers from outside, and what they do
-use Rattle.std.specs.Prelude.{ℕ, ◌&&◌, ◌++◌, min, max, Bool, true, false, nat_eq, nat_lt, if◌then◌else◌, List, [], ◌∷◌, map, filter, length, Option, Some, None, Result, Ok, Err, flat_map}
+use Rattle.std.specs.Prelude.{ℕ, ◌&&◌, ◌++◌, min, max, Bool, true, false, nat_eq, nat_lt, if◌then◌else◌, List, [], ◌∷◌, length, Option, Some, None, Result, Ok, Err, flat_map}
 use Rattle.std.specs.List.{list_any}
 use Rattle.gr_event.specs.declared.event.Event.{Event}
 use Rattle.gr_frame.specs.declared.Body.TheVariants as body
@@ -17,7 +17,7 @@ use Rattle.gr_sched.specs.declared.step.Line.{Line}
 use Rattle.gr_sched.specs.declared.step.Step.TheVariants as step
 use Rattle.gr_model.specs.declared.report.Report.{Report}
 use Rattle.gr_model.specs.declared.report.Report.TheVariants as line
-use Rattle.gr_model.specs.Net.{Net, keeps_horizon, is_host, numbers}
+use Rattle.gr_model.specs.Net.{Net, keeps_horizon, numbers}
 use Rattle.gr_model.specs.Broker.{Log, max_tick}
 use Rattle.gr_model.specs.World.{World, Told, view_of, log_of, unchanged, after, in_turn, deliver_frame, publish_now, wake_all, kept_events}
 use Rattle.gr_model.specs.Opening.{opening}

@@ -21,5 +21,4 @@ pub mod NetOf
 pub mod Opening
 pub mod Arrivals
 pub mod Served
-pub mod Spelled
 pub mod ServedExample

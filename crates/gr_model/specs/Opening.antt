@@ -1,5 +1,5 @@
 -- A start over logs that were found: the world, and what is told
-use Rattle.std.specs.Prelude.{◌≡◌, ℕ, ◌≤◌, Bool, true, false, nat_lt, if◌then◌else◌, List, [], ◌∷◌, map, filter, get_or, replicate, None, flat_map}
+use Rattle.std.specs.Prelude.{◌≡◌, ℕ, ◌≤◌, true, false, nat_lt, if◌then◌else◌, List, [], ◌∷◌, map, filter, get_or, replicate, None, flat_map}
 use Rattle.gr_model.specs.declared.report.Report.{Report}
 use Rattle.gr_model.specs.declared.report.Report.TheVariants as line
 use Rattle.gr_model.specs.Net.{Net, is_host, not_empty, numbers}
@@ -8,7 +8,7 @@ use Rattle.gr_model.specs.World.{World, Told, view_of, log_of, absorbed, unchang
 use Rattle.gr_model.specs.Said.{said_at}
 use Rattle.gr_model.specs.Fits.{LogFits}
 use Rattle.gr_model.specs.Spelled.{LogIn}
-use Rattle.gr_model.specs.Headline.{Recorded, History, opened_of}
+use Rattle.gr_model.specs.Headline.{Recorded, History}
 
 -- A log as it was found, with its ticks and events within their limits. Its events are those past its cut: what was cut is told
 -- to nobody any more
