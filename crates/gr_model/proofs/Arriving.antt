@@ -29,6 +29,7 @@ use Rattle.gr_model.specs.Fits.{WorldFits}
 use Rattle.gr_model.proofs.Clash.{no_frame_clashes}
 use Rattle.gr_model.proofs.HeardSteps.{sent_line_number}
 use Rattle.gr_model.proofs.ReplyLines.{frame_told}
+use Rattle.gr_model.proofs.CallLines.{IsForeign, quieted_none, deliver_none}
 
 -- Lines of frames by their bytes
 
@@ -183,11 +184,13 @@ delivered_step net w k f e = ap (λ (o : Option Frame). elim o [ None ↦ unchan
 pub record Does (net : Net) (w : World) (left : List Publish) (a : Arrival) (steps : List Line) : Type 0 where
   pub world : (comes net (numbers net.brokers) w left a).world ≡ (run_all net w steps).world
   pub lines : (comes net (numbers net.brokers) w left a).lines ≡ (run_all net w steps).lines ++ dropped_line a
+  pub called : (f : Report → Bool) → IsForeign f → filter f (run_all net w steps).lines ≡ []
 
-does : (net : Net) (w : World) (left : List Publish) (a : Arrival) (steps : List Line) → dropped_line a ≡ [] → comes net (numbers net.brokers) w left a ≡ run_all net w steps → Does net w left a steps
-does net w left a steps none e = record {
+does : (net : Net) (w : World) (left : List Publish) (a : Arrival) (steps : List Line) → dropped_line a ≡ [] → comes net (numbers net.brokers) w left a ≡ run_all net w steps → ((f : Report → Bool) → IsForeign f → filter f (comes net (numbers net.brokers) w left a).lines ≡ []) → Does net w left a steps
+does net w left a steps none e called = record {
   world = ap (λ (t : Told). t.world) e;
   lines = ap (λ (t : Told). t.lines) e ∙ (sym (append-nil (run_all net w steps).lines) ∙ ap (λ (z : List Report). (run_all net w steps).lines ++ z) (sym none));
+  called = λ f k. ap (λ (t : Told). filter f t.lines) (sym e) ∙ called f k;
 }
 
 pub quiet_does : (net : Net) (w : World) (left : List Publish) (moment : ℕ) (lines : List Report) → Does net w left (quiet moment) (steps_of_arrival net lines left (quiet moment))
@@ -199,7 +202,7 @@ quiet_does net w left moment lines =
     does net w left (quiet moment) (steps_of_arrival net lines left (quiet moment)) refl (sym (
     clock_first net w now (publish_step left ++ wakes) ∙ (run_append net u (publish_step left) wakes
     ∙ (ap (λ (s : Told). after s (λ v. run_all net v wakes)) (published_run net u left)
-    ∙ (let s : Told = published_first net u left in ap (λ (r : Told). record { world = r.world; lines = s.lines ++ r.lines }) (wakes_run net (numbers net.brokers) s.world))))))
+    ∙ (let s : Told = published_first net u left in ap (λ (r : Told). record { world = r.world; lines = s.lines ++ r.lines }) (wakes_run net (numbers net.brokers) s.world)))))) (λ f k. quieted_none f k net (numbers net.brokers) u left)
 
 pub frame_does : (net : Net) (w : World) (left : List Publish) (b moment k : ℕ) (bytes : List ℕ) (f : Frame) (lines : List Report) → IsNet net → WorldFits net (at_moment w moment) → frame_decoded bytes ≡ Ok f → frame_at w k ≡ Some f → f.head.to ≡ b → GoesOverEdge net f → number_of_bytes b bytes lines ≡ Some k →
     Does net w left (datagram b bytes moment) (steps_of_arrival net lines left (datagram b bytes moment))
@@ -211,7 +214,8 @@ frame_does net w left b moment k bytes f lines n fit d at to over number =
     let is : steps_of_arrival net lines left (datagram b bytes moment) ≡ steps = ap₂ (λ (r : Result Frame FrameFault) (o : Option ℕ). as_line (step.Clock now) ∷ (if is_frame r then delivery_step o else [])) d number in
     subst (λ (z : List Line). Does net w left (datagram b bytes moment) z) (sym is) (does net w left (datagram b bytes moment) steps (ap (dropped_as b) d) (
     ap (receives net u b) d ∙ (received net u k b f n fit at to over
-    ∙ sym (clock_first net w now (as_line (step.Deliver k) ∷ []) ∙ (ap (λ (s : Told). after s (λ v. unchanged v [])) (delivered_step net u k f at) ∙ one_step (deliver_frame net u f))))))
+    ∙ sym (clock_first net w now (as_line (step.Deliver k) ∷ []) ∙ (ap (λ (s : Told). after s (λ v. unchanged v [])) (delivered_step net u k f at) ∙ one_step (deliver_frame net u f)))))
+      (λ g foreign. ap (λ (t : Told). filter g t.lines) (ap (receives net u b) d ∙ received net u k b f n fit at to over) ∙ deliver_none g foreign net u f))
 
 pub fault_does : (net : Net) (w : World) (left : List Publish) (b moment : ℕ) (bytes : List ℕ) (fault : FrameFault) (lines : List Report) → frame_decoded bytes ≡ Err fault → Does net w left (datagram b bytes moment) (steps_of_arrival net lines left (datagram b bytes moment))
 unfolding comes receives
@@ -225,4 +229,5 @@ fault_does net w left b moment bytes fault lines d =
     subst (λ (z : List Line). Does net w left (datagram b bytes moment) z) (sym is) (record {
       world = ap (λ (t : Told). t.world) e ∙ sym (ap (λ (t : Told). t.world) r);
       lines = ap (λ (t : Told). t.lines) e ∙ sym (ap₂ (λ (x y : List Report). x ++ y) (ap (λ (t : Told). t.lines) r) (ap (dropped_as b) d));
+      called = λ f k. ap (λ (t : Told). filter f t.lines) r;
     })

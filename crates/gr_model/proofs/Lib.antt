@@ -87,5 +87,6 @@ pub mod SpelledRuns
 pub mod SpelledCalls
 pub mod Spelled
 pub mod ServedOver
-pub mod Undropped
+pub mod CallLines
 pub mod ServedExample
+pub mod OpenedLines

@@ -20,7 +20,7 @@ use Rattle.gr_model.specs.declared.report.Report.TheVariants as line
 use Rattle.gr_model.specs.Net.{Net, keeps_horizon, not_empty, is_empty, numbers}
 use Rattle.gr_model.specs.Broker.{View, Log, Outcome, empty_log, head, learn, receive, clashes, new_ticks, forward, forward_frames, know_frames, started}
 use Rattle.gr_model.specs.World.{World, Told, blank_view, view_of, log_of, absorbed, unchanged, in_turn, deliver_frame, sent_lines}
-use Rattle.gr_model.specs.Opening.{IsFound, found_log, AreFound, over_logs, opened_line, opened_for}
+use Rattle.gr_model.specs.Opening.{IsFound, found_log, AreFound, over_logs, found_line, opened_for}
 use Rattle.gr_model.specs.Truth.{Facts, KnowsTruth, AllWantTruth}
 use Rattle.gr_model.specs.Said.{TicksRise, due_upto}
 use Rattle.gr_model.specs.Tree.{IsNet, IsSubscriber}
@@ -89,7 +89,7 @@ no_frames net f p b [] ws a = refl
 no_frames net f p b (c ∷ cs) [] a = refl
 no_frames net f p b (c ∷ cs) (w ∷ ws) a = ap₂ (λ (x : Known) (y : List Frame). know_frames b c p x ++ y) (nothing_forward net p c w a.0.runs) (no_frames net f p b cs ws a.1)
 
-learns_silently : (net : Net) (w : World) (p : ℕ) → IsNet net → WorldFits net w → p < net.publishers → (learns net w p).frames ≡ []
+pub learns_silently : (net : Net) (w : World) (p : ℕ) → IsNet net → WorldFits net w → p < net.publishers → (learns net w p).frames ≡ []
 unfolding learn
 learns_silently net w p n f j =
     let v = view_of w (net.host p) p in
@@ -190,13 +190,13 @@ opening_learns net logs w ls p n j some o =
       ]);
     }
 
-opened_line_says : (c : Bool) (p last settled cut : ℕ) → (let ls : List Report = if c then line.Opened p last settled cut ∷ [] else [] in Silent ls × ((q : ℕ) → CutFree q ls) × (filter is_sent ls ≡ []))
-opened_line_says true p last settled cut = (λ s q. record { got = refl; horizon = λ n. refl; rise = λ n. tt }, λ q. tt, refl)
-opened_line_says false p last settled cut = (λ s q. Neutral-nil s q, λ q. tt, refl)
+found_line_says : (c : Bool) (p last settled cut : ℕ) → (let ls : List Report = if c then line.Opened p last settled cut ∷ [] else [] in Silent ls × ((q : ℕ) → CutFree q ls) × (filter is_sent ls ≡ []))
+found_line_says true p last settled cut = (λ s q. record { got = refl; horizon = λ n. refl; rise = λ n. tt }, λ q. tt, refl)
+found_line_says false p last settled cut = (λ s q. Neutral-nil s q, λ q. tt, refl)
 
-opened_line_named : (net : Net) (c : Bool) (p last settled cut : ℕ) → (let ls : List Report = if c then line.Opened p last settled cut ∷ [] else [] in Named net Any ls)
-opened_line_named net true p last settled cut = tt
-opened_line_named net false p last settled cut = tt
+found_line_named : (net : Net) (c : Bool) (p last settled cut : ℕ) → (let ls : List Report = if c then line.Opened p last settled cut ∷ [] else [] in Named net Any ls)
+found_line_named net true p last settled cut = tt
+found_line_named net false p last settled cut = tt
 
 -- one publisher more
 pub opening_turn : (net : Net) (logs : List Log) (w : World) (ls : List Report) (p : ℕ) → IsNet net → p < net.publishers → Opening net logs w ls → Opening net logs (opened_for net w p).world (ls ++ (opened_for net w p).lines)
@@ -204,13 +204,13 @@ unfolding opened_for
 opening_turn net logs w ls p n j o = go (not_empty (net.subscribers_at (net.host p))) refl
   where
     front : List Report
-    front = opened_line w p
+    front = found_line (log_of w p) p
 
     begun : Opening net logs w (ls ++ front)
     begun =
         let l : Log = log_of w p in
-        let s = opened_line_says (nat_lt 0 l.settled) p l.last l.settled l.cut in
-        opening_on net logs w ls front s.0 s.1 s.2 (opened_line_named net (nat_lt 0 l.settled) p l.last l.settled l.cut) o
+        let s = found_line_says (nat_lt 0 l.settled) p l.last l.settled l.cut in
+        opening_on net logs w ls front s.0 s.1 s.2 (found_line_named net (nat_lt 0 l.settled) p l.last l.settled l.cut) o
 
     go : (q : Bool) → not_empty (net.subscribers_at (net.host p)) ≡ q → (let t : Told = elim q [ true ↦ absorbed w (net.host p) p (learns net w p) | false ↦ unchanged w [] ] in Opening net logs t.world (ls ++ (front ++ t.lines)))
     go true e =
@@ -230,7 +230,7 @@ opening_turns net logs w ls (p ∷ ps) n a o =
 abbrev pub MeetsAt : Net → World → ℕ → Type 0
 MeetsAt net w q = (view_of w (net.host q) q).horizon ≡ (log_of w q).settled
 
-learned_meets : (net : Net) (w : World) (p : ℕ) → IsNet net → WorldFits net w → p < net.publishers → not_empty (net.subscribers_at (net.host p)) ≡ true → MeetsAt net (absorbed w (net.host p) p (learns net w p)).world p
+pub learned_meets : (net : Net) (w : World) (p : ℕ) → IsNet net → WorldFits net w → p < net.publishers → not_empty (net.subscribers_at (net.host p)) ≡ true → MeetsAt net (absorbed w (net.host p) p (learns net w p)).world p
 learned_meets net w p n f j some =
     let b = net.host p in
     let i = n.host_in p j in
@@ -287,7 +287,7 @@ turns_meet net logs w ls (p ∷ ps) q n a o some m =
 
 -- Before the first publisher
 
-over_view : (net : Net) (logs : List Log) (b p : ℕ) → b < net.brokers → p < net.publishers → view_of (over_logs net logs) b p ≡ started net p b (found_log logs p)
+pub over_view : (net : Net) (logs : List Log) (b p : ℕ) → b < net.brokers → p < net.publishers → view_of (over_logs net logs) b p ≡ started net p b (found_log logs p)
 unfolding over_logs
 over_view net logs b p i j =
     let g : ℕ → ℕ → View = λ c q. started net q c (found_log logs q) in

@@ -249,7 +249,7 @@ step_replies net w h n (step.Bytes j) t k i = go (frame_at w j) ∙ ap (bytes_re
 
 -- Numbers
 
-numbers_sent : (n : ℕ) (fs : List Frame) → map sent_number (sent_lines n fs) ≡ numbers_from n (length fs)
+pub numbers_sent : (n : ℕ) (fs : List Frame) → map sent_number (sent_lines n fs) ≡ numbers_from n (length fs)
 numbers_sent n [] = refl
 numbers_sent n (f ∷ fs) = ap₂ (λ x y. x ∷ y) (sent_line_number n f) (numbers_sent (suc n) fs)
 

@@ -21,7 +21,8 @@ use Rattle.gr_model.proofs.SpelledCalls.{started_in}
 use Rattle.gr_model.proofs.SpelledRuns.{all_made}
 use Rattle.gr_model.proofs.Spelled.{IsSmall, deliver_in, next_in}
 use Rattle.gr_model.proofs.Opening.{Opening, nothing, nothing_is_true, delivered_nothing, opening_turn, over_opening}
-use Rattle.gr_model.proofs.OverLogs.{all_opened, publishers_below, opened, opened_whole, opened_tells}
+use Rattle.gr_model.proofs.OverLogs.{all_opened, publishers_below, opened, opened_whole}
+use Rattle.gr_model.proofs.OpenedLines.{opened_tells}
 use Rattle.gr_model.proofs.Serving.{Ready, publishes_are_in, holds, all_do}
 
 -- The opening is within the limits

@@ -15,12 +15,13 @@ use Rattle.gr_model.specs.declared.report.Report.{Report}
 use Rattle.gr_model.specs.declared.report.Report.TheVariants as line
 use Rattle.gr_model.specs.Net.{Net, keeps_horizon, numbers, numbers_from}
 use Rattle.gr_model.specs.Broker.{max_tick}
-use Rattle.gr_model.specs.World.{World, Told, view_of, log_of, next, show, run_from, run_all, kept_events}
+use Rattle.gr_model.specs.World.{World, Told, view_of, log_of, unchanged, sent_lines, next, show, run_from, run_all, kept_events}
 use Rattle.gr_model.specs.Edges.{GoesOverEdge}
 use Rattle.gr_model.specs.Arrivals.{Arrival, datagram, quiet, Publish, is_hosted, publishes_in, publishes_of, left_after, comes, show_hosted, served_from}
-use Rattle.gr_model.specs.Served.{number_of_bytes, IsHonestAt, IsHonest, DoesSteps, AllDoSteps, as_line, publish_step, delivery_step, is_frame, steps_of_arrival, dropped_as, dropped_line, is_dropped_frame, HoldsServed}
+use Rattle.gr_model.specs.Served.{number_of_bytes, IsHonestAt, IsHonest, DoesSteps, AllDoSteps, as_line, publish_step, delivery_step, is_frame, steps_of_arrival, dropped_as, dropped_line, is_dropped, ArrivalTold, HoldsServed}
 use Rattle.gr_model.specs.Spelled.{NumberIn, NumbersIn, IsSpelled}
-use Rattle.gr_model.specs.Headline.{History, history, Holds_from, is_sent}
+use Rattle.gr_model.specs.Headline.{History, history, Holds_from, is_record_line, is_doubt_line, is_sent, sent_number, sent_count}
+use Rattle.gr_model.specs.Replies.{is_reply}
 use Rattle.gr_model.specs.Tree.{IsNet}
 use Rattle.gr_model.specs.Fits.{WorldFits, StepIn, StepsIn}
 use Rattle.gr_model.proofs.Worlds.{Each}
@@ -29,7 +30,11 @@ use Rattle.gr_model.proofs.Schedules.{next_kept, clocked_fits, report_lines}
 use Rattle.gr_model.proofs.Records.{has_number}
 use Rattle.gr_model.proofs.Recorded.{runs}
 use Rattle.gr_model.proofs.Obeying.{steps_obey}
-use Rattle.gr_model.proofs.Undropped.{run_none, arrival_plain}
+use Rattle.gr_model.proofs.CallLines.{drops_foreign, replies_foreign}
+use Rattle.gr_model.proofs.RecordLines.{Sends, sends_none, sends_seq}
+use Rattle.gr_model.proofs.RecordSteps.{step_sends}
+use Rattle.gr_model.proofs.ReplyLines.{numbers_sent}
+use Rattle.gr_model.proofs.SoFar.{sent_count_is, lines_long}
 use Rattle.gr_model.proofs.Strays.{AllOver, over_closed}
 use Rattle.gr_model.proofs.SweepStates.{Unknowns}
 use Rattle.gr_model.proofs.WithoutSweeps.{Whole}
@@ -52,6 +57,56 @@ shown net w n = ap (λ (z : List Report). line.Frames (length w.frames) ∷ (z +
     logs : (a k : ℕ) → a + k ≤ net.publishers → flat_map (λ p. let l = log_of w p in if is_hosted net (numbers net.brokers) p then line.LogOf p l.last l.settled l.cut (kept_events l) ∷ [] else []) (numbers_from a k) ≡ map log_line (numbers_from a k)
     logs a zero h = refl
     logs a (suc k) h = ap₂ (λ (x y : List Report). x ++ y) (ap (λ c. if c then log_line a ∷ [] else []) (host_hosted net a n (omega arith))) (logs (suc a) k (omega arith))
+
+-- what is shown is the record, and then the horizons
+shown_parts : (net : Net) (w : World) → show net w ≡ filter is_record_line (show net w) ++ filter is_doubt_line (show net w)
+unfolding show
+shown_parts net w = ap (λ (z : List Report). line.Frames (length w.frames) ∷ z) (ap₂ (λ (x y : List Report). x ++ y) (sym (records (numbers net.publishers))) (sym (ap₂ (λ (x y : List Report). x ++ y) (plain (numbers net.publishers)) (doubts (numbers net.brokers)))) ∙ whole)
+  where
+    log_line : ℕ → Report
+    log_line p = let l = log_of w p in line.LogOf p l.last l.settled l.cut (kept_events l)
+
+    here : ℕ → ℕ → List Report
+    here b p = if keeps_horizon net p b then line.Doubt b p (view_of w b p).horizon ∷ [] else []
+
+    there : ℕ → List Report
+    there b = flat_map (here b) (numbers net.publishers)
+
+    logs : List Report
+    logs = map log_line (numbers net.publishers)
+
+    kept : List Report
+    kept = flat_map there (numbers net.brokers)
+
+    records : (ps : List ℕ) → filter is_record_line (map log_line ps) ≡ map log_line ps
+    records [] = refl
+    records (p ∷ ps) = ap (λ (z : List Report). log_line p ∷ z) (records ps)
+
+    plain : (ps : List ℕ) → filter is_doubt_line (map log_line ps) ≡ []
+    plain [] = refl
+    plain (p ∷ ps) = plain ps
+
+    one : (b p : ℕ) (c : Bool) → (let ls : List Report = if c then line.Doubt b p (view_of w b p).horizon ∷ [] else [] in (filter is_doubt_line ls ≡ ls) × (filter is_record_line ls ≡ []))
+    one b p true = (refl, refl)
+    one b p false = (refl, refl)
+
+    row : (b : ℕ) (ps : List ℕ) → (filter is_doubt_line (flat_map (here b) ps) ≡ flat_map (here b) ps) × (filter is_record_line (flat_map (here b) ps) ≡ [])
+    row b [] = (refl, refl)
+    row b (p ∷ ps) =
+        let x = one b p (keeps_horizon net p b) in
+        let y = row b ps in
+        (filter-append is_doubt_line (here b p) (flat_map (here b) ps) ∙ ap₂ (λ (s t : List Report). s ++ t) x.0 y.0, filter-append is_record_line (here b p) (flat_map (here b) ps) ∙ ap₂ (λ (s t : List Report). s ++ t) x.1 y.1)
+
+    doubts : (bs : List ℕ) → filter is_doubt_line (flat_map there bs) ≡ flat_map there bs
+    doubts [] = refl
+    doubts (b ∷ bs) = filter-append is_doubt_line (there b) (flat_map there bs) ∙ ap₂ (λ (s t : List Report). s ++ t) (row b (numbers net.publishers)).0 (doubts bs)
+
+    unrecorded : (bs : List ℕ) → filter is_record_line (flat_map there bs) ≡ []
+    unrecorded [] = refl
+    unrecorded (b ∷ bs) = filter-append is_record_line (there b) (flat_map there bs) ∙ ap₂ (λ (s t : List Report). s ++ t) (row b (numbers net.publishers)).1 (unrecorded bs)
+
+    whole : filter is_record_line logs ++ (filter is_doubt_line logs ++ filter is_doubt_line kept) ≡ filter is_record_line (logs ++ kept) ++ filter is_doubt_line (logs ++ kept)
+    whole = ap₂ (λ (s t : List Report). s ++ t) (sym (filter-append is_record_line logs kept ∙ (ap (λ (z : List Report). filter is_record_line logs ++ z) (unrecorded (numbers net.brokers)) ∙ append-nil (filter is_record_line logs)))) (sym (filter-append is_doubt_line logs kept))
 
 -- Publishes that are left
 
@@ -142,13 +197,26 @@ dropped_unsent (datagram b bytes moment) = go (frame_decoded bytes)
     go (Ok f) = refl
     go (Err fault) = refl
 
-dropped_taken : (a : Arrival) → filter is_dropped_frame (dropped_line a) ≡ []
-dropped_taken (quiet moment) = refl
-dropped_taken (datagram b bytes moment) = go (frame_decoded bytes)
+dropped_itself : (a : Arrival) → filter is_dropped (dropped_line a) ≡ dropped_line a
+dropped_itself (quiet moment) = refl
+dropped_itself (datagram b bytes moment) = go (frame_decoded bytes)
   where
-    go : (r : Result Frame FrameFault) → filter is_dropped_frame (dropped_as b r) ≡ []
+    go : (r : Result Frame FrameFault) → filter is_dropped (dropped_as b r) ≡ dropped_as b r
     go (Ok f) = refl
     go (Err fault) = refl
+
+dropped_unreplied : (a : Arrival) → filter is_reply (dropped_line a) ≡ []
+dropped_unreplied (quiet moment) = refl
+dropped_unreplied (datagram b bytes moment) = go (frame_decoded bytes)
+  where
+    go : (r : Result Frame FrameFault) → filter is_reply (dropped_as b r) ≡ []
+    go (Ok f) = refl
+    go (Err fault) = refl
+
+-- the sent lines of a run are those of the frames that it sends
+run_sends : (net : Net) (w : World) (ls : List Line) → IsNet net → WorldFits net w → StepsIn net ls → Sends w (run_all net w ls)
+run_sends net w [] n f i = sends_none w (unchanged w []) refl refl
+run_sends net w (l ∷ ls) n f i = sends_seq w (next net w l) (λ u. run_all net u ls) (step_sends net w l n f i.0) (run_sends net (next net w l).world ls n (next_kept net w l n f i.0).fits i.1)
 
 -- The run
 
@@ -222,23 +290,37 @@ module _ (net : Net) (n : IsNet net) (on : 1 ≤ net.quiet) (retry : 1 ≤ net.r
       let g : History = history net h steps (run_from net w steps) in
       subst (λ z. IsHonest g.lines arrivals (served_from net (numbers net.brokers) z (left_after left a) arrivals)) y.does.world (honest_same (h.lines ++ t.lines) g.lines arrivals (served_from net (numbers net.brokers) t.world (left_after left a) arrivals) y.same x.1)
 
+  arrival_told : (w : World) (h : History) (left : List Publish) (a : Arrival) → Ready net P w h → Turn w h left a → (let t : Told = comes net (numbers net.brokers) w left a in ArrivalTold h a t.lines)
+  arrival_told w h left a r y =
+      let steps = steps_of_arrival net h.lines left a in
+      let t = comes net (numbers net.brokers) w left a in
+      let lines : List Report = (run_all net w steps).lines in
+      let s = run_sends net w steps n r.whole.stands.fits y.are_in.steps in
+      let parted : (f : Report → Bool) → filter f t.lines ≡ filter f lines ++ filter f (dropped_line a) = λ f. ap (filter f) y.does.lines ∙ filter-append f lines (dropped_line a) in
+      let sent : filter is_sent t.lines ≡ sent_lines (suc (length w.frames)) s.more = parted is_sent ∙ (ap₂ (λ (p q : List Report). p ++ q) s.told (dropped_unsent a) ∙ append-nil (sent_lines (suc (length w.frames)) s.more)) in
+      record {
+        dropped = parted is_dropped ∙ ap₂ (λ (p q : List Report). p ++ q) (y.does.called is_dropped drops_foreign) (dropped_itself a);
+        unreplied = parted is_reply ∙ ap₂ (λ (p q : List Report). p ++ q) (y.does.called is_reply replies_foreign) (dropped_unreplied a);
+        numbered = ap (map sent_number) sent ∙ (numbers_sent (suc (length w.frames)) s.more ∙ ap₂ (λ a k. numbers_from (suc a) k) (sym (sent_count_is net w h r.whole.stands)) (sym (ap length sent ∙ lines_long (suc (length w.frames)) s.more)));
+      }
+
   pub holds : (arrivals : List Arrival) (w : World) (h : History) (left : List Publish) → Ready net P w h → LeftIn net left → IsHonest h.lines arrivals (served_from net (numbers net.brokers) w left arrivals) → HoldsServed net h left arrivals (served_from net (numbers net.brokers) w left arrivals)
   unfolding served_from next run_from
   holds [] w h left r l x =
-      subst (λ (z : List Report). Holds_from net h (as_line step.Show ∷ []) (z ∷ [])) (sym (shown net w n))
-      (holds_where_sweeps_reach net w h (as_line step.Show ∷ []) n (sweeps_reach net n on retry) on (tt, tt) r.whole r.unknown)
+      subst (λ (z : List Report). (z ≡ filter is_record_line z ++ filter is_doubt_line z) × Holds_from net h (as_line step.Show ∷ []) (z ∷ [])) (sym (shown net w n))
+      (shown_parts net w, holds_where_sweeps_reach net w h (as_line step.Show ∷ []) n (sweeps_reach net n on retry) on (tt, tt) r.whole r.unknown)
   holds (a ∷ arrivals) w h left r l x =
       let steps = steps_of_arrival net h.lines left a in
       let parts = run_from net w steps in
       let y = turn w h left a r l x.0 in
-      let g : History = history net h steps parts in (
+      let g : History = history net h steps parts in (arrival_told w h left a r y, (
         parts,
         (
           y.does.lines ∙ ap (λ (z : List Report). z ++ dropped_line a) (sym (report_lines net w steps)),
           holds_where_sweeps_reach net w h steps n (sweeps_reach net n on retry) on y.are_in.steps r.whole r.unknown,
           subst (λ z. HoldsServed net g (left_after left a) arrivals (served_from net (numbers net.brokers) z (left_after left a) arrivals)) (sym y.does.world) (holds arrivals (run_all net w steps).world g (left_after left a) y.ready (left_in net left a l) (still_honest w h left a arrivals y x)),
         ),
-      )
+      ))
 
   -- the steps are the same by the lines of frames alone
   steps_same : (xs ys : List Report) (left : List Publish) (a : Arrival) → filter is_sent xs ≡ filter is_sent ys → steps_of_arrival net xs left a ≡ steps_of_arrival net ys left a
@@ -247,18 +329,14 @@ module _ (net : Net) (n : IsNet net) (on : 1 ≤ net.quiet) (retry : 1 ≤ net.r
 
   pub all_do : (arrivals : List Arrival) (w : World) (h : History) (left : List Publish) (lines : List Report) → Ready net P w h → LeftIn net left → filter is_sent h.lines ≡ filter is_sent lines → IsHonest h.lines arrivals (served_from net (numbers net.brokers) w left arrivals) → AllDoSteps net w lines left arrivals
   unfolding served_from
-  all_do [] w h left lines r l e x = tt
+  all_do [] w h left lines r l e x = sym e ∙ r.whole.stands.sent
   all_do (a ∷ arrivals) w h left lines r l e x =
       let steps = steps_of_arrival net h.lines left a in
       let t = comes net (numbers net.brokers) w left a in
       let y = turn w h left a r l x.0 in
       let g : History = history net h steps (run_from net w steps) in
       let same : filter is_sent g.lines ≡ filter is_sent (lines ++ t.lines) = sym y.same ∙ (filter-append is_sent h.lines t.lines ∙ (ap (λ (z : List Report). z ++ filter is_sent t.lines) e ∙ sym (filter-append is_sent lines t.lines))) in (
-        subst (λ (z : List Line). DoesSteps net w left a z) (steps_same h.lines lines left a e) (record {
-          world = y.does.world;
-          lines = y.does.lines;
-          obey = steps_obey net w steps n on r.whole.stands.fits y.are_in.steps;
-          taken = ap (filter is_dropped_frame) y.does.lines ∙ (filter-append is_dropped_frame (run_all net w steps).lines (dropped_line a) ∙ ap₂ (λ (p q : List Report). p ++ q) (run_none net w steps (arrival_plain net h.lines left a)) (dropped_taken a));
-        }),
+        sym e ∙ r.whole.stands.sent,
+        subst (λ (z : List Line). DoesSteps net w left a z) (steps_same h.lines lines left a e) (record { world = y.does.world; lines = y.does.lines; obey = steps_obey net w steps n on r.whole.stands.fits y.are_in.steps }),
         subst (λ z. AllDoSteps net z (lines ++ t.lines) (left_after left a) arrivals) (sym y.does.world) (all_do arrivals (run_all net w steps).world g (left_after left a) (lines ++ t.lines) y.ready (left_in net left a l) same (still_honest w h left a arrivals y x)),
       )

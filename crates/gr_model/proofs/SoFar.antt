@@ -46,7 +46,7 @@ pub record Stands (net : Net) (w : World) (h : History) : Type 0 where
   pub bare : Bare net w h.bare
   pub asks : AsksFit net w
 
-lines_long : (n : ℕ) (fs : List Frame) → length (sent_lines n fs) ≡ length fs
+pub lines_long : (n : ℕ) (fs : List Frame) → length (sent_lines n fs) ≡ length fs
 lines_long n [] = refl
 lines_long n (f ∷ fs) = ap suc (lines_long (suc n) fs)
 

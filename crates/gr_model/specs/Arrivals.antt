@@ -57,8 +57,8 @@ left_after (x ∷ left) (quiet moment) = left
 abbrev pub at_moment : World → ℕ → World
 at_moment w moment = let now : ℕ = min moment max_tick in record { clock = now; most = max now w.most; frames = w.frames; views = w.views; logs = w.logs }
 
--- The frame fits the broker: it is for it, of a publisher that there is, and curiosity comes from a child, all else from the
--- next broker towards the host
+-- The frame fits the broker: it is addressed to it, of a publisher that there is, and curiosity comes from a child, all else from
+-- the next broker towards the host
 abbrev pub fits_broker : Net → ℕ → Frame → Bool
 fits_broker net b f =
     (nat_eq f.head.to b && nat_lt f.head.publisher net.publishers)
@@ -83,7 +83,7 @@ least_clash know f = elim f.body [ body.Knowledge runs ↦ first_of (clash_runs 
 abbrev pub clash_line : ℕ → Known → Frame → ℕ → Report
 clash_line b know f t = line.DroppedClash b t (known_at know t) (elim f.body [ body.Knowledge runs ↦ known_at runs t | _ ↦ Q ])
 
--- the number of a fault of a frame
+-- the number of a fault of a frame, from 1 to 9; decoding never answers want of memory
 abbrev pub fault_number : FrameKind → ℕ
 fault_number Memory = 0
 fault_number Short = 1
@@ -140,6 +140,12 @@ unfoldable pub served_from : Net → List ℕ → World → List Publish → Lis
 served_from net hosted w left [] = show_hosted net hosted w ∷ []
 served_from net hosted w left (a ∷ arrivals) = let t = comes net hosted w left a in t.lines ∷ served_from net hosted t.world (left_after left a) arrivals
 
--- A run over a journal: the opening, then each arrival in turn, then what is shown
+-- the world after arrivals: its frames are what was offered to the network, in order, and its logs what the lanes hold
+unfoldable pub arrived : Net → List ℕ → World → List Publish → List Arrival → World
+arrived net hosted w left [] = w
+arrived net hosted w left (a ∷ arrivals) = let t = comes net hosted w left a in arrived net hosted t.world (left_after left a) arrivals
+
+-- A run over a journal: the opening, then each arrival in turn, then what is shown. The hosted brokers are given in rising order; of
+-- a publisher that is not hosted no log is looked at; and the journal ends with the list
 unfoldable pub served : Net → List ℕ → List Log → List Line → List Arrival → List (List Report)
 served net hosted logs steps arrivals = let o = opening net hosted logs in o.lines ∷ served_from net hosted o.world (publishes_of net hosted steps) arrivals

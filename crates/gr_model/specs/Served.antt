@@ -1,5 +1,5 @@
 -- The headline of a run over a journal: an arrival is a few steps of a schedule, and of those the headline holds
-use Rattle.std.specs.Prelude.{◌≡◌, ◌⊎◌, ℕ, min, Bool, true, false, ◌&&◌, nat_eq, bytes_eq, if◌then◌else◌, List, [], ◌∷◌, ◌++◌, map, filter, Option, Some, None, Result, Ok, Err, flat_map}
+use Rattle.std.specs.Prelude.{◌≡◌, ◌⊎◌, ℕ, suc, min, Bool, true, false, ◌&&◌, nat_eq, bytes_eq, if◌then◌else◌, List, [], ◌∷◌, ◌++◌, map, filter, Option, Some, None, Result, Ok, Err, flat_map}
 use Rattle.gr_frame.specs.declared.Frame.{Frame}
 use Rattle.gr_frame.specs.declared.fault.FrameFault.{FrameFault}
 use Rattle.gr_frame.specs.Bytes.{frame_bytes}
@@ -9,18 +9,18 @@ use Rattle.gr_sched.specs.declared.step.Step.{Step}
 use Rattle.gr_sched.specs.declared.step.Step.TheVariants as step
 use Rattle.gr_model.specs.declared.report.Report.{Report}
 use Rattle.gr_model.specs.declared.report.Report.TheVariants as line
-use Rattle.gr_model.specs.Net.{Net, numbers}
+use Rattle.gr_model.specs.Net.{Net, numbers, numbers_from}
 use Rattle.gr_model.specs.Broker.{Log, max_tick}
-use Rattle.gr_model.specs.Opening.{begin_over}
-use Rattle.gr_model.specs.World.{World, Told, run_from, run_all}
+use Rattle.gr_model.specs.Opening.{publishers_at, told_at_opening, begin_over}
+use Rattle.gr_model.specs.World.{World, Told, sent_lines, run_from, run_all}
 use Rattle.gr_model.specs.Obeys.{StepsObey}
 use Rattle.gr_model.specs.Arrivals.{Arrival, datagram, quiet, Publish, publishes_of, left_after, fault_number, comes}
-use Rattle.gr_model.specs.Headline.{History, history, Holds_from, is_record_line, is_sent, sent_number, opened_of}
-use Rattle.gr_model.specs.Replies.{frame_of_line}
+use Rattle.gr_model.specs.Headline.{History, history, Holds_from, is_record_line, is_doubt_line, is_sent, sent_number, sent_count}
+use Rattle.gr_model.specs.Replies.{frame_of_line, is_reply}
 
 -- An honest journal
 
--- the line tells a frame to the broker that has these bytes
+-- the line says that a frame with these bytes was sent to the broker
 abbrev pub tells_bytes : ℕ → List ℕ → Report → Bool
 tells_bytes b bytes l = is_sent l && elim (frame_of_line l) [ Some f ↦ nat_eq f.head.to b && bytes_eq (frame_bytes f) bytes | None ↦ false ]
 
@@ -78,44 +78,56 @@ dropped_line (quiet moment) = []
 abbrev pub joined : List (List Report) → List Report
 joined parts = flat_map (λ r. r) parts
 
--- the line drops a frame: a stray, or one that clashes
-abbrev pub is_dropped_frame : Report → Bool
-is_dropped_frame (line.DroppedStray b from to p) = true
-is_dropped_frame (line.DroppedClash b t kept came) = true
-is_dropped_frame _ = false
+-- the line drops a datagram
+abbrev pub is_dropped : Report → Bool
+is_dropped (line.DroppedNotFrame b fault at) = true
+is_dropped (line.DroppedStray b from to p) = true
+is_dropped (line.DroppedClash b t kept came) = true
+is_dropped _ = false
 
 -- An arrival leaves the world of its steps and tells their lines, and then that of a datagram that is no frame. Each call of the
--- steps obeys its rule, and no frame is dropped
+-- steps obeys its rule
 pub record DoesSteps (net : Net) (w : World) (left : List Publish) (a : Arrival) (steps : List Line) : Type 0 where
   pub world : (comes net (numbers net.brokers) w left a).world ≡ (run_all net w steps).world
   pub lines : (comes net (numbers net.brokers) w left a).lines ≡ (run_all net w steps).lines ++ dropped_line a
   pub obey : StepsObey net w steps (run_from net w steps)
-  pub taken : filter is_dropped_frame (comes net (numbers net.brokers) w left a).lines ≡ []
 
--- so does each, in the world that those before it leave and after the lines told so far
+-- So does each, in the world that those before it leave and after the lines told so far. The lines of frames tell all frames of
+-- that world, numbered 1, 2, 3 and so on
 abbrev pub AllDoSteps : Net → World → List Report → List Publish → List Arrival → Type 0
-AllDoSteps net w lines left [] = Unit {0}
+AllDoSteps net w lines left [] = filter is_sent lines ≡ sent_lines 1 w.frames
 AllDoSteps net w lines left (a ∷ arrivals) =
-    DoesSteps net w left a (steps_of_arrival net lines left a)
+    (filter is_sent lines ≡ sent_lines 1 w.frames)
+    × DoesSteps net w left a (steps_of_arrival net lines left a)
     × (let t : Told = comes net (numbers net.brokers) w left a in AllDoSteps net t.world (lines ++ t.lines) (left_after left a) arrivals)
 
--- Of each arrival: its lines are those of its steps, or it was dropped; of the steps the headline holds
+-- Of an arrival's lines as a whole: none drops a datagram but the one that is no frame, none refuses or shows bytes, and frames are
+-- numbered on from those sent before
+pub record ArrivalTold (h : History) (a : Arrival) (ls : List Report) : Type 0 where
+  pub dropped : filter is_dropped ls ≡ dropped_line a
+  pub unreplied : filter is_reply ls ≡ []
+  pub numbered : map sent_number (filter is_sent ls) ≡ numbers_from (suc (sent_count h.lines)) (sent_count ls)
+
+-- Of each arrival: its lines are those of its steps, or it was dropped; of the steps the headline holds. At the end all is shown,
+-- and nothing else is told
 abbrev pub HoldsServed : Net → History → List Publish → List Arrival → List (List Report) → Type 0
 HoldsServed net h left [] [] = ⊥
-HoldsServed net h left [] (r ∷ []) = Holds_from net h (as_line step.Show ∷ []) (r ∷ [])
+HoldsServed net h left [] (r ∷ []) = (r ≡ filter is_record_line r ++ filter is_doubt_line r) × Holds_from net h (as_line step.Show ∷ []) (r ∷ [])
 HoldsServed net h left [] (r ∷ (s ∷ rs)) = ⊥
 HoldsServed net h left (a ∷ arrivals) [] = ⊥
 HoldsServed net h left (a ∷ arrivals) (r ∷ rs) =
-    (parts : List (List Report)) × ((r ≡ joined parts ++ dropped_line a)
+    ArrivalTold h a r
+    × ((parts : List (List Report)) × ((r ≡ joined parts ++ dropped_line a)
     × Holds_from net h (steps_of_arrival net h.lines left a) parts
-    × HoldsServed net (history net h (steps_of_arrival net h.lines left a) parts) (left_after left a) arrivals rs)
+    × HoldsServed net (history net h (steps_of_arrival net h.lines left a) parts) (left_after left a) arrivals rs))
 
--- The headline of a run of all brokers over a journal: the opening tells each log that is not empty, and then all of the above.
--- The record begins with what the logs say, and each subscriber starts at the cut that was found.
+-- The headline of a run of all brokers over a journal. The opening tells each log that is not empty and what the subscribers at its
+-- host get at once, and nothing else; then all of the above. The record begins with what the logs say, and each subscriber starts
+-- at the cut that was found.
 abbrev pub HeadlineServed : Net → List Log → List Line → List Arrival → List (List Report) → Type 0
 HeadlineServed net logs steps arrivals [] = ⊥
 HeadlineServed net logs steps arrivals (r ∷ rs) =
-    (filter is_record_line r ≡ (let h : History = begin_over net logs [] in flat_map (opened_of net h.found h.records []) (numbers net.brokers)))
+    (r ≡ flat_map (told_at_opening net logs) (publishers_at net (numbers net.brokers)))
     × HoldsServed net (begin_over net logs r) (publishes_of net (numbers net.brokers) steps) arrivals rs
 
 -- the journal of such a run is honest; the first of its reports is the opening

@@ -13,12 +13,12 @@ ghost use Rattle.gr_model.specs.Net.{Net, not_empty, numbers};
 ghost use Rattle.gr_model.specs.Tree.{IsNet, IsSubscriber};
 ghost use Rattle.gr_model.specs.Broker.{Log, clashes};
 ghost use Rattle.gr_model.specs.World.{Told, view_of, log_of, frame_at, run_all, run_from, start, next, report_of};
-ghost use Rattle.gr_model.specs.Opening.{AreFound, opening, begin_over};
+ghost use Rattle.gr_model.specs.Opening.{AreFound, opening, publishers_at, told_at_opening, begin_over};
 ghost use Rattle.gr_model.specs.Arrivals.{Arrival, publishes_of, served};
 ghost use Rattle.gr_model.specs.Served.{IsHonestRun, AllDoSteps, HeadlineServed};
 ghost use Rattle.gr_model.specs.declared.report.Report.{Report};
 ghost use Rattle.gr_model.specs.Fits.{StepIn, StepsIn, WorldFits, history_of};
-ghost use Rattle.gr_model.specs.Headline.{GetsExactly, Headline, Holds_from, History, is_record_line, opened_of, is_doubt_line, doubt_place, doubts_shown};
+ghost use Rattle.gr_model.specs.Headline.{GetsExactly, Headline, Holds_from, is_doubt_line, doubt_place, doubts_shown};
 ghost use Rattle.gr_model.specs.Order.{CutsInOrder, FramesSent};
 ghost use Rattle.gr_model.specs.Replies.{Replied};
 ghost use Rattle.gr_model.specs.Edges.{GoesOverEdge};
@@ -131,11 +131,12 @@ pub fn sweep_hands_over()
 {}
 
 /// The headline over logs that were found, whole, over every schedule that begins on them: what each subscriber gets is
-/// exactly the events past the cut that was found, and those logged since, that it wants; and the opening tells each log
-/// that is not empty.
+/// exactly the events past the cut that was found, and those logged since, that it wants. The opening tells each log that
+/// is not empty and what the subscribers at its host get at once, and sends nothing.
 pub fn headline_over_logs()
     ensures schedules { (net : Net) (logs : List Log) (steps : List Line) → IsNet net → 1 ≤ net.quiet → 1 ≤ net.retry → AreFound net logs → StepsIn net steps → (let o : Told = opening net (numbers net.brokers) logs in Holds_from net (begin_over net logs o.lines) steps (run_from net o.world steps)) }
-    ensures told { (net : Net) (logs : List Log) → IsNet net → AreFound net logs → (let o : Told = opening net (numbers net.brokers) logs in let h : History = begin_over net logs [] in filter is_record_line o.lines ≡ flat_map (opened_of net h.found h.records []) (numbers net.brokers)) }
+    ensures told { (net : Net) (logs : List Log) → IsNet net → AreFound net logs → (let o : Told = opening net (numbers net.brokers) logs in o.lines ≡ flat_map (told_at_opening net logs) (publishers_at net (numbers net.brokers))) }
+    ensures sends { (net : Net) (logs : List Log) → IsNet net → AreFound net logs → (let o : Told = opening net (numbers net.brokers) logs in o.world.frames ≡ []) }
 {}
 
 /// The headline of a server that hosts all brokers, over logs that were found and every honest journal, whatever of the
