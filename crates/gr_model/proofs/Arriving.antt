@@ -215,7 +215,7 @@ frame_does net w left b moment k bytes f lines n fit d at to over number =
     subst (λ (z : List Line). Does net w left (datagram b bytes moment) z) (sym is) (does net w left (datagram b bytes moment) steps (ap (dropped_as b) d) (
     ap (receives net u b) d ∙ (received net u k b f n fit at to over
     ∙ sym (clock_first net w now (as_line (step.Deliver k) ∷ []) ∙ (ap (λ (s : Told). after s (λ v. unchanged v [])) (delivered_step net u k f at) ∙ one_step (deliver_frame net u f)))))
-      (λ g foreign. ap (λ (t : Told). filter g t.lines) (ap (receives net u b) d ∙ received net u k b f n fit at to over) ∙ deliver_none g foreign net u f))
+    (λ g foreign. ap (λ (t : Told). filter g t.lines) (ap (receives net u b) d ∙ received net u k b f n fit at to over) ∙ deliver_none g foreign net u f))
 
 pub fault_does : (net : Net) (w : World) (left : List Publish) (b moment : ℕ) (bytes : List ℕ) (fault : FrameFault) (lines : List Report) → frame_decoded bytes ≡ Err fault → Does net w left (datagram b bytes moment) (steps_of_arrival net lines left (datagram b bytes moment))
 unfolding comes receives

@@ -90,3 +90,4 @@ pub mod ServedOver
 pub mod CallLines
 pub mod ServedExample
 pub mod OpenedLines
+pub mod LeastClash

@@ -1,16 +1,16 @@
 -- From a start over old logs the headline holds of every schedule
-use Rattle.std.proofs.Common.{◌≡◌, inl, inr, ℕ, suc, zero, ◌+◌, ◌≤◌, ◌<◌, Bool, true, false, not, ◌&&◌, List, [], ◌∷◌, ◌++◌, map, get_or, replicate, refl, sym, ap, ap₂, ◌∙◌, subst, arith, append-nil, append_assoc}
-use Rattle.std.specs.Prelude.{nat_lt, if◌then◌else◌, filter, flat_map}
+use Rattle.std.proofs.Common.{◌≡◌, inl, inr, ℕ, ◌≤◌, ◌<◌, true, false, not, ◌&&◌, List, [], ◌∷◌, map, replicate, refl, sym, ap, ap₂, ◌∙◌, subst, arith}
+use Rattle.std.specs.Prelude.{if◌then◌else◌, filter}
 use Rattle.std.proofs.lemmas.Bool.{cases_Bool, eq-eqb}
 use Rattle.std.proofs.lemmas.List.{get_or-replicate, length-replicate}
 use Rattle.gr_frame.specs.declared.Frame.{Frame}
 use Rattle.gr_sched.specs.declared.step.Line.{Line}
 use Rattle.gr_model.specs.declared.report.Report.{Report}
-use Rattle.gr_model.specs.Net.{Net, is_host, not_empty, numbers, numbers_from}
-use Rattle.gr_model.specs.Broker.{Log, learn}
-use Rattle.gr_model.specs.World.{World, Told, view_of, log_of, absorbed, unchanged, in_turn, sent_lines, run_from}
-use Rattle.gr_model.specs.Opening.{found_log, AreFound, over_logs, opened_for, publishers_at, opening, recorded_of, begin_over}
-use Rattle.gr_model.specs.Headline.{History, Holds_from, found_in, Recorded, nothing_recorded, is_record_line, opened_of}
+use Rattle.gr_model.specs.Net.{Net, is_host, not_empty, numbers}
+use Rattle.gr_model.specs.Broker.{Log}
+use Rattle.gr_model.specs.World.{Told, view_of, log_of, sent_lines, run_from}
+use Rattle.gr_model.specs.Opening.{found_log, AreFound, over_logs, publishers_at, opening, recorded_of, begin_over}
+use Rattle.gr_model.specs.Headline.{Holds_from, found_in, Recorded}
 use Rattle.gr_model.specs.Tree.{IsNet}
 use Rattle.gr_model.specs.Fits.{StepsIn}
 use Rattle.gr_model.proofs.Worlds.{Each, numbers_below}

@@ -20,7 +20,7 @@ use Rattle.gr_model.specs.Edges.{GoesOverEdge}
 use Rattle.gr_model.specs.Arrivals.{Arrival, datagram, quiet, Publish, is_hosted, publishes_in, publishes_of, left_after, comes, show_hosted, served_from}
 use Rattle.gr_model.specs.Served.{number_of_bytes, IsHonestAt, IsHonest, DoesSteps, AllDoSteps, as_line, publish_step, delivery_step, is_frame, steps_of_arrival, dropped_as, dropped_line, is_dropped, ArrivalTold, HoldsServed}
 use Rattle.gr_model.specs.Spelled.{NumberIn, NumbersIn, IsSpelled}
-use Rattle.gr_model.specs.Headline.{History, history, Holds_from, is_record_line, is_doubt_line, is_sent, sent_number, sent_count}
+use Rattle.gr_model.specs.Headline.{History, history, Holds_from, is_record_line, is_doubt_line, is_sent, sent_number}
 use Rattle.gr_model.specs.Replies.{is_reply}
 use Rattle.gr_model.specs.Tree.{IsNet}
 use Rattle.gr_model.specs.Fits.{WorldFits, StepIn, StepsIn}
@@ -313,14 +313,17 @@ module _ (net : Net) (n : IsNet net) (on : 1 ≤ net.quiet) (retry : 1 ≤ net.r
       let steps = steps_of_arrival net h.lines left a in
       let parts = run_from net w steps in
       let y = turn w h left a r l x.0 in
-      let g : History = history net h steps parts in (arrival_told w h left a r y, (
-        parts,
+      let g : History = history net h steps parts in (
+        arrival_told w h left a r y,
         (
-          y.does.lines ∙ ap (λ (z : List Report). z ++ dropped_line a) (sym (report_lines net w steps)),
-          holds_where_sweeps_reach net w h steps n (sweeps_reach net n on retry) on y.are_in.steps r.whole r.unknown,
-          subst (λ z. HoldsServed net g (left_after left a) arrivals (served_from net (numbers net.brokers) z (left_after left a) arrivals)) (sym y.does.world) (holds arrivals (run_all net w steps).world g (left_after left a) y.ready (left_in net left a l) (still_honest w h left a arrivals y x)),
+          parts,
+          (
+            y.does.lines ∙ ap (λ (z : List Report). z ++ dropped_line a) (sym (report_lines net w steps)),
+            holds_where_sweeps_reach net w h steps n (sweeps_reach net n on retry) on y.are_in.steps r.whole r.unknown,
+            subst (λ z. HoldsServed net g (left_after left a) arrivals (served_from net (numbers net.brokers) z (left_after left a) arrivals)) (sym y.does.world) (holds arrivals (run_all net w steps).world g (left_after left a) y.ready (left_in net left a l) (still_honest w h left a arrivals y x)),
+          ),
         ),
-      ))
+      )
 
   -- the steps are the same by the lines of frames alone
   steps_same : (xs ys : List Report) (left : List Publish) (a : Arrival) → filter is_sent xs ≡ filter is_sent ys → steps_of_arrival net xs left a ≡ steps_of_arrival net ys left a

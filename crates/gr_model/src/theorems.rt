@@ -1,20 +1,23 @@
 //! What holds of every schedule of the machine, on every topology that is a tree. Each function here does nothing: its
 //! contract is the theorem.
 
-ghost use Rattle.std.specs.Prelude.{List, [], ℕ, true, false, map, filter, flat_map, ◌≡◌, ◌<◌, ◌≤◌, ◌^◌, Some, Ok};
+ghost use Rattle.std.specs.Prelude.{List, [], ℕ, true, false, map, filter, flat_map, ◌≡◌, ◌<◌, ◌≤◌, ◌^◌, Some, None, Ok};
 ghost use Rattle.gr_frame.specs.declared.Frame.{Frame};
 ghost use Rattle.gr_frame.specs.declared.Body.TheVariants as body;
 ghost use Rattle.gr_frame.specs.Bytes.{frame_bytes};
 ghost use Rattle.gr_frame.specs.Decode.{frame_decoded};
 ghost use Rattle.gr_frame.specs.Limits.{IsFrame};
-ghost use Rattle.gr_know.specs.Values.{Known};
+ghost use Rattle.gr_tick.specs.Runs.{AreRuns};
+ghost use Rattle.gr_know.specs.declared.values.K.TheVariants.{Q};
+ghost use Rattle.gr_know.specs.Values.{Known, known_at, clash_K};
+ghost use Rattle.gr_know.specs.Clash.{IsLeastClash};
 ghost use Rattle.gr_sched.specs.declared.step.Line.{Line};
 ghost use Rattle.gr_model.specs.Net.{Net, not_empty, numbers};
 ghost use Rattle.gr_model.specs.Tree.{IsNet, IsSubscriber};
 ghost use Rattle.gr_model.specs.Broker.{Log, clashes};
 ghost use Rattle.gr_model.specs.World.{Told, view_of, log_of, frame_at, run_all, run_from, start, next, report_of};
 ghost use Rattle.gr_model.specs.Opening.{AreFound, opening, publishers_at, told_at_opening, begin_over};
-ghost use Rattle.gr_model.specs.Arrivals.{Arrival, publishes_of, served};
+ghost use Rattle.gr_model.specs.Arrivals.{Arrival, publishes_of, served, clash_runs, first_of};
 ghost use Rattle.gr_model.specs.Served.{IsHonestRun, AllDoSteps, HeadlineServed};
 ghost use Rattle.gr_model.specs.declared.report.Report.{Report};
 ghost use Rattle.gr_model.specs.Fits.{StepIn, StepsIn, WorldFits, history_of};
@@ -151,4 +154,11 @@ pub fn headline_served()
 /// Worked examples of a server: a whole run over three arrivals, and a start over an old log.
 pub fn served_examples()
     ensures { ServedExamples }
+{}
+
+/// The tick that a dropped datagram's line names is the least one at which the datagram clashes with what is known, and
+/// none is named where nothing clashes.
+pub fn clashes_are_least()
+    ensures some { (know : Known) (piece : Known) (t : ℕ) → AreRuns Q know → AreRuns Q piece → first_of (clash_runs know piece) ≡ Some t → IsLeastClash (known_at know) (known_at piece) t (known_at know t) (known_at piece t) }
+    ensures none { (know : Known) (piece : Known) → AreRuns Q know → AreRuns Q piece → first_of (clash_runs know piece) ≡ None → (t : ℕ) → clash_K (known_at know t) (known_at piece t) ≡ false }
 {}
