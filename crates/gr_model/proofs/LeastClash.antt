@@ -1,13 +1,13 @@
 -- The tick of a clash is the least one, and there is none where nothing clashes
-use Rattle.std.proofs.Common.{◌≡◌, ◌≢◌, ℕ, ◌≤◌, ◌<◌, Bool, true, false, List, [], ◌∷◌, refl, sym, ap, ◌∙◌, subst, Option, Some, None, arith, le_refl}
+use Rattle.std.proofs.Common.{◌≡◌, ◌≢◌, ℕ, Bool, true, false, [], ◌∷◌, refl, sym, ◌∙◌, subst, Some, None, arith, le_refl}
 use Rattle.std.specs.Prelude.{if◌then◌else◌}
-use Rattle.gr_tick.specs.Runs.{AreRuns, value_at}
+use Rattle.gr_tick.specs.Runs.{AreRuns}
 use Rattle.gr_tick.proofs.RunLaws.{AreRunsOf, value_at-in, value_at-below, value_at-start, zip_runs-is}
 use Rattle.gr_know.specs.declared.values.K.TheVariants.{Q}
 use Rattle.gr_know.specs.Values.{Known, known_at, clash_K}
 use Rattle.gr_know.specs.Clash.{IsLeastClash}
 use Rattle.gr_curio.specs.declared.values.Q3.TheVariants.{N, A}
-use Rattle.gr_curio.specs.Values.{Wanted, wanted_at, same_Q3}
+use Rattle.gr_curio.specs.Values.{Wanted, same_Q3}
 use Rattle.gr_curio.proofs.ValueLaws.{Q3_decides}
 use Rattle.gr_model.specs.Arrivals.{clash_runs, first_of}
 
