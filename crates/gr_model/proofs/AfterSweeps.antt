@@ -15,8 +15,8 @@ use Rattle.gr_know.specs.Values.{known_at}
 use Rattle.gr_model.specs.declared.report.Report.TheVariants as line
 use Rattle.gr_model.specs.Net.{Net, is_host, keeps_horizon, numbers}
 use Rattle.gr_model.specs.Broker.{max_tick}
-use Rattle.gr_model.specs.World.{World, Told, view_of, log_of, unchanged, after, in_turn, sweep, sweep_for, sweep_moment, next, start, report_of}
-use Rattle.gr_model.specs.Headline.{Headline, begin, History, heard_after, hearing, hearing_all, is_swept, sweep_at}
+use Rattle.gr_model.specs.World.{World, Told, view_of, log_of, unchanged, after, in_turn, sweep, sweep_for, sweep_moment, next, start, report_of, run_from, run_all}
+use Rattle.gr_model.specs.Headline.{Headline, Holds_from, begin, history, History, heard_after, hearing, hearing_all, is_swept, sweep_at}
 use Rattle.gr_model.specs.Tree.{IsNet}
 use Rattle.gr_model.specs.Truth.{Facts, IsTrueAt}
 use Rattle.gr_model.specs.Fits.{StepIn, StepsIn, WorldFits, FrameTrue, AllFramesTrue, BodyTrue, facts_of}
@@ -26,9 +26,9 @@ use Rattle.gr_model.proofs.Heard.{not_Q_at}
 use Rattle.gr_model.proofs.HeardSteps.{hears_by, Pieces, Hears, HeardLong, heard_in, Adds, body_adds, know_of_body}
 use Rattle.gr_model.proofs.SweepHears.{SweepAdds, sweep_adds, hear_frames, heard_of_frames, tells_to, tells_body}
 use Rattle.gr_model.proofs.AskMoments.{AsksFit}
-use Rattle.gr_model.proofs.WithoutSweeps.{Whole, holds_from, start_whole}
+use Rattle.gr_model.proofs.WithoutSweeps.{Whole, holds_from, whole_run, start_whole}
 use Rattle.gr_model.proofs.Worlds.{Each}
-use Rattle.gr_model.proofs.Closed.{next_holds}
+use Rattle.gr_model.proofs.Closed.{next_holds, run_holds}
 use Rattle.gr_model.proofs.SweepStates.{Unknowns}
 use Rattle.gr_model.proofs.FirstUnknown.{unknown_closed, unknowns_always}
 use Rattle.gr_model.proofs.Schedules.{clocked_fits, sweep_kept}
@@ -172,10 +172,18 @@ unfolding next heard_after
 hears_at net n w h k step.Sweep reach z i x o = sweep_hears net n w h k reach z x o
 hears_at net n w h k s reach z i x o = hears_by net w h k s (next net w (record { number = k; step = s })).lines n x.stands.fits x.stands.records x.stands.sent i refl x.hears
 
+-- where every sweep reaches each broker below the host, the headline holds whole of all that follows a world that stands with its history
+pub holds_where_sweeps_reach : (net : Net) (w : World) (h : History) (ls : List Line) (n : IsNet net) → SweepsReach net n → 1 ≤ net.quiet → StepsIn net ls → Whole net w h → Unknowns net w → Holds_from net h ls (run_from net w ls)
+holds_where_sweeps_reach net w h ls n reach z i k x = holds_from net (Unknowns net) w h ls n z (λ u l j f y. next_holds net (λ y. Unit {0}) (Unknowns net) u l n (unknown_closed net n) f y j) (λ u g l j k x. hears_at net n u g l.number l.step reach z j k x) i k x
+
+-- and what stands after it
+pub stands_where_sweeps_reach : (net : Net) (w : World) (h : History) (ls : List Line) (n : IsNet net) → SweepsReach net n → 1 ≤ net.quiet → StepsIn net ls → Whole net w h → Unknowns net w → Whole net (run_all net w ls).world (history net h ls (run_from net w ls)) × Unknowns net (run_all net w ls).world
+stands_where_sweeps_reach net w h ls n reach z i k x = (
+  whole_run net (Unknowns net) w h ls n z (λ u l j f y. next_holds net (λ y. Unit {0}) (Unknowns net) u l n (unknown_closed net n) f y j) (λ u g l j k x. hears_at net n u g l.number l.step reach z j k x) i k x,
+  run_holds net (λ y. Unit {0}) (Unknowns net) w ls n (unknown_closed net n) k.stands.fits x i,
+)
+
 -- where every sweep reaches each broker below the host, the headline holds whole over every schedule
 pub headline_where_sweeps_reach : (net : Net) (ls : List Line) (n : IsNet net) → SweepsReach net n → 1 ≤ net.quiet → StepsIn net ls → Headline net ls (report_of net ls)
 unfolding report_of
-headline_where_sweeps_reach net ls n reach z i = (
-  refl,
-  holds_from net (Unknowns net) (start net) (begin net) ls n z (λ u l j f x. next_holds net (λ y. Unit {0}) (Unknowns net) u l n (unknown_closed net n) f x j) (λ u g l j k x. hears_at net n u g l.number l.step reach z j k x) i (start_whole net n) (unknowns_always net [] n tt),
-)
+headline_where_sweeps_reach net ls n reach z i = (refl, holds_where_sweeps_reach net (start net) (begin net) ls n reach z i (start_whole net n) (unknowns_always net [] n tt))

@@ -119,7 +119,7 @@ trimmed_asks net p b v = go (is_host net p b)
     go true = refl
     go false = refl
 
-learn_asks : (net : Net) (p b : ℕ) (piece : Known) (v : View) (log : Log) → (learn net p b piece v log).view.asks ≡ v.asks
+pub learn_asks : (net : Net) (p b : ℕ) (piece : Known) (v : View) (log : Log) → (learn net p b piece v log).view.asks ≡ v.asks
 unfolding learn
 learn_asks net p b piece v log = trimmed_asks net p b _
 
@@ -420,7 +420,7 @@ publish_now_asks net n w p number e f j a =
     let o = publish net p b w.clock number e (view_of w b p) (log_of w p) in
     taken_asks net w (absorbed w b p o).world b p o (n.host_in p j) j (absorbed_taken net w b p o f (n.host_in p j) j) (same_asks net p b w.clock (view_of w b p) o (publish_asks net p b w.clock number e (view_of w b p) (log_of w p))) (publish_frames_fit net p b w.clock number e (view_of w b p) (log_of w p) (λ c m. (n.place p b j (n.host_in p j)).child_not_host c m)) a
 
-started_asks : (net : Net) (p b : ℕ) (log : Log) → (started net p b log).asks ≡ []
+pub started_asks : (net : Net) (p b : ℕ) (log : Log) → (started net p b log).asks ≡ []
 unfolding started
 started_asks net p b log = refl
 

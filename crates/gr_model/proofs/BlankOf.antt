@@ -1,5 +1,5 @@
 -- The topology of the small examples is that of the blank topology part, number by number
-use Rattle.std.proofs.Common.{◌≡◌, ℕ, zero, suc, ◌+◌, ◌<◌, Bool, true, false, ◌||◌, ◌&&◌, not, cond, nat_eq, List, [], ◌∷◌, Option, Some, None, refl, sym, ap, ◌∙◌, arith, ne_eqb}
+use Rattle.std.proofs.Common.{◌≡◌, ℕ, zero, suc, Bool, true, false, ◌&&◌, not, nat_eq, List, [], ◌∷◌, Option, Some, None, refl, sym, ap, ◌∙◌, arith, ne_eqb}
 use Rattle.std.specs.Prelude.{nat_lt}
 use Rattle.std.specs.List.{list_any, filter}
 use Rattle.std.proofs.lemmas.Bool.{false_from_ne_true, and_left, cond-false, le-ltb}
@@ -7,7 +7,7 @@ use Rattle.std.proofs.Math.Path.{fun_ext}
 use Rattle.gr_event.specs.declared.event.Event.{Event}
 use Rattle.gr_tree.specs.Walks.{numbers, is_linked, is_reached, distance, up_of, path_of}
 use Rattle.gr_tree.proofs.Numbers.{first_none}
-use Rattle.gr_topo.specs.Topology.{blank, host_of, home_of, up_at, depth_at, is_this, is_child_at, children_of, subscribers_of, passes_by, below_of, wants}
+use Rattle.gr_topo.specs.Topology.{blank, host_of, home_of, up_at, depth_at, is_this, children_of, subscribers_of, below_of, wants}
 use Rattle.gr_topo.proofs.Blank.{two_within}
 use Rattle.gr_model.specs.Net.{Net}
 use Rattle.gr_model.specs.Blank.{net0}

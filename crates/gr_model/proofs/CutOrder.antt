@@ -1,14 +1,15 @@
 -- The order of cut lines, over every schedule and by its report
 use Rattle.std.proofs.Common.{◌≡◌, inl, inr, ℕ, suc, zero, ◌≤◌, ◌<◌, Bool, true, false, ◌&&◌, List, [], ◌∷◌, ◌++◌, length, refl, sym, ap, ◌∙◌, subst, Some, None, arith}
-use Rattle.std.specs.Prelude.{nat_eq, if◌then◌else◌, Contains, slice_index_or}
+use Rattle.std.specs.Prelude.{nat_eq, if◌then◌else◌, get_or, Contains, slice_index_or}
+use Rattle.std.proofs.lemmas.List.{get_or-replicate}
 use Rattle.std.proofs.lemmas.Bool.{cases_eq, and_parts, eqb-true}
 use Rattle.gr_event.specs.declared.event.Event.{Event}
 use Rattle.gr_sched.specs.declared.step.Line.{Line}
 use Rattle.gr_model.specs.declared.report.Report.{Report}
 use Rattle.gr_model.specs.declared.report.Report.TheVariants as line
 use Rattle.gr_model.specs.Net.{Net}
-use Rattle.gr_model.specs.World.{log_of, start, run_all}
-use Rattle.gr_model.specs.Headline.{record_of, gots}
+use Rattle.gr_model.specs.World.{log_of, start, run_all, run_from}
+use Rattle.gr_model.specs.Headline.{History, after, begin, found_in, history, record_of, gots}
 use Rattle.gr_model.specs.Said.{said_at, TicksRise}
 use Rattle.gr_model.specs.Broker.{started}
 use Rattle.gr_model.specs.Tree.{IsNet}
@@ -65,11 +66,22 @@ start_meets : (net : Net) → IsNet net → HostsMeet net (start net)
 unfolding started
 start_meets net n q x y = ap (λ v. v.horizon) (start_is net (net.host q) q (n.host_in q x) x) ∙ ap (λ l. l.settled) (sym (start_log net q x))
 
-pub start_ordered : (net : Net) → IsNet net → Ordered net (start net) []
-start_ordered net n = record { meets = start_meets net n; last = λ q j. ap (λ l. l.cut) (sym (start_log net q j)); each = λ q j. tt }
+begin_found : (net : Net) (q : ℕ) → q < net.publishers → found_in (begin net) q ≡ 0
+unfolding begin
+begin_found net q j = get_or-replicate net.publishers q 0 0 j
 
-pub always_ordered : (net : Net) (ls : List Line) → IsNet net → StepsIn net ls → Ordered net (run_all net (start net) ls).world (run_all net (start net) ls).lines
-always_ordered net ls n i = run_orders net (start net) ls n (start_fits net n) i [] (start_lines net) (start_ordered net n)
+-- what was found stays
+history_found : (net : Net) (h : History) (ls : List Line) (rs : List (List Report)) → (history net h ls rs).found ≡ h.found
+unfolding after
+history_found net h [] rs = refl
+history_found net h (l ∷ ls) [] = refl
+history_found net h (l ∷ ls) (r ∷ rs) = history_found net (after net h l r) ls rs
+
+pub start_ordered : (net : Net) → IsNet net → Ordered net (found_in (begin net)) (start net) []
+start_ordered net n = record { meets = start_meets net n; last = λ q j. begin_found net q j ∙ ap (λ l. l.cut) (sym (start_log net q j)); each = λ q j. tt }
+
+pub always_ordered : (net : Net) (ls : List Line) → IsNet net → StepsIn net ls → Ordered net (found_in (begin net)) (run_all net (start net) ls).world (run_all net (start net) ls).lines
+always_ordered net ls n i = run_orders net (start net) ls n (start_fits net n) i (found_in (begin net)) [] (start_lines net) (start_ordered net n)
 
 -- I10: a host with subscribers has its horizon where its log is settled, whatever the schedule
 pub hosts_always_meet : (net : Net) (ls : List Line) → IsNet net → StepsIn net ls → HostsMeet net (run_all net (start net) ls).world
@@ -80,10 +92,12 @@ cuts_in_order net ls p n z i j =
     let w = (run_all net (start net) ls).world in
     let told = (run_all net (start net) ls).lines in
     let x = runs net (start net) _ ls n z (start_fits net n) (begin_fits net) i in
-    let o = always_ordered net ls n i in
+    let same : (history_of net ls).found ≡ (begin net).found = history_found net (begin net) ls (run_from net (start net) ls) in
+    let o : Ordered net (found_in (history_of net ls)) w told = subst (λ (z : List ℕ). Ordered net (λ q. get_or z q 0) w told) (sym same) (always_ordered net ls n i) in
+    let found : ℕ → ℕ = found_in (history_of net ls) in
     let e : (history_of net ls).lines ≡ told = x.lines ∙ ap (λ k. k ++ told) (begin_lines net) in
     let c : record_of (history_of net ls) p ≡ core_of w p = record_core net w (history_of net ls) p x.records in
-    let at : (t : ℕ) (xs ys : List Report) → (history_of net ls).lines ≡ xs ++ line.Cut p t ∷ ys → CutFits net w p t xs = λ t xs ys h. CutsHave-at (CutFits net w p) p t [] xs ys (subst (λ k. CutsHave (CutFits net w p) p [] k) (sym e ∙ h) (o.each p j)) in
+    let at : (t : ℕ) (xs ys : List Report) → (history_of net ls).lines ≡ xs ++ line.Cut p t ∷ ys → CutFits net found w p t xs = λ t xs ys h. CutsHave-at (CutFits net found w p) p t [] xs ys (subst (λ k. CutsHave (CutFits net found w p) p [] k) (sym e ∙ h) (o.each p j)) in
     record {
       cuts = λ t xs ys h. (at t xs ys h).rise;
       cut_settled = λ t xs ys h. subst (λ k. t ≤ k.settled) (sym c) (at t xs ys h).settled;

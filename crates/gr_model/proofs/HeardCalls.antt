@@ -35,7 +35,7 @@ same_heard v u H e k h = record {
 }
 
 -- another name for what was heard
-heard_as : (v : View) (H K : ℕ → Bool) → ((t : ℕ) → K t ≡ H t) → HeardFits v H → HeardFits v K
+pub heard_as : (v : View) (H K : ℕ → Bool) → ((t : ℕ) → K t ≡ H t) → HeardFits v H → HeardFits v K
 heard_as v H K e h = record {
   below = λ t x y. e t ∙ h.below t x y;
   stops = e (suc v.horizon) ∙ h.stops;

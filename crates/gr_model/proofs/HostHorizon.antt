@@ -27,7 +27,7 @@ pub call_within : (net : Net) (p b : ℕ) (v : View) (log : Log) (reached : ℕ 
 call_within net p b v log reached o c = (c.told (λ s. max (reached s) o.view.horizon) (record { on = λ s. omega arith; here = λ s m. omega arith })).view.horizon.settled
 
 -- where all up to a tick is known after learning, the horizon has come so far
-learn_reaches : (net : Net) (p b settled : ℕ) (piece : Known) (v : View) (log new : Log) (reached : ℕ → ℕ) → IsNet net → p < net.publishers → b < net.brokers → keeps_horizon net p b ≡ true → ViewTrue net (facts log reached) p b v → KnowsTruth net (facts log reached) p b piece → HostKnows (learn net p b piece v new).view settled → settled ≤ (learn net p b piece v new).view.horizon
+pub learn_reaches : (net : Net) (p b settled : ℕ) (piece : Known) (v : View) (log new : Log) (reached : ℕ → ℕ) → IsNet net → p < net.publishers → b < net.brokers → keeps_horizon net p b ≡ true → ViewTrue net (facts log reached) p b v → KnowsTruth net (facts log reached) p b piece → HostKnows (learn net p b piece v new).view settled → settled ≤ (learn net p b piece v new).view.horizon
 learn_reaches net p b settled piece v log new reached n i j keeps h k known =
     let know = zip_runs Q Q Q same_K join_K v.know piece in
     let x = joined-is v.know piece h.know.runs k.runs in

@@ -79,3 +79,15 @@ pub mod SettlesAll
 pub mod SettlesAlways
 pub mod NetOf
 pub mod BlankOf
+pub mod Opening
+pub mod OverLogs
+pub mod Arriving
+pub mod Serving
+pub mod SpelledRuns
+pub mod SpelledCalls
+pub mod Spelled
+pub mod ServedOver
+pub mod CallLines
+pub mod ServedExample
+pub mod OpenedLines
+pub mod LeastClash

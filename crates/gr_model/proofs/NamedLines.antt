@@ -157,7 +157,7 @@ wake_for_named : (net : Net) (w : World) (b p : ℕ) → IsNet net → b < net.b
 unfolding wake_for
 wake_for_named net w b p n i j = absorbed_named net w b p (wake net p b w.clock (view_of w b p) (log_of w p)) (wake_named net p b w.clock (view_of w b p) (log_of w p) n i j)
 
-deliver_named : (net : Net) (w : World) (x : Frame) → IsNet net → x.head.to < net.brokers → x.head.publisher < net.publishers → Named net Never (deliver_frame net w x).lines
+pub deliver_named : (net : Net) (w : World) (x : Frame) → IsNet net → x.head.to < net.brokers → x.head.publisher < net.publishers → Named net Never (deliver_frame net w x).lines
 unfolding deliver_frame
 deliver_named net w x n i j = absorbed_named net w x.head.to x.head.publisher (receive net w.clock x (view_of w x.head.to x.head.publisher) (log_of w x.head.publisher)) (receive_named net w.clock x (view_of w x.head.to x.head.publisher) (log_of w x.head.publisher) n i j)
 

@@ -1,13 +1,12 @@
 -- Every topology that was read is a tree, seen from the host of each publisher
-use Rattle.std.proofs.Common.{◌≡◌, ◌⊎◌, ℕ, zero, suc, ◌+◌, ◌<◌, ◌≤◌, Bool, true, false, ◌||◌, not, cond, nat_eq, List, [], ◌∷◌, length, Option, Some, None, refl, sym, ap, ◌∙◌, subst, inl, inr, ⊎_elim, arith, eq-eqb}
+use Rattle.std.proofs.Common.{◌≡◌, ◌⊎◌, ℕ, zero, suc, ◌+◌, ◌<◌, ◌≤◌, Bool, true, false, cond, nat_eq, List, ◌∷◌, length, Option, Some, None, refl, sym, ap, ◌∙◌, subst, inl, inr, ⊎_elim, arith, eq-eqb}
 use Rattle.std.specs.List.{list_any, filter}
 use Rattle.std.proofs.lemmas.Bool.{false≢true, true≢false, or_cases, or_left, or_right, cases_eq, eqb-true, false_from_ne_true}
 use Rattle.gr_tree.specs.Walks.{numbers_from, numbers}
 use Rattle.gr_topo.specs.Topology.{TopologyView, size, host_of, home_of, up_at, depth_at, is_child_at, subscribers_of, passes_by, IsTopology}
 use Rattle.gr_topo.proofs.Children.{child_up, up_child}
 use Rattle.gr_topo.proofs.Routes.{next_in, passes_on, passes_not}
-use Rattle.gr_model.specs.Net.{Net, is_host}
-use Rattle.gr_model.specs.Tree.{IsNet, IsPlace, IsSubscriber, IsDistinct, is_below}
+use Rattle.gr_model.specs.Tree.{IsNet, IsPlace, IsDistinct}
 use Rattle.gr_model.specs.NetOf.{net_of, IsRising, IsOrderly}
 
 -- ---- numbers that pass a test

@@ -371,7 +371,7 @@ next_obeys : (net : Net) (w : World) (l : Line) → IsNet net → 1 ≤ net.quie
 unfolding next calls_of called_in
 next_obeys net w l n quiet f i = let x = step_parts net w l.number l.step n quiet f i in record { obey = x.obey; own = x.own; lines = x.lines; own_only = x.own_only; frames = x.frames; views = x.views; restarts = x.restarts; logs = x.logs }
 
-steps_obey : (net : Net) (w : World) (ls : List Line) → IsNet net → 1 ≤ net.quiet → WorldFits net w → StepsIn net ls → StepsObey net w ls (run_from net w ls)
+pub steps_obey : (net : Net) (w : World) (ls : List Line) → IsNet net → 1 ≤ net.quiet → WorldFits net w → StepsIn net ls → StepsObey net w ls (run_from net w ls)
 unfolding run_from
 steps_obey net w [] n quiet f i = tt
 steps_obey net w (l ∷ ls) n quiet f i = (next_obeys net w l n quiet f i.0, steps_obey net (next net w l).world ls n quiet (next_kept net w l n f i.0).fits i.1)

@@ -27,25 +27,25 @@ use Rattle.gr_model.proofs.Chains.{Chains, wake_all_chain, sweeps_chain}
 
 -- what a step does to the order
 abbrev pub Orders : Net → World → Told → Type 0
-Orders net w t = (ls : List Report) → LinesFit net w ls → Ordered net w ls → Ordered net t.world (ls ++ t.lines)
+Orders net w t = (found : ℕ → ℕ) (ls : List Report) → LinesFit net w ls → Ordered net found w ls → Ordered net found t.world (ls ++ t.lines)
 
 still_orders : (net : Net) (w : World) (more : List Report) → ((q : ℕ) → CutFree q more) → Orders net w (unchanged w more)
-still_orders net w more free ls l o = ordered_free net w w ls more (λ q j. Later-refl (facts_of net w q)) o.meets (λ q j. free q) (λ q j. refl) o
+still_orders net w more free found ls l o = ordered_free net found w w ls more (λ q j. Later-refl (facts_of net w q)) o.meets (λ q j. free q) (λ q j. refl) o
 
 orders_after : (net : Net) (w : World) (t : Told) (f : World → Told) → Kept net w t → Orders net w t → Orders net t.world (f t.world) → Orders net w (after t f)
-orders_after net w t f k a b ls l o = subst (λ z. Ordered net (f t.world).world z) (append_assoc ls t.lines (f t.world).lines) (b (ls ++ t.lines) (k.lines ls l) (a ls l o))
+orders_after net w t f k a b found ls l o = subst (λ z. Ordered net found (f t.world).world z) (append_assoc ls t.lines (f t.world).lines) (b found (ls ++ t.lines) (k.lines ls l) (a found ls l o))
 
 wake_for_orders : (net : Net) (w : World) (b p : ℕ) → IsNet net → WorldFits net w → b < net.brokers → p < net.publishers → Kept net w (wake_for net w b p) → ((m : HostsMeet net w) → HostsMeet net (wake_for net w b p).world) → Orders net w (wake_for net w b p)
 unfolding wake_for
-wake_for_orders net w b p n f i j k m ls l o = absorbed_ordered net w b p (wake net p b w.clock (view_of w b p) (log_of w p)) ls n f i j (wake_cuts net p b w.clock (view_of w b p) (log_of w p)) k (m o.meets) l o
+wake_for_orders net w b p n f i j k m found ls l o = absorbed_ordered net found w b p (wake net p b w.clock (view_of w b p) (log_of w p)) ls n f i j (wake_cuts net p b w.clock (view_of w b p) (log_of w p)) k (m o.meets) l o
 
 deliver_orders : (net : Net) (w : World) (x : Frame) → IsNet net → WorldFits net w → FrameTrue net w x → Kept net w (deliver_frame net w x) → ((m : HostsMeet net w) → HostsMeet net (deliver_frame net w x).world) → Orders net w (deliver_frame net w x)
 unfolding deliver_frame
-deliver_orders net w x n f t k m ls l o = absorbed_ordered net w x.head.to x.head.publisher (receive net w.clock x (view_of w x.head.to x.head.publisher) (log_of w x.head.publisher)) ls n f t.fits.to_in t.publisher_in (receive_cuts net w.clock x (view_of w x.head.to x.head.publisher) (log_of w x.head.publisher)) k (m o.meets) l o
+deliver_orders net w x n f t k m found ls l o = absorbed_ordered net found w x.head.to x.head.publisher (receive net w.clock x (view_of w x.head.to x.head.publisher) (log_of w x.head.publisher)) ls n f t.fits.to_in t.publisher_in (receive_cuts net w.clock x (view_of w x.head.to x.head.publisher) (log_of w x.head.publisher)) k (m o.meets) l o
 
 publish_orders : (net : Net) (w : World) (p number : ℕ) (e : Event) → IsNet net → WorldFits net w → p < net.publishers → Kept net w (publish_now net w p number e) → ((m : HostsMeet net w) → HostsMeet net (publish_now net w p number e).world) → Orders net w (publish_now net w p number e)
 unfolding publish_now
-publish_orders net w p number e n f j k m ls l o = absorbed_ordered net w (net.host p) p (publish net p (net.host p) w.clock number e (view_of w (net.host p) p) (log_of w p)) ls n f (n.host_in p j) j (publish_cuts net p (net.host p) w.clock number e (view_of w (net.host p) p) (log_of w p)) k (m o.meets) l o
+publish_orders net w p number e n f j k m found ls l o = absorbed_ordered net found w (net.host p) p (publish net p (net.host p) w.clock number e (view_of w (net.host p) p) (log_of w p)) ls n f (n.host_in p j) j (publish_cuts net p (net.host p) w.clock number e (view_of w (net.host p) p) (log_of w p)) k (m o.meets) l o
 
 publishing_orders : (net : Net) (w : World) (p number : ℕ) (e : Event) → IsNet net → WorldFits net w → p < net.publishers → Orders net w (publish_now net w p number e)
 publishing_orders net w p number e n f j = publish_orders net w p number e n f j (publish_kept net w p number e n f j) (publish_now_meets net w p number e n f j)
@@ -95,7 +95,7 @@ opened_free net logs b q = go (numbers net.publishers)
 
 crash_orders : (net : Net) (w : World) (b : ℕ) → not_empty (net.subscribers_at b) ≡ false → Kept net w (crash net w b) → Orders net w (crash net w b)
 unfolding crash
-crash_orders net w b no_one k ls l o = ordered_free net w (restarted net w b) ls (line.Crashed b ∷ opened_lines net w.logs b) k.later (restart_meets net w (restarted net w b) b no_one (λ q e. restarted_other net w b (net.host q) q e) (λ q e. restarted_log net w b q) o.meets) (λ q j. opened_free net w.logs b q) (λ q j. ap (λ z. z.cut) (restarted_log net w b q)) o
+crash_orders net w b no_one k found ls l o = ordered_free net found w (restarted net w b) ls (line.Crashed b ∷ opened_lines net w.logs b) k.later (restart_meets net w (restarted net w b) b no_one (λ q e. restarted_other net w b (net.host q) q e) (λ q e. restarted_log net w b q) o.meets) (λ q j. opened_free net w.logs b q) (λ q j. ap (λ z. z.cut) (restarted_log net w b q)) o
 
 stopped_orders : (net : Net) (w : World) (k p number : ℕ) (stop : Stop) (e : Event) → IsNet net → WorldFits net w → p < net.publishers → Kept net w (publish_stopped net w k p number stop e) → Orders net w (publish_stopped net w k p number stop e)
 unfolding publish_stopped
@@ -119,18 +119,18 @@ stopped_orders net w k p number stop e n f j = host_at (not_empty (net.subscribe
         }
 
     told_at : (q : Bool) → not_empty (net.subscribers_at (net.host p)) ≡ false → Kept net w (told q) → Orders net w (told q)
-    told_at true no_one y ls l o =
+    told_at true no_one y found ls l o =
         let u : World = record { clock = w.clock; most = w.most; frames = w.frames; views = w.views; logs = set w.logs p (with_event log tick e) } in
-        ordered_free net w (told true).world ls (told true).lines y.later
+        ordered_free net found w (told true).world ls (told true).lines y.later
         (restart_meets net w (told true).world (net.host p) no_one (λ q z. restarted_other net u (net.host p) (net.host q) q z) (λ q z. restarted_log net u (net.host p) q ∙ get_or-set_other w.logs p q (with_event log tick e) empty_log (λ h. z (ap net.host h))) o.meets)
         (λ q z. opened_free net (set w.logs p (with_event log tick e)) (net.host p) q)
         (λ q z. ap (λ m. m.cut) (restarted_log net u (net.host p) q) ∙ elim (cases_eq q p) [
           | inl h ↦ subst (λ a. (get_or (set w.logs p (with_event log tick e)) a empty_log).cut ≡ (log_of w a).cut) (sym h) (ap (λ m. m.cut) (get_or-set_same w.logs p (with_event log tick e) empty_log (omega (arith, f.logs_long))))
           | inr h ↦ ap (λ m. m.cut) (get_or-set_other w.logs p q (with_event log tick e) empty_log h)
         ]) o
-    told_at false no_one y ls l o =
+    told_at false no_one y found ls l o =
         let u : World = record { clock = w.clock; most = w.most; frames = w.frames; views = w.views; logs = w.logs } in
-        ordered_free net w (told false).world ls (told false).lines y.later
+        ordered_free net found w (told false).world ls (told false).lines y.later
         (restart_meets net w (told false).world (net.host p) no_one (λ q z. restarted_other net u (net.host p) (net.host q) q z) (λ q z. restarted_log net u (net.host p) q) o.meets)
         (λ q z. opened_free net w.logs (net.host p) q) (λ q z. ap (λ m. m.cut) (restarted_log net u (net.host p) q)) o
 
@@ -151,9 +151,9 @@ clocked_later : (net : Net) (w : World) (clock most q : ℕ) → IsLater (facts_
 clocked_later net w clock most q = record { settled = le_refl (log_of w q).settled; said = λ t y. refl; reached = λ s. le_refl (reached_in net w q s) }
 
 clocked_orders : (net : Net) (w : World) (clock most : ℕ) (t : Told) → Orders net (clocked w clock most) t → Orders net w t
-clocked_orders net w clock most t k ls l o =
-    k ls (record { got = l.got; horizon = l.horizon; rise = l.rise })
-    (record { meets = o.meets; last = o.last; each = λ q j. CutsHave-map (CutFits net w q) (CutFits net (clocked w clock most) q) q [] ls (λ t xs c. CutFits-later net w (clocked w clock most) q t xs (clocked_later net w clock most q) c) (o.each q j) })
+clocked_orders net w clock most t k found ls l o =
+    k found ls (record { got = l.got; horizon = l.horizon; rise = l.rise })
+    (record { meets = o.meets; last = o.last; each = λ q j. CutsHave-map (CutFits net found w q) (CutFits net found (clocked w clock most) q) q [] ls (λ t xs c. CutFits-later net found w (clocked w clock most) q t xs (clocked_later net w clock most q) c) (o.each q j) })
 
 pub sweep_orders : (net : Net) (w : World) (k : ℕ) → IsNet net → WorldFits net w → Orders net w (sweep net w k)
 unfolding sweep

@@ -21,30 +21,30 @@ use Rattle.gr_model.proofs.Worlds.{Kept, IsLaterWorld, Changed, absorbed_changed
 use Rattle.gr_model.proofs.HostHorizon.{HostsMeet}
 use Rattle.gr_model.proofs.Cutlines.{CutsHave, CutFree, last_cut-append, CutFree-append, CutFree-last, CutFree-have, CutsHave-map, CutsHave-append, sent_free, NewCut, CallCuts}
 
--- a cut line of q up to tick t, with the lines before it
-pub record CutFits (net : Net) (w : World) (q t : ℕ) (before : List Report) : Type 0 where
-  pub rise : last_cut q 0 before < t
+-- a cut line of q up to tick t, with the lines before it; found is the cut of each log as it was opened
+pub record CutFits (net : Net) (found : ℕ → ℕ) (w : World) (q t : ℕ) (before : List Report) : Type 0 where
+  pub rise : last_cut q (found q) before < t
   pub settled : t ≤ (log_of w q).settled
   pub told : (s u : ℕ) (e : Event) → IsSubscriber net s → u ≤ t → said_at (log_of w q).events u ≡ Some e → net.wants s e ≡ true → said_at (gots s q before) u ≡ Some e
 
-pub record Ordered (net : Net) (w : World) (ls : List Report) : Type 0 where
+pub record Ordered (net : Net) (found : ℕ → ℕ) (w : World) (ls : List Report) : Type 0 where
   pub meets : HostsMeet net w
-  pub last : (q : ℕ) → q < net.publishers → last_cut q 0 ls ≡ (log_of w q).cut
-  pub each : (q : ℕ) → q < net.publishers → CutsHave (CutFits net w q) q [] ls
+  pub last : (q : ℕ) → q < net.publishers → last_cut q (found q) ls ≡ (log_of w q).cut
+  pub each : (q : ℕ) → q < net.publishers → CutsHave (CutFits net found w q) q [] ls
 
-pub CutFits-later : (net : Net) (w u : World) (q t : ℕ) (before : List Report) → IsLater (facts_of net w q) (facts_of net u q) → CutFits net w q t before → CutFits net u q t before
-CutFits-later net w u q t before l c = record {
+pub CutFits-later : (net : Net) (found : ℕ → ℕ) (w u : World) (q t : ℕ) (before : List Report) → IsLater (facts_of net w q) (facts_of net u q) → CutFits net found w q t before → CutFits net found u q t before
+CutFits-later net found w u q t before l c = record {
   rise = c.rise;
   settled = le_trans c.settled l.settled;
   told = λ s a e y h said wants. c.told s a e y h (sym (l.said a (le_trans h c.settled)) ∙ said) wants;
 }
 
 -- lines without cuts, where no cut moves
-pub ordered_free : (net : Net) (w u : World) (ls more : List Report) → IsLaterWorld net w u → HostsMeet net u → ((q : ℕ) → q < net.publishers → CutFree q more) → ((q : ℕ) → q < net.publishers → (log_of u q).cut ≡ (log_of w q).cut) → Ordered net w ls → Ordered net u (ls ++ more)
-ordered_free net w u ls more l m free same o = record {
+pub ordered_free : (net : Net) (found : ℕ → ℕ) (w u : World) (ls more : List Report) → IsLaterWorld net w u → HostsMeet net u → ((q : ℕ) → q < net.publishers → CutFree q more) → ((q : ℕ) → q < net.publishers → (log_of u q).cut ≡ (log_of w q).cut) → Ordered net found w ls → Ordered net found u (ls ++ more)
+ordered_free net found w u ls more l m free same o = record {
   meets = m;
-  last = λ q j. last_cut-append q 0 ls more ∙ (CutFree-last q (last_cut q 0 ls) more (free q j) ∙ (o.last q j ∙ sym (same q j)));
-  each = λ q j. CutsHave-append (CutFits net u q) q [] ls more (CutsHave-map (CutFits net w q) (CutFits net u q) q [] ls (λ t xs c. CutFits-later net w u q t xs (l q j) c) (o.each q j)) (CutFree-have (CutFits net u q) q ls more (free q j));
+  last = λ q j. last_cut-append q (found q) ls more ∙ (CutFree-last q (last_cut q (found q) ls) more (free q j) ∙ (o.last q j ∙ sym (same q j)));
+  each = λ q j. CutsHave-append (CutFits net found u q) q [] ls more (CutsHave-map (CutFits net found w q) (CutFits net found u q) q [] ls (λ t xs c. CutFits-later net found w u q t xs (l q j) c) (o.each q j)) (CutFree-have (CutFits net found u q) q ls more (free q j));
 }
 
 said_settled : (log : Log) (u : ℕ) (e : Event) → LogFits log → said_at log.events u ≡ Some e → u ≤ log.settled
@@ -92,45 +92,45 @@ cut_told_before net w u b p s a o e ls n f g m i j c k l y h said wants =
 cut_line_last : (p n t : ℕ) (rest : List Report) → CutFree p rest → last_cut p n (line.Cut p t ∷ rest) ≡ t
 cut_line_last p n t rest a = ap (λ c. last_cut p (if c then t else n) rest) (eq-eqb p p refl) ∙ CutFree-last p t rest a
 
-cut_last : (p t : ℕ) (ls pre rest : List Report) → CutFree p rest → last_cut p 0 (ls ++ (pre ++ (line.Cut p t ∷ rest))) ≡ t
-cut_last p t ls pre rest a = last_cut-append p 0 ls (pre ++ (line.Cut p t ∷ rest)) ∙ (last_cut-append p (last_cut p 0 ls) pre (line.Cut p t ∷ rest) ∙ cut_line_last p (last_cut p (last_cut p 0 ls) pre) t rest a)
+cut_last : (p n t : ℕ) (ls pre rest : List Report) → CutFree p rest → last_cut p n (ls ++ (pre ++ (line.Cut p t ∷ rest))) ≡ t
+cut_last p n t ls pre rest a = last_cut-append p n ls (pre ++ (line.Cut p t ∷ rest)) ∙ (last_cut-append p (last_cut p n ls) pre (line.Cut p t ∷ rest) ∙ cut_line_last p (last_cut p (last_cut p n ls) pre) t rest a)
 
-pub absorbed_ordered : (net : Net) (w : World) (b p : ℕ) (o : Outcome) (ls : List Report) → IsNet net → WorldFits net w → b < net.brokers → p < net.publishers → CallCuts net p b (log_of w p) o → Kept net w (absorbed w b p o) → HostsMeet net (absorbed w b p o).world → LinesFit net w ls → Ordered net w ls → Ordered net (absorbed w b p o).world (ls ++ (absorbed w b p o).lines)
-absorbed_ordered net w b p o ls n f i j cuts k m l d =
+pub absorbed_ordered : (net : Net) (found : ℕ → ℕ) (w : World) (b p : ℕ) (o : Outcome) (ls : List Report) → IsNet net → WorldFits net w → b < net.brokers → p < net.publishers → CallCuts net p b (log_of w p) o → Kept net w (absorbed w b p o) → HostsMeet net (absorbed w b p o).world → LinesFit net w ls → Ordered net found w ls → Ordered net found (absorbed w b p o).world (ls ++ (absorbed w b p o).lines)
+absorbed_ordered net found w b p o ls n f i j cuts k m l d =
     let c = absorbed_changed net w b p o f i j in
     let u = (absorbed w b p o).world in
     let sent = sent_lines (suc (length w.frames)) o.frames in
     let sf : (q : ℕ) → CutFree q sent = λ q. sent_free q (suc (length w.frames)) o.frames in
-    subst (λ z. Ordered net u (ls ++ z)) (sym (absorbed_lines w b p o)) (⊎_elim
-    (λ x. ordered_free net w u ls (o.lines ++ sent) k.later m
+    subst (λ z. Ordered net found u (ls ++ z)) (sym (absorbed_lines w b p o)) (⊎_elim
+    (λ x. ordered_free net found w u ls (o.lines ++ sent) k.later m
     (λ q y. CutFree-append q o.lines sent (elim (cases_eq q p) [ inl e ↦ subst (λ z. CutFree z o.lines) (sym e) x.0 | inr e ↦ cuts.others q e ]) (sf q))
     (λ q y. elim (cases_eq q p) [ inl e ↦ subst (λ z. (log_of u z).cut ≡ (log_of w z).cut) (sym e) (ap (λ z. z.cut) c.log ∙ x.1) | inr e ↦ ap (λ z. z.cut) (c.other_log q e) ])
     d)
     (λ x.
     let whole : o.lines ++ sent ≡ x.pre ++ (line.Cut p o.log.cut ∷ (x.post ++ sent)) = ap (λ z. z ++ sent) x.lines ∙ append_assoc x.pre (line.Cut p o.log.cut ∷ x.post) sent in
-    let low : last_cut p 0 (ls ++ x.pre) ≡ (log_of w p).cut = last_cut-append p 0 ls x.pre ∙ (CutFree-last p (last_cut p 0 ls) x.pre x.free_pre ∙ d.last p j) in
+    let low : last_cut p (found p) (ls ++ x.pre) ≡ (log_of w p).cut = last_cut-append p (found p) ls x.pre ∙ (CutFree-last p (last_cut p (found p) ls) x.pre x.free_pre ∙ d.last p j) in
     let cut_is : o.log.cut ≡ (log_of u p).cut = ap (λ z. z.cut) (sym c.log) in
     let rest : CutFree p (x.post ++ sent) = CutFree-append p x.post sent x.free_post (sf p) in
-    let at : last_cut p 0 (ls ++ (o.lines ++ sent)) ≡ last_cut p 0 (ls ++ (x.pre ++ (line.Cut p o.log.cut ∷ (x.post ++ sent)))) = ap (λ (z : List Report). last_cut p 0 (ls ++ z)) whole in
-    let last_p : last_cut p 0 (ls ++ (o.lines ++ sent)) ≡ (log_of u p).cut = at ∙ (cut_last p o.log.cut ls x.pre (x.post ++ sent) rest ∙ cut_is) in
-    let here : CutFits net u p o.log.cut (ls ++ x.pre) = record {
+    let at : last_cut p (found p) (ls ++ (o.lines ++ sent)) ≡ last_cut p (found p) (ls ++ (x.pre ++ (line.Cut p o.log.cut ∷ (x.post ++ sent)))) = ap (λ (z : List Report). last_cut p (found p) (ls ++ z)) whole in
+    let last_p : last_cut p (found p) (ls ++ (o.lines ++ sent)) ≡ (log_of u p).cut = at ∙ (cut_last p (found p) o.log.cut ls x.pre (x.post ++ sent) rest ∙ cut_is) in
+    let here : CutFits net found u p o.log.cut (ls ++ x.pre) = record {
       rise = omega (arith, low, x.more);
       settled = subst (λ z. z ≤ (log_of u p).settled) (sym cut_is) (k.fits.logs p j).cut;
       told = λ s a e y h said wants. ap (λ z. said_at z a) (gots-append s p ls x.pre) ∙ said_append_front (gots s p ls) (gots s p x.pre) a e (cut_told_before net w u b p s a o e ls n f k.fits d.meets i j c x l y h said wants);
     } in
-    let tail : CutsHave (CutFits net u p) p (ls ++ x.pre) (line.Cut p o.log.cut ∷ (x.post ++ sent)) = (λ _. here, CutFree-have (CutFits net u p) p ((ls ++ x.pre) ++ line.Cut p o.log.cut ∷ []) (x.post ++ sent) rest) in
-    let parts : CutsHave (CutFits net u p) p ls (x.pre ++ (line.Cut p o.log.cut ∷ (x.post ++ sent))) = CutsHave-append (CutFits net u p) p ls x.pre (line.Cut p o.log.cut ∷ (x.post ++ sent)) (CutFree-have (CutFits net u p) p ls x.pre x.free_pre) tail in
-    let have_p : CutsHave (CutFits net u p) p ls (o.lines ++ sent) = subst (λ z. CutsHave (CutFits net u p) p ls z) (sym whole) parts in
+    let tail : CutsHave (CutFits net found u p) p (ls ++ x.pre) (line.Cut p o.log.cut ∷ (x.post ++ sent)) = (λ _. here, CutFree-have (CutFits net found u p) p ((ls ++ x.pre) ++ line.Cut p o.log.cut ∷ []) (x.post ++ sent) rest) in
+    let parts : CutsHave (CutFits net found u p) p ls (x.pre ++ (line.Cut p o.log.cut ∷ (x.post ++ sent))) = CutsHave-append (CutFits net found u p) p ls x.pre (line.Cut p o.log.cut ∷ (x.post ++ sent)) (CutFree-have (CutFits net found u p) p ls x.pre x.free_pre) tail in
+    let have_p : CutsHave (CutFits net found u p) p ls (o.lines ++ sent) = subst (λ z. CutsHave (CutFits net found u p) p ls z) (sym whole) parts in
     record {
       meets = m;
       last = λ q y. elim (cases_eq q p) [
-        | inl e ↦ subst (λ z. last_cut z 0 (ls ++ (o.lines ++ sent)) ≡ (log_of u z).cut) (sym e)
+        | inl e ↦ subst (λ z. last_cut z (found z) (ls ++ (o.lines ++ sent)) ≡ (log_of u z).cut) (sym e)
             last_p
-        | inr e ↦ last_cut-append q 0 ls (o.lines ++ sent) ∙ (CutFree-last q (last_cut q 0 ls) (o.lines ++ sent) (CutFree-append q o.lines sent (cuts.others q e) (sf q)) ∙ (d.last q y ∙ ap (λ z. z.cut) (sym (c.other_log q e))))
+        | inr e ↦ last_cut-append q (found q) ls (o.lines ++ sent) ∙ (CutFree-last q (last_cut q (found q) ls) (o.lines ++ sent) (CutFree-append q o.lines sent (cuts.others q e) (sf q)) ∙ (d.last q y ∙ ap (λ z. z.cut) (sym (c.other_log q e))))
       ];
-      each = λ q y. CutsHave-append (CutFits net u q) q [] ls (o.lines ++ sent) (CutsHave-map (CutFits net w q) (CutFits net u q) q [] ls (λ t xs v. CutFits-later net w u q t xs (k.later q y) v) (d.each q y)) (elim (cases_eq q p) [
-        | inr e ↦ CutFree-have (CutFits net u q) q ls (o.lines ++ sent) (CutFree-append q o.lines sent (cuts.others q e) (sf q))
-        | inl e ↦ subst (λ z. CutsHave (CutFits net u z) z ls (o.lines ++ sent)) (sym e) have_p
+      each = λ q y. CutsHave-append (CutFits net found u q) q [] ls (o.lines ++ sent) (CutsHave-map (CutFits net found w q) (CutFits net found u q) q [] ls (λ t xs v. CutFits-later net found w u q t xs (k.later q y) v) (d.each q y)) (elim (cases_eq q p) [
+        | inr e ↦ CutFree-have (CutFits net found u q) q ls (o.lines ++ sent) (CutFree-append q o.lines sent (cuts.others q e) (sf q))
+        | inl e ↦ subst (λ z. CutsHave (CutFits net found u z) z ls (o.lines ++ sent)) (sym e) have_p
       ]);
     })
     cuts.here)

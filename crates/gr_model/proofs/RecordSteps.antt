@@ -16,7 +16,7 @@ use Rattle.gr_model.specs.declared.report.Report.TheVariants as line
 use Rattle.gr_model.specs.Net.{Net, keeps_horizon, numbers, numbers_from, not_empty}
 use Rattle.gr_model.specs.Broker.{Log, empty_log, with_event, is_kept, max_tick}
 use Rattle.gr_model.specs.World.{World, Told, view_of, log_of, unchanged, after, in_turn, wake_all, deliver_frame, frame_at, publish_now, publish_stopped, crash, restarted, opened_lines, sweep, sweep_for, sweep_moment, next, show, kept_events}
-use Rattle.gr_model.specs.Headline.{Recorded, History, nothing_recorded, record_of, is_record_line, is_sent, sent_count, record_lines, records_after, publish_line, opened_of, last_cut, count_past, is_next, tick_of, says_kept, may_crash, is_swept, sweep_at}
+use Rattle.gr_model.specs.Headline.{Recorded, History, nothing_recorded, found_in, record_of, is_record_line, is_sent, sent_count, record_lines, records_after, publish_line, opened_of, last_cut, count_past, is_next, tick_of, says_kept, may_crash, is_swept, sweep_at}
 use Rattle.gr_model.specs.Headline as headline
 use Rattle.gr_model.specs.Tree.{IsNet}
 use Rattle.gr_model.specs.Fits.{WorldFits, StepIn}
@@ -29,12 +29,12 @@ use Rattle.gr_model.proofs.RecordLines.{recs, Sends, sends_chain, sends_none, se
 -- What is opened
 
 -- the last cut lines are the cuts of the logs
-abbrev pub CutsTold : Net → List Log → List Report → Type 0
-CutsTold net logs ls = (q : ℕ) → q < net.publishers → last_cut q 0 ls ≡ (let log = get_or logs q empty_log in log.cut)
+abbrev pub CutsTold : Net → List ℕ → List Log → List Report → Type 0
+CutsTold net found logs ls = (q : ℕ) → q < net.publishers → last_cut q (get_or found q 0) ls ≡ (let log = get_or logs q empty_log in log.cut)
 
-opened_same : (net : Net) (logs : List Log) (ls : List Report) (b : ℕ) → CutsTold net logs ls → opened_lines net logs b ≡ opened_of net (map core logs) ls b
+opened_same : (net : Net) (found : List ℕ) (logs : List Log) (ls : List Report) (b : ℕ) → CutsTold net found logs ls → opened_lines net logs b ≡ opened_of net found (map core logs) ls b
 unfolding opened_lines
-opened_same net logs ls b c = go 0 net.publishers (omega arith)
+opened_same net found logs ls b c = go 0 net.publishers (omega arith)
   where
     here : ℕ → List Report
     here p = let log = get_or logs p empty_log in if nat_eq (net.host p) b && nat_lt 0 log.settled then line.Opened p log.last log.settled log.cut ∷ [] else []
@@ -42,7 +42,7 @@ opened_same net logs ls b c = go 0 net.publishers (omega arith)
     line_of : ℕ → Recorded → ℕ → List Report
     line_of p r cut = if nat_eq (net.host p) b && nat_lt 0 r.settled then line.Opened p r.last r.settled cut ∷ [] else []
 
-    go : (a n : ℕ) → a + n ≤ net.publishers → flat_map here (numbers_from a n) ≡ flat_map (λ p. line_of p (get_or (map core logs) p nothing_recorded) (last_cut p 0 ls)) (numbers_from a n)
+    go : (a n : ℕ) → a + n ≤ net.publishers → flat_map here (numbers_from a n) ≡ flat_map (λ p. line_of p (get_or (map core logs) p nothing_recorded) (last_cut p (get_or found p 0) ls)) (numbers_from a n)
     go a zero h = refl
     go a (suc n) h = ap₂ (λ (x y : List Report). x ++ y) (ap₂ (line_of a) (sym (get_map core logs a empty_log)) (sym (c a (omega arith)))) (go (suc a) n (omega arith))
 
@@ -76,27 +76,27 @@ opened_unsent net logs b = go (numbers net.publishers)
     go [] = refl
     go (p ∷ ps) = filter-append is_sent (here p) (flat_map here ps) ∙ ap₂ (λ (x y : List Report). x ++ y) (one p (nat_eq (net.host p) b && nat_lt 0 (get_or logs p empty_log).settled)) (go ps)
 
-crash_recs : (net : Net) (w : World) (b : ℕ) (ls : List Report) → CutsTold net w.logs ls → recs (crash net w b).lines ≡ line.Crashed b ∷ opened_of net (map core w.logs) ls b
+crash_recs : (net : Net) (found : List ℕ) (w : World) (b : ℕ) (ls : List Report) → CutsTold net found w.logs ls → recs (crash net w b).lines ≡ line.Crashed b ∷ opened_of net found (map core w.logs) ls b
 unfolding crash
-crash_recs net w b ls c = ap (λ (z : List Report). line.Crashed b ∷ z) (opened_recs net w.logs b ∙ opened_same net w.logs ls b c)
+crash_recs net found w b ls c = ap (λ (z : List Report). line.Crashed b ∷ z) (opened_recs net w.logs b ∙ opened_same net found w.logs ls b c)
 
 -- A stopped publish
 
 -- the recorded lines of a stopped publish
-abbrev stop_lines : Net → ℕ → ℕ → ℕ → Recorded → List Report → Bool → Bool → Bool → List Recorded → List Report
-stop_lines net p number clock r ls free due kept records =
+abbrev stop_lines : Net → List ℕ → ℕ → ℕ → ℕ → Recorded → List Report → Bool → Bool → Bool → List Recorded → List Report
+stop_lines net found p number clock r ls free due kept records =
     elim free [
       | false ↦ []
       | true ↦ elim due [
         | false ↦ publish_line p clock number r ∷ []
-        | true ↦ line.Crashed (net.host p) ∷ ((if kept then line.Kept p number (tick_of clock r) else line.Lost p number (tick_of clock r)) ∷ opened_of net records ls (net.host p))
+        | true ↦ line.Crashed (net.host p) ∷ ((if kept then line.Kept p number (tick_of clock r) else line.Lost p number (tick_of clock r)) ∷ opened_of net found records ls (net.host p))
       ]
     ]
 
-stopped_recs : (net : Net) (w : World) (k p number : ℕ) (stop : Stop) (e : Event) (ls : List Report) → WorldFits net w → p < net.publishers → CutsTold net w.logs ls →
-    (let t = publish_stopped net w k p number stop e in recs t.lines ≡ stop_lines net p number w.clock (core_of w p) ls (may_crash net (net.host p)) (is_next w.clock (core_of w p) number) (says_kept t.lines) (map core t.world.logs))
+stopped_recs : (net : Net) (found : List ℕ) (w : World) (k p number : ℕ) (stop : Stop) (e : Event) (ls : List Report) → WorldFits net w → p < net.publishers → CutsTold net found w.logs ls →
+    (let t = publish_stopped net w k p number stop e in recs t.lines ≡ stop_lines net found p number w.clock (core_of w p) ls (may_crash net (net.host p)) (is_next w.clock (core_of w p) number) (says_kept t.lines) (map core t.world.logs))
 unfolding publish_stopped restarted
-stopped_recs net w k p number stop e ls f j c = go (not_empty (net.subscribers_at (net.host p))) (nat_eq number (suc log.last) && nat_le tick max_tick) (is_kept log.gate stop.call stop.pick)
+stopped_recs net found w k p number stop e ls f j c = go (not_empty (net.subscribers_at (net.host p))) (nat_eq number (suc log.last) && nat_le tick max_tick) (is_kept log.gate stop.call stop.pick)
   where
     log : Log
     log = log_of w p
@@ -112,20 +112,20 @@ stopped_recs net w k p number stop e ls f j c = go (not_empty (net.subscribers_a
           lines = line.Crashed (net.host p) ∷ ((if q then line.Kept p number tick else line.Lost p number tick) ∷ opened_lines net logs (net.host p));
         }
 
-    cuts_kept : CutsTold net (set w.logs p (with_event log tick e)) ls
+    cuts_kept : CutsTold net found (set w.logs p (with_event log tick e)) ls
     cuts_kept q i = c q i ∙ elim (cases_eq q p) [
       | inl x ↦ subst (λ z. (log_of w z).cut ≡ (let l = get_or (set w.logs p (with_event log tick e)) z empty_log in l.cut)) (sym x) (sym (ap (λ l. l.cut) (get_or-set_same w.logs p (with_event log tick e) empty_log (omega (arith, f.logs_long)))))
       | inr x ↦ sym (ap (λ l. l.cut) (get_or-set_other w.logs p q (with_event log tick e) empty_log x))
     ]
 
     go : (x y z : Bool) → (let t : Told = elim x [ true ↦ unchanged w (line.RefusedHosts k (net.host p) ∷ []) | false ↦ elim y [ false ↦ publish_now net w p number e | true ↦ told_by z ] ] in
-        recs t.lines ≡ stop_lines net p number w.clock (core_of w p) ls (not x) y (says_kept t.lines) (map core t.world.logs))
+        recs t.lines ≡ stop_lines net found p number w.clock (core_of w p) ls (not x) y (says_kept t.lines) (map core t.world.logs))
     go true y z = refl
     go false false z = publish_now_recs net w p number e
-    go false true true = ap (λ (z : List Report). line.Crashed (net.host p) ∷ (line.Kept p number tick ∷ z)) (opened_recs net (set w.logs p (with_event log tick e)) (net.host p) ∙ opened_same net (set w.logs p (with_event log tick e)) ls (net.host p) cuts_kept)
+    go false true true = ap (λ (z : List Report). line.Crashed (net.host p) ∷ (line.Kept p number tick ∷ z)) (opened_recs net (set w.logs p (with_event log tick e)) (net.host p) ∙ opened_same net found (set w.logs p (with_event log tick e)) ls (net.host p) cuts_kept)
     go false true false =
-        ap (λ (z : List Report). line.Crashed (net.host p) ∷ (line.Lost p number tick ∷ z)) (opened_recs net w.logs (net.host p) ∙ opened_same net w.logs ls (net.host p) c)
-        ∙ sym (ap (λ q. line.Crashed (net.host p) ∷ ((if q then line.Kept p number tick else line.Lost p number tick) ∷ opened_of net (map core w.logs) ls (net.host p))) (opened_no_kept net w.logs (net.host p)))
+        ap (λ (z : List Report). line.Crashed (net.host p) ∷ (line.Lost p number tick ∷ z)) (opened_recs net w.logs (net.host p) ∙ opened_same net found w.logs ls (net.host p) c)
+        ∙ sym (ap (λ q. line.Crashed (net.host p) ∷ ((if q then line.Kept p number tick else line.Lost p number tick) ∷ opened_of net found (map core w.logs) ls (net.host p))) (opened_no_kept net w.logs (net.host p)))
 
 stopped_sends : (net : Net) (w : World) (k p number : ℕ) (stop : Stop) (e : Event) → Sends w (publish_stopped net w k p number stop e)
 unfolding publish_stopped restarted
@@ -153,8 +153,8 @@ stopped_sends net w k p number stop e = go (not_empty (net.subscribers_at (net.h
 
 -- A show
 
-show_recs : (net : Net) (w : World) (h : History) → RecordsFit net w h → sent_count h.lines ≡ length w.frames → CutsTold net w.logs h.lines →
-    recs (show net w) ≡ line.Frames (sent_count h.lines) ∷ map (λ p. let r = record_of h p in let c = last_cut p 0 h.lines in line.LogOf p r.last r.settled c (count_past c r.events)) (numbers net.publishers)
+show_recs : (net : Net) (w : World) (h : History) → RecordsFit net w h → sent_count h.lines ≡ length w.frames → CutsTold net h.found w.logs h.lines →
+    recs (show net w) ≡ line.Frames (sent_count h.lines) ∷ map (λ p. let r = record_of h p in let c = last_cut p (found_in h p) h.lines in line.LogOf p r.last r.settled c (count_past c r.events)) (numbers net.publishers)
 unfolding show
 show_recs net w h r s c = ap₂ (λ n (ls : List Report). line.Frames n ∷ ls) (sym s) (logs 0 net.publishers (omega arith))
   where
@@ -182,7 +182,7 @@ show_recs net w h r s c = ap₂ (λ n (ls : List Report). line.Frames n ∷ ls) 
     doubts [] = refl
     doubts (b ∷ bs) = filter-append is_record_line (there b) (flat_map there bs) ∙ ap₂ (λ (x y : List Report). x ++ y) (row b (numbers net.publishers)) (doubts bs)
 
-    logs : (a n : ℕ) → a + n ≤ net.publishers → recs (map log_line (numbers_from a n) ++ flat_map there (numbers net.brokers)) ≡ map (λ p. line_of p (record_of h p) (last_cut p 0 h.lines)) (numbers_from a n)
+    logs : (a n : ℕ) → a + n ≤ net.publishers → recs (map log_line (numbers_from a n) ++ flat_map there (numbers net.brokers)) ≡ map (λ p. line_of p (record_of h p) (last_cut p (found_in h p) h.lines)) (numbers_from a n)
     logs a zero k = doubts (numbers net.brokers)
     logs a (suc n) k = ap₂ (λ x (ls : List Report). x ∷ ls) (ap₂ (line_of a) (sym (record_core net w h a r)) (sym (c a (omega arith)))) (logs (suc a) n (omega arith))
 
@@ -262,7 +262,7 @@ sweep_sends net w k n f = go (nat_lt max_tick m)
 
 -- Every step
 
-record_by : (net : Net) (w : World) (h : History) (k : ℕ) (s : Step) → IsNet net → 1 ≤ net.quiet → WorldFits net w → RecordsFit net w h → sent_count h.lines ≡ length w.frames → CutsTold net w.logs h.lines → StepIn net s →
+record_by : (net : Net) (w : World) (h : History) (k : ℕ) (s : Step) → IsNet net → 1 ≤ net.quiet → WorldFits net w → RecordsFit net w h → sent_count h.lines ≡ length w.frames → CutsTold net h.found w.logs h.lines → StepIn net s →
     records_after net h (record { number = k; step = s }) (next net w (record { number = k; step = s })).lines ≡ map core (next net w (record { number = k; step = s })).world.logs →
     recs (next net w (record { number = k; step = s })).lines ≡ record_lines net h (record { number = k; step = s }) (next net w (record { number = k; step = s })).lines
 unfolding next record_lines wake_all
@@ -271,9 +271,9 @@ record_by net w h k (step.Publish p number None e) n z f r s c i a =
     publish_now_recs net w p number e ∙ ap₂ (λ m x. publish_line p m number x ∷ []) (sym r.clock) (sym (record_core net w h p r))
 record_by net w h k (step.Publish p number (Some stop) e) n z f r s c i a =
     let t = publish_stopped net w k p number stop e in
-    stopped_recs net w k p number stop e h.lines f i c
-    ∙ (ap₂ (λ m x. stop_lines net p number m x h.lines (may_crash net (net.host p)) (is_next m x number) (says_kept t.lines) (map core t.world.logs)) (sym r.clock) (sym (record_core net w h p r))
-    ∙ ap (stop_lines net p number h.clock (record_of h p) h.lines (may_crash net (net.host p)) (is_next h.clock (record_of h p) number) (says_kept t.lines)) (sym a))
+    stopped_recs net h.found w k p number stop e h.lines f i c
+    ∙ (ap₂ (λ m x. stop_lines net h.found p number m x h.lines (may_crash net (net.host p)) (is_next m x number) (says_kept t.lines) (map core t.world.logs)) (sym r.clock) (sym (record_core net w h p r))
+    ∙ ap (stop_lines net h.found p number h.clock (record_of h p) h.lines (may_crash net (net.host p)) (is_next h.clock (record_of h p) number) (says_kept t.lines)) (sym a))
 record_by net w h k (step.Wake b) n z f r s c i a =
     wakes_recs net w 0 net.publishers b (λ p. mark_line net b h.clock p (record_of h p)) n z f i (omega arith) (λ q x y. ap₂ (λ m v. mark_line net b m q v) (sym r.clock) (sym (record_core net w h q r)))
 record_by net w h k (step.Deliver j) n z f r s c i a = go (frame_at w j)
@@ -283,9 +283,9 @@ record_by net w h k (step.Deliver j) n z f r s c i a = go (frame_at w j)
     go (Some x) = deliver_recs net w x
 record_by net w h k (step.Crash b) n z f r s c i a = go (not_empty (net.subscribers_at b))
   where
-    go : (q : Bool) → recs (let t : Told = elim q [ true ↦ unchanged w (line.RefusedHosts k b ∷ []) | false ↦ crash net w b ] in t.lines) ≡ (if not q then line.Crashed b ∷ opened_of net h.records h.lines b else [])
+    go : (q : Bool) → recs (let t : Told = elim q [ true ↦ unchanged w (line.RefusedHosts k b ∷ []) | false ↦ crash net w b ] in t.lines) ≡ (if not q then line.Crashed b ∷ opened_of net h.found h.records h.lines b else [])
     go true = refl
-    go false = crash_recs net w b h.lines c ∙ ap (λ x. line.Crashed b ∷ opened_of net x h.lines b) (sym r.records)
+    go false = crash_recs net h.found w b h.lines c ∙ ap (λ x. line.Crashed b ∷ opened_of net h.found x h.lines b) (sym r.records)
 record_by net w h k step.Sweep n z f r s c i a = sweep_recs net w h k n z f r
 record_by net w h k step.Show n z f r s c i a = show_recs net w h r s c
 record_by net w h k (step.Bytes j) n z f r s c i a = go (frame_at w j)
@@ -299,7 +299,7 @@ unfolding headline.after
 after_records net h l ls = refl
 
 -- the recorded lines of the step after a world that fits its history
-pub step_records : (net : Net) (w : World) (h : History) (l : Line) → IsNet net → 1 ≤ net.quiet → WorldFits net w → RecordsFit net w h → sent_count h.lines ≡ length w.frames → CutsTold net w.logs h.lines → StepIn net l.step → filter is_record_line (next net w l).lines ≡ record_lines net h l (next net w l).lines
+pub step_records : (net : Net) (w : World) (h : History) (l : Line) → IsNet net → 1 ≤ net.quiet → WorldFits net w → RecordsFit net w h → sent_count h.lines ≡ length w.frames → CutsTold net h.found w.logs h.lines → StepIn net l.step → filter is_record_line (next net w l).lines ≡ record_lines net h l (next net w l).lines
 step_records net w h l n z f r s c i =
     record_by net w h l.number l.step n z f r s c i (sym (after_records net h l (next net w l).lines) ∙ (next_records net w h l n z f r i).records)
 

@@ -251,7 +251,7 @@ has_append_right : (s : ℕ) (xs ys : List ℕ) → Has s ys → Has s (xs ++ ys
 has_append_right s [] ys h = h
 has_append_right s (x ∷ xs) ys h = or_right (nat_eq x s) (list_any (λ z. nat_eq z s) (xs ++ ys)) (has_append_right s xs ys h)
 
-has_number : (a n s : ℕ) → a ≤ s → s < a + n → Has s (numbers_from a n)
+pub has_number : (a n s : ℕ) → a ≤ s → s < a + n → Has s (numbers_from a n)
 has_number a zero s h k = absurd (omega arith)
 has_number a (suc n) s h k =
     elim (cases_eq a s) [
@@ -267,7 +267,7 @@ has_down (suc n) s h =
       | inr e ↦ or_right (nat_eq n s) (list_any (λ z. nat_eq z s) (numbers_down n)) (has_down n s (omega (arith, e)))
     ]
 
-has_filter : (test : ℕ → Bool) (s : ℕ) (xs : List ℕ) → test s ≡ true → Has s xs → Has s (filter test xs)
+pub has_filter : (test : ℕ → Bool) (s : ℕ) (xs : List ℕ) → test s ≡ true → Has s xs → Has s (filter test xs)
 has_filter test s [] t h = absurd (false≢true h)
 has_filter test s (x ∷ xs) t h =
     elim (cases_Bool (test x)) [
@@ -275,7 +275,7 @@ has_filter test s (x ∷ xs) t h =
       | inr e ↦ rw e (⊎_elim (λ k. absurd (both_ways (test x) e (ap test (eqb-true x s k) ∙ t))) (λ k. has_filter test s xs t k) (or_cases (nat_eq x s) (list_any (λ z. nat_eq z s) xs) h))
     ]
 
-has_flat : (f : ℕ → List ℕ) (d s : ℕ) (ds : List ℕ) → Has d ds → Has s (f d) → Has s (flat_map f ds)
+pub has_flat : (f : ℕ → List ℕ) (d s : ℕ) (ds : List ℕ) → Has d ds → Has s (f d) → Has s (flat_map f ds)
 has_flat f d s [] h k = absurd (false≢true h)
 has_flat f d s (x ∷ xs) h k =
     ⊎_elim (λ e. has_append_left s (f x) (flat_map f xs) (subst (λ z. Has s (f z)) (sym (eqb-true x d e)) k)) (λ e. has_append_right s (f x) (flat_map f xs) (has_flat f d s xs e k)) (or_cases (nat_eq x d) (list_any (λ z. nat_eq z d) xs) h)

@@ -208,7 +208,7 @@ sweep_replies net w k n f = elim (cases_Bool (nat_lt max_tick m)) [
     go true r e g = rw (e, g) refl
     go false r e g = rw (e, g) (filter-append is_reply swept.lines (line.Swept m ∷ []) ∙ ap (λ x. x ++ []) (sweeps_chain net (λ w t. replying t.lines ≡ []) u (silent_chain net) n (clocked_fits net w m (max m w.most) f)).holds)
 
-frame_told : (k : ℕ) (f : Frame) → frame_of_line (sent_line k f) ≡ Some f
+pub frame_told : (k : ℕ) (f : Frame) → frame_of_line (sent_line k f) ≡ Some f
 unfolding sent_line
 frame_told k f = go f.body refl
   where
@@ -249,7 +249,7 @@ step_replies net w h n (step.Bytes j) t k i = go (frame_at w j) ∙ ap (bytes_re
 
 -- Numbers
 
-numbers_sent : (n : ℕ) (fs : List Frame) → map sent_number (sent_lines n fs) ≡ numbers_from n (length fs)
+pub numbers_sent : (n : ℕ) (fs : List Frame) → map sent_number (sent_lines n fs) ≡ numbers_from n (length fs)
 numbers_sent n [] = refl
 numbers_sent n (f ∷ fs) = ap₂ (λ x y. x ∷ y) (sent_line_number n f) (numbers_sent (suc n) fs)
 

@@ -100,7 +100,7 @@ no_wants net f p (c ∷ cs) = (record { runs = tt; each = λ t e. absurd (N_not_
     N_not_A : N ≡ A → ⊥
     N_not_A e = cc
 
-started_true : (net : Net) (log : Log) (reached : ℕ → ℕ) (p b : ℕ) → (is_host net p b ≡ true → CutTrue net (facts log reached) p b log.cut) → ViewTrue net (facts log reached) p b (started net p b log)
+pub started_true : (net : Net) (log : Log) (reached : ℕ → ℕ) (p b : ℕ) → (is_host net p b ≡ true → CutTrue net (facts log reached) p b log.cut) → ViewTrue net (facts log reached) p b (started net p b log)
 unfolding started
 started_true net log reached p b c = record {
   know = know_at (is_host net p b) refl;
@@ -113,7 +113,7 @@ started_true net log reached p b c = record {
     know_at true e = KnowsTruth-by net (facts log reached) p b (log_at log) (log_know log) (log_know-is log) (λ t. log_true net log reached p b t e (c e))
     know_at false e = record { runs = tt; each = λ t. tt }
 
-started_known : (net : Net) (log : Log) (p b : ℕ) → is_host net p b ≡ true → HostKnows (started net p b log) log.settled
+pub started_known : (net : Net) (log : Log) (p b : ℕ) → is_host net p b ≡ true → HostKnows (started net p b log) log.settled
 unfolding started
 started_known net log p b host = λ t x y. rw host (λ e. log_knows log t x y (sym ((log_know-is log).same_at t) ∙ e))
 
@@ -485,7 +485,7 @@ pub always_true : (net : Net) (ls : List Line) → IsNet net → StepsIn net ls 
 always_true net ls n i = (run_kept net (start net) ls n (start_fits net n) i).fits
 
 -- the lines of the report are those of the run
-report_lines : (net : Net) (w : World) (ls : List Line) → flat_map (λ x. x) (run_from net w ls) ≡ (run_all net w ls).lines
+pub report_lines : (net : Net) (w : World) (ls : List Line) → flat_map (λ x. x) (run_from net w ls) ≡ (run_all net w ls).lines
 unfolding run_from
 report_lines net w [] = refl
 report_lines net w (l ∷ ls) = ap (λ z. (next net w l).lines ++ z) (report_lines net (next net w l).world ls)

@@ -185,9 +185,9 @@ pub keeps_at_subscriber : (net : Net) (p s : ℕ) → IsSubscriber net s → kee
 keeps_at_subscriber net p s y = or_left (not_empty (net.subscribers_at (net.at s))) (is_empty (net.children p (net.at s))) (has_one (net.subscribers_at (net.at s)) s y.here)
 
 -- where each publisher in turn is calm, the sweep settles everything
-pub settles_where_calm : (net : Net) (w : World) (k : ℕ) (before : List Report) → IsNet net → 1 ≤ net.quiet → 1 ≤ net.retry → WorldFits net w → LinesFit net w before → Ordered net w before → nat_lt max_tick (sweep_moment net w) ≡ false → CalmTurns net (sweep_moment net w) (numbers net.publishers) (at_sweep net w) → SweepSettles net w k
+pub settles_where_calm : (net : Net) (w : World) (k : ℕ) (found : ℕ → ℕ) (before : List Report) → IsNet net → 1 ≤ net.quiet → 1 ≤ net.retry → WorldFits net w → LinesFit net w before → Ordered net found w before → nat_lt max_tick (sweep_moment net w) ≡ false → CalmTurns net (sweep_moment net w) (numbers net.publishers) (at_sweep net w) → SweepSettles net w k
 unfolding sweep_calls
-settles_where_calm net w k before n z r f lf of ok calm = record {
+settles_where_calm net w k found before n z r f lf of ok calm = record {
   horizons = horizons;
   settled = settled;
   cut = cut;
@@ -201,7 +201,7 @@ settles_where_calm net w k before n z r f lf of ok calm = record {
   ];
   marked = λ p j. subst (λ t. Contains t.lines (line.Mark p m)) (sym is) (Contains-append_left swept.lines (line.Swept m ∷ []) (line.Mark p m) (kept_contains is_record_line swept.lines (line.Mark p m)
       (subst (λ ls. Contains ls (line.Mark p m)) (sym (sweeps_recs net u 0 net.publishers n z g (omega arith) (λ q x y. settled_below net w q f (omega (arith, y))))) (mark_in m p 0 net.publishers (omega arith) (omega (arith, j))))));
-  last_cuts = λ p j. cut_own p (last_cut p 0 before) m (sweep net w k).lines (sym (last_cut-append p 0 before (sweep net w k).lines) ∙ (ordered.last p j ∙ cut p j)) (λ e. omega (arith, e, of.last p j, (f.logs p j).cut, settled_below net w p f j, z));
+  last_cuts = λ p j. cut_own p (last_cut p (found p) before) m (sweep net w k).lines (sym (last_cut-append p (found p) before (sweep net w k).lines) ∙ (ordered.last p j ∙ cut p j)) (λ e. omega (arith, e, of.last p j, (f.logs p j).cut, settled_below net w p f j, z));
   last_horizons = λ s p i j.
       let y = n.subscriber s i in
       horizon_own s p (last_horizon s p 0 before) m (sweep net w k).lines
@@ -239,8 +239,8 @@ settles_where_calm net w k before n z r f lf of ok calm = record {
     kept : Kept net w (sweep net w k)
     kept = sweep_kept net w k n f
 
-    ordered : Ordered net (sweep net w k).world (before ++ (sweep net w k).lines)
-    ordered = sweep_orders net w k n f before lf of
+    ordered : Ordered net found (sweep net w k).world (before ++ (sweep net w k).lines)
+    ordered = sweep_orders net w k n f found before lf of
 
     settled : (p : ℕ) → p < net.publishers → (log_of (sweep net w k).world p).settled ≡ m
     settled p j = ap (λ t. (log_of t.world p).settled) is ∙ ap (λ c. c.settled) (all.inside p (omega arith) (omega (arith, j)) ∙ marked_now net m (core_of w p) (settled_below net w p f j))

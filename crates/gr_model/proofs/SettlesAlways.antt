@@ -7,6 +7,7 @@ use Rattle.gr_model.specs.Net.{Net, numbers_from}
 use Rattle.gr_model.specs.Broker.{max_tick}
 use Rattle.gr_model.specs.World.{World, log_of, sweep_for, sweep_moment, sweep, run_all, start}
 use Rattle.gr_model.specs.Said.{said_at, TicksRise, due_upto}
+use Rattle.gr_model.specs.Headline.{found_in, begin}
 use Rattle.gr_model.specs.Settles.{SweepSettles, AllGot, is_accepted, at_sweep}
 use Rattle.gr_model.specs.Tree.{IsNet}
 use Rattle.gr_model.specs.Fits.{StepsIn, reached_in}
@@ -36,7 +37,7 @@ pub sweep_settles : (net : Net) (steps : List Line) (k : ℕ) → IsNet net → 
 sweep_settles net steps k n z r i ok =
     let w = (run_all net (start net) steps).world in
     let f = always_true net steps n i in
-    settles_where_calm net w k (run_all net (start net) steps).lines n z r f (lines_always net steps n i) (always_ordered net steps n i) (le-ltb max_tick (sweep_moment net w) (leb-true (sweep_moment net w) max_tick ok))
+    settles_where_calm net w k (found_in (begin net)) (run_all net (start net) steps).lines n z r f (lines_always net steps n i) (always_ordered net steps n i) (le-ltb max_tick (sweep_moment net w) (leb-true (sweep_moment net w) max_tick ok))
     (calm_turns net (sweep_moment net w) 0 net.publishers (at_sweep net w) n z r (omega arith) (λ p x y. moment_begins net w p f (asks_always net steps n i) (unknowns_always net steps n i) (omega (arith, y))))
 
 -- what is due up to where all is settled is all that is wanted

@@ -9,7 +9,7 @@ use Rattle.gr_model.specs.declared.report.Report.{Report}
 use Rattle.gr_model.specs.declared.report.Report.TheVariants as line
 use Rattle.gr_model.specs.Net.{keeps_horizon, Net, is_host}
 use Rattle.gr_model.specs.World.{sent_lines, World, view_of, log_of, start, next, run_all, run_from}
-use Rattle.gr_model.specs.Headline.{GetsExactly, bare_after, InOrder, History, history, record_of, after, begin, last_horizon, may_crash, HorizonsRise, sent_count, is_sent}
+use Rattle.gr_model.specs.Headline.{GetsExactly, bare_after, InOrder, History, history, found_in, record_of, after, begin, last_horizon, may_crash, HorizonsRise, sent_count, is_sent}
 use Rattle.gr_model.proofs.RecordLines.{sent_lines-append}
 use Rattle.gr_model.proofs.RecordSteps.{step_sends}
 use Rattle.gr_model.specs.Said.{due_upto}
@@ -32,7 +32,7 @@ use Rattle.gr_model.specs.Broker.{empty_log}
 use Rattle.gr_model.proofs.NamedLines.{Named, Named-append, Named-map, IsShown, step_named}
 
 -- no matter what a doubt line says
-abbrev Any : ℕ → ℕ → ℕ → Type 0
+abbrev pub Any : ℕ → ℕ → ℕ → Type 0
 Any b p t = Unit {0}
 
 -- a world and the history of the steps to it
@@ -40,13 +40,13 @@ pub record Stands (net : Net) (w : World) (h : History) : Type 0 where
   pub fits : WorldFits net w
   pub records : RecordsFit net w h
   pub lines : LinesFit net w h.lines
-  pub ordered : Ordered net w h.lines
+  pub ordered : Ordered net (found_in h) w h.lines
   pub sent : filter is_sent h.lines ≡ sent_lines 1 w.frames
   pub named : Named net Any h.lines
   pub bare : Bare net w h.bare
   pub asks : AsksFit net w
 
-lines_long : (n : ℕ) (fs : List Frame) → length (sent_lines n fs) ≡ length fs
+pub lines_long : (n : ℕ) (fs : List Frame) → length (sent_lines n fs) ≡ length fs
 lines_long n [] = refl
 lines_long n (f ∷ fs) = ap suc (lines_long (suc n) fs)
 
@@ -95,7 +95,7 @@ named_doubt net G b p t (l ∷ xs) ys a = named_doubt net G b p t xs ys a
 cuts_of : (net : Net) (w : World) (h : History) (p : ℕ) → Stands net w h → p < net.publishers → CutsInOrder net h p
 cuts_of net w h p k j =
     let c : record_of h p ≡ core_of w p = record_core net w h p k.records in
-    let at : (t : ℕ) (xs ys : List Report) → h.lines ≡ xs ++ line.Cut p t ∷ ys → CutFits net w p t xs = λ t xs ys e. CutsHave-at (CutFits net w p) p t [] xs ys (subst (λ z. CutsHave (CutFits net w p) p [] z) e (k.ordered.each p j)) in
+    let at : (t : ℕ) (xs ys : List Report) → h.lines ≡ xs ++ line.Cut p t ∷ ys → CutFits net (found_in h) w p t xs = λ t xs ys e. CutsHave-at (CutFits net (found_in h) w p) p t [] xs ys (subst (λ z. CutsHave (CutFits net (found_in h) w p) p [] z) e (k.ordered.each p j)) in
     record {
       cuts = λ t xs ys e. (at t xs ys e).rise;
       cut_settled = λ t xs ys e. subst (λ r. t ≤ r.settled) (sym c) (at t xs ys e).settled;
@@ -118,6 +118,10 @@ gets_now net w h s p k j y = record {
   rise = k.lines.rise p s j y;
 }
 
+after_found : (net : Net) (h : History) (l : Line) (ls : List Report) → (after net h l ls).found ≡ h.found
+unfolding after
+after_found net h l ls = refl
+
 after_bare : (net : Net) (h : History) (l : Line) (ls : List Report) → (after net h l ls).bare ≡ bare_after net h l ls
 unfolding after
 after_bare net h l ls = refl
@@ -138,7 +142,7 @@ next_stands net w h l n z i k =
       fits = x.fits;
       records = next_records net w h l n z k.fits k.records i;
       lines = subst (λ y. LinesFit net (next net w l).world y) (sym e) (x.lines h.lines k.lines);
-      ordered = subst (λ y. Ordered net (next net w l).world y) (sym e) (next_orders net w l n k.fits i h.lines k.lines k.ordered);
+      ordered = subst (λ (y : List ℕ). Ordered net (λ q. get_or y q 0) (next net w l).world (after net h l (next net w l).lines).lines) (sym (after_found net h l (next net w l).lines)) (subst (λ y. Ordered net (found_in h) (next net w l).world y) (sym e) (next_orders net w l n k.fits i (found_in h) h.lines k.lines k.ordered));
       sent =
           let c = step_sends net w l n k.fits i in
           ap (filter is_sent) e ∙ (filter-append is_sent h.lines (next net w l).lines
@@ -169,7 +173,7 @@ start_stands net n = record {
   fits = start_fits net n;
   records = begin_fits net;
   lines = subst (λ y. LinesFit net (start net) y) (sym (begin_lines net)) (start_lines net);
-  ordered = subst (λ y. Ordered net (start net) y) (sym (begin_lines net)) (start_ordered net n);
+  ordered = subst (λ y. Ordered net (found_in (begin net)) (start net) y) (sym (begin_lines net)) (start_ordered net n);
   sent = ap (filter is_sent) (begin_lines net) ∙ ap (sent_lines 1) (sym (start_frames net));
   named = subst (Named net Any) (sym (begin_lines net)) tt;
   bare = start_bare net n;

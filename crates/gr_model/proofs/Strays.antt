@@ -162,7 +162,7 @@ over_edges net p b n j i = record {
   expect = λ c tick m. record { publisher = j; from = i; to = n.child_in p b c j i m; between = n.child_up p b c j i m };
 }
 
-abbrev AllOver : Net → World → Type 0
+abbrev pub AllOver : Net → World → Type 0
 AllOver net w = Each (GoesOverEdge net) w.frames
 
 woken_over : (net : Net) (w : World) (b p : ℕ) → IsNet net → b < net.brokers → p < net.publishers → AllOver net w → AllOver net (wake_for net w b p).world
@@ -177,7 +177,7 @@ published_over : (net : Net) (w : World) (p number : ℕ) (e : Event) → IsNet 
 unfolding publish_now absorbed
 published_over net w p number e n j a = Each-on (GoesOverEdge net) w.frames _ a (publish_on net p (net.host p) w.clock number (GoesOverEdge net) e (view_of w (net.host p) p) (log_of w p) (over_edges net p (net.host p) n j (n.host_in p j)))
 
-over_closed : (net : Net) → IsNet net → IsClosed net (GoesOverEdge net) (AllOver net)
+pub over_closed : (net : Net) → IsNet net → IsClosed net (GoesOverEdge net) (AllOver net)
 unfolding restarted
 over_closed net n = record {
   calls = record {
@@ -190,7 +190,7 @@ over_closed net n = record {
   restarts = λ w logs b f i a. a;
 }
 
-start_over : (net : Net) → AllOver net (start net)
+pub start_over : (net : Net) → AllOver net (start net)
 unfolding start
 start_over net = tt
 

@@ -301,7 +301,7 @@ due_upto_none : (net : Net) (s lo from : ℕ) (events : Items) → lo ≤ from �
 due_upto_none net s lo from [] h r = refl
 due_upto_none net s lo from (x ∷ xs) h r = filter-no (λ y. nat_le y.0 lo && net.wants s y.1) x xs (ap (λ b. b && net.wants s x.1) (lt-leb x.0 lo (omega (arith, r.0)))) ∙ due_upto_none net s lo x.0 xs (omega (arith, r.0)) r.1
 
-due_upto_past : (net : Net) (s lo hi from : ℕ) (events : Items) → lo ≤ from → TicksRise from events → due_upto net s hi events ≡ due_between net s lo hi events
+pub due_upto_past : (net : Net) (s lo hi from : ℕ) (events : Items) → lo ≤ from → TicksRise from events → due_upto net s hi events ≡ due_between net s lo hi events
 due_upto_past net s lo hi from [] h r = refl
 due_upto_past net s lo hi from (x ∷ xs) h r =
     let i = due_upto_past net s lo hi x.0 xs (omega (arith, r.0)) r.1 in

@@ -7,8 +7,8 @@ use Rattle.gr_sched.specs.declared.step.Line.{Line}
 use Rattle.gr_model.specs.declared.report.Report.TheVariants as line
 use Rattle.gr_model.specs.Net.{Net, keeps_horizon, not_empty, is_empty}
 use Rattle.gr_model.specs.Broker.{empty_log}
-use Rattle.gr_model.specs.World.{World, view_of, start, next, run_from}
-use Rattle.gr_model.specs.Headline.{heard_after, History, after, begin, is_heard, IsDoubt, Delivered, StepTold, Holds_from}
+use Rattle.gr_model.specs.World.{World, view_of, start, next, run_from, run_all}
+use Rattle.gr_model.specs.Headline.{heard_after, history, History, after, begin, is_heard, IsDoubt, Delivered, StepTold, Holds_from}
 use Rattle.gr_model.specs.Tree.{IsNet}
 use Rattle.gr_model.specs.Fits.{StepIn, StepsIn, WorldFits}
 use Rattle.gr_model.proofs.RecordSteps.{step_records}
@@ -17,7 +17,7 @@ use Rattle.gr_model.proofs.NamedLines.{Named, IsShown, step_named}
 use Rattle.gr_model.proofs.Heard.{HeardFits}
 use Rattle.gr_model.proofs.SoFar.{doubt_at, Stands, gets_now, in_order, next_stands, start_stands, sent_count_is, split_from, named_doubt}
 use Rattle.gr_model.proofs.HeardCalls.{started_heard}
-use Rattle.gr_model.proofs.HeardSteps.{Hears, heard_in}
+use Rattle.gr_model.proofs.HeardSteps.{Hears, HeardLong, heard_in}
 use Rattle.gr_model.proofs.Worlds.{reached_here}
 use Rattle.gr_model.proofs.Orders.{has_one}
 use Rattle.gr_model.proofs.Schedules.{start_is}
@@ -70,18 +70,27 @@ holds_from net P w h (l ∷ ls) n z on keep i k x = (
   holds_from net P (next net w l).world (after net h l (next net w l).lines) ls n z on keep i.1 (next_whole net w h l n z i.0 (keep w h l i.0 k x) k) (on w l i.0 k.stands.fits x),
 )
 
--- at the start nothing was heard, and every host has its flag
-nothing_heard : (net : Net) (b p t : ℕ) → b < net.brokers → p < net.publishers → heard_in (begin net).heard b p t ≡ false
-unfolding begin
+-- what stands after steps, where each keeps a property of worlds, and what was heard
+pub whole_run : (net : Net) (P : World → Type 0) (w : World) (h : History) (ls : List Line) → IsNet net → 1 ≤ net.quiet → ((u : World) (l : Line) → StepIn net l.step → WorldFits net u → P u → P (next net u l).world) →
+    ((u : World) (g : History) (l : Line) → StepIn net l.step → Whole net u g → P u → Hears net (next net u l).world (heard_after net g l (next net u l).lines)) → StepsIn net ls → Whole net w h → P w → Whole net (run_all net w ls).world (history net h ls (run_from net w ls))
+unfolding run_from
+whole_run net P w h [] n z on keep i k x = k
+whole_run net P w h (l ∷ ls) n z on keep i k x = whole_run net P (next net w l).world (after net h l (next net w l).lines) ls n z on keep i.1 (next_whole net w h l n z i.0 (keep w h l i.0 k x) k) (on w l i.0 k.stands.fits x)
+
+-- where nothing was heard yet
+pub nothing_heard : (net : Net) (b p t : ℕ) → b < net.brokers → p < net.publishers → heard_in (replicate net.brokers (replicate net.publishers [])) b p t ≡ false
 nothing_heard net b p t i j = ap (λ (row : List (List Known)). is_heard (get_or row p []) t) (get_or-replicate net.brokers b (replicate net.publishers []) [] i) ∙ ap (λ (pieces : List Known). is_heard pieces t) (get_or-replicate net.publishers p [] [] j)
+
+pub nothing_long : (net : Net) → HeardLong net (replicate net.brokers (replicate net.publishers []))
+nothing_long net = record {
+  long = length-replicate net.brokers (replicate net.publishers []);
+  rows = λ b i. ap length (get_or-replicate net.brokers b (replicate net.publishers []) [] i) ∙ length-replicate net.publishers [];
+}
 
 start_hears : (net : Net) → Hears net (start net) (begin net).heard
 unfolding begin
 start_hears net = record {
-  long = record {
-    long = length-replicate net.brokers (replicate net.publishers []);
-    rows = λ b i. ap length (get_or-replicate net.brokers b (replicate net.publishers []) [] i) ∙ length-replicate net.publishers [];
-  };
+  long = nothing_long net;
   fits = λ b p i j host keeps. subst (λ v. HeardFits v (heard_in (begin net).heard b p)) (sym (start_is net b p i j)) (started_heard net p b empty_log (heard_in (begin net).heard b p) host (λ t. nothing_heard net b p t i j));
 }
 

@@ -1,6 +1,6 @@
 -- One broker's calls for one publisher
 use Rattle.std.specs.Prelude.{ℕ, suc, ◌+◌, ◌-◌, ◌*◌, ◌%◌, ◌^◌, min, max, Bool, true, false, not, ◌&&◌, ◌||◌, nat_eq, nat_le, nat_lt, if◌then◌else◌, List, [], ◌∷◌, ◌++◌, map, filter, get_or, set, Some, None, flat_map}
-use Rattle.std.specs.List.{list_any, list_all}
+use Rattle.std.specs.List.{list_all}
 use Rattle.gr_event.specs.declared.event.Event.{Event}
 use Rattle.gr_know.specs.declared.values.K.{K}
 use Rattle.gr_know.specs.declared.values.K.TheVariants.{Q, S, D, F}
@@ -12,11 +12,12 @@ use Rattle.gr_frame.specs.declared.Head.{Head}
 use Rattle.gr_frame.specs.declared.Frame.{Frame}
 use Rattle.gr_frame.specs.Bytes.{known_run_size, wanted_run_size, cut_frames}
 use Rattle.gr_event.specs.Event.{event_size}
-use Rattle.gr_curio.specs.declared.asks.Moment.TheVariants.{Never, At}
+use Rattle.gr_curio.specs.declared.asks.Moment.TheVariants.{Never}
 use Rattle.gr_model.specs.declared.report.Report.{Report}
 use Rattle.gr_model.specs.declared.report.Report.TheVariants as line
 use Rattle.gr_tick.specs.Runs.{points, zip_runs, first_bottom_from, top_of}
-use Rattle.gr_know.specs.Values.{Known, known_at, knowns, same_K, is_Q, is_D, join_K, new_K, clash_K}
+use Rattle.gr_know.specs.Values.{Known, known_at, knowns, same_K, is_Q, join_K, new_K, clash_K}
+pub use Rattle.gr_publog.specs.Kept.{is_kept}
 pub use Rattle.gr_know.specs.Forget.{data_count, without_front}
 unfoldable pub use Rattle.gr_know.specs.Forget.{lower_data, forgotten}
 pub use Rattle.gr_curio.specs.Wants.{all_A, any_C}
@@ -365,10 +366,6 @@ started net p b log = record {
   asks = [];
   horizon = 0;
 }
-
--- a stop at a disk call, with the picked image: the opened log has the record
-abbrev pub is_kept : ℕ → ℕ → ℕ → Bool
-is_kept gate call pick = nat_le 3 call && (nat_eq pick 1 || (nat_lt 1 pick && nat_eq ((gate * pick) % 256) 1))
 
 -- A frame comes
 

@@ -25,6 +25,7 @@ pub record History : Type 0 where
   pub clock : ℕ
   pub most : ℕ
   pub records : List Recorded
+  pub found : List ℕ  -- publisher by publisher: the cut that was found when its log was opened; 0 where no log is older than the schedule
   pub lines : List Report
   pub heard : List (List (List Known))  -- broker by broker, publisher by publisher: the pieces heard since the last crash
   pub bare : List Bool  -- publisher by publisher: nothing was logged or marked since its host started
@@ -32,6 +33,10 @@ pub record History : Type 0 where
 -- the record of a publisher
 abbrev pub record_of : History → ℕ → Recorded
 record_of h p = get_or h.records p nothing_recorded
+
+-- the cut that was found when the log of a publisher was opened
+abbrev pub found_in : History → ℕ → ℕ
+found_in h p = get_or h.found p 0
 
 -- The record
 
@@ -199,6 +204,7 @@ after net h l ls = record {
   clock = clock_after net h l;
   most = most_after net h l;
   records = records_after net h l ls;
+  found = h.found;
   lines = h.lines ++ ls;
   heard = heard_after net h l ls;
   bare = bare_after net h l ls;
@@ -210,6 +216,7 @@ begin net = record {
   clock = 0;
   most = 0;
   records = replicate net.publishers nothing_recorded;
+  found = replicate net.publishers 0;
   lines = [];
   heard = replicate net.brokers (replicate net.publishers []);
   bare = replicate net.publishers true;
@@ -274,9 +281,9 @@ is_record_line (line.LogOf p last settled cut kept) = true
 is_record_line _ = false
 
 -- the opened lines of a broker that starts
-abbrev pub opened_of : Net → List Recorded → List Report → ℕ → List Report
-opened_of net records lines b =
-    flat_map (λ p. let r = get_or records p nothing_recorded in if is_host net p b && nat_lt 0 r.settled then line.Opened p r.last r.settled (last_cut p 0 lines) ∷ [] else []) (numbers net.publishers)
+abbrev pub opened_of : Net → List ℕ → List Recorded → List Report → ℕ → List Report
+opened_of net found records lines b =
+    flat_map (λ p. let r = get_or records p nothing_recorded in if is_host net p b && nat_lt 0 r.settled then line.Opened p r.last r.settled (last_cut p (get_or found p 0) lines) ∷ [] else []) (numbers net.publishers)
 
 -- the line that a publish gets
 abbrev pub publish_line : ℕ → ℕ → ℕ → Recorded → Report
@@ -307,16 +314,16 @@ record_lines net h l ls =
                         | true ↦
                             line.Crashed (net.host p) ∷
                             ((if says_kept ls then line.Kept p number (tick_of h.clock r) else line.Lost p number (tick_of h.clock r)) ∷
-                            opened_of net (records_after net h l ls) h.lines (net.host p))
+                            opened_of net h.found (records_after net h l ls) h.lines (net.host p))
                       ]
                 ]
           ]
       | step.Wake b ↦ flat_map (λ p. if is_host net p b && nat_le ((record_of h p).settled + net.quiet) h.clock then line.Mark p h.clock ∷ [] else []) (numbers net.publishers)
       | step.Sweep ↦ if is_swept net h then map (λ p. line.Mark p (sweep_at net h)) (numbers net.publishers) ++ line.Swept (sweep_at net h) ∷ [] else []
-      | step.Crash b ↦ if may_crash net b then line.Crashed b ∷ opened_of net h.records h.lines b else []
+      | step.Crash b ↦ if may_crash net b then line.Crashed b ∷ opened_of net h.found h.records h.lines b else []
       | step.Show ↦
           line.Frames (sent_count h.lines) ∷
-          map (λ p. let r = record_of h p in let c = last_cut p 0 h.lines in line.LogOf p r.last r.settled c (count_past c r.events)) (numbers net.publishers)
+          map (λ p. let r = record_of h p in let c = last_cut p (found_in h p) h.lines in line.LogOf p r.last r.settled c (count_past c r.events)) (numbers net.publishers)
       | _ ↦ []
     ]
 
@@ -352,7 +359,7 @@ pub record Delivered (net : Net) (h : History) : Type 0 where
 -- horizons rise, and discarded only after delivery, of all lines of the history h
 pub record InOrder (net : Net) (h : History) : Type 0 where
   pub horizons : (s p n : ℕ) (xs ys : List Report) → h.lines ≡ xs ++ line.Horizon s p n ∷ ys → last_horizon s p 0 xs < n
-  pub cuts : (p t : ℕ) (xs ys : List Report) → h.lines ≡ xs ++ line.Cut p t ∷ ys → last_cut p 0 xs < t
+  pub cuts : (p t : ℕ) (xs ys : List Report) → h.lines ≡ xs ++ line.Cut p t ∷ ys → last_cut p (found_in h p) xs < t
   pub cut_settled : (p t : ℕ) → Contains h.lines (line.Cut p t) → t ≤ (record_of h p).settled
   pub cut_got : (p t : ℕ) (xs ys : List Report) → h.lines ≡ xs ++ line.Cut p t ∷ ys →
       (s u : ℕ) (e : Event) → Contains (record_of h p).events (u, e) → u ≤ t → s < net.subscribers → IsTrue (net.wants s e) → Contains xs (line.Got s p u e)

@@ -13,7 +13,12 @@ pub mod Obeys
 pub mod Replies
 pub mod Edges
 pub mod Blank
+pub mod Spelled
 pub mod Text
 pub mod SmallNets
 pub mod Examples
 pub mod NetOf
+pub mod Opening
+pub mod Arrivals
+pub mod Served
+pub mod ServedExample

@@ -1,25 +1,37 @@
 //! What holds of every schedule of the machine, on every topology that is a tree. Each function here does nothing: its
 //! contract is the theorem.
 
-ghost use Rattle.std.specs.Prelude.{List, ℕ, true, false, map, filter, ◌≡◌, ◌<◌, ◌≤◌, Some};
+ghost use Rattle.std.specs.Prelude.{List, [], ℕ, true, false, map, filter, flat_map, ◌≡◌, ◌<◌, ◌≤◌, ◌^◌, Some, None, Ok};
 ghost use Rattle.gr_frame.specs.declared.Frame.{Frame};
 ghost use Rattle.gr_frame.specs.declared.Body.TheVariants as body;
-ghost use Rattle.gr_know.specs.Values.{Known};
+ghost use Rattle.gr_frame.specs.Bytes.{frame_bytes};
+ghost use Rattle.gr_frame.specs.Decode.{frame_decoded};
+ghost use Rattle.gr_frame.specs.Limits.{IsFrame};
+ghost use Rattle.gr_tick.specs.Runs.{AreRuns};
+ghost use Rattle.gr_know.specs.declared.values.K.TheVariants.{Q};
+ghost use Rattle.gr_know.specs.Values.{Known, known_at, clash_K};
+ghost use Rattle.gr_know.specs.Clash.{IsLeastClash};
 ghost use Rattle.gr_sched.specs.declared.step.Line.{Line};
-ghost use Rattle.gr_model.specs.Net.{Net, not_empty};
+ghost use Rattle.gr_model.specs.Net.{Net, not_empty, numbers};
 ghost use Rattle.gr_model.specs.Tree.{IsNet, IsSubscriber};
-ghost use Rattle.gr_model.specs.Broker.{clashes};
-ghost use Rattle.gr_model.specs.World.{view_of, log_of, frame_at, run_all, start, next, report_of};
+ghost use Rattle.gr_model.specs.Broker.{Log, clashes};
+ghost use Rattle.gr_model.specs.World.{Told, view_of, log_of, frame_at, run_all, run_from, start, next, report_of};
+ghost use Rattle.gr_model.specs.Opening.{AreFound, opening, publishers_at, told_at_opening, begin_over};
+ghost use Rattle.gr_model.specs.Arrivals.{Arrival, publishes_of, served, clash_runs, first_of};
+ghost use Rattle.gr_model.specs.Served.{IsHonestRun, AllDoSteps, HeadlineServed};
+ghost use Rattle.gr_model.specs.declared.report.Report.{Report};
 ghost use Rattle.gr_model.specs.Fits.{StepIn, StepsIn, WorldFits, history_of};
-ghost use Rattle.gr_model.specs.Headline.{GetsExactly, Headline, is_doubt_line, doubt_place, doubts_shown};
+ghost use Rattle.gr_model.specs.Headline.{GetsExactly, Headline, Holds_from, is_doubt_line, doubt_place, doubts_shown};
 ghost use Rattle.gr_model.specs.Order.{CutsInOrder, FramesSent};
 ghost use Rattle.gr_model.specs.Replies.{Replied};
 ghost use Rattle.gr_model.specs.Edges.{GoesOverEdge};
+ghost use Rattle.gr_model.specs.Spelled.{NumbersIn};
 ghost use Rattle.gr_model.specs.Rules.{RulesDetermine};
 ghost use Rattle.gr_model.specs.Obeys.{CallsObey};
 ghost use Rattle.gr_model.specs.Settles.{SweepSettles, AllGot, is_accepted};
 ghost use Rattle.gr_model.specs.Blank.{net0};
 ghost use Rattle.gr_model.specs.Examples.{WorkedExamples};
+ghost use Rattle.gr_model.specs.ServedExample.{ServedExamples};
 
 /// The topology of the small examples is a tree, so the theorems speak of something.
 pub fn net0_is_a_tree()
@@ -46,6 +58,14 @@ pub fn never_clashes()
 /// broker to a child with knowledge or a tick to expect, or to the next broker up with curiosity.
 pub fn never_strays()
     ensures { (net : Net) (steps : List Line) (k : ℕ) (f : Frame) → IsNet net → StepsIn net steps → frame_at (run_all net (start net) steps).world k ≡ Some f → GoesOverEdge net f }
+{}
+
+/// Every frame that was ever sent is spelled by its bytes, which fit into one frame; so they decode to it and to no other.
+/// The topology has at most 65,536 brokers and as many publishers. The schedule names no moment past 2^62, and each event that it
+/// publishes is within the limits of events.
+pub fn frames_are_spelled()
+    ensures spelled { (net : Net) (steps : List Line) (k : ℕ) (f : Frame) → IsNet net → net.brokers ≤ 2 ^ 16 → net.publishers ≤ 2 ^ 16 → StepsIn net steps → NumbersIn steps → frame_at (run_all net (start net) steps).world k ≡ Some f → IsFrame (frame_bytes f) f }
+    ensures decodes { (net : Net) (steps : List Line) (k : ℕ) (f : Frame) → IsNet net → net.brokers ≤ 2 ^ 16 → net.publishers ≤ 2 ^ 16 → StepsIn net steps → NumbersIn steps → frame_at (run_all net (start net) steps).world k ≡ Some f → frame_decoded (frame_bytes f) ≡ Ok f }
 {}
 
 /// Delivered exactly: over every schedule, what each subscriber got from each publisher is exactly the logged events
@@ -111,4 +131,34 @@ pub fn sweep_settles()
 /// After a sweep that is not refused, each subscriber has got exactly what was logged that it wants.
 pub fn sweep_hands_over()
     ensures { (net : Net) (steps : List Line) (k : ℕ) → IsNet net → 1 ≤ net.quiet → 1 ≤ net.retry → StepsIn net steps → is_accepted net (run_all net (start net) steps).world ≡ true → AllGot net (run_all net (start net) steps).world k (run_all net (start net) steps).lines }
+{}
+
+/// The headline over logs that were found, whole, over every schedule that begins on them: what each subscriber gets is
+/// exactly the events past the cut that was found, and those logged since, that it wants. The opening tells each log that
+/// is not empty and what the subscribers at its host get at once, and sends nothing.
+pub fn headline_over_logs()
+    ensures schedules { (net : Net) (logs : List Log) (steps : List Line) → IsNet net → 1 ≤ net.quiet → 1 ≤ net.retry → AreFound net logs → StepsIn net steps → (let o : Told = opening net (numbers net.brokers) logs in Holds_from net (begin_over net logs o.lines) steps (run_from net o.world steps)) }
+    ensures told { (net : Net) (logs : List Log) → IsNet net → AreFound net logs → (let o : Told = opening net (numbers net.brokers) logs in o.lines ≡ flat_map (told_at_opening net logs) (publishers_at net (numbers net.brokers))) }
+    ensures sends { (net : Net) (logs : List Log) → IsNet net → AreFound net logs → (let o : Told = opening net (numbers net.brokers) logs in o.world.frames ≡ []) }
+{}
+
+/// The headline of a server that hosts all brokers, over logs that were found and every honest journal, whatever of the
+/// frames sent arrives, in which order and how often: each arrival leaves what its steps of a schedule leave and tells
+/// their lines, each call of them obeys its rule, and of these steps the whole headline holds. So no datagram is dropped
+/// but one that is no frame.
+pub fn headline_served()
+    ensures headline { (net : Net) (logs : List Log) (steps : List Line) (arrivals : List Arrival) → IsNet net → net.brokers ≤ 2 ^ 16 → net.publishers ≤ 2 ^ 16 → 1 ≤ net.quiet → 1 ≤ net.retry → AreFound net logs → StepsIn net steps → NumbersIn steps → (let rs : List (List Report) = served net (numbers net.brokers) logs steps arrivals in IsHonestRun arrivals rs → HeadlineServed net logs steps arrivals rs) }
+    ensures calls { (net : Net) (logs : List Log) (steps : List Line) (arrivals : List Arrival) → IsNet net → net.brokers ≤ 2 ^ 16 → net.publishers ≤ 2 ^ 16 → 1 ≤ net.quiet → 1 ≤ net.retry → AreFound net logs → StepsIn net steps → NumbersIn steps → IsHonestRun arrivals (served net (numbers net.brokers) logs steps arrivals) → (let o : Told = opening net (numbers net.brokers) logs in AllDoSteps net o.world o.lines (publishes_of net (numbers net.brokers) steps) arrivals) }
+{}
+
+/// Worked examples of a server: a whole run over three arrivals, and a start over an old log.
+pub fn served_examples()
+    ensures { ServedExamples }
+{}
+
+/// The tick that a dropped datagram's line names is the least one at which the datagram clashes with what is known, and
+/// none is named where nothing clashes.
+pub fn clashes_are_least()
+    ensures some { (know : Known) (piece : Known) (t : ℕ) → AreRuns Q know → AreRuns Q piece → first_of (clash_runs know piece) ≡ Some t → IsLeastClash (known_at know) (known_at piece) t (known_at know t) (known_at piece t) }
+    ensures none { (know : Known) (piece : Known) → AreRuns Q know → AreRuns Q piece → first_of (clash_runs know piece) ≡ None → (t : ℕ) → clash_K (known_at know t) (known_at piece t) ≡ false }
 {}

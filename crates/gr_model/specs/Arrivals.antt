@@ -1,0 +1,151 @@
+-- A server: what comes to its brokers from outside, and what they do
+use Rattle.std.specs.Prelude.{ℕ, ◌&&◌, ◌++◌, min, max, Bool, true, false, nat_eq, nat_lt, if◌then◌else◌, List, [], ◌∷◌, length, Option, Some, None, Result, Ok, Err, flat_map}
+use Rattle.std.specs.List.{list_any}
+use Rattle.gr_event.specs.declared.event.Event.{Event}
+use Rattle.gr_frame.specs.declared.Body.TheVariants as body
+use Rattle.gr_frame.specs.declared.Frame.{Frame}
+use Rattle.gr_frame.specs.declared.fault.FrameKind.{FrameKind}
+use Rattle.gr_frame.specs.declared.fault.FrameKind.TheVariants.{Memory, Short, BadMagic, BadVersion, BadKind, BadRange, BadOrder, BadEvent, Trailing, TooLong}
+use Rattle.gr_frame.specs.declared.fault.FrameFault.{FrameFault}
+use Rattle.gr_frame.specs.Decode.{frame_decoded}
+use Rattle.gr_know.specs.declared.values.K.TheVariants.{Q}
+use Rattle.gr_curio.specs.declared.values.Q3.TheVariants.{N, A}
+use Rattle.gr_curio.specs.Values.{Wanted, same_Q3}
+use Rattle.gr_tick.specs.Runs.{zip_runs}
+use Rattle.gr_know.specs.Values.{Known, known_at, clash_K}
+use Rattle.gr_sched.specs.declared.step.Line.{Line}
+use Rattle.gr_sched.specs.declared.step.Step.TheVariants as step
+use Rattle.gr_model.specs.declared.report.Report.{Report}
+use Rattle.gr_model.specs.declared.report.Report.TheVariants as line
+use Rattle.gr_model.specs.Net.{Net, keeps_horizon, numbers}
+use Rattle.gr_model.specs.Broker.{Log, max_tick}
+use Rattle.gr_model.specs.World.{World, Told, view_of, log_of, unchanged, after, in_turn, deliver_frame, publish_now, wake_all, kept_events}
+use Rattle.gr_model.specs.Opening.{opening}
+
+-- What comes
+
+-- the bytes of a datagram to a broker, or a quiet moment; each at a moment
+pub data Arrival : Type 0 where
+  datagram : ℕ → List ℕ → ℕ → Arrival
+  quiet : ℕ → Arrival
+
+-- a publish that a schedule asks for: the publisher, the number, the event
+abbrev pub Publish : Type 0
+Publish = ℕ × (ℕ × Event)
+
+-- the publisher is at one of the hosted brokers
+abbrev pub is_hosted : Net → List ℕ → ℕ → Bool
+is_hosted net hosted p = list_any (λ b. nat_eq b (net.host p)) hosted
+
+-- The publishes of a schedule whose publisher is at one of the hosted brokers, in order. A stop is left aside, and so are all
+-- other steps
+abbrev pub publishes_in : Net → List ℕ → Line → List Publish
+publishes_in net hosted l = elim l.step [ step.Publish p number stop e ↦ if is_hosted net hosted p then (p, (number, e)) ∷ [] else [] | _ ↦ [] ]
+
+abbrev pub publishes_of : Net → List ℕ → List Line → List Publish
+publishes_of net hosted steps = flat_map (publishes_in net hosted) steps
+
+-- a quiet moment takes the first publish that is left
+abbrev pub left_after : List Publish → Arrival → List Publish
+left_after left (datagram b bytes moment) = left
+left_after [] (quiet moment) = []
+left_after (x ∷ left) (quiet moment) = left
+
+-- A datagram
+
+-- a moment past the last tick is taken as the last tick
+abbrev pub at_moment : World → ℕ → World
+at_moment w moment = let now : ℕ = min moment max_tick in record { clock = now; most = max now w.most; frames = w.frames; views = w.views; logs = w.logs }
+
+-- The frame fits the broker: it is addressed to it, of a publisher that there is, and curiosity comes from a child, all else from
+-- the next broker towards the host
+abbrev pub fits_broker : Net → ℕ → Frame → Bool
+fits_broker net b f =
+    (nat_eq f.head.to b && nat_lt f.head.publisher net.publishers)
+    && elim f.body [
+      | body.Curiosity runs ↦ list_any (λ x. nat_eq x f.head.from) (net.children f.head.publisher b)
+      | _ ↦ elim (net.up f.head.publisher b) [ Some u ↦ nat_eq u f.head.from | None ↦ false ]
+    ]
+
+-- the ticks at which a piece clashes with what is known, as runs; the least of them
+abbrev pub clash_runs : Known → Known → Wanted
+clash_runs know piece = zip_runs Q Q N same_Q3 (λ k x. if clash_K k x then A else N) know piece
+
+abbrev pub first_of : Wanted → Option ℕ
+first_of [] = None
+first_of (r ∷ rs) = Some r.first
+
+-- the least tick at which knowledge clashes, if there is one
+abbrev pub least_clash : Known → Frame → Option ℕ
+least_clash know f = elim f.body [ body.Knowledge runs ↦ first_of (clash_runs know runs) | _ ↦ None ]
+
+-- the line of a clash at a tick
+abbrev pub clash_line : ℕ → Known → Frame → ℕ → Report
+clash_line b know f t = line.DroppedClash b t (known_at know t) (elim f.body [ body.Knowledge runs ↦ known_at runs t | _ ↦ Q ])
+
+-- the number of a fault of a frame, from 1 to 9; decoding never answers want of memory
+abbrev pub fault_number : FrameKind → ℕ
+fault_number Memory = 0
+fault_number Short = 1
+fault_number BadMagic = 2
+fault_number BadVersion = 3
+fault_number BadKind = 4
+fault_number BadRange = 5
+fault_number BadOrder = 6
+fault_number BadEvent = 7
+fault_number Trailing = 8
+fault_number TooLong = 9
+
+-- a frame that fits is received, unless it clashes
+unfoldable pub takes : Net → World → ℕ → Frame → Told
+takes net w b f =
+    elim (least_clash (view_of w b f.head.publisher).know f) [
+      | Some t ↦ unchanged w (clash_line b (view_of w b f.head.publisher).know f t ∷ [])
+      | None ↦ deliver_frame net w f
+    ]
+
+-- a datagram is decoded, then it must fit, then it must not clash; one that fails changes nothing
+unfoldable pub receives : Net → World → ℕ → Result Frame FrameFault → Told
+receives net w b (Err fault) = unchanged w (line.DroppedNotFrame b (fault_number fault.kind) fault.at ∷ [])
+receives net w b (Ok f) =
+    elim (fits_broker net b f) [
+      | false ↦ unchanged w (line.DroppedStray b f.head.from f.head.to f.head.publisher ∷ [])
+      | true ↦ takes net w b f
+    ]
+
+-- A quiet moment: the first publish that is left, and then each hosted broker is woken for each publisher
+
+abbrev pub published_first : Net → World → List Publish → Told
+published_first net w [] = unchanged w []
+published_first net w (x ∷ left) = publish_now net w x.0 x.1.0 x.1.1
+
+unfoldable pub quieted : Net → List ℕ → World → List Publish → Told
+quieted net hosted w left = after (published_first net w left) (in_turn (wake_all net) hosted)
+
+-- The run
+
+unfoldable pub comes : Net → List ℕ → World → List Publish → Arrival → Told
+comes net hosted w left (datagram b bytes moment) = receives net (at_moment w moment) b (frame_decoded bytes)
+comes net hosted w left (quiet moment) = quieted net hosted (at_moment w moment) left
+
+-- what is shown at the end, of the hosted brokers and publishers
+unfoldable pub show_hosted : Net → List ℕ → World → List Report
+show_hosted net hosted w =
+    line.Frames (length w.frames) ∷
+    (flat_map (λ p. let l = log_of w p in if is_hosted net hosted p then line.LogOf p l.last l.settled l.cut (kept_events l) ∷ [] else []) (numbers net.publishers)
+    ++ flat_map (λ b. flat_map (λ p. if keeps_horizon net p b then line.Doubt b p (view_of w b p).horizon ∷ [] else []) (numbers net.publishers)) hosted)
+
+-- the lines of each arrival, and then what is shown
+unfoldable pub served_from : Net → List ℕ → World → List Publish → List Arrival → List (List Report)
+served_from net hosted w left [] = show_hosted net hosted w ∷ []
+served_from net hosted w left (a ∷ arrivals) = let t = comes net hosted w left a in t.lines ∷ served_from net hosted t.world (left_after left a) arrivals
+
+-- the world after arrivals: its frames are what was offered to the network, in order, and its logs what the lanes hold
+unfoldable pub arrived : Net → List ℕ → World → List Publish → List Arrival → World
+arrived net hosted w left [] = w
+arrived net hosted w left (a ∷ arrivals) = let t = comes net hosted w left a in arrived net hosted t.world (left_after left a) arrivals
+
+-- A run over a journal: the opening, then each arrival in turn, then what is shown. The hosted brokers are given in rising order; of
+-- a publisher that is not hosted no log is looked at; and the journal ends with the list
+unfoldable pub served : Net → List ℕ → List Log → List Line → List Arrival → List (List Report)
+served net hosted logs steps arrivals = let o = opening net hosted logs in o.lines ∷ served_from net hosted o.world (publishes_of net hosted steps) arrivals

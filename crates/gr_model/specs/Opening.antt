@@ -1,0 +1,82 @@
+-- A start over logs that were found: the world, and what is told
+use Rattle.std.specs.Prelude.{◌≡◌, ℕ, ◌≤◌, true, false, nat_lt, if◌then◌else◌, List, [], ◌∷◌, ◌++◌, map, filter, get_or, replicate, None, flat_map}
+use Rattle.gr_model.specs.declared.report.Report.{Report}
+use Rattle.gr_model.specs.declared.report.Report.TheVariants as line
+use Rattle.gr_model.specs.Net.{Net, is_host, not_empty, numbers}
+use Rattle.gr_model.specs.Broker.{Log, empty_log, got_line, learn, started}
+use Rattle.gr_model.specs.World.{World, Told, view_of, log_of, absorbed, unchanged, after, in_turn}
+use Rattle.gr_model.specs.Said.{said_at, due_upto}
+use Rattle.gr_model.specs.Fits.{LogFits}
+use Rattle.gr_model.specs.Spelled.{LogIn}
+use Rattle.gr_model.specs.Headline.{Recorded, History}
+
+-- A log as it was found, with its ticks and events within their limits. Its events are those past its cut: what was cut is told
+-- to nobody any more
+pub record IsFound (log : Log) : Type 0 where
+  pub fits : LogFits log
+  pub past_cut : (t : ℕ) → t ≤ log.cut → said_at log.events t ≡ None
+  pub within : LogIn log
+
+-- the log of a publisher among those that were found
+abbrev pub found_log : List Log → ℕ → Log
+found_log logs p = get_or logs p empty_log
+
+-- of each publisher
+abbrev pub AreFound : Net → List Log → Type 0
+AreFound net logs = (p : ℕ) → IsFound (found_log logs p)
+
+-- brokers that know what their logs say, before any horizon has moved
+unfoldable pub over_logs : Net → List Log → World
+over_logs net logs = record {
+  clock = 0;
+  most = 0;
+  frames = [];
+  views = map (λ b. map (λ p. started net p b (found_log logs p)) (numbers net.publishers)) (numbers net.brokers);
+  logs = map (found_log logs) (numbers net.publishers);
+}
+
+-- the line of a log that is not empty
+abbrev pub found_line : Log → ℕ → List Report
+found_line log p = if nat_lt 0 log.settled then line.Opened p log.last log.settled log.cut ∷ [] else []
+
+-- A host with a subscriber learns nothing new, by which its horizon moves to where the log is settled; nothing is sent
+unfoldable pub opened_for : Net → World → ℕ → Told
+opened_for net w p =
+    after (unchanged w (found_line (log_of w p) p)) (λ u. elim (not_empty (net.subscribers_at (net.host p))) [
+      | true ↦ absorbed u (net.host p) p (learn net p (net.host p) [] (view_of u (net.host p) p) (log_of u p))
+      | false ↦ unchanged u []
+    ])
+
+-- the publishers of some brokers, broker by broker, and those of a broker in order
+abbrev pub publishers_at : Net → List ℕ → List ℕ
+publishers_at net bs = flat_map (λ b. filter (λ p. is_host net p b) (numbers net.publishers)) bs
+
+-- the hosted brokers start, in order, over the logs that were found
+unfoldable pub opening : Net → List ℕ → List Log → Told
+opening net hosted logs = in_turn (opened_for net) (publishers_at net hosted) (over_logs net logs)
+
+-- What the opening tells, said of the logs alone
+
+-- what a subscriber at the host gets at once: the events past the cut that it wants, and its horizon
+abbrev pub got_at_once : Net → Log → ℕ → ℕ → List Report
+got_at_once net log p s = if nat_lt 0 log.settled then map (got_line s p) (due_upto net s log.settled log.events) ++ line.Horizon s p log.settled ∷ [] else []
+
+-- of a publisher: its log, if that is not empty, and what each subscriber at its host gets
+abbrev pub told_at_opening : Net → List Log → ℕ → List Report
+told_at_opening net logs p = found_line (found_log logs p) p ++ flat_map (got_at_once net (found_log logs p) p) (net.subscribers_at (net.host p))
+
+-- The history where logs were found: the record begins with what they say
+
+abbrev pub recorded_of : Log → Recorded
+recorded_of log = record { last = log.last; settled = log.settled; events = log.events }
+
+unfoldable pub begin_over : Net → List Log → List Report → History
+begin_over net logs told = record {
+  clock = 0;
+  most = 0;
+  records = map (λ p. recorded_of (found_log logs p)) (numbers net.publishers);
+  found = map (λ p. (let log = found_log logs p in log.cut)) (numbers net.publishers);
+  lines = told;
+  heard = replicate net.brokers (replicate net.publishers []);
+  bare = replicate net.publishers true;
+}
