@@ -11,7 +11,7 @@ use Rattle.gr_tick.specs.Stored.{within, EndBefore, RunsGive}
 use Rattle.gr_tick.proofs.RunLaws.{value_at-start}
 use Rattle.gr_tick.proofs.RunsLemmas.{value_at_past}
 use Rattle.gr_curio.specs.Values.{wanted_at, is_A, is_C}
-use Rattle.gr_curio.specs.Wants.{runs_of, wants_of, all_A, any_C, is_reached, is_consolidated}
+use Rattle.gr_curio.specs.Wants.{runs_of, wants_of, all_A, any_C, is_reached, is_consolidated, HasChange}
 use Rattle.gr_curio.specs.declared.values.Q3.{Q3}
 use Rattle.gr_curio.specs.declared.values.Q3.TheVariants.{N, C, A}
 
@@ -57,6 +57,17 @@ give_child rs ws g h k e same = record {
   in_range = subst (λ z. EndBefore z (2 ^ 62 + 1)) e k.in_range;
   values = λ t. sym (ap (λ z. wanted_at z t) e) ∙ k.values t ∙ same t;
 }
+
+-- a change among the children so far, or of the next one
+pub change_more : (before t : ℕ) (cs : List (Kept Q3)) (i : ℕ) (c : Kept Q3) → i < length cs → c ≡ get_or cs i c → HasChange before t (take i cs) ⊎ (wanted_at c.runs t ≢ wanted_at c.runs before) → HasChange before t (take (i + 1) cs)
+change_more before t cs i c lt e h = subst (HasChange before t) (sym (take_more cs i c lt ∙ ap (λ z. take i cs ++ z ∷ []) (sym e))) (with_last (take i cs) h)
+  where
+    with_last : (xs : List (Kept Q3)) → HasChange before t xs ⊎ (wanted_at c.runs t ≢ wanted_at c.runs before) → HasChange before t (xs ++ c ∷ [])
+    with_last [] (inl x) = absurd x
+    with_last [] (inr x) = inl x
+    with_last (y ∷ ys) (inl (inl x)) = inl x
+    with_last (y ∷ ys) (inl (inr x)) = inr (with_last ys (inl x))
+    with_last (y ∷ ys) (inr x) = inr (with_last ys (inr x))
 
 -- one child more
 pub all_more : (p q : Kept Q3 → Bool) (cs : List (Kept Q3)) (i : ℕ) (c : Kept Q3) → i < length cs → c ≡ get_or cs i c → list_all p (take i cs) ≡ list_all q (take i cs) → p c ≡ q c → list_all p (take (i + 1) cs) ≡ list_all q (take (i + 1) cs)

@@ -1,5 +1,5 @@
 -- What the children ask and acknowledge, tick by tick
-use Rattle.std.specs.Prelude.{ℕ, Bool, true, ◌&&◌, nat_le, if◌then◌else◌, List, [], map, get_or, Option, Some, None}
+use Rattle.std.specs.Prelude.{ℕ, ◌≢◌, ◌⊎◌, Bool, true, ◌&&◌, nat_le, if◌then◌else◌, List, [], ◌∷◌, map, get_or, Option, Some, None}
 use Rattle.std.specs.List.{list_any, list_all}
 use Rattle.gr_tick.specs.Kept.{Kept}
 use Rattle.gr_curio.specs.Values.{Wanted, wanted_at, is_C, is_A}
@@ -34,3 +34,8 @@ is_consolidated horizon wants t = nat_le 1 t && is_reached horizon t && all_A wa
 -- a child's curiosity where a range of ticks was answered
 abbrev pub answered_of : Bool → Q3 → Q3
 answered_of inside a = if inside && is_C a then N else a
+
+-- some child's value at a tick is not that at an earlier one
+abbrev pub HasChange : ℕ → ℕ → List (Kept Q3) → Type 0
+HasChange before t [] = ⊥
+HasChange before t (child ∷ children) = (wanted_at child.runs t ≢ wanted_at child.runs before) ⊎ HasChange before t children

@@ -1,4 +1,4 @@
-ghost use Rattle.std.specs.Prelude.{◌≡◌, ℕ, ◌+◌, ◌^◌, ◌<◌, ◌≤◌, IfOk, OnOk, OnErr, [], length, slice_get, Some};
+ghost use Rattle.std.specs.Prelude.{◌≡◌, ◌≢◌, ◌⊎◌, ℕ, ◌+◌, ◌^◌, ◌<◌, ◌≤◌, IfOk, OnOk, OnErr, [], length, slice_get, Some};
 ghost use Rattle.gr_tick.specs.Runs.{AreRuns};
 ghost use Rattle.gr_tick.specs.Stored.{IsRun, EndBefore, RunsGive};
 ghost use Rattle.gr_curio.specs.Moments.{is_at_most, later_of, moment_laws};
@@ -163,11 +163,12 @@ fn due_value(moment: &Moment, wanted: Q3, now: u64, retry: u64) -> Q3
     }
 }
 
-/// A tick up to which neither what is wanted, nor where it is wanted the moment of the last ask, changes.
+/// The greatest tick up to which neither what is wanted, nor where it is wanted the moment of the last ask, changes.
 fn same_until(moments: &Stream<Moment>, wanted: &Piece<Q3>, tick: u64) -> u64
     requires { tick ≤ 2 ^ 62 }
     ensures forward { tick ≤ result }
     ensures inside { result ≤ 2 ^ 62 }
+    ensures greatest { result < 2 ^ 62 → (wanted_at wanted.now (result + 1) ≢ wanted_at wanted.now tick) ⊎ (asked_at moments.now.runs (result + 1) ≢ asked_at moments.now.runs tick) }
     ensures due { (t now retry : ℕ) → tick ≤ t → t ≤ result → due_of (asked_at moments.now.runs t) (wanted_at wanted.now t) now retry ≡ due_of (asked_at moments.now.runs tick) (wanted_at wanted.now tick) now retry }
 {
     let end = wanted.steady_until(tick);

@@ -1,10 +1,10 @@
 //! The children's curiosity, as a slice of streams.
-ghost use Rattle.std.specs.Prelude.{if◌then◌else◌, ◌≡◌, ◌↔◌, IsTrue, ℕ, ◌^◌, ◌<◌, ◌≤◌, IfOk, [], length, replicate, true, false};
+ghost use Rattle.std.specs.Prelude.{if◌then◌else◌, ◌≡◌, ◌↔◌, IsTrue, ℕ, ◌+◌, ◌^◌, ◌<◌, ◌≤◌, IfOk, [], length, replicate, true, false};
 ghost use Rattle.std.specs.Option.{ForSome, ForNone};
 ghost use Rattle.std.specs.List.{list_all, list_any};
 ghost use Rattle.gr_tick.specs.Stored.{within, RunsGive};
 ghost use Rattle.gr_curio.specs.Values.{wanted_at, is_A, is_C};
-ghost use Rattle.gr_curio.specs.Wants.{runs_of, any_C, is_reached, is_consolidated};
+ghost use Rattle.gr_curio.specs.Wants.{runs_of, any_C, is_reached, is_consolidated, HasChange};
 ghost use Rattle.gr_curio.specs.declared.values.Q3.TheVariants.{N, C, A};
 
 use crate::values::Q3;
@@ -84,12 +84,13 @@ fn some_asks(children: &[Stream<Q3>], tick: u64) -> bool
     children.iter().any(|child| asks_at(child, tick))
 }
 
-/// A tick up to which each child's value stays that of `tick`.
+/// The greatest tick up to `limit` up to which each child's value stays that of `tick`.
 fn agree_until(children: &[Stream<Q3>], tick: u64, limit: u64) -> u64
     requires ordered { tick ≤ limit }
     requires upto { limit ≤ 2 ^ 62 }
     ensures forward { tick ≤ result }
     ensures inside { result ≤ limit }
+    ensures greatest { result < limit → HasChange tick (result + 1) children.now }
     ensures acknowledged { (t : ℕ) → tick ≤ t → t ≤ result → list_all (λ child. is_A (wanted_at child.runs t)) children.now ≡ list_all (λ child. is_A (wanted_at child.runs tick)) children.now }
     ensures asked { (t : ℕ) → tick ≤ t → t ≤ result → list_any (λ child. is_C (wanted_at child.runs t)) children.now ≡ list_any (λ child. is_C (wanted_at child.runs tick)) children.now }
 {

@@ -3,7 +3,7 @@ ghost use Rattle.std.specs.Prelude.{◌≤◌, ◌<◌, ◌^◌, ℕ};
 use crate::asks::{Asks, Moment};
 use crate::values::Q3;
 use crate::wants::Wants;
-use gr_tick::{Lattice, MAX_TICK, Piece, Run, Stream};
+use gr_tick::{Lattice, MAX_TICK, Piece, Run, Stream, is_bottom};
 use std::alloc::Global;
 use std::process::Abort;
 use std::test::Fail;
@@ -18,16 +18,82 @@ fn joins_and_lowers(rt: HostRuntime) -> Result<(), Fail> {
     stream.join_range(4, 5, Q3::A);
     let piece = stream.piece(1, 9)?;
     assert_eq!(rt; piece.len(), 3);
-    let second = piece.run(1);
-    assert_eq!(rt; second.first, 4);
-    assert_eq!(rt; second.last, 5);
-    assert!(rt; second.value.same(&Q3::A));
-    let third = piece.run(2);
-    assert_eq!(rt; third.first, 6);
-    assert_eq!(rt; third.last, 9);
+    for (i, wanted) in [(0, (1, 3, Q3::C)), (1, (4, 5, Q3::A)), (2, (6, 9, Q3::C))] {
+        let run = piece.run(i);
+        assert_eq!(rt; (run.first, run.last, run.value), wanted);
+    }
     stream.lower_range(1, 3)?;
     assert_eq!(rt; stream.first_bottom_from(1), 1);
     assert_eq!(rt; stream.first_bottom_from(4), 10);
+    Ok(())
+}
+
+// Of a run 1 to 9, what lies in 3 to 7 comes to a stream that has tick 5.
+#[test]
+fn a_piece_is_cut_and_joined(rt: HostRuntime) -> Result<(), Fail> {
+    let mut piece = Piece::new(rt.alloc());
+    let run = Run {
+        first: 1,
+        last: 9,
+        value: Q3::C,
+    };
+    piece.push_cut(&run, 3, 7)?;
+    let mut stream = Stream::new(rt.alloc());
+    stream.reserve(1)?;
+    stream.join_range(5, 5, Q3::A);
+    stream.join_piece(&piece)?;
+    for (tick, value) in [
+        (2, Q3::N),
+        (3, Q3::C),
+        (4, Q3::C),
+        (5, Q3::A),
+        (6, Q3::C),
+        (7, Q3::C),
+        (8, Q3::N),
+    ] {
+        assert_eq!(rt; stream.at(tick), value, "at tick {tick}");
+    }
+    assert_eq!(rt; stream.len(), 3);
+    Ok(())
+}
+
+/// Whether the join of two values is the one that is wanted, both ways round.
+fn joins_to<V: Lattice>(one: &V, other: &V, wanted: &V) -> bool {
+    let joined = one.share().join(other.share());
+    let turned = other.share().join(one.share());
+    joined.same(wanted) && turned.same(wanted)
+}
+
+/// Whether one value is below another one.
+fn is_below<V: Lattice>(low: &V, high: &V) -> bool {
+    low.at_most(high) && !high.at_most(low) && !low.same(high) && !high.same(low)
+}
+
+/// Whether a value is the least one.
+fn is_least<V: Lattice>(value: &V) -> bool {
+    let least = V::bottom();
+    is_bottom(value) && value.same(&least) && least.at_most(value)
+}
+
+/// Three values that rise from the least one: each pair joins to the greater one.
+fn rises<V: Lattice>(rt: &impl Abort, low: &V, middle: &V, high: &V) {
+    assert!(rt; is_least(low));
+    for (below, above) in [(low, middle), (middle, high), (low, high)] {
+        assert!(rt; is_below(below, above));
+        assert!(rt; joins_to(below, above, above));
+        assert!(rt; !is_least(above));
+    }
+    for value in [low, middle, high] {
+        assert!(rt; value.share().same(value));
+        assert!(rt; value.at_most(value));
+        assert!(rt; joins_to(value, value, value));
+    }
+}
+
+#[test]
+fn curiosity_and_moments_rise(rt: HostRuntime) -> Result<(), Fail> {
+    rises(&rt, &Q3::N, &Q3::C, &Q3::A);
+    rises(&rt, &Moment::Never, &Moment::At(0), &Moment::At(1));
     Ok(())
 }
 

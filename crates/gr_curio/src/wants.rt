@@ -137,7 +137,8 @@ impl Wants {
     }
 
     /// Acknowledged at the ticks that every child has acknowledged, and that the horizon, if one is kept, has come to: what a
-    /// broker may acknowledge upstream. There has to be a child or a horizon. It fails only where memory is refused.
+    /// broker may acknowledge upstream. There has to be a child or a horizon; a horizon is at most `MAX_TICK`. It fails only where
+    /// memory is refused.
     pub fn consolidate(&self, horizon: Option<u64>) -> Result<Piece<Q3>, AllocError>
         requires some { ForNone horizon (0 < length self.now) }
         requires upto { ForSome horizon (λ h. h ≤ 2 ^ 62) }
