@@ -135,15 +135,44 @@ fn reads_the_example(rt: HostRuntime) -> Result<(), Fail> {
     Ok(())
 }
 
+/// The example with one byte changed, field by field.
 #[test]
 fn refuses_a_changed_field(rt: HostRuntime) -> Result<(), Fail> {
-    let changes: [(usize, u8, FrameKind, usize); 7] = [
+    let changes: [(usize, u8, FrameKind, usize); 26] = [
         (0, 0x48, FrameKind::BadMagic, 0),
         (1, 0x4c, FrameKind::BadMagic, 0),
         (2, 0x02, FrameKind::BadVersion, 2),
         (3, 0x04, FrameKind::BadKind, 3),
+        // An Expect with the count 2.
+        (3, 0x03, FrameKind::BadRange, 10),
         (11, 0x00, FrameKind::BadRange, 10),
+        // One run, and 35 bytes behind it.
+        (11, 0x01, FrameKind::Trailing, 29),
+        // A third run would begin where the bytes end.
+        (11, 0x03, FrameKind::Short, 64),
+        (12, 0x40, FrameKind::BadRange, 12),
+        (19, 0x00, FrameKind::BadRange, 12),
+        // From 1,025 to 999.
+        (18, 0x04, FrameKind::BadRange, 20),
+        (20, 0x40, FrameKind::BadRange, 20),
         (28, 0x00, FrameKind::BadKind, 28),
+        // An event of no bytes.
+        (28, 0x02, FrameKind::BadEvent, 31),
+        // From 768 on, behind silence up to 999.
+        (36, 0x00, FrameKind::BadOrder, 29),
+        // Up to 768.
+        (44, 0x00, FrameKind::BadRange, 37),
+        // Silence behind silence.
+        (45, 0x01, FrameKind::BadOrder, 29),
+        (45, 0x03, FrameKind::Trailing, 46),
+        (45, 0x04, FrameKind::BadKind, 45),
+        // An event of 272 bytes, of 15 and of 17, where 16 are left.
+        (46, 0x01, FrameKind::Short, 64),
+        (47, 0x0f, FrameKind::BadEvent, 48),
+        (47, 0x11, FrameKind::Short, 64),
+        (48, 0x02, FrameKind::BadEvent, 48),
+        (49, 0x00, FrameKind::BadEvent, 48),
+        (50, 0xff, FrameKind::BadEvent, 48),
         (55, 0x09, FrameKind::BadEvent, 48),
     ];
     for (place, byte, kind, at) in changes {
@@ -152,8 +181,31 @@ fn refuses_a_changed_field(rt: HostRuntime) -> Result<(), Fail> {
             Some(there) => *there = byte,
             None => return Err(Fail::from("no such place")),
         }
-        assert!(rt; is_refused(rt.alloc(), &bytes, kind, at));
+        assert!(rt;
+            is_refused(rt.alloc(), &bytes, kind, at),
+            "byte {place} as {byte}"
+        );
     }
+    Ok(())
+}
+
+/// The example with other numbers in its head, which any frame may have.
+#[test]
+fn reads_a_changed_head(rt: HostRuntime) -> Result<(), Fail> {
+    let mut bytes = bytes_of(rt.alloc(), PRICE, "")?;
+    for (place, byte) in [(4, 0xff), (5, 0xfe), (6, 0x01), (9, 0x03)] {
+        match bytes.get_mut(place) {
+            Some(there) => *there = byte,
+            None => return Err(Fail::from("no such place")),
+        }
+    }
+    let head = Head {
+        from: 65_534,
+        to: 257,
+        publisher: 3,
+    };
+    assert_eq!(rt; decode(rt.alloc(), &bytes)?.head, head);
+    assert!(rt; is_spelled_again(&rt, rt.alloc(), &bytes)?);
     Ok(())
 }
 
