@@ -6,10 +6,12 @@ use Rattle.gr_out.specs.Lane.{Lane, content, moment, LeftSince, LeavesOnly, with
 use Rattle.gr_publog.specs.declared.record.State.{State}
 use Rattle.gr_publog.proofs.Moments.{only_now}
 use Rattle.gr_publog.specs.declared.record.Record.{Record}
-use Rattle.gr_publog.specs.State.{empty_state, state_of, may_follow, IsSound, Follow, after_record}
+use Rattle.gr_publog.specs.declared.record.Entry.{Entry}
+use Rattle.gr_publog.specs.State.{empty_state, state_of, live_events, live_after, may_follow, IsSound, Follow, after_record}
 use Rattle.gr_publog.specs.Text.{record_bytes, blocks, header, front_text, log_text, Closes, IsSpelled}
 use Rattle.gr_publog.specs.Crash.{behind_gate, opened_gate, IsBetween, BeforeOrAfter, Stands}
 use Rattle.gr_publog.proofs.Reading.{reads, blocks-append, follow_more, state_more}
+use Rattle.gr_publog.proofs.Live.{live_more}
 
 -- the text with one more record
 front_more : (rs : List Record) (r : Record) (rest : List ℕ) → front_text (rs ++ r ∷ []) ++ rest ≡ front_text rs ++ 1 ∷ (record_bytes r ++ rest)
@@ -147,12 +149,13 @@ stands_after l l1 l2 n gate rs r b s e place ok sound text written only =
     record { text = appended rs r (content l) gate s.text place ok sound (content l2) is; only = only }
 
 -- What is kept of one record more
-pub log_more : (gate gate' : ℕ) (s s' : State) (rs rs' : List Record) (r k : Record) (b : List ℕ) → gate ≡ length (front_text rs) → s ≡ state_of rs → Follow empty_state rs
-    → may_follow (state_of rs) r ≡ true → IsSound r → rs' ≡ rs ++ k ∷ [] → k ≡ r → s' ≡ after_record s r → b ≡ record_bytes r ++ 0 ∷ [] → gate' ≡ gate + length b
-    → (gate' ≡ length (front_text rs')) × (s' ≡ state_of rs') × Follow empty_state rs'
-log_more gate gate' s s' rs rs' r k b place state follow ok sound more same later text gates =
+pub log_more : (gate gate' : ℕ) (s s' : State) (rs rs' : List Record) (r k : Record) (b : List ℕ) (es es' : List Entry) → gate ≡ length (front_text rs) → s ≡ state_of rs → Follow empty_state rs → es ≡ live_events rs
+    → may_follow (state_of rs) r ≡ true → IsSound r → rs' ≡ rs ++ k ∷ [] → k ≡ r → s' ≡ after_record s r → es' ≡ live_after es r → b ≡ record_bytes r ++ 0 ∷ [] → gate' ≡ gate + length b
+    → (gate' ≡ length (front_text rs')) × (s' ≡ state_of rs') × Follow empty_state rs' × (es' ≡ live_events rs')
+log_more gate gate' s s' rs rs' r k b es es' place state follow live ok sound more same later live' text gates =
     let all : rs' ≡ rs ++ r ∷ [] = more ∙ ap (λ (x : Record). rs ++ x ∷ []) same in (
       gates ∙ omega (arith, place, ap length text, length-append (record_bytes r) (0 ∷ []), length-front_more rs r) ∙ ap (λ (x : List Record). length (front_text x)) (sym all),
       later ∙ ap (λ (x : State). after_record x r) state ∙ sym (state_more rs r) ∙ ap state_of (sym all),
       subst (Follow empty_state) (sym all) (follow_more rs r follow ok sound),
+      live' ∙ ap (λ (x : List Entry). live_after x r) live ∙ live_more rs r follow ok ∙ ap live_events (sym all),
     )

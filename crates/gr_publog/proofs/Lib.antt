@@ -1,6 +1,7 @@
 pub mod Numbers
 pub mod Reading
 pub mod Moments
+pub mod Live
 pub mod Appending
 pub mod Crash
 pub mod Opening

@@ -1,5 +1,5 @@
 -- What a list of records stands for: the last number, the ticks settled and cut, and the events past the cut
-use Rattle.std.specs.Prelude.{◌≡◌, ℕ, ◌+◌, ◌^◌, ◌<◌, Bool, true, if◌then◌else◌, ◌&&◌, ◌==◌, nat_lt, nat_le, List, [], ◌∷◌}
+use Rattle.std.specs.Prelude.{◌≡◌, ℕ, ◌+◌, ◌^◌, ◌<◌, Bool, true, if◌then◌else◌, ◌&&◌, ◌==◌, nat_lt, nat_le, List, [], ◌∷◌, ◌++◌, filter}
 use Rattle.gr_event.specs.declared.event.Event.{Event as EventPairs}
 use Rattle.gr_event.specs.Limits.{IsEvent}
 use Rattle.gr_publog.specs.declared.record.Record.{Record}
@@ -40,6 +40,12 @@ events_past cut (Cut tick ∷ rs) = events_past cut rs
 -- the logged events past the cut
 abbrev pub live_events : List Record → List Entry
 live_events rs = events_past (state_of rs).cut rs
+
+-- the logged events past the cut, after one more record
+abbrev pub live_after : List Entry → Record → List Entry
+live_after es (Event tick number event) = es ++ record { tick = tick; number = number; event = event } ∷ []
+live_after es (Mark tick) = es
+live_after es (Cut tick) = filter (λ e. nat_lt tick e.tick) es
 
 -- the tick of an Event or a Mark
 abbrev pub may_settle : State → ℕ → Bool

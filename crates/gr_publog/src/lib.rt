@@ -6,7 +6,7 @@ pub mod read;
 pub mod record;
 pub mod steps;
 
-pub use log::Log;
+pub use log::{Entries, Log};
 pub use record::{Entry, LogFault, Memory, Record};
 
 #[cfg(test)]

@@ -4,7 +4,7 @@ ghost use Rattle.std.specs.Prelude.{◌≡◌, ◌≢◌, ◌↔◌, ◌⊎◌, 
 ghost use Rattle.std.specs.Vec.{vec_capacity};
 ghost use Rattle.gr_event.specs.Event.{event_bytes};
 ghost use Rattle.gr_out.specs.Lane.{content, moment, LeftSince, MayLeave, with_room};
-ghost use Rattle.gr_publog.specs.State.{empty_state, state_of, live_events, may_follow, Follow, IsSound};
+ghost use Rattle.gr_publog.specs.State.{empty_state, state_of, events_past, live_events, live_after, may_follow, Follow, IsSound};
 ghost use Rattle.gr_publog.specs.Text.{log_text, front_text, record_bytes, record_size};
 ghost use Rattle.gr_publog.specs.Crash.{LogView, with_record, failed, Stands, BeforeOrAfter, EitherRose, OpensAs, DiskRose};
 ghost use Rattle.gr_publog.specs.Gives.{Fails};
@@ -21,7 +21,38 @@ use std::marker::Model;
 /// The greatest place of a gate behind which a record is appended.
 const LAST_GATE: u64 = 1 << 62;
 
-/// A log: its records, and the place of the closed gate behind them.
+/// Logged events in their order, seen as a list.
+#[derive(Drop)]
+pub struct Entries {
+    entries: Vec<Entry>,
+}
+
+impl Model for Entries {
+    ghost use Rattle.std.specs.Prelude.{List};
+    ghost use Rattle.gr_publog.specs.declared.record.Entry.{Entry};
+
+    ghost Value = { List Entry };
+
+    ghost view = { λ e. e.entries.items };
+}
+
+impl Entries {
+    /// How many there are.
+    pub fn len(&self) -> usize
+        ensures { result ≡ length self.now }
+    {
+        self.entries.len()
+    }
+
+    /// The events, the first one first.
+    pub fn as_slice(&self) -> &[Entry]
+        ensures { result.now ≡ self.now }
+    {
+        self.entries.as_slice()
+    }
+}
+
+/// A log: its records, the events of these past the cut, and the place of the closed gate behind the records.
 #[derive(Drop)]
 pub struct Log {
     alloc: Global,
@@ -29,6 +60,7 @@ pub struct Log {
     gate: u64,
     records: Vec<Record>,
     state: State,
+    events: Entries,
     broken: bool,
 }
 
@@ -37,7 +69,7 @@ impl Model for Log {
 
     ghost view = { λ l. record { lane = l.lane; records = l.records.items; broken = l.broken } };
 
-    ghost invariant = { λ l. (l.gate ≡ length (front_text l.records.items)) × (l.state ≡ state_of l.records.items) × Follow empty_state l.records.items };
+    ghost invariant = { λ l. (l.gate ≡ length (front_text l.records.items)) × (l.state ≡ state_of l.records.items) × Follow empty_state l.records.items × (l.events ≡ live_events l.records.items) };
 }
 
 /// The bytes of a record, and a closed gate behind them.
@@ -86,6 +118,68 @@ fn keep(records: &mut Vec<Record>, entry: Record)
     ensures { records.new.items ≡ records.old.items ++ entry ∷ [] }
 {
     records.push(entry).unwrap();
+}
+
+/// Makes room for one more record and one more event. Both lists stay as they are.
+fn make_room(records: &mut Vec<Record>, events: &mut Vec<Entry>) -> Result<(), Memory>
+    ensures records { records.new.items ≡ records.old.items }
+    ensures events { events.new.items ≡ events.old.items }
+    ensures room { OnOk result (vec_len records.new < vec_capacity records.new) }
+    ensures event_room { OnOk result (vec_len events.new < vec_capacity events.new) }
+{
+    records.reserve(1)?;
+    events.reserve(1)
+}
+
+/// The events of records past a tick.
+fn events_past(alloc: Global, cut: u64, records: &[Record]) -> Result<Entries, Memory>
+    ensures { IfOk result (λ es. es ≡ events_past cut records.now) }
+{
+    let mut entries = Vec::new(alloc);
+    'records: for entry in records {
+        match entry {
+            Record::Event {
+                tick,
+                number,
+                event,
+            } => {
+                if *tick > cut {
+                    entries.push(Entry {
+                        tick: *tick,
+                        number: *number,
+                        event: event.share(),
+                    })?;
+                }
+            }
+            Record::Mark { .. } => {}
+            Record::Cut { .. } => {}
+        }
+    }
+    Ok(Entries { entries })
+}
+
+/// Puts the event of one more record at the end, or drops those that it cuts. Takes no memory.
+fn note_event(events: &mut Vec<Entry>, entry: &Record)
+    requires { vec_len events.old < vec_capacity events.old }
+    ensures { events.new.items ≡ live_after events.old.items entry.now }
+{
+    match entry {
+        Record::Event {
+            tick,
+            number,
+            event,
+        } => {
+            events
+                .push(Entry {
+                    tick: *tick,
+                    number: *number,
+                    event: event.share(),
+                })
+                .unwrap();
+        }
+        Record::Mark { .. } => {}
+        Record::Cut { tick } => events.retain(|event| event.tick > *tick),
+    }
 }
 
 /// An equal record. Takes no memory.
@@ -164,16 +258,21 @@ impl Log {
             Ok(bytes) => bytes,
             Err(fault) => return Err(fault),
         };
-        match log_in(alloc, &bytes) {
-            Ok((records, state, gate)) => Ok(Log {
+        let (records, state, gate) = match log_in(alloc, &bytes) {
+            Ok(found) => found,
+            Err(fault) => return Err(fault),
+        };
+        match events_past(alloc, state.cut, &records) {
+            Ok(events) => Ok(Log {
                 alloc,
                 lane,
                 gate: gate as u64,
                 records,
                 state,
+                events,
                 broken: false,
             }),
-            Err(fault) => Err(fault),
+            Err(_) => Err(LogFault::Memory),
         }
     }
 
@@ -187,6 +286,9 @@ impl Log {
             gate: 5,
             records: Vec::new(alloc),
             state: State::new(),
+            events: Entries {
+                entries: Vec::new(alloc),
+            },
             broken: false,
         }
     }
@@ -213,7 +315,8 @@ impl Log {
             return Err(LogFault::Reopen);
         }
         let bytes = prepare(self.alloc, disk, self.lane, self.gate, entry)?;
-        self.records.reserve(1)?;
+        let events = &mut self.events;
+        make_room(&mut self.records, &mut events.entries)?;
         let kept = copy_of(entry);
         match append_behind(disk, self.lane, self.gate, &bytes) {
             Ok(()) => {}
@@ -224,6 +327,7 @@ impl Log {
         }
         self.gate += bytes.len() as u64;
         self.state.note(entry);
+        note_event(&mut events.entries, entry);
         keep(&mut self.records, kept);
         Ok(())
     }
@@ -239,6 +343,13 @@ impl Log {
             Record::Mark { tick } => self.state.may_settle(*tick),
             Record::Cut { tick } => self.state.may_cut(*tick),
         }
+    }
+
+    /// The logged events past the cut. Takes no memory.
+    pub fn events(&self) -> &Entries
+        ensures { result.now ≡ live_events self.now.records }
+    {
+        &self.events
     }
 
     /// The number of the last event, 0 where there is none. Takes no memory.

@@ -37,6 +37,36 @@ fn opens_and_appends(rt: HostRuntime) -> Result<(), Fail> {
     Ok(())
 }
 
+/// Whether the events of a log are `{"price":82}` alone, with number 1 at tick 1000.
+fn has_the_price(alloc: Global, log: &Log) -> Result<bool, Fail> {
+    let price = Event::from_text(alloc, b"{\"price\":82}")?;
+    Ok(match log.events().as_slice() {
+        [entry] => entry.tick == 1000 && entry.number == 1 && entry.event.same(&price),
+        _ => false,
+    })
+}
+
+/// The events are those past the cut, of the log itself and of one that is opened on its lane.
+#[test]
+fn hands_out_the_events_past_the_cut(rt: HostRuntime) -> Result<(), Fail> {
+    let alloc = rt.alloc();
+    let mut disk = MemDisk::new(alloc, &[])?;
+    disk.put(0, ONE_EVENT)?;
+    let mut log = Log::open(alloc, &mut disk, 0)?;
+    assert!(rt; has_the_price(alloc, &log)?);
+    let cut = Record::Cut { tick: 999 };
+    assert!(rt; log.may_follow(&cut));
+    log.append(&mut disk, &cut)?;
+    assert!(rt; has_the_price(alloc, &log)?);
+    let cut = Record::Cut { tick: 1000 };
+    assert!(rt; log.may_follow(&cut));
+    log.append(&mut disk, &cut)?;
+    assert_eq!(rt; log.events().len(), 0);
+    let again = Log::open(alloc, &mut disk, 0)?;
+    assert_eq!(rt; again.events().len(), 0);
+    Ok(())
+}
+
 /// A lane of six bytes is an empty log, whatever they are.
 #[test]
 fn six_bytes_are_empty(rt: HostRuntime) -> Result<(), Fail> {

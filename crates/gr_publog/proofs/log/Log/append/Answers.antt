@@ -1,7 +1,8 @@
 -- The record stands behind a closed gate before the gate is opened
 use Rattle.std.proofs.Common.{◌≡◌, ◌+◌, ◌++◌, ◌∷◌, [], false, true, ℕ, List, length, ap, sym, ◌∙◌, subst, arith, rules}
 use Rattle.gr_publog.specs.declared.record.Record.{Record}
-use Rattle.gr_publog.specs.State.{state_of, may_follow}
+use Rattle.gr_publog.specs.declared.record.Entry.{Entry}
+use Rattle.gr_publog.specs.State.{state_of, may_follow, live_after}
 use Rattle.gr_publog.specs.Text.{front_text, record_bytes}
 use Rattle.gr_publog.specs.Crash.{Stands}
 use Rattle.gr_publog.proofs.Crash.{stays, stays_room, moments, stands_after, log_more}
@@ -12,8 +13,8 @@ returns-in_err-bytes-clause-any_moment g c = λ t b.
     let same = ap (λ v. v.lane) c.self.view_is in
     stays _ _ _ _ (c.requires.stands t b) (rw same at (c.in_err-bytes.ensures.err t))
 
-pub returns-in_err-reserve-clause-any_moment : goal.returns-in_err-reserve-clause-any_moment
-returns-in_err-reserve-clause-any_moment g c = λ t b.
+pub returns-in_err-make_room-clause-any_moment : goal.returns-in_err-make_room-clause-any_moment
+returns-in_err-make_room-clause-any_moment g c = λ t b.
     let same = ap (λ v. v.lane) c.self.view_is in
     stays_room _ _ _ _ _ (c.requires.stands t b) (rw same at (c.in_ok-bytes.ensures.room t))
 
@@ -38,4 +39,4 @@ returns-clause-stands g c = rw (← c.self.view_is) (λ t.
 pub invariant_of-self-2 : goal.invariant_of-self-2
 invariant_of-self-2 g c =
     let f = rw (← c.self.view_is) at c.requires.follows in
-    log_more _ _ _ _ _ _ c.args.entry.now c.copy_of-kept.result c.in_ok-bytes.bytes.items c.self.invariant.0 c.self.invariant.1 c.self.invariant.2 f c.copy_of-kept.ensures.sound (c.keep.ensures ∙ ap (λ (x : List Record). x ++ c.copy_of-kept.result ∷ []) c.reserve.ensures.items) c.copy_of-kept.ensures.same c.note.ensures c.in_ok-bytes.ensures.bytes (omega (arith, c.len.ensures))
+    log_more _ _ _ _ _ _ c.args.entry.now c.copy_of-kept.result c.in_ok-bytes.bytes.items _ _ c.self.invariant.0 c.self.invariant.1 c.self.invariant.2 c.self.invariant.3 f c.copy_of-kept.ensures.sound (c.keep.ensures ∙ ap (λ (x : List Record). x ++ c.copy_of-kept.result ∷ []) c.make_room.ensures.records) c.copy_of-kept.ensures.same c.note.ensures (c.note_event.ensures ∙ ap (λ (l : List Entry). live_after l c.args.entry.now) (c.make_room.ensures.events ∙ c.events.view_is)) c.in_ok-bytes.ensures.bytes (omega (arith, c.len.ensures))
