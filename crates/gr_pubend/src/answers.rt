@@ -7,16 +7,11 @@ use gr_tick::Piece;
 #[derive(Drop)]
 pub enum Published {
     /// It is logged at this tick. The tick is new, and so is the silence before it.
-    Logged {
-        tick: u64,
-        fresh: Piece<K>,
-    },
+    Logged { tick: u64, fresh: Piece<K> },
     /// An event of this number was logged before.
     Already,
     /// The number is not the next one, which is `next`.
-    Gap {
-        next: u64,
-    },
+    Gap { next: u64 },
     /// No tick is left.
     Exhausted,
 }
@@ -27,8 +22,5 @@ pub enum Quieted {
     /// It was not long enough.
     NotYet,
     /// A mark is logged at this tick. The silence up to it is new.
-    Marked {
-        tick: u64,
-        fresh: Piece<K>,
-    },
+    Marked { tick: u64, fresh: Piece<K> },
 }

@@ -99,12 +99,7 @@ fn make_final(know: &mut Know, upto: u64) -> Result<(), Memory>
 }
 
 /// Learns events behind a cut, with the silence between them, and answers the last tick that is known then.
-fn learn_events(
-    alloc: Global,
-    know: &mut Know,
-    cut: u64,
-    events: &[Entry],
-) -> Result<u64, Memory>
+fn learn_events(alloc: Global, know: &mut Know, cut: u64, events: &[Entry]) -> Result<u64, Memory>
     requires known { RunsGive Q know.old (log_at (seen cut [])) }
     requires rise { EntriesRise cut events.now }
     requires upto { last_tick cut events.now ≤ 2 ^ 62 }

@@ -92,6 +92,8 @@ impl Pubend {
         ensures any_moment { D.tells → self.old.log.broken ≡ false → (image : List ℕ) → LeftSince (D.lane_of disk.new self.old.log.lane) (moment (D.lane_of disk.old self.old.log.lane)) image → Reads self.old.log.records (event_of (published (log_of self.old.log.records) number event.now now) number event.now) image }
         ensures untouched { (event_of (published (log_of self.old.log.records) number event.now now) number event.now) ≡ None → disk.new ≡ disk.old }
         ensures reopen { IsErrOf result LogFault.Reopen ↔ ((self.old.log.broken ≡ true) × IsSome (event_of (published (log_of self.old.log.records) number event.now now) number event.now)) }
+        ensures goes_on { OnOk result ((self.new.log.lane ≡ self.old.log.lane) × (self.new.log.broken ≡ self.old.log.broken)) }
+        ensures idle { IsErrOf result LogFault.Reopen → disk.new ≡ disk.old }
         ensures memory { IsErrOf result LogFault.Memory → self.new ≡ self.old }
         ensures still { D.tells → IsErrOf result LogFault.Memory → Stands (D.lane_of disk.new self.old.log.lane) self.old.log.records }
         ensures closed { IsErrOf result LogFault.Reopen → self.new ≡ self.old }
@@ -136,6 +138,8 @@ impl Pubend {
         ensures any_moment { D.tells → self.old.log.broken ≡ false → (image : List ℕ) → LeftSince (D.lane_of disk.new self.old.log.lane) (moment (D.lane_of disk.old self.old.log.lane)) image → Reads self.old.log.records (mark_of (quieted (log_of self.old.log.records) now quiet)) image }
         ensures untouched { (mark_of (quieted (log_of self.old.log.records) now quiet)) ≡ None → disk.new ≡ disk.old }
         ensures reopen { IsErrOf result LogFault.Reopen ↔ ((self.old.log.broken ≡ true) × IsSome (mark_of (quieted (log_of self.old.log.records) now quiet))) }
+        ensures goes_on { OnOk result ((self.new.log.lane ≡ self.old.log.lane) × (self.new.log.broken ≡ self.old.log.broken)) }
+        ensures idle { IsErrOf result LogFault.Reopen → disk.new ≡ disk.old }
         ensures memory { IsErrOf result LogFault.Memory → self.new ≡ self.old }
         ensures still { D.tells → IsErrOf result LogFault.Memory → Stands (D.lane_of disk.new self.old.log.lane) self.old.log.records }
         ensures closed { IsErrOf result LogFault.Reopen → self.new ≡ self.old }
@@ -164,6 +168,8 @@ impl Pubend {
         ensures stands { D.tells → OnOk result (Stands (D.lane_of disk.new self.old.log.lane) (self.old.log.records ++ Record.Cut tick ∷ [])) }
         ensures any_moment { D.tells → self.old.log.broken ≡ false → (image : List ℕ) → LeftSince (D.lane_of disk.new self.old.log.lane) (moment (D.lane_of disk.old self.old.log.lane)) image → BeforeOrAfter self.old.log.records (Record.Cut tick) image }
         ensures reopen { IsErrOf result LogFault.Reopen ↔ (self.old.log.broken ≡ true) }
+        ensures goes_on { OnOk result ((self.new.log.lane ≡ self.old.log.lane) × (self.new.log.broken ≡ self.old.log.broken)) }
+        ensures idle { IsErrOf result LogFault.Reopen → disk.new ≡ disk.old }
         ensures memory { IsErrOf result LogFault.Memory → self.new ≡ self.old }
         ensures still { D.tells → IsErrOf result LogFault.Memory → Stands (D.lane_of disk.new self.old.log.lane) self.old.log.records }
         ensures closed { IsErrOf result LogFault.Reopen → self.new ≡ self.old }
@@ -218,6 +224,8 @@ impl Pubend {
         ensures stands { D.tells → OnOk result (Stands (D.lane_of disk.new self.old.log.lane) (self.old.log.records ++ Record.Event tick number event.now ∷ [])) }
         ensures any_moment { D.tells → self.old.log.broken ≡ false → (image : List ℕ) → LeftSince (D.lane_of disk.new self.old.log.lane) (moment (D.lane_of disk.old self.old.log.lane)) image → BeforeOrAfter self.old.log.records (Record.Event tick number event.now) image }
         ensures reopen { IsErrOf result LogFault.Reopen ↔ (self.old.log.broken ≡ true) }
+        ensures goes_on { OnOk result ((self.new.log.lane ≡ self.old.log.lane) × (self.new.log.broken ≡ self.old.log.broken)) }
+        ensures idle { IsErrOf result LogFault.Reopen → disk.new ≡ disk.old }
         ensures memory { IsErrOf result LogFault.Memory → self.new ≡ self.old }
         ensures still { D.tells → IsErrOf result LogFault.Memory → Stands (D.lane_of disk.new self.old.log.lane) self.old.log.records }
         ensures closed { IsErrOf result LogFault.Reopen → self.new ≡ self.old }
@@ -254,6 +262,8 @@ impl Pubend {
         ensures stands { D.tells → OnOk result (Stands (D.lane_of disk.new self.old.log.lane) (self.old.log.records ++ Record.Mark tick ∷ [])) }
         ensures any_moment { D.tells → self.old.log.broken ≡ false → (image : List ℕ) → LeftSince (D.lane_of disk.new self.old.log.lane) (moment (D.lane_of disk.old self.old.log.lane)) image → BeforeOrAfter self.old.log.records (Record.Mark tick) image }
         ensures reopen { IsErrOf result LogFault.Reopen ↔ (self.old.log.broken ≡ true) }
+        ensures goes_on { OnOk result ((self.new.log.lane ≡ self.old.log.lane) × (self.new.log.broken ≡ self.old.log.broken)) }
+        ensures idle { IsErrOf result LogFault.Reopen → disk.new ≡ disk.old }
         ensures memory { IsErrOf result LogFault.Memory → self.new ≡ self.old }
         ensures still { D.tells → IsErrOf result LogFault.Memory → Stands (D.lane_of disk.new self.old.log.lane) self.old.log.records }
         ensures closed { IsErrOf result LogFault.Reopen → self.new ≡ self.old }
@@ -276,12 +286,7 @@ impl Pubend {
     }
 
     /// Logs a record, and only then puts what is known with it in place.
-    fn commit<D: Disk>(
-        &mut self,
-        disk: &mut D,
-        entry: &Record,
-        know: Know,
-    ) -> Result<(), LogFault>
+    fn commit<D: Disk>(&mut self, disk: &mut D, entry: &Record, know: Know) -> Result<(), LogFault>
         requires follows { may_follow (state_of self.old.log.records) entry.now ≡ true }
         requires known { RunsGive Q know (log_at (log_of (self.old.log.records ++ entry.now ∷ []))) }
         requires stands { D.tells → self.old.log.broken ≡ false → Stands (D.lane_of disk.old self.old.log.lane) self.old.log.records }
@@ -289,6 +294,7 @@ impl Pubend {
         ensures stands { D.tells → OnOk result (Stands (D.lane_of disk.new self.old.log.lane) (self.old.log.records ++ entry.now ∷ [])) }
         ensures any_moment { D.tells → self.old.log.broken ≡ false → (image : List ℕ) → LeftSince (D.lane_of disk.new self.old.log.lane) (moment (D.lane_of disk.old self.old.log.lane)) image → BeforeOrAfter self.old.log.records entry.now image }
         ensures reopen { IsErrOf result LogFault.Reopen ↔ (self.old.log.broken ≡ true) }
+        ensures goes_on { OnOk result ((self.new.log.lane ≡ self.old.log.lane) × (self.new.log.broken ≡ self.old.log.broken)) }
         ensures memory { IsErrOf result LogFault.Memory → self.new ≡ self.old }
         ensures still { D.tells → IsErrOf result LogFault.Memory → Stands (D.lane_of disk.new self.old.log.lane) self.old.log.records }
         ensures closed { IsErrOf result LogFault.Reopen → self.new ≡ self.old }
