@@ -1,7 +1,7 @@
 //! Where bytes are kept, and what a crash leaves of them.
 
 ghost use Rattle.std.specs.Prelude.{◌≡◌, ◌≢◌, ℕ, ◌+◌, ◌<◌, ◌≤◌, Bool, true, not, is_err, length, take, drop, IfOk, OnOk, OnErr, slice_range};
-ghost use Rattle.gr_out.specs.Lane.{Lane, Write, Cut, Sync, content, after_call, with_room, with_stop, stop_at, crashed, is_due, has_stopped};
+ghost use Rattle.gr_out.specs.Lane.{Lane, Write, Cut, Sync, content, after_call, with_room, with_stop, stop_at, crashed, is_due, has_stopped, MayLeave};
 ghost use Rattle.gr_out.specs.Stops.{StopCounts};
 
 use crate::fault::{Failed, Memory};
@@ -114,9 +114,10 @@ pub trait SimDisk: Disk {
     fn stopped(&self, lane: u16) -> bool
         ensures { Self.tells → result ≡ has_stopped (Self.lane_of self.now lane).stop };
 
-    /// Leaves of a lane the picked image, synced, and ends its stop.
+    /// Leaves of a lane the picked image, synced, and ends its stop. It is one of those that a crash may leave.
     fn crash(&mut self, lane: u16)
         ensures crashed { Self.tells → Self.lane_of self.new lane ≡ crashed (Self.lane_of self.old lane) }
+        ensures image { Self.tells → MayLeave (Self.lane_of self.old lane) (content (Self.lane_of self.new lane)) }
         ensures others { Self.tells → (n : ℕ) → n ≢ lane → Self.lane_of self.new n ≡ Self.lane_of self.old n }
         ensures faults { Self.faults self.new ≡ Self.faults self.old }
         ensures stops { Self.stops self.new ≡ Self.stops self.old };

@@ -1,6 +1,6 @@
 -- While a record is appended, a crash leaves the closed gate, or the record whole behind a gate.
-use Rattle.std.proofs.Common.{◌≡◌, ◌⊎◌, inl, inr, ⊎_elim, ℕ, ◌+◌, ◌≤◌, ◌<◌, Bool, true, false, List, [], ◌∷◌, length, refl, ap, sym, ◌∙◌, subst, arith}
-use Rattle.gr_out.specs.Lane.{Lane, Write, Sync, content, over, Torn, MayLeave, moment, LeftSince, LeavesOnly, after_call}
+use Rattle.std.proofs.Common.{◌≡◌, inl, inr, ⊎_elim, ℕ, ◌+◌, ◌≤◌, ◌<◌, Bool, true, false, List, [], ◌∷◌, length, refl, sym, ◌∙◌, subst, arith}
+use Rattle.gr_out.specs.Lane.{Lane, Write, Sync, content, Torn, moment, LeftSince, LeavesOnly, after_call}
 use Rattle.gr_publog.specs.Crash.{behind_gate, opened_gate, IsBetween}
 use Rattle.gr_publog.proofs.Moments.{only_now, write_since, sync_since, torn_over, torn_same, length-over}
 

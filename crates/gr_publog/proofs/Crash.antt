@@ -1,15 +1,16 @@
 -- What a crash leaves while a record is appended reads as the records before, or with the one more.
-use Rattle.std.proofs.Common.{◌≡◌, ◌≢◌, ◌⊎◌, inl, inr, ⊎_elim, ℕ, ◌+◌, ◌-◌, ◌≤◌, ◌<◌, true, List, [], ◌∷◌, ◌++◌, length, take, drop, get_or, Ok, refl, ap, sym, ◌∙◌, subst, arith, append_assoc, append-nil, length-append, length-take, take-append-drop, min}
-use Rattle.std.proofs.lemmas.Bool.{cases_eq}
+use Rattle.std.proofs.Common.{◌≡◌, ◌≢◌, inl, inr, ⊎_elim, ℕ, zero, suc, ◌+◌, ◌*◌, ◌%◌, ◌≤◌, ◌<◌, Bool, true, false, nat_eq, nat_lt, nat_le, if◌then◌else◌, ◌&&◌, ◌||◌, List, [], ◌∷◌, ◌++◌, length, take, drop, get_or, Result, Ok, refl, ap, sym, ◌∙◌, subst, arith, append_assoc, length-append, take-append-drop, min}
+use Rattle.std.proofs.lemmas.Bool.{cases_eq, eqb-true, eqb-false, ne_eqb, leb-true, leb-false, lt-ltb}
 use Rattle.std.proofs.lemmas.List.{take_at, drop_at, drop_more}
-use Rattle.gr_out.specs.Lane.{Lane, content, moment, LeftSince, LeavesOnly, with_room, over, Torn}
+use Rattle.gr_out.specs.Lane.{Lane, content, moment, crash_image, has_stopped, LeftSince, LeavesOnly, with_room, over, Torn}
 use Rattle.gr_publog.specs.declared.record.State.{State}
 use Rattle.gr_publog.proofs.Moments.{only_now}
 use Rattle.gr_publog.specs.declared.record.Record.{Record}
 use Rattle.gr_publog.specs.declared.record.Entry.{Entry}
 use Rattle.gr_publog.specs.State.{empty_state, state_of, live_events, live_after, may_follow, IsSound, Follow, after_record}
-use Rattle.gr_publog.specs.Text.{record_bytes, blocks, header, front_text, log_text, Closes, IsSpelled}
+use Rattle.gr_publog.specs.Text.{record_bytes, front_text, log_text, IsSpelled}
 use Rattle.gr_publog.specs.Crash.{behind_gate, opened_gate, IsBetween, BeforeOrAfter, Stands}
+use Rattle.gr_publog.specs.Kept.{is_kept, records_kept, picked_gate, Broke, StoppedImage}
 use Rattle.gr_publog.proofs.Reading.{reads, blocks-append, follow_more, state_more}
 use Rattle.gr_publog.proofs.Live.{live_more}
 
@@ -20,6 +21,10 @@ front_more rs r rest = ap (λ (l : List ℕ). 71 ∷ (76 ∷ (79 ∷ (71 ∷ (1 
 pub length-front_more : (rs : List Record) (r : Record) → length (front_text (rs ++ r ∷ [])) ≡ length (front_text rs) + 1 + length (record_bytes r)
 length-front_more rs r =
     omega (arith, ap length (front_more rs r []), length-append (front_text (rs ++ r ∷ [])) [], length-append (front_text rs) (1 ∷ (record_bytes r ++ [])), length-append (record_bytes r) [])
+
+ok_choice : (b : Bool) (x y : List Record) → ◌≡◌ {A = Result (List Record) ℕ} (if b then Ok x else Ok y) (Ok (if b then x else y))
+ok_choice true x y = refl
+ok_choice false x y = refl
 
 module _ (rs : List Record) (r : Record) (old : List ℕ) (gate : ℕ) (h : IsSpelled old rs) (place : gate ≡ length (front_text rs)) (ok : may_follow (state_of rs) r ≡ true) (sound : IsSound r) where
   abbrev pre : List ℕ
@@ -102,6 +107,48 @@ module _ (rs : List Record) (r : Record) (old : List ℕ) (gate : ℕ) (h : IsSp
       (λ ne. inl (ap log_text whole ∙ reads rs x (bytes ++ behind) h.follow ne))
       (cases_eq x 1)
 
+  -- where the picked image has this byte as the gate
+  gate_reads : (x : ℕ) (image : List ℕ) → image ≡ over gate (x ∷ []) staged → log_text image ≡ (if nat_eq x 1 then Ok (rs ++ r ∷ []) else Ok rs)
+  gate_reads x image is = by_test (nat_eq x 1) refl
+    where
+      whole : image ≡ pre ++ x ∷ (bytes ++ behind)
+      whole = is ∙ ap (λ (l : List ℕ). l ++ x ∷ drop (gate + 1) staged) front_staged ∙ ap (λ (l : List ℕ). pre ++ x ∷ l) back_staged
+
+      by_test : (b : Bool) → nat_eq x 1 ≡ b → log_text image ≡ (if b then Ok (rs ++ r ∷ []) else Ok rs)
+      by_test true e = ap log_text (whole ∙ ap (λ (g : ℕ). pre ++ g ∷ (bytes ++ behind)) (eqb-true x 1 e) ∙ opened) ∙ reads (rs ++ r ∷ []) 0 behind follow zero_shut
+      by_test false e = ap log_text whole ∙ reads rs x (bytes ++ behind) h.follow (eqb-false x 1 e)
+
+  staged_reads : log_text staged ≡ Ok rs
+  staged_reads = ap log_text staged_split ∙ reads rs shut (bytes ++ behind) h.follow h.text.closed
+
+  late_reads : (pick : ℕ) (image : List ℕ) → image ≡ picked_gate pick gate staged → log_text image ≡ Ok (if is_kept gate 3 pick then rs ++ r ∷ [] else rs)
+  late_reads zero image is = ap log_text is ∙ staged_reads
+  late_reads (suc zero) image is = gate_reads 1 image is
+  late_reads (suc (suc k)) image is =
+      let pick = suc (suc k) in
+      let x = (gate * pick) % 256 in
+      let not_zero : nat_eq pick 0 ≡ false = ne_eqb pick 0 (λ e. omega (arith, e)) in
+      let not_one : nat_eq pick 1 ≡ false = ne_eqb pick 1 (λ e. omega (arith, e)) in
+      let above : nat_lt 1 pick ≡ true = lt-ltb 1 pick (omega arith) in
+      let garbled : image ≡ over gate (x ∷ []) staged =
+      is ∙ ap (λ (b : Bool). if b then staged else (if nat_eq pick 1 then over gate (1 ∷ []) staged else over gate (x ∷ []) staged)) not_zero
+      ∙ ap (λ (b : Bool). if b then over gate (1 ∷ []) staged else over gate (x ∷ []) staged) not_one in
+      gate_reads x image garbled ∙ ok_choice (nat_eq x 1) (rs ++ r ∷ []) rs
+      ∙ ap (λ (b : Bool). Ok (if b && nat_eq x 1 then rs ++ r ∷ [] else rs)) (sym above)
+      ∙ ap (λ (b : Bool). Ok (if b || (nat_lt 1 pick && nat_eq x 1) then rs ++ r ∷ [] else rs)) (sym not_one)
+
+  -- a stop at this call, with this pick
+  pub stopped_reads : (call pick : ℕ) (image : List ℕ) → StoppedImage gate bytes old call pick image → log_text image ≡ Ok (records_kept rs r call pick)
+  stopped_reads call pick image s = by_call (nat_le 3 call) refl
+    where
+      by_call : (b : Bool) → nat_le 3 call ≡ b → log_text image ≡ Ok (records_kept rs r call pick)
+      by_call true e =
+          late_reads pick image (s.late (leb-true 3 call e)) ∙ ap (λ (g : ℕ). Ok (if is_kept g 3 pick then rs ++ r ∷ [] else rs)) place
+          ∙ ap (λ (late : Bool). Ok (if late && (nat_eq pick 1 || (nat_lt 1 pick && nat_eq ((length (front_text rs) * pick) % 256) 1)) then rs ++ r ∷ [] else rs)) (sym e)
+      by_call false e =
+          torn_behind (length bytes) image (s.early (omega (arith, leb-false 3 call e)))
+          ∙ ap (λ (late : Bool). Ok (if late && (nat_eq pick 1 || (nat_lt 1 pick && nat_eq ((length (front_text rs) * pick) % 256) 1)) then rs ++ r ∷ [] else rs)) (sym e)
+
   -- every moment of the append
   pub between : (image : List ℕ) → IsBetween gate bytes old image → BeforeOrAfter rs r image
   between image b = ⊎_elim (λ torn. inl (torn_behind (length bytes) image torn)) (torn_gate image) b
@@ -147,6 +194,21 @@ stands_after l l1 l2 n gate rs r b s e place ok sound text written only =
     let is : content l2 ≡ opened_gate gate (behind_gate gate (record_bytes r ++ 0 ∷ []) (content l)) =
     written ∙ ap (λ (c : List ℕ). opened_gate gate (behind_gate gate c (content l1))) text ∙ ap (λ (c : List ℕ). opened_gate gate (behind_gate gate (record_bytes r ++ 0 ∷ []) c)) (ap content e) in
     record { text = appended rs r (content l) gate s.text place ok sound (content l2) is; only = only }
+
+-- what a crash picks after a stop
+pub kept_of : (l l1 l2 : Lane) (n gate : ℕ) (rs : List Record) (r : Record) (b : List ℕ) → Stands l rs → l1 ≡ with_room n l → gate ≡ length (front_text rs)
+    → may_follow (state_of rs) r ≡ true → IsSound r → b ≡ record_bytes r ++ 0 ∷ []
+    → ((call pick : ℕ) → Broke l1 l2 call pick → StoppedImage gate b (content l1) call pick (crash_image l2))
+    → (call pick : ℕ) → Broke l l2 call pick → log_text (crash_image l2) ≡ Ok (records_kept rs r call pick)
+kept_of l l1 l2 n gate rs r b s e place ok sound text picked call pick broke =
+    let broke1 : Broke l1 l2 call pick = record { ordered = ap (λ (x : Lane). x.stop) e ∙ broke.ordered; stopped = broke.stopped } in
+    let here : StoppedImage gate b (content l1) call pick (crash_image l2) = picked call pick broke1 in
+    let there : StoppedImage gate b (content l) call pick (crash_image l2) = subst (λ (c : List ℕ). StoppedImage gate b c call pick (crash_image l2)) (ap content e) here in
+    stopped_reads rs r (content l) gate s.text place ok sound call pick (crash_image l2) (subst (λ (c : List ℕ). StoppedImage gate c (content l) call pick (crash_image l2)) text there)
+
+-- where no call was made, no stop broke one
+pub none_broke : (l l' : Lane) (call pick : ℕ) → l'.stop ≡ l.stop → Broke l l' call pick → ⊥
+none_broke l l' call pick same broke = let e : false ≡ true = sym (ap has_stopped (same ∙ broke.ordered)) ∙ broke.stopped in cc e
 
 -- What is kept of one record more
 pub log_more : (gate gate' : ℕ) (s s' : State) (rs rs' : List Record) (r k : Record) (b : List ℕ) (es es' : List Entry) → gate ≡ length (front_text rs) → s ≡ state_of rs → Follow empty_state rs → es ≡ live_events rs

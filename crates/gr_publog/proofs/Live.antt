@@ -8,7 +8,7 @@ use Rattle.gr_publog.specs.declared.record.Record.{Record}
 use Rattle.gr_publog.specs.declared.record.Record.TheVariants.{Event, Mark, Cut}
 use Rattle.gr_publog.specs.declared.record.State.{State}
 use Rattle.gr_publog.specs.declared.record.Entry.{Entry}
-use Rattle.gr_publog.specs.State.{empty_state, after_record, state_from, state_of, events_past, live_events, live_after, may_settle, may_cut, may_follow, Follow, max_tick}
+use Rattle.gr_publog.specs.State.{empty_state, after_record, state_from, state_of, events_past, live_events, live_after, may_settle, may_follow, Follow, max_tick}
 use Rattle.gr_publog.proofs.Reading.{state_more}
 
 -- a choice in front of a list, with more behind it

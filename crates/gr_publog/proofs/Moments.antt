@@ -1,11 +1,11 @@
 -- What each call on a lane may leave at the moments since an earlier one.
-use Rattle.std.proofs.Common.{◌≡◌, ◌⊎◌, inl, inr, ⊎_elim, ℕ, zero, suc, ◌+◌, ◌-◌, ◌<◌, ◌≤◌, Bool, true, false, nat_le, if◌then◌else◌, List, [], ◌∷◌, ◌++◌, length, take, drop, refl, ap, sym, ◌∙◌, subst, arith, length-append, length-take, length-drop, append_assoc, min, max}
+use Rattle.std.proofs.Common.{◌≡◌, ◌⊎◌, inl, inr, ℕ, ◌+◌, ◌-◌, ◌≤◌, Bool, false, List, [], ◌∷◌, ◌++◌, length, take, drop, refl, ap, sym, ◌∙◌, subst, arith, length-append, length-take, length-drop, append_assoc, min}
 use Rattle.std.proofs.lemmas.List.{take_min, drop_at, take_at}
 use Rattle.gr_out.specs.declared.disk.Stop.{Stop}
 use Rattle.gr_out.specs.declared.disk.Stop.TheVariants.{Unset, After, Stopped}
 use Rattle.gr_out.specs.declared.disk.Fate.{Fate}
 use Rattle.gr_out.specs.declared.disk.Fate.TheVariants.{Done, Failed, Broken, Lost}
-use Rattle.gr_out.specs.Lane.{Lane, Call, Write, Cut, Sync, FailedWrite, FailedCut, content, read_after, over, Torn, Shortened, LeftAfter, MayLeave, moment, LeftFrom, LeftSince, LeavesOnly, is_due, fate_of, with_call, with_failed, with_broken, after_call}
+use Rattle.gr_out.specs.Lane.{Lane, Call, Write, Cut, Sync, content, read_after, over, Torn, Shortened, LeftAfter, MayLeave, moment, LeftFrom, LeftSince, LeavesOnly, is_due, fate_of, with_call, after_call}
 
 -- now there is nothing but what may be left now
 pub only_now : (start : List ℕ) (calls : List Call) (image : List ℕ) → LeftFrom start calls (length calls) image → LeftAfter start calls image

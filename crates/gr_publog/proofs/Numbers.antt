@@ -1,5 +1,5 @@
 -- Numbers and the bytes that spell them.
-use Rattle.std.proofs.Common.{◌≡◌, ◌<◌, ℕ, List, length, get_or, refl}
+use Rattle.std.proofs.Common.{◌≡◌, ◌<◌, ℕ, List, length, get_or}
 use Rattle.std.specs.Int.{from_be_bytes, to_be_bytes, w32, w64}
 use Rattle.std.proofs.lemmas.Nat.{be_bytes_4, be_bytes_8}
 

@@ -1,13 +1,12 @@
 -- What a crash leaves while a log is opened.
-use Rattle.std.proofs.Common.{◌≡◌, ◌⊎◌, inl, inr, ⊎_elim, ℕ, ◌≤◌, Bool, List, [], ◌∷◌, ◌++◌, length, Result, Ok, Err, ap, sym, ◌∙◌, subst, arith}
+use Rattle.std.proofs.Common.{◌≡◌, ◌⊎◌, inl, inr, ⊎_elim, ℕ, ◌≤◌, Bool, List, [], ◌∷◌, ◌++◌, length, Result, Err, ap, sym, ◌∙◌, subst}
 use Rattle.gr_out.specs.Lane.{Lane, Sync, content, MayLeave, moment, LeftSince, after_call, with_room}
 use Rattle.gr_publog.specs.declared.record.Record.{Record}
 use Rattle.gr_publog.specs.declared.record.LogFault.{LogFault}
 use Rattle.gr_publog.specs.declared.record.LogFault.TheVariants as fault
-use Rattle.gr_publog.specs.State.{empty_state, Follow}
-use Rattle.gr_publog.specs.Text.{log_text, header, front_text, IsSpelled}
+use Rattle.gr_publog.specs.Text.{log_text, header, IsSpelled}
 use Rattle.gr_publog.specs.Gives.{Fails}
-use Rattle.gr_publog.specs.Crash.{LogView, OpensAs, GaveUp, Stands}
+use Rattle.gr_publog.specs.Crash.{OpensAs, GaveUp}
 use Rattle.gr_publog.proofs.Reading.{reads_short}
 use Rattle.gr_publog.proofs.Moments.{only_now, sync_since}
 

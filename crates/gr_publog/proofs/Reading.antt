@@ -1,12 +1,11 @@
 -- What records spell reads as these records, whatever stands behind the closed gate.
-use Rattle.std.proofs.Common.{◌≡◌, ◌≢◌, ℕ, zero, suc, ◌+◌, ◌-◌, ◌<◌, ◌≤◌, ◌^◌, Bool, true, false, ◌==◌, nat_lt, nat_le, if◌then◌else◌, List, [], ◌∷◌, ◌++◌, length, take, drop, Result, Ok, Err, refl, ap, sym, ◌∙◌, subst, arith, rules, append_assoc, append-nil, length-append, le-leb, ◌&&◌, get_or}
-use Rattle.std.proofs.lemmas.List.{take_at, drop_at, drop_more}
+use Rattle.std.proofs.Common.{◌≡◌, ◌≢◌, ℕ, zero, suc, ◌+◌, ◌<◌, ◌≤◌, ◌^◌, Bool, true, false, ◌==◌, nat_lt, nat_le, List, [], ◌∷◌, ◌++◌, length, drop, Result, Ok, Err, refl, ap, sym, ◌∙◌, subst, arith, append_assoc, append-nil, length-append, le-leb, ◌&&◌, get_or}
+use Rattle.std.proofs.lemmas.List.{take_at, drop_at}
 use Rattle.std.proofs.lemmas.Bool.{leb-true}
 use Rattle.std.proofs.lemmas.Bool.Decides.{nat_tests}
 use Rattle.std.proofs.lemmas.Nat.{from_be_bytes-to_be_bytes_4, from_be_bytes-to_be_bytes_8}
 use Rattle.std.specs.Int.{Width, from_be_bytes, to_be_bytes, w32, w64}
 use Rattle.gr_event.specs.declared.event.Event.{Event as EventPairs}
-use Rattle.gr_event.specs.Limits.{IsEvent}
 use Rattle.gr_event.specs.declared.value.Value.{Value}
 use Rattle.gr_event.specs.declared.value.Value.TheVariants.{Int, Text, Bool as Truth}
 use Rattle.gr_event.specs.Event.{event_size, event_bytes, pairs_size, pairs_bytes, value_size, value_bytes}
@@ -19,7 +18,7 @@ use Rattle.gr_publog.specs.declared.record.LogFault.{LogFault}
 use Rattle.gr_publog.specs.declared.record.LogFault.TheVariants as fault
 use Rattle.gr_publog.specs.Gives.{Fails}
 use Rattle.gr_publog.specs.State.{empty_state, after_record, state_from, may_settle, may_cut, may_follow, IsSound, Follow, max_tick}
-use Rattle.gr_publog.specs.Text.{◌>>=◌, record_bytes, record_size, blocks, header, header_fault, front_text, field_in, number_in, event_of, event_in, logged_in, mark_in, cut_in, record_in, records_in, log_text, IsSpelled}
+use Rattle.gr_publog.specs.Text.{◌>>=◌, record_bytes, record_size, blocks, front_text, field_in, number_in, event_in, logged_in, mark_in, cut_in, record_in, records_in, log_text}
 
 -- Fields
 

@@ -2,3 +2,4 @@ pub mod State
 pub mod Text
 pub mod Gives
 pub mod Crash
+pub mod Kept

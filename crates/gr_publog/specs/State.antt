@@ -1,6 +1,5 @@
 -- What a list of records stands for: the last number, the ticks settled and cut, and the events past the cut
 use Rattle.std.specs.Prelude.{◌≡◌, ℕ, ◌+◌, ◌^◌, ◌<◌, Bool, true, if◌then◌else◌, ◌&&◌, ◌==◌, nat_lt, nat_le, List, [], ◌∷◌, ◌++◌, filter}
-use Rattle.gr_event.specs.declared.event.Event.{Event as EventPairs}
 use Rattle.gr_event.specs.Limits.{IsEvent}
 use Rattle.gr_publog.specs.declared.record.Record.{Record}
 use Rattle.gr_publog.specs.declared.record.Record.TheVariants.{Event, Mark, Cut}

@@ -1,13 +1,16 @@
 //! A log on its lane.
 
-ghost use Rattle.std.specs.Prelude.{◌≡◌, ◌≢◌, ◌↔◌, ◌⊎◌, ℕ, ◌+◌, ◌≤◌, ◌<◌, ◌^◌, ◌++◌, ◌∷◌, [], Bool, true, false, List, length, Err, OnErr, IsTrue, vec_len, IfOk, OnOk, IsErrOf, MatchResult};
+ghost use Rattle.std.specs.Prelude.{◌≡◌, ◌≢◌, ◌↔◌, ◌⊎◌, ℕ, ◌+◌, ◌≤◌, ◌<◌, ◌^◌, ◌++◌, ◌∷◌, [], Bool, true, false, List, length, Ok, Err, IsErr, OnErr, IsTrue, vec_len, IfOk, OnOk, IsErrOf, MatchResult};
 ghost use Rattle.std.specs.Vec.{vec_capacity};
 ghost use Rattle.gr_event.specs.Event.{event_bytes};
-ghost use Rattle.gr_out.specs.Lane.{content, moment, LeftSince, MayLeave, with_room};
+ghost use Rattle.gr_out.specs.Faults.{Rose};
+ghost use Rattle.gr_out.specs.Lane.{content, moment, crash_image, has_stopped, LeftSince, MayLeave, with_room};
+ghost use Rattle.gr_out.specs.declared.disk.Stop.TheVariants.{Unset, After};
 ghost use Rattle.gr_publog.specs.State.{empty_state, state_of, events_past, live_events, live_after, may_follow, Follow, IsSound};
 ghost use Rattle.gr_publog.specs.Text.{log_text, front_text, record_bytes, record_size};
 ghost use Rattle.gr_publog.specs.Crash.{LogView, with_record, failed, Stands, BeforeOrAfter, EitherRose, OpensAs, DiskRose};
 ghost use Rattle.gr_publog.specs.Gives.{Fails};
+ghost use Rattle.gr_publog.specs.Kept.{Broke, records_kept};
 ghost use Rattle.gr_publog.specs.declared.record.LogFault.TheVariants.{Memory as WantOfMemory, Disk as DiskFailed, Reopen as MustReopen};
 
 use crate::read::log_in;
@@ -243,6 +246,8 @@ impl Log {
         ensures never_reopen { result ≢ Err LogFault.Reopen }
         ensures disk { DiskRose result (D.faults disk.old) (D.faults disk.new) (D.stops disk.old) (D.stops disk.new) }
         ensures others { D.tells → (n : ℕ) → n ≢ lane → D.lane_of disk.new n ≡ D.lane_of disk.old n }
+        ensures why { D.tells → IsErrOf result LogFault.Disk → (has_stopped (D.lane_of disk.new lane).stop ≡ true) ⊎ Rose (D.faults disk.old) (D.faults disk.new) }
+        ensures unset { D.tells → (D.lane_of disk.old lane).stop ≡ Unset → (D.lane_of disk.new lane).stop ≡ Unset }
     {
         let size = match settle(disk, lane) {
             Ok(size) => size,
@@ -293,8 +298,11 @@ impl Log {
         }
     }
 
-    /// Appends a record. `Ok` comes once it is synced. After `Memory` nothing has changed. After `Disk` the log has
-    /// to be opened again, and answers `Reopen` from then on. It never answers `Damaged`.
+    /// Appends a record by four calls on the disk. `Ok` comes once it is synced. After `Memory` nothing has changed.
+    /// After `Disk` the log has to be opened again, and answers `Reopen` from then on. It never answers `Damaged`.
+    ///
+    /// Where an ordered stop broke one of the four calls, the call's number and the pick tell whether the image that a
+    /// crash leaves has the record.
     pub fn append<D: Disk>(&mut self, disk: &mut D, entry: &Record) -> Result<(), LogFault>
         requires follows { may_follow (state_of self.old.records) entry.now ≡ true }
         requires stands { D.tells → self.old.broken ≡ false → Stands (D.lane_of disk.old self.old.lane) self.old.records }
@@ -310,6 +318,10 @@ impl Log {
         ensures reserved { D.tells → (D.lane_of disk.old self.old.lane).reserved ≡ true → (D.lane_of disk.new self.old.lane).reserved ≡ true }
         ensures never_damaged { (at : ℕ) → result ≢ Err (LogFault.Damaged at) }
         ensures others { D.tells → (n : ℕ) → n ≢ self.old.lane → D.lane_of disk.new n ≡ D.lane_of disk.old n }
+        ensures kept { D.tells → (call : ℕ) (pick : ℕ) → Broke (D.lane_of disk.old self.old.lane) (D.lane_of disk.new self.old.lane) call pick → log_text (crash_image (D.lane_of disk.new self.old.lane)) ≡ Ok (records_kept self.old.records entry.now call pick) }
+        ensures breaks { D.tells → (call : ℕ) (pick : ℕ) → (D.lane_of disk.old self.old.lane).stop ≡ After call pick → call ≤ 4 → IsErr result }
+        ensures why { D.tells → IsErrOf result LogFault.Disk → (has_stopped (D.lane_of disk.new self.old.lane).stop ≡ true) ⊎ Rose (D.faults disk.old) (D.faults disk.new) }
+        ensures unset { D.tells → (D.lane_of disk.old self.old.lane).stop ≡ Unset → (D.lane_of disk.new self.old.lane).stop ≡ Unset }
     {
         if self.broken {
             return Err(LogFault::Reopen);

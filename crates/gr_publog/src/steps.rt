@@ -1,9 +1,12 @@
 //! The four calls on a disk that append a record.
 
-ghost use Rattle.std.specs.Prelude.{◌≡◌, ◌≢◌, ℕ, ◌+◌, ◌^◌, ◌<◌, ◌≤◌, List, length, true, IsErr, OnOk, IfOk, ◌⊎◌, ◌++◌, ◌∷◌, []};
-ghost use Rattle.gr_out.specs.Lane.{content, moment, LeavesOnly, LeftSince, MayLeave};
+ghost use Rattle.std.specs.Prelude.{◌≡◌, ◌≢◌, ℕ, ◌+◌, ◌^◌, ◌<◌, ◌≤◌, List, length, true, IsErr, IsErrOf, OnOk, IfOk, ◌⊎◌, ◌++◌, ◌∷◌, []};
+ghost use Rattle.gr_out.specs.Faults.{Rose};
+ghost use Rattle.gr_out.specs.Lane.{content, moment, crash_image, has_stopped, LeavesOnly, LeftSince, MayLeave};
+ghost use Rattle.gr_out.specs.declared.disk.Stop.TheVariants.{Unset, After};
 ghost use Rattle.gr_publog.specs.Text.{header};
 ghost use Rattle.gr_publog.specs.Crash.{behind_gate, opened_gate, IsBetween, EitherRose, GaveUp, DiskRose};
+ghost use Rattle.gr_publog.specs.Kept.{Broke, StoppedImage};
 
 use crate::record::LogFault;
 use gr_out::{Disk, Failed};
@@ -31,6 +34,10 @@ pub fn append_behind<D: Disk>(
     ensures stops { D.stops disk.old ≤ D.stops disk.new }
     ensures same { OnOk result (D.faults disk.new ≡ D.faults disk.old) }
     ensures same_stops { OnOk result (D.stops disk.new ≡ D.stops disk.old) }
+    ensures picked { D.tells → (call : ℕ) (pick : ℕ) → Broke (D.lane_of disk.old lane) (D.lane_of disk.new lane) call pick → StoppedImage gate bytes.now (content (D.lane_of disk.old lane)) call pick (crash_image (D.lane_of disk.new lane)) }
+    ensures breaks { D.tells → (call : ℕ) (pick : ℕ) → (D.lane_of disk.old lane).stop ≡ After call pick → call ≤ 4 → IsErr result }
+    ensures why { D.tells → IsErr result → (has_stopped (D.lane_of disk.new lane).stop ≡ true) ⊎ Rose (D.faults disk.old) (D.faults disk.new) }
+    ensures unset { D.tells → (D.lane_of disk.old lane).stop ≡ Unset → (D.lane_of disk.new lane).stop ≡ Unset }
 {
     disk.write_at(lane, gate + 1, bytes)?;
     // Behind a gate that opened first, a crash could leave anything.
@@ -53,6 +60,8 @@ pub fn settle<D: Disk>(disk: &mut D, lane: u16) -> Result<u64, LogFault>
     ensures others { D.tells → (n : ℕ) → n ≢ lane → D.lane_of disk.new n ≡ D.lane_of disk.old n }
     ensures disk { DiskRose result (D.faults disk.old) (D.faults disk.new) (D.stops disk.old) (D.stops disk.new) }
     ensures same { OnOk result ((D.faults disk.new ≡ D.faults disk.old) × (D.stops disk.new ≡ D.stops disk.old)) }
+    ensures why { D.tells → IsErrOf result LogFault.Disk → (has_stopped (D.lane_of disk.new lane).stop ≡ true) ⊎ Rose (D.faults disk.old) (D.faults disk.new) }
+    ensures unset { D.tells → (D.lane_of disk.old lane).stop ≡ Unset → (D.lane_of disk.new lane).stop ≡ Unset }
 {
     match disk.reserve(lane, 6) {
         Ok(()) => {}
@@ -80,6 +89,8 @@ pub fn start<D: Disk>(disk: &mut D, lane: u16) -> Result<(), Failed>
     ensures reserved { D.tells → (D.lane_of disk.new lane).reserved ≡ (D.lane_of disk.old lane).reserved }
     ensures others { D.tells → (n : ℕ) → n ≢ lane → D.lane_of disk.new n ≡ D.lane_of disk.old n }
     ensures cause { IsErr result → EitherRose (D.faults disk.old) (D.faults disk.new) (D.stops disk.old) (D.stops disk.new) }
+    ensures why { D.tells → IsErr result → (has_stopped (D.lane_of disk.new lane).stop ≡ true) ⊎ Rose (D.faults disk.old) (D.faults disk.new) }
+    ensures unset { D.tells → (D.lane_of disk.old lane).stop ≡ Unset → (D.lane_of disk.new lane).stop ≡ Unset }
 {
     disk.cut(lane, 0)?;
     disk.write_at(lane, 0, b"GLOG\x01\x00")?;
@@ -99,6 +110,7 @@ pub fn bytes_in<D: Disk>(
     ensures same { D.tells → (n : ℕ) → D.lane_of disk.new n ≡ D.lane_of disk.old n }
     ensures gave_up { GaveUp result }
     ensures disk { DiskRose result (D.faults disk.old) (D.faults disk.new) (D.stops disk.old) (D.stops disk.new) }
+    ensures why { D.tells → IsErrOf result LogFault.Disk → (has_stopped (D.lane_of disk.new lane).stop ≡ true) ⊎ Rose (D.faults disk.old) (D.faults disk.new) }
 {
     let mut bytes = Vec::new(alloc);
     match bytes.resize(size as usize, 0) {

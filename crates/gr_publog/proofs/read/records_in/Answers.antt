@@ -1,5 +1,5 @@
 -- What was read so far, with what the rest reads as, is what all reads as
-use Rattle.std.proofs.Common.{◌≡◌, ◌≢◌, ◌<◌, ◌+◌, ◌-◌, ℕ, List, [], ◌∷◌, length, take, drop, get_or, refl, ap, sym, ◌∙◌, arith, rules, length-drop}
+use Rattle.std.proofs.Common.{◌≡◌, ◌≢◌, ◌<◌, ◌+◌, ◌-◌, ℕ, List, ◌∷◌, length, take, drop, get_or, refl, ap, sym, ◌∙◌, arith, rules, length-drop}
 use Rattle.std.proofs.lemmas.List.{nil_from_length, take_rest}
 use Rattle.gr_publog.proofs.Reading.{starts, reads_on, reads_end, reads_out, reads_fault, first_is}
 use Rattle.gr_publog.proofs.read.records_in.Goals as goal

@@ -1,5 +1,5 @@
 -- A lane of at most six bytes is an empty log before, while and after it gets the text of one
-use Rattle.std.proofs.Common.{◌≡◌, ◌≤◌, inl, inr, ⊎_elim, length, Ok, ap, sym, ◌∙◌, arith}
+use Rattle.std.proofs.Common.{◌≤◌, inl, inr, ⊎_elim, length, Ok, ap, sym, ◌∙◌, arith}
 use Rattle.gr_out.specs.Lane.{content, moment}
 use Rattle.gr_publog.specs.Text.{log_text}
 use Rattle.gr_publog.specs.Crash.{LogView}
