@@ -3,7 +3,7 @@ use Rattle.std.proofs.Common.{◌≡◌, ◌⊎◌, inl, inr, ⊎_elim, ℕ, suc
 use Rattle.std.specs.Prelude.{nat_le, nat_lt, IsSome, IsErrOf, Err}
 use Rattle.std.proofs.lemmas.Bool.{false≢true, le-leb, lt-leb, lt-ltb, le-ltb}
 use Rattle.gr_event.specs.declared.event.Event.{Event}
-use Rattle.gr_out.specs.Lane.{Lane, moment, LeftSince}
+use Rattle.gr_out.specs.Lane.{Lane, moment, has_stopped, LeftSince}
 use Rattle.gr_publog.specs.declared.record.Record.{Record}
 use Rattle.gr_publog.specs.declared.record.Record.TheVariants as entry
 use Rattle.gr_publog.specs.declared.record.State.{State}
@@ -11,13 +11,14 @@ use Rattle.gr_publog.specs.declared.record.LogFault.{LogFault}
 use Rattle.gr_publog.specs.State.{state_of, max_tick}
 use Rattle.gr_publog.specs.Text.{log_text}
 use Rattle.gr_publog.specs.Crash.{Stands, BeforeOrAfter}
+use Rattle.gr_publog.specs.Kept.{Broke, records_kept}
 use Rattle.gr_publog.proofs.Moments.{only_now}
 use Rattle.gr_publog.proofs.Reading.{reads}
 use Rattle.gr_pubend.specs.declared.answers.Published.TheVariants.{Logged, Already, Gap, Exhausted}
 use Rattle.gr_pubend.specs.declared.answers.Quieted.TheVariants.{NotYet, Marked}
 use Rattle.gr_pubend.specs.Log.{Log, log_of, silence, Stays}
 use Rattle.gr_pubend.specs.Answers.{published, quieted}
-use Rattle.gr_pubend.specs.End.{EndView, Reads}
+use Rattle.gr_pubend.specs.End.{EndView, Reads, records_left}
 use Rattle.gr_pubend.proofs.Knowing.{up_to_event}
 
 -- where nothing was called
@@ -34,6 +35,14 @@ stays_same l rs r s image left = inl (untouched l rs s image left)
 -- where the record is logged
 pub reads_either : (rs : List Record) (r : Record) (logged : Option Record) (image : List ℕ) → logged ≡ Some r → BeforeOrAfter rs r image → Reads rs logged image
 reads_either rs r logged image e h = ⊎_elim inl (λ x. inr (r, e, x)) h
+
+-- where nothing was called no stop has broken a call
+pub never_broke : (l : Lane) (call pick : ℕ) → Broke l l call pick → ⊥
+never_broke l call pick b = false≢true (sym (ap has_stopped b.ordered) ∙ b.stopped)
+
+-- what the log keeps of the record that is logged
+pub left_with : (rs : List Record) (r : Record) (logged : Option Record) (image : List ℕ) (call pick : ℕ) → logged ≡ Some r → log_text image ≡ Ok (records_kept rs r call pick) → log_text image ≡ Ok (records_left rs logged call pick)
+left_with rs r logged image call pick e h = h ∙ ap (λ (o : Option Record). Ok (records_left rs o call pick)) (sym e)
 
 -- the log of an endpoint that is seen otherwise
 pub stays_seen : (p q : EndView) → p ≡ q → Stays (log_of p.log.records) (state_of p.log.records) → Stays (log_of q.log.records) (state_of q.log.records)

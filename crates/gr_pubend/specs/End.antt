@@ -5,6 +5,7 @@ use Rattle.gr_publog.specs.declared.record.Record.{Record}
 use Rattle.gr_publog.specs.declared.record.LogFault.{LogFault}
 use Rattle.gr_publog.specs.Text.{log_text}
 use Rattle.gr_publog.specs.Crash.{LogView, with_record, failed, OpensAs}
+use Rattle.gr_publog.specs.Kept.{records_kept}
 use Rattle.gr_pubend.specs.Log.{log_of, log_know}
 
 -- the log, and what is known by it
@@ -33,3 +34,8 @@ Reads rs logged image = (log_text image ≡ Ok rs) ⊎ ((r : Record) × (logged 
 abbrev pub EndOpensAs : Result EndView LogFault → Result (List Record) ℕ → Type 0
 EndOpensAs (Ok p) read = OpensAs (Ok p.log) read
 EndOpensAs (Err e) read = OpensAs (Err e) read
+
+-- the records that are left where a stop broke a call that logs one: without it or with it, as the log keeps it
+abbrev pub records_left : List Record → Option Record → ℕ → ℕ → List Record
+records_left rs None call pick = rs
+records_left rs (Some r) call pick = records_kept rs r call pick

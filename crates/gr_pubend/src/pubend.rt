@@ -1,7 +1,10 @@
 //! A log, and what is known by it.
 
-ghost use Rattle.std.specs.Prelude.{◌≡◌, ◌≢◌, ◌↔◌, ◌⊎◌, ℕ, suc, ◌+◌, ◌-◌, ◌^◌, ◌≤◌, ◌<◌, ◌++◌, ◌∷◌, [], Bool, true, false, List, Option, Some, None, Err, IsSome, IfOk, OnOk, IsErrOf};
-ghost use Rattle.gr_out.specs.Lane.{content, moment, LeftSince, MayLeave};
+ghost use Rattle.std.specs.Prelude.{◌≡◌, ◌≢◌, ◌↔◌, ◌⊎◌, ℕ, suc, ◌+◌, ◌-◌, ◌^◌, ◌≤◌, ◌<◌, ◌++◌, ◌∷◌, [], Bool, true, false, List, Option, Some, None, Ok, Err, IsErr, IsSome, IfOk, OnOk, IsErrOf};
+ghost use Rattle.gr_out.specs.Faults.{Rose};
+ghost use Rattle.gr_out.specs.Lane.{content, moment, crash_image, has_stopped, LeftSince, MayLeave};
+ghost use Rattle.gr_out.specs.declared.disk.Stop.TheVariants.{Unset, After};
+ghost use Rattle.gr_publog.specs.Kept.{Broke, records_kept};
 ghost use Rattle.gr_tick.specs.Stored.{RunsGive};
 ghost use Rattle.gr_know.specs.Values.{known_at};
 ghost use Rattle.gr_know.specs.declared.values.K.TheVariants.{Q};
@@ -11,7 +14,7 @@ ghost use Rattle.gr_publog.specs.Crash.{Stands, BeforeOrAfter, EitherRose, DiskR
 ghost use Rattle.gr_publog.specs.declared.record.LogFault.TheVariants.{Memory as WantOfMemory, Disk as DiskFailed, Reopen as MustReopen};
 ghost use Rattle.gr_pubend.specs.Log.{log_of, log_at, log_know, silence};
 ghost use Rattle.gr_pubend.specs.Answers.{published, quieted, event_of, mark_of};
-ghost use Rattle.gr_pubend.specs.End.{EndView, grown, after_call, broken_end, Reads, EndOpensAs};
+ghost use Rattle.gr_pubend.specs.End.{EndView, grown, after_call, broken_end, Reads, records_left, EndOpensAs};
 
 use crate::answers::{Published, Quieted};
 use crate::learning::{known_by, learn_event, learn_silence};
@@ -58,6 +61,8 @@ impl Pubend {
         ensures reserved { D.tells → OnOk result ((D.lane_of disk.new lane).reserved ≡ true) }
         ensures never_reopen { result ≢ Err LogFault.Reopen }
         ensures disk { DiskRose result (D.faults disk.old) (D.faults disk.new) (D.stops disk.old) (D.stops disk.new) }
+        ensures why { D.tells → IsErrOf result LogFault.Disk → (has_stopped (D.lane_of disk.new lane).stop ≡ true) ⊎ Rose (D.faults disk.old) (D.faults disk.new) }
+        ensures unset { D.tells → (D.lane_of disk.old lane).stop ≡ Unset → (D.lane_of disk.new lane).stop ≡ Unset }
         ensures others { D.tells → (n : ℕ) → n ≢ lane → D.lane_of disk.new n ≡ D.lane_of disk.old n }
     {
         let log = match Log::open(alloc, disk, lane) {
@@ -90,6 +95,8 @@ impl Pubend {
         ensures logged { IfOk result (λ answer. self.new ≡ after_call (event_of answer number event.now) self.old) }
         ensures stands { D.tells → self.old.log.broken ≡ false → OnOk result (Stands (D.lane_of disk.new self.old.log.lane) self.new.log.records) }
         ensures any_moment { D.tells → self.old.log.broken ≡ false → (image : List ℕ) → LeftSince (D.lane_of disk.new self.old.log.lane) (moment (D.lane_of disk.old self.old.log.lane)) image → Reads self.old.log.records (event_of (published (log_of self.old.log.records) number event.now now) number event.now) image }
+        ensures kept { D.tells → (call : ℕ) (pick : ℕ) → Broke (D.lane_of disk.old self.old.log.lane) (D.lane_of disk.new self.old.log.lane) call pick → log_text (crash_image (D.lane_of disk.new self.old.log.lane)) ≡ Ok (records_left self.old.log.records (event_of (published (log_of self.old.log.records) number event.now now) number event.now) call pick) }
+        ensures breaks { D.tells → (call : ℕ) (pick : ℕ) → IsSome (event_of (published (log_of self.old.log.records) number event.now now) number event.now) → (D.lane_of disk.old self.old.log.lane).stop ≡ After call pick → call ≤ 4 → IsErr result }
         ensures untouched { (event_of (published (log_of self.old.log.records) number event.now now) number event.now) ≡ None → disk.new ≡ disk.old }
         ensures reopen { IsErrOf result LogFault.Reopen ↔ ((self.old.log.broken ≡ true) × IsSome (event_of (published (log_of self.old.log.records) number event.now now) number event.now)) }
         ensures goes_on { OnOk result ((self.new.log.lane ≡ self.old.log.lane) × (self.new.log.broken ≡ self.old.log.broken)) }
@@ -99,6 +106,8 @@ impl Pubend {
         ensures closed { IsErrOf result LogFault.Reopen → self.new ≡ self.old }
         ensures disk { IsErrOf result LogFault.Disk → EitherRose (D.faults disk.old) (D.faults disk.new) (D.stops disk.old) (D.stops disk.new) }
         ensures broken { IsErrOf result LogFault.Disk → self.new ≡ broken_end self.old }
+        ensures why { D.tells → IsErrOf result LogFault.Disk → (has_stopped (D.lane_of disk.new self.old.log.lane).stop ≡ true) ⊎ Rose (D.faults disk.old) (D.faults disk.new) }
+        ensures unset { D.tells → (D.lane_of disk.old self.old.log.lane).stop ≡ Unset → (D.lane_of disk.new self.old.log.lane).stop ≡ Unset }
         ensures reserved { D.tells → (D.lane_of disk.old self.old.log.lane).reserved ≡ true → (D.lane_of disk.new self.old.log.lane).reserved ≡ true }
         ensures never_damaged { (at : ℕ) → result ≢ Err (LogFault.Damaged at) }
         ensures others { D.tells → (n : ℕ) → n ≢ self.old.log.lane → D.lane_of disk.new n ≡ D.lane_of disk.old n }
@@ -136,6 +145,8 @@ impl Pubend {
         ensures logged { IfOk result (λ answer. self.new ≡ after_call (mark_of answer) self.old) }
         ensures stands { D.tells → self.old.log.broken ≡ false → OnOk result (Stands (D.lane_of disk.new self.old.log.lane) self.new.log.records) }
         ensures any_moment { D.tells → self.old.log.broken ≡ false → (image : List ℕ) → LeftSince (D.lane_of disk.new self.old.log.lane) (moment (D.lane_of disk.old self.old.log.lane)) image → Reads self.old.log.records (mark_of (quieted (log_of self.old.log.records) now quiet)) image }
+        ensures kept { D.tells → (call : ℕ) (pick : ℕ) → Broke (D.lane_of disk.old self.old.log.lane) (D.lane_of disk.new self.old.log.lane) call pick → log_text (crash_image (D.lane_of disk.new self.old.log.lane)) ≡ Ok (records_left self.old.log.records (mark_of (quieted (log_of self.old.log.records) now quiet)) call pick) }
+        ensures breaks { D.tells → (call : ℕ) (pick : ℕ) → IsSome (mark_of (quieted (log_of self.old.log.records) now quiet)) → (D.lane_of disk.old self.old.log.lane).stop ≡ After call pick → call ≤ 4 → IsErr result }
         ensures untouched { (mark_of (quieted (log_of self.old.log.records) now quiet)) ≡ None → disk.new ≡ disk.old }
         ensures reopen { IsErrOf result LogFault.Reopen ↔ ((self.old.log.broken ≡ true) × IsSome (mark_of (quieted (log_of self.old.log.records) now quiet))) }
         ensures goes_on { OnOk result ((self.new.log.lane ≡ self.old.log.lane) × (self.new.log.broken ≡ self.old.log.broken)) }
@@ -145,6 +156,8 @@ impl Pubend {
         ensures closed { IsErrOf result LogFault.Reopen → self.new ≡ self.old }
         ensures disk { IsErrOf result LogFault.Disk → EitherRose (D.faults disk.old) (D.faults disk.new) (D.stops disk.old) (D.stops disk.new) }
         ensures broken { IsErrOf result LogFault.Disk → self.new ≡ broken_end self.old }
+        ensures why { D.tells → IsErrOf result LogFault.Disk → (has_stopped (D.lane_of disk.new self.old.log.lane).stop ≡ true) ⊎ Rose (D.faults disk.old) (D.faults disk.new) }
+        ensures unset { D.tells → (D.lane_of disk.old self.old.log.lane).stop ≡ Unset → (D.lane_of disk.new self.old.log.lane).stop ≡ Unset }
         ensures reserved { D.tells → (D.lane_of disk.old self.old.log.lane).reserved ≡ true → (D.lane_of disk.new self.old.log.lane).reserved ≡ true }
         ensures never_damaged { (at : ℕ) → result ≢ Err (LogFault.Damaged at) }
         ensures others { D.tells → (n : ℕ) → n ≢ self.old.log.lane → D.lane_of disk.new n ≡ D.lane_of disk.old n }
@@ -167,6 +180,8 @@ impl Pubend {
         ensures logged { OnOk result (self.new ≡ grown (Record.Cut tick) self.old) }
         ensures stands { D.tells → OnOk result (Stands (D.lane_of disk.new self.old.log.lane) (self.old.log.records ++ Record.Cut tick ∷ [])) }
         ensures any_moment { D.tells → self.old.log.broken ≡ false → (image : List ℕ) → LeftSince (D.lane_of disk.new self.old.log.lane) (moment (D.lane_of disk.old self.old.log.lane)) image → BeforeOrAfter self.old.log.records (Record.Cut tick) image }
+        ensures kept { D.tells → (call : ℕ) (pick : ℕ) → Broke (D.lane_of disk.old self.old.log.lane) (D.lane_of disk.new self.old.log.lane) call pick → log_text (crash_image (D.lane_of disk.new self.old.log.lane)) ≡ Ok (records_kept self.old.log.records (Record.Cut tick) call pick) }
+        ensures breaks { D.tells → (call : ℕ) (pick : ℕ) → (D.lane_of disk.old self.old.log.lane).stop ≡ After call pick → call ≤ 4 → IsErr result }
         ensures reopen { IsErrOf result LogFault.Reopen ↔ (self.old.log.broken ≡ true) }
         ensures goes_on { OnOk result ((self.new.log.lane ≡ self.old.log.lane) × (self.new.log.broken ≡ self.old.log.broken)) }
         ensures idle { IsErrOf result LogFault.Reopen → disk.new ≡ disk.old }
@@ -175,6 +190,8 @@ impl Pubend {
         ensures closed { IsErrOf result LogFault.Reopen → self.new ≡ self.old }
         ensures disk { IsErrOf result LogFault.Disk → EitherRose (D.faults disk.old) (D.faults disk.new) (D.stops disk.old) (D.stops disk.new) }
         ensures broken { IsErrOf result LogFault.Disk → self.new ≡ broken_end self.old }
+        ensures why { D.tells → IsErrOf result LogFault.Disk → (has_stopped (D.lane_of disk.new self.old.log.lane).stop ≡ true) ⊎ Rose (D.faults disk.old) (D.faults disk.new) }
+        ensures unset { D.tells → (D.lane_of disk.old self.old.log.lane).stop ≡ Unset → (D.lane_of disk.new self.old.log.lane).stop ≡ Unset }
         ensures reserved { D.tells → (D.lane_of disk.old self.old.log.lane).reserved ≡ true → (D.lane_of disk.new self.old.log.lane).reserved ≡ true }
         ensures never_damaged { (at : ℕ) → result ≢ Err (LogFault.Damaged at) }
         ensures others { D.tells → (n : ℕ) → n ≢ self.old.log.lane → D.lane_of disk.new n ≡ D.lane_of disk.old n }
@@ -223,6 +240,8 @@ impl Pubend {
         ensures logged { OnOk result (self.new ≡ grown (Record.Event tick number event.now) self.old) }
         ensures stands { D.tells → OnOk result (Stands (D.lane_of disk.new self.old.log.lane) (self.old.log.records ++ Record.Event tick number event.now ∷ [])) }
         ensures any_moment { D.tells → self.old.log.broken ≡ false → (image : List ℕ) → LeftSince (D.lane_of disk.new self.old.log.lane) (moment (D.lane_of disk.old self.old.log.lane)) image → BeforeOrAfter self.old.log.records (Record.Event tick number event.now) image }
+        ensures kept { D.tells → (call : ℕ) (pick : ℕ) → Broke (D.lane_of disk.old self.old.log.lane) (D.lane_of disk.new self.old.log.lane) call pick → log_text (crash_image (D.lane_of disk.new self.old.log.lane)) ≡ Ok (records_kept self.old.log.records (Record.Event tick number event.now) call pick) }
+        ensures breaks { D.tells → (call : ℕ) (pick : ℕ) → (D.lane_of disk.old self.old.log.lane).stop ≡ After call pick → call ≤ 4 → IsErr result }
         ensures reopen { IsErrOf result LogFault.Reopen ↔ (self.old.log.broken ≡ true) }
         ensures goes_on { OnOk result ((self.new.log.lane ≡ self.old.log.lane) × (self.new.log.broken ≡ self.old.log.broken)) }
         ensures idle { IsErrOf result LogFault.Reopen → disk.new ≡ disk.old }
@@ -231,6 +250,8 @@ impl Pubend {
         ensures closed { IsErrOf result LogFault.Reopen → self.new ≡ self.old }
         ensures disk { IsErrOf result LogFault.Disk → EitherRose (D.faults disk.old) (D.faults disk.new) (D.stops disk.old) (D.stops disk.new) }
         ensures broken { IsErrOf result LogFault.Disk → self.new ≡ broken_end self.old }
+        ensures why { D.tells → IsErrOf result LogFault.Disk → (has_stopped (D.lane_of disk.new self.old.log.lane).stop ≡ true) ⊎ Rose (D.faults disk.old) (D.faults disk.new) }
+        ensures unset { D.tells → (D.lane_of disk.old self.old.log.lane).stop ≡ Unset → (D.lane_of disk.new self.old.log.lane).stop ≡ Unset }
         ensures reserved { D.tells → (D.lane_of disk.old self.old.log.lane).reserved ≡ true → (D.lane_of disk.new self.old.log.lane).reserved ≡ true }
         ensures never_damaged { (at : ℕ) → result ≢ Err (LogFault.Damaged at) }
         ensures others { D.tells → (n : ℕ) → n ≢ self.old.log.lane → D.lane_of disk.new n ≡ D.lane_of disk.old n }
@@ -261,6 +282,8 @@ impl Pubend {
         ensures logged { OnOk result (self.new ≡ grown (Record.Mark tick) self.old) }
         ensures stands { D.tells → OnOk result (Stands (D.lane_of disk.new self.old.log.lane) (self.old.log.records ++ Record.Mark tick ∷ [])) }
         ensures any_moment { D.tells → self.old.log.broken ≡ false → (image : List ℕ) → LeftSince (D.lane_of disk.new self.old.log.lane) (moment (D.lane_of disk.old self.old.log.lane)) image → BeforeOrAfter self.old.log.records (Record.Mark tick) image }
+        ensures kept { D.tells → (call : ℕ) (pick : ℕ) → Broke (D.lane_of disk.old self.old.log.lane) (D.lane_of disk.new self.old.log.lane) call pick → log_text (crash_image (D.lane_of disk.new self.old.log.lane)) ≡ Ok (records_kept self.old.log.records (Record.Mark tick) call pick) }
+        ensures breaks { D.tells → (call : ℕ) (pick : ℕ) → (D.lane_of disk.old self.old.log.lane).stop ≡ After call pick → call ≤ 4 → IsErr result }
         ensures reopen { IsErrOf result LogFault.Reopen ↔ (self.old.log.broken ≡ true) }
         ensures goes_on { OnOk result ((self.new.log.lane ≡ self.old.log.lane) × (self.new.log.broken ≡ self.old.log.broken)) }
         ensures idle { IsErrOf result LogFault.Reopen → disk.new ≡ disk.old }
@@ -269,6 +292,8 @@ impl Pubend {
         ensures closed { IsErrOf result LogFault.Reopen → self.new ≡ self.old }
         ensures disk { IsErrOf result LogFault.Disk → EitherRose (D.faults disk.old) (D.faults disk.new) (D.stops disk.old) (D.stops disk.new) }
         ensures broken { IsErrOf result LogFault.Disk → self.new ≡ broken_end self.old }
+        ensures why { D.tells → IsErrOf result LogFault.Disk → (has_stopped (D.lane_of disk.new self.old.log.lane).stop ≡ true) ⊎ Rose (D.faults disk.old) (D.faults disk.new) }
+        ensures unset { D.tells → (D.lane_of disk.old self.old.log.lane).stop ≡ Unset → (D.lane_of disk.new self.old.log.lane).stop ≡ Unset }
         ensures reserved { D.tells → (D.lane_of disk.old self.old.log.lane).reserved ≡ true → (D.lane_of disk.new self.old.log.lane).reserved ≡ true }
         ensures never_damaged { (at : ℕ) → result ≢ Err (LogFault.Damaged at) }
         ensures others { D.tells → (n : ℕ) → n ≢ self.old.log.lane → D.lane_of disk.new n ≡ D.lane_of disk.old n }
@@ -293,6 +318,8 @@ impl Pubend {
         ensures logged { OnOk result (self.new ≡ grown entry.now self.old) }
         ensures stands { D.tells → OnOk result (Stands (D.lane_of disk.new self.old.log.lane) (self.old.log.records ++ entry.now ∷ [])) }
         ensures any_moment { D.tells → self.old.log.broken ≡ false → (image : List ℕ) → LeftSince (D.lane_of disk.new self.old.log.lane) (moment (D.lane_of disk.old self.old.log.lane)) image → BeforeOrAfter self.old.log.records entry.now image }
+        ensures kept { D.tells → (call : ℕ) (pick : ℕ) → Broke (D.lane_of disk.old self.old.log.lane) (D.lane_of disk.new self.old.log.lane) call pick → log_text (crash_image (D.lane_of disk.new self.old.log.lane)) ≡ Ok (records_kept self.old.log.records (entry.now) call pick) }
+        ensures breaks { D.tells → (call : ℕ) (pick : ℕ) → (D.lane_of disk.old self.old.log.lane).stop ≡ After call pick → call ≤ 4 → IsErr result }
         ensures reopen { IsErrOf result LogFault.Reopen ↔ (self.old.log.broken ≡ true) }
         ensures goes_on { OnOk result ((self.new.log.lane ≡ self.old.log.lane) × (self.new.log.broken ≡ self.old.log.broken)) }
         ensures memory { IsErrOf result LogFault.Memory → self.new ≡ self.old }
@@ -300,6 +327,8 @@ impl Pubend {
         ensures closed { IsErrOf result LogFault.Reopen → self.new ≡ self.old }
         ensures disk { IsErrOf result LogFault.Disk → EitherRose (D.faults disk.old) (D.faults disk.new) (D.stops disk.old) (D.stops disk.new) }
         ensures broken { IsErrOf result LogFault.Disk → self.new ≡ broken_end self.old }
+        ensures why { D.tells → IsErrOf result LogFault.Disk → (has_stopped (D.lane_of disk.new self.old.log.lane).stop ≡ true) ⊎ Rose (D.faults disk.old) (D.faults disk.new) }
+        ensures unset { D.tells → (D.lane_of disk.old self.old.log.lane).stop ≡ Unset → (D.lane_of disk.new self.old.log.lane).stop ≡ Unset }
         ensures reserved { D.tells → (D.lane_of disk.old self.old.log.lane).reserved ≡ true → (D.lane_of disk.new self.old.log.lane).reserved ≡ true }
         ensures never_damaged { (at : ℕ) → result ≢ Err (LogFault.Damaged at) }
         ensures others { D.tells → (n : ℕ) → n ≢ self.old.log.lane → D.lane_of disk.new n ≡ D.lane_of disk.old n }

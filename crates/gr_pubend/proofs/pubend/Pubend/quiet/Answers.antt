@@ -6,7 +6,7 @@ use Rattle.gr_pubend.specs.declared.answers.Quieted.TheVariants.{Marked}
 use Rattle.gr_pubend.specs.Log.{log_of}
 use Rattle.gr_pubend.specs.Answers.{mark_of}
 use Rattle.gr_pubend.specs.End.{EndView}
-use Rattle.gr_pubend.proofs.Standing.{stays_seen, reads_before, reads_either, not_none, is_logged, none_is_logged, is_no_fault, same_fault, says_not_yet, says_marked}
+use Rattle.gr_pubend.proofs.Standing.{stays_seen, reads_before, reads_either, not_none, is_logged, none_is_logged, is_no_fault, same_fault, left_with, says_not_yet, says_marked}
 use Rattle.gr_pubend.proofs.pubend.Pubend.quiet.Goals as goal
 
 pub returns-then-saturating_sub-quiet-clause-answer : goal.returns-then-saturating_sub-quiet-clause-answer
@@ -68,3 +68,24 @@ returns-in-Err-clause-reopen g c =
     let settled : c.settled-settled.result ≡ (state_of c.args.self.now.log.records).settled = c.settled-settled.ensures ∙ ap (λ (p : EndView). (state_of p.log.records).settled) c.self.view_is in
     let says = says_marked (log_of c.args.self.now.log.records) (state_of c.args.self.now.log.records) h c.args.now c.args.quiet c.requires.some (omega (arith, settled, c.saturating_sub.ensures, c.if-saturating_sub-quiet.false)) in
     (λ x. (c.in-Err.ensures.reopen.0 (same_fault _ _ x), is_logged _ (entry.Mark c.args.now) (ap mark_of says)), λ x. same_fault _ _ (c.in-Err.ensures.reopen.1 x.0))
+
+pub returns-then-saturating_sub-quiet-clause-breaks : goal.returns-then-saturating_sub-quiet-clause-breaks
+returns-then-saturating_sub-quiet-clause-breaks g c = λ t call pick some stop few.
+    let h = stays_seen _ _ c.self.view_is c.self.invariant.1 in
+    let settled : c.settled-settled.result ≡ (state_of c.args.self.now.log.records).settled = c.settled-settled.ensures ∙ ap (λ (p : EndView). (state_of p.log.records).settled) c.self.view_is in
+    let says = says_not_yet (log_of c.args.self.now.log.records) (state_of c.args.self.now.log.records) h c.args.now c.args.quiet (omega (arith, settled, c.saturating_sub.ensures, c.if-saturating_sub-quiet.true)) in
+    absurd (none_is_logged _ (ap mark_of says) some)
+
+pub returns-in-Ok-clause-kept : goal.returns-in-Ok-clause-kept
+returns-in-Ok-clause-kept g c = λ t call pick broke.
+    let h = stays_seen _ _ c.self.view_is c.self.invariant.1 in
+    let settled : c.settled-settled.result ≡ (state_of c.args.self.now.log.records).settled = c.settled-settled.ensures ∙ ap (λ (p : EndView). (state_of p.log.records).settled) c.self.view_is in
+    let says = says_marked (log_of c.args.self.now.log.records) (state_of c.args.self.now.log.records) h c.args.now c.args.quiet c.requires.some (omega (arith, settled, c.saturating_sub.ensures, c.if-saturating_sub-quiet.false)) in
+    left_with c.args.self.now.log.records (entry.Mark c.args.now) _ _ call pick (ap mark_of says) (c.log_mark.ensures.kept t call pick broke)
+
+pub returns-in-Err-clause-kept : goal.returns-in-Err-clause-kept
+returns-in-Err-clause-kept g c = λ t call pick broke.
+    let h = stays_seen _ _ c.self.view_is c.self.invariant.1 in
+    let settled : c.settled-settled.result ≡ (state_of c.args.self.now.log.records).settled = c.settled-settled.ensures ∙ ap (λ (p : EndView). (state_of p.log.records).settled) c.self.view_is in
+    let says = says_marked (log_of c.args.self.now.log.records) (state_of c.args.self.now.log.records) h c.args.now c.args.quiet c.requires.some (omega (arith, settled, c.saturating_sub.ensures, c.if-saturating_sub-quiet.false)) in
+    left_with c.args.self.now.log.records (entry.Mark c.args.now) _ _ call pick (ap mark_of says) (c.log_mark.ensures.kept t call pick broke)
