@@ -391,4 +391,13 @@ impl Log {
     {
         self.records.is_empty()
     }
+
+    /// Whether the disk failed this log, so that it has to be opened again. Its records follow one another. Takes no
+    /// memory.
+    pub fn is_broken(&self) -> bool
+        ensures broken { result ≡ self.now.broken }
+        ensures follow { Follow empty_state self.now.records }
+    {
+        self.broken
+    }
 }

@@ -1,0 +1,4 @@
+pub mod Knowing
+pub mod News
+pub mod Standing
+pub mod Opening

@@ -1,0 +1,187 @@
+-- What is learned with a record: all of it is new, and with it the knowledge is that of the log with the record
+use Rattle.std.proofs.Common.{◌≡◌, ◌≢◌, ◌⊎◌, inl, inr, ℕ, suc, ◌+◌, ◌-◌, ◌^◌, ◌≤◌, ◌<◌, Bool, true, false, ◌&&◌, List, [], ◌∷◌, ◌++◌, refl, sym, ap, ap₂, ◌∙◌, subst, arith}
+use Rattle.std.specs.Prelude.{nat_le, if◌then◌else◌}
+use Rattle.std.proofs.lemmas.Bool.{false≢true, cases_lt, le-leb, lt-leb}
+use Rattle.gr_event.specs.declared.event.Event.{Event}
+use Rattle.gr_tick.specs.declared.run.Run.{Run}
+use Rattle.gr_tick.specs.Runs.{AreRuns, value_at, is_in}
+use Rattle.gr_tick.specs.Stored.{within, EndBefore, RunsGive}
+use Rattle.gr_tick.proofs.Canonical.{given_runs}
+use Rattle.gr_know.specs.declared.values.K.{K}
+use Rattle.gr_know.specs.declared.values.K.TheVariants.{Q, S, D, F}
+use Rattle.gr_know.specs.Values.{Known, known_at, is_Q, join_K, new_K}
+use Rattle.gr_publog.specs.declared.record.Record.{Record}
+use Rattle.gr_publog.specs.declared.record.Record.TheVariants as entry
+use Rattle.gr_publog.specs.declared.record.State.{State}
+use Rattle.gr_publog.specs.State.{state_of, may_follow}
+use Rattle.gr_pubend.specs.Log.{Log, empty_log, with_entry, log_of, log_at, log_know, silence, Stays}
+use Rattle.gr_publog.specs.Crash.{LogView, with_record}
+use Rattle.gr_publog.proofs.Reading.{state_more}
+use Rattle.gr_pubend.specs.End.{EndView, grown}
+use Rattle.gr_pubend.proofs.Knowing.{log_know-is, known_by, log_more, stays_more, log_at-past, within_below, within_above, event_piece-below, silence_at, at_tick, up_to_event, at_event, at_mark, at_cut}
+
+S≢Q : S ≢ Q
+S≢Q = λ e. cc
+
+D≢Q : (e : Event) → D e ≢ Q
+D≢Q e = λ h. cc
+
+S≢D : (e : Event) → S ≢ D e
+S≢D e = λ h. cc
+
+D≢S : (e : Event) → D e ≢ S
+D≢S e = λ h. cc
+
+-- silence alone is canonical, and silence up to an event
+pub silence_runs : (first last : ℕ) → 1 ≤ first → AreRuns Q (silence first last [])
+unfolding silence
+silence_runs first last one =
+    elim (cases_lt last first) [
+      | inl h ↦ subst (λ b. AreRuns Q (if b then record { first = first; last = last; value = S } ∷ [] else [])) (sym (lt-leb first last h)) tt
+      | inr h ↦ subst (λ b. AreRuns Q (if b then record { first = first; last = last; value = S } ∷ [] else [])) (sym (le-leb first last h)) (one, h, S≢Q, tt, tt)
+    ]
+
+pub event_runs : (first tick : ℕ) (e : Event) → 1 ≤ first → first ≤ tick → AreRuns Q (up_to_event first tick e)
+unfolding silence
+event_runs first tick e one le =
+    elim (cases_lt (tick - 1) first) [
+      | inl h ↦ subst (λ b. AreRuns Q (if b then record { first = first; last = tick - 1; value = S } ∷ (at_tick tick e ∷ []) else at_tick tick e ∷ [])) (sym (lt-leb first (tick - 1) h)) (omega arith, omega arith, D≢Q e, tt, tt)
+      | inr h ↦ subst (λ b. AreRuns Q (if b then record { first = first; last = tick - 1; value = S } ∷ (at_tick tick e ∷ []) else at_tick tick e ∷ [])) (sym (le-leb first (tick - 1) h)) (one, h, S≢Q, λ _. D≢S e, (omega arith, omega arith, D≢Q e, tt, tt))
+    ]
+
+-- The pieces that are made
+
+-- one run of silence
+pub silent_is : (first last : ℕ) (none p : Known) → 1 ≤ first → first ≤ last → none ≡ [] → RunsGive Q p (λ t. if is_in t (record { first = first; last = last; value = S }) then S else known_at none t) → p ≡ silence first last []
+silent_is first last none p one le e g =
+    given_runs Q p (silence first last []) (λ t. if is_in t (record { first = first; last = last; value = S }) then S else known_at none t) g (silence_runs first last one)
+    (λ t. silence_at first last t [] ∙ ap (λ x. if within first last t then S else known_at x t) (sym e))
+
+-- no run
+pub not_silent : (first last : ℕ) → last < first → [] ≡ silence first last []
+unfolding silence
+not_silent first last h = sym (ap (λ b. if b then record { first = first; last = last; value = S } ∷ [] else []) (lt-leb first last h))
+
+-- an event behind silence
+pub silent_then_is : (first tick : ℕ) (e v : Event) (p q : Known) → 1 ≤ first → first ≤ tick → v ≡ e → p ≡ silence first (tick - 1) [] → RunsGive Q q (λ t. if is_in t (record { first = tick; last = tick; value = D v }) then D v else known_at p t) → q ≡ up_to_event first tick e
+silent_then_is first tick e v p q one le same e0 g = given_runs Q q (up_to_event first tick e) _ g (event_runs first tick e one le) (λ t.
+    silence_at first (tick - 1) t (at_tick tick e ∷ [])
+    ∙ either t (cases_lt t tick) (within first (tick - 1) t) refl
+    ∙ ap (λ x. if is_in t (at_tick tick e) then D x else (if within first (tick - 1) t then S else Q)) (sym same)
+    ∙ ap (λ k. if is_in t (at_tick tick e) then D v else k) (sym (ap (λ x. known_at x t) e0 ∙ silence_at first (tick - 1) t [])))
+  where
+    either : (t : ℕ) → (t < tick) ⊎ (tick ≤ t) → (b : Bool) → within first (tick - 1) t ≡ b → (if b then S else (if is_in t (at_tick tick e) then D e else Q)) ≡ (if is_in t (at_tick tick e) then D e else (if b then S else Q))
+    either t h false w = refl
+    either t (inl h) true w = sym (ap (λ x. if x && nat_le t tick then D e else S) (lt-leb tick t h))
+    either t (inr h) true w = absurd (false≢true (sym (within_above first (tick - 1) t (omega arith)) ∙ w))
+
+-- All of it is new
+
+new_none : (k : K) → new_K k Q ≡ Q
+new_none Q = refl
+new_none S = refl
+new_none (D e) = refl
+new_none F = refl
+
+all_new : (first : ℕ) (old piece fresh : Known) → AreRuns Q piece → ((t : ℕ) → first ≤ t → known_at old t ≡ Q) → ((t : ℕ) → t < first → known_at piece t ≡ Q) → RunsGive Q fresh (λ t. new_K (known_at old t) (known_at piece t)) → fresh ≡ piece
+all_new first old piece fresh runs unknown none g = given_runs Q fresh piece (λ t. new_K (known_at old t) (known_at piece t)) g runs (λ t. by_place t (cases_lt t first))
+  where
+    by_place : (t : ℕ) → (t < first) ⊎ (first ≤ t) → known_at piece t ≡ new_K (known_at old t) (known_at piece t)
+    by_place t (inl h) = none t h ∙ sym (ap (new_K (known_at old t)) (none t h) ∙ new_none (known_at old t))
+    by_place t (inr h) = sym (ap (λ k. new_K k (known_at piece t)) (unknown t h))
+
+pub new_silence : (first last : ℕ) (old piece fresh : Known) → 1 ≤ first → ((t : ℕ) → first ≤ t → known_at old t ≡ Q) → piece ≡ silence first last [] → RunsGive Q fresh (λ t. new_K (known_at old t) (known_at piece t)) → fresh ≡ silence first last []
+new_silence first last old piece fresh one unknown e g =
+    all_new first old piece fresh (subst (AreRuns Q) (sym e) (silence_runs first last one)) unknown (λ t h. ap (λ x. known_at x t) e ∙ silence_at first last t [] ∙ ap (λ b. if b then S else Q) (within_below first last t h)) g ∙ e
+
+pub new_event : (first tick : ℕ) (v : Event) (old piece fresh : Known) → 1 ≤ first → first ≤ tick → ((t : ℕ) → first ≤ t → known_at old t ≡ Q) → piece ≡ up_to_event first tick v → RunsGive Q fresh (λ t. new_K (known_at old t) (known_at piece t)) → fresh ≡ up_to_event first tick v
+new_event first tick v old piece fresh one le unknown e g =
+    all_new first old piece fresh (subst (AreRuns Q) (sym e) (event_runs first tick v one le)) unknown (λ t h. ap (λ x. known_at x t) e ∙ event_piece-below first tick t v h le) g ∙ e
+
+pub joined_with : (p q old new : Known) → p ≡ q → RunsGive Q new (λ t. join_K (known_at old t) (known_at p t)) → RunsGive Q new (λ t. join_K (known_at old t) (known_at q t))
+joined_with p q old new e g = record { canonical = g.canonical; in_range = g.in_range; values = λ t. g.values t ∙ ap (λ x. join_K (known_at old t) (known_at x t)) e }
+
+-- What is known with one more record
+
+module _ (rs : List Record) (mine old new : Known) (e : mine ≡ log_know (log_of rs)) (h : Stays (log_of rs) (state_of rs)) (o : old ≡ mine) where
+  before : (t : ℕ) → known_at old t ≡ log_at (log_of rs) t
+  before t = ap (λ k. known_at k t) (o ∙ e) ∙ (log_know-is (log_of rs)).same_at t
+
+  pub unknown_past : (first : ℕ) → first ≡ (state_of rs).settled + 1 → (t : ℕ) → first ≤ t → known_at old t ≡ Q
+  unknown_past first f t le = before t ∙ log_at-past (log_of rs) t (omega (arith, h.settled))
+
+  pub event_known : (first tick number : ℕ) (v : Event) → first ≡ (state_of rs).settled + 1 → (state_of rs).settled < tick → RunsGive Q new (λ t. join_K (known_at old t) (known_at (up_to_event first tick v) t)) → RunsGive Q new (log_at (log_of (rs ++ entry.Event tick number v ∷ [])))
+  event_known first tick number v f past g =
+      let begins : first ≡ suc (log_of rs).settled = omega (arith, h.settled) in
+      let later : (log_of rs).settled < tick = omega (arith, h.settled) in
+      record {
+        canonical = g.canonical;
+        in_range = g.in_range;
+        values = λ t.
+            g.values t
+            ∙ ap (λ k. join_K k (known_at (up_to_event first tick v) t)) (before t)
+            ∙ ap (λ n. join_K (log_at (log_of rs) t) (known_at (up_to_event n tick v) t)) begins
+            ∙ at_event (log_of rs) (state_of rs) h tick t v later
+            ∙ sym (ap (λ (l : Log). log_at l t) (log_more empty_log rs (entry.Event tick number v)));
+      }
+
+  pub mark_known : (first tick : ℕ) → first ≡ (state_of rs).settled + 1 → (state_of rs).settled < tick → RunsGive Q new (λ t. join_K (known_at old t) (known_at (silence first tick []) t)) → RunsGive Q new (log_at (log_of (rs ++ entry.Mark tick ∷ [])))
+  mark_known first tick f past g =
+      let begins : first ≡ suc (log_of rs).settled = omega (arith, h.settled) in
+      let later : (log_of rs).settled ≤ tick = omega (arith, h.settled) in
+      record {
+        canonical = g.canonical;
+        in_range = g.in_range;
+        values = λ t.
+            g.values t
+            ∙ ap (λ k. join_K k (known_at (silence first tick []) t)) (before t)
+            ∙ ap (λ n. join_K (log_at (log_of rs) t) (known_at (silence n tick []) t)) begins
+            ∙ at_mark (log_of rs) (state_of rs) h tick t later
+            ∙ sym (ap (λ (l : Log). log_at l t) (log_more empty_log rs (entry.Mark tick)));
+      }
+
+  pub cut_known : (tick : ℕ) → (state_of rs).cut < tick → tick ≤ (state_of rs).settled → RunsGive Q new (λ t. if within 1 tick t then F else known_at old t) → RunsGive Q new (log_at (log_of (rs ++ entry.Cut tick ∷ [])))
+  cut_known tick past upto g =
+      let low : (log_of rs).cut ≤ tick = omega (arith, h.cut) in
+      let high : tick ≤ (log_of rs).settled = omega (arith, h.settled) in
+      record {
+        canonical = g.canonical;
+        in_range = g.in_range;
+        values = λ t.
+            g.values t
+            ∙ ap (λ k. if within 1 tick t then F else k) (before t)
+            ∙ at_cut (log_of rs) (state_of rs) h tick t low high
+            ∙ sym (ap (λ (l : Log). log_at l t) (log_more empty_log rs (entry.Cut tick)));
+      }
+
+-- the invariant with one more record
+pub grows : (rs : List Record) (r : Record) (new : Known) → Stays (log_of rs) (state_of rs) → may_follow (state_of rs) r ≡ true → RunsGive Q new (log_at (log_of (rs ++ r ∷ []))) → (new ≡ log_know (log_of (rs ++ r ∷ []))) × Stays (log_of (rs ++ r ∷ [])) (state_of (rs ++ r ∷ []))
+grows rs r new h m g = (
+  known_by (log_of (rs ++ r ∷ [])) new g,
+  subst (λ (l : Log). Stays l (state_of (rs ++ r ∷ []))) (sym (log_more empty_log rs r)) (subst (λ (s : State). Stays (with_entry (log_of rs) r) s) (sym (state_more rs r)) (stays_more (log_of rs) (state_of rs) r h m)),
+)
+
+-- silence ends before a later tick
+pub silence_ends : (first last t : ℕ) → last < t → EndBefore (silence first last []) t
+unfolding silence
+silence_ends first last t h = by_test (nat_le first last)
+  where
+    by_test : (b : Bool) → EndBefore {V = K} (if b then record { first = first; last = last; value = S } ∷ [] else []) t
+    by_test true = (h, tt)
+    by_test false = tt
+
+-- The endpoint with one more record
+
+pub grown_holds : (log log' : LogView) (r : Record) (new : Known) → Stays (log_of log.records) (state_of log.records) → may_follow (state_of log.records) r ≡ true → RunsGive Q new (log_at (log_of (log.records ++ r ∷ []))) → log' ≡ with_record r log
+    → (new ≡ log_know (log_of log'.records)) × Stays (log_of log'.records) (state_of log'.records)
+grown_holds log log' r new h m g e =
+    subst (λ (l : LogView). (new ≡ log_know (log_of l.records)) × Stays (log_of l.records) (state_of l.records)) (sym e) (grows log.records r new h m g)
+
+pub grown_is : (log log' : LogView) (r : Record) (mine new : Known) → RunsGive Q new (log_at (log_of (log.records ++ r ∷ []))) → log' ≡ with_record r log → ◌≡◌ {A = EndView} (record { log = log'; know = new }) (grown r (record { log = log; know = mine }))
+grown_is log log' r mine new g e =
+    let make : LogView → Known → EndView = λ l k. record { log = l; know = k } in
+    ap₂ make e (known_by (log_of (log.records ++ r ∷ [])) new g)
+
+-- what is known has at each tick what the log says
+pub known_gives : (log : Log) (know : Known) → know ≡ log_know log → AreRuns Q know → EndBefore know (2 ^ 62 + 1) → RunsGive Q know (log_at log)
+known_gives log know e a b = record { canonical = a; in_range = b; values = λ t. ap (λ k. known_at k t) e ∙ (log_know-is log).same_at t }

@@ -1,0 +1,4 @@
+pub mod Log
+pub mod Answers
+pub mod End
+pub mod Opening

@@ -1,0 +1,23 @@
+-- A log whose events are read one after another, from its cut on
+use Rattle.std.specs.Prelude.{ℕ, ◌<◌, List, [], ◌∷◌, map}
+use Rattle.gr_event.specs.declared.event.Event.{Event}
+use Rattle.gr_publog.specs.declared.record.Entry.{Entry}
+use Rattle.gr_pubend.specs.Log.{Log}
+
+-- entries as pairs of a tick and an event
+abbrev pub pairs : List Entry → List (ℕ × Event)
+pairs es = map (λ e. (e.tick, e.event)) es
+
+-- the tick of the last entry, or a tick before the first one
+abbrev pub last_tick : ℕ → List Entry → ℕ
+last_tick from [] = from
+last_tick from (e ∷ es) = last_tick e.tick es
+
+-- the ticks rise strictly from above a tick on
+abbrev pub EntriesRise : ℕ → List Entry → Type 0
+EntriesRise from [] = Unit {0}
+EntriesRise from (e ∷ es) = (from < e.tick) × EntriesRise e.tick es
+
+-- the log with this cut and these entries behind it
+abbrev pub seen : ℕ → List Entry → Log
+seen cut es = record { last = 0; settled = last_tick cut es; cut = cut; events = pairs es; gate = 0 }

@@ -1,0 +1,3 @@
+pub mod Horizon
+pub mod Said
+pub mod Deliveries

@@ -1,0 +1,121 @@
+//! The horizon of the subscribers at a broker, for one publisher.
+
+ghost use Rattle.std.specs.Prelude.{◌≡◌, ◌≢◌, ◌⊎◌, ℕ, suc, ◌+◌, ◌-◌, ◌^◌, ◌<◌, ◌≤◌, ◌++◌, true, None, map, IfOk, OnOk, OnErr};
+ghost use Rattle.gr_tick.specs.Stored.{IsRun};
+ghost use Rattle.gr_know.specs.Values.{known_at};
+ghost use Rattle.gr_know.specs.declared.values.K.TheVariants.{Q};
+ghost use Rattle.gr_subend.specs.Horizon.{horizon_after, numbers_from, data_of_run, data_ticks};
+ghost use Rattle.gr_subend.specs.Said.{said_at, TicksRise, event_of};
+ghost use Rattle.gr_subend.specs.Deliveries.{items};
+
+use crate::delivery::{Deliveries, Delivery};
+use gr_event::{Event, Memory};
+use gr_know::{K, Know};
+use gr_tick::{Piece, Run};
+use std::alloc::Global;
+use std::marker::Model;
+
+/// How far the subscribers at a broker have heard one publisher, seen as its horizon: the last tick up to which nothing
+/// is in doubt. It starts at 0, never goes back, and is at most 2^62.
+#[derive(Drop)]
+pub struct Subend {
+    horizon: u64,
+}
+
+impl Model for Subend {
+    ghost use Rattle.std.specs.Prelude.{ℕ, ◌≤◌, ◌^◌};
+
+    ghost Value = { ℕ };
+
+    ghost view = { λ s. s.horizon };
+
+    ghost invariant = { λ s. s.horizon ≤ 2 ^ 62 };
+}
+
+impl Subend {
+    /// Nothing was heard yet. Takes no memory.
+    pub fn new() -> Subend
+        ensures { result ≡ 0 }
+    {
+        Subend { horizon: 0 }
+    }
+
+    /// Moves the horizon to the last tick before the next unknown one, and gives every event that it passed, tick by
+    /// tick. An event that stands at many ticks is given at each of them. The filters of the subscribers are for the
+    /// caller. `Memory` leaves the horizon as it was.
+    pub fn advance(&mut self, alloc: Global, know: &Know) -> Result<Deliveries, Memory>
+        ensures horizon { OnOk result (self.new ≡ horizon_after true self.old know.now) }
+        ensures forward { self.old ≤ self.new }
+        ensures known { OnOk result ((t : ℕ) → self.old < t → t ≤ self.new → known_at know.now t ≢ Q) }
+        ensures greatest { OnOk result (known_at know.now (self.new + 1) ≡ Q) }
+        ensures delivered { IfOk result (λ ds. items ds ≡ data_ticks self.old self.new know.now) }
+        ensures rise { IfOk result (λ ds. TicksRise self.old (items ds)) }
+        ensures each { IfOk result (λ ds. (t : ℕ) → self.old < t → t ≤ self.new → said_at (items ds) t ≡ event_of (known_at know.now t)) }
+        ensures no_other { IfOk result (λ ds. (t : ℕ) → (t ≤ self.old) ⊎ (self.new < t) → said_at (items ds) t ≡ None) }
+        ensures err { OnErr result (self.new ≡ self.old) }
+    {
+        let _ = know.len();
+        let horizon = know.horizon_from(self.horizon);
+        if horizon == self.horizon {
+            return Ok(Deliveries::new(alloc));
+        }
+        let passed = know.piece(self.horizon + 1, horizon)?;
+        let deliveries = events_in(alloc, &passed)?;
+        self.horizon = horizon;
+        Ok(deliveries)
+    }
+
+    /// The horizon. Takes no memory.
+    pub fn horizon(&self) -> u64
+        ensures horizon { result ≡ self.now }
+        ensures inside { result ≤ 2 ^ 62 }
+    {
+        self.horizon
+    }
+
+    /// An endpoint with the same horizon. Takes no memory.
+    pub fn copy(&self) -> Subend
+        ensures { result ≡ self.now }
+    {
+        Subend {
+            horizon: self.horizon,
+        }
+    }
+}
+
+/// The events of a piece, at each of their ticks.
+fn events_in(alloc: Global, piece: &Piece<K>) -> Result<Deliveries, Memory>
+    ensures { IfOk result (λ ds. items ds ≡ data_ticks 0 (2 ^ 62) piece.now) }
+{
+    let mut deliveries = Deliveries::new(alloc);
+    for i in 0..piece.len() {
+        put_run(&mut deliveries, piece.run(i))?;
+    }
+    Ok(deliveries)
+}
+
+/// Puts the event of a run at the end, once for each of its ticks. A run without an event gives nothing.
+fn put_run(deliveries: &mut Deliveries, run: &Run<K>) -> Result<(), Memory>
+    requires { IsRun Q run.now }
+    ensures { OnOk result (items deliveries.new ≡ items deliveries.old ++ data_of_run 0 (2 ^ 62) run.now) }
+{
+    match &run.value {
+        K::D(event) => put_each(deliveries, event, run.first, run.last),
+        K::Q | K::S | K::F => Ok(()),
+    }
+}
+
+/// Puts an event at the end, once for each tick of a range.
+fn put_each(deliveries: &mut Deliveries, event: &Event, first: u64, last: u64) -> Result<(), Memory>
+    requires ordered { first ≤ last }
+    requires upto { last ≤ 2 ^ 62 }
+    ensures { OnOk result (items deliveries.new ≡ items deliveries.old ++ map (λ t. (t, event.now)) (numbers_from first (suc last - first))) }
+{
+    for tick in first..last + 1 {
+        deliveries.push(Delivery {
+            tick,
+            event: event.share(),
+        })?;
+    }
+    Ok(())
+}
