@@ -71,6 +71,7 @@ examples = record {
   clock_may_go_back = refl;
   lost_is_asked = refl;
   repeats_are_got_once = refl;
+  each_is_got_once = refl;
   unwanted_is_silence = refl;
   no_filter_on_missing = refl;
   crashed_broker_asks_on = refl;

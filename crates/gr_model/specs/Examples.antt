@@ -151,6 +151,20 @@ pub record WorkedExamples : Type 0 where
       line.Got 0 0 1000 (n_is 1) ∷
       line.Got 0 0 2000 (n_is 2) ∷
       line.Horizon 0 0 2000 ∷ []
+  -- Where the horizon moves on, an event below it that a child has not acknowledged yet is not got again
+  pub each_is_got_once : report inner_net (clock 1000 ∷ publish 1 (n_is 1) ∷ deliver 1 ∷ publish 2 (n_is 2) ∷ deliver 4 ∷ []) ≡
+      line.Logged 0 1 1000 ∷
+      line.SentKnow 1 0 1 0 (silent 1 999 ∷ event (n_is 1) 1000 1000 ∷ []) ∷
+      line.Got 0 0 1000 (n_is 1) ∷
+      line.Horizon 0 0 1000 ∷
+      line.SentKnow 2 1 2 0 (silent 1 999 ∷ event (n_is 1) 1000 1000 ∷ []) ∷
+      line.SentKnow 3 1 3 0 (silent 1 1000 ∷ []) ∷
+      line.Logged 0 2 1001 ∷
+      line.SentKnow 4 0 1 0 (event (n_is 2) 1001 1001 ∷ []) ∷
+      line.Got 0 0 1001 (n_is 2) ∷
+      line.Horizon 0 0 1001 ∷
+      line.SentKnow 5 1 2 0 (event (n_is 2) 1001 1001 ∷ []) ∷
+      line.SentKnow 6 1 3 0 (silent 1001 1001 ∷ []) ∷ []
   -- An event that no subscriber beyond an edge wants passes it as silence
   pub unwanted_is_silence : report net1 (clock 1000 ∷ publish 1 (int_event price 70) ∷ deliver 1 ∷ []) ≡
       line.Logged 0 1 1000 ∷
