@@ -4,8 +4,7 @@ use crate::{Pubend, Published, Quieted};
 use gr_event::Event;
 use gr_know::K;
 use gr_out::{Disk, MemDisk};
-use gr_publog::LogFault;
-use gr_tick::{Lattice, MAX_TICK, Piece};
+use gr_tick::{Lattice, Piece};
 use std::alloc::Global;
 use std::test::Fail;
 
@@ -39,13 +38,14 @@ fn marks_a_long_silence(rt: HostRuntime) -> Result<(), Fail> {
     let (tick, fresh) = marked(end.quiet(&mut disk, 1000, 1000)?).ok_or("not marked")?;
     assert_eq!(rt; tick, 1000);
     assert_eq!(rt; fresh.len(), 1);
-    assert!(rt; fresh.at(1).same(&K::S) && fresh.at(1000).same(&K::S));
+    assert!(rt; fresh.at(1).same(&K::S));
+    assert!(rt; fresh.at(1000).same(&K::S));
     assert_eq!(rt; end.log().settled(), 1000);
     Ok(())
 }
 
 #[test]
-fn publishes_by_number_and_tick(rt: HostRuntime) -> Result<(), Fail> {
+fn publishes_with_the_silence_before(rt: HostRuntime) -> Result<(), Fail> {
     let alloc = rt.alloc();
     let event = price(alloc)?;
     let mut disk = MemDisk::new(alloc, &[])?;
@@ -53,81 +53,37 @@ fn publishes_by_number_and_tick(rt: HostRuntime) -> Result<(), Fail> {
     let (tick, fresh) = logged(end.publish(&mut disk, 1, &event, 1000)?).ok_or("not logged")?;
     assert_eq!(rt; tick, 1000);
     assert_eq!(rt; fresh.len(), 2);
-    assert!(rt; fresh.at(1).same(&K::S) && fresh.at(999).same(&K::S));
-    assert!(rt; fresh.at(1000).same(&K::D(event.share())));
-    assert!(rt; matches!(end.publish(&mut disk, 1, &event, 1000)?, Published::Already));
-    assert!(rt;
-        matches!(
-            end.publish(&mut disk, 5, &event, 1000)?,
-            Published::Gap { next: 2 }
-        )
-    );
-    let (tick, fresh) = logged(end.publish(&mut disk, 2, &event, 0)?).ok_or("not logged")?;
-    assert_eq!(rt; tick, 1001);
-    assert_eq!(rt; fresh.len(), 1);
-    let (tick, _) = logged(end.publish(&mut disk, 3, &event, MAX_TICK)?).ok_or("not logged")?;
-    assert_eq!(rt; tick, MAX_TICK);
-    assert!(rt;
-        matches!(
-            end.publish(&mut disk, 4, &event, MAX_TICK)?,
-            Published::Exhausted
-        )
-    );
+    assert!(rt; fresh.at(1).same(&K::S));
+    assert!(rt; fresh.at(999).same(&K::S));
+    assert!(rt; fresh.at(1000).same(&K::D(event)));
     Ok(())
 }
 
-/// The opening makes five calls on the disk, and a publish four, of which the second is to fail.
 #[test]
-fn answers_reopen_after_a_failure(rt: HostRuntime) -> Result<(), Fail> {
-    let alloc = rt.alloc();
-    let event = price(alloc)?;
-    let mut disk = MemDisk::new(alloc, &[7])?;
-    let mut end = Pubend::open(alloc, &mut disk, 0)?;
-    assert!(rt; matches!(end.publish(&mut disk, 1, &event, 1000), Err(LogFault::Disk)));
-    assert!(rt;
-        matches!(
-            end.publish(&mut disk, 1, &event, 1000),
-            Err(LogFault::Reopen)
-        )
-    );
-    assert!(rt;
-        matches!(
-            end.publish(&mut disk, 5, &event, 1000)?,
-            Published::Gap { next: 1 }
-        )
-    );
-    assert!(rt; matches!(end.quiet(&mut disk, 1000, 1), Err(LogFault::Reopen)));
-    assert!(rt; end.know().at(1000).same(&K::Q));
-    let mut again = Pubend::open(alloc, &mut disk, 0)?;
-    assert_eq!(rt; again.log().last(), 0);
-    let _ = logged(again.publish(&mut disk, 1, &event, 1000)?).ok_or("not logged")?;
-    assert!(rt; again.know().at(1000).same(&K::D(event)));
-    Ok(())
-}
-
-/// Events at 1000 and 2000, a mark at 5000, and a cut at 1500: what is known stays over an opening.
-#[test]
-fn cuts_and_opens_again(rt: HostRuntime) -> Result<(), Fail> {
+fn a_gap_names_the_next_number(rt: HostRuntime) -> Result<(), Fail> {
     let alloc = rt.alloc();
     let event = price(alloc)?;
     let mut disk = MemDisk::new(alloc, &[])?;
     let mut end = Pubend::open(alloc, &mut disk, 0)?;
     let _ = end.publish(&mut disk, 1, &event, 1000)?;
-    let _ = end.publish(&mut disk, 2, &event, 2000)?;
-    let _ = end.quiet(&mut disk, 5000, 1000)?;
-    assert!(rt; end.log().cut() < 1500 && 1500 <= end.log().settled());
-    end.cut_to(&mut disk, 1500)?;
-    let again = Pubend::open(alloc, &mut disk, 0)?;
-    for know in [end.know(), again.know()] {
-        assert!(rt;
-            know.at(1).same(&K::F) && know.at(1000).same(&K::F) && know.at(1500).same(&K::F)
-        );
-        assert!(rt; know.at(1501).same(&K::S) && know.at(1999).same(&K::S));
-        assert!(rt; know.at(2000).same(&K::D(event.share())));
-        assert!(rt; know.at(2001).same(&K::S) && know.at(5000).same(&K::S));
-        assert!(rt; know.at(5001).same(&K::Q));
-        assert_eq!(rt; know.len(), 4);
-    }
-    assert_eq!(rt; again.log().events().len(), 1);
+    let gap = matches!(
+        end.publish(&mut disk, 5, &event, 1000)?,
+        Published::Gap { next: 2 }
+    );
+    assert!(rt; gap);
+    Ok(())
+}
+
+#[test]
+fn cuts_up_to_a_tick(rt: HostRuntime) -> Result<(), Fail> {
+    let alloc = rt.alloc();
+    let event = price(alloc)?;
+    let mut disk = MemDisk::new(alloc, &[])?;
+    let mut end = Pubend::open(alloc, &mut disk, 0)?;
+    let _ = end.publish(&mut disk, 1, &event, 1000)?;
+    assert!(rt; end.log().cut() < 1000);
+    assert!(rt; 1000 <= end.log().settled());
+    end.cut_to(&mut disk, 1000)?;
+    assert!(rt; end.know().at(1000).same(&K::F));
     Ok(())
 }
