@@ -1,17 +1,15 @@
 -- One broker's calls for one publisher
-use Rattle.std.specs.Prelude.{ℕ, suc, ◌+◌, ◌-◌, ◌*◌, ◌%◌, ◌^◌, min, max, Bool, true, false, not, ◌&&◌, ◌||◌, nat_eq, nat_le, nat_lt, if◌then◌else◌, List, [], ◌∷◌, ◌++◌, map, filter, get_or, set, Some, None, flat_map}
+use Rattle.std.specs.Prelude.{ℕ, suc, ◌+◌, ◌-◌, min, max, Bool, true, false, not, ◌&&◌, ◌||◌, nat_eq, nat_le, nat_lt, if◌then◌else◌, List, [], ◌∷◌, ◌++◌, map, filter, get_or, set, Some, None, flat_map}
 use Rattle.std.specs.List.{list_all}
 use Rattle.gr_event.specs.declared.event.Event.{Event}
 use Rattle.gr_know.specs.declared.values.K.{K}
-use Rattle.gr_know.specs.declared.values.K.TheVariants.{Q, S, D, F}
+use Rattle.gr_know.specs.declared.values.K.TheVariants.{Q, D, F}
 use Rattle.gr_curio.specs.declared.values.Q3.{Q3}
 use Rattle.gr_curio.specs.declared.values.Q3.TheVariants.{N, C, A}
-use Rattle.gr_tick.specs.declared.run.Run.{Run}
 use Rattle.gr_frame.specs.declared.Body.TheVariants as body
 use Rattle.gr_frame.specs.declared.Head.{Head}
 use Rattle.gr_frame.specs.declared.Frame.{Frame}
 use Rattle.gr_frame.specs.Bytes.{known_run_size, wanted_run_size, cut_frames}
-use Rattle.gr_event.specs.Event.{event_size}
 use Rattle.gr_curio.specs.declared.asks.Moment.TheVariants.{Never}
 use Rattle.gr_model.specs.declared.report.Report.{Report}
 use Rattle.gr_model.specs.declared.report.Report.TheVariants as line
@@ -28,7 +26,7 @@ unfoldable pub use Rattle.gr_know.specs.Forget.{lower_data, forgotten}
 pub use Rattle.gr_curio.specs.Wants.{all_A, any_C}
 use Rattle.gr_curio.specs.Due.{noted_of}
 use Rattle.gr_curio.specs.Values.{Wanted, Asked, wanted_at, asked_at, wanteds, same_Q3, same_moment, is_C, is_A, is_outstanding}
-use Rattle.gr_model.specs.Net.{Net, keeps_horizon, is_host, pass, not_empty, numbers_from}
+use Rattle.gr_model.specs.Net.{Net, keeps_horizon, is_host, pass, not_empty}
 
 -- what a broker keeps for one publisher
 pub record View : Type 0 where

@@ -1,5 +1,5 @@
 -- Logged events by tick
-use Rattle.std.specs.Prelude.{ℕ, ◌<◌, ◌&&◌, nat_eq, nat_le, nat_lt, if◌then◌else◌, List, [], ◌∷◌, Option, Some, None, filter}
+use Rattle.std.specs.Prelude.{ℕ, ◌&&◌, nat_le, nat_lt, List, filter}
 use Rattle.gr_event.specs.declared.event.Event.{Event}
 use Rattle.gr_model.specs.Net.{Net}
 pub use Rattle.gr_subend.specs.Said.{said_at, TicksRise}
