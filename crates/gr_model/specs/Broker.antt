@@ -1,33 +1,32 @@
 -- One broker's calls for one publisher
-use Rattle.std.specs.Prelude.{ℕ, suc, ◌+◌, ◌-◌, ◌*◌, ◌%◌, ◌^◌, min, max, Bool, true, false, not, ◌&&◌, ◌||◌, nat_eq, nat_le, nat_lt, if◌then◌else◌, List, [], ◌∷◌, ◌++◌, map, filter, get_or, set, Some, None, flat_map}
+use Rattle.std.specs.Prelude.{ℕ, suc, ◌+◌, ◌-◌, min, max, Bool, true, false, not, ◌&&◌, ◌||◌, nat_eq, nat_le, nat_lt, if◌then◌else◌, List, [], ◌∷◌, ◌++◌, map, filter, get_or, set, Some, None, flat_map}
 use Rattle.std.specs.List.{list_all}
 use Rattle.gr_event.specs.declared.event.Event.{Event}
 use Rattle.gr_know.specs.declared.values.K.{K}
-use Rattle.gr_know.specs.declared.values.K.TheVariants.{Q, S, D, F}
+use Rattle.gr_know.specs.declared.values.K.TheVariants.{Q, D, F}
 use Rattle.gr_curio.specs.declared.values.Q3.{Q3}
 use Rattle.gr_curio.specs.declared.values.Q3.TheVariants.{N, C, A}
-use Rattle.gr_tick.specs.declared.run.Run.{Run}
 use Rattle.gr_frame.specs.declared.Body.TheVariants as body
 use Rattle.gr_frame.specs.declared.Head.{Head}
 use Rattle.gr_frame.specs.declared.Frame.{Frame}
 use Rattle.gr_frame.specs.Bytes.{known_run_size, wanted_run_size, cut_frames}
-use Rattle.gr_event.specs.Event.{event_size}
 use Rattle.gr_curio.specs.declared.asks.Moment.TheVariants.{Never}
 use Rattle.gr_model.specs.declared.report.Report.{Report}
 use Rattle.gr_model.specs.declared.report.Report.TheVariants as line
 use Rattle.gr_tick.specs.Runs.{points, zip_runs, first_bottom_from, top_of}
 use Rattle.gr_know.specs.Values.{Known, known_at, knowns, same_K, is_Q, join_K, new_K, clash_K}
 pub use Rattle.gr_publog.specs.Kept.{is_kept}
+pub use Rattle.gr_publog.specs.State.{max_tick}
+pub use Rattle.gr_pubend.specs.Log.{Log, empty_log, with_event, with_mark, with_cut, event_at, log_at, event_points}
+unfoldable pub use Rattle.gr_pubend.specs.Log.{log_know, silence}
+pub use Rattle.gr_subend.specs.Horizon.{data_of_run}
+unfoldable pub use Rattle.gr_subend.specs.Horizon.{horizon_after, data_ticks}
 pub use Rattle.gr_know.specs.Forget.{data_count, without_front}
 unfoldable pub use Rattle.gr_know.specs.Forget.{lower_data, forgotten}
 pub use Rattle.gr_curio.specs.Wants.{all_A, any_C}
 use Rattle.gr_curio.specs.Due.{noted_of}
 use Rattle.gr_curio.specs.Values.{Wanted, Asked, wanted_at, asked_at, wanteds, same_Q3, same_moment, is_C, is_A, is_outstanding}
-use Rattle.gr_model.specs.Net.{Net, keeps_horizon, is_host, pass, not_empty, numbers_from}
-
--- the last tick
-abbrev pub max_tick : ℕ
-max_tick = 2 ^ 62
+use Rattle.gr_model.specs.Net.{Net, keeps_horizon, is_host, pass, not_empty}
 
 -- what a broker keeps for one publisher
 pub record View : Type 0 where
@@ -35,14 +34,6 @@ pub record View : Type 0 where
   pub wants : List Wanted  -- one for each child, in order
   pub asks : Asked
   pub horizon : ℕ
-
--- what a publisher's log holds
-pub record Log : Type 0 where
-  pub last : ℕ
-  pub settled : ℕ
-  pub cut : ℕ
-  pub events : List (ℕ × Event)  -- all that were logged, by rising tick
-  pub gate : ℕ  -- the place of the closed gate in the lane
 
 -- what a call leaves, tells and sends
 pub record Outcome : Type 0 where
@@ -96,22 +87,6 @@ trimmed net p b v =
     ]
 
 -- The horizon
-
--- a kept horizon moves to just before the next unknown tick
-unfoldable pub horizon_after : Bool → ℕ → Known → ℕ
-horizon_after keeps h know = if keeps then first_bottom_from know (suc h) - 1 else h
-
--- the data ticks of a run from lo + 1 to hi
-abbrev pub data_of_run : ℕ → ℕ → Run K → List (ℕ × Event)
-data_of_run lo hi r =
-    elim r.value [
-      | D e ↦ map (λ t. (t, e)) (numbers_from (max (suc lo) r.first) (suc (min r.last hi) - max (suc lo) r.first))
-      | _ ↦ []
-    ]
-
--- the data ticks from lo + 1 to hi
-unfoldable pub data_ticks : ℕ → ℕ → Known → List (ℕ × Event)
-data_ticks lo hi know = flat_map (data_of_run lo hi) know
 
 -- what a subscriber gets at a tick
 abbrev pub got_line : ℕ → ℕ → ℕ × Event → Report
@@ -264,42 +239,6 @@ expect net p b now tick v log =
     record { view = o.view; log = o.log; lines = o.lines; frames = o.frames ++ expect_frames p b tick (net.children p b) v.wants }
 
 -- The publisher
-
--- a log in which nothing was logged
-abbrev pub empty_log : Log
-empty_log = record { last = 0; settled = 0; cut = 0; events = []; gate = 5 }
-
--- the log with a further event; with a mark; with a cut
-abbrev pub with_event : Log → ℕ → Event → Log
-with_event log tick e = record { last = suc log.last; settled = tick; cut = log.cut; events = log.events ++ (tick, e) ∷ []; gate = log.gate + 22 + event_size e }
-
-abbrev pub with_mark : Log → ℕ → Log
-with_mark log tick = record { last = log.last; settled = tick; cut = log.cut; events = log.events; gate = log.gate + 10 }
-
-abbrev pub with_cut : Log → ℕ → Log
-with_cut log tick = record { last = log.last; settled = log.settled; cut = tick; events = log.events; gate = log.gate + 10 }
-
--- the event at a tick, else silence
-abbrev pub event_at : List (ℕ × Event) → ℕ → K
-event_at [] t = S
-event_at (x ∷ xs) t = if nat_eq x.0 t then D x.1 else event_at xs t
-
--- what a log says of a tick
-abbrev pub log_at : Log → ℕ → K
-log_at log t = if nat_le 1 t && nat_le t log.settled then (if nat_le t log.cut then F else event_at log.events t) else Q
-
--- where the events may change the value
-abbrev pub event_points : List (ℕ × Event) → List ℕ
-event_points [] = []
-event_points (x ∷ xs) = x.0 ∷ (suc x.0 ∷ event_points xs)
-
--- the log as knowledge
-unfoldable pub log_know : Log → Known
-log_know log = knowns (log_at log) (1 ∷ (suc log.cut ∷ (suc log.settled ∷ event_points log.events)))
-
--- silence on a range, on top of the rest
-unfoldable pub silence : ℕ → ℕ → Known → Known
-silence first last rest = if nat_le first last then record { first = first; last = last; value = S } ∷ rest else rest
 
 -- a publish: said already, out of turn, past the last tick, or logged at its tick and then learned with the silence before it
 unfoldable pub publish : Net → ℕ → ℕ → ℕ → ℕ → Event → View → Log → Outcome

@@ -1,9 +1,10 @@
 -- A topology as the machine sees it: brokers, publishers and subscribers are numbers from 0
-use Rattle.std.specs.Prelude.{ℕ, zero, suc, Bool, true, false, ◌||◌, nat_eq, List, [], ◌∷◌, Option}
+use Rattle.std.specs.Prelude.{ℕ, Bool, true, false, ◌||◌, nat_eq, List, [], ◌∷◌, Option}
 use Rattle.std.specs.List.{list_any}
 use Rattle.gr_event.specs.declared.event.Event.{Event}
 use Rattle.gr_know.specs.declared.values.K.{K}
 use Rattle.gr_know.specs.declared.values.K.TheVariants.{Q, S, D, F}
+pub use Rattle.gr_subend.specs.Horizon.{numbers_from}
 
 pub record Net : Type 0 where
   pub brokers : ℕ  -- how many
@@ -22,11 +23,6 @@ pub record Net : Type 0 where
   pub retry : ℕ  -- how long an ask is outstanding
   pub quiet : ℕ  -- how long a log is silent before it is marked
   pub cache : ℕ  -- how many event ticks a broker below the host keeps for a publisher
-
--- so many numbers in a row, from the first on
-abbrev pub numbers_from : ℕ → ℕ → List ℕ
-numbers_from n zero = []
-numbers_from n (suc k) = n ∷ numbers_from (suc n) k
 
 -- 0, 1, .. below a number
 abbrev pub numbers : ℕ → List ℕ

@@ -1,17 +1,8 @@
 -- Logged events by tick
-use Rattle.std.specs.Prelude.{ℕ, ◌<◌, ◌&&◌, nat_eq, nat_le, nat_lt, if◌then◌else◌, List, [], ◌∷◌, Option, Some, None, filter}
+use Rattle.std.specs.Prelude.{ℕ, ◌&&◌, nat_le, nat_lt, List, filter}
 use Rattle.gr_event.specs.declared.event.Event.{Event}
 use Rattle.gr_model.specs.Net.{Net}
-
--- the event logged at a tick
-abbrev pub said_at : List (ℕ × Event) → ℕ → Option Event
-said_at [] t = None
-said_at (x ∷ xs) t = if nat_eq x.0 t then Some x.1 else said_at xs t
-
--- the ticks rise strictly from above a number on
-abbrev pub TicksRise : ℕ → List (ℕ × Event) → Type 0
-TicksRise from [] = Unit {0}
-TicksRise from (x ∷ xs) = (from < x.0) × TicksRise x.0 xs
+pub use Rattle.gr_subend.specs.Said.{said_at, TicksRise}
 
 -- the events that a subscriber is to have up to a tick, and from past one tick up to another
 abbrev pub due_upto : Net → ℕ → ℕ → List (ℕ × Event) → List (ℕ × Event)
