@@ -15,7 +15,7 @@ use Rattle.gr_know.specs.Values.{known_at}
 use Rattle.gr_model.specs.declared.report.Report.TheVariants as line
 use Rattle.gr_model.specs.Net.{Net, is_host, keeps_horizon, numbers}
 use Rattle.gr_model.specs.Broker.{max_tick}
-use Rattle.gr_model.specs.World.{World, Told, view_of, log_of, unchanged, after, in_turn, sweep, sweep_for, sweep_moment, next, start, report_of, run_from, run_all}
+use Rattle.gr_model.specs.World.{World, Told, view_of, log_of, unchanged, after, in_turn, sweep, sweep_for, sweep_moment, next, start, report_of, run_from, run_all, next_by, report_of_by, sweep_by}
 use Rattle.gr_model.specs.Headline.{Headline, Holds_from, begin, history, History, heard_after, hearing, hearing_all, is_swept, sweep_at}
 use Rattle.gr_model.specs.Tree.{IsNet}
 use Rattle.gr_model.specs.Truth.{Facts, IsTrueAt}
@@ -73,7 +73,7 @@ pub record Reaches (net : Net) (w : World) (k : ℕ) (before : Pieces) (more : L
 
 -- the logs after a sweep that is not refused
 pub swept_settled : (net : Net) (w : World) (k p : ℕ) → IsNet net → 1 ≤ net.quiet → WorldFits net w → p < net.publishers → nat_lt max_tick (sweep_moment net w) ≡ false → (log_of (sweep net w k).world p).settled ≡ sweep_moment net w
-unfolding sweep
+unfolding sweep_by
 swept_settled net w k p n z f j ok = go (nat_lt max_tick m) ok
   where
     m : ℕ
@@ -138,7 +138,7 @@ SweepsReach net n = (w : World) (k : ℕ) (heard : Pieces) → (f : WorldFits ne
     (let a : SweepAdds net w k = sweep_adds net w k n f in Reaches net w k heard a.more b p)
 
 refused_world : (net : Net) (w : World) (k : ℕ) → nat_lt max_tick (sweep_moment net w) ≡ true → (sweep net w k).world ≡ w
-unfolding sweep
+unfolding sweep_by
 refused_world net w k e = go (nat_lt max_tick m) e
   where
     m : ℕ
@@ -168,7 +168,7 @@ sweep_hears net n w h k reach z x o =
     ]
 
 hears_at : (net : Net) (n : IsNet net) (w : World) (h : History) (k : ℕ) (s : Step) → SweepsReach net n → 1 ≤ net.quiet → StepIn net s → Whole net w h → Unknowns net w → Hears net (next net w (record { number = k; step = s })).world (heard_after net h (record { number = k; step = s }) (next net w (record { number = k; step = s })).lines)
-unfolding next heard_after
+unfolding next_by heard_after
 hears_at net n w h k step.Sweep reach z i x o = sweep_hears net n w h k reach z x o
 hears_at net n w h k s reach z i x o = hears_by net w h k s (next net w (record { number = k; step = s })).lines n x.stands.fits x.stands.records x.stands.sent i refl x.hears
 
@@ -185,5 +185,5 @@ stands_where_sweeps_reach net w h ls n reach z i k x = (
 
 -- where every sweep reaches each broker below the host, the headline holds whole over every schedule
 pub headline_where_sweeps_reach : (net : Net) (ls : List Line) (n : IsNet net) → SweepsReach net n → 1 ≤ net.quiet → StepsIn net ls → Headline net ls (report_of net ls)
-unfolding report_of
+unfolding report_of_by
 headline_where_sweeps_reach net ls n reach z i = (refl, holds_where_sweeps_reach net (start net) (begin net) ls n reach z i (start_whole net n) (unknowns_always net [] n tt))

@@ -13,7 +13,7 @@ use Rattle.gr_tick.specs.Runs.{AreRuns, points, IsSteady, IsPast}
 use Rattle.gr_know.specs.Values.{Known, known_at, is_Q, same_K}
 use Rattle.gr_curio.specs.Values.{Wanted, wanted_at, asked_at, is_C, is_A, same_Q3, is_outstanding}
 use Rattle.gr_model.specs.Net.{Net, is_host, keeps_horizon, pass}
-use Rattle.gr_model.specs.Broker.{View, Log, Outcome, want_frames, know_frames, all_A, consolidated, is_settled, finished, due, noted, up_frames, place_of, answer, answers, curious, stored, acknowledged, curiosity, head}
+use Rattle.gr_model.specs.Broker.{View, Log, Outcome, want_frames, know_frames, all_A, consolidated, is_settled, finished, due, noted, up_frames, place_of, passed, answer, answers, curious, stored, acknowledged, curiosity, head}
 use Rattle.gr_frame.specs.Bytes.{cut_frames, known_run_size, wanted_run_size}
 use Rattle.gr_model.specs.World.{is_want}
 use Rattle.gr_model.specs.Truth.{Facts, WantsTruth, AllWantTruth}
@@ -27,6 +27,7 @@ use Rattle.gr_frame.specs.declared.Body.TheVariants as body
 use Rattle.gr_model.proofs.Pieces.{AllParts, cut_frames-parts}
 use Rattle.gr_model.proofs.Worlds.{Each}
 use Rattle.gr_model.proofs.AskMoments.{Each-on}
+use Rattle.gr_model.proofs.Passed.{passed-is}
 use Rattle.gr_model.proofs.CallTicks.{IsTrimmed, trimmed-is, due-at, noted-at}
 use Rattle.gr_model.proofs.Forwarding.{Has, Has-front, Has-back, TellsTick, WantsTick, know_frames_tell, up_frames_want, pass_not_Q, wants_of}
 use Rattle.gr_curio.specs.declared.asks.Moment.TheVariants.{Never, At}
@@ -107,11 +108,13 @@ three_steady bottom g know w piece z r p = record {
   past = p;
 }
 
-pub answers-is : (net : Net) (p c : ℕ) (know : Known) (w piece : Wanted) → AreRuns N piece → AreRunsOf Q (λ t. answer net p c (known_at know t) (wanted_at w t) (wanted_at piece t)) (answers net p c know w piece)
+pub answers-is : (net : Net) (p c : ℕ) (know : Known) (w piece : Wanted) → AreRuns Q know → AreRuns N piece → AreRunsOf Q (λ t. answer (pass net p c t (known_at know t)) (wanted_at w t) (wanted_at piece t)) (answers net p c know w piece)
 unfolding answers
-answers-is net p c know w piece r =
-    tabulate-is Q same_K K_decides (λ t. answer net p c (known_at know t) (wanted_at w t) (wanted_at piece t)) (points know ++ points w ++ points piece)
-    (three_steady Q (answer net p c) know w piece (λ k a. refl) r (λ t n. ap (answer net p c (known_at know t) (wanted_at w t)) (value_at-past N piece t (IsPast-append t (points know ++ points w) (points piece) n).1)))
+answers-is net p c know w piece k r =
+    let s = passed-is net p c know k in
+    let i = tabulate-is Q same_K K_decides (λ t. answer (known_at (passed net p c know) t) (wanted_at w t) (wanted_at piece t)) (points (passed net p c know) ++ points w ++ points piece)
+    (three_steady Q answer (passed net p c know) w piece (λ k a. refl) r (λ t n. ap (answer (known_at (passed net p c know) t) (wanted_at w t)) (value_at-past N piece t (IsPast-append t (points (passed net p c know) ++ points w) (points piece) n).1))) in
+    record { runs = i.runs; same_at = λ t. i.same_at t ∙ ap (λ x. answer x (wanted_at w t) (wanted_at piece t)) (s.same_at t) }
 
 pub stored-is : (know : Known) (w piece : Wanted) → AreRuns N w → AreRuns N piece → AreRunsOf N (λ t. curious (known_at know t) (wanted_at w t) (wanted_at piece t)) (stored know w piece)
 unfolding stored
@@ -135,8 +138,8 @@ not_A N h = refl
 not_A C h = refl
 not_A A h = absurd (h refl)
 
-answer_C : (net : Net) (p c : ℕ) (k : K) (a : Q3) → a ≢ A → answer net p c k a C ≡ pass net p c k
-answer_C net p c k a h = ap (λ q. if q then F else pass net p c k) (not_A a h)
+answer_C : (k : K) (a : Q3) → a ≢ A → answer k a C ≡ k
+answer_C k a h = ap (λ q. if q then F else k) (not_A a h)
 
 curious_C : (k : K) (a : Q3) → a ≢ A → k ≡ Q → curious k a C ≡ C
 curious_C k a h e = ap₂ (λ q x. if q then A else (if x then C else N)) (not_A a h) (ap is_Q e)
@@ -237,7 +240,7 @@ up_asks_up net p b t now v runs n k (f ∷ fs) a = (
     N_not_C e = cc
 
 pub record CuriosityTicks (net : Net) (p b now c : ℕ) (piece : Wanted) (v : View) (o : Outcome) : Type 0 where
-  pub answered : (t : ℕ) → wanted_at piece t ≡ C → wanted_at (wants_of net p b v c) t ≢ A → known_at v.know t ≢ Q → Has (TellsTick p b c t (pass net p c (known_at v.know t))) o.frames
+  pub answered : (t : ℕ) → wanted_at piece t ≡ C → wanted_at (wants_of net p b v c) t ≢ A → known_at v.know t ≢ Q → Has (TellsTick p b c t (pass net p c t (known_at v.know t))) o.frames
   pub told_F : (t : ℕ) → wanted_at piece t ≡ C → wanted_at (wants_of net p b v c) t ≡ A → Has (TellsTick p b c t F) o.frames
   pub wants : (t : ℕ) → wanted_at (wants_of net p b o.view c) t ≡ curious (known_at v.know t) (acknowledged_at (wanted_at (wants_of net p b v c) t) (wanted_at piece t)) (wanted_at piece t)
   pub stored : (t : ℕ) → wanted_at piece t ≡ C → wanted_at (wants_of net p b v c) t ≢ A → known_at v.know t ≡ Q → wanted_at (wants_of net p b o.view c) t ≡ C
@@ -276,11 +279,11 @@ pub curiosity_ticks : (net : Net) (f : Facts) (p b now c : ℕ) (piece : Wanted)
 unfolding curiosity
 curiosity_ticks net f p b now c piece v log h child wt =
     record {
-      answered = λ t e n k. Has-front (TellsTick p b c t (pass net p c (known_at v.know t))) (know_frames b c p reply) (up_frames net p b (asked (is_host net p b))) (
+      answered = λ t e n k. Has-front (TellsTick p b c t (pass net p c t (known_at v.know t))) (know_frames b c p reply) (up_frames net p b (asked (is_host net p b))) (
           let x = reply_C t e n in
-          subst (λ z. Has (TellsTick p b c t z) (know_frames b c p reply)) x (know_frames_tell p b c t reply (λ z. pass_not_Q net p c (known_at v.know t) k (sym x ∙ z))));
+          subst (λ z. Has (TellsTick p b c t z) (know_frames b c p reply)) x (know_frames_tell p b c t reply (λ z. pass_not_Q net p c t (known_at v.know t) k (sym x ∙ z))));
       told_F = λ t e n. Has-front (TellsTick p b c t F) (know_frames b c p reply) (up_frames net p b (asked (is_host net p b))) (
-          let x : known_at reply t ≡ F = ri.same_at t ∙ ap₂ (answer net p c (known_at v.know t)) (w_C t e ∙ n) e in
+          let x : known_at reply t ≡ F = ri.same_at t ∙ ap₂ (answer (pass net p c t (known_at v.know t))) (w_C t e ∙ n) e in
           subst (λ z. Has (TellsTick p b c t z) (know_frames b c p reply)) x (know_frames_tell p b c t reply (λ z. F_not_Q (sym x ∙ z))));
       wants = λ t. ap (λ z. wanted_at (get_or z at []) t) i.wants ∙ (stored_at t ∙ ap (λ z. curious (known_at v.know t) z (wanted_at piece t)) (ai.same_at t));
       stored = λ t e n k. ap (λ z. wanted_at (get_or z at []) t) i.wants ∙ stored_C t e n k;
@@ -334,11 +337,11 @@ curiosity_ticks net f p b now c piece v log h child wt =
     reply : Known
     reply = answers net p c v.know w piece
 
-    ri : AreRunsOf Q (λ t. answer net p c (known_at v.know t) (wanted_at w t) (wanted_at piece t)) reply
-    ri = answers-is net p c v.know w piece wt.runs
+    ri : AreRunsOf Q (λ t. answer (pass net p c t (known_at v.know t)) (wanted_at w t) (wanted_at piece t)) reply
+    ri = answers-is net p c v.know w piece h.know.runs wt.runs
 
-    reply_C : (t : ℕ) → wanted_at piece t ≡ C → wanted_at w0 t ≢ A → known_at reply t ≡ pass net p c (known_at v.know t)
-    reply_C t e n = ri.same_at t ∙ (ap₂ (answer net p c (known_at v.know t)) (w_C t e) e ∙ answer_C net p c (known_at v.know t) (wanted_at w0 t) n)
+    reply_C : (t : ℕ) → wanted_at piece t ≡ C → wanted_at w0 t ≢ A → known_at reply t ≡ pass net p c t (known_at v.know t)
+    reply_C t e n = ri.same_at t ∙ (ap₂ (answer (pass net p c t (known_at v.know t))) (w_C t e) e ∙ answer_C (pass net p c t (known_at v.know t)) (wanted_at w0 t) n)
 
     ws : List Wanted
     ws = set v.wants at (stored v.know w piece)
@@ -404,14 +407,14 @@ curiosity_ticks net f p b now c piece v log h child wt =
     C_if true e = refl
     C_if false e = absurd (C_not_N (sym e))
 
-    passes_Q : (k : K) → is_Q (pass net p c k) ≡ true → k ≡ Q
-    passes_Q k e = cases_K k (λ n. absurd (pass_not_Q net p c k n (Q_is (pass net p c k) e)))
+    passes_Q : (t : ℕ) (k : K) → is_Q (pass net p c t k) ≡ true → k ≡ Q
+    passes_Q t k e = cases_K k (λ n. absurd (pass_not_Q net p c t k n (Q_is (pass net p c t k) e)))
 
     -- what is answered Q was neither acknowledged nor known
-    unanswered : (a : Q3) (k : K) → is_Q (answer net p c k a C) ≡ true → (k ≡ Q) × (a ≢ A)
-    unanswered A k e = absurd (false≢true e)
-    unanswered N k e = (passes_Q k e, λ h. cc)
-    unanswered C k e = (passes_Q k e, λ h. cc)
+    unanswered : (t : ℕ) (a : Q3) (k : K) → is_Q (answer (pass net p c t k) a C) ≡ true → (k ≡ Q) × (a ≢ A)
+    unanswered t A k e = absurd (false≢true e)
+    unanswered t N k e = (passes_Q t k e, λ h. cc)
+    unanswered t C k e = (passes_Q t k e, λ h. cc)
 
     asked_parts : (q : Bool) (t : ℕ) → wanted_at (asked q) t ≡ C → (wanted_at piece t ≡ C) × (wanted_at w0 t ≢ A) × (known_at v.know t ≡ Q)
     asked_parts true t e = absurd (C_not_N (sym e))
@@ -420,7 +423,7 @@ curiosity_ticks net f p b now c piece v log h child wt =
         let x = C_if ((is_C (wanted_at piece t) && is_Q r) && is_Q (known_at know t) && not (is_outstanding (asked_at v.asks t) now net.retry)) (sym (di.same_at t) ∙ e) in
         let y = and_parts (is_C (wanted_at piece t)) (is_Q r) (and_parts (is_C (wanted_at piece t) && is_Q r) (is_Q (known_at know t)) (and_parts ((is_C (wanted_at piece t) && is_Q r) && is_Q (known_at know t)) (not (is_outstanding (asked_at v.asks t) now net.retry)) x).0).0 in
         let g = C_of (wanted_at piece t) y.0 in
-        let u = unanswered (wanted_at w0 t) (known_at v.know t) (sym (ap is_Q (ri.same_at t ∙ ap₂ (answer net p c (known_at v.know t)) (w_C t g) g)) ∙ y.1) in
+        let u = unanswered t (wanted_at w0 t) (known_at v.know t) (sym (ap is_Q (ri.same_at t ∙ ap₂ (answer (pass net p c t (known_at v.know t))) (w_C t g) g)) ∙ y.1) in
         (g, u.1, u.0)
 
     noted_is : AreRunsOf Never (λ t. if is_C (wanted_at (asked (is_host net p b)) t) then At now else asked_at v.asks t) (noted now v.asks (asked (is_host net p b)))
@@ -434,7 +437,7 @@ curiosity_ticks net f p b now c piece v log h child wt =
 
     due_C : (t : ℕ) → wanted_at piece t ≡ C → wanted_at w0 t ≢ A → known_at v.know t ≡ Q → is_outstanding (asked_at v.asks t) now net.retry ≡ false → wanted_at asking t ≡ C
     due_C t e n k out = di.same_at t ∙ (ap₂ (λ x y. if x && y && not (is_outstanding (asked_at v.asks t) now net.retry) then C else N)
-        (ap₂ (λ x y. is_C x && is_Q y) e (reply_C t e n ∙ ap (pass net p c) k)) (ap is_Q (know_Q t e n k)) ∙ ap (λ x. if not x then C else N) out)
+        (ap₂ (λ x y. is_C x && is_Q y) e (reply_C t e n ∙ ap (pass net p c t) k)) (ap is_Q (know_Q t e n k)) ∙ ap (λ x. if not x then C else N) out)
 
     now_or : (q : Bool) (t : ℕ) → asked_at (curiosity net p b now c at piece v log).view.asks t ≡ (if q then At now else asked_at v.asks t) → (asked_at (curiosity net p b now c at piece v log).view.asks t ≡ At now) ⊎ (asked_at (curiosity net p b now c at piece v log).view.asks t ≡ asked_at v.asks t)
     now_or true t e = inl e

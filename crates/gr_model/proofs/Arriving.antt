@@ -18,11 +18,11 @@ use Rattle.gr_model.specs.declared.report.Report.{Report}
 use Rattle.gr_model.specs.declared.report.Report.TheVariants as line
 use Rattle.gr_model.specs.Net.{Net, not_empty, numbers}
 use Rattle.gr_model.specs.Broker.{max_tick, clashes}
-use Rattle.gr_model.specs.World.{World, Told, view_of, unchanged, after, in_turn, deliver_frame, frame_at, publish_now, wake_all, sent_line, sent_lines, next, run_all}
+use Rattle.gr_model.specs.World.{World, Told, view_of, unchanged, after, in_turn, deliver_frame, frame_at, publish_now, wake_all, sent_line, sent_lines, next, run_all, next_by}
 use Rattle.gr_model.specs.Edges.{GoesBetween, GoesOverEdge}
 use Rattle.gr_model.specs.Headline.{is_sent, sent_number}
 use Rattle.gr_model.specs.Replies.{frame_of_line}
-use Rattle.gr_model.specs.Arrivals.{Arrival, datagram, quiet, Publish, at_moment, fits_broker, clash_runs, first_of, least_clash, clash_line, fault_number, takes, receives, published_first, quieted, comes}
+use Rattle.gr_model.specs.Arrivals.{Arrival, datagram, quiet, Publish, at_moment, fits_broker, clash_runs, first_of, least_clash, clash_line, fault_number, takes, receives, published_first, quieted, comes, comes_by, quieted_by, receives_by, takes_by}
 use Rattle.gr_model.specs.Served.{tells_bytes, number_of_bytes, as_line, publish_step, delivery_step, is_frame, steps_of_arrival, dropped_as, dropped_line}
 use Rattle.gr_model.specs.Tree.{IsNet}
 use Rattle.gr_model.specs.Fits.{WorldFits}
@@ -131,7 +131,7 @@ no_clash_here net w k f n fit at = go f.body refl
     go (body.Expect tick) e = refl
 
 pub received : (net : Net) (w : World) (k b : ℕ) (f : Frame) → IsNet net → WorldFits net w → frame_at w k ≡ Some f → f.head.to ≡ b → GoesOverEdge net f → receives net w b (Ok f) ≡ deliver_frame net w f
-unfolding receives takes
+unfolding receives_by takes_by
 received net w k b f n fit at e g =
     let none : least_clash (view_of w b f.head.publisher).know f ≡ None = subst (λ z. least_clash (view_of w z f.head.publisher).know f ≡ None) e (no_clash_here net w k f n fit at) in
     let know : Known = (view_of w b f.head.publisher).know in
@@ -150,7 +150,7 @@ run_append net w (l ∷ xs) ys =
     ∙ ap (λ (z : List Report). record { world = (run_all net t.world ys).world; lines = z }) (sym (append_assoc s.lines t.lines (run_all net t.world ys).lines))
 
 woken : (net : Net) (w : World) (b : ℕ) → next net w (as_line (step.Wake b)) ≡ wake_all net w b
-unfolding next
+unfolding next_by
 woken net w b = refl
 
 wakes_run : (net : Net) (bs : List ℕ) (w : World) → run_all net w (map (λ b. as_line (step.Wake b)) bs) ≡ in_turn (wake_all net) bs w
@@ -163,19 +163,19 @@ one_step : (s : Told) → after s (λ u. unchanged u []) ≡ s
 one_step s = ap (λ (z : List Report). record { world = s.world; lines = z }) (append-nil s.lines)
 
 published_run : (net : Net) (w : World) (left : List Publish) → run_all net w (publish_step left) ≡ published_first net w left
-unfolding next
+unfolding next_by
 published_run net w [] = refl
 published_run net w (x ∷ left) = one_step (publish_now net w x.0 x.1.0 x.1.1)
 
 clock_step : (net : Net) (w : World) (now : ℕ) → next net w (as_line (step.Clock now)) ≡ unchanged (moved w now) []
-unfolding next
+unfolding next_by
 clock_step net w now = refl
 
 clock_first : (net : Net) (w : World) (now : ℕ) (ls : List Line) → run_all net w (as_line (step.Clock now) ∷ ls) ≡ run_all net (moved w now) ls
 clock_first net w now ls = ap (λ (s : Told). after s (λ u. run_all net u ls)) (clock_step net w now)
 
 delivered_step : (net : Net) (w : World) (k : ℕ) (f : Frame) → frame_at w k ≡ Some f → next net w (as_line (step.Deliver k)) ≡ deliver_frame net w f
-unfolding next
+unfolding next_by
 delivered_step net w k f e = ap (λ (o : Option Frame). elim o [ None ↦ unchanged w (line.RefusedFrame 0 k (length w.frames) ∷ []) | Some f ↦ deliver_frame net w f ]) e
 
 -- An arrival and its steps
@@ -194,7 +194,7 @@ does net w left a steps none e called = record {
 }
 
 pub quiet_does : (net : Net) (w : World) (left : List Publish) (moment : ℕ) (lines : List Report) → Does net w left (quiet moment) (steps_of_arrival net lines left (quiet moment))
-unfolding comes quieted
+unfolding comes_by quieted_by
 quiet_does net w left moment lines =
     let u = at_moment w moment in
     let now : ℕ = min moment max_tick in
@@ -206,7 +206,7 @@ quiet_does net w left moment lines =
 
 pub frame_does : (net : Net) (w : World) (left : List Publish) (b moment k : ℕ) (bytes : List ℕ) (f : Frame) (lines : List Report) → IsNet net → WorldFits net (at_moment w moment) → frame_decoded bytes ≡ Ok f → frame_at w k ≡ Some f → f.head.to ≡ b → GoesOverEdge net f → number_of_bytes b bytes lines ≡ Some k →
     Does net w left (datagram b bytes moment) (steps_of_arrival net lines left (datagram b bytes moment))
-unfolding comes
+unfolding comes_by
 frame_does net w left b moment k bytes f lines n fit d at to over number =
     let u = at_moment w moment in
     let now : ℕ = min moment max_tick in
@@ -218,7 +218,7 @@ frame_does net w left b moment k bytes f lines n fit d at to over number =
     (λ g foreign. ap (λ (t : Told). filter g t.lines) (ap (receives net u b) d ∙ received net u k b f n fit at to over) ∙ deliver_none g foreign net u f))
 
 pub fault_does : (net : Net) (w : World) (left : List Publish) (b moment : ℕ) (bytes : List ℕ) (fault : FrameFault) (lines : List Report) → frame_decoded bytes ≡ Err fault → Does net w left (datagram b bytes moment) (steps_of_arrival net lines left (datagram b bytes moment))
-unfolding comes receives
+unfolding comes_by receives_by
 fault_does net w left b moment bytes fault lines d =
     let u = at_moment w moment in
     let now : ℕ = min moment max_tick in

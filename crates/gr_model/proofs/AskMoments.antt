@@ -18,7 +18,7 @@ use Rattle.gr_curio.specs.Values.{Wanted, Asked, wanted_at, asked_at, is_C, same
 use Rattle.gr_model.specs.Net.{Net, is_host, keeps_horizon, numbers}
 use Rattle.gr_model.specs.Broker.{View, Log, Outcome, know_frames, want_frames, expect_frame, all_points, any_C, consolidated, finished, forgotten, trimmed, forward, new_ticks, forward_frames, learn, max_tick, due, noted, up_frames, asking, answers, stored, acknowledged, curiosity, wake_below, wanted_at_wake, expect, expect_frames, covers, place_of, publish, silence, with_event, with_mark, marking, cutting, wake_host, wake, receive, clashes, empty_log, started, head}
 use Rattle.gr_frame.specs.Bytes.{known_run_size, wanted_run_size, cut_frames}
-use Rattle.gr_model.specs.World.{World, blank_view, view_of, log_of, with_view, absorbed, wake_for, deliver_frame, publish_now, restarted, start, run_all}
+use Rattle.gr_model.specs.World.{World, blank_view, view_of, log_of, with_view, absorbed, wake_for, deliver_frame, publish_now, restarted, start, run_all, deliver_frame_by, publish_now_by, wake_for_by}
 use Rattle.gr_model.specs.Tree.{IsNet}
 use Rattle.gr_model.specs.Fits.{BodyFits, WorldFits, FrameTrue, StepsIn}
 use Rattle.gr_model.proofs.Worlds.{Each}
@@ -401,20 +401,20 @@ taken_asks net w u b p o i j t k fits a = record {
 }
 
 wake_for_asks : (net : Net) → IsNet net → (w : World) (b p : ℕ) → WorldFits net w → b < net.brokers → p < net.publishers → AsksFit net w → AsksFit net (wake_for net w b p).world
-unfolding wake_for
+unfolding wake_for_by
 wake_for_asks net n w b p f i j a =
     let o = wake net p b w.clock (view_of w b p) (log_of w p) in
     taken_asks net w (absorbed w b p o).world b p o i j (absorbed_taken net w b p o f i j) (wake_asks net p b w.clock (view_of w b p) (log_of w p)) (wake_frames_fit net p b w.clock (view_of w b p) (log_of w p) (λ c m. (n.place p b j i).child_not_host c m)) a
 
 deliver_asks : (net : Net) → IsNet net → (w : World) (x : Frame) → WorldFits net w → FrameTrue net w x → ExpectFits net x → AsksFit net w → AsksFit net (deliver_frame net w x).world
-unfolding deliver_frame
+unfolding deliver_frame_by
 deliver_asks net n w x f t r a =
     let o = receive net w.clock x (view_of w x.head.to x.head.publisher) (log_of w x.head.publisher) in
     taken_asks net w (absorbed w x.head.to x.head.publisher o).world x.head.to x.head.publisher o t.fits.to_in t.publisher_in (absorbed_taken net w x.head.to x.head.publisher o f t.fits.to_in t.publisher_in) (receive_asks net w.clock x (view_of w x.head.to x.head.publisher) (log_of w x.head.publisher) r)
     (receive_frames_fit net w.clock x (view_of w x.head.to x.head.publisher) (log_of w x.head.publisher) (λ c m. (n.place x.head.publisher x.head.to t.publisher_in t.fits.to_in).child_not_host c m) t.fits.body) a
 
 publish_now_asks : (net : Net) → IsNet net → (w : World) (p number : ℕ) (e : Event) → WorldFits net w → p < net.publishers → AsksFit net w → AsksFit net (publish_now net w p number e).world
-unfolding publish_now
+unfolding publish_now_by
 publish_now_asks net n w p number e f j a =
     let b = net.host p in
     let o = publish net p b w.clock number e (view_of w b p) (log_of w p) in

@@ -17,7 +17,7 @@ use Rattle.gr_model.specs.declared.report.Report.{Report}
 use Rattle.gr_model.specs.declared.report.Report.TheVariants as line
 use Rattle.gr_model.specs.Net.{Net, is_host, keeps_horizon, numbers, numbers_from, not_empty}
 use Rattle.gr_model.specs.Broker.{View, Log, Outcome, empty_log, learn, marking, publish, wake, wake_host, wake_below, curiosity, receive, clashes, expect, place_of, silence, with_event, with_mark, is_kept, max_tick, started}
-use Rattle.gr_model.specs.World.{World, Told, blank_view, view_of, log_of, absorbed, unchanged, after, in_turn, wake_for, wake_all, deliver_frame, frame_at, publish_now, publish_stopped, restarted, crash, next, show, opened_lines, kept_events}
+use Rattle.gr_model.specs.World.{World, Told, blank_view, view_of, log_of, absorbed, unchanged, after, in_turn, wake_for, wake_all, deliver_frame, frame_at, publish_now, publish_stopped, restarted, crash, next, show, opened_lines, kept_events, deliver_frame_by, next_by, publish_now_by, publish_stopped_by, wake_all_by, wake_for_by}
 use Rattle.gr_model.specs.Headline.{Recorded, History, is_record_line, is_record_of, publish_line, bare_after, each_bare, may_crash, is_next}
 use Rattle.gr_model.specs.Tree.{IsNet}
 use Rattle.gr_model.specs.Fits.{WorldFits, FrameTrue, HostKnows, StepIn, reached_in}
@@ -135,7 +135,7 @@ keeps_here : (net : Net) (p b : ℕ) → net.host p ≡ b → keeps_horizon net 
 keeps_here net p b g k = subst (λ z. keeps_horizon net p z ≡ true) g k
 
 wake_bare : (net : Net) (p : ℕ) (w : World) (b q : ℕ) → IsNet net → 1 ≤ net.quiet → WorldFits net w → b < net.brokers → q < net.publishers → keeps_horizon net p (net.host p) ≡ true → Tells net p w (wake_for net w b q)
-unfolding wake_for
+unfolding wake_for_by
 wake_bare net p w b q n z f i j keeps =
     elim (cases_eq q p) [
       | inr e ↦ other_tells net p w b q (wake net q b w.clock (view_of w b q) (log_of w q)) (wake_for net w b q).lines f i j (wake_lines_told net p w b q z ∙ (ap (λ c. (is_host net q b && nat_le (host_settled q w + net.quiet) w.clock) && c) (ne_eqb q p e) ∙ and_false (is_host net q b && nat_le (host_settled q w + net.quiet) w.clock))) refl (inl e)
@@ -191,7 +191,7 @@ receive_horizon net now x v log fits host = go x.body fits
     go (body.Expect tick) h = absurd (true≢false (sym host ∙ h))
 
 deliver_bare : (net : Net) (p : ℕ) (w : World) (x : Frame) → WorldFits net w → FrameTrue net w x → ExpectFits net x → Tells net p w (deliver_frame net w x)
-unfolding deliver_frame
+unfolding deliver_frame_by
 deliver_bare net p w x f tr fits =
     let b = x.head.to in
     let q = x.head.publisher in
@@ -241,7 +241,7 @@ or_false true = refl
 or_false false = refl
 
 publish_bare : (net : Net) (p : ℕ) (w : World) (q number : ℕ) (v : Event) → IsNet net → WorldFits net w → q < net.publishers → keeps_horizon net p (net.host p) ≡ true → Tells net p w (publish_now net w q number v)
-unfolding publish_now
+unfolding publish_now_by
 publish_bare net p w q number v n f j keeps =
     elim (cases_eq q p) [
       | inr e ↦ other_tells net p w (net.host q) q (publish net q (net.host q) w.clock number v (view_of w (net.host q) q) (log_of w q)) (publish_now net w q number v).lines f (n.host_in q j) j (told q ∙ publish_other p q w.clock number (core_of w q) e) refl (inl e)
@@ -397,7 +397,7 @@ flags net o bare ls = elim o [ Some b ↦ each_bare (λ p x. is_host net p b || 
 
 stopped_bare : (net : Net) (w : World) (k q number : ℕ) (stop : Stop) (e : Event) (bare : List Bool) → IsNet net → WorldFits net w → q < net.publishers → Bare net w bare →
     (let t = publish_stopped net w k q number stop e in Bare net t.world (flags net (if may_crash net (net.host q) && is_next w.clock (core_of w q) number then Some (net.host q) else None) bare t.lines))
-unfolding publish_stopped
+unfolding publish_stopped_by
 stopped_bare net w k q number stop e bare n f j h = go (not_empty (net.subscribers_at (net.host q))) (nat_eq number (suc log.last) && nat_le tick max_tick) refl
   where
     log : Log
@@ -425,7 +425,7 @@ stopped_bare net w k q number stop e bare n f j h = go (not_empty (net.subscribe
     go false true z = restarted_bare net w logs (net.host q) bare f (n.host_in q j) (ap not z) (same (is_kept log.gate stop.call stop.pick)) h
 
 pub bare_by : (net : Net) (w : World) (h : History) (k : ℕ) (s : Step) → IsNet net → 1 ≤ net.quiet → WorldFits net w → RecordsFit net w h → Each (ExpectFits net) w.frames → StepIn net s → is_sweep s ≡ false → Bare net w h.bare → Bare net (next net w (record { number = k; step = s })).world (bare_after net h (record { number = k; step = s }) (next net w (record { number = k; step = s })).lines)
-unfolding next bare_after wake_all
+unfolding next_by bare_after wake_all_by
 bare_by net w h k (step.Clock now) n z f r x i y a =
     let t = next net w (record { number = k; step = step.Clock now }) in
     tells_bare net w t h.bare a (λ p j keeps. tells_still net p w t refl refl refl)

@@ -106,7 +106,7 @@ wants_is (suc s) e = refl
 
 -- ---- the whole
 
-abbrev net_by : (ℕ → ℕ) → (ℕ → ℕ) → (ℕ → ℕ → Option ℕ) → (ℕ → ℕ → List ℕ) → (ℕ → List ℕ) → (ℕ → ℕ → List ℕ) → (ℕ → ℕ → ℕ) → (ℕ → Event → Bool) → Net
+abbrev net_by : (ℕ → ℕ) → (ℕ → ℕ) → (ℕ → ℕ → Option ℕ) → (ℕ → ℕ → List ℕ) → (ℕ → List ℕ) → (ℕ → ℕ → List ℕ) → (ℕ → ℕ → ℕ) → (ℕ → ℕ → ℕ → Event → Bool) → Net
 net_by host home up children here below depth wanted = record {
   brokers = 2;
   publishers = 1;
@@ -135,4 +135,4 @@ blank_net =
     ∙ ap (λ f. net_by (host_of blank) (home_of blank) (up_at blank) (children_of blank) f net0.below net0.depth net0.wants) (fun_ext here_is)
     ∙ ap (λ f. net_by (host_of blank) (home_of blank) (up_at blank) (children_of blank) (subscribers_of blank) f net0.depth net0.wants) (fun_ext (λ p. fun_ext (below_is p)))
     ∙ ap (λ f. net_by (host_of blank) (home_of blank) (up_at blank) (children_of blank) (subscribers_of blank) (below_of blank) f net0.wants) (fun_ext (λ p. fun_ext (depth_is p)))
-    ∙ ap (λ f. net_by (host_of blank) (home_of blank) (up_at blank) (children_of blank) (subscribers_of blank) (below_of blank) (depth_at blank) f) (fun_ext (λ s. fun_ext (wants_is s)))
+    ∙ ap (λ f. net_by (host_of blank) (home_of blank) (up_at blank) (children_of blank) (subscribers_of blank) (below_of blank) (depth_at blank) f) (fun_ext (λ p. fun_ext (λ s. fun_ext (λ t. fun_ext (wants_is s)))))

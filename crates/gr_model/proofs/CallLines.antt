@@ -13,10 +13,10 @@ use Rattle.gr_model.specs.declared.report.Report.{Report}
 use Rattle.gr_model.specs.declared.report.Report.TheVariants as line
 use Rattle.gr_model.specs.Net.{Net, is_host, numbers}
 use Rattle.gr_model.specs.Broker.{View, Log, Outcome, max_tick, marking, cutting, wake, wake_host, wake_below, asking, publish, receive}
-use Rattle.gr_model.specs.World.{World, Told, view_of, log_of, absorbed, in_turn, sent_line, sent_lines, wake_for, wake_all, deliver_frame, publish_now}
+use Rattle.gr_model.specs.World.{World, Told, view_of, log_of, absorbed, in_turn, sent_line, sent_lines, wake_for, wake_all, deliver_frame, publish_now, deliver_frame_by, publish_now_by, wake_all_by, wake_for_by}
 use Rattle.gr_model.specs.Headline.{Recorded, publish_line}
 use Rattle.gr_model.specs.Replies.{is_reply}
-use Rattle.gr_model.specs.Arrivals.{Publish, published_first, quieted}
+use Rattle.gr_model.specs.Arrivals.{Publish, published_first, quieted, quieted_by}
 use Rattle.gr_model.specs.Served.{is_dropped}
 use Rattle.gr_model.proofs.Records.{core}
 use Rattle.gr_model.proofs.RecordLines.{Skips, front, receive_none, publish_some, marking_none}
@@ -95,17 +95,17 @@ module _ (f : Report → Bool) (k : IsForeign f) where
       go false false false = one (line.Logged p number (max (suc r.settled) now)) (k.logged p number (max (suc r.settled) now))
 
   wakes_none : (net : Net) (w : World) (b : ℕ) (ps : List ℕ) → filter f (in_turn (λ u p. wake_for net u b p) ps w).lines ≡ []
-  unfolding wake_for
+  unfolding wake_for_by
   wakes_none net w b [] = refl
   wakes_none net w b (p ∷ ps) = none_of_both (wake_for net w b p).lines (in_turn (λ u p. wake_for net u b p) ps (wake_for net w b p).world).lines (absorbed_none w b p (wake net p b w.clock (view_of w b p) (log_of w p)) (wake_none net p b w.clock (view_of w b p) (log_of w p))) (wakes_none net (wake_for net w b p).world b ps)
 
   all_wakes_none : (net : Net) (w : World) (bs : List ℕ) → filter f (in_turn (wake_all net) bs w).lines ≡ []
-  unfolding wake_all
+  unfolding wake_all_by
   all_wakes_none net w [] = refl
   all_wakes_none net w (b ∷ bs) = none_of_both (wake_all net w b).lines (in_turn (wake_all net) bs (wake_all net w b).world).lines (wakes_none net w b (numbers net.publishers)) (all_wakes_none net (wake_all net w b).world bs)
 
   published_none : (net : Net) (w : World) (left : List Publish) → filter f (published_first net w left).lines ≡ []
-  unfolding publish_now
+  unfolding publish_now_by
   published_none net w [] = refl
   published_none net w (x ∷ left) =
       let p = x.0 in
@@ -114,9 +114,9 @@ module _ (f : Report → Bool) (k : IsForeign f) where
       (publish_some f net p b w.clock x.1.0 x.1.1 (view_of w b p) (log_of w p) skips ∙ publish_line_none p w.clock x.1.0 (core (log_of w p)))
 
   pub quieted_none : (net : Net) (hosted : List ℕ) (w : World) (left : List Publish) → filter f (quieted net hosted w left).lines ≡ []
-  unfolding quieted
+  unfolding quieted_by
   quieted_none net hosted w left = let s : Told = published_first net w left in none_of_both s.lines (in_turn (wake_all net) hosted s.world).lines (published_none net w left) (all_wakes_none net s.world hosted)
 
   pub deliver_none : (net : Net) (w : World) (x : Frame) → filter f (deliver_frame net w x).lines ≡ []
-  unfolding deliver_frame
+  unfolding deliver_frame_by
   deliver_none net w x = absorbed_none w x.head.to x.head.publisher (receive net w.clock x (view_of w x.head.to x.head.publisher) (log_of w x.head.publisher)) (receive_none f net w.clock x (view_of w x.head.to x.head.publisher) (log_of w x.head.publisher) skips)

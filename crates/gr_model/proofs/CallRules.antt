@@ -161,11 +161,11 @@ new_ticks_rule net f p b piece v log place distinct h k =
     let u : View = record { know = finished joined (consolidated keeps hz ws); wants = ws; asks = v.asks; horizon = hz } in
     let i = trimmed-is net p b u fin.runs in
     let long = same_length net f p (net.children p b) v.wants h.wants in
-    let sends : (c : ℕ) → IsChild net p b c → AreRunsOf Q (λ t. if is_A (want_at net p b v c t) then Q else pass net p c (known_at new t)) (forward net p c (wants_from net p b v c) new) =
+    let sends : (c : ℕ) → IsChild net p b c → AreRunsOf Q (λ t. if is_A (want_at net p b v c t) then Q else pass net p c t (known_at new t)) (forward net p c (wants_from net p b v c) new) =
     λ c m. forward-is net p c (wants_from net p b v c) new (wants_true_at net f p (net.children p b) v.wants c h.wants m).runs n.runs in
     record {
       sent = λ c. forward net p c (wants_from net p b v c) new;
-      sent_is = λ c m. record { runs = (sends c m).runs; each = λ t. (sends c m).same_at t ∙ ap (λ x. if is_A (want_at net p b v c t) then Q else pass net p c x) (n.same_at t) };
+      sent_is = λ c m. record { runs = (sends c m).runs; each = λ t. (sends c m).same_at t ∙ ap (λ x. if is_A (want_at net p b v c t) then Q else pass net p c t x) (n.same_at t) };
       frames = forwarded_by_turn net p b new (net.children p b) v.wants ∙ turns_by_child (λ c w. know_frames b c p (forward net p c w new)) (net.children p b) v.wants long distinct;
       none = λ c m h. nothing_sent b c p (forward net p c (wants_from net p b v c) new) (sends c m).runs h;
       wants = λ c m.
@@ -302,16 +302,16 @@ stored_is k N A = refl
 stored_is k C A = refl
 stored_is k A A = refl
 
-answered_is : (net : Net) (p c : ℕ) (k : K) (a x : Q3) → answer net p c k (if is_A x then A else a) x ≡ (if is_C x then (if is_A a then F else pass net p c k) else Q)
-answered_is net p c k a N = refl
-answered_is net p c k a C = refl
-answered_is net p c k a A = refl
+answered_is : (k : K) (a x : Q3) → answer k (if is_A x then A else a) x ≡ (if is_C x then (if is_A a then F else k) else Q)
+answered_is k a N = refl
+answered_is k a C = refl
+answered_is k a A = refl
 
-pass_is_Q : (net : Net) (p c : ℕ) (k : K) → is_Q (pass net p c k) ≡ is_Q k
-pass_is_Q net p c Q = refl
-pass_is_Q net p c S = refl
-pass_is_Q net p c F = refl
-pass_is_Q net p c (D e) = go (wanted_below net p c e)
+pass_is_Q : (net : Net) (p c t : ℕ) (k : K) → is_Q (pass net p c t k) ≡ is_Q k
+pass_is_Q net p c t Q = refl
+pass_is_Q net p c t S = refl
+pass_is_Q net p c t F = refl
+pass_is_Q net p c t (D e) = go (wanted_below net p c t e)
   where
     go : (q : Bool) → is_Q (elim q as (λ x. K) [ true ↦ D e | false ↦ S ]) ≡ false
     go true = refl
@@ -322,13 +322,13 @@ asked_open r true kn out e h = rw (e, h refl) refl
 asked_open r false kn out e h = rw e refl
 
 -- a tick is asked upward where it is asked, was not acknowledged, is unknown and is not outstanding; then it is not final either
-asked_is : (net : Net) (p c : ℕ) (k kn r : K) (a x : Q3) (out : Bool) → r ≡ (if is_C x then (if is_A a then F else pass net p c k) else Q) → (x ≡ C → is_A a ≡ false → is_Q k ≡ true → is_Q kn ≡ true) →
+asked_is : (net : Net) (p c t : ℕ) (k kn r : K) (a x : Q3) (out : Bool) → r ≡ (if is_C x then (if is_A a then F else pass net p c t k) else Q) → (x ≡ C → is_A a ≡ false → is_Q k ≡ true → is_Q kn ≡ true) →
     (if (is_C x && is_Q r) && is_Q kn && not out then C else N) ≡ (if not false && is_C x && not (is_A a) && is_Q k && not out then C else N)
-asked_is net p c k kn r a N out e h = refl
-asked_is net p c k kn r a A out e h = refl
-asked_is net p c k kn r A C out e h = rw e refl
-asked_is net p c k kn r N C out e h = asked_open (is_Q r) (is_Q k) (is_Q kn) out (ap is_Q e ∙ pass_is_Q net p c k) (h refl refl)
-asked_is net p c k kn r C C out e h = asked_open (is_Q r) (is_Q k) (is_Q kn) out (ap is_Q e ∙ pass_is_Q net p c k) (h refl refl)
+asked_is net p c t k kn r a N out e h = refl
+asked_is net p c t k kn r a A out e h = refl
+asked_is net p c t k kn r A C out e h = rw e refl
+asked_is net p c t k kn r N C out e h = asked_open (is_Q r) (is_Q k) (is_Q kn) out (ap is_Q e ∙ pass_is_Q net p c t k) (h refl refl)
+asked_is net p c t k kn r C C out e h = asked_open (is_Q r) (is_Q k) (is_Q kn) out (ap is_Q e ∙ pass_is_Q net p c t k) (h refl refl)
 
 no_A_stored : (k : K) (a : Q3) → is_A a ≡ false → is_A (curious k a C) ≡ false
 no_A_stored k a n =
@@ -378,11 +378,11 @@ child_asks_rule net f p b now c piece v log h child wt = record {
     reply : Known
     reply = answers net p c v.know w piece
 
-    ri : AreRunsOf Q (λ t. answer net p c (known_at v.know t) (wanted_at w t) (wanted_at piece t)) reply
-    ri = answers-is net p c v.know w piece wt.runs
+    ri : AreRunsOf Q (λ t. answer (pass net p c t (known_at v.know t)) (wanted_at w t) (wanted_at piece t)) reply
+    ri = answers-is net p c v.know w piece h.know.runs wt.runs
 
-    reply_at : (t : ℕ) → known_at reply t ≡ (if is_C (wanted_at piece t) then (if is_A (wanted_at w0 t) then F else pass net p c (known_at v.know t)) else Q)
-    reply_at t = ri.same_at t ∙ (ap (λ a. answer net p c (known_at v.know t) a (wanted_at piece t)) (ai.same_at t) ∙ answered_is net p c (known_at v.know t) (wanted_at w0 t) (wanted_at piece t))
+    reply_at : (t : ℕ) → known_at reply t ≡ (if is_C (wanted_at piece t) then (if is_A (wanted_at w0 t) then F else pass net p c t (known_at v.know t)) else Q)
+    reply_at t = ri.same_at t ∙ (ap (λ a. answer (pass net p c t (known_at v.know t)) a (wanted_at piece t)) (ai.same_at t) ∙ answered_is (pass net p c t (known_at v.know t)) (wanted_at w0 t) (wanted_at piece t))
 
     si : AreRunsOf N (λ t. curious (known_at v.know t) (wanted_at w t) (wanted_at piece t)) (stored v.know w piece)
     si = stored-is v.know w piece ai.runs wt.runs
@@ -430,7 +430,7 @@ child_asks_rule net f p b now c piece v log h child wt = record {
 
     asked_at_tick : (q : Bool) (t : ℕ) → wanted_at (asked q) t ≡ (if not q && is_C (wanted_at piece t) && not (is_A (wanted_at w0 t)) && is_Q (known_at v.know t) && not (is_outstanding (asked_at v.asks t) now net.retry) then C else N)
     asked_at_tick true t = refl
-    asked_at_tick false t = di.same_at t ∙ asked_is net p c (known_at v.know t) (known_at know t) (known_at reply t) (wanted_at w0 t) (wanted_at piece t) (is_outstanding (asked_at v.asks t) now net.retry) (reply_at t) (still_Q t)
+    asked_at_tick false t = di.same_at t ∙ asked_is net p c t (known_at v.know t) (known_at know t) (known_at reply t) (wanted_at w0 t) (wanted_at piece t) (is_outstanding (asked_at v.asks t) now net.retry) (reply_at t) (still_Q t)
 
     ni : AreRunsOf Never (λ t. if is_C (wanted_at (asked (is_host net p b)) t) then At now else asked_at v.asks t) (noted now v.asks (asked (is_host net p b)))
     ni = noted-at now v.asks (asked (is_host net p b)) h.asks (asked_runs (is_host net p b))

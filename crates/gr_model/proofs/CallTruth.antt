@@ -14,7 +14,7 @@ use Rattle.gr_tick.specs.Runs.{AreRuns, points, zip_runs, IsSteady, IsNone, IsPa
 use Rattle.gr_know.specs.Values.{Known, known_at, is_Q, join_K, same_K}
 use Rattle.gr_curio.specs.Values.{Wanted, Asked, wanted_at, asked_at, is_C, is_A, same_Q3, same_moment, is_outstanding}
 use Rattle.gr_model.specs.Net.{Net, is_host, keeps_horizon, pass, not_empty, is_empty}
-use Rattle.gr_model.specs.Broker.{View, Log, Outcome, know_frames, want_frames, expect_frame, all_points, is_settled, consolidated, finished, forgotten, trimmed, horizon_after, new_ticks, forward, quenched, forward_frames, forward_wants, learn, max_tick, due, noted, upward, up_frames, asking, answers, answer, curious, stored, acknowledged, curiosity, wake_below, wanted_at_wake, any_C, expect, expect_frames, covers, place_of, head}
+use Rattle.gr_model.specs.Broker.{View, Log, Outcome, know_frames, passed, want_frames, expect_frame, all_points, is_settled, consolidated, finished, forgotten, trimmed, horizon_after, new_ticks, forward, quenched, forward_frames, forward_wants, learn, max_tick, due, noted, upward, up_frames, asking, answers, answer, curious, stored, acknowledged, curiosity, wake_below, wanted_at_wake, any_C, expect, expect_frames, covers, place_of, head}
 use Rattle.gr_frame.specs.Bytes.{known_run_size, wanted_run_size, cut_frames}
 use Rattle.gr_model.specs.Truth.{Facts, TrueF, IsTrueAt, KnowsTruth, WantsTruth, AllWantTruth, IsLater}
 use Rattle.gr_model.specs.Tree.{IsPlace}
@@ -23,6 +23,7 @@ use Rattle.gr_tick.proofs.RunLaws.{AreRunsOf, tabulate-is, zip_runs-is, first_bo
 use Rattle.gr_know.proofs.ValueLaws.{K_decides}
 use Rattle.gr_curio.proofs.ValueLaws.{Q3_decides, moment_decides}
 use Rattle.gr_model.proofs.Pieces.{AllParts, cut_frames-parts, consolidated-is, IsLowered, forgotten-is}
+use Rattle.gr_model.proofs.Passed.{passed-is}
 use Rattle.gr_model.proofs.TruthTicks.{TrueF-later, IsTrueAt-later, join_true, pass_true, consolidated_true}
 use Rattle.gr_curio.specs.declared.asks.Moment.TheVariants.{Never, At}
 
@@ -65,15 +66,18 @@ new_true net f p b know piece h i =
     KnowsTruth-by net f p b (λ t. if is_Q (known_at know t) then known_at piece t else Q) (new_ticks know piece) (new_ticks-is know piece h.runs i.runs)
     (λ t. if_true net f p b t (is_Q (known_at know t)) (known_at piece t) Q (i.each t) tt)
 
-pub forward-is : (net : Net) (p c : ℕ) (w : Wanted) (new : Known) → AreRuns N w → AreRuns Q new → AreRunsOf Q (λ t. if is_A (wanted_at w t) then Q else pass net p c (known_at new t)) (forward net p c w new)
+pub forward-is : (net : Net) (p c : ℕ) (w : Wanted) (new : Known) → AreRuns N w → AreRuns Q new → AreRunsOf Q (λ t. if is_A (wanted_at w t) then Q else pass net p c t (known_at new t)) (forward net p c w new)
 unfolding forward
-forward-is net p c w new h i = zip_runs-is Q N Q same_K K_decides (λ v a. if is_A a then Q else pass net p c v) new w refl i h
+forward-is net p c w new h i =
+    let s = passed-is net p c new i in
+    let z = zip_runs-is Q N Q same_K K_decides (λ v a. if is_A a then Q else v) (passed net p c new) w refl s.runs h in
+    record { runs = z.runs; same_at = λ t. z.same_at t ∙ ap (λ v. if is_A (wanted_at w t) then Q else v) (s.same_at t) }
 
 -- forwarding: what a child is sent is true at the edge to it
 pub forward_true : (net : Net) (f : Facts) (p b c : ℕ) (w : Wanted) (new : Known) → IsPlace net p b → list_any (λ x. nat_eq x c) (net.children p b) ≡ true → AreRuns N w → KnowsTruth net f p b new → KnowsTruth net f p c (forward net p c w new)
 forward_true net f p b c w new place child h i =
-    KnowsTruth-by net f p c (λ t. if is_A (wanted_at w t) then Q else pass net p c (known_at new t)) (forward net p c w new) (forward-is net p c w new h i.runs)
-    (λ t. if_true net f p c t (is_A (wanted_at w t)) Q (pass net p c (known_at new t)) tt (pass_true net f p b c t (known_at new t) place child (i.each t)))
+    KnowsTruth-by net f p c (λ t. if is_A (wanted_at w t) then Q else pass net p c t (known_at new t)) (forward net p c w new) (forward-is net p c w new h i.runs)
+    (λ t. if_true net f p c t (is_A (wanted_at w t)) Q (pass net p c t (known_at new t)) tt (pass_true net f p b c t (known_at new t) place child (i.each t)))
 
 pub quenched-is : (w : Wanted) (sent : Known) → AreRuns N w → AreRuns Q sent → AreRunsOf N (λ t. if is_C (wanted_at w t) && not (is_Q (known_at sent t)) then N else wanted_at w t) (quenched w sent)
 unfolding quenched
@@ -478,13 +482,15 @@ three_steady bottom g know w piece z r p = record {
   past = p;
 }
 
-answers-is : (net : Net) (p c : ℕ) (know : Known) (w piece : Wanted) → AreRuns N piece → AreRunsOf Q (λ t. answer net p c (known_at know t) (wanted_at w t) (wanted_at piece t)) (answers net p c know w piece)
+answers-is : (net : Net) (p c : ℕ) (know : Known) (w piece : Wanted) → AreRuns Q know → AreRuns N piece → AreRunsOf Q (λ t. answer (pass net p c t (known_at know t)) (wanted_at w t) (wanted_at piece t)) (answers net p c know w piece)
 unfolding answers
-answers-is net p c know w piece r =
-    tabulate-is Q same_K K_decides (λ t. answer net p c (known_at know t) (wanted_at w t) (wanted_at piece t)) (points know ++ points w ++ points piece)
-    (three_steady Q (answer net p c) know w piece (λ k a. refl) r (λ t n. ap (answer net p c (known_at know t) (wanted_at w t)) (value_at-past N piece t (IsPast-append t (points know ++ points w) (points piece) n).1)))
+answers-is net p c know w piece k r =
+    let s = passed-is net p c know k in
+    let i = tabulate-is Q same_K K_decides (λ t. answer (known_at (passed net p c know) t) (wanted_at w t) (wanted_at piece t)) (points (passed net p c know) ++ points w ++ points piece)
+    (three_steady Q answer (passed net p c know) w piece (λ k a. refl) r (λ t n. ap (answer (known_at (passed net p c know) t) (wanted_at w t)) (value_at-past N piece t (IsPast-append t (points (passed net p c know) ++ points w) (points piece) n).1))) in
+    record { runs = i.runs; same_at = λ t. i.same_at t ∙ ap (λ x. answer x (wanted_at w t) (wanted_at piece t)) (s.same_at t) }
 
-answer_true : (net : Net) (f : Facts) (p b c t : ℕ) (k : K) (a q : Q3) → IsPlace net p b → list_any (λ x. nat_eq x c) (net.children p b) ≡ true → IsTrueAt net f p b t k → (a ≡ A → TrueF net f p c t) → IsTrueAt net f p c t (answer net p c k a q)
+answer_true : (net : Net) (f : Facts) (p b c t : ℕ) (k : K) (a q : Q3) → IsPlace net p b → list_any (λ x. nat_eq x c) (net.children p b) ≡ true → IsTrueAt net f p b t k → (a ≡ A → TrueF net f p c t) → IsTrueAt net f p c t (answer (pass net p c t k) a q)
 answer_true net f p b c t k N N place child h i = tt
 answer_true net f p b c t k C N place child h i = tt
 answer_true net f p b c t k A N place child h i = tt
@@ -497,7 +503,7 @@ answer_true net f p b c t k C C place child h i = pass_true net f p b c t k plac
 
 answers_true : (net : Net) (f : Facts) (p b c : ℕ) (know : Known) (w piece : Wanted) → IsPlace net p b → list_any (λ x. nat_eq x c) (net.children p b) ≡ true → KnowsTruth net f p b know → WantsTruth net f p c w → AreRuns N piece → KnowsTruth net f p c (answers net p c know w piece)
 answers_true net f p b c know w piece place child k a r =
-    KnowsTruth-by net f p c (λ t. answer net p c (known_at know t) (wanted_at w t) (wanted_at piece t)) (answers net p c know w piece) (answers-is net p c know w piece r)
+    KnowsTruth-by net f p c (λ t. answer (pass net p c t (known_at know t)) (wanted_at w t) (wanted_at piece t)) (answers net p c know w piece) (answers-is net p c know w piece k.runs r)
     (λ t. answer_true net f p b c t (known_at know t) (wanted_at w t) (wanted_at piece t) place child (k.each t) (a.each t))
 
 stored-is : (know : Known) (w piece : Wanted) → AreRuns N w → AreRuns N piece → AreRunsOf N (λ t. curious (known_at know t) (wanted_at w t) (wanted_at piece t)) (stored know w piece)

@@ -300,7 +300,7 @@ with_mark_fits log tick f h = record { rise = f.rise; past = λ t k. f.past t (o
 
 -- silence at the host, where nothing was logged
 pub silent_true : (net : Net) (f : Facts) (p b t : ℕ) → t ≤ f.settled → f.said t ≡ None → TrueS net f p b t
-silent_true net f p b t h n = record { settled = h; none = λ s m. concerns_none net f s t n; silent = λ q. n }
+silent_true net f p b t h n = record { settled = h; none = λ s m. concerns_none net f p s t n; silent = λ q. n }
 
 S_not_Q : S ≡ Q → ⊥
 S_not_Q e = cc

@@ -3,7 +3,7 @@ use Rattle.std.proofs.Common.{ℕ, suc, zero, ◌<◌, List, [], ◌∷◌, leng
 use Rattle.std.specs.Prelude.{filter}
 use Rattle.gr_frame.specs.declared.Frame.{Frame}
 use Rattle.gr_model.specs.Net.{Net, numbers}
-use Rattle.gr_model.specs.World.{World, Told, unchanged, after, in_turn, wake_for, wake_all, deliver_frame, deliver_up, wake_up, hand_down, sweep_for, frames_past, sent_since, is_want, is_know_to, outwards, inwards, numbers_down}
+use Rattle.gr_model.specs.World.{World, Told, unchanged, after, in_turn, wake_for, wake_all, deliver_frame, deliver_up, wake_up, hand_down, sweep_for, frames_past, sent_since, is_want, is_know_to, outwards, inwards, numbers_down, deliver_up_by, hand_down_by, sweep_for_by, wake_all_by, wake_up_by}
 use Rattle.gr_model.specs.Tree.{IsNet}
 use Rattle.gr_model.specs.Fits.{WorldFits, FrameTrue}
 use Rattle.gr_model.proofs.Worlds.{Kept, Kept-refl, Kept-after, wake_for_kept, deliver_kept, Each, IsLaterWorld, FrameTrue-later, frames_past_true, filter_frames, depths_in, numbers_below}
@@ -40,11 +40,11 @@ deliver_both : (net : Net) (P : World → Told → Type 0) (w : World) (x : Fram
 deliver_both net P w x c n f t = record { kept = deliver_kept net w x n f t; holds = c.deliver w x f t }
 
 pub wake_all_chain : (net : Net) (P : World → Told → Type 0) (w : World) (b : ℕ) → Chains net P → IsNet net → WorldFits net w → b < net.brokers → Both net P w (wake_all net w b)
-unfolding wake_all
+unfolding wake_all_by
 wake_all_chain net P w b c n f i = in_turn_both net P (λ u p. p < net.publishers) (λ u p. wake_for net u b p) c (λ w u p l h. h) (λ u p g h. wake_for_both net P u b p c n g i h) (numbers net.publishers) w f (numbers_below 0 net.publishers net.publishers (omega arith))
 
 deliver_up_both : (net : Net) (P : World → Told → Type 0) (fuel : ℕ) (fs : List Frame) (w : World) → Chains net P → IsNet net → WorldFits net w → Each (FrameTrue net w) fs → Both net P w (deliver_up net fuel fs w)
-unfolding deliver_up
+unfolding deliver_up_by
 deliver_up_both net P zero fs w c n f a = record { kept = Kept-refl net w f; holds = c.nil w f }
 deliver_up_both net P (suc fuel) fs w c n f a =
     in_turn_both net P (FrameTrue net) (λ u x. after (deliver_frame net u x) (λ y. deliver_up net fuel (filter is_want (sent_since u y)) y)) c (FrameTrue-later net)
@@ -53,18 +53,18 @@ deliver_up_both net P (suc fuel) fs w c n f a =
     fs w f a
 
 wake_up_both : (net : Net) (P : World → Told → Type 0) (p : ℕ) (w : World) (b : ℕ) → Chains net P → IsNet net → WorldFits net w → b < net.brokers → p < net.publishers → Both net P w (wake_up net p w b)
-unfolding wake_up
+unfolding wake_up_by
 wake_up_both net P p w b c n f i j =
     let k = wake_for_both net P w b p c n f i j in
     let y = (wake_for net w b p).world in
     both_after net P w (wake_for net w b p) (λ u. deliver_up net net.brokers (filter is_want (sent_since w u)) u) c f k (deliver_up_both net P net.brokers (filter is_want (sent_since w y)) y c n k.kept.fits (filter_frames net y is_want (sent_since w y) (frames_past_true net y (length w.frames) y.frames k.kept.fits.frames)))
 
 hand_down_both : (net : Net) (P : World → Told → Type 0) (p first : ℕ) (w : World) (b : ℕ) → Chains net P → IsNet net → WorldFits net w → Both net P w (hand_down net p first w b)
-unfolding hand_down
+unfolding hand_down_by
 hand_down_both net P p first w b c n f = in_turn_both net P (FrameTrue net) (deliver_frame net) c (FrameTrue-later net) (λ u x g t. deliver_both net P u x c n g t) (filter (is_know_to p b) (frames_past first w.frames)) w f (filter_frames net w (is_know_to p b) (frames_past first w.frames) (frames_past_true net w first w.frames f.frames))
 
 pub sweep_for_chain : (net : Net) (P : World → Told → Type 0) (w : World) (p : ℕ) → Chains net P → IsNet net → WorldFits net w → p < net.publishers → Both net P w (sweep_for net w p)
-unfolding sweep_for
+unfolding sweep_for_by
 sweep_for_chain net P w p c n f j =
     let up = λ (u : World) (g : WorldFits net u). in_turn_both net P (λ x b. b < net.brokers) (wake_up net p) c (λ x y b l k. k) (λ x b g k. wake_up_both net P p x b c n g k j) (inwards net p) u g (depths_in net p (numbers_down net.brokers)) in
     let a = up w f in

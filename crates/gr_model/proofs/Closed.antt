@@ -11,7 +11,7 @@ use Rattle.gr_sched.specs.declared.step.Line.{Line}
 use Rattle.gr_model.specs.declared.report.Report.TheVariants as line
 use Rattle.gr_model.specs.Net.{Net, not_empty, numbers}
 use Rattle.gr_model.specs.Broker.{Log, with_event, is_kept, max_tick}
-use Rattle.gr_model.specs.World.{World, Told, log_of, unchanged, after, in_turn, wake_for, wake_all, deliver_frame, publish_now, deliver_up, wake_up, hand_down, sweep_for, sweep, sweep_moment, frames_past, sent_since, is_want, is_know_to, outwards, inwards, numbers_down, frame_at, restarted, crash, publish_stopped, next, start, show, run_all, opened_lines}
+use Rattle.gr_model.specs.World.{World, Told, log_of, unchanged, after, in_turn, wake_for, wake_all, deliver_frame, publish_now, deliver_up, wake_up, hand_down, sweep_for, sweep, sweep_moment, frames_past, sent_since, is_want, is_know_to, outwards, inwards, numbers_down, frame_at, restarted, crash, publish_stopped, next, start, show, run_all, opened_lines, deliver_up_by, hand_down_by, next_by, publish_stopped_by, sweep_by, sweep_for_by, wake_all_by, wake_up_by}
 use Rattle.gr_frame.specs.Bytes.{frame_bytes}
 use Rattle.gr_model.specs.Tree.{IsNet}
 use Rattle.gr_model.specs.Fits.{WorldFits, FrameTrue, StepIn, StepsIn}
@@ -92,7 +92,7 @@ pub deliver_goes : (net : Net) (R : Frame → Type 0) (P : World → Type 0) (w 
 deliver_goes net R P w x n c f h a = record { kept = deliver_kept net w x n f a.0; holds = c.delivered w x f a.0 a.1 h }
 
 pub deliver_up_goes : (net : Net) (R : Frame → Type 0) (P : World → Type 0) (fuel : ℕ) (fs : List Frame) (w : World) → IsNet net → IsCallClosed net R P → WorldFits net w → P w → Each (IsReady net R w) fs → Goes net P w (deliver_up net fuel fs w)
-unfolding deliver_up
+unfolding deliver_up_by
 deliver_up_goes net R P zero fs w n c f h a = record { kept = Kept-refl net w f; holds = h }
 deliver_up_goes net R P (suc fuel) fs w n c f h a =
     in_turn_goes net P (IsReady net R) (λ u x. after (deliver_frame net u x) (λ y. deliver_up net fuel (filter is_want (sent_since u y)) y)) (ready_later net R)
@@ -104,18 +104,18 @@ deliver_up_goes net R P (suc fuel) fs w n c f h a =
     length_of u = length u.frames
 
 pub wake_up_goes : (net : Net) (R : Frame → Type 0) (P : World → Type 0) (p : ℕ) (w : World) (b : ℕ) → IsNet net → IsCallClosed net R P → WorldFits net w → P w → b < net.brokers → p < net.publishers → Goes net P w (wake_up net p w b)
-unfolding wake_up
+unfolding wake_up_by
 wake_up_goes net R P p w b n c f h i j =
     let k = wake_for_goes net R P w b p n c f h i j in
     let y = (wake_for net w b p).world in
     Goes-after net P w (wake_for net w b p) (λ u. deliver_up net net.brokers (filter is_want (sent_since w u)) u) k (deliver_up_goes net R P net.brokers (filter is_want (sent_since w y)) y n c k.kept.fits k.holds (ready net R P y (length w.frames) is_want c k.kept.fits k.holds))
 
 pub hand_down_goes : (net : Net) (R : Frame → Type 0) (P : World → Type 0) (p first : ℕ) (w : World) (b : ℕ) → IsNet net → IsCallClosed net R P → WorldFits net w → P w → Goes net P w (hand_down net p first w b)
-unfolding hand_down
+unfolding hand_down_by
 hand_down_goes net R P p first w b n c f h = in_turn_goes net P (IsReady net R) (deliver_frame net) (ready_later net R) (λ u x g k r. deliver_goes net R P u x n c g k r) (filter (is_know_to p b) (frames_past first w.frames)) w f h (ready net R P w first (is_know_to p b) c f h)
 
 pub sweep_for_goes : (net : Net) (R : Frame → Type 0) (P : World → Type 0) (w : World) (p : ℕ) → IsNet net → IsCallClosed net R P → WorldFits net w → P w → p < net.publishers → Goes net P w (sweep_for net w p)
-unfolding sweep_for
+unfolding sweep_for_by
 sweep_for_goes net R P w p n c f h j =
     let up = λ (u : World) (g : WorldFits net u) (k : P u). in_turn_goes net P (λ x b. b < net.brokers) (wake_up net p) (λ x y b l h. h) (λ x b g k h. wake_up_goes net R P p x b n c g k h j) (inwards net p) u g k (depths_in net p (numbers_down net.brokers)) in
     let a = up w f h in
@@ -126,12 +126,12 @@ sweep_for_goes net R P w p n c f h j =
     Goes-after net P w (after (in_turn (wake_up net p) (inwards net p) w) (in_turn (hand_down net p (length w.frames)) (outwards net p))) (in_turn (wake_up net p) (inwards net p)) (Goes-after net P w (in_turn (wake_up net p) (inwards net p) w) (in_turn (hand_down net p (length w.frames)) (outwards net p)) a b) d
 
 pub wake_all_goes : (net : Net) (R : Frame → Type 0) (P : World → Type 0) (w : World) (b : ℕ) → IsNet net → IsCallClosed net R P → WorldFits net w → P w → b < net.brokers → Goes net P w (wake_all net w b)
-unfolding wake_all
+unfolding wake_all_by
 wake_all_goes net R P w b n c f h i = in_turn_goes net P (λ u p. p < net.publishers) (λ u p. wake_for net u b p) (λ w u p l h. h) (λ u p g k h. wake_for_goes net R P u b p n c g k i h) (numbers net.publishers) w f h (numbers_below 0 net.publishers net.publishers (omega arith))
 
 -- a world at a sweep's moment
 pub sweep_holds : (net : Net) (R : Frame → Type 0) (P : World → Type 0) (w : World) (k : ℕ) → IsNet net → IsClosed net R P → WorldFits net w → P w → P (sweep net w k).world
-unfolding sweep
+unfolding sweep_by
 sweep_holds net R P w k n c f h = go (nat_lt max_tick m)
   where
     m : ℕ
@@ -163,7 +163,7 @@ frame_at_ready R w zero f a e = absurd (none_some f e)
 frame_at_ready R w (suc k) f a e = frame_ready R w.frames k f a e
 
 pub publish_stopped_holds : (net : Net) (R : Frame → Type 0) (P : World → Type 0) (w : World) (k p number : ℕ) (stop : Stop) (e : Event) → IsNet net → IsClosed net R P → WorldFits net w → P w → p < net.publishers → P (publish_stopped net w k p number stop e).world
-unfolding publish_stopped
+unfolding publish_stopped_by
 publish_stopped_holds net R P w k p number stop e n c f h j = host_at (not_empty (net.subscribers_at (net.host p)))
   where
     log : Log
@@ -193,7 +193,7 @@ publish_stopped_holds net R P w k p number stop e n c f h j = host_at (not_empty
     host_at false = number_at (nat_eq number (suc log.last) && nat_le tick max_tick)
 
 pub next_holds : (net : Net) (R : Frame → Type 0) (P : World → Type 0) (w : World) (l : Line) → IsNet net → IsClosed net R P → WorldFits net w → P w → StepIn net l.step → P (next net w l).world
-unfolding next crash
+unfolding next_by crash
 next_holds net R P w l n c f h i = go l.step i
   where
     delivered : (k : ℕ) (o : Option Frame) → frame_at w k ≡ o → P (let t : Told = elim o [ None ↦ unchanged w (line.RefusedFrame l.number k (length w.frames) ∷ []) | Some x ↦ deliver_frame net w x ] in t.world)

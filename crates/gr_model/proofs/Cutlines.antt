@@ -88,9 +88,9 @@ told_free : (net : Net) (q p h h' s : ℕ) (items : List (ℕ × Event)) → Cut
 unfolding told
 told_free net q p h h' s items = go (nat_eq h h')
   where
-    go : (c : Bool) → CutFree q (if c then [] else map (got_line s p) (filter (λ x. net.wants s x.1) items) ++ line.Horizon s p h' ∷ [])
+    go : (c : Bool) → CutFree q (if c then [] else map (got_line s p) (filter (λ x. net.wants p s x.0 x.1) items) ++ line.Horizon s p h' ∷ [])
     go true = tt
-    go false = CutFree-append q (map (got_line s p) (filter (λ x. net.wants s x.1) items)) (line.Horizon s p h' ∷ []) (got_free q s p (filter (λ x. net.wants s x.1) items)) tt
+    go false = CutFree-append q (map (got_line s p) (filter (λ x. net.wants p s x.0 x.1) items)) (line.Horizon s p h' ∷ []) (got_free q s p (filter (λ x. net.wants p s x.0 x.1) items)) tt
 
 pub learn_free : (net : Net) (p b q : ℕ) (piece : Known) (v : View) (log : Log) → CutFree q (learn net p b piece v log).lines
 unfolding learn

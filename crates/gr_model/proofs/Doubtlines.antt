@@ -15,7 +15,7 @@ use Rattle.gr_model.specs.declared.report.Report.TheVariants as line
 use Rattle.gr_know.specs.Values.{Known}
 use Rattle.gr_model.specs.Net.{Net, is_host, keeps_horizon, numbers, not_empty}
 use Rattle.gr_model.specs.Broker.{View, Log, Outcome, empty_log, is_kept, told, got_line, learn, publish, marking, cutting, wake, wake_host, wake_below, asking, curiosity, expect, receive, clashes, place_of, silence, with_event, with_mark, max_tick}
-use Rattle.gr_model.specs.World.{World, Told, view_of, log_of, absorbed, unchanged, after, in_turn, sent_line, sent_lines, wake_for, wake_all, deliver_frame, frame_at, publish_now, restarted, crash, publish_stopped, sweep_for, sweep, sweep_moment, next, show, opened_lines, kept_events}
+use Rattle.gr_model.specs.World.{World, Told, view_of, log_of, absorbed, unchanged, after, in_turn, sent_line, sent_lines, wake_for, wake_all, deliver_frame, frame_at, publish_now, restarted, crash, publish_stopped, sweep_for, sweep, sweep_moment, next, show, opened_lines, kept_events, deliver_frame_by, next_by, publish_now_by, publish_stopped_by, sweep_by, wake_for_by}
 use Rattle.gr_frame.specs.Bytes.{frame_bytes}
 use Rattle.gr_model.specs.Headline.{is_doubt_line, doubt_place, doubts_shown}
 use Rattle.gr_model.specs.Tree.{IsNet}
@@ -58,9 +58,9 @@ told_plain : (net : Net) (p h h' s : ℕ) (items : List (ℕ × Event)) → Plai
 unfolding told
 told_plain net p h h' s items = go (nat_eq h h')
   where
-    go : (c : Bool) → Plain (if c then [] else map (got_line s p) (filter (λ x. net.wants s x.1) items) ++ line.Horizon s p h' ∷ [])
+    go : (c : Bool) → Plain (if c then [] else map (got_line s p) (filter (λ x. net.wants p s x.0 x.1) items) ++ line.Horizon s p h' ∷ [])
     go true = tt
-    go false = Plain-append (map (got_line s p) (filter (λ x. net.wants s x.1) items)) (line.Horizon s p h' ∷ []) (got_plain s p (filter (λ x. net.wants s x.1) items)) tt
+    go false = Plain-append (map (got_line s p) (filter (λ x. net.wants p s x.0 x.1) items)) (line.Horizon s p h' ∷ []) (got_plain s p (filter (λ x. net.wants p s x.0 x.1) items)) tt
 
 learn_plain : (net : Net) (p b : ℕ) (piece : Known) (v : View) (log : Log) → Plain (learn net p b piece v log).lines
 unfolding learn
@@ -139,15 +139,15 @@ unfolding absorbed
 absorbed_plain w b p o a = Plain-append o.lines (sent_lines (suc (length w.frames)) o.frames) a (sent_plain (suc (length w.frames)) o.frames)
 
 wake_for_plain : (net : Net) (w : World) (b p : ℕ) → Plain (wake_for net w b p).lines
-unfolding wake_for
+unfolding wake_for_by
 wake_for_plain net w b p = absorbed_plain w b p (wake net p b w.clock (view_of w b p) (log_of w p)) (wake_plain net p b w.clock (view_of w b p) (log_of w p))
 
 deliver_plain : (net : Net) (w : World) (x : Frame) → Plain (deliver_frame net w x).lines
-unfolding deliver_frame
+unfolding deliver_frame_by
 deliver_plain net w x = absorbed_plain w x.head.to x.head.publisher (receive net w.clock x (view_of w x.head.to x.head.publisher) (log_of w x.head.publisher)) (receive_plain net w.clock x (view_of w x.head.to x.head.publisher) (log_of w x.head.publisher))
 
 publish_now_plain : (net : Net) (w : World) (p number : ℕ) (e : Event) → Plain (publish_now net w p number e).lines
-unfolding publish_now
+unfolding publish_now_by
 publish_now_plain net w p number e = absorbed_plain w (net.host p) p (publish net p (net.host p) w.clock number e (view_of w (net.host p) p) (log_of w p)) (publish_plain net p (net.host p) w.clock number e (view_of w (net.host p) p) (log_of w p))
 
 plain_chain : (net : Net) → Chains net (λ w t. Plain t.lines)
@@ -178,7 +178,7 @@ unfolding crash
 crash_plain net w b = opened_plain net w.logs b
 
 stopped_plain : (net : Net) (w : World) (k p number : ℕ) (stop : Stop) (e : Event) → Plain (publish_stopped net w k p number stop e).lines
-unfolding publish_stopped
+unfolding publish_stopped_by
 stopped_plain net w k p number stop e = go (not_empty (net.subscribers_at (net.host p))) (nat_eq number (suc log.last) && nat_le tick max_tick) (is_kept log.gate stop.call stop.pick)
   where
     log : Log
@@ -202,7 +202,7 @@ stopped_plain net w k p number stop e = go (not_empty (net.subscribers_at (net.h
     go false true false = opened_plain net w.logs (net.host p)
 
 sweep_plain : (net : Net) (w : World) (k : ℕ) → IsNet net → WorldFits net w → Plain (sweep net w k).lines
-unfolding sweep
+unfolding sweep_by
 sweep_plain net w k n f = go (nat_lt max_tick m)
   where
     m : ℕ
@@ -259,7 +259,7 @@ show_doubts net w = logs (numbers net.publishers) ∙ brokers (numbers net.broke
 
 -- the places of the doubt lines of each step
 lined_doubts : (net : Net) (w : World) (k : ℕ) (s : Step) → IsNet net → WorldFits net w → StepIn net s → doubts_of (next net w (record { number = k; step = s })).lines ≡ doubts_shown net (record { number = k; step = s })
-unfolding next
+unfolding next_by
 lined_doubts net w k (step.Clock now) n f i = refl
 lined_doubts net w k (step.Publish p number None e) n f i = plain_none (publish_now net w p number e).lines (publish_now_plain net w p number e)
 lined_doubts net w k (step.Publish p number (Some s) e) n f i = plain_none (publish_stopped net w k p number s e).lines (stopped_plain net w k p number s e)

@@ -11,7 +11,7 @@ use Rattle.gr_know.specs.Values.{Known, known_at}
 use Rattle.gr_curio.specs.Values.{wanted_at}
 use Rattle.gr_model.specs.Net.{Net, is_host, pass}
 use Rattle.gr_model.specs.Broker.{View, Log, Outcome, learn, marking, cutting, silence, with_mark, wake, wake_host, wake_below, expect_frames}
-use Rattle.gr_model.specs.World.{World, view_of, log_of, wake_for, wake_up, deliver_up, frames_past, sent_since, is_want}
+use Rattle.gr_model.specs.World.{World, view_of, log_of, wake_for, wake_up, deliver_up, frames_past, sent_since, is_want, deliver_up_by, wake_for_by, wake_up_by}
 use Rattle.gr_model.specs.Tree.{IsNet, IsPlace}
 use Rattle.gr_model.specs.Fits.{WorldFits, ViewTrue, LogFits, facts}
 use Rattle.gr_model.proofs.CallTruth.{ViewTrue-later}
@@ -71,17 +71,17 @@ none_left [] a = refl
 none_left (x ∷ xs) a = rw a.0 (none_left xs a.1)
 
 deliver_none : (net : Net) (fuel : ℕ) (w : World) → (deliver_up net fuel [] w).world ≡ w
-unfolding deliver_up
+unfolding deliver_up_by
 deliver_none net zero w = refl
 deliver_none net (suc fuel) w = refl
 
 pub woken_taken : (net : Net) (w : World) (b p : ℕ) → WorldFits net w → b < net.brokers → p < net.publishers → Taken net w (wake_for net w b p).world b p (wake net p b w.clock (view_of w b p) (log_of w p))
-unfolding wake_for
+unfolding wake_for_by
 woken_taken net w b p f i j = absorbed_taken net w b p (wake net p b w.clock (view_of w b p) (log_of w p)) f i j
 
 -- so nothing more is delivered
 pub host_alone : (net : Net) (p : ℕ) (w : World) → IsNet net → p < net.publishers → WorldFits net w → (wake_up net p w (net.host p)).world ≡ (wake_for net w (net.host p) p).world
-unfolding wake_up
+unfolding wake_up_by
 host_alone net p w n j f =
     let b = net.host p in
     let y = (wake_for net w b p).world in
@@ -130,12 +130,9 @@ marking_tells net p b now v log reached place fit h long = go (nat_le (log.settl
     go true e = record {
       tells = λ c t m l u q a.
           let s : known_at piece t ≡ S = silence_in (suc log.settled) now [] t l u in
-          subst (λ z. Has (TellsTick p b c t z) o.frames) (ap (λ z. pass_of z c) s) (k.forwarded c t m q (λ z. S_not_Q (sym s ∙ z)) a);
+          subst (λ z. Has (TellsTick p b c t z) o.frames) (ap (pass net p c t) s) (k.forwarded c t m q (λ z. S_not_Q (sym s ∙ z)) a);
       plain = λ c t m a. quench_A _ (wanted_at (wants_of net p b v c) t) (sym (k.wants c t m) ∙ a);
     }
-      where
-        pass_of : K → ℕ → K
-        pass_of z c = pass net p c z
 
 pub host_tells : (net : Net) (p b now : ℕ) (v : View) (log : Log) (reached : ℕ → ℕ) → IsPlace net p b → is_host net p b ≡ true → LogFits log → ViewTrue net (facts log reached) p b v → nat_le (log.settled + net.quiet) now ≡ true → TellsMark net p b now v log (wake net p b now v log)
 unfolding wake wake_host

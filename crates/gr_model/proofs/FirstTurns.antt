@@ -5,7 +5,7 @@ use Rattle.std.specs.List.{list_any}
 use Rattle.std.proofs.lemmas.Bool.{eq-eqb, false≢true, or_left, or_right, or_cases}
 use Rattle.gr_model.specs.Headline.{Recorded}
 use Rattle.gr_model.specs.Net.{Net, is_host}
-use Rattle.gr_model.specs.World.{World, Told, in_turn, wake_for, wake_up, sent_since, is_want}
+use Rattle.gr_model.specs.World.{World, Told, in_turn, wake_for, wake_up, sent_since, is_want, wake_up_by}
 use Rattle.gr_model.specs.Tree.{IsNet}
 use Rattle.gr_model.specs.Fits.{WorldFits}
 use Rattle.gr_model.proofs.Worlds.{Each, wake_for_kept, wake_up_kept, filter_frames, frames_past_true}
@@ -29,7 +29,7 @@ log_pending net p r n = record {
 }
 
 log_woken : (net : Net) (p : ℕ) (w : World) (b : ℕ) → IsNet net → p < net.publishers → b < net.brokers → is_host net p b ≡ false → WorldFits net w → core_of (wake_up net p w b).world p ≡ core_of w p
-unfolding wake_up
+unfolding wake_up_by
 log_woken net p w b n j i host f =
     let y = (wake_for net w b p).world in
     let g = (wake_for_kept net w b p n f i j).fits in

@@ -19,7 +19,7 @@ use Rattle.gr_curio.specs.Values.{Wanted, wanted_at, is_C, is_A}
 use Rattle.gr_model.specs.declared.report.Report.TheVariants as line
 use Rattle.gr_model.specs.Net.{Net, is_host, keeps_horizon, numbers}
 use Rattle.gr_model.specs.Broker.{View, Log, Outcome, empty_log, all_A, any_C, is_settled, new_ticks, forward, quenched, forward_wants, learn, asking, expect, curiosity, curious, stored, acknowledged, place_of, publish, silence, with_event, with_mark, marking, wake, wake_host, wake_below, receive, clashes, noted, due, max_tick, started}
-use Rattle.gr_model.specs.World.{World, blank_view, view_of, log_of, absorbed, wake_for, deliver_frame, publish_now, restarted, start, run_all}
+use Rattle.gr_model.specs.World.{World, blank_view, view_of, log_of, absorbed, wake_for, deliver_frame, publish_now, restarted, start, run_all, deliver_frame_by, publish_now_by, wake_for_by}
 use Rattle.gr_model.specs.Truth.{Facts, KnowsTruth, WantsTruth, AllWantTruth}
 use Rattle.gr_model.specs.Tree.{IsNet, IsPlace}
 use Rattle.gr_model.specs.Fits.{WorldFits, FrameTrue, ViewTrue, LogFits, BodyTrue, BodyFits, StepsIn, facts, facts_of, reached_in}
@@ -77,13 +77,13 @@ A_not_C : A ≡ C → ⊥
 A_not_C e = cc
 
 -- a C that is left was one, at a tick of which nothing was learned
-quenched_C : (net : Net) (p c : ℕ) (k : K) (q : Q3) → quenched_at net p c k q ≡ C → (q ≡ C) × (k ≡ Q)
-quenched_C net p c k N e = absurd (N_not_C e)
-quenched_C net p c k A e = absurd (A_not_C e)
-quenched_C net p c Q C e = (refl, refl)
-quenched_C net p c S C e = absurd (quench_not_C net p c S C (λ h. cc) e)
-quenched_C net p c (D x) C e = absurd (quench_not_C net p c (D x) C (λ h. cc) e)
-quenched_C net p c F C e = absurd (quench_not_C net p c F C (λ h. cc) e)
+quenched_C : (net : Net) (p c t : ℕ) (k : K) (q : Q3) → quenched_at net p c t k q ≡ C → (q ≡ C) × (k ≡ Q)
+quenched_C net p c t k N e = absurd (N_not_C e)
+quenched_C net p c t k A e = absurd (A_not_C e)
+quenched_C net p c t Q C e = (refl, refl)
+quenched_C net p c t S C e = absurd (quench_not_C net p c t S C (λ h. cc) e)
+quenched_C net p c t (D x) C e = absurd (quench_not_C net p c t (D x) C (λ h. cc) e)
+quenched_C net p c t F C e = absurd (quench_not_C net p c t F C (λ h. cc) e)
 
 C_of : (q : Q3) → is_C q ≡ true → q ≡ C
 C_of N e = absurd (false≢true e)
@@ -96,9 +96,9 @@ any_forward net f p t new [] (w ∷ ws) a r e = absurd a
 any_forward net f p t new (c ∷ cs) [] a r e = absurd a
 any_forward net f p t new (c ∷ cs) (w ∷ ws) a r e =
     let s = forward-is net p c w new a.0.runs r in
-    let v : wanted_at (quenched w (forward net p c w new)) t ≡ quenched_at net p c (known_at new t) (wanted_at w t) = (quenched-is w (forward net p c w new) a.0.runs s.runs).same_at t ∙ ap (λ k. if is_C (wanted_at w t) && not (is_Q k) then N else wanted_at w t) (s.same_at t) in
+    let v : wanted_at (quenched w (forward net p c w new)) t ≡ quenched_at net p c t (known_at new t) (wanted_at w t) = (quenched-is w (forward net p c w new) a.0.runs s.runs).same_at t ∙ ap (λ k. if is_C (wanted_at w t) && not (is_Q k) then N else wanted_at w t) (s.same_at t) in
     ⊎_elim
-    (λ x. let z = quenched_C net p c (known_at new t) (wanted_at w t) (sym v ∙ C_of (wanted_at (quenched w (forward net p c w new)) t) x) in (or_left (is_C (wanted_at w t)) (any_C ws t) (ap is_C z.0), z.1))
+    (λ x. let z = quenched_C net p c t (known_at new t) (wanted_at w t) (sym v ∙ C_of (wanted_at (quenched w (forward net p c w new)) t) x) in (or_left (is_C (wanted_at w t)) (any_C ws t) (ap is_C z.0), z.1))
     (λ x. let z = any_forward net f p t new cs ws a.1 r x in (or_right (is_C (wanted_at w t)) (any_C ws t) z.0, z.1))
     (or_cases (is_C (wanted_at (quenched w (forward net p c w new)) t)) (any_C (forward_wants net p new cs ws) t) e)
 
@@ -280,13 +280,13 @@ taken_unknown net w u b p o i j t k a =
     ])
 
 wake_for_unknown : (net : Net) → IsNet net → (w : World) (b p : ℕ) → WorldFits net w → b < net.brokers → p < net.publishers → Unknowns net w → Unknowns net (wake_for net w b p).world
-unfolding wake_for
+unfolding wake_for_by
 wake_for_unknown net n w b p f i j a =
     let o = wake net p b w.clock (view_of w b p) (log_of w p) in
     taken_unknown net w (absorbed w b p o).world b p o i j (absorbed_taken net w b p o f i j) (λ u. wake_unknown net p b w.clock (view_of w b p) (log_of w p) (reached_in net w p) (n.place p b j i) (f.logs p j) (f.views p b j i) u) a
 
 deliver_unknown : (net : Net) → IsNet net → (w : World) (x : Frame) → WorldFits net w → FrameTrue net w x → Unknowns net w → Unknowns net (deliver_frame net w x).world
-unfolding deliver_frame
+unfolding deliver_frame_by
 deliver_unknown net n w x f t a =
     let p = x.head.publisher in
     let b = x.head.to in
@@ -295,7 +295,7 @@ deliver_unknown net n w x f t a =
     (λ u. receive_unknown net (facts_of net w p) w.clock x (view_of w b p) (log_of w p) (n.place p b t.publisher_in t.fits.to_in) (f.views p b t.publisher_in t.fits.to_in) t.told t.fits.body u) a
 
 publish_now_unknown : (net : Net) → IsNet net → (w : World) (p number : ℕ) (e : Event) → WorldFits net w → p < net.publishers → Unknowns net w → Unknowns net (publish_now net w p number e).world
-unfolding publish_now
+unfolding publish_now_by
 publish_now_unknown net n w p number e f j a =
     let b = net.host p in
     let i = n.host_in p j in

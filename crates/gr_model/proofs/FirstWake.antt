@@ -13,7 +13,7 @@ use Rattle.gr_curio.specs.Values.{Wanted, wanted_at, asked_at, is_C, is_outstand
 use Rattle.gr_tick.specs.Runs.{top_of}
 use Rattle.gr_model.specs.Net.{Net, is_host, keeps_horizon}
 use Rattle.gr_model.specs.Broker.{View, Outcome, any_C, is_settled, wake, up_frames, wanted_at_wake}
-use Rattle.gr_model.specs.World.{World, view_of, log_of, wake_for, wake_up, frames_past, sent_since, is_want}
+use Rattle.gr_model.specs.World.{World, view_of, log_of, wake_for, wake_up, frames_past, sent_since, is_want, wake_up_by}
 use Rattle.gr_model.specs.Tree.{IsNet}
 use Rattle.gr_model.specs.Fits.{WorldFits, FrameTrue}
 use Rattle.gr_model.proofs.Worlds.{Each, wake_for_kept, filter_frames, frames_past_true}
@@ -236,7 +236,7 @@ ranks net w (x ∷ xs) n a = (n.depth_in x.head.publisher x.head.to a.0.publishe
 
 -- the wake of a broker that is not the host, with all its nested deliveries
 pub first_woken : (net : Net) (p t m first d0 : ℕ) (woken : List ℕ) (w : World) (b : ℕ) → IsNet net → p < net.publishers → b < net.brokers → is_host net p b ≡ false → WorldFits net w → net.depth p b ≤ d0 → FirstAt net p t m first d0 woken w [] → FirstAt net p t m first (net.depth p b) (b ∷ woken) (wake_up net p w b).world []
-unfolding wake_up
+unfolding wake_up_by
 first_woken net p t m first d0 woken w b n j i host f deep h =
     let y = (wake_for net w b p).world in
     let g = (wake_for_kept net w b p n f i j).fits in

@@ -111,11 +111,11 @@ up_frames_want net p b u t runs e n = subst (λ x. Has (WantsTick p b u t (wante
 -- Forwarding
 
 -- an edge makes no tick unknown
-pub pass_not_Q : (net : Net) (p c : ℕ) (k : K) → k ≢ Q → pass net p c k ≢ Q
-pass_not_Q net p c Q h = absurd (h refl)
-pass_not_Q net p c S h = h
-pass_not_Q net p c F h = h
-pass_not_Q net p c (D e) h = go (wanted_below net p c e)
+pub pass_not_Q : (net : Net) (p c t : ℕ) (k : K) → k ≢ Q → pass net p c t k ≢ Q
+pass_not_Q net p c t Q h = absurd (h refl)
+pass_not_Q net p c t S h = h
+pass_not_Q net p c t F h = h
+pass_not_Q net p c t (D e) h = go (wanted_below net p c t e)
   where
     go : (b : Bool) → (elim b as (λ x. K) [ true ↦ D e | false ↦ S ]) ≢ Q
     go true = λ x. cc
@@ -139,28 +139,28 @@ not_Q_of F h = refl
 abbrev pub wants_of : Net → ℕ → ℕ → View → ℕ → Wanted
 wants_of net p b v c = get_or v.wants (place_of c (net.children p b)) []
 
-forward_tells : (net : Net) (f : Facts) (p b c t : ℕ) (new : Known) (cs : List ℕ) (ws : List Wanted) → AllWantTruth net f p cs ws → AreRuns Q new → list_any (λ x. nat_eq x c) cs ≡ true → known_at new t ≢ Q → wanted_at (get_or ws (place_of c cs) []) t ≢ A → Has (TellsTick p b c t (pass net p c (known_at new t))) (forward_frames net p b new cs ws)
+forward_tells : (net : Net) (f : Facts) (p b c t : ℕ) (new : Known) (cs : List ℕ) (ws : List Wanted) → AllWantTruth net f p cs ws → AreRuns Q new → list_any (λ x. nat_eq x c) cs ≡ true → known_at new t ≢ Q → wanted_at (get_or ws (place_of c cs) []) t ≢ A → Has (TellsTick p b c t (pass net p c t (known_at new t))) (forward_frames net p b new cs ws)
 forward_tells net f p b c t new [] ws a r m n k = absurd (false≢true m)
 forward_tells net f p b c t new (d ∷ cs) [] a r m n k = absurd a
 forward_tells net f p b c t new (d ∷ cs) (w ∷ ws) a r m n k =
     elim (cases_Bool (nat_eq d c)) [
       | inl e ↦
           let k1 : wanted_at w t ≢ A = subst (λ q. wanted_at (get_or (w ∷ ws) (if q then 0 else suc (place_of c cs)) []) t ≢ A) e k in
-          let v : known_at (forward net p d w new) t ≡ pass net p d (known_at new t) = (forward-is net p d w new a.0.runs r).same_at t ∙ ap (λ q. if q then Q else pass net p d (known_at new t)) (not_A (wanted_at w t) k1) in
-          Has-front (TellsTick p b c t (pass net p c (known_at new t))) (know_frames b d p (forward net p d w new)) (forward_frames net p b new cs ws)
-          (subst (λ x. Has (TellsTick p b x t (pass net p x (known_at new t))) (know_frames b d p (forward net p d w new))) (eqb-true d c e)
-          (subst (λ x. Has (TellsTick p b d t x) (know_frames b d p (forward net p d w new))) v (know_frames_tell p b d t (forward net p d w new) (λ x. pass_not_Q net p d (known_at new t) n (sym v ∙ x)))))
+          let v : known_at (forward net p d w new) t ≡ pass net p d t (known_at new t) = (forward-is net p d w new a.0.runs r).same_at t ∙ ap (λ q. if q then Q else pass net p d t (known_at new t)) (not_A (wanted_at w t) k1) in
+          Has-front (TellsTick p b c t (pass net p c t (known_at new t))) (know_frames b d p (forward net p d w new)) (forward_frames net p b new cs ws)
+          (subst (λ x. Has (TellsTick p b x t (pass net p x t (known_at new t))) (know_frames b d p (forward net p d w new))) (eqb-true d c e)
+          (subst (λ x. Has (TellsTick p b d t x) (know_frames b d p (forward net p d w new))) v (know_frames_tell p b d t (forward net p d w new) (λ x. pass_not_Q net p d t (known_at new t) n (sym v ∙ x)))))
       | inr e ↦
           let k1 : wanted_at (get_or ws (place_of c cs) []) t ≢ A = subst (λ q. wanted_at (get_or (w ∷ ws) (if q then 0 else suc (place_of c cs)) []) t ≢ A) e k in
-          Has-back (TellsTick p b c t (pass net p c (known_at new t))) (know_frames b d p (forward net p d w new)) (forward_frames net p b new cs ws)
+          Has-back (TellsTick p b c t (pass net p c t (known_at new t))) (know_frames b d p (forward net p d w new)) (forward_frames net p b new cs ws)
           (forward_tells net f p b c t new cs ws a.1 r (subst (λ q. (q || list_any (λ x. nat_eq x c) cs) ≡ true) e m) n k1)
     ]
 
 -- what a child's curiosity is at a tick where something new was learned of it, or nothing
-abbrev pub quenched_at : Net → ℕ → ℕ → K → Q3 → Q3
-quenched_at net p c k q = if is_C q && not (is_Q (if is_A q then Q else pass net p c k)) then N else q
+abbrev pub quenched_at : Net → ℕ → ℕ → ℕ → K → Q3 → Q3
+quenched_at net p c t k q = if is_C q && not (is_Q (if is_A q then Q else pass net p c t k)) then N else q
 
-forward_quenches : (net : Net) (f : Facts) (p c t : ℕ) (new : Known) (cs : List ℕ) (ws : List Wanted) → AllWantTruth net f p cs ws → AreRuns Q new → list_any (λ x. nat_eq x c) cs ≡ true → wanted_at (get_or (forward_wants net p new cs ws) (place_of c cs) []) t ≡ quenched_at net p c (known_at new t) (wanted_at (get_or ws (place_of c cs) []) t)
+forward_quenches : (net : Net) (f : Facts) (p c t : ℕ) (new : Known) (cs : List ℕ) (ws : List Wanted) → AllWantTruth net f p cs ws → AreRuns Q new → list_any (λ x. nat_eq x c) cs ≡ true → wanted_at (get_or (forward_wants net p new cs ws) (place_of c cs) []) t ≡ quenched_at net p c t (known_at new t) (wanted_at (get_or ws (place_of c cs) []) t)
 forward_quenches net f p c t new [] ws a r m = absurd (false≢true m)
 forward_quenches net f p c t new (d ∷ cs) [] a r m = absurd a
 forward_quenches net f p c t new (d ∷ cs) (w ∷ ws) a r m =
@@ -169,7 +169,7 @@ forward_quenches net f p c t new (d ∷ cs) (w ∷ ws) a r m =
           let s = forward-is net p d w new a.0.runs r in
           (quenched-is w (forward net p d w new) a.0.runs s.runs).same_at t
           ∙ (ap (λ k. if is_C (wanted_at w t) && not (is_Q k) then N else wanted_at w t) (s.same_at t)
-          ∙ ap (λ x. quenched_at net p x (known_at new t) (wanted_at w t)) (eqb-true d c e)))
+          ∙ ap (λ x. quenched_at net p x t (known_at new t) (wanted_at w t)) (eqb-true d c e)))
       | inr e ↦ rw e (forward_quenches net f p c t new cs ws a.1 r (subst (λ q. (q || list_any (λ x. nat_eq x c) cs) ≡ true) e m))
     ]
 
@@ -178,8 +178,8 @@ abbrev pub known_then : Net → ℕ → ℕ → Known → View → View → ℕ 
 known_then net p b piece v u t = if is_settled (keeps_horizon net p b) u.horizon u.wants t then F else join_K (known_at v.know t) (known_at piece t)
 
 pub record LearnTicks (net : Net) (p b : ℕ) (piece : Known) (v : View) (o : Outcome) : Type 0 where
-  pub forwarded : (c t : ℕ) → list_any (λ x. nat_eq x c) (net.children p b) ≡ true → known_at v.know t ≡ Q → known_at piece t ≢ Q → wanted_at (wants_of net p b v c) t ≢ A → Has (TellsTick p b c t (pass net p c (known_at piece t))) o.frames
-  pub wants : (c t : ℕ) → list_any (λ x. nat_eq x c) (net.children p b) ≡ true → wanted_at (wants_of net p b o.view c) t ≡ quenched_at net p c (if is_Q (known_at v.know t) then known_at piece t else Q) (wanted_at (wants_of net p b v c) t)
+  pub forwarded : (c t : ℕ) → list_any (λ x. nat_eq x c) (net.children p b) ≡ true → known_at v.know t ≡ Q → known_at piece t ≢ Q → wanted_at (wants_of net p b v c) t ≢ A → Has (TellsTick p b c t (pass net p c t (known_at piece t))) o.frames
+  pub wants : (c t : ℕ) → list_any (λ x. nat_eq x c) (net.children p b) ≡ true → wanted_at (wants_of net p b o.view c) t ≡ quenched_at net p c t (if is_Q (known_at v.know t) then known_at piece t else Q) (wanted_at (wants_of net p b v c) t)
   pub horizon : o.view.horizon ≡ learned_horizon net p b piece v
   pub asks : o.view.asks ≡ v.asks
   pub know : (t : ℕ) → (known_at o.view.know t ≡ known_then net p b piece v o.view t) ⊎ ((known_at o.view.know t ≡ Q) × (is_host net p b ≡ false) × (keeps_horizon net p b ≡ true → t ≤ o.view.horizon))
@@ -202,8 +202,8 @@ learn_ticks net f p b piece v log place h k =
     record {
       forwarded = λ c t m q x a.
           let e : known_at new t ≡ known_at piece t = n.same_at t ∙ ap (λ z. if z then known_at piece t else Q) (is_Q_of (known_at v.know t) q) in
-          subst (λ z. Has (TellsTick p b c t (pass net p c z)) (forward_frames net p b new (net.children p b) v.wants)) e (forward_tells net f p b c t new (net.children p b) v.wants h.wants n.runs m (λ z. x (sym e ∙ z)) a);
-      wants = λ c t m. ap (λ z. wanted_at (get_or z (place_of c (net.children p b)) []) t) i.wants ∙ (forward_quenches net f p c t new (net.children p b) v.wants h.wants n.runs m ∙ ap (λ z. quenched_at net p c z (wanted_at (wants_of net p b v c) t)) (n.same_at t));
+          subst (λ z. Has (TellsTick p b c t (pass net p c t z)) (forward_frames net p b new (net.children p b) v.wants)) e (forward_tells net f p b c t new (net.children p b) v.wants h.wants n.runs m (λ z. x (sym e ∙ z)) a);
+      wants = λ c t m. ap (λ z. wanted_at (get_or z (place_of c (net.children p b)) []) t) i.wants ∙ (forward_quenches net f p c t new (net.children p b) v.wants h.wants n.runs m ∙ ap (λ z. quenched_at net p c t z (wanted_at (wants_of net p b v c) t)) (n.same_at t));
       horizon = i.horizon;
       asks = i.asks;
       know = λ t.
@@ -215,14 +215,14 @@ learn_ticks net f p b piece v log place h k =
     F_if true x = refl
     F_if false x = refl
 
-pub quench_not_C : (net : Net) (p c : ℕ) (k : K) (q : Q3) → k ≢ Q → quenched_at net p c k q ≢ C
-quench_not_C net p c k N h = λ e. cc
-quench_not_C net p c k A h = λ e. cc
-quench_not_C net p c k C h = λ e. N_not_C (sym (ap (λ x. if not x then N else C) (not_Q_of (pass net p c k) (pass_not_Q net p c k h))) ∙ e)
+pub quench_not_C : (net : Net) (p c t : ℕ) (k : K) (q : Q3) → k ≢ Q → quenched_at net p c t k q ≢ C
+quench_not_C net p c t k N h = λ e. cc
+quench_not_C net p c t k A h = λ e. cc
+quench_not_C net p c t k C h = λ e. N_not_C (sym (ap (λ x. if not x then N else C) (not_Q_of (pass net p c t k) (pass_not_Q net p c t k h))) ∙ e)
   where
     N_not_C : N ≡ C → ⊥
     N_not_C e = cc
 
 -- a learned tick leaves no C stored there
 pub learned_quenches : (net : Net) (p b c t : ℕ) (piece : Known) (v : View) (o : Outcome) → LearnTicks net p b piece v o → list_any (λ x. nat_eq x c) (net.children p b) ≡ true → known_at v.know t ≡ Q → known_at piece t ≢ Q → wanted_at (wants_of net p b o.view c) t ≢ C
-learned_quenches net p b c t piece v o l m q x = λ e. quench_not_C net p c (known_at piece t) (wanted_at (wants_of net p b v c) t) x (ap (λ z. quenched_at net p c (if z then known_at piece t else Q) (wanted_at (wants_of net p b v c) t)) (sym (is_Q_of (known_at v.know t) q)) ∙ (sym (l.wants c t m) ∙ e))
+learned_quenches net p b c t piece v o l m q x = λ e. quench_not_C net p c t (known_at piece t) (wanted_at (wants_of net p b v c) t) x (ap (λ z. quenched_at net p c t (if z then known_at piece t else Q) (wanted_at (wants_of net p b v c) t)) (sym (is_Q_of (known_at v.know t) q)) ∙ (sym (l.wants c t m) ∙ e))

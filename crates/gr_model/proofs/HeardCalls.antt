@@ -12,7 +12,7 @@ use Rattle.gr_know.specs.Values.{Known, known_at}
 use Rattle.gr_curio.specs.Values.{Wanted}
 use Rattle.gr_model.specs.Net.{Net, is_host, keeps_horizon, numbers}
 use Rattle.gr_model.specs.Broker.{View, Log, Outcome, empty_log, learn, asking, expect, curiosity, wake, wake_host, wake_below, receive, clashes, stored, acknowledged, place_of, due, noted, publish, started}
-use Rattle.gr_model.specs.World.{World, blank_view, view_of, log_of, absorbed, wake_for, deliver_frame, publish_now, restarted}
+use Rattle.gr_model.specs.World.{World, blank_view, view_of, log_of, absorbed, wake_for, deliver_frame, publish_now, restarted, deliver_frame_by, publish_now_by, wake_for_by}
 use Rattle.gr_model.specs.Truth.{Facts, AllWantTruth}
 use Rattle.gr_model.specs.Tree.{IsNet, IsPlace}
 use Rattle.gr_model.specs.Fits.{WorldFits, ViewTrue, FrameTrue, BodyTrue, BodyFits, facts_of}
@@ -123,12 +123,12 @@ absorbed_heard net w b p o H K f i j call same h c q x y =
     ]
 
 pub wake_for_heard : (net : Net) (w : World) (b p : ℕ) (H : ℕ → ℕ → ℕ → Bool) → WorldFits net w → b < net.brokers → p < net.publishers → HeardsFit net w H → HeardsFit net (wake_for net w b p).world H
-unfolding wake_for
+unfolding wake_for_by
 wake_for_heard net w b p H f i j h =
     absorbed_heard net w b p (wake net p b w.clock (view_of w b p) (log_of w p)) H H f i j (λ host keeps k. wake_heard net p b w.clock (view_of w b p) (log_of w p) (H b p) host keeps (f.views p b j i).know.runs k) (λ c q t x. refl) h
 
 pub deliver_heard : (net : Net) (w : World) (x : Frame) (H K : ℕ → ℕ → ℕ → Bool) → IsNet net → WorldFits net w → FrameTrue net w x → ((t : ℕ) → K x.head.to x.head.publisher t ≡ hears_body (H x.head.to x.head.publisher) x.body t) → SameBut H K x.head.to x.head.publisher → HeardsFit net w H → HeardsFit net (deliver_frame net w x).world K
-unfolding deliver_frame
+unfolding deliver_frame_by
 deliver_heard net w x H K n f tr here same h =
     let b = x.head.to in
     let p = x.head.publisher in
@@ -138,7 +138,7 @@ deliver_heard net w x H K n f tr here same h =
     same h
 
 pub publish_now_heard : (net : Net) (w : World) (p number : ℕ) (e : Event) (H : ℕ → ℕ → ℕ → Bool) → IsNet net → WorldFits net w → p < net.publishers → HeardsFit net w H → HeardsFit net (publish_now net w p number e).world H
-unfolding publish_now
+unfolding publish_now_by
 publish_now_heard net w p number e H n f j h =
     absorbed_heard net w (net.host p) p (publish net p (net.host p) w.clock number e (view_of w (net.host p) p) (log_of w p)) H H f (n.host_in p j) j
     (λ host keeps k. absurd (both_ways (is_host net p (net.host p)) host (eq-eqb (net.host p) (net.host p) refl))) (λ c q t x. refl) h

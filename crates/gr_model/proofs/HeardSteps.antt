@@ -20,7 +20,7 @@ use Rattle.gr_model.specs.declared.report.Report.{Report}
 use Rattle.gr_model.specs.declared.report.Report.TheVariants as line
 use Rattle.gr_model.specs.Net.{Net, numbers, not_empty}
 use Rattle.gr_model.specs.Broker.{Log, with_event, is_kept, max_tick}
-use Rattle.gr_model.specs.World.{World, Told, log_of, unchanged, wake_for, wake_all, deliver_frame, frame_at, publish_now, publish_stopped, restarted, crash, next, sent_line, sent_lines, opened_lines}
+use Rattle.gr_model.specs.World.{World, Told, log_of, unchanged, wake_for, wake_all, deliver_frame, frame_at, publish_now, publish_stopped, restarted, crash, next, sent_line, sent_lines, opened_lines, next_by, publish_stopped_by, wake_all_by}
 use Rattle.gr_model.specs.Headline.{History, is_sent, sent_number, line_of_frame, know_of_line, hearing, deaf, is_heard, heard_after, may_crash, is_next}
 use Rattle.gr_model.specs.Tree.{IsNet}
 use Rattle.gr_model.specs.Fits.{WorldFits, BodyTrue, StepIn, facts_of}
@@ -201,7 +201,7 @@ pub record Hears (net : Net) (w : World) (heard : Pieces) : Type 0 where
   pub fits : HeardsFit net w (heard_in heard)
 
 wake_all_hears : (net : Net) (w : World) (b : ℕ) (H : ℕ → ℕ → ℕ → Bool) → IsNet net → WorldFits net w → b < net.brokers → HeardsFit net w H → HeardsFit net (wake_all net w b).world H
-unfolding wake_all
+unfolding wake_all_by
 wake_all_hears net w b H n f i h =
     (in_turn_goes net (λ u. HeardsFit net u H) (λ u p. p < net.publishers) (λ u p. wake_for net u b p) (λ x y p l k. k) (λ u p g k j. record { kept = wake_for_kept net u b p n g i j; holds = wake_for_heard net u b p H g i j k }) (numbers net.publishers) w f h (numbers_below 0 net.publishers net.publishers (omega arith))).holds
 
@@ -228,7 +228,7 @@ crash_hears net w b heard f i h = let r = restarted_hears net w w.logs b heard f
 
 stopped_hears : (net : Net) (w : World) (k p number : ℕ) (stop : Stop) (e : Event) (heard : Pieces) → IsNet net → WorldFits net w → p < net.publishers → Hears net w heard →
     Hears net (publish_stopped net w k p number stop e).world (elim (if may_crash net (net.host p) && is_next w.clock (core_of w p) number then Some (net.host p) else None) [ None ↦ heard | Some b ↦ deaf net heard b ])
-unfolding publish_stopped
+unfolding publish_stopped_by
 stopped_hears net w k p number stop e heard n f j h = go (not_empty (net.subscribers_at (net.host p))) (nat_eq number (suc log.last) && nat_le tick max_tick)
   where
     log : Log
@@ -252,7 +252,7 @@ stopped_hears net w k p number stop e heard n f j h = go (not_empty (net.subscri
     go false true = restarted_hears net w logs (net.host p) heard f (n.host_in p j) h
 
 pub hears_by : (net : Net) (w : World) (h : History) (k : ℕ) (s : Step) (ls : List Report) → IsNet net → WorldFits net w → RecordsFit net w h → filter is_sent h.lines ≡ sent_lines 1 w.frames → StepIn net s → is_sweep s ≡ false → Hears net w h.heard → Hears net (next net w (record { number = k; step = s })).world (heard_after net h (record { number = k; step = s }) ls)
-unfolding next heard_after
+unfolding next_by heard_after
 hears_by net w h k (step.Clock now) ls n f r e i z a = record { long = a.long; fits = a.fits }
 hears_by net w h k (step.Publish p number None v) ls n f r e i z a = record { long = a.long; fits = publish_now_heard net w p number v (heard_in h.heard) n f i a.fits }
 hears_by net w h k (step.Publish p number (Some stop) v) ls n f r e i z a =

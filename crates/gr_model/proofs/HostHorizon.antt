@@ -11,7 +11,7 @@ use Rattle.gr_tick.specs.Runs.{zip_runs, first_bottom_from}
 use Rattle.gr_know.specs.Values.{Known, known_at, join_K, same_K}
 use Rattle.gr_model.specs.Net.{Net, is_host, keeps_horizon, not_empty, is_empty}
 use Rattle.gr_model.specs.Broker.{View, Log, Outcome, learn, publish, marking, wake, wake_host, wake_below, receive, silence, with_event, with_mark, max_tick}
-use Rattle.gr_model.specs.World.{World, view_of, log_of, absorbed, wake_for, deliver_frame, publish_now}
+use Rattle.gr_model.specs.World.{World, view_of, log_of, absorbed, wake_for, deliver_frame, publish_now, deliver_frame_by, publish_now_by, wake_for_by}
 use Rattle.gr_model.specs.Truth.{KnowsTruth}
 use Rattle.gr_model.specs.Fits.{facts, reached_in, LogFits, ViewTrue, HostKnows, FrameTrue, WorldFits}
 use Rattle.gr_model.specs.Tree.{IsNet}
@@ -135,13 +135,13 @@ absorbed_meets net w b p o f i j t call m q x y =
     ]
 
 pub wake_for_meets : (net : Net) (w : World) (b p : ℕ) → IsNet net → WorldFits net w → b < net.brokers → p < net.publishers → HostsMeet net w → HostsMeet net (wake_for net w b p).world
-unfolding wake_for
+unfolding wake_for_by
 wake_for_meets net w b p n f i j m = absorbed_meets net w b p (wake net p b w.clock (view_of w b p) (log_of w p)) f i j
     (wake_call net p b w.clock (view_of w b p) (log_of w p) (reached_in net w p) n j i (f.logs p j) (f.views p b j i))
     (λ host keeps known x. wake_meets net p b w.clock (view_of w b p) (log_of w p) (reached_in net w p) n j i host keeps (f.logs p j) (f.views p b j i) known (λ e. x)) m
 
 pub deliver_meets : (net : Net) (w : World) (x : Frame) → IsNet net → WorldFits net w → FrameTrue net w x → HostsMeet net w → HostsMeet net (deliver_frame net w x).world
-unfolding deliver_frame
+unfolding deliver_frame_by
 deliver_meets net w x n f t m =
     let p = x.head.publisher in
     let c = receive_call net w.clock x (view_of w x.head.to p) (log_of w p) (reached_in net w p) n t.publisher_in t.fits t.told (f.logs p t.publisher_in) (f.views p x.head.to t.publisher_in t.fits.to_in) in
@@ -149,7 +149,7 @@ deliver_meets net w x n f t m =
     (λ host keeps known y. settled_meets net p x.head.to (view_of w x.head.to p) (log_of w p) (reached_in net w p) (receive net w.clock x (view_of w x.head.to p) (log_of w p)) c (ap (λ l. l.settled) (receive_log net w.clock x (view_of w x.head.to p) (log_of w p))) y) m
 
 pub publish_now_meets : (net : Net) (w : World) (p number : ℕ) (e : Event) → IsNet net → WorldFits net w → p < net.publishers → HostsMeet net w → HostsMeet net (publish_now net w p number e).world
-unfolding publish_now
+unfolding publish_now_by
 publish_now_meets net w p number e n f j m =
     let b = net.host p in
     let i = n.host_in p j in

@@ -1,6 +1,7 @@
 pub mod BlankNet
 pub mod TruthTicks
 pub mod Pieces
+pub mod Passed
 pub mod CallTruth
 pub mod Told
 pub mod Calls
@@ -91,3 +92,6 @@ pub mod CallLines
 pub mod ServedExample
 pub mod OpenedLines
 pub mod LeastClash
+pub mod Erased
+pub mod Seeing
+pub mod ErasedRules

@@ -15,7 +15,7 @@ use Rattle.gr_model.specs.declared.report.Report.TheVariants as line
 use Rattle.gr_know.specs.Values.{Known}
 use Rattle.gr_model.specs.Net.{Net, is_host, keeps_horizon, numbers, not_empty}
 use Rattle.gr_model.specs.Broker.{View, Log, Outcome, empty_log, is_kept, told, got_line, learn, publish, marking, cutting, wake, wake_host, wake_below, asking, curiosity, expect, receive, clashes, place_of, silence, with_event, with_mark, max_tick}
-use Rattle.gr_model.specs.World.{World, Told, view_of, log_of, absorbed, unchanged, after, in_turn, sent_line, sent_lines, wake_for, wake_all, deliver_frame, frame_at, publish_now, restarted, crash, publish_stopped, sweep_for, sweep, sweep_moment, next, show, opened_lines, kept_events}
+use Rattle.gr_model.specs.World.{World, Told, view_of, log_of, absorbed, unchanged, after, in_turn, sent_line, sent_lines, wake_for, wake_all, deliver_frame, frame_at, publish_now, restarted, crash, publish_stopped, sweep_for, sweep, sweep_moment, next, show, opened_lines, kept_events, deliver_frame_by, next_by, publish_now_by, publish_stopped_by, sweep_by, wake_for_by}
 use Rattle.gr_frame.specs.Bytes.{frame_bytes}
 use Rattle.gr_model.specs.Tree.{IsNet, IsSubscriber}
 use Rattle.gr_model.specs.Fits.{WorldFits, StepIn}
@@ -70,9 +70,9 @@ told_named : (net : Net) (p h h' s : ℕ) (items : List (ℕ × Event)) → IsSu
 unfolding told
 told_named net p h h' s items y j = go (nat_eq h h')
   where
-    go : (c : Bool) → Named net Never (if c then [] else map (got_line s p) (filter (λ x. net.wants s x.1) items) ++ line.Horizon s p h' ∷ [])
+    go : (c : Bool) → Named net Never (if c then [] else map (got_line s p) (filter (λ x. net.wants p s x.0 x.1) items) ++ line.Horizon s p h' ∷ [])
     go true = tt
-    go false = Named-append net Never (map (got_line s p) (filter (λ x. net.wants s x.1) items)) (line.Horizon s p h' ∷ []) (got_named net s p (filter (λ x. net.wants s x.1) items)) ((y, j), tt)
+    go false = Named-append net Never (map (got_line s p) (filter (λ x. net.wants p s x.0 x.1) items)) (line.Horizon s p h' ∷ []) (got_named net s p (filter (λ x. net.wants p s x.0 x.1) items)) ((y, j), tt)
 
 learn_named : (net : Net) (p b : ℕ) (piece : Known) (v : View) (log : Log) → IsNet net → b < net.brokers → p < net.publishers → Named net Never (learn net p b piece v log).lines
 unfolding learn
@@ -154,15 +154,15 @@ unfolding absorbed
 absorbed_named net w b p o a = Named-append net Never o.lines (sent_lines (suc (length w.frames)) o.frames) a (sent_named net (suc (length w.frames)) o.frames)
 
 wake_for_named : (net : Net) (w : World) (b p : ℕ) → IsNet net → b < net.brokers → p < net.publishers → Named net Never (wake_for net w b p).lines
-unfolding wake_for
+unfolding wake_for_by
 wake_for_named net w b p n i j = absorbed_named net w b p (wake net p b w.clock (view_of w b p) (log_of w p)) (wake_named net p b w.clock (view_of w b p) (log_of w p) n i j)
 
 pub deliver_named : (net : Net) (w : World) (x : Frame) → IsNet net → x.head.to < net.brokers → x.head.publisher < net.publishers → Named net Never (deliver_frame net w x).lines
-unfolding deliver_frame
+unfolding deliver_frame_by
 deliver_named net w x n i j = absorbed_named net w x.head.to x.head.publisher (receive net w.clock x (view_of w x.head.to x.head.publisher) (log_of w x.head.publisher)) (receive_named net w.clock x (view_of w x.head.to x.head.publisher) (log_of w x.head.publisher) n i j)
 
 publish_now_named : (net : Net) (w : World) (p number : ℕ) (e : Event) → IsNet net → p < net.publishers → Named net Never (publish_now net w p number e).lines
-unfolding publish_now
+unfolding publish_now_by
 publish_now_named net w p number e n j = absorbed_named net w (net.host p) p (publish net p (net.host p) w.clock number e (view_of w (net.host p) p) (log_of w p)) (publish_named net p (net.host p) w.clock number e (view_of w (net.host p) p) (log_of w p) n (n.host_in p j) j)
 
 named_chain : (net : Net) → IsNet net → Chains net (λ w t. Named net Never t.lines)
@@ -193,7 +193,7 @@ unfolding crash
 crash_named net w b = opened_named net w.logs b
 
 stopped_named : (net : Net) (w : World) (k p number : ℕ) (stop : Stop) (e : Event) → IsNet net → p < net.publishers → Named net Never (publish_stopped net w k p number stop e).lines
-unfolding publish_stopped
+unfolding publish_stopped_by
 stopped_named net w k p number stop e n j = go (not_empty (net.subscribers_at (net.host p))) (nat_eq number (suc log.last) && nat_le tick max_tick) (is_kept log.gate stop.call stop.pick)
   where
     log : Log
@@ -217,7 +217,7 @@ stopped_named net w k p number stop e n j = go (not_empty (net.subscribers_at (n
     go false true false = opened_named net w.logs (net.host p)
 
 sweep_named : (net : Net) (w : World) (k : ℕ) → IsNet net → WorldFits net w → Named net Never (sweep net w k).lines
-unfolding sweep
+unfolding sweep_by
 sweep_named net w k n f = go (nat_lt max_tick m)
   where
     m : ℕ
@@ -274,7 +274,7 @@ never : (net : Net) (w : World) (ls : List Report) → Named net Never ls → Na
 never net w ls a = Named-map net Never (IsShown net w) ls (λ b p t x. absurd x) a
 
 named_by : (net : Net) (w : World) (k : ℕ) (s : Step) → IsNet net → WorldFits net w → StepIn net s → Named net (IsShown net w) (next net w (record { number = k; step = s })).lines
-unfolding next
+unfolding next_by
 named_by net w k (step.Clock now) n f i = tt
 named_by net w k (step.Publish p number None e) n f i = never net w (publish_now net w p number e).lines (publish_now_named net w p number e n i)
 named_by net w k (step.Publish p number (Some s) e) n f i = never net w (publish_stopped net w k p number s e).lines (stopped_named net w k p number s e n i)

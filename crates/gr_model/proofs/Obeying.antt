@@ -15,7 +15,7 @@ use Rattle.gr_frame.specs.Bytes.{frame_bytes}
 use Rattle.gr_model.specs.Net.{Net, keeps_horizon, not_empty, numbers}
 use Rattle.gr_model.specs.Rules.{Publishes, Wakes, Comes}
 use Rattle.gr_model.specs.Broker.{View, Log, Outcome, started, with_event, is_kept, max_tick, publish, wake, receive}
-use Rattle.gr_model.specs.World.{absorbed, World, Told, is_want, inwards, outwards, view_of, log_of, unchanged, in_turn, wake_for, wake_all, deliver_frame, frame_at, publish_now, opened_lines, restarted, crash, publish_stopped, sweep, sweep_moment, kept_events, show, next, start, run_from, report_of}
+use Rattle.gr_model.specs.World.{absorbed, World, Told, is_want, inwards, outwards, view_of, log_of, unchanged, in_turn, wake_for, wake_all, deliver_frame, frame_at, publish_now, opened_lines, restarted, crash, publish_stopped, sweep, sweep_moment, kept_events, show, next, start, run_from, report_of, deliver_frame_by, next_by, publish_now_by, publish_stopped_by, report_of_by, run_from_by, sweep_by, wake_all_by, wake_for_by}
 use Rattle.gr_model.specs.Tree.{IsNet}
 use Rattle.gr_model.specs.Fits.{WorldFits, StepIn, StepsIn, reached_in}
 use Rattle.gr_model.specs.Headline.{says_kept}
@@ -44,13 +44,13 @@ put_in net w a b p Rule o r e = record {
 }
 
 wake_obeys : (net : Net) (w : World) (b p : ℕ) → IsNet net → 1 ≤ net.quiet → WorldFits net w → b < net.brokers → p < net.publishers → CallObeys net w (makes (wakes b p))
-unfolding wake_for
+unfolding wake_for_by
 wake_obeys net w b p n quiet f i j =
     put_in net w (makes (wakes b p)) b p (Wakes net p b w.clock) (wake net p b w.clock (view_of w b p) (log_of w p))
     (wakes_rule net p b w.clock (view_of w b p) (log_of w p) (reached_in net w p) n quiet j i (f.logs p j) (f.views p b j i)) refl
 
 delivery_obeys : (net : Net) (w : World) (k : ℕ) (x : Frame) → IsNet net → WorldFits net w → frame_at w k ≡ Some x → CallObeys net w (makes (delivers k))
-unfolding deliver_frame
+unfolding deliver_frame_by
 delivery_obeys net w k x n f e =
     let t = frame_at_true net w k x f e in
     let p = x.head.publisher in (
@@ -61,7 +61,7 @@ delivery_obeys net w k x n f e =
     )
 
 publish_obeys : (net : Net) (w : World) (p number : ℕ) (e : Event) → IsNet net → WorldFits net w → p < net.publishers → CallObeys net w (publishes p number e)
-unfolding publish_now
+unfolding publish_now_by
 publish_obeys net w p number e n f j =
     let i = n.host_in p j in
     put_in net w (publishes p number e) (net.host p) p (Publishes net p (net.host p) w.clock number e) (publish net p (net.host p) w.clock number e (view_of w (net.host p) p) (log_of w p))
@@ -239,7 +239,7 @@ crash_parts net w u b ls f v g o = record {
 
 stopped_parts : (net : Net) (w : World) (k p number : ℕ) (stop : Stop) (e : Event) → IsNet net → WorldFits net w → p < net.publishers →
     Parts net w (publish_stopped net w k p number stop e) (if not_empty (net.subscribers_at (net.host p)) || is_next_of w p number then [] else publishes p number e ∷ []) w
-unfolding publish_stopped
+unfolding publish_stopped_by
 stopped_parts net w k p number stop e n f j = go (not_empty (net.subscribers_at (net.host p))) (is_next_of w p number)
   where
     b : ℕ
@@ -287,14 +287,14 @@ deliver_parts net w number k n f = go (frame_at w k) refl
     go (Some x) e = calls_alone net (deliver_frame net w x) (makes (delivers k) ∷ []) w (delivery_obeys net w k x n f e, tt) (sym (made_is net w k x e) ∙ one_done net w (makes (delivers k)))
 
 sweep_parts : (net : Net) (w : World) (number : ℕ) → IsNet net → 1 ≤ net.quiet → WorldFits net w → Parts net w (sweep net w number) (if is_accepted net w then map makes (sweep_calls net w) else []) (if is_accepted net w then at_sweep net w else w)
-unfolding sweep
+unfolding sweep_by
 sweep_parts net w number n quiet f = go (is_accepted net w) refl
   where
     m : ℕ
     m = sweep_moment net w
 
     refused : nat_le m max_tick ≡ false → sweep net w number ≡ unchanged w (line.RefusedClock number m ∷ [])
-    refused e = rw (sweep, lt-ltb max_tick m (leb-false m max_tick e)) refl
+    refused e = rw (sweep_by, lt-ltb max_tick m (leb-false m max_tick e)) refl
 
     go : (q : Bool) → is_accepted net w ≡ q → Parts net w (sweep net w number) (if q then map makes (sweep_calls net w) else []) (if q then at_sweep net w else w)
     go false e = subst (λ (t : Told). Parts net w t [] w) (sym (refused e)) (no_calls net w (unchanged w (line.RefusedClock number m ∷ [])) refl refl refl refl refl)
@@ -356,7 +356,7 @@ abbrev called_at : Net → World → Step → World
 called_at net w s = elim s [ step.Sweep ↦ if is_accepted net w then at_sweep net w else w | _ ↦ w ]
 
 step_parts : (net : Net) (w : World) (number : ℕ) (s : Step) → IsNet net → 1 ≤ net.quiet → WorldFits net w → StepIn net s → Parts net w (told_at net w number s) (calls_at net w s) (called_at net w s)
-unfolding wake_all
+unfolding wake_all_by
 step_parts net w number (step.Clock now) n quiet f i = no_calls net w (unchanged (record { clock = now; most = max now w.most; frames = w.frames; views = w.views; logs = w.logs }) []) refl refl refl refl refl
 step_parts net w number (step.Publish p k None e) n quiet f i = publish_parts net w p k e n f i
 step_parts net w number (step.Publish p k (Some stop) e) n quiet f i = stopped_parts net w number p k stop e n f i
@@ -368,15 +368,15 @@ step_parts net w number step.Show n quiet f i = no_calls net w (unchanged w (sho
 step_parts net w number (step.Bytes k) n quiet f i = bytes_parts net w number k
 
 next_obeys : (net : Net) (w : World) (l : Line) → IsNet net → 1 ≤ net.quiet → WorldFits net w → StepIn net l.step → StepObeys net w l (next net w l).lines
-unfolding next calls_of called_in
+unfolding next_by calls_of called_in
 next_obeys net w l n quiet f i = let x = step_parts net w l.number l.step n quiet f i in record { obey = x.obey; own = x.own; lines = x.lines; own_only = x.own_only; frames = x.frames; views = x.views; restarts = x.restarts; logs = x.logs }
 
 pub steps_obey : (net : Net) (w : World) (ls : List Line) → IsNet net → 1 ≤ net.quiet → WorldFits net w → StepsIn net ls → StepsObey net w ls (run_from net w ls)
-unfolding run_from
+unfolding run_from_by
 steps_obey net w [] n quiet f i = tt
 steps_obey net w (l ∷ ls) n quiet f i = (next_obeys net w l n quiet f i.0, steps_obey net (next net w l).world ls n quiet (next_kept net w l n f i.0).fits i.1)
 
 -- over every schedule the calls of each step obey their rules
 pub always_obeys : (net : Net) (steps : List Line) → IsNet net → 1 ≤ net.quiet → StepsIn net steps → CallsObey net steps (report_of net steps)
-unfolding report_of
+unfolding report_of_by
 always_obeys net steps n quiet i = (refl, steps_obey net (start net) steps n quiet (start_fits net n) i)

@@ -13,7 +13,7 @@ use Rattle.gr_model.specs.declared.report.Report.TheVariants as line
 use Rattle.gr_model.specs.Net.{Net, is_host, keeps_horizon, not_empty, numbers, numbers_from}
 use Rattle.gr_model.specs.Broker.{View, Log, data_ticks, got_line, told, learn, started}
 use Rattle.gr_model.specs.World.{World, Told, view_of, log_of, absorbed, unchanged, in_turn, sent_lines}
-use Rattle.gr_model.specs.Opening.{AreFound, over_logs, found_line, opened_for, publishers_at, opening, got_at_once, told_at_opening}
+use Rattle.gr_model.specs.Opening.{AreFound, over_logs, found_line, opened_for, publishers_at, opening, got_at_once, told_at_opening, opened_for_by, opening_by}
 use Rattle.gr_model.specs.Said.{due_upto, due_between}
 use Rattle.gr_model.specs.Truth.{Facts, KnowsTruth}
 use Rattle.gr_model.specs.Tree.{IsNet, IsDistinct}
@@ -32,7 +32,7 @@ abbrev AreFresh : Net → World → List ℕ → Type 0
 AreFresh net w ps = AllByRecursion (λ q. (view_of w (net.host q) q).horizon ≡ 0) ps
 
 -- what one subscriber is told where the horizon moves from 0
-told_at : (net : Net) (p s h : ℕ) (items events : List (ℕ × Event)) → filter (λ x. net.wants s x.1) items ≡ due_upto net s h events → told net p 0 h items s ≡ (if nat_lt 0 h then map (got_line s p) (due_upto net s h events) ++ line.Horizon s p h ∷ [] else [])
+told_at : (net : Net) (p s h : ℕ) (items events : List (ℕ × Event)) → filter (λ x. net.wants p s x.0 x.1) items ≡ due_upto net p s h events → told net p 0 h items s ≡ (if nat_lt 0 h then map (got_line s p) (due_upto net p s h events) ++ line.Horizon s p h ∷ [] else [])
 unfolding told
 told_at net p s h items events e =
     elim (cases_eq 0 h) [
@@ -78,11 +78,11 @@ learned_lines net w p n f j some zero_ = go (net.subscribers_at b) (λ s m. m)
 
     one : (s : ℕ) → list_any (λ x. nat_eq x s) (net.subscribers_at b) ≡ true → told net p v.horizon h (data_ticks v.horizon h know) s ≡ got_at_once net log p s
     one s m =
-        let due : filter (λ x. net.wants s x.1) (data_ticks v.horizon h know) ≡ due_between net s v.horizon h log.events = told_is_due net facts_now p b s v.horizon h know log.events t moves.known (n.here_below p b s j i m) (exact_at net w b p n i s m) (f.logs p j).rise (λ u. refl) in
-        let upto : due_upto net s h log.events ≡ due_between net s 0 h log.events = due_upto_past net s 0 h 0 log.events (le_refl 0) (f.logs p j).rise in
-        let same : filter (λ x. net.wants s x.1) (data_ticks v.horizon h know) ≡ due_upto net s h log.events = due ∙ (ap (λ lo. due_between net s lo h log.events) zero_ ∙ sym upto) in
+        let due : filter (λ x. net.wants p s x.0 x.1) (data_ticks v.horizon h know) ≡ due_between net p s v.horizon h log.events = told_is_due net facts_now p b s v.horizon h know log.events t moves.known (n.here_below p b s j i m) (exact_at net w b p n i s m) (f.logs p j).rise (λ u. refl) in
+        let upto : due_upto net p s h log.events ≡ due_between net p s 0 h log.events = due_upto_past net p s 0 h 0 log.events (le_refl 0) (f.logs p j).rise in
+        let same : filter (λ x. net.wants p s x.0 x.1) (data_ticks v.horizon h know) ≡ due_upto net p s h log.events = due ∙ (ap (λ lo. due_between net p s lo h log.events) zero_ ∙ sym upto) in
         ap (λ lo. told net p lo h (data_ticks v.horizon h know) s) zero_ ∙ (told_at net p s h (data_ticks v.horizon h know) log.events same
-        ∙ ap (λ m. if nat_lt 0 m then map (got_line s p) (due_upto net s m log.events) ++ line.Horizon s p m ∷ [] else []) settled)
+        ∙ ap (λ m. if nat_lt 0 m then map (got_line s p) (due_upto net p s m log.events) ++ line.Horizon s p m ∷ [] else []) settled)
 
     go : (xs : List ℕ) → ((s : ℕ) → list_any (λ x. nat_eq x s) xs ≡ true → list_any (λ x. nat_eq x s) (net.subscribers_at b) ≡ true) → flat_map (told net p v.horizon h (data_ticks v.horizon h know)) xs ≡ flat_map (got_at_once net log p) xs
     go [] m = refl
@@ -90,7 +90,7 @@ learned_lines net w p n f j some zero_ = go (net.subscribers_at b) (λ s m. m)
 
 -- the lines of a publisher's turn
 turn_lines : (net : Net) (logs : List Log) (w : World) (ls : List Report) (p : ℕ) → IsNet net → p < net.publishers → Opening net logs w ls → (view_of w (net.host p) p).horizon ≡ 0 → (opened_for net w p).lines ≡ told_at_opening net logs p
-unfolding opened_for absorbed
+unfolding opened_for_by absorbed
 turn_lines net logs w ls p n j o fresh =
     subst (λ (log : Log). (opened_for net w p).lines ≡ found_line log p ++ flat_map (got_at_once net log p) (net.subscribers_at b)) (opened_logs net logs w ls p j o)
     (ap (λ (z : List Report). found_line (log_of w p) p ++ z) (go (not_empty (net.subscribers_at b)) refl))
@@ -108,7 +108,7 @@ turn_lines net logs w ls p n j o fresh =
 
 -- a turn leaves the others as they are
 turn_keeps_view : (net : Net) (w : World) (p q : ℕ) → IsNet net → WorldFits net w → p < net.publishers → q ≢ p → (view_of (opened_for net w p).world (net.host q) q).horizon ≡ (view_of w (net.host q) q).horizon
-unfolding opened_for
+unfolding opened_for_by
 turn_keeps_view net w p q n f j e = go (not_empty (net.subscribers_at (net.host p)))
   where
     go : (c : Bool) → (let t : Told = elim c [ true ↦ absorbed w (net.host p) p (learn net p (net.host p) [] (view_of w (net.host p) p) (log_of w p)) | false ↦ unchanged w [] ] in (view_of t.world (net.host q) q).horizon) ≡ (view_of w (net.host q) q).horizon
@@ -180,7 +180,7 @@ all_fresh net logs (p ∷ ps) n a = (ap (λ (v : View). v.horizon) (over_view ne
 
 -- what the opening tells, and that it sends nothing
 pub opened_tells : (net : Net) (logs : List Log) → IsNet net → AreFound net logs → (all_opened net logs).lines ≡ flat_map (told_at_opening net logs) (publishers_at net (numbers net.brokers))
-unfolding opening
+unfolding opening_by
 opened_tells net logs n a =
     let ps = publishers_at net (numbers net.brokers) in
     let below = publishers_below net (numbers net.brokers) in

@@ -19,8 +19,8 @@ use Rattle.gr_model.specs.declared.report.Report.{Report}
 use Rattle.gr_model.specs.declared.report.Report.TheVariants as line
 use Rattle.gr_model.specs.Net.{Net, keeps_horizon, not_empty, is_empty, numbers}
 use Rattle.gr_model.specs.Broker.{View, Log, Outcome, empty_log, head, learn, receive, clashes, new_ticks, forward, forward_frames, know_frames, started}
-use Rattle.gr_model.specs.World.{World, Told, blank_view, view_of, log_of, absorbed, unchanged, in_turn, deliver_frame, sent_lines}
-use Rattle.gr_model.specs.Opening.{IsFound, found_log, AreFound, over_logs, found_line, opened_for}
+use Rattle.gr_model.specs.World.{World, Told, blank_view, view_of, log_of, absorbed, unchanged, in_turn, deliver_frame, sent_lines, deliver_frame_by}
+use Rattle.gr_model.specs.Opening.{IsFound, found_log, AreFound, over_logs, found_line, opened_for, opened_for_by}
 use Rattle.gr_model.specs.Truth.{Facts, KnowsTruth, AllWantTruth}
 use Rattle.gr_model.specs.Said.{TicksRise, due_upto}
 use Rattle.gr_model.specs.Tree.{IsNet, IsSubscriber}
@@ -60,7 +60,7 @@ abbrev learns : Net → World → ℕ → Outcome
 learns net w p = learn net p (net.host p) [] (view_of w (net.host p) p) (log_of w p)
 
 pub delivered_nothing : (net : Net) (w : World) (p : ℕ) → IsNet net → WorldFits net w → p < net.publishers → deliver_frame net w (nothing net p) ≡ absorbed w (net.host p) p (learns net w p)
-unfolding deliver_frame receive
+unfolding deliver_frame_by receive
 delivered_nothing net w p n f j = go (clashes v.know []) refl
   where
     b : ℕ
@@ -200,7 +200,7 @@ found_line_named net false p last settled cut = tt
 
 -- one publisher more
 pub opening_turn : (net : Net) (logs : List Log) (w : World) (ls : List Report) (p : ℕ) → IsNet net → p < net.publishers → Opening net logs w ls → Opening net logs (opened_for net w p).world (ls ++ (opened_for net w p).lines)
-unfolding opened_for
+unfolding opened_for_by
 opening_turn net logs w ls p n j o = go (not_empty (net.subscribers_at (net.host p))) refl
   where
     front : List Report
@@ -244,7 +244,7 @@ learned_meets net w p n f j some =
     le_antisymm (g.views p b j i).horizon.settled (subst (λ v. (log_of u p).settled ≤ v.horizon) (sym c.view) far)
 
 turn_meets : (net : Net) (w : World) (p : ℕ) → IsNet net → WorldFits net w → p < net.publishers → not_empty (net.subscribers_at (net.host p)) ≡ true → MeetsAt net (opened_for net w p).world p
-unfolding opened_for
+unfolding opened_for_by
 turn_meets net w p n f j some = go (not_empty (net.subscribers_at (net.host p))) some
   where
     go : (q : Bool) → q ≡ true → (let t : Told = elim q [ true ↦ absorbed w (net.host p) p (learns net w p) | false ↦ unchanged w [] ] in MeetsAt net t.world p)
@@ -252,7 +252,7 @@ turn_meets net w p n f j some = go (not_empty (net.subscribers_at (net.host p)))
     go false e = absurd (false≢true e)
 
 turn_stays : (net : Net) (w : World) (p q : ℕ) → IsNet net → WorldFits net w → p < net.publishers → q ≢ p → MeetsAt net w q → MeetsAt net (opened_for net w p).world q
-unfolding opened_for
+unfolding opened_for_by
 turn_stays net w p q n f j e m = go (not_empty (net.subscribers_at (net.host p)))
   where
     go : (c : Bool) → (let t : Told = elim c [ true ↦ absorbed w (net.host p) p (learns net w p) | false ↦ unchanged w [] ] in MeetsAt net t.world q)
@@ -323,7 +323,7 @@ over_shape net logs =
 found_cut : (net : Net) (log : Log) (reached : ℕ → ℕ) (p b : ℕ) → IsFound log → CutTrue net (facts log reached) p b log.cut
 found_cut net log reached p b f t y z = record {
   settled = le_trans z f.fits.cut;
-  told = λ s m c. absurd (false≢true (sym (ap (λ (o : Option Event). elim o [ None ↦ false | Some e ↦ net.wants s e ]) (f.past_cut t z)) ∙ c));
+  told = λ s m c. absurd (false≢true (sym (ap (λ (o : Option Event). elim o [ None ↦ false | Some e ↦ net.wants p s t e ]) (f.past_cut t z)) ∙ c));
 }
 
 over_fits : (net : Net) (logs : List Log) → IsNet net → AreFound net logs → WorldFits net (over_logs net logs)
@@ -342,9 +342,9 @@ over_fits net logs n a =
       frames = subst (λ z. AllFramesTrue net w z) (sym s.frames) tt;
     }
 
-nothing_due : (net : Net) (s from : ℕ) (events : List (ℕ × Event)) → TicksRise from events → due_upto net s 0 events ≡ []
-nothing_due net s from [] r = refl
-nothing_due net s from (x ∷ xs) r = ap (λ c. if c && net.wants s x.1 then x ∷ due_upto net s 0 xs else due_upto net s 0 xs) (lt-leb x.0 0 (omega (arith, r.0))) ∙ nothing_due net s x.0 xs r.1
+nothing_due : (net : Net) (p s from : ℕ) (events : List (ℕ × Event)) → TicksRise from events → due_upto net p s 0 events ≡ []
+nothing_due net p s from [] r = refl
+nothing_due net p s from (x ∷ xs) r = ap (λ c. if c && net.wants p s x.0 x.1 then x ∷ due_upto net p s 0 xs else due_upto net p s 0 xs) (lt-leb x.0 0 (omega (arith, r.0))) ∙ nothing_due net p s x.0 xs r.1
 
 over_reached : (net : Net) (logs : List Log) (p s : ℕ) → p < net.publishers → IsSubscriber net s → reached_in net (over_logs net logs) p s ≡ 0
 unfolding started
@@ -352,7 +352,7 @@ over_reached net logs p s j y = reached_here net (over_logs net logs) p s y ∙ 
 
 over_lines : (net : Net) (logs : List Log) → AreFound net logs → LinesFit net (over_logs net logs) []
 over_lines net logs a = record {
-  got = λ p s j y. sym (ap₂ (λ h l. due_upto net s h l.events) (over_reached net logs p s j y) (over_log net logs p j) ∙ nothing_due net s 0 (found_log logs p).events (a p).fits.rise);
+  got = λ p s j y. sym (ap₂ (λ h l. due_upto net p s h l.events) (over_reached net logs p s j y) (over_log net logs p j) ∙ nothing_due net p s 0 (found_log logs p).events (a p).fits.rise);
   horizon = λ p s j y. sym (over_reached net logs p s j y);
   rise = λ p s j y. tt;
 }

@@ -13,7 +13,7 @@ use Rattle.gr_model.specs.declared.report.Report.{Report}
 use Rattle.gr_model.specs.declared.report.Report.TheVariants as line
 use Rattle.gr_model.specs.Net.{Net, not_empty, numbers, keeps_horizon}
 use Rattle.gr_model.specs.Broker.{Log, empty_log, with_event, is_kept, max_tick, wake, receive, publish}
-use Rattle.gr_model.specs.World.{World, Told, blank_view, view_of, log_of, unchanged, after, in_turn, wake_for, wake_all, deliver_frame, frame_at, publish_now, restarted, crash, publish_stopped, sweep_for, sweep, sweep_moment, next, show, opened_lines, kept_events, run_all}
+use Rattle.gr_model.specs.World.{World, Told, blank_view, view_of, log_of, unchanged, after, in_turn, wake_for, wake_all, deliver_frame, frame_at, publish_now, restarted, crash, publish_stopped, sweep_for, sweep, sweep_moment, next, show, opened_lines, kept_events, run_all, deliver_frame_by, next_by, publish_now_by, publish_stopped_by, sweep_by, wake_for_by}
 use Rattle.gr_frame.specs.Bytes.{frame_bytes}
 use Rattle.gr_model.specs.Truth.{IsLater}
 use Rattle.gr_model.specs.Fits.{facts_of, reached_in, WorldFits, LinesFit, FrameTrue, StepIn, StepsIn}
@@ -36,15 +36,15 @@ orders_after : (net : Net) (w : World) (t : Told) (f : World → Told) → Kept 
 orders_after net w t f k a b found ls l o = subst (λ z. Ordered net found (f t.world).world z) (append_assoc ls t.lines (f t.world).lines) (b found (ls ++ t.lines) (k.lines ls l) (a found ls l o))
 
 wake_for_orders : (net : Net) (w : World) (b p : ℕ) → IsNet net → WorldFits net w → b < net.brokers → p < net.publishers → Kept net w (wake_for net w b p) → ((m : HostsMeet net w) → HostsMeet net (wake_for net w b p).world) → Orders net w (wake_for net w b p)
-unfolding wake_for
+unfolding wake_for_by
 wake_for_orders net w b p n f i j k m found ls l o = absorbed_ordered net found w b p (wake net p b w.clock (view_of w b p) (log_of w p)) ls n f i j (wake_cuts net p b w.clock (view_of w b p) (log_of w p)) k (m o.meets) l o
 
 deliver_orders : (net : Net) (w : World) (x : Frame) → IsNet net → WorldFits net w → FrameTrue net w x → Kept net w (deliver_frame net w x) → ((m : HostsMeet net w) → HostsMeet net (deliver_frame net w x).world) → Orders net w (deliver_frame net w x)
-unfolding deliver_frame
+unfolding deliver_frame_by
 deliver_orders net w x n f t k m found ls l o = absorbed_ordered net found w x.head.to x.head.publisher (receive net w.clock x (view_of w x.head.to x.head.publisher) (log_of w x.head.publisher)) ls n f t.fits.to_in t.publisher_in (receive_cuts net w.clock x (view_of w x.head.to x.head.publisher) (log_of w x.head.publisher)) k (m o.meets) l o
 
 publish_orders : (net : Net) (w : World) (p number : ℕ) (e : Event) → IsNet net → WorldFits net w → p < net.publishers → Kept net w (publish_now net w p number e) → ((m : HostsMeet net w) → HostsMeet net (publish_now net w p number e).world) → Orders net w (publish_now net w p number e)
-unfolding publish_now
+unfolding publish_now_by
 publish_orders net w p number e n f j k m found ls l o = absorbed_ordered net found w (net.host p) p (publish net p (net.host p) w.clock number e (view_of w (net.host p) p) (log_of w p)) ls n f (n.host_in p j) j (publish_cuts net p (net.host p) w.clock number e (view_of w (net.host p) p) (log_of w p)) k (m o.meets) l o
 
 publishing_orders : (net : Net) (w : World) (p number : ℕ) (e : Event) → IsNet net → WorldFits net w → p < net.publishers → Orders net w (publish_now net w p number e)
@@ -98,7 +98,7 @@ unfolding crash
 crash_orders net w b no_one k found ls l o = ordered_free net found w (restarted net w b) ls (line.Crashed b ∷ opened_lines net w.logs b) k.later (restart_meets net w (restarted net w b) b no_one (λ q e. restarted_other net w b (net.host q) q e) (λ q e. restarted_log net w b q) o.meets) (λ q j. opened_free net w.logs b q) (λ q j. ap (λ z. z.cut) (restarted_log net w b q)) o
 
 stopped_orders : (net : Net) (w : World) (k p number : ℕ) (stop : Stop) (e : Event) → IsNet net → WorldFits net w → p < net.publishers → Kept net w (publish_stopped net w k p number stop e) → Orders net w (publish_stopped net w k p number stop e)
-unfolding publish_stopped
+unfolding publish_stopped_by
 stopped_orders net w k p number stop e n f j = host_at (not_empty (net.subscribers_at (net.host p))) refl
   where
     log : Log
@@ -156,7 +156,7 @@ clocked_orders net w clock most t k found ls l o =
     (record { meets = o.meets; last = o.last; each = λ q j. CutsHave-map (CutFits net found w q) (CutFits net found (clocked w clock most) q) q [] ls (λ t xs c. CutFits-later net found w (clocked w clock most) q t xs (clocked_later net w clock most q) c) (o.each q j) })
 
 pub sweep_orders : (net : Net) (w : World) (k : ℕ) → IsNet net → WorldFits net w → Orders net w (sweep net w k)
-unfolding sweep
+unfolding sweep_by
 sweep_orders net w k n f = go (nat_lt max_tick m)
   where
     m : ℕ
@@ -202,7 +202,7 @@ show_free net w q = CutFree-append q (map log_line (numbers net.publishers)) (fl
     brokers (b ∷ bs) = CutFree-append q (there b) (flat_map there bs) (row b (numbers net.publishers)) (brokers bs)
 
 pub next_orders : (net : Net) (w : World) (l : Line) → IsNet net → WorldFits net w → StepIn net l.step → Orders net w (next net w l)
-unfolding next
+unfolding next_by
 next_orders net w l n f i = go l.step i
   where
     delivered : (k : ℕ) (o : Option Frame) → frame_at w k ≡ o → Orders net w (elim o [ None ↦ unchanged w (line.RefusedFrame l.number k (length w.frames) ∷ []) | Some x ↦ deliver_frame net w x ])

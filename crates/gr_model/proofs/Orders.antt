@@ -25,7 +25,7 @@ use Rattle.gr_model.proofs.Cutlines.{CutsHave, CutFree, last_cut-append, CutFree
 pub record CutFits (net : Net) (found : ℕ → ℕ) (w : World) (q t : ℕ) (before : List Report) : Type 0 where
   pub rise : last_cut q (found q) before < t
   pub settled : t ≤ (log_of w q).settled
-  pub told : (s u : ℕ) (e : Event) → IsSubscriber net s → u ≤ t → said_at (log_of w q).events u ≡ Some e → net.wants s e ≡ true → said_at (gots s q before) u ≡ Some e
+  pub told : (s u : ℕ) (e : Event) → IsSubscriber net s → u ≤ t → said_at (log_of w q).events u ≡ Some e → net.wants q s u e ≡ true → said_at (gots s q before) u ≡ Some e
 
 pub record Ordered (net : Net) (found : ℕ → ℕ) (w : World) (ls : List Report) : Type 0 where
   pub meets : HostsMeet net w
@@ -62,12 +62,12 @@ has_one [] s e = absurd (false≢true e)
 has_one (x ∷ xs) s e = refl
 
 -- what a new cut lets go was told before the call
-cut_told_before : (net : Net) (w u : World) (b p s a : ℕ) (o : Outcome) (e : Event) (ls : List Report) → IsNet net → WorldFits net w → WorldFits net u → HostsMeet net w → b < net.brokers → p < net.publishers → Changed net w u b p o → NewCut net p b (log_of w p) o → LinesFit net w ls → IsSubscriber net s → a ≤ o.log.cut → said_at (log_of u p).events a ≡ Some e → net.wants s e ≡ true → said_at (gots s p ls) a ≡ Some e
+cut_told_before : (net : Net) (w u : World) (b p s a : ℕ) (o : Outcome) (e : Event) (ls : List Report) → IsNet net → WorldFits net w → WorldFits net u → HostsMeet net w → b < net.brokers → p < net.publishers → Changed net w u b p o → NewCut net p b (log_of w p) o → LinesFit net w ls → IsSubscriber net s → a ≤ o.log.cut → said_at (log_of u p).events a ≡ Some e → net.wants p s a e ≡ true → said_at (gots s p ls) a ≡ Some e
 cut_told_before net w u b p s a o e ls n f g m i j c k l y h said wants =
     let same : (log_of u p).events ≡ (log_of w p).events = ap (λ z. z.events) c.log ∙ k.events in
     let was : said_at (log_of w p).events a ≡ Some e = ap (λ z. said_at z a) (sym same) ∙ said in
     let t = g.cuts p j a (first was) (subst (λ z. a ≤ z.cut) (sym c.log) h) in
-    let r : a ≤ reached_in net u p s = t.told s (n.all_below p s j y.at_in y.here) (concerns_at net (facts_of net u p) s a e said ∙ wants) in
+    let r : a ≤ reached_in net u p s = t.told s (n.all_below p s j y.at_in y.here) (concerns_at net (facts_of net u p) p s a e said ∙ wants) in
     let r' : a ≤ reached_in net w p s = elim (cases_eq (net.at s) b) [
       | inl x ↦
           let z : list_any (λ v. nat_eq v s) (net.subscribers_at b) ≡ true = subst (λ v. list_any (λ v. nat_eq v s) (net.subscribers_at v) ≡ true) x y.here in
@@ -76,7 +76,7 @@ cut_told_before net w u b p s a o e ls n f g m i j c k l y h said wants =
           subst (λ v. a ≤ v) (sym (exact_at net w b p n i s z ∙ mm)) (said_settled (log_of w p) a e (f.logs p j) was)
       | inr x ↦ subst (λ v. a ≤ v) (reached_here net u p s y ∙ (ap (λ v. v.horizon) (c.other_broker (net.at s) p x) ∙ sym (reached_here net w p s y))) r
     ] in
-    ap (λ z. said_at z a) (l.got p s j y) ∙ (said_at-filter (λ x. nat_le x.0 (reached_in net w p s) && net.wants s x.1) 0 (log_of w p).events a (f.logs p j).rise ∙ (rw was (rw (le-leb a (reached_in net w p s) r', wants) refl)))
+    ap (λ z. said_at z a) (l.got p s j y) ∙ (said_at-filter (λ x. nat_le x.0 (reached_in net w p s) && net.wants p s x.0 x.1) 0 (log_of w p).events a (f.logs p j).rise ∙ (rw was (rw (le-leb a (reached_in net w p s) r', wants) refl)))
   where
     some_none : (v : Event) → Some v ≡ None → ⊥
     some_none v q = cc

@@ -9,7 +9,7 @@ use Rattle.gr_model.specs.declared.report.Report.{Report}
 use Rattle.gr_model.specs.Net.{Net, is_host, not_empty, numbers}
 use Rattle.gr_model.specs.Broker.{Log}
 use Rattle.gr_model.specs.World.{Told, view_of, log_of, sent_lines, run_from}
-use Rattle.gr_model.specs.Opening.{found_log, AreFound, over_logs, publishers_at, opening, recorded_of, begin_over}
+use Rattle.gr_model.specs.Opening.{found_log, AreFound, over_logs, publishers_at, opening, recorded_of, begin_over, opening_by}
 use Rattle.gr_model.specs.Headline.{Holds_from, found_in, Recorded}
 use Rattle.gr_model.specs.Tree.{IsNet}
 use Rattle.gr_model.specs.Fits.{StepsIn}
@@ -45,11 +45,11 @@ abbrev pub all_opened : Net → List Log → Told
 all_opened net logs = opening net (numbers net.brokers) logs
 
 pub opened : (net : Net) (logs : List Log) → IsNet net → AreFound net logs → Opening net logs (all_opened net logs).world (all_opened net logs).lines
-unfolding opening
+unfolding opening_by
 opened net logs n a = opening_turns net logs (over_logs net logs) [] (publishers_at net (numbers net.brokers)) n (publishers_below net (numbers net.brokers)) (over_opening net logs n a)
 
 all_meet : (net : Net) (logs : List Log) (q : ℕ) → IsNet net → AreFound net logs → q < net.publishers → not_empty (net.subscribers_at (net.host q)) ≡ true → MeetsAt net (all_opened net logs).world q
-unfolding opening
+unfolding opening_by
 all_meet net logs q n a j some = turns_meet net logs (over_logs net logs) [] (publishers_at net (numbers net.brokers)) q n (publishers_below net (numbers net.brokers)) (over_opening net logs n a) some (has_turn net q n j)
 
 -- What stands

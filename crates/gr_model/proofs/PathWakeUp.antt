@@ -4,7 +4,7 @@ use Rattle.std.specs.Prelude.{filter}
 use Rattle.gr_frame.specs.declared.Frame.{Frame}
 use Rattle.gr_model.specs.Net.{Net, is_host, keeps_horizon}
 use Rattle.gr_model.specs.Broker.{is_settled}
-use Rattle.gr_model.specs.World.{World, view_of, wake_for, wake_up, sent_since, is_want}
+use Rattle.gr_model.specs.World.{World, view_of, wake_for, wake_up, sent_since, is_want, wake_up_by}
 use Rattle.gr_model.specs.Tree.{IsNet}
 use Rattle.gr_model.specs.Fits.{WorldFits, FrameTrue}
 use Rattle.gr_model.proofs.Worlds.{Each, wake_for_kept, filter_frames, frames_past_true}
@@ -18,7 +18,7 @@ ranks net w (x ∷ xs) n a = (n.depth_in x.head.publisher x.head.to a.0.publishe
 
 pub claims_wake_up : (net : Net) (p t m first : ℕ) (w : World) (b : ℕ) → IsNet net → HasDepths net → WorldFits net w → b < net.brokers → p < net.publishers → is_host net p b ≡ false →
     is_settled (keeps_horizon net p b) (view_of w b p).horizon (view_of w b p).wants t ≡ false → ClaimsAt net p t m first w [] → ClaimsAt net p t m first (wake_up net p w b).world []
-unfolding wake_up
+unfolding wake_up_by
 claims_wake_up net p t m first w b n depths f i j host open_ c =
     let y = (wake_for net w b p).world in
     let g = (wake_for_kept net w b p n f i j).fits in

@@ -3,7 +3,7 @@ use Rattle.std.proofs.Common.{◌≡◌, ℕ, suc, zero, ◌<◌, List, [], ◌�
 use Rattle.std.specs.Prelude.{filter}
 use Rattle.gr_frame.specs.declared.Frame.{Frame}
 use Rattle.gr_model.specs.Net.{Net}
-use Rattle.gr_model.specs.World.{World, Told, deliver_frame, deliver_up, after, in_turn, sent_since, is_want}
+use Rattle.gr_model.specs.World.{World, Told, deliver_frame, deliver_up, after, in_turn, sent_since, is_want, deliver_up_by}
 use Rattle.gr_model.specs.Tree.{IsNet}
 use Rattle.gr_model.specs.Fits.{WorldFits, FrameTrue}
 use Rattle.gr_model.proofs.Worlds.{Each, Kept, Kept-after, FrameTrue-later, deliver_kept, deliver_up_kept, filter_frames, frames_past_true}
@@ -57,6 +57,6 @@ all_in_turn net rank I fuel n c up (x ∷ xs) rest w f a r h =
 
 -- with fuel above the rank of each, the nested deliveries leave no frame pending of those given
 pub deliver_up_all : (net : Net) (rank : Frame → ℕ) (I : World → List Frame → Type 0) (fuel : ℕ) → IsNet net → IsPending net rank I → TakesAway net rank I fuel
-unfolding deliver_up
+unfolding deliver_up_by
 deliver_up_all net rank I zero n c fs rest w f a r h = subst (λ z. I w (z ++ rest)) (none_below rank fs r) h
 deliver_up_all net rank I (suc fuel) n c fs rest w f a r h = all_in_turn net rank I fuel n c (deliver_up_all net rank I fuel n c) fs rest w f a r h

@@ -13,7 +13,7 @@ use Rattle.gr_model.specs.declared.report.Report.{Report}
 use Rattle.gr_model.specs.declared.report.Report.TheVariants as line
 use Rattle.gr_model.specs.Net.{Net, is_host, numbers_from}
 use Rattle.gr_model.specs.Broker.{View, Log, Outcome, told, got_line, learn, publish, marking, cutting, wake, wake_host, wake_below, asking, curiosity, expect, receive, clashes, place_of, silence, with_event, with_mark, max_tick}
-use Rattle.gr_model.specs.World.{World, Told, view_of, log_of, absorbed, unchanged, after, in_turn, sent_line, sent_lines, wake_for, deliver_frame, publish_now, sweep_for}
+use Rattle.gr_model.specs.World.{World, Told, view_of, log_of, absorbed, unchanged, after, in_turn, sent_line, sent_lines, wake_for, deliver_frame, publish_now, sweep_for, deliver_frame_by, publish_now_by, wake_for_by}
 use Rattle.gr_model.specs.Headline.{Recorded, is_record_line, is_sent, sent_count, publish_line, marked, settling}
 use Rattle.gr_model.specs.Tree.{IsNet}
 use Rattle.gr_model.specs.Fits.{WorldFits, FrameTrue}
@@ -48,9 +48,9 @@ unfolding told
 told_none f net p h h' s items k = go (nat_eq h h')
   where
     wanted : List (ℕ × Event)
-    wanted = filter (λ x. net.wants s x.1) items
+    wanted = filter (λ x. net.wants p s x.0 x.1) items
 
-    go : (c : Bool) → filter f (if c then [] else map (got_line s p) (filter (λ x. net.wants s x.1) items) ++ line.Horizon s p h' ∷ []) ≡ []
+    go : (c : Bool) → filter f (if c then [] else map (got_line s p) (filter (λ x. net.wants p s x.0 x.1) items) ++ line.Horizon s p h' ∷ []) ≡ []
     go true = refl
     go false = filter-append f (map (got_line s p) wanted) (line.Horizon s p h' ∷ []) ∙ ap₂ (λ x y. x ++ y) (got_none f s p wanted k) (rw (k.horizon s p h') refl)
 
@@ -264,34 +264,34 @@ absorbed_sends w b p o e = record {
 }
 
 pub wake_for_recs : (net : Net) (w : World) (b p : ℕ) → 1 ≤ net.quiet → recs (wake_for net w b p).lines ≡ mark_line net b w.clock p (core_of w p)
-unfolding wake_for
+unfolding wake_for_by
 wake_for_recs net w b p z = absorbed_recs w b p (wake net p b w.clock (view_of w b p) (log_of w p)) ∙ wake_recs net p b w.clock (view_of w b p) (log_of w p) z
 
 wake_for_sends : (net : Net) (w : World) (b p : ℕ) → Sends w (wake_for net w b p)
-unfolding wake_for
+unfolding wake_for_by
 wake_for_sends net w b p = absorbed_sends w b p (wake net p b w.clock (view_of w b p) (log_of w p)) (wake_unsent net p b w.clock (view_of w b p) (log_of w p))
 
 pub deliver_recs : (net : Net) (w : World) (x : Frame) → recs (deliver_frame net w x).lines ≡ []
-unfolding deliver_frame
+unfolding deliver_frame_by
 deliver_recs net w x =
     let o = receive net w.clock x (view_of w x.head.to x.head.publisher) (log_of w x.head.publisher) in
     absorbed_recs w x.head.to x.head.publisher o ∙ receive_none is_record_line net w.clock x (view_of w x.head.to x.head.publisher) (log_of w x.head.publisher) records_skip
 
 pub deliver_sends : (net : Net) (w : World) (x : Frame) → Sends w (deliver_frame net w x)
-unfolding deliver_frame
+unfolding deliver_frame_by
 deliver_sends net w x =
     let o = receive net w.clock x (view_of w x.head.to x.head.publisher) (log_of w x.head.publisher) in
     absorbed_sends w x.head.to x.head.publisher o (receive_none is_sent net w.clock x (view_of w x.head.to x.head.publisher) (log_of w x.head.publisher) sents_skip)
 
 pub publish_now_recs : (net : Net) (w : World) (p number : ℕ) (e : Event) → recs (publish_now net w p number e).lines ≡ publish_line p w.clock number (core_of w p) ∷ []
-unfolding publish_now
+unfolding publish_now_by
 publish_now_recs net w p number e =
     let v = view_of w (net.host p) p in
     absorbed_recs w (net.host p) p (publish net p (net.host p) w.clock number e v (log_of w p))
     ∙ (publish_some is_record_line net p (net.host p) w.clock number e v (log_of w p) records_skip ∙ publish_line_recorded p w.clock number (core_of w p))
 
 pub publish_now_sends : (net : Net) (w : World) (p number : ℕ) (e : Event) → Sends w (publish_now net w p number e)
-unfolding publish_now
+unfolding publish_now_by
 publish_now_sends net w p number e =
     let v = view_of w (net.host p) p in
     absorbed_sends w (net.host p) p (publish net p (net.host p) w.clock number e v (log_of w p))

@@ -15,7 +15,7 @@ use Rattle.gr_model.specs.declared.report.Report.{Report}
 use Rattle.gr_model.specs.declared.report.Report.TheVariants as line
 use Rattle.gr_model.specs.Net.{Net, keeps_horizon, numbers, numbers_from, not_empty}
 use Rattle.gr_model.specs.Broker.{Log, empty_log, with_event, is_kept, max_tick}
-use Rattle.gr_model.specs.World.{World, Told, view_of, log_of, unchanged, after, in_turn, wake_all, deliver_frame, frame_at, publish_now, publish_stopped, crash, restarted, opened_lines, sweep, sweep_for, sweep_moment, next, show, kept_events}
+use Rattle.gr_model.specs.World.{World, Told, view_of, log_of, unchanged, after, in_turn, wake_all, deliver_frame, frame_at, publish_now, publish_stopped, crash, restarted, opened_lines, sweep, sweep_for, sweep_moment, next, show, kept_events, next_by, publish_stopped_by, sweep_by, wake_all_by}
 use Rattle.gr_model.specs.Headline.{Recorded, History, nothing_recorded, found_in, record_of, is_record_line, is_sent, sent_count, record_lines, records_after, publish_line, opened_of, last_cut, count_past, is_next, tick_of, says_kept, may_crash, is_swept, sweep_at}
 use Rattle.gr_model.specs.Headline as headline
 use Rattle.gr_model.specs.Tree.{IsNet}
@@ -95,7 +95,7 @@ stop_lines net found p number clock r ls free due kept records =
 
 stopped_recs : (net : Net) (found : List ℕ) (w : World) (k p number : ℕ) (stop : Stop) (e : Event) (ls : List Report) → WorldFits net w → p < net.publishers → CutsTold net found w.logs ls →
     (let t = publish_stopped net w k p number stop e in recs t.lines ≡ stop_lines net found p number w.clock (core_of w p) ls (may_crash net (net.host p)) (is_next w.clock (core_of w p) number) (says_kept t.lines) (map core t.world.logs))
-unfolding publish_stopped restarted
+unfolding publish_stopped_by restarted
 stopped_recs net found w k p number stop e ls f j c = go (not_empty (net.subscribers_at (net.host p))) (nat_eq number (suc log.last) && nat_le tick max_tick) (is_kept log.gate stop.call stop.pick)
   where
     log : Log
@@ -128,7 +128,7 @@ stopped_recs net found w k p number stop e ls f j c = go (not_empty (net.subscri
         ∙ sym (ap (λ q. line.Crashed (net.host p) ∷ ((if q then line.Kept p number tick else line.Lost p number tick) ∷ opened_of net found (map core w.logs) ls (net.host p))) (opened_no_kept net w.logs (net.host p)))
 
 stopped_sends : (net : Net) (w : World) (k p number : ℕ) (stop : Stop) (e : Event) → Sends w (publish_stopped net w k p number stop e)
-unfolding publish_stopped restarted
+unfolding publish_stopped_by restarted
 stopped_sends net w k p number stop e = go (not_empty (net.subscribers_at (net.host p))) (nat_eq number (suc log.last) && nat_le tick max_tick) (is_kept log.gate stop.call stop.pick)
   where
     log : Log
@@ -219,7 +219,7 @@ show_unsent net w = logs (numbers net.publishers)
 
 sweep_recs : (net : Net) (w : World) (h : History) (k : ℕ) → IsNet net → 1 ≤ net.quiet → WorldFits net w → RecordsFit net w h →
     recs (sweep net w k).lines ≡ (if is_swept net h then map (λ p. line.Mark p (sweep_at net h)) (numbers net.publishers) ++ line.Swept (sweep_at net h) ∷ [] else [])
-unfolding sweep
+unfolding sweep_by
 sweep_recs net w h k n z f r = go (nat_lt max_tick m) refl
   where
     m : ℕ
@@ -243,7 +243,7 @@ sweep_recs net w h k n z f r = go (nat_lt max_tick m) refl
         ∙ (ap (λ c. map (λ p. line.Mark p c) (numbers net.publishers) ++ line.Swept c ∷ []) (sym same) ∙ sym (ap (λ c. if c then map (λ p. line.Mark p (sweep_at net h)) (numbers net.publishers) ++ line.Swept (sweep_at net h) ∷ [] else []) yes)))
 
 sweep_sends : (net : Net) (w : World) (k : ℕ) → IsNet net → WorldFits net w → Sends w (sweep net w k)
-unfolding sweep
+unfolding sweep_by
 sweep_sends net w k n f = go (nat_lt max_tick m)
   where
     m : ℕ
@@ -265,7 +265,7 @@ sweep_sends net w k n f = go (nat_lt max_tick m)
 record_by : (net : Net) (w : World) (h : History) (k : ℕ) (s : Step) → IsNet net → 1 ≤ net.quiet → WorldFits net w → RecordsFit net w h → sent_count h.lines ≡ length w.frames → CutsTold net h.found w.logs h.lines → StepIn net s →
     records_after net h (record { number = k; step = s }) (next net w (record { number = k; step = s })).lines ≡ map core (next net w (record { number = k; step = s })).world.logs →
     recs (next net w (record { number = k; step = s })).lines ≡ record_lines net h (record { number = k; step = s }) (next net w (record { number = k; step = s })).lines
-unfolding next record_lines wake_all
+unfolding next_by record_lines wake_all_by
 record_by net w h k (step.Clock now) n z f r s c i a = refl
 record_by net w h k (step.Publish p number None e) n z f r s c i a =
     publish_now_recs net w p number e ∙ ap₂ (λ m x. publish_line p m number x ∷ []) (sym r.clock) (sym (record_core net w h p r))
@@ -308,7 +308,7 @@ unfolding crash restarted
 crash_sends net w b = sends_none w (crash net w b) refl (opened_unsent net w.logs b)
 
 sends_by : (net : Net) (w : World) (k : ℕ) (s : Step) → IsNet net → WorldFits net w → StepIn net s → Sends w (next net w (record { number = k; step = s }))
-unfolding next
+unfolding next_by
 sends_by net w k (step.Clock now) n f i = sends_none w (next net w (record { number = k; step = step.Clock now })) refl refl
 sends_by net w k (step.Publish p number None e) n f i = publish_now_sends net w p number e
 sends_by net w k (step.Publish p number (Some stop) e) n f i = stopped_sends net w k p number stop e

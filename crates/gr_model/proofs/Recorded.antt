@@ -15,7 +15,7 @@ use Rattle.gr_model.specs.declared.report.Report.TheVariants as line
 use Rattle.gr_model.specs.Net.{Net, is_host, not_empty, numbers, numbers_from}
 use Rattle.gr_model.specs.Broker.{Log, empty_log, publish, with_event, is_kept, max_tick}
 use Rattle.gr_model.specs.World as world
-use Rattle.gr_model.specs.World.{World, Told, view_of, log_of, absorbed, unchanged, in_turn, wake_for, wake_all, deliver_frame, frame_at, publish_now, publish_stopped, crash, restarted, sweep, sweep_for, sweep_moment, next, start, opened_lines, run_all, run_from}
+use Rattle.gr_model.specs.World.{World, Told, view_of, log_of, absorbed, unchanged, in_turn, wake_for, wake_all, deliver_frame, frame_at, publish_now, publish_stopped, crash, restarted, sweep, sweep_for, sweep_moment, next, start, opened_lines, run_all, run_from, next_by, publish_now_by, publish_stopped_by, run_from_by, sweep_by, wake_all_by}
 use Rattle.gr_model.specs.Headline.{Recorded, History, nothing_recorded, record_of, recording, settling, marked, is_next, greatest, sweep_at, is_swept, each_record, records_after, clock_after, most_after, after, history, begin, expected, gots, last_horizon, HorizonsRise, GetsExactly, says_kept}
 use Rattle.gr_model.specs.Said.{due_upto}
 use Rattle.gr_model.specs.Tree.{IsNet, IsSubscriber}
@@ -64,7 +64,7 @@ if_set true rs p r old e = refl
 if_set false rs p r old e = ap (set rs p) (sym e) ∙ set-get_or rs p nothing_recorded
 
 publish_cores : (net : Net) (w : World) (p number : ℕ) (e : Event) (q : ℕ) → WorldFits net w → p < net.publishers → core_of (publish_now net w p number e).world q ≡ (if nat_eq q p then (if is_next w.clock (core_of w p) number then recording w.clock (core_of w p) e else core_of w p) else core_of w q)
-unfolding publish_now
+unfolding publish_now_by
 publish_cores net w p number e q f j =
     absorbed_cores net w (net.host p) p q (publish net p (net.host p) w.clock number e (view_of w (net.host p) p) (log_of w p)) f j
     ∙ ap (λ z. if nat_eq q p then z else core_of w q) (publish_core net p (net.host p) w.clock number e (view_of w (net.host p) p) (log_of w p))
@@ -244,11 +244,11 @@ record Publishes (net : Net) (w : World) (t : Told) (p number : ℕ) (e : Event)
   cores : (q : ℕ) → core_of t.world q ≡ (if nat_eq q p then (if is_next w.clock (core_of w p) number && says_kept t.lines then recording w.clock (core_of w p) e else core_of w p) else core_of w q)
 
 publish_clock : (net : Net) (w : World) (p number : ℕ) (e : Event) → (publish_now net w p number e).world.clock ≡ w.clock
-unfolding publish_now absorbed
+unfolding publish_now_by absorbed
 publish_clock net w p number e = refl
 
 publish_most : (net : Net) (w : World) (p number : ℕ) (e : Event) → (publish_now net w p number e).world.most ≡ w.most
-unfolding publish_now absorbed
+unfolding publish_now_by absorbed
 publish_most net w p number e = refl
 
 same_core : (w : World) (q p : ℕ) (c : Recorded) → c ≡ core_of w p → core_of w q ≡ (if nat_eq q p then c else core_of w q)
@@ -259,7 +259,7 @@ same_core w q p c e =
     ]
 
 stopped_is : (net : Net) (w : World) (k p number : ℕ) (stop : Stop) (e : Event) → WorldFits net w → p < net.publishers → Publishes net w (publish_stopped net w k p number stop e) p number e
-unfolding publish_stopped
+unfolding publish_stopped_by
 stopped_is net w k p number stop e f j = host_at (not_empty (net.subscribers_at (net.host p)))
   where
     log : Log
@@ -325,7 +325,7 @@ and_true true = refl
 and_true false = refl
 
 wakes_of : (net : Net) (w : World) (b : ℕ) → IsNet net → WorldFits net w → b < net.brokers → Wakes net w (wake_all net w b).world 0 net.publishers b
-unfolding wake_all
+unfolding wake_all_by
 wakes_of net w b n f i = wakes_from net w 0 net.publishers b n f i (omega arith)
 
 -- what a step does to clock and records
@@ -353,7 +353,7 @@ crash_still net w b n false = (clock_at net w b, most_at net w b, λ q j. ap cor
 
 sweep_step : (net : Net) (w : World) (h : History) (k : ℕ) → IsNet net → 1 ≤ net.quiet → WorldFits net w → RecordsFit net w h →
     ((if is_swept net h then sweep_at net h else h.clock) ≡ (sweep net w k).world.clock) × ((if is_swept net h then max (sweep_at net h) h.most else h.most) ≡ (sweep net w k).world.most) × ((if is_swept net h then map (settling (sweep_at net h)) h.records else h.records) ≡ map core (sweep net w k).world.logs)
-unfolding sweep
+unfolding sweep_by
 sweep_step net w h k n z f r = go (nat_lt max_tick m) refl
   where
     m : ℕ
@@ -387,42 +387,42 @@ lined k s = record { number = k; step = s }
 steps_of : (net : Net) (w : World) (h : History) (l : Line) (t : Told) → records_after net h l t.lines ≡ h.records → clock_after net h l ≡ h.clock → most_after net h l ≡ h.most → (h.clock ≡ t.world.clock) × (h.most ≡ t.world.most) × (h.records ≡ map core t.world.logs) → Steps net w h l t
 steps_of net w h l t a b c d = record { clock = b ∙ d.0; most = c ∙ d.1; records = a ∙ d.2 }
 
-next_by : (net : Net) (w : World) (h : History) (k : ℕ) (s : Step) → IsNet net → 1 ≤ net.quiet → WorldFits net w → RecordsFit net w h → StepIn net s → WorldFits net (next net w (lined k s)).world → Steps net w h (lined k s) (next net w (lined k s))
-unfolding next clock_after most_after records_after
-next_by net w h k (step.Clock now) n z f r i g = record { clock = refl; most = ap (max now) r.most; records = r.records }
-next_by net w h k (step.Publish p number None e) n z f r i g = record {
+next_recorded : (net : Net) (w : World) (h : History) (k : ℕ) (s : Step) → IsNet net → 1 ≤ net.quiet → WorldFits net w → RecordsFit net w h → StepIn net s → WorldFits net (next net w (lined k s)).world → Steps net w h (lined k s) (next net w (lined k s))
+unfolding next_by clock_after most_after records_after
+next_recorded net w h k (step.Clock now) n z f r i g = record { clock = refl; most = ap (max now) r.most; records = r.records }
+next_recorded net w h k (step.Publish p number None e) n z f r i g = record {
   clock = r.clock ∙ sym (publish_clock net w p number e);
   most = r.most ∙ sym (publish_most net w p number e);
   records = sym (publish_by_record net w (publish_now net w p number e).world h p number e true f g r i (λ q. publish_cores net w p number e q f i ∙ ap (λ c. if nat_eq q p then (if c then recording w.clock (core_of w p) e else core_of w p) else core_of w q) (sym (and_true (is_next w.clock (core_of w p) number)))));
 }
-next_by net w h k (step.Publish p number (Some stop) e) n z f r i g =
+next_recorded net w h k (step.Publish p number (Some stop) e) n z f r i g =
     let x = stopped_is net w k p number stop e f i in
     record {
       clock = r.clock ∙ sym x.clock;
       most = r.most ∙ sym x.most;
       records = sym (publish_by_record net w (publish_stopped net w k p number stop e).world h p number e (says_kept (publish_stopped net w k p number stop e).lines) f g r i x.cores);
     }
-next_by net w h k (step.Wake b) n z f r i g =
+next_recorded net w h k (step.Wake b) n z f r i g =
     let x = wakes_of net w b n f i in
     record { clock = r.clock ∙ sym x.clock; most = r.most ∙ sym x.most; records = sym (wake_records net w (wake_all net w b).world h b f g r x) }
-next_by net w h k (step.Deliver j) n z f r i g =
+next_recorded net w h k (step.Deliver j) n z f r i g =
     let x = deliver_still net w (frame_at w j) j k f (λ y e. frame_at_true net w j y f e) in
     steps_of net w h (lined k (step.Deliver j)) (next net w (lined k (step.Deliver j))) refl refl refl (still_step net w h (next net w (lined k (step.Deliver j))) f g r x.0 x.1 x.2)
-next_by net w h k (step.Crash b) n z f r i g =
+next_recorded net w h k (step.Crash b) n z f r i g =
     let x = crash_still net w b k (not_empty (net.subscribers_at b)) in
     steps_of net w h (lined k (step.Crash b)) (next net w (lined k (step.Crash b))) refl refl refl (still_step net w h (next net w (lined k (step.Crash b))) f g r x.0 x.1 x.2)
-next_by net w h k step.Sweep n z f r i g =
+next_recorded net w h k step.Sweep n z f r i g =
     let x = sweep_step net w h k n z f r in
     record { clock = x.0; most = x.1; records = x.2 }
-next_by net w h k step.Show n z f r i g = record { clock = r.clock; most = r.most; records = r.records }
-next_by net w h k (step.Bytes j) n z f r i g =
+next_recorded net w h k step.Show n z f r i g = record { clock = r.clock; most = r.most; records = r.records }
+next_recorded net w h k (step.Bytes j) n z f r i g =
     let x = bytes_still net w (frame_at w j) j k in
     steps_of net w h (lined k (step.Bytes j)) (next net w (lined k (step.Bytes j))) refl refl refl (still_step net w h (next net w (lined k (step.Bytes j))) f g r x.0 x.1 x.2)
 
 pub next_records : (net : Net) (w : World) (h : History) (l : Line) → IsNet net → 1 ≤ net.quiet → WorldFits net w → RecordsFit net w h → StepIn net l.step → RecordsFit net (next net w l).world (after net h l (next net w l).lines)
 unfolding after
 next_records net w h l n z f r i =
-    let x = next_by net w h l.number l.step n z f r i (next_kept net w l n f i).fits in
+    let x = next_recorded net w h l.number l.step n z f r i (next_kept net w l n f i).fits in
     record { clock = x.clock; most = x.most; records = x.records }
 
 -- Every schedule
@@ -445,7 +445,7 @@ unfolding after
 after_lines net h l ls = refl
 
 pub runs : (net : Net) (w : World) (h : History) (ls : List Line) → IsNet net → 1 ≤ net.quiet → WorldFits net w → RecordsFit net w h → StepsIn net ls → Runs net w h ls
-unfolding run_from
+unfolding run_from_by
 runs net w h [] n z f r i = record { records = r; lines = sym (append-nil h.lines) }
 runs net w h (l ∷ ls) n z f r i =
     let k = next_kept net w l n f i.0 in
@@ -468,6 +468,6 @@ gets_exactly net ls s p n z i j y =
     let c : record_of (history_of net ls) p ≡ core_of (run_all net (start net) ls).world p = record_core net (run_all net (start net) ls).world (history_of net ls) p x.records in
     record {
       got = subst (λ k. gots s p k ≡ expected net (history_of net ls) s p (last_horizon s p 0 k)) (sym e)
-          (l.got p s j y ∙ ap₂ (λ m r. due_upto net s m r.events) (sym (l.horizon p s j y)) (sym c));
+          (l.got p s j y ∙ ap₂ (λ m r. due_upto net p s m r.events) (sym (l.horizon p s j y)) (sym c));
       rise = subst (λ k. HorizonsRise s p 0 k) (sym e) (l.rise p s j y);
     }

@@ -12,7 +12,7 @@ use Rattle.gr_model.specs.declared.report.Report.TheVariants as line
 use Rattle.gr_know.specs.Values.{Known}
 use Rattle.gr_model.specs.Net.{Net, is_host, keeps_horizon, numbers, numbers_from}
 use Rattle.gr_model.specs.Broker.{View, Log, Outcome, empty_log, publish, wake, wake_host, wake_below, asking, marking, cutting, receive, clashes, learn, curiosity, expect, place_of, with_event, with_mark, with_cut, silence, max_tick, done_upto, consolidated}
-use Rattle.gr_model.specs.World.{World, Told, view_of, log_of, absorbed, unchanged, after, in_turn, wake_for, deliver_frame, deliver_up, wake_up, hand_down, sweep_for, frames_past, sent_since, is_want, is_know_to, at_depth, outwards, inwards, numbers_down}
+use Rattle.gr_model.specs.World.{World, Told, view_of, log_of, absorbed, unchanged, after, in_turn, wake_for, deliver_frame, deliver_up, wake_up, hand_down, sweep_for, frames_past, sent_since, is_want, is_know_to, at_depth, outwards, inwards, numbers_down, deliver_frame_by, deliver_up_by, hand_down_by, sweep_for_by, wake_for_by, wake_up_by}
 use Rattle.gr_model.specs.Headline.{Recorded, recording, settling, marked, is_next}
 use Rattle.gr_know.specs.declared.values.K.TheVariants.{D}
 use Rattle.gr_model.specs.Tree.{IsNet}
@@ -141,11 +141,11 @@ Marks-refl : (net : Net) (p : ℕ) (w : World) → WorldFits net w → Marks net
 Marks-refl net p w f = record { kept = Kept-refl net w f; clock = refl; most = refl; others = λ q n. refl; here = inl refl }
 
 pub wake_for_core : (net : Net) (w : World) (b p q : ℕ) → WorldFits net w → p < net.publishers → core_of (wake_for net w b p).world q ≡ (if nat_eq q p then (if is_host net p b then marked net w.clock (core_of w p) else core_of w p) else core_of w q)
-unfolding wake_for
+unfolding wake_for_by
 wake_for_core net w b p q f j = absorbed_cores net w b p q (wake net p b w.clock (view_of w b p) (log_of w p)) f j ∙ ap (λ z. if nat_eq q p then z else core_of w q) (wake_core net p b w.clock (view_of w b p) (log_of w p))
 
 pub wake_for_clock : (net : Net) (w : World) (b p : ℕ) → (wake_for net w b p).world.clock ≡ w.clock
-unfolding wake_for
+unfolding wake_for_by
 wake_for_clock net w b p = absorbed_clock w b p (wake net p b w.clock (view_of w b p) (log_of w p))
 
 absorbed_most : (w : World) (b p : ℕ) (o : Outcome) → (absorbed w b p o).world.most ≡ w.most
@@ -153,11 +153,11 @@ unfolding absorbed
 absorbed_most w b p o = refl
 
 pub wake_for_most : (net : Net) (w : World) (b p : ℕ) → (wake_for net w b p).world.most ≡ w.most
-unfolding wake_for
+unfolding wake_for_by
 wake_for_most net w b p = absorbed_most w b p (wake net p b w.clock (view_of w b p) (log_of w p))
 
 pub deliver_most : (net : Net) (w : World) (x : Frame) → (deliver_frame net w x).world.most ≡ w.most
-unfolding deliver_frame
+unfolding deliver_frame_by
 deliver_most net w x = absorbed_most w x.head.to x.head.publisher (receive net w.clock x (view_of w x.head.to x.head.publisher) (log_of w x.head.publisher))
 
 wake_for_marks : (net : Net) (w : World) (b p : ℕ) → IsNet net → WorldFits net w → b < net.brokers → p < net.publishers → Marks net p w (wake_for net w b p)
@@ -173,7 +173,7 @@ wake_for_marks net w b p n f i j = record {
 }
 
 pub deliver_core : (net : Net) (w : World) (x : Frame) (q : ℕ) → WorldFits net w → x.head.publisher < net.publishers → core_of (deliver_frame net w x).world q ≡ core_of w q
-unfolding deliver_frame
+unfolding deliver_frame_by
 deliver_core net w x q f j =
     absorbed_cores net w x.head.to x.head.publisher q (receive net w.clock x (view_of w x.head.to x.head.publisher) (log_of w x.head.publisher)) f j
     ∙ elim (cases_eq q x.head.publisher) [
@@ -182,7 +182,7 @@ deliver_core net w x q f j =
     ]
 
 pub deliver_clock : (net : Net) (w : World) (x : Frame) → (deliver_frame net w x).world.clock ≡ w.clock
-unfolding deliver_frame
+unfolding deliver_frame_by
 deliver_clock net w x = absorbed_clock w x.head.to x.head.publisher (receive net w.clock x (view_of w x.head.to x.head.publisher) (log_of w x.head.publisher))
 
 deliver_marks : (net : Net) (p : ℕ) (w : World) (x : Frame) → IsNet net → WorldFits net w → FrameTrue net w x → Marks net p w (deliver_frame net w x)
@@ -206,7 +206,7 @@ in_turn_marks {X} net p ok f h stays one (x ∷ xs) w fit a =
     all_stay (y ∷ ys) b l = (stays w (f w x).world y l b.0, all_stay ys b.1 l)
 
 deliver_up_marks : (net : Net) (p fuel : ℕ) (fs : List Frame) (w : World) → IsNet net → 1 ≤ net.quiet → WorldFits net w → Each (FrameTrue net w) fs → Marks net p w (deliver_up net fuel fs w)
-unfolding deliver_up
+unfolding deliver_up_by
 deliver_up_marks net p zero fs w n h f a = Marks-refl net p w f
 deliver_up_marks net p (suc fuel) fs w n h f a =
     in_turn_marks net p (FrameTrue net) (λ u x. after (deliver_frame net u x) (λ y. deliver_up net fuel (filter is_want (sent_since u y)) y)) h (FrameTrue-later net)
@@ -215,18 +215,18 @@ deliver_up_marks net p (suc fuel) fs w n h f a =
     fs w f a
 
 wake_up_marks : (net : Net) (p : ℕ) (w : World) (b : ℕ) → IsNet net → 1 ≤ net.quiet → WorldFits net w → b < net.brokers → p < net.publishers → Marks net p w (wake_up net p w b)
-unfolding wake_up
+unfolding wake_up_by
 wake_up_marks net p w b n h f i j =
     let k = wake_for_marks net w b p n f i j in
     let y = (wake_for net w b p).world in
     Marks-after net p w (wake_for net w b p) (λ u. deliver_up net net.brokers (filter is_want (sent_since w u)) u) h k (deliver_up_marks net p net.brokers (filter is_want (sent_since w y)) y n h k.kept.fits (filter_frames net y is_want (sent_since w y) (frames_past_true net y (length w.frames) y.frames k.kept.fits.frames)))
 
 hand_down_marks : (net : Net) (p first : ℕ) (w : World) (b : ℕ) → IsNet net → 1 ≤ net.quiet → WorldFits net w → Marks net p w (hand_down net p first w b)
-unfolding hand_down
+unfolding hand_down_by
 hand_down_marks net p first w b n h f = in_turn_marks net p (FrameTrue net) (deliver_frame net) h (FrameTrue-later net) (λ u x g t. deliver_marks net p u x n g t) (filter (is_know_to p b) (frames_past first w.frames)) w f (filter_frames net w (is_know_to p b) (frames_past first w.frames) (frames_past_true net w first w.frames f.frames))
 
 pub sweep_for_marks : (net : Net) (w : World) (p : ℕ) → IsNet net → 1 ≤ net.quiet → WorldFits net w → p < net.publishers → Marks net p w (sweep_for net w p)
-unfolding sweep_for
+unfolding sweep_for_by
 sweep_for_marks net w p n h f j =
     let up = λ (u : World) (g : WorldFits net u). in_turn_marks net p (λ x b. b < net.brokers) (wake_up net p) h (λ x y b l k. k) (λ x b g k. wake_up_marks net p x b n h g k j) (inwards net p) u g (depths_in net p (numbers_down net.brokers)) in
     let a = up w f in
@@ -297,7 +297,7 @@ marked_then net p w t f h a m =
     ⊎_elim (λ y. z ∙ ap (marked net w.clock) y) (λ y. z ∙ (ap (marked net w.clock) y ∙ marked_again net w.clock (core_of w p) h)) a.here
 
 wake_up_marked : (net : Net) (p : ℕ) (w : World) → IsNet net → 1 ≤ net.quiet → WorldFits net w → p < net.publishers → IsMarked net p w (wake_up net p w (net.host p))
-unfolding wake_up
+unfolding wake_up_by
 wake_up_marked net p w n h f j =
     let b = net.host p in
     let i = n.host_in p j in
@@ -319,7 +319,7 @@ in_turn_marked net p (b ∷ bs) w n h f j a m =
 
 -- a sweep marks the log of its publisher
 pub sweep_for_marked : (net : Net) (w : World) (p : ℕ) → IsNet net → 1 ≤ net.quiet → WorldFits net w → p < net.publishers → IsMarked net p w (sweep_for net w p)
-unfolding sweep_for
+unfolding sweep_for_by
 sweep_for_marked net w p n h f j =
     let up = λ (u : World) (g : WorldFits net u). in_turn_marks net p (λ x b. b < net.brokers) (wake_up net p) h (λ x y b l k. k) (λ x b g k. wake_up_marks net p x b n h g k j) (inwards net p) u g (depths_in net p (numbers_down net.brokers)) in
     let a = up w f in

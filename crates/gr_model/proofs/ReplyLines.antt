@@ -16,7 +16,7 @@ use Rattle.gr_model.specs.declared.report.Report.{Report}
 use Rattle.gr_model.specs.declared.report.Report.TheVariants as line
 use Rattle.gr_model.specs.Net.{Net, is_host, keeps_horizon, numbers, numbers_from, not_empty}
 use Rattle.gr_model.specs.Broker.{View, Log, Outcome, empty_log, is_kept, marking, cutting, wake, wake_host, wake_below, asking, publish, receive, with_event, max_tick}
-use Rattle.gr_model.specs.World.{World, Told, view_of, log_of, absorbed, unchanged, in_turn, sent_line, sent_lines, wake_for, wake_all, deliver_frame, frame_at, publish_now, restarted, crash, publish_stopped, sweep_for, sweep, sweep_moment, next, show, start, opened_lines, kept_events, run_from, report_of}
+use Rattle.gr_model.specs.World.{World, Told, view_of, log_of, absorbed, unchanged, in_turn, sent_line, sent_lines, wake_for, wake_all, deliver_frame, frame_at, publish_now, restarted, crash, publish_stopped, sweep_for, sweep, sweep_moment, next, show, start, opened_lines, kept_events, run_from, report_of, deliver_frame_by, next_by, publish_now_by, publish_stopped_by, report_of_by, run_from_by, sweep_by, wake_for_by}
 use Rattle.gr_model.specs.World as world
 use Rattle.gr_model.specs.Headline.{Recorded, History, begin, after, publish_line, may_crash, sent_number, sent_count}
 use Rattle.gr_model.specs.Replies.{is_reply, frame_of_line, shown_bytes, replies, StepReplied, Replied_from, Replied}
@@ -78,11 +78,11 @@ wake_silent net p b now v log = go (is_host net p b)
     go false = refl
 
 wake_for_silent : (net : Net) (w : World) (b p : ℕ) → replying (wake_for net w b p).lines ≡ []
-unfolding wake_for
+unfolding wake_for_by
 wake_for_silent net w b p = absorbed_silent w b p (wake net p b w.clock (view_of w b p) (log_of w p)) (wake_silent net p b w.clock (view_of w b p) (log_of w p))
 
 deliver_silent : (net : Net) (w : World) (x : Frame) → replying (deliver_frame net w x).lines ≡ []
-unfolding deliver_frame
+unfolding deliver_frame_by
 deliver_silent net w x =
     let o = receive net w.clock x (view_of w x.head.to x.head.publisher) (log_of w x.head.publisher) in
     absorbed_silent w x.head.to x.head.publisher o (receive_none is_reply net w.clock x (view_of w x.head.to x.head.publisher) (log_of w x.head.publisher) replies_skip)
@@ -97,7 +97,7 @@ publish_line_silent p now number r = go (nat_le number r.last) (nat_lt (suc r.la
     go false false false = refl
 
 publish_now_silent : (net : Net) (w : World) (p number : ℕ) (e : Event) → replying (publish_now net w p number e).lines ≡ []
-unfolding publish_now
+unfolding publish_now_by
 publish_now_silent net w p number e =
     let v = view_of w (net.host p) p in
     absorbed_silent w (net.host p) p (publish net p (net.host p) w.clock number e v (log_of w p))
@@ -133,7 +133,7 @@ unfolding crash
 crash_silent net w b = opened_silent net w.logs b
 
 stopped_replies : (net : Net) (w : World) (k p number : ℕ) (stop : Stop) (e : Event) → replying (publish_stopped net w k p number stop e).lines ≡ (if may_crash net (net.host p) then [] else line.RefusedHosts k (net.host p) ∷ [])
-unfolding publish_stopped
+unfolding publish_stopped_by
 stopped_replies net w k p number stop e = go (not_empty (net.subscribers_at (net.host p))) (nat_eq number (suc log.last) && nat_le tick max_tick) (is_kept log.gate stop.call stop.pick)
   where
     log : Log
@@ -186,7 +186,7 @@ show_silent net w = logs (numbers net.publishers) ∙ brokers (numbers net.broke
     brokers (b ∷ bs) = filter-append is_reply (there b) (flat_map there bs) ∙ ap₂ (λ x y. x ++ y) (row b (numbers net.publishers)) (brokers bs)
 
 sweep_replies : (net : Net) (w : World) (k : ℕ) → IsNet net → WorldFits net w → replying (sweep net w k).lines ≡ (if nat_le (sweep_moment net w) max_tick then [] else line.RefusedClock k (sweep_moment net w) ∷ [])
-unfolding sweep
+unfolding sweep_by
 sweep_replies net w k n f = elim (cases_Bool (nat_lt max_tick m)) [
   | inl e ↦ go true (nat_le m max_tick) e (lt-leb m max_tick (ltb-true max_tick m e))
   | inr e ↦ go false (nat_le m max_tick) e (le-leb m max_tick (ltb-false max_tick m e))
@@ -224,7 +224,7 @@ abbrev bytes_reply : ℕ → ℕ → ℕ → Option Report → List Report
 bytes_reply n k sent o = elim o [ None ↦ line.RefusedFrame n k sent ∷ [] | Some s ↦ shown_bytes k s ]
 
 step_replies : (net : Net) (w : World) (h : History) (n : ℕ) (s : Step) → IsNet net → Stands net w h → StepIn net s → replying (next net w (record { number = n; step = s })).lines ≡ replies net h (record { number = n; step = s })
-unfolding next replies
+unfolding next_by replies
 step_replies net w h n (step.Clock now) t k i = refl
 step_replies net w h n (step.Publish p number None e) t k i = publish_now_silent net w p number e
 step_replies net w h n (step.Publish p number (Some s) e) t k i = stopped_replies net w n p number s e
@@ -267,10 +267,10 @@ step_replied net w h l n i k =
     }
 
 replied_from : (net : Net) (w : World) (h : History) (ls : List Line) → IsNet net → 1 ≤ net.quiet → StepsIn net ls → Stands net w h → Replied_from net h ls (run_from net w ls)
-unfolding run_from
+unfolding run_from_by
 replied_from net w h [] n z i k = tt
 replied_from net w h (l ∷ ls) n z i k = (step_replied net w h l n i.0 k, replied_from net (next net w l).world (after net h l (next net w l).lines) ls n z i.1 (next_stands net w h l n z i.0 k))
 
 pub replied_always : (net : Net) (ls : List Line) → IsNet net → 1 ≤ net.quiet → StepsIn net ls → Replied net ls (report_of net ls)
-unfolding report_of
+unfolding report_of_by
 replied_always net ls n z i = (refl, replied_from net (start net) (begin net) ls n z i (start_stands net n))

@@ -19,7 +19,7 @@ use Rattle.gr_tick.specs.Runs.{IsNone}
 use Rattle.gr_know.specs.Values.{same_K}
 use Rattle.gr_model.specs.Net.{Net, is_host, not_empty, numbers, numbers_from, keeps_horizon}
 use Rattle.gr_model.specs.Broker.{View, Log, empty_log, with_event, event_at, log_at, event_points, log_know, started, is_kept, max_tick}
-use Rattle.gr_model.specs.World.{World, Told, blank_view, view_of, log_of, unchanged, after, in_turn, deliver_frame, frame_at, publish_now, restarted, crash, publish_stopped, wake_all, sweep_for, sweep, sweep_moment, next, start, show, opened_lines, run_from, report_of, kept_events, run_all}
+use Rattle.gr_model.specs.World.{World, Told, blank_view, view_of, log_of, unchanged, after, in_turn, deliver_frame, frame_at, publish_now, restarted, crash, publish_stopped, wake_all, sweep_for, sweep, sweep_moment, next, start, show, opened_lines, run_from, report_of, kept_events, run_all, next_by, publish_stopped_by, report_of_by, run_from_by, sweep_by}
 use Rattle.gr_frame.specs.Bytes.{frame_bytes}
 use Rattle.gr_model.specs.Truth.{Facts, IsTrueAt, KnowsTruth, AllWantTruth, IsLater}
 use Rattle.gr_model.specs.Said.{said_at, due_upto}
@@ -140,9 +140,9 @@ pub record Restarts (net : Net) (w u : World) (b : ℕ) : Type 0 where
 -- no subscriber is at a broker that starts again
 restarts_lines : (net : Net) (w u : World) (b : ℕ) (ls : List Report) → IsNet net → WorldFits net w → Restarts net w u b → LinesFit net w ls → LinesFit net u ls
 restarts_lines net w u b ls n f r m = record {
-  got = λ q s x y. m.got q s x y ∙ (due_upto_same net s (reached_in net w q s) (log_of w q).events (log_of u q).events (f.logs q x).rise (r.log_fits q x).rise
+  got = λ q s x y. m.got q s x y ∙ (due_upto_same net q s (reached_in net w q s) (log_of w q).events (log_of u q).events (f.logs q x).rise (r.log_fits q x).rise
       (λ z h. sym (r.said q z x (le_trans (subst (λ k. z ≤ k) (reached_here net w q s y) h) (f.views q (net.at s) x y.at_in).horizon.settled)))
-      ∙ ap (λ h. due_upto net s h (log_of u q).events) (same q s y));
+      ∙ ap (λ h. due_upto net q s h (log_of u q).events) (same q s y));
   horizon = λ q s x y. m.horizon q s x y ∙ same q s y;
   rise = m.rise;
 }
@@ -277,7 +277,7 @@ kept_restart net w p tick e more silent n f j no_one l =
     later_tick q t g y h = omega (arith, subst (λ z. t ≤ (log_of w z).settled) g y)
 
 pub publish_stopped_kept : (net : Net) (w : World) (k p number : ℕ) (stop : Stop) (e : Event) → IsNet net → WorldFits net w → p < net.publishers → Kept net w (publish_stopped net w k p number stop e)
-unfolding publish_stopped
+unfolding publish_stopped_by
 publish_stopped_kept net w k p number stop e n f j = host_at (not_empty (net.subscribers_at (net.host p))) refl
   where
     log : Log
@@ -331,7 +331,7 @@ from_clock : (net : Net) (w : World) (clock most : ℕ) (t : Told) → Kept net 
 from_clock net w clock most t k = record { fits = k.fits; later = k.later; lines = λ ls l. k.lines ls (record { got = l.got; horizon = l.horizon; rise = l.rise }) }
 
 pub sweep_kept : (net : Net) (w : World) (k : ℕ) → IsNet net → WorldFits net w → Kept net w (sweep net w k)
-unfolding sweep
+unfolding sweep_by
 sweep_kept net w k n f = go (nat_lt max_tick m)
   where
     m : ℕ
@@ -388,7 +388,7 @@ frame_at_true net w zero f g e = absurd (none_some f e)
 frame_at_true net w (suc k) f g e = frame_of net w w.frames k f g.frames e
 
 pub next_kept : (net : Net) (w : World) (l : Line) → IsNet net → WorldFits net w → StepIn net l.step → Kept net w (next net w l)
-unfolding next
+unfolding next_by
 next_kept net w l n f i = go l.step i
   where
     delivered : (k : ℕ) (o : Option Frame) → frame_at w k ≡ o → Kept net w (elim o [ None ↦ unchanged w (line.RefusedFrame l.number k (length w.frames) ∷ []) | Some x ↦ deliver_frame net w x ])
@@ -486,12 +486,12 @@ always_true net ls n i = (run_kept net (start net) ls n (start_fits net n) i).fi
 
 -- the lines of the report are those of the run
 pub report_lines : (net : Net) (w : World) (ls : List Line) → flat_map (λ x. x) (run_from net w ls) ≡ (run_all net w ls).lines
-unfolding run_from
+unfolding run_from_by
 report_lines net w [] = refl
 report_lines net w (l ∷ ls) = ap (λ z. (next net w l).lines ++ z) (report_lines net (next net w l).world ls)
 
-nothing_due : (net : Net) (s : ℕ) (events : List (ℕ × Event)) → events ≡ [] → due_upto net s 0 events ≡ []
-nothing_due net s events e = ap (due_upto net s 0) e
+nothing_due : (net : Net) (p s : ℕ) (events : List (ℕ × Event)) → events ≡ [] → due_upto net p s 0 events ≡ []
+nothing_due net p s events e = ap (due_upto net p s 0) e
 
 start_reached : (net : Net) (p s : ℕ) → p < net.publishers → IsSubscriber net s → reached_in net (start net) p s ≡ 0
 unfolding started
@@ -499,7 +499,7 @@ start_reached net p s j y = reached_here net (start net) p s y ∙ ap (λ v. v.h
 
 pub start_lines : (net : Net) → LinesFit net (start net) []
 start_lines net = record {
-  got = λ p s j y. sym (ap₂ (λ h l. due_upto net s h l.events) (start_reached net p s j y) (start_log net p j));
+  got = λ p s j y. sym (ap₂ (λ h l. due_upto net p s h l.events) (start_reached net p s j y) (start_log net p j));
   horizon = λ p s j y. sym (start_reached net p s j y);
   rise = λ p s j y. tt;
 }
@@ -509,15 +509,15 @@ lines_always net ls n i = (run_kept net (start net) ls n (start_fits net n) i).l
 
 -- whatever the schedule: each subscriber got exactly the logged events that its filter matches up to its last horizon, once each, in order
 pub exactly_once : (net : Net) (ls : List Line) (p s : ℕ) → IsNet net → StepsIn net ls → p < net.publishers → IsSubscriber net s →
-    (let lines = flat_map (λ x. x) (report_of net ls) in gots s p lines ≡ due_upto net s (last_horizon s p 0 lines) (log_of (run_all net (start net) ls).world p).events)
-unfolding report_of
+    (let lines = flat_map (λ x. x) (report_of net ls) in gots s p lines ≡ due_upto net p s (last_horizon s p 0 lines) (log_of (run_all net (start net) ls).world p).events)
+unfolding report_of_by
 exactly_once net ls p s n i j y =
     let l = lines_always net ls n i in
     let lines = (run_all net (start net) ls).lines in
-    subst (λ z. gots s p z ≡ due_upto net s (last_horizon s p 0 z) (log_of (run_all net (start net) ls).world p).events) (sym (report_lines net (start net) ls))
-    (l.got p s j y ∙ ap (λ h. due_upto net s h (log_of (run_all net (start net) ls).world p).events) (sym (l.horizon p s j y)))
+    subst (λ z. gots s p z ≡ due_upto net p s (last_horizon s p 0 z) (log_of (run_all net (start net) ls).world p).events) (sym (report_lines net (start net) ls))
+    (l.got p s j y ∙ ap (λ h. due_upto net p s h (log_of (run_all net (start net) ls).world p).events) (sym (l.horizon p s j y)))
 
 -- whatever the schedule: the horizon lines of one subscriber and publisher rise strictly
 pub horizons_rise : (net : Net) (ls : List Line) (p s : ℕ) → IsNet net → StepsIn net ls → p < net.publishers → IsSubscriber net s → HorizonsRise s p 0 (flat_map (λ x. x) (report_of net ls))
-unfolding report_of
+unfolding report_of_by
 horizons_rise net ls p s n i j y = subst (λ z. HorizonsRise s p 0 z) (sym (report_lines net (start net) ls)) ((lines_always net ls n i).rise p s j y)

@@ -12,7 +12,7 @@ use Rattle.gr_know.specs.Values.{known_at}
 use Rattle.gr_curio.specs.Values.{Wanted, asked_at}
 use Rattle.gr_model.specs.Net.{Net, is_host, keeps_horizon, numbers_from}
 use Rattle.gr_model.specs.Broker.{View, Outcome, wake, receive, is_settled}
-use Rattle.gr_model.specs.World.{World, view_of, log_of, absorbed, in_turn, wake_for, deliver_frame, wake_up, sweep_for, inwards, numbers_down, frames_past, is_want}
+use Rattle.gr_model.specs.World.{World, view_of, log_of, absorbed, in_turn, wake_for, deliver_frame, wake_up, sweep_for, inwards, numbers_down, frames_past, is_want, deliver_frame_by, sweep_for_by, wake_for_by}
 use Rattle.gr_model.specs.Tree.{IsNet}
 use Rattle.gr_model.specs.Fits.{WorldFits, FrameTrue, reached_in}
 use Rattle.gr_model.proofs.Calls.{wake_call, receive_call}
@@ -43,13 +43,13 @@ same_for_taken : (net : Net) (p q b : ℕ) (old w u : World) (o : Outcome) → p
 same_for_taken net p q b old w u o k t h = record { views = λ c. t.other_publisher c p k ∙ h.views c; log = t.other_log p k ∙ h.log }
 
 wake_same : (net : Net) (p q : ℕ) (old w : World) (b : ℕ) → p ≢ q → WorldFits net w → b < net.brokers → q < net.publishers → SameFor net p old w → SameFor net p old (wake_for net w b q).world
-unfolding wake_for
+unfolding wake_for_by
 wake_same net p q old w b k f i j h =
     let o = wake net q b w.clock (view_of w b q) (log_of w q) in
     same_for_taken net p q b old w (absorbed w b q o).world o k (absorbed_taken net w b q o f i j) h
 
 deliver_same : (net : Net) (p : ℕ) (old w : World) (x : Frame) → p ≢ x.head.publisher → WorldFits net w → FrameTrue net w x → SameFor net p old w → SameFor net p old (deliver_frame net w x).world
-unfolding deliver_frame
+unfolding deliver_frame_by
 deliver_same net p old w x k f t h =
     let q = x.head.publisher in
     let o = receive net w.clock x (view_of w x.head.to q) (log_of w q) in
@@ -88,14 +88,14 @@ since_taken net b p c q old w u o up t h = record {
 }
 
 wake_since : (net : Net) (b p : ℕ) (old w : World) (c q : ℕ) → IsNet net → WorldFits net w → c < net.brokers → q < net.publishers → Since net b p old w → Since net b p old (wake_for net w c q).world
-unfolding wake_for
+unfolding wake_for_by
 wake_since net b p old w c q n f i j h =
     let o = wake net q c w.clock (view_of w c q) (log_of w q) in
     let call = wake_call net q c w.clock (view_of w c q) (log_of w q) (reached_in net w q) n j i (f.logs q j) (f.views q c j i) in
     since_taken net b p c q old w (absorbed w c q o).world o call.horizon (absorbed_taken net w c q o f i j) h
 
 deliver_since : (net : Net) (b p : ℕ) (old w : World) (x : Frame) → IsNet net → WorldFits net w → FrameTrue net w x → Since net b p old w → Since net b p old (deliver_frame net w x).world
-unfolding deliver_frame
+unfolding deliver_frame_by
 deliver_since net b p old w x n f t h =
     let c = x.head.to in
     let q = x.head.publisher in
@@ -139,7 +139,7 @@ same_above : (net : Net) (b p : ℕ) (old : View) (w u : World) → view_of u b 
 same_above net b p old w u e h = record { horizon = ap (λ v. v.horizon) e ∙ h.horizon; above = λ t l. ap (λ v. known_at v.know t) e ∙ h.above t l }
 
 wake_taken : (net : Net) (w : World) (b p : ℕ) → WorldFits net w → b < net.brokers → p < net.publishers → Taken net w (wake_for net w b p).world b p (wake net p b w.clock (view_of w b p) (log_of w p))
-unfolding wake_for
+unfolding wake_for_by
 wake_taken net w b p f i j = absorbed_taken net w b p (wake net p b w.clock (view_of w b p) (log_of w p)) f i j
 
 wake_above : (net : Net) (b p : ℕ) (old : View) (w : World) (c : ℕ) → is_host net p b ≡ false → keeps_horizon net p b ≡ true → WorldFits net w → c < net.brokers → p < net.publishers → SameAbove net b p old w → SameAbove net b p old (wake_for net w c p).world
@@ -303,7 +303,7 @@ begins_on net p q m w n k j h =
     }
 
 phases_then : (net : Net) (b p : ℕ) (w : World) → IsNet net → WorldFits net (second_phase net w p) → p < net.publishers → Since net b p (second_phase net w p) (sweep_for net w p).world
-unfolding sweep_for
+unfolding sweep_for_by
 phases_then net b p w n f j = (inwards_since net b p p (second_phase net w p) n f j).holds
 
 pub sweeps_bring : (net : Net) (p m b a k : ℕ) (w : World) → IsNet net → 1 ≤ net.retry → 1 ≤ net.quiet → b < net.brokers → is_host net p b ≡ false → keeps_horizon net p b ≡ true → a ≤ p → p < a + k → a + k ≤ net.publishers → Begins net p m w → Brings net m b p w (in_turn (sweep_for net) (numbers_from a k) w).world

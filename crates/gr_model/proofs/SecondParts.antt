@@ -5,7 +5,7 @@ use Rattle.std.proofs.lemmas.Bool.{cases_Bool}
 use Rattle.gr_frame.specs.declared.Frame.{Frame}
 use Rattle.gr_model.specs.Net.{Net, numbers}
 use Rattle.gr_model.specs.Broker.{Outcome, wake, receive}
-use Rattle.gr_model.specs.World.{World, view_of, log_of, absorbed, after, in_turn, wake_for, deliver_frame, deliver_up, wake_up, hand_down, sweep_for, frames_past, sent_since, is_want, is_know_to, outwards, inwards, numbers_down}
+use Rattle.gr_model.specs.World.{World, view_of, log_of, absorbed, after, in_turn, wake_for, deliver_frame, deliver_up, wake_up, hand_down, sweep_for, frames_past, sent_since, is_want, is_know_to, outwards, inwards, numbers_down, deliver_frame_by, deliver_up_by, hand_down_by, sweep_for_by, wake_for_by, wake_up_by}
 use Rattle.gr_model.specs.Tree.{IsNet}
 use Rattle.gr_model.specs.Fits.{WorldFits, FrameTrue, AllFit, AllFramesTrue, reached_in}
 use Rattle.gr_model.proofs.Calls.{wake_call, receive_call}
@@ -44,7 +44,7 @@ unfolding absorbed
 sent_fit net w b p o a = subst (AllFit net p) (sym (frames_past_all w.frames o.frames)) a
 
 wake_sends : (net : Net) (w : World) (b p : ℕ) → IsNet net → WorldFits net w → b < net.brokers → p < net.publishers → Each (IsUp net p (wake_for net w b p).world) (filter is_want (sent_since w (wake_for net w b p).world))
-unfolding wake_for
+unfolding wake_for_by
 wake_sends net w b p n f i j =
     let o = wake net p b w.clock (view_of w b p) (log_of w p) in
     let y = (absorbed w b p o).world in
@@ -52,7 +52,7 @@ wake_sends net w b p n f i j =
     ups net p y (sent_since w y) (sent_fit net w b p o c.fits) (frames_past_true net y (length w.frames) y.frames (wake_for_kept net w b p n f i j).fits.frames)
 
 deliver_sends : (net : Net) (p : ℕ) (w : World) (x : Frame) → IsNet net → WorldFits net w → FrameTrue net w x → x.head.publisher ≡ p → Each (IsUp net p (deliver_frame net w x).world) (filter is_want (sent_since w (deliver_frame net w x).world))
-unfolding deliver_frame
+unfolding deliver_frame_by
 deliver_sends net p w x n f t e =
     let q = x.head.publisher in
     let o = receive net w.clock x (view_of w x.head.to q) (log_of w q) in
@@ -62,7 +62,7 @@ deliver_sends net p w x n f t e =
 
 -- the nested deliveries
 up_goes : (net : Net) (p : ℕ) (P : World → Type 0) (fuel : ℕ) (fs : List Frame) (w : World) → IsNet net → IsUpKept net p P → WorldFits net w → P w → Each (IsUp net p w) fs → Goes net P w (deliver_up net fuel fs w)
-unfolding deliver_up
+unfolding deliver_up_by
 up_goes net p P zero fs w n c f h a = record { kept = Kept-refl net w f; holds = h }
 up_goes net p P (suc fuel) fs w n c f h a =
     in_turn_goes net P (IsUp net p) (λ u x. after (deliver_frame net u x) (λ y. deliver_up net fuel (filter is_want (sent_since u y)) y)) (IsUp-later net p)
@@ -73,7 +73,7 @@ up_goes net p P (suc fuel) fs w n c f h a =
     fs w f h a
 
 woken_goes : (net : Net) (p : ℕ) (P : World → Type 0) (w : World) (b : ℕ) → IsNet net → IsUpKept net p P → WorldFits net w → P w → b < net.brokers → p < net.publishers → Goes net P w (wake_up net p w b)
-unfolding wake_up
+unfolding wake_up_by
 woken_goes net p P w b n c f h i j =
     let d : Goes net P w (wake_for net w b p) = record { kept = wake_for_kept net w b p n f i j; holds = c.woken w b f i h } in
     let y = (wake_for net w b p).world in
@@ -84,7 +84,7 @@ pub inwards_goes : (net : Net) (p : ℕ) (P : World → Type 0) (w : World) → 
 inwards_goes net p P w n c f h j = in_turn_goes net P (λ x b. b < net.brokers) (wake_up net p) (λ x y b l h. h) (λ x b g k i. woken_goes net p P x b n c g k i j) (inwards net p) w f h (depths_in net p (numbers_down net.brokers))
 
 handed_goes : (net : Net) (p first : ℕ) (P : World → Type 0) (w : World) (b : ℕ) → IsNet net → IsDownKept net p P → WorldFits net w → P w → Goes net P w (hand_down net p first w b)
-unfolding hand_down
+unfolding hand_down_by
 handed_goes net p first P w b n c f h =
     in_turn_goes net P (λ u x. FrameTrue net u x × IsKnowTo p b x) (deliver_frame net) (λ u y x l a. (FrameTrue-later net u y x l a.0, a.1))
     (λ u x g k r. record { kept = deliver_kept net u x n g r.0; holds = c u x b g r.0 r.1 k })
@@ -97,7 +97,7 @@ outwards_goes net p first P w n c f h = in_turn_goes net P (λ x b. b < net.brok
 
 -- the sweep of the publisher
 pub sweep_goes : (net : Net) (p : ℕ) (P : World → Type 0) (w : World) → IsNet net → IsUpKept net p P → IsDownKept net p P → WorldFits net w → P w → p < net.publishers → Goes net P w (sweep_for net w p)
-unfolding sweep_for
+unfolding sweep_for_by
 sweep_goes net p P w n c d f h j =
     let a = inwards_goes net p P w n c f h j in
     let w1 = (in_turn (wake_up net p) (inwards net p) w).world in

@@ -8,7 +8,7 @@ use Rattle.gr_sched.specs.declared.step.Line.{Line}
 use Rattle.gr_model.specs.declared.report.Report.TheVariants as line
 use Rattle.gr_model.specs.Net.{Net, numbers}
 use Rattle.gr_model.specs.Broker.{max_tick}
-use Rattle.gr_model.specs.World.{World, Told, view_of, log_of, unchanged, after, in_turn, sweep, sweep_for, sweep_moment, report_of, frames_past}
+use Rattle.gr_model.specs.World.{World, Told, view_of, log_of, unchanged, after, in_turn, sweep, sweep_for, sweep_moment, report_of, frames_past, sweep_by}
 use Rattle.gr_model.specs.Headline.{Headline}
 use Rattle.gr_model.specs.Tree.{IsNet}
 use Rattle.gr_model.specs.Fits.{StepsIn, WorldFits}
@@ -30,7 +30,7 @@ abbrev pub at_moment : Net → World → World
 at_moment net w = clocked w (sweep_moment net w) (max (sweep_moment net w) w.most)
 
 pub swept_world : (net : Net) (w : World) (k : ℕ) → nat_lt max_tick (sweep_moment net w) ≡ false → (sweep net w k).world ≡ (in_turn (sweep_for net) (numbers net.publishers) (at_moment net w)).world
-unfolding sweep
+unfolding sweep_by
 swept_world net w k e = go (nat_lt max_tick m) e
   where
     m : ℕ

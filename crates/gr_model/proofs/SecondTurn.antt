@@ -16,7 +16,7 @@ use Rattle.gr_know.specs.Values.{Known, known_at, is_Q, join_K, same_K}
 use Rattle.gr_curio.specs.Values.{Wanted, wanted_at, is_C}
 use Rattle.gr_model.specs.Net.{Net, keeps_horizon, pass}
 use Rattle.gr_model.specs.Broker.{View, Log, Outcome, learn, receive, clashes, any_C, is_settled, forward, forward_wants, new_ticks, quenched, consolidated, finished}
-use Rattle.gr_model.specs.World.{World, view_of, log_of, absorbed, in_turn, deliver_frame, hand_down, frames_past, is_know_to}
+use Rattle.gr_model.specs.World.{World, view_of, log_of, absorbed, in_turn, deliver_frame, hand_down, frames_past, is_know_to, deliver_frame_by, hand_down_by}
 use Rattle.gr_model.specs.Truth.{Facts, KnowsTruth, AllWantTruth}
 use Rattle.gr_model.specs.Tree.{IsNet, IsPlace}
 use Rattle.gr_model.specs.Fits.{WorldFits, FrameTrue, BodyTrue, ViewTrue, facts_of, reached_in}
@@ -100,7 +100,7 @@ unfolding learn
 learn_log net p b piece v log = refl
 
 pub delivered_know : (net : Net) (w : World) (x : Frame) (runs : Known) → IsNet net → WorldFits net w → FrameTrue net w x → x.body ≡ body.Knowledge runs → DeliveredKnow net w (deliver_frame net w x).world x runs (learned net w x runs)
-unfolding deliver_frame
+unfolding deliver_frame_by
 delivered_know net w x runs n f tr e =
     let p = x.head.publisher in
     let b = x.head.to in
@@ -177,10 +177,10 @@ pub record Waits (net : Net) (c t first p b : ℕ) (w : World) (rest : List Fram
   pub child : list_any (λ x. nat_eq x c) (net.children p b) ≡ true
   pub state : Has (TellsKnown p b c t) (frames_past first w.frames) ⊎ ((known_at (view_of w b p).know t ≡ Q) × (wanted_at (wants_of net p b (view_of w b p) c) t ≢ A) × Has (Knows t) rest)
 
-still_wants : (net : Net) (p c : ℕ) (q : Q3) → quenched_at net p c Q q ≡ q
-still_wants net p c N = refl
-still_wants net p c A = refl
-still_wants net p c C = refl
+still_wants : (net : Net) (p c t : ℕ) (q : Q3) → quenched_at net p c t Q q ≡ q
+still_wants net p c t N = refl
+still_wants net p c t A = refl
+still_wants net p c t C = refl
 
 waits_step : (net : Net) (c t first : ℕ) → IsNet net → TurnKeeps net (Waits net c t first)
 waits_step net c t first n w x runs fs f tr e h = record {
@@ -215,12 +215,12 @@ waits_step net c t first n w x runs fs f tr e h = record {
 
     comes : known_at v.know t ≡ Q → known_at runs t ≢ Q → wanted_at (wants_of net p b v c) t ≢ A → State
     comes q k a = inl (subst (λ z. Has (TellsKnown p b c t) (frames_past first z)) (sym d.taken.frames) (Has-last (TellsKnown p b c t) first w.frames o.frames h.first_in
-        (known_of p b c t (pass net p c (known_at runs t)) o.frames (pass_not_Q net p c (known_at runs t) k) (d.ticks.forwarded c t h.child q k a))))
+        (known_of p b c t (pass net p c t (known_at runs t)) o.frames (pass_not_Q net p c t (known_at runs t) k) (d.ticks.forwarded c t h.child q k a))))
 
     waits_on : known_at v.know t ≡ Q → known_at runs t ≡ Q → wanted_at (wants_of net p b v c) t ≢ A → Has (Knows t) fs → State
     waits_on q k a has =
         let wants : wanted_at (wants_of net p b (view_of y b p) c) t ≡ wanted_at (wants_of net p b v c) t = ap (λ z. wanted_at (wants_of net p b z c) t) d.taken.view ∙ (d.ticks.wants c t h.child
-        ∙ (ap (λ z. quenched_at net p c (if z then known_at runs t else Q) (wanted_at (wants_of net p b v c) t)) (is_Q_of (known_at v.know t) q) ∙ (ap (λ z. quenched_at net p c z (wanted_at (wants_of net p b v c) t)) k ∙ still_wants net p c (wanted_at (wants_of net p b v c) t)))) in
+        ∙ (ap (λ z. quenched_at net p c t (if z then known_at runs t else Q) (wanted_at (wants_of net p b v c) t)) (is_Q_of (known_at v.know t) q) ∙ (ap (λ z. quenched_at net p c t z (wanted_at (wants_of net p b v c) t)) k ∙ still_wants net p c t (wanted_at (wants_of net p b v c) t)))) in
         let a1 : wanted_at (wants_of net p b (view_of y b p) c) t ≢ A = λ z. a (sym wants ∙ z) in
         let no = not_settled net (facts_of net y p) p b c t o.view.horizon (view_of y b p).wants (d.fits.views p b tr.publisher_in tr.fits.to_in).wants h.child (not_A (wanted_at (wants_of net p b (view_of y b p) c) t) a1) in
         let no1 : is_settled (keeps_horizon net p b) o.view.horizon o.view.wants t ≡ false = ap (λ z. is_settled (keeps_horizon net p b) o.view.horizon z.wants t) (sym d.taken.view) ∙ no in
@@ -332,19 +332,19 @@ handed_true : (net : Net) (p first b : ℕ) (w : World) → WorldFits net w → 
 handed_true net p first b w f = filter_frames net w (is_know_to p b) (frames_past first w.frames) (frames_past_true net w first w.frames f.frames)
 
 pub turn_leaves : (net : Net) (p first : ℕ) (w : World) (b : ℕ) → IsNet net → WorldFits net w → Leaves net w p b (hand_down net p first w b).world []
-unfolding hand_down
+unfolding hand_down_by
 turn_leaves net p first w b n f =
     turn_keeps net (Leaves net w) n (leaves_step net w n) p b (handed p first b w) w f (handed_true net p first b w f) (all_know_to p b (frames_past first w.frames))
     (record { more = []; frames = sym (append-nil w.frames); log = refl; other = λ c k. refl; asks = refl; wants = λ t c. c })
 
 pub turn_tells : (net : Net) (c t first p b : ℕ) (w : World) → IsNet net → WorldFits net w → Waits net c t first p b w (handed p first b w) → Has (TellsKnown p b c t) (frames_past first (hand_down net p first w b).world.frames)
-unfolding hand_down
+unfolding hand_down_by
 turn_tells net c t first p b w n f h =
     ⊎_elim (λ z. z) (λ z. absurd z.2)
     (turn_keeps net (Waits net c t first) n (waits_step net c t first n) p b (handed p first b w) w f (handed_true net p first b w f) (all_know_to p b (frames_past first w.frames)) h).state
 
 pub turn_rises : (net : Net) (m p first b : ℕ) (w : World) → IsNet net → WorldFits net w → Rising net m p b w (handed p first b w) → m ≤ (view_of (hand_down net p first w b).world b p).horizon
-unfolding hand_down
+unfolding hand_down_by
 turn_rises net m p first b w n f h =
     risen net m p b (in_turn (deliver_frame net) (handed p first b w) w).world
     (turn_keeps net (Rising net m) n (rising_step net m n) p b (handed p first b w) w f (handed_true net p first b w f) (all_know_to p b (frames_past first w.frames)) h)

@@ -9,8 +9,8 @@ use Rattle.gr_model.specs.declared.report.Report.{Report}
 use Rattle.gr_model.specs.Net.{Net, not_empty, numbers}
 use Rattle.gr_model.specs.Broker.{Log, learn, started}
 use Rattle.gr_model.specs.World.{World, Told, view_of, log_of, absorbed, unchanged, in_turn}
-use Rattle.gr_model.specs.Opening.{found_log, AreFound, over_logs, opened_for, publishers_at, opening, begin_over}
-use Rattle.gr_model.specs.Arrivals.{Arrival, publishes_of, served}
+use Rattle.gr_model.specs.Opening.{found_log, AreFound, over_logs, opened_for, publishers_at, opening, begin_over, opened_for_by, opening_by}
+use Rattle.gr_model.specs.Arrivals.{Arrival, publishes_of, served, served_by}
 use Rattle.gr_model.specs.Served.{IsHonestRun, AllDoSteps, HeadlineServed}
 use Rattle.gr_model.specs.Edges.{GoesOverEdge}
 use Rattle.gr_model.specs.Spelled.{NumbersIn, ViewIn, LogIn, WorldIn}
@@ -37,7 +37,7 @@ over_in net logs a = record {
 }
 
 turn_in : (net : Net) (logs : List Log) (w : World) (ls : List Report) (p : ℕ) → IsNet net → IsSmall net → p < net.publishers → Opening net logs w ls → WorldIn w → WorldIn (opened_for net w p).world
-unfolding opened_for
+unfolding opened_for_by
 turn_in net logs w ls p n z j o i = go (not_empty (net.subscribers_at (net.host p)))
   where
     go : (q : Bool) → WorldIn (let t : Told = elim q [ true ↦ absorbed w (net.host p) p (learn net p (net.host p) [] (view_of w (net.host p) p) (log_of w p)) | false ↦ unchanged w [] ] in t.world)
@@ -51,7 +51,7 @@ turns_in net logs w ls (p ∷ ps) n z a o i =
     turns_in net logs t.world (ls ++ t.lines) ps n z a.1 (opening_turn net logs w ls p n a.0 o) (turn_in net logs w ls p n z a.0 o i)
 
 opened_in : (net : Net) (logs : List Log) → IsNet net → IsSmall net → AreFound net logs → WorldIn (all_opened net logs).world
-unfolding opening
+unfolding opening_by
 opened_in net logs n z a = turns_in net logs (over_logs net logs) [] (publishers_at net (numbers net.brokers)) n z (publishers_below net (numbers net.brokers)) (over_opening net logs n a) (over_in net logs a)
 
 opened_ready : (net : Net) (logs : List Log) → IsNet net → IsSmall net → AreFound net logs → Ready net WorldIn (all_opened net logs).world (begin_over net logs (all_opened net logs).lines)
@@ -69,13 +69,13 @@ begun_lines net logs told = refl
 -- The run
 
 pub headline_served : (net : Net) (logs : List Log) (steps : List Line) (arrivals : List Arrival) → IsNet net → IsSmall net → 1 ≤ net.quiet → 1 ≤ net.retry → AreFound net logs → StepsIn net steps → NumbersIn steps → IsHonestRun arrivals (served net (numbers net.brokers) logs steps arrivals) → HeadlineServed net logs steps arrivals (served net (numbers net.brokers) logs steps arrivals)
-unfolding served begin_over
+unfolding served_by begin_over
 headline_served net logs steps arrivals n z on retry a i m honest = (
   opened_tells net logs n a,
   holds net n on retry WorldIn (λ u l f j k x. next_in net u l n z f j k x) (λ u x. x.frames) (λ f x. spelled_decodes (frame_bytes f) f x) arrivals (all_opened net logs).world (begin_over net logs (all_opened net logs).lines) (publishes_of net (numbers net.brokers) steps) (opened_ready net logs n z a) (publishes_are_in net (numbers net.brokers) steps i m) honest,
 )
 
 pub served_does : (net : Net) (logs : List Log) (steps : List Line) (arrivals : List Arrival) → IsNet net → IsSmall net → 1 ≤ net.quiet → 1 ≤ net.retry → AreFound net logs → StepsIn net steps → NumbersIn steps → IsHonestRun arrivals (served net (numbers net.brokers) logs steps arrivals) → AllDoSteps net (all_opened net logs).world (all_opened net logs).lines (publishes_of net (numbers net.brokers) steps) arrivals
-unfolding served begin_over
+unfolding served_by begin_over
 served_does net logs steps arrivals n z on retry a i m honest =
     all_do net n on retry WorldIn (λ u l f j k x. next_in net u l n z f j k x) (λ u x. x.frames) (λ f x. spelled_decodes (frame_bytes f) f x) arrivals (all_opened net logs).world (begin_over net logs (all_opened net logs).lines) (publishes_of net (numbers net.brokers) steps) (all_opened net logs).lines (opened_ready net logs n z a) (publishes_are_in net (numbers net.brokers) steps i m) refl honest

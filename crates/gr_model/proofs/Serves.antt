@@ -14,7 +14,7 @@ use Rattle.gr_know.specs.Values.{known_at, is_Q}
 use Rattle.gr_curio.specs.Values.{Wanted, wanted_at, asked_at, is_A, is_outstanding}
 use Rattle.gr_model.specs.Net.{Net, is_host, keeps_horizon, pass}
 use Rattle.gr_model.specs.Broker.{View, Log, Outcome, place_of, curiosity, receive, is_settled}
-use Rattle.gr_model.specs.World.{World, view_of, log_of, absorbed, deliver_frame, frames_past, sent_since}
+use Rattle.gr_model.specs.World.{World, view_of, log_of, absorbed, deliver_frame, frames_past, sent_since, deliver_frame_by}
 use Rattle.gr_model.specs.Truth.{WantsTruth}
 use Rattle.gr_model.specs.Fits.{facts_of, WorldFits, FrameTrue, BodyTrue, BodyFits}
 use Rattle.gr_model.specs.Tree.{IsNet}
@@ -80,7 +80,7 @@ known_of p u c t k fs n h = Has-on (TellsTick p u c t k) (TellsKnown p u c t) fs
 
 -- a tick asked of a broker by a delivered frame is answered, or stored there and asked on, or stored at the host
 pub delivered_serves : (net : Net) (w : World) (x : Frame) (t : ℕ) → IsNet net → WorldFits net w → FrameTrue net w x → AsksNow net w.clock w → WantsBody t C x.body → Served net w (deliver_frame net w x).world x.head.publisher x.head.to x.head.from t
-unfolding deliver_frame
+unfolding deliver_frame_by
 delivered_serves net w x t n f tr a h = go (cases_Bool (is_A (wanted_at w0 t))) (cases_Bool (is_Q (known_at v.know t))) (cases_Bool (is_host net p u)) (cases_Bool (is_outstanding (asked_at v.asks t) w.clock net.retry))
   where
     p : ℕ
@@ -152,6 +152,6 @@ delivered_serves net w x t n f tr a h = go (cases_Bool (is_A (wanted_at w0 t))) 
 
     go : ((is_A (wanted_at w0 t) ≡ true) ⊎ (is_A (wanted_at w0 t) ≡ false)) → ((is_Q (known_at v.know t) ≡ true) ⊎ (is_Q (known_at v.know t) ≡ false)) → ((is_host net p u ≡ true) ⊎ (is_host net p u ≡ false)) → ((is_outstanding (asked_at v.asks t) w.clock net.retry ≡ true) ⊎ (is_outstanding (asked_at v.asks t) w.clock net.retry ≡ false)) → Served net w y p u c t
     go (inl e) r s z = inl (subst (Has (TellsKnown p u c t)) (sym since) (known_of p u c t F o.frames F_not_Q (k.told_F t is.2 (A_of (wanted_at w0 t) e))))
-    go (inr e) (inr g) s z = inl (subst (Has (TellsKnown p u c t)) (sym since) (known_of p u c t (pass net p c (known_at v.know t)) o.frames (pass_not_Q net p c (known_at v.know t) (not_Q (known_at v.know t) g)) (k.answered t is.2 (not_A (wanted_at w0 t) e) (not_Q (known_at v.know t) g))))
+    go (inr e) (inr g) s z = inl (subst (Has (TellsKnown p u c t)) (sym since) (known_of p u c t (pass net p c t (known_at v.know t)) o.frames (pass_not_Q net p c t (known_at v.know t) (not_Q (known_at v.know t) g)) (k.answered t is.2 (not_A (wanted_at w0 t) e) (not_Q (known_at v.know t) g))))
     go (inr e) (inl g) (inl s) z = inr (stores (not_A (wanted_at w0 t) e) (Q_of (known_at v.know t) g), inl s)
     go (inr e) (inl g) (inr s) z = inr (stores (not_A (wanted_at w0 t) e) (Q_of (known_at v.know t) g), inr (asked_on s (not_A (wanted_at w0 t) e) (Q_of (known_at v.know t) g) z))

@@ -15,9 +15,9 @@ use Rattle.gr_model.specs.declared.report.Report.{Report}
 use Rattle.gr_model.specs.declared.report.Report.TheVariants as line
 use Rattle.gr_model.specs.Net.{Net, keeps_horizon, numbers, numbers_from}
 use Rattle.gr_model.specs.Broker.{max_tick}
-use Rattle.gr_model.specs.World.{World, Told, view_of, log_of, unchanged, sent_lines, next, show, run_from, run_all, kept_events}
+use Rattle.gr_model.specs.World.{World, Told, view_of, log_of, unchanged, sent_lines, next, show, run_from, run_all, kept_events, next_by, run_from_by}
 use Rattle.gr_model.specs.Edges.{GoesOverEdge}
-use Rattle.gr_model.specs.Arrivals.{Arrival, datagram, quiet, Publish, is_hosted, publishes_in, publishes_of, left_after, comes, show_hosted, served_from}
+use Rattle.gr_model.specs.Arrivals.{Arrival, datagram, quiet, Publish, is_hosted, publishes_in, publishes_of, left_after, comes, show_hosted, served_from, served_from_by}
 use Rattle.gr_model.specs.Served.{number_of_bytes, IsHonestAt, IsHonest, DoesSteps, AllDoSteps, as_line, publish_step, delivery_step, is_frame, steps_of_arrival, dropped_as, dropped_line, is_dropped, ArrivalTold, HoldsServed}
 use Rattle.gr_model.specs.Spelled.{NumberIn, NumbersIn, IsSpelled}
 use Rattle.gr_model.specs.Headline.{History, history, Holds_from, is_record_line, is_doubt_line, is_sent, sent_number}
@@ -283,7 +283,7 @@ module _ (net : Net) (n : IsNet net) (on : 1 ≤ net.quiet) (retry : 1 ≤ net.r
   -- what is left of the journal is honest after the steps
   still_honest : (w : World) (h : History) (left : List Publish) (a : Arrival) (arrivals : List Arrival) → Turn w h left a → IsHonest h.lines (a ∷ arrivals) (served_from net (numbers net.brokers) w left (a ∷ arrivals)) →
       IsHonest (history net h (steps_of_arrival net h.lines left a) (run_from net w (steps_of_arrival net h.lines left a))).lines arrivals (served_from net (numbers net.brokers) (run_all net w (steps_of_arrival net h.lines left a)).world (left_after left a) arrivals)
-  unfolding served_from
+  unfolding served_from_by
   still_honest w h left a arrivals y x =
       let steps = steps_of_arrival net h.lines left a in
       let t = comes net (numbers net.brokers) w left a in
@@ -305,7 +305,7 @@ module _ (net : Net) (n : IsNet net) (on : 1 ≤ net.quiet) (retry : 1 ≤ net.r
       }
 
   pub holds : (arrivals : List Arrival) (w : World) (h : History) (left : List Publish) → Ready net P w h → LeftIn net left → IsHonest h.lines arrivals (served_from net (numbers net.brokers) w left arrivals) → HoldsServed net h left arrivals (served_from net (numbers net.brokers) w left arrivals)
-  unfolding served_from next run_from
+  unfolding served_from_by next_by run_from_by
   holds [] w h left r l x =
       subst (λ (z : List Report). (z ≡ filter is_record_line z ++ filter is_doubt_line z) × Holds_from net h (as_line step.Show ∷ []) (z ∷ [])) (sym (shown net w n))
       (shown_parts net w, holds_where_sweeps_reach net w h (as_line step.Show ∷ []) n (sweeps_reach net n on retry) on (tt, tt) r.whole r.unknown)
@@ -331,7 +331,7 @@ module _ (net : Net) (n : IsNet net) (on : 1 ≤ net.quiet) (retry : 1 ≤ net.r
   steps_same xs ys left (datagram b bytes moment) e = ap (λ (o : Option ℕ). as_line (step.Clock (min moment max_tick)) ∷ (if is_frame (frame_decoded bytes) then delivery_step o else [])) (number_sent b bytes xs ∙ (ap (number_of_bytes b bytes) e ∙ sym (number_sent b bytes ys)))
 
   pub all_do : (arrivals : List Arrival) (w : World) (h : History) (left : List Publish) (lines : List Report) → Ready net P w h → LeftIn net left → filter is_sent h.lines ≡ filter is_sent lines → IsHonest h.lines arrivals (served_from net (numbers net.brokers) w left arrivals) → AllDoSteps net w lines left arrivals
-  unfolding served_from
+  unfolding served_from_by
   all_do [] w h left lines r l e x = sym e ∙ r.whole.stands.sent
   all_do (a ∷ arrivals) w h left lines r l e x =
       let steps = steps_of_arrival net h.lines left a in

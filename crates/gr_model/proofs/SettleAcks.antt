@@ -12,7 +12,7 @@ use Rattle.gr_frame.specs.Bytes.{cut_frames}
 use Rattle.gr_tick.specs.Runs.{AreRuns, points}
 use Rattle.gr_know.specs.Values.{Known, known_at, is_Q}
 use Rattle.gr_curio.specs.Values.{Wanted, wanted_at, asked_at, is_C, is_A, is_outstanding}
-use Rattle.gr_model.specs.Net.{Net, is_host, keeps_horizon}
+use Rattle.gr_model.specs.Net.{Net, is_host, keeps_horizon, pass}
 use Rattle.gr_model.specs.Broker.{View, Log, know_frames, want_frames, all_A, any_C, consolidated, finished, forgotten, trimmed, max_tick, due, up_frames, place_of, answer, answers, curious, stored, acknowledged, curiosity}
 use Rattle.gr_model.specs.Tree.{IsDistinct}
 use Rattle.gr_model.specs.Truth.{Facts, WantsTruth}
@@ -42,10 +42,10 @@ know_none : (b c p : ℕ) → know_frames b c p [] ≡ []
 unfolding cut_frames
 know_none b c p = refl
 
-answer_quiet : (net : Net) (p c : ℕ) (k : K) (a x : Q3) → x ≢ C → answer net p c k a x ≡ Q
-answer_quiet net p c k a N h = refl
-answer_quiet net p c k a A h = refl
-answer_quiet net p c k a C h = absurd (h refl)
+answer_quiet : (k : K) (a x : Q3) → x ≢ C → answer k a x ≡ Q
+answer_quiet k a N h = refl
+answer_quiet k a A h = refl
+answer_quiet k a C h = absurd (h refl)
 
 not_C : (x : Q3) → x ≢ C → is_C x ≡ false
 not_C N h = refl
@@ -65,11 +65,11 @@ quiet_frames net f p b now c piece v log h child wt quiet =
     reply : Known
     reply = answers net p c v.know w piece
 
-    ri : AreRunsOf Q (λ t. answer net p c (known_at v.know t) (wanted_at w t) (wanted_at piece t)) reply
-    ri = answers-is net p c v.know w piece wt.runs
+    ri : AreRunsOf Q (λ t. answer (pass net p c t (known_at v.know t)) (wanted_at w t) (wanted_at piece t)) reply
+    ri = answers-is net p c v.know w piece h.know.runs wt.runs
 
     reply_none : reply ≡ []
-    reply_none = none_known reply ri.runs (λ t. ri.same_at t ∙ answer_quiet net p c (known_at v.know t) (wanted_at w t) (wanted_at piece t) (quiet t))
+    reply_none = none_known reply ri.runs (λ t. ri.same_at t ∙ answer_quiet (pass net p c t (known_at v.know t)) (wanted_at w t) (wanted_at piece t) (quiet t))
 
     know : Known
     know = finished v.know (consolidated (keeps_horizon net p b) v.horizon (set v.wants (place_of c (net.children p b)) (stored v.know w piece)))

@@ -8,7 +8,7 @@ use Rattle.gr_model.specs.declared.report.Report.{Report}
 use Rattle.gr_model.specs.declared.report.Report.TheVariants as line
 use Rattle.gr_model.specs.Net.{Net, keeps_horizon, is_empty, not_empty, numbers, numbers_from}
 use Rattle.gr_model.specs.Broker.{Outcome, wake, receive, max_tick}
-use Rattle.gr_model.specs.World.{World, Told, view_of, log_of, absorbed, unchanged, after, in_turn, wake_for, deliver_frame, frame_at, sweep_for, sweep_moment, sweep}
+use Rattle.gr_model.specs.World.{World, Told, view_of, log_of, absorbed, unchanged, after, in_turn, wake_for, deliver_frame, frame_at, sweep_for, sweep_moment, sweep, deliver_frame_by, sweep_for_by, wake_for_by}
 use Rattle.gr_model.specs.Headline.{is_record_line, last_cut, last_horizon}
 use Rattle.gr_model.specs.Settles.{all_made, calls_in_turn, sweep_calls_for, sweep_calls, at_sweep, sent_past, times, is_expect, SweepSettles}
 use Rattle.gr_model.specs.Tree.{IsNet, IsSubscriber}
@@ -62,7 +62,7 @@ call_rises net p w b q o f i j rise cuts =
     ]
 
 rises_chain : (net : Net) (p : ℕ) → IsNet net → Chains net (Rises net p)
-unfolding wake_for deliver_frame
+unfolding wake_for_by deliver_frame_by
 rises_chain net p n = record {
   nil = λ w f. record { horizon = λ b i. le_refl (view_of w b p).horizon; cut = le_refl (log_of w p).cut };
   seq = λ w t f g k a x b. record { horizon = λ c i. le_trans (a.horizon c i) (b.horizon c i); cut = le_trans a.cut b.cut };
@@ -78,7 +78,7 @@ rises_over net p ps w n f a = (in_turn_both net (Rises net p) (λ x q. q < net.p
 -- One publisher after another
 
 still_for : (net : Net) (p m : ℕ) (w : World) → IsNet net → 1 ≤ net.quiet → 1 ≤ net.retry → p < net.publishers → Calm net p m (length w.frames) (second_phase net w p) → Still net p m (second_phase net w p) (sweep_for net w p).world
-unfolding sweep_for
+unfolding sweep_for_by
 still_for net p m w n z r j c = third_phase_cuts net p m (length w.frames) (second_phase net w p) n z r j c
 
 -- what a publisher's sweep reaches, the later ones keep

@@ -41,9 +41,9 @@ sweep_settles net steps k n z r i ok =
     (calm_turns net (sweep_moment net w) 0 net.publishers (at_sweep net w) n z r (omega arith) (λ p x y. moment_begins net w p f (asks_always net steps n i) (unknowns_always net steps n i) (omega (arith, y))))
 
 -- what is due up to where all is settled is all that is wanted
-due_all : (net : Net) (s m from : ℕ) (events : List (ℕ × Event)) → TicksRise from events → ((t : ℕ) → m < t → said_at events t ≡ None) → due_upto net s m events ≡ filter (λ x. net.wants s x.1) events
-due_all net s m from [] r h = refl
-due_all net s m from (x ∷ xs) r h = go (net.wants s x.1) (due_all net s m x.0 xs r.1 (λ t l. sym (said_at-past x xs t (λ e. omega (arith, e, l, low))) ∙ h t l))
+due_all : (net : Net) (p s m from : ℕ) (events : List (ℕ × Event)) → TicksRise from events → ((t : ℕ) → m < t → said_at events t ≡ None) → due_upto net p s m events ≡ filter (λ x. net.wants p s x.0 x.1) events
+due_all net p s m from [] r h = refl
+due_all net p s m from (x ∷ xs) r h = go (net.wants p s x.0 x.1) (due_all net p s m x.0 xs r.1 (λ t l. sym (said_at-past x xs t (λ e. omega (arith, e, l, low))) ∙ h t l))
   where
     some_none : (e : Event) → Some e ≡ None → ⊥
     some_none e q = cc
@@ -54,7 +54,7 @@ due_all net s m from (x ∷ xs) r h = go (net.wants s x.1) (due_all net s m x.0 
       | inr l ↦ l
     ]
 
-    go : (q : Bool) → due_upto net s m xs ≡ filter (λ x. net.wants s x.1) xs → (if nat_le x.0 m && q then x ∷ due_upto net s m xs else due_upto net s m xs) ≡ (if q then x ∷ filter (λ x. net.wants s x.1) xs else filter (λ x. net.wants s x.1) xs)
+    go : (q : Bool) → due_upto net p s m xs ≡ filter (λ x. net.wants p s x.0 x.1) xs → (if nat_le x.0 m && q then x ∷ due_upto net p s m xs else due_upto net p s m xs) ≡ (if q then x ∷ filter (λ x. net.wants p s x.0 x.1) xs else filter (λ x. net.wants p s x.0 x.1) xs)
     go true e = rw (le-leb x.0 m low) (ap (λ z. x ∷ z) e)
     go false e = rw (le-leb x.0 m low) e
 
@@ -69,4 +69,4 @@ sweep_hands_over net steps k n z r i ok s p a j =
     let log = kept.fits.logs p j in
     let reached : reached_in net v p s ≡ (log_of v p).settled = reached_here net v p s y ∙ (x.horizons p (net.at s) j y.at_in (keeps_at_subscriber net p s y) ∙ sym (x.settled p j)) in
     (kept.lines (run_all net (start net) steps).lines (lines_always net steps n i)).got p s j y
-    ∙ (ap (λ z. due_upto net s z (log_of v p).events) reached ∙ due_all net s (log_of v p).settled 0 (log_of v p).events log.rise log.past)
+    ∙ (ap (λ z. due_upto net p s z (log_of v p).events) reached ∙ due_all net p s (log_of v p).settled 0 (log_of v p).events log.rise log.past)

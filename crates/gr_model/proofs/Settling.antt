@@ -14,7 +14,7 @@ use Rattle.gr_know.specs.Values.{Known, known_at, is_Q}
 use Rattle.gr_curio.specs.Values.{Wanted, wanted_at, asked_at, is_C, is_outstanding}
 use Rattle.gr_model.specs.Net.{Net, is_host, keeps_horizon}
 use Rattle.gr_model.specs.Broker.{View, Log, Outcome, any_C, is_settled, consolidated, up_frames, want_frames, place_of, head, wake, wake_host, wake_below, asking, marking, cutting, with_cut, done_upto, expect_frames, expect_frame, covers, curious, receive}
-use Rattle.gr_model.specs.World.{World, view_of, log_of, wake_for, deliver_frame, sent_since, frames_past, is_want}
+use Rattle.gr_model.specs.World.{World, view_of, log_of, wake_for, deliver_frame, sent_since, frames_past, is_want, wake_for_by}
 use Rattle.gr_model.specs.Truth.{Facts, AllWantTruth}
 use Rattle.gr_model.specs.Tree.{IsNet}
 use Rattle.gr_model.specs.Fits.{WorldFits, FrameTrue, BodyFits, BodyTrue, facts_of}
@@ -391,7 +391,7 @@ host_woken net f p b now v log host late a c h = subst (HostWoken v log) (sym is
 
 pub settling_host : (net : Net) (p m : ℕ) (base : List Frame) (b : ℕ) (bs : List ℕ) (w : World) → IsNet net → 1 ≤ net.quiet → WorldFits net w → b < net.brokers → p < net.publishers → is_host net p b ≡ true → ((c : ℕ) → list_any (λ x. nat_eq x c) (net.children p b) ≡ true → stands (b ∷ bs) c ≡ false) → Settling net p m base (b ∷ bs) w [] →
     Settling net p m base bs (wake_for net w b p).world (filter is_want (sent_since w (wake_for net w b p).world))
-unfolding wake_for
+unfolding wake_for_by
 settling_host net p m base b bs w n r f i j host out s =
     subst (Settling net p m base bs y) (sym pending) (record {
       clock = k.clock ∙ s.clock;

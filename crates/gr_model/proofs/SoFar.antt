@@ -8,7 +8,7 @@ use Rattle.gr_sched.specs.declared.step.Line.{Line}
 use Rattle.gr_model.specs.declared.report.Report.{Report}
 use Rattle.gr_model.specs.declared.report.Report.TheVariants as line
 use Rattle.gr_model.specs.Net.{keeps_horizon, Net, is_host}
-use Rattle.gr_model.specs.World.{sent_lines, World, view_of, log_of, start, next, run_all, run_from}
+use Rattle.gr_model.specs.World.{sent_lines, World, view_of, log_of, start, next, run_all, run_from, run_from_by}
 use Rattle.gr_model.specs.Headline.{GetsExactly, bare_after, InOrder, History, history, found_in, record_of, after, begin, last_horizon, may_crash, HorizonsRise, sent_count, is_sent}
 use Rattle.gr_model.proofs.RecordLines.{sent_lines-append}
 use Rattle.gr_model.proofs.RecordSteps.{step_sends}
@@ -114,7 +114,7 @@ in_order net w h n k = record {
 
 pub gets_now : (net : Net) (w : World) (h : History) (s p : ℕ) → Stands net w h → p < net.publishers → IsSubscriber net s → GetsExactly net h s p
 gets_now net w h s p k j y = record {
-  got = k.lines.got p s j y ∙ ap₂ (λ m r. due_upto net s m r.events) (sym (k.lines.horizon p s j y)) (sym (record_core net w h p k.records));
+  got = k.lines.got p s j y ∙ ap₂ (λ m r. due_upto net p s m r.events) (sym (k.lines.horizon p s j y)) (sym (record_core net w h p k.records));
   rise = k.lines.rise p s j y;
 }
 
@@ -182,7 +182,7 @@ start_stands net n = record {
 
 -- the world after a schedule stands with its history
 pub stands_run : (net : Net) (w : World) (h : History) (ls : List Line) → IsNet net → 1 ≤ net.quiet → StepsIn net ls → Stands net w h → Stands net (run_all net w ls).world (history net h ls (run_from net w ls))
-unfolding run_from
+unfolding run_from_by
 stands_run net w h [] n z i k = k
 stands_run net w h (l ∷ ls) n z i k = stands_run net (next net w l).world (after net h l (next net w l).lines) ls n z i.1 (next_stands net w h l n z i.0 k)
 

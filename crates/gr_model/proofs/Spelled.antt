@@ -23,7 +23,7 @@ use Rattle.gr_sched.specs.declared.step.Line.{Line}
 use Rattle.gr_model.specs.declared.report.Report.TheVariants as line
 use Rattle.gr_model.specs.Net.{Net, not_empty, numbers}
 use Rattle.gr_model.specs.Broker.{Log, Outcome, max_tick, empty_log, with_event, is_kept, publish, wake, receive, started}
-use Rattle.gr_model.specs.World.{World, Told, blank_view, view_of, log_of, absorbed, unchanged, after, in_turn, wake_for, wake_all, deliver_frame, publish_now, sweep_for, sweep, sweep_moment, frame_at, restarted, crash, publish_stopped, opened_lines, next, start, show, run_all}
+use Rattle.gr_model.specs.World.{World, Told, blank_view, view_of, log_of, absorbed, unchanged, after, in_turn, wake_for, wake_all, deliver_frame, publish_now, sweep_for, sweep, sweep_moment, frame_at, restarted, crash, publish_stopped, opened_lines, next, start, show, run_all, deliver_frame_by, next_by, publish_now_by, publish_stopped_by, sweep_by, wake_for_by}
 use Rattle.gr_model.specs.Truth.{Facts}
 use Rattle.gr_model.specs.Tree.{IsNet}
 use Rattle.gr_model.specs.Fits.{facts_of, BodyTrue, FrameTrue, AllFramesTrue, WorldFits, StepIn, StepsIn}
@@ -107,17 +107,17 @@ absorbed_in net w b p o z i f c a = record {
 }
 
 wake_for_in : (net : Net) (w : World) (b p : ℕ) → IsNet net → IsSmall net → WorldFits net w → b < net.brokers → p < net.publishers → WorldIn w → WorldIn (wake_for net w b p).world
-unfolding wake_for
+unfolding wake_for_by
 wake_for_in net w b p n z f i j a = absorbed_in net w b p (wake net p b w.clock (view_of w b p) (log_of w p)) z i (wake_for_kept net w b p n f i j).fits (wake_in net p b w.clock (view_of w b p) (log_of w p) a.clock (view_in w b p a) (log_in w p a)) a
 
 pub deliver_in : (net : Net) (w : World) (x : Frame) → IsNet net → IsSmall net → WorldFits net w → FrameTrue net w x → BodyIn x.body → WorldIn w → WorldIn (deliver_frame net w x).world
-unfolding deliver_frame
+unfolding deliver_frame_by
 deliver_in net w x n z f t r a =
     absorbed_in net w x.head.to x.head.publisher (receive net w.clock x (view_of w x.head.to x.head.publisher) (log_of w x.head.publisher)) z t.fits.to_in (deliver_kept net w x n f t).fits
     (receive_in net w.clock x (view_of w x.head.to x.head.publisher) (log_of w x.head.publisher) r (view_in w x.head.to x.head.publisher a) (log_in w x.head.publisher a)) a
 
 publish_now_in : (net : Net) (w : World) (p number : ℕ) (e : Event) → IsNet net → IsSmall net → WorldFits net w → p < net.publishers → IsEvent e → WorldIn w → WorldIn (publish_now net w p number e).world
-unfolding publish_now
+unfolding publish_now_by
 publish_now_in net w p number e n z f j k a =
     absorbed_in net w (net.host p) p (publish net p (net.host p) w.clock number e (view_of w (net.host p) p) (log_of w p)) z (n.host_in p j) (publish_kept net w p number e n f j).fits
     (publish_in net p (net.host p) w.clock number e (view_of w (net.host p) p) (log_of w p) k (view_in w (net.host p) p a) (log_in w p a)) a
@@ -148,7 +148,7 @@ restarted_in net w b a = record {
 -- Steps
 
 sweep_in : (net : Net) (w : World) (k : ℕ) → IsNet net → IsSmall net → WorldFits net w → WorldIn w → WorldIn (sweep net w k).world
-unfolding sweep
+unfolding sweep_by
 sweep_in net w k n z f a = go (nat_lt max_tick m) refl
   where
     m : ℕ
@@ -162,7 +162,7 @@ sweep_in net w k n z f a = go (nat_lt max_tick m) refl
     go false e = (in_turn_goes net WorldIn (λ x p. p < net.publishers) (sweep_for net) (λ x y p l h. h) (λ x p g k h. sweep_for_goes net IsSpelled WorldIn x p n (calls_closed net n z) g k h) (numbers net.publishers) u (clocked_fits net w m (max m w.most) f) (clocked_in w m (max m w.most) (ltb-false max_tick m e) a) (numbers_below 0 net.publishers net.publishers (omega arith))).holds
 
 publish_stopped_in : (net : Net) (w : World) (k p number : ℕ) (stop : Stop) (e : Event) → IsNet net → IsSmall net → WorldFits net w → p < net.publishers → IsEvent e → WorldIn w → WorldIn (publish_stopped net w k p number stop e).world
-unfolding publish_stopped
+unfolding publish_stopped_by
 publish_stopped_in net w k p number stop e n z f j is a = host_at (not_empty (net.subscribers_at (net.host p)))
   where
     log : Log
@@ -197,7 +197,7 @@ publish_stopped_in net w k p number stop e n z f j is a = host_at (not_empty (ne
 
 -- each step keeps it
 pub next_in : (net : Net) (w : World) (l : Line) → IsNet net → IsSmall net → WorldFits net w → StepIn net l.step → NumberIn l.step → WorldIn w → WorldIn (next net w l).world
-unfolding next crash
+unfolding next_by crash
 next_in net w l n z f i k a = go l.step i k
   where
     delivered : (m : ℕ) (o : Option Frame) → frame_at w m ≡ o → WorldIn (let t : Told = elim o [ None ↦ unchanged w (line.RefusedFrame l.number m (length w.frames) ∷ []) | Some x ↦ deliver_frame net w x ] in t.world)

@@ -1,5 +1,5 @@
 -- A broker's call keeps every tick and event within the limits, and what it sends is cut into frames that are short enough
-use Rattle.std.proofs.Common.{◌≡◌, ℕ, suc, ◌+◌, ◌-◌, ◌≤◌, min, max, Bool, true, false, ◌&&◌, ◌||◌, List, [], ◌∷◌, ◌++◌, map, set, get_or, refl, Option, Some, None, arith, le_trans}
+use Rattle.std.proofs.Common.{◌≡◌, ℕ, zero, suc, ◌+◌, ◌-◌, ◌≤◌, min, max, Bool, true, false, ◌&&◌, ◌||◌, List, [], ◌∷◌, ◌++◌, map, set, get_or, refl, Option, Some, None, arith, le_trans}
 use Rattle.std.specs.Prelude.{not, nat_eq, nat_le, nat_lt, if◌then◌else◌}
 use Rattle.std.specs.List.{AllByRecursion}
 use Rattle.std.proofs.lemmas.Bool.{leb-true, ltb-true, ltb-false}
@@ -23,8 +23,8 @@ use Rattle.gr_frame.specs.declared.Frame.{Frame}
 use Rattle.gr_frame.specs.Bytes.{known_run_size, wanted_run_size, cut_frames}
 use Rattle.gr_frame.specs.Limits.{IsKnown, IsWanted}
 use Rattle.gr_model.specs.declared.report.Report.TheVariants as line
-use Rattle.gr_model.specs.Net.{Net, is_host, keeps_horizon, wanted_below, pass}
-use Rattle.gr_model.specs.Broker.{View, Log, Outcome, max_tick, head, know_frames, want_frames, expect_frame, up_frames, all_points, is_settled, consolidated, finished, forgotten, trimmed, horizon_after, new_ticks, forward, quenched, forward_frames, forward_wants, learn, due, noted, upward, acknowledged, answer, answers, curious, stored, curiosity, asking, wanted_at_wake, wake_below, covers, expect_frames, expect, any_C, with_event, with_mark, with_cut, event_at, event_points, log_at, log_know, silence, publish, done_upto, cutting, marking, wake_host, wake, started, place_of, clashes, receive}
+use Rattle.gr_model.specs.Net.{Net, is_host, keeps_horizon, wanted_below, pass, numbers_from}
+use Rattle.gr_model.specs.Broker.{View, Log, Outcome, max_tick, head, know_frames, want_frames, expect_frame, up_frames, all_points, is_settled, consolidated, finished, forgotten, trimmed, horizon_after, new_ticks, event_ticks, pass_points, passed, forward, quenched, forward_frames, forward_wants, learn, due, noted, upward, acknowledged, answer, answers, curious, stored, curiosity, asking, wanted_at_wake, wake_below, covers, expect_frames, expect, any_C, with_event, with_mark, with_cut, event_at, event_points, log_at, log_know, silence, publish, done_upto, cutting, marking, wake_host, wake, started, place_of, clashes, receive}
 use Rattle.gr_model.specs.Spelled.{RunsIn, IsMoment, ViewIn, LogIn}
 use Rattle.gr_model.proofs.SpelledRuns.{all_on, all_set, all_get, all_made, AreUpto, points_upto, all_points_upto, value_fits, tabulate_in, both_upto, zip_in, first_bottom_upto, top_upto, forgotten_in, IsPart, parts_in}
 
@@ -85,11 +85,11 @@ expects_cut p b tick (c ∷ cs) (w ∷ ws) h k = all_on (FrameCut b) (if covers 
 
 -- Values
 
-pass_known : (net : Net) (p c : ℕ) (k : K) → IsKnown k → IsKnown (pass net p c k)
-pass_known net p c Q h = tt
-pass_known net p c S h = tt
-pass_known net p c F h = tt
-pass_known net p c (D e) h = go (wanted_below net p c e)
+pass_known : (net : Net) (p c t : ℕ) (k : K) → IsKnown k → IsKnown (pass net p c t k)
+pass_known net p c t Q h = tt
+pass_known net p c t S h = tt
+pass_known net p c t F h = tt
+pass_known net p c t (D e) h = go (wanted_below net p c t e)
   where
     go : (q : Bool) → IsKnown (elim q [ true ↦ D e | false ↦ S ])
     go true = h
@@ -115,10 +115,10 @@ if_known : (q : Bool) (k x : K) → IsKnown k → IsKnown x → IsKnown (if q th
 if_known true k x h g = h
 if_known false k x h g = g
 
-answer_known : (net : Net) (p c : ℕ) (k : K) (a x : Q3) → IsKnown k → IsKnown (answer net p c k a x)
-answer_known net p c k a N h = tt
-answer_known net p c k a A h = tt
-answer_known net p c k a C h = if_known (is_A a) F (pass net p c k) tt (pass_known net p c k h)
+answer_known : (k : K) (a x : Q3) → IsKnown k → IsKnown (answer k a x)
+answer_known k a N h = tt
+answer_known k a A h = tt
+answer_known k a C h = if_known (is_A a) F k tt h
 
 -- Parts of calls
 
@@ -153,9 +153,28 @@ new_in : (know piece : Known) → RunsIn IsKnown know → RunsIn IsKnown piece �
 unfolding new_ticks
 new_in know piece a b = zip_in IsKnown IsKnown IsKnown Q Q Q same_K new_K know piece a b tt tt (λ k x h g. if_known (is_Q k) x Q g tt)
 
+row_upto : (a n : ℕ) → a + n ≤ suc (suc max_tick) → AreUpto (numbers_from a n)
+row_upto a zero h = tt
+row_upto a (suc n) h = (omega arith, row_upto (suc a) n (omega arith))
+
+event_upto : (k : K) (first last : ℕ) → first ≤ suc max_tick → last ≤ max_tick → AreUpto (event_ticks k first last)
+event_upto Q first last h k = tt
+event_upto S first last h k = tt
+event_upto F first last h k = tt
+event_upto (D e) first last h k = row_upto (suc first) (last - first) (omega arith)
+
+pass_upto : (know : Known) → RunsIn IsKnown know → AreUpto (pass_points know)
+pass_upto [] a = tt
+pass_upto (r ∷ rs) a = (a.0.first, (omega (arith, a.0.last), all_on (λ p. p ≤ suc max_tick) (event_ticks r.value r.first r.last) (pass_points rs) (event_upto r.value r.first r.last a.0.first a.0.last) (pass_upto rs a.1)))
+
+passed_in : (net : Net) (p c : ℕ) (know : Known) → RunsIn IsKnown know → RunsIn IsKnown (passed net p c know)
+unfolding passed
+passed_in net p c know a =
+    tabulate_in IsKnown Q same_K (λ t. pass net p c t (known_at know t)) (pass_points know) (pass_upto know a) (λ t. pass_known net p c t (known_at know t) (value_fits IsKnown Q know t tt a))
+
 forward_in : (net : Net) (p c : ℕ) (w : Wanted) (new : Known) → RunsIn IsWanted w → RunsIn IsKnown new → RunsIn IsKnown (forward net p c w new)
 unfolding forward
-forward_in net p c w new a b = zip_in IsKnown IsWanted IsKnown Q N Q same_K (λ v a. if is_A a then Q else pass net p c v) new w b a tt tt (λ v a h g. if_known (is_A a) Q (pass net p c v) tt (pass_known net p c v h))
+forward_in net p c w new a b = zip_in IsKnown IsWanted IsKnown Q N Q same_K (λ v a. if is_A a then Q else v) (passed net p c new) w (passed_in net p c new b) a tt tt (λ v a h g. if_known (is_A a) Q v tt h)
 
 quenched_in : (w : Wanted) (sent : Known) → RunsIn IsWanted w → RunsIn IsKnown sent → RunsIn IsWanted (quenched w sent)
 unfolding quenched
@@ -239,8 +258,10 @@ three_upto know w piece h a b = all_on (λ p. p ≤ suc max_tick) (points know +
 answers_in : (net : Net) (p c : ℕ) (know : Known) (w piece : Wanted) → RunsIn IsKnown know → RunsIn IsWanted w → RunsIn IsWanted piece → RunsIn IsKnown (answers net p c know w piece)
 unfolding answers
 answers_in net p c know w piece h a b =
-    tabulate_in IsKnown Q same_K (λ t. answer net p c (known_at know t) (wanted_at w t) (wanted_at piece t)) (points know ++ points w ++ points piece) (three_upto know w piece h a b)
-    (λ t. answer_known net p c (known_at know t) (wanted_at w t) (wanted_at piece t) (value_fits IsKnown Q know t tt h))
+    let k : Known = passed net p c know in
+    let i : RunsIn IsKnown k = passed_in net p c know h in
+    tabulate_in IsKnown Q same_K (λ t. answer (known_at k t) (wanted_at w t) (wanted_at piece t)) (points k ++ points w ++ points piece) (three_upto k w piece i a b)
+    (λ t. answer_known (known_at k t) (wanted_at w t) (wanted_at piece t) (value_fits IsKnown Q k t tt i))
 
 stored_in : (know : Known) (w piece : Wanted) → RunsIn IsKnown know → RunsIn IsWanted w → RunsIn IsWanted piece → RunsIn IsWanted (stored know w piece)
 unfolding stored

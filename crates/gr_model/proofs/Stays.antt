@@ -12,7 +12,7 @@ use Rattle.gr_know.specs.Values.{known_at}
 use Rattle.gr_curio.specs.Values.{Wanted, wanted_at, asked_at, is_A}
 use Rattle.gr_model.specs.Net.{Net, is_host, keeps_horizon}
 use Rattle.gr_model.specs.Broker.{Outcome, place_of, receive, curious, is_settled, wake, wake_below, wake_host}
-use Rattle.gr_model.specs.World.{World, view_of, log_of, deliver_frame, wake_for}
+use Rattle.gr_model.specs.World.{World, view_of, log_of, deliver_frame, wake_for, deliver_frame_by, wake_for_by}
 use Rattle.gr_model.specs.Fits.{facts_of, WorldFits, FrameTrue, BodyTrue, BodyFits}
 use Rattle.gr_model.specs.Tree.{IsNet}
 use Rattle.gr_model.proofs.Worlds.{deliver_kept}
@@ -31,7 +31,7 @@ pub record DeliveredWant (net : Net) (w y : World) (x : Frame) (runs : Wanted) (
 
 pub delivered_want : (net : Net) (w : World) (x : Frame) (runs : Wanted) → IsNet net → WorldFits net w → FrameTrue net w x → x.body ≡ body.Curiosity runs →
     DeliveredWant net w (deliver_frame net w x).world x runs (receive net w.clock x (view_of w x.head.to x.head.publisher) (log_of w x.head.publisher))
-unfolding deliver_frame
+unfolding deliver_frame_by
 delivered_want net w x runs n f tr e =
     let p = x.head.publisher in
     let v = view_of w x.head.to p in
@@ -111,7 +111,7 @@ pub record WokenBelow (net : Net) (w y : World) (b p : ℕ) (o : Outcome) : Type
   pub taken : Taken net w y b p o
 
 pub woken_below : (net : Net) (w : World) (b p : ℕ) → WorldFits net w → b < net.brokers → p < net.publishers → is_host net p b ≡ false → WokenBelow net w (wake_for net w b p).world b p (wake net p b w.clock (view_of w b p) (log_of w p))
-unfolding wake_for wake
+unfolding wake_for_by wake
 woken_below net w b p f i j e = record {
   ticks = subst (λ q. WakeTicks net p b w.clock (view_of w b p) (at q)) (sym e) (wake_ticks net (facts_of net w p) p b w.clock (view_of w b p) (log_of w p) (f.views p b j i));
   taken = absorbed_taken net w b p (wake net p b w.clock (view_of w b p) (log_of w p)) f i j;

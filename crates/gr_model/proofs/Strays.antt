@@ -15,7 +15,7 @@ use Rattle.gr_sched.specs.declared.step.Line.{Line}
 use Rattle.gr_model.specs.declared.report.Report.TheVariants as line
 use Rattle.gr_model.specs.Net.{Net, is_host}
 use Rattle.gr_model.specs.Broker.{View, Log, Outcome, head, know_frames, want_frames, up_frames, expect_frame, forward, forward_frames, expect_frames, new_ticks, covers, learn, asking, curiosity, expect, marking, cutting, wake, wake_host, wake_below, receive, clashes, place_of, publish, silence, with_event, with_mark, max_tick}
-use Rattle.gr_model.specs.World.{World, view_of, log_of, absorbed, frame_at, wake_for, deliver_frame, publish_now, restarted, start, run_all}
+use Rattle.gr_model.specs.World.{World, view_of, log_of, absorbed, frame_at, wake_for, deliver_frame, publish_now, restarted, start, run_all, deliver_frame_by, publish_now_by, wake_for_by}
 use Rattle.gr_model.specs.Edges.{GoesOverEdge}
 use Rattle.gr_model.specs.Tree.{IsNet}
 use Rattle.gr_model.specs.Fits.{FrameTrue, BodyFits, StepsIn}
@@ -166,15 +166,15 @@ abbrev pub AllOver : Net → World → Type 0
 AllOver net w = Each (GoesOverEdge net) w.frames
 
 woken_over : (net : Net) (w : World) (b p : ℕ) → IsNet net → b < net.brokers → p < net.publishers → AllOver net w → AllOver net (wake_for net w b p).world
-unfolding wake_for absorbed
+unfolding wake_for_by absorbed
 woken_over net w b p n i j a = Each-on (GoesOverEdge net) w.frames _ a (wake_on net p b w.clock (GoesOverEdge net) (view_of w b p) (log_of w p) (over_edges net p b n j i))
 
 delivered_over : (net : Net) (w : World) (x : Frame) → IsNet net → FrameTrue net w x → AllOver net w → AllOver net (deliver_frame net w x).world
-unfolding deliver_frame absorbed
+unfolding deliver_frame_by absorbed
 delivered_over net w x n t a = Each-on (GoesOverEdge net) w.frames _ a (receive_on net w.clock (GoesOverEdge net) x (view_of w x.head.to x.head.publisher) (log_of w x.head.publisher) (over_edges net x.head.publisher x.head.to n t.publisher_in t.fits.to_in) t.fits.body)
 
 published_over : (net : Net) (w : World) (p number : ℕ) (e : Event) → IsNet net → p < net.publishers → AllOver net w → AllOver net (publish_now net w p number e).world
-unfolding publish_now absorbed
+unfolding publish_now_by absorbed
 published_over net w p number e n j a = Each-on (GoesOverEdge net) w.frames _ a (publish_on net p (net.host p) w.clock number (GoesOverEdge net) e (view_of w (net.host p) p) (log_of w p) (over_edges net p (net.host p) n j (n.host_in p j)))
 
 pub over_closed : (net : Net) → IsNet net → IsClosed net (GoesOverEdge net) (AllOver net)

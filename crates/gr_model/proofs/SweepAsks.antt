@@ -6,7 +6,7 @@ use Rattle.gr_frame.specs.declared.Frame.{Frame}
 use Rattle.gr_curio.specs.Values.{asked_at, is_outstanding}
 use Rattle.gr_model.specs.Net.{Net}
 use Rattle.gr_model.specs.Broker.{Outcome, wake, receive}
-use Rattle.gr_model.specs.World.{World, view_of, log_of, absorbed, wake_for, deliver_frame, sweep_for, sweep_moment}
+use Rattle.gr_model.specs.World.{World, view_of, log_of, absorbed, wake_for, deliver_frame, sweep_for, sweep_moment, deliver_frame_by, wake_for_by}
 use Rattle.gr_model.specs.Tree.{IsNet}
 use Rattle.gr_model.specs.Fits.{WorldFits, FrameTrue}
 use Rattle.gr_model.proofs.Worlds.{Each}
@@ -50,13 +50,13 @@ taken_now net m w u b p o i j t k fits a = record {
 }
 
 wake_now : (net : Net) (m : ℕ) → IsNet net → (w : World) (b p : ℕ) → WorldFits net w → b < net.brokers → p < net.publishers → AsksNow net m w → AsksNow net m (wake_for net w b p).world
-unfolding wake_for
+unfolding wake_for_by
 wake_now net m n w b p f i j a =
     let o = wake net p b w.clock (view_of w b p) (log_of w p) in
     taken_now net m w (absorbed w b p o).world b p o i j (absorbed_taken net w b p o f i j) (wake_asks net p b w.clock (view_of w b p) (log_of w p)) (wake_frames_fit net p b w.clock (view_of w b p) (log_of w p) (λ c k. (n.place p b j i).child_not_host c k)) a
 
 deliver_now : (net : Net) (m : ℕ) → IsNet net → (w : World) (x : Frame) → WorldFits net w → FrameTrue net w x → ExpectFits net x → AsksNow net m w → AsksNow net m (deliver_frame net w x).world
-unfolding deliver_frame
+unfolding deliver_frame_by
 deliver_now net m n w x f t r a =
     let o = receive net w.clock x (view_of w x.head.to x.head.publisher) (log_of w x.head.publisher) in
     taken_now net m w (absorbed w x.head.to x.head.publisher o).world x.head.to x.head.publisher o t.fits.to_in t.publisher_in (absorbed_taken net w x.head.to x.head.publisher o f t.fits.to_in t.publisher_in) (receive_asks net w.clock x (view_of w x.head.to x.head.publisher) (log_of w x.head.publisher) r)

@@ -7,7 +7,7 @@ use Rattle.gr_frame.specs.declared.Frame.{Frame}
 use Rattle.gr_model.specs.declared.report.Report.TheVariants as line
 use Rattle.gr_model.specs.Net.{Net, numbers}
 use Rattle.gr_model.specs.Broker.{Outcome, max_tick, wake, receive}
-use Rattle.gr_model.specs.World.{World, Told, view_of, log_of, absorbed, unchanged, after, in_turn, wake_for, deliver_frame, frame_at, frames_past, sent_since, is_want, is_know_to, deliver_up, wake_up, hand_down, sweep_for, inwards, outwards, sweep_moment, sweep}
+use Rattle.gr_model.specs.World.{World, Told, view_of, log_of, absorbed, unchanged, after, in_turn, wake_for, deliver_frame, frame_at, frames_past, sent_since, is_want, is_know_to, deliver_up, wake_up, hand_down, sweep_for, inwards, outwards, sweep_moment, sweep, deliver_frame_by, deliver_up_by, hand_down_by, sweep_by, sweep_for_by, wake_for_by, wake_up_by}
 use Rattle.gr_model.specs.Settles.{Call, wakes, delivers, made, EachSent, all_made, numbers_of, sent_past, calls_in_turn, up_calls, wake_calls, down_calls, sweep_calls_for, at_sweep, sweep_calls}
 
 -- Frames are only added
@@ -27,11 +27,11 @@ unfolding absorbed
 absorbed_grows w b p o = record { more = o.frames; frames = refl }
 
 pub wake_grows : (net : Net) (w : World) (b p : ℕ) → Grows w (wake_for net w b p).world
-unfolding wake_for
+unfolding wake_for_by
 wake_grows net w b p = absorbed_grows w b p (wake net p b w.clock (view_of w b p) (log_of w p))
 
 pub deliver_grows : (net : Net) (w : World) (f : Frame) → Grows w (deliver_frame net w f).world
-unfolding deliver_frame
+unfolding deliver_frame_by
 deliver_grows net w f = absorbed_grows w f.head.to f.head.publisher (receive net w.clock f (view_of w f.head.to f.head.publisher) (log_of w f.head.publisher))
 
 made_grows : (net : Net) (w : World) (c : Call) → Grows w (made net w c).world
@@ -138,7 +138,7 @@ pub made_is : (net : Net) (w : World) (k : ℕ) (f : Frame) → IsAt w k f → m
 made_is net w k f e = ap (λ o. let t : Told = elim o [ None ↦ unchanged w [] | Some f ↦ deliver_frame net w f ] in t) e
 
 pub up_are : (net : Net) (fuel : ℕ) (ks : List ℕ) (fs : List Frame) (w : World) → Pairs (IsAt w) ks fs → all_made net (up_calls net fuel ks w) w ≡ deliver_up net fuel fs w
-unfolding up_calls deliver_up
+unfolding up_calls deliver_up_by
 up_are net zero ks fs w a = refl
 up_are net (suc fuel) ks fs w a = calls_are net (λ u k f. IsAt u k f) (λ u k. let x = (made net u (delivers k)).world in delivers k ∷ up_calls net fuel (sent_past is_want (length u.frames) x) x) (λ u f. after (deliver_frame net u f) (λ x. deliver_up net fuel (filter is_want (sent_since u x)) x))
     (λ u v k f g e. at_stays u v k f g e)
@@ -149,7 +149,7 @@ up_are net (suc fuel) ks fs w a = calls_are net (λ u k f. IsAt u k f) (λ u k. 
     ks fs w a
 
 pub wakes_are : (net : Net) (p : ℕ) (w : World) (b : ℕ) → all_made net (wake_calls net p w b) w ≡ wake_up net p w b
-unfolding wake_calls wake_up
+unfolding wake_calls wake_up_by
 wakes_are net p w b =
     let s = wake_for net w b p in
     ap (λ (r : Told). let t : Told = record { world = r.world; lines = s.lines ++ r.lines } in t) (up_are net net.brokers (sent_past is_want (length w.frames) s.world) (filter is_want (sent_since w s.world)) s.world (sent_at is_want (length w.frames) s.world (grows_long w s.world (length w.frames) (wake_grows net w b p) (omega arith))))
@@ -164,7 +164,7 @@ deliveries_are net (k ∷ ks) (f ∷ fs) w a =
     ∙ ap (λ (t : Told). after t (in_turn (deliver_frame net) fs)) (made_is net w k f a.0)
 
 pub downs_are : (net : Net) (p first : ℕ) (w : World) (b : ℕ) → first ≤ length w.frames → all_made net (down_calls net p first w b) w ≡ hand_down net p first w b
-unfolding down_calls hand_down
+unfolding down_calls hand_down_by
 downs_are net p first w b l = deliveries_are net (sent_past (is_know_to p b) first w) (filter (is_know_to p b) (frames_past first w.frames)) w (sent_at (is_know_to p b) first w l)
 
 -- items that go with themselves
@@ -179,7 +179,7 @@ pub down_turns_are : (net : Net) (p first : ℕ) (bs : List ℕ) (w : World) →
 down_turns_are net p first bs w l = calls_are net (λ u x y. (x ≡ y) × (first ≤ length u.frames)) (down_calls net p first) (hand_down net p first) (λ u v x y g e. (e.0, grows_long u v first g e.1)) (λ u x y e. downs_are net p first u x e.1 ∙ ap (hand_down net p first u) e.0) bs bs w (pairs_same (λ x y. (x ≡ y) × (first ≤ length w.frames)) bs (λ x. (refl, l)))
 
 pub sweep_for_are : (net : Net) (w : World) (p : ℕ) → all_made net (sweep_calls_for net w p) w ≡ sweep_for net w p
-unfolding sweep_calls_for sweep_for
+unfolding sweep_calls_for sweep_for_by
 sweep_for_are net w p =
     all_made-append net (a ++ b) c w
     ∙ (ap (λ (t : Told). after t (all_made net c)) (all_made-append net a b w)
@@ -216,7 +216,7 @@ sweeps_are net ps w = calls_are net (λ u x y. x ≡ y) (sweep_calls_for net) (s
 
 -- a sweep that is not refused is its calls
 pub sweep_is_calls : (net : Net) (w : World) (k : ℕ) → nat_lt max_tick (sweep_moment net w) ≡ false → sweep net w k ≡ after (all_made net (sweep_calls net w) (at_sweep net w)) (λ x. unchanged x (line.Swept (sweep_moment net w) ∷ []))
-unfolding sweep sweep_calls
+unfolding sweep_by sweep_calls
 sweep_is_calls net w k ok = go (nat_lt max_tick (sweep_moment net w)) ok
   where
     swept : Told

@@ -12,7 +12,7 @@ use Rattle.gr_model.specs.declared.report.Report.{Report}
 use Rattle.gr_model.specs.declared.report.Report.TheVariants as line
 use Rattle.gr_model.specs.Net.{Net, is_host, numbers}
 use Rattle.gr_model.specs.Broker.{View, Log, Outcome, marking, cutting, wake, wake_host, wake_below, asking, receive, max_tick}
-use Rattle.gr_model.specs.World.{World, Told, view_of, log_of, absorbed, unchanged, after, in_turn, sent_lines, wake_for, deliver_frame, sweep, sweep_for, sweep_moment}
+use Rattle.gr_model.specs.World.{World, Told, view_of, log_of, absorbed, unchanged, after, in_turn, sent_lines, wake_for, deliver_frame, sweep, sweep_for, sweep_moment, deliver_frame_by, sweep_by, wake_for_by}
 use Rattle.gr_model.specs.Headline.{know_of_line, hearing, hearing_all}
 use Rattle.gr_model.specs.Tree.{IsNet}
 use Rattle.gr_model.specs.Fits.{WorldFits, FrameTrue}
@@ -109,11 +109,11 @@ wake_mute net p b now v log = go (is_host net p b)
     go false = refl
 
 wake_adding : (net : Net) (w : World) (b p : ℕ) → Adding w (wake_for net w b p)
-unfolding wake_for
+unfolding wake_for_by
 wake_adding net w b p = absorbed_adding w b p (wake net p b w.clock (view_of w b p) (log_of w p)) (wake_mute net p b w.clock (view_of w b p) (log_of w p))
 
 deliver_adding : (net : Net) (w : World) (x : Frame) → Adding w (deliver_frame net w x)
-unfolding deliver_frame
+unfolding deliver_frame_by
 deliver_adding net w x = absorbed_adding w x.head.to x.head.publisher (receive net w.clock x (view_of w x.head.to x.head.publisher) (log_of w x.head.publisher)) (receive_none is_know net w.clock x (view_of w x.head.to x.head.publisher) (log_of w x.head.publisher) know_skips)
 
 adding_chain : (net : Net) → Chains net Adding
@@ -131,7 +131,7 @@ pub record SweepAdds (net : Net) (w : World) (k : ℕ) : Type 0 where
   pub lines : (heard : Pieces) → hearing_all heard (sweep net w k).lines ≡ hear_frames heard more
 
 pub sweep_adds : (net : Net) (w : World) (k : ℕ) → IsNet net → WorldFits net w → SweepAdds net w k
-unfolding sweep
+unfolding sweep_by
 sweep_adds net w k n f = let a = go (nat_lt max_tick m) in record { more = a.more; frames = a.frames; lines = a.lines }
   where
     m : ℕ

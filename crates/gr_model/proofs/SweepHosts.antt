@@ -6,7 +6,7 @@ use Rattle.gr_frame.specs.declared.Frame.{Frame}
 use Rattle.gr_model.specs.declared.report.Report.TheVariants as line
 use Rattle.gr_model.specs.Net.{Net, keeps_horizon, numbers, numbers_from}
 use Rattle.gr_model.specs.Broker.{Outcome, wake, receive, max_tick}
-use Rattle.gr_model.specs.World.{World, Told, view_of, log_of, absorbed, unchanged, after, in_turn, wake_for, deliver_frame, sweep, sweep_for, sweep_moment, next}
+use Rattle.gr_model.specs.World.{World, Told, view_of, log_of, absorbed, unchanged, after, in_turn, wake_for, deliver_frame, sweep, sweep_for, sweep_moment, next, deliver_frame_by, next_by, sweep_by, wake_for_by}
 use Rattle.gr_model.specs.Headline.{History, bare_after}
 use Rattle.gr_model.specs.Tree.{IsNet}
 use Rattle.gr_sched.specs.declared.step.Step.{Step}
@@ -62,7 +62,7 @@ call_moves net p w b q o f i j call meets =
     ]
 
 wake_moves : (net : Net) (p : ℕ) (w : World) (b q : ℕ) → IsNet net → WorldFits net w → b < net.brokers → q < net.publishers → keeps_horizon net p (net.host p) ≡ true → Moves net p w (wake_for net w b q)
-unfolding wake_for
+unfolding wake_for_by
 wake_moves net p w b q n f i j keeps =
     let o = wake net q b w.clock (view_of w b q) (log_of w q) in
     call_moves net p w b q o f i j (wake_call net q b w.clock (view_of w b q) (log_of w q) (reached_in net w q) n j i (f.logs q j) (f.views q b j i))
@@ -75,7 +75,7 @@ wake_moves net p w b q n f i j keeps =
     ])
 
 deliver_moves : (net : Net) (p : ℕ) (w : World) (x : Frame) → IsNet net → WorldFits net w → FrameTrue net w x → Moves net p w (deliver_frame net w x)
-unfolding deliver_frame
+unfolding deliver_frame_by
 deliver_moves net p w x n f t =
     let b = x.head.to in
     let q = x.head.publisher in
@@ -102,7 +102,7 @@ marks_told p c a (suc n) h k =
 
 -- a sweep tells of each publisher, and its host has come to where the log is settled
 pub sweep_tells : (net : Net) (w : World) (k p : ℕ) → IsNet net → 1 ≤ net.quiet → WorldFits net w → p < net.publishers → keeps_horizon net p (net.host p) ≡ true → Tells net p w (sweep net w k)
-unfolding sweep
+unfolding sweep_by
 sweep_tells net w k p n z f j keeps = go (nat_lt max_tick m)
   where
     m : ℕ
@@ -139,7 +139,7 @@ sweep_tells net w k p n z f j keeps = go (nat_lt max_tick m)
     go false = record { told = λ x. reached; still = λ x. absurd (true≢false (sym told ∙ x)) }
 
 bare_at : (net : Net) (w : World) (h : History) (k : ℕ) (s : Step) → IsNet net → 1 ≤ net.quiet → WorldFits net w → RecordsFit net w h → Each (ExpectFits net) w.frames → StepIn net s → Bare net w h.bare → Bare net (next net w (record { number = k; step = s })).world (bare_after net h (record { number = k; step = s }) (next net w (record { number = k; step = s })).lines)
-unfolding next bare_after
+unfolding next_by bare_after
 bare_at net w h k step.Sweep n z f r x i a = tells_bare net w (sweep net w k) h.bare a (λ p j keeps. sweep_tells net w k p n z f j keeps)
 bare_at net w h k s n z f r x i a = bare_by net w h k s n z f r x i refl a
 

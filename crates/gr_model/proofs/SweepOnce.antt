@@ -6,7 +6,7 @@ use Rattle.gr_frame.specs.declared.Body.{Body}
 use Rattle.gr_frame.specs.declared.Body.TheVariants as body
 use Rattle.gr_frame.specs.declared.Frame.{Frame}
 use Rattle.gr_model.specs.Net.{Net}
-use Rattle.gr_model.specs.World.{World, Told, in_turn, wake_for, deliver_frame, frames_past, sent_since, is_want, is_know_to, deliver_up, wake_up, hand_down, sweep_for, inwards, outwards, numbers_down}
+use Rattle.gr_model.specs.World.{World, Told, in_turn, wake_for, deliver_frame, frames_past, sent_since, is_want, is_know_to, deliver_up, wake_up, hand_down, sweep_for, inwards, outwards, numbers_down, deliver_up_by, sweep_for_by, wake_up_by}
 use Rattle.gr_model.specs.Settles.{Call, delivers, made, all_made, numbers_of, sent_past, calls_in_turn, up_calls, wake_calls, down_calls, sweep_calls_for, times, is_expect}
 use Rattle.gr_model.specs.Tree.{IsNet, IsDistinct}
 use Rattle.gr_model.specs.Fits.{WorldFits, FrameTrue, AllFramesTrue}
@@ -28,7 +28,7 @@ in_turn_grows f g [] w = grows_none w
 in_turn_grows f g (x ∷ xs) w = grows_on w (f w x).world (in_turn f xs (f w x).world).world (g w x) (in_turn_grows f g xs (f w x).world)
 
 deliver_up_grows : (net : Net) (fuel : ℕ) (fs : List Frame) (w : World) → Grows w (deliver_up net fuel fs w).world
-unfolding deliver_up
+unfolding deliver_up_by
 deliver_up_grows net zero fs w = grows_none w
 deliver_up_grows net (suc fuel) fs w = in_turn_grows (delivered_up net fuel) (λ u f. let y = (deliver_frame net u f).world in grows_on u y (deliver_up net fuel (filter is_want (sent_since u y)) y).world (deliver_grows net u f) (deliver_up_grows net fuel (filter is_want (sent_since u y)) y)) fs w
 
@@ -78,7 +78,7 @@ up_turns net k fuel n up (j ∷ js) (x ∷ xs) w a f t r =
     on (i ∷ is) (q ∷ qs) g b = (at_stays w (delivered_up net fuel w x).world i q g b.0, on is qs g b.1)
 
 up_once : (net : Net) (k fuel : ℕ) → IsNet net → UpOnce net k fuel
-unfolding up_calls deliver_up
+unfolding up_calls deliver_up_by
 up_once net k zero n [] [] w a f t r = ap (times k) (sym (sent_none is_want w)) ∙ omega arith
 up_once net k zero n [] (x ∷ xs) w a f t r = absurd a
 up_once net k zero n (j ∷ js) [] w a f t r = absurd a
@@ -86,11 +86,11 @@ up_once net k zero n (j ∷ js) (x ∷ xs) w a f t r = absurd (omega (arith, r.0
 up_once net k (suc fuel) n ks fs w a f t r = up_turns net k fuel n (up_once net k fuel n) ks fs w a f t r
 
 wake_up_grows : (net : Net) (p : ℕ) (w : World) (b : ℕ) → Grows w (wake_up net p w b).world
-unfolding wake_up
+unfolding wake_up_by
 wake_up_grows net p w b = let y = (wake_for net w b p).world in grows_on w y (deliver_up net net.brokers (filter is_want (sent_since w y)) y).world (wake_grows net w b p) (deliver_up_grows net net.brokers (filter is_want (sent_since w y)) y)
 
 wake_once : (net : Net) (k p : ℕ) (w : World) (b : ℕ) → IsNet net → WorldFits net w → b < net.brokers → p < net.publishers → count k (wake_calls net p w b) ≡ times k (sent_past is_want (length w.frames) (wake_up net p w b).world)
-unfolding wake_calls wake_up
+unfolding wake_calls wake_up_by
 wake_once net k p w b n f i j =
     let y = (wake_for net w b p).world in
     let g = (wake_for_kept net w b p n f i j).fits in
@@ -211,7 +211,7 @@ pub sweep_for_once : (net : Net) (k p : ℕ) (w : World) → IsNet net → World
     let w2 = (in_turn (hand_down net p (length w.frames)) (outwards net p) w1).world in
     Adds NoKnow w2 (in_turn (wake_up net p) (inwards net p) w2).world) →
     count k (sweep_calls_for net w p) ≡ times k (sent_past is_due (length w.frames) (sweep_for net w p).world)
-unfolding sweep_calls_for sweep_for
+unfolding sweep_calls_for sweep_for_by
 sweep_for_once net k p w n f j quiet =
     omega (arith, count-append k (a ++ b) c, count-append k a b, first_part, second_part, third_part, none_off, whole, wants, wants_second, knows)
   where

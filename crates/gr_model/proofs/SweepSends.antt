@@ -10,7 +10,7 @@ use Rattle.gr_frame.specs.declared.Body.TheVariants as body
 use Rattle.gr_frame.specs.declared.Frame.{Frame}
 use Rattle.gr_model.specs.Net.{Net, is_host}
 use Rattle.gr_model.specs.Broker.{View, Log, Outcome, head, know_frames, forward, new_ticks, forward_frames, learn, curiosity, expect, place_of, clashes, receive, marking, cutting, silence, with_mark, wake, wake_host, wake_below, expect_frames}
-use Rattle.gr_model.specs.World.{World, Told, view_of, log_of, absorbed, after, in_turn, wake_for, deliver_frame, frames_past, sent_since, is_want, is_know_to, deliver_up, wake_up, hand_down}
+use Rattle.gr_model.specs.World.{World, Told, view_of, log_of, absorbed, after, in_turn, wake_for, deliver_frame, frames_past, sent_since, is_want, is_know_to, deliver_up, wake_up, hand_down, deliver_frame_by, deliver_up_by, hand_down_by, wake_for_by, wake_up_by}
 use Rattle.gr_model.proofs.Worlds.{Each}
 use Rattle.gr_model.proofs.AskMoments.{Each-on}
 use Rattle.gr_model.proofs.Closed.{Each-kept}
@@ -76,16 +76,16 @@ wake_each net p b now R v log s = go (is_host net p b)
     go false = asking_each net p b now R _ _ v log s
 
 wake_of : (net : Net) (w : World) (b p : ℕ) → Adds (Of p) w (wake_for net w b p).world
-unfolding wake_for
+unfolding wake_for_by
 wake_of net w b p = absorbed_adds (Of p) w b p (wake net p b w.clock (view_of w b p) (log_of w p)) (wake_each net p b w.clock (Of p) (view_of w b p) (log_of w p) (record { know = λ c part. refl; want = λ u part e. refl; expect = λ c tick. refl }))
 
 pub deliver_of : (net : Net) (p : ℕ) (w : World) (f : Frame) → Of p f → Adds (Of p) w (deliver_frame net w f).world
-unfolding deliver_frame
+unfolding deliver_frame_by
 deliver_of net p w f e = absorbed_adds (Of p) w f.head.to f.head.publisher (receive net w.clock f (view_of w f.head.to f.head.publisher) (log_of w f.head.publisher))
     (receive_each net w.clock (Of p) f (view_of w f.head.to f.head.publisher) (log_of w f.head.publisher) (record { know = λ c part. e; want = λ u part h. e; expect = λ c tick. e }))
 
 pub deliver_up_of : (net : Net) (p fuel : ℕ) (fs : List Frame) (w : World) → Each (Of p) fs → Adds (Of p) w (deliver_up net fuel fs w).world
-unfolding deliver_up
+unfolding deliver_up_by
 deliver_up_of net p zero fs w a = adds_none (Of p) w
 deliver_up_of net p (suc fuel) fs w a =
     in_turn_adds (Of p) (Of p) (λ u f. after (deliver_frame net u f) (λ x. deliver_up net fuel (filter is_want (sent_since u x)) x))
@@ -94,7 +94,7 @@ deliver_up_of net p (suc fuel) fs w a =
     fs w a
 
 pub wake_up_of : (net : Net) (p : ℕ) (w : World) (b : ℕ) → Adds (Of p) w (wake_up net p w b).world
-unfolding wake_up
+unfolding wake_up_by
 wake_up_of net p w b =
     let y = (wake_for net w b p).world in
     let d = wake_of net w b p in
@@ -161,7 +161,7 @@ know_to_is p b f e = go f.body refl e
     go (body.Expect tick) g h = absurd (false≢true h)
 
 deliver_down : (net : Net) (p b : ℕ) (w : World) (f : Frame) → is_know_to p b f ≡ true → Adds (Down net p b) w (deliver_frame net w f).world
-unfolding deliver_frame
+unfolding deliver_frame_by
 deliver_down net p b w f e =
     let k = know_to_is p b f e in
     absorbed_adds (Down net p b) w f.head.to f.head.publisher (receive net w.clock f (view_of w f.head.to f.head.publisher) (log_of w f.head.publisher))
@@ -171,7 +171,7 @@ deliver_down net p b w f e =
 
 -- the knowledge that is handed down to a broker goes on to its children
 pub hand_down_adds : (net : Net) (p first : ℕ) (w : World) (b : ℕ) → Adds (Down net p b) w (hand_down net p first w b).world
-unfolding hand_down
+unfolding hand_down_by
 hand_down_adds net p first w b = in_turn_adds (Down net p b) (λ f. is_know_to p b f ≡ true) (deliver_frame net) (λ u f e. deliver_down net p b u f e) (filter (is_know_to p b) (frames_past first w.frames)) w (each_tested (is_know_to p b) (frames_past first w.frames))
 
 -- knowledge of the publisher

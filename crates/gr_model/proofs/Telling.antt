@@ -72,14 +72,14 @@ sent_lines_neutral s p n (f ∷ fs) = Neutral-append s p (sent_line n f ∷ []) 
 
 -- what a call at b for p, that moves the horizon from h to h', tells
 pub record Tells (net : Net) (p b h h' : ℕ) (events : Items) (ls : List Report) : Type 0 where
-  pub got : (s : ℕ) → list_any (λ x. nat_eq x s) (net.subscribers_at b) ≡ true → gots s p ls ≡ due_between net s h h' events
+  pub got : (s : ℕ) → list_any (λ x. nat_eq x s) (net.subscribers_at b) ≡ true → gots s p ls ≡ due_between net p s h h' events
   pub horizon : (s : ℕ) → list_any (λ x. nat_eq x s) (net.subscribers_at b) ≡ true → last_horizon s p h ls ≡ h'
   pub rise : (s : ℕ) → list_any (λ x. nat_eq x s) (net.subscribers_at b) ≡ true → HorizonsRise s p h ls
   pub elsewhere : (s q : ℕ) → (q ≡ p → list_any (λ x. nat_eq x s) (net.subscribers_at b) ≡ false) → Neutral s q ls
 
-due_nothing : (net : Net) (s h : ℕ) (events : Items) → due_between net s h h events ≡ []
-due_nothing net s h [] = refl
-due_nothing net s h (x ∷ xs) = rw (none x.0) (due_nothing net s h xs)
+due_nothing : (net : Net) (p s h : ℕ) (events : Items) → due_between net p s h h events ≡ []
+due_nothing net p s h [] = refl
+due_nothing net p s h (x ∷ xs) = rw (none x.0) (due_nothing net p s h xs)
   where
     none : (t : ℕ) → (nat_lt h t && nat_le t h) ≡ false
     none t =
@@ -114,12 +114,12 @@ got_flat s p r q n [] = refl
 got_flat s p r q n (x ∷ xs) = got_flat s p r q n xs
 
 -- what one subscriber is told
-told_got : (net : Net) (p h h' s : ℕ) (items : Items) (due : Items) → filter (λ x. net.wants s x.1) items ≡ due → (h ≡ h' → due ≡ []) → gots s p (told net p h h' items s) ≡ due
+told_got : (net : Net) (p h h' s : ℕ) (items : Items) (due : Items) → filter (λ x. net.wants p s x.0 x.1) items ≡ due → (h ≡ h' → due ≡ []) → gots s p (told net p h h' items s) ≡ due
 unfolding told
 told_got net p h h' s items due e z =
     elim (cases_eq h h') [
       | inl k ↦ rw (eq-eqb h h' k) (sym (z k))
-      | inr k ↦ rw (ne_eqb h h' k) (gots-append s p (map (got_line s p) (filter (λ x. net.wants s x.1) items)) (line.Horizon s p h' ∷ []) ∙ (append-nil (gots s p (map (got_line s p) (filter (λ x. net.wants s x.1) items))) ∙ (got_same s p (filter (λ x. net.wants s x.1) items) ∙ e)))
+      | inr k ↦ rw (ne_eqb h h' k) (gots-append s p (map (got_line s p) (filter (λ x. net.wants p s x.0 x.1) items)) (line.Horizon s p h' ∷ []) ∙ (append-nil (gots s p (map (got_line s p) (filter (λ x. net.wants p s x.0 x.1) items))) ∙ (got_same s p (filter (λ x. net.wants p s x.0 x.1) items) ∙ e)))
     ]
 
 told_horizon : (net : Net) (p h h' s : ℕ) (items : Items) → last_horizon s p h (told net p h h' items s) ≡ h'
@@ -127,7 +127,7 @@ unfolding told
 told_horizon net p h h' s items =
     elim (cases_eq h h') [
       | inl k ↦ rw (eq-eqb h h' k) k
-      | inr k ↦ rw (ne_eqb h h' k) (last_horizon-append s p h (map (got_line s p) (filter (λ x. net.wants s x.1) items)) (line.Horizon s p h' ∷ []) ∙ rw (eq-eqb s s refl, eq-eqb p p refl) refl)
+      | inr k ↦ rw (ne_eqb h h' k) (last_horizon-append s p h (map (got_line s p) (filter (λ x. net.wants p s x.0 x.1) items)) (line.Horizon s p h' ∷ []) ∙ rw (eq-eqb s s refl, eq-eqb p p refl) refl)
     ]
 
 told_rise : (net : Net) (p h h' s : ℕ) (items : Items) → h ≤ h' → HorizonsRise s p h (told net p h h' items s)
@@ -135,8 +135,8 @@ unfolding told
 told_rise net p h h' s items l =
     elim (cases_eq h h') [
       | inl k ↦ rw (eq-eqb h h' k) tt
-      | inr k ↦ rw (ne_eqb h h' k) (HorizonsRise-append s p h (map (got_line s p) (filter (λ x. net.wants s x.1) items)) (line.Horizon s p h' ∷ []) (up (filter (λ x. net.wants s x.1) items) h)
-          (λ _. omega (arith, k, got_flat s p s p h (filter (λ x. net.wants s x.1) items)), tt))
+      | inr k ↦ rw (ne_eqb h h' k) (HorizonsRise-append s p h (map (got_line s p) (filter (λ x. net.wants p s x.0 x.1) items)) (line.Horizon s p h' ∷ []) (up (filter (λ x. net.wants p s x.0 x.1) items) h)
+          (λ _. omega (arith, k, got_flat s p s p h (filter (λ x. net.wants p s x.0 x.1) items)), tt))
     ]
   where
     up : (ys : Items) (n : ℕ) → HorizonsRise s p n (map (got_line s p) ys)
@@ -148,7 +148,7 @@ unfolding told
 told_neutral net p h h' r s q items e =
     elim (cases_Bool (nat_eq h h')) [
       | inl k ↦ rw k (Neutral-nil s q)
-      | inr k ↦ rw k (Neutral-append s q (map (got_line r p) (filter (λ x. net.wants r x.1) items)) (line.Horizon r p h' ∷ []) (got_neutral s q r p (filter (λ x. net.wants r x.1) items) e) (record { got = refl; horizon = λ n. rw e refl; rise = λ n. (λ x. absurd (both_ways (nat_eq r s && nat_eq p q) e x), tt) }))
+      | inr k ↦ rw k (Neutral-append s q (map (got_line r p) (filter (λ x. net.wants p r x.0 x.1) items)) (line.Horizon r p h' ∷ []) (got_neutral s q r p (filter (λ x. net.wants p r x.0 x.1) items) e) (record { got = refl; horizon = λ n. rw e refl; rise = λ n. (λ x. absurd (both_ways (nat_eq r s && nat_eq p q) e x), tt) }))
     ]
 
 -- what all subscribers of a broker are told
@@ -162,7 +162,7 @@ all_neutral net p h h' s q items (x ∷ xs) n =
     ]))
     (all_neutral net p h h' s q items xs (λ e. (or_parts (nat_eq x s) (list_any (λ y. nat_eq y s) xs) (n e)).1))
 
-all_got : (net : Net) (p h h' s : ℕ) (items due : Items) (xs : List ℕ) → IsDistinct xs → list_any (λ x. nat_eq x s) xs ≡ true → h ≤ h' → filter (λ x. net.wants s x.1) items ≡ due → (h ≡ h' → due ≡ []) →
+all_got : (net : Net) (p h h' s : ℕ) (items due : Items) (xs : List ℕ) → IsDistinct xs → list_any (λ x. nat_eq x s) xs ≡ true → h ≤ h' → filter (λ x. net.wants p s x.0 x.1) items ≡ due → (h ≡ h' → due ≡ []) →
     (gots s p (flat_map (told net p h h' items) xs) ≡ due) × (last_horizon s p h (flat_map (told net p h h' items) xs) ≡ h') × HorizonsRise s p h (flat_map (told net p h h' items) xs)
 all_got net p h h' s items due [] d m l e z = absurd (false≢true m)
 all_got net p h h' s items due (x ∷ xs) d m l e z =
@@ -193,9 +193,9 @@ learn_tells net p b piece v log reached n i j fit h k exact =
     let moves = horizon_after-is net f p b (keeps_horizon net p b) v.horizon know t h.horizon.settled in
     let items = data_ticks v.horizon h' know in
     let here = λ (s : ℕ) (m : list_any (λ x. nat_eq x s) (net.subscribers_at b) ≡ true).
-    all_got net p v.horizon h' s items (due_between net s v.horizon h' log.events) (net.subscribers_at b) (n.distinct b j) m moves.on
+    all_got net p v.horizon h' s items (due_between net p s v.horizon h' log.events) (net.subscribers_at b) (n.distinct b j) m moves.on
     (told_is_due net f p b s v.horizon h' know log.events t moves.known (n.here_below p b s i j m) (exact s m) fit.rise (λ u. refl))
-    (λ e. subst (λ z. due_between net s v.horizon z log.events ≡ []) e (due_nothing net s v.horizon log.events)) in
+    (λ e. subst (λ z. due_between net p s v.horizon z log.events ≡ []) e (due_nothing net p s v.horizon log.events)) in
     record {
       got = λ s m. (here s m).0;
       horizon = λ s m. (here s m).1;
@@ -214,7 +214,7 @@ Silent ls = (s q : ℕ) → Neutral s q ls
 
 Tells-silent : (net : Net) (p b h h' : ℕ) (events : Items) (ls : List Report) → h ≡ h' → Silent ls → Tells net p b h h' events ls
 Tells-silent net p b h h' events ls e n = subst (λ z. Tells net p b h z events ls) e (record {
-  got = λ s m. (n s p).got ∙ sym (due_nothing net s h events);
+  got = λ s m. (n s p).got ∙ sym (due_nothing net p s h events);
   horizon = λ s m. (n s p).horizon h;
   rise = λ s m. (n s p).rise h;
   elsewhere = λ s q a. n s q;
@@ -341,16 +341,16 @@ publish_tells net p b now number e v log reached n i j host fit h exact = first 
     first false = second (nat_lt (suc log.last) number)
 
 -- what is due up to a settled tick does not change
-pub due_upto_same : (net : Net) (s h : ℕ) (xs ys : Items) → TicksRise 0 xs → TicksRise 0 ys → ((t : ℕ) → t ≤ h → said_at xs t ≡ said_at ys t) → due_upto net s h xs ≡ due_upto net s h ys
-due_upto_same net s h xs ys a b e =
-    let test = λ (x : ℕ × Event). nat_le x.0 h && net.wants s x.1 in
+pub due_upto_same : (net : Net) (p s h : ℕ) (xs ys : Items) → TicksRise 0 xs → TicksRise 0 ys → ((t : ℕ) → t ≤ h → said_at xs t ≡ said_at ys t) → due_upto net p s h xs ≡ due_upto net p s h ys
+due_upto_same net p s h xs ys a b e =
+    let test = λ (x : ℕ × Event). nat_le x.0 h && net.wants p s x.0 x.1 in
     said_equal 0 0 (filter test xs) (filter test ys) (filter-rises test 0 xs a) (filter-rises test 0 ys b)
     (λ t. said_at-filter test 0 xs t a ∙ (at t (cases_lt h t) ∙ sym (said_at-filter test 0 ys t b)))
   where
-    late : (t : ℕ) (o : Option Event) → h < t → kept_by (λ x. nat_le x.0 h && net.wants s x.1) t o ≡ None
+    late : (t : ℕ) (o : Option Event) → h < t → kept_by (λ x. nat_le x.0 h && net.wants p s x.0 x.1) t o ≡ None
     late t None k = refl
     late t (Some v) k = rw (lt-leb t h k) refl
 
-    at : (t : ℕ) → (h < t) ⊎ (t ≤ h) → kept_by (λ x. nat_le x.0 h && net.wants s x.1) t (said_at xs t) ≡ kept_by (λ x. nat_le x.0 h && net.wants s x.1) t (said_at ys t)
+    at : (t : ℕ) → (h < t) ⊎ (t ≤ h) → kept_by (λ x. nat_le x.0 h && net.wants p s x.0 x.1) t (said_at xs t) ≡ kept_by (λ x. nat_le x.0 h && net.wants p s x.0 x.1) t (said_at ys t)
     at t (inl k) = late t (said_at xs t) k ∙ sym (late t (said_at ys t) k)
-    at t (inr k) = ap (kept_by (λ x. nat_le x.0 h && net.wants s x.1) t) (e t k)
+    at t (inr k) = ap (kept_by (λ x. nat_le x.0 h && net.wants p s x.0 x.1) t) (e t k)

@@ -5,7 +5,7 @@ use Rattle.std.specs.List.{list_any}
 use Rattle.std.proofs.lemmas.Bool.{cases_Bool, both_ways}
 use Rattle.gr_frame.specs.declared.Frame.{Frame}
 use Rattle.gr_model.specs.Net.{Net, is_host, keeps_horizon}
-use Rattle.gr_model.specs.World.{World, view_of, log_of, in_turn, wake_for, wake_up, inwards, numbers_down, sent_since, is_want}
+use Rattle.gr_model.specs.World.{World, view_of, log_of, in_turn, wake_for, wake_up, inwards, numbers_down, sent_since, is_want, wake_up_by}
 use Rattle.gr_model.specs.Tree.{IsNet}
 use Rattle.gr_model.specs.Fits.{WorldFits}
 use Rattle.gr_model.proofs.Worlds.{Each, wake_for_kept, wake_up_kept, filter_frames, frames_past_true, depths_in}
@@ -24,7 +24,7 @@ settling_pending net p m base rest n = record {
 
 -- a broker is woken, and what it sends up is delivered
 settling_turn : (net : Net) (p m : ℕ) (base : List Frame) (b : ℕ) (bs : List ℕ) (w : World) → IsNet net → 1 ≤ net.quiet → 1 ≤ net.retry → WorldFits net w → b < net.brokers → p < net.publishers → Each (λ y. net.depth p y ≤ net.depth p b) bs → Settling net p m base (b ∷ bs) w [] → Settling net p m base bs (wake_up net p w b).world []
-unfolding wake_up
+unfolding wake_up_by
 settling_turn net p m base b bs w n z r f i j low s =
     let y = (wake_for net w b p).world in
     let g = (wake_for_kept net w b p n f i j).fits in

@@ -41,19 +41,19 @@ list_any-found test (x ∷ xs) h =
     ]
 
 -- what concerns a subscriber where this event was logged
-pub concerns_at : (net : Net) (f : Facts) (s t : ℕ) (e : Event) → f.said t ≡ Some e → concerns net f s t ≡ net.wants s e
-concerns_at net f s t e h = ap {A = Option Event} (λ o. elim o [ None ↦ false | Some x ↦ net.wants s x ]) h
+pub concerns_at : (net : Net) (f : Facts) (p s t : ℕ) (e : Event) → f.said t ≡ Some e → concerns net f p s t ≡ net.wants p s t e
+concerns_at net f p s t e h = ap {A = Option Event} (λ o. elim o [ None ↦ false | Some x ↦ net.wants p s t x ]) h
 
-pub concerns_none : (net : Net) (f : Facts) (s t : ℕ) → f.said t ≡ None → concerns net f s t ≡ false
-concerns_none net f s t h = ap {A = Option Event} (λ o. elim o [ None ↦ false | Some x ↦ net.wants s x ]) h
+pub concerns_none : (net : Net) (f : Facts) (p s t : ℕ) → f.said t ≡ None → concerns net f p s t ≡ false
+concerns_none net f p s t h = ap {A = Option Event} (λ o. elim o [ None ↦ false | Some x ↦ net.wants p s t x ]) h
 
-concerns_later : (net : Net) (f g : Facts) (s t : ℕ) → IsLater f g → t ≤ f.settled → concerns net g s t ≡ concerns net f s t
-concerns_later net f g s t l h = ap {A = Option Event} (λ o. elim o [ None ↦ false | Some x ↦ net.wants s x ]) (l.said t h)
+concerns_later : (net : Net) (f g : Facts) (p s t : ℕ) → IsLater f g → t ≤ f.settled → concerns net g p s t ≡ concerns net f p s t
+concerns_later net f g p s t l h = ap {A = Option Event} (λ o. elim o [ None ↦ false | Some x ↦ net.wants p s t x ]) (l.said t h)
 
 pub TrueF-later : (net : Net) (f g : Facts) (p b t : ℕ) → IsLater f g → TrueF net f p b t → TrueF net g p b t
 TrueF-later net f g p b t l h = record {
   settled = le_trans h.settled l.settled;
-  told = λ s m c. le_trans (h.told s m (sym (concerns_later net f g s t l h.settled) ∙ c)) (l.reached s);
+  told = λ s m c. le_trans (h.told s m (sym (concerns_later net f g p s t l h.settled) ∙ c)) (l.reached s);
 }
 
 -- what was true stays true
@@ -61,7 +61,7 @@ pub IsTrueAt-later : (net : Net) (f g : Facts) (p b t : ℕ) (k : K) → IsLater
 IsTrueAt-later net f g p b t Q l h = tt
 IsTrueAt-later net f g p b t S l h = record {
   settled = le_trans h.settled l.settled;
-  none = λ s m. concerns_later net f g s t l h.settled ∙ h.none s m;
+  none = λ s m. concerns_later net f g p s t l h.settled ∙ h.none s m;
   silent = λ q. l.said t h.settled ∙ h.silent q;
 }
 IsTrueAt-later net f g p b t (D e) l h = record {
@@ -77,8 +77,8 @@ silent_and_said net f p b t e s d =
     elim (cases_Bool (is_host net p b)) [
       | inl h ↦ not_some e (sym (s.silent h) ∙ d.logged)
       | inr h ↦
-          let k = list_any-found (λ x. net.wants x e) (net.below p b) (d.wanted h) in
-          both_ways (concerns net f k.0 t) (s.none k.0 k.1) (concerns_at net f k.0 t e d.logged ∙ k.2)
+          let k = list_any-found (λ x. net.wants p x t e) (net.below p b) (d.wanted h) in
+          both_ways (concerns net f p k.0 t) (s.none k.0 k.1) (concerns_at net f p k.0 t e d.logged ∙ k.2)
     ]
   where
     not_some : (e : Event) → None ≡ Some e → ⊥
@@ -117,7 +117,7 @@ join_true net f p b t (D a) S h i = absurd (silent_and_said net f p b t a i h)
 join_true net f p b t (D a) (D c) h i = rw (ap (same_event a) (same_said f t c a i.logged h.logged) ∙ event_itself a) h
 
 -- what the edge to a child passes of a true value is true there
-pub pass_true : (net : Net) (f : Facts) (p b c t : ℕ) (k : K) → IsPlace net p b → list_any (λ x. nat_eq x c) (net.children p b) ≡ true → IsTrueAt net f p b t k → IsTrueAt net f p c t (pass net p c k)
+pub pass_true : (net : Net) (f : Facts) (p b c t : ℕ) (k : K) → IsPlace net p b → list_any (λ x. nat_eq x c) (net.children p b) ≡ true → IsTrueAt net f p b t k → IsTrueAt net f p c t (pass net p c t k)
 pass_true net f p b c t Q place child h = tt
 pass_true net f p b c t S place child h = record {
   settled = h.settled;
@@ -128,15 +128,15 @@ pass_true net f p b c t F place child h = record {
   settled = h.settled;
   told = λ s m. h.told s (place.child_below c s child m);
 }
-pass_true net f p b c t (D e) place child h = go (wanted_below net p c e) refl
+pass_true net f p b c t (D e) place child h = go (wanted_below net p c t e) refl
   where
-    go : (w : Bool) → wanted_below net p c e ≡ w → IsTrueAt net f p c t (elim w [ true ↦ D e | false ↦ S ])
+    go : (w : Bool) → wanted_below net p c t e ≡ w → IsTrueAt net f p c t (elim w [ true ↦ D e | false ↦ S ])
     go true q = record { settled = h.settled; logged = h.logged; wanted = λ n. q }
     go false q = record {
       settled = h.settled;
-      none = λ s m. elim (cases_Bool (net.wants s e)) [
-        | inl w ↦ absurd (both_ways (wanted_below net p c e) q (list_any-member (λ x. net.wants x e) (net.below p c) s m w))
-        | inr w ↦ concerns_at net f s t e h.logged ∙ w
+      none = λ s m. elim (cases_Bool (net.wants p s t e)) [
+        | inl w ↦ absurd (both_ways (wanted_below net p c t e) q (list_any-member (λ x. net.wants p x t e) (net.below p c) s m w))
+        | inr w ↦ concerns_at net f p s t e h.logged ∙ w
       ];
       silent = λ n. absurd (both_ways (is_host net p c) (place.child_not_host c child) n);
     }

@@ -10,7 +10,7 @@ use Rattle.gr_curio.specs.Values.{Wanted}
 use Rattle.gr_model.specs.Net.{Net}
 use Rattle.gr_model.specs.Broker.{View, Log, Outcome, know_frames, want_frames, expect_frame, forward, new_ticks, forward_frames, learn, up_frames, asking, curiosity, expect, expect_frames, covers, place_of, receive, clashes, head}
 use Rattle.gr_frame.specs.Bytes.{known_run_size, wanted_run_size, cut_frames}
-use Rattle.gr_model.specs.World.{World, view_of, log_of, absorbed, deliver_frame, is_want}
+use Rattle.gr_model.specs.World.{World, view_of, log_of, absorbed, deliver_frame, is_want, deliver_frame_by}
 use Rattle.gr_model.specs.Fits.{WorldFits, FrameTrue}
 use Rattle.gr_model.proofs.Worlds.{Each}
 use Rattle.gr_model.proofs.AskMoments.{Each-on}
@@ -120,7 +120,7 @@ up_kept P R (f ∷ fs) h a =
 
 -- what a delivery sends up goes less deep
 pub sent_up_less : (net : Net) (w : World) (x : Frame) → HasDepths net → WorldFits net w → FrameTrue net w x → Each (λ z. rank_of net z < rank_of net x) (sent_up net w x)
-unfolding deliver_frame absorbed
+unfolding deliver_frame_by absorbed
 sent_up_less net w x d f t =
     let p = x.head.publisher in
     let o = receive net w.clock x (view_of w x.head.to p) (log_of w p) in

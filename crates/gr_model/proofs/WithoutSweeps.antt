@@ -7,7 +7,7 @@ use Rattle.gr_sched.specs.declared.step.Line.{Line}
 use Rattle.gr_model.specs.declared.report.Report.TheVariants as line
 use Rattle.gr_model.specs.Net.{Net, keeps_horizon, not_empty, is_empty}
 use Rattle.gr_model.specs.Broker.{empty_log}
-use Rattle.gr_model.specs.World.{World, view_of, start, next, run_from, run_all}
+use Rattle.gr_model.specs.World.{World, view_of, start, next, run_from, run_all, run_from_by}
 use Rattle.gr_model.specs.Headline.{heard_after, history, History, after, begin, is_heard, IsDoubt, Delivered, StepTold, Holds_from}
 use Rattle.gr_model.specs.Tree.{IsNet}
 use Rattle.gr_model.specs.Fits.{StepIn, StepsIn, WorldFits}
@@ -61,7 +61,7 @@ next_whole net w h l n z i y k = record { stands = next_stands net w h l n z i k
 -- the headline from here on, where each step keeps a property of worlds, and what was heard
 pub holds_from : (net : Net) (P : World → Type 0) (w : World) (h : History) (ls : List Line) → IsNet net → 1 ≤ net.quiet → ((u : World) (l : Line) → StepIn net l.step → WorldFits net u → P u → P (next net u l).world) →
     ((u : World) (g : History) (l : Line) → StepIn net l.step → Whole net u g → P u → Hears net (next net u l).world (heard_after net g l (next net u l).lines)) → StepsIn net ls → Whole net w h → P w → Holds_from net h ls (run_from net w ls)
-unfolding run_from
+unfolding run_from_by
 holds_from net P w h [] n z on keep i k x = (delivered net w h n k, in_order net w h n k.stands)
 holds_from net P w h (l ∷ ls) n z on keep i k x = (
   delivered net w h n k,
@@ -73,7 +73,7 @@ holds_from net P w h (l ∷ ls) n z on keep i k x = (
 -- what stands after steps, where each keeps a property of worlds, and what was heard
 pub whole_run : (net : Net) (P : World → Type 0) (w : World) (h : History) (ls : List Line) → IsNet net → 1 ≤ net.quiet → ((u : World) (l : Line) → StepIn net l.step → WorldFits net u → P u → P (next net u l).world) →
     ((u : World) (g : History) (l : Line) → StepIn net l.step → Whole net u g → P u → Hears net (next net u l).world (heard_after net g l (next net u l).lines)) → StepsIn net ls → Whole net w h → P w → Whole net (run_all net w ls).world (history net h ls (run_from net w ls))
-unfolding run_from
+unfolding run_from_by
 whole_run net P w h [] n z on keep i k x = k
 whole_run net P w h (l ∷ ls) n z on keep i k x = whole_run net P (next net w l).world (after net h l (next net w l).lines) ls n z on keep i.1 (next_whole net w h l n z i.0 (keep w h l i.0 k x) k) (on w l i.0 k.stands.fits x)
 

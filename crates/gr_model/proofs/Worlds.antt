@@ -11,7 +11,7 @@ use Rattle.gr_frame.specs.declared.Frame.{Frame}
 use Rattle.gr_model.specs.declared.report.Report.{Report}
 use Rattle.gr_model.specs.Net.{Net, numbers, numbers_from}
 use Rattle.gr_model.specs.Broker.{View, Outcome, empty_log, publish, wake, receive}
-use Rattle.gr_model.specs.World.{World, Told, blank_view, view_of, log_of, with_view, absorbed, unchanged, after, in_turn, wake_for, wake_all, deliver_frame, publish_now, deliver_up, wake_up, hand_down, sweep_for, frames_past, sent_lines, sent_since, is_want, is_know_to, at_depth, outwards, inwards, numbers_down}
+use Rattle.gr_model.specs.World.{World, Told, blank_view, view_of, log_of, with_view, absorbed, unchanged, after, in_turn, wake_for, wake_all, deliver_frame, publish_now, deliver_up, wake_up, hand_down, sweep_for, frames_past, sent_lines, sent_since, is_want, is_know_to, at_depth, outwards, inwards, numbers_down, deliver_frame_by, deliver_up_by, hand_down_by, publish_now_by, sweep_for_by, wake_all_by, wake_for_by, wake_up_by}
 use Rattle.gr_model.specs.Truth.{Facts, IsLater}
 use Rattle.gr_model.specs.Said.{said_at, due_upto, due_between}
 use Rattle.gr_model.specs.Fits.{facts, reached_in, facts_of, LogFits, ViewTrue, HostKnows, CutTrue, BodyTrue, FrameFits, AllFit, FrameTrue, AllFramesTrue, WorldFits, LinesFit}
@@ -197,26 +197,26 @@ lines_absorbed : (net : Net) (w u : World) (b p k : ℕ) (o : Outcome) (fs : Lis
     (ls : List Report) → LinesFit net w ls → LinesFit net u (ls ++ (o.lines ++ sent_lines k fs))
 lines_absorbed net w u b p k o fs n f g i j t told c ls l = record {
   got = λ q s x y. elim (cases_eq q p) [
-    | inl e ↦ subst (λ z. gots s z (ls ++ (o.lines ++ sent_lines k fs)) ≡ due_upto net s (reached_in net u z s) (log_of u z).events) (sym e) (elim (cases_eq (net.at s) b) [
+    | inl e ↦ subst (λ z. gots s z (ls ++ (o.lines ++ sent_lines k fs)) ≡ due_upto net z s (reached_in net u z s) (log_of u z).events) (sym e) (elim (cases_eq (net.at s) b) [
       | inl a ↦
           let m : list_any (λ y. nat_eq y s) (net.subscribers_at b) ≡ true = subst (λ z. list_any (λ y. nat_eq y s) (net.subscribers_at z) ≡ true) a y.here in
           let r : reached_in net w p s ≡ (view_of w b p).horizon = exact_at net w b p n i s m in
           let r' : reached_in net u p s ≡ o.view.horizon = exact_at net u b p n i s m ∙ ap (λ v. v.horizon) c.view in
           gots-append s p ls (o.lines ++ sent_lines k fs)
-          ∙ (ap₂ (λ a z. a ++ z) (l.got p s j y ∙ (ap (λ h. due_upto net s h (log_of w p).events) r ∙ due_upto_same net s (view_of w b p).horizon (log_of w p).events o.log.events (f.logs p j).rise t.log_fits.rise (λ z h. sym (t.said z (le_trans h (f.views p b j i).horizon.settled)))))
-          (gots-append s p o.lines (sent_lines k fs) ∙ (ap₂ (λ a z. a ++ z) (told.got s m) (sent_lines_neutral s p k fs).got ∙ append-nil (due_between net s (view_of w b p).horizon o.view.horizon o.log.events)))
-          ∙ (sym (due_more net s (view_of w b p).horizon o.view.horizon 0 o.log.events t.horizon t.log_fits.rise)
-          ∙ ap₂ (λ h m. due_upto net s h m.events) (sym r') (sym c.log)))
+          ∙ (ap₂ (λ a z. a ++ z) (l.got p s j y ∙ (ap (λ h. due_upto net p s h (log_of w p).events) r ∙ due_upto_same net p s (view_of w b p).horizon (log_of w p).events o.log.events (f.logs p j).rise t.log_fits.rise (λ z h. sym (t.said z (le_trans h (f.views p b j i).horizon.settled)))))
+          (gots-append s p o.lines (sent_lines k fs) ∙ (ap₂ (λ a z. a ++ z) (told.got s m) (sent_lines_neutral s p k fs).got ∙ append-nil (due_between net p s (view_of w b p).horizon o.view.horizon o.log.events)))
+          ∙ (sym (due_more net p s (view_of w b p).horizon o.view.horizon 0 o.log.events t.horizon t.log_fits.rise)
+          ∙ ap₂ (λ h m. due_upto net p s h m.events) (sym r') (sym c.log)))
       | inr a ↦
           let quiet = quiet_at p s (λ e. not_here s y a) in
-          gots-append s p ls (o.lines ++ sent_lines k fs) ∙ (ap₂ (λ a z. a ++ z) (l.got p s j y) quiet.got ∙ (append-nil (due_upto net s (reached_in net w p s) (log_of w p).events)
-          ∙ (due_upto_same net s (reached_in net w p s) (log_of w p).events o.log.events (f.logs p j).rise t.log_fits.rise (λ z h. sym (t.said z (le_trans (subst (λ x. z ≤ x) (reached_here net w p s y) h) (f.views p (net.at s) j y.at_in).horizon.settled)))
-          ∙ ap₂ (λ h m. due_upto net s h m.events) (reached_here net w p s y ∙ (ap (λ v. v.horizon) (sym (c.other_broker (net.at s) p a)) ∙ sym (reached_here net u p s y))) (sym c.log))))
+          gots-append s p ls (o.lines ++ sent_lines k fs) ∙ (ap₂ (λ a z. a ++ z) (l.got p s j y) quiet.got ∙ (append-nil (due_upto net p s (reached_in net w p s) (log_of w p).events)
+          ∙ (due_upto_same net p s (reached_in net w p s) (log_of w p).events o.log.events (f.logs p j).rise t.log_fits.rise (λ z h. sym (t.said z (le_trans (subst (λ x. z ≤ x) (reached_here net w p s y) h) (f.views p (net.at s) j y.at_in).horizon.settled)))
+          ∙ ap₂ (λ h m. due_upto net p s h m.events) (reached_here net w p s y ∙ (ap (λ v. v.horizon) (sym (c.other_broker (net.at s) p a)) ∙ sym (reached_here net u p s y))) (sym c.log))))
     ])
     | inr e ↦
         let quiet = quiet_at q s (λ h. absurd (e h)) in
-        gots-append s q ls (o.lines ++ sent_lines k fs) ∙ (ap₂ (λ a z. a ++ z) (l.got q s x y) quiet.got ∙ (append-nil (due_upto net s (reached_in net w q s) (log_of w q).events)
-        ∙ ap₂ (λ h m. due_upto net s h m.events) (reached_here net w q s y ∙ (ap (λ v. v.horizon) (sym (c.other_publisher (net.at s) q e)) ∙ sym (reached_here net u q s y))) (sym (c.other_log q e))))
+        gots-append s q ls (o.lines ++ sent_lines k fs) ∙ (ap₂ (λ a z. a ++ z) (l.got q s x y) quiet.got ∙ (append-nil (due_upto net q s (reached_in net w q s) (log_of w q).events)
+        ∙ ap₂ (λ h m. due_upto net q s h m.events) (reached_here net w q s y ∙ (ap (λ v. v.horizon) (sym (c.other_publisher (net.at s) q e)) ∙ sym (reached_here net u q s y))) (sym (c.other_log q e))))
   ];
   horizon = λ q s x y. elim (cases_eq q p) [
     | inl e ↦ subst (λ z. last_horizon s z 0 (ls ++ (o.lines ++ sent_lines k fs)) ≡ reached_in net u z s) (sym e) (elim (cases_eq (net.at s) b) [
@@ -307,18 +307,18 @@ FrameTrue-later net w u f l t = record { publisher_in = t.publisher_in; fits = t
 -- Steps of broker calls
 
 pub wake_for_kept : (net : Net) (w : World) (b p : ℕ) → IsNet net → WorldFits net w → b < net.brokers → p < net.publishers → Kept net w (wake_for net w b p)
-unfolding wake_for
+unfolding wake_for_by
 wake_for_kept net w b p n f i j = absorbed_fits net w b p (wake net p b w.clock (view_of w b p) (log_of w p)) n f i j (wake_call net p b w.clock (view_of w b p) (log_of w p) (reached_in net w p) n j i (f.logs p j) (f.views p b j i)) (wake_tells net p b w.clock (view_of w b p) (log_of w p) (reached_in net w p) n j i (f.logs p j) (f.views p b j i) (exact_at net w b p n i))
 
 pub deliver_kept : (net : Net) (w : World) (x : Frame) → IsNet net → WorldFits net w → FrameTrue net w x → Kept net w (deliver_frame net w x)
-unfolding deliver_frame
+unfolding deliver_frame_by
 deliver_kept net w x n f t =
     absorbed_fits net w x.head.to x.head.publisher (receive net w.clock x (view_of w x.head.to x.head.publisher) (log_of w x.head.publisher)) n f t.fits.to_in t.publisher_in
     (receive_call net w.clock x (view_of w x.head.to x.head.publisher) (log_of w x.head.publisher) (reached_in net w x.head.publisher) n t.publisher_in t.fits t.told (f.logs x.head.publisher t.publisher_in) (f.views x.head.publisher x.head.to t.publisher_in t.fits.to_in))
     (receive_tells net w.clock x (view_of w x.head.to x.head.publisher) (log_of w x.head.publisher) (reached_in net w x.head.publisher) n t.publisher_in t.fits.to_in t.told (f.logs x.head.publisher t.publisher_in) (f.views x.head.publisher x.head.to t.publisher_in t.fits.to_in) (exact_at net w x.head.to x.head.publisher n t.fits.to_in))
 
 pub publish_kept : (net : Net) (w : World) (p number : ℕ) (e : Event) → IsNet net → WorldFits net w → p < net.publishers → Kept net w (publish_now net w p number e)
-unfolding publish_now
+unfolding publish_now_by
 publish_kept net w p number e n f j =
     let i = n.host_in p j in
     absorbed_fits net w (net.host p) p (publish net p (net.host p) w.clock number e (view_of w (net.host p) p) (log_of w p)) n f i j
@@ -347,7 +347,7 @@ numbers_below a zero m h = tt
 numbers_below a (suc n) m h = (omega arith, numbers_below (suc a) n m (omega arith))
 
 pub wake_all_kept : (net : Net) (w : World) (b : ℕ) → IsNet net → WorldFits net w → b < net.brokers → Kept net w (wake_all net w b)
-unfolding wake_all
+unfolding wake_all_by
 wake_all_kept net w b n f i = in_turn_kept net (λ u p. p < net.publishers) (λ u p. wake_for net u b p) (λ w u p l h. h) (λ u p g h. wake_for_kept net u b p n g i h) (numbers net.publishers) w f (numbers_below 0 net.publishers net.publishers (omega arith))
 
 -- The sweep's phases
@@ -366,7 +366,7 @@ filter_frames net w test (f ∷ fs) a =
     ]
 
 pub deliver_up_kept : (net : Net) (fuel : ℕ) (fs : List Frame) (w : World) → IsNet net → WorldFits net w → Each (FrameTrue net w) fs → Kept net w (deliver_up net fuel fs w)
-unfolding deliver_up
+unfolding deliver_up_by
 deliver_up_kept net zero fs w n f a = Kept-refl net w f
 deliver_up_kept net (suc fuel) fs w n f a =
     in_turn_kept net (FrameTrue net) (λ u x. after (deliver_frame net u x) (λ y. deliver_up net fuel (filter is_want (sent_since u y)) y)) (FrameTrue-later net)
@@ -375,14 +375,14 @@ deliver_up_kept net (suc fuel) fs w n f a =
     fs w f a
 
 pub wake_up_kept : (net : Net) (p : ℕ) (w : World) (b : ℕ) → IsNet net → WorldFits net w → b < net.brokers → p < net.publishers → Kept net w (wake_up net p w b)
-unfolding wake_up
+unfolding wake_up_by
 wake_up_kept net p w b n f i j =
     let k = wake_for_kept net w b p n f i j in
     let y = (wake_for net w b p).world in
     Kept-after net w (wake_for net w b p) (λ u. deliver_up net net.brokers (filter is_want (sent_since w u)) u) k (deliver_up_kept net net.brokers (filter is_want (sent_since w y)) y n k.fits (filter_frames net y is_want (sent_since w y) (frames_past_true net y (length w.frames) y.frames k.fits.frames)))
 
 pub hand_down_kept : (net : Net) (p first : ℕ) (w : World) (b : ℕ) → IsNet net → WorldFits net w → Kept net w (hand_down net p first w b)
-unfolding hand_down
+unfolding hand_down_by
 hand_down_kept net p first w b n f = in_turn_kept net (FrameTrue net) (deliver_frame net) (FrameTrue-later net) (λ u x g h. deliver_kept net u x n g h) (filter (is_know_to p b) (frames_past first w.frames)) w f (filter_frames net w (is_know_to p b) (frames_past first w.frames) (frames_past_true net w first w.frames f.frames))
 
 Each-append : {X : Type 0} (P : X → Type 0) (xs ys : List X) → Each P xs → Each P ys → Each P (xs ++ ys)
@@ -402,7 +402,7 @@ depths_in net p [] = tt
 depths_in net p (d ∷ ds) = Each-append (λ b. b < net.brokers) (at_depth net p d) (flat_map (at_depth net p) ds) (Each-filter (λ b. b < net.brokers) (λ b. nat_eq (net.depth p b) d) (numbers net.brokers) (numbers_below 0 net.brokers net.brokers (omega arith))) (depths_in net p ds)
 
 pub sweep_for_kept : (net : Net) (w : World) (p : ℕ) → IsNet net → WorldFits net w → p < net.publishers → Kept net w (sweep_for net w p)
-unfolding sweep_for
+unfolding sweep_for_by
 sweep_for_kept net w p n f j =
     let up = λ (u : World) (g : WorldFits net u). in_turn_kept net (λ x b. b < net.brokers) (wake_up net p) (λ x y b l h. h) (λ x b g h. wake_up_kept net p x b n g h j) (inwards net p) u g (depths_in net p (numbers_down net.brokers)) in
     let a = up w f in

@@ -18,9 +18,9 @@ use Rattle.gr_sched.specs.declared.step.Step.TheVariants as step
 use Rattle.gr_model.specs.declared.report.Report.{Report}
 use Rattle.gr_model.specs.declared.report.Report.TheVariants as line
 use Rattle.gr_model.specs.Net.{Net, keeps_horizon, numbers}
-use Rattle.gr_model.specs.Broker.{Log, max_tick}
-use Rattle.gr_model.specs.World.{World, Told, view_of, log_of, unchanged, after, in_turn, deliver_frame, publish_now, wake_all, kept_events}
-use Rattle.gr_model.specs.Opening.{opening}
+use Rattle.gr_model.specs.Broker.{View, Log, max_tick}
+use Rattle.gr_model.specs.World.{World, Told, view_of, log_of, unchanged, after, in_turn, deliver_frame, publish_now, wake_all, kept_events, deliver_frame_by, publish_now_by, wake_all_by}
+use Rattle.gr_model.specs.Opening.{opening, opening_by}
 
 -- What comes
 
@@ -97,36 +97,51 @@ fault_number Trailing = 8
 fault_number TooLong = 9
 
 -- a frame that fits is received, unless it clashes
-unfoldable pub takes : Net → World → ℕ → Frame → Told
-takes net w b f =
+unfoldable pub takes_by : (View → Net) → Net → World → ℕ → Frame → Told
+takes_by see net w b f =
     elim (least_clash (view_of w b f.head.publisher).know f) [
       | Some t ↦ unchanged w (clash_line b (view_of w b f.head.publisher).know f t ∷ [])
-      | None ↦ deliver_frame net w f
+      | None ↦ deliver_frame_by see net w f
     ]
 
+abbrev pub takes : Net → World → ℕ → Frame → Told
+takes net = takes_by (λ _. net) net
+
 -- a datagram is decoded, then it must fit, then it must not clash; one that fails changes nothing
-unfoldable pub receives : Net → World → ℕ → Result Frame FrameFault → Told
-receives net w b (Err fault) = unchanged w (line.DroppedNotFrame b (fault_number fault.kind) fault.at ∷ [])
-receives net w b (Ok f) =
+unfoldable pub receives_by : (View → Net) → Net → World → ℕ → Result Frame FrameFault → Told
+receives_by see net w b (Err fault) = unchanged w (line.DroppedNotFrame b (fault_number fault.kind) fault.at ∷ [])
+receives_by see net w b (Ok f) =
     elim (fits_broker net b f) [
       | false ↦ unchanged w (line.DroppedStray b f.head.from f.head.to f.head.publisher ∷ [])
-      | true ↦ takes net w b f
+      | true ↦ takes_by see net w b f
     ]
+
+abbrev pub receives : Net → World → ℕ → Result Frame FrameFault → Told
+receives net = receives_by (λ _. net) net
 
 -- A quiet moment: the first publish that is left, and then each hosted broker is woken for each publisher
 
-abbrev pub published_first : Net → World → List Publish → Told
-published_first net w [] = unchanged w []
-published_first net w (x ∷ left) = publish_now net w x.0 x.1.0 x.1.1
+abbrev pub published_first_by : (View → Net) → Net → World → List Publish → Told
+published_first_by see net w [] = unchanged w []
+published_first_by see net w (x ∷ left) = publish_now_by see net w x.0 x.1.0 x.1.1
 
-unfoldable pub quieted : Net → List ℕ → World → List Publish → Told
-quieted net hosted w left = after (published_first net w left) (in_turn (wake_all net) hosted)
+abbrev pub published_first : Net → World → List Publish → Told
+published_first net = published_first_by (λ _. net) net
+
+unfoldable pub quieted_by : (View → Net) → Net → List ℕ → World → List Publish → Told
+quieted_by see net hosted w left = after (published_first_by see net w left) (in_turn (wake_all_by see net) hosted)
+
+abbrev pub quieted : Net → List ℕ → World → List Publish → Told
+quieted net = quieted_by (λ _. net) net
 
 -- The run
 
-unfoldable pub comes : Net → List ℕ → World → List Publish → Arrival → Told
-comes net hosted w left (datagram b bytes moment) = receives net (at_moment w moment) b (frame_decoded bytes)
-comes net hosted w left (quiet moment) = quieted net hosted (at_moment w moment) left
+unfoldable pub comes_by : (View → Net) → Net → List ℕ → World → List Publish → Arrival → Told
+comes_by see net hosted w left (datagram b bytes moment) = receives_by see net (at_moment w moment) b (frame_decoded bytes)
+comes_by see net hosted w left (quiet moment) = quieted_by see net hosted (at_moment w moment) left
+
+abbrev pub comes : Net → List ℕ → World → List Publish → Arrival → Told
+comes net = comes_by (λ _. net) net
 
 -- what is shown at the end, of the hosted brokers and publishers
 unfoldable pub show_hosted : Net → List ℕ → World → List Report
@@ -136,16 +151,25 @@ show_hosted net hosted w =
     ++ flat_map (λ b. flat_map (λ p. if keeps_horizon net p b then line.Doubt b p (view_of w b p).horizon ∷ [] else []) (numbers net.publishers)) hosted)
 
 -- the lines of each arrival, and then what is shown
-unfoldable pub served_from : Net → List ℕ → World → List Publish → List Arrival → List (List Report)
-served_from net hosted w left [] = show_hosted net hosted w ∷ []
-served_from net hosted w left (a ∷ arrivals) = let t = comes net hosted w left a in t.lines ∷ served_from net hosted t.world (left_after left a) arrivals
+unfoldable pub served_from_by : (View → Net) → Net → List ℕ → World → List Publish → List Arrival → List (List Report)
+served_from_by see net hosted w left [] = show_hosted net hosted w ∷ []
+served_from_by see net hosted w left (a ∷ arrivals) = let t = comes_by see net hosted w left a in t.lines ∷ served_from_by see net hosted t.world (left_after left a) arrivals
+
+abbrev pub served_from : Net → List ℕ → World → List Publish → List Arrival → List (List Report)
+served_from net = served_from_by (λ _. net) net
 
 -- the world after arrivals: its frames are what was offered to the network, in order, and its logs what the lanes hold
-unfoldable pub arrived : Net → List ℕ → World → List Publish → List Arrival → World
-arrived net hosted w left [] = w
-arrived net hosted w left (a ∷ arrivals) = let t = comes net hosted w left a in arrived net hosted t.world (left_after left a) arrivals
+unfoldable pub arrived_by : (View → Net) → Net → List ℕ → World → List Publish → List Arrival → World
+arrived_by see net hosted w left [] = w
+arrived_by see net hosted w left (a ∷ arrivals) = let t = comes_by see net hosted w left a in arrived_by see net hosted t.world (left_after left a) arrivals
+
+abbrev pub arrived : Net → List ℕ → World → List Publish → List Arrival → World
+arrived net = arrived_by (λ _. net) net
 
 -- A run over a journal: the opening, then each arrival in turn, then what is shown. The hosted brokers are given in rising order; of
 -- a publisher that is not hosted no log is looked at; and the journal ends with the list
-unfoldable pub served : Net → List ℕ → List Log → List Line → List Arrival → List (List Report)
-served net hosted logs steps arrivals = let o = opening net hosted logs in o.lines ∷ served_from net hosted o.world (publishes_of net hosted steps) arrivals
+unfoldable pub served_by : (View → Net) → Net → List ℕ → List Log → List Line → List Arrival → List (List Report)
+served_by see net hosted logs steps arrivals = let o = opening_by see net hosted logs in o.lines ∷ served_from_by see net hosted o.world (publishes_of net hosted steps) arrivals
+
+abbrev pub served : Net → List ℕ → List Log → List Line → List Arrival → List (List Report)
+served net = served_by (λ _. net) net

@@ -26,7 +26,7 @@ unfoldable pub use Rattle.gr_know.specs.Forget.{lower_data, forgotten}
 pub use Rattle.gr_curio.specs.Wants.{all_A, any_C}
 use Rattle.gr_curio.specs.Due.{noted_of}
 use Rattle.gr_curio.specs.Values.{Wanted, Asked, wanted_at, asked_at, wanteds, same_Q3, same_moment, is_C, is_A, is_outstanding}
-use Rattle.gr_model.specs.Net.{Net, keeps_horizon, is_host, pass, not_empty}
+use Rattle.gr_model.specs.Net.{Net, keeps_horizon, is_host, pass, not_empty, numbers_from}
 
 -- what a broker keeps for one publisher
 pub record View : Type 0 where
@@ -94,7 +94,7 @@ got_line s p x = line.Got s p x.0 x.1
 
 -- what one subscriber here gets where the horizon moves
 unfoldable pub told : Net → ℕ → ℕ → ℕ → List (ℕ × Event) → ℕ → List Report
-told net p h h' items s = if nat_eq h h' then [] else map (got_line s p) (filter (λ x. net.wants s x.1) items) ++ line.Horizon s p h' ∷ []
+told net p h h' items s = if nat_eq h h' then [] else map (got_line s p) (filter (λ x. net.wants p s x.0 x.1) items) ++ line.Horizon s p h' ∷ []
 
 -- Forwarding
 
@@ -102,9 +102,23 @@ told net p h h' items s = if nat_eq h h' then [] else map (got_line s p) (filter
 unfoldable pub new_ticks : Known → Known → Known
 new_ticks know piece = zip_runs Q Q Q same_K new_K know piece
 
+-- the ticks of an event past the first one
+abbrev pub event_ticks : K → ℕ → ℕ → List ℕ
+event_ticks (D e) first last = numbers_from (suc first) (last - first)
+event_ticks _ first last = []
+
+-- where what an edge passes may change: where the runs do, and at each tick of an event
+abbrev pub pass_points : Known → List ℕ
+pass_points [] = []
+pass_points (r ∷ rs) = r.first ∷ (suc r.last ∷ (event_ticks r.value r.first r.last ++ pass_points rs))
+
+-- what the edge to a child passes of what is known
+unfoldable pub passed : Net → ℕ → ℕ → Known → Known
+passed net p c know = knowns (λ t. pass net p c t (known_at know t)) (pass_points know)
+
 -- what a child is sent of them
 unfoldable pub forward : Net → ℕ → ℕ → Wanted → Known → Known
-forward net p c w new = zip_runs Q N Q same_K (λ v a. if is_A a then Q else pass net p c v) new w
+forward net p c w new = zip_runs Q N Q same_K (λ v a. if is_A a then Q else v) (passed net p c new) w
 
 -- what the child's curiosity is then
 unfoldable pub quenched : Wanted → Known → Wanted
@@ -162,14 +176,18 @@ up_frames net p b runs = elim (net.up p b) [ Some u ↦ want_frames b u p runs |
 unfoldable pub acknowledged : Wanted → Wanted → Wanted
 acknowledged w piece = zip_runs N N N same_Q3 (λ a x. if is_A x then A else a) w piece
 
--- what one asked tick is answered: final where it was acknowledged, else what is known as it passes the edge
-abbrev pub answer : Net → ℕ → ℕ → K → Q3 → Q3 → K
-answer net p c k a C = if is_A a then F else pass net p c k
-answer net p c k a _ = Q
+-- what one asked tick is answered: final where it was acknowledged, else what passes the edge
+abbrev pub answer : K → Q3 → Q3 → K
+answer k a C = if is_A a then F else k
+answer k a _ = Q
+
+-- the answers to a child whose curiosity is w, of what passes the edge to it
+abbrev pub answers_of : Known → Wanted → Wanted → Known
+answers_of known w piece = knowns (λ t. answer (known_at known t) (wanted_at w t) (wanted_at piece t)) (points known ++ points w ++ points piece)
 
 -- the answers to c, whose curiosity is w
 unfoldable pub answers : Net → ℕ → ℕ → Known → Wanted → Wanted → Known
-answers net p c know w piece = knowns (λ t. answer net p c (known_at know t) (wanted_at w t) (wanted_at piece t)) (points know ++ points w ++ points piece)
+answers net p c know w piece = answers_of (passed net p c know) w piece
 
 -- what is kept of a child's ask: it stays asked where nothing is known yet, and is done where it was answered
 abbrev pub curious : K → Q3 → Q3 → Q3
@@ -267,13 +285,15 @@ cutting net p b v log =
     let a = done_upto (consolidated (keeps_horizon net p b) v.horizon v.wants) log.settled in
     if nat_lt log.cut a then with_cut log a else log
 
--- a log that was silent for long is marked and its silence learned
+-- the silence up to a tick is learned, which a new record of the log settled
+abbrev pub silent_upto : Net → ℕ → ℕ → ℕ → View → Log → Log → Outcome
+silent_upto net p b tick v log new = learn net p b (silence (suc log.settled) tick []) v new
+
+-- a log that was silent for long is marked
 unfoldable pub marking : Net → ℕ → ℕ → ℕ → View → Log → Outcome
 marking net p b now v log =
     elim (nat_le (log.settled + net.quiet) now) [
-      | true ↦
-          let o = learn net p b (silence (suc log.settled) now []) v (with_mark log now) in
-          record { view = o.view; log = o.log; lines = o.lines; frames = o.frames }
+      | true ↦ silent_upto net p b now v log (with_mark log now)
       | false ↦ record { view = v; log = log; lines = []; frames = [] }
     ]
 

@@ -104,7 +104,7 @@ pub record WorldFits (net : Net) (w : World) : Type 0 where
 
 -- what the lines so far have told each subscriber
 pub record LinesFit (net : Net) (w : World) (ls : List Report) : Type 0 where
-  pub got : (p s : ℕ) → p < net.publishers → IsSubscriber net s → gots s p ls ≡ due_upto net s (reached_in net w p s) (log_of w p).events
+  pub got : (p s : ℕ) → p < net.publishers → IsSubscriber net s → gots s p ls ≡ due_upto net p s (reached_in net w p s) (log_of w p).events
   pub horizon : (p s : ℕ) → p < net.publishers → IsSubscriber net s → last_horizon s p 0 ls ≡ reached_in net w p s
   pub rise : (p s : ℕ) → p < net.publishers → IsSubscriber net s → HorizonsRise s p 0 ls
 

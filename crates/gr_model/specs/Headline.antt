@@ -260,7 +260,7 @@ gots s p (_ ∷ ls) = gots s p ls
 
 -- what s is to have got from p up to tick n
 abbrev pub expected : Net → History → ℕ → ℕ → ℕ → List (ℕ × Event)
-expected net h s p n = filter (λ x. nat_le x.0 n && net.wants s x.1) (record_of h p).events
+expected net h s p n = filter (λ x. nat_le x.0 n && net.wants p s x.0 x.1) (record_of h p).events
 
 -- The recorded lines
 
@@ -362,7 +362,7 @@ pub record InOrder (net : Net) (h : History) : Type 0 where
   pub cuts : (p t : ℕ) (xs ys : List Report) → h.lines ≡ xs ++ line.Cut p t ∷ ys → last_cut p (found_in h p) xs < t
   pub cut_settled : (p t : ℕ) → Contains h.lines (line.Cut p t) → t ≤ (record_of h p).settled
   pub cut_got : (p t : ℕ) (xs ys : List Report) → h.lines ≡ xs ++ line.Cut p t ∷ ys →
-      (s u : ℕ) (e : Event) → Contains (record_of h p).events (u, e) → u ≤ t → s < net.subscribers → IsTrue (net.wants s e) → Contains xs (line.Got s p u e)
+      (s u : ℕ) (e : Event) → Contains (record_of h p).events (u, e) → u ≤ t → s < net.subscribers → IsTrue (net.wants p s u e) → Contains xs (line.Got s p u e)
 
 -- what the headline says, step by step
 abbrev pub Holds_from : Net → History → List Line → List (List Report) → Type 0

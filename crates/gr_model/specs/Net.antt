@@ -17,7 +17,7 @@ pub record Net : Type 0 where
   pub subscribers_at : ℕ → List ℕ  -- the subscribers at a broker, in rising order
   pub below : ℕ → ℕ → List ℕ  -- for a publisher, the subscribers at a broker and beyond it
   pub depth : ℕ → ℕ → ℕ  -- for a publisher, how many edges a broker is from the host
-  pub wants : ℕ → Event → Bool  -- a subscriber's filter is true of an event
+  pub wants : ℕ → ℕ → ℕ → Event → Bool  -- for a publisher, a subscriber is to have an event of a tick
   pub gap : ℕ  -- the age at which a tick is asked where something later is known, in milliseconds
   pub idle : ℕ  -- the age at which any tick is asked
   pub retry : ℕ  -- how long an ask is outstanding
@@ -44,13 +44,13 @@ keeps_horizon net p b = not_empty (net.subscribers_at b) || is_empty (net.childr
 abbrev pub is_host : Net → ℕ → ℕ → Bool
 is_host net p b = nat_eq (net.host p) b
 
--- some subscriber at the broker or beyond it wants the event
-abbrev pub wanted_below : Net → ℕ → ℕ → Event → Bool
-wanted_below net p b e = list_any (λ s. net.wants s e) (net.below p b)
+-- some subscriber at the broker or beyond it wants the event of the tick
+abbrev pub wanted_below : Net → ℕ → ℕ → ℕ → Event → Bool
+wanted_below net p b t e = list_any (λ s. net.wants p s t e) (net.below p b)
 
--- what the edge to a child lets pass: an event that nobody there wants becomes silence
-abbrev pub pass : Net → ℕ → ℕ → K → K
-pass net p c Q = Q
-pass net p c S = S
-pass net p c F = F
-pass net p c (D e) = elim (wanted_below net p c e) [ true ↦ D e | false ↦ S ]
+-- what the edge to a child lets pass at a tick: an event that nobody there wants becomes silence
+abbrev pub pass : Net → ℕ → ℕ → ℕ → K → K
+pass net p c t Q = Q
+pass net p c t S = S
+pass net p c t F = F
+pass net p c t (D e) = elim (wanted_below net p c t e) [ true ↦ D e | false ↦ S ]

@@ -3,7 +3,7 @@ use Rattle.std.specs.Prelude.{◌≡◌, ℕ, ◌≤◌, true, false, nat_lt, if
 use Rattle.gr_model.specs.declared.report.Report.{Report}
 use Rattle.gr_model.specs.declared.report.Report.TheVariants as line
 use Rattle.gr_model.specs.Net.{Net, is_host, not_empty, numbers}
-use Rattle.gr_model.specs.Broker.{Log, empty_log, got_line, learn, started}
+use Rattle.gr_model.specs.Broker.{View, Log, empty_log, got_line, learn, started}
 use Rattle.gr_model.specs.World.{World, Told, view_of, log_of, absorbed, unchanged, after, in_turn}
 use Rattle.gr_model.specs.Said.{said_at, due_upto}
 use Rattle.gr_model.specs.Fits.{LogFits}
@@ -40,26 +40,32 @@ abbrev pub found_line : Log → ℕ → List Report
 found_line log p = if nat_lt 0 log.settled then line.Opened p log.last log.settled log.cut ∷ [] else []
 
 -- A host with a subscriber learns nothing new, by which its horizon moves to where the log is settled; nothing is sent
-unfoldable pub opened_for : Net → World → ℕ → Told
-opened_for net w p =
+unfoldable pub opened_for_by : (View → Net) → Net → World → ℕ → Told
+opened_for_by see net w p =
     after (unchanged w (found_line (log_of w p) p)) (λ u. elim (not_empty (net.subscribers_at (net.host p))) [
-      | true ↦ absorbed u (net.host p) p (learn net p (net.host p) [] (view_of u (net.host p) p) (log_of u p))
+      | true ↦ absorbed u (net.host p) p (learn (see (view_of u (net.host p) p)) p (net.host p) [] (view_of u (net.host p) p) (log_of u p))
       | false ↦ unchanged u []
     ])
+
+abbrev pub opened_for : Net → World → ℕ → Told
+opened_for net = opened_for_by (λ _. net) net
 
 -- the publishers of some brokers, broker by broker, and those of a broker in order
 abbrev pub publishers_at : Net → List ℕ → List ℕ
 publishers_at net bs = flat_map (λ b. filter (λ p. is_host net p b) (numbers net.publishers)) bs
 
 -- the hosted brokers start, in order, over the logs that were found
-unfoldable pub opening : Net → List ℕ → List Log → Told
-opening net hosted logs = in_turn (opened_for net) (publishers_at net hosted) (over_logs net logs)
+unfoldable pub opening_by : (View → Net) → Net → List ℕ → List Log → Told
+opening_by see net hosted logs = in_turn (opened_for_by see net) (publishers_at net hosted) (over_logs net logs)
+
+abbrev pub opening : Net → List ℕ → List Log → Told
+opening net = opening_by (λ _. net) net
 
 -- What the opening tells, said of the logs alone
 
 -- what a subscriber at the host gets at once: the events past the cut that it wants, and its horizon
 abbrev pub got_at_once : Net → Log → ℕ → ℕ → List Report
-got_at_once net log p s = if nat_lt 0 log.settled then map (got_line s p) (due_upto net s log.settled log.events) ++ line.Horizon s p log.settled ∷ [] else []
+got_at_once net log p s = if nat_lt 0 log.settled then map (got_line s p) (due_upto net p s log.settled log.events) ++ line.Horizon s p log.settled ∷ [] else []
 
 -- of a publisher: its log, if that is not empty, and what each subscriber at its host gets
 abbrev pub told_at_opening : Net → List Log → ℕ → List Report

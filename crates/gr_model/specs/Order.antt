@@ -17,7 +17,7 @@ pub record CutsInOrder (net : Net) (h : History) (p : ℕ) : Type 0 where
   pub cuts : (t : ℕ) (xs ys : List Report) → h.lines ≡ xs ++ line.Cut p t ∷ ys → last_cut p (found_in h p) xs < t
   pub cut_settled : (t : ℕ) (xs ys : List Report) → h.lines ≡ xs ++ line.Cut p t ∷ ys → t ≤ (record_of h p).settled
   pub cut_got : (t : ℕ) (xs ys : List Report) → h.lines ≡ xs ++ line.Cut p t ∷ ys →
-      (s u : ℕ) (e : Event) → Contains (record_of h p).events (u, e) → u ≤ t → IsSubscriber net s → net.wants s e ≡ true → Contains xs (line.Got s p u e)
+      (s u : ℕ) (e : Event) → Contains (record_of h p).events (u, e) → u ≤ t → IsSubscriber net s → net.wants p s u e ≡ true → Contains xs (line.Got s p u e)
 
 -- a sweep
 abbrev pub is_sweep : Step → Bool

@@ -106,7 +106,7 @@ frames_down net p b sent = flat_map (λ c. know_frames b c p (sent c)) (net.chil
 pub record NewTicks (net : Net) (p b : ℕ) (piece : Known) (v : View) (log : Log) (o : Outcome) : Type 0 where
   -- Each child is sent, where it has not acknowledged, what was unknown and came, as it passes the child's edge.
   pub sent : ℕ → Known
-  pub sent_is : (c : ℕ) → IsChild net p b c → HasKnown (λ t. if is_A (want_at net p b v c t) then Q else pass net p c (new_K (known_at v.know t) (known_at piece t))) (sent c)
+  pub sent_is : (c : ℕ) → IsChild net p b c → HasKnown (λ t. if is_A (want_at net p b v c t) then Q else pass net p c t (new_K (known_at v.know t) (known_at piece t))) (sent c)
   pub frames : o.frames ≡ frames_down net p b sent
   -- A child that is sent nothing gets no frame.
   pub none : (c : ℕ) → IsChild net p b c → ((t : ℕ) → known_at (sent c) t ≡ Q) → know_frames b c p (sent c) ≡ []
@@ -126,7 +126,7 @@ pub record NewTicks (net : Net) (p b : ℕ) (piece : Known) (v : View) (log : Lo
 pub record ChildAsks (net : Net) (p b now c : ℕ) (piece : Wanted) (v : View) (log : Log) (o : Outcome) : Type 0 where
   -- An asked tick is answered: final where c had acknowledged it, else what is known, as it passes the edge to c.
   pub reply : Known
-  pub reply_is : HasKnown (λ t. if is_C (wanted_at piece t) then (if is_A (want_at net p b v c t) then F else pass net p c (known_at v.know t)) else Q) reply
+  pub reply_is : HasKnown (λ t. if is_C (wanted_at piece t) then (if is_A (want_at net p b v c t) then F else pass net p c t (known_at v.know t)) else Q) reply
   -- Below the host the asked ticks that were neither acknowledged nor known, and of which no ask is outstanding, are asked upward.
   pub asked : Wanted
   pub asked_is : HasWanted (λ t. if not (is_host net p b) && is_C (wanted_at piece t) && not (is_A (want_at net p b v c t)) && is_Q (known_at v.know t) && not (is_outstanding (asked_at v.asks t) now net.retry) then C else N) asked

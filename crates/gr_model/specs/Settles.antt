@@ -112,7 +112,7 @@ pub record SweepSettles (net : Net) (w : World) (k : ℕ) : Type 0 where
 
 -- afterwards each subscriber has got exactly what was logged that it wants; before are the lines told before the sweep
 abbrev pub AllGot : Net → World → ℕ → List Report → Type 0
-AllGot net w k before = (s p : ℕ) → s < net.subscribers → p < net.publishers → gots s p (before ++ (sweep net w k).lines) ≡ filter (λ x. net.wants s x.1) (log_of (sweep net w k).world p).events
+AllGot net w k before = (s p : ℕ) → s < net.subscribers → p < net.publishers → gots s p (before ++ (sweep net w k).lines) ≡ filter (λ x. net.wants p s x.0 x.1) (log_of (sweep net w k).world p).events
 
 -- a sweep that is not refused: its moment is within the ticks
 abbrev pub is_accepted : Net → World → Bool

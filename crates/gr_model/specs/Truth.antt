@@ -17,25 +17,25 @@ pub record Facts : Type 0 where
   pub reached : ℕ → ℕ
 
 -- an event was logged at the tick that the subscriber wants
-abbrev pub concerns : Net → Facts → ℕ → ℕ → Bool
-concerns net f s t = elim (f.said t) [ None ↦ false | Some e ↦ net.wants s e ]
+abbrev pub concerns : Net → Facts → ℕ → ℕ → ℕ → Bool
+concerns net f p s t = elim (f.said t) [ None ↦ false | Some e ↦ net.wants p s t e ]
 
 -- silence: no event was logged that a subscriber here or beyond wants; at the host none at all
 pub record TrueS (net : Net) (f : Facts) (p b t : ℕ) : Type 0 where
   pub settled : t ≤ f.settled
-  pub none : (s : ℕ) → is_below net p b s ≡ true → concerns net f s t ≡ false
+  pub none : (s : ℕ) → is_below net p b s ≡ true → concerns net f p s t ≡ false
   pub silent : is_host net p b ≡ true → f.said t ≡ None
 
 -- an event: it was logged, and below the host some subscriber here or beyond wants it
 pub record TrueD (net : Net) (f : Facts) (p b t : ℕ) (e : Event) : Type 0 where
   pub settled : t ≤ f.settled
   pub logged : f.said t ≡ Some e
-  pub wanted : is_host net p b ≡ false → wanted_below net p b e ≡ true
+  pub wanted : is_host net p b ≡ false → wanted_below net p b t e ≡ true
 
 -- final: each subscriber here or beyond that wants what was logged has come past the tick
 pub record TrueF (net : Net) (f : Facts) (p b t : ℕ) : Type 0 where
   pub settled : t ≤ f.settled
-  pub told : (s : ℕ) → is_below net p b s ≡ true → concerns net f s t ≡ true → t ≤ f.reached s
+  pub told : (s : ℕ) → is_below net p b s ≡ true → concerns net f p s t ≡ true → t ≤ f.reached s
 
 -- what a value says of a tick at a broker is so
 abbrev pub IsTrueAt : Net → Facts → ℕ → ℕ → ℕ → K → Type 0

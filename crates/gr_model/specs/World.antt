@@ -80,15 +80,24 @@ in_turn f [] w = unchanged w []
 in_turn f (x ∷ xs) w = after (f w x) (in_turn f xs)
 
 -- one broker is woken for one publisher; for all
-unfoldable pub wake_for : Net → World → ℕ → ℕ → Told
-wake_for net w b p = absorbed w b p (wake net p b w.clock (view_of w b p) (log_of w p))
+unfoldable pub wake_for_by : (View → Net) → Net → World → ℕ → ℕ → Told
+wake_for_by see net w b p = absorbed w b p (wake (see (view_of w b p)) p b w.clock (view_of w b p) (log_of w p))
 
-unfoldable pub wake_all : Net → World → ℕ → Told
-wake_all net w b = in_turn (λ u p. wake_for net u b p) (numbers net.publishers) w
+abbrev pub wake_for : Net → World → ℕ → ℕ → Told
+wake_for net = wake_for_by (λ _. net) net
+
+unfoldable pub wake_all_by : (View → Net) → Net → World → ℕ → Told
+wake_all_by see net w b = in_turn (λ u p. wake_for_by see net u b p) (numbers net.publishers) w
+
+abbrev pub wake_all : Net → World → ℕ → Told
+wake_all net = wake_all_by (λ _. net) net
 
 -- a frame reaches its receiver
-unfoldable pub deliver_frame : Net → World → Frame → Told
-deliver_frame net w f = absorbed w f.head.to f.head.publisher (receive net w.clock f (view_of w f.head.to f.head.publisher) (log_of w f.head.publisher))
+unfoldable pub deliver_frame_by : (View → Net) → Net → World → Frame → Told
+deliver_frame_by see net w f = absorbed w f.head.to f.head.publisher (receive (see (view_of w f.head.to f.head.publisher)) w.clock f (view_of w f.head.to f.head.publisher) (log_of w f.head.publisher))
+
+abbrev pub deliver_frame : Net → World → Frame → Told
+deliver_frame net = deliver_frame_by (λ _. net) net
 
 -- the frame of this number, from 1
 abbrev pub frame_at : World → ℕ → Option Frame
@@ -96,8 +105,11 @@ frame_at w zero = None
 frame_at w (suc k) = slice_get w.frames k
 
 -- a publish at the host
-unfoldable pub publish_now : Net → World → ℕ → ℕ → Event → Told
-publish_now net w p number e = absorbed w (net.host p) p (publish net p (net.host p) w.clock number e (view_of w (net.host p) p) (log_of w p))
+unfoldable pub publish_now_by : (View → Net) → Net → World → ℕ → ℕ → Event → Told
+publish_now_by see net w p number e = absorbed w (net.host p) p (publish (see (view_of w (net.host p) p)) p (net.host p) w.clock number e (view_of w (net.host p) p) (log_of w p))
+
+abbrev pub publish_now : Net → World → ℕ → ℕ → Event → Told
+publish_now net = publish_now_by (λ _. net) net
 
 -- the opened lines of a broker's publishers
 unfoldable pub opened_lines : Net → List Log → ℕ → List Report
@@ -119,15 +131,15 @@ unfoldable pub crash : Net → World → ℕ → Told
 crash net w b = record { world = restarted net w b; lines = line.Crashed b ∷ opened_lines net w.logs b }
 
 -- a publish stops within: the host crashes with the event kept or lost, unless a subscriber is there
-unfoldable pub publish_stopped : Net → World → ℕ → ℕ → ℕ → Stop → Event → Told
-publish_stopped net w number_of_line p number stop e =
+unfoldable pub publish_stopped_by : (View → Net) → Net → World → ℕ → ℕ → ℕ → Stop → Event → Told
+publish_stopped_by see net w number_of_line p number stop e =
     let b = net.host p in
     let log = log_of w p in
     let tick = max (suc log.settled) w.clock in
     elim (not_empty (net.subscribers_at b)) [
       | true ↦ unchanged w (line.RefusedHosts number_of_line b ∷ [])
       | false ↦ elim (nat_eq number (suc log.last) && nat_le tick max_tick) [
-        | false ↦ publish_now net w p number e
+        | false ↦ publish_now_by see net w p number e
         | true ↦
             let kept = is_kept log.gate stop.call stop.pick in
             let logs = if kept then set w.logs p (with_event log tick e) else w.logs in
@@ -138,6 +150,9 @@ publish_stopped net w number_of_line p number stop e =
             }
       ]
     ]
+
+abbrev pub publish_stopped : Net → World → ℕ → ℕ → ℕ → Stop → Event → Told
+publish_stopped net = publish_stopped_by (λ _. net) net
 
 -- The sweep
 
@@ -185,34 +200,49 @@ abbrev pub sent_since : World → World → List Frame
 sent_since old new = frames_past (length old.frames) new.frames
 
 -- the upward frames are delivered at once, with those that this sends, at most so deep
-unfoldable pub deliver_up : Net → ℕ → List Frame → World → Told
-deliver_up net zero fs w = unchanged w []
-deliver_up net (suc fuel) fs w = in_turn (λ u f. after (deliver_frame net u f) (λ x. deliver_up net fuel (filter is_want (sent_since u x)) x)) fs w
+unfoldable pub deliver_up_by : (View → Net) → Net → ℕ → List Frame → World → Told
+deliver_up_by see net zero fs w = unchanged w []
+deliver_up_by see net (suc fuel) fs w = in_turn (λ u f. after (deliver_frame_by see net u f) (λ x. deliver_up_by see net fuel (filter is_want (sent_since u x)) x)) fs w
+
+abbrev pub deliver_up : Net → ℕ → List Frame → World → Told
+deliver_up net = deliver_up_by (λ _. net) net
 
 -- a broker is woken, and the upward frames that this sends are delivered at once
-unfoldable pub wake_up : Net → ℕ → World → ℕ → Told
-wake_up net p w b = after (wake_for net w b p) (λ u. deliver_up net net.brokers (filter is_want (sent_since w u)) u)
+unfoldable pub wake_up_by : (View → Net) → Net → ℕ → World → ℕ → Told
+wake_up_by see net p w b = after (wake_for_by see net w b p) (λ u. deliver_up_by see net net.brokers (filter is_want (sent_since w u)) u)
+
+abbrev pub wake_up : Net → ℕ → World → ℕ → Told
+wake_up net = wake_up_by (λ _. net) net
 
 -- the knowledge sent to a broker in this sweep is delivered
-unfoldable pub hand_down : Net → ℕ → ℕ → World → ℕ → Told
-hand_down net p first w b = in_turn (deliver_frame net) (filter (is_know_to p b) (frames_past first w.frames)) w
+unfoldable pub hand_down_by : (View → Net) → Net → ℕ → ℕ → World → ℕ → Told
+hand_down_by see net p first w b = in_turn (deliver_frame_by see net) (filter (is_know_to p b) (frames_past first w.frames)) w
+
+abbrev pub hand_down : Net → ℕ → ℕ → World → ℕ → Told
+hand_down net = hand_down_by (λ _. net) net
 
 -- the three phases for a publisher
-unfoldable pub sweep_for : Net → World → ℕ → Told
-sweep_for net w p =
+unfoldable pub sweep_for_by : (View → Net) → Net → World → ℕ → Told
+sweep_for_by see net w p =
     let first = length w.frames in
-    after (after (in_turn (wake_up net p) (inwards net p) w) (in_turn (hand_down net p first) (outwards net p))) (in_turn (wake_up net p) (inwards net p))
+    after (after (in_turn (wake_up_by see net p) (inwards net p) w) (in_turn (hand_down_by see net p first) (outwards net p))) (in_turn (wake_up_by see net p) (inwards net p))
+
+abbrev pub sweep_for : Net → World → ℕ → Told
+sweep_for net = sweep_for_by (λ _. net) net
 
 -- a sweep moves the clock far ahead and settles each publisher, unless the clock would pass the last tick
-unfoldable pub sweep : Net → World → ℕ → Told
-sweep net w number_of_line =
+unfoldable pub sweep_by : (View → Net) → Net → World → ℕ → Told
+sweep_by see net w number_of_line =
     let m = sweep_moment net w in
     elim (nat_lt max_tick m) [
       | true ↦ unchanged w (line.RefusedClock number_of_line m ∷ [])
       | false ↦
           let u : World = record { clock = m; most = max m w.most; frames = w.frames; views = w.views; logs = w.logs } in
-          after (in_turn (sweep_for net) (numbers net.publishers) u) (λ x. unchanged x (line.Swept m ∷ []))
+          after (in_turn (sweep_for_by see net) (numbers net.publishers) u) (λ x. unchanged x (line.Swept m ∷ []))
     ]
+
+abbrev pub sweep : Net → World → ℕ → Told
+sweep net = sweep_by (λ _. net) net
 
 -- What is shown
 
@@ -230,18 +260,21 @@ show net w =
 -- One step, and all
 
 -- what a step leaves and tells
-unfoldable pub next : Net → World → Line → Told
-next net w l =
+unfoldable pub next_by : (View → Net) → Net → World → Line → Told
+next_by see net w l =
     elim l.step [
       | step.Clock now ↦ unchanged (record { clock = now; most = max now w.most; frames = w.frames; views = w.views; logs = w.logs }) []
-      | step.Publish p number stop e ↦ elim stop [ None ↦ publish_now net w p number e | Some s ↦ publish_stopped net w l.number p number s e ]
-      | step.Wake b ↦ wake_all net w b
-      | step.Deliver k ↦ elim (frame_at w k) [ None ↦ unchanged w (line.RefusedFrame l.number k (length w.frames) ∷ []) | Some f ↦ deliver_frame net w f ]
+      | step.Publish p number stop e ↦ elim stop [ None ↦ publish_now_by see net w p number e | Some s ↦ publish_stopped_by see net w l.number p number s e ]
+      | step.Wake b ↦ wake_all_by see net w b
+      | step.Deliver k ↦ elim (frame_at w k) [ None ↦ unchanged w (line.RefusedFrame l.number k (length w.frames) ∷ []) | Some f ↦ deliver_frame_by see net w f ]
       | step.Crash b ↦ elim (not_empty (net.subscribers_at b)) [ true ↦ unchanged w (line.RefusedHosts l.number b ∷ []) | false ↦ crash net w b ]
-      | step.Sweep ↦ sweep net w l.number
+      | step.Sweep ↦ sweep_by see net w l.number
       | step.Show ↦ unchanged w (show net w)
       | step.Bytes k ↦ elim (frame_at w k) [ None ↦ unchanged w (line.RefusedFrame l.number k (length w.frames) ∷ []) | Some f ↦ unchanged w (line.BytesOf k (frame_bytes f) ∷ []) ]
     ]
+
+abbrev pub next : Net → World → Line → Told
+next net = next_by (λ _. net) net
 
 -- the world before the first step
 unfoldable pub start : Net → World
@@ -254,15 +287,24 @@ start net = record {
 }
 
 -- the lines of each step
-unfoldable pub run_from : Net → World → List Line → List (List Report)
-run_from net w [] = []
-run_from net w (l ∷ ls) = let s = next net w l in s.lines ∷ run_from net s.world ls
+unfoldable pub run_from_by : (View → Net) → Net → World → List Line → List (List Report)
+run_from_by see net w [] = []
+run_from_by see net w (l ∷ ls) = let s = next_by see net w l in s.lines ∷ run_from_by see net s.world ls
+
+abbrev pub run_from : Net → World → List Line → List (List Report)
+run_from net = run_from_by (λ _. net) net
 
 -- the lines of each step, the first for the start
-unfoldable pub report_of : Net → List Line → List (List Report)
-report_of net steps = [] ∷ run_from net (start net) steps
+unfoldable pub report_of_by : (View → Net) → Net → List Line → List (List Report)
+report_of_by see net steps = [] ∷ run_from_by see net (start net) steps
+
+abbrev pub report_of : Net → List Line → List (List Report)
+report_of net = report_of_by (λ _. net) net
 
 -- a whole schedule: the world after it, and all that is told
+abbrev pub run_all_by : (View → Net) → Net → World → List Line → Told
+run_all_by see net w [] = unchanged w []
+run_all_by see net w (l ∷ ls) = after (next_by see net w l) (λ u. run_all_by see net u ls)
+
 abbrev pub run_all : Net → World → List Line → Told
-run_all net w [] = unchanged w []
-run_all net w (l ∷ ls) = after (next net w l) (λ u. run_all net u ls)
+run_all net = run_all_by (λ _. net) net

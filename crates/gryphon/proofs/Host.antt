@@ -17,6 +17,7 @@ use Rattle.gr_model.specs.Blank.{net0}
 use Rattle.gr_model.specs.Net.{pass}
 use Rattle.gr_model.specs.Broker.{Log, log_at, log_know, learn, new_ticks, forward, quenched, finished, consolidated, trimmed, horizon_after}
 use Rattle.gryphon.specs.World.{host_view, downward}
+use Rattle.gr_model.proofs.CallTruth.{forward-is}
 use Rattle.gr_model.proofs.Schedules.{log_know-is}
 
 -- a list made tick by tick is the canonical list that has these values
@@ -36,16 +37,17 @@ pub new_ticks-unknown : (know piece : Known) → AreRuns Q know → AreRuns Q pi
 unfolding new_ticks
 new_ticks-unknown know piece a p u = zip_runs-equals Q Q Q same_K K_decides (λ k x. if is_Q k then x else Q) know piece piece refl a p p (λ t. new_value (known_at know t) (known_at piece t) (u t))
 
-passed : (v : K) → v ≡ pass net0 0 1 v
-passed Q = refl
-passed S = refl
-passed F = refl
-passed (D e) = refl
+passed : (t : ℕ) (v : K) → v ≡ pass net0 0 1 t v
+passed t Q = refl
+passed t S = refl
+passed t F = refl
+passed t (D e) = refl
 
 -- the one subscriber wants every event, so its broker is sent what came
 pub forward-all : (piece : Known) → AreRuns Q piece → forward net0 0 1 [] piece ≡ piece
-unfolding forward
-forward-all piece p = zip_runs-equals Q N Q same_K K_decides (λ v a. if is_A a then Q else pass net0 0 1 v) piece [] piece refl p tt p (λ t. passed (known_at piece t))
+forward-all piece p =
+    let s = forward-is net0 0 1 [] piece tt p in
+    runs_equal Q 1 1 (forward net0 0 1 [] piece) piece s.runs p (λ t. s.same_at t ∙ sym (passed t (known_at piece t)))
 
 -- who asked for nothing asks for nothing afterwards
 pub quenched-nothing : (sent : Known) → AreRuns Q sent → quenched [] sent ≡ []

@@ -11,7 +11,7 @@ use Rattle.gr_topo.specs.Topology.{blank}
 use Rattle.gr_model.specs.declared.report.Report.{Report}
 use Rattle.gr_model.specs.Blank.{net0}
 use Rattle.gr_model.specs.Text.{labels_of, report_text, whole_line}
-use Rattle.gr_model.specs.World.{World, next, start, run_from, report_of}
+use Rattle.gr_model.specs.World.{World, next, start, run_from, report_of, report_of_by, run_from_by}
 use Rattle.gryphon.specs.World.{Tells}
 use Rattle.gryphon.specs.Scenario.{IsReady, AreReady, all_lines, replayed_text}
 
@@ -37,11 +37,11 @@ text_from w lines = report_text (labels_of blank) (all_lines (run_from net0 w li
 
 -- it is that of the first step and then that of the others
 pub text_from-cons : (w : World) (l : Line) (ls : List Line) → text_from w (l ∷ ls) ≡ report_text (labels_of blank) (next net0 w l).lines ++ text_from (next net0 w l).world ls
-unfolding run_from
+unfolding run_from_by
 text_from-cons w l ls = flat_map-append (whole_line (labels_of blank)) (next net0 w l).lines (all_lines (run_from net0 (next net0 w l).world ls))
 
 pub text_from-nil : (w : World) → text_from w [] ≡ []
-unfolding run_from
+unfolding run_from_by
 text_from-nil w = refl
 
 -- the text that is left at a line
@@ -57,5 +57,5 @@ ready_at (x ∷ xs) (suc i) l r h e = ready_at xs i l r.1 (omega arith) e
 
 -- the text of a whole schedule is that of its steps from the start
 pub replayed_text-is : (lines : List Line) → replayed_text lines ≡ text_from (start net0) lines
-unfolding report_of
+unfolding report_of_by
 replayed_text-is lines = refl

@@ -13,7 +13,7 @@ use Rattle.gr_model.specs.declared.report.Report.{Report}
 use Rattle.gr_model.specs.declared.report.Report.TheVariants as line
 use Rattle.gr_model.specs.Blank.{net0}
 use Rattle.gr_model.specs.Broker.{started, log_know, max_tick, View, Log, publish, receive, clashes, with_event}
-use Rattle.gr_model.specs.World.{next, publish_now, deliver_frame, absorbed, sent_line, start}
+use Rattle.gr_model.specs.World.{next, publish_now, deliver_frame, absorbed, sent_line, start, deliver_frame_by, next_by, publish_now_by}
 use Rattle.gryphon.specs.World.{world_of, log_of_events, host_view, downward, EventsUpto, Tells, Takes, passed_lines}
 use Rattle.gryphon.proofs.Host.{learn-host, IsGrown}
 use Rattle.gryphon.proofs.News.{news, grown, gate_of-append}
@@ -27,7 +27,7 @@ lt_false m n h = lt-leb (suc m) n (omega arith)
 
 -- the clock is set
 pub clock_step : (clock most last settled : ℕ) (events : List (ℕ × Event)) (sent : List Known) (know : Known) (horizon n now : ℕ) → Tells (world_of clock most last settled events sent know horizon) n (Clock now) (world_of now (max now most) last settled events sent know horizon) []
-unfolding next
+unfolding next_by
 clock_step clock most last settled events sent know horizon n now = refl
 
 -- a publish that was there already
@@ -61,19 +61,19 @@ logged_log last settled tick events e = ap (λ g. log_with (suc last) tick (even
 
 pub already_step : (clock most last settled : ℕ) (events : List (ℕ × Event)) (sent : List Known) (know : Known) (horizon n number : ℕ) (e : Event) → number ≤ last →
     Tells (world_of clock most last settled events sent know horizon) n (Publish 0 number None e) (world_of clock most last settled events sent know horizon) (line.Already 0 number ∷ [])
-unfolding next publish_now absorbed
+unfolding next_by publish_now_by absorbed
 already_step clock most last settled events sent know horizon n number e h =
     rw (already_call clock number e (host_view (log_of_events last settled events)) (log_of_events last settled events) h, append-nil (map downward sent)) refl
 
 pub gap_step : (clock most last settled : ℕ) (events : List (ℕ × Event)) (sent : List Known) (know : Known) (horizon n number : ℕ) (e : Event) → suc last < number →
     Tells (world_of clock most last settled events sent know horizon) n (Publish 0 number None e) (world_of clock most last settled events sent know horizon) (line.Gap 0 number (suc last) ∷ [])
-unfolding next publish_now absorbed
+unfolding next_by publish_now_by absorbed
 gap_step clock most last settled events sent know horizon n number e h =
     rw (gap_call clock number e (host_view (log_of_events last settled events)) (log_of_events last settled events) h, append-nil (map downward sent)) refl
 
 pub exhausted_step : (clock most last settled : ℕ) (events : List (ℕ × Event)) (sent : List Known) (know : Known) (horizon n number : ℕ) (e : Event) → last < number → number ≤ suc last → max_tick < max (suc settled) clock →
     Tells (world_of clock most last settled events sent know horizon) n (Publish 0 number None e) (world_of clock most last settled events sent know horizon) (line.Exhausted 0 number ∷ [])
-unfolding next publish_now absorbed
+unfolding next_by publish_now_by absorbed
 exhausted_step clock most last settled events sent know horizon n number e lo hi h =
     rw (exhausted_call clock number e (host_view (log_of_events last settled events)) (log_of_events last settled events) lo hi h, append-nil (map downward sent)) refl
 
@@ -81,7 +81,7 @@ pub logged_step : (clock most last settled : ℕ) (events : List (ℕ × Event))
     (let tick = max (suc settled) clock in Tells (world_of clock most last settled events sent know horizon) n (Publish 0 number None e)
     (world_of clock most (suc last) tick (events ++ (tick, e) ∷ []) (sent ++ news settled tick e ∷ []) know horizon)
     (line.Logged 0 number tick ∷ (line.SentKnow (suc (length (map downward sent))) 0 1 0 (news settled tick e) ∷ [])))
-unfolding next publish_now absorbed sent_line
+unfolding next_by publish_now_by absorbed sent_line
 logged_step clock most last settled events sent know horizon n number e lo hi h u size =
     let tick = max (suc settled) clock in
     let log = log_of_events last settled events in
@@ -105,27 +105,27 @@ logged_by clock most last settled events sent know horizon n number e tick piece
 -- there is no frame 0
 pub refused_zero : (clock most last settled : ℕ) (events : List (ℕ × Event)) (sent : List Known) (know : Known) (horizon n : ℕ) →
     Tells (world_of clock most last settled events sent know horizon) n (Deliver 0) (world_of clock most last settled events sent know horizon) (line.RefusedFrame n 0 (length (map downward sent)) ∷ [])
-unfolding next
+unfolding next_by
 refused_zero clock most last settled events sent know horizon n = refl
 
 -- nor a frame that was not sent
 pub refused_step : (clock most last settled : ℕ) (events : List (ℕ × Event)) (sent : List Known) (know : Known) (horizon n i : ℕ) → slice_get (map downward sent) i ≡ None →
     Tells (world_of clock most last settled events sent know horizon) n (Deliver (suc i)) (world_of clock most last settled events sent know horizon) (line.RefusedFrame n (suc i) (length (map downward sent)) ∷ [])
-unfolding next
-refused_step clock most last settled events sent know horizon n i h = rw (next, h) refl
+unfolding next_by
+refused_step clock most last settled events sent know horizon n i h = rw (next_by, h) refl
 
 -- a frame that clashes changes nothing
 pub dropped_step : (clock most last settled : ℕ) (events : List (ℕ × Event)) (sent : List Known) (know piece : Known) (horizon n i : ℕ) → slice_get (map downward sent) i ≡ Some (downward piece) → clashes know piece ≡ true →
     Tells (world_of clock most last settled events sent know horizon) n (Deliver (suc i)) (world_of clock most last settled events sent know horizon) []
-unfolding next deliver_frame absorbed receive
-dropped_step clock most last settled events sent know piece horizon n i h c = rw (next, h, receive, c, append-nil (map downward sent)) refl
+unfolding next_by deliver_frame_by absorbed receive
+dropped_step clock most last settled events sent know piece horizon n i h c = rw (next_by, h, receive, c, append-nil (map downward sent)) refl
 
 -- a frame is taken
 pub taken_step : (clock most last settled : ℕ) (events : List (ℕ × Event)) (sent : List Known) (know piece joined final : Known) (from to n i : ℕ) → slice_get (map downward sent) i ≡ Some (downward piece) → clashes know piece ≡ false → HasLearned know piece joined final from to →
     Tells (world_of clock most last settled events sent know from) n (Deliver (suc i)) (world_of clock most last settled events sent final to) (passed_lines from to joined)
-unfolding next deliver_frame absorbed receive
+unfolding next_by deliver_frame_by absorbed receive
 taken_step clock most last settled events sent know piece joined final from to n i h c l =
-    rw (next, h, receive, c, learn-far know piece joined final from to (log_of_events last settled events) l, append-nil (map downward sent), append-nil (passed_lines from to joined)) refl
+    rw (next_by, h, receive, c, learn-far know piece joined final from to (log_of_events last settled events) l, append-nil (map downward sent), append-nil (passed_lines from to joined)) refl
 
 -- nothing has happened
 pub begin : start net0 ≡ world_of 0 0 0 0 [] [] [] 0
