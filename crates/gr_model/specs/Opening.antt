@@ -5,25 +5,11 @@ use Rattle.gr_model.specs.declared.report.Report.TheVariants as line
 use Rattle.gr_model.specs.Net.{Net, is_host, not_empty, numbers}
 use Rattle.gr_model.specs.Broker.{View, Log, empty_log, got_line, learn, started}
 use Rattle.gr_model.specs.World.{World, Told, view_of, log_of, absorbed, unchanged, after, in_turn}
-use Rattle.gr_model.specs.Said.{said_at, due_upto}
-use Rattle.gr_model.specs.Fits.{LogFits}
-use Rattle.gr_model.specs.Spelled.{LogIn}
 use Rattle.gr_model.specs.Headline.{Recorded, History}
-
--- A log as it was found, with its ticks and events within their limits. Its events are those past its cut: what was cut is told
--- to nobody any more
-pub record IsFound (log : Log) : Type 0 where
-  pub fits : LogFits log
-  pub past_cut : (t : ℕ) → t ≤ log.cut → said_at log.events t ≡ None
-  pub within : LogIn log
 
 -- the log of a publisher among those that were found
 abbrev pub found_log : List Log → ℕ → Log
 found_log logs p = get_or logs p empty_log
-
--- of each publisher
-abbrev pub AreFound : Net → List Log → Type 0
-AreFound net logs = (p : ℕ) → IsFound (found_log logs p)
 
 -- brokers that know what their logs say, before any horizon has moved
 unfoldable pub over_logs : Net → List Log → World
@@ -60,16 +46,6 @@ opening_by see net hosted logs = in_turn (opened_for_by see net) (publishers_at 
 
 abbrev pub opening : Net → List ℕ → List Log → Told
 opening net = opening_by (λ _. net) net
-
--- What the opening tells, said of the logs alone
-
--- what a subscriber at the host gets at once: the events past the cut that it wants, and its horizon
-abbrev pub got_at_once : Net → Log → ℕ → ℕ → List Report
-got_at_once net log p s = if nat_lt 0 log.settled then map (got_line s p) (due_upto net p s log.settled log.events) ++ line.Horizon s p log.settled ∷ [] else []
-
--- of a publisher: its log, if that is not empty, and what each subscriber at its host gets
-abbrev pub told_at_opening : Net → List Log → ℕ → List Report
-told_at_opening net logs p = found_line (found_log logs p) p ++ flat_map (got_at_once net (found_log logs p) p) (net.subscribers_at (net.host p))
 
 -- The history where logs were found: the record begins with what they say
 

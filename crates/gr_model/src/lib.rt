@@ -5,7 +5,6 @@
 mod lines;
 pub mod print;
 pub mod report;
-pub mod theorems;
 pub mod topologies;
 mod words;
 

@@ -20,7 +20,7 @@ use Rattle.gr_model.specs.Net.{not_empty}
 use Rattle.gr_model.specs.Broker.{Log, learn, finished, consolidated, lower_data, forgotten, data_count, trimmed, horizon_after, data_ticks, got_line, told, clashes}
 use Rattle.gryphon.specs.World.{far_view, passed_lines}
 use Rattle.gryphon.proofs.Host.{zip_runs-equals}
-use Rattle.gr_model.proofs.Pieces.{consolidated-is}
+use Rattle.gr_theorems.proofs.calls.Pieces.{consolidated-is}
 
 -- what the broker of the subscriber knows once it learned a piece, and once all up to its horizon is final
 pub record HasLearned (know piece joined final : Known) (from to : ℕ) : Type 0 where

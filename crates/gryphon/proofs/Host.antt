@@ -17,8 +17,8 @@ use Rattle.gr_model.specs.Blank.{net0}
 use Rattle.gr_model.specs.Net.{pass}
 use Rattle.gr_model.specs.Broker.{Log, log_at, log_know, learn, new_ticks, forward, quenched, finished, consolidated, trimmed, horizon_after}
 use Rattle.gryphon.specs.World.{host_view, downward}
-use Rattle.gr_model.proofs.CallTruth.{forward-is}
-use Rattle.gr_model.proofs.Schedules.{log_know-is}
+use Rattle.gr_theorems.proofs.calls.CallTruth.{forward-is}
+use Rattle.gr_theorems.proofs.runs.Schedules.{log_know-is}
 
 -- a list made tick by tick is the canonical list that has these values
 pub zip_runs-equals : {A B V : Type 0} (a : A) (b : B) (bottom : V) (same : V → V → Bool) → Decides_same same → (f : A → B → V) (xs : List (Run A)) (ys : List (Run B)) (rs : List (Run V)) → f a b ≡ bottom → AreRuns a xs → AreRuns b ys → AreRuns bottom rs → ((t : ℕ) → value_at bottom rs t ≡ f (value_at a xs t) (value_at b ys t)) → zip_runs a b bottom same f xs ys ≡ rs

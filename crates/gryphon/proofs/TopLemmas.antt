@@ -15,11 +15,11 @@ use Rattle.gr_sched.specs.declared.step.Step.TheVariants as step
 use Rattle.gr_sched.specs.declared.step.Line.{Line}
 use Rattle.gr_sched.specs.Words.{Gives}
 use Rattle.gr_model.specs.Blank.{net0}
-use Rattle.gr_model.specs.Fits.{StepIn, StepsIn}
-use Rattle.gr_model.proofs.BlankNet.{net0_is}
-use Rattle.gr_model.proofs.SecondReaches.{headline_always}
-use Rattle.gr_model.proofs.SoFar.{frames_sent}
-use Rattle.gr_model.proofs.ReplyLines.{replied_always}
+use Rattle.gr_theorems.specs.Fits.{StepIn, StepsIn}
+use Rattle.gr_theorems.proofs.topology.BlankNet.{net0_is}
+use Rattle.gr_theorems.proofs.headline.SecondReaches.{headline_always}
+use Rattle.gr_theorems.proofs.headline.SoFar.{frames_sent}
+use Rattle.gr_theorems.proofs.headline.ReplyLines.{replied_always}
 use Rattle.gryphon.specs.declared.asked.Asked.{Asked}
 use Rattle.gryphon.specs.Scenario.{asked_by, IsReady, AreReady}
 use Rattle.gryphon.specs.Top.{MeetsHeadline}

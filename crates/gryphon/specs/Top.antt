@@ -8,8 +8,8 @@ use Rattle.gr_model.specs.Headline.{Headline}
 use Rattle.gryphon.specs.declared.asked.Asked.{Asked}
 use Rattle.gryphon.specs.declared.asked.Asked.TheVariants.{Replayed}
 use Rattle.gryphon.specs.Scenario.{replayed_text}
-use Rattle.gr_model.specs.Order.{FramesSent}
-use Rattle.gr_model.specs.Replies.{Replied}
+use Rattle.gr_theorems.specs.Order.{FramesSent}
+use Rattle.gr_theorems.specs.Replies.{Replied}
 
 -- the words are those of the one command
 abbrev pub IsReplay : List (List ℕ) → Type 0

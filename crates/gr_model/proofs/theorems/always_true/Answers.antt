@@ -1,5 +1,0 @@
-use Rattle.gr_model.proofs.Schedules.{always_true as by_steps}
-use Rattle.gr_model.proofs.theorems.always_true.Goals as goal
-
-pub returns : goal.returns
-returns c = λ net steps n i. by_steps net steps n i

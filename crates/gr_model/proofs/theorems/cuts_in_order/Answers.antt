@@ -1,5 +1,0 @@
-use Rattle.gr_model.proofs.CutOrder.{cuts_in_order as by_order}
-use Rattle.gr_model.proofs.theorems.cuts_in_order.Goals as goal
-
-pub returns : goal.returns
-returns c = λ net steps p n z i j. by_order net steps p n z i j

@@ -1,5 +1,0 @@
-use Rattle.gr_model.proofs.SecondReaches.{headline_always as by_steps}
-use Rattle.gr_model.proofs.theorems.headline_always.Goals as goal
-
-pub returns : goal.returns
-returns c = λ net steps n z r i. by_steps net steps n z r i

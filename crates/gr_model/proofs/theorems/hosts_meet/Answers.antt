@@ -1,5 +1,0 @@
-use Rattle.gr_model.proofs.CutOrder.{hosts_always_meet}
-use Rattle.gr_model.proofs.theorems.hosts_meet.Goals as goal
-
-pub returns : goal.returns
-returns c = λ net steps p n i j y. hosts_always_meet net steps n i p j y

@@ -1,5 +1,0 @@
-use Rattle.gr_model.proofs.ReplyLines.{replied_always}
-use Rattle.gr_model.proofs.theorems.replies_stand.Goals as goal
-
-pub returns : goal.returns
-returns c = λ net steps n z i. replied_always net steps n z i

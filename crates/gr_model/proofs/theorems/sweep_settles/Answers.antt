@@ -1,5 +1,0 @@
-use Rattle.gr_model.proofs.SettlesAlways.{sweep_settles as by_phases}
-use Rattle.gr_model.proofs.theorems.sweep_settles.Goals as goal
-
-pub returns : goal.returns
-returns c = λ net steps k n z r i ok. by_phases net steps k n z r i ok

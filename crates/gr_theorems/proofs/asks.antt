@@ -1,0 +1,3 @@
+-- What is asked, and when
+pub mod AskMoments
+pub mod CallTicks

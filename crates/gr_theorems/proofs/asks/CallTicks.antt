@@ -1,0 +1,266 @@
+-- What one call does at one tick
+use Rattle.std.proofs.Common.{◌≡◌, ◌≢◌, ◌⊎◌, inl, inr, ⊎_elim, ℕ, suc, ◌+◌, ◌-◌, ◌≤◌, ◌<◌, Bool, true, false, not, ◌&&◌, ◌||◌, List, [], ◌∷◌, ◌++◌, refl, sym, ap, ap₂, ◌∙◌, subst, arith, le_refl}
+use Rattle.std.specs.Prelude.{nat_le, nat_lt, if◌then◌else◌}
+use Rattle.std.proofs.lemmas.Bool.{and_parts, and_right, false≢true, leb-true, ltb-true, le-leb, lt-leb, lt-ltb, le-ltb}
+use Rattle.gr_know.specs.declared.values.K.TheVariants.{Q}
+use Rattle.gr_curio.specs.declared.values.Q3.{Q3}
+use Rattle.gr_curio.specs.declared.values.Q3.TheVariants.{N, C, A}
+use Rattle.gr_tick.specs.Runs.{AreRuns, points, IsNone, IsPast, top_of}
+use Rattle.gr_know.specs.Values.{Known, known_at, is_Q}
+use Rattle.gr_curio.specs.Values.{Wanted, Asked, wanted_at, asked_at, is_C, is_A, same_Q3, same_moment, is_outstanding}
+use Rattle.gr_model.specs.Net.{Net, is_host, keeps_horizon}
+use Rattle.gr_model.specs.Broker.{View, Log, Outcome, all_points, any_C, is_settled, consolidated, forgotten, trimmed, max_tick, due, noted, upward, up_frames, asking, wake_below, wanted_at_wake}
+use Rattle.gr_model.specs.World.{World, view_of, sweep_moment}
+use Rattle.gr_theorems.specs.Truth.{Facts, AllWantTruth}
+use Rattle.gr_theorems.specs.Fits.{ViewTrue}
+use Rattle.gr_tick.proofs.RunLaws.{AreRunsOf, tabulate-is, zip_runs-is, IsNone-append, IsPast-append, value_at-step, value_at-past, value_at-start}
+use Rattle.gr_curio.proofs.ValueLaws.{Q3_decides, moment_decides}
+use Rattle.gr_theorems.proofs.calls.Pieces.{forgotten-is}
+use Rattle.gr_theorems.proofs.calls.CallTruth.{IsWanted, done_runs, done_values}
+use Rattle.gr_theorems.proofs.asks.AskMoments.{AsksUpto, AsksFit, asked_upto}
+use Rattle.gr_curio.specs.declared.asks.Moment.TheVariants.{Never, At}
+use Rattle.gr_curio.specs.declared.asks.Moment.{Moment}
+
+-- Forgetting
+
+-- forgetting leaves each tick but some that are then unknown: never at a host, and with a horizon none above it
+pub record IsTrimmed (net : Net) (p b : ℕ) (v u : View) : Type 0 where
+  pub wants : u.wants ≡ v.wants
+  pub asks : u.asks ≡ v.asks
+  pub horizon : u.horizon ≡ v.horizon
+  pub each : (t : ℕ) → (known_at u.know t ≡ known_at v.know t) ⊎ ((known_at u.know t ≡ Q) × (is_host net p b ≡ false) × (keeps_horizon net p b ≡ true → t ≤ v.horizon))
+
+pub trimmed-is : (net : Net) (p b : ℕ) (v : View) → AreRuns Q v.know → IsTrimmed net p b v (trimmed net p b v)
+unfolding trimmed
+trimmed-is net p b v a = go (is_host net p b) refl
+  where
+    upto : ℕ
+    upto = if keeps_horizon net p b then v.horizon else max_tick
+
+    less : View
+    less = record { know = forgotten net.cache upto v.know; wants = v.wants; asks = v.asks; horizon = v.horizon }
+
+    bound : (t : ℕ) → t ≤ upto → keeps_horizon net p b ≡ true → t ≤ v.horizon
+    bound t h e = subst (λ q. t ≤ (if q then v.horizon else max_tick)) e h
+
+    go : (q : Bool) → is_host net p b ≡ q → IsTrimmed net p b v (elim q [ true ↦ v | false ↦ less ])
+    go true e = record { wants = refl; asks = refl; horizon = refl; each = λ t. inl refl }
+    go false e = record { wants = refl; asks = refl; horizon = refl; each = λ t. ⊎_elim (λ x. inl x) (λ x. inr (x.0, e, bound t x.1)) ((forgotten-is net.cache upto v.know a).each t) }
+
+-- with a horizon, no tick above it is forgotten
+pub trimmed_above : (net : Net) (p b t : ℕ) (v u : View) → IsTrimmed net p b v u → keeps_horizon net p b ≡ true → v.horizon < t → known_at u.know t ≡ known_at v.know t
+trimmed_above net p b t v u i k h = ⊎_elim (λ x. x) (λ x. absurd (omega (arith, x.2 k, h))) (i.each t)
+
+-- Outstanding asks
+
+pub not_outstanding : (now retry m t : ℕ) (asks : Asked) → AsksUpto m asks → m + retry ≤ now → is_outstanding (asked_at asks t) now retry ≡ false
+not_outstanding now retry m t asks a h = go (asked_at asks t) refl
+  where
+    go : (o : Moment) → asked_at asks t ≡ o → is_outstanding o now retry ≡ false
+    go Never e = refl
+    go (At k) e =
+        let l : k ≤ m = asked_upto m t k asks a e in
+        ap (λ x. nat_le k now && x) (le-ltb now (k + retry) (omega (arith, l, h))) ∙ and_right (nat_le k now) false refl
+
+pub sweep_is_past : (net : Net) (w : World) → w.most + net.retry ≤ sweep_moment net w
+unfolding sweep_moment
+sweep_is_past net w = omega arith
+
+-- at a sweep's moment no ask of before it is outstanding
+pub none_outstanding : (net : Net) (w : World) (p b t : ℕ) → AsksFit net w → p < net.publishers → b < net.brokers → is_outstanding (asked_at (view_of w b p).asks t) (sweep_moment net w) net.retry ≡ false
+none_outstanding net w p b t a i j = not_outstanding (sweep_moment net w) net.retry w.most t (view_of w b p).asks (a.upto p b i j) (sweep_is_past net w)
+
+-- an ask of this moment is outstanding
+pub just_asked : (now retry : ℕ) → 1 ≤ retry → is_outstanding (At now) now retry ≡ true
+just_asked now retry h = rw (le-leb now now (le_refl now), lt-ltb now (now + retry) (omega (arith, h))) refl
+
+-- Asking
+
+pub due-at : (now retry : ℕ) (know : Known) (asks : Asked) (wanted : ℕ → Bool) (ps : List ℕ) → IsWanted wanted ps →
+    AreRunsOf N (λ t. if wanted t && is_Q (known_at know t) && not (is_outstanding (asked_at asks t) now retry) then C else N) (due now retry know asks wanted ps)
+unfolding due
+due-at now retry know asks wanted ps w =
+    tabulate-is N same_Q3 Q3_decides (λ t. if wanted t && is_Q (known_at know t) && not (is_outstanding (asked_at asks t) now retry) then C else N) (ps ++ points know ++ points asks) (record {
+      start = rw w.start refl;
+      step = λ t n. let x = IsNone-append (suc t) (ps ++ points know) (points asks) n in let y = IsNone-append (suc t) ps (points know) x.0 in
+          ap (λ b. if b then C else N) (ap₂ (λ c d. c && d) (ap₂ (λ c d. c && d) (w.step t y.0) (ap is_Q (value_at-step Q know t y.1))) (ap (λ m. not (is_outstanding m now retry)) (value_at-step Never asks t x.1)));
+      past = λ t n. let x = IsPast-append t (ps ++ points know) (points asks) n in let y = IsPast-append t ps (points know) x.0 in rw (w.past t y.0) refl;
+    })
+
+pub noted-at : (now : ℕ) (asks : Asked) (asked : Wanted) → AreRuns Never asks → AreRuns N asked → AreRunsOf Never (λ t. if is_C (wanted_at asked t) then At now else asked_at asks t) (noted now asks asked)
+unfolding noted
+noted-at now asks asked a w = zip_runs-is Never N Never same_moment moment_decides (λ a w. if is_C w then At now else a) asks asked refl a w
+
+pub upward-at : (done asked : Wanted) → AreRuns N done → AreRuns N asked → AreRunsOf N (λ t. if is_A (wanted_at done t) then A else wanted_at asked t) (upward done asked)
+unfolding upward
+upward-at done asked d a = zip_runs-is N N N same_Q3 Q3_decides (λ c a. if is_A c then A else a) done asked refl d a
+
+same_test : (x y : Bool) → (x ≡ true → y ≡ true) → (y ≡ true → x ≡ true) → x ≡ y
+same_test true true a b = refl
+same_test false false a b = refl
+same_test true false a b = sym (a refl)
+same_test false true a b = b refl
+
+above_step : (h t : ℕ) → suc t ≢ suc h → nat_lt h (suc t) ≡ nat_lt h t
+above_step h t n = same_test (nat_lt h (suc t)) (nat_lt h t)
+    (λ e. let m : t ≡ h → ⊥ = λ g. n (ap suc g) in lt-ltb h t (omega (arith, ltb-true h (suc t) e, m)))
+    (λ e. lt-ltb h (suc t) (omega (arith, ltb-true h t e)))
+
+ago_step : (gap now t : ℕ) → suc t ≢ suc (now - gap) → nat_le (suc t + gap) now ≡ nat_le (t + gap) now
+ago_step gap now t n = same_test (nat_le (suc t + gap) now) (nat_le (t + gap) now)
+    (λ e. le-leb (t + gap) now (omega (arith, leb-true (suc t + gap) now e)))
+    (λ e. let m : t ≡ now - gap → ⊥ = λ g. n (ap suc g) in le-leb (suc t + gap) now (omega (arith, leb-true (t + gap) now e, m)))
+
+below_step : (top t : ℕ) → suc t ≢ top → nat_lt (suc t) top ≡ nat_lt t top
+below_step top t n = same_test (nat_lt (suc t) top) (nat_lt t top)
+    (λ e. lt-ltb t top (omega (arith, ltb-true (suc t) top e)))
+    (λ e. lt-ltb (suc t) top (omega (arith, ltb-true t top e, n)))
+
+upto_step : (top t : ℕ) → suc t ≢ suc top → nat_le (suc t) top ≡ nat_le t top
+upto_step top t n = same_test (nat_le (suc t) top) (nat_le t top)
+    (λ e. le-leb t top (omega (arith, leb-true (suc t) top e)))
+    (λ e. let m : t ≡ top → ⊥ = λ g. n (ap suc g) in le-leb (suc t) top (omega (arith, leb-true t top e, m)))
+
+any_C-start : (net : Net) (f : Facts) (p : ℕ) (cs : List ℕ) (ws : List Wanted) → AllWantTruth net f p cs ws → any_C ws 0 ≡ false
+any_C-start net f p [] [] a = refl
+any_C-start net f p [] (w ∷ ws) a = absurd a
+any_C-start net f p (c ∷ cs) [] a = absurd a
+any_C-start net f p (c ∷ cs) (w ∷ ws) a = ap₂ (λ x y. x || y) (ap is_C (value_at-start N 1 w 0 a.0.runs (omega arith))) (any_C-start net f p cs ws a.1)
+
+any_C-step : (ws : List Wanted) (t : ℕ) → IsNone (suc t) (all_points ws) → any_C ws (suc t) ≡ any_C ws t
+any_C-step [] t n = refl
+any_C-step (w ∷ ws) t n =
+    let k = IsNone-append (suc t) (points w) (all_points ws) n in
+    ap₂ (λ x y. x || y) (ap is_C (value_at-step N w t k.0)) (any_C-step ws t k.1)
+
+any_C-past : (ws : List Wanted) (t : ℕ) → IsPast t (all_points ws) → any_C ws t ≡ false
+any_C-past [] t n = refl
+any_C-past (w ∷ ws) t n =
+    let k = IsPast-append t (points w) (all_points ws) n in
+    ap₂ (λ x y. x || y) (ap is_C (value_at-past N w t k.0)) (any_C-past ws t k.1)
+
+and_false : (x : Bool) → (x && false) ≡ false
+and_false true = refl
+and_false false = refl
+
+pub wake_wanted : (net : Net) (f : Facts) (p b now : ℕ) (v : View) → ViewTrue net f p b v → (keeps : Bool) → IsWanted (wanted_at_wake net keeps now v) (all_points v.wants ++ (suc v.horizon ∷ (suc (now - net.idle) ∷ (suc (now - net.gap) ∷ (top_of v.know ∷ [])))))
+wake_wanted net f p b now v h keeps = record {
+  start = ap₂ (λ x y. x || y) (any_C-start net f p (net.children p b) v.wants h.wants) (ap₂ (λ x y. keeps && x && y) (le-ltb v.horizon 0 (omega arith)) refl ∙ rw and_false refl);
+  step = λ t n.
+      let k = IsNone-append (suc t) (all_points v.wants) (suc v.horizon ∷ (suc (now - net.idle) ∷ (suc (now - net.gap) ∷ (top_of v.know ∷ [])))) n in
+      ap₂ (λ x y. x || y) (any_C-step v.wants t k.0)
+      (ap₂ (λ x y. keeps && x && y) (above_step v.horizon t k.1.0)
+      (ap₂ (λ x y. x || y) (ago_step net.idle now t k.1.1.0) (ap₂ (λ x y. x && y) (ago_step net.gap now t k.1.1.1.0) (below_step (top_of v.know) t k.1.1.1.1.0))));
+  past = λ t n.
+      let k = IsPast-append t (all_points v.wants) (suc v.horizon ∷ (suc (now - net.idle) ∷ (suc (now - net.gap) ∷ (top_of v.know ∷ [])))) n in
+      ap₂ (λ x y. x || y) (any_C-past v.wants t k.0)
+      (ap₂ (λ x y. keeps && nat_lt v.horizon t && (x || (y && nat_lt t (top_of v.know)))) (lt-leb (t + net.idle) now (omega (arith, k.1.1.0))) (lt-leb (t + net.gap) now (omega (arith, k.1.1.1.0))) ∙ and_false (keeps && nat_lt v.horizon t));
+}
+
+-- The wake of a broker that is not the host
+
+abbrev pub wake_points : Net → ℕ → View → List ℕ
+wake_points net now v = all_points v.wants ++ (suc v.horizon ∷ (suc (now - net.idle) ∷ (suc (now - net.gap) ∷ (top_of v.know ∷ []))))
+
+abbrev pub wake_asked : Net → ℕ → ℕ → ℕ → View → Wanted
+wake_asked net p b now v = due now net.retry v.know v.asks (wanted_at_wake net (keeps_horizon net p b) now v) (wake_points net now v)
+
+abbrev pub wake_piece : Net → ℕ → ℕ → ℕ → View → Wanted
+wake_piece net p b now v = upward (consolidated (keeps_horizon net p b) v.horizon v.wants) (wake_asked net p b now v)
+
+-- the broker needs a tick: it does not know it, and a child asks for it or it is above the horizon that the broker keeps
+abbrev pub needs : Net → ℕ → ℕ → View → ℕ → Bool
+needs net p b v t = is_Q (known_at v.know t) && (any_C v.wants t || (keeps_horizon net p b && nat_lt v.horizon t))
+
+pub record WakeTicks (net : Net) (p b now : ℕ) (v : View) (o : Outcome) : Type 0 where
+  pub frames : o.frames ≡ up_frames net p b (wake_piece net p b now v)
+  pub asked : (t : ℕ) → wanted_at (wake_asked net p b now v) t ≡ (if wanted_at_wake net (keeps_horizon net p b) now v t && is_Q (known_at v.know t) && not (is_outstanding (asked_at v.asks t) now net.retry) then C else N)
+  pub piece : (t : ℕ) → wanted_at (wake_piece net p b now v) t ≡ (if is_settled (keeps_horizon net p b) v.horizon v.wants t then A else wanted_at (wake_asked net p b now v) t)
+  pub piece_runs : AreRuns N (wake_piece net p b now v)
+  pub asks : (t : ℕ) → asked_at o.view.asks t ≡ (if is_C (wanted_at (wake_asked net p b now v) t) then At now else asked_at v.asks t)
+  pub wants : o.view.wants ≡ v.wants
+  pub horizon : o.view.horizon ≡ v.horizon
+  pub know : (t : ℕ) → (known_at o.view.know t ≡ known_at v.know t) ⊎ ((known_at o.view.know t ≡ Q) × (is_host net p b ≡ false) × (keeps_horizon net p b ≡ true → t ≤ v.horizon))
+
+A_if : (c : Bool) (x : Q3) → (if is_A (if c then A else N) then A else x) ≡ (if c then A else x)
+A_if true x = refl
+A_if false x = refl
+
+pub wake_ticks : (net : Net) (f : Facts) (p b now : ℕ) (v : View) (log : Log) → ViewTrue net f p b v → WakeTicks net p b now v (wake_below net p b now v log)
+unfolding wake_below asking
+wake_ticks net f p b now v log h =
+    let d = due-at now net.retry v.know v.asks (wanted_at_wake net (keeps_horizon net p b) now v) (wake_points net now v) (wake_wanted net f p b now v h (keeps_horizon net p b)) in
+    let done = consolidated (keeps_horizon net p b) v.horizon v.wants in
+    let dr = done_runs net f p b v.horizon v.wants h.wants in
+    let u = upward-at done (wake_asked net p b now v) dr d.runs in
+    let i = trimmed-is net p b (record { know = v.know; wants = v.wants; asks = noted now v.asks (wake_asked net p b now v); horizon = v.horizon }) h.know.runs in
+    record {
+      frames = refl;
+      asked = d.same_at;
+      piece = λ t. u.same_at t ∙ (ap (λ x. if is_A x then A else wanted_at (wake_asked net p b now v) t) (done_values net f p b v.horizon v.wants h.wants t) ∙ A_if (is_settled (keeps_horizon net p b) v.horizon v.wants t) (wanted_at (wake_asked net p b now v) t));
+      piece_runs = u.runs;
+      asks = λ t. ap (λ a. asked_at a t) i.asks ∙ (noted-at now v.asks (wake_asked net p b now v) h.asks d.runs).same_at t;
+      wants = i.wants;
+      horizon = i.horizon;
+      know = i.each;
+    }
+
+C_if : (c : Bool) → (if c then C else N) ≡ C → c ≡ true
+C_if true e = refl
+C_if false e = absurd (N_not_C e)
+  where
+    N_not_C : N ≡ C → ⊥
+    N_not_C e = cc
+
+wanted_needed : (q c k h x : Bool) → ((c || (k && h && x)) && q) ≡ true → (q && (c || (k && h))) ≡ true
+wanted_needed true true k h x e = refl
+wanted_needed true false true true x e = refl
+wanted_needed true false true false x e = e
+wanted_needed true false false h x e = e
+wanted_needed false true k h x e = e
+wanted_needed false false true true true e = e
+wanted_needed false false true true false e = e
+wanted_needed false false true false x e = e
+wanted_needed false false false h x e = e
+
+needed_wanted : (q c k h x y : Bool) → (q && (c || (k && h))) ≡ true → x ≡ true → ((c || (k && h && (x || y))) && q) ≡ true
+needed_wanted true true k h x y e g = refl
+needed_wanted true false true true x y e g = rw g refl
+needed_wanted true false true false x y e g = e
+needed_wanted true false false h x y e g = e
+needed_wanted false c k h x y e g = absurd (false≢true e)
+
+-- what a wake asks it needs
+pub asked_is_needed : (net : Net) (p b now t : ℕ) (v : View) (o : Outcome) → WakeTicks net p b now v o → wanted_at (wake_asked net p b now v) t ≡ C → needs net p b v t ≡ true
+asked_is_needed net p b now t v o k e =
+    let q = is_Q (known_at v.know t) in
+    let a = C_if (wanted_at_wake net (keeps_horizon net p b) now v t && q && not (is_outstanding (asked_at v.asks t) now net.retry)) (sym (k.asked t) ∙ e) in
+    wanted_needed q (any_C v.wants t) (keeps_horizon net p b) (nat_lt v.horizon t) (nat_le (t + net.idle) now || (nat_le (t + net.gap) now && nat_lt t (top_of v.know)))
+    (and_parts (wanted_at_wake net (keeps_horizon net p b) now v t && q) (not (is_outstanding (asked_at v.asks t) now net.retry)) a).0
+
+-- what a broker needs, idle before this moment and with no ask outstanding, its wake asks
+pub needed_is_asked : (net : Net) (p b now t : ℕ) (v : View) (o : Outcome) → WakeTicks net p b now v o → needs net p b v t ≡ true → t + net.idle ≤ now → is_outstanding (asked_at v.asks t) now net.retry ≡ false → wanted_at (wake_asked net p b now v) t ≡ C
+needed_is_asked net p b now t v o k e h n =
+    let w = needed_wanted (is_Q (known_at v.know t)) (any_C v.wants t) (keeps_horizon net p b) (nat_lt v.horizon t) (nat_le (t + net.idle) now) (nat_le (t + net.gap) now && nat_lt t (top_of v.know)) e (le-leb (t + net.idle) now h) in
+    k.asked t ∙ (ap₂ (λ x y. if x && not y then C else N) w n)
+
+-- and has it noted with this moment
+pub asked_is_noted : (net : Net) (p b now t : ℕ) (v : View) (o : Outcome) → WakeTicks net p b now v o → wanted_at (wake_asked net p b now v) t ≡ C → asked_at o.view.asks t ≡ At now
+asked_is_noted net p b now t v o k e = k.asks t ∙ ap (λ x. if is_C x then At now else asked_at v.asks t) e
+
+pub not_asked : (w q o : Bool) → (q ≡ true → w ≡ true → o ≡ true) → (if w && q && not o then C else N) ≡ N
+not_asked true true o h = ap (λ x. if not x then C else N) (h refl refl)
+not_asked true false o h = refl
+not_asked false true o h = refl
+not_asked false false o h = refl
+
+-- a wake with an ask outstanding at each needed tick sends A on exactly the consolidated ticks, and asks nothing
+pub nothing_needed : (net : Net) (p b now : ℕ) (v : View) (o : Outcome) → WakeTicks net p b now v o → ((t : ℕ) → needs net p b v t ≡ true → is_outstanding (asked_at v.asks t) now net.retry ≡ true) →
+    (t : ℕ) → (wanted_at (wake_piece net p b now v) t ≡ (if is_settled (keeps_horizon net p b) v.horizon v.wants t then A else N)) × (asked_at o.view.asks t ≡ asked_at v.asks t)
+nothing_needed net p b now v o k h t =
+    let q = is_Q (known_at v.know t) in
+    let n : wanted_at (wake_asked net p b now v) t ≡ N = k.asked t ∙ not_asked (wanted_at_wake net (keeps_horizon net p b) now v t) q (is_outstanding (asked_at v.asks t) now net.retry)
+    (λ x y. h t (wanted_needed q (any_C v.wants t) (keeps_horizon net p b) (nat_lt v.horizon t) (nat_le (t + net.idle) now || (nat_le (t + net.gap) now && nat_lt t (top_of v.know))) (ap₂ (λ c d. c && d) y x))) in (
+      k.piece t ∙ ap (λ x. if is_settled (keeps_horizon net p b) v.horizon v.wants t then A else x) n,
+      k.asks t ∙ ap (λ x. if is_C x then At now else asked_at v.asks t) n,
+    )

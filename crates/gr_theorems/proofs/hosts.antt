@@ -1,0 +1,3 @@
+-- The host: its horizon, and what it knows of its log
+pub mod HostHorizon
+pub mod BareHosts

@@ -1,0 +1,9 @@
+-- Old logs, arrivals, and the headline of a server
+pub mod Opening
+pub mod OpenedLines
+pub mod OverLogs
+pub mod Arriving
+pub mod Serving
+pub mod ServedOver
+pub mod CallLines
+pub mod ServedExample

@@ -1,0 +1,7 @@
+use Rattle.gr_model.specs.World.{start, run_all}
+use Rattle.gr_theorems.proofs.runs.Schedules.{always_true}
+use Rattle.gr_theorems.proofs.records.Doubtlines.{doubts_stand as by_step}
+use Rattle.gr_theorems.proofs.theorems.doubts_stand.Goals as goal
+
+pub returns : goal.returns
+returns c = λ net steps l n i j. by_step net (run_all net (start net) steps).world l n (always_true net steps n i) j

@@ -1,0 +1,5 @@
+use Rattle.gr_theorems.proofs.headline.SoFar.{frames_sent as by_steps}
+use Rattle.gr_theorems.proofs.theorems.frames_sent.Goals as goal
+
+pub returns : goal.returns
+returns c = λ net steps n z i. by_steps net steps n z i

@@ -1,0 +1,5 @@
+use Rattle.gr_theorems.proofs.headline.ReplyLines.{replied_always}
+use Rattle.gr_theorems.proofs.theorems.replies_stand.Goals as goal
+
+pub returns : goal.returns
+returns c = λ net steps n z i. replied_always net steps n z i

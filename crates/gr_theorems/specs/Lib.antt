@@ -1,0 +1,15 @@
+pub mod Truth
+pub mod Said
+pub mod Fits
+pub mod Order
+pub mod Settles
+pub mod Rules
+pub mod Obeys
+pub mod Replies
+pub mod Edges
+pub mod Spelled
+pub mod SmallNets
+pub mod Examples
+pub mod Served
+pub mod ServedExample
+pub mod Found

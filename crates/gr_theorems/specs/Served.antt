@@ -1,0 +1,137 @@
+-- The headline of a run over a journal: an arrival is a few steps of a schedule, and of those the headline holds
+use Rattle.std.specs.Prelude.{◌≡◌, ◌⊎◌, ℕ, suc, min, Bool, true, false, ◌&&◌, nat_eq, bytes_eq, if◌then◌else◌, List, [], ◌∷◌, ◌++◌, map, filter, Option, Some, None, Result, Ok, Err, flat_map}
+use Rattle.gr_frame.specs.declared.Frame.{Frame}
+use Rattle.gr_frame.specs.declared.fault.FrameFault.{FrameFault}
+use Rattle.gr_frame.specs.Bytes.{frame_bytes}
+use Rattle.gr_frame.specs.Decode.{frame_decoded}
+use Rattle.gr_sched.specs.declared.step.Line.{Line}
+use Rattle.gr_sched.specs.declared.step.Step.{Step}
+use Rattle.gr_sched.specs.declared.step.Step.TheVariants as step
+use Rattle.gr_model.specs.declared.report.Report.{Report}
+use Rattle.gr_model.specs.declared.report.Report.TheVariants as line
+use Rattle.gr_model.specs.Net.{Net, numbers, numbers_from}
+use Rattle.gr_model.specs.Broker.{Log, max_tick}
+use Rattle.gr_model.specs.Opening.{publishers_at, begin_over}
+use Rattle.gr_theorems.specs.Found.{told_at_opening}
+use Rattle.gr_model.specs.World.{World, Told, sent_lines, run_from, run_all}
+use Rattle.gr_theorems.specs.Obeys.{StepsObey}
+use Rattle.gr_model.specs.Arrivals.{Arrival, datagram, quiet, Publish, publishes_of, left_after, fault_number, comes}
+use Rattle.gr_model.specs.Headline.{History, history, Holds_from, is_record_line, is_doubt_line, is_sent, sent_number, sent_count}
+use Rattle.gr_theorems.specs.Replies.{frame_of_line, is_reply}
+
+-- An honest journal
+
+-- the line says that a frame with these bytes was sent to the broker
+abbrev pub tells_bytes : ℕ → List ℕ → Report → Bool
+tells_bytes b bytes l = is_sent l && elim (frame_of_line l) [ Some f ↦ nat_eq f.head.to b && bytes_eq (frame_bytes f) bytes | None ↦ false ]
+
+-- the number of the first frame of these bytes that was sent to the broker
+abbrev pub number_of_bytes : ℕ → List ℕ → List Report → Option ℕ
+number_of_bytes b bytes [] = None
+number_of_bytes b bytes (l ∷ ls) = if tells_bytes b bytes l then Some (sent_number l) else number_of_bytes b bytes ls
+
+-- a datagram that came is no frame, or has the bytes of a frame that was sent to the same broker before; it may come again
+abbrev pub IsHonestAt : List Report → Arrival → Type 0
+IsHonestAt lines (datagram b bytes moment) = ((fault : FrameFault) × (frame_decoded bytes ≡ Err fault)) ⊎ ((k : ℕ) × (number_of_bytes b bytes lines ≡ Some k))
+IsHonestAt lines (quiet moment) = Unit {0}
+
+-- each arrival, after the lines told so far; the reports are those of the arrivals
+abbrev pub IsHonest : List Report → List Arrival → List (List Report) → Type 0
+IsHonest lines [] rs = Unit {0}
+IsHonest lines (a ∷ arrivals) [] = ⊥
+IsHonest lines (a ∷ arrivals) (r ∷ rs) = IsHonestAt lines a × IsHonest (lines ++ r) arrivals rs
+
+-- An arrival as steps of a schedule
+
+abbrev pub as_line : Step → Line
+as_line s = record { number = 0; step = s }
+
+-- the publish that a quiet moment takes
+abbrev pub publish_step : List Publish → List Line
+publish_step [] = []
+publish_step (x ∷ left) = as_line (step.Publish x.0 x.1.0 None x.1.1) ∷ []
+
+-- the datagram as the delivery of a frame; one that is no frame is none
+abbrev pub delivery_step : Option ℕ → List Line
+delivery_step None = []
+delivery_step (Some k) = as_line (step.Deliver k) ∷ []
+
+abbrev pub is_frame : Result Frame FrameFault → Bool
+is_frame (Ok f) = true
+is_frame (Err fault) = false
+
+-- The clock moves to the moment of the arrival. A datagram with the bytes of a frame that was sent is the delivery of that frame,
+-- and a quiet moment is a publish, where one is left, and then a wake of each broker in order.
+abbrev pub steps_of_arrival : Net → List Report → List Publish → Arrival → List Line
+steps_of_arrival net lines left (datagram b bytes moment) = as_line (step.Clock (min moment max_tick)) ∷ (if is_frame (frame_decoded bytes) then delivery_step (number_of_bytes b bytes lines) else [])
+steps_of_arrival net lines left (quiet moment) = as_line (step.Clock (min moment max_tick)) ∷ (publish_step left ++ map (λ b. as_line (step.Wake b)) (numbers net.brokers))
+
+-- the line of a datagram that is no frame; it belongs to none of the steps
+abbrev pub dropped_as : ℕ → Result Frame FrameFault → List Report
+dropped_as b (Ok f) = []
+dropped_as b (Err fault) = line.DroppedNotFrame b (fault_number fault.kind) fault.at ∷ []
+
+abbrev pub dropped_line : Arrival → List Report
+dropped_line (datagram b bytes moment) = dropped_as b (frame_decoded bytes)
+dropped_line (quiet moment) = []
+
+-- lists one after another
+abbrev pub joined : List (List Report) → List Report
+joined parts = flat_map (λ r. r) parts
+
+-- the line drops a datagram
+abbrev pub is_dropped : Report → Bool
+is_dropped (line.DroppedNotFrame b fault at) = true
+is_dropped (line.DroppedStray b from to p) = true
+is_dropped (line.DroppedClash b t kept came) = true
+is_dropped _ = false
+
+-- An arrival leaves the world of its steps and tells their lines, and then that of a datagram that is no frame. Each call of the
+-- steps obeys its rule
+pub record DoesSteps (net : Net) (w : World) (left : List Publish) (a : Arrival) (steps : List Line) : Type 0 where
+  pub world : (comes net (numbers net.brokers) w left a).world ≡ (run_all net w steps).world
+  pub lines : (comes net (numbers net.brokers) w left a).lines ≡ (run_all net w steps).lines ++ dropped_line a
+  pub obey : StepsObey net w steps (run_from net w steps)
+
+-- So does each, in the world that those before it leave and after the lines told so far. The lines of frames tell all frames of
+-- that world, numbered 1, 2, 3 and so on
+abbrev pub AllDoSteps : Net → World → List Report → List Publish → List Arrival → Type 0
+AllDoSteps net w lines left [] = filter is_sent lines ≡ sent_lines 1 w.frames
+AllDoSteps net w lines left (a ∷ arrivals) =
+    (filter is_sent lines ≡ sent_lines 1 w.frames)
+    × DoesSteps net w left a (steps_of_arrival net lines left a)
+    × (let t : Told = comes net (numbers net.brokers) w left a in AllDoSteps net t.world (lines ++ t.lines) (left_after left a) arrivals)
+
+-- Of an arrival's lines as a whole: none drops a datagram but the one that is no frame, none refuses or shows bytes, and frames are
+-- numbered on from those sent before
+pub record ArrivalTold (h : History) (a : Arrival) (ls : List Report) : Type 0 where
+  pub dropped : filter is_dropped ls ≡ dropped_line a
+  pub unreplied : filter is_reply ls ≡ []
+  pub numbered : map sent_number (filter is_sent ls) ≡ numbers_from (suc (sent_count h.lines)) (sent_count ls)
+
+-- Of each arrival: its lines are those of its steps, or it was dropped; of the steps the headline holds. At the end all is shown,
+-- and nothing else is told
+abbrev pub HoldsServed : Net → History → List Publish → List Arrival → List (List Report) → Type 0
+HoldsServed net h left [] [] = ⊥
+HoldsServed net h left [] (r ∷ []) = (r ≡ filter is_record_line r ++ filter is_doubt_line r) × Holds_from net h (as_line step.Show ∷ []) (r ∷ [])
+HoldsServed net h left [] (r ∷ (s ∷ rs)) = ⊥
+HoldsServed net h left (a ∷ arrivals) [] = ⊥
+HoldsServed net h left (a ∷ arrivals) (r ∷ rs) =
+    ArrivalTold h a r
+    × ((parts : List (List Report)) × ((r ≡ joined parts ++ dropped_line a)
+    × Holds_from net h (steps_of_arrival net h.lines left a) parts
+    × HoldsServed net (history net h (steps_of_arrival net h.lines left a) parts) (left_after left a) arrivals rs))
+
+-- The headline of a run of all brokers over a journal. The opening tells each log that is not empty and what the subscribers at its
+-- host get at once, and nothing else; then all of the above. The record begins with what the logs say, and each subscriber starts
+-- at the cut that was found.
+abbrev pub HeadlineServed : Net → List Log → List Line → List Arrival → List (List Report) → Type 0
+HeadlineServed net logs steps arrivals [] = ⊥
+HeadlineServed net logs steps arrivals (r ∷ rs) =
+    (r ≡ flat_map (told_at_opening net logs) (publishers_at net (numbers net.brokers)))
+    × HoldsServed net (begin_over net logs r) (publishes_of net (numbers net.brokers) steps) arrivals rs
+
+-- the journal of such a run is honest; the first of its reports is the opening
+abbrev pub IsHonestRun : List Arrival → List (List Report) → Type 0
+IsHonestRun arrivals [] = ⊥
+IsHonestRun arrivals (r ∷ rs) = IsHonest r arrivals rs
