@@ -134,9 +134,12 @@ sent_number (line.SentWant n from to p runs) = n
 sent_number (line.SentExpect n from to p tick) = n
 sent_number _ = 0
 
--- the line is of a frame that was sent
+-- the line is of a frame that was sent, whatever its number
 abbrev pub is_sent : Report → Bool
-is_sent r = nat_lt 0 (sent_number r)
+is_sent (line.SentKnow n from to p runs) = true
+is_sent (line.SentWant n from to p runs) = true
+is_sent (line.SentExpect n from to p tick) = true
+is_sent _ = false
 
 -- how many frames were sent
 abbrev pub sent_count : List Report → ℕ

@@ -122,13 +122,20 @@ line_none : (ls : List Report) → line_of_frame 0 ls ≡ None
 line_none [] = refl
 line_none (l ∷ ls) = line_none ls
 
+-- a line of no frame has no number
+unsent_number : (l : Report) → is_sent l ≡ false → sent_number l ≡ 0
+unsent_number (line.SentKnow n from to p runs) e = absurd (true≢false e)
+unsent_number (line.SentWant n from to p runs) e = absurd (true≢false e)
+unsent_number (line.SentExpect n from to p tick) e = absurd (true≢false e)
+unsent_number _ e = refl
+
 -- lines that send nothing do not matter
 line_sent : (k : ℕ) (ls : List Report) → line_of_frame (suc k) ls ≡ line_of_frame (suc k) (filter is_sent ls)
 line_sent k [] = refl
 line_sent k (l ∷ ls) =
     elim (cases_Bool (is_sent l)) [
       | inl e ↦ rw e (ap (λ (z : Option Report). if nat_lt 0 (suc k) && nat_eq (sent_number l) (suc k) then Some l else z) (line_sent k ls))
-      | inr e ↦ rw e (ap (λ q. if nat_lt 0 (suc k) && q then Some l else line_of_frame (suc k) ls) (ne_eqb (sent_number l) (suc k) (λ h. true≢false (sym (lt-ltb 0 (sent_number l) (omega (arith, h))) ∙ e)))
+      | inr e ↦ rw e (ap (λ q. if nat_lt 0 (suc k) && q then Some l else line_of_frame (suc k) ls) (ne_eqb (sent_number l) (suc k) (λ h. omega (arith, h, unsent_number l e)))
           ∙ (ap (λ q. if q then Some l else line_of_frame (suc k) ls) (and_false (nat_lt 0 (suc k))) ∙ line_sent k ls))
     ]
   where

@@ -219,9 +219,9 @@ sent_itself n [] = refl
 sent_itself n (f ∷ fs) = filter-append is_sent (sent_line (suc n) f ∷ []) (sent_lines (suc (suc n)) fs) ∙ ap₂ (λ (x y : List Report). x ++ y) (one f.body) (sent_itself (suc n) fs)
   where
     one : (y : Body) → (let x : Report = elim y [ body.Knowledge runs ↦ line.SentKnow (suc n) f.head.from f.head.to f.head.publisher runs | body.Curiosity runs ↦ line.SentWant (suc n) f.head.from f.head.to f.head.publisher runs | body.Expect tick ↦ line.SentExpect (suc n) f.head.from f.head.to f.head.publisher tick ] in filter is_sent (x ∷ []) ≡ x ∷ [])
-    one (body.Knowledge runs) = rw (lt-ltb 0 (suc n) (omega arith)) refl
-    one (body.Curiosity runs) = rw (lt-ltb 0 (suc n) (omega arith)) refl
-    one (body.Expect tick) = rw (lt-ltb 0 (suc n) (omega arith)) refl
+    one (body.Knowledge runs) = refl
+    one (body.Curiosity runs) = refl
+    one (body.Expect tick) = refl
 
 pub sent_lines-append : (n : ℕ) (xs ys : List Frame) → sent_lines n (xs ++ ys) ≡ sent_lines n xs ++ sent_lines (n + length xs) ys
 sent_lines-append n [] ys = ap (λ m. sent_lines m ys) (omega arith)
