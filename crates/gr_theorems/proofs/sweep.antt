@@ -1,5 +1,6 @@
 -- A sweep: its calls, its three phases, and what they leave
 pub mod Obeying
+pub mod RunsByRules
 pub mod SweepStates
 pub mod SweepSends
 pub mod SweepHears

@@ -5,6 +5,7 @@ pub mod Order
 pub mod Settles
 pub mod Rules
 pub mod Obeys
+pub mod ByRules
 pub mod Replies
 pub mod Edges
 pub mod Spelled

@@ -29,6 +29,7 @@ ghost use Rattle.gr_theorems.specs.Edges.{GoesOverEdge};
 ghost use Rattle.gr_theorems.specs.Spelled.{NumbersIn};
 ghost use Rattle.gr_theorems.specs.Rules.{RulesDetermine};
 ghost use Rattle.gr_theorems.specs.Obeys.{CallsObey};
+ghost use Rattle.gr_theorems.specs.ByRules.{ReportByRules};
 ghost use Rattle.gr_theorems.specs.Settles.{SweepSettles, AllGot, is_accepted};
 ghost use Rattle.gr_model.specs.Blank.{net0};
 ghost use Rattle.gr_theorems.specs.Examples.{WorkedExamples};
@@ -108,6 +109,14 @@ pub fn calls_obey_rules()
 /// The rules leave nothing open: what a call does is the only outcome by its rule, of one view, one log and one moment.
 pub fn rules_determine()
     ensures { (net : Net) (p b : ℕ) → IsNet net → p < net.publishers → b < net.brokers → RulesDetermine net p b }
+{}
+
+/// Of every schedule the rules allow exactly one report, the machine's. What happens at a step is said by the rules alone: its
+/// calls in their order, each with the outcome of its rule put in its place; starts and crashes, stopped publishes, sweeps, what
+/// is refused and what is shown; and the lines of all this in their order.
+pub fn runs_by_rules()
+    ensures allowed { (net : Net) (steps : List Line) → IsNet net → 1 ≤ net.quiet → StepsIn net steps → ReportByRules net steps (report_of net steps) }
+    ensures alone { (net : Net) (steps : List Line) (rs : List (List Report)) → IsNet net → 1 ≤ net.quiet → StepsIn net steps → ReportByRules net steps rs → rs ≡ report_of net steps }
 {}
 
 /// Every step is replied as the schedule and the frames sent demand: refused where it is to be refused and nowhere else,

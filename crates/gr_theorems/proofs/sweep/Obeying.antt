@@ -329,7 +329,7 @@ crash_step_parts net w number b = go (not_empty (net.subscribers_at b))
     go false = crash_parts net w w b (opened_lines net w.logs b) refl refl (λ z. refl) (opened_own net w.logs b)
 
 -- what a step does, by its kind
-abbrev told_at : Net → World → ℕ → Step → Told
+abbrev pub told_at : Net → World → ℕ → Step → Told
 told_at net w number s =
     elim s [
       | step.Clock now ↦ unchanged (record { clock = now; most = max now w.most; frames = w.frames; views = w.views; logs = w.logs }) []
