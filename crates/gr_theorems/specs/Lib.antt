@@ -6,6 +6,7 @@ pub mod Settles
 pub mod Rules
 pub mod Obeys
 pub mod ByRules
+pub mod Statements
 pub mod Replies
 pub mod Edges
 pub mod Spelled

@@ -1,39 +1,31 @@
 //! What holds of every schedule of the machine, on every topology that is a tree. Each function here does nothing: its
-//! contract is the theorem.
+//! contract is the theorem. The premises, and most of what is said, stand in `specs/Statements.antt`.
 
-ghost use Rattle.std.specs.Prelude.{List, [], ℕ, true, false, map, filter, flat_map, ◌≡◌, ◌<◌, ◌≤◌, ◌^◌, Some, None, Ok};
-ghost use Rattle.gr_frame.specs.declared.Frame.{Frame};
-ghost use Rattle.gr_frame.specs.declared.Body.TheVariants as body;
-ghost use Rattle.gr_frame.specs.Bytes.{frame_bytes};
-ghost use Rattle.gr_frame.specs.Decode.{frame_decoded};
-ghost use Rattle.gr_frame.specs.Limits.{IsFrame};
+ghost use Rattle.std.specs.Prelude.{List, ℕ, false, Some, None, ◌≡◌, ◌<◌};
 ghost use Rattle.gr_tick.specs.Runs.{AreRuns};
 ghost use Rattle.gr_know.specs.declared.values.K.TheVariants.{Q};
 ghost use Rattle.gr_know.specs.Values.{Known, known_at, clash_K};
 ghost use Rattle.gr_know.specs.Clash.{IsLeastClash};
 ghost use Rattle.gr_sched.specs.declared.step.Line.{Line};
-ghost use Rattle.gr_model.specs.Net.{Net, not_empty, numbers};
-ghost use Rattle.gr_model.specs.Tree.{IsNet, IsSubscriber};
-ghost use Rattle.gr_model.specs.Broker.{Log, clashes};
-ghost use Rattle.gr_model.specs.World.{Told, view_of, log_of, frame_at, run_all, run_from, start, next, report_of};
-ghost use Rattle.gr_model.specs.Opening.{opening, publishers_at, begin_over};
-ghost use Rattle.gr_theorems.specs.Found.{AreFound, told_at_opening};
-ghost use Rattle.gr_model.specs.Arrivals.{Arrival, publishes_of, served, clash_runs, first_of};
-ghost use Rattle.gr_theorems.specs.Served.{IsHonestRun, AllDoSteps, HeadlineServed};
+ghost use Rattle.gr_model.specs.Net.{Net};
+ghost use Rattle.gr_model.specs.Tree.{IsNet};
+ghost use Rattle.gr_model.specs.Broker.{Log};
+ghost use Rattle.gr_model.specs.World.{report_of};
+ghost use Rattle.gr_model.specs.Arrivals.{Arrival};
+ghost use Rattle.gr_model.specs.Headline.{Headline};
+ghost use Rattle.gr_model.specs.Blank.{net0};
 ghost use Rattle.gr_model.specs.declared.report.Report.{Report};
-ghost use Rattle.gr_theorems.specs.Fits.{StepIn, StepsIn, WorldFits, history_of};
-ghost use Rattle.gr_model.specs.Headline.{GetsExactly, Headline, Holds_from, is_doubt_line, doubt_place, doubts_shown};
-ghost use Rattle.gr_theorems.specs.Order.{CutsInOrder, FramesSent};
+ghost use Rattle.gr_theorems.specs.Fits.{StepIn, WorldFits, history_of};
+ghost use Rattle.gr_theorems.specs.Found.{AreFound};
+ghost use Rattle.gr_theorems.specs.Order.{FramesSent};
 ghost use Rattle.gr_theorems.specs.Replies.{Replied};
-ghost use Rattle.gr_theorems.specs.Edges.{GoesOverEdge};
-ghost use Rattle.gr_theorems.specs.Spelled.{NumbersIn};
 ghost use Rattle.gr_theorems.specs.Rules.{RulesDetermine};
 ghost use Rattle.gr_theorems.specs.Obeys.{CallsObey};
 ghost use Rattle.gr_theorems.specs.ByRules.{ReportByRules};
-ghost use Rattle.gr_theorems.specs.Settles.{SweepSettles, AllGot, is_accepted};
-ghost use Rattle.gr_model.specs.Blank.{net0};
+ghost use Rattle.gr_theorems.specs.Settles.{SweepSettles, AllGot};
 ghost use Rattle.gr_theorems.specs.Examples.{WorkedExamples};
 ghost use Rattle.gr_theorems.specs.ServedExample.{ServedExamples};
+ghost use Rattle.gr_theorems.specs.Statements.{IsRun, IsMarkedRun, IsAskedRun, IsSweptRun, IsSpelledRun, IsRunOverLogs, IsServedRun, world_after, lines_after, NothingClashes, NothingStrays, AllSpelled, AllDecode, AllGetExactly, AllCutsInOrder, HostsMeet, DoubtsStand, HoldsOverLogs, OpeningTells, OpeningSendsNothing, MeetsHeadlineServed, ArrivalsDoSteps, FirstClash};
 
 /// The topology of the small examples is a tree, so the theorems speak of something.
 pub fn net0_is_a_tree()
@@ -48,62 +40,63 @@ pub fn worked_examples()
 /// After every schedule all that any broker knows, all that any frame says and all that was cut is true, and each
 /// host knows every tick up to where its log is settled.
 pub fn always_true()
-    ensures { (net : Net) (steps : List Line) → IsNet net → StepsIn net steps → WorldFits net (run_all net (start net) steps).world }
+    ensures { (net : Net) (steps : List Line) → IsRun net steps → WorldFits net (world_after net steps) }
 {}
 
 /// No frame of knowledge that was ever sent clashes with what its receiver knows, however late it is delivered.
 pub fn never_clashes()
-    ensures { (net : Net) (steps : List Line) (k : ℕ) (f : Frame) (runs : Known) → IsNet net → StepsIn net steps → frame_at (run_all net (start net) steps).world k ≡ Some f → f.body ≡ body.Knowledge runs → clashes (view_of (run_all net (start net) steps).world f.head.to f.head.publisher).know runs ≡ false }
+    ensures { (net : Net) (steps : List Line) → IsRun net steps → NothingClashes net (world_after net steps) }
 {}
 
-/// No frame that was ever sent is a stray: each is of a publisher of the topology and goes over an edge of the tree, from a
-/// broker to a child with knowledge or a tick to expect, or to the next broker up with curiosity.
+/// No frame that was ever sent is a stray: each is of a publisher of the topology and goes over an edge of the tree, from
+/// a broker to a child with knowledge or a tick to expect, or to the next broker up with curiosity.
 pub fn never_strays()
-    ensures { (net : Net) (steps : List Line) (k : ℕ) (f : Frame) → IsNet net → StepsIn net steps → frame_at (run_all net (start net) steps).world k ≡ Some f → GoesOverEdge net f }
+    ensures { (net : Net) (steps : List Line) → IsRun net steps → NothingStrays net (world_after net steps) }
 {}
 
-/// Every frame that was ever sent is spelled by its bytes, which fit into one frame; so they decode to it and to no other.
-/// The topology has at most 65,536 brokers and as many publishers. The schedule names no moment past 2^62, and each event that it
-/// publishes is within the limits of events.
+/// Every frame that was ever sent is spelled by its bytes, which fit into one frame; so they decode to it and to no
+/// other. The topology has at most 65,536 brokers and as many publishers. The schedule names no moment past 2^62, and
+/// each event that it publishes is within the limits of events.
 pub fn frames_are_spelled()
-    ensures spelled { (net : Net) (steps : List Line) (k : ℕ) (f : Frame) → IsNet net → net.brokers ≤ 2 ^ 16 → net.publishers ≤ 2 ^ 16 → StepsIn net steps → NumbersIn steps → frame_at (run_all net (start net) steps).world k ≡ Some f → IsFrame (frame_bytes f) f }
-    ensures decodes { (net : Net) (steps : List Line) (k : ℕ) (f : Frame) → IsNet net → net.brokers ≤ 2 ^ 16 → net.publishers ≤ 2 ^ 16 → StepsIn net steps → NumbersIn steps → frame_at (run_all net (start net) steps).world k ≡ Some f → frame_decoded (frame_bytes f) ≡ Ok f }
+    ensures spelled { (net : Net) (steps : List Line) → IsSpelledRun net steps → AllSpelled (world_after net steps) }
+    ensures decodes { (net : Net) (steps : List Line) → IsSpelledRun net steps → AllDecode (world_after net steps) }
 {}
 
 /// Delivered exactly: over every schedule, what each subscriber got from each publisher is exactly the logged events
 /// that it wants up to its last horizon, once each and in order; and its horizons only rise.
 pub fn gets_exactly()
-    ensures { (net : Net) (steps : List Line) (s p : ℕ) → IsNet net → 1 ≤ net.quiet → StepsIn net steps → p < net.publishers → IsSubscriber net s → GetsExactly net (history_of net steps) s p }
+    ensures { (net : Net) (steps : List Line) → IsMarkedRun net steps → AllGetExactly net (history_of net steps) }
 {}
 
 /// Discarded only after delivery: over every schedule, a publisher's cuts rise strictly, none is past what is settled,
 /// and each event up to a cut was got, before that cut's line, by each subscriber that wants it.
 pub fn cuts_in_order()
-    ensures { (net : Net) (steps : List Line) (p : ℕ) → IsNet net → 1 ≤ net.quiet → StepsIn net steps → p < net.publishers → CutsInOrder net (history_of net steps) p }
+    ensures { (net : Net) (steps : List Line) → IsMarkedRun net steps → AllCutsInOrder net (history_of net steps) }
 {}
 
 /// After every schedule, a host with subscribers has its horizon where its log is settled.
 pub fn hosts_meet()
-    ensures { (net : Net) (steps : List Line) (p : ℕ) → IsNet net → StepsIn net steps → p < net.publishers → not_empty (net.subscribers_at (net.host p)) ≡ true → (view_of (run_all net (start net) steps).world (net.host p) p).horizon ≡ (log_of (run_all net (start net) steps).world p).settled }
+    ensures { (net : Net) (steps : List Line) → IsRun net steps → HostsMeet net (world_after net steps) }
 {}
 
 /// After every schedule, the doubt lines of the next step stand for the places that a show shows, in order, and no
 /// other step has one.
 pub fn doubts_stand()
-    ensures { (net : Net) (steps : List Line) (l : Line) → IsNet net → StepsIn net steps → StepIn net l.step → map doubt_place (filter is_doubt_line (next net (run_all net (start net) steps).world l).lines) ≡ doubts_shown net l }
+    ensures { (net : Net) (steps : List Line) (l : Line) → IsRun net steps → StepIn net l.step →
+        DoubtsStand net (world_after net steps) l }
 {}
 
 /// Frames sent: over every schedule the sent lines are numbered 1, 2, 3 and so on, and say the frames that the calls
 /// of brokers sent, in their order.
 pub fn frames_sent()
-    ensures { (net : Net) (steps : List Line) → IsNet net → 1 ≤ net.quiet → StepsIn net steps → FramesSent net steps }
+    ensures { (net : Net) (steps : List Line) → IsMarkedRun net steps → FramesSent net steps }
 {}
 
-/// Every call follows the rules: over every schedule, each step's lines are those of its calls of brokers, in order, and
-/// then its own; and what each call keeps, tells and sends, and to whom, is what the rules say tick by tick of the broker's
-/// view and the publisher's log at that moment.
+/// Every call follows the rules: over every schedule, each step's lines are those of its calls of brokers, in order,
+/// and then its own; and what each call keeps, tells and sends, and to whom, is what the rules say tick by tick of the
+/// broker's view and the publisher's log at that moment.
 pub fn calls_obey_rules()
-    ensures { (net : Net) (steps : List Line) → IsNet net → 1 ≤ net.quiet → StepsIn net steps → CallsObey net steps (report_of net steps) }
+    ensures { (net : Net) (steps : List Line) → IsMarkedRun net steps → CallsObey net steps (report_of net steps) }
 {}
 
 /// The rules leave nothing open: what a call does is the only outcome by its rule, of one view, one log and one moment.
@@ -111,54 +104,61 @@ pub fn rules_determine()
     ensures { (net : Net) (p b : ℕ) → IsNet net → p < net.publishers → b < net.brokers → RulesDetermine net p b }
 {}
 
-/// Of every schedule the rules allow exactly one report, the machine's. What happens at a step is said by the rules alone: its
-/// calls in their order, each with the outcome of its rule put in its place; starts and crashes, stopped publishes, sweeps, what
-/// is refused and what is shown; and the lines of all this in their order.
+/// Of every schedule the rules allow exactly one report, the machine's. What happens at a step is said by the rules
+/// alone: its calls in their order, each with the outcome of its rule put in its place; starts and crashes, stopped
+/// publishes, sweeps, what is refused and what is shown; and the lines of all this in their order.
 pub fn runs_by_rules()
-    ensures allowed { (net : Net) (steps : List Line) → IsNet net → 1 ≤ net.quiet → StepsIn net steps → ReportByRules net steps (report_of net steps) }
-    ensures alone { (net : Net) (steps : List Line) (rs : List (List Report)) → IsNet net → 1 ≤ net.quiet → StepsIn net steps → ReportByRules net steps rs → rs ≡ report_of net steps }
+    ensures allowed { (net : Net) (steps : List Line) → IsMarkedRun net steps →
+        ReportByRules net steps (report_of net steps) }
+    ensures alone { (net : Net) (steps : List Line) (rs : List (List Report)) → IsMarkedRun net steps →
+        ReportByRules net steps rs → rs ≡ report_of net steps }
 {}
 
-/// Every step is replied as the schedule and the frames sent demand: refused where it is to be refused and nowhere else,
-/// the bytes of a frame shown as those of its sent line, and frames numbered on without a gap.
+/// Every step is replied as the schedule and the frames sent demand: refused where it is to be refused and nowhere
+/// else, the bytes of a frame shown as those of its sent line, and frames numbered on without a gap.
 pub fn replies_stand()
-    ensures { (net : Net) (steps : List Line) → IsNet net → 1 ≤ net.quiet → StepsIn net steps → Replied net steps (report_of net steps) }
+    ensures { (net : Net) (steps : List Line) → IsMarkedRun net steps → Replied net steps (report_of net steps) }
 {}
 
 /// The headline, whole, over every schedule, sweeps included, and after each of its steps: recorded lines, delivered
 /// exactly, doubt horizons, horizons rise, discarded only after delivery.
 pub fn headline_always()
-    ensures { (net : Net) (steps : List Line) → IsNet net → 1 ≤ net.quiet → 1 ≤ net.retry → StepsIn net steps → Headline net steps (report_of net steps) }
+    ensures { (net : Net) (steps : List Line) → IsAskedRun net steps → Headline net steps (report_of net steps) }
 {}
 
 /// A sweep settles everything: after every schedule, a sweep that is not refused ends with every kept horizon, what is
 /// settled of every log, and every cut at its moment; each frame that it sends but an Expect is delivered in it exactly
 /// once; and its lines say so.
 pub fn sweep_settles()
-    ensures { (net : Net) (steps : List Line) (k : ℕ) → IsNet net → 1 ≤ net.quiet → 1 ≤ net.retry → StepsIn net steps → is_accepted net (run_all net (start net) steps).world ≡ true → SweepSettles net (run_all net (start net) steps).world k }
+    ensures { (net : Net) (steps : List Line) (k : ℕ) → IsSweptRun net steps →
+        SweepSettles net (world_after net steps) k }
 {}
 
 /// After a sweep that is not refused, each subscriber has got exactly what was logged that it wants.
 pub fn sweep_hands_over()
-    ensures { (net : Net) (steps : List Line) (k : ℕ) → IsNet net → 1 ≤ net.quiet → 1 ≤ net.retry → StepsIn net steps → is_accepted net (run_all net (start net) steps).world ≡ true → AllGot net (run_all net (start net) steps).world k (run_all net (start net) steps).lines }
+    ensures { (net : Net) (steps : List Line) (k : ℕ) → IsSweptRun net steps →
+        AllGot net (world_after net steps) k (lines_after net steps) }
 {}
 
 /// The headline over logs that were found, whole, over every schedule that begins on them: what each subscriber gets is
-/// exactly the events past the cut that was found, and those logged since, that it wants. The opening tells each log that
-/// is not empty and what the subscribers at its host get at once, and sends nothing.
+/// exactly the events past the cut that was found, and those logged since, that it wants. The opening tells each log
+/// that is not empty and what the subscribers at its host get at once, and sends nothing.
 pub fn headline_over_logs()
-    ensures schedules { (net : Net) (logs : List Log) (steps : List Line) → IsNet net → 1 ≤ net.quiet → 1 ≤ net.retry → AreFound net logs → StepsIn net steps → (let o : Told = opening net (numbers net.brokers) logs in Holds_from net (begin_over net logs o.lines) steps (run_from net o.world steps)) }
-    ensures told { (net : Net) (logs : List Log) → IsNet net → AreFound net logs → (let o : Told = opening net (numbers net.brokers) logs in o.lines ≡ flat_map (told_at_opening net logs) (publishers_at net (numbers net.brokers))) }
-    ensures sends { (net : Net) (logs : List Log) → IsNet net → AreFound net logs → (let o : Told = opening net (numbers net.brokers) logs in o.world.frames ≡ []) }
+    ensures schedules { (net : Net) (logs : List Log) (steps : List Line) → IsRunOverLogs net logs steps →
+        HoldsOverLogs net logs steps }
+    ensures told { (net : Net) (logs : List Log) → IsNet net → AreFound net logs → OpeningTells net logs }
+    ensures sends { (net : Net) (logs : List Log) → IsNet net → AreFound net logs → OpeningSendsNothing net logs }
 {}
 
 /// The headline of a server that hosts all brokers, over logs that were found and every honest journal, whatever of the
 /// frames sent arrives, in which order and how often: each arrival leaves what its steps of a schedule leave and tells
-/// their lines, each call of them obeys its rule, and of these steps the whole headline holds. So no datagram is dropped
-/// but one that is no frame.
+/// their lines, each call of them obeys its rule, and of these steps the whole headline holds. So no datagram is
+/// dropped but one that is no frame.
 pub fn headline_served()
-    ensures headline { (net : Net) (logs : List Log) (steps : List Line) (arrivals : List Arrival) → IsNet net → net.brokers ≤ 2 ^ 16 → net.publishers ≤ 2 ^ 16 → 1 ≤ net.quiet → 1 ≤ net.retry → AreFound net logs → StepsIn net steps → NumbersIn steps → (let rs : List (List Report) = served net (numbers net.brokers) logs steps arrivals in IsHonestRun arrivals rs → HeadlineServed net logs steps arrivals rs) }
-    ensures calls { (net : Net) (logs : List Log) (steps : List Line) (arrivals : List Arrival) → IsNet net → net.brokers ≤ 2 ^ 16 → net.publishers ≤ 2 ^ 16 → 1 ≤ net.quiet → 1 ≤ net.retry → AreFound net logs → StepsIn net steps → NumbersIn steps → IsHonestRun arrivals (served net (numbers net.brokers) logs steps arrivals) → (let o : Told = opening net (numbers net.brokers) logs in AllDoSteps net o.world o.lines (publishes_of net (numbers net.brokers) steps) arrivals) }
+    ensures headline { (net : Net) (logs : List Log) (steps : List Line) (arrivals : List Arrival) →
+        IsServedRun net logs steps arrivals → MeetsHeadlineServed net logs steps arrivals }
+    ensures calls { (net : Net) (logs : List Log) (steps : List Line) (arrivals : List Arrival) →
+        IsServedRun net logs steps arrivals → ArrivalsDoSteps net logs steps arrivals }
 {}
 
 /// Worked examples of a server: a whole run over three arrivals, and a start over an old log.
@@ -169,6 +169,8 @@ pub fn served_examples()
 /// The tick that a dropped datagram's line names is the least one at which the datagram clashes with what is known, and
 /// none is named where nothing clashes.
 pub fn clashes_are_least()
-    ensures some { (know : Known) (piece : Known) (t : ℕ) → AreRuns Q know → AreRuns Q piece → first_of (clash_runs know piece) ≡ Some t → IsLeastClash (known_at know) (known_at piece) t (known_at know t) (known_at piece t) }
-    ensures none { (know : Known) (piece : Known) → AreRuns Q know → AreRuns Q piece → first_of (clash_runs know piece) ≡ None → (t : ℕ) → clash_K (known_at know t) (known_at piece t) ≡ false }
+    ensures some { (know piece : Known) (t : ℕ) → AreRuns Q know → AreRuns Q piece → FirstClash know piece (Some t) →
+        IsLeastClash (known_at know) (known_at piece) t (known_at know t) (known_at piece t) }
+    ensures none { (know piece : Known) → AreRuns Q know → AreRuns Q piece → FirstClash know piece None →
+        (t : ℕ) → clash_K (known_at know t) (known_at piece t) ≡ false }
 {}

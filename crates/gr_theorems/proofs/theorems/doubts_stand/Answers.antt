@@ -4,4 +4,4 @@ use Rattle.gr_theorems.proofs.records.Doubtlines.{doubts_stand as by_step}
 use Rattle.gr_theorems.proofs.theorems.doubts_stand.Goals as goal
 
 pub returns : goal.returns
-returns c = λ net steps l n i j. by_step net (run_all net (start net) steps).world l n (always_true net steps n i) j
+returns c = λ net steps l r j. by_step net (run_all net (start net) steps).world l r.tree (always_true net steps r.tree r.steps_in) j

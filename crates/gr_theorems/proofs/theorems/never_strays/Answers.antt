@@ -2,4 +2,4 @@ use Rattle.gr_theorems.proofs.topology.Strays.{no_strays}
 use Rattle.gr_theorems.proofs.theorems.never_strays.Goals as goal
 
 pub returns : goal.returns
-returns c = λ net steps k f n i e. no_strays net steps k f n i e
+returns c = λ net steps r k f e. no_strays net steps k f r.tree r.steps_in e

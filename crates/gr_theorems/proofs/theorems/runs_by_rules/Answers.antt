@@ -2,7 +2,7 @@ use Rattle.gr_theorems.proofs.sweep.RunsByRules.{report_by_rules, report_once}
 use Rattle.gr_theorems.proofs.theorems.runs_by_rules.Goals as goal
 
 pub returns-clause-allowed : goal.returns-clause-allowed
-returns-clause-allowed c = λ net steps n z i. report_by_rules net steps n z i
+returns-clause-allowed c = λ net steps r. report_by_rules net steps r.tree r.quiet r.steps_in
 
 pub returns-clause-alone : goal.returns-clause-alone
-returns-clause-alone c = λ net steps rs n z i a. report_once net steps rs n z i a
+returns-clause-alone c = λ net steps rs r a. report_once net steps rs r.tree r.quiet r.steps_in a
