@@ -18,7 +18,7 @@ use Rattle.gr_model.specs.Blank.{net0}
 use Rattle.gr_theorems.specs.Fits.{StepIn, StepsIn}
 use Rattle.gr_theorems.proofs.topology.BlankNet.{net0_is}
 use Rattle.gr_theorems.proofs.headline.SecondReaches.{headline_always}
-use Rattle.gr_theorems.proofs.headline.SoFar.{frames_sent}
+use Rattle.gr_theorems.proofs.sweep.RunsByRules.{report_by_rules, report_once}
 use Rattle.gr_theorems.proofs.headline.ReplyLines.{replied_always}
 use Rattle.gryphon.specs.declared.asked.Asked.{Asked}
 use Rattle.gryphon.specs.Scenario.{asked_by, IsReady, AreReady}
@@ -52,7 +52,8 @@ meets_headline lines h =
     let s = steps_in lines h in
     record {
       headline = headline_always net0 lines net0_is (lit≤ tt) (lit≤ tt) s;
-      sent = frames_sent net0 lines net0_is (lit≤ tt) s;
+      by_rules = report_by_rules net0 lines net0_is (lit≤ tt) s;
+      alone = λ rs r. report_once net0 lines rs net0_is (lit≤ tt) s r;
       replied = replied_always net0 lines net0_is (lit≤ tt) s;
     }
 

@@ -5,22 +5,28 @@ use Rattle.gr_sched.specs.declared.step.Line.{Line}
 use Rattle.gr_model.specs.Blank.{net0}
 use Rattle.gr_model.specs.World.{report_of}
 use Rattle.gr_model.specs.Headline.{Headline}
+use Rattle.gr_model.specs.declared.report.Report.{Report}
 use Rattle.gryphon.specs.declared.asked.Asked.{Asked}
 use Rattle.gryphon.specs.declared.asked.Asked.TheVariants.{Replayed}
 use Rattle.gryphon.specs.Scenario.{replayed_text}
-use Rattle.gr_theorems.specs.Order.{FramesSent}
+use Rattle.gr_theorems.specs.ByRules.{ReportByRules}
 use Rattle.gr_theorems.specs.Replies.{Replied}
 
 -- the words are those of the one command
 abbrev pub IsReplay : List (List ℕ) → Type 0
 IsReplay words = words ≡ codes "replay" ∷ []
 
--- the report of a schedule meets the headline: recorded lines, delivered exactly, doubt horizons, horizons rise and discarded
--- only after delivery, step by step; its sent lines, numbered 1, 2, 3 and so on, are the frames that the brokers' calls sent;
--- and each step is refused, and bytes are shown, exactly where the schedule and the frames sent demand it
+-- the report of a schedule meets the headline
 pub record MeetsHeadline (lines : List Line) : Type 0 where
+  -- recorded lines, delivered exactly, doubt horizons, horizons rise and discarded only after delivery, step by step
   pub headline : Headline net0 lines (report_of net0 lines)
-  pub sent : FramesSent net0 lines
+  -- each step makes its calls, and each call forwards, asks, acknowledges, tells and keeps what its rule says; the lines are
+  -- those of the calls and frames in their order
+  pub by_rules : ReportByRules net0 lines (report_of net0 lines)
+  -- no other report is one by the rules
+  pub alone : (rs : List (List Report)) → ReportByRules net0 lines rs → rs ≡ report_of net0 lines
+  -- each step is refused, and bytes are shown, exactly where the schedule and the frames sent demand it; sent lines are
+  -- numbered 1, 2, 3 and so on
   pub replied : Replied net0 lines (report_of net0 lines)
 
 -- a schedule was asked for, its report was taken whole, and it meets the headline
