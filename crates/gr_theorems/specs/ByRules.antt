@@ -285,20 +285,25 @@ pub record Steps (net : Net) (l : Line) (ls : List Report) (Rest : World → Typ
   pub happens : Happens net l.number l.step w (record { world = left; lines = ls })
   pub rest : Rest left
 
--- from a state on, the steps tell these lines, each its own
-abbrev pub RunByRules : Net → World → List Line → List (List Report) → Type 0
-RunByRules net w [] [] = Unit {0}
-RunByRules net w (l ∷ ls) (r ∷ rs) = Steps net l r (λ u. RunByRules net u ls rs) w
-RunByRules net w [] (r ∷ rs) = ⊥
-RunByRules net w (l ∷ ls) [] = ⊥
+-- from state w on, the steps tell these lines, each its own, and leave state u
+abbrev pub RunByRules : Net → World → List Line → List (List Report) → World → Type 0
+RunByRules net w [] [] u = u ≡ w
+RunByRules net w (l ∷ ls) (r ∷ rs) u = Steps net l r (λ v. RunByRules net v ls rs u) w
+RunByRules net w [] (r ∷ rs) u = ⊥
+RunByRules net w (l ∷ ls) [] u = ⊥
 
--- the steps tell these lines from some state on that is as before the first step
-pub record RunsFromStart (net : Net) (steps : List Line) (rs : List (List Report)) : Type 0 where
+-- from a state on that is as before the first step
+pub record RunsFromStart (net : Net) (steps : List Line) (rs : List (List Report)) (u : World) : Type 0 where
   pub begun : World
   pub begins : Begins net begun
-  pub run : RunByRules net begun steps rs
+  pub run : RunByRules net begun steps rs u
 
--- a whole report: nothing is told at the start, and then each step tells its lines
-abbrev pub ReportByRules : Net → List Line → List (List Report) → Type 0
-ReportByRules net steps [] = ⊥
-ReportByRules net steps (r ∷ rs) = (r ≡ []) × RunsFromStart net steps rs
+-- a whole schedule: nothing is told at the start, then each step tells its lines, and in the end state u is left
+abbrev pub ScheduleByRules : Net → List Line → List (List Report) → World → Type 0
+ScheduleByRules net steps [] u = ⊥
+ScheduleByRules net steps (r ∷ rs) u = (r ≡ []) × RunsFromStart net steps rs u
+
+-- a whole report, whatever is left
+pub record ReportByRules (net : Net) (steps : List Line) (rs : List (List Report)) : Type 0 where
+  pub left : World
+  pub schedule : ScheduleByRules net steps rs left

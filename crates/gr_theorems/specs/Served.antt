@@ -15,6 +15,7 @@ use Rattle.gr_model.specs.Opening.{publishers_at, begin_over}
 use Rattle.gr_theorems.specs.Found.{told_at_opening}
 use Rattle.gr_model.specs.World.{World, Told, sent_lines, run_from, run_all}
 use Rattle.gr_theorems.specs.Obeys.{StepsObey}
+use Rattle.gr_theorems.specs.ByRules.{RunByRules}
 use Rattle.gr_model.specs.Arrivals.{Arrival, datagram, quiet, Publish, publishes_of, left_after, fault_number, comes}
 use Rattle.gr_model.specs.Headline.{History, history, Holds_from, is_record_line, is_doubt_line, is_sent, sent_number, sent_count}
 use Rattle.gr_theorems.specs.Replies.{frame_of_line, is_reply}
@@ -87,11 +88,12 @@ is_dropped (line.DroppedClash b t kept came) = true
 is_dropped _ = false
 
 -- An arrival leaves the world of its steps and tells their lines, and then that of a datagram that is no frame. Each call of the
--- steps obeys its rule
+-- steps obeys its rule, and all that the steps leave and tell is by the rules
 pub record DoesSteps (net : Net) (w : World) (left : List Publish) (a : Arrival) (steps : List Line) : Type 0 where
   pub world : (comes net (numbers net.brokers) w left a).world ≡ (run_all net w steps).world
   pub lines : (comes net (numbers net.brokers) w left a).lines ≡ (run_all net w steps).lines ++ dropped_line a
   pub obey : StepsObey net w steps (run_from net w steps)
+  pub by_rules : RunByRules net w steps (run_from net w steps) (run_all net w steps).world
 
 -- So does each, in the world that those before it leave and after the lines told so far. The lines of frames tell all frames of
 -- that world, numbered 1, 2, 3 and so on

@@ -10,7 +10,7 @@ ghost use Rattle.gr_sched.specs.declared.step.Line.{Line};
 ghost use Rattle.gr_model.specs.Net.{Net};
 ghost use Rattle.gr_model.specs.Tree.{IsNet};
 ghost use Rattle.gr_model.specs.Broker.{Log};
-ghost use Rattle.gr_model.specs.World.{report_of};
+ghost use Rattle.gr_model.specs.World.{World, report_of};
 ghost use Rattle.gr_model.specs.Arrivals.{Arrival};
 ghost use Rattle.gr_model.specs.Headline.{Headline};
 ghost use Rattle.gr_model.specs.Blank.{net0};
@@ -21,7 +21,7 @@ ghost use Rattle.gr_theorems.specs.Order.{FramesSent};
 ghost use Rattle.gr_theorems.specs.Replies.{Replied};
 ghost use Rattle.gr_theorems.specs.Rules.{RulesDetermine};
 ghost use Rattle.gr_theorems.specs.Obeys.{CallsObey};
-ghost use Rattle.gr_theorems.specs.ByRules.{ReportByRules};
+ghost use Rattle.gr_theorems.specs.ByRules.{ScheduleByRules};
 ghost use Rattle.gr_theorems.specs.Settles.{SweepSettles, AllGot};
 ghost use Rattle.gr_theorems.specs.Examples.{WorkedExamples};
 ghost use Rattle.gr_theorems.specs.ServedExample.{ServedExamples};
@@ -104,14 +104,14 @@ pub fn rules_determine()
     ensures { (net : Net) (p b : ℕ) → IsNet net → p < net.publishers → b < net.brokers → RulesDetermine net p b }
 {}
 
-/// Of every schedule the rules allow exactly one report, the machine's. What happens at a step is said by the rules
-/// alone: its calls in their order, each with the outcome of its rule put in its place; starts and crashes, stopped
-/// publishes, sweeps, what is refused and what is shown; and the lines of all this in their order.
+/// Of every schedule the rules allow exactly one report and leave exactly one world, the machine's. What happens at a
+/// step is said by the rules alone: its calls in their order, each with the outcome of its rule put in its place; starts
+/// and crashes, stopped publishes, sweeps, what is refused and what is shown; and the lines of all this in their order.
 pub fn runs_by_rules()
     ensures allowed { (net : Net) (steps : List Line) → IsMarkedRun net steps →
-        ReportByRules net steps (report_of net steps) }
-    ensures alone { (net : Net) (steps : List Line) (rs : List (List Report)) → IsMarkedRun net steps →
-        ReportByRules net steps rs → rs ≡ report_of net steps }
+        ScheduleByRules net steps (report_of net steps) (world_after net steps) }
+    ensures alone { (net : Net) (steps : List Line) (rs : List (List Report)) (w : World) → IsMarkedRun net steps →
+        ScheduleByRules net steps rs w → (rs ≡ report_of net steps) × (w ≡ world_after net steps) }
 {}
 
 /// Every step is replied as the schedule and the frames sent demand: refused where it is to be refused and nowhere

@@ -30,6 +30,7 @@ use Rattle.gr_theorems.proofs.runs.Schedules.{next_kept, clocked_fits, report_li
 use Rattle.gr_theorems.proofs.records.Records.{has_number}
 use Rattle.gr_theorems.proofs.records.Recorded.{runs}
 use Rattle.gr_theorems.proofs.sweep.Obeying.{steps_obey}
+use Rattle.gr_theorems.proofs.sweep.RunsByRules.{run_by_rules}
 use Rattle.gr_theorems.proofs.server.CallLines.{drops_foreign, replies_foreign}
 use Rattle.gr_theorems.proofs.records.RecordLines.{Sends, sends_none, sends_seq}
 use Rattle.gr_theorems.proofs.records.RecordSteps.{step_sends}
@@ -340,6 +341,6 @@ module _ (net : Net) (n : IsNet net) (on : 1 ≤ net.quiet) (retry : 1 ≤ net.r
       let g : History = history net h steps (run_from net w steps) in
       let same : filter is_sent g.lines ≡ filter is_sent (lines ++ t.lines) = sym y.same ∙ (filter-append is_sent h.lines t.lines ∙ (ap (λ (z : List Report). z ++ filter is_sent t.lines) e ∙ sym (filter-append is_sent lines t.lines))) in (
         sym e ∙ r.whole.stands.sent,
-        subst (λ (z : List Line). DoesSteps net w left a z) (steps_same h.lines lines left a e) (record { world = y.does.world; lines = y.does.lines; obey = steps_obey net w steps n on r.whole.stands.fits y.are_in.steps }),
+        subst (λ (z : List Line). DoesSteps net w left a z) (steps_same h.lines lines left a e) (record { world = y.does.world; lines = y.does.lines; obey = steps_obey net w steps n on r.whole.stands.fits y.are_in.steps; by_rules = run_by_rules net steps w n on r.whole.stands.fits y.are_in.steps }),
         subst (λ z. AllDoSteps net z (lines ++ t.lines) (left_after left a) arrivals) (sym y.does.world) (all_do arrivals (run_all net w steps).world g (left_after left a) (lines ++ t.lines) y.ready (left_in net left a l) same (still_honest w h left a arrivals y x)),
       )

@@ -18,13 +18,13 @@ use Rattle.gr_model.specs.declared.report.Report.TheVariants as line
 use Rattle.gr_tick.proofs.RunLaws.{runs_equal}
 use Rattle.gr_model.specs.Net.{Net, is_host, not_empty, numbers}
 use Rattle.gr_model.specs.Broker.{View, Log, Outcome, empty_log, log_at, log_know, started, max_tick, publish, wake, receive}
-use Rattle.gr_model.specs.World.{World, Told, blank_view, view_of, log_of, with_view, absorbed, unchanged, after, in_turn, sent_lines, wake_for, wake_all, deliver_frame, frame_at, publish_now, frames_past, sent_since, is_want, is_know_to, inwards, outwards, numbers_down, opened_lines, restarted, crash, publish_stopped, deliver_up, wake_up, hand_down, sweep_for, sweep, sweep_moment, show, next, start, run_from, report_of, wake_for_by, wake_all_by, deliver_frame_by, publish_now_by, publish_stopped_by, deliver_up_by, wake_up_by, hand_down_by, sweep_for_by, sweep_by, next_by, run_from_by, report_of_by}
+use Rattle.gr_model.specs.World.{World, Told, blank_view, view_of, log_of, with_view, absorbed, unchanged, after, in_turn, sent_lines, wake_for, wake_all, deliver_frame, frame_at, publish_now, frames_past, sent_since, is_want, is_know_to, inwards, outwards, numbers_down, opened_lines, restarted, crash, publish_stopped, deliver_up, wake_up, hand_down, sweep_for, sweep, sweep_moment, show, next, start, run_from, run_all, report_of, wake_for_by, wake_all_by, deliver_frame_by, publish_now_by, publish_stopped_by, deliver_up_by, wake_up_by, hand_down_by, sweep_for_by, sweep_by, next_by, run_from_by, report_of_by}
 use Rattle.gr_model.specs.Tree.{IsNet}
 use Rattle.gr_theorems.specs.Fits.{WorldFits, FrameTrue, StepIn, StepsIn, reached_in}
 use Rattle.gr_theorems.specs.Rules.{HasKnown, Publishes, Wakes, Comes, RulesDetermine}
 use Rattle.gr_theorems.specs.Settles.{is_accepted, at_sweep}
 use Rattle.gr_theorems.specs.Obeys.{is_next_of}
-use Rattle.gr_theorems.specs.ByRules.{Tells, Then, EachInTurn, Starts, StartsAll, Begins, StartsAgain, Calls, IsPublished, IsWoken, Arrives, SetsClock, Crashes, fate, logs_left, Stops, upward_since, AtOnce, WakesUp, HandsDown, SweepsFor, SweepsAll, Sweeps, shown, Delivers, ShowsBytes, Happens, RunByRules, ReportByRules}
+use Rattle.gr_theorems.specs.ByRules.{Tells, Then, EachInTurn, Starts, StartsAll, Begins, StartsAgain, Calls, IsPublished, IsWoken, Arrives, SetsClock, Crashes, fate, logs_left, Stops, upward_since, AtOnce, WakesUp, HandsDown, SweepsFor, SweepsAll, Sweeps, shown, Delivers, ShowsBytes, Happens, RunByRules, ScheduleByRules, ReportByRules}
 use Rattle.gr_theorems.proofs.runs.Worlds.{Kept, IsLaterWorld, FrameTrue-later, Each, wake_for_kept, deliver_kept, wake_up_kept, hand_down_kept, sweep_for_kept, in_turn_kept, frames_past_true, filter_frames, depths_in, numbers_below}
 use Rattle.gr_theorems.proofs.runs.Schedules.{log_know-is, get_numbers, length_numbers, clocked_fits, frame_at_true, next_kept, start_fits}
 use Rattle.gr_theorems.proofs.rules.HostRules.{wakes_rule, publishes_rule, comes_rule}
@@ -457,23 +457,26 @@ next_exactly net w l n quiet f i = step_exactly net w l.number l.step n quiet f 
 
 -- Runs
 
-run_holds : (net : Net) (ls : List Line) (w : World) → IsNet net → 1 ≤ net.quiet → WorldFits net w → StepsIn net ls → RunByRules net w ls (run_from net w ls)
+-- what the machine tells and leaves is by the rules
+pub run_by_rules : (net : Net) (ls : List Line) (w : World) → IsNet net → 1 ≤ net.quiet → WorldFits net w → StepsIn net ls → RunByRules net w ls (run_from net w ls) (run_all net w ls).world
 unfolding run_from_by
-run_holds net [] w n quiet f i = tt
-run_holds net (l ∷ ls) w n quiet f i =
+run_by_rules net [] w n quiet f i = refl
+run_by_rules net (l ∷ ls) w n quiet f i =
     let t = next net w l in
-    record { left = t.world; happens = (next_exactly net w l n quiet f i.0).holds; rest = run_holds net ls t.world n quiet (next_kept net w l n f i.0).fits i.1 }
+    record { left = t.world; happens = (next_exactly net w l n quiet f i.0).holds; rest = run_by_rules net ls t.world n quiet (next_kept net w l n f i.0).fits i.1 }
 
-run_once : (net : Net) (ls : List Line) (w : World) (rs : List (List Report)) → IsNet net → 1 ≤ net.quiet → WorldFits net w → StepsIn net ls → RunByRules net w ls rs → rs ≡ run_from net w ls
+-- and nothing else is
+pub run_once : (net : Net) (ls : List Line) (w : World) (rs : List (List Report)) (u : World) → IsNet net → 1 ≤ net.quiet → WorldFits net w → StepsIn net ls → RunByRules net w ls rs u → (rs ≡ run_from net w ls) × (u ≡ (run_all net w ls).world)
 unfolding run_from_by
-run_once net [] w [] n quiet f i r = refl
-run_once net [] w (x ∷ xs) n quiet f i r = absurd r
-run_once net (l ∷ ls) w [] n quiet f i r = absurd r
-run_once net (l ∷ ls) w (x ∷ xs) n quiet f i r =
+run_once net [] w [] u n quiet f i r = (refl, r)
+run_once net [] w (x ∷ xs) u n quiet f i r = absurd r
+run_once net (l ∷ ls) w [] u n quiet f i r = absurd r
+run_once net (l ∷ ls) w (x ∷ xs) u n quiet f i r =
     let t : Told = record { world = r.left; lines = x } in
     let e : t ≡ next net w l = (next_exactly net w l n quiet f i.0).only t r.happens in
     let k = next_kept net w l n f i.0 in
-    ap₂ (λ (a : Told) b. a.lines ∷ b) e (run_once net ls (next net w l).world xs n quiet k.fits i.1 (subst (λ (a : Told). RunByRules net a.world ls xs) e r.rest))
+    let rest = run_once net ls (next net w l).world xs u n quiet k.fits i.1 (subst (λ (a : Told). RunByRules net a.world ls xs u) e r.rest) in
+    (ap₂ (λ (a : Told) b. a.lines ∷ b) e rest.0, rest.1)
 
 begins_holds : (net : Net) → Begins net (start net)
 unfolding start
@@ -501,15 +504,23 @@ begins_once net w u a c =
     world_same w u (a.clock ∙ sym c.clock) (a.most ∙ sym c.most) (a.frames ∙ sym c.frames)
     (lists_same [] w.views u.views (a.long ∙ sym c.long) (λ b i. let j : b < net.brokers = omega (arith, i, a.long) in all_once net b w.logs (get_or w.views b []) (get_or u.views b []) (a.views b j) (subst (λ z. StartsAll net b z (get_or u.views b [])) (sym logs) (c.views b j)))) logs
 
--- the machine's report of a schedule is one by the rules
-pub report_by_rules : (net : Net) (steps : List Line) → IsNet net → 1 ≤ net.quiet → StepsIn net steps → ReportByRules net steps (report_of net steps)
+-- what the machine tells and leaves of a whole schedule is by the rules
+pub schedule_by_rules : (net : Net) (steps : List Line) → IsNet net → 1 ≤ net.quiet → StepsIn net steps → ScheduleByRules net steps (report_of net steps) (run_all net (start net) steps).world
 unfolding report_of_by
-report_by_rules net steps n quiet i = (refl, record { begun = start net; begins = begins_holds net; run = run_holds net steps (start net) n quiet (start_fits net n) i })
+schedule_by_rules net steps n quiet i = (refl, record { begun = start net; begins = begins_holds net; run = run_by_rules net steps (start net) n quiet (start_fits net n) i })
 
--- and no other report is
-pub report_once : (net : Net) (steps : List Line) (rs : List (List Report)) → IsNet net → 1 ≤ net.quiet → StepsIn net steps → ReportByRules net steps rs → rs ≡ report_of net steps
+-- and nothing else is
+pub schedule_once : (net : Net) (steps : List Line) (rs : List (List Report)) (u : World) → IsNet net → 1 ≤ net.quiet → StepsIn net steps → ScheduleByRules net steps rs u → (rs ≡ report_of net steps) × (u ≡ (run_all net (start net) steps).world)
 unfolding report_of_by
-report_once net steps [] n quiet i a = absurd a
-report_once net steps (r ∷ rs) n quiet i a =
+schedule_once net steps [] u n quiet i a = absurd a
+schedule_once net steps (r ∷ rs) u n quiet i a =
     let x = a.1 in
-    ap₂ (λ y ys. y ∷ ys) a.0 (run_once net steps (start net) rs n quiet (start_fits net n) i (subst (λ w. RunByRules net w steps rs) (begins_once net x.begun (start net) x.begins (begins_holds net)) x.run))
+    let y = run_once net steps (start net) rs u n quiet (start_fits net n) i (subst (λ w. RunByRules net w steps rs u) (begins_once net x.begun (start net) x.begins (begins_holds net)) x.run) in
+    (ap₂ (λ z zs. z ∷ zs) a.0 y.0, y.1)
+
+-- so is the report alone
+pub report_by_rules : (net : Net) (steps : List Line) → IsNet net → 1 ≤ net.quiet → StepsIn net steps → ReportByRules net steps (report_of net steps)
+report_by_rules net steps n quiet i = record { left = (run_all net (start net) steps).world; schedule = schedule_by_rules net steps n quiet i }
+
+pub report_once : (net : Net) (steps : List Line) (rs : List (List Report)) → IsNet net → 1 ≤ net.quiet → StepsIn net steps → ReportByRules net steps rs → rs ≡ report_of net steps
+report_once net steps rs n quiet i a = (schedule_once net steps rs a.left n quiet i a.schedule).0
