@@ -13,7 +13,8 @@ use Rattle.gr_model.specs.declared.report.Report.TheVariants as line
 use Rattle.gr_model.specs.Net.{Net, is_host, keeps_horizon, not_empty, numbers}
 use Rattle.gr_model.specs.Broker.{View, Log, Outcome, empty_log, with_event, log_at, is_kept}
 use Rattle.gr_model.specs.World.{World, Told, blank_view, view_of, log_of, with_view, sent_lines, frame_at, frames_past, sent_since, is_want, is_know_to, inwards, outwards, sweep_moment, kept_events}
-use Rattle.gr_theorems.specs.Rules.{HasKnown, Publishes, Wakes, Comes}
+use Rattle.gr_model.specs.Opening.{found_log, found_line, publishers_at}
+use Rattle.gr_theorems.specs.Rules.{HasKnown, NewTicks, Publishes, Wakes, Comes}
 use Rattle.gr_theorems.specs.Settles.{is_accepted}
 use Rattle.gr_theorems.specs.Obeys.{is_next_of}
 
@@ -59,16 +60,20 @@ pub record StartsAll (net : Net) (b : ℕ) (logs : List Log) (views : List View)
   pub long : length views ≡ net.publishers
   pub each : (p : ℕ) → p < net.publishers → Starts net p b (get_or logs p empty_log) (get_or views p blank_view)
 
--- before the first step
-pub record Begins (net : Net) (w : World) : Type 0 where
-  -- the clock stands at 0, no frame was sent, and each publisher has an empty log
+-- before anything happens, where these logs were found
+pub record BeginsOver (net : Net) (found : List Log) (w : World) : Type 0 where
+  -- the clock stands at 0, and no frame was sent
   pub clock : w.clock ≡ 0
   pub most : w.most ≡ 0
   pub frames : w.frames ≡ []
-  pub logs : w.logs ≡ map (λ _. empty_log) (numbers net.publishers)
-  -- each broker is as it starts
+  -- each publisher has the log that was found, and each broker is as it starts
+  pub logs : w.logs ≡ map (found_log found) (numbers net.publishers)
   pub long : length w.views ≡ net.brokers
   pub views : (b : ℕ) → b < net.brokers → StartsAll net b w.logs (get_or w.views b [])
+
+-- where none was found, each log is empty
+abbrev pub Begins : Net → World → Type 0
+Begins net w = BeginsOver net [] w
 
 -- broker b starts again over these logs
 pub record StartsAgain (net : Net) (b : ℕ) (logs : List Log) (w u : World) : Type 0 where
@@ -81,6 +86,10 @@ pub record StartsAgain (net : Net) (b : ℕ) (logs : List Log) (w u : World) : T
   pub frames : u.frames ≡ w.frames
   pub clock : u.clock ≡ w.clock
   pub most : u.most ≡ w.most
+
+-- some subscriber is at the broker
+abbrev pub has_subscriber : Net → ℕ → Bool
+has_subscriber net b = not_empty (net.subscribers_at b)
 
 -- the line of a log that a broker opens when it starts: of each of its publishers whose log is not empty
 abbrev pub opened_line : Net → ℕ → List Log → ℕ → List Report
@@ -121,6 +130,23 @@ Arrives net f w t =
     let head = f.head in
     Calls head.to head.publisher (Comes net head.publisher head.from head.to w.clock f.body) w t
 
+-- A start over logs that were found
+
+-- a host with a subscriber has its horizon moved to where its log is settled, as if a piece came that says nothing new
+pub record HostReaches (net : Net) (p : ℕ) (w : World) (t : Told) : Type 0 where
+  pub here : has_subscriber net (net.host p) ≡ true → Calls (net.host p) p (NewTicks net p (net.host p) []) w t
+  pub none : has_subscriber net (net.host p) ≡ false → Tells [] w t
+
+-- a log that is not empty is told, and then the host has its horizon moved
+abbrev pub OpensLog : Net → ℕ → World → Told → Type 0
+OpensLog net p w t = Then (Tells (found_line (log_of w p) p)) (HostReaches net p) w t
+
+-- so it is for each broker in order, and in each for its publishers in order
+pub record Opens (net : Net) (found : List Log) (t : Told) : Type 0 where
+  pub begun : World
+  pub begins : BeginsOver net found begun
+  pub opens : EachInTurn (OpensLog net) (publishers_at net (numbers net.brokers)) begun t
+
 -- The clock
 
 -- the clock moves, and all else stays
@@ -138,10 +164,6 @@ pub record SetsClock (now : ℕ) (w : World) (t : Told) : Type 0 where
   pub lines : t.lines ≡ []
 
 -- Crashes
-
--- some subscriber is at the broker
-abbrev pub has_subscriber : Net → ℕ → Bool
-has_subscriber net b = not_empty (net.subscribers_at b)
 
 -- a broker is to crash
 pub record Crashes (net : Net) (number b : ℕ) (w : World) (t : Told) : Type 0 where
@@ -307,3 +329,9 @@ ScheduleByRules net steps (r ∷ rs) u = (r ≡ []) × RunsFromStart net steps r
 pub record ReportByRules (net : Net) (steps : List Line) (rs : List (List Report)) : Type 0 where
   pub left : World
   pub schedule : ScheduleByRules net steps rs left
+
+-- a whole schedule over logs that were found: the start over them tells its lines, and then each step its own
+pub record RunsOver (net : Net) (found : List Log) (steps : List Line) (told : List Report) (rs : List (List Report)) (u : World) : Type 0 where
+  pub opened : World
+  pub opens : Opens net found (record { world = opened; lines = told })
+  pub run : RunByRules net opened steps rs u

@@ -21,6 +21,7 @@ use Rattle.gr_theorems.specs.Edges.{GoesOverEdge}
 use Rattle.gr_theorems.specs.Spelled.{NumbersIn}
 use Rattle.gr_theorems.specs.Settles.{is_accepted}
 use Rattle.gr_theorems.specs.Found.{AreFound, told_at_opening}
+use Rattle.gr_theorems.specs.ByRules.{RunsOver}
 use Rattle.gr_theorems.specs.Served.{IsHonestRun, AllDoSteps, HeadlineServed}
 
 -- Runs
@@ -137,6 +138,19 @@ OpeningTells net logs =
 -- and it sends nothing
 abbrev pub OpeningSendsNothing : Net → List Log → Type 0
 OpeningSendsNothing net logs = let o : Told = opened_over net logs in o.world.frames ≡ []
+
+-- what the opening and then the steps tell and leave is by the rules
+abbrev pub RunsOverByRules : Net → List Log → List Line → Type 0
+RunsOverByRules net logs steps =
+    let o : Told = opened_over net logs in
+    RunsOver net logs steps o.lines (run_from net o.world steps) (run_all net o.world steps).world
+
+-- and nothing else is
+abbrev pub RunsOverByNoOther : Net → List Log → List Line → Type 0
+RunsOverByNoOther net logs steps =
+    (told : List Report) (rs : List (List Report)) (w : World) → RunsOver net logs steps told rs w →
+    (let o : Told = opened_over net logs in
+    (told ≡ o.lines) × (rs ≡ run_from net o.world steps) × (w ≡ (run_all net o.world steps).world))
 
 -- what a server of all brokers reports meets the headline
 abbrev pub MeetsHeadlineServed : Net → List Log → List Line → List Arrival → Type 0

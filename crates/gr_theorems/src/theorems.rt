@@ -25,7 +25,7 @@ ghost use Rattle.gr_theorems.specs.ByRules.{ScheduleByRules};
 ghost use Rattle.gr_theorems.specs.Settles.{SweepSettles, AllGot};
 ghost use Rattle.gr_theorems.specs.Examples.{WorkedExamples};
 ghost use Rattle.gr_theorems.specs.ServedExample.{ServedExamples};
-ghost use Rattle.gr_theorems.specs.Statements.{IsRun, IsMarkedRun, IsAskedRun, IsSweptRun, IsSpelledRun, IsRunOverLogs, IsServedRun, world_after, lines_after, NothingClashes, NothingStrays, AllSpelled, AllDecode, AllGetExactly, AllCutsInOrder, HostsMeet, DoubtsStand, HoldsOverLogs, OpeningTells, OpeningSendsNothing, MeetsHeadlineServed, ArrivalsDoSteps, FirstClash};
+ghost use Rattle.gr_theorems.specs.Statements.{IsRun, IsMarkedRun, IsAskedRun, IsSweptRun, IsSpelledRun, IsRunOverLogs, IsServedRun, world_after, lines_after, NothingClashes, NothingStrays, AllSpelled, AllDecode, AllGetExactly, AllCutsInOrder, HostsMeet, DoubtsStand, HoldsOverLogs, OpeningTells, OpeningSendsNothing, RunsOverByRules, RunsOverByNoOther, MeetsHeadlineServed, ArrivalsDoSteps, FirstClash};
 
 /// The topology of the small examples is a tree, so the theorems speak of something.
 pub fn net0_is_a_tree()
@@ -107,11 +107,16 @@ pub fn rules_determine()
 /// Of every schedule the rules allow exactly one report and leave exactly one world, the machine's. What happens at a
 /// step is said by the rules alone: its calls in their order, each with the outcome of its rule put in its place; starts
 /// and crashes, stopped publishes, sweeps, what is refused and what is shown; and the lines of all this in their order.
+/// The same of a schedule that begins on logs that were found, and of what the start over them tells.
 pub fn runs_by_rules()
     ensures allowed { (net : Net) (steps : List Line) → IsMarkedRun net steps →
         ScheduleByRules net steps (report_of net steps) (world_after net steps) }
     ensures alone { (net : Net) (steps : List Line) (rs : List (List Report)) (w : World) → IsMarkedRun net steps →
         ScheduleByRules net steps rs w → (rs ≡ report_of net steps) × (w ≡ world_after net steps) }
+    ensures over_logs { (net : Net) (logs : List Log) (steps : List Line) → IsMarkedRun net steps → AreFound net logs →
+        RunsOverByRules net logs steps }
+    ensures over_logs_alone { (net : Net) (logs : List Log) (steps : List Line) → IsMarkedRun net steps →
+        AreFound net logs → RunsOverByNoOther net logs steps }
 {}
 
 /// Every step is replied as the schedule and the frames sent demand: refused where it is to be refused and nowhere

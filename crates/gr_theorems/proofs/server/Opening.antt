@@ -57,7 +57,7 @@ no_runs_true net f p b = record { runs = tt; each = λ t. tt }
 pub nothing_is_true : (net : Net) (w : World) (p : ℕ) → IsNet net → p < net.publishers → FrameTrue net w (nothing net p)
 nothing_is_true net w p n j = record { publisher_in = j; fits = record { publisher = refl; to_in = n.host_in p j; body = tt }; told = no_runs_true net (facts_of net w p) p (net.host p) }
 
-abbrev learns : Net → World → ℕ → Outcome
+abbrev pub learns : Net → World → ℕ → Outcome
 learns net w p = learn net p (net.host p) [] (view_of w (net.host p) p) (log_of w p)
 
 pub delivered_nothing : (net : Net) (w : World) (p : ℕ) → IsNet net → WorldFits net w → p < net.publishers → deliver_frame net w (nothing net p) ≡ absorbed w (net.host p) p (learns net w p)
@@ -191,7 +191,7 @@ opening_learns net logs w ls p n j some o =
       ]);
     }
 
-found_line_says : (c : Bool) (p last settled cut : ℕ) → (let ls : List Report = if c then line.Opened p last settled cut ∷ [] else [] in Silent ls × ((q : ℕ) → CutFree q ls) × (filter is_sent ls ≡ []))
+pub found_line_says : (c : Bool) (p last settled cut : ℕ) → (let ls : List Report = if c then line.Opened p last settled cut ∷ [] else [] in Silent ls × ((q : ℕ) → CutFree q ls) × (filter is_sent ls ≡ []))
 found_line_says true p last settled cut = (λ s q. record { got = refl; horizon = λ n. refl; rise = λ n. tt }, λ q. tt, refl)
 found_line_says false p last settled cut = (λ s q. Neutral-nil s q, λ q. tt, refl)
 

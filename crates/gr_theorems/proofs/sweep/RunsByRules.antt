@@ -19,12 +19,13 @@ use Rattle.gr_tick.proofs.RunLaws.{runs_equal}
 use Rattle.gr_model.specs.Net.{Net, is_host, not_empty, numbers}
 use Rattle.gr_model.specs.Broker.{View, Log, Outcome, empty_log, log_at, log_know, started, max_tick, publish, wake, receive}
 use Rattle.gr_model.specs.World.{World, Told, blank_view, view_of, log_of, with_view, absorbed, unchanged, after, in_turn, sent_lines, wake_for, wake_all, deliver_frame, frame_at, publish_now, frames_past, sent_since, is_want, is_know_to, inwards, outwards, numbers_down, opened_lines, restarted, crash, publish_stopped, deliver_up, wake_up, hand_down, sweep_for, sweep, sweep_moment, show, next, start, run_from, run_all, report_of, wake_for_by, wake_all_by, deliver_frame_by, publish_now_by, publish_stopped_by, deliver_up_by, wake_up_by, hand_down_by, sweep_for_by, sweep_by, next_by, run_from_by, report_of_by}
+use Rattle.gr_model.specs.Opening.{found_log, over_logs}
 use Rattle.gr_model.specs.Tree.{IsNet}
 use Rattle.gr_theorems.specs.Fits.{WorldFits, FrameTrue, StepIn, StepsIn, reached_in}
 use Rattle.gr_theorems.specs.Rules.{HasKnown, Publishes, Wakes, Comes, RulesDetermine}
 use Rattle.gr_theorems.specs.Settles.{is_accepted, at_sweep}
 use Rattle.gr_theorems.specs.Obeys.{is_next_of}
-use Rattle.gr_theorems.specs.ByRules.{Tells, Then, EachInTurn, Starts, StartsAll, Begins, StartsAgain, Calls, IsPublished, IsWoken, Arrives, SetsClock, Crashes, fate, logs_left, Stops, upward_since, AtOnce, WakesUp, HandsDown, SweepsFor, SweepsAll, Sweeps, shown, Delivers, ShowsBytes, Happens, RunByRules, ScheduleByRules, ReportByRules}
+use Rattle.gr_theorems.specs.ByRules.{Tells, Then, EachInTurn, Starts, StartsAll, BeginsOver, Begins, StartsAgain, Calls, IsPublished, IsWoken, Arrives, SetsClock, Crashes, fate, logs_left, Stops, upward_since, AtOnce, WakesUp, HandsDown, SweepsFor, SweepsAll, Sweeps, shown, Delivers, ShowsBytes, Happens, RunByRules, ScheduleByRules, ReportByRules}
 use Rattle.gr_theorems.proofs.runs.Worlds.{Kept, IsLaterWorld, FrameTrue-later, Each, wake_for_kept, deliver_kept, wake_up_kept, hand_down_kept, sweep_for_kept, in_turn_kept, frames_past_true, filter_frames, depths_in, numbers_below}
 use Rattle.gr_theorems.proofs.runs.Schedules.{log_know-is, get_numbers, length_numbers, clocked_fits, frame_at_true, next_kept, start_fits}
 use Rattle.gr_theorems.proofs.rules.HostRules.{wakes_rule, publishes_rule, comes_rule}
@@ -36,7 +37,7 @@ use Rattle.gr_theorems.proofs.sweep.Obeying.{told_at}
 
 -- What leaves no choice
 
-told_same : (t u : Told) → t.world ≡ u.world → t.lines ≡ u.lines → t ≡ u
+pub told_same : (t u : Told) → t.world ≡ u.world → t.lines ≡ u.lines → t ≡ u
 told_same t u a b = λ i. record { world = a i; lines = b i }
 
 world_same : (w u : World) → w.clock ≡ u.clock → w.most ≡ u.most → w.frames ≡ u.frames → w.views ≡ u.views → w.logs ≡ u.logs → w ≡ u
@@ -46,11 +47,11 @@ view_equal : (v u : View) → v.know ≡ u.know → v.wants ≡ u.wants → v.as
 view_equal v u a b c d = λ i. record { know = a i; wants = b i; asks = c i; horizon = d i }
 
 -- this may happen, and nothing else
-record Exactly (R : World → Told → Type 0) (w : World) (t : Told) : Type 0 where
-  holds : R w t
-  only : (u : Told) → R w u → u ≡ t
+pub record Exactly (R : World → Told → Type 0) (w : World) (t : Told) : Type 0 where
+  pub holds : R w t
+  pub only : (u : Told) → R w u → u ≡ t
 
-tells_exactly : (ls : List Report) (w : World) → Exactly (Tells ls) w (unchanged w ls)
+pub tells_exactly : (ls : List Report) (w : World) → Exactly (Tells ls) w (unchanged w ls)
 tells_exactly ls w = record { holds = record { world = refl; lines = refl }; only = λ u r. told_same u (unchanged w ls) r.world r.lines }
 
 -- nothing else may happen
@@ -63,7 +64,7 @@ then_only A B w t f a b u r =
     let g : r.second ≡ f t.world = b r.second (subst (λ (x : Told). B x.world r.second) e r.follows) in
     told_same u (after t f) (r.world ∙ ap (λ (x : Told). x.world) g) (r.lines ∙ ap₂ (λ (x y : Told). x.lines ++ y.lines) e g)
 
-then_exactly : (A B : World → Told → Type 0) (w : World) (t : Told) (f : World → Told) → Exactly A w t → Exactly B t.world (f t.world) → Exactly (Then A B) w (after t f)
+pub then_exactly : (A B : World → Told → Type 0) (w : World) (t : Told) (f : World → Told) → Exactly A w t → Exactly B t.world (f t.world) → Exactly (Then A B) w (after t f)
 then_exactly A B w t f a b = record {
   holds = record { first = t; happens = a.holds; second = f t.world; follows = b.holds; world = refl; lines = refl };
   only = then_only A B w t f a.only b.only;
@@ -82,7 +83,7 @@ turns_only net ok R f stays kept one (x ∷ xs) w fit a u r =
     then_only (R x) (EachInTurn R xs) w (f w x) (in_turn f xs) (one w x fit a.0) (turns_only net ok R f stays kept one xs (f w x).world k.fits (all_stay net ok w (f w x).world stays xs a.1 k.later)) u r
 
 -- and where exactly this may happen for each, exactly this may for all
-turns_exactly : {X : Type 0} (net : Net) (ok : World → X → Type 0) (R : X → World → Told → Type 0) (f : World → X → Told) → ((w u : World) (x : X) → IsLaterWorld net w u → ok w x → ok u x) → ((w : World) (x : X) → WorldFits net w → ok w x → Kept net w (f w x)) →
+pub turns_exactly : {X : Type 0} (net : Net) (ok : World → X → Type 0) (R : X → World → Told → Type 0) (f : World → X → Told) → ((w u : World) (x : X) → IsLaterWorld net w u → ok w x → ok u x) → ((w : World) (x : X) → WorldFits net w → ok w x → Kept net w (f w x)) →
     ((w : World) (x : X) → WorldFits net w → ok w x → Exactly (R x) w (f w x)) → (xs : List X) (w : World) → WorldFits net w → Each (ok w) xs → Exactly (EachInTurn R xs) w (in_turn f xs w)
 turns_exactly net ok R f stays kept one [] w fit a = tells_exactly [] w
 turns_exactly net ok R f stays kept one (x ∷ xs) w fit a =
@@ -115,7 +116,7 @@ comes_once net p from to now (body.Knowledge runs) v log o u d a c = d.new_ticks
 comes_once net p from to now (body.Curiosity runs) v log o u d a c = d.child_asks now from runs v log o u a c
 comes_once net p from to now (body.Expect tick) v log o u d a c = d.expects now tick v log o u a c
 
-arrival_exactly : (net : Net) (w : World) (x : Frame) → IsNet net → WorldFits net w → FrameTrue net w x → Exactly (Arrives net x) w (deliver_frame net w x)
+pub arrival_exactly : (net : Net) (w : World) (x : Frame) → IsNet net → WorldFits net w → FrameTrue net w x → Exactly (Arrives net x) w (deliver_frame net w x)
 unfolding deliver_frame_by
 arrival_exactly net w x n f t =
     let p = x.head.publisher in
@@ -478,28 +479,35 @@ run_once net (l ∷ ls) w (x ∷ xs) u n quiet f i r =
     let rest = run_once net ls (next net w l).world xs u n quiet k.fits i.1 (subst (λ (a : Told). RunByRules net a.world ls xs u) e r.rest) in
     (ap₂ (λ (a : Told) b. a.lines ∷ b) e rest.0, rest.1)
 
-begins_holds : (net : Net) → Begins net (start net)
-unfolding start
-begins_holds net = record {
+-- before anything happens over logs that were found
+pub begins_over : (net : Net) (found : List Log) → BeginsOver net found (over_logs net found)
+unfolding over_logs
+begins_over net found = record {
   clock = refl;
   most = refl;
   frames = refl;
   logs = refl;
-  long = length_numbers (λ b. map (λ p. started net p b empty_log) (numbers net.publishers)) 0 net.brokers;
-  views = λ b i. subst (StartsAll net b (map (λ _. empty_log) (numbers net.publishers)))
-      (sym (get_numbers (λ c. map (λ p. started net p c empty_log) (numbers net.publishers)) 0 net.brokers b [] i ∙ ap (λ c. map (λ p. started net p c empty_log) (numbers net.publishers)) (omega arith))) (of_broker b);
+  long = length_numbers (λ b. fresh b) 0 net.brokers;
+  views = λ b i. subst (StartsAll net b (map (found_log found) (numbers net.publishers))) (sym (get_numbers fresh 0 net.brokers b [] i ∙ ap fresh (omega arith))) (of_broker b);
 }
   where
-    of_broker : (b : ℕ) → StartsAll net b (map (λ _. empty_log) (numbers net.publishers)) (map (λ p. started net p b empty_log) (numbers net.publishers))
+    fresh : ℕ → List View
+    fresh b = map (λ p. started net p b (found_log found p)) (numbers net.publishers)
+
+    of_broker : (b : ℕ) → StartsAll net b (map (found_log found) (numbers net.publishers)) (fresh b)
     of_broker b = record {
-      long = length_numbers (λ p. started net p b empty_log) 0 net.publishers;
+      long = length_numbers (λ p. started net p b (found_log found p)) 0 net.publishers;
       each = λ p j.
-          subst (λ l. Starts net p b l (get_or (map (λ q. started net q b empty_log) (numbers net.publishers)) p blank_view)) (sym (get_numbers (λ _. empty_log) 0 net.publishers p empty_log j))
-          (subst (Starts net p b empty_log) (sym (get_numbers (λ q. started net q b empty_log) 0 net.publishers p blank_view j ∙ ap (λ q. started net q b empty_log) (omega arith))) (starts_holds net p b empty_log));
+          subst (λ l. Starts net p b l (get_or (fresh b) p blank_view)) (sym (get_numbers (found_log found) 0 net.publishers p empty_log j ∙ ap (found_log found) (omega arith)))
+          (subst (Starts net p b (found_log found p)) (sym (get_numbers (λ q. started net q b (found_log found q)) 0 net.publishers p blank_view j ∙ ap (λ q. started net q b (found_log found q)) (omega arith))) (starts_holds net p b (found_log found p)));
     }
 
-begins_once : (net : Net) (w u : World) → Begins net w → Begins net u → w ≡ u
-begins_once net w u a c =
+begins_holds : (net : Net) → Begins net (start net)
+unfolding start over_logs
+begins_holds net = begins_over net []
+
+pub begins_once : (net : Net) (found : List Log) (w u : World) → BeginsOver net found w → BeginsOver net found u → w ≡ u
+begins_once net found w u a c =
     let logs : w.logs ≡ u.logs = a.logs ∙ sym c.logs in
     world_same w u (a.clock ∙ sym c.clock) (a.most ∙ sym c.most) (a.frames ∙ sym c.frames)
     (lists_same [] w.views u.views (a.long ∙ sym c.long) (λ b i. let j : b < net.brokers = omega (arith, i, a.long) in all_once net b w.logs (get_or w.views b []) (get_or u.views b []) (a.views b j) (subst (λ z. StartsAll net b z (get_or u.views b [])) (sym logs) (c.views b j)))) logs
@@ -515,7 +523,7 @@ unfolding report_of_by
 schedule_once net steps [] u n quiet i a = absurd a
 schedule_once net steps (r ∷ rs) u n quiet i a =
     let x = a.1 in
-    let y = run_once net steps (start net) rs u n quiet (start_fits net n) i (subst (λ w. RunByRules net w steps rs u) (begins_once net x.begun (start net) x.begins (begins_holds net)) x.run) in
+    let y = run_once net steps (start net) rs u n quiet (start_fits net n) i (subst (λ w. RunByRules net w steps rs u) (begins_once net [] x.begun (start net) x.begins (begins_holds net)) x.run) in
     (ap₂ (λ z zs. z ∷ zs) a.0 y.0, y.1)
 
 -- so is the report alone
