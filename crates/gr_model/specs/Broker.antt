@@ -10,6 +10,7 @@ use Rattle.gr_frame.specs.declared.Body.TheVariants as body
 use Rattle.gr_frame.specs.declared.Head.{Head}
 use Rattle.gr_frame.specs.declared.Frame.{Frame}
 use Rattle.gr_frame.specs.Bytes.{known_run_size, wanted_run_size, cut_frames}
+use Rattle.gr_curio.specs.declared.asks.Moment.{Moment}
 use Rattle.gr_curio.specs.declared.asks.Moment.TheVariants.{Never}
 use Rattle.gr_model.specs.declared.report.Report.{Report}
 use Rattle.gr_model.specs.declared.report.Report.TheVariants as line
@@ -78,13 +79,24 @@ finished know done = zip_runs Q N Q same_K (λ k c. if is_A c then F else k) kno
 
 -- Forgetting
 
--- by the rule of forgetting, which does not bind the host
+-- the tick is final
+abbrev pub is_F : K → Bool
+is_F F = true
+is_F _ = false
+
+-- the moments of asks, but none at a final tick, which is never asked again
+unfoldable pub open_asks : Known → Asked → Asked
+open_asks know asks = zip_runs Never Q Never same_moment (λ moment k. if is_F k then Never else moment) asks know
+
+-- below the host events are forgotten by the rule of forgetting, and moments of asks where the tick is final
+abbrev pub trimmed_below : Net → ℕ → ℕ → View → View
+trimmed_below net p b v =
+    let know = forgotten net.cache (if keeps_horizon net p b then v.horizon else max_tick) v.know in
+    record { know = know; wants = v.wants; asks = open_asks know v.asks; horizon = v.horizon }
+
+-- what is kept after a call; the host keeps all
 unfoldable pub trimmed : Net → ℕ → ℕ → View → View
-trimmed net p b v =
-    elim (is_host net p b) [
-      | true ↦ v
-      | false ↦ record { know = forgotten net.cache (if keeps_horizon net p b then v.horizon else max_tick) v.know; wants = v.wants; asks = v.asks; horizon = v.horizon }
-    ]
+trimmed net p b v = elim (is_host net p b) [ true ↦ v | false ↦ trimmed_below net p b v ]
 
 -- The horizon
 

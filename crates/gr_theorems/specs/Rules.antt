@@ -17,7 +17,7 @@ use Rattle.gr_tick.specs.Runs.{AreRuns, top_of}
 use Rattle.gr_know.specs.Values.{Known, known_at, is_Q, is_D, join_K, new_K}
 use Rattle.gr_curio.specs.Values.{Wanted, Asked, wanted_at, asked_at, is_C, is_A, is_outstanding}
 use Rattle.gr_model.specs.Net.{Net, keeps_horizon, is_host, pass}
-use Rattle.gr_model.specs.Broker.{View, Log, Outcome, max_tick, know_frames, expect_frame, up_frames, is_settled, any_C, data_count, place_of, told, with_event, with_mark, with_cut}
+use Rattle.gr_model.specs.Broker.{View, Log, Outcome, max_tick, is_F, know_frames, expect_frame, up_frames, is_settled, any_C, data_count, place_of, told, with_event, with_mark, with_cut}
 use Rattle.gr_theorems.specs.Said.{said_at, TicksRise}
 
 -- Pieces: the list of runs that has this value at each tick. There is exactly one.
@@ -83,6 +83,10 @@ pub record Knows (net : Net) (p b : ℕ) (at : ℕ → K) (u : View) : Type 0 wh
   pub full_is : HasKnown (λ t. if is_settled (keeps_horizon net p b) u.horizon u.wants t then F else at t) full
   pub forgets : Forgets net p b u.horizon full u.know
 
+-- Of the asks the moments are kept, but below the host none where the tick is final afterwards: it is never asked again.
+abbrev pub KeepsMoments : Net → ℕ → ℕ → (ℕ → Moment) → View → Type 0
+KeepsMoments net p b at u = HasAsked (λ t. if is_F (known_at u.know t) && not (is_host net p b) then Never else at t) u.asks
+
 -- what is said of a tick where an event is known
 abbrev pub event_of : K → Option Event
 event_of (D e) = Some e
@@ -113,7 +117,7 @@ pub record NewTicks (net : Net) (p b : ℕ) (piece : Known) (v : View) (log : Lo
   -- What a child asked is done where it was sent something.
   pub wants : (c : ℕ) → IsChild net p b c → HasWanted (λ t. if is_C (want_at net p b v c t) && not (is_Q (known_at (sent c) t)) then N else want_at net p b v c t) (wants_from net p b o.view c)
   pub all_wants : HasAllWants net p b o.view
-  pub asks : o.view.asks ≡ v.asks
+  pub asks : KeepsMoments net p b (λ t. asked_at v.asks t) o.view
   -- What was known and what came are joined. The horizon moves, and the subscribers are told.
   pub horizon : Moves (keeps_horizon net p b) v.horizon o.view.horizon (λ t. join_K (known_at v.know t) (known_at piece t))
   pub lines : TellsOn net p b v.horizon o.view.horizon (λ t. join_K (known_at v.know t) (known_at piece t)) o.lines
@@ -137,7 +141,7 @@ pub record ChildAsks (net : Net) (p b now c : ℕ) (piece : Wanted) (v : View) (
   pub other_wants : (d : ℕ) → IsChild net p b d → d ≢ c → wants_from net p b o.view d ≡ wants_from net p b v d
   pub all_wants : HasAllWants net p b o.view
   -- The asks are of now.
-  pub asks : HasAsked (λ t. if is_C (wanted_at asked t) then At now else asked_at v.asks t) o.view.asks
+  pub asks : KeepsMoments net p b (λ t. if is_C (wanted_at asked t) then At now else asked_at v.asks t) o.view
   pub horizon : o.view.horizon ≡ v.horizon
   pub know : Knows net p b (λ t. known_at v.know t) o.view
   pub lines : o.lines ≡ []
@@ -155,7 +159,7 @@ pub record Asks (net : Net) (p b now : ℕ) (wanted : ℕ → Bool) (more : List
   pub sent_is : HasWanted (λ t. if is_settled (keeps_horizon net p b) v.horizon v.wants t then A else wanted_at asked t) sent
   pub frames : o.frames ≡ up_frames net p b sent ++ more
   -- The asks are of now. Nothing else is changed but what is forgotten.
-  pub asks : HasAsked (λ t. if is_C (wanted_at asked t) then At now else asked_at v.asks t) o.view.asks
+  pub asks : KeepsMoments net p b (λ t. if is_C (wanted_at asked t) then At now else asked_at v.asks t) o.view
   pub wants : o.view.wants ≡ v.wants
   pub horizon : o.view.horizon ≡ v.horizon
   pub know : Forgets net p b v.horizon v.know o.view.know

@@ -12,12 +12,13 @@ use Rattle.gr_know.specs.declared.values.K.TheVariants.{Q, F}
 use Rattle.gr_know.specs.Values.{Known, known_at, same_K, join_K, clash_K, is_D}
 use Rattle.gr_know.proofs.ValueLaws.{K_decides}
 use Rattle.gr_curio.specs.declared.values.Q3.TheVariants.{N, A}
-use Rattle.gr_curio.specs.Values.{Wanted, wanted_at, same_Q3, is_A}
-use Rattle.gr_curio.proofs.ValueLaws.{Q3_decides}
+use Rattle.gr_curio.specs.Values.{Wanted, wanted_at, same_Q3, same_moment, is_A}
+use Rattle.gr_curio.specs.declared.asks.Moment.TheVariants.{Never}
+use Rattle.gr_curio.proofs.ValueLaws.{Q3_decides, moment_decides}
 use Rattle.gr_model.specs.declared.report.Report.TheVariants.{Horizon}
 use Rattle.gr_model.specs.Blank.{net0}
 use Rattle.gr_model.specs.Net.{not_empty}
-use Rattle.gr_model.specs.Broker.{Log, learn, finished, consolidated, lower_data, forgotten, data_count, trimmed, horizon_after, data_ticks, got_line, told, clashes}
+use Rattle.gr_model.specs.Broker.{Log, learn, finished, consolidated, lower_data, forgotten, data_count, is_F, open_asks, trimmed, horizon_after, data_ticks, got_line, told, clashes}
 use Rattle.gryphon.specs.World.{far_view, passed_lines}
 use Rattle.gryphon.proofs.Host.{zip_runs-equals}
 use Rattle.gr_theorems.proofs.calls.Pieces.{consolidated-is}
@@ -94,6 +95,15 @@ told_is : (from to : ℕ) (items : List (ℕ × Event)) → told net0 0 from to 
 unfolding told
 told_is from to items = ap (λ xs. if nat_eq from to then [] else map (got_line 0 0) xs ++ Horizon 0 0 to ∷ []) (all_pass items)
 
+-- where nothing was asked no moment is kept
+open_asks_none : (know : Known) → AreRuns Q know → open_asks know [] ≡ []
+unfolding open_asks
+open_asks_none know a = zip_runs-equals Never Q Never same_moment moment_decides (λ moment k. if is_F k then Never else moment) [] know [] refl tt a tt (λ t. same (is_F (known_at know t)))
+  where
+    same : (q : Bool) → Never ≡ (if q then Never else Never)
+    same true = refl
+    same false = refl
+
 -- what the broker of the subscriber does with what came
 pub learn-far : (know piece joined final : Known) (from to : ℕ) (log : Log) → HasLearned know piece joined final from to → learn net0 0 1 piece (far_view know from) log ≡ record { view = far_view final to; log = log; lines = passed_lines from to joined; frames = [] }
 unfolding learn horizon_after trimmed
@@ -103,7 +113,7 @@ learn-far know piece joined final from to log h =
     let final_is : finished joined (consolidated true to []) ≡ final = finished_is joined final to h.joined_runs h.final_runs h.final_at in
     let kept : forgotten 1024 to final ≡ final = forgotten_none 1024 to final h.final_runs (final_up joined final to h.final_at) in
     let lines : told net0 0 from to (data_ticks from to joined) 0 ++ [] ≡ passed_lines from to joined = append-nil (told net0 0 from to (data_ticks from to joined) 0) ∙ told_is from to (data_ticks from to joined) in
-    rw (know_is, horizon, final_is, kept, lines) refl
+    rw (know_is, horizon, final_is, kept, open_asks_none final h.final_runs, lines) refl
 
 -- nothing clashes
 pub clashes-none : (know piece : Known) → AreRuns Q know → AreRuns Q piece → ((t : ℕ) → clash_K (known_at know t) (known_at piece t) ≡ false) → clashes know piece ≡ false

@@ -16,11 +16,12 @@ use Rattle.gr_tick.specs.Runs.{value_at, put_on, put, tabulate_from, tabulate_so
 use Rattle.gr_know.specs.Values.{Known, known_at, is_Q}
 use Rattle.gr_curio.specs.Values.{Wanted, Asked, wanted_at, asked_at, is_C, same_moment}
 use Rattle.gr_model.specs.Net.{Net, is_host, keeps_horizon, numbers}
-use Rattle.gr_model.specs.Broker.{View, Log, Outcome, know_frames, want_frames, expect_frame, all_points, any_C, consolidated, finished, forgotten, trimmed, forward, new_ticks, forward_frames, learn, max_tick, due, noted, up_frames, asking, answers, stored, acknowledged, curiosity, wake_below, wanted_at_wake, expect, expect_frames, covers, place_of, publish, silence, with_event, with_mark, marking, cutting, wake_host, wake, receive, clashes, empty_log, started, head}
+use Rattle.gr_model.specs.Broker.{View, Log, Outcome, know_frames, want_frames, expect_frame, all_points, any_C, consolidated, finished, is_F, open_asks, trimmed, trimmed_below, forward, new_ticks, forward_frames, learn, max_tick, due, noted, up_frames, asking, answers, stored, acknowledged, curiosity, wake_below, wanted_at_wake, expect, expect_frames, covers, place_of, publish, silence, with_event, with_mark, marking, cutting, wake_host, wake, receive, clashes, empty_log, started, head}
 use Rattle.gr_frame.specs.Bytes.{known_run_size, wanted_run_size, cut_frames}
 use Rattle.gr_model.specs.World.{World, blank_view, view_of, log_of, with_view, absorbed, wake_for, deliver_frame, publish_now, restarted, start, run_all, deliver_frame_by, publish_now_by, wake_for_by}
 use Rattle.gr_model.specs.Tree.{IsNet}
 use Rattle.gr_theorems.specs.Fits.{BodyFits, WorldFits, FrameTrue, StepsIn}
+use Rattle.gr_theorems.proofs.calls.Calls.{trimmed_host}
 use Rattle.gr_theorems.proofs.runs.Worlds.{Each}
 use Rattle.gr_theorems.proofs.runs.Schedules.{get_numbers}
 use Rattle.gr_theorems.proofs.runs.Closed.{clocked, with_logs, IsClosed, holds_always}
@@ -100,6 +101,14 @@ noted_none : (now : ℕ) (asks : Asked) → asks ≡ [] → noted now asks [] �
 unfolding noted
 noted_none now asks e = subst (λ a. noted now a [] ≡ []) (sym e) refl
 
+open_all : (P : Moment → Type 0) (know : Known) (asks : Asked) → P Never → AllValues P asks → AllValues P (open_asks know asks)
+unfolding open_asks
+open_all P know asks z a = tabulate-all Never same_moment P (λ t. if is_F (known_at know t) then Never else asked_at asks t) (points asks ++ points know) (λ t. go (is_F (known_at know t)) (asked_at asks t) (value_at-all Never P asks t z a))
+  where
+    go : (q : Bool) (v : Moment) → P v → P (if q then Never else v)
+    go true v k = z
+    go false v k = k
+
 -- what a call leaves of the asks
 pub record KeepsAsks (net : Net) (p b now : ℕ) (v : View) (o : Outcome) : Type 1 where
   pub all : (P : Moment → Type 0) → P Never → P (At now) → AllValues P v.asks → AllValues P o.view.asks
@@ -108,31 +117,40 @@ pub record KeepsAsks (net : Net) (p b now : ℕ) (v : View) (o : Outcome) : Type
 same_asks : (net : Net) (p b now : ℕ) (v : View) (o : Outcome) → o.view.asks ≡ v.asks → KeepsAsks net p b now v o
 same_asks net p b now v o e = record { all = λ P z h a. subst (AllValues P) (sym e) a; host = λ h x. e ∙ x }
 
-pub trimmed_asks : (net : Net) (p b : ℕ) (v : View) → (trimmed net p b v).asks ≡ v.asks
+-- another outcome with the same asks
+of_view : (net : Net) (p b now : ℕ) (v : View) (o u : Outcome) → u.view.asks ≡ o.view.asks → KeepsAsks net p b now v o → KeepsAsks net p b now v u
+of_view net p b now v o u e k = record { all = λ P z h a. subst (AllValues P) (sym e) (k.all P z h a); host = λ h x. e ∙ k.host h x }
+
+-- forgetting adds no moment
+trimmed_all : (net : Net) (p b : ℕ) (v : View) (P : Moment → Type 0) → P Never → AllValues P v.asks → AllValues P (trimmed net p b v).asks
 unfolding trimmed
-trimmed_asks net p b v = go (is_host net p b)
+trimmed_all net p b v P z a = go (is_host net p b)
   where
     less : View
-    less = record { know = forgotten net.cache (if keeps_horizon net p b then v.horizon else max_tick) v.know; wants = v.wants; asks = v.asks; horizon = v.horizon }
+    less = trimmed_below net p b v
 
-    go : (q : Bool) → (let u : View = elim q [ true ↦ v | false ↦ less ] in u.asks) ≡ v.asks
-    go true = refl
-    go false = refl
+    go : (q : Bool) → (let u : View = elim q [ true ↦ v | false ↦ less ] in AllValues P u.asks)
+    go true = a
+    go false = open_all P less.know v.asks z a
 
-pub learn_asks : (net : Net) (p b : ℕ) (piece : Known) (v : View) (log : Log) → (learn net p b piece v log).view.asks ≡ v.asks
+trimmed_none : (net : Net) (p b : ℕ) (v : View) → is_host net p b ≡ true → (trimmed net p b v).asks ≡ v.asks
+trimmed_none net p b v h = ap (λ u. u.asks) (trimmed_host net p b v h)
+
+-- learning adds no moment
+pub learn_asks : (net : Net) (p b now : ℕ) (piece : Known) (v : View) (log : Log) → KeepsAsks net p b now v (learn net p b piece v log)
 unfolding learn
-learn_asks net p b piece v log = trimmed_asks net p b _
+learn_asks net p b now piece v log = record { all = λ P z h a. trimmed_all net p b _ P z a; host = λ h e. trimmed_none net p b _ h ∙ e }
 
 asking_all : (net : Net) (p b now : ℕ) (wanted : ℕ → Bool) (ps : List ℕ) (v : View) (log : Log) (P : Moment → Type 0) → P Never → P (At now) → AllValues P v.asks → AllValues P (asking net p b now wanted ps v log).view.asks
 unfolding asking
-asking_all net p b now wanted ps v log P z h a = subst (AllValues P) (sym (trimmed_asks net p b _)) (noted_all P now v.asks (due now net.retry v.know v.asks wanted ps) z h a)
+asking_all net p b now wanted ps v log P z h a = trimmed_all net p b _ P z (noted_all P now v.asks (due now net.retry v.know v.asks wanted ps) z h a)
 
 curiosity_asks : (net : Net) (p b now c i : ℕ) (piece : Wanted) (v : View) (log : Log) → KeepsAsks net p b now v (curiosity net p b now c i piece v log)
 unfolding curiosity
 curiosity_asks net p b now c i piece v log =
     record {
-      all = λ P z h a. subst (AllValues P) (sym (trimmed_asks net p b _)) (noted_all P now v.asks (asked (is_host net p b)) z h a);
-      host = λ h e. trimmed_asks net p b _ ∙ (ap (λ q. noted now v.asks (asked q)) h ∙ noted_none now v.asks e);
+      all = λ P z h a. trimmed_all net p b _ P z (noted_all P now v.asks (asked (is_host net p b)) z h a);
+      host = λ h e. trimmed_none net p b _ h ∙ (ap (λ q. noted now v.asks (asked q)) h ∙ noted_none now v.asks e);
     }
   where
     w : Wanted
@@ -147,23 +165,23 @@ curiosity_asks net p b now c i piece v log =
     asked : Bool → Wanted
     asked q = elim q [ true ↦ [] | false ↦ due now net.retry know v.asks (λ t. is_C (wanted_at piece t) && is_Q (known_at reply t)) (points piece ++ points reply) ]
 
-marking_asks : (net : Net) (p b now : ℕ) (v : View) (log : Log) → (marking net p b now v log).view.asks ≡ v.asks
+marking_asks : (net : Net) (p b now : ℕ) (v : View) (log : Log) → KeepsAsks net p b now v (marking net p b now v log)
 unfolding marking
 marking_asks net p b now v log = go (nat_le (log.settled + net.quiet) now)
   where
     o : Outcome
     o = learn net p b (silence (suc log.settled) now []) v (with_mark log now)
 
-    go : (q : Bool) → (let x : Outcome = elim q [ true ↦ record { view = o.view; log = o.log; lines = o.lines; frames = o.frames } | false ↦ record { view = v; log = log; lines = []; frames = [] } ] in x.view.asks) ≡ v.asks
-    go true = learn_asks net p b (silence (suc log.settled) now []) v (with_mark log now)
-    go false = refl
+    go : (q : Bool) → KeepsAsks net p b now v (elim q [ true ↦ record { view = o.view; log = o.log; lines = o.lines; frames = o.frames } | false ↦ record { view = v; log = log; lines = []; frames = [] } ])
+    go true = of_view net p b now v o (record { view = o.view; log = o.log; lines = o.lines; frames = o.frames }) refl (learn_asks net p b now (silence (suc log.settled) now []) v (with_mark log now))
+    go false = same_asks net p b now v (record { view = v; log = log; lines = []; frames = [] }) refl
 
 pub wake_asks : (net : Net) (p b now : ℕ) (v : View) (log : Log) → KeepsAsks net p b now v (wake net p b now v log)
 unfolding wake wake_host wake_below
 wake_asks net p b now v log = go (is_host net p b) refl
   where
     go : (q : Bool) → is_host net p b ≡ q → KeepsAsks net p b now v (elim q [ true ↦ wake_host net p b now v log | false ↦ wake_below net p b now v log ])
-    go true e = same_asks net p b now v (wake_host net p b now v log) (marking_asks net p b now v log)
+    go true e = of_view net p b now v (marking net p b now v log) (wake_host net p b now v log) refl (marking_asks net p b now v log)
     go false e = record {
       all = λ P z h a. asking_all net p b now (wanted_at_wake net (keeps_horizon net p b) now v) _ v log P z h a;
       host = λ h x. absurd (false≢true (sym e ∙ h));
@@ -187,7 +205,7 @@ receive_asks net now f v log = go f.body
   where
     learned : (runs : Known) (q : Bool) → KeepsAsks net f.head.publisher f.head.to now v (elim q [ true ↦ record { view = v; log = log; lines = []; frames = [] } | false ↦ learn net f.head.publisher f.head.to runs v log ])
     learned runs true = same_asks net f.head.publisher f.head.to now v (record { view = v; log = log; lines = []; frames = [] }) refl
-    learned runs false = same_asks net f.head.publisher f.head.to now v (learn net f.head.publisher f.head.to runs v log) (learn_asks net f.head.publisher f.head.to runs v log)
+    learned runs false = learn_asks net f.head.publisher f.head.to now runs v log
 
     go : (y : Body) → ExpectBody net f.head.publisher f.head.to y → KeepsAsks net f.head.publisher f.head.to now v (elim y [
       | body.Knowledge runs ↦ elim (clashes v.know runs) [ true ↦ record { view = v; log = log; lines = []; frames = [] } | false ↦ learn net f.head.publisher f.head.to runs v log ]
@@ -198,9 +216,9 @@ receive_asks net now f v log = go f.body
     go (body.Curiosity runs) h = curiosity_asks net f.head.publisher f.head.to now f.head.from (place_of f.head.from (net.children f.head.publisher f.head.to)) runs v log
     go (body.Expect tick) h = record { all = λ P z x a. expect_all net f.head.publisher f.head.to now tick v log P z x a; host = λ e x. absurd (false≢true (sym h ∙ e)) }
 
-publish_asks : (net : Net) (p b now number : ℕ) (e : Event) (v : View) (log : Log) → (publish net p b now number e v log).view.asks ≡ v.asks
+publish_asks : (net : Net) (p b now number : ℕ) (e : Event) (v : View) (log : Log) → KeepsAsks net p b now v (publish net p b now number e v log)
 unfolding publish
-publish_asks net p b now number e v log = first (nat_le number log.last)
+publish_asks net p b now number e v log = at (nat_le number log.last) (nat_lt (suc log.last) number) (nat_lt max_tick tick)
   where
     tick : ℕ
     tick = max (suc log.settled) now
@@ -208,17 +226,11 @@ publish_asks net p b now number e v log = first (nat_le number log.last)
     o : Outcome
     o = learn net p b (silence (suc log.settled) (tick - 1) (record { first = tick; last = tick; value = D e } ∷ [])) v (with_event log tick e)
 
-    third : (q : Bool) → (let x : Outcome = elim q [ true ↦ record { view = v; log = log; lines = line.Exhausted p number ∷ []; frames = [] } | false ↦ record { view = o.view; log = o.log; lines = line.Logged p number tick ∷ o.lines; frames = o.frames } ] in x.view.asks) ≡ v.asks
-    third true = refl
-    third false = learn_asks net p b (silence (suc log.settled) (tick - 1) (record { first = tick; last = tick; value = D e } ∷ [])) v (with_event log tick e)
-
-    second : (q : Bool) → (let x : Outcome = elim q [ true ↦ record { view = v; log = log; lines = line.Gap p number (suc log.last) ∷ []; frames = [] } | false ↦ elim (nat_lt max_tick tick) [ true ↦ record { view = v; log = log; lines = line.Exhausted p number ∷ []; frames = [] } | false ↦ record { view = o.view; log = o.log; lines = line.Logged p number tick ∷ o.lines; frames = o.frames } ] ] in x.view.asks) ≡ v.asks
-    second true = refl
-    second false = third (nat_lt max_tick tick)
-
-    first : (q : Bool) → (let x : Outcome = elim q [ true ↦ record { view = v; log = log; lines = line.Already p number ∷ []; frames = [] } | false ↦ elim (nat_lt (suc log.last) number) [ true ↦ record { view = v; log = log; lines = line.Gap p number (suc log.last) ∷ []; frames = [] } | false ↦ elim (nat_lt max_tick tick) [ true ↦ record { view = v; log = log; lines = line.Exhausted p number ∷ []; frames = [] } | false ↦ record { view = o.view; log = o.log; lines = line.Logged p number tick ∷ o.lines; frames = o.frames } ] ] ] in x.view.asks) ≡ v.asks
-    first true = refl
-    first false = second (nat_lt (suc log.last) number)
+    at : (x y z : Bool) → KeepsAsks net p b now v (elim x [ true ↦ record { view = v; log = log; lines = line.Already p number ∷ []; frames = [] } | false ↦ elim y [ true ↦ record { view = v; log = log; lines = line.Gap p number (suc log.last) ∷ []; frames = [] } | false ↦ elim z [ true ↦ record { view = v; log = log; lines = line.Exhausted p number ∷ []; frames = [] } | false ↦ record { view = o.view; log = o.log; lines = line.Logged p number tick ∷ o.lines; frames = o.frames } ] ] ])
+    at true y z = same_asks net p b now v (record { view = v; log = log; lines = line.Already p number ∷ []; frames = [] }) refl
+    at false true z = same_asks net p b now v (record { view = v; log = log; lines = line.Gap p number (suc log.last) ∷ []; frames = [] }) refl
+    at false false true = same_asks net p b now v (record { view = v; log = log; lines = line.Exhausted p number ∷ []; frames = [] }) refl
+    at false false false = of_view net p b now v o (record { view = o.view; log = o.log; lines = line.Logged p number tick ∷ o.lines; frames = o.frames }) refl (learn_asks net p b now (silence (suc log.settled) (tick - 1) (record { first = tick; last = tick; value = D e } ∷ [])) v (with_event log tick e))
 
 -- Frames of a call
 
@@ -418,7 +430,7 @@ unfolding publish_now_by
 publish_now_asks net n w p number e f j a =
     let b = net.host p in
     let o = publish net p b w.clock number e (view_of w b p) (log_of w p) in
-    taken_asks net w (absorbed w b p o).world b p o (n.host_in p j) j (absorbed_taken net w b p o f (n.host_in p j) j) (same_asks net p b w.clock (view_of w b p) o (publish_asks net p b w.clock number e (view_of w b p) (log_of w p))) (publish_frames_fit net p b w.clock number e (view_of w b p) (log_of w p) (λ c m. (n.place p b j (n.host_in p j)).child_not_host c m)) a
+    taken_asks net w (absorbed w b p o).world b p o (n.host_in p j) j (absorbed_taken net w b p o f (n.host_in p j) j) (publish_asks net p b w.clock number e (view_of w b p) (log_of w p)) (publish_frames_fit net p b w.clock number e (view_of w b p) (log_of w p) (λ c m. (n.place p b j (n.host_in p j)).child_not_host c m)) a
 
 pub started_asks : (net : Net) (p b : ℕ) (log : Log) → (started net p b log).asks ≡ []
 unfolding started

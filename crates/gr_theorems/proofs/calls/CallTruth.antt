@@ -14,7 +14,7 @@ use Rattle.gr_tick.specs.Runs.{AreRuns, points, zip_runs, IsSteady, IsNone, IsPa
 use Rattle.gr_know.specs.Values.{Known, known_at, is_Q, join_K, same_K}
 use Rattle.gr_curio.specs.Values.{Wanted, Asked, wanted_at, asked_at, is_C, is_A, same_Q3, same_moment, is_outstanding}
 use Rattle.gr_model.specs.Net.{Net, is_host, keeps_horizon, pass, not_empty, is_empty}
-use Rattle.gr_model.specs.Broker.{View, Log, Outcome, know_frames, passed, want_frames, expect_frame, all_points, is_settled, consolidated, finished, forgotten, trimmed, horizon_after, new_ticks, forward, quenched, forward_frames, forward_wants, learn, max_tick, due, noted, upward, up_frames, asking, answers, answer, curious, stored, acknowledged, curiosity, wake_below, wanted_at_wake, any_C, expect, expect_frames, covers, place_of, head}
+use Rattle.gr_model.specs.Broker.{View, Log, Outcome, know_frames, passed, want_frames, expect_frame, all_points, is_settled, consolidated, finished, is_F, open_asks, trimmed, trimmed_below, horizon_after, new_ticks, forward, quenched, forward_frames, forward_wants, learn, max_tick, due, noted, upward, up_frames, asking, answers, answer, curious, stored, acknowledged, curiosity, wake_below, wanted_at_wake, any_C, expect, expect_frames, covers, place_of, head}
 use Rattle.gr_frame.specs.Bytes.{known_run_size, wanted_run_size, cut_frames}
 use Rattle.gr_theorems.specs.Truth.{Facts, TrueF, IsTrueAt, KnowsTruth, WantsTruth, AllWantTruth, IsLater}
 use Rattle.gr_model.specs.Tree.{IsPlace}
@@ -166,19 +166,23 @@ want_frames_true net f p from to runs k = go (cut_frames wanted_run_size runs) (
     go [] a = tt
     go (x ∷ xs) a = (record { runs = a.0.0; each = λ t q. ⊎_elim (λ e. k.each t (sym e ∙ q)) (λ e. absurd (none_A (sym e ∙ q))) (a.0.1 t) }, go xs a.1)
 
+open_asks-is : (know : Known) (asks : Asked) → AreRuns Q know → AreRuns Never asks → AreRuns Never (open_asks know asks)
+unfolding open_asks
+open_asks-is know asks k a = (zip_runs-is Never Q Never same_moment moment_decides (λ moment k. if is_F k then Never else moment) asks know refl a k).runs
+
 pub trimmed_true : (net : Net) (f : Facts) (p b : ℕ) (v : View) → ViewTrue net f p b v → ViewTrue net f p b (trimmed net p b v)
 unfolding trimmed
 trimmed_true net f p b v h = go (is_host net p b)
   where
     less : View
-    less = record { know = forgotten net.cache (if keeps_horizon net p b then v.horizon else max_tick) v.know; wants = v.wants; asks = v.asks; horizon = v.horizon }
+    less = trimmed_below net p b v
 
     go : (q : Bool) → ViewTrue net f p b (elim q [ true ↦ v | false ↦ less ])
     go true = h
     go false = record {
       know = lowered_true net f p b (if keeps_horizon net p b then v.horizon else max_tick) v.know less.know (forgotten-is net.cache (if keeps_horizon net p b then v.horizon else max_tick) v.know h.know.runs) h.know;
       wants = h.wants;
-      asks = h.asks;
+      asks = open_asks-is less.know v.asks (forgotten-is net.cache (if keeps_horizon net p b then v.horizon else max_tick) v.know h.know.runs).runs h.asks;
       horizon = h.horizon;
     }
 

@@ -18,7 +18,7 @@ use Rattle.gr_know.specs.Values.{Known, known_at, join_K, same_K}
 use Rattle.gr_curio.specs.Values.{Wanted, wanted_at, is_A}
 use Rattle.gr_event.specs.Event.{same_event}
 use Rattle.gr_model.specs.Net.{Net, is_host, keeps_horizon}
-use Rattle.gr_model.specs.Broker.{View, Log, Outcome, know_frames, want_frames, expect_frame, is_settled, consolidated, finished, forgotten, trimmed, new_ticks, forward, forward_frames, learn, max_tick, up_frames, asking, curiosity, wake_below, expect, expect_frames, covers, place_of, publish, silence, with_event, with_mark, with_cut, marking, cutting, done_upto, wake_host, wake, receive, clashes, head}
+use Rattle.gr_model.specs.Broker.{View, Log, Outcome, know_frames, want_frames, expect_frame, is_settled, consolidated, finished, trimmed, trimmed_below, new_ticks, forward, forward_frames, learn, max_tick, up_frames, asking, curiosity, wake_below, expect, expect_frames, covers, place_of, publish, silence, with_event, with_mark, with_cut, marking, cutting, done_upto, wake_host, wake, receive, clashes, head}
 use Rattle.gr_frame.specs.Bytes.{known_run_size, wanted_run_size, cut_frames}
 use Rattle.gr_theorems.specs.Truth.{Facts, TrueS, TrueF, IsTrueAt, KnowsTruth, WantsTruth, AllWantTruth, IsLater}
 use Rattle.gr_model.specs.Tree.{IsPlace, IsNet}
@@ -104,7 +104,7 @@ unfolding trimmed
 trimmed_horizon net p b v = go (is_host net p b)
   where
     less : View
-    less = record { know = forgotten net.cache (if keeps_horizon net p b then v.horizon else max_tick) v.know; wants = v.wants; asks = v.asks; horizon = v.horizon }
+    less = trimmed_below net p b v
 
     go : (q : Bool) → (let u : View = elim q [ true ↦ v | false ↦ less ] in u.horizon) ≡ v.horizon
     go true = refl
@@ -115,18 +115,19 @@ unfolding trimmed
 trimmed_wants net p b v = go (is_host net p b)
   where
     less : View
-    less = record { know = forgotten net.cache (if keeps_horizon net p b then v.horizon else max_tick) v.know; wants = v.wants; asks = v.asks; horizon = v.horizon }
+    less = trimmed_below net p b v
 
     go : (q : Bool) → (let u : View = elim q [ true ↦ v | false ↦ less ] in u.wants) ≡ v.wants
     go true = refl
     go false = refl
 
-trimmed_host : (net : Net) (p b : ℕ) (v : View) → is_host net p b ≡ true → trimmed net p b v ≡ v
+-- at the host nothing is forgotten
+pub trimmed_host : (net : Net) (p b : ℕ) (v : View) → is_host net p b ≡ true → trimmed net p b v ≡ v
 unfolding trimmed
 trimmed_host net p b v h = go (is_host net p b) h
   where
     less : View
-    less = record { know = forgotten net.cache (if keeps_horizon net p b then v.horizon else max_tick) v.know; wants = v.wants; asks = v.asks; horizon = v.horizon }
+    less = trimmed_below net p b v
 
     go : (q : Bool) → q ≡ true → (let u : View = elim q [ true ↦ v | false ↦ less ] in u) ≡ v
     go true e = refl

@@ -9,7 +9,7 @@ use Rattle.gr_tick.specs.Runs.{AreRuns, zip_runs, first_bottom_from}
 use Rattle.gr_know.specs.Values.{Known, known_at, is_Q, join_K, same_K}
 use Rattle.gr_curio.specs.Values.{Wanted, wanted_at, is_A}
 use Rattle.gr_model.specs.Net.{Net, is_host, keeps_horizon}
-use Rattle.gr_model.specs.Broker.{View, Log, learn, trimmed, finished, consolidated, forgotten, horizon_after, is_settled, all_A, new_ticks, forward_wants, max_tick}
+use Rattle.gr_model.specs.Broker.{View, Log, learn, trimmed, trimmed_below, finished, consolidated, horizon_after, is_settled, all_A, new_ticks, forward_wants, max_tick}
 use Rattle.gr_theorems.specs.Truth.{Facts, KnowsTruth, AllWantTruth}
 use Rattle.gr_model.specs.Tree.{IsPlace}
 use Rattle.gr_theorems.specs.Fits.{ViewTrue}
@@ -72,7 +72,7 @@ kept_above net f p b know ws v t keeps r a e l = go (is_host net p b)
     upto = ap (λ c. if c then v.horizon else max_tick) keeps
 
     less : View
-    less = record { know = forgotten net.cache (if keeps_horizon net p b then v.horizon else max_tick) v.know; wants = v.wants; asks = v.asks; horizon = v.horizon }
+    less = trimmed_below net p b v
 
     low : IsLowered 1 (if keeps_horizon net p b then v.horizon else max_tick) v.know less.know
     low = forgotten-is net.cache (if keeps_horizon net p b then v.horizon else max_tick) v.know (subst (λ k. AreRuns Q k) (sym e) fin.runs)

@@ -14,6 +14,7 @@ use Rattle.gr_know.specs.Values.{Known, known_at, same_K, join_K, new_K, is_Q}
 use Rattle.gr_event.specs.Event.{same_event}
 use Rattle.gr_curio.specs.declared.values.Q3.{Q3}
 use Rattle.gr_curio.specs.declared.values.Q3.TheVariants.{N, C, A}
+use Rattle.gr_curio.specs.declared.asks.Moment.{Moment}
 use Rattle.gr_curio.specs.declared.asks.Moment.TheVariants.{Never}
 use Rattle.gr_curio.specs.Values.{Wanted, Asked, wanted_at, asked_at, same_Q3, same_moment, is_A, is_C, is_outstanding}
 use Rattle.gr_curio.specs.Due.{noted_of}
@@ -24,7 +25,7 @@ use Rattle.gr_frame.specs.Bytes.{known_run_size, wanted_run_size, cut_frames}
 use Rattle.gr_frame.specs.Limits.{IsKnown, IsWanted}
 use Rattle.gr_model.specs.declared.report.Report.TheVariants as line
 use Rattle.gr_model.specs.Net.{Net, is_host, keeps_horizon, wanted_below, pass, numbers_from}
-use Rattle.gr_model.specs.Broker.{View, Log, Outcome, max_tick, head, know_frames, want_frames, expect_frame, up_frames, all_points, is_settled, consolidated, finished, forgotten, trimmed, horizon_after, new_ticks, event_ticks, pass_points, passed, forward, quenched, forward_frames, forward_wants, learn, due, noted, upward, acknowledged, answer, answers, curious, stored, curiosity, asking, wanted_at_wake, wake_below, covers, expect_frames, expect, any_C, with_event, with_mark, with_cut, event_at, event_points, log_at, log_know, silence, publish, done_upto, cutting, marking, wake_host, wake, started, place_of, clashes, receive}
+use Rattle.gr_model.specs.Broker.{View, Log, Outcome, max_tick, head, know_frames, want_frames, expect_frame, up_frames, all_points, is_settled, consolidated, finished, forgotten, is_F, open_asks, trimmed_below, trimmed, horizon_after, new_ticks, event_ticks, pass_points, passed, forward, quenched, forward_frames, forward_wants, learn, due, noted, upward, acknowledged, answer, answers, curious, stored, curiosity, asking, wanted_at_wake, wake_below, covers, expect_frames, expect, any_C, with_event, with_mark, with_cut, event_at, event_points, log_at, log_know, silence, publish, done_upto, cutting, marking, wake_host, wake, started, place_of, clashes, receive}
 use Rattle.gr_theorems.specs.Spelled.{RunsIn, IsMoment, ViewIn, LogIn}
 use Rattle.gr_theorems.proofs.limits.SpelledRuns.{all_on, all_set, all_get, all_made, AreUpto, points_upto, all_points_upto, value_fits, tabulate_in, both_upto, zip_in, first_bottom_upto, top_upto, forgotten_in, IsPart, parts_in}
 
@@ -130,6 +131,14 @@ finished_in : (know : Known) (done : Wanted) → RunsIn IsKnown know → RunsIn 
 unfolding finished
 finished_in know done a b = zip_in IsKnown IsWanted IsKnown Q N Q same_K (λ k c. if is_A c then F else k) know done a b tt tt (λ k c h g. if_known (is_A c) F k tt h)
 
+open_asks_in : (know : Known) (asks : Asked) → RunsIn IsKnown know → RunsIn IsMoment asks → RunsIn IsMoment (open_asks know asks)
+unfolding open_asks
+open_asks_in know asks a b = zip_in IsMoment IsKnown IsMoment Never Q Never same_moment (λ moment k. if is_F k then Never else moment) asks know b a tt tt (λ x y h g. if_moment (is_F y) x h)
+  where
+    if_moment : (q : Bool) (x : Moment) → IsMoment x → IsMoment (if q then Never else x)
+    if_moment true x h = tt
+    if_moment false x h = h
+
 trimmed_in : (net : Net) (p b : ℕ) (v : View) → ViewIn v → ViewIn (trimmed net p b v)
 unfolding trimmed
 trimmed_in net p b v a = go (is_host net p b)
@@ -137,9 +146,11 @@ trimmed_in net p b v a = go (is_host net p b)
     upto : ℕ
     upto = if keeps_horizon net p b then v.horizon else max_tick
 
-    go : (q : Bool) → ViewIn (elim q [ true ↦ v | false ↦ record { know = forgotten net.cache upto v.know; wants = v.wants; asks = v.asks; horizon = v.horizon } ])
+    go : (q : Bool) → ViewIn (elim q [ true ↦ v | false ↦ trimmed_below net p b v ])
     go true = a
-    go false = record { know = forgotten_in IsKnown net.cache upto v.know a.know; wants = a.wants; asks = a.asks; horizon = a.horizon }
+    go false =
+        let known = forgotten_in IsKnown net.cache upto v.know a.know in
+        record { know = known; wants = a.wants; asks = open_asks_in (forgotten net.cache upto v.know) v.asks known a.asks; horizon = a.horizon }
 
 horizon_in : (keeps : Bool) (h : ℕ) (know : Known) → h ≤ max_tick → RunsIn IsKnown know → horizon_after keeps h know ≤ max_tick
 unfolding horizon_after

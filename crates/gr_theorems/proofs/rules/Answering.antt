@@ -28,7 +28,7 @@ use Rattle.gr_theorems.proofs.calls.Pieces.{AllParts, cut_frames-parts}
 use Rattle.gr_theorems.proofs.runs.Worlds.{Each}
 use Rattle.gr_theorems.proofs.asks.AskMoments.{Each-on}
 use Rattle.gr_theorems.proofs.calls.Passed.{passed-is}
-use Rattle.gr_theorems.proofs.asks.CallTicks.{IsTrimmed, trimmed-is, due-at, noted-at}
+use Rattle.gr_theorems.proofs.asks.CallTicks.{IsTrimmed, trimmed-is, moment_kept, moment_from, due-at, noted-at}
 use Rattle.gr_theorems.proofs.rules.Forwarding.{Has, Has-front, Has-back, TellsTick, WantsTick, know_frames_tell, up_frames_want, pass_not_Q, wants_of}
 use Rattle.gr_curio.specs.declared.asks.Moment.TheVariants.{Never, At}
 
@@ -246,7 +246,7 @@ pub record CuriosityTicks (net : Net) (p b now c : ℕ) (piece : Wanted) (v : Vi
   pub stored : (t : ℕ) → wanted_at piece t ≡ C → wanted_at (wants_of net p b v c) t ≢ A → known_at v.know t ≡ Q → wanted_at (wants_of net p b o.view c) t ≡ C
   pub other : (d : ℕ) → list_any (λ y. nat_eq y d) (net.children p b) ≡ true → (d ≢ c) → wants_of net p b o.view d ≡ wants_of net p b v d
   pub asked : (t : ℕ) → is_host net p b ≡ false → wanted_at piece t ≡ C → wanted_at (wants_of net p b v c) t ≢ A → known_at v.know t ≡ Q → is_outstanding (asked_at v.asks t) now net.retry ≡ false → ((u : ℕ) → net.up p b ≡ Some u → Has (WantsTick p b u t C) o.frames) × (asked_at o.view.asks t ≡ At now)
-  pub asks : (t : ℕ) → (asked_at o.view.asks t ≡ At now) ⊎ (asked_at o.view.asks t ≡ asked_at v.asks t)
+  pub asks : (t : ℕ) → known_at o.view.know t ≡ Q → (asked_at o.view.asks t ≡ At now) ⊎ (asked_at o.view.asks t ≡ asked_at v.asks t)
   pub asks_new : (t : ℕ) → asked_at o.view.asks t ≡ At now → (asked_at v.asks t ≡ At now) ⊎ ((u : ℕ) → net.up p b ≡ Some u → Has (WantsTick p b u t C) o.frames)
   pub asks_stored : (t : ℕ) → asked_at o.view.asks t ≡ At now → (asked_at v.asks t ≡ At now) ⊎ ((wanted_at piece t ≡ C) × (wanted_at (wants_of net p b o.view c) t ≡ C))
   pub no_A : (t : ℕ) → Each (NoA t) o.frames
@@ -293,21 +293,21 @@ curiosity_ticks net f p b now c piece v log h child wt =
           let z : wanted_at (asked (is_host net p b)) t ≡ C = ap (λ q. wanted_at (asked q) t) host ∙ d in (
             λ u up. Has-back (WantsTick p b u t C) (know_frames b c p reply) (up_frames net p b (asked (is_host net p b)))
                 (subst (λ y. Has (WantsTick p b u t y) (up_frames net p b (asked (is_host net p b)))) z (up_frames_want net p b u t (asked (is_host net p b)) up (λ y. C_not_N (sym z ∙ y)))),
-            ap (λ a. asked_at a t) i.asks ∙ (noted_is.same_at t ∙ ap (λ q. if is_C q then At now else asked_at v.asks t) z),
+            moment t (gone t (know_Q t e n k)) ∙ ap (λ q. if is_C q then At now else asked_at v.asks t) z,
           );
-      asks = λ t. now_or (is_C (wanted_at (asked (is_host net p b)) t)) t (ap (λ a. asked_at a t) i.asks ∙ noted_is.same_at t);
+      asks = λ t g. now_or (is_C (wanted_at (asked (is_host net p b)) t)) t (moment t g);
       asks_new = λ t g. elim (cases_Bool (is_C (wanted_at (asked (is_host net p b)) t))) [
         | inl e ↦ inr (λ u up. let z = C_of (wanted_at (asked (is_host net p b)) t) e in
             Has-back (WantsTick p b u t C) (know_frames b c p reply) (up_frames net p b (asked (is_host net p b)))
             (subst (λ y. Has (WantsTick p b u t y) (up_frames net p b (asked (is_host net p b)))) z (up_frames_want net p b u t (asked (is_host net p b)) up (λ y. C_not_N (sym z ∙ y)))))
-        | inr e ↦ inl (sym (ap (λ a. asked_at a t) i.asks ∙ (noted_is.same_at t ∙ ap (λ q. if q then At now else asked_at v.asks t) e)) ∙ g)
+        | inr e ↦ inl (sym (ap (λ q. if q then At now else asked_at v.asks t) e) ∙ was t g)
       ];
       asks_stored = λ t g. elim (cases_Bool (is_C (wanted_at (asked (is_host net p b)) t))) [
         | inl e ↦ let z = asked_parts (is_host net p b) t (C_of (wanted_at (asked (is_host net p b)) t) e) in inr (z.0, ap (λ y. wanted_at (get_or y at []) t) i.wants ∙ stored_C t z.0 z.1 z.2)
-        | inr e ↦ inl (sym (ap (λ a. asked_at a t) i.asks ∙ (noted_is.same_at t ∙ ap (λ q. if q then At now else asked_at v.asks t) e)) ∙ g)
+        | inr e ↦ inl (sym (ap (λ q. if q then At now else asked_at v.asks t) e) ∙ was t g)
       ];
       sends = λ t. Each-on (UpAsks net p b t now (curiosity net p b now c at piece v log).view) (know_frames b c p reply) (up_frames net p b (asked (is_host net p b))) (up_asks_know net p b t now c (curiosity net p b now c at piece v log).view reply)
-          (up_asks_up net p b t now (curiosity net p b now c at piece v log).view (asked (is_host net p b)) (asked_not_A (is_host net p b) t) (λ e. ap (λ a. asked_at a t) i.asks ∙ (noted_is.same_at t ∙ ap (λ q. if is_C q then At now else asked_at v.asks t) e)) (up_frames net p b (asked (is_host net p b))) (up_frames_sent net t p b (asked (is_host net p b)) (asked_runs (is_host net p b))));
+          (up_asks_up net p b t now (curiosity net p b now c at piece v log).view (asked (is_host net p b)) (asked_not_A (is_host net p b) t) (λ e. let z = asked_parts (is_host net p b) t e in moment t (gone t (know_Q t z.0 z.1 z.2)) ∙ ap (λ q. if is_C q then At now else asked_at v.asks t) e) (up_frames net p b (asked (is_host net p b))) (up_frames_sent net t p b (asked (is_host net p b)) (asked_runs (is_host net p b))));
       no_A = λ t. Each-on (NoA t) (know_frames b c p reply) (up_frames net p b (asked (is_host net p b))) (no_A_know t b c p reply) (no_A_up net t p b (asked (is_host net p b)) (asked_runs (is_host net p b)) (asked_not_A (is_host net p b) t));
       horizon = i.horizon;
       know = λ t. ⊎_elim (λ x. inl (x ∙ (fin t ∙ ap (λ z. if is_settled keeps v.horizon z t then F else known_at v.know t) (sym i.wants)))) (λ x. inr x) (i.each t);
@@ -429,8 +429,24 @@ curiosity_ticks net f p b now c piece v log h child wt =
     noted_is : AreRunsOf Never (λ t. if is_C (wanted_at (asked (is_host net p b)) t) then At now else asked_at v.asks t) (noted now v.asks (asked (is_host net p b)))
     noted_is = noted-at now v.asks (asked (is_host net p b)) h.asks (asked_runs (is_host net p b))
 
-    i : IsTrimmed net p b (record { know = know; wants = ws; asks = noted now v.asks (asked (is_host net p b)); horizon = v.horizon }) (curiosity net p b now c at piece v log).view
-    i = trimmed-is net p b (record { know = know; wants = ws; asks = noted now v.asks (asked (is_host net p b)); horizon = v.horizon }) fi.runs
+    left : View
+    left = record { know = know; wants = ws; asks = noted now v.asks (asked (is_host net p b)); horizon = v.horizon }
+
+    after_it : View
+    after_it = (curiosity net p b now c at piece v log).view
+
+    i : IsTrimmed net p b left after_it
+    i = trimmed-is net p b left fi.runs
+
+    -- an unknown tick is unknown afterwards, and there the moment of the last ask stays; and none comes of itself
+    gone : (t : ℕ) → known_at know t ≡ Q → known_at after_it.know t ≡ Q
+    gone t e = ⊎_elim (λ x. x ∙ e) (λ x. x.0) (i.each t)
+
+    moment : (t : ℕ) → known_at after_it.know t ≡ Q → asked_at after_it.asks t ≡ (if is_C (wanted_at (asked (is_host net p b)) t) then At now else asked_at v.asks t)
+    moment t e = moment_kept net p b left after_it i noted_is.runs t e ∙ noted_is.same_at t
+
+    was : (t : ℕ) → asked_at after_it.asks t ≡ At now → (if is_C (wanted_at (asked (is_host net p b)) t) then At now else asked_at v.asks t) ≡ At now
+    was t e = sym (noted_is.same_at t) ∙ moment_from net p b left after_it i noted_is.runs t now e
 
     know_Q : (t : ℕ) → wanted_at piece t ≡ C → wanted_at w0 t ≢ A → known_at v.know t ≡ Q → known_at know t ≡ Q
     know_Q t e n k = fin t ∙ (ap (λ q. if q then F else known_at v.know t) (not_settled net f p b c t v.horizon ws all child (ap is_A (stored_C t e n k))) ∙ k)

@@ -15,7 +15,7 @@ use Rattle.gr_tick.specs.Runs.{AreRuns, IsNone, first_bottom_from, zip_runs, poi
 use Rattle.gr_know.specs.Values.{Known, known_at, is_Q, join_K, same_K}
 use Rattle.gr_curio.specs.Values.{Wanted, wanted_at, asked_at, is_C, is_A, is_outstanding}
 use Rattle.gr_model.specs.Net.{Net, is_host, keeps_horizon, pass, wanted_below}
-use Rattle.gr_model.specs.Broker.{View, Log, know_frames, expect_frame, is_settled, any_C, all_points, consolidated, finished, trimmed, horizon_after, data_ticks, told, new_ticks, forward, quenched, forward_frames, forward_wants, learn, due, noted, upward, acknowledged, answer, answers, curious, stored, curiosity, asking, covers, expect_frames, expect, wake_below, wanted_at_wake, place_of}
+use Rattle.gr_model.specs.Broker.{View, Log, know_frames, expect_frame, is_settled, any_C, all_points, consolidated, finished, is_F, trimmed, horizon_after, data_ticks, told, new_ticks, forward, quenched, forward_frames, forward_wants, learn, due, noted, upward, acknowledged, answer, answers, curious, stored, curiosity, asking, covers, expect_frames, expect, wake_below, wanted_at_wake, place_of}
 use Rattle.gr_model.specs.Tree.{IsDistinct, IsPlace}
 use Rattle.gr_theorems.specs.Truth.{Facts, KnowsTruth, WantsTruth, AllWantTruth}
 use Rattle.gr_theorems.specs.Fits.{ViewTrue}
@@ -173,7 +173,7 @@ new_ticks_rule net f p b piece v log place distinct h k =
           let e : get_or (trimmed net p b u).wants (place_of c (net.children p b)) [] ≡ quenched (wants_from net p b v c) (forward net p c (wants_from net p b v c) new) = ap (λ z. get_or z (place_of c (net.children p b)) []) i.wants ∙ quenched_by_child net p c new (net.children p b) v.wants long m in
           record { runs = subst (λ z. AreRuns N z) (sym e) q.runs; each = λ t. ap (λ z. wanted_at z t) e ∙ q.same_at t };
       all_wants = ap length i.wants ∙ long_as net f p (net.children p b) ws all;
-      asks = i.asks;
+      asks = let z = i.asks h.asks in record { runs = z.runs; each = z.same_at };
       horizon = subst (λ x. Moves keeps v.horizon x (λ t. join_K (known_at v.know t) (known_at piece t))) (sym i.horizon) (moved keeps v.horizon joined (λ t. join_K (known_at v.know t) (known_at piece t)) j);
       lines = subst (λ x. TellsOn net p b v.horizon x (λ t. join_K (known_at v.know t) (known_at piece t)) (flat_map (told net p v.horizon hz (data_ticks v.horizon hz joined)) (net.subscribers_at b))) (sym i.horizon)
           (told_on net p b v.horizon hz joined (λ t. join_K (known_at v.know t) (known_at piece t)) j);
@@ -199,7 +199,7 @@ asks_rule net f p b now wanted ps more fs v log h w same =
       sent = upward done asked;
       sent_is = record { runs = up.runs; each = λ t. up.same_at t ∙ (ap (λ x. if is_A x then A else wanted_at asked t) (done_values net f p b v.horizon v.wants h.wants t) ∙ A_if (is_settled (keeps_horizon net p b) v.horizon v.wants t) (wanted_at asked t)) };
       frames = same;
-      asks = record { runs = subst (λ x. AreRuns Never x) (sym i.asks) n.runs; each = λ t. ap (λ x. asked_at x t) i.asks ∙ n.same_at t };
+      asks = let z = i.asks n.runs in record { runs = z.runs; each = λ t. z.same_at t ∙ ap (λ x. if is_F (known_at (trimmed net p b u).know t) && not (is_host net p b) then Never else x) (n.same_at t) };
       wants = i.wants;
       horizon = i.horizon;
       know = forgets_by net p b u h.know.runs;
@@ -353,7 +353,7 @@ child_asks_rule net f p b now c piece v log h child wt = record {
   wants = record { runs = subst (λ z. AreRuns N z) (sym here) si.runs; each = λ t. ap (λ z. wanted_at z t) here ∙ stored_at t };
   other_wants = λ d m n. ap (λ z. get_or z (place_of d (net.children p b)) []) i.wants ∙ get_or-set_other v.wants at (place_of d (net.children p b)) (stored v.know w piece) [] (place_apart (net.children p b) c d child m n);
   all_wants = ap length i.wants ∙ (set_long v.wants at (stored v.know w piece) ∙ long_as net f p (net.children p b) v.wants h.wants);
-  asks = record { runs = subst (λ z. AreRuns Never z) (sym i.asks) ni.runs; each = λ t. ap (λ z. asked_at z t) i.asks ∙ ni.same_at t };
+  asks = let z = i.asks ni.runs in record { runs = z.runs; each = λ t. z.same_at t ∙ ap (λ x. if is_F (known_at (curiosity net p b now c at piece v log).view.know t) && not (is_host net p b) then Never else x) (ni.same_at t) };
   horizon = i.horizon;
   know = knows_by net f p b (λ t. known_at v.know t) v.know u (record { runs = h.know.runs; same_at = λ t. refl }) all refl;
   lines = refl;

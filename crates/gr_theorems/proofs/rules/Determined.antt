@@ -18,7 +18,7 @@ use Rattle.gr_tick.specs.Runs.{AreRunsFrom}
 use Rattle.gr_know.specs.Values.{Known, known_at, is_Q, is_D, join_K}
 use Rattle.gr_curio.specs.Values.{Wanted, Asked, wanted_at, asked_at, is_C}
 use Rattle.gr_model.specs.Net.{Net, keeps_horizon, is_host}
-use Rattle.gr_model.specs.Broker.{View, Log, Outcome, max_tick, know_frames, expect_frame, up_frames, is_settled, data_count, place_of, told, with_event, with_mark, with_cut}
+use Rattle.gr_model.specs.Broker.{View, Log, Outcome, max_tick, is_F, know_frames, expect_frame, up_frames, is_settled, data_count, place_of, told, with_event, with_mark, with_cut}
 use Rattle.gr_model.specs.Tree.{IsNet, IsDistinct}
 use Rattle.gr_theorems.specs.Rules.{HasKnown, HasWanted, HasAsked, IsChild, wants_from, Moves, Forgets, Knows, TellsOn, NewTicks, ChildAsks, Asks, wanted_by_age, wanted_upto, TellsToExpect, Expects, IsConsolidatedUpto, HostWakes, Wakes, Publishes, RulesDetermine}
 use Rattle.gr_tick.proofs.RunLaws.{runs_equal, value_at-in, value_at-below, value_at-above, value_at-start}
@@ -35,6 +35,10 @@ wanted_same f g x y a b h = runs_equal N 1 1 x y a.runs b.runs (λ t. a.each t �
 
 asked_same : (f g : ℕ → Moment) (x y : Asked) → HasAsked f x → HasAsked g y → ((t : ℕ) → f t ≡ g t) → x ≡ y
 asked_same f g x y a b h = runs_equal Never 1 1 x y a.runs b.runs (λ t. a.each t ∙ (h t ∙ sym (b.each t)))
+
+-- what is kept of the moment of an ask
+abbrev kept_moment : Net → ℕ → ℕ → K → Moment → Moment
+kept_moment net p b k moment = if is_F k && not (is_host net p b) then Never else moment
 
 -- what is stored of each child is all that is stored
 stored_same : (cs : List ℕ) (xs ys : List Wanted) → IsDistinct cs → length xs ≡ length cs → length ys ≡ length cs → ((c : ℕ) → list_any (λ x. nat_eq x c) cs ≡ true → get_or xs (place_of c cs) [] ≡ get_or ys (place_of c cs) []) → xs ≡ ys
@@ -237,7 +241,7 @@ outcome_same o u a b c d = λ i. record { view = a i; log = b i; lines = c i; fr
 
 new_ticks_same : (net : Net) (p b : ℕ) (piece : Known) (v : View) (log : Log) (o u : Outcome) → IsDistinct (net.children p b) → NewTicks net p b piece v log o → NewTicks net p b piece v log u → o ≡ u
 new_ticks_same net p b piece v log o u distinct a c =
-    outcome_same o u (view_same o.view u.view (knows_same net p b joined o.view u.view a.know c.know hz ws) ws (a.asks ∙ sym c.asks) hz) (a.log_same ∙ sym c.log_same)
+    outcome_same o u (view_same o.view u.view know ws (asked_same _ _ o.view.asks u.view.asks a.asks c.asks (λ t. ap (λ k. kept_moment net p b (known_at k t) (asked_at v.asks t)) know)) hz) (a.log_same ∙ sym c.log_same)
     (tells_same net p b v.horizon o.view.horizon joined o.lines u.lines a.lines (subst (λ x. TellsOn net p b v.horizon x joined u.lines) (sym hz) c.lines))
     (a.frames ∙ (flat_map_same (λ d. know_frames b d p (a.sent d)) (λ d. know_frames b d p (c.sent d)) (net.children p b) (λ d m. ap (know_frames b d p) (sents d m)) ∙ sym c.frames))
   where
@@ -254,9 +258,12 @@ new_ticks_same net p b piece v log o u distinct a c =
     ws = stored_same (net.children p b) o.view.wants u.view.wants distinct a.all_wants c.all_wants (λ d m. wanted_same _ _ (wants_from net p b o.view d) (wants_from net p b u.view d) (a.wants d m) (c.wants d m)
         (λ t. ap (λ z. if is_C (wanted_at (wants_from net p b v d) t) && not (is_Q (known_at z t)) then N else wanted_at (wants_from net p b v d) t) (sents d m)))
 
+    know : o.view.know ≡ u.view.know
+    know = knows_same net p b joined o.view u.view a.know c.know hz ws
+
 child_asks_same : (net : Net) (p b now e : ℕ) (piece : Wanted) (v : View) (log : Log) (o u : Outcome) → IsDistinct (net.children p b) → ChildAsks net p b now e piece v log o → ChildAsks net p b now e piece v log u → o ≡ u
 child_asks_same net p b now e piece v log o u distinct a c =
-    outcome_same o u (view_same o.view u.view (knows_same net p b _ o.view u.view a.know c.know hz ws) ws asks hz) (a.log_same ∙ sym c.log_same) (a.lines ∙ sym c.lines)
+    outcome_same o u (view_same o.view u.view know ws asks hz) (a.log_same ∙ sym c.log_same) (a.lines ∙ sym c.lines)
     (a.frames ∙ (ap₂ (λ x y. know_frames b e p x ++ up_frames net p b y) replies asked ∙ sym c.frames))
   where
     replies : a.reply ≡ c.reply
@@ -268,9 +275,6 @@ child_asks_same net p b now e piece v log o u distinct a c =
     hz : o.view.horizon ≡ u.view.horizon
     hz = a.horizon ∙ sym c.horizon
 
-    asks : o.view.asks ≡ u.view.asks
-    asks = asked_same _ _ o.view.asks u.view.asks a.asks c.asks (λ t. ap (λ z. if is_C (wanted_at z t) then At now else asked_at v.asks t) asked)
-
     of_child : (d : ℕ) → IsChild net p b d → wants_from net p b o.view d ≡ wants_from net p b u.view d
     of_child d m =
         elim (cases_eq d e) [
@@ -281,16 +285,25 @@ child_asks_same net p b now e piece v log o u distinct a c =
     ws : o.view.wants ≡ u.view.wants
     ws = stored_same (net.children p b) o.view.wants u.view.wants distinct a.all_wants c.all_wants of_child
 
+    know : o.view.know ≡ u.view.know
+    know = knows_same net p b _ o.view u.view a.know c.know hz ws
+
+    asks : o.view.asks ≡ u.view.asks
+    asks = asked_same _ _ o.view.asks u.view.asks a.asks c.asks (λ t. ap₂ (λ k z. kept_moment net p b (known_at k t) (if is_C (wanted_at z t) then At now else asked_at v.asks t)) know asked)
+
 asks_same : (net : Net) (p b now : ℕ) (wanted : ℕ → Bool) (xs ys : List Frame) (v : View) (log : Log) (o u : Outcome) → Asks net p b now wanted xs v log o → Asks net p b now wanted ys v log u → xs ≡ ys → o ≡ u
 asks_same net p b now wanted xs ys v log o u a c more =
-    outcome_same o u (view_same o.view u.view (forgets_same net p b v.horizon v.know o.view.know u.view.know a.know c.know) (a.wants ∙ sym c.wants) asks (a.horizon ∙ sym c.horizon)) (a.log_same ∙ sym c.log_same) (a.lines ∙ sym c.lines)
+    outcome_same o u (view_same o.view u.view know (a.wants ∙ sym c.wants) asks (a.horizon ∙ sym c.horizon)) (a.log_same ∙ sym c.log_same) (a.lines ∙ sym c.lines)
     (a.frames ∙ (ap₂ (λ x y. up_frames net p b x ++ y) sents more ∙ sym c.frames))
   where
     asked : a.asked ≡ c.asked
     asked = wanted_same _ _ a.asked c.asked a.asked_is c.asked_is (λ t. refl)
 
+    know : o.view.know ≡ u.view.know
+    know = forgets_same net p b v.horizon v.know o.view.know u.view.know a.know c.know
+
     asks : o.view.asks ≡ u.view.asks
-    asks = asked_same _ _ o.view.asks u.view.asks a.asks c.asks (λ t. ap (λ z. if is_C (wanted_at z t) then At now else asked_at v.asks t) asked)
+    asks = asked_same _ _ o.view.asks u.view.asks a.asks c.asks (λ t. ap₂ (λ k z. kept_moment net p b (known_at k t) (if is_C (wanted_at z t) then At now else asked_at v.asks t)) know asked)
 
     sents : a.sent ≡ c.sent
     sents = wanted_same _ _ a.sent c.sent a.sent_is c.sent_is (λ t. ap (λ z. if is_settled (keeps_horizon net p b) v.horizon v.wants t then A else wanted_at z t) asked)

@@ -8,7 +8,7 @@ use Rattle.gr_tick.specs.declared.run.Run.{Run}
 use Rattle.gr_tick.specs.Runs.{AreRuns, AreRunsFrom}
 use Rattle.gr_know.specs.Values.{Known, known_at, is_D}
 use Rattle.gr_model.specs.Net.{Net, is_host}
-use Rattle.gr_model.specs.Broker.{View, lower_data, without_front, forgotten, trimmed, data_count}
+use Rattle.gr_model.specs.Broker.{View, lower_data, without_front, forgotten, trimmed_below, trimmed, data_count}
 use Rattle.gr_theorems.specs.Rules.{Forgets, forgets_upto}
 use Rattle.gr_tick.proofs.RunLaws.{value_at-in, value_at-below, value_at-above, value_at-start}
 use Rattle.gr_theorems.proofs.calls.Pieces.{forgotten-is}
@@ -213,7 +213,7 @@ unfolding trimmed forgotten
 forgets_by net p b v a = go (is_host net p b) refl
   where
     less : View
-    less = record { know = forgotten net.cache (forgets_upto net p b v.horizon) v.know; wants = v.wants; asks = v.asks; horizon = v.horizon }
+    less = trimmed_below net p b v
 
     n : ℕ
     n = data_count v.know - net.cache

@@ -13,7 +13,7 @@ use Rattle.gr_frame.specs.declared.Body.TheVariants as body
 use Rattle.gr_frame.specs.declared.Frame.{Frame}
 use Rattle.gr_tick.specs.Runs.{AreRuns, value_at, zip_runs, is_in}
 use Rattle.gr_know.specs.Values.{Known, known_at, is_Q, join_K, same_K}
-use Rattle.gr_curio.specs.Values.{Wanted, wanted_at, is_C, is_A}
+use Rattle.gr_curio.specs.Values.{Wanted, wanted_at, asked_at, is_C, is_A}
 use Rattle.gr_model.specs.Net.{Net, is_host, keeps_horizon, pass, wanted_below}
 use Rattle.gr_model.specs.Broker.{View, Log, Outcome, know_frames, want_frames, consolidated, is_settled, finished, forward, new_ticks, forward_frames, forward_wants, learn, up_frames, place_of, head}
 use Rattle.gr_frame.specs.Bytes.{cut_from, cut_frames, known_run_size, wanted_run_size}
@@ -21,7 +21,7 @@ use Rattle.gr_theorems.specs.Truth.{Facts, KnowsTruth, AllWantTruth}
 use Rattle.gr_model.specs.Tree.{IsPlace}
 use Rattle.gr_theorems.specs.Fits.{ViewTrue}
 use Rattle.gr_theorems.proofs.calls.CallTruth.{new_ticks-is, forward-is, quenched-is, finished-is, joined-is, learn_wants, done_runs, done_values, learned_horizon}
-use Rattle.gr_theorems.proofs.asks.CallTicks.{trimmed-is}
+use Rattle.gr_theorems.proofs.asks.CallTicks.{trimmed-is, moment_kept}
 
 -- one of the list has the property
 abbrev pub Has : {X : Type 0} → (X → Type 0) → List X → Type 0
@@ -181,7 +181,7 @@ pub record LearnTicks (net : Net) (p b : ℕ) (piece : Known) (v : View) (o : Ou
   pub forwarded : (c t : ℕ) → list_any (λ x. nat_eq x c) (net.children p b) ≡ true → known_at v.know t ≡ Q → known_at piece t ≢ Q → wanted_at (wants_of net p b v c) t ≢ A → Has (TellsTick p b c t (pass net p c t (known_at piece t))) o.frames
   pub wants : (c t : ℕ) → list_any (λ x. nat_eq x c) (net.children p b) ≡ true → wanted_at (wants_of net p b o.view c) t ≡ quenched_at net p c t (if is_Q (known_at v.know t) then known_at piece t else Q) (wanted_at (wants_of net p b v c) t)
   pub horizon : o.view.horizon ≡ learned_horizon net p b piece v
-  pub asks : o.view.asks ≡ v.asks
+  pub asks : (t : ℕ) → known_at o.view.know t ≡ Q → asked_at o.view.asks t ≡ asked_at v.asks t
   pub know : (t : ℕ) → (known_at o.view.know t ≡ known_then net p b piece v o.view t) ⊎ ((known_at o.view.know t ≡ Q) × (is_host net p b ≡ false) × (keeps_horizon net p b ≡ true → t ≤ o.view.horizon))
 
 pub learn_ticks : (net : Net) (f : Facts) (p b : ℕ) (piece : Known) (v : View) (log : Log) → IsPlace net p b → ViewTrue net f p b v → KnowsTruth net f p b piece → LearnTicks net p b piece v (learn net p b piece v log)
@@ -205,7 +205,7 @@ learn_ticks net f p b piece v log place h k =
           subst (λ z. Has (TellsTick p b c t (pass net p c t z)) (forward_frames net p b new (net.children p b) v.wants)) e (forward_tells net f p b c t new (net.children p b) v.wants h.wants n.runs m (λ z. x (sym e ∙ z)) a);
       wants = λ c t m. ap (λ z. wanted_at (get_or z (place_of c (net.children p b)) []) t) i.wants ∙ (forward_quenches net f p c t new (net.children p b) v.wants h.wants n.runs m ∙ ap (λ z. quenched_at net p c t z (wanted_at (wants_of net p b v c) t)) (n.same_at t));
       horizon = i.horizon;
-      asks = i.asks;
+      asks = λ t e. moment_kept net p b u (learn net p b piece v log).view i h.asks t e;
       know = λ t.
           let e : known_at u.know t ≡ (if is_settled keeps hz ws t then F else join_K (known_at v.know t) (known_at piece t)) = fin.same_at t ∙ (ap₂ (λ x y. if is_A x then F else y) (done_values net f p b hz ws all t) (j.same_at t) ∙ F_if (is_settled keeps hz ws t) (join_K (known_at v.know t) (known_at piece t))) in
           ⊎_elim (λ x. inl (x ∙ (e ∙ ap₂ (λ z y. if is_settled keeps z y t then F else join_K (known_at v.know t) (known_at piece t)) (sym i.horizon) (sym i.wants)))) (λ x. inr (x.0, x.1, λ y. subst (λ z. t ≤ z) (sym i.horizon) (x.2 y))) (i.each t);

@@ -145,7 +145,7 @@ delivered_serves net w x t n f tr a h = go (cases_Bool (is_A (wanted_at w0 t))) 
     asked_on : is_host net p u ≡ false → wanted_at w0 t ≢ A → known_at v.know t ≡ Q → ((is_outstanding (asked_at v.asks t) w.clock net.retry ≡ true) ⊎ (is_outstanding (asked_at v.asks t) w.clock net.retry ≡ false)) → AsksOn net w y p u t
     asked_on e na q (inl out) =
         let old = asked_now net w.clock p u t w a tr.publisher_in tr.fits.to_in out in
-        record { noted = ap (λ z. asked_at z.asks t) ta.view ∙ ⊎_elim (λ z. z) (λ z. z ∙ old) (k.asks t); before = inl old }
+        record { noted = ap (λ z. asked_at z.asks t) ta.view ∙ ⊎_elim (λ z. z) (λ z. z ∙ old) (k.asks t (ap (λ z. known_at z.know t) (sym ta.view) ∙ (stores na q).unknown)); before = inl old }
     asked_on e na q (inr out) =
         let z = k.asked t e is.2 na q out in
         record { noted = ap (λ g. asked_at g.asks t) ta.view ∙ z.1; before = inr (λ r up. subst (Has (WantsTick p u r t C)) (sym since) (z.0 r up)) }

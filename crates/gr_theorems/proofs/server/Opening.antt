@@ -178,7 +178,7 @@ opening_learns net logs w ls p n j some o =
         | inr e ↦ ap (λ v. v.asks) (c.other_publisher b q e) ∙ o.asks b q i y
         | inl e ↦ elim (cases_eq b (net.host p)) [
           | inr g ↦ ap (λ v. v.asks) (c.other_broker b q g) ∙ o.asks b q i y
-          | inl g ↦ ap₂ (λ a d. (view_of (absorbed w (net.host p) p (learns net w p)).world a d).asks) g e ∙ (ap (λ v. v.asks) c.view ∙ (learn_asks net p (net.host p) [] (view_of w (net.host p) p) (log_of w p) ∙ o.asks (net.host p) p (n.host_in p j) j))
+          | inl g ↦ ap₂ (λ a d. (view_of (absorbed w (net.host p) p (learns net w p)).world a d).asks) g e ∙ (ap (λ v. v.asks) c.view ∙ (learn_asks net p (net.host p) w.clock [] (view_of w (net.host p) p) (log_of w p)).host (eq-eqb (net.host p) (net.host p) refl) (o.asks (net.host p) p (n.host_in p j) j))
         ]
       ]);
       unknown = (unknown_calls net n).delivered w x f tr tt o.unknown;

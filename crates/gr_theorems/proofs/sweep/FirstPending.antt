@@ -68,6 +68,8 @@ pub record FirstAt (net : Net) (p t m first d : ℕ) (woken : List ℕ) (w : Wor
   pub waits : Each (Waits net p t m d w) pending
   pub claim : Claim net p t m first w pending
   pub opened : (c : ℕ) → c < net.brokers → asked_at (view_of w c p).asks t ≡ At m → OpenBy net p t m d w c
+  -- a broker does not know what it has asked at this moment
+  pub unknown_asked : (c : ℕ) → c < net.brokers → asked_at (view_of w c p).asks t ≡ At m → known_at (view_of w c p).know t ≡ Q
   pub asked : (b : ℕ) → b < net.brokers → IsIn b woken → is_host net p b ≡ false → HasAsked net p t m w b
 
 -- such a broker has not consolidated the tick
@@ -115,9 +117,52 @@ module _ (net : Net) (p t m first d : ℕ) (woken : List ℕ) (w : World) (x : F
   here : view_of y x.head.to p ≡ o.view
   here = subst (λ q. view_of y x.head.to q ≡ o.view) a.publisher k.taken.view
 
+  unknown_then : Unknowns net y
+  unknown_then = (unknown_calls net n).delivered w x f tr tt h.unknown
+
+  -- a question of a child that asked it at this moment stays
+  stored_on : (c : ℕ) → c < net.brokers → (g : ChildAsks net p t m w c) → wanted_at (wants_of net p c (view_of y c p) g.child) t ≡ C
+  stored_on c i g =
+      let s : Stores net w p c g.child t = record { asks = g.stored; unknown = h.unknown.each p c g.child t j i g.is_child g.stored } in
+      (stores_stay net w x a.runs p c g.child t n f tr a.body_is g.is_child (λ q r e z. (a.final z).1 (subst (λ b. asked_at (view_of w b p).asks t ≡ At m) (sym e) g.asked)) s).asks
+
+  horizon_on : (c : ℕ) → (view_of w c p).horizon < t → (view_of y c p).horizon < t
+  horizon_on c l =
+      elim (cases_eq c x.head.to) [
+        | inl e ↦ subst (λ b. (view_of y b p).horizon < t) (sym e) (omega (arith, ap (λ v. v.horizon) here, k.ticks.horizon, same_horizon, subst (λ b. (view_of w b p).horizon < t) e l))
+        | inr e ↦ omega (arith, ap (λ v. v.horizon) (k.taken.other c p e), l)
+      ]
+    where
+      same_horizon : (view_of w x.head.to x.head.publisher).horizon ≡ (view_of w x.head.to p).horizon
+      same_horizon = ap (λ q. (view_of w x.head.to q).horizon) a.publisher
+
+  -- a broker that had asked the tick does not consolidate it
+  open_on : (c : ℕ) → c < net.brokers → OpenBy net p t m d w c → is_settled (keeps_horizon net p c) (view_of y c p).horizon (view_of y c p).wants t ≡ false
+  open_on c i (inl g) = ap (λ q. is_settled q (view_of y c p).horizon (view_of y c p).wants t) g.0 ∙ not_done (view_of y c p).horizon t (view_of y c p).wants (horizon_on c g.1)
+  open_on c i (inr (inl g)) =
+      let far : c ≢ x.head.to = λ q. omega (arith, g.1, a.below, ap (net.depth p) q) in
+      asked_open (keeps_horizon net p c) (view_of y c p).horizon (view_of y c p).wants t (ap (λ v. any_C v.wants t) (k.taken.other c p far) ∙ g.0)
+  open_on c i (inr (inr g)) = asked_open (keeps_horizon net p c) (view_of y c p).horizon (view_of y c p).wants t (stored_any (view_of y c p).wants (place_of g.child (net.children p c)) t (ap is_C (stored_on c i g)))
+
+  -- so the receiver does not know it afterwards
+  gone : asked_at (view_of w x.head.to p).asks t ≡ At m → known_at (view_of y x.head.to p).know t ≡ Q
+  gone e =
+      let open_here : is_settled (keeps_horizon net p x.head.to) o.view.horizon o.view.wants t ≡ false = ap (λ v. is_settled (keeps_horizon net p x.head.to) v.horizon v.wants t) (sym here) ∙ open_on x.head.to tr.fits.to_in (h.opened x.head.to tr.fits.to_in e) in
+      let none : is_settled (keeps_horizon net x.head.publisher x.head.to) (view_of w x.head.to x.head.publisher).horizon o.view.wants t ≡ false =
+      ap (λ z. is_settled (keeps_horizon net x.head.publisher x.head.to) z o.view.wants t) (sym k.ticks.horizon) ∙ subst (λ q. is_settled (keeps_horizon net q x.head.to) o.view.horizon o.view.wants t ≡ false) (sym a.publisher) open_here in
+      let old : known_at (view_of w x.head.to x.head.publisher).know t ≡ Q = subst (λ q. known_at (view_of w x.head.to q).know t ≡ Q) (sym a.publisher) (h.unknown_asked x.head.to tr.fits.to_in e) in
+      ap (λ v. known_at v.know t) here ∙ ⊎_elim (λ z. z ∙ (ap (λ q. if q then F else known_at (view_of w x.head.to x.head.publisher).know t) none ∙ old)) (λ z. z.0) (k.ticks.know t)
+
   -- what was noted stays
   stays : (b : ℕ) → asked_at (view_of w b p).asks t ≡ At m → asked_at (view_of y b p).asks t ≡ At m
-  stays b e = subst (λ c. asked_at (view_of y b p).asks t ≡ At c) h.now.clock (noted_stays net w x a.runs p b t n f tr a.body_is (subst (λ c. asked_at (view_of w b p).asks t ≡ At c) (sym h.now.clock) e))
+  stays b e =
+      elim (cases_eq b x.head.to) [
+        | inl g ↦ subst (λ z. asked_at (view_of y z p).asks t ≡ At m) (sym g) (stays_here (subst (λ z. asked_at (view_of w z p).asks t ≡ At m) g e))
+        | inr g ↦ ap (λ v. asked_at v.asks t) (k.taken.other b p g) ∙ e
+      ]
+    where
+      stays_here : asked_at (view_of w x.head.to p).asks t ≡ At m → asked_at (view_of y x.head.to p).asks t ≡ At m
+      stays_here e = subst (λ c. asked_at (view_of y x.head.to p).asks t ≡ At c) h.now.clock (noted_stays net w x a.runs p x.head.to t n f tr a.body_is (gone e) (subst (λ c. asked_at (view_of w x.head.to p).asks t ≡ At c) (sym h.now.clock) e))
 
   sent_wait : (z : Frame) → is_want z ≡ true → UpAsks net x.head.publisher x.head.to t w.clock o.view z → Waits net p t m d y z
   sent_wait z e g =
@@ -150,42 +195,39 @@ module _ (net : Net) (p t m first d : ℕ) (woken : List ℕ) (w : World) (x : F
 
   -- a broker that had asked the tick is open for the same reason
   still_open : (c : ℕ) → c < net.brokers → OpenBy net p t m d w c → OpenBy net p t m d y c
-  still_open c i (inl g) =
-      inl (
-        g.0,
-        elim (cases_eq c x.head.to) [
-          | inl e ↦ subst (λ b. (view_of y b p).horizon < t) (sym e) (omega (arith, ap (λ v. v.horizon) here, k.ticks.horizon, same_horizon, subst (λ b. (view_of w b p).horizon < t) e g.1))
-          | inr e ↦ omega (arith, ap (λ v. v.horizon) (k.taken.other c p e), g.1)
-        ],
-      )
-    where
-      same_horizon : (view_of w x.head.to x.head.publisher).horizon ≡ (view_of w x.head.to p).horizon
-      same_horizon = ap (λ q. (view_of w x.head.to q).horizon) a.publisher
+  still_open c i (inl g) = inl (g.0, horizon_on c g.1)
   still_open c i (inr (inl g)) =
       let far : c ≢ x.head.to = λ q. omega (arith, g.1, a.below, ap (net.depth p) q) in
       inr (inl (ap (λ v. any_C v.wants t) (k.taken.other c p far) ∙ g.0, g.1))
-  still_open c i (inr (inr g)) =
-      let s : Stores net w p c g.child t = record { asks = g.stored; unknown = h.unknown.each p c g.child t j i g.is_child g.stored } in
-      inr (inr (record {
-        child = g.child;
-        is_child = g.is_child;
-        stored = (stores_stay net w x a.runs p c g.child t n f tr a.body_is g.is_child (λ q r e z. (a.final z).1 (subst (λ b. asked_at (view_of w b p).asks t ≡ At m) (sym e) g.asked)) s).asks;
-        asked = stays g.child g.asked;
+  still_open c i (inr (inr g)) = inr (inr (record { child = g.child; is_child = g.is_child; stored = stored_on c i g; asked = stays g.child g.asked }))
+
+  -- the receiver had asked it before, or asks it for the child that sent the frame
+  asked_then : asked_at (view_of y x.head.to p).asks t ≡ At m → (asked_at (view_of w x.head.to p).asks t ≡ At m) ⊎ ChildAsks net p t m y x.head.to
+  asked_then e =
+      ⊎_elim
+      (λ g. inl (subst (λ r. asked_at (view_of w x.head.to r).asks t ≡ At m) a.publisher (g ∙ ap (λ r. At r) h.now.clock)))
+      (λ g. inr (record {
+        child = x.head.from;
+        is_child = subst (λ r. IsChild net r x.head.to x.head.from) a.publisher (subst (BodyFits net x.head.publisher x.head.from x.head.to) a.body_is tr.fits.body);
+        stored = ap (λ v. wanted_at (wants_of net p x.head.to v x.head.from) t) here ∙ subst (λ r. wanted_at (wants_of net r x.head.to o.view x.head.from) t ≡ C) a.publisher g.1;
+        asked = stays x.head.from (a.noted g.0);
       }))
+      (k.ticks.asks_stored t (sym (ap (λ v. asked_at v.asks t) here) ∙ (e ∙ ap (λ r. At r) (sym h.now.clock))))
 
   opened : (c : ℕ) → c < net.brokers → asked_at (view_of y c p).asks t ≡ At m → OpenBy net p t m d y c
   opened c i e =
       elim (cases_eq c x.head.to) [
         | inr q ↦ still_open c i (h.opened c i (sym (ap (λ v. asked_at v.asks t) (k.taken.other c p q)) ∙ e))
-        | inl q ↦ ⊎_elim
-            (λ g. still_open c i (h.opened c i (subst (λ b. asked_at (view_of w b p).asks t ≡ At m) (sym q) (subst (λ r. asked_at (view_of w x.head.to r).asks t ≡ At m) a.publisher (g ∙ ap (λ r. At r) h.now.clock)))))
-            (λ g. inr (inr (record {
-              child = x.head.from;
-              is_child = subst (λ b. IsChild net p b x.head.from) (sym q) (subst (λ r. IsChild net r x.head.to x.head.from) a.publisher (subst (BodyFits net x.head.publisher x.head.from x.head.to) a.body_is tr.fits.body));
-              stored = subst (λ b. wanted_at (wants_of net p b (view_of y b p) x.head.from) t ≡ C) (sym q) (ap (λ v. wanted_at (wants_of net p x.head.to v x.head.from) t) here ∙ subst (λ r. wanted_at (wants_of net r x.head.to o.view x.head.from) t ≡ C) a.publisher g.1);
-              asked = stays x.head.from (a.noted g.0);
-            })))
-            (k.ticks.asks_stored t (sym (ap (λ v. asked_at v.asks t) here) ∙ (subst (λ b. asked_at (view_of y b p).asks t ≡ At m) q e ∙ ap (λ r. At r) (sym h.now.clock))))
+        | inl q ↦ subst (λ b. OpenBy net p t m d y b) (sym q)
+            (⊎_elim (λ g. still_open x.head.to tr.fits.to_in (h.opened x.head.to tr.fits.to_in g)) (λ g. inr (inr g)) (asked_then (subst (λ b. asked_at (view_of y b p).asks t ≡ At m) q e)))
+      ]
+
+  unknown_asked : (c : ℕ) → c < net.brokers → asked_at (view_of y c p).asks t ≡ At m → known_at (view_of y c p).know t ≡ Q
+  unknown_asked c i e =
+      elim (cases_eq c x.head.to) [
+        | inr q ↦ ap (λ v. known_at v.know t) (k.taken.other c p q) ∙ h.unknown_asked c i (sym (ap (λ v. asked_at v.asks t) (k.taken.other c p q)) ∙ e)
+        | inl q ↦ subst (λ b. known_at (view_of y b p).know t ≡ Q) (sym q)
+            (⊎_elim gone (λ g. unknown_then.each p x.head.to g.child t j tr.fits.to_in g.is_child g.stored) (asked_then (subst (λ b. asked_at (view_of y b p).asks t ≡ At m) q e)))
       ]
 
   -- the receiver has still asked what it should
@@ -204,17 +246,17 @@ module _ (net : Net) (p t m first d : ℕ) (woken : List ℕ) (w : World) (x : F
       is : view_of y b q ≡ (curiosity net q b w.clock x.head.from (place_of x.head.from (net.children q b)) a.runs v (log_of w q)).view
       is = k.taken.view ∙ ap (λ r. r.view) (receive_curiosity net w.clock x a.runs v (log_of w q) a.body_is)
 
-      noted : asked_at v.asks t ≡ At w.clock → asked_at (view_of y b q).asks t ≡ At w.clock
-      noted e = noted_stays net w x a.runs q b t n f tr a.body_is e
+      noted : known_at (view_of y b q).know t ≡ Q → asked_at v.asks t ≡ At w.clock → asked_at (view_of y b q).asks t ≡ At w.clock
+      noted unknown e = noted_stays net w x a.runs q b t n f tr a.body_is unknown e
 
       stored : any_C (view_of y b q).wants t ≡ true → asked_at (view_of y b q).asks t ≡ At w.clock
       stored e =
           ⊎_elim
           (λ z. elim (cases_Bool (is_outstanding (asked_at v.asks t) w.clock net.retry)) [
-            | inl r ↦ noted (asked_now net w.clock q b t w (subst (λ c. AsksNow net c w) (sym h.now.clock) h.now) tr.publisher_in tr.fits.to_in r)
+            | inl r ↦ noted (unknown_then.any q b t tr.publisher_in tr.fits.to_in e) (asked_now net w.clock q b t w (subst (λ c. AsksNow net c w) (sym h.now.clock) h.now) tr.publisher_in tr.fits.to_in r)
             | inr r ↦ ap (λ u. asked_at u.asks t) k.taken.view ∙ (k.ticks.asked t host z.0 z.2 z.1 r).1
           ])
-          (λ z. noted (g.stored z))
+          (λ z. noted (unknown_then.any q b t tr.publisher_in tr.fits.to_in e) (g.stored z))
           (curiosity_any net (facts_of net w q) q b w.clock x.head.from a.runs v (log_of w q) t (f.views q b tr.publisher_in tr.fits.to_in) (subst (BodyFits net q x.head.from b) a.body_is tr.fits.body) (subst (BodyTrue net (facts_of net w q) q x.head.from b) a.body_is tr.told) (sym (ap (λ u. any_C u.wants t) is) ∙ e))
 
       needed : t + net.idle ≤ w.clock → needs net q b (view_of y b q) t ≡ true → asked_at (view_of y b q).asks t ≡ At w.clock
@@ -227,7 +269,7 @@ module _ (net : Net) (p t m first d : ℕ) (woken : List ℕ) (w : World) (x : F
           let open_ : is_settled (keeps_horizon net q b) v.horizon o.view.wants t ≡ false = ap (λ c. is_settled c v.horizon o.view.wants t) z2.0 ∙ not_done v.horizon t o.view.wants lt in
           let gone : known_at o.view.know t ≡ Q = sym (ap (λ u. known_at u.know t) k.taken.view) ∙ Q_is (known_at (view_of y b q).know t) s.0 in
           let old : known_at v.know t ≡ Q = ⊎_elim (λ c. sym (c ∙ ap (λ r. if r then F else known_at v.know t) open_) ∙ gone) (λ c. absurd (omega (arith, lt, c.2 z2.0))) (k.ticks.know t) in
-          noted (g.needed l (ap (λ c. is_Q c && (any_C v.wants t || (keeps_horizon net q b && nat_lt v.horizon t))) old ∙ or_right (any_C v.wants t) (keeps_horizon net q b && nat_lt v.horizon t) z1)))
+          noted (Q_is (known_at (view_of y b q).know t) s.0) (g.needed l (ap (λ c. is_Q c && (any_C v.wants t || (keeps_horizon net q b && nat_lt v.horizon t))) old ∙ or_right (any_C v.wants t) (keeps_horizon net q b && nat_lt v.horizon t) z1)))
           (or_cases (any_C (view_of y b q).wants t) (keeps_horizon net q b && nat_lt (view_of y b q).horizon t) s.1)
 
   still_asked : (b : ℕ) → is_host net p b ≡ false → HasAsked net p t m w b → HasAsked net p t m y b
@@ -240,12 +282,13 @@ module _ (net : Net) (p t m first d : ℕ) (woken : List ℕ) (w : World) (x : F
   delivered : FirstAt net p t m first d woken y (sent_up net w x ++ fs)
   delivered = record {
     now = (now_closed net m n).delivered w x f tr (subst (ExpectBody net x.head.publisher x.head.to) (sym a.body_is) tt) h.now;
-    unknown = (unknown_calls net n).delivered w x f tr tt h.unknown;
+    unknown = unknown_then;
     first_in = subst (λ z. first ≤ length z) (sym k.taken.frames) (longer first w.frames o.frames h.first_in);
     waits = Each-on (Waits net p t m d y) (sent_up net w x) fs (subst (λ z. Each (Waits net p t m d y) (filter is_want z)) (sym since) (up_kept (UpAsks net x.head.publisher x.head.to t w.clock o.view) (Waits net p t m d y) o.frames sent_wait (k.ticks.sends t))) (all_wait fs h.waits.1);
     claim = subst (λ z. Claim net p t z first y (sent_up net w x ++ fs)) h.now.clock
         (claim_kept net p t first w x a.runs fs n f tr (subst (λ z. AsksNow net z w) (sym h.now.clock) h.now) a.body_is (λ g e. (a.final e).1 (g ∙ ap (λ z. At z) h.now.clock)) h.first_in (subst (λ z. Claim net p t z first w (x ∷ fs)) (sym h.now.clock) h.claim));
     opened = opened;
+    unknown_asked = unknown_asked;
     asked = λ b i l host. still_asked b host (h.asked b i l host);
   }
 

@@ -94,6 +94,7 @@ module _ (net : Net) (p m : ℕ) (w : World) (n : IsNet net) (begun : Begins net
     waits = tt;
     claim = λ c x child up e. absurd (none_asked c t e);
     opened = λ c l e. absurd (none_asked c t e);
+    unknown_asked = λ c l e. absurd (none_asked c t e);
     asked = λ b l e h. absurd (true≢false (sym e));
   }
 

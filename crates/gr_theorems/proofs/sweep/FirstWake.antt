@@ -94,11 +94,17 @@ module _ (net : Net) (p t m first d0 : ℕ) (woken : List ℕ) (w : World) (b : 
   pick true e = ap (λ z. At z) h.now.clock
   pick false e = e
 
+  -- what is unknown is unknown afterwards
+  gone : known_at v.know t ≡ Q → known_at o.view.know t ≡ Q
+  gone e = ⊎_elim (λ z. z ∙ e) (λ z. z.0) (k.ticks.know t)
+
   -- what was noted stays
   stays : (c : ℕ) → asked_at (view_of w c p).asks t ≡ At m → asked_at (view_of y c p).asks t ≡ At m
   stays c e =
       elim (cases_eq c b) [
-        | inl g ↦ subst (λ z. asked_at (view_of y z p).asks t ≡ At m) (sym g) (ap (λ u. asked_at u.asks t) k.taken.view ∙ (k.ticks.asks t ∙ pick (is_C (wanted_at asked_piece t)) (subst (λ z. asked_at (view_of w z p).asks t ≡ At m) g e)))
+        | inl g ↦
+            let a : asked_at v.asks t ≡ At m = subst (λ z. asked_at (view_of w z p).asks t ≡ At m) g e in
+            subst (λ z. asked_at (view_of y z p).asks t ≡ At m) (sym g) (ap (λ u. asked_at u.asks t) k.taken.view ∙ (k.ticks.asks t (gone (h.unknown_asked b i a)) ∙ pick (is_C (wanted_at asked_piece t)) a))
         | inr g ↦ ap (λ u. asked_at u.asks t) (k.taken.other c p g) ∙ e
       ]
 
@@ -111,7 +117,7 @@ module _ (net : Net) (p t m first d0 : ℕ) (woken : List ℕ) (w : World) (b : 
   new_or_old e =
       elim (cases_Bool (is_C (wanted_at asked_piece t))) [
         | inl g ↦ inr (C_of (wanted_at asked_piece t) g)
-        | inr g ↦ inl (sym (ap (λ u. asked_at u.asks t) k.taken.view ∙ (k.ticks.asks t ∙ ap (λ q. if q then At w.clock else asked_at v.asks t) g)) ∙ e)
+        | inr g ↦ inl (sym (ap (λ q. if q then At w.clock else asked_at v.asks t) g) ∙ k.ticks.asks_from t m (sym (ap (λ u. asked_at u.asks t) k.taken.view) ∙ e))
       ]
 
   still_open : (c : ℕ) → OpenBy net p t m d0 w c → OpenBy net p t m d y c
@@ -137,6 +143,17 @@ module _ (net : Net) (p t m first d0 : ℕ) (woken : List ℕ) (w : World) (b : 
             (λ z. subst (λ q. OpenBy net p t m d y q) (sym g) (newly_open z))
             (new_or_old (subst (λ q. asked_at (view_of y q p).asks t ≡ At m) g e))
         | inr g ↦ still_open c (h.opened c x (sym (ap (λ u. asked_at u.asks t) (k.taken.other c p g)) ∙ e))
+      ]
+
+  -- a broker does not know what it has asked at this moment
+  unknown_asked : (c : ℕ) → c < net.brokers → asked_at (view_of y c p).asks t ≡ At m → known_at (view_of y c p).know t ≡ Q
+  unknown_asked c x e =
+      elim (cases_eq c b) [
+        | inl g ↦ subst (λ q. known_at (view_of y q p).know t ≡ Q) (sym g) (ap (λ u. known_at u.know t) k.taken.view ∙ gone (⊎_elim
+            (λ z. h.unknown_asked b i z)
+            (λ z. Q_is (known_at v.know t) (and_parts (is_Q (known_at v.know t)) (any_C v.wants t || (keeps_horizon net p b && nat_lt v.horizon t)) (asked_is_needed net p b w.clock t v o k.ticks z)).0)
+            (new_or_old (subst (λ q. asked_at (view_of y q p).asks t ≡ At m) g e))))
+        | inr g ↦ ap (λ u. known_at u.know t) (k.taken.other c p g) ∙ h.unknown_asked c x (sym (ap (λ u. asked_at u.asks t) (k.taken.other c p g)) ∙ e)
       ]
 
   -- the piece acknowledges only what is consolidated, and asks the rest
@@ -227,6 +244,7 @@ module _ (net : Net) (p t m first d0 : ℕ) (woken : List ℕ) (w : World) (b : 
     waits = subst (λ z. Each (Waits net p t m d y) (filter is_want z)) (sym (since ∙ k.ticks.frames)) (up_kept (SentUp net p b t piece) (Waits net p t m d y) (up_frames net p b piece) sent_wait (up_frames_sent net t p b piece k.ticks.piece_runs));
     claim = λ c u child up e. ⊎_elim (λ a. ⊎_elim (λ z. inl (path_stays c u z)) (λ z. absurd z) (h.claim c u child up a)) (λ z. inr z) (older c u up e);
     opened = opened;
+    unknown_asked = unknown_asked;
     asked = asked;
   }
 

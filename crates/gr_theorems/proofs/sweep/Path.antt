@@ -89,7 +89,9 @@ claim_kept net p t first w x runs fs n f tr an e na l claim c u child up asked =
 
     stays : asked_at (view_of w c p).asks t ≡ At w.clock → Path net p t w.clock first w c u → Path net p t w.clock first y c u
     stays g (inl h) = inl (subst (λ z. Has (TellsKnown p u c t) (frames_past first z)) (sym d.taken.frames) (Has-past (TellsKnown p u c t) first w.frames sent h))
-    stays g (inr h) = inr (stores_stay net w x runs p u c t n f tr e child (λ a b z. na (subst (λ q. asked_at (view_of w q p).asks t ≡ At w.clock) (sym z) g)) h.0, ⊎_elim (λ z. inl z) (λ z. inr (noted_stays net w x runs p u t n f tr e z)) h.1)
+    stays g (inr h) =
+        let s = stores_stay net w x runs p u c t n f tr e child (λ a b z. na (subst (λ q. asked_at (view_of w q p).asks t ≡ At w.clock) (sym z) g)) h.0 in
+        inr (s, ⊎_elim (λ z. inl z) (λ z. inr (noted_stays net w x runs p u t n f tr e s.unknown z)) h.1)
 
     served : WantsTick p c u t C x → Path net p t w.clock first y c u
     served h =

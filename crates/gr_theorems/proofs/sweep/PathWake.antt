@@ -3,6 +3,8 @@ use Rattle.std.proofs.Common.{◌≡◌, ◌≢◌, ◌⊎◌, inl, inr, ⊎_eli
 use Rattle.std.specs.Prelude.{filter, if◌then◌else◌}
 use Rattle.std.proofs.lemmas.Bool.{cases_Bool, cases_eq, false≢true}
 use Rattle.std.proofs.lemmas.List.{length-append}
+use Rattle.gr_know.specs.declared.values.K.TheVariants.{Q}
+use Rattle.gr_know.specs.Values.{known_at}
 use Rattle.gr_curio.specs.declared.values.Q3.{Q3}
 use Rattle.gr_curio.specs.declared.values.Q3.TheVariants.{N, C, A}
 use Rattle.gr_frame.specs.declared.Frame.{Frame}
@@ -70,15 +72,15 @@ claims_woken net p t m first w b n f i j host open_ c =
     pick true a = ap (λ z. At z) c.now.clock
     pick false a = a
 
-    noted : (u : ℕ) → asked_at (view_of w u p).asks t ≡ At m → asked_at (view_of y u p).asks t ≡ At m
-    noted u a = elim (cases_eq u b) [
-      | inl g ↦ subst (λ z. asked_at (view_of y z p).asks t ≡ At m) (sym g) (ap (λ v. asked_at v.asks t) k.taken.view ∙ (k.ticks.asks t ∙ pick (is_C (wanted_at (wake_asked net p b w.clock (view_of w b p)) t)) (subst (λ z. asked_at (view_of w z p).asks t ≡ At m) g a)))
+    noted : (u : ℕ) → known_at (view_of w u p).know t ≡ Q → asked_at (view_of w u p).asks t ≡ At m → asked_at (view_of y u p).asks t ≡ At m
+    noted u q a = elim (cases_eq u b) [
+      | inl g ↦ subst (λ z. asked_at (view_of y z p).asks t ≡ At m) (sym g) (ap (λ v. asked_at v.asks t) k.taken.view ∙ (k.ticks.asks t (⊎_elim (λ z. z ∙ subst (λ z. known_at (view_of w z p).know t ≡ Q) g q) (λ z. z.0) (k.ticks.know t)) ∙ pick (is_C (wanted_at (wake_asked net p b w.clock (view_of w b p)) t)) (subst (λ z. asked_at (view_of w z p).asks t ≡ At m) g a)))
       | inr g ↦ ap (λ v. asked_at v.asks t) (k.taken.other u p g) ∙ a
     ]
 
     stays : (d u : ℕ) → Path net p t m first w d u → Path net p t m first y d u
     stays d u (inl h) = inl (subst (λ z. Has (TellsKnown p u d t) (frames_past first z)) (sym k.taken.frames) (Has-past (TellsKnown p u d t) first w.frames o.frames h))
-    stays d u (inr h) = inr (stores_stay_wake net w b p u d t f i j host h.0, ⊎_elim (λ z. inl z) (λ z. inr (noted u z)) h.1)
+    stays d u (inr h) = inr (stores_stay_wake net w b p u d t f i j host h.0, ⊎_elim (λ z. inl z) (λ z. inr (noted u h.0.unknown z)) h.1)
 
     before : (d u : ℕ) → net.up p d ≡ Some u → asked_at (view_of y d p).asks t ≡ At m → (asked_at (view_of w d p).asks t ≡ At m) ⊎ Has (WantsTick p d u t C) (filter is_want (sent_since w y))
     before d u up a = elim (cases_eq d b) [
@@ -86,7 +88,7 @@ claims_woken net p t m first w b n f i j host open_ c =
         | inl e ↦
             let z = piece_is ∙ C_of (wanted_at (wake_asked net p b w.clock (view_of w b p)) t) e in
             inr (Has-wants p d u t (sent_since w y) (subst (Has (WantsTick p d u t C)) (sym (since ∙ k.ticks.frames)) (subst (λ x. Has (WantsTick p x u t C) (up_frames net p b piece)) (sym g) (subst (λ q. Has (WantsTick p b u t q) (up_frames net p b piece)) z (up_frames_want net p b u t piece (subst (λ x. net.up p x ≡ Some u) g up) (λ q. C_not_N (sym z ∙ q)))))))
-        | inr e ↦ inl (subst (λ x. asked_at (view_of w x p).asks t ≡ At m) (sym g) (sym (ap (λ v. asked_at v.asks t) k.taken.view ∙ (k.ticks.asks t ∙ ap (λ q. if q then At w.clock else asked_at (view_of w b p).asks t) e)) ∙ subst (λ x. asked_at (view_of y x p).asks t ≡ At m) g a))
+        | inr e ↦ inl (subst (λ x. asked_at (view_of w x p).asks t ≡ At m) (sym g) (sym (ap (λ q. if q then At w.clock else asked_at (view_of w b p).asks t) e) ∙ k.ticks.asks_from t m (sym (ap (λ v. asked_at v.asks t) k.taken.view) ∙ subst (λ x. asked_at (view_of y x p).asks t ≡ At m) g a)))
       ]
       | inr g ↦ inl (sym (ap (λ v. asked_at v.asks t) (k.taken.other d p g)) ∙ a)
     ]

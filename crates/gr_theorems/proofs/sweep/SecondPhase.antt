@@ -23,7 +23,7 @@ use Rattle.gr_theorems.proofs.asks.CallTicks.{needs}
 use Rattle.gr_theorems.proofs.rules.Forwarding.{Has, wants_of}
 use Rattle.gr_theorems.proofs.rules.Serves.{TellsKnown, Stores}
 use Rattle.gr_theorems.proofs.sweep.Path.{Has-past}
-use Rattle.gr_theorems.proofs.sweep.SweepStates.{IsChild, Begins, Asked, Calm, first_phase, second_phase}
+use Rattle.gr_theorems.proofs.sweep.SweepStates.{IsChild, Unknowns, Begins, Asked, Calm, first_phase, second_phase}
 use Rattle.gr_theorems.proofs.sweep.SecondTurn.{Knows, Leaves, turn_leaves, turn_tells, turn_rises, handed, told_handed}
 use Rattle.gr_theorems.proofs.sweep.SecondOrder.{Had, InOrder, outwards_in_turn}
 
@@ -37,6 +37,7 @@ pub record IsDue (net : Net) (p m s : ℕ) (old : World) (b t : ℕ) : Type 0 wh
 pub record Handed (net : Net) (p m s first : ℕ) (old : World) (Done : ℕ → Type 0) (w : World) : Type 0 where
   pub fits : WorldFits net w
   pub now : AsksNow net m w
+  pub unknown : Unknowns net w
   pub more : List Frame
   pub frames : w.frames ≡ old.frames ++ more
   pub log : log_of w p ≡ log_of old p
@@ -111,6 +112,7 @@ handed_on : (net : Net) (p m s first : ℕ) (old : World) (Done Over : ℕ → T
 handed_on net p m s first old Done Over w to back h = record {
   fits = h.fits;
   now = h.now;
+  unknown = h.unknown;
   more = h.more;
   frames = h.frames;
   log = h.log;
@@ -144,12 +146,13 @@ handed_turn : (net : Net) (p m s first : ℕ) (old : World) (d b : ℕ) (w : Wor
 handed_turn net p m s first old d b w n j one sm a i e h = record {
   fits = g.kept.fits;
   now = g.holds;
+  unknown = l.unknown;
   more = h.more ++ l.more;
   frames = l.frames ∙ (ap (λ (z : List Frame). z ++ l.more) h.frames ∙ append_assoc old.frames h.more l.more);
   log = l.log ∙ h.log;
   before = λ c k. l.other c (λ z. k (subst (Had net p d (suc b)) (sym z) (inr (e, omega arith)))) ∙ h.before c (λ z. k (had_more net p d b c z));
   asked = λ c t x host q. elim (cases_eq c b) [
-    | inl z ↦ subst (λ v. asked_at (view_of y v p).asks t ≡ At m) (sym z) (ap (λ v. asked_at v t) l.asks ∙ h.asked b t i (subst (λ v. is_host net p v ≡ false) z host) (l.wants t (subst (λ v. any_C (view_of y v p).wants t ≡ true) z q)))
+    | inl z ↦ subst (λ v. asked_at (view_of y v p).asks t ≡ At m) (sym z) (let c = subst (λ v. any_C (view_of y v p).wants t ≡ true) z q in l.asks t c ∙ h.asked b t i (subst (λ v. is_host net p v ≡ false) z host) (l.wants t c))
     | inr z ↦ ap (λ v. asked_at v.asks t) (l.other c z) ∙ h.asked c t x host (subst (λ v. any_C v.wants t ≡ true) (l.other c z) q)
   ];
   passed = λ c k t x done host child due na. elim (cases_eq c b) [
@@ -169,7 +172,7 @@ handed_turn net p m s first old d b w n j one sm a i e h = record {
     g = hand_down_goes net (ExpectFits net) (AsksNow net m) p first w b n (now_closed net m n) h.fits h.now
 
     l : Leaves net w p b y []
-    l = turn_leaves net p first w b n h.fits
+    l = turn_leaves net p first w b n h.fits h.unknown
 
     same : view_of w b p ≡ view_of old b p
     same = h.before b (not_yet net p d b e)
@@ -253,6 +256,7 @@ handed_all net p m w n b a =
     outwards_in_turn net p (hand_down net p first) (λ d a w. Handed net p m s first old (Had net p d a) w) (handed_order net p m s first old n b.publisher (omega (arith, b.far)) (omega (arith, b.far)) a) old (record {
       fits = a.fits;
       now = a.now;
+      unknown = a.unknown;
       more = [];
       frames = sym (append-nil old.frames);
       log = refl;
@@ -274,6 +278,7 @@ second_phase_calms net p m w n b a =
     record {
       fits = h.fits;
       now = h.now;
+      unknown = h.unknown;
       first_in = omega (arith, a.first_in, ap length h.frames, length-append (first_phase net w p).frames h.more);
       settled = settled;
       reached = λ c i keeps. le_antisymm (omega (arith, settled, (h.fits.views p c b.publisher i).horizon.settled)) (h.reached c i (inl (n.depth_in p c b.publisher i)) keeps);

@@ -13,7 +13,7 @@ use Rattle.gr_frame.specs.declared.Body.TheVariants as body
 use Rattle.gr_frame.specs.declared.Frame.{Frame}
 use Rattle.gr_tick.specs.Runs.{AreRuns, first_bottom_from, zip_runs}
 use Rattle.gr_know.specs.Values.{Known, known_at, is_Q, join_K, same_K}
-use Rattle.gr_curio.specs.Values.{Wanted, wanted_at, is_C}
+use Rattle.gr_curio.specs.Values.{Wanted, wanted_at, asked_at, is_C}
 use Rattle.gr_model.specs.Net.{Net, keeps_horizon, pass}
 use Rattle.gr_model.specs.Broker.{View, Log, Outcome, learn, receive, clashes, any_C, is_settled, forward, forward_wants, new_ticks, quenched, consolidated, finished}
 use Rattle.gr_model.specs.World.{World, view_of, log_of, absorbed, in_turn, deliver_frame, hand_down, frames_past, is_know_to, deliver_frame_by, hand_down_by}
@@ -32,6 +32,8 @@ use Rattle.gr_theorems.proofs.rules.Forwarding.{Has, TellsBody, pass_not_Q, is_Q
 use Rattle.gr_theorems.proofs.rules.Answering.{not_settled}
 use Rattle.gr_theorems.proofs.rules.Serves.{TellsKnown, known_of}
 use Rattle.gr_theorems.proofs.sweep.Path.{Has-past, Has-last}
+use Rattle.gr_theorems.proofs.sweep.SweepStates.{Unknowns}
+use Rattle.gr_theorems.proofs.sweep.FirstUnknown.{unknown_calls}
 
 -- The delivery of one Knowledge frame
 
@@ -297,13 +299,14 @@ risen net m p b w h =
 
 -- What else a turn leaves
 
--- frames are added, the log and the other brokers' views stay, no question is new, and no ask
+-- frames are added, the log and the other brokers' views stay, no question is new, and what is asked has the moment that it had
 pub record Leaves (net : Net) (old : World) (p b : ℕ) (w : World) (rest : List Frame) : Type 0 where
   pub more : List Frame
   pub frames : w.frames ≡ old.frames ++ more
   pub log : log_of w p ≡ log_of old p
   pub other : (c : ℕ) → c ≢ b → view_of w c p ≡ view_of old c p
-  pub asks : (view_of w b p).asks ≡ (view_of old b p).asks
+  pub unknown : Unknowns net w
+  pub asks : (t : ℕ) → any_C (view_of w b p).wants t ≡ true → asked_at (view_of w b p).asks t ≡ asked_at (view_of old b p).asks t
   pub wants : (t : ℕ) → any_C (view_of w b p).wants t ≡ true → any_C (view_of old b p).wants t ≡ true
 
 leaves_step : (net : Net) (old : World) → IsNet net → TurnKeeps net (Leaves net old)
@@ -313,13 +316,16 @@ leaves_step net old n w x runs fs f tr e h =
     let y = (deliver_frame net w x).world in
     let o = learned net w x runs in
     let d = delivered_know net w x runs n f tr e in
+    let unknown = (unknown_calls net n).delivered w x f tr tt h.unknown in
+    let before : (t : ℕ) → any_C (view_of y b p).wants t ≡ true → any_C (view_of w b p).wants t ≡ true = λ t c. d.old t (subst (λ z. any_C z.wants t ≡ true) d.taken.view c) in
     record {
       more = h.more ++ o.frames;
       frames = d.taken.frames ∙ (ap (λ (z : List Frame). z ++ o.frames) h.frames ∙ append_assoc old.frames h.more o.frames);
       log = d.taken.log ∙ (d.log ∙ h.log);
       other = λ c k. d.taken.other c p k ∙ h.other c k;
-      asks = ap (λ z. z.asks) d.taken.view ∙ (d.ticks.asks ∙ h.asks);
-      wants = λ t c. h.wants t (d.old t (subst (λ z. any_C z.wants t ≡ true) d.taken.view c));
+      unknown = unknown;
+      asks = λ t c. ap (λ z. asked_at z.asks t) d.taken.view ∙ (d.ticks.asks t (ap (λ z. known_at z.know t) (sym d.taken.view) ∙ unknown.any p b t tr.publisher_in tr.fits.to_in c) ∙ h.asks t (before t c));
+      wants = λ t c. h.wants t (before t c);
     }
 
 -- The whole turn
@@ -331,11 +337,11 @@ handed p first b w = filter (is_know_to p b) (frames_past first w.frames)
 handed_true : (net : Net) (p first b : ℕ) (w : World) → WorldFits net w → Each (FrameTrue net w) (handed p first b w)
 handed_true net p first b w f = filter_frames net w (is_know_to p b) (frames_past first w.frames) (frames_past_true net w first w.frames f.frames)
 
-pub turn_leaves : (net : Net) (p first : ℕ) (w : World) (b : ℕ) → IsNet net → WorldFits net w → Leaves net w p b (hand_down net p first w b).world []
+pub turn_leaves : (net : Net) (p first : ℕ) (w : World) (b : ℕ) → IsNet net → WorldFits net w → Unknowns net w → Leaves net w p b (hand_down net p first w b).world []
 unfolding hand_down_by
-turn_leaves net p first w b n f =
+turn_leaves net p first w b n f u =
     turn_keeps net (Leaves net w) n (leaves_step net w n) p b (handed p first b w) w f (handed_true net p first b w f) (all_know_to p b (frames_past first w.frames))
-    (record { more = []; frames = sym (append-nil w.frames); log = refl; other = λ c k. refl; asks = refl; wants = λ t c. c })
+    (record { more = []; frames = sym (append-nil w.frames); log = refl; other = λ c k. refl; unknown = u; asks = λ t c. refl; wants = λ t c. c })
 
 pub turn_tells : (net : Net) (c t first p b : ℕ) (w : World) → IsNet net → WorldFits net w → Waits net c t first p b w (handed p first b w) → Has (TellsKnown p b c t) (frames_past first (hand_down net p first w b).world.frames)
 unfolding hand_down_by

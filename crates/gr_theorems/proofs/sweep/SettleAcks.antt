@@ -13,7 +13,7 @@ use Rattle.gr_tick.specs.Runs.{AreRuns, points}
 use Rattle.gr_know.specs.Values.{Known, known_at, is_Q}
 use Rattle.gr_curio.specs.Values.{Wanted, wanted_at, asked_at, is_C, is_A, is_outstanding}
 use Rattle.gr_model.specs.Net.{Net, is_host, keeps_horizon, pass}
-use Rattle.gr_model.specs.Broker.{View, Log, know_frames, want_frames, all_A, any_C, consolidated, finished, forgotten, trimmed, max_tick, due, up_frames, place_of, answer, answers, curious, stored, acknowledged, curiosity}
+use Rattle.gr_model.specs.Broker.{View, Log, know_frames, want_frames, all_A, any_C, consolidated, finished, trimmed, trimmed_below, due, up_frames, place_of, answer, answers, curious, stored, acknowledged, curiosity}
 use Rattle.gr_model.specs.Tree.{IsDistinct}
 use Rattle.gr_theorems.specs.Truth.{Facts, WantsTruth}
 use Rattle.gr_theorems.specs.Fits.{ViewTrue}
@@ -94,7 +94,7 @@ unfolding trimmed
 trimmed_wants net p b v = go (is_host net p b)
   where
     less : View
-    less = record { know = forgotten net.cache (if keeps_horizon net p b then v.horizon else max_tick) v.know; wants = v.wants; asks = v.asks; horizon = v.horizon }
+    less = trimmed_below net p b v
 
     go : (q : Bool) → (let u : View = elim q [ true ↦ v | false ↦ less ] in u.wants) ≡ v.wants
     go true = refl

@@ -33,6 +33,8 @@ use Rattle.gr_theorems.proofs.rules.Serves.{receive_curiosity, frames_past_all}
 use Rattle.gr_theorems.proofs.sweep.Stays.{DeliveredWant, delivered_want, WokenBelow, woken_below}
 use Rattle.gr_theorems.proofs.sweep.Pending.{sent_up}
 use Rattle.gr_theorems.proofs.sweep.Rounds.{stands}
+use Rattle.gr_theorems.proofs.sweep.SweepStates.{Unknowns}
+use Rattle.gr_theorems.proofs.sweep.FirstUnknown.{unknown_calls}
 use Rattle.gr_theorems.proofs.sweep.SettleAcks.{quiet_frames, quiet_any_C, all_A_of}
 
 -- a Curiosity frame of the publisher that asks nothing
@@ -49,6 +51,7 @@ NoKnow f = (runs : Known) → f.body ≢ body.Knowledge runs
 -- in the third phase, with the brokers that are still to be woken and the upward frames that wait; base are the frames sent before the phase
 pub record Settling (net : Net) (p m : ℕ) (base : List Frame) (rest : List ℕ) (w : World) (pending : List Frame) : Type 0 where
   pub clock : w.clock ≡ m
+  pub unknown : Unknowns net w
   pub settled : (log_of w p).settled ≡ m
   pub reached : (b : ℕ) → b < net.brokers → keeps_horizon net p b ≡ true → (view_of w b p).horizon ≡ m
   pub asked : (b t : ℕ) → b < net.brokers → is_host net p b ≡ false → any_C (view_of w b p).wants t ≡ true → asked_at (view_of w b p).asks t ≡ At m
@@ -70,6 +73,7 @@ acks_delivered_here : (net : Net) (m : ℕ) (base : List Frame) (rest : List ℕ
 acks_delivered_here net m base rest w x fs n f tr s =
     record {
       clock = d.taken.clock ∙ s.clock;
+      unknown = unknown;
       settled = ap (λ l. l.settled) log ∙ s.settled;
       reached = λ b i k. elim (cases_eq b x.head.to) [
         | inl e ↦ subst (λ z. keeps_horizon net p z ≡ true → (view_of y z p).horizon ≡ m) (sym e) (λ k. ap (λ v. v.horizon) d.taken.view ∙ (d.ticks.horizon ∙ s.reached x.head.to tr.fits.to_in k)) k
@@ -105,6 +109,9 @@ acks_delivered_here net m base rest w x fs n f tr s =
     d : DeliveredWant net w y x a.runs o
     d = delivered_want net w x a.runs n f tr a.body
 
+    unknown : Unknowns net y
+    unknown = (unknown_calls net n).delivered w x f tr tt s.unknown
+
     log : log_of y p ≡ log_of w p
     log = d.taken.log ∙ receive_log net w.clock x (view_of w x.head.to p) (log_of w p)
 
@@ -125,7 +132,7 @@ acks_delivered_here net m base rest w x fs n f tr s =
     asked_here t host c =
         let before : any_C (view_of w x.head.to p).wants t ≡ true = quiet_any_C net (facts_of net w p) p x.head.to w.clock x.head.from t a.runs (view_of w x.head.to p) (log_of w p) (f.views p x.head.to tr.publisher_in tr.fits.to_in) here (subst (BodyTrue net (facts_of net w p) p x.head.from x.head.to) a.body tr.told) (a.quiet t)
         (ap (λ z. any_C z.view.wants t) (sym (receive_curiosity net w.clock x a.runs (view_of w x.head.to p) (log_of w p) a.body)) ∙ (ap (λ v. any_C v.wants t) (sym d.taken.view) ∙ c)) in
-        ap (λ v. asked_at v.asks t) d.taken.view ∙ ⊎_elim (λ z. z ∙ ap (λ k. At k) s.clock) (λ z. z ∙ s.asked x.head.to t tr.fits.to_in host before) (d.ticks.asks t)
+        ap (λ v. asked_at v.asks t) d.taken.view ∙ ⊎_elim (λ z. z ∙ ap (λ k. At k) s.clock) (λ z. z ∙ s.asked x.head.to t tr.fits.to_in host before) (d.ticks.asks t (ap (λ v. known_at v.know t) (sym d.taken.view) ∙ unknown.any p x.head.to t tr.publisher_in tr.fits.to_in c))
 
     stored : (b u t : ℕ) → list_any (λ z. nat_eq z b) (net.children p u) ≡ true → wanted_at (wants_of net p u (view_of w u p) b) t ≡ A → wanted_at (wants_of net p u (view_of y u p) b) t ≡ A
     stored b u t m e = elim (cases_eq u x.head.to) [
@@ -221,6 +228,7 @@ pub settling_woken : (net : Net) (p m : ℕ) (base : List Frame) (b : ℕ) (bs :
 settling_woken net p m base b bs w n r f i j host out s =
     subst (Settling net p m base bs y) (sym pending) (record {
       clock = k.taken.clock ∙ s.clock;
+      unknown = unknown;
       settled = ap (λ l. l.settled) log ∙ s.settled;
       reached = λ c x e. elim (cases_eq c b) [
         | inl g ↦ subst (λ z. keeps_horizon net p z ≡ true → (view_of y z p).horizon ≡ m) (sym g) (λ e. ap (λ v. v.horizon) k.taken.view ∙ (k.ticks.horizon ∙ s.reached b i e)) e
@@ -228,7 +236,7 @@ settling_woken net p m base b bs w n r f i j host out s =
       ];
       asked = λ c t x h e. elim (cases_eq c b) [
         | inl g ↦ subst (λ z. any_C (view_of y z p).wants t ≡ true → asked_at (view_of y z p).asks t ≡ At m) (sym g) (λ e.
-            ap (λ v. asked_at v.asks t) k.taken.view ∙ (k.ticks.asks t ∙ (ap (λ q. if is_C q then At w.clock else asked_at (view_of w b p).asks t) (asked_none t) ∙ s.asked b t i host (sym (ap (λ v. any_C v.wants t) k.taken.view ∙ ap (λ z. any_C z t) k.ticks.wants) ∙ e)))) e
+            ap (λ v. asked_at v.asks t) k.taken.view ∙ (k.ticks.asks t (ap (λ v. known_at v.know t) (sym k.taken.view) ∙ unknown.any p b t j i e) ∙ (ap (λ q. if is_C q then At w.clock else asked_at (view_of w b p).asks t) (asked_none t) ∙ s.asked b t i host (sym (ap (λ v. any_C v.wants t) k.taken.view ∙ ap (λ z. any_C z t) k.ticks.wants) ∙ e)))) e
         | inr g ↦ ap (λ v. asked_at v.asks t) (k.taken.other c p g) ∙ s.asked c t x h (sym (ap (λ v. any_C v.wants t) (k.taken.other c p g)) ∙ e)
       ];
       plain = acks;
@@ -252,6 +260,9 @@ settling_woken net p m base b bs w n r f i j host out s =
 
     k : WokenBelow net w y b p o
     k = woken_below net w b p f i j host
+
+    unknown : Unknowns net y
+    unknown = (unknown_calls net n).woken w b p f i j s.unknown
 
     log : log_of y p ≡ log_of w p
     log = k.taken.log ∙ wake_below_log net p b w.clock (view_of w b p) (log_of w p) host
@@ -395,6 +406,7 @@ unfolding wake_for_by
 settling_host net p m base b bs w n r f i j host out s =
     subst (Settling net p m base bs y) (sym pending) (record {
       clock = k.clock ∙ s.clock;
+      unknown = (unknown_calls net n).woken w b p f i j s.unknown;
       settled = ap (λ l. l.settled) k.log ∙ (h.settled ∙ s.settled);
       reached = λ c x e. ap (λ v. v.horizon) (same c) ∙ s.reached c x e;
       asked = λ c t x q e. ap (λ v. asked_at v.asks t) (same c) ∙ s.asked c t x q (ap (λ v. any_C v.wants t) (sym (same c)) ∙ e);

@@ -90,16 +90,17 @@ stores_stay net w x runs p u c t n f tr e child na s =
       | inr g ↦ same_stores net w y p u c t (d.taken.other u p g) s
     ]
 
--- an ask of this moment stays noted where a Curiosity frame is delivered
-pub noted_stays : (net : Net) (w : World) (x : Frame) (runs : Wanted) (p u t : ℕ) → IsNet net → WorldFits net w → FrameTrue net w x → x.body ≡ body.Curiosity runs → asked_at (view_of w u p).asks t ≡ At w.clock → asked_at (view_of (deliver_frame net w x).world u p).asks t ≡ At w.clock
-noted_stays net w x runs p u t n f tr e s =
+-- an ask of this moment stays noted where a Curiosity frame is delivered, if the tick is unknown then
+pub noted_stays : (net : Net) (w : World) (x : Frame) (runs : Wanted) (p u t : ℕ) → IsNet net → WorldFits net w → FrameTrue net w x → x.body ≡ body.Curiosity runs → known_at (view_of (deliver_frame net w x).world u p).know t ≡ Q → asked_at (view_of w u p).asks t ≡ At w.clock → asked_at (view_of (deliver_frame net w x).world u p).asks t ≡ At w.clock
+noted_stays net w x runs p u t n f tr e unknown s =
     let y = (deliver_frame net w x).world in
     let d = delivered_want net w x runs n f tr e in
     elim (cases_eq u x.head.to) [
       | inl g ↦ elim (cases_eq p x.head.publisher) [
         | inl k ↦
+            let gone = ap (λ z. known_at z.know t) (sym d.taken.view) ∙ subst (λ z. known_at (view_of y z x.head.publisher).know t ≡ Q) g (subst (λ z. known_at (view_of y u z).know t ≡ Q) k unknown) in
             subst (λ z. asked_at (view_of y u z).asks t ≡ At w.clock) (sym k) (subst (λ z. asked_at (view_of y z x.head.publisher).asks t ≡ At w.clock) (sym g)
-            (ap (λ z. asked_at z.asks t) d.taken.view ∙ ⊎_elim (λ z. z) (λ z. z ∙ subst (λ z. asked_at (view_of w z x.head.publisher).asks t ≡ At w.clock) g (subst (λ z. asked_at (view_of w u z).asks t ≡ At w.clock) k s)) (d.ticks.asks t)))
+            (ap (λ z. asked_at z.asks t) d.taken.view ∙ ⊎_elim (λ z. z) (λ z. z ∙ subst (λ z. asked_at (view_of w z x.head.publisher).asks t ≡ At w.clock) g (subst (λ z. asked_at (view_of w u z).asks t ≡ At w.clock) k s)) (d.ticks.asks t gone)))
         | inr k ↦ ap (λ z. asked_at z.asks t) (d.taken.other_publisher u p k) ∙ s
       ]
       | inr g ↦ ap (λ z. asked_at z.asks t) (d.taken.other u p g) ∙ s

@@ -57,6 +57,7 @@ pub record Asked (net : Net) (p s m first : ℕ) (w : World) : Type 0 where
 pub record Calm (net : Net) (p m first : ℕ) (w : World) : Type 0 where
   pub fits : WorldFits net w
   pub now : AsksNow net m w
+  pub unknown : Unknowns net w
   pub first_in : first ≤ length w.frames
   pub settled : (log_of w p).settled ≡ m
   pub reached : (b : ℕ) → b < net.brokers → keeps_horizon net p b ≡ true → (view_of w b p).horizon ≡ m

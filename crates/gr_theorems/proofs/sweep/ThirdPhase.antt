@@ -55,6 +55,7 @@ pub third_phase_cuts : (net : Net) (p m first : ℕ) (w : World) → IsNet net �
 third_phase_cuts net p m first w n z r j c =
     let s = settling_turns net p m w.frames (inwards net p) w n z r c.fits (depths_in net p (numbers_down net.brokers)) j (inwards_falls net p) (record {
       clock = c.now.clock;
+      unknown = c.unknown;
       settled = c.settled;
       reached = c.reached;
       asked = c.asked;
