@@ -20,6 +20,11 @@ pub use Rattle.gr_publog.specs.Kept.{is_kept}
 pub use Rattle.gr_publog.specs.State.{max_tick}
 pub use Rattle.gr_pubend.specs.Log.{Log, empty_log, with_event, with_mark, with_cut, event_at, log_at, event_points}
 unfoldable pub use Rattle.gr_pubend.specs.Log.{log_know, silence}
+use Rattle.gr_pubend.specs.declared.answers.Published.{Published}
+use Rattle.gr_pubend.specs.declared.answers.Published.TheVariants as publishes
+use Rattle.gr_pubend.specs.declared.answers.Quieted.{Quieted}
+use Rattle.gr_pubend.specs.declared.answers.Quieted.TheVariants as quiets
+unfoldable pub use Rattle.gr_pubend.specs.Answers.{published, quieted}
 pub use Rattle.gr_subend.specs.Horizon.{data_of_run}
 unfoldable pub use Rattle.gr_subend.specs.Horizon.{horizon_after, data_ticks}
 pub use Rattle.gr_know.specs.Forget.{data_count, without_front}
@@ -270,22 +275,26 @@ expect net p b now tick v log =
 
 -- The publisher
 
--- a publish: said already, out of turn, past the last tick, or logged at its tick and then learned with the silence before it
+-- nothing happened
+abbrev pub unmoved : View → Log → Outcome
+unmoved v log = record { view = v; log = log; lines = []; frames = [] }
+
+-- only a line is told
+abbrev pub says : View → Log → Report → Outcome
+says v log l = record { view = v; log = log; lines = l ∷ []; frames = [] }
+
+-- a publish, by its answer: a line alone, or the event is logged and learned with the silence before it
+abbrev pub publish_by : Net → ℕ → ℕ → ℕ → Event → View → Log → Published → Outcome
+publish_by net p b number e v log (publishes.Logged tick fresh) =
+    let o = learn net p b fresh v (with_event log tick e) in
+    record { view = o.view; log = o.log; lines = line.Logged p number tick ∷ o.lines; frames = o.frames }
+publish_by net p b number e v log publishes.Already = says v log (line.Already p number)
+publish_by net p b number e v log (publishes.Gap next) = says v log (line.Gap p number next)
+publish_by net p b number e v log publishes.Exhausted = says v log (line.Exhausted p number)
+
+-- a publish: said already, out of turn, past the last tick, or logged
 unfoldable pub publish : Net → ℕ → ℕ → ℕ → ℕ → Event → View → Log → Outcome
-publish net p b now number e v log =
-    let tick = max (suc log.settled) now in
-    elim (nat_le number log.last) [
-      | true ↦ record { view = v; log = log; lines = line.Already p number ∷ []; frames = [] }
-      | false ↦ elim (nat_lt (suc log.last) number) [
-        | true ↦ record { view = v; log = log; lines = line.Gap p number (suc log.last) ∷ []; frames = [] }
-        | false ↦ elim (nat_lt max_tick tick) [
-          | true ↦ record { view = v; log = log; lines = line.Exhausted p number ∷ []; frames = [] }
-          | false ↦
-              let o = learn net p b (silence (suc log.settled) (tick - 1) (record { first = tick; last = tick; value = D e } ∷ [])) v (with_event log tick e) in
-              record { view = o.view; log = o.log; lines = line.Logged p number tick ∷ o.lines; frames = o.frames }
-        ]
-      ]
-    ]
+publish net p b now number e v log = publish_by net p b number e v log (published log number e now)
 
 -- the greatest tick up to which all is consolidated
 unfoldable pub done_upto : Wanted → ℕ → ℕ
@@ -297,17 +306,14 @@ cutting net p b v log =
     let a = done_upto (consolidated (keeps_horizon net p b) v.horizon v.wants) log.settled in
     if nat_lt log.cut a then with_cut log a else log
 
--- the silence up to a tick is learned, which a new record of the log settled
-abbrev pub silent_upto : Net → ℕ → ℕ → ℕ → View → Log → Log → Outcome
-silent_upto net p b tick v log new = learn net p b (silence (suc log.settled) tick []) v new
+-- a time of silence, by its answer: the log is marked and the silence learned, or it was not silent for long
+abbrev pub marking_by : Net → ℕ → ℕ → View → Log → Quieted → Outcome
+marking_by net p b v log (quiets.Marked tick fresh) = learn net p b fresh v (with_mark log tick)
+marking_by net p b v log quiets.NotYet = unmoved v log
 
 -- a log that was silent for long is marked
 unfoldable pub marking : Net → ℕ → ℕ → ℕ → View → Log → Outcome
-marking net p b now v log =
-    elim (nat_le (log.settled + net.quiet) now) [
-      | true ↦ silent_upto net p b now v log (with_mark log now)
-      | false ↦ record { view = v; log = log; lines = []; frames = [] }
-    ]
+marking net p b now v log = marking_by net p b v log (quieted log now net.quiet)
 
 -- the host is woken: it marks, cuts, and tells its children what to expect
 unfoldable pub wake_host : Net → ℕ → ℕ → ℕ → View → Log → Outcome

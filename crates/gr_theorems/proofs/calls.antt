@@ -3,6 +3,7 @@ pub mod Pieces
 pub mod Passed
 pub mod TruthTicks
 pub mod CallTruth
+pub mod HostCases
 pub mod Calls
 pub mod Told
 pub mod Telling

@@ -18,6 +18,7 @@ use Rattle.gr_know.specs.Values.{Known, known_at, is_Q, is_D, join_K, new_K}
 use Rattle.gr_curio.specs.Values.{Wanted, Asked, wanted_at, asked_at, is_C, is_A, is_outstanding}
 use Rattle.gr_model.specs.Net.{Net, keeps_horizon, is_host, pass}
 use Rattle.gr_model.specs.Broker.{View, Log, Outcome, max_tick, is_F, know_frames, expect_frame, up_frames, is_settled, any_C, data_count, place_of, told, with_event, with_mark, with_cut}
+pub use Rattle.gr_model.specs.Broker.{unmoved, says}
 use Rattle.gr_theorems.specs.Said.{said_at, TicksRise}
 
 -- Pieces: the list of runs that has this value at each tick. There is exactly one.
@@ -190,10 +191,6 @@ pub record Expects (net : Net) (p b now tick : ℕ) (v : View) (log : Log) (o : 
 
 -- The host
 
--- nothing happened so far
-abbrev pub unmoved : View → Log → Outcome
-unmoved v log = record { view = v; log = log; lines = []; frames = [] }
-
 -- silence on the ticks past a settled one and up to now
 abbrev pub silence_upto : ℕ → ℕ → ℕ → K
 silence_upto settled now t = if nat_lt settled t && nat_le t now then S else Q
@@ -230,10 +227,6 @@ pub record HostWakes (net : Net) (p b now : ℕ) (v : View) (log : Log) (o : Out
 pub record Wakes (net : Net) (p b now : ℕ) (v : View) (log : Log) (o : Outcome) : Type 0 where
   pub host : is_host net p b ≡ true → HostWakes net p b now v log o
   pub below : is_host net p b ≡ false → Asks net p b now (wanted_by_age net p b now v) [] v log o
-
--- a publish that only tells a line
-abbrev pub says : View → Log → Report → Outcome
-says v log l = record { view = v; log = log; lines = l ∷ []; frames = [] }
 
 -- the event at its tick, and silence between what was settled and that tick
 abbrev pub event_upto : ℕ → ℕ → Event → ℕ → K

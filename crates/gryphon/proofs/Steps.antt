@@ -12,7 +12,7 @@ use Rattle.gr_sched.specs.declared.step.Step.TheVariants.{Clock, Publish, Delive
 use Rattle.gr_model.specs.declared.report.Report.{Report}
 use Rattle.gr_model.specs.declared.report.Report.TheVariants as line
 use Rattle.gr_model.specs.Blank.{net0}
-use Rattle.gr_model.specs.Broker.{started, log_know, max_tick, View, Log, publish, receive, clashes, with_event}
+use Rattle.gr_model.specs.Broker.{started, log_know, max_tick, View, Log, publish, receive, clashes, with_event, published}
 use Rattle.gr_model.specs.World.{next, publish_now, deliver_frame, absorbed, sent_line, start, deliver_frame_by, next_by, publish_now_by}
 use Rattle.gryphon.specs.World.{world_of, log_of_events, host_view, downward, EventsUpto, Tells, Takes, passed_lines}
 use Rattle.gryphon.proofs.Host.{learn-host, IsGrown}
@@ -32,25 +32,25 @@ clock_step clock most last settled events sent know horizon n now = refl
 
 -- a publish that was there already
 already_call : (now number : ℕ) (e : Event) (v : View) (log : Log) → number ≤ log.last → publish net0 0 0 now number e v log ≡ record { view = v; log = log; lines = line.Already 0 number ∷ []; frames = [] }
-unfolding publish
-already_call now number e v log h = rw (publish, le-leb number log.last h) refl
+unfolding publish published
+already_call now number e v log h = rw (publish, published, le-leb number log.last h) refl
 
 -- a publish that skips a number
 gap_call : (now number : ℕ) (e : Event) (v : View) (log : Log) → suc log.last < number → publish net0 0 0 now number e v log ≡ record { view = v; log = log; lines = line.Gap 0 number (suc log.last) ∷ []; frames = [] }
-unfolding publish
-gap_call now number e v log h = rw (publish, lt-leb number log.last (omega arith), lt_true (suc log.last) number h) refl
+unfolding publish published
+gap_call now number e v log h = rw (publish, published, lt-leb number log.last (omega arith), lt_true (suc log.last) number h) refl
 
 -- a publish whose tick would pass the last tick
 exhausted_call : (now number : ℕ) (e : Event) (v : View) (log : Log) → log.last < number → number ≤ suc log.last → max_tick < max (suc log.settled) now → publish net0 0 0 now number e v log ≡ record { view = v; log = log; lines = line.Exhausted 0 number ∷ []; frames = [] }
-unfolding publish
-exhausted_call now number e v log lo hi h = rw (publish, lt-leb number log.last lo, lt_false (suc log.last) number hi, lt_true max_tick (max (suc log.settled) now) h) refl
+unfolding publish published
+exhausted_call now number e v log lo hi h = rw (publish, published, lt-leb number log.last lo, lt_false (suc log.last) number hi, lt_true max_tick (max (suc log.settled) now) h) refl
 
 -- a publish that is logged
 logged_call : (now number : ℕ) (e : Event) (log new : Log) → log.last < number → number ≤ suc log.last → max (suc log.settled) now ≤ max_tick → with_event log (max (suc log.settled) now) e ≡ new → IsGrown log new (news log.settled (max (suc log.settled) now) e) →
     publish net0 0 0 now number e (host_view log) log ≡ record { view = host_view new; log = new; lines = line.Logged 0 number (max (suc log.settled) now) ∷ []; frames = downward (news log.settled (max (suc log.settled) now) e) ∷ [] }
-unfolding publish
+unfolding publish published
 logged_call now number e log new lo hi inside w g =
-    rw (publish, lt-leb number log.last lo, lt_false (suc log.last) number hi, lt_false max_tick (max (suc log.settled) now) inside, w, learn-host log new (news log.settled (max (suc log.settled) now) e) g) refl
+    rw (publish, published, lt-leb number log.last lo, lt_false (suc log.last) number hi, lt_false max_tick (max (suc log.settled) now) inside, w, learn-host log new (news log.settled (max (suc log.settled) now) e) g) refl
 
 -- the log with the event
 logged_log : (last settled tick : ℕ) (events : List (ℕ × Event)) (e : Event) → with_event (log_of_events last settled events) tick e ≡ log_of_events (suc last) tick (events ++ (tick, e) ∷ [])

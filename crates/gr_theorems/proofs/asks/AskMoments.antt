@@ -5,22 +5,21 @@ use Rattle.std.specs.List.{list_any}
 use Rattle.std.proofs.lemmas.Bool.{cases_eq, false≢true, eq-eqb, or_left, or_right}
 use Rattle.std.proofs.lemmas.List.{get_or-set_other, get_or-set_same}
 use Rattle.gr_event.specs.declared.event.Event.{Event}
-use Rattle.gr_know.specs.declared.values.K.TheVariants.{D}
 use Rattle.gr_tick.specs.declared.run.Run.{Run}
 use Rattle.gr_frame.specs.declared.Body.{Body}
 use Rattle.gr_frame.specs.declared.Body.TheVariants as body
 use Rattle.gr_frame.specs.declared.Frame.{Frame}
 use Rattle.gr_sched.specs.declared.step.Line.{Line}
-use Rattle.gr_model.specs.declared.report.Report.TheVariants as line
 use Rattle.gr_tick.specs.Runs.{value_at, put_on, put, tabulate_from, tabulate_sorted, tabulate, sorted, points}
 use Rattle.gr_know.specs.Values.{Known, known_at, is_Q}
 use Rattle.gr_curio.specs.Values.{Wanted, Asked, wanted_at, asked_at, is_C, same_moment}
 use Rattle.gr_model.specs.Net.{Net, is_host, keeps_horizon, numbers}
-use Rattle.gr_model.specs.Broker.{View, Log, Outcome, know_frames, want_frames, expect_frame, all_points, any_C, consolidated, finished, is_F, open_asks, trimmed, trimmed_below, forward, new_ticks, forward_frames, learn, max_tick, due, noted, up_frames, asking, answers, stored, acknowledged, curiosity, wake_below, wanted_at_wake, expect, expect_frames, covers, place_of, publish, silence, with_event, with_mark, marking, cutting, wake_host, wake, receive, clashes, empty_log, started, head}
+use Rattle.gr_model.specs.Broker.{View, Log, Outcome, know_frames, want_frames, expect_frame, all_points, any_C, consolidated, finished, is_F, open_asks, trimmed, trimmed_below, forward, new_ticks, forward_frames, learn, due, noted, up_frames, asking, answers, stored, acknowledged, curiosity, wake_below, wanted_at_wake, expect, expect_frames, covers, place_of, publish, silence, with_mark, marking, cutting, wake_host, wake, receive, clashes, empty_log, started, head}
 use Rattle.gr_frame.specs.Bytes.{known_run_size, wanted_run_size, cut_frames}
 use Rattle.gr_model.specs.World.{World, blank_view, view_of, log_of, with_view, absorbed, wake_for, deliver_frame, publish_now, restarted, start, run_all, deliver_frame_by, publish_now_by, wake_for_by}
 use Rattle.gr_model.specs.Tree.{IsNet}
 use Rattle.gr_theorems.specs.Fits.{BodyFits, WorldFits, FrameTrue, StepsIn}
+use Rattle.gr_theorems.proofs.calls.HostCases.{publish_cases, marking_cases}
 use Rattle.gr_theorems.proofs.calls.Calls.{trimmed_host}
 use Rattle.gr_theorems.proofs.runs.Worlds.{Each}
 use Rattle.gr_theorems.proofs.runs.Schedules.{get_numbers}
@@ -166,15 +165,10 @@ curiosity_asks net p b now c i piece v log =
     asked q = elim q [ true ↦ [] | false ↦ due now net.retry know v.asks (λ t. is_C (wanted_at piece t) && is_Q (known_at reply t)) (points piece ++ points reply) ]
 
 marking_asks : (net : Net) (p b now : ℕ) (v : View) (log : Log) → KeepsAsks net p b now v (marking net p b now v log)
-unfolding marking
-marking_asks net p b now v log = go (nat_le (log.settled + net.quiet) now)
-  where
-    o : Outcome
-    o = learn net p b (silence (suc log.settled) now []) v (with_mark log now)
-
-    go : (q : Bool) → KeepsAsks net p b now v (elim q [ true ↦ record { view = o.view; log = o.log; lines = o.lines; frames = o.frames } | false ↦ record { view = v; log = log; lines = []; frames = [] } ])
-    go true = of_view net p b now v o (record { view = o.view; log = o.log; lines = o.lines; frames = o.frames }) refl (learn_asks net p b now (silence (suc log.settled) now []) v (with_mark log now))
-    go false = same_asks net p b now v (record { view = v; log = log; lines = []; frames = [] }) refl
+marking_asks net p b now v log = record {
+  all = λ P z h a. marking_cases net p b now v log (λ o. AllValues P o.view.asks) (λ e. (learn_asks net p b now _ v _).all P z h a) (λ e. a);
+  host = λ h x. marking_cases net p b now v log (λ o. o.view.asks ≡ []) (λ e. (learn_asks net p b now _ v _).host h x) (λ e. x);
+}
 
 pub wake_asks : (net : Net) (p b now : ℕ) (v : View) (log : Log) → KeepsAsks net p b now v (wake net p b now v log)
 unfolding wake wake_host wake_below
@@ -217,20 +211,10 @@ receive_asks net now f v log = go f.body
     go (body.Expect tick) h = record { all = λ P z x a. expect_all net f.head.publisher f.head.to now tick v log P z x a; host = λ e x. absurd (false≢true (sym h ∙ e)) }
 
 publish_asks : (net : Net) (p b now number : ℕ) (e : Event) (v : View) (log : Log) → KeepsAsks net p b now v (publish net p b now number e v log)
-unfolding publish
-publish_asks net p b now number e v log = at (nat_le number log.last) (nat_lt (suc log.last) number) (nat_lt max_tick tick)
-  where
-    tick : ℕ
-    tick = max (suc log.settled) now
-
-    o : Outcome
-    o = learn net p b (silence (suc log.settled) (tick - 1) (record { first = tick; last = tick; value = D e } ∷ [])) v (with_event log tick e)
-
-    at : (x y z : Bool) → KeepsAsks net p b now v (elim x [ true ↦ record { view = v; log = log; lines = line.Already p number ∷ []; frames = [] } | false ↦ elim y [ true ↦ record { view = v; log = log; lines = line.Gap p number (suc log.last) ∷ []; frames = [] } | false ↦ elim z [ true ↦ record { view = v; log = log; lines = line.Exhausted p number ∷ []; frames = [] } | false ↦ record { view = o.view; log = o.log; lines = line.Logged p number tick ∷ o.lines; frames = o.frames } ] ] ])
-    at true y z = same_asks net p b now v (record { view = v; log = log; lines = line.Already p number ∷ []; frames = [] }) refl
-    at false true z = same_asks net p b now v (record { view = v; log = log; lines = line.Gap p number (suc log.last) ∷ []; frames = [] }) refl
-    at false false true = same_asks net p b now v (record { view = v; log = log; lines = line.Exhausted p number ∷ []; frames = [] }) refl
-    at false false false = of_view net p b now v o (record { view = o.view; log = o.log; lines = line.Logged p number tick ∷ o.lines; frames = o.frames }) refl (learn_asks net p b now (silence (suc log.settled) (tick - 1) (record { first = tick; last = tick; value = D e } ∷ [])) v (with_event log tick e))
+publish_asks net p b now number e v log = record {
+  all = λ P z h a. publish_cases net p b now number e v log (λ o. AllValues P o.view.asks) (λ l. a) (λ l. a) (λ x l. a) (λ x l. (learn_asks net p b now _ v _).all P z h a);
+  host = λ h x. publish_cases net p b now number e v log (λ o. o.view.asks ≡ []) (λ l. x) (λ l. x) (λ y l. x) (λ y l. (learn_asks net p b now _ v _).host h x);
+}
 
 -- Frames of a call
 
@@ -287,15 +271,7 @@ unfolding expect
 expect_call_frames_fit net p b now tick v log h = Each-on (ExpectFits net) _ _ (asking_frames_fit net p b now _ _ v log) (expect_frames_fit net p b tick (net.children p b) v.wants h)
 
 marking_frames_fit : (net : Net) (p b now : ℕ) (v : View) (log : Log) → ((c : ℕ) → list_any (λ x. nat_eq x c) (net.children p b) ≡ true → is_host net p c ≡ false) → Each (ExpectFits net) (marking net p b now v log).frames
-unfolding marking
-marking_frames_fit net p b now v log h = go (nat_le (log.settled + net.quiet) now)
-  where
-    o : Outcome
-    o = learn net p b (silence (suc log.settled) now []) v (with_mark log now)
-
-    go : (q : Bool) → Each (ExpectFits net) (let x : Outcome = elim q [ true ↦ record { view = o.view; log = o.log; lines = o.lines; frames = o.frames } | false ↦ record { view = v; log = log; lines = []; frames = [] } ] in x.frames)
-    go true = learn_frames_fit net p b (silence (suc log.settled) now []) v (with_mark log now) h
-    go false = tt
+marking_frames_fit net p b now v log h = marking_cases net p b now v log (λ o. Each (ExpectFits net) o.frames) (λ e. learn_frames_fit net p b (silence (suc log.settled) now []) v (with_mark log now) h) (λ e. tt)
 
 pub wake_frames_fit : (net : Net) (p b now : ℕ) (v : View) (log : Log) → ((c : ℕ) → list_any (λ x. nat_eq x c) (net.children p b) ≡ true → is_host net p c ≡ false) → Each (ExpectFits net) (wake net p b now v log).frames
 unfolding wake wake_host wake_below
@@ -330,26 +306,7 @@ receive_frames_fit net now f v log h fits = go f.body fits
     go (body.Expect tick) m = expect_call_frames_fit net f.head.publisher f.head.to now tick v log h
 
 publish_frames_fit : (net : Net) (p b now number : ℕ) (e : Event) (v : View) (log : Log) → ((c : ℕ) → list_any (λ x. nat_eq x c) (net.children p b) ≡ true → is_host net p c ≡ false) → Each (ExpectFits net) (publish net p b now number e v log).frames
-unfolding publish
-publish_frames_fit net p b now number e v log h = first (nat_le number log.last)
-  where
-    tick : ℕ
-    tick = max (suc log.settled) now
-
-    o : Outcome
-    o = learn net p b (silence (suc log.settled) (tick - 1) (record { first = tick; last = tick; value = D e } ∷ [])) v (with_event log tick e)
-
-    third : (q : Bool) → Each (ExpectFits net) (let x : Outcome = elim q [ true ↦ record { view = v; log = log; lines = line.Exhausted p number ∷ []; frames = [] } | false ↦ record { view = o.view; log = o.log; lines = line.Logged p number tick ∷ o.lines; frames = o.frames } ] in x.frames)
-    third true = tt
-    third false = learn_frames_fit net p b (silence (suc log.settled) (tick - 1) (record { first = tick; last = tick; value = D e } ∷ [])) v (with_event log tick e) h
-
-    second : (q : Bool) → Each (ExpectFits net) (let x : Outcome = elim q [ true ↦ record { view = v; log = log; lines = line.Gap p number (suc log.last) ∷ []; frames = [] } | false ↦ elim (nat_lt max_tick tick) [ true ↦ record { view = v; log = log; lines = line.Exhausted p number ∷ []; frames = [] } | false ↦ record { view = o.view; log = o.log; lines = line.Logged p number tick ∷ o.lines; frames = o.frames } ] ] in x.frames)
-    second true = tt
-    second false = third (nat_lt max_tick tick)
-
-    first : (q : Bool) → Each (ExpectFits net) (let x : Outcome = elim q [ true ↦ record { view = v; log = log; lines = line.Already p number ∷ []; frames = [] } | false ↦ elim (nat_lt (suc log.last) number) [ true ↦ record { view = v; log = log; lines = line.Gap p number (suc log.last) ∷ []; frames = [] } | false ↦ elim (nat_lt max_tick tick) [ true ↦ record { view = v; log = log; lines = line.Exhausted p number ∷ []; frames = [] } | false ↦ record { view = o.view; log = o.log; lines = line.Logged p number tick ∷ o.lines; frames = o.frames } ] ] ] in x.frames)
-    first true = tt
-    first false = second (nat_lt (suc log.last) number)
+publish_frames_fit net p b now number e v log h = publish_cases net p b now number e v log (λ o. Each (ExpectFits net) o.frames) (λ l. tt) (λ l. tt) (λ x l. tt) (λ x l. learn_frames_fit net p b _ v _ h)
 
 -- Worlds
 

@@ -12,18 +12,18 @@ use Rattle.gr_frame.specs.declared.Body.{Body}
 use Rattle.gr_frame.specs.declared.Body.TheVariants as body
 use Rattle.gr_frame.specs.declared.Frame.{Frame}
 use Rattle.gr_model.specs.declared.report.Report.{Report}
-use Rattle.gr_model.specs.declared.report.Report.TheVariants as line
 use Rattle.gr_tick.specs.Runs.{AreRuns, AreRunsFrom, StartsApart, zip_runs}
 use Rattle.gr_know.specs.Values.{Known, known_at, join_K, same_K}
 use Rattle.gr_curio.specs.Values.{Wanted, wanted_at, is_A}
 use Rattle.gr_event.specs.Event.{same_event}
 use Rattle.gr_model.specs.Net.{Net, is_host, keeps_horizon}
-use Rattle.gr_model.specs.Broker.{View, Log, Outcome, know_frames, want_frames, expect_frame, is_settled, consolidated, finished, trimmed, trimmed_below, new_ticks, forward, forward_frames, learn, max_tick, up_frames, asking, curiosity, wake_below, expect, expect_frames, covers, place_of, publish, silence, with_event, with_mark, with_cut, marking, cutting, done_upto, wake_host, wake, receive, clashes, head}
+use Rattle.gr_model.specs.Broker.{View, Log, Outcome, know_frames, want_frames, expect_frame, is_settled, consolidated, finished, trimmed, trimmed_below, new_ticks, forward, forward_frames, learn, up_frames, asking, curiosity, wake_below, expect, expect_frames, covers, place_of, publish, silence, with_event, with_mark, with_cut, marking, cutting, done_upto, wake_host, wake, receive, clashes, head}
 use Rattle.gr_frame.specs.Bytes.{known_run_size, wanted_run_size, cut_frames}
 use Rattle.gr_theorems.specs.Truth.{Facts, TrueS, TrueF, IsTrueAt, KnowsTruth, WantsTruth, AllWantTruth, IsLater}
 use Rattle.gr_model.specs.Tree.{IsPlace, IsNet}
 use Rattle.gr_theorems.specs.Said.{said_at, TicksRise}
 use Rattle.gr_theorems.specs.Fits.{facts, LogFits, IsHorizon, ViewTrue, HostKnows, CutTrue, BodyTrue, BodyFits, FrameFits, AllFit}
+use Rattle.gr_theorems.proofs.calls.HostCases.{publish_cases, marking_cases}
 use Rattle.gr_tick.proofs.RunLaws.{first_bottom_from-is, value_at-in, value_at-below, value_at-above}
 use Rattle.gr_theorems.proofs.calls.TruthTicks.{TrueF-later, concerns_none}
 use Rattle.gr_theorems.proofs.calls.Told.{said_at-here, said_at-past, said_append, rises_append, TicksUpto}
@@ -403,30 +403,13 @@ still_call : (net : Net) (p b : ℕ) (v : View) (log : Log) (reached : ℕ → �
 still_call net p b v log reached ls fit h = quiet_call net p b v log reached (record { view = v; log = log; lines = ls; frames = [] }) fit refl refl (record { view = h; frames = tt }) (λ q k. k) tt
 
 pub publish_call : (net : Net) (p b now number : ℕ) (e : Event) (v : View) (log : Log) (reached : ℕ → ℕ) → IsNet net → p < net.publishers → b < net.brokers → is_host net p b ≡ true → LogFits log → ViewTrue net (facts log reached) p b v → CallTrue net p b v log reached (publish net p b now number e v log)
-unfolding publish
-publish_call net p b now number e v log reached n i j host fit h = first (nat_le number log.last)
-  where
-    tick : ℕ
-    tick = max (suc log.settled) now
-
-    o : Outcome
-    o = learn net p b (silence (suc log.settled) (tick - 1) (run_at tick tick (D e) ∷ [])) v (with_event log tick e)
-
-    third : (q : Bool) → CallTrue net p b v log reached (elim q [ true ↦ record { view = v; log = log; lines = line.Exhausted p number ∷ []; frames = [] } | false ↦ record { view = o.view; log = o.log; lines = line.Logged p number tick ∷ o.lines; frames = o.frames } ])
-    third true = still_call net p b v log reached _ fit h
-    third false = publishing_call net p b tick e v log reached _ n i j host fit h (omega arith)
-
-    second : (q : Bool) → CallTrue net p b v log reached (elim q [ true ↦ record { view = v; log = log; lines = line.Gap p number (suc log.last) ∷ []; frames = [] } | false ↦ elim (nat_lt max_tick tick) [ true ↦ record { view = v; log = log; lines = line.Exhausted p number ∷ []; frames = [] } | false ↦ record { view = o.view; log = o.log; lines = line.Logged p number tick ∷ o.lines; frames = o.frames } ] ])
-    second true = still_call net p b v log reached _ fit h
-    second false = third (nat_lt max_tick tick)
-
-    first : (q : Bool) → CallTrue net p b v log reached (elim q [ true ↦ record { view = v; log = log; lines = line.Already p number ∷ []; frames = [] } | false ↦ elim (nat_lt (suc log.last) number) [ true ↦ record { view = v; log = log; lines = line.Gap p number (suc log.last) ∷ []; frames = [] } | false ↦ elim (nat_lt max_tick tick) [ true ↦ record { view = v; log = log; lines = line.Exhausted p number ∷ []; frames = [] } | false ↦ record { view = o.view; log = o.log; lines = line.Logged p number tick ∷ o.lines; frames = o.frames } ] ] ])
-    first true = still_call net p b v log reached _ fit h
-    first false = second (nat_lt (suc log.last) number)
+publish_call net p b now number e v log reached n i j host fit h =
+    publish_cases net p b now number e v log (CallTrue net p b v log reached)
+    (λ l. still_call net p b v log reached _ fit h) (λ l. still_call net p b v log reached _ fit h) (λ x l. still_call net p b v log reached _ fit h)
+    (λ x l. publishing_call net p b (max (suc log.settled) now) e v log reached _ n i j host fit h (omega arith))
 
 pub marking_call : (net : Net) (p b now : ℕ) (v : View) (log : Log) (reached : ℕ → ℕ) → IsNet net → p < net.publishers → b < net.brokers → is_host net p b ≡ true → LogFits log → ViewTrue net (facts log reached) p b v → CallTrue net p b v log reached (marking net p b now v log)
-unfolding marking
-marking_call net p b now v log reached n i j host fit h = go (nat_le (log.settled + net.quiet) now) refl
+marking_call net p b now v log reached n i j host fit h = marking_cases net p b now v log (CallTrue net p b v log reached) marked (λ e. still_call net p b v log reached [] fit h)
   where
     new : Log
     new = with_mark log now
@@ -437,9 +420,8 @@ marking_call net p b now v log reached n i j host fit h = go (nat_le (log.settle
     o : Outcome
     o = learn net p b piece v new
 
-    go : (q : Bool) → nat_le (log.settled + net.quiet) now ≡ q → CallTrue net p b v log reached (elim q [ true ↦ record { view = o.view; log = o.log; lines = o.lines; frames = o.frames } | false ↦ record { view = v; log = log; lines = []; frames = [] } ])
-    go false e = still_call net p b v log reached [] fit h
-    go true e =
+    marked : nat_le (log.settled + net.quiet) now ≡ true → CallTrue net p b v log reached o
+    marked e =
         let l : log.settled ≤ now = omega (arith, leb-true (log.settled + net.quiet) now e) in
         let f : Facts = facts new reached in
         let v' = ViewTrue-later net (facts log reached) f p b v (later_facts log new reached reached l (λ t x. refl) (λ s. le_refl (reached s))) h in

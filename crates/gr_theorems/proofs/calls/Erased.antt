@@ -1,5 +1,5 @@
 -- A call depends on what the subscribers want at the ticks where an event is known, and on nothing else of that
-use Rattle.std.proofs.Common.{◌≡◌, ◌≢◌, ◌⊎◌, inl, inr, ⊎_elim, ℕ, suc, ◌+◌, ◌-◌, ◌<◌, ◌≤◌, max, Bool, true, false, ◌&&◌, List, [], ◌∷◌, ◌++◌, map, set, get_or, refl, sym, ap, ap₂, ◌∙◌, Option, Some, None, arith}
+use Rattle.std.proofs.Common.{◌≡◌, ◌≢◌, ◌⊎◌, inl, inr, ⊎_elim, ℕ, suc, ◌+◌, ◌-◌, max, Bool, true, false, ◌&&◌, List, [], ◌∷◌, ◌++◌, map, set, get_or, refl, sym, ap, ap₂, ◌∙◌, Some, arith}
 use Rattle.std.specs.Prelude.{nat_eq, nat_lt, nat_le, if◌then◌else◌, filter, flat_map}
 use Rattle.std.specs.List.{list_any}
 use Rattle.std.proofs.Math.Path.{fun_ext}
@@ -19,7 +19,12 @@ use Rattle.gr_model.specs.declared.report.Report.{Report}
 use Rattle.gr_model.specs.declared.report.Report.TheVariants as line
 use Rattle.gr_theorems.specs.Said.{said_at, TicksRise}
 use Rattle.gr_model.specs.Net.{Net, is_host, keeps_horizon, pass}
-use Rattle.gr_model.specs.Broker.{View, Log, Outcome, head, know_frames, up_frames, got_line, told, data_ticks, horizon_after, new_ticks, pass_points, passed, forward, quenched, forward_frames, forward_wants, learn, consolidated, finished, trimmed, due, noted, acknowledged, answers_of, answers, stored, curiosity, max_tick, silence, with_mark, with_event, expect_frames, asking, expect, wake_below, publish, cutting, marking, wake_host, wake}
+use Rattle.gr_model.specs.Broker.{View, Log, Outcome, head, know_frames, up_frames, got_line, told, data_ticks, horizon_after, new_ticks, pass_points, passed, forward, quenched, forward_frames, forward_wants, learn, consolidated, finished, trimmed, due, noted, acknowledged, answers_of, answers, stored, curiosity, max_tick, silence, with_mark, with_event, expect_frames, asking, expect, wake_below, published, quieted, publish_by, marking_by, publish, cutting, marking, wake_host, wake}
+use Rattle.gr_pubend.specs.declared.answers.Published.{Published}
+use Rattle.gr_pubend.specs.declared.answers.Published.TheVariants.{Logged, Already, Gap, Exhausted}
+use Rattle.gr_pubend.specs.declared.answers.Quieted.{Quieted}
+use Rattle.gr_pubend.specs.declared.answers.Quieted.TheVariants.{NotYet, Marked}
+use Rattle.gr_theorems.proofs.calls.HostCases.{news_of}
 use Rattle.gr_frame.specs.declared.Head.{Head}
 use Rattle.gr_theorems.proofs.calls.CallTruth.{new_ticks-is, joined-is}
 use Rattle.gr_theorems.proofs.calls.Told.{data_of, data_ticks_rise, data_ticks_in, data_ticks_out}
@@ -263,10 +268,15 @@ silent_agree p first last f g t e x s = absurd (go (nat_le first last) x)
     go false z = cc
 
 marking_agree : (net : Net) (f g : Wants) (p b now : ℕ) (v : View) (log : Log) → AreRuns Q v.know → AreRuns Q (silence (suc log.settled) now []) → Agree p f g v.know → marking (with_wants net f) p b now v log ≡ marking (with_wants net g) p b now v log
-unfolding marking
-marking_agree net f g p b now v log r i h =
-    let pick : Outcome → Outcome = λ o. elim (nat_le (log.settled + net.quiet) now) [ true ↦ o | false ↦ record { view = v; log = log; lines = []; frames = [] } ] in
-    ap pick (learn_agree net f g p b (silence (suc log.settled) now []) v (with_mark log now) r i h (silent_agree p (suc log.settled) now f g))
+unfolding marking quieted
+marking_agree net f g p b now v log r i h = at (nat_le (log.settled + net.quiet) now)
+  where
+    answer : Bool → Quieted
+    answer q = elim q [ true ↦ Marked now (silence (suc log.settled) now []) | false ↦ NotYet ]
+
+    at : (q : Bool) → marking_by (with_wants net f) p b v log (answer q) ≡ marking_by (with_wants net g) p b v log (answer q)
+    at true = learn_agree net f g p b (silence (suc log.settled) now []) v (with_mark log now) r i h (silent_agree p (suc log.settled) now f g)
+    at false = refl
 
 pub wake_agree : (net : Net) (f g : Wants) (p b now : ℕ) (v : View) (log : Log) → AreRuns Q v.know → AreRuns Q (silence (suc log.settled) now []) → Agree p f g v.know → wake (with_wants net f) p b now v log ≡ wake (with_wants net g) p b now v log
 unfolding wake wake_host cutting
@@ -290,20 +300,20 @@ wake_agree net f g p b now v log r i h = go (is_host net p b)
 
 pub publish_agree : (net : Net) (f g : Wants) (p b now number : ℕ) (e : Event) (v : View) (log : Log) → AreRuns Q v.know → Agree p f g v.know →
     (let tick = max (suc log.settled) now in let piece = silence (suc log.settled) (tick - 1) (record { first = tick; last = tick; value = D e } ∷ []) in AreRuns Q piece → Agree p f g piece → publish (with_wants net f) p b now number e v log ≡ publish (with_wants net g) p b now number e v log)
-unfolding publish
-publish_agree net f g p b now number e v log r h i k =
-    ap said (learn_agree net f g p b (silence (suc log.settled) (max (suc log.settled) now - 1) (record { first = max (suc log.settled) now; last = max (suc log.settled) now; value = D e } ∷ [])) v (with_event log (max (suc log.settled) now) e) r i h k)
+unfolding publish published
+publish_agree net f g p b now number e v log r h i k = at (nat_le number log.last) (nat_lt (suc log.last) number) (nat_lt max_tick tick)
   where
+    tick : ℕ
+    tick = max (suc log.settled) now
+
+    answer : Bool → Bool → Bool → Published
+    answer x y z = elim x [ true ↦ Already | false ↦ elim y [ true ↦ Gap (suc log.last) | false ↦ elim z [ true ↦ Exhausted | false ↦ Logged tick (news_of log tick e) ] ] ]
+
     said : Outcome → Outcome
-    said o =
-        let tick = max (suc log.settled) now in
-        elim (nat_le number log.last) [
-          | true ↦ record { view = v; log = log; lines = line.Already p number ∷ []; frames = [] }
-          | false ↦ elim (nat_lt (suc log.last) number) [
-            | true ↦ record { view = v; log = log; lines = line.Gap p number (suc log.last) ∷ []; frames = [] }
-            | false ↦ elim (nat_lt max_tick tick) [
-              | true ↦ record { view = v; log = log; lines = line.Exhausted p number ∷ []; frames = [] }
-              | false ↦ record { view = o.view; log = o.log; lines = line.Logged p number tick ∷ o.lines; frames = o.frames }
-            ]
-          ]
-        ]
+    said o = record { view = o.view; log = o.log; lines = line.Logged p number tick ∷ o.lines; frames = o.frames }
+
+    at : (x y z : Bool) → publish_by (with_wants net f) p b number e v log (answer x y z) ≡ publish_by (with_wants net g) p b number e v log (answer x y z)
+    at true y z = refl
+    at false true z = refl
+    at false false true = refl
+    at false false false = ap said (learn_agree net f g p b (news_of log tick e) v (with_event log tick e) r i h k)

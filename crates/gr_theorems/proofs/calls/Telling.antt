@@ -1,10 +1,10 @@
 -- What each call tells the subscribers
-use Rattle.std.proofs.Common.{◌≡◌, ◌⊎◌, inl, inr, ℕ, suc, ◌+◌, ◌-◌, ◌≤◌, ◌<◌, max, Bool, true, false, ◌&&◌, ◌||◌, List, [], ◌∷◌, ◌++◌, map, refl, sym, ap, ap₂, ◌∙◌, subst, Option, Some, None, arith, le_refl, append-nil, append_assoc}
+use Rattle.std.proofs.Common.{◌≡◌, ◌⊎◌, inl, inr, ℕ, suc, ◌+◌, ◌≤◌, ◌<◌, max, Bool, true, false, ◌&&◌, ◌||◌, List, [], ◌∷◌, ◌++◌, map, refl, sym, ap, ap₂, ◌∙◌, subst, Option, Some, None, arith, le_refl, append-nil, append_assoc}
 use Rattle.std.specs.Prelude.{nat_eq, nat_le, nat_lt, if◌then◌else◌, flat_map, filter}
 use Rattle.std.specs.List.{list_any}
 use Rattle.std.proofs.lemmas.Bool.{cases_Bool, cases_lt, cases_eq, false≢true, eq-eqb, ne_eqb, both_ways, leb-true, le-ltb, lt-leb, and_right, or_parts}
 use Rattle.gr_event.specs.declared.event.Event.{Event}
-use Rattle.gr_know.specs.declared.values.K.TheVariants.{Q, D}
+use Rattle.gr_know.specs.declared.values.K.TheVariants.{Q}
 use Rattle.gr_frame.specs.declared.Frame.{Frame}
 use Rattle.gr_frame.specs.declared.Body.TheVariants as body
 use Rattle.gr_frame.specs.declared.Body.{Body}
@@ -14,14 +14,15 @@ use Rattle.gr_tick.specs.Runs.{zip_runs}
 use Rattle.gr_know.specs.Values.{Known, join_K, same_K}
 use Rattle.gr_curio.specs.Values.{Wanted}
 use Rattle.gr_model.specs.Net.{Net, keeps_horizon, is_host}
-use Rattle.gr_model.specs.Broker.{View, Log, Outcome, data_ticks, got_line, told, learn, wake_below, asking, expect, curiosity, receive, clashes, place_of, marking, cutting, wake_host, wake, publish, silence, with_event, with_mark, max_tick}
+use Rattle.gr_model.specs.Broker.{View, Log, Outcome, data_ticks, got_line, told, learn, wake_below, asking, expect, curiosity, receive, clashes, place_of, marking, cutting, wake_host, wake, publish, silence, with_event, with_mark}
 use Rattle.gr_model.specs.World.{sent_line, sent_lines}
 use Rattle.gr_model.specs.Headline.{gots, last_horizon, HorizonsRise}
 use Rattle.gr_theorems.specs.Truth.{KnowsTruth}
 use Rattle.gr_theorems.specs.Said.{said_at, TicksRise, due_upto, due_between}
 use Rattle.gr_theorems.specs.Fits.{facts, LogFits, ViewTrue, BodyTrue}
 use Rattle.gr_model.specs.Tree.{IsNet, IsDistinct}
-use Rattle.gr_theorems.proofs.calls.Calls.{learn_horizon, learn_log, trimmed_horizon, silence_true, later_facts, with_event_fits, with_mark_fits, said_more, nothing_true, cutting_same, run_at, published_piece}
+use Rattle.gr_theorems.proofs.calls.HostCases.{publish_cases, marking_cases, news_of}
+use Rattle.gr_theorems.proofs.calls.Calls.{learn_horizon, learn_log, trimmed_horizon, silence_true, later_facts, with_event_fits, with_mark_fits, said_more, nothing_true, cutting_same, published_piece}
 use Rattle.gr_theorems.proofs.calls.Told.{told_is_due, Items, said_equal, filter-rises, said_at-filter, kept_by}
 use Rattle.gr_theorems.proofs.calls.CallTruth.{joined_true, horizon_after-is, learned_horizon, ViewTrue-later}
 
@@ -273,19 +274,14 @@ receive_tells net now f v log reached n i j told fit h exact = go f.body told
     go (body.Expect tick) t = expect_tells net f.head.publisher f.head.to now tick v log
 
 marking_tells : (net : Net) (p b now : ℕ) (v : View) (log : Log) (reached : ℕ → ℕ) → IsNet net → p < net.publishers → b < net.brokers → is_host net p b ≡ true → LogFits log → ViewTrue net (facts log reached) p b v → Exact net b v reached → CallTells net p b v (marking net p b now v log)
-unfolding marking
-marking_tells net p b now v log reached n i j host fit h exact = go (nat_le (log.settled + net.quiet) now) refl
-  where
-    o : Outcome
-    o = learn net p b (silence (suc log.settled) now []) v (with_mark log now)
-
-    go : (q : Bool) → nat_le (log.settled + net.quiet) now ≡ q → (let u : Outcome = elim q [ true ↦ record { view = o.view; log = o.log; lines = o.lines; frames = o.frames } | false ↦ record { view = v; log = log; lines = []; frames = [] } ] in CallTells net p b v u)
-    go false e = still_tells net p b v log [] nil_silent
-    go true e =
-        let l : log.settled ≤ now = omega (arith, leb-true (log.settled + net.quiet) now e) in
-        learn_call_tells net p b (silence (suc log.settled) now []) v (with_mark log now) reached n i j (with_mark_fits log now fit l)
-        (ViewTrue-later net (facts log reached) (facts (with_mark log now) reached) p b v (later_facts log (with_mark log now) reached reached l (λ t x. refl) (λ s. le_refl (reached s))) h)
-        (silence_true net (facts (with_mark log now) reached) p b (suc log.settled) now [] (omega arith) (le_refl now) (λ t x y. fit.past t x) (nothing_true net (facts (with_mark log now) reached) p b) tt tt) exact
+marking_tells net p b now v log reached n i j host fit h exact =
+    marking_cases net p b now v log (CallTells net p b v)
+    (λ e.
+    let l : log.settled ≤ now = omega (arith, leb-true (log.settled + net.quiet) now e) in
+    learn_call_tells net p b (silence (suc log.settled) now []) v (with_mark log now) reached n i j (with_mark_fits log now fit l)
+    (ViewTrue-later net (facts log reached) (facts (with_mark log now) reached) p b v (later_facts log (with_mark log now) reached reached l (λ t x. refl) (λ s. le_refl (reached s))) h)
+    (silence_true net (facts (with_mark log now) reached) p b (suc log.settled) now [] (omega arith) (le_refl now) (λ t x y. fit.past t x) (nothing_true net (facts (with_mark log now) reached) p b) tt tt) exact)
+    (λ e. still_tells net p b v log [] nil_silent)
 
 if_silent : (q : Bool) (l : Report) → Silent (l ∷ []) → Silent (if q then l ∷ [] else [])
 if_silent true l n = n
@@ -312,8 +308,16 @@ wake_tells net p b now v log reached n i j fit h exact = go (is_host net p b) re
     go false e = wake_below_tells net p b now v log
 
 pub publish_tells : (net : Net) (p b now number : ℕ) (e : Event) (v : View) (log : Log) (reached : ℕ → ℕ) → IsNet net → p < net.publishers → b < net.brokers → is_host net p b ≡ true → LogFits log → ViewTrue net (facts log reached) p b v → Exact net b v reached → CallTells net p b v (publish net p b now number e v log)
-unfolding publish
-publish_tells net p b now number e v log reached n i j host fit h exact = first (nat_le number log.last)
+publish_tells net p b now number e v log reached n i j host fit h exact =
+    publish_cases net p b now number e v log (CallTells net p b v)
+    (λ l. still_tells net p b v log _ (λ s q. record { got = refl; horizon = λ n. refl; rise = λ n. tt }))
+    (λ l. still_tells net p b v log _ (λ s q. record { got = refl; horizon = λ n. refl; rise = λ n. tt }))
+    (λ x l. still_tells net p b v log _ (λ s q. record { got = refl; horizon = λ n. refl; rise = λ n. tt }))
+    (λ x l.
+    Tells-before net p b v.horizon o.view.horizon o.log.events (line.Logged p number tick ∷ []) o.lines (λ s q. record { got = refl; horizon = λ n. refl; rise = λ n. tt })
+    (learn_call_tells net p b (news_of log tick e) v new reached n i j (with_event_fits log tick e fit (omega arith))
+    (ViewTrue-later net (facts log reached) (facts new reached) p b v (later_facts log new reached reached (omega arith) (λ t x. said_more log.events tick t e (λ q. omega (arith, q))) (λ s. le_refl (reached s))) h)
+    (published_piece net p b tick e log reached host fit (omega arith)) exact))
   where
     tick : ℕ
     tick = max (suc log.settled) now
@@ -322,23 +326,7 @@ publish_tells net p b now number e v log reached n i j host fit h exact = first 
     new = with_event log tick e
 
     o : Outcome
-    o = learn net p b (silence (suc log.settled) (tick - 1) (run_at tick tick (D e) ∷ [])) v new
-
-    third : (q : Bool) → (let u : Outcome = elim q [ true ↦ record { view = v; log = log; lines = line.Exhausted p number ∷ []; frames = [] } | false ↦ record { view = o.view; log = o.log; lines = line.Logged p number tick ∷ o.lines; frames = o.frames } ] in CallTells net p b v u)
-    third true = still_tells net p b v log _ (λ s q. record { got = refl; horizon = λ n. refl; rise = λ n. tt })
-    third false =
-        Tells-before net p b v.horizon o.view.horizon o.log.events (line.Logged p number tick ∷ []) o.lines (λ s q. record { got = refl; horizon = λ n. refl; rise = λ n. tt })
-        (learn_call_tells net p b (silence (suc log.settled) (tick - 1) (run_at tick tick (D e) ∷ [])) v new reached n i j (with_event_fits log tick e fit (omega arith))
-        (ViewTrue-later net (facts log reached) (facts new reached) p b v (later_facts log new reached reached (omega arith) (λ t x. said_more log.events tick t e (λ q. omega (arith, q))) (λ s. le_refl (reached s))) h)
-        (published_piece net p b tick e log reached host fit (omega arith)) exact)
-
-    second : (q : Bool) → (let u : Outcome = elim q [ true ↦ record { view = v; log = log; lines = line.Gap p number (suc log.last) ∷ []; frames = [] } | false ↦ elim (nat_lt max_tick tick) [ true ↦ record { view = v; log = log; lines = line.Exhausted p number ∷ []; frames = [] } | false ↦ record { view = o.view; log = o.log; lines = line.Logged p number tick ∷ o.lines; frames = o.frames } ] ] in CallTells net p b v u)
-    second true = still_tells net p b v log _ (λ s q. record { got = refl; horizon = λ n. refl; rise = λ n. tt })
-    second false = third (nat_lt max_tick tick)
-
-    first : (q : Bool) → (let u : Outcome = elim q [ true ↦ record { view = v; log = log; lines = line.Already p number ∷ []; frames = [] } | false ↦ elim (nat_lt (suc log.last) number) [ true ↦ record { view = v; log = log; lines = line.Gap p number (suc log.last) ∷ []; frames = [] } | false ↦ elim (nat_lt max_tick tick) [ true ↦ record { view = v; log = log; lines = line.Exhausted p number ∷ []; frames = [] } | false ↦ record { view = o.view; log = o.log; lines = line.Logged p number tick ∷ o.lines; frames = o.frames } ] ] ] in CallTells net p b v u)
-    first true = still_tells net p b v log _ (λ s q. record { got = refl; horizon = λ n. refl; rise = λ n. tt })
-    first false = second (nat_lt (suc log.last) number)
+    o = learn net p b (news_of log tick e) v new
 
 -- what is due up to a settled tick does not change
 pub due_upto_same : (net : Net) (p s h : ℕ) (xs ys : Items) → TicksRise 0 xs → TicksRise 0 ys → ((t : ℕ) → t ≤ h → said_at xs t ≡ said_at ys t) → due_upto net p s h xs ≡ due_upto net p s h ys

@@ -1,20 +1,21 @@
 -- Cut lines in lists of lines, and what each call cuts
-use Rattle.std.proofs.Common.{◌≡◌, ◌≢◌, ◌⊎◌, inl, inr, ℕ, suc, ◌+◌, ◌-◌, ◌<◌, max, Bool, true, false, List, [], ◌∷◌, ◌++◌, map, refl, sym, ap, ◌∙◌, subst, append-nil, append_assoc}
-use Rattle.std.specs.Prelude.{nat_eq, nat_le, nat_lt, if◌then◌else◌, flat_map, filter, IsTrue}
+use Rattle.std.proofs.Common.{◌≡◌, ◌≢◌, ◌⊎◌, inl, inr, ℕ, suc, ◌<◌, max, Bool, true, false, List, [], ◌∷◌, ◌++◌, map, refl, sym, ap, ◌∙◌, subst, append-nil, append_assoc}
+use Rattle.std.specs.Prelude.{nat_eq, nat_lt, if◌then◌else◌, flat_map, filter, IsTrue}
 use Rattle.std.proofs.lemmas.Bool.{both_ways, ltb-true, eq-eqb, ne_eqb}
 use Rattle.gr_event.specs.declared.event.Event.{Event}
 use Rattle.gr_frame.specs.declared.Body.{Body}
 use Rattle.gr_frame.specs.declared.Body.TheVariants as body
 use Rattle.gr_frame.specs.declared.Frame.{Frame}
-use Rattle.gr_know.specs.declared.values.K.TheVariants.{D}
 use Rattle.gr_model.specs.declared.report.Report.{Report}
 use Rattle.gr_model.specs.declared.report.Report.TheVariants as line
 use Rattle.gr_know.specs.Values.{Known}
 use Rattle.gr_model.specs.Net.{Net, is_host, keeps_horizon}
-use Rattle.gr_model.specs.Broker.{View, Log, Outcome, told, got_line, learn, publish, marking, cutting, wake, wake_host, wake_below, asking, curiosity, expect, receive, clashes, place_of, silence, with_event, with_mark, with_cut, max_tick, done_upto, consolidated}
+use Rattle.gr_model.specs.Broker.{View, Log, Outcome, told, got_line, learn, publish, marking, cutting, wake, wake_host, wake_below, asking, curiosity, expect, receive, clashes, place_of, silence, with_event, with_mark, with_cut, done_upto, consolidated, publish_by}
 use Rattle.gr_model.specs.World.{sent_line, sent_lines}
 use Rattle.gr_model.specs.Headline.{last_cut}
-use Rattle.gr_theorems.proofs.calls.Calls.{cutting_same, learn_log, run_at}
+use Rattle.gr_pubend.specs.declared.answers.Published.TheVariants.{Logged}
+use Rattle.gr_theorems.proofs.calls.HostCases.{publish_cases, marking_cases, news_of}
+use Rattle.gr_theorems.proofs.calls.Calls.{cutting_same, learn_log}
 use Rattle.gr_theorems.proofs.records.Records.{receive_log}
 
 -- each cut line of p, with the lines before it
@@ -142,26 +143,12 @@ receive_cuts net now f v log = uncut net f.head.publisher f.head.to log (receive
 
 -- publishing
 pub publish_cuts : (net : Net) (p b now number : ℕ) (e : Event) (v : View) (log : Log) → CallCuts net p b log (publish net p b now number e v log)
-unfolding publish
-publish_cuts net p b now number e v log = first (nat_le number log.last)
+publish_cuts net p b now number e v log =
+    publish_cases net p b now number e v log (CallCuts net p b log) (λ l. uncut net p b log _ (λ q. tt) refl) (λ l. uncut net p b log _ (λ q. tt) refl) (λ x l. uncut net p b log _ (λ q. tt) refl)
+    (λ x l. uncut net p b log (publish_by net p b number e v log (Logged tick (news_of log tick e))) (λ q. learn_free net p b q _ v _) (ap (λ l. l.cut) (learn_log net p b _ v (with_event log tick e))))
   where
     tick : ℕ
     tick = max (suc log.settled) now
-
-    o : Outcome
-    o = learn net p b (silence (suc log.settled) (tick - 1) (run_at tick tick (D e) ∷ [])) v (with_event log tick e)
-
-    third : (q : Bool) → (let u : Outcome = elim q [ true ↦ record { view = v; log = log; lines = line.Exhausted p number ∷ []; frames = [] } | false ↦ record { view = o.view; log = o.log; lines = line.Logged p number tick ∷ o.lines; frames = o.frames } ] in CallCuts net p b log u)
-    third true = uncut net p b log _ (λ q. tt) refl
-    third false = uncut net p b log (record { view = o.view; log = o.log; lines = line.Logged p number tick ∷ o.lines; frames = o.frames }) (λ q. learn_free net p b q _ v _) (ap (λ l. l.cut) (learn_log net p b _ v (with_event log tick e)))
-
-    second : (q : Bool) → (let u : Outcome = elim q [ true ↦ record { view = v; log = log; lines = line.Gap p number (suc log.last) ∷ []; frames = [] } | false ↦ elim (nat_lt max_tick tick) [ true ↦ record { view = v; log = log; lines = line.Exhausted p number ∷ []; frames = [] } | false ↦ record { view = o.view; log = o.log; lines = line.Logged p number tick ∷ o.lines; frames = o.frames } ] ] in CallCuts net p b log u)
-    second true = uncut net p b log _ (λ q. tt) refl
-    second false = third (nat_lt max_tick tick)
-
-    first : (q : Bool) → (let u : Outcome = elim q [ true ↦ record { view = v; log = log; lines = line.Already p number ∷ []; frames = [] } | false ↦ elim (nat_lt (suc log.last) number) [ true ↦ record { view = v; log = log; lines = line.Gap p number (suc log.last) ∷ []; frames = [] } | false ↦ elim (nat_lt max_tick tick) [ true ↦ record { view = v; log = log; lines = line.Exhausted p number ∷ []; frames = [] } | false ↦ record { view = o.view; log = o.log; lines = line.Logged p number tick ∷ o.lines; frames = o.frames } ] ] ] in CallCuts net p b log u)
-    first true = uncut net p b log _ (λ q. tt) refl
-    first false = second (nat_lt (suc log.last) number)
 
 -- waking
 
@@ -171,15 +158,10 @@ record MarkKeeps (log : Log) (o : Outcome) : Type 0 where
   free : (q : ℕ) → CutFree q o.lines
 
 marking_keeps : (net : Net) (p b now : ℕ) (v : View) (log : Log) → MarkKeeps log (marking net p b now v log)
-unfolding marking
-marking_keeps net p b now v log = go (nat_le (log.settled + net.quiet) now)
-  where
-    o : Outcome
-    o = learn net p b (silence (suc log.settled) now []) v (with_mark log now)
-
-    go : (q : Bool) → MarkKeeps log (elim q [ true ↦ record { view = o.view; log = o.log; lines = o.lines; frames = o.frames } | false ↦ record { view = v; log = log; lines = []; frames = [] } ])
-    go true = let e = learn_log net p b (silence (suc log.settled) now []) v (with_mark log now) in record { cut = ap (λ l. l.cut) e; events = ap (λ l. l.events) e; free = λ q. learn_free net p b q _ v _ }
-    go false = record { cut = refl; events = refl; free = λ q. tt }
+marking_keeps net p b now v log =
+    marking_cases net p b now v log (MarkKeeps log)
+    (λ e. let x = learn_log net p b (silence (suc log.settled) now []) v (with_mark log now) in record { cut = ap (λ l. l.cut) x; events = ap (λ l. l.events) x; free = λ q. learn_free net p b q _ v _ })
+    (λ e. record { cut = refl; events = refl; free = λ q. tt })
 
 cutting_stays : (net : Net) (p b : ℕ) (v : View) (log : Log) → nat_lt log.cut (cutting net p b v log).cut ≡ false → (cutting net p b v log).cut ≡ log.cut
 unfolding cutting

@@ -1,8 +1,8 @@
 -- A host that keeps a horizon has it where its log is settled, or at 0 while nothing was logged or marked since it started: over every schedule without a sweep
-use Rattle.std.proofs.Common.{◌≡◌, ◌≢◌, ◌⊎◌, inl, inr, ℕ, suc, zero, ◌+◌, ◌-◌, ◌≤◌, ◌<◌, max, Bool, true, false, not, ◌&&◌, ◌||◌, List, [], ◌∷◌, ◌++◌, map, length, set, get_or, refl, sym, ap, ap₂, ◌∙◌, subst, Option, Some, None, arith}
+use Rattle.std.proofs.Common.{◌≡◌, ◌≢◌, ◌⊎◌, inl, inr, ℕ, suc, zero, ◌+◌, ◌≤◌, ◌<◌, max, Bool, true, false, not, ◌&&◌, ◌||◌, List, [], ◌∷◌, ◌++◌, map, length, set, get_or, refl, sym, ap, ap₂, ◌∙◌, subst, Option, Some, None, arith}
 use Rattle.std.specs.Prelude.{nat_eq, nat_le, nat_lt, if◌then◌else◌, flat_map}
 use Rattle.std.specs.List.{list_any}
-use Rattle.std.proofs.lemmas.Bool.{cases_Bool, cases_eq, eq-eqb, ne_eqb, false≢true, true≢false, both_ways}
+use Rattle.std.proofs.lemmas.Bool.{cases_Bool, cases_eq, eq-eqb, ne_eqb, false≢true, true≢false, both_ways, lt-leb, le-ltb}
 use Rattle.std.proofs.lemmas.List.{get_or-set_other, get_or-set_same}
 use Rattle.gr_event.specs.declared.event.Event.{Event}
 use Rattle.gr_frame.specs.declared.Body.{Body}
@@ -12,17 +12,17 @@ use Rattle.gr_frame.specs.Bytes.{frame_bytes}
 use Rattle.gr_sched.specs.declared.step.Stop.{Stop}
 use Rattle.gr_sched.specs.declared.step.Step.{Step}
 use Rattle.gr_sched.specs.declared.step.Step.TheVariants as step
-use Rattle.gr_know.specs.declared.values.K.TheVariants.{D}
 use Rattle.gr_model.specs.declared.report.Report.{Report}
 use Rattle.gr_model.specs.declared.report.Report.TheVariants as line
 use Rattle.gr_model.specs.Net.{Net, is_host, keeps_horizon, numbers, numbers_from, not_empty}
-use Rattle.gr_model.specs.Broker.{View, Log, Outcome, empty_log, learn, marking, publish, wake, wake_host, wake_below, curiosity, receive, clashes, expect, place_of, silence, with_event, with_mark, is_kept, max_tick, started}
-use Rattle.gr_model.specs.World.{World, Told, blank_view, view_of, log_of, absorbed, unchanged, after, in_turn, wake_for, wake_all, deliver_frame, frame_at, publish_now, publish_stopped, restarted, crash, next, show, opened_lines, kept_events, deliver_frame_by, next_by, publish_now_by, publish_stopped_by, wake_all_by, wake_for_by}
+use Rattle.gr_model.specs.Broker.{View, Log, Outcome, empty_log, learn, publish, wake, wake_host, wake_below, curiosity, receive, clashes, expect, place_of, with_event, is_kept, max_tick, started}
+use Rattle.gr_model.specs.World.{World, Told, blank_view, view_of, log_of, absorbed, unchanged, after, in_turn, wake_for, deliver_frame, frame_at, publish_now, publish_stopped, restarted, crash, next, show, opened_lines, kept_events, deliver_frame_by, next_by, publish_now_by, publish_stopped_by, wake_all_by, wake_for_by}
 use Rattle.gr_model.specs.Headline.{Recorded, History, is_record_line, is_record_of, publish_line, bare_after, each_bare, may_crash, is_next}
 use Rattle.gr_model.specs.Tree.{IsNet}
 use Rattle.gr_theorems.specs.Fits.{WorldFits, FrameTrue, HostKnows, StepIn, reached_in}
 use Rattle.gr_theorems.specs.Order.{is_sweep}
-use Rattle.gr_theorems.proofs.calls.Calls.{run_at, trimmed_horizon}
+use Rattle.gr_theorems.proofs.calls.HostCases.{publish_cases, marking_cases}
+use Rattle.gr_theorems.proofs.calls.Calls.{trimmed_horizon}
 use Rattle.gr_theorems.proofs.records.Records.{core, core_of, receive_log, wake_core}
 use Rattle.gr_theorems.proofs.records.Recorded.{RecordsFit, record_core}
 use Rattle.gr_theorems.proofs.records.RecordLines.{recs, wake_for_recs, deliver_recs, publish_now_recs}
@@ -102,19 +102,12 @@ other_tells net p w b q o ls f i j e g n =
     ]
 
 wake_view : (net : Net) (p b now : ℕ) (v : View) (log : Log) → is_host net p b ≡ true → nat_le (log.settled + net.quiet) now ≡ false → (wake net p b now v log).view ≡ v
-unfolding wake wake_host marking
+unfolding wake wake_host
 wake_view net p b now v log host e = go (is_host net p b) host
   where
-    o : Outcome
-    o = learn net p b (silence (suc log.settled) now []) v (with_mark log now)
-
-    inner : (q : Bool) → q ≡ false → (let u : Outcome = elim q [ true ↦ record { view = o.view; log = o.log; lines = o.lines; frames = o.frames } | false ↦ record { view = v; log = log; lines = []; frames = [] } ] in u.view) ≡ v
-    inner true x = absurd (true≢false x)
-    inner false x = refl
-
     go : (q : Bool) → q ≡ true → (let u : Outcome = elim q [ true ↦ wake_host net p b now v log | false ↦ wake_below net p b now v log ] in u.view) ≡ v
     go false x = absurd (false≢true x)
-    go true x = inner (nat_le (log.settled + net.quiet) now) e
+    go true x = marking_cases net p b now v log (λ o. o.view ≡ v) (λ q. absurd (both_ways (nat_le (log.settled + net.quiet) now) e q)) (λ q. refl)
 
 mark_told : (p q clock : ℕ) (c : Bool) → told_of p (if c then line.Mark q clock ∷ [] else []) ≡ (c && nat_eq q p)
 mark_told p q clock true = or_false (nat_eq q p)
@@ -211,21 +204,11 @@ deliver_bare net p w x f tr fits =
     ]
 
 publish_still : (net : Net) (p b now number : ℕ) (e : Event) (v : View) (log : Log) → is_record_of p (publish_line p now number (core log)) ≡ false → ((publish net p b now number e v log).view ≡ v) × ((publish net p b now number e v log).log ≡ log)
-unfolding publish
-publish_still net p b now number e v log h = first (nat_le number log.last) (nat_lt (suc log.last) number) (nat_lt max_tick tick) h
+publish_still net p b now number e v log h =
+    publish_cases net p b now number e v log (λ o. (o.view ≡ v) × (o.log ≡ log)) (λ l. (refl, refl)) (λ l. (refl, refl)) (λ x l. (refl, refl)) (λ x l. absurd (true≢false (sym (recorded x l) ∙ h)))
   where
-    tick : ℕ
-    tick = max (suc log.settled) now
-
-    o : Outcome
-    o = learn net p b (silence (suc log.settled) (tick - 1) (run_at tick tick (D e) ∷ [])) v (with_event log tick e)
-
-    first : (x y z : Bool) → is_record_of p (if x then line.Already p number else (if y then line.Gap p number (suc log.last) else (if z then line.Exhausted p number else line.Logged p number tick))) ≡ false →
-        (let u : Outcome = elim x [ true ↦ record { view = v; log = log; lines = line.Already p number ∷ []; frames = [] } | false ↦ elim y [ true ↦ record { view = v; log = log; lines = line.Gap p number (suc log.last) ∷ []; frames = [] } | false ↦ elim z [ true ↦ record { view = v; log = log; lines = line.Exhausted p number ∷ []; frames = [] } | false ↦ record { view = o.view; log = o.log; lines = line.Logged p number tick ∷ o.lines; frames = o.frames } ] ] ] in (u.view ≡ v) × (u.log ≡ log))
-    first true y z k = (refl, refl)
-    first false true z k = (refl, refl)
-    first false false true k = (refl, refl)
-    first false false false k = absurd (true≢false (sym (eq-eqb p p refl) ∙ k))
+    recorded : number ≡ suc log.last → max (suc log.settled) now ≤ max_tick → is_record_of p (publish_line p now number (core log)) ≡ true
+    recorded x l = rw (lt-leb number log.last (omega (arith, x)), le-ltb (suc log.last) number (omega (arith, x)), le-ltb max_tick (max (suc log.settled) now) l) (eq-eqb p p refl)
 
 publish_other : (p q now number : ℕ) (r : Recorded) → q ≢ p → is_record_of p (publish_line q now number r) ≡ false
 publish_other p q now number r n = go (nat_le number r.last) (nat_lt (suc r.last) number) (nat_lt max_tick (max (suc r.settled) now))

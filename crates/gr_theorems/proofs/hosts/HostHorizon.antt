@@ -1,12 +1,11 @@
 -- A host with subscribers has its horizon where its log is settled
-use Rattle.std.proofs.Common.{◌≡◌, inl, inr, ℕ, suc, ◌+◌, ◌-◌, ◌≤◌, ◌<◌, max, Bool, true, false, [], ◌∷◌, refl, sym, ap, ◌∙◌, subst, arith, le_refl, le_antisymm}
-use Rattle.std.specs.Prelude.{nat_le, nat_lt, if◌then◌else◌}
+use Rattle.std.proofs.Common.{◌≡◌, inl, inr, ℕ, suc, ◌+◌, ◌-◌, ◌≤◌, ◌<◌, max, Bool, true, false, [], refl, sym, ap, ◌∙◌, subst, arith, le_refl, le_antisymm}
+use Rattle.std.specs.Prelude.{nat_le}
 use Rattle.gr_model.specs.Headline.{is_record_of, publish_line}
-use Rattle.std.proofs.lemmas.Bool.{cases_lt, cases_eq, eq-eqb, ne_eqb, or_left, leb-true, false≢true}
+use Rattle.std.proofs.lemmas.Bool.{cases_lt, cases_eq, eq-eqb, ne_eqb, or_left, leb-true, false≢true, le-leb, lt-leb, lt-ltb, le-ltb}
 use Rattle.gr_event.specs.declared.event.Event.{Event}
-use Rattle.gr_know.specs.declared.values.K.TheVariants.{Q, D}
+use Rattle.gr_know.specs.declared.values.K.TheVariants.{Q}
 use Rattle.gr_frame.specs.declared.Frame.{Frame}
-use Rattle.gr_model.specs.declared.report.Report.TheVariants as line
 use Rattle.gr_tick.specs.Runs.{zip_runs, first_bottom_from}
 use Rattle.gr_know.specs.Values.{Known, known_at, join_K, same_K}
 use Rattle.gr_model.specs.Net.{Net, is_host, keeps_horizon, not_empty, is_empty}
@@ -15,9 +14,10 @@ use Rattle.gr_model.specs.World.{World, view_of, log_of, absorbed, wake_for, del
 use Rattle.gr_theorems.specs.Truth.{KnowsTruth}
 use Rattle.gr_theorems.specs.Fits.{facts, reached_in, LogFits, ViewTrue, HostKnows, FrameTrue, WorldFits}
 use Rattle.gr_model.specs.Tree.{IsNet}
+use Rattle.gr_theorems.proofs.calls.HostCases.{publish_cases, marking_cases, news_of}
 use Rattle.gr_tick.proofs.RunLaws.{first_bottom_from-is}
 use Rattle.gr_theorems.proofs.calls.CallTruth.{joined-is, learned_horizon, ViewTrue-later}
-use Rattle.gr_theorems.proofs.calls.Calls.{CallTrue, learn_horizon, cutting_same, marking_call, wake_call, publish_call, receive_call, later_facts, silence_true, nothing_true, said_more, published_piece, run_at}
+use Rattle.gr_theorems.proofs.calls.Calls.{CallTrue, learn_horizon, cutting_same, marking_call, wake_call, publish_call, receive_call, later_facts, silence_true, nothing_true, said_more, published_piece}
 use Rattle.gr_theorems.proofs.heard.Heard.{learn_above, horizon_keeps}
 use Rattle.gr_theorems.proofs.records.Records.{core, receive_log}
 use Rattle.gr_theorems.proofs.runs.Worlds.{absorbed_changed}
@@ -52,8 +52,8 @@ settled_meets : (net : Net) (p b : ℕ) (v : View) (log : Log) (reached : ℕ �
 settled_meets net p b v log reached o c s m = let w = call_within net p b v log reached o c in le_antisymm w (omega (arith, c.horizon, m, s))
 
 marking_meets : (net : Net) (p b now : ℕ) (v : View) (log : Log) (reached : ℕ → ℕ) → IsNet net → p < net.publishers → b < net.brokers → is_host net p b ≡ true → keeps_horizon net p b ≡ true → LogFits log → ViewTrue net (facts log reached) p b v → HostKnows v log.settled → (nat_le (log.settled + net.quiet) now ≡ false → Meets v log) → Meets (marking net p b now v log).view (marking net p b now v log).log
-unfolding marking
-marking_meets net p b now v log reached n i j host keeps fit h known m = go (nat_le (log.settled + net.quiet) now) refl (marking_call net p b now v log reached n i j host fit h)
+marking_meets net p b now v log reached n i j host keeps fit h known m =
+    marking_cases net p b now v log (λ o. CallTrue net p b v log reached o → Meets o.view o.log) marked (λ e c. m e) (marking_call net p b now v log reached n i j host fit h)
   where
     new : Log
     new = with_mark log now
@@ -64,9 +64,8 @@ marking_meets net p b now v log reached n i j host keeps fit h known m = go (nat
     o : Outcome
     o = learn net p b piece v new
 
-    go : (q : Bool) → nat_le (log.settled + net.quiet) now ≡ q → (let u : Outcome = elim q [ true ↦ record { view = o.view; log = o.log; lines = o.lines; frames = o.frames } | false ↦ record { view = v; log = log; lines = []; frames = [] } ] in CallTrue net p b v log reached u → Meets u.view u.log)
-    go false e c = m e
-    go true e c =
+    marked : nat_le (log.settled + net.quiet) now ≡ true → CallTrue net p b v log reached o → Meets o.view o.log
+    marked e c =
         let l : log.settled ≤ now = omega (arith, leb-true (log.settled + net.quiet) now e) in
         le_antisymm (call_within net p b v log reached _ c)
         (learn_reaches net p b o.log.settled piece v new new reached n i j keeps
@@ -86,8 +85,18 @@ wake_meets net p b now v log reached n i j host keeps fit h known m = go (is_hos
     go true e = marking_meets net p b now v log reached n i j host keeps fit h known m ∙ sym (cutting_same net p b o.view o.log).settled
 
 pub publish_meets : (net : Net) (p b now number : ℕ) (e : Event) (v : View) (log : Log) (reached : ℕ → ℕ) → IsNet net → p < net.publishers → b < net.brokers → is_host net p b ≡ true → keeps_horizon net p b ≡ true → LogFits log → ViewTrue net (facts log reached) p b v → HostKnows v log.settled → (is_record_of p (publish_line p now number (core log)) ≡ false → Meets v log) → Meets (publish net p b now number e v log).view (publish net p b now number e v log).log
-unfolding publish
-publish_meets net p b now number e v log reached n i j host keeps fit h known m = first (nat_le number log.last) (nat_lt (suc log.last) number) (nat_lt max_tick tick) m (publish_call net p b now number e v log reached n i j host fit h)
+publish_meets net p b now number e v log reached n i j host keeps fit h known m =
+    publish_cases net p b now number e v log (λ o. CallTrue net p b v log reached o → Meets o.view o.log)
+    (λ l c. m (rw (le-leb number log.last l) refl))
+    (λ l c. m (rw (lt-leb number log.last (omega (arith, l)), lt-ltb (suc log.last) number l) refl))
+    (λ x l c. m (rw (lt-leb number log.last (omega (arith, x)), le-ltb (suc log.last) number (omega (arith, x)), lt-ltb max_tick tick l) refl))
+    (λ x l c.
+    le_antisymm (call_within net p b v log reached _ c)
+    (learn_reaches net p b o.log.settled (news_of log tick e) v new new reached n i j keeps
+    (ViewTrue-later net (facts log reached) (facts new reached) p b v (later_facts log new reached reached (omega arith) (λ t x. said_more log.events tick t e (λ q. omega (arith, q))) (λ s. le_refl (reached s))) h)
+    (published_piece net p b tick e log reached host fit (omega arith))
+    (c.known host known)))
+    (publish_call net p b now number e v log reached n i j host fit h)
   where
     tick : ℕ
     tick = max (suc log.settled) now
@@ -95,23 +104,8 @@ publish_meets net p b now number e v log reached n i j host keeps fit h known m 
     new : Log
     new = with_event log tick e
 
-    piece : Known
-    piece = silence (suc log.settled) (tick - 1) (run_at tick tick (D e) ∷ [])
-
     o : Outcome
-    o = learn net p b piece v new
-
-    first : (x y z : Bool) → (is_record_of p (if x then line.Already p number else (if y then line.Gap p number (suc log.last) else (if z then line.Exhausted p number else line.Logged p number tick))) ≡ false → Meets v log) →
-        (let u : Outcome = elim x [ true ↦ record { view = v; log = log; lines = line.Already p number ∷ []; frames = [] } | false ↦ elim y [ true ↦ record { view = v; log = log; lines = line.Gap p number (suc log.last) ∷ []; frames = [] } | false ↦ elim z [ true ↦ record { view = v; log = log; lines = line.Exhausted p number ∷ []; frames = [] } | false ↦ record { view = o.view; log = o.log; lines = line.Logged p number tick ∷ o.lines; frames = o.frames } ] ] ] in CallTrue net p b v log reached u → Meets u.view u.log)
-    first true y z m c = m refl
-    first false true z m c = m refl
-    first false false true m c = m refl
-    first false false false m c =
-        le_antisymm (call_within net p b v log reached _ c)
-        (learn_reaches net p b o.log.settled piece v new new reached n i j keeps
-        (ViewTrue-later net (facts log reached) (facts new reached) p b v (later_facts log new reached reached (omega arith) (λ t x. said_more log.events tick t e (λ q. omega (arith, q))) (λ s. le_refl (reached s))) h)
-        (published_piece net p b tick e log reached host fit (omega arith))
-        (c.known host known))
+    o = learn net p b (news_of log tick e) v new
 
 -- Worlds
 

@@ -2,7 +2,7 @@
 use Rattle.std.proofs.Common.{◌≡◌, ℕ, zero, suc, ◌+◌, ◌-◌, ◌≤◌, min, max, Bool, true, false, ◌&&◌, ◌||◌, List, [], ◌∷◌, ◌++◌, map, set, get_or, refl, Option, Some, None, arith, le_trans}
 use Rattle.std.specs.Prelude.{not, nat_eq, nat_le, nat_lt, if◌then◌else◌}
 use Rattle.std.specs.List.{AllByRecursion}
-use Rattle.std.proofs.lemmas.Bool.{leb-true, ltb-true, ltb-false}
+use Rattle.std.proofs.lemmas.Bool.{leb-true, ltb-true}
 use Rattle.gr_event.specs.declared.event.Event.{Event}
 use Rattle.gr_event.specs.Event.{event_size}
 use Rattle.gr_event.specs.Limits.{IsEvent}
@@ -23,10 +23,10 @@ use Rattle.gr_frame.specs.declared.Body.TheVariants as body
 use Rattle.gr_frame.specs.declared.Frame.{Frame}
 use Rattle.gr_frame.specs.Bytes.{known_run_size, wanted_run_size, cut_frames}
 use Rattle.gr_frame.specs.Limits.{IsKnown, IsWanted}
-use Rattle.gr_model.specs.declared.report.Report.TheVariants as line
 use Rattle.gr_model.specs.Net.{Net, is_host, keeps_horizon, wanted_below, pass, numbers_from}
 use Rattle.gr_model.specs.Broker.{View, Log, Outcome, max_tick, head, know_frames, want_frames, expect_frame, up_frames, all_points, is_settled, consolidated, finished, forgotten, is_F, open_asks, trimmed_below, trimmed, horizon_after, new_ticks, event_ticks, pass_points, passed, forward, quenched, forward_frames, forward_wants, learn, due, noted, upward, acknowledged, answer, answers, curious, stored, curiosity, asking, wanted_at_wake, wake_below, covers, expect_frames, expect, any_C, with_event, with_mark, with_cut, event_at, event_points, log_at, log_know, silence, publish, done_upto, cutting, marking, wake_host, wake, started, place_of, clashes, receive}
 use Rattle.gr_theorems.specs.Spelled.{RunsIn, IsMoment, ViewIn, LogIn}
+use Rattle.gr_theorems.proofs.calls.HostCases.{publish_cases, marking_cases, news_of}
 use Rattle.gr_theorems.proofs.limits.SpelledRuns.{all_on, all_set, all_get, all_made, AreUpto, points_upto, all_points_upto, value_fits, tabulate_in, both_upto, zip_in, first_bottom_upto, top_upto, forgotten_in, IsPart, parts_in}
 
 -- Frames that a broker sends
@@ -356,37 +356,21 @@ pub with_event_in : (log : Log) (tick : ℕ) (e : Event) → tick ≤ max_tick �
 with_event_in log tick e h k l = record { settled = h; cut = l.cut; events = all_on (λ x. (x.0 ≤ max_tick) × IsEvent x.1) log.events ((tick, e) ∷ []) l.events ((h, k), tt) }
 
 pub publish_in : (net : Net) (p b now number : ℕ) (e : Event) (v : View) (log : Log) → IsEvent e → ViewIn v → LogIn log → CallIn b (publish net p b now number e v log)
-unfolding publish
-publish_in net p b now number e v log k a l = go (nat_le number log.last) (nat_lt (suc log.last) number) (nat_lt max_tick tick) refl
+publish_in net p b now number e v log k a l =
+    publish_cases net p b now number e v log (CallIn b) (λ x. record { view = a; log = l; frames = tt }) (λ x. record { view = a; log = l; frames = tt }) (λ x y. record { view = a; log = l; frames = tt })
+    (λ x h. let c = learned h in record { view = c.view; log = c.log; frames = c.frames })
   where
     tick : ℕ
     tick = max (suc log.settled) now
 
-    piece : Known
-    piece = silence (suc log.settled) (tick - 1) (record { first = tick; last = tick; value = D e } ∷ [])
-
-    o : Outcome
-    o = learn net p b piece v (with_event log tick e)
-
-    learned : tick ≤ max_tick → CallIn b o
-    learned h = learn_in net p b piece v (with_event log tick e) (silence_in (suc log.settled) (tick - 1) (record { first = tick; last = tick; value = D e } ∷ []) (omega (arith, h)) (record { first = omega (arith, h); last = h; value = k }, tt)) a (with_event_in log tick e h k l)
-
-    go : (x y z : Bool) → nat_lt max_tick tick ≡ z → CallIn b (elim x [ true ↦ record { view = v; log = log; lines = line.Already p number ∷ []; frames = [] } | false ↦ elim y [ true ↦ record { view = v; log = log; lines = line.Gap p number (suc log.last) ∷ []; frames = [] } | false ↦ elim z [ true ↦ record { view = v; log = log; lines = line.Exhausted p number ∷ []; frames = [] } | false ↦ record { view = o.view; log = o.log; lines = line.Logged p number tick ∷ o.lines; frames = o.frames } ] ] ])
-    go true y z q = record { view = a; log = l; frames = tt }
-    go false true z q = record { view = a; log = l; frames = tt }
-    go false false true q = record { view = a; log = l; frames = tt }
-    go false false false q = let c = learned (ltb-false max_tick tick q) in record { view = c.view; log = c.log; frames = c.frames }
+    learned : tick ≤ max_tick → CallIn b (learn net p b (news_of log tick e) v (with_event log tick e))
+    learned h = learn_in net p b (news_of log tick e) v (with_event log tick e) (silence_in (suc log.settled) (tick - 1) (record { first = tick; last = tick; value = D e } ∷ []) (omega (arith, h)) (record { first = omega (arith, h); last = h; value = k }, tt)) a (with_event_in log tick e h k l)
 
 marking_in : (net : Net) (p b now : ℕ) (v : View) (log : Log) → now ≤ max_tick → ViewIn v → LogIn log → CallIn b (marking net p b now v log)
-unfolding marking
-marking_in net p b now v log h a l = go (nat_le (log.settled + net.quiet) now)
-  where
-    o : Outcome
-    o = learn net p b (silence (suc log.settled) now []) v (with_mark log now)
-
-    go : (q : Bool) → CallIn b (elim q [ true ↦ record { view = o.view; log = o.log; lines = o.lines; frames = o.frames } | false ↦ record { view = v; log = log; lines = []; frames = [] } ])
-    go true = let c = learn_in net p b (silence (suc log.settled) now []) v (with_mark log now) (silence_in (suc log.settled) now [] h tt) a (record { settled = h; cut = l.cut; events = l.events }) in record { view = c.view; log = c.log; frames = c.frames }
-    go false = record { view = a; log = l; frames = tt }
+marking_in net p b now v log h a l =
+    marking_cases net p b now v log (CallIn b)
+    (λ e. learn_in net p b (silence (suc log.settled) now []) v (with_mark log now) (silence_in (suc log.settled) now [] h tt) a (record { settled = h; cut = l.cut; events = l.events }))
+    (λ e. record { view = a; log = l; frames = tt })
 
 least_upto : (a b : ℕ) → min a b ≤ a
 least_upto a b = omega arith

@@ -1,5 +1,5 @@
 -- The doubt lines of each step are those of a show, place by place
-use Rattle.std.proofs.Common.{◌≡◌, ℕ, suc, ◌+◌, ◌-◌, max, Bool, true, false, ◌&&◌, List, [], ◌∷◌, ◌++◌, map, length, set, refl, ap, ap₂, ◌∙◌, Option, Some, None}
+use Rattle.std.proofs.Common.{◌≡◌, ℕ, suc, max, Bool, true, false, ◌&&◌, List, [], ◌∷◌, ◌++◌, map, length, set, refl, ap, ap₂, ◌∙◌, Option, Some, None}
 use Rattle.std.specs.Prelude.{nat_eq, nat_le, nat_lt, if◌then◌else◌, flat_map, filter, get_or}
 use Rattle.gr_event.specs.declared.event.Event.{Event}
 use Rattle.gr_frame.specs.declared.Body.{Body}
@@ -9,18 +9,17 @@ use Rattle.gr_sched.specs.declared.step.Stop.{Stop}
 use Rattle.gr_sched.specs.declared.step.Step.{Step}
 use Rattle.gr_sched.specs.declared.step.Step.TheVariants as step
 use Rattle.gr_sched.specs.declared.step.Line.{Line}
-use Rattle.gr_know.specs.declared.values.K.TheVariants.{D}
 use Rattle.gr_model.specs.declared.report.Report.{Report}
 use Rattle.gr_model.specs.declared.report.Report.TheVariants as line
 use Rattle.gr_know.specs.Values.{Known}
 use Rattle.gr_model.specs.Net.{Net, is_host, keeps_horizon, numbers, not_empty}
-use Rattle.gr_model.specs.Broker.{View, Log, Outcome, empty_log, is_kept, told, got_line, learn, publish, marking, cutting, wake, wake_host, wake_below, asking, curiosity, expect, receive, clashes, place_of, silence, with_event, with_mark, max_tick}
+use Rattle.gr_model.specs.Broker.{View, Log, Outcome, empty_log, is_kept, told, got_line, learn, publish, marking, cutting, wake, wake_host, wake_below, asking, curiosity, expect, receive, clashes, place_of, with_event, max_tick}
 use Rattle.gr_model.specs.World.{World, Told, view_of, log_of, absorbed, unchanged, after, in_turn, sent_line, sent_lines, wake_for, wake_all, deliver_frame, frame_at, publish_now, restarted, crash, publish_stopped, sweep_for, sweep, sweep_moment, next, show, opened_lines, kept_events, deliver_frame_by, next_by, publish_now_by, publish_stopped_by, sweep_by, wake_for_by}
 use Rattle.gr_frame.specs.Bytes.{frame_bytes}
 use Rattle.gr_model.specs.Headline.{is_doubt_line, doubt_place, doubts_shown}
 use Rattle.gr_model.specs.Tree.{IsNet}
 use Rattle.gr_theorems.specs.Fits.{WorldFits, StepIn}
-use Rattle.gr_theorems.proofs.calls.Calls.{run_at}
+use Rattle.gr_theorems.proofs.calls.HostCases.{publish_cases, marking_cases}
 use Rattle.gr_theorems.proofs.runs.Schedules.{clocked_fits}
 use Rattle.gr_theorems.proofs.runs.Chains.{Chains, wake_all_chain, sweeps_chain}
 
@@ -88,31 +87,10 @@ receive_plain net now f v log = go f.body
     go (body.Expect tick) = tt
 
 publish_plain : (net : Net) (p b now number : ℕ) (e : Event) (v : View) (log : Log) → Plain (publish net p b now number e v log).lines
-unfolding publish
-publish_plain net p b now number e v log = first (nat_le number log.last) (nat_lt (suc log.last) number) (nat_lt max_tick tick)
-  where
-    tick : ℕ
-    tick = max (suc log.settled) now
-
-    o : Outcome
-    o = learn net p b (silence (suc log.settled) (tick - 1) (run_at tick tick (D e) ∷ [])) v (with_event log tick e)
-
-    first : (x y z : Bool) → Plain (let u : Outcome = elim x [ true ↦ record { view = v; log = log; lines = line.Already p number ∷ []; frames = [] } | false ↦ elim y [ true ↦ record { view = v; log = log; lines = line.Gap p number (suc log.last) ∷ []; frames = [] } | false ↦ elim z [ true ↦ record { view = v; log = log; lines = line.Exhausted p number ∷ []; frames = [] } | false ↦ record { view = o.view; log = o.log; lines = line.Logged p number tick ∷ o.lines; frames = o.frames } ] ] ] in u.lines)
-    first true y z = tt
-    first false true z = tt
-    first false false true = tt
-    first false false false = learn_plain net p b _ v _
+publish_plain net p b now number e v log = publish_cases net p b now number e v log (λ o. Plain o.lines) (λ l. tt) (λ l. tt) (λ x l. tt) (λ x l. learn_plain net p b _ v _)
 
 marking_plain : (net : Net) (p b now : ℕ) (v : View) (log : Log) → Plain (marking net p b now v log).lines
-unfolding marking
-marking_plain net p b now v log = go (nat_le (log.settled + net.quiet) now)
-  where
-    o : Outcome
-    o = learn net p b (silence (suc log.settled) now []) v (with_mark log now)
-
-    go : (q : Bool) → Plain (let u : Outcome = elim q [ true ↦ record { view = o.view; log = o.log; lines = o.lines; frames = o.frames } | false ↦ record { view = v; log = log; lines = []; frames = [] } ] in u.lines)
-    go true = learn_plain net p b _ v _
-    go false = tt
+marking_plain net p b now v log = marking_cases net p b now v log (λ o. Plain o.lines) (λ e. learn_plain net p b _ v _) (λ e. tt)
 
 wake_plain : (net : Net) (p b now : ℕ) (v : View) (log : Log) → Plain (wake net p b now v log).lines
 unfolding wake wake_host wake_below asking

@@ -1,5 +1,5 @@
 -- The cut and horizon lines of each step name publishers and subscribers of the topology, and its doubt lines say the horizons
-use Rattle.std.proofs.Common.{◌≡◌, ◌<◌, subst, sym, arith, ℕ, suc, ◌+◌, ◌-◌, max, Bool, true, false, ◌&&◌, List, [], ◌∷◌, ◌++◌, map, length, set, refl, Option, Some, None}
+use Rattle.std.proofs.Common.{◌≡◌, ◌<◌, subst, sym, arith, ℕ, suc, max, Bool, true, false, ◌&&◌, List, [], ◌∷◌, ◌++◌, map, length, set, refl, Option, Some, None}
 use Rattle.std.specs.Prelude.{nat_eq, nat_le, nat_lt, if◌then◌else◌, flat_map, filter, get_or}
 use Rattle.gr_event.specs.declared.event.Event.{Event}
 use Rattle.gr_frame.specs.declared.Body.{Body}
@@ -9,17 +9,16 @@ use Rattle.gr_sched.specs.declared.step.Stop.{Stop}
 use Rattle.gr_sched.specs.declared.step.Step.{Step}
 use Rattle.gr_sched.specs.declared.step.Step.TheVariants as step
 use Rattle.gr_sched.specs.declared.step.Line.{Line}
-use Rattle.gr_know.specs.declared.values.K.TheVariants.{D}
 use Rattle.gr_model.specs.declared.report.Report.{Report}
 use Rattle.gr_model.specs.declared.report.Report.TheVariants as line
 use Rattle.gr_know.specs.Values.{Known}
 use Rattle.gr_model.specs.Net.{Net, is_host, keeps_horizon, numbers, not_empty}
-use Rattle.gr_model.specs.Broker.{View, Log, Outcome, empty_log, is_kept, told, got_line, learn, publish, marking, cutting, wake, wake_host, wake_below, asking, curiosity, expect, receive, clashes, place_of, silence, with_event, with_mark, max_tick}
+use Rattle.gr_model.specs.Broker.{View, Log, Outcome, empty_log, is_kept, told, got_line, learn, publish, marking, cutting, wake, wake_host, wake_below, asking, curiosity, expect, receive, clashes, place_of, with_event, max_tick}
 use Rattle.gr_model.specs.World.{World, Told, view_of, log_of, absorbed, unchanged, after, in_turn, sent_line, sent_lines, wake_for, wake_all, deliver_frame, frame_at, publish_now, restarted, crash, publish_stopped, sweep_for, sweep, sweep_moment, next, show, opened_lines, kept_events, deliver_frame_by, next_by, publish_now_by, publish_stopped_by, sweep_by, wake_for_by}
 use Rattle.gr_frame.specs.Bytes.{frame_bytes}
 use Rattle.gr_model.specs.Tree.{IsNet, IsSubscriber}
 use Rattle.gr_theorems.specs.Fits.{WorldFits, StepIn}
-use Rattle.gr_theorems.proofs.calls.Calls.{run_at}
+use Rattle.gr_theorems.proofs.calls.HostCases.{publish_cases, marking_cases}
 use Rattle.gr_theorems.proofs.runs.Schedules.{clocked_fits, frame_at_true}
 use Rattle.std.specs.List.{list_any}
 use Rattle.std.proofs.lemmas.Bool.{eq-eqb, or_left, or_right}
@@ -103,31 +102,10 @@ receive_named net now f v log n i j = go f.body
     go (body.Expect tick) = tt
 
 publish_named : (net : Net) (p b now number : ℕ) (e : Event) (v : View) (log : Log) → IsNet net → b < net.brokers → p < net.publishers → Named net Never (publish net p b now number e v log).lines
-unfolding publish
-publish_named net p b now number e v log n i j = first (nat_le number log.last) (nat_lt (suc log.last) number) (nat_lt max_tick tick)
-  where
-    tick : ℕ
-    tick = max (suc log.settled) now
-
-    o : Outcome
-    o = learn net p b (silence (suc log.settled) (tick - 1) (run_at tick tick (D e) ∷ [])) v (with_event log tick e)
-
-    first : (x y z : Bool) → Named net Never (let u : Outcome = elim x [ true ↦ record { view = v; log = log; lines = line.Already p number ∷ []; frames = [] } | false ↦ elim y [ true ↦ record { view = v; log = log; lines = line.Gap p number (suc log.last) ∷ []; frames = [] } | false ↦ elim z [ true ↦ record { view = v; log = log; lines = line.Exhausted p number ∷ []; frames = [] } | false ↦ record { view = o.view; log = o.log; lines = line.Logged p number tick ∷ o.lines; frames = o.frames } ] ] ] in u.lines)
-    first true y z = tt
-    first false true z = tt
-    first false false true = tt
-    first false false false = learn_named net p b _ v _ n i j
+publish_named net p b now number e v log n i j = publish_cases net p b now number e v log (λ o. Named net Never o.lines) (λ l. tt) (λ l. tt) (λ x l. tt) (λ x l. learn_named net p b _ v _ n i j)
 
 marking_named : (net : Net) (p b now : ℕ) (v : View) (log : Log) → IsNet net → b < net.brokers → p < net.publishers → Named net Never (marking net p b now v log).lines
-unfolding marking
-marking_named net p b now v log n i j = go (nat_le (log.settled + net.quiet) now)
-  where
-    o : Outcome
-    o = learn net p b (silence (suc log.settled) now []) v (with_mark log now)
-
-    go : (q : Bool) → Named net Never (let u : Outcome = elim q [ true ↦ record { view = o.view; log = o.log; lines = o.lines; frames = o.frames } | false ↦ record { view = v; log = log; lines = []; frames = [] } ] in u.lines)
-    go true = learn_named net p b _ v _ n i j
-    go false = tt
+marking_named net p b now v log n i j = marking_cases net p b now v log (λ o. Named net Never o.lines) (λ e. learn_named net p b _ v _ n i j) (λ e. tt)
 
 wake_named : (net : Net) (p b now : ℕ) (v : View) (log : Log) → IsNet net → b < net.brokers → p < net.publishers → Named net Never (wake net p b now v log).lines
 unfolding wake wake_host wake_below asking

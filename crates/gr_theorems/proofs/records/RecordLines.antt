@@ -1,23 +1,22 @@
 -- The recorded lines of each step are those that the record and the step demand
-use Rattle.std.proofs.Common.{◌≡◌, ◌≢◌, ◌⊎◌, inl, inr, ⊎_elim, ℕ, suc, zero, ◌+◌, ◌-◌, ◌≤◌, ◌<◌, max, Bool, true, false, ◌&&◌, List, [], ◌∷◌, ◌++◌, map, length, refl, sym, ap, ap₂, ◌∙◌, subst, arith, append-nil, append_assoc}
+use Rattle.std.proofs.Common.{◌≡◌, ◌≢◌, ◌⊎◌, inl, inr, ⊎_elim, ℕ, suc, zero, ◌+◌, ◌≤◌, ◌<◌, max, Bool, true, false, ◌&&◌, List, [], ◌∷◌, ◌++◌, map, length, refl, sym, ap, ap₂, ◌∙◌, subst, arith, append-nil, append_assoc}
 use Rattle.std.specs.Prelude.{nat_eq, nat_le, nat_lt, if◌then◌else◌, flat_map, filter, cond}
-use Rattle.std.proofs.lemmas.Bool.{cases_Bool, cases_eq, eq-eqb, ne_eqb, lt-ltb, le-ltb, leb-true, le-leb, and_parts}
+use Rattle.std.proofs.lemmas.Bool.{cases_Bool, cases_eq, eq-eqb, ne_eqb, lt-ltb, le-ltb, leb-true, le-leb, and_parts, lt-leb}
 use Rattle.std.proofs.lemmas.List.Elements.{filter-append}
 use Rattle.gr_event.specs.declared.event.Event.{Event}
 use Rattle.gr_frame.specs.declared.Body.{Body}
 use Rattle.gr_frame.specs.declared.Body.TheVariants as body
 use Rattle.gr_frame.specs.declared.Frame.{Frame}
-use Rattle.gr_know.specs.declared.values.K.TheVariants.{D}
 use Rattle.gr_know.specs.Values.{Known}
 use Rattle.gr_model.specs.declared.report.Report.{Report}
 use Rattle.gr_model.specs.declared.report.Report.TheVariants as line
 use Rattle.gr_model.specs.Net.{Net, is_host, numbers_from}
-use Rattle.gr_model.specs.Broker.{View, Log, Outcome, told, got_line, learn, publish, marking, cutting, wake, wake_host, wake_below, asking, curiosity, expect, receive, clashes, place_of, silence, with_event, with_mark, max_tick}
+use Rattle.gr_model.specs.Broker.{View, Log, Outcome, told, got_line, learn, publish, marking, cutting, wake, wake_host, wake_below, asking, curiosity, expect, receive, clashes, place_of, max_tick}
 use Rattle.gr_model.specs.World.{World, Told, view_of, log_of, absorbed, unchanged, after, in_turn, sent_line, sent_lines, wake_for, deliver_frame, publish_now, sweep_for, deliver_frame_by, publish_now_by, wake_for_by}
 use Rattle.gr_model.specs.Headline.{Recorded, is_record_line, is_sent, sent_count, publish_line, marked, settling}
 use Rattle.gr_model.specs.Tree.{IsNet}
 use Rattle.gr_theorems.specs.Fits.{WorldFits, FrameTrue}
-use Rattle.gr_theorems.proofs.calls.Calls.{run_at}
+use Rattle.gr_theorems.proofs.calls.HostCases.{publish_cases, marking_cases}
 use Rattle.gr_theorems.proofs.records.Records.{core, core_of, marking_core, wake_for_core, wake_for_clock, deliver_core, deliver_clock, sweep_for_marks, sweep_for_marked}
 use Rattle.gr_theorems.proofs.runs.Worlds.{wake_for_kept}
 use Rattle.gr_theorems.proofs.runs.Chains.{Chains, sweep_for_chain}
@@ -85,21 +84,15 @@ one_of f x xs e = ap (λ (z : List Report). cond (f x) (x ∷ z) z) e
 
 -- of a publish the test passes at most its own line
 pub publish_some : (f : Report → Bool) (net : Net) (p b now number : ℕ) (e : Event) (v : View) (log : Log) → Skips f → filter f (publish net p b now number e v log).lines ≡ filter f (publish_line p now number (core log) ∷ [])
-unfolding publish
-publish_some f net p b now number e v log k = first (nat_le number log.last) (nat_lt (suc log.last) number) (nat_lt max_tick tick)
+publish_some f net p b now number e v log k =
+    publish_cases net p b now number e v log (λ o. filter f o.lines ≡ filter f (publish_line p now number (core log) ∷ []))
+    (λ l. rw (le-leb number log.last l) refl)
+    (λ l. rw (lt-leb number log.last (omega (arith, l)), lt-ltb (suc log.last) number l) refl)
+    (λ x l. rw (lt-leb number log.last (omega (arith, x)), le-ltb (suc log.last) number (omega (arith, x)), lt-ltb max_tick tick l) refl)
+    (λ x l. rw (lt-leb number log.last (omega (arith, x)), le-ltb (suc log.last) number (omega (arith, x)), le-ltb max_tick tick l) (one_of f (line.Logged p number tick) _ (learn_none f net p b _ v _ k)))
   where
     tick : ℕ
     tick = max (suc log.settled) now
-
-    o : Outcome
-    o = learn net p b (silence (suc log.settled) (tick - 1) (run_at tick tick (D e) ∷ [])) v (with_event log tick e)
-
-    first : (x y z : Bool) → filter f (let u : Outcome = elim x [ true ↦ record { view = v; log = log; lines = line.Already p number ∷ []; frames = [] } | false ↦ elim y [ true ↦ record { view = v; log = log; lines = line.Gap p number (suc log.last) ∷ []; frames = [] } | false ↦ elim z [ true ↦ record { view = v; log = log; lines = line.Exhausted p number ∷ []; frames = [] } | false ↦ record { view = o.view; log = o.log; lines = line.Logged p number tick ∷ o.lines; frames = o.frames } ] ] ] in u.lines)
-        ≡ filter f ((if x then line.Already p number else (if y then line.Gap p number (suc log.last) else (if z then line.Exhausted p number else line.Logged p number tick))) ∷ [])
-    first true y z = refl
-    first false true z = refl
-    first false false true = refl
-    first false false false = one_of f (line.Logged p number tick) o.lines (learn_none f net p b _ v _ k)
 
 publish_line_recorded : (p now number : ℕ) (r : Recorded) → recs (publish_line p now number r ∷ []) ≡ publish_line p now number r ∷ []
 publish_line_recorded p now number r = go (nat_le number r.last) (nat_lt (suc r.last) number) (nat_lt max_tick (max (suc r.settled) now))
@@ -120,15 +113,7 @@ publish_line_unsent p now number r = go (nat_le number r.last) (nat_lt (suc r.la
     go false false false = refl
 
 pub marking_none : (f : Report → Bool) (net : Net) (p b now : ℕ) (v : View) (log : Log) → Skips f → filter f (marking net p b now v log).lines ≡ []
-unfolding marking
-marking_none f net p b now v log k = go (nat_le (log.settled + net.quiet) now)
-  where
-    o : Outcome
-    o = learn net p b (silence (suc log.settled) now []) v (with_mark log now)
-
-    go : (q : Bool) → filter f (let u : Outcome = elim q [ true ↦ record { view = o.view; log = o.log; lines = o.lines; frames = o.frames } | false ↦ record { view = v; log = log; lines = []; frames = [] } ] in u.lines) ≡ []
-    go true = learn_none f net p b _ v _ k
-    go false = refl
+marking_none f net p b now v log k = marking_cases net p b now v log (λ o. filter f o.lines ≡ []) (λ e. learn_none f net p b _ v _ k) (λ e. refl)
 
 -- the lines of a woken host before those that subscribers are told
 abbrev pub front : ℕ → ℕ → ℕ → Bool → Bool → List Report

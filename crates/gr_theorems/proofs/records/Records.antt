@@ -1,22 +1,21 @@
 -- The logs of the world are the record of the steps
-use Rattle.std.proofs.Common.{◌≡◌, ◌≢◌, ◌⊎◌, inl, inr, ⊎_elim, ℕ, suc, zero, ◌+◌, ◌-◌, ◌≤◌, ◌<◌, max, Bool, true, false, List, [], ◌∷◌, ◌++◌, length, set, get_or, refl, sym, ap, ◌∙◌, subst, arith}
+use Rattle.std.proofs.Common.{◌≡◌, ◌≢◌, ◌⊎◌, inl, inr, ⊎_elim, ℕ, suc, zero, ◌+◌, ◌≤◌, ◌<◌, max, Bool, true, false, List, [], ◌∷◌, ◌++◌, length, set, get_or, refl, sym, ap, ◌∙◌, subst, arith}
 use Rattle.std.specs.Prelude.{nat_eq, nat_le, nat_lt, if◌then◌else◌, flat_map, filter}
 use Rattle.std.specs.List.{list_any}
-use Rattle.std.proofs.lemmas.Bool.{or_left, or_right, or_cases, cases_Bool, cases_eq, false≢true, eqb-true, eq-eqb, ne_eqb, both_ways, le-leb, lt-leb, leb-true, leb-false, ltb-true, ltb-false, and_right}
+use Rattle.std.proofs.lemmas.Bool.{or_left, or_right, or_cases, cases_Bool, cases_eq, false≢true, eqb-true, eq-eqb, ne_eqb, both_ways, le-leb, lt-leb, and_right}
 use Rattle.std.proofs.lemmas.List.{get_or-set_other, get_or-set_same}
 use Rattle.gr_event.specs.declared.event.Event.{Event}
 use Rattle.gr_frame.specs.declared.Body.{Body}
 use Rattle.gr_frame.specs.declared.Body.TheVariants as body
 use Rattle.gr_frame.specs.declared.Frame.{Frame}
-use Rattle.gr_model.specs.declared.report.Report.TheVariants as line
 use Rattle.gr_know.specs.Values.{Known}
 use Rattle.gr_model.specs.Net.{Net, is_host, keeps_horizon, numbers, numbers_from}
 use Rattle.gr_model.specs.Broker.{View, Log, Outcome, empty_log, publish, wake, wake_host, wake_below, asking, marking, cutting, receive, clashes, learn, curiosity, expect, place_of, with_event, with_mark, with_cut, silence, max_tick, done_upto, consolidated}
 use Rattle.gr_model.specs.World.{World, Told, view_of, log_of, absorbed, unchanged, after, in_turn, wake_for, deliver_frame, deliver_up, wake_up, hand_down, sweep_for, frames_past, sent_since, is_want, is_know_to, at_depth, outwards, inwards, numbers_down, deliver_frame_by, deliver_up_by, hand_down_by, sweep_for_by, wake_for_by, wake_up_by}
 use Rattle.gr_model.specs.Headline.{Recorded, recording, settling, marked, is_next}
-use Rattle.gr_know.specs.declared.values.K.TheVariants.{D}
 use Rattle.gr_model.specs.Tree.{IsNet}
 use Rattle.gr_theorems.specs.Fits.{WorldFits, FrameTrue}
+use Rattle.gr_theorems.proofs.calls.HostCases.{publish_cases, marking_cases}
 use Rattle.gr_theorems.proofs.calls.Calls.{learn_log}
 use Rattle.gr_theorems.proofs.runs.Worlds.{Kept, Kept-refl, Kept-after, wake_for_kept, deliver_kept, Each, IsLaterWorld, FrameTrue-later, frames_past_true, filter_frames, depths_in}
 
@@ -52,15 +51,10 @@ cutting_core net p b v log = go (nat_lt log.cut (done_upto (consolidated (keeps_
     go false = refl
 
 pub marking_core : (net : Net) (p b now : ℕ) (v : View) (log : Log) → core (marking net p b now v log).log ≡ marked net now (core log)
-unfolding marking
-marking_core net p b now v log = go (nat_le (log.settled + net.quiet) now)
-  where
-    o : Outcome
-    o = learn net p b (silence (suc log.settled) now []) v (with_mark log now)
-
-    go : (q : Bool) → core (let u : Outcome = elim q [ true ↦ record { view = o.view; log = o.log; lines = o.lines; frames = o.frames } | false ↦ record { view = v; log = log; lines = []; frames = [] } ] in u.log) ≡ (if q then settling now (core log) else core log)
-    go true = ap core (learn_log net p b (silence (suc log.settled) now []) v (with_mark log now))
-    go false = refl
+marking_core net p b now v log =
+    marking_cases net p b now v log (λ o. core o.log ≡ marked net now (core log))
+    (λ e. ap core (learn_log net p b (silence (suc log.settled) now []) v (with_mark log now)) ∙ ap (λ q. if q then settling now (core log) else core log) (sym e))
+    (λ e. ap (λ q. if q then settling now (core log) else core log) (sym e))
 
 pub wake_core : (net : Net) (p b now : ℕ) (v : View) (log : Log) → core (wake net p b now v log).log ≡ (if is_host net p b then marked net now (core log) else core log)
 unfolding wake wake_host wake_below asking
@@ -71,26 +65,15 @@ wake_core net p b now v log = go (is_host net p b)
     go false = refl
 
 pub publish_core : (net : Net) (p b now number : ℕ) (e : Event) (v : View) (log : Log) → core (publish net p b now number e v log).log ≡ (if is_next now (core log) number then recording now (core log) e else core log)
-unfolding publish
-publish_core net p b now number e v log = first (nat_le number log.last) refl
+publish_core net p b now number e v log =
+    publish_cases net p b now number e v log (λ o. core o.log ≡ (if is_next now (core log) number then recording now (core log) e else core log))
+    (λ l. rw (ne_eqb number (suc log.last) (λ h. omega (arith, h, l))) refl)
+    (λ l. rw (ne_eqb number (suc log.last) (λ h. omega (arith, h, l))) refl)
+    (λ x l. rw (lt-leb tick max_tick l, and_right (nat_eq number (suc log.last)) false refl) refl)
+    (λ x l. rw (eq-eqb number (suc log.last) x, le-leb tick max_tick l) (ap core (learn_log net p b _ v (with_event log tick e))))
   where
     tick : ℕ
     tick = max (suc log.settled) now
-
-    o : Outcome
-    o = learn net p b (silence (suc log.settled) (tick - 1) (record { first = tick; last = tick; value = D e } ∷ [])) v (with_event log tick e)
-
-    third : (q : Bool) → nat_lt max_tick tick ≡ q → nat_eq number (suc log.last) ≡ true → core (let u : Outcome = elim q [ true ↦ record { view = v; log = log; lines = line.Exhausted p number ∷ []; frames = [] } | false ↦ record { view = o.view; log = o.log; lines = line.Logged p number tick ∷ o.lines; frames = o.frames } ] in u.log) ≡ (if is_next now (core log) number then recording now (core log) e else core log)
-    third true x y = rw (lt-leb tick max_tick (ltb-true max_tick tick x), and_right (nat_eq number (suc log.last)) false refl) refl
-    third false x y = rw (y, le-leb tick max_tick (ltb-false max_tick tick x)) (ap core (learn_log net p b (silence (suc log.settled) (tick - 1) (record { first = tick; last = tick; value = D e } ∷ [])) v (with_event log tick e)))
-
-    second : (q : Bool) → nat_lt (suc log.last) number ≡ q → log.last < number → core (let u : Outcome = elim q [ true ↦ record { view = v; log = log; lines = line.Gap p number (suc log.last) ∷ []; frames = [] } | false ↦ elim (nat_lt max_tick tick) [ true ↦ record { view = v; log = log; lines = line.Exhausted p number ∷ []; frames = [] } | false ↦ record { view = o.view; log = o.log; lines = line.Logged p number tick ∷ o.lines; frames = o.frames } ] ] in u.log) ≡ (if is_next now (core log) number then recording now (core log) e else core log)
-    second true x l = rw (ne_eqb number (suc log.last) (λ h. omega (arith, h, ltb-true (suc log.last) number x))) refl
-    second false x l = third (nat_lt max_tick tick) refl (eq-eqb number (suc log.last) (omega (arith, ltb-false (suc log.last) number x)))
-
-    first : (q : Bool) → nat_le number log.last ≡ q → core (let u : Outcome = elim q [ true ↦ record { view = v; log = log; lines = line.Already p number ∷ []; frames = [] } | false ↦ elim (nat_lt (suc log.last) number) [ true ↦ record { view = v; log = log; lines = line.Gap p number (suc log.last) ∷ []; frames = [] } | false ↦ elim (nat_lt max_tick tick) [ true ↦ record { view = v; log = log; lines = line.Exhausted p number ∷ []; frames = [] } | false ↦ record { view = o.view; log = o.log; lines = line.Logged p number tick ∷ o.lines; frames = o.frames } ] ] ] in u.log) ≡ (if is_next now (core log) number then recording now (core log) e else core log)
-    first true x = rw (ne_eqb number (suc log.last) (λ h. omega (arith, h, leb-true number log.last x))) refl
-    first false x = second (nat_lt (suc log.last) number) refl (leb-false number log.last x)
 
 -- The cores of all logs
 

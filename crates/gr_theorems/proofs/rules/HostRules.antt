@@ -1,7 +1,7 @@
 -- The host's calls and the receipt of a frame obey their rules
 use Rattle.std.proofs.Common.{◌≡◌, ◌≢◌, inl, inr, ℕ, suc, ◌+◌, ◌-◌, ◌≤◌, ◌<◌, min, max, Bool, true, false, [], ◌∷◌, ◌++◌, refl, sym, ap, ap₂, ◌∙◌, subst, arith, le_refl}
 use Rattle.std.specs.Prelude.{nat_le, nat_lt, if◌then◌else◌}
-use Rattle.std.proofs.lemmas.Bool.{cases_Bool, cases_lt, cases_eq, false≢true, true≢false, eq-eqb, ne_eqb, leb-true, le-leb, lt-leb, lt-ltb, le-ltb}
+use Rattle.std.proofs.lemmas.Bool.{cases_Bool, cases_lt, cases_eq, true≢false, eq-eqb, ne_eqb, leb-true, le-leb, lt-leb, lt-ltb, le-ltb, both_ways}
 use Rattle.gr_event.specs.declared.event.Event.{Event}
 use Rattle.gr_know.specs.declared.values.K.TheVariants.{Q, S, D}
 use Rattle.gr_curio.specs.declared.values.Q3.TheVariants.{N, A}
@@ -12,11 +12,12 @@ use Rattle.gr_model.specs.declared.report.Report.TheVariants as line
 use Rattle.gr_tick.specs.Runs.{AreRuns, first_bottom_from}
 use Rattle.gr_know.specs.Values.{Known, known_at}
 use Rattle.gr_model.specs.Net.{Net, is_host, keeps_horizon}
-use Rattle.gr_model.specs.Broker.{View, Log, Outcome, is_settled, consolidated, learn, max_tick, expect_frames, place_of, publish, silence, with_event, with_mark, with_cut, marking, cutting, done_upto, wake_host, wake_below, wake, receive, clashes, curiosity, expect}
+use Rattle.gr_model.specs.Broker.{View, Log, Outcome, is_settled, consolidated, learn, max_tick, expect_frames, place_of, publish, silence, with_event, with_mark, with_cut, marking, cutting, done_upto, wake_host, wake_below, wake, receive, clashes, curiosity, expect, published}
 use Rattle.gr_model.specs.Tree.{IsNet}
 use Rattle.gr_theorems.specs.Truth.{Facts, KnowsTruth, AllWantTruth}
 use Rattle.gr_theorems.specs.Fits.{facts, LogFits, ViewTrue, BodyTrue, BodyFits, FrameFits}
 use Rattle.gr_theorems.specs.Rules.{HasKnown, NewTicks, Asks, wanted_by_age, TellsToExpect, unmoved, silence_upto, IsConsolidatedUpto, HostWakes, Wakes, event_upto, Publishes, Comes}
+use Rattle.gr_theorems.proofs.calls.HostCases.{marking_cases}
 use Rattle.gr_tick.proofs.RunLaws.{first_bottom_from-is, value_at-in, value_at-below, value_at-above}
 use Rattle.gr_theorems.proofs.calls.CallTruth.{ViewTrue-later, done_runs, done_values}
 use Rattle.gr_theorems.proofs.calls.Calls.{ComeOn, run_at, said_more, silence_true, silence_in, silence_above, nothing_true, published_piece, later_facts, marking_call}
@@ -73,8 +74,9 @@ event_is settled tick e l r = record {
 -- The mark
 
 marked_rule : (net : Net) (p b now : ℕ) (v : View) (log : Log) (reached : ℕ → ℕ) → IsNet net → p < net.publishers → b < net.brokers → LogFits log → ViewTrue net (facts log reached) p b v → log.settled + net.quiet ≤ now → NewTicks net p b (silence (suc log.settled) now []) v (with_mark log now) (marking net p b now v log)
-unfolding marking learn
-marked_rule net p b now v log reached n i j fit h l = go (nat_le (log.settled + net.quiet) now) (le-leb (log.settled + net.quiet) now l)
+marked_rule net p b now v log reached n i j fit h l =
+    marking_cases net p b now v log (NewTicks net p b piece v new) (λ e. new_ticks_rule net f p b piece v new (n.place p b i j) (n.children_once p b i j) view_true piece_true)
+    (λ e. absurd (both_ways (nat_le (log.settled + net.quiet) now) e (le-leb (log.settled + net.quiet) now l)))
   where
     new : Log
     new = with_mark log now
@@ -85,45 +87,26 @@ marked_rule net p b now v log reached n i j fit h l = go (nat_le (log.settled + 
     piece : Known
     piece = silence (suc log.settled) now []
 
-    o : Outcome
-    o = learn net p b piece v new
-
     view_true : ViewTrue net f p b v
     view_true = ViewTrue-later net (facts log reached) f p b v (later_facts log new reached reached (omega (arith, l)) (λ t x. refl) (λ s. le_refl (reached s))) h
 
     piece_true : KnowsTruth net f p b piece
     piece_true = silence_true net f p b (suc log.settled) now [] (omega arith) (le_refl now) (λ t x y. fit.past t x) (nothing_true net f p b) tt tt
 
-    go : (q : Bool) → q ≡ true → NewTicks net p b piece v new (elim q [ true ↦ record { view = o.view; log = o.log; lines = o.lines; frames = o.frames } | false ↦ record { view = v; log = log; lines = []; frames = [] } ])
-    go false e = absurd (false≢true e)
-    go true e = new_ticks_rule net f p b piece v new (n.place p b i j) (n.children_once p b i j) view_true piece_true
-
 marked_still : (net : Net) (p b now : ℕ) (v : View) (log : Log) → now < log.settled + net.quiet → marking net p b now v log ≡ unmoved v log
-unfolding marking
-marked_still net p b now v log l = rw (marking, lt-leb (log.settled + net.quiet) now l) refl
+marked_still net p b now v log l = marking_cases net p b now v log (λ o. o ≡ unmoved v log) (λ e. absurd (omega (arith, l, leb-true (log.settled + net.quiet) now e))) (λ e. refl)
 
 marked_cut : (net : Net) (p b now : ℕ) (v : View) (log : Log) → (marking net p b now v log).log.cut ≡ log.cut
-unfolding marking learn
-marked_cut net p b now v log = go (nat_le (log.settled + net.quiet) now)
-  where
-    o : Outcome
-    o = learn net p b (silence (suc log.settled) now []) v (with_mark log now)
-
-    go : (q : Bool) → (let x : Outcome = elim q [ true ↦ record { view = o.view; log = o.log; lines = o.lines; frames = o.frames } | false ↦ record { view = v; log = log; lines = []; frames = [] } ] in x.log.cut) ≡ log.cut
-    go true = refl
-    go false = refl
+unfolding learn
+marked_cut net p b now v log = marking_cases net p b now v log (λ o. o.log.cut ≡ log.cut) (λ e. refl) (λ e. refl)
 
 -- the log is settled further exactly where it is marked
 marked_test : (net : Net) (p b now : ℕ) (v : View) (log : Log) → 1 ≤ net.quiet → nat_lt log.settled (marking net p b now v log).log.settled ≡ nat_le (log.settled + net.quiet) now
-unfolding marking learn
-marked_test net p b now v log quiet = go (nat_le (log.settled + net.quiet) now) refl
-  where
-    o : Outcome
-    o = learn net p b (silence (suc log.settled) now []) v (with_mark log now)
-
-    go : (q : Bool) → nat_le (log.settled + net.quiet) now ≡ q → (let x : Outcome = elim q [ true ↦ record { view = o.view; log = o.log; lines = o.lines; frames = o.frames } | false ↦ record { view = v; log = log; lines = []; frames = [] } ] in nat_lt log.settled x.log.settled) ≡ q
-    go true e = lt-ltb log.settled now (omega (arith, quiet, leb-true (log.settled + net.quiet) now e))
-    go false e = le-ltb log.settled log.settled (le_refl log.settled)
+unfolding learn
+marked_test net p b now v log quiet =
+    marking_cases net p b now v log (λ o. nat_lt log.settled o.log.settled ≡ nat_le (log.settled + net.quiet) now)
+    (λ e. lt-ltb log.settled now (omega (arith, quiet, leb-true (log.settled + net.quiet) now e)) ∙ sym e)
+    (λ e. le-ltb log.settled log.settled (le_refl log.settled) ∙ sym e)
 
 -- The cut
 
@@ -222,7 +205,7 @@ wakes_rule net p b now v log reached n quiet i j fit h = record {
 -- A publish
 
 pub publishes_rule : (net : Net) (p b now number : ℕ) (e : Event) (v : View) (log : Log) (reached : ℕ → ℕ) → IsNet net → p < net.publishers → b < net.brokers → is_host net p b ≡ true → LogFits log → ViewTrue net (facts log reached) p b v → Publishes net p b now number e v log (publish net p b now number e v log)
-unfolding publish
+unfolding publish published
 publishes_rule net p b now number e v log reached n i j host fit h =
     let tick = max (suc log.settled) now in
     let new = with_event log tick e in
@@ -231,14 +214,14 @@ publishes_rule net p b now number e v log reached n i j host fit h =
     let piece_true : KnowsTruth net f p b piece = published_piece net p b tick e log reached host fit (omega arith) in
     let view_true : ViewTrue net f p b v = ViewTrue-later net (facts log reached) f p b v (later_facts log new reached reached (omega arith) (λ t x. said_more log.events tick t e (λ q. omega (arith, q, x))) (λ s. le_refl (reached s))) h in
     record {
-      already = λ l. rw (publish, le-leb number log.last l) refl;
-      gap = λ l. rw (publish, lt-leb number log.last (omega (arith, l)), lt-ltb (suc log.last) number l) refl;
-      exhausted = λ x l. rw (publish, lt-leb number log.last (omega (arith, x)), le-ltb (suc log.last) number (omega (arith, x)), lt-ltb max_tick tick l) refl;
+      already = λ l. rw (publish, published, le-leb number log.last l) refl;
+      gap = λ l. rw (publish, published, lt-leb number log.last (omega (arith, l)), lt-ltb (suc log.last) number l) refl;
+      exhausted = λ x l. rw (publish, published, lt-leb number log.last (omega (arith, x)), le-ltb (suc log.last) number (omega (arith, x)), lt-ltb max_tick tick l) refl;
       piece = piece;
       piece_is = event_is log.settled tick e (omega arith) piece_true.runs;
       learned = learn net p b piece v new;
       learns = λ x l. new_ticks_rule net f p b piece v new (n.place p b i j) (n.children_once p b i j) view_true piece_true;
-      logged = λ x l. rw (publish, lt-leb number log.last (omega (arith, x)), le-ltb (suc log.last) number (omega (arith, x)), le-ltb max_tick tick l) refl;
+      logged = λ x l. rw (publish, published, lt-leb number log.last (omega (arith, x)), le-ltb (suc log.last) number (omega (arith, x)), le-ltb max_tick tick l) refl;
     }
 
 -- A frame

@@ -1,8 +1,7 @@
 -- The wake of the host in a sweep: it sends no curiosity, tells each child of the mark, and acknowledges nothing new
 use Rattle.std.proofs.Common.{◌≡◌, ◌≢◌, ℕ, suc, zero, ◌+◌, ◌≤◌, ◌<◌, Bool, true, false, List, [], ◌∷◌, length, refl, sym, ap, ◌∙◌, subst, Some, arith, le_refl}
 use Rattle.std.specs.Prelude.{filter, nat_le, nat_lt, if◌then◌else◌}
-use Rattle.std.proofs.lemmas.Bool.{false≢true, true≢false, eq-eqb, leb-true}
-use Rattle.gr_know.specs.declared.values.K.{K}
+use Rattle.std.proofs.lemmas.Bool.{false≢true, true≢false, eq-eqb, leb-true, both_ways}
 use Rattle.gr_know.specs.declared.values.K.TheVariants.{Q, S}
 use Rattle.gr_curio.specs.declared.values.Q3.{Q3}
 use Rattle.gr_curio.specs.declared.values.Q3.TheVariants.{N, A}
@@ -14,6 +13,7 @@ use Rattle.gr_model.specs.Broker.{View, Log, Outcome, learn, marking, cutting, s
 use Rattle.gr_model.specs.World.{World, view_of, log_of, wake_for, wake_up, deliver_up, frames_past, sent_since, is_want, deliver_up_by, wake_for_by, wake_up_by}
 use Rattle.gr_model.specs.Tree.{IsNet, IsPlace}
 use Rattle.gr_theorems.specs.Fits.{WorldFits, ViewTrue, LogFits, facts}
+use Rattle.gr_theorems.proofs.calls.HostCases.{marking_cases}
 use Rattle.gr_theorems.proofs.calls.CallTruth.{ViewTrue-later}
 use Rattle.gr_theorems.proofs.calls.Calls.{later_facts, silence_true, nothing_true, silence_in}
 use Rattle.gr_theorems.proofs.runs.Worlds.{Each}
@@ -41,15 +41,7 @@ not_up net p n j = record {
 }
 
 marking_each : (net : Net) (p b now : ℕ) (v : View) (log : Log) → SentBy net p b NotUp → Each NotUp (marking net p b now v log).frames
-unfolding marking
-marking_each net p b now v log s = go (nat_le (log.settled + net.quiet) now)
-  where
-    o : Outcome
-    o = learn net p b (silence (suc log.settled) now []) v (with_mark log now)
-
-    go : (q : Bool) → Each NotUp (let u : Outcome = elim q [ true ↦ record { view = o.view; log = o.log; lines = o.lines; frames = o.frames } | false ↦ record { view = v; log = log; lines = []; frames = [] } ] in u.frames)
-    go true = learn_each net p b NotUp (silence (suc log.settled) now []) v (with_mark log now) s
-    go false = tt
+marking_each net p b now v log s = marking_cases net p b now v log (λ o. Each NotUp o.frames) (λ e. learn_each net p b NotUp (silence (suc log.settled) now []) v (with_mark log now) s) (λ e. tt)
 
 wake_each : (net : Net) (p b now : ℕ) (v : View) (log : Log) → is_host net p b ≡ true → SentBy net p b NotUp → Each NotUp (wake net p b now v log).frames
 unfolding wake wake_host
@@ -105,8 +97,7 @@ S_not_Q : S ≡ Q → ⊥
 S_not_Q e = cc
 
 marking_tells : (net : Net) (p b now : ℕ) (v : View) (log : Log) (reached : ℕ → ℕ) → IsPlace net p b → LogFits log → ViewTrue net (facts log reached) p b v → nat_le (log.settled + net.quiet) now ≡ true → TellsMark net p b now v log (marking net p b now v log)
-unfolding marking
-marking_tells net p b now v log reached place fit h long = go (nat_le (log.settled + net.quiet) now) long
+marking_tells net p b now v log reached place fit h long = marking_cases net p b now v log (TellsMark net p b now v log) (λ e. marked) (λ e. absurd (both_ways (nat_le (log.settled + net.quiet) now) e long))
   where
     new : Log
     new = with_mark log now
@@ -125,9 +116,8 @@ marking_tells net p b now v log reached place fit h long = go (nat_le (log.settl
         (ViewTrue-later net (facts log reached) (facts new reached) p b v (later_facts log new reached reached upto (λ t x. refl) (λ s. le_refl (reached s))) h)
         (silence_true net (facts new reached) p b (suc log.settled) now [] (omega arith) (le_refl now) (λ t x y. fit.past t x) (nothing_true net (facts new reached) p b) tt tt)
 
-    go : (q : Bool) → q ≡ true → TellsMark net p b now v log (elim q [ true ↦ record { view = o.view; log = o.log; lines = o.lines; frames = o.frames } | false ↦ record { view = v; log = log; lines = []; frames = [] } ])
-    go false e = absurd (false≢true e)
-    go true e = record {
+    marked : TellsMark net p b now v log o
+    marked = record {
       tells = λ c t m l u q a.
           let s : known_at piece t ≡ S = silence_in (suc log.settled) now [] t l u in
           subst (λ z. Has (TellsTick p b c t z) o.frames) (ap (pass net p c t) s) (k.forwarded c t m q (λ z. S_not_Q (sym s ∙ z)) a);

@@ -1,6 +1,6 @@
 -- A broker that has stored a child's question does not know the tick: learning a tick forwards it and makes the C an N, consolidation needs an A of each child, and forgetting leaves only Q
-use Rattle.std.proofs.Common.{◌≡◌, ◌≢◌, ◌⊎◌, inl, inr, ⊎_elim, ℕ, suc, zero, ◌+◌, ◌-◌, ◌≤◌, ◌<◌, max, Bool, true, false, not, ◌&&◌, ◌||◌, List, [], ◌∷◌, map, set, get_or, refl, sym, ap, ap₂, ◌∙◌, subst, arith, le_refl}
-use Rattle.std.specs.Prelude.{nat_eq, nat_le, nat_lt, if◌then◌else◌}
+use Rattle.std.proofs.Common.{◌≡◌, ◌≢◌, ◌⊎◌, inl, inr, ⊎_elim, ℕ, suc, zero, ◌+◌, ◌≤◌, ◌<◌, max, Bool, true, false, not, ◌&&◌, ◌||◌, List, [], ◌∷◌, map, set, get_or, refl, sym, ap, ap₂, ◌∙◌, subst, arith, le_refl}
+use Rattle.std.specs.Prelude.{nat_eq, nat_le, if◌then◌else◌}
 use Rattle.std.specs.List.{list_any}
 use Rattle.std.proofs.lemmas.Bool.{cases_eq, false≢true, or_left, or_right, or_cases, and_right, eq-eqb, leb-true}
 use Rattle.std.proofs.lemmas.List.{get_or-set_other, get_or-set_same}
@@ -16,15 +16,15 @@ use Rattle.gr_frame.specs.declared.Frame.{Frame}
 use Rattle.gr_sched.specs.declared.step.Line.{Line}
 use Rattle.gr_know.specs.Values.{Known, known_at, is_Q, join_K}
 use Rattle.gr_curio.specs.Values.{Wanted, wanted_at, is_C, is_A}
-use Rattle.gr_model.specs.declared.report.Report.TheVariants as line
 use Rattle.gr_model.specs.Net.{Net, is_host, keeps_horizon, numbers}
-use Rattle.gr_model.specs.Broker.{View, Log, Outcome, empty_log, all_A, any_C, is_settled, new_ticks, forward, quenched, forward_wants, learn, asking, expect, curiosity, curious, stored, acknowledged, place_of, publish, silence, with_event, with_mark, marking, wake, wake_host, wake_below, receive, clashes, noted, due, max_tick, started}
+use Rattle.gr_model.specs.Broker.{View, Log, Outcome, empty_log, all_A, any_C, is_settled, new_ticks, forward, quenched, forward_wants, learn, asking, expect, curiosity, curious, stored, acknowledged, place_of, publish, silence, with_event, with_mark, marking, wake, wake_host, wake_below, receive, clashes, noted, due, started}
 use Rattle.gr_model.specs.World.{World, blank_view, view_of, log_of, absorbed, wake_for, deliver_frame, publish_now, restarted, start, run_all, deliver_frame_by, publish_now_by, wake_for_by}
 use Rattle.gr_theorems.specs.Truth.{Facts, KnowsTruth, WantsTruth, AllWantTruth}
 use Rattle.gr_model.specs.Tree.{IsNet, IsPlace}
 use Rattle.gr_theorems.specs.Fits.{WorldFits, FrameTrue, ViewTrue, LogFits, BodyTrue, BodyFits, StepsIn, facts, facts_of, reached_in}
+use Rattle.gr_theorems.proofs.calls.HostCases.{publish_cases, marking_cases, news_of}
 use Rattle.gr_theorems.proofs.calls.CallTruth.{ViewTrue-later, new_ticks-is, forward-is, quenched-is}
-use Rattle.gr_theorems.proofs.calls.Calls.{later_facts, silence_true, nothing_true, published_piece, said_more, run_at, trimmed_wants}
+use Rattle.gr_theorems.proofs.calls.Calls.{later_facts, silence_true, nothing_true, published_piece, said_more, trimmed_wants}
 use Rattle.gr_theorems.proofs.asks.CallTicks.{trimmed-is}
 use Rattle.gr_theorems.proofs.rules.Forwarding.{learn_ticks, quenched_at, quench_not_C, wants_of}
 use Rattle.gr_theorems.proofs.rules.Answering.{curiosity_ticks, acknowledged_at, acknowledged-is, stored-is, wants_true_at}
@@ -176,8 +176,7 @@ curiosity_unknown net f p b now c piece v log h child wt u t e =
     ⊎_elim (λ z. z ∙ (ap (λ s. if s then F else known_at v.know t) (asked_open (keeps_horizon net p b) v.horizon o.view.wants t e) ∙ q)) (λ z. z.0) (k.know t)
 
 marking_unknown : (net : Net) (p b now : ℕ) (v : View) (log : Log) (reached : ℕ → ℕ) → IsPlace net p b → LogFits log → ViewTrue net (facts log reached) p b v → UnknownIn v → UnknownIn (marking net p b now v log).view
-unfolding marking
-marking_unknown net p b now v log reached place fit h u = go (nat_le (log.settled + net.quiet) now) refl
+marking_unknown net p b now v log reached place fit h u = marking_cases net p b now v log (λ o. UnknownIn o.view) marked (λ e. u)
   where
     new : Log
     new = with_mark log now
@@ -188,9 +187,8 @@ marking_unknown net p b now v log reached place fit h u = go (nat_le (log.settle
     o : Outcome
     o = learn net p b piece v new
 
-    go : (q : Bool) → nat_le (log.settled + net.quiet) now ≡ q → (let x : Outcome = elim q [ true ↦ record { view = o.view; log = o.log; lines = o.lines; frames = o.frames } | false ↦ record { view = v; log = log; lines = []; frames = [] } ] in UnknownIn x.view)
-    go false e = u
-    go true e =
+    marked : nat_le (log.settled + net.quiet) now ≡ true → UnknownIn o.view
+    marked e =
         let l : log.settled ≤ now = omega (arith, leb-true (log.settled + net.quiet) now e) in
         learn_unknown net (facts new reached) p b piece v new place
         (ViewTrue-later net (facts log reached) (facts new reached) p b v (later_facts log new reached reached l (λ t x. refl) (λ s. le_refl (reached s))) h)
@@ -205,29 +203,18 @@ wake_unknown net p b now v log reached place fit h u = go (is_host net p b)
     go false = asking_unknown net p b now _ _ v log h.know.runs u
 
 publish_unknown : (net : Net) (p b now number : ℕ) (e : Event) (v : View) (log : Log) (reached : ℕ → ℕ) → IsPlace net p b → is_host net p b ≡ true → LogFits log → ViewTrue net (facts log reached) p b v → UnknownIn v → UnknownIn (publish net p b now number e v log).view
-unfolding publish
-publish_unknown net p b now number e v log reached place host fit h u = first (nat_le number log.last) (nat_lt (suc log.last) number) (nat_lt max_tick tick)
+publish_unknown net p b now number e v log reached place host fit h u =
+    publish_cases net p b now number e v log (λ o. UnknownIn o.view) (λ l. u) (λ l. u) (λ x l. u)
+    (λ x l.
+    learn_unknown net (facts new reached) p b (news_of log tick e) v new place
+    (ViewTrue-later net (facts log reached) (facts new reached) p b v (later_facts log new reached reached (omega arith) (λ t x. said_more log.events tick t e (λ q. omega (arith, q))) (λ s. le_refl (reached s))) h)
+    (published_piece net p b tick e log reached host fit (omega arith)) u)
   where
     tick : ℕ
     tick = max (suc log.settled) now
 
     new : Log
     new = with_event log tick e
-
-    piece : Known
-    piece = silence (suc log.settled) (tick - 1) (run_at tick tick (D e) ∷ [])
-
-    o : Outcome
-    o = learn net p b piece v new
-
-    first : (x y z : Bool) → (let r : Outcome = elim x [ true ↦ record { view = v; log = log; lines = line.Already p number ∷ []; frames = [] } | false ↦ elim y [ true ↦ record { view = v; log = log; lines = line.Gap p number (suc log.last) ∷ []; frames = [] } | false ↦ elim z [ true ↦ record { view = v; log = log; lines = line.Exhausted p number ∷ []; frames = [] } | false ↦ record { view = o.view; log = o.log; lines = line.Logged p number tick ∷ o.lines; frames = o.frames } ] ] ] in UnknownIn r.view)
-    first true y z = u
-    first false true z = u
-    first false false true = u
-    first false false false =
-        learn_unknown net (facts new reached) p b piece v new place
-        (ViewTrue-later net (facts log reached) (facts new reached) p b v (later_facts log new reached reached (omega arith) (λ t x. said_more log.events tick t e (λ q. omega (arith, q))) (λ s. le_refl (reached s))) h)
-        (published_piece net p b tick e log reached host fit (omega arith)) u
 
 receive_unknown : (net : Net) (f : Facts) (now : ℕ) (x : Frame) (v : View) (log : Log) → IsPlace net x.head.publisher x.head.to → ViewTrue net f x.head.publisher x.head.to v → BodyTrue net f x.head.publisher x.head.from x.head.to x.body → BodyFits net x.head.publisher x.head.from x.head.to x.body → UnknownIn v → UnknownIn (receive net now x v log).view
 unfolding receive

@@ -18,6 +18,7 @@ use Rattle.gr_model.specs.World.{World, view_of, log_of, wake_for, deliver_frame
 use Rattle.gr_theorems.specs.Truth.{Facts, AllWantTruth}
 use Rattle.gr_model.specs.Tree.{IsNet}
 use Rattle.gr_theorems.specs.Fits.{WorldFits, FrameTrue, BodyFits, BodyTrue, facts_of}
+use Rattle.gr_theorems.proofs.calls.HostCases.{marking_cases}
 use Rattle.gr_curio.specs.declared.asks.Moment.TheVariants.{At}
 use Rattle.gr_tick.proofs.RunLaws.{first_bottom_from-is}
 use Rattle.gr_theorems.proofs.calls.Pieces.{AllParts, cut_frames-parts}
@@ -342,8 +343,7 @@ cut_all net f p b v log a c h = go (nat_lt log.cut upto) refl
     go false e = omega (arith, c, ltb-false log.cut upto e, upto_is)
 
 marked_none : (net : Net) (p b now : ℕ) (v : View) (log : Log) → nat_le (log.settled + net.quiet) now ≡ false → marking net p b now v log ≡ record { view = v; log = log; lines = []; frames = [] }
-unfolding marking
-marked_none net p b now v log e = rw (marking, e) refl
+marked_none net p b now v log e = marking_cases net p b now v log (λ o. o ≡ record { view = v; log = log; lines = []; frames = [] }) (λ x. absurd (both_ways (nat_le (log.settled + net.quiet) now) e x)) (λ x. refl)
 
 -- a frame of Expect
 IsExpect : Frame → Type 0

@@ -1,6 +1,6 @@
 -- What the calls of a sweep send: frames of its publisher, and where knowledge is delivered, knowledge for the children alone
-use Rattle.std.proofs.Common.{◌≡◌, ℕ, suc, zero, ◌+◌, Bool, true, false, ◌&&◌, List, [], ◌∷◌, ◌++◌, map, length, refl, sym, ap, ◌∙◌, subst, append-nil, append_assoc}
-use Rattle.std.specs.Prelude.{nat_eq, nat_le, nat_lt, filter, if◌then◌else◌}
+use Rattle.std.proofs.Common.{◌≡◌, ℕ, suc, zero, Bool, true, false, ◌&&◌, List, [], ◌∷◌, ◌++◌, map, length, refl, sym, ap, ◌∙◌, subst, append-nil, append_assoc}
+use Rattle.std.specs.Prelude.{nat_eq, nat_lt, filter, if◌then◌else◌}
 use Rattle.std.proofs.lemmas.Bool.{false≢true, and_parts, eqb-true, eq-eqb, or_left, or_right}
 use Rattle.gr_know.specs.Values.{Known}
 use Rattle.gr_curio.specs.Values.{Wanted}
@@ -11,6 +11,7 @@ use Rattle.gr_frame.specs.declared.Frame.{Frame}
 use Rattle.gr_model.specs.Net.{Net, is_host}
 use Rattle.gr_model.specs.Broker.{View, Log, Outcome, head, know_frames, forward, new_ticks, forward_frames, learn, curiosity, expect, place_of, clashes, receive, marking, cutting, silence, with_mark, wake, wake_host, wake_below, expect_frames}
 use Rattle.gr_model.specs.World.{World, Told, view_of, log_of, absorbed, after, in_turn, wake_for, deliver_frame, frames_past, sent_since, is_want, is_know_to, deliver_up, wake_up, hand_down, deliver_frame_by, deliver_up_by, hand_down_by, wake_for_by, wake_up_by}
+use Rattle.gr_theorems.proofs.calls.HostCases.{marking_cases}
 use Rattle.gr_theorems.proofs.runs.Worlds.{Each}
 use Rattle.gr_theorems.proofs.asks.AskMoments.{Each-on}
 use Rattle.gr_theorems.proofs.runs.Closed.{Each-kept}
@@ -55,24 +56,18 @@ abbrev pub Of : ℕ → Frame → Type 0
 Of p f = f.head.publisher ≡ p
 
 wake_each : (net : Net) (p b now : ℕ) (R : Frame → Type 0) (v : View) (log : Log) → SentBy net p b R → Each R (wake net p b now v log).frames
-unfolding wake wake_host wake_below marking
+unfolding wake wake_host wake_below
 wake_each net p b now R v log s = go (is_host net p b)
   where
-    marked : (q : Bool) → Each R (let o : Outcome = elim q [
-      | true ↦
-          let o = learn net p b (silence (suc log.settled) now []) v (with_mark log now) in
-          record { view = o.view; log = o.log; lines = o.lines; frames = o.frames }
-      | false ↦ record { view = v; log = log; lines = []; frames = [] }
-    ] in o.frames)
-    marked true = learn_each net p b R (silence (suc log.settled) now []) v (with_mark log now) s
-    marked false = tt
+    marked : Each R (marking net p b now v log).frames
+    marked = marking_cases net p b now v log (λ o. Each R o.frames) (λ e. learn_each net p b R (silence (suc log.settled) now []) v (with_mark log now) s) (λ e. tt)
 
     told : (q : Bool) (tick : ℕ) (ws : List Wanted) → Each R (if q then expect_frames p b tick (net.children p b) ws else [])
     told true tick ws = expects_each net p b tick R (net.children p b) ws s
     told false tick ws = tt
 
     go : (q : Bool) → Each R (let o : Outcome = elim q [ true ↦ wake_host net p b now v log | false ↦ wake_below net p b now v log ] in o.frames)
-    go true = Each-on R (marking net p b now v log).frames _ (marked (nat_le (log.settled + net.quiet) now)) (told (nat_lt 0 (cutting net p b (marking net p b now v log).view (marking net p b now v log).log).settled) (cutting net p b (marking net p b now v log).view (marking net p b now v log).log).settled (marking net p b now v log).view.wants)
+    go true = Each-on R (marking net p b now v log).frames _ marked (told (nat_lt 0 (cutting net p b (marking net p b now v log).view (marking net p b now v log).log).settled) (cutting net p b (marking net p b now v log).view (marking net p b now v log).log).settled (marking net p b now v log).view.wants)
     go false = asking_each net p b now R _ _ v log s
 
 wake_of : (net : Net) (w : World) (b p : ℕ) → Adds (Of p) w (wake_for net w b p).world

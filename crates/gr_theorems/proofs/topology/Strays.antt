@@ -1,6 +1,6 @@
 -- No frame is a stray: each goes over an edge of the tree, since a broker tells only its children and asks only the next broker up
-use Rattle.std.proofs.Common.{◌≡◌, ℕ, suc, ◌+◌, ◌-◌, ◌<◌, max, Bool, true, false, List, [], ◌∷◌, map, refl, Option, Some, None}
-use Rattle.std.specs.Prelude.{nat_eq, nat_le, nat_lt, if◌then◌else◌}
+use Rattle.std.proofs.Common.{◌≡◌, ℕ, suc, ◌<◌, Bool, true, false, List, [], ◌∷◌, map, refl, Option, Some, None}
+use Rattle.std.specs.Prelude.{nat_eq, nat_lt, if◌then◌else◌}
 use Rattle.std.specs.List.{list_any}
 use Rattle.std.proofs.lemmas.Bool.{eq-eqb, or_left, or_right}
 use Rattle.gr_event.specs.declared.event.Event.{Event}
@@ -8,17 +8,16 @@ use Rattle.gr_frame.specs.declared.Body.{Body}
 use Rattle.gr_frame.specs.declared.Body.TheVariants as body
 use Rattle.gr_frame.specs.declared.Frame.{Frame}
 use Rattle.gr_frame.specs.Bytes.{known_run_size, wanted_run_size, cut_frames}
-use Rattle.gr_know.specs.declared.values.K.TheVariants.{D}
 use Rattle.gr_know.specs.Values.{Known}
 use Rattle.gr_curio.specs.Values.{Wanted}
 use Rattle.gr_sched.specs.declared.step.Line.{Line}
-use Rattle.gr_model.specs.declared.report.Report.TheVariants as line
 use Rattle.gr_model.specs.Net.{Net, is_host}
-use Rattle.gr_model.specs.Broker.{View, Log, Outcome, head, know_frames, want_frames, up_frames, expect_frame, forward, forward_frames, expect_frames, new_ticks, covers, learn, asking, curiosity, expect, marking, cutting, wake, wake_host, wake_below, receive, clashes, place_of, publish, silence, with_event, with_mark, max_tick}
+use Rattle.gr_model.specs.Broker.{View, Log, Outcome, head, know_frames, want_frames, up_frames, expect_frame, forward, forward_frames, expect_frames, new_ticks, covers, learn, asking, curiosity, expect, marking, cutting, wake, wake_host, wake_below, receive, clashes, place_of, publish, silence, with_mark}
 use Rattle.gr_model.specs.World.{World, view_of, log_of, absorbed, frame_at, wake_for, deliver_frame, publish_now, restarted, start, run_all, deliver_frame_by, publish_now_by, wake_for_by}
 use Rattle.gr_theorems.specs.Edges.{GoesOverEdge}
 use Rattle.gr_model.specs.Tree.{IsNet}
 use Rattle.gr_theorems.specs.Fits.{FrameTrue, BodyFits, StepsIn}
+use Rattle.gr_theorems.proofs.calls.HostCases.{publish_cases, marking_cases}
 use Rattle.gr_theorems.proofs.runs.Worlds.{Each}
 use Rattle.gr_theorems.proofs.asks.AskMoments.{Each-on}
 use Rattle.gr_theorems.proofs.runs.Closed.{IsClosed, holds_always, frame_at_ready}
@@ -92,15 +91,7 @@ unfolding expect
 expect_on net p b now tick R v log s = Each-on R _ _ (asking_on net p b now R _ _ v log s) (expects_on net p b tick R (net.children p b) v.wants s (λ c m. m))
 
 marking_on : (net : Net) (p b now : ℕ) (R : Frame → Type 0) (v : View) (log : Log) → SentOn net p b R → Each R (marking net p b now v log).frames
-unfolding marking
-marking_on net p b now R v log s = go (nat_le (log.settled + net.quiet) now)
-  where
-    o : Outcome
-    o = learn net p b (silence (suc log.settled) now []) v (with_mark log now)
-
-    go : (q : Bool) → Each R (let x : Outcome = elim q [ true ↦ record { view = o.view; log = o.log; lines = o.lines; frames = o.frames } | false ↦ record { view = v; log = log; lines = []; frames = [] } ] in x.frames)
-    go true = learn_on net p b R (silence (suc log.settled) now []) v (with_mark log now) s
-    go false = tt
+marking_on net p b now R v log s = marking_cases net p b now v log (λ o. Each R o.frames) (λ e. learn_on net p b R (silence (suc log.settled) now []) v (with_mark log now) s) (λ e. tt)
 
 -- each frame of a wake
 pub wake_on : (net : Net) (p b now : ℕ) (R : Frame → Type 0) (v : View) (log : Log) → SentOn net p b R → Each R (wake net p b now v log).frames
@@ -138,20 +129,7 @@ receive_on net now R f v log s fits = go f.body fits
 
 -- each frame of a publish
 pub publish_on : (net : Net) (p b now number : ℕ) (R : Frame → Type 0) (e : Event) (v : View) (log : Log) → SentOn net p b R → Each R (publish net p b now number e v log).frames
-unfolding publish
-publish_on net p b now number R e v log s = go (nat_le number log.last) (nat_lt (suc log.last) number) (nat_lt max_tick tick)
-  where
-    tick : ℕ
-    tick = max (suc log.settled) now
-
-    o : Outcome
-    o = learn net p b (silence (suc log.settled) (tick - 1) (record { first = tick; last = tick; value = D e } ∷ [])) v (with_event log tick e)
-
-    go : (x y z : Bool) → Each R (let u : Outcome = elim x [ true ↦ record { view = v; log = log; lines = line.Already p number ∷ []; frames = [] } | false ↦ elim y [ true ↦ record { view = v; log = log; lines = line.Gap p number (suc log.last) ∷ []; frames = [] } | false ↦ elim z [ true ↦ record { view = v; log = log; lines = line.Exhausted p number ∷ []; frames = [] } | false ↦ record { view = o.view; log = o.log; lines = line.Logged p number tick ∷ o.lines; frames = o.frames } ] ] ] in u.frames)
-    go true y z = tt
-    go false true z = tt
-    go false false true = tt
-    go false false false = learn_on net p b R (silence (suc log.settled) (tick - 1) (record { first = tick; last = tick; value = D e } ∷ [])) v (with_event log tick e) s
+publish_on net p b now number R e v log s = publish_cases net p b now number e v log (λ o. Each R o.frames) (λ l. tt) (λ l. tt) (λ x l. tt) (λ x l. learn_on net p b R _ v _ s)
 
 -- Every frame goes over an edge
 
