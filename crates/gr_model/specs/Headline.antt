@@ -1,7 +1,9 @@
 -- What the report of a schedule says, apart from any machine: the record, the gots, the horizons, the cuts
-use Rattle.std.specs.Prelude.{◌≡◌, ℕ, suc, ◌+◌, ◌≤◌, ◌<◌, max, Bool, true, false, not, ◌&&◌, ◌||◌, nat_eq, nat_le, nat_lt, if◌then◌else◌, List, [], ◌∷◌, ◌++◌, length, map, filter, get_or, set, replicate, Option, Some, None, flat_map, Contains, IsTrue}
+use Rattle.std.specs.Prelude.{◌≡◌, ℕ, suc, ◌+◌, ◌*◌, ◌≤◌, ◌<◌, max, Bool, true, false, not, ◌&&◌, ◌||◌, nat_eq, nat_le, nat_lt, if◌then◌else◌, List, [], ◌∷◌, ◌++◌, length, map, filter, get_or, set, replicate, Option, Some, None, flat_map, Contains, IsTrue}
 use Rattle.std.specs.List.{list_any}
 use Rattle.gr_event.specs.declared.event.Event.{Event}
+use Rattle.gr_event.specs.Event.{event_size}
+use Rattle.gr_sched.specs.declared.step.Stop.{Stop}
 use Rattle.gr_sched.specs.declared.step.Step.TheVariants as step
 use Rattle.gr_sched.specs.declared.step.Line.{Line}
 use Rattle.gr_model.specs.declared.report.Report.{Report}
@@ -9,7 +11,7 @@ use Rattle.gr_model.specs.declared.report.Report.TheVariants as line
 use Rattle.gr_tick.specs.Runs.{is_in}
 use Rattle.gr_know.specs.Values.{Known}
 use Rattle.gr_model.specs.Net.{Net, keeps_horizon, is_host, not_empty, numbers}
-use Rattle.gr_model.specs.Broker.{max_tick}
+use Rattle.gr_model.specs.Broker.{max_tick, is_kept}
 
 -- what was recorded of one publisher: the last number, the tick up to which all is settled, and the events by tick
 pub record Recorded : Type 0 where
@@ -29,6 +31,7 @@ pub record History : Type 0 where
   pub lines : List Report
   pub heard : List (List (List Known))  -- broker by broker, publisher by publisher: the pieces heard since the last crash
   pub bare : List Bool  -- publisher by publisher: nothing was logged or marked since its host started
+  pub gates : List ℕ  -- publisher by publisher: the place of the closed gate in its log's lane
 
 -- the record of a publisher
 abbrev pub record_of : History → ℕ → Recorded
@@ -118,6 +121,45 @@ most_after net h l =
       | step.Clock now ↦ max now h.most
       | step.Sweep ↦ if is_swept net h then max (sweep_at net h) h.most else h.most
       | _ ↦ h.most
+    ]
+
+-- The gates
+
+-- where the gate stands in a lane of which no record is logged, behind its header
+abbrev pub first_gate : ℕ
+first_gate = 5
+
+-- the bytes that a record and its gate take in the lane: of an event, and of a mark or a cut
+abbrev pub event_room : Event → ℕ
+event_room e = 22 + event_size e
+
+abbrev pub mark_room : ℕ
+mark_room = 10
+
+-- the place of the gate in the lane of a publisher's log
+abbrev pub gate_of : History → ℕ → ℕ
+gate_of h p = get_or h.gates p first_gate
+
+-- the line says that a mark or a cut was logged for the publisher
+abbrev pub is_mark_of : ℕ → Report → Bool
+is_mark_of p (line.Mark q t) = nat_eq q p
+is_mark_of p (line.Cut q t) = nat_eq q p
+is_mark_of p _ = false
+
+-- the gates of the publishers from p on, past the marks and cuts that are told
+abbrev pub gates_told : ℕ → List ℕ → List Report → List ℕ
+gates_told p [] ls = []
+gates_told p (g ∷ gs) ls = (g + mark_room * length (filter (is_mark_of p) ls)) ∷ gates_told (suc p) gs ls
+
+-- the gates after a step and its lines: past each event that is recorded, and each mark and cut of a wake or a sweep
+unfoldable pub gates_after : Net → History → Line → List Report → List ℕ
+gates_after net h l ls =
+    elim l.step [
+      | step.Publish p number stop e ↦
+          if is_next h.clock (record_of h p) number && elim stop [ None ↦ true | Some s ↦ says_kept ls ] then set h.gates p (gate_of h p + event_room e) else h.gates
+      | step.Wake b ↦ gates_told 0 h.gates ls
+      | step.Sweep ↦ gates_told 0 h.gates ls
+      | _ ↦ h.gates
     ]
 
 -- What was heard
@@ -211,6 +253,7 @@ after net h l ls = record {
   lines = h.lines ++ ls;
   heard = heard_after net h l ls;
   bare = bare_after net h l ls;
+  gates = gates_after net h l ls;
 }
 
 -- before the first step
@@ -223,6 +266,7 @@ begin net = record {
   lines = [];
   heard = replicate net.brokers (replicate net.publishers []);
   bare = replicate net.publishers true;
+  gates = replicate net.publishers first_gate;
 }
 
 -- a tick was heard in some piece
@@ -348,9 +392,12 @@ abbrev pub doubt_place : Report → ℕ × ℕ
 doubt_place (line.Doubt b p t) = (b, p)
 doubt_place _ = (0, 0)
 
--- of one step: the recorded lines, the places of the doubt lines, and their horizons
+-- of one step: the recorded lines, whether a stopped publish is kept, the places of the doubt lines, and their horizons
 pub record StepTold (net : Net) (h : History) (l : Line) (ls : List Report) : Type 0 where
   pub records : filter is_record_line ls ≡ record_lines net h l ls
+  -- a stopped publish that would be logged is kept exactly where its call and its pick leave the gate open
+  pub kept : (p number : ℕ) (s : Stop) (e : Event) → l.step ≡ step.Publish p number (Some s) e → IsTrue (may_crash net (net.host p)) → IsTrue (is_next h.clock (record_of h p) number) →
+      says_kept ls ≡ is_kept (gate_of h p) s.call s.pick
   pub doubts_stand : map doubt_place (filter is_doubt_line ls) ≡ doubts_shown net l
   pub doubts_true : (b p t : ℕ) → Contains ls (line.Doubt b p t) → IsDoubt net h b p t
 

@@ -61,4 +61,5 @@ begin_over net logs told = record {
   lines = told;
   heard = replicate net.brokers (replicate net.publishers []);
   bare = replicate net.publishers true;
+  gates = map (λ p. (let log = found_log logs p in log.gate)) (numbers net.publishers);
 }

@@ -3,5 +3,6 @@ pub mod Records
 pub mod Recorded
 pub mod RecordLines
 pub mod RecordSteps
+pub mod Gates
 pub mod Doubtlines
 pub mod NamedLines

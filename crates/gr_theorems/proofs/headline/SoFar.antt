@@ -18,6 +18,7 @@ use Rattle.gr_theorems.specs.Fits.{WorldFits, LinesFit, StepIn, StepsIn}
 use Rattle.gr_theorems.specs.Order.{FramesSent, CutsInOrder}
 use Rattle.gr_theorems.proofs.records.Records.{core_of}
 use Rattle.gr_theorems.proofs.records.Recorded.{RecordsFit, record_core, next_records, begin_fits, begin_lines, after_lines}
+use Rattle.gr_theorems.proofs.records.Gates.{GatesFit, next_gates, start_gates}
 use Rattle.gr_theorems.proofs.runs.Schedules.{start_is, start_log, next_kept, start_fits, start_lines}
 use Rattle.gr_theorems.proofs.cuts.Cutlines.{CutsHave, CutsHave-at}
 use Rattle.gr_theorems.proofs.cuts.Orders.{CutFits, Ordered}
@@ -45,6 +46,7 @@ pub record Stands (net : Net) (w : World) (h : History) : Type 0 where
   pub named : Named net Any h.lines
   pub bare : Bare net w h.bare
   pub asks : AsksFit net w
+  pub gates : GatesFit net w h.gates
 
 pub lines_long : (n : ℕ) (fs : List Frame) → length (sent_lines n fs) ≡ length fs
 lines_long n [] = refl
@@ -150,6 +152,7 @@ next_stands net w h l n z i k =
       named = subst (Named net Any) (sym e) (Named-append net Any h.lines (next net w l).lines k.named (Named-map net (IsShown net w) Any (next net w l).lines (λ b p t x. tt) (step_named net w l n k.fits i)));
       bare = subst (Bare net (next net w l).world) (sym (after_bare net h l (next net w l).lines)) (step_bare net w h l n z k.fits k.records k.asks.sent i k.bare);
       asks = next_holds net (ExpectFits net) (AsksFit net) w l n (asks_closed net n) k.fits k.asks i;
+      gates = next_gates net w h l n z k.fits k.records i k.gates;
     }
 
 start_frames : (net : Net) → (start net).frames ≡ []
@@ -178,6 +181,7 @@ start_stands net n = record {
   named = subst (Named net Any) (sym (begin_lines net)) tt;
   bare = start_bare net n;
   asks = start_asks net n;
+  gates = start_gates net;
 }
 
 -- the world after a schedule stands with its history

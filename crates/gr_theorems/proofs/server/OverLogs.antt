@@ -16,6 +16,7 @@ use Rattle.gr_model.specs.Tree.{IsNet}
 use Rattle.gr_theorems.specs.Fits.{StepsIn}
 use Rattle.gr_theorems.proofs.runs.Worlds.{Each, numbers_below}
 use Rattle.gr_theorems.proofs.runs.Schedules.{get_numbers}
+use Rattle.gr_theorems.proofs.records.Gates.{over_gates}
 use Rattle.gr_theorems.proofs.records.Records.{Has, has_filter, has_flat, has_number, core}
 use Rattle.gr_theorems.proofs.runs.Closed.{Each-kept}
 use Rattle.gr_theorems.proofs.asks.AskMoments.{AsksUpto, ExpectFits, Each-on}
@@ -94,6 +95,7 @@ opened_stands net logs n a =
         host = λ p j. o.asks (net.host p) p (n.host_in p j) j;
         sent = subst (λ (z : List Frame). Each (ExpectFits net) z) (sym o.frames) tt;
       };
+      gates = over_gates net w logs ls log;
     }
 
 opened_hears : (net : Net) (logs : List Log) → IsNet net → AreFound net logs → Hears net (all_opened net logs).world (begin_over net logs (all_opened net logs).lines).heard
