@@ -2,3 +2,4 @@ pub mod Knowing
 pub mod News
 pub mod Standing
 pub mod Opening
+pub mod Found

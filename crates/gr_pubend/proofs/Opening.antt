@@ -1,19 +1,18 @@
 -- The events behind a cut, learned one after another, and the silence up to what is settled are what the log says
-use Rattle.std.proofs.Common.{◌≡◌, ◌≢◌, ◌⊎◌, inl, inr, ⊎_elim, ℕ, suc, ◌+◌, ◌^◌, ◌≤◌, ◌<◌, Bool, true, false, ◌&&◌, List, [], ◌∷◌, ◌++◌, length, take, drop, get_or, refl, sym, ap, ap₂, ◌∙◌, subst, append_assoc, append-nil, le_refl, arith}
+use Rattle.std.proofs.Common.{◌≡◌, ◌⊎◌, inl, inr, ℕ, suc, ◌+◌, ◌^◌, ◌≤◌, ◌<◌, Bool, true, false, ◌&&◌, List, [], ◌∷◌, ◌++◌, length, take, drop, get_or, refl, sym, ap, ap₂, ◌∙◌, subst, append_assoc, append-nil, le_refl, arith}
 use Rattle.std.specs.Prelude.{nat_le, nat_lt, nat_eq, if◌then◌else◌}
 use Rattle.std.proofs.lemmas.Bool.{cases_lt, le-leb, lt-leb, ltb-true, ltb-false, ne_eqb, and_parts}
 use Rattle.std.proofs.lemmas.List.{take_more}
 use Rattle.gr_tick.proofs.EditLemmas.{drop_read}
 use Rattle.gr_event.specs.declared.event.Event.{Event}
 use Rattle.gr_tick.specs.Stored.{within, RunsGive}
-use Rattle.gr_know.specs.declared.values.K.{K}
 use Rattle.gr_know.specs.declared.values.K.TheVariants.{Q, S, D, F}
 use Rattle.gr_know.specs.Values.{Known, known_at, join_K}
 use Rattle.gr_publog.specs.declared.record.Record.{Record}
 use Rattle.gr_publog.specs.declared.record.Record.TheVariants as entry
 use Rattle.gr_publog.specs.declared.record.Entry.{Entry}
 use Rattle.gr_publog.specs.declared.record.State.{State}
-use Rattle.gr_publog.specs.State.{empty_state, after_record, state_from, state_of, events_past, live_events, may_settle, may_follow, Follow, max_tick}
+use Rattle.gr_publog.specs.State.{empty_state, after_record, state_from, state_of, events_past, live_events, may_settle, may_follow, Follow}
 use Rattle.gr_pubend.specs.Log.{Log, empty_log, with_event, with_mark, with_entry, log_from, log_of, event_at, log_at, silence, Stays}
 use Rattle.gr_pubend.specs.Opening.{pairs, last_tick, EntriesRise, seen}
 use Rattle.gr_pubend.proofs.Knowing.{event_at-more, settles, stays_of, log_at-past, log_at-zero, log_at-in, within_in, within_below, within_above, up_to_event, at_event, at_mark}
@@ -139,7 +138,7 @@ live_at cut t (entry.Mark tick ∷ rs) h = live_at cut t rs h
 live_at cut t (entry.Cut tick ∷ rs) h = live_at cut t rs h
 
 -- they rise from the cut on, and none is past what is settled
-settles_later : (s : State) (r : Record) → may_follow s r ≡ true → s.settled ≤ (after_record s r).settled
+pub settles_later : (s : State) (r : Record) → may_follow s r ≡ true → s.settled ≤ (after_record s r).settled
 settles_later s (entry.Event tick number e) m = omega (arith, (settles s tick (and_parts (may_settle s tick) (nat_eq number (s.last + 1)) m).0).0)
 settles_later s (entry.Mark tick) m = omega (arith, (settles s tick m).0)
 settles_later s (entry.Cut tick) m = le_refl s.settled
@@ -200,7 +199,7 @@ opened rs f =
 abbrev read_again : List Record → Log
 read_again rs = with_mark (seen (state_of rs).cut (live_events rs)) (state_of rs).settled
 
-whole_says : (rs : List Record) (t : ℕ) → Stays (log_of rs) (state_of rs) → log_at (read_again rs) t ≡ log_at (log_of rs) t
+pub whole_says : (rs : List Record) (t : ℕ) → Stays (log_of rs) (state_of rs) → log_at (read_again rs) t ≡ log_at (log_of rs) t
 whole_says rs t h = by_place (cases_lt t 1) (cases_lt (state_of rs).settled t) (cases_lt (state_of rs).cut t)
   where
     by_place : (t < 1) ⊎ (1 ≤ t) → ((state_of rs).settled < t) ⊎ (t ≤ (state_of rs).settled) → ((state_of rs).cut < t) ⊎ (t ≤ (state_of rs).cut) → log_at (read_again rs) t ≡ log_at (log_of rs) t

@@ -2,6 +2,7 @@
 #![tactic(auto)]
 
 pub mod answers;
+pub mod law;
 pub mod learning;
 pub mod pubend;
 #[cfg(test)]
