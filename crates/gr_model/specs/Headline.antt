@@ -156,7 +156,8 @@ unfoldable pub gates_after : Net → History → Line → List Report → List �
 gates_after net h l ls =
     elim l.step [
       | step.Publish p number stop e ↦
-          if is_next h.clock (record_of h p) number && elim stop [ None ↦ true | Some s ↦ says_kept ls ] then set h.gates p (gate_of h p + event_room e) else h.gates
+          let recorded = is_next h.clock (record_of h p) number && elim stop [ None ↦ true | Some s ↦ says_kept ls ] in
+          if recorded then set h.gates p (gate_of h p + event_room e) else h.gates
       | step.Wake b ↦ gates_told 0 h.gates ls
       | step.Sweep ↦ gates_told 0 h.gates ls
       | _ ↦ h.gates
@@ -396,7 +397,8 @@ doubt_place _ = (0, 0)
 pub record StepTold (net : Net) (h : History) (l : Line) (ls : List Report) : Type 0 where
   pub records : filter is_record_line ls ≡ record_lines net h l ls
   -- a stopped publish that would be logged is kept exactly where its call and its pick leave the gate open
-  pub kept : (p number : ℕ) (s : Stop) (e : Event) → l.step ≡ step.Publish p number (Some s) e → IsTrue (may_crash net (net.host p)) → IsTrue (is_next h.clock (record_of h p) number) →
+  pub kept : (p number : ℕ) (s : Stop) (e : Event) → l.step ≡ step.Publish p number (Some s) e →
+      IsTrue (may_crash net (net.host p)) → IsTrue (is_next h.clock (record_of h p) number) →
       says_kept ls ≡ is_kept (gate_of h p) s.call s.pick
   pub doubts_stand : map doubt_place (filter is_doubt_line ls) ≡ doubts_shown net l
   pub doubts_true : (b p t : ℕ) → Contains ls (line.Doubt b p t) → IsDoubt net h b p t

@@ -1,3 +1,4 @@
 -- The host: its horizon, and what it knows of its log
 pub mod HostHorizon
 pub mod BareHosts
+pub mod FinalTicks

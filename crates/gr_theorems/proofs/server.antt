@@ -3,6 +3,7 @@ pub mod Opening
 pub mod OpenedLines
 pub mod OverLogs
 pub mod OpensByRules
+pub mod OpenedFits
 pub mod Arriving
 pub mod Serving
 pub mod ServedOver

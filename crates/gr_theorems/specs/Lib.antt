@@ -15,3 +15,5 @@ pub mod Examples
 pub mod Served
 pub mod ServedExample
 pub mod Found
+pub mod Standing
+pub mod OverLogs

@@ -2,12 +2,11 @@
 use Rattle.std.specs.Prelude.{◌≡◌, ℕ, zero, suc, ◌+◌, ◌≤◌, ◌<◌, max, Bool, true, false, nat_eq, if◌then◌else◌, List, [], ◌∷◌, ◌++◌, length, map, filter, nat_le, Some, None, Contains}
 use Rattle.gr_frame.specs.declared.Body.TheVariants as body
 use Rattle.gr_frame.specs.declared.Frame.{Frame}
-use Rattle.gr_model.specs.declared.report.Report.{Report}
 use Rattle.gr_model.specs.declared.report.Report.TheVariants as line
 use Rattle.gr_model.specs.Net.{Net, keeps_horizon, numbers}
 use Rattle.gr_model.specs.Broker.{max_tick}
 use Rattle.gr_model.specs.World.{World, Told, view_of, log_of, unchanged, after, in_turn, wake_for, deliver_frame, frame_at, frames_past, is_want, is_know_to, inwards, outwards, sweep_moment, sweep}
-use Rattle.gr_model.specs.Headline.{last_cut, last_horizon, gots}
+use Rattle.gr_model.specs.Headline.{History, record_of, last_cut, last_horizon, gots}
 
 -- a call within a sweep: a broker is woken for a publisher, or the frame of a number reaches its receiver
 pub data Call : Type 0 where
@@ -110,9 +109,10 @@ pub record SweepSettles (net : Net) (w : World) (k : ℕ) : Type 0 where
   pub last_cuts : (p : ℕ) → p < net.publishers → last_cut p 0 (sweep net w k).lines ≡ sweep_moment net w
   pub last_horizons : (s p : ℕ) → s < net.subscribers → p < net.publishers → last_horizon s p 0 (sweep net w k).lines ≡ sweep_moment net w
 
--- afterwards each subscriber has got exactly what was logged that it wants; before are the lines told before the sweep
-abbrev pub AllGot : Net → World → ℕ → List Report → Type 0
-AllGot net w k before = (s p : ℕ) → s < net.subscribers → p < net.publishers → gots s p (before ++ (sweep net w k).lines) ≡ filter (λ x. net.wants p s x.0 x.1) (log_of (sweep net w k).world p).events
+-- afterwards each subscriber has got exactly what is recorded that it wants; h is the history before the sweep
+abbrev pub AllGot : Net → History → World → ℕ → Type 0
+AllGot net h w k = (s p : ℕ) → s < net.subscribers → p < net.publishers →
+    gots s p (h.lines ++ (sweep net w k).lines) ≡ filter (λ x. net.wants p s x.0 x.1) (record_of h p).events
 
 -- a sweep that is not refused: its moment is within the ticks
 abbrev pub is_accepted : Net → World → Bool

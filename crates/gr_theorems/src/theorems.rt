@@ -23,6 +23,8 @@ ghost use Rattle.gr_theorems.specs.Rules.{RulesDetermine};
 ghost use Rattle.gr_theorems.specs.Obeys.{CallsObey};
 ghost use Rattle.gr_theorems.specs.ByRules.{ScheduleByRules};
 ghost use Rattle.gr_theorems.specs.Settles.{SweepSettles, AllGot};
+ghost use Rattle.gr_theorems.specs.Standing.{Fits};
+ghost use Rattle.gr_theorems.specs.OverLogs.{StandsOver};
 ghost use Rattle.gr_theorems.specs.Examples.{WorkedExamples};
 ghost use Rattle.gr_theorems.specs.ServedExample.{ServedExamples};
 ghost use Rattle.gr_theorems.specs.Statements.{IsRun, IsMarkedRun, IsAskedRun, IsSweptRun, IsSpelledRun, IsRunOverLogs, IsServedRun, world_after, lines_after, NothingClashes, NothingStrays, AllSpelled, AllDecode, AllGetExactly, AllCutsInOrder, HostsMeet, DoubtsStand, HoldsOverLogs, OpeningTells, OpeningSendsNothing, RunsOverByRules, RunsOverByNoOther, MeetsHeadlineServed, ArrivalsDoSteps, FirstClash};
@@ -139,10 +141,25 @@ pub fn sweep_settles()
         SweepSettles net (world_after net steps) k }
 {}
 
-/// After a sweep that is not refused, each subscriber has got exactly what was logged that it wants.
+/// After a sweep that is not refused, each subscriber has got exactly what is recorded that it wants.
 pub fn sweep_hands_over()
     ensures { (net : Net) (steps : List Line) (k : ℕ) → IsSweptRun net steps →
-        AllGot net (world_after net steps) k (lines_after net steps) }
+        AllGot net (history_of net steps) (world_after net steps) k }
+{}
+
+/// What a layer above may use, after every schedule: all that is known and sent is true, each log is the record, each
+/// subscriber got what it is owed up to its broker's horizon, what is heard and what is known agree above a horizon, a host
+/// knows what its log says, and no ask is of a moment past the greatest.
+pub fn fits_always()
+    ensures { (net : Net) (steps : List Line) → IsAskedRun net steps →
+        Fits net (history_of net steps) (world_after net steps) }
+{}
+
+/// The same of every schedule that begins on logs that were found; and its calls obey their rules, its steps are replied as
+/// they are to be, nothing that was sent clashes, and a sweep settles everything and hands over all that is recorded.
+pub fn stands_over_logs()
+    ensures { (net : Net) (logs : List Log) (steps : List Line) → IsRunOverLogs net logs steps →
+        StandsOver net logs steps }
 {}
 
 /// The headline over logs that were found, whole, over every schedule that begins on them: what each subscriber gets is

@@ -266,7 +266,8 @@ step_replied net w h l n i k =
           ∙ ap₂ numbers_from (ap suc (sym (sent_count_is net w h k))) (sym (ap length s.told ∙ long_sent (suc (length w.frames)) s.more)));
     }
 
-replied_from : (net : Net) (w : World) (h : History) (ls : List Line) → IsNet net → 1 ≤ net.quiet → StepsIn net ls → Stands net w h → Replied_from net h ls (run_from net w ls)
+-- from a world that stands with its history, each step is replied
+pub replied_from : (net : Net) (w : World) (h : History) (ls : List Line) → IsNet net → 1 ≤ net.quiet → StepsIn net ls → Stands net w h → Replied_from net h ls (run_from net w ls)
 unfolding run_from_by
 replied_from net w h [] n z i k = tt
 replied_from net w h (l ∷ ls) n z i k = (step_replied net w h l n i.0 k, replied_from net (next net w l).world (after net h l (next net w l).lines) ls n z i.1 (next_stands net w h l n z i.0 k))

@@ -37,11 +37,12 @@ use Rattle.gr_theorems.proofs.runs.Worlds.{Kept, Kept-after, Kept-still, Kept-re
 
 -- What a log says
 
-abbrev said_value : Option Event → K
+abbrev pub said_value : Option Event → K
 said_value None = S
 said_value (Some e) = D e
 
-event_said : (events : List (ℕ × Event)) (t : ℕ) → event_at events t ≡ said_value (said_at events t)
+-- what a log says of a tick by the event that was logged there
+pub event_said : (events : List (ℕ × Event)) (t : ℕ) → event_at events t ≡ said_value (said_at events t)
 event_said [] t = refl
 event_said (x ∷ xs) t =
     elim (cases_eq x.0 t) [
