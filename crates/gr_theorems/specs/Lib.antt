@@ -17,3 +17,4 @@ pub mod ServedExample
 pub mod Found
 pub mod Standing
 pub mod OverLogs
+pub mod Lanes

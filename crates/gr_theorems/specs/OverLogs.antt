@@ -10,15 +10,13 @@ use Rattle.gr_model.specs.Broker.{Log, clashes}
 use Rattle.gr_model.specs.World.{World, Told, view_of, frame_at, run_all, run_from}
 use Rattle.gr_model.specs.Headline.{History, history}
 use Rattle.gr_model.specs.Opening.{opening, begin_over}
+use Rattle.gr_theorems.specs.Statements.{opened_over, NothingClashes}
 use Rattle.gr_theorems.specs.Standing.{Fits}
 use Rattle.gr_theorems.specs.Obeys.{StepsObey}
 use Rattle.gr_theorems.specs.Replies.{Replied_from}
 use Rattle.gr_theorems.specs.Settles.{SweepSettles, AllGot, is_accepted}
 
--- all brokers start over the logs; their history then
-abbrev pub opened_over : Net → List Log → Told
-opened_over net logs = opening net (numbers net.brokers) logs
-
+-- the history when all brokers have started over the logs
 abbrev pub began_over : Net → List Log → History
 began_over net logs = begin_over net logs (opened_over net logs).lines
 
@@ -39,8 +37,7 @@ pub record StandsOver (net : Net) (logs : List Log) (steps : List Line) : Type 0
   pub calls : StepsObey net (opened_over net logs).world steps (report_over net logs steps)
   pub replies : Replied_from net (began_over net logs) steps (report_over net logs steps)
   -- no frame of knowledge that was sent clashes with what its receiver knows
-  pub never_clashes : (k : ℕ) (f : Frame) (runs : Known) → frame_at (world_over net logs steps) k ≡ Some f →
-      f.body ≡ body.Knowledge runs → clashes (view_of (world_over net logs steps) f.head.to f.head.publisher).know runs ≡ false
+  pub never_clashes : NothingClashes net (world_over net logs steps)
   -- a sweep that is not refused settles everything, and hands over all that is recorded
   pub sweep_settles : (k : ℕ) → is_accepted net (world_over net logs steps) ≡ true →
       SweepSettles net (world_over net logs steps) k

@@ -73,10 +73,6 @@ pub record IsServedRun (net : Net) (logs : List Log) (steps : List Line) (arriva
 abbrev pub world_after : Net → List Line → World
 world_after net steps = (run_all net (start net) steps).world
 
--- the lines told by then
-abbrev pub lines_after : Net → List Line → List Report
-lines_after net steps = (run_all net (start net) steps).lines
-
 -- Frames that were sent
 
 -- no knowledge clashes with what its receiver knows

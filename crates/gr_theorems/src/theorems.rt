@@ -25,9 +25,11 @@ ghost use Rattle.gr_theorems.specs.ByRules.{ScheduleByRules};
 ghost use Rattle.gr_theorems.specs.Settles.{SweepSettles, AllGot};
 ghost use Rattle.gr_theorems.specs.Standing.{Fits};
 ghost use Rattle.gr_theorems.specs.OverLogs.{StandsOver};
+ghost use Rattle.gr_publog.specs.declared.record.Record.{Record};
+ghost use Rattle.gr_theorems.specs.Lanes.{AllFollow, IsRunOverLanes, IsServedOverLanes, found_logs, FoundIsPastCut, HoldsOverLanes, HoldsServedLanes, CutEventsSilent};
 ghost use Rattle.gr_theorems.specs.Examples.{WorkedExamples};
 ghost use Rattle.gr_theorems.specs.ServedExample.{ServedExamples};
-ghost use Rattle.gr_theorems.specs.Statements.{IsRun, IsMarkedRun, IsAskedRun, IsSweptRun, IsSpelledRun, IsRunOverLogs, IsServedRun, world_after, lines_after, NothingClashes, NothingStrays, AllSpelled, AllDecode, AllGetExactly, AllCutsInOrder, HostsMeet, DoubtsStand, HoldsOverLogs, OpeningTells, OpeningSendsNothing, RunsOverByRules, RunsOverByNoOther, MeetsHeadlineServed, ArrivalsDoSteps, FirstClash};
+ghost use Rattle.gr_theorems.specs.Statements.{IsRun, IsMarkedRun, IsAskedRun, IsSweptRun, IsSpelledRun, IsRunOverLogs, IsServedRun, world_after, NothingClashes, NothingStrays, AllSpelled, AllDecode, AllGetExactly, AllCutsInOrder, HostsMeet, DoubtsStand, HoldsOverLogs, OpeningTells, OpeningSendsNothing, RunsOverByRules, RunsOverByNoOther, MeetsHeadlineServed, ArrivalsDoSteps, FirstClash};
 
 /// The topology of the small examples is a tree, so the theorems speak of something.
 pub fn net0_is_a_tree()
@@ -181,6 +183,19 @@ pub fn headline_served()
         IsServedRun net logs steps arrivals → MeetsHeadlineServed net logs steps arrivals }
     ensures calls { (net : Net) (logs : List Log) (steps : List Line) (arrivals : List Arrival) →
         IsServedRun net logs steps arrivals → ArrivalsDoSteps net logs steps arrivals }
+{}
+
+/// The headline over logs that code opens: each lane has records that may follow one another, and its log all their events.
+/// The record begins with what is found, the events past the cut, of schedules and of a server over an honest journal. So
+/// what was cut changes nothing: no line, and no world but for the events themselves.
+pub fn headline_over_lanes()
+    ensures schedules { (net : Net) (lanes : List (List Record)) (steps : List Line) →
+        IsRunOverLanes net lanes steps → HoldsOverLanes net lanes steps }
+    ensures served { (net : Net) (lanes : List (List Record)) (steps : List Line) (arrivals : List Arrival) →
+        IsServedOverLanes net lanes steps arrivals → HoldsServedLanes net lanes steps arrivals }
+    ensures found { (net : Net) (lanes : List (List Record)) → AllFollow lanes → AreFound net (found_logs lanes) }
+    ensures past { FoundIsPastCut }
+    ensures silent { (net : Net) (lanes : List (List Record)) → AllFollow lanes → CutEventsSilent net lanes }
 {}
 
 /// Worked examples of a server: a whole run over three arrivals, and a start over an old log.

@@ -4,9 +4,8 @@ use Rattle.gr_sched.specs.declared.step.Line.{Line}
 use Rattle.gr_model.specs.declared.report.Report.{Report}
 use Rattle.gr_model.specs.Net.{Net, not_empty, numbers}
 use Rattle.gr_model.specs.Broker.{Log, learn}
-use Rattle.gr_model.specs.World.{World, Told, view_of, log_of, absorbed, unchanged, in_turn, run_all, run_from}
-use Rattle.gr_model.specs.Headline.{history}
-use Rattle.gr_model.specs.Opening.{found_log, over_logs, opened_for, publishers_at, opened_for_by, opening_by, begin_over}
+use Rattle.gr_model.specs.World.{World, Told, view_of, log_of, absorbed, unchanged, in_turn}
+use Rattle.gr_model.specs.Opening.{found_log, over_logs, opened_for, publishers_at, opened_for_by, opening_by}
 use Rattle.gr_model.specs.Tree.{IsNet}
 use Rattle.gr_theorems.specs.Fits.{StepsIn}
 use Rattle.gr_theorems.specs.Found.{AreFound}
