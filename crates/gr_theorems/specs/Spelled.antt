@@ -21,8 +21,7 @@ NumberIn _ = Unit {0}
 
 -- so it is in all steps
 abbrev pub NumbersIn : List Line → Type 0
-NumbersIn [] = Unit {0}
-NumbersIn (l ∷ ls) = NumberIn l.step × NumbersIn ls
+NumbersIn steps = AllByRecursion (λ l. NumberIn l.step) steps
 
 -- the bytes of a frame spell it, and fit into one frame
 abbrev pub IsSpelled : Frame → Type 0
