@@ -1,3 +1,4 @@
 pub mod RunWords
 pub mod NetOf
+pub mod NetWords
 pub mod BlankOf

@@ -1,5 +1,5 @@
 -- One broker's calls for one publisher
-use Rattle.std.specs.Prelude.{ℕ, suc, ◌+◌, ◌-◌, min, max, Bool, true, false, not, ◌&&◌, ◌||◌, nat_eq, nat_le, nat_lt, if◌then◌else◌, List, [], ◌∷◌, ◌++◌, map, filter, get_or, set, Some, None, flat_map}
+use Rattle.std.specs.Prelude.{ℕ, suc, ◌+◌, ◌-◌, min, Bool, true, false, not, ◌&&◌, ◌||◌, nat_eq, nat_le, nat_lt, if◌then◌else◌, List, [], ◌∷◌, ◌++◌, map, filter, get_or, set, Some, None, flat_map, Option}
 use Rattle.std.specs.List.{list_all}
 use Rattle.gr_event.specs.declared.event.Event.{Event}
 use Rattle.gr_know.specs.declared.values.K.{K}
@@ -10,7 +10,6 @@ use Rattle.gr_frame.specs.declared.Body.TheVariants as body
 use Rattle.gr_frame.specs.declared.Head.{Head}
 use Rattle.gr_frame.specs.declared.Frame.{Frame}
 use Rattle.gr_frame.specs.Bytes.{known_run_size, wanted_run_size, cut_frames}
-use Rattle.gr_curio.specs.declared.asks.Moment.{Moment}
 use Rattle.gr_curio.specs.declared.asks.Moment.TheVariants.{Never}
 use Rattle.gr_model.specs.declared.report.Report.{Report}
 use Rattle.gr_model.specs.declared.report.Report.TheVariants as line
@@ -29,9 +28,10 @@ pub use Rattle.gr_subend.specs.Horizon.{data_of_run}
 unfoldable pub use Rattle.gr_subend.specs.Horizon.{horizon_after, data_ticks}
 pub use Rattle.gr_know.specs.Forget.{data_count, without_front}
 unfoldable pub use Rattle.gr_know.specs.Forget.{lower_data, forgotten}
-pub use Rattle.gr_curio.specs.Wants.{all_A, any_C}
-use Rattle.gr_curio.specs.Due.{noted_of}
-use Rattle.gr_curio.specs.Values.{Wanted, Asked, wanted_at, asked_at, wanteds, same_Q3, same_moment, is_C, is_A, is_outstanding}
+pub use Rattle.gr_curio.specs.Wants.{all_A, any_C, is_reached, is_consolidated}
+use Rattle.gr_curio.specs.Wants.{answered_of}
+use Rattle.gr_curio.specs.Due.{due_of, noted_of}
+use Rattle.gr_curio.specs.Values.{Wanted, Asked, wanted_at, asked_at, wanteds, same_Q3, same_moment, is_C, is_A}
 use Rattle.gr_model.specs.Net.{Net, keeps_horizon, is_host, pass, not_empty, numbers_from}
 
 -- what a broker keeps for one publisher
@@ -70,9 +70,14 @@ expect_frame from to p tick = record { head = head from to p; body = body.Expect
 abbrev pub all_points : List Wanted → List ℕ
 all_points ws = flat_map points ws
 
+-- the horizon, where one is kept
+abbrev pub horizon_if : Bool → ℕ → Option ℕ
+horizon_if true h = Some h
+horizon_if false h = None
+
 -- the tick is consolidated
 abbrev pub is_settled : Bool → ℕ → List Wanted → ℕ → Bool
-is_settled keeps h ws t = nat_le 1 t && (not keeps || nat_le t h) && all_A ws t
+is_settled keeps h ws t = is_consolidated (horizon_if keeps h) ws t
 
 -- A on the consolidated ticks
 unfoldable pub consolidated : Bool → ℕ → List Wanted → Wanted
@@ -139,7 +144,7 @@ forward net p c w new = zip_runs Q N Q same_K (λ v a. if is_A a then Q else v) 
 
 -- what the child's curiosity is then
 unfoldable pub quenched : Wanted → Known → Wanted
-quenched w sent = zip_runs N Q N same_Q3 (λ a v. if is_C a && not (is_Q v) then N else a) w sent
+quenched w sent = zip_runs N Q N same_Q3 (λ a v. answered_of (not (is_Q v)) a) w sent
 
 -- the new ticks as frames to each child
 abbrev pub forward_frames : Net → ℕ → ℕ → Known → List ℕ → List Wanted → List Frame
@@ -173,7 +178,7 @@ learn net p b piece v log =
 
 -- the ticks of a wanted set that are asked
 unfoldable pub due : ℕ → ℕ → Known → Asked → (ℕ → Bool) → List ℕ → Wanted
-due now retry know asks wanted ps = wanteds (λ t. if wanted t && is_Q (known_at know t) && not (is_outstanding (asked_at asks t) now retry) then C else N) (ps ++ points know ++ points asks)
+due now retry know asks wanted ps = wanteds (λ t. due_of (asked_at asks t) (if wanted t && is_Q (known_at know t) then C else N) now retry) (ps ++ points know ++ points asks)
 
 -- the asked ticks get the moment of their ask
 unfoldable pub noted : ℕ → Asked → Wanted → Asked

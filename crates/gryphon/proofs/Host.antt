@@ -1,6 +1,6 @@
 -- What a publish does at the broker of the publisher: the log grows by one event, and the broker of the subscriber is
 -- sent what became known
-use Rattle.std.proofs.Common.{◌≡◌, ℕ, Bool, false, not, ◌&&◌, List, [], ◌∷◌, refl, sym, ap, ◌∙◌}
+use Rattle.std.proofs.Common.{◌≡◌, ℕ, Bool, true, false, not, ◌&&◌, List, [], ◌∷◌, refl, sym, ap, ◌∙◌}
 use Rattle.std.specs.Prelude.{if◌then◌else◌}
 use Rattle.gr_tick.specs.declared.run.Run.{Run}
 use Rattle.gr_tick.specs.Runs.{value_at, AreRuns, zip_runs, Decides_same}
@@ -10,6 +10,7 @@ use Rattle.gr_know.specs.declared.values.K.TheVariants.{Q, S, D, F}
 use Rattle.gr_know.specs.Values.{Known, known_at, same_K, join_K, is_Q}
 use Rattle.gr_know.proofs.ValueLaws.{K_decides}
 use Rattle.gr_curio.specs.declared.values.Q3.TheVariants.{N}
+use Rattle.gr_curio.specs.Wants.{answered_of}
 use Rattle.gr_curio.specs.Values.{same_Q3, is_A, is_C}
 use Rattle.gr_curio.proofs.ValueLaws.{Q3_decides}
 use Rattle.gr_frame.specs.Bytes.{known_run_size, cut_frames}
@@ -52,7 +53,11 @@ forward-all piece p =
 -- who asked for nothing asks for nothing afterwards
 pub quenched-nothing : (sent : Known) → AreRuns Q sent → quenched [] sent ≡ []
 unfolding quenched
-quenched-nothing sent p = zip_runs-equals N Q N same_Q3 Q3_decides (λ a v. if is_C a && not (is_Q v) then N else a) [] sent [] refl tt p tt (λ t. refl)
+quenched-nothing sent p = zip_runs-equals N Q N same_Q3 Q3_decides (λ a v. answered_of (not (is_Q v)) a) [] sent [] refl tt p tt (λ t. same (not (is_Q (known_at sent t))))
+  where
+    same : (q : Bool) → N ≡ answered_of q N
+    same true = refl
+    same false = refl
 
 -- nothing is final where nothing is consolidated
 pub finished-nothing : (know : Known) → AreRuns Q know → finished know [] ≡ know

@@ -7,16 +7,17 @@ use Rattle.gr_know.specs.declared.values.K.TheVariants.{Q, S, D, F}
 use Rattle.gr_curio.specs.declared.values.Q3.{Q3}
 use Rattle.gr_curio.specs.declared.values.Q3.TheVariants.{N, C, A}
 use Rattle.gr_tick.specs.Runs.{AreRuns, points, IsNone, IsPast, top_of}
-use Rattle.gr_know.specs.Values.{Known, known_at, is_Q}
-use Rattle.gr_curio.specs.Values.{Wanted, Asked, wanted_at, asked_at, is_C, is_A, same_Q3, same_moment, is_outstanding}
+use Rattle.gr_know.specs.Values.{known_at, is_Q}
+use Rattle.gr_curio.specs.Values.{Wanted, Asked, wanted_at, asked_at, is_C, is_A, same_moment, is_outstanding}
 use Rattle.gr_model.specs.Net.{Net, is_host, keeps_horizon}
 use Rattle.gr_model.specs.Broker.{View, Log, Outcome, all_points, any_C, is_settled, is_F, consolidated, open_asks, trimmed_below, trimmed, max_tick, due, noted, upward, up_frames, asking, wake_below, wanted_at_wake}
 use Rattle.gr_model.specs.World.{World, view_of, sweep_moment}
 use Rattle.gr_theorems.specs.Truth.{Facts, AllWantTruth}
 use Rattle.gr_theorems.specs.Fits.{ViewTrue}
-use Rattle.gr_tick.proofs.RunLaws.{AreRunsOf, tabulate-is, zip_runs-is, IsNone-append, IsPast-append, value_at-step, value_at-past, value_at-start}
-use Rattle.gr_curio.proofs.ValueLaws.{Q3_decides, moment_decides}
+use Rattle.gr_tick.proofs.RunLaws.{AreRunsOf, zip_runs-is, IsNone-append, IsPast-append, value_at-step, value_at-past, value_at-start}
+use Rattle.gr_curio.proofs.ValueLaws.{moment_decides}
 use Rattle.gr_theorems.proofs.calls.Pieces.{IsLowered, forgotten-is}
+pub use Rattle.gr_theorems.proofs.calls.CallTruth.{due-at, noted-at, upward-at}
 use Rattle.gr_theorems.proofs.calls.CallTruth.{IsWanted, done_runs, done_values}
 use Rattle.gr_theorems.proofs.asks.AskMoments.{AsksUpto, AsksFit, asked_upto}
 use Rattle.gr_curio.specs.declared.asks.Moment.TheVariants.{Never, At}
@@ -107,25 +108,6 @@ pub just_asked : (now retry : ℕ) → 1 ≤ retry → is_outstanding (At now) n
 just_asked now retry h = rw (le-leb now now (le_refl now), lt-ltb now (now + retry) (omega (arith, h))) refl
 
 -- Asking
-
-pub due-at : (now retry : ℕ) (know : Known) (asks : Asked) (wanted : ℕ → Bool) (ps : List ℕ) → IsWanted wanted ps →
-    AreRunsOf N (λ t. if wanted t && is_Q (known_at know t) && not (is_outstanding (asked_at asks t) now retry) then C else N) (due now retry know asks wanted ps)
-unfolding due
-due-at now retry know asks wanted ps w =
-    tabulate-is N same_Q3 Q3_decides (λ t. if wanted t && is_Q (known_at know t) && not (is_outstanding (asked_at asks t) now retry) then C else N) (ps ++ points know ++ points asks) (record {
-      start = rw w.start refl;
-      step = λ t n. let x = IsNone-append (suc t) (ps ++ points know) (points asks) n in let y = IsNone-append (suc t) ps (points know) x.0 in
-          ap (λ b. if b then C else N) (ap₂ (λ c d. c && d) (ap₂ (λ c d. c && d) (w.step t y.0) (ap is_Q (value_at-step Q know t y.1))) (ap (λ m. not (is_outstanding m now retry)) (value_at-step Never asks t x.1)));
-      past = λ t n. let x = IsPast-append t (ps ++ points know) (points asks) n in let y = IsPast-append t ps (points know) x.0 in rw (w.past t y.0) refl;
-    })
-
-pub noted-at : (now : ℕ) (asks : Asked) (asked : Wanted) → AreRuns Never asks → AreRuns N asked → AreRunsOf Never (λ t. if is_C (wanted_at asked t) then At now else asked_at asks t) (noted now asks asked)
-unfolding noted
-noted-at now asks asked a w = zip_runs-is Never N Never same_moment moment_decides (λ a w. if is_C w then At now else a) asks asked refl a w
-
-pub upward-at : (done asked : Wanted) → AreRuns N done → AreRuns N asked → AreRunsOf N (λ t. if is_A (wanted_at done t) then A else wanted_at asked t) (upward done asked)
-unfolding upward
-upward-at done asked d a = zip_runs-is N N N same_Q3 Q3_decides (λ c a. if is_A c then A else a) done asked refl d a
 
 same_test : (x y : Bool) → (x ≡ true → y ≡ true) → (y ≡ true → x ≡ true) → x ≡ y
 same_test true true a b = refl

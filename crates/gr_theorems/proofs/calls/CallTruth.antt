@@ -25,7 +25,10 @@ use Rattle.gr_curio.proofs.ValueLaws.{Q3_decides, moment_decides}
 use Rattle.gr_theorems.proofs.calls.Pieces.{AllParts, cut_frames-parts, consolidated-is, IsLowered, forgotten-is}
 use Rattle.gr_theorems.proofs.calls.Passed.{passed-is}
 use Rattle.gr_theorems.proofs.calls.TruthTicks.{TrueF-later, IsTrueAt-later, join_true, pass_true, consolidated_true}
+use Rattle.gr_curio.specs.declared.asks.Moment.{Moment}
 use Rattle.gr_curio.specs.declared.asks.Moment.TheVariants.{Never, At}
+use Rattle.gr_curio.specs.Wants.{answered_of}
+use Rattle.gr_curio.specs.Due.{due_of, noted_of}
 
 -- knowledge that has at each tick a true value
 pub KnowsTruth-by : (net : Net) (f : Facts) (p b : ℕ) (g : ℕ → K) (know : Known) → AreRunsOf Q g know → ((t : ℕ) → IsTrueAt net f p b t (g t)) → KnowsTruth net f p b know
@@ -79,9 +82,19 @@ forward_true net f p b c w new place child h i =
     KnowsTruth-by net f p c (λ t. if is_A (wanted_at w t) then Q else pass net p c t (known_at new t)) (forward net p c w new) (forward-is net p c w new h i.runs)
     (λ t. if_true net f p c t (is_A (wanted_at w t)) Q (pass net p c t (known_at new t)) tt (pass_true net f p b c t (known_at new t) place child (i.each t)))
 
+answered_if : (q : Bool) (a : Q3) → answered_of q a ≡ (if is_C a && q then N else a)
+answered_if true N = refl
+answered_if true C = refl
+answered_if true A = refl
+answered_if false N = refl
+answered_if false C = refl
+answered_if false A = refl
+
 pub quenched-is : (w : Wanted) (sent : Known) → AreRuns N w → AreRuns Q sent → AreRunsOf N (λ t. if is_C (wanted_at w t) && not (is_Q (known_at sent t)) then N else wanted_at w t) (quenched w sent)
 unfolding quenched
-quenched-is w sent h i = zip_runs-is N Q N same_Q3 Q3_decides (λ a v. if is_C a && not (is_Q v) then N else a) w sent refl h i
+quenched-is w sent h i =
+    let z = zip_runs-is N Q N same_Q3 Q3_decides (λ a v. answered_of (not (is_Q v)) a) w sent refl h i in
+    record { runs = z.runs; same_at = λ t. z.same_at t ∙ answered_if (not (is_Q (known_at sent t))) (wanted_at w t) }
 
 quench_A : (b : Bool) (q : Q3) → (if b then N else q) ≡ A → q ≡ A
 quench_A true q h = cc
@@ -275,33 +288,47 @@ learn_true net f g p b piece v log place h i l hor =
 
 -- Asking
 
-due-is : (now retry : ℕ) (know : Known) (asks : Asked) (wanted : ℕ → Bool) (ps : List ℕ) → AreRuns Q know → AreRuns Never asks → wanted 0 ≡ false → ((t : ℕ) → IsNone (suc t) ps → wanted (suc t) ≡ wanted t) → ((t : ℕ) → IsPast t ps → wanted t ≡ false) →
+-- a set of wanted ticks that is steady between points
+pub record IsWanted (wanted : ℕ → Bool) (ps : List ℕ) : Type 0 where
+  pub start : wanted 0 ≡ false
+  pub step : (t : ℕ) → IsNone (suc t) ps → wanted (suc t) ≡ wanted t
+  pub past : (t : ℕ) → IsPast t ps → wanted t ≡ false
+
+due_if : (moment : Moment) (q : Bool) (now retry : ℕ) → due_of moment (if q then C else N) now retry ≡ (if q && not (is_outstanding moment now retry) then C else N)
+due_if moment true now retry = refl
+due_if moment false now retry = refl
+
+-- the wanted ticks that are unknown, and of which no ask is outstanding, are asked
+pub due-at : (now retry : ℕ) (know : Known) (asks : Asked) (wanted : ℕ → Bool) (ps : List ℕ) → IsWanted wanted ps →
     AreRunsOf N (λ t. if wanted t && is_Q (known_at know t) && not (is_outstanding (asked_at asks t) now retry) then C else N) (due now retry know asks wanted ps)
 unfolding due
-due-is now retry know asks wanted ps k a zero_ step_ past_ =
-    tabulate-is N same_Q3 Q3_decides (λ t. if wanted t && is_Q (known_at know t) && not (is_outstanding (asked_at asks t) now retry) then C else N) (ps ++ points know ++ points asks) (record {
-      start = rw zero_ refl;
+due-at now retry know asks wanted ps w =
+    let d = tabulate-is N same_Q3 Q3_decides (λ t. due_of (asked_at asks t) (if wanted t && is_Q (known_at know t) then C else N) now retry) (ps ++ points know ++ points asks) (record {
+      start = rw w.start refl;
       step = λ t n. let x = IsNone-append (suc t) (ps ++ points know) (points asks) n in let y = IsNone-append (suc t) ps (points know) x.0 in
-          ap (λ b. if b then C else N) (ap₂ (λ c d. c && d) (ap₂ (λ c d. c && d) (step_ t y.0) (ap is_Q (value_at-step Q know t y.1))) (ap (λ m. not (is_outstanding m now retry)) (value_at-step Never asks t x.1)));
-      past = λ t n. let x = IsPast-append t (ps ++ points know) (points asks) n in let y = IsPast-append t ps (points know) x.0 in rw (past_ t y.0) refl;
-    })
+          ap₂ (λ m q. due_of m (if q then C else N) now retry) (value_at-step Never asks t x.1) (ap₂ (λ c d. c && d) (w.step t y.0) (ap is_Q (value_at-step Q know t y.1)));
+      past = λ t n. let x = IsPast-append t (ps ++ points know) (points asks) n in let y = IsPast-append t ps (points know) x.0 in rw (w.past t y.0) refl;
+    }) in
+    record { runs = d.runs; same_at = λ t. d.same_at t ∙ due_if (asked_at asks t) (wanted t && is_Q (known_at know t)) now retry }
 
 due_C : (b : Bool) → (if b then C else N) ≡ A → ⊥
 due_C true e = cc
 due_C false e = cc
 
-noted-is : (now : ℕ) (asks : Asked) (asked : Wanted) → AreRuns Never asks → AreRuns N asked → AreRuns Never (noted now asks asked)
+-- what is asked has the moment of the ask
+pub noted-at : (now : ℕ) (asks : Asked) (asked : Wanted) → AreRuns Never asks → AreRuns N asked → AreRunsOf Never (λ t. if is_C (wanted_at asked t) then At now else asked_at asks t) (noted now asks asked)
 unfolding noted
-noted-is now asks asked a w = (zip_runs-is Never N Never same_moment moment_decides (λ a w. if is_C w then At now else a) asks asked refl a w).runs
+noted-at now asks asked a w = zip_runs-is Never N Never same_moment moment_decides (noted_of now) asks asked refl a w
 
-upward-is : (done asked : Wanted) → AreRuns N done → AreRuns N asked → AreRunsOf N (λ t. if is_A (wanted_at done t) then A else wanted_at asked t) (upward done asked)
+-- what goes upstream is acknowledged where all is consolidated, and else asked
+pub upward-at : (done asked : Wanted) → AreRuns N done → AreRuns N asked → AreRunsOf N (λ t. if is_A (wanted_at done t) then A else wanted_at asked t) (upward done asked)
 unfolding upward
-upward-is done asked d a = zip_runs-is N N N same_Q3 Q3_decides (λ c a. if is_A c then A else a) done asked refl d a
+upward-at done asked d a = zip_runs-is N N N same_Q3 Q3_decides (λ c a. if is_A c then A else a) done asked refl d a
 
 -- what goes upstream: an A only where it is true of the sender
 upward_true : (net : Net) (f : Facts) (p b : ℕ) (done asked : Wanted) → WantsTruth net f p b done → WantsTruth net f p b asked → WantsTruth net f p b (upward done asked)
 upward_true net f p b done asked d a =
-    WantsTruth-by net f p b (λ t. if is_A (wanted_at done t) then A else wanted_at asked t) (upward done asked) (upward-is done asked d.runs a.runs)
+    WantsTruth-by net f p b (λ t. if is_A (wanted_at done t) then A else wanted_at asked t) (upward done asked) (upward-at done asked d.runs a.runs)
     (λ t. elim (cases_Bool (is_A (wanted_at done t))) [
       | inl e ↦ rw e (λ q. d.each t (A_is (wanted_at done t) e))
       | inr e ↦ rw e (λ q. a.each t q)
@@ -314,16 +341,10 @@ up_frames_true net f p b runs w = go (net.up p b)
     go None = tt
     go (Some u) = want_frames_true net f p b u runs w
 
--- a set of wanted ticks that is steady between points
-pub record IsWanted (wanted : ℕ → Bool) (ps : List ℕ) : Type 0 where
-  pub start : wanted 0 ≡ false
-  pub step : (t : ℕ) → IsNone (suc t) ps → wanted (suc t) ≡ wanted t
-  pub past : (t : ℕ) → IsPast t ps → wanted t ≡ false
-
 due_true : (net : Net) (f : Facts) (p b now : ℕ) (know : Known) (asks : Asked) (wanted : ℕ → Bool) (ps : List ℕ) → AreRuns Q know → AreRuns Never asks → IsWanted wanted ps → WantsTruth net f p b (due now net.retry know asks wanted ps)
 due_true net f p b now know asks wanted ps k a w =
     WantsTruth-by net f p b (λ t. if wanted t && is_Q (known_at know t) && not (is_outstanding (asked_at asks t) now net.retry) then C else N) (due now net.retry know asks wanted ps)
-    (due-is now net.retry know asks wanted ps k a w.start w.step w.past)
+    (due-at now net.retry know asks wanted ps w)
     (λ t e. absurd (due_C (wanted t && is_Q (known_at know t) && not (is_outstanding (asked_at asks t) now net.retry)) e))
 
 -- asking keeps and sends what is true
@@ -338,7 +359,7 @@ asking_true net f p b now wanted ps v log place h w =
       view = trimmed_true net f p b (record { know = v.know; wants = v.wants; asks = noted now v.asks asked; horizon = v.horizon }) (record {
         know = h.know;
         wants = h.wants;
-        asks = noted-is now v.asks asked h.asks a.runs;
+        asks = (noted-at now v.asks asked h.asks a.runs).runs;
         horizon = h.horizon;
       });
       frames = up_frames_true net f p b (upward done asked) (upward_true net f p b done asked d a);
@@ -582,7 +603,7 @@ curiosity_true net f p b now c piece v log place child h i =
       view = trimmed_true net f p b (record { know = know; wants = ws; asks = noted now v.asks (asked (is_host net p b)); horizon = v.horizon }) (record {
         know = k;
         wants = s;
-        asks = noted-is now v.asks (asked (is_host net p b)) h.asks x.runs;
+        asks = (noted-at now v.asks (asked (is_host net p b)) h.asks x.runs).runs;
         horizon = h.horizon;
       });
       frames = AllTrue-append net f p (know_frames b c p reply) (up_frames net p b (asked (is_host net p b))) (know_frames_true net f p b c reply r) (up_frames_true net f p b (asked (is_host net p b)) x);

@@ -1,5 +1,5 @@
 -- Pieces cut into frames, consolidated ticks, lowered data
-use Rattle.std.proofs.Common.{◌≡◌, ◌≢◌, ◌⊎◌, inl, inr, ⊎_elim, ℕ, suc, zero, ◌+◌, ◌-◌, ◌≤◌, ◌<◌, min, Bool, true, false, not, ◌&&◌, ◌||◌, List, [], ◌∷◌, ◌++◌, refl, sym, ap, ap₂, ◌∙◌, subst, arith, append_assoc}
+use Rattle.std.proofs.Common.{◌≡◌, ◌≢◌, ◌⊎◌, inl, inr, ⊎_elim, ℕ, suc, zero, ◌+◌, ◌-◌, ◌≤◌, ◌<◌, min, Bool, true, false, ◌&&◌, ◌||◌, List, [], ◌∷◌, ◌++◌, refl, sym, ap, ap₂, ◌∙◌, subst, arith, append_assoc}
 use Rattle.std.specs.Prelude.{nat_le, nat_lt, if◌then◌else◌}
 use Rattle.std.proofs.lemmas.Bool.{and_parts, cases_Bool, cases_lt, false≢true, leb-true, ltb-true, ltb-false, le-leb, lt-leb, and_right}
 use Rattle.gr_know.specs.declared.values.K.{K}
@@ -11,7 +11,7 @@ use Rattle.gr_know.specs.Values.{Known, is_D}
 use Rattle.gr_curio.specs.Values.{Wanted, is_A, same_Q3}
 use Rattle.gr_model.specs.Net.{not_empty}
 use Rattle.gr_frame.specs.Bytes.{cut_from, cut_frames}
-use Rattle.gr_model.specs.Broker.{all_A, all_points, is_settled, consolidated, lower_data, without_front, forgotten, data_count}
+use Rattle.gr_model.specs.Broker.{all_A, all_points, horizon_if, is_reached, is_settled, consolidated, lower_data, without_front, forgotten, data_count}
 use Rattle.gr_tick.proofs.RunLaws.{value_at-in, value_at-below, value_at-above, value_at-start, AreRunsFrom-lower, AreRunsOf, tabulate-is, value_at-step, value_at-past, IsNone-append, IsPast-append}
 use Rattle.gr_curio.proofs.ValueLaws.{Q3_decides}
 
@@ -100,6 +100,10 @@ pub one_step : (t : ℕ) → suc t ≢ 1 → nat_le 1 (suc t) ≡ nat_le 1 t
 one_step zero n = absurd (n refl)
 one_step (suc t) n = le-leb 1 (suc (suc t)) (omega arith) ∙ sym (le-leb 1 (suc t) (omega arith))
 
+reached_step : (keeps : Bool) (h t : ℕ) → suc t ≢ suc h → is_reached (horizon_if keeps h) (suc t) ≡ is_reached (horizon_if keeps h) t
+reached_step true h t n = le_step t h n
+reached_step false h t n = refl
+
 settled_past : (keeps : Bool) (h : ℕ) (ws : List Wanted) (t : ℕ) → (keeps || not_empty ws) ≡ true → suc h ≤ t → IsPast t (all_points ws) → is_settled keeps h ws t ≡ false
 settled_past true h ws t k l n = rw (lt-leb t h l, and_right (nat_le 1 t) false refl) refl
 settled_past false h [] t k l n = absurd (false≢true k)
@@ -111,7 +115,7 @@ unfolding consolidated
 consolidated-is keeps h ws k =
     tabulate-is N same_Q3 Q3_decides (λ t. if is_settled keeps h ws t then A else N) (1 ∷ (suc h ∷ all_points ws)) (record {
       start = refl;
-      step = λ t n. ap (λ b. if b then A else N) (ap₂ (λ x y. x && y) (ap₂ (λ x y. x && (not keeps || y)) (one_step t n.0) (le_step t h n.1.0)) (all_A-step ws t n.1.1));
+      step = λ t n. ap (λ b. if b then A else N) (ap₂ (λ x y. x && y) (ap₂ (λ x y. x && y) (one_step t n.0) (reached_step keeps h t n.1.0)) (all_A-step ws t n.1.1));
       past = λ t n. ap (λ b. if b then A else N) (settled_past keeps h ws t k n.1.0 n.1.1);
     })
 

@@ -1,5 +1,5 @@
 -- The truth of a tick: kept by later facts, by joins, by edges, by consolidation
-use Rattle.std.proofs.Common.{◌≡◌, inl, inr, ⊎_elim, ℕ, ◌≤◌, Bool, true, false, not, ◌&&◌, ◌||◌, List, [], ◌∷◌, refl, sym, ap, ◌∙◌, subst, Option, Some, None, le_trans}
+use Rattle.std.proofs.Common.{◌≡◌, inl, inr, ⊎_elim, ℕ, ◌≤◌, Bool, true, false, ◌&&◌, ◌||◌, List, [], ◌∷◌, refl, sym, ap, ◌∙◌, subst, Option, Some, None, le_trans}
 use Rattle.std.specs.Prelude.{nat_eq, nat_le}
 use Rattle.std.specs.List.{list_any}
 use Rattle.std.proofs.lemmas.Bool.{and_parts, cases_Bool, false≢true, eqb-true, eq-eqb, or_cases, or_right, both_ways, leb-true}
@@ -12,7 +12,7 @@ use Rattle.gr_curio.specs.Values.{Wanted, wanted_at, is_A}
 use Rattle.gr_know.specs.Values.{join_K, clash_K}
 use Rattle.gr_event.specs.Event.{same_event}
 use Rattle.gr_model.specs.Net.{Net, is_host, wanted_below, pass, keeps_horizon, not_empty, is_empty}
-use Rattle.gr_model.specs.Broker.{all_A, is_settled}
+use Rattle.gr_model.specs.Broker.{all_A, horizon_if, is_reached, is_settled}
 use Rattle.gr_theorems.specs.Truth.{Facts, concerns, TrueS, TrueD, TrueF, IsTrueAt, AllWantTruth, IsLater}
 use Rattle.gr_model.specs.Tree.{IsPlace}
 use Rattle.gr_event.proofs.SameEvent.{event_itself}
@@ -160,8 +160,8 @@ all_A-at net f p (d ∷ cs) (w ∷ ws) t a h c m =
 -- a consolidated tick may be F
 pub consolidated_true : (net : Net) (f : Facts) (p b h t : ℕ) (ws : List Wanted) → IsPlace net p b → AllWantTruth net f p (net.children p b) ws → h ≤ f.settled → ((s : ℕ) → list_any (λ x. nat_eq x s) (net.subscribers_at b) ≡ true → h ≤ f.reached s) → is_settled (keeps_horizon net p b) h ws t ≡ true → TrueF net f p b t
 consolidated_true net f p b h t ws place a below here e =
-    let k = and_parts (nat_le 1 t && (not (keeps_horizon net p b) || nat_le t h)) (all_A ws t) e in
-    let l = (and_parts (nat_le 1 t) (not (keeps_horizon net p b) || nat_le t h) k.0).1 in
+    let k = and_parts (nat_le 1 t && is_reached (horizon_if (keeps_horizon net p b) h) t) (all_A ws t) e in
+    let l = (and_parts (nat_le 1 t) (is_reached (horizon_if (keeps_horizon net p b) h) t) k.0).1 in
     record {
       settled = settled_by (net.children p b) ws a k.1 (λ q. le_trans (kept l (no_child q)) below);
       told = λ s m c. elim (cases_Bool (list_any (λ x. nat_eq x s) (net.subscribers_at b))) [
@@ -170,8 +170,8 @@ consolidated_true net f p b h t ws place a below here e =
       ];
     }
   where
-    kept : (not (keeps_horizon net p b) || nat_le t h) ≡ true → keeps_horizon net p b ≡ true → t ≤ h
-    kept l q = ⊎_elim (λ x. absurd (both_ways (not (keeps_horizon net p b)) (ap not q) x)) (λ x. leb-true t h x) (or_cases (not (keeps_horizon net p b)) (nat_le t h) l)
+    kept : is_reached (horizon_if (keeps_horizon net p b) h) t ≡ true → keeps_horizon net p b ≡ true → t ≤ h
+    kept l q = leb-true t h (ap (λ k. is_reached (horizon_if k h) t) (sym q) ∙ l)
 
     some_here : (xs : List ℕ) (s : ℕ) → list_any (λ x. nat_eq x s) xs ≡ true → (not_empty xs || is_empty (net.children p b)) ≡ true
     some_here [] s i = absurd (false≢true i)

@@ -16,8 +16,9 @@ use Rattle.gr_curio.specs.declared.values.Q3.{Q3}
 use Rattle.gr_curio.specs.declared.values.Q3.TheVariants.{N, C, A}
 use Rattle.gr_curio.specs.declared.asks.Moment.{Moment}
 use Rattle.gr_curio.specs.declared.asks.Moment.TheVariants.{Never}
-use Rattle.gr_curio.specs.Values.{Wanted, Asked, wanted_at, asked_at, same_Q3, same_moment, is_A, is_C, is_outstanding}
-use Rattle.gr_curio.specs.Due.{noted_of}
+use Rattle.gr_curio.specs.Values.{Wanted, Asked, wanted_at, asked_at, same_Q3, same_moment, is_A, is_C}
+use Rattle.gr_curio.specs.Due.{due_of, noted_of}
+use Rattle.gr_curio.specs.Wants.{answered_of}
 use Rattle.gr_frame.specs.declared.Body.{Body}
 use Rattle.gr_frame.specs.declared.Body.TheVariants as body
 use Rattle.gr_frame.specs.declared.Frame.{Frame}
@@ -189,7 +190,7 @@ forward_in net p c w new a b = zip_in IsKnown IsWanted IsKnown Q N Q same_K (λ 
 
 quenched_in : (w : Wanted) (sent : Known) → RunsIn IsWanted w → RunsIn IsKnown sent → RunsIn IsWanted (quenched w sent)
 unfolding quenched
-quenched_in w sent a b = zip_in IsWanted IsKnown IsWanted N Q N same_Q3 (λ a v. if is_C a && not (is_Q v) then N else a) w sent a b tt tt (λ x y h g. tt)
+quenched_in w sent a b = zip_in IsWanted IsKnown IsWanted N Q N same_Q3 (λ a v. answered_of (not (is_Q v)) a) w sent a b tt tt (λ x y h g. tt)
 
 forward_frames_cut : (net : Net) (p b : ℕ) (new : Known) (cs : List ℕ) (ws : List Wanted) → RunsIn IsKnown new → AllByRecursion (RunsIn IsWanted) ws → AllCut b (forward_frames net p b new cs ws)
 forward_frames_cut net p b new [] ws h a = tt
@@ -235,7 +236,7 @@ learn_in net p b piece v log h a l =
 due_in : (now retry : ℕ) (know : Known) (asks : Asked) (wanted : ℕ → Bool) (ps : List ℕ) → RunsIn IsKnown know → RunsIn IsMoment asks → AreUpto ps → RunsIn IsWanted (due now retry know asks wanted ps)
 unfolding due
 due_in now retry know asks wanted ps a b h =
-    tabulate_in IsWanted N same_Q3 (λ t. if wanted t && is_Q (known_at know t) && not (is_outstanding (asked_at asks t) now retry) then C else N) (ps ++ points know ++ points asks)
+    tabulate_in IsWanted N same_Q3 (λ t. due_of (asked_at asks t) (if wanted t && is_Q (known_at know t) then C else N) now retry) (ps ++ points know ++ points asks)
     (all_on (λ p. p ≤ suc max_tick) (ps ++ points know) (points asks) (all_on (λ p. p ≤ suc max_tick) ps (points know) h (points_upto IsKnown know a)) (points_upto IsMoment asks b)) (λ t. tt)
 
 noted_in : (now : ℕ) (asks : Asked) (asked : Wanted) → RunsIn IsMoment asks → RunsIn IsWanted asked → RunsIn IsMoment (noted now asks asked)

@@ -13,7 +13,7 @@ use Rattle.gr_tick.specs.Runs.{AreRuns, points, IsSteady, IsPast}
 use Rattle.gr_know.specs.Values.{Known, known_at, is_Q, same_K}
 use Rattle.gr_curio.specs.Values.{Wanted, wanted_at, asked_at, is_C, is_A, same_Q3, is_outstanding}
 use Rattle.gr_model.specs.Net.{Net, is_host, keeps_horizon, pass}
-use Rattle.gr_model.specs.Broker.{View, Log, Outcome, want_frames, know_frames, all_A, consolidated, is_settled, finished, due, noted, up_frames, place_of, passed, answer, answers, curious, stored, acknowledged, curiosity, head}
+use Rattle.gr_model.specs.Broker.{View, Log, Outcome, want_frames, know_frames, all_A, consolidated, horizon_if, is_reached, is_settled, finished, due, noted, up_frames, place_of, passed, answer, answers, curious, stored, acknowledged, curiosity, head}
 use Rattle.gr_frame.specs.Bytes.{cut_frames, known_run_size, wanted_run_size}
 use Rattle.gr_model.specs.World.{is_want}
 use Rattle.gr_theorems.specs.Truth.{Facts, WantsTruth, AllWantTruth}
@@ -81,7 +81,7 @@ not_all_A (d ∷ cs) (w ∷ ws) c t l m h =
 
 -- a tick where a child has no A is not consolidated
 pub not_settled : (net : Net) (f : Facts) (p b c t h : ℕ) (ws : List Wanted) → AllWantTruth net f p (net.children p b) ws → list_any (λ y. nat_eq y c) (net.children p b) ≡ true → is_A (wanted_at (get_or ws (place_of c (net.children p b)) []) t) ≡ false → is_settled (keeps_horizon net p b) h ws t ≡ false
-not_settled net f p b c t h ws a m n = ap (λ q. nat_le 1 t && (not (keeps_horizon net p b) || nat_le t h) && q) (not_all_A (net.children p b) ws c t (same_length net f p (net.children p b) ws a) m n) ∙ and_right (nat_le 1 t && (not (keeps_horizon net p b) || nat_le t h)) false refl
+not_settled net f p b c t h ws a m n = ap (λ q. nat_le 1 t && is_reached (horizon_if (keeps_horizon net p b) h) t && q) (not_all_A (net.children p b) ws c t (same_length net f p (net.children p b) ws a) m n) ∙ and_right (nat_le 1 t && is_reached (horizon_if (keeps_horizon net p b) h) t) false refl
 
 pub wants_true_at : (net : Net) (f : Facts) (p : ℕ) (cs : List ℕ) (ws : List Wanted) (c : ℕ) → AllWantTruth net f p cs ws → list_any (λ x. nat_eq x c) cs ≡ true → WantsTruth net f p c (get_or ws (place_of c cs) [])
 wants_true_at net f p [] ws c a m = absurd (false≢true m)

@@ -1,5 +1,5 @@
 -- A broker that has stored a child's question does not know the tick: learning a tick forwards it and makes the C an N, consolidation needs an A of each child, and forgetting leaves only Q
-use Rattle.std.proofs.Common.{◌≡◌, ◌≢◌, ◌⊎◌, inl, inr, ⊎_elim, ℕ, suc, zero, ◌+◌, ◌≤◌, ◌<◌, max, Bool, true, false, not, ◌&&◌, ◌||◌, List, [], ◌∷◌, map, set, get_or, refl, sym, ap, ap₂, ◌∙◌, subst, arith, le_refl}
+use Rattle.std.proofs.Common.{◌≡◌, ◌≢◌, ◌⊎◌, inl, inr, ⊎_elim, ℕ, suc, zero, ◌+◌, ◌≤◌, ◌<◌, max, Bool, true, false, not, ◌&&◌, List, [], ◌∷◌, map, set, get_or, refl, sym, ap, ap₂, ◌∙◌, subst, arith, le_refl}
 use Rattle.std.specs.Prelude.{nat_eq, nat_le, if◌then◌else◌}
 use Rattle.std.specs.List.{list_any}
 use Rattle.std.proofs.lemmas.Bool.{cases_eq, false≢true, or_left, or_right, or_cases, and_right, eq-eqb, leb-true}
@@ -17,7 +17,7 @@ use Rattle.gr_sched.specs.declared.step.Line.{Line}
 use Rattle.gr_know.specs.Values.{Known, known_at, is_Q, join_K}
 use Rattle.gr_curio.specs.Values.{Wanted, wanted_at, is_C, is_A}
 use Rattle.gr_model.specs.Net.{Net, is_host, keeps_horizon, numbers}
-use Rattle.gr_model.specs.Broker.{View, Log, Outcome, empty_log, all_A, any_C, is_settled, new_ticks, forward, quenched, forward_wants, learn, asking, expect, curiosity, curious, stored, acknowledged, place_of, publish, silence, with_event, with_mark, marking, wake, wake_host, wake_below, receive, clashes, noted, due, started}
+use Rattle.gr_model.specs.Broker.{View, Log, Outcome, empty_log, all_A, any_C, horizon_if, is_reached, is_settled, new_ticks, forward, quenched, forward_wants, learn, asking, expect, curiosity, curious, stored, acknowledged, place_of, publish, silence, with_event, with_mark, marking, wake, wake_host, wake_below, receive, clashes, noted, due, started}
 use Rattle.gr_model.specs.World.{World, blank_view, view_of, log_of, absorbed, wake_for, deliver_frame, publish_now, restarted, start, run_all, deliver_frame_by, publish_now_by, wake_for_by}
 use Rattle.gr_theorems.specs.Truth.{Facts, KnowsTruth, WantsTruth, AllWantTruth}
 use Rattle.gr_model.specs.Tree.{IsNet, IsPlace}
@@ -52,7 +52,7 @@ any_C_not_all (w ∷ ws) t e =
 
 -- so the tick is not consolidated
 pub asked_open : (keeps : Bool) (h : ℕ) (ws : List Wanted) (t : ℕ) → any_C ws t ≡ true → is_settled keeps h ws t ≡ false
-asked_open keeps h ws t e = ap (λ q. nat_le 1 t && (not keeps || nat_le t h) && q) (any_C_not_all ws t e) ∙ and_right (nat_le 1 t && (not keeps || nat_le t h)) false refl
+asked_open keeps h ws t e = ap (λ q. nat_le 1 t && is_reached (horizon_if keeps h) t && q) (any_C_not_all ws t e) ∙ and_right (nat_le 1 t && is_reached (horizon_if keeps h) t) false refl
 
 -- a stored C is one of the list
 pub stored_any : (ws : List Wanted) (i t : ℕ) → is_C (wanted_at (get_or ws i []) t) ≡ true → any_C ws t ≡ true

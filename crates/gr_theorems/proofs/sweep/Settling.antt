@@ -1,5 +1,5 @@
 -- The third phase of a sweep, one call after another: each woken broker sends what is consolidated and asks nothing, and its next broker up stores that at once
-use Rattle.std.proofs.Common.{◌≡◌, ◌≢◌, ◌⊎◌, inl, inr, ⊎_elim, ℕ, ◌+◌, ◌-◌, ◌≤◌, ◌<◌, min, Bool, true, false, not, ◌&&◌, ◌||◌, List, [], ◌∷◌, ◌++◌, map, length, get_or, refl, sym, ap, ap₂, ◌∙◌, subst, Option, Some, None, arith, append-nil, append_assoc}
+use Rattle.std.proofs.Common.{◌≡◌, ◌≢◌, ◌⊎◌, inl, inr, ⊎_elim, ℕ, ◌+◌, ◌-◌, ◌≤◌, ◌<◌, min, Bool, true, false, ◌&&◌, ◌||◌, List, [], ◌∷◌, ◌++◌, map, length, get_or, refl, sym, ap, ap₂, ◌∙◌, subst, Option, Some, None, arith, append-nil, append_assoc}
 use Rattle.std.specs.Prelude.{nat_eq, nat_le, nat_lt, if◌then◌else◌, filter}
 use Rattle.std.specs.List.{list_any}
 use Rattle.std.proofs.lemmas.Bool.{cases_eq, cases_lt, false≢true, true≢false, both_ways, eq-eqb, ne_eqb, le-leb, lt-leb, ltb-true, ltb-false}
@@ -13,7 +13,7 @@ use Rattle.gr_tick.specs.Runs.{AreRuns, first_bottom_from, top_of}
 use Rattle.gr_know.specs.Values.{Known, known_at, is_Q}
 use Rattle.gr_curio.specs.Values.{Wanted, wanted_at, asked_at, is_C, is_outstanding}
 use Rattle.gr_model.specs.Net.{Net, is_host, keeps_horizon}
-use Rattle.gr_model.specs.Broker.{View, Log, Outcome, any_C, is_settled, consolidated, up_frames, want_frames, place_of, head, wake, wake_host, wake_below, asking, marking, cutting, with_cut, done_upto, expect_frames, expect_frame, covers, curious, receive}
+use Rattle.gr_model.specs.Broker.{View, Log, Outcome, any_C, horizon_if, is_reached, is_settled, consolidated, up_frames, want_frames, place_of, head, wake, wake_host, wake_below, asking, marking, cutting, with_cut, done_upto, expect_frames, expect_frame, covers, curious, receive}
 use Rattle.gr_model.specs.World.{World, view_of, log_of, wake_for, deliver_frame, sent_since, frames_past, is_want, wake_for_by}
 use Rattle.gr_theorems.specs.Truth.{Facts, AllWantTruth}
 use Rattle.gr_model.specs.Tree.{IsNet}
@@ -209,7 +209,7 @@ wanted_quiet false true true x q o f g y z = absurd (both_ways x (f refl refl) z
 wanted_quiet false true false x q o f g y z = absurd (false≢true z)
 wanted_quiet false false h x q o f g y z = absurd (false≢true z)
 
-keeps_test : (keeps : Bool) (h m t : ℕ) → (keeps ≡ true → h ≡ m) → t ≤ m → (not keeps || nat_le t h) ≡ true
+keeps_test : (keeps : Bool) (h m t : ℕ) → (keeps ≡ true → h ≡ m) → t ≤ m → is_reached (horizon_if keeps h) t ≡ true
 keeps_test true h m t e l = le-leb t h (omega (arith, l, e refl))
 keeps_test false h m t e l = refl
 

@@ -1,0 +1,54 @@
+-- What the machine asks of a topology that was read is what the topology and the edges say in their own words
+use Rattle.std.proofs.Common.{◌≡◌, ℕ, Bool, true, false, not, ◌||◌, List, [], ◌∷◌, map, Option, Some, None, refl, ap, ap₂}
+use Rattle.std.specs.List.{list_any}
+use Rattle.gr_event.specs.declared.event.Event.{Event}
+use Rattle.gr_filter.specs.Tree.{Tree}
+use Rattle.gr_know.specs.declared.values.K.{K}
+use Rattle.gr_know.specs.declared.values.K.TheVariants.{Q, S, D, F}
+use Rattle.gr_edge.specs.Pass as edge
+use Rattle.gr_topo.specs.Topology.{TopologyView, filter_of, passes_filter, wants, children_of, subscribers_of, below_of, is_some_list, keeps_horizon_at}
+use Rattle.gr_model.specs.Net.{Net, not_empty, is_empty, keeps_horizon, wanted_below, pass}
+use Rattle.gr_model.specs.NetOf.{net_of}
+
+some_is : {A : Type 0} (xs : List A) → not_empty xs ≡ is_some_list xs
+some_is [] = refl
+some_is (x ∷ xs) = refl
+
+none_is : {A : Type 0} (xs : List A) → is_empty xs ≡ not (is_some_list xs)
+none_is [] = refl
+none_is (x ∷ xs) = refl
+
+-- a broker keeps a horizon exactly where the topology says so
+pub keeps_horizon_of : (t : TopologyView) (p b : ℕ) → keeps_horizon (net_of t) p b ≡ keeps_horizon_at t p b
+keeps_horizon_of t p b = ap₂ (λ x y. x || y) (some_is (subscribers_of t b)) (none_is (children_of t p b))
+
+-- a filter passes what it passes at an edge
+pub filter_passes : (f : Option Tree) (e : Event) → passes_filter f e ≡ edge.wants f e
+filter_passes None e = refl
+filter_passes (Some tree) e = refl
+
+-- the filters of the subscribers at a broker and beyond it
+abbrev pub filters_below : TopologyView → ℕ → ℕ → List (Option Tree)
+filters_below t p b = map (filter_of t) (below_of t p b)
+
+any_wants : (t : TopologyView) (ss : List ℕ) (e : Event) → list_any (λ s. wants t s e) ss ≡ edge.wanted (map (filter_of t) ss) e
+any_wants t [] e = refl
+any_wants t (s ∷ ss) e = ap₂ (λ x y. x || y) (filter_passes (filter_of t s) e) (any_wants t ss e)
+
+-- an event is wanted below a broker exactly where some filter there wants it
+pub wanted_below_of : (t : TopologyView) (p b tick : ℕ) (e : Event) → wanted_below (net_of t) p b tick e ≡ edge.wanted (filters_below t p b) e
+wanted_below_of t p b tick e = any_wants t (below_of t p b) e
+
+-- what passes an edge of any net whose subscribers below want what these filters want
+pub pass_is : (net : Net) (fs : List (Option Tree)) (p c t : ℕ) → ((e : Event) → wanted_below net p c t e ≡ edge.wanted fs e) → (k : K) → pass net p c t k ≡ edge.pass fs k
+pass_is net fs p c t h Q = refl
+pass_is net fs p c t h S = refl
+pass_is net fs p c t h F = refl
+pass_is net fs p c t h (D e) = ap pick (h e)
+  where
+    pick : Bool → K
+    pick q = elim q [ true ↦ D e | false ↦ S ]
+
+-- so what passes the edge to a child is what its filters let pass
+pub pass_of : (t : TopologyView) (p c tick : ℕ) (k : K) → pass (net_of t) p c tick k ≡ edge.pass (filters_below t p c) k
+pass_of t p c tick k = pass_is (net_of t) (filters_below t p c) p c tick (wanted_below_of t p c tick) k
