@@ -1,5 +1,5 @@
--- A run of a schedule by the rules of the calls, with no word of how anything is computed: each definition relates a state
--- to what is left and told from it. Of every schedule these relations allow exactly one report (`runs_by_rules`).
+-- A run of a schedule by the rules of the calls, with no word of how anything is computed: each definition relates a
+-- state to what is left and told from it. Of every schedule these relations allow exactly one report (`runs_by_rules`).
 use Rattle.std.specs.Prelude.{◌≡◌, ℕ, zero, suc, ◌<◌, max, Bool, true, false, ◌&&◌, nat_lt, if◌then◌else◌, List, [], ◌∷◌, ◌++◌, length, map, filter, get_or, set, Some, None, flat_map}
 use Rattle.gr_event.specs.declared.event.Event.{Event}
 use Rattle.gr_frame.specs.declared.Frame.{Frame}
@@ -18,8 +18,8 @@ use Rattle.gr_theorems.specs.Rules.{HasKnown, NewTicks, Publishes, Wakes, Comes}
 use Rattle.gr_theorems.specs.Settles.{is_accepted}
 use Rattle.gr_theorems.specs.Obeys.{is_next_of}
 
--- A state is the clock and its greatest moment so far, the frames that were sent, the views and the logs (`World`). With the
--- lines told on the way to it, it is a `Told`.
+-- A state is the clock and its greatest moment so far, the frames that were sent, the views and the logs (`World`). With
+-- the lines told on the way to it, it is a `Told`.
 
 -- One after another
 
@@ -177,7 +177,7 @@ pub record Crashes (net : Net) (number b : ℕ) (w : World) (t : Told) : Type 0 
 abbrev pub next_tick : World → ℕ → ℕ
 next_tick w p = max (suc (log_of w p).settled) w.clock
 
--- the event of a stopped publish is kept: so say its log's gate, the disk's call at which it stops, and what the disk picks
+-- the event of a stopped publish is kept: so say its log's gate, the disk's call that it stops at, and what the disk picks
 abbrev pub keeps : World → ℕ → Stop → Bool
 keeps w p stop = is_kept (log_of w p).gate stop.call stop.pick
 
@@ -210,8 +210,8 @@ pub record Stops (net : Net) (number p n : ℕ) (stop : Stop) (e : Event) (w : W
 abbrev pub upward_since : World → World → List Frame
 upward_since w u = filter is_want (sent_since w u)
 
--- The frames are delivered one after another, each followed at once by the upward frames that its delivery sends, and these by
--- theirs, until none is sent: in a chain of at most so many.
+-- The frames are delivered one after another, each followed at once by the upward frames that its delivery sends, and
+-- these by theirs, until none is sent: in a chain of at most so many.
 abbrev pub AtOnce : Net → ℕ → List Frame → World → Told → Type 0
 AtOnce net zero fs w t = (fs ≡ []) × Tells [] w t
 AtOnce net (suc longest) fs w t =
@@ -331,7 +331,8 @@ pub record ReportByRules (net : Net) (steps : List Line) (rs : List (List Report
   pub schedule : ScheduleByRules net steps rs left
 
 -- a whole schedule over logs that were found: the start over them tells its lines, and then each step its own
-pub record RunsOver (net : Net) (found : List Log) (steps : List Line) (told : List Report) (rs : List (List Report)) (u : World) : Type 0 where
+pub record RunsOver (net : Net) (found : List Log) (steps : List Line) (told : List Report) (rs : List (List Report))
+    (u : World) : Type 0 where
   pub opened : World
   pub opens : Opens net found (record { world = opened; lines = told })
   pub run : RunByRules net opened steps rs u

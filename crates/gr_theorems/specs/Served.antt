@@ -111,18 +111,30 @@ pub record ArrivalTold (h : History) (a : Arrival) (ls : List Report) : Type 0 w
   pub unreplied : filter is_reply ls ≡ []
   pub numbered : map sent_number (filter is_sent ls) ≡ numbers_from (suc (sent_count h.lines)) (sent_count ls)
 
--- Of each arrival: its lines are those of its steps, or it was dropped; of the steps the headline holds. At the end all is shown,
--- and nothing else is told
+-- Of one arrival, where Rest is to hold of the history after its steps
+pub record ArrivalHolds (net : Net) (h : History) (left : List Publish) (a : Arrival) (r : List Report)
+    (Rest : History → Type 0) : Type 0 where
+  pub told : ArrivalTold h a r
+  -- its lines are those of its steps, and then that of a datagram that is no frame
+  pub parts : List (List Report)
+  pub lines : r ≡ joined parts ++ dropped_line a
+  -- of its steps the headline holds
+  pub steps : Holds_from net h (steps_of_arrival net h.lines left a) parts
+  pub rest : Rest (history net h (steps_of_arrival net h.lines left a) parts)
+
+-- At the end all is shown, and nothing else is told
+pub record ShowHolds (net : Net) (h : History) (r : List Report) : Type 0 where
+  pub shown : r ≡ filter is_record_line r ++ filter is_doubt_line r
+  pub steps : Holds_from net h (as_line step.Show ∷ []) (r ∷ [])
+
+-- So it is of each arrival, and of the end
 abbrev pub HoldsServed : Net → History → List Publish → List Arrival → List (List Report) → Type 0
 HoldsServed net h left [] [] = ⊥
-HoldsServed net h left [] (r ∷ []) = (r ≡ filter is_record_line r ++ filter is_doubt_line r) × Holds_from net h (as_line step.Show ∷ []) (r ∷ [])
+HoldsServed net h left [] (r ∷ []) = ShowHolds net h r
 HoldsServed net h left [] (r ∷ (s ∷ rs)) = ⊥
 HoldsServed net h left (a ∷ arrivals) [] = ⊥
 HoldsServed net h left (a ∷ arrivals) (r ∷ rs) =
-    ArrivalTold h a r
-    × ((parts : List (List Report)) × ((r ≡ joined parts ++ dropped_line a)
-    × Holds_from net h (steps_of_arrival net h.lines left a) parts
-    × HoldsServed net (history net h (steps_of_arrival net h.lines left a) parts) (left_after left a) arrivals rs))
+    ArrivalHolds net h left a r (λ g. HoldsServed net g (left_after left a) arrivals rs)
 
 -- The headline of a run of all brokers over a journal. The opening tells each log that is not empty and what the subscribers at its
 -- host get at once, and nothing else; then all of the above. The record begins with what the logs say, and each subscriber starts

@@ -52,8 +52,8 @@ pub fn never_clashes()
     ensures { (net : Net) (steps : List Line) → IsRun net steps → NothingClashes net (world_after net steps) }
 {}
 
-/// No frame that was ever sent is a stray: each is of a publisher of the topology and goes over an edge of the tree, from
-/// a broker to a child with knowledge or a tick to expect, or to the next broker up with curiosity.
+/// No frame that was ever sent is a stray: each is of a publisher of the topology and goes over an edge of the tree,
+/// from a broker to a child with knowledge or a tick to expect, or to the next broker up with curiosity.
 pub fn never_strays()
     ensures { (net : Net) (steps : List Line) → IsRun net steps → NothingStrays net (world_after net steps) }
 {}
@@ -109,8 +109,9 @@ pub fn rules_determine()
 {}
 
 /// Of every schedule the rules allow exactly one report and leave exactly one world, the machine's. What happens at a
-/// step is said by the rules alone: its calls in their order, each with the outcome of its rule put in its place; starts
-/// and crashes, stopped publishes, sweeps, what is refused and what is shown; and the lines of all this in their order.
+/// step is said by the rules alone: its calls in their order, each with the outcome of its rule put in its place;
+/// starts and crashes, stopped publishes, sweeps, what is refused and what is shown; and the lines of all this in their
+/// order.
 /// The same of a schedule that begins on logs that were found, and of what the start over them tells.
 pub fn runs_by_rules()
     ensures allowed { (net : Net) (steps : List Line) → IsMarkedRun net steps →

@@ -18,9 +18,9 @@ use Rattle.gr_model.specs.Broker.{max_tick}
 use Rattle.gr_model.specs.World.{World, Told, view_of, log_of, unchanged, sent_lines, next, show, run_from, run_all, kept_events, next_by, run_from_by}
 use Rattle.gr_theorems.specs.Edges.{GoesOverEdge}
 use Rattle.gr_model.specs.Arrivals.{Arrival, datagram, quiet, Publish, is_hosted, publishes_in, publishes_of, left_after, comes, show_hosted, served_from, served_from_by}
-use Rattle.gr_theorems.specs.Served.{number_of_bytes, IsHonestAt, IsHonest, DoesSteps, AllDoSteps, as_line, publish_step, delivery_step, is_frame, steps_of_arrival, dropped_as, dropped_line, is_dropped, ArrivalTold, HoldsServed}
+use Rattle.gr_theorems.specs.Served.{number_of_bytes, IsHonestAt, IsHonest, DoesSteps, AllDoSteps, as_line, publish_step, delivery_step, is_frame, steps_of_arrival, dropped_as, dropped_line, is_dropped, ArrivalTold, ShowHolds, HoldsServed}
 use Rattle.gr_theorems.specs.Spelled.{NumberIn, NumbersIn, IsSpelled}
-use Rattle.gr_model.specs.Headline.{History, history, Holds_from, is_record_line, is_doubt_line, is_sent, sent_number}
+use Rattle.gr_model.specs.Headline.{History, history, is_record_line, is_doubt_line, is_sent, sent_number}
 use Rattle.gr_theorems.specs.Replies.{is_reply}
 use Rattle.gr_model.specs.Tree.{IsNet}
 use Rattle.gr_theorems.specs.Fits.{WorldFits, StepIn, StepsIn}
@@ -308,23 +308,20 @@ module _ (net : Net) (n : IsNet net) (on : 1 ≤ net.quiet) (retry : 1 ≤ net.r
   pub holds : (arrivals : List Arrival) (w : World) (h : History) (left : List Publish) → Ready net P w h → LeftIn net left → IsHonest h.lines arrivals (served_from net (numbers net.brokers) w left arrivals) → HoldsServed net h left arrivals (served_from net (numbers net.brokers) w left arrivals)
   unfolding served_from_by next_by run_from_by
   holds [] w h left r l x =
-      subst (λ (z : List Report). (z ≡ filter is_record_line z ++ filter is_doubt_line z) × Holds_from net h (as_line step.Show ∷ []) (z ∷ [])) (sym (shown net w n))
-      (shown_parts net w, holds_where_sweeps_reach net w h (as_line step.Show ∷ []) n (sweeps_reach net n on retry) on (tt, tt) r.whole r.unknown)
+      subst (λ (z : List Report). ShowHolds net h z) (sym (shown net w n))
+      (record { shown = shown_parts net w; steps = holds_where_sweeps_reach net w h (as_line step.Show ∷ []) n (sweeps_reach net n on retry) on (tt, tt) r.whole r.unknown })
   holds (a ∷ arrivals) w h left r l x =
       let steps = steps_of_arrival net h.lines left a in
       let parts = run_from net w steps in
       let y = turn w h left a r l x.0 in
-      let g : History = history net h steps parts in (
-        arrival_told w h left a r y,
-        (
-          parts,
-          (
-            y.does.lines ∙ ap (λ (z : List Report). z ++ dropped_line a) (sym (report_lines net w steps)),
-            holds_where_sweeps_reach net w h steps n (sweeps_reach net n on retry) on y.are_in.steps r.whole r.unknown,
-            subst (λ z. HoldsServed net g (left_after left a) arrivals (served_from net (numbers net.brokers) z (left_after left a) arrivals)) (sym y.does.world) (holds arrivals (run_all net w steps).world g (left_after left a) y.ready (left_in net left a l) (still_honest w h left a arrivals y x)),
-          ),
-        ),
-      )
+      let g : History = history net h steps parts in
+      record {
+        told = arrival_told w h left a r y;
+        parts = parts;
+        lines = y.does.lines ∙ ap (λ (z : List Report). z ++ dropped_line a) (sym (report_lines net w steps));
+        steps = holds_where_sweeps_reach net w h steps n (sweeps_reach net n on retry) on y.are_in.steps r.whole r.unknown;
+        rest = subst (λ z. HoldsServed net g (left_after left a) arrivals (served_from net (numbers net.brokers) z (left_after left a) arrivals)) (sym y.does.world) (holds arrivals (run_all net w steps).world g (left_after left a) y.ready (left_in net left a l) (still_honest w h left a arrivals y x));
+      }
 
   -- the steps are the same by the lines of frames alone
   steps_same : (xs ys : List Report) (left : List Publish) (a : Arrival) → filter is_sent xs ≡ filter is_sent ys → steps_of_arrival net xs left a ≡ steps_of_arrival net ys left a
