@@ -1,5 +1,4 @@
 -- What is cut, and in which order cuts and handed over events stand
-pub mod Cuts
 pub mod Cutlines
 pub mod CutOrder
 pub mod Orders

@@ -20,9 +20,6 @@ pub mod FirstTurns
 pub mod FirstUnknown
 pub mod FirstWake
 pub mod Path
-pub mod PathUp
-pub mod PathWake
-pub mod PathWakeUp
 pub mod SecondBrings
 pub mod SecondOrder
 pub mod SecondParts

@@ -1,25 +1,24 @@
 -- What one call does at one tick
-use Rattle.std.proofs.Common.{◌≡◌, ◌≢◌, ◌⊎◌, inl, inr, ⊎_elim, ℕ, suc, ◌+◌, ◌-◌, ◌≤◌, ◌<◌, Bool, true, false, not, ◌&&◌, ◌||◌, List, [], ◌∷◌, ◌++◌, refl, sym, ap, ap₂, ◌∙◌, subst, arith, le_refl}
+use Rattle.std.proofs.Common.{◌≡◌, ◌⊎◌, inl, inr, ⊎_elim, ℕ, suc, ◌+◌, ◌-◌, ◌≤◌, ◌<◌, Bool, true, false, not, ◌&&◌, ◌||◌, List, [], ◌∷◌, ◌++◌, refl, sym, ap, ap₂, ◌∙◌, subst, arith, le_refl}
 use Rattle.std.specs.Prelude.{nat_le, nat_lt, if◌then◌else◌}
-use Rattle.std.proofs.lemmas.Bool.{and_parts, and_right, false≢true, leb-true, ltb-true, le-leb, lt-leb, lt-ltb, le-ltb}
+use Rattle.std.proofs.lemmas.Bool.{and_parts, and_right, false≢true, le-leb, lt-ltb}
 use Rattle.gr_know.specs.declared.values.K.{K}
 use Rattle.gr_know.specs.declared.values.K.TheVariants.{Q, S, D, F}
 use Rattle.gr_curio.specs.declared.values.Q3.{Q3}
 use Rattle.gr_curio.specs.declared.values.Q3.TheVariants.{N, C, A}
-use Rattle.gr_tick.specs.Runs.{AreRuns, points, IsNone, IsPast, top_of}
+use Rattle.gr_tick.specs.Runs.{AreRuns, top_of}
 use Rattle.gr_know.specs.Values.{known_at, is_Q}
-use Rattle.gr_curio.specs.Values.{Wanted, Asked, wanted_at, asked_at, is_C, is_A, same_moment, is_outstanding}
+use Rattle.gr_curio.specs.Values.{Wanted, wanted_at, asked_at, is_C, is_A, same_moment, is_outstanding}
 use Rattle.gr_model.specs.Net.{Net, is_host, keeps_horizon}
 use Rattle.gr_model.specs.Broker.{View, Log, Outcome, all_points, any_C, is_settled, is_F, consolidated, open_asks, trimmed_below, trimmed, max_tick, due, noted, upward, up_frames, asking, wake_below, wanted_at_wake}
-use Rattle.gr_model.specs.World.{World, view_of, sweep_moment}
-use Rattle.gr_theorems.specs.Truth.{Facts, AllWantTruth}
+use Rattle.gr_model.specs.World.{World, sweep_moment}
+use Rattle.gr_theorems.specs.Truth.{Facts}
 use Rattle.gr_theorems.specs.Fits.{ViewTrue}
-use Rattle.gr_tick.proofs.RunLaws.{AreRunsOf, zip_runs-is, IsNone-append, IsPast-append, value_at-step, value_at-past, value_at-start}
+use Rattle.gr_tick.proofs.RunLaws.{AreRunsOf, zip_runs-is}
 use Rattle.gr_curio.proofs.ValueLaws.{moment_decides}
 use Rattle.gr_theorems.proofs.calls.Pieces.{IsLowered, forgotten-is}
-pub use Rattle.gr_theorems.proofs.calls.CallTruth.{due-at, noted-at, upward-at}
-use Rattle.gr_theorems.proofs.calls.CallTruth.{IsWanted, done_runs, done_values}
-use Rattle.gr_theorems.proofs.asks.AskMoments.{AsksUpto, AsksFit, asked_upto}
+pub use Rattle.gr_theorems.proofs.calls.CallTruth.{due-at, noted-at, upward-at, wake_wanted}
+use Rattle.gr_theorems.proofs.calls.CallTruth.{done_runs, done_values}
 use Rattle.gr_curio.specs.declared.asks.Moment.TheVariants.{Never, At}
 use Rattle.gr_curio.specs.declared.asks.Moment.{Moment}
 
@@ -86,90 +85,15 @@ trimmed_above net p b t v u i k h = ⊎_elim (λ x. x) (λ x. absurd (omega (ari
 
 -- Outstanding asks
 
-pub not_outstanding : (now retry m t : ℕ) (asks : Asked) → AsksUpto m asks → m + retry ≤ now → is_outstanding (asked_at asks t) now retry ≡ false
-not_outstanding now retry m t asks a h = go (asked_at asks t) refl
-  where
-    go : (o : Moment) → asked_at asks t ≡ o → is_outstanding o now retry ≡ false
-    go Never e = refl
-    go (At k) e =
-        let l : k ≤ m = asked_upto m t k asks a e in
-        ap (λ x. nat_le k now && x) (le-ltb now (k + retry) (omega (arith, l, h))) ∙ and_right (nat_le k now) false refl
-
 pub sweep_is_past : (net : Net) (w : World) → w.most + net.retry ≤ sweep_moment net w
 unfolding sweep_moment
 sweep_is_past net w = omega arith
-
--- at a sweep's moment no ask of before it is outstanding
-pub none_outstanding : (net : Net) (w : World) (p b t : ℕ) → AsksFit net w → p < net.publishers → b < net.brokers → is_outstanding (asked_at (view_of w b p).asks t) (sweep_moment net w) net.retry ≡ false
-none_outstanding net w p b t a i j = not_outstanding (sweep_moment net w) net.retry w.most t (view_of w b p).asks (a.upto p b i j) (sweep_is_past net w)
 
 -- an ask of this moment is outstanding
 pub just_asked : (now retry : ℕ) → 1 ≤ retry → is_outstanding (At now) now retry ≡ true
 just_asked now retry h = rw (le-leb now now (le_refl now), lt-ltb now (now + retry) (omega (arith, h))) refl
 
 -- Asking
-
-same_test : (x y : Bool) → (x ≡ true → y ≡ true) → (y ≡ true → x ≡ true) → x ≡ y
-same_test true true a b = refl
-same_test false false a b = refl
-same_test true false a b = sym (a refl)
-same_test false true a b = b refl
-
-above_step : (h t : ℕ) → suc t ≢ suc h → nat_lt h (suc t) ≡ nat_lt h t
-above_step h t n = same_test (nat_lt h (suc t)) (nat_lt h t)
-    (λ e. let m : t ≡ h → ⊥ = λ g. n (ap suc g) in lt-ltb h t (omega (arith, ltb-true h (suc t) e, m)))
-    (λ e. lt-ltb h (suc t) (omega (arith, ltb-true h t e)))
-
-ago_step : (gap now t : ℕ) → suc t ≢ suc (now - gap) → nat_le (suc t + gap) now ≡ nat_le (t + gap) now
-ago_step gap now t n = same_test (nat_le (suc t + gap) now) (nat_le (t + gap) now)
-    (λ e. le-leb (t + gap) now (omega (arith, leb-true (suc t + gap) now e)))
-    (λ e. let m : t ≡ now - gap → ⊥ = λ g. n (ap suc g) in le-leb (suc t + gap) now (omega (arith, leb-true (t + gap) now e, m)))
-
-below_step : (top t : ℕ) → suc t ≢ top → nat_lt (suc t) top ≡ nat_lt t top
-below_step top t n = same_test (nat_lt (suc t) top) (nat_lt t top)
-    (λ e. lt-ltb t top (omega (arith, ltb-true (suc t) top e)))
-    (λ e. lt-ltb (suc t) top (omega (arith, ltb-true t top e, n)))
-
-upto_step : (top t : ℕ) → suc t ≢ suc top → nat_le (suc t) top ≡ nat_le t top
-upto_step top t n = same_test (nat_le (suc t) top) (nat_le t top)
-    (λ e. le-leb t top (omega (arith, leb-true (suc t) top e)))
-    (λ e. let m : t ≡ top → ⊥ = λ g. n (ap suc g) in le-leb (suc t) top (omega (arith, leb-true t top e, m)))
-
-any_C-start : (net : Net) (f : Facts) (p : ℕ) (cs : List ℕ) (ws : List Wanted) → AllWantTruth net f p cs ws → any_C ws 0 ≡ false
-any_C-start net f p [] [] a = refl
-any_C-start net f p [] (w ∷ ws) a = absurd a
-any_C-start net f p (c ∷ cs) [] a = absurd a
-any_C-start net f p (c ∷ cs) (w ∷ ws) a = ap₂ (λ x y. x || y) (ap is_C (value_at-start N 1 w 0 a.0.runs (omega arith))) (any_C-start net f p cs ws a.1)
-
-any_C-step : (ws : List Wanted) (t : ℕ) → IsNone (suc t) (all_points ws) → any_C ws (suc t) ≡ any_C ws t
-any_C-step [] t n = refl
-any_C-step (w ∷ ws) t n =
-    let k = IsNone-append (suc t) (points w) (all_points ws) n in
-    ap₂ (λ x y. x || y) (ap is_C (value_at-step N w t k.0)) (any_C-step ws t k.1)
-
-any_C-past : (ws : List Wanted) (t : ℕ) → IsPast t (all_points ws) → any_C ws t ≡ false
-any_C-past [] t n = refl
-any_C-past (w ∷ ws) t n =
-    let k = IsPast-append t (points w) (all_points ws) n in
-    ap₂ (λ x y. x || y) (ap is_C (value_at-past N w t k.0)) (any_C-past ws t k.1)
-
-and_false : (x : Bool) → (x && false) ≡ false
-and_false true = refl
-and_false false = refl
-
-pub wake_wanted : (net : Net) (f : Facts) (p b now : ℕ) (v : View) → ViewTrue net f p b v → (keeps : Bool) → IsWanted (wanted_at_wake net keeps now v) (all_points v.wants ++ (suc v.horizon ∷ (suc (now - net.idle) ∷ (suc (now - net.gap) ∷ (top_of v.know ∷ [])))))
-wake_wanted net f p b now v h keeps = record {
-  start = ap₂ (λ x y. x || y) (any_C-start net f p (net.children p b) v.wants h.wants) (ap₂ (λ x y. keeps && x && y) (le-ltb v.horizon 0 (omega arith)) refl ∙ rw and_false refl);
-  step = λ t n.
-      let k = IsNone-append (suc t) (all_points v.wants) (suc v.horizon ∷ (suc (now - net.idle) ∷ (suc (now - net.gap) ∷ (top_of v.know ∷ [])))) n in
-      ap₂ (λ x y. x || y) (any_C-step v.wants t k.0)
-      (ap₂ (λ x y. keeps && x && y) (above_step v.horizon t k.1.0)
-      (ap₂ (λ x y. x || y) (ago_step net.idle now t k.1.1.0) (ap₂ (λ x y. x && y) (ago_step net.gap now t k.1.1.1.0) (below_step (top_of v.know) t k.1.1.1.1.0))));
-  past = λ t n.
-      let k = IsPast-append t (all_points v.wants) (suc v.horizon ∷ (suc (now - net.idle) ∷ (suc (now - net.gap) ∷ (top_of v.know ∷ [])))) n in
-      ap₂ (λ x y. x || y) (any_C-past v.wants t k.0)
-      (ap₂ (λ x y. keeps && nat_lt v.horizon t && (x || (y && nat_lt t (top_of v.know)))) (lt-leb (t + net.idle) now (omega (arith, k.1.1.0))) (lt-leb (t + net.gap) now (omega (arith, k.1.1.1.0))) ∙ and_false (keeps && nat_lt v.horizon t));
-}
 
 -- The wake of a broker that is not the host
 

@@ -415,7 +415,8 @@ and_false : (x : Bool) → (x && false) ≡ false
 and_false true = refl
 and_false false = refl
 
-wake_wanted : (net : Net) (f : Facts) (p b now : ℕ) (v : View) → ViewTrue net f p b v → (keeps : Bool) → IsWanted (wanted_at_wake net keeps now v) (all_points v.wants ++ (suc v.horizon ∷ (suc (now - net.idle) ∷ (suc (now - net.gap) ∷ (top_of v.know ∷ [])))))
+-- what is wanted at a wake is steady between these points
+pub wake_wanted : (net : Net) (f : Facts) (p b now : ℕ) (v : View) → ViewTrue net f p b v → (keeps : Bool) → IsWanted (wanted_at_wake net keeps now v) (all_points v.wants ++ (suc v.horizon ∷ (suc (now - net.idle) ∷ (suc (now - net.gap) ∷ (top_of v.know ∷ [])))))
 wake_wanted net f p b now v h keeps = record {
   start = ap₂ (λ x y. x || y) (any_C-start net f p (net.children p b) v.wants h.wants) (ap₂ (λ x y. keeps && x && y) (le-ltb v.horizon 0 (omega arith)) refl ∙ rw and_false refl);
   step = λ t n.

@@ -13,7 +13,7 @@ use Rattle.gr_model.specs.declared.report.Report.TheVariants as line
 use Rattle.gr_model.specs.Net.{Net, is_host, numbers_from}
 use Rattle.gr_model.specs.Broker.{View, Log, Outcome, told, got_line, learn, publish, marking, cutting, wake, wake_host, wake_below, asking, curiosity, expect, receive, clashes, place_of, max_tick}
 use Rattle.gr_model.specs.World.{World, Told, view_of, log_of, absorbed, unchanged, after, in_turn, sent_line, sent_lines, wake_for, deliver_frame, publish_now, sweep_for, deliver_frame_by, publish_now_by, wake_for_by}
-use Rattle.gr_model.specs.Headline.{Recorded, is_record_line, is_sent, sent_count, publish_line, marked, settling}
+use Rattle.gr_model.specs.Headline.{Recorded, is_record_line, is_sent, publish_line, marked, settling}
 use Rattle.gr_model.specs.Tree.{IsNet}
 use Rattle.gr_theorems.specs.Fits.{WorldFits, FrameTrue}
 use Rattle.gr_theorems.proofs.calls.HostCases.{publish_cases, marking_cases}
@@ -189,13 +189,6 @@ sent_recs n (f ∷ fs) = filter-append is_record_line (sent_line n f ∷ []) (se
     one (body.Knowledge runs) = refl
     one (body.Curiosity runs) = refl
     one (body.Expect tick) = refl
-
-pub sents_append : (xs ys : List Report) → sent_count (xs ++ ys) ≡ sent_count xs + sent_count ys
-sents_append xs ys = ap length (filter-append is_sent xs ys) ∙ length_append (filter is_sent xs) (filter is_sent ys)
-  where
-    length_append : (xs ys : List Report) → length (xs ++ ys) ≡ length xs + length ys
-    length_append [] ys = omega arith
-    length_append (x ∷ xs) ys = let e = length_append xs ys in omega (arith, e)
 
 -- the lines of frames are sent lines
 sent_itself : (n : ℕ) (fs : List Frame) → filter is_sent (sent_lines (suc n) fs) ≡ sent_lines (suc n) fs

@@ -222,7 +222,3 @@ quench_not_C net p c t k C h = λ e. N_not_C (sym (ap (λ x. if not x then N els
   where
     N_not_C : N ≡ C → ⊥
     N_not_C e = cc
-
--- a learned tick leaves no C stored there
-pub learned_quenches : (net : Net) (p b c t : ℕ) (piece : Known) (v : View) (o : Outcome) → LearnTicks net p b piece v o → list_any (λ x. nat_eq x c) (net.children p b) ≡ true → known_at v.know t ≡ Q → known_at piece t ≢ Q → wanted_at (wants_of net p b o.view c) t ≢ C
-learned_quenches net p b c t piece v o l m q x = λ e. quench_not_C net p c t (known_at piece t) (wanted_at (wants_of net p b v c) t) x (ap (λ z. quenched_at net p c t (if z then known_at piece t else Q) (wanted_at (wants_of net p b v c) t)) (sym (is_Q_of (known_at v.know t) q)) ∙ (sym (l.wants c t m) ∙ e))

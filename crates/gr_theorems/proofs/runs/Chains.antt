@@ -1,5 +1,5 @@
 -- What holds of each call of a broker, and of nothing, and one after another, holds of waking and of a sweep
-use Rattle.std.proofs.Common.{ℕ, suc, zero, ◌<◌, List, [], ◌∷◌, length, arith}
+use Rattle.std.proofs.Common.{◌≡◌, ℕ, suc, zero, ◌<◌, List, [], ◌∷◌, ◌++◌, length, refl, arith}
 use Rattle.std.specs.Prelude.{filter}
 use Rattle.gr_frame.specs.declared.Frame.{Frame}
 use Rattle.gr_model.specs.Net.{Net, numbers}
@@ -76,3 +76,8 @@ sweep_for_chain net P w p c n f j =
 
 pub sweeps_chain : (net : Net) (P : World → Told → Type 0) (w : World) → Chains net P → IsNet net → WorldFits net w → Both net P w (in_turn (sweep_for net) (numbers net.publishers) w)
 sweeps_chain net P w c n f = in_turn_both net P (λ x p. p < net.publishers) (sweep_for net) c (λ x y p l h. h) (λ x p g h. sweep_for_chain net P x p c n g h) (numbers net.publishers) w f (numbers_below 0 net.publishers net.publishers (omega arith))
+
+-- two lists, one after the other
+pub in_turn_append : {X : Type 0} (f : World → X → Told) (xs ys : List X) (w : World) → (in_turn f (xs ++ ys) w).world ≡ (in_turn f ys (in_turn f xs w).world).world
+in_turn_append f [] ys w = refl
+in_turn_append f (x ∷ xs) ys w = in_turn_append f xs ys (f w x).world

@@ -19,11 +19,10 @@ use Rattle.gr_tick.specs.Runs.{IsNone}
 use Rattle.gr_know.specs.Values.{same_K}
 use Rattle.gr_model.specs.Net.{Net, is_host, not_empty, numbers, numbers_from, keeps_horizon}
 use Rattle.gr_model.specs.Broker.{View, Log, empty_log, with_event, event_at, log_at, event_points, log_know, started, is_kept, max_tick}
-use Rattle.gr_model.specs.World.{World, Told, blank_view, view_of, log_of, unchanged, after, in_turn, deliver_frame, frame_at, publish_now, restarted, crash, publish_stopped, wake_all, sweep_for, sweep, sweep_moment, next, start, show, opened_lines, run_from, report_of, kept_events, run_all, next_by, publish_stopped_by, report_of_by, run_from_by, sweep_by}
+use Rattle.gr_model.specs.World.{World, Told, blank_view, view_of, log_of, unchanged, after, in_turn, deliver_frame, frame_at, publish_now, restarted, crash, publish_stopped, wake_all, sweep_for, sweep, sweep_moment, next, start, show, opened_lines, run_from, kept_events, run_all, next_by, publish_stopped_by, run_from_by, sweep_by}
 use Rattle.gr_frame.specs.Bytes.{frame_bytes}
 use Rattle.gr_theorems.specs.Truth.{Facts, IsTrueAt, KnowsTruth, AllWantTruth, IsLater}
 use Rattle.gr_theorems.specs.Said.{said_at, due_upto}
-use Rattle.gr_model.specs.Headline.{gots, last_horizon, HorizonsRise}
 use Rattle.gr_theorems.proofs.calls.Telling.{Neutral, Neutral-append, Neutral-nil, Silent, due_upto_same}
 use Rattle.gr_theorems.specs.Fits.{facts, reached_in, facts_of, LogFits, ViewTrue, HostKnows, CutTrue, FrameTrue, AllFramesTrue, WorldFits, LinesFit, StepIn, StepsIn}
 use Rattle.gr_model.specs.Tree.{IsNet, IsSubscriber}
@@ -507,18 +506,3 @@ start_lines net = record {
 
 pub lines_always : (net : Net) (ls : List Line) → IsNet net → StepsIn net ls → LinesFit net (run_all net (start net) ls).world (run_all net (start net) ls).lines
 lines_always net ls n i = (run_kept net (start net) ls n (start_fits net n) i).lines [] (start_lines net)
-
--- whatever the schedule: each subscriber got exactly the logged events that its filter matches up to its last horizon, once each, in order
-pub exactly_once : (net : Net) (ls : List Line) (p s : ℕ) → IsNet net → StepsIn net ls → p < net.publishers → IsSubscriber net s →
-    (let lines = flat_map (λ x. x) (report_of net ls) in gots s p lines ≡ due_upto net p s (last_horizon s p 0 lines) (log_of (run_all net (start net) ls).world p).events)
-unfolding report_of_by
-exactly_once net ls p s n i j y =
-    let l = lines_always net ls n i in
-    let lines = (run_all net (start net) ls).lines in
-    subst (λ z. gots s p z ≡ due_upto net p s (last_horizon s p 0 z) (log_of (run_all net (start net) ls).world p).events) (sym (report_lines net (start net) ls))
-    (l.got p s j y ∙ ap (λ h. due_upto net p s h (log_of (run_all net (start net) ls).world p).events) (sym (l.horizon p s j y)))
-
--- whatever the schedule: the horizon lines of one subscriber and publisher rise strictly
-pub horizons_rise : (net : Net) (ls : List Line) (p s : ℕ) → IsNet net → StepsIn net ls → p < net.publishers → IsSubscriber net s → HorizonsRise s p 0 (flat_map (λ x. x) (report_of net ls))
-unfolding report_of_by
-horizons_rise net ls p s n i j y = subst (λ z. HorizonsRise s p 0 z) (sym (report_lines net (start net) ls)) ((lines_always net ls n i).rise p s j y)

@@ -30,8 +30,9 @@ use Rattle.gr_theorems.proofs.sweep.SweepStates.{IsChild, Begins, Asked, first_p
 use Rattle.gr_theorems.proofs.sweep.FirstUnknown.{unknown_calls}
 use Rattle.gr_theorems.proofs.sweep.FirstPending.{HasAsked, FirstAt, longer}
 use Rattle.gr_theorems.proofs.sweep.FirstOrder.{HostLast, host_last, woken_before}
-use Rattle.gr_theorems.proofs.sweep.FirstTurns.{Turned, turned, TurnsKeep, turns_keep, in_turn_append}
+use Rattle.gr_theorems.proofs.sweep.FirstTurns.{Turned, turned, TurnsKeep, turns_keep}
 use Rattle.gr_theorems.proofs.sweep.FirstHost.{TellsMark, host_tells, host_alone, woken_taken}
+use Rattle.gr_theorems.proofs.runs.Chains.{in_turn_append}
 
 get_or_past : {X : Type 0} (xs : List X) (i : ℕ) (d : X) → length xs ≤ i → get_or xs i d ≡ d
 get_or_past [] i d l = refl

@@ -1,24 +1,20 @@
 -- All brokers but the host woken one after another, by falling depth
-use Rattle.std.proofs.Common.{◌≡◌, ◌⊎◌, inl, inr, ⊎_elim, ℕ, ◌<◌, false, List, [], ◌∷◌, ◌++◌, length, refl, ◌∙◌}
+use Rattle.std.proofs.Common.{◌≡◌, ◌⊎◌, inl, inr, ⊎_elim, ℕ, ◌<◌, false, List, [], ◌∷◌, length, refl, ◌∙◌}
 use Rattle.std.specs.Prelude.{nat_eq, filter}
 use Rattle.std.specs.List.{list_any}
 use Rattle.std.proofs.lemmas.Bool.{eq-eqb, false≢true, or_left, or_right, or_cases}
 use Rattle.gr_model.specs.Headline.{Recorded}
 use Rattle.gr_model.specs.Net.{Net, is_host}
-use Rattle.gr_model.specs.World.{World, Told, in_turn, wake_for, wake_up, sent_since, is_want, wake_up_by}
+use Rattle.gr_model.specs.World.{World, in_turn, wake_for, wake_up, sent_since, is_want, wake_up_by}
 use Rattle.gr_model.specs.Tree.{IsNet}
 use Rattle.gr_theorems.specs.Fits.{WorldFits}
 use Rattle.gr_theorems.proofs.runs.Worlds.{Each, wake_for_kept, wake_up_kept, filter_frames, frames_past_true}
 use Rattle.gr_theorems.proofs.records.Records.{core_of, wake_for_core, deliver_core}
-use Rattle.gr_theorems.proofs.sweep.Upward.{rank_of, sent_up_less}
+use Rattle.gr_theorems.proofs.sweep.Upward.{rank_of, sent_up_less, ranks}
 use Rattle.gr_theorems.proofs.sweep.Pending.{IsPending, deliver_up_all}
 use Rattle.gr_theorems.proofs.sweep.FirstPending.{IsIn, FirstAt}
-use Rattle.gr_theorems.proofs.sweep.FirstWake.{first_woken, ranks}
+use Rattle.gr_theorems.proofs.sweep.FirstWake.{first_woken}
 use Rattle.gr_theorems.proofs.sweep.FirstOrder.{Falls, IsBelow}
-
-pub in_turn_append : {X : Type 0} (f : World → X → Told) (xs ys : List X) (w : World) → (in_turn f (xs ++ ys) w).world ≡ (in_turn f ys (in_turn f xs w).world).world
-in_turn_append f [] ys w = refl
-in_turn_append f (x ∷ xs) ys w = in_turn_append f xs ys (f w x).world
 
 -- The log stays
 

@@ -15,7 +15,7 @@ use Rattle.gr_model.specs.Net.{Net, is_host, keeps_horizon}
 use Rattle.gr_model.specs.Broker.{View, Outcome, any_C, is_settled, wake, up_frames, wanted_at_wake}
 use Rattle.gr_model.specs.World.{World, view_of, log_of, wake_for, wake_up, frames_past, sent_since, is_want, wake_up_by}
 use Rattle.gr_model.specs.Tree.{IsNet}
-use Rattle.gr_theorems.specs.Fits.{WorldFits, FrameTrue}
+use Rattle.gr_theorems.specs.Fits.{WorldFits}
 use Rattle.gr_theorems.proofs.runs.Worlds.{Each, wake_for_kept, filter_frames, frames_past_true}
 use Rattle.gr_theorems.proofs.rules.SweepAsks.{now_closed, asked_now}
 use Rattle.gr_theorems.proofs.asks.CallTicks.{needs, wake_piece, wake_asked, asked_is_needed, needed_is_asked, asked_is_noted}
@@ -23,7 +23,7 @@ use Rattle.gr_theorems.proofs.rules.Forwarding.{Has, WantsTick, up_frames_want, 
 use Rattle.gr_theorems.proofs.rules.Answering.{SentUp, up_frames_sent, Q_is}
 use Rattle.gr_theorems.proofs.rules.Serves.{TellsKnown, frames_past_all}
 use Rattle.gr_theorems.proofs.sweep.Stays.{WokenBelow, woken_below, stores_stay_wake}
-use Rattle.gr_theorems.proofs.sweep.Upward.{rank_of, up_kept}
+use Rattle.gr_theorems.proofs.sweep.Upward.{rank_of, up_kept, ranks}
 use Rattle.gr_theorems.proofs.sweep.Pending.{deliver_up_all}
 use Rattle.gr_theorems.proofs.sweep.Path.{Path, Has-past, Has-wants}
 use Rattle.gr_theorems.proofs.sweep.FirstUnknown.{unknown_calls}
@@ -247,10 +247,6 @@ module _ (net : Net) (p t m first d0 : ℕ) (woken : List ℕ) (w : World) (b : 
     unknown_asked = unknown_asked;
     asked = asked;
   }
-
-pub ranks : (net : Net) (w : World) (fs : List Frame) → IsNet net → Each (FrameTrue net w) fs → Each (λ z. rank_of net z < net.brokers) fs
-ranks net w [] n a = tt
-ranks net w (x ∷ xs) n a = (n.depth_in x.head.publisher x.head.to a.0.publisher_in a.0.fits.to_in, ranks net w xs n a.1)
 
 -- the wake of a broker that is not the host, with all its nested deliveries
 pub first_woken : (net : Net) (p t m first d0 : ℕ) (woken : List ℕ) (w : World) (b : ℕ) → IsNet net → p < net.publishers → b < net.brokers → is_host net p b ≡ false → WorldFits net w → net.depth p b ≤ d0 → FirstAt net p t m first d0 woken w [] → FirstAt net p t m first (net.depth p b) (b ∷ woken) (wake_up net p w b).world []

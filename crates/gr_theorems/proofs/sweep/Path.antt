@@ -103,8 +103,3 @@ claim_kept net p t first w x runs fs n f tr an e na l claim c u child up asked =
 
     old : asked_at (view_of w c p).asks t ≡ At w.clock → Path net p t w.clock first y c u ⊎ Has (WantsTick p c u t C) (sent_up net w x ++ fs)
     old a = ⊎_elim (λ z. inl (stays a z)) (λ z. ⊎_elim (λ h. inl (served h)) (λ h. inr (Has-back (WantsTick p c u t C) (sent_up net w x) fs h)) z) (claim c u child up a)
-
--- so does one without an A at the tick
-pub claim_delivered : (net : Net) (p t first : ℕ) (w : World) (x : Frame) (runs : Wanted) (fs : List Frame) → IsNet net → WorldFits net w → FrameTrue net w x → AsksNow net w.clock w → x.body ≡ body.Curiosity runs → wanted_at runs t ≢ A → first ≤ length w.frames →
-    Claim net p t w.clock first w (x ∷ fs) → Claim net p t w.clock first (deliver_frame net w x).world (sent_up net w x ++ fs)
-claim_delivered net p t first w x runs fs n f tr an e na l claim = claim_kept net p t first w x runs fs n f tr an e (λ g. na) l claim

@@ -31,8 +31,7 @@ use Rattle.gr_theorems.proofs.runs.Schedules.{log_know-is, get_numbers, length_n
 use Rattle.gr_theorems.proofs.rules.HostRules.{wakes_rule, publishes_rule, comes_rule}
 use Rattle.gr_theorems.proofs.rules.Determined.{determined}
 use Rattle.gr_theorems.proofs.sweep.Pending.{sent_up, delivered_up, one_kept, up_true, Each-weaker}
-use Rattle.gr_theorems.proofs.sweep.Upward.{rank_of, sent_up_less}
-use Rattle.gr_theorems.proofs.sweep.PathWakeUp.{ranks}
+use Rattle.gr_theorems.proofs.sweep.Upward.{rank_of, ranks, sent_up_less}
 use Rattle.gr_theorems.proofs.sweep.Obeying.{told_at}
 
 -- What leaves no choice

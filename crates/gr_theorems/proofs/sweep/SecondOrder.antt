@@ -1,13 +1,10 @@
 -- All brokers by rising depth, one after another: what holds as each has had its turn
-use Rattle.std.proofs.Common.{◌≡◌, ◌≢◌, ◌⊎◌, inl, inr, ℕ, suc, zero, ◌+◌, ◌<◌, List, [], ◌∷◌, ◌++◌, refl, sym, subst, arith}
+use Rattle.std.proofs.Common.{◌≡◌, ◌≢◌, ◌⊎◌, inl, inr, ℕ, suc, zero, ◌+◌, ◌<◌, sym, subst, arith}
 use Rattle.std.specs.Prelude.{nat_eq, filter, flat_map}
 use Rattle.std.proofs.lemmas.Bool.{cases_eq, eq-eqb, ne_eqb}
 use Rattle.gr_model.specs.Net.{Net, numbers_from}
 use Rattle.gr_model.specs.World.{World, Told, in_turn, at_depth, outwards}
-
-pub in_turn_append : {X : Type 0} (f : World → X → Told) (xs ys : List X) (w : World) → (in_turn f (xs ++ ys) w).world ≡ (in_turn f ys (in_turn f xs w).world).world
-in_turn_append f [] ys w = refl
-in_turn_append f (x ∷ xs) ys w = in_turn_append f xs ys (f w x).world
+use Rattle.gr_theorems.proofs.runs.Chains.{in_turn_append}
 
 -- a broker has had its turn, where those of depth d have it from 0 on and a is next
 abbrev pub Had : Net → ℕ → ℕ → ℕ → ℕ → Type 0

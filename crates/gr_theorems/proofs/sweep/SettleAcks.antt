@@ -13,7 +13,7 @@ use Rattle.gr_tick.specs.Runs.{AreRuns, points}
 use Rattle.gr_know.specs.Values.{Known, known_at, is_Q}
 use Rattle.gr_curio.specs.Values.{Wanted, wanted_at, asked_at, is_C, is_A, is_outstanding}
 use Rattle.gr_model.specs.Net.{Net, is_host, keeps_horizon, pass}
-use Rattle.gr_model.specs.Broker.{View, Log, know_frames, want_frames, all_A, any_C, consolidated, finished, trimmed, trimmed_below, due, up_frames, place_of, answer, answers, curious, stored, acknowledged, curiosity}
+use Rattle.gr_model.specs.Broker.{View, Log, know_frames, want_frames, all_A, any_C, consolidated, finished, due, up_frames, place_of, answer, answers, curious, stored, acknowledged, curiosity}
 use Rattle.gr_model.specs.Tree.{IsDistinct}
 use Rattle.gr_theorems.specs.Truth.{Facts, WantsTruth}
 use Rattle.gr_theorems.specs.Fits.{ViewTrue}
@@ -21,6 +21,7 @@ use Rattle.gr_tick.proofs.RunLaws.{AreRunsOf, runs_equal}
 use Rattle.gr_theorems.proofs.asks.CallTicks.{due-at}
 use Rattle.gr_theorems.proofs.rules.Forwarding.{wants_of}
 use Rattle.gr_theorems.proofs.rules.Answering.{SameLength, wants_true_at, acknowledged-is, answers-is, stored-is, curiosity_wanted}
+use Rattle.gr_theorems.proofs.calls.Calls.{trimmed_wants}
 
 -- Lists of runs in which nothing stands
 
@@ -88,17 +89,6 @@ quiet_frames net f p b now c piece v log h child wt quiet =
     asked_none false = asking_none
 
 -- What is stored of the children
-
-trimmed_wants : (net : Net) (p b : ℕ) (v : View) → (trimmed net p b v).wants ≡ v.wants
-unfolding trimmed
-trimmed_wants net p b v = go (is_host net p b)
-  where
-    less : View
-    less = trimmed_below net p b v
-
-    go : (q : Bool) → (let u : View = elim q [ true ↦ v | false ↦ less ] in u.wants) ≡ v.wants
-    go true = refl
-    go false = refl
 
 pub curiosity_stores : (net : Net) (p b now c : ℕ) (piece : Wanted) (v : View) (log : Log) →
     (curiosity net p b now c (place_of c (net.children p b)) piece v log).view.wants ≡ set v.wants (place_of c (net.children p b)) (stored v.know (acknowledged (wants_of net p b v c) piece) piece)

@@ -13,8 +13,7 @@ use Rattle.gr_theorems.specs.Fits.{WorldFits, FrameTrue, AllFramesTrue}
 use Rattle.gr_theorems.proofs.runs.Worlds.{Each, FrameTrue-later, wake_for_kept, deliver_kept, wake_up_kept, hand_down_kept, in_turn_kept, filter_frames, frames_past_true, depths_in}
 use Rattle.gr_theorems.proofs.rules.Serves.{frames_past_all}
 use Rattle.gr_theorems.proofs.sweep.Pending.{sent_up, delivered_up, one_kept, up_true, Each-weaker}
-use Rattle.gr_theorems.proofs.sweep.Upward.{rank_of, sent_up_less}
-use Rattle.gr_theorems.proofs.sweep.PathWakeUp.{ranks}
+use Rattle.gr_theorems.proofs.sweep.Upward.{rank_of, sent_up_less, ranks}
 use Rattle.gr_theorems.proofs.sweep.Rounds.{stands, Each-map, AllDeeper, outwards_deeper, outwards_once, stands_outwards}
 use Rattle.gr_theorems.proofs.sweep.SweepCalls.{Grows, Pairs, IsAt, grows_none, grows_on, grows_long, wake_grows, deliver_grows, all_made_grows, at_stays, sent_at, up_are, wakes_are, downs_are, wake_turns_are, down_turns_are, made_is}
 use Rattle.gr_theorems.proofs.sweep.SweepNumbers.{count, count-append, count_deliveries, sent_more, sent_split, sent_none, one, times_parts, times_none}

@@ -1,7 +1,5 @@
 -- What stands before a publisher's sweep, after its first phase, and after its second: the facts by which the phases are joined
 use Rattle.std.proofs.Common.{◌≡◌, ◌≢◌, ◌⊎◌, ℕ, ◌+◌, ◌≤◌, ◌<◌, true, false, length}
-use Rattle.std.specs.Prelude.{nat_eq}
-use Rattle.std.specs.List.{list_any}
 use Rattle.gr_know.specs.declared.values.K.TheVariants.{Q}
 use Rattle.gr_curio.specs.declared.values.Q3.TheVariants.{C, A}
 use Rattle.gr_curio.specs.declared.asks.Moment.TheVariants.{At}
@@ -11,14 +9,11 @@ use Rattle.gr_model.specs.Net.{Net, is_host, keeps_horizon}
 use Rattle.gr_model.specs.Broker.{any_C}
 use Rattle.gr_model.specs.World.{World, view_of, log_of, in_turn, wake_up, inwards, hand_down, outwards, frames_past}
 use Rattle.gr_theorems.specs.Fits.{WorldFits}
+pub use Rattle.gr_theorems.specs.Rules.{IsChild}
 use Rattle.gr_theorems.proofs.rules.SweepAsks.{AsksNow}
 use Rattle.gr_theorems.proofs.rules.Forwarding.{Has, wants_of}
 use Rattle.gr_theorems.proofs.asks.CallTicks.{needs}
 use Rattle.gr_theorems.proofs.rules.Serves.{TellsKnown, Stores}
-
--- c is a child of b for publisher p
-abbrev pub IsChild : Net → ℕ → ℕ → ℕ → Type 0
-IsChild net p b c = list_any (λ x. nat_eq x c) (net.children p b) ≡ true
 
 -- a broker that has stored a child's question does not know the tick
 pub record Unknowns (net : Net) (w : World) : Type 0 where

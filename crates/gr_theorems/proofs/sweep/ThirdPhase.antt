@@ -10,8 +10,7 @@ use Rattle.gr_model.specs.Tree.{IsNet}
 use Rattle.gr_theorems.specs.Fits.{WorldFits}
 use Rattle.gr_theorems.proofs.runs.Worlds.{Each, wake_for_kept, wake_up_kept, filter_frames, frames_past_true, depths_in}
 use Rattle.gr_theorems.proofs.sweep.Pending.{IsPending, deliver_up_all}
-use Rattle.gr_theorems.proofs.sweep.Upward.{rank_of, sent_up_less}
-use Rattle.gr_theorems.proofs.sweep.PathWakeUp.{ranks}
+use Rattle.gr_theorems.proofs.sweep.Upward.{rank_of, sent_up_less, ranks}
 use Rattle.gr_theorems.proofs.sweep.SweepStates.{Calm}
 use Rattle.gr_theorems.proofs.sweep.Rounds.{stands, Falls, stands_inwards, inwards_falls, deeper_stands_not}
 use Rattle.gr_theorems.proofs.sweep.Settling.{Settling, NoKnow, acks_delivered, settling_woken, settling_host}

@@ -10,7 +10,8 @@ use Rattle.gr_curio.specs.Values.{Wanted}
 use Rattle.gr_model.specs.Net.{Net}
 use Rattle.gr_model.specs.Broker.{View, Log, Outcome, know_frames, want_frames, expect_frame, forward, new_ticks, forward_frames, learn, up_frames, asking, curiosity, expect, expect_frames, covers, place_of, receive, clashes, head}
 use Rattle.gr_frame.specs.Bytes.{known_run_size, wanted_run_size, cut_frames}
-use Rattle.gr_model.specs.World.{World, view_of, log_of, absorbed, deliver_frame, is_want, deliver_frame_by}
+use Rattle.gr_model.specs.World.{World, view_of, log_of, absorbed, is_want, deliver_frame_by}
+use Rattle.gr_model.specs.Tree.{IsNet}
 use Rattle.gr_theorems.specs.Fits.{WorldFits, FrameTrue}
 use Rattle.gr_theorems.proofs.runs.Worlds.{Each}
 use Rattle.gr_theorems.proofs.asks.AskMoments.{Each-on}
@@ -128,3 +129,8 @@ sent_up_less net w x d f t =
     (up_kept (GoesUp net p x.head.to) (λ z. rank_of net z < rank_of net x) o.frames
     (λ z e g. subst (λ q. net.depth q z.head.to < net.depth p x.head.to) (sym g.publisher) (omega (arith, d.depth_up p x.head.to z.head.to t.publisher_in t.fits.to_in (g.up e))))
     (receive_each net w.clock (GoesUp net p x.head.to) x (view_of w x.head.to p) (log_of w p) (goes_up net p x.head.to)))
+
+-- no frame of a tree goes to a broker deeper than there are brokers
+pub ranks : (net : Net) (w : World) (fs : List Frame) → IsNet net → Each (FrameTrue net w) fs → Each (λ z. rank_of net z < net.brokers) fs
+ranks net w [] n a = tt
+ranks net w (x ∷ xs) n a = (n.depth_in x.head.publisher x.head.to a.0.publisher_in a.0.fits.to_in, ranks net w xs n a.1)
