@@ -1,5 +1,5 @@
 -- The rules of the calls, tick by tick: what each call of a broker sends, tells and keeps
-use Rattle.std.specs.Prelude.{◌≡◌, ◌≢◌, ℕ, suc, ◌+◌, ◌≤◌, ◌<◌, max, Bool, true, false, not, ◌&&◌, ◌||◌, nat_eq, nat_le, nat_lt, if◌then◌else◌, List, [], ◌∷◌, ◌++◌, length, get_or, Option, Some, None, flat_map}
+use Rattle.std.specs.Prelude.{◌≡◌, ◌≢◌, ℕ, suc, ◌+◌, ◌≤◌, ◌<◌, max, Bool, true, false, not, ◌&&◌, ◌||◌, nat_eq, nat_le, nat_lt, if◌then◌else◌, List, [], ◌∷◌, ◌++◌, length, get_or, None, flat_map}
 use Rattle.std.specs.List.{list_any}
 use Rattle.gr_event.specs.declared.event.Event.{Event}
 use Rattle.gr_know.specs.declared.values.K.{K}
@@ -19,6 +19,7 @@ use Rattle.gr_curio.specs.Values.{Wanted, Asked, wanted_at, asked_at, is_C, is_A
 use Rattle.gr_model.specs.Net.{Net, keeps_horizon, is_host, pass}
 use Rattle.gr_model.specs.Broker.{View, Log, Outcome, max_tick, is_F, know_frames, expect_frame, up_frames, is_settled, any_C, data_count, place_of, told, with_event, with_mark, with_cut}
 pub use Rattle.gr_model.specs.Broker.{unmoved, says}
+pub use Rattle.gr_subend.specs.Said.{event_of}
 use Rattle.gr_theorems.specs.Said.{said_at, TicksRise}
 
 -- Pieces: the list of runs that has this value at each tick. There is exactly one.
@@ -87,11 +88,6 @@ pub record Knows (net : Net) (p b : ℕ) (at : ℕ → K) (u : View) : Type 0 wh
 -- Of the asks the moments are kept, but below the host none where the tick is final afterwards: it is never asked again.
 abbrev pub KeepsMoments : Net → ℕ → ℕ → (ℕ → Moment) → View → Type 0
 KeepsMoments net p b at u = HasAsked (λ t. if is_F (known_at u.know t) && not (is_host net p b) then Never else at t) u.asks
-
--- what is said of a tick where an event is known
-abbrev pub event_of : K → Option Event
-event_of (D e) = Some e
-event_of _ = None
 
 -- Where the horizon moves from h to k, each subscriber here, in order, is told the events of the ticks past h and up to k that
 -- it wants, by rising tick, and then k (`told`).

@@ -27,7 +27,8 @@ use Rattle.gr_pubend.specs.declared.answers.Quieted.TheVariants.{NotYet, Marked}
 use Rattle.gr_theorems.proofs.calls.HostCases.{news_of}
 use Rattle.gr_frame.specs.declared.Head.{Head}
 use Rattle.gr_theorems.proofs.calls.CallTruth.{new_ticks-is, joined-is}
-use Rattle.gr_theorems.proofs.calls.Told.{data_of, data_ticks_rise, data_ticks_in, data_ticks_out}
+use Rattle.gr_subend.specs.Said.{event_of}
+use Rattle.gr_theorems.proofs.calls.Told.{data_ticks_rise, data_ticks_in, data_ticks_out}
 
 -- a net whose subscribers want something else
 abbrev pub with_wants : Net → (ℕ → ℕ → ℕ → Event → Bool) → Net
@@ -151,7 +152,7 @@ filter_agree f g from (x ∷ xs) r h =
     apart : (t : ℕ) (e : Event) → said_at xs t ≡ Some e → x.0 ≢ t
     apart t e s = λ z. some_none e (sym s ∙ said_at-below x.0 xs t r.1 (omega (arith, z)))
 
-data_event : (k : K) (e : Event) → data_of k ≡ Some e → k ≡ D e
+data_event : (k : K) (e : Event) → event_of k ≡ Some e → k ≡ D e
 data_event Q e h = cc
 data_event S e h = cc
 data_event F e h = cc

@@ -21,7 +21,7 @@ use Rattle.gr_theorems.specs.Truth.{Facts, KnowsTruth, WantsTruth, AllWantTruth}
 use Rattle.gr_theorems.specs.Fits.{ViewTrue}
 use Rattle.gr_theorems.specs.Rules.{IsChild, wants_from, want_at, Moves, Forgets, Knows, event_of, TellsOn, NewTicks, ChildAsks, Asks, wanted_by_age, TellsToExpect, Expects}
 use Rattle.gr_tick.proofs.RunLaws.{runs_equal, AreRunsOf, first_bottom_from-is, value_at-step}
-use Rattle.gr_theorems.proofs.calls.Told.{data_of, data_ticks_rise, data_ticks_in, data_ticks_out}
+use Rattle.gr_theorems.proofs.calls.Told.{data_ticks_rise, data_ticks_in, data_ticks_out}
 use Rattle.gr_theorems.proofs.calls.CallTruth.{IsWanted, A_is, expect_wanted, new_ticks-is, forward-is, quenched-is, finished-is, joined-is, learn_wants, done_runs, done_values, learned_horizon, curiosity_wants}
 use Rattle.gr_theorems.proofs.asks.CallTicks.{IsTrimmed, trimmed-is, due-at, noted-at, upward-at, wake_wanted, wake_points}
 use Rattle.gr_theorems.proofs.rules.Answering.{SameLength, same_length, set_here, place_apart, wants_true_at, acknowledged-is, answers-is, stored-is, curiosity_wanted, not_settled}
@@ -96,12 +96,6 @@ moved true h know at r =
       stays = λ e. absurd (false≢true (sym e));
     }
 
-same_event_of : (k : K) → data_of k ≡ event_of k
-same_event_of Q = refl
-same_event_of S = refl
-same_event_of (D e) = refl
-same_event_of F = refl
-
 told_on : (net : Net) (p b h k : ℕ) (know : Known) (at : ℕ → K) → AreRunsOf Q at know → TellsOn net p b h k at (flat_map (told net p h k (data_ticks h k know)) (net.subscribers_at b))
 told_on net p b h k know at r = record {
   passed = data_ticks h k know;
@@ -109,7 +103,7 @@ told_on net p b h k know at r = record {
   each = λ t. elim (cases_lt h t) [
     | inl x ↦ elim (cases_lt k t) [
       | inl y ↦ data_ticks_out h k t know r.runs (inr y) ∙ rw (lt-ltb h t x, lt-leb t k y) refl
-      | inr y ↦ data_ticks_in h k t know r.runs x y ∙ (same_event_of (known_at know t) ∙ (ap event_of (r.same_at t) ∙ rw (lt-ltb h t x, le-leb t k y) refl))
+      | inr y ↦ data_ticks_in h k t know r.runs x y ∙ (ap event_of (r.same_at t) ∙ rw (lt-ltb h t x, le-leb t k y) refl)
     ]
     | inr x ↦ data_ticks_out h k t know r.runs (inl x) ∙ rw (le-ltb h t x) refl
   ];
