@@ -78,3 +78,19 @@ filtered_added ws ws2 fs fs2 f h e q = (
 pub everything_added : (ws ws2 : List Wish) (fs : List Tree) → AreWoven ws fs → ws2 ≡ ws ++ Everything ∷ [] → AreWoven ws2 fs × (woven ws2 fs ≡ woven ws fs ++ None ∷ [])
 everything_added ws ws2 fs h e =
     (subst (λ xs. AreWoven xs fs) (sym e) (are_woven_everything ws fs h), ap (λ xs. woven xs fs) e ∙ woven_everything ws fs h)
+
+-- whether someone wants everything, with one subscriber more
+pub open_filtered : (ws ws2 : List Wish) (b : Bool) → b ≡ list_any is_everything ws → ws2 ≡ ws ++ Filtered ∷ [] → b ≡ list_any is_everything ws2
+open_filtered ws ws2 b h e = h ∙ (sym (go ws) ∙ ap (list_any is_everything) (sym e))
+  where
+    go : (xs : List Wish) → list_any is_everything (xs ++ Filtered ∷ []) ≡ list_any is_everything xs
+    go [] = refl
+    go (x ∷ xs) = ap (λ c. is_everything x || c) (go xs)
+
+pub open_everything : (ws ws2 : List Wish) → ws2 ≡ ws ++ Everything ∷ [] → true ≡ list_any is_everything ws2
+open_everything ws ws2 e = sym (go ws) ∙ ap (list_any is_everything) (sym e)
+  where
+    go : (xs : List Wish) → list_any is_everything (xs ++ Everything ∷ []) ≡ true
+    go [] = refl
+    go (Everything ∷ xs) = refl
+    go (Filtered ∷ xs) = go xs

@@ -32,6 +32,8 @@ enum Wish {
 pub struct Edge {
     alloc: Global,
     wishes: Vec<Wish>,
+    /// Whether one of the subscribers has no filter.
+    is_open: bool,
     filters: MatchTree,
 }
 
@@ -44,11 +46,13 @@ impl Model for Edge {
 
     ghost coded = { filters_code };
 
-    ghost use Rattle.gr_edge.specs.Woven.{woven, AreWoven};
+    ghost use Rattle.std.specs.Prelude.{◌≡◌};
+    ghost use Rattle.std.specs.List.{list_any};
+    ghost use Rattle.gr_edge.specs.Woven.{woven, is_everything, AreWoven};
 
     ghost view = { λ e. woven e.wishes.items e.filters };
 
-    ghost invariant = { λ e. AreWoven e.wishes.items e.filters };
+    ghost invariant = { λ e. AreWoven e.wishes.items e.filters × (e.is_open ≡ list_any is_everything e.wishes.items) };
 }
 
 impl Edge {
@@ -59,6 +63,7 @@ impl Edge {
         Edge {
             alloc,
             wishes: Vec::new(alloc),
+            is_open: false,
             filters: MatchTree::new(alloc),
         }
     }
@@ -75,7 +80,10 @@ impl Edge {
                 self.filters.add(filter)?;
                 self.wishes.push(Wish::Filtered)?;
             }
-            None => self.wishes.push(Wish::Everything)?,
+            None => {
+                self.wishes.push(Wish::Everything)?;
+                self.is_open = true;
+            }
         }
         Ok(())
     }
@@ -120,18 +128,6 @@ impl Edge {
     fn is_wanted(&self, event: &Event) -> bool
         ensures { result ≡ wanted self.now event.now }
     {
-        wants_everything(&self.wishes) || self.filters.any(event)
+        self.is_open || self.filters.any(event)
     }
-}
-
-/// Whether one of the subscribers has no filter.
-fn wants_everything(wishes: &[Wish]) -> bool
-    ensures { result ≡ list_any is_everything wishes.now }
-{
-    for wish in wishes {
-        if matches!(wish, Wish::Everything) {
-            return true;
-        }
-    }
-    false
 }

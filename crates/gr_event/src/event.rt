@@ -1,6 +1,6 @@
 //! Events and their two forms.
 
-ghost use Rattle.std.specs.Prelude.{◌≡◌, ◌↔◌, ◌+◌, ◌≤◌, ◌*◌, IsTrue, IfOk, length, option_map};
+ghost use Rattle.std.specs.Prelude.{◌≡◌, ◌↔◌, ◌+◌, ◌<◌, ◌≤◌, ◌*◌, IsTrue, IfOk, Some, length, nat_eq, option_map, slice_get};
 ghost use Rattle.std.specs.List.{AllByRecursion};
 ghost use Rattle.gr_event.specs.Event.{same_event, event_size, pairs_size, value_size};
 ghost use Rattle.gr_event.specs.Limits.{IsEvent, ArePairs, IsPair, IsValue};
@@ -91,6 +91,30 @@ impl Event {
         ensures { option_map part_value result ≡ value_of name.now self.now }
     {
         find(self.pairs.get(), name)
+    }
+
+    /// How many names it has, at most 32. Takes no memory.
+    pub fn len(&self) -> usize
+        ensures len { result ≡ length self.now }
+        ensures event { IsEvent self.now }
+    {
+        self.pairs.get().len()
+    }
+
+    /// Whether it has no name. Takes no memory.
+    pub fn is_empty(&self) -> bool
+        ensures { result ≡ nat_eq (length self.now) 0 }
+    {
+        self.pairs.get().is_empty()
+    }
+
+    /// The name and the value at a place, from 0 on by rising name. Takes no memory.
+    pub fn pair(&self, i: usize) -> (&[u8], Part<'_>)
+        requires { i < length self.now }
+        ensures { slice_get self.now i ≡ Some (result.0.now, part_value result.1) }
+    {
+        let pair = &self.pairs.get()[i];
+        (pair.0.as_slice(), pair.1.part())
     }
 
     /// Its pairs.

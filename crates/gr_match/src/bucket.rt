@@ -1,12 +1,12 @@
 //! Buckets: the filters that match only events with one value under one name.
 
-ghost use Rattle.std.specs.Prelude.{◌≡◌, ◌++◌, ◌∷◌, [], IfOk, OnOk, OnErr};
+ghost use Rattle.std.specs.Prelude.{◌≡◌, IfOk, OnOk, OnErr};
 ghost use Rattle.gr_event.specs.Get.{part_value};
-ghost use Rattle.gr_match.specs.Needed.{Pair, pair_of, has, is_pair};
-ghost use Rattle.gr_match.specs.Index.{bucket_pair, with_place, put, asked};
+ghost use Rattle.gr_match.specs.Needed.{Pair, pair_of, is_pair};
+ghost use Rattle.gr_match.specs.Index.{bucket_pair, with_place, put};
 
-use crate::pair::{NamedPart, has, is_part};
-use gr_event::{Event, Memory, Numbers, Part, Text, Value};
+use crate::pair::{NamedPart, is_part};
+use gr_event::{Memory, Numbers, Part, Text, Value};
 use std::alloc::Global;
 
 /// The places of the filters that have the part `name = value`, rising.
@@ -18,15 +18,8 @@ pub(crate) struct Bucket {
 }
 
 impl Bucket {
-    /// Whether its filters are to be asked: the event has its value under its name.
-    pub(crate) fn is_asked(&self, event: &Event) -> bool
-        ensures { result ≡ has (bucket_pair self.now) event.now }
-    {
-        has(event, self.name.as_slice(), &self.value)
-    }
-
     /// Whether it is the bucket of a pair.
-    fn is_of(&self, pair: NamedPart<'_>) -> bool
+    pub(crate) fn is_of(&self, pair: NamedPart<'_>) -> bool
         ensures { result ≡ is_pair (pair_of pair.entry) (bucket_pair self.now) }
     {
         pair.name == self.name.as_slice() && is_part(pair.part, &self.value)
@@ -76,22 +69,4 @@ pub(crate) fn put(
     let bucket = bucket_of(alloc, pair, place)?;
     buckets.push(bucket)?;
     Ok(())
-}
-
-/// The places to ask for an event: those of the rest, and those of the buckets whose pair it has.
-pub(crate) fn asked(
-    alloc: Global,
-    rest: &Numbers,
-    buckets: &[Bucket],
-    event: &Event,
-) -> Result<Vec<u16>, Memory>
-    ensures { IfOk result (λ places. places.items ≡ rest.now ++ asked event.now buckets.now) }
-{
-    let mut places = Vec::from_slice(alloc, rest.as_slice())?;
-    for bucket in buckets {
-        if bucket.is_asked(event) {
-            places.extend_from_slice(bucket.places.as_slice())?;
-        }
-    }
-    Ok(places)
 }

@@ -3,6 +3,7 @@
 
 mod bucket;
 mod pair;
+mod rows;
 #[cfg(test)]
 mod tests;
 pub mod tree;

@@ -4,9 +4,9 @@ ghost use Rattle.std.specs.Prelude.{◌≡◌, option_map};
 ghost use Rattle.gr_event.specs.Event.{same_value};
 ghost use Rattle.gr_event.specs.Get.{part_value};
 ghost use Rattle.gr_filter.specs.Tree.{tree_of};
-ghost use Rattle.gr_match.specs.Needed.{Pair, pair_of, literal_value, equation, needed, has};
+ghost use Rattle.gr_match.specs.Needed.{Pair, pair_of, literal_value, equation, needed};
 
-use gr_event::{Event, Part, Value};
+use gr_event::{Part, Value};
 use gr_filter::{Node, Operand, Sign};
 
 /// A name and the value that it is to have.
@@ -69,15 +69,5 @@ pub(crate) fn is_part(part: Part, value: &Value) -> bool
             Value::Int(_) | Value::Bool(_) => false,
         },
         Part::Bool(a) => matches!(value, Value::Bool(b) if a == *b),
-    }
-}
-
-/// Whether the event has the value under the name.
-pub(crate) fn has(event: &Event, name: &[u8], value: &Value) -> bool
-    ensures { result ≡ has (name.now, value.now) event.now }
-{
-    match event.get(name) {
-        Some(part) => is_part(part, value),
-        None => false,
     }
 }

@@ -1,14 +1,17 @@
 //! A list of filters, kept by what an event has to have.
 
-ghost use Rattle.std.specs.Prelude.{◌≡◌, ◌<◌, ◌++◌, ◌∷◌, [], length, IfOk, OnOk, OnErr};
-ghost use Rattle.std.specs.List.{filter, list_any};
+ghost use Rattle.std.specs.Prelude.{◌≡◌, ℕ, ◌<◌, ◌++◌, ◌∷◌, [], Some, length, slice_get, IfOk, OnOk, OnErr};
+ghost use Rattle.std.specs.List.{filter, flat_map, list_any};
+ghost use Rattle.gr_event.specs.Limits.{IsEvent};
 ghost use Rattle.gr_filter.specs.Tree.{tree_of};
 ghost use Rattle.gr_match.specs.Matches.{matches, any};
 ghost use Rattle.gr_match.specs.Needed.{needed};
-ghost use Rattle.gr_match.specs.Index.{trees, matches_at, asked, rest_with, buckets_with};
+ghost use Rattle.gr_match.specs.Needed.{Pair, pair_of};
+ghost use Rattle.gr_match.specs.Index.{trees, matches_at, places_for, places_of, asked, rest_with, row_with, row_at};
 
-use crate::bucket::{Bucket, asked, put};
-use crate::pair::needed;
+use crate::bucket::Bucket;
+use crate::pair::{NamedPart, needed};
+use crate::rows::{Row, put_in_row, row_for};
 use gr_event::{Event, Memory, Numbers};
 use gr_filter::{Filter, Kleene, truth};
 use std::alloc::Global;
@@ -16,14 +19,15 @@ use std::marker::Model;
 
 /// A list of at most 65,536 filters, seen as the list of their trees.
 ///
-/// A filter whose outermost ANDs join a part `name = literal` stands in a bucket under that name and value,
-/// and is asked only for events that have it. All other filters are always asked.
+/// A filter whose outermost ANDs join a part `name = literal` stands in a bucket under that name and value, and is asked
+/// only for events that have it. Buckets stand in rows, by name and value: an event looks up the rows of its own pairs.
+/// All other filters are always asked.
 #[derive(Drop)]
 pub struct MatchTree {
     alloc: Global,
     filters: Vec<Filter>,
     rest: Numbers,
-    buckets: Vec<Bucket>,
+    rows: Vec<Row>,
 }
 
 impl Model for MatchTree {
@@ -35,11 +39,11 @@ impl Model for MatchTree {
 
     ghost coded = { trees_code };
 
-    ghost use Rattle.gr_match.specs.Index.{trees, IsIndex};
+    ghost use Rattle.gr_match.specs.Index.{trees, row_at, IsIndex};
 
     ghost view = { λ t. trees t.filters.items };
 
-    ghost invariant = { λ t. IsIndex (trees t.filters.items) t.rest t.buckets.items };
+    ghost invariant = { λ t. IsIndex (trees t.filters.items) t.rest (row_at t.rows.items) };
 }
 
 impl MatchTree {
@@ -51,7 +55,7 @@ impl MatchTree {
             alloc,
             filters: Vec::new(alloc),
             rest: Numbers::new(alloc),
-            buckets: Vec::new(alloc),
+            rows: Vec::new(alloc),
         }
     }
 
@@ -64,7 +68,7 @@ impl MatchTree {
         let copy = filter.copy(self.alloc)?;
         self.filters.reserve(1)?;
         let place = self.filters.len() as u16;
-        enter(self.alloc, &mut self.rest, &mut self.buckets, filter, place)?;
+        enter(self.alloc, &mut self.rest, &mut self.rows, filter, place)?;
         self.filters.push(copy)?;
         Ok(())
     }
@@ -74,7 +78,7 @@ impl MatchTree {
     pub fn matches(&self, event: &Event) -> Result<Numbers, Memory>
         ensures { IfOk result (λ places. places ≡ matches self.now event.now) }
     {
-        let mut places = asked(self.alloc, &self.rest, &self.buckets, event)?;
+        let mut places = asked(self.alloc, &self.rest, &self.rows, event)?;
         places.sort_unstable();
         matching(self.alloc, &self.filters, &places, event)
     }
@@ -84,7 +88,7 @@ impl MatchTree {
         ensures { result ≡ any self.now event.now }
     {
         any_at(&self.filters, self.rest.as_slice(), event)
-            || any_asked(&self.filters, &self.buckets, event)
+            || any_asked(&self.filters, &self.rows, event)
     }
 }
 
@@ -92,19 +96,53 @@ impl MatchTree {
 fn enter(
     alloc: Global,
     rest: &mut Numbers,
-    buckets: &mut Vec<Bucket>,
+    rows: &mut Vec<Row>,
     filter: &Filter,
     place: u16,
 ) -> Result<(), Memory>
     ensures rest { OnOk result (rest.new ≡ rest_with (needed (tree_of filter.now)) place rest.old) }
-    ensures buckets { OnOk result (buckets.new.items ≡ buckets_with (needed (tree_of filter.now)) place buckets.old.items) }
+    ensures rows { OnOk result ((i : ℕ) → row_at rows.new.items i ≡ row_with (needed (tree_of filter.now)) place (row_at rows.old.items) i) }
     ensures same_rest { OnErr result (rest.new ≡ rest.old) }
-    ensures same_buckets { OnErr result (buckets.new.items ≡ buckets.old.items) }
+    ensures same_rows { OnErr result ((i : ℕ) → row_at rows.new.items i ≡ row_at rows.old.items i) }
 {
     match needed(filter.root()) {
-        Some(pair) => put(alloc, buckets, pair, place),
+        Some(pair) => put_in_row(alloc, rows, pair, place),
         None => rest.push(place),
     }
+}
+
+/// The pair of an event at a place.
+fn pair_at(event: &Event, i: usize) -> NamedPart<'_>
+    requires { i < length event.now }
+    ensures { slice_get event.now i ≡ Some (pair_of result) }
+{
+    let (name, part) = event.pair(i);
+    NamedPart { name, part }
+}
+
+/// The places to ask for an event: those of the rest, and those of the filters that need one of its pairs.
+fn asked(alloc: Global, rest: &Numbers, rows: &[Row], event: &Event) -> Result<Vec<u16>, Memory>
+    ensures asked { IfOk result (λ places. places.items ≡ rest.now ++ asked (row_at rows.now) event.now) }
+    ensures event { OnOk result (IsEvent event.now) }
+{
+    let mut places = Vec::from_slice(alloc, rest.as_slice())?;
+    for i in 0..event.len() {
+        let pair = pair_at(event, i);
+        add_places(&mut places, row_for(rows, pair), pair)?;
+    }
+    Ok(places)
+}
+
+/// Puts the places of the buckets that are of a pair at the end.
+fn add_places(places: &mut Vec<u16>, buckets: &[Bucket], pair: NamedPart<'_>) -> Result<(), Memory>
+    ensures { OnOk result (places.new.items ≡ places.old.items ++ flat_map (places_for (pair_of pair.entry)) buckets.now) }
+{
+    for bucket in buckets {
+        if bucket.is_of(pair) {
+            places.extend_from_slice(bucket.places.as_slice())?;
+        }
+    }
+    Ok(())
 }
 
 /// Whether the filter at a place matches the event.
@@ -147,12 +185,26 @@ fn any_at(filters: &[Filter], places: &[u16], event: &Event) -> bool
     false
 }
 
-/// Whether a filter of a bucket whose pair the event has matches the event.
-fn any_asked(filters: &[Filter], buckets: &[Bucket], event: &Event) -> bool
-    ensures { result ≡ list_any (matches_at (trees filters.now) event.now) (asked event.now buckets.now) }
+/// Whether a filter that needs one of the event's pairs matches the event.
+fn any_asked(filters: &[Filter], rows: &[Row], event: &Event) -> bool
+    ensures some { result ≡ list_any (matches_at (trees filters.now) event.now) (asked (row_at rows.now) event.now) }
+    ensures event { IsEvent event.now }
+{
+    for i in 0..event.len() {
+        let pair = pair_at(event, i);
+        if any_of(filters, row_for(rows, pair), pair, event) {
+            return true;
+        }
+    }
+    false
+}
+
+/// Whether a filter of the buckets that are of a pair matches the event.
+fn any_of(filters: &[Filter], buckets: &[Bucket], pair: NamedPart<'_>, event: &Event) -> bool
+    ensures { result ≡ list_any (matches_at (trees filters.now) event.now) (flat_map (places_for (pair_of pair.entry)) buckets.now) }
 {
     for bucket in buckets {
-        if bucket.is_asked(event) && any_at(filters, bucket.places.as_slice(), event) {
+        if bucket.is_of(pair) && any_at(filters, bucket.places.as_slice(), event) {
             return true;
         }
     }

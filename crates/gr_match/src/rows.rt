@@ -1,0 +1,97 @@
+//! Rows of buckets: an event looks up the rows of its own pairs, and no others.
+
+ghost use Rattle.std.specs.Prelude.{◌≡◌, ◌≤◌, ◌<◌, ℕ, ◌++◌, [], Some, length, IfOk, OnOk, OnErr};
+ghost use Rattle.gr_match.specs.Needed.{pair_of};
+ghost use Rattle.gr_match.specs.Index.{row_count, mixed, row_of, row_at, row_with, places_for, places_of, asked};
+
+use crate::bucket::{Bucket, put};
+use crate::pair::NamedPart;
+use gr_event::{Event, Memory, Numbers, Part};
+use std::alloc::Global;
+use std::marker::Model;
+
+/// How many rows there are, once there is a bucket.
+const ROW_COUNT: u32 = 251;
+
+/// The buckets of one row.
+#[derive(Drop)]
+pub(crate) struct Row {
+    pub(crate) buckets: Vec<Bucket>,
+}
+
+impl Model for Row {
+    ghost use Rattle.std.specs.Prelude.{List};
+    ghost use Rattle.gr_match.specs.declared.bucket.Bucket.{Bucket};
+
+    ghost Value = { List Bucket };
+
+    ghost view = { λ r. r.buckets.items };
+}
+
+/// Bytes mixed into a number of a row.
+fn mixed(start: u32, bytes: &[u8]) -> u32
+    requires { start < 251 }
+    ensures mixed { result ≡ mixed start bytes.now }
+    ensures within { result < 251 }
+{
+    let mut row = start;
+    for byte in bytes {
+        row = (31 * row + u32::from(*byte)) % ROW_COUNT;
+    }
+    row
+}
+
+/// The row of a pair.
+fn row_of(pair: NamedPart<'_>) -> usize
+    ensures row { result ≡ row_of (pair_of pair.entry) }
+    ensures within { result < 251 }
+{
+    let named = mixed(0, pair.name);
+    let row = match pair.part {
+        Part::Int(number) => mixed(named, &number.to_be_bytes()),
+        Part::Text(text) => mixed(named, text),
+        Part::Bool(holds) => mixed(named, &[u8::from(holds)]),
+    };
+    row as usize
+}
+
+/// Makes all rows, if there are none yet. At want of memory all stays as it was.
+fn make_rows(alloc: Global, rows: &mut Vec<Row>) -> Result<(), Memory>
+    ensures long { OnOk result (251 ≤ length rows.new.items) }
+    ensures same { (i : ℕ) → row_at rows.new.items i ≡ row_at rows.old.items i }
+{
+    'blanks: while rows.len() < ROW_COUNT as usize {
+        match rows.push(Row {
+            buckets: Vec::new(alloc),
+        }) {
+            Ok(()) => {}
+            Err(refused) => return Err(refused.into()),
+        }
+    }
+    Ok(())
+}
+
+/// Puts a place into the bucket of its pair, in the row of the pair. At want of memory all stays as it was.
+pub(crate) fn put_in_row(
+    alloc: Global,
+    rows: &mut Vec<Row>,
+    pair: NamedPart<'_>,
+    place: u16,
+) -> Result<(), Memory>
+    ensures ok { OnOk result ((i : ℕ) → row_at rows.new.items i ≡ row_with (Some (pair_of pair.entry)) place (row_at rows.old.items) i) }
+    ensures err { OnErr result ((i : ℕ) → row_at rows.new.items i ≡ row_at rows.old.items i) }
+{
+    make_rows(alloc, rows)?;
+    let row = row_of(pair);
+    put(alloc, &mut rows[row].buckets, pair, place)
+}
+
+/// The buckets of the row of a pair.
+pub(crate) fn row_for<'a>(rows: &'a [Row], pair: NamedPart<'_>) -> &'a [Bucket]
+    ensures { result.now ≡ row_at rows.now (row_of (pair_of pair.entry)) }
+{
+    match rows.get(row_of(pair)) {
+        Some(row) => &row.buckets,
+        None => &[],
+    }
+}
