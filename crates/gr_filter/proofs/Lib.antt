@@ -10,3 +10,7 @@ pub mod PrintedTests
 pub mod QuotedUtf8
 pub mod Quotes
 pub mod ReadsBack
+pub mod Deriving
+pub mod Sizes
+pub mod Reading
+pub mod Exact

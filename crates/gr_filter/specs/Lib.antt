@@ -3,6 +3,7 @@ pub mod Grammar
 pub mod Kleene
 pub mod Like
 pub mod Print
+pub mod Productions
 pub mod Reach
 pub mod Token
 pub mod Tree

@@ -5,6 +5,7 @@ pub mod evaluate;
 pub mod fault;
 pub mod filter;
 pub mod kleene;
+pub mod laws;
 pub mod like;
 pub mod node;
 pub mod parser;
