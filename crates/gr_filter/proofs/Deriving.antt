@@ -182,10 +182,12 @@ between_read bytes negated x from at h =
     next (ReadsOperand bytes at) (ReadsTest bytes from) (operand_at bytes at) _ (operand_read bytes at) (λ low a.
     next (ReadsWord bytes low.1 and_word) (ReadsTest bytes from) (and_word_at bytes low.1) _ (and_word_read bytes low.1) (λ m b.
     next (ReadsOperand bytes m) (ReadsTest bytes from) (operand_at bytes m) _ (operand_read bytes m) (λ high c.
-    gives_ok (ReadsTest bytes from) (between negated x low.0 high.0, high.1)
-    (behind bytes from at high.1 (operand_word x ∷ (not_words negated ++ between_word ∷ [])) (operand_word low.0 ∷ (and_word ∷ (operand_word high.0 ∷ []))) _ h
-    (words_append bytes at low.1 high.1 (operand_word low.0 ∷ []) (and_word ∷ (operand_word high.0 ∷ [])) a (words_append bytes low.1 m high.1 (and_word ∷ []) (operand_word high.0 ∷ []) b c))
-    (shape negated low.0 high.0), tt))))
+    gives_ok (ReadsTest bytes from) (between negated x low.0 high.0, high.1) (
+      behind bytes from at high.1 (operand_word x ∷ (not_words negated ++ between_word ∷ [])) (operand_word low.0 ∷ (and_word ∷ (operand_word high.0 ∷ []))) _ h
+          (words_append bytes at low.1 high.1 (operand_word low.0 ∷ []) (and_word ∷ (operand_word high.0 ∷ [])) a (words_append bytes low.1 m high.1 (and_word ∷ []) (operand_word high.0 ∷ []) b c))
+          (shape negated low.0 high.0),
+      tt,
+    ))))
   where
     shape : (n : Bool) (low high : Operand) → operand_word x ∷ (not_words n ++ between_word ∷ (operand_word low ∷ (and_word ∷ (operand_word high ∷ [])))) ≡ (operand_word x ∷ (not_words n ++ between_word ∷ [])) ++ (operand_word low ∷ (and_word ∷ (operand_word high ∷ [])))
     shape true low high = refl
@@ -214,8 +216,10 @@ literals_read bytes zero found at = closed_read bytes at found
 literals_read bytes (suc n) found at =
     either_way (ReadsLiterals bytes at found) (is_comma (lexeme bytes at).token) _ _
     (λ c. next (ReadsLiteral bytes (lexeme bytes at).to) (ReadsLiterals bytes at found) (literal_at bytes (lexeme bytes at).to) _ (literal_read bytes (lexeme bytes at).to) (λ x h.
-    record { it = λ r e. let k : ReadsLiterals bytes x.1 (found ++ x.0 ∷ []) r = (literals_read bytes n (found ++ x.0 ∷ []) x.1).it r e in
-      (x.0 ∷ k.0, k.1 ∙ one_more found x.0 k.0, (h.1, k.2), (word_from bytes at token.Comma (comma_is _ c), words_append bytes (lexeme bytes at).to x.1 r.1 (operand_word x.0 ∷ []) (more_words k.0 ++ closing ∷ []) h.0 k.3)) }))
+    record {
+      it = λ r e. let k : ReadsLiterals bytes x.1 (found ++ x.0 ∷ []) r = (literals_read bytes n (found ++ x.0 ∷ []) x.1).it r e in
+          (x.0 ∷ k.0, k.1 ∙ one_more found x.0 k.0, (h.1, k.2), (word_from bytes at token.Comma (comma_is _ c), words_append bytes (lexeme bytes at).to x.1 r.1 (operand_word x.0 ∷ []) (more_words k.0 ++ closing ∷ []) h.0 k.3));
+    }))
     (λ c. closed_read bytes at found)
 
 one_of_read : (bytes : List ℕ) (negated : Bool) (name : List ℕ) (from at : ℕ) → AreWords bytes from (name_word name ∷ (not_words negated ++ in_word ∷ [])) at → Gives (ReadsTest bytes from) (one_of_at bytes negated name at)
@@ -225,10 +229,12 @@ one_of_read bytes negated name from at h =
     next (ReadsLiteral bytes m) (ReadsTest bytes from) (literal_at bytes m) _ (literal_read bytes m) (λ first b.
     next (ReadsLiterals bytes first.1 (first.0 ∷ [])) (ReadsTest bytes from) (literals_at bytes (length bytes) (first.0 ∷ []) first.1) _ (literals_read bytes (length bytes) (first.0 ∷ []) first.1) (λ all c.
     gives_ok (ReadsTest bytes from) (one_of negated name all.0, all.1)
-    (subst (λ xs. ReadsTest bytes from (one_of negated name xs, all.1)) (sym c.1)
-    (behind bytes from at all.1 (name_word name ∷ (not_words negated ++ in_word ∷ [])) (opening ∷ (operand_word first.0 ∷ (more_words c.0 ++ closing ∷ []))) _ h
-    (words_append bytes at m all.1 (opening ∷ []) (operand_word first.0 ∷ (more_words c.0 ++ closing ∷ [])) a (words_append bytes m first.1 all.1 (operand_word first.0 ∷ []) (more_words c.0 ++ closing ∷ []) b.0 c.3))
-    (shape negated first.0 c.0), (b.1, c.2))))))
+    (subst (λ xs. ReadsTest bytes from (one_of negated name xs, all.1)) (sym c.1) (
+      behind bytes from at all.1 (name_word name ∷ (not_words negated ++ in_word ∷ [])) (opening ∷ (operand_word first.0 ∷ (more_words c.0 ++ closing ∷ []))) _ h
+          (words_append bytes at m all.1 (opening ∷ []) (operand_word first.0 ∷ (more_words c.0 ++ closing ∷ [])) a (words_append bytes m first.1 all.1 (operand_word first.0 ∷ []) (more_words c.0 ++ closing ∷ []) b.0 c.3))
+          (shape negated first.0 c.0),
+      (b.1, c.2),
+    )))))
   where
     shape : (n : Bool) (x : Operand) (ys : List Operand) → name_word name ∷ (not_words n ++ in_word ∷ (opening ∷ (literal_words (x ∷ ys) ++ closing ∷ []))) ≡ (name_word name ∷ (not_words n ++ in_word ∷ [])) ++ (opening ∷ (operand_word x ∷ (more_words ys ++ closing ∷ [])))
     shape true x ys = refl

@@ -14,3 +14,4 @@ pub mod Deriving
 pub mod Sizes
 pub mod Reading
 pub mod Exact
+pub mod Undoubling

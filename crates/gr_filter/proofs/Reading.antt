@@ -463,6 +463,7 @@ with_and bytes levels xs ys a b v w = λ at to n l s h few.
     long_append : (xs ys : List Word) → length (xs ++ ys) ≡ length xs + length ys
     long_append [] ys = omega arith
     long_append (x ∷ xs) ys = omega (arith, long_append xs ys)
+
     goes : (at to j n : ℕ) → n ≤ j + length xs → length (xs ++ and_word ∷ ys) ≤ n → length (xs ++ and_word ∷ ys) ≡ length xs + suc (length ys) → (m : ℕ) → (lexeme bytes m).token ≡ token.And → not_at bytes levels (lexeme bytes m).to ≡ Ok (b, to)
         → (not_at bytes levels at >>= λ r. and_more bytes (not_at bytes levels) n r.0 r.1) ≡ and_more bytes (not_at bytes levels) j a m
         → (k : ℕ) × (n ≤ k + length (xs ++ and_word ∷ ys)) × ((not_at bytes levels at >>= λ r. and_more bytes (not_at bytes levels) n r.0 r.1) ≡ and_more bytes (not_at bytes levels) k (both a b) to)
@@ -489,6 +490,7 @@ with_or bytes levels xs ys a b v w = λ at to n l s e h few.
     long_append : (xs ys : List Word) → length (xs ++ ys) ≡ length xs + length ys
     long_append [] ys = omega arith
     long_append (x ∷ xs) ys = omega (arith, long_append xs ys)
+
     goes : (at to j n : ℕ) → n ≤ j + length xs → length (xs ++ or_word ∷ ys) ≤ n → length (xs ++ or_word ∷ ys) ≡ length xs + suc (length ys) → (m : ℕ) → (lexeme bytes m).token ≡ token.Or → and_at bytes (not_at bytes levels) (lexeme bytes m).to ≡ Ok (b, to)
         → (and_at bytes (not_at bytes levels) at >>= λ r. or_more bytes (not_at bytes levels) n r.0 r.1) ≡ or_more bytes (not_at bytes levels) j a m
         → (k : ℕ) × (n ≤ k + length (xs ++ or_word ∷ ys)) × ((and_at bytes (not_at bytes levels) at >>= λ r. or_more bytes (not_at bytes levels) n r.0 r.1) ≡ or_more bytes (not_at bytes levels) k (either a b) to)

@@ -1,3 +1,4 @@
+pub mod Fault
 pub mod Gives
 pub mod Grammar
 pub mod Kleene

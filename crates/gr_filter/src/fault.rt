@@ -1,6 +1,12 @@
 //! Why a text is no filter.
 
+ghost use Rattle.std.specs.Prelude.{◌≡◌, ◌≤◌};
+ghost use Rattle.gr_filter.specs.Fault.{fault_number, fault_word, fault_place};
+
+use crate::parser::MAX_BYTES;
 use std::alloc::{AllocError, AllocFailed};
+use std::error::Error;
+use std::fmt;
 
 /// No memory was given.
 pub type Memory = AllocError;
@@ -21,6 +27,59 @@ pub enum FilterFault {
     /// The integer at `at` has more than 64 bits.
     NumberRange { at: usize },
 }
+
+impl FilterFault {
+    /// Its number: 0 for `Memory`, and from 1 to 5 for the others.
+    pub fn number(&self) -> u8
+        ensures number { result ≡ fault_number self.now }
+        ensures most { result ≤ 5 }
+    {
+        match self {
+            FilterFault::Memory => 0,
+            FilterFault::BadToken { .. } => 1,
+            FilterFault::Expected { .. } => 2,
+            FilterFault::TooDeep { .. } => 3,
+            FilterFault::TooLong => 4,
+            FilterFault::NumberRange { .. } => 5,
+        }
+    }
+
+    /// Its word in a report, without the place.
+    pub fn word(&self) -> &'static str
+        ensures { result.now ≡ fault_word self.now }
+    {
+        match self {
+            FilterFault::Memory => "memory",
+            FilterFault::BadToken { .. } => "bad-token",
+            FilterFault::Expected { .. } => "expected",
+            FilterFault::TooDeep { .. } => "too-deep",
+            FilterFault::TooLong => "too-long",
+            FilterFault::NumberRange { .. } => "number-range",
+        }
+    }
+
+    /// Its place in a report, in bytes of the filter's text: for `TooLong` the greatest length, and 0 for `Memory`.
+    pub fn place(&self) -> usize
+        ensures { result ≡ fault_place self.now }
+    {
+        match self {
+            FilterFault::Memory => 0,
+            FilterFault::TooLong => MAX_BYTES,
+            FilterFault::BadToken { at }
+            | FilterFault::Expected { at }
+            | FilterFault::TooDeep { at }
+            | FilterFault::NumberRange { at } => *at,
+        }
+    }
+}
+
+impl fmt::Display for FilterFault {
+    fn fmt<W: fmt::Write>(&self, f: &mut fmt::Formatter<W>) -> fmt::Result {
+        f.write_str(self.word())
+    }
+}
+
+impl Error for FilterFault {}
 
 impl From<AllocError> for FilterFault {
     ghost use Rattle.std.specs.Prelude.{◌≡◌};

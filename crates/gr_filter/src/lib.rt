@@ -19,5 +19,5 @@ pub use fault::{FilterFault, Memory};
 pub use filter::Filter;
 pub use kleene::Kleene;
 pub use node::{Node, Operand, Operands, Sign};
-pub use parser::parse;
+pub use parser::{LEVELS, MAX_BYTES, parse};
 pub use print::text;

@@ -58,20 +58,32 @@ fn fits_later(pattern: &[u8], text: &[u8]) -> bool
 fn front_of<'p, 't>(pattern: &'p [u8], text: &'t [u8]) -> Front<'p, 't>
     ensures { reach_of result ≡ reach pattern.now text.now }
 {
-    match pattern {
-        [] => Front::Whole(text),
-        [b'%', rest @ ..] => Front::UpTo {
-            pattern: rest,
-            text,
-        },
-        [b'_', rest @ ..] => match text {
-            [first, others @ ..] if !continues(*first) => front_of(rest, after_character(others)),
-            _ => Front::Differs,
-        },
-        [byte, rest @ ..] => match text {
-            [first, others @ ..] if byte == first => front_of(rest, others),
-            _ => Front::Differs,
-        },
+    let mut pattern = pattern;
+    let mut text = text;
+    'places: loop {
+        match pattern {
+            [] => return Front::Whole(text),
+            [b'%', rest @ ..] => {
+                return Front::UpTo {
+                    pattern: rest,
+                    text,
+                };
+            }
+            [b'_', rest @ ..] => match text {
+                [first, others @ ..] if !continues(*first) => {
+                    pattern = rest;
+                    text = after_character(others);
+                }
+                _ => return Front::Differs,
+            },
+            [byte, rest @ ..] => match text {
+                [first, others @ ..] if byte == first => {
+                    pattern = rest;
+                    text = others;
+                }
+                _ => return Front::Differs,
+            },
+        }
     }
 }
 
@@ -86,8 +98,11 @@ fn continues(byte: u8) -> bool
 fn after_character(text: &[u8]) -> &[u8]
     ensures { result.now ≡ after_character text.now }
 {
-    match text {
-        [first, rest @ ..] if continues(*first) => after_character(rest),
-        _ => text,
+    let mut left = text;
+    'bytes: loop {
+        match left {
+            [first, rest @ ..] if continues(*first) => left = rest,
+            _ => return left,
+        }
     }
 }

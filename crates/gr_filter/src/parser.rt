@@ -12,7 +12,11 @@ use crate::token::{Lexeme, Token, next_token, put_undoubled};
 use gr_event::Text;
 use std::alloc::Global;
 
-const LEVELS: u8 = 64;
+/// How many bytes the text of a filter has at most.
+pub const MAX_BYTES: usize = 4096;
+
+/// How deep parentheses and NOT nest at most.
+pub const LEVELS: u8 = 64;
 
 /// The filter that a text is.
 ///
@@ -22,7 +26,7 @@ const LEVELS: u8 = 64;
 pub fn parse(alloc: Global, text: &[u8]) -> Result<Filter, FilterFault>
     ensures { Gives tree_of result (filter_text text.now) }
 {
-    if text.len() > 4096 {
+    if text.len() > MAX_BYTES {
         return Err(FilterFault::TooLong);
     }
     let (root, behind) = or_at(alloc, text, LEVELS, 0)?;

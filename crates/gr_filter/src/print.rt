@@ -142,16 +142,13 @@ fn put_quoted(out: &mut Text, text: &[u8]) -> Result<(), Memory>
 fn put_doubled(out: &mut Text, text: &[u8]) -> Result<(), Memory>
     ensures { OnOk result (out.new ≡ out.old ++ doubled text.now) }
 {
-    match text {
-        [] => Ok(()),
-        [first, rest @ ..] => {
-            if *first == b'\'' {
-                out.push(b'\'')?;
-            }
-            out.push(*first)?;
-            put_doubled(out, rest)
+    for byte in text {
+        if *byte == b'\'' {
+            out.push(b'\'')?;
         }
+        out.push(*byte)?;
     }
+    Ok(())
 }
 
 fn put_literals(alloc: Global, out: &mut Text, literals: &[Operand]) -> Result<(), Memory>

@@ -228,3 +228,24 @@ fn shows_its_root(rt: HostRuntime) -> Result<(), Fail> {
     assert!(rt; matches!(filter.root(), Node::Alone(_)));
     Ok(())
 }
+
+#[test]
+fn faults_have_words(rt: HostRuntime) -> Result<(), Fail> {
+    let cases: [(&str, u8, &str, usize); 4] = [
+        ("a = 1.5", 1, "bad-token", 4),
+        ("price > 80 AND", 2, "expected", 14),
+        ("9 IS NULL", 2, "expected", 2),
+        ("a = 9223372036854775808", 5, "number-range", 4),
+    ];
+    for (written, number, word, place) in cases {
+        match parse(rt.alloc(), written.as_bytes()) {
+            Ok(_) => return Err("a filter".into()),
+            Err(fault) => {
+                assert_eq!(rt; fault.number(), number, "{written}");
+                assert_eq!(rt; fault.word(), word, "{written}");
+                assert_eq!(rt; fault.place(), place, "{written}");
+            }
+        }
+    }
+    Ok(())
+}

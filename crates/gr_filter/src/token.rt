@@ -3,7 +3,7 @@
 ghost use Rattle.std.specs.Prelude.{◌≡◌, ◌+◌, ◌-◌, ◌≤◌, ◌<◌, ◌^◌, length, take, IfSome, Some, IfOk, OnOk, ◌++◌};
 ghost use Rattle.std.specs.Option.{ForSome};
 ghost use Rattle.std.specs.Str.{is_utf8};
-ghost use Rattle.gr_filter.specs.Token.{is_space, is_digit, begins_name, goes_on, front, capital, is_word, word_token, number_from, integer_token, number_token, text_len, quote_len, undoubled, behind_quote, text_token, sign_token, less_token, greater_token, minus_token, token_of, lexeme};
+ghost use Rattle.gr_filter.specs.Token.{is_space, is_digit, begins_name, goes_on, front, capital, is_word, word_token, number_from, integer_token, number_token, text_len, undoubled, text_token, sign_token, less_token, greater_token, minus_token, token_of, lexeme};
 
 use crate::fault::Memory;
 use crate::node::Sign;
@@ -93,10 +93,12 @@ fn spaces(text: &[u8]) -> usize
     ensures is { result ≡ front is_space text.now }
     ensures within { result ≤ length text.now }
 {
-    match text {
-        [first, rest @ ..] if is_space(*first) => 1 + spaces(rest),
-        _ => 0,
+    for i in 0..text.len() {
+        if !is_space(text[i]) {
+            return i;
+        }
     }
+    text.len()
 }
 
 /// How many digits the text begins with.
@@ -104,10 +106,12 @@ fn digits(text: &[u8]) -> usize
     ensures is { result ≡ front is_digit text.now }
     ensures within { result ≤ length text.now }
 {
-    match text {
-        [first, rest @ ..] if is_digit(*first) => 1 + digits(rest),
-        _ => 0,
+    for i in 0..text.len() {
+        if !is_digit(text[i]) {
+            return i;
+        }
     }
+    text.len()
 }
 
 /// How many bytes of a name the text begins with.
@@ -115,10 +119,12 @@ fn name_bytes(text: &[u8]) -> usize
     ensures is { result ≡ front goes_on text.now }
     ensures within { result ≤ length text.now }
 {
-    match text {
-        [first, rest @ ..] if goes_on(*first) => 1 + name_bytes(rest),
-        _ => 0,
+    for i in 0..text.len() {
+        if !goes_on(text[i]) {
+            return i;
+        }
     }
+    text.len()
 }
 
 fn capital(byte: u8) -> u8
@@ -221,48 +227,23 @@ fn number_token(minus: bool, text: &[u8]) -> Token
     }
 }
 
-/// How many bytes a text has behind its first quote, with its last one.
-#[cycle(text_len)]
+/// How many bytes a text has behind its first quote, with its last one. Two quotes inside stand for one.
 fn text_len(text: &[u8]) -> Option<usize>
     ensures is { result ≡ text_len text.now }
     ensures some { ForSome result (λ n. 1 ≤ n) }
     ensures within { ForSome result (λ n. n ≤ length text.now) }
 {
-    match text {
-        [] => None,
-        [first, rest @ ..] => {
-            if *first == b'\'' {
-                quote_len(rest)
-            } else {
-                match text_len(rest) {
-                    Some(len) => Some(len + 1),
-                    None => None,
-                }
-            }
+    let mut at = 0;
+    'bytes: while at < text.len() {
+        if text[at] != b'\'' {
+            at += 1;
+        } else if at + 1 < text.len() && text[at + 1] == b'\'' {
+            at += 2;
+        } else {
+            return Some(at + 1);
         }
     }
-}
-
-/// The same where a quote was just read: another one stands inside, and anything else is behind the end.
-#[cycle(text_len)]
-fn quote_len(text: &[u8]) -> Option<usize>
-    ensures is { result ≡ quote_len text.now }
-    ensures some { ForSome result (λ n. 1 ≤ n) }
-    ensures within { ForSome result (λ n. n ≤ length text.now + 1) }
-{
-    match text {
-        [] => Some(1),
-        [first, rest @ ..] => {
-            if *first == b'\'' {
-                match text_len(rest) {
-                    Some(len) => Some(len + 2),
-                    None => None,
-                }
-            } else {
-                Some(1)
-            }
-        }
-    }
+    None
 }
 
 /// The text behind its first quote.
@@ -365,29 +346,17 @@ fn token_of(text: &[u8]) -> (Token, usize)
 }
 
 /// Puts what stands between quotes behind a text, each doubled quote once.
-#[cycle(put_undoubled)]
 pub(crate) fn put_undoubled(out: &mut Text, text: &[u8]) -> Result<(), Memory>
     ensures { OnOk result (out.new ≡ out.old ++ undoubled text.now) }
 {
-    match text {
-        [] => Ok(()),
-        [first, rest @ ..] => {
-            out.push(*first)?;
-            if *first == b'\'' {
-                put_behind_quote(out, rest)
-            } else {
-                put_undoubled(out, rest)
-            }
+    let mut at = 0;
+    'bytes: while at < text.len() {
+        out.push(text[at])?;
+        if text[at] == b'\'' && at + 1 < text.len() {
+            at += 2;
+        } else {
+            at += 1;
         }
     }
-}
-
-#[cycle(put_undoubled)]
-fn put_behind_quote(out: &mut Text, text: &[u8]) -> Result<(), Memory>
-    ensures { OnOk result (out.new ≡ out.old ++ behind_quote text.now) }
-{
-    match text {
-        [] => Ok(()),
-        [_, rest @ ..] => put_undoubled(out, rest),
-    }
+    Ok(())
 }

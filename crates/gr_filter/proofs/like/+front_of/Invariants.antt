@@ -1,5 +1,0 @@
-use Rattle.std.proofs.Common.{length}
-use Rattle.gr_filter.proofs.like.+front_of.Given as goal
-
-abbrev pub decreases-front_of : goal.decreases-front_of
-decreases-front_of l = length l.pattern.now
