@@ -4,6 +4,7 @@ use Rattle.std.specs.Int.{from_be_bytes, cast_signed, w16, w64}
 use Rattle.std.specs.Str.{is_utf8}
 use Rattle.std.specs.Ordering.{nat_cmp, is_lt}
 use Rattle.std.specs.Cmp.Lexicographic.{slice_cmp}
+use Rattle.gr_event.specs.declared.limits.TheConstants.{MAX_PAIRS, MAX_NAME, MAX_TEXT, MAX_BYTES}
 use Rattle.gr_event.specs.declared.value.Value.{Value}
 use Rattle.gr_event.specs.declared.value.Value.TheVariants.{Int, Text, Bool as Truth}
 use Rattle.gr_event.specs.declared.event.Event.{Event}
@@ -30,7 +31,7 @@ risen_at at before name = if is_lt (slice_cmp nat_cmp before name) then Ok name 
 
 -- the name behind its length n
 unfoldable pub name_of_length : List ℕ → ℕ → List ℕ → ℕ → Result (List ℕ) EventFault
-name_of_length bytes at before n = if n == 0 || nat_lt 64 n then Err (fault.BadLength at) else (field_at bytes (at + 1) n >>= text_at (at + 1) >>= risen_at (at + 1) before)
+name_of_length bytes at before n = if n == 0 || nat_lt MAX_NAME n then Err (fault.BadLength at) else (field_at bytes (at + 1) n >>= text_at (at + 1) >>= risen_at (at + 1) before)
 
 -- a length and the name
 unfoldable pub name_at : List ℕ → ℕ → List ℕ → Result (List ℕ) EventFault
@@ -38,7 +39,7 @@ name_at bytes at before = byte_at bytes at >>= name_of_length bytes at before
 
 -- the text behind its length n
 unfoldable pub text_of_length : List ℕ → ℕ → ℕ → Result Value EventFault
-text_of_length bytes at n = if nat_lt 1024 n then Err (fault.BadLength at) else (field_at bytes (at + 2) n >>= text_at (at + 2) >>= λ t. Ok (Text t))
+text_of_length bytes at n = if nat_lt MAX_TEXT n then Err (fault.BadLength at) else (field_at bytes (at + 2) n >>= text_at (at + 2) >>= λ t. Ok (Text t))
 
 abbrev pub truth_of : ℕ → ℕ → Result Value EventFault
 truth_of at b = if b == 0 then Ok (Truth false) else (if b == 1 then Ok (Truth true) else Err (fault.BadKind at))
@@ -75,8 +76,8 @@ pairs_at bytes (suc n) at before = do
 
 -- the pairs behind their count
 abbrev pub pairs_of_count : List ℕ → ℕ → Result Event EventFault
-pairs_of_count bytes n = if nat_lt 32 n then Err (fault.BadLength 0) else pairs_at bytes n 1 []
+pairs_of_count bytes n = if nat_lt MAX_PAIRS n then Err (fault.BadLength 0) else pairs_at bytes n 1 []
 
 -- the event that the bytes spell, or the first fault. No name is below the empty one
 unfoldable pub event_decoded : List ℕ → Result Event EventFault
-event_decoded bytes = if nat_lt 8192 (length bytes) then Err fault.TooLong else (byte_at bytes 0 >>= pairs_of_count bytes)
+event_decoded bytes = if nat_lt MAX_BYTES (length bytes) then Err fault.TooLong else (byte_at bytes 0 >>= pairs_of_count bytes)

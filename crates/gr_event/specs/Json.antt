@@ -6,6 +6,7 @@ use Rattle.serde_json.specs.Read.{read}
 use Rattle.serde_json.specs.Find.{as_i64, of_integer}
 use Rattle.serde_json.specs.Events.{members_len}
 use Rattle.serde_json.specs.Written.{compact_text}
+use Rattle.gr_event.specs.declared.limits.TheConstants.{MAX_PAIRS, MAX_NAME, MAX_TEXT, MAX_BYTES}
 use Rattle.gr_event.specs.declared.value.Value.{Value}
 use Rattle.gr_event.specs.declared.value.Value.TheVariants.{Int, Text, Bool as Truth}
 use Rattle.gr_event.specs.declared.event.Event.{Event}
@@ -41,7 +42,7 @@ integer_from None = Err fault.BadValue
 integer_from (Some z) = Ok (Int z)
 
 abbrev pub text_from : List ℕ → Result Value EventFault
-text_from s = if nat_lt 1024 (length s) then Err fault.TooLong else Ok (Text s)
+text_from s = if nat_lt MAX_TEXT (length s) then Err fault.TooLong else Ok (Text s)
 
 abbrev pub value_from : Data → Result Value EventFault
 value_from null = Err fault.BadValue
@@ -52,7 +53,7 @@ value_from (array ds) = Err fault.BadValue
 value_from (object ms) = Err fault.BadValue
 
 abbrev pub name_from : List ℕ → Result (List ℕ) EventFault
-name_from k = if length k == 0 || nat_lt 64 (length k) then Err fault.BadName else Ok k
+name_from k = if length k == 0 || nat_lt MAX_NAME (length k) then Err fault.BadName else Ok k
 
 abbrev pub pair_from : List ℕ → Data → Result (List ℕ × Value) EventFault
 pair_from k d = do
@@ -69,11 +70,11 @@ pairs_from (member k d ms) = do
 
 -- the form in bytes has at most 8,192
 abbrev pub short_event : Event → Result Event EventFault
-short_event e = if nat_lt 8192 (event_size e) then Err fault.TooLong else Ok e
+short_event e = if nat_lt MAX_BYTES (event_size e) then Err fault.TooLong else Ok e
 
 -- the event that a JSON value is
 unfoldable pub event_from : Data → Result Event EventFault
-event_from (object ms) = if nat_lt 32 (members_len ms) then Err fault.TooMany else (pairs_from ms >>= short_event)
+event_from (object ms) = if nat_lt MAX_PAIRS (members_len ms) then Err fault.TooMany else (pairs_from ms >>= short_event)
 event_from _ = Err fault.NotObject
 
 abbrev pub event_of_read : Option Data → Result Event EventFault

@@ -6,6 +6,7 @@ use Rattle.std.specs.List.{AllByRecursion}
 use Rattle.std.specs.List.Sorted.{IsStrictlySortedBy}
 use Rattle.std.specs.Ordering.{nat_cmp}
 use Rattle.std.specs.Cmp.Lexicographic.{slice_cmp}
+use Rattle.gr_event.specs.declared.limits.TheConstants.{MAX_PAIRS, MAX_NAME, MAX_TEXT, MAX_BYTES}
 use Rattle.gr_event.specs.declared.value.Value.{Value}
 use Rattle.gr_event.specs.declared.value.Value.TheVariants.{Int, Text, Bool as Truth}
 use Rattle.gr_event.specs.declared.event.Event.{Event}
@@ -25,12 +26,12 @@ Rise = IsStrictlySortedBy (slice_cmp nat_cmp)
 
 -- a name has 1 to 64 bytes of UTF-8
 abbrev pub IsName : List ℕ → Type 0
-IsName n = (0 < length n) × (length n ≤ 64) × IsUtf8 n
+IsName n = (0 < length n) × (length n ≤ MAX_NAME) × IsUtf8 n
 
 -- an integer has 64 bits, a text at most 1,024 bytes of UTF-8
 abbrev pub IsValue : Value → Type 0
 IsValue (Int z) = FitsSigned w64 z
-IsValue (Text t) = (length t ≤ 1024) × IsUtf8 t
+IsValue (Text t) = (length t ≤ MAX_TEXT) × IsUtf8 t
 IsValue (Truth b) = Unit {0}
 
 abbrev pub IsPair : List ℕ × Value → Type 0
@@ -39,10 +40,10 @@ IsPair p = IsName p.0 × IsValue p.1
 -- pairs that make an event, if their form in bytes is not too long
 pub record ArePairs (e : Event) : Type 0 where
   pub rise : Rise (names e)
-  pub few : length e ≤ 32
+  pub few : length e ≤ MAX_PAIRS
   pub each : AllByRecursion IsPair e
 
 -- what holds of every event
 pub record IsEvent (e : Event) : Type 0 where
   pub pairs : ArePairs e
-  pub short : event_size e ≤ 8192
+  pub short : event_size e ≤ MAX_BYTES

@@ -11,8 +11,10 @@ ghost use Rattle.gr_event.specs.Event.{event_bytes, value_size, pairs_size};
 ghost use Rattle.gr_event.specs.Gives.{Gives, GivesPairs};
 ghost use Rattle.gr_event.specs.Limits.{IsName, IsPair, IsValue, IsEvent, Rise, names};
 ghost use Rattle.gr_event.specs.Decode.{byte_at, field_at, name_at, integer_at, text_value_at, truth_at, value_at, pairs_at, event_decoded};
+ghost use Rattle.gr_event.specs.declared.limits.TheConstants.{MAX_BYTES, MAX_PAIRS};
 
 use crate::event::{Event, EventFault, size_of_value};
+use crate::limits::{MAX_BYTES, MAX_NAME, MAX_PAIRS, MAX_TEXT};
 use crate::text::Text;
 use crate::value::Value;
 use byteorder::{BigEndian, ByteOrder};
@@ -29,11 +31,11 @@ impl Event {
         ensures gives { Gives result (event_decoded bytes.now) }
         ensures spelled { IfOk result (λ e. bytes.now ≡ event_bytes e) }
     {
-        if bytes.len() > 8192 {
+        if bytes.len() > MAX_BYTES {
             return Err(EventFault::TooLong);
         }
         let count = byte_at(bytes, 0)?;
-        if count > 32 {
+        if usize::from(count) > MAX_PAIRS {
             return Err(EventFault::BadLength { at: 0 });
         }
         let pairs = pairs_at(alloc, bytes, count)?;
@@ -76,7 +78,7 @@ fn is_text(bytes: &[u8]) -> bool
 /// The name behind its length, above the one before.
 #[tactic(auto, unfolding(crate::specs::Decode::name_at, crate::specs::Decode::name_of_length), using(crate::proofs::Decoding::told_text))]
 fn name_at<'a>(bytes: &'a [u8], at: usize, before: &[u8]) -> Result<&'a [u8], EventFault>
-    requires few { length bytes.now ≤ 8192 }
+    requires few { length bytes.now ≤ MAX_BYTES }
     requires inside { at ≤ length bytes.now }
     ensures gives { MatchResult result (λ n. name_at bytes.now at before.now ≡ Ok n.now) (λ e. name_at bytes.now at before.now ≡ Err e) }
     ensures name { IfOk result (λ n. IsName n.now) }
@@ -84,7 +86,7 @@ fn name_at<'a>(bytes: &'a [u8], at: usize, before: &[u8]) -> Result<&'a [u8], Ev
     ensures above { IfOk result (λ n. slice_cmp nat_cmp before.now n.now ≡ Less) }
 {
     let len = byte_at(bytes, at)?;
-    if len == 0 || len > 64 {
+    if len == 0 || usize::from(len) > MAX_NAME {
         return Err(EventFault::BadLength { at });
     }
     let name = field_at(bytes, at + 1, usize::from(len))?;
@@ -100,7 +102,7 @@ fn name_at<'a>(bytes: &'a [u8], at: usize, before: &[u8]) -> Result<&'a [u8], Ev
 /// The value behind its kind.
 #[tactic(auto, unfolding(crate::specs::Decode::value_at, crate::specs::Decode::value_of_kind))]
 fn value_at(alloc: Global, bytes: &[u8], at: usize) -> Result<Value, EventFault>
-    requires few { length bytes.now ≤ 8192 }
+    requires few { length bytes.now ≤ MAX_BYTES }
     requires inside { at ≤ length bytes.now }
     ensures gives { Gives result (value_at bytes.now at) }
     ensures value { IfOk result IsValue }
@@ -135,7 +137,7 @@ fn text_value_at(alloc: Global, bytes: &[u8], at: usize) -> Result<Value, EventF
     ensures within { IfOk result (λ v. at + value_size v ≤ length bytes.now) }
 {
     let len = length_of(field_at(bytes, at, 2)?);
-    if len > 1024 {
+    if usize::from(len) > MAX_TEXT {
         return Err(EventFault::BadLength { at });
     }
     let text = field_at(bytes, at + 2, usize::from(len))?;
@@ -162,8 +164,8 @@ fn truth_at(bytes: &[u8], at: usize) -> Result<Value, EventFault>
 /// So many pairs behind their count, and nothing after them.
 fn pairs_at(alloc: Global, bytes: &[u8], count: u8) -> Result<Vec<(Text, Value)>, EventFault>
     requires some { 1 ≤ length bytes.now }
-    requires short { length bytes.now ≤ 8192 }
-    requires few { count ≤ 32 }
+    requires short { length bytes.now ≤ MAX_BYTES }
+    requires few { count ≤ MAX_PAIRS }
     ensures gives { GivesPairs result (pairs_at bytes.now count 1 []) }
     ensures event { IfOk result (λ v. IsEvent v.items) }
 {

@@ -6,6 +6,7 @@ ghost use Rattle.std.specs.List.{AllByRecursion};
 ghost use Rattle.gr_event.specs.Event.{event_size, event_bytes, pairs_size, pairs_bytes, value_size, value_bytes};
 ghost use Rattle.gr_event.specs.Decode.{event_decoded};
 ghost use Rattle.gr_event.specs.Limits.{IsPair, IsValue};
+ghost use Rattle.gr_event.specs.declared.limits.TheConstants.{MAX_PAIRS, MAX_NAME, MAX_TEXT};
 
 use crate::event::{Event, size_of_value};
 use crate::text::Text;
@@ -31,7 +32,7 @@ impl Event {
 
 /// Writes pairs behind their count into a slice of exactly their size.
 fn put_event(pairs: &[(Text, Value)], into: &mut [u8])
-    requires few { length pairs.now ≤ 32 }
+    requires few { length pairs.now ≤ MAX_PAIRS }
     requires each { AllByRecursion IsPair pairs.now }
     requires room { length into.old ≡ event_size pairs.now }
     ensures { into.new ≡ event_bytes pairs.now }
@@ -58,7 +59,7 @@ fn put_pairs(pairs: &[(Text, Value)], into: &mut [u8])
 
 /// Writes a name behind its length.
 fn put_name(name: &[u8], into: &mut [u8])
-    requires few { length name.now ≤ 64 }
+    requires few { length name.now ≤ MAX_NAME }
     requires room { length into.old ≡ 1 + length name.now }
     ensures { into.new ≡ length name.now ∷ name.now }
 {
@@ -113,7 +114,7 @@ fn put_length(len: u16, into: &mut [u8])
 
 /// Writes a text behind its kind and its length.
 fn put_text(text: &[u8], into: &mut [u8])
-    requires few { length text.now ≤ 1024 }
+    requires few { length text.now ≤ MAX_TEXT }
     requires room { length into.old ≡ 3 + length text.now }
     ensures { into.new ≡ 2 ∷ (to_be_bytes w16 (length text.now) ++ text.now) }
 {

@@ -7,7 +7,9 @@ ghost use Rattle.gr_event.specs.Limits.{IsEvent, ArePairs, IsPair, IsValue};
 ghost use Rattle.gr_event.specs.Get.{part_value, value_of};
 ghost use Rattle.gr_event.specs.Gives.{Gives};
 ghost use Rattle.gr_event.specs.Json.{short_event};
+ghost use Rattle.gr_event.specs.declared.limits.TheConstants.{MAX_BYTES, MAX_PAIRS};
 
+use crate::limits::MAX_BYTES;
 use crate::text::Text;
 use crate::value::{Part, Value};
 use gr_gap::Shared;
@@ -55,7 +57,7 @@ impl Event {
         requires { ArePairs pairs.items }
         ensures { Gives result (short_event pairs.items) }
     {
-        if 1 + size_of_pairs(&pairs) > 8192 {
+        if 1 + size_of_pairs(&pairs) > MAX_BYTES {
             return Err(EventFault::TooLong);
         }
         Ok(Event::of_pairs(alloc, pairs)?)
@@ -80,7 +82,7 @@ impl Event {
     /// How many bytes its form in bytes has, at most 8,192. Takes no memory.
     pub fn size(&self) -> usize
         ensures size { result ≡ event_size self.now }
-        ensures short { result ≤ 8192 }
+        ensures short { result ≤ MAX_BYTES }
         ensures event { IsEvent self.now }
     {
         1 + size_of_pairs(self.pairs.get())
@@ -143,7 +145,7 @@ fn same_pairs(left: &[(Text, Value)], right: &[(Text, Value)]) -> bool
 
 /// How many bytes the pairs take.
 fn size_of_pairs(pairs: &[(Text, Value)]) -> usize
-    requires few { length pairs.now ≤ 32 }
+    requires few { length pairs.now ≤ MAX_PAIRS }
     requires each { AllByRecursion IsPair pairs.now }
     ensures size { result ≡ pairs_size pairs.now }
     ensures bound { result ≤ 1092 * length pairs.now }

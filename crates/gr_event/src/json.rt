@@ -8,6 +8,7 @@ ghost use Rattle.gr_event.specs.Json.{data_of, members_of, json_text, text_from,
 ghost use Rattle.gr_event.specs.Limits.{names, key_texts, IsName, IsValue, IsPair, ArePairs};
 
 use crate::event::{Event, EventFault, Memory};
+use crate::limits::{MAX_NAME, MAX_PAIRS, MAX_TEXT};
 use crate::text::Text;
 use crate::value::Value;
 use serde_json::{Map, Value as Json};
@@ -44,7 +45,7 @@ impl Event {
     {
         match value {
             Json::Object(map) => {
-                if map.len() > 32 {
+                if map.len() > MAX_PAIRS {
                     return Err(EventFault::TooMany);
                 }
                 match pairs_of(alloc, map) {
@@ -71,7 +72,7 @@ fn text_of(alloc: Global, text: &str) -> Result<Value, EventFault>
     ensures gives { Gives result (text_from text.now) }
     ensures value { IfOk result IsValue }
 {
-    if text.len() > 1024 {
+    if text.len() > MAX_TEXT {
         return Err(EventFault::TooLong);
     }
     Ok(Value::Text(Text::from_slice(alloc, text.as_bytes())?))
@@ -98,7 +99,7 @@ fn name_of(alloc: Global, name: &str) -> Result<Text, EventFault>
     ensures gives { Gives result (name_from name.now) }
     ensures name { IfOk result IsName }
 {
-    if name.is_empty() || name.len() > 64 {
+    if name.is_empty() || name.len() > MAX_NAME {
         return Err(EventFault::BadName);
     }
     Ok(Text::from_slice(alloc, name.as_bytes())?)

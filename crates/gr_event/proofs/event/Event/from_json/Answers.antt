@@ -5,8 +5,8 @@ use Rattle.serde_json.proofs.Views.{view-Object}
 use Rattle.gr_event.proofs.Reading.{too_many, few, are_pairs, gives_short, fails_first}
 use Rattle.gr_event.proofs.event.Event.from_json.Goals as goal
 
-pub returns-then-len-gt32 : goal.returns-then-len-gt32
-returns-then-len-gt32 c =
+pub returns-then-len-gt-MAX_PAIRS : goal.returns-then-len-gt-MAX_PAIRS
+returns-then-len-gt-MAX_PAIRS c =
     let is = ap view c.in-Object.is ∙ view-Object c.in-Object.map in
     too_many _ _ c.len.result is c.len.ensures.len (search rules)
 
