@@ -326,6 +326,23 @@ wanted_sized = record { spelled = wanted_size; small = λ r some fits. omega ari
 pub known_data : (r : Run K) (e : Event) (n : ℕ) → r.value ≡ D e → n ≡ event_size e → 19 + n ≡ run_size known_form r
 known_data r e n is size = rw (is, size) (omega (arith, length-event_bytes e))
 
+-- A list that more is put behind
+
+-- what stood in front stays there
+pub front_stays : {X : Type 0} (old now : List X) (x : X) (next : List X) → next ≡ now ++ x ∷ [] → take (length old) now ≡ old → take (length old) next ≡ old
+front_stays {X = X} old now x next e h = ap (take (length old)) e ∙ go old now h
+  where
+    go : (o n : List X) → take (length o) n ≡ o → take (length o) (n ++ x ∷ []) ≡ o
+    go [] n h = refl
+    go (a ∷ o) [] h = absurd (empty h)
+      where
+        empty : [] ≡ a ∷ o → ⊥
+        empty e = cc
+    go (a ∷ o) (b ∷ n) h =
+        let head : b ≡ a = cc in
+        let rest : take (length o) n ≡ o = cc in
+        ap₂ (λ y ys. y ∷ ys) head (go o n rest)
+
 -- Frames of the parts
 
 module _ {V : Type 0} where

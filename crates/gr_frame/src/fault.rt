@@ -1,6 +1,11 @@
 //! Why bytes are no frame.
 
+ghost use Rattle.std.specs.Prelude.{◌≡◌, ◌≤◌, IfSome, slice_get};
+ghost use Rattle.gr_frame.specs.Fault.{fault_number, fault_word, fault_kinds};
+
 use std::alloc::{AllocError, AllocFailed};
+use std::error::Error;
+use std::fmt;
 
 /// The first fault of bytes that are no frame.
 #[derive(Clone, Copy, Debug, PartialEq, Eq)]
@@ -34,6 +39,75 @@ pub enum FrameKind {
     /// There are more than 16,384 bytes; the place is 16,384.
     TooLong,
 }
+
+impl FrameKind {
+    /// Its number: 0 for `Memory`, and from 1 to 9 for the others.
+    pub fn number(self) -> u8
+        ensures number { result ≡ fault_number self }
+        ensures most { result ≤ 9 }
+    {
+        match self {
+            FrameKind::Memory => 0,
+            FrameKind::Short => 1,
+            FrameKind::BadMagic => 2,
+            FrameKind::BadVersion => 3,
+            FrameKind::BadKind => 4,
+            FrameKind::BadRange => 5,
+            FrameKind::BadOrder => 6,
+            FrameKind::BadEvent => 7,
+            FrameKind::Trailing => 8,
+            FrameKind::TooLong => 9,
+        }
+    }
+
+    /// The fault with a number, or None above 9.
+    pub fn from_number(number: u8) -> Option<FrameKind>
+        ensures kind { result ≡ slice_get fault_kinds number }
+        ensures number { IfSome result (λ k. fault_number k ≡ number) }
+    {
+        match number {
+            0 => Some(FrameKind::Memory),
+            1 => Some(FrameKind::Short),
+            2 => Some(FrameKind::BadMagic),
+            3 => Some(FrameKind::BadVersion),
+            4 => Some(FrameKind::BadKind),
+            5 => Some(FrameKind::BadRange),
+            6 => Some(FrameKind::BadOrder),
+            7 => Some(FrameKind::BadEvent),
+            8 => Some(FrameKind::Trailing),
+            9 => Some(FrameKind::TooLong),
+            _ => None,
+        }
+    }
+
+    /// Its word in a report, without the place.
+    pub fn word(self) -> &'static str
+        ensures { result.now ≡ fault_word self }
+    {
+        match self {
+            FrameKind::Memory => "memory",
+            FrameKind::Short => "short",
+            FrameKind::BadMagic => "bad-magic",
+            FrameKind::BadVersion => "bad-version",
+            FrameKind::BadKind => "bad-kind",
+            FrameKind::BadRange => "bad-range",
+            FrameKind::BadOrder => "bad-order",
+            FrameKind::BadEvent => "bad-event",
+            FrameKind::Trailing => "trailing",
+            FrameKind::TooLong => "too-long",
+        }
+    }
+}
+
+impl fmt::Display for FrameFault {
+    fn fmt<W: fmt::Write>(&self, f: &mut fmt::Formatter<W>) -> fmt::Result {
+        let word = self.kind.word();
+        let at = self.at;
+        write!(f, "{word} {at}")
+    }
+}
+
+impl Error for FrameFault {}
 
 impl From<AllocError> for FrameFault {
     ghost use Rattle.std.specs.Prelude.{◌≡◌};

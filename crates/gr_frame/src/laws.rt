@@ -10,6 +10,7 @@ ghost use Rattle.gr_frame.specs.Bytes.{frame_bytes, cut_frames, known_run_size, 
 ghost use Rattle.gr_frame.specs.Cut.{parts_of, joined};
 ghost use Rattle.gr_frame.specs.Decode.{frame_decoded};
 ghost use Rattle.gr_frame.specs.Limits.{IsFrame, IsWhole};
+ghost use Rattle.gr_frame.specs.declared.TheConstants.{MAX_BYTES};
 
 /// Reading gives a frame exactly where the bytes spell it.
 pub fn decodes_what_is_spelled(bytes: &[u8])
@@ -40,4 +41,9 @@ pub fn cut_loses_nothing()
 pub fn one_frame_is_not_cut()
     ensures whole { (bytes : List ℕ) (f : Frame) → IsFrame bytes f → parts_of f ≡ f ∷ [] }
     ensures parts { (f : Frame) → IsWhole f → AllByRecursion (λ p. parts_of p ≡ p ∷ []) (parts_of f) }
+{}
+
+/// How many bytes a frame has at most.
+pub fn limit_of_frames()
+    ensures { MAX_BYTES ≡ 16384 }
 {}

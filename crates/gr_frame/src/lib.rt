@@ -3,6 +3,7 @@
 
 pub mod fault;
 mod field;
+mod frames;
 mod laws;
 mod reading;
 #[cfg(test)]
@@ -11,15 +12,16 @@ mod value;
 mod writing;
 
 pub use fault::{FrameFault, FrameKind};
+pub use frames::Frames;
 use gr_curio::Q3;
 use gr_know::K;
 use gr_tick::Piece;
 pub use laws::{
-    bytes_spell_one_frame, cut_loses_nothing, decodes_what_is_spelled, one_frame_is_not_cut,
-    spells_no_prefix,
+    bytes_spell_one_frame, cut_loses_nothing, decodes_what_is_spelled, limit_of_frames,
+    one_frame_is_not_cut, spells_no_prefix,
 };
 pub use reading::decode;
-pub use writing::{Frames, encode};
+pub use writing::{encode, encode_into};
 
 /// How many bytes a frame has at most.
 pub const MAX_BYTES: usize = 16_384;

@@ -4,6 +4,7 @@ ghost use Rattle.std.specs.Prelude.{◌≡◌, ◌+◌, ◌≤◌, ◌<◌, ◌+
 ghost use Rattle.gr_tick.specs.Stored.{IsRun, AreTickRuns, EndBefore};
 ghost use Rattle.gr_frame.specs.Decode.{last_run, is_above, goes_on, run_size, run_at, run_with_ticks, runs_at, kind_at, head_at, count_at, expect_at, body_at, fields_of, frame_decoded};
 ghost use Rattle.gr_frame.specs.Gives.{Gives};
+ghost use Rattle.gr_frame.specs.declared.TheConstants.{MAX_BYTES};
 
 use crate::fault::{FrameFault, FrameKind};
 use crate::field::{byte_at, fault, field_at, tick_at, u16_at};
@@ -31,7 +32,7 @@ pub fn decode(alloc: Global, bytes: &[u8]) -> Result<Frame, FrameFault>
 /// The fields of a frame in their order.
 #[tactic(auto, unfolding(crate::specs::Decode::fields_of))]
 fn fields_of(alloc: Global, bytes: &[u8]) -> Result<Frame, FrameFault>
-    requires { length bytes.now ≤ 16384 }
+    requires { length bytes.now ≤ MAX_BYTES }
     ensures { Gives result (fields_of bytes.now) }
 {
     let kind = kind_at(bytes)?;
@@ -92,7 +93,7 @@ fn count_at(bytes: &[u8], kind: BodyKind) -> Result<u16, FrameFault>
 /// What stands behind the count.
 #[tactic(auto, unfolding(crate::specs::Decode::body_at))]
 fn body_at(alloc: Global, bytes: &[u8], kind: BodyKind, count: u16) -> Result<Body, FrameFault>
-    requires short { length bytes.now ≤ 16384 }
+    requires short { length bytes.now ≤ MAX_BYTES }
     requires inside { 12 ≤ length bytes.now }
     ensures { Gives result (body_at bytes.now kind count) }
 {
@@ -117,7 +118,7 @@ fn expect_at(bytes: &[u8]) -> Result<Body, FrameFault>
 
 /// So many runs behind the count, and nothing after them.
 fn runs_at<V: FrameValue>(alloc: Global, bytes: &[u8], count: u16) -> Result<Piece<V>, FrameFault>
-    requires short { length bytes.now ≤ 16384 }
+    requires short { length bytes.now ≤ MAX_BYTES }
     requires inside { 12 ≤ length bytes.now }
     ensures { Gives result (runs_at V.form bytes.now count 12 None) }
 {
@@ -142,7 +143,7 @@ fn run_at<V: FrameValue>(
     at: usize,
     found: &Piece<V>,
 ) -> Result<Run<V>, FrameFault>
-    requires short { length bytes.now ≤ 16384 }
+    requires short { length bytes.now ≤ MAX_BYTES }
     requires inside { at ≤ length bytes.now }
     ensures gives { Gives result (run_at V.form bytes.now at (last_run found.now)) }
     ensures alone { IfOk result (λ r. IsRun V.least r) }

@@ -1,9 +1,9 @@
 ghost use Rattle.std.specs.Prelude.{◌≡◌, ◌≢◌, ◌+◌, ◌*◌, ◌≤◌, IfOk};
 ghost use Rattle.gr_tick.specs.Stored.{EndBefore};
 
-use crate::{Body, Frame, FrameFault, FrameKind, Head, decode, encode};
+use crate::{Body, Frame, FrameFault, FrameKind, Frames, Head, decode, encode, encode_into};
 use gr_curio::Q3;
-use gr_event::Event;
+use gr_event::{Bytes, Event};
 use gr_know::K;
 use gr_tick::{Lattice, Piece, Run};
 use std::alloc::Global;
@@ -751,6 +751,44 @@ fn gives_the_greatest_event_a_frame_alone(rt: HostRuntime) -> Result<(), Fail> {
     Ok(())
 }
 
+/// Frames are put behind others, joined with the room taken before, and handed over one by one.
+#[test]
+fn joins_frames(rt: HostRuntime) -> Result<(), Fail> {
+    let mut sent = Frames::new(rt.alloc());
+    for tick in [5, 6] {
+        assert!(rt; tick >= 1 && tick <= gr_tick::MAX_TICK);
+        let frame = Frame {
+            head: HEAD,
+            body: Body::Expect(tick),
+        };
+        encode_into(rt.alloc(), &frame, &mut sent)?;
+    }
+    let mut all = Frames::new(rt.alloc());
+    all.reserve(3)?;
+    all.push(Bytes::from_slice(rt.alloc(), b"GK")?)?;
+    all.append(&mut sent)?;
+    assert!(rt; sent.is_empty());
+    assert_eq!(rt; all.len(), 3);
+    let mut lengths = Vec::new(rt.alloc());
+    for bytes in all {
+        lengths.push(bytes.len())?;
+    }
+    assert!(rt; lengths.as_slice() == [2, 20, 20].as_slice());
+    Ok(())
+}
+
+#[test]
+fn says_its_fault(rt: HostRuntime) -> Result<(), Fail> {
+    let fault = FrameFault {
+        kind: FrameKind::BadEvent,
+        at: 48,
+    };
+    let text = format!(in rt.alloc(); "{fault}")?;
+    assert!(rt; text.as_str() == "bad-event 48");
+    assert!(rt; FrameKind::from_number(7) == Some(fault.kind));
+    Ok(())
+}
+
 #[test]
 fn keeps_its_laws() {
     crate::decodes_what_is_spelled(b"GK");
@@ -758,4 +796,5 @@ fn keeps_its_laws() {
     crate::spells_no_prefix();
     crate::cut_loses_nothing();
     crate::one_frame_is_not_cut();
+    crate::limit_of_frames();
 }

@@ -15,11 +15,12 @@ ghost use Rattle.gr_frame.specs.Bytes.{known_bytes, wanted_bytes, known_run_size
 ghost use Rattle.gr_frame.specs.Decode.{run_size, known_form, wanted_form, kind_number, event_refused, event_of, event_at, known_value_at, wanted_value_at};
 ghost use Rattle.gr_frame.specs.Limits.{IsKnown, IsWanted};
 ghost use Rattle.gr_frame.specs.Gives.{Gives, Fails};
+ghost use Rattle.gr_frame.specs.declared.TheConstants.{MAX_BYTES};
 
 use crate::fault::{FrameFault, FrameKind};
-use crate::field::{byte_at, fault, field_at, put_u16, u16_at};
+use crate::field::{byte_at, fault, field_at, put_byte, put_u16, u16_at};
 use gr_curio::Q3;
-use gr_event::{Bytes, Event, EventFault};
+use gr_event::{Event, EventFault};
 use gr_know::K;
 use gr_tick::{Lattice, Run};
 use std::alloc::{AllocError, Global};
@@ -55,7 +56,7 @@ pub trait FrameValue: Lattice {
 
     /// The value that stands at a place of the bytes.
     fn read(alloc: Global, bytes: &[u8], at: usize) -> Result<Self, FrameFault>
-        requires short { length bytes.now ≤ 16384 }
+        requires short { length bytes.now ≤ MAX_BYTES }
         requires inside { at ≤ length bytes.now }
         ensures gives { Gives result (form.read bytes.now at) }
         ensures some { IfOk result (λ v. v ≢ Self.least) }
@@ -70,8 +71,9 @@ pub trait FrameValue: Lattice {
         ensures fits { fits run.now.value };
 
     /// Puts the bytes of the value at the end.
-    fn put(&self, alloc: Global, bytes: &mut Bytes) -> Result<(), AllocError>
-        ensures { OnOk result (bytes.new ≡ bytes.old ++ form.bytes self.now) };
+    fn put(&self, bytes: &mut Vec<u8>) -> Result<(), AllocError>
+        ensures bytes { OnOk result (bytes.new.items ≡ bytes.old.items ++ form.bytes self.now) }
+        ensures fits { fits self.now };
 
     ghost decides: { Decides_same form.same };
 }
@@ -100,12 +102,12 @@ impl FrameValue for K {
         }
     }
 
-    fn put(&self, alloc: Global, bytes: &mut Bytes) -> Result<(), AllocError> {
+    fn put(&self, bytes: &mut Vec<u8>) -> Result<(), AllocError> {
         match self {
             K::Q => Ok(()),
-            K::S => bytes.push(1),
-            K::D(event) => put_event(alloc, event, bytes),
-            K::F => bytes.push(3),
+            K::S => put_byte(bytes, 1),
+            K::D(event) => put_event(event, bytes),
+            K::F => put_byte(bytes, 3),
         }
     }
 }
@@ -130,11 +132,11 @@ impl FrameValue for Q3 {
         17
     }
 
-    fn put(&self, _alloc: Global, bytes: &mut Bytes) -> Result<(), AllocError> {
+    fn put(&self, bytes: &mut Vec<u8>) -> Result<(), AllocError> {
         match self {
             Q3::N => Ok(()),
-            Q3::C => bytes.push(1),
-            Q3::A => bytes.push(2),
+            Q3::C => put_byte(bytes, 1),
+            Q3::A => put_byte(bytes, 2),
         }
     }
 }
@@ -142,7 +144,7 @@ impl FrameValue for Q3 {
 /// The event behind its length of two bytes.
 #[tactic(auto, unfolding(crate::specs::Decode::event_at))]
 fn event_at(alloc: Global, bytes: &[u8], at: usize) -> Result<Event, FrameFault>
-    requires short { length bytes.now ≤ 16384 }
+    requires short { length bytes.now ≤ MAX_BYTES }
     requires inside { at ≤ length bytes.now }
     ensures gives { Gives result (event_at bytes.now at) }
     ensures within { IfOk result (λ e. at + 2 + length (event_bytes e) ≤ length bytes.now) }
@@ -166,12 +168,15 @@ fn event_refused(refused: EventFault, at: usize) -> FrameFault
 }
 
 /// Puts the kind, the length and the bytes of an event at the end.
-fn put_event(alloc: Global, event: &Event, bytes: &mut Bytes) -> Result<(), AllocError>
-    ensures { OnOk result (bytes.new ≡ bytes.old ++ known_bytes (D event.now)) }
+fn put_event(event: &Event, bytes: &mut Vec<u8>) -> Result<(), AllocError>
+    ensures bytes { OnOk result (bytes.new.items ≡ bytes.old.items ++ known_bytes (D event.now)) }
+    ensures event { IsEvent event.now }
 {
-    let mut form = vec![in alloc; 0; event.size()]?;
-    event.encode_into(&mut form);
-    bytes.push(2)?;
-    put_u16(bytes, event.size() as u16)?;
-    bytes.append(&form)
+    let size = event.size();
+    put_byte(bytes, 2)?;
+    put_u16(bytes, size as u16)?;
+    let at = bytes.len();
+    bytes.resize(at + size, 0)?;
+    event.encode_into(&mut bytes[at..]);
+    Ok(())
 }

@@ -13,7 +13,7 @@ loop-i-preserved g c =
     let value = g.V.FrameValue.form.bytes in
     let piece = c.args.piece.now in
     let run = c.run.result.now in
-    let head = head_bytes (kind_number c.args.kind) c.args.head (c.args.end - c.args.start) in
+    let head = head_bytes (kind_number c.args.kind) c.args.head (c.args.part.end - c.args.start) in
     let runs = runs_bytes value (slice_range piece c.args.start c.loop-i.i) in
     let text = (to_be_bytes w64 run.first ++ to_be_bytes w64 run.last) ++ value run.value in
     record {

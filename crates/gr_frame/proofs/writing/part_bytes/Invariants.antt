@@ -7,6 +7,6 @@ use Rattle.gr_frame.proofs.writing.part_bytes.Given as goal
 
 abbrev pub invariant-loop-i : goal.invariant-loop-i
 invariant-loop-i g l = record {
-  bytes : l.bytes ≡ head_bytes (kind_number l.fn.kind) l.fn.head (l.end - l.start) ++ runs_bytes g.V.FrameValue.form.bytes (slice_range l.piece l.start l.i);
+  bytes : l.bytes.items ≡ head_bytes (kind_number l.fn.kind) l.fn.head (l.end - l.start) ++ runs_bytes g.V.FrameValue.form.bytes (slice_range l.piece l.start l.i);
   each : AllByRecursion (λ r. g.V.FrameValue.fits r.value) (slice_range l.piece l.start l.i);
 }

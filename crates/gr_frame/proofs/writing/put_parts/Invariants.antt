@@ -2,13 +2,14 @@ use Rattle.std.proofs.Common.{◌≡◌, ◌≤◌, ◌-◌, ◌++◌, length, d
 use Rattle.std.specs.List.{AllByRecursion}
 use Rattle.gr_frame.specs.Bytes.{head_bytes, runs_bytes, cut_frames}
 use Rattle.gr_frame.specs.Decode.{kind_number}
-use Rattle.gr_frame.proofs.writing.cut.Given as goal
+use Rattle.gr_frame.proofs.writing.put_parts.Given as goal
 
 abbrev pub invariant-parts : goal.invariant-parts
 invariant-parts g l = record {
   within : l.start ≤ length l.piece;
-  made : l.frames ++ map (λ part. head_bytes (kind_number l.fn.kind) l.fn.head (length part) ++ runs_bytes g.V.FrameValue.form.bytes part) (cut_frames g.V.FrameValue.form.size (drop l.start l.piece))
-      ≡ map (λ part. head_bytes (kind_number l.fn.kind) l.fn.head (length part) ++ runs_bytes g.V.FrameValue.form.bytes part) (cut_frames g.V.FrameValue.form.size l.piece);
+  made : l.into.frames ++ map (λ part. head_bytes (kind_number l.fn.kind) l.fn.head (length part) ++ runs_bytes g.V.FrameValue.form.bytes part) (cut_frames g.V.FrameValue.form.size (drop l.start l.piece))
+      ≡ l.initial.into.frames ++ map (λ part. head_bytes (kind_number l.fn.kind) l.fn.head (length part) ++ runs_bytes g.V.FrameValue.form.bytes part) (cut_frames g.V.FrameValue.form.size l.piece);
+  front : take (length l.initial.into.frames) l.into.frames ≡ l.initial.into.frames;
   each : AllByRecursion (λ r. g.V.FrameValue.fits r.value) (take l.start l.piece);
 }
 

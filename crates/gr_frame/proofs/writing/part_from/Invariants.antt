@@ -1,0 +1,11 @@
+use Rattle.std.proofs.Common.{◌≡◌, ◌≤◌, ◌+◌, ◌-◌, ◌*◌, drop}
+use Rattle.std.specs.Prelude.{slice_range}
+use Rattle.gr_frame.specs.Bytes.{cut_from, cut_frames}
+use Rattle.gr_frame.proofs.writing.part_from.Given as goal
+
+abbrev pub invariant-loop-end : goal.invariant-loop-end
+invariant-loop-end g l = record {
+  low : 17 * (l.end - l.start) + 12 ≤ l.size;
+  high : l.size ≤ 16384;
+  cut : cut_from g.V.FrameValue.form.size l.size (slice_range l.piece l.start l.end) (drop l.end l.piece) ≡ cut_frames g.V.FrameValue.form.size (drop l.start l.piece);
+}
