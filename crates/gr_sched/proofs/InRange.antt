@@ -1,7 +1,7 @@
 -- Each part of the grammar gives numbers in their ranges and names that are known, so each step does
-use Rattle.std.proofs.Common.{◌≡◌, ℕ, ◌<◌, ◌≤◌, List, [], ◌∷◌, Bool, true, false, cond, length, refl, arith, ◌∙◌, subst, ap, inl, inr}
+use Rattle.std.proofs.Common.{◌≡◌, ℕ, suc, ◌<◌, ◌≤◌, List, [], ◌∷◌, Bool, true, false, cond, length, refl, arith, ◌∙◌, subst, ap, inl, inr}
 use Rattle.std.specs.Prelude.{Result, Ok, Err, Option, Some, None, nat_le, ◌&&◌, codes, bytes_eq, IfSome, IfOk, IfErr}
-use Rattle.std.specs.List.{All, slice_get}
+use Rattle.std.specs.List.{All, AllByRecursion, slice_get}
 use Rattle.std.specs.Option.{option_map}
 use Rattle.std.proofs.lemmas.Option.{slice_get_cases}
 use Rattle.std.proofs.lemmas.List.Elements.{All-nil, All-cons}
@@ -12,15 +12,38 @@ use Rattle.gr_event.specs.declared.event.EventFault.TheVariants as event
 use Rattle.gr_event.specs.Json.{event_text}
 use Rattle.gr_sched.specs.declared.fault.StepFault.{StepFault}
 use Rattle.gr_sched.specs.declared.fault.StepFault.TheVariants as fault
-use Rattle.gr_sched.specs.declared.step.TheConstants.{MAX_NUMBER}
-use Rattle.gr_sched.specs.declared.step.Step.TheVariants.{Clock, Wake, Deliver, Crash, Sweep, Show, Bytes}
+use Rattle.gr_sched.specs.declared.step.TheConstants.{MAX_NUMBER, MAX_STEPS}
+use Rattle.gr_sched.specs.declared.step.Step.{Step}
+use Rattle.gr_sched.specs.declared.step.Step.TheVariants.{Clock, Publish, Wake, Deliver, Crash, Sweep, Show, Bytes}
 use Rattle.gr_sched.specs.declared.step.Line.{Line}
 use Rattle.gr_sched.specs.declared.verb.Verb.{Verb}
 use Rattle.gr_sched.specs.declared.verb.Verb.TheVariants as verb
 use Rattle.gr_sched.specs.Words.{◌>>=◌, Gives, trimmed, first_word, after_word, next_word, ended, known, is_number, value_after, number_in, next_number}
 use Rattle.gr_sched.specs.Grammar.{verb_of, next_name, after_pick, stop_of, next_stop, event_or_fault, event_of, publish_of, step_by, step_of, lines_of}
-use Rattle.gr_sched.specs.Ranges.{IsNamed, IsStop, IsStep, IsFault, Holds}
+use Rattle.gr_sched.specs.Ranges.{IsNamed, IsStop, IsStep, IsInLimits, IsFault, Holds}
 use Rattle.gr_sched.proofs.EventFaults.{NotMemory, texts}
+
+-- what the grammar alone gives of a step: all but the limits of an event
+abbrev IsNumbered : (List ℕ → Option ℕ) → (List ℕ → Option ℕ) → Step → Type 0
+IsNumbered broker_of publisher_of (Publish publisher number stop e) = IsNamed publisher_of publisher × (1 ≤ number) × (number ≤ MAX_NUMBER) × IfSome stop IsStop
+IsNumbered broker_of publisher_of s = IsStep broker_of publisher_of s
+
+whole_step : (broker_of publisher_of : List ℕ → Option ℕ) (s : Step) → IsNumbered broker_of publisher_of s → IsInLimits s → IsStep broker_of publisher_of s
+whole_step broker_of publisher_of (Clock now) h k = h
+whole_step broker_of publisher_of (Publish publisher number stop e) h k = (h.0, h.1, h.2, h.3, k)
+whole_step broker_of publisher_of (Wake broker) h k = h
+whole_step broker_of publisher_of (Deliver frame) h k = h
+whole_step broker_of publisher_of (Crash broker) h k = h
+whole_step broker_of publisher_of Sweep h k = h
+whole_step broker_of publisher_of Show h k = h
+whole_step broker_of publisher_of (Bytes frame) h k = h
+
+whole_steps : (broker_of publisher_of : List ℕ → Option ℕ) (lines : List Line) → All (λ line. IsNumbered broker_of publisher_of line.step) lines → AllByRecursion (λ line. IsInLimits line.step) lines
+    → All (λ line. IsStep broker_of publisher_of line.step) lines
+whole_steps broker_of publisher_of [] h k = All-nil _
+whole_steps broker_of publisher_of (l ∷ ls) h k =
+    All-cons (λ line. IsStep broker_of publisher_of line.step) l ls (whole_step broker_of publisher_of l.step (h 0 l (omega arith)) k.0)
+    (whole_steps broker_of publisher_of ls (λ i d lt. h (suc i) d (omega arith)) k.1)
 
 -- one part after another
 both : {A B : Type 0} (P : A → Type 0) (Q : B → Type 0) (r : Result A StepFault) (f : A → Result B StepFault) → Holds P r → ((x : A) → P x → Holds Q (f x)) → Holds Q (r >>= f)
@@ -88,14 +111,14 @@ events : (n : ℕ) (text : List ℕ) → Holds (λ _. Unit {0}) (event_of n text
 events n [] = tt
 events n (b ∷ bs) = event_faults n (event_text (b ∷ bs)) (texts (b ∷ bs))
 
-publishes : (broker_of publisher_of : List ℕ → Option ℕ) (n : ℕ) (text : List ℕ) → Holds (IsStep broker_of publisher_of) (publish_of publisher_of n text)
+publishes : (broker_of publisher_of : List ℕ → Option ℕ) (n : ℕ) (text : List ℕ) → Holds (IsNumbered broker_of publisher_of) (publish_of publisher_of n text)
 publishes broker_of publisher_of n text =
     both _ _ (next_name publisher_of n text) _ (named publisher_of n text) (λ publisher a.
     both _ _ (next_number n 1 MAX_NUMBER publisher.1) _ (numbers n 1 MAX_NUMBER publisher.1) (λ number b.
     both _ _ (next_stop n number.1) _ (next_stops n number.1) (λ stop c.
     both _ _ (event_of n stop.1) _ (events n stop.1) (λ e _. (a, b.0, b.1, c)))))
 
-steps : (broker_of publisher_of : List ℕ → Option ℕ) (n : ℕ) (v : Verb) (text : List ℕ) → Holds (IsStep broker_of publisher_of) (step_by broker_of publisher_of n v text)
+steps : (broker_of publisher_of : List ℕ → Option ℕ) (n : ℕ) (v : Verb) (text : List ℕ) → Holds (IsNumbered broker_of publisher_of) (step_by broker_of publisher_of n v text)
 steps broker_of publisher_of n verb.Clock text = both _ _ (next_number n 0 MAX_NUMBER text) _ (numbers n 0 MAX_NUMBER text) (λ now h. ends _ n now.1 (Clock now.0) h.1)
 steps broker_of publisher_of n verb.Publish text = publishes broker_of publisher_of n text
 steps broker_of publisher_of n verb.Wake text = both _ _ (next_name broker_of n text) _ (named broker_of n text) (λ broker h. ends _ n broker.1 (Wake broker.0) h)
@@ -105,20 +128,20 @@ steps broker_of publisher_of n verb.Sweep text = ends _ n text Sweep tt
 steps broker_of publisher_of n verb.Show text = ends _ n text Show tt
 steps broker_of publisher_of n verb.Bytes text = both _ _ (next_number n 0 MAX_NUMBER text) _ (numbers n 0 MAX_NUMBER text) (λ frame h. ends _ n frame.1 (Bytes frame.0) h.1)
 
-line_steps : (broker_of publisher_of : List ℕ → Option ℕ) (n : ℕ) (line : List ℕ) → Holds (IsStep broker_of publisher_of) (step_of broker_of publisher_of n line)
+line_steps : (broker_of publisher_of : List ℕ → Option ℕ) (n : ℕ) (line : List ℕ) → Holds (IsNumbered broker_of publisher_of) (step_of broker_of publisher_of n line)
 line_steps broker_of publisher_of n line =
     both _ _ (next_word n (trimmed line)) _ (words n (trimmed line)) (λ word _.
     both _ _ (known n (verb_of word.0)) _ (knows n (verb_of word.0)) (λ v _. steps broker_of publisher_of n v word.1))
 
 -- as many lines as counted lines, each with such a step
 abbrev AreSteps : (List ℕ → Option ℕ) → (List ℕ → Option ℕ) → ℕ → List Line → Type 0
-AreSteps broker_of publisher_of n lines = All (λ line. IsStep broker_of publisher_of line.step) lines × (length lines ≡ n)
+AreSteps broker_of publisher_of n lines = All (λ line. IsNumbered broker_of publisher_of line.step) lines × (length lines ≡ n)
 
 all_steps : (broker_of publisher_of : List ℕ → Option ℕ) (counted : List (ℕ × List ℕ)) → Holds (AreSteps broker_of publisher_of (length counted)) (lines_of broker_of publisher_of counted)
 all_steps broker_of publisher_of [] = (All-nil _, refl)
 all_steps broker_of publisher_of (c ∷ more) =
     both _ _ (step_of broker_of publisher_of c.0 c.1) _ (line_steps broker_of publisher_of c.0 c.1) (λ step a.
-    both _ _ (lines_of broker_of publisher_of more) _ (all_steps broker_of publisher_of more) (λ lines b. (All-cons (λ line. IsStep broker_of publisher_of line.step) (record { number = c.0; step = step }) lines a b.0, omega (arith, b.1))))
+    both _ _ (lines_of broker_of publisher_of more) _ (all_steps broker_of publisher_of more) (λ lines b. (All-cons (λ line. IsNumbered broker_of publisher_of line.step) (record { number = c.0; step = step }) lines a b.0, omega (arith, b.1))))
 
 -- ---- what a reader answered
 
@@ -134,12 +157,14 @@ few_counted : (counted : List (ℕ × List ℕ)) (n : ℕ) → None ≡ option_m
 few_counted counted n e = elim (slice_get_cases counted n).1 [ inl h ↦ absurd (let k : None ≡ Some h.0.0 = e ∙ ap (option_map (λ c. c.0)) h.2 in cc) | inr h ↦ h.0 ]
 
 -- in a list that is read each step is in range, and there are no more than counted lines
-pub read_range : (broker_of publisher_of : List ℕ → Option ℕ) (counted : List (ℕ × List ℕ)) (r : Result (List Line) StepFault) → Gives (λ s. s) r (lines_of broker_of publisher_of counted) → IfOk r (λ s. All (λ line. IsStep broker_of publisher_of line.step) s)
-read_range broker_of publisher_of counted r e = part r (gives_holds _ r _ e (all_steps broker_of publisher_of counted))
+pub read_range : (broker_of publisher_of : List ℕ → Option ℕ) (counted : List (ℕ × List ℕ)) (r : Result (List Line) StepFault) → Gives (λ s. s) r (lines_of broker_of publisher_of counted)
+    → IfOk r (λ s. AllByRecursion (λ line. IsInLimits line.step) s) → IfOk r (λ s. All (λ line. IsStep broker_of publisher_of line.step) s)
+read_range broker_of publisher_of counted r e limits = part r (gives_holds _ r _ e (all_steps broker_of publisher_of counted)) limits
   where
-    part : (r : Result (List Line) StepFault) → Holds (AreSteps broker_of publisher_of (length counted)) r → IfOk r (λ s. All (λ line. IsStep broker_of publisher_of line.step) s)
-    part (Ok x) h = h.0
-    part (Err f) h = tt
+    part : (r : Result (List Line) StepFault) → Holds (AreSteps broker_of publisher_of (length counted)) r → IfOk r (λ s. AllByRecursion (λ line. IsInLimits line.step) s)
+        → IfOk r (λ s. All (λ line. IsStep broker_of publisher_of line.step) s)
+    part (Ok x) h k = whole_steps broker_of publisher_of x h.0 k
+    part (Err f) h k = tt
 
 pub read_all : (broker_of publisher_of : List ℕ → Option ℕ) (counted : List (ℕ × List ℕ)) (r : Result (List Line) StepFault) → Gives (λ s. s) r (lines_of broker_of publisher_of counted) → IfOk r (λ s. length s ≡ length counted)
 read_all broker_of publisher_of counted r e = part r (gives_holds _ r _ e (all_steps broker_of publisher_of counted))
@@ -185,3 +210,7 @@ read_cause broker_of publisher_of counted n r e = part r (gives_holds _ r _ e (a
 -- a line past the limit is one of more lines than the limit
 pub many_counted : (counted : List (ℕ × List ℕ)) (n line : ℕ) → Some line ≡ option_map (λ c. c.0) (slice_get counted n) → n < length counted
 many_counted counted n line e = elim (slice_get_cases counted n).1 [ inl h ↦ h.1 | inr h ↦ absurd (let k : Some line ≡ None = e ∙ ap (option_map (λ c. c.0)) h.1 in cc) ]
+
+-- with no more lines than the limit there are not too many
+pub not_many : (n : ℕ) (r : Result (List Line) StepFault) → IfErr r (IsFault n) → n ≤ MAX_STEPS → (line : ℕ) → r ≡ Err (fault.TooMany line) → ⊥
+not_many n r cause few line e = let more : MAX_STEPS < n = subst (λ x. IfErr x (IsFault n)) e cause in omega (arith, more, few)

@@ -2,4 +2,5 @@ pub mod Text
 pub mod Words
 pub mod Grammar
 pub mod Ranges
+pub mod Fault
 pub mod Printed

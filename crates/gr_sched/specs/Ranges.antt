@@ -1,6 +1,7 @@
 -- What holds of every schedule that is read, and of every fault
 use Rattle.std.specs.Prelude.{◌≡◌, ℕ, ◌<◌, ◌≤◌, List, Option, Some, Result, Ok, Err, IfSome}
 use Rattle.gr_event.specs.declared.event.EventFault.TheVariants as event
+use Rattle.gr_event.specs.Limits.{IsEvent}
 use Rattle.gr_sched.specs.declared.fault.StepFault.{StepFault}
 use Rattle.gr_sched.specs.declared.fault.StepFault.TheVariants.{BadEvent, TooMany}
 use Rattle.gr_sched.specs.declared.step.TheConstants.{MAX_NUMBER, MAX_STEPS}
@@ -16,16 +17,23 @@ IsNamed number_of number = (name : List ℕ) × (number_of name ≡ Some number)
 abbrev pub IsStop : Stop → Type 0
 IsStop stop = (1 ≤ stop.call) × (stop.call ≤ 4) × (stop.pick ≤ 255)
 
--- a step whose numbers are in their ranges, and whose brokers and publishers are named
+-- a step whose numbers are in their ranges, whose event is within the limits of events, and whose names are known
 abbrev pub IsStep : (List ℕ → Option ℕ) → (List ℕ → Option ℕ) → Step → Type 0
 IsStep broker_of publisher_of (Clock now) = now ≤ MAX_NUMBER
-IsStep broker_of publisher_of (Publish publisher number stop event) = IsNamed publisher_of publisher × (1 ≤ number) × (number ≤ MAX_NUMBER) × IfSome stop IsStop
+IsStep broker_of publisher_of (Publish publisher number stop event) =
+    IsNamed publisher_of publisher × (1 ≤ number) × (number ≤ MAX_NUMBER) × IfSome stop IsStop × IsEvent event
 IsStep broker_of publisher_of (Wake broker) = IsNamed broker_of broker
 IsStep broker_of publisher_of (Deliver frame) = frame ≤ MAX_NUMBER
 IsStep broker_of publisher_of (Crash broker) = IsNamed broker_of broker
 IsStep broker_of publisher_of Sweep = Unit {0}
 IsStep broker_of publisher_of Show = Unit {0}
 IsStep broker_of publisher_of (Bytes frame) = frame ≤ MAX_NUMBER
+
+-- a moment is not past the greatest, and a published event is within the limits of events
+abbrev pub IsInLimits : Step → Type 0
+IsInLimits (Clock now) = now ≤ MAX_NUMBER
+IsInLimits (Publish publisher number stop event) = IsEvent event
+IsInLimits _ = Unit {0}
 
 -- where n lines are counted: there are too many only above the limit, and the fault of an event is never want of memory
 abbrev pub IsFault : ℕ → StepFault → Type 0

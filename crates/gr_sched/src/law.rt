@@ -1,11 +1,20 @@
-//! What holds of printed steps. The function here does nothing: its contract is the law.
+//! What holds of printed steps, and what the limits are. The functions here do nothing: their contracts are the laws.
 
-ghost use Rattle.std.specs.Prelude.{◌≡◌, ℕ, List, Option, Ok};
+ghost use Rattle.std.specs.Prelude.{◌≡◌, ◌^◌, ℕ, List, Option, Ok};
+ghost use Rattle.gr_sched.specs.declared.step.TheConstants.{MAX_BYTES, MAX_NUMBER, MAX_STEPS};
 ghost use Rattle.gr_sched.specs.declared.step.Step.{Step};
 ghost use Rattle.gr_sched.specs.Grammar.{step_of};
 ghost use Rattle.gr_sched.specs.Printed.{Writing, step_text, IsWritten};
 
 /// A printed step reads back, on any line and with any names.
 pub fn printed_steps_read_back()
-    ensures { (broker_of : List ℕ → Option ℕ) (publisher_of : List ℕ → Option ℕ) (n : ℕ) (w : Writing) (s : Step) → IsWritten broker_of publisher_of w s → step_of broker_of publisher_of n (step_text w s) ≡ Ok s }
+    ensures { (broker_of : List ℕ → Option ℕ) (publisher_of : List ℕ → Option ℕ) (n : ℕ) (w : Writing) (s : Step)
+        → IsWritten broker_of publisher_of w s → step_of broker_of publisher_of n (step_text w s) ≡ Ok s }
+{}
+
+/// What the limits of schedules are.
+pub fn limits_of_schedules()
+    ensures steps { MAX_STEPS ≡ 100000 }
+    ensures number { MAX_NUMBER ≡ 2 ^ 62 }
+    ensures bytes { MAX_BYTES ≡ 4194304 }
 {}

@@ -5,7 +5,7 @@
 #![tactic(auto)]
 
 pub mod fault;
-pub mod law;
+mod law;
 pub mod schedule;
 pub mod step;
 pub mod text;
@@ -13,6 +13,7 @@ mod verb;
 mod words;
 
 pub use fault::StepFault;
+pub use law::{limits_of_schedules, printed_steps_read_back};
 pub use schedule::parse;
 pub use step::{Line, MAX_BYTES, MAX_NUMBER, MAX_STEPS, Names, Step, Steps, Stop};
 pub use text::{count, is_blank, split};

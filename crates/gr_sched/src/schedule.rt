@@ -1,12 +1,14 @@
 //! From lines to steps.
 
-ghost use Rattle.std.specs.Prelude.{◌≡◌, ℕ, ◌+◌, ◌-◌, ◌<◌, ◌≤◌, ◌^◌, IfSome, IfOk, IfErr, length};
-ghost use Rattle.std.specs.List.{All, slice_get};
+ghost use Rattle.std.specs.Prelude.{◌≡◌, ◌≢◌, Err, ℕ, ◌+◌, ◌-◌, ◌<◌, ◌≤◌, ◌^◌, IfSome, IfOk, IfErr, length};
+ghost use Rattle.std.specs.List.{All, AllByRecursion, slice_get};
 ghost use Rattle.std.specs.Option.{option_map};
-ghost use Rattle.gr_sched.specs.declared.step.TheConstants.{MAX_BYTES};
+ghost use Rattle.gr_sched.specs.declared.step.TheConstants.{MAX_BYTES, MAX_STEPS};
+ghost use Rattle.gr_sched.specs.declared.fault.StepFault.TheVariants.{TooMany};
 ghost use Rattle.gr_sched.specs.Text.{counted_lines};
 ghost use Rattle.gr_sched.specs.Words.{Gives, ended, known, next_word};
-ghost use Rattle.gr_sched.specs.Ranges.{IsStep, IsFault};
+ghost use Rattle.gr_sched.specs.Ranges.{IsStep, IsInLimits, IsFault};
+ghost use Rattle.gr_event.specs.Limits.{IsEvent};
 ghost use Rattle.gr_sched.specs.Grammar.{next_name, after_pick, stop_of, next_stop, event_of, publish_of, step_by, step_of, lines_of, steps_of};
 
 use crate::fault::StepFault;
@@ -94,7 +96,8 @@ fn next_stop(line: u32, text: &[u8]) -> Result<(Option<Stop>, &[u8]), StepFault>
 /// The rest of line `line` as an event.
 #[tactic(auto, using(crate::proofs::Faults::other_fault))]
 fn event_of(alloc: Global, line: u32, text: &[u8]) -> Result<Event, StepFault>
-    ensures { Gives (λ e. e) result (event_of line text.now) }
+    ensures gives { Gives (λ e. e) result (event_of line text.now) }
+    ensures limits { IfOk result IsEvent }
 {
     if text.is_empty() {
         return Err(StepFault::BadWord { line });
@@ -108,7 +111,8 @@ fn event_of(alloc: Global, line: u32, text: &[u8]) -> Result<Event, StepFault>
 
 /// The publish of line `line` behind its word.
 fn publish_of<N: Names>(alloc: Global, line: u32, text: &[u8], names: &N) -> Result<Step, StepFault>
-    ensures { Gives (λ s. s) result (publish_of (N.publisher_of names.now) line text.now) }
+    ensures gives { Gives (λ s. s) result (publish_of (N.publisher_of names.now) line text.now) }
+    ensures limits { IfOk result IsInLimits }
 {
     let (publisher, rest) = next_publisher(line, text, names)?;
     let (number, rest) = next_number(line, 1, MAX_NUMBER, rest)?;
@@ -130,7 +134,8 @@ fn step_by<N: Names>(
     text: &[u8],
     names: &N,
 ) -> Result<Step, StepFault>
-    ensures { Gives (λ s. s) result (step_by (N.broker_of names.now) (N.publisher_of names.now) line verb text.now) }
+    ensures gives { Gives (λ s. s) result (step_by (N.broker_of names.now) (N.publisher_of names.now) line verb text.now) }
+    ensures limits { IfOk result IsInLimits }
 {
     match verb {
         Verb::Clock => {
@@ -161,7 +166,8 @@ fn step_by<N: Names>(
 
 /// The step of line `number`.
 fn step_of<N: Names>(alloc: Global, number: u32, line: &[u8], names: &N) -> Result<Step, StepFault>
-    ensures { Gives (λ s. s) result (step_of (N.broker_of names.now) (N.publisher_of names.now) number line.now) }
+    ensures gives { Gives (λ s. s) result (step_of (N.broker_of names.now) (N.publisher_of names.now) number line.now) }
+    ensures limits { IfOk result IsInLimits }
 {
     let (word, rest) = next_word(number, trimmed(line))?;
     match verb_of(word) {
@@ -192,7 +198,9 @@ fn past_limit(steps: &[u8]) -> Option<u64>
 /// The steps of the counted lines.
 fn read_lines<N: Names>(alloc: Global, steps: &[u8], names: &N) -> Result<Steps, StepFault>
     requires { length steps.now ≤ MAX_BYTES }
-    ensures { Gives (λ s. s) result (lines_of (N.broker_of names.now) (N.publisher_of names.now) (counted_lines steps.now)) }
+    ensures gives { let counted = counted_lines steps.now in
+        Gives (λ s. s) result (lines_of (N.broker_of names.now) (N.publisher_of names.now) counted) }
+    ensures limits { IfOk result (λ s. AllByRecursion (λ line. IsInLimits line.step) s) }
 {
     let mut found = Steps::new(alloc);
     let mut before = 0;
@@ -215,10 +223,15 @@ fn read_lines<N: Names>(alloc: Global, steps: &[u8], names: &N) -> Result<Steps,
 pub fn parse<N: Names>(alloc: Global, steps: &[u8], names: &N) -> Result<Steps, StepFault>
     requires { length steps.now ≤ MAX_BYTES }
     ensures steps { Gives (λ s. s) result (steps_of (N.broker_of names.now) (N.publisher_of names.now) steps.now) }
-    ensures range { IfOk result (λ s. All (λ line. IsStep (N.broker_of names.now) (N.publisher_of names.now) line.step) s) }
+    // Every step has its numbers in their ranges, an event within its limits, and names that are known.
+    ensures range { let is_step = IsStep (N.broker_of names.now) (N.publisher_of names.now) in
+        IfOk result (λ s. All (λ line. is_step line.step) s) }
+    ensures limits { IfOk result (λ s. AllByRecursion (λ line. IsInLimits line.step) s) }
     ensures all { IfOk result (λ s. length s ≡ length (counted_lines steps.now)) }
     ensures few { IfOk result (λ s. length s ≤ MAX_STEPS) }
     ensures cause { IfErr result (IsFault (length (counted_lines steps.now))) }
+    // With no more counted lines than the limit there are not too many.
+    ensures not_many { length (counted_lines steps.now) ≤ MAX_STEPS → (n : ℕ) → result ≢ Err (TooMany n) }
 {
     match past_limit(steps) {
         Some(number) => Err(StepFault::TooMany {
