@@ -3,7 +3,7 @@ use Rattle.std.proofs.Common.{◌≡◌, ℕ, suc, ◌+◌, ◌-◌, ◌<◌, �
 use Rattle.std.proofs.lemmas.List.{append_assoc, append-nil}
 use Rattle.std.specs.List.{filter}
 use Rattle.gr_tree.specs.Walks.{numbers_from, numbers}
-use Rattle.gr_topo.specs.Topology.{is_some_list}
+use Rattle.gr_topo.specs.Topology.{not_empty}
 
 -- the numbers from one on begin with it
 pub numbers_next : (i n : ℕ) → i < n → numbers_from i (n - i) ≡ i ∷ numbers_from (i + 1) (n - (i + 1))
@@ -30,11 +30,11 @@ numbers_all n = let a : n - 0 ≡ n = omega arith in ap (numbers_from 0) a
 
 -- ---- whether any passes
 
-pub some_passes : (test : ℕ → Bool) (xs : List ℕ) (i n : ℕ) → filter test (numbers_from i (n - i)) ≡ xs → i < n → test i ≡ true → true ≡ is_some_list xs
-some_passes test xs i n inv h t = sym (ap is_some_list (sym inv ∙ passes_here test [] i n h t))
+pub some_passes : (test : ℕ → Bool) (xs : List ℕ) (i n : ℕ) → filter test (numbers_from i (n - i)) ≡ xs → i < n → test i ≡ true → true ≡ not_empty xs
+some_passes test xs i n inv h t = sym (ap not_empty (sym inv ∙ passes_here test [] i n h t))
 
-pub none_passes : (test : ℕ → Bool) (xs : List ℕ) (i n : ℕ) → filter test (numbers_from i (n - i)) ≡ xs → n ≤ i → false ≡ is_some_list xs
-none_passes test xs i n inv h = sym (ap is_some_list (sym inv ∙ ap (filter test) (numbers_done i n h)))
+pub none_passes : (test : ℕ → Bool) (xs : List ℕ) (i n : ℕ) → filter test (numbers_from i (n - i)) ≡ xs → n ≤ i → false ≡ not_empty xs
+none_passes test xs i n inv h = sym (ap not_empty (sym inv ∙ ap (filter test) (numbers_done i n h)))
 
 pub skips_here : (test : ℕ → Bool) (xs : List ℕ) (i n : ℕ) → filter test (numbers_from i (n - i)) ≡ xs → i < n → test i ≡ false → filter test (numbers_from (i + 1) (n - (i + 1))) ≡ xs
 skips_here test xs i n inv h t = sym (fails_here test [] i n h t) ∙ inv

@@ -10,6 +10,8 @@ use Rattle.gr_tree.specs.declared.link.Link.{Link}
 use Rattle.gr_tree.specs.Walks.{is_tree}
 use Rattle.gr_topo.specs.declared.fault.TopoFault.{TopoFault}
 use Rattle.gr_topo.specs.declared.fault.TopoFault.TheVariants.{Twice, Unknown, NotTree, BadFilter, TooMany, BadAddress, BadName, BadRange}
+use Rattle.gr_topo.specs.declared.limits.TheConstants.{MAX_NAME}
+use Rattle.gr_topo.specs.declared.settings.TheConstants.{MOST_TIME, MOST_CACHE}
 use Rattle.gr_topo.specs.declared.settings.Settings.{Settings}
 use Rattle.gr_topo.specs.declared.settings.WrittenSettings.{WrittenSettings}
 use Rattle.gr_topo.specs.Draft.{AddressLists}
@@ -35,7 +37,7 @@ abbrev pub is_name_byte : ℕ → Bool
 is_name_byte c = is_letter c || (nat_le 48 c && nat_le c 57) || c == 95 || c == 46 || c == 45
 
 abbrev pub is_name : List ℕ → Bool
-is_name name = nat_lt 0 (length name) && nat_le (length name) 64 && list_all is_name_byte name
+is_name name = nat_lt 0 (length name) && nat_le (length name) MAX_NAME && list_all is_name_byte name
 
 -- each name is one
 abbrev pub good_name : Unit {0} → List ℕ → Result (Unit {0}) TopoFault
@@ -84,11 +86,11 @@ in_range key most (negsuc n) = Err (BadRange key)
 
 unfoldable pub settings_of : WrittenSettings → Result Settings TopoFault
 settings_of w = do
-  gap ← in_range (codes "gap") 1000000000 w.gap
-  idle ← in_range (codes "idle") 1000000000 w.idle
-  retry ← in_range (codes "retry") 1000000000 w.retry
-  quiet ← in_range (codes "quiet") 1000000000 w.quiet
-  cache ← in_range (codes "cache") 1000000 w.cache
+  gap ← in_range (codes "gap") MOST_TIME w.gap
+  idle ← in_range (codes "idle") MOST_TIME w.idle
+  retry ← in_range (codes "retry") MOST_TIME w.retry
+  quiet ← in_range (codes "quiet") MOST_TIME w.quiet
+  cache ← in_range (codes "cache") MOST_CACHE w.cache
   Ok (record { gap = gap; idle = idle; retry = retry; quiet = quiet; cache = cache })
 
 -- ---- filters

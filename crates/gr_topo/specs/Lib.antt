@@ -1,6 +1,7 @@
 pub mod Topology
 pub mod Gives
 pub mod Draft
+pub mod Fault
 pub mod Shape
 pub mod Seen
 pub mod Checks

@@ -6,6 +6,7 @@ use Rattle.toml.specs.Data.{Members}
 use Rattle.toml.specs.Parse.{parse_document}
 use Rattle.gr_sched.specs.Text.{is_blank}
 use Rattle.gr_tree.specs.declared.link.Link.{Link}
+use Rattle.gr_topo.specs.declared.limits.TheConstants.{MAX_BROKERS, MAX_PUBLISHERS, MAX_SUBSCRIBERS}
 use Rattle.gr_topo.specs.declared.fault.TopoFault.{TopoFault}
 use Rattle.gr_topo.specs.declared.fault.TopoFault.TheVariants.{NotToml}
 use Rattle.gr_topo.specs.Draft.{DraftLists}
@@ -17,9 +18,9 @@ use Rattle.gr_topo.specs.Checks.{few, good_names, apart, brokers_in, links_in, t
 -- the three lists of names: not too many, each a name, none twice
 unfoldable pub names_checked : List (List ℕ) → List (List ℕ) → List (List ℕ) → Result (Unit {0}) TopoFault
 names_checked brokers publishers subscribers = do
-  _ ← few 64 (codes "brokers") (length brokers)
-  _ ← few 64 (codes "publisher") (length publishers)
-  _ ← few 1024 (codes "subscriber") (length subscribers)
+  _ ← few MAX_BROKERS (codes "brokers") (length brokers)
+  _ ← few MAX_PUBLISHERS (codes "publisher") (length publishers)
+  _ ← few MAX_SUBSCRIBERS (codes "subscriber") (length subscribers)
   _ ← good_names brokers
   _ ← good_names publishers
   _ ← good_names subscribers

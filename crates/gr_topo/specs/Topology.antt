@@ -6,6 +6,8 @@ use Rattle.gr_filter.specs.Tree.{Tree}
 use Rattle.gr_filter.specs.Truth.{matches}
 use Rattle.gr_tree.specs.declared.link.Link.{Link}
 use Rattle.gr_tree.specs.Walks.{numbers, is_linked, IsWithin, is_tree, distance, up_of, path_of, IsRooted, HasOnlyPaths}
+use Rattle.gr_topo.specs.declared.limits.TheConstants.{MAX_BROKERS, MAX_PUBLISHERS, MAX_SUBSCRIBERS}
+use Rattle.gr_topo.specs.declared.settings.TheConstants.{MOST_TIME, MOST_CACHE}
 use Rattle.gr_topo.specs.declared.settings.Settings.{Settings}
 
 -- Brokers, publishers and subscribers by their numbers, from 0: the names of each; the links between brokers; the brokers
@@ -23,9 +25,9 @@ pub record TopologyView : Type 0 where
 
 -- how many of each there may be
 pub record IsWithinLimits (t : TopologyView) : Type 0 where
-  pub brokers : length t.brokers ≤ 64
-  pub publishers : length t.publishers ≤ 64
-  pub subscribers : length t.subscribers ≤ 1024
+  pub brokers : length t.brokers ≤ MAX_BROKERS
+  pub publishers : length t.publishers ≤ MAX_PUBLISHERS
+  pub subscribers : length t.subscribers ≤ MAX_SUBSCRIBERS
 
 -- the name of this number
 abbrev pub name_at : List (List ℕ) → ℕ → List ℕ
@@ -98,22 +100,26 @@ passes_by t p b from = list_any (λ x. nat_eq x b) (path_to_host t p from)
 abbrev pub below_of : TopologyView → ℕ → ℕ → List ℕ
 below_of t p b = filter (λ s. passes_by t p b (home_of t s)) (numbers (length t.subscribers))
 
-abbrev pub is_some_list : {A : Type 0} → List A → Bool
-is_some_list [] = false
-is_some_list (x ∷ xs) = true
+abbrev pub is_empty : {A : Type 0} → List A → Bool
+is_empty [] = true
+is_empty (x ∷ xs) = false
+
+abbrev pub not_empty : {A : Type 0} → List A → Bool
+not_empty [] = false
+not_empty (x ∷ xs) = true
 
 -- a broker keeps a horizon for a publisher where it has subscribers or no children
 abbrev pub keeps_horizon_at : TopologyView → ℕ → ℕ → Bool
-keeps_horizon_at t p b = is_some_list (subscribers_of t b) || not (is_some_list (children_of t p b))
+keeps_horizon_at t p b = not_empty (subscribers_of t b) || is_empty (children_of t p b)
 
 -- ---- what holds of every topology
 
 pub record IsInRange (s : Settings) : Type 0 where
-  pub gap : (1 ≤ s.gap) × (s.gap ≤ 1000000000)
-  pub idle : (1 ≤ s.idle) × (s.idle ≤ 1000000000)
-  pub retry : (1 ≤ s.retry) × (s.retry ≤ 1000000000)
-  pub quiet : (1 ≤ s.quiet) × (s.quiet ≤ 1000000000)
-  pub cache : (1 ≤ s.cache) × (s.cache ≤ 1000000)
+  pub gap : (1 ≤ s.gap) × (s.gap ≤ MOST_TIME)
+  pub idle : (1 ≤ s.idle) × (s.idle ≤ MOST_TIME)
+  pub retry : (1 ≤ s.retry) × (s.retry ≤ MOST_TIME)
+  pub quiet : (1 ≤ s.quiet) × (s.quiet ≤ MOST_TIME)
+  pub cache : (1 ≤ s.cache) × (s.cache ≤ MOST_CACHE)
 
 -- the parts of a topology fit one another: each number is one of a broker, and the brokers are a tree
 pub record IsSound (t : TopologyView) : Type 0 where

@@ -1,8 +1,13 @@
 //! Why a text is no topology.
 
+ghost use Rattle.std.specs.Prelude.{◌≡◌, ◌≤◌};
+ghost use Rattle.gr_topo.specs.Fault.{fault_number, fault_word};
+
 use gr_event::Text;
 use gr_filter::FilterFault;
 use std::alloc::{AllocError, AllocFailed};
+use std::error::Error;
+use std::fmt;
 
 /// Want of memory.
 pub type Memory = AllocError;
@@ -26,7 +31,7 @@ pub enum TopoFault {
     NotTree,
     /// The filter of this subscriber is no filter; the fault is never `Memory`.
     BadFilter { name: Text, fault: FilterFault },
-    /// There are more brokers, publishers or subscribers than 64, 64 and 1,024.
+    /// There are more brokers, publishers or subscribers than the limits allow.
     TooMany { key: Text },
     /// The address of this broker is no address.
     BadAddress { name: Text },
@@ -37,6 +42,65 @@ pub enum TopoFault {
     /// A setting is not in its range.
     BadRange { key: Text },
 }
+
+impl TopoFault {
+    /// Its number: 0 for `Memory`, and from 1 to 12 for the others.
+    pub fn number(&self) -> u8
+        ensures number { result ≡ fault_number self.now }
+        ensures most { result ≤ 12 }
+    {
+        match self {
+            TopoFault::Memory => 0,
+            TopoFault::NotToml => 1,
+            TopoFault::BadKey { .. } => 2,
+            TopoFault::BadType { .. } => 3,
+            TopoFault::Twice { .. } => 4,
+            TopoFault::Unknown { .. } => 5,
+            TopoFault::NotTree => 6,
+            TopoFault::BadFilter { .. } => 7,
+            TopoFault::TooMany { .. } => 8,
+            TopoFault::BadAddress { .. } => 9,
+            TopoFault::Missing { .. } => 10,
+            TopoFault::BadName { .. } => 11,
+            TopoFault::BadRange { .. } => 12,
+        }
+    }
+
+    /// Its word in a report, without the key or name.
+    pub fn word(&self) -> &'static str
+        ensures { result.now ≡ fault_word self.now }
+    {
+        match self {
+            TopoFault::Memory => "memory",
+            TopoFault::NotToml => "not-toml",
+            TopoFault::BadKey { .. } => "bad-key",
+            TopoFault::BadType { .. } => "bad-type",
+            TopoFault::Twice { .. } => "twice",
+            TopoFault::Unknown { .. } => "unknown",
+            TopoFault::NotTree => "not-tree",
+            TopoFault::BadFilter { .. } => "bad-filter",
+            TopoFault::TooMany { .. } => "too-many",
+            TopoFault::BadAddress { .. } => "bad-address",
+            TopoFault::Missing { .. } => "missing",
+            TopoFault::BadName { .. } => "bad-name",
+            TopoFault::BadRange { .. } => "bad-range",
+        }
+    }
+}
+
+impl fmt::Display for TopoFault {
+    fn fmt<W: fmt::Write>(&self, f: &mut fmt::Formatter<W>) -> fmt::Result {
+        f.write_str(self.word())
+    }
+}
+
+impl fmt::Debug for TopoFault {
+    fn fmt<W: fmt::Write>(&self, f: &mut fmt::Formatter<W>) -> fmt::Result {
+        f.write_str(self.word())
+    }
+}
+
+impl Error for TopoFault {}
 
 impl From<AllocError> for TopoFault {
     ghost use Rattle.std.specs.Prelude.{◌≡◌};

@@ -8,6 +8,7 @@
 mod check;
 mod draft;
 pub mod fault;
+pub mod limits;
 mod names;
 mod parts;
 mod read;
@@ -16,6 +17,7 @@ mod shape;
 pub mod topology;
 
 pub use fault::{Memory, TopoFault};
+pub use limits::{MAX_BROKERS, MAX_NAME, MAX_PUBLISHERS, MAX_SUBSCRIBERS, limits_of_topologies};
 pub use settings::Settings;
 pub use topology::Topology;
 

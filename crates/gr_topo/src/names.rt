@@ -5,8 +5,10 @@ ghost use Rattle.std.specs.List.{list_all};
 ghost use Rattle.gr_topo.specs.Topology.{number_of};
 ghost use Rattle.gr_topo.specs.Gives.{Gives, walk, each};
 ghost use Rattle.gr_topo.specs.Checks.{few, is_name_byte, is_name, good_names, apart, broker_in, brokers_in, link_in, links_in};
+ghost use Rattle.gr_topo.specs.declared.limits.TheConstants.{MAX_BROKERS};
 
 use crate::fault::TopoFault;
+use crate::limits::MAX_NAME;
 use gr_event::Text;
 use gr_tree::Link;
 use indexmap::IndexSet;
@@ -14,7 +16,7 @@ use std::alloc::Global;
 
 /// The number of a name.
 pub(crate) fn position_of(names: &[Text], name: &[u8]) -> Option<u16>
-    requires { length names.now ≤ 64 }
+    requires { length names.now ≤ MAX_BROKERS }
     ensures { result ≡ number_of names.now name.now }
 {
     match place_of(names, name) {
@@ -66,7 +68,7 @@ fn has_name_bytes(name: &[u8]) -> bool
 fn is_name(name: &[u8]) -> bool
     ensures { result ≡ is_name name.now }
 {
-    !name.is_empty() && name.len() <= 64 && has_name_bytes(name)
+    !name.is_empty() && name.len() <= MAX_NAME && has_name_bytes(name)
 }
 
 /// Whether each text is a name.
@@ -102,7 +104,7 @@ pub(crate) fn apart(alloc: Global, names: &[Text]) -> Result<(), TopoFault>
 
 /// The number of a broker by its name.
 fn broker_in(alloc: Global, brokers: &[Text], name: &Text) -> Result<u16, TopoFault>
-    requires { length brokers.now ≤ 64 }
+    requires { length brokers.now ≤ MAX_BROKERS }
     ensures { Gives (λ b. b) result (broker_in brokers.now name.now) }
 {
     match position_of(brokers, name.as_slice()) {
@@ -119,7 +121,7 @@ pub(crate) fn brokers_in(
     brokers: &[Text],
     names: &[Text],
 ) -> Result<Vec<u16>, TopoFault>
-    requires { length brokers.now ≤ 64 }
+    requires { length brokers.now ≤ MAX_BROKERS }
     ensures { Gives (λ v. v.items) result (brokers_in brokers.now names.now) }
 {
     let mut numbers = Vec::new(alloc);
@@ -134,7 +136,7 @@ pub(crate) fn brokers_in(
 
 /// A link by the names of its ends.
 fn link_in(alloc: Global, brokers: &[Text], ends: &(Text, Text)) -> Result<Link, TopoFault>
-    requires { length brokers.now ≤ 64 }
+    requires { length brokers.now ≤ MAX_BROKERS }
     ensures { Gives (λ l. l) result (link_in brokers.now ends.now) }
 {
     let one = broker_in(alloc, brokers, &ends.0)?;
@@ -148,7 +150,7 @@ pub(crate) fn links_in(
     brokers: &[Text],
     pairs: &[(Text, Text)],
 ) -> Result<Vec<Link>, TopoFault>
-    requires { length brokers.now ≤ 64 }
+    requires { length brokers.now ≤ MAX_BROKERS }
     ensures { Gives (λ v. v.items) result (links_in brokers.now pairs.now) }
 {
     let mut links = Vec::new(alloc);

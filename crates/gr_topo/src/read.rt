@@ -9,10 +9,12 @@ ghost use Rattle.gr_topo.specs.Checks.{tree_of};
 ghost use Rattle.gr_topo.specs.Read.{names_checked, resolved_in, topology_of, draft_topology, table_topology, document, document_topology, topology_text};
 ghost use Rattle.gr_topo.specs.Parts.{resolved_lists};
 ghost use Rattle.gr_topo.specs.Columns.{HasColumns};
+ghost use Rattle.gr_topo.specs.declared.limits.TheConstants.{MAX_BROKERS};
 
 use crate::check::{addresses_of, filters_in, settings_of};
 use crate::draft::Draft;
 use crate::fault::TopoFault;
+use crate::limits::{MAX_BROKERS, MAX_PUBLISHERS, MAX_SUBSCRIBERS};
 use crate::names::{apart, brokers_in, few, good_names, links_in};
 use crate::parts::{Parts, Resolved};
 use crate::shape::draft_in;
@@ -32,11 +34,11 @@ fn names_checked(
     subscribers: &[Text],
 ) -> Result<(), TopoFault>
     ensures gives { Gives (λ x. x) result (names_checked brokers.now publishers.now subscribers.now) }
-    ensures few { OnOk result (length brokers.now ≤ 64) }
+    ensures few { OnOk result (length brokers.now ≤ MAX_BROKERS) }
 {
-    few(alloc, 64, "brokers", brokers.len())?;
-    few(alloc, 64, "publisher", publishers.len())?;
-    few(alloc, 1024, "subscriber", subscribers.len())?;
+    few(alloc, MAX_BROKERS, "brokers", brokers.len())?;
+    few(alloc, MAX_PUBLISHERS, "publisher", publishers.len())?;
+    few(alloc, MAX_SUBSCRIBERS, "subscriber", subscribers.len())?;
     good_names(alloc, brokers)?;
     good_names(alloc, publishers)?;
     good_names(alloc, subscribers)?;

@@ -4,7 +4,7 @@ ghost use Rattle.std.specs.Prelude.{◌≡◌, ℕ, ◌<◌, ◌≤◌, List, le
 ghost use Rattle.std.specs.Option.{option_map};
 ghost use Rattle.gr_filter.specs.Tree.{tree_of as filter_tree};
 ghost use Rattle.gr_tree.specs.Walks.{IsWithin, IsRooted, HasOnlyPaths, is_tree, places_of};
-ghost use Rattle.gr_topo.specs.Topology.{IsSound, IsTopology, name_at, number_of, blank, host_of, home_of, filter_of, address_of, up_at, depth_at, children_of, subscribers_of, passes_by, below_of, keeps_horizon_at, is_child_at, is_some_list};
+ghost use Rattle.gr_topo.specs.Topology.{IsSound, IsTopology, name_at, number_of, blank, host_of, home_of, filter_of, address_of, up_at, depth_at, children_of, subscribers_of, passes_by, below_of, keeps_horizon_at, is_child_at, not_empty};
 
 use crate::fault::Memory;
 use crate::names::position_of;
@@ -315,7 +315,7 @@ impl Topology {
 
     /// Whether a broker has a subscriber.
     fn has_subscriber(&self, b: u16) -> bool
-        ensures { result ≡ is_some_list (subscribers_of self.now b) }
+        ensures { result ≡ not_empty (subscribers_of self.now b) }
     {
         for s in 0..self.subscribers() {
             if self.at(s) == b {
@@ -329,7 +329,7 @@ impl Topology {
     fn has_child(&self, p: u16, b: u16) -> bool
         requires publisher { p < length self.now.publishers }
         requires broker { b < length self.now.brokers }
-        ensures { result ≡ is_some_list (children_of self.now p b) }
+        ensures { result ≡ not_empty (children_of self.now p b) }
     {
         for c in 0..self.brokers() {
             if self.is_child(p, b, c) {
