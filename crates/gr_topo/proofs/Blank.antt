@@ -1,11 +1,11 @@
 -- The blank topology is sound
-use Rattle.std.proofs.Common.{◌≡◌, ℕ, zero, suc, ◌<◌, true, false, List, [], ◌∷◌, get_or, Option, refl, ⊎_elim, arith}
+use Rattle.std.proofs.Common.{◌≡◌, ℕ, zero, suc, ◌<◌, true, false, List, [], ◌∷◌, get_or, Option, Some, refl, ⊎_elim, arith}
 use Rattle.std.proofs.lemmas.Bool.{false≢true, or_cases}
 use Rattle.gr_filter.specs.Tree.{Tree}
 use Rattle.gr_tree.specs.declared.link.Link.{Link}
 use Rattle.gr_tree.specs.Walks.{joins, IsWithin, is_reached, is_tree}
 use Rattle.gr_tree.proofs.Links.{ends}
-use Rattle.gr_topo.specs.Topology.{IsSound, blank, default_values}
+use Rattle.gr_topo.specs.Topology.{IsSound, AreNames, number_of, name_at, blank, default_values}
 
 abbrev one_link : List Link
 one_link = blank.links
@@ -32,8 +32,28 @@ home_two : (s : ℕ) → get_or (1 ∷ []) s 0 < 2
 home_two zero = omega arith
 home_two (suc s) = omega arith
 
+two_found : (b : ℕ) → b < 2 → number_of blank.brokers (name_at blank.brokers b) ≡ Some b
+two_found zero h = refl
+two_found (suc zero) h = refl
+two_found (suc (suc b)) h = absurd (omega arith)
+
+one_found : (p : ℕ) → p < 1 → number_of blank.publishers (name_at blank.publishers p) ≡ Some p
+one_found zero h = refl
+one_found (suc p) h = absurd (omega arith)
+
+other_found : (s : ℕ) → s < 1 → number_of blank.subscribers (name_at blank.subscribers s) ≡ Some s
+other_found zero h = refl
+other_found (suc s) h = absurd (omega arith)
+
+brokers_named : AreNames blank.brokers
+brokers_named = record { each = (refl, (refl, tt)); found = two_found }
+
 pub blank_sound : IsSound blank
 blank_sound = record {
+  broker_names = brokers_named;
+  publisher_names = record { each = (refl, tt); found = one_found };
+  subscriber_names = record { each = (refl, tt); found = other_found };
+  addressed = (tt, (tt, tt));
   limits = record { brokers = omega arith; publishers = omega arith; subscribers = omega arith };
   hosts = refl;
   homes = refl;

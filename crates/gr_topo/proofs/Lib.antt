@@ -1,4 +1,6 @@
 pub mod Faults
+pub mod Steps
+pub mod Named
 pub mod Walked
 pub mod Numbering
 pub mod NameTurns

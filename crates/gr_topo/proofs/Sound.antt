@@ -22,24 +22,9 @@ use Rattle.gr_topo.specs.Gives.{◌>>=◌, walk, one_more, each}
 use Rattle.gr_topo.specs.Columns.{AreColumns, HasColumns}
 use Rattle.gr_topo.specs.Shape.{entry_in, one_entry, entries_in, array_in, members_list, root_key, no_draft, draft_in, texts_in, pairs_in, addresses_in, settings_in}
 use Rattle.gr_topo.specs.Checks.{passes, few, known, broker_in, brokers_in, link_in, links_in, in_range, settings_of, filters_in, filter_beside, addresses_of, address_in, tree_of}
-use Rattle.gr_topo.specs.Topology.{number_of, IsInRange, IsSound}
-
--- what gave a value, step by step
-pub first_gave : {A B : Type 0} (r : Result A TopoFault) (f : A → Result B TopoFault) (y : B) → (r >>= f) ≡ Ok y → (x : A) × (r ≡ Ok x) × (f x ≡ Ok y)
-first_gave (Ok x) f y h = (x, refl, h)
-first_gave (Err e) f y h = absurd (err_ok e y h)
-  where
-    err_ok : {B : Type 0} (e : TopoFault) (y : B) → Err e ≡ Ok y → ⊥
-    err_ok e y h = cc
-
-pub ok_same : {A : Type 0} (x y : A) → ◌≡◌ {A = Result A TopoFault} (Ok x) (Ok y) → x ≡ y
-ok_same x y h = cc
-
--- what each step keeps, the whole reading keeps
-pub walk_keeps : {S A : Type 0} (P : S → Type 0) (f : S → A → Result S TopoFault) → ((s : S) (x : A) (next : S) → P s → f s x ≡ Ok next → P next) → (xs : List A) (s r : S) → P s → walk f s xs ≡ Ok r → P r
-unfolding walk
-walk_keeps P f step [] s r p h = subst P (ok_same s r h) p
-walk_keeps P f step (x ∷ xs) s r p h = let w = first_gave (f s x) (λ n. walk f n xs) r h in walk_keeps P f step xs w.0 r (step s x w.0 p w.1) w.2
+use Rattle.gr_topo.specs.Topology.{number_of, AreNames, IsInRange, IsSound}
+use Rattle.gr_topo.proofs.Steps.{first_gave, ok_same, walk_keeps}
+use Rattle.gr_topo.proofs.Named.{names_named, addresses_addressed}
 
 -- as many are given as are read
 each_length_from : {A B : Type 0} (f : A → Result B TopoFault) (xs : List A) (found ys : List B) → walk (one_more f) found xs ≡ Ok ys → length ys ≡ length found + length xs
@@ -214,6 +199,7 @@ a_tree n links x h = go (is_tree n links) refl h
     go false e k = absurd (err_ok NotTree x k)
 
 pub record IsResolved (brokers : List (List ℕ)) (d : DraftLists) (r : ResolvedLists) : Type 0 where
+  pub named : AreNames brokers × AreNames d.publishers.names × AreNames d.subscribers.names
   pub few_brokers : length brokers ≤ 64
   pub few_publishers : length d.publishers.names ≤ 64
   pub few_subscribers : length d.subscribers.names ≤ 1024
@@ -236,6 +222,7 @@ resolved_facts brokers d r h =
     let fits = names_fit brokers d.publishers.names d.subscribers.names names.0 names.1 in
     let made : ◌≡◌ {A = ResolvedLists} (record { links = links.0; hosts = hosts.0; homes = homes.0 }) r = ok_same _ _ tree.2 in
     subst (IsResolved brokers d) made (record {
+      named = names_named brokers d.publishers.names d.subscribers.names names.0 names.1;
       few_brokers = fits.0;
       few_publishers = fits.1;
       few_subscribers = fits.2;
@@ -259,6 +246,10 @@ read_sound brokers d r s fs as_given cols found set filters addresses =
     let filter_count : length fs ≡ length d.subscribers.names = omega (arith, count, length-zip d.subscribers.names d.subscribers.filters, cols.subscribers.filters) in
     record {
       limits = record { brokers = f.few_brokers; publishers = f.few_publishers; subscribers = f.few_subscribers };
+      broker_names = f.named.0;
+      publisher_names = f.named.1;
+      subscriber_names = f.named.2;
+      addressed = addresses_addressed d.addresses brokers as_given addresses;
       hosts = host_count;
       homes = home_count;
       filters = filter_count;

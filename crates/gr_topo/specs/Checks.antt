@@ -5,17 +5,16 @@ use Rattle.std.specs.Option.{option_and_then}
 use Rattle.gr_filter.specs.declared.fault.FilterFault.{FilterFault}
 use Rattle.gr_filter.specs.Grammar.{filter_text}
 use Rattle.gr_filter.specs.Tree.{Tree}
-use Rattle.gr_sched.specs.Words.{is_number_in}
 use Rattle.gr_tree.specs.declared.link.Link.{Link}
 use Rattle.gr_tree.specs.Walks.{is_tree}
 use Rattle.gr_topo.specs.declared.fault.TopoFault.{TopoFault}
 use Rattle.gr_topo.specs.declared.fault.TopoFault.TheVariants.{Twice, Unknown, NotTree, BadFilter, TooMany, BadAddress, BadName, BadRange}
-use Rattle.gr_topo.specs.declared.limits.TheConstants.{MAX_NAME}
 use Rattle.gr_topo.specs.declared.settings.TheConstants.{MOST_TIME, MOST_CACHE}
 use Rattle.gr_topo.specs.declared.settings.Settings.{Settings}
 use Rattle.gr_topo.specs.declared.settings.WrittenSettings.{WrittenSettings}
 use Rattle.gr_topo.specs.Draft.{AddressLists}
 use Rattle.gr_topo.specs.Gives.{◌>>=◌, walk, each}
+pub use Rattle.gr_topo.specs.Names.{is_letter, is_name_byte, is_name, behind_octet, port_of, is_port, is_address}
 use Rattle.gr_topo.specs.Topology.{number_of}
 
 -- a test that says nothing but its fault
@@ -28,16 +27,6 @@ passes false fault = Err fault
 -- no more than so many
 abbrev pub few : ℕ → List ℕ → ℕ → Result (Unit {0}) TopoFault
 few most key count = passes (nat_le count most) (TooMany key)
-
-abbrev pub is_letter : ℕ → Bool
-is_letter c = (nat_le 65 c && nat_le c 90) || (nat_le 97 c && nat_le c 122)
-
--- a letter, a digit, '_', '.' or '-'
-abbrev pub is_name_byte : ℕ → Bool
-is_name_byte c = is_letter c || (nat_le 48 c && nat_le c 57) || c == 95 || c == 46 || c == 45
-
-abbrev pub is_name : List ℕ → Bool
-is_name name = nat_lt 0 (length name) && nat_le (length name) MAX_NAME && list_all is_name_byte name
 
 -- each name is one
 abbrev pub good_name : Unit {0} → List ℕ → Result (Unit {0}) TopoFault
@@ -112,24 +101,6 @@ abbrev pub filters_in : List (List ℕ × Option (List ℕ)) → Result (List (O
 filters_in subscribers = each filter_beside subscribers
 
 -- ---- addresses
-
--- a number of 0 to 255 in 1 to 3 digits before a mark: what follows the mark
-abbrev pub behind_octet : ℕ → List ℕ → Option (List ℕ)
-behind_octet mark text =
-    let end = position_or_len (λ c. c == mark) text in
-    if nat_lt end (length text) && is_number_in 3 0 255 (take end text) then Some (drop (end + 1) text) else None
-
--- the port of an address: what follows four numbers, three dots between them and ':'; 46 is '.', 58 is ':'
-abbrev pub port_of : List ℕ → Option (List ℕ)
-port_of text = option_and_then (behind_octet 58) (option_and_then (behind_octet 46) (option_and_then (behind_octet 46) (behind_octet 46 text)))
-
--- a port of 1 to 65535 in 1 to 5 digits
-abbrev pub is_port : Option (List ℕ) → Bool
-is_port None = false
-is_port (Some text) = is_number_in 5 1 65535 text
-
-unfoldable pub is_address : List ℕ → Bool
-is_address text = is_port (port_of text)
 
 -- the address of a broker, if it has one
 abbrev pub good_address : List ℕ → Option (List ℕ) → Result (Option (List ℕ)) TopoFault

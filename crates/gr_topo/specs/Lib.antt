@@ -6,6 +6,7 @@ pub mod Shape
 pub mod Seen
 pub mod Checks
 pub mod Read
+pub mod Names
 pub mod Parts
 pub mod TreeCode
 pub mod Columns

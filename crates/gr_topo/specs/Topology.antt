@@ -1,11 +1,12 @@
 -- A topology as callers see it.
 use Rattle.std.specs.Prelude.{◌≡◌, ℕ, ◌<◌, ◌≤◌, Bool, true, false, not, ◌&&◌, ◌||◌, nat_eq, List, [], ◌∷◌, length, filter, Option, Some, None, bytes_eq, codes, slice_index, slice_index_or}
-use Rattle.std.specs.List.{position, list_any}
+use Rattle.std.specs.List.{AllByRecursion, position, list_any}
 use Rattle.gr_event.specs.declared.event.Event.{Event}
 use Rattle.gr_filter.specs.Tree.{Tree}
 use Rattle.gr_filter.specs.Truth.{matches}
 use Rattle.gr_tree.specs.declared.link.Link.{Link}
 use Rattle.gr_tree.specs.Walks.{numbers, is_linked, IsWithin, is_tree, distance, up_of, path_of, IsRooted, HasOnlyPaths}
+use Rattle.gr_topo.specs.Names.{is_name, is_address}
 use Rattle.gr_topo.specs.declared.limits.TheConstants.{MAX_BROKERS, MAX_PUBLISHERS, MAX_SUBSCRIBERS}
 use Rattle.gr_topo.specs.declared.settings.TheConstants.{MOST_TIME, MOST_CACHE}
 use Rattle.gr_topo.specs.declared.settings.Settings.{Settings}
@@ -121,9 +122,23 @@ pub record IsInRange (s : Settings) : Type 0 where
   pub quiet : (1 ≤ s.quiet) × (s.quiet ≤ MOST_TIME)
   pub cache : (1 ≤ s.cache) × (s.cache ≤ MOST_CACHE)
 
+-- each is a name, and is found back under its number, so no two are the same
+pub record AreNames (names : List (List ℕ)) : Type 0 where
+  pub each : AllByRecursion (λ name. is_name name ≡ true) names
+  pub found : (i : ℕ) → i < length names → number_of names (name_at names i) ≡ Some i
+
+-- an address, where there is one
+abbrev pub IsAddressed : Option (List ℕ) → Type 0
+IsAddressed None = Unit {0}
+IsAddressed (Some text) = is_address text ≡ true
+
 -- the parts of a topology fit one another: each number is one of a broker, and the brokers are a tree
 pub record IsSound (t : TopologyView) : Type 0 where
   pub limits : IsWithinLimits t
+  pub broker_names : AreNames t.brokers
+  pub publisher_names : AreNames t.publishers
+  pub subscriber_names : AreNames t.subscribers
+  pub addressed : AllByRecursion IsAddressed t.addresses
   pub hosts : length t.hosts ≡ length t.publishers
   pub homes : length t.homes ≡ length t.subscribers
   pub filters : length t.filters ≡ length t.subscribers

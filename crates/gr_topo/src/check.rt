@@ -114,7 +114,7 @@ fn port_of(text: &[u8]) -> Option<&[u8]>
 }
 
 /// Whether a text is an address: four numbers with dots between, a colon and a port.
-#[tactic(auto, unfolding(crate::specs::Checks::is_address))]
+#[tactic(auto, unfolding(crate::specs::Names::is_address))]
 fn is_address(text: &[u8]) -> bool
     ensures { result ≡ is_address text.now }
 {
