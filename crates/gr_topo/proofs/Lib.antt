@@ -1,6 +1,7 @@
 pub mod Faults
 pub mod Steps
 pub mod Named
+pub mod Refusals
 pub mod Walked
 pub mod Numbering
 pub mod NameTurns

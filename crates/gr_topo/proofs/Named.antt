@@ -1,5 +1,5 @@
 -- What passes the tests of names: each is a name, and each is found back under its number; and addresses that pass are addresses
-use Rattle.std.proofs.Common.{◌≡◌, ℕ, zero, suc, ◌+◌, ◌<◌, Bool, true, false, not, ◌||◌, List, [], ◌∷◌, ◌++◌, length, get_or, Option, Some, None, Result, Ok, Err, refl, sym, ap, ◌∙◌, subst, inl, inr, ⊎_elim, arith, cond, append_assoc, length-append}
+use Rattle.std.proofs.Common.{◌≡◌, ℕ, zero, suc, ◌+◌, ◌<◌, Bool, true, false, not, ◌||◌, List, [], ◌∷◌, ◌++◌, length, get_or, Option, Some, None, Ok, refl, sym, ap, ◌∙◌, subst, ⊎_elim, arith, cond, append_assoc, length-append}
 use Rattle.std.specs.Prelude.{codes, bytes_eq, nat_lt}
 use Rattle.std.specs.List.{AllByRecursion, list_any, position_or_len}
 use Rattle.std.proofs.lemmas.Bool.{false≢true, cases_Bool, cond-true, cond-false, lt-ltb, not_from_false, not_from_true, not-true}
@@ -9,7 +9,7 @@ use Rattle.gr_topo.specs.declared.fault.TopoFault.{TopoFault}
 use Rattle.gr_topo.specs.declared.fault.TopoFault.TheVariants.{BadName, BadAddress, Twice}
 use Rattle.gr_topo.specs.declared.limits.TheConstants.{MAX_BROKERS, MAX_PUBLISHERS, MAX_SUBSCRIBERS}
 use Rattle.gr_topo.specs.Draft.{AddressLists}
-use Rattle.gr_topo.specs.Gives.{◌>>=◌, walk, one_more}
+use Rattle.gr_topo.specs.Gives.{walk, one_more}
 use Rattle.gr_topo.specs.Names.{is_name, is_address}
 use Rattle.gr_topo.specs.Checks.{passes, few, good_name, good_names, seen_once, apart, good_address, address_in, addresses_of}
 use Rattle.gr_topo.specs.Read.{names_checked}

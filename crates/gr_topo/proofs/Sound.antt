@@ -18,7 +18,7 @@ use Rattle.gr_topo.specs.Read.{names_checked, ResolvedLists, resolved_in}
 use Rattle.gr_topo.specs.declared.settings.Settings.{Settings}
 use Rattle.gr_topo.specs.declared.settings.WrittenSettings.{WrittenSettings}
 use Rattle.gr_topo.specs.Draft.{EntryLists, DraftLists, with_entry, no_entries}
-use Rattle.gr_topo.specs.Gives.{◌>>=◌, walk, one_more, each}
+use Rattle.gr_topo.specs.Gives.{walk, one_more, each}
 use Rattle.gr_topo.specs.Columns.{AreColumns, HasColumns}
 use Rattle.gr_topo.specs.Shape.{entry_in, one_entry, entries_in, array_in, members_list, root_key, no_draft, draft_in, texts_in, pairs_in, addresses_in, settings_in}
 use Rattle.gr_topo.specs.Checks.{passes, few, known, broker_in, brokers_in, link_in, links_in, in_range, settings_of, filters_in, filter_beside, addresses_of, address_in, tree_of}

@@ -1,14 +1,15 @@
 -- What is tested of a topology part whose shape is right, one test after the other
-use Rattle.std.specs.Prelude.{ℕ, ℤ, pos, negsuc, ◌+◌, ◌==◌, Bool, true, false, not, ◌&&◌, ◌||◌, nat_le, nat_lt, if◌then◌else◌, List, [], ◌∷◌, ◌++◌, length, take, drop, Option, Some, None, Result, Ok, Err, codes, bytes_eq}
-use Rattle.std.specs.List.{list_all, list_any, slice_get, position_or_len}
+use Rattle.std.specs.Prelude.{ℕ, ℤ, pos, negsuc, Bool, true, false, not, ◌&&◌, nat_le, if◌then◌else◌, List, [], ◌∷◌, ◌++◌, Option, Some, None, Result, Ok, Err, codes, bytes_eq}
+use Rattle.std.specs.List.{list_any, slice_get}
 use Rattle.std.specs.Option.{option_and_then}
 use Rattle.gr_filter.specs.declared.fault.FilterFault.{FilterFault}
+use Rattle.gr_filter.specs.declared.fault.FilterFault.TheVariants as filter_fault
 use Rattle.gr_filter.specs.Grammar.{filter_text}
 use Rattle.gr_filter.specs.Tree.{Tree}
 use Rattle.gr_tree.specs.declared.link.Link.{Link}
 use Rattle.gr_tree.specs.Walks.{is_tree}
 use Rattle.gr_topo.specs.declared.fault.TopoFault.{TopoFault}
-use Rattle.gr_topo.specs.declared.fault.TopoFault.TheVariants.{Twice, Unknown, NotTree, BadFilter, TooMany, BadAddress, BadName, BadRange}
+use Rattle.gr_topo.specs.declared.fault.TopoFault.TheVariants.{Memory, Twice, Unknown, NotTree, BadFilter, TooMany, BadAddress, BadName, BadRange}
 use Rattle.gr_topo.specs.declared.settings.TheConstants.{MOST_TIME, MOST_CACHE}
 use Rattle.gr_topo.specs.declared.settings.Settings.{Settings}
 use Rattle.gr_topo.specs.declared.settings.WrittenSettings.{WrittenSettings}
@@ -84,9 +85,10 @@ settings_of w = do
 
 -- ---- filters
 
--- the tree, or the fault with the subscriber's name
+-- the tree, or the fault with the subscriber's name; want of memory stands by itself
 abbrev pub filter_or_fault : List ℕ → Result Tree FilterFault → Result (Option Tree) TopoFault
 filter_or_fault name (Ok tree) = Ok (Some tree)
+filter_or_fault name (Err filter_fault.Memory) = Err Memory
 filter_or_fault name (Err fault) = Err (BadFilter name fault)
 
 abbrev pub filter_in : List ℕ → Option (List ℕ) → Result (Option Tree) TopoFault

@@ -1,5 +1,6 @@
--- The number and the word of each refusal of a topology
+-- The number and the word of each refusal of a topology, and what no refusal is
 use Rattle.std.specs.Prelude.{ℕ, List, codes}
+use Rattle.gr_filter.specs.declared.fault.FilterFault.TheVariants as filter
 use Rattle.gr_topo.specs.declared.fault.TopoFault.{TopoFault}
 use Rattle.gr_topo.specs.declared.fault.TopoFault.TheVariants as fault
 
@@ -34,3 +35,8 @@ fault_word (fault.BadAddress name) = codes "bad-address"
 fault_word (fault.Missing key) = codes "missing"
 fault_word (fault.BadName name) = codes "bad-name"
 fault_word (fault.BadRange key) = codes "bad-range"
+
+-- the fault of a filter is never want of memory: that is the fault of the whole
+abbrev pub IsRefusal : TopoFault → Type 0
+IsRefusal (fault.BadFilter name filter.Memory) = ⊥
+IsRefusal _ = Unit {0}

@@ -1,9 +1,10 @@
 //! Reading a topology.
 
-ghost use Rattle.std.specs.Prelude.{◌≡◌, ◌≤◌, ◌<◌, length, true, IfOk, OnOk};
+ghost use Rattle.std.specs.Prelude.{◌≡◌, ◌≤◌, ◌<◌, length, true, IfOk, IfErr, OnOk};
 ghost use Rattle.toml.specs.View.{table_view};
 ghost use Rattle.gr_tree.specs.Walks.{IsWithin};
 ghost use Rattle.gr_topo.specs.Gives.{Gives};
+ghost use Rattle.gr_topo.specs.Fault.{IsRefusal};
 ghost use Rattle.gr_topo.specs.Draft.{draft_lists};
 ghost use Rattle.gr_topo.specs.Checks.{tree_of};
 ghost use Rattle.gr_topo.specs.Read.{names_checked, resolved_in, topology_of, draft_topology, table_topology, document, document_topology, topology_text};
@@ -157,7 +158,9 @@ impl Topology {
     /// A part of nothing but spaces, tabs and ends of lines stands for the blank topology.
     #[tactic(auto, unfolding(crate::specs::Read::topology_text))]
     pub fn read(alloc: Global, bytes: &[u8]) -> Result<Topology, TopoFault>
-        ensures { Gives (λ t. t) result (topology_text bytes.now) }
+        ensures gives { Gives (λ t. t) result (topology_text bytes.now) }
+        // The fault of a filter is never want of memory.
+        ensures cause { IfErr result IsRefusal }
     {
         if is_blank(bytes) {
             return Ok(Topology::blank(alloc)?);
