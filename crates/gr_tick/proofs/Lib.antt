@@ -7,3 +7,4 @@ pub mod LawLemmas
 pub mod WalkLemmas
 pub mod SteadyLemmas
 pub mod SeekLemmas
+pub mod ToldLemmas

@@ -198,13 +198,13 @@ module _ {V : Type 0} where
       by_cases true = refl
       by_cases false = refl
 
-  growth_in : (a l : ℕ) (xs : List (Run V)) → a ≤ l → growth a l xs ≡ 1 + room a l xs
+  pub growth_in : (a l : ℕ) (xs : List (Run V)) → a ≤ l → growth a l xs ≡ 1 + room a l xs
   growth_in a l xs le = cond-true (leb a l) _ _ (le-leb a l le)
 
   growth_out : (a l : ℕ) (xs : List (Run V)) → l < a → growth a l xs ≡ 0
   growth_out a l xs lt = cond-false (leb a l) _ _ (lt-leb a l lt)
 
-  growth_most : (a l : ℕ) (xs : List (Run V)) → growth a l xs ≤ 1 + room a l xs
+  pub growth_most : (a l : ℕ) (xs : List (Run V)) → growth a l xs ≤ 1 + room a l xs
   growth_most a l xs = cond_both (leb a l) _ _ (λ n. n ≤ 1 + room a l xs) (λ _. omega arith) (λ _. omega arith)
 
   front_needs : (a l : ℕ) (r : Run V) → 1 ≤ r.first → r.first ≤ a → a ≤ l → a ≤ r.last → cond (leb r.first (a - 1)) 1 0 ≤ cond (needs_room a l r) 1 0

@@ -1,8 +1,8 @@
 -- Lists of runs whose ticks are in range, and what their changes need
-use Rattle.std.specs.Prelude.{◌≡◌, ◌≢◌, ℕ, ◌+◌, ◌^◌, ◌<◌, ◌≤◌, ◌==◌, Bool, not, ◌&&◌, nat_le, nat_lt, cond, List, [], ◌∷◌}
+use Rattle.std.specs.Prelude.{◌≡◌, ◌≢◌, ℕ, ◌+◌, ◌^◌, ◌<◌, ◌≤◌, ◌==◌, Bool, false, not, ◌&&◌, ◌||◌, nat_le, nat_lt, cond, List, [], ◌∷◌}
 use Rattle.std.specs.List.{count_by}
 use Rattle.gr_tick.specs.declared.run.Run.{Run}
-use Rattle.gr_tick.specs.Runs.{value_at, AreRuns}
+use Rattle.gr_tick.specs.Runs.{is_in, value_at, AreRuns}
 
 -- whether a tick lies in a range
 abbrev pub within : ℕ → ℕ → ℕ → Bool
@@ -79,6 +79,11 @@ module _ {V : Type 0} where
   -- the run of a range, or none where the range is empty
   abbrev pub part : ℕ → ℕ → V → List (Run V)
   part first last v = cond (nat_le first last) (record { first = first; last = last; value = v } ∷ []) []
+
+  -- whether a tick is in one of the runs
+  abbrev pub is_told : List (Run V) → ℕ → Bool
+  is_told [] t = false
+  is_told (r ∷ rs) t = is_in t r || is_told rs t
 
   -- the room that is enough to join each run of a list
   abbrev pub needed : List (Run V) → List (Run V) → ℕ

@@ -2,7 +2,7 @@
 ghost use Rattle.std.specs.Prelude.{if◌then◌else◌, MatchOption, IfOk, ◌≡◌, ◌≢◌, ℕ, ◌+◌, ◌-◌, ◌<◌, ◌≤◌, ◌&&◌, nat_le, cond, List, [], ◌∷◌, ◌++◌, length, take, drop, insert, ◌^◌, ◌⊎◌};
 ghost use Rattle.std.specs.List.{HoldsAt};
 ghost use Rattle.gr_tick.specs.Runs.{value_at, is_in};
-ghost use Rattle.gr_tick.specs.Stored.{IsRun, AreTickRuns, EndBefore, BeginBy, BeginAfter, part, room, growth, within, between, runs_in, needed};
+ghost use Rattle.gr_tick.specs.Stored.{IsRun, AreTickRuns, EndBefore, BeginBy, BeginAfter, part, room, growth, within, between, runs_in, is_told, needed};
 
 use crate::MAX_TICK;
 use crate::lattice::{Lattice, is_bottom};
@@ -10,13 +10,17 @@ use crate::run::Run;
 use gr_gap::Gap;
 use std::alloc::AllocError;
 
-/// Equal runs, or `AllocError`.
-pub fn copy_runs<V: Lattice>(runs: &Gap<Run<V>>) -> Result<Gap<Run<V>>, AllocError>
-    ensures { IfOk result (λ copy. copy.items ≡ runs.now.items) }
+/// Equal runs with room for so many more, or `AllocError`.
+pub fn copy_runs<V: Lattice>(runs: &Gap<Run<V>>, more: usize) -> Result<Gap<Run<V>>, AllocError>
+    ensures items { IfOk result (λ copy. copy.items ≡ runs.now.items) }
+    ensures spare { IfOk result (λ copy. more ≤ copy.spare) }
 {
     let mut copy = Gap::new(runs.allocator());
     let count = runs.len();
-    copy.reserve(count)?;
+    let Some(room) = count.checked_add(more) else {
+        return Err(AllocError);
+    };
+    copy.reserve(room)?;
     for i in 0..count {
         let run = runs.get(i);
         copy.insert(
@@ -299,6 +303,9 @@ fn join_step<V: Lattice>(runs: &mut Gap<Run<V>>, first: u64, last: u64, value: &
         join_gap(runs, i, first, start - 1, value);
         return start - 1;
     }
+    if value.at_most(&run.value) {
+        return last.min(stop);
+    }
     if last < stop {
         join_run(runs, i, first, last, value);
         return last;
@@ -526,9 +533,25 @@ pub fn join_each<V: Lattice>(runs: &mut Gap<Run<V>>, others: &Gap<Run<V>>)
     requires others { AreTickRuns V.least others.now.items }
     ensures runs { AreTickRuns V.least runs.new.items }
     ensures values { (t : ℕ) → value_at V.least runs.new.items t ≡ V.join_of (value_at V.least runs.old.items t) (value_at V.least others.now.items t) }
+    ensures spare { runs.old.spare ≤ runs.new.spare + needed runs.old.items others.now.items }
 {
     for i in 0..others.len() {
         let other = others.get(i);
         join_over(runs, other.first, other.last, &other.value);
+    }
+}
+
+/// Puts the least value at each tick of a list's runs.
+pub fn lower_each<V: Lattice>(runs: &mut Gap<Run<V>>, others: &Gap<Run<V>>)
+    requires room { length others.now.items ≤ runs.old.spare }
+    requires runs { AreTickRuns V.least runs.old.items }
+    requires others { AreTickRuns V.least others.now.items }
+    ensures runs { AreTickRuns V.least runs.new.items }
+    ensures values { (t : ℕ) → value_at V.least runs.new.items t ≡ (if is_told others.now.items t then V.least else value_at V.least runs.old.items t) }
+    ensures spare { runs.old.spare ≤ runs.new.spare + length others.now.items }
+{
+    for i in 0..others.len() {
+        let other = others.get(i);
+        lower_over(runs, other.first, other.last);
     }
 }

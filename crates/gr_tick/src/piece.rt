@@ -1,8 +1,8 @@
-ghost use Rattle.std.specs.Prelude.{if◌then◌else◌, ◌≡◌, ◌≢◌, ◌↔◌, IsTrue, ℕ, ◌+◌, ◌<◌, ◌≤◌, ◌^◌, List, [], ◌∷◌, ◌++◌, length, slice_get, Some, OnOk, OnErr, IfOk, min, max};
+ghost use Rattle.std.specs.Prelude.{if◌then◌else◌, ◌≡◌, ◌≢◌, ◌↔◌, IsTrue, ℕ, ◌+◌, ◌<◌, ◌≤◌, ◌^◌, List, [], ◌∷◌, ◌++◌, length, take, drop, slice_get, Some, OnOk, OnErr, IfOk, min, max};
 ghost use Rattle.gr_tick.specs.Runs.{value_at, is_in, AreRuns};
 ghost use Rattle.gr_tick.specs.Stored.{within, IsRun, AreTickRuns, EndBefore, RunsGive};
 
-use crate::edits::{copy_runs, put_run, steady_until, value_in};
+use crate::edits::{copy_runs, put_run, seek, steady_until, value_in};
 use crate::lattice::Lattice;
 use crate::run::Run;
 use gr_gap::Gap;
@@ -44,7 +44,7 @@ impl<V: Lattice> Piece<V> {
     pub fn copy(&self) -> Result<Piece<V>, AllocError>
         ensures { IfOk result (λ piece. piece ≡ self.now) }
     {
-        let runs = copy_runs(&self.runs)?;
+        let runs = copy_runs(&self.runs, 0)?;
         Ok(Piece { runs })
     }
 
@@ -117,6 +117,16 @@ impl<V: Lattice> Piece<V> {
         ensures alone { IsRun V.least result.now }
     {
         self.runs.get(i)
+    }
+
+    /// The place of the first run that ends at a tick or later: the number of runs where none does. Runs are walked from there
+    /// by their places, without a look-up for each. It takes no memory.
+    pub fn seek(&self, tick: u64) -> usize
+        ensures within { result ≤ length self.now }
+        ensures front { EndBefore (take result self.now) tick }
+        ensures here { (r : Run V) (rs : List (Run V)) → drop result self.now ≡ r ∷ rs → tick ≤ r.last }
+    {
+        seek(&self.runs, tick)
     }
 
     /// The value at a tick: that of its run, or the least value. It takes no memory.

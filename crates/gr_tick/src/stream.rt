@@ -1,11 +1,11 @@
-ghost use Rattle.std.specs.Prelude.{if◌then◌else◌, ◌≡◌, ◌≢◌, ℕ, ◌+◌, ◌^◌, ◌<◌, ◌≤◌, [], ◌∷◌, ◌++◌, length, take, drop, slice_get, Some, OnOk, OnErr, IfOk, IsOk};
+ghost use Rattle.std.specs.Prelude.{if◌then◌else◌, MatchOption, ◌≡◌, ◌≢◌, ℕ, ◌+◌, ◌^◌, ◌<◌, ◌≤◌, List, [], ◌∷◌, ◌++◌, length, take, drop, slice_get, Some, OnOk, OnErr, IfOk, IsOk};
 ghost use Rattle.std.specs.List.{HoldsAt};
 ghost use Rattle.gr_tick.specs.Runs.{value_at, AreRuns, first_bottom_from, top_of};
-ghost use Rattle.gr_tick.specs.Stored.{runs_in, within, IsRun, AreTickRuns, EndBefore, RunsGive, needed, part};
+ghost use Rattle.gr_tick.specs.Stored.{runs_in, within, IsRun, AreTickRuns, EndBefore, RunsGive, is_told, needed, part};
 
 use crate::edits::{
-    begun_by, copy_runs, count_in, join_each, join_over, lower_front, lower_over, next_bottom,
-    room_for, seek, set_over, steady_until, value_in,
+    begun_by, copy_runs, count_in, join_each, join_over, lower_each, lower_front, lower_over,
+    next_bottom, room_for, seek, set_over, steady_until, value_in,
 };
 use crate::lattice::{Lattice, is_bottom};
 use crate::piece::Piece;
@@ -13,6 +13,9 @@ use crate::run::Run;
 use gr_gap::Gap;
 use std::alloc::{AllocError, Global};
 use std::marker::Model;
+
+/// How many runs more a copy has room for, besides as many as it has.
+const COPY_SPARE: usize = 4;
 
 /// A function from ticks to values that is the least value but on a list of runs, which is edited in place: what is known, or
 /// asked, of each tick. It is seen as the list of its runs and its spare, how many runs more fit before memory is asked for.
@@ -46,11 +49,16 @@ impl<V: Lattice> Stream<V> {
         }
     }
 
-    /// A stream with equal runs. It fails only where memory is refused.
+    /// A stream with equal runs, which has room for the edits that follow: for as many runs more as it has, and 4. It fails
+    /// only where memory is refused.
     pub fn copy(&self) -> Result<Stream<V>, AllocError>
-        ensures { IfOk result (λ stream. stream.runs ≡ self.now.runs) }
+        ensures runs { IfOk result (λ stream. stream.runs ≡ self.now.runs) }
+        ensures spare { IfOk result (λ stream. length self.now.runs + 4 ≤ stream.spare) }
     {
-        let runs = copy_runs(&self.runs)?;
+        let Some(more) = self.runs.len().checked_add(COPY_SPARE) else {
+            return Err(AllocError);
+        };
+        let runs = copy_runs(&self.runs, more)?;
         Ok(Stream { runs })
     }
 
@@ -100,6 +108,16 @@ impl<V: Lattice> Stream<V> {
         steady_until(&self.runs, tick)
     }
 
+    /// The place of the first run that ends at a tick or later: the number of runs where none does. Runs are walked from there
+    /// by their places, without a look-up for each. It takes no memory.
+    pub fn seek(&self, tick: u64) -> usize
+        ensures within { result ≤ length self.now.runs }
+        ensures front { EndBefore (take result self.now.runs) tick }
+        ensures here { (r : Run V) (rs : List (Run V)) → drop result self.now.runs ≡ r ∷ rs → tick ≤ r.last }
+    {
+        seek(&self.runs, tick)
+    }
+
     /// How many runs have a tick of the range: with one more, the spare that a join on it needs. It takes no memory.
     pub fn runs_in(&self, first: u64, last: u64) -> usize
         ensures { result ≡ runs_in first last self.now.runs }
@@ -141,6 +159,7 @@ impl<V: Lattice> Stream<V> {
     /// refused; then the stream is as it was.
     pub fn join_piece(&mut self, piece: &Piece<V>) -> Result<(), AllocError>
         ensures joined { OnOk result (RunsGive V.least self.new.runs (λ t. V.join_of (value_at V.least self.old.runs t) (value_at V.least piece.now t))) }
+        ensures spare { self.old.spare ≤ self.new.spare + needed self.old.runs piece.now }
         ensures succeeds { needed self.old.runs piece.now < 2 ^ 64 → needed self.old.runs piece.now ≤ self.old.spare → IsOk result }
         ensures err { OnErr result (self.new ≡ self.old) }
     {
@@ -151,6 +170,32 @@ impl<V: Lattice> Stream<V> {
         self.runs.reserve(room)?;
         join_each(&mut self.runs, others);
         Ok(())
+    }
+
+    /// The spare that is enough to join a piece, or `None` where it is no 64-bit number. It takes no memory.
+    pub fn room_for(&self, piece: &Piece<V>) -> Option<usize>
+        ensures { MatchOption result (2 ^ 64 ≤ needed self.now.runs piece.now) (λ n. n ≡ needed self.now.runs piece.now) }
+    {
+        room_for(&self.runs, piece.runs())
+    }
+
+    /// Joins a piece, tick by tick, where the room for it is there, as `room_for` says. It takes no memory.
+    pub fn join_ready(&mut self, piece: &Piece<V>)
+        requires { needed self.old.runs piece.now ≤ self.old.spare }
+        ensures joined { RunsGive V.least self.new.runs (λ t. V.join_of (value_at V.least self.old.runs t) (value_at V.least piece.now t)) }
+        ensures spare { self.old.spare ≤ self.new.spare + needed self.old.runs piece.now }
+    {
+        join_each(&mut self.runs, piece.runs());
+    }
+
+    /// Takes a piece out: puts the least value at each tick of its runs, whatever was there. It takes no memory: a spare of as
+    /// many runs as the piece has must be there.
+    pub fn lower_piece(&mut self, piece: &Piece<V>)
+        requires { length piece.now ≤ self.old.spare }
+        ensures lowered { RunsGive V.least self.new.runs (λ t. if is_told piece.now t then V.least else value_at V.least self.old.runs t) }
+        ensures spare { self.old.spare ≤ self.new.spare + length piece.now }
+    {
+        lower_each(&mut self.runs, piece.runs());
     }
 
     /// Puts the value at each tick of the range, whatever was there. It takes no memory: a spare of 2 has to be there.
@@ -178,6 +223,18 @@ impl<V: Lattice> Stream<V> {
         self.runs.reserve(1)?;
         lower_over(&mut self.runs, first, last);
         Ok(())
+    }
+
+    /// Puts the least value at each tick of the range. It takes no memory: a spare of 1 has to be there.
+    pub fn lower_ready(&mut self, first: u64, last: u64)
+        requires from_one { 1 ≤ first }
+        requires ordered { first ≤ last }
+        requires upto { last ≤ 2 ^ 62 }
+        requires room { 1 ≤ self.old.spare }
+        ensures lowered { RunsGive V.least self.new.runs (λ t. if within first last t then V.least else value_at V.least self.old.runs t) }
+        ensures spare { self.old.spare ≤ self.new.spare + 1 }
+    {
+        lower_over(&mut self.runs, first, last);
     }
 
     /// Puts the least value at the first ticks of the run at place `i`, up to `last`, which is one of its ticks. It takes no

@@ -33,4 +33,5 @@ loop-i-preserved g c =
       runs = c.join_over.ensures.runs;
       values = λ t. each_more g.V.Lattice.least g.V.Lattice.join_of g.V.Lattice.is_at_most c.args.others.now.items c.loop-i.i t c.get-other.result.now _ _ _ g.met.V.Lattice.laws (omega arith) c.get-other.ensures c.requires.others (c.loop-i.invariant.values t) (c.join_over.ensures.values t);
       room = omega (arith, first, rest, growth-le c.get-other.result.now.first c.get-other.result.now.last c.loop-i.runs.items);
+      spare = omega (arith, c.loop-i.invariant.spare, first, rest, growth-le c.get-other.result.now.first c.get-other.result.now.last c.loop-i.runs.items);
     }
