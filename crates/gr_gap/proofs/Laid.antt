@@ -1,6 +1,8 @@
 -- How values lie round a gap, and what a write and a read beside the gap make of it.
-use Rattle.std.proofs.Common.{◌≡◌, ℕ, zero, suc, ◌+◌, ◌-◌, ◌<◌, ◌≤◌, List, [], ◌∷◌, ◌++◌, map, length, drop, set, get_or, remove, replicate, Option, Some, None, refl, sym, ap, ◌∙◌, subst, arith, length-append, take_at, drop_at, append_assoc, ◌⊎◌, inl, inr}
-use Rattle.std.proofs.lemmas.List.{length-map, length-replicate}
+use Rattle.std.proofs.Common.{◌≡◌, ℕ, zero, suc, ◌+◌, ◌-◌, ◌<◌, ◌≤◌, List, [], ◌∷◌, ◌++◌, map, length, take, drop, set, get_or, remove, replicate, Option, Some, None, refl, sym, ap, ◌∙◌, subst, arith, length-append, take_at, drop_at, append_assoc, ◌⊎◌, inl, inr}
+use Rattle.std.proofs.lemmas.List.{length-map, length-replicate, append-nil}
+use Rattle.gr_gap.specs.Places.{turned}
+use Rattle.gr_gap.proofs.Turned.{turned_at}
 use Rattle.gr_gap.specs.Halves.{somes, laid, front_of, back_of, HasGap}
 
 module _ {X : Type 0} where
@@ -59,6 +61,10 @@ module _ {X : Type 0} where
         back,
       )
 
+  -- empty places
+  pub vacant : (room : ℕ) (cs : List (Option X)) → cs ≡ replicate room None → HasGap 0 0 room cs × (front_of 0 cs ≡ []) × (back_of (room - 0) cs ≡ [])
+  vacant room cs e = has_gap [] [] room 0 0 room cs (e ∙ sym (append-nil (replicate room None))) refl refl (omega arith)
+
   -- the last of the front and the rest, and the last free place and the back
   snoc : (f : List X) (v : X) (rest : List (Option X)) → map Some f ++ Some v ∷ rest ≡ map Some (f ++ v ∷ []) ++ rest
   snoc [] v rest = refl
@@ -67,6 +73,10 @@ module _ {X : Type 0} where
   free_last : (k : ℕ) (rest : List (Option X)) → replicate (suc k) None ++ rest ≡ replicate k None ++ None ∷ rest
   free_last zero rest = refl
   free_last (suc k) rest = ap (λ l. None ∷ l) (free_last k rest)
+
+  pub no_items : (xs : List X) → length xs ≡ 0 → xs ≡ []
+  no_items [] e = refl
+  no_items (x ∷ xs) e = absurd (omega arith)
 
   cut_end : (xs : List X) → 0 < length xs → (us : List X) × (x : X) × (xs ≡ us ++ x ∷ [])
   cut_end [] h = absurd (omega arith)
@@ -200,6 +210,25 @@ module _ {X : Type 0} (before after room : ℕ) (cs : List (Option X)) (h : HasG
       let made = has_gap f w (suc k) before (after - 1) room (set cs (room - after) None)
       (ap (λ l. set l (room - after) None) is ∙ put-at pre (map Some w) (Some v) None (room - after) at ∙ sym (free_step f w k)) (sym front) (omega arith) (omega (arith, h.within)) in
       (v, ap (λ l. get_or l (room - after) None) is ∙ item-at pre (map Some w) (Some v) (room - after) None at, made.0, made.1, on.2 ∙ ap (λ l. v ∷ l) (sym made.2))
+
+  -- the values of the front as those of the back, where there was none
+  pub wrapped_back : after ≡ 0 → let new = drop before cs ++ take before cs in
+      HasGap 0 before room new × (front_of 0 new ≡ []) × (back_of (room - before) new ≡ f)
+  wrapped_back none =
+      let front = h.front in let back = h.back in let empty : b ≡ [] = no_items b (omega (arith, none)) in
+      let is : cs ≡ map Some f ++ replicate k None = h.places ∙ ap (λ l. laid f k l) empty ∙ ap (λ l. map Some f ++ l) (append-nil (replicate k None)) in
+      let long : length (map Some f) ≡ before = omega (arith, length-map f Some) in
+      has_gap [] f k 0 before room (drop before cs ++ take before cs) (ap (turned before) is ∙ turned_at (map Some f) (replicate k None) before long) refl (sym front) (omega (arith, h.within, none))
+
+  -- and the values of the back as those of the front
+  pub wrapped_front : before ≡ 0 → let at = room - after in let new = drop at cs ++ take at cs in
+      HasGap after 0 room new × (front_of after new ≡ b) × (back_of (room - 0) new ≡ [])
+  wrapped_front none =
+      let front = h.front in let back = h.back in let empty : f ≡ [] = no_items f (omega (arith, none)) in
+      let is : cs ≡ replicate k None ++ map Some b = h.places ∙ ap (λ l. laid l k b) empty in
+      let long : length (replicate k (free {X = X})) ≡ room - after = omega (arith, length-replicate k (free {X = X}), none) in
+      has_gap b [] k after 0 room (drop (room - after) cs ++ take (room - after) cs)
+      (ap (turned (room - after)) is ∙ turned_at (replicate k None) (map Some b) (room - after) long ∙ ap (λ l. map Some b ++ l) (sym (append-nil (replicate k None)))) (sym back) refl (omega (arith, h.within, none))
 
   below_or_not : (i n : ℕ) → (i < n) ⊎ (n ≤ i)
   below_or_not zero zero = inr (omega arith)

@@ -4,4 +4,5 @@ pub mod LooseValues
 pub mod OwnerSteps
 pub mod CellSteps
 pub mod CellSharing
+pub mod Turned
 pub mod Laid

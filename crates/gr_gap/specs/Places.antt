@@ -1,5 +1,5 @@
 -- What a row of places owns and lends, at values of the row R of a type.
-use Rattle.std.specs.Prelude.{◌≡◌, ℕ, zero, suc, ◌+◌, ◌*◌, ◌^◌, List, [], ◌∷◌, length, get_or, Option, Some, None}
+use Rattle.std.specs.Prelude.{◌≡◌, ℕ, zero, suc, ◌+◌, ◌*◌, ◌^◌, List, [], ◌∷◌, ◌++◌, length, take, drop, get_or, Option, Some, None}
 use Rattle.std.specs.Mem.{type_size}
 use base.Fraction.{full_share}
 use base.Fml.{Lft, Fml, ftrue, ffalse, fsep, flt, froom}
@@ -13,6 +13,10 @@ use denote.RawPtr.{Ptr, block_ptr, null_ptr}
 -- the place at the index holds a value
 abbrev pub IsFilled : {X : Type 0} → List (Option X) → ℕ → Type 0
 IsFilled {X} cs i = (x : X) × (get_or cs i None ≡ Some x)
+
+-- a row counted from its place s on: what stands before that comes last
+abbrev pub turned : {X : Type 0} → ℕ → List X → List X
+turned s cs = drop s cs ++ take s cs
 
 module _ (R : RattleType) where
   -- one place, o bytes into the block b

@@ -1,5 +1,5 @@
 // A gap buffer: one block of memory, with its free places where the last edit was.
-ghost use Rattle.std.specs.Prelude.{◌≡◌, ◌+◌, ◌^◌, ◌<◌, ◌≤◌, [], length, insert, remove, slice_index_or, slice_set, OnOk, OnErr, IsOk};
+ghost use Rattle.std.specs.Prelude.{◌≡◌, ◌+◌, ◌*◌, ◌^◌, ◌<◌, ◌≤◌, [], length, insert, remove, slice_index_or, slice_set, OnOk, OnErr, IsOk};
 
 use crate::Memory;
 use crate::halves::Halves;
@@ -10,7 +10,7 @@ use std::marker::Model;
 const LEAST_ROOM: usize = 4;
 
 /// A list with room for more values: its contracts see the values in order, and `spare`, how many more fit.
-/// An edit costs the distance from the last one.
+/// An edit costs the distance from the last one, the shorter way round: the two ends of the list are beside each other.
 pub struct Gap<T> {
     halves: Halves<T>,
 }
@@ -51,11 +51,13 @@ impl<T> Gap<T> {
         }
     }
 
-    /// Makes room for at least `n` more values. Where memory is refused, all stays as it was.
+    /// Makes room for at least `n` more values. Where it has to grow, it has at least twice the room then. Where memory is
+    /// refused, all stays as it was.
     pub fn reserve(&mut self, n: usize) -> Result<(), Memory>
         ensures ok { OnOk result (n ≤ self.new.spare) }
         ensures kept { self.new.items ≡ self.old.items }
         ensures never_less { self.old.spare ≤ self.new.spare }
+        ensures twice { OnOk result (self.old.spare < n → 2 * (length self.old.items + self.old.spare) ≤ length self.new.items + self.new.spare) }
         ensures succeeds { n ≤ self.old.spare → IsOk result }
         ensures err { OnErr result (self.new ≡ self.old) }
     {
@@ -111,8 +113,10 @@ impl<T> Gap<T> {
         self.halves.replace(i, value)
     }
 
-    /// Where its memory comes from.
-    pub fn allocator(&self) -> Global {
+    /// Where its memory comes from. There is one such allocator, so that a list made with it has its memory from the same place.
+    pub fn allocator(&self) -> Global
+        ensures { (other : Global) → result ≡ other }
+    {
         self.halves.allocator()
     }
 
@@ -124,9 +128,12 @@ impl<T> Gap<T> {
     }
 }
 
-// The next room: twice what there was, if that is enough.
+// The next room: twice what there was, or what is needed if that is more.
 fn wider(room: usize, needed: usize) -> usize
-    ensures { (needed ≤ result) × (0 < result) }
+    requires { room < 2 ^ 63 }
+    ensures enough { needed ≤ result }
+    ensures some { 0 < result }
+    ensures twice { 2 * room ≤ result }
 {
-    needed.max(room.saturating_mul(2)).max(LEAST_ROOM)
+    needed.max(2 * room).max(LEAST_ROOM)
 }

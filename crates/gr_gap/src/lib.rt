@@ -7,6 +7,7 @@ pub mod gap;
 mod halves;
 mod loose;
 mod owner;
+mod ring;
 pub mod shared;
 #[cfg(test)]
 mod tests;

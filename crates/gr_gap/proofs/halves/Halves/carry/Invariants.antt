@@ -1,6 +1,6 @@
 -- All values stay in their order, and the gap comes nearer.
 use Rattle.std.proofs.Common.{◌≡◌, ◌+◌, ◌-◌, ◌≤◌, ◌++◌, length}
-use Rattle.gr_gap.proofs.halves.Halves.seek.Given as goal
+use Rattle.gr_gap.proofs.halves.Halves.carry.Given as goal
 
 abbrev pub invariant-loop-self : goal.invariant-loop-self
 invariant-loop-self g l = record {
