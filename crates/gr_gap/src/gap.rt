@@ -51,13 +51,14 @@ impl<T> Gap<T> {
         }
     }
 
-    /// Makes room for at least `n` more values. Where it has to grow, it has at least twice the room then. Where memory is
-    /// refused, all stays as it was.
+    /// Makes room for at least `n` more values. Where it has to grow, it has at least twice the room then. Where
+    /// memory is refused, all stays as it was.
     pub fn reserve(&mut self, n: usize) -> Result<(), Memory>
         ensures ok { OnOk result (n ≤ self.new.spare) }
         ensures kept { self.new.items ≡ self.old.items }
         ensures never_less { self.old.spare ≤ self.new.spare }
-        ensures twice { OnOk result (self.old.spare < n → 2 * (length self.old.items + self.old.spare) ≤ length self.new.items + self.new.spare) }
+        ensures twice { OnOk result
+            (self.old.spare < n → 2 * (length self.old.items + self.old.spare) ≤ length self.new.items + self.new.spare) }
         ensures succeeds { n ≤ self.old.spare → IsOk result }
         ensures err { OnErr result (self.new ≡ self.old) }
     {
@@ -113,7 +114,8 @@ impl<T> Gap<T> {
         self.halves.replace(i, value)
     }
 
-    /// Where its memory comes from. There is one such allocator, so that a list made with it has its memory from the same place.
+    /// Where its memory comes from. There is one such allocator: a list made with it has its memory from the same
+    /// place.
     pub fn allocator(&self) -> Global
         ensures { (other : Global) → result ≡ other }
     {

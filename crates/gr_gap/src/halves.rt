@@ -1,5 +1,6 @@
-// A block with one gap: values at its front, free places, values at its end. The block goes round (`ring`), so where one side of
-// the gap has no value the other side may be counted as that one. A move of the gap carries only what it passes, the shorter way.
+// A block with one gap: values at its front, free places, values at its end. The block goes round (`ring`), so where
+// one side of the gap has no value the other side may be counted as that one. A move of the gap carries only what it
+// passes, the shorter way.
 ghost use Rattle.std.specs.Prelude.{◌≡◌, ◌+◌, ◌-◌, ◌^◌, ◌<◌, ◌≤◌, [], ◌∷◌, ◌++◌, length, slice_index_or, slice_set, IfOk, OnOk, OnErr};
 ghost use Rattle.std.specs.Vec.Ownership.{FitsInBlock};
 

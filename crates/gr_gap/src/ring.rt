@@ -1,5 +1,5 @@
-// A block whose places are counted round, from any one of them: after the last place of the block comes its first. So what stands
-// at one end of a row stands beside its other end, and a turn moves no value.
+// A block whose places are counted round, from any one of them: after the last place of the block comes its first. So
+// what stands at one end of a row stands beside its other end, and a turn moves no value.
 ghost use Rattle.std.specs.Prelude.{◌≡◌, ◌+◌, ◌^◌, ◌<◌, ◌≤◌, [], ◌++◌, length, take, drop, replicate, get_or, slice_set, Some, None, IfOk};
 ghost use Rattle.std.specs.Vec.Ownership.{FitsInBlock};
 ghost use Rattle.gr_gap.specs.Places.{IsFilled};
@@ -27,7 +27,8 @@ impl<T> Model for Ring<T> {
 
     ghost view = { λ r. turned r.start r.cells.slots };
 
-    ghost invariant = { λ r. (length r.cells.slots ≡ r.room) × (r.start ≤ r.room) × (r.room < 2 ^ 63) × (r.cells.at ≡ r.base.ptr) × (r.deed.at ≡ r.base.ptr) × (r.deed.len ≡ r.room) × (r.deed.alloc ≡ r.alloc) };
+    ghost invariant = { λ r. (length r.cells.slots ≡ r.room) × (r.start ≤ r.room) × (r.room < 2 ^ 63) × (r.cells.at ≡ r.base.ptr)
+        × (r.deed.at ≡ r.base.ptr) × (r.deed.len ≡ r.room) × (r.deed.alloc ≡ r.alloc) };
 }
 
 impl<T> Ring<T> {

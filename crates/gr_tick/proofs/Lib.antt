@@ -8,3 +8,4 @@ pub mod WalkLemmas
 pub mod SteadyLemmas
 pub mod SeekLemmas
 pub mod ToldLemmas
+pub mod RoomLemmas

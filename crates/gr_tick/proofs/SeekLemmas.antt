@@ -79,14 +79,14 @@ module _ {V : Type 0} where
   touches_all : (f l : ℕ) (r : Run V) → r.first ≤ l → f ≤ r.last → 1 ≤ cond (touches f l r) 1 0
   touches_all f l r a b = grind (arith, nat_tests)
 
-  touches_one : (f l : ℕ) (r : Run V) → cond (touches f l r) 1 0 ≤ 1
+  pub touches_one : (f l : ℕ) (r : Run V) → cond (touches f l r) 1 0 ≤ 1
   touches_one f l r = grind (arith, nat_tests)
 
   none_ended : (f l : ℕ) (xs : List (Run V)) → EndBefore xs f → runs_in f l xs ≤ 0
   none_ended f l [] h = omega arith
   none_ended f l (x ∷ xs) h = omega (arith, runs_in-cons f l x xs, touches_none f l x h.0, none_ended f l xs h.1)
 
-  none_begun : (f l : ℕ) (xs : List (Run V)) → BeginAfter xs l → runs_in f l xs ≤ 0
+  pub none_begun : (f l : ℕ) (xs : List (Run V)) → BeginAfter xs l → runs_in f l xs ≤ 0
   none_begun f l [] h = omega arith
   none_begun f l (x ∷ xs) h = omega (arith, runs_in-cons f l x xs, touches_not_yet f l x h.0, none_begun f l xs h.1)
 

@@ -606,7 +606,7 @@ module _ {V : Type 0} where
   needed_upto rs (o ∷ os) (suc k) = omega (arith, needed_upto rs os k)
 
   -- a join at earlier ticks leaves enough room
-  needed_later : (least : V) (old new os : List (Run V)) (b : ℕ) → AreTickRuns least os → BeginAfter os b → ((f l : ℕ) → b < f → f ≤ l → runs_in f l new ≤ runs_in f l old) → needed new os ≤ needed old os
+  pub needed_later : (least : V) (old new os : List (Run V)) (b : ℕ) → AreTickRuns least os → BeginAfter os b → ((f l : ℕ) → b < f → f ≤ l → runs_in f l new ≤ runs_in f l old) → needed new os ≤ needed old os
   needed_later least old new [] b h k p = omega arith
   needed_later least old new (o ∷ os) b h k p =
       omega (arith, p o.first o.last k.0 h.0.ordered, needed_later least old new os b h.2 k.1 p)

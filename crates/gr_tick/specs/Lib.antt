@@ -2,3 +2,4 @@ pub mod Laws
 pub mod Runs
 pub mod Stored
 pub mod Kept
+pub mod Levels

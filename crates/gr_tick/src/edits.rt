@@ -71,6 +71,7 @@ pub fn seek<V: Lattice>(runs: &Gap<Run<V>>, tick: u64) -> usize
     ensures front { EndBefore (take result runs.now.items) tick }
     ensures here { (r : Run V) (rs : List (Run V)) → drop result runs.now.items ≡ r ∷ rs → tick ≤ r.last }
 {
+    // Each turn halves what is left between the two.
     let mut low = 0;
     let mut high = runs.len();
     while low < high {
@@ -303,6 +304,7 @@ fn join_step<V: Lattice>(runs: &mut Gap<Run<V>>, first: u64, last: u64, value: &
         join_gap(runs, i, first, start - 1, value);
         return start - 1;
     }
+    // What is there already is joined: nothing moves.
     if value.at_most(&run.value) {
         return last.min(stop);
     }
@@ -327,6 +329,7 @@ pub fn join_over<V: Lattice>(runs: &mut Gap<Run<V>>, first: u64, last: u64, valu
     ensures spare { runs.old.spare ≤ growth first last runs.old.items + runs.new.spare }
     ensures later { (f l : ℕ) → last < f → f ≤ l → runs_in f l runs.new.items ≤ runs_in f l runs.old.items }
 {
+    // Each step comes to the end of a run or of a gap, and goes on after it.
     let mut next = first;
     while next <= last {
         next = join_step(runs, next, last, value) + 1;
@@ -462,6 +465,7 @@ pub fn lower_over<V: Lattice>(runs: &mut Gap<Run<V>>, first: u64, last: u64)
     ensures values { (t : ℕ) → value_at V.least runs.new.items t ≡ (if within first last t then V.least else value_at V.least runs.old.items t) }
     ensures spare { runs.old.spare ≤ runs.new.spare + 1 }
 {
+    // Each step comes to the end of a run or of a gap, and goes on after it.
     let mut next = first;
     while next <= last {
         next = lower_step(runs, next, last) + 1;
@@ -547,7 +551,8 @@ pub fn lower_each<V: Lattice>(runs: &mut Gap<Run<V>>, others: &Gap<Run<V>>)
     requires runs { AreTickRuns V.least runs.old.items }
     requires others { AreTickRuns V.least others.now.items }
     ensures runs { AreTickRuns V.least runs.new.items }
-    ensures values { (t : ℕ) → value_at V.least runs.new.items t ≡ (if is_told others.now.items t then V.least else value_at V.least runs.old.items t) }
+    ensures values { (t : ℕ) → value_at V.least runs.new.items t
+        ≡ (if is_told others.now.items t then V.least else value_at V.least runs.old.items t) }
     ensures spare { runs.old.spare ≤ runs.new.spare + length others.now.items }
 {
     for i in 0..others.len() {

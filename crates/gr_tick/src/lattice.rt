@@ -1,3 +1,4 @@
+//! What the values at ticks have in common: an order in which any two have a least upper bound, their join.
 ghost use Rattle.std.specs.Prelude.{◌≡◌, ◌↔◌, Bool, IsTrue};
 ghost use Rattle.gr_tick.specs.Laws.{LatticeLaws};
 

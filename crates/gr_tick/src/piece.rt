@@ -1,3 +1,4 @@
+//! What one frame tells, or what one call answers: a function of ticks that is made from its first run to its last.
 ghost use Rattle.std.specs.Prelude.{if◌then◌else◌, ◌≡◌, ◌≢◌, ◌↔◌, IsTrue, ℕ, ◌+◌, ◌<◌, ◌≤◌, ◌^◌, List, [], ◌∷◌, ◌++◌, length, take, drop, slice_get, Some, OnOk, OnErr, IfOk, min, max};
 ghost use Rattle.gr_tick.specs.Runs.{value_at, is_in, AreRuns};
 ghost use Rattle.gr_tick.specs.Stored.{within, IsRun, AreTickRuns, EndBefore, RunsGive};
@@ -73,6 +74,7 @@ impl<V: Lattice> Piece<V> {
         ensures past { OnOk result ((t : ℕ) → run.now.last < t → EndBefore self.new t) }
         ensures err { OnErr result (self.new ≡ self.old) }
     {
+        // What is known of all pieces holds of this one.
         let _ = &self.runs;
         let from = first.max(run.first);
         let upto = last.min(run.last);
@@ -119,8 +121,8 @@ impl<V: Lattice> Piece<V> {
         self.runs.get(i)
     }
 
-    /// The place of the first run that ends at a tick or later: the number of runs where none does. Runs are walked from there
-    /// by their places, without a look-up for each. It takes no memory.
+    /// The place of the first run that ends at a tick or later: the number of runs where none does. From there runs are
+    /// walked by their places, without a look-up for each. It takes no memory.
     pub fn seek(&self, tick: u64) -> usize
         ensures within { result ≤ length self.now }
         ensures front { EndBefore (take result self.now) tick }

@@ -1,3 +1,4 @@
+//! What is known or asked of each tick: a function of ticks that is edited in place, with room that is taken beforehand.
 ghost use Rattle.std.specs.Prelude.{if◌then◌else◌, MatchOption, ◌≡◌, ◌≢◌, ℕ, ◌+◌, ◌^◌, ◌<◌, ◌≤◌, List, [], ◌∷◌, ◌++◌, length, take, drop, slice_get, Some, OnOk, OnErr, IfOk, IsOk};
 ghost use Rattle.std.specs.List.{HoldsAt};
 ghost use Rattle.gr_tick.specs.Runs.{value_at, AreRuns, first_bottom_from, top_of};
@@ -49,8 +50,8 @@ impl<V: Lattice> Stream<V> {
         }
     }
 
-    /// A stream with equal runs, which has room for the edits that follow: for as many runs more as it has, and 4. It fails
-    /// only where memory is refused.
+    /// A stream with equal runs, which has room for the edits that follow: for as many runs more as it has, and 4. It
+    /// fails only where memory is refused.
     pub fn copy(&self) -> Result<Stream<V>, AllocError>
         ensures runs { IfOk result (λ stream. stream.runs ≡ self.now.runs) }
         ensures spare { IfOk result (λ stream. length self.now.runs + 4 ≤ stream.spare) }
@@ -108,8 +109,8 @@ impl<V: Lattice> Stream<V> {
         steady_until(&self.runs, tick)
     }
 
-    /// The place of the first run that ends at a tick or later: the number of runs where none does. Runs are walked from there
-    /// by their places, without a look-up for each. It takes no memory.
+    /// The place of the first run that ends at a tick or later: the number of runs where none does. From there runs are
+    /// walked by their places, without a look-up for each. It takes no memory.
     pub fn seek(&self, tick: u64) -> usize
         ensures within { result ≤ length self.now.runs }
         ensures front { EndBefore (take result self.now.runs) tick }
@@ -148,6 +149,7 @@ impl<V: Lattice> Stream<V> {
         ensures spare { self.old.spare ≤ self.new.spare + (runs_in first last self.old.runs + 1) }
         ensures later { (f l : ℕ) → last < f → f ≤ l → runs_in f l self.new.runs ≤ runs_in f l self.old.runs }
     {
+        // What is known of all streams holds of this one.
         let _ = &self.runs;
         if is_bottom(&value) {
             return;
@@ -182,17 +184,19 @@ impl<V: Lattice> Stream<V> {
     /// Joins a piece, tick by tick, where the room for it is there, as `room_for` says. It takes no memory.
     pub fn join_ready(&mut self, piece: &Piece<V>)
         requires { needed self.old.runs piece.now ≤ self.old.spare }
-        ensures joined { RunsGive V.least self.new.runs (λ t. V.join_of (value_at V.least self.old.runs t) (value_at V.least piece.now t)) }
+        ensures joined { RunsGive V.least self.new.runs
+            (λ t. V.join_of (value_at V.least self.old.runs t) (value_at V.least piece.now t)) }
         ensures spare { self.old.spare ≤ self.new.spare + needed self.old.runs piece.now }
     {
         join_each(&mut self.runs, piece.runs());
     }
 
-    /// Takes a piece out: puts the least value at each tick of its runs, whatever was there. It takes no memory: a spare of as
-    /// many runs as the piece has must be there.
+    /// Takes a piece out: puts the least value at each tick of its runs, whatever was there. It takes no memory: a spare
+    /// of as many runs as the piece has must be there.
     pub fn lower_piece(&mut self, piece: &Piece<V>)
         requires { length piece.now ≤ self.old.spare }
-        ensures lowered { RunsGive V.least self.new.runs (λ t. if is_told piece.now t then V.least else value_at V.least self.old.runs t) }
+        ensures lowered { RunsGive V.least self.new.runs
+            (λ t. if is_told piece.now t then V.least else value_at V.least self.old.runs t) }
         ensures spare { self.old.spare ≤ self.new.spare + length piece.now }
     {
         lower_each(&mut self.runs, piece.runs());
@@ -231,7 +235,8 @@ impl<V: Lattice> Stream<V> {
         requires ordered { first ≤ last }
         requires upto { last ≤ 2 ^ 62 }
         requires room { 1 ≤ self.old.spare }
-        ensures lowered { RunsGive V.least self.new.runs (λ t. if within first last t then V.least else value_at V.least self.old.runs t) }
+        ensures lowered { RunsGive V.least self.new.runs
+            (λ t. if within first last t then V.least else value_at V.least self.old.runs t) }
         ensures spare { self.old.spare ≤ self.new.spare + 1 }
     {
         lower_over(&mut self.runs, first, last);
@@ -284,6 +289,7 @@ fn piece_of<V: Lattice>(runs: &Gap<Run<V>>, first: u64, last: u64) -> Result<Pie
         let run = runs.get(i);
         piece.push_cut(run, first, last)?;
     }
+    // The runs of any piece are canonical, so these are.
     let _ = piece.len();
     Ok(piece)
 }
