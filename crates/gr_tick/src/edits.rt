@@ -64,8 +64,8 @@ fn insert_part<V: Lattice>(
     i + 1
 }
 
-/// Where the runs that end at a tick or later begin.
-pub fn seek<V: Lattice>(runs: &Gap<Run<V>>, tick: u64) -> usize
+/// Where the runs that end at a tick or later begin, found by halves.
+fn bisect<V: Lattice>(runs: &Gap<Run<V>>, tick: u64) -> usize
     requires { AreTickRuns V.least runs.now.items }
     ensures within { result ≤ length runs.now.items }
     ensures front { EndBefore (take result runs.now.items) tick }
@@ -84,6 +84,28 @@ pub fn seek<V: Lattice>(runs: &Gap<Run<V>>, tick: u64) -> usize
         }
     }
     low
+}
+
+/// Where the runs that end at a tick or later begin. The two ends are looked at first.
+pub fn seek<V: Lattice>(runs: &Gap<Run<V>>, tick: u64) -> usize
+    requires { AreTickRuns V.least runs.now.items }
+    ensures within { result ≤ length runs.now.items }
+    ensures front { EndBefore (take result runs.now.items) tick }
+    ensures here { (r : Run V) (rs : List (Run V)) → drop result runs.now.items ≡ r ∷ rs → tick ≤ r.last }
+{
+    let count = runs.len();
+    if count == 0 {
+        return 0;
+    }
+    let newest = runs.get(count - 1);
+    if newest.last < tick {
+        return count;
+    }
+    let oldest = runs.get(0);
+    if tick <= oldest.last {
+        return 0;
+    }
+    bisect(runs, tick)
 }
 
 /// How many runs begin by a tick.

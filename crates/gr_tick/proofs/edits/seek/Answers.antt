@@ -1,11 +1,11 @@
-use Rattle.std.proofs.Common.{◌+◌, ◌-◌, ◌/◌, arith}
+-- Where the last run ends before the tick, all do.
+use Rattle.std.proofs.Common.{◌≡◌, ◌+◌, ◌-◌, take, subst, arith}
+use Rattle.gr_tick.specs.Stored.{EndBefore}
 use Rattle.gr_tick.proofs.SeekLemmas.{seek_low}
 use Rattle.gr_tick.proofs.edits.seek.Goals as goal
 
-pub loop-low-preserved-then-run-tick : goal.loop-low-preserved-then-run-tick
-loop-low-preserved-then-run-tick g c = record {
-  ordered = omega arith;
-  within = c.loop-low.invariant.within;
-  front = seek_low g.V.Lattice.least c.args.runs.now.items (c.loop-low.low + (c.loop-low.high - c.loop-low.low) / 2) c.args.tick c.get-run.result.now (omega arith) c.get-run.ensures c.requires c.if-run-tick.true;
-  here = c.loop-low.invariant.here;
-}
+pub returns-then-newest-tick-clause-front : goal.returns-then-newest-tick-clause-front
+returns-then-newest-tick-clause-front g c =
+    let all : (c.len-count.result - 1) + 1 ≡ c.len-count.result = omega arith in
+    subst (λ k. EndBefore (take k c.args.runs.now.items) c.args.tick) all
+    (seek_low g.V.Lattice.least c.args.runs.now.items (c.len-count.result - 1) c.args.tick c.get-newest.result.now (omega arith) c.get-newest.ensures c.requires c.if-newest-tick.true)

@@ -1,7 +1,7 @@
 use Rattle.std.proofs.Common.{◌≡◌, ◌≤◌, ◌-◌, List, ◌∷◌, length, take, drop}
 use Rattle.gr_tick.specs.declared.run.Run.{Run}
 use Rattle.gr_tick.specs.Stored.{EndBefore}
-use Rattle.gr_tick.proofs.edits.seek.Given as goal
+use Rattle.gr_tick.proofs.edits.bisect.Given as goal
 
 -- the runs before the lower place end before the tick, and the one at the upper place does not
 abbrev pub invariant-loop-low : goal.invariant-loop-low
