@@ -1,3 +1,4 @@
 pub mod ValueLaws
 pub mod KnowLemmas
 pub mod ForgetLemmas
+pub mod Lowering

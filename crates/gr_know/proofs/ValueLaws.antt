@@ -1,6 +1,9 @@
--- The test on two knowledge values is true at equals alone, and at all equals
-use Rattle.std.proofs.Common.{◌≡◌, true, refl, ap}
-use Rattle.std.proofs.lemmas.Bool.{false≢true}
+-- The test on two knowledge values is true at equals alone, and at all equals; so is that on two events.
+use Rattle.std.proofs.Common.{◌≡◌, ◌⊎◌, inl, inr, Bool, true, false, IsTrue, refl, sym, ap, ◌∙◌}
+use Rattle.std.specs.Prelude.{◌↔◌}
+use Rattle.std.proofs.lemmas.Bool.{both_ways, cases_Bool, false≢true}
+use Rattle.gr_event.specs.Event.{same_event}
+use Rattle.gr_event.specs.declared.event.Event.{Event}
 use Rattle.gr_event.proofs.SameEvent.{event_equal, event_itself}
 use Rattle.gr_tick.specs.Runs.{Decides_same}
 use Rattle.gr_tick.proofs.RunLaws.{Tells, Tells-decides}
@@ -37,3 +40,14 @@ same_K_tells = record { equal = equal; itself = itself }
 
 pub K_decides : Decides_same same_K
 K_decides = Tells-decides same_K same_K_tells
+
+-- what a comparison of two events answers
+pub same_event-iff : (r : Bool) (e f : Event) → IsTrue r ↔ (e ≡ f) → r ≡ same_event e f
+same_event-iff r e f h = elim (cases_Bool r) [ inl t ↦ yes t | inr n ↦ no n (cases_Bool (same_event e f)) ]
+  where
+    yes : r ≡ true → r ≡ same_event e f
+    yes t = t ∙ sym (ap (same_event e) (sym (h.0 t)) ∙ event_itself e)
+
+    no : r ≡ false → (same_event e f ≡ true) ⊎ (same_event e f ≡ false) → r ≡ same_event e f
+    no n (inl t) = absurd (both_ways r n (h.1 (event_equal e f t)))
+    no n (inr u) = n ∙ sym u

@@ -1,8 +1,9 @@
 -- Forgetting: the least data ticks lowered to unknown, until few enough are left
-use Rattle.std.specs.Prelude.{ℕ, suc, ◌+◌, ◌-◌, min, true, false, ◌&&◌, nat_le, nat_lt, if◌then◌else◌, [], ◌∷◌}
+use Rattle.std.specs.Prelude.{◌≡◌, ℕ, suc, ◌+◌, ◌-◌, ◌<◌, ◌≤◌, min, true, false, ◌&&◌, nat_le, nat_lt, if◌then◌else◌, [], ◌∷◌}
 use Rattle.gr_tick.specs.declared.run.Run.{Run}
 use Rattle.gr_know.specs.declared.values.K.{K}
-use Rattle.gr_know.specs.Values.{Known, is_D}
+use Rattle.gr_know.specs.declared.values.K.TheVariants.{Q}
+use Rattle.gr_know.specs.Values.{Known, known_at, is_D}
 
 -- how many ticks of a run have an event
 abbrev pub data_of : Run K → ℕ
@@ -29,3 +30,14 @@ lower_data n upto (r ∷ rs) =
 -- the least data ticks up to a tick lowered, until no more than the limit are left
 unfoldable pub forgotten : ℕ → ℕ → Known → Known
 forgotten limit upto know = lower_data (data_count know - limit) upto know
+
+-- Forgetting tick by tick: ticks with an event are unknown again, the least ones first, and all else is as it was.
+pub record Forgets (limit upto : ℕ) (know kept : Known) : Type 0 where
+  -- the last tick that is lowered, or 0
+  pub last : ℕ
+  pub within : last ≤ upto
+  pub each : (t : ℕ) → known_at kept t ≡ (if is_D (known_at know t) && nat_le t last then Q else known_at know t)
+  -- no more are lowered than are too many: where fewer than the limit are left, none was
+  pub needed : data_count kept < limit → kept ≡ know
+  -- and as many as are too many: where more than the limit are left, none up to `upto` is
+  pub enough : limit < data_count kept → (t : ℕ) → t ≤ upto → is_D (known_at kept t) ≡ false

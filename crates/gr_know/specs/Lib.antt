@@ -1,4 +1,5 @@
 pub mod Values
 pub mod Order
+pub mod OrderLaws
 pub mod Clash
 pub mod Forget

@@ -3,7 +3,7 @@ ghost use Rattle.gr_tick.specs.Runs.{value_at, AreRuns, first_bottom_from, top_o
 ghost use Rattle.gr_tick.specs.Stored.{within, IsRun, EndBefore, RunsGive};
 ghost use Rattle.gr_know.specs.Values.{known_at, is_D, join_K, new_K, clash_K};
 ghost use Rattle.gr_know.specs.Clash.{IsLeastClash};
-ghost use Rattle.gr_know.specs.Forget.{data_of, data_count, lower_data, forgotten};
+ghost use Rattle.gr_know.specs.Forget.{data_of, data_count, lower_data, forgotten, Forgets};
 ghost use Rattle.gr_know.specs.declared.values.K.TheVariants.{Q, F};
 
 use crate::values::K;
@@ -156,10 +156,13 @@ impl Know {
     pub fn forget(&mut self, limit: u32, upto: u64) -> Result<(), AllocError>
         ensures succeeds { IsOk result }
         ensures forgotten { OnOk result (self.new ≡ forgotten limit upto self.old) }
+        ensures forgets { OnOk result (Forgets limit upto self.old self.new) }
         ensures canonical { OnOk result (AreRuns Q self.new) }
         ensures in_range { OnOk result (EndBefore self.new (2 ^ 62 + 1)) }
         ensures err { OnErr result (self.new ≡ self.old) }
     {
+        // Proof only: the runs are canonical before and after.
+        let _ = self.stream.len();
         forget_data(&mut self.stream, u64::from(limit), upto);
         let _ = self.stream.len();
         Ok(())

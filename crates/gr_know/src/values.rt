@@ -1,5 +1,6 @@
 ghost use Rattle.gr_know.specs.Values.{join_K};
-ghost use Rattle.gr_know.specs.Order.{is_at_most, knowledge_laws};
+ghost use Rattle.gr_know.specs.Order.{is_at_most};
+ghost use Rattle.gr_know.specs.OrderLaws.{knowledge_laws};
 ghost use Rattle.gr_know.specs.declared.values.K.TheVariants.{Q};
 
 use gr_event::Event;

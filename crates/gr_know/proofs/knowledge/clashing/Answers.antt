@@ -1,5 +1,5 @@
 use Rattle.std.proofs.Common.{not, sym, ap, ◌∙◌}
-use Rattle.gr_know.specs.Order.{same_event-iff}
+use Rattle.gr_know.proofs.ValueLaws.{same_event-iff}
 use Rattle.gr_know.specs.Values.{clash_K}
 use Rattle.gr_know.specs.declared.values.K.TheVariants.{D}
 use Rattle.gr_know.proofs.knowledge.clashing.Goals as goal

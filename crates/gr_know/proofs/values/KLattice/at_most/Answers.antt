@@ -1,5 +1,6 @@
 use Rattle.std.proofs.Common.{sym, ap, ◌∙◌}
-use Rattle.gr_know.specs.Order.{is_at_most, same_event-iff}
+use Rattle.gr_know.specs.Order.{is_at_most}
+use Rattle.gr_know.proofs.ValueLaws.{same_event-iff}
 use Rattle.gr_know.specs.declared.values.K.TheVariants.{D}
 use Rattle.gr_know.proofs.values.KLattice.at_most.Goals as goal
 

@@ -1,6 +1,6 @@
 use Rattle.std.proofs.Common.{cond, sym, ap, ◌∙◌}
 use Rattle.gr_know.specs.Values.{join_K}
-use Rattle.gr_know.specs.Order.{same_event-iff}
+use Rattle.gr_know.proofs.ValueLaws.{same_event-iff}
 use Rattle.gr_know.specs.declared.values.K.TheVariants.{D, F}
 use Rattle.gr_know.proofs.values.KLattice.join.Goals as goal
 

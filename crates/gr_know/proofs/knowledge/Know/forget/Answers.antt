@@ -1,0 +1,13 @@
+use Rattle.std.proofs.Common.{sym, ap, ◌∙◌, subst}
+use Rattle.gr_tick.specs.Runs.{AreRuns}
+use Rattle.gr_know.specs.Values.{Known}
+use Rattle.gr_know.specs.Forget.{forgotten, Forgets}
+use Rattle.gr_know.specs.declared.values.K.TheVariants.{Q}
+use Rattle.gr_know.proofs.Lowering.{forgotten-is}
+use Rattle.gr_know.proofs.knowledge.Know.forget.Goals as goal
+
+pub returns-clause-forgets : goal.returns-clause-forgets
+returns-clause-forgets c =
+    subst (λ (kept : Known). Forgets c.args.limit c.args.upto c.args.self.now kept)
+    (sym (c.forget_data.ensures ∙ ap (λ n. forgotten n c.args.upto c.self.inside.stream.runs) c.from.ensures ∙ ap (forgotten c.args.limit c.args.upto) c.self.view_is))
+    (forgotten-is c.args.limit c.args.upto c.args.self.now (subst (λ (know : Known). AreRuns Q know) c.self.view_is c.len.ensures.canonical))
