@@ -1,7 +1,8 @@
 ghost use Rattle.std.specs.Prelude.{◌≡◌, ◌≢◌, ◌⊎◌, ℕ, ◌+◌, ◌^◌, ◌<◌, ◌≤◌, IfOk, OnOk, OnErr, [], length, slice_get, Some};
 ghost use Rattle.gr_tick.specs.Runs.{AreRuns};
 ghost use Rattle.gr_tick.specs.Stored.{IsRun, EndBefore, RunsGive};
-ghost use Rattle.gr_curio.specs.Moments.{is_at_most, later_of, moment_laws};
+ghost use Rattle.gr_curio.specs.Moments.{is_at_most, later_of};
+ghost use Rattle.gr_curio.specs.MomentLaws.{moment_laws};
 ghost use Rattle.gr_curio.specs.Values.{wanted_at, asked_at, is_outstanding};
 ghost use Rattle.gr_curio.specs.Due.{due_of, noted_of};
 ghost use Rattle.gr_curio.specs.declared.asks.Moment.TheVariants.{Never};

@@ -1,4 +1,5 @@
-ghost use Rattle.gr_curio.specs.Order.{is_at_most, greater_of, curiosity_laws};
+ghost use Rattle.gr_curio.specs.Order.{is_at_most, greater_of};
+ghost use Rattle.gr_curio.specs.OrderLaws.{curiosity_laws};
 ghost use Rattle.gr_curio.specs.declared.values.Q3.TheVariants.{N};
 
 use gr_tick::Lattice;
