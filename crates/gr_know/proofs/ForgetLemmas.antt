@@ -15,29 +15,6 @@ data_count-append : (xs ys : Known) → data_count (xs ++ ys) ≡ data_count xs 
 data_count-append [] ys = omega arith
 data_count-append (x ∷ xs) ys = omega (arith, data_count-append xs ys)
 
-data_of-le : (r : Run K) → data_of r ≤ suc r.last - r.first
-data_of-le r = by_cases (is_D r.value)
-  where
-    by_cases : (b : Bool) → cond b (suc r.last - r.first) 0 ≤ suc r.last - r.first
-    by_cases true = omega arith
-    by_cases false = omega arith
-
--- canonical runs have no more data ticks than there are ticks
-data_count-from : (n : ℕ) (rs : Known) → AreRunsFrom Q n rs → EndBefore rs (2 ^ 62 + 1) → n ≤ 2 ^ 62 + 1 → n + data_count rs ≤ 2 ^ 62 + 1
-data_count-from n [] a b le = omega arith
-data_count-from n (r ∷ rs) a b le =
-    omega (arith, data_of-le r, data_count-from (suc r.last) rs a.4 b.1 (omega (arith, b.0)), a.0, a.1)
-
--- one run more is counted, and the count stays in range
-pub data_more : (xs : Known) (i : ℕ) (r : Run K) → i < length xs → r ≡ get_or xs i r → data_count (take (i + 1) xs) ≡ data_count (take i xs) + data_of r
-data_more xs i r lt e =
-    let one : data_count (r ∷ []) ≡ data_of r + 0 = refl in
-    omega (arith, ap data_count (take_more xs i r lt ∙ ap (λ z. take i xs ++ z ∷ []) (sym e)), data_count-append (take i xs) (r ∷ []), one)
-
-pub data_fits : (xs : Known) (i : ℕ) → AreRuns Q xs → EndBefore xs (2 ^ 62 + 1) → data_count (take i xs) ≤ 2 ^ 62
-data_fits xs i a b =
-    omega (arith, data_count-from 1 xs a b (omega arith), ap data_count (take-append-drop i xs), data_count-append (take i xs) (drop i xs))
-
 lower_past : (n upto : ℕ) (r : Run K) (rs : Known) → (is_D r.value && nat_le r.first upto) ≡ false → lower_data n upto (r ∷ rs) ≡ r ∷ lower_data n upto rs
 unfolding lower_data
 lower_past n upto r rs e = rw (e, lower_data) refl
@@ -153,3 +130,23 @@ pub front_cut : (old new : Known) (i end : ℕ) (r : Run K) → new ≡ take i o
 front_cut old new i end r e h =
     let inside : end + 1 ≤ r.last = omega (arith, h) in
     e ∙ ap (λ zs. take i old ++ (zs ++ drop (i + 1) old)) (cond-true (nat_le (end + 1) r.last) _ [] (le-leb (end + 1) r.last inside))
+
+-- How many are left
+
+data_of-is : (r : Run K) → is_D r.value ≡ true → data_of r ≡ suc r.last - r.first
+data_of-is r d = rw d refl
+
+data_count-split : (old : Known) (i : ℕ) (r : Run K) → i < length old → r ≡ get_or old i r → data_count old ≡ data_count (take i old) + (data_of r + data_count (drop (i + 1) old))
+data_count-split old i r lt e =
+    ap data_count (sym (take-append-drop i old) ∙ ap (λ zs. take i old ++ zs) (drop_read old i r lt e)) ∙ data_count-append (take i old) (r ∷ drop (i + 1) old)
+
+-- a run with an event that goes
+pub gone_count : (old new : Known) (i k : ℕ) (r : Run K) → i < length old → r ≡ get_or old i r → is_D r.value ≡ true → 1 ≤ k → r.first + (k - 1) ≡ r.last → new ≡ take i old ++ drop (i + 1) old → data_count new + k ≡ data_count old
+gone_count old new i k r lt e d some all en =
+    omega (arith, data_count-split old i r lt e, data_of-is r d, some, all, ap data_count en, data_count-append (take i old) (drop (i + 1) old))
+
+-- a run with an event whose last ticks stay
+pub cut_count : (old new : Known) (i k : ℕ) (r s : Run K) → i < length old → r ≡ get_or old i r → is_D r.value ≡ true → 1 ≤ k → r.first + (k - 1) < r.last → s ≡ record { first = r.first + (k - 1) + 1; last = r.last; value = r.value } → new ≡ take i old ++ s ∷ drop (i + 1) old → data_count new + k ≡ data_count old
+cut_count old new i k r s lt e d some part es en =
+    let left : data_of s ≡ suc r.last - (r.first + (k - 1) + 1) = ap data_of es ∙ data_of-is (record { first = r.first + (k - 1) + 1; last = r.last; value = r.value }) d in
+    omega (arith, data_count-split old i r lt e, data_of-is r d, left, some, part, ap data_count en, data_count-append (take i old) (s ∷ drop (i + 1) old))

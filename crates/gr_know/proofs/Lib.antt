@@ -2,3 +2,5 @@ pub mod ValueLaws
 pub mod KnowLemmas
 pub mod ForgetLemmas
 pub mod Lowering
+pub mod Walks
+pub mod Counting

@@ -3,3 +3,4 @@ pub mod Order
 pub mod OrderLaws
 pub mod Clash
 pub mod Forget
+pub mod Events

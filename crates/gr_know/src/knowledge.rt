@@ -6,8 +6,11 @@ ghost use Rattle.gr_know.specs.Clash.{IsLeastClash};
 ghost use Rattle.gr_know.specs.Forget.{data_of, data_count, lower_data, forgotten, Forgets};
 ghost use Rattle.gr_know.specs.declared.values.K.TheVariants.{Q, F};
 
+use crate::events::{finish_counted, join_counted};
+use crate::forgetting::forget_data;
+use crate::news::{find_clash, fresh_piece};
 use crate::values::K;
-use gr_tick::{Lattice, MAX_TICK, Piece, Run, Stream, is_bottom};
+use gr_tick::{Piece, Run, Stream};
 use std::alloc::{AllocError, Global};
 use std::marker::Model;
 
@@ -27,16 +30,22 @@ pub struct Clash {
 pub struct Know {
     alloc: Global,
     stream: Stream<K>,
+    // How many ticks have an event.
+    events: u64,
 }
 
 impl Model for Know {
     ghost use Rattle.std.specs.Prelude.{List};
     ghost use Rattle.gr_tick.specs.declared.run.Run.{Run};
+    ghost use Rattle.std.specs.Prelude.{◌≡◌};
     ghost use Rattle.gr_know.specs.declared.values.K.{K};
+    ghost use Rattle.gr_know.specs.Forget.{data_count};
 
     ghost Value = { List (Run K) };
 
     ghost view = { λ k. k.stream.runs };
+
+    ghost invariant = { λ k. k.events ≡ data_count k.stream.runs };
 }
 
 impl Know {
@@ -47,6 +56,7 @@ impl Know {
         Know {
             alloc,
             stream: Stream::new(alloc),
+            events: 0,
         }
     }
 
@@ -58,6 +68,7 @@ impl Know {
         Ok(Know {
             alloc: self.alloc,
             stream,
+            events: self.events,
         })
     }
 
@@ -114,6 +125,13 @@ impl Know {
         find_clash(&self.stream, piece)
     }
 
+    /// What is new of a piece: its values at exactly the ticks that are unknown. It fails only where memory is refused.
+    pub fn news(&self, piece: &Piece<K>) -> Result<Piece<K>, AllocError>
+        ensures { IfOk result (λ fresh. RunsGive Q fresh (λ t. new_K (known_at self.now t) (known_at piece.now t))) }
+    {
+        fresh_piece(self.alloc, &self.stream, piece)
+    }
+
     /// Joins a piece, and answers what is new of it: its values at exactly the ticks that were unknown. It fails only where memory
     /// is refused; then the knowledge is as it was.
     pub fn learn(&mut self, piece: &Piece<K>) -> Result<Piece<K>, AllocError>
@@ -122,7 +140,11 @@ impl Know {
         ensures err { OnErr result (self.new ≡ self.old) }
     {
         let fresh = fresh_piece(self.alloc, &self.stream, piece)?;
-        self.stream.join_piece(piece)?;
+        let Some(room) = self.stream.room_for(piece) else {
+            return Err(AllocError);
+        };
+        self.stream.reserve(room)?;
+        self.events = join_counted(&mut self.stream, piece, self.events);
         Ok(fresh)
     }
 
@@ -146,7 +168,7 @@ impl Know {
         ensures err { OnErr result (self.new ≡ self.old) }
     {
         self.stream.reserve(2)?;
-        self.stream.set_range(first, last, K::F);
+        self.events = finish_counted(&mut self.stream, first, last, self.events);
         Ok(())
     }
 
@@ -163,171 +185,10 @@ impl Know {
     {
         // Proof only: the runs are canonical before and after.
         let _ = self.stream.len();
-        forget_data(&mut self.stream, u64::from(limit), upto);
+        let too_many = self.events.saturating_sub(u64::from(limit));
+        let left = forget_data(&mut self.stream, too_many, upto);
+        self.events -= too_many - left;
         let _ = self.stream.len();
         Ok(())
     }
-}
-
-/// The least clashing tick.
-fn find_clash(stream: &Stream<K>, piece: &Piece<K>) -> Option<Clash>
-    ensures { MatchOption result ((t : ℕ) → clash_K (known_at stream.now.runs t) (known_at piece.now t) ≡ false) (λ c. IsLeastClash (known_at stream.now.runs) (known_at piece.now) c.tick c.kept c.came) }
-{
-    let mut next = 1;
-    while next <= MAX_TICK {
-        let kept = stream.at(next);
-        let came = piece.at(next);
-        if clashing(&kept, &came) {
-            return Some(Clash {
-                tick: next,
-                kept,
-                came,
-            });
-        }
-        next = settled_until(stream, piece, next) + 1;
-    }
-    let _ = stream.len();
-    let _ = piece.len();
-    None
-}
-
-/// The greatest tick up to which neither what came, nor what is kept where something came, changes.
-fn settled_until(stream: &Stream<K>, piece: &Piece<K>, tick: u64) -> u64
-    requires { tick ≤ 2 ^ 62 }
-    ensures forward { tick ≤ result }
-    ensures inside { result ≤ 2 ^ 62 }
-    ensures greatest { result < 2 ^ 62 → (known_at piece.now (result + 1) ≢ known_at piece.now tick) ⊎ (known_at stream.now.runs (result + 1) ≢ known_at stream.now.runs tick) }
-    ensures clash { (t : ℕ) → tick ≤ t → t ≤ result → clash_K (known_at stream.now.runs t) (known_at piece.now t) ≡ clash_K (known_at stream.now.runs tick) (known_at piece.now tick) }
-    ensures fresh { (t : ℕ) → tick ≤ t → t ≤ result → new_K (known_at stream.now.runs t) (known_at piece.now t) ≡ new_K (known_at stream.now.runs tick) (known_at piece.now tick) }
-{
-    let came = piece.steady_until(tick);
-    if is_bottom(&piece.at(tick)) {
-        return came;
-    }
-    came.min(stream.steady_until(tick))
-}
-
-fn clashing(kept: &K, came: &K) -> bool
-    ensures { result ≡ clash_K kept.now came.now }
-{
-    match kept {
-        K::Q | K::F => false,
-        K::S => matches!(came, K::D(_)),
-        K::D(event) => match came {
-            K::S => true,
-            K::D(second) => !event.same(second),
-            K::Q | K::F => false,
-        },
-    }
-}
-
-fn fresh_value(kept: &K, came: K) -> K
-    ensures { result ≡ new_K kept.now came }
-{
-    match kept {
-        K::Q => came,
-        K::S | K::D(_) | K::F => K::Q,
-    }
-}
-
-/// What came where nothing was known.
-fn fresh_piece(alloc: Global, stream: &Stream<K>, piece: &Piece<K>) -> Result<Piece<K>, AllocError>
-    ensures { IfOk result (λ fresh. RunsGive Q fresh (λ t. new_K (known_at stream.now.runs t) (known_at piece.now t))) }
-{
-    let mut fresh = Piece::new(alloc);
-    let mut next = 1;
-    while next <= MAX_TICK {
-        let end = settled_until(stream, piece, next);
-        let value = fresh_value(&stream.at(next), piece.at(next));
-        if !is_bottom(&value) {
-            fresh.push(Run {
-                first: next,
-                last: end,
-                value,
-            })?;
-        } else {
-            drop(value);
-        }
-        next = end + 1;
-    }
-    let _ = fresh.len();
-    let _ = stream.len();
-    let _ = piece.len();
-    Ok(fresh)
-}
-
-/// Whether a run has an event.
-fn is_data(run: &Run<K>) -> bool
-    ensures { result ≡ is_D run.now.value }
-{
-    match &run.value {
-        K::D(_) => true,
-        K::Q | K::S | K::F => false,
-    }
-}
-
-/// Whether a run has an event at a tick up to a given one.
-fn may_lower(run: &Run<K>, upto: u64) -> bool
-    ensures { result ≡ (is_D run.now.value && nat_le run.now.first upto) }
-{
-    is_data(run) && run.first <= upto
-}
-
-/// How many ticks of a run have an event.
-fn data_of(run: &Run<K>) -> u64
-    requires { IsRun Q run.now }
-    ensures { result ≡ data_of run.now }
-{
-    if is_data(run) {
-        run.last - run.first + 1
-    } else {
-        0
-    }
-}
-
-/// How many ticks have an event.
-fn data_count(stream: &Stream<K>) -> u64
-    ensures { result ≡ data_count stream.now.runs }
-{
-    let mut count = 0u64;
-    for i in 0..stream.len() {
-        count += data_of(stream.run(i));
-    }
-    count
-}
-
-/// Lowers the least ticks with an event, up to a tick, until no more than the limit are left.
-fn forget_data(stream: &mut Stream<K>, limit: u64, upto: u64)
-    ensures { stream.new.runs ≡ forgotten limit upto stream.old.runs }
-{
-    let mut left = data_count(stream).saturating_sub(limit);
-    let mut i = 0;
-    while left > 0 && i < stream.len() {
-        (i, left) = lower_run(stream, i, left, upto);
-    }
-    let _ = stream.len();
-}
-
-/// Lowers what is to be lowered of the run at a place, and answers the place to go on at, and how many ticks are left to lower.
-fn lower_run(stream: &mut Stream<K>, i: usize, left: u64, upto: u64) -> (usize, u64)
-    requires within { i < length stream.old.runs }
-    requires some { 0 < left }
-    ensures within { result.0 ≤ length stream.new.runs }
-    ensures smaller { length stream.new.runs - result.0 < length stream.old.runs - i }
-    ensures lowered { take result.0 stream.new.runs ++ lower_data result.1 upto (drop result.0 stream.new.runs) ≡ take i stream.old.runs ++ lower_data left upto (drop i stream.old.runs) }
-{
-    let _ = stream.len();
-    let run = stream.run(i);
-    if !may_lower(run, upto) {
-        return (i + 1, left);
-    }
-    let first = run.first;
-    let last = run.last;
-    let ticks = left.min(last.min(upto) - first + 1);
-    let end = first + (ticks - 1);
-    stream.lower_front(i, end);
-    if end == last {
-        return (i, left - ticks);
-    }
-    (i + 1, left - ticks)
 }

@@ -2,7 +2,7 @@ use Rattle.std.proofs.Common.{not, sym, ap, ◌∙◌}
 use Rattle.gr_know.proofs.ValueLaws.{same_event-iff}
 use Rattle.gr_know.specs.Values.{clash_K}
 use Rattle.gr_know.specs.declared.values.K.TheVariants.{D}
-use Rattle.gr_know.proofs.knowledge.clashing.Goals as goal
+use Rattle.gr_know.proofs.news.clashing.Goals as goal
 
 pub returns-in-D-came : goal.returns-in-D-came
 returns-in-D-came c =
