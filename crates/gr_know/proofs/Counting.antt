@@ -1,9 +1,9 @@
 -- Counting ticks with an event: by ranges, by runs and by pieces. All rest on one count, tick by tick, which depends on the values alone.
-use Rattle.std.proofs.Common.{◌≡◌, ◌≢◌, ℕ, zero, suc, ◌+◌, ◌-◌, ◌*◌, ◌^◌, ◌<◌, ◌≤◌, ◌⊎◌, inl, inr, Bool, true, false, ◌&&◌, ◌||◌, cond, min, max, List, [], ◌∷◌, ◌++◌, length, take, drop, get_or, refl, sym, ap, ◌∙◌, subst, arith}
+use Rattle.std.proofs.Common.{◌≡◌, ◌≢◌, ℕ, zero, suc, ◌+◌, ◌-◌, ◌^◌, ◌<◌, ◌≤◌, ◌⊎◌, inl, inr, Bool, true, false, ◌||◌, min, max, [], ◌∷◌, ◌++◌, length, take, drop, get_or, refl, sym, ap, ◌∙◌, subst, arith}
 use Rattle.std.specs.Prelude.{nat_le, if◌then◌else◌}
-use Rattle.std.proofs.lemmas.Bool.{cases_Bool, cases_lt, leb-true, le-leb, lt-leb, and_parts, and_from, cond-true, cond-false}
+use Rattle.std.proofs.lemmas.Bool.{cases_Bool, cases_lt, le-leb, and_from, cond-true, cond-false}
 use Rattle.gr_tick.specs.declared.run.Run.{Run}
-use Rattle.gr_tick.specs.Runs.{is_in, value_at, AreRuns, AreRunsFrom}
+use Rattle.gr_tick.specs.Runs.{is_in, AreRuns, AreRunsFrom}
 use Rattle.gr_tick.specs.Stored.{within, AreTickRuns, EndBefore, RunsGive, is_told}
 use Rattle.gr_tick.proofs.RunLaws.{value_at-in, value_at-below, value_at-above, value_at-start}
 use Rattle.gr_tick.proofs.Canonical.{AreRuns-in_range, EndBefore-in_range}

@@ -1,10 +1,10 @@
 -- Forgetting run by run: what is done with the runs so far, and left to do with the rest, gives what the definition says.
-use Rattle.std.proofs.Common.{◌≡◌, ℕ, suc, ◌+◌, ◌-◌, ◌^◌, ◌<◌, ◌≤◌, ◌⊎◌, inl, inr, min, Bool, true, false, ◌&&◌, cond, [], ◌∷◌, ◌++◌, length, take, drop, get_or, nat_le, nat_lt, refl, sym, ap, ◌∙◌, subst, append_assoc, length-append, arith}
+use Rattle.std.proofs.Common.{◌≡◌, ℕ, suc, ◌+◌, ◌-◌, ◌<◌, ◌≤◌, ◌⊎◌, inl, inr, min, true, false, ◌&&◌, [], ◌∷◌, ◌++◌, length, take, drop, get_or, nat_le, nat_lt, refl, sym, ap, ◌∙◌, subst, append_assoc, length-append, arith}
 use Rattle.std.proofs.lemmas.List.{append-nil, length-drop, take-append-drop, take_at, drop_at, take_more, take_all, drop_all, length-take-le}
 use Rattle.std.proofs.lemmas.Bool.{leb-true, and_parts, lt-ltb, le-ltb, le-leb, lt-leb, cond-true, cond-false, cases_Bool}
 use Rattle.gr_tick.specs.declared.run.Run.{Run}
 use Rattle.gr_tick.specs.Runs.{AreRunsFrom, AreRuns}
-use Rattle.gr_tick.specs.Stored.{EndBefore, part}
+use Rattle.gr_tick.specs.Stored.{part}
 use Rattle.gr_tick.proofs.EditLemmas.{drop_read}
 use Rattle.gr_know.specs.declared.values.K.{K}
 use Rattle.gr_know.specs.declared.values.K.TheVariants.{Q}

@@ -1,20 +1,21 @@
 -- Walks by place over the runs of what is known: the runs before a place end before a tick, and those from there on do not.
-use Rattle.std.proofs.Common.{◌≡◌, ◌≢◌, ℕ, suc, ◌+◌, ◌-◌, ◌<◌, ◌≤◌, ◌⊎◌, inl, inr, Bool, true, false, ◌&&◌, cond, leb, max, List, [], ◌∷◌, ◌++◌, length, take, drop, get_or, refl, sym, ap, ap₂, ◌∙◌, subst, arith}
-use Rattle.std.specs.Prelude.{nat_le, nat_lt, if◌then◌else◌}
-use Rattle.std.proofs.lemmas.Bool.{cases_Bool, cases_lt, leb-true, le-leb, and_parts, and_from, cond-true, cond-false, both_ways}
+use Rattle.std.proofs.Common.{◌≡◌, ◌≢◌, ℕ, ◌+◌, ◌-◌, ◌<◌, ◌≤◌, ◌⊎◌, inl, inr, Bool, true, false, cond, leb, max, ◌∷◌, length, take, drop, get_or, refl, sym, ap, ap₂, ◌∙◌, subst, arith}
+use Rattle.std.specs.Prelude.{nat_le, if◌then◌else◌}
+use Rattle.std.proofs.lemmas.Bool.{cases_Bool, cases_lt, leb-true, le-leb, and_parts, and_from, cond-true, cond-false}
 use Rattle.std.proofs.lemmas.Bool.Decides.{nat_tests}
 use Rattle.std.proofs.lemmas.List.{take-append-drop}
 use Rattle.gr_tick.specs.declared.run.Run.{Run}
 use Rattle.gr_tick.specs.Runs.{is_in, value_at}
-use Rattle.gr_tick.specs.Stored.{within, between, IsRun, AreTickRuns, EndBefore, BeginAfter}
+use Rattle.gr_tick.specs.Stored.{within, between, IsRun, AreTickRuns, BeginAfter}
 use Rattle.gr_tick.proofs.EditLemmas.{drop_read, AreTickRuns-drop}
-use Rattle.gr_tick.proofs.RunsLemmas.{value_at-append, value_at_past, value_at_ahead}
+use Rattle.gr_tick.proofs.RunsLemmas.{value_at-append, value_at_ahead}
 use Rattle.gr_tick.proofs.StepLemmas.{ahead_at, read_values}
 use Rattle.gr_tick.proofs.SeekLemmas.{run_at}
 use Rattle.gr_tick.proofs.WalkLemmas.{walk_start}
 use Rattle.gr_know.specs.declared.values.K.{K}
 use Rattle.gr_know.specs.declared.values.K.TheVariants.{Q, S, D, F}
-use Rattle.gr_know.specs.Values.{Known, known_at, new_K, clash_K}
+use Rattle.gr_event.specs.Event.{same_event}
+use Rattle.gr_know.specs.Values.{Known, known_at, join_K, new_K, clash_K}
 use Rattle.gr_know.specs.Clash.{IsLeastClash, IsLeastClashIn}
 
 -- the next run ends past the end of one
@@ -194,3 +195,49 @@ clash_first kept piece i r tick x y lt e h is c none = record {
     by_place t lo (inr b) =
         let upto : t ≤ r.last = omega (arith, lo, p.1) in
         ap (clash_K (kept t)) (sym (run_at Q piece i t r lt e h b upto)) ∙ c.least t (at_run r t b upto) lo
+
+-- Once a piece is joined
+
+-- a join is unknown where both are, and nowhere else
+pub join_known_left : (k v : K) → k ≢ Q → join_K k v ≢ Q
+join_known_left Q v n = λ e. n refl
+join_known_left S Q n = λ e. cc
+join_known_left S S n = λ e. cc
+join_known_left S (D e) n = λ z. cc
+join_known_left S F n = λ e. cc
+join_known_left (D e) Q n = λ z. cc
+join_known_left (D e) S n = λ z. cc
+join_known_left (D e) (D f) n = by_cases (same_event e f)
+  where
+    by_cases : (b : Bool) → (if b then D e else F) ≢ Q
+    by_cases true = λ z. cc
+    by_cases false = λ z. cc
+join_known_left (D e) F n = λ z. cc
+join_known_left F v n = λ z. cc
+
+pub join_known_right : (k v : K) → v ≢ Q → join_K k v ≢ Q
+join_known_right Q v n = n
+join_known_right S v n = join_known_left S v (λ e. cc)
+join_known_right (D e) v n = join_known_left (D e) v (λ z. cc)
+join_known_right F v n = join_known_left F v (λ e. cc)
+
+pub join_both : (k v : K) → k ≡ Q → v ≡ Q → join_K k v ≡ Q
+join_both k v a b = ap₂ join_K a b
+
+-- known ticks, then ticks that came, then known ticks
+pub join_on : (known came : ℕ → K) (h a b c : ℕ) → ((t : ℕ) → h < t → t ≤ a → join_K (known t) (came t) ≢ Q) → ((t : ℕ) → a + 1 ≤ t → t ≤ b → came t ≢ Q) → ((t : ℕ) → b + 1 ≤ t → t < c → known t ≢ Q) → (t : ℕ) → h < t → t ≤ c - 1 → join_K (known t) (came t) ≢ Q
+join_on known came h a b c before middle after t lo hi = by_place (cases_lt a t) (cases_lt b t)
+  where
+    by_place : (a < t) ⊎ (t ≤ a) → (b < t) ⊎ (t ≤ b) → join_K (known t) (came t) ≢ Q
+    by_place (inr p) q = before t lo p
+    by_place (inl p) (inr q) = join_known_right (known t) (came t) (middle t (omega (arith, p)) q)
+    by_place (inl p) (inl q) = join_known_left (known t) (came t) (after t (omega (arith, q)) (omega (arith, hi, lo)))
+
+-- a piece cut from two that are joined one after the other
+pub joined_at : (b : Bool) (k v x y z w : K) → x ≡ (if b then k else Q) → y ≡ join_K Q x → z ≡ join_K y v → w ≡ (if b then z else Q) → w ≡ (if b then join_K k v else Q)
+joined_at true k v x y z w ex ey ez ew = ew ∙ ez ∙ ap (λ q. join_K q v) (ey ∙ ex)
+joined_at false k v x y z w ex ey ez ew = ew
+
+-- the tick after the one before a tick is that tick
+pub next_unknown : (xs : Known) (n : ℕ) → 1 ≤ n → known_at xs n ≡ Q → known_at xs (n - 1 + 1) ≡ Q
+next_unknown xs n le e = let same : n - 1 + 1 ≡ n = omega (arith, le) in ap (known_at xs) same ∙ e

@@ -8,7 +8,7 @@ ghost use Rattle.gr_know.specs.declared.values.K.TheVariants.{Q, F};
 
 use crate::events::{finish_counted, join_counted};
 use crate::forgetting::forget_data;
-use crate::news::{find_clash, fresh_piece};
+use crate::news::{find_clash, fresh_piece, horizon_with, joined_piece};
 use crate::values::K;
 use gr_tick::{Piece, Run, Stream};
 use std::alloc::{AllocError, Global};
@@ -116,6 +116,32 @@ impl Know {
         ensures greatest { known_at self.now (result + 1) ≡ Q }
     {
         self.stream.first_bottom_from(horizon + 1) - 1
+    }
+
+    /// Where a horizon would move to once the piece is joined, as `horizon_from` says it then. It takes no memory.
+    pub fn horizon_with(&self, piece: &Piece<K>, horizon: u64) -> u64
+        requires { horizon ≤ 2 ^ 62 }
+        ensures forward { horizon ≤ result }
+        ensures inside { result ≤ 2 ^ 62 }
+        ensures known { (t : ℕ) → horizon < t → t ≤ result → join_K (known_at self.now t) (known_at piece.now t) ≢ Q }
+        ensures greatest { join_K (known_at self.now (result + 1)) (known_at piece.now (result + 1)) ≡ Q }
+    {
+        horizon_with(&self.stream, piece, horizon)
+    }
+
+    /// What would be known of the range once the piece is joined, cut at its ends. It fails only where memory is refused.
+    pub fn piece_with(
+        &self,
+        piece: &Piece<K>,
+        first: u64,
+        last: u64,
+    ) -> Result<Piece<K>, AllocError>
+        requires from_one { 1 ≤ first }
+        requires ordered { first ≤ last }
+        requires upto { last ≤ 2 ^ 62 }
+        ensures { IfOk result (λ joined. RunsGive Q joined (λ t. if within first last t then join_K (known_at self.now t) (known_at piece.now t) else Q)) }
+    {
+        joined_piece(self.alloc, &self.stream, piece, first, last)
     }
 
     /// The least tick at which the piece clashes with what is known, if there is one. It takes no memory.

@@ -2,13 +2,13 @@
 ghost use Rattle.std.specs.Prelude.{if◌then◌else◌, ◌≡◌, ◌≢◌, ℕ, ◌+◌, ◌^◌, ◌<◌, ◌≤◌, MatchOption, IfOk, OnOk, true, false};
 ghost use Rattle.gr_tick.specs.Runs.{is_in};
 ghost use Rattle.gr_tick.specs.Stored.{within, IsRun, EndBefore, RunsGive};
-ghost use Rattle.gr_know.specs.Values.{known_at, new_K, clash_K};
+ghost use Rattle.gr_know.specs.Values.{known_at, join_K, new_K, clash_K};
 ghost use Rattle.gr_know.specs.Clash.{IsLeastClash, IsLeastClashIn};
 ghost use Rattle.gr_know.specs.declared.values.K.TheVariants.{Q};
 
 use crate::knowledge::Clash;
 use crate::values::K;
-use gr_tick::{Lattice, Piece, Run, Stream};
+use gr_tick::{Lattice, MAX_TICK, Piece, Run, Stream};
 use std::alloc::{AllocError, Global};
 
 /// What came where nothing was known.
@@ -26,6 +26,66 @@ pub fn fresh_piece(
     // Proof only: the runs are canonical.
     let _ = fresh.len();
     Ok(fresh)
+}
+
+/// How far a horizon moves once a piece is joined: nothing is unknown then on the ticks past it and up to there.
+pub fn horizon_with(stream: &Stream<K>, piece: &Piece<K>, horizon: u64) -> u64
+    requires { horizon ≤ 2 ^ 62 }
+    ensures forward { horizon ≤ result }
+    ensures inside { result ≤ 2 ^ 62 }
+    ensures known { (t : ℕ) → horizon < t → t ≤ result → join_K (known_at stream.now.runs t) (known_at piece.now t) ≢ Q }
+    ensures greatest { join_K (known_at stream.now.runs (result + 1)) (known_at piece.now (result + 1)) ≡ Q }
+{
+    // Proof only: the runs end by the last tick.
+    let _ = piece.len();
+    let mut reached = stream.first_bottom_from(horizon + 1) - 1;
+    while reached < MAX_TICK {
+        let came = came_until(piece, reached);
+        if came == reached {
+            return reached;
+        }
+        reached = stream.first_bottom_from(came + 1) - 1;
+    }
+    reached
+}
+
+/// The last tick of the run that goes on past a tick, or that tick where nothing came of the next one.
+fn came_until(piece: &Piece<K>, tick: u64) -> u64
+    requires { tick < 2 ^ 62 }
+    ensures forward { tick ≤ result }
+    ensures inside { result ≤ 2 ^ 62 }
+    ensures came { (t : ℕ) → tick + 1 ≤ t → t ≤ result → known_at piece.now t ≢ Q }
+    ensures none { result ≡ tick → known_at piece.now (tick + 1) ≡ Q }
+{
+    let i = piece.seek(tick + 1);
+    if i == piece.len() {
+        return tick;
+    }
+    let run = piece.run(i);
+    if tick + 1 < run.first {
+        return tick;
+    }
+    run.last
+}
+
+/// What is known of a range once a piece is joined.
+pub fn joined_piece(
+    alloc: Global,
+    stream: &Stream<K>,
+    piece: &Piece<K>,
+    first: u64,
+    last: u64,
+) -> Result<Piece<K>, AllocError>
+    requires from_one { 1 ≤ first }
+    requires ordered { first ≤ last }
+    requires upto { last ≤ 2 ^ 62 }
+    ensures { IfOk result (λ joined. RunsGive Q joined (λ t. if within first last t then join_K (known_at stream.now.runs t) (known_at piece.now t) else Q)) }
+{
+    let known = stream.piece(first, last)?;
+    let mut joined = Stream::new(alloc);
+    joined.join_piece(&known)?;
+    joined.join_piece(piece)?;
+    joined.piece(first, last)
 }
 
 /// Puts a run's value at the end, on the ticks of the run where nothing is known.
@@ -106,6 +166,7 @@ fn clash_of(stream: &Stream<K>, run: &Run<K>) -> Option<Clash>
     None
 }
 
+/// Whether two values say different things of a tick.
 fn clashing(kept: &K, came: &K) -> bool
     ensures { result ≡ clash_K kept.now came.now }
 {

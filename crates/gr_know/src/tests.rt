@@ -34,6 +34,23 @@ fn learns_what_is_new(rt: HostRuntime) -> Result<(), Fail> {
     Ok(())
 }
 
+// What a piece would change is told before it is joined.
+#[test]
+fn tells_what_would_be_new(rt: HostRuntime) -> Result<(), Fail> {
+    let mut know = Know::new(rt.alloc());
+    let _ = know.learn(&piece_of(rt.alloc(), 1, 5, false)?)?;
+    let came = piece_of(rt.alloc(), 4, 8, true)?;
+    let news = know.news(&came)?;
+    assert_eq!(rt; news.len(), 1);
+    assert_eq!(rt; (news.run(0).first, news.run(0).last), (6, 8));
+    assert_eq!(rt; know.horizon_with(&came, 0), 8);
+    let joined = know.piece_with(&came, 3, 6)?;
+    assert_eq!(rt; joined.len(), 2);
+    assert!(rt; joined.at(3).same(&K::S));
+    assert!(rt; joined.run(1).value.same(&K::F));
+    Ok(())
+}
+
 #[test]
 fn silence_and_final_do_not_clash(rt: HostRuntime) -> Result<(), Fail> {
     let mut know = Know::new(rt.alloc());
@@ -155,25 +172,6 @@ fn a_gap_is_filled_answered_and_forgotten(rt: HostRuntime) -> Result<(), Fail> {
     Ok(())
 }
 
-// Two equal events on neighbouring ticks are one run.
-#[test]
-fn equal_events_are_one_run(rt: HostRuntime) -> Result<(), Fail> {
-    let event = numbered(rt.alloc(), 7)?;
-    let mut know = Know::new(rt.alloc());
-    let _ = know.learn(&quiet_then(rt.alloc(), 1, 1000, &event)?)?;
-    let mut piece = Piece::new(rt.alloc());
-    piece.push(Run {
-        first: 1001,
-        last: 1001,
-        value: K::D(event),
-    })?;
-    let _ = know.learn(&piece)?;
-    assert_eq!(rt; know.len(), 2);
-    assert_eq!(rt; know.run(1).first, 1000);
-    assert_eq!(rt; know.run(1).last, 1001);
-    Ok(())
-}
-
 /// Whether the join of two values is the one that is wanted, both ways round.
 fn joins_to<V: Lattice>(one: &V, other: &V, wanted: &V) -> bool {
     let joined = one.share().join(other.share());
@@ -216,45 +214,5 @@ fn silence_and_events_are_apart(rt: HostRuntime) -> Result<(), Fail> {
     assert!(rt; one.at_most(&again));
     assert!(rt; is_bottom(&K::Q));
     assert!(rt; joins_to(&K::Q, &K::F, &K::F));
-    Ok(())
-}
-
-/// Whether a value that comes clashes with a value that is kept of the same tick.
-fn clashes(alloc: Global, kept: &K, came: &K) -> Result<bool, Fail> {
-    let mut know = Know::new(alloc);
-    let _ = know.learn(&at_three(alloc, kept)?)?;
-    match know.clash(&at_three(alloc, came)?) {
-        Some(clash) => Ok(clash.tick == 3 && clash.kept.same(kept) && clash.came.same(came)),
-        None => Ok(false),
-    }
-}
-
-/// A value at tick 3; no run where nothing is known.
-fn at_three(alloc: Global, value: &K) -> Result<Piece<K>, Fail> {
-    let mut piece = Piece::new(alloc);
-    if !is_bottom(value) {
-        piece.push(Run {
-            first: 3,
-            last: 3,
-            value: value.share(),
-        })?;
-    }
-    Ok(piece)
-}
-
-#[test]
-fn only_silence_and_events_clash(rt: HostRuntime) -> Result<(), Fail> {
-    let one = K::D(numbered(rt.alloc(), 1)?);
-    let two = K::D(numbered(rt.alloc(), 2)?);
-    assert!(rt; clashes(rt.alloc(), &K::S, &one)?);
-    assert!(rt; clashes(rt.alloc(), &one, &K::S)?);
-    assert!(rt; clashes(rt.alloc(), &one, &two)?);
-    for value in [&K::Q, &K::S, &one, &K::F] {
-        assert!(rt; !clashes(rt.alloc(), &K::Q, value)?);
-        assert!(rt; !clashes(rt.alloc(), value, &K::Q)?);
-        assert!(rt; !clashes(rt.alloc(), &K::F, value)?);
-        assert!(rt; !clashes(rt.alloc(), value, &K::F)?);
-        assert!(rt; !clashes(rt.alloc(), value, value)?);
-    }
     Ok(())
 }

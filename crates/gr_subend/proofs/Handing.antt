@@ -1,5 +1,5 @@
 -- The piece past a horizon has the data ticks of the knowledge that the horizon passes
-use Rattle.std.proofs.Common.{◌≡◌, ◌⊎◌, inl, inr, ℕ, suc, ◌+◌, ◌-◌, ◌^◌, ◌≤◌, ◌<◌, Bool, true, false, List, [], ◌∷◌, ◌++◌, length, drop, refl, sym, ap, ◌∙◌, Some, append_assoc, arith}
+use Rattle.std.proofs.Common.{◌≡◌, ◌≢◌, ◌⊎◌, inl, inr, ℕ, suc, ◌+◌, ◌-◌, ◌^◌, ◌≤◌, ◌<◌, Bool, true, false, List, [], ◌∷◌, ◌++◌, length, drop, refl, sym, ap, ◌∙◌, Some, append_assoc, arith}
 use Rattle.std.specs.Prelude.{flat_map, if◌then◌else◌, ◌&&◌, nat_le, slice_get}
 use Rattle.std.proofs.lemmas.Bool.{cases_lt, le-leb, lt-leb, and_from, cond-true}
 use Rattle.gr_event.specs.declared.event.Event.{Event}
@@ -9,7 +9,8 @@ use Rattle.std.proofs.lemmas.Option.{get_or_from_slice_get}
 use Rattle.gr_tick.specs.Runs.{AreRuns, first_bottom_from}
 use Rattle.gr_tick.proofs.EditLemmas.{drop_read}
 use Rattle.gr_tick.specs.Stored.{within, RunsGive}
-use Rattle.gr_tick.proofs.Canonical.{value_at-outside}
+use Rattle.gr_tick.proofs.Canonical.{value_at-outside, AreTickRuns-canonical}
+use Rattle.gr_tick.proofs.SteadyLemmas.{first_bottom_from-only}
 use Rattle.gr_know.specs.declared.values.K.{K}
 use Rattle.gr_know.specs.declared.values.K.TheVariants.{Q}
 use Rattle.gr_know.specs.Values.{Known, known_at}
@@ -116,3 +117,28 @@ moves i h k know e m = m ∙ ap (λ n. first_bottom_from know (suc n) - 1) e
 -- and what is handed over are the data ticks that it passed
 pub handed : (i h k : ℕ) (know piece : Known) (ds : List Delivery) → i ≡ h → k ≤ 2 ^ 62 → AreRuns Q know → RunsGive Q piece (λ t. if within (i + 1) k t then known_at know t else Q) → items ds ≡ data_ticks 0 (2 ^ 62) piece → items ds ≡ data_ticks h k know
 handed i h k know piece ds e le a g d = d ∙ piece_ticks i k know piece le a g ∙ ap (λ n. data_ticks n k know) e
+
+-- once a piece is joined
+
+-- the horizon is where the next unknown tick says
+pub moves_with : (h k : ℕ) (joined : Known) (at : ℕ → K) → RunsGive Q joined at → h ≤ k → ((t : ℕ) → h < t → t ≤ k → at t ≢ Q) → at (k + 1) ≡ Q → k ≡ horizon_after true h joined
+unfolding horizon_after
+moves_with h k joined at g le known next =
+    let only : k + 1 ≡ first_bottom_from joined (suc h) =
+    first_bottom_from-only Q joined (suc h) (k + 1) (AreTickRuns-canonical Q joined g.canonical g.in_range) (omega (arith, le)) (g.values (k + 1) ∙ next) (λ t lo hi e. known t (omega (arith, lo)) (omega (arith, hi)) (sym (g.values t) ∙ e)) in
+    omega (arith, only)
+
+-- where it stays nothing is handed over
+pub none_coming : (h k : ℕ) (joined : Known) (at : ℕ → K) (ds : List Delivery) → ds ≡ [] → RunsGive Q joined at → h ≡ k → k ≡ horizon_after true h joined → items ds ≡ data_ticks h (horizon_after true h joined) joined
+none_coming h k joined at ds e g same m =
+    ap items e ∙ sym (no_ticks h joined g.canonical) ∙ ap (λ n. data_ticks h n joined) (same ∙ m)
+
+-- else the data ticks that it passes
+pub some_coming : (i h k : ℕ) (joined piece : Known) (at : ℕ → K) (ds : List Delivery) → i ≡ h → k ≤ 2 ^ 62 → RunsGive Q joined at → RunsGive Q piece (λ t. if within (i + 1) k t then at t else Q) → items ds ≡ data_ticks 0 (2 ^ 62) piece → k ≡ horizon_after true h joined → items ds ≡ data_ticks h (horizon_after true h joined) joined
+some_coming i h k joined piece at ds e le g p d m =
+    let q : RunsGive Q piece (λ t. if within (i + 1) k t then known_at joined t else Q) = record {
+      canonical = p.canonical;
+      in_range = p.in_range;
+      values = λ t. p.values t ∙ ap (λ v. if within (i + 1) k t then v else Q) (sym (g.values t));
+    } in
+    handed i h k joined piece ds e le g.canonical q d ∙ ap (λ n. data_ticks h n joined) m

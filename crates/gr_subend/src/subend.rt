@@ -1,8 +1,8 @@
 //! The horizon of the subscribers at a broker, for one publisher.
 
 ghost use Rattle.std.specs.Prelude.{◌≡◌, ◌≢◌, ◌⊎◌, ℕ, suc, ◌+◌, ◌-◌, ◌^◌, ◌<◌, ◌≤◌, ◌++◌, true, None, map, IfOk, OnOk, OnErr};
-ghost use Rattle.gr_tick.specs.Stored.{IsRun};
-ghost use Rattle.gr_know.specs.Values.{known_at};
+ghost use Rattle.gr_tick.specs.Stored.{IsRun, RunsGive};
+ghost use Rattle.gr_know.specs.Values.{Known, known_at, join_K};
 ghost use Rattle.gr_know.specs.declared.values.K.TheVariants.{Q};
 ghost use Rattle.gr_subend.specs.Horizon.{horizon_after, numbers_from, data_of_run, data_ticks};
 ghost use Rattle.gr_subend.specs.Said.{said_at, TicksRise, event_of};
@@ -63,6 +63,30 @@ impl Subend {
         let deliveries = events_in(alloc, &passed)?;
         self.horizon = horizon;
         Ok(deliveries)
+    }
+
+    /// What `advance` will give once a piece is joined to what is known: for a caller that takes all memory before it changes
+    /// anything. `move_on` then moves the horizon. It looks at the ticks that are passed and no others.
+    pub fn coming(&self, alloc: Global, know: &Know, piece: &Piece<K>) -> Result<Deliveries, Memory>
+        ensures { IfOk result (λ ds. (joined : Known) → RunsGive Q joined (λ t. join_K (known_at know.now t) (known_at piece.now t)) → items ds ≡ data_ticks self.now (horizon_after true self.now joined) joined) }
+    {
+        // Proof only: the horizon is a tick.
+        let _ = self.horizon();
+        let horizon = know.horizon_with(piece, self.horizon);
+        if horizon == self.horizon {
+            return Ok(Deliveries::new(alloc));
+        }
+        let passed = know.piece_with(piece, self.horizon + 1, horizon)?;
+        let deliveries = events_in(alloc, &passed)?;
+        Ok(deliveries)
+    }
+
+    /// Moves the horizon as `advance` does, and gives no events. Takes no memory, and never fails.
+    pub fn move_on(&mut self, know: &Know)
+        ensures horizon { self.new ≡ horizon_after true self.old know.now }
+        ensures forward { self.old ≤ self.new }
+    {
+        self.horizon = know.horizon_from(self.horizon);
     }
 
     /// The horizon. Takes no memory.

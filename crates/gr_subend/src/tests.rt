@@ -76,3 +76,16 @@ fn hands_over_each_tick_of_a_run(rt: HostRuntime) -> Result<(), Fail> {
     assert!(rt; delivers(&rt, &end.advance(alloc, &know)?, &[4, 5], &event));
     Ok(())
 }
+
+#[test]
+fn tells_what_is_coming(rt: HostRuntime) -> Result<(), Fail> {
+    let alloc = rt.alloc();
+    let mut know = Know::new(alloc);
+    let mut end = Subend::new();
+    let piece = piece_of(alloc, 1, 3, None)?;
+    assert_eq!(rt; end.coming(alloc, &know, &piece)?.len(), 0);
+    let _ = know.learn(&piece)?;
+    end.move_on(&know);
+    assert_eq!(rt; end.horizon(), 3);
+    Ok(())
+}

@@ -1,4 +1,4 @@
-use Rattle.std.proofs.Common.{◌≡◌, ℕ, suc, ◌-◌, ◌≤◌, length, take}
+use Rattle.std.proofs.Common.{◌≡◌, suc, ◌-◌, ◌≤◌, length, take}
 use Rattle.gr_know.specs.Values.{known_at}
 use Rattle.gr_know.specs.Events.{events_from}
 use Rattle.gr_know.proofs.events.events_in.Given as goal

@@ -1,7 +1,7 @@
-use Rattle.std.proofs.Common.{◌≡◌, ◌-◌, sym, ap, ◌∙◌, subst, arith}
+use Rattle.std.proofs.Common.{◌-◌, sym, ap, ◌∙◌, subst}
 use Rattle.gr_tick.specs.Runs.{AreRuns}
 use Rattle.gr_know.specs.Values.{Known}
-use Rattle.gr_know.specs.Forget.{data_count, lower_data, forgotten, Forgets}
+use Rattle.gr_know.specs.Forget.{lower_data, forgotten, Forgets}
 use Rattle.gr_know.specs.declared.values.K.TheVariants.{Q}
 use Rattle.gr_know.proofs.Lowering.{forgotten-is}
 use Rattle.gr_know.proofs.knowledge.Know.forget.Goals as goal
