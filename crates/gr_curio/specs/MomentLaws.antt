@@ -1,5 +1,5 @@
 -- The moments are a lattice, since numbers are in order
-use Rattle.std.specs.Prelude.{◌≡◌, ℕ, ◌≤◌, max, true, refl}
+use Rattle.std.specs.Prelude.{◌≡◌, max, true, refl}
 use Rattle.std.proofs.Common.{ap}
 use Rattle.std.proofs.lemmas.Bool.{leb-true, le-leb, false≢true}
 use Rattle.std.proofs.Math.Nat.{le_refl, le_trans, le_antisymm, le-max_left, le-max_right, max-le}

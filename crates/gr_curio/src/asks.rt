@@ -1,14 +1,14 @@
-ghost use Rattle.std.specs.Prelude.{◌≡◌, ◌≢◌, ◌⊎◌, ℕ, ◌+◌, ◌^◌, ◌<◌, ◌≤◌, IfOk, OnOk, OnErr, [], length, slice_get, Some};
+ghost use Rattle.std.specs.Prelude.{if◌then◌else◌, ◌≡◌, ◌≢◌, ◌⊎◌, ℕ, ◌+◌, ◌*◌, ◌^◌, ◌<◌, ◌≤◌, IfOk, IsOk, OnOk, OnErr, [], length, slice_get, Some, false};
 ghost use Rattle.gr_tick.specs.Runs.{AreRuns};
-ghost use Rattle.gr_tick.specs.Stored.{IsRun, EndBefore, RunsGive};
+ghost use Rattle.gr_tick.specs.Stored.{within, IsRun, EndBefore, RunsGive};
 ghost use Rattle.gr_curio.specs.Moments.{is_at_most, later_of};
 ghost use Rattle.gr_curio.specs.MomentLaws.{moment_laws};
-ghost use Rattle.gr_curio.specs.Values.{wanted_at, asked_at, is_outstanding};
+ghost use Rattle.gr_curio.specs.Values.{wanted_at, asked_at, is_C, is_outstanding};
 ghost use Rattle.gr_curio.specs.Due.{due_of, noted_of};
 ghost use Rattle.gr_curio.specs.declared.asks.Moment.TheVariants.{Never};
 ghost use Rattle.gr_curio.specs.declared.values.Q3.TheVariants.{N};
 
-use crate::mark::mark_asked;
+use crate::mark::{mark_asked, mark_ready};
 use crate::values::Q3;
 use gr_tick::{Lattice, MAX_TICK, Piece, Run, Stream, is_bottom};
 use std::alloc::{AllocError, Global};
@@ -65,7 +65,8 @@ impl Lattice for Moment {
     }
 }
 
-/// When a broker last asked each tick upstream, for one publisher, seen as its list of runs.
+/// When a broker last asked each tick upstream, for one publisher, seen as the list of its runs and its spare, how many runs more
+/// fit before memory is asked for.
 #[derive(Drop)]
 pub struct Asks {
     alloc: Global,
@@ -73,19 +74,19 @@ pub struct Asks {
 }
 
 impl Model for Asks {
-    ghost use Rattle.std.specs.Prelude.{List};
-    ghost use Rattle.gr_tick.specs.declared.run.Run.{Run};
+    ghost use Rattle.gr_tick.specs.Kept.{Kept};
     ghost use Rattle.gr_curio.specs.declared.asks.Moment.{Moment};
 
-    ghost Value = { List (Run Moment) };
+    ghost Value = { Kept Moment };
 
-    ghost view = { λ a. a.moments.runs };
+    ghost view = { λ a. a.moments };
 }
 
 impl Asks {
     /// Nothing was asked. It takes no memory.
     pub fn new(alloc: Global) -> Asks
-        ensures { result ≡ [] }
+        ensures runs { result.runs ≡ [] }
+        ensures spare { result.spare ≡ 0 }
     {
         Asks {
             alloc,
@@ -93,9 +94,10 @@ impl Asks {
         }
     }
 
-    /// An equal object. It fails only where memory is refused.
+    /// An object with equal runs, which has room for the edits that follow. It fails only where memory is refused.
     pub fn copy(&self) -> Result<Asks, AllocError>
-        ensures { IfOk result (λ asks. asks ≡ self.now) }
+        ensures runs { IfOk result (λ asks. asks.runs ≡ self.now.runs) }
+        ensures spare { IfOk result (λ asks. length self.now.runs + 4 ≤ asks.spare) }
     {
         let moments = self.moments.copy()?;
         Ok(Asks {
@@ -106,17 +108,17 @@ impl Asks {
 
     /// How many runs it has. They are canonical, and none ends past `MAX_TICK`.
     pub fn len(&self) -> usize
-        ensures len { result ≡ length self.now }
-        ensures canonical { AreRuns Never self.now }
-        ensures in_range { EndBefore self.now (2 ^ 62 + 1) }
+        ensures len { result ≡ length self.now.runs }
+        ensures canonical { AreRuns Never self.now.runs }
+        ensures in_range { EndBefore self.now.runs (2 ^ 62 + 1) }
     {
         self.moments.len()
     }
 
     /// The run at place `i`, from 0.
     pub fn run(&self, i: usize) -> &Run<Moment>
-        requires { i < length self.now }
-        ensures run { slice_get self.now i ≡ Some result.now }
+        requires { i < length self.now.runs }
+        ensures run { slice_get self.now.runs i ≡ Some result.now }
         ensures alone { IsRun Never result.now }
     {
         self.moments.run(i)
@@ -125,18 +127,55 @@ impl Asks {
     /// The ticks that `wanted` asks and whose last ask is not outstanding at `now`. An ask is outstanding from its moment on, for
     /// `retry` milliseconds. All moments are milliseconds. It fails only where memory is refused.
     pub fn due(&self, wanted: &Piece<Q3>, now: u64, retry: u64) -> Result<Piece<Q3>, AllocError>
-        ensures { IfOk result (λ piece. RunsGive N piece (λ t. due_of (asked_at self.now t) (wanted_at wanted.now t) now retry)) }
+        ensures { IfOk result (λ piece. RunsGive N piece (λ t. due_of (asked_at self.now.runs t) (wanted_at wanted.now t) now retry)) }
     {
         due_piece(self.alloc, &self.moments, wanted, now, retry)
     }
 
-    /// Notes that the ticks that a piece asks were asked at `now`. It fails only where memory is refused; then all is as it was.
+    /// Makes room for at least `n` runs more. It fails only where memory is refused; then all is as it was.
+    pub fn reserve(&mut self, n: usize) -> Result<(), AllocError>
+        ensures runs { self.new.runs ≡ self.old.runs }
+        ensures spare { OnOk result (n ≤ self.new.spare) }
+        ensures never_less { self.old.spare ≤ self.new.spare }
+        ensures succeeds { n ≤ self.old.spare → IsOk result }
+        ensures err { OnErr result (self.new ≡ self.old) }
+    {
+        self.moments.reserve(n)?;
+        Ok(())
+    }
+
+    /// Notes that the ticks that a piece asks were asked at `now`: those with `C`, and no others. It fails only where memory is
+    /// refused; then all is as it was.
     pub fn asked(&mut self, piece: &Piece<Q3>, now: u64) -> Result<(), AllocError>
-        ensures asked { OnOk result (RunsGive Never self.new (λ t. noted_of now (asked_at self.old t) (wanted_at piece.now t))) }
+        ensures asked { OnOk result (RunsGive Never self.new.runs (λ t. noted_of now (asked_at self.old.runs t) (wanted_at piece.now t))) }
+        ensures other { OnOk result ((t : ℕ) → is_C (wanted_at piece.now t) ≡ false → asked_at self.new.runs t ≡ asked_at self.old.runs t) }
         ensures err { OnErr result (self.new ≡ self.old) }
     {
         mark_asked(&mut self.moments, piece, &Moment::At(now))?;
         Ok(())
+    }
+
+    /// `asked` where the room for it is there: two runs for each run of the piece. It takes no memory.
+    pub fn asked_ready(&mut self, piece: &Piece<Q3>, now: u64)
+        requires { length piece.now * 2 ≤ self.old.spare }
+        ensures asked { RunsGive Never self.new.runs (λ t. noted_of now (asked_at self.old.runs t) (wanted_at piece.now t)) }
+        ensures spare { self.old.spare ≤ self.new.spare + length piece.now * 2 }
+    {
+        mark_ready(&mut self.moments, piece, &Moment::At(now));
+    }
+
+    /// Keeps no moment of the ticks of a range any more, as if they had never been asked: of ticks that are final, which are asked
+    /// no more. It takes no memory where there is room for one run. It fails only where memory is refused; then all is as it was.
+    pub fn forget(&mut self, first: u64, last: u64) -> Result<(), AllocError>
+        requires from_one { 1 ≤ first }
+        requires ordered { first ≤ last }
+        requires upto { last ≤ 2 ^ 62 }
+        ensures forgotten { OnOk result (RunsGive Never self.new.runs (λ t. if within first last t then Never else asked_at self.old.runs t)) }
+        ensures spare { self.old.spare ≤ self.new.spare + 1 }
+        ensures succeeds { 1 ≤ self.old.spare → IsOk result }
+        ensures err { OnErr result (self.new ≡ self.old) }
+    {
+        self.moments.lower_range(first, last)
     }
 }
 

@@ -22,19 +22,21 @@ pub fn mark_asked<V: Lattice>(
         return Err(AllocError);
     };
     stream.reserve(room)?;
-    mark_each(stream, piece, value);
-    let _ = stream.len();
+    mark_ready(stream, piece, value);
     Ok(())
 }
 
-/// Puts a value at each tick that a piece asks, where there is room.
-fn mark_each<V: Lattice>(stream: &mut Stream<V>, piece: &Piece<Q3>, value: &V)
+/// Puts a value at each tick that a piece asks, where there is room for two runs for each run of the piece. It takes no memory.
+pub fn mark_ready<V: Lattice>(stream: &mut Stream<V>, piece: &Piece<Q3>, value: &V)
     requires { length piece.now * 2 ≤ stream.old.spare }
-    ensures { (t : ℕ) → value_at V.least stream.new.runs t ≡ (if is_C (wanted_at piece.now t) then value.now else value_at V.least stream.old.runs t) }
+    ensures marked { RunsGive V.least stream.new.runs (λ t. if is_C (wanted_at piece.now t) then value.now else value_at V.least stream.old.runs t) }
+    ensures spare { stream.old.spare ≤ stream.new.spare + length piece.now * 2 }
 {
     for i in 0..piece.len() {
         mark_run(stream, piece.run(i), value);
     }
+    // Proof only: the runs are canonical.
+    let _ = stream.len();
 }
 
 /// Puts a value at each tick of a run that asks.

@@ -278,3 +278,17 @@ fn the_same_as_a_value_for_each_tick(rt: HostRuntime) -> Result<(), Fail> {
     }
     Ok(())
 }
+
+// Of final ticks no moment is kept any more; what is noted with the room taken before is noted all the same.
+#[test]
+fn moments_of_final_ticks_go(rt: HostRuntime) -> Result<(), Fail> {
+    let mut asks = Asks::new(rt.alloc());
+    let asked = piece_of(rt.alloc(), 1, 10, false)?;
+    assert_eq!(rt; asked.len(), 1);
+    asks.reserve(3)?;
+    asks.asked_ready(&asked, 1000);
+    asks.forget(1, 4)?;
+    assert_eq!(rt; asks.len(), 1);
+    assert_eq!(rt; asks.run(0).first, 5);
+    Ok(())
+}

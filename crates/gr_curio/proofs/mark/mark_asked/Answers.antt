@@ -5,7 +5,7 @@ use Rattle.gr_curio.proofs.mark.mark_asked.Goals as goal
 
 pub returns-clause-marked : goal.returns-clause-marked
 returns-clause-marked g c = record {
-  canonical = c.len-2.ensures.canonical;
-  in_range = c.len-2.ensures.in_range;
-  values = λ t. c.mark_each.ensures t ∙ ap (λ zs. cond (is_C (wanted_at c.args.piece.now t)) c.args.value.now (value_at g.V.Lattice.least zs t)) c.reserve.ensures.runs;
+  canonical = c.mark_ready.ensures.marked.canonical;
+  in_range = c.mark_ready.ensures.marked.in_range;
+  values = λ t. c.mark_ready.ensures.marked.values t ∙ ap (λ zs. cond (is_C (wanted_at c.args.piece.now t)) c.args.value.now (value_at g.V.Lattice.least zs t)) c.reserve.ensures.runs;
 }
