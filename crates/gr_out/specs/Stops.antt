@@ -14,3 +14,8 @@ pub record StopCounts {T E : Type 0} (due : Bool) (faults faults' stops stops' :
   pub unbroken : due ≡ false → stops' ≡ stops
   pub same_faults : OnOk result (faults' ≡ faults)
   pub same_stops : OnOk result (stops' ≡ stops)
+
+-- A disk of which no call is to fail by itself stays such a disk, and its count of failures stays.
+pub record StaysFaultless (before after : Type 0) (faults faults' : ℕ) : Type 0 where
+  pub stays : before → after
+  pub same_faults : before → faults' ≡ faults

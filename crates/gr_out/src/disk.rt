@@ -1,8 +1,8 @@
 //! Where bytes are kept, and what a crash leaves of them.
 
-ghost use Rattle.std.specs.Prelude.{◌≡◌, ◌≢◌, ℕ, ◌+◌, ◌<◌, ◌≤◌, Bool, true, not, is_err, length, take, drop, IfOk, OnOk, OnErr, slice_range};
+ghost use Rattle.std.specs.Prelude.{◌≡◌, ◌≢◌, ℕ, ◌+◌, ◌<◌, ◌≤◌, Bool, true, not, is_err, IsErr, length, take, drop, IfOk, OnOk, OnErr, slice_range};
 ghost use Rattle.gr_out.specs.Lane.{Lane, Write, Cut, Sync, content, after_call, with_room, with_stop, stop_at, crashed, is_due, has_stopped, MayLeave};
-ghost use Rattle.gr_out.specs.Stops.{StopCounts};
+ghost use Rattle.gr_out.specs.Stops.{StopCounts, StaysFaultless};
 
 use crate::fault::{Failed, Memory};
 
@@ -38,10 +38,14 @@ pub enum Fate {
 /// failed sync as none.
 ///
 /// Each call that answers `Failed` raised one of two counts: that of failures, or that of the calls that an ordered
-/// stop broke. A call that answers anything else leaves both as they were.
+/// stop broke. A call that answers anything else leaves both as they were. A disk of which no call is to fail by itself
+/// stays such a disk, and its calls fail where an ordered stop breaks them and nowhere else.
 pub trait Disk {
     /// That the disk tells what it holds.
     ghost tells: { Type 0 };
+
+    /// That no call of it is to fail by itself: only an ordered stop may break one.
+    ghost faultless: { Self → Type 0 };
 
     /// A lane by its number.
     ghost lane_of: { Self → ℕ → Lane };
@@ -59,13 +63,16 @@ pub trait Disk {
         ensures err { tells → OnErr result (lane_of self.new lane ≡ lane_of self.old lane) }
         ensures others { tells → (n : ℕ) → n ≢ lane → lane_of self.new n ≡ lane_of self.old n }
         ensures faults { faults self.new ≡ faults self.old }
-        ensures stops { stops self.new ≡ stops self.old };
+        ensures stops { stops self.new ≡ stops self.old }
+        ensures faultless { StaysFaultless (faultless self.old) (faultless self.new) (faults self.old) (faults self.new) };
 
     /// How many bytes a lane has.
     fn size(&mut self, lane: u16) -> Result<u64, Failed>
         ensures size { tells → IfOk result (λ n. n ≡ length (content (lane_of self.old lane))) }
         ensures same { tells → (n : ℕ) → lane_of self.new n ≡ lane_of self.old n }
-        ensures cause { StopCounts (has_stopped (lane_of self.old lane).stop) (faults self.old) (faults self.new) (stops self.old) (stops self.new) result };
+        ensures cause { StopCounts (has_stopped (lane_of self.old lane).stop) (faults self.old) (faults self.new) (stops self.old) (stops self.new) result }
+        ensures faultless { StaysFaultless (faultless self.old) (faultless self.new) (faults self.old) (faults self.new) }
+        ensures by_stop { faultless self.old → IsErr result → has_stopped (lane_of self.old lane).stop ≡ true };
 
     /// Reads the bytes of a lane from a place on, as many as `into` has.
     fn read(&mut self, lane: u16, at: u64, into: &mut [u8]) -> Result<(), Failed>
@@ -73,7 +80,9 @@ pub trait Disk {
         ensures bytes { tells → OnOk result (into.new ≡ take (length into.old) (drop at (content (lane_of self.old lane)))) }
         ensures len { length into.new ≡ length into.old }
         ensures same { tells → (n : ℕ) → lane_of self.new n ≡ lane_of self.old n }
-        ensures cause { StopCounts (has_stopped (lane_of self.old lane).stop) (faults self.old) (faults self.new) (stops self.old) (stops self.new) result };
+        ensures cause { StopCounts (has_stopped (lane_of self.old lane).stop) (faults self.old) (faults self.new) (stops self.old) (stops self.new) result }
+        ensures faultless { StaysFaultless (faultless self.old) (faultless self.new) (faults self.old) (faults self.new) }
+        ensures by_stop { faultless self.old → IsErr result → has_stopped (lane_of self.old lane).stop ≡ true };
 
     /// Writes bytes over what a lane has from a place on, and past its end.
     fn write_at(&mut self, lane: u16, at: u64, bytes: &[u8]) -> Result<(), Failed>
@@ -82,21 +91,27 @@ pub trait Disk {
         requires few { tells → 0 < (lane_of self.old lane).left }
         ensures after { tells → lane_of self.new lane ≡ after_call (Write at bytes.now) (is_err result) (lane_of self.old lane) }
         ensures others { tells → (n : ℕ) → n ≢ lane → lane_of self.new n ≡ lane_of self.old n }
-        ensures cause { StopCounts (is_due (lane_of self.old lane).stop) (faults self.old) (faults self.new) (stops self.old) (stops self.new) result };
+        ensures cause { StopCounts (is_due (lane_of self.old lane).stop) (faults self.old) (faults self.new) (stops self.old) (stops self.new) result }
+        ensures faultless { StaysFaultless (faultless self.old) (faultless self.new) (faults self.old) (faults self.new) }
+        ensures by_stop { faultless self.old → IsErr result → is_due (lane_of self.old lane).stop ≡ true };
 
     /// Cuts a lane to a length. A shorter one stays as it is.
     fn cut(&mut self, lane: u16, len: u64) -> Result<(), Failed>
         requires few { tells → 0 < (lane_of self.old lane).left }
         ensures after { tells → lane_of self.new lane ≡ after_call (Cut len) (is_err result) (lane_of self.old lane) }
         ensures others { tells → (n : ℕ) → n ≢ lane → lane_of self.new n ≡ lane_of self.old n }
-        ensures cause { StopCounts (is_due (lane_of self.old lane).stop) (faults self.old) (faults self.new) (stops self.old) (stops self.new) result };
+        ensures cause { StopCounts (is_due (lane_of self.old lane).stop) (faults self.old) (faults self.new) (stops self.old) (stops self.new) result }
+        ensures faultless { StaysFaultless (faultless self.old) (faultless self.new) (faults self.old) (faults self.new) }
+        ensures by_stop { faultless self.old → IsErr result → is_due (lane_of self.old lane).stop ≡ true };
 
     /// After it, a crash leaves of a lane what a read gives.
     fn sync(&mut self, lane: u16) -> Result<(), Failed>
         requires few { tells → 0 < (lane_of self.old lane).left }
         ensures after { tells → lane_of self.new lane ≡ after_call Sync (is_err result) (lane_of self.old lane) }
         ensures others { tells → (n : ℕ) → n ≢ lane → lane_of self.new n ≡ lane_of self.old n }
-        ensures cause { StopCounts (is_due (lane_of self.old lane).stop) (faults self.old) (faults self.new) (stops self.old) (stops self.new) result };
+        ensures cause { StopCounts (is_due (lane_of self.old lane).stop) (faults self.old) (faults self.new) (stops self.old) (stops self.new) result }
+        ensures faultless { StaysFaultless (faultless self.old) (faultless self.new) (faults self.old) (faults self.new) }
+        ensures by_stop { faultless self.old → IsErr result → is_due (lane_of self.old lane).stop ≡ true };
 }
 
 /// A disk that can be stopped at a chosen call, and whose crash leaves a chosen image.
@@ -108,7 +123,8 @@ pub trait SimDisk: Disk {
         ensures stop { Self.tells → Self.lane_of self.new lane ≡ with_stop (stop_at calls pick) (Self.lane_of self.old lane) }
         ensures others { Self.tells → (n : ℕ) → n ≢ lane → Self.lane_of self.new n ≡ Self.lane_of self.old n }
         ensures faults { Self.faults self.new ≡ Self.faults self.old }
-        ensures stops { Self.stops self.new ≡ Self.stops self.old };
+        ensures stops { Self.stops self.new ≡ Self.stops self.old }
+        ensures faultless { StaysFaultless (Self.faultless self.old) (Self.faultless self.new) (Self.faults self.old) (Self.faults self.new) };
 
     /// Whether the present stop of the lane has broken a call.
     fn stopped(&self, lane: u16) -> bool
@@ -120,5 +136,6 @@ pub trait SimDisk: Disk {
         ensures image { Self.tells → MayLeave (Self.lane_of self.old lane) (content (Self.lane_of self.new lane)) }
         ensures others { Self.tells → (n : ℕ) → n ≢ lane → Self.lane_of self.new n ≡ Self.lane_of self.old n }
         ensures faults { Self.faults self.new ≡ Self.faults self.old }
-        ensures stops { Self.stops self.new ≡ Self.stops self.old };
+        ensures stops { Self.stops self.new ≡ Self.stops self.old }
+        ensures faultless { StaysFaultless (Self.faultless self.old) (Self.faultless self.new) (Self.faults self.old) (Self.faults self.new) };
 }

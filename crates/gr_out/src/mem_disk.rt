@@ -163,6 +163,8 @@ fn count(faults: &mut u64, stops: &mut u64, fate: Fate) -> Result<(), Failed>
 impl Disk for MemDisk {
     ghost tells = { Unit {0} };
 
+    ghost faultless = { λ d. d.fails ≡ [] };
+
     ghost lane_of = { λ d n. lane_at d.lanes n };
 
     ghost faults = { λ d. d.faults };
