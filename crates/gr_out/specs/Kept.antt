@@ -1,11 +1,12 @@
 -- What a lane in memory keeps of its calls, and the room that it has
-use Rattle.std.specs.Prelude.{◌≡◌, ℕ, ◌+◌, ◌-◌, ◌*◌, ◌≤◌, Bool, true, false, if◌then◌else◌, List, [], ◌∷◌, length, take, drop}
+use Rattle.std.specs.Prelude.{◌≡◌, ℕ, ◌+◌, ◌-◌, ◌*◌, ◌≤◌, Bool, true, false, if◌then◌else◌, List, [], ◌∷◌, length, take, drop, Result, is_err}
 use Rattle.gr_out.specs.declared.mem_lane.Entry.{Entry}
 use Rattle.gr_out.specs.declared.mem_lane.Entry.TheVariants as entry
 use Rattle.gr_out.specs.declared.disk.Fate.{Fate}
 use Rattle.gr_out.specs.declared.disk.Fate.TheVariants.{Done, Failed, Broken, Lost}
 use Rattle.gr_out.specs.declared.disk.Stop.{Stop}
-use Rattle.gr_out.specs.Lane.{Lane, Call, Write, Cut, Sync, FailedWrite, FailedCut, read_after, synced_after, fresh_after, has_stopped}
+use Rattle.gr_out.specs.Lane.{Lane, Call, Write, Cut, Sync, FailedWrite, FailedCut, read_after, synced_after, fresh_after, has_stopped, fate_of, lane_at}
+use Rattle.gr_out.specs.Memory.{counted, is_listed}
 
 -- the calls of these entries, the earliest first, behind those before; the bytes of the writes stand one after another
 abbrev pub calls_of : List Call → List ℕ → List Entry → List Call
@@ -66,6 +67,16 @@ is_broken Lost = true
 abbrev pub fate_of_read : Bool → Stop → Fate
 fate_of_read fails stop = if has_stopped stop then Lost else (if fails then Failed else Done)
 
+-- the count of failures after a call, and that of the calls that a stop broke
+abbrev pub faults_after : Fate → ℕ → ℕ
+faults_after Failed n = counted n
+faults_after _ n = n
+
+abbrev pub stops_after : Fate → ℕ → ℕ
+stops_after Broken n = counted n
+stops_after Lost n = counted n
+stops_after _ n = n
+
 -- A disk in memory.
 pub record DiskView : Type 0 where
   pub lanes : List Lane
@@ -76,3 +87,29 @@ pub record DiskView : Type 0 where
   -- how many failed, and how many more a stop broke
   pub faults : ℕ
   pub stops : ℕ
+
+-- the next call is in the list of those that fail
+abbrev pub is_next_listed : DiskView → Bool
+is_next_listed d = is_listed d.fails d.calls
+
+-- what becomes of the next size or read of a lane, and of the next write, cut or sync of it
+abbrev pub look_fate : DiskView → ℕ → Fate
+look_fate d n = fate_of_read (is_next_listed d) (lane_at d.lanes n).stop
+
+abbrev pub change_fate : DiskView → ℕ → Fate
+change_fate d n = fate_of (is_next_listed d) (lane_at d.lanes n).stop
+
+-- A call that fails exactly where it is listed or an ordered stop breaks it. It is counted, whatever it answers.
+pub record FailsAsListed {T E : Type 0} (fate : Fate) (old new : DiskView) (result : Result T E) : Type 0 where
+  pub fails : is_err result ≡ is_failure fate
+  pub list : new.fails ≡ old.fails
+  pub calls : new.calls ≡ counted old.calls
+  pub faults : new.faults ≡ faults_after fate old.faults
+  pub stops : new.stops ≡ stops_after fate old.stops
+
+-- A call that cannot fail, and is not counted.
+pub record IsUncounted (old new : DiskView) : Type 0 where
+  pub list : new.fails ≡ old.fails
+  pub calls : new.calls ≡ old.calls
+  pub faults : new.faults ≡ old.faults
+  pub stops : new.stops ≡ old.stops

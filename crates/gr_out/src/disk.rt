@@ -70,7 +70,8 @@ pub trait Disk {
     fn size(&mut self, lane: u16) -> Result<u64, Failed>
         ensures size { tells → IfOk result (λ n. n ≡ length (content (lane_of self.old lane))) }
         ensures same { tells → (n : ℕ) → lane_of self.new n ≡ lane_of self.old n }
-        ensures cause { StopCounts (has_stopped (lane_of self.old lane).stop) (faults self.old) (faults self.new) (stops self.old) (stops self.new) result }
+        ensures cause { StopCounts (has_stopped (lane_of self.old lane).stop)
+            (faults self.old) (faults self.new) (stops self.old) (stops self.new) result }
         ensures faultless { StaysFaultless (faultless self.old) (faultless self.new) (faults self.old) (faults self.new) }
         ensures by_stop { faultless self.old → IsErr result → has_stopped (lane_of self.old lane).stop ≡ true };
 
@@ -80,7 +81,8 @@ pub trait Disk {
         ensures bytes { tells → OnOk result (into.new ≡ take (length into.old) (drop at (content (lane_of self.old lane)))) }
         ensures len { length into.new ≡ length into.old }
         ensures same { tells → (n : ℕ) → lane_of self.new n ≡ lane_of self.old n }
-        ensures cause { StopCounts (has_stopped (lane_of self.old lane).stop) (faults self.old) (faults self.new) (stops self.old) (stops self.new) result }
+        ensures cause { StopCounts (has_stopped (lane_of self.old lane).stop)
+            (faults self.old) (faults self.new) (stops self.old) (stops self.new) result }
         ensures faultless { StaysFaultless (faultless self.old) (faultless self.new) (faults self.old) (faults self.new) }
         ensures by_stop { faultless self.old → IsErr result → has_stopped (lane_of self.old lane).stop ≡ true };
 
@@ -91,7 +93,8 @@ pub trait Disk {
         requires few { tells → 0 < (lane_of self.old lane).left }
         ensures after { tells → lane_of self.new lane ≡ after_call (Write at bytes.now) (is_err result) (lane_of self.old lane) }
         ensures others { tells → (n : ℕ) → n ≢ lane → lane_of self.new n ≡ lane_of self.old n }
-        ensures cause { StopCounts (is_due (lane_of self.old lane).stop) (faults self.old) (faults self.new) (stops self.old) (stops self.new) result }
+        ensures cause { StopCounts (is_due (lane_of self.old lane).stop)
+            (faults self.old) (faults self.new) (stops self.old) (stops self.new) result }
         ensures faultless { StaysFaultless (faultless self.old) (faultless self.new) (faults self.old) (faults self.new) }
         ensures by_stop { faultless self.old → IsErr result → is_due (lane_of self.old lane).stop ≡ true };
 
@@ -100,7 +103,8 @@ pub trait Disk {
         requires few { tells → 0 < (lane_of self.old lane).left }
         ensures after { tells → lane_of self.new lane ≡ after_call (Cut len) (is_err result) (lane_of self.old lane) }
         ensures others { tells → (n : ℕ) → n ≢ lane → lane_of self.new n ≡ lane_of self.old n }
-        ensures cause { StopCounts (is_due (lane_of self.old lane).stop) (faults self.old) (faults self.new) (stops self.old) (stops self.new) result }
+        ensures cause { StopCounts (is_due (lane_of self.old lane).stop)
+            (faults self.old) (faults self.new) (stops self.old) (stops self.new) result }
         ensures faultless { StaysFaultless (faultless self.old) (faultless self.new) (faults self.old) (faults self.new) }
         ensures by_stop { faultless self.old → IsErr result → is_due (lane_of self.old lane).stop ≡ true };
 
@@ -109,7 +113,8 @@ pub trait Disk {
         requires few { tells → 0 < (lane_of self.old lane).left }
         ensures after { tells → lane_of self.new lane ≡ after_call Sync (is_err result) (lane_of self.old lane) }
         ensures others { tells → (n : ℕ) → n ≢ lane → lane_of self.new n ≡ lane_of self.old n }
-        ensures cause { StopCounts (is_due (lane_of self.old lane).stop) (faults self.old) (faults self.new) (stops self.old) (stops self.new) result }
+        ensures cause { StopCounts (is_due (lane_of self.old lane).stop)
+            (faults self.old) (faults self.new) (stops self.old) (stops self.new) result }
         ensures faultless { StaysFaultless (faultless self.old) (faultless self.new) (faults self.old) (faults self.new) }
         ensures by_stop { faultless self.old → IsErr result → is_due (lane_of self.old lane).stop ≡ true };
 }

@@ -1,10 +1,10 @@
 //! A disk in memory, some of whose calls fail, that can be stopped at a chosen call.
 
-ghost use Rattle.std.specs.Prelude.{◌≡◌, ◌≢◌, ℕ, ◌+◌, ◌<◌, ◌≤◌, [], IsTrue, Bool, is_err, List, length, take, drop, IfOk, OnOk, OnErr};
-ghost use Rattle.gr_out.specs.Lane.{Lane, lane_at, lane_of, content, is_due, has_stopped};
-ghost use Rattle.gr_out.specs.Kept.{DiskView, is_failure, is_broken, fate_of_read};
+ghost use Rattle.std.specs.Prelude.{◌≡◌, ◌≢◌, ℕ, ◌+◌, ◌<◌, ◌≤◌, [], IsTrue, Bool, true, is_err, IsErr, List, length, take, drop, IfOk, OnOk, OnErr};
+ghost use Rattle.gr_out.specs.Lane.{Lane, lane_at, lane_of, content, is_due, has_stopped, after_call, Write, Cut, Sync, with_room, with_stop, stop_at, crashed, MayLeave};
+ghost use Rattle.gr_out.specs.Kept.{DiskView, is_failure, is_broken, fate_of_read, faults_after, stops_after, look_fate, change_fate, FailsAsListed, IsUncounted};
 ghost use Rattle.gr_out.specs.Memory.{counted, is_listed};
-ghost use Rattle.gr_out.specs.Stops.{StopCounts};
+ghost use Rattle.gr_out.specs.Stops.{StopCounts, StaysFaultless};
 
 use crate::disk::{Disk, Fate, SimDisk, Stop};
 use crate::fault::{Failed, Memory};
@@ -71,6 +71,18 @@ impl MemDisk {
         extend(self.alloc, &mut self.lanes, place + 1)?;
         self.lanes[place] = filled;
         Ok(())
+    }
+
+    /// Counts a size or a read of a lane, and answers whether it fails.
+    fn look(&mut self, lane: u16) -> Result<(), Failed>
+        ensures same { self.new.lanes ≡ self.old.lanes }
+        ensures listed { FailsAsListed (look_fate self.old lane) self.old self.new result }
+        ensures cause { StopCounts (has_stopped (lane_at self.old.lanes lane).stop)
+            self.old.faults self.new.faults self.old.stops self.new.stops result }
+    {
+        let fails = is_next_listed(&mut self.calls, &self.fails);
+        let fate = fate_of_read(fails, stop_of(&self.lanes, lane));
+        count(&mut self.faults, &mut self.stops, fate)
     }
 
     /// What a lane reads; nothing where it was never written.
@@ -141,6 +153,8 @@ fn fate_of_read(fails: bool, stop: Stop) -> Fate
 /// Counts what became of a call.
 fn count(faults: &mut u64, stops: &mut u64, fate: Fate) -> Result<(), Failed>
     ensures err { is_err result ≡ is_failure fate }
+    ensures faults { faults.new ≡ faults_after fate faults.old }
+    ensures stops { stops.new ≡ stops_after fate stops.old }
     ensures cause { StopCounts (is_broken fate) faults.old faults.new stops.old stops.new result }
 {
     match fate {
@@ -171,41 +185,95 @@ impl Disk for MemDisk {
 
     ghost stops = { λ d. d.stops };
 
-    fn reserve(&mut self, lane: u16, size: u64) -> Result<(), Memory> {
+    fn reserve(&mut self, lane: u16, size: u64) -> Result<(), Memory>
+        ensures room { OnOk result (lane_at self.new.lanes lane ≡ with_room size (lane_at self.old.lanes lane)) }
+        ensures err { OnErr result (lane_at self.new.lanes lane ≡ lane_at self.old.lanes lane) }
+        ensures others { (n : ℕ) → n ≢ lane → lane_at self.new.lanes n ≡ lane_at self.old.lanes n }
+        ensures faults { self.new.faults ≡ self.old.faults }
+        ensures stops { self.new.stops ≡ self.old.stops }
+        ensures faultless { StaysFaultless (self.old.fails ≡ []) (self.new.fails ≡ []) self.old.faults self.new.faults }
+        ensures uncounted { IsUncounted self.old self.new }
+    {
         let place = usize::from(lane);
         extend(self.alloc, &mut self.lanes, place + 1)?;
         self.lanes[place].reserve(size as usize)
     }
 
-    fn size(&mut self, lane: u16) -> Result<u64, Failed> {
-        let fails = is_next_listed(&mut self.calls, &self.fails);
-        let fate = fate_of_read(fails, stop_of(&self.lanes, lane));
-        count(&mut self.faults, &mut self.stops, fate)?;
+    fn size(&mut self, lane: u16) -> Result<u64, Failed>
+        ensures size { IfOk result (λ n. n ≡ length (content (lane_at self.old.lanes lane))) }
+        ensures same { (n : ℕ) → lane_at self.new.lanes n ≡ lane_at self.old.lanes n }
+        ensures listed { FailsAsListed (look_fate self.old lane) self.old self.new result }
+        ensures cause { StopCounts (has_stopped (lane_at self.old.lanes lane).stop)
+            self.old.faults self.new.faults self.old.stops self.new.stops result }
+        ensures faultless { StaysFaultless (self.old.fails ≡ []) (self.new.fails ≡ []) self.old.faults self.new.faults }
+        ensures by_stop { self.old.fails ≡ [] → IsErr result → has_stopped (lane_at self.old.lanes lane).stop ≡ true }
+    {
+        self.look(lane)?;
         Ok(bytes_of(&self.lanes, lane).len() as u64)
     }
 
-    fn read(&mut self, lane: u16, at: u64, into: &mut [u8]) -> Result<(), Failed> {
-        let fails = is_next_listed(&mut self.calls, &self.fails);
-        let fate = fate_of_read(fails, stop_of(&self.lanes, lane));
-        count(&mut self.faults, &mut self.stops, fate)?;
+    fn read(&mut self, lane: u16, at: u64, into: &mut [u8]) -> Result<(), Failed>
+        requires within { at + length into.old ≤ length (content (lane_at self.old.lanes lane)) }
+        ensures bytes { OnOk result (into.new ≡ take (length into.old) (drop at (content (lane_at self.old.lanes lane)))) }
+        ensures len { length into.new ≡ length into.old }
+        ensures same { (n : ℕ) → lane_at self.new.lanes n ≡ lane_at self.old.lanes n }
+        ensures listed { FailsAsListed (look_fate self.old lane) self.old self.new result }
+        ensures cause { StopCounts (has_stopped (lane_at self.old.lanes lane).stop)
+            self.old.faults self.new.faults self.old.stops self.new.stops result }
+        ensures faultless { StaysFaultless (self.old.fails ≡ []) (self.new.fails ≡ []) self.old.faults self.new.faults }
+        ensures by_stop { self.old.fails ≡ [] → IsErr result → has_stopped (lane_at self.old.lanes lane).stop ≡ true }
+    {
+        self.look(lane)?;
         let from = at as usize;
         into.copy_from_slice(&bytes_of(&self.lanes, lane)[from..from + into.len()]);
         Ok(())
     }
 
-    fn write_at(&mut self, lane: u16, at: u64, bytes: &[u8]) -> Result<(), Failed> {
+    fn write_at(&mut self, lane: u16, at: u64, bytes: &[u8]) -> Result<(), Failed>
+        requires within { at ≤ length (content (lane_at self.old.lanes lane)) }
+        requires room { at + length bytes.now ≤ (lane_at self.old.lanes lane).room }
+        requires few { 0 < (lane_at self.old.lanes lane).left }
+        ensures after { lane_at self.new.lanes lane
+            ≡ after_call (Write at bytes.now) (is_err result) (lane_at self.old.lanes lane) }
+        ensures others { (n : ℕ) → n ≢ lane → lane_at self.new.lanes n ≡ lane_at self.old.lanes n }
+        ensures listed { FailsAsListed (change_fate self.old lane) self.old self.new result }
+        ensures cause { StopCounts (is_due (lane_at self.old.lanes lane).stop)
+            self.old.faults self.new.faults self.old.stops self.new.stops result }
+        ensures faultless { StaysFaultless (self.old.fails ≡ []) (self.new.fails ≡ []) self.old.faults self.new.faults }
+        ensures by_stop { self.old.fails ≡ [] → IsErr result → is_due (lane_at self.old.lanes lane).stop ≡ true }
+    {
         let fails = is_next_listed(&mut self.calls, &self.fails);
         let fate = self.lanes[usize::from(lane)].write_at(at as usize, bytes, fails);
         count(&mut self.faults, &mut self.stops, fate)
     }
 
-    fn cut(&mut self, lane: u16, len: u64) -> Result<(), Failed> {
+    fn cut(&mut self, lane: u16, len: u64) -> Result<(), Failed>
+        requires few { 0 < (lane_at self.old.lanes lane).left }
+        ensures after { lane_at self.new.lanes lane
+            ≡ after_call (Cut len) (is_err result) (lane_at self.old.lanes lane) }
+        ensures others { (n : ℕ) → n ≢ lane → lane_at self.new.lanes n ≡ lane_at self.old.lanes n }
+        ensures listed { FailsAsListed (change_fate self.old lane) self.old self.new result }
+        ensures cause { StopCounts (is_due (lane_at self.old.lanes lane).stop)
+            self.old.faults self.new.faults self.old.stops self.new.stops result }
+        ensures faultless { StaysFaultless (self.old.fails ≡ []) (self.new.fails ≡ []) self.old.faults self.new.faults }
+        ensures by_stop { self.old.fails ≡ [] → IsErr result → is_due (lane_at self.old.lanes lane).stop ≡ true }
+    {
         let fails = is_next_listed(&mut self.calls, &self.fails);
         let fate = self.lanes[usize::from(lane)].cut(len as usize, fails);
         count(&mut self.faults, &mut self.stops, fate)
     }
 
-    fn sync(&mut self, lane: u16) -> Result<(), Failed> {
+    fn sync(&mut self, lane: u16) -> Result<(), Failed>
+        requires few { 0 < (lane_at self.old.lanes lane).left }
+        ensures after { lane_at self.new.lanes lane
+            ≡ after_call Sync (is_err result) (lane_at self.old.lanes lane) }
+        ensures others { (n : ℕ) → n ≢ lane → lane_at self.new.lanes n ≡ lane_at self.old.lanes n }
+        ensures listed { FailsAsListed (change_fate self.old lane) self.old self.new result }
+        ensures cause { StopCounts (is_due (lane_at self.old.lanes lane).stop)
+            self.old.faults self.new.faults self.old.stops self.new.stops result }
+        ensures faultless { StaysFaultless (self.old.fails ≡ []) (self.new.fails ≡ []) self.old.faults self.new.faults }
+        ensures by_stop { self.old.fails ≡ [] → IsErr result → is_due (lane_at self.old.lanes lane).stop ≡ true }
+    {
         let fails = is_next_listed(&mut self.calls, &self.fails);
         let fate = self.lanes[usize::from(lane)].sync(fails);
         count(&mut self.faults, &mut self.stops, fate)
@@ -213,7 +281,15 @@ impl Disk for MemDisk {
 }
 
 impl SimDisk for MemDisk {
-    fn stop_after(&mut self, lane: u16, calls: u8, pick: u8) {
+    fn stop_after(&mut self, lane: u16, calls: u8, pick: u8)
+        requires reserved { (lane_at self.old.lanes lane).reserved ≡ true }
+        ensures stop { lane_at self.new.lanes lane ≡ with_stop (stop_at calls pick) (lane_at self.old.lanes lane) }
+        ensures others { (n : ℕ) → n ≢ lane → lane_at self.new.lanes n ≡ lane_at self.old.lanes n }
+        ensures faults { self.new.faults ≡ self.old.faults }
+        ensures stops { self.new.stops ≡ self.old.stops }
+        ensures faultless { StaysFaultless (self.old.fails ≡ []) (self.new.fails ≡ []) self.old.faults self.new.faults }
+        ensures uncounted { IsUncounted self.old self.new }
+    {
         let stop = if calls == 0 {
             Stop::Unset
         } else {
@@ -229,7 +305,15 @@ impl SimDisk for MemDisk {
         }
     }
 
-    fn crash(&mut self, lane: u16) {
+    fn crash(&mut self, lane: u16)
+        ensures crashed { lane_at self.new.lanes lane ≡ crashed (lane_at self.old.lanes lane) }
+        ensures image { MayLeave (lane_at self.old.lanes lane) (content (lane_at self.new.lanes lane)) }
+        ensures others { (n : ℕ) → n ≢ lane → lane_at self.new.lanes n ≡ lane_at self.old.lanes n }
+        ensures faults { self.new.faults ≡ self.old.faults }
+        ensures stops { self.new.stops ≡ self.old.stops }
+        ensures faultless { StaysFaultless (self.old.fails ≡ []) (self.new.fails ≡ []) self.old.faults self.new.faults }
+        ensures uncounted { IsUncounted self.old self.new }
+    {
         let place = usize::from(lane);
         if place < self.lanes.len() {
             self.lanes[place].crash();

@@ -102,21 +102,32 @@ fn crashes_with_the_picked_image(rt: HostRuntime) -> Result<(), Fail> {
     Ok(())
 }
 
-/// A size, a read, a write, a cut and a sync, each of them failing in turn, and what the lane then reads.
+/// A size, a read, a write, a cut, a sync, and after a crash one more size, each of them failing in turn, and what the
+/// lane reads in the end.
 #[test]
 fn disk_calls_fail_where_listed(rt: HostRuntime) -> Result<(), Fail> {
-    let rows: [(u64, &[u8]); 4] = [(1, b"ab"), (3, b"ab"), (4, b"abcde"), (6, b"ab")];
+    let rows: [(u64, &[u8]); 7] = [
+        (1, b"ab"),
+        (2, b"ab"),
+        (3, b"ab"),
+        (4, b"abcde"),
+        (5, b"ab"),
+        (6, b"ab"),
+        (7, b"ab"),
+    ];
     for (call, left) in rows {
         let mut disk = MemDisk::new(rt.alloc(), &[call])?;
         disk.put(3, b"abcd")?;
         disk.reserve(3, 8)?;
         assert_eq!(rt; disk.size(3).is_err(), call == 1);
-        let mut piece = [0u8; 2];
-        assert_eq!(rt; disk.read(3, 1, &mut piece), Ok(()));
-        assert_eq!(rt; piece, *b"bc");
+        let mut piece = *b"--";
+        assert_eq!(rt; disk.read(3, 1, &mut piece).is_err(), call == 2);
+        assert_eq!(rt; piece, if call == 2 { *b"--" } else { *b"bc" });
         assert_eq!(rt; disk.write_at(3, 4, b"e").is_err(), call == 3);
         assert_eq!(rt; disk.cut(3, 2).is_err(), call == 4);
-        assert_eq!(rt; disk.sync(3), Ok(()));
+        assert_eq!(rt; disk.sync(3).is_err(), call == 5);
+        disk.crash(3);
+        assert_eq!(rt; disk.size(3).is_err(), call == 6);
         assert_eq!(rt; disk.lane(3), left);
     }
     Ok(())
