@@ -1,7 +1,7 @@
 -- The image that a crash picks is one of those that it may leave.
-use Rattle.std.proofs.Common.{◌≡◌, ◌⊎◌, ⊎_elim, ℕ, zero, suc, ◌+◌, ◌*◌, ◌-◌, ◌%◌, ◌<◌, ◌≤◌, Bool, true, false, nat_eq, if◌then◌else◌, List, [], ◌∷◌, ◌++◌, length, take, drop, replicate, get_or, set, refl, ap, sym, ◌∙◌, subst, arith, append_assoc, length-drop, length-take, length-append, min, max}
+use Rattle.std.proofs.Common.{◌≡◌, ⊎_elim, ℕ, zero, suc, ◌+◌, ◌*◌, ◌-◌, ◌%◌, ◌<◌, ◌≤◌, Bool, true, false, nat_eq, if◌then◌else◌, List, [], ◌∷◌, ◌++◌, length, take, drop, replicate, get_or, set, refl, ap, sym, ◌∙◌, subst, arith, append_assoc, length-take, length-append, min}
 use Rattle.std.proofs.lemmas.Bool.{cases_lt}
-use Rattle.std.proofs.lemmas.List.{drop_at, take_at, take_min, drop_all, length-replicate, get_or_default, get_or-set_same}
+use Rattle.std.proofs.lemmas.List.{take-append-drop, drop_at, take_at, take_min, drop_all, length-replicate, get_or_default, get_or-set_same}
 use Rattle.gr_out.specs.declared.disk.Stop.{Stop}
 use Rattle.gr_out.specs.declared.disk.Stop.TheVariants.{Unset, After, Stopped}
 use Rattle.gr_out.specs.Lane.{Lane, lane_at, blank, Call, Write, Cut, Sync, FailedWrite, FailedCut, content, garbled, over, read_after, synced_after, fresh_after, picked_after, crash_image, crashed, Torn, Shortened, LeftAfter, MayLeave}
@@ -74,6 +74,22 @@ pub none_garbled : (pick i n : ℕ) (bs : List ℕ) → garbled pick i (replicat
 none_garbled pick i zero bs = refl
 none_garbled pick i (suc n) [] = refl
 none_garbled pick i (suc n) (b ∷ bs) = ap (λ (l : List ℕ). b ∷ l) (none_garbled pick (i + 1) n bs)
+
+-- bytes of which none is fresh up to a place: those stay, and the others are garbled
+pub garbled_behind : (pick n : ℕ) (fs : List Bool) (bs : List ℕ) → take n fs ≡ replicate n false
+    → take n bs ++ garbled pick n (drop n fs) (drop n bs) ≡ garbled pick 0 fs bs
+garbled_behind pick n fs bs h =
+    ap (λ (l : List ℕ). l ++ garbled pick n (drop n fs) (drop n bs)) (sym (take-garbled pick 0 n fs bs ∙ ap (λ (l : List Bool). garbled pick 0 l (take n bs)) h ∙ none_garbled pick 0 n (take n bs)))
+    ∙ ap (λ (l : List ℕ). take n (garbled pick 0 fs bs) ++ l) (sym (drop-garbled pick 0 n n fs bs (omega arith)))
+    ∙ take-append-drop n (garbled pick 0 fs bs)
+
+pub garbled_front : (pick n : ℕ) (fs : List Bool) (bs : List ℕ) → take n fs ≡ replicate n false → take n (garbled pick 0 fs bs) ≡ take n bs
+garbled_front pick n fs bs h = take-garbled pick 0 n fs bs ∙ ap (λ (l : List Bool). garbled pick 0 l (take n bs)) h ∙ none_garbled pick 0 n (take n bs)
+
+-- with every mark seen, the bytes are the garbled ones
+pub garbled_done : (pick i : ℕ) (fs : List Bool) (bs all : List ℕ) → length fs ≤ i → take i bs ++ garbled pick i (drop i fs) (drop i bs) ≡ all → bs ≡ all
+garbled_done pick i fs bs all h e =
+    sym (take-append-drop i bs) ∙ ap (λ (l : List Bool). take i bs ++ garbled pick i l (drop i bs)) (sym (drop_all i fs h)) ∙ e
 
 -- of bytes one of which is fresh, that one is garbled
 pub one_garbled : (pick i : ℕ) (pre rest : List ℕ) (x : ℕ) → garbled pick i (replicate (length pre) false ++ true ∷ replicate (length rest) false) (pre ++ x ∷ rest) ≡ pre ++ ((i + length pre) * pick) % 256 ∷ rest

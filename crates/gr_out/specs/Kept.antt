@@ -1,49 +1,40 @@
--- What a lane in memory keeps of its calls, and the room that it has
-use Rattle.std.specs.Prelude.{◌≡◌, ℕ, ◌+◌, ◌-◌, ◌*◌, ◌≤◌, Bool, true, false, if◌then◌else◌, List, [], ◌∷◌, length, take, drop, Result, is_err}
-use Rattle.gr_out.specs.declared.mem_lane.Entry.{Entry}
-use Rattle.gr_out.specs.declared.mem_lane.Entry.TheVariants as entry
+-- What a lane in memory keeps, the room that it has, and what becomes of each call of a disk in memory
+use Rattle.std.specs.Prelude.{◌≡◌, ℕ, ◌-◌, ◌≤◌, nat_eq, Bool, true, false, if◌then◌else◌, List, length, take, replicate, Result, is_err}
 use Rattle.gr_out.specs.declared.disk.Fate.{Fate}
 use Rattle.gr_out.specs.declared.disk.Fate.TheVariants.{Done, Failed, Broken, Lost}
 use Rattle.gr_out.specs.declared.disk.Stop.{Stop}
-use Rattle.gr_out.specs.Lane.{Lane, Call, Write, Cut, Sync, FailedWrite, FailedCut, read_after, synced_after, fresh_after, has_stopped, fate_of, lane_at}
+use Rattle.gr_out.specs.declared.disk.Stop.TheVariants.{Stopped}
+use Rattle.gr_out.specs.Lane.{Lane, Call, read_after, synced_after, fresh_after, garbled, has_stopped, fate_of, lane_at}
 use Rattle.gr_out.specs.Memory.{counted, is_listed}
 
--- the calls of these entries, the earliest first, behind those before; the bytes of the writes stand one after another
-abbrev pub calls_of : List Call → List ℕ → List Entry → List Call
-calls_of before written [] = before
-calls_of before written (entry.Wrote at len ∷ es) = calls_of (Write at (take len written) ∷ before) (drop len written) es
-calls_of before written (entry.Cut len ∷ es) = calls_of (Cut len ∷ before) written es
-calls_of before written (entry.Synced ∷ es) = calls_of (Sync ∷ before) written es
-calls_of before written (entry.FailedWrite at len ∷ es) = calls_of (FailedWrite at len ∷ before) written es
-calls_of before written (entry.FailedCut len ∷ es) = calls_of (FailedCut len ∷ before) written es
-
--- how many bytes the entries wrote
-abbrev pub written_len : List Entry → ℕ
-written_len [] = 0
-written_len (entry.Wrote at len ∷ es) = len + written_len es
-written_len (entry.Cut len ∷ es) = written_len es
-written_len (entry.Synced ∷ es) = written_len es
-written_len (entry.FailedWrite at len ∷ es) = written_len es
-written_len (entry.FailedCut len ∷ es) = written_len es
-
--- what is kept is what the calls make of it
-pub record IsKept (start bytes synced : List ℕ) (fresh : List Bool) (calls : List Call) : Type 0 where
+-- What is kept of a lane is what its calls make of it. All before the first place that was written or cut since the
+-- last sync is as it was then.
+pub record IsKept (start bytes synced : List ℕ) (fresh : List Bool) (first : ℕ) (calls : List Call) : Type 0 where
   pub bytes_are : bytes ≡ read_after start calls
   pub synced_are : synced ≡ synced_after start calls
   pub fresh_are : fresh ≡ fresh_after start calls
   pub marked : length fresh ≡ length bytes
+  pub first_in : first ≤ length bytes
+  pub first_synced : first ≤ length synced
+  pub same : take first synced ≡ take first bytes
+  pub unmarked : take first fresh ≡ replicate first false
 
--- there is room for the bytes up to an extent, and for what is kept of the calls that are left
-pub record HasRoom (extent room left : ℕ) (bytes synced : List ℕ) (start_cap bytes_cap synced_cap fresh_cap entries entries_cap written written_cap : ℕ) : Type 0 where
+-- There is room for the bytes up to an extent.
+pub record HasRoom (extent room : ℕ) (bytes synced : List ℕ) (bytes_cap synced_cap fresh_cap : ℕ) : Type 0 where
   pub bytes_in : length bytes ≤ extent
   pub synced_in : length synced ≤ extent
   pub room_in : room ≤ extent
-  pub start_fits : extent ≤ start_cap
   pub bytes_fit : extent ≤ bytes_cap
   pub synced_fit : extent ≤ synced_cap
   pub fresh_fit : extent ≤ fresh_cap
-  pub entries_fit : entries + left ≤ entries_cap
-  pub written_fit : written + left * room ≤ written_cap
+
+-- what a crash leaves of these bytes, given what was synced and which bytes are fresh
+abbrev pub left_by : Stop → List ℕ → List Bool → List ℕ → List ℕ
+left_by stop synced fresh bytes =
+    elim stop [
+      | Stopped pick ↦ if nat_eq pick 0 then synced else (if nat_eq pick 1 then bytes else garbled pick 0 fresh bytes)
+      | _ ↦ bytes
+    ]
 
 -- a lane with these calls, and one call less to come
 abbrev pub with_calls : List Call → Lane → Lane

@@ -6,6 +6,7 @@
 
 pub mod disk;
 pub mod fault;
+mod history;
 pub mod mem_disk;
 pub mod mem_lane;
 pub mod memory;

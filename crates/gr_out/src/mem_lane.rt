@@ -1,56 +1,45 @@
-//! A lane in memory: what it reads, what it read at its last sync, and every call on it since it was made.
+//! A lane in memory: what it reads, what it read at its last sync, and which bytes were written since.
 
-ghost use Rattle.std.specs.Prelude.{◌≡◌, ℕ, ◌+◌, ◌*◌, ◌%◌, ◌≤◌, ◌<◌, ◌++◌, [], ◌∷◌, if◌then◌else◌, Bool, true, false, List, length, take, drop, replicate, IfOk, OnOk, OnErr, vec_len};
+ghost use Rattle.std.specs.Prelude.{◌≡◌, ℕ, ◌+◌, ◌-◌, ◌*◌, ◌%◌, ◌≤◌, ◌<◌, max, ◌++◌, ◌∷◌, if◌then◌else◌, Bool, true, false, List, length, take, replicate, IfOk, OnOk, OnErr, vec_len};
 ghost use Rattle.std.specs.Vec.{vec_capacity};
-ghost use Rattle.gr_out.specs.Lane.{Lane, Write, Cut, Sync, FailedWrite, FailedCut, blank, lane_of, content, over, garbled, after_call, fate_of, one_later, with_room, with_stop, stop_at, crashed, has_stopped};
-ghost use Rattle.gr_out.specs.Kept.{calls_of, written_len, with_calls, IsKept, HasRoom};
+ghost use Rattle.gr_out.specs.Lane.{Lane, Write, Cut, Sync, FailedWrite, FailedCut, blank, lane_of, content, over, garbled, after_call, fate_of, one_later, with_room, with_stop, crashed};
+ghost use Rattle.gr_out.specs.Kept.{with_calls, IsKept, HasRoom, left_by};
 
 use crate::disk::{Fate, Stop};
 use crate::fault::Memory;
-use std::alloc::{AllocError, Global};
+use crate::history::{History, Note};
+use std::alloc::Global;
 use std::marker::Model;
 
-/// A call that a lane keeps. The bytes of a write stand with those of all writes, in their order.
-#[derive(Clone, Copy, Debug, PartialEq, Eq)]
-pub enum Entry {
-    Wrote { at: usize, len: usize },
-    Cut { len: usize },
-    Synced,
-    FailedWrite { at: usize, len: usize },
-    FailedCut { len: usize },
-}
-
-/// A lane in memory.
+/// A lane in memory. It keeps three times its bytes, and nothing of the calls before the last sync.
 #[derive(Drop)]
 pub struct MemLane {
-    start: Vec<u8>,
     bytes: Vec<u8>,
     synced: Vec<u8>,
     fresh: Vec<bool>,
-    entries: Vec<Entry>,
-    written: Vec<u8>,
+    first: usize,
     extent: usize,
     room: usize,
     left: usize,
     reserved: bool,
     stop: Stop,
+    history: History,
 }
 
 impl Model for MemLane {
     ghost Value = { Lane };
 
     ghost view = { λ l. record {
-      start = l.start.items;
-      calls = calls_of [] l.written.items l.entries.items;
+      start = l.history.past.start;
+      calls = l.history.past.calls;
       room = l.room;
       left = l.left;
       reserved = l.reserved;
       stop = l.stop;
     } };
 
-    ghost invariant = { λ l. IsKept l.start.items l.bytes.items l.synced.items l.fresh.items (calls_of [] l.written.items l.entries.items)
-        × (written_len l.entries.items ≡ length l.written.items)
-        × HasRoom l.extent l.room l.left l.bytes.items l.synced.items (vec_capacity l.start) (vec_capacity l.bytes) (vec_capacity l.synced) (vec_capacity l.fresh) (vec_len l.entries) (vec_capacity l.entries) (vec_len l.written) (vec_capacity l.written) };
+    ghost invariant = { λ l. IsKept l.history.past.start l.bytes.items l.synced.items l.fresh.items l.first l.history.past.calls
+        × HasRoom l.extent l.room l.bytes.items l.synced.items (vec_capacity l.bytes) (vec_capacity l.synced) (vec_capacity l.fresh) };
 }
 
 /// Writes items over those from a place on, and past the end.
@@ -80,24 +69,28 @@ fn mark(fresh: &mut Vec<bool>, at: usize, len: usize)
     }
 }
 
-/// Leaves so many, none of them marked.
-fn unmark(fresh: &mut Vec<bool>, len: usize)
-    requires { len ≤ vec_capacity fresh.old }
-    ensures items { fresh.new.items ≡ replicate len false }
+/// Leaves so many, none of them marked from a place on.
+fn unmark(fresh: &mut Vec<bool>, first: usize, len: usize)
+    requires marked { first ≤ length fresh.old.items }
+    requires within { first ≤ len }
+    requires fits { len ≤ vec_capacity fresh.old }
+    ensures items { fresh.new.items ≡ take first fresh.old.items ++ replicate (len - first) false }
     ensures capacity { vec_capacity fresh.old ≤ vec_capacity fresh.new }
 {
-    fresh.clear();
+    fresh.truncate(first);
     fresh.resize(len, false).unwrap();
 }
 
-/// Puts a copy of bytes in place of others.
-fn replace(bytes: &mut Vec<u8>, new: &[u8])
-    requires { length new.now ≤ vec_capacity bytes.old }
-    ensures items { bytes.new.items ≡ new.now }
-    ensures capacity { vec_capacity bytes.old ≤ vec_capacity bytes.new }
+/// Makes one list of bytes as another is, where both agree up to a place.
+fn renew(copy: &mut Vec<u8>, bytes: &[u8], first: usize)
+    requires same { take first copy.old.items ≡ take first bytes.now }
+    requires within { first ≤ length bytes.now }
+    requires fits { length bytes.now ≤ vec_capacity copy.old }
+    ensures items { copy.new.items ≡ bytes.now }
+    ensures capacity { vec_capacity copy.old ≤ vec_capacity copy.new }
 {
-    bytes.clear();
-    bytes.extend_from_slice(new).unwrap();
+    copy.truncate(first);
+    copy.extend_from_slice(&bytes[first..]).unwrap();
 }
 
 /// A byte at a place, as its place times the pick modulo 256 where it is marked.
@@ -112,13 +105,38 @@ fn garbled_byte(at: usize, pick: u8, is_fresh: bool, byte: u8) -> u8
     }
 }
 
-/// Puts in place of each marked byte its place times the pick, modulo 256.
-fn garble(bytes: &mut [u8], fresh: &[bool], pick: u8)
-    requires { length fresh.now ≡ length bytes.old }
-    ensures { bytes.new ≡ garbled pick 0 fresh.now bytes.old }
+/// Puts in place of each marked byte its place times the pick, modulo 256, where none is marked up to a place.
+fn garble(bytes: &mut [u8], fresh: &[bool], first: usize, pick: u8)
+    requires marked { length fresh.now ≡ length bytes.old }
+    requires unmarked { take first fresh.now ≡ replicate first false }
+    ensures bytes { bytes.new ≡ garbled pick 0 fresh.now bytes.old }
+    ensures front { take first bytes.new ≡ take first bytes.old }
 {
-    for i in 0..bytes.len() {
+    for i in first..bytes.len() {
         bytes[i] = garbled_byte(i, pick, fresh[i], bytes[i]);
+    }
+}
+
+/// Leaves of the bytes what a crash picks. All up to the place `first` was synced and is not marked.
+fn leave_picked(bytes: &mut Vec<u8>, synced: &[u8], fresh: &[bool], first: usize, stop: Stop)
+    requires same { take first synced.now ≡ take first bytes.old.items }
+    requires marked { length fresh.now ≡ length bytes.old.items }
+    requires unmarked { take first fresh.now ≡ replicate first false }
+    requires within { first ≤ length bytes.old.items }
+    requires synced { first ≤ length synced.now }
+    requires fits { length synced.now ≤ vec_capacity bytes.old }
+    ensures items { bytes.new.items ≡ left_by stop synced.now fresh.now bytes.old.items }
+    ensures front { take first bytes.new.items ≡ take first bytes.old.items }
+    ensures within { first ≤ length bytes.new.items }
+    ensures long { length bytes.new.items ≤ max (length bytes.old.items) (length synced.now) }
+    ensures capacity { vec_capacity bytes.old ≤ vec_capacity bytes.new }
+{
+    if let Stop::Stopped { pick } = stop {
+        if pick == 0 {
+            renew(bytes, synced, first);
+        } else if pick > 1 {
+            garble(bytes, fresh, first, pick);
+        }
     }
 }
 
@@ -160,26 +178,6 @@ fn one_later(stop: Stop) -> Stop
     }
 }
 
-/// Keeps one more entry.
-fn keep(entries: &mut Vec<Entry>, entry: Entry)
-    requires { vec_len entries.old < vec_capacity entries.old }
-    ensures items { entries.new.items ≡ entries.old.items ++ entry ∷ [] }
-    ensures len { vec_len entries.new ≡ vec_len entries.old + 1 }
-    ensures capacity { vec_capacity entries.old ≤ vec_capacity entries.new }
-{
-    entries.push(entry).unwrap();
-}
-
-/// Appends bytes.
-fn append(written: &mut Vec<u8>, bytes: &[u8])
-    requires { vec_len written.old + length bytes.now ≤ vec_capacity written.old }
-    ensures items { written.new.items ≡ written.old.items ++ bytes.now }
-    ensures len { vec_len written.new ≡ vec_len written.old + length bytes.now }
-    ensures capacity { vec_capacity written.old ≤ vec_capacity written.new }
-{
-    written.extend_from_slice(bytes).unwrap();
-}
-
 /// Makes room in a vector up to a length.
 fn make_room<T>(items: &mut Vec<T>, len: usize) -> Result<(), Memory>
     ensures items { items.new.items ≡ items.old.items }
@@ -196,17 +194,16 @@ impl MemLane {
         ensures { result ≡ blank }
     {
         MemLane {
-            start: Vec::new(alloc),
             bytes: Vec::new(alloc),
             synced: Vec::new(alloc),
             fresh: Vec::new(alloc),
-            entries: Vec::new(alloc),
-            written: Vec::new(alloc),
+            first: 0,
             extent: 0,
             room: 0,
             left: 0,
             reserved: false,
             stop: Stop::Unset,
+            history: History::new(),
         }
     }
 
@@ -217,17 +214,16 @@ impl MemLane {
         let mut fresh = Vec::new(alloc);
         fresh.resize(bytes.len(), false)?;
         Ok(MemLane {
-            start: Vec::from_slice(alloc, bytes)?,
             bytes: Vec::from_slice(alloc, bytes)?,
             synced: Vec::from_slice(alloc, bytes)?,
             fresh,
-            entries: Vec::new(alloc),
-            written: Vec::new(alloc),
+            first: bytes.len(),
             extent: bytes.len(),
             room: 0,
             left: 0,
             reserved: true,
             stop: Stop::Unset,
+            history: History::new().then(&Note::Holds(bytes)),
         })
     }
 
@@ -259,15 +255,9 @@ impl MemLane {
     {
         let room = self.room.max(size);
         let extent = self.extent.max(room);
-        let Some(more) = room.checked_mul(16) else {
-            return Err(AllocError);
-        };
-        make_room(&mut self.start, extent)?;
         make_room(&mut self.bytes, extent)?;
         make_room(&mut self.synced, extent)?;
         make_room(&mut self.fresh, extent)?;
-        self.entries.reserve(16)?;
-        self.written.reserve(more)?;
         self.extent = extent;
         self.room = room;
         self.left = 16;
@@ -335,18 +325,17 @@ impl MemLane {
     pub fn crash(&mut self)
         ensures { self.new ≡ crashed self.old }
     {
-        if let Stop::Stopped { pick } = self.stop {
-            if pick == 0 {
-                replace(&mut self.bytes, &self.synced);
-            } else if pick > 1 {
-                garble(&mut self.bytes, &self.fresh, pick);
-            }
-        }
-        replace(&mut self.synced, &self.bytes);
-        replace(&mut self.start, &self.bytes);
-        unmark(&mut self.fresh, self.bytes.len());
-        self.entries.clear();
-        self.written.clear();
+        leave_picked(
+            &mut self.bytes,
+            &self.synced,
+            &self.fresh,
+            self.first,
+            self.stop,
+        );
+        renew(&mut self.synced, &self.bytes, self.first);
+        unmark(&mut self.fresh, self.first, self.bytes.len());
+        self.first = self.bytes.len();
+        self.history = self.history.then(&Note::Holds(&self.bytes));
         self.stop = Stop::Unset;
     }
 
@@ -359,9 +348,8 @@ impl MemLane {
     {
         overwrite(&mut self.bytes, at, bytes);
         mark(&mut self.fresh, at, bytes.len());
-        append(&mut self.written, bytes);
-        let len = bytes.len();
-        keep(&mut self.entries, Entry::Wrote { at, len });
+        self.first = self.first.min(at);
+        self.history = self.history.then(&Note::Wrote { at, bytes });
         self.left -= 1;
     }
 
@@ -372,18 +360,20 @@ impl MemLane {
     {
         self.bytes.truncate(len);
         self.fresh.truncate(len);
-        keep(&mut self.entries, Entry::Cut { len });
+        self.first = self.first.min(len);
+        self.history = self.history.then(&Note::Cut { len });
         self.left -= 1;
     }
 
-    /// A sync that was made.
+    /// A sync that was made. It costs what stands past the first place that was written or cut since the last one.
     fn keep_sync(&mut self)
         requires few { 0 < self.old.left }
         ensures { self.new ≡ with_calls (Sync ∷ self.old.calls) self.old }
     {
-        replace(&mut self.synced, &self.bytes);
-        unmark(&mut self.fresh, self.bytes.len());
-        keep(&mut self.entries, Entry::Synced);
+        renew(&mut self.synced, &self.bytes, self.first);
+        unmark(&mut self.fresh, self.first, self.bytes.len());
+        self.first = self.bytes.len();
+        self.history = self.history.then(&Note::Synced);
         self.left -= 1;
     }
 
@@ -392,7 +382,7 @@ impl MemLane {
         requires few { 0 < self.old.left }
         ensures { self.new ≡ with_calls (FailedWrite at len ∷ self.old.calls) self.old }
     {
-        keep(&mut self.entries, Entry::FailedWrite { at, len });
+        self.history = self.history.then(&Note::FailedWrite { at, len });
         self.left -= 1;
     }
 
@@ -401,7 +391,7 @@ impl MemLane {
         requires few { 0 < self.old.left }
         ensures { self.new ≡ with_calls (FailedCut len ∷ self.old.calls) self.old }
     {
-        keep(&mut self.entries, Entry::FailedCut { len });
+        self.history = self.history.then(&Note::FailedCut { len });
         self.left -= 1;
     }
 
