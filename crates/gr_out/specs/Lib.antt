@@ -6,3 +6,7 @@ pub mod Stops
 pub mod Past
 pub mod History
 pub mod Kept
+pub mod Entry
+pub mod Journal
+pub mod JournalNote
+pub mod Script
