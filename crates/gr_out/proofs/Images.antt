@@ -141,7 +141,8 @@ shortened_garbled pick n old fs = subst_image (take-garbled pick 0 n fs old)
 
 -- Each picked image may be left
 
-read_left : (start : List ℕ) (calls : List Call) → LeftAfter start calls (read_after start calls)
+-- what a lane reads is one of its images
+pub read_left : (start : List ℕ) (calls : List Call) → LeftAfter start calls (read_after start calls)
 read_left start [] = refl
 read_left start (Write at bytes ∷ calls) = (read_after start calls, read_left start calls, torn_over at bytes (read_after start calls))
 read_left start (Cut n ∷ calls) = (read_after start calls, read_left start calls, shortened_cut n (read_after start calls))

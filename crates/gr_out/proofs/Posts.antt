@@ -1,5 +1,5 @@
 -- What a post in memory is after its next arrival: its script is one shorter, and the entry that the script gave stands last.
-use Rattle.std.proofs.Common.{◌≡◌, ◌⊎◌, ⊎_elim, ℕ, ◌+◌, ◌<◌, ◌≤◌, min, Bool, true, false, if◌then◌else◌, is_err, List, [], ◌∷◌, ◌++◌, length, drop, map, Result, Ok, Err, refl, ap, sym, ◌∙◌, arith}
+use Rattle.std.proofs.Common.{◌≡◌, ⊎_elim, ℕ, ◌+◌, min, Bool, true, false, if◌then◌else◌, is_err, List, [], ◌∷◌, ◌++◌, length, drop, map, Result, Ok, Err, refl, ap, sym, ◌∙◌, arith}
 use Rattle.std.proofs.lemmas.Bool.{cases_lt}
 use Rattle.std.proofs.lemmas.List.{drop_all, drop-drop, append-nil}
 use Rattle.std.proofs.lemmas.Grind.{flat_map-append}
@@ -10,7 +10,7 @@ use Rattle.gr_out.specs.declared.post.PostFault.{PostFault}
 use Rattle.gr_out.specs.declared.post.PostFault.TheVariants as fault
 use Rattle.gr_out.specs.Entry.{Entry}
 use Rattle.gr_out.specs.Journal.{next_entries, bind_entries, offer_entries, hosted, hosted_in, offers, offer_in}
-use Rattle.gr_out.specs.Memory.{counted}
+use Rattle.gr_out.specs.Streams.{counted}
 use Rattle.gr_out.specs.declared.mem_post.Offer.{Offer}
 use Rattle.gr_out.specs.Script.{Scripted, PostView, is_failed, next_of, after_next, scripted_of, offer_of, IsPost}
 

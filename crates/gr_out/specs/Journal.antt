@@ -1,5 +1,5 @@
 -- The journal of a post: its entries in order, the earliest first, and what each call puts behind them
-use Rattle.std.specs.Prelude.{◌≡◌, ◌≢◌, ◌≤◌, ◌==◌, ℕ, Bool, true, false, List, [], ◌∷◌, length, take, Option, Some, None, Result, Ok, Err, IsErrOf, OnOk, ⊤}
+use Rattle.std.specs.Prelude.{◌≡◌, ◌≢◌, ◌≤◌, ◌==◌, ℕ, Bool, true, List, [], ◌∷◌, take, Result, Ok, Err, IsErrOf, ⊤}
 use Rattle.std.specs.List.{list_any, flat_map}
 use Rattle.gr_out.specs.declared.post.Arrival.{Arrival}
 use Rattle.gr_out.specs.declared.post.Arrival.TheVariants as arrival

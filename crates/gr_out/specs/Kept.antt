@@ -5,7 +5,7 @@ use Rattle.gr_out.specs.declared.disk.Fate.TheVariants.{Done, Failed, Broken, Lo
 use Rattle.gr_out.specs.declared.disk.Stop.{Stop}
 use Rattle.gr_out.specs.declared.disk.Stop.TheVariants.{Stopped}
 use Rattle.gr_out.specs.Lane.{Lane, Call, read_after, synced_after, fresh_after, garbled, has_stopped, fate_of, lane_at}
-use Rattle.gr_out.specs.Memory.{counted, is_listed}
+use Rattle.gr_out.specs.Streams.{counted, is_listed}
 
 -- What is kept of a lane is what its calls make of it. All before the first place that was written or cut since the
 -- last sync is as it was then.

@@ -1,6 +1,6 @@
 pub mod Faults
 pub mod Bytes
-pub mod Memory
+pub mod Streams
 pub mod Lane
 pub mod Stops
 pub mod Past

@@ -5,7 +5,7 @@ use Rattle.gr_out.specs.declared.mem_post.Cue.TheVariants as cue
 use Rattle.gr_out.specs.declared.mem_post.Offer.{Offer}
 use Rattle.gr_out.specs.Entry.{Entry, bound, offered, datagram, quiet, failed, closed}
 use Rattle.gr_out.specs.Journal.{hosted, offers, is_among}
-use Rattle.gr_out.specs.Memory.{counted, is_listed}
+use Rattle.gr_out.specs.Streams.{counted, is_listed}
 
 -- What the script holds, in order.
 pub data Scripted : Type 0 where

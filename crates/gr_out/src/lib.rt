@@ -1,31 +1,32 @@
 //! The outside, as the product sees it: where bytes come from and where they go, and their forms in memory.
 //!
-//! A call on the outside answers `Failed` only where the object's count of faults rose in that call, and any other
-//! answer leaves the count as it was. `MemSource` and `MemSink` say exactly which calls fail.
+//! A call on the outside answers `Failed` only where one of the object's counts rose in that call, and any other answer
+//! leaves each count as it was. The forms in memory say exactly which of their calls fail.
 #![tactic(auto)]
 
-pub mod disk;
-pub mod fault;
+mod disk;
+mod fault;
 mod history;
 mod journal;
-pub mod mem_disk;
+pub mod law;
+mod mem_disk;
 mod mem_lane;
 mod mem_post;
-pub mod memory;
-pub mod post;
-pub mod sink;
-pub mod source;
-pub mod whole;
+mod mem_stream;
+mod post;
+mod sink;
+mod source;
+mod transfer;
 
 pub use disk::{Disk, Fate, SimDisk, Stop};
 pub use fault::{Failed, Memory, RunFault};
 pub use mem_disk::MemDisk;
 pub use mem_post::MemPost;
-pub use memory::{MemSink, MemSource};
+pub use mem_stream::{MemSink, MemSource};
 pub use post::{Arrival, Post, PostFault};
 pub use sink::Sink;
 pub use source::Source;
-pub use whole::{ReadFault, read_all, write_all};
+pub use transfer::{ReadFault, read_all, write_all};
 
 #[cfg(test)]
 mod tests;

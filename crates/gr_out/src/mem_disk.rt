@@ -3,7 +3,7 @@
 ghost use Rattle.std.specs.Prelude.{◌≡◌, ◌≢◌, ℕ, ◌+◌, ◌<◌, ◌≤◌, [], IsTrue, Bool, true, is_err, IsErr, List, length, take, drop, IfOk, OnOk, OnErr};
 ghost use Rattle.gr_out.specs.Lane.{Lane, lane_at, lane_of, content, is_due, has_stopped, after_call, Write, Cut, Sync, with_room, with_stop, stop_at, crashed, MayLeave};
 ghost use Rattle.gr_out.specs.Kept.{DiskView, is_failure, is_broken, fate_of_read, faults_after, stops_after, look_fate, change_fate, FailsAsListed, IsUncounted};
-ghost use Rattle.gr_out.specs.Memory.{counted, is_listed};
+ghost use Rattle.gr_out.specs.Streams.{counted, is_listed};
 ghost use Rattle.gr_out.specs.Stops.{StopCounts, StaysFaultless};
 
 use crate::disk::{Disk, Fate, SimDisk, Stop};

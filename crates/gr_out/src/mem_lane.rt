@@ -13,7 +13,7 @@ use std::marker::Model;
 
 /// A lane in memory. It keeps three times its bytes, and nothing of the calls before the last sync.
 #[derive(Drop)]
-pub struct MemLane {
+pub(crate) struct MemLane {
     bytes: Vec<u8>,
     synced: Vec<u8>,
     fresh: Vec<bool>,
@@ -141,7 +141,7 @@ fn leave_picked(bytes: &mut Vec<u8>, synced: &[u8], fresh: &[bool], first: usize
 }
 
 /// What becomes of the next call, given whether it fails by itself.
-pub fn fate_of(fails: bool, stop: Stop) -> Fate
+fn fate_of(fails: bool, stop: Stop) -> Fate
     ensures { result ≡ fate_of fails stop }
 {
     let due = match stop {
@@ -190,7 +190,7 @@ fn make_room<T>(items: &mut Vec<T>, len: usize) -> Result<(), Memory>
 
 impl MemLane {
     /// A lane that was never touched.
-    pub fn new(alloc: Global) -> MemLane
+    pub(crate) fn new(alloc: Global) -> MemLane
         ensures { result ≡ blank }
     {
         MemLane {
@@ -208,7 +208,7 @@ impl MemLane {
     }
 
     /// A lane with these bytes, synced.
-    pub fn of(alloc: Global, bytes: &[u8]) -> Result<MemLane, Memory>
+    pub(crate) fn of(alloc: Global, bytes: &[u8]) -> Result<MemLane, Memory>
         ensures { IfOk result (λ l. l ≡ lane_of bytes.now) }
     {
         let mut fresh = Vec::new(alloc);
@@ -228,28 +228,28 @@ impl MemLane {
     }
 
     /// What it reads.
-    pub fn bytes(&self) -> &[u8]
+    pub(crate) fn bytes(&self) -> &[u8]
         ensures { result.now ≡ content self.now }
     {
         &self.bytes
     }
 
     /// The stop that was ordered.
-    pub fn stop(&self) -> Stop
+    pub(crate) fn stop(&self) -> Stop
         ensures { result ≡ self.now.stop }
     {
         self.stop
     }
 
     /// Orders a stop, in place of an earlier one.
-    pub fn set_stop(&mut self, stop: Stop)
+    pub(crate) fn set_stop(&mut self, stop: Stop)
         ensures { self.new ≡ with_stop stop self.old }
     {
         self.stop = stop;
     }
 
     /// Makes room up to the place `size`, and for the next 16 writes, cuts and syncs.
-    pub fn reserve(&mut self, size: usize) -> Result<(), Memory>
+    pub(crate) fn reserve(&mut self, size: usize) -> Result<(), Memory>
         ensures ok { OnOk result (self.new ≡ with_room size self.old) }
         ensures err { OnErr result (self.new ≡ self.old) }
     {
@@ -266,7 +266,7 @@ impl MemLane {
     }
 
     /// Writes bytes, unless the call is to fail or the stop breaks it, and answers what became of the call.
-    pub fn write_at(&mut self, at: usize, bytes: &[u8], fails: bool) -> Fate
+    pub(crate) fn write_at(&mut self, at: usize, bytes: &[u8], fails: bool) -> Fate
         requires within { at ≤ length (content self.old) }
         requires room { at + length bytes.now ≤ self.old.room }
         requires few { 0 < self.old.left }
@@ -286,7 +286,7 @@ impl MemLane {
     }
 
     /// Cuts it, unless the call is to fail or the stop breaks it, and answers what became of the call.
-    pub fn cut(&mut self, len: usize, fails: bool) -> Fate
+    pub(crate) fn cut(&mut self, len: usize, fails: bool) -> Fate
         requires few { 0 < self.old.left }
         ensures lane { self.new ≡ after_call (Cut len) fails self.old }
         ensures fate { result ≡ fate_of fails self.old.stop }
@@ -304,7 +304,7 @@ impl MemLane {
     }
 
     /// Syncs it, unless the call is to fail or the stop breaks it, and answers what became of the call.
-    pub fn sync(&mut self, fails: bool) -> Fate
+    pub(crate) fn sync(&mut self, fails: bool) -> Fate
         requires few { 0 < self.old.left }
         ensures lane { self.new ≡ after_call Sync fails self.old }
         ensures fate { result ≡ fate_of fails self.old.stop }
@@ -322,7 +322,7 @@ impl MemLane {
     }
 
     /// Leaves the picked image, synced, and ends the stop.
-    pub fn crash(&mut self)
+    pub(crate) fn crash(&mut self)
         ensures { self.new ≡ crashed self.old }
     {
         leave_picked(

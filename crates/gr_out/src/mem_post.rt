@@ -2,7 +2,7 @@
 
 ghost use Rattle.std.specs.Prelude.{◌≡◌, ◌≢◌, ◌<◌, ℕ, ◌++◌, [], ◌∷◌, if◌then◌else◌, Bool, is_err, Some, Ok, Err, List, length, drop, map, option_map, IfOk, OnOk, OnErr, vec_len};
 ghost use Rattle.std.specs.Vec.{vec_capacity};
-ghost use Rattle.gr_out.specs.Memory.{counted, is_listed};
+ghost use Rattle.gr_out.specs.Streams.{counted, is_listed};
 ghost use Rattle.gr_out.specs.Journal.{bind_entries, next_entries, offer_entries, hosted, offers, Fits, CameAt, CountsFailed};
 ghost use Rattle.gr_out.specs.Script.{PostView, post_of, with_scripted, pass, raw, pause, fail, nth_offer, came, scripted_entry, next_entry, next_of, binding_fails, offer_fails, after_next, after_bind, after_offer, scripted_of, offer_of};
 
@@ -278,6 +278,7 @@ impl Post for MemPost {
         ensures journal { self.new.journal ≡ self.old.journal ++ bind_entries broker address.now here result }
         ensures cause { CountsFailed self.old.faults self.new.faults result }
         ensures lost { self.new.lost ≡ self.old.lost }
+        ensures fails { result ≢ Err PostFault.Memory → is_err result ≡ binding_fails self.old }
         ensures after { result ≢ Err PostFault.Memory → self.new ≡ after_bind broker address.now here self.old }
         ensures memory { result ≡ Err PostFault.Memory → self.new ≡ self.old }
     {
@@ -323,6 +324,7 @@ impl Post for MemPost {
         ensures journal { self.new.journal ≡ self.old.journal ++ offer_entries from to bytes.now result }
         ensures faults { self.new.faults ≡ self.old.faults }
         ensures cause { CountsFailed self.old.lost self.new.lost result }
+        ensures fails { result ≢ Err PostFault.Memory → is_err result ≡ offer_fails self.old }
         ensures after { result ≢ Err PostFault.Memory → self.new ≡ after_offer from to bytes.now self.old }
         ensures memory { result ≡ Err PostFault.Memory → self.new ≡ self.old }
     {

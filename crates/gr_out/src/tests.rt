@@ -1,6 +1,6 @@
 use crate::{
-    Disk, Failed, MemDisk, MemSink, MemSource, ReadFault, RunFault, SimDisk, Sink, Source,
-    read_all, write_all,
+    Arrival, Disk, Failed, MemDisk, MemPost, MemSink, MemSource, Post, PostFault, ReadFault,
+    RunFault, SimDisk, Sink, Source, read_all, write_all,
 };
 use std::test::Fail;
 
@@ -130,5 +130,52 @@ fn disk_calls_fail_where_listed(rt: HostRuntime) -> Result<(), Fail> {
         assert_eq!(rt; disk.size(3).is_err(), call == 6);
         assert_eq!(rt; disk.lane(3), left);
     }
+    Ok(())
+}
+
+/// A script of each kind of entry at a post that hosts broker 0, whose second offer and third binding fail, and what each
+/// arrival into a piece of three bytes is.
+#[test]
+fn a_post_gives_its_script(rt: HostRuntime) -> Result<(), Fail> {
+    let mut post = MemPost::new(rt.alloc(), &[2], &[3])?;
+    post.quiet(1)?;
+    post.pass(1, 2)?;
+    post.pass(2, 3)?;
+    post.pass(3, 4)?;
+    post.raw(7, b"no", 5)?;
+    post.raw(0, b"long", 6)?;
+    post.fail()?;
+    assert_eq!(rt; post.bind(0, b"here", true), Ok(()));
+    assert_eq!(rt; post.bind(1, b"there", false), Ok(()));
+    assert_eq!(rt; post.bind(7, b"here", true), Err(PostFault::Failed));
+    assert_eq!(rt; post.offer(1, 0, b"xy"), Ok(()));
+    assert_eq!(rt; post.offer(0, 1, b"z"), Err(PostFault::Failed));
+    let arrivals = [
+        Ok(Arrival::Quiet { moment: 1 }),
+        Ok(Arrival::Datagram {
+            at: 0,
+            len: 2,
+            moment: 2,
+        }),
+        Ok(Arrival::Quiet { moment: 3 }),
+        Ok(Arrival::Quiet { moment: 4 }),
+        Ok(Arrival::Quiet { moment: 5 }),
+        Ok(Arrival::Datagram {
+            at: 0,
+            len: 3,
+            moment: 6,
+        }),
+        Err(PostFault::Failed),
+        Ok(Arrival::Closed),
+        Ok(Arrival::Closed),
+    ];
+    let mut piece = [0u8; 3];
+    for arrival in arrivals {
+        assert_eq!(rt; post.next(&mut piece), arrival);
+    }
+    assert_eq!(rt; piece, *b"lon");
+    assert_eq!(rt; post.offered(0), None);
+    assert_eq!(rt; post.offered(2), Some(b"z".as_slice()));
+    assert_eq!(rt; post.offered(3), None);
     Ok(())
 }

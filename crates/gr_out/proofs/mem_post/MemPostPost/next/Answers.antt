@@ -4,7 +4,7 @@ use Rattle.gr_out.specs.contracts.mem_post.MemPost.{the_view}
 use Rattle.gr_out.specs.declared.mem_post.Cue.{Cue}
 use Rattle.gr_out.specs.Entry.{Entry}
 use Rattle.gr_out.specs.Journal.{next_entries, hosted, offers}
-use Rattle.gr_out.specs.Memory.{counted}
+use Rattle.gr_out.specs.Streams.{counted}
 use Rattle.gr_out.specs.Script.{next_entry, next_of, after_next, scripted_of, offer_of}
 use Rattle.gr_out.proofs.Posts.{one_on, fails_as_entry, arrived}
 use Rattle.gr_out.proofs.mem_post.MemPostPost.next.Goals as goal

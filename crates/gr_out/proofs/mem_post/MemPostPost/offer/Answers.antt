@@ -1,5 +1,4 @@
 -- The offers that are kept are those of the journal
-use Rattle.std.proofs.Common.{arith}
 use Rattle.gr_out.proofs.Posts.{post_offered}
 use Rattle.gr_out.proofs.mem_post.MemPostPost.offer.Goals as goal
 

@@ -3,7 +3,7 @@ use Rattle.std.proofs.Common.{◌++◌, ◌∙◌, ap, take, arith}
 use Rattle.std.proofs.lemmas.Grind.{common_steps}
 use Rattle.gr_out.specs.Bytes.{before_rest}
 use Rattle.gr_out.proofs.Pieces.{rest_again}
-use Rattle.gr_out.proofs.whole.read_all.Goals as goal
+use Rattle.gr_out.proofs.transfer.read_all.Goals as goal
 
 pub returns-then-is_err-clause-lost : goal.returns-then-is_err-clause-lost
 returns-then-is_err-clause-lost g c =
