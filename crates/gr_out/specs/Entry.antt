@@ -40,4 +40,5 @@ from_parts-to_parts closed = refl
 abbrev pub journal_code : Coded (List Entry)
 journal_code =
     coded_list
-    (code_by Parts (coded× coded_ℕ (coded× coded_ℕ (coded× coded_ℕ (coded× (coded_list coded_ℕ) coded_bool)))) to_parts from_parts from_parts-to_parts)
+    (code_by Parts (coded× coded_ℕ (coded× coded_ℕ (coded× coded_ℕ (coded× (coded_list coded_ℕ) coded_bool))))
+    to_parts from_parts from_parts-to_parts)

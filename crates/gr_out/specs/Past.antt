@@ -36,7 +36,9 @@ from_parts-to_parts (FailedWrite at n) = refl
 from_parts-to_parts (FailedCut n) = refl
 
 abbrev call_code : Coded Call
-call_code = code_by Parts (coded× coded_ℕ (coded× coded_ℕ (coded× coded_ℕ (coded_list coded_ℕ)))) to_parts from_parts from_parts-to_parts
+call_code =
+    code_by Parts (coded× coded_ℕ (coded× coded_ℕ (coded× coded_ℕ (coded_list coded_ℕ))))
+    to_parts from_parts from_parts-to_parts
 
 abbrev pub past_code : Coded Past
 past_code =

@@ -31,7 +31,15 @@ pub record PostView : Type 0 where
 
 -- a post that was never called, with nothing in its script
 abbrev pub post_of : List ℕ → List ℕ → PostView
-post_of offers bindings = record { script = []; journal = []; failing_offers = offers; failing_bindings = bindings; bindings = 0; faults = 0; lost = 0 }
+post_of offers bindings = record {
+  script = [];
+  journal = [];
+  failing_offers = offers;
+  failing_bindings = bindings;
+  bindings = 0;
+  faults = 0;
+  lost = 0;
+}
 
 -- with one more in its script
 abbrev pub with_scripted : Scripted → PostView → PostView
@@ -54,7 +62,8 @@ nth_offer made n = if nat_eq n 0 then None else slice_get made (n - 1)
 -- what comes of bytes to a broker: nothing where there are none, or where the broker is not hosted
 abbrev pub came : ℕ → List ℕ → ℕ → Option (ℕ × List ℕ) → Entry
 came size brokers moment None = quiet moment
-came size brokers moment (Some sent) = if is_among brokers sent.0 then datagram sent.0 (take size sent.1) moment else quiet moment
+came size brokers moment (Some sent) =
+    if is_among brokers sent.0 then datagram sent.0 (take size sent.1) moment else quiet moment
 
 abbrev pub scripted_entry : ℕ → List ℕ → List (ℕ × List ℕ) → Scripted → Entry
 scripted_entry size brokers made (pass n moment) = came size brokers moment (nth_offer made n)

@@ -64,7 +64,8 @@ pub trait Disk {
         ensures others { tells → (n : ℕ) → n ≢ lane → lane_of self.new n ≡ lane_of self.old n }
         ensures faults { faults self.new ≡ faults self.old }
         ensures stops { stops self.new ≡ stops self.old }
-        ensures faultless { StaysFaultless (faultless self.old) (faultless self.new) (faults self.old) (faults self.new) };
+        ensures faultless { StaysFaultless (faultless self.old) (faultless self.new)
+            (faults self.old) (faults self.new) };
 
     /// How many bytes a lane has.
     fn size(&mut self, lane: u16) -> Result<u64, Failed>
@@ -72,18 +73,21 @@ pub trait Disk {
         ensures same { tells → (n : ℕ) → lane_of self.new n ≡ lane_of self.old n }
         ensures cause { StopCounts (has_stopped (lane_of self.old lane).stop)
             (faults self.old) (faults self.new) (stops self.old) (stops self.new) result }
-        ensures faultless { StaysFaultless (faultless self.old) (faultless self.new) (faults self.old) (faults self.new) }
+        ensures faultless { StaysFaultless (faultless self.old) (faultless self.new)
+            (faults self.old) (faults self.new) }
         ensures by_stop { faultless self.old → IsErr result → has_stopped (lane_of self.old lane).stop ≡ true };
 
     /// Reads the bytes of a lane from a place on, as many as `into` has.
     fn read(&mut self, lane: u16, at: u64, into: &mut [u8]) -> Result<(), Failed>
         requires within { tells → at + length into.old ≤ length (content (lane_of self.old lane)) }
-        ensures bytes { tells → OnOk result (into.new ≡ take (length into.old) (drop at (content (lane_of self.old lane)))) }
+        ensures bytes { tells → OnOk result
+            (into.new ≡ take (length into.old) (drop at (content (lane_of self.old lane)))) }
         ensures len { length into.new ≡ length into.old }
         ensures same { tells → (n : ℕ) → lane_of self.new n ≡ lane_of self.old n }
         ensures cause { StopCounts (has_stopped (lane_of self.old lane).stop)
             (faults self.old) (faults self.new) (stops self.old) (stops self.new) result }
-        ensures faultless { StaysFaultless (faultless self.old) (faultless self.new) (faults self.old) (faults self.new) }
+        ensures faultless { StaysFaultless (faultless self.old) (faultless self.new)
+            (faults self.old) (faults self.new) }
         ensures by_stop { faultless self.old → IsErr result → has_stopped (lane_of self.old lane).stop ≡ true };
 
     /// Writes bytes over what a lane has from a place on, and past its end.
@@ -91,11 +95,13 @@ pub trait Disk {
         requires within { tells → at ≤ length (content (lane_of self.old lane)) }
         requires room { tells → at + length bytes.now ≤ (lane_of self.old lane).room }
         requires few { tells → 0 < (lane_of self.old lane).left }
-        ensures after { tells → lane_of self.new lane ≡ after_call (Write at bytes.now) (is_err result) (lane_of self.old lane) }
+        ensures after { tells → lane_of self.new lane
+            ≡ after_call (Write at bytes.now) (is_err result) (lane_of self.old lane) }
         ensures others { tells → (n : ℕ) → n ≢ lane → lane_of self.new n ≡ lane_of self.old n }
         ensures cause { StopCounts (is_due (lane_of self.old lane).stop)
             (faults self.old) (faults self.new) (stops self.old) (stops self.new) result }
-        ensures faultless { StaysFaultless (faultless self.old) (faultless self.new) (faults self.old) (faults self.new) }
+        ensures faultless { StaysFaultless (faultless self.old) (faultless self.new)
+            (faults self.old) (faults self.new) }
         ensures by_stop { faultless self.old → IsErr result → is_due (lane_of self.old lane).stop ≡ true };
 
     /// Cuts a lane to a length. A shorter one stays as it is.
@@ -105,7 +111,8 @@ pub trait Disk {
         ensures others { tells → (n : ℕ) → n ≢ lane → lane_of self.new n ≡ lane_of self.old n }
         ensures cause { StopCounts (is_due (lane_of self.old lane).stop)
             (faults self.old) (faults self.new) (stops self.old) (stops self.new) result }
-        ensures faultless { StaysFaultless (faultless self.old) (faultless self.new) (faults self.old) (faults self.new) }
+        ensures faultless { StaysFaultless (faultless self.old) (faultless self.new)
+            (faults self.old) (faults self.new) }
         ensures by_stop { faultless self.old → IsErr result → is_due (lane_of self.old lane).stop ≡ true };
 
     /// After it, a crash leaves of a lane what a read gives.
@@ -115,7 +122,8 @@ pub trait Disk {
         ensures others { tells → (n : ℕ) → n ≢ lane → lane_of self.new n ≡ lane_of self.old n }
         ensures cause { StopCounts (is_due (lane_of self.old lane).stop)
             (faults self.old) (faults self.new) (stops self.old) (stops self.new) result }
-        ensures faultless { StaysFaultless (faultless self.old) (faultless self.new) (faults self.old) (faults self.new) }
+        ensures faultless { StaysFaultless (faultless self.old) (faultless self.new)
+            (faults self.old) (faults self.new) }
         ensures by_stop { faultless self.old → IsErr result → is_due (lane_of self.old lane).stop ≡ true };
 }
 
@@ -125,11 +133,13 @@ pub trait SimDisk: Disk {
     /// crash then picks. It takes the place of an earlier stop. With `calls` 0 there is no stop any more.
     fn stop_after(&mut self, lane: u16, calls: u8, pick: u8)
         requires reserved { Self.tells → (Self.lane_of self.old lane).reserved ≡ true }
-        ensures stop { Self.tells → Self.lane_of self.new lane ≡ with_stop (stop_at calls pick) (Self.lane_of self.old lane) }
+        ensures stop { Self.tells → Self.lane_of self.new lane
+            ≡ with_stop (stop_at calls pick) (Self.lane_of self.old lane) }
         ensures others { Self.tells → (n : ℕ) → n ≢ lane → Self.lane_of self.new n ≡ Self.lane_of self.old n }
         ensures faults { Self.faults self.new ≡ Self.faults self.old }
         ensures stops { Self.stops self.new ≡ Self.stops self.old }
-        ensures faultless { StaysFaultless (Self.faultless self.old) (Self.faultless self.new) (Self.faults self.old) (Self.faults self.new) };
+        ensures faultless { StaysFaultless (Self.faultless self.old) (Self.faultless self.new)
+            (Self.faults self.old) (Self.faults self.new) };
 
     /// Whether the present stop of the lane has broken a call.
     fn stopped(&self, lane: u16) -> bool
@@ -142,5 +152,6 @@ pub trait SimDisk: Disk {
         ensures others { Self.tells → (n : ℕ) → n ≢ lane → Self.lane_of self.new n ≡ Self.lane_of self.old n }
         ensures faults { Self.faults self.new ≡ Self.faults self.old }
         ensures stops { Self.stops self.new ≡ Self.stops self.old }
-        ensures faultless { StaysFaultless (Self.faultless self.old) (Self.faultless self.new) (Self.faults self.old) (Self.faults self.new) };
+        ensures faultless { StaysFaultless (Self.faultless self.old) (Self.faultless self.new)
+            (Self.faults self.old) (Self.faults self.new) };
 }

@@ -214,7 +214,8 @@ impl Disk for MemDisk {
 
     fn read(&mut self, lane: u16, at: u64, into: &mut [u8]) -> Result<(), Failed>
         requires within { at + length into.old ≤ length (content (lane_at self.old.lanes lane)) }
-        ensures bytes { OnOk result (into.new ≡ take (length into.old) (drop at (content (lane_at self.old.lanes lane)))) }
+        ensures bytes { OnOk result
+            (into.new ≡ take (length into.old) (drop at (content (lane_at self.old.lanes lane)))) }
         ensures len { length into.new ≡ length into.old }
         ensures same { (n : ℕ) → lane_at self.new.lanes n ≡ lane_at self.old.lanes n }
         ensures listed { FailsAsListed (look_fate self.old lane) self.old self.new result }

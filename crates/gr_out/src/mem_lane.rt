@@ -38,8 +38,10 @@ impl Model for MemLane {
       stop = l.stop;
     } };
 
-    ghost invariant = { λ l. IsKept l.history.past.start l.bytes.items l.synced.items l.fresh.items l.first l.history.past.calls
-        × HasRoom l.extent l.room l.bytes.items l.synced.items (vec_capacity l.bytes) (vec_capacity l.synced) (vec_capacity l.fresh) };
+    ghost invariant = { λ l. IsKept l.history.past.start l.bytes.items l.synced.items l.fresh.items l.first
+        l.history.past.calls
+        × HasRoom l.extent l.room l.bytes.items l.synced.items
+        (vec_capacity l.bytes) (vec_capacity l.synced) (vec_capacity l.fresh) };
 }
 
 /// Writes items over those from a place on, and past the end.

@@ -78,7 +78,8 @@ impl Model for MemPost {
 
 /// The bytes that come to a broker, at a moment; nothing where it is not hosted.
 fn datagram(hosted: &[u16], to: u16, bytes: &[u8], moment: u64, into: &mut [u8]) -> Arrival
-    ensures entries { next_entries into.new (Ok result) ≡ came (length into.old) hosted.now moment (Some (to, bytes.now)) ∷ [] }
+    ensures entries { next_entries into.new (Ok result)
+        ≡ came (length into.old) hosted.now moment (Some (to, bytes.now)) ∷ [] }
     ensures fits { Fits (length into.old) result }
     ensures hosted { CameAt hosted.now result }
     ensures len { length into.new ≡ length into.old }
@@ -107,7 +108,8 @@ fn nth(made: &[Offer], n: u64) -> Option<&Offer>
 
 /// What a cue gives.
 fn cued(cue: &Cue, hosted: &[u16], made: &[Offer], into: &mut [u8]) -> Result<Arrival, PostFault>
-    ensures entries { next_entries into.new result ≡ scripted_entry (length into.old) hosted.now (map offer_of made.now) (scripted_of cue.now) ∷ [] }
+    ensures entries { next_entries into.new result
+        ≡ scripted_entry (length into.old) hosted.now (map offer_of made.now) (scripted_of cue.now) ∷ [] }
     ensures fits { IfOk result (λ a. Fits (length into.old) a) }
     ensures hosted { IfOk result (λ a. CameAt hosted.now a) }
     ensures len { length into.new ≡ length into.old }
@@ -131,7 +133,8 @@ fn scripted_next(
     made: &[Offer],
     into: &mut [u8],
 ) -> Result<Arrival, PostFault>
-    ensures entries { next_entries into.new result ≡ next_entry (length into.old) hosted.now (map offer_of made.now) (map scripted_of (drop at script.now)) ∷ [] }
+    ensures entries { next_entries into.new result
+        ≡ next_entry (length into.old) hosted.now (map offer_of made.now) (map scripted_of (drop at script.now)) ∷ [] }
     ensures fits { IfOk result (λ a. Fits (length into.old) a) }
     ensures hosted { IfOk result (λ a. CameAt hosted.now a) }
     ensures len { length into.new ≡ length into.old }

@@ -26,9 +26,9 @@ pub enum PostFault {
 
 /// Where datagrams come from and go to.
 ///
-/// A post that tells what came and went tells its journal: the bindings, the offers with their bytes, the datagrams with
-/// the bytes that were written, the quiet moments, the failures and the end, in their order. Each call puts its entry
-/// behind the others.
+/// A post that tells what came and went tells its journal: the bindings, the offers with their bytes, the datagrams
+/// with the bytes that were written, the quiet moments, the failures and the end, in their order. Each call puts its
+/// entry behind the others.
 pub trait Post {
     /// That the post tells what came and went.
     ghost tells: { Type 0 };

@@ -133,8 +133,8 @@ fn disk_calls_fail_where_listed(rt: HostRuntime) -> Result<(), Fail> {
     Ok(())
 }
 
-/// A script of each kind of entry at a post that hosts broker 0, whose second offer and third binding fail, and what each
-/// arrival into a piece of three bytes is.
+/// A script of each kind of entry at a post that hosts broker 0, whose second offer and third binding fail, and what
+/// each arrival into a piece of three bytes is.
 #[test]
 fn a_post_gives_its_script(rt: HostRuntime) -> Result<(), Fail> {
     let mut post = MemPost::new(rt.alloc(), &[2], &[3])?;

@@ -19,12 +19,14 @@ pub enum ReadFault {
 }
 
 /// Reads to the end of a source, or `most` bytes. Fewer than `most` are all that was left. `Failed` comes only where
-/// the source's count of faults rose in this call. After a fault a front of what was left, of at most `most` bytes, is lost.
+/// the source's count of faults rose in this call. After a fault a front of what was left, of at most `most` bytes, is
+/// lost.
 pub fn read_all<S: Source>(alloc: Global, source: &mut S, most: usize) -> Result<Vec<u8>, ReadFault>
     ensures bytes { IfOk result (λ v. S.left source.old ≡ before_rest v.items (S.left source.new)) }
     ensures most { IfOk result (λ v. vec_len v ≤ most) }
     ensures end { IfOk result (λ v. vec_len v < most → IsAtEnd (S.left source.new)) }
-    ensures lost { OnErr result ((front : List ℕ) × (length front ≤ most) × (S.left source.old ≡ before_rest front (S.left source.new))) }
+    ensures lost { OnErr result
+        ((front : List ℕ) × (length front ≤ most) × (S.left source.old ≡ before_rest front (S.left source.new))) }
     ensures never_falls { S.faults source.old ≤ S.faults source.new }
     ensures failed { IsErrOf result ReadFault.Failed → Rose (S.faults source.old) (S.faults source.new) }
     ensures same { result ≢ Err ReadFault.Failed → S.faults source.new ≡ S.faults source.old }
@@ -51,7 +53,8 @@ pub fn read_all<S: Source>(alloc: Global, source: &mut S, most: usize) -> Result
 #[tactic(auto, using(crate::proofs::Pieces::one_more_piece))]
 pub fn write_all<K: Sink>(sink: &mut K, bytes: &[u8]) -> Result<(), Failed>
     ensures ok { OnOk result (K.taken sink.new ≡ with_more (K.taken sink.old) bytes.now) }
-    ensures err { OnErr result ((n : ℕ) × (n < length bytes.now) × (K.taken sink.new ≡ with_more (K.taken sink.old) (take n bytes.now))) }
+    ensures err { OnErr result
+        ((n : ℕ) × (n < length bytes.now) × (K.taken sink.new ≡ with_more (K.taken sink.old) (take n bytes.now))) }
     ensures cause { Counts (K.faults sink.old) (K.faults sink.new) result }
 {
     let mut at = 0;
