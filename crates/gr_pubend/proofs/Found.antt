@@ -13,11 +13,12 @@ use Rattle.gr_publog.specs.declared.record.State.{State}
 use Rattle.gr_publog.specs.State.{empty_state, after_record, state_from, state_of, events_past, live_events, Follow}
 use Rattle.gr_publog.specs.Text.{record_bytes, blocks, front_text}
 use Rattle.gr_publog.proofs.Reading.{length-record}
+use Rattle.gr_publog.proofs.Live.{settles_later}
 use Rattle.gr_pubend.specs.Log.{Log, empty_log, with_entry, log_from, log_of, log_know}
 use Rattle.gr_pubend.specs.Opening.{pairs, EntriesRise}
 use Rattle.gr_pubend.specs.Found.{found_of, PairsRise, IsLive, IsSettled}
 use Rattle.gr_pubend.proofs.Knowing.{log_know-is}
-use Rattle.gr_pubend.proofs.Opening.{settles_later, whole_says, opened}
+use Rattle.gr_pubend.proofs.Opening.{whole_says, opened}
 
 -- The gate
 

@@ -16,6 +16,7 @@ use Rattle.gr_publog.specs.declared.record.Record.{Record}
 use Rattle.gr_publog.specs.declared.record.Record.TheVariants as entry
 use Rattle.gr_publog.specs.declared.record.State.{State}
 use Rattle.gr_publog.specs.State.{empty_state, after_record, state_from, state_of, may_settle, may_follow, Follow, max_tick}
+use Rattle.gr_publog.proofs.Live.{settles}
 use Rattle.gr_pubend.specs.Log.{Log, empty_log, with_event, with_mark, with_cut, with_entry, log_from, log_of, event_at, log_at, event_points, log_know, silence, Stays}
 
 -- The list of the log's knowledge
@@ -72,9 +73,6 @@ event_at-new (x ∷ xs) t e h = by_test (nat_eq x.0 t) h (λ g. event_at-new xs 
     by_test : (b : Bool) → (if b then D x.1 else event_at xs t) ≡ S → (b ≡ false → event_at (xs ++ (t, e) ∷ []) t ≡ D e) → (if b then D x.1 else event_at (xs ++ (t, e) ∷ []) t) ≡ D e
     by_test true s i = absurd (not_there x.1 (event_at xs t) s)
     by_test false s i = i refl
-
-pub settles : (s : State) (tick : ℕ) → may_settle s tick ≡ true → (s.settled < tick) × (tick ≤ max_tick)
-settles s tick h = let k = and_parts (nat_lt s.settled tick) (nat_le tick max_tick) h in (ltb-true s.settled tick k.0, leb-true tick max_tick k.1)
 
 -- the log goes on as its records do
 pub stays_more : (log : Log) (s : State) (r : Record) → Stays log s → may_follow s r ≡ true → Stays (with_entry log r) (after_record s r)

@@ -1,7 +1,7 @@
--- What is learned with a record: all of it is new, and with it the knowledge is that of the log with the record
+-- What is learned with a record: with it the knowledge is that of the log with the record
 use Rattle.std.proofs.Common.{◌≡◌, ◌≢◌, ◌⊎◌, inl, inr, ℕ, suc, ◌+◌, ◌-◌, ◌^◌, ◌≤◌, ◌<◌, Bool, true, false, ◌&&◌, List, [], ◌∷◌, ◌++◌, refl, sym, ap, ap₂, ◌∙◌, subst, arith}
-use Rattle.std.specs.Prelude.{nat_le, if◌then◌else◌}
-use Rattle.std.proofs.lemmas.Bool.{false≢true, cases_lt, le-leb, lt-leb}
+use Rattle.std.specs.Prelude.{nat_eq, nat_le, if◌then◌else◌}
+use Rattle.std.proofs.lemmas.Bool.{false≢true, and_parts, cases_lt, le-leb, lt-leb}
 use Rattle.gr_event.specs.declared.event.Event.{Event}
 use Rattle.gr_tick.specs.declared.run.Run.{Run}
 use Rattle.gr_tick.specs.Runs.{AreRuns, value_at, is_in}
@@ -13,10 +13,11 @@ use Rattle.gr_know.specs.Values.{Known, known_at, is_Q, join_K, new_K}
 use Rattle.gr_publog.specs.declared.record.Record.{Record}
 use Rattle.gr_publog.specs.declared.record.Record.TheVariants as entry
 use Rattle.gr_publog.specs.declared.record.State.{State}
-use Rattle.gr_publog.specs.State.{state_of, may_follow}
+use Rattle.gr_publog.specs.State.{state_of, may_settle, may_follow}
 use Rattle.gr_pubend.specs.Log.{Log, empty_log, with_entry, log_of, log_at, log_know, silence, Stays}
 use Rattle.gr_publog.specs.Crash.{LogView, with_record}
 use Rattle.gr_publog.proofs.Reading.{state_more}
+use Rattle.gr_publog.proofs.Live.{settles}
 use Rattle.gr_pubend.specs.End.{EndView, grown}
 use Rattle.gr_pubend.proofs.Knowing.{log_know-is, known_by, log_more, stays_more, log_at-past, within_below, within_above, event_piece-below, silence_at, at_tick, up_to_event, at_event, at_mark, at_cut}
 
@@ -75,29 +76,7 @@ silent_then_is first tick e v p q one le same e0 g = given_runs Q q (up_to_event
     either t (inl h) true w = sym (ap (λ x. if x && nat_le t tick then D e else S) (lt-leb tick t h))
     either t (inr h) true w = absurd (false≢true (sym (within_above first (tick - 1) t (omega arith)) ∙ w))
 
--- All of it is new
-
-new_none : (k : K) → new_K k Q ≡ Q
-new_none Q = refl
-new_none S = refl
-new_none (D e) = refl
-new_none F = refl
-
-all_new : (first : ℕ) (old piece fresh : Known) → AreRuns Q piece → ((t : ℕ) → first ≤ t → known_at old t ≡ Q) → ((t : ℕ) → t < first → known_at piece t ≡ Q) → RunsGive Q fresh (λ t. new_K (known_at old t) (known_at piece t)) → fresh ≡ piece
-all_new first old piece fresh runs unknown none g = given_runs Q fresh piece (λ t. new_K (known_at old t) (known_at piece t)) g runs (λ t. by_place t (cases_lt t first))
-  where
-    by_place : (t : ℕ) → (t < first) ⊎ (first ≤ t) → known_at piece t ≡ new_K (known_at old t) (known_at piece t)
-    by_place t (inl h) = none t h ∙ sym (ap (new_K (known_at old t)) (none t h) ∙ new_none (known_at old t))
-    by_place t (inr h) = sym (ap (λ k. new_K k (known_at piece t)) (unknown t h))
-
-pub new_silence : (first last : ℕ) (old piece fresh : Known) → 1 ≤ first → ((t : ℕ) → first ≤ t → known_at old t ≡ Q) → piece ≡ silence first last [] → RunsGive Q fresh (λ t. new_K (known_at old t) (known_at piece t)) → fresh ≡ silence first last []
-new_silence first last old piece fresh one unknown e g =
-    all_new first old piece fresh (subst (AreRuns Q) (sym e) (silence_runs first last one)) unknown (λ t h. ap (λ x. known_at x t) e ∙ silence_at first last t [] ∙ ap (λ b. if b then S else Q) (within_below first last t h)) g ∙ e
-
-pub new_event : (first tick : ℕ) (v : Event) (old piece fresh : Known) → 1 ≤ first → first ≤ tick → ((t : ℕ) → first ≤ t → known_at old t ≡ Q) → piece ≡ up_to_event first tick v → RunsGive Q fresh (λ t. new_K (known_at old t) (known_at piece t)) → fresh ≡ up_to_event first tick v
-new_event first tick v old piece fresh one le unknown e g =
-    all_new first old piece fresh (subst (AreRuns Q) (sym e) (event_runs first tick v one le)) unknown (λ t h. ap (λ x. known_at x t) e ∙ event_piece-below first tick t v h le) g ∙ e
-
+-- A piece that is learned, by what it is
 pub joined_with : (p q old new : Known) → p ≡ q → RunsGive Q new (λ t. join_K (known_at old t) (known_at p t)) → RunsGive Q new (λ t. join_K (known_at old t) (known_at q t))
 joined_with p q old new e g = record { canonical = g.canonical; in_range = g.in_range; values = λ t. g.values t ∙ ap (λ x. join_K (known_at old t) (known_at x t)) e }
 
@@ -153,6 +132,25 @@ module _ (rs : List Record) (mine old new : Known) (e : mine ≡ log_know (log_o
             ∙ at_cut (log_of rs) (state_of rs) h tick t low high
             ∙ sym (ap (λ (l : Log). log_at l t) (log_more empty_log rs (entry.Cut tick)));
       }
+
+-- The same for what was planned
+
+module _ (rs : List Record) (mine new fresh : Known) (e : mine ≡ log_know (log_of rs)) (h : Stays (log_of rs) (state_of rs)) (g : RunsGive Q new (λ t. join_K (known_at mine t) (known_at fresh t))) where
+  begins : suc (log_of rs).settled ≡ (state_of rs).settled + 1
+  begins = omega (arith, h.settled)
+
+  pub planned_event : (tick number : ℕ) (v : Event) → may_follow (state_of rs) (entry.Event tick number v) ≡ true → fresh ≡ up_to_event (suc (log_of rs).settled) tick v
+      → RunsGive Q new (log_at (log_of (rs ++ entry.Event tick number v ∷ [])))
+  planned_event tick number v ok is =
+      let s = state_of rs in
+      let past : s.settled < tick = (settles s tick (and_parts (may_settle s tick) (nat_eq number (s.last + 1)) ok).0).0 in
+      event_known rs mine mine new e h refl (suc (log_of rs).settled) tick number v begins past (joined_with fresh (up_to_event (suc (log_of rs).settled) tick v) mine new is g)
+
+  pub planned_mark : (tick : ℕ) → may_follow (state_of rs) (entry.Mark tick) ≡ true → fresh ≡ silence (suc (log_of rs).settled) tick []
+      → RunsGive Q new (log_at (log_of (rs ++ entry.Mark tick ∷ [])))
+  planned_mark tick ok is =
+      let past : (state_of rs).settled < tick = (settles (state_of rs) tick ok).0 in
+      mark_known rs mine mine new e h refl (suc (log_of rs).settled) tick begins past (joined_with fresh (silence (suc (log_of rs).settled) tick []) mine new is g)
 
 -- the invariant with one more record
 pub grows : (rs : List Record) (r : Record) (new : Known) → Stays (log_of rs) (state_of rs) → may_follow (state_of rs) r ≡ true → RunsGive Q new (log_at (log_of (rs ++ r ∷ []))) → (new ≡ log_know (log_of (rs ++ r ∷ []))) × Stays (log_of (rs ++ r ∷ [])) (state_of (rs ++ r ∷ []))

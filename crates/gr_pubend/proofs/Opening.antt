@@ -13,9 +13,10 @@ use Rattle.gr_publog.specs.declared.record.Record.TheVariants as entry
 use Rattle.gr_publog.specs.declared.record.Entry.{Entry}
 use Rattle.gr_publog.specs.declared.record.State.{State}
 use Rattle.gr_publog.specs.State.{empty_state, after_record, state_from, state_of, events_past, live_events, may_settle, may_follow, Follow}
+use Rattle.gr_publog.proofs.Live.{settles_later, from_below, live_rise}
 use Rattle.gr_pubend.specs.Log.{Log, empty_log, with_event, with_mark, with_entry, log_from, log_of, event_at, log_at, silence, Stays}
 use Rattle.gr_pubend.specs.Opening.{pairs, last_tick, EntriesRise, seen}
-use Rattle.gr_pubend.proofs.Knowing.{event_at-more, settles, stays_of, log_at-past, log_at-zero, log_at-in, within_in, within_below, within_above, up_to_event, at_event, at_mark}
+use Rattle.gr_pubend.proofs.Knowing.{event_at-more, stays_of, log_at-past, log_at-zero, log_at-in, within_in, within_below, within_above, up_to_event, at_event, at_mark}
 
 pairs_more : (es : List Entry) (e : Entry) → pairs (es ++ e ∷ []) ≡ pairs es ++ (e.tick, e.event) ∷ []
 pairs_more [] e = refl
@@ -137,31 +138,7 @@ live_at cut t (entry.Event tick number e ∷ rs) h = by_test (live_at cut t rs h
 live_at cut t (entry.Mark tick ∷ rs) h = live_at cut t rs h
 live_at cut t (entry.Cut tick ∷ rs) h = live_at cut t rs h
 
--- they rise from the cut on, and none is past what is settled
-pub settles_later : (s : State) (r : Record) → may_follow s r ≡ true → s.settled ≤ (after_record s r).settled
-settles_later s (entry.Event tick number e) m = omega (arith, (settles s tick (and_parts (may_settle s tick) (nat_eq number (s.last + 1)) m).0).0)
-settles_later s (entry.Mark tick) m = omega (arith, (settles s tick m).0)
-settles_later s (entry.Cut tick) m = le_refl s.settled
-
-from_below : (c from : ℕ) (s : State) (r : Record) → (from ≤ s.settled) ⊎ (from ≡ c) → may_follow s r ≡ true → (from ≤ (after_record s r).settled) ⊎ (from ≡ c)
-from_below c from s r (inl h) m = inl (omega (arith, h, settles_later s r m))
-from_below c from s r (inr h) m = inr h
-
-past_from : (c from : ℕ) (s : State) (tick : ℕ) → (from ≤ s.settled) ⊎ (from ≡ c) → s.settled < tick → c < tick → from < tick
-past_from c from s tick (inl h) p q = omega (arith, h)
-past_from c from s tick (inr h) p q = omega (arith, h)
-
-pub live_rise : (c from : ℕ) (s : State) (rs : List Record) → (from ≤ s.settled) ⊎ (from ≡ c) → Follow s rs → EntriesRise from (events_past c rs)
-live_rise c from s [] h f = tt
-live_rise c from s (entry.Event tick number e ∷ rs) h f =
-    by_test (live_rise c tick (after_record s (entry.Event tick number e)) rs (inl (le_refl tick)) f.2) (live_rise c from (after_record s (entry.Event tick number e)) rs (from_below c from s (entry.Event tick number e) h f.0) f.2) (nat_lt c tick) refl
-  where
-    by_test : EntriesRise tick (events_past c rs) → EntriesRise from (events_past c rs) → (b : Bool) → nat_lt c tick ≡ b → EntriesRise from (if b then record { tick = tick; number = number; event = e } ∷ events_past c rs else events_past c rs)
-    by_test i k true q = (past_from c from s tick h (settles s tick (and_parts (may_settle s tick) (nat_eq number (s.last + 1)) f.0).0).0 (ltb-true c tick q), i)
-    by_test i k false q = k
-live_rise c from s (entry.Mark tick ∷ rs) h f = live_rise c from (after_record s (entry.Mark tick)) rs (from_below c from s (entry.Mark tick) h f.0) f.2
-live_rise c from s (entry.Cut tick ∷ rs) h f = live_rise c from (after_record s (entry.Cut tick)) rs (from_below c from s (entry.Cut tick) h f.0) f.2
-
+-- none of them is past what is settled
 pub live_within : (c from : ℕ) (s : State) (rs : List Record) → (from ≤ s.settled) ⊎ (from ≡ c) → c ≤ (state_from s rs).settled → Follow s rs → last_tick from (events_past c rs) ≤ (state_from s rs).settled
 live_within c from s [] (inl h) le f = h
 live_within c from s [] (inr h) le f = omega (arith, h, le)

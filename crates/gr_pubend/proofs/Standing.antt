@@ -1,48 +1,64 @@
--- What a lane reads within a call that logs nothing, or one record; and the answers by the numbers
-use Rattle.std.proofs.Common.{◌≡◌, ◌⊎◌, inl, inr, ⊎_elim, ℕ, suc, ◌+◌, ◌-◌, ◌≤◌, ◌<◌, max, true, false, List, [], ◌∷◌, ◌++◌, Option, Some, None, Ok, refl, sym, ap, ◌∙◌, subst, arith}
-use Rattle.std.specs.Prelude.{nat_le, nat_lt, IsSome, IsErrOf, Err}
-use Rattle.std.proofs.lemmas.Bool.{false≢true, le-leb, lt-leb, lt-ltb, le-ltb}
+-- What a call has done that logs nothing, or one record; and the answers by the numbers
+use Rattle.std.proofs.Common.{◌≡◌, ◌⊎◌, inl, inr, ⊎_elim, ℕ, suc, ◌+◌, ◌-◌, ◌≤◌, ◌<◌, max, true, false, List, [], ◌∷◌, ◌++◌, Option, Some, None, Ok, refl, sym, ap, ◌∙◌, subst, arith, eq-eqb}
+use Rattle.std.specs.Prelude.{nat_eq, nat_le, nat_lt, IsSome, IsErrOf, Err}
+use Rattle.std.proofs.lemmas.Bool.{false≢true, and_from, le-leb, lt-leb, lt-ltb, le-ltb}
 use Rattle.gr_event.specs.declared.event.Event.{Event}
-use Rattle.gr_out.specs.Lane.{Lane, moment, has_stopped, LeftSince}
+use Rattle.gr_out.specs.Lane.{Lane}
 use Rattle.gr_publog.specs.declared.record.Record.{Record}
 use Rattle.gr_publog.specs.declared.record.Record.TheVariants as entry
 use Rattle.gr_publog.specs.declared.record.State.{State}
 use Rattle.gr_publog.specs.declared.record.LogFault.{LogFault}
-use Rattle.gr_publog.specs.State.{state_of, max_tick}
-use Rattle.gr_publog.specs.Text.{log_text}
-use Rattle.gr_publog.specs.Crash.{Stands, BeforeOrAfter}
-use Rattle.gr_publog.specs.Kept.{Broke, records_kept}
-use Rattle.gr_publog.proofs.Moments.{only_now}
-use Rattle.gr_publog.proofs.Reading.{reads}
+use Rattle.gr_publog.specs.declared.record.LogFault.TheVariants as fault
+use Rattle.gr_publog.specs.State.{state_of, max_tick, may_settle, may_follow}
+use Rattle.gr_publog.specs.Crash.{LogView}
+use Rattle.gr_publog.specs.Calls.{Appends, Leaves}
+use Rattle.gr_publog.proofs.Calling.{same_fault, appends_ok_as, appends_err_as}
 use Rattle.gr_pubend.specs.declared.answers.Published.TheVariants.{Logged, Already, Gap, Exhausted}
 use Rattle.gr_pubend.specs.declared.answers.Quieted.TheVariants.{NotYet, Marked}
 use Rattle.gr_pubend.specs.Log.{Log, log_of, silence, Stays}
 use Rattle.gr_pubend.specs.Answers.{published, quieted}
-use Rattle.gr_pubend.specs.End.{EndView, Reads, records_left}
+use Rattle.gr_pubend.specs.End.{EndView, grown, after_call, broken_end}
 use Rattle.gr_pubend.proofs.Knowing.{up_to_event}
 
--- where nothing was called
-untouched : (l : Lane) (rs : List Record) → Stands l rs → (image : List ℕ) → LeftSince l (moment l) image → log_text image ≡ Ok rs
-untouched l rs s image left =
-    ap log_text (s.only image (only_now l.start l.calls image left) ∙ s.text.text.whole) ∙ reads rs s.text.text.gate s.text.text.tail s.text.follow s.text.text.closed
+-- What a call that logs a record has done, said of the record that was to be logged
 
-pub reads_before : (l : Lane) (rs : List Record) (logged : Option Record) → Stands l rs → (image : List ℕ) → LeftSince l (moment l) image → Reads rs logged image
-reads_before l rs logged s image left = inl (untouched l rs s image left)
+module _ {T : Type 0} (l : LogView) (logged : Option Record) (r : Record) (before after : Lane) (e : logged ≡ Some r) where
+  pub logs_ok : (x : T) → Appends {T = Unit {0}} l (Some r) before after (Ok tt) → Appends l logged before after (Ok x)
+  logs_ok x a = subst (λ (o : Option Record). Appends l o before after (Ok x)) (sym e) (appends_ok_as {U = T} l (Some r) before after tt x a)
 
-pub stays_same : (l : Lane) (rs : List Record) (r : Record) → Stands l rs → (image : List ℕ) → LeftSince l (moment l) image → BeforeOrAfter rs r image
-stays_same l rs r s image left = inl (untouched l rs s image left)
+  pub logs_err : (f : LogFault) → Appends {T = Unit {0}} l (Some r) before after (Err f) → Appends {T = T} l logged before after (Err f)
+  logs_err f a = subst (λ (o : Option Record). Appends {T = T} l o before after (Err f)) (sym e) (appends_err_as {U = T} l (Some r) before after f a)
 
--- where the record is logged
-pub reads_either : (rs : List Record) (r : Record) (logged : Option Record) (image : List ℕ) → logged ≡ Some r → BeforeOrAfter rs r image → Reads rs logged image
-reads_either rs r logged image e h = ⊎_elim inl (λ x. inr (r, e, x)) h
+pub leaves_ok : {V T : Type 0} (before logged broken after : V) (x : T) → after ≡ logged → Leaves before logged broken after (Ok x)
+leaves_ok before logged broken after x e = record { ok = e; memory = λ h. absurd (cc h); closed = λ h. absurd (cc h); failed = λ h. absurd (cc h); never_damaged = λ at h. cc h }
 
--- where nothing was called no stop has broken a call
-pub never_broke : (l : Lane) (call pick : ℕ) → Broke l l call pick → ⊥
-never_broke l call pick b = false≢true (sym (ap has_stopped b.ordered) ∙ b.stopped)
+module _ {T : Type 0} (p p' : EndView) (logged : Option Record) where
+  pub ends_ok : (r : Record) → logged ≡ Some r → (x : T) → Leaves {T = Unit {0}} p (grown r p) (broken_end p) p' (Ok tt) → Leaves p (after_call logged p) (broken_end p) p' (Ok x)
+  ends_ok r e x a = record {
+    ok = a.ok ∙ ap (λ (o : Option Record). after_call o p) (sym e);
+    memory = λ h. absurd (cc h);
+    closed = λ h. absurd (cc h);
+    failed = λ h. absurd (cc h);
+    never_damaged = λ at h. cc h;
+  }
 
--- what the log keeps of the record that is logged
-pub left_with : (rs : List Record) (r : Record) (logged : Option Record) (image : List ℕ) (call pick : ℕ) → logged ≡ Some r → log_text image ≡ Ok (records_kept rs r call pick) → log_text image ≡ Ok (records_left rs logged call pick)
-left_with rs r logged image call pick e h = h ∙ ap (λ (o : Option Record). Ok (records_left rs o call pick)) (sym e)
+  pub ends_err : (q : EndView) (f : LogFault) → Leaves {T = Unit {0}} p q (broken_end p) p' (Err f) → Leaves {T = T} p (after_call logged p) (broken_end p) p' (Err f)
+  ends_err q f a = record {
+    ok = tt;
+    memory = λ h. a.memory (same_fault {T = T} f fault.Memory h);
+    closed = λ h. a.closed (same_fault {T = T} f fault.Reopen h);
+    failed = λ h. a.failed (same_fault {T = T} f fault.Disk h);
+    never_damaged = λ at h. a.never_damaged at (same_fault {T = T} f (fault.Damaged at) h);
+  }
+
+  pub ends_none : (x : T) → logged ≡ None → p' ≡ p → Leaves p (after_call logged p) (broken_end p) p' (Ok x)
+  ends_none x e h = record {
+    ok = h ∙ ap (λ (o : Option Record). after_call o p) (sym e);
+    memory = λ z. absurd (cc z);
+    closed = λ z. absurd (cc z);
+    failed = λ z. absurd (cc z);
+    never_damaged = λ at z. cc z;
+  }
 
 -- the log of an endpoint that is seen otherwise
 pub stays_seen : (p q : EndView) → p ≡ q → Stays (log_of p.log.records) (state_of p.log.records) → Stays (log_of q.log.records) (state_of q.log.records)
@@ -58,15 +74,17 @@ is_logged logged r e = subst (λ (x : Option Record). IsSome x) (sym e) refl
 pub none_is_logged : (logged : Option Record) → logged ≡ None → IsSome logged → ⊥
 none_is_logged logged e h = false≢true (subst (λ (x : Option Record). IsSome x) e h)
 
--- an answer is no fault, and a fault is the same whatever was to be answered
+-- an answer is no fault
 pub is_no_fault : {A : Type 0} (x : A) (e : LogFault) → IsErrOf {T = A} {E = LogFault} (Ok x) e → ⊥
 is_no_fault x e h = cc
 
-fault_is : {A : Type 0} (f e : LogFault) → IsErrOf {T = A} {E = LogFault} (Err f) e → f ≡ e
-fault_is f e h = cc
+-- a record that may follow
+pub may_event : (s : State) (tick number : ℕ) (e : Event) → s.settled < tick → tick ≤ max_tick → number ≡ s.last + 1 → may_follow s (entry.Event tick number e) ≡ true
+may_event s tick number e past upto next =
+    and_from (may_settle s tick) (nat_eq number (s.last + 1)) (and_from (nat_lt s.settled tick) (nat_le tick max_tick) (lt-ltb s.settled tick past) (le-leb tick max_tick upto)) (eq-eqb number (s.last + 1) next)
 
-pub same_fault : {A B : Type 0} (f e : LogFault) → IsErrOf {T = A} {E = LogFault} (Err f) e → IsErrOf {T = B} {E = LogFault} (Err f) e
-same_fault {A} {B} f e h = ap (λ (x : LogFault). Err x) (fault_is {A = A} f e h)
+pub may_mark : (s : State) (tick : ℕ) → s.settled < tick → tick ≤ max_tick → may_follow s (entry.Mark tick) ≡ true
+may_mark s tick past upto = and_from (nat_lt s.settled tick) (nat_le tick max_tick) (lt-ltb s.settled tick past) (le-leb tick max_tick upto)
 
 -- The answers
 

@@ -1,15 +1,15 @@
--- What a publish and a time of silence are answered, and the record that each logs
-use Rattle.std.specs.Prelude.{ℕ, suc, ◌+◌, ◌-◌, max, Bool, true, false, nat_le, nat_lt, [], ◌∷◌, Option, Some, None}
+-- What a publish and a time of silence are answered, the record that each logs, and what was planned
+use Rattle.std.specs.Prelude.{◌≡◌, ℕ, suc, ◌+◌, ◌-◌, max, Bool, true, false, nat_le, nat_lt, List, [], ◌∷◌, Option, Some, None}
 use Rattle.gr_event.specs.declared.event.Event.{Event}
 use Rattle.gr_know.specs.declared.values.K.TheVariants.{D}
 use Rattle.gr_publog.specs.declared.record.Record.{Record}
 use Rattle.gr_publog.specs.declared.record.Record.TheVariants as entry
-use Rattle.gr_publog.specs.State.{max_tick}
+use Rattle.gr_publog.specs.State.{max_tick, state_of, may_follow}
 use Rattle.gr_pubend.specs.declared.answers.Published.{Published}
 use Rattle.gr_pubend.specs.declared.answers.Published.TheVariants.{Logged, Already, Gap, Exhausted}
 use Rattle.gr_pubend.specs.declared.answers.Quieted.{Quieted}
 use Rattle.gr_pubend.specs.declared.answers.Quieted.TheVariants.{NotYet, Marked}
-use Rattle.gr_pubend.specs.Log.{Log, silence}
+use Rattle.gr_pubend.specs.Log.{Log, log_of, silence}
 
 -- a publish: said already, out of turn, past the last tick, or logged at its tick, with the silence before it
 unfoldable pub published : Log → ℕ → Event → ℕ → Published
@@ -42,3 +42,22 @@ event_of _ number e = None
 abbrev pub mark_of : Quieted → Option Record
 mark_of (Marked tick fresh) = Some (entry.Mark tick)
 mark_of _ = None
+
+-- the record that a publish logs behind these, and the one that a time of silence logs
+abbrev pub publish_logs : List Record → ℕ → Event → ℕ → Option Record
+publish_logs rs number e now = event_of (published (log_of rs) number e now) number e
+
+abbrev pub quiet_logs : List Record → ℕ → ℕ → Option Record
+quiet_logs rs now quiet = mark_of (quieted (log_of rs) now quiet)
+
+-- An answer that was planned on these records: the event may follow them, and what is new are the silence before it and itself
+abbrev pub IsPlanned : List Record → ℕ → Event → Published → Type 0
+IsPlanned rs number e (Logged tick fresh) =
+    (may_follow (state_of rs) (entry.Event tick number e) ≡ true)
+    × (fresh ≡ silence (suc (log_of rs).settled) (tick - 1) (record { first = tick; last = tick; value = D e } ∷ []))
+IsPlanned rs number e _ = Unit {0}
+
+-- the same of a mark, with the silence up to it
+abbrev pub IsPlannedMark : List Record → Quieted → Type 0
+IsPlannedMark rs (Marked tick fresh) = (may_follow (state_of rs) (entry.Mark tick) ≡ true) × (fresh ≡ silence (suc (log_of rs).settled) tick [])
+IsPlannedMark rs _ = Unit {0}

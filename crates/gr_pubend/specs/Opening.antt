@@ -1,7 +1,8 @@
 -- A log whose events are read one after another, from its cut on
-use Rattle.std.specs.Prelude.{ℕ, ◌<◌, List, [], ◌∷◌, map}
+use Rattle.std.specs.Prelude.{ℕ, List, [], ◌∷◌, map}
 use Rattle.gr_event.specs.declared.event.Event.{Event}
 use Rattle.gr_publog.specs.declared.record.Entry.{Entry}
+pub use Rattle.gr_publog.specs.State.{EntriesRise}
 use Rattle.gr_pubend.specs.Log.{Log}
 
 -- entries as pairs of a tick and an event
@@ -12,11 +13,6 @@ pairs es = map (λ e. (e.tick, e.event)) es
 abbrev pub last_tick : ℕ → List Entry → ℕ
 last_tick from [] = from
 last_tick from (e ∷ es) = last_tick e.tick es
-
--- the ticks rise strictly from above a tick on
-abbrev pub EntriesRise : ℕ → List Entry → Type 0
-EntriesRise from [] = Unit {0}
-EntriesRise from (e ∷ es) = (from < e.tick) × EntriesRise e.tick es
 
 -- the log with this cut and these entries behind it
 abbrev pub seen : ℕ → List Entry → Log

@@ -9,12 +9,12 @@ ghost use Rattle.gr_pubend.specs.Opening.{last_tick, EntriesRise, seen};
 
 use gr_event::Event;
 use gr_know::{K, Know};
-use gr_publog::{Entry, Log, Memory};
+use gr_publog::{Entries, Log, Memory};
 use gr_tick::{Piece, Run};
 use std::alloc::Global;
 
 /// Silence on a range of ticks. A range that ends before it begins has none.
-fn silent(alloc: Global, first: u64, last: u64) -> Result<Piece<K>, Memory>
+pub fn fresh_silence(alloc: Global, first: u64, last: u64) -> Result<Piece<K>, Memory>
     requires from_one { 1 ≤ first }
     requires upto { last ≤ 2 ^ 62 }
     ensures { IfOk result (λ piece. piece ≡ silence first last []) }
@@ -31,13 +31,14 @@ fn silent(alloc: Global, first: u64, last: u64) -> Result<Piece<K>, Memory>
 }
 
 /// Silence from one tick on, and an event at another, at or past it.
-fn silent_then(alloc: Global, first: u64, tick: u64, event: &Event) -> Result<Piece<K>, Memory>
+pub fn fresh_event(alloc: Global, first: u64, tick: u64, event: &Event) -> Result<Piece<K>, Memory>
     requires from_one { 1 ≤ first }
     requires ordered { first ≤ tick }
     requires upto { tick ≤ 2 ^ 62 }
-    ensures { IfOk result (λ piece. piece ≡ silence first (tick - 1) (record { first = tick; last = tick; value = D event.now } ∷ [])) }
+    ensures { IfOk result (λ piece.
+        piece ≡ silence first (tick - 1) (record { first = tick; last = tick; value = D event.now } ∷ [])) }
 {
-    let mut piece = silent(alloc, first, tick - 1)?;
+    let mut piece = fresh_silence(alloc, first, tick - 1)?;
     piece.push(Run {
         first: tick,
         last: tick,
@@ -46,44 +47,43 @@ fn silent_then(alloc: Global, first: u64, tick: u64, event: &Event) -> Result<Pi
     Ok(piece)
 }
 
-/// Learns silence on a range of ticks of which nothing was known, and answers it.
-pub fn learn_silence(
-    alloc: Global,
-    know: &mut Know,
-    first: u64,
-    last: u64,
-) -> Result<Piece<K>, Memory>
-    requires from_one { 1 ≤ first }
-    requires upto { last ≤ 2 ^ 62 }
-    requires unknown { (t : ℕ) → first ≤ t → known_at know.old t ≡ Q }
-    ensures fresh { IfOk result (λ fresh. fresh ≡ silence first last []) }
-    ensures learned { OnOk result (RunsGive Q know.new (λ t. join_K (known_at know.old t) (known_at (silence first last []) t))) }
-    ensures err { OnErr result (know.new ≡ know.old) }
+/// What is known with a piece that is new.
+pub fn known_with(know: &Know, fresh: &Piece<K>) -> Result<Know, Memory>
+    ensures { IfOk result (λ new. RunsGive Q new (λ t. join_K (known_at know.now t) (known_at fresh.now t))) }
 {
-    let piece = silent(alloc, first, last)?;
-    let fresh = know.learn(&piece)?;
-    Ok(fresh)
+    let mut know = know.copy()?;
+    let _ = know.learn(fresh)?;
+    Ok(know)
 }
 
-/// Learns silence from a tick on, and an event at another, at or past it, where nothing was known, and answers both.
-pub fn learn_event(
+/// What is known with all up to a tick final.
+pub fn final_upto(know: &Know, tick: u64) -> Result<Know, Memory>
+    requires from_one { 1 ≤ tick }
+    requires upto { tick ≤ 2 ^ 62 }
+    ensures { IfOk result (λ new. RunsGive Q new (λ t. if within 1 tick t then F else known_at know.now t)) }
+{
+    let mut know = know.copy()?;
+    know.finish(1, tick)?;
+    Ok(know)
+}
+
+/// Learns silence from a tick on, and an event at another, at or past it.
+fn learn_event(
     alloc: Global,
     know: &mut Know,
     first: u64,
     tick: u64,
     event: &Event,
-) -> Result<Piece<K>, Memory>
+) -> Result<(), Memory>
     requires from_one { 1 ≤ first }
     requires ordered { first ≤ tick }
     requires upto { tick ≤ 2 ^ 62 }
-    requires unknown { (t : ℕ) → first ≤ t → known_at know.old t ≡ Q }
-    ensures fresh { IfOk result (λ fresh. fresh ≡ silence first (tick - 1) (record { first = tick; last = tick; value = D event.now } ∷ [])) }
-    ensures learned { OnOk result (RunsGive Q know.new (λ t. join_K (known_at know.old t) (known_at (silence first (tick - 1) (record { first = tick; last = tick; value = D event.now } ∷ [])) t))) }
-    ensures err { OnErr result (know.new ≡ know.old) }
+    ensures { let piece = silence first (tick - 1) (record { first = tick; last = tick; value = D event.now } ∷ []) in
+        OnOk result (RunsGive Q know.new (λ t. join_K (known_at know.old t) (known_at piece t))) }
 {
-    let piece = silent_then(alloc, first, tick, event)?;
-    let fresh = know.learn(&piece)?;
-    Ok(fresh)
+    let piece = fresh_event(alloc, first, tick, event)?;
+    let _ = know.learn(&piece)?;
+    Ok(())
 }
 
 /// Makes all up to a tick final; nothing for 0.
@@ -99,7 +99,7 @@ fn make_final(know: &mut Know, upto: u64) -> Result<(), Memory>
 }
 
 /// Learns events behind a cut, with the silence between them, and answers the last tick that is known then.
-fn learn_events(alloc: Global, know: &mut Know, cut: u64, events: &[Entry]) -> Result<u64, Memory>
+fn learn_events(alloc: Global, know: &mut Know, cut: u64, events: &Entries) -> Result<u64, Memory>
     requires known { RunsGive Q know.old (log_at (seen cut [])) }
     requires rise { EntriesRise cut events.now }
     requires upto { last_tick cut events.now ≤ 2 ^ 62 }
@@ -107,8 +107,9 @@ fn learn_events(alloc: Global, know: &mut Know, cut: u64, events: &[Entry]) -> R
     ensures known { OnOk result (RunsGive Q know.new (log_at (seen cut events.now))) }
 {
     let mut last = cut;
-    for entry in events {
-        let _ = learn_event(alloc, know, last + 1, entry.tick, &entry.event)?;
+    'entries: for i in 0..events.len() {
+        let entry = events.get(i);
+        learn_event(alloc, know, last + 1, entry.tick, &entry.event)?;
         last = entry.tick;
     }
     Ok(last)
@@ -121,10 +122,11 @@ pub fn known_by(alloc: Global, log: &Log) -> Result<Know, Memory>
     let _ = log.is_broken();
     let cut = log.cut();
     let settled = log.settled();
-    let events = log.events();
     let mut know = Know::new(alloc);
     make_final(&mut know, cut)?;
-    let last = learn_events(alloc, &mut know, cut, events.as_slice())?;
-    let _ = learn_silence(alloc, &mut know, last + 1, settled)?;
+    let events = log.events();
+    let last = learn_events(alloc, &mut know, cut, events)?;
+    let silence = fresh_silence(alloc, last + 1, settled)?;
+    let _ = know.learn(&silence)?;
     Ok(know)
 }

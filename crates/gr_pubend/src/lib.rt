@@ -3,8 +3,8 @@
 
 pub mod answers;
 pub mod law;
-pub mod learning;
-pub mod pubend;
+mod learning;
+mod pubend;
 #[cfg(test)]
 mod tests;
 

@@ -1,27 +1,22 @@
 //! A log, and what is known by it.
 
-ghost use Rattle.std.specs.Prelude.{◌≡◌, ◌≢◌, ◌↔◌, ◌⊎◌, ℕ, suc, ◌+◌, ◌-◌, ◌^◌, ◌≤◌, ◌<◌, ◌++◌, ◌∷◌, [], Bool, true, false, List, Option, Some, None, Ok, Err, IsErr, IsSome, IfOk, OnOk, IsErrOf};
-ghost use Rattle.gr_out.specs.Faults.{Rose};
-ghost use Rattle.gr_out.specs.Lane.{content, moment, crash_image, has_stopped, LeftSince, MayLeave};
-ghost use Rattle.gr_out.specs.declared.disk.Stop.TheVariants.{Unset, After};
-ghost use Rattle.gr_publog.specs.Kept.{Broke, records_kept};
+ghost use Rattle.std.specs.Prelude.{◌≡◌, ◌≢◌, ◌↔◌, ℕ, suc, ◌+◌, ◌-◌, ◌^◌, ◌≤◌, ◌<◌, ◌++◌, ◌∷◌, [], true, false, Some, None, Err, IsErr, IsSome, IfOk, OnOk, IsErrOf};
+ghost use Rattle.gr_out.specs.Stops.{StaysFaultless};
 ghost use Rattle.gr_tick.specs.Stored.{RunsGive};
-ghost use Rattle.gr_know.specs.Values.{known_at};
 ghost use Rattle.gr_know.specs.declared.values.K.TheVariants.{Q};
 ghost use Rattle.gr_publog.specs.State.{state_of, may_follow};
-ghost use Rattle.gr_publog.specs.Text.{front_text, log_text};
-ghost use Rattle.gr_publog.specs.Crash.{Stands, BeforeOrAfter, EitherRose, DiskRose};
+ghost use Rattle.gr_publog.specs.Calls.{IsReady, Appends, Opens, Tally, Causes, Leaves};
 ghost use Rattle.gr_publog.specs.declared.record.LogFault.TheVariants.{Memory as WantOfMemory, Disk as DiskFailed, Reopen as MustReopen};
-ghost use Rattle.gr_pubend.specs.Log.{log_of, log_at, log_know, silence};
-ghost use Rattle.gr_pubend.specs.Answers.{published, quieted, event_of, mark_of};
-ghost use Rattle.gr_pubend.specs.End.{EndView, grown, after_call, broken_end, Reads, records_left, EndOpensAs};
+ghost use Rattle.gr_pubend.specs.Log.{log_of, log_at, log_know};
+ghost use Rattle.gr_pubend.specs.Answers.{published, quieted, publish_logs, quiet_logs, IsPlanned, IsPlannedMark};
+ghost use Rattle.gr_pubend.specs.End.{grown, after_call, broken_end, log_result};
 
 use crate::answers::{Published, Quieted};
-use crate::learning::{known_by, learn_event, learn_silence};
+use crate::learning::{final_upto, fresh_event, fresh_silence, known_by, known_with};
 use gr_event::Event;
 use gr_know::{K, Know};
 use gr_out::Disk;
-use gr_publog::{Log, LogFault, Record};
+use gr_publog::{Log, LogFault, Memory, Record};
 use gr_tick::{MAX_TICK, Piece};
 use std::alloc::Global;
 use std::marker::Model;
@@ -52,17 +47,17 @@ impl Pubend {
     /// Opens the endpoint of a lane: its log, and what is known by it. `Damaged` comes exactly where the lane holds no
     /// log, and `Disk` only where the disk failed in this call. It never answers `Reopen`.
     pub fn open<D: Disk>(alloc: Global, disk: &mut D, lane: u16) -> Result<Pubend, LogFault>
-        ensures gives { D.tells → EndOpensAs result (log_text (content (D.lane_of disk.old lane))) }
+        ensures opens { D.tells → Opens (D.lane_of disk.old lane) (D.lane_of disk.new lane) (log_result result) }
         ensures lane { IfOk result (λ p. p.log.lane ≡ lane) }
         ensures whole { IfOk result (λ p. p.log.broken ≡ false) }
         ensures known { IfOk result (λ p. p.know ≡ log_know (log_of p.log.records)) }
-        ensures stands { D.tells → IfOk result (λ p. Stands (D.lane_of disk.new lane) p.log.records) }
-        ensures any_moment { D.tells → (image : List ℕ) → LeftSince (D.lane_of disk.new lane) (moment (D.lane_of disk.old lane)) image → MayLeave (D.lane_of disk.old lane) image ⊎ (log_text image ≡ log_text (content (D.lane_of disk.old lane))) }
-        ensures reserved { D.tells → OnOk result ((D.lane_of disk.new lane).reserved ≡ true) }
         ensures never_reopen { result ≢ Err LogFault.Reopen }
-        ensures disk { DiskRose result (D.faults disk.old) (D.faults disk.new) (D.stops disk.old) (D.stops disk.new) }
-        ensures why { D.tells → IsErrOf result LogFault.Disk → (has_stopped (D.lane_of disk.new lane).stop ≡ true) ⊎ Rose (D.faults disk.old) (D.faults disk.new) }
-        ensures unset { D.tells → (D.lane_of disk.old lane).stop ≡ Unset → (D.lane_of disk.new lane).stop ≡ Unset }
+        ensures tally { let f = D.faults disk.old in let s = D.stops disk.old in
+            Tally f s (D.faults disk.new) (D.stops disk.new) result }
+        ensures causes { let f = D.faults disk.old in let f' = D.faults disk.new in
+            D.tells → Causes (D.faultless disk.old) (D.lane_of disk.new lane) f f' result }
+        ensures faultless { let f = D.faults disk.old in
+            StaysFaultless (D.faultless disk.old) (D.faultless disk.new) f (D.faults disk.new) }
         ensures others { D.tells → (n : ℕ) → n ≢ lane → D.lane_of disk.new n ≡ D.lane_of disk.old n }
     {
         let log = match Log::open(alloc, disk, lane) {
@@ -76,41 +71,16 @@ impl Pubend {
         }
     }
 
-    /// Publishes an event under a number. It gets the next tick, or `now` where that is later.
+    /// What a publish of an event under a number would be answered, with the ticks that would become known. Nothing
+    /// changes, and the disk is not called. It wants memory only where the event would be logged.
     ///
-    /// A number that was logged is `Already` there, and one past the next is out of turn (`Gap`); with no tick left the
-    /// publisher is `Exhausted`. These leave all as it was. Else the event is logged, and only once it is synced it is
-    /// known, with the silence before it; both are answered. After `Memory` nothing has changed. After `Disk` the
-    /// endpoint has to be opened again, and each call that would log answers `Reopen`.
-    pub fn publish<D: Disk>(
-        &mut self,
-        disk: &mut D,
-        number: u64,
-        event: &Event,
-        now: u64,
-    ) -> Result<Published, LogFault>
+    /// An event gets the next tick, or `now` where that is later. A number that was logged is `Already` there, and one
+    /// past the next is out of turn (`Gap`); with no tick left the publisher is `Exhausted`.
+    pub fn plan(&self, number: u64, event: &Event, now: u64) -> Result<Published, Memory>
         requires now { now ≤ 2 ^ 62 }
-        requires stands { D.tells → self.old.log.broken ≡ false → Stands (D.lane_of disk.old self.old.log.lane) self.old.log.records }
-        ensures answer { IfOk result (λ answer. answer ≡ published (log_of self.old.log.records) number event.now now) }
-        ensures logged { IfOk result (λ answer. self.new ≡ after_call (event_of answer number event.now) self.old) }
-        ensures stands { D.tells → self.old.log.broken ≡ false → OnOk result (Stands (D.lane_of disk.new self.old.log.lane) self.new.log.records) }
-        ensures any_moment { D.tells → self.old.log.broken ≡ false → (image : List ℕ) → LeftSince (D.lane_of disk.new self.old.log.lane) (moment (D.lane_of disk.old self.old.log.lane)) image → Reads self.old.log.records (event_of (published (log_of self.old.log.records) number event.now now) number event.now) image }
-        ensures kept { D.tells → (call : ℕ) (pick : ℕ) → Broke (D.lane_of disk.old self.old.log.lane) (D.lane_of disk.new self.old.log.lane) call pick → log_text (crash_image (D.lane_of disk.new self.old.log.lane)) ≡ Ok (records_left self.old.log.records (event_of (published (log_of self.old.log.records) number event.now now) number event.now) call pick) }
-        ensures breaks { D.tells → (call : ℕ) (pick : ℕ) → IsSome (event_of (published (log_of self.old.log.records) number event.now now) number event.now) → (D.lane_of disk.old self.old.log.lane).stop ≡ After call pick → call ≤ 4 → IsErr result }
-        ensures untouched { (event_of (published (log_of self.old.log.records) number event.now now) number event.now) ≡ None → disk.new ≡ disk.old }
-        ensures reopen { IsErrOf result LogFault.Reopen ↔ ((self.old.log.broken ≡ true) × IsSome (event_of (published (log_of self.old.log.records) number event.now now) number event.now)) }
-        ensures goes_on { OnOk result ((self.new.log.lane ≡ self.old.log.lane) × (self.new.log.broken ≡ self.old.log.broken)) }
-        ensures idle { IsErrOf result LogFault.Reopen → disk.new ≡ disk.old }
-        ensures memory { IsErrOf result LogFault.Memory → self.new ≡ self.old }
-        ensures still { D.tells → IsErrOf result LogFault.Memory → Stands (D.lane_of disk.new self.old.log.lane) self.old.log.records }
-        ensures closed { IsErrOf result LogFault.Reopen → self.new ≡ self.old }
-        ensures disk { IsErrOf result LogFault.Disk → EitherRose (D.faults disk.old) (D.faults disk.new) (D.stops disk.old) (D.stops disk.new) }
-        ensures broken { IsErrOf result LogFault.Disk → self.new ≡ broken_end self.old }
-        ensures why { D.tells → IsErrOf result LogFault.Disk → (has_stopped (D.lane_of disk.new self.old.log.lane).stop ≡ true) ⊎ Rose (D.faults disk.old) (D.faults disk.new) }
-        ensures unset { D.tells → (D.lane_of disk.old self.old.log.lane).stop ≡ Unset → (D.lane_of disk.new self.old.log.lane).stop ≡ Unset }
-        ensures reserved { D.tells → (D.lane_of disk.old self.old.log.lane).reserved ≡ true → (D.lane_of disk.new self.old.log.lane).reserved ≡ true }
-        ensures never_damaged { (at : ℕ) → result ≢ Err (LogFault.Damaged at) }
-        ensures others { D.tells → (n : ℕ) → n ≢ self.old.log.lane → D.lane_of disk.new n ≡ D.lane_of disk.old n }
+        ensures answer { IfOk result (λ answer. answer ≡ published (log_of self.now.log.records) number event.now now) }
+        ensures planned { IfOk result (λ answer. IsPlanned self.now.log.records number event.now answer) }
+        ensures wants { IsErr result → IsSome (publish_logs self.now.log.records number event.now now) }
     {
         let last = self.log.last();
         if number <= last {
@@ -119,19 +89,100 @@ impl Pubend {
         if number > last + 1 {
             return Ok(Published::Gap { next: last + 1 });
         }
-        let settled = self.log.settled();
-        let tick = now.max(settled + 1);
+        let first = self.log.settled() + 1;
+        let tick = now.max(first);
         if tick > MAX_TICK {
             return Ok(Published::Exhausted);
         }
-        match self.log_event(disk, number, event, tick) {
+        match fresh_event(self.alloc, first, tick, event) {
             Ok(fresh) => Ok(Published::Logged { tick, fresh }),
-            Err(fault) => Err(fault),
+            Err(refused) => Err(refused),
         }
     }
 
-    /// Marks the silence up to `now`, where nothing was logged for `quiet` ticks; else it is `NotYet` time, and all is
-    /// as it was. Faults are those of `publish`.
+    /// What a time of `quiet` ticks without an event would be answered: the silence up to `now`, or that it was not
+    /// long enough. Nothing changes, and the disk is not called. It wants memory only where a mark would be logged.
+    pub fn plan_quiet(&self, now: u64, quiet: u64) -> Result<Quieted, Memory>
+        requires now { now ≤ 2 ^ 62 }
+        requires some { 1 ≤ quiet }
+        ensures answer { IfOk result (λ answer. answer ≡ quieted (log_of self.now.log.records) now quiet) }
+        ensures planned { IfOk result (λ answer. IsPlannedMark self.now.log.records answer) }
+        ensures wants { IsErr result → IsSome (quiet_logs self.now.log.records now quiet) }
+    {
+        let settled = self.log.settled();
+        if now.saturating_sub(settled) < quiet {
+            return Ok(Quieted::NotYet);
+        }
+        match fresh_silence(self.alloc, settled + 1, now) {
+            Ok(fresh) => Ok(Quieted::Marked { tick: now, fresh }),
+            Err(refused) => Err(refused),
+        }
+    }
+
+    /// Publishes an event under a number: `plan`, and then `log_event` where it is to be logged. Only once the event is
+    /// synced it is known, with the silence before it; both are answered.
+    ///
+    /// After `Memory` nothing has changed. After `Disk` the endpoint has to be opened again, and each call that would
+    /// log answers `Reopen`.
+    pub fn publish<D: Disk>(
+        &mut self,
+        disk: &mut D,
+        number: u64,
+        event: &Event,
+        now: u64,
+    ) -> Result<Published, LogFault>
+        requires now { now ≤ 2 ^ 62 }
+        requires stands { D.tells → IsReady self.old.log (D.lane_of disk.old self.old.log.lane) }
+        ensures answer { IfOk result (λ answer. answer ≡ published (log_of self.old.log.records) number event.now now) }
+        ensures end { let logged = publish_logs self.old.log.records number event.now now in
+            Leaves self.old (after_call logged self.old) (broken_end self.old) self.new result }
+        ensures goes_on { OnOk result
+            ((self.new.log.lane ≡ self.old.log.lane) × (self.new.log.broken ≡ self.old.log.broken)) }
+        ensures lane { let l = self.old.log in let before = D.lane_of disk.old l.lane in
+            let logged = publish_logs self.old.log.records number event.now now in
+            D.tells → Appends l logged before (D.lane_of disk.new l.lane) result }
+        ensures reopen { let logged = publish_logs self.old.log.records number event.now now in
+            IsErrOf result LogFault.Reopen ↔ ((self.old.log.broken ≡ true) × IsSome logged) }
+        ensures idle { IsErrOf result LogFault.Reopen → disk.new ≡ disk.old }
+        ensures untouched { let logged = publish_logs self.old.log.records number event.now now in
+            logged ≡ None → disk.new ≡ disk.old }
+        ensures tally { let f = D.faults disk.old in let s = D.stops disk.old in
+            Tally f s (D.faults disk.new) (D.stops disk.new) result }
+        ensures causes { let f = D.faults disk.old in let f' = D.faults disk.new in
+            D.tells → Causes (D.faultless disk.old) (D.lane_of disk.new self.old.log.lane) f f' result }
+        ensures faultless { let f = D.faults disk.old in
+            StaysFaultless (D.faultless disk.old) (D.faultless disk.new) f (D.faults disk.new) }
+        ensures others { let lane = self.old.log.lane in
+            D.tells → (n : ℕ) → n ≢ lane → D.lane_of disk.new n ≡ D.lane_of disk.old n }
+    {
+        let answer = match self.plan(number, event, now) {
+            Ok(answer) => answer,
+            Err(_) => {
+                // A log that is broken has to be opened again, whatever else is wanting.
+                if self.log.is_broken() {
+                    return Err(LogFault::Reopen);
+                }
+                return Err(LogFault::Memory);
+            }
+        };
+        match answer {
+            Published::Logged { tick, fresh } => {
+                match self.log_event(disk, number, event, tick, &fresh) {
+                    Ok(()) => Ok(Published::Logged { tick, fresh }),
+                    Err(fault) => {
+                        drop(fresh);
+                        Err(fault)
+                    }
+                }
+            }
+            Published::Already => Ok(Published::Already),
+            Published::Gap { next } => Ok(Published::Gap { next }),
+            Published::Exhausted => Ok(Published::Exhausted),
+        }
+    }
+
+    /// Marks the silence up to `now`, where nothing was logged for `quiet` ticks: `plan_quiet`, and then `log_mark`.
+    /// Else it is `NotYet` time, and all is as it was. Faults are those of `publish`.
     pub fn quiet<D: Disk>(
         &mut self,
         disk: &mut D,
@@ -140,67 +191,159 @@ impl Pubend {
     ) -> Result<Quieted, LogFault>
         requires now { now ≤ 2 ^ 62 }
         requires some { 1 ≤ quiet }
-        requires stands { D.tells → self.old.log.broken ≡ false → Stands (D.lane_of disk.old self.old.log.lane) self.old.log.records }
+        requires stands { D.tells → IsReady self.old.log (D.lane_of disk.old self.old.log.lane) }
         ensures answer { IfOk result (λ answer. answer ≡ quieted (log_of self.old.log.records) now quiet) }
-        ensures logged { IfOk result (λ answer. self.new ≡ after_call (mark_of answer) self.old) }
-        ensures stands { D.tells → self.old.log.broken ≡ false → OnOk result (Stands (D.lane_of disk.new self.old.log.lane) self.new.log.records) }
-        ensures any_moment { D.tells → self.old.log.broken ≡ false → (image : List ℕ) → LeftSince (D.lane_of disk.new self.old.log.lane) (moment (D.lane_of disk.old self.old.log.lane)) image → Reads self.old.log.records (mark_of (quieted (log_of self.old.log.records) now quiet)) image }
-        ensures kept { D.tells → (call : ℕ) (pick : ℕ) → Broke (D.lane_of disk.old self.old.log.lane) (D.lane_of disk.new self.old.log.lane) call pick → log_text (crash_image (D.lane_of disk.new self.old.log.lane)) ≡ Ok (records_left self.old.log.records (mark_of (quieted (log_of self.old.log.records) now quiet)) call pick) }
-        ensures breaks { D.tells → (call : ℕ) (pick : ℕ) → IsSome (mark_of (quieted (log_of self.old.log.records) now quiet)) → (D.lane_of disk.old self.old.log.lane).stop ≡ After call pick → call ≤ 4 → IsErr result }
-        ensures untouched { (mark_of (quieted (log_of self.old.log.records) now quiet)) ≡ None → disk.new ≡ disk.old }
-        ensures reopen { IsErrOf result LogFault.Reopen ↔ ((self.old.log.broken ≡ true) × IsSome (mark_of (quieted (log_of self.old.log.records) now quiet))) }
-        ensures goes_on { OnOk result ((self.new.log.lane ≡ self.old.log.lane) × (self.new.log.broken ≡ self.old.log.broken)) }
+        ensures end { let logged = quiet_logs self.old.log.records now quiet in
+            Leaves self.old (after_call logged self.old) (broken_end self.old) self.new result }
+        ensures goes_on { OnOk result
+            ((self.new.log.lane ≡ self.old.log.lane) × (self.new.log.broken ≡ self.old.log.broken)) }
+        ensures lane { let l = self.old.log in let before = D.lane_of disk.old l.lane in
+            let logged = quiet_logs self.old.log.records now quiet in
+            D.tells → Appends l logged before (D.lane_of disk.new l.lane) result }
+        ensures reopen { let logged = quiet_logs self.old.log.records now quiet in
+            IsErrOf result LogFault.Reopen ↔ ((self.old.log.broken ≡ true) × IsSome logged) }
         ensures idle { IsErrOf result LogFault.Reopen → disk.new ≡ disk.old }
-        ensures memory { IsErrOf result LogFault.Memory → self.new ≡ self.old }
-        ensures still { D.tells → IsErrOf result LogFault.Memory → Stands (D.lane_of disk.new self.old.log.lane) self.old.log.records }
-        ensures closed { IsErrOf result LogFault.Reopen → self.new ≡ self.old }
-        ensures disk { IsErrOf result LogFault.Disk → EitherRose (D.faults disk.old) (D.faults disk.new) (D.stops disk.old) (D.stops disk.new) }
-        ensures broken { IsErrOf result LogFault.Disk → self.new ≡ broken_end self.old }
-        ensures why { D.tells → IsErrOf result LogFault.Disk → (has_stopped (D.lane_of disk.new self.old.log.lane).stop ≡ true) ⊎ Rose (D.faults disk.old) (D.faults disk.new) }
-        ensures unset { D.tells → (D.lane_of disk.old self.old.log.lane).stop ≡ Unset → (D.lane_of disk.new self.old.log.lane).stop ≡ Unset }
-        ensures reserved { D.tells → (D.lane_of disk.old self.old.log.lane).reserved ≡ true → (D.lane_of disk.new self.old.log.lane).reserved ≡ true }
-        ensures never_damaged { (at : ℕ) → result ≢ Err (LogFault.Damaged at) }
-        ensures others { D.tells → (n : ℕ) → n ≢ self.old.log.lane → D.lane_of disk.new n ≡ D.lane_of disk.old n }
+        ensures untouched { let logged = quiet_logs self.old.log.records now quiet in
+            logged ≡ None → disk.new ≡ disk.old }
+        ensures tally { let f = D.faults disk.old in let s = D.stops disk.old in
+            Tally f s (D.faults disk.new) (D.stops disk.new) result }
+        ensures causes { let f = D.faults disk.old in let f' = D.faults disk.new in
+            D.tells → Causes (D.faultless disk.old) (D.lane_of disk.new self.old.log.lane) f f' result }
+        ensures faultless { let f = D.faults disk.old in
+            StaysFaultless (D.faultless disk.old) (D.faultless disk.new) f (D.faults disk.new) }
+        ensures others { let lane = self.old.log.lane in
+            D.tells → (n : ℕ) → n ≢ lane → D.lane_of disk.new n ≡ D.lane_of disk.old n }
     {
-        let settled = self.log.settled();
-        if now.saturating_sub(settled) < quiet {
-            return Ok(Quieted::NotYet);
+        let answer = match self.plan_quiet(now, quiet) {
+            Ok(answer) => answer,
+            Err(_) => {
+                // A log that is broken has to be opened again, whatever else is wanting.
+                if self.log.is_broken() {
+                    return Err(LogFault::Reopen);
+                }
+                return Err(LogFault::Memory);
+            }
+        };
+        match answer {
+            Quieted::Marked { tick, fresh } => match self.log_mark(disk, tick, &fresh) {
+                Ok(()) => Ok(Quieted::Marked { tick, fresh }),
+                Err(fault) => {
+                    drop(fresh);
+                    Err(fault)
+                }
+            },
+            Quieted::NotYet => Ok(Quieted::NotYet),
         }
-        match self.log_mark(disk, now) {
-            Ok(fresh) => Ok(Quieted::Marked { tick: now, fresh }),
-            Err(fault) => Err(fault),
+    }
+
+    /// Logs an event as it was planned: `fresh` is what `plan` answered with this tick, and nothing was logged since.
+    /// It takes all its memory before the disk is called. Faults are those of `publish`.
+    pub fn log_event<D: Disk>(
+        &mut self,
+        disk: &mut D,
+        number: u64,
+        event: &Event,
+        tick: u64,
+        fresh: &Piece<K>,
+    ) -> Result<(), LogFault>
+        requires planned { IsPlanned self.old.log.records number event.now (Published.Logged tick fresh.now) }
+        requires stands { D.tells → IsReady self.old.log (D.lane_of disk.old self.old.log.lane) }
+        ensures end { let logged = grown (Record.Event tick number event.now) self.old in
+            Leaves self.old logged (broken_end self.old) self.new result }
+        ensures goes_on { OnOk result
+            ((self.new.log.lane ≡ self.old.log.lane) × (self.new.log.broken ≡ self.old.log.broken)) }
+        ensures lane { let l = self.old.log in let before = D.lane_of disk.old l.lane in
+            D.tells → Appends l (Some (Record.Event tick number event.now)) before (D.lane_of disk.new l.lane) result }
+        ensures reopen { IsErrOf result LogFault.Reopen ↔ (self.old.log.broken ≡ true) }
+        ensures idle { IsErrOf result LogFault.Reopen → disk.new ≡ disk.old }
+        ensures tally { let f = D.faults disk.old in let s = D.stops disk.old in
+            Tally f s (D.faults disk.new) (D.stops disk.new) result }
+        ensures causes { let f = D.faults disk.old in let f' = D.faults disk.new in
+            D.tells → Causes (D.faultless disk.old) (D.lane_of disk.new self.old.log.lane) f f' result }
+        ensures faultless { let f = D.faults disk.old in
+            StaysFaultless (D.faultless disk.old) (D.faultless disk.new) f (D.faults disk.new) }
+        ensures others { let lane = self.old.log.lane in
+            D.tells → (n : ℕ) → n ≢ lane → D.lane_of disk.new n ≡ D.lane_of disk.old n }
+    {
+        if self.log.is_broken() {
+            return Err(LogFault::Reopen);
         }
+        let know = match known_with(&self.know, fresh) {
+            Ok(know) => know,
+            Err(_) => return Err(LogFault::Memory),
+        };
+        let entry = Record::Event {
+            tick,
+            number,
+            event: event.share(),
+        };
+        self.commit(disk, &entry, know)
+    }
+
+    /// Logs a mark as it was planned: `fresh` is what `plan_quiet` answered with this tick, and nothing was logged
+    /// since. It takes all its memory before the disk is called. Faults are those of `publish`.
+    pub fn log_mark<D: Disk>(
+        &mut self,
+        disk: &mut D,
+        tick: u64,
+        fresh: &Piece<K>,
+    ) -> Result<(), LogFault>
+        requires planned { IsPlannedMark self.old.log.records (Quieted.Marked tick fresh.now) }
+        requires stands { D.tells → IsReady self.old.log (D.lane_of disk.old self.old.log.lane) }
+        ensures end { Leaves self.old (grown (Record.Mark tick) self.old) (broken_end self.old) self.new result }
+        ensures goes_on { OnOk result
+            ((self.new.log.lane ≡ self.old.log.lane) × (self.new.log.broken ≡ self.old.log.broken)) }
+        ensures lane { let l = self.old.log in let before = D.lane_of disk.old l.lane in
+            D.tells → Appends l (Some (Record.Mark tick)) before (D.lane_of disk.new l.lane) result }
+        ensures reopen { IsErrOf result LogFault.Reopen ↔ (self.old.log.broken ≡ true) }
+        ensures idle { IsErrOf result LogFault.Reopen → disk.new ≡ disk.old }
+        ensures tally { let f = D.faults disk.old in let s = D.stops disk.old in
+            Tally f s (D.faults disk.new) (D.stops disk.new) result }
+        ensures causes { let f = D.faults disk.old in let f' = D.faults disk.new in
+            D.tells → Causes (D.faultless disk.old) (D.lane_of disk.new self.old.log.lane) f f' result }
+        ensures faultless { let f = D.faults disk.old in
+            StaysFaultless (D.faultless disk.old) (D.faultless disk.new) f (D.faults disk.new) }
+        ensures others { let lane = self.old.log.lane in
+            D.tells → (n : ℕ) → n ≢ lane → D.lane_of disk.new n ≡ D.lane_of disk.old n }
+    {
+        if self.log.is_broken() {
+            return Err(LogFault::Reopen);
+        }
+        let know = match known_with(&self.know, fresh) {
+            Ok(know) => know,
+            Err(_) => return Err(LogFault::Memory),
+        };
+        self.commit(disk, &Record::Mark { tick }, know)
     }
 
     /// Logs that nothing up to a tick is asked for again, and makes all up to it final. Faults are those of `publish`.
     pub fn cut_to<D: Disk>(&mut self, disk: &mut D, tick: u64) -> Result<(), LogFault>
         requires past { (state_of self.old.log.records).cut < tick }
         requires upto { tick ≤ (state_of self.old.log.records).settled }
-        requires stands { D.tells → self.old.log.broken ≡ false → Stands (D.lane_of disk.old self.old.log.lane) self.old.log.records }
-        ensures logged { OnOk result (self.new ≡ grown (Record.Cut tick) self.old) }
-        ensures stands { D.tells → OnOk result (Stands (D.lane_of disk.new self.old.log.lane) (self.old.log.records ++ Record.Cut tick ∷ [])) }
-        ensures any_moment { D.tells → self.old.log.broken ≡ false → (image : List ℕ) → LeftSince (D.lane_of disk.new self.old.log.lane) (moment (D.lane_of disk.old self.old.log.lane)) image → BeforeOrAfter self.old.log.records (Record.Cut tick) image }
-        ensures kept { D.tells → (call : ℕ) (pick : ℕ) → Broke (D.lane_of disk.old self.old.log.lane) (D.lane_of disk.new self.old.log.lane) call pick → log_text (crash_image (D.lane_of disk.new self.old.log.lane)) ≡ Ok (records_kept self.old.log.records (Record.Cut tick) call pick) }
-        ensures breaks { D.tells → (call : ℕ) (pick : ℕ) → (D.lane_of disk.old self.old.log.lane).stop ≡ After call pick → call ≤ 4 → IsErr result }
+        requires stands { D.tells → IsReady self.old.log (D.lane_of disk.old self.old.log.lane) }
+        ensures end { Leaves self.old (grown (Record.Cut tick) self.old) (broken_end self.old) self.new result }
+        ensures goes_on { OnOk result
+            ((self.new.log.lane ≡ self.old.log.lane) × (self.new.log.broken ≡ self.old.log.broken)) }
+        ensures lane { let l = self.old.log in let before = D.lane_of disk.old l.lane in
+            D.tells → Appends l (Some (Record.Cut tick)) before (D.lane_of disk.new l.lane) result }
         ensures reopen { IsErrOf result LogFault.Reopen ↔ (self.old.log.broken ≡ true) }
-        ensures goes_on { OnOk result ((self.new.log.lane ≡ self.old.log.lane) × (self.new.log.broken ≡ self.old.log.broken)) }
         ensures idle { IsErrOf result LogFault.Reopen → disk.new ≡ disk.old }
-        ensures memory { IsErrOf result LogFault.Memory → self.new ≡ self.old }
-        ensures still { D.tells → IsErrOf result LogFault.Memory → Stands (D.lane_of disk.new self.old.log.lane) self.old.log.records }
-        ensures closed { IsErrOf result LogFault.Reopen → self.new ≡ self.old }
-        ensures disk { IsErrOf result LogFault.Disk → EitherRose (D.faults disk.old) (D.faults disk.new) (D.stops disk.old) (D.stops disk.new) }
-        ensures broken { IsErrOf result LogFault.Disk → self.new ≡ broken_end self.old }
-        ensures why { D.tells → IsErrOf result LogFault.Disk → (has_stopped (D.lane_of disk.new self.old.log.lane).stop ≡ true) ⊎ Rose (D.faults disk.old) (D.faults disk.new) }
-        ensures unset { D.tells → (D.lane_of disk.old self.old.log.lane).stop ≡ Unset → (D.lane_of disk.new self.old.log.lane).stop ≡ Unset }
-        ensures reserved { D.tells → (D.lane_of disk.old self.old.log.lane).reserved ≡ true → (D.lane_of disk.new self.old.log.lane).reserved ≡ true }
-        ensures never_damaged { (at : ℕ) → result ≢ Err (LogFault.Damaged at) }
-        ensures others { D.tells → (n : ℕ) → n ≢ self.old.log.lane → D.lane_of disk.new n ≡ D.lane_of disk.old n }
+        ensures tally { let f = D.faults disk.old in let s = D.stops disk.old in
+            Tally f s (D.faults disk.new) (D.stops disk.new) result }
+        ensures causes { let f = D.faults disk.old in let f' = D.faults disk.new in
+            D.tells → Causes (D.faultless disk.old) (D.lane_of disk.new self.old.log.lane) f f' result }
+        ensures faultless { let f = D.faults disk.old in
+            StaysFaultless (D.faultless disk.old) (D.faultless disk.new) f (D.faults disk.new) }
+        ensures others { let lane = self.old.log.lane in
+            D.tells → (n : ℕ) → n ≢ lane → D.lane_of disk.new n ≡ D.lane_of disk.old n }
     {
         if self.log.is_broken() {
             return Err(LogFault::Reopen);
         }
-        let mut know = self.know.copy()?;
-        know.finish(1, tick)?;
+        let know = match final_upto(&self.know, tick) {
+            Ok(know) => know,
+            Err(_) => return Err(LogFault::Memory),
+        };
         self.commit(disk, &Record::Cut { tick }, know)
     }
 
@@ -224,117 +367,36 @@ impl Pubend {
         &self.log
     }
 
-    /// Logs an event at a tick past the last settled one.
-    fn log_event<D: Disk>(
-        &mut self,
-        disk: &mut D,
-        number: u64,
-        event: &Event,
-        tick: u64,
-    ) -> Result<Piece<K>, LogFault>
-        requires number { number ≡ (state_of self.old.log.records).last + 1 }
-        requires past { (state_of self.old.log.records).settled < tick }
-        requires upto { tick ≤ 2 ^ 62 }
-        requires stands { D.tells → self.old.log.broken ≡ false → Stands (D.lane_of disk.old self.old.log.lane) self.old.log.records }
-        ensures fresh { IfOk result (λ fresh. fresh ≡ silence (suc (log_of self.old.log.records).settled) (tick - 1) (record { first = tick; last = tick; value = K.D event.now } ∷ [])) }
-        ensures logged { OnOk result (self.new ≡ grown (Record.Event tick number event.now) self.old) }
-        ensures stands { D.tells → OnOk result (Stands (D.lane_of disk.new self.old.log.lane) (self.old.log.records ++ Record.Event tick number event.now ∷ [])) }
-        ensures any_moment { D.tells → self.old.log.broken ≡ false → (image : List ℕ) → LeftSince (D.lane_of disk.new self.old.log.lane) (moment (D.lane_of disk.old self.old.log.lane)) image → BeforeOrAfter self.old.log.records (Record.Event tick number event.now) image }
-        ensures kept { D.tells → (call : ℕ) (pick : ℕ) → Broke (D.lane_of disk.old self.old.log.lane) (D.lane_of disk.new self.old.log.lane) call pick → log_text (crash_image (D.lane_of disk.new self.old.log.lane)) ≡ Ok (records_kept self.old.log.records (Record.Event tick number event.now) call pick) }
-        ensures breaks { D.tells → (call : ℕ) (pick : ℕ) → (D.lane_of disk.old self.old.log.lane).stop ≡ After call pick → call ≤ 4 → IsErr result }
-        ensures reopen { IsErrOf result LogFault.Reopen ↔ (self.old.log.broken ≡ true) }
-        ensures goes_on { OnOk result ((self.new.log.lane ≡ self.old.log.lane) × (self.new.log.broken ≡ self.old.log.broken)) }
-        ensures idle { IsErrOf result LogFault.Reopen → disk.new ≡ disk.old }
-        ensures memory { IsErrOf result LogFault.Memory → self.new ≡ self.old }
-        ensures still { D.tells → IsErrOf result LogFault.Memory → Stands (D.lane_of disk.new self.old.log.lane) self.old.log.records }
-        ensures closed { IsErrOf result LogFault.Reopen → self.new ≡ self.old }
-        ensures disk { IsErrOf result LogFault.Disk → EitherRose (D.faults disk.old) (D.faults disk.new) (D.stops disk.old) (D.stops disk.new) }
-        ensures broken { IsErrOf result LogFault.Disk → self.new ≡ broken_end self.old }
-        ensures why { D.tells → IsErrOf result LogFault.Disk → (has_stopped (D.lane_of disk.new self.old.log.lane).stop ≡ true) ⊎ Rose (D.faults disk.old) (D.faults disk.new) }
-        ensures unset { D.tells → (D.lane_of disk.old self.old.log.lane).stop ≡ Unset → (D.lane_of disk.new self.old.log.lane).stop ≡ Unset }
-        ensures reserved { D.tells → (D.lane_of disk.old self.old.log.lane).reserved ≡ true → (D.lane_of disk.new self.old.log.lane).reserved ≡ true }
-        ensures never_damaged { (at : ℕ) → result ≢ Err (LogFault.Damaged at) }
-        ensures others { D.tells → (n : ℕ) → n ≢ self.old.log.lane → D.lane_of disk.new n ≡ D.lane_of disk.old n }
-    {
-        if self.log.is_broken() {
-            return Err(LogFault::Reopen);
-        }
-        let first = self.log.settled() + 1;
-        let mut know = self.know.copy()?;
-        let fresh = learn_event(self.alloc, &mut know, first, tick, event)?;
-        let entry = Record::Event {
-            tick,
-            number,
-            event: event.share(),
-        };
-        match self.commit(disk, &entry, know) {
-            Ok(()) => Ok(fresh),
-            Err(fault) => Err(fault),
-        }
-    }
-
-    /// Logs a mark at a tick past the last settled one.
-    fn log_mark<D: Disk>(&mut self, disk: &mut D, tick: u64) -> Result<Piece<K>, LogFault>
-        requires past { (state_of self.old.log.records).settled < tick }
-        requires upto { tick ≤ 2 ^ 62 }
-        requires stands { D.tells → self.old.log.broken ≡ false → Stands (D.lane_of disk.old self.old.log.lane) self.old.log.records }
-        ensures fresh { IfOk result (λ fresh. fresh ≡ silence (suc (log_of self.old.log.records).settled) tick []) }
-        ensures logged { OnOk result (self.new ≡ grown (Record.Mark tick) self.old) }
-        ensures stands { D.tells → OnOk result (Stands (D.lane_of disk.new self.old.log.lane) (self.old.log.records ++ Record.Mark tick ∷ [])) }
-        ensures any_moment { D.tells → self.old.log.broken ≡ false → (image : List ℕ) → LeftSince (D.lane_of disk.new self.old.log.lane) (moment (D.lane_of disk.old self.old.log.lane)) image → BeforeOrAfter self.old.log.records (Record.Mark tick) image }
-        ensures kept { D.tells → (call : ℕ) (pick : ℕ) → Broke (D.lane_of disk.old self.old.log.lane) (D.lane_of disk.new self.old.log.lane) call pick → log_text (crash_image (D.lane_of disk.new self.old.log.lane)) ≡ Ok (records_kept self.old.log.records (Record.Mark tick) call pick) }
-        ensures breaks { D.tells → (call : ℕ) (pick : ℕ) → (D.lane_of disk.old self.old.log.lane).stop ≡ After call pick → call ≤ 4 → IsErr result }
-        ensures reopen { IsErrOf result LogFault.Reopen ↔ (self.old.log.broken ≡ true) }
-        ensures goes_on { OnOk result ((self.new.log.lane ≡ self.old.log.lane) × (self.new.log.broken ≡ self.old.log.broken)) }
-        ensures idle { IsErrOf result LogFault.Reopen → disk.new ≡ disk.old }
-        ensures memory { IsErrOf result LogFault.Memory → self.new ≡ self.old }
-        ensures still { D.tells → IsErrOf result LogFault.Memory → Stands (D.lane_of disk.new self.old.log.lane) self.old.log.records }
-        ensures closed { IsErrOf result LogFault.Reopen → self.new ≡ self.old }
-        ensures disk { IsErrOf result LogFault.Disk → EitherRose (D.faults disk.old) (D.faults disk.new) (D.stops disk.old) (D.stops disk.new) }
-        ensures broken { IsErrOf result LogFault.Disk → self.new ≡ broken_end self.old }
-        ensures why { D.tells → IsErrOf result LogFault.Disk → (has_stopped (D.lane_of disk.new self.old.log.lane).stop ≡ true) ⊎ Rose (D.faults disk.old) (D.faults disk.new) }
-        ensures unset { D.tells → (D.lane_of disk.old self.old.log.lane).stop ≡ Unset → (D.lane_of disk.new self.old.log.lane).stop ≡ Unset }
-        ensures reserved { D.tells → (D.lane_of disk.old self.old.log.lane).reserved ≡ true → (D.lane_of disk.new self.old.log.lane).reserved ≡ true }
-        ensures never_damaged { (at : ℕ) → result ≢ Err (LogFault.Damaged at) }
-        ensures others { D.tells → (n : ℕ) → n ≢ self.old.log.lane → D.lane_of disk.new n ≡ D.lane_of disk.old n }
-    {
-        if self.log.is_broken() {
-            return Err(LogFault::Reopen);
-        }
-        let first = self.log.settled() + 1;
-        let mut know = self.know.copy()?;
-        let fresh = learn_silence(self.alloc, &mut know, first, tick)?;
-        match self.commit(disk, &Record::Mark { tick }, know) {
-            Ok(()) => Ok(fresh),
-            Err(fault) => Err(fault),
-        }
-    }
-
     /// Logs a record, and only then puts what is known with it in place.
     fn commit<D: Disk>(&mut self, disk: &mut D, entry: &Record, know: Know) -> Result<(), LogFault>
         requires follows { may_follow (state_of self.old.log.records) entry.now ≡ true }
         requires known { RunsGive Q know (log_at (log_of (self.old.log.records ++ entry.now ∷ []))) }
-        requires stands { D.tells → self.old.log.broken ≡ false → Stands (D.lane_of disk.old self.old.log.lane) self.old.log.records }
-        ensures logged { OnOk result (self.new ≡ grown entry.now self.old) }
-        ensures stands { D.tells → OnOk result (Stands (D.lane_of disk.new self.old.log.lane) (self.old.log.records ++ entry.now ∷ [])) }
-        ensures any_moment { D.tells → self.old.log.broken ≡ false → (image : List ℕ) → LeftSince (D.lane_of disk.new self.old.log.lane) (moment (D.lane_of disk.old self.old.log.lane)) image → BeforeOrAfter self.old.log.records entry.now image }
-        ensures kept { D.tells → (call : ℕ) (pick : ℕ) → Broke (D.lane_of disk.old self.old.log.lane) (D.lane_of disk.new self.old.log.lane) call pick → log_text (crash_image (D.lane_of disk.new self.old.log.lane)) ≡ Ok (records_kept self.old.log.records (entry.now) call pick) }
-        ensures breaks { D.tells → (call : ℕ) (pick : ℕ) → (D.lane_of disk.old self.old.log.lane).stop ≡ After call pick → call ≤ 4 → IsErr result }
+        requires stands { D.tells → IsReady self.old.log (D.lane_of disk.old self.old.log.lane) }
+        ensures end { Leaves self.old (grown entry.now self.old) (broken_end self.old) self.new result }
+        ensures goes_on { OnOk result
+            ((self.new.log.lane ≡ self.old.log.lane) × (self.new.log.broken ≡ self.old.log.broken)) }
+        ensures lane { let l = self.old.log in let before = D.lane_of disk.old l.lane in
+            D.tells → Appends l (Some entry.now) before (D.lane_of disk.new l.lane) result }
         ensures reopen { IsErrOf result LogFault.Reopen ↔ (self.old.log.broken ≡ true) }
-        ensures goes_on { OnOk result ((self.new.log.lane ≡ self.old.log.lane) × (self.new.log.broken ≡ self.old.log.broken)) }
-        ensures memory { IsErrOf result LogFault.Memory → self.new ≡ self.old }
-        ensures still { D.tells → IsErrOf result LogFault.Memory → Stands (D.lane_of disk.new self.old.log.lane) self.old.log.records }
-        ensures closed { IsErrOf result LogFault.Reopen → self.new ≡ self.old }
-        ensures disk { IsErrOf result LogFault.Disk → EitherRose (D.faults disk.old) (D.faults disk.new) (D.stops disk.old) (D.stops disk.new) }
-        ensures broken { IsErrOf result LogFault.Disk → self.new ≡ broken_end self.old }
-        ensures why { D.tells → IsErrOf result LogFault.Disk → (has_stopped (D.lane_of disk.new self.old.log.lane).stop ≡ true) ⊎ Rose (D.faults disk.old) (D.faults disk.new) }
-        ensures unset { D.tells → (D.lane_of disk.old self.old.log.lane).stop ≡ Unset → (D.lane_of disk.new self.old.log.lane).stop ≡ Unset }
-        ensures reserved { D.tells → (D.lane_of disk.old self.old.log.lane).reserved ≡ true → (D.lane_of disk.new self.old.log.lane).reserved ≡ true }
-        ensures never_damaged { (at : ℕ) → result ≢ Err (LogFault.Damaged at) }
-        ensures others { D.tells → (n : ℕ) → n ≢ self.old.log.lane → D.lane_of disk.new n ≡ D.lane_of disk.old n }
+        ensures idle { IsErrOf result LogFault.Reopen → disk.new ≡ disk.old }
+        ensures tally { let f = D.faults disk.old in let s = D.stops disk.old in
+            Tally f s (D.faults disk.new) (D.stops disk.new) result }
+        ensures causes { let f = D.faults disk.old in let f' = D.faults disk.new in
+            D.tells → Causes (D.faultless disk.old) (D.lane_of disk.new self.old.log.lane) f f' result }
+        ensures faultless { let f = D.faults disk.old in
+            StaysFaultless (D.faultless disk.old) (D.faultless disk.new) f (D.faults disk.new) }
+        ensures others { let lane = self.old.log.lane in
+            D.tells → (n : ℕ) → n ≢ lane → D.lane_of disk.new n ≡ D.lane_of disk.old n }
     {
-        self.log.append(disk, entry)?;
-        self.know = know;
-        Ok(())
+        match self.log.append(disk, entry) {
+            Ok(()) => {
+                self.know = know;
+                Ok(())
+            }
+            Err(fault) => {
+                drop(know);
+                Err(fault)
+            }
+        }
     }
 }

@@ -4,9 +4,17 @@ use crate::{Pubend, Published, Quieted};
 use gr_event::Event;
 use gr_know::K;
 use gr_out::{Disk, MemDisk};
+use gr_publog::LogFault;
 use gr_tick::{Lattice, Piece};
 use std::alloc::Global;
 use std::test::Fail;
+
+/// The lane of one event, `{"price":82}`, with number 1 at tick 1000.
+const ONE_EVENT: &[u8] =
+    b"GLOG\x01\x01\x01\x00\x00\x00\x00\x00\x00\x03\xe8\x00\x00\x00\x00\x00\x00\x00\x01\x00\x00\x00\x10\x01\x05price\x01\x00\x00\x00\x00\x00\x00\x00\x52\x00";
+
+/// The lane of a mark at the last tick, 2^62.
+const LAST_MARK: &[u8] = b"GLOG\x01\x01\x02\x40\x00\x00\x00\x00\x00\x00\x00\x00";
 
 /// The event `{"price":82}`.
 fn price(alloc: Global) -> Result<Event, Fail> {
@@ -85,5 +93,63 @@ fn cuts_up_to_a_tick(rt: HostRuntime) -> Result<(), Fail> {
     assert!(rt; 1000 <= end.log().settled());
     end.cut_to(&mut disk, 1000)?;
     assert!(rt; end.know().at(1000).same(&K::F));
+    Ok(())
+}
+
+/// A number that is in the log is said already, at once and without a call of the disk.
+#[test]
+fn a_number_of_the_log_is_already_there(rt: HostRuntime) -> Result<(), Fail> {
+    let alloc = rt.alloc();
+    let event = price(alloc)?;
+    let mut disk = MemDisk::new(alloc, &[])?;
+    disk.put(0, ONE_EVENT)?;
+    let mut end = Pubend::open(alloc, &mut disk, 0)?;
+    let answer = end.publish(&mut disk, 1, &event, 2000)?;
+    assert!(rt; matches!(answer, Published::Already));
+    assert!(rt; end.know().at(1000).same(&K::D(event)));
+    Ok(())
+}
+
+/// Behind the last tick nothing is published.
+#[test]
+fn is_exhausted_behind_the_last_tick(rt: HostRuntime) -> Result<(), Fail> {
+    let alloc = rt.alloc();
+    let event = price(alloc)?;
+    let mut disk = MemDisk::new(alloc, &[])?;
+    disk.put(0, LAST_MARK)?;
+    let mut end = Pubend::open(alloc, &mut disk, 0)?;
+    let answer = end.publish(&mut disk, 1, &event, 1000)?;
+    assert!(rt; matches!(answer, Published::Exhausted));
+    Ok(())
+}
+
+/// The opening makes three calls, and the first one of the publish fails.
+#[test]
+fn answers_reopen_after_a_failure(rt: HostRuntime) -> Result<(), Fail> {
+    let alloc = rt.alloc();
+    let event = price(alloc)?;
+    let mut disk = MemDisk::new(alloc, &[4])?;
+    disk.put(0, ONE_EVENT)?;
+    let mut end = Pubend::open(alloc, &mut disk, 0)?;
+    let first = end.publish(&mut disk, 2, &event, 2000).err();
+    assert_eq!(rt; first, Some(LogFault::Disk));
+    let second = end.publish(&mut disk, 2, &event, 2000).err();
+    assert_eq!(rt; second, Some(LogFault::Reopen));
+    assert!(rt; end.know().at(2000).same(&K::Q));
+    Ok(())
+}
+
+/// What is planned changes nothing, and is what is then logged.
+#[test]
+fn logs_what_was_planned(rt: HostRuntime) -> Result<(), Fail> {
+    let alloc = rt.alloc();
+    let event = price(alloc)?;
+    let mut disk = MemDisk::new(alloc, &[])?;
+    disk.put(0, ONE_EVENT)?;
+    let mut end = Pubend::open(alloc, &mut disk, 0)?;
+    let (tick, fresh) = marked(end.plan_quiet(3000, 1000)?).ok_or("not planned")?;
+    assert_eq!(rt; end.log().settled(), 1000);
+    assert_eq!(rt; tick, 3000);
+    assert_eq!(rt; fresh.len(), 1);
     Ok(())
 }

@@ -1,6 +1,7 @@
 -- What a crash leaves while a record is appended reads as the records before, or with the one more.
-use Rattle.std.proofs.Common.{◌≡◌, ◌≢◌, inl, inr, ⊎_elim, ℕ, zero, suc, ◌+◌, ◌*◌, ◌%◌, ◌≤◌, ◌<◌, Bool, true, false, nat_eq, nat_lt, nat_le, if◌then◌else◌, ◌&&◌, ◌||◌, List, [], ◌∷◌, ◌++◌, length, take, drop, get_or, Result, Ok, refl, ap, sym, ◌∙◌, subst, arith, append_assoc, length-append, take-append-drop, min}
+use Rattle.std.proofs.Common.{◌≡◌, ◌≢◌, inl, inr, ⊎_elim, ℕ, zero, suc, ◌+◌, ◌*◌, ◌%◌, ◌≤◌, ◌<◌, Bool, true, false, nat_eq, nat_lt, nat_le, if◌then◌else◌, ◌&&◌, ◌||◌, List, [], ◌∷◌, ◌++◌, length, take, drop, get_or, Result, Ok, refl, ap, sym, ◌∙◌, subst, arith, eq-eqb, append_assoc, length-append, take-append-drop, min}
 use Rattle.std.proofs.lemmas.Bool.{cases_eq, eqb-true, eqb-false, ne_eqb, leb-true, leb-false, lt-ltb}
+use Rattle.std.specs.Prelude.{IsTrue}
 use Rattle.std.proofs.lemmas.List.{take_at, drop_at, drop_more}
 use Rattle.gr_out.specs.Lane.{Lane, content, moment, crash_image, has_stopped, LeftSince, LeavesOnly, with_room, over, Torn}
 use Rattle.gr_publog.specs.declared.record.State.{State}
@@ -171,13 +172,9 @@ stands_reads : (l : Lane) (rs : List Record) → Stands l rs → log_text (conte
 stands_reads l rs s = ap log_text s.text.text.whole ∙ reads rs s.text.text.gate s.text.text.tail s.text.follow s.text.text.closed
 
 -- where nothing was called
-pub stays : (l l' : Lane) (rs : List Record) (r : Record) → Stands l rs → l' ≡ l → (image : List ℕ) → LeftSince l' (moment l) image → BeforeOrAfter rs r image
-stays l l' rs r s e image left =
-    inl (ap log_text (s.only image (only_now l.start l.calls image (subst (λ (x : Lane). LeftSince x (moment l) image) e left))) ∙ stands_reads l rs s)
-
-pub stays_room : (l l' : Lane) (n : ℕ) (rs : List Record) (r : Record) → Stands l rs → l' ≡ with_room n l → (image : List ℕ) → LeftSince l' (moment l) image → BeforeOrAfter rs r image
-stays_room l l' n rs r s e image left =
-    inl (ap log_text (s.only image (only_now l.start l.calls image (subst (λ (x : Lane). LeftSince x (moment l) image) e left))) ∙ stands_reads l rs s)
+pub still_reads : (l l' : Lane) (rs : List Record) → Stands l rs → l' ≡ l → (image : List ℕ) → LeftSince l' (moment l) image → log_text image ≡ Ok rs
+still_reads l l' rs s e image left =
+    ap log_text (s.only image (only_now l.start l.calls image (subst (λ (x : Lane). LeftSince x (moment l) image) e left))) ∙ stands_reads l rs s
 
 pub moments : (l l1 l2 : Lane) (n gate : ℕ) (rs : List Record) (r : Record) (b : List ℕ) → Stands l rs → l1 ≡ with_room n l → gate ≡ length (front_text rs)
     → may_follow (state_of rs) r ≡ true → IsSound r → b ≡ record_bytes r ++ 0 ∷ []
@@ -211,13 +208,17 @@ pub none_broke : (l l' : Lane) (call pick : ℕ) → l'.stop ≡ l.stop → Brok
 none_broke l l' call pick same broke = let e : false ≡ true = sym (ap has_stopped (same ∙ broke.ordered)) ∙ broke.stopped in cc e
 
 -- What is kept of one record more
-pub log_more : (gate gate' : ℕ) (s s' : State) (rs rs' : List Record) (r k : Record) (b : List ℕ) (es es' : List Entry) → gate ≡ length (front_text rs) → s ≡ state_of rs → Follow empty_state rs → es ≡ live_events rs
-    → may_follow (state_of rs) r ≡ true → IsSound r → rs' ≡ rs ++ k ∷ [] → k ≡ r → s' ≡ after_record s r → es' ≡ live_after es r → b ≡ record_bytes r ++ 0 ∷ [] → gate' ≡ gate + length b
+pub log_more : (gate gate' : ℕ) (s s' : State) (rs rs' : List Record) (r : Record) (b : List ℕ) (es es' : List Entry) → gate ≡ length (front_text rs) → s ≡ state_of rs → Follow empty_state rs → es ≡ live_events rs
+    → may_follow (state_of rs) r ≡ true → IsSound r → rs' ≡ rs ++ r ∷ [] → s' ≡ after_record s r → es' ≡ live_after es r → b ≡ record_bytes r ++ 0 ∷ [] → gate' ≡ gate + length b
     → (gate' ≡ length (front_text rs')) × (s' ≡ state_of rs') × Follow empty_state rs' × (es' ≡ live_events rs')
-log_more gate gate' s s' rs rs' r k b es es' place state follow live ok sound more same later live' text gates =
-    let all : rs' ≡ rs ++ r ∷ [] = more ∙ ap (λ (x : Record). rs ++ x ∷ []) same in (
-      gates ∙ omega (arith, place, ap length text, length-append (record_bytes r) (0 ∷ []), length-front_more rs r) ∙ ap (λ (x : List Record). length (front_text x)) (sym all),
-      later ∙ ap (λ (x : State). after_record x r) state ∙ sym (state_more rs r) ∙ ap state_of (sym all),
-      subst (Follow empty_state) (sym all) (follow_more rs r follow ok sound),
-      live' ∙ ap (λ (x : List Entry). live_after x r) live ∙ live_more rs r follow ok ∙ ap live_events (sym all),
-    )
+log_more gate gate' s s' rs rs' r b es es' place state follow live ok sound all later live' text gates = (
+  gates ∙ omega (arith, place, ap length text, length-append (record_bytes r) (0 ∷ []), length-front_more rs r) ∙ ap (λ (x : List Record). length (front_text x)) (sym all),
+  later ∙ ap (λ (x : State). after_record x r) state ∙ sym (state_more rs r) ∙ ap state_of (sym all),
+  subst (Follow empty_state) (sym all) (follow_more rs r follow ok sound),
+  live' ∙ ap (λ (x : List Entry). live_after x r) live ∙ live_more rs r follow ok ∙ ap live_events (sym all),
+)
+
+-- a log whose gate stands behind the header has no record
+pub empty_at_five : (gate : ℕ) (rs : List Record) → gate ≡ length (front_text rs) → (IsTrue (nat_eq gate 5) → rs ≡ []) × (rs ≡ [] → IsTrue (nat_eq gate 5))
+empty_at_five gate [] place = (λ h. refl, λ e. eq-eqb gate 5 place)
+empty_at_five gate (r ∷ rs) place = (λ h. absurd (omega (arith, eqb-true gate 5 h, place)), λ e. absurd (cc e))

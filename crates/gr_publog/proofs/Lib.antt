@@ -6,3 +6,5 @@ pub mod Appending
 pub mod Stopping
 pub mod Crash
 pub mod Opening
+pub mod Walks
+pub mod Calling

@@ -1,15 +1,13 @@
--- The events past the cut, after one more record.
-use Rattle.std.proofs.Common.{◌≡◌, ℕ, ◌+◌, ◌<◌, ◌≤◌, Bool, true, false, nat_lt, nat_le, if◌then◌else◌, ◌==◌, List, [], ◌∷◌, ◌++◌, length, take, get_or, refl, ap, sym, ◌∙◌, arith, append-nil, lt-ltb, le-ltb}
+-- The events past the cut, after one more record: an event goes to the end, and a cut takes those at the front away, since ticks rise.
+use Rattle.std.proofs.Common.{◌≡◌, ◌⊎◌, inl, inr, le_refl, drop, ℕ, ◌+◌, ◌<◌, ◌≤◌, Bool, true, false, nat_lt, nat_le, if◌then◌else◌, ◌==◌, List, [], ◌∷◌, ◌++◌, length, Result, refl, ap, sym, subst, ◌∙◌, arith, append-nil, lt-ltb, le-ltb}
 use Rattle.std.specs.List.{filter}
-use Rattle.std.proofs.lemmas.Bool.{ltb-true, leb-true, and_parts}
-use Rattle.std.proofs.lemmas.List.{take_more}
-use Rattle.gr_event.specs.declared.event.Event.{Event as EventPairs}
+use Rattle.std.proofs.lemmas.Bool.{ltb-true, leb-true, leb-false, and_parts}
 use Rattle.gr_publog.specs.declared.record.Record.{Record}
 use Rattle.gr_publog.specs.declared.record.Record.TheVariants.{Event, Mark, Cut}
 use Rattle.gr_publog.specs.declared.record.State.{State}
 use Rattle.gr_publog.specs.declared.record.Entry.{Entry}
-use Rattle.gr_publog.specs.State.{empty_state, after_record, state_from, state_of, events_past, live_events, live_after, may_settle, may_follow, Follow, max_tick}
-use Rattle.gr_publog.proofs.Reading.{state_more}
+use Rattle.gr_publog.specs.State.{empty_state, after_record, state_from, state_of, events_past, live_events, live_after, EntriesRise, first_upto, may_settle, may_follow, Follow, max_tick}
+use Rattle.gr_publog.proofs.Reading.{IsReading, state_more}
 
 -- a choice in front of a list, with more behind it
 choice-append : (b : Bool) (x : Entry) (xs ys zs : List Entry) → xs ≡ ys ++ zs → (if b then x ∷ xs else xs) ≡ (if b then x ∷ ys else ys) ++ zs
@@ -22,24 +20,6 @@ events_past-append cut (Event t n e ∷ rs) r =
     choice-append (nat_lt cut t) (record { tick = t; number = n; event = e }) (events_past cut (rs ++ r ∷ [])) (events_past cut rs) (events_past cut (r ∷ [])) (events_past-append cut rs r)
 events_past-append cut (Mark t ∷ rs) r = events_past-append cut rs r
 events_past-append cut (Cut t ∷ rs) r = events_past-append cut rs r
-
--- one record more is looked at
-pub looked_at : (cut i : ℕ) (rs : List Record) (r x : Record) (es es' more : List Entry) → i < length rs → r ≡ get_or rs i r → r ≡ x → es ≡ events_past cut (take i rs) → es' ≡ es ++ more
-    → more ≡ events_past cut (x ∷ []) → es' ≡ events_past cut (take (i + 1) rs)
-looked_at cut i rs r x es es' more h at is so_far grown new =
-    grown ∙ ap (λ (l : List Entry). l ++ more) so_far ∙ ap (λ (l : List Entry). events_past cut (take i rs) ++ l) (new ∙ ap (λ (y : Record). events_past cut (y ∷ [])) (sym is ∙ at))
-    ∙ sym (ap (events_past cut) (take_more rs i r h) ∙ events_past-append cut (take i rs) (get_or rs i r))
-
-pub one_kept : (cut t n : ℕ) (e e' : EventPairs) → cut < t → e' ≡ e → ◌≡◌ {A = List Entry} (record { tick = t; number = n; event = e' } ∷ []) (events_past cut (Event t n e ∷ []))
-one_kept cut t n e e' h is =
-    let above : nat_lt cut t ≡ true = lt-ltb cut t h in
-    ap (λ (x : EventPairs). record { tick = t; number = n; event = x } ∷ []) is
-    ∙ ap (λ (b : Bool). if b then record { tick = t; number = n; event = e } ∷ [] else []) (sym above)
-
-pub one_left_out : (cut t n : ℕ) (e : EventPairs) → t ≤ cut → ◌≡◌ {A = List Entry} [] (events_past cut (Event t n e ∷ []))
-one_left_out cut t n e h =
-    let below : nat_lt cut t ≡ false = le-ltb cut t h in
-    ap (λ (b : Bool). if b then record { tick = t; number = n; event = e } ∷ [] else []) (sym below)
 
 -- The cut is not above what is settled
 
@@ -92,3 +72,83 @@ past_after s rs (Cut t) low ok =
 pub live_more : (rs : List Record) (r : Record) → Follow empty_state rs → may_follow (state_of rs) r ≡ true → live_after (live_events rs) r ≡ live_events (rs ++ r ∷ [])
 live_more rs r f ok =
     past_after (state_of rs) rs r (low_from empty_state rs f (omega arith)) ok ∙ ap (λ (s : State). events_past s.cut (rs ++ r ∷ [])) (sym (state_more rs r))
+
+-- the same within a reader
+pub live_on : (total : ℕ) (all rest : List ℕ) (s : State) (rs : List Record) (r : Record) (answer : Result (List Record) ℕ) → IsReading total all rs s rest answer → may_follow s r ≡ true
+    → live_after (live_events rs) r ≡ live_events (rs ++ r ∷ [])
+live_on total all rest s rs r answer reading ok = live_more rs r reading.follow (ap (λ (t : State). may_follow t r) (sym reading.state) ∙ ok)
+
+-- Entries whose ticks rise
+
+rise_lower : (m n : ℕ) (es : List Entry) → m ≤ n → EntriesRise n es → EntriesRise m es
+rise_lower m n [] h r = tt
+rise_lower m n (e ∷ es) h r = (omega (arith, h, r.0), r.1)
+
+pub rise_drop : (from : ℕ) (es : List Entry) → EntriesRise from es → EntriesRise from (drop 1 es)
+rise_drop from [] r = tt
+rise_drop from (e ∷ es) r = rise_lower from e.tick es (omega (arith, r.0)) r.1
+
+all_stay : (tick from : ℕ) (es : List Entry) → tick ≤ from → EntriesRise from es → filter (λ (e : Entry). nat_lt tick e.tick) es ≡ es
+all_stay tick from [] h r = refl
+all_stay tick from (e ∷ es) h r =
+    let above : nat_lt tick e.tick ≡ true = lt-ltb tick e.tick (omega (arith, h, r.0)) in
+    rw above (ap (λ (l : List Entry). e ∷ l) (all_stay tick e.tick es (omega (arith, h, r.0)) r.1))
+
+-- where the first of them is past a tick, all are
+pub none_cut : (tick from : ℕ) (es : List Entry) → EntriesRise from es → first_upto tick es ≡ false → filter (λ (e : Entry). nat_lt tick e.tick) es ≡ es
+none_cut tick from [] r f = refl
+none_cut tick from (e ∷ es) r f =
+    let past : tick < e.tick = omega (arith, leb-false e.tick tick f) in
+    all_stay tick tick (e ∷ es) (le_refl tick) (past, r.1)
+
+-- one that is not leaves those that stay as they are
+pub first_cut : (tick : ℕ) (es : List Entry) → first_upto tick es ≡ true
+    → filter (λ (e : Entry). nat_lt tick e.tick) (drop 1 es) ≡ filter (λ (e : Entry). nat_lt tick e.tick) es
+first_cut tick [] f = refl
+first_cut tick (e ∷ es) f =
+    let low : nat_lt tick e.tick ≡ false = le-ltb tick e.tick (leb-true e.tick tick f) in
+    sym (rw low refl)
+
+pub first_some : (tick : ℕ) (es : List Entry) → first_upto tick es ≡ true → length (drop 1 es) < length es
+first_some tick [] f = absurd (cc f)
+first_some tick (e ∷ es) f = omega arith
+
+-- The events past the cut rise
+
+-- the tick of an Event or a Mark is past what is settled, and not past the last one
+pub settles : (s : State) (tick : ℕ) → may_settle s tick ≡ true → (s.settled < tick) × (tick ≤ max_tick)
+settles s tick h = let k = and_parts (nat_lt s.settled tick) (nat_le tick max_tick) h in (ltb-true s.settled tick k.0, leb-true tick max_tick k.1)
+
+-- no record takes back what is settled
+pub settles_later : (s : State) (r : Record) → may_follow s r ≡ true → s.settled ≤ (after_record s r).settled
+settles_later s (Event tick number e) m = omega (arith, (settles s tick (and_parts (may_settle s tick) (number == s.last + 1) m).0).0)
+settles_later s (Mark tick) m = omega (arith, (settles s tick m).0)
+settles_later s (Cut tick) m = le_refl s.settled
+
+-- a tick at most what is settled, or at the cut, stays so
+pub from_below : (c from : ℕ) (s : State) (r : Record) → (from ≤ s.settled) ⊎ (from ≡ c) → may_follow s r ≡ true → (from ≤ (after_record s r).settled) ⊎ (from ≡ c)
+from_below c from s r (inl h) m = inl (omega (arith, h, settles_later s r m))
+from_below c from s r (inr h) m = inr h
+
+past_from : (c from : ℕ) (s : State) (tick : ℕ) → (from ≤ s.settled) ⊎ (from ≡ c) → s.settled < tick → c < tick → from < tick
+past_from c from s tick (inl h) p q = omega (arith, h)
+past_from c from s tick (inr h) p q = omega (arith, h)
+
+-- the events of records past a tick rise from there on
+pub live_rise : (c from : ℕ) (s : State) (rs : List Record) → (from ≤ s.settled) ⊎ (from ≡ c) → Follow s rs → EntriesRise from (events_past c rs)
+live_rise c from s [] h f = tt
+live_rise c from s (Event tick number e ∷ rs) h f =
+    by_test (live_rise c tick (after_record s (Event tick number e)) rs (inl (le_refl tick)) f.2) (live_rise c from (after_record s (Event tick number e)) rs (from_below c from s (Event tick number e) h f.0) f.2) (nat_lt c tick) refl
+  where
+    by_test : EntriesRise tick (events_past c rs) → EntriesRise from (events_past c rs) → (b : Bool) → nat_lt c tick ≡ b → EntriesRise from (if b then record { tick = tick; number = number; event = e } ∷ events_past c rs else events_past c rs)
+    by_test i k true q = (past_from c from s tick h (settles s tick (and_parts (may_settle s tick) (number == s.last + 1) f.0).0).0 (ltb-true c tick q), i)
+    by_test i k false q = k
+live_rise c from s (Mark tick ∷ rs) h f = live_rise c from (after_record s (Mark tick)) rs (from_below c from s (Mark tick) h f.0) f.2
+live_rise c from s (Cut tick ∷ rs) h f = live_rise c from (after_record s (Cut tick)) rs (from_below c from s (Cut tick) h f.0) f.2
+
+pub live_rises : (rs : List Record) → Follow empty_state rs → EntriesRise 0 (live_events rs)
+live_rises rs f = rise_lower 0 (state_of rs).cut (live_events rs) (omega arith) (live_rise (state_of rs).cut (state_of rs).cut empty_state rs (inr refl) f)
+
+-- the same where a list stands for them
+pub live_is : (rs : List Record) (es : List Entry) → Follow empty_state rs → es ≡ live_events rs → EntriesRise 0 es
+live_is rs es f is = subst (EntriesRise 0) (sym is) (live_rises rs f)

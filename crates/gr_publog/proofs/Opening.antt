@@ -1,12 +1,14 @@
--- What a crash leaves while a log is opened.
-use Rattle.std.proofs.Common.{◌≡◌, ◌⊎◌, inl, inr, ⊎_elim, ℕ, ◌≤◌, Bool, List, [], ◌∷◌, ◌++◌, length, Result, Err, ap, sym, ◌∙◌, subst}
-use Rattle.gr_out.specs.Lane.{Lane, Sync, content, MayLeave, moment, LeftSince, after_call, with_room}
+-- What a crash leaves while a log is opened: what it might have left before, or bytes that read as before.
+use Rattle.std.proofs.Common.{◌≡◌, ◌⊎◌, inl, inr, ⊎_elim, ℕ, ◌≤◌, Bool, List, [], ◌∷◌, ◌++◌, length, Result, Ok, Err, true, if◌then◌else◌, nat_le, le-leb, ap, sym, ◌∙◌, subst}
+use Rattle.gr_out.specs.Lane.{Lane, Call, Write, Cut, Sync, LeavesOnly, content, MayLeave, moment, LeftSince, after_call, with_room}
 use Rattle.gr_publog.specs.declared.record.Record.{Record}
 use Rattle.gr_publog.specs.declared.record.LogFault.{LogFault}
 use Rattle.gr_publog.specs.declared.record.LogFault.TheVariants as fault
 use Rattle.gr_publog.specs.Text.{log_text, header, IsSpelled}
 use Rattle.gr_publog.specs.Gives.{Fails}
-use Rattle.gr_publog.specs.Crash.{OpensAs, GaveUp}
+use Rattle.gr_publog.specs.Crash.{LogView, Stands, OpensAs, GaveUp}
+use Rattle.gr_publog.specs.Calls.{Opens}
+use Rattle.gr_out.specs.declared.disk.Stop.TheVariants.{Unset}
 use Rattle.gr_publog.proofs.Reading.{reads_short}
 use Rattle.gr_publog.proofs.Moments.{only_now, sync_since}
 
@@ -39,3 +41,31 @@ both_short a b h k = reads_short a h ∙ sym (reads_short b k)
 -- the text of an empty log
 pub empty_spelled : (bytes : List ℕ) → bytes ≡ header ++ 0 ∷ [] → IsSpelled bytes []
 empty_spelled bytes is = record { text = record { gate = 0; tail = []; closed = λ e. cc e; whole = is }; follow = tt }
+
+-- What an opening of a short lane has done
+
+module _ (before mid after : Lane) (short : length (content before) ≤ 6) (calls : mid.calls ≡ Sync ∷ before.calls) (reserved : mid.reserved ≡ true) (unset : before.stop ≡ Unset → mid.stop ≡ Unset)
+    (ready : (image : List ℕ) → LeftSince mid (moment before) image → MayLeave before image ⊎ (image ≡ content before)) (unset' : mid.stop ≡ Unset → after.stop ≡ Unset)
+    (begun : (n : ℕ) (image : List ℕ) → LeftSince after n image → LeftSince mid n image ⊎ (length image ≤ 6)) where
+  at_most_six : nat_le (length (content before)) 6 ≡ true
+  at_most_six = le-leb (length (content before)) 6 short
+
+  at_each : (image : List ℕ) → LeftSince after (moment before) image → MayLeave before image ⊎ (log_text image ≡ log_text (content before))
+  at_each image left =
+      ⊎_elim (λ first. ⊎_elim (λ m. inl m) (λ e. inr (ap log_text e)) (ready image first)) (λ low. inr (both_short image (content before) low short)) (begun (moment before) image left)
+
+  pub opens_failed : Opens before after (Err fault.Disk)
+  opens_failed = record { gives = tt; stands = tt; reads = tt; calls = tt; reserved = tt; any_moment = at_each; unset = λ h. unset' (unset h) }
+
+  pub opens_empty : (l : LogView) → l.records ≡ [] → content after ≡ header ++ 0 ∷ [] → LeavesOnly after (content after) → after.calls ≡ Sync ∷ (Write 0 (header ++ 0 ∷ []) ∷ (Cut 0 ∷ mid.calls))
+      → after.reserved ≡ mid.reserved → Opens before after (Ok l)
+  opens_empty l none written only made kept = record {
+    gives = reads_short (content before) short ∙ ap Ok (sym none);
+    stands = subst (Stands after) (sym none) (record { text = empty_spelled (content after) written; only = only });
+    reads = written ∙ ap (λ (b : Bool). if b then header ++ 0 ∷ [] else content before) (sym at_most_six);
+    calls = made ∙ ap (λ (cs : List Call). Sync ∷ (Write 0 (header ++ 0 ∷ []) ∷ (Cut 0 ∷ cs))) calls
+        ∙ ap (λ (b : Bool). if b then Sync ∷ (Write 0 (header ++ 0 ∷ []) ∷ (Cut 0 ∷ (Sync ∷ before.calls))) else Sync ∷ before.calls) (sym at_most_six);
+    reserved = kept ∙ reserved;
+    any_moment = at_each;
+    unset = λ h. unset' (unset h);
+  }

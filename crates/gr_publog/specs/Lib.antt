@@ -3,3 +3,4 @@ pub mod Text
 pub mod Gives
 pub mod Crash
 pub mod Kept
+pub mod Calls

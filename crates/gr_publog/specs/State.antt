@@ -1,5 +1,5 @@
 -- What a list of records stands for: the last number, the ticks settled and cut, and the events past the cut
-use Rattle.std.specs.Prelude.{◌≡◌, ℕ, ◌+◌, ◌^◌, ◌<◌, Bool, true, if◌then◌else◌, ◌&&◌, ◌==◌, nat_lt, nat_le, List, [], ◌∷◌, ◌++◌, filter}
+use Rattle.std.specs.Prelude.{◌≡◌, ℕ, ◌+◌, ◌^◌, ◌<◌, Bool, true, false, if◌then◌else◌, ◌&&◌, ◌==◌, nat_lt, nat_le, List, [], ◌∷◌, ◌++◌, filter}
 use Rattle.gr_event.specs.Limits.{IsEvent}
 use Rattle.gr_publog.specs.declared.record.Record.{Record}
 use Rattle.gr_publog.specs.declared.record.Record.TheVariants.{Event, Mark, Cut}
@@ -39,6 +39,16 @@ events_past cut (Cut tick ∷ rs) = events_past cut rs
 -- the logged events past the cut
 abbrev pub live_events : List Record → List Entry
 live_events rs = events_past (state_of rs).cut rs
+
+-- the ticks of entries rise strictly from above a tick on
+abbrev pub EntriesRise : ℕ → List Entry → Type 0
+EntriesRise from [] = Unit {0}
+EntriesRise from (e ∷ es) = (from < e.tick) × EntriesRise e.tick es
+
+-- whether the first of some entries is at or before a tick
+abbrev pub first_upto : ℕ → List Entry → Bool
+first_upto tick [] = false
+first_upto tick (e ∷ es) = nat_le e.tick tick
 
 -- the logged events past the cut, after one more record
 abbrev pub live_after : List Entry → Record → List Entry

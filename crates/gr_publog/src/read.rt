@@ -4,18 +4,22 @@ ghost use Rattle.std.specs.Prelude.{◌≡◌, ◌+◌, ◌-◌, ◌≤◌, ◌<
 ghost use Rattle.std.specs.Int.{from_be_bytes, to_be_bytes, w32, w64};
 ghost use Rattle.gr_event.specs.Event.{event_bytes};
 ghost use Rattle.gr_event.specs.Limits.{IsEvent};
-ghost use Rattle.gr_publog.specs.State.{may_settle, may_cut, may_follow, IsSound, Follow, empty_state, state_of};
+ghost use Rattle.gr_publog.specs.State.{may_settle, may_cut, may_follow, IsSound, Follow, empty_state, state_of, live_events};
 ghost use Rattle.gr_publog.specs.Text.{field_in, number_in, event_in, logged_in, mark_in, cut_in, record_in, records_in, record_bytes, blocks, front_text, header, header_fault, Closes, IsSpelled, log_text};
 ghost use Rattle.gr_publog.specs.Gives.{Fails};
 
+use crate::entries::{Entries, note_record};
+use crate::history::History;
 use crate::record::{LogFault, Record, State};
 use byteorder::{BigEndian, ByteOrder};
 use gr_event::{Event, EventFault};
 use std::alloc::Global;
+use std::collections::VecDeque;
 
 /// A field of so many bytes, and what is left behind it.
 fn field_in(total: usize, len: usize, rest: &[u8]) -> Result<(&[u8], &[u8]), LogFault>
-    ensures gives { MatchResult result (λ x. field_in total len rest.now ≡ Ok (x.0.now, x.1.now)) (λ e. Fails e (field_in total len rest.now)) }
+    ensures gives { let read = field_in total len rest.now in
+        MatchResult result (λ x. read ≡ Ok (x.0.now, x.1.now)) (λ e. Fails e read) }
     ensures parts { IfOk result (λ x. rest.now ≡ x.0.now ++ x.1.now) }
     ensures len { IfOk result (λ x. length x.0.now ≡ len) }
     ensures within { IfOk result (λ x. len + length x.1.now ≡ length rest.now) }
@@ -58,7 +62,8 @@ fn four(field: &[u8]) -> u32
 /// The tick of an Event or a Mark.
 fn settling_in<'a>(total: usize, state: &State, rest: &'a [u8]) -> Result<(u64, &'a [u8]), LogFault>
     requires { length rest.now ≤ total }
-    ensures gives { MatchResult result (λ x. number_in total 8 w64 (may_settle state.now) rest.now ≡ Ok (x.0, x.1.now)) (λ e. Fails e (number_in total 8 w64 (may_settle state.now) rest.now)) }
+    ensures gives { let read = number_in total 8 w64 (may_settle state.now) rest.now in
+        MatchResult result (λ x. read ≡ Ok (x.0, x.1.now)) (λ e. Fails e read) }
     ensures may { IfOk result (λ x. may_settle state.now x.0 ≡ true) }
     ensures spelled { IfOk result (λ x. rest.now ≡ to_be_bytes w64 x.0 ++ x.1.now) }
     ensures within { IfOk result (λ x. 8 + length x.1.now ≡ length rest.now) }
@@ -76,7 +81,8 @@ fn settling_in<'a>(total: usize, state: &State, rest: &'a [u8]) -> Result<(u64, 
 /// The tick of a Cut.
 fn cutting_in<'a>(total: usize, state: &State, rest: &'a [u8]) -> Result<(u64, &'a [u8]), LogFault>
     requires { length rest.now ≤ total }
-    ensures gives { MatchResult result (λ x. number_in total 8 w64 (may_cut state.now) rest.now ≡ Ok (x.0, x.1.now)) (λ e. Fails e (number_in total 8 w64 (may_cut state.now) rest.now)) }
+    ensures gives { let read = number_in total 8 w64 (may_cut state.now) rest.now in
+        MatchResult result (λ x. read ≡ Ok (x.0, x.1.now)) (λ e. Fails e read) }
     ensures may { IfOk result (λ x. may_cut state.now x.0 ≡ true) }
     ensures spelled { IfOk result (λ x. rest.now ≡ to_be_bytes w64 x.0 ++ x.1.now) }
     ensures within { IfOk result (λ x. 8 + length x.1.now ≡ length rest.now) }
@@ -94,7 +100,8 @@ fn cutting_in<'a>(total: usize, state: &State, rest: &'a [u8]) -> Result<(u64, &
 /// The number of an Event.
 fn next_in<'a>(total: usize, last: u64, rest: &'a [u8]) -> Result<(u64, &'a [u8]), LogFault>
     requires { length rest.now ≤ total }
-    ensures gives { MatchResult result (λ x. number_in total 8 w64 (λ n. n == last + 1) rest.now ≡ Ok (x.0, x.1.now)) (λ e. Fails e (number_in total 8 w64 (λ n. n == last + 1) rest.now)) }
+    ensures gives { let read = number_in total 8 w64 (λ n. n == last + 1) rest.now in
+        MatchResult result (λ x. read ≡ Ok (x.0, x.1.now)) (λ e. Fails e read) }
     ensures next { IfOk result (λ x. x.0 ≡ last + 1) }
     ensures spelled { IfOk result (λ x. rest.now ≡ to_be_bytes w64 x.0 ++ x.1.now) }
     ensures within { IfOk result (λ x. 8 + length x.1.now ≡ length rest.now) }
@@ -112,7 +119,8 @@ fn next_in<'a>(total: usize, last: u64, rest: &'a [u8]) -> Result<(u64, &'a [u8]
 /// The size of an event.
 fn size_in(total: usize, rest: &[u8]) -> Result<(usize, &[u8]), LogFault>
     requires { length rest.now ≤ total }
-    ensures gives { MatchResult result (λ x. number_in total 4 w32 (λ n. nat_le n 8192) rest.now ≡ Ok (x.0, x.1.now)) (λ e. Fails e (number_in total 4 w32 (λ n. nat_le n 8192) rest.now)) }
+    ensures gives { let read = number_in total 4 w32 (λ n. nat_le n 8192) rest.now in
+        MatchResult result (λ x. read ≡ Ok (x.0, x.1.now)) (λ e. Fails e read) }
     ensures spelled { IfOk result (λ x. rest.now ≡ to_be_bytes w32 x.0 ++ x.1.now) }
     ensures within { IfOk result (λ x. 4 + length x.1.now ≡ length rest.now) }
 {
@@ -135,7 +143,8 @@ fn event_in<'a>(
     rest: &'a [u8],
 ) -> Result<(Event, &'a [u8]), LogFault>
     requires { length rest.now ≤ total }
-    ensures gives { MatchResult result (λ x. event_in total size rest.now ≡ Ok (x.0, x.1.now)) (λ e. Fails e (event_in total size rest.now)) }
+    ensures gives { let read = event_in total size rest.now in
+        MatchResult result (λ x. read ≡ Ok (x.0, x.1.now)) (λ e. Fails e read) }
     ensures spelled { IfOk result (λ x. rest.now ≡ event_bytes x.0 ++ x.1.now) }
     ensures sized { IfOk result (λ x. length (event_bytes x.0) ≡ size) }
     ensures event { IfOk result (λ x. IsEvent x.0) }
@@ -163,7 +172,8 @@ fn logged_in<'a>(
     rest: &'a [u8],
 ) -> Result<(Record, &'a [u8]), LogFault>
     requires { length rest.now ≤ total }
-    ensures gives { MatchResult result (λ x. logged_in total state.now rest.now ≡ Ok (x.0, x.1.now)) (λ e. Fails e (logged_in total state.now rest.now)) }
+    ensures gives { let read = logged_in total state.now rest.now in
+        MatchResult result (λ x. read ≡ Ok (x.0, x.1.now)) (λ e. Fails e read) }
     ensures may { IfOk result (λ x. may_follow state.now x.0 ≡ true) }
     ensures sound { IfOk result (λ x. IsSound x.0) }
     ensures spelled { IfOk result (λ x. 1 ∷ rest.now ≡ record_bytes x.0 ++ x.1.now) }
@@ -187,7 +197,8 @@ fn logged_in<'a>(
 #[tactic(auto, unfolding(crate::specs::Text::mark_in))]
 fn mark_in<'a>(total: usize, state: &State, rest: &'a [u8]) -> Result<(Record, &'a [u8]), LogFault>
     requires { length rest.now ≤ total }
-    ensures gives { MatchResult result (λ x. mark_in total state.now rest.now ≡ Ok (x.0, x.1.now)) (λ e. Fails e (mark_in total state.now rest.now)) }
+    ensures gives { let read = mark_in total state.now rest.now in
+        MatchResult result (λ x. read ≡ Ok (x.0, x.1.now)) (λ e. Fails e read) }
     ensures may { IfOk result (λ x. may_follow state.now x.0 ≡ true) }
     ensures sound { IfOk result (λ x. IsSound x.0) }
     ensures spelled { IfOk result (λ x. 2 ∷ rest.now ≡ record_bytes x.0 ++ x.1.now) }
@@ -201,7 +212,8 @@ fn mark_in<'a>(total: usize, state: &State, rest: &'a [u8]) -> Result<(Record, &
 #[tactic(auto, unfolding(crate::specs::Text::cut_in))]
 fn cut_in<'a>(total: usize, state: &State, rest: &'a [u8]) -> Result<(Record, &'a [u8]), LogFault>
     requires { length rest.now ≤ total }
-    ensures gives { MatchResult result (λ x. cut_in total state.now rest.now ≡ Ok (x.0, x.1.now)) (λ e. Fails e (cut_in total state.now rest.now)) }
+    ensures gives { let read = cut_in total state.now rest.now in
+        MatchResult result (λ x. read ≡ Ok (x.0, x.1.now)) (λ e. Fails e read) }
     ensures may { IfOk result (λ x. may_follow state.now x.0 ≡ true) }
     ensures sound { IfOk result (λ x. IsSound x.0) }
     ensures spelled { IfOk result (λ x. 3 ∷ rest.now ≡ record_bytes x.0 ++ x.1.now) }
@@ -220,7 +232,8 @@ fn record_in<'a>(
     rest: &'a [u8],
 ) -> Result<(Record, &'a [u8]), LogFault>
     requires { length rest.now ≤ total }
-    ensures gives { MatchResult result (λ x. record_in total state.now rest.now ≡ Ok (x.0, x.1.now)) (λ e. Fails e (record_in total state.now rest.now)) }
+    ensures gives { let read = record_in total state.now rest.now in
+        MatchResult result (λ x. read ≡ Ok (x.0, x.1.now)) (λ e. Fails e read) }
     ensures may { IfOk result (λ x. may_follow state.now x.0 ≡ true) }
     ensures sound { IfOk result (λ x. IsSound x.0) }
     ensures spelled { IfOk result (λ x. rest.now ≡ record_bytes x.0 ++ x.1.now) }
@@ -252,34 +265,50 @@ fn header_fault(bytes: &[u8]) -> u64
     }
 }
 
-/// The records behind the header of a lane of so many bytes, up to a closed gate, what they stand for, and how many
-/// bytes stand before that gate.
-fn records_in(
-    alloc: Global,
-    total: usize,
-    bytes: &[u8],
-) -> Result<(Vec<Record>, State, usize), LogFault>
+/// What a lane holds: the records that it spells, what they stand for, the events past their cut, and how many bytes
+/// stand before the closed gate.
+#[derive(Drop)]
+pub struct Found {
+    pub history: History,
+    pub state: State,
+    pub events: Entries,
+    pub gate: usize,
+}
+
+/// What stands behind the header of a lane of so many bytes, up to a closed gate.
+fn records_in(alloc: Global, total: usize, bytes: &[u8]) -> Result<Found, LogFault>
     requires within { length bytes.now ≤ total }
-    ensures gives { MatchResult result (λ x. records_in (total + 1) total empty_state bytes.now ≡ Ok x.0.items) (λ e. Fails e (records_in (total + 1) total empty_state bytes.now)) }
-    ensures state { IfOk result (λ x. x.1 ≡ state_of x.0.items) }
-    ensures follow { IfOk result (λ x. Follow empty_state x.0.items) }
-    ensures spelled { IfOk result (λ x. Closes bytes.now (blocks x.0.items)) }
-    ensures gate { IfOk result (λ x. x.2 ≡ length (blocks x.0.items)) }
+    ensures gives { let read = records_in (total + 1) total empty_state bytes.now in
+        MatchResult result (λ x. read ≡ Ok x.history.records) (λ e. Fails e read) }
+    ensures state { IfOk result (λ x. x.state ≡ state_of x.history.records) }
+    ensures follow { IfOk result (λ x. Follow empty_state x.history.records) }
+    ensures events { IfOk result (λ x. x.events ≡ live_events x.history.records) }
+    ensures spelled { IfOk result (λ x. Closes bytes.now (blocks x.history.records)) }
+    ensures gate { IfOk result (λ x. x.gate ≡ length (blocks x.history.records)) }
 {
-    let mut records = Vec::new(alloc);
+    let mut history = History::new();
     let mut state = State::new();
+    let mut entries = VecDeque::new(alloc);
     let mut rest = bytes;
     'gates: loop {
         if rest.is_empty() {
             return Err(LogFault::Damaged { at: total as u64 });
         }
         if rest[0] != 1 {
-            return Ok((records, state, bytes.len() - rest.len()));
+            return Ok(Found {
+                history,
+                state,
+                events: Entries { entries },
+                gate: bytes.len() - rest.len(),
+            });
         }
         match record_in(alloc, total, &state, &rest[1..]) {
             Ok((entry, left)) => {
+                entries.reserve(1)?;
+                note_record(&mut entries, &entry);
                 state.note(&entry);
-                records.push(entry)?;
+                history = history.then(&entry);
+                drop(entry);
                 rest = left;
             }
             Err(fault) => return Err(fault),
@@ -287,20 +316,27 @@ fn records_in(
     }
 }
 
-/// The records of a lane of more than 6 bytes, what they stand for, and the place of the closed gate behind them.
+/// What a lane of more than 6 bytes holds.
 #[tactic(auto, unfolding(crate::specs::Text::log_text))]
-pub fn log_in(alloc: Global, bytes: &[u8]) -> Result<(Vec<Record>, State, usize), LogFault>
+pub fn log_in(alloc: Global, bytes: &[u8]) -> Result<Found, LogFault>
     requires { 6 < length bytes.now }
-    ensures gives { MatchResult result (λ x. log_text bytes.now ≡ Ok x.0.items) (λ e. Fails e (log_text bytes.now)) }
-    ensures state { IfOk result (λ x. x.1 ≡ state_of x.0.items) }
-    ensures spelled { IfOk result (λ x. IsSpelled bytes.now x.0.items) }
-    ensures gate { IfOk result (λ x. x.2 ≡ length (front_text x.0.items)) }
-    ensures inside { IfOk result (λ x. x.2 < length bytes.now) }
+    ensures gives { let read = log_text bytes.now in
+        MatchResult result (λ x. read ≡ Ok x.history.records) (λ e. Fails e read) }
+    ensures state { IfOk result (λ x. x.state ≡ state_of x.history.records) }
+    ensures events { IfOk result (λ x. x.events ≡ live_events x.history.records) }
+    ensures spelled { IfOk result (λ x. IsSpelled bytes.now x.history.records) }
+    ensures gate { IfOk result (λ x. x.gate ≡ length (front_text x.history.records)) }
+    ensures inside { IfOk result (λ x. x.gate < length bytes.now) }
 {
     let fault = header_fault(bytes);
     if fault != 5 {
         return Err(LogFault::Damaged { at: fault });
     }
-    let (records, state, behind) = records_in(alloc, bytes.len(), &bytes[5..])?;
-    Ok((records, state, 5 + behind))
+    let found = records_in(alloc, bytes.len(), &bytes[5..])?;
+    Ok(Found {
+        history: found.history,
+        state: found.state,
+        events: found.events,
+        gate: 5 + found.gate,
+    })
 }

@@ -7,10 +7,10 @@ use Rattle.gr_pubend.proofs.Opening.{at_state}
 use Rattle.gr_pubend.proofs.learning.learn_events.Given as goal
 
 -- what is known is what the log with the entries so far says, and those that are left rise from there
-abbrev pub invariant-loop-entry : goal.invariant-loop-entry
-invariant-loop-entry l = record {
-  stays : Stays (seen l.cut (take l.entry-index l.events)) (at_state l.last l.cut);
-  known : RunsGive Q l.know (log_at (seen l.cut (take l.entry-index l.events)));
-  rise : EntriesRise l.last (drop l.entry-index l.events);
-  whole : last_tick l.last (drop l.entry-index l.events) ≡ last_tick l.cut l.events;
+abbrev pub invariant-entries : goal.invariant-entries
+invariant-entries l = record {
+  stays : Stays (seen l.cut (take l.i l.events)) (at_state l.last l.cut);
+  known : RunsGive Q l.know (log_at (seen l.cut (take l.i l.events)));
+  rise : EntriesRise l.last (drop l.i l.events);
+  whole : last_tick l.last (drop l.i l.events) ≡ last_tick l.cut l.events;
 }

@@ -2,7 +2,7 @@ use Rattle.std.proofs.Common.{◌<◌, ◌-◌, [], sym, subst, arith}
 use Rattle.gr_know.specs.Values.{Known}
 use Rattle.gr_tick.specs.Stored.{EndBefore}
 use Rattle.gr_pubend.proofs.News.{silence_ends, silent_then_is}
-use Rattle.gr_pubend.proofs.learning.silent_then.Goals as goal
+use Rattle.gr_pubend.proofs.learning.fresh_event.Goals as goal
 
 pub push-requires-clause-past : goal.push-requires-clause-past
 push-requires-clause-past c =

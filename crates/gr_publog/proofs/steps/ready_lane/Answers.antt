@@ -1,7 +1,7 @@
 -- One sync, and calls that change nothing
 use Rattle.std.proofs.Common.{refl}
 use Rattle.gr_publog.proofs.Opening.{no_call, one_sync}
-use Rattle.gr_publog.proofs.steps.settle.Goals as goal
+use Rattle.gr_publog.proofs.steps.ready_lane.Goals as goal
 
 pub returns-in-Err-clause-any_moment : goal.returns-in-Err-clause-any_moment
 returns-in-Err-clause-any_moment g c = λ t. no_call _ _ (c.in-Err.ensures.err t)

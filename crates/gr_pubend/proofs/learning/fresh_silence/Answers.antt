@@ -1,7 +1,7 @@
 use Rattle.std.proofs.Common.{◌∙◌}
 use Rattle.gr_pubend.proofs.News.{silent_is, not_silent}
-use Rattle.gr_pubend.proofs.learning.silent.Goals as goal
-use Rattle.gr_pubend.proofs.learning.silent.Goals.{then-first-last+in_ok-push, else-first-last}
+use Rattle.gr_pubend.proofs.learning.fresh_silence.Goals as goal
+use Rattle.gr_pubend.proofs.learning.fresh_silence.Goals.{then-first-last+in_ok-push, else-first-last}
 
 pub returns : goal.returns
 returns c =
