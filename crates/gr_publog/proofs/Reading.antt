@@ -18,7 +18,7 @@ use Rattle.gr_publog.specs.declared.record.LogFault.{LogFault}
 use Rattle.gr_publog.specs.declared.record.LogFault.TheVariants as fault
 use Rattle.gr_publog.specs.Gives.{Fails}
 use Rattle.gr_publog.specs.State.{empty_state, after_record, state_from, may_settle, may_cut, may_follow, IsSound, Follow, max_tick}
-use Rattle.gr_publog.specs.Text.{◌>>=◌, record_bytes, record_size, blocks, front_text, field_in, number_in, event_in, logged_in, mark_in, cut_in, record_in, records_in, log_text}
+use Rattle.gr_publog.specs.Text.{◌>>=◌, IsSpelled, record_bytes, record_size, blocks, front_text, field_in, number_in, event_in, logged_in, mark_in, cut_in, record_in, records_in, log_text}
 
 -- Fields
 
@@ -299,3 +299,16 @@ reads_fault total all front s rest behind answer (fault.Damaged at) h is refused
 pub first_is : (rest : List ℕ) (x : ℕ) → 0 < length rest → get_or rest 0 0 ≡ x → rest ≡ x ∷ drop 1 rest
 first_is [] x h e = absurd (omega (arith, h))
 first_is (y ∷ ys) x h e = ap (λ (z : ℕ). z ∷ ys) e
+
+-- The laws
+
+-- a lane that spells records reads as them
+pub reads_spelled : (bytes : List ℕ) (rs : List Record) → IsSpelled bytes rs → log_text bytes ≡ Ok rs
+reads_spelled bytes rs s = ap log_text s.text.whole ∙ reads rs s.text.gate s.text.tail s.follow s.text.closed
+
+ok_same : (x y : List Record) → ◌≡◌ {A = Result (List Record) ℕ} (Ok x) (Ok y) → x ≡ y
+ok_same x y e = cc
+
+-- and as nothing else
+pub spelled_once : (bytes : List ℕ) (rs rs' : List Record) → IsSpelled bytes rs → IsSpelled bytes rs' → rs ≡ rs'
+spelled_once bytes rs rs' s s' = ok_same rs rs' (sym (reads_spelled bytes rs s) ∙ reads_spelled bytes rs' s')

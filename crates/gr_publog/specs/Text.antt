@@ -119,3 +119,13 @@ unfoldable pub log_text : List ℕ → Result (List Record) ℕ
 log_text bytes =
     if nat_le (length bytes) 6 then Ok []
     else (if header_fault 0 header bytes == 5 then records_in (length bytes + 1) (length bytes) empty_state (drop 5 bytes) else Err (header_fault 0 header bytes))
+
+-- The laws
+
+-- what is spelled is read
+abbrev pub ReadsAsSpelled : Type 0
+ReadsAsSpelled = (bytes : List ℕ) (rs : List Record) → IsSpelled bytes rs → log_text bytes ≡ Ok rs
+
+-- and nothing else is spelled by these bytes
+abbrev pub SpellsOneList : Type 0
+SpellsOneList = (bytes : List ℕ) (rs rs' : List Record) → IsSpelled bytes rs → IsSpelled bytes rs' → rs ≡ rs'

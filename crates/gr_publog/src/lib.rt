@@ -7,6 +7,7 @@
 
 mod entries;
 mod history;
+pub mod law;
 pub mod log;
 mod read;
 pub mod record;
