@@ -151,8 +151,8 @@ passes_child t p is lt b (suc k) x within d h off =
 not_here : (t : TopologyView) (s b : ℕ) → s < length t.subscribers → list_any (λ x. nat_eq x s) (subscribers_of t b) ≡ false → home_of t s ≡ b → ⊥
 not_here t s b lt out e = true≢false (sym (put_among (λ z. nat_eq (home_of t z) b) (length t.subscribers) s lt (eq-eqb (home_of t s) b e)) ∙ out)
 
-place_of : (t : TopologyView) (p b : ℕ) → IsTopology t → p < length t.publishers → b < length t.brokers → IsPlace (net_of t) p b
-place_of t p b is lt within = record {
+place_in_net : (t : TopologyView) (p b : ℕ) → IsTopology t → p < length t.publishers → b < length t.brokers → IsPlace (net_of t) p b
+place_in_net t p b is lt within = record {
   child_below = λ c s m k.
       let child = among (is_child_at t p b) (size t) c m in
       let below = among (λ z. passes_by t p c (home_of t z)) (length t.subscribers) s k in
@@ -169,7 +169,7 @@ place_of t p b is lt within = record {
 
 pub net_is : (t : TopologyView) → IsTopology t → IsNet (net_of t)
 net_is t is = record {
-  place = λ p b i j. place_of t p b is i j;
+  place = λ p b i j. place_in_net t p b is i j;
   depth_in = λ p b i j. (is.rooted p i).depth_in b j;
   host_in = λ p i. is.sound.host_in p i;
   child_in = λ p b c i j m. (among (is_child_at t p b) (size t) c m).1;

@@ -19,7 +19,7 @@ use Rattle.gr_model.specs.declared.report.Report.{Report}
 use Rattle.gr_model.specs.declared.report.Report.TheVariants as line
 use Rattle.gr_model.specs.Net.{Net, keeps_horizon, numbers}
 use Rattle.gr_model.specs.Broker.{View, Log, max_tick}
-use Rattle.gr_model.specs.World.{World, Told, view_of, log_of, unchanged, after, in_turn, deliver_frame, publish_now, wake_all, kept_events, deliver_frame_by, publish_now_by, wake_all_by}
+use Rattle.gr_model.specs.World.{World, Transition, view_of, log_of, unchanged, followed_by, in_turn, deliver_frame, publish_now, wake_all, kept_events, deliver_frame_by, publish_now_by, wake_all_by}
 use Rattle.gr_model.specs.Opening.{opening, opening_by}
 
 -- What comes
@@ -97,18 +97,18 @@ fault_number Trailing = 8
 fault_number TooLong = 9
 
 -- a frame that fits is received, unless it clashes
-unfoldable pub takes_by : (View → Net) → Net → World → ℕ → Frame → Told
+unfoldable pub takes_by : (View → Net) → Net → World → ℕ → Frame → Transition
 takes_by see net w b f =
     elim (least_clash (view_of w b f.head.publisher).know f) [
       | Some t ↦ unchanged w (clash_line b (view_of w b f.head.publisher).know f t ∷ [])
       | None ↦ deliver_frame_by see net w f
     ]
 
-abbrev pub takes : Net → World → ℕ → Frame → Told
+abbrev pub takes : Net → World → ℕ → Frame → Transition
 takes net = takes_by (λ _. net) net
 
 -- a datagram is decoded, then it must fit, then it must not clash; one that fails changes nothing
-unfoldable pub receives_by : (View → Net) → Net → World → ℕ → Result Frame FrameFault → Told
+unfoldable pub receives_by : (View → Net) → Net → World → ℕ → Result Frame FrameFault → Transition
 receives_by see net w b (Err fault) = unchanged w (line.DroppedNotFrame b (fault_number fault.kind) fault.at ∷ [])
 receives_by see net w b (Ok f) =
     elim (fits_broker net b f) [
@@ -116,31 +116,31 @@ receives_by see net w b (Ok f) =
       | true ↦ takes_by see net w b f
     ]
 
-abbrev pub receives : Net → World → ℕ → Result Frame FrameFault → Told
+abbrev pub receives : Net → World → ℕ → Result Frame FrameFault → Transition
 receives net = receives_by (λ _. net) net
 
 -- A quiet moment: the first publish that is left, and then each hosted broker is woken for each publisher
 
-abbrev pub published_first_by : (View → Net) → Net → World → List Publish → Told
+abbrev pub published_first_by : (View → Net) → Net → World → List Publish → Transition
 published_first_by see net w [] = unchanged w []
 published_first_by see net w (x ∷ left) = publish_now_by see net w x.0 x.1.0 x.1.1
 
-abbrev pub published_first : Net → World → List Publish → Told
+abbrev pub published_first : Net → World → List Publish → Transition
 published_first net = published_first_by (λ _. net) net
 
-unfoldable pub quieted_by : (View → Net) → Net → List ℕ → World → List Publish → Told
-quieted_by see net hosted w left = after (published_first_by see net w left) (in_turn (wake_all_by see net) hosted)
+unfoldable pub quieted_by : (View → Net) → Net → List ℕ → World → List Publish → Transition
+quieted_by see net hosted w left = followed_by (published_first_by see net w left) (in_turn (wake_all_by see net) hosted)
 
-abbrev pub quieted : Net → List ℕ → World → List Publish → Told
+abbrev pub quieted : Net → List ℕ → World → List Publish → Transition
 quieted net = quieted_by (λ _. net) net
 
 -- The run
 
-unfoldable pub comes_by : (View → Net) → Net → List ℕ → World → List Publish → Arrival → Told
+unfoldable pub comes_by : (View → Net) → Net → List ℕ → World → List Publish → Arrival → Transition
 comes_by see net hosted w left (datagram b bytes moment) = receives_by see net (at_moment w moment) b (frame_decoded bytes)
 comes_by see net hosted w left (quiet moment) = quieted_by see net hosted (at_moment w moment) left
 
-abbrev pub comes : Net → List ℕ → World → List Publish → Arrival → Told
+abbrev pub comes : Net → List ℕ → World → List Publish → Arrival → Transition
 comes net = comes_by (λ _. net) net
 
 -- what is shown at the end, of the hosted brokers and publishers

@@ -76,12 +76,12 @@ horizon_if true h = Some h
 horizon_if false h = None
 
 -- the tick is consolidated
-abbrev pub is_settled : Bool → ℕ → List Wanted → ℕ → Bool
-is_settled keeps h ws t = is_consolidated (horizon_if keeps h) ws t
+abbrev pub is_consolidated_by : Bool → ℕ → List Wanted → ℕ → Bool
+is_consolidated_by keeps h ws t = is_consolidated (horizon_if keeps h) ws t
 
 -- A on the consolidated ticks
 unfoldable pub consolidated : Bool → ℕ → List Wanted → Wanted
-consolidated keeps h ws = wanteds (λ t. if is_settled keeps h ws t then A else N) (1 ∷ (suc h ∷ all_points ws))
+consolidated keeps h ws = wanteds (λ t. if is_consolidated_by keeps h ws t then A else N) (1 ∷ (suc h ∷ all_points ws))
 
 -- F on the consolidated ticks
 unfoldable pub finished : Known → Wanted → Known
@@ -99,14 +99,14 @@ unfoldable pub open_asks : Known → Asked → Asked
 open_asks know asks = zip_runs Never Q Never same_moment (λ moment k. if is_F k then Never else moment) asks know
 
 -- below the host events are forgotten by the rule of forgetting, and moments of asks where the tick is final
-abbrev pub trimmed_below : Net → ℕ → ℕ → View → View
-trimmed_below net p b v =
+abbrev pub kept_view_below : Net → ℕ → ℕ → View → View
+kept_view_below net p b v =
     let know = forgotten net.cache (if keeps_horizon net p b then v.horizon else max_tick) v.know in
     record { know = know; wants = v.wants; asks = open_asks know v.asks; horizon = v.horizon }
 
 -- what is kept after a call; the host keeps all
-unfoldable pub trimmed : Net → ℕ → ℕ → View → View
-trimmed net p b v = elim (is_host net p b) [ true ↦ v | false ↦ trimmed_below net p b v ]
+unfoldable pub kept_view : Net → ℕ → ℕ → View → View
+kept_view net p b v = elim (is_host net p b) [ true ↦ v | false ↦ kept_view_below net p b v ]
 
 -- The horizon
 
@@ -115,8 +115,8 @@ abbrev pub got_line : ℕ → ℕ → ℕ × Event → Report
 got_line s p x = line.Got s p x.0 x.1
 
 -- what one subscriber here gets where the horizon moves
-unfoldable pub told : Net → ℕ → ℕ → ℕ → List (ℕ × Event) → ℕ → List Report
-told net p h h' items s = if nat_eq h h' then [] else map (got_line s p) (filter (λ x. net.wants p s x.0 x.1) items) ++ line.Horizon s p h' ∷ []
+unfoldable pub delivery_lines : Net → ℕ → ℕ → ℕ → List (ℕ × Event) → ℕ → List Report
+delivery_lines net p h h' items s = if nat_eq h h' then [] else map (got_line s p) (filter (λ x. net.wants p s x.0 x.1) items) ++ line.Horizon s p h' ∷ []
 
 -- Forwarding
 
@@ -143,8 +143,8 @@ unfoldable pub forward : Net → ℕ → ℕ → Wanted → Known → Known
 forward net p c w new = zip_runs Q N Q same_K (λ v a. if is_A a then Q else v) (passed net p c new) w
 
 -- what the child's curiosity is then
-unfoldable pub quenched : Wanted → Known → Wanted
-quenched w sent = zip_runs N Q N same_Q3 (λ a v. answered_of (not (is_Q v)) a) w sent
+unfoldable pub still_wanted : Wanted → Known → Wanted
+still_wanted w sent = zip_runs N Q N same_Q3 (λ a v. answered_of (not (is_Q v)) a) w sent
 
 -- the new ticks as frames to each child
 abbrev pub forward_frames : Net → ℕ → ℕ → Known → List ℕ → List Wanted → List Frame
@@ -156,7 +156,7 @@ forward_frames net p b new (c ∷ cs) (w ∷ ws) = know_frames b c p (forward ne
 abbrev pub forward_wants : Net → ℕ → Known → List ℕ → List Wanted → List Wanted
 forward_wants net p new [] ws = []
 forward_wants net p new (c ∷ cs) [] = []
-forward_wants net p new (c ∷ cs) (w ∷ ws) = quenched w (forward net p c w new) ∷ forward_wants net p new cs ws
+forward_wants net p new (c ∷ cs) (w ∷ ws) = still_wanted w (forward net p c w new) ∷ forward_wants net p new cs ws
 
 -- New ticks come to a broker
 unfoldable pub learn : Net → ℕ → ℕ → Known → View → Log → Outcome
@@ -168,9 +168,9 @@ learn net p b piece v log =
     let items = data_ticks v.horizon h know in
     let ws = forward_wants net p new (net.children p b) v.wants in
     record {
-      view = trimmed net p b (record { know = finished know (consolidated keeps h ws); wants = ws; asks = v.asks; horizon = h });
+      view = kept_view net p b (record { know = finished know (consolidated keeps h ws); wants = ws; asks = v.asks; horizon = h });
       log = log;
-      lines = flat_map (told net p v.horizon h items) (net.subscribers_at b);
+      lines = flat_map (delivery_lines net p v.horizon h items) (net.subscribers_at b);
       frames = forward_frames net p b new (net.children p b) v.wants;
     }
 
@@ -233,7 +233,7 @@ curiosity net p b now c i piece v log =
       | false ↦ due now net.retry know v.asks (λ t. is_C (wanted_at piece t) && is_Q (known_at reply t)) (points piece ++ points reply)
     ] in
     record {
-      view = trimmed net p b (record { know = know; wants = ws; asks = noted now v.asks asked; horizon = v.horizon });
+      view = kept_view net p b (record { know = know; wants = ws; asks = noted now v.asks asked; horizon = v.horizon });
       log = log;
       lines = [];
       frames = know_frames b c p reply ++ up_frames net p b asked;
@@ -245,7 +245,7 @@ asking net p b now wanted ps v log =
     let done = consolidated (keeps_horizon net p b) v.horizon v.wants in
     let asked = due now net.retry v.know v.asks wanted ps in
     record {
-      view = trimmed net p b (record { know = v.know; wants = v.wants; asks = noted now v.asks asked; horizon = v.horizon });
+      view = kept_view net p b (record { know = v.know; wants = v.wants; asks = noted now v.asks asked; horizon = v.horizon });
       log = log;
       lines = [];
       frames = up_frames net p b (upward done asked);

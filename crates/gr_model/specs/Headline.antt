@@ -27,10 +27,10 @@ pub record History : Type 0 where
   pub clock : ℕ
   pub most : ℕ
   pub records : List Recorded
-  pub found : List ℕ  -- publisher by publisher: the cut that was found when its log was opened; 0 where no log is older than the schedule
+  pub reopened_cuts : List ℕ  -- publisher by publisher: the cut that was found when its log was opened; 0 where no log is older than the schedule
   pub lines : List Report
   pub heard : List (List (List Known))  -- broker by broker, publisher by publisher: the pieces heard since the last crash
-  pub bare : List Bool  -- publisher by publisher: nothing was logged or marked since its host started
+  pub unlogged : List Bool  -- publisher by publisher: nothing was logged or marked since its host started
   pub gates : List ℕ  -- publisher by publisher: the place of the closed gate in its log's lane
 
 -- the record of a publisher
@@ -38,8 +38,8 @@ abbrev pub record_of : History → ℕ → Recorded
 record_of h p = get_or h.records p nothing_recorded
 
 -- the cut that was found when the log of a publisher was opened
-abbrev pub found_in : History → ℕ → ℕ
-found_in h p = get_or h.found p 0
+abbrev pub reopened_cut : History → ℕ → ℕ
+reopened_cut h p = get_or h.reopened_cuts p 0
 
 -- The record
 
@@ -204,8 +204,8 @@ hearing_all heard [] = heard
 hearing_all heard (l ∷ ls) = hearing_all (hearing heard (know_of_line l)) ls
 
 -- a broker that starts again has heard nothing
-abbrev pub deaf : Net → List (List (List Known)) → ℕ → List (List (List Known))
-deaf net heard b = set heard b (replicate net.publishers [])
+abbrev pub heard_nothing : Net → List (List (List Known)) → ℕ → List (List (List Known))
+heard_nothing net heard b = set heard b (replicate net.publishers [])
 
 -- the step crashes this broker
 abbrev pub crashed_by : Net → History → Line → Option ℕ
@@ -222,7 +222,7 @@ heard_after net h l ls =
     elim l.step [
       | step.Deliver k ↦ elim (line_of_frame k h.lines) [ None ↦ h.heard | Some s ↦ hearing h.heard (know_of_line s) ]
       | step.Sweep ↦ if is_swept net h then hearing_all h.heard ls else h.heard
-      | _ ↦ elim (crashed_by net h l) [ None ↦ h.heard | Some b ↦ deaf net h.heard b ]
+      | _ ↦ elim (crashed_by net h l) [ None ↦ h.heard | Some b ↦ heard_nothing net h.heard b ]
     ]
 
 -- the line says that something was logged or marked for the publisher
@@ -232,28 +232,28 @@ is_record_of p (line.Mark q t) = nat_eq q p
 is_record_of p _ = false
 
 -- the flags of the publishers from p on, each changed
-abbrev pub each_bare : (ℕ → Bool → Bool) → ℕ → List Bool → List Bool
-each_bare f p [] = []
-each_bare f p (b ∷ bs) = f p b ∷ each_bare f (suc p) bs
+abbrev pub each_flag : (ℕ → Bool → Bool) → ℕ → List Bool → List Bool
+each_flag f p [] = []
+each_flag f p (b ∷ bs) = f p b ∷ each_flag f (suc p) bs
 
 -- which hosts have logged and marked nothing since their start
-unfoldable pub bare_after : Net → History → Line → List Report → List Bool
-bare_after net h l ls =
+unfoldable pub unlogged_after : Net → History → Line → List Report → List Bool
+unlogged_after net h l ls =
     elim (crashed_by net h l) [
-      | Some b ↦ each_bare (λ p x. is_host net p b || x) 0 h.bare
-      | None ↦ each_bare (λ p x. x && not (list_any (is_record_of p) ls)) 0 h.bare
+      | Some b ↦ each_flag (λ p x. is_host net p b || x) 0 h.unlogged
+      | None ↦ each_flag (λ p x. x && not (list_any (is_record_of p) ls)) 0 h.unlogged
     ]
 
 -- the history after one more step and its lines
-unfoldable pub after : Net → History → Line → List Report → History
-after net h l ls = record {
+unfoldable pub history_after : Net → History → Line → List Report → History
+history_after net h l ls = record {
   clock = clock_after net h l;
   most = most_after net h l;
   records = records_after net h l ls;
-  found = h.found;
+  reopened_cuts = h.reopened_cuts;
   lines = h.lines ++ ls;
   heard = heard_after net h l ls;
-  bare = bare_after net h l ls;
+  unlogged = unlogged_after net h l ls;
   gates = gates_after net h l ls;
 }
 
@@ -263,10 +263,10 @@ begin net = record {
   clock = 0;
   most = 0;
   records = replicate net.publishers nothing_recorded;
-  found = replicate net.publishers 0;
+  reopened_cuts = replicate net.publishers 0;
   lines = [];
   heard = replicate net.brokers (replicate net.publishers []);
-  bare = replicate net.publishers true;
+  unlogged = replicate net.publishers true;
   gates = replicate net.publishers first_gate;
 }
 
@@ -276,7 +276,7 @@ is_heard pieces t = list_any (λ runs. list_any (is_in t) runs) pieces
 
 -- n is a broker's doubt horizon: below the host all up to n was heard since the last crash and n + 1 was not; at the host it is where the log is settled
 pub record IsDoubt (net : Net) (h : History) (b p n : ℕ) : Type 0 where
-  pub at_host : IsTrue (is_host net p b) → n ≡ (if get_or h.bare p true && may_crash net b then 0 else (record_of h p).settled)
+  pub at_host : IsTrue (is_host net p b) → n ≡ (if get_or h.unlogged p true && may_crash net b then 0 else (record_of h p).settled)
   pub below : is_host net p b ≡ false → (t : ℕ) → 1 ≤ t → t ≤ n → IsTrue (is_heard (get_or (get_or h.heard b []) p []) t)
   pub ends : is_host net p b ≡ false → is_heard (get_or (get_or h.heard b []) p []) (suc n) ≡ false
 
@@ -301,10 +301,10 @@ HorizonsRise s p n (line.Horizon r q t ∷ ls) = (IsTrue (nat_eq r s && nat_eq q
 HorizonsRise s p n (_ ∷ ls) = HorizonsRise s p n ls
 
 -- what s got from p
-abbrev pub gots : ℕ → ℕ → List Report → List (ℕ × Event)
-gots s p [] = []
-gots s p (line.Got r q t e ∷ ls) = (if nat_eq r s && nat_eq q p then (t, e) ∷ [] else []) ++ gots s p ls
-gots s p (_ ∷ ls) = gots s p ls
+abbrev pub delivered_events : ℕ → ℕ → List Report → List (ℕ × Event)
+delivered_events s p [] = []
+delivered_events s p (line.Got r q t e ∷ ls) = (if nat_eq r s && nat_eq q p then (t, e) ∷ [] else []) ++ delivered_events s p ls
+delivered_events s p (_ ∷ ls) = delivered_events s p ls
 
 -- what s is to have got from p up to tick n
 abbrev pub expected : Net → History → ℕ → ℕ → ℕ → List (ℕ × Event)
@@ -362,16 +362,16 @@ record_lines net h l ls =
                         | true ↦
                             line.Crashed (net.host p) ∷
                             ((if says_kept ls then line.Kept p number (tick_of h.clock r) else line.Lost p number (tick_of h.clock r)) ∷
-                            opened_of net h.found (records_after net h l ls) h.lines (net.host p))
+                            opened_of net h.reopened_cuts (records_after net h l ls) h.lines (net.host p))
                       ]
                 ]
           ]
       | step.Wake b ↦ flat_map (λ p. if is_host net p b && nat_le ((record_of h p).settled + net.quiet) h.clock then line.Mark p h.clock ∷ [] else []) (numbers net.publishers)
       | step.Sweep ↦ if is_swept net h then map (λ p. line.Mark p (sweep_at net h)) (numbers net.publishers) ++ line.Swept (sweep_at net h) ∷ [] else []
-      | step.Crash b ↦ if may_crash net b then line.Crashed b ∷ opened_of net h.found h.records h.lines b else []
+      | step.Crash b ↦ if may_crash net b then line.Crashed b ∷ opened_of net h.reopened_cuts h.records h.lines b else []
       | step.Show ↦
           line.Frames (sent_count h.lines) ∷
-          map (λ p. let r = record_of h p in let c = last_cut p (found_in h p) h.lines in line.LogOf p r.last r.settled c (count_past c r.events)) (numbers net.publishers)
+          map (λ p. let r = record_of h p in let c = last_cut p (reopened_cut h p) h.lines in line.LogOf p r.last r.settled c (count_past c r.events)) (numbers net.publishers)
       | _ ↦ []
     ]
 
@@ -394,7 +394,7 @@ doubt_place (line.Doubt b p t) = (b, p)
 doubt_place _ = (0, 0)
 
 -- of one step: the recorded lines, whether a stopped publish is kept, the places of the doubt lines, and their horizons
-pub record StepTold (net : Net) (h : History) (l : Line) (ls : List Report) : Type 0 where
+pub record StepReports (net : Net) (h : History) (l : Line) (ls : List Report) : Type 0 where
   pub records : filter is_record_line ls ≡ record_lines net h l ls
   -- a stopped publish that would be logged is kept exactly where its call and its pick leave the gate open
   pub kept : (p number : ℕ) (s : Stop) (e : Event) → l.step ≡ step.Publish p number (Some s) e →
@@ -405,13 +405,13 @@ pub record StepTold (net : Net) (h : History) (l : Line) (ls : List Report) : Ty
 
 -- delivered exactly, and doubt horizons, after each step
 pub record Delivered (net : Net) (h : History) : Type 0 where
-  pub got : (s p : ℕ) → s < net.subscribers → p < net.publishers → gots s p h.lines ≡ expected net h s p (last_horizon s p 0 h.lines)
+  pub got : (s p : ℕ) → s < net.subscribers → p < net.publishers → delivered_events s p h.lines ≡ expected net h s p (last_horizon s p 0 h.lines)
   pub doubt : (s p : ℕ) → s < net.subscribers → p < net.publishers → IsDoubt net h (net.at s) p (last_horizon s p 0 h.lines)
 
 -- horizons rise, and discarded only after delivery, of all lines of the history h
 pub record InOrder (net : Net) (h : History) : Type 0 where
   pub horizons : (s p n : ℕ) (xs ys : List Report) → h.lines ≡ xs ++ line.Horizon s p n ∷ ys → last_horizon s p 0 xs < n
-  pub cuts : (p t : ℕ) (xs ys : List Report) → h.lines ≡ xs ++ line.Cut p t ∷ ys → last_cut p (found_in h p) xs < t
+  pub cuts : (p t : ℕ) (xs ys : List Report) → h.lines ≡ xs ++ line.Cut p t ∷ ys → last_cut p (reopened_cut h p) xs < t
   pub cut_settled : (p t : ℕ) → Contains h.lines (line.Cut p t) → t ≤ (record_of h p).settled
   pub cut_got : (p t : ℕ) (xs ys : List Report) → h.lines ≡ xs ++ line.Cut p t ∷ ys →
       (s u : ℕ) (e : Event) → Contains (record_of h p).events (u, e) → u ≤ t → s < net.subscribers → IsTrue (net.wants p s u e) → Contains xs (line.Got s p u e)
@@ -419,7 +419,7 @@ pub record InOrder (net : Net) (h : History) : Type 0 where
 -- what the headline says, step by step
 abbrev pub Holds_from : Net → History → List Line → List (List Report) → Type 0
 Holds_from net h [] [] = Delivered net h × InOrder net h
-Holds_from net h (l ∷ ls) (r ∷ rs) = Delivered net h × InOrder net h × StepTold net h l r × Holds_from net (after net h l r) ls rs
+Holds_from net h (l ∷ ls) (r ∷ rs) = Delivered net h × InOrder net h × StepReports net h l r × Holds_from net (history_after net h l r) ls rs
 Holds_from net h [] (r ∷ rs) = ⊥
 Holds_from net h (l ∷ ls) [] = ⊥
 
@@ -432,9 +432,9 @@ Headline net steps (r ∷ rs) = (r ≡ []) × Holds_from net (begin net) steps r
 abbrev pub history : Net → History → List Line → List (List Report) → History
 history net h [] rs = h
 history net h (l ∷ ls) [] = h
-history net h (l ∷ ls) (r ∷ rs) = history net (after net h l r) ls rs
+history net h (l ∷ ls) (r ∷ rs) = history net (history_after net h l r) ls rs
 
 -- delivered exactly, and horizons rise, for one subscriber and publisher
 pub record GetsExactly (net : Net) (h : History) (s p : ℕ) : Type 0 where
-  pub got : gots s p h.lines ≡ expected net h s p (last_horizon s p 0 h.lines)
+  pub got : delivered_events s p h.lines ≡ expected net h s p (last_horizon s p 0 h.lines)
   pub rise : HorizonsRise s p 0 h.lines

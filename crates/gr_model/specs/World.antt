@@ -20,7 +20,7 @@ pub record World : Type 0 where
   pub logs : List Log  -- publisher by publisher
 
 -- a world and the lines told on the way to it
-pub record Told : Type 0 where
+pub record Transition : Type 0 where
   pub world : World
   pub lines : List Report
 
@@ -54,7 +54,7 @@ sent_lines n [] = []
 sent_lines n (f ∷ fs) = sent_line n f ∷ sent_lines (suc n) fs
 
 -- a broker's call for a publisher is taken up
-unfoldable pub absorbed : World → ℕ → ℕ → Outcome → Told
+unfoldable pub absorbed : World → ℕ → ℕ → Outcome → Transition
 absorbed w b p o = record {
   world = record {
     clock = w.clock;
@@ -67,36 +67,36 @@ absorbed w b p o = record {
 }
 
 -- the world stays, and some lines are told
-abbrev pub unchanged : World → List Report → Told
+abbrev pub unchanged : World → List Report → Transition
 unchanged w ls = record { world = w; lines = ls }
 
 -- one after another
-abbrev pub after : Told → (World → Told) → Told
-after s f = let r = f s.world in record { world = r.world; lines = s.lines ++ r.lines }
+abbrev pub followed_by : Transition → (World → Transition) → Transition
+followed_by s f = let r = f s.world in record { world = r.world; lines = s.lines ++ r.lines }
 
 -- for each of a list, one after another
-abbrev pub in_turn : {X : Type 0} → (World → X → Told) → List X → World → Told
+abbrev pub in_turn : {X : Type 0} → (World → X → Transition) → List X → World → Transition
 in_turn f [] w = unchanged w []
-in_turn f (x ∷ xs) w = after (f w x) (in_turn f xs)
+in_turn f (x ∷ xs) w = followed_by (f w x) (in_turn f xs)
 
 -- one broker is woken for one publisher; for all
-unfoldable pub wake_for_by : (View → Net) → Net → World → ℕ → ℕ → Told
+unfoldable pub wake_for_by : (View → Net) → Net → World → ℕ → ℕ → Transition
 wake_for_by see net w b p = absorbed w b p (wake (see (view_of w b p)) p b w.clock (view_of w b p) (log_of w p))
 
-abbrev pub wake_for : Net → World → ℕ → ℕ → Told
+abbrev pub wake_for : Net → World → ℕ → ℕ → Transition
 wake_for net = wake_for_by (λ _. net) net
 
-unfoldable pub wake_all_by : (View → Net) → Net → World → ℕ → Told
+unfoldable pub wake_all_by : (View → Net) → Net → World → ℕ → Transition
 wake_all_by see net w b = in_turn (λ u p. wake_for_by see net u b p) (numbers net.publishers) w
 
-abbrev pub wake_all : Net → World → ℕ → Told
+abbrev pub wake_all : Net → World → ℕ → Transition
 wake_all net = wake_all_by (λ _. net) net
 
 -- a frame reaches its receiver
-unfoldable pub deliver_frame_by : (View → Net) → Net → World → Frame → Told
+unfoldable pub deliver_frame_by : (View → Net) → Net → World → Frame → Transition
 deliver_frame_by see net w f = absorbed w f.head.to f.head.publisher (receive (see (view_of w f.head.to f.head.publisher)) w.clock f (view_of w f.head.to f.head.publisher) (log_of w f.head.publisher))
 
-abbrev pub deliver_frame : Net → World → Frame → Told
+abbrev pub deliver_frame : Net → World → Frame → Transition
 deliver_frame net = deliver_frame_by (λ _. net) net
 
 -- the frame of this number, from 1
@@ -105,10 +105,10 @@ frame_at w zero = None
 frame_at w (suc k) = slice_get w.frames k
 
 -- a publish at the host
-unfoldable pub publish_now_by : (View → Net) → Net → World → ℕ → ℕ → Event → Told
+unfoldable pub publish_now_by : (View → Net) → Net → World → ℕ → ℕ → Event → Transition
 publish_now_by see net w p number e = absorbed w (net.host p) p (publish (see (view_of w (net.host p) p)) p (net.host p) w.clock number e (view_of w (net.host p) p) (log_of w p))
 
-abbrev pub publish_now : Net → World → ℕ → ℕ → Event → Told
+abbrev pub publish_now : Net → World → ℕ → ℕ → Event → Transition
 publish_now net = publish_now_by (λ _. net) net
 
 -- the opened lines of a broker's publishers
@@ -127,11 +127,11 @@ restarted net w b = record {
 }
 
 -- a broker stops and starts again
-unfoldable pub crash : Net → World → ℕ → Told
+unfoldable pub crash : Net → World → ℕ → Transition
 crash net w b = record { world = restarted net w b; lines = line.Crashed b ∷ opened_lines net w.logs b }
 
 -- a publish stops within: the host crashes with the event kept or lost, unless a subscriber is there
-unfoldable pub publish_stopped_by : (View → Net) → Net → World → ℕ → ℕ → ℕ → Stop → Event → Told
+unfoldable pub publish_stopped_by : (View → Net) → Net → World → ℕ → ℕ → ℕ → Stop → Event → Transition
 publish_stopped_by see net w number_of_line p number stop e =
     let b = net.host p in
     let log = log_of w p in
@@ -151,19 +151,19 @@ publish_stopped_by see net w number_of_line p number stop e =
       ]
     ]
 
-abbrev pub publish_stopped : Net → World → ℕ → ℕ → ℕ → Stop → Event → Told
+abbrev pub publish_stopped : Net → World → ℕ → ℕ → ℕ → Stop → Event → Transition
 publish_stopped net = publish_stopped_by (λ _. net) net
 
 -- The sweep
 
 -- the greatest of the numbers, or 0
-abbrev pub greatest : List ℕ → ℕ
-greatest [] = 0
-greatest (n ∷ ns) = max n (greatest ns)
+abbrev pub greatest_settled : List ℕ → ℕ
+greatest_settled [] = 0
+greatest_settled (n ∷ ns) = max n (greatest_settled ns)
 
 -- a moment at which every ask is due again and every log is silent for long
 unfoldable pub sweep_moment : Net → World → ℕ
-sweep_moment net w = max w.most (greatest (map (λ l. l.settled) w.logs)) + net.gap + net.idle + net.retry + net.quiet + 1
+sweep_moment net w = max w.most (greatest_settled (map (λ l. l.settled) w.logs)) + net.gap + net.idle + net.retry + net.quiet + 1
 
 -- the brokers at one depth
 abbrev pub at_depth : Net → ℕ → ℕ → List ℕ
@@ -200,48 +200,48 @@ abbrev pub sent_since : World → World → List Frame
 sent_since old new = frames_past (length old.frames) new.frames
 
 -- the upward frames are delivered at once, with those that this sends, at most so deep
-unfoldable pub deliver_up_by : (View → Net) → Net → ℕ → List Frame → World → Told
+unfoldable pub deliver_up_by : (View → Net) → Net → ℕ → List Frame → World → Transition
 deliver_up_by see net zero fs w = unchanged w []
-deliver_up_by see net (suc fuel) fs w = in_turn (λ u f. after (deliver_frame_by see net u f) (λ x. deliver_up_by see net fuel (filter is_want (sent_since u x)) x)) fs w
+deliver_up_by see net (suc fuel) fs w = in_turn (λ u f. followed_by (deliver_frame_by see net u f) (λ x. deliver_up_by see net fuel (filter is_want (sent_since u x)) x)) fs w
 
-abbrev pub deliver_up : Net → ℕ → List Frame → World → Told
+abbrev pub deliver_up : Net → ℕ → List Frame → World → Transition
 deliver_up net = deliver_up_by (λ _. net) net
 
 -- a broker is woken, and the upward frames that this sends are delivered at once
-unfoldable pub wake_up_by : (View → Net) → Net → ℕ → World → ℕ → Told
-wake_up_by see net p w b = after (wake_for_by see net w b p) (λ u. deliver_up_by see net net.brokers (filter is_want (sent_since w u)) u)
+unfoldable pub wake_up_by : (View → Net) → Net → ℕ → World → ℕ → Transition
+wake_up_by see net p w b = followed_by (wake_for_by see net w b p) (λ u. deliver_up_by see net net.brokers (filter is_want (sent_since w u)) u)
 
-abbrev pub wake_up : Net → ℕ → World → ℕ → Told
+abbrev pub wake_up : Net → ℕ → World → ℕ → Transition
 wake_up net = wake_up_by (λ _. net) net
 
 -- the knowledge sent to a broker in this sweep is delivered
-unfoldable pub hand_down_by : (View → Net) → Net → ℕ → ℕ → World → ℕ → Told
+unfoldable pub hand_down_by : (View → Net) → Net → ℕ → ℕ → World → ℕ → Transition
 hand_down_by see net p first w b = in_turn (deliver_frame_by see net) (filter (is_know_to p b) (frames_past first w.frames)) w
 
-abbrev pub hand_down : Net → ℕ → ℕ → World → ℕ → Told
+abbrev pub hand_down : Net → ℕ → ℕ → World → ℕ → Transition
 hand_down net = hand_down_by (λ _. net) net
 
 -- the three phases for a publisher
-unfoldable pub sweep_for_by : (View → Net) → Net → World → ℕ → Told
+unfoldable pub sweep_for_by : (View → Net) → Net → World → ℕ → Transition
 sweep_for_by see net w p =
     let first = length w.frames in
-    after (after (in_turn (wake_up_by see net p) (inwards net p) w) (in_turn (hand_down_by see net p first) (outwards net p))) (in_turn (wake_up_by see net p) (inwards net p))
+    followed_by (followed_by (in_turn (wake_up_by see net p) (inwards net p) w) (in_turn (hand_down_by see net p first) (outwards net p))) (in_turn (wake_up_by see net p) (inwards net p))
 
-abbrev pub sweep_for : Net → World → ℕ → Told
+abbrev pub sweep_for : Net → World → ℕ → Transition
 sweep_for net = sweep_for_by (λ _. net) net
 
 -- a sweep moves the clock far ahead and settles each publisher, unless the clock would pass the last tick
-unfoldable pub sweep_by : (View → Net) → Net → World → ℕ → Told
+unfoldable pub sweep_by : (View → Net) → Net → World → ℕ → Transition
 sweep_by see net w number_of_line =
     let m = sweep_moment net w in
     elim (nat_lt max_tick m) [
       | true ↦ unchanged w (line.RefusedClock number_of_line m ∷ [])
       | false ↦
           let u : World = record { clock = m; most = max m w.most; frames = w.frames; views = w.views; logs = w.logs } in
-          after (in_turn (sweep_for_by see net) (numbers net.publishers) u) (λ x. unchanged x (line.Swept m ∷ []))
+          followed_by (in_turn (sweep_for_by see net) (numbers net.publishers) u) (λ x. unchanged x (line.Swept m ∷ []))
     ]
 
-abbrev pub sweep : Net → World → ℕ → Told
+abbrev pub sweep : Net → World → ℕ → Transition
 sweep net = sweep_by (λ _. net) net
 
 -- What is shown
@@ -260,7 +260,7 @@ show net w =
 -- One step, and all
 
 -- what a step leaves and tells
-unfoldable pub next_by : (View → Net) → Net → World → Line → Told
+unfoldable pub next_by : (View → Net) → Net → World → Line → Transition
 next_by see net w l =
     elim l.step [
       | step.Clock now ↦ unchanged (record { clock = now; most = max now w.most; frames = w.frames; views = w.views; logs = w.logs }) []
@@ -273,7 +273,7 @@ next_by see net w l =
       | step.Bytes k ↦ elim (frame_at w k) [ None ↦ unchanged w (line.RefusedFrame l.number k (length w.frames) ∷ []) | Some f ↦ unchanged w (line.BytesOf k (frame_bytes f) ∷ []) ]
     ]
 
-abbrev pub next : Net → World → Line → Told
+abbrev pub next : Net → World → Line → Transition
 next net = next_by (λ _. net) net
 
 -- the world before the first step
@@ -302,9 +302,9 @@ abbrev pub report_of : Net → List Line → List (List Report)
 report_of net = report_of_by (λ _. net) net
 
 -- a whole schedule: the world after it, and all that is told
-abbrev pub run_all_by : (View → Net) → Net → World → List Line → Told
+abbrev pub run_all_by : (View → Net) → Net → World → List Line → Transition
 run_all_by see net w [] = unchanged w []
-run_all_by see net w (l ∷ ls) = after (next_by see net w l) (λ u. run_all_by see net u ls)
+run_all_by see net w (l ∷ ls) = followed_by (next_by see net w l) (λ u. run_all_by see net u ls)
 
-abbrev pub run_all : Net → World → List Line → Told
+abbrev pub run_all : Net → World → List Line → Transition
 run_all net = run_all_by (λ _. net) net

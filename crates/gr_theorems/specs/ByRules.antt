@@ -12,8 +12,8 @@ use Rattle.gr_model.specs.declared.report.Report.{Report}
 use Rattle.gr_model.specs.declared.report.Report.TheVariants as line
 use Rattle.gr_model.specs.Net.{Net, is_host, keeps_horizon, not_empty, numbers}
 use Rattle.gr_model.specs.Broker.{View, Log, Outcome, empty_log, with_event, log_at, is_kept}
-use Rattle.gr_model.specs.World.{World, Told, blank_view, view_of, log_of, with_view, sent_lines, frame_at, frames_past, sent_since, is_want, is_know_to, inwards, outwards, sweep_moment, kept_events}
-use Rattle.gr_model.specs.Opening.{found_log, found_line, publishers_at}
+use Rattle.gr_model.specs.World.{World, Transition, blank_view, view_of, log_of, with_view, sent_lines, frame_at, frames_past, sent_since, is_want, is_know_to, inwards, outwards, sweep_moment, kept_events}
+use Rattle.gr_model.specs.Opening.{reopened_log, reopened_line, publishers_at}
 use Rattle.gr_theorems.specs.Rules.{HasKnown, NewTicks, Publishes, Wakes, Comes}
 use Rattle.gr_theorems.specs.Settles.{is_accepted}
 use Rattle.gr_theorems.specs.Obeys.{is_next_of}
@@ -24,22 +24,22 @@ use Rattle.gr_theorems.specs.Obeys.{is_next_of}
 -- One after another
 
 -- nothing changes, and these lines are told
-pub record Tells (ls : List Report) (w : World) (t : Told) : Type 0 where
+pub record Tells (ls : List Report) (w : World) (t : Transition) : Type 0 where
   pub world : t.world ≡ w
   pub lines : t.lines ≡ ls
 
 -- first one thing happens, and then another in the state that this leaves
-pub record Then (First Second : World → Told → Type 0) (w : World) (t : Told) : Type 0 where
-  pub first : Told
+pub record Then (First Second : World → Transition → Type 0) (w : World) (t : Transition) : Type 0 where
+  pub first : Transition
   pub happens : First w first
-  pub second : Told
+  pub second : Transition
   pub follows : Second first.world second
   -- the state is that of the second; the lines are those of both, in their order
   pub world : t.world ≡ second.world
   pub lines : t.lines ≡ first.lines ++ second.lines
 
 -- something happens for each of a list, in its order
-abbrev pub EachInTurn : {X : Type 0} → (X → World → Told → Type 0) → List X → World → Told → Type 0
+abbrev pub EachInTurn : {X : Type 0} → (X → World → Transition → Type 0) → List X → World → Transition → Type 0
 EachInTurn Happens [] w t = Tells [] w t
 EachInTurn Happens (x ∷ xs) w t = Then (Happens x) (EachInTurn Happens xs) w t
 
@@ -67,7 +67,7 @@ pub record BeginsOver (net : Net) (found : List Log) (w : World) : Type 0 where
   pub most : w.most ≡ 0
   pub frames : w.frames ≡ []
   -- each publisher has the log that was found, and each broker is as it starts
-  pub logs : w.logs ≡ map (found_log found) (numbers net.publishers)
+  pub logs : w.logs ≡ map (reopened_log found) (numbers net.publishers)
   pub long : length w.views ≡ net.brokers
   pub views : (b : ℕ) → b < net.brokers → StartsAll net b w.logs (get_or w.views b [])
 
@@ -104,7 +104,7 @@ opened net b logs = flat_map (opened_line net b logs) (numbers net.publishers)
 -- Calls
 
 -- A call of broker b for publisher p has an outcome by its rule, of the view that b has of p and of the log of p
-pub record Calls (b p : ℕ) (Rule : View → Log → Outcome → Type 0) (w : World) (t : Told) : Type 0 where
+pub record Calls (b p : ℕ) (Rule : View → Log → Outcome → Type 0) (w : World) (t : Transition) : Type 0 where
   pub outcome : Outcome
   pub rule : Rule (view_of w b p) (log_of w p) outcome
   -- its lines are told, and then a line for each of its frames, numbered on from all that were sent before
@@ -117,15 +117,15 @@ pub record Calls (b p : ℕ) (Rule : View → Log → Outcome → Type 0) (w : W
   pub most : t.world.most ≡ w.most
 
 -- an event is published at its host
-abbrev pub IsPublished : Net → ℕ → ℕ → Event → World → Told → Type 0
+abbrev pub IsPublished : Net → ℕ → ℕ → Event → World → Transition → Type 0
 IsPublished net p number e w t = Calls (net.host p) p (Publishes net p (net.host p) w.clock number e) w t
 
 -- broker b is woken for publisher p
-abbrev pub IsWoken : Net → ℕ → ℕ → World → Told → Type 0
+abbrev pub IsWoken : Net → ℕ → ℕ → World → Transition → Type 0
 IsWoken net b p w t = Calls b p (Wakes net p b w.clock) w t
 
 -- a frame reaches its receiver
-abbrev pub Arrives : Net → Frame → World → Told → Type 0
+abbrev pub Arrives : Net → Frame → World → Transition → Type 0
 Arrives net f w t =
     let head = f.head in
     Calls head.to head.publisher (Comes net head.publisher head.from head.to w.clock f.body) w t
@@ -133,16 +133,16 @@ Arrives net f w t =
 -- A start over logs that were found
 
 -- a host with a subscriber has its horizon moved to where its log is settled, as if a piece came that says nothing new
-pub record HostReaches (net : Net) (p : ℕ) (w : World) (t : Told) : Type 0 where
+pub record HostReaches (net : Net) (p : ℕ) (w : World) (t : Transition) : Type 0 where
   pub here : has_subscriber net (net.host p) ≡ true → Calls (net.host p) p (NewTicks net p (net.host p) []) w t
   pub none : has_subscriber net (net.host p) ≡ false → Tells [] w t
 
 -- a log that is not empty is told, and then the host has its horizon moved
-abbrev pub OpensLog : Net → ℕ → World → Told → Type 0
-OpensLog net p w t = Then (Tells (found_line (log_of w p) p)) (HostReaches net p) w t
+abbrev pub OpensLog : Net → ℕ → World → Transition → Type 0
+OpensLog net p w t = Then (Tells (reopened_line (log_of w p) p)) (HostReaches net p) w t
 
 -- so it is for each broker in order, and in each for its publishers in order
-pub record Opens (net : Net) (found : List Log) (t : Told) : Type 0 where
+pub record Opens (net : Net) (found : List Log) (t : Transition) : Type 0 where
   pub begun : World
   pub begins : BeginsOver net found begun
   pub opens : EachInTurn (OpensLog net) (publishers_at net (numbers net.brokers)) begun t
@@ -159,14 +159,14 @@ pub record ClockMoves (now : ℕ) (w u : World) : Type 0 where
   pub logs : u.logs ≡ w.logs
 
 -- a clock step tells nothing
-pub record SetsClock (now : ℕ) (w : World) (t : Told) : Type 0 where
+pub record SetsClock (now : ℕ) (w : World) (t : Transition) : Type 0 where
   pub moves : ClockMoves now w t.world
   pub lines : t.lines ≡ []
 
 -- Crashes
 
 -- a broker is to crash
-pub record Crashes (net : Net) (number b : ℕ) (w : World) (t : Told) : Type 0 where
+pub record Crashes (net : Net) (number b : ℕ) (w : World) (t : Transition) : Type 0 where
   -- one with a subscriber does not
   pub refused : has_subscriber net b ≡ true → Tells (line.RefusedHosts number b ∷ []) w t
   -- any other starts again over the logs as they are, and tells which it opened
@@ -190,14 +190,14 @@ abbrev pub logs_left : World → ℕ → Stop → Event → List Log
 logs_left w p stop e = if keeps w p stop then set w.logs p (with_event (log_of w p) (next_tick w p) e) else w.logs
 
 -- a publish stops within
-pub record StopsWithin (net : Net) (p n : ℕ) (stop : Stop) (e : Event) (w : World) (t : Told) : Type 0 where
+pub record StopsWithin (net : Net) (p n : ℕ) (stop : Stop) (e : Event) (w : World) (t : Transition) : Type 0 where
   -- the host starts again over the logs that are left
   pub again : StartsAgain net (net.host p) (logs_left w p stop e) w t.world
   -- it is told that it crashed, whether the event was kept, and which logs it opened
   pub lines : t.lines ≡ line.Crashed (net.host p) ∷ (fate w p n stop ∷ opened net (net.host p) (logs_left w p stop e))
 
 -- a publish is to stop within
-pub record Stops (net : Net) (number p n : ℕ) (stop : Stop) (e : Event) (w : World) (t : Told) : Type 0 where
+pub record Stops (net : Net) (number p n : ℕ) (stop : Stop) (e : Event) (w : World) (t : Transition) : Type 0 where
   -- at a host with a subscriber it is refused
   pub refused : has_subscriber net (net.host p) ≡ true → Tells (line.RefusedHosts number (net.host p) ∷ []) w t
   -- where its event is not the next one, or the ticks are used up, nothing is logged and nothing stops it
@@ -212,49 +212,49 @@ upward_since w u = filter is_want (sent_since w u)
 
 -- The frames are delivered one after another, each followed at once by the upward frames that its delivery sends, and
 -- these by theirs, until none is sent: in a chain of at most so many.
-abbrev pub AtOnce : Net → ℕ → List Frame → World → Told → Type 0
+abbrev pub AtOnce : Net → ℕ → List Frame → World → Transition → Type 0
 AtOnce net zero fs w t = (fs ≡ []) × Tells [] w t
 AtOnce net (suc longest) fs w t =
     EachInTurn (λ f v r. Then (Arrives net f) (λ u s. AtOnce net longest (upward_since v u) u s) v r) fs w t
 
 -- broker b is woken, and the upward frames that this sends are delivered at once
-pub record WakesUp (net : Net) (p b : ℕ) (w : World) (t : Told) : Type 0 where
+pub record WakesUp (net : Net) (p b : ℕ) (w : World) (t : Transition) : Type 0 where
   -- however long the longest chain is
   pub longest : ℕ
   pub wakes : Then (IsWoken net b p) (λ u r. AtOnce net longest (upward_since w u) u r) w t
 
 -- b is delivered the knowledge of p that was sent to it past the first so many frames
-abbrev pub HandsDown : Net → ℕ → ℕ → ℕ → World → Told → Type 0
+abbrev pub HandsDown : Net → ℕ → ℕ → ℕ → World → Transition → Type 0
 HandsDown net p first b w t = EachInTurn (Arrives net) (filter (is_know_to p b) (frames_past first w.frames)) w t
 
 -- the sweep of one publisher
-pub record SweepsFor (net : Net) (p : ℕ) (w : World) (t : Told) : Type 0 where
+pub record SweepsFor (net : Net) (p : ℕ) (w : World) (t : Transition) : Type 0 where
   -- every broker is woken, from the deepest up to the host
-  pub asked : Told
+  pub asked : Transition
   pub asks : EachInTurn (WakesUp net p) (inwards net p) w asked
   -- from the host outwards, each is delivered the knowledge that was sent to it since this sweep began
-  pub handed : Told
+  pub handed : Transition
   pub hands : EachInTurn (HandsDown net p (length w.frames)) (outwards net p) asked.world handed
   -- every broker is woken again
-  pub settled : Told
+  pub settled : Transition
   pub settles : EachInTurn (WakesUp net p) (inwards net p) handed.world settled
   pub world : t.world ≡ settled.world
   pub lines : t.lines ≡ asked.lines ++ (handed.lines ++ settled.lines)
 
 -- a sweep
-pub record SweepsAll (net : Net) (w : World) (t : Told) : Type 0 where
+pub record SweepsAll (net : Net) (w : World) (t : Transition) : Type 0 where
   -- the clock moves to its moment
   pub begun : World
   pub begins : ClockMoves (sweep_moment net w) w begun
   -- each publisher is swept
-  pub done : Told
+  pub done : Transition
   pub each : EachInTurn (SweepsFor net) (numbers net.publishers) begun done
   -- and its end is told
   pub world : t.world ≡ done.world
   pub lines : t.lines ≡ done.lines ++ line.Swept (sweep_moment net w) ∷ []
 
 -- a sweep is refused where its moment is past the last tick
-pub record Sweeps (net : Net) (number : ℕ) (w : World) (t : Told) : Type 0 where
+pub record Sweeps (net : Net) (number : ℕ) (w : World) (t : Transition) : Type 0 where
   pub refused : is_accepted net w ≡ false → Tells (line.RefusedClock number (sweep_moment net w) ∷ []) w t
   pub swept : is_accepted net w ≡ true → SweepsAll net w t
 
@@ -278,19 +278,19 @@ shown net w = line.Frames (length w.frames) ∷ (map (log_line w) (numbers net.p
 -- Frames by their numbers
 
 -- the frame of a number is delivered, if there is one
-pub record Delivers (net : Net) (number k : ℕ) (w : World) (t : Told) : Type 0 where
+pub record Delivers (net : Net) (number k : ℕ) (w : World) (t : Transition) : Type 0 where
   pub refused : frame_at w k ≡ None → Tells (line.RefusedFrame number k (length w.frames) ∷ []) w t
   pub arrives : (f : Frame) → frame_at w k ≡ Some f → Arrives net f w t
 
 -- the bytes of the frame of a number are shown, if there is one
-pub record ShowsBytes (number k : ℕ) (w : World) (t : Told) : Type 0 where
+pub record ShowsBytes (number k : ℕ) (w : World) (t : Transition) : Type 0 where
   pub refused : frame_at w k ≡ None → Tells (line.RefusedFrame number k (length w.frames) ∷ []) w t
   pub bytes : (f : Frame) → frame_at w k ≡ Some f → Tells (line.BytesOf k (frame_bytes f) ∷ []) w t
 
 -- Steps
 
 -- what happens at a step of the line of this number
-abbrev pub Happens : Net → ℕ → Step → World → Told → Type 0
+abbrev pub Happens : Net → ℕ → Step → World → Transition → Type 0
 Happens net number (step.Clock now) w t = SetsClock now w t
 Happens net number (step.Publish p n None e) w t = IsPublished net p n e w t
 Happens net number (step.Publish p n (Some stop) e) w t = Stops net number p n stop e w t

@@ -36,14 +36,14 @@ n_is v = int_event (110 ∷ []) v
 abbrev pub clock : ℕ → Step
 clock n = step.Clock n
 
-abbrev pub publish : ℕ → Event → Step
-publish n e = step.Publish 0 n None e
+abbrev pub publishing : ℕ → Event → Step
+publishing n e = step.Publish 0 n None e
 
 abbrev pub deliver : ℕ → Step
 deliver k = step.Deliver k
 
-abbrev pub wake : ℕ → Step
-wake b = step.Wake b
+abbrev pub waking : ℕ → Step
+waking b = step.Wake b
 
 abbrev run : {V : Type 0} → V → ℕ → ℕ → Run V
 run v first last = record { first = first; last = last; value = v }
@@ -60,8 +60,8 @@ final first last = run F first last
 abbrev pub asked : ℕ → ℕ → Run Q3
 asked first last = run C first last
 
-abbrev pub acknowledged : ℕ → ℕ → Run Q3
-acknowledged first last = run A first last
+abbrev pub acknowledging : ℕ → ℕ → Run Q3
+acknowledging first last = run A first last
 
 -- steps with the numbers of their lines, from n on
 abbrev pub lined : ℕ → List Step → List Line
@@ -82,7 +82,7 @@ is_end _ = false
 
 -- a publish that stops within, then the same publish
 unfoldable pub stopped_then_again : ℕ → ℕ → List Step
-stopped_then_again call pick = clock 1000 ∷ step.Publish 0 1 (Some (record { call = call; pick = pick })) (n_is 1) ∷ publish 1 (n_is 1) ∷ []
+stopped_then_again call pick = clock 1000 ∷ step.Publish 0 1 (Some (record { call = call; pick = pick })) (n_is 1) ∷ publishing 1 (n_is 1) ∷ []
 
 unfoldable pub lost_lines : List Report
 lost_lines = line.Crashed 0 ∷ line.Lost 0 1 1000 ∷ line.Logged 0 1 1000 ∷ line.SentKnow 1 0 1 0 (silent 1 999 ∷ event (n_is 1) 1000 1000 ∷ []) ∷ []
@@ -92,15 +92,15 @@ kept_lines = line.Crashed 0 ∷ line.Kept 0 1 1000 ∷ line.Opened 0 1 1000 0 �
 
 -- lost frames, two crashes, a sweep and a show
 unfoldable pub losses_then_sweep : List Step
-losses_then_sweep = clock 1000 ∷ publish 1 (n_is 1) ∷ clock 2000 ∷ publish 2 (n_is 2) ∷ clock 3000 ∷ publish 3 (n_is 3) ∷ deliver 3 ∷ deliver 2 ∷ wake 0 ∷ clock 3100 ∷ wake 2 ∷ step.Crash 4 ∷ step.Crash 3 ∷ step.Sweep ∷ step.Show ∷ []
+losses_then_sweep = clock 1000 ∷ publishing 1 (n_is 1) ∷ clock 2000 ∷ publishing 2 (n_is 2) ∷ clock 3000 ∷ publishing 3 (n_is 3) ∷ deliver 3 ∷ deliver 2 ∷ waking 0 ∷ clock 3100 ∷ waking 2 ∷ step.Crash 4 ∷ step.Crash 3 ∷ step.Sweep ∷ step.Show ∷ []
 
 -- a crash of a whole branch and of the host, a sweep and a show
 unfoldable pub crashes_then_sweep : List Step
-crashes_then_sweep = clock 1000 ∷ publish 1 (int_event price 90) ∷ publish 2 (int_event price 7) ∷ deliver 1 ∷ deliver 3 ∷ deliver 5 ∷ deliver 6 ∷ deliver 7 ∷ wake 3 ∷ deliver 8 ∷ wake 2 ∷ wake 1 ∷ step.Crash 3 ∷ step.Crash 0 ∷ step.Crash 2 ∷ step.Sweep ∷ step.Show ∷ []
+crashes_then_sweep = clock 1000 ∷ publishing 1 (int_event price 90) ∷ publishing 2 (int_event price 7) ∷ deliver 1 ∷ deliver 3 ∷ deliver 5 ∷ deliver 6 ∷ deliver 7 ∷ waking 3 ∷ deliver 8 ∷ waking 2 ∷ waking 1 ∷ step.Crash 3 ∷ step.Crash 0 ∷ step.Crash 2 ∷ step.Sweep ∷ step.Show ∷ []
 
 -- a branch of two brokers crashes with what it has heard, and asks again
 unfoldable pub branch_crashes : List Step
-branch_crashes = clock 1000 ∷ publish 1 (n_is 1) ∷ deliver 1 ∷ deliver 2 ∷ wake 2 ∷ step.Crash 2 ∷ step.Crash 1 ∷ deliver 3 ∷ clock 2100 ∷ wake 2 ∷ deliver 4 ∷ deliver 5 ∷ []
+branch_crashes = clock 1000 ∷ publishing 1 (n_is 1) ∷ deliver 1 ∷ deliver 2 ∷ waking 2 ∷ step.Crash 2 ∷ step.Crash 1 ∷ deliver 3 ∷ clock 2100 ∷ waking 2 ∷ deliver 4 ∷ deliver 5 ∷ []
 
 -- the calls of a sweep after some steps
 unfoldable pub calls_after : Net → List Step → List Call
@@ -116,7 +116,7 @@ heard_upto net steps b =
 
 pub record WorkedExamples : Type 0 where
   -- A published event and the silence before it reach the subscriber in one frame
-  pub published_is_got : report net0 (clock 1000 ∷ publish 1 (n_is 82) ∷ deliver 1 ∷ []) ≡
+  pub published_is_got : report net0 (clock 1000 ∷ publishing 1 (n_is 82) ∷ deliver 1 ∷ []) ≡
       line.Logged 0 1 1000 ∷
       line.SentKnow 1 0 1 0 (silent 1 999 ∷ event (n_is 82) 1000 1000 ∷ []) ∷
       line.Got 0 0 1000 (n_is 82) ∷
@@ -124,15 +124,15 @@ pub record WorkedExamples : Type 0 where
   -- A schedule without steps tells nothing
   pub nothing_tells_nothing : report net0 [] ≡ []
   -- Two publishes at one moment get two ticks
-  pub each_tick_once : report net0 (clock 1000 ∷ publish 1 (n_is 1) ∷ publish 2 (n_is 2) ∷ []) ≡
+  pub each_tick_once : report net0 (clock 1000 ∷ publishing 1 (n_is 1) ∷ publishing 2 (n_is 2) ∷ []) ≡
       line.Logged 0 1 1000 ∷
       line.SentKnow 1 0 1 0 (silent 1 999 ∷ event (n_is 1) 1000 1000 ∷ []) ∷
       line.Logged 0 2 1001 ∷
       line.SentKnow 2 0 1 0 (event (n_is 2) 1001 1001 ∷ []) ∷ []
   -- The clock may go back: ticks still rise
-  pub clock_may_go_back : report net0 (clock 1000 ∷ publish 1 (n_is 1) ∷ clock 10 ∷ publish 2 (n_is 2) ∷ []) ≡ report net0 (clock 1000 ∷ publish 1 (n_is 1) ∷ publish 2 (n_is 2) ∷ [])
+  pub clock_may_go_back : report net0 (clock 1000 ∷ publishing 1 (n_is 1) ∷ clock 10 ∷ publishing 2 (n_is 2) ∷ []) ≡ report net0 (clock 1000 ∷ publishing 1 (n_is 1) ∷ publishing 2 (n_is 2) ∷ [])
   -- A lost frame is asked for, once while that ask is outstanding, and then both events are got in order
-  pub lost_is_asked : report net0 (clock 1000 ∷ publish 1 (n_is 1) ∷ clock 2000 ∷ publish 2 (n_is 2) ∷ deliver 2 ∷ wake 1 ∷ wake 1 ∷ deliver 3 ∷ deliver 4 ∷ []) ≡
+  pub lost_is_asked : report net0 (clock 1000 ∷ publishing 1 (n_is 1) ∷ clock 2000 ∷ publishing 2 (n_is 2) ∷ deliver 2 ∷ waking 1 ∷ waking 1 ∷ deliver 3 ∷ deliver 4 ∷ []) ≡
       line.Logged 0 1 1000 ∷
       line.SentKnow 1 0 1 0 (silent 1 999 ∷ event (n_is 1) 1000 1000 ∷ []) ∷
       line.Logged 0 2 2000 ∷
@@ -143,7 +143,7 @@ pub record WorkedExamples : Type 0 where
       line.Got 0 0 2000 (n_is 2) ∷
       line.Horizon 0 0 2000 ∷ []
   -- Frames may come out of order and twice: each event is got once, in order
-  pub repeats_are_got_once : report net0 (clock 1000 ∷ publish 1 (n_is 1) ∷ clock 2000 ∷ publish 2 (n_is 2) ∷ deliver 2 ∷ deliver 1 ∷ deliver 2 ∷ deliver 1 ∷ []) ≡
+  pub repeats_are_got_once : report net0 (clock 1000 ∷ publishing 1 (n_is 1) ∷ clock 2000 ∷ publishing 2 (n_is 2) ∷ deliver 2 ∷ deliver 1 ∷ deliver 2 ∷ deliver 1 ∷ []) ≡
       line.Logged 0 1 1000 ∷
       line.SentKnow 1 0 1 0 (silent 1 999 ∷ event (n_is 1) 1000 1000 ∷ []) ∷
       line.Logged 0 2 2000 ∷
@@ -152,7 +152,7 @@ pub record WorkedExamples : Type 0 where
       line.Got 0 0 2000 (n_is 2) ∷
       line.Horizon 0 0 2000 ∷ []
   -- Where the horizon moves on, an event below it that a child has not acknowledged yet is not got again
-  pub each_is_got_once : report inner_net (clock 1000 ∷ publish 1 (n_is 1) ∷ deliver 1 ∷ publish 2 (n_is 2) ∷ deliver 4 ∷ []) ≡
+  pub each_is_got_once : report inner_net (clock 1000 ∷ publishing 1 (n_is 1) ∷ deliver 1 ∷ publishing 2 (n_is 2) ∷ deliver 4 ∷ []) ≡
       line.Logged 0 1 1000 ∷
       line.SentKnow 1 0 1 0 (silent 1 999 ∷ event (n_is 1) 1000 1000 ∷ []) ∷
       line.Got 0 0 1000 (n_is 1) ∷
@@ -166,18 +166,18 @@ pub record WorkedExamples : Type 0 where
       line.SentKnow 5 1 2 0 (event (n_is 2) 1001 1001 ∷ []) ∷
       line.SentKnow 6 1 3 0 (silent 1001 1001 ∷ []) ∷ []
   -- An event that no subscriber beyond an edge wants passes it as silence
-  pub unwanted_is_silence : report net1 (clock 1000 ∷ publish 1 (int_event price 70) ∷ deliver 1 ∷ []) ≡
+  pub unwanted_is_silence : report net1 (clock 1000 ∷ publishing 1 (int_event price 70) ∷ deliver 1 ∷ []) ≡
       line.Logged 0 1 1000 ∷
       line.SentKnow 1 0 1 0 (silent 1 1000 ∷ []) ∷
       line.Horizon 0 0 1000 ∷ []
   -- Neither a filter nor its negation is true of an event without the name
-  pub no_filter_on_missing : report net1_both (clock 1000 ∷ publish 1 (int_event (113 ∷ 116 ∷ 121 ∷ []) 5) ∷ deliver 1 ∷ []) ≡
+  pub no_filter_on_missing : report net1_both (clock 1000 ∷ publishing 1 (int_event (113 ∷ 116 ∷ 121 ∷ []) 5) ∷ deliver 1 ∷ []) ≡
       line.Logged 0 1 1000 ∷
       line.SentKnow 1 0 1 0 (silent 1 1000 ∷ []) ∷
       line.Horizon 0 0 1000 ∷
       line.Horizon 1 0 1000 ∷ []
   -- A crashed broker has forgotten all, and passes the ask and the answer on
-  pub crashed_broker_asks_on : report net2 (clock 1000 ∷ publish 1 (n_is 1) ∷ deliver 1 ∷ step.Crash 1 ∷ clock 2100 ∷ wake 2 ∷ deliver 3 ∷ deliver 4 ∷ deliver 5 ∷ deliver 6 ∷ deliver 2 ∷ []) ≡
+  pub crashed_broker_asks_on : report net2 (clock 1000 ∷ publishing 1 (n_is 1) ∷ deliver 1 ∷ step.Crash 1 ∷ clock 2100 ∷ waking 2 ∷ deliver 3 ∷ deliver 4 ∷ deliver 5 ∷ deliver 6 ∷ deliver 2 ∷ []) ≡
       line.Logged 0 1 1000 ∷
       line.SentKnow 1 0 1 0 (silent 1 999 ∷ event (n_is 1) 1000 1000 ∷ []) ∷
       line.SentKnow 2 1 2 0 (silent 1 999 ∷ event (n_is 1) 1000 1000 ∷ []) ∷
@@ -189,7 +189,7 @@ pub record WorkedExamples : Type 0 where
       line.Got 0 0 1000 (n_is 1) ∷
       line.Horizon 0 0 1000 ∷ []
   -- After a crash the host remembers how far it told silence, although the clock went back
-  pub mark_outlives_crash : report net0 (clock 5000 ∷ wake 0 ∷ step.Crash 0 ∷ clock 3000 ∷ publish 1 (n_is 1) ∷ deliver 3 ∷ deliver 1 ∷ []) ≡
+  pub mark_outlives_crash : report net0 (clock 5000 ∷ waking 0 ∷ step.Crash 0 ∷ clock 3000 ∷ publishing 1 (n_is 1) ∷ deliver 3 ∷ deliver 1 ∷ []) ≡
       line.Mark 0 5000 ∷
       line.SentKnow 1 0 1 0 (silent 1 5000 ∷ []) ∷
       line.SentExpect 2 0 1 0 5000 ∷
@@ -200,7 +200,7 @@ pub record WorkedExamples : Type 0 where
       line.Got 0 0 5001 (n_is 1) ∷
       line.Horizon 0 0 5001 ∷ []
   -- Two children ask for the same ticks: the broker between asks once and answers both
-  pub two_asks_go_up_once : report net3 (clock 1000 ∷ publish 1 (n_is 1) ∷ clock 2100 ∷ wake 2 ∷ wake 3 ∷ deliver 2 ∷ deliver 3 ∷ deliver 4 ∷ deliver 5 ∷ deliver 6 ∷ deliver 7 ∷ []) ≡
+  pub two_asks_go_up_once : report net3 (clock 1000 ∷ publishing 1 (n_is 1) ∷ clock 2100 ∷ waking 2 ∷ waking 3 ∷ deliver 2 ∷ deliver 3 ∷ deliver 4 ∷ deliver 5 ∷ deliver 6 ∷ deliver 7 ∷ []) ≡
       line.Logged 0 1 1000 ∷
       line.SentKnow 1 0 1 0 (silent 1 999 ∷ event (n_is 1) 1000 1000 ∷ []) ∷
       line.SentWant 2 2 1 0 (asked 1 1100 ∷ []) ∷
@@ -214,7 +214,7 @@ pub record WorkedExamples : Type 0 where
       line.Got 1 0 1000 (n_is 1) ∷
       line.Horizon 1 0 1000 ∷ []
   -- The log is cut where every child has acknowledged, and the host tells the others what to expect
-  pub cut_when_all_have_acknowledged : report net4 (clock 1000 ∷ publish 1 (n_is 1) ∷ deliver 1 ∷ deliver 2 ∷ wake 1 ∷ deliver 3 ∷ wake 0 ∷ wake 2 ∷ deliver 5 ∷ wake 0 ∷ step.Show ∷ step.Bytes 4 ∷ []) ≡
+  pub cut_when_all_have_acknowledged : report net4 (clock 1000 ∷ publishing 1 (n_is 1) ∷ deliver 1 ∷ deliver 2 ∷ waking 1 ∷ deliver 3 ∷ waking 0 ∷ waking 2 ∷ deliver 5 ∷ waking 0 ∷ step.Show ∷ step.Bytes 4 ∷ []) ≡
       line.Logged 0 1 1000 ∷
       line.SentKnow 1 0 1 0 (silent 1 999 ∷ event (n_is 1) 1000 1000 ∷ []) ∷
       line.SentKnow 2 0 2 0 (silent 1 999 ∷ event (n_is 1) 1000 1000 ∷ []) ∷
@@ -222,9 +222,9 @@ pub record WorkedExamples : Type 0 where
       line.Horizon 0 0 1000 ∷
       line.Got 1 0 1000 (n_is 1) ∷
       line.Horizon 1 0 1000 ∷
-      line.SentWant 3 1 0 0 (acknowledged 1 1000 ∷ []) ∷
+      line.SentWant 3 1 0 0 (acknowledging 1 1000 ∷ []) ∷
       line.SentExpect 4 0 2 0 1000 ∷
-      line.SentWant 5 2 0 0 (acknowledged 1 1000 ∷ []) ∷
+      line.SentWant 5 2 0 0 (acknowledging 1 1000 ∷ []) ∷
       line.Cut 0 1000 ∷
       line.Frames 5 ∷
       line.LogOf 0 1 1000 1000 0 ∷
@@ -232,33 +232,33 @@ pub record WorkedExamples : Type 0 where
       line.Doubt 2 0 1000 ∷
       line.BytesOf 4 (0x47 ∷ 0x4b ∷ 1 ∷ 3 ∷ 0 ∷ 0 ∷ 0 ∷ 2 ∷ 0 ∷ 0 ∷ 0 ∷ 1 ∷ 0 ∷ 0 ∷ 0 ∷ 0 ∷ 0 ∷ 0 ∷ 0x03 ∷ 0xe8 ∷ []) ∷ []
   -- After crashes of a whole branch a sweep brings all to its moment
-  pub sweep_settles : report net5 (clock 1000 ∷ publish 1 (n_is 1) ∷ deliver 1 ∷ deliver 2 ∷ wake 2 ∷ step.Crash 2 ∷ step.Crash 1 ∷ deliver 3 ∷ clock 2100 ∷ wake 2 ∷ deliver 4 ∷ deliver 5 ∷ step.Sweep ∷ step.Show ∷ []) ≡
+  pub sweep_settles : report net5 (clock 1000 ∷ publishing 1 (n_is 1) ∷ deliver 1 ∷ deliver 2 ∷ waking 2 ∷ step.Crash 2 ∷ step.Crash 1 ∷ deliver 3 ∷ clock 2100 ∷ waking 2 ∷ deliver 4 ∷ deliver 5 ∷ step.Sweep ∷ step.Show ∷ []) ≡
       line.Logged 0 1 1000 ∷
       line.SentKnow 1 0 1 0 (silent 1 1000 ∷ []) ∷
       line.SentKnow 2 1 2 0 (silent 1 1000 ∷ []) ∷
-      line.SentWant 3 2 1 0 (acknowledged 1 1000 ∷ []) ∷
+      line.SentWant 3 2 1 0 (acknowledging 1 1000 ∷ []) ∷
       line.Crashed 2 ∷
       line.Crashed 1 ∷
       line.SentWant 4 2 1 0 (asked 1 1100 ∷ []) ∷
       line.SentKnow 5 1 2 0 (final 1 1000 ∷ []) ∷
       line.SentWant 6 1 0 0 (asked 1001 1100 ∷ []) ∷
-      line.SentWant 7 2 1 0 (acknowledged 1 1000 ∷ asked 1001 3801 ∷ []) ∷
+      line.SentWant 7 2 1 0 (acknowledging 1 1000 ∷ asked 1001 3801 ∷ []) ∷
       line.SentWant 8 1 0 0 (asked 1001 3801 ∷ []) ∷
-      line.SentWant 9 1 0 0 (acknowledged 1 1000 ∷ []) ∷
+      line.SentWant 9 1 0 0 (acknowledging 1 1000 ∷ []) ∷
       line.Mark 0 4801 ∷
       line.Cut 0 1000 ∷
       line.SentKnow 10 0 1 0 (silent 1001 4801 ∷ []) ∷
       line.SentExpect 11 0 1 0 4801 ∷
       line.SentKnow 12 1 2 0 (silent 1001 4801 ∷ []) ∷
-      line.SentWant 13 2 1 0 (acknowledged 1 4801 ∷ []) ∷
-      line.SentWant 14 1 0 0 (acknowledged 1 4801 ∷ []) ∷
+      line.SentWant 13 2 1 0 (acknowledging 1 4801 ∷ []) ∷
+      line.SentWant 14 1 0 0 (acknowledging 1 4801 ∷ []) ∷
       line.Cut 0 4801 ∷
       line.Swept 4801 ∷
       line.Frames 14 ∷
       line.LogOf 0 1 4801 4801 0 ∷
       line.Doubt 2 0 4801 ∷ []
   -- A repeated number is told as such, and so is a skipped one
-  pub numbers_stand_once : report net0 (clock 1000 ∷ publish 1 (n_is 1) ∷ publish 1 (n_is 1) ∷ publish 5 (n_is 5) ∷ []) ≡
+  pub numbers_stand_once : report net0 (clock 1000 ∷ publishing 1 (n_is 1) ∷ publishing 1 (n_is 1) ∷ publishing 5 (n_is 5) ∷ []) ≡
       line.Logged 0 1 1000 ∷
       line.SentKnow 1 0 1 0 (silent 1 999 ∷ event (n_is 1) 1000 1000 ∷ []) ∷
       line.Already 0 1 ∷
@@ -267,7 +267,7 @@ pub record WorkedExamples : Type 0 where
   pub stopped_is_kept_or_lost : (call pick : ℕ) → report net0 (stopped_then_again call pick) ≡ (if is_kept 5 call pick then kept_lines else lost_lines)
   pub kept_picks : (filter (is_kept 5 1) (numbers 256) ≡ []) × (filter (is_kept 5 2) (numbers 256) ≡ []) × (filter (is_kept 5 3) (numbers 256) ≡ 1 ∷ 205 ∷ []) × (filter (is_kept 5 4) (numbers 256) ≡ 1 ∷ 205 ∷ [])
   -- What the host says to expect is asked for at once
-  pub expected_is_asked : report net0 (clock 1000 ∷ publish 1 (n_is 1) ∷ wake 0 ∷ deliver 2 ∷ deliver 3 ∷ deliver 4 ∷ []) ≡
+  pub expected_is_asked : report net0 (clock 1000 ∷ publishing 1 (n_is 1) ∷ waking 0 ∷ deliver 2 ∷ deliver 3 ∷ deliver 4 ∷ []) ≡
       line.Logged 0 1 1000 ∷
       line.SentKnow 1 0 1 0 (silent 1 999 ∷ event (n_is 1) 1000 1000 ∷ []) ∷
       line.SentExpect 2 0 1 0 1000 ∷
@@ -276,7 +276,7 @@ pub record WorkedExamples : Type 0 where
       line.Got 0 0 1000 (n_is 1) ∷
       line.Horizon 0 0 1000 ∷ []
   -- A broker that keeps one event asks upstream for the one that it has forgotten
-  pub forgotten_is_asked_on : report net2_forgetful (clock 1000 ∷ publish 1 (n_is 1) ∷ clock 2000 ∷ publish 2 (n_is 2) ∷ deliver 1 ∷ deliver 2 ∷ clock 3100 ∷ wake 2 ∷ deliver 5 ∷ deliver 7 ∷ deliver 8 ∷ deliver 6 ∷ deliver 9 ∷ []) ≡
+  pub forgotten_is_asked_on : report net2_forgetful (clock 1000 ∷ publishing 1 (n_is 1) ∷ clock 2000 ∷ publishing 2 (n_is 2) ∷ deliver 1 ∷ deliver 2 ∷ clock 3100 ∷ waking 2 ∷ deliver 5 ∷ deliver 7 ∷ deliver 8 ∷ deliver 6 ∷ deliver 9 ∷ []) ≡
       line.Logged 0 1 1000 ∷
       line.SentKnow 1 0 1 0 (silent 1 999 ∷ event (n_is 1) 1000 1000 ∷ []) ∷
       line.Logged 0 2 2000 ∷
@@ -293,7 +293,7 @@ pub record WorkedExamples : Type 0 where
       line.Got 0 0 2000 (n_is 2) ∷
       line.Horizon 0 0 2000 ∷ []
   -- Past the last tick nothing is published and no sweep is made
-  pub last_tick : report net0 (clock 4611686018427387904 ∷ publish 1 (n_is 1) ∷ publish 2 (n_is 2) ∷ step.Sweep ∷ []) ≡
+  pub last_tick : report net0 (clock 4611686018427387904 ∷ publishing 1 (n_is 1) ∷ publishing 2 (n_is 2) ∷ step.Sweep ∷ []) ≡
       line.Logged 0 1 4611686018427387904 ∷
       line.SentKnow 1 0 1 0 (silent 1 4611686018427387903 ∷ event (n_is 1) 4611686018427387904 4611686018427387904 ∷ []) ∷
       line.Exhausted 0 2 ∷
@@ -305,7 +305,7 @@ pub record WorkedExamples : Type 0 where
       line.Crashed 0 ∷
       line.Lost 0 1 1 ∷ []
   -- Equal events at ticks in a row are one run, and are got one by one
-  pub equal_events_are_one_run : report net0 (clock 1000 ∷ publish 1 (n_is 7) ∷ publish 2 (n_is 7) ∷ clock 2100 ∷ wake 1 ∷ deliver 3 ∷ deliver 4 ∷ []) ≡
+  pub equal_events_are_one_run : report net0 (clock 1000 ∷ publishing 1 (n_is 7) ∷ publishing 2 (n_is 7) ∷ clock 2100 ∷ waking 1 ∷ deliver 3 ∷ deliver 4 ∷ []) ≡
       line.Logged 0 1 1000 ∷
       line.SentKnow 1 0 1 0 (silent 1 999 ∷ event (n_is 7) 1000 1000 ∷ []) ∷
       line.Logged 0 2 1001 ∷

@@ -18,7 +18,7 @@ use Rattle.gr_theorems.specs.Truth.{Facts, TrueF, KnowsTruth, WantsTruth, AllWan
 use Rattle.gr_model.specs.Tree.{IsSubscriber}
 use Rattle.gr_theorems.specs.Said.{said_at, TicksRise, due_upto}
 use Rattle.gr_model.specs.declared.report.Report.{Report}
-use Rattle.gr_model.specs.Headline.{History, history, begin, gots, last_horizon, HorizonsRise}
+use Rattle.gr_model.specs.Headline.{History, history, begin, delivered_events, last_horizon, HorizonsRise}
 
 -- what a log and the horizons of the subscribers say
 abbrev pub facts : Log → (ℕ → ℕ) → Facts
@@ -104,7 +104,7 @@ pub record WorldFits (net : Net) (w : World) : Type 0 where
 
 -- what the lines so far have told each subscriber
 pub record LinesFit (net : Net) (w : World) (ls : List Report) : Type 0 where
-  pub got : (p s : ℕ) → p < net.publishers → IsSubscriber net s → gots s p ls ≡ due_upto net p s (reached_in net w p s) (log_of w p).events
+  pub got : (p s : ℕ) → p < net.publishers → IsSubscriber net s → delivered_events s p ls ≡ due_upto net p s (reached_in net w p s) (log_of w p).events
   pub horizon : (p s : ℕ) → p < net.publishers → IsSubscriber net s → last_horizon s p 0 ls ≡ reached_in net w p s
   pub rise : (p s : ℕ) → p < net.publishers → IsSubscriber net s → HorizonsRise s p 0 ls
 

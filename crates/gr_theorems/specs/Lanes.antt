@@ -9,7 +9,7 @@ use Rattle.gr_sched.specs.declared.step.Line.{Line}
 use Rattle.gr_model.specs.declared.report.Report.{Report}
 use Rattle.gr_model.specs.Net.{Net, numbers}
 use Rattle.gr_model.specs.Broker.{Log}
-use Rattle.gr_model.specs.World.{World, Told}
+use Rattle.gr_model.specs.World.{World, Transition}
 use Rattle.gr_model.specs.Opening.{begin_over}
 use Rattle.gr_model.specs.Headline.{Holds_from}
 use Rattle.gr_model.specs.Arrivals.{Arrival, publishes_of, served, arrived}
@@ -73,7 +73,7 @@ pub record IsServedOverLanes (net : Net) (lanes : List (List Record)) (steps : L
 -- A schedule that begins on the logs of lanes: the headline holds, where the record begins with what was found
 abbrev pub HoldsOverLanes : Net → List (List Record) → List Line → Type 0
 HoldsOverLanes net lanes steps =
-    let o : Told = opened_over net (whole_logs lanes) in
+    let o : Transition = opened_over net (whole_logs lanes) in
     Holds_from net (begin_over net (found_logs lanes) o.lines) steps (report_over net (whole_logs lanes) steps)
 
 -- A server over lanes: so does its headline

@@ -8,7 +8,7 @@ use Rattle.gr_model.specs.declared.report.Report.{Report}
 use Rattle.gr_model.specs.declared.report.Report.TheVariants as line
 use Rattle.gr_model.specs.Net.{Net, not_empty, numbers}
 use Rattle.gr_model.specs.Broker.{View, Log, Outcome, max_tick, started}
-use Rattle.gr_model.specs.World.{World, Told, view_of, log_of, with_view, sent_lines, in_turn, publish_now, frame_at, next, start}
+use Rattle.gr_model.specs.World.{World, Transition, view_of, log_of, with_view, sent_lines, in_turn, publish_now, frame_at, next, start}
 use Rattle.gr_model.specs.Headline.{says_kept}
 use Rattle.gr_theorems.specs.Settles.{Call, wakes, delivers, made, at_sweep, sweep_calls, is_accepted}
 use Rattle.gr_theorems.specs.Rules.{Publishes, Wakes, Comes}
@@ -19,12 +19,12 @@ pub data Action : Type 0 where
   makes : Call → Action
 
 -- what it does
-abbrev pub done : Net → World → Action → Told
+abbrev pub done : Net → World → Action → Transition
 done net w (publishes p number e) = publish_now net w p number e
 done net w (makes c) = made net w c
 
 -- one after another
-abbrev pub all_done : Net → List Action → World → Told
+abbrev pub all_done : Net → List Action → World → Transition
 all_done net cs w = in_turn (done net) cs w
 
 -- The call of broker b for publisher p has an outcome by the rule, of the view and the log that b and p have now
@@ -98,7 +98,7 @@ crashed_in [] = None
 crashed_in (l ∷ ls) = crashed_by_line l
 
 -- what a step's calls leave and tell
-abbrev pub called : Net → World → Line → Told
+abbrev pub called : Net → World → Line → Transition
 called net w l = all_done net (calls_of net w l) (called_in net w l)
 
 -- Of one step and its lines

@@ -7,14 +7,14 @@ use Rattle.gr_model.specs.Net.{Net}
 use Rattle.gr_sched.specs.declared.step.Line.{Line}
 use Rattle.gr_sched.specs.declared.step.Step.{Step}
 use Rattle.gr_sched.specs.declared.step.Step.TheVariants as step
-use Rattle.gr_model.specs.Headline.{History, record_of, found_in, last_cut, is_sent}
+use Rattle.gr_model.specs.Headline.{History, record_of, reopened_cut, last_cut, is_sent}
 use Rattle.gr_model.specs.Tree.{IsSubscriber}
 use Rattle.gr_model.specs.World.{start, run_all, sent_lines}
 use Rattle.gr_theorems.specs.Fits.{history_of}
 
 -- discarded only after delivery, for one publisher: cuts rise strictly, none is past what is settled, and each event up to a cut was got before it by each subscriber that wants it
 pub record CutsInOrder (net : Net) (h : History) (p : ℕ) : Type 0 where
-  pub cuts : (t : ℕ) (xs ys : List Report) → h.lines ≡ xs ++ line.Cut p t ∷ ys → last_cut p (found_in h p) xs < t
+  pub cuts : (t : ℕ) (xs ys : List Report) → h.lines ≡ xs ++ line.Cut p t ∷ ys → last_cut p (reopened_cut h p) xs < t
   pub cut_settled : (t : ℕ) (xs ys : List Report) → h.lines ≡ xs ++ line.Cut p t ∷ ys → t ≤ (record_of h p).settled
   pub cut_got : (t : ℕ) (xs ys : List Report) → h.lines ≡ xs ++ line.Cut p t ∷ ys →
       (s u : ℕ) (e : Event) → Contains (record_of h p).events (u, e) → u ≤ t → IsSubscriber net s → net.wants p s u e ≡ true → Contains xs (line.Got s p u e)

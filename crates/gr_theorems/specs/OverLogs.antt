@@ -7,7 +7,7 @@ use Rattle.gr_sched.specs.declared.step.Line.{Line}
 use Rattle.gr_model.specs.declared.report.Report.{Report}
 use Rattle.gr_model.specs.Net.{Net, numbers}
 use Rattle.gr_model.specs.Broker.{Log, clashes}
-use Rattle.gr_model.specs.World.{World, Told, view_of, frame_at, run_all, run_from}
+use Rattle.gr_model.specs.World.{World, Transition, view_of, frame_at, run_all, run_from}
 use Rattle.gr_model.specs.Headline.{History, history}
 use Rattle.gr_model.specs.Opening.{opening, begin_over}
 use Rattle.gr_theorems.specs.Statements.{opened_over, NothingClashes}

@@ -8,7 +8,7 @@ use Rattle.gr_sched.specs.declared.step.Line.{Line}
 use Rattle.gr_model.specs.declared.report.Report.{Report}
 use Rattle.gr_model.specs.declared.report.Report.TheVariants as line
 use Rattle.gr_model.specs.Net.{Net, numbers_from}
-use Rattle.gr_model.specs.Headline.{History, begin, after, may_crash, is_swept, sweep_at, is_sent, sent_number, sent_count, line_of_frame}
+use Rattle.gr_model.specs.Headline.{History, begin, history_after, may_crash, is_swept, sweep_at, is_sent, sent_number, sent_count, line_of_frame}
 
 -- the line refuses its step, or shows the bytes of a frame
 abbrev pub is_reply : Report → Bool
@@ -51,7 +51,7 @@ pub record StepReplied (net : Net) (h : History) (l : Line) (ls : List Report) :
 -- the same of each step
 abbrev pub Replied_from : Net → History → List Line → List (List Report) → Type 0
 Replied_from net h [] [] = Unit {0}
-Replied_from net h (l ∷ ls) (r ∷ rs) = StepReplied net h l r × Replied_from net (after net h l r) ls rs
+Replied_from net h (l ∷ ls) (r ∷ rs) = StepReplied net h l r × Replied_from net (history_after net h l r) ls rs
 Replied_from net h [] (r ∷ rs) = ⊥
 Replied_from net h (l ∷ ls) [] = ⊥
 

@@ -17,7 +17,7 @@ use Rattle.gr_tick.specs.Runs.{AreRuns, top_of}
 use Rattle.gr_know.specs.Values.{Known, known_at, is_Q, is_D, join_K, new_K}
 use Rattle.gr_curio.specs.Values.{Wanted, Asked, wanted_at, asked_at, is_C, is_A, is_outstanding}
 use Rattle.gr_model.specs.Net.{Net, keeps_horizon, is_host, pass}
-use Rattle.gr_model.specs.Broker.{View, Log, Outcome, max_tick, is_F, know_frames, expect_frame, up_frames, is_settled, any_C, data_count, place_of, told, with_event, with_mark, with_cut}
+use Rattle.gr_model.specs.Broker.{View, Log, Outcome, max_tick, is_F, know_frames, expect_frame, up_frames, is_consolidated_by, any_C, data_count, place_of, delivery_lines, with_event, with_mark, with_cut}
 pub use Rattle.gr_model.specs.Broker.{unmoved, says}
 pub use Rattle.gr_subend.specs.Said.{event_of}
 use Rattle.gr_theorems.specs.Said.{said_at, TicksRise}
@@ -82,7 +82,7 @@ pub record Forgets (net : Net) (p b h : ℕ) (full kept : Known) : Type 0 where
 -- the broker forgets.
 pub record Knows (net : Net) (p b : ℕ) (at : ℕ → K) (u : View) : Type 0 where
   pub full : Known
-  pub full_is : HasKnown (λ t. if is_settled (keeps_horizon net p b) u.horizon u.wants t then F else at t) full
+  pub full_is : HasKnown (λ t. if is_consolidated_by (keeps_horizon net p b) u.horizon u.wants t then F else at t) full
   pub forgets : Forgets net p b u.horizon full u.know
 
 -- Of the asks the moments are kept, but below the host none where the tick is final afterwards: it is never asked again.
@@ -91,11 +91,11 @@ KeepsMoments net p b at u = HasAsked (λ t. if is_F (known_at u.know t) && not (
 
 -- Where the horizon moves from h to k, each subscriber here, in order, is told the events of the ticks past h and up to k that
 -- it wants, by rising tick, and then k (`told`).
-pub record TellsOn (net : Net) (p b h k : ℕ) (at : ℕ → K) (ls : List Report) : Type 0 where
+pub record DeliversOn (net : Net) (p b h k : ℕ) (at : ℕ → K) (ls : List Report) : Type 0 where
   pub passed : List (ℕ × Event)
   pub rise : TicksRise 0 passed
   pub each : (t : ℕ) → said_at passed t ≡ (if nat_lt h t && nat_le t k then event_of (at t) else None)
-  pub lines : ls ≡ flat_map (told net p h k passed) (net.subscribers_at b)
+  pub lines : ls ≡ flat_map (delivery_lines net p h k passed) (net.subscribers_at b)
 
 -- New ticks
 
@@ -117,7 +117,7 @@ pub record NewTicks (net : Net) (p b : ℕ) (piece : Known) (v : View) (log : Lo
   pub asks : KeepsMoments net p b (λ t. asked_at v.asks t) o.view
   -- What was known and what came are joined. The horizon moves, and the subscribers are told.
   pub horizon : Moves (keeps_horizon net p b) v.horizon o.view.horizon (λ t. join_K (known_at v.know t) (known_at piece t))
-  pub lines : TellsOn net p b v.horizon o.view.horizon (λ t. join_K (known_at v.know t) (known_at piece t)) o.lines
+  pub lines : DeliversOn net p b v.horizon o.view.horizon (λ t. join_K (known_at v.know t) (known_at piece t)) o.lines
   pub know : Knows net p b (λ t. join_K (known_at v.know t) (known_at piece t)) o.view
   pub log_same : o.log ≡ log
 
@@ -153,7 +153,7 @@ pub record Asks (net : Net) (p b now : ℕ) (wanted : ℕ → Bool) (more : List
   pub asked_is : HasWanted (λ t. if wanted t && is_Q (known_at v.know t) && not (is_outstanding (asked_at v.asks t) now net.retry) then C else N) asked
   -- Upward goes one piece: acknowledged at the consolidated ticks, and else asked at those.
   pub sent : Wanted
-  pub sent_is : HasWanted (λ t. if is_settled (keeps_horizon net p b) v.horizon v.wants t then A else wanted_at asked t) sent
+  pub sent_is : HasWanted (λ t. if is_consolidated_by (keeps_horizon net p b) v.horizon v.wants t then A else wanted_at asked t) sent
   pub frames : o.frames ≡ up_frames net p b sent ++ more
   -- The asks are of now. Nothing else is changed but what is forgotten.
   pub asks : KeepsMoments net p b (λ t. if is_C (wanted_at asked t) then At now else asked_at v.asks t) o.view
@@ -173,7 +173,7 @@ abbrev pub wanted_upto : Net → ℕ → ℕ → ℕ → View → ℕ → Bool
 wanted_upto net p b tick v t = any_C v.wants t || (keeps_horizon net p b && nat_lt v.horizon t && nat_le t tick)
 
 -- Expect of a tick goes to each child, in order, that has not acknowledged every tick from 1 up to it.
-pub record TellsToExpect (net : Net) (p b tick : ℕ) (v : View) (frames : List Frame) : Type 0 where
+pub record SendsExpect (net : Net) (p b tick : ℕ) (v : View) (frames : List Frame) : Type 0 where
   pub done : ℕ → Bool
   pub is_done : (c : ℕ) → IsChild net p b c → done c ≡ true → (t : ℕ) → 1 ≤ t → t ≤ tick → want_at net p b v c t ≡ A
   pub not_done : (c : ℕ) → IsChild net p b c → done c ≡ false → (t : ℕ) × (1 ≤ t) × (t ≤ tick) × (want_at net p b v c t ≢ A)
@@ -182,7 +182,7 @@ pub record TellsToExpect (net : Net) (p b tick : ℕ) (v : View) (frames : List 
 -- Expect of a tick comes to b
 pub record Expects (net : Net) (p b now tick : ℕ) (v : View) (log : Log) (o : Outcome) : Type 0 where
   pub on : List Frame
-  pub on_is : TellsToExpect net p b tick v on
+  pub on_is : SendsExpect net p b tick v on
   pub asks : Asks net p b now (wanted_upto net p b tick v) on v log o
 
 -- The host
@@ -194,8 +194,8 @@ silence_upto settled now t = if nat_lt settled t && nat_le t now then S else Q
 -- all up to a tick, which is not past what is settled, is consolidated, and the next tick is not or is past what is settled
 pub record IsConsolidatedUpto (net : Net) (p b settled a : ℕ) (v : View) : Type 0 where
   pub within : a ≤ settled
-  pub each : (t : ℕ) → 1 ≤ t → t ≤ a → is_settled (keeps_horizon net p b) v.horizon v.wants t ≡ true
-  pub stops : a < settled → is_settled (keeps_horizon net p b) v.horizon v.wants (suc a) ≡ false
+  pub each : (t : ℕ) → 1 ≤ t → t ≤ a → is_consolidated_by (keeps_horizon net p b) v.horizon v.wants t ≡ true
+  pub stops : a < settled → is_consolidated_by (keeps_horizon net p b) v.horizon v.wants (suc a) ≡ false
 
 -- The host is woken
 pub record HostWakes (net : Net) (p b now : ℕ) (v : View) (log : Log) (o : Outcome) : Type 0 where
@@ -212,7 +212,7 @@ pub record HostWakes (net : Net) (p b now : ℕ) (v : View) (log : Log) (o : Out
   pub no_cut : upto ≤ log.cut → o.log ≡ marked.log
   -- Expect of what is settled goes to the children, where anything is.
   pub expected : List Frame
-  pub expected_is : 1 ≤ o.log.settled → TellsToExpect net p b o.log.settled marked.view expected
+  pub expected_is : 1 ≤ o.log.settled → SendsExpect net p b o.log.settled marked.view expected
   pub none_expected : o.log.settled ≡ 0 → expected ≡ []
   pub frames : o.frames ≡ marked.frames ++ expected
   -- The lines: the mark, the cut, and what the subscribers are told.

@@ -13,7 +13,7 @@ use Rattle.gr_model.specs.Net.{Net, numbers, numbers_from}
 use Rattle.gr_model.specs.Broker.{Log, max_tick}
 use Rattle.gr_model.specs.Opening.{publishers_at, begin_over}
 use Rattle.gr_theorems.specs.Found.{told_at_opening}
-use Rattle.gr_model.specs.World.{World, Told, sent_lines, run_from, run_all}
+use Rattle.gr_model.specs.World.{World, Transition, sent_lines, run_from, run_all}
 use Rattle.gr_theorems.specs.Obeys.{StepsObey}
 use Rattle.gr_theorems.specs.ByRules.{RunByRules}
 use Rattle.gr_model.specs.Arrivals.{Arrival, datagram, quiet, Publish, publishes_of, left_after, fault_number, comes}
@@ -102,7 +102,7 @@ AllDoSteps net w lines left [] = filter is_sent lines ≡ sent_lines 1 w.frames
 AllDoSteps net w lines left (a ∷ arrivals) =
     (filter is_sent lines ≡ sent_lines 1 w.frames)
     × DoesSteps net w left a (steps_of_arrival net lines left a)
-    × (let t : Told = comes net (numbers net.brokers) w left a in AllDoSteps net t.world (lines ++ t.lines) (left_after left a) arrivals)
+    × (let t : Transition = comes net (numbers net.brokers) w left a in AllDoSteps net t.world (lines ++ t.lines) (left_after left a) arrivals)
 
 -- Of an arrival's lines as a whole: none drops a datagram but the one that is no frame, none refuses or shows bytes, and frames are
 -- numbered on from those sent before

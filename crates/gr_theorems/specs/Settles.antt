@@ -5,8 +5,8 @@ use Rattle.gr_frame.specs.declared.Frame.{Frame}
 use Rattle.gr_model.specs.declared.report.Report.TheVariants as line
 use Rattle.gr_model.specs.Net.{Net, keeps_horizon, numbers}
 use Rattle.gr_model.specs.Broker.{max_tick}
-use Rattle.gr_model.specs.World.{World, Told, view_of, log_of, unchanged, after, in_turn, wake_for, deliver_frame, frame_at, frames_past, is_want, is_know_to, inwards, outwards, sweep_moment, sweep}
-use Rattle.gr_model.specs.Headline.{History, record_of, last_cut, last_horizon, gots}
+use Rattle.gr_model.specs.World.{World, Transition, view_of, log_of, unchanged, followed_by, in_turn, wake_for, deliver_frame, frame_at, frames_past, is_want, is_know_to, inwards, outwards, sweep_moment, sweep}
+use Rattle.gr_model.specs.Headline.{History, record_of, last_cut, last_horizon, delivered_events}
 
 -- a call within a sweep: a broker is woken for a publisher, or the frame of a number reaches its receiver
 pub data Call : Type 0 where
@@ -14,12 +14,12 @@ pub data Call : Type 0 where
   delivers : ℕ → Call
 
 -- what the call does
-abbrev pub made : Net → World → Call → Told
+abbrev pub made : Net → World → Call → Transition
 made net w (wakes b p) = wake_for net w b p
 made net w (delivers k) = elim (frame_at w k) [ None ↦ unchanged w [] | Some f ↦ deliver_frame net w f ]
 
 -- all calls of a list
-abbrev pub all_made : Net → List Call → World → Told
+abbrev pub all_made : Net → List Call → World → Transition
 all_made net cs w = in_turn (made net) cs w
 
 -- a frame that is delivered was sent before
@@ -98,7 +98,7 @@ pub record SweepSettles (net : Net) (w : World) (k : ℕ) : Type 0 where
   pub settled : (p : ℕ) → p < net.publishers → (log_of (sweep net w k).world p).settled ≡ sweep_moment net w
   pub cut : (p : ℕ) → p < net.publishers → (log_of (sweep net w k).world p).cut ≡ sweep_moment net w
   -- it is these calls, each frame is there when it is delivered, and each one that the sweep sends but an Expect is delivered by exactly one of them
-  pub calls : sweep net w k ≡ after (all_made net (sweep_calls net w) (at_sweep net w)) (λ x. unchanged x (line.Swept (sweep_moment net w) ∷ []))
+  pub calls : sweep net w k ≡ followed_by (all_made net (sweep_calls net w) (at_sweep net w)) (λ x. unchanged x (line.Swept (sweep_moment net w) ∷ []))
   pub sent : EachSent net (sweep_calls net w) (at_sweep net w)
   pub once : (n : ℕ) (f : Frame) → length w.frames < n → frame_at (sweep net w k).world n ≡ Some f → is_expect f ≡ false → times n (delivered (sweep_calls net w)) ≡ 1
   -- nothing else is delivered in it: no frame of before, and no Expect
@@ -112,7 +112,7 @@ pub record SweepSettles (net : Net) (w : World) (k : ℕ) : Type 0 where
 -- afterwards each subscriber has got exactly what is recorded that it wants; h is the history before the sweep
 abbrev pub AllGot : Net → History → World → ℕ → Type 0
 AllGot net h w k = (s p : ℕ) → s < net.subscribers → p < net.publishers →
-    gots s p (h.lines ++ (sweep net w k).lines) ≡ filter (λ x. net.wants p s x.0 x.1) (record_of h p).events
+    delivered_events s p (h.lines ++ (sweep net w k).lines) ≡ filter (λ x. net.wants p s x.0 x.1) (record_of h p).events
 
 -- a sweep that is not refused: its moment is within the ticks
 abbrev pub is_accepted : Net → World → Bool

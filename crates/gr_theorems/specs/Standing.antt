@@ -6,10 +6,10 @@ use Rattle.gr_know.specs.Values.{known_at}
 use Rattle.gr_curio.specs.declared.asks.Moment.TheVariants.{At}
 use Rattle.gr_curio.specs.Values.{asked_at}
 use Rattle.gr_model.specs.Net.{Net, keeps_horizon, is_host}
-use Rattle.gr_model.specs.Broker.{View, event_at, is_settled}
+use Rattle.gr_model.specs.Broker.{View, event_at, is_consolidated_by}
 use Rattle.gr_model.specs.World.{World, view_of, log_of, sent_lines}
 use Rattle.gr_model.specs.Opening.{recorded_of}
-use Rattle.gr_model.specs.Headline.{History, record_of, found_in, gate_of, last_cut, last_horizon, gots, expected, is_heard, is_sent, may_crash, InOrder}
+use Rattle.gr_model.specs.Headline.{History, record_of, reopened_cut, gate_of, last_cut, last_horizon, delivered_events, expected, is_heard, is_sent, may_crash, InOrder}
 use Rattle.gr_theorems.specs.Fits.{WorldFits}
 
 -- The log of p is its record, with its marks and its cuts
@@ -17,13 +17,13 @@ pub record IsRecorded (net : Net) (h : History) (w : World) (p : ℕ) : Type 0 w
   -- the last number, the tick up to which all is settled, and the events
   pub record_is : recorded_of (log_of w p) ≡ record_of h p
   -- the cut is that of the last cut line, or the one that was found
-  pub cut : (log_of w p).cut ≡ last_cut p (found_in h p) h.lines
+  pub cut : (log_of w p).cut ≡ last_cut p (reopened_cut h p) h.lines
   -- the gate stands behind all that was logged, marked and cut
   pub gate : (log_of w p).gate ≡ gate_of h p
 
 -- Subscriber s got exactly what p owes it up to the horizon of its broker, and was told that horizon
 pub record HasGot (net : Net) (h : History) (w : World) (s p : ℕ) : Type 0 where
-  pub got : gots s p h.lines ≡ expected net h s p (view_of w (net.at s) p).horizon
+  pub got : delivered_events s p h.lines ≡ expected net h s p (view_of w (net.at s) p).horizon
   pub told : last_horizon s p 0 h.lines ≡ (view_of w (net.at s) p).horizon
 
 -- broker b has heard of a tick of p since it started
@@ -51,11 +51,11 @@ pub record KnowsLog (net : Net) (w : World) (p : ℕ) : Type 0 where
 
 -- every child acknowledged the tick, and a kept horizon has come past it
 abbrev pub is_consolidated_at : Net → World → ℕ → ℕ → ℕ → Bool
-is_consolidated_at net w b p t = is_settled (keeps_horizon net p b) (view_of w b p).horizon (view_of w b p).wants t
+is_consolidated_at net w b p t = is_consolidated_by (keeps_horizon net p b) (view_of w b p).horizon (view_of w b p).wants t
 
 -- a host's kept horizon is where its log is settled, or 0 while nothing was logged or marked since it started
 abbrev pub host_reaches : Net → History → ℕ → ℕ
-host_reaches net h p = if get_or h.bare p true && may_crash net (net.host p) then 0 else (record_of h p).settled
+host_reaches net h p = if get_or h.unlogged p true && may_crash net (net.host p) then 0 else (record_of h p).settled
 
 pub record Fits (net : Net) (h : History) (w : World) : Type 0 where
   -- whatever a broker knows, whatever a frame says, and whatever was acknowledged or cut is true

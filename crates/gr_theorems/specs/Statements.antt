@@ -11,7 +11,7 @@ use Rattle.gr_model.specs.declared.report.Report.{Report}
 use Rattle.gr_model.specs.Net.{Net, not_empty, numbers}
 use Rattle.gr_model.specs.Tree.{IsNet, IsSubscriber}
 use Rattle.gr_model.specs.Broker.{Log, clashes}
-use Rattle.gr_model.specs.World.{World, Told, view_of, log_of, frame_at, run_all, run_from, start, next}
+use Rattle.gr_model.specs.World.{World, Transition, view_of, log_of, frame_at, run_all, run_from, start, next}
 use Rattle.gr_model.specs.Opening.{opening, publishers_at, begin_over}
 use Rattle.gr_model.specs.Arrivals.{Arrival, publishes_of, served, clash_runs, first_of}
 use Rattle.gr_model.specs.Headline.{History, GetsExactly, Holds_from, is_doubt_line, doubt_place, doubts_shown}
@@ -20,7 +20,7 @@ use Rattle.gr_theorems.specs.Order.{CutsInOrder}
 use Rattle.gr_theorems.specs.Edges.{GoesOverEdge}
 use Rattle.gr_theorems.specs.Spelled.{NumbersIn}
 use Rattle.gr_theorems.specs.Settles.{is_accepted}
-use Rattle.gr_theorems.specs.Found.{AreFound, told_at_opening}
+use Rattle.gr_theorems.specs.Found.{AreReopened, told_at_opening}
 use Rattle.gr_theorems.specs.ByRules.{RunsOver}
 use Rattle.gr_theorems.specs.Served.{IsHonestRun, AllDoSteps, HeadlineServed}
 
@@ -59,7 +59,7 @@ pub record IsSpelledRun (net : Net) (steps : List Line) : Type 0 where
 -- a run over logs that were found
 pub record IsRunOverLogs (net : Net) (logs : List Log) (steps : List Line) : Type 0 where
   pub asked : IsAskedRun net steps
-  pub found : AreFound net logs
+  pub reopened_cuts : AreReopened net logs
 
 -- a server's run over logs that were found, within the limits of frames, whose journal is honest
 pub record IsServedRun (net : Net) (logs : List Log) (steps : List Line) (arrivals : List Arrival) : Type 0 where
@@ -116,36 +116,36 @@ DoubtsStand net w l = map doubt_place (filter is_doubt_line (next net w l).lines
 -- Over old logs, and at a server
 
 -- all brokers start over these logs
-abbrev pub opened_over : Net → List Log → Told
+abbrev pub opened_over : Net → List Log → Transition
 opened_over net logs = opening net (numbers net.brokers) logs
 
 -- of a schedule that begins on these logs the headline holds
 abbrev pub HoldsOverLogs : Net → List Log → List Line → Type 0
 HoldsOverLogs net logs steps =
-    let o : Told = opened_over net logs in
+    let o : Transition = opened_over net logs in
     Holds_from net (begin_over net logs o.lines) steps (run_from net o.world steps)
 
 -- the opening tells each log that is not empty, and what the subscribers at its host get at once
 abbrev pub OpeningTells : Net → List Log → Type 0
 OpeningTells net logs =
-    let o : Told = opened_over net logs in
+    let o : Transition = opened_over net logs in
     o.lines ≡ flat_map (told_at_opening net logs) (publishers_at net (numbers net.brokers))
 
 -- and it sends nothing
 abbrev pub OpeningSendsNothing : Net → List Log → Type 0
-OpeningSendsNothing net logs = let o : Told = opened_over net logs in o.world.frames ≡ []
+OpeningSendsNothing net logs = let o : Transition = opened_over net logs in o.world.frames ≡ []
 
 -- what the opening and then the steps tell and leave is by the rules
 abbrev pub RunsOverByRules : Net → List Log → List Line → Type 0
 RunsOverByRules net logs steps =
-    let o : Told = opened_over net logs in
+    let o : Transition = opened_over net logs in
     RunsOver net logs steps o.lines (run_from net o.world steps) (run_all net o.world steps).world
 
 -- and nothing else is
 abbrev pub RunsOverByNoOther : Net → List Log → List Line → Type 0
 RunsOverByNoOther net logs steps =
     (told : List Report) (rs : List (List Report)) (w : World) → RunsOver net logs steps told rs w →
-    (let o : Told = opened_over net logs in
+    (let o : Transition = opened_over net logs in
     (told ≡ o.lines) × (rs ≡ run_from net o.world steps) × (w ≡ (run_all net o.world steps).world))
 
 -- what a server of all brokers reports meets the headline
@@ -156,7 +156,7 @@ MeetsHeadlineServed net logs steps arrivals =
 -- each arrival does its steps
 abbrev pub ArrivalsDoSteps : Net → List Log → List Line → List Arrival → Type 0
 ArrivalsDoSteps net logs steps arrivals =
-    let o : Told = opened_over net logs in
+    let o : Transition = opened_over net logs in
     AllDoSteps net o.world o.lines (publishes_of net (numbers net.brokers) steps) arrivals
 
 -- the tick that is named where a datagram clashes with what is known, or none

@@ -16,7 +16,7 @@ ghost use Rattle.gr_model.specs.Headline.{Headline};
 ghost use Rattle.gr_model.specs.Blank.{net0};
 ghost use Rattle.gr_model.specs.declared.report.Report.{Report};
 ghost use Rattle.gr_theorems.specs.Fits.{StepIn, WorldFits, history_of};
-ghost use Rattle.gr_theorems.specs.Found.{AreFound};
+ghost use Rattle.gr_theorems.specs.Found.{AreReopened};
 ghost use Rattle.gr_theorems.specs.Order.{FramesSent};
 ghost use Rattle.gr_theorems.specs.Replies.{Replied};
 ghost use Rattle.gr_theorems.specs.Rules.{RulesDetermine};
@@ -118,10 +118,10 @@ pub fn runs_by_rules()
         ScheduleByRules net steps (report_of net steps) (world_after net steps) }
     ensures alone { (net : Net) (steps : List Line) (rs : List (List Report)) (w : World) → IsMarkedRun net steps →
         ScheduleByRules net steps rs w → (rs ≡ report_of net steps) × (w ≡ world_after net steps) }
-    ensures over_logs { (net : Net) (logs : List Log) (steps : List Line) → IsMarkedRun net steps → AreFound net logs →
+    ensures over_logs { (net : Net) (logs : List Log) (steps : List Line) → IsMarkedRun net steps → AreReopened net logs →
         RunsOverByRules net logs steps }
     ensures over_logs_alone { (net : Net) (logs : List Log) (steps : List Line) → IsMarkedRun net steps →
-        AreFound net logs → RunsOverByNoOther net logs steps }
+        AreReopened net logs → RunsOverByNoOther net logs steps }
 {}
 
 /// Every step is replied as the schedule and the frames sent demand: refused where it is to be refused and nowhere
@@ -171,8 +171,8 @@ pub fn stands_over_logs()
 pub fn headline_over_logs()
     ensures schedules { (net : Net) (logs : List Log) (steps : List Line) → IsRunOverLogs net logs steps →
         HoldsOverLogs net logs steps }
-    ensures told { (net : Net) (logs : List Log) → IsNet net → AreFound net logs → OpeningTells net logs }
-    ensures sends { (net : Net) (logs : List Log) → IsNet net → AreFound net logs → OpeningSendsNothing net logs }
+    ensures told { (net : Net) (logs : List Log) → IsNet net → AreReopened net logs → OpeningTells net logs }
+    ensures sends { (net : Net) (logs : List Log) → IsNet net → AreReopened net logs → OpeningSendsNothing net logs }
 {}
 
 /// The headline of a server that hosts all brokers, over logs that were found and every honest journal, whatever of the
@@ -194,7 +194,7 @@ pub fn headline_over_lanes()
         IsRunOverLanes net lanes steps → HoldsOverLanes net lanes steps }
     ensures served { (net : Net) (lanes : List (List Record)) (steps : List Line) (arrivals : List Arrival) →
         IsServedOverLanes net lanes steps arrivals → HoldsServedLanes net lanes steps arrivals }
-    ensures found { (net : Net) (lanes : List (List Record)) → AllFollow lanes → AreFound net (found_logs lanes) }
+    ensures found { (net : Net) (lanes : List (List Record)) → AllFollow lanes → AreReopened net (found_logs lanes) }
     ensures past { FoundIsPastCut }
     ensures silent { (net : Net) (lanes : List (List Record)) → AllFollow lanes → CutEventsSilent net lanes }
 {}

@@ -18,7 +18,7 @@ use Rattle.gr_curio.proofs.ValueLaws.{Q3_decides, moment_decides}
 use Rattle.gr_model.specs.declared.report.Report.TheVariants.{Horizon}
 use Rattle.gr_model.specs.Blank.{net0}
 use Rattle.gr_model.specs.Net.{not_empty}
-use Rattle.gr_model.specs.Broker.{Log, learn, finished, consolidated, lower_data, forgotten, data_count, is_F, open_asks, trimmed, horizon_after, data_ticks, got_line, told, clashes}
+use Rattle.gr_model.specs.Broker.{Log, learn, finished, consolidated, lower_data, forgotten, data_count, is_F, open_asks, kept_view, horizon_after, data_ticks, got_line, delivery_lines, clashes}
 use Rattle.gryphon.specs.World.{far_view, passed_lines}
 use Rattle.gryphon.proofs.Host.{zip_runs-equals}
 use Rattle.gr_theorems.proofs.calls.Pieces.{consolidated-is}
@@ -91,8 +91,8 @@ all_pass [] = refl
 all_pass (x ∷ xs) = ap (λ ys. x ∷ ys) (all_pass xs)
 
 -- what the one subscriber is told
-told_is : (from to : ℕ) (items : List (ℕ × Event)) → told net0 0 from to items 0 ≡ (if nat_eq from to then [] else map (got_line 0 0) items ++ Horizon 0 0 to ∷ [])
-unfolding told
+told_is : (from to : ℕ) (items : List (ℕ × Event)) → delivery_lines net0 0 from to items 0 ≡ (if nat_eq from to then [] else map (got_line 0 0) items ++ Horizon 0 0 to ∷ [])
+unfolding delivery_lines
 told_is from to items = ap (λ xs. if nat_eq from to then [] else map (got_line 0 0) xs ++ Horizon 0 0 to ∷ []) (all_pass items)
 
 -- where nothing was asked no moment is kept
@@ -106,13 +106,13 @@ open_asks_none know a = zip_runs-equals Never Q Never same_moment moment_decides
 
 -- what the broker of the subscriber does with what came
 pub learn-far : (know piece joined final : Known) (from to : ℕ) (log : Log) → HasLearned know piece joined final from to → learn net0 0 1 piece (far_view know from) log ≡ record { view = far_view final to; log = log; lines = passed_lines from to joined; frames = [] }
-unfolding learn horizon_after trimmed
+unfolding learn horizon_after kept_view
 learn-far know piece joined final from to log h =
     let know_is : zip_runs Q Q Q same_K join_K know piece ≡ joined = zip_runs-equals Q Q Q same_K K_decides join_K know piece joined refl h.know_runs h.piece_runs h.joined_runs h.joined_at in
     let horizon : first_bottom_from joined (suc from) - 1 ≡ to = horizon_is joined from to h.joined_runs h.reached h.no_gap h.ends in
     let final_is : finished joined (consolidated true to []) ≡ final = finished_is joined final to h.joined_runs h.final_runs h.final_at in
     let kept : forgotten 1024 to final ≡ final = forgotten_none 1024 to final h.final_runs (final_up joined final to h.final_at) in
-    let lines : told net0 0 from to (data_ticks from to joined) 0 ++ [] ≡ passed_lines from to joined = append-nil (told net0 0 from to (data_ticks from to joined) 0) ∙ told_is from to (data_ticks from to joined) in
+    let lines : delivery_lines net0 0 from to (data_ticks from to joined) 0 ++ [] ≡ passed_lines from to joined = append-nil (delivery_lines net0 0 from to (data_ticks from to joined) 0) ∙ told_is from to (data_ticks from to joined) in
     rw (know_is, horizon, final_is, kept, open_asks_none final h.final_runs, lines) refl
 
 -- nothing clashes

@@ -16,7 +16,7 @@ use Rattle.gr_curio.proofs.ValueLaws.{Q3_decides}
 use Rattle.gr_frame.specs.Bytes.{known_run_size, cut_frames}
 use Rattle.gr_model.specs.Blank.{net0}
 use Rattle.gr_model.specs.Net.{pass}
-use Rattle.gr_model.specs.Broker.{Log, log_at, log_know, learn, new_ticks, forward, quenched, finished, consolidated, trimmed, horizon_after}
+use Rattle.gr_model.specs.Broker.{Log, log_at, log_know, learn, new_ticks, forward, still_wanted, finished, consolidated, kept_view, horizon_after}
 use Rattle.gryphon.specs.World.{host_view, downward}
 use Rattle.gr_theorems.proofs.calls.CallTruth.{forward-is}
 use Rattle.gr_theorems.proofs.runs.Schedules.{log_know-is}
@@ -51,8 +51,8 @@ forward-all piece p =
     runs_equal Q 1 1 (forward net0 0 1 [] piece) piece s.runs p (λ t. s.same_at t ∙ sym (passed t (known_at piece t)))
 
 -- who asked for nothing asks for nothing afterwards
-pub quenched-nothing : (sent : Known) → AreRuns Q sent → quenched [] sent ≡ []
-unfolding quenched
+pub quenched-nothing : (sent : Known) → AreRuns Q sent → still_wanted [] sent ≡ []
+unfolding still_wanted
 quenched-nothing sent p = zip_runs-equals N Q N same_Q3 Q3_decides (λ a v. answered_of (not (is_Q v)) a) [] sent [] refl tt p tt (λ t. same (not (is_Q (known_at sent t))))
   where
     same : (q : Bool) → N ≡ answered_of q N
@@ -78,7 +78,7 @@ pub record IsGrown (old new : Log) (piece : Known) : Type 0 where
 
 -- what the broker of the publisher does with new ticks
 pub learn-host : (old new : Log) (piece : Known) → IsGrown old new piece → learn net0 0 0 piece (host_view old) new ≡ record { view = host_view new; log = new; lines = []; frames = downward piece ∷ [] }
-unfolding learn horizon_after trimmed
+unfolding learn horizon_after kept_view
 learn-host old new piece g =
     let a = log_know-is old in
     let b = log_know-is new in

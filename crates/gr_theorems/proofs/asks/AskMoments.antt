@@ -14,7 +14,7 @@ use Rattle.gr_tick.specs.Runs.{value_at, put_on, put, tabulate_from, tabulate_so
 use Rattle.gr_know.specs.Values.{Known, known_at, is_Q}
 use Rattle.gr_curio.specs.Values.{Wanted, Asked, wanted_at, asked_at, is_C, same_moment}
 use Rattle.gr_model.specs.Net.{Net, is_host, keeps_horizon, numbers}
-use Rattle.gr_model.specs.Broker.{View, Log, Outcome, know_frames, want_frames, expect_frame, all_points, any_C, consolidated, finished, is_F, open_asks, trimmed, trimmed_below, forward, new_ticks, forward_frames, learn, due, noted, up_frames, asking, answers, stored, acknowledged, curiosity, wake_below, wanted_at_wake, expect, expect_frames, covers, place_of, publish, silence, with_mark, marking, cutting, wake_host, wake, receive, clashes, empty_log, started, head}
+use Rattle.gr_model.specs.Broker.{View, Log, Outcome, know_frames, want_frames, expect_frame, all_points, any_C, consolidated, finished, is_F, open_asks, kept_view, kept_view_below, forward, new_ticks, forward_frames, learn, due, noted, up_frames, asking, answers, stored, acknowledged, curiosity, wake_below, wanted_at_wake, expect, expect_frames, covers, place_of, publish, silence, with_mark, marking, cutting, wake_host, wake, receive, clashes, empty_log, started, head}
 use Rattle.gr_frame.specs.Bytes.{known_run_size, wanted_run_size, cut_frames}
 use Rattle.gr_model.specs.World.{World, blank_view, view_of, log_of, with_view, absorbed, wake_for, deliver_frame, publish_now, restarted, start, run_all, deliver_frame_by, publish_now_by, wake_for_by}
 use Rattle.gr_model.specs.Tree.{IsNet}
@@ -121,18 +121,18 @@ of_view : (net : Net) (p b now : ℕ) (v : View) (o u : Outcome) → u.view.asks
 of_view net p b now v o u e k = record { all = λ P z h a. subst (AllValues P) (sym e) (k.all P z h a); host = λ h x. e ∙ k.host h x }
 
 -- forgetting adds no moment
-trimmed_all : (net : Net) (p b : ℕ) (v : View) (P : Moment → Type 0) → P Never → AllValues P v.asks → AllValues P (trimmed net p b v).asks
-unfolding trimmed
+trimmed_all : (net : Net) (p b : ℕ) (v : View) (P : Moment → Type 0) → P Never → AllValues P v.asks → AllValues P (kept_view net p b v).asks
+unfolding kept_view
 trimmed_all net p b v P z a = go (is_host net p b)
   where
     less : View
-    less = trimmed_below net p b v
+    less = kept_view_below net p b v
 
     go : (q : Bool) → (let u : View = elim q [ true ↦ v | false ↦ less ] in AllValues P u.asks)
     go true = a
     go false = open_all P less.know v.asks z a
 
-trimmed_none : (net : Net) (p b : ℕ) (v : View) → is_host net p b ≡ true → (trimmed net p b v).asks ≡ v.asks
+trimmed_none : (net : Net) (p b : ℕ) (v : View) → is_host net p b ≡ true → (kept_view net p b v).asks ≡ v.asks
 trimmed_none net p b v h = ap (λ u. u.asks) (trimmed_host net p b v h)
 
 -- learning adds no moment

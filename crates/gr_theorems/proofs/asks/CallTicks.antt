@@ -10,7 +10,7 @@ use Rattle.gr_tick.specs.Runs.{AreRuns, top_of}
 use Rattle.gr_know.specs.Values.{known_at, is_Q}
 use Rattle.gr_curio.specs.Values.{Wanted, wanted_at, asked_at, is_C, is_A, same_moment, is_outstanding}
 use Rattle.gr_model.specs.Net.{Net, is_host, keeps_horizon}
-use Rattle.gr_model.specs.Broker.{View, Log, Outcome, all_points, any_C, is_settled, is_F, consolidated, open_asks, trimmed_below, trimmed, max_tick, due, noted, upward, up_frames, asking, wake_below, wanted_at_wake}
+use Rattle.gr_model.specs.Broker.{View, Log, Outcome, all_points, any_C, is_consolidated_by, is_F, consolidated, open_asks, kept_view_below, kept_view, max_tick, due, noted, upward, up_frames, asking, wake_below, wanted_at_wake}
 use Rattle.gr_model.specs.World.{World, sweep_moment}
 use Rattle.gr_theorems.specs.Truth.{Facts}
 use Rattle.gr_theorems.specs.Fits.{ViewTrue}
@@ -35,15 +35,15 @@ pub record IsTrimmed (net : Net) (p b : ℕ) (v u : View) : Type 0 where
   pub horizon : u.horizon ≡ v.horizon
   pub each : (t : ℕ) → (known_at u.know t ≡ known_at v.know t) ⊎ ((known_at u.know t ≡ Q) × (is_host net p b ≡ false) × (keeps_horizon net p b ≡ true → t ≤ v.horizon))
 
-pub trimmed-is : (net : Net) (p b : ℕ) (v : View) → AreRuns Q v.know → IsTrimmed net p b v (trimmed net p b v)
-unfolding trimmed open_asks
+pub trimmed-is : (net : Net) (p b : ℕ) (v : View) → AreRuns Q v.know → IsTrimmed net p b v (kept_view net p b v)
+unfolding kept_view open_asks
 trimmed-is net p b v a = go (is_host net p b) refl
   where
     upto : ℕ
     upto = if keeps_horizon net p b then v.horizon else max_tick
 
     less : View
-    less = trimmed_below net p b v
+    less = kept_view_below net p b v
 
     lowered : IsLowered 1 upto v.know less.know
     lowered = forgotten-is net.cache upto v.know a
@@ -113,7 +113,7 @@ needs net p b v t = is_Q (known_at v.know t) && (any_C v.wants t || (keeps_horiz
 pub record WakeTicks (net : Net) (p b now : ℕ) (v : View) (o : Outcome) : Type 0 where
   pub frames : o.frames ≡ up_frames net p b (wake_piece net p b now v)
   pub asked : (t : ℕ) → wanted_at (wake_asked net p b now v) t ≡ (if wanted_at_wake net (keeps_horizon net p b) now v t && is_Q (known_at v.know t) && not (is_outstanding (asked_at v.asks t) now net.retry) then C else N)
-  pub piece : (t : ℕ) → wanted_at (wake_piece net p b now v) t ≡ (if is_settled (keeps_horizon net p b) v.horizon v.wants t then A else wanted_at (wake_asked net p b now v) t)
+  pub piece : (t : ℕ) → wanted_at (wake_piece net p b now v) t ≡ (if is_consolidated_by (keeps_horizon net p b) v.horizon v.wants t then A else wanted_at (wake_asked net p b now v) t)
   pub piece_runs : AreRuns N (wake_piece net p b now v)
   -- the moment of the last ask stays where the tick is unknown afterwards, and none comes of itself
   pub asks : (t : ℕ) → known_at o.view.know t ≡ Q → asked_at o.view.asks t ≡ (if is_C (wanted_at (wake_asked net p b now v) t) then At now else asked_at v.asks t)
@@ -139,7 +139,7 @@ wake_ticks net f p b now v log h =
     record {
       frames = refl;
       asked = d.same_at;
-      piece = λ t. u.same_at t ∙ (ap (λ x. if is_A x then A else wanted_at (wake_asked net p b now v) t) (done_values net f p b v.horizon v.wants h.wants t) ∙ A_if (is_settled (keeps_horizon net p b) v.horizon v.wants t) (wanted_at (wake_asked net p b now v) t));
+      piece = λ t. u.same_at t ∙ (ap (λ x. if is_A x then A else wanted_at (wake_asked net p b now v) t) (done_values net f p b v.horizon v.wants h.wants t) ∙ A_if (is_consolidated_by (keeps_horizon net p b) v.horizon v.wants t) (wanted_at (wake_asked net p b now v) t));
       piece_runs = u.runs;
       asks = λ t e. moment_kept net p b left (wake_below net p b now v log).view i n.runs t e ∙ n.same_at t;
       asks_from = λ t k e. sym (n.same_at t) ∙ moment_from net p b left (wake_below net p b now v log).view i n.runs t k e;

@@ -14,7 +14,7 @@ use Rattle.gr_tick.specs.Runs.{AreRuns, points, zip_runs, IsSteady, IsNone, IsPa
 use Rattle.gr_know.specs.Values.{Known, known_at, is_Q, join_K, same_K}
 use Rattle.gr_curio.specs.Values.{Wanted, Asked, wanted_at, asked_at, is_C, is_A, same_Q3, same_moment, is_outstanding}
 use Rattle.gr_model.specs.Net.{Net, is_host, keeps_horizon, pass, not_empty, is_empty}
-use Rattle.gr_model.specs.Broker.{View, Log, Outcome, know_frames, passed, want_frames, expect_frame, all_points, is_settled, consolidated, finished, is_F, open_asks, trimmed, trimmed_below, horizon_after, new_ticks, forward, quenched, forward_frames, forward_wants, learn, max_tick, due, noted, upward, up_frames, asking, answers, answer, curious, stored, acknowledged, curiosity, wake_below, wanted_at_wake, any_C, expect, expect_frames, covers, place_of, head}
+use Rattle.gr_model.specs.Broker.{View, Log, Outcome, know_frames, passed, want_frames, expect_frame, all_points, is_consolidated_by, consolidated, finished, is_F, open_asks, kept_view, kept_view_below, horizon_after, new_ticks, forward, still_wanted, forward_frames, forward_wants, learn, max_tick, due, noted, upward, up_frames, asking, answers, answer, curious, stored, acknowledged, curiosity, wake_below, wanted_at_wake, any_C, expect, expect_frames, covers, place_of, head}
 use Rattle.gr_frame.specs.Bytes.{known_run_size, wanted_run_size, cut_frames}
 use Rattle.gr_theorems.specs.Truth.{Facts, TrueF, IsTrueAt, KnowsTruth, WantsTruth, AllWantTruth, IsLater}
 use Rattle.gr_model.specs.Tree.{IsPlace}
@@ -90,8 +90,8 @@ answered_if false N = refl
 answered_if false C = refl
 answered_if false A = refl
 
-pub quenched-is : (w : Wanted) (sent : Known) → AreRuns N w → AreRuns Q sent → AreRunsOf N (λ t. if is_C (wanted_at w t) && not (is_Q (known_at sent t)) then N else wanted_at w t) (quenched w sent)
-unfolding quenched
+pub quenched-is : (w : Wanted) (sent : Known) → AreRuns N w → AreRuns Q sent → AreRunsOf N (λ t. if is_C (wanted_at w t) && not (is_Q (known_at sent t)) then N else wanted_at w t) (still_wanted w sent)
+unfolding still_wanted
 quenched-is w sent h i =
     let z = zip_runs-is N Q N same_Q3 Q3_decides (λ a v. answered_of (not (is_Q v)) a) w sent refl h i in
     record { runs = z.runs; same_at = λ t. z.same_at t ∙ answered_if (not (is_Q (known_at sent t))) (wanted_at w t) }
@@ -100,9 +100,9 @@ quench_A : (b : Bool) (q : Q3) → (if b then N else q) ≡ A → q ≡ A
 quench_A true q h = cc
 quench_A false q h = h
 
-pub quenched_true : (net : Net) (f : Facts) (p c : ℕ) (w : Wanted) (sent : Known) → WantsTruth net f p c w → AreRuns Q sent → WantsTruth net f p c (quenched w sent)
+pub quenched_true : (net : Net) (f : Facts) (p c : ℕ) (w : Wanted) (sent : Known) → WantsTruth net f p c w → AreRuns Q sent → WantsTruth net f p c (still_wanted w sent)
 quenched_true net f p c w sent h i =
-    WantsTruth-by net f p c (λ t. if is_C (wanted_at w t) && not (is_Q (known_at sent t)) then N else wanted_at w t) (quenched w sent) (quenched-is w sent h.runs i)
+    WantsTruth-by net f p c (λ t. if is_C (wanted_at w t) && not (is_Q (known_at sent t)) then N else wanted_at w t) (still_wanted w sent) (quenched-is w sent h.runs i)
     (λ t e. h.each t (quench_A (is_C (wanted_at w t) && not (is_Q (known_at sent t))) (wanted_at w t) e))
 
 pub finished-is : (know : Known) (done : Wanted) → AreRuns Q know → AreRuns N done → AreRunsOf Q (λ t. if is_A (wanted_at done t) then F else known_at know t) (finished know done)
@@ -134,9 +134,9 @@ A_is A h = refl
 -- consolidation: each A of the consolidated ticks is true of the broker itself
 pub done_true : (net : Net) (f : Facts) (p b h : ℕ) (ws : List Wanted) → IsPlace net p b → AllWantTruth net f p (net.children p b) ws → IsHorizon net f b h → WantsTruth net f p b (consolidated (keeps_horizon net p b) h ws)
 done_true net f p b h ws place a hor =
-    WantsTruth-by net f p b (λ t. if is_settled (keeps_horizon net p b) h ws t then A else N) (consolidated (keeps_horizon net p b) h ws)
+    WantsTruth-by net f p b (λ t. if is_consolidated_by (keeps_horizon net p b) h ws t then A else N) (consolidated (keeps_horizon net p b) h ws)
     (consolidated-is (keeps_horizon net p b) h ws (keeps_or_child net p b ws (some_wants net f p (net.children p b) ws a)))
-    (λ t e. consolidated_true net f p b h t ws place a hor.settled hor.here (done_A (is_settled (keeps_horizon net p b) h ws t) e))
+    (λ t e. consolidated_true net f p b h t ws place a hor.settled hor.here (done_A (is_consolidated_by (keeps_horizon net p b) h ws t) e))
 
 -- and F at these ticks is true
 pub finished_true : (net : Net) (f : Facts) (p b : ℕ) (know : Known) (done : Wanted) → KnowsTruth net f p b know → WantsTruth net f p b done → KnowsTruth net f p b (finished know done)
@@ -183,12 +183,12 @@ open_asks-is : (know : Known) (asks : Asked) → AreRuns Q know → AreRuns Neve
 unfolding open_asks
 open_asks-is know asks k a = (zip_runs-is Never Q Never same_moment moment_decides (λ moment k. if is_F k then Never else moment) asks know refl a k).runs
 
-pub trimmed_true : (net : Net) (f : Facts) (p b : ℕ) (v : View) → ViewTrue net f p b v → ViewTrue net f p b (trimmed net p b v)
-unfolding trimmed
+pub trimmed_true : (net : Net) (f : Facts) (p b : ℕ) (v : View) → ViewTrue net f p b v → ViewTrue net f p b (kept_view net p b v)
+unfolding kept_view
 trimmed_true net f p b v h = go (is_host net p b)
   where
     less : View
-    less = trimmed_below net p b v
+    less = kept_view_below net p b v
 
     go : (q : Bool) → ViewTrue net f p b (elim q [ true ↦ v | false ↦ less ])
     go true = h
@@ -226,12 +226,12 @@ true_settled net f p b t (D e) h n = h.settled
 true_settled net f p b t F h n = h.settled
 
 -- the horizon moves on, and stays within what is settled
-pub record Moves (net : Net) (f : Facts) (know : Known) (h h' : ℕ) : Type 0 where
+pub record HorizonMoves (net : Net) (f : Facts) (know : Known) (h h' : ℕ) : Type 0 where
   pub on : h ≤ h'
   pub settled : h' ≤ f.settled
   pub known : (t : ℕ) → h < t → t ≤ h' → known_at know t ≢ Q
 
-pub horizon_after-is : (net : Net) (f : Facts) (p b : ℕ) (keeps : Bool) (h : ℕ) (know : Known) → KnowsTruth net f p b know → h ≤ f.settled → Moves net f know h (horizon_after keeps h know)
+pub horizon_after-is : (net : Net) (f : Facts) (p b : ℕ) (keeps : Bool) (h : ℕ) (know : Known) → KnowsTruth net f p b know → h ≤ f.settled → HorizonMoves net f know h (horizon_after keeps h know)
 unfolding horizon_after
 horizon_after-is net f p b false h know k s = record { on = le_refl h; settled = s; known = λ t a c. absurd (omega arith) }
 horizon_after-is net f p b true h know k s =
@@ -639,5 +639,5 @@ learn_wants net f p b piece v place h i = forward_wants_true net f p b (new_tick
 pub done_runs : (net : Net) (f : Facts) (p b h : ℕ) (ws : List Wanted) → AllWantTruth net f p (net.children p b) ws → AreRuns N (consolidated (keeps_horizon net p b) h ws)
 done_runs net f p b h ws a = (consolidated-is (keeps_horizon net p b) h ws (keeps_or_child net p b ws (some_wants net f p (net.children p b) ws a))).runs
 
-pub done_values : (net : Net) (f : Facts) (p b h : ℕ) (ws : List Wanted) → AllWantTruth net f p (net.children p b) ws → (t : ℕ) → wanted_at (consolidated (keeps_horizon net p b) h ws) t ≡ (if is_settled (keeps_horizon net p b) h ws t then A else N)
+pub done_values : (net : Net) (f : Facts) (p b h : ℕ) (ws : List Wanted) → AllWantTruth net f p (net.children p b) ws → (t : ℕ) → wanted_at (consolidated (keeps_horizon net p b) h ws) t ≡ (if is_consolidated_by (keeps_horizon net p b) h ws t then A else N)
 done_values net f p b h ws a = (consolidated-is (keeps_horizon net p b) h ws (keeps_or_child net p b ws (some_wants net f p (net.children p b) ws a))).same_at

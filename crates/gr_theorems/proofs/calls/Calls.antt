@@ -17,7 +17,7 @@ use Rattle.gr_know.specs.Values.{Known, known_at, join_K, same_K}
 use Rattle.gr_curio.specs.Values.{Wanted, wanted_at, is_A}
 use Rattle.gr_event.specs.Event.{same_event}
 use Rattle.gr_model.specs.Net.{Net, is_host, keeps_horizon}
-use Rattle.gr_model.specs.Broker.{View, Log, Outcome, know_frames, want_frames, expect_frame, is_settled, consolidated, finished, trimmed, trimmed_below, new_ticks, forward, forward_frames, learn, up_frames, asking, curiosity, wake_below, expect, expect_frames, covers, place_of, publish, silence, with_event, with_mark, with_cut, marking, cutting, done_upto, wake_host, wake, receive, clashes, head}
+use Rattle.gr_model.specs.Broker.{View, Log, Outcome, know_frames, want_frames, expect_frame, is_consolidated_by, consolidated, finished, kept_view, kept_view_below, new_ticks, forward, forward_frames, learn, up_frames, asking, curiosity, wake_below, expect, expect_frames, covers, place_of, publish, silence, with_event, with_mark, with_cut, marking, cutting, done_upto, wake_host, wake, receive, clashes, head}
 use Rattle.gr_frame.specs.Bytes.{known_run_size, wanted_run_size, cut_frames}
 use Rattle.gr_theorems.specs.Truth.{Facts, TrueS, TrueF, IsTrueAt, KnowsTruth, WantsTruth, AllWantTruth, IsLater}
 use Rattle.gr_model.specs.Tree.{IsPlace, IsNet}
@@ -99,41 +99,41 @@ expect_frames_fit net p b tick (c ∷ cs) (w ∷ ws) a = AllFit-append net p (if
 
 -- Trimming
 
-pub trimmed_horizon : (net : Net) (p b : ℕ) (v : View) → (trimmed net p b v).horizon ≡ v.horizon
-unfolding trimmed
+pub trimmed_horizon : (net : Net) (p b : ℕ) (v : View) → (kept_view net p b v).horizon ≡ v.horizon
+unfolding kept_view
 trimmed_horizon net p b v = go (is_host net p b)
   where
     less : View
-    less = trimmed_below net p b v
+    less = kept_view_below net p b v
 
     go : (q : Bool) → (let u : View = elim q [ true ↦ v | false ↦ less ] in u.horizon) ≡ v.horizon
     go true = refl
     go false = refl
 
-pub trimmed_wants : (net : Net) (p b : ℕ) (v : View) → (trimmed net p b v).wants ≡ v.wants
-unfolding trimmed
+pub trimmed_wants : (net : Net) (p b : ℕ) (v : View) → (kept_view net p b v).wants ≡ v.wants
+unfolding kept_view
 trimmed_wants net p b v = go (is_host net p b)
   where
     less : View
-    less = trimmed_below net p b v
+    less = kept_view_below net p b v
 
     go : (q : Bool) → (let u : View = elim q [ true ↦ v | false ↦ less ] in u.wants) ≡ v.wants
     go true = refl
     go false = refl
 
 -- at the host nothing is forgotten
-pub trimmed_host : (net : Net) (p b : ℕ) (v : View) → is_host net p b ≡ true → trimmed net p b v ≡ v
-unfolding trimmed
+pub trimmed_host : (net : Net) (p b : ℕ) (v : View) → is_host net p b ≡ true → kept_view net p b v ≡ v
+unfolding kept_view
 trimmed_host net p b v h = go (is_host net p b) h
   where
     less : View
-    less = trimmed_below net p b v
+    less = kept_view_below net p b v
 
     go : (q : Bool) → q ≡ true → (let u : View = elim q [ true ↦ v | false ↦ less ] in u) ≡ v
     go true e = refl
     go false e = absurd (false≢true e)
 
-trimmed_known : (net : Net) (p b settled : ℕ) (v : View) → is_host net p b ≡ true → HostKnows v settled → HostKnows (trimmed net p b v) settled
+trimmed_known : (net : Net) (p b settled : ℕ) (v : View) → is_host net p b ≡ true → HostKnows v settled → HostKnows (kept_view net p b v) settled
 trimmed_known net p b settled v h k = subst (λ u. HostKnows u settled) (sym (trimmed_host net p b v h)) k
 
 not_Q : (b : Bool) (k : K) → k ≢ Q → (if b then F else k) ≢ Q
@@ -452,7 +452,7 @@ done_upto_A net f p b h ws settled t place a hor x y =
     A_of : (t : ℕ) → WantsTruth net f p b (consolidated (keeps_horizon net p b) h ws) → wanted_at (consolidated (keeps_horizon net p b) h ws) t ≢ N → wanted_at (consolidated (keeps_horizon net p b) h ws) t ≡ A
     A_of t d n =
         let e = done_values net f p b h ws a t in
-        e ∙ A_or_N (is_settled (keeps_horizon net p b) h ws t) (λ q. n (e ∙ q))
+        e ∙ A_or_N (is_consolidated_by (keeps_horizon net p b) h ws t) (λ q. n (e ∙ q))
 
 done_upto_le : (done : Wanted) (settled : ℕ) → done_upto done settled ≤ settled
 unfolding done_upto

@@ -19,7 +19,7 @@ use Rattle.gr_model.specs.declared.report.Report.{Report}
 use Rattle.gr_model.specs.declared.report.Report.TheVariants as line
 use Rattle.gr_theorems.specs.Said.{said_at, TicksRise}
 use Rattle.gr_model.specs.Net.{Net, is_host, keeps_horizon, pass}
-use Rattle.gr_model.specs.Broker.{View, Log, Outcome, head, know_frames, up_frames, got_line, told, data_ticks, horizon_after, new_ticks, pass_points, passed, forward, quenched, forward_frames, forward_wants, learn, consolidated, finished, trimmed, due, noted, acknowledged, answers_of, answers, stored, curiosity, max_tick, silence, with_mark, with_event, expect_frames, asking, expect, wake_below, published, quieted, publish_by, marking_by, publish, cutting, marking, wake_host, wake}
+use Rattle.gr_model.specs.Broker.{View, Log, Outcome, head, know_frames, up_frames, got_line, delivery_lines, data_ticks, horizon_after, new_ticks, pass_points, passed, forward, still_wanted, forward_frames, forward_wants, learn, consolidated, finished, kept_view, due, noted, acknowledged, answers_of, answers, stored, curiosity, max_tick, silence, with_mark, with_event, expect_frames, asking, expect, wake_below, published, quieted, publish_by, marking_by, publish, cutting, marking, wake_host, wake}
 use Rattle.gr_pubend.specs.declared.answers.Published.{Published}
 use Rattle.gr_pubend.specs.declared.answers.Published.TheVariants.{Logged, Already, Gap, Exhausted}
 use Rattle.gr_pubend.specs.declared.answers.Quieted.{Quieted}
@@ -105,7 +105,7 @@ frames_agree net f g p b new (c ∷ cs) (w ∷ ws) h = ap₂ (λ (k : Known) (x 
 wants_agree : (net : Net) (f g : Wants) (p : ℕ) (new : Known) (cs : List ℕ) (ws : List Wanted) → Agree p f g new → forward_wants (with_wants net f) p new cs ws ≡ forward_wants (with_wants net g) p new cs ws
 wants_agree net f g p new [] ws h = refl
 wants_agree net f g p new (c ∷ cs) [] h = refl
-wants_agree net f g p new (c ∷ cs) (w ∷ ws) h = ap₂ (λ (k : Known) (x : List Wanted). quenched w k ∷ x) (forward_agree net f g p c w new h) (wants_agree net f g p new cs ws h)
+wants_agree net f g p new (c ∷ cs) (w ∷ ws) h = ap₂ (λ (k : Known) (x : List Wanted). still_wanted w k ∷ x) (forward_agree net f g p c w new h) (wants_agree net f g p new cs ws h)
 
 pub sent_agree : (net : Net) (f g : Wants) (p b : ℕ) (new : Known) (cs : List ℕ) (ws : List Wanted) → Agree p f g new → sent_down (with_wants net f) p b new cs ws ≡ sent_down (with_wants net g) p b new cs ws
 sent_agree net f g p b new [] ws h = refl
@@ -168,8 +168,8 @@ items_event lo hi know t e r h =
       ]
     ]
 
-told_agree : (net : Net) (f g : Wants) (p lo hi s : ℕ) (know : Known) → AreRuns Q know → Agree p f g know → told (with_wants net f) p lo hi (data_ticks lo hi know) s ≡ told (with_wants net g) p lo hi (data_ticks lo hi know) s
-unfolding told
+told_agree : (net : Net) (f g : Wants) (p lo hi s : ℕ) (know : Known) → AreRuns Q know → Agree p f g know → delivery_lines (with_wants net f) p lo hi (data_ticks lo hi know) s ≡ delivery_lines (with_wants net g) p lo hi (data_ticks lo hi know) s
+unfolding delivery_lines
 told_agree net f g p lo hi s know r h =
     ap (λ (xs : List (ℕ × Event)). if nat_eq lo hi then [] else map (got_line s p) xs ++ line.Horizon s p hi ∷ [])
     (filter_agree (λ t e. f p s t e) (λ t e. g p s t e) 0 (data_ticks lo hi know) (data_ticks_rise lo hi know r) (λ t e x. h t e (items_event lo hi know t e r x) s))
@@ -177,7 +177,7 @@ told_agree net f g p lo hi s know r h =
 -- The calls
 
 pub learn_agree : (net : Net) (f g : Wants) (p b : ℕ) (piece : Known) (v : View) (log : Log) → AreRuns Q v.know → AreRuns Q piece → Agree p f g v.know → Agree p f g piece → learn (with_wants net f) p b piece v log ≡ learn (with_wants net g) p b piece v log
-unfolding learn trimmed
+unfolding learn kept_view
 learn_agree net f g p b piece v log r i h k =
     ap (λ ws. build ws (lines f) (frames f)) (wants_agree net f g p new (net.children p b) v.wants n)
     ∙ (ap (λ ls. build (forward_wants (with_wants net g) p new (net.children p b) v.wants) ls (frames f)) (ap (λ (q : ℕ → List Report). flat_map q (net.subscribers_at b)) (fun_ext (λ s. told_agree net f g p v.horizon to s know j.runs both)))
@@ -205,14 +205,14 @@ learn_agree net f g p b piece v log r i h k =
     both t e x s = ⊎_elim (λ y. h t e y s) (λ y. k t e y s) (join_event (known_at v.know t) (known_at piece t) e (sym (j.same_at t) ∙ x))
 
     lines : Wants → List Report
-    lines q = flat_map (told (with_wants net q) p v.horizon to (data_ticks v.horizon to know)) (net.subscribers_at b)
+    lines q = flat_map (delivery_lines (with_wants net q) p v.horizon to (data_ticks v.horizon to know)) (net.subscribers_at b)
 
     frames : Wants → List Frame
     frames q = forward_frames (with_wants net q) p b new (net.children p b) v.wants
 
     build : List Wanted → List Report → List Frame → Outcome
     build ws ls fs = record {
-      view = trimmed (with_wants net g) p b (record { know = finished know (consolidated keeps to ws); wants = ws; asks = v.asks; horizon = to });
+      view = kept_view (with_wants net g) p b (record { know = finished know (consolidated keeps to ws); wants = ws; asks = v.asks; horizon = to });
       log = log;
       lines = ls;
       frames = fs;
@@ -223,7 +223,7 @@ unfolding answers
 reply_agree net f g p c i piece v h = ap (λ k. answers_of k (acknowledged (get_or v.wants i []) piece) piece) (passed_agree net f g p c v.know h)
 
 pub curiosity_agree : (net : Net) (f g : Wants) (p b now c i : ℕ) (piece : Wanted) (v : View) (log : Log) → Agree p f g v.know → curiosity (with_wants net f) p b now c i piece v log ≡ curiosity (with_wants net g) p b now c i piece v log
-unfolding curiosity trimmed
+unfolding curiosity kept_view
 curiosity_agree net f g p b now c i piece v log h = ap build (reply_agree net f g p c i piece v h)
   where
     w : Wanted
@@ -239,7 +239,7 @@ curiosity_agree net f g p b now c i piece v log h = ap build (reply_agree net f 
     build reply =
         let asked = asked_of (with_wants net g) p b now i piece reply v in
         record {
-          view = trimmed (with_wants net g) p b (record { know = know; wants = ws; asks = noted now v.asks asked; horizon = v.horizon });
+          view = kept_view (with_wants net g) p b (record { know = know; wants = ws; asks = noted now v.asks asked; horizon = v.horizon });
           log = log;
           lines = [];
           frames = know_frames b c p reply ++ up_frames (with_wants net g) p b asked;
@@ -247,11 +247,11 @@ curiosity_agree net f g p b now c i piece v log h = ap build (reply_agree net f 
 
 -- Calls that ask do not look at what is wanted
 pub expect_agree : (net : Net) (f g : Wants) (p b now tick : ℕ) (v : View) (log : Log) → expect (with_wants net f) p b now tick v log ≡ expect (with_wants net g) p b now tick v log
-unfolding expect asking trimmed
+unfolding expect asking kept_view
 expect_agree net f g p b now tick v log = refl
 
 below_agree : (net : Net) (f g : Wants) (p b now : ℕ) (v : View) (log : Log) → wake_below (with_wants net f) p b now v log ≡ wake_below (with_wants net g) p b now v log
-unfolding wake_below asking trimmed
+unfolding wake_below asking kept_view
 below_agree net f g p b now v log = refl
 
 -- The host

@@ -11,7 +11,7 @@ use Rattle.gr_know.specs.Values.{Known, is_D}
 use Rattle.gr_curio.specs.Values.{Wanted, is_A, same_Q3}
 use Rattle.gr_model.specs.Net.{not_empty}
 use Rattle.gr_frame.specs.Bytes.{cut_from, cut_frames}
-use Rattle.gr_model.specs.Broker.{all_A, all_points, horizon_if, is_reached, is_settled, consolidated, lower_data, without_front, forgotten, data_count}
+use Rattle.gr_model.specs.Broker.{all_A, all_points, horizon_if, is_reached, is_consolidated_by, consolidated, lower_data, without_front, forgotten, data_count}
 use Rattle.gr_tick.proofs.RunLaws.{value_at-in, value_at-below, value_at-above, value_at-start, AreRunsFrom-lower, AreRunsOf, tabulate-is, value_at-step, value_at-past, IsNone-append, IsPast-append}
 use Rattle.gr_curio.proofs.ValueLaws.{Q3_decides}
 
@@ -104,16 +104,16 @@ reached_step : (keeps : Bool) (h t : ℕ) → suc t ≢ suc h → is_reached (ho
 reached_step true h t n = le_step t h n
 reached_step false h t n = refl
 
-settled_past : (keeps : Bool) (h : ℕ) (ws : List Wanted) (t : ℕ) → (keeps || not_empty ws) ≡ true → suc h ≤ t → IsPast t (all_points ws) → is_settled keeps h ws t ≡ false
+settled_past : (keeps : Bool) (h : ℕ) (ws : List Wanted) (t : ℕ) → (keeps || not_empty ws) ≡ true → suc h ≤ t → IsPast t (all_points ws) → is_consolidated_by keeps h ws t ≡ false
 settled_past true h ws t k l n = rw (lt-leb t h l, and_right (nat_le 1 t) false refl) refl
 settled_past false h [] t k l n = absurd (false≢true k)
 settled_past false h (w ∷ ws) t k l n = and_right (nat_le 1 t && true) (all_A (w ∷ ws) t) (all_A-past w ws t n)
 
 -- A on the consolidated ticks, and canonical
-pub consolidated-is : (keeps : Bool) (h : ℕ) (ws : List Wanted) → (keeps || not_empty ws) ≡ true → AreRunsOf N (λ t. if is_settled keeps h ws t then A else N) (consolidated keeps h ws)
+pub consolidated-is : (keeps : Bool) (h : ℕ) (ws : List Wanted) → (keeps || not_empty ws) ≡ true → AreRunsOf N (λ t. if is_consolidated_by keeps h ws t then A else N) (consolidated keeps h ws)
 unfolding consolidated
 consolidated-is keeps h ws k =
-    tabulate-is N same_Q3 Q3_decides (λ t. if is_settled keeps h ws t then A else N) (1 ∷ (suc h ∷ all_points ws)) (record {
+    tabulate-is N same_Q3 Q3_decides (λ t. if is_consolidated_by keeps h ws t then A else N) (1 ∷ (suc h ∷ all_points ws)) (record {
       start = refl;
       step = λ t n. ap (λ b. if b then A else N) (ap₂ (λ x y. x && y) (ap₂ (λ x y. x && y) (one_step t n.0) (reached_step keeps h t n.1.0)) (all_A-step ws t n.1.1));
       past = λ t n. ap (λ b. if b then A else N) (settled_past keeps h ws t k n.1.0 n.1.1);

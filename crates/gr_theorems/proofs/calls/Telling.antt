@@ -14,9 +14,9 @@ use Rattle.gr_tick.specs.Runs.{zip_runs}
 use Rattle.gr_know.specs.Values.{Known, join_K, same_K}
 use Rattle.gr_curio.specs.Values.{Wanted}
 use Rattle.gr_model.specs.Net.{Net, keeps_horizon, is_host}
-use Rattle.gr_model.specs.Broker.{View, Log, Outcome, data_ticks, got_line, told, learn, wake_below, asking, expect, curiosity, receive, clashes, place_of, marking, cutting, wake_host, wake, publish, silence, with_event, with_mark}
+use Rattle.gr_model.specs.Broker.{View, Log, Outcome, data_ticks, got_line, delivery_lines, learn, wake_below, asking, expect, curiosity, receive, clashes, place_of, marking, cutting, wake_host, wake, publish, silence, with_event, with_mark}
 use Rattle.gr_model.specs.World.{sent_line, sent_lines}
-use Rattle.gr_model.specs.Headline.{gots, last_horizon, HorizonsRise}
+use Rattle.gr_model.specs.Headline.{delivered_events, last_horizon, HorizonsRise}
 use Rattle.gr_theorems.specs.Truth.{KnowsTruth}
 use Rattle.gr_theorems.specs.Said.{said_at, TicksRise, due_upto, due_between}
 use Rattle.gr_theorems.specs.Fits.{facts, LogFits, ViewTrue, BodyTrue}
@@ -28,11 +28,11 @@ use Rattle.gr_theorems.proofs.calls.CallTruth.{joined_true, horizon_after-is, le
 
 -- Lines one after another
 
-pub gots-append : (s p : ℕ) (xs ys : List Report) → gots s p (xs ++ ys) ≡ gots s p xs ++ gots s p ys
+pub gots-append : (s p : ℕ) (xs ys : List Report) → delivered_events s p (xs ++ ys) ≡ delivered_events s p xs ++ delivered_events s p ys
 gots-append s p [] ys = refl
 gots-append s p (line.Got r q t e ∷ xs) ys =
     ap (λ zs. (if nat_eq r s && nat_eq q p then (t, e) ∷ [] else []) ++ zs) (gots-append s p xs ys)
-    ∙ sym (append_assoc (if nat_eq r s && nat_eq q p then (t, e) ∷ [] else []) (gots s p xs) (gots s p ys))
+    ∙ sym (append_assoc (if nat_eq r s && nat_eq q p then (t, e) ∷ [] else []) (delivered_events s p xs) (delivered_events s p ys))
 gots-append s p (_ ∷ xs) ys = gots-append s p xs ys
 
 pub last_horizon-append : (s p n : ℕ) (xs ys : List Report) → last_horizon s p n (xs ++ ys) ≡ last_horizon s p (last_horizon s p n xs) ys
@@ -47,7 +47,7 @@ HorizonsRise-append s p n (_ ∷ xs) ys a b = HorizonsRise-append s p n xs ys a 
 
 -- lines that tell s nothing of p
 pub record Neutral (s p : ℕ) (ls : List Report) : Type 0 where
-  pub got : gots s p ls ≡ []
+  pub got : delivered_events s p ls ≡ []
   pub horizon : (n : ℕ) → last_horizon s p n ls ≡ n
   pub rise : (n : ℕ) → HorizonsRise s p n ls
 
@@ -72,8 +72,8 @@ sent_lines_neutral s p n (f ∷ fs) = Neutral-append s p (sent_line n f ∷ []) 
     one (body.Expect tick) = record { got = refl; horizon = λ n. refl; rise = λ n. tt }
 
 -- what a call at b for p, that moves the horizon from h to h', tells
-pub record Tells (net : Net) (p b h h' : ℕ) (events : Items) (ls : List Report) : Type 0 where
-  pub got : (s : ℕ) → list_any (λ x. nat_eq x s) (net.subscribers_at b) ≡ true → gots s p ls ≡ due_between net p s h h' events
+pub record DeliversUpto (net : Net) (p b h h' : ℕ) (events : Items) (ls : List Report) : Type 0 where
+  pub got : (s : ℕ) → list_any (λ x. nat_eq x s) (net.subscribers_at b) ≡ true → delivered_events s p ls ≡ due_between net p s h h' events
   pub horizon : (s : ℕ) → list_any (λ x. nat_eq x s) (net.subscribers_at b) ≡ true → last_horizon s p h ls ≡ h'
   pub rise : (s : ℕ) → list_any (λ x. nat_eq x s) (net.subscribers_at b) ≡ true → HorizonsRise s p h ls
   pub elsewhere : (s q : ℕ) → (q ≡ p → list_any (λ x. nat_eq x s) (net.subscribers_at b) ≡ false) → Neutral s q ls
@@ -91,14 +91,14 @@ due_nothing net p s h (x ∷ xs) = rw (none x.0) (due_nothing net p s h xs)
 
 -- Got lines of one subscriber
 
-got_same : (s p : ℕ) (xs : Items) → gots s p (map (got_line s p) xs) ≡ xs
+got_same : (s p : ℕ) (xs : Items) → delivered_events s p (map (got_line s p) xs) ≡ xs
 got_same s p [] = refl
 got_same s p (x ∷ xs) = rw (eq-eqb s s refl, eq-eqb p p refl) (ap (λ zs. x ∷ zs) (got_same s p xs))
 
 got_neutral : (s p r q : ℕ) (xs : Items) → (nat_eq r s && nat_eq q p) ≡ false → Neutral s p (map (got_line r q) xs)
 got_neutral s p r q xs e = record { got = go xs; horizon = λ n. flat xs n; rise = λ n. up xs n }
   where
-    go : (ys : Items) → gots s p (map (got_line r q) ys) ≡ []
+    go : (ys : Items) → delivered_events s p (map (got_line r q) ys) ≡ []
     go [] = refl
     go (y ∷ ys) = rw e (go ys)
 
@@ -115,24 +115,24 @@ got_flat s p r q n [] = refl
 got_flat s p r q n (x ∷ xs) = got_flat s p r q n xs
 
 -- what one subscriber is told
-told_got : (net : Net) (p h h' s : ℕ) (items : Items) (due : Items) → filter (λ x. net.wants p s x.0 x.1) items ≡ due → (h ≡ h' → due ≡ []) → gots s p (told net p h h' items s) ≡ due
-unfolding told
+told_got : (net : Net) (p h h' s : ℕ) (items : Items) (due : Items) → filter (λ x. net.wants p s x.0 x.1) items ≡ due → (h ≡ h' → due ≡ []) → delivered_events s p (delivery_lines net p h h' items s) ≡ due
+unfolding delivery_lines
 told_got net p h h' s items due e z =
     elim (cases_eq h h') [
       | inl k ↦ rw (eq-eqb h h' k) (sym (z k))
-      | inr k ↦ rw (ne_eqb h h' k) (gots-append s p (map (got_line s p) (filter (λ x. net.wants p s x.0 x.1) items)) (line.Horizon s p h' ∷ []) ∙ (append-nil (gots s p (map (got_line s p) (filter (λ x. net.wants p s x.0 x.1) items))) ∙ (got_same s p (filter (λ x. net.wants p s x.0 x.1) items) ∙ e)))
+      | inr k ↦ rw (ne_eqb h h' k) (gots-append s p (map (got_line s p) (filter (λ x. net.wants p s x.0 x.1) items)) (line.Horizon s p h' ∷ []) ∙ (append-nil (delivered_events s p (map (got_line s p) (filter (λ x. net.wants p s x.0 x.1) items))) ∙ (got_same s p (filter (λ x. net.wants p s x.0 x.1) items) ∙ e)))
     ]
 
-told_horizon : (net : Net) (p h h' s : ℕ) (items : Items) → last_horizon s p h (told net p h h' items s) ≡ h'
-unfolding told
+told_horizon : (net : Net) (p h h' s : ℕ) (items : Items) → last_horizon s p h (delivery_lines net p h h' items s) ≡ h'
+unfolding delivery_lines
 told_horizon net p h h' s items =
     elim (cases_eq h h') [
       | inl k ↦ rw (eq-eqb h h' k) k
       | inr k ↦ rw (ne_eqb h h' k) (last_horizon-append s p h (map (got_line s p) (filter (λ x. net.wants p s x.0 x.1) items)) (line.Horizon s p h' ∷ []) ∙ rw (eq-eqb s s refl, eq-eqb p p refl) refl)
     ]
 
-told_rise : (net : Net) (p h h' s : ℕ) (items : Items) → h ≤ h' → HorizonsRise s p h (told net p h h' items s)
-unfolding told
+told_rise : (net : Net) (p h h' s : ℕ) (items : Items) → h ≤ h' → HorizonsRise s p h (delivery_lines net p h h' items s)
+unfolding delivery_lines
 told_rise net p h h' s items l =
     elim (cases_eq h h') [
       | inl k ↦ rw (eq-eqb h h' k) tt
@@ -144,8 +144,8 @@ told_rise net p h h' s items l =
     up [] n = tt
     up (y ∷ ys) n = up ys n
 
-told_neutral : (net : Net) (p h h' r s q : ℕ) (items : Items) → (nat_eq r s && nat_eq p q) ≡ false → Neutral s q (told net p h h' items r)
-unfolding told
+told_neutral : (net : Net) (p h h' r s q : ℕ) (items : Items) → (nat_eq r s && nat_eq p q) ≡ false → Neutral s q (delivery_lines net p h h' items r)
+unfolding delivery_lines
 told_neutral net p h h' r s q items e =
     elim (cases_Bool (nat_eq h h')) [
       | inl k ↦ rw k (Neutral-nil s q)
@@ -153,10 +153,10 @@ told_neutral net p h h' r s q items e =
     ]
 
 -- what all subscribers of a broker are told
-all_neutral : (net : Net) (p h h' s q : ℕ) (items : Items) (xs : List ℕ) → (q ≡ p → list_any (λ x. nat_eq x s) xs ≡ false) → Neutral s q (flat_map (told net p h h' items) xs)
+all_neutral : (net : Net) (p h h' s q : ℕ) (items : Items) (xs : List ℕ) → (q ≡ p → list_any (λ x. nat_eq x s) xs ≡ false) → Neutral s q (flat_map (delivery_lines net p h h' items) xs)
 all_neutral net p h h' s q items [] n = Neutral-nil s q
 all_neutral net p h h' s q items (x ∷ xs) n =
-    Neutral-append s q (told net p h h' items x) (flat_map (told net p h h' items) xs)
+    Neutral-append s q (delivery_lines net p h h' items x) (flat_map (delivery_lines net p h h' items) xs)
     (told_neutral net p h h' x s q items (elim (cases_eq p q) [
       | inl e ↦ ap (λ b. b && nat_eq p q) (or_parts (nat_eq x s) (list_any (λ y. nat_eq y s) xs) (n (sym e))).0
       | inr e ↦ and_right (nat_eq x s) (nat_eq p q) (ne_eqb p q e)
@@ -164,27 +164,27 @@ all_neutral net p h h' s q items (x ∷ xs) n =
     (all_neutral net p h h' s q items xs (λ e. (or_parts (nat_eq x s) (list_any (λ y. nat_eq y s) xs) (n e)).1))
 
 all_got : (net : Net) (p h h' s : ℕ) (items due : Items) (xs : List ℕ) → IsDistinct xs → list_any (λ x. nat_eq x s) xs ≡ true → h ≤ h' → filter (λ x. net.wants p s x.0 x.1) items ≡ due → (h ≡ h' → due ≡ []) →
-    (gots s p (flat_map (told net p h h' items) xs) ≡ due) × (last_horizon s p h (flat_map (told net p h h' items) xs) ≡ h') × HorizonsRise s p h (flat_map (told net p h h' items) xs)
+    (delivered_events s p (flat_map (delivery_lines net p h h' items) xs) ≡ due) × (last_horizon s p h (flat_map (delivery_lines net p h h' items) xs) ≡ h') × HorizonsRise s p h (flat_map (delivery_lines net p h h' items) xs)
 all_got net p h h' s items due [] d m l e z = absurd (false≢true m)
 all_got net p h h' s items due (x ∷ xs) d m l e z =
     elim (cases_eq x s) [
       | inl k ↦
           let rest = all_neutral net p h h' s p items xs (λ _. subst (λ y. list_any (λ a. nat_eq a y) xs ≡ false) k d.0) in (
-            gots-append s p (told net p h h' items x) (flat_map (told net p h h' items) xs) ∙ (ap₂ (λ u v. u ++ v) (subst (λ y. gots s p (told net p h h' items y) ≡ due) (sym k) (told_got net p h h' s items due e z)) rest.got ∙ append-nil due),
-            last_horizon-append s p h (told net p h h' items x) (flat_map (told net p h h' items) xs) ∙ (rest.horizon (last_horizon s p h (told net p h h' items x)) ∙ subst (λ y. last_horizon s p h (told net p h h' items y) ≡ h') (sym k) (told_horizon net p h h' s items)),
-            HorizonsRise-append s p h (told net p h h' items x) (flat_map (told net p h h' items) xs) (subst (λ y. HorizonsRise s p h (told net p h h' items y)) (sym k) (told_rise net p h h' s items l)) (rest.rise (last_horizon s p h (told net p h h' items x))),
+            gots-append s p (delivery_lines net p h h' items x) (flat_map (delivery_lines net p h h' items) xs) ∙ (ap₂ (λ u v. u ++ v) (subst (λ y. delivered_events s p (delivery_lines net p h h' items y) ≡ due) (sym k) (told_got net p h h' s items due e z)) rest.got ∙ append-nil due),
+            last_horizon-append s p h (delivery_lines net p h h' items x) (flat_map (delivery_lines net p h h' items) xs) ∙ (rest.horizon (last_horizon s p h (delivery_lines net p h h' items x)) ∙ subst (λ y. last_horizon s p h (delivery_lines net p h h' items y) ≡ h') (sym k) (told_horizon net p h h' s items)),
+            HorizonsRise-append s p h (delivery_lines net p h h' items x) (flat_map (delivery_lines net p h h' items) xs) (subst (λ y. HorizonsRise s p h (delivery_lines net p h h' items y)) (sym k) (told_rise net p h h' s items l)) (rest.rise (last_horizon s p h (delivery_lines net p h h' items x))),
           )
       | inr k ↦
           let first = told_neutral net p h h' x s p items (ap (λ b. b && nat_eq p p) (ne_eqb x s k)) in
           let rest = all_got net p h h' s items due xs d.1 (subst (λ b. (b || list_any (λ a. nat_eq a s) xs) ≡ true) (ne_eqb x s k) m) l e z in (
-            gots-append s p (told net p h h' items x) (flat_map (told net p h h' items) xs) ∙ (ap (λ u. u ++ gots s p (flat_map (told net p h h' items) xs)) first.got ∙ rest.0),
-            last_horizon-append s p h (told net p h h' items x) (flat_map (told net p h h' items) xs) ∙ (ap (λ n. last_horizon s p n (flat_map (told net p h h' items) xs)) (first.horizon h) ∙ rest.1),
-            HorizonsRise-append s p h (told net p h h' items x) (flat_map (told net p h h' items) xs) (first.rise h) (subst (λ n. HorizonsRise s p n (flat_map (told net p h h' items) xs)) (sym (first.horizon h)) rest.2),
+            gots-append s p (delivery_lines net p h h' items x) (flat_map (delivery_lines net p h h' items) xs) ∙ (ap (λ u. u ++ delivered_events s p (flat_map (delivery_lines net p h h' items) xs)) first.got ∙ rest.0),
+            last_horizon-append s p h (delivery_lines net p h h' items x) (flat_map (delivery_lines net p h h' items) xs) ∙ (ap (λ n. last_horizon s p n (flat_map (delivery_lines net p h h' items) xs)) (first.horizon h) ∙ rest.1),
+            HorizonsRise-append s p h (delivery_lines net p h h' items x) (flat_map (delivery_lines net p h h' items) xs) (first.rise h) (subst (λ n. HorizonsRise s p n (flat_map (delivery_lines net p h h' items) xs)) (sym (first.horizon h)) rest.2),
           )
     ]
 
 -- learning tells exactly what is due
-pub learn_tells : (net : Net) (p b : ℕ) (piece : Known) (v : View) (log : Log) (reached : ℕ → ℕ) → IsNet net → p < net.publishers → b < net.brokers → LogFits log → ViewTrue net (facts log reached) p b v → KnowsTruth net (facts log reached) p b piece → ((s : ℕ) → list_any (λ x. nat_eq x s) (net.subscribers_at b) ≡ true → reached s ≡ v.horizon) → Tells net p b v.horizon (learned_horizon net p b piece v) log.events (learn net p b piece v log).lines
+pub learn_tells : (net : Net) (p b : ℕ) (piece : Known) (v : View) (log : Log) (reached : ℕ → ℕ) → IsNet net → p < net.publishers → b < net.brokers → LogFits log → ViewTrue net (facts log reached) p b v → KnowsTruth net (facts log reached) p b piece → ((s : ℕ) → list_any (λ x. nat_eq x s) (net.subscribers_at b) ≡ true → reached s ≡ v.horizon) → DeliversUpto net p b v.horizon (learned_horizon net p b piece v) log.events (learn net p b piece v log).lines
 unfolding learn
 learn_tells net p b piece v log reached n i j fit h k exact =
     let f = facts log reached in
@@ -207,14 +207,14 @@ learn_tells net p b piece v log reached n i j fit h k exact =
 -- What each call tells
 
 abbrev pub CallTells : Net → ℕ → ℕ → View → Outcome → Type 0
-CallTells net p b v o = Tells net p b v.horizon o.view.horizon o.log.events o.lines
+CallTells net p b v o = DeliversUpto net p b v.horizon o.view.horizon o.log.events o.lines
 
 -- lines that tell nobody anything
 abbrev pub Silent : List Report → Type 0
 Silent ls = (s q : ℕ) → Neutral s q ls
 
-Tells-silent : (net : Net) (p b h h' : ℕ) (events : Items) (ls : List Report) → h ≡ h' → Silent ls → Tells net p b h h' events ls
-Tells-silent net p b h h' events ls e n = subst (λ z. Tells net p b h z events ls) e (record {
+Tells-silent : (net : Net) (p b h h' : ℕ) (events : Items) (ls : List Report) → h ≡ h' → Silent ls → DeliversUpto net p b h h' events ls
+Tells-silent net p b h h' events ls e n = subst (λ z. DeliversUpto net p b h z events ls) e (record {
   got = λ s m. (n s p).got ∙ sym (due_nothing net p s h events);
   horizon = λ s m. (n s p).horizon h;
   rise = λ s m. (n s p).rise h;
@@ -222,9 +222,9 @@ Tells-silent net p b h h' events ls e n = subst (λ z. Tells net p b h z events 
 })
 
 -- silent lines before
-Tells-before : (net : Net) (p b h h' : ℕ) (events : Items) (pre ls : List Report) → Silent pre → Tells net p b h h' events ls → Tells net p b h h' events (pre ++ ls)
+Tells-before : (net : Net) (p b h h' : ℕ) (events : Items) (pre ls : List Report) → Silent pre → DeliversUpto net p b h h' events ls → DeliversUpto net p b h h' events (pre ++ ls)
 Tells-before net p b h h' events pre ls n t = record {
-  got = λ s m. gots-append s p pre ls ∙ (ap (λ z. z ++ gots s p ls) (n s p).got ∙ t.got s m);
+  got = λ s m. gots-append s p pre ls ∙ (ap (λ z. z ++ delivered_events s p ls) (n s p).got ∙ t.got s m);
   horizon = λ s m. last_horizon-append s p h pre ls ∙ (ap (λ z. last_horizon s p z ls) ((n s p).horizon h) ∙ t.horizon s m);
   rise = λ s m. HorizonsRise-append s p h pre ls ((n s p).rise h) (subst (λ z. HorizonsRise s p z ls) (sym ((n s p).horizon h)) (t.rise s m));
   elsewhere = λ s q a. Neutral-append s q pre ls (n s q) (t.elsewhere s q a);
@@ -238,8 +238,8 @@ Exact net b v reached = (s : ℕ) → list_any (λ x. nat_eq x s) (net.subscribe
 
 learn_call_tells : (net : Net) (p b : ℕ) (piece : Known) (v : View) (log : Log) (reached : ℕ → ℕ) → IsNet net → p < net.publishers → b < net.brokers → LogFits log → ViewTrue net (facts log reached) p b v → KnowsTruth net (facts log reached) p b piece → Exact net b v reached → CallTells net p b v (learn net p b piece v log)
 learn_call_tells net p b piece v log reached n i j fit h k exact =
-    subst (λ z. Tells net p b v.horizon z (learn net p b piece v log).log.events (learn net p b piece v log).lines) (sym (learn_horizon net p b piece v log))
-    (subst (λ l. Tells net p b v.horizon (learned_horizon net p b piece v) l.events (learn net p b piece v log).lines) (sym (learn_log net p b piece v log)) (learn_tells net p b piece v log reached n i j fit h k exact))
+    subst (λ z. DeliversUpto net p b v.horizon z (learn net p b piece v log).log.events (learn net p b piece v log).lines) (sym (learn_horizon net p b piece v log))
+    (subst (λ l. DeliversUpto net p b v.horizon (learned_horizon net p b piece v) l.events (learn net p b piece v log).lines) (sym (learn_log net p b piece v log)) (learn_tells net p b piece v log reached n i j fit h k exact))
 
 wake_below_tells : (net : Net) (p b now : ℕ) (v : View) (log : Log) → CallTells net p b v (wake_below net p b now v log)
 unfolding wake_below asking
@@ -258,7 +258,7 @@ still_tells net p b v log ls n = Tells-silent net p b v.horizon v.horizon log.ev
 
 pub receive_tells : (net : Net) (now : ℕ) (f : Frame) (v : View) (log : Log) (reached : ℕ → ℕ) → IsNet net → f.head.publisher < net.publishers → f.head.to < net.brokers → BodyTrue net (facts log reached) f.head.publisher f.head.from f.head.to f.body → LogFits log → ViewTrue net (facts log reached) f.head.publisher f.head.to v → Exact net f.head.to v reached → CallTells net f.head.publisher f.head.to v (receive net now f v log)
 unfolding receive
-receive_tells net now f v log reached n i j told fit h exact = go f.body told
+receive_tells net now f v log reached n i j delivery_lines fit h exact = go f.body delivery_lines
   where
     learned : (runs : Known) → KnowsTruth net (facts log reached) f.head.publisher f.head.to runs → (q : Bool) → (let o : Outcome = elim q [ true ↦ record { view = v; log = log; lines = []; frames = [] } | false ↦ learn net f.head.publisher f.head.to runs v log ] in CallTells net f.head.publisher f.head.to v o)
     learned runs k true = still_tells net f.head.publisher f.head.to v log [] nil_silent
@@ -294,7 +294,7 @@ wake_host_tells net p b now v log reached n i j host fit h exact =
     let s = cutting_same net p b o.view o.log in
     let mark : List Report = if nat_lt log.settled o.log.settled then line.Mark p now ∷ [] else [] in
     let cut : List Report = if nat_lt o.log.cut (cutting net p b o.view o.log).cut then line.Cut p (cutting net p b o.view o.log).cut ∷ [] else [] in
-    subst (λ z. Tells net p b v.horizon o.view.horizon z (wake_host net p b now v log).lines) (sym s.events)
+    subst (λ z. DeliversUpto net p b v.horizon o.view.horizon z (wake_host net p b now v log).lines) (sym s.events)
     (Tells-before net p b v.horizon o.view.horizon o.log.events (mark ++ cut) o.lines
     (λ x q. Neutral-append x q mark cut (if_silent (nat_lt log.settled o.log.settled) (line.Mark p now) (λ x q. record { got = refl; horizon = λ n. refl; rise = λ n. tt }) x q) (if_silent (nat_lt o.log.cut (cutting net p b o.view o.log).cut) (line.Cut p (cutting net p b o.view o.log).cut) (λ x q. record { got = refl; horizon = λ n. refl; rise = λ n. tt }) x q))
     (marking_tells net p b now v log reached n i j host fit h exact))

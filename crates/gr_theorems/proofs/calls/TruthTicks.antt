@@ -12,7 +12,7 @@ use Rattle.gr_curio.specs.Values.{Wanted, wanted_at, is_A}
 use Rattle.gr_know.specs.Values.{join_K, clash_K}
 use Rattle.gr_event.specs.Event.{same_event}
 use Rattle.gr_model.specs.Net.{Net, is_host, wanted_below, pass, keeps_horizon, not_empty, is_empty}
-use Rattle.gr_model.specs.Broker.{all_A, horizon_if, is_reached, is_settled}
+use Rattle.gr_model.specs.Broker.{all_A, horizon_if, is_reached, is_consolidated_by}
 use Rattle.gr_theorems.specs.Truth.{Facts, concerns, TrueS, TrueD, TrueF, IsTrueAt, AllWantTruth, IsLater}
 use Rattle.gr_model.specs.Tree.{IsPlace}
 use Rattle.gr_event.proofs.SameEvent.{event_itself}
@@ -158,7 +158,7 @@ all_A-at net f p (d ∷ cs) (w ∷ ws) t a h c m =
     A-at A h = refl
 
 -- a consolidated tick may be F
-pub consolidated_true : (net : Net) (f : Facts) (p b h t : ℕ) (ws : List Wanted) → IsPlace net p b → AllWantTruth net f p (net.children p b) ws → h ≤ f.settled → ((s : ℕ) → list_any (λ x. nat_eq x s) (net.subscribers_at b) ≡ true → h ≤ f.reached s) → is_settled (keeps_horizon net p b) h ws t ≡ true → TrueF net f p b t
+pub consolidated_true : (net : Net) (f : Facts) (p b h t : ℕ) (ws : List Wanted) → IsPlace net p b → AllWantTruth net f p (net.children p b) ws → h ≤ f.settled → ((s : ℕ) → list_any (λ x. nat_eq x s) (net.subscribers_at b) ≡ true → h ≤ f.reached s) → is_consolidated_by (keeps_horizon net p b) h ws t ≡ true → TrueF net f p b t
 consolidated_true net f p b h t ws place a below here e =
     let k = and_parts (nat_le 1 t && is_reached (horizon_if (keeps_horizon net p b) h) t) (all_A ws t) e in
     let l = (and_parts (nat_le 1 t) (is_reached (horizon_if (keeps_horizon net p b) h) t) k.0).1 in

@@ -9,7 +9,7 @@ use Rattle.gr_model.specs.declared.report.Report.{Report}
 use Rattle.gr_model.specs.declared.report.Report.TheVariants as line
 use Rattle.gr_model.specs.Net.{Net}
 use Rattle.gr_model.specs.World.{log_of, start, run_all, run_from}
-use Rattle.gr_model.specs.Headline.{History, after, begin, found_in, history, record_of, gots}
+use Rattle.gr_model.specs.Headline.{History, history_after, begin, reopened_cut, history, record_of, delivered_events}
 use Rattle.gr_theorems.specs.Said.{said_at, TicksRise}
 use Rattle.gr_model.specs.Broker.{started}
 use Rattle.gr_model.specs.Tree.{IsNet}
@@ -34,11 +34,11 @@ past_one : {X : Type 0} (y x : X) (xs : List X) → Contains xs x → Contains (
 past_one y x xs c = (suc c.0, omega (arith, c.1), c.2)
 
 -- what is said is listed, and what is got is a got line
-pub got_in : (s p u : ℕ) (e : Event) (xs : List Report) → said_at (gots s p xs) u ≡ Some e → Contains xs (line.Got s p u e)
+pub got_in : (s p u : ℕ) (e : Event) (xs : List Report) → said_at (delivered_events s p xs) u ≡ Some e → Contains xs (line.Got s p u e)
 got_in s p u e [] h = absurd (some_none e h)
 got_in s p u e (line.Got r q t v ∷ xs) h = go (λ k. got_in s p u e xs k) (nat_eq r s && nat_eq q p) refl h
   where
-    go : (said_at (gots s p xs) u ≡ Some e → Contains xs (line.Got s p u e)) → (c : Bool) → (nat_eq r s && nat_eq q p) ≡ c → said_at ((if c then (t, v) ∷ [] else []) ++ gots s p xs) u ≡ Some e → Contains (line.Got r q t v ∷ xs) (line.Got s p u e)
+    go : (said_at (delivered_events s p xs) u ≡ Some e → Contains xs (line.Got s p u e)) → (c : Bool) → (nat_eq r s && nat_eq q p) ≡ c → said_at ((if c then (t, v) ∷ [] else []) ++ delivered_events s p xs) u ≡ Some e → Contains (line.Got r q t v ∷ xs) (line.Got s p u e)
     go more false x k = past_one (line.Got r q t v) (line.Got s p u e) xs (more k)
     go more true x k =
         elim (cases_eq t u) [
@@ -46,9 +46,9 @@ got_in s p u e (line.Got r q t v ∷ xs) h = go (λ k. got_in s p u e xs k) (nat
               let a = and_parts (nat_eq r s) (nat_eq q p) x in
               let b = eqb-true r s a.0 in
               let c = eqb-true q p a.1 in
-              let d = some_some v e (sym (said_at-here (t, v) (gots s p xs) u y) ∙ k) in
+              let d = some_some v e (sym (said_at-here (t, v) (delivered_events s p xs) u y) ∙ k) in
               (0, omega arith, λ i. line.Got (b i) (c i) (y i) (d i))
-          | inr y ↦ past_one (line.Got r q t v) (line.Got s p u e) xs (more (sym (said_at-past (t, v) (gots s p xs) u y) ∙ k))
+          | inr y ↦ past_one (line.Got r q t v) (line.Got s p u e) xs (more (sym (said_at-past (t, v) (delivered_events s p xs) u y) ∙ k))
         ]
 got_in s p u e (l ∷ xs) h = past_one l (line.Got s p u e) xs (got_in s p u e xs h)
 
@@ -66,22 +66,22 @@ start_meets : (net : Net) → IsNet net → HostsMeet net (start net)
 unfolding started
 start_meets net n q x y = ap (λ v. v.horizon) (start_is net (net.host q) q (n.host_in q x) x) ∙ ap (λ l. l.settled) (sym (start_log net q x))
 
-begin_found : (net : Net) (q : ℕ) → q < net.publishers → found_in (begin net) q ≡ 0
+begin_found : (net : Net) (q : ℕ) → q < net.publishers → reopened_cut (begin net) q ≡ 0
 unfolding begin
 begin_found net q j = get_or-replicate net.publishers q 0 0 j
 
 -- what was found stays
-history_found : (net : Net) (h : History) (ls : List Line) (rs : List (List Report)) → (history net h ls rs).found ≡ h.found
-unfolding after
+history_found : (net : Net) (h : History) (ls : List Line) (rs : List (List Report)) → (history net h ls rs).reopened_cuts ≡ h.reopened_cuts
+unfolding history_after
 history_found net h [] rs = refl
 history_found net h (l ∷ ls) [] = refl
-history_found net h (l ∷ ls) (r ∷ rs) = history_found net (after net h l r) ls rs
+history_found net h (l ∷ ls) (r ∷ rs) = history_found net (history_after net h l r) ls rs
 
-pub start_ordered : (net : Net) → IsNet net → Ordered net (found_in (begin net)) (start net) []
+pub start_ordered : (net : Net) → IsNet net → Ordered net (reopened_cut (begin net)) (start net) []
 start_ordered net n = record { meets = start_meets net n; last = λ q j. begin_found net q j ∙ ap (λ l. l.cut) (sym (start_log net q j)); each = λ q j. tt }
 
-pub always_ordered : (net : Net) (ls : List Line) → IsNet net → StepsIn net ls → Ordered net (found_in (begin net)) (run_all net (start net) ls).world (run_all net (start net) ls).lines
-always_ordered net ls n i = run_orders net (start net) ls n (start_fits net n) i (found_in (begin net)) [] (start_lines net) (start_ordered net n)
+pub always_ordered : (net : Net) (ls : List Line) → IsNet net → StepsIn net ls → Ordered net (reopened_cut (begin net)) (run_all net (start net) ls).world (run_all net (start net) ls).lines
+always_ordered net ls n i = run_orders net (start net) ls n (start_fits net n) i (reopened_cut (begin net)) [] (start_lines net) (start_ordered net n)
 
 -- I10: a host with subscribers has its horizon where its log is settled, whatever the schedule
 pub hosts_always_meet : (net : Net) (ls : List Line) → IsNet net → StepsIn net ls → HostsMeet net (run_all net (start net) ls).world
@@ -92,9 +92,9 @@ cuts_in_order net ls p n z i j =
     let w = (run_all net (start net) ls).world in
     let told = (run_all net (start net) ls).lines in
     let x = runs net (start net) _ ls n z (start_fits net n) (begin_fits net) i in
-    let same : (history_of net ls).found ≡ (begin net).found = history_found net (begin net) ls (run_from net (start net) ls) in
-    let o : Ordered net (found_in (history_of net ls)) w told = subst (λ (z : List ℕ). Ordered net (λ q. get_or z q 0) w told) (sym same) (always_ordered net ls n i) in
-    let found : ℕ → ℕ = found_in (history_of net ls) in
+    let same : (history_of net ls).reopened_cuts ≡ (begin net).reopened_cuts = history_found net (begin net) ls (run_from net (start net) ls) in
+    let o : Ordered net (reopened_cut (history_of net ls)) w told = subst (λ (z : List ℕ). Ordered net (λ q. get_or z q 0) w told) (sym same) (always_ordered net ls n i) in
+    let found : ℕ → ℕ = reopened_cut (history_of net ls) in
     let e : (history_of net ls).lines ≡ told = x.lines ∙ ap (λ k. k ++ told) (begin_lines net) in
     let c : record_of (history_of net ls) p ≡ core_of w p = record_core net w (history_of net ls) p x.records in
     let at : (t : ℕ) (xs ys : List Report) → (history_of net ls).lines ≡ xs ++ line.Cut p t ∷ ys → CutFits net found w p t xs = λ t xs ys h. CutsHave-at (CutFits net found w p) p t [] xs ys (subst (λ k. CutsHave (CutFits net found w p) p [] k) (sym e ∙ h) (o.each p j)) in

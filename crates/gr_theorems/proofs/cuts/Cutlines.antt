@@ -10,7 +10,7 @@ use Rattle.gr_model.specs.declared.report.Report.{Report}
 use Rattle.gr_model.specs.declared.report.Report.TheVariants as line
 use Rattle.gr_know.specs.Values.{Known}
 use Rattle.gr_model.specs.Net.{Net, is_host, keeps_horizon}
-use Rattle.gr_model.specs.Broker.{View, Log, Outcome, told, got_line, learn, publish, marking, cutting, wake, wake_host, wake_below, asking, curiosity, expect, receive, clashes, place_of, silence, with_event, with_mark, with_cut, done_upto, consolidated, publish_by}
+use Rattle.gr_model.specs.Broker.{View, Log, Outcome, delivery_lines, got_line, learn, publish, marking, cutting, wake, wake_host, wake_below, asking, curiosity, expect, receive, clashes, place_of, silence, with_event, with_mark, with_cut, done_upto, consolidated, publish_by}
 use Rattle.gr_model.specs.World.{sent_line, sent_lines}
 use Rattle.gr_model.specs.Headline.{last_cut}
 use Rattle.gr_pubend.specs.declared.answers.Published.TheVariants.{Logged}
@@ -85,8 +85,8 @@ got_free : (q s p : ℕ) (xs : List (ℕ × Event)) → CutFree q (map (got_line
 got_free q s p [] = tt
 got_free q s p (x ∷ xs) = got_free q s p xs
 
-told_free : (net : Net) (q p h h' s : ℕ) (items : List (ℕ × Event)) → CutFree q (told net p h h' items s)
-unfolding told
+told_free : (net : Net) (q p h h' s : ℕ) (items : List (ℕ × Event)) → CutFree q (delivery_lines net p h h' items s)
+unfolding delivery_lines
 told_free net q p h h' s items = go (nat_eq h h')
   where
     go : (c : Bool) → CutFree q (if c then [] else map (got_line s p) (filter (λ x. net.wants p s x.0 x.1) items) ++ line.Horizon s p h' ∷ [])
@@ -97,9 +97,9 @@ pub learn_free : (net : Net) (p b q : ℕ) (piece : Known) (v : View) (log : Log
 unfolding learn
 learn_free net p b q piece v log = go _ _ (net.subscribers_at b)
   where
-    go : (h : ℕ) (items : List (ℕ × Event)) (xs : List ℕ) → CutFree q (flat_map (told net p v.horizon h items) xs)
+    go : (h : ℕ) (items : List (ℕ × Event)) (xs : List ℕ) → CutFree q (flat_map (delivery_lines net p v.horizon h items) xs)
     go h items [] = tt
-    go h items (x ∷ xs) = CutFree-append q (told net p v.horizon h items x) (flat_map (told net p v.horizon h items) xs) (told_free net q p v.horizon h x items) (go h items xs)
+    go h items (x ∷ xs) = CutFree-append q (delivery_lines net p v.horizon h items x) (flat_map (delivery_lines net p v.horizon h items) xs) (told_free net q p v.horizon h x items) (go h items xs)
 
 -- What a call cuts
 

@@ -13,7 +13,7 @@ use Rattle.gr_model.specs.declared.report.Report.{Report}
 use Rattle.gr_model.specs.declared.report.Report.TheVariants as line
 use Rattle.gr_model.specs.Net.{Net, not_empty, numbers, keeps_horizon}
 use Rattle.gr_model.specs.Broker.{Log, empty_log, with_event, is_kept, max_tick, wake, receive, publish}
-use Rattle.gr_model.specs.World.{World, Told, blank_view, view_of, log_of, unchanged, after, in_turn, wake_for, wake_all, deliver_frame, frame_at, publish_now, restarted, crash, publish_stopped, sweep_for, sweep, sweep_moment, next, show, opened_lines, kept_events, run_all, deliver_frame_by, next_by, publish_now_by, publish_stopped_by, sweep_by, wake_for_by}
+use Rattle.gr_model.specs.World.{World, Transition, blank_view, view_of, log_of, unchanged, followed_by, in_turn, wake_for, wake_all, deliver_frame, frame_at, publish_now, restarted, crash, publish_stopped, sweep_for, sweep, sweep_moment, next, show, opened_lines, kept_events, run_all, deliver_frame_by, next_by, publish_now_by, publish_stopped_by, sweep_by, wake_for_by}
 use Rattle.gr_frame.specs.Bytes.{frame_bytes}
 use Rattle.gr_theorems.specs.Truth.{IsLater}
 use Rattle.gr_theorems.specs.Fits.{facts_of, reached_in, WorldFits, LinesFit, FrameTrue, StepIn, StepsIn}
@@ -26,13 +26,13 @@ use Rattle.gr_theorems.proofs.cuts.Orders.{CutFits, CutFits-later, Ordered, orde
 use Rattle.gr_theorems.proofs.runs.Chains.{Chains, wake_all_chain, sweeps_chain}
 
 -- what a step does to the order
-abbrev pub Orders : Net → World → Told → Type 0
+abbrev pub Orders : Net → World → Transition → Type 0
 Orders net w t = (found : ℕ → ℕ) (ls : List Report) → LinesFit net w ls → Ordered net found w ls → Ordered net found t.world (ls ++ t.lines)
 
 still_orders : (net : Net) (w : World) (more : List Report) → ((q : ℕ) → CutFree q more) → Orders net w (unchanged w more)
 still_orders net w more free found ls l o = ordered_free net found w w ls more (λ q j. Later-refl (facts_of net w q)) o.meets (λ q j. free q) (λ q j. refl) o
 
-orders_after : (net : Net) (w : World) (t : Told) (f : World → Told) → Kept net w t → Orders net w t → Orders net t.world (f t.world) → Orders net w (after t f)
+orders_after : (net : Net) (w : World) (t : Transition) (f : World → Transition) → Kept net w t → Orders net w t → Orders net t.world (f t.world) → Orders net w (followed_by t f)
 orders_after net w t f k a b found ls l o = subst (λ z. Ordered net found (f t.world).world z) (append_assoc ls t.lines (f t.world).lines) (b found (ls ++ t.lines) (k.lines ls l) (a found ls l o))
 
 wake_for_orders : (net : Net) (w : World) (b p : ℕ) → IsNet net → WorldFits net w → b < net.brokers → p < net.publishers → Kept net w (wake_for net w b p) → ((m : HostsMeet net w) → HostsMeet net (wake_for net w b p).world) → Orders net w (wake_for net w b p)
@@ -110,7 +110,7 @@ stopped_orders net w k p number stop e n f j = host_at (not_empty (net.subscribe
     kept : Bool
     kept = is_kept log.gate stop.call stop.pick
 
-    told : Bool → Told
+    told : Bool → Transition
     told q =
         let logs : List Log = if q then set w.logs p (with_event log tick e) else w.logs in
         record {
@@ -134,11 +134,11 @@ stopped_orders net w k p number stop e n f j = host_at (not_empty (net.subscribe
         (restart_meets net w (told false).world (net.host p) no_one (λ q z. restarted_other net u (net.host p) (net.host q) q z) (λ q z. restarted_log net u (net.host p) q) o.meets)
         (λ q z. opened_free net w.logs (net.host p) q) (λ q z. ap (λ m. m.cut) (restarted_log net u (net.host p) q)) o
 
-    number_at : (q : Bool) → not_empty (net.subscribers_at (net.host p)) ≡ false → (let t : Told = elim q [ false ↦ publish_now net w p number e | true ↦ told kept ] in Kept net w t → Orders net w t)
+    number_at : (q : Bool) → not_empty (net.subscribers_at (net.host p)) ≡ false → (let t : Transition = elim q [ false ↦ publish_now net w p number e | true ↦ told kept ] in Kept net w t → Orders net w t)
     number_at false no_one y = publishing_orders net w p number e n f j
     number_at true no_one y = told_at kept no_one y
 
-    host_at : (q : Bool) → not_empty (net.subscribers_at (net.host p)) ≡ q → (let t : Told = elim q [ true ↦ unchanged w (line.RefusedHosts k (net.host p) ∷ []) | false ↦ elim (nat_eq number (suc log.last) && nat_le tick max_tick) [ false ↦ publish_now net w p number e | true ↦ told kept ] ] in Kept net w t → Orders net w t)
+    host_at : (q : Bool) → not_empty (net.subscribers_at (net.host p)) ≡ q → (let t : Transition = elim q [ true ↦ unchanged w (line.RefusedHosts k (net.host p) ∷ []) | false ↦ elim (nat_eq number (suc log.last) && nat_le tick max_tick) [ false ↦ publish_now net w p number e | true ↦ told kept ] ] in Kept net w t → Orders net w t)
     host_at true h y = still_orders net w (line.RefusedHosts k (net.host p) ∷ []) (λ q. tt)
     host_at false h y = number_at (nat_eq number (suc log.last) && nat_le tick max_tick) h y
 
@@ -150,7 +150,7 @@ clocked w clock most = record { clock = clock; most = most; frames = w.frames; v
 clocked_later : (net : Net) (w : World) (clock most q : ℕ) → IsLater (facts_of net w q) (facts_of net (clocked w clock most) q)
 clocked_later net w clock most q = record { settled = le_refl (log_of w q).settled; said = λ t y. refl; reached = λ s. le_refl (reached_in net w q s) }
 
-clocked_orders : (net : Net) (w : World) (clock most : ℕ) (t : Told) → Orders net (clocked w clock most) t → Orders net w t
+clocked_orders : (net : Net) (w : World) (clock most : ℕ) (t : Transition) → Orders net (clocked w clock most) t → Orders net w t
 clocked_orders net w clock most t k found ls l o =
     k found ls (record { got = l.got; horizon = l.horizon; rise = l.rise })
     (record { meets = o.meets; last = o.last; each = λ q j. CutsHave-map (CutFits net found w q) (CutFits net found (clocked w clock most) q) q [] ls (λ t xs c. CutFits-later net found w (clocked w clock most) q t xs (clocked_later net w clock most q) c) (o.each q j) })
@@ -165,11 +165,11 @@ sweep_orders net w k n f = go (nat_lt max_tick m)
     u : World
     u = record { clock = m; most = max m w.most; frames = w.frames; views = w.views; logs = w.logs }
 
-    go : (q : Bool) → Orders net w (elim q [ true ↦ unchanged w (line.RefusedClock k m ∷ []) | false ↦ after (in_turn (sweep_for net) (numbers net.publishers) u) (λ x. unchanged x (line.Swept m ∷ [])) ])
+    go : (q : Bool) → Orders net w (elim q [ true ↦ unchanged w (line.RefusedClock k m ∷ []) | false ↦ followed_by (in_turn (sweep_for net) (numbers net.publishers) u) (λ x. unchanged x (line.Swept m ∷ [])) ])
     go true = still_orders net w (line.RefusedClock k m ∷ []) (λ q. tt)
     go false =
         let b = sweeps_chain net (Orders net) u (orders_chain net n) n (clocked_fits net w m (max m w.most) f) in
-        clocked_orders net w m (max m w.most) (after (in_turn (sweep_for net) (numbers net.publishers) u) (λ x. unchanged x (line.Swept m ∷ [])))
+        clocked_orders net w m (max m w.most) (followed_by (in_turn (sweep_for net) (numbers net.publishers) u) (λ x. unchanged x (line.Swept m ∷ [])))
         (orders_after net u (in_turn (sweep_for net) (numbers net.publishers) u) (λ x. unchanged x (line.Swept m ∷ [])) b.kept b.holds (still_orders net (in_turn (sweep_for net) (numbers net.publishers) u).world (line.Swept m ∷ []) (λ q. tt)))
 
 show_free : (net : Net) (w : World) (q : ℕ) → CutFree q (show net w)

@@ -9,7 +9,7 @@ use Rattle.gr_model.specs.declared.report.Report.TheVariants as line
 use Rattle.gr_model.specs.Net.{Net, not_empty}
 use Rattle.gr_model.specs.Broker.{Log, Outcome}
 use Rattle.gr_model.specs.World.{World, view_of, log_of, absorbed, sent_lines}
-use Rattle.gr_model.specs.Headline.{gots, last_cut}
+use Rattle.gr_model.specs.Headline.{delivered_events, last_cut}
 use Rattle.gr_theorems.specs.Truth.{IsLater}
 use Rattle.gr_theorems.specs.Said.{said_at}
 use Rattle.gr_theorems.specs.Fits.{facts_of, reached_in, LogFits, WorldFits, LinesFit}
@@ -25,7 +25,7 @@ use Rattle.gr_theorems.proofs.cuts.Cutlines.{CutsHave, CutFree, last_cut-append,
 pub record CutFits (net : Net) (found : ℕ → ℕ) (w : World) (q t : ℕ) (before : List Report) : Type 0 where
   pub rise : last_cut q (found q) before < t
   pub settled : t ≤ (log_of w q).settled
-  pub told : (s u : ℕ) (e : Event) → IsSubscriber net s → u ≤ t → said_at (log_of w q).events u ≡ Some e → net.wants q s u e ≡ true → said_at (gots s q before) u ≡ Some e
+  pub told : (s u : ℕ) (e : Event) → IsSubscriber net s → u ≤ t → said_at (log_of w q).events u ≡ Some e → net.wants q s u e ≡ true → said_at (delivered_events s q before) u ≡ Some e
 
 pub record Ordered (net : Net) (found : ℕ → ℕ) (w : World) (ls : List Report) : Type 0 where
   pub meets : HostsMeet net w
@@ -62,7 +62,7 @@ has_one [] s e = absurd (false≢true e)
 has_one (x ∷ xs) s e = refl
 
 -- what a new cut lets go was told before the call
-cut_told_before : (net : Net) (w u : World) (b p s a : ℕ) (o : Outcome) (e : Event) (ls : List Report) → IsNet net → WorldFits net w → WorldFits net u → HostsMeet net w → b < net.brokers → p < net.publishers → Changed net w u b p o → NewCut net p b (log_of w p) o → LinesFit net w ls → IsSubscriber net s → a ≤ o.log.cut → said_at (log_of u p).events a ≡ Some e → net.wants p s a e ≡ true → said_at (gots s p ls) a ≡ Some e
+cut_told_before : (net : Net) (w u : World) (b p s a : ℕ) (o : Outcome) (e : Event) (ls : List Report) → IsNet net → WorldFits net w → WorldFits net u → HostsMeet net w → b < net.brokers → p < net.publishers → Changed net w u b p o → NewCut net p b (log_of w p) o → LinesFit net w ls → IsSubscriber net s → a ≤ o.log.cut → said_at (log_of u p).events a ≡ Some e → net.wants p s a e ≡ true → said_at (delivered_events s p ls) a ≡ Some e
 cut_told_before net w u b p s a o e ls n f g m i j c k l y h said wants =
     let same : (log_of u p).events ≡ (log_of w p).events = ap (λ z. z.events) c.log ∙ k.events in
     let was : said_at (log_of w p).events a ≡ Some e = ap (λ z. said_at z a) (sym same) ∙ said in
@@ -116,7 +116,7 @@ absorbed_ordered net found w b p o ls n f i j cuts k m l d =
     let here : CutFits net found u p o.log.cut (ls ++ x.pre) = record {
       rise = omega (arith, low, x.more);
       settled = subst (λ z. z ≤ (log_of u p).settled) (sym cut_is) (k.fits.logs p j).cut;
-      told = λ s a e y h said wants. ap (λ z. said_at z a) (gots-append s p ls x.pre) ∙ said_append_front (gots s p ls) (gots s p x.pre) a e (cut_told_before net w u b p s a o e ls n f k.fits d.meets i j c x l y h said wants);
+      told = λ s a e y h said wants. ap (λ z. said_at z a) (gots-append s p ls x.pre) ∙ said_append_front (delivered_events s p ls) (delivered_events s p x.pre) a e (cut_told_before net w u b p s a o e ls n f k.fits d.meets i j c x l y h said wants);
     } in
     let tail : CutsHave (CutFits net found u p) p (ls ++ x.pre) (line.Cut p o.log.cut ∷ (x.post ++ sent)) = (λ _. here, CutFree-have (CutFits net found u p) p ((ls ++ x.pre) ++ line.Cut p o.log.cut ∷ []) (x.post ++ sent) rest) in
     let parts : CutsHave (CutFits net found u p) p ls (x.pre ++ (line.Cut p o.log.cut ∷ (x.post ++ sent))) = CutsHave-append (CutFits net found u p) p ls x.pre (line.Cut p o.log.cut ∷ (x.post ++ sent)) (CutFree-have (CutFits net found u p) p ls x.pre x.free_pre) tail in

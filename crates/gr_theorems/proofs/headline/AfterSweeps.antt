@@ -15,7 +15,7 @@ use Rattle.gr_know.specs.Values.{known_at}
 use Rattle.gr_model.specs.declared.report.Report.TheVariants as line
 use Rattle.gr_model.specs.Net.{Net, is_host, keeps_horizon, numbers}
 use Rattle.gr_model.specs.Broker.{max_tick}
-use Rattle.gr_model.specs.World.{World, Told, view_of, log_of, unchanged, after, in_turn, sweep, sweep_for, sweep_moment, next, start, report_of, run_from, run_all, next_by, report_of_by, sweep_by}
+use Rattle.gr_model.specs.World.{World, Transition, view_of, log_of, unchanged, followed_by, in_turn, sweep, sweep_for, sweep_moment, next, start, report_of, run_from, run_all, next_by, report_of_by, sweep_by}
 use Rattle.gr_model.specs.Headline.{Headline, Holds_from, begin, history, History, heard_after, hearing, hearing_all, is_swept, sweep_at}
 use Rattle.gr_model.specs.Tree.{IsNet}
 use Rattle.gr_theorems.specs.Truth.{Facts, IsTrueAt}
@@ -23,7 +23,7 @@ use Rattle.gr_theorems.specs.Fits.{StepIn, StepsIn, WorldFits, FrameTrue, AllFra
 use Rattle.gr_theorems.proofs.records.Records.{core_of}
 use Rattle.gr_theorems.proofs.records.Recorded.{Sweeps, sweeps_from, marked_now, settled_below, sweep_same}
 use Rattle.gr_theorems.proofs.heard.Heard.{not_Q_at}
-use Rattle.gr_theorems.proofs.heard.HeardSteps.{hears_by, Pieces, Hears, HeardLong, heard_in, Adds, body_adds, know_of_body}
+use Rattle.gr_theorems.proofs.heard.HeardSteps.{hears_by, Pieces, Hears, HeardLong, heard_in, AddsHeard, body_adds, know_of_body}
 use Rattle.gr_theorems.proofs.sweep.SweepHears.{SweepAdds, sweep_adds, hear_frames, heard_of_frames, tells_to, tells_body}
 use Rattle.gr_theorems.proofs.asks.AskMoments.{AsksFit}
 use Rattle.gr_theorems.proofs.headline.WithoutSweeps.{Whole, holds_from, whole_run, start_whole}
@@ -85,7 +85,7 @@ swept_settled net w k p n z f j ok = go (nat_lt max_tick m) ok
     s : Sweeps net u (in_turn (sweep_for net) (numbers net.publishers) u).world 0 net.publishers
     s = sweeps_from net u 0 net.publishers n z (clocked_fits net w m (max m w.most) f) (omega arith)
 
-    go : (q : Bool) → q ≡ false → (let t : Told = elim q [ true ↦ unchanged w (line.RefusedClock k m ∷ []) | false ↦ after (in_turn (sweep_for net) (numbers net.publishers) u) (λ x. unchanged x (line.Swept m ∷ [])) ] in (log_of t.world p).settled) ≡ m
+    go : (q : Bool) → q ≡ false → (let t : Transition = elim q [ true ↦ unchanged w (line.RefusedClock k m ∷ []) | false ↦ followed_by (in_turn (sweep_for net) (numbers net.publishers) u) (λ x. unchanged x (line.Swept m ∷ [])) ] in (log_of t.world p).settled) ≡ m
     go true e = absurd (true≢false e)
     go false e = ap (λ r. r.settled) (s.inside p (omega arith) (omega (arith, j)) ∙ marked_now net m (core_of w p) (settled_below net w p f j))
 
@@ -97,7 +97,7 @@ back_true net w (x ∷ xs) ys a = back_true net w xs ys a.1
 hear_long : (net : Net) (w : World) (heard : Pieces) (fs : List Frame) → HeardLong net heard → Each (FrameTrue net w) fs → HeardLong net (hear_frames heard fs)
 hear_long net w heard [] l a = l
 hear_long net w heard (f ∷ fs) l a =
-    let d : Adds net heard (hearing heard (know_of_body f.head f.body)) f.head f.body = body_adds net w heard f.head f.body l a.0.fits.to_in a.0.publisher_in a.0.told in
+    let d : AddsHeard net heard (hearing heard (know_of_body f.head f.body)) f.head f.body = body_adds net w heard f.head f.body l a.0.fits.to_in a.0.publisher_in a.0.told in
     hear_long net w (hearing heard (know_of_body f.head f.body)) fs d.long a.1
 
 swept_hears : (net : Net) (w : World) (k : ℕ) (heard : Pieces) (more : List Frame) → IsNet net → 1 ≤ net.quiet → WorldFits net w → nat_lt max_tick (sweep_moment net w) ≡ false → (sweep net w k).world.frames ≡ w.frames ++ more → Hears net w heard →
@@ -147,7 +147,7 @@ refused_world net w k e = go (nat_lt max_tick m) e
     u : World
     u = record { clock = m; most = max m w.most; frames = w.frames; views = w.views; logs = w.logs }
 
-    go : (q : Bool) → q ≡ true → (let t : Told = elim q [ true ↦ unchanged w (line.RefusedClock k m ∷ []) | false ↦ after (in_turn (sweep_for net) (numbers net.publishers) u) (λ x. unchanged x (line.Swept m ∷ [])) ] in t.world) ≡ w
+    go : (q : Bool) → q ≡ true → (let t : Transition = elim q [ true ↦ unchanged w (line.RefusedClock k m ∷ []) | false ↦ followed_by (in_turn (sweep_for net) (numbers net.publishers) u) (λ x. unchanged x (line.Swept m ∷ [])) ] in t.world) ≡ w
     go true e = refl
     go false e = absurd (false≢true e)
 

@@ -16,14 +16,14 @@ use Rattle.gr_model.specs.declared.report.Report.{Report}
 use Rattle.gr_model.specs.declared.report.Report.TheVariants as line
 use Rattle.gr_model.specs.Net.{Net, is_host, keeps_horizon, numbers, numbers_from, not_empty}
 use Rattle.gr_model.specs.Broker.{View, Log, Outcome, empty_log, is_kept, marking, cutting, wake, wake_host, wake_below, asking, publish, receive, with_event, max_tick}
-use Rattle.gr_model.specs.World.{World, Told, view_of, log_of, absorbed, unchanged, in_turn, sent_line, sent_lines, wake_for, wake_all, deliver_frame, frame_at, publish_now, restarted, crash, publish_stopped, sweep_for, sweep, sweep_moment, next, show, start, opened_lines, kept_events, run_from, report_of, deliver_frame_by, next_by, publish_now_by, publish_stopped_by, report_of_by, run_from_by, sweep_by, wake_for_by}
+use Rattle.gr_model.specs.World.{World, Transition, view_of, log_of, absorbed, unchanged, in_turn, sent_line, sent_lines, wake_for, wake_all, deliver_frame, frame_at, publish_now, restarted, crash, publish_stopped, sweep_for, sweep, sweep_moment, next, show, start, opened_lines, kept_events, run_from, report_of, deliver_frame_by, next_by, publish_now_by, publish_stopped_by, report_of_by, run_from_by, sweep_by, wake_for_by}
 use Rattle.gr_model.specs.World as world
-use Rattle.gr_model.specs.Headline.{Recorded, History, begin, after, publish_line, may_crash, sent_number, sent_count}
+use Rattle.gr_model.specs.Headline.{Recorded, History, begin, history_after, publish_line, may_crash, sent_number, sent_count}
 use Rattle.gr_theorems.specs.Replies.{is_reply, frame_of_line, shown_bytes, replies, StepReplied, Replied_from, Replied}
 use Rattle.gr_model.specs.Tree.{IsNet}
 use Rattle.gr_theorems.specs.Fits.{WorldFits, StepIn, StepsIn}
 use Rattle.gr_theorems.proofs.records.Records.{core}
-use Rattle.gr_theorems.proofs.records.RecordLines.{Skips, front, receive_none, marking_none, publish_some, Sends}
+use Rattle.gr_theorems.proofs.records.RecordLines.{Skips, host_lines, receive_none, marking_none, publish_some, Sends}
 use Rattle.gr_theorems.proofs.records.RecordSteps.{step_sends}
 use Rattle.gr_theorems.proofs.records.Recorded.{sweep_same}
 use Rattle.gr_theorems.proofs.runs.Chains.{Chains, wake_all_chain, sweeps_chain}
@@ -64,7 +64,7 @@ wake_silent net p b now v log = go (is_host net p b)
     new : Log
     new = cutting net p b o.view o.log
 
-    two : (c d : Bool) → replying (front p now new.cut c d) ≡ []
+    two : (c d : Bool) → replying (host_lines p now new.cut c d) ≡ []
     two true true = refl
     two true false = refl
     two false true = refl
@@ -74,7 +74,7 @@ wake_silent net p b now v log = go (is_host net p b)
     go true =
         let c = nat_lt log.settled o.log.settled in
         let d = nat_lt o.log.cut new.cut in
-        filter-append is_reply (front p now new.cut c d) o.lines ∙ ap₂ (λ x y. x ++ y) (two c d) (marking_none is_reply net p b now v log replies_skip)
+        filter-append is_reply (host_lines p now new.cut c d) o.lines ∙ ap₂ (λ x y. x ++ y) (two c d) (marking_none is_reply net p b now v log replies_skip)
     go false = refl
 
 wake_for_silent : (net : Net) (w : World) (b p : ℕ) → replying (wake_for net w b p).lines ≡ []
@@ -142,7 +142,7 @@ stopped_replies net w k p number stop e = go (not_empty (net.subscribers_at (net
     tick : ℕ
     tick = max (suc log.settled) w.clock
 
-    told_by : Bool → Told
+    told_by : Bool → Transition
     told_by q =
         let logs : List Log = if q then set w.logs p (with_event log tick e) else w.logs in
         record {
@@ -150,7 +150,7 @@ stopped_replies net w k p number stop e = go (not_empty (net.subscribers_at (net
           lines = line.Crashed (net.host p) ∷ ((if q then line.Kept p number tick else line.Lost p number tick) ∷ opened_lines net logs (net.host p));
         }
 
-    go : (x y z : Bool) → replying (let t : Told = elim x [ true ↦ unchanged w (line.RefusedHosts k (net.host p) ∷ []) | false ↦ elim y [ false ↦ publish_now net w p number e | true ↦ told_by z ] ] in t.lines) ≡ (if not x then [] else line.RefusedHosts k (net.host p) ∷ [])
+    go : (x y z : Bool) → replying (let t : Transition = elim x [ true ↦ unchanged w (line.RefusedHosts k (net.host p) ∷ []) | false ↦ elim y [ false ↦ publish_now net w p number e | true ↦ told_by z ] ] in t.lines) ≡ (if not x then [] else line.RefusedHosts k (net.host p) ∷ [])
     go true y z = refl
     go false false z = publish_now_silent net w p number e
     go false true true = opened_silent net (set w.logs p (with_event log tick e)) (net.host p)
@@ -198,11 +198,11 @@ sweep_replies net w k n f = elim (cases_Bool (nat_lt max_tick m)) [
     u : World
     u = record { clock = m; most = max m w.most; frames = w.frames; views = w.views; logs = w.logs }
 
-    swept : Told
+    swept : Transition
     swept = in_turn (sweep_for net) (numbers net.publishers) u
 
     lines_if : Bool → List Report
-    lines_if q = let t : Told = elim q [ true ↦ unchanged w (line.RefusedClock k m ∷ []) | false ↦ world.after swept (λ x. unchanged x (line.Swept m ∷ [])) ] in t.lines
+    lines_if q = let t : Transition = elim q [ true ↦ unchanged w (line.RefusedClock k m ∷ []) | false ↦ world.followed_by swept (λ x. unchanged x (line.Swept m ∷ [])) ] in t.lines
 
     go : (q r : Bool) → nat_lt max_tick m ≡ q → r ≡ not q → replying (lines_if (nat_lt max_tick m)) ≡ (if r then [] else line.RefusedClock k m ∷ [])
     go true r e g = rw (e, g) refl
@@ -231,19 +231,19 @@ step_replies net w h n (step.Publish p number (Some s) e) t k i = stopped_replie
 step_replies net w h n (step.Wake b) t k i = (wake_all_chain net (λ w t. replying t.lines ≡ []) w b (silent_chain net) t k.fits i).holds
 step_replies net w h n (step.Deliver j) t k i = go (frame_at w j) ∙ ap (delivered_reply n j (sent_count h.lines)) (sym (line_is w j h.lines k.sent))
   where
-    go : (o : Option Frame) → replying (let u : Told = elim o [ None ↦ unchanged w (line.RefusedFrame n j (length w.frames) ∷ []) | Some x ↦ deliver_frame net w x ] in u.lines) ≡ delivered_reply n j (sent_count h.lines) (line_at j o)
+    go : (o : Option Frame) → replying (let u : Transition = elim o [ None ↦ unchanged w (line.RefusedFrame n j (length w.frames) ∷ []) | Some x ↦ deliver_frame net w x ] in u.lines) ≡ delivered_reply n j (sent_count h.lines) (line_at j o)
     go None = ap (λ c. line.RefusedFrame n j c ∷ []) (sym (sent_count_is net w h k))
     go (Some x) = deliver_silent net w x
 step_replies net w h n (step.Crash b) t k i = go (not_empty (net.subscribers_at b))
   where
-    go : (q : Bool) → replying (let u : Told = elim q [ true ↦ unchanged w (line.RefusedHosts n b ∷ []) | false ↦ crash net w b ] in u.lines) ≡ (if not q then [] else line.RefusedHosts n b ∷ [])
+    go : (q : Bool) → replying (let u : Transition = elim q [ true ↦ unchanged w (line.RefusedHosts n b ∷ []) | false ↦ crash net w b ] in u.lines) ≡ (if not q then [] else line.RefusedHosts n b ∷ [])
     go true = refl
     go false = crash_silent net w b
 step_replies net w h n step.Sweep t k i = sweep_replies net w n t k.fits ∙ ap (λ m. if nat_le m max_tick then [] else line.RefusedClock n m ∷ []) (sym (sweep_same net w h k.records))
 step_replies net w h n step.Show t k i = show_silent net w
 step_replies net w h n (step.Bytes j) t k i = go (frame_at w j) ∙ ap (bytes_reply n j (sent_count h.lines)) (sym (line_is w j h.lines k.sent))
   where
-    go : (o : Option Frame) → replying (let u : Told = elim o [ None ↦ unchanged w (line.RefusedFrame n j (length w.frames) ∷ []) | Some x ↦ unchanged w (line.BytesOf j (frame_bytes x) ∷ []) ] in u.lines) ≡ bytes_reply n j (sent_count h.lines) (line_at j o)
+    go : (o : Option Frame) → replying (let u : Transition = elim o [ None ↦ unchanged w (line.RefusedFrame n j (length w.frames) ∷ []) | Some x ↦ unchanged w (line.BytesOf j (frame_bytes x) ∷ []) ] in u.lines) ≡ bytes_reply n j (sent_count h.lines) (line_at j o)
     go None = ap (λ c. line.RefusedFrame n j c ∷ []) (sym (sent_count_is net w h k))
     go (Some x) = ap (λ z. elim z [ Some f ↦ line.BytesOf j (frame_bytes f) ∷ [] | None ↦ [] ]) (sym (frame_told j x))
 
@@ -270,7 +270,7 @@ step_replied net w h l n i k =
 pub replied_from : (net : Net) (w : World) (h : History) (ls : List Line) → IsNet net → 1 ≤ net.quiet → StepsIn net ls → Stands net w h → Replied_from net h ls (run_from net w ls)
 unfolding run_from_by
 replied_from net w h [] n z i k = tt
-replied_from net w h (l ∷ ls) n z i k = (step_replied net w h l n i.0 k, replied_from net (next net w l).world (after net h l (next net w l).lines) ls n z i.1 (next_stands net w h l n z i.0 k))
+replied_from net w h (l ∷ ls) n z i k = (step_replied net w h l n i.0 k, replied_from net (next net w l).world (history_after net h l (next net w l).lines) ls n z i.1 (next_stands net w h l n z i.0 k))
 
 pub replied_always : (net : Net) (ls : List Line) → IsNet net → 1 ≤ net.quiet → StepsIn net ls → Replied net ls (report_of net ls)
 unfolding report_of_by

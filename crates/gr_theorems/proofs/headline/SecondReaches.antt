@@ -8,7 +8,7 @@ use Rattle.gr_sched.specs.declared.step.Line.{Line}
 use Rattle.gr_model.specs.declared.report.Report.TheVariants as line
 use Rattle.gr_model.specs.Net.{Net, numbers}
 use Rattle.gr_model.specs.Broker.{max_tick}
-use Rattle.gr_model.specs.World.{World, Told, view_of, log_of, unchanged, after, in_turn, sweep, sweep_for, sweep_moment, report_of, frames_past, sweep_by}
+use Rattle.gr_model.specs.World.{World, Transition, view_of, log_of, unchanged, followed_by, in_turn, sweep, sweep_for, sweep_moment, report_of, frames_past, sweep_by}
 use Rattle.gr_model.specs.Headline.{Headline}
 use Rattle.gr_model.specs.Tree.{IsNet}
 use Rattle.gr_theorems.specs.Fits.{StepsIn, WorldFits}
@@ -26,10 +26,10 @@ use Rattle.gr_theorems.proofs.headline.AfterSweeps.{SweepsReach, swept_settled, 
 use Rattle.gr_theorems.proofs.sweep.SecondBrings.{Brings, sweeps_bring}
 
 -- the world at a sweep's moment
-abbrev pub at_moment : Net → World → World
-at_moment net w = clocked w (sweep_moment net w) (max (sweep_moment net w) w.most)
+abbrev pub at_sweep_moment : Net → World → World
+at_sweep_moment net w = clocked w (sweep_moment net w) (max (sweep_moment net w) w.most)
 
-pub swept_world : (net : Net) (w : World) (k : ℕ) → nat_lt max_tick (sweep_moment net w) ≡ false → (sweep net w k).world ≡ (in_turn (sweep_for net) (numbers net.publishers) (at_moment net w)).world
+pub swept_world : (net : Net) (w : World) (k : ℕ) → nat_lt max_tick (sweep_moment net w) ≡ false → (sweep net w k).world ≡ (in_turn (sweep_for net) (numbers net.publishers) (at_sweep_moment net w)).world
 unfolding sweep_by
 swept_world net w k e = go (nat_lt max_tick m) e
   where
@@ -39,12 +39,12 @@ swept_world net w k e = go (nat_lt max_tick m) e
     u : World
     u = record { clock = m; most = max m w.most; frames = w.frames; views = w.views; logs = w.logs }
 
-    go : (q : Bool) → q ≡ false → (let t : Told = elim q [ true ↦ unchanged w (line.RefusedClock k m ∷ []) | false ↦ after (in_turn (sweep_for net) (numbers net.publishers) u) (λ x. unchanged x (line.Swept m ∷ [])) ] in t.world) ≡ (in_turn (sweep_for net) (numbers net.publishers) u).world
+    go : (q : Bool) → q ≡ false → (let t : Transition = elim q [ true ↦ unchanged w (line.RefusedClock k m ∷ []) | false ↦ followed_by (in_turn (sweep_for net) (numbers net.publishers) u) (λ x. unchanged x (line.Swept m ∷ [])) ] in t.world) ≡ (in_turn (sweep_for net) (numbers net.publishers) u).world
     go true e = absurd (true≢false e)
     go false e = refl
 
 -- how each publisher's sweep begins
-pub moment_begins : (net : Net) (w : World) (p : ℕ) → WorldFits net w → AsksFit net w → Unknowns net w → p < net.publishers → Begins net p (sweep_moment net w) (at_moment net w)
+pub moment_begins : (net : Net) (w : World) (p : ℕ) → WorldFits net w → AsksFit net w → Unknowns net w → p < net.publishers → Begins net p (sweep_moment net w) (at_sweep_moment net w)
 moment_begins net w p f a u j = record {
   publisher = j;
   fits = clocked_fits net w (sweep_moment net w) (max (sweep_moment net w) w.most) f;
@@ -84,8 +84,8 @@ sweeps_reach net n z r w k heard f a u h ok b p i j host keeps = record {
     adds : SweepAdds net w k
     adds = sweep_adds net w k n f
 
-    brings : Brings net m b p (at_moment net w) y
-    brings = subst (Brings net m b p (at_moment net w)) (sym (swept_world net w k ok)) (sweeps_bring net p m b 0 net.publishers (at_moment net w) n r z i host keeps (omega arith) (omega (arith, j)) (omega arith) (moment_begins net w p f a u j))
+    brings : Brings net m b p (at_sweep_moment net w) y
+    brings = subst (Brings net m b p (at_sweep_moment net w)) (sym (swept_world net w k ok)) (sweeps_bring net p m b 0 net.publishers (at_sweep_moment net w) n r z i host keeps (omega arith) (omega (arith, j)) (omega arith) (moment_begins net w p f a u j))
 
     same_more : brings.more ≡ adds.more
     same_more = sym (frames_past_all w.frames brings.more) ∙ (ap (frames_past (length w.frames)) (sym brings.frames ∙ adds.frames) ∙ frames_past_all w.frames adds.more)

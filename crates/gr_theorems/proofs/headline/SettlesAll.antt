@@ -8,7 +8,7 @@ use Rattle.gr_model.specs.declared.report.Report.{Report}
 use Rattle.gr_model.specs.declared.report.Report.TheVariants as line
 use Rattle.gr_model.specs.Net.{Net, keeps_horizon, is_empty, not_empty, numbers, numbers_from}
 use Rattle.gr_model.specs.Broker.{Outcome, wake, receive, max_tick}
-use Rattle.gr_model.specs.World.{World, Told, view_of, log_of, absorbed, unchanged, after, in_turn, wake_for, deliver_frame, frame_at, sweep_for, sweep_moment, sweep, deliver_frame_by, sweep_for_by, wake_for_by}
+use Rattle.gr_model.specs.World.{World, Transition, view_of, log_of, absorbed, unchanged, followed_by, in_turn, wake_for, deliver_frame, frame_at, sweep_for, sweep_moment, sweep, deliver_frame_by, sweep_for_by, wake_for_by}
 use Rattle.gr_model.specs.Headline.{is_record_line, last_cut, last_horizon}
 use Rattle.gr_theorems.specs.Settles.{all_made, calls_in_turn, sweep_calls_for, sweep_calls, at_sweep, sent_past, times, is_expect, SweepSettles}
 use Rattle.gr_model.specs.Tree.{IsNet, IsSubscriber}
@@ -38,7 +38,7 @@ CalmTurns net m (p ∷ ps) w = Calm net p m (length w.frames) (second_phase net 
 
 -- Horizons and cuts only rise
 
-record Rises (net : Net) (p : ℕ) (w : World) (t : Told) : Type 0 where
+record Rises (net : Net) (p : ℕ) (w : World) (t : Transition) : Type 0 where
   horizon : (b : ℕ) → b < net.brokers → (view_of w b p).horizon ≤ (view_of t.world b p).horizon
   cut : (log_of w p).cut ≤ (log_of t.world p).cut
 
@@ -221,14 +221,14 @@ settles_where_calm net w k found before n z r f lf of ok calm = record {
     ins : Each (λ q. q < net.publishers) (numbers net.publishers)
     ins = numbers_below 0 net.publishers net.publishers (omega arith)
 
-    swept : Told
+    swept : Transition
     swept = in_turn (sweep_for net) (numbers net.publishers) u
 
     v : World
     v = swept.world
 
-    is : sweep net w k ≡ after swept (λ x. unchanged x (line.Swept m ∷ []))
-    is = sweep_is_calls net w k ok ∙ ap (λ (t : Told). after t (λ x. unchanged x (line.Swept m ∷ []))) (sweeps_are net (numbers net.publishers) u)
+    is : sweep net w k ≡ followed_by swept (λ x. unchanged x (line.Swept m ∷ []))
+    is = sweep_is_calls net w k ok ∙ ap (λ (t : Transition). followed_by t (λ x. unchanged x (line.Swept m ∷ []))) (sweeps_are net (numbers net.publishers) u)
 
     counted : (i : ℕ) → count i (calls_in_turn net (sweep_calls_for net) (numbers net.publishers) u) ≡ times i (sent_past is_due (length w.frames) v)
     counted i = turns_once net i m (numbers net.publishers) u n z r g ins calm

@@ -6,9 +6,9 @@ use Rattle.gr_event.specs.declared.event.Event.{Event}
 use Rattle.gr_model.specs.declared.report.Report.TheVariants as line
 use Rattle.gr_model.specs.Net.{Net, numbers, numbers_from}
 use Rattle.gr_model.specs.Broker.{max_tick}
-use Rattle.gr_model.specs.World.{World, Told, log_of, unchanged, after, in_turn, sweep_for, sweep_moment, sweep, run_all, start, sweep_by}
+use Rattle.gr_model.specs.World.{World, Transition, log_of, unchanged, followed_by, in_turn, sweep_for, sweep_moment, sweep, run_all, start, sweep_by}
 use Rattle.gr_theorems.specs.Said.{said_at, TicksRise, due_upto}
-use Rattle.gr_model.specs.Headline.{History, found_in, begin, record_of, settling}
+use Rattle.gr_model.specs.Headline.{History, reopened_cut, begin, record_of, settling}
 use Rattle.gr_theorems.specs.Settles.{SweepSettles, AllGot, is_accepted, at_sweep}
 use Rattle.gr_model.specs.Tree.{IsNet}
 use Rattle.gr_theorems.specs.Fits.{StepsIn, WorldFits, reached_in, history_of}
@@ -40,7 +40,7 @@ calm_turns net m a (suc k) w n z r l h =
 pub settles_at : (net : Net) (w : World) (h : History) (k : ℕ) → IsNet net → 1 ≤ net.quiet → 1 ≤ net.retry → Whole net w h → Unknowns net w → is_accepted net w ≡ true → SweepSettles net w k
 settles_at net w h k n z r x unknown ok =
     let s = x.stands in
-    settles_where_calm net w k (found_in h) h.lines n z r s.fits s.lines s.ordered (le-ltb max_tick (sweep_moment net w) (leb-true (sweep_moment net w) max_tick ok))
+    settles_where_calm net w k (reopened_cut h) h.lines n z r s.fits s.lines s.ordered (le-ltb max_tick (sweep_moment net w) (leb-true (sweep_moment net w) max_tick ok))
     (calm_turns net (sweep_moment net w) 0 net.publishers (at_sweep net w) n z r (omega arith) (λ p x y. moment_begins net w p s.fits s.asks unknown (omega (arith, y))))
 
 -- a sweep that is not refused leaves the record, settled at its moment
@@ -57,7 +57,7 @@ swept_core net w k p n z f j ok = go (nat_lt max_tick m) ok
     s : Sweeps net u (in_turn (sweep_for net) (numbers net.publishers) u).world 0 net.publishers
     s = sweeps_from net u 0 net.publishers n z (clocked_fits net w m (max m w.most) f) (omega arith)
 
-    go : (q : Bool) → q ≡ false → (let t : Told = elim q [ true ↦ unchanged w (line.RefusedClock k m ∷ []) | false ↦ after (in_turn (sweep_for net) (numbers net.publishers) u) (λ x. unchanged x (line.Swept m ∷ [])) ] in core_of t.world p) ≡ settling m (core_of w p)
+    go : (q : Bool) → q ≡ false → (let t : Transition = elim q [ true ↦ unchanged w (line.RefusedClock k m ∷ []) | false ↦ followed_by (in_turn (sweep_for net) (numbers net.publishers) u) (λ x. unchanged x (line.Swept m ∷ [])) ] in core_of t.world p) ≡ settling m (core_of w p)
     go true e = absurd (true≢false e)
     go false e = s.inside p (omega arith) (omega (arith, j)) ∙ marked_now net m (core_of w p) (settled_below net w p f j)
 

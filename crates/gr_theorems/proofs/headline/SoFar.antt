@@ -9,7 +9,7 @@ use Rattle.gr_model.specs.declared.report.Report.{Report}
 use Rattle.gr_model.specs.declared.report.Report.TheVariants as line
 use Rattle.gr_model.specs.Net.{keeps_horizon, Net, is_host}
 use Rattle.gr_model.specs.World.{sent_lines, World, view_of, log_of, start, next, run_all, run_from, run_from_by}
-use Rattle.gr_model.specs.Headline.{GetsExactly, bare_after, InOrder, History, history, found_in, record_of, after, begin, last_horizon, may_crash, HorizonsRise, sent_count, is_sent}
+use Rattle.gr_model.specs.Headline.{GetsExactly, unlogged_after, InOrder, History, history, reopened_cut, record_of, history_after, begin, last_horizon, may_crash, HorizonsRise, sent_count, is_sent}
 use Rattle.gr_theorems.proofs.records.RecordLines.{sent_lines-append}
 use Rattle.gr_theorems.proofs.records.RecordSteps.{step_sends}
 use Rattle.gr_theorems.specs.Said.{due_upto}
@@ -24,7 +24,7 @@ use Rattle.gr_theorems.proofs.cuts.Cutlines.{CutsHave, CutsHave-at}
 use Rattle.gr_theorems.proofs.cuts.Orders.{CutFits, Ordered}
 use Rattle.gr_theorems.proofs.cuts.Ordering.{next_orders}
 use Rattle.gr_theorems.proofs.cuts.CutOrder.{got_in, said_listed, start_ordered}
-use Rattle.gr_theorems.proofs.hosts.BareHosts.{Bare, bare_horizon, host_horizon, started_horizon}
+use Rattle.gr_theorems.proofs.hosts.BareHosts.{Unlogged, bare_horizon, host_horizon, started_horizon}
 use Rattle.gr_theorems.proofs.sweep.SweepHosts.{step_bare}
 use Rattle.gr_theorems.proofs.asks.AskMoments.{ExpectFits, AsksFit, asks_closed, start_asks}
 use Rattle.gr_theorems.proofs.runs.Closed.{next_holds}
@@ -41,10 +41,10 @@ pub record Stands (net : Net) (w : World) (h : History) : Type 0 where
   pub fits : WorldFits net w
   pub records : RecordsFit net w h
   pub lines : LinesFit net w h.lines
-  pub ordered : Ordered net (found_in h) w h.lines
+  pub ordered : Ordered net (reopened_cut h) w h.lines
   pub sent : filter is_sent h.lines ≡ sent_lines 1 w.frames
   pub named : Named net Any h.lines
-  pub bare : Bare net w h.bare
+  pub unlogged : Unlogged net w h.unlogged
   pub asks : AsksFit net w
   pub gates : GatesFit net w h.gates
 
@@ -97,7 +97,7 @@ named_doubt net G b p t (l ∷ xs) ys a = named_doubt net G b p t xs ys a
 cuts_of : (net : Net) (w : World) (h : History) (p : ℕ) → Stands net w h → p < net.publishers → CutsInOrder net h p
 cuts_of net w h p k j =
     let c : record_of h p ≡ core_of w p = record_core net w h p k.records in
-    let at : (t : ℕ) (xs ys : List Report) → h.lines ≡ xs ++ line.Cut p t ∷ ys → CutFits net (found_in h) w p t xs = λ t xs ys e. CutsHave-at (CutFits net (found_in h) w p) p t [] xs ys (subst (λ z. CutsHave (CutFits net (found_in h) w p) p [] z) e (k.ordered.each p j)) in
+    let at : (t : ℕ) (xs ys : List Report) → h.lines ≡ xs ++ line.Cut p t ∷ ys → CutFits net (reopened_cut h) w p t xs = λ t xs ys e. CutsHave-at (CutFits net (reopened_cut h) w p) p t [] xs ys (subst (λ z. CutsHave (CutFits net (reopened_cut h) w p) p [] z) e (k.ordered.each p j)) in
     record {
       cuts = λ t xs ys e. (at t xs ys e).rise;
       cut_settled = λ t xs ys e. subst (λ r. t ≤ r.settled) (sym c) (at t xs ys e).settled;
@@ -120,23 +120,23 @@ gets_now net w h s p k j y = record {
   rise = k.lines.rise p s j y;
 }
 
-after_found : (net : Net) (h : History) (l : Line) (ls : List Report) → (after net h l ls).found ≡ h.found
-unfolding after
+after_found : (net : Net) (h : History) (l : Line) (ls : List Report) → (history_after net h l ls).reopened_cuts ≡ h.reopened_cuts
+unfolding history_after
 after_found net h l ls = refl
 
-after_bare : (net : Net) (h : History) (l : Line) (ls : List Report) → (after net h l ls).bare ≡ bare_after net h l ls
-unfolding after
+after_bare : (net : Net) (h : History) (l : Line) (ls : List Report) → (history_after net h l ls).unlogged ≡ unlogged_after net h l ls
+unfolding history_after
 after_bare net h l ls = refl
 
 -- a horizon that a host keeps is its doubt horizon
-pub doubt_at : (net : Net) (w : World) (h : History) (b p : ℕ) → Stands net w h → p < net.publishers → keeps_horizon net p b ≡ true → is_host net p b ≡ true → (view_of w b p).horizon ≡ (if get_or h.bare p true && may_crash net b then 0 else (record_of h p).settled)
+pub doubt_at : (net : Net) (w : World) (h : History) (b p : ℕ) → Stands net w h → p < net.publishers → keeps_horizon net p b ≡ true → is_host net p b ≡ true → (view_of w b p).horizon ≡ (if get_or h.unlogged p true && may_crash net b then 0 else (record_of h p).settled)
 doubt_at net w h b p k j keeps x =
     let g : net.host p ≡ b = eqb-true (net.host p) b x in
     let c : record_of h p ≡ core_of w p = record_core net w h p k.records in
-    let f : host_horizon net p w ≡ bare_horizon net h.bare w p = k.bare.fits p j (subst (λ z. keeps_horizon net p z ≡ true) (sym g) keeps) in
-    subst (λ z. (view_of w z p).horizon ≡ (if get_or h.bare p true && may_crash net z then 0 else (log_of w p).settled)) g f ∙ ap (λ s. if get_or h.bare p true && may_crash net b then 0 else s) (ap (λ r. r.settled) (sym c))
+    let f : host_horizon net p w ≡ bare_horizon net h.unlogged w p = k.unlogged.fits p j (subst (λ z. keeps_horizon net p z ≡ true) (sym g) keeps) in
+    subst (λ z. (view_of w z p).horizon ≡ (if get_or h.unlogged p true && may_crash net z then 0 else (log_of w p).settled)) g f ∙ ap (λ s. if get_or h.unlogged p true && may_crash net b then 0 else s) (ap (λ r. r.settled) (sym c))
 
-pub next_stands : (net : Net) (w : World) (h : History) (l : Line) → IsNet net → 1 ≤ net.quiet → StepIn net l.step → Stands net w h → Stands net (next net w l).world (after net h l (next net w l).lines)
+pub next_stands : (net : Net) (w : World) (h : History) (l : Line) → IsNet net → 1 ≤ net.quiet → StepIn net l.step → Stands net w h → Stands net (next net w l).world (history_after net h l (next net w l).lines)
 next_stands net w h l n z i k =
     let x = next_kept net w l n k.fits i in
     let e = after_lines net h l (next net w l).lines in
@@ -144,13 +144,13 @@ next_stands net w h l n z i k =
       fits = x.fits;
       records = next_records net w h l n z k.fits k.records i;
       lines = subst (λ y. LinesFit net (next net w l).world y) (sym e) (x.lines h.lines k.lines);
-      ordered = subst (λ (y : List ℕ). Ordered net (λ q. get_or y q 0) (next net w l).world (after net h l (next net w l).lines).lines) (sym (after_found net h l (next net w l).lines)) (subst (λ y. Ordered net (found_in h) (next net w l).world y) (sym e) (next_orders net w l n k.fits i (found_in h) h.lines k.lines k.ordered));
+      ordered = subst (λ (y : List ℕ). Ordered net (λ q. get_or y q 0) (next net w l).world (history_after net h l (next net w l).lines).lines) (sym (after_found net h l (next net w l).lines)) (subst (λ y. Ordered net (reopened_cut h) (next net w l).world y) (sym e) (next_orders net w l n k.fits i (reopened_cut h) h.lines k.lines k.ordered));
       sent =
           let c = step_sends net w l n k.fits i in
           ap (filter is_sent) e ∙ (filter-append is_sent h.lines (next net w l).lines
           ∙ (ap₂ (λ (y z : List Report). y ++ z) k.sent c.told ∙ (sym (sent_lines-append 1 w.frames c.more ∙ ap (λ m. sent_lines 1 w.frames ++ sent_lines m c.more) (omega arith)) ∙ ap (sent_lines 1) (sym c.frames))));
       named = subst (Named net Any) (sym e) (Named-append net Any h.lines (next net w l).lines k.named (Named-map net (IsShown net w) Any (next net w l).lines (λ b p t x. tt) (step_named net w l n k.fits i)));
-      bare = subst (Bare net (next net w l).world) (sym (after_bare net h l (next net w l).lines)) (step_bare net w h l n z k.fits k.records k.asks.sent i k.bare);
+      unlogged = subst (Unlogged net (next net w l).world) (sym (after_bare net h l (next net w l).lines)) (step_bare net w h l n z k.fits k.records k.asks.sent i k.unlogged);
       asks = next_holds net (ExpectFits net) (AsksFit net) w l n (asks_closed net n) k.fits k.asks i;
       gates = next_gates net w h l n z k.fits k.records i k.gates;
     }
@@ -159,7 +159,7 @@ start_frames : (net : Net) → (start net).frames ≡ []
 unfolding start
 start_frames net = refl
 
-start_bare : (net : Net) → IsNet net → Bare net (start net) (begin net).bare
+start_bare : (net : Net) → IsNet net → Unlogged net (start net) (begin net).unlogged
 unfolding begin
 start_bare net n = record {
   long = length-replicate net.publishers true;
@@ -176,10 +176,10 @@ start_stands net n = record {
   fits = start_fits net n;
   records = begin_fits net;
   lines = subst (λ y. LinesFit net (start net) y) (sym (begin_lines net)) (start_lines net);
-  ordered = subst (λ y. Ordered net (found_in (begin net)) (start net) y) (sym (begin_lines net)) (start_ordered net n);
+  ordered = subst (λ y. Ordered net (reopened_cut (begin net)) (start net) y) (sym (begin_lines net)) (start_ordered net n);
   sent = ap (filter is_sent) (begin_lines net) ∙ ap (sent_lines 1) (sym (start_frames net));
   named = subst (Named net Any) (sym (begin_lines net)) tt;
-  bare = start_bare net n;
+  unlogged = start_bare net n;
   asks = start_asks net n;
   gates = start_gates net;
 }
@@ -188,7 +188,7 @@ start_stands net n = record {
 pub stands_run : (net : Net) (w : World) (h : History) (ls : List Line) → IsNet net → 1 ≤ net.quiet → StepsIn net ls → Stands net w h → Stands net (run_all net w ls).world (history net h ls (run_from net w ls))
 unfolding run_from_by
 stands_run net w h [] n z i k = k
-stands_run net w h (l ∷ ls) n z i k = stands_run net (next net w l).world (after net h l (next net w l).lines) ls n z i.1 (next_stands net w h l n z i.0 k)
+stands_run net w h (l ∷ ls) n z i k = stands_run net (next net w l).world (history_after net h l (next net w l).lines) ls n z i.1 (next_stands net w h l n z i.0 k)
 
 pub frames_sent : (net : Net) (ls : List Line) → IsNet net → 1 ≤ net.quiet → StepsIn net ls → FramesSent net ls
 frames_sent net ls n z i = (stands_run net (start net) (begin net) ls n z i (start_stands net n)).sent

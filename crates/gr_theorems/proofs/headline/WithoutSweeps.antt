@@ -8,7 +8,7 @@ use Rattle.gr_model.specs.declared.report.Report.TheVariants as line
 use Rattle.gr_model.specs.Net.{Net, keeps_horizon, not_empty, is_empty}
 use Rattle.gr_model.specs.Broker.{empty_log}
 use Rattle.gr_model.specs.World.{World, view_of, start, next, run_from, run_all, run_from_by}
-use Rattle.gr_model.specs.Headline.{heard_after, history, History, after, begin, is_heard, IsDoubt, Delivered, StepTold, Holds_from}
+use Rattle.gr_model.specs.Headline.{heard_after, history, History, history_after, begin, is_heard, IsDoubt, Delivered, StepReports, Holds_from}
 use Rattle.gr_model.specs.Tree.{IsNet}
 use Rattle.gr_theorems.specs.Fits.{StepIn, StepsIn, WorldFits}
 use Rattle.gr_theorems.proofs.records.RecordSteps.{step_records}
@@ -36,8 +36,8 @@ doubt_is net w h b p k i j keeps = record {
   ends = λ x. (k.hears.fits b p i j x keeps).stops;
 }
 
-delivered : (net : Net) (w : World) (h : History) → IsNet net → Whole net w h → Delivered net h
-delivered net w h n k = record {
+delivered_exactly : (net : Net) (w : World) (h : History) → IsNet net → Whole net w h → Delivered net h
+delivered_exactly net w h n k = record {
   got = λ s p i j. (gets_now net w h s p k.stands j (n.subscriber s i)).got;
   doubt = λ s p i j.
       let y = n.subscriber s i in
@@ -45,7 +45,7 @@ delivered net w h n k = record {
       subst (IsDoubt net h (net.at s) p) (sym (k.stands.lines.horizon p s j y ∙ reached_here net w p s y)) (doubt_is net w h (net.at s) p k y.at_in j keeps);
 }
 
-step_told : (net : Net) (w : World) (h : History) (l : Line) → IsNet net → 1 ≤ net.quiet → StepIn net l.step → Whole net w h → StepTold net h l (next net w l).lines
+step_told : (net : Net) (w : World) (h : History) (l : Line) → IsNet net → 1 ≤ net.quiet → StepIn net l.step → Whole net w h → StepReports net h l (next net w l).lines
 step_told net w h l n z i k = record {
   records = step_records net w h l n z k.stands.fits k.stands.records (sent_count_is net w h k.stands) k.stands.ordered.last i;
   kept = λ p number stop e at free due. kept_at_gate net w h l p number stop e k.stands.fits k.stands.records k.stands.gates i at free due;
@@ -56,20 +56,20 @@ step_told net w h l n z i k = record {
       subst (IsDoubt net h b p) (sym d.tick) (doubt_is net w h b p k d.broker d.publisher d.keeps);
 }
 
-next_whole : (net : Net) (w : World) (h : History) (l : Line) → IsNet net → 1 ≤ net.quiet → StepIn net l.step → Hears net (next net w l).world (heard_after net h l (next net w l).lines) → Whole net w h → Whole net (next net w l).world (after net h l (next net w l).lines)
-unfolding after
+next_whole : (net : Net) (w : World) (h : History) (l : Line) → IsNet net → 1 ≤ net.quiet → StepIn net l.step → Hears net (next net w l).world (heard_after net h l (next net w l).lines) → Whole net w h → Whole net (next net w l).world (history_after net h l (next net w l).lines)
+unfolding history_after
 next_whole net w h l n z i y k = record { stands = next_stands net w h l n z i k.stands; hears = record { long = y.long; fits = y.fits } }
 
 -- the headline from here on, where each step keeps a property of worlds, and what was heard
 pub holds_from : (net : Net) (P : World → Type 0) (w : World) (h : History) (ls : List Line) → IsNet net → 1 ≤ net.quiet → ((u : World) (l : Line) → StepIn net l.step → WorldFits net u → P u → P (next net u l).world) →
     ((u : World) (g : History) (l : Line) → StepIn net l.step → Whole net u g → P u → Hears net (next net u l).world (heard_after net g l (next net u l).lines)) → StepsIn net ls → Whole net w h → P w → Holds_from net h ls (run_from net w ls)
 unfolding run_from_by
-holds_from net P w h [] n z on keep i k x = (delivered net w h n k, in_order net w h n k.stands)
+holds_from net P w h [] n z on keep i k x = (delivered_exactly net w h n k, in_order net w h n k.stands)
 holds_from net P w h (l ∷ ls) n z on keep i k x = (
-  delivered net w h n k,
+  delivered_exactly net w h n k,
   in_order net w h n k.stands,
   step_told net w h l n z i.0 k,
-  holds_from net P (next net w l).world (after net h l (next net w l).lines) ls n z on keep i.1 (next_whole net w h l n z i.0 (keep w h l i.0 k x) k) (on w l i.0 k.stands.fits x),
+  holds_from net P (next net w l).world (history_after net h l (next net w l).lines) ls n z on keep i.1 (next_whole net w h l n z i.0 (keep w h l i.0 k x) k) (on w l i.0 k.stands.fits x),
 )
 
 -- what stands after steps, where each keeps a property of worlds, and what was heard
@@ -77,7 +77,7 @@ pub whole_run : (net : Net) (P : World → Type 0) (w : World) (h : History) (ls
     ((u : World) (g : History) (l : Line) → StepIn net l.step → Whole net u g → P u → Hears net (next net u l).world (heard_after net g l (next net u l).lines)) → StepsIn net ls → Whole net w h → P w → Whole net (run_all net w ls).world (history net h ls (run_from net w ls))
 unfolding run_from_by
 whole_run net P w h [] n z on keep i k x = k
-whole_run net P w h (l ∷ ls) n z on keep i k x = whole_run net P (next net w l).world (after net h l (next net w l).lines) ls n z on keep i.1 (next_whole net w h l n z i.0 (keep w h l i.0 k x) k) (on w l i.0 k.stands.fits x)
+whole_run net P w h (l ∷ ls) n z on keep i k x = whole_run net P (next net w l).world (history_after net h l (next net w l).lines) ls n z on keep i.1 (next_whole net w h l n z i.0 (keep w h l i.0 k x) k) (on w l i.0 k.stands.fits x)
 
 -- where nothing was heard yet
 pub nothing_heard : (net : Net) (b p t : ℕ) → b < net.brokers → p < net.publishers → heard_in (replicate net.brokers (replicate net.publishers [])) b p t ≡ false

@@ -9,7 +9,7 @@ use Rattle.gr_tick.specs.Runs.{AreRuns, zip_runs, first_bottom_from}
 use Rattle.gr_know.specs.Values.{Known, known_at, is_Q, join_K, same_K}
 use Rattle.gr_curio.specs.Values.{Wanted, wanted_at, is_A}
 use Rattle.gr_model.specs.Net.{Net, is_host, keeps_horizon}
-use Rattle.gr_model.specs.Broker.{View, Log, learn, trimmed, trimmed_below, finished, consolidated, horizon_after, is_settled, all_A, new_ticks, forward_wants, max_tick}
+use Rattle.gr_model.specs.Broker.{View, Log, learn, kept_view, kept_view_below, finished, consolidated, horizon_after, is_consolidated_by, all_A, new_ticks, forward_wants, max_tick}
 use Rattle.gr_theorems.specs.Truth.{Facts, KnowsTruth, AllWantTruth}
 use Rattle.gr_model.specs.Tree.{IsPlace}
 use Rattle.gr_theorems.specs.Fits.{ViewTrue}
@@ -48,12 +48,12 @@ cases_Q (D e) = inr (λ h. cc)
 cases_Q F = inr (λ h. cc)
 
 -- above the horizon nothing is consolidated where one is kept
-pub not_done : (h t : ℕ) (ws : List Wanted) → h < t → is_settled true h ws t ≡ false
+pub not_done : (h t : ℕ) (ws : List Wanted) → h < t → is_consolidated_by true h ws t ≡ false
 not_done h t ws l = ap (λ b. b && all_A ws t) (ap (λ b. nat_le 1 t && b) (lt-leb t h l) ∙ and_right (nat_le 1 t) false refl)
 
 -- a view's knowledge above its horizon, after trimming and consolidation
-pub kept_above : (net : Net) (f : Facts) (p b : ℕ) (know : Known) (ws : List Wanted) (v : View) (t : ℕ) → keeps_horizon net p b ≡ true → AreRuns Q know → AllWantTruth net f p (net.children p b) ws → v.know ≡ finished know (consolidated (keeps_horizon net p b) v.horizon ws) → v.horizon < t → known_at (trimmed net p b v).know t ≡ known_at know t
-unfolding trimmed
+pub kept_above : (net : Net) (f : Facts) (p b : ℕ) (know : Known) (ws : List Wanted) (v : View) (t : ℕ) → keeps_horizon net p b ≡ true → AreRuns Q know → AllWantTruth net f p (net.children p b) ws → v.know ≡ finished know (consolidated (keeps_horizon net p b) v.horizon ws) → v.horizon < t → known_at (kept_view net p b v).know t ≡ known_at know t
+unfolding kept_view
 kept_above net f p b know ws v t keeps r a e l = go (is_host net p b)
   where
     done : Wanted
@@ -63,7 +63,7 @@ kept_above net f p b know ws v t keeps r a e l = go (is_host net p b)
     fin = finished-is know done r (done_runs net f p b v.horizon ws a)
 
     none : is_A (wanted_at done t) ≡ false
-    none = ap is_A (done_values net f p b v.horizon ws a t ∙ ap (λ c. if c then A else N) (ap (λ k. is_settled k v.horizon ws t) keeps ∙ not_done v.horizon t ws l))
+    none = ap is_A (done_values net f p b v.horizon ws a t ∙ ap (λ c. if c then A else N) (ap (λ k. is_consolidated_by k v.horizon ws t) keeps ∙ not_done v.horizon t ws l))
 
     base : known_at v.know t ≡ known_at know t
     base = ap (λ k. known_at k t) e ∙ (fin.same_at t ∙ ap (λ c. if c then F else known_at know t) none)
@@ -72,7 +72,7 @@ kept_above net f p b know ws v t keeps r a e l = go (is_host net p b)
     upto = ap (λ c. if c then v.horizon else max_tick) keeps
 
     less : View
-    less = trimmed_below net p b v
+    less = kept_view_below net p b v
 
     low : IsLowered 1 (if keeps_horizon net p b then v.horizon else max_tick) v.know less.know
     low = forgotten-is net.cache (if keeps_horizon net p b then v.horizon else max_tick) v.know (subst (λ k. AreRuns Q k) (sym e) fin.runs)

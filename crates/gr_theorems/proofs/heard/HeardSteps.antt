@@ -20,8 +20,8 @@ use Rattle.gr_model.specs.declared.report.Report.{Report}
 use Rattle.gr_model.specs.declared.report.Report.TheVariants as line
 use Rattle.gr_model.specs.Net.{Net, numbers, not_empty}
 use Rattle.gr_model.specs.Broker.{Log, with_event, is_kept, max_tick}
-use Rattle.gr_model.specs.World.{World, Told, log_of, unchanged, wake_for, wake_all, deliver_frame, frame_at, publish_now, publish_stopped, restarted, crash, next, sent_line, sent_lines, opened_lines, next_by, publish_stopped_by, wake_all_by}
-use Rattle.gr_model.specs.Headline.{History, is_sent, sent_number, line_of_frame, know_of_line, hearing, deaf, is_heard, heard_after, may_crash, is_next}
+use Rattle.gr_model.specs.World.{World, Transition, log_of, unchanged, wake_for, wake_all, deliver_frame, frame_at, publish_now, publish_stopped, restarted, crash, next, sent_line, sent_lines, opened_lines, next_by, publish_stopped_by, wake_all_by}
+use Rattle.gr_model.specs.Headline.{History, is_sent, sent_number, line_of_frame, know_of_line, hearing, heard_nothing, is_heard, heard_after, may_crash, is_next}
 use Rattle.gr_model.specs.Tree.{IsNet}
 use Rattle.gr_theorems.specs.Fits.{WorldFits, BodyTrue, StepIn, facts_of}
 use Rattle.gr_theorems.specs.Order.{is_sweep}
@@ -104,15 +104,15 @@ hearing_long net heard b p runs l i =
 
 -- A broker that starts again
 
-deaf_here : (net : Net) (heard : Pieces) (b p : ℕ) → HeardLong net heard → b < net.brokers → p < net.publishers → get_or (get_or (deaf net heard b) b []) p [] ≡ []
+deaf_here : (net : Net) (heard : Pieces) (b p : ℕ) → HeardLong net heard → b < net.brokers → p < net.publishers → get_or (get_or (heard_nothing net heard b) b []) p [] ≡ []
 deaf_here net heard b p l i j = ap (λ r. get_or r p []) (get_or-set_same heard b (replicate net.publishers []) [] (omega (arith, i, l.long))) ∙ get_or-replicate net.publishers p [] [] j
 
-deaf_long : (net : Net) (heard : Pieces) (b : ℕ) → HeardLong net heard → b < net.brokers → HeardLong net (deaf net heard b)
+deaf_long : (net : Net) (heard : Pieces) (b : ℕ) → HeardLong net heard → b < net.brokers → HeardLong net (heard_nothing net heard b)
 deaf_long net heard b l i = record {
   long = length-set heard b (replicate net.publishers []) ∙ l.long;
   rows = λ c j. elim (cases_eq c b) [
     | inr e ↦ ap length (get_or-set_other heard b c (replicate net.publishers []) [] e) ∙ l.rows c j
-    | inl e ↦ subst (λ z. length (get_or (deaf net heard b) z []) ≡ net.publishers) (sym e) (ap length (get_or-set_same heard b (replicate net.publishers []) [] (omega (arith, i, l.long))) ∙ length-replicate net.publishers [])
+    | inl e ↦ subst (λ z. length (get_or (heard_nothing net heard b) z []) ≡ net.publishers) (sym e) (ap length (get_or-set_same heard b (replicate net.publishers []) [] (omega (arith, i, l.long))) ∙ length-replicate net.publishers [])
   ];
 }
 
@@ -186,12 +186,12 @@ know_of_sent k x = go x.body
     go (body.Expect tick) = refl
 
 -- what a delivered frame adds
-pub record Adds (net : Net) (heard more : Pieces) (h : Head) (y : Body) : Type 0 where
+pub record AddsHeard (net : Net) (heard more : Pieces) (h : Head) (y : Body) : Type 0 where
   pub long : HeardLong net more
   pub here : (t : ℕ) → heard_in more h.to h.publisher t ≡ hears_body (heard_in heard h.to h.publisher) y t
   pub same : SameBut (heard_in heard) (heard_in more) h.to h.publisher
 
-pub body_adds : (net : Net) (w : World) (heard : Pieces) (h : Head) (y : Body) → HeardLong net heard → h.to < net.brokers → h.publisher < net.publishers → BodyTrue net (facts_of net w h.publisher) h.publisher h.from h.to y → Adds net heard (hearing heard (know_of_body h y)) h y
+pub body_adds : (net : Net) (w : World) (heard : Pieces) (h : Head) (y : Body) → HeardLong net heard → h.to < net.brokers → h.publisher < net.publishers → BodyTrue net (facts_of net w h.publisher) h.publisher h.from h.to y → AddsHeard net heard (hearing heard (know_of_body h y)) h y
 body_adds net w heard h (body.Knowledge runs) l i j tr = record {
   long = hearing_long net heard h.to h.publisher runs l i;
   here = λ t. ap (λ pieces. is_heard pieces t) (hearing_here net heard h.to h.publisher runs l i j) ∙ heard_more (get_or (get_or heard h.to []) h.publisher []) runs t tr.runs;
@@ -213,28 +213,28 @@ wake_all_hears net w b H n f i h =
     (in_turn_goes net (λ u. HeardsFit net u H) (λ u p. p < net.publishers) (λ u p. wake_for net u b p) (λ x y p l k. k) (λ u p g k j. record { kept = wake_for_kept net u b p n g i j; holds = wake_for_heard net u b p H g i j k }) (numbers net.publishers) w f h (numbers_below 0 net.publishers net.publishers (omega arith))).holds
 
 deliver_hears : (net : Net) (w : World) (k j : ℕ) (o : Option Frame) (heard : Pieces) → IsNet net → WorldFits net w → frame_at w k ≡ o → Hears net w heard →
-    Hears net (let t : Told = elim o [ None ↦ unchanged w (line.RefusedFrame j k (length w.frames) ∷ []) | Some x ↦ deliver_frame net w x ] in t.world) (elim (line_at k o) [ None ↦ heard | Some s ↦ hearing heard (know_of_line s) ])
+    Hears net (let t : Transition = elim o [ None ↦ unchanged w (line.RefusedFrame j k (length w.frames) ∷ []) | Some x ↦ deliver_frame net w x ] in t.world) (elim (line_at k o) [ None ↦ heard | Some s ↦ hearing heard (know_of_line s) ])
 deliver_hears net w k j None heard n f e h = record { long = h.long; fits = h.fits }
 deliver_hears net w k j (Some x) heard n f e h =
     let tr = frame_at_true net w k x f e in
-    let a : Adds net heard (hearing heard (know_of_line (sent_line k x))) x.head x.body = subst (λ o. Adds net heard (hearing heard o) x.head x.body) (sym (know_of_sent k x)) (body_adds net w heard x.head x.body h.long tr.fits.to_in tr.publisher_in tr.told) in
+    let a : AddsHeard net heard (hearing heard (know_of_line (sent_line k x))) x.head x.body = subst (λ o. AddsHeard net heard (hearing heard o) x.head x.body) (sym (know_of_sent k x)) (body_adds net w heard x.head x.body h.long tr.fits.to_in tr.publisher_in tr.told) in
     record {
       long = a.long;
       fits = deliver_heard net w x (heard_in heard) (heard_in (hearing heard (know_of_line (sent_line k x)))) n f tr a.here a.same h.fits;
     }
 
-restarted_hears : (net : Net) (w : World) (logs : List Log) (b : ℕ) (heard : Pieces) → WorldFits net w → b < net.brokers → Hears net w heard → Hears net (restarted net (with_logs w logs) b) (deaf net heard b)
+restarted_hears : (net : Net) (w : World) (logs : List Log) (b : ℕ) (heard : Pieces) → WorldFits net w → b < net.brokers → Hears net w heard → Hears net (restarted net (with_logs w logs) b) (heard_nothing net heard b)
 restarted_hears net w logs b heard f i h = record {
   long = deaf_long net heard b h.long i;
-  fits = restarted_heard net w logs b (heard_in heard) (heard_in (deaf net heard b)) f i (λ p t j. ap (λ pieces. is_heard pieces t) (deaf_here net heard b p h.long i j)) (λ c p t e. ap (λ r. is_heard (get_or r p []) t) (get_or-set_other heard b c (replicate net.publishers []) [] e)) h.fits;
+  fits = restarted_heard net w logs b (heard_in heard) (heard_in (heard_nothing net heard b)) f i (λ p t j. ap (λ pieces. is_heard pieces t) (deaf_here net heard b p h.long i j)) (λ c p t e. ap (λ r. is_heard (get_or r p []) t) (get_or-set_other heard b c (replicate net.publishers []) [] e)) h.fits;
 }
 
-crash_hears : (net : Net) (w : World) (b : ℕ) (heard : Pieces) → WorldFits net w → b < net.brokers → Hears net w heard → Hears net (crash net w b).world (deaf net heard b)
+crash_hears : (net : Net) (w : World) (b : ℕ) (heard : Pieces) → WorldFits net w → b < net.brokers → Hears net w heard → Hears net (crash net w b).world (heard_nothing net heard b)
 unfolding crash
 crash_hears net w b heard f i h = let r = restarted_hears net w w.logs b heard f i h in record { long = r.long; fits = r.fits }
 
 stopped_hears : (net : Net) (w : World) (k p number : ℕ) (stop : Stop) (e : Event) (heard : Pieces) → IsNet net → WorldFits net w → p < net.publishers → Hears net w heard →
-    Hears net (publish_stopped net w k p number stop e).world (elim (if may_crash net (net.host p) && is_next w.clock (core_of w p) number then Some (net.host p) else None) [ None ↦ heard | Some b ↦ deaf net heard b ])
+    Hears net (publish_stopped net w k p number stop e).world (elim (if may_crash net (net.host p) && is_next w.clock (core_of w p) number then Some (net.host p) else None) [ None ↦ heard | Some b ↦ heard_nothing net heard b ])
 unfolding publish_stopped_by
 stopped_hears net w k p number stop e heard n f j h = go (not_empty (net.subscribers_at (net.host p))) (nat_eq number (suc log.last) && nat_le tick max_tick)
   where
@@ -247,13 +247,13 @@ stopped_hears net w k p number stop e heard n f j h = go (not_empty (net.subscri
     logs : List Log
     logs = if is_kept log.gate stop.call stop.pick then set w.logs p (with_event log tick e) else w.logs
 
-    stopped : Told
+    stopped : Transition
     stopped = record {
       world = restarted net (with_logs w logs) (net.host p);
       lines = line.Crashed (net.host p) ∷ ((if is_kept log.gate stop.call stop.pick then line.Kept p number tick else line.Lost p number tick) ∷ opened_lines net logs (net.host p));
     }
 
-    go : (x y : Bool) → Hears net (let t : Told = elim x [ true ↦ unchanged w (line.RefusedHosts k (net.host p) ∷ []) | false ↦ elim y [ false ↦ publish_now net w p number e | true ↦ stopped ] ] in t.world) (elim (if not x && y then Some (net.host p) else None) [ None ↦ heard | Some b ↦ deaf net heard b ])
+    go : (x y : Bool) → Hears net (let t : Transition = elim x [ true ↦ unchanged w (line.RefusedHosts k (net.host p) ∷ []) | false ↦ elim y [ false ↦ publish_now net w p number e | true ↦ stopped ] ] in t.world) (elim (if not x && y then Some (net.host p) else None) [ None ↦ heard | Some b ↦ heard_nothing net heard b ])
     go true y = record { long = h.long; fits = h.fits }
     go false false = record { long = h.long; fits = publish_now_heard net w p number e (heard_in heard) n f j h.fits }
     go false true = restarted_hears net w logs (net.host p) heard f (n.host_in p j) h
@@ -263,7 +263,7 @@ unfolding next_by heard_after
 hears_by net w h k (step.Clock now) ls n f r e i z a = record { long = a.long; fits = a.fits }
 hears_by net w h k (step.Publish p number None v) ls n f r e i z a = record { long = a.long; fits = publish_now_heard net w p number v (heard_in h.heard) n f i a.fits }
 hears_by net w h k (step.Publish p number (Some stop) v) ls n f r e i z a =
-    subst (λ q. Hears net (publish_stopped net w k p number stop v).world (elim (if may_crash net (net.host p) && q then Some (net.host p) else None) [ None ↦ h.heard | Some b ↦ deaf net h.heard b ]))
+    subst (λ q. Hears net (publish_stopped net w k p number stop v).world (elim (if may_crash net (net.host p) && q then Some (net.host p) else None) [ None ↦ h.heard | Some b ↦ heard_nothing net h.heard b ]))
     (sym (ap₂ (λ m x. is_next m x number) r.clock (record_core net w h p r))) (stopped_hears net w k p number stop v h.heard n f i a)
 hears_by net w h k (step.Wake b) ls n f r e i z a = record { long = a.long; fits = wake_all_hears net w b (heard_in h.heard) n f i a.fits }
 hears_by net w h k (step.Deliver j) ls n f r e i z a =
@@ -271,13 +271,13 @@ hears_by net w h k (step.Deliver j) ls n f r e i z a =
     (deliver_hears net w j k (frame_at w j) h.heard n f refl a)
 hears_by net w h k (step.Crash b) ls n f r e i z a = go (not_empty (net.subscribers_at b))
   where
-    go : (q : Bool) → Hears net (let t : Told = elim q [ true ↦ unchanged w (line.RefusedHosts k b ∷ []) | false ↦ crash net w b ] in t.world) (elim (if not q then Some b else None) [ None ↦ h.heard | Some b ↦ deaf net h.heard b ])
+    go : (q : Bool) → Hears net (let t : Transition = elim q [ true ↦ unchanged w (line.RefusedHosts k b ∷ []) | false ↦ crash net w b ] in t.world) (elim (if not q then Some b else None) [ None ↦ h.heard | Some b ↦ heard_nothing net h.heard b ])
     go true = record { long = a.long; fits = a.fits }
     go false = crash_hears net w b h.heard f i a
 hears_by net w h k step.Sweep ls n f r e i z a = absurd (true≢false z)
 hears_by net w h k step.Show ls n f r e i z a = record { long = a.long; fits = a.fits }
 hears_by net w h k (step.Bytes j) ls n f r e i z a = go (frame_at w j)
   where
-    go : (o : Option Frame) → Hears net (let t : Told = elim o [ None ↦ unchanged w (line.RefusedFrame k j (length w.frames) ∷ []) | Some x ↦ unchanged w (line.BytesOf j (frame_bytes x) ∷ []) ] in t.world) h.heard
+    go : (o : Option Frame) → Hears net (let t : Transition = elim o [ None ↦ unchanged w (line.RefusedFrame k j (length w.frames) ∷ []) | Some x ↦ unchanged w (line.BytesOf j (frame_bytes x) ∷ []) ] in t.world) h.heard
     go None = record { long = a.long; fits = a.fits }
     go (Some x) = record { long = a.long; fits = a.fits }

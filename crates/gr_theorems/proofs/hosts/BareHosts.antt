@@ -16,8 +16,8 @@ use Rattle.gr_model.specs.declared.report.Report.{Report}
 use Rattle.gr_model.specs.declared.report.Report.TheVariants as line
 use Rattle.gr_model.specs.Net.{Net, is_host, keeps_horizon, numbers, numbers_from, not_empty}
 use Rattle.gr_model.specs.Broker.{View, Log, Outcome, empty_log, learn, publish, wake, wake_host, wake_below, curiosity, receive, clashes, expect, place_of, with_event, is_kept, max_tick, started}
-use Rattle.gr_model.specs.World.{World, Told, blank_view, view_of, log_of, absorbed, unchanged, after, in_turn, wake_for, deliver_frame, frame_at, publish_now, publish_stopped, restarted, crash, next, show, opened_lines, kept_events, deliver_frame_by, next_by, publish_now_by, publish_stopped_by, wake_all_by, wake_for_by}
-use Rattle.gr_model.specs.Headline.{Recorded, History, is_record_line, is_record_of, publish_line, bare_after, each_bare, may_crash, is_next}
+use Rattle.gr_model.specs.World.{World, Transition, blank_view, view_of, log_of, absorbed, unchanged, followed_by, in_turn, wake_for, deliver_frame, frame_at, publish_now, publish_stopped, restarted, crash, next, show, opened_lines, kept_events, deliver_frame_by, next_by, publish_now_by, publish_stopped_by, wake_all_by, wake_for_by}
+use Rattle.gr_model.specs.Headline.{Recorded, History, is_record_line, is_record_of, publish_line, unlogged_after, each_flag, may_crash, is_next}
 use Rattle.gr_model.specs.Tree.{IsNet}
 use Rattle.gr_theorems.specs.Fits.{WorldFits, FrameTrue, HostKnows, StepIn, reached_in}
 use Rattle.gr_theorems.specs.Order.{is_sweep}
@@ -65,17 +65,17 @@ abbrev pub host_settled : ℕ → World → ℕ
 host_settled p w = (log_of w p).settled
 
 -- where something was logged or marked the horizon is where the log is settled; else both stay
-pub record Tells (net : Net) (p : ℕ) (w : World) (t : Told) : Type 0 where
+pub record RecordsFirst (net : Net) (p : ℕ) (w : World) (t : Transition) : Type 0 where
   pub told : told_of p t.lines ≡ true → host_horizon net p t.world ≡ host_settled p t.world
   pub still : told_of p t.lines ≡ false → (host_horizon net p t.world ≡ host_horizon net p w) × (host_settled p t.world ≡ host_settled p w)
 
-pub tells_still : (net : Net) (p : ℕ) (w : World) (t : Told) → told_of p t.lines ≡ false → host_horizon net p t.world ≡ host_horizon net p w → host_settled p t.world ≡ host_settled p w → Tells net p w t
+pub tells_still : (net : Net) (p : ℕ) (w : World) (t : Transition) → told_of p t.lines ≡ false → host_horizon net p t.world ≡ host_horizon net p w → host_settled p t.world ≡ host_settled p w → RecordsFirst net p w t
 tells_still net p w t e h s = record { told = λ x. absurd (false≢true (sym e ∙ x)); still = λ x. (h, s) }
 
-tells_seq : (net : Net) (p : ℕ) (w : World) (t : Told) (f : World → Told) → Tells net p w t → Tells net p t.world (f t.world) → Tells net p w (after t f)
+tells_seq : (net : Net) (p : ℕ) (w : World) (t : Transition) (f : World → Transition) → RecordsFirst net p w t → RecordsFirst net p t.world (f t.world) → RecordsFirst net p w (followed_by t f)
 tells_seq net p w t f a b = go (told_of p t.lines) (told_of p (f t.world).lines) refl refl
   where
-    go : (x y : Bool) → told_of p t.lines ≡ x → told_of p (f t.world).lines ≡ y → Tells net p w (after t f)
+    go : (x y : Bool) → told_of p t.lines ≡ x → told_of p (f t.world).lines ≡ y → RecordsFirst net p w (followed_by t f)
     go x true e g = record { told = λ z. b.told g; still = λ z. absurd (no_or x (sym (ap₂ (λ c d. c || d) e g) ∙ (sym (told_append p t.lines (f t.world).lines) ∙ z))) }
       where
         no_or : (c : Bool) → (c || true) ≡ false → ⊥
@@ -85,12 +85,12 @@ tells_seq net p w t f a b = go (told_of p t.lines) (told_of p (f t.world).lines)
       told = λ z. (b.still g).0 ∙ (a.told e ∙ sym (b.still g).1);
       still = λ z. absurd (true≢false (sym (ap₂ (λ c d. c || d) e g) ∙ (sym (told_append p t.lines (f t.world).lines) ∙ z)));
     }
-    go false false e g = tells_still net p w (after t f) (told_append p t.lines (f t.world).lines ∙ ap₂ (λ c d. c || d) e g) ((b.still g).0 ∙ (a.still e).0) ((b.still g).1 ∙ (a.still e).1)
+    go false false e g = tells_still net p w (followed_by t f) (told_append p t.lines (f t.world).lines ∙ ap₂ (λ c d. c || d) e g) ((b.still g).0 ∙ (a.still e).0) ((b.still g).1 ∙ (a.still e).1)
 
 -- Calls
 
 -- a call for another publisher, or at another broker with the log as it was
-other_tells : (net : Net) (p : ℕ) (w : World) (b q : ℕ) (o : Outcome) (ls : List Report) → WorldFits net w → b < net.brokers → q < net.publishers → told_of p ls ≡ false → (absorbed w b q o).lines ≡ ls → (q ≢ p) ⊎ ((net.host p ≢ b) × (o.log.settled ≡ (log_of w q).settled)) → Tells net p w (absorbed w b q o)
+other_tells : (net : Net) (p : ℕ) (w : World) (b q : ℕ) (o : Outcome) (ls : List Report) → WorldFits net w → b < net.brokers → q < net.publishers → told_of p ls ≡ false → (absorbed w b q o).lines ≡ ls → (q ≢ p) ⊎ ((net.host p ≢ b) × (o.log.settled ≡ (log_of w q).settled)) → RecordsFirst net p w (absorbed w b q o)
 other_tells net p w b q o ls f i j e g n =
     let c = absorbed_changed net w b q o f i j in
     elim n [
@@ -127,18 +127,18 @@ and_false false = refl
 keeps_here : (net : Net) (p b : ℕ) → net.host p ≡ b → keeps_horizon net p (net.host p) ≡ true → keeps_horizon net p b ≡ true
 keeps_here net p b g k = subst (λ z. keeps_horizon net p z ≡ true) g k
 
-wake_bare : (net : Net) (p : ℕ) (w : World) (b q : ℕ) → IsNet net → 1 ≤ net.quiet → WorldFits net w → b < net.brokers → q < net.publishers → keeps_horizon net p (net.host p) ≡ true → Tells net p w (wake_for net w b q)
+wake_bare : (net : Net) (p : ℕ) (w : World) (b q : ℕ) → IsNet net → 1 ≤ net.quiet → WorldFits net w → b < net.brokers → q < net.publishers → keeps_horizon net p (net.host p) ≡ true → RecordsFirst net p w (wake_for net w b q)
 unfolding wake_for_by
 wake_bare net p w b q n z f i j keeps =
     elim (cases_eq q p) [
       | inr e ↦ other_tells net p w b q (wake net q b w.clock (view_of w b q) (log_of w q)) (wake_for net w b q).lines f i j (wake_lines_told net p w b q z ∙ (ap (λ c. (is_host net q b && nat_le (host_settled q w + net.quiet) w.clock) && c) (ne_eqb q p e) ∙ and_false (is_host net q b && nat_le (host_settled q w + net.quiet) w.clock))) refl (inl e)
-      | inl e ↦ subst (λ a. a < net.publishers → Tells net p w (wake_for net w b a)) (sym e) here j
+      | inl e ↦ subst (λ a. a < net.publishers → RecordsFirst net p w (wake_for net w b a)) (sym e) here j
     ]
   where
     settled_now : p < net.publishers → (wake net p b w.clock (view_of w b p) (log_of w p)).log.settled ≡ (let r : Recorded = if is_host net p b then (if nat_le (host_settled p w + net.quiet) w.clock then record { last = (log_of w p).last; settled = w.clock; events = (log_of w p).events } else core_of w p) else core_of w p in r.settled)
     settled_now k = ap (λ r. r.settled) (wake_core net p b w.clock (view_of w b p) (log_of w p))
 
-    here : p < net.publishers → Tells net p w (wake_for net w b p)
+    here : p < net.publishers → RecordsFirst net p w (wake_for net w b p)
     here k =
         let o = wake net p b w.clock (view_of w b p) (log_of w p) in
         let c = absorbed_changed net w b p o f i k in
@@ -163,7 +163,7 @@ wake_bare net p w b q n z f i j keeps =
               ]
         ]
 
-wakes_bare : (net : Net) (p : ℕ) (w : World) (a m b : ℕ) → IsNet net → 1 ≤ net.quiet → WorldFits net w → b < net.brokers → a + m ≤ net.publishers → keeps_horizon net p (net.host p) ≡ true → Tells net p w (in_turn (λ u q. wake_for net u b q) (numbers_from a m) w)
+wakes_bare : (net : Net) (p : ℕ) (w : World) (a m b : ℕ) → IsNet net → 1 ≤ net.quiet → WorldFits net w → b < net.brokers → a + m ≤ net.publishers → keeps_horizon net p (net.host p) ≡ true → RecordsFirst net p w (in_turn (λ u q. wake_for net u b q) (numbers_from a m) w)
 wakes_bare net p w a zero b n z f i h keeps = tells_still net p w (unchanged w []) refl refl refl
 wakes_bare net p w a (suc m) b n z f i h keeps =
     let j : a < net.publishers = omega arith in
@@ -183,7 +183,7 @@ receive_horizon net now x v log fits host = go x.body fits
     go (body.Curiosity runs) h = trimmed_horizon net x.head.publisher x.head.to _
     go (body.Expect tick) h = absurd (true≢false (sym host ∙ h))
 
-deliver_bare : (net : Net) (p : ℕ) (w : World) (x : Frame) → WorldFits net w → FrameTrue net w x → ExpectFits net x → Tells net p w (deliver_frame net w x)
+deliver_bare : (net : Net) (p : ℕ) (w : World) (x : Frame) → WorldFits net w → FrameTrue net w x → ExpectFits net x → RecordsFirst net p w (deliver_frame net w x)
 unfolding deliver_frame_by
 deliver_bare net p w x f tr fits =
     let b = x.head.to in
@@ -223,18 +223,18 @@ or_false : (b : Bool) → (b || false) ≡ b
 or_false true = refl
 or_false false = refl
 
-publish_bare : (net : Net) (p : ℕ) (w : World) (q number : ℕ) (v : Event) → IsNet net → WorldFits net w → q < net.publishers → keeps_horizon net p (net.host p) ≡ true → Tells net p w (publish_now net w q number v)
+publish_bare : (net : Net) (p : ℕ) (w : World) (q number : ℕ) (v : Event) → IsNet net → WorldFits net w → q < net.publishers → keeps_horizon net p (net.host p) ≡ true → RecordsFirst net p w (publish_now net w q number v)
 unfolding publish_now_by
 publish_bare net p w q number v n f j keeps =
     elim (cases_eq q p) [
       | inr e ↦ other_tells net p w (net.host q) q (publish net q (net.host q) w.clock number v (view_of w (net.host q) q) (log_of w q)) (publish_now net w q number v).lines f (n.host_in q j) j (told q ∙ publish_other p q w.clock number (core_of w q) e) refl (inl e)
-      | inl e ↦ subst (λ a. a < net.publishers → Tells net p w (publish_now net w a number v)) (sym e) here j
+      | inl e ↦ subst (λ a. a < net.publishers → RecordsFirst net p w (publish_now net w a number v)) (sym e) here j
     ]
   where
     told : (a : ℕ) → told_of p (publish_now net w a number v).lines ≡ is_record_of p (publish_line a w.clock number (core_of w a))
     told a = told_recs p (publish_now net w a number v).lines ∙ (ap (told_of p) (publish_now_recs net w a number v) ∙ or_false (is_record_of p (publish_line a w.clock number (core_of w a))))
 
-    here : p < net.publishers → Tells net p w (publish_now net w p number v)
+    here : p < net.publishers → RecordsFirst net p w (publish_now net w p number v)
     here k =
         let b = net.host p in
         let o = publish net p b w.clock number v (view_of w b p) (log_of w p) in
@@ -323,25 +323,25 @@ show_untold net p w = logs (numbers net.publishers)
 abbrev pub bare_horizon : Net → List Bool → World → ℕ → ℕ
 bare_horizon net bare w p = if get_or bare p true && may_crash net (net.host p) then 0 else (log_of w p).settled
 
-pub record Bare (net : Net) (w : World) (bare : List Bool) : Type 0 where
+pub record Unlogged (net : Net) (w : World) (bare : List Bool) : Type 0 where
   pub long : length bare ≡ net.publishers
   pub fits : (p : ℕ) → p < net.publishers → keeps_horizon net p (net.host p) ≡ true → host_horizon net p w ≡ bare_horizon net bare w p
 
-each_bare-long : (f : ℕ → Bool → Bool) (a : ℕ) (bs : List Bool) → length (each_bare f a bs) ≡ length bs
+each_bare-long : (f : ℕ → Bool → Bool) (a : ℕ) (bs : List Bool) → length (each_flag f a bs) ≡ length bs
 each_bare-long f a [] = refl
 each_bare-long f a (b ∷ bs) = ap suc (each_bare-long f (suc a) bs)
 
-each_bare-get : (f : ℕ → Bool → Bool) (a : ℕ) (bs : List Bool) (i : ℕ) → i < length bs → get_or (each_bare f a bs) i true ≡ f (a + i) (get_or bs i true)
+each_bare-get : (f : ℕ → Bool → Bool) (a : ℕ) (bs : List Bool) (i : ℕ) → i < length bs → get_or (each_flag f a bs) i true ≡ f (a + i) (get_or bs i true)
 each_bare-get f a [] i h = absurd (omega arith)
 each_bare-get f a (b ∷ bs) zero h = ap (λ k. f k b) (omega arith)
 each_bare-get f a (b ∷ bs) (suc i) h = each_bare-get f (suc a) bs i (omega arith) ∙ ap (λ k. f k (get_or bs i true)) (omega arith)
 
 -- a step without a crash
-pub tells_bare : (net : Net) (w : World) (t : Told) (bare : List Bool) → Bare net w bare → ((p : ℕ) → p < net.publishers → keeps_horizon net p (net.host p) ≡ true → Tells net p w t) → Bare net t.world (each_bare (λ p x. x && not (list_any (is_record_of p) t.lines)) 0 bare)
+pub tells_bare : (net : Net) (w : World) (t : Transition) (bare : List Bool) → Unlogged net w bare → ((p : ℕ) → p < net.publishers → keeps_horizon net p (net.host p) ≡ true → RecordsFirst net p w t) → Unlogged net t.world (each_flag (λ p x. x && not (list_any (is_record_of p) t.lines)) 0 bare)
 tells_bare net w t bare b a = record {
   long = each_bare-long f 0 bare ∙ b.long;
   fits = λ p j keeps.
-      let g : get_or (each_bare f 0 bare) p true ≡ (get_or bare p true && not (told_of p t.lines)) = each_bare-get f 0 bare p (omega (arith, j, b.long)) ∙ ap (λ k. get_or bare p true && not (told_of k t.lines)) (omega arith) in
+      let g : get_or (each_flag f 0 bare) p true ≡ (get_or bare p true && not (told_of p t.lines)) = each_bare-get f 0 bare p (omega (arith, j, b.long)) ∙ ap (λ k. get_or bare p true && not (told_of k t.lines)) (omega arith) in
       elim (cases_Bool (told_of p t.lines)) [
         | inl e ↦ (a p j keeps).told e ∙ sym (ap (λ x. if x && may_crash net (net.host p) then 0 else host_settled p t.world) (g ∙ (ap (λ y. get_or bare p true && not y) e ∙ and_false (get_or bare p true))))
         | inr e ↦ ((a p j keeps).still e).0 ∙ (b.fits p j keeps ∙ (ap (λ s. if get_or bare p true && may_crash net (net.host p) then 0 else s) (sym ((a p j keeps).still e).1)
@@ -357,12 +357,12 @@ tells_bare net w t bare b a = record {
     and_true false = refl
 
 -- a crash of b, with other logs for its publishers alone
-restarted_bare : (net : Net) (w : World) (logs : List Log) (b : ℕ) (bare : List Bool) → WorldFits net w → b < net.brokers → may_crash net b ≡ true → ((p : ℕ) → p < net.publishers → net.host p ≢ b → get_or logs p empty_log ≡ log_of w p) → Bare net w bare → Bare net (restarted net (with_logs w logs) b) (each_bare (λ p x. is_host net p b || x) 0 bare)
+restarted_bare : (net : Net) (w : World) (logs : List Log) (b : ℕ) (bare : List Bool) → WorldFits net w → b < net.brokers → may_crash net b ≡ true → ((p : ℕ) → p < net.publishers → net.host p ≢ b → get_or logs p empty_log ≡ log_of w p) → Unlogged net w bare → Unlogged net (restarted net (with_logs w logs) b) (each_flag (λ p x. is_host net p b || x) 0 bare)
 restarted_bare net w logs b bare f i may same h = record {
   long = each_bare-long (λ p x. is_host net p b || x) 0 bare ∙ h.long;
   fits = λ p j keeps.
       let u = restarted net (with_logs w logs) b in
-      let g : get_or (each_bare (λ p x. is_host net p b || x) 0 bare) p true ≡ (is_host net p b || get_or bare p true) = each_bare-get (λ p x. is_host net p b || x) 0 bare p (omega (arith, j, h.long)) ∙ ap (λ k. is_host net k b || get_or bare p true) (omega arith) in
+      let g : get_or (each_flag (λ p x. is_host net p b || x) 0 bare) p true ≡ (is_host net p b || get_or bare p true) = each_bare-get (λ p x. is_host net p b || x) 0 bare p (omega (arith, j, h.long)) ∙ ap (λ k. is_host net k b || get_or bare p true) (omega arith) in
       elim (cases_eq (net.host p) b) [
         | inl e ↦ restarted_here net w logs b p f i j e ∙ sym (ap₂ (λ x y. if x && y then 0 else host_settled p u) (g ∙ ap (λ c. c || get_or bare p true) (eq-eqb (net.host p) b e)) (ap (may_crash net) e ∙ may))
         | inr e ↦ restarted_there net w logs b p e ∙ (h.fits p j keeps ∙ (ap (λ s. if get_or bare p true && may_crash net (net.host p) then 0 else s) (sym (restarted_settled net w logs b p ∙ ap (λ l. l.settled) (same p j e)))
@@ -370,16 +370,16 @@ restarted_bare net w logs b bare f i may same h = record {
       ];
 }
 
-crash_bare : (net : Net) (w : World) (b : ℕ) (bare : List Bool) → WorldFits net w → b < net.brokers → may_crash net b ≡ true → Bare net w bare → Bare net (crash net w b).world (each_bare (λ p x. is_host net p b || x) 0 bare)
+crash_bare : (net : Net) (w : World) (b : ℕ) (bare : List Bool) → WorldFits net w → b < net.brokers → may_crash net b ≡ true → Unlogged net w bare → Unlogged net (crash net w b).world (each_flag (λ p x. is_host net p b || x) 0 bare)
 unfolding crash
 crash_bare net w b bare f i may h = let r = restarted_bare net w w.logs b bare f i may (λ p j e. refl) h in record { long = r.long; fits = r.fits }
 
 -- the flags after a step that may crash a broker
 abbrev flags : Net → Option ℕ → List Bool → List Report → List Bool
-flags net o bare ls = elim o [ Some b ↦ each_bare (λ p x. is_host net p b || x) 0 bare | None ↦ each_bare (λ p x. x && not (list_any (is_record_of p) ls)) 0 bare ]
+flags net o bare ls = elim o [ Some b ↦ each_flag (λ p x. is_host net p b || x) 0 bare | None ↦ each_flag (λ p x. x && not (list_any (is_record_of p) ls)) 0 bare ]
 
-stopped_bare : (net : Net) (w : World) (k q number : ℕ) (stop : Stop) (e : Event) (bare : List Bool) → IsNet net → WorldFits net w → q < net.publishers → Bare net w bare →
-    (let t = publish_stopped net w k q number stop e in Bare net t.world (flags net (if may_crash net (net.host q) && is_next w.clock (core_of w q) number then Some (net.host q) else None) bare t.lines))
+stopped_bare : (net : Net) (w : World) (k q number : ℕ) (stop : Stop) (e : Event) (bare : List Bool) → IsNet net → WorldFits net w → q < net.publishers → Unlogged net w bare →
+    (let t = publish_stopped net w k q number stop e in Unlogged net t.world (flags net (if may_crash net (net.host q) && is_next w.clock (core_of w q) number then Some (net.host q) else None) bare t.lines))
 unfolding publish_stopped_by
 stopped_bare net w k q number stop e bare n f j h = go (not_empty (net.subscribers_at (net.host q))) (nat_eq number (suc log.last) && nat_le tick max_tick) refl
   where
@@ -392,7 +392,7 @@ stopped_bare net w k q number stop e bare n f j h = go (not_empty (net.subscribe
     logs : List Log
     logs = if is_kept log.gate stop.call stop.pick then set w.logs q (with_event log tick e) else w.logs
 
-    stopped : Told
+    stopped : Transition
     stopped = record {
       world = restarted net (with_logs w logs) (net.host q);
       lines = line.Crashed (net.host q) ∷ ((if is_kept log.gate stop.call stop.pick then line.Kept q number tick else line.Lost q number tick) ∷ opened_lines net logs (net.host q));
@@ -402,36 +402,36 @@ stopped_bare net w k q number stop e bare n f j h = go (not_empty (net.subscribe
     same true p i x = get_or-set_other w.logs q p (with_event log tick e) empty_log (λ y. x (ap net.host y))
     same false p i x = refl
 
-    go : (x y : Bool) → not_empty (net.subscribers_at (net.host q)) ≡ x → (let t : Told = elim x [ true ↦ unchanged w (line.RefusedHosts k (net.host q) ∷ []) | false ↦ elim y [ false ↦ publish_now net w q number e | true ↦ stopped ] ] in Bare net t.world (flags net (if not x && y then Some (net.host q) else None) bare t.lines))
+    go : (x y : Bool) → not_empty (net.subscribers_at (net.host q)) ≡ x → (let t : Transition = elim x [ true ↦ unchanged w (line.RefusedHosts k (net.host q) ∷ []) | false ↦ elim y [ false ↦ publish_now net w q number e | true ↦ stopped ] ] in Unlogged net t.world (flags net (if not x && y then Some (net.host q) else None) bare t.lines))
     go true y z = tells_bare net w (unchanged w (line.RefusedHosts k (net.host q) ∷ [])) bare h (λ p i keeps. tells_still net p w (unchanged w (line.RefusedHosts k (net.host q) ∷ [])) refl refl refl)
     go false false z = tells_bare net w (publish_now net w q number e) bare h (λ p i keeps. publish_bare net p w q number e n f j keeps)
     go false true z = restarted_bare net w logs (net.host q) bare f (n.host_in q j) (ap not z) (same (is_kept log.gate stop.call stop.pick)) h
 
-pub bare_by : (net : Net) (w : World) (h : History) (k : ℕ) (s : Step) → IsNet net → 1 ≤ net.quiet → WorldFits net w → RecordsFit net w h → Each (ExpectFits net) w.frames → StepIn net s → is_sweep s ≡ false → Bare net w h.bare → Bare net (next net w (record { number = k; step = s })).world (bare_after net h (record { number = k; step = s }) (next net w (record { number = k; step = s })).lines)
-unfolding next_by bare_after wake_all_by
+pub bare_by : (net : Net) (w : World) (h : History) (k : ℕ) (s : Step) → IsNet net → 1 ≤ net.quiet → WorldFits net w → RecordsFit net w h → Each (ExpectFits net) w.frames → StepIn net s → is_sweep s ≡ false → Unlogged net w h.unlogged → Unlogged net (next net w (record { number = k; step = s })).world (unlogged_after net h (record { number = k; step = s }) (next net w (record { number = k; step = s })).lines)
+unfolding next_by unlogged_after wake_all_by
 bare_by net w h k (step.Clock now) n z f r x i y a =
     let t = next net w (record { number = k; step = step.Clock now }) in
-    tells_bare net w t h.bare a (λ p j keeps. tells_still net p w t refl refl refl)
-bare_by net w h k (step.Publish q number None v) n z f r x i y a = tells_bare net w (publish_now net w q number v) h.bare a (λ p j keeps. publish_bare net p w q number v n f i keeps)
+    tells_bare net w t h.unlogged a (λ p j keeps. tells_still net p w t refl refl refl)
+bare_by net w h k (step.Publish q number None v) n z f r x i y a = tells_bare net w (publish_now net w q number v) h.unlogged a (λ p j keeps. publish_bare net p w q number v n f i keeps)
 bare_by net w h k (step.Publish q number (Some stop) v) n z f r x i y a =
     let t = publish_stopped net w k q number stop v in
-    subst (λ c. Bare net t.world (flags net (if may_crash net (net.host q) && c then Some (net.host q) else None) h.bare t.lines)) (sym (ap₂ (λ m x. is_next m x number) r.clock (record_core net w h q r))) (stopped_bare net w k q number stop v h.bare n f i a)
+    subst (λ c. Unlogged net t.world (flags net (if may_crash net (net.host q) && c then Some (net.host q) else None) h.unlogged t.lines)) (sym (ap₂ (λ m x. is_next m x number) r.clock (record_core net w h q r))) (stopped_bare net w k q number stop v h.unlogged n f i a)
 bare_by net w h k (step.Wake b) n z f r x i y a =
-    tells_bare net w (in_turn (λ u q. wake_for net u b q) (numbers_from 0 net.publishers) w) h.bare a (λ p j keeps. wakes_bare net p w 0 net.publishers b n z f i (omega arith) keeps)
+    tells_bare net w (in_turn (λ u q. wake_for net u b q) (numbers_from 0 net.publishers) w) h.unlogged a (λ p j keeps. wakes_bare net p w 0 net.publishers b n z f i (omega arith) keeps)
 bare_by net w h k (step.Deliver j) n z f r x i y a = go (frame_at w j) refl
   where
-    go : (o : Option Frame) → frame_at w j ≡ o → (let t : Told = elim o [ None ↦ unchanged w (line.RefusedFrame k j (length w.frames) ∷ []) | Some x ↦ deliver_frame net w x ] in Bare net t.world (each_bare (λ p x. x && not (list_any (is_record_of p) t.lines)) 0 h.bare))
-    go None e = tells_bare net w (unchanged w (line.RefusedFrame k j (length w.frames) ∷ [])) h.bare a (λ p m keeps. tells_still net p w (unchanged w (line.RefusedFrame k j (length w.frames) ∷ [])) refl refl refl)
-    go (Some m) e = tells_bare net w (deliver_frame net w m) h.bare a (λ p q keeps. deliver_bare net p w m f (frame_at_true net w j m f e) (frame_at_ready (ExpectFits net) w j m x e))
+    go : (o : Option Frame) → frame_at w j ≡ o → (let t : Transition = elim o [ None ↦ unchanged w (line.RefusedFrame k j (length w.frames) ∷ []) | Some x ↦ deliver_frame net w x ] in Unlogged net t.world (each_flag (λ p x. x && not (list_any (is_record_of p) t.lines)) 0 h.unlogged))
+    go None e = tells_bare net w (unchanged w (line.RefusedFrame k j (length w.frames) ∷ [])) h.unlogged a (λ p m keeps. tells_still net p w (unchanged w (line.RefusedFrame k j (length w.frames) ∷ [])) refl refl refl)
+    go (Some m) e = tells_bare net w (deliver_frame net w m) h.unlogged a (λ p q keeps. deliver_bare net p w m f (frame_at_true net w j m f e) (frame_at_ready (ExpectFits net) w j m x e))
 bare_by net w h k (step.Crash b) n z f r x i y a = go (not_empty (net.subscribers_at b)) refl
   where
-    go : (q : Bool) → not_empty (net.subscribers_at b) ≡ q → (let t : Told = elim q [ true ↦ unchanged w (line.RefusedHosts k b ∷ []) | false ↦ crash net w b ] in Bare net t.world (flags net (if not q then Some b else None) h.bare t.lines))
-    go true e = tells_bare net w (unchanged w (line.RefusedHosts k b ∷ [])) h.bare a (λ p m keeps. tells_still net p w (unchanged w (line.RefusedHosts k b ∷ [])) refl refl refl)
-    go false e = crash_bare net w b h.bare f i (ap not e) a
+    go : (q : Bool) → not_empty (net.subscribers_at b) ≡ q → (let t : Transition = elim q [ true ↦ unchanged w (line.RefusedHosts k b ∷ []) | false ↦ crash net w b ] in Unlogged net t.world (flags net (if not q then Some b else None) h.unlogged t.lines))
+    go true e = tells_bare net w (unchanged w (line.RefusedHosts k b ∷ [])) h.unlogged a (λ p m keeps. tells_still net p w (unchanged w (line.RefusedHosts k b ∷ [])) refl refl refl)
+    go false e = crash_bare net w b h.unlogged f i (ap not e) a
 bare_by net w h k step.Sweep n z f r x i y a = absurd (true≢false y)
-bare_by net w h k step.Show n z f r x i y a = tells_bare net w (unchanged w (show net w)) h.bare a (λ p j keeps. tells_still net p w (unchanged w (show net w)) (show_untold net p w) refl refl)
+bare_by net w h k step.Show n z f r x i y a = tells_bare net w (unchanged w (show net w)) h.unlogged a (λ p j keeps. tells_still net p w (unchanged w (show net w)) (show_untold net p w) refl refl)
 bare_by net w h k (step.Bytes j) n z f r x i y a = go (frame_at w j)
   where
-    go : (o : Option Frame) → (let t : Told = elim o [ None ↦ unchanged w (line.RefusedFrame k j (length w.frames) ∷ []) | Some x ↦ unchanged w (line.BytesOf j (frame_bytes x) ∷ []) ] in Bare net t.world (each_bare (λ p x. x && not (list_any (is_record_of p) t.lines)) 0 h.bare))
-    go None = tells_bare net w (unchanged w (line.RefusedFrame k j (length w.frames) ∷ [])) h.bare a (λ p m keeps. tells_still net p w (unchanged w (line.RefusedFrame k j (length w.frames) ∷ [])) refl refl refl)
-    go (Some x) = tells_bare net w (unchanged w (line.BytesOf j (frame_bytes x) ∷ [])) h.bare a (λ p m keeps. tells_still net p w (unchanged w (line.BytesOf j (frame_bytes x) ∷ [])) refl refl refl)
+    go : (o : Option Frame) → (let t : Transition = elim o [ None ↦ unchanged w (line.RefusedFrame k j (length w.frames) ∷ []) | Some x ↦ unchanged w (line.BytesOf j (frame_bytes x) ∷ []) ] in Unlogged net t.world (each_flag (λ p x. x && not (list_any (is_record_of p) t.lines)) 0 h.unlogged))
+    go None = tells_bare net w (unchanged w (line.RefusedFrame k j (length w.frames) ∷ [])) h.unlogged a (λ p m keeps. tells_still net p w (unchanged w (line.RefusedFrame k j (length w.frames) ∷ [])) refl refl refl)
+    go (Some x) = tells_bare net w (unchanged w (line.BytesOf j (frame_bytes x) ∷ [])) h.unlogged a (λ p m keeps. tells_still net p w (unchanged w (line.BytesOf j (frame_bytes x) ∷ [])) refl refl refl)

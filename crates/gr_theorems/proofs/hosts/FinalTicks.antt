@@ -11,7 +11,7 @@ use Rattle.gr_know.specs.declared.values.K.{K}
 use Rattle.gr_know.specs.declared.values.K.TheVariants.{Q, F}
 use Rattle.gr_know.specs.Values.{Known, known_at, is_D}
 use Rattle.gr_model.specs.Net.{Net, is_host, is_empty, keeps_horizon, not_empty, numbers}
-use Rattle.gr_model.specs.Broker.{View, Log, Outcome, empty_log, is_settled, all_A, publish, wake, receive, started, max_tick}
+use Rattle.gr_model.specs.Broker.{View, Log, Outcome, empty_log, is_consolidated_by, all_A, publish, wake, receive, started, max_tick}
 use Rattle.gr_model.specs.World.{World, blank_view, view_of, log_of, absorbed, wake_for, deliver_frame, publish_now, restarted, start, wake_for_by, deliver_frame_by, publish_now_by}
 use Rattle.gr_model.specs.Tree.{IsNet}
 use Rattle.gr_theorems.specs.Rules.{Forgets, Knows, Asks, HostWakes, Wakes, Publishes, Comes}
@@ -23,7 +23,7 @@ use Rattle.gr_theorems.proofs.runs.Closed.{with_logs, IsClosed}
 
 -- the consolidated ticks of a view are final
 abbrev pub FinalTicks : Net → ℕ → ℕ → View → Type 0
-FinalTicks net p b v = (t : ℕ) → is_settled (keeps_horizon net p b) v.horizon v.wants t ≡ true → known_at v.know t ≡ F
+FinalTicks net p b v = (t : ℕ) → is_consolidated_by (keeps_horizon net p b) v.horizon v.wants t ≡ true → known_at v.know t ≡ F
 
 -- of every broker and publisher
 abbrev pub AllFinal : Net → World → Type 0
@@ -43,7 +43,7 @@ knows_final net p b at u k t c = forgets_final net p b u.horizon t k.full u.know
 
 asks_final : (net : Net) (p b now : ℕ) (wanted : ℕ → Bool) (more : List Frame) (v : View) (log : Log) (o : Outcome) → Asks net p b now wanted more v log o → FinalTicks net p b v → FinalTicks net p b o.view
 asks_final net p b now wanted more v log o a h t c =
-    forgets_final net p b v.horizon t v.know o.view.know a.know (h t (ap₂ (λ k ws. is_settled (keeps_horizon net p b) k ws t) (sym a.horizon) (sym a.wants) ∙ c))
+    forgets_final net p b v.horizon t v.know o.view.know a.know (h t (ap₂ (λ k ws. is_consolidated_by (keeps_horizon net p b) k ws t) (sym a.horizon) (sym a.wants) ∙ c))
 
 host_final : (net : Net) (p b now : ℕ) (v : View) (log : Log) (o : Outcome) → HostWakes net p b now v log o → FinalTicks net p b v → FinalTicks net p b o.view
 host_final net p b now v log o w h =
@@ -88,7 +88,7 @@ started_final : (net : Net) (p b : ℕ) (log : Log) → FinalTicks net p b (star
 unfolding started
 started_final net p b log t c = absurd (false≢true (sym (none (not_empty (net.subscribers_at b)) (net.children p b)) ∙ c))
   where
-    none : (here : Bool) (cs : List ℕ) → is_settled (here || is_empty cs) 0 (map (λ _. []) cs) t ≡ false
+    none : (here : Bool) (cs : List ℕ) → is_consolidated_by (here || is_empty cs) 0 (map (λ _. []) cs) t ≡ false
     none true cs = zero_not t (all_A (map (λ _. []) cs) t)
       where
         zero_not : (t : ℕ) (q : Bool) → (nat_le 1 t && (false || nat_le t 0) && q) ≡ false

@@ -23,7 +23,7 @@ use Rattle.gr_sched.specs.declared.step.Line.{Line}
 use Rattle.gr_model.specs.declared.report.Report.TheVariants as line
 use Rattle.gr_model.specs.Net.{Net, not_empty, numbers}
 use Rattle.gr_model.specs.Broker.{Log, Outcome, max_tick, empty_log, with_event, is_kept, publish, wake, receive, started}
-use Rattle.gr_model.specs.World.{World, Told, blank_view, view_of, log_of, absorbed, unchanged, after, in_turn, wake_for, wake_all, deliver_frame, publish_now, sweep_for, sweep, sweep_moment, frame_at, restarted, crash, publish_stopped, opened_lines, next, start, show, run_all, deliver_frame_by, next_by, publish_now_by, publish_stopped_by, sweep_by, wake_for_by}
+use Rattle.gr_model.specs.World.{World, Transition, blank_view, view_of, log_of, absorbed, unchanged, followed_by, in_turn, wake_for, wake_all, deliver_frame, publish_now, sweep_for, sweep, sweep_moment, frame_at, restarted, crash, publish_stopped, opened_lines, next, start, show, run_all, deliver_frame_by, next_by, publish_now_by, publish_stopped_by, sweep_by, wake_for_by}
 use Rattle.gr_theorems.specs.Truth.{Facts}
 use Rattle.gr_model.specs.Tree.{IsNet}
 use Rattle.gr_theorems.specs.Fits.{facts_of, BodyTrue, FrameTrue, AllFramesTrue, WorldFits, StepIn, StepsIn}
@@ -31,7 +31,7 @@ use Rattle.gr_theorems.specs.Spelled.{NumberIn, NumbersIn, IsSpelled, ViewIn, Lo
 use Rattle.gr_theorems.proofs.runs.Worlds.{wake_for_kept, deliver_kept, publish_kept, numbers_below}
 use Rattle.gr_theorems.proofs.runs.Schedules.{next_kept, start_fits, clocked_fits, frame_at_true}
 use Rattle.gr_theorems.proofs.runs.Closed.{clocked, with_logs, IsCallClosed, in_turn_goes, sweep_for_goes, wake_all_goes, frame_at_ready}
-use Rattle.gr_theorems.proofs.limits.SpelledRuns.{all_on, all_set, all_get, all_made, ends_in, values_in, runs_in, total, total_is}
+use Rattle.gr_theorems.proofs.limits.SpelledRuns.{all_on, all_set, all_get, all_tabulated, ends_in, values_in, runs_in, total, total_is}
 use Rattle.gr_theorems.proofs.limits.SpelledCalls.{BodyCut, FrameCut, AllCut, CallIn, BodyIn, wake_in, receive_in, publish_in, with_event_in, started_in}
 
 -- A frame
@@ -140,7 +140,7 @@ restarted_in : (net : Net) (w : World) (b : ℕ) → WorldIn w → WorldIn (rest
 unfolding restarted
 restarted_in net w b a = record {
   clock = a.clock;
-  views = all_set (AllByRecursion ViewIn) w.views b (map (λ p. started net p b (get_or w.logs p empty_log)) (numbers net.publishers)) a.views (all_made ViewIn (λ p. started net p b (get_or w.logs p empty_log)) (numbers net.publishers) (λ p. started_in net p b (get_or w.logs p empty_log) (log_in w p a)));
+  views = all_set (AllByRecursion ViewIn) w.views b (map (λ p. started net p b (get_or w.logs p empty_log)) (numbers net.publishers)) a.views (all_tabulated ViewIn (λ p. started net p b (get_or w.logs p empty_log)) (numbers net.publishers) (λ p. started_in net p b (get_or w.logs p empty_log) (log_in w p a)));
   logs = a.logs;
   frames = a.frames;
 }
@@ -157,7 +157,7 @@ sweep_in net w k n z f a = go (nat_lt max_tick m) refl
     u : World
     u = clocked w m (max m w.most)
 
-    go : (q : Bool) → nat_lt max_tick m ≡ q → WorldIn (let t : Told = elim q [ true ↦ unchanged w (line.RefusedClock k m ∷ []) | false ↦ after (in_turn (sweep_for net) (numbers net.publishers) u) (λ x. unchanged x (line.Swept m ∷ [])) ] in t.world)
+    go : (q : Bool) → nat_lt max_tick m ≡ q → WorldIn (let t : Transition = elim q [ true ↦ unchanged w (line.RefusedClock k m ∷ []) | false ↦ followed_by (in_turn (sweep_for net) (numbers net.publishers) u) (λ x. unchanged x (line.Swept m ∷ [])) ] in t.world)
     go true e = a
     go false e = (in_turn_goes net WorldIn (λ x p. p < net.publishers) (sweep_for net) (λ x y p l h. h) (λ x p g k h. sweep_for_goes net IsSpelled WorldIn x p n (calls_closed net n z) g k h) (numbers net.publishers) u (clocked_fits net w m (max m w.most) f) (clocked_in w m (max m w.most) (ltb-false max_tick m e) a) (numbers_below 0 net.publishers net.publishers (omega arith))).holds
 
@@ -181,17 +181,17 @@ publish_stopped_in net w k p number stop e n z f j is a = host_at (not_empty (ne
     logs_in h true = logged_in w p (with_event log tick e) (with_event_in log tick e h is (log_in w p a)) a
     logs_in h false = a
 
-    stopped : Told
+    stopped : Transition
     stopped = record {
       world = restarted net (with_logs w logs) (net.host p);
       lines = line.Crashed (net.host p) ∷ ((if kept then line.Kept p number tick else line.Lost p number tick) ∷ opened_lines net logs (net.host p));
     }
 
-    number_at : (q : Bool) → (nat_eq number (suc log.last) && nat_le tick max_tick) ≡ q → WorldIn (let t : Told = elim q [ false ↦ publish_now net w p number e | true ↦ stopped ] in t.world)
+    number_at : (q : Bool) → (nat_eq number (suc log.last) && nat_le tick max_tick) ≡ q → WorldIn (let t : Transition = elim q [ false ↦ publish_now net w p number e | true ↦ stopped ] in t.world)
     number_at false x = publish_now_in net w p number e n z f j is a
     number_at true x = restarted_in net (with_logs w logs) (net.host p) (logs_in (leb-true tick max_tick (and_parts (nat_eq number (suc log.last)) (nat_le tick max_tick) x).1) kept)
 
-    host_at : (q : Bool) → WorldIn (let t : Told = elim q [ true ↦ unchanged w (line.RefusedHosts k (net.host p) ∷ []) | false ↦ elim (nat_eq number (suc log.last) && nat_le tick max_tick) [ false ↦ publish_now net w p number e | true ↦ stopped ] ] in t.world)
+    host_at : (q : Bool) → WorldIn (let t : Transition = elim q [ true ↦ unchanged w (line.RefusedHosts k (net.host p) ∷ []) | false ↦ elim (nat_eq number (suc log.last) && nat_le tick max_tick) [ false ↦ publish_now net w p number e | true ↦ stopped ] ] in t.world)
     host_at true = a
     host_at false = number_at (nat_eq number (suc log.last) && nat_le tick max_tick) refl
 
@@ -200,23 +200,23 @@ pub next_in : (net : Net) (w : World) (l : Line) → IsNet net → IsSmall net �
 unfolding next_by crash
 next_in net w l n z f i k a = go l.step i k
   where
-    delivered : (m : ℕ) (o : Option Frame) → frame_at w m ≡ o → WorldIn (let t : Told = elim o [ None ↦ unchanged w (line.RefusedFrame l.number m (length w.frames) ∷ []) | Some x ↦ deliver_frame net w x ] in t.world)
+    delivered : (m : ℕ) (o : Option Frame) → frame_at w m ≡ o → WorldIn (let t : Transition = elim o [ None ↦ unchanged w (line.RefusedFrame l.number m (length w.frames) ∷ []) | Some x ↦ deliver_frame net w x ] in t.world)
     delivered m None e = a
     delivered m (Some x) e = deliver_in net w x n z f (frame_at_true net w m x f e) (let s = frame_at_ready IsSpelled w m x a.frames e in body_in x.body s.whole.body) a
 
-    bytes_at : (m : ℕ) (o : Option Frame) → WorldIn (let t : Told = elim o [ None ↦ unchanged w (line.RefusedFrame l.number m (length w.frames) ∷ []) | Some x ↦ unchanged w (line.BytesOf m (frame_bytes x) ∷ []) ] in t.world)
+    bytes_at : (m : ℕ) (o : Option Frame) → WorldIn (let t : Transition = elim o [ None ↦ unchanged w (line.RefusedFrame l.number m (length w.frames) ∷ []) | Some x ↦ unchanged w (line.BytesOf m (frame_bytes x) ∷ []) ] in t.world)
     bytes_at m None = a
     bytes_at m (Some x) = a
 
-    crashed : (b : ℕ) (q : Bool) → WorldIn (let t : Told = elim q [ true ↦ unchanged w (line.RefusedHosts l.number b ∷ []) | false ↦ crash net w b ] in t.world)
+    crashed : (b : ℕ) (q : Bool) → WorldIn (let t : Transition = elim q [ true ↦ unchanged w (line.RefusedHosts l.number b ∷ []) | false ↦ crash net w b ] in t.world)
     crashed b true = a
     crashed b false = restarted_in net w b a
 
-    published : (p number : ℕ) (stop : Option Stop) (e : Event) → p < net.publishers → IsEvent e → WorldIn (let t : Told = elim stop [ None ↦ publish_now net w p number e | Some s ↦ publish_stopped net w l.number p number s e ] in t.world)
+    published : (p number : ℕ) (stop : Option Stop) (e : Event) → p < net.publishers → IsEvent e → WorldIn (let t : Transition = elim stop [ None ↦ publish_now net w p number e | Some s ↦ publish_stopped net w l.number p number s e ] in t.world)
     published p number None e x is = publish_now_in net w p number e n z f x is a
     published p number (Some s) e x is = publish_stopped_in net w l.number p number s e n z f x is a
 
-    go : (s : Step) → StepIn net s → NumberIn s → WorldIn (let t : Told = elim s [
+    go : (s : Step) → StepIn net s → NumberIn s → WorldIn (let t : Transition = elim s [
       | step.Clock now ↦ unchanged (record { clock = now; most = max now w.most; frames = w.frames; views = w.views; logs = w.logs }) []
       | step.Publish p number stop e ↦ elim stop [ None ↦ publish_now net w p number e | Some s ↦ publish_stopped net w l.number p number s e ]
       | step.Wake b ↦ wake_all net w b
@@ -244,8 +244,8 @@ pub start_in : (net : Net) → WorldIn (start net)
 unfolding start
 start_in net = record {
   clock = omega arith;
-  views = all_made (AllByRecursion ViewIn) (λ b. map (λ p. started net p b empty_log) (numbers net.publishers)) (numbers net.brokers) (λ b. all_made ViewIn (λ p. started net p b empty_log) (numbers net.publishers) (λ p. started_in net p b empty_log empty_in));
-  logs = all_made LogIn (λ p. empty_log) (numbers net.publishers) (λ p. empty_in);
+  views = all_tabulated (AllByRecursion ViewIn) (λ b. map (λ p. started net p b empty_log) (numbers net.publishers)) (numbers net.brokers) (λ b. all_tabulated ViewIn (λ p. started net p b empty_log) (numbers net.publishers) (λ p. started_in net p b empty_log empty_in));
+  logs = all_tabulated LogIn (λ p. empty_log) (numbers net.publishers) (λ p. empty_in);
   frames = tt;
 }
 

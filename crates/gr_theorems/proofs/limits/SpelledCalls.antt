@@ -25,17 +25,17 @@ use Rattle.gr_frame.specs.declared.Frame.{Frame}
 use Rattle.gr_frame.specs.Bytes.{known_run_size, wanted_run_size, cut_frames}
 use Rattle.gr_frame.specs.Limits.{IsKnown, IsWanted}
 use Rattle.gr_model.specs.Net.{Net, is_host, keeps_horizon, wanted_below, pass, numbers_from}
-use Rattle.gr_model.specs.Broker.{View, Log, Outcome, max_tick, head, know_frames, want_frames, expect_frame, up_frames, all_points, is_settled, consolidated, finished, forgotten, is_F, open_asks, trimmed_below, trimmed, horizon_after, new_ticks, event_ticks, pass_points, passed, forward, quenched, forward_frames, forward_wants, learn, due, noted, upward, acknowledged, answer, answers, curious, stored, curiosity, asking, wanted_at_wake, wake_below, covers, expect_frames, expect, any_C, with_event, with_mark, with_cut, event_at, event_points, log_at, log_know, silence, publish, done_upto, cutting, marking, wake_host, wake, started, place_of, clashes, receive}
+use Rattle.gr_model.specs.Broker.{View, Log, Outcome, max_tick, head, know_frames, want_frames, expect_frame, up_frames, all_points, is_consolidated_by, consolidated, finished, forgotten, is_F, open_asks, kept_view_below, kept_view, horizon_after, new_ticks, event_ticks, pass_points, passed, forward, still_wanted, forward_frames, forward_wants, learn, due, noted, upward, acknowledged, answer, answers, curious, stored, curiosity, asking, wanted_at_wake, wake_below, covers, expect_frames, expect, any_C, with_event, with_mark, with_cut, event_at, event_points, log_at, log_know, silence, publish, done_upto, cutting, marking, wake_host, wake, started, place_of, clashes, receive}
 use Rattle.gr_theorems.specs.Spelled.{RunsIn, IsMoment, ViewIn, LogIn}
 use Rattle.gr_theorems.proofs.calls.HostCases.{publish_cases, marking_cases, news_of}
-use Rattle.gr_theorems.proofs.limits.SpelledRuns.{all_on, all_set, all_get, all_made, AreUpto, points_upto, all_points_upto, value_fits, tabulate_in, both_upto, zip_in, first_bottom_upto, top_upto, forgotten_in, IsPart, parts_in}
+use Rattle.gr_theorems.proofs.limits.SpelledRuns.{all_on, all_set, all_get, all_tabulated, AreUpto, points_upto, all_points_upto, value_fits, tabulate_in, both_upto, zip_in, first_bottom_upto, top_upto, forgotten_in, IsPartIn, parts_in}
 
 -- Frames that a broker sends
 
 -- a body that is not empty, not too long, and within the limits
 abbrev pub BodyCut : Body → Type 0
-BodyCut (body.Knowledge rs) = IsPart known_run_size IsKnown rs
-BodyCut (body.Curiosity rs) = IsPart wanted_run_size IsWanted rs
+BodyCut (body.Knowledge rs) = IsPartIn known_run_size IsKnown rs
+BodyCut (body.Curiosity rs) = IsPartIn wanted_run_size IsWanted rs
 BodyCut (body.Expect tick) = (1 ≤ tick) × (tick ≤ max_tick)
 
 -- a frame of this broker
@@ -58,14 +58,14 @@ known_small r fits = go r.value fits
 know_cut : (from to p : ℕ) (runs : Known) → RunsIn IsKnown runs → AllCut from (know_frames from to p runs)
 know_cut from to p runs a = go (cut_frames known_run_size runs) (parts_in known_run_size IsKnown runs known_small a)
   where
-    go : (parts : List Known) → AllByRecursion (IsPart known_run_size IsKnown) parts → AllCut from (map (λ part. record { head = head from to p; body = body.Knowledge part }) parts)
+    go : (parts : List Known) → AllByRecursion (IsPartIn known_run_size IsKnown) parts → AllCut from (map (λ part. record { head = head from to p; body = body.Knowledge part }) parts)
     go [] h = tt
     go (x ∷ xs) h = (record { from = refl; body = h.0 }, go xs h.1)
 
 want_cut : (from to p : ℕ) (runs : Wanted) → RunsIn IsWanted runs → AllCut from (want_frames from to p runs)
 want_cut from to p runs a = go (cut_frames wanted_run_size runs) (parts_in wanted_run_size IsWanted runs (λ r h. omega arith) a)
   where
-    go : (parts : List Wanted) → AllByRecursion (IsPart wanted_run_size IsWanted) parts → AllCut from (map (λ part. record { head = head from to p; body = body.Curiosity part }) parts)
+    go : (parts : List Wanted) → AllByRecursion (IsPartIn wanted_run_size IsWanted) parts → AllCut from (map (λ part. record { head = head from to p; body = body.Curiosity part }) parts)
     go [] h = tt
     go (x ∷ xs) h = (record { from = refl; body = h.0 }, go xs h.1)
 
@@ -126,7 +126,7 @@ answer_known k a C h = if_known (is_A a) F k tt h
 
 consolidated_in : (keeps : Bool) (h : ℕ) (ws : List Wanted) → h ≤ max_tick → AllByRecursion (RunsIn IsWanted) ws → RunsIn IsWanted (consolidated keeps h ws)
 unfolding consolidated
-consolidated_in keeps h ws k a = tabulate_in IsWanted N same_Q3 (λ t. if is_settled keeps h ws t then A else N) (1 ∷ (suc h ∷ all_points ws)) (omega arith, (omega (arith, k), all_points_upto IsWanted ws a)) (λ t. tt)
+consolidated_in keeps h ws k a = tabulate_in IsWanted N same_Q3 (λ t. if is_consolidated_by keeps h ws t then A else N) (1 ∷ (suc h ∷ all_points ws)) (omega arith, (omega (arith, k), all_points_upto IsWanted ws a)) (λ t. tt)
 
 finished_in : (know : Known) (done : Wanted) → RunsIn IsKnown know → RunsIn IsWanted done → RunsIn IsKnown (finished know done)
 unfolding finished
@@ -140,14 +140,14 @@ open_asks_in know asks a b = zip_in IsMoment IsKnown IsMoment Never Q Never same
     if_moment true x h = tt
     if_moment false x h = h
 
-trimmed_in : (net : Net) (p b : ℕ) (v : View) → ViewIn v → ViewIn (trimmed net p b v)
-unfolding trimmed
+trimmed_in : (net : Net) (p b : ℕ) (v : View) → ViewIn v → ViewIn (kept_view net p b v)
+unfolding kept_view
 trimmed_in net p b v a = go (is_host net p b)
   where
     upto : ℕ
     upto = if keeps_horizon net p b then v.horizon else max_tick
 
-    go : (q : Bool) → ViewIn (elim q [ true ↦ v | false ↦ trimmed_below net p b v ])
+    go : (q : Bool) → ViewIn (elim q [ true ↦ v | false ↦ kept_view_below net p b v ])
     go true = a
     go false =
         let known = forgotten_in IsKnown net.cache upto v.know a.know in
@@ -169,15 +169,15 @@ row_upto : (a n : ℕ) → a + n ≤ suc (suc max_tick) → AreUpto (numbers_fro
 row_upto a zero h = tt
 row_upto a (suc n) h = (omega arith, row_upto (suc a) n (omega arith))
 
-event_upto : (k : K) (first last : ℕ) → first ≤ suc max_tick → last ≤ max_tick → AreUpto (event_ticks k first last)
-event_upto Q first last h k = tt
-event_upto S first last h k = tt
-event_upto F first last h k = tt
-event_upto (D e) first last h k = row_upto (suc first) (last - first) (omega arith)
+event_points_upto : (k : K) (first last : ℕ) → first ≤ suc max_tick → last ≤ max_tick → AreUpto (event_ticks k first last)
+event_points_upto Q first last h k = tt
+event_points_upto S first last h k = tt
+event_points_upto F first last h k = tt
+event_points_upto (D e) first last h k = row_upto (suc first) (last - first) (omega arith)
 
 pass_upto : (know : Known) → RunsIn IsKnown know → AreUpto (pass_points know)
 pass_upto [] a = tt
-pass_upto (r ∷ rs) a = (a.0.first, (omega (arith, a.0.last), all_on (λ p. p ≤ suc max_tick) (event_ticks r.value r.first r.last) (pass_points rs) (event_upto r.value r.first r.last a.0.first a.0.last) (pass_upto rs a.1)))
+pass_upto (r ∷ rs) a = (a.0.first, (omega (arith, a.0.last), all_on (λ p. p ≤ suc max_tick) (event_ticks r.value r.first r.last) (pass_points rs) (event_points_upto r.value r.first r.last a.0.first a.0.last) (pass_upto rs a.1)))
 
 passed_in : (net : Net) (p c : ℕ) (know : Known) → RunsIn IsKnown know → RunsIn IsKnown (passed net p c know)
 unfolding passed
@@ -188,8 +188,8 @@ forward_in : (net : Net) (p c : ℕ) (w : Wanted) (new : Known) → RunsIn IsWan
 unfolding forward
 forward_in net p c w new a b = zip_in IsKnown IsWanted IsKnown Q N Q same_K (λ v a. if is_A a then Q else v) (passed net p c new) w (passed_in net p c new b) a tt tt (λ v a h g. if_known (is_A a) Q v tt h)
 
-quenched_in : (w : Wanted) (sent : Known) → RunsIn IsWanted w → RunsIn IsKnown sent → RunsIn IsWanted (quenched w sent)
-unfolding quenched
+quenched_in : (w : Wanted) (sent : Known) → RunsIn IsWanted w → RunsIn IsKnown sent → RunsIn IsWanted (still_wanted w sent)
+unfolding still_wanted
 quenched_in w sent a b = zip_in IsWanted IsKnown IsWanted N Q N same_Q3 (λ a v. answered_of (not (is_Q v)) a) w sent a b tt tt (λ x y h g. tt)
 
 forward_frames_cut : (net : Net) (p b : ℕ) (new : Known) (cs : List ℕ) (ws : List Wanted) → RunsIn IsKnown new → AllByRecursion (RunsIn IsWanted) ws → AllCut b (forward_frames net p b new cs ws)
@@ -455,7 +455,7 @@ log_know_in log l = tabulate_in IsKnown Q same_K (log_at log) (1 ∷ (suc log.cu
 
 pub started_in : (net : Net) (p b : ℕ) (log : Log) → LogIn log → ViewIn (started net p b log)
 unfolding started
-started_in net p b log l = record { know = go (is_host net p b); wants = all_made (RunsIn IsWanted) (λ _. []) (net.children p b) (λ c. tt); asks = tt; horizon = omega arith }
+started_in net p b log l = record { know = go (is_host net p b); wants = all_tabulated (RunsIn IsWanted) (λ _. []) (net.children p b) (λ c. tt); asks = tt; horizon = omega arith }
   where
     go : (q : Bool) → RunsIn IsKnown (if q then log_know log else [])
     go true = log_know_in log l

@@ -33,9 +33,9 @@ all_get P [] i d a h = h
 all_get P (y ∷ ys) zero d a h = a.0
 all_get P (y ∷ ys) (suc i) d a h = all_get P ys i d a.1 h
 
-pub all_made : {X Y : Type 0} (P : Y → Type 0) (g : X → Y) (xs : List X) → ((x : X) → P (g x)) → AllByRecursion P (map g xs)
-all_made P g [] h = tt
-all_made P g (x ∷ xs) h = (h x, all_made P g xs h)
+pub all_tabulated : {X Y : Type 0} (P : Y → Type 0) (g : X → Y) (xs : List X) → ((x : X) → P (g x)) → AllByRecursion P (map g xs)
+all_tabulated P g [] h = tt
+all_tabulated P g (x ∷ xs) h = (h x, all_tabulated P g xs h)
 
 -- Points
 
@@ -159,7 +159,7 @@ total-append size [] ys = omega arith
 total-append size (x ∷ xs) ys = omega (arith, total-append size xs ys)
 
 -- some runs that fit into a frame
-pub record IsPart {V : Type 0} (size : Run V → ℕ) (Fits : V → Type 0) (part : List (Run V)) : Type 0 where
+pub record IsPartIn {V : Type 0} (size : Run V → ℕ) (Fits : V → Type 0) (part : List (Run V)) : Type 0 where
   pub some : part ≢ []
   pub short : 12 + total size part ≤ 16384
   pub runs : RunsIn Fits part
@@ -169,7 +169,7 @@ more_some [] r = λ e. cc
 more_some (x ∷ xs) r = λ e. cc
 
 from_parts : {V : Type 0} (size : Run V → ℕ) (Fits : V → Type 0) (used : ℕ) (begun rs : List (Run V)) → ((r : Run V) → Fits r.value → size r ≤ 8211) → begun ≢ [] → used ≡ 12 + total size begun → used ≤ 16384 → RunsIn Fits begun → RunsIn Fits rs
-    → AllByRecursion (IsPart size Fits) (cut_from size used begun rs)
+    → AllByRecursion (IsPartIn size Fits) (cut_from size used begun rs)
 unfolding cut_from
 from_parts size Fits used begun [] small some is fits a b = (record { some = some; short = omega (arith, is, fits); runs = a }, tt)
 from_parts {V} size Fits used begun (r ∷ rs) small some is fits a b =
@@ -177,12 +177,12 @@ from_parts {V} size Fits used begun (r ∷ rs) small some is fits a b =
     (λ k. from_parts size Fits (used + size r) (begun ++ r ∷ []) rs small (more_some begun r) (omega (arith, is, total-append size begun (r ∷ []))) k (all_on (IsRunIn Fits) begun (r ∷ []) a (b.0, tt)) b.1)
     (from_parts size Fits (12 + size r) (r ∷ []) rs small (λ e. cc) (omega arith) (omega (arith, small r b.0.value)) (b.0, tt) b.1)
   where
-    go : (q : Bool) → nat_le (used + size r) 16384 ≡ q → (used + size r ≤ 16384 → AllByRecursion (IsPart size Fits) (cut_from size (used + size r) (begun ++ r ∷ []) rs)) → AllByRecursion (IsPart size Fits) (cut_from size (12 + size r) (r ∷ []) rs)
-        → AllByRecursion (IsPart size Fits) (elim q [ true ↦ cut_from size (used + size r) (begun ++ r ∷ []) rs | false ↦ begun ∷ cut_from size (12 + size r) (r ∷ []) rs ])
+    go : (q : Bool) → nat_le (used + size r) 16384 ≡ q → (used + size r ≤ 16384 → AllByRecursion (IsPartIn size Fits) (cut_from size (used + size r) (begun ++ r ∷ []) rs)) → AllByRecursion (IsPartIn size Fits) (cut_from size (12 + size r) (r ∷ []) rs)
+        → AllByRecursion (IsPartIn size Fits) (elim q [ true ↦ cut_from size (used + size r) (begun ++ r ∷ []) rs | false ↦ begun ∷ cut_from size (12 + size r) (r ∷ []) rs ])
     go true e x y = x (leb-true (used + size r) 16384 e)
     go false e x y = (record { some = some; short = omega (arith, is, fits); runs = a }, y)
 
-pub parts_in : {V : Type 0} (size : Run V → ℕ) (Fits : V → Type 0) (rs : List (Run V)) → ((r : Run V) → Fits r.value → size r ≤ 8211) → RunsIn Fits rs → AllByRecursion (IsPart size Fits) (cut_frames size rs)
+pub parts_in : {V : Type 0} (size : Run V → ℕ) (Fits : V → Type 0) (rs : List (Run V)) → ((r : Run V) → Fits r.value → size r ≤ 8211) → RunsIn Fits rs → AllByRecursion (IsPartIn size Fits) (cut_frames size rs)
 unfolding cut_frames
 parts_in size Fits [] small a = tt
 parts_in size Fits (r ∷ rs) small a = from_parts size Fits (12 + size r) (r ∷ []) rs small (λ e. cc) (omega arith) (omega (arith, small r a.0.value)) (a.0, tt) a.1

@@ -13,8 +13,8 @@ use Rattle.gr_model.specs.declared.report.Report.{Report}
 use Rattle.gr_model.specs.declared.report.Report.TheVariants as line
 use Rattle.gr_know.specs.Values.{Known}
 use Rattle.gr_model.specs.Net.{Net, is_host, keeps_horizon, numbers, not_empty}
-use Rattle.gr_model.specs.Broker.{View, Log, Outcome, empty_log, is_kept, told, got_line, learn, publish, marking, cutting, wake, wake_host, wake_below, asking, curiosity, expect, receive, clashes, place_of, with_event, max_tick}
-use Rattle.gr_model.specs.World.{World, Told, view_of, log_of, absorbed, unchanged, after, in_turn, sent_line, sent_lines, wake_for, wake_all, deliver_frame, frame_at, publish_now, restarted, crash, publish_stopped, sweep_for, sweep, sweep_moment, next, show, opened_lines, kept_events, deliver_frame_by, next_by, publish_now_by, publish_stopped_by, sweep_by, wake_for_by}
+use Rattle.gr_model.specs.Broker.{View, Log, Outcome, empty_log, is_kept, delivery_lines, got_line, learn, publish, marking, cutting, wake, wake_host, wake_below, asking, curiosity, expect, receive, clashes, place_of, with_event, max_tick}
+use Rattle.gr_model.specs.World.{World, Transition, view_of, log_of, absorbed, unchanged, followed_by, in_turn, sent_line, sent_lines, wake_for, wake_all, deliver_frame, frame_at, publish_now, restarted, crash, publish_stopped, sweep_for, sweep, sweep_moment, next, show, opened_lines, kept_events, deliver_frame_by, next_by, publish_now_by, publish_stopped_by, sweep_by, wake_for_by}
 use Rattle.gr_frame.specs.Bytes.{frame_bytes}
 use Rattle.gr_model.specs.Headline.{is_doubt_line, doubt_place, doubts_shown}
 use Rattle.gr_model.specs.Tree.{IsNet}
@@ -53,8 +53,8 @@ got_plain : (s p : ℕ) (xs : List (ℕ × Event)) → Plain (map (got_line s p)
 got_plain s p [] = tt
 got_plain s p (x ∷ xs) = got_plain s p xs
 
-told_plain : (net : Net) (p h h' s : ℕ) (items : List (ℕ × Event)) → Plain (told net p h h' items s)
-unfolding told
+told_plain : (net : Net) (p h h' s : ℕ) (items : List (ℕ × Event)) → Plain (delivery_lines net p h h' items s)
+unfolding delivery_lines
 told_plain net p h h' s items = go (nat_eq h h')
   where
     go : (c : Bool) → Plain (if c then [] else map (got_line s p) (filter (λ x. net.wants p s x.0 x.1) items) ++ line.Horizon s p h' ∷ [])
@@ -65,9 +65,9 @@ learn_plain : (net : Net) (p b : ℕ) (piece : Known) (v : View) (log : Log) →
 unfolding learn
 learn_plain net p b piece v log = go _ _ (net.subscribers_at b)
   where
-    go : (h : ℕ) (items : List (ℕ × Event)) (xs : List ℕ) → Plain (flat_map (told net p v.horizon h items) xs)
+    go : (h : ℕ) (items : List (ℕ × Event)) (xs : List ℕ) → Plain (flat_map (delivery_lines net p v.horizon h items) xs)
     go h items [] = tt
-    go h items (x ∷ xs) = Plain-append (told net p v.horizon h items x) (flat_map (told net p v.horizon h items) xs) (told_plain net p v.horizon h x items) (go h items xs)
+    go h items (x ∷ xs) = Plain-append (delivery_lines net p v.horizon h items x) (flat_map (delivery_lines net p v.horizon h items) xs) (told_plain net p v.horizon h x items) (go h items xs)
 
 receive_plain : (net : Net) (now : ℕ) (f : Frame) (v : View) (log : Log) → Plain (receive net now f v log).lines
 unfolding receive expect curiosity asking
@@ -165,7 +165,7 @@ stopped_plain net w k p number stop e = go (not_empty (net.subscribers_at (net.h
     tick : ℕ
     tick = max (suc log.settled) w.clock
 
-    told_by : Bool → Told
+    told_by : Bool → Transition
     told_by q =
         let logs : List Log = if q then set w.logs p (with_event log tick e) else w.logs in
         record {
@@ -173,7 +173,7 @@ stopped_plain net w k p number stop e = go (not_empty (net.subscribers_at (net.h
           lines = line.Crashed (net.host p) ∷ ((if q then line.Kept p number tick else line.Lost p number tick) ∷ opened_lines net logs (net.host p));
         }
 
-    go : (x y z : Bool) → Plain (let t : Told = elim x [ true ↦ unchanged w (line.RefusedHosts k (net.host p) ∷ []) | false ↦ elim y [ false ↦ publish_now net w p number e | true ↦ told_by z ] ] in t.lines)
+    go : (x y z : Bool) → Plain (let t : Transition = elim x [ true ↦ unchanged w (line.RefusedHosts k (net.host p) ∷ []) | false ↦ elim y [ false ↦ publish_now net w p number e | true ↦ told_by z ] ] in t.lines)
     go true y z = tt
     go false false z = publish_now_plain net w p number e
     go false true true = opened_plain net (set w.logs p (with_event log tick e)) (net.host p)
@@ -189,7 +189,7 @@ sweep_plain net w k n f = go (nat_lt max_tick m)
     u : World
     u = record { clock = m; most = max m w.most; frames = w.frames; views = w.views; logs = w.logs }
 
-    go : (q : Bool) → Plain (let t : Told = elim q [ true ↦ unchanged w (line.RefusedClock k m ∷ []) | false ↦ after (in_turn (sweep_for net) (numbers net.publishers) u) (λ x. unchanged x (line.Swept m ∷ [])) ] in t.lines)
+    go : (q : Bool) → Plain (let t : Transition = elim q [ true ↦ unchanged w (line.RefusedClock k m ∷ []) | false ↦ followed_by (in_turn (sweep_for net) (numbers net.publishers) u) (λ x. unchanged x (line.Swept m ∷ [])) ] in t.lines)
     go true = tt
     go false = Plain-append (in_turn (sweep_for net) (numbers net.publishers) u).lines (line.Swept m ∷ []) (sweeps_chain net (λ w t. Plain t.lines) u (plain_chain net) n (clocked_fits net w m (max m w.most) f)).holds tt
 
@@ -244,19 +244,19 @@ lined_doubts net w k (step.Publish p number (Some s) e) n f i = plain_none (publ
 lined_doubts net w k (step.Wake b) n f i = plain_none (wake_all net w b).lines (wake_all_chain net (λ w t. Plain t.lines) w b (plain_chain net) n f i).holds
 lined_doubts net w k (step.Deliver j) n f i = go (frame_at w j)
   where
-    go : (o : Option Frame) → doubts_of (let t : Told = elim o [ None ↦ unchanged w (line.RefusedFrame k j (length w.frames) ∷ []) | Some x ↦ deliver_frame net w x ] in t.lines) ≡ []
+    go : (o : Option Frame) → doubts_of (let t : Transition = elim o [ None ↦ unchanged w (line.RefusedFrame k j (length w.frames) ∷ []) | Some x ↦ deliver_frame net w x ] in t.lines) ≡ []
     go None = refl
     go (Some x) = plain_none (deliver_frame net w x).lines (deliver_plain net w x)
 lined_doubts net w k (step.Crash b) n f i = go (not_empty (net.subscribers_at b))
   where
-    go : (q : Bool) → doubts_of (let t : Told = elim q [ true ↦ unchanged w (line.RefusedHosts k b ∷ []) | false ↦ crash net w b ] in t.lines) ≡ []
+    go : (q : Bool) → doubts_of (let t : Transition = elim q [ true ↦ unchanged w (line.RefusedHosts k b ∷ []) | false ↦ crash net w b ] in t.lines) ≡ []
     go true = refl
     go false = plain_none (crash net w b).lines (crash_plain net w b)
 lined_doubts net w k step.Sweep n f i = plain_none (sweep net w k).lines (sweep_plain net w k n f)
 lined_doubts net w k step.Show n f i = show_doubts net w
 lined_doubts net w k (step.Bytes j) n f i = go (frame_at w j)
   where
-    go : (o : Option Frame) → doubts_of (let t : Told = elim o [ None ↦ unchanged w (line.RefusedFrame k j (length w.frames) ∷ []) | Some x ↦ unchanged w (line.BytesOf j (frame_bytes x) ∷ []) ] in t.lines) ≡ []
+    go : (o : Option Frame) → doubts_of (let t : Transition = elim o [ None ↦ unchanged w (line.RefusedFrame k j (length w.frames) ∷ []) | Some x ↦ unchanged w (line.BytesOf j (frame_bytes x) ∷ []) ] in t.lines) ≡ []
     go None = refl
     go (Some x) = refl
 

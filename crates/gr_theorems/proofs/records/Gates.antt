@@ -18,10 +18,10 @@ use Rattle.gr_model.specs.declared.report.Report.{Report}
 use Rattle.gr_model.specs.declared.report.Report.TheVariants as line
 use Rattle.gr_model.specs.Net.{Net, is_host, keeps_horizon, not_empty, numbers, numbers_from}
 use Rattle.gr_model.specs.Broker.{View, Log, Outcome, empty_log, learn, publish, marking, cutting, wake, wake_host, wake_below, asking, receive, done_upto, consolidated, silence, with_event, with_mark, with_cut, is_kept, max_tick}
-use Rattle.gr_model.specs.World.{World, Told, view_of, log_of, absorbed, unchanged, after, in_turn, sent_line, sent_lines, wake_for, wake_all, deliver_frame, frame_at, publish_now, publish_stopped, crash, restarted, opened_lines, sweep, sweep_for, sweep_moment, next, start, next_by, publish_now_by, publish_stopped_by, deliver_frame_by, sweep_by, wake_for_by}
+use Rattle.gr_model.specs.World.{World, Transition, view_of, log_of, absorbed, unchanged, followed_by, in_turn, sent_line, sent_lines, wake_for, wake_all, deliver_frame, frame_at, publish_now, publish_stopped, crash, restarted, opened_lines, sweep, sweep_for, sweep_moment, next, start, next_by, publish_now_by, publish_stopped_by, deliver_frame_by, sweep_by, wake_for_by}
 use Rattle.gr_model.specs.Headline.{History, record_of, is_next, is_mark_of, first_gate, event_room, mark_room, gates_told, gates_after, says_kept, may_crash, begin}
 use Rattle.gr_model.specs.Headline as headline
-use Rattle.gr_model.specs.Opening.{found_log, begin_over}
+use Rattle.gr_model.specs.Opening.{reopened_log, begin_over}
 use Rattle.gr_model.specs.Tree.{IsNet}
 use Rattle.gr_theorems.specs.Fits.{WorldFits, FrameTrue, StepIn}
 use Rattle.gr_theorems.proofs.calls.Calls.{learn_log}
@@ -30,7 +30,7 @@ use Rattle.gr_theorems.proofs.runs.Chains.{Chains, wake_all_chain, sweeps_chain}
 use Rattle.gr_theorems.proofs.runs.Schedules.{clocked_fits, frame_at_true, get_numbers, start_log}
 use Rattle.gr_theorems.proofs.records.Records.{core, core_of, receive_log}
 use Rattle.gr_theorems.proofs.records.Recorded.{RecordsFit, record_core, opened_no_kept}
-use Rattle.gr_theorems.proofs.records.RecordLines.{Skips, receive_none, marking_none, front}
+use Rattle.gr_theorems.proofs.records.RecordLines.{Skips, receive_none, marking_none, host_lines}
 
 -- one gate for each publisher, that of its log
 pub record GatesFit (net : Net) (w : World) (gates : List ℕ) : Type 0 where
@@ -80,13 +80,13 @@ cutting_gate net p b v log = go (nat_lt log.cut a) refl
     go true x = rw x refl
     go false x = rw (le-ltb log.cut log.cut (omega arith)) refl
 
-front_here : (p now cut : ℕ) (c d : Bool) → marks p (front p now cut c d) ≡ (if c then 1 else 0) + (if d then 1 else 0)
+front_here : (p now cut : ℕ) (c d : Bool) → marks p (host_lines p now cut c d) ≡ (if c then 1 else 0) + (if d then 1 else 0)
 front_here p now cut true true = rw (eq-eqb p p refl) refl
 front_here p now cut true false = rw (eq-eqb p p refl) refl
 front_here p now cut false true = rw (eq-eqb p p refl) refl
 front_here p now cut false false = refl
 
-front_other : (q p now cut : ℕ) (c d : Bool) → nat_eq p q ≡ false → marks q (front p now cut c d) ≡ 0
+front_other : (q p now cut : ℕ) (c d : Bool) → nat_eq p q ≡ false → marks q (host_lines p now cut c d) ≡ 0
 front_other q p now cut true true h = rw h refl
 front_other q p now cut true false h = rw h refl
 front_other q p now cut false true h = rw h refl
@@ -113,8 +113,8 @@ wake_gate net p b now v log z = go (is_host net p b)
     go true =
         let c = nat_lt log.settled o.log.settled in
         let d = nat_lt o.log.cut new.cut in
-        let told : marks p (front p now new.cut c d ++ o.lines) ≡ (if c then 1 else 0) + (if d then 1 else 0) =
-        marks_append p (front p now new.cut c d) o.lines ∙ (ap₂ (λ x y. x + y) (front_here p now new.cut c d) (ap length (marking_none (is_mark_of p) net p b now v log (marks_skip p))) ∙ omega arith) in
+        let told : marks p (host_lines p now new.cut c d ++ o.lines) ≡ (if c then 1 else 0) + (if d then 1 else 0) =
+        marks_append p (host_lines p now new.cut c d) o.lines ∙ (ap₂ (λ x y. x + y) (front_here p now new.cut c d) (ap length (marking_none (is_mark_of p) net p b now v log (marks_skip p))) ∙ omega arith) in
         rooms c d log.gate o.log.gate new.gate (marking_gate net p b now v log z).1 (cutting_gate net p b o.view o.log) ∙ ap (λ n. log.gate + mark_room * n) (sym told)
     go false = omega arith
 
@@ -132,7 +132,7 @@ wake_others net q p b now v log h = go (is_host net p b)
     go true =
         let c = nat_lt log.settled o.log.settled in
         let d = nat_lt o.log.cut new.cut in
-        marks_append q (front p now new.cut c d) o.lines ∙ ap₂ (λ x y. x + y) (front_other q p now new.cut c d (ne_eqb p q (λ e. h (sym e)))) (ap length (marking_none (is_mark_of q) net p b now v log (marks_skip q)))
+        marks_append q (host_lines p now new.cut c d) o.lines ∙ ap₂ (λ x y. x + y) (front_other q p now new.cut c d (ne_eqb p q (λ e. h (sym e)))) (ap length (marking_none (is_mark_of q) net p b now v log (marks_skip q)))
     go false = refl
 
 -- a publish logs exactly where its number is next and a tick is left
@@ -162,7 +162,7 @@ unfolding absorbed
 absorbed_marks w b p q o = marks_append q o.lines (sent_lines (suc (length w.frames)) o.frames) ∙ (ap (λ n. marks q o.lines + n) (marks_unsent q (suc (length w.frames)) o.frames) ∙ omega arith)
 
 -- the gate of a log moves by the marks and cuts that are told
-abbrev GateMoves : ℕ → World → Told → Type 0
+abbrev GateMoves : ℕ → World → Transition → Type 0
 GateMoves q w t = (log_of t.world q).gate ≡ (log_of w q).gate + mark_room * marks q t.lines
 
 wake_moves : (net : Net) (w : World) (b p q : ℕ) → 1 ≤ net.quiet → WorldFits net w → p < net.publishers → GateMoves q w (wake_for net w b p)
@@ -212,7 +212,7 @@ told_each p (g ∷ gs) ls zero h = ap (λ q. g + mark_room * marks q ls) (omega 
 told_each p (g ∷ gs) ls (suc i) h = told_each (suc p) gs ls i (omega arith) ∙ ap (λ q. get_or gs i first_gate + mark_room * marks q ls) (omega arith)
 
 -- by the marks and cuts told
-gates_move : (net : Net) (w : World) (t : Told) (gs : List ℕ) → GatesFit net w gs → ((q : ℕ) → GateMoves q w t) → GatesFit net t.world (gates_told 0 gs t.lines)
+gates_move : (net : Net) (w : World) (t : Transition) (gs : List ℕ) → GatesFit net w gs → ((q : ℕ) → GateMoves q w t) → GatesFit net t.world (gates_told 0 gs t.lines)
 gates_move net w t gs k m = record {
   long = told_long 0 gs t.lines ∙ k.long;
   each = λ q j. told_each 0 gs t.lines q (omega (arith, k.long)) ∙ (ap₂ (λ g (r : ℕ). g + mark_room * marks r t.lines) (k.each q j) (let e : 0 + q ≡ q = omega arith in e) ∙ sym (m q));
@@ -258,7 +258,7 @@ restarted_log net w b q = refl
 -- A stopped publish
 
 -- what a stopped publish does to the gates, and where it says that it was kept
-record Stopped (net : Net) (w : World) (t : Told) (p number : ℕ) (stop : Stop) (e : Event) (free : Bool) : Type 0 where
+record Stopped (net : Net) (w : World) (t : Transition) (p number : ℕ) (stop : Stop) (e : Event) (free : Bool) : Type 0 where
   gates : (q : ℕ) → (log_of t.world q).gate ≡ (if nat_eq q p && (is_next w.clock (core_of w p) number && says_kept t.lines) then (log_of w q).gate + event_room e else (log_of w q).gate)
   kept : free ≡ true → is_next w.clock (core_of w p) number ≡ true → says_kept t.lines ≡ is_kept (log_of w p).gate stop.call stop.pick
 
@@ -275,7 +275,7 @@ stopped_is net w k p number stop e f j = host_at (not_empty (net.subscribers_at 
     kept : Bool
     kept = is_kept log.gate stop.call stop.pick
 
-    told : Bool → Told
+    told : Bool → Transition
     told q =
         let logs : List Log = if q then set w.logs p (with_event log tick e) else w.logs in
         record {
@@ -322,7 +322,7 @@ stopped_is net w k p number stop e f j = host_at (not_empty (net.subscribers_at 
 next_same : (net : Net) (w : World) (h : History) (p number : ℕ) → RecordsFit net w h → is_next h.clock (record_of h p) number ≡ is_next w.clock (core_of w p) number
 next_same net w h p number r = ap₂ (λ c x. is_next c x number) r.clock (record_core net w h p r)
 
-crash_logs : (net : Net) (w : World) (b k : ℕ) (c : Bool) → (let t : Told = elim c [ true ↦ unchanged w (line.RefusedHosts k b ∷ []) | false ↦ crash net w b ] in (q : ℕ) → log_of t.world q ≡ log_of w q)
+crash_logs : (net : Net) (w : World) (b k : ℕ) (c : Bool) → (let t : Transition = elim c [ true ↦ unchanged w (line.RefusedHosts k b ∷ []) | false ↦ crash net w b ] in (q : ℕ) → log_of t.world q ≡ log_of w q)
 unfolding crash
 crash_logs net w b k true = λ q. refl
 crash_logs net w b k false = λ q. restarted_log net w b q
@@ -341,11 +341,11 @@ sweep_gates net w k gs n z f g = go (nat_lt max_tick m)
     u : World
     u = record { clock = m; most = max m w.most; frames = w.frames; views = w.views; logs = w.logs }
 
-    go : (c : Bool) → (let t : Told = elim c [ true ↦ unchanged w (line.RefusedClock k m ∷ []) | false ↦ after (in_turn (sweep_for net) (numbers net.publishers) u) (λ x. unchanged x (line.Swept m ∷ [])) ] in GatesFit net t.world (gates_told 0 gs t.lines))
+    go : (c : Bool) → (let t : Transition = elim c [ true ↦ unchanged w (line.RefusedClock k m ∷ []) | false ↦ followed_by (in_turn (sweep_for net) (numbers net.publishers) u) (λ x. unchanged x (line.Swept m ∷ [])) ] in GatesFit net t.world (gates_told 0 gs t.lines))
     go true = gates_move net w (unchanged w (line.RefusedClock k m ∷ [])) gs g (λ q. omega arith)
     go false =
-        let s : Told = in_turn (sweep_for net) (numbers net.publishers) u in
-        gates_move net w (after s (λ x. unchanged x (line.Swept m ∷ []))) gs g
+        let s : Transition = in_turn (sweep_for net) (numbers net.publishers) u in
+        gates_move net w (followed_by s (λ x. unchanged x (line.Swept m ∷ []))) gs g
         (λ q.
         let a : GateMoves q u s = (sweeps_chain net (GateMoves q) u (moves_chain net q z) n (clocked_fits net w m (max m w.most) f)).holds in
         let b = marks_append q s.lines (line.Swept m ∷ []) in
@@ -371,7 +371,7 @@ gates_by net w h k (step.Deliver j) n z f r i g = go (frame_at w j) (λ x e. fra
     frame_true : (x : Frame) → frame_at w j ≡ Some x → FrameTrue net w x
     frame_true x e = frame_at_true net w j x f e
 
-    go : (o : Option Frame) → ((x : Frame) → o ≡ Some x → FrameTrue net w x) → (let t : Told = elim o [ None ↦ unchanged w (line.RefusedFrame k j (length w.frames) ∷ []) | Some x ↦ deliver_frame net w x ] in GatesFit net t.world h.gates)
+    go : (o : Option Frame) → ((x : Frame) → o ≡ Some x → FrameTrue net w x) → (let t : Transition = elim o [ None ↦ unchanged w (line.RefusedFrame k j (length w.frames) ∷ []) | Some x ↦ deliver_frame net w x ] in GatesFit net t.world h.gates)
     go None t = g
     go (Some x) t = same_gates net w (deliver_frame net w x).world h.gates g (λ q. (deliver_moves net w x q f (t x refl)).0)
 gates_by net w h k (step.Crash b) n z f r i g =
@@ -380,13 +380,13 @@ gates_by net w h k step.Sweep n z f r i g = sweep_gates net w k h.gates n z f g
 gates_by net w h k step.Show n z f r i g = g
 gates_by net w h k (step.Bytes j) n z f r i g = go (frame_at w j)
   where
-    go : (o : Option Frame) → (let t : Told = elim o [ None ↦ unchanged w (line.RefusedFrame k j (length w.frames) ∷ []) | Some x ↦ unchanged w (line.BytesOf j (frame_bytes x) ∷ []) ] in GatesFit net t.world h.gates)
+    go : (o : Option Frame) → (let t : Transition = elim o [ None ↦ unchanged w (line.RefusedFrame k j (length w.frames) ∷ []) | Some x ↦ unchanged w (line.BytesOf j (frame_bytes x) ∷ []) ] in GatesFit net t.world h.gates)
     go None = g
     go (Some x) = g
 
 -- each step keeps the gates of the history those of the logs
-pub next_gates : (net : Net) (w : World) (h : History) (l : Line) → IsNet net → 1 ≤ net.quiet → WorldFits net w → RecordsFit net w h → StepIn net l.step → GatesFit net w h.gates → GatesFit net (next net w l).world (headline.after net h l (next net w l).lines).gates
-unfolding headline.after
+pub next_gates : (net : Net) (w : World) (h : History) (l : Line) → IsNet net → 1 ≤ net.quiet → WorldFits net w → RecordsFit net w h → StepIn net l.step → GatesFit net w h.gates → GatesFit net (next net w l).world (headline.history_after net h l (next net w l).lines).gates
+unfolding headline.history_after
 next_gates net w h l n z f r i g = gates_by net w h l.number l.step n z f r i g
 
 -- a stopped publish that would be logged is kept exactly where its stop leaves the gate open
@@ -409,14 +409,14 @@ start_gates net = record {
 }
 
 -- over old logs the gates begin where those of the logs stand
-pub over_gates : (net : Net) (w : World) (logs : List Log) (told : List Report) → ((q : ℕ) → q < net.publishers → log_of w q ≡ found_log logs q) → GatesFit net w (begin_over net logs told).gates
+pub over_gates : (net : Net) (w : World) (logs : List Log) (told : List Report) → ((q : ℕ) → q < net.publishers → log_of w q ≡ reopened_log logs q) → GatesFit net w (begin_over net logs told).gates
 unfolding begin_over
 over_gates net w logs told e = record {
   long = long_map (numbers net.publishers) ∙ long_numbers 0 net.publishers;
-  each = λ q j. get_numbers (λ p. (let log = found_log logs p in log.gate)) 0 net.publishers q first_gate j ∙ (ap (λ p. (let log = found_log logs p in log.gate)) (let z : 0 + q ≡ q = omega arith in z) ∙ ap (λ (l : Log). l.gate) (sym (e q j)));
+  each = λ q j. get_numbers (λ p. (let log = reopened_log logs p in log.gate)) 0 net.publishers q first_gate j ∙ (ap (λ p. (let log = reopened_log logs p in log.gate)) (let z : 0 + q ≡ q = omega arith in z) ∙ ap (λ (l : Log). l.gate) (sym (e q j)));
 }
   where
-    long_map : (ps : List ℕ) → length (map (λ p. (let log = found_log logs p in log.gate)) ps) ≡ length ps
+    long_map : (ps : List ℕ) → length (map (λ p. (let log = reopened_log logs p in log.gate)) ps) ≡ length ps
     long_map [] = refl
     long_map (p ∷ ps) = ap suc (long_map ps)
 

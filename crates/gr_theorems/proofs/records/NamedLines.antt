@@ -13,8 +13,8 @@ use Rattle.gr_model.specs.declared.report.Report.{Report}
 use Rattle.gr_model.specs.declared.report.Report.TheVariants as line
 use Rattle.gr_know.specs.Values.{Known}
 use Rattle.gr_model.specs.Net.{Net, is_host, keeps_horizon, numbers, not_empty}
-use Rattle.gr_model.specs.Broker.{View, Log, Outcome, empty_log, is_kept, told, got_line, learn, publish, marking, cutting, wake, wake_host, wake_below, asking, curiosity, expect, receive, clashes, place_of, with_event, max_tick}
-use Rattle.gr_model.specs.World.{World, Told, view_of, log_of, absorbed, unchanged, after, in_turn, sent_line, sent_lines, wake_for, wake_all, deliver_frame, frame_at, publish_now, restarted, crash, publish_stopped, sweep_for, sweep, sweep_moment, next, show, opened_lines, kept_events, deliver_frame_by, next_by, publish_now_by, publish_stopped_by, sweep_by, wake_for_by}
+use Rattle.gr_model.specs.Broker.{View, Log, Outcome, empty_log, is_kept, delivery_lines, got_line, learn, publish, marking, cutting, wake, wake_host, wake_below, asking, curiosity, expect, receive, clashes, place_of, with_event, max_tick}
+use Rattle.gr_model.specs.World.{World, Transition, view_of, log_of, absorbed, unchanged, followed_by, in_turn, sent_line, sent_lines, wake_for, wake_all, deliver_frame, frame_at, publish_now, restarted, crash, publish_stopped, sweep_for, sweep, sweep_moment, next, show, opened_lines, kept_events, deliver_frame_by, next_by, publish_now_by, publish_stopped_by, sweep_by, wake_for_by}
 use Rattle.gr_frame.specs.Bytes.{frame_bytes}
 use Rattle.gr_model.specs.Tree.{IsNet, IsSubscriber}
 use Rattle.gr_theorems.specs.Fits.{WorldFits, StepIn}
@@ -65,8 +65,8 @@ got_named : (net : Net) (s p : ℕ) (xs : List (ℕ × Event)) → Named net Nev
 got_named net s p [] = tt
 got_named net s p (x ∷ xs) = got_named net s p xs
 
-told_named : (net : Net) (p h h' s : ℕ) (items : List (ℕ × Event)) → IsSubscriber net s → p < net.publishers → Named net Never (told net p h h' items s)
-unfolding told
+told_named : (net : Net) (p h h' s : ℕ) (items : List (ℕ × Event)) → IsSubscriber net s → p < net.publishers → Named net Never (delivery_lines net p h h' items s)
+unfolding delivery_lines
 told_named net p h h' s items y j = go (nat_eq h h')
   where
     go : (c : Bool) → Named net Never (if c then [] else map (got_line s p) (filter (λ x. net.wants p s x.0 x.1) items) ++ line.Horizon s p h' ∷ [])
@@ -80,9 +80,9 @@ learn_named net p b piece v log n i j = go _ _ (net.subscribers_at b) (λ s m. h
     here : (s : ℕ) → list_any (λ x. nat_eq x s) (net.subscribers_at b) ≡ true → IsSubscriber net s
     here s m = let e : net.at s ≡ b = n.here_at b s i m in record { at_in = subst (λ z. z < net.brokers) (sym e) i; here = subst (λ z. list_any (λ x. nat_eq x s) (net.subscribers_at z) ≡ true) (sym e) m }
 
-    go : (h : ℕ) (items : List (ℕ × Event)) (xs : List ℕ) → ((s : ℕ) → list_any (λ x. nat_eq x s) xs ≡ true → IsSubscriber net s) → Named net Never (flat_map (told net p v.horizon h items) xs)
+    go : (h : ℕ) (items : List (ℕ × Event)) (xs : List ℕ) → ((s : ℕ) → list_any (λ x. nat_eq x s) xs ≡ true → IsSubscriber net s) → Named net Never (flat_map (delivery_lines net p v.horizon h items) xs)
     go h items [] k = tt
-    go h items (x ∷ xs) k = Named-append net Never (told net p v.horizon h items x) (flat_map (told net p v.horizon h items) xs) (told_named net p v.horizon h x items (k x (or_left (nat_eq x x) (list_any (λ y. nat_eq y x) xs) (eq-eqb x x refl))) j) (go h items xs (λ s m. k s (or_right (nat_eq x s) (list_any (λ y. nat_eq y s) xs) m)))
+    go h items (x ∷ xs) k = Named-append net Never (delivery_lines net p v.horizon h items x) (flat_map (delivery_lines net p v.horizon h items) xs) (told_named net p v.horizon h x items (k x (or_left (nat_eq x x) (list_any (λ y. nat_eq y x) xs) (eq-eqb x x refl))) j) (go h items xs (λ s m. k s (or_right (nat_eq x s) (list_any (λ y. nat_eq y s) xs) m)))
 
 receive_named : (net : Net) (now : ℕ) (f : Frame) (v : View) (log : Log) → IsNet net → f.head.to < net.brokers → f.head.publisher < net.publishers → Named net Never (receive net now f v log).lines
 unfolding receive expect curiosity asking
@@ -180,7 +180,7 @@ stopped_named net w k p number stop e n j = go (not_empty (net.subscribers_at (n
     tick : ℕ
     tick = max (suc log.settled) w.clock
 
-    told_by : Bool → Told
+    told_by : Bool → Transition
     told_by q =
         let logs : List Log = if q then set w.logs p (with_event log tick e) else w.logs in
         record {
@@ -188,7 +188,7 @@ stopped_named net w k p number stop e n j = go (not_empty (net.subscribers_at (n
           lines = line.Crashed (net.host p) ∷ ((if q then line.Kept p number tick else line.Lost p number tick) ∷ opened_lines net logs (net.host p));
         }
 
-    go : (x y z : Bool) → Named net Never (let t : Told = elim x [ true ↦ unchanged w (line.RefusedHosts k (net.host p) ∷ []) | false ↦ elim y [ false ↦ publish_now net w p number e | true ↦ told_by z ] ] in t.lines)
+    go : (x y z : Bool) → Named net Never (let t : Transition = elim x [ true ↦ unchanged w (line.RefusedHosts k (net.host p) ∷ []) | false ↦ elim y [ false ↦ publish_now net w p number e | true ↦ told_by z ] ] in t.lines)
     go true y z = tt
     go false false z = publish_now_named net w p number e n j
     go false true true = opened_named net (set w.logs p (with_event log tick e)) (net.host p)
@@ -204,7 +204,7 @@ sweep_named net w k n f = go (nat_lt max_tick m)
     u : World
     u = record { clock = m; most = max m w.most; frames = w.frames; views = w.views; logs = w.logs }
 
-    go : (q : Bool) → Named net Never (let t : Told = elim q [ true ↦ unchanged w (line.RefusedClock k m ∷ []) | false ↦ after (in_turn (sweep_for net) (numbers net.publishers) u) (λ x. unchanged x (line.Swept m ∷ [])) ] in t.lines)
+    go : (q : Bool) → Named net Never (let t : Transition = elim q [ true ↦ unchanged w (line.RefusedClock k m ∷ []) | false ↦ followed_by (in_turn (sweep_for net) (numbers net.publishers) u) (λ x. unchanged x (line.Swept m ∷ [])) ] in t.lines)
     go true = tt
     go false = Named-append net Never (in_turn (sweep_for net) (numbers net.publishers) u).lines (line.Swept m ∷ []) (sweeps_chain net (λ w t. Named net Never t.lines) u (named_chain net n) n (clocked_fits net w m (max m w.most) f)).holds tt
 
@@ -259,19 +259,19 @@ named_by net w k (step.Publish p number (Some s) e) n f i = never net w (publish
 named_by net w k (step.Wake b) n f i = never net w (wake_all net w b).lines (wake_all_chain net (λ w t. Named net Never t.lines) w b (named_chain net n) n f i).holds
 named_by net w k (step.Deliver j) n f i = go (frame_at w j) refl
   where
-    go : (o : Option Frame) → frame_at w j ≡ o → Named net (IsShown net w) (let t : Told = elim o [ None ↦ unchanged w (line.RefusedFrame k j (length w.frames) ∷ []) | Some x ↦ deliver_frame net w x ] in t.lines)
+    go : (o : Option Frame) → frame_at w j ≡ o → Named net (IsShown net w) (let t : Transition = elim o [ None ↦ unchanged w (line.RefusedFrame k j (length w.frames) ∷ []) | Some x ↦ deliver_frame net w x ] in t.lines)
     go None e = tt
     go (Some x) e = let t = frame_at_true net w j x f e in never net w (deliver_frame net w x).lines (deliver_named net w x n t.fits.to_in t.publisher_in)
 named_by net w k (step.Crash b) n f i = go (not_empty (net.subscribers_at b))
   where
-    go : (q : Bool) → Named net (IsShown net w) (let t : Told = elim q [ true ↦ unchanged w (line.RefusedHosts k b ∷ []) | false ↦ crash net w b ] in t.lines)
+    go : (q : Bool) → Named net (IsShown net w) (let t : Transition = elim q [ true ↦ unchanged w (line.RefusedHosts k b ∷ []) | false ↦ crash net w b ] in t.lines)
     go true = tt
     go false = never net w (crash net w b).lines (crash_named net w b)
 named_by net w k step.Sweep n f i = never net w (sweep net w k).lines (sweep_named net w k n f)
 named_by net w k step.Show n f i = show_named net w
 named_by net w k (step.Bytes j) n f i = go (frame_at w j)
   where
-    go : (o : Option Frame) → Named net (IsShown net w) (let t : Told = elim o [ None ↦ unchanged w (line.RefusedFrame k j (length w.frames) ∷ []) | Some x ↦ unchanged w (line.BytesOf j (frame_bytes x) ∷ []) ] in t.lines)
+    go : (o : Option Frame) → Named net (IsShown net w) (let t : Transition = elim o [ None ↦ unchanged w (line.RefusedFrame k j (length w.frames) ∷ []) | Some x ↦ unchanged w (line.BytesOf j (frame_bytes x) ∷ []) ] in t.lines)
     go None = tt
     go (Some x) = tt
 

@@ -11,8 +11,8 @@ use Rattle.gr_know.specs.Values.{Known}
 use Rattle.gr_model.specs.declared.report.Report.{Report}
 use Rattle.gr_model.specs.declared.report.Report.TheVariants as line
 use Rattle.gr_model.specs.Net.{Net, is_host, numbers_from}
-use Rattle.gr_model.specs.Broker.{View, Log, Outcome, told, got_line, learn, publish, marking, cutting, wake, wake_host, wake_below, asking, curiosity, expect, receive, clashes, place_of, max_tick}
-use Rattle.gr_model.specs.World.{World, Told, view_of, log_of, absorbed, unchanged, after, in_turn, sent_line, sent_lines, wake_for, deliver_frame, publish_now, sweep_for, deliver_frame_by, publish_now_by, wake_for_by}
+use Rattle.gr_model.specs.Broker.{View, Log, Outcome, delivery_lines, got_line, learn, publish, marking, cutting, wake, wake_host, wake_below, asking, curiosity, expect, receive, clashes, place_of, max_tick}
+use Rattle.gr_model.specs.World.{World, Transition, view_of, log_of, absorbed, unchanged, followed_by, in_turn, sent_line, sent_lines, wake_for, deliver_frame, publish_now, sweep_for, deliver_frame_by, publish_now_by, wake_for_by}
 use Rattle.gr_model.specs.Headline.{Recorded, is_record_line, is_sent, publish_line, marked, settling}
 use Rattle.gr_model.specs.Tree.{IsNet}
 use Rattle.gr_theorems.specs.Fits.{WorldFits, FrameTrue}
@@ -42,8 +42,8 @@ got_none : (f : Report → Bool) (s p : ℕ) (xs : List (ℕ × Event)) → Skip
 got_none f s p [] k = refl
 got_none f s p (x ∷ xs) k = rw (k.got s p x.0 x.1) (got_none f s p xs k)
 
-told_none : (f : Report → Bool) (net : Net) (p h h' s : ℕ) (items : List (ℕ × Event)) → Skips f → filter f (told net p h h' items s) ≡ []
-unfolding told
+told_none : (f : Report → Bool) (net : Net) (p h h' s : ℕ) (items : List (ℕ × Event)) → Skips f → filter f (delivery_lines net p h h' items s) ≡ []
+unfolding delivery_lines
 told_none f net p h h' s items k = go (nat_eq h h')
   where
     wanted : List (ℕ × Event)
@@ -57,9 +57,9 @@ learn_none : (f : Report → Bool) (net : Net) (p b : ℕ) (piece : Known) (v : 
 unfolding learn
 learn_none f net p b piece v log k = go _ _ (net.subscribers_at b)
   where
-    go : (h : ℕ) (items : List (ℕ × Event)) (xs : List ℕ) → filter f (flat_map (told net p v.horizon h items) xs) ≡ []
+    go : (h : ℕ) (items : List (ℕ × Event)) (xs : List ℕ) → filter f (flat_map (delivery_lines net p v.horizon h items) xs) ≡ []
     go h items [] = refl
-    go h items (x ∷ xs) = filter-append f (told net p v.horizon h items x) (flat_map (told net p v.horizon h items) xs) ∙ ap₂ (λ a c. a ++ c) (told_none f net p v.horizon h x items k) (go h items xs)
+    go h items (x ∷ xs) = filter-append f (delivery_lines net p v.horizon h items x) (flat_map (delivery_lines net p v.horizon h items) xs) ∙ ap₂ (λ a c. a ++ c) (told_none f net p v.horizon h x items k) (go h items xs)
 
 pub receive_none : (f : Report → Bool) (net : Net) (now : ℕ) (x : Frame) (v : View) (log : Log) → Skips f → filter f (receive net now x v log).lines ≡ []
 unfolding receive expect curiosity asking
@@ -116,8 +116,8 @@ pub marking_none : (f : Report → Bool) (net : Net) (p b now : ℕ) (v : View) 
 marking_none f net p b now v log k = marking_cases net p b now v log (λ o. filter f o.lines ≡ []) (λ e. learn_none f net p b _ v _ k) (λ e. refl)
 
 -- the lines of a woken host before those that subscribers are told
-abbrev pub front : ℕ → ℕ → ℕ → Bool → Bool → List Report
-front p now cut c d = (if c then line.Mark p now ∷ [] else []) ++ (if d then line.Cut p cut ∷ [] else [])
+abbrev pub host_lines : ℕ → ℕ → ℕ → Bool → Bool → List Report
+host_lines p now cut c d = (if c then line.Mark p now ∷ [] else []) ++ (if d then line.Cut p cut ∷ [] else [])
 
 -- a wake marks where the log was silent for long
 abbrev pub mark_line : Net → ℕ → ℕ → ℕ → Recorded → List Report
@@ -133,7 +133,7 @@ wake_recs net p b now v log z = go (is_host net p b)
     new : Log
     new = cutting net p b o.view o.log
 
-    two : (c d : Bool) → recs (front p now new.cut c d) ≡ (if c then line.Mark p now ∷ [] else [])
+    two : (c d : Bool) → recs (host_lines p now new.cut c d) ≡ (if c then line.Mark p now ∷ [] else [])
     two true true = refl
     two true false = refl
     two false true = refl
@@ -150,7 +150,7 @@ wake_recs net p b now v log z = go (is_host net p b)
     go true =
         let c = nat_lt log.settled o.log.settled in
         let d = nat_lt o.log.cut new.cut in
-        filter-append is_record_line (front p now new.cut c d) o.lines
+        filter-append is_record_line (host_lines p now new.cut c d) o.lines
         ∙ (ap₂ (λ x y. x ++ y) (two c d) (marking_none is_record_line net p b now v log records_skip)
         ∙ (append-nil (if c then line.Mark p now ∷ [] else []) ∙ ap (λ q. if q then line.Mark p now ∷ [] else []) is_marked))
     go false = refl
@@ -165,7 +165,7 @@ wake_unsent net p b now v log = go (is_host net p b)
     new : Log
     new = cutting net p b o.view o.log
 
-    two : (c d : Bool) → filter is_sent (front p now new.cut c d) ≡ []
+    two : (c d : Bool) → filter is_sent (host_lines p now new.cut c d) ≡ []
     two true true = refl
     two true false = refl
     two false true = refl
@@ -175,7 +175,7 @@ wake_unsent net p b now v log = go (is_host net p b)
     go true =
         let c = nat_lt log.settled o.log.settled in
         let d = nat_lt o.log.cut new.cut in
-        filter-append is_sent (front p now new.cut c d) o.lines ∙ ap₂ (λ x y. x ++ y) (two c d) (marking_none is_sent net p b now v log sents_skip)
+        filter-append is_sent (host_lines p now new.cut c d) o.lines ∙ ap₂ (λ x y. x ++ y) (two c d) (marking_none is_sent net p b now v log sents_skip)
     go false = refl
 
 -- A call taken up
@@ -210,15 +210,15 @@ unfolding absorbed
 absorbed_recs w b p o = filter-append is_record_line o.lines (sent_lines (suc (length w.frames)) o.frames) ∙ (ap (λ z. recs o.lines ++ z) (sent_recs (suc (length w.frames)) o.frames) ∙ append-nil (recs o.lines))
 
 -- the sent lines are those of the frames that were sent
-pub record Sends (w : World) (t : Told) : Type 0 where
+pub record Sends (w : World) (t : Transition) : Type 0 where
   pub more : List Frame
   pub frames : t.world.frames ≡ w.frames ++ more
   pub told : filter is_sent t.lines ≡ sent_lines (suc (length w.frames)) more
 
-pub sends_none : (w : World) (t : Told) → t.world.frames ≡ w.frames → filter is_sent t.lines ≡ [] → Sends w t
+pub sends_none : (w : World) (t : Transition) → t.world.frames ≡ w.frames → filter is_sent t.lines ≡ [] → Sends w t
 sends_none w t e h = record { more = []; frames = e ∙ sym (append-nil w.frames); told = h }
 
-pub sends_seq : (w : World) (t : Told) (f : World → Told) → Sends w t → Sends t.world (f t.world) → Sends w (after t f)
+pub sends_seq : (w : World) (t : Transition) (f : World → Transition) → Sends w t → Sends t.world (f t.world) → Sends w (followed_by t f)
 sends_seq w t f a b = record {
   more = a.more ++ b.more;
   frames = b.frames ∙ (ap (λ (z : List Frame). z ++ b.more) a.frames ∙ append_assoc w.frames a.more b.more);
@@ -316,7 +316,7 @@ marks_one : (s e p clock : ℕ) → s < e → marks s e p clock ≡ line.Mark p 
 marks_one s e p clock h = rw (lt-ltb s e h) refl
 
 -- within a sweep a log is settled at most once, at the clock; and where no other log is, the recorded lines are the one mark of publisher p
-record Swept (net : Net) (p : ℕ) (w : World) (t : Told) : Type 0 where
+record Swept (net : Net) (p : ℕ) (w : World) (t : Transition) : Type 0 where
   clock : t.world.clock ≡ w.clock
   moves : (q : ℕ) → q < net.publishers → (settled_of t.world q ≡ settled_of w q) ⊎ ((settled_of t.world q ≡ w.clock) × (settled_of w q < w.clock))
   lines : ((q : ℕ) → q < net.publishers → q ≢ p → settled_of t.world q ≡ settled_of w q) → recs t.lines ≡ marks (settled_of w p) (settled_of t.world p) p w.clock
@@ -324,7 +324,7 @@ record Swept (net : Net) (p : ℕ) (w : World) (t : Told) : Type 0 where
 swept_nil : (net : Net) (p : ℕ) (w : World) → Swept net p w (unchanged w [])
 swept_nil net p w = record { clock = refl; moves = λ q j. inl refl; lines = λ h. sym (marks_none (settled_of w p) (settled_of w p) p w.clock (omega arith)) }
 
-swept_seq : (net : Net) (p : ℕ) (w : World) (t : Told) (f : World → Told) → p < net.publishers → Swept net p w t → Swept net p t.world (f t.world) → Swept net p w (after t f)
+swept_seq : (net : Net) (p : ℕ) (w : World) (t : Transition) (f : World → Transition) → p < net.publishers → Swept net p w t → Swept net p t.world (f t.world) → Swept net p w (followed_by t f)
 swept_seq net p w t f j a b = record {
   clock = b.clock ∙ a.clock;
   moves = λ q i. ⊎_elim

@@ -15,8 +15,8 @@ use Rattle.gr_model.specs.declared.report.Report.{Report}
 use Rattle.gr_model.specs.declared.report.Report.TheVariants as line
 use Rattle.gr_model.specs.Net.{Net, keeps_horizon, numbers, numbers_from, not_empty}
 use Rattle.gr_model.specs.Broker.{Log, empty_log, with_event, is_kept, max_tick}
-use Rattle.gr_model.specs.World.{World, Told, view_of, log_of, unchanged, after, in_turn, wake_all, deliver_frame, frame_at, publish_now, publish_stopped, crash, restarted, opened_lines, sweep, sweep_for, sweep_moment, next, show, kept_events, next_by, publish_stopped_by, sweep_by, wake_all_by}
-use Rattle.gr_model.specs.Headline.{Recorded, History, nothing_recorded, found_in, record_of, is_record_line, is_sent, sent_count, record_lines, records_after, publish_line, opened_of, last_cut, count_past, is_next, tick_of, says_kept, may_crash, is_swept, sweep_at}
+use Rattle.gr_model.specs.World.{World, Transition, view_of, log_of, unchanged, followed_by, in_turn, wake_all, deliver_frame, frame_at, publish_now, publish_stopped, crash, restarted, opened_lines, sweep, sweep_for, sweep_moment, next, show, kept_events, next_by, publish_stopped_by, sweep_by, wake_all_by}
+use Rattle.gr_model.specs.Headline.{Recorded, History, nothing_recorded, reopened_cut, record_of, is_record_line, is_sent, sent_count, record_lines, records_after, publish_line, opened_of, last_cut, count_past, is_next, tick_of, says_kept, may_crash, is_swept, sweep_at}
 use Rattle.gr_model.specs.Headline as headline
 use Rattle.gr_model.specs.Tree.{IsNet}
 use Rattle.gr_theorems.specs.Fits.{WorldFits, StepIn}
@@ -104,7 +104,7 @@ stopped_recs net found w k p number stop e ls f j c = go (not_empty (net.subscri
     tick : ℕ
     tick = max (suc log.settled) w.clock
 
-    told_by : Bool → Told
+    told_by : Bool → Transition
     told_by q =
         let logs : List Log = if q then set w.logs p (with_event log tick e) else w.logs in
         record {
@@ -118,7 +118,7 @@ stopped_recs net found w k p number stop e ls f j c = go (not_empty (net.subscri
       | inr x ↦ sym (ap (λ l. l.cut) (get_or-set_other w.logs p q (with_event log tick e) empty_log x))
     ]
 
-    go : (x y z : Bool) → (let t : Told = elim x [ true ↦ unchanged w (line.RefusedHosts k (net.host p) ∷ []) | false ↦ elim y [ false ↦ publish_now net w p number e | true ↦ told_by z ] ] in
+    go : (x y z : Bool) → (let t : Transition = elim x [ true ↦ unchanged w (line.RefusedHosts k (net.host p) ∷ []) | false ↦ elim y [ false ↦ publish_now net w p number e | true ↦ told_by z ] ] in
         recs t.lines ≡ stop_lines net found p number w.clock (core_of w p) ls (not x) y (says_kept t.lines) (map core t.world.logs))
     go true y z = refl
     go false false z = publish_now_recs net w p number e
@@ -137,7 +137,7 @@ stopped_sends net w k p number stop e = go (not_empty (net.subscribers_at (net.h
     tick : ℕ
     tick = max (suc log.settled) w.clock
 
-    told_by : Bool → Told
+    told_by : Bool → Transition
     told_by q =
         let logs : List Log = if q then set w.logs p (with_event log tick e) else w.logs in
         record {
@@ -145,7 +145,7 @@ stopped_sends net w k p number stop e = go (not_empty (net.subscribers_at (net.h
           lines = line.Crashed (net.host p) ∷ ((if q then line.Kept p number tick else line.Lost p number tick) ∷ opened_lines net logs (net.host p));
         }
 
-    go : (x y z : Bool) → (let t : Told = elim x [ true ↦ unchanged w (line.RefusedHosts k (net.host p) ∷ []) | false ↦ elim y [ false ↦ publish_now net w p number e | true ↦ told_by z ] ] in Sends w t)
+    go : (x y z : Bool) → (let t : Transition = elim x [ true ↦ unchanged w (line.RefusedHosts k (net.host p) ∷ []) | false ↦ elim y [ false ↦ publish_now net w p number e | true ↦ told_by z ] ] in Sends w t)
     go true y z = sends_none w (unchanged w (line.RefusedHosts k (net.host p) ∷ [])) refl refl
     go false false z = publish_now_sends net w p number e
     go false true true = sends_none w (told_by true) refl (opened_unsent net (set w.logs p (with_event log tick e)) (net.host p))
@@ -153,8 +153,8 @@ stopped_sends net w k p number stop e = go (not_empty (net.subscribers_at (net.h
 
 -- A show
 
-show_recs : (net : Net) (w : World) (h : History) → RecordsFit net w h → sent_count h.lines ≡ length w.frames → CutsTold net h.found w.logs h.lines →
-    recs (show net w) ≡ line.Frames (sent_count h.lines) ∷ map (λ p. let r = record_of h p in let c = last_cut p (found_in h p) h.lines in line.LogOf p r.last r.settled c (count_past c r.events)) (numbers net.publishers)
+show_recs : (net : Net) (w : World) (h : History) → RecordsFit net w h → sent_count h.lines ≡ length w.frames → CutsTold net h.reopened_cuts w.logs h.lines →
+    recs (show net w) ≡ line.Frames (sent_count h.lines) ∷ map (λ p. let r = record_of h p in let c = last_cut p (reopened_cut h p) h.lines in line.LogOf p r.last r.settled c (count_past c r.events)) (numbers net.publishers)
 unfolding show
 show_recs net w h r s c = ap₂ (λ n (ls : List Report). line.Frames n ∷ ls) (sym s) (logs 0 net.publishers (omega arith))
   where
@@ -182,7 +182,7 @@ show_recs net w h r s c = ap₂ (λ n (ls : List Report). line.Frames n ∷ ls) 
     doubts [] = refl
     doubts (b ∷ bs) = filter-append is_record_line (there b) (flat_map there bs) ∙ ap₂ (λ (x y : List Report). x ++ y) (row b (numbers net.publishers)) (doubts bs)
 
-    logs : (a n : ℕ) → a + n ≤ net.publishers → recs (map log_line (numbers_from a n) ++ flat_map there (numbers net.brokers)) ≡ map (λ p. line_of p (record_of h p) (last_cut p (found_in h p) h.lines)) (numbers_from a n)
+    logs : (a n : ℕ) → a + n ≤ net.publishers → recs (map log_line (numbers_from a n) ++ flat_map there (numbers net.brokers)) ≡ map (λ p. line_of p (record_of h p) (last_cut p (reopened_cut h p) h.lines)) (numbers_from a n)
     logs a zero k = doubts (numbers net.brokers)
     logs a (suc n) k = ap₂ (λ x (ls : List Report). x ∷ ls) (ap₂ (line_of a) (sym (record_core net w h a r)) (sym (c a (omega arith)))) (logs (suc a) n (omega arith))
 
@@ -231,7 +231,7 @@ sweep_recs net w h k n z f r = go (nat_lt max_tick m) refl
     same : sweep_at net h ≡ m
     same = sweep_same net w h r
 
-    go : (q : Bool) → nat_lt max_tick m ≡ q → recs (let t : Told = elim q [ true ↦ unchanged w (line.RefusedClock k m ∷ []) | false ↦ after (in_turn (sweep_for net) (numbers net.publishers) u) (λ x. unchanged x (line.Swept m ∷ [])) ] in t.lines)
+    go : (q : Bool) → nat_lt max_tick m ≡ q → recs (let t : Transition = elim q [ true ↦ unchanged w (line.RefusedClock k m ∷ []) | false ↦ followed_by (in_turn (sweep_for net) (numbers net.publishers) u) (λ x. unchanged x (line.Swept m ∷ [])) ] in t.lines)
         ≡ (if is_swept net h then map (λ p. line.Mark p (sweep_at net h)) (numbers net.publishers) ++ line.Swept (sweep_at net h) ∷ [] else [])
     go true x =
         let no : is_swept net h ≡ false = ap (λ c. nat_le c max_tick) same ∙ lt-leb m max_tick (ltb-true max_tick m x) in
@@ -252,17 +252,17 @@ sweep_sends net w k n f = go (nat_lt max_tick m)
     u : World
     u = record { clock = m; most = max m w.most; frames = w.frames; views = w.views; logs = w.logs }
 
-    go : (q : Bool) → Sends w (elim q [ true ↦ unchanged w (line.RefusedClock k m ∷ []) | false ↦ after (in_turn (sweep_for net) (numbers net.publishers) u) (λ x. unchanged x (line.Swept m ∷ [])) ])
+    go : (q : Bool) → Sends w (elim q [ true ↦ unchanged w (line.RefusedClock k m ∷ []) | false ↦ followed_by (in_turn (sweep_for net) (numbers net.publishers) u) (λ x. unchanged x (line.Swept m ∷ [])) ])
     go true = sends_none w (unchanged w (line.RefusedClock k m ∷ [])) refl refl
     go false =
         let s = in_turn (sweep_for net) (numbers net.publishers) u in
         let c = (sweeps_chain net Sends u (sends_chain net) n (clocked_fits net w m (max m w.most) f)).holds in
-        let d : Sends u (after s (λ x. unchanged x (line.Swept m ∷ []))) = sends_seq u s (λ x. unchanged x (line.Swept m ∷ [])) c (sends_none s.world (unchanged s.world (line.Swept m ∷ [])) refl refl) in
+        let d : Sends u (followed_by s (λ x. unchanged x (line.Swept m ∷ []))) = sends_seq u s (λ x. unchanged x (line.Swept m ∷ [])) c (sends_none s.world (unchanged s.world (line.Swept m ∷ [])) refl refl) in
         record { more = d.more; frames = d.frames; told = d.told }
 
 -- Every step
 
-record_by : (net : Net) (w : World) (h : History) (k : ℕ) (s : Step) → IsNet net → 1 ≤ net.quiet → WorldFits net w → RecordsFit net w h → sent_count h.lines ≡ length w.frames → CutsTold net h.found w.logs h.lines → StepIn net s →
+record_by : (net : Net) (w : World) (h : History) (k : ℕ) (s : Step) → IsNet net → 1 ≤ net.quiet → WorldFits net w → RecordsFit net w h → sent_count h.lines ≡ length w.frames → CutsTold net h.reopened_cuts w.logs h.lines → StepIn net s →
     records_after net h (record { number = k; step = s }) (next net w (record { number = k; step = s })).lines ≡ map core (next net w (record { number = k; step = s })).world.logs →
     recs (next net w (record { number = k; step = s })).lines ≡ record_lines net h (record { number = k; step = s }) (next net w (record { number = k; step = s })).lines
 unfolding next_by record_lines wake_all_by
@@ -271,35 +271,35 @@ record_by net w h k (step.Publish p number None e) n z f r s c i a =
     publish_now_recs net w p number e ∙ ap₂ (λ m x. publish_line p m number x ∷ []) (sym r.clock) (sym (record_core net w h p r))
 record_by net w h k (step.Publish p number (Some stop) e) n z f r s c i a =
     let t = publish_stopped net w k p number stop e in
-    stopped_recs net h.found w k p number stop e h.lines f i c
-    ∙ (ap₂ (λ m x. stop_lines net h.found p number m x h.lines (may_crash net (net.host p)) (is_next m x number) (says_kept t.lines) (map core t.world.logs)) (sym r.clock) (sym (record_core net w h p r))
-    ∙ ap (stop_lines net h.found p number h.clock (record_of h p) h.lines (may_crash net (net.host p)) (is_next h.clock (record_of h p) number) (says_kept t.lines)) (sym a))
+    stopped_recs net h.reopened_cuts w k p number stop e h.lines f i c
+    ∙ (ap₂ (λ m x. stop_lines net h.reopened_cuts p number m x h.lines (may_crash net (net.host p)) (is_next m x number) (says_kept t.lines) (map core t.world.logs)) (sym r.clock) (sym (record_core net w h p r))
+    ∙ ap (stop_lines net h.reopened_cuts p number h.clock (record_of h p) h.lines (may_crash net (net.host p)) (is_next h.clock (record_of h p) number) (says_kept t.lines)) (sym a))
 record_by net w h k (step.Wake b) n z f r s c i a =
     wakes_recs net w 0 net.publishers b (λ p. mark_line net b h.clock p (record_of h p)) n z f i (omega arith) (λ q x y. ap₂ (λ m v. mark_line net b m q v) (sym r.clock) (sym (record_core net w h q r)))
 record_by net w h k (step.Deliver j) n z f r s c i a = go (frame_at w j)
   where
-    go : (o : Option Frame) → recs (let t : Told = elim o [ None ↦ unchanged w (line.RefusedFrame k j (length w.frames) ∷ []) | Some x ↦ deliver_frame net w x ] in t.lines) ≡ []
+    go : (o : Option Frame) → recs (let t : Transition = elim o [ None ↦ unchanged w (line.RefusedFrame k j (length w.frames) ∷ []) | Some x ↦ deliver_frame net w x ] in t.lines) ≡ []
     go None = refl
     go (Some x) = deliver_recs net w x
 record_by net w h k (step.Crash b) n z f r s c i a = go (not_empty (net.subscribers_at b))
   where
-    go : (q : Bool) → recs (let t : Told = elim q [ true ↦ unchanged w (line.RefusedHosts k b ∷ []) | false ↦ crash net w b ] in t.lines) ≡ (if not q then line.Crashed b ∷ opened_of net h.found h.records h.lines b else [])
+    go : (q : Bool) → recs (let t : Transition = elim q [ true ↦ unchanged w (line.RefusedHosts k b ∷ []) | false ↦ crash net w b ] in t.lines) ≡ (if not q then line.Crashed b ∷ opened_of net h.reopened_cuts h.records h.lines b else [])
     go true = refl
-    go false = crash_recs net h.found w b h.lines c ∙ ap (λ x. line.Crashed b ∷ opened_of net h.found x h.lines b) (sym r.records)
+    go false = crash_recs net h.reopened_cuts w b h.lines c ∙ ap (λ x. line.Crashed b ∷ opened_of net h.reopened_cuts x h.lines b) (sym r.records)
 record_by net w h k step.Sweep n z f r s c i a = sweep_recs net w h k n z f r
 record_by net w h k step.Show n z f r s c i a = show_recs net w h r s c
 record_by net w h k (step.Bytes j) n z f r s c i a = go (frame_at w j)
   where
-    go : (o : Option Frame) → recs (let t : Told = elim o [ None ↦ unchanged w (line.RefusedFrame k j (length w.frames) ∷ []) | Some x ↦ unchanged w (line.BytesOf j (frame_bytes x) ∷ []) ] in t.lines) ≡ []
+    go : (o : Option Frame) → recs (let t : Transition = elim o [ None ↦ unchanged w (line.RefusedFrame k j (length w.frames) ∷ []) | Some x ↦ unchanged w (line.BytesOf j (frame_bytes x) ∷ []) ] in t.lines) ≡ []
     go None = refl
     go (Some x) = refl
 
-after_records : (net : Net) (h : History) (l : Line) (ls : List Report) → (headline.after net h l ls).records ≡ records_after net h l ls
-unfolding headline.after
+after_records : (net : Net) (h : History) (l : Line) (ls : List Report) → (headline.history_after net h l ls).records ≡ records_after net h l ls
+unfolding headline.history_after
 after_records net h l ls = refl
 
 -- the recorded lines of the step after a world that fits its history
-pub step_records : (net : Net) (w : World) (h : History) (l : Line) → IsNet net → 1 ≤ net.quiet → WorldFits net w → RecordsFit net w h → sent_count h.lines ≡ length w.frames → CutsTold net h.found w.logs h.lines → StepIn net l.step → filter is_record_line (next net w l).lines ≡ record_lines net h l (next net w l).lines
+pub step_records : (net : Net) (w : World) (h : History) (l : Line) → IsNet net → 1 ≤ net.quiet → WorldFits net w → RecordsFit net w h → sent_count h.lines ≡ length w.frames → CutsTold net h.reopened_cuts w.logs h.lines → StepIn net l.step → filter is_record_line (next net w l).lines ≡ record_lines net h l (next net w l).lines
 step_records net w h l n z f r s c i =
     record_by net w h l.number l.step n z f r s c i (sym (after_records net h l (next net w l).lines) ∙ (next_records net w h l n z f r i).records)
 

@@ -15,8 +15,8 @@ use Rattle.gr_model.specs.declared.report.Report.TheVariants as line
 use Rattle.gr_model.specs.Net.{Net, is_host, not_empty, numbers, numbers_from}
 use Rattle.gr_model.specs.Broker.{Log, empty_log, publish, with_event, is_kept, max_tick}
 use Rattle.gr_model.specs.World as world
-use Rattle.gr_model.specs.World.{World, Told, view_of, log_of, absorbed, unchanged, in_turn, wake_for, wake_all, deliver_frame, frame_at, publish_now, publish_stopped, crash, restarted, sweep, sweep_for, sweep_moment, next, start, opened_lines, run_all, run_from, next_by, publish_now_by, publish_stopped_by, run_from_by, sweep_by, wake_all_by}
-use Rattle.gr_model.specs.Headline.{Recorded, History, nothing_recorded, record_of, recording, settling, marked, is_next, greatest, sweep_at, is_swept, each_record, records_after, clock_after, most_after, after, history, begin, expected, gots, last_horizon, HorizonsRise, GetsExactly, says_kept}
+use Rattle.gr_model.specs.World.{World, Transition, view_of, log_of, absorbed, unchanged, in_turn, wake_for, wake_all, deliver_frame, frame_at, publish_now, publish_stopped, crash, restarted, sweep, sweep_for, sweep_moment, next, start, opened_lines, run_all, run_from, next_by, publish_now_by, publish_stopped_by, run_from_by, sweep_by, wake_all_by}
+use Rattle.gr_model.specs.Headline.{Recorded, History, nothing_recorded, record_of, recording, settling, marked, is_next, greatest, sweep_at, is_swept, each_record, records_after, clock_after, most_after, history_after, history, begin, expected, delivered_events, last_horizon, HorizonsRise, GetsExactly, says_kept}
 use Rattle.gr_theorems.specs.Said.{due_upto}
 use Rattle.gr_model.specs.Tree.{IsNet, IsSubscriber}
 use Rattle.gr_theorems.specs.Fits.{WorldFits, StepIn, StepsIn, FrameTrue, history_of}
@@ -96,13 +96,13 @@ abbrev woken : Net → ℕ → ℕ → ℕ → Recorded → Recorded
 woken net clock b p r = if is_host net p b then marked net clock r else r
 
 -- waking a broker for the publishers from a on
-record Wakes (net : Net) (w u : World) (a n b : ℕ) : Type 0 where
+record MarksByWake (net : Net) (w u : World) (a n b : ℕ) : Type 0 where
   clock : u.clock ≡ w.clock
   most : u.most ≡ w.most
   inside : (q : ℕ) → a ≤ q → q < a + n → core_of u q ≡ woken net w.clock b q (core_of w q)
   outside : (q : ℕ) → (q < a) ⊎ (a + n ≤ q) → core_of u q ≡ core_of w q
 
-wakes_from : (net : Net) (w : World) (a n b : ℕ) → IsNet net → WorldFits net w → b < net.brokers → a + n ≤ net.publishers → Wakes net w (in_turn (λ u p. wake_for net u b p) (numbers_from a n) w).world a n b
+wakes_from : (net : Net) (w : World) (a n b : ℕ) → IsNet net → WorldFits net w → b < net.brokers → a + n ≤ net.publishers → MarksByWake net w (in_turn (λ u p. wake_for net u b p) (numbers_from a n) w).world a n b
 wakes_from net w a zero b k f i h = record { clock = refl; most = refl; inside = λ q x y. absurd (omega arith); outside = λ q x. refl }
 wakes_from net w a (suc n) b k f i h =
     let j : a < net.publishers = omega arith in
@@ -120,7 +120,7 @@ wakes_from net w a (suc n) b k f i h =
       outside = λ q x. r.outside q (⊎_elim (λ y. inl (omega arith)) (λ y. inr (omega arith)) x) ∙ (wake_for_core net w b a q f j ∙ rw (ne_eqb q a (λ e. ⊎_elim (λ y. omega (arith, e)) (λ y. omega (arith, e)) x)) refl);
     }
 
-wake_records : (net : Net) (w u : World) (h : History) (b : ℕ) → WorldFits net w → WorldFits net u → RecordsFit net w h → Wakes net w u 0 net.publishers b → map core u.logs ≡ each_record (λ p r. if is_host net p b then marked net h.clock r else r) 0 h.records
+wake_records : (net : Net) (w u : World) (h : History) (b : ℕ) → WorldFits net w → WorldFits net u → RecordsFit net w h → MarksByWake net w u 0 net.publishers b → map core u.logs ≡ each_record (λ p r. if is_host net p b then marked net h.clock r else r) 0 h.records
 wake_records net w u h b f g r k =
     let rs = each_record (λ p r. woken net h.clock b p r) 0 h.records in
     let long : length h.records ≡ net.publishers = ap length r.records ∙ (length_map core w.logs ∙ f.logs_long) in
@@ -140,12 +140,12 @@ pub sweep_same : (net : Net) (w : World) (h : History) → RecordsFit net w h �
 unfolding sweep_moment
 sweep_same net w h r = ap₂ (λ m s. max m s + net.gap + net.idle + net.retry + net.quiet + 1) r.most (ap (λ z. greatest (map (λ x. x.settled) z)) r.records ∙ (ap greatest (map_again core (λ x. x.settled) w.logs) ∙ greatest_same (map (λ l. l.settled) w.logs)))
   where
-    greatest_same : (ns : List ℕ) → greatest ns ≡ world.greatest ns
+    greatest_same : (ns : List ℕ) → greatest ns ≡ world.greatest_settled ns
     greatest_same [] = refl
     greatest_same (n ∷ ns) = ap (max n) (greatest_same ns)
 
 -- each settled is below the moment of a sweep by more than quiet
-below_greatest : (ns : List ℕ) (i : ℕ) → i < length ns → get_or ns i 0 ≤ world.greatest ns
+below_greatest : (ns : List ℕ) (i : ℕ) → i < length ns → get_or ns i 0 ≤ world.greatest_settled ns
 below_greatest [] i h = absurd (omega arith)
 below_greatest (n ∷ ns) zero h = omega arith
 below_greatest (n ∷ ns) (suc i) h = omega (arith, below_greatest ns i (omega arith))
@@ -238,7 +238,7 @@ most_at : (net : Net) (w : World) (b : ℕ) → (restarted net w b).most ≡ w.m
 unfolding restarted
 most_at net w b = refl
 
-record Publishes (net : Net) (w : World) (t : Told) (p number : ℕ) (e : Event) : Type 0 where
+record RecordsByPublish (net : Net) (w : World) (t : Transition) (p number : ℕ) (e : Event) : Type 0 where
   clock : t.world.clock ≡ w.clock
   most : t.world.most ≡ w.most
   cores : (q : ℕ) → core_of t.world q ≡ (if nat_eq q p then (if is_next w.clock (core_of w p) number && says_kept t.lines then recording w.clock (core_of w p) e else core_of w p) else core_of w q)
@@ -258,7 +258,7 @@ same_core w q p c e =
       | inr x ↦ rw (ne_eqb q p x) refl
     ]
 
-stopped_is : (net : Net) (w : World) (k p number : ℕ) (stop : Stop) (e : Event) → WorldFits net w → p < net.publishers → Publishes net w (publish_stopped net w k p number stop e) p number e
+stopped_is : (net : Net) (w : World) (k p number : ℕ) (stop : Stop) (e : Event) → WorldFits net w → p < net.publishers → RecordsByPublish net w (publish_stopped net w k p number stop e) p number e
 unfolding publish_stopped_by
 stopped_is net w k p number stop e f j = host_at (not_empty (net.subscribers_at (net.host p)))
   where
@@ -271,7 +271,7 @@ stopped_is net w k p number stop e f j = host_at (not_empty (net.subscribers_at 
     kept : Bool
     kept = is_kept log.gate stop.call stop.pick
 
-    told : Bool → Told
+    told : Bool → Transition
     told q =
         let logs : List Log = if q then set w.logs p (with_event log tick e) else w.logs in
         record {
@@ -279,7 +279,7 @@ stopped_is net w k p number stop e f j = host_at (not_empty (net.subscribers_at 
           lines = line.Crashed (net.host p) ∷ ((if q then line.Kept p number tick else line.Lost p number tick) ∷ opened_lines net logs (net.host p));
         }
 
-    told_is : (q : Bool) → is_next w.clock (core_of w p) number ≡ true → Publishes net w (told q) p number e
+    told_is : (q : Bool) → is_next w.clock (core_of w p) number ≡ true → RecordsByPublish net w (told q) p number e
     told_is true x = record {
       clock = clock_at net _ (net.host p);
       most = most_at net _ (net.host p);
@@ -294,7 +294,7 @@ stopped_is net w k p number stop e f j = host_at (not_empty (net.subscribers_at 
       cores = λ q. ap core (restarted_log net _ (net.host p) q) ∙ same_core w q p (if is_next w.clock (core_of w p) number && says_kept (opened_lines net w.logs (net.host p)) then recording w.clock (core_of w p) e else core_of w p) (rw (opened_no_kept net w.logs (net.host p), and_right (is_next w.clock (core_of w p) number) false refl) refl);
     }
 
-    number_at : (q : Bool) → is_next w.clock (core_of w p) number ≡ q → Publishes net w (elim q [ false ↦ publish_now net w p number e | true ↦ told kept ]) p number e
+    number_at : (q : Bool) → is_next w.clock (core_of w p) number ≡ q → RecordsByPublish net w (elim q [ false ↦ publish_now net w p number e | true ↦ told kept ]) p number e
     number_at true x = told_is kept x
     number_at false x = record {
       clock = publish_clock net w p number e;
@@ -302,7 +302,7 @@ stopped_is net w k p number stop e f j = host_at (not_empty (net.subscribers_at 
       cores = λ q. publish_cores net w p number e q f j ∙ ap (λ z. if nat_eq q p then z else core_of w q) (rw (x) refl);
     }
 
-    host_at : (q : Bool) → Publishes net w (elim q [ true ↦ unchanged w (line.RefusedHosts k (net.host p) ∷ []) | false ↦ elim (nat_eq number (suc log.last) && nat_le tick max_tick) [ false ↦ publish_now net w p number e | true ↦ told kept ] ]) p number e
+    host_at : (q : Bool) → RecordsByPublish net w (elim q [ true ↦ unchanged w (line.RefusedHosts k (net.host p) ∷ []) | false ↦ elim (nat_eq number (suc log.last) && nat_le tick max_tick) [ false ↦ publish_now net w p number e | true ↦ told kept ] ]) p number e
     host_at true = record { clock = refl; most = refl; cores = λ q. same_core w q p (if is_next w.clock (core_of w p) number && false then recording w.clock (core_of w p) e else core_of w p) (rw (and_right (is_next w.clock (core_of w p) number) false refl) refl) }
     host_at false = number_at (nat_eq number (suc log.last) && nat_le tick max_tick) refl
 
@@ -324,29 +324,29 @@ and_true : (x : Bool) → (x && true) ≡ x
 and_true true = refl
 and_true false = refl
 
-wakes_of : (net : Net) (w : World) (b : ℕ) → IsNet net → WorldFits net w → b < net.brokers → Wakes net w (wake_all net w b).world 0 net.publishers b
+wakes_of : (net : Net) (w : World) (b : ℕ) → IsNet net → WorldFits net w → b < net.brokers → MarksByWake net w (wake_all net w b).world 0 net.publishers b
 unfolding wake_all_by
 wakes_of net w b n f i = wakes_from net w 0 net.publishers b n f i (omega arith)
 
 -- what a step does to clock and records
-record Steps (net : Net) (w : World) (h : History) (l : Line) (t : Told) : Type 0 where
+record Steps (net : Net) (w : World) (h : History) (l : Line) (t : Transition) : Type 0 where
   clock : clock_after net h l ≡ t.world.clock
   most : most_after net h l ≡ t.world.most
   records : records_after net h l t.lines ≡ map core t.world.logs
 
 -- a step that leaves the clock and the logs' cores
-still_step : (net : Net) (w : World) (h : History) (t : Told) → WorldFits net w → WorldFits net t.world → RecordsFit net w h → t.world.clock ≡ w.clock → t.world.most ≡ w.most → ((q : ℕ) → q < net.publishers → core_of t.world q ≡ core_of w q) → (h.clock ≡ t.world.clock) × (h.most ≡ t.world.most) × (h.records ≡ map core t.world.logs)
+still_step : (net : Net) (w : World) (h : History) (t : Transition) → WorldFits net w → WorldFits net t.world → RecordsFit net w h → t.world.clock ≡ w.clock → t.world.most ≡ w.most → ((q : ℕ) → q < net.publishers → core_of t.world q ≡ core_of w q) → (h.clock ≡ t.world.clock) × (h.most ≡ t.world.most) × (h.records ≡ map core t.world.logs)
 still_step net w h t f g r c m e = (r.clock ∙ sym c, r.most ∙ sym m, r.records ∙ sym (same_records net w t.world f g e))
 
-deliver_still : (net : Net) (w : World) (o : Option Frame) (k n : ℕ) → WorldFits net w → ((x : Frame) → o ≡ Some x → FrameTrue net w x) → (let t : Told = elim o [ None ↦ unchanged w (line.RefusedFrame n k (length w.frames) ∷ []) | Some x ↦ deliver_frame net w x ] in (t.world.clock ≡ w.clock) × (t.world.most ≡ w.most) × ((q : ℕ) → q < net.publishers → core_of t.world q ≡ core_of w q))
+deliver_still : (net : Net) (w : World) (o : Option Frame) (k n : ℕ) → WorldFits net w → ((x : Frame) → o ≡ Some x → FrameTrue net w x) → (let t : Transition = elim o [ None ↦ unchanged w (line.RefusedFrame n k (length w.frames) ∷ []) | Some x ↦ deliver_frame net w x ] in (t.world.clock ≡ w.clock) × (t.world.most ≡ w.most) × ((q : ℕ) → q < net.publishers → core_of t.world q ≡ core_of w q))
 deliver_still net w None k n f t = (refl, refl, λ q j. refl)
 deliver_still net w (Some x) k n f t = (deliver_clock net w x, deliver_most net w x, λ q j. deliver_core net w x q f (t x refl).publisher_in)
 
-bytes_still : (net : Net) (w : World) (o : Option Frame) (k n : ℕ) → (let t : Told = elim o [ None ↦ unchanged w (line.RefusedFrame n k (length w.frames) ∷ []) | Some x ↦ unchanged w (line.BytesOf k (frame_bytes x) ∷ []) ] in (t.world.clock ≡ w.clock) × (t.world.most ≡ w.most) × ((q : ℕ) → q < net.publishers → core_of t.world q ≡ core_of w q))
+bytes_still : (net : Net) (w : World) (o : Option Frame) (k n : ℕ) → (let t : Transition = elim o [ None ↦ unchanged w (line.RefusedFrame n k (length w.frames) ∷ []) | Some x ↦ unchanged w (line.BytesOf k (frame_bytes x) ∷ []) ] in (t.world.clock ≡ w.clock) × (t.world.most ≡ w.most) × ((q : ℕ) → q < net.publishers → core_of t.world q ≡ core_of w q))
 bytes_still net w None k n = (refl, refl, λ q j. refl)
 bytes_still net w (Some x) k n = (refl, refl, λ q j. refl)
 
-crash_still : (net : Net) (w : World) (b n : ℕ) (q : Bool) → (let t : Told = elim q [ true ↦ unchanged w (line.RefusedHosts n b ∷ []) | false ↦ crash net w b ] in (t.world.clock ≡ w.clock) × (t.world.most ≡ w.most) × ((q : ℕ) → q < net.publishers → core_of t.world q ≡ core_of w q))
+crash_still : (net : Net) (w : World) (b n : ℕ) (q : Bool) → (let t : Transition = elim q [ true ↦ unchanged w (line.RefusedHosts n b ∷ []) | false ↦ crash net w b ] in (t.world.clock ≡ w.clock) × (t.world.most ≡ w.most) × ((q : ℕ) → q < net.publishers → core_of t.world q ≡ core_of w q))
 unfolding crash
 crash_still net w b n true = (refl, refl, λ q j. refl)
 crash_still net w b n false = (clock_at net w b, most_at net w b, λ q j. ap core (restarted_log net w b q))
@@ -368,7 +368,7 @@ sweep_step net w h k n z f r = go (nat_lt max_tick m) refl
     same : sweep_at net h ≡ m
     same = sweep_same net w h r
 
-    go : (q : Bool) → nat_lt max_tick m ≡ q → (let t : Told = elim q [ true ↦ unchanged w (line.RefusedClock k m ∷ []) | false ↦ world.after (in_turn (sweep_for net) (numbers net.publishers) u) (λ x. unchanged x (line.Swept m ∷ [])) ] in
+    go : (q : Bool) → nat_lt max_tick m ≡ q → (let t : Transition = elim q [ true ↦ unchanged w (line.RefusedClock k m ∷ []) | false ↦ world.followed_by (in_turn (sweep_for net) (numbers net.publishers) u) (λ x. unchanged x (line.Swept m ∷ [])) ] in
         ((if is_swept net h then sweep_at net h else h.clock) ≡ t.world.clock) × ((if is_swept net h then max (sweep_at net h) h.most else h.most) ≡ t.world.most) × ((if is_swept net h then map (settling (sweep_at net h)) h.records else h.records) ≡ map core t.world.logs))
     go true x =
         let no : is_swept net h ≡ false = ap (λ c. nat_le c max_tick) same ∙ lt-leb m max_tick (ltb-true max_tick m x) in
@@ -381,13 +381,13 @@ sweep_step net w h k n z f r = go (nat_lt max_tick m) refl
               (λ q j. s.inside q (omega arith) (omega arith) ∙ marked_now net m (core_of w q) (settled_below net w q f j)))),
         )
 
-abbrev lined : ℕ → Step → Line
-lined k s = record { number = k; step = s }
+abbrev with_line : ℕ → Step → Line
+with_line k s = record { number = k; step = s }
 
-steps_of : (net : Net) (w : World) (h : History) (l : Line) (t : Told) → records_after net h l t.lines ≡ h.records → clock_after net h l ≡ h.clock → most_after net h l ≡ h.most → (h.clock ≡ t.world.clock) × (h.most ≡ t.world.most) × (h.records ≡ map core t.world.logs) → Steps net w h l t
+steps_of : (net : Net) (w : World) (h : History) (l : Line) (t : Transition) → records_after net h l t.lines ≡ h.records → clock_after net h l ≡ h.clock → most_after net h l ≡ h.most → (h.clock ≡ t.world.clock) × (h.most ≡ t.world.most) × (h.records ≡ map core t.world.logs) → Steps net w h l t
 steps_of net w h l t a b c d = record { clock = b ∙ d.0; most = c ∙ d.1; records = a ∙ d.2 }
 
-next_recorded : (net : Net) (w : World) (h : History) (k : ℕ) (s : Step) → IsNet net → 1 ≤ net.quiet → WorldFits net w → RecordsFit net w h → StepIn net s → WorldFits net (next net w (lined k s)).world → Steps net w h (lined k s) (next net w (lined k s))
+next_recorded : (net : Net) (w : World) (h : History) (k : ℕ) (s : Step) → IsNet net → 1 ≤ net.quiet → WorldFits net w → RecordsFit net w h → StepIn net s → WorldFits net (next net w (with_line k s)).world → Steps net w h (with_line k s) (next net w (with_line k s))
 unfolding next_by clock_after most_after records_after
 next_recorded net w h k (step.Clock now) n z f r i g = record { clock = refl; most = ap (max now) r.most; records = r.records }
 next_recorded net w h k (step.Publish p number None e) n z f r i g = record {
@@ -407,20 +407,20 @@ next_recorded net w h k (step.Wake b) n z f r i g =
     record { clock = r.clock ∙ sym x.clock; most = r.most ∙ sym x.most; records = sym (wake_records net w (wake_all net w b).world h b f g r x) }
 next_recorded net w h k (step.Deliver j) n z f r i g =
     let x = deliver_still net w (frame_at w j) j k f (λ y e. frame_at_true net w j y f e) in
-    steps_of net w h (lined k (step.Deliver j)) (next net w (lined k (step.Deliver j))) refl refl refl (still_step net w h (next net w (lined k (step.Deliver j))) f g r x.0 x.1 x.2)
+    steps_of net w h (with_line k (step.Deliver j)) (next net w (with_line k (step.Deliver j))) refl refl refl (still_step net w h (next net w (with_line k (step.Deliver j))) f g r x.0 x.1 x.2)
 next_recorded net w h k (step.Crash b) n z f r i g =
     let x = crash_still net w b k (not_empty (net.subscribers_at b)) in
-    steps_of net w h (lined k (step.Crash b)) (next net w (lined k (step.Crash b))) refl refl refl (still_step net w h (next net w (lined k (step.Crash b))) f g r x.0 x.1 x.2)
+    steps_of net w h (with_line k (step.Crash b)) (next net w (with_line k (step.Crash b))) refl refl refl (still_step net w h (next net w (with_line k (step.Crash b))) f g r x.0 x.1 x.2)
 next_recorded net w h k step.Sweep n z f r i g =
     let x = sweep_step net w h k n z f r in
     record { clock = x.0; most = x.1; records = x.2 }
 next_recorded net w h k step.Show n z f r i g = record { clock = r.clock; most = r.most; records = r.records }
 next_recorded net w h k (step.Bytes j) n z f r i g =
     let x = bytes_still net w (frame_at w j) j k in
-    steps_of net w h (lined k (step.Bytes j)) (next net w (lined k (step.Bytes j))) refl refl refl (still_step net w h (next net w (lined k (step.Bytes j))) f g r x.0 x.1 x.2)
+    steps_of net w h (with_line k (step.Bytes j)) (next net w (with_line k (step.Bytes j))) refl refl refl (still_step net w h (next net w (with_line k (step.Bytes j))) f g r x.0 x.1 x.2)
 
-pub next_records : (net : Net) (w : World) (h : History) (l : Line) → IsNet net → 1 ≤ net.quiet → WorldFits net w → RecordsFit net w h → StepIn net l.step → RecordsFit net (next net w l).world (after net h l (next net w l).lines)
-unfolding after
+pub next_records : (net : Net) (w : World) (h : History) (l : Line) → IsNet net → 1 ≤ net.quiet → WorldFits net w → RecordsFit net w h → StepIn net l.step → RecordsFit net (next net w l).world (history_after net h l (next net w l).lines)
+unfolding history_after
 next_records net w h l n z f r i =
     let x = next_recorded net w h l.number l.step n z f r i (next_kept net w l n f i).fits in
     record { clock = x.clock; most = x.most; records = x.records }
@@ -440,8 +440,8 @@ pub record Runs (net : Net) (w : World) (h : History) (ls : List Line) : Type 0 
   pub records : RecordsFit net (run_all net w ls).world (history net h ls (run_from net w ls))
   pub lines : (history net h ls (run_from net w ls)).lines ≡ h.lines ++ (run_all net w ls).lines
 
-pub after_lines : (net : Net) (h : History) (l : Line) (ls : List Report) → (after net h l ls).lines ≡ h.lines ++ ls
-unfolding after
+pub after_lines : (net : Net) (h : History) (l : Line) (ls : List Report) → (history_after net h l ls).lines ≡ h.lines ++ ls
+unfolding history_after
 after_lines net h l ls = refl
 
 pub runs : (net : Net) (w : World) (h : History) (ls : List Line) → IsNet net → 1 ≤ net.quiet → WorldFits net w → RecordsFit net w h → StepsIn net ls → Runs net w h ls
@@ -449,7 +449,7 @@ unfolding run_from_by
 runs net w h [] n z f r i = record { records = r; lines = sym (append-nil h.lines) }
 runs net w h (l ∷ ls) n z f r i =
     let k = next_kept net w l n f i.0 in
-    let x = runs net (next net w l).world (after net h l (next net w l).lines) ls n z k.fits (next_records net w h l n z f r i.0) i.1 in
+    let x = runs net (next net w l).world (history_after net h l (next net w l).lines) ls n z k.fits (next_records net w h l n z f r i.0) i.1 in
     record {
       records = x.records;
       lines = x.lines ∙ (ap (λ y. y ++ (run_all net (next net w l).world ls).lines) (after_lines net h l (next net w l).lines) ∙ append_assoc h.lines (next net w l).lines (run_all net (next net w l).world ls).lines);
@@ -467,7 +467,7 @@ gets_exactly net ls s p n z i j y =
     let e : (history_of net ls).lines ≡ (run_all net (start net) ls).lines = x.lines ∙ ap (λ k. k ++ (run_all net (start net) ls).lines) (begin_lines net) in
     let c : record_of (history_of net ls) p ≡ core_of (run_all net (start net) ls).world p = record_core net (run_all net (start net) ls).world (history_of net ls) p x.records in
     record {
-      got = subst (λ k. gots s p k ≡ expected net (history_of net ls) s p (last_horizon s p 0 k)) (sym e)
+      got = subst (λ k. delivered_events s p k ≡ expected net (history_of net ls) s p (last_horizon s p 0 k)) (sym e)
           (l.got p s j y ∙ ap₂ (λ m r. due_upto net p s m r.events) (sym (l.horizon p s j y)) (sym c));
       rise = subst (λ k. HorizonsRise s p 0 k) (sym e) (l.rise p s j y);
     }

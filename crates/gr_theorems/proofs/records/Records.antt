@@ -11,7 +11,7 @@ use Rattle.gr_frame.specs.declared.Frame.{Frame}
 use Rattle.gr_know.specs.Values.{Known}
 use Rattle.gr_model.specs.Net.{Net, is_host, keeps_horizon, numbers, numbers_from}
 use Rattle.gr_model.specs.Broker.{View, Log, Outcome, empty_log, publish, wake, wake_host, wake_below, asking, marking, cutting, receive, clashes, learn, curiosity, expect, place_of, with_event, with_mark, with_cut, silence, max_tick, done_upto, consolidated}
-use Rattle.gr_model.specs.World.{World, Told, view_of, log_of, absorbed, unchanged, after, in_turn, wake_for, deliver_frame, deliver_up, wake_up, hand_down, sweep_for, frames_past, sent_since, is_want, is_know_to, at_depth, outwards, inwards, numbers_down, deliver_frame_by, deliver_up_by, hand_down_by, sweep_for_by, wake_for_by, wake_up_by}
+use Rattle.gr_model.specs.World.{World, Transition, view_of, log_of, absorbed, unchanged, followed_by, in_turn, wake_for, deliver_frame, deliver_up, wake_up, hand_down, sweep_for, frames_past, sent_since, is_want, is_know_to, at_depth, outwards, inwards, numbers_down, deliver_frame_by, deliver_up_by, hand_down_by, sweep_for_by, wake_for_by, wake_up_by}
 use Rattle.gr_model.specs.Headline.{Recorded, recording, settling, marked, is_next}
 use Rattle.gr_model.specs.Tree.{IsNet}
 use Rattle.gr_theorems.specs.Fits.{WorldFits, FrameTrue}
@@ -93,7 +93,7 @@ unfolding absorbed
 absorbed_clock w b p o = refl
 
 -- what a chain of calls for p at one clock does to the logs: nothing, or one mark of p's
-pub record Marks (net : Net) (p : ℕ) (w : World) (t : Told) : Type 0 where
+pub record Marks (net : Net) (p : ℕ) (w : World) (t : Transition) : Type 0 where
   pub kept : Kept net w t
   pub clock : t.world.clock ≡ w.clock
   pub most : t.world.most ≡ w.most
@@ -107,7 +107,7 @@ marked_again net now r h =
       | inr e ↦ rw e (rw e refl)
     ]
 
-Marks-after : (net : Net) (p : ℕ) (w : World) (t : Told) (f : World → Told) → 1 ≤ net.quiet → Marks net p w t → Marks net p t.world (f t.world) → Marks net p w (after t f)
+Marks-after : (net : Net) (p : ℕ) (w : World) (t : Transition) (f : World → Transition) → 1 ≤ net.quiet → Marks net p w t → Marks net p t.world (f t.world) → Marks net p w (followed_by t f)
 Marks-after net p w t f h a k = record {
   kept = Kept-after net w t f a.kept k.kept;
   clock = k.clock ∙ a.clock;
@@ -177,7 +177,7 @@ deliver_marks net p w x n f t = record {
   here = inl (deliver_core net w x p f t.publisher_in);
 }
 
-pub in_turn_marks : {X : Type 0} (net : Net) (p : ℕ) (ok : World → X → Type 0) (f : World → X → Told) → 1 ≤ net.quiet → ((w u : World) (x : X) → IsLaterWorld net w u → ok w x → ok u x) → ((w : World) (x : X) → WorldFits net w → ok w x → Marks net p w (f w x)) →
+pub in_turn_marks : {X : Type 0} (net : Net) (p : ℕ) (ok : World → X → Type 0) (f : World → X → Transition) → 1 ≤ net.quiet → ((w u : World) (x : X) → IsLaterWorld net w u → ok w x → ok u x) → ((w : World) (x : X) → WorldFits net w → ok w x → Marks net p w (f w x)) →
     (xs : List X) (w : World) → WorldFits net w → Each (ok w) xs → Marks net p w (in_turn f xs w)
 in_turn_marks {X} net p ok f h stays one [] w fit a = Marks-refl net p w fit
 in_turn_marks {X} net p ok f h stays one (x ∷ xs) w fit a =
@@ -192,7 +192,7 @@ deliver_up_marks : (net : Net) (p fuel : ℕ) (fs : List Frame) (w : World) → 
 unfolding deliver_up_by
 deliver_up_marks net p zero fs w n h f a = Marks-refl net p w f
 deliver_up_marks net p (suc fuel) fs w n h f a =
-    in_turn_marks net p (FrameTrue net) (λ u x. after (deliver_frame net u x) (λ y. deliver_up net fuel (filter is_want (sent_since u y)) y)) h (FrameTrue-later net)
+    in_turn_marks net p (FrameTrue net) (λ u x. followed_by (deliver_frame net u x) (λ y. deliver_up net fuel (filter is_want (sent_since u y)) y)) h (FrameTrue-later net)
     (λ u x g t. let k = deliver_marks net p u x n g t in let y = (deliver_frame net u x).world in
     Marks-after net p u (deliver_frame net u x) (λ y. deliver_up net fuel (filter is_want (sent_since u y)) y) h k (deliver_up_marks net p fuel (filter is_want (sent_since u y)) y n h k.kept.fits (filter_frames net y is_want (sent_since u y) (frames_past_true net y (length u.frames) y.frames k.kept.fits.frames))))
     fs w f a
@@ -217,24 +217,24 @@ sweep_for_marks net w p n h f j =
     let b = in_turn_marks net p (λ x c. c < net.brokers) (hand_down net p (length w.frames)) h (λ x y c l k. k) (λ x c g k. hand_down_marks net p (length w.frames) x c n h g) (outwards net p) w1 a.kept.fits (depths_in net p (numbers net.brokers)) in
     let w2 = (in_turn (hand_down net p (length w.frames)) (outwards net p) w1).world in
     let c = up w2 b.kept.fits in
-    Marks-after net p w (after (in_turn (wake_up net p) (inwards net p) w) (in_turn (hand_down net p (length w.frames)) (outwards net p))) (in_turn (wake_up net p) (inwards net p)) h (Marks-after net p w (in_turn (wake_up net p) (inwards net p) w) (in_turn (hand_down net p (length w.frames)) (outwards net p)) h a b) c
+    Marks-after net p w (followed_by (in_turn (wake_up net p) (inwards net p) w) (in_turn (hand_down net p (length w.frames)) (outwards net p))) (in_turn (wake_up net p) (inwards net p)) h (Marks-after net p w (in_turn (wake_up net p) (inwards net p) w) (in_turn (hand_down net p (length w.frames)) (outwards net p)) h a b) c
 
 -- The host is marked in a sweep
 
 -- a member of a list of numbers
-abbrev pub Has : ℕ → List ℕ → Type 0
-Has s xs = list_any (λ x. nat_eq x s) xs ≡ true
+abbrev pub HasLine : ℕ → List ℕ → Type 0
+HasLine s xs = list_any (λ x. nat_eq x s) xs ≡ true
 
-has_append_left : (s : ℕ) (xs ys : List ℕ) → Has s xs → Has s (xs ++ ys)
+has_append_left : (s : ℕ) (xs ys : List ℕ) → HasLine s xs → HasLine s (xs ++ ys)
 has_append_left s [] ys h = absurd (false≢true h)
 has_append_left s (x ∷ xs) ys h =
     ⊎_elim (λ e. or_left (nat_eq x s) (list_any (λ z. nat_eq z s) (xs ++ ys)) e) (λ e. or_right (nat_eq x s) (list_any (λ z. nat_eq z s) (xs ++ ys)) (has_append_left s xs ys e)) (or_cases (nat_eq x s) (list_any (λ z. nat_eq z s) xs) h)
 
-has_append_right : (s : ℕ) (xs ys : List ℕ) → Has s ys → Has s (xs ++ ys)
+has_append_right : (s : ℕ) (xs ys : List ℕ) → HasLine s ys → HasLine s (xs ++ ys)
 has_append_right s [] ys h = h
 has_append_right s (x ∷ xs) ys h = or_right (nat_eq x s) (list_any (λ z. nat_eq z s) (xs ++ ys)) (has_append_right s xs ys h)
 
-pub has_number : (a n s : ℕ) → a ≤ s → s < a + n → Has s (numbers_from a n)
+pub has_number : (a n s : ℕ) → a ≤ s → s < a + n → HasLine s (numbers_from a n)
 has_number a zero s h k = absurd (omega arith)
 has_number a (suc n) s h k =
     elim (cases_eq a s) [
@@ -242,7 +242,7 @@ has_number a (suc n) s h k =
       | inr e ↦ or_right (nat_eq a s) (list_any (λ z. nat_eq z s) (numbers_from (suc a) n)) (has_number (suc a) n s (omega (arith, e)) (omega arith))
     ]
 
-has_down : (n s : ℕ) → s < n → Has s (numbers_down n)
+has_down : (n s : ℕ) → s < n → HasLine s (numbers_down n)
 has_down zero s h = absurd (omega arith)
 has_down (suc n) s h =
     elim (cases_eq n s) [
@@ -250,7 +250,7 @@ has_down (suc n) s h =
       | inr e ↦ or_right (nat_eq n s) (list_any (λ z. nat_eq z s) (numbers_down n)) (has_down n s (omega (arith, e)))
     ]
 
-pub has_filter : (test : ℕ → Bool) (s : ℕ) (xs : List ℕ) → test s ≡ true → Has s xs → Has s (filter test xs)
+pub has_filter : (test : ℕ → Bool) (s : ℕ) (xs : List ℕ) → test s ≡ true → HasLine s xs → HasLine s (filter test xs)
 has_filter test s [] t h = absurd (false≢true h)
 has_filter test s (x ∷ xs) t h =
     elim (cases_Bool (test x)) [
@@ -258,23 +258,23 @@ has_filter test s (x ∷ xs) t h =
       | inr e ↦ rw e (⊎_elim (λ k. absurd (both_ways (test x) e (ap test (eqb-true x s k) ∙ t))) (λ k. has_filter test s xs t k) (or_cases (nat_eq x s) (list_any (λ z. nat_eq z s) xs) h))
     ]
 
-pub has_flat : (f : ℕ → List ℕ) (d s : ℕ) (ds : List ℕ) → Has d ds → Has s (f d) → Has s (flat_map f ds)
+pub has_flat : (f : ℕ → List ℕ) (d s : ℕ) (ds : List ℕ) → HasLine d ds → HasLine s (f d) → HasLine s (flat_map f ds)
 has_flat f d s [] h k = absurd (false≢true h)
 has_flat f d s (x ∷ xs) h k =
-    ⊎_elim (λ e. has_append_left s (f x) (flat_map f xs) (subst (λ z. Has s (f z)) (sym (eqb-true x d e)) k)) (λ e. has_append_right s (f x) (flat_map f xs) (has_flat f d s xs e k)) (or_cases (nat_eq x d) (list_any (λ z. nat_eq z d) xs) h)
+    ⊎_elim (λ e. has_append_left s (f x) (flat_map f xs) (subst (λ z. HasLine s (f z)) (sym (eqb-true x d e)) k)) (λ e. has_append_right s (f x) (flat_map f xs) (has_flat f d s xs e k)) (or_cases (nat_eq x d) (list_any (λ z. nat_eq z d) xs) h)
 
-pub has_inwards : (net : Net) (p b : ℕ) → IsNet net → p < net.publishers → b < net.brokers → Has b (inwards net p)
+pub has_inwards : (net : Net) (p b : ℕ) → IsNet net → p < net.publishers → b < net.brokers → HasLine b (inwards net p)
 has_inwards net p b n j i = has_flat (at_depth net p) (net.depth p b) b (numbers_down net.brokers) (has_down net.brokers (net.depth p b) (n.depth_in p b j i)) (has_filter (λ c. nat_eq (net.depth p c) (net.depth p b)) b (numbers net.brokers) (eq-eqb (net.depth p b) (net.depth p b) refl) (has_number 0 net.brokers b (omega arith) (omega arith)))
 
 -- the log of p is marked
-abbrev pub IsMarked : Net → ℕ → World → Told → Type 0
+abbrev pub IsMarked : Net → ℕ → World → Transition → Type 0
 IsMarked net p w t = core_of t.world p ≡ marked net w.clock (core_of w p)
 
-marked_first : (net : Net) (p : ℕ) (w : World) (t : Told) (f : World → Told) → 1 ≤ net.quiet → Marks net p w t → IsMarked net p w t → Marks net p t.world (f t.world) → IsMarked net p w (after t f)
+marked_first : (net : Net) (p : ℕ) (w : World) (t : Transition) (f : World → Transition) → 1 ≤ net.quiet → Marks net p w t → IsMarked net p w t → Marks net p t.world (f t.world) → IsMarked net p w (followed_by t f)
 marked_first net p w t f h a m k =
     ⊎_elim (λ y. y ∙ m) (λ y. y ∙ (ap (λ c. marked net c (core_of t.world p)) a.clock ∙ (ap (marked net w.clock) m ∙ marked_again net w.clock (core_of w p) h))) k.here
 
-marked_then : (net : Net) (p : ℕ) (w : World) (t : Told) (f : World → Told) → 1 ≤ net.quiet → Marks net p w t → IsMarked net p t.world (f t.world) → IsMarked net p w (after t f)
+marked_then : (net : Net) (p : ℕ) (w : World) (t : Transition) (f : World → Transition) → 1 ≤ net.quiet → Marks net p w t → IsMarked net p t.world (f t.world) → IsMarked net p w (followed_by t f)
 marked_then net p w t f h a m =
     let z : core_of (f t.world).world p ≡ marked net w.clock (core_of t.world p) = m ∙ ap (λ c. marked net c (core_of t.world p)) a.clock in
     ⊎_elim (λ y. z ∙ ap (marked net w.clock) y) (λ y. z ∙ (ap (marked net w.clock) y ∙ marked_again net w.clock (core_of w p) h)) a.here
@@ -290,7 +290,7 @@ wake_up_marked net p w n h f j =
     (wake_for_core net w b p p f j ∙ rw (eq-eqb p p refl, eq-eqb b b refl) refl)
     (deliver_up_marks net p net.brokers (filter is_want (sent_since w y)) y n h k.kept.fits (filter_frames net y is_want (sent_since w y) (frames_past_true net y (length w.frames) y.frames k.kept.fits.frames)))
 
-in_turn_marked : (net : Net) (p : ℕ) (bs : List ℕ) (w : World) → IsNet net → 1 ≤ net.quiet → WorldFits net w → p < net.publishers → Each (λ b. b < net.brokers) bs → Has (net.host p) bs → IsMarked net p w (in_turn (wake_up net p) bs w)
+in_turn_marked : (net : Net) (p : ℕ) (bs : List ℕ) (w : World) → IsNet net → 1 ≤ net.quiet → WorldFits net w → p < net.publishers → Each (λ b. b < net.brokers) bs → HasLine (net.host p) bs → IsMarked net p w (in_turn (wake_up net p) bs w)
 in_turn_marked net p [] w n h f j a m = absurd (false≢true m)
 in_turn_marked net p (b ∷ bs) w n h f j a m =
     let k = wake_up_marks net p w b n h f a.0 j in
@@ -311,5 +311,5 @@ sweep_for_marked net w p n h f j =
     let w2 = (in_turn (hand_down net p (length w.frames)) (outwards net p) w1).world in
     let c = up w2 b.kept.fits in
     let m = in_turn_marked net p (inwards net p) w n h f j (depths_in net p (numbers_down net.brokers)) (has_inwards net p (net.host p) n j (n.host_in p j)) in
-    let first = after (in_turn (wake_up net p) (inwards net p) w) (in_turn (hand_down net p (length w.frames)) (outwards net p)) in
+    let first = followed_by (in_turn (wake_up net p) (inwards net p) w) (in_turn (hand_down net p (length w.frames)) (outwards net p)) in
     marked_first net p w first (in_turn (wake_up net p) (inwards net p)) h (Marks-after net p w (in_turn (wake_up net p) (inwards net p) w) (in_turn (hand_down net p (length w.frames)) (outwards net p)) h a b) (marked_first net p w (in_turn (wake_up net p) (inwards net p) w) (in_turn (hand_down net p (length w.frames)) (outwards net p)) h a m b) c

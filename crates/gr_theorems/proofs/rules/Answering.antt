@@ -13,7 +13,7 @@ use Rattle.gr_tick.specs.Runs.{AreRuns, points, IsSteady, IsPast}
 use Rattle.gr_know.specs.Values.{Known, known_at, is_Q, same_K}
 use Rattle.gr_curio.specs.Values.{Wanted, wanted_at, asked_at, is_C, is_A, same_Q3, is_outstanding}
 use Rattle.gr_model.specs.Net.{Net, is_host, keeps_horizon, pass}
-use Rattle.gr_model.specs.Broker.{View, Log, Outcome, want_frames, know_frames, all_A, consolidated, horizon_if, is_reached, is_settled, finished, due, noted, up_frames, place_of, passed, answer, answers, curious, stored, acknowledged, curiosity, head}
+use Rattle.gr_model.specs.Broker.{View, Log, Outcome, want_frames, know_frames, all_A, consolidated, horizon_if, is_reached, is_consolidated_by, finished, due, noted, up_frames, place_of, passed, answer, answers, curious, stored, acknowledged, curiosity, head}
 use Rattle.gr_frame.specs.Bytes.{cut_frames, known_run_size, wanted_run_size}
 use Rattle.gr_model.specs.World.{is_want}
 use Rattle.gr_theorems.specs.Truth.{Facts, WantsTruth, AllWantTruth}
@@ -80,7 +80,7 @@ not_all_A (d ∷ cs) (w ∷ ws) c t l m h =
     ]
 
 -- a tick where a child has no A is not consolidated
-pub not_settled : (net : Net) (f : Facts) (p b c t h : ℕ) (ws : List Wanted) → AllWantTruth net f p (net.children p b) ws → list_any (λ y. nat_eq y c) (net.children p b) ≡ true → is_A (wanted_at (get_or ws (place_of c (net.children p b)) []) t) ≡ false → is_settled (keeps_horizon net p b) h ws t ≡ false
+pub not_settled : (net : Net) (f : Facts) (p b c t h : ℕ) (ws : List Wanted) → AllWantTruth net f p (net.children p b) ws → list_any (λ y. nat_eq y c) (net.children p b) ≡ true → is_A (wanted_at (get_or ws (place_of c (net.children p b)) []) t) ≡ false → is_consolidated_by (keeps_horizon net p b) h ws t ≡ false
 not_settled net f p b c t h ws a m n = ap (λ q. nat_le 1 t && is_reached (horizon_if (keeps_horizon net p b) h) t && q) (not_all_A (net.children p b) ws c t (same_length net f p (net.children p b) ws a) m n) ∙ and_right (nat_le 1 t && is_reached (horizon_if (keeps_horizon net p b) h) t) false refl
 
 pub wants_true_at : (net : Net) (f : Facts) (p : ℕ) (cs : List ℕ) (ws : List Wanted) (c : ℕ) → AllWantTruth net f p cs ws → list_any (λ x. nat_eq x c) cs ≡ true → WantsTruth net f p c (get_or ws (place_of c cs) [])
@@ -252,7 +252,7 @@ pub record CuriosityTicks (net : Net) (p b now c : ℕ) (piece : Wanted) (v : Vi
   pub no_A : (t : ℕ) → Each (NoA t) o.frames
   pub sends : (t : ℕ) → Each (UpAsks net p b t now o.view) o.frames
   pub horizon : o.view.horizon ≡ v.horizon
-  pub know : (t : ℕ) → (known_at o.view.know t ≡ (if is_settled (keeps_horizon net p b) v.horizon o.view.wants t then F else known_at v.know t)) ⊎ ((known_at o.view.know t ≡ Q) × (is_host net p b ≡ false) × (keeps_horizon net p b ≡ true → t ≤ v.horizon))
+  pub know : (t : ℕ) → (known_at o.view.know t ≡ (if is_consolidated_by (keeps_horizon net p b) v.horizon o.view.wants t then F else known_at v.know t)) ⊎ ((known_at o.view.know t ≡ Q) × (is_host net p b ≡ false) × (keeps_horizon net p b ≡ true → t ≤ v.horizon))
 
 pub curiosity_wanted : (reply : Known) (piece : Wanted) → AreRuns N piece → IsWanted (λ t. is_C (wanted_at piece t) && is_Q (known_at reply t)) (points piece ++ points reply)
 curiosity_wanted reply piece r = record {
@@ -310,7 +310,7 @@ curiosity_ticks net f p b now c piece v log h child wt =
           (up_asks_up net p b t now (curiosity net p b now c at piece v log).view (asked (is_host net p b)) (asked_not_A (is_host net p b) t) (λ e. let z = asked_parts (is_host net p b) t e in moment t (gone t (know_Q t z.0 z.1 z.2)) ∙ ap (λ q. if is_C q then At now else asked_at v.asks t) e) (up_frames net p b (asked (is_host net p b))) (up_frames_sent net t p b (asked (is_host net p b)) (asked_runs (is_host net p b))));
       no_A = λ t. Each-on (NoA t) (know_frames b c p reply) (up_frames net p b (asked (is_host net p b))) (no_A_know t b c p reply) (no_A_up net t p b (asked (is_host net p b)) (asked_runs (is_host net p b)) (asked_not_A (is_host net p b) t));
       horizon = i.horizon;
-      know = λ t. ⊎_elim (λ x. inl (x ∙ (fin t ∙ ap (λ z. if is_settled keeps v.horizon z t then F else known_at v.know t) (sym i.wants)))) (λ x. inr x) (i.each t);
+      know = λ t. ⊎_elim (λ x. inl (x ∙ (fin t ∙ ap (λ z. if is_consolidated_by keeps v.horizon z t then F else known_at v.know t) (sym i.wants)))) (λ x. inr x) (i.each t);
     }
   where
     keeps : Bool
@@ -371,8 +371,8 @@ curiosity_ticks net f p b now c piece v log h child wt =
     F_if true k = refl
     F_if false k = refl
 
-    fin : (t : ℕ) → known_at know t ≡ (if is_settled keeps v.horizon ws t then F else known_at v.know t)
-    fin t = fi.same_at t ∙ (ap (λ x. if is_A x then F else known_at v.know t) (done_values net f p b v.horizon ws all t) ∙ F_if (is_settled keeps v.horizon ws t) (known_at v.know t))
+    fin : (t : ℕ) → known_at know t ≡ (if is_consolidated_by keeps v.horizon ws t then F else known_at v.know t)
+    fin t = fi.same_at t ∙ (ap (λ x. if is_A x then F else known_at v.know t) (done_values net f p b v.horizon ws all t) ∙ F_if (is_consolidated_by keeps v.horizon ws t) (known_at v.know t))
 
     asking : Wanted
     asking = due now net.retry know v.asks (λ t. is_C (wanted_at piece t) && is_Q (known_at reply t)) (points piece ++ points reply)

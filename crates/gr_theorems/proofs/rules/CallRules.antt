@@ -15,11 +15,11 @@ use Rattle.gr_tick.specs.Runs.{AreRuns, IsNone, first_bottom_from, zip_runs, poi
 use Rattle.gr_know.specs.Values.{Known, known_at, is_Q, join_K, same_K}
 use Rattle.gr_curio.specs.Values.{Wanted, wanted_at, asked_at, is_C, is_A, is_outstanding}
 use Rattle.gr_model.specs.Net.{Net, is_host, keeps_horizon, pass, wanted_below}
-use Rattle.gr_model.specs.Broker.{View, Log, know_frames, expect_frame, is_settled, any_C, all_points, consolidated, finished, is_F, trimmed, horizon_after, data_ticks, told, new_ticks, forward, quenched, forward_frames, forward_wants, learn, due, noted, upward, acknowledged, answer, answers, curious, stored, curiosity, asking, covers, expect_frames, expect, wake_below, wanted_at_wake, place_of}
+use Rattle.gr_model.specs.Broker.{View, Log, know_frames, expect_frame, is_consolidated_by, any_C, all_points, consolidated, finished, is_F, kept_view, horizon_after, data_ticks, delivery_lines, new_ticks, forward, still_wanted, forward_frames, forward_wants, learn, due, noted, upward, acknowledged, answer, answers, curious, stored, curiosity, asking, covers, expect_frames, expect, wake_below, wanted_at_wake, place_of}
 use Rattle.gr_model.specs.Tree.{IsDistinct, IsPlace}
 use Rattle.gr_theorems.specs.Truth.{Facts, KnowsTruth, WantsTruth, AllWantTruth}
 use Rattle.gr_theorems.specs.Fits.{ViewTrue}
-use Rattle.gr_theorems.specs.Rules.{IsChild, wants_from, want_at, Moves, Forgets, Knows, event_of, TellsOn, NewTicks, ChildAsks, Asks, wanted_by_age, TellsToExpect, Expects}
+use Rattle.gr_theorems.specs.Rules.{IsChild, wants_from, want_at, Moves, Forgets, Knows, event_of, DeliversOn, NewTicks, ChildAsks, Asks, wanted_by_age, SendsExpect, Expects}
 use Rattle.gr_tick.proofs.RunLaws.{runs_equal, AreRunsOf, first_bottom_from-is, value_at-step}
 use Rattle.gr_theorems.proofs.calls.Told.{data_ticks_rise, data_ticks_in, data_ticks_out}
 use Rattle.gr_theorems.proofs.calls.CallTruth.{IsWanted, A_is, expect_wanted, new_ticks-is, forward-is, quenched-is, finished-is, joined-is, learn_wants, done_runs, done_values, learned_horizon, curiosity_wants}
@@ -65,12 +65,12 @@ expected_by_turn p b tick (c ∷ cs) [] = refl
 expected_by_turn p b tick (c ∷ cs) (w ∷ ws) = ap (λ x. (if covers w tick then [] else expect_frame b c p tick ∷ []) ++ x) (expected_by_turn p b tick cs ws)
 
 quenched_by_child : (net : Net) (p c : ℕ) (new : Known) (cs : List ℕ) (ws : List Wanted) → SameLength cs ws → list_any (λ x. nat_eq x c) cs ≡ true →
-    get_or (forward_wants net p new cs ws) (place_of c cs) [] ≡ quenched (get_or ws (place_of c cs) []) (forward net p c (get_or ws (place_of c cs) []) new)
+    get_or (forward_wants net p new cs ws) (place_of c cs) [] ≡ still_wanted (get_or ws (place_of c cs) []) (forward net p c (get_or ws (place_of c cs) []) new)
 quenched_by_child net p c new [] ws l m = absurd (false≢true m)
 quenched_by_child net p c new (d ∷ cs) [] l m = absurd l
 quenched_by_child net p c new (d ∷ cs) (w ∷ ws) l m =
     elim (cases_Bool (nat_eq d c)) [
-      | inl e ↦ rw e (ap (λ x. quenched w (forward net p x w new)) (eqb-true d c e))
+      | inl e ↦ rw e (ap (λ x. still_wanted w (forward net p x w new)) (eqb-true d c e))
       | inr e ↦ rw e (quenched_by_child net p c new cs ws l (subst (λ q. (q || list_any (λ x. nat_eq x c) cs) ≡ true) e m))
     ]
 
@@ -96,7 +96,7 @@ moved true h know at r =
       stays = λ e. absurd (false≢true (sym e));
     }
 
-told_on : (net : Net) (p b h k : ℕ) (know : Known) (at : ℕ → K) → AreRunsOf Q at know → TellsOn net p b h k at (flat_map (told net p h k (data_ticks h k know)) (net.subscribers_at b))
+told_on : (net : Net) (p b h k : ℕ) (know : Known) (at : ℕ → K) → AreRunsOf Q at know → DeliversOn net p b h k at (flat_map (delivery_lines net p h k (data_ticks h k know)) (net.subscribers_at b))
 told_on net p b h k know at r = record {
   passed = data_ticks h k know;
   rise = data_ticks_rise h k know r.runs;
@@ -117,7 +117,7 @@ F_if true x = refl
 F_if false x = refl
 
 -- a view whose knowledge is made final at the consolidated ticks and trimmed
-knows_by : (net : Net) (f : Facts) (p b : ℕ) (at : ℕ → K) (know : Known) (u : View) → AreRunsOf Q at know → AllWantTruth net f p (net.children p b) u.wants → u.know ≡ finished know (consolidated (keeps_horizon net p b) u.horizon u.wants) → Knows net p b at (trimmed net p b u)
+knows_by : (net : Net) (f : Facts) (p b : ℕ) (at : ℕ → K) (know : Known) (u : View) → AreRunsOf Q at know → AllWantTruth net f p (net.children p b) u.wants → u.know ≡ finished know (consolidated (keeps_horizon net p b) u.horizon u.wants) → Knows net p b at (kept_view net p b u)
 knows_by net f p b at know u r a e =
     let done = consolidated (keeps_horizon net p b) u.horizon u.wants in
     let fin = finished-is know done r.runs (done_runs net f p b u.horizon u.wants a) in
@@ -127,10 +127,10 @@ knows_by net f p b at know u r a e =
       full = u.know;
       full_is = record {
         runs = fin_runs;
-        each = λ t. ap (λ x. known_at x t) e ∙ (fin.same_at t ∙ (ap₂ (λ x y. if is_A x then F else y) (done_values net f p b u.horizon u.wants a t) (r.same_at t) ∙ (F_if (is_settled (keeps_horizon net p b) u.horizon u.wants t) (at t)
-            ∙ ap₂ (λ x y. if is_settled (keeps_horizon net p b) x y t then F else at t) (sym i.horizon) (sym i.wants))));
+        each = λ t. ap (λ x. known_at x t) e ∙ (fin.same_at t ∙ (ap₂ (λ x y. if is_A x then F else y) (done_values net f p b u.horizon u.wants a t) (r.same_at t) ∙ (F_if (is_consolidated_by (keeps_horizon net p b) u.horizon u.wants t) (at t)
+            ∙ ap₂ (λ x y. if is_consolidated_by (keeps_horizon net p b) x y t then F else at t) (sym i.horizon) (sym i.wants))));
       };
-      forgets = subst (λ x. Forgets net p b x u.know (trimmed net p b u).know) (sym i.horizon) (forgets_by net p b u fin_runs);
+      forgets = subst (λ x. Forgets net p b x u.know (kept_view net p b u).know) (sym i.horizon) (forgets_by net p b u fin_runs);
     }
 
 -- New ticks
@@ -164,12 +164,12 @@ new_ticks_rule net f p b piece v log place distinct h k =
       none = λ c m h. nothing_sent b c p (forward net p c (wants_from net p b v c) new) (sends c m).runs h;
       wants = λ c m.
           let q = quenched-is (wants_from net p b v c) (forward net p c (wants_from net p b v c) new) (wants_true_at net f p (net.children p b) v.wants c h.wants m).runs (sends c m).runs in
-          let e : get_or (trimmed net p b u).wants (place_of c (net.children p b)) [] ≡ quenched (wants_from net p b v c) (forward net p c (wants_from net p b v c) new) = ap (λ z. get_or z (place_of c (net.children p b)) []) i.wants ∙ quenched_by_child net p c new (net.children p b) v.wants long m in
+          let e : get_or (kept_view net p b u).wants (place_of c (net.children p b)) [] ≡ still_wanted (wants_from net p b v c) (forward net p c (wants_from net p b v c) new) = ap (λ z. get_or z (place_of c (net.children p b)) []) i.wants ∙ quenched_by_child net p c new (net.children p b) v.wants long m in
           record { runs = subst (λ z. AreRuns N z) (sym e) q.runs; each = λ t. ap (λ z. wanted_at z t) e ∙ q.same_at t };
       all_wants = ap length i.wants ∙ long_as net f p (net.children p b) ws all;
       asks = let z = i.asks h.asks in record { runs = z.runs; each = z.same_at };
       horizon = subst (λ x. Moves keeps v.horizon x (λ t. join_K (known_at v.know t) (known_at piece t))) (sym i.horizon) (moved keeps v.horizon joined (λ t. join_K (known_at v.know t) (known_at piece t)) j);
-      lines = subst (λ x. TellsOn net p b v.horizon x (λ t. join_K (known_at v.know t) (known_at piece t)) (flat_map (told net p v.horizon hz (data_ticks v.horizon hz joined)) (net.subscribers_at b))) (sym i.horizon)
+      lines = subst (λ x. DeliversOn net p b v.horizon x (λ t. join_K (known_at v.know t) (known_at piece t)) (flat_map (delivery_lines net p v.horizon hz (data_ticks v.horizon hz joined)) (net.subscribers_at b))) (sym i.horizon)
           (told_on net p b v.horizon hz joined (λ t. join_K (known_at v.know t) (known_at piece t)) j);
       know = knows_by net f p b (λ t. join_K (known_at v.know t) (known_at piece t)) joined u j all refl;
       log_same = refl;
@@ -191,9 +191,9 @@ asks_rule net f p b now wanted ps more fs v log h w same =
       asked = asked;
       asked_is = record { runs = d.runs; each = d.same_at };
       sent = upward done asked;
-      sent_is = record { runs = up.runs; each = λ t. up.same_at t ∙ (ap (λ x. if is_A x then A else wanted_at asked t) (done_values net f p b v.horizon v.wants h.wants t) ∙ A_if (is_settled (keeps_horizon net p b) v.horizon v.wants t) (wanted_at asked t)) };
+      sent_is = record { runs = up.runs; each = λ t. up.same_at t ∙ (ap (λ x. if is_A x then A else wanted_at asked t) (done_values net f p b v.horizon v.wants h.wants t) ∙ A_if (is_consolidated_by (keeps_horizon net p b) v.horizon v.wants t) (wanted_at asked t)) };
       frames = same;
-      asks = let z = i.asks n.runs in record { runs = z.runs; each = λ t. z.same_at t ∙ ap (λ x. if is_F (known_at (trimmed net p b u).know t) && not (is_host net p b) then Never else x) (n.same_at t) };
+      asks = let z = i.asks n.runs in record { runs = z.runs; each = λ t. z.same_at t ∙ ap (λ x. if is_F (known_at (kept_view net p b u).know t) && not (is_host net p b) then Never else x) (n.same_at t) };
       wants = i.wants;
       horizon = i.horizon;
       know = forgets_by net p b u h.know.runs;
@@ -266,7 +266,7 @@ bare_among w tick (p ∷ ps) n =
       | inr x ↦ bare_among w tick ps (sym (in_no w tick p ps x) ∙ n)
     ]
 
-pub expects_on : (net : Net) (f : Facts) (p b tick : ℕ) (v : View) → IsDistinct (net.children p b) → AllWantTruth net f p (net.children p b) v.wants → TellsToExpect net p b tick v (expect_frames p b tick (net.children p b) v.wants)
+pub expects_on : (net : Net) (f : Facts) (p b tick : ℕ) (v : View) → IsDistinct (net.children p b) → AllWantTruth net f p (net.children p b) v.wants → SendsExpect net p b tick v (expect_frames p b tick (net.children p b) v.wants)
 expects_on net f p b tick v distinct a = record {
   done = λ c. covers (wants_from net p b v c) tick;
   is_done = λ c m e. covered_A (wants_from net p b v c) tick e;
@@ -399,8 +399,8 @@ child_asks_rule net f p b now c piece v log h child wt = record {
     fi : AreRunsOf Q (λ t. if is_A (wanted_at (consolidated keeps v.horizon ws) t) then F else known_at v.know t) know
     fi = finished-is v.know (consolidated keeps v.horizon ws) h.know.runs (done_runs net f p b v.horizon ws all)
 
-    fin : (t : ℕ) → known_at know t ≡ (if is_settled keeps v.horizon ws t then F else known_at v.know t)
-    fin t = fi.same_at t ∙ (ap (λ x. if is_A x then F else known_at v.know t) (done_values net f p b v.horizon ws all t) ∙ F_if (is_settled keeps v.horizon ws t) (known_at v.know t))
+    fin : (t : ℕ) → known_at know t ≡ (if is_consolidated_by keeps v.horizon ws t then F else known_at v.know t)
+    fin t = fi.same_at t ∙ (ap (λ x. if is_A x then F else known_at v.know t) (done_values net f p b v.horizon ws all t) ∙ F_if (is_consolidated_by keeps v.horizon ws t) (known_at v.know t))
 
     -- an unknown tick that the child asks is not final after that
     still_Q : (t : ℕ) → wanted_at piece t ≡ C → is_A (wanted_at w0 t) ≡ false → is_Q (known_at v.know t) ≡ true → is_Q (known_at know t) ≡ true

@@ -18,9 +18,9 @@ use Rattle.gr_tick.specs.Runs.{AreRunsFrom}
 use Rattle.gr_know.specs.Values.{Known, known_at, is_Q, is_D, join_K}
 use Rattle.gr_curio.specs.Values.{Wanted, Asked, wanted_at, asked_at, is_C}
 use Rattle.gr_model.specs.Net.{Net, keeps_horizon, is_host}
-use Rattle.gr_model.specs.Broker.{View, Log, Outcome, max_tick, is_F, know_frames, expect_frame, up_frames, is_settled, data_count, place_of, told, with_event, with_mark, with_cut}
+use Rattle.gr_model.specs.Broker.{View, Log, Outcome, max_tick, is_F, know_frames, expect_frame, up_frames, is_consolidated_by, data_count, place_of, delivery_lines, with_event, with_mark, with_cut}
 use Rattle.gr_model.specs.Tree.{IsNet, IsDistinct}
-use Rattle.gr_theorems.specs.Rules.{HasKnown, HasWanted, HasAsked, IsChild, wants_from, Moves, Forgets, Knows, TellsOn, NewTicks, ChildAsks, Asks, wanted_by_age, wanted_upto, TellsToExpect, Expects, IsConsolidatedUpto, HostWakes, Wakes, Publishes, RulesDetermine}
+use Rattle.gr_theorems.specs.Rules.{HasKnown, HasWanted, HasAsked, IsChild, wants_from, Moves, Forgets, Knows, DeliversOn, NewTicks, ChildAsks, Asks, wanted_by_age, wanted_upto, SendsExpect, Expects, IsConsolidatedUpto, HostWakes, Wakes, Publishes, RulesDetermine}
 use Rattle.gr_tick.proofs.RunLaws.{runs_equal, value_at-in, value_at-below, value_at-above, value_at-start}
 use Rattle.gr_theorems.proofs.calls.Told.{said_equal}
 use Rattle.gr_theorems.proofs.rules.CallRules.{flat_map_same, apart}
@@ -72,8 +72,8 @@ moves_same keeps h k j at a b =
       | inr e ↦ a.stays e ∙ sym (b.stays e)
     ]
 
-tells_same : (net : Net) (p b h k : ℕ) (at : ℕ → K) (xs ys : List Report) → TellsOn net p b h k at xs → TellsOn net p b h k at ys → xs ≡ ys
-tells_same net p b h k at xs ys a c = a.lines ∙ (ap (λ z. flat_map (told net p h k z) (net.subscribers_at b)) (said_equal 0 0 a.passed c.passed a.rise c.rise (λ t. a.each t ∙ sym (c.each t))) ∙ sym c.lines)
+tells_same : (net : Net) (p b h k : ℕ) (at : ℕ → K) (xs ys : List Report) → DeliversOn net p b h k at xs → DeliversOn net p b h k at ys → xs ≡ ys
+tells_same net p b h k at xs ys a c = a.lines ∙ (ap (λ z. flat_map (delivery_lines net p h k z) (net.subscribers_at b)) (said_equal 0 0 a.passed c.passed a.rise c.rise (λ t. a.each t ∙ sym (c.each t))) ∙ sym c.lines)
 
 -- How many events there are, tick by tick
 
@@ -227,8 +227,8 @@ forgets_same net p b h full k j a c =
 
 knows_same : (net : Net) (p b : ℕ) (at : ℕ → K) (v u : View) → Knows net p b at v → Knows net p b at u → v.horizon ≡ u.horizon → v.wants ≡ u.wants → v.know ≡ u.know
 knows_same net p b at v u a c eh ew =
-    let e : a.full ≡ c.full = known_same (λ t. if is_settled (keeps_horizon net p b) v.horizon v.wants t then F else at t) (λ t. if is_settled (keeps_horizon net p b) u.horizon u.wants t then F else at t) a.full c.full a.full_is c.full_is
-    (λ t. ap₂ (λ x y. if is_settled (keeps_horizon net p b) x y t then F else at t) eh ew) in
+    let e : a.full ≡ c.full = known_same (λ t. if is_consolidated_by (keeps_horizon net p b) v.horizon v.wants t then F else at t) (λ t. if is_consolidated_by (keeps_horizon net p b) u.horizon u.wants t then F else at t) a.full c.full a.full_is c.full_is
+    (λ t. ap₂ (λ x y. if is_consolidated_by (keeps_horizon net p b) x y t then F else at t) eh ew) in
     forgets_same net p b v.horizon a.full v.know u.know a.forgets (subst (λ x. Forgets net p b v.horizon x u.know) (sym e) (subst (λ x. Forgets net p b x c.full u.know) (sym eh) c.forgets))
 
 -- Views and outcomes
@@ -242,7 +242,7 @@ outcome_same o u a b c d = λ i. record { view = a i; log = b i; lines = c i; fr
 new_ticks_same : (net : Net) (p b : ℕ) (piece : Known) (v : View) (log : Log) (o u : Outcome) → IsDistinct (net.children p b) → NewTicks net p b piece v log o → NewTicks net p b piece v log u → o ≡ u
 new_ticks_same net p b piece v log o u distinct a c =
     outcome_same o u (view_same o.view u.view know ws (asked_same _ _ o.view.asks u.view.asks a.asks c.asks (λ t. ap (λ k. kept_moment net p b (known_at k t) (asked_at v.asks t)) know)) hz) (a.log_same ∙ sym c.log_same)
-    (tells_same net p b v.horizon o.view.horizon joined o.lines u.lines a.lines (subst (λ x. TellsOn net p b v.horizon x joined u.lines) (sym hz) c.lines))
+    (tells_same net p b v.horizon o.view.horizon joined o.lines u.lines a.lines (subst (λ x. DeliversOn net p b v.horizon x joined u.lines) (sym hz) c.lines))
     (a.frames ∙ (flat_map_same (λ d. know_frames b d p (a.sent d)) (λ d. know_frames b d p (c.sent d)) (net.children p b) (λ d m. ap (know_frames b d p) (sents d m)) ∙ sym c.frames))
   where
     joined : ℕ → K
@@ -306,9 +306,9 @@ asks_same net p b now wanted xs ys v log o u a c more =
     asks = asked_same _ _ o.view.asks u.view.asks a.asks c.asks (λ t. ap₂ (λ k z. kept_moment net p b (known_at k t) (if is_C (wanted_at z t) then At now else asked_at v.asks t)) know asked)
 
     sents : a.sent ≡ c.sent
-    sents = wanted_same _ _ a.sent c.sent a.sent_is c.sent_is (λ t. ap (λ z. if is_settled (keeps_horizon net p b) v.horizon v.wants t then A else wanted_at z t) asked)
+    sents = wanted_same _ _ a.sent c.sent a.sent_is c.sent_is (λ t. ap (λ z. if is_consolidated_by (keeps_horizon net p b) v.horizon v.wants t then A else wanted_at z t) asked)
 
-to_expect_same : (net : Net) (p b tick : ℕ) (v : View) (xs ys : List Frame) → TellsToExpect net p b tick v xs → TellsToExpect net p b tick v ys → xs ≡ ys
+to_expect_same : (net : Net) (p b tick : ℕ) (v : View) (xs ys : List Frame) → SendsExpect net p b tick v xs → SendsExpect net p b tick v ys → xs ≡ ys
 to_expect_same net p b tick v xs ys a c =
     a.frames_are ∙ (flat_map_same (λ d. if a.done d then [] else expect_frame b d p tick ∷ []) (λ d. if c.done d then [] else expect_frame b d p tick ∷ []) (net.children p b) (λ d m. ap (λ q. if q then [] else expect_frame b d p tick ∷ []) (same d m)) ∙ sym c.frames_are)
   where
@@ -376,7 +376,7 @@ host_wakes_same net p b now v log o u distinct a c =
     expected =
         elim (cases_lt 0 o.log.settled) [
           | inl l ↦ to_expect_same net p b o.log.settled a.marked.view a.expected c.expected (a.expected_is l)
-              (subst (λ (x : Outcome). TellsToExpect net p b o.log.settled x.view c.expected) (sym marked) (subst (λ x. TellsToExpect net p b x c.marked.view c.expected) settled (c.expected_is (omega (arith, l, settled)))))
+              (subst (λ (x : Outcome). SendsExpect net p b o.log.settled x.view c.expected) (sym marked) (subst (λ x. SendsExpect net p b x c.marked.view c.expected) settled (c.expected_is (omega (arith, l, settled)))))
           | inr l ↦ a.none_expected (omega (arith, l)) ∙ sym (c.none_expected (omega (arith, l, settled)))
         ]
 

@@ -12,8 +12,8 @@ use Rattle.gr_model.specs.declared.report.Report.{Report}
 use Rattle.gr_model.specs.declared.report.Report.TheVariants as line
 use Rattle.gr_theorems.specs.Said.{said_at, TicksRise}
 use Rattle.gr_model.specs.Net.{Net, pass}
-use Rattle.gr_model.specs.Broker.{View, Log, Outcome, told, got_line}
-use Rattle.gr_theorems.specs.Rules.{HasKnown, Forgets, Knows, TellsOn, NewTicks, ChildAsks, want_at, event_of}
+use Rattle.gr_model.specs.Broker.{View, Log, Outcome, delivery_lines, got_line}
+use Rattle.gr_theorems.specs.Rules.{HasKnown, Forgets, Knows, DeliversOn, NewTicks, ChildAsks, want_at, event_of}
 use Rattle.gr_theorems.proofs.calls.Erased.{Wants, with_wants, Agree, pass_agree, filter_agree, new_event, join_event}
 
 forgets_on : (net : Net) (f g : Wants) (p b h : ℕ) (full kept : Known) → Forgets (with_wants net f) p b h full kept → Forgets (with_wants net g) p b h full kept
@@ -29,13 +29,13 @@ event_is F e h = cc
 event_is (D a) e h = cc
 
 -- what is told of events on which both agree
-told_on : (net : Net) (f g : Wants) (p h k s : ℕ) (items : List (ℕ × Event)) → TicksRise 0 items → ((t : ℕ) (e : Event) → said_at items t ≡ Some e → (s : ℕ) → f p s t e ≡ g p s t e) → told (with_wants net f) p h k items s ≡ told (with_wants net g) p h k items s
-unfolding told
+told_on : (net : Net) (f g : Wants) (p h k s : ℕ) (items : List (ℕ × Event)) → TicksRise 0 items → ((t : ℕ) (e : Event) → said_at items t ≡ Some e → (s : ℕ) → f p s t e ≡ g p s t e) → delivery_lines (with_wants net f) p h k items s ≡ delivery_lines (with_wants net g) p h k items s
+unfolding delivery_lines
 told_on net f g p h k s items r a =
     ap (λ (xs : List (ℕ × Event)). if nat_eq h k then [] else map (got_line s p) xs ++ line.Horizon s p k ∷ [])
     (filter_agree (λ t e. f p s t e) (λ t e. g p s t e) 0 items r (λ t e x. a t e x s))
 
-tells_on : (net : Net) (f g : Wants) (p b h k : ℕ) (at : ℕ → K) (ls : List Report) → ((t : ℕ) (e : Event) → at t ≡ D e → (s : ℕ) → f p s t e ≡ g p s t e) → TellsOn (with_wants net f) p b h k at ls → TellsOn (with_wants net g) p b h k at ls
+tells_on : (net : Net) (f g : Wants) (p b h k : ℕ) (at : ℕ → K) (ls : List Report) → ((t : ℕ) (e : Event) → at t ≡ D e → (s : ℕ) → f p s t e ≡ g p s t e) → DeliversOn (with_wants net f) p b h k at ls → DeliversOn (with_wants net g) p b h k at ls
 tells_on net f g p b h k at ls a x = record {
   passed = x.passed;
   rise = x.rise;

@@ -8,7 +8,7 @@ use Rattle.gr_tick.specs.declared.run.Run.{Run}
 use Rattle.gr_tick.specs.Runs.{AreRuns, AreRunsFrom}
 use Rattle.gr_know.specs.Values.{Known, known_at, is_D}
 use Rattle.gr_model.specs.Net.{Net, is_host}
-use Rattle.gr_model.specs.Broker.{View, lower_data, without_front, forgotten, trimmed_below, trimmed, data_count}
+use Rattle.gr_model.specs.Broker.{View, lower_data, without_front, forgotten, kept_view_below, kept_view, data_count}
 use Rattle.gr_theorems.specs.Rules.{Forgets, forgets_upto}
 use Rattle.gr_tick.proofs.RunLaws.{value_at-in, value_at-below, value_at-above, value_at-start}
 use Rattle.gr_theorems.proofs.calls.Pieces.{forgotten-is}
@@ -208,12 +208,12 @@ lowers n upto from one (q ∷ qs) a = go (goes upto q) refl (lowers (n - going n
 -- By the rule
 
 -- what a broker keeps by the rule of forgetting
-pub forgets_by : (net : Net) (p b : ℕ) (v : View) → AreRuns Q v.know → Forgets net p b v.horizon v.know (trimmed net p b v).know
-unfolding trimmed forgotten
+pub forgets_by : (net : Net) (p b : ℕ) (v : View) → AreRuns Q v.know → Forgets net p b v.horizon v.know (kept_view net p b v).know
+unfolding kept_view forgotten
 forgets_by net p b v a = go (is_host net p b) refl
   where
     less : View
-    less = trimmed_below net p b v
+    less = kept_view_below net p b v
 
     n : ℕ
     n = data_count v.know - net.cache

@@ -15,7 +15,7 @@ use Rattle.gr_tick.specs.Runs.{AreRuns, value_at, zip_runs, is_in}
 use Rattle.gr_know.specs.Values.{Known, known_at, is_Q, join_K, same_K}
 use Rattle.gr_curio.specs.Values.{Wanted, wanted_at, asked_at, is_C, is_A}
 use Rattle.gr_model.specs.Net.{Net, is_host, keeps_horizon, pass, wanted_below}
-use Rattle.gr_model.specs.Broker.{View, Log, Outcome, know_frames, want_frames, consolidated, is_settled, finished, forward, new_ticks, forward_frames, forward_wants, learn, up_frames, place_of, head}
+use Rattle.gr_model.specs.Broker.{View, Log, Outcome, know_frames, want_frames, consolidated, is_consolidated_by, finished, forward, new_ticks, forward_frames, forward_wants, learn, up_frames, place_of, head}
 use Rattle.gr_frame.specs.Bytes.{cut_from, cut_frames, known_run_size, wanted_run_size}
 use Rattle.gr_theorems.specs.Truth.{Facts, KnowsTruth, AllWantTruth}
 use Rattle.gr_model.specs.Tree.{IsPlace}
@@ -175,7 +175,7 @@ forward_quenches net f p c t new (d ∷ cs) (w ∷ ws) a r m =
 
 -- what is learned, before forgetting
 abbrev pub known_then : Net → ℕ → ℕ → Known → View → View → ℕ → K
-known_then net p b piece v u t = if is_settled (keeps_horizon net p b) u.horizon u.wants t then F else join_K (known_at v.know t) (known_at piece t)
+known_then net p b piece v u t = if is_consolidated_by (keeps_horizon net p b) u.horizon u.wants t then F else join_K (known_at v.know t) (known_at piece t)
 
 pub record LearnTicks (net : Net) (p b : ℕ) (piece : Known) (v : View) (o : Outcome) : Type 0 where
   pub forwarded : (c t : ℕ) → list_any (λ x. nat_eq x c) (net.children p b) ≡ true → known_at v.know t ≡ Q → known_at piece t ≢ Q → wanted_at (wants_of net p b v c) t ≢ A → Has (TellsTick p b c t (pass net p c t (known_at piece t))) o.frames
@@ -207,8 +207,8 @@ learn_ticks net f p b piece v log place h k =
       horizon = i.horizon;
       asks = λ t e. moment_kept net p b u (learn net p b piece v log).view i h.asks t e;
       know = λ t.
-          let e : known_at u.know t ≡ (if is_settled keeps hz ws t then F else join_K (known_at v.know t) (known_at piece t)) = fin.same_at t ∙ (ap₂ (λ x y. if is_A x then F else y) (done_values net f p b hz ws all t) (j.same_at t) ∙ F_if (is_settled keeps hz ws t) (join_K (known_at v.know t) (known_at piece t))) in
-          ⊎_elim (λ x. inl (x ∙ (e ∙ ap₂ (λ z y. if is_settled keeps z y t then F else join_K (known_at v.know t) (known_at piece t)) (sym i.horizon) (sym i.wants)))) (λ x. inr (x.0, x.1, λ y. subst (λ z. t ≤ z) (sym i.horizon) (x.2 y))) (i.each t);
+          let e : known_at u.know t ≡ (if is_consolidated_by keeps hz ws t then F else join_K (known_at v.know t) (known_at piece t)) = fin.same_at t ∙ (ap₂ (λ x y. if is_A x then F else y) (done_values net f p b hz ws all t) (j.same_at t) ∙ F_if (is_consolidated_by keeps hz ws t) (join_K (known_at v.know t) (known_at piece t))) in
+          ⊎_elim (λ x. inl (x ∙ (e ∙ ap₂ (λ z y. if is_consolidated_by keeps z y t then F else join_K (known_at v.know t) (known_at piece t)) (sym i.horizon) (sym i.wants)))) (λ x. inr (x.0, x.1, λ y. subst (λ z. t ≤ z) (sym i.horizon) (x.2 y))) (i.each t);
     }
   where
     F_if : (c : Bool) (x : K) → (if is_A (if c then A else N) then F else x) ≡ (if c then F else x)

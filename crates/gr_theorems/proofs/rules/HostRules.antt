@@ -12,11 +12,11 @@ use Rattle.gr_model.specs.declared.report.Report.TheVariants as line
 use Rattle.gr_tick.specs.Runs.{AreRuns, first_bottom_from}
 use Rattle.gr_know.specs.Values.{Known, known_at}
 use Rattle.gr_model.specs.Net.{Net, is_host, keeps_horizon}
-use Rattle.gr_model.specs.Broker.{View, Log, Outcome, is_settled, consolidated, learn, max_tick, expect_frames, place_of, publish, silence, with_event, with_mark, with_cut, marking, cutting, done_upto, wake_host, wake_below, wake, receive, clashes, curiosity, expect, published}
+use Rattle.gr_model.specs.Broker.{View, Log, Outcome, is_consolidated_by, consolidated, learn, max_tick, expect_frames, place_of, publish, silence, with_event, with_mark, with_cut, marking, cutting, done_upto, wake_host, wake_below, wake, receive, clashes, curiosity, expect, published}
 use Rattle.gr_model.specs.Tree.{IsNet}
 use Rattle.gr_theorems.specs.Truth.{Facts, KnowsTruth, AllWantTruth}
 use Rattle.gr_theorems.specs.Fits.{facts, LogFits, ViewTrue, BodyTrue, BodyFits, FrameFits}
-use Rattle.gr_theorems.specs.Rules.{HasKnown, NewTicks, Asks, wanted_by_age, TellsToExpect, unmoved, silence_upto, IsConsolidatedUpto, HostWakes, Wakes, event_upto, Publishes, Comes}
+use Rattle.gr_theorems.specs.Rules.{HasKnown, NewTicks, Asks, wanted_by_age, SendsExpect, unmoved, silence_upto, IsConsolidatedUpto, HostWakes, Wakes, event_upto, Publishes, Comes}
 use Rattle.gr_theorems.proofs.calls.HostCases.{marking_cases}
 use Rattle.gr_tick.proofs.RunLaws.{first_bottom_from-is, value_at-in, value_at-below, value_at-above}
 use Rattle.gr_theorems.proofs.calls.CallTruth.{ViewTrue-later, done_runs, done_values}
@@ -129,10 +129,10 @@ consolidated_upto net f p b settled v a =
     let i = first_bottom_from-is N 1 done 1 (done_runs net f p b v.horizon v.wants a) in
     record {
       within = omega arith;
-      each = λ t x y. A_not_N (is_settled (keeps_horizon net p b) v.horizon v.wants t) (λ e. i.known t x (omega (arith, y, i.reached)) (done_values net f p b v.horizon v.wants a t ∙ e));
+      each = λ t x y. A_not_N (is_consolidated_by (keeps_horizon net p b) v.horizon v.wants t) (λ e. i.known t x (omega (arith, y, i.reached)) (done_values net f p b v.horizon v.wants a t ∙ e));
       stops = λ x.
           let s : suc (min settled (u - 1)) ≡ u = omega (arith, x, i.reached) in
-          subst (λ t. is_settled (keeps_horizon net p b) v.horizon v.wants t ≡ false) (sym s) (N_of (is_settled (keeps_horizon net p b) v.horizon v.wants u) (sym (done_values net f p b v.horizon v.wants a u) ∙ i.stops));
+          subst (λ t. is_consolidated_by (keeps_horizon net p b) v.horizon v.wants t ≡ false) (sym s) (N_of (is_consolidated_by (keeps_horizon net p b) v.horizon v.wants u) (sym (done_values net f p b v.horizon v.wants a u) ∙ i.stops));
     }
 
 abbrev cut_at : Net → ℕ → ℕ → View → Log → ℕ
@@ -187,7 +187,7 @@ host_wakes_rule net p b now v log reached n quiet i j host fit h =
       cut = λ l. cut_yes net p b m.view m.log (subst (λ x. x < a) (sym same) l);
       no_cut = λ l. cut_no net p b m.view m.log (subst (λ x. a ≤ x) (sym same) l);
       expected = if nat_lt 0 new.settled then fs else [];
-      expected_is = λ l. subst (λ q. TellsToExpect net p b new.settled m.view (if q then fs else [])) (sym (lt-ltb 0 new.settled l)) (expects_on net w.0 p b new.settled m.view (n.children_once p b i j) w.1);
+      expected_is = λ l. subst (λ q. SendsExpect net p b new.settled m.view (if q then fs else [])) (sym (lt-ltb 0 new.settled l)) (expects_on net w.0 p b new.settled m.view (n.children_once p b i j) w.1);
       none_expected = λ e. ap (λ x. if nat_lt 0 x then fs else []) e;
       frames = refl;
       lines = ap₂ (λ x y. (if x then line.Mark p now ∷ [] else []) ++ y ++ m.lines) (marked_test net p b now v log quiet)

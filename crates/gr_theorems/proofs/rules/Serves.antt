@@ -13,7 +13,7 @@ use Rattle.gr_frame.specs.declared.Frame.{Frame}
 use Rattle.gr_know.specs.Values.{known_at, is_Q}
 use Rattle.gr_curio.specs.Values.{Wanted, wanted_at, asked_at, is_A, is_outstanding}
 use Rattle.gr_model.specs.Net.{Net, is_host, keeps_horizon, pass}
-use Rattle.gr_model.specs.Broker.{View, Log, Outcome, place_of, curiosity, receive, is_settled}
+use Rattle.gr_model.specs.Broker.{View, Log, Outcome, place_of, curiosity, receive, is_consolidated_by}
 use Rattle.gr_model.specs.World.{World, view_of, log_of, absorbed, deliver_frame, frames_past, sent_since, deliver_frame_by}
 use Rattle.gr_theorems.specs.Truth.{WantsTruth}
 use Rattle.gr_theorems.specs.Fits.{facts_of, WorldFits, FrameTrue, BodyTrue, BodyFits}
@@ -136,7 +136,7 @@ delivered_serves net w x t n f tr a h = go (cases_Bool (is_A (wanted_at w0 t))) 
         let s = k.stored t is.2 na q in
         let s1 : wanted_at (wants_of net p u (view_of y u p) c) t ≡ C = ap (λ z. wanted_at (wants_of net p u z c) t) ta.view ∙ s in
         let no = not_settled net (facts_of net y p) p u c t v.horizon (view_of y u p).wants (fits.views p u tr.publisher_in tr.fits.to_in).wants child (ap is_A s1) in
-        let no1 : is_settled (keeps_horizon net p u) v.horizon o.view.wants t ≡ false = ap (λ z. is_settled (keeps_horizon net p u) v.horizon z.wants t) (sym ta.view) ∙ no in
+        let no1 : is_consolidated_by (keeps_horizon net p u) v.horizon o.view.wants t ≡ false = ap (λ z. is_consolidated_by (keeps_horizon net p u) v.horizon z.wants t) (sym ta.view) ∙ no in
         record {
           asks = s1;
           unknown = ap (λ z. known_at z.know t) ta.view ∙ ⊎_elim (λ z. z ∙ (ap (λ b. if b then F else known_at v.know t) no1 ∙ q)) (λ z. z.0) (k.know t);

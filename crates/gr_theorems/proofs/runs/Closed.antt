@@ -11,7 +11,7 @@ use Rattle.gr_sched.specs.declared.step.Line.{Line}
 use Rattle.gr_model.specs.declared.report.Report.TheVariants as line
 use Rattle.gr_model.specs.Net.{Net, not_empty, numbers}
 use Rattle.gr_model.specs.Broker.{Log, with_event, is_kept, max_tick}
-use Rattle.gr_model.specs.World.{World, Told, log_of, unchanged, after, in_turn, wake_for, wake_all, deliver_frame, publish_now, deliver_up, wake_up, hand_down, sweep_for, sweep, sweep_moment, frames_past, sent_since, is_want, is_know_to, outwards, inwards, numbers_down, frame_at, restarted, crash, publish_stopped, next, start, show, run_all, opened_lines, deliver_up_by, hand_down_by, next_by, publish_stopped_by, sweep_by, sweep_for_by, wake_all_by, wake_up_by}
+use Rattle.gr_model.specs.World.{World, Transition, log_of, unchanged, followed_by, in_turn, wake_for, wake_all, deliver_frame, publish_now, deliver_up, wake_up, hand_down, sweep_for, sweep, sweep_moment, frames_past, sent_since, is_want, is_know_to, outwards, inwards, numbers_down, frame_at, restarted, crash, publish_stopped, next, start, show, run_all, opened_lines, deliver_up_by, hand_down_by, next_by, publish_stopped_by, sweep_by, sweep_for_by, wake_all_by, wake_up_by}
 use Rattle.gr_frame.specs.Bytes.{frame_bytes}
 use Rattle.gr_model.specs.Tree.{IsNet}
 use Rattle.gr_theorems.specs.Fits.{WorldFits, FrameTrue, StepIn, StepsIn}
@@ -39,18 +39,18 @@ pub record IsClosed (net : Net) (R : Frame → Type 0) (P : World → Type 0) : 
   pub restarts : (w : World) (logs : List Log) (b : ℕ) → WorldFits net w → b < net.brokers → P w → P (restarted net (with_logs w logs) b)
 
 -- the world fits on, and the property holds after it
-pub record Goes (net : Net) (P : World → Type 0) (w : World) (t : Told) : Type 0 where
+pub record Goes (net : Net) (P : World → Type 0) (w : World) (t : Transition) : Type 0 where
   pub kept : Kept net w t
   pub holds : P t.world
 
-pub Goes-after : (net : Net) (P : World → Type 0) (w : World) (t : Told) (f : World → Told) → Goes net P w t → Goes net P t.world (f t.world) → Goes net P w (after t f)
+pub Goes-after : (net : Net) (P : World → Type 0) (w : World) (t : Transition) (f : World → Transition) → Goes net P w t → Goes net P t.world (f t.world) → Goes net P w (followed_by t f)
 Goes-after net P w t f a k = record { kept = Kept-after net w t f a.kept k.kept; holds = k.holds }
 
 -- a frame that may be delivered
 abbrev pub IsReady : Net → (Frame → Type 0) → World → Frame → Type 0
 IsReady net R w f = FrameTrue net w f × R f
 
-pub in_turn_goes : {X : Type 0} (net : Net) (P : World → Type 0) (ok : World → X → Type 0) (f : World → X → Told) → ((w u : World) (x : X) → IsLaterWorld net w u → ok w x → ok u x) → ((w : World) (x : X) → WorldFits net w → P w → ok w x → Goes net P w (f w x)) →
+pub in_turn_goes : {X : Type 0} (net : Net) (P : World → Type 0) (ok : World → X → Type 0) (f : World → X → Transition) → ((w u : World) (x : X) → IsLaterWorld net w u → ok w x → ok u x) → ((w : World) (x : X) → WorldFits net w → P w → ok w x → Goes net P w (f w x)) →
     (xs : List X) (w : World) → WorldFits net w → P w → Each (ok w) xs → Goes net P w (in_turn f xs w)
 in_turn_goes {X} net P ok f stays one [] w fit h a = record { kept = Kept-refl net w fit; holds = h }
 in_turn_goes {X} net P ok f stays one (x ∷ xs) w fit h a =
@@ -95,7 +95,7 @@ pub deliver_up_goes : (net : Net) (R : Frame → Type 0) (P : World → Type 0) 
 unfolding deliver_up_by
 deliver_up_goes net R P zero fs w n c f h a = record { kept = Kept-refl net w f; holds = h }
 deliver_up_goes net R P (suc fuel) fs w n c f h a =
-    in_turn_goes net P (IsReady net R) (λ u x. after (deliver_frame net u x) (λ y. deliver_up net fuel (filter is_want (sent_since u y)) y)) (ready_later net R)
+    in_turn_goes net P (IsReady net R) (λ u x. followed_by (deliver_frame net u x) (λ y. deliver_up net fuel (filter is_want (sent_since u y)) y)) (ready_later net R)
     (λ u x g k r. let d = deliver_goes net R P u x n c g k r in let y = (deliver_frame net u x).world in
     Goes-after net P u (deliver_frame net u x) (λ y. deliver_up net fuel (filter is_want (sent_since u y)) y) d (deliver_up_goes net R P fuel (filter is_want (sent_since u y)) y n c d.kept.fits d.holds (ready net R P y (length_of u) is_want c d.kept.fits d.holds)))
     fs w f h a
@@ -123,7 +123,7 @@ sweep_for_goes net R P w p n c f h j =
     let b = in_turn_goes net P (λ x c. c < net.brokers) (hand_down net p (length w.frames)) (λ x y c l h. h) (λ x d g k h. hand_down_goes net R P p (length w.frames) x d n c g k) (outwards net p) w1 a.kept.fits a.holds (depths_in net p (numbers net.brokers)) in
     let w2 = (in_turn (hand_down net p (length w.frames)) (outwards net p) w1).world in
     let d = up w2 b.kept.fits b.holds in
-    Goes-after net P w (after (in_turn (wake_up net p) (inwards net p) w) (in_turn (hand_down net p (length w.frames)) (outwards net p))) (in_turn (wake_up net p) (inwards net p)) (Goes-after net P w (in_turn (wake_up net p) (inwards net p) w) (in_turn (hand_down net p (length w.frames)) (outwards net p)) a b) d
+    Goes-after net P w (followed_by (in_turn (wake_up net p) (inwards net p) w) (in_turn (hand_down net p (length w.frames)) (outwards net p))) (in_turn (wake_up net p) (inwards net p)) (Goes-after net P w (in_turn (wake_up net p) (inwards net p) w) (in_turn (hand_down net p (length w.frames)) (outwards net p)) a b) d
 
 pub wake_all_goes : (net : Net) (R : Frame → Type 0) (P : World → Type 0) (w : World) (b : ℕ) → IsNet net → IsCallClosed net R P → WorldFits net w → P w → b < net.brokers → Goes net P w (wake_all net w b)
 unfolding wake_all_by
@@ -140,7 +140,7 @@ sweep_holds net R P w k n c f h = go (nat_lt max_tick m)
     u : World
     u = clocked w m (max m w.most)
 
-    go : (q : Bool) → P (let t : Told = elim q [ true ↦ unchanged w (line.RefusedClock k m ∷ []) | false ↦ after (in_turn (sweep_for net) (numbers net.publishers) u) (λ x. unchanged x (line.Swept m ∷ [])) ] in t.world)
+    go : (q : Bool) → P (let t : Transition = elim q [ true ↦ unchanged w (line.RefusedClock k m ∷ []) | false ↦ followed_by (in_turn (sweep_for net) (numbers net.publishers) u) (λ x. unchanged x (line.Swept m ∷ [])) ] in t.world)
     go true = h
     go false = (in_turn_goes net P (λ x p. p < net.publishers) (sweep_for net) (λ x y p l h. h) (λ x p g k h. sweep_for_goes net R P x p n c.calls g k h) (numbers net.publishers) u (clocked_fits net w m (max m w.most) f) (c.at_clock w m f h) (numbers_below 0 net.publishers net.publishers (omega arith))).holds
 
@@ -178,17 +178,17 @@ publish_stopped_holds net R P w k p number stop e n c f h j = host_at (not_empty
     logs : List Log
     logs = if kept then set w.logs p (with_event log tick e) else w.logs
 
-    stopped : Told
+    stopped : Transition
     stopped = record {
       world = restarted net (with_logs w logs) (net.host p);
       lines = line.Crashed (net.host p) ∷ ((if kept then line.Kept p number tick else line.Lost p number tick) ∷ opened_lines net logs (net.host p));
     }
 
-    number_at : (q : Bool) → P (let t : Told = elim q [ false ↦ publish_now net w p number e | true ↦ stopped ] in t.world)
+    number_at : (q : Bool) → P (let t : Transition = elim q [ false ↦ publish_now net w p number e | true ↦ stopped ] in t.world)
     number_at false = c.published w p number e f j h
     number_at true = c.restarts w logs (net.host p) f (n.host_in p j) h
 
-    host_at : (q : Bool) → P (let t : Told = elim q [ true ↦ unchanged w (line.RefusedHosts k (net.host p) ∷ []) | false ↦ elim (nat_eq number (suc log.last) && nat_le tick max_tick) [ false ↦ publish_now net w p number e | true ↦ stopped ] ] in t.world)
+    host_at : (q : Bool) → P (let t : Transition = elim q [ true ↦ unchanged w (line.RefusedHosts k (net.host p) ∷ []) | false ↦ elim (nat_eq number (suc log.last) && nat_le tick max_tick) [ false ↦ publish_now net w p number e | true ↦ stopped ] ] in t.world)
     host_at true = h
     host_at false = number_at (nat_eq number (suc log.last) && nat_le tick max_tick)
 
@@ -196,23 +196,23 @@ pub next_holds : (net : Net) (R : Frame → Type 0) (P : World → Type 0) (w : 
 unfolding next_by crash
 next_holds net R P w l n c f h i = go l.step i
   where
-    delivered : (k : ℕ) (o : Option Frame) → frame_at w k ≡ o → P (let t : Told = elim o [ None ↦ unchanged w (line.RefusedFrame l.number k (length w.frames) ∷ []) | Some x ↦ deliver_frame net w x ] in t.world)
+    delivered : (k : ℕ) (o : Option Frame) → frame_at w k ≡ o → P (let t : Transition = elim o [ None ↦ unchanged w (line.RefusedFrame l.number k (length w.frames) ∷ []) | Some x ↦ deliver_frame net w x ] in t.world)
     delivered k None e = h
     delivered k (Some x) e = c.calls.delivered w x f (frame_at_true net w k x f e) (frame_at_ready R w k x (c.calls.sent w h) e) h
 
-    bytes_at : (k : ℕ) (o : Option Frame) → P (let t : Told = elim o [ None ↦ unchanged w (line.RefusedFrame l.number k (length w.frames) ∷ []) | Some x ↦ unchanged w (line.BytesOf k (frame_bytes x) ∷ []) ] in t.world)
+    bytes_at : (k : ℕ) (o : Option Frame) → P (let t : Transition = elim o [ None ↦ unchanged w (line.RefusedFrame l.number k (length w.frames) ∷ []) | Some x ↦ unchanged w (line.BytesOf k (frame_bytes x) ∷ []) ] in t.world)
     bytes_at k None = h
     bytes_at k (Some x) = h
 
-    crashed : (b : ℕ) (q : Bool) → b < net.brokers → P (let t : Told = elim q [ true ↦ unchanged w (line.RefusedHosts l.number b ∷ []) | false ↦ crash net w b ] in t.world)
+    crashed : (b : ℕ) (q : Bool) → b < net.brokers → P (let t : Transition = elim q [ true ↦ unchanged w (line.RefusedHosts l.number b ∷ []) | false ↦ crash net w b ] in t.world)
     crashed b true x = h
     crashed b false x = c.restarts w w.logs b f x h
 
-    published : (p number : ℕ) (stop : Option Stop) (e : Event) → p < net.publishers → P (let t : Told = elim stop [ None ↦ publish_now net w p number e | Some s ↦ publish_stopped net w l.number p number s e ] in t.world)
+    published : (p number : ℕ) (stop : Option Stop) (e : Event) → p < net.publishers → P (let t : Transition = elim stop [ None ↦ publish_now net w p number e | Some s ↦ publish_stopped net w l.number p number s e ] in t.world)
     published p number None e x = c.published w p number e f x h
     published p number (Some s) e x = publish_stopped_holds net R P w l.number p number s e n c f h x
 
-    go : (s : Step) → StepIn net s → P (let t : Told = elim s [
+    go : (s : Step) → StepIn net s → P (let t : Transition = elim s [
       | step.Clock now ↦ unchanged (record { clock = now; most = max now w.most; frames = w.frames; views = w.views; logs = w.logs }) []
       | step.Publish p number stop e ↦ elim stop [ None ↦ publish_now net w p number e | Some s ↦ publish_stopped net w l.number p number s e ]
       | step.Wake b ↦ wake_all net w b

@@ -19,7 +19,7 @@ use Rattle.gr_tick.specs.Runs.{IsNone}
 use Rattle.gr_know.specs.Values.{same_K}
 use Rattle.gr_model.specs.Net.{Net, is_host, not_empty, numbers, numbers_from, keeps_horizon}
 use Rattle.gr_model.specs.Broker.{View, Log, empty_log, with_event, event_at, log_at, event_points, log_know, started, is_kept, max_tick}
-use Rattle.gr_model.specs.World.{World, Told, blank_view, view_of, log_of, unchanged, after, in_turn, deliver_frame, frame_at, publish_now, restarted, crash, publish_stopped, wake_all, sweep_for, sweep, sweep_moment, next, start, show, opened_lines, run_from, kept_events, run_all, next_by, publish_stopped_by, run_from_by, sweep_by}
+use Rattle.gr_model.specs.World.{World, Transition, blank_view, view_of, log_of, unchanged, followed_by, in_turn, deliver_frame, frame_at, publish_now, restarted, crash, publish_stopped, wake_all, sweep_for, sweep, sweep_moment, next, start, show, opened_lines, run_from, kept_events, run_all, next_by, publish_stopped_by, run_from_by, sweep_by}
 use Rattle.gr_frame.specs.Bytes.{frame_bytes}
 use Rattle.gr_theorems.specs.Truth.{Facts, IsTrueAt, KnowsTruth, AllWantTruth, IsLater}
 use Rattle.gr_theorems.specs.Said.{said_at, due_upto}
@@ -295,7 +295,7 @@ publish_stopped_kept net w k p number stop e n f j = host_at (not_empty (net.sub
     u : World
     u = record { clock = w.clock; most = w.most; frames = w.frames; views = w.views; logs = logs }
 
-    stopped : Told
+    stopped : Transition
     stopped = record {
       world = restarted net u (net.host p);
       lines = line.Crashed (net.host p) ∷ ((if kept then line.Kept p number tick else line.Lost p number tick) ∷ opened_lines net logs (net.host p));
@@ -327,7 +327,7 @@ clocked_fits net w clock most f = record { views_long = f.views_long; rows_long 
     same : (q : ℕ) → IsLater (facts_of net w q) (facts_of net (record { clock = clock; most = most; frames = w.frames; views = w.views; logs = w.logs }) q)
     same q = record { settled = le_refl (log_of w q).settled; said = λ t y. refl; reached = λ s. le_refl (reached_in net w q s) }
 
-from_clock : (net : Net) (w : World) (clock most : ℕ) (t : Told) → Kept net (record { clock = clock; most = most; frames = w.frames; views = w.views; logs = w.logs }) t → Kept net w t
+from_clock : (net : Net) (w : World) (clock most : ℕ) (t : Transition) → Kept net (record { clock = clock; most = most; frames = w.frames; views = w.views; logs = w.logs }) t → Kept net w t
 from_clock net w clock most t k = record { fits = k.fits; later = k.later; lines = λ ls l. k.lines ls (record { got = l.got; horizon = l.horizon; rise = l.rise }) }
 
 pub sweep_kept : (net : Net) (w : World) (k : ℕ) → IsNet net → WorldFits net w → Kept net w (sweep net w k)
@@ -340,11 +340,11 @@ sweep_kept net w k n f = go (nat_lt max_tick m)
     u : World
     u = record { clock = m; most = max m w.most; frames = w.frames; views = w.views; logs = w.logs }
 
-    go : (q : Bool) → Kept net w (elim q [ true ↦ unchanged w (line.RefusedClock k m ∷ []) | false ↦ after (in_turn (sweep_for net) (numbers net.publishers) u) (λ x. unchanged x (line.Swept m ∷ [])) ])
+    go : (q : Bool) → Kept net w (elim q [ true ↦ unchanged w (line.RefusedClock k m ∷ []) | false ↦ followed_by (in_turn (sweep_for net) (numbers net.publishers) u) (λ x. unchanged x (line.Swept m ∷ [])) ])
     go true = Kept-still net w (line.RefusedClock k m ∷ []) f (λ s q. record { got = refl; horizon = λ n. refl; rise = λ n. tt })
     go false =
         let swept = in_turn_kept net (λ x p. p < net.publishers) (sweep_for net) (λ x y p l h. h) (λ x p g h. sweep_for_kept net x p n g h) (numbers net.publishers) u (clocked_fits net w m (max m w.most) f) (numbers_below 0 net.publishers net.publishers (omega arith)) in
-        from_clock net w m (max m w.most) (after (in_turn (sweep_for net) (numbers net.publishers) u) (λ x. unchanged x (line.Swept m ∷ [])))
+        from_clock net w m (max m w.most) (followed_by (in_turn (sweep_for net) (numbers net.publishers) u) (λ x. unchanged x (line.Swept m ∷ [])))
         (Kept-after net u (in_turn (sweep_for net) (numbers net.publishers) u) (λ x. unchanged x (line.Swept m ∷ [])) swept (Kept-still net (in_turn (sweep_for net) (numbers net.publishers) u).world (line.Swept m ∷ []) swept.fits (λ s q. record { got = refl; horizon = λ n. refl; rise = λ n. tt })))
 
 show_silent : (net : Net) (w : World) → Silent (show net w)

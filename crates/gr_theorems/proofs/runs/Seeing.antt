@@ -12,7 +12,7 @@ use Rattle.gr_model.specs.declared.report.Report.{Report}
 use Rattle.gr_model.specs.declared.report.Report.TheVariants as line
 use Rattle.gr_model.specs.Net.{Net, not_empty, numbers}
 use Rattle.gr_model.specs.Broker.{View, Log, with_event, is_kept, max_tick}
-use Rattle.gr_model.specs.World.{World, Told, log_of, unchanged, after, in_turn, wake_for, wake_for_by, wake_all, wake_all_by, deliver_frame, deliver_frame_by, publish_now, publish_now_by, deliver_up, deliver_up_by, wake_up, wake_up_by, hand_down, hand_down_by, sweep_for, sweep_for_by, sweep, sweep_by, sweep_moment, frames_past, sent_since, is_want, is_know_to, outwards, inwards, numbers_down, frame_at, restarted, crash, publish_stopped, publish_stopped_by, next, next_by, start, show, run_from, run_from_by, run_all, run_all_by, report_of, report_of_by, opened_lines}
+use Rattle.gr_model.specs.World.{World, Transition, log_of, unchanged, followed_by, in_turn, wake_for, wake_for_by, wake_all, wake_all_by, deliver_frame, deliver_frame_by, publish_now, publish_now_by, deliver_up, deliver_up_by, wake_up, wake_up_by, hand_down, hand_down_by, sweep_for, sweep_for_by, sweep, sweep_by, sweep_moment, frames_past, sent_since, is_want, is_know_to, outwards, inwards, numbers_down, frame_at, restarted, crash, publish_stopped, publish_stopped_by, next, next_by, start, show, run_from, run_from_by, run_all, run_all_by, report_of, report_of_by, opened_lines}
 use Rattle.gr_model.specs.Tree.{IsNet}
 use Rattle.gr_theorems.specs.Fits.{WorldFits, FrameTrue, StepIn, StepsIn}
 use Rattle.gr_theorems.proofs.runs.Worlds.{Kept, Kept-after, Each, IsLaterWorld, FrameTrue-later, numbers_below, depths_in, wake_for_kept, deliver_kept, in_turn_kept, wake_all_kept, deliver_up_kept, wake_up_kept, hand_down_kept, sweep_for_kept, frames_past_true, filter_frames}
@@ -21,16 +21,16 @@ use Rattle.gr_theorems.proofs.runs.Closed.{clocked, with_logs, Each-past, Each-k
 
 -- What a part of a run does from w on is t and is u. B says of a world that what still comes of the run fits to it, and is known at
 -- the end and carried back; P is what holds so far, and is carried on. N is what else is needed.
-pub record Runs (N : Type 0) (P B : World → Type 0) (w : World) (t u : Told) : Type 0 where
+pub record Runs (N : Type 0) (P B : World → Type 0) (w : World) (t u : Transition) : Type 0 where
   pub back : B u.world → B w
   pub on : N → P w → B u.world → (t ≡ u) × P u.world
 
-after_same : (s u : Told) (f g : World → Told) → s ≡ u → f u.world ≡ g u.world → after s f ≡ after u g
+after_same : (s u : Transition) (f g : World → Transition) → s ≡ u → f u.world ≡ g u.world → followed_by s f ≡ followed_by u g
 after_same s u f g e h =
-    let onward : Told → Told = λ r. record { world = r.world; lines = u.lines ++ r.lines } in
-    ap (λ (z : Told). after z f) e ∙ ap onward h
+    let onward : Transition → Transition = λ r. record { world = r.world; lines = u.lines ++ r.lines } in
+    ap (λ (z : Transition). followed_by z f) e ∙ ap onward h
 
-Runs-after : (N M : Type 0) (P B : World → Type 0) (w : World) (s u : Told) (f g : World → Told) → Runs N P B w s u → Runs M P B u.world (f u.world) (g u.world) → (P u.world → M) → Runs N P B w (after s f) (after u g)
+Runs-after : (N M : Type 0) (P B : World → Type 0) (w : World) (s u : Transition) (f g : World → Transition) → Runs N P B w s u → Runs M P B u.world (f u.world) (g u.world) → (P u.world → M) → Runs N P B w (followed_by s f) (followed_by u g)
 Runs-after N M P B w s u f g a k need = record {
   back = λ b. a.back (k.back b);
   on = λ n h b. let x = a.on n h (k.back b) in let y = k.on (need x.1) x.1 b in (after_same s u f g x.0 y.0, y.1);
@@ -39,7 +39,7 @@ Runs-after N M P B w s u f g a k need = record {
 Runs-same : (N : Type 0) (P B : World → Type 0) (w : World) (ls : List Report) → Runs N P B w (unchanged w ls) (unchanged w ls)
 Runs-same N P B w ls = record { back = λ b. b; on = λ n h b. (refl, h) }
 
-Runs-need : (N M : Type 0) (P B : World → Type 0) (w : World) (t u : Told) → Runs M P B w t u → (P w → M) → Runs N P B w t u
+Runs-need : (N M : Type 0) (P B : World → Type 0) (w : World) (t u : Transition) → Runs M P B w t u → (P w → M) → Runs N P B w t u
 Runs-need N M P B w t u r need = record { back = r.back; on = λ n h b. r.on (need h) h b }
 
 units : {X : Type 0} (xs : List X) → Each (λ x. Unit {0}) xs
@@ -50,13 +50,13 @@ all_stay : {X : Type 0} (net : Net) (ok : World → X → Type 0) → ((w u : Wo
 all_stay net ok stays w u l [] b = tt
 all_stay net ok stays w u l (y ∷ ys) b = (stays w u y l b.0, all_stay net ok stays w u l ys b.1)
 
-first_then : (net : Net) (P B : World → Type 0) (N M : Type 0) (w : World) (s u : Told) (f g : World → Told) → Runs N P B w s u → Runs M P B u.world (f u.world) (g u.world) → Runs (N × M) P B w (after s f) (after u g)
+first_then : (net : Net) (P B : World → Type 0) (N M : Type 0) (w : World) (s u : Transition) (f g : World → Transition) → Runs N P B w s u → Runs M P B u.world (f u.world) (g u.world) → Runs (N × M) P B w (followed_by s f) (followed_by u g)
 first_then net P B N M w s u f g a k = record {
   back = λ b. a.back (k.back b);
   on = λ n h b. let x = a.on n.0 h (k.back b) in let y = k.on n.1 x.1 b in (after_same s u f g x.0 y.0, y.1);
 }
 
-in_turn_runs : {X : Type 0} (net : Net) (P B : World → Type 0) (ok : World → X → Type 0) (N : X → Type 0) (f g : World → X → Told) → ((w u : World) (x : X) → IsLaterWorld net w u → ok w x → ok u x) → ((w : World) (x : X) → WorldFits net w → ok w x → Kept net w (g w x)) →
+in_turn_runs : {X : Type 0} (net : Net) (P B : World → Type 0) (ok : World → X → Type 0) (N : X → Type 0) (f g : World → X → Transition) → ((w u : World) (x : X) → IsLaterWorld net w u → ok w x → ok u x) → ((w : World) (x : X) → WorldFits net w → ok w x → Kept net w (g w x)) →
     ((w : World) (x : X) → WorldFits net w → ok w x → Runs (N x) P B w (f w x) (g w x)) → (xs : List X) (w : World) → WorldFits net w → Each (ok w) xs → Runs (Each N xs) P B w (in_turn f xs w) (in_turn g xs w)
 in_turn_runs net P B ok N f g stays kept one [] w fit a = Runs-same (Unit {0}) P B w []
 in_turn_runs net P B ok N f g stays kept one (x ∷ xs) w fit a =
@@ -87,7 +87,7 @@ module _ (net : Net) (see : View → Net) (R : Frame → Type 0) (P B : World �
   unfolding deliver_up_by
   deliver_up_runs zero fs w f a = Runs-same (Each R fs) P B w []
   deliver_up_runs (suc fuel) fs w f a =
-      in_turn_runs net P B (FrameTrue net) R (λ u x. after (deliver_frame_by see net u x) (λ y. deliver_up_by see net fuel (filter is_want (sent_since u y)) y)) (λ u x. after (deliver_frame net u x) (λ y. deliver_up net fuel (filter is_want (sent_since u y)) y)) (λ u y x l r. FrameTrue-later net u y x l r)
+      in_turn_runs net P B (FrameTrue net) R (λ u x. followed_by (deliver_frame_by see net u x) (λ y. deliver_up_by see net fuel (filter is_want (sent_since u y)) y)) (λ u x. followed_by (deliver_frame net u x) (λ y. deliver_up net fuel (filter is_want (sent_since u y)) y)) (λ u y x l r. FrameTrue-later net u y x l r)
       (λ u x g r. let d = deliver_kept net u x n g r in let y = (deliver_frame net u x).world in
       Kept-after net u (deliver_frame net u x) (λ y. deliver_up net fuel (filter is_want (sent_since u y)) y) d (deliver_up_kept net fuel (filter is_want (sent_since u y)) y n d.fits (some_true y is_want (length u.frames) d.fits)))
       (λ u x g r. let d = deliver_kept net u x n g r in let y = (deliver_frame net u x).world in
@@ -128,7 +128,7 @@ module _ (net : Net) (see : View → Net) (R : Frame → Type 0) (P B : World �
       let w2 = (in_turn (hand_down net p first) (outwards net p) w1).world in
       let down = Runs-need (Unit {0}) (Each (λ x. Unit {0}) (outwards net p)) P B w1 (in_turn (hand_down_by see net p first) (outwards net p) w1) (in_turn (hand_down net p first) (outwards net p) w1)
       (in_turn_runs net P B (λ x c. c < net.brokers) (λ c. Unit {0}) (hand_down_by see net p first) (hand_down net p first) (λ x y c l h. h) (λ x d g h. hand_down_kept net p first x d n g) (λ x d g h. hand_down_runs p first x d g) (outwards net p) w1 a.fits (depths_in net p (numbers net.brokers))) (λ h. units (outwards net p)) in
-      Runs-after (Unit {0}) (Unit {0}) P B w (after (in_turn (wake_up_by see net p) (inwards net p) w) (in_turn (hand_down_by see net p first) (outwards net p))) (after (in_turn (wake_up net p) (inwards net p) w) (in_turn (hand_down net p first) (outwards net p))) (in_turn (wake_up_by see net p) (inwards net p)) (in_turn (wake_up net p) (inwards net p))
+      Runs-after (Unit {0}) (Unit {0}) P B w (followed_by (in_turn (wake_up_by see net p) (inwards net p) w) (in_turn (hand_down_by see net p first) (outwards net p))) (followed_by (in_turn (wake_up net p) (inwards net p) w) (in_turn (hand_down net p first) (outwards net p))) (in_turn (wake_up_by see net p) (inwards net p)) (in_turn (wake_up net p) (inwards net p))
       (Runs-after (Unit {0}) (Unit {0}) P B w (in_turn (wake_up_by see net p) (inwards net p) w) (in_turn (wake_up net p) (inwards net p) w) (in_turn (hand_down_by see net p first) (outwards net p)) (in_turn (hand_down net p first) (outwards net p)) (wakes_runs p w f j) down (λ h. tt))
       (wakes_runs p w2 b.fits j) (λ h. tt)
 
@@ -156,10 +156,10 @@ module _ (net : Net) (see : View → Net) (R : Frame → Type 0) (P B : World �
       turns = Runs-need (Unit {0}) (Each (λ x. Unit {0}) ps) P B u (in_turn (sweep_for_by see net) ps u) (in_turn (sweep_for net) ps u)
           (in_turn_runs net P B (λ x p. p < net.publishers) (λ p. Unit {0}) (sweep_for_by see net) (sweep_for net) (λ x y p l h. h) (λ x p g h. sweep_for_kept net x p n g h) (λ x p g h. sweep_for_runs x p g h) ps u (clocked_fits net w m (max m w.most) f) (numbers_below 0 net.publishers net.publishers (omega arith))) (λ h. units ps)
 
-      all : Runs (Unit {0}) P B u (after (in_turn (sweep_for_by see net) ps u) (λ x. unchanged x (line.Swept m ∷ []))) (after (in_turn (sweep_for net) ps u) (λ x. unchanged x (line.Swept m ∷ [])))
+      all : Runs (Unit {0}) P B u (followed_by (in_turn (sweep_for_by see net) ps u) (λ x. unchanged x (line.Swept m ∷ []))) (followed_by (in_turn (sweep_for net) ps u) (λ x. unchanged x (line.Swept m ∷ [])))
       all = Runs-after (Unit {0}) (Unit {0}) P B u (in_turn (sweep_for_by see net) ps u) (in_turn (sweep_for net) ps u) (λ x. unchanged x (line.Swept m ∷ [])) (λ x. unchanged x (line.Swept m ∷ [])) turns (Runs-same (Unit {0}) P B (in_turn (sweep_for net) ps u).world (line.Swept m ∷ [])) (λ h. tt)
 
-      go : (q : Bool) → Runs (Unit {0}) P B w (elim q [ true ↦ unchanged w (line.RefusedClock k m ∷ []) | false ↦ after (in_turn (sweep_for_by see net) ps u) (λ x. unchanged x (line.Swept m ∷ [])) ]) (elim q [ true ↦ unchanged w (line.RefusedClock k m ∷ []) | false ↦ after (in_turn (sweep_for net) ps u) (λ x. unchanged x (line.Swept m ∷ [])) ])
+      go : (q : Bool) → Runs (Unit {0}) P B w (elim q [ true ↦ unchanged w (line.RefusedClock k m ∷ []) | false ↦ followed_by (in_turn (sweep_for_by see net) ps u) (λ x. unchanged x (line.Swept m ∷ [])) ]) (elim q [ true ↦ unchanged w (line.RefusedClock k m ∷ []) | false ↦ followed_by (in_turn (sweep_for net) ps u) (λ x. unchanged x (line.Swept m ∷ [])) ])
       go true = Runs-same (Unit {0}) P B w (line.RefusedClock k m ∷ [])
       go false = let c = s.at_clock w m (max m w.most) [] in record { back = λ b. c.back (all.back b); on = λ z h b. all.on tt (c.on tt h (all.back b)).1 b }
 
@@ -173,7 +173,7 @@ module _ (net : Net) (see : View → Net) (R : Frame → Type 0) (P B : World �
       tick : ℕ
       tick = max (suc log.settled) w.clock
 
-      stopped : Bool → Told
+      stopped : Bool → Transition
       stopped q = let logs : List Log = if q then set w.logs p (with_event log tick e) else w.logs in record {
         world = restarted net (with_logs w logs) (net.host p);
         lines = line.Crashed (net.host p) ∷ ((if q then line.Kept p number tick else line.Lost p number tick) ∷ opened_lines net logs (net.host p));
@@ -200,14 +200,14 @@ module _ (net : Net) (see : View → Net) (R : Frame → Type 0) (P B : World �
       delivered k None e = Runs-same (Unit {0}) P B w (line.RefusedFrame l.number k (length w.frames) ∷ [])
       delivered k (Some x) e = Runs-need (Unit {0}) (R x) P B w (deliver_frame_by see net w x) (deliver_frame net w x) (s.delivered w x f (frame_at_true net w k x f e)) (λ h. frame_at_ready R w k x (s.sent w h) e)
 
-      bytes_told : (k : ℕ) → Option Frame → Told
+      bytes_told : (k : ℕ) → Option Frame → Transition
       bytes_told k o = elim o [ None ↦ unchanged w (line.RefusedFrame l.number k (length w.frames) ∷ []) | Some x ↦ unchanged w (line.BytesOf k (frame_bytes x) ∷ []) ]
 
       bytes_at : (k : ℕ) (o : Option Frame) → Runs (Unit {0}) P B w (bytes_told k o) (bytes_told k o)
       bytes_at k None = Runs-same (Unit {0}) P B w (line.RefusedFrame l.number k (length w.frames) ∷ [])
       bytes_at k (Some x) = Runs-same (Unit {0}) P B w (line.BytesOf k (frame_bytes x) ∷ [])
 
-      crash_told : (b : ℕ) → Bool → Told
+      crash_told : (b : ℕ) → Bool → Transition
       crash_told b q = elim q [ true ↦ unchanged w (line.RefusedHosts l.number b ∷ []) | false ↦ crash net w b ]
 
       crashed : (b : ℕ) (q : Bool) → Runs (Unit {0}) P B w (crash_told b q) (crash_told b q)
@@ -218,7 +218,7 @@ module _ (net : Net) (see : View → Net) (R : Frame → Type 0) (P B : World �
       published p number None e x = s.published w p number e f x
       published p number (Some stop) e x = publish_stopped_runs w l.number p number stop e f x
 
-      told : (View → Net) → Step → Told
+      told : (View → Net) → Step → Transition
       told v z = elim z [
         | step.Clock now ↦ unchanged (record { clock = now; most = max now w.most; frames = w.frames; views = w.views; logs = w.logs }) []
         | step.Publish p number stop e ↦ elim stop [ None ↦ publish_now_by v net w p number e | Some s ↦ publish_stopped_by v net w l.number p number s e ]
@@ -252,7 +252,7 @@ module _ (net : Net) (see : View → Net) (R : Frame → Type 0) (P B : World �
   lines_run w (l ∷ ls) f h i b =
       let k = next_kept net w l n f i.0 in
       let x = (next_runs w l f i.0).on tt h ((run_runs (next net w l).world ls k.fits i.1).back b) in
-      let onward : Told → List (List Report) = λ z. z.lines ∷ run_from_by see net z.world ls in
+      let onward : Transition → List (List Report) = λ z. z.lines ∷ run_from_by see net z.world ls in
       let more : List (List Report) → List (List Report) = λ z. (next net w l).lines ∷ z in
       ap onward x.0 ∙ ap more (lines_run (next net w l).world ls k.fits x.1 i.1 b)
 

@@ -11,12 +11,12 @@ use Rattle.gr_frame.specs.declared.Frame.{Frame}
 use Rattle.gr_model.specs.declared.report.Report.{Report}
 use Rattle.gr_model.specs.Net.{Net, numbers, numbers_from}
 use Rattle.gr_model.specs.Broker.{View, Outcome, empty_log, publish, wake, receive}
-use Rattle.gr_model.specs.World.{World, Told, blank_view, view_of, log_of, with_view, absorbed, unchanged, after, in_turn, wake_for, wake_all, deliver_frame, publish_now, deliver_up, wake_up, hand_down, sweep_for, frames_past, sent_lines, sent_since, is_want, is_know_to, at_depth, outwards, inwards, numbers_down, deliver_frame_by, deliver_up_by, hand_down_by, publish_now_by, sweep_for_by, wake_all_by, wake_for_by, wake_up_by}
+use Rattle.gr_model.specs.World.{World, Transition, blank_view, view_of, log_of, with_view, absorbed, unchanged, followed_by, in_turn, wake_for, wake_all, deliver_frame, publish_now, deliver_up, wake_up, hand_down, sweep_for, frames_past, sent_lines, sent_since, is_want, is_know_to, at_depth, outwards, inwards, numbers_down, deliver_frame_by, deliver_up_by, hand_down_by, publish_now_by, sweep_for_by, wake_all_by, wake_for_by, wake_up_by}
 use Rattle.gr_theorems.specs.Truth.{Facts, IsLater}
 use Rattle.gr_theorems.specs.Said.{said_at, due_upto, due_between}
 use Rattle.gr_theorems.specs.Fits.{facts, reached_in, facts_of, LogFits, ViewTrue, HostKnows, CutTrue, BodyTrue, FrameFits, AllFit, FrameTrue, AllFramesTrue, WorldFits, LinesFit}
 use Rattle.gr_model.specs.Tree.{IsNet, IsSubscriber}
-use Rattle.gr_model.specs.Headline.{gots, last_horizon, HorizonsRise}
+use Rattle.gr_model.specs.Headline.{delivered_events, last_horizon, HorizonsRise}
 use Rattle.gr_theorems.proofs.calls.Told.{due_more}
 use Rattle.gr_theorems.proofs.calls.Telling.{gots-append, last_horizon-append, HorizonsRise-append, Neutral, Neutral-append, Neutral-nil, sent_lines_neutral, CallTells, Silent, due_upto_same, wake_tells, receive_tells, publish_tells}
 use Rattle.gr_theorems.proofs.calls.TruthTicks.{TrueF-later}
@@ -181,7 +181,7 @@ abbrev pub IsLaterWorld : Net → World → World → Type 0
 IsLaterWorld net w u = (q : ℕ) → q < net.publishers → IsLater (facts_of net w q) (facts_of net u q)
 
 -- what a step keeps: the world fits, its facts are later, and the lines told go on fitting
-pub record Kept (net : Net) (w : World) (t : Told) : Type 0 where
+pub record Kept (net : Net) (w : World) (t : Transition) : Type 0 where
   pub fits : WorldFits net t.world
   pub later : IsLaterWorld net w t.world
   pub lines : (ls : List Report) → LinesFit net w ls → LinesFit net t.world (ls ++ t.lines)
@@ -197,7 +197,7 @@ lines_absorbed : (net : Net) (w u : World) (b p k : ℕ) (o : Outcome) (fs : Lis
     (ls : List Report) → LinesFit net w ls → LinesFit net u (ls ++ (o.lines ++ sent_lines k fs))
 lines_absorbed net w u b p k o fs n f g i j t told c ls l = record {
   got = λ q s x y. elim (cases_eq q p) [
-    | inl e ↦ subst (λ z. gots s z (ls ++ (o.lines ++ sent_lines k fs)) ≡ due_upto net z s (reached_in net u z s) (log_of u z).events) (sym e) (elim (cases_eq (net.at s) b) [
+    | inl e ↦ subst (λ z. delivered_events s z (ls ++ (o.lines ++ sent_lines k fs)) ≡ due_upto net z s (reached_in net u z s) (log_of u z).events) (sym e) (elim (cases_eq (net.at s) b) [
       | inl a ↦
           let m : list_any (λ y. nat_eq y s) (net.subscribers_at b) ≡ true = subst (λ z. list_any (λ y. nat_eq y s) (net.subscribers_at z) ≡ true) a y.here in
           let r : reached_in net w p s ≡ (view_of w b p).horizon = exact_at net w b p n i s m in
@@ -257,7 +257,7 @@ lines_absorbed net w u b p k o fs n f g i j t told c ls l = record {
 -- silent lines change nothing
 pub silent_lines : (net : Net) (w : World) (ls more : List Report) → Silent more → LinesFit net w ls → LinesFit net w (ls ++ more)
 silent_lines net w ls more m l = record {
-  got = λ q s x y. gots-append s q ls more ∙ (ap (λ z. gots s q ls ++ z) (m s q).got ∙ (append-nil (gots s q ls) ∙ l.got q s x y));
+  got = λ q s x y. gots-append s q ls more ∙ (ap (λ z. delivered_events s q ls ++ z) (m s q).got ∙ (append-nil (delivered_events s q ls) ∙ l.got q s x y));
   horizon = λ q s x y. last_horizon-append s q 0 ls more ∙ ((m s q).horizon (last_horizon s q 0 ls) ∙ l.horizon q s x y);
   rise = λ q s x y. HorizonsRise-append s q 0 ls more (l.rise q s x y) ((m s q).rise (last_horizon s q 0 ls));
 }
@@ -287,7 +287,7 @@ pub Later-refl : (f : Facts) → IsLater f f
 Later-refl f = record { settled = le_refl f.settled; said = λ t x. refl; reached = λ s. le_refl (f.reached s) }
 
 -- one step after another
-pub Kept-after : (net : Net) (w : World) (t : Told) (f : World → Told) → Kept net w t → Kept net t.world (f t.world) → Kept net w (after t f)
+pub Kept-after : (net : Net) (w : World) (t : Transition) (f : World → Transition) → Kept net w t → Kept net t.world (f t.world) → Kept net w (followed_by t f)
 Kept-after net w t f a k = record {
   fits = k.fits;
   later = λ q i. Later-trans (facts_of net w q) (facts_of net t.world q) (facts_of net (f t.world).world q) (a.later q i) (k.later q i);
@@ -331,7 +331,7 @@ Each P [] = Unit {0}
 Each P (x ∷ xs) = P x × Each P xs
 
 -- one after another, where what is asked of each item stays true
-pub in_turn_kept : {X : Type 0} (net : Net) (ok : World → X → Type 0) (f : World → X → Told) → ((w u : World) (x : X) → IsLaterWorld net w u → ok w x → ok u x) → ((w : World) (x : X) → WorldFits net w → ok w x → Kept net w (f w x)) →
+pub in_turn_kept : {X : Type 0} (net : Net) (ok : World → X → Type 0) (f : World → X → Transition) → ((w u : World) (x : X) → IsLaterWorld net w u → ok w x → ok u x) → ((w : World) (x : X) → WorldFits net w → ok w x → Kept net w (f w x)) →
     (xs : List X) (w : World) → WorldFits net w → Each (ok w) xs → Kept net w (in_turn f xs w)
 in_turn_kept {X} net ok f stays one [] w fit a = Kept-refl net w fit
 in_turn_kept {X} net ok f stays one (x ∷ xs) w fit a =
@@ -369,7 +369,7 @@ pub deliver_up_kept : (net : Net) (fuel : ℕ) (fs : List Frame) (w : World) →
 unfolding deliver_up_by
 deliver_up_kept net zero fs w n f a = Kept-refl net w f
 deliver_up_kept net (suc fuel) fs w n f a =
-    in_turn_kept net (FrameTrue net) (λ u x. after (deliver_frame net u x) (λ y. deliver_up net fuel (filter is_want (sent_since u y)) y)) (FrameTrue-later net)
+    in_turn_kept net (FrameTrue net) (λ u x. followed_by (deliver_frame net u x) (λ y. deliver_up net fuel (filter is_want (sent_since u y)) y)) (FrameTrue-later net)
     (λ u x g h. let k = deliver_kept net u x n g h in let y = (deliver_frame net u x).world in
     Kept-after net u (deliver_frame net u x) (λ y. deliver_up net fuel (filter is_want (sent_since u y)) y) k (deliver_up_kept net fuel (filter is_want (sent_since u y)) y n k.fits (filter_frames net y is_want (sent_since u y) (frames_past_true net y (length u.frames) y.frames k.fits.frames))))
     fs w f a
@@ -410,4 +410,4 @@ sweep_for_kept net w p n f j =
     let b = in_turn_kept net (λ x c. c < net.brokers) (hand_down net p (length w.frames)) (λ x y c l h. h) (λ x c g h. hand_down_kept net p (length w.frames) x c n g) (outwards net p) w1 a.fits (depths_in net p (numbers net.brokers)) in
     let w2 = (in_turn (hand_down net p (length w.frames)) (outwards net p) w1).world in
     let c = up w2 b.fits in
-    Kept-after net w (after (in_turn (wake_up net p) (inwards net p) w) (in_turn (hand_down net p (length w.frames)) (outwards net p))) (in_turn (wake_up net p) (inwards net p)) (Kept-after net w (in_turn (wake_up net p) (inwards net p) w) (in_turn (hand_down net p (length w.frames)) (outwards net p)) a b) c
+    Kept-after net w (followed_by (in_turn (wake_up net p) (inwards net p) w) (in_turn (hand_down net p (length w.frames)) (outwards net p))) (in_turn (wake_up net p) (inwards net p)) (Kept-after net w (in_turn (wake_up net p) (inwards net p) w) (in_turn (hand_down net p (length w.frames)) (outwards net p)) a b) c

@@ -18,7 +18,7 @@ use Rattle.gr_model.specs.declared.report.Report.{Report}
 use Rattle.gr_model.specs.declared.report.Report.TheVariants as line
 use Rattle.gr_model.specs.Net.{Net, not_empty, numbers}
 use Rattle.gr_model.specs.Broker.{max_tick, clashes}
-use Rattle.gr_model.specs.World.{World, Told, view_of, unchanged, after, in_turn, deliver_frame, frame_at, publish_now, wake_all, sent_line, sent_lines, next, run_all, next_by}
+use Rattle.gr_model.specs.World.{World, Transition, view_of, unchanged, followed_by, in_turn, deliver_frame, frame_at, publish_now, wake_all, sent_line, sent_lines, next, run_all, next_by}
 use Rattle.gr_theorems.specs.Edges.{GoesBetween, GoesOverEdge}
 use Rattle.gr_model.specs.Headline.{is_sent, sent_number}
 use Rattle.gr_theorems.specs.Replies.{frame_of_line}
@@ -141,12 +141,12 @@ received net w k b f n fit at e g =
 -- Steps
 
 -- the same world and lines
-pub run_append : (net : Net) (w : World) (xs ys : List Line) → run_all net w (xs ++ ys) ≡ after (run_all net w xs) (λ u. run_all net u ys)
+pub run_append : (net : Net) (w : World) (xs ys : List Line) → run_all net w (xs ++ ys) ≡ followed_by (run_all net w xs) (λ u. run_all net u ys)
 run_append net w [] ys = refl
 run_append net w (l ∷ xs) ys =
     let s = next net w l in
     let t = run_all net s.world xs in
-    ap (λ (r : Told). record { world = r.world; lines = s.lines ++ r.lines }) (run_append net s.world xs ys)
+    ap (λ (r : Transition). record { world = r.world; lines = s.lines ++ r.lines }) (run_append net s.world xs ys)
     ∙ ap (λ (z : List Report). record { world = (run_all net t.world ys).world; lines = z }) (sym (append_assoc s.lines t.lines (run_all net t.world ys).lines))
 
 woken : (net : Net) (w : World) (b : ℕ) → next net w (as_line (step.Wake b)) ≡ wake_all net w b
@@ -156,10 +156,10 @@ woken net w b = refl
 wakes_run : (net : Net) (bs : List ℕ) (w : World) → run_all net w (map (λ b. as_line (step.Wake b)) bs) ≡ in_turn (wake_all net) bs w
 wakes_run net [] w = refl
 wakes_run net (b ∷ bs) w =
-    ap (λ (s : Told). after s (λ u. run_all net u (map (λ c. as_line (step.Wake c)) bs))) (woken net w b)
-    ∙ ap (λ (r : Told). record { world = r.world; lines = (wake_all net w b).lines ++ r.lines }) (wakes_run net bs (wake_all net w b).world)
+    ap (λ (s : Transition). followed_by s (λ u. run_all net u (map (λ c. as_line (step.Wake c)) bs))) (woken net w b)
+    ∙ ap (λ (r : Transition). record { world = r.world; lines = (wake_all net w b).lines ++ r.lines }) (wakes_run net bs (wake_all net w b).world)
 
-one_step : (s : Told) → after s (λ u. unchanged u []) ≡ s
+one_step : (s : Transition) → followed_by s (λ u. unchanged u []) ≡ s
 one_step s = ap (λ (z : List Report). record { world = s.world; lines = z }) (append-nil s.lines)
 
 published_run : (net : Net) (w : World) (left : List Publish) → run_all net w (publish_step left) ≡ published_first net w left
@@ -172,7 +172,7 @@ unfolding next_by
 clock_step net w now = refl
 
 clock_first : (net : Net) (w : World) (now : ℕ) (ls : List Line) → run_all net w (as_line (step.Clock now) ∷ ls) ≡ run_all net (moved w now) ls
-clock_first net w now ls = ap (λ (s : Told). after s (λ u. run_all net u ls)) (clock_step net w now)
+clock_first net w now ls = ap (λ (s : Transition). followed_by s (λ u. run_all net u ls)) (clock_step net w now)
 
 delivered_step : (net : Net) (w : World) (k : ℕ) (f : Frame) → frame_at w k ≡ Some f → next net w (as_line (step.Deliver k)) ≡ deliver_frame net w f
 unfolding next_by
@@ -188,9 +188,9 @@ pub record Does (net : Net) (w : World) (left : List Publish) (a : Arrival) (ste
 
 does : (net : Net) (w : World) (left : List Publish) (a : Arrival) (steps : List Line) → dropped_line a ≡ [] → comes net (numbers net.brokers) w left a ≡ run_all net w steps → ((f : Report → Bool) → IsForeign f → filter f (comes net (numbers net.brokers) w left a).lines ≡ []) → Does net w left a steps
 does net w left a steps none e called = record {
-  world = ap (λ (t : Told). t.world) e;
-  lines = ap (λ (t : Told). t.lines) e ∙ (sym (append-nil (run_all net w steps).lines) ∙ ap (λ (z : List Report). (run_all net w steps).lines ++ z) (sym none));
-  called = λ f k. ap (λ (t : Told). filter f t.lines) (sym e) ∙ called f k;
+  world = ap (λ (t : Transition). t.world) e;
+  lines = ap (λ (t : Transition). t.lines) e ∙ (sym (append-nil (run_all net w steps).lines) ∙ ap (λ (z : List Report). (run_all net w steps).lines ++ z) (sym none));
+  called = λ f k. ap (λ (t : Transition). filter f t.lines) (sym e) ∙ called f k;
 }
 
 pub quiet_does : (net : Net) (w : World) (left : List Publish) (moment : ℕ) (lines : List Report) → Does net w left (quiet moment) (steps_of_arrival net lines left (quiet moment))
@@ -201,8 +201,8 @@ quiet_does net w left moment lines =
     let wakes = map (λ b. as_line (step.Wake b)) (numbers net.brokers) in
     does net w left (quiet moment) (steps_of_arrival net lines left (quiet moment)) refl (sym (
     clock_first net w now (publish_step left ++ wakes) ∙ (run_append net u (publish_step left) wakes
-    ∙ (ap (λ (s : Told). after s (λ v. run_all net v wakes)) (published_run net u left)
-    ∙ (let s : Told = published_first net u left in ap (λ (r : Told). record { world = r.world; lines = s.lines ++ r.lines }) (wakes_run net (numbers net.brokers) s.world)))))) (λ f k. quieted_none f k net (numbers net.brokers) u left)
+    ∙ (ap (λ (s : Transition). followed_by s (λ v. run_all net v wakes)) (published_run net u left)
+    ∙ (let s : Transition = published_first net u left in ap (λ (r : Transition). record { world = r.world; lines = s.lines ++ r.lines }) (wakes_run net (numbers net.brokers) s.world)))))) (λ f k. quieted_none f k net (numbers net.brokers) u left)
 
 pub frame_does : (net : Net) (w : World) (left : List Publish) (b moment k : ℕ) (bytes : List ℕ) (f : Frame) (lines : List Report) → IsNet net → WorldFits net (at_moment w moment) → frame_decoded bytes ≡ Ok f → frame_at w k ≡ Some f → f.head.to ≡ b → GoesOverEdge net f → number_of_bytes b bytes lines ≡ Some k →
     Does net w left (datagram b bytes moment) (steps_of_arrival net lines left (datagram b bytes moment))
@@ -214,8 +214,8 @@ frame_does net w left b moment k bytes f lines n fit d at to over number =
     let is : steps_of_arrival net lines left (datagram b bytes moment) ≡ steps = ap₂ (λ (r : Result Frame FrameFault) (o : Option ℕ). as_line (step.Clock now) ∷ (if is_frame r then delivery_step o else [])) d number in
     subst (λ (z : List Line). Does net w left (datagram b bytes moment) z) (sym is) (does net w left (datagram b bytes moment) steps (ap (dropped_as b) d) (
     ap (receives net u b) d ∙ (received net u k b f n fit at to over
-    ∙ sym (clock_first net w now (as_line (step.Deliver k) ∷ []) ∙ (ap (λ (s : Told). after s (λ v. unchanged v [])) (delivered_step net u k f at) ∙ one_step (deliver_frame net u f)))))
-    (λ g foreign. ap (λ (t : Told). filter g t.lines) (ap (receives net u b) d ∙ received net u k b f n fit at to over) ∙ deliver_none g foreign net u f))
+    ∙ sym (clock_first net w now (as_line (step.Deliver k) ∷ []) ∙ (ap (λ (s : Transition). followed_by s (λ v. unchanged v [])) (delivered_step net u k f at) ∙ one_step (deliver_frame net u f)))))
+    (λ g foreign. ap (λ (t : Transition). filter g t.lines) (ap (receives net u b) d ∙ received net u k b f n fit at to over) ∙ deliver_none g foreign net u f))
 
 pub fault_does : (net : Net) (w : World) (left : List Publish) (b moment : ℕ) (bytes : List ℕ) (fault : FrameFault) (lines : List Report) → frame_decoded bytes ≡ Err fault → Does net w left (datagram b bytes moment) (steps_of_arrival net lines left (datagram b bytes moment))
 unfolding comes_by receives_by
@@ -227,7 +227,7 @@ fault_does net w left b moment bytes fault lines d =
     let e : comes net (numbers net.brokers) w left (datagram b bytes moment) ≡ unchanged u (line.DroppedNotFrame b (fault_number fault.kind) fault.at ∷ []) = ap (receives net u b) d in
     let r : run_all net w steps ≡ unchanged u [] = clock_first net w now [] in
     subst (λ (z : List Line). Does net w left (datagram b bytes moment) z) (sym is) (record {
-      world = ap (λ (t : Told). t.world) e ∙ sym (ap (λ (t : Told). t.world) r);
-      lines = ap (λ (t : Told). t.lines) e ∙ sym (ap₂ (λ (x y : List Report). x ++ y) (ap (λ (t : Told). t.lines) r) (ap (dropped_as b) d));
-      called = λ f k. ap (λ (t : Told). filter f t.lines) r;
+      world = ap (λ (t : Transition). t.world) e ∙ sym (ap (λ (t : Transition). t.world) r);
+      lines = ap (λ (t : Transition). t.lines) e ∙ sym (ap₂ (λ (x y : List Report). x ++ y) (ap (λ (t : Transition). t.lines) r) (ap (dropped_as b) d));
+      called = λ f k. ap (λ (t : Transition). filter f t.lines) r;
     })

@@ -13,13 +13,13 @@ use Rattle.gr_model.specs.declared.report.Report.{Report}
 use Rattle.gr_model.specs.declared.report.Report.TheVariants as line
 use Rattle.gr_model.specs.Net.{Net, is_host, numbers}
 use Rattle.gr_model.specs.Broker.{View, Log, Outcome, max_tick, marking, cutting, wake, wake_host, wake_below, asking, publish, receive}
-use Rattle.gr_model.specs.World.{World, Told, view_of, log_of, absorbed, in_turn, sent_line, sent_lines, wake_for, wake_all, deliver_frame, publish_now, deliver_frame_by, publish_now_by, wake_all_by, wake_for_by}
+use Rattle.gr_model.specs.World.{World, Transition, view_of, log_of, absorbed, in_turn, sent_line, sent_lines, wake_for, wake_all, deliver_frame, publish_now, deliver_frame_by, publish_now_by, wake_all_by, wake_for_by}
 use Rattle.gr_model.specs.Headline.{Recorded, publish_line}
 use Rattle.gr_theorems.specs.Replies.{is_reply}
 use Rattle.gr_model.specs.Arrivals.{Publish, published_first, quieted, quieted_by}
 use Rattle.gr_theorems.specs.Served.{is_dropped}
 use Rattle.gr_theorems.proofs.records.Records.{core}
-use Rattle.gr_theorems.proofs.records.RecordLines.{Skips, front, receive_none, publish_some, marking_none}
+use Rattle.gr_theorems.proofs.records.RecordLines.{Skips, host_lines, receive_none, publish_some, marking_none}
 
 -- a test that passes no line of a call
 pub record IsForeign (f : Report → Bool) : Type 0 where
@@ -65,7 +65,7 @@ module _ (f : Report → Bool) (k : IsForeign f) where
   unfolding absorbed
   absorbed_none w b p o e = none_of_both o.lines (sent_lines (suc (length w.frames)) o.frames) e (sent_none (suc (length w.frames)) o.frames)
 
-  front_none : (p now cut : ℕ) (c d : Bool) → filter f (front p now cut c d) ≡ []
+  front_none : (p now cut : ℕ) (c d : Bool) → filter f (host_lines p now cut c d) ≡ []
   front_none p now cut true true = none_of_both (line.Mark p now ∷ []) (line.Cut p cut ∷ []) (one (line.Mark p now) (k.mark p now)) (one (line.Cut p cut) (k.cut p cut))
   front_none p now cut true false = one (line.Mark p now) (k.mark p now)
   front_none p now cut false true = one (line.Cut p cut) (k.cut p cut)
@@ -82,7 +82,7 @@ module _ (f : Report → Bool) (k : IsForeign f) where
       new = cutting net p b o.view o.log
 
       go : (q : Bool) → filter f (let u : Outcome = elim q [ true ↦ wake_host net p b now v log | false ↦ wake_below net p b now v log ] in u.lines) ≡ []
-      go true = none_of_both (front p now new.cut (nat_lt log.settled o.log.settled) (nat_lt o.log.cut new.cut)) o.lines (front_none p now new.cut (nat_lt log.settled o.log.settled) (nat_lt o.log.cut new.cut)) (marking_none f net p b now v log skips)
+      go true = none_of_both (host_lines p now new.cut (nat_lt log.settled o.log.settled) (nat_lt o.log.cut new.cut)) o.lines (front_none p now new.cut (nat_lt log.settled o.log.settled) (nat_lt o.log.cut new.cut)) (marking_none f net p b now v log skips)
       go false = refl
 
   publish_line_none : (p now number : ℕ) (r : Recorded) → filter f (publish_line p now number r ∷ []) ≡ []
@@ -115,7 +115,7 @@ module _ (f : Report → Bool) (k : IsForeign f) where
 
   pub quieted_none : (net : Net) (hosted : List ℕ) (w : World) (left : List Publish) → filter f (quieted net hosted w left).lines ≡ []
   unfolding quieted_by
-  quieted_none net hosted w left = let s : Told = published_first net w left in none_of_both s.lines (in_turn (wake_all net) hosted s.world).lines (published_none net w left) (all_wakes_none net s.world hosted)
+  quieted_none net hosted w left = let s : Transition = published_first net w left in none_of_both s.lines (in_turn (wake_all net) hosted s.world).lines (published_none net w left) (all_wakes_none net s.world hosted)
 
   pub deliver_none : (net : Net) (w : World) (x : Frame) → filter f (deliver_frame net w x).lines ≡ []
   unfolding deliver_frame_by

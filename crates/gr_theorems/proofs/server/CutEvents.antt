@@ -19,7 +19,7 @@ use Rattle.gr_model.specs.declared.report.Report.{Report}
 use Rattle.gr_model.specs.declared.report.Report.TheVariants as line
 use Rattle.gr_model.specs.Net.{Net, is_host, keeps_horizon, not_empty, numbers}
 use Rattle.gr_model.specs.Broker.{View, Log, Outcome, empty_log, event_at, log_at, log_know, with_event, with_mark, with_cut, silence, learn, receive, clashes, curiosity, expect, asking, place_of, published, quieted, publish, publish_by, marking, marking_by, cutting, wake, wake_host, wake_below, expect_frames, started, done_upto, consolidated, is_kept, max_tick}
-use Rattle.gr_model.specs.World.{World, Told, view_of, log_of, absorbed, unchanged, after, in_turn, wake_for, wake_all, deliver_frame, frame_at, publish_now, publish_stopped, opened_lines, restarted, crash, greatest, sweep_moment, sweep, sweep_for, deliver_up, wake_up, hand_down, is_want, is_know_to, inwards, outwards, frames_past, sent_since, kept_events, show, next, run_from, wake_for_by, wake_all_by, deliver_frame_by, publish_now_by, publish_stopped_by, deliver_up_by, wake_up_by, hand_down_by, sweep_for_by, sweep_by, next_by, run_from_by}
+use Rattle.gr_model.specs.World.{World, Transition, view_of, log_of, absorbed, unchanged, followed_by, in_turn, wake_for, wake_all, deliver_frame, frame_at, publish_now, publish_stopped, opened_lines, restarted, crash, greatest_settled, sweep_moment, sweep, sweep_for, deliver_up, wake_up, hand_down, is_want, is_know_to, inwards, outwards, frames_past, sent_since, kept_events, show, next, run_from, wake_for_by, wake_all_by, deliver_frame_by, publish_now_by, publish_stopped_by, deliver_up_by, wake_up_by, hand_down_by, sweep_for_by, sweep_by, next_by, run_from_by}
 use Rattle.gr_pubend.specs.declared.answers.Published.TheVariants.{Logged, Already, Gap, Exhausted}
 use Rattle.gr_pubend.specs.declared.answers.Quieted.TheVariants.{NotYet, Marked}
 use Rattle.gr_theorems.proofs.calls.HostCases.{news_of}
@@ -253,13 +253,13 @@ same_publish net p b now number e v l m s = subst (λ (x : Log). SameOut (publis
 -- Worlds
 
 -- the second is the first with other logs, and has told the same lines
-pub record SameTold (t u : Told) : Type 0 where
+pub record SameTold (t u : Transition) : Type 0 where
   pub logs : List Log
   pub is : u ≡ record { world = with_logs t.world logs; lines = t.lines }
   pub same : SameLogs t.world.logs logs
 
 -- what a part of a run does over other logs is what it does, but for the logs
-abbrev pub Follows : (World → Told) → Type 0
+abbrev pub Follows : (World → Transition) → Type 0
 Follows f = (w : World) (ls : List Log) → SameLogs w.logs ls → SameTold (f w) (f (with_logs w ls))
 
 -- both outcomes are taken up
@@ -276,14 +276,14 @@ pub same_unchanged : (w : World) (ls : List Log) (told : List Report) → SameLo
 same_unchanged w ls told s = record { logs = ls; is = refl; same = s }
 
 -- one part after another
-pub same_after : (t u : Told) (f g : World → Told) → SameTold t u → ((ls : List Log) → SameLogs t.world.logs ls → SameTold (f t.world) (g (with_logs t.world ls))) → SameTold (after t f) (after u g)
+pub same_after : (t u : Transition) (f g : World → Transition) → SameTold t u → ((ls : List Log) → SameLogs t.world.logs ls → SameTold (f t.world) (g (with_logs t.world ls))) → SameTold (followed_by t f) (followed_by u g)
 same_after t u f g s h =
     let k = h s.logs s.same in
-    subst (λ (x : Told). SameTold (after t f) (after x g)) (sym s.is)
-    (record { logs = k.logs; is = ap (λ (r : Told). let x : Told = record { world = r.world; lines = t.lines ++ r.lines } in x) k.is; same = k.same })
+    subst (λ (x : Transition). SameTold (followed_by t f) (followed_by x g)) (sym s.is)
+    (record { logs = k.logs; is = ap (λ (r : Transition). let x : Transition = record { world = r.world; lines = t.lines ++ r.lines } in x) k.is; same = k.same })
 
 -- each in turn
-pub same_in_turn : {X : Type 0} (f : World → X → Told) → ((x : X) → Follows (λ u. f u x)) → (xs : List X) → Follows (in_turn f xs)
+pub same_in_turn : {X : Type 0} (f : World → X → Transition) → ((x : X) → Follows (λ u. f u x)) → (xs : List X) → Follows (in_turn f xs)
 same_in_turn f one [] w ls s = same_unchanged w ls [] s
 same_in_turn f one (x ∷ xs) w ls s = same_after (f w x) (f (with_logs w ls) x) (in_turn f xs) (in_turn f xs) (one x w ls s) (λ ms k. same_in_turn f one xs (f w x).world ms k)
 
@@ -316,8 +316,8 @@ same_deliver_up : (net : Net) (fuel : ℕ) (fs : List Frame) → Follows (delive
 unfolding deliver_up_by
 same_deliver_up net zero fs w ls s = same_unchanged w ls [] s
 same_deliver_up net (suc fuel) fs w ls s =
-    same_in_turn (λ u x. after (deliver_frame net u x) (λ y. deliver_up net fuel (filter is_want (sent_since u y)) y))
-    (λ x u ms k. let onward : World → Told = λ y. deliver_up net fuel (filter is_want (sent_since u y)) y in
+    same_in_turn (λ u x. followed_by (deliver_frame net u x) (λ y. deliver_up net fuel (filter is_want (sent_since u y)) y))
+    (λ x u ms k. let onward : World → Transition = λ y. deliver_up net fuel (filter is_want (sent_since u y)) y in
     same_after (deliver_frame net u x) (deliver_frame net (with_logs u ms) x) onward onward (same_deliver net x u ms k)
     (λ rs r. same_deliver_up net fuel (filter is_want (sent_since u (deliver_frame net u x).world)) (deliver_frame net u x).world rs r))
     fs w ls s
@@ -325,7 +325,7 @@ same_deliver_up net (suc fuel) fs w ls s =
 same_wake_up : (net : Net) (p b : ℕ) → Follows (λ w. wake_up net p w b)
 unfolding wake_up_by
 same_wake_up net p b w ls s =
-    let onward : World → Told = λ u. deliver_up net net.brokers (filter is_want (sent_since w u)) u in
+    let onward : World → Transition = λ u. deliver_up net net.brokers (filter is_want (sent_since w u)) u in
     same_after (wake_for net w b p) (wake_for net (with_logs w ls) b p) onward onward (same_wake_for net b p w ls s)
     (λ rs r. same_deliver_up net net.brokers (filter is_want (sent_since w (wake_for net w b p).world)) (wake_for net w b p).world rs r)
 
@@ -336,18 +336,18 @@ same_hand_down net p first b w ls s = same_in_turn (deliver_frame net) (λ x. sa
 same_sweep_for : (net : Net) (p : ℕ) → Follows (λ w. sweep_for net w p)
 unfolding sweep_for_by
 same_sweep_for net p w ls s =
-    let wakes : World → Told = in_turn (wake_up net p) (inwards net p) in
-    let downs : World → Told = in_turn (hand_down net p (length w.frames)) (outwards net p) in
+    let wakes : World → Transition = in_turn (wake_up net p) (inwards net p) in
+    let downs : World → Transition = in_turn (hand_down net p (length w.frames)) (outwards net p) in
     let wakes_on : Follows wakes = same_in_turn (wake_up net p) (λ b. same_wake_up net p b) (inwards net p) in
     let downs_on : Follows downs = same_in_turn (hand_down net p (length w.frames)) (λ b. same_hand_down net p (length w.frames) b) (outwards net p) in
-    same_after (after (wakes w) downs) (after (wakes (with_logs w ls)) downs) wakes wakes
+    same_after (followed_by (wakes w) downs) (followed_by (wakes (with_logs w ls)) downs) wakes wakes
     (same_after (wakes w) (wakes (with_logs w ls)) downs downs (wakes_on w ls s) (λ rs r. downs_on (wakes w).world rs r))
-    (λ rs r. wakes_on (after (wakes w) downs).world rs r)
+    (λ rs r. wakes_on (followed_by (wakes w) downs).world rs r)
 
 -- the moment of a sweep
 same_moment : (net : Net) (w : World) (ls : List Log) → SameLogs w.logs ls → sweep_moment net (with_logs w ls) ≡ sweep_moment net w
 unfolding sweep_moment
-same_moment net w ls s = ap (λ (ns : List ℕ). max w.most (greatest ns) + net.gap + net.idle + net.retry + net.quiet + 1) (settled_same w.logs ls s)
+same_moment net w ls s = ap (λ (ns : List ℕ). max w.most (greatest_settled ns) + net.gap + net.idle + net.retry + net.quiet + 1) (settled_same w.logs ls s)
   where
     settled_same : (ls ms : List Log) → SameLogs ls ms → map (λ l. l.settled) ms ≡ map (λ l. l.settled) ls
     settled_same [] [] s = refl
@@ -363,18 +363,18 @@ same_sweep net k w ls s =
     moved : World → ℕ → World
     moved u m = record { clock = m; most = max m u.most; frames = u.frames; views = u.views; logs = u.logs }
 
-    by_test : World → ℕ → Bool → Told
-    by_test u m q = elim q [ true ↦ unchanged u (line.RefusedClock k m ∷ []) | false ↦ after (in_turn (sweep_for net) (numbers net.publishers) (moved u m)) (λ x. unchanged x (line.Swept m ∷ [])) ]
+    by_test : World → ℕ → Bool → Transition
+    by_test u m q = elim q [ true ↦ unchanged u (line.RefusedClock k m ∷ []) | false ↦ followed_by (in_turn (sweep_for net) (numbers net.publishers) (moved u m)) (λ x. unchanged x (line.Swept m ∷ [])) ]
 
-    told : World → ℕ → Told
+    told : World → ℕ → Transition
     told u m = by_test u m (nat_lt max_tick m)
 
     go : (q : Bool) → SameTold (by_test w (sweep_moment net w) q) (by_test (with_logs w ls) (sweep_moment net w) q)
     go true = same_unchanged w ls (line.RefusedClock k (sweep_moment net w) ∷ []) s
     go false =
         let m = sweep_moment net w in
-        let swept : World → Told = in_turn (sweep_for net) (numbers net.publishers) in
-        let last : World → Told = λ x. unchanged x (line.Swept m ∷ []) in
+        let swept : World → Transition = in_turn (sweep_for net) (numbers net.publishers) in
+        let last : World → Transition = λ x. unchanged x (line.Swept m ∷ []) in
         same_after (swept (moved w m)) (swept (with_logs (moved w m) ls)) last last (same_in_turn (sweep_for net) (λ p. same_sweep_for net p) (numbers net.publishers) (moved w m) ls s) (λ rs r. same_unchanged (swept (moved w m)).world rs (line.Swept m ∷ []) r)
 
 -- Starting again, and what is shown
@@ -409,7 +409,7 @@ restarted_logs net w b ls s = s
 same_restart : (net : Net) (w : World) (ls : List Log) (b : ℕ) (told : List Report) → SameLogs w.logs ls → SameTold (record { world = restarted net w b; lines = told ++ opened_lines net w.logs b }) (record { world = restarted net (with_logs w ls) b; lines = told ++ opened_lines net ls b })
 same_restart net w ls b told s = record {
   logs = ls;
-  is = ap₂ (λ (u : World) (more : List Report). let t : Told = record { world = u; lines = told ++ more } in t) (same_restarted net w ls b s) (same_opened net w.logs ls b s);
+  is = ap₂ (λ (u : World) (more : List Report). let t : Transition = record { world = u; lines = told ++ more } in t) (same_restarted net w ls b s) (same_opened net w.logs ls b s);
   same = restarted_logs net w b ls s;
 }
 
@@ -450,13 +450,13 @@ same_stopped net k p number stop e w ls s = by_log (get_or ls p empty_log) refl 
     logs_of : List Log → Log → Bool → List Log
     logs_of old new kept = if kept then set old p (with_event new tick e) else old
 
-    stopped : World → Log → Bool → Told
+    stopped : World → Log → Bool → Transition
     stopped u new kept = record {
       world = restarted net (with_logs u (logs_of u.logs new kept)) b;
       lines = line.Crashed b ∷ ((if kept then line.Kept p number tick else line.Lost p number tick) ∷ opened_lines net (logs_of u.logs new kept) b);
     }
 
-    told : World → Log → Bool → Bool → Bool → Told
+    told : World → Log → Bool → Bool → Bool → Transition
     told u new here next kept = elim here [ true ↦ unchanged u (line.RefusedHosts k b ∷ []) | false ↦ elim next [ false ↦ publish_now net u p number e | true ↦ stopped u new kept ] ]
 
     go : (m : Log) → SameLog log m → (here next kept : Bool) → SameTold (told w log here next kept) (told (with_logs w ls) m here next kept)
@@ -466,7 +466,7 @@ same_stopped net k p number stop e w ls s = by_log (get_or ls p empty_log) refl 
         same_restart net (with_logs w (set w.logs p (with_event log tick e))) (set ls p (with_event m tick e)) b (line.Crashed b ∷ (line.Kept p number tick ∷ [])) (same_set w.logs ls p (with_event log tick e) (with_event m tick e) s (same_longer log m tick e h))
     go m h false true false = same_restart net w ls b (line.Crashed b ∷ (line.Lost p number tick ∷ [])) s
 
-    all : Log → World → Told
+    all : Log → World → Transition
     all m u = let at = max (suc m.settled) u.clock in elim (not_empty (net.subscribers_at b)) [
       | true ↦ unchanged u (line.RefusedHosts k b ∷ [])
       | false ↦ elim (nat_eq number (suc m.last) && nat_le at max_tick) [
@@ -491,7 +491,7 @@ pub same_next : (net : Net) (l : Line) → Follows (λ w. next net w l)
 unfolding next_by
 same_next net l w ls s = go l.step
   where
-    told : Step → World → Told
+    told : Step → World → Transition
     told z u = elim z [
       | step.Clock now ↦ unchanged (record { clock = now; most = max now u.most; frames = u.frames; views = u.views; logs = u.logs }) []
       | step.Publish p number stop e ↦ elim stop [ None ↦ publish_now net u p number e | Some x ↦ publish_stopped net u l.number p number x e ]
@@ -503,15 +503,15 @@ same_next net l w ls s = go l.step
       | step.Bytes k ↦ elim (frame_at u k) [ None ↦ unchanged u (line.RefusedFrame l.number k (length u.frames) ∷ []) | Some f ↦ unchanged u (line.BytesOf k (frame_bytes f) ∷ []) ]
     ]
 
-    delivered : (k : ℕ) (o : Option Frame) → (let f : World → Told = λ u. elim o [ None ↦ unchanged u (line.RefusedFrame l.number k (length u.frames) ∷ []) | Some x ↦ deliver_frame net u x ] in SameTold (f w) (f (with_logs w ls)))
+    delivered : (k : ℕ) (o : Option Frame) → (let f : World → Transition = λ u. elim o [ None ↦ unchanged u (line.RefusedFrame l.number k (length u.frames) ∷ []) | Some x ↦ deliver_frame net u x ] in SameTold (f w) (f (with_logs w ls)))
     delivered k None = same_unchanged w ls (line.RefusedFrame l.number k (length w.frames) ∷ []) s
     delivered k (Some x) = same_deliver net x w ls s
 
-    bytes_shown : (k : ℕ) (o : Option Frame) → (let f : World → Told = λ u. elim o [ None ↦ unchanged u (line.RefusedFrame l.number k (length u.frames) ∷ []) | Some x ↦ unchanged u (line.BytesOf k (frame_bytes x) ∷ []) ] in SameTold (f w) (f (with_logs w ls)))
+    bytes_shown : (k : ℕ) (o : Option Frame) → (let f : World → Transition = λ u. elim o [ None ↦ unchanged u (line.RefusedFrame l.number k (length u.frames) ∷ []) | Some x ↦ unchanged u (line.BytesOf k (frame_bytes x) ∷ []) ] in SameTold (f w) (f (with_logs w ls)))
     bytes_shown k None = same_unchanged w ls (line.RefusedFrame l.number k (length w.frames) ∷ []) s
     bytes_shown k (Some x) = same_unchanged w ls (line.BytesOf k (frame_bytes x) ∷ []) s
 
-    crashed : (b : ℕ) (q : Bool) → (let f : World → Told = λ u. elim q [ true ↦ unchanged u (line.RefusedHosts l.number b ∷ []) | false ↦ crash net u b ] in SameTold (f w) (f (with_logs w ls)))
+    crashed : (b : ℕ) (q : Bool) → (let f : World → Transition = λ u. elim q [ true ↦ unchanged u (line.RefusedHosts l.number b ∷ []) | false ↦ crash net u b ] in SameTold (f w) (f (with_logs w ls)))
     crashed b true = same_unchanged w ls (line.RefusedHosts l.number b ∷ []) s
     crashed b false = same_crash net b w ls s
 
@@ -532,4 +532,4 @@ unfolding run_from_by
 same_run net w ls [] s = refl
 same_run net w ls (l ∷ rest) s =
     let k = same_next net l w ls s in
-    ap (λ (t : Told). t.lines ∷ run_from net t.world rest) k.is ∙ ap (λ (rs : List (List Report)). (next net w l).lines ∷ rs) (same_run net (next net w l).world k.logs rest k.same)
+    ap (λ (t : Transition). t.lines ∷ run_from net t.world rest) k.is ∙ ap (λ (rs : List (List Report)). (next net w l).lines ∷ rs) (same_run net (next net w l).world k.logs rest k.same)

@@ -23,15 +23,15 @@ use Rattle.gr_model.specs.declared.report.Report.{Report}
 use Rattle.gr_model.specs.declared.report.Report.TheVariants as line
 use Rattle.gr_model.specs.Net.{Net, keeps_horizon, not_empty, numbers}
 use Rattle.gr_model.specs.Broker.{View, Log, empty_log, with_event, max_tick, learn, started}
-use Rattle.gr_model.specs.World.{World, Told, view_of, log_of, unchanged, in_turn, absorbed, wake_all, deliver_frame, kept_events, next, run_all, run_from}
-use Rattle.gr_model.specs.Opening.{found_log, over_logs, found_line, opened_for, publishers_at, opening, begin_over, opened_for_by, opening_by}
+use Rattle.gr_model.specs.World.{World, Transition, view_of, log_of, unchanged, in_turn, absorbed, wake_all, deliver_frame, kept_events, next, run_all, run_from}
+use Rattle.gr_model.specs.Opening.{reopened_log, over_logs, reopened_line, opened_for, publishers_at, opening, begin_over, opened_for_by, opening_by}
 use Rattle.gr_model.specs.Headline.{Holds_from}
 use Rattle.gr_model.specs.Arrivals.{Arrival, datagram, quiet, Publish, publishes_of, left_after, at_moment, fits_broker, least_clash, clash_line, fault_number, takes, receives, published_first, quieted, comes, is_hosted, show_hosted, served_from, served, arrived, takes_by, receives_by, quieted_by, comes_by, served_from_by, arrived_by, served_by}
 use Rattle.gr_model.specs.Tree.{IsNet}
 use Rattle.gr_theorems.specs.Said.{said_at, TicksRise}
 use Rattle.gr_theorems.specs.Fits.{StepsIn}
 use Rattle.gr_theorems.specs.Spelled.{NumbersIn}
-use Rattle.gr_theorems.specs.Found.{IsFound, AreFound}
+use Rattle.gr_theorems.specs.Found.{IsReopened, AreReopened}
 use Rattle.gr_theorems.specs.Served.{IsHonestRun, HeadlineServed}
 use Rattle.gr_theorems.specs.Statements.{opened_over}
 use Rattle.gr_theorems.specs.Lanes.{AllFollow, whole_logs, found_logs, past_cut, DifferInCut, HoldsOverLanes, HoldsServedLanes, CutEventsSilent}
@@ -57,7 +57,7 @@ events_in cut settled [] l a = tt
 events_in cut settled (x ∷ xs) l a = ((omega (arith, l, a.0.upto), a.0.event), events_in cut settled xs l a.1)
 
 -- a settled log is an old log
-found_by : (log : Log) → IsSettled log → IsFound log
+found_by : (log : Log) → IsSettled log → IsReopened log
 found_by log s = record {
   fits = record {
     rise = rise_low log.cut 0 log.events (omega arith) s.rise;
@@ -73,15 +73,15 @@ follow_at [] p a = tt
 follow_at (rs ∷ lanes) zero a = a.0
 follow_at (rs ∷ lanes) (suc p) a = follow_at lanes p a.1
 
-found_at : (lanes : List (List Record)) (p : ℕ) → found_log (found_logs lanes) p ≡ found_of (get_or lanes p [])
+found_at : (lanes : List (List Record)) (p : ℕ) → reopened_log (found_logs lanes) p ≡ found_of (get_or lanes p [])
 found_at lanes p = get_map found_of lanes p []
 
-whole_at : (lanes : List (List Record)) (p : ℕ) → found_log (whole_logs lanes) p ≡ lane.log_of (get_or lanes p [])
+whole_at : (lanes : List (List Record)) (p : ℕ) → reopened_log (whole_logs lanes) p ≡ lane.log_of (get_or lanes p [])
 whole_at lanes p = get_map lane.log_of lanes p []
 
 -- so the logs that are found of lanes are old logs
-pub are_found : (net : Net) (lanes : List (List Record)) → AllFollow lanes → AreFound net (found_logs lanes)
-are_found net lanes a p = subst IsFound (sym (found_at lanes p)) (found_by (found_of (get_or lanes p [])) (found_settled (get_or lanes p []) (follow_at lanes p a)))
+pub are_found : (net : Net) (lanes : List (List Record)) → AllFollow lanes → AreReopened net (found_logs lanes)
+are_found net lanes a p = subst IsReopened (sym (found_at lanes p)) (found_by (found_of (get_or lanes p [])) (found_settled (get_or lanes p []) (follow_at lanes p a)))
 
 -- The log of all records has the same events past its cut
 
@@ -110,9 +110,9 @@ found_whole rs f =
       past_same = past_of (state_of rs).cut empty_log rs ∙ sym (past_live (state_of rs).cut (state_of rs).settled (pairs (live_events rs)) (found_settled rs f).live);
     }
 
-lanes_same : (lanes : List (List Record)) (p : ℕ) → AllFollow lanes → SameLog (found_log (found_logs lanes) p) (found_log (whole_logs lanes) p)
+lanes_same : (lanes : List (List Record)) (p : ℕ) → AllFollow lanes → SameLog (reopened_log (found_logs lanes) p) (reopened_log (whole_logs lanes) p)
 lanes_same lanes p a =
-    subst (λ (l : Log). SameLog l (found_log (whole_logs lanes) p)) (sym (found_at lanes p))
+    subst (λ (l : Log). SameLog l (reopened_log (whole_logs lanes) p)) (sym (found_at lanes p))
     (subst (λ (m : Log). SameLog (found_of (get_or lanes p [])) m) (sym (whole_at lanes p)) (found_whole (get_or lanes p []) (follow_at lanes p a)))
 
 -- The opening
@@ -120,17 +120,17 @@ lanes_same lanes p a =
 same_opened_for : (net : Net) (p : ℕ) → Follows (λ w. opened_for net w p)
 unfolding opened_for_by
 same_opened_for net p w ls s =
-    same_after (unchanged w (found_line (log_of w p) p)) (unchanged (with_logs w ls) (found_line (get_or ls p empty_log) p)) learned learned
-    (let h = same_get w.logs ls p s in record { logs = ls; is = ap (λ (l : Log). unchanged (with_logs w ls) (found_line l p)) h.is; same = s })
+    same_after (unchanged w (reopened_line (log_of w p) p)) (unchanged (with_logs w ls) (reopened_line (get_or ls p empty_log) p)) learned learned
+    (let h = same_get w.logs ls p s in record { logs = ls; is = ap (λ (l : Log). unchanged (with_logs w ls) (reopened_line l p)) h.is; same = s })
     (λ ms r. go (not_empty (net.subscribers_at (net.host p))) ms r)
   where
-    by_test : Bool → World → Told
+    by_test : Bool → World → Transition
     by_test q u = elim q [
       | true ↦ absorbed u (net.host p) p (learn net p (net.host p) [] (view_of u (net.host p) p) (log_of u p))
       | false ↦ unchanged u []
     ]
 
-    learned : World → Told
+    learned : World → Transition
     learned u = by_test (not_empty (net.subscribers_at (net.host p))) u
 
     go : (q : Bool) (ms : List Log) → SameLogs w.logs ms → SameTold (by_test q w) (by_test q (with_logs w ms))
@@ -140,15 +140,15 @@ same_opened_for net p w ls s =
     go false ms r = same_unchanged w ms [] r
 
 -- brokers that have just started know the same
-same_over : (net : Net) (ls ms : List Log) → ((p : ℕ) → SameLog (found_log ls p) (found_log ms p)) → over_logs net ms ≡ with_logs (over_logs net ls) (map (found_log ms) (numbers net.publishers))
+same_over : (net : Net) (ls ms : List Log) → ((p : ℕ) → SameLog (reopened_log ls p) (reopened_log ms p)) → over_logs net ms ≡ with_logs (over_logs net ls) (map (reopened_log ms) (numbers net.publishers))
 unfolding over_logs
-same_over net ls ms h = ap (λ (views : List (List View)). let w : World = record { clock = 0; most = 0; frames = []; views = views; logs = map (found_log ms) (numbers net.publishers) } in w) (rows (numbers net.brokers))
+same_over net ls ms h = ap (λ (views : List (List View)). let w : World = record { clock = 0; most = 0; frames = []; views = views; logs = map (reopened_log ms) (numbers net.publishers) } in w) (rows (numbers net.brokers))
   where
-    row : (b : ℕ) (ps : List ℕ) → map (λ p. started net p b (found_log ms p)) ps ≡ map (λ p. started net p b (found_log ls p)) ps
+    row : (b : ℕ) (ps : List ℕ) → map (λ p. started net p b (reopened_log ms p)) ps ≡ map (λ p. started net p b (reopened_log ls p)) ps
     row b [] = refl
-    row b (p ∷ ps) = ap₂ (λ (x : View) (xs : List View). x ∷ xs) (same_started net p b (found_log ls p) (found_log ms p) (h p)) (row b ps)
+    row b (p ∷ ps) = ap₂ (λ (x : View) (xs : List View). x ∷ xs) (same_started net p b (reopened_log ls p) (reopened_log ms p) (h p)) (row b ps)
 
-    rows : (bs : List ℕ) → map (λ b. map (λ p. started net p b (found_log ms p)) (numbers net.publishers)) bs ≡ map (λ b. map (λ p. started net p b (found_log ls p)) (numbers net.publishers)) bs
+    rows : (bs : List ℕ) → map (λ b. map (λ p. started net p b (reopened_log ms p)) (numbers net.publishers)) bs ≡ map (λ b. map (λ p. started net p b (reopened_log ls p)) (numbers net.publishers)) bs
     rows [] = refl
     rows (b ∷ bs) = ap₂ (λ (x : List View) (xs : List (List View)). x ∷ xs) (row b (numbers net.publishers)) (rows bs)
 
@@ -156,15 +156,15 @@ all_same : (ls ms : ℕ → Log) (ps : List ℕ) → ((p : ℕ) → SameLog (ls 
 all_same ls ms [] h = tt
 all_same ls ms (p ∷ ps) h = (h p, all_same ls ms ps h)
 
-over_same : (net : Net) (ls ms : List Log) → ((p : ℕ) → SameLog (found_log ls p) (found_log ms p)) → SameLogs (over_logs net ls).logs (map (found_log ms) (numbers net.publishers))
+over_same : (net : Net) (ls ms : List Log) → ((p : ℕ) → SameLog (reopened_log ls p) (reopened_log ms p)) → SameLogs (over_logs net ls).logs (map (reopened_log ms) (numbers net.publishers))
 unfolding over_logs
-over_same net ls ms h = all_same (found_log ls) (found_log ms) (numbers net.publishers) h
+over_same net ls ms h = all_same (reopened_log ls) (reopened_log ms) (numbers net.publishers) h
 
-same_opening : (net : Net) (hosted : List ℕ) (ls ms : List Log) → ((p : ℕ) → SameLog (found_log ls p) (found_log ms p)) → SameTold (opening net hosted ls) (opening net hosted ms)
+same_opening : (net : Net) (hosted : List ℕ) (ls ms : List Log) → ((p : ℕ) → SameLog (reopened_log ls p) (reopened_log ms p)) → SameTold (opening net hosted ls) (opening net hosted ms)
 unfolding opening_by
 same_opening net hosted ls ms h =
     subst (λ (u : World). SameTold (in_turn (opened_for net) (publishers_at net hosted) (over_logs net ls)) (in_turn (opened_for net) (publishers_at net hosted) u)) (sym (same_over net ls ms h))
-    (same_in_turn (opened_for net) (λ p. same_opened_for net p) (publishers_at net hosted) (over_logs net ls) (map (found_log ms) (numbers net.publishers)) (over_same net ls ms h))
+    (same_in_turn (opened_for net) (λ p. same_opened_for net p) (publishers_at net hosted) (over_logs net ls) (map (reopened_log ms) (numbers net.publishers)) (over_same net ls ms h))
 
 -- Arrivals
 
@@ -172,7 +172,7 @@ same_takes : (net : Net) (b : ℕ) (f : Frame) → Follows (λ w. takes net w b 
 unfolding takes_by
 same_takes net b f w ls s = go (least_clash (view_of w b f.head.publisher).know f)
   where
-    go : (o : Option ℕ) → (let t : World → Told = λ u. elim o [ Some t ↦ unchanged u (clash_line b (view_of w b f.head.publisher).know f t ∷ []) | None ↦ deliver_frame net u f ] in SameTold (t w) (t (with_logs w ls)))
+    go : (o : Option ℕ) → (let t : World → Transition = λ u. elim o [ Some t ↦ unchanged u (clash_line b (view_of w b f.head.publisher).know f t ∷ []) | None ↦ deliver_frame net u f ] in SameTold (t w) (t (with_logs w ls)))
     go None = same_deliver net f w ls s
     go (Some t) = same_unchanged w ls (clash_line b (view_of w b f.head.publisher).know f t ∷ []) s
 
@@ -181,7 +181,7 @@ unfolding receives_by
 same_receives net b (Err fault) w ls s = same_unchanged w ls (line.DroppedNotFrame b (fault_number fault.kind) fault.at ∷ []) s
 same_receives net b (Ok f) w ls s = go (fits_broker net b f)
   where
-    go : (q : Bool) → (let t : World → Told = λ u. elim q [ false ↦ unchanged u (line.DroppedStray b f.head.from f.head.to f.head.publisher ∷ []) | true ↦ takes net u b f ] in SameTold (t w) (t (with_logs w ls)))
+    go : (q : Bool) → (let t : World → Transition = λ u. elim q [ false ↦ unchanged u (line.DroppedStray b f.head.from f.head.to f.head.publisher ∷ []) | true ↦ takes net u b f ] in SameTold (t w) (t (with_logs w ls)))
     go true = same_takes net b f w ls s
     go false = same_unchanged w ls (line.DroppedStray b f.head.from f.head.to f.head.publisher ∷ []) s
 
@@ -192,7 +192,7 @@ same_first net (x ∷ left) w ls s = same_publish_now net x.0 x.1.0 x.1.1 w ls s
 same_quieted : (net : Net) (hosted : List ℕ) (left : List Publish) → Follows (λ w. quieted net hosted w left)
 unfolding quieted_by
 same_quieted net hosted left w ls s =
-    let wakes : World → Told = in_turn (wake_all net) hosted in
+    let wakes : World → Transition = in_turn (wake_all net) hosted in
     same_after (published_first net w left) (published_first net (with_logs w ls) left) wakes wakes (same_first net left w ls s)
     (λ ms r. same_in_turn (wake_all net) (λ b. same_wake_all net b) hosted (published_first net w left).world ms r)
 
@@ -223,8 +223,8 @@ unfolding served_from_by
 same_served_from net hosted left [] w ls s = ap (λ (r : List Report). r ∷ []) (same_show_hosted net hosted w ls s)
 same_served_from net hosted left (a ∷ arrivals) w ls s =
     let k = same_comes net hosted left a w ls s in
-    let t : Told = comes net hosted w left a in
-    ap (λ (u : Told). u.lines ∷ served_from net hosted u.world (left_after left a) arrivals) k.is ∙ ap (λ (rs : List (List Report)). t.lines ∷ rs) (same_served_from net hosted (left_after left a) arrivals t.world k.logs k.same)
+    let t : Transition = comes net hosted w left a in
+    ap (λ (u : Transition). u.lines ∷ served_from net hosted u.world (left_after left a) arrivals) k.is ∙ ap (λ (rs : List (List Report)). t.lines ∷ rs) (same_served_from net hosted (left_after left a) arrivals t.world k.logs k.same)
 
 -- Worlds
 
@@ -248,15 +248,15 @@ same_stepped : (net : Net) (steps : List Line) (w : World) (ls : List Log) → S
 same_stepped net [] w ls s = differ w ls s
 same_stepped net (l ∷ steps) w ls s =
     let k = same_next net l w ls s in
-    subst (λ (t : Told). DifferInCut (run_all net (next net w l).world steps).world (run_all net t.world steps).world) (sym k.is) (same_stepped net steps (next net w l).world k.logs k.same)
+    subst (λ (t : Transition). DifferInCut (run_all net (next net w l).world steps).world (run_all net t.world steps).world) (sym k.is) (same_stepped net steps (next net w l).world k.logs k.same)
 
 same_arrived : (net : Net) (hosted : List ℕ) (left : List Publish) (arrivals : List Arrival) (w : World) (ls : List Log) → SameLogs w.logs ls → DifferInCut (arrived net hosted w left arrivals) (arrived net hosted (with_logs w ls) left arrivals)
 unfolding arrived_by
 same_arrived net hosted left [] w ls s = differ w ls s
 same_arrived net hosted left (a ∷ arrivals) w ls s =
     let k = same_comes net hosted left a w ls s in
-    let t : Told = comes net hosted w left a in
-    subst (λ (u : Told). DifferInCut (arrived net hosted t.world (left_after left a) arrivals) (arrived net hosted u.world (left_after left a) arrivals)) (sym k.is) (same_arrived net hosted (left_after left a) arrivals t.world k.logs k.same)
+    let t : Transition = comes net hosted w left a in
+    subst (λ (u : Transition). DifferInCut (arrived net hosted t.world (left_after left a) arrivals) (arrived net hosted u.world (left_after left a) arrivals)) (sym k.is) (same_arrived net hosted (left_after left a) arrivals t.world k.logs k.same)
 
 -- Lanes
 
@@ -266,36 +266,36 @@ opened_same net lanes a = same_opening net (numbers net.brokers) (found_logs lan
 lines_same : (net : Net) (lanes : List (List Record)) (steps : List Line) → AllFollow lanes → run_from net (opened_over net (whole_logs lanes)).world steps ≡ run_from net (opened_over net (found_logs lanes)).world steps
 lines_same net lanes steps a =
     let k = opened_same net lanes a in
-    ap (λ (t : Told). run_from net t.world steps) k.is ∙ same_run net (opened_over net (found_logs lanes)).world k.logs steps k.same
+    ap (λ (t : Transition). run_from net t.world steps) k.is ∙ same_run net (opened_over net (found_logs lanes)).world k.logs steps k.same
 
 served_lanes : (net : Net) (lanes : List (List Record)) (steps : List Line) (arrivals : List Arrival) → AllFollow lanes → served net (numbers net.brokers) (whole_logs lanes) steps arrivals ≡ served net (numbers net.brokers) (found_logs lanes) steps arrivals
 unfolding served_by
 served_lanes net lanes steps arrivals a =
     let k = opened_same net lanes a in
     let all : List ℕ = numbers net.brokers in
-    let o : Told = opened_over net (found_logs lanes) in
-    ap (λ (t : Told). t.lines ∷ served_from net all t.world (publishes_of net all steps) arrivals) k.is
+    let o : Transition = opened_over net (found_logs lanes) in
+    ap (λ (t : Transition). t.lines ∷ served_from net all t.world (publishes_of net all steps) arrivals) k.is
     ∙ ap (λ (rs : List (List Report)). o.lines ∷ rs) (same_served_from net all (publishes_of net all steps) arrivals o.world k.logs k.same)
 
 pub cut_events_silent : (net : Net) (lanes : List (List Record)) → AllFollow lanes → CutEventsSilent net lanes
 cut_events_silent net lanes a =
     let k = opened_same net lanes a in
-    let o : Told = opened_over net (found_logs lanes) in
+    let o : Transition = opened_over net (found_logs lanes) in
     record {
-      stepped = λ steps. subst (λ (t : Told). DifferInCut (run_all net o.world steps).world (run_all net t.world steps).world) (sym k.is) (same_stepped net steps o.world k.logs k.same);
+      stepped = λ steps. subst (λ (t : Transition). DifferInCut (run_all net o.world steps).world (run_all net t.world steps).world) (sym k.is) (same_stepped net steps o.world k.logs k.same);
       lines = λ steps. lines_same net lanes steps a;
       served_same = λ steps arrivals. served_lanes net lanes steps arrivals a;
       arrived_same = λ steps arrivals.
           let all : List ℕ = numbers net.brokers in
           let left : List Publish = publishes_of net all steps in
-          subst (λ (t : Told). DifferInCut (arrived net all o.world left arrivals) (arrived net all t.world left arrivals)) (sym k.is) (same_arrived net all left arrivals o.world k.logs k.same);
+          subst (λ (t : Transition). DifferInCut (arrived net all o.world left arrivals) (arrived net all t.world left arrivals)) (sym k.is) (same_arrived net all left arrivals o.world k.logs k.same);
     }
 
 pub holds_over_lanes : (net : Net) (lanes : List (List Record)) (steps : List Line) → IsNet net → 1 ≤ net.quiet → 1 ≤ net.retry → AllFollow lanes → StepsIn net steps → HoldsOverLanes net lanes steps
 holds_over_lanes net lanes steps n z r a i =
     let k = opened_same net lanes a in
     let founds = found_logs lanes in
-    subst (λ (ls : List Report). Holds_from net (begin_over net founds ls) steps (run_from net (opened_over net (whole_logs lanes)).world steps)) (sym (ap (λ (t : Told). t.lines) k.is))
+    subst (λ (ls : List Report). Holds_from net (begin_over net founds ls) steps (run_from net (opened_over net (whole_logs lanes)).world steps)) (sym (ap (λ (t : Transition). t.lines) k.is))
     (subst (λ (rs : List (List Report)). Holds_from net (begin_over net founds (opened_over net founds).lines) steps rs) (sym (lines_same net lanes steps a)) (headline_over_logs net founds steps n z r (are_found net lanes a) i))
 
 pub holds_served_lanes : (net : Net) (lanes : List (List Record)) (steps : List Line) (arrivals : List Arrival) → IsNet net → IsSmall net → 1 ≤ net.quiet → 1 ≤ net.retry → AllFollow lanes → StepsIn net steps → NumbersIn steps →

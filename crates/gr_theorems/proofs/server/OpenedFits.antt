@@ -4,11 +4,11 @@ use Rattle.gr_sched.specs.declared.step.Line.{Line}
 use Rattle.gr_model.specs.declared.report.Report.{Report}
 use Rattle.gr_model.specs.Net.{Net, not_empty, numbers}
 use Rattle.gr_model.specs.Broker.{Log, learn}
-use Rattle.gr_model.specs.World.{World, Told, view_of, log_of, absorbed, unchanged, in_turn}
-use Rattle.gr_model.specs.Opening.{found_log, over_logs, opened_for, publishers_at, opened_for_by, opening_by}
+use Rattle.gr_model.specs.World.{World, Transition, view_of, log_of, absorbed, unchanged, in_turn}
+use Rattle.gr_model.specs.Opening.{reopened_log, over_logs, opened_for, publishers_at, opened_for_by, opening_by}
 use Rattle.gr_model.specs.Tree.{IsNet}
 use Rattle.gr_theorems.specs.Fits.{StepsIn}
-use Rattle.gr_theorems.specs.Found.{AreFound}
+use Rattle.gr_theorems.specs.Found.{AreReopened}
 use Rattle.gr_theorems.specs.Standing.{Fits}
 use Rattle.gr_theorems.specs.OverLogs.{began_over, world_over, history_over, StandsOver}
 use Rattle.gr_theorems.proofs.runs.Worlds.{Each}
@@ -27,8 +27,8 @@ turn_final : (net : Net) (logs : List Log) (w : World) (ls : List Report) (p : �
 unfolding opened_for_by
 turn_final net logs w ls p n z j o a = go (not_empty (net.subscribers_at (net.host p)))
   where
-    go : (q : Bool) → AllFinal net (let t : Told = elim q [ true ↦ absorbed w (net.host p) p (learn net p (net.host p) [] (view_of w (net.host p) p) (log_of w p)) | false ↦ unchanged w [] ] in t.world)
-    go true = subst (λ (t : Told). AllFinal net t.world) (delivered_nothing net w p n o.fits j) ((final_closed net n z).calls.delivered w (nothing net p) o.fits (nothing_is_true net w p n j) tt a)
+    go : (q : Bool) → AllFinal net (let t : Transition = elim q [ true ↦ absorbed w (net.host p) p (learn net p (net.host p) [] (view_of w (net.host p) p) (log_of w p)) | false ↦ unchanged w [] ] in t.world)
+    go true = subst (λ (t : Transition). AllFinal net t.world) (delivered_nothing net w p n o.fits j) ((final_closed net n z).calls.delivered w (nothing net p) o.fits (nothing_is_true net w p n j) tt a)
     go false = a
 
 turns_final : (net : Net) (logs : List Log) (w : World) (ls : List Report) (ps : List ℕ) → IsNet net → 1 ≤ net.quiet → Each (λ p. p < net.publishers) ps → Opening net logs w ls → AllFinal net w → AllFinal net (in_turn (opened_for net) ps w).world
@@ -37,16 +37,16 @@ turns_final net logs w ls (p ∷ ps) n z b o a =
     let t = opened_for net w p in
     turns_final net logs t.world (ls ++ t.lines) ps n z b.1 (opening_turn net logs w ls p n b.0 o) (turn_final net logs w ls p n z b.0 o a)
 
-pub opened_final : (net : Net) (logs : List Log) → IsNet net → 1 ≤ net.quiet → AreFound net logs → AllFinal net (all_opened net logs).world
+pub opened_final : (net : Net) (logs : List Log) → IsNet net → 1 ≤ net.quiet → AreReopened net logs → AllFinal net (all_opened net logs).world
 unfolding opening_by
-opened_final net logs n z a = turns_final net logs (over_logs net logs) [] (publishers_at net (numbers net.brokers)) n z (publishers_below net (numbers net.brokers)) (over_opening net logs n a) (all_started net (over_logs net logs) (found_log logs) (λ p b j i. over_view net logs b p i j))
+opened_final net logs n z a = turns_final net logs (over_logs net logs) [] (publishers_at net (numbers net.brokers)) n z (publishers_below net (numbers net.brokers)) (over_opening net logs n a) (all_started net (over_logs net logs) (reopened_log logs) (λ p b j i. over_view net logs b p i j))
 
 -- over old logs, after every schedule
-pub fits_over_logs : (net : Net) (logs : List Log) (steps : List Line) → IsNet net → 1 ≤ net.quiet → 1 ≤ net.retry → AreFound net logs → StepsIn net steps → Fits net (history_over net logs steps) (world_over net logs steps)
+pub fits_over_logs : (net : Net) (logs : List Log) (steps : List Line) → IsNet net → 1 ≤ net.quiet → 1 ≤ net.retry → AreReopened net logs → StepsIn net steps → Fits net (history_over net logs steps) (world_over net logs steps)
 fits_over_logs net logs steps n z r a i = fits_run net (all_opened net logs).world (began_over net logs) steps n z r i (opened_whole net logs n a) (opened net logs n a).unknown (opened_final net logs n z a)
 
 -- and all else that holds of every run
-pub stands_over_logs : (net : Net) (logs : List Log) (steps : List Line) → IsNet net → 1 ≤ net.quiet → 1 ≤ net.retry → AreFound net logs → StepsIn net steps → StandsOver net logs steps
+pub stands_over_logs : (net : Net) (logs : List Log) (steps : List Line) → IsNet net → 1 ≤ net.quiet → 1 ≤ net.retry → AreReopened net logs → StepsIn net steps → StandsOver net logs steps
 stands_over_logs net logs steps n z r a i =
     let w = (all_opened net logs).world in
     let h = began_over net logs in

@@ -11,19 +11,19 @@ use Rattle.gr_frame.specs.declared.Frame.{Frame}
 use Rattle.gr_model.specs.declared.report.Report.{Report}
 use Rattle.gr_model.specs.declared.report.Report.TheVariants as line
 use Rattle.gr_model.specs.Net.{Net, is_host, keeps_horizon, not_empty, numbers, numbers_from}
-use Rattle.gr_model.specs.Broker.{View, Log, data_ticks, got_line, told, learn, started}
-use Rattle.gr_model.specs.World.{World, Told, view_of, log_of, absorbed, unchanged, in_turn, sent_lines}
-use Rattle.gr_model.specs.Opening.{over_logs, found_line, opened_for, publishers_at, opening, opened_for_by, opening_by}
-use Rattle.gr_theorems.specs.Found.{AreFound, got_at_once, told_at_opening}
+use Rattle.gr_model.specs.Broker.{View, Log, data_ticks, got_line, delivery_lines, learn, started}
+use Rattle.gr_model.specs.World.{World, Transition, view_of, log_of, absorbed, unchanged, in_turn, sent_lines}
+use Rattle.gr_model.specs.Opening.{over_logs, reopened_line, opened_for, publishers_at, opening, opened_for_by, opening_by}
+use Rattle.gr_theorems.specs.Found.{AreReopened, got_at_once, told_at_opening}
 use Rattle.gr_theorems.specs.Said.{due_upto, due_between}
 use Rattle.gr_theorems.specs.Truth.{Facts, KnowsTruth}
 use Rattle.gr_model.specs.Tree.{IsNet, IsDistinct}
 use Rattle.gr_theorems.specs.Fits.{WorldFits, facts_of}
-use Rattle.gr_theorems.proofs.calls.CallTruth.{Moves, joined_true, horizon_after-is, learned_horizon}
+use Rattle.gr_theorems.proofs.calls.CallTruth.{HorizonMoves, joined_true, horizon_after-is, learned_horizon}
 use Rattle.gr_theorems.proofs.calls.Calls.{learn_horizon}
 use Rattle.gr_theorems.proofs.calls.Told.{told_is_due, due_upto_past}
 use Rattle.gr_theorems.proofs.runs.Worlds.{Each, absorbed_changed, exact_at}
-use Rattle.gr_theorems.proofs.records.Records.{Has}
+use Rattle.gr_theorems.proofs.records.Records.{HasLine}
 use Rattle.gr_model.proofs.NetOf.{distinct_from}
 use Rattle.gr_theorems.proofs.server.Opening.{Opening, learned_meets, learns_silently, opening_turn, over_view, over_opening, opened_logs}
 use Rattle.gr_theorems.proofs.server.OverLogs.{all_opened, publishers_below, opened}
@@ -33,8 +33,8 @@ abbrev AreFresh : Net → World → List ℕ → Type 0
 AreFresh net w ps = AllByRecursion (λ q. (view_of w (net.host q) q).horizon ≡ 0) ps
 
 -- what one subscriber is told where the horizon moves from 0
-told_at : (net : Net) (p s h : ℕ) (items events : List (ℕ × Event)) → filter (λ x. net.wants p s x.0 x.1) items ≡ due_upto net p s h events → told net p 0 h items s ≡ (if nat_lt 0 h then map (got_line s p) (due_upto net p s h events) ++ line.Horizon s p h ∷ [] else [])
-unfolding told
+told_at : (net : Net) (p s h : ℕ) (items events : List (ℕ × Event)) → filter (λ x. net.wants p s x.0 x.1) items ≡ due_upto net p s h events → delivery_lines net p 0 h items s ≡ (if nat_lt 0 h then map (got_line s p) (due_upto net p s h events) ++ line.Horizon s p h ∷ [] else [])
+unfolding delivery_lines
 told_at net p s h items events e =
     elim (cases_eq 0 h) [
       | inl z ↦ rw (eq-eqb 0 h z, le-ltb 0 h (omega (arith, z))) refl
@@ -69,7 +69,7 @@ learned_lines net w p n f j some zero_ = go (net.subscribers_at b) (λ s m. m)
     h : ℕ
     h = learned_horizon net p b [] v
 
-    moves : Moves net facts_now know v.horizon h
+    moves : HorizonMoves net facts_now know v.horizon h
     moves = horizon_after-is net facts_now p b (keeps_horizon net p b) v.horizon know t (f.views p b j i).horizon.settled
 
     settled : h ≡ log.settled
@@ -77,15 +77,15 @@ learned_lines net w p n f j some zero_ = go (net.subscribers_at b) (λ s m. m)
         let c = absorbed_changed net w b p (learn net p b [] v log) f i j in
         sym (learn_horizon net p b [] v log) ∙ (ap (λ (x : View). x.horizon) (sym c.view) ∙ (learned_meets net w p n f j some ∙ ap (λ (x : Log). x.settled) c.log))
 
-    one : (s : ℕ) → list_any (λ x. nat_eq x s) (net.subscribers_at b) ≡ true → told net p v.horizon h (data_ticks v.horizon h know) s ≡ got_at_once net log p s
+    one : (s : ℕ) → list_any (λ x. nat_eq x s) (net.subscribers_at b) ≡ true → delivery_lines net p v.horizon h (data_ticks v.horizon h know) s ≡ got_at_once net log p s
     one s m =
         let due : filter (λ x. net.wants p s x.0 x.1) (data_ticks v.horizon h know) ≡ due_between net p s v.horizon h log.events = told_is_due net facts_now p b s v.horizon h know log.events t moves.known (n.here_below p b s j i m) (exact_at net w b p n i s m) (f.logs p j).rise (λ u. refl) in
         let upto : due_upto net p s h log.events ≡ due_between net p s 0 h log.events = due_upto_past net p s 0 h 0 log.events (le_refl 0) (f.logs p j).rise in
         let same : filter (λ x. net.wants p s x.0 x.1) (data_ticks v.horizon h know) ≡ due_upto net p s h log.events = due ∙ (ap (λ lo. due_between net p s lo h log.events) zero_ ∙ sym upto) in
-        ap (λ lo. told net p lo h (data_ticks v.horizon h know) s) zero_ ∙ (told_at net p s h (data_ticks v.horizon h know) log.events same
+        ap (λ lo. delivery_lines net p lo h (data_ticks v.horizon h know) s) zero_ ∙ (told_at net p s h (data_ticks v.horizon h know) log.events same
         ∙ ap (λ m. if nat_lt 0 m then map (got_line s p) (due_upto net p s m log.events) ++ line.Horizon s p m ∷ [] else []) settled)
 
-    go : (xs : List ℕ) → ((s : ℕ) → list_any (λ x. nat_eq x s) xs ≡ true → list_any (λ x. nat_eq x s) (net.subscribers_at b) ≡ true) → flat_map (told net p v.horizon h (data_ticks v.horizon h know)) xs ≡ flat_map (got_at_once net log p) xs
+    go : (xs : List ℕ) → ((s : ℕ) → list_any (λ x. nat_eq x s) xs ≡ true → list_any (λ x. nat_eq x s) (net.subscribers_at b) ≡ true) → flat_map (delivery_lines net p v.horizon h (data_ticks v.horizon h know)) xs ≡ flat_map (got_at_once net log p) xs
     go [] m = refl
     go (x ∷ xs) m = ap₂ (λ (a c : List Report). a ++ c) (one x (m x (or_left (nat_eq x x) (list_any (λ y. nat_eq y x) xs) (eq-eqb x x refl)))) (go xs (λ s e. m s (or_right (nat_eq x s) (list_any (λ y. nat_eq y s) xs) e)))
 
@@ -93,8 +93,8 @@ learned_lines net w p n f j some zero_ = go (net.subscribers_at b) (λ s m. m)
 turn_lines : (net : Net) (logs : List Log) (w : World) (ls : List Report) (p : ℕ) → IsNet net → p < net.publishers → Opening net logs w ls → (view_of w (net.host p) p).horizon ≡ 0 → (opened_for net w p).lines ≡ told_at_opening net logs p
 unfolding opened_for_by absorbed
 turn_lines net logs w ls p n j o fresh =
-    subst (λ (log : Log). (opened_for net w p).lines ≡ found_line log p ++ flat_map (got_at_once net log p) (net.subscribers_at b)) (opened_logs net logs w ls p j o)
-    (ap (λ (z : List Report). found_line (log_of w p) p ++ z) (go (not_empty (net.subscribers_at b)) refl))
+    subst (λ (log : Log). (opened_for net w p).lines ≡ reopened_line log p ++ flat_map (got_at_once net log p) (net.subscribers_at b)) (opened_logs net logs w ls p j o)
+    (ap (λ (z : List Report). reopened_line (log_of w p) p ++ z) (go (not_empty (net.subscribers_at b)) refl))
   where
     b : ℕ
     b = net.host p
@@ -103,7 +103,7 @@ turn_lines net logs w ls p n j o fresh =
     none [] e = refl
     none (x ∷ xs) e = absurd (true≢false e)
 
-    go : (q : Bool) → not_empty (net.subscribers_at b) ≡ q → (let t : Told = elim q [ true ↦ absorbed w b p (learn net p b [] (view_of w b p) (log_of w p)) | false ↦ unchanged w [] ] in t.lines) ≡ flat_map (got_at_once net (log_of w p) p) (net.subscribers_at b)
+    go : (q : Bool) → not_empty (net.subscribers_at b) ≡ q → (let t : Transition = elim q [ true ↦ absorbed w b p (learn net p b [] (view_of w b p) (log_of w p)) | false ↦ unchanged w [] ] in t.lines) ≡ flat_map (got_at_once net (log_of w p) p) (net.subscribers_at b)
     go true e = ap₂ (λ (x : List Report) (y : List Frame). x ++ sent_lines (suc (length w.frames)) y) (learned_lines net w p n o.fits j e fresh) (learns_silently net w p n o.fits j) ∙ append-nil (flat_map (got_at_once net (log_of w p) p) (net.subscribers_at b))
     go false e = none (net.subscribers_at b) e
 
@@ -112,7 +112,7 @@ turn_keeps_view : (net : Net) (w : World) (p q : ℕ) → IsNet net → WorldFit
 unfolding opened_for_by
 turn_keeps_view net w p q n f j e = go (not_empty (net.subscribers_at (net.host p)))
   where
-    go : (c : Bool) → (let t : Told = elim c [ true ↦ absorbed w (net.host p) p (learn net p (net.host p) [] (view_of w (net.host p) p) (log_of w p)) | false ↦ unchanged w [] ] in (view_of t.world (net.host q) q).horizon) ≡ (view_of w (net.host q) q).horizon
+    go : (c : Bool) → (let t : Transition = elim c [ true ↦ absorbed w (net.host p) p (learn net p (net.host p) [] (view_of w (net.host p) p) (log_of w p)) | false ↦ unchanged w [] ] in (view_of t.world (net.host q) q).horizon) ≡ (view_of w (net.host q) q).horizon
     go true = let c = absorbed_changed net w (net.host p) p (learn net p (net.host p) [] (view_of w (net.host p) p) (log_of w p)) f (n.host_in p j) j in ap (λ (v : View). v.horizon) (c.other_publisher (net.host q) q e)
     go false = refl
 
@@ -136,19 +136,19 @@ turns_lines net logs w ls (p ∷ ps) n a d o fresh =
 
 -- No publisher has two turns
 
-passes : (test : ℕ → Bool) (p : ℕ) (xs : List ℕ) → Has p (filter test xs) → test p ≡ true
+passes : (test : ℕ → Bool) (p : ℕ) (xs : List ℕ) → HasLine p (filter test xs) → test p ≡ true
 passes test p [] h = absurd (false≢true h)
 passes test p (x ∷ xs) h = by (test x) refl (λ z. passes test p xs z) h
   where
-    by : (c : Bool) → test x ≡ c → (Has p (filter test xs) → test p ≡ true) → Has p (if c then x ∷ filter test xs else filter test xs) → test p ≡ true
+    by : (c : Bool) → test x ≡ c → (HasLine p (filter test xs) → test p ≡ true) → HasLine p (if c then x ∷ filter test xs else filter test xs) → test p ≡ true
     by true e rest h = ⊎_elim (λ z. ap test (sym (eqb-true x p z)) ∙ e) rest (or_cases (nat_eq x p) (list_any (λ y. nat_eq y p) (filter test xs)) h)
     by false e rest h = rest h
 
-has_either : (p : ℕ) (xs ys : List ℕ) → Has p (xs ++ ys) → Has p xs ⊎ Has p ys
+has_either : (p : ℕ) (xs ys : List ℕ) → HasLine p (xs ++ ys) → HasLine p xs ⊎ HasLine p ys
 has_either p [] ys h = inr h
 has_either p (x ∷ xs) ys h = ⊎_elim (λ z. inl (or_left (nat_eq x p) (list_any (λ y. nat_eq y p) xs) z)) (λ z. ⊎_elim (λ y. inl (or_right (nat_eq x p) (list_any (λ y. nat_eq y p) xs) y)) (λ y. inr y) (has_either p xs ys z)) (or_cases (nat_eq x p) (list_any (λ y. nat_eq y p) (xs ++ ys)) h)
 
-hosts_from : (net : Net) (p a k : ℕ) → Has p (publishers_at net (numbers_from a k)) → a ≤ net.host p
+hosts_from : (net : Net) (p a k : ℕ) → HasLine p (publishers_at net (numbers_from a k)) → a ≤ net.host p
 hosts_from net p a zero h = absurd (false≢true h)
 hosts_from net p a (suc k) h =
     ⊎_elim
@@ -164,7 +164,7 @@ absent x (z ∷ zs) ys e g = by (nat_eq z x) e (λ h. absent x zs ys h g)
     by true e rest = e
     by false e rest = rest e
 
-distinct_both : (xs ys : List ℕ) → IsDistinct xs → IsDistinct ys → ((p : ℕ) → Has p xs → Has p ys → ⊥) → IsDistinct (xs ++ ys)
+distinct_both : (xs ys : List ℕ) → IsDistinct xs → IsDistinct ys → ((p : ℕ) → HasLine p xs → HasLine p ys → ⊥) → IsDistinct (xs ++ ys)
 distinct_both [] ys a b c = b
 distinct_both (x ∷ xs) ys a b c = (absent x xs ys a.0 (false_from_ne_true (list_any (λ y. nat_eq y x) ys) (λ e. c x (or_left (nat_eq x x) (list_any (λ y. nat_eq y x) xs) (eq-eqb x x refl)) e)), distinct_both xs ys a.1 b (λ p g h. c p (or_right (nat_eq x p) (list_any (λ y. nat_eq y p) xs) g) h))
 
@@ -180,12 +180,12 @@ all_fresh net logs [] n a = tt
 all_fresh net logs (p ∷ ps) n a = (ap (λ (v : View). v.horizon) (over_view net logs (net.host p) p (n.host_in p a.0) a.0), all_fresh net logs ps n a.1)
 
 -- what the opening tells, and that it sends nothing
-pub opened_tells : (net : Net) (logs : List Log) → IsNet net → AreFound net logs → (all_opened net logs).lines ≡ flat_map (told_at_opening net logs) (publishers_at net (numbers net.brokers))
+pub opened_tells : (net : Net) (logs : List Log) → IsNet net → AreReopened net logs → (all_opened net logs).lines ≡ flat_map (told_at_opening net logs) (publishers_at net (numbers net.brokers))
 unfolding opening_by
 opened_tells net logs n a =
     let ps = publishers_at net (numbers net.brokers) in
     let below = publishers_below net (numbers net.brokers) in
     turns_lines net logs (over_logs net logs) [] ps n below (turns_once net 0 net.brokers) (over_opening net logs n a) (all_fresh net logs ps n below)
 
-pub opened_sends_nothing : (net : Net) (logs : List Log) → IsNet net → AreFound net logs → (all_opened net logs).world.frames ≡ []
+pub opened_sends_nothing : (net : Net) (logs : List Log) → IsNet net → AreReopened net logs → (all_opened net logs).world.frames ≡ []
 opened_sends_nothing net logs n a = (opened net logs n a).frames

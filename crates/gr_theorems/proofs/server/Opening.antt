@@ -19,9 +19,9 @@ use Rattle.gr_model.specs.declared.report.Report.{Report}
 use Rattle.gr_model.specs.declared.report.Report.TheVariants as line
 use Rattle.gr_model.specs.Net.{Net, keeps_horizon, not_empty, is_empty, numbers}
 use Rattle.gr_model.specs.Broker.{View, Log, Outcome, empty_log, head, learn, receive, clashes, new_ticks, forward, forward_frames, know_frames, started}
-use Rattle.gr_model.specs.World.{World, Told, blank_view, view_of, log_of, absorbed, unchanged, in_turn, deliver_frame, sent_lines, deliver_frame_by}
-use Rattle.gr_model.specs.Opening.{found_log, over_logs, found_line, opened_for, opened_for_by}
-use Rattle.gr_theorems.specs.Found.{IsFound, AreFound}
+use Rattle.gr_model.specs.World.{World, Transition, blank_view, view_of, log_of, absorbed, unchanged, in_turn, deliver_frame, sent_lines, deliver_frame_by}
+use Rattle.gr_model.specs.Opening.{reopened_log, over_logs, reopened_line, opened_for, opened_for_by}
+use Rattle.gr_theorems.specs.Found.{IsReopened, AreReopened}
 use Rattle.gr_theorems.specs.Truth.{Facts, KnowsTruth, AllWantTruth}
 use Rattle.gr_theorems.specs.Said.{TicksRise, due_upto}
 use Rattle.gr_model.specs.Tree.{IsNet, IsSubscriber}
@@ -103,17 +103,17 @@ learns_log net w p = refl
 
 delivered_logs : (net : Net) (w : World) (p : ℕ) → IsNet net → WorldFits net w → p < net.publishers → (deliver_frame net w (nothing net p)).world.logs ≡ w.logs
 unfolding absorbed
-delivered_logs net w p n f j = ap (λ (t : Told). t.world.logs) (delivered_nothing net w p n f j) ∙ (ap (set w.logs p) (learns_log net w p) ∙ set-get_or w.logs p empty_log)
+delivered_logs net w p n f j = ap (λ (t : Transition). t.world.logs) (delivered_nothing net w p n f j) ∙ (ap (set w.logs p) (learns_log net w p) ∙ set-get_or w.logs p empty_log)
 
 delivered_frames : (net : Net) (w : World) (p : ℕ) → IsNet net → WorldFits net w → p < net.publishers → (deliver_frame net w (nothing net p)).world.frames ≡ w.frames
 unfolding absorbed
-delivered_frames net w p n f j = ap (λ (t : Told). t.world.frames) (delivered_nothing net w p n f j) ∙ (ap (λ (z : List Frame). w.frames ++ z) (learns_silently net w p n f j) ∙ append-nil w.frames)
+delivered_frames net w p n f j = ap (λ (t : Transition). t.world.frames) (delivered_nothing net w p n f j) ∙ (ap (λ (z : List Frame). w.frames ++ z) (learns_silently net w p n f j) ∙ append-nil w.frames)
 
 delivered_free : (net : Net) (w : World) (p q : ℕ) → IsNet net → WorldFits net w → p < net.publishers → CutFree q (deliver_frame net w (nothing net p)).lines
 unfolding absorbed
 delivered_free net w p q n f j =
     let o = learns net w p in
-    subst (λ (t : Told). CutFree q t.lines) (sym (delivered_nothing net w p n f j)) (CutFree-append q o.lines (sent_lines (suc (length w.frames)) o.frames) (learn_free net p (net.host p) q [] (view_of w (net.host p) p) (log_of w p)) (sent_free q (suc (length w.frames)) o.frames))
+    subst (λ (t : Transition). CutFree q t.lines) (sym (delivered_nothing net w p n f j)) (CutFree-append q o.lines (sent_lines (suc (length w.frames)) o.frames) (learn_free net p (net.host p) q [] (view_of w (net.host p) p) (log_of w p)) (sent_free q (suc (length w.frames)) o.frames))
 
 -- Along the opening
 
@@ -122,7 +122,7 @@ pub record Opening (net : Net) (logs : List Log) (w : World) (ls : List Report) 
   pub fits : WorldFits net w
   pub lines : LinesFit net w ls
   pub free : (q : ℕ) → CutFree q ls
-  pub logs_are : w.logs ≡ map (found_log logs) (numbers net.publishers)
+  pub logs_are : w.logs ≡ map (reopened_log logs) (numbers net.publishers)
   pub frames : w.frames ≡ []
   pub clock : w.clock ≡ 0
   pub most : w.most ≡ 0
@@ -131,7 +131,7 @@ pub record Opening (net : Net) (logs : List Log) (w : World) (ls : List Report) 
   pub heard : HeardsFit net w (λ b p t. false)
   pub unsent : filter is_sent ls ≡ []
   pub named : Named net Any ls
-  pub bare : (p : ℕ) → p < net.publishers → not_empty (net.subscribers_at (net.host p)) ≡ false → (view_of w (net.host p) p).horizon ≡ 0
+  pub unlogged : (p : ℕ) → p < net.publishers → not_empty (net.subscribers_at (net.host p)) ≡ false → (view_of w (net.host p) p).horizon ≡ 0
 
 -- more lines that say nothing of events, horizons, cuts and frames
 opening_on : (net : Net) (logs : List Log) (w : World) (ls more : List Report) → Silent more → ((q : ℕ) → CutFree q more) → filter is_sent more ≡ [] → Named net Any more → Opening net logs w ls → Opening net logs w (ls ++ more)
@@ -148,7 +148,7 @@ opening_on net logs w ls more silent free unsent named o = record {
   heard = o.heard;
   unsent = filter-append is_sent ls more ∙ ap₂ (λ (x y : List Report). x ++ y) o.unsent unsent;
   named = Named-append net Any ls more o.named named;
-  bare = o.bare;
+  unlogged = o.unlogged;
 }
 
 none_left : (xs ys : List Frame) → xs ≡ [] → xs ++ ys ≡ [] → ys ≡ []
@@ -174,7 +174,7 @@ opening_learns net logs w ls p n j some o =
       frames = same ∙ o.frames;
       clock = deliver_clock net w x ∙ o.clock;
       most = deliver_most net w x ∙ o.most;
-      asks = λ b q i y. subst (λ (u : Told). (view_of u.world b q).asks ≡ []) (sym is) (elim (cases_eq q p) [
+      asks = λ b q i y. subst (λ (u : Transition). (view_of u.world b q).asks ≡ []) (sym is) (elim (cases_eq q p) [
         | inr e ↦ ap (λ v. v.asks) (c.other_publisher b q e) ∙ o.asks b q i y
         | inl e ↦ elim (cases_eq b (net.host p)) [
           | inr g ↦ ap (λ v. v.asks) (c.other_broker b q g) ∙ o.asks b q i y
@@ -185,9 +185,9 @@ opening_learns net logs w ls p n j some o =
       heard = deliver_heard net w x (λ b q t. false) (λ b q t. false) n f tr (λ t. refl) (λ b q t h. refl) o.heard;
       unsent = filter-append is_sent ls t.lines ∙ ap₂ (λ (x y : List Report). x ++ y) o.unsent (s.told ∙ ap (sent_lines (suc (length w.frames))) none);
       named = Named-append net Any ls t.lines o.named (Named-map net _ Any t.lines (λ b q u e. tt) (deliver_named net w x n (n.host_in p j) j));
-      bare = λ q y e. subst (λ (u : Told). (view_of u.world (net.host q) q).horizon ≡ 0) (sym is) (elim (cases_eq q p) [
+      unlogged = λ q y e. subst (λ (u : Transition). (view_of u.world (net.host q) q).horizon ≡ 0) (sym is) (elim (cases_eq q p) [
         | inl g ↦ absurd (both_ways (not_empty (net.subscribers_at (net.host p))) (subst (λ z. not_empty (net.subscribers_at (net.host z)) ≡ false) g e) some)
-        | inr g ↦ ap (λ v. v.horizon) (c.other_publisher (net.host q) q g) ∙ o.bare q y e
+        | inr g ↦ ap (λ v. v.horizon) (c.other_publisher (net.host q) q g) ∙ o.unlogged q y e
       ]);
     }
 
@@ -205,7 +205,7 @@ unfolding opened_for_by
 opening_turn net logs w ls p n j o = go (not_empty (net.subscribers_at (net.host p))) refl
   where
     front : List Report
-    front = found_line (log_of w p) p
+    front = reopened_line (log_of w p) p
 
     begun : Opening net logs w (ls ++ front)
     begun =
@@ -213,9 +213,9 @@ opening_turn net logs w ls p n j o = go (not_empty (net.subscribers_at (net.host
         let s = found_line_says (nat_lt 0 l.settled) p l.last l.settled l.cut in
         opening_on net logs w ls front s.0 s.1 s.2 (found_line_named net (nat_lt 0 l.settled) p l.last l.settled l.cut) o
 
-    go : (q : Bool) → not_empty (net.subscribers_at (net.host p)) ≡ q → (let t : Told = elim q [ true ↦ absorbed w (net.host p) p (learns net w p) | false ↦ unchanged w [] ] in Opening net logs t.world (ls ++ (front ++ t.lines)))
+    go : (q : Bool) → not_empty (net.subscribers_at (net.host p)) ≡ q → (let t : Transition = elim q [ true ↦ absorbed w (net.host p) p (learns net w p) | false ↦ unchanged w [] ] in Opening net logs t.world (ls ++ (front ++ t.lines)))
     go true e =
-        subst (λ (t : Told). Opening net logs t.world (ls ++ (front ++ t.lines))) (delivered_nothing net w p n o.fits j)
+        subst (λ (t : Transition). Opening net logs t.world (ls ++ (front ++ t.lines))) (delivered_nothing net w p n o.fits j)
         (subst (λ (z : List Report). Opening net logs (deliver_frame net w (nothing net p)).world z) (append_assoc ls front (deliver_frame net w (nothing net p)).lines) (opening_learns net logs w (ls ++ front) p n j e begun))
     go false e = subst (λ (z : List Report). Opening net logs w (ls ++ z)) (sym (append-nil front)) begun
 
@@ -237,7 +237,7 @@ learned_meets net w p n f j some =
     let i = n.host_in p j in
     let u = (absorbed w b p (learns net w p)).world in
     let c = absorbed_changed net w b p (learns net w p) f i j in
-    let g : WorldFits net u = subst (λ (t : Told). WorldFits net t.world) (delivered_nothing net w p n f j) (deliver_kept net w (nothing net p) n f (nothing_is_true net w p n j)).fits in
+    let g : WorldFits net u = subst (λ (t : Transition). WorldFits net t.world) (delivered_nothing net w p n f j) (deliver_kept net w (nothing net p) n f (nothing_is_true net w p n j)).fits in
     let t = f.views p b j i in
     let known : HostKnows (learns net w p).view (log_of u p).settled = subst (λ v. HostKnows v (log_of u p).settled) c.view (g.known p j) in
     let keeps : keeps_horizon net p b ≡ true = ap (λ q. q || is_empty (net.children p b)) some in
@@ -248,7 +248,7 @@ turn_meets : (net : Net) (w : World) (p : ℕ) → IsNet net → WorldFits net w
 unfolding opened_for_by
 turn_meets net w p n f j some = go (not_empty (net.subscribers_at (net.host p))) some
   where
-    go : (q : Bool) → q ≡ true → (let t : Told = elim q [ true ↦ absorbed w (net.host p) p (learns net w p) | false ↦ unchanged w [] ] in MeetsAt net t.world p)
+    go : (q : Bool) → q ≡ true → (let t : Transition = elim q [ true ↦ absorbed w (net.host p) p (learns net w p) | false ↦ unchanged w [] ] in MeetsAt net t.world p)
     go true e = learned_meets net w p n f j some
     go false e = absurd (false≢true e)
 
@@ -256,7 +256,7 @@ turn_stays : (net : Net) (w : World) (p q : ℕ) → IsNet net → WorldFits net
 unfolding opened_for_by
 turn_stays net w p q n f j e m = go (not_empty (net.subscribers_at (net.host p)))
   where
-    go : (c : Bool) → (let t : Told = elim c [ true ↦ absorbed w (net.host p) p (learns net w p) | false ↦ unchanged w [] ] in MeetsAt net t.world q)
+    go : (c : Bool) → (let t : Transition = elim c [ true ↦ absorbed w (net.host p) p (learns net w p) | false ↦ unchanged w [] ] in MeetsAt net t.world q)
     go true = let c = absorbed_changed net w (net.host p) p (learns net w p) f (n.host_in p j) j in ap (λ v. v.horizon) (c.other_publisher (net.host q) q e) ∙ (m ∙ ap (λ l. l.settled) (sym (c.other_log q e)))
     go false = m
 
@@ -288,16 +288,16 @@ turns_meet net logs w ls (p ∷ ps) q n a o some m =
 
 -- Before the first publisher
 
-pub over_view : (net : Net) (logs : List Log) (b p : ℕ) → b < net.brokers → p < net.publishers → view_of (over_logs net logs) b p ≡ started net p b (found_log logs p)
+pub over_view : (net : Net) (logs : List Log) (b p : ℕ) → b < net.brokers → p < net.publishers → view_of (over_logs net logs) b p ≡ started net p b (reopened_log logs p)
 unfolding over_logs
 over_view net logs b p i j =
-    let g : ℕ → ℕ → View = λ c q. started net q c (found_log logs q) in
+    let g : ℕ → ℕ → View = λ c q. started net q c (reopened_log logs q) in
     ap (λ row. get_or row p blank_view) (get_numbers (λ c. map (g c) (numbers net.publishers)) 0 net.brokers b [] i)
     ∙ (get_numbers (g (0 + b)) 0 net.publishers p blank_view j ∙ ap₂ g (omega arith) (omega arith))
 
-over_log : (net : Net) (logs : List Log) (p : ℕ) → p < net.publishers → log_of (over_logs net logs) p ≡ found_log logs p
+over_log : (net : Net) (logs : List Log) (p : ℕ) → p < net.publishers → log_of (over_logs net logs) p ≡ reopened_log logs p
 unfolding over_logs
-over_log net logs p j = get_numbers (found_log logs) 0 net.publishers p empty_log j ∙ ap (found_log logs) (omega arith)
+over_log net logs p j = get_numbers (reopened_log logs) 0 net.publishers p empty_log j ∙ ap (reopened_log logs) (omega arith)
 
 record Shape (net : Net) (w : World) : Type 0 where
   views_long : length w.views ≡ net.brokers
@@ -310,35 +310,35 @@ record Shape (net : Net) (w : World) : Type 0 where
 over_shape : (net : Net) (logs : List Log) → Shape net (over_logs net logs)
 unfolding over_logs
 over_shape net logs =
-    let g : ℕ → ℕ → View = λ c p. started net p c (found_log logs p) in
+    let g : ℕ → ℕ → View = λ c p. started net p c (reopened_log logs p) in
     record {
       views_long = length_numbers (λ c. map (g c) (numbers net.publishers)) 0 net.brokers;
       rows_long = λ b i. ap length (get_numbers (λ c. map (g c) (numbers net.publishers)) 0 net.brokers b [] i) ∙ length_numbers (g (0 + b)) 0 net.publishers;
-      logs_long = length_numbers (found_log logs) 0 net.publishers;
+      logs_long = length_numbers (reopened_log logs) 0 net.publishers;
       frames = refl;
       clock = refl;
       most = refl;
     }
 
 -- up to the cut no event is there, so all of it is final
-found_cut : (net : Net) (log : Log) (reached : ℕ → ℕ) (p b : ℕ) → IsFound log → CutTrue net (facts log reached) p b log.cut
+found_cut : (net : Net) (log : Log) (reached : ℕ → ℕ) (p b : ℕ) → IsReopened log → CutTrue net (facts log reached) p b log.cut
 found_cut net log reached p b f t y z = record {
   settled = le_trans z f.fits.cut;
   told = λ s m c. absurd (false≢true (sym (ap (λ (o : Option Event). elim o [ None ↦ false | Some e ↦ net.wants p s t e ]) (f.past_cut t z)) ∙ c));
 }
 
-over_fits : (net : Net) (logs : List Log) → IsNet net → AreFound net logs → WorldFits net (over_logs net logs)
+over_fits : (net : Net) (logs : List Log) → IsNet net → AreReopened net logs → WorldFits net (over_logs net logs)
 over_fits net logs n a =
     let w = over_logs net logs in
     let s = over_shape net logs in
-    let cut_at : (q b : ℕ) → q < net.publishers → CutTrue net (facts_of net w q) q b (log_of w q).cut = λ q b x. subst (λ l. CutTrue net (facts l (reached_in net w q)) q b l.cut) (sym (over_log net logs q x)) (found_cut net (found_log logs q) (reached_in net w q) q b (a q)) in
+    let cut_at : (q b : ℕ) → q < net.publishers → CutTrue net (facts_of net w q) q b (log_of w q).cut = λ q b x. subst (λ l. CutTrue net (facts l (reached_in net w q)) q b l.cut) (sym (over_log net logs q x)) (found_cut net (reopened_log logs q) (reached_in net w q) q b (a q)) in
     record {
       views_long = s.views_long;
       rows_long = s.rows_long;
       logs_long = s.logs_long;
       views = λ q b x y. subst (λ v. ViewTrue net (facts_of net w q) q b v) (sym (over_view net logs b q y x ∙ ap (started net q b) (sym (over_log net logs q x)))) (started_true net (log_of w q) (reached_in net w q) q b (λ h. cut_at q b x));
       logs = λ q x. subst LogFits (sym (over_log net logs q x)) (a q).fits;
-      known = λ q x. subst (λ m. HostKnows (view_of w (net.host q) q) m.settled) (sym (over_log net logs q x)) (subst (λ v. HostKnows v (found_log logs q).settled) (sym (over_view net logs (net.host q) q (n.host_in q x) x)) (started_known net (found_log logs q) q (net.host q) (eq-eqb (net.host q) (net.host q) refl)));
+      known = λ q x. subst (λ m. HostKnows (view_of w (net.host q) q) m.settled) (sym (over_log net logs q x)) (subst (λ v. HostKnows v (reopened_log logs q).settled) (sym (over_view net logs (net.host q) q (n.host_in q x) x)) (started_known net (reopened_log logs q) q (net.host q) (eq-eqb (net.host q) (net.host q) refl)));
       cuts = λ q x. cut_at q (net.host q) x;
       frames = subst (λ z. AllFramesTrue net w z) (sym s.frames) tt;
     }
@@ -351,18 +351,18 @@ over_reached : (net : Net) (logs : List Log) (p s : ℕ) → p < net.publishers 
 unfolding started
 over_reached net logs p s j y = reached_here net (over_logs net logs) p s y ∙ ap (λ v. v.horizon) (over_view net logs (net.at s) p y.at_in j)
 
-over_lines : (net : Net) (logs : List Log) → AreFound net logs → LinesFit net (over_logs net logs) []
+over_lines : (net : Net) (logs : List Log) → AreReopened net logs → LinesFit net (over_logs net logs) []
 over_lines net logs a = record {
-  got = λ p s j y. sym (ap₂ (λ h l. due_upto net p s h l.events) (over_reached net logs p s j y) (over_log net logs p j) ∙ nothing_due net p s 0 (found_log logs p).events (a p).fits.rise);
+  got = λ p s j y. sym (ap₂ (λ h l. due_upto net p s h l.events) (over_reached net logs p s j y) (over_log net logs p j) ∙ nothing_due net p s 0 (reopened_log logs p).events (a p).fits.rise);
   horizon = λ p s j y. sym (over_reached net logs p s j y);
   rise = λ p s j y. tt;
 }
 
-logs_are : (net : Net) (logs : List Log) → (over_logs net logs).logs ≡ map (found_log logs) (numbers net.publishers)
+logs_are : (net : Net) (logs : List Log) → (over_logs net logs).logs ≡ map (reopened_log logs) (numbers net.publishers)
 unfolding over_logs
 logs_are net logs = refl
 
-pub over_opening : (net : Net) (logs : List Log) → IsNet net → AreFound net logs → Opening net logs (over_logs net logs) []
+pub over_opening : (net : Net) (logs : List Log) → IsNet net → AreReopened net logs → Opening net logs (over_logs net logs) []
 over_opening net logs n a =
     let w = over_logs net logs in
     let s = over_shape net logs in
@@ -375,14 +375,14 @@ over_opening net logs n a =
       frames = s.frames;
       clock = s.clock;
       most = s.most;
-      asks = λ b p i j. ap (λ v. v.asks) (over_view net logs b p i j) ∙ started_asks net p b (found_log logs p);
-      unknown = by_any net w (λ p b j i. subst UnknownIn (sym (over_view net logs b p i j)) (started_unknown net p b (found_log logs p)));
-      heard = λ b p i j host keeps. subst (λ v. HeardFits v (λ t. false)) (sym (over_view net logs b p i j)) (started_heard net p b (found_log logs p) (λ t. false) host (λ t. refl));
+      asks = λ b p i j. ap (λ v. v.asks) (over_view net logs b p i j) ∙ started_asks net p b (reopened_log logs p);
+      unknown = by_any net w (λ p b j i. subst UnknownIn (sym (over_view net logs b p i j)) (started_unknown net p b (reopened_log logs p)));
+      heard = λ b p i j host keeps. subst (λ v. HeardFits v (λ t. false)) (sym (over_view net logs b p i j)) (started_heard net p b (reopened_log logs p) (λ t. false) host (λ t. refl));
       unsent = refl;
       named = tt;
-      bare = λ p j e. ap (λ v. v.horizon) (over_view net logs (net.host p) p (n.host_in p j) j) ∙ started_horizon net p (net.host p) (found_log logs p);
+      unlogged = λ p j e. ap (λ v. v.horizon) (over_view net logs (net.host p) p (n.host_in p j) j) ∙ started_horizon net p (net.host p) (reopened_log logs p);
     }
 
 -- the logs are those that were found
-pub opened_logs : (net : Net) (logs : List Log) (w : World) (ls : List Report) (q : ℕ) → q < net.publishers → Opening net logs w ls → log_of w q ≡ found_log logs q
-opened_logs net logs w ls q j o = ap (λ (z : List Log). get_or z q empty_log) o.logs_are ∙ (get_numbers (found_log logs) 0 net.publishers q empty_log j ∙ ap (found_log logs) (omega arith))
+pub opened_logs : (net : Net) (logs : List Log) (w : World) (ls : List Report) (q : ℕ) → q < net.publishers → Opening net logs w ls → log_of w q ≡ reopened_log logs q
+opened_logs net logs w ls q j o = ap (λ (z : List Log). get_or z q empty_log) o.logs_are ∙ (get_numbers (reopened_log logs) 0 net.publishers q empty_log j ∙ ap (reopened_log logs) (omega arith))

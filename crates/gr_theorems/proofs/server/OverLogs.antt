@@ -8,16 +8,16 @@ use Rattle.gr_sched.specs.declared.step.Line.{Line}
 use Rattle.gr_model.specs.declared.report.Report.{Report}
 use Rattle.gr_model.specs.Net.{Net, is_host, not_empty, numbers}
 use Rattle.gr_model.specs.Broker.{Log}
-use Rattle.gr_model.specs.World.{Told, view_of, log_of, sent_lines, run_from}
-use Rattle.gr_model.specs.Opening.{found_log, over_logs, publishers_at, opening, recorded_of, begin_over, opening_by}
-use Rattle.gr_theorems.specs.Found.{AreFound}
-use Rattle.gr_model.specs.Headline.{Holds_from, found_in, Recorded}
+use Rattle.gr_model.specs.World.{Transition, view_of, log_of, sent_lines, run_from}
+use Rattle.gr_model.specs.Opening.{reopened_log, over_logs, publishers_at, opening, recorded_of, begin_over, opening_by}
+use Rattle.gr_theorems.specs.Found.{AreReopened}
+use Rattle.gr_model.specs.Headline.{Holds_from, reopened_cut, Recorded}
 use Rattle.gr_model.specs.Tree.{IsNet}
 use Rattle.gr_theorems.specs.Fits.{StepsIn}
 use Rattle.gr_theorems.proofs.runs.Worlds.{Each, numbers_below}
 use Rattle.gr_theorems.proofs.runs.Schedules.{get_numbers}
 use Rattle.gr_theorems.proofs.records.Gates.{over_gates}
-use Rattle.gr_theorems.proofs.records.Records.{Has, has_filter, has_flat, has_number, core}
+use Rattle.gr_theorems.proofs.records.Records.{HasLine, has_filter, has_flat, has_number, core}
 use Rattle.gr_theorems.proofs.runs.Closed.{Each-kept}
 use Rattle.gr_theorems.proofs.asks.AskMoments.{AsksUpto, ExpectFits, Each-on}
 use Rattle.gr_theorems.proofs.cuts.Cutlines.{CutFree-last, CutFree-have}
@@ -36,21 +36,21 @@ pub publishers_below : (net : Net) (bs : List ℕ) → Each (λ p. p < net.publi
 publishers_below net [] = tt
 publishers_below net (b ∷ bs) = Each-on (λ p. p < net.publishers) (filter (λ p. is_host net p b) (numbers net.publishers)) (publishers_at net bs) (Each-kept (λ p. p < net.publishers) (λ p. is_host net p b) (numbers net.publishers) (numbers_below 0 net.publishers net.publishers (omega arith))) (publishers_below net bs)
 
-has_turn : (net : Net) (q : ℕ) → IsNet net → q < net.publishers → Has q (publishers_at net (numbers net.brokers))
+has_turn : (net : Net) (q : ℕ) → IsNet net → q < net.publishers → HasLine q (publishers_at net (numbers net.brokers))
 has_turn net q n j =
     has_flat (λ b. filter (λ p. is_host net p b) (numbers net.publishers)) (net.host q) q (numbers net.brokers)
     (has_number 0 net.brokers (net.host q) (omega arith) (omega (arith, n.host_in q j)))
     (has_filter (λ p. is_host net p (net.host q)) q (numbers net.publishers) (eq-eqb (net.host q) (net.host q) refl) (has_number 0 net.publishers q (omega arith) (omega (arith, j))))
 
 -- all brokers
-abbrev pub all_opened : Net → List Log → Told
+abbrev pub all_opened : Net → List Log → Transition
 all_opened net logs = opening net (numbers net.brokers) logs
 
-pub opened : (net : Net) (logs : List Log) → IsNet net → AreFound net logs → Opening net logs (all_opened net logs).world (all_opened net logs).lines
+pub opened : (net : Net) (logs : List Log) → IsNet net → AreReopened net logs → Opening net logs (all_opened net logs).world (all_opened net logs).lines
 unfolding opening_by
 opened net logs n a = opening_turns net logs (over_logs net logs) [] (publishers_at net (numbers net.brokers)) n (publishers_below net (numbers net.brokers)) (over_opening net logs n a)
 
-all_meet : (net : Net) (logs : List Log) (q : ℕ) → IsNet net → AreFound net logs → q < net.publishers → not_empty (net.subscribers_at (net.host q)) ≡ true → MeetsAt net (all_opened net logs).world q
+all_meet : (net : Net) (logs : List Log) (q : ℕ) → IsNet net → AreReopened net logs → q < net.publishers → not_empty (net.subscribers_at (net.host q)) ≡ true → MeetsAt net (all_opened net logs).world q
 unfolding opening_by
 all_meet net logs q n a j some = turns_meet net logs (over_logs net logs) [] (publishers_at net (numbers net.brokers)) q n (publishers_below net (numbers net.brokers)) (over_opening net logs n a) some (has_turn net q n j)
 
@@ -60,20 +60,20 @@ fused : (g : ℕ → Log) (ps : List ℕ) → map (λ p. recorded_of (g p)) ps �
 fused g [] = refl
 fused g (p ∷ ps) = ap (λ (z : List Recorded). recorded_of (g p) ∷ z) (fused g ps)
 
-over_found : (net : Net) (logs : List Log) (told : List Report) (q : ℕ) → q < net.publishers → found_in (begin_over net logs told) q ≡ (found_log logs q).cut
+over_found : (net : Net) (logs : List Log) (told : List Report) (q : ℕ) → q < net.publishers → reopened_cut (begin_over net logs told) q ≡ (reopened_log logs q).cut
 unfolding begin_over
-over_found net logs told q j = get_numbers (λ p. (let log = found_log logs p in log.cut)) 0 net.publishers q 0 j ∙ ap (λ p. (let log = found_log logs p in log.cut)) (omega arith)
+over_found net logs told q j = get_numbers (λ p. (let log = reopened_log logs p in log.cut)) 0 net.publishers q 0 j ∙ ap (λ p. (let log = reopened_log logs p in log.cut)) (omega arith)
 
-opened_stands : (net : Net) (logs : List Log) → IsNet net → AreFound net logs → Stands net (all_opened net logs).world (begin_over net logs (all_opened net logs).lines)
+opened_stands : (net : Net) (logs : List Log) → IsNet net → AreReopened net logs → Stands net (all_opened net logs).world (begin_over net logs (all_opened net logs).lines)
 unfolding begin_over
 opened_stands net logs n a =
     let w = (all_opened net logs).world in
     let ls = (all_opened net logs).lines in
     let o = opened net logs n a in
-    let log : (q : ℕ) → q < net.publishers → log_of w q ≡ found_log logs q = λ q j. opened_logs net logs w ls q j o in
+    let log : (q : ℕ) → q < net.publishers → log_of w q ≡ reopened_log logs q = λ q j. opened_logs net logs w ls q j o in
     record {
       fits = o.fits;
-      records = record { clock = sym o.clock; most = sym o.most; records = fused (found_log logs) (numbers net.publishers) ∙ ap (map core) (sym o.logs_are) };
+      records = record { clock = sym o.clock; most = sym o.most; records = fused (reopened_log logs) (numbers net.publishers) ∙ ap (map core) (sym o.logs_are) };
       lines = o.lines;
       ordered = record {
         meets = λ q j some. all_meet net logs q n a j some;
@@ -82,11 +82,11 @@ opened_stands net logs n a =
       };
       sent = o.unsent ∙ ap (sent_lines 1) (sym o.frames);
       named = o.named;
-      bare = record {
+      unlogged = record {
         long = length-replicate net.publishers true;
         fits = λ p j keeps. elim (cases_Bool (not_empty (net.subscribers_at (net.host p)))) [
           | inl e ↦ all_meet net logs p n a j e ∙ sym (ap₂ (λ c d. if c && not d then 0 else (log_of w p).settled) (get_or-replicate net.publishers p true true j) e)
-          | inr e ↦ o.bare p j e ∙ sym (ap₂ (λ c d. if c && not d then 0 else (log_of w p).settled) (get_or-replicate net.publishers p true true j) e)
+          | inr e ↦ o.unlogged p j e ∙ sym (ap₂ (λ c d. if c && not d then 0 else (log_of w p).settled) (get_or-replicate net.publishers p true true j) e)
         ];
       };
       asks = record {
@@ -98,7 +98,7 @@ opened_stands net logs n a =
       gates = over_gates net w logs ls log;
     }
 
-opened_hears : (net : Net) (logs : List Log) → IsNet net → AreFound net logs → Hears net (all_opened net logs).world (begin_over net logs (all_opened net logs).lines).heard
+opened_hears : (net : Net) (logs : List Log) → IsNet net → AreReopened net logs → Hears net (all_opened net logs).world (begin_over net logs (all_opened net logs).lines).heard
 unfolding begin_over
 opened_hears net logs n a =
     let o = opened net logs n a in
@@ -107,9 +107,9 @@ opened_hears net logs n a =
       fits = λ b p i j host keeps. heard_as (view_of (all_opened net logs).world b p) (λ t. false) (heard_in (replicate net.brokers (replicate net.publishers [])) b p) (λ t. nothing_heard net b p t i j) (o.heard b p i j host keeps);
     }
 
-pub opened_whole : (net : Net) (logs : List Log) → IsNet net → AreFound net logs → Whole net (all_opened net logs).world (begin_over net logs (all_opened net logs).lines)
+pub opened_whole : (net : Net) (logs : List Log) → IsNet net → AreReopened net logs → Whole net (all_opened net logs).world (begin_over net logs (all_opened net logs).lines)
 opened_whole net logs n a = record { stands = opened_stands net logs n a; hears = opened_hears net logs n a }
 
 -- over old logs, whatever the schedule
-pub headline_over_logs : (net : Net) (logs : List Log) (steps : List Line) → IsNet net → 1 ≤ net.quiet → 1 ≤ net.retry → AreFound net logs → StepsIn net steps → Holds_from net (begin_over net logs (all_opened net logs).lines) steps (run_from net (all_opened net logs).world steps)
+pub headline_over_logs : (net : Net) (logs : List Log) (steps : List Line) → IsNet net → 1 ≤ net.quiet → 1 ≤ net.retry → AreReopened net logs → StepsIn net steps → Holds_from net (begin_over net logs (all_opened net logs).lines) steps (run_from net (all_opened net logs).world steps)
 headline_over_logs net logs steps n z r a i = holds_where_sweeps_reach net (all_opened net logs).world (begin_over net logs (all_opened net logs).lines) steps n (sweeps_reach net n z r) z i (opened_whole net logs n a) (opened net logs n a).unknown

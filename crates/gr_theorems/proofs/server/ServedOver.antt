@@ -8,9 +8,9 @@ use Rattle.gr_sched.specs.declared.step.Line.{Line}
 use Rattle.gr_model.specs.declared.report.Report.{Report}
 use Rattle.gr_model.specs.Net.{Net, not_empty, numbers}
 use Rattle.gr_model.specs.Broker.{Log, learn, started}
-use Rattle.gr_model.specs.World.{World, Told, view_of, log_of, absorbed, unchanged, in_turn}
-use Rattle.gr_model.specs.Opening.{found_log, over_logs, opened_for, publishers_at, opening, begin_over, opened_for_by, opening_by}
-use Rattle.gr_theorems.specs.Found.{AreFound}
+use Rattle.gr_model.specs.World.{World, Transition, view_of, log_of, absorbed, unchanged, in_turn}
+use Rattle.gr_model.specs.Opening.{reopened_log, over_logs, opened_for, publishers_at, opening, begin_over, opened_for_by, opening_by}
+use Rattle.gr_theorems.specs.Found.{AreReopened}
 use Rattle.gr_model.specs.Arrivals.{Arrival, publishes_of, served, served_by}
 use Rattle.gr_theorems.specs.Served.{IsHonestRun, AllDoSteps, HeadlineServed}
 use Rattle.gr_theorems.specs.Edges.{GoesOverEdge}
@@ -19,7 +19,7 @@ use Rattle.gr_model.specs.Tree.{IsNet}
 use Rattle.gr_theorems.specs.Fits.{StepsIn}
 use Rattle.gr_theorems.proofs.runs.Worlds.{Each}
 use Rattle.gr_theorems.proofs.limits.SpelledCalls.{started_in}
-use Rattle.gr_theorems.proofs.limits.SpelledRuns.{all_made}
+use Rattle.gr_theorems.proofs.limits.SpelledRuns.{all_tabulated}
 use Rattle.gr_theorems.proofs.limits.Spelled.{IsSmall, deliver_in, next_in}
 use Rattle.gr_theorems.proofs.server.Opening.{Opening, nothing, nothing_is_true, delivered_nothing, opening_turn, over_opening}
 use Rattle.gr_theorems.proofs.server.OverLogs.{all_opened, publishers_below, opened, opened_whole}
@@ -28,12 +28,12 @@ use Rattle.gr_theorems.proofs.server.Serving.{Ready, publishes_are_in, holds, al
 
 -- The opening is within the limits
 
-over_in : (net : Net) (logs : List Log) → AreFound net logs → WorldIn (over_logs net logs)
+over_in : (net : Net) (logs : List Log) → AreReopened net logs → WorldIn (over_logs net logs)
 unfolding over_logs
 over_in net logs a = record {
   clock = omega arith;
-  views = all_made (AllByRecursion ViewIn) (λ b. map (λ p. started net p b (found_log logs p)) (numbers net.publishers)) (numbers net.brokers) (λ b. all_made ViewIn (λ p. started net p b (found_log logs p)) (numbers net.publishers) (λ p. started_in net p b (found_log logs p) (a p).within));
-  logs = all_made LogIn (found_log logs) (numbers net.publishers) (λ p. (a p).within);
+  views = all_tabulated (AllByRecursion ViewIn) (λ b. map (λ p. started net p b (reopened_log logs p)) (numbers net.publishers)) (numbers net.brokers) (λ b. all_tabulated ViewIn (λ p. started net p b (reopened_log logs p)) (numbers net.publishers) (λ p. started_in net p b (reopened_log logs p) (a p).within));
+  logs = all_tabulated LogIn (reopened_log logs) (numbers net.publishers) (λ p. (a p).within);
   frames = tt;
 }
 
@@ -41,8 +41,8 @@ turn_in : (net : Net) (logs : List Log) (w : World) (ls : List Report) (p : ℕ)
 unfolding opened_for_by
 turn_in net logs w ls p n z j o i = go (not_empty (net.subscribers_at (net.host p)))
   where
-    go : (q : Bool) → WorldIn (let t : Told = elim q [ true ↦ absorbed w (net.host p) p (learn net p (net.host p) [] (view_of w (net.host p) p) (log_of w p)) | false ↦ unchanged w [] ] in t.world)
-    go true = subst (λ (t : Told). WorldIn t.world) (delivered_nothing net w p n o.fits j) (deliver_in net w (nothing net p) n z o.fits (nothing_is_true net w p n j) tt i)
+    go : (q : Bool) → WorldIn (let t : Transition = elim q [ true ↦ absorbed w (net.host p) p (learn net p (net.host p) [] (view_of w (net.host p) p) (log_of w p)) | false ↦ unchanged w [] ] in t.world)
+    go true = subst (λ (t : Transition). WorldIn t.world) (delivered_nothing net w p n o.fits j) (deliver_in net w (nothing net p) n z o.fits (nothing_is_true net w p n j) tt i)
     go false = i
 
 turns_in : (net : Net) (logs : List Log) (w : World) (ls : List Report) (ps : List ℕ) → IsNet net → IsSmall net → Each (λ p. p < net.publishers) ps → Opening net logs w ls → WorldIn w → WorldIn (in_turn (opened_for net) ps w).world
@@ -51,11 +51,11 @@ turns_in net logs w ls (p ∷ ps) n z a o i =
     let t = opened_for net w p in
     turns_in net logs t.world (ls ++ t.lines) ps n z a.1 (opening_turn net logs w ls p n a.0 o) (turn_in net logs w ls p n z a.0 o i)
 
-opened_in : (net : Net) (logs : List Log) → IsNet net → IsSmall net → AreFound net logs → WorldIn (all_opened net logs).world
+opened_in : (net : Net) (logs : List Log) → IsNet net → IsSmall net → AreReopened net logs → WorldIn (all_opened net logs).world
 unfolding opening_by
 opened_in net logs n z a = turns_in net logs (over_logs net logs) [] (publishers_at net (numbers net.brokers)) n z (publishers_below net (numbers net.brokers)) (over_opening net logs n a) (over_in net logs a)
 
-opened_ready : (net : Net) (logs : List Log) → IsNet net → IsSmall net → AreFound net logs → Ready net WorldIn (all_opened net logs).world (begin_over net logs (all_opened net logs).lines)
+opened_ready : (net : Net) (logs : List Log) → IsNet net → IsSmall net → AreReopened net logs → Ready net WorldIn (all_opened net logs).world (begin_over net logs (all_opened net logs).lines)
 opened_ready net logs n z a = record {
   whole = opened_whole net logs n a;
   unknown = (opened net logs n a).unknown;
@@ -69,14 +69,14 @@ begun_lines net logs told = refl
 
 -- The run
 
-pub headline_served : (net : Net) (logs : List Log) (steps : List Line) (arrivals : List Arrival) → IsNet net → IsSmall net → 1 ≤ net.quiet → 1 ≤ net.retry → AreFound net logs → StepsIn net steps → NumbersIn steps → IsHonestRun arrivals (served net (numbers net.brokers) logs steps arrivals) → HeadlineServed net logs steps arrivals (served net (numbers net.brokers) logs steps arrivals)
+pub headline_served : (net : Net) (logs : List Log) (steps : List Line) (arrivals : List Arrival) → IsNet net → IsSmall net → 1 ≤ net.quiet → 1 ≤ net.retry → AreReopened net logs → StepsIn net steps → NumbersIn steps → IsHonestRun arrivals (served net (numbers net.brokers) logs steps arrivals) → HeadlineServed net logs steps arrivals (served net (numbers net.brokers) logs steps arrivals)
 unfolding served_by begin_over
 headline_served net logs steps arrivals n z on retry a i m honest = (
   opened_tells net logs n a,
   holds net n on retry WorldIn (λ u l f j k x. next_in net u l n z f j k x) (λ u x. x.frames) (λ f x. spelled_decodes (frame_bytes f) f x) arrivals (all_opened net logs).world (begin_over net logs (all_opened net logs).lines) (publishes_of net (numbers net.brokers) steps) (opened_ready net logs n z a) (publishes_are_in net (numbers net.brokers) steps i m) honest,
 )
 
-pub served_does : (net : Net) (logs : List Log) (steps : List Line) (arrivals : List Arrival) → IsNet net → IsSmall net → 1 ≤ net.quiet → 1 ≤ net.retry → AreFound net logs → StepsIn net steps → NumbersIn steps → IsHonestRun arrivals (served net (numbers net.brokers) logs steps arrivals) → AllDoSteps net (all_opened net logs).world (all_opened net logs).lines (publishes_of net (numbers net.brokers) steps) arrivals
+pub served_does : (net : Net) (logs : List Log) (steps : List Line) (arrivals : List Arrival) → IsNet net → IsSmall net → 1 ≤ net.quiet → 1 ≤ net.retry → AreReopened net logs → StepsIn net steps → NumbersIn steps → IsHonestRun arrivals (served net (numbers net.brokers) logs steps arrivals) → AllDoSteps net (all_opened net logs).world (all_opened net logs).lines (publishes_of net (numbers net.brokers) steps) arrivals
 unfolding served_by begin_over
 served_does net logs steps arrivals n z on retry a i m honest =
     all_do net n on retry WorldIn (λ u l f j k x. next_in net u l n z f j k x) (λ u x. x.frames) (λ f x. spelled_decodes (frame_bytes f) f x) arrivals (all_opened net logs).world (begin_over net logs (all_opened net logs).lines) (publishes_of net (numbers net.brokers) steps) (all_opened net logs).lines (opened_ready net logs n z a) (publishes_are_in net (numbers net.brokers) steps i m) refl honest

@@ -15,7 +15,7 @@ use Rattle.gr_model.specs.declared.report.Report.{Report}
 use Rattle.gr_model.specs.declared.report.Report.TheVariants as line
 use Rattle.gr_model.specs.Net.{Net, keeps_horizon, numbers, numbers_from}
 use Rattle.gr_model.specs.Broker.{max_tick}
-use Rattle.gr_model.specs.World.{World, Told, view_of, log_of, unchanged, sent_lines, next, show, run_from, run_all, kept_events, next_by, run_from_by}
+use Rattle.gr_model.specs.World.{World, Transition, view_of, log_of, unchanged, sent_lines, next, show, run_from, run_all, kept_events, next_by, run_from_by}
 use Rattle.gr_theorems.specs.Edges.{GoesOverEdge}
 use Rattle.gr_model.specs.Arrivals.{Arrival, datagram, quiet, Publish, is_hosted, publishes_in, publishes_of, left_after, comes, show_hosted, served_from, served_from_by}
 use Rattle.gr_theorems.specs.Served.{number_of_bytes, IsHonestAt, IsHonest, DoesSteps, AllDoSteps, as_line, publish_step, delivery_step, is_frame, steps_of_arrival, dropped_as, dropped_line, is_dropped, ArrivalTold, ShowHolds, HoldsServed}
@@ -254,7 +254,7 @@ module _ (net : Net) (n : IsNet net) (on : 1 ≤ net.quiet) (retry : 1 ≤ net.r
     are_in : AreIn net (steps_of_arrival net h.lines left a)
     does : Does net w left a (steps_of_arrival net h.lines left a)
     ready : Ready net P (run_all net w (steps_of_arrival net h.lines left a)).world (history net h (steps_of_arrival net h.lines left a) (run_from net w (steps_of_arrival net h.lines left a)))
-    same : (let t : Told = comes net (numbers net.brokers) w left a in filter is_sent (h.lines ++ t.lines)) ≡ filter is_sent (history net h (steps_of_arrival net h.lines left a) (run_from net w (steps_of_arrival net h.lines left a))).lines
+    same : (let t : Transition = comes net (numbers net.brokers) w left a in filter is_sent (h.lines ++ t.lines)) ≡ filter is_sent (history net h (steps_of_arrival net h.lines left a) (run_from net w (steps_of_arrival net h.lines left a))).lines
 
   turn : (w : World) (h : History) (left : List Publish) (a : Arrival) → Ready net P w h → LeftIn net left → IsHonestAt h.lines a → Turn w h left a
   turn w h left a r l x =
@@ -291,7 +291,7 @@ module _ (net : Net) (n : IsNet net) (on : 1 ≤ net.quiet) (retry : 1 ≤ net.r
       let g : History = history net h steps (run_from net w steps) in
       subst (λ z. IsHonest g.lines arrivals (served_from net (numbers net.brokers) z (left_after left a) arrivals)) y.does.world (honest_same (h.lines ++ t.lines) g.lines arrivals (served_from net (numbers net.brokers) t.world (left_after left a) arrivals) y.same x.1)
 
-  arrival_told : (w : World) (h : History) (left : List Publish) (a : Arrival) → Ready net P w h → Turn w h left a → (let t : Told = comes net (numbers net.brokers) w left a in ArrivalTold h a t.lines)
+  arrival_told : (w : World) (h : History) (left : List Publish) (a : Arrival) → Ready net P w h → Turn w h left a → (let t : Transition = comes net (numbers net.brokers) w left a in ArrivalTold h a t.lines)
   arrival_told w h left a r y =
       let steps = steps_of_arrival net h.lines left a in
       let t = comes net (numbers net.brokers) w left a in

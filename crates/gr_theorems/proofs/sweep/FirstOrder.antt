@@ -65,15 +65,15 @@ filter_one test a (suc k) b l m t h =
 
 -- Depths that fall
 
-abbrev pub Falls : Net → ℕ → ℕ → List ℕ → Type 0
-Falls net p d [] = Unit {0}
-Falls net p d (b ∷ bs) = (net.depth p b ≤ d) × Falls net p (net.depth p b) bs
+abbrev pub FallsFrom : Net → ℕ → ℕ → List ℕ → Type 0
+FallsFrom net p d [] = Unit {0}
+FallsFrom net p d (b ∷ bs) = (net.depth p b ≤ d) × FallsFrom net p (net.depth p b) bs
 
-falls_from : (net : Net) (p d e : ℕ) (bs : List ℕ) → d ≤ e → Falls net p d bs → Falls net p e bs
+falls_from : (net : Net) (p d e : ℕ) (bs : List ℕ) → d ≤ e → FallsFrom net p d bs → FallsFrom net p e bs
 falls_from net p d e [] l h = tt
 falls_from net p d e (b ∷ bs) l h = (omega (arith, l, h.0), h.1)
 
-falls_level : (net : Net) (p d e : ℕ) (xs ys : List ℕ) → Each (λ b. net.depth p b ≡ e) xs → e ≤ d → Falls net p e ys → Falls net p d (xs ++ ys)
+falls_level : (net : Net) (p d e : ℕ) (xs ys : List ℕ) → Each (λ b. net.depth p b ≡ e) xs → e ≤ d → FallsFrom net p e ys → FallsFrom net p d (xs ++ ys)
 falls_level net p d e [] ys a l h = falls_from net p e d ys l h
 falls_level net p d e (x ∷ xs) ys a l h = (omega (arith, a.0, l), falls_level net p (net.depth p x) e xs ys a.1 (omega (arith, a.0)) h)
 
@@ -132,7 +132,7 @@ none_above net p (suc k) n j l =
 pub record HostLast (net : Net) (p k : ℕ) : Type 0 where
   pub before : List ℕ
   pub is : down_from net p k ≡ before ++ (net.host p ∷ [])
-  pub falls : Falls net p k before
+  pub falls : FallsFrom net p k before
   pub below : Each (IsBelow net p) before
 
 host_last_from : (net : Net) (p k : ℕ) → IsNet net → p < net.publishers → net.depth p (net.host p) < k → HostLast net p k

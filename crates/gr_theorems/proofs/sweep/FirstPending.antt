@@ -12,7 +12,7 @@ use Rattle.gr_frame.specs.declared.Frame.{Frame}
 use Rattle.gr_know.specs.Values.{known_at, is_Q}
 use Rattle.gr_curio.specs.Values.{Wanted, wanted_at, asked_at, is_C, is_outstanding}
 use Rattle.gr_model.specs.Net.{Net, is_host, keeps_horizon}
-use Rattle.gr_model.specs.Broker.{View, Outcome, any_C, is_settled, place_of, curiosity, receive}
+use Rattle.gr_model.specs.Broker.{View, Outcome, any_C, is_consolidated_by, place_of, curiosity, receive}
 use Rattle.gr_model.specs.World.{World, view_of, log_of, deliver_frame, frames_past, sent_since, is_want}
 use Rattle.gr_model.specs.Tree.{IsNet}
 use Rattle.gr_theorems.specs.Fits.{WorldFits, FrameTrue, BodyTrue, BodyFits, facts_of}
@@ -32,7 +32,7 @@ use Rattle.gr_theorems.proofs.sweep.SweepStates.{IsChild, Unknowns}
 use Rattle.gr_theorems.proofs.sweep.FirstUnknown.{asked_open, stored_any, curiosity_any, unknown_calls}
 
 -- a Curiosity frame that waits, while brokers at depth d are woken: it goes to a broker less deep; what it asks at the tick its sender has noted with this moment; and an A at the tick comes from a broker at that depth or deeper that has not asked the tick at this moment
-pub record Waits (net : Net) (p t m d : ℕ) (w : World) (f : Frame) : Type 0 where
+pub record WaitsUp (net : Net) (p t m d : ℕ) (w : World) (f : Frame) : Type 0 where
   pub runs : Wanted
   pub body_is : f.body ≡ body.Curiosity runs
   pub publisher : f.head.publisher ≡ p
@@ -41,7 +41,7 @@ pub record Waits (net : Net) (p t m d : ℕ) (w : World) (f : Frame) : Type 0 wh
   pub final : wanted_at runs t ≡ A → (d ≤ net.depth p f.head.from) × (asked_at (view_of w f.head.from p).asks t ≢ At m)
 
 -- a child that has asked the tick at this moment has its question stored at c
-pub record ChildAsks (net : Net) (p t m : ℕ) (w : World) (c : ℕ) : Type 0 where
+pub record AskedByChild (net : Net) (p t m : ℕ) (w : World) (c : ℕ) : Type 0 where
   pub child : ℕ
   pub is_child : IsChild net p c child
   pub stored : wanted_at (wants_of net p c (view_of w c p) child) t ≡ C
@@ -49,10 +49,10 @@ pub record ChildAsks (net : Net) (p t m : ℕ) (w : World) (c : ℕ) : Type 0 wh
 
 -- why c has not consolidated the tick: its horizon is below it; or a child asks it, and no curiosity comes any more so deep, or that child asked it at this moment
 abbrev pub OpenBy : Net → ℕ → ℕ → ℕ → ℕ → World → ℕ → Type 0
-OpenBy net p t m d w c = ((keeps_horizon net p c ≡ true) × ((view_of w c p).horizon < t)) ⊎ (((any_C (view_of w c p).wants t ≡ true) × (d ≤ net.depth p c)) ⊎ ChildAsks net p t m w c)
+OpenBy net p t m d w c = ((keeps_horizon net p c ≡ true) × ((view_of w c p).horizon < t)) ⊎ (((any_C (view_of w c p).wants t ≡ true) × (d ≤ net.depth p c)) ⊎ AskedByChild net p t m w c)
 
 -- a broker has asked at this moment what its children ask, and what it needs and is idle
-pub record HasAsked (net : Net) (p t m : ℕ) (w : World) (b : ℕ) : Type 0 where
+pub record HasAskedAll (net : Net) (p t m : ℕ) (w : World) (b : ℕ) : Type 0 where
   pub stored : any_C (view_of w b p).wants t ≡ true → asked_at (view_of w b p).asks t ≡ At m
   pub needed : t + net.idle ≤ m → needs net p b (view_of w b p) t ≡ true → asked_at (view_of w b p).asks t ≡ At m
 
@@ -65,29 +65,29 @@ pub record FirstAt (net : Net) (p t m first d : ℕ) (woken : List ℕ) (w : Wor
   pub now : AsksNow net m w
   pub unknown : Unknowns net w
   pub first_in : first ≤ length w.frames
-  pub waits : Each (Waits net p t m d w) pending
+  pub waits : Each (WaitsUp net p t m d w) pending
   pub claim : Claim net p t m first w pending
   pub opened : (c : ℕ) → c < net.brokers → asked_at (view_of w c p).asks t ≡ At m → OpenBy net p t m d w c
   -- a broker does not know what it has asked at this moment
   pub unknown_asked : (c : ℕ) → c < net.brokers → asked_at (view_of w c p).asks t ≡ At m → known_at (view_of w c p).know t ≡ Q
-  pub asked : (b : ℕ) → b < net.brokers → IsIn b woken → is_host net p b ≡ false → HasAsked net p t m w b
+  pub asked : (b : ℕ) → b < net.brokers → IsIn b woken → is_host net p b ≡ false → HasAskedAll net p t m w b
 
 -- such a broker has not consolidated the tick
-pub opened_not_settled : (net : Net) (p t m d : ℕ) (w : World) (c : ℕ) → OpenBy net p t m d w c → is_settled (keeps_horizon net p c) (view_of w c p).horizon (view_of w c p).wants t ≡ false
-opened_not_settled net p t m d w c (inl h) = ap (λ k. is_settled k (view_of w c p).horizon (view_of w c p).wants t) h.0 ∙ not_done (view_of w c p).horizon t (view_of w c p).wants h.1
+pub opened_not_settled : (net : Net) (p t m d : ℕ) (w : World) (c : ℕ) → OpenBy net p t m d w c → is_consolidated_by (keeps_horizon net p c) (view_of w c p).horizon (view_of w c p).wants t ≡ false
+opened_not_settled net p t m d w c (inl h) = ap (λ k. is_consolidated_by k (view_of w c p).horizon (view_of w c p).wants t) h.0 ∙ not_done (view_of w c p).horizon t (view_of w c p).wants h.1
 opened_not_settled net p t m d w c (inr (inl h)) = asked_open (keeps_horizon net p c) (view_of w c p).horizon (view_of w c p).wants t h.0
 opened_not_settled net p t m d w c (inr (inr h)) = asked_open (keeps_horizon net p c) (view_of w c p).horizon (view_of w c p).wants t (stored_any (view_of w c p).wants (place_of h.child (net.children p c)) t (ap is_C h.stored))
 
 -- what a broker needs it has not consolidated
-pub needed_not_settled : (net : Net) (p b : ℕ) (v : View) (t : ℕ) → needs net p b v t ≡ true → is_settled (keeps_horizon net p b) v.horizon v.wants t ≡ false
+pub needed_not_settled : (net : Net) (p b : ℕ) (v : View) (t : ℕ) → needs net p b v t ≡ true → is_consolidated_by (keeps_horizon net p b) v.horizon v.wants t ≡ false
 needed_not_settled net p b v t e =
     ⊎_elim
     (λ x. asked_open (keeps_horizon net p b) v.horizon v.wants t x)
-    (λ x. let y = and_parts (keeps_horizon net p b) (nat_lt v.horizon t) x in ap (λ k. is_settled k v.horizon v.wants t) y.0 ∙ not_done v.horizon t v.wants (ltb-true v.horizon t y.1))
+    (λ x. let y = and_parts (keeps_horizon net p b) (nat_lt v.horizon t) x in ap (λ k. is_consolidated_by k v.horizon v.wants t) y.0 ∙ not_done v.horizon t v.wants (ltb-true v.horizon t y.1))
     (or_cases (any_C v.wants t) (keeps_horizon net p b && nat_lt v.horizon t) (and_parts (is_Q (known_at v.know t)) (any_C v.wants t || (keeps_horizon net p b && nat_lt v.horizon t)) e).1)
 
 -- the same view says the same
-pub same_asked : (net : Net) (p t m : ℕ) (w y : World) (b : ℕ) → view_of y b p ≡ view_of w b p → HasAsked net p t m w b → HasAsked net p t m y b
+pub same_asked : (net : Net) (p t m : ℕ) (w y : World) (b : ℕ) → view_of y b p ≡ view_of w b p → HasAskedAll net p t m w b → HasAskedAll net p t m y b
 same_asked net p t m w y b e h = record {
   stored = λ a. ap (λ v. asked_at v.asks t) e ∙ h.stored (sym (ap (λ v. any_C v.wants t) e) ∙ a);
   needed = λ l a. ap (λ v. asked_at v.asks t) e ∙ h.needed l (sym (ap (λ v. needs net p b v t) e) ∙ a);
@@ -101,7 +101,7 @@ module _ (net : Net) (p t m first d : ℕ) (woken : List ℕ) (w : World) (x : F
   abbrev y : World
   y = (deliver_frame net w x).world
 
-  abbrev a : Waits net p t m d w x
+  abbrev a : WaitsUp net p t m d w x
   a = h.waits.0
 
   abbrev o : Outcome
@@ -121,7 +121,7 @@ module _ (net : Net) (p t m first d : ℕ) (woken : List ℕ) (w : World) (x : F
   unknown_then = (unknown_calls net n).delivered w x f tr tt h.unknown
 
   -- a question of a child that asked it at this moment stays
-  stored_on : (c : ℕ) → c < net.brokers → (g : ChildAsks net p t m w c) → wanted_at (wants_of net p c (view_of y c p) g.child) t ≡ C
+  stored_on : (c : ℕ) → c < net.brokers → (g : AskedByChild net p t m w c) → wanted_at (wants_of net p c (view_of y c p) g.child) t ≡ C
   stored_on c i g =
       let s : Stores net w p c g.child t = record { asks = g.stored; unknown = h.unknown.each p c g.child t j i g.is_child g.stored } in
       (stores_stay net w x a.runs p c g.child t n f tr a.body_is g.is_child (λ q r e z. (a.final z).1 (subst (λ b. asked_at (view_of w b p).asks t ≡ At m) (sym e) g.asked)) s).asks
@@ -137,8 +137,8 @@ module _ (net : Net) (p t m first d : ℕ) (woken : List ℕ) (w : World) (x : F
       same_horizon = ap (λ q. (view_of w x.head.to q).horizon) a.publisher
 
   -- a broker that had asked the tick does not consolidate it
-  open_on : (c : ℕ) → c < net.brokers → OpenBy net p t m d w c → is_settled (keeps_horizon net p c) (view_of y c p).horizon (view_of y c p).wants t ≡ false
-  open_on c i (inl g) = ap (λ q. is_settled q (view_of y c p).horizon (view_of y c p).wants t) g.0 ∙ not_done (view_of y c p).horizon t (view_of y c p).wants (horizon_on c g.1)
+  open_on : (c : ℕ) → c < net.brokers → OpenBy net p t m d w c → is_consolidated_by (keeps_horizon net p c) (view_of y c p).horizon (view_of y c p).wants t ≡ false
+  open_on c i (inl g) = ap (λ q. is_consolidated_by q (view_of y c p).horizon (view_of y c p).wants t) g.0 ∙ not_done (view_of y c p).horizon t (view_of y c p).wants (horizon_on c g.1)
   open_on c i (inr (inl g)) =
       let far : c ≢ x.head.to = λ q. omega (arith, g.1, a.below, ap (net.depth p) q) in
       asked_open (keeps_horizon net p c) (view_of y c p).horizon (view_of y c p).wants t (ap (λ v. any_C v.wants t) (k.taken.other c p far) ∙ g.0)
@@ -147,9 +147,9 @@ module _ (net : Net) (p t m first d : ℕ) (woken : List ℕ) (w : World) (x : F
   -- so the receiver does not know it afterwards
   gone : asked_at (view_of w x.head.to p).asks t ≡ At m → known_at (view_of y x.head.to p).know t ≡ Q
   gone e =
-      let open_here : is_settled (keeps_horizon net p x.head.to) o.view.horizon o.view.wants t ≡ false = ap (λ v. is_settled (keeps_horizon net p x.head.to) v.horizon v.wants t) (sym here) ∙ open_on x.head.to tr.fits.to_in (h.opened x.head.to tr.fits.to_in e) in
-      let none : is_settled (keeps_horizon net x.head.publisher x.head.to) (view_of w x.head.to x.head.publisher).horizon o.view.wants t ≡ false =
-      ap (λ z. is_settled (keeps_horizon net x.head.publisher x.head.to) z o.view.wants t) (sym k.ticks.horizon) ∙ subst (λ q. is_settled (keeps_horizon net q x.head.to) o.view.horizon o.view.wants t ≡ false) (sym a.publisher) open_here in
+      let open_here : is_consolidated_by (keeps_horizon net p x.head.to) o.view.horizon o.view.wants t ≡ false = ap (λ v. is_consolidated_by (keeps_horizon net p x.head.to) v.horizon v.wants t) (sym here) ∙ open_on x.head.to tr.fits.to_in (h.opened x.head.to tr.fits.to_in e) in
+      let none : is_consolidated_by (keeps_horizon net x.head.publisher x.head.to) (view_of w x.head.to x.head.publisher).horizon o.view.wants t ≡ false =
+      ap (λ z. is_consolidated_by (keeps_horizon net x.head.publisher x.head.to) z o.view.wants t) (sym k.ticks.horizon) ∙ subst (λ q. is_consolidated_by (keeps_horizon net q x.head.to) o.view.horizon o.view.wants t ≡ false) (sym a.publisher) open_here in
       let old : known_at (view_of w x.head.to x.head.publisher).know t ≡ Q = subst (λ q. known_at (view_of w x.head.to q).know t ≡ Q) (sym a.publisher) (h.unknown_asked x.head.to tr.fits.to_in e) in
       ap (λ v. known_at v.know t) here ∙ ⊎_elim (λ z. z ∙ (ap (λ q. if q then F else known_at (view_of w x.head.to x.head.publisher).know t) none ∙ old)) (λ z. z.0) (k.ticks.know t)
 
@@ -164,7 +164,7 @@ module _ (net : Net) (p t m first d : ℕ) (woken : List ℕ) (w : World) (x : F
       stays_here : asked_at (view_of w x.head.to p).asks t ≡ At m → asked_at (view_of y x.head.to p).asks t ≡ At m
       stays_here e = subst (λ c. asked_at (view_of y x.head.to p).asks t ≡ At c) h.now.clock (noted_stays net w x a.runs p x.head.to t n f tr a.body_is (gone e) (subst (λ c. asked_at (view_of w x.head.to p).asks t ≡ At c) (sym h.now.clock) e))
 
-  sent_wait : (z : Frame) → is_want z ≡ true → UpAsks net x.head.publisher x.head.to t w.clock o.view z → Waits net p t m d y z
+  sent_wait : (z : Frame) → is_want z ≡ true → UpAsks net x.head.publisher x.head.to t w.clock o.view z → WaitsUp net p t m d y z
   sent_wait z e g =
       let u = g e in
       record {
@@ -176,7 +176,7 @@ module _ (net : Net) (p t m first d : ℕ) (woken : List ℕ) (w : World) (x : F
         final = λ c. absurd (u.no_A c);
       }
 
-  kept_wait : (z : Frame) → Waits net p t m d w z → Waits net p t m d y z
+  kept_wait : (z : Frame) → WaitsUp net p t m d w z → WaitsUp net p t m d y z
   kept_wait z g = record {
     runs = g.runs;
     body_is = g.body_is;
@@ -189,7 +189,7 @@ module _ (net : Net) (p t m first d : ℕ) (woken : List ℕ) (w : World) (x : F
         (e.0, λ q. e.1 (sym (ap (λ v. asked_at v.asks t) (k.taken.other z.head.from p far)) ∙ q));
   }
 
-  all_wait : (zs : List Frame) → Each (Waits net p t m d w) zs → Each (Waits net p t m d y) zs
+  all_wait : (zs : List Frame) → Each (WaitsUp net p t m d w) zs → Each (WaitsUp net p t m d y) zs
   all_wait [] g = tt
   all_wait (z ∷ zs) g = (kept_wait z g.0, all_wait zs g.1)
 
@@ -202,7 +202,7 @@ module _ (net : Net) (p t m first d : ℕ) (woken : List ℕ) (w : World) (x : F
   still_open c i (inr (inr g)) = inr (inr (record { child = g.child; is_child = g.is_child; stored = stored_on c i g; asked = stays g.child g.asked }))
 
   -- the receiver had asked it before, or asks it for the child that sent the frame
-  asked_then : asked_at (view_of y x.head.to p).asks t ≡ At m → (asked_at (view_of w x.head.to p).asks t ≡ At m) ⊎ ChildAsks net p t m y x.head.to
+  asked_then : asked_at (view_of y x.head.to p).asks t ≡ At m → (asked_at (view_of w x.head.to p).asks t ≡ At m) ⊎ AskedByChild net p t m y x.head.to
   asked_then e =
       ⊎_elim
       (λ g. inl (subst (λ r. asked_at (view_of w x.head.to r).asks t ≡ At m) a.publisher (g ∙ ap (λ r. At r) h.now.clock)))
@@ -231,7 +231,7 @@ module _ (net : Net) (p t m first d : ℕ) (woken : List ℕ) (w : World) (x : F
       ]
 
   -- the receiver has still asked what it should
-  receiver_asked : is_host net x.head.publisher x.head.to ≡ false → HasAsked net x.head.publisher t w.clock w x.head.to → HasAsked net x.head.publisher t w.clock y x.head.to
+  receiver_asked : is_host net x.head.publisher x.head.to ≡ false → HasAskedAll net x.head.publisher t w.clock w x.head.to → HasAskedAll net x.head.publisher t w.clock y x.head.to
   receiver_asked host g = record { stored = stored; needed = needed }
     where
       q : ℕ
@@ -266,17 +266,17 @@ module _ (net : Net) (p t m first d : ℕ) (woken : List ℕ) (w : World) (x : F
           let z1 : (keeps_horizon net q b && nat_lt v.horizon t) ≡ true = sym (ap (λ c. keeps_horizon net q b && nat_lt c t) (ap (λ u. u.horizon) k.taken.view ∙ k.ticks.horizon)) ∙ z in
           let z2 = and_parts (keeps_horizon net q b) (nat_lt v.horizon t) z1 in
           let lt : v.horizon < t = ltb-true v.horizon t z2.1 in
-          let open_ : is_settled (keeps_horizon net q b) v.horizon o.view.wants t ≡ false = ap (λ c. is_settled c v.horizon o.view.wants t) z2.0 ∙ not_done v.horizon t o.view.wants lt in
+          let open_ : is_consolidated_by (keeps_horizon net q b) v.horizon o.view.wants t ≡ false = ap (λ c. is_consolidated_by c v.horizon o.view.wants t) z2.0 ∙ not_done v.horizon t o.view.wants lt in
           let gone : known_at o.view.know t ≡ Q = sym (ap (λ u. known_at u.know t) k.taken.view) ∙ Q_is (known_at (view_of y b q).know t) s.0 in
           let old : known_at v.know t ≡ Q = ⊎_elim (λ c. sym (c ∙ ap (λ r. if r then F else known_at v.know t) open_) ∙ gone) (λ c. absurd (omega (arith, lt, c.2 z2.0))) (k.ticks.know t) in
           noted (Q_is (known_at (view_of y b q).know t) s.0) (g.needed l (ap (λ c. is_Q c && (any_C v.wants t || (keeps_horizon net q b && nat_lt v.horizon t))) old ∙ or_right (any_C v.wants t) (keeps_horizon net q b && nat_lt v.horizon t) z1)))
           (or_cases (any_C (view_of y b q).wants t) (keeps_horizon net q b && nat_lt (view_of y b q).horizon t) s.1)
 
-  still_asked : (b : ℕ) → is_host net p b ≡ false → HasAsked net p t m w b → HasAsked net p t m y b
+  still_asked : (b : ℕ) → is_host net p b ≡ false → HasAskedAll net p t m w b → HasAskedAll net p t m y b
   still_asked b host g =
       elim (cases_eq b x.head.to) [
         | inr e ↦ same_asked net p t m w y b (k.taken.other b p e) g
-        | inl e ↦ subst (λ z. HasAsked net p t m y z) (sym e) (subst (λ r. HasAsked net r t m y x.head.to) a.publisher (subst (λ c. HasAsked net x.head.publisher t c y x.head.to) h.now.clock (receiver_asked (subst (λ r. is_host net r x.head.to ≡ false) (sym a.publisher) (subst (λ z. is_host net p z ≡ false) e host)) (subst (λ c. HasAsked net x.head.publisher t c w x.head.to) (sym h.now.clock) (subst (λ r. HasAsked net r t m w x.head.to) (sym a.publisher) (subst (λ z. HasAsked net p t m w z) e g))))))
+        | inl e ↦ subst (λ z. HasAskedAll net p t m y z) (sym e) (subst (λ r. HasAskedAll net r t m y x.head.to) a.publisher (subst (λ c. HasAskedAll net x.head.publisher t c y x.head.to) h.now.clock (receiver_asked (subst (λ r. is_host net r x.head.to ≡ false) (sym a.publisher) (subst (λ z. is_host net p z ≡ false) e host)) (subst (λ c. HasAskedAll net x.head.publisher t c w x.head.to) (sym h.now.clock) (subst (λ r. HasAskedAll net r t m w x.head.to) (sym a.publisher) (subst (λ z. HasAskedAll net p t m w z) e g))))))
       ]
 
   delivered : FirstAt net p t m first d woken y (sent_up net w x ++ fs)
@@ -284,7 +284,7 @@ module _ (net : Net) (p t m first d : ℕ) (woken : List ℕ) (w : World) (x : F
     now = (now_closed net m n).delivered w x f tr (subst (ExpectBody net x.head.publisher x.head.to) (sym a.body_is) tt) h.now;
     unknown = unknown_then;
     first_in = subst (λ z. first ≤ length z) (sym k.taken.frames) (longer first w.frames o.frames h.first_in);
-    waits = Each-on (Waits net p t m d y) (sent_up net w x) fs (subst (λ z. Each (Waits net p t m d y) (filter is_want z)) (sym since) (up_kept (UpAsks net x.head.publisher x.head.to t w.clock o.view) (Waits net p t m d y) o.frames sent_wait (k.ticks.sends t))) (all_wait fs h.waits.1);
+    waits = Each-on (WaitsUp net p t m d y) (sent_up net w x) fs (subst (λ z. Each (WaitsUp net p t m d y) (filter is_want z)) (sym since) (up_kept (UpAsks net x.head.publisher x.head.to t w.clock o.view) (WaitsUp net p t m d y) o.frames sent_wait (k.ticks.sends t))) (all_wait fs h.waits.1);
     claim = subst (λ z. Claim net p t z first y (sent_up net w x ++ fs)) h.now.clock
         (claim_kept net p t first w x a.runs fs n f tr (subst (λ z. AsksNow net z w) (sym h.now.clock) h.now) a.body_is (λ g e. (a.final e).1 (g ∙ ap (λ z. At z) h.now.clock)) h.first_in (subst (λ z. Claim net p t z first w (x ∷ fs)) (sym h.now.clock) h.claim));
     opened = opened;

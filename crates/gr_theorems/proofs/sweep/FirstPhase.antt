@@ -28,7 +28,7 @@ use Rattle.gr_theorems.proofs.sweep.Stays.{same_stores}
 use Rattle.gr_theorems.proofs.sweep.Path.{Path, Has-past, Has-last}
 use Rattle.gr_theorems.proofs.sweep.SweepStates.{IsChild, Begins, Asked, first_phase}
 use Rattle.gr_theorems.proofs.sweep.FirstUnknown.{unknown_calls}
-use Rattle.gr_theorems.proofs.sweep.FirstPending.{HasAsked, FirstAt, longer}
+use Rattle.gr_theorems.proofs.sweep.FirstPending.{HasAskedAll, FirstAt, longer}
 use Rattle.gr_theorems.proofs.sweep.FirstOrder.{HostLast, host_last, woken_before}
 use Rattle.gr_theorems.proofs.sweep.FirstTurns.{Turned, turned, TurnsKeep, turns_keep}
 use Rattle.gr_theorems.proofs.sweep.FirstHost.{TellsMark, host_tells, host_alone, woken_taken}
@@ -102,7 +102,7 @@ module _ (net : Net) (p m : ℕ) (w : World) (n : IsNet net) (begun : Begins net
   at_last : (t : ℕ) → Turned net p t m first order.before [] w u
   at_last t = turned net p t m first net.brokers order.before [] w n j begun.fits order.falls order.below (at_first t)
 
-  have_asked : (b t : ℕ) → b < net.brokers → is_host net p b ≡ false → HasAsked net p t m u b
+  have_asked : (b t : ℕ) → b < net.brokers → is_host net p b ≡ false → HasAskedAll net p t m u b
   have_asked b t i h = let r = at_last t in r.holds.asked b i (r.all b (inl (woken_before net p b order.before n j order.is i h))) h
 
   settled_before : (log_of u p).settled ≡ s

@@ -14,7 +14,7 @@ use Rattle.gr_theorems.proofs.sweep.Upward.{rank_of, sent_up_less, ranks}
 use Rattle.gr_theorems.proofs.sweep.Pending.{IsPending, deliver_up_all}
 use Rattle.gr_theorems.proofs.sweep.FirstPending.{IsIn, FirstAt}
 use Rattle.gr_theorems.proofs.sweep.FirstWake.{first_woken}
-use Rattle.gr_theorems.proofs.sweep.FirstOrder.{Falls, IsBelow}
+use Rattle.gr_theorems.proofs.sweep.FirstOrder.{FallsFrom, IsBelow}
 
 -- The log stays
 
@@ -44,7 +44,7 @@ pub record Turned (net : Net) (p t m first : ℕ) (xs woken : List ℕ) (w y : W
   pub all : (b : ℕ) → IsIn b xs ⊎ IsIn b woken → IsIn b now_woken
   pub holds : FirstAt net p t m first depth now_woken y []
 
-pub turned : (net : Net) (p t m first d : ℕ) (xs woken : List ℕ) (w : World) → IsNet net → p < net.publishers → WorldFits net w → Falls net p d xs → Each (IsBelow net p) xs → FirstAt net p t m first d woken w [] → Turned net p t m first xs woken w (in_turn (wake_up net p) xs w).world
+pub turned : (net : Net) (p t m first d : ℕ) (xs woken : List ℕ) (w : World) → IsNet net → p < net.publishers → WorldFits net w → FallsFrom net p d xs → Each (IsBelow net p) xs → FirstAt net p t m first d woken w [] → Turned net p t m first xs woken w (in_turn (wake_up net p) xs w).world
 turned net p t m first d [] woken w n j f falls below h = record { depth = d; now_woken = woken; all = λ b e. ⊎_elim (λ x. absurd (false≢true x)) (λ x. x) e; holds = h }
 turned net p t m first d (x ∷ xs) woken w n j f falls below h =
     let y = (wake_up net p w x).world in

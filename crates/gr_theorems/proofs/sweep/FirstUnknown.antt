@@ -17,7 +17,7 @@ use Rattle.gr_sched.specs.declared.step.Line.{Line}
 use Rattle.gr_know.specs.Values.{Known, known_at, is_Q, join_K}
 use Rattle.gr_curio.specs.Values.{Wanted, wanted_at, is_C, is_A}
 use Rattle.gr_model.specs.Net.{Net, is_host, keeps_horizon, numbers}
-use Rattle.gr_model.specs.Broker.{View, Log, Outcome, empty_log, all_A, any_C, horizon_if, is_reached, is_settled, new_ticks, forward, quenched, forward_wants, learn, asking, expect, curiosity, curious, stored, acknowledged, place_of, publish, silence, with_event, with_mark, marking, wake, wake_host, wake_below, receive, clashes, noted, due, started}
+use Rattle.gr_model.specs.Broker.{View, Log, Outcome, empty_log, all_A, any_C, horizon_if, is_reached, is_consolidated_by, new_ticks, forward, still_wanted, forward_wants, learn, asking, expect, curiosity, curious, stored, acknowledged, place_of, publish, silence, with_event, with_mark, marking, wake, wake_host, wake_below, receive, clashes, noted, due, started}
 use Rattle.gr_model.specs.World.{World, blank_view, view_of, log_of, absorbed, wake_for, deliver_frame, publish_now, restarted, start, run_all, deliver_frame_by, publish_now_by, wake_for_by}
 use Rattle.gr_theorems.specs.Truth.{Facts, KnowsTruth, WantsTruth, AllWantTruth}
 use Rattle.gr_model.specs.Tree.{IsNet, IsPlace}
@@ -51,7 +51,7 @@ any_C_not_all (w ∷ ws) t e =
     (or_cases (is_C (wanted_at w t)) (any_C ws t) e)
 
 -- so the tick is not consolidated
-pub asked_open : (keeps : Bool) (h : ℕ) (ws : List Wanted) (t : ℕ) → any_C ws t ≡ true → is_settled keeps h ws t ≡ false
+pub asked_open : (keeps : Bool) (h : ℕ) (ws : List Wanted) (t : ℕ) → any_C ws t ≡ true → is_consolidated_by keeps h ws t ≡ false
 asked_open keeps h ws t e = ap (λ q. nat_le 1 t && is_reached (horizon_if keeps h) t && q) (any_C_not_all ws t e) ∙ and_right (nat_le 1 t && is_reached (horizon_if keeps h) t) false refl
 
 -- a stored C is one of the list
@@ -96,11 +96,11 @@ any_forward net f p t new [] (w ∷ ws) a r e = absurd a
 any_forward net f p t new (c ∷ cs) [] a r e = absurd a
 any_forward net f p t new (c ∷ cs) (w ∷ ws) a r e =
     let s = forward-is net p c w new a.0.runs r in
-    let v : wanted_at (quenched w (forward net p c w new)) t ≡ quenched_at net p c t (known_at new t) (wanted_at w t) = (quenched-is w (forward net p c w new) a.0.runs s.runs).same_at t ∙ ap (λ k. if is_C (wanted_at w t) && not (is_Q k) then N else wanted_at w t) (s.same_at t) in
+    let v : wanted_at (still_wanted w (forward net p c w new)) t ≡ quenched_at net p c t (known_at new t) (wanted_at w t) = (quenched-is w (forward net p c w new) a.0.runs s.runs).same_at t ∙ ap (λ k. if is_C (wanted_at w t) && not (is_Q k) then N else wanted_at w t) (s.same_at t) in
     ⊎_elim
-    (λ x. let z = quenched_C net p c t (known_at new t) (wanted_at w t) (sym v ∙ C_of (wanted_at (quenched w (forward net p c w new)) t) x) in (or_left (is_C (wanted_at w t)) (any_C ws t) (ap is_C z.0), z.1))
+    (λ x. let z = quenched_C net p c t (known_at new t) (wanted_at w t) (sym v ∙ C_of (wanted_at (still_wanted w (forward net p c w new)) t) x) in (or_left (is_C (wanted_at w t)) (any_C ws t) (ap is_C z.0), z.1))
     (λ x. let z = any_forward net f p t new cs ws a.1 r x in (or_right (is_C (wanted_at w t)) (any_C ws t) z.0, z.1))
-    (or_cases (is_C (wanted_at (quenched w (forward net p c w new)) t)) (any_C (forward_wants net p new cs ws) t) e)
+    (or_cases (is_C (wanted_at (still_wanted w (forward net p c w new)) t)) (any_C (forward_wants net p new cs ws) t) e)
 
 -- Calls
 

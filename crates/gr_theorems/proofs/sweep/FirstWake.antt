@@ -12,7 +12,7 @@ use Rattle.gr_know.specs.Values.{known_at, is_Q}
 use Rattle.gr_curio.specs.Values.{Wanted, wanted_at, asked_at, is_C, is_outstanding}
 use Rattle.gr_tick.specs.Runs.{top_of}
 use Rattle.gr_model.specs.Net.{Net, is_host, keeps_horizon}
-use Rattle.gr_model.specs.Broker.{View, Outcome, any_C, is_settled, wake, up_frames, wanted_at_wake}
+use Rattle.gr_model.specs.Broker.{View, Outcome, any_C, is_consolidated_by, wake, up_frames, wanted_at_wake}
 use Rattle.gr_model.specs.World.{World, view_of, log_of, wake_for, wake_up, frames_past, sent_since, is_want, wake_up_by}
 use Rattle.gr_model.specs.Tree.{IsNet}
 use Rattle.gr_theorems.specs.Fits.{WorldFits}
@@ -27,7 +27,7 @@ use Rattle.gr_theorems.proofs.sweep.Upward.{rank_of, up_kept, ranks}
 use Rattle.gr_theorems.proofs.sweep.Pending.{deliver_up_all}
 use Rattle.gr_theorems.proofs.sweep.Path.{Path, Has-past, Has-wants}
 use Rattle.gr_theorems.proofs.sweep.FirstUnknown.{unknown_calls}
-use Rattle.gr_theorems.proofs.sweep.FirstPending.{Waits, OpenBy, HasAsked, IsIn, FirstAt, opened_not_settled, needed_not_settled, same_asked, longer, first_pending}
+use Rattle.gr_theorems.proofs.sweep.FirstPending.{WaitsUp, OpenBy, HasAskedAll, IsIn, FirstAt, opened_not_settled, needed_not_settled, same_asked, longer, first_pending}
 
 C_of : (q : Q3) → is_C q ≡ true → q ≡ C
 C_of N e = absurd (false≢true e)
@@ -67,7 +67,7 @@ module _ (net : Net) (p t m first d0 : ℕ) (woken : List ℕ) (w : World) (b : 
   piece = wake_piece net p b w.clock v
 
   abbrev settled_here : Bool
-  settled_here = is_settled (keeps_horizon net p b) v.horizon v.wants t
+  settled_here = is_consolidated_by (keeps_horizon net p b) v.horizon v.wants t
 
   k : WokenBelow net w y b p o
   k = woken_below net w b p f i j host
@@ -173,9 +173,9 @@ module _ (net : Net) (p t m first d0 : ℕ) (woken : List ℕ) (w : World) (b : 
 
   not_both : settled_here ≡ true → asked_at (view_of y b p).asks t ≢ At m
   not_both e g =
-      true≢false (sym e ∙ (ap₂ (λ x ws. is_settled (keeps_horizon net p b) x ws t) (sym (same_horizon b)) (sym (same_wants b)) ∙ opened_not_settled net p t m d y b (opened b i g)))
+      true≢false (sym e ∙ (ap₂ (λ x ws. is_consolidated_by (keeps_horizon net p b) x ws t) (sym (same_horizon b)) (sym (same_wants b)) ∙ opened_not_settled net p t m d y b (opened b i g)))
 
-  sent_wait : (z : Frame) → is_want z ≡ true → SentUp net p b t piece z → Waits net p t m d y z
+  sent_wait : (z : Frame) → is_want z ≡ true → SentUp net p b t piece z → WaitsUp net p t m d y z
   sent_wait z e u = record {
     runs = u.part;
     body_is = u.body_is;
@@ -229,10 +229,10 @@ module _ (net : Net) (p t m first d0 : ℕ) (woken : List ℕ) (w : World) (b : 
       by_asking (λ g. needed_is_asked net p b w.clock t v o k.ticks need (omega (arith, l, h.now.clock)) g))
       (or_cases (any_C (view_of y b p).wants t) (keeps_horizon net p b && nat_lt (view_of y b p).horizon t) s.1)
 
-  asked : (c : ℕ) → c < net.brokers → IsIn c (b ∷ woken) → is_host net p c ≡ false → HasAsked net p t m y c
+  asked : (c : ℕ) → c < net.brokers → IsIn c (b ∷ woken) → is_host net p c ≡ false → HasAskedAll net p t m y c
   asked c x l e =
       elim (cases_eq c b) [
-        | inl g ↦ subst (λ z. HasAsked net p t m y z) (sym g) (record { stored = asked_stored; needed = asked_needed })
+        | inl g ↦ subst (λ z. HasAskedAll net p t m y z) (sym g) (record { stored = asked_stored; needed = asked_needed })
         | inr g ↦ same_asked net p t m w y c (k.taken.other c p g) (h.asked c x (⊎_elim (λ z. absurd (g (sym (eqb-true b c z)))) (λ z. z) (or_cases (nat_eq b c) (list_any (λ z. nat_eq z c) woken) l)) e)
       ]
 
@@ -241,7 +241,7 @@ module _ (net : Net) (p t m first d0 : ℕ) (woken : List ℕ) (w : World) (b : 
     now = (now_closed net m n).woken w b p f i j h.now;
     unknown = (unknown_calls net n).woken w b p f i j h.unknown;
     first_in = subst (λ z. first ≤ length z) (sym k.taken.frames) (longer first w.frames o.frames h.first_in);
-    waits = subst (λ z. Each (Waits net p t m d y) (filter is_want z)) (sym (since ∙ k.ticks.frames)) (up_kept (SentUp net p b t piece) (Waits net p t m d y) (up_frames net p b piece) sent_wait (up_frames_sent net t p b piece k.ticks.piece_runs));
+    waits = subst (λ z. Each (WaitsUp net p t m d y) (filter is_want z)) (sym (since ∙ k.ticks.frames)) (up_kept (SentUp net p b t piece) (WaitsUp net p t m d y) (up_frames net p b piece) sent_wait (up_frames_sent net t p b piece k.ticks.piece_runs));
     claim = λ c u child up e. ⊎_elim (λ a. ⊎_elim (λ z. inl (path_stays c u z)) (λ z. absurd z) (h.claim c u child up a)) (λ z. inr z) (older c u up e);
     opened = opened;
     unknown_asked = unknown_asked;

@@ -15,7 +15,7 @@ use Rattle.gr_frame.specs.Bytes.{frame_bytes}
 use Rattle.gr_model.specs.Net.{Net, keeps_horizon, not_empty, numbers}
 use Rattle.gr_theorems.specs.Rules.{Publishes, Wakes, Comes}
 use Rattle.gr_model.specs.Broker.{View, Log, Outcome, started, with_event, is_kept, max_tick, publish, wake, receive}
-use Rattle.gr_model.specs.World.{absorbed, World, Told, is_want, inwards, outwards, view_of, log_of, unchanged, in_turn, wake_for, wake_all, deliver_frame, frame_at, publish_now, opened_lines, restarted, crash, publish_stopped, sweep, sweep_moment, kept_events, show, next, start, run_from, report_of, deliver_frame_by, next_by, publish_now_by, publish_stopped_by, report_of_by, run_from_by, sweep_by, wake_all_by, wake_for_by}
+use Rattle.gr_model.specs.World.{absorbed, World, Transition, is_want, inwards, outwards, view_of, log_of, unchanged, in_turn, wake_for, wake_all, deliver_frame, frame_at, publish_now, opened_lines, restarted, crash, publish_stopped, sweep, sweep_moment, kept_events, show, next, start, run_from, report_of, deliver_frame_by, next_by, publish_now_by, publish_stopped_by, report_of_by, run_from_by, sweep_by, wake_all_by, wake_for_by}
 use Rattle.gr_model.specs.Tree.{IsNet}
 use Rattle.gr_theorems.specs.Fits.{WorldFits, StepIn, StepsIn, reached_in}
 use Rattle.gr_model.specs.Headline.{says_kept}
@@ -91,7 +91,7 @@ all_done_made : (net : Net) (cs : List Call) (w : World) → all_done net (map m
 all_done_made net [] w = refl
 all_done_made net (c ∷ cs) w =
     let s = made net w c in
-    ap (λ (r : Told). let t : Told = record { world = r.world; lines = s.lines ++ r.lines } in t) (all_done_made net cs s.world)
+    ap (λ (r : Transition). let t : Transition = record { world = r.world; lines = s.lines ++ r.lines } in t) (all_done_made net cs s.world)
 
 turns_in : {X : Type 0} (net : Net) (ok : X → Type 0) (g : World → X → List Call) → ((w : World) (x : X) → ok x → Each (IsIn net) (g w x)) → (xs : List X) (w : World) → Each ok xs → Each (IsIn net) (calls_in_turn net g xs w)
 turns_in net ok g one [] w a = tt
@@ -147,7 +147,7 @@ wakes_done : (net : Net) (b : ℕ) (ps : List ℕ) (w : World) → in_turn (λ u
 wakes_done net b [] w = refl
 wakes_done net b (p ∷ ps) w =
     let s = wake_for net w b p in
-    ap (λ (r : Told). let t : Told = record { world = r.world; lines = s.lines ++ r.lines } in t) (wakes_done net b ps s.world)
+    ap (λ (r : Transition). let t : Transition = record { world = r.world; lines = s.lines ++ r.lines } in t) (wakes_done net b ps s.world)
 
 -- Lines of no call
 
@@ -182,7 +182,7 @@ show_crash net w = refl
 -- One step
 
 -- what is to be shown of what a step tells, its calls, and the world in which they are made
-record Parts (net : Net) (w : World) (t : Told) (cs : List Action) (u : World) : Type 0 where
+record Parts (net : Net) (w : World) (t : Transition) (cs : List Action) (u : World) : Type 0 where
   obey : AllObey net cs u
   own : List Report
   lines : t.lines ≡ (all_done net cs u).lines ++ own
@@ -199,11 +199,11 @@ some_same : (b c : ℕ) → Some b ≡ Some c → b ≡ c
 some_same b c e = cc
 
 -- no call and no crash, and lines of the step's own
-no_calls : (net : Net) (w : World) (t : Told) → filter is_own t.lines ≡ t.lines → t.world.frames ≡ w.frames → t.world.views ≡ w.views → t.world.logs ≡ w.logs → crashed_in t.lines ≡ None → Parts net w t [] w
+no_calls : (net : Net) (w : World) (t : Transition) → filter is_own t.lines ≡ t.lines → t.world.frames ≡ w.frames → t.world.views ≡ w.views → t.world.logs ≡ w.logs → crashed_in t.lines ≡ None → Parts net w t [] w
 no_calls net w t o f v g c = record { obey = tt; own = t.lines; lines = refl; own_only = o; frames = f; views = λ z. v; restarts = λ b z. absurd (none_some b (sym c ∙ z)); logs = λ z. g }
 
 -- the calls alone
-calls_alone : (net : Net) (t : Told) (cs : List Action) (w : World) → AllObey net cs w → t ≡ all_done net cs w → Parts net w t cs w
+calls_alone : (net : Net) (t : Transition) (cs : List Action) (w : World) → AllObey net cs w → t ≡ all_done net cs w → Parts net w t cs w
 calls_alone net t cs w a e = record {
   obey = a;
   own = [];
@@ -217,7 +217,7 @@ calls_alone net t cs w a e = record {
 
 -- one call alone
 one_done : (net : Net) (w : World) (c : Action) → done net w c ≡ all_done net (c ∷ []) w
-one_done net w c = let s = done net w c in ap (λ ls. let t : Told = record { world = s.world; lines = ls } in t) (sym (append-nil s.lines))
+one_done net w c = let s = done net w c in ap (λ ls. let t : Transition = record { world = s.world; lines = ls } in t) (sym (append-nil s.lines))
 
 publish_parts : (net : Net) (w : World) (p number : ℕ) (e : Event) → IsNet net → WorldFits net w → p < net.publishers → Parts net w (publish_now net w p number e) (publishes p number e ∷ []) w
 publish_parts net w p number e n f j = calls_alone net (publish_now net w p number e) (publishes p number e ∷ []) w (publish_obeys net w p number e n f j, tt) (one_done net w (publishes p number e))
@@ -269,7 +269,7 @@ stopped_parts net w k p number stop e n f j = go (not_empty (net.subscribers_at 
     keeps false z = refl
 
     go : (x y : Bool) → Parts net w
-        (let t : Told = elim x [
+        (let t : Transition = elim x [
           | true ↦ unchanged w (line.RefusedHosts k b ∷ [])
           | false ↦ elim y [ false ↦ publish_now net w p number e | true ↦ record { world = restarted net u b; lines = line.Crashed b ∷ ((if kept then line.Kept p number tick else line.Lost p number tick) ∷ opened_lines net logs b) } ]
         ] in t)
@@ -279,10 +279,10 @@ stopped_parts net w k p number stop e n f j = go (not_empty (net.subscribers_at 
     go false false = publish_parts net w p number e n f j
 
 deliver_parts : (net : Net) (w : World) (number k : ℕ) → IsNet net → WorldFits net w →
-    (let t : Told = elim (frame_at w k) [ None ↦ unchanged w (line.RefusedFrame number k (length w.frames) ∷ []) | Some x ↦ deliver_frame net w x ] in Parts net w t (elim (frame_at w k) [ None ↦ [] | Some x ↦ makes (delivers k) ∷ [] ]) w)
+    (let t : Transition = elim (frame_at w k) [ None ↦ unchanged w (line.RefusedFrame number k (length w.frames) ∷ []) | Some x ↦ deliver_frame net w x ] in Parts net w t (elim (frame_at w k) [ None ↦ [] | Some x ↦ makes (delivers k) ∷ [] ]) w)
 deliver_parts net w number k n f = go (frame_at w k) refl
   where
-    go : (o : Option Frame) → frame_at w k ≡ o → (let t : Told = elim o [ None ↦ unchanged w (line.RefusedFrame number k (length w.frames) ∷ []) | Some x ↦ deliver_frame net w x ] in Parts net w t (elim o [ None ↦ [] | Some x ↦ makes (delivers k) ∷ [] ]) w)
+    go : (o : Option Frame) → frame_at w k ≡ o → (let t : Transition = elim o [ None ↦ unchanged w (line.RefusedFrame number k (length w.frames) ∷ []) | Some x ↦ deliver_frame net w x ] in Parts net w t (elim o [ None ↦ [] | Some x ↦ makes (delivers k) ∷ [] ]) w)
     go None e = no_calls net w (unchanged w (line.RefusedFrame number k (length w.frames) ∷ [])) refl refl refl refl refl
     go (Some x) e = calls_alone net (deliver_frame net w x) (makes (delivers k) ∷ []) w (delivery_obeys net w k x n f e, tt) (sym (made_is net w k x e) ∙ one_done net w (makes (delivers k)))
 
@@ -297,7 +297,7 @@ sweep_parts net w number n quiet f = go (is_accepted net w) refl
     refused e = rw (sweep_by, lt-ltb max_tick m (leb-false m max_tick e)) refl
 
     go : (q : Bool) → is_accepted net w ≡ q → Parts net w (sweep net w number) (if q then map makes (sweep_calls net w) else []) (if q then at_sweep net w else w)
-    go false e = subst (λ (t : Told). Parts net w t [] w) (sym (refused e)) (no_calls net w (unchanged w (line.RefusedClock number m ∷ [])) refl refl refl refl refl)
+    go false e = subst (λ (t : Transition). Parts net w t [] w) (sym (refused e)) (no_calls net w (unchanged w (line.RefusedClock number m ∷ [])) refl refl refl refl refl)
     go true e =
         let cs = sweep_calls net w in
         let s = sweep_is_calls net w number (le-ltb max_tick m (leb-true m max_tick e)) in
@@ -313,23 +313,23 @@ sweep_parts net w number n quiet f = go (is_accepted net w) refl
           logs = λ z. ap (λ x. x.world.logs) s ∙ ap (λ x. x.world.logs) (sym d);
         }
 
-bytes_parts : (net : Net) (w : World) (number k : ℕ) → (let t : Told = elim (frame_at w k) [ None ↦ unchanged w (line.RefusedFrame number k (length w.frames) ∷ []) | Some x ↦ unchanged w (line.BytesOf k (frame_bytes x) ∷ []) ] in Parts net w t [] w)
+bytes_parts : (net : Net) (w : World) (number k : ℕ) → (let t : Transition = elim (frame_at w k) [ None ↦ unchanged w (line.RefusedFrame number k (length w.frames) ∷ []) | Some x ↦ unchanged w (line.BytesOf k (frame_bytes x) ∷ []) ] in Parts net w t [] w)
 bytes_parts net w number k = go (frame_at w k)
   where
-    go : (o : Option Frame) → (let t : Told = elim o [ None ↦ unchanged w (line.RefusedFrame number k (length w.frames) ∷ []) | Some x ↦ unchanged w (line.BytesOf k (frame_bytes x) ∷ []) ] in Parts net w t [] w)
+    go : (o : Option Frame) → (let t : Transition = elim o [ None ↦ unchanged w (line.RefusedFrame number k (length w.frames) ∷ []) | Some x ↦ unchanged w (line.BytesOf k (frame_bytes x) ∷ []) ] in Parts net w t [] w)
     go None = no_calls net w (unchanged w (line.RefusedFrame number k (length w.frames) ∷ [])) refl refl refl refl refl
     go (Some x) = no_calls net w (unchanged w (line.BytesOf k (frame_bytes x) ∷ [])) refl refl refl refl refl
 
-crash_step_parts : (net : Net) (w : World) (number b : ℕ) → (let t : Told = elim (not_empty (net.subscribers_at b)) [ true ↦ unchanged w (line.RefusedHosts number b ∷ []) | false ↦ crash net w b ] in Parts net w t [] w)
+crash_step_parts : (net : Net) (w : World) (number b : ℕ) → (let t : Transition = elim (not_empty (net.subscribers_at b)) [ true ↦ unchanged w (line.RefusedHosts number b ∷ []) | false ↦ crash net w b ] in Parts net w t [] w)
 unfolding crash
 crash_step_parts net w number b = go (not_empty (net.subscribers_at b))
   where
-    go : (q : Bool) → (let t : Told = elim q [ true ↦ unchanged w (line.RefusedHosts number b ∷ []) | false ↦ record { world = restarted net w b; lines = line.Crashed b ∷ opened_lines net w.logs b } ] in Parts net w t [] w)
+    go : (q : Bool) → (let t : Transition = elim q [ true ↦ unchanged w (line.RefusedHosts number b ∷ []) | false ↦ record { world = restarted net w b; lines = line.Crashed b ∷ opened_lines net w.logs b } ] in Parts net w t [] w)
     go true = no_calls net w (unchanged w (line.RefusedHosts number b ∷ [])) refl refl refl refl refl
     go false = crash_parts net w w b (opened_lines net w.logs b) refl refl (λ z. refl) (opened_own net w.logs b)
 
 -- what a step does, by its kind
-abbrev pub told_at : Net → World → ℕ → Step → Told
+abbrev pub told_at : Net → World → ℕ → Step → Transition
 told_at net w number s =
     elim s [
       | step.Clock now ↦ unchanged (record { clock = now; most = max now w.most; frames = w.frames; views = w.views; logs = w.logs }) []

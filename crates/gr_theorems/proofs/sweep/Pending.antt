@@ -3,7 +3,7 @@ use Rattle.std.proofs.Common.{◌≡◌, ℕ, suc, zero, ◌<◌, List, [], ◌�
 use Rattle.std.specs.Prelude.{filter}
 use Rattle.gr_frame.specs.declared.Frame.{Frame}
 use Rattle.gr_model.specs.Net.{Net}
-use Rattle.gr_model.specs.World.{World, Told, deliver_frame, deliver_up, after, in_turn, sent_since, is_want, deliver_up_by}
+use Rattle.gr_model.specs.World.{World, Transition, deliver_frame, deliver_up, followed_by, in_turn, sent_since, is_want, deliver_up_by}
 use Rattle.gr_model.specs.Tree.{IsNet}
 use Rattle.gr_theorems.specs.Fits.{WorldFits, FrameTrue}
 use Rattle.gr_theorems.proofs.runs.Worlds.{Each, Kept, Kept-after, FrameTrue-later, deliver_kept, deliver_up_kept, filter_frames, frames_past_true}
@@ -32,8 +32,8 @@ up_true net w x n f t =
     filter_frames net y is_want (sent_since w y) (frames_past_true net y (length w.frames) y.frames k.fits.frames)
 
 -- one frame with all that it leads to
-abbrev pub delivered_up : Net → ℕ → World → Frame → Told
-delivered_up net fuel u f = after (deliver_frame net u f) (λ x. deliver_up net fuel (filter is_want (sent_since u x)) x)
+abbrev pub delivered_up : Net → ℕ → World → Frame → Transition
+delivered_up net fuel u f = followed_by (deliver_frame net u f) (λ x. deliver_up net fuel (filter is_want (sent_since u x)) x)
 
 pub one_kept : (net : Net) (fuel : ℕ) (w : World) (x : Frame) → IsNet net → WorldFits net w → FrameTrue net w x → Kept net w (delivered_up net fuel w x)
 one_kept net fuel w x n f t =

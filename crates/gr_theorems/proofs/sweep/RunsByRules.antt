@@ -18,8 +18,8 @@ use Rattle.gr_model.specs.declared.report.Report.TheVariants as line
 use Rattle.gr_tick.proofs.RunLaws.{runs_equal}
 use Rattle.gr_model.specs.Net.{Net, is_host, not_empty, numbers}
 use Rattle.gr_model.specs.Broker.{View, Log, Outcome, empty_log, log_at, log_know, started, max_tick, publish, wake, receive}
-use Rattle.gr_model.specs.World.{World, Told, blank_view, view_of, log_of, with_view, absorbed, unchanged, after, in_turn, sent_lines, wake_for, wake_all, deliver_frame, frame_at, publish_now, frames_past, sent_since, is_want, is_know_to, inwards, outwards, numbers_down, opened_lines, restarted, crash, publish_stopped, deliver_up, wake_up, hand_down, sweep_for, sweep, sweep_moment, show, next, start, run_from, run_all, report_of, wake_for_by, wake_all_by, deliver_frame_by, publish_now_by, publish_stopped_by, deliver_up_by, wake_up_by, hand_down_by, sweep_for_by, sweep_by, next_by, run_from_by, report_of_by}
-use Rattle.gr_model.specs.Opening.{found_log, over_logs}
+use Rattle.gr_model.specs.World.{World, Transition, blank_view, view_of, log_of, with_view, absorbed, unchanged, followed_by, in_turn, sent_lines, wake_for, wake_all, deliver_frame, frame_at, publish_now, frames_past, sent_since, is_want, is_know_to, inwards, outwards, numbers_down, opened_lines, restarted, crash, publish_stopped, deliver_up, wake_up, hand_down, sweep_for, sweep, sweep_moment, show, next, start, run_from, run_all, report_of, wake_for_by, wake_all_by, deliver_frame_by, publish_now_by, publish_stopped_by, deliver_up_by, wake_up_by, hand_down_by, sweep_for_by, sweep_by, next_by, run_from_by, report_of_by}
+use Rattle.gr_model.specs.Opening.{reopened_log, over_logs}
 use Rattle.gr_model.specs.Tree.{IsNet}
 use Rattle.gr_theorems.specs.Fits.{WorldFits, FrameTrue, StepIn, StepsIn, reached_in}
 use Rattle.gr_theorems.specs.Rules.{HasKnown, Publishes, Wakes, Comes, RulesDetermine}
@@ -36,7 +36,7 @@ use Rattle.gr_theorems.proofs.sweep.Obeying.{told_at}
 
 -- What leaves no choice
 
-pub told_same : (t u : Told) → t.world ≡ u.world → t.lines ≡ u.lines → t ≡ u
+pub told_same : (t u : Transition) → t.world ≡ u.world → t.lines ≡ u.lines → t ≡ u
 told_same t u a b = λ i. record { world = a i; lines = b i }
 
 world_same : (w u : World) → w.clock ≡ u.clock → w.most ≡ u.most → w.frames ≡ u.frames → w.views ≡ u.views → w.logs ≡ u.logs → w ≡ u
@@ -46,24 +46,24 @@ view_equal : (v u : View) → v.know ≡ u.know → v.wants ≡ u.wants → v.as
 view_equal v u a b c d = λ i. record { know = a i; wants = b i; asks = c i; horizon = d i }
 
 -- this may happen, and nothing else
-pub record Exactly (R : World → Told → Type 0) (w : World) (t : Told) : Type 0 where
+pub record Exactly (R : World → Transition → Type 0) (w : World) (t : Transition) : Type 0 where
   pub holds : R w t
-  pub only : (u : Told) → R w u → u ≡ t
+  pub only : (u : Transition) → R w u → u ≡ t
 
 pub tells_exactly : (ls : List Report) (w : World) → Exactly (Tells ls) w (unchanged w ls)
 tells_exactly ls w = record { holds = record { world = refl; lines = refl }; only = λ u r. told_same u (unchanged w ls) r.world r.lines }
 
 -- nothing else may happen
-abbrev Only : (World → Told → Type 0) → World → Told → Type 0
-Only R w t = (u : Told) → R w u → u ≡ t
+abbrev Only : (World → Transition → Type 0) → World → Transition → Type 0
+Only R w t = (u : Transition) → R w u → u ≡ t
 
-then_only : (A B : World → Told → Type 0) (w : World) (t : Told) (f : World → Told) → Only A w t → Only B t.world (f t.world) → Only (Then A B) w (after t f)
+then_only : (A B : World → Transition → Type 0) (w : World) (t : Transition) (f : World → Transition) → Only A w t → Only B t.world (f t.world) → Only (Then A B) w (followed_by t f)
 then_only A B w t f a b u r =
     let e : r.first ≡ t = a r.first r.happens in
-    let g : r.second ≡ f t.world = b r.second (subst (λ (x : Told). B x.world r.second) e r.follows) in
-    told_same u (after t f) (r.world ∙ ap (λ (x : Told). x.world) g) (r.lines ∙ ap₂ (λ (x y : Told). x.lines ++ y.lines) e g)
+    let g : r.second ≡ f t.world = b r.second (subst (λ (x : Transition). B x.world r.second) e r.follows) in
+    told_same u (followed_by t f) (r.world ∙ ap (λ (x : Transition). x.world) g) (r.lines ∙ ap₂ (λ (x y : Transition). x.lines ++ y.lines) e g)
 
-pub then_exactly : (A B : World → Told → Type 0) (w : World) (t : Told) (f : World → Told) → Exactly A w t → Exactly B t.world (f t.world) → Exactly (Then A B) w (after t f)
+pub then_exactly : (A B : World → Transition → Type 0) (w : World) (t : Transition) (f : World → Transition) → Exactly A w t → Exactly B t.world (f t.world) → Exactly (Then A B) w (followed_by t f)
 then_exactly A B w t f a b = record {
   holds = record { first = t; happens = a.holds; second = f t.world; follows = b.holds; world = refl; lines = refl };
   only = then_only A B w t f a.only b.only;
@@ -74,7 +74,7 @@ all_stay net ok w u stays [] b l = tt
 all_stay net ok w u stays (y ∷ ys) b l = (stays w u y l b.0, all_stay net ok w u stays ys b.1 l)
 
 -- where nothing else may happen for any of a list, nothing else may for all in turn
-turns_only : {X : Type 0} (net : Net) (ok : World → X → Type 0) (R : X → World → Told → Type 0) (f : World → X → Told) → ((w u : World) (x : X) → IsLaterWorld net w u → ok w x → ok u x) → ((w : World) (x : X) → WorldFits net w → ok w x → Kept net w (f w x)) →
+turns_only : {X : Type 0} (net : Net) (ok : World → X → Type 0) (R : X → World → Transition → Type 0) (f : World → X → Transition) → ((w u : World) (x : X) → IsLaterWorld net w u → ok w x → ok u x) → ((w : World) (x : X) → WorldFits net w → ok w x → Kept net w (f w x)) →
     ((w : World) (x : X) → WorldFits net w → ok w x → Only (R x) w (f w x)) → (xs : List X) (w : World) → WorldFits net w → Each (ok w) xs → Only (EachInTurn R xs) w (in_turn f xs w)
 turns_only net ok R f stays kept one [] w fit a u r = told_same u (unchanged w []) r.world r.lines
 turns_only net ok R f stays kept one (x ∷ xs) w fit a u r =
@@ -82,7 +82,7 @@ turns_only net ok R f stays kept one (x ∷ xs) w fit a u r =
     then_only (R x) (EachInTurn R xs) w (f w x) (in_turn f xs) (one w x fit a.0) (turns_only net ok R f stays kept one xs (f w x).world k.fits (all_stay net ok w (f w x).world stays xs a.1 k.later)) u r
 
 -- and where exactly this may happen for each, exactly this may for all
-pub turns_exactly : {X : Type 0} (net : Net) (ok : World → X → Type 0) (R : X → World → Told → Type 0) (f : World → X → Told) → ((w u : World) (x : X) → IsLaterWorld net w u → ok w x → ok u x) → ((w : World) (x : X) → WorldFits net w → ok w x → Kept net w (f w x)) →
+pub turns_exactly : {X : Type 0} (net : Net) (ok : World → X → Type 0) (R : X → World → Transition → Type 0) (f : World → X → Transition) → ((w u : World) (x : X) → IsLaterWorld net w u → ok w x → ok u x) → ((w : World) (x : X) → WorldFits net w → ok w x → Kept net w (f w x)) →
     ((w : World) (x : X) → WorldFits net w → ok w x → Exactly (R x) w (f w x)) → (xs : List X) (w : World) → WorldFits net w → Each (ok w) xs → Exactly (EachInTurn R xs) w (in_turn f xs w)
 turns_exactly net ok R f stays kept one [] w fit a = tells_exactly [] w
 turns_exactly net ok R f stays kept one (x ∷ xs) w fit a =
@@ -218,28 +218,28 @@ sweep_for_exactly net w p n quiet f j = record {
   holds = record { asked = a; asks = xa.holds; handed = b; hands = xb.holds; settled = c; settles = xc.holds; world = refl; lines = append_assoc a.lines b.lines c.lines };
   only = λ u r.
       let ea : r.asked ≡ a = xa.only r.asked r.asks in
-      let eb : r.handed ≡ b = xb.only r.handed (subst (λ (x : Told). EachInTurn (HandsDown net p (length w.frames)) (outwards net p) x.world r.handed) ea r.hands) in
-      let ec : r.settled ≡ c = xc.only r.settled (subst (λ (x : Told). EachInTurn (WakesUp net p) (inwards net p) x.world r.settled) eb r.settles) in
-      told_same u whole (r.world ∙ ap (λ (x : Told). x.world) ec)
-      (r.lines ∙ (ap₂ (λ (x y : Told). x.lines ++ (y.lines ++ r.settled.lines)) ea eb ∙ (ap (λ (x : Told). a.lines ++ (b.lines ++ x.lines)) ec ∙ sym (append_assoc a.lines b.lines c.lines))));
+      let eb : r.handed ≡ b = xb.only r.handed (subst (λ (x : Transition). EachInTurn (HandsDown net p (length w.frames)) (outwards net p) x.world r.handed) ea r.hands) in
+      let ec : r.settled ≡ c = xc.only r.settled (subst (λ (x : Transition). EachInTurn (WakesUp net p) (inwards net p) x.world r.settled) eb r.settles) in
+      told_same u whole (r.world ∙ ap (λ (x : Transition). x.world) ec)
+      (r.lines ∙ (ap₂ (λ (x y : Transition). x.lines ++ (y.lines ++ r.settled.lines)) ea eb ∙ (ap (λ (x : Transition). a.lines ++ (b.lines ++ x.lines)) ec ∙ sym (append_assoc a.lines b.lines c.lines))));
 }
   where
-    a : Told
+    a : Transition
     a = in_turn (wake_up net p) (inwards net p) w
 
     ka : Kept net w a
     ka = wakes_up_kept net p w n f j
 
-    b : Told
+    b : Transition
     b = in_turn (hand_down net p (length w.frames)) (outwards net p) a.world
 
     kb : Kept net a.world b
     kb = in_turn_kept net (λ u d. d < net.brokers) (hand_down net p (length w.frames)) (λ u v d l i. i) (λ u d g i. hand_down_kept net p (length w.frames) u d n g) (outwards net p) a.world ka.fits (depths_in net p (numbers net.brokers))
 
-    c : Told
+    c : Transition
     c = in_turn (wake_up net p) (inwards net p) b.world
 
-    whole : Told
+    whole : Transition
     whole = record { world = c.world; lines = (a.lines ++ b.lines) ++ c.lines }
 
     xa : Exactly (EachInTurn (WakesUp net p) (inwards net p)) w a
@@ -261,10 +261,10 @@ sweep_exactly net w number n quiet f = go (is_accepted net w) refl
     refused : nat_le m max_tick ≡ false → sweep net w number ≡ unchanged w (line.RefusedClock number m ∷ [])
     refused e = rw (sweep_by, lt-ltb max_tick m (leb-false m max_tick e)) refl
 
-    done : Told
+    done : Transition
     done = in_turn (sweep_for net) (numbers net.publishers) (at_sweep net w)
 
-    whole : Told
+    whole : Transition
     whole = record { world = done.world; lines = done.lines ++ line.Swept m ∷ [] }
 
     swept : nat_le m max_tick ≡ true → sweep net w number ≡ whole
@@ -273,21 +273,21 @@ sweep_exactly net w number n quiet f = go (is_accepted net w) refl
     x : Exactly (EachInTurn (SweepsFor net) (numbers net.publishers)) (at_sweep net w) done
     x = turns_exactly net (λ u p. p < net.publishers) (SweepsFor net) (sweep_for net) (λ u v p l j. j) (λ u p g j. sweep_for_kept net u p n g j) (λ u p g j. sweep_for_exactly net u p n quiet g j) (numbers net.publishers) (at_sweep net w) (clocked_fits net w (sweep_moment net w) (max (sweep_moment net w) w.most) f) (numbers_below 0 net.publishers net.publishers (omega arith))
 
-    only_swept : (u : Told) → SweepsAll net w u → u ≡ whole
+    only_swept : (u : Transition) → SweepsAll net w u → u ≡ whole
     only_swept u r =
         let eb : r.begun ≡ at_sweep net w = world_same r.begun (at_sweep net w) r.begins.clock r.begins.most r.begins.frames r.begins.views r.begins.logs in
         let ed : r.done ≡ done = x.only r.done (subst (λ z. EachInTurn (SweepsFor net) (numbers net.publishers) z r.done) eb r.each) in
-        told_same u whole (r.world ∙ ap (λ (z : Told). z.world) ed) (r.lines ∙ ap (λ (z : Told). z.lines ++ line.Swept m ∷ []) ed)
+        told_same u whole (r.world ∙ ap (λ (z : Transition). z.world) ed) (r.lines ∙ ap (λ (z : Transition). z.lines ++ line.Swept m ∷ []) ed)
 
     all_of : SweepsAll net w whole
     all_of = record { begun = at_sweep net w; begins = record { clock = refl; most = refl; frames = refl; views = refl; logs = refl }; done = done; each = x.holds; world = refl; lines = refl }
 
     go : (q : Bool) → is_accepted net w ≡ q → Exactly (Sweeps net number) w (sweep net w number)
-    go false e = subst (λ (t : Told). Exactly (Sweeps net number) w t) (sym (refused e)) (record {
+    go false e = subst (λ (t : Transition). Exactly (Sweeps net number) w t) (sym (refused e)) (record {
       holds = record { refused = λ z. record { world = refl; lines = refl }; swept = λ z. absurd (true≢false (sym z ∙ e)) };
       only = λ u r. let k = r.refused e in told_same u (unchanged w (line.RefusedClock number m ∷ [])) k.world k.lines;
     })
-    go true e = subst (λ (t : Told). Exactly (Sweeps net number) w t) (sym (swept e)) (record {
+    go true e = subst (λ (t : Transition). Exactly (Sweeps net number) w t) (sym (swept e)) (record {
       holds = record { refused = λ z. absurd (true≢false (sym e ∙ z)); swept = λ z. all_of };
       only = λ u r. only_swept u (r.swept e);
     })
@@ -347,11 +347,11 @@ again_once net b logs w u r =
 
 -- Steps
 
-crash_exactly : (net : Net) (w : World) (number b : ℕ) → (let t : Told = elim (not_empty (net.subscribers_at b)) [ true ↦ unchanged w (line.RefusedHosts number b ∷ []) | false ↦ crash net w b ] in Exactly (Crashes net number b) w t)
+crash_exactly : (net : Net) (w : World) (number b : ℕ) → (let t : Transition = elim (not_empty (net.subscribers_at b)) [ true ↦ unchanged w (line.RefusedHosts number b ∷ []) | false ↦ crash net w b ] in Exactly (Crashes net number b) w t)
 unfolding crash opened_lines
 crash_exactly net w number b = go (not_empty (net.subscribers_at b)) refl
   where
-    go : (q : Bool) → not_empty (net.subscribers_at b) ≡ q → (let t : Told = elim q [ true ↦ unchanged w (line.RefusedHosts number b ∷ []) | false ↦ crash net w b ] in Exactly (Crashes net number b) w t)
+    go : (q : Bool) → not_empty (net.subscribers_at b) ≡ q → (let t : Transition = elim q [ true ↦ unchanged w (line.RefusedHosts number b ∷ []) | false ↦ crash net w b ] in Exactly (Crashes net number b) w t)
     go true e = record {
       holds = record { refused = λ z. record { world = refl; lines = refl }; again = λ z. absurd (true≢false (sym e ∙ z)); lines = λ z. absurd (true≢false (sym e ∙ z)) };
       only = λ u r. let k = r.refused e in told_same u (unchanged w (line.RefusedHosts number b ∷ [])) k.world k.lines;
@@ -368,13 +368,13 @@ stopped_exactly net w k p number stop e n f j = go (not_empty (net.subscribers_a
     b : ℕ
     b = net.host p
 
-    stopped : Told
+    stopped : Transition
     stopped = record {
       world = restarted net (over w (logs_left w p stop e)) b;
       lines = line.Crashed b ∷ (fate w p number stop ∷ opened_lines net (logs_left w p stop e) b);
     }
 
-    go : (x y : Bool) → not_empty (net.subscribers_at b) ≡ x → is_next_of w p number ≡ y → (let t : Told = elim x [ true ↦ unchanged w (line.RefusedHosts k b ∷ []) | false ↦ elim y [ false ↦ publish_now net w p number e | true ↦ stopped ] ] in Exactly (Stops net k p number stop e) w t)
+    go : (x y : Bool) → not_empty (net.subscribers_at b) ≡ x → is_next_of w p number ≡ y → (let t : Transition = elim x [ true ↦ unchanged w (line.RefusedHosts k b ∷ []) | false ↦ elim y [ false ↦ publish_now net w p number e | true ↦ stopped ] ] in Exactly (Stops net k p number stop e) w t)
     go true y a c = record {
       holds = record { refused = λ z. record { world = refl; lines = refl }; goes_on = λ z q. absurd (true≢false (sym a ∙ z)); stops = λ z q. absurd (true≢false (sym a ∙ z)) };
       only = λ u r. let x = r.refused a in told_same u (unchanged w (line.RefusedHosts k b ∷ [])) x.world x.lines;
@@ -396,10 +396,10 @@ none_some x e = cc
 some_frame : (x y : Frame) → Some x ≡ Some y → x ≡ y
 some_frame x y e = cc
 
-deliver_exactly : (net : Net) (w : World) (number k : ℕ) → IsNet net → WorldFits net w → (let t : Told = elim (frame_at w k) [ None ↦ unchanged w (line.RefusedFrame number k (length w.frames) ∷ []) | Some x ↦ deliver_frame net w x ] in Exactly (Delivers net number k) w t)
+deliver_exactly : (net : Net) (w : World) (number k : ℕ) → IsNet net → WorldFits net w → (let t : Transition = elim (frame_at w k) [ None ↦ unchanged w (line.RefusedFrame number k (length w.frames) ∷ []) | Some x ↦ deliver_frame net w x ] in Exactly (Delivers net number k) w t)
 deliver_exactly net w number k n f = go (frame_at w k) refl
   where
-    go : (o : Option Frame) → frame_at w k ≡ o → (let t : Told = elim o [ None ↦ unchanged w (line.RefusedFrame number k (length w.frames) ∷ []) | Some x ↦ deliver_frame net w x ] in Exactly (Delivers net number k) w t)
+    go : (o : Option Frame) → frame_at w k ≡ o → (let t : Transition = elim o [ None ↦ unchanged w (line.RefusedFrame number k (length w.frames) ∷ []) | Some x ↦ deliver_frame net w x ] in Exactly (Delivers net number k) w t)
     go None e = record {
       holds = record { refused = λ z. record { world = refl; lines = refl }; arrives = λ y z. absurd (none_some y (sym e ∙ z)) };
       only = λ u r. let x = r.refused e in told_same u (unchanged w (line.RefusedFrame number k (length w.frames) ∷ [])) x.world x.lines;
@@ -411,10 +411,10 @@ deliver_exactly net w number k n f = go (frame_at w k) refl
           only = λ u r. x.only u (r.arrives y e);
         }
 
-bytes_exactly : (net : Net) (w : World) (number k : ℕ) → (let t : Told = elim (frame_at w k) [ None ↦ unchanged w (line.RefusedFrame number k (length w.frames) ∷ []) | Some x ↦ unchanged w (line.BytesOf k (frame_bytes x) ∷ []) ] in Exactly (ShowsBytes number k) w t)
+bytes_exactly : (net : Net) (w : World) (number k : ℕ) → (let t : Transition = elim (frame_at w k) [ None ↦ unchanged w (line.RefusedFrame number k (length w.frames) ∷ []) | Some x ↦ unchanged w (line.BytesOf k (frame_bytes x) ∷ []) ] in Exactly (ShowsBytes number k) w t)
 bytes_exactly net w number k = go (frame_at w k) refl
   where
-    go : (o : Option Frame) → frame_at w k ≡ o → (let t : Told = elim o [ None ↦ unchanged w (line.RefusedFrame number k (length w.frames) ∷ []) | Some x ↦ unchanged w (line.BytesOf k (frame_bytes x) ∷ []) ] in Exactly (ShowsBytes number k) w t)
+    go : (o : Option Frame) → frame_at w k ≡ o → (let t : Transition = elim o [ None ↦ unchanged w (line.RefusedFrame number k (length w.frames) ∷ []) | Some x ↦ unchanged w (line.BytesOf k (frame_bytes x) ∷ []) ] in Exactly (ShowsBytes number k) w t)
     go None e = record {
       holds = record { refused = λ z. record { world = refl; lines = refl }; bytes = λ y z. absurd (none_some y (sym e ∙ z)) };
       only = λ u r. let x = r.refused e in told_same u (unchanged w (line.RefusedFrame number k (length w.frames) ∷ [])) x.world x.lines;
@@ -472,11 +472,11 @@ run_once net [] w [] u n quiet f i r = (refl, r)
 run_once net [] w (x ∷ xs) u n quiet f i r = absurd r
 run_once net (l ∷ ls) w [] u n quiet f i r = absurd r
 run_once net (l ∷ ls) w (x ∷ xs) u n quiet f i r =
-    let t : Told = record { world = r.left; lines = x } in
+    let t : Transition = record { world = r.left; lines = x } in
     let e : t ≡ next net w l = (next_exactly net w l n quiet f i.0).only t r.happens in
     let k = next_kept net w l n f i.0 in
-    let rest = run_once net ls (next net w l).world xs u n quiet k.fits i.1 (subst (λ (a : Told). RunByRules net a.world ls xs u) e r.rest) in
-    (ap₂ (λ (a : Told) b. a.lines ∷ b) e rest.0, rest.1)
+    let rest = run_once net ls (next net w l).world xs u n quiet k.fits i.1 (subst (λ (a : Transition). RunByRules net a.world ls xs u) e r.rest) in
+    (ap₂ (λ (a : Transition) b. a.lines ∷ b) e rest.0, rest.1)
 
 -- before anything happens over logs that were found
 pub begins_over : (net : Net) (found : List Log) → BeginsOver net found (over_logs net found)
@@ -487,18 +487,18 @@ begins_over net found = record {
   frames = refl;
   logs = refl;
   long = length_numbers (λ b. fresh b) 0 net.brokers;
-  views = λ b i. subst (StartsAll net b (map (found_log found) (numbers net.publishers))) (sym (get_numbers fresh 0 net.brokers b [] i ∙ ap fresh (omega arith))) (of_broker b);
+  views = λ b i. subst (StartsAll net b (map (reopened_log found) (numbers net.publishers))) (sym (get_numbers fresh 0 net.brokers b [] i ∙ ap fresh (omega arith))) (of_broker b);
 }
   where
     fresh : ℕ → List View
-    fresh b = map (λ p. started net p b (found_log found p)) (numbers net.publishers)
+    fresh b = map (λ p. started net p b (reopened_log found p)) (numbers net.publishers)
 
-    of_broker : (b : ℕ) → StartsAll net b (map (found_log found) (numbers net.publishers)) (fresh b)
+    of_broker : (b : ℕ) → StartsAll net b (map (reopened_log found) (numbers net.publishers)) (fresh b)
     of_broker b = record {
-      long = length_numbers (λ p. started net p b (found_log found p)) 0 net.publishers;
+      long = length_numbers (λ p. started net p b (reopened_log found p)) 0 net.publishers;
       each = λ p j.
-          subst (λ l. Starts net p b l (get_or (fresh b) p blank_view)) (sym (get_numbers (found_log found) 0 net.publishers p empty_log j ∙ ap (found_log found) (omega arith)))
-          (subst (Starts net p b (found_log found p)) (sym (get_numbers (λ q. started net q b (found_log found q)) 0 net.publishers p blank_view j ∙ ap (λ q. started net q b (found_log found q)) (omega arith))) (starts_holds net p b (found_log found p)));
+          subst (λ l. Starts net p b l (get_or (fresh b) p blank_view)) (sym (get_numbers (reopened_log found) 0 net.publishers p empty_log j ∙ ap (reopened_log found) (omega arith)))
+          (subst (Starts net p b (reopened_log found p)) (sym (get_numbers (λ q. started net q b (reopened_log found q)) 0 net.publishers p blank_view j ∙ ap (λ q. started net q b (reopened_log found q)) (omega arith))) (starts_holds net p b (reopened_log found p)));
     }
 
 begins_holds : (net : Net) → Begins net (start net)

@@ -11,7 +11,7 @@ use Rattle.gr_frame.specs.declared.Frame.{Frame}
 use Rattle.gr_know.specs.Values.{known_at}
 use Rattle.gr_curio.specs.Values.{Wanted, asked_at}
 use Rattle.gr_model.specs.Net.{Net, is_host, keeps_horizon, numbers_from}
-use Rattle.gr_model.specs.Broker.{View, Outcome, wake, receive, is_settled}
+use Rattle.gr_model.specs.Broker.{View, Outcome, wake, receive, is_consolidated_by}
 use Rattle.gr_model.specs.World.{World, view_of, log_of, absorbed, in_turn, wake_for, deliver_frame, wake_up, sweep_for, inwards, numbers_down, frames_past, is_want, deliver_frame_by, sweep_for_by, wake_for_by}
 use Rattle.gr_model.specs.Tree.{IsNet}
 use Rattle.gr_theorems.specs.Fits.{WorldFits, FrameTrue, reached_in}
@@ -30,7 +30,7 @@ use Rattle.gr_theorems.proofs.sweep.FirstUnknown.{unknown_calls}
 use Rattle.gr_theorems.proofs.sweep.FirstPhase.{first_phase_asks}
 use Rattle.gr_theorems.proofs.sweep.SecondParts.{inwards_goes, sweep_goes}
 use Rattle.gr_theorems.proofs.sweep.SecondOrder.{Had}
-use Rattle.gr_theorems.proofs.sweep.SecondPhase.{IsDue, Handed, handed_all, comes, above_needs}
+use Rattle.gr_theorems.proofs.sweep.SecondPhase.{IsDue, Handed, handed_all, comes_down, above_needs}
 
 -- Another publisher
 
@@ -170,7 +170,7 @@ want_above net old w x runs n keeps f t e h =
     record {
       horizon = ap (λ z. z.horizon) d.taken.view ∙ (d.ticks.horizon ∙ h.horizon);
       above = λ k l.
-          let no : is_settled (keeps_horizon net x.head.publisher x.head.to) v.horizon o.view.wants k ≡ false = ap (λ z. is_settled z v.horizon o.view.wants k) keeps ∙ not_done v.horizon k o.view.wants (omega (arith, l, h.horizon)) in
+          let no : is_consolidated_by (keeps_horizon net x.head.publisher x.head.to) v.horizon o.view.wants k ≡ false = ap (λ z. is_consolidated_by z v.horizon o.view.wants k) keeps ∙ not_done v.horizon k o.view.wants (omega (arith, l, h.horizon)) in
           ap (λ z. known_at z.know k) d.taken.view ∙ ⊎_elim (λ z. z ∙ (ap (λ q. if q then F else known_at v.know k) no ∙ h.above k l)) (λ z. absurd (omega (arith, l, h.horizon, z.2 keeps))) (d.ticks.know k);
     }
 
@@ -283,7 +283,7 @@ phases_bring net p m b w n begin a i host keeps = record {
         let u = n.up_below p b begin.publisher i host in
         let c = n.up_in p b u.0 begin.publisher i u.1 in
         let due : IsDue net p m s old b t = record { from = x; upto = z; due = inr (above_needs net p b t (view_of old b p) keeps (same.above t l ∙ k) (omega (arith, same.horizon, l))) } in
-        let has = comes net p m s first old y (Had net p net.brokers 0) b u.0 t n a h c.0 c.1 (inr (inl (n.depth_in p u.0 begin.publisher c.0))) due in
+        let has = comes_down net p m s first old y (Had net p net.brokers 0) b u.0 t n a h c.0 c.1 (inr (inl (n.depth_in p u.0 begin.publisher c.0))) due in
         told_any p u.0 b t (since.more ++ h.more) (subst (Has (TellsKnown p u.0 b t)) (ap (frames_past first) frames_are ∙ frames_past_all w.frames (since.more ++ h.more)) has)
 
 -- Publisher by publisher

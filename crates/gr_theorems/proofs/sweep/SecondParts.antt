@@ -5,7 +5,7 @@ use Rattle.std.proofs.lemmas.Bool.{cases_Bool}
 use Rattle.gr_frame.specs.declared.Frame.{Frame}
 use Rattle.gr_model.specs.Net.{Net, numbers}
 use Rattle.gr_model.specs.Broker.{Outcome, wake, receive}
-use Rattle.gr_model.specs.World.{World, view_of, log_of, absorbed, after, in_turn, wake_for, deliver_frame, deliver_up, wake_up, hand_down, sweep_for, frames_past, sent_since, is_want, is_know_to, outwards, inwards, numbers_down, deliver_frame_by, deliver_up_by, hand_down_by, sweep_for_by, wake_for_by, wake_up_by}
+use Rattle.gr_model.specs.World.{World, view_of, log_of, absorbed, followed_by, in_turn, wake_for, deliver_frame, deliver_up, wake_up, hand_down, sweep_for, frames_past, sent_since, is_want, is_know_to, outwards, inwards, numbers_down, deliver_frame_by, deliver_up_by, hand_down_by, sweep_for_by, wake_for_by, wake_up_by}
 use Rattle.gr_model.specs.Tree.{IsNet}
 use Rattle.gr_theorems.specs.Fits.{WorldFits, FrameTrue, AllFit, AllFramesTrue, reached_in}
 use Rattle.gr_theorems.proofs.calls.Calls.{wake_call, receive_call}
@@ -65,7 +65,7 @@ up_goes : (net : Net) (p : ℕ) (P : World → Type 0) (fuel : ℕ) (fs : List F
 unfolding deliver_up_by
 up_goes net p P zero fs w n c f h a = record { kept = Kept-refl net w f; holds = h }
 up_goes net p P (suc fuel) fs w n c f h a =
-    in_turn_goes net P (IsUp net p) (λ u x. after (deliver_frame net u x) (λ y. deliver_up net fuel (filter is_want (sent_since u y)) y)) (IsUp-later net p)
+    in_turn_goes net P (IsUp net p) (λ u x. followed_by (deliver_frame net u x) (λ y. deliver_up net fuel (filter is_want (sent_since u y)) y)) (IsUp-later net p)
     (λ u x g k r.
     let d : Goes net P u (deliver_frame net u x) = record { kept = deliver_kept net u x n g r.0; holds = c.asked u x g r.0 r.1 r.2 k } in
     let y = (deliver_frame net u x).world in
@@ -104,4 +104,4 @@ sweep_goes net p P w n c d f h j =
     let b = outwards_goes net p (length w.frames) P w1 n d a.kept.fits a.holds in
     let w2 = (in_turn (hand_down net p (length w.frames)) (outwards net p) w1).world in
     let e = inwards_goes net p P w2 n c b.kept.fits b.holds j in
-    Goes-after net P w (after (in_turn (wake_up net p) (inwards net p) w) (in_turn (hand_down net p (length w.frames)) (outwards net p))) (in_turn (wake_up net p) (inwards net p)) (Goes-after net P w (in_turn (wake_up net p) (inwards net p) w) (in_turn (hand_down net p (length w.frames)) (outwards net p)) a b) e
+    Goes-after net P w (followed_by (in_turn (wake_up net p) (inwards net p) w) (in_turn (hand_down net p (length w.frames)) (outwards net p))) (in_turn (wake_up net p) (inwards net p)) (Goes-after net P w (in_turn (wake_up net p) (inwards net p) w) (in_turn (hand_down net p (length w.frames)) (outwards net p)) a b) e

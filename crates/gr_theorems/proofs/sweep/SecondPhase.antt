@@ -24,8 +24,8 @@ use Rattle.gr_theorems.proofs.rules.Forwarding.{Has, wants_of}
 use Rattle.gr_theorems.proofs.rules.Serves.{TellsKnown, Stores}
 use Rattle.gr_theorems.proofs.sweep.Path.{Has-past}
 use Rattle.gr_theorems.proofs.sweep.SweepStates.{IsChild, Unknowns, Begins, Asked, Calm, first_phase, second_phase}
-use Rattle.gr_theorems.proofs.sweep.SecondTurn.{Knows, Leaves, turn_leaves, turn_tells, turn_rises, handed, told_handed}
-use Rattle.gr_theorems.proofs.sweep.SecondOrder.{Had, InOrder, outwards_in_turn}
+use Rattle.gr_theorems.proofs.sweep.SecondTurn.{BringsTick, Leaves, turn_leaves, turn_tells, turn_rises, handed, told_handed}
+use Rattle.gr_theorems.proofs.sweep.SecondOrder.{Had, IsTurnByTurn, outwards_in_turn}
 
 -- a tick that the second phase brings to a broker: one past what was settled, or one that it needs after the first phase
 pub record IsDue (net : Net) (p m s : ℕ) (old : World) (b t : ℕ) : Type 0 where
@@ -79,8 +79,8 @@ due_unknown net p m s first old b t a i host h =
     h.due
 
 -- what is due to a broker was told it once the next broker up has had its turn
-pub comes : (net : Net) (p m s first : ℕ) (old w : World) (Done : ℕ → Type 0) (b u t : ℕ) → IsNet net → Asked net p s m first old → Handed net p m s first old Done w → u < net.brokers → IsChild net p u b → ((is_host net p u ≡ true) ⊎ Done u) → IsDue net p m s old b t → Has (TellsKnown p u b t) (frames_past first w.frames)
-comes net p m s first old w Done b u t n a h i child done d =
+pub comes_down : (net : Net) (p m s first : ℕ) (old w : World) (Done : ℕ → Type 0) (b u t : ℕ) → IsNet net → Asked net p s m first old → Handed net p m s first old Done w → u < net.brokers → IsChild net p u b → ((is_host net p u ≡ true) ⊎ Done u) → IsDue net p m s old b t → Has (TellsKnown p u b t) (frames_past first w.frames)
+comes_down net p m s first old w Done b u t n a h i child done d =
     ⊎_elim
     (λ l. past l)
     (λ e. elim (cases_lt s t) [
@@ -180,11 +180,11 @@ handed_turn net p m s first old d b w n j one sm a i e h = record {
     first_in : first ≤ length w.frames
     first_in = omega (arith, a.first_in, ap length h.frames, length-append old.frames h.more)
 
-    comes_here : (t : ℕ) → is_host net p b ≡ false → IsDue net p m s old b t → Has (Knows t) (handed p first b w)
+    comes_here : (t : ℕ) → is_host net p b ≡ false → IsDue net p m s old b t → Has (BringsTick t) (handed p first b w)
     comes_here t host due =
         let u = n.up_below p b j i host in
         let k = n.up_in p b u.0 j i u.1 in
-        told_handed p u.0 b t (frames_past first w.frames) (comes net p m s first old w (Had net p d b) b u.0 t n a h k.0 k.1 (inr (up_had net p d b u.0 n j i e u.1)) due)
+        told_handed p u.0 b t (frames_past first w.frames) (comes_down net p m s first old w (Had net p d b) b u.0 t n a h k.0 k.1 (inr (up_had net p d b u.0 n j i e u.1)) due)
 
     tells : (k t : ℕ) → is_host net p b ≡ false → IsChild net p b k → IsDue net p m s old b t → wanted_at (wants_of net p b (view_of old b p) k) t ≢ A → Has (TellsKnown p b k t) (frames_past first y.frames)
     tells k t host child due na = turn_tells net k t first p b w n h.fits (record {
@@ -197,7 +197,7 @@ handed_turn net p m s first old d b w n j one sm a i e h = record {
       );
     })
 
-    waiting : (t : ℕ) → is_host net p b ≡ false → keeps_horizon net p b ≡ true → 1 ≤ t → t ≤ m → (t ≤ (view_of w b p).horizon) ⊎ ((known_at (view_of w b p).know t ≢ Q) ⊎ Has (Knows t) (handed p first b w))
+    waiting : (t : ℕ) → is_host net p b ≡ false → keeps_horizon net p b ≡ true → 1 ≤ t → t ≤ m → (t ≤ (view_of w b p).horizon) ⊎ ((known_at (view_of w b p).know t ≢ Q) ⊎ Has (BringsTick t) (handed p first b w))
     waiting t host keeps x z = elim (cases_lt (view_of w b p).horizon t) [
       | inr l ↦ inl l
       | inl l ↦ elim (cases_Q (known_at (view_of w b p).know t)) [
@@ -221,7 +221,7 @@ handed_turn net p m s first old d b w n j one sm a i e h = record {
 
 -- All turns
 
-handed_order : (net : Net) (p m s first : ℕ) (old : World) → IsNet net → p < net.publishers → 1 ≤ m → s < m → Asked net p s m first old → InOrder net p (hand_down net p first) (λ d a w. Handed net p m s first old (Had net p d a) w)
+handed_order : (net : Net) (p m s first : ℕ) (old : World) → IsNet net → p < net.publishers → 1 ≤ m → s < m → Asked net p s m first old → IsTurnByTurn net p (hand_down net p first) (λ d a w. Handed net p m s first old (Had net p d a) w)
 handed_order net p m s first old n j one sm a = record {
   turn = λ d b w i e h. handed_turn net p m s first old d b w n j one sm a i e h;
   skip = λ d b w i e h. handed_on net p m s first old (Had net p d b) (Had net p d (suc b)) w (λ c x. had_more net p d b c x) (λ c x y. skipped net p d b c e y) h;

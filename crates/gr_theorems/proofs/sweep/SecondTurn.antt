@@ -15,7 +15,7 @@ use Rattle.gr_tick.specs.Runs.{AreRuns, first_bottom_from, zip_runs}
 use Rattle.gr_know.specs.Values.{Known, known_at, is_Q, join_K, same_K}
 use Rattle.gr_curio.specs.Values.{Wanted, wanted_at, asked_at, is_C}
 use Rattle.gr_model.specs.Net.{Net, keeps_horizon, pass}
-use Rattle.gr_model.specs.Broker.{View, Log, Outcome, learn, receive, clashes, any_C, is_settled, forward, forward_wants, new_ticks, quenched, consolidated, finished}
+use Rattle.gr_model.specs.Broker.{View, Log, Outcome, learn, receive, clashes, any_C, is_consolidated_by, forward, forward_wants, new_ticks, still_wanted, consolidated, finished}
 use Rattle.gr_model.specs.World.{World, view_of, log_of, absorbed, in_turn, deliver_frame, hand_down, frames_past, is_know_to, deliver_frame_by, hand_down_by}
 use Rattle.gr_theorems.specs.Truth.{Facts, KnowsTruth, AllWantTruth}
 use Rattle.gr_model.specs.Tree.{IsNet, IsPlace}
@@ -52,7 +52,7 @@ forward_old net f p t new (c ∷ cs) (w ∷ ws) a r e =
     ⊎_elim
     (λ x. or_left (is_C (wanted_at w t)) (any_C ws t) (quench_old (wanted_at w t) (known_at sent t) (sym (ap is_C ((quenched-is w sent a.0.runs s.runs).same_at t)) ∙ x)))
     (λ x. or_right (is_C (wanted_at w t)) (any_C ws t) (forward_old net f p t new cs ws a.1 r x))
-    (or_cases (is_C (wanted_at (quenched w sent) t)) (any_C (forward_wants net p new cs ws) t) e)
+    (or_cases (is_C (wanted_at (still_wanted w sent) t)) (any_C (forward_wants net p new cs ws) t) e)
 
 learn_old : (net : Net) (f : Facts) (p b t : ℕ) (piece : Known) (v : View) (log : Log) → IsPlace net p b → ViewTrue net f p b v → KnowsTruth net f p b piece → any_C (learn net p b piece v log).view.wants t ≡ true → any_C v.wants t ≡ true
 unfolding learn
@@ -170,21 +170,21 @@ abbrev pub KnowsBody : ℕ → Body → Type 0
 KnowsBody t (body.Knowledge runs) = known_at runs t ≢ Q
 KnowsBody t _ = ⊥
 
-abbrev pub Knows : ℕ → Frame → Type 0
-Knows t f = KnowsBody t f.body
+abbrev pub BringsTick : ℕ → Frame → Type 0
+BringsTick t f = KnowsBody t f.body
 
 -- a tick that waits for knowledge to come, or was told the child
-pub record Waits (net : Net) (c t first p b : ℕ) (w : World) (rest : List Frame) : Type 0 where
+pub record WaitsFor (net : Net) (c t first p b : ℕ) (w : World) (rest : List Frame) : Type 0 where
   pub first_in : first ≤ length w.frames
   pub child : list_any (λ x. nat_eq x c) (net.children p b) ≡ true
-  pub state : Has (TellsKnown p b c t) (frames_past first w.frames) ⊎ ((known_at (view_of w b p).know t ≡ Q) × (wanted_at (wants_of net p b (view_of w b p) c) t ≢ A) × Has (Knows t) rest)
+  pub state : Has (TellsKnown p b c t) (frames_past first w.frames) ⊎ ((known_at (view_of w b p).know t ≡ Q) × (wanted_at (wants_of net p b (view_of w b p) c) t ≢ A) × Has (BringsTick t) rest)
 
 still_wants : (net : Net) (p c t : ℕ) (q : Q3) → quenched_at net p c t Q q ≡ q
 still_wants net p c t N = refl
 still_wants net p c t A = refl
 still_wants net p c t C = refl
 
-waits_step : (net : Net) (c t first : ℕ) → IsNet net → TurnKeeps net (Waits net c t first)
+waits_step : (net : Net) (c t first : ℕ) → IsNet net → TurnKeeps net (WaitsFor net c t first)
 waits_step net c t first n w x runs fs f tr e h = record {
   first_in = subst (λ z. first ≤ length z) (sym d.taken.frames) (longer first w.frames o.frames h.first_in);
   child = h.child;
@@ -213,26 +213,26 @@ waits_step net c t first n w x runs fs f tr e h = record {
     longer k xs ys l = omega (arith, l, length-append xs ys)
 
     State : Type 0
-    State = Has (TellsKnown p b c t) (frames_past first y.frames) ⊎ ((known_at (view_of y b p).know t ≡ Q) × (wanted_at (wants_of net p b (view_of y b p) c) t ≢ A) × Has (Knows t) fs)
+    State = Has (TellsKnown p b c t) (frames_past first y.frames) ⊎ ((known_at (view_of y b p).know t ≡ Q) × (wanted_at (wants_of net p b (view_of y b p) c) t ≢ A) × Has (BringsTick t) fs)
 
     comes : known_at v.know t ≡ Q → known_at runs t ≢ Q → wanted_at (wants_of net p b v c) t ≢ A → State
     comes q k a = inl (subst (λ z. Has (TellsKnown p b c t) (frames_past first z)) (sym d.taken.frames) (Has-last (TellsKnown p b c t) first w.frames o.frames h.first_in
         (known_of p b c t (pass net p c t (known_at runs t)) o.frames (pass_not_Q net p c t (known_at runs t) k) (d.ticks.forwarded c t h.child q k a))))
 
-    waits_on : known_at v.know t ≡ Q → known_at runs t ≡ Q → wanted_at (wants_of net p b v c) t ≢ A → Has (Knows t) fs → State
+    waits_on : known_at v.know t ≡ Q → known_at runs t ≡ Q → wanted_at (wants_of net p b v c) t ≢ A → Has (BringsTick t) fs → State
     waits_on q k a has =
         let wants : wanted_at (wants_of net p b (view_of y b p) c) t ≡ wanted_at (wants_of net p b v c) t = ap (λ z. wanted_at (wants_of net p b z c) t) d.taken.view ∙ (d.ticks.wants c t h.child
         ∙ (ap (λ z. quenched_at net p c t (if z then known_at runs t else Q) (wanted_at (wants_of net p b v c) t)) (is_Q_of (known_at v.know t) q) ∙ (ap (λ z. quenched_at net p c t z (wanted_at (wants_of net p b v c) t)) k ∙ still_wants net p c t (wanted_at (wants_of net p b v c) t)))) in
         let a1 : wanted_at (wants_of net p b (view_of y b p) c) t ≢ A = λ z. a (sym wants ∙ z) in
         let no = not_settled net (facts_of net y p) p b c t o.view.horizon (view_of y b p).wants (d.fits.views p b tr.publisher_in tr.fits.to_in).wants h.child (not_A (wanted_at (wants_of net p b (view_of y b p) c) t) a1) in
-        let no1 : is_settled (keeps_horizon net p b) o.view.horizon o.view.wants t ≡ false = ap (λ z. is_settled (keeps_horizon net p b) o.view.horizon z.wants t) (sym d.taken.view) ∙ no in
+        let no1 : is_consolidated_by (keeps_horizon net p b) o.view.horizon o.view.wants t ≡ false = ap (λ z. is_consolidated_by (keeps_horizon net p b) o.view.horizon z.wants t) (sym d.taken.view) ∙ no in
         let still : known_at o.view.know t ≡ Q = ⊎_elim (λ z. z ∙ (ap (λ g. if g then F else join_K (known_at v.know t) (known_at runs t)) no1 ∙ ap₂ join_K q k)) (λ z. z.0) (d.ticks.know t) in
         inr (ap (λ z. known_at z.know t) d.taken.view ∙ still, a1, has)
 
     here : KnowsBody t x.body → known_at runs t ≢ Q
     here k = subst (KnowsBody t) e k
 
-    waiting : (known_at v.know t ≡ Q) × (wanted_at (wants_of net p b v c) t ≢ A) × Has (Knows t) (x ∷ fs) → State
+    waiting : (known_at v.know t ≡ Q) × (wanted_at (wants_of net p b v c) t ≢ A) × Has (BringsTick t) (x ∷ fs) → State
     waiting z = ⊎_elim
         (λ k. comes z.0 (here k) z.1)
         (λ k. ⊎_elim (λ g. waits_on z.0 g z.1 k) (λ g. comes z.0 g z.1) (cases_Q (known_at runs t)))
@@ -243,8 +243,8 @@ waits_step net c t first n w x runs fs f tr e h = record {
 -- what a horizon waits for: each tick is below it, or known, or to come, and so is the last one
 pub record Rising (net : Net) (m p b : ℕ) (w : World) (rest : List Frame) : Type 0 where
   pub keeps : keeps_horizon net p b ≡ true
-  pub each : (t : ℕ) → 1 ≤ t → t ≤ m → (t ≤ (view_of w b p).horizon) ⊎ ((known_at (view_of w b p).know t ≢ Q) ⊎ Has (Knows t) rest)
-  pub edge : (m ≤ (view_of w b p).horizon) ⊎ ((known_at (view_of w b p).know (suc (view_of w b p).horizon) ≡ Q) ⊎ Has (Knows m) rest)
+  pub each : (t : ℕ) → 1 ≤ t → t ≤ m → (t ≤ (view_of w b p).horizon) ⊎ ((known_at (view_of w b p).know t ≢ Q) ⊎ Has (BringsTick t) rest)
+  pub edge : (m ≤ (view_of w b p).horizon) ⊎ ((known_at (view_of w b p).know (suc (view_of w b p).horizon) ≡ Q) ⊎ Has (BringsTick m) rest)
 
 rising_step : (net : Net) (m : ℕ) → IsNet net → TurnKeeps net (Rising net m)
 rising_step net m n w x runs fs f tr e h = record {
@@ -343,11 +343,11 @@ turn_leaves net p first w b n f u =
     turn_keeps net (Leaves net w) n (leaves_step net w n) p b (handed p first b w) w f (handed_true net p first b w f) (all_know_to p b (frames_past first w.frames))
     (record { more = []; frames = sym (append-nil w.frames); log = refl; other = λ c k. refl; unknown = u; asks = λ t c. refl; wants = λ t c. c })
 
-pub turn_tells : (net : Net) (c t first p b : ℕ) (w : World) → IsNet net → WorldFits net w → Waits net c t first p b w (handed p first b w) → Has (TellsKnown p b c t) (frames_past first (hand_down net p first w b).world.frames)
+pub turn_tells : (net : Net) (c t first p b : ℕ) (w : World) → IsNet net → WorldFits net w → WaitsFor net c t first p b w (handed p first b w) → Has (TellsKnown p b c t) (frames_past first (hand_down net p first w b).world.frames)
 unfolding hand_down_by
 turn_tells net c t first p b w n f h =
     ⊎_elim (λ z. z) (λ z. absurd z.2)
-    (turn_keeps net (Waits net c t first) n (waits_step net c t first n) p b (handed p first b w) w f (handed_true net p first b w f) (all_know_to p b (frames_past first w.frames)) h).state
+    (turn_keeps net (WaitsFor net c t first) n (waits_step net c t first n) p b (handed p first b w) w f (handed_true net p first b w f) (all_know_to p b (frames_past first w.frames)) h).state
 
 pub turn_rises : (net : Net) (m p first b : ℕ) (w : World) → IsNet net → WorldFits net w → Rising net m p b w (handed p first b w) → m ≤ (view_of (hand_down net p first w b).world b p).horizon
 unfolding hand_down_by
@@ -355,7 +355,7 @@ turn_rises net m p first b w n f h =
     risen net m p b (in_turn (deliver_frame net) (handed p first b w) w).world
     (turn_keeps net (Rising net m) n (rising_step net m n) p b (handed p first b w) w f (handed_true net p first b w f) (all_know_to p b (frames_past first w.frames)) h)
 
-tells_is_know : (p u b t : ℕ) (f : Frame) → TellsKnown p u b t f → (is_know_to p b f ≡ true) × Knows t f
+tells_is_know : (p u b t : ℕ) (f : Frame) → TellsKnown p u b t f → (is_know_to p b f ≡ true) × BringsTick t f
 tells_is_know p u b t f h = go f.body h.value h.known h.tells.body
   where
     go : (y : Body) (k : K) → k ≢ Q → TellsBody t k y → ((elim y as (λ q. Bool) [ body.Knowledge runs ↦ nat_eq f.head.publisher p && nat_eq f.head.to b | _ ↦ false ]) ≡ true) × KnowsBody t y
@@ -364,7 +364,7 @@ tells_is_know p u b t f h = go f.body h.value h.known h.tells.body
     go (body.Expect tick) k n e = absurd e
 
 -- a tick that a frame tells the broker is among those that it is handed
-pub told_handed : (p u b t : ℕ) (fs : List Frame) → Has (TellsKnown p u b t) fs → Has (Knows t) (filter (is_know_to p b) fs)
+pub told_handed : (p u b t : ℕ) (fs : List Frame) → Has (TellsKnown p u b t) fs → Has (BringsTick t) (filter (is_know_to p b) fs)
 told_handed p u b t [] h = absurd h
 told_handed p u b t (f ∷ fs) (inl h) = let k = tells_is_know p u b t f h in rw (k.0) (inl k.1)
 told_handed p u b t (f ∷ fs) (inr h) =

@@ -13,7 +13,7 @@ use Rattle.gr_tick.specs.Runs.{AreRuns, first_bottom_from, top_of}
 use Rattle.gr_know.specs.Values.{Known, known_at, is_Q}
 use Rattle.gr_curio.specs.Values.{Wanted, wanted_at, asked_at, is_C, is_outstanding}
 use Rattle.gr_model.specs.Net.{Net, is_host, keeps_horizon}
-use Rattle.gr_model.specs.Broker.{View, Log, Outcome, any_C, horizon_if, is_reached, is_settled, consolidated, up_frames, want_frames, place_of, head, wake, wake_host, wake_below, asking, marking, cutting, with_cut, done_upto, expect_frames, expect_frame, covers, curious, receive}
+use Rattle.gr_model.specs.Broker.{View, Log, Outcome, any_C, horizon_if, is_reached, is_consolidated_by, consolidated, up_frames, want_frames, place_of, head, wake, wake_host, wake_below, asking, marking, cutting, with_cut, done_upto, expect_frames, expect_frame, covers, curious, receive}
 use Rattle.gr_model.specs.World.{World, view_of, log_of, wake_for, deliver_frame, sent_since, frames_past, is_want, wake_for_by}
 use Rattle.gr_theorems.specs.Truth.{Facts, AllWantTruth}
 use Rattle.gr_model.specs.Tree.{IsNet}
@@ -215,7 +215,7 @@ keeps_test false h m t e l = refl
 
 -- where all children have acknowledged, each tick up to the moment is consolidated
 settled_upto : (net : Net) (p m : ℕ) (base : List Frame) (b : ℕ) (bs : List ℕ) (w : World) (t : ℕ) → IsNet net → WorldFits net w → b < net.brokers → p < net.publishers → ((c : ℕ) → list_any (λ x. nat_eq x c) (net.children p b) ≡ true → stands (b ∷ bs) c ≡ false) → Settling net p m base (b ∷ bs) w [] → 1 ≤ t → t ≤ m →
-    is_settled (keeps_horizon net p b) (view_of w b p).horizon (view_of w b p).wants t ≡ true
+    is_consolidated_by (keeps_horizon net p b) (view_of w b p).horizon (view_of w b p).wants t ≡ true
 settled_upto net p m base b bs w t n f i j out s one le =
     ap₂ (λ x y. x && y) (ap₂ (λ x y. x && y) (le-leb 1 t one) (keeps_test (keeps_horizon net p b) (view_of w b p).horizon m t (λ k. s.reached b i k) le))
     (all_A_of (net.children p b) (view_of w b p).wants t (same_length net (facts_of net w p) p (net.children p b) (view_of w b p).wants (f.views p b j i).wants) (n.children_once p b j i)
@@ -290,11 +290,11 @@ settling_woken net p m base b bs w n r f i j host out s =
         k.ticks.asked t ∙ not_asked (any_C (view_of w b p).wants t || (keeps_horizon net p b && nat_lt (view_of w b p).horizon t && aged)) q out
         (wanted_quiet (any_C (view_of w b p).wants t) (keeps_horizon net p b) (nat_lt (view_of w b p).horizon t) aged q out (young t) (outstanding t))
 
-    piece_at : (t : ℕ) → wanted_at piece t ≡ (if is_settled (keeps_horizon net p b) (view_of w b p).horizon (view_of w b p).wants t then A else N)
-    piece_at t = k.ticks.piece t ∙ ap (λ x. if is_settled (keeps_horizon net p b) (view_of w b p).horizon (view_of w b p).wants t then A else x) (asked_none t)
+    piece_at : (t : ℕ) → wanted_at piece t ≡ (if is_consolidated_by (keeps_horizon net p b) (view_of w b p).horizon (view_of w b p).wants t then A else N)
+    piece_at t = k.ticks.piece t ∙ ap (λ x. if is_consolidated_by (keeps_horizon net p b) (view_of w b p).horizon (view_of w b p).wants t then A else x) (asked_none t)
 
     acks : Each (Acks p) (up_frames net p b piece)
-    acks = up_acks net p b piece k.ticks.piece_runs (λ t e. not_C_if (is_settled (keeps_horizon net p b) (view_of w b p).horizon (view_of w b p).wants t) (sym (piece_at t) ∙ e))
+    acks = up_acks net p b piece k.ticks.piece_runs (λ t e. not_C_if (is_consolidated_by (keeps_horizon net p b) (view_of w b p).horizon (view_of w b p).wants t) (sym (piece_at t) ∙ e))
 
     pending : filter is_want (sent_since w y) ≡ up_frames net p b piece
     pending = ap (λ z. filter is_want (frames_past (length w.frames) z)) k.taken.frames ∙ (ap (filter is_want) (frames_past_all w.frames o.frames ∙ k.ticks.frames) ∙ acks_up p (up_frames net p b piece) acks)
@@ -311,7 +311,7 @@ settling_woken net p m base b bs w n r f i j host out s =
 -- The host is woken
 
 -- all is cut that is settled, where all of it is consolidated
-cut_all : (net : Net) (f : Facts) (p b : ℕ) (v : View) (log : Log) → AllWantTruth net f p (net.children p b) v.wants → log.cut ≤ log.settled → ((t : ℕ) → 1 ≤ t → t ≤ log.settled → is_settled (keeps_horizon net p b) v.horizon v.wants t ≡ true) → (cutting net p b v log).cut ≡ log.settled
+cut_all : (net : Net) (f : Facts) (p b : ℕ) (v : View) (log : Log) → AllWantTruth net f p (net.children p b) v.wants → log.cut ≤ log.settled → ((t : ℕ) → 1 ≤ t → t ≤ log.settled → is_consolidated_by (keeps_horizon net p b) v.horizon v.wants t ≡ true) → (cutting net p b v log).cut ≡ log.settled
 unfolding cutting done_upto
 cut_all net f p b v log a c h = go (nat_lt log.cut upto) refl
   where
@@ -381,7 +381,7 @@ record HostWoken (v : View) (log : Log) (o : Outcome) : Type 0 where
   cut : o.log.cut ≡ log.settled
   expects : Each IsExpect o.frames
 
-host_woken : (net : Net) (f : Facts) (p b now : ℕ) (v : View) (log : Log) → is_host net p b ≡ true → nat_le (log.settled + net.quiet) now ≡ false → AllWantTruth net f p (net.children p b) v.wants → log.cut ≤ log.settled → ((t : ℕ) → 1 ≤ t → t ≤ log.settled → is_settled (keeps_horizon net p b) v.horizon v.wants t ≡ true) → HostWoken v log (wake net p b now v log)
+host_woken : (net : Net) (f : Facts) (p b now : ℕ) (v : View) (log : Log) → is_host net p b ≡ true → nat_le (log.settled + net.quiet) now ≡ false → AllWantTruth net f p (net.children p b) v.wants → log.cut ≤ log.settled → ((t : ℕ) → 1 ≤ t → t ≤ log.settled → is_consolidated_by (keeps_horizon net p b) v.horizon v.wants t ≡ true) → HostWoken v log (wake net p b now v log)
 unfolding wake wake_host
 host_woken net f p b now v log host late a c h = subst (HostWoken v log) (sym is_wake_host) (record {
   view = ap (λ o. o.view) e;

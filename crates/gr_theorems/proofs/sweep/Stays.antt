@@ -11,7 +11,7 @@ use Rattle.gr_frame.specs.declared.Frame.{Frame}
 use Rattle.gr_know.specs.Values.{known_at}
 use Rattle.gr_curio.specs.Values.{Wanted, wanted_at, asked_at, is_A}
 use Rattle.gr_model.specs.Net.{Net, is_host, keeps_horizon}
-use Rattle.gr_model.specs.Broker.{Outcome, place_of, receive, curious, is_settled, wake, wake_below, wake_host}
+use Rattle.gr_model.specs.Broker.{Outcome, place_of, receive, curious, is_consolidated_by, wake, wake_below, wake_host}
 use Rattle.gr_model.specs.World.{World, view_of, log_of, deliver_frame, wake_for, deliver_frame_by, wake_for_by}
 use Rattle.gr_theorems.specs.Fits.{facts_of, WorldFits, FrameTrue, BodyTrue, BodyFits}
 use Rattle.gr_model.specs.Tree.{IsNet}
@@ -63,7 +63,7 @@ stays_here net w y x runs o c t i j d child na s =
     ] in
     let s1 : wanted_at (wants_of net p u (view_of y u p) c) t ≡ C = ap (λ z. wanted_at (wants_of net p u z c) t) d.taken.view ∙ kept in
     let no = not_settled net (facts_of net y p) p u c t v.horizon (view_of y u p).wants (d.fits.views p u i j).wants child (ap is_A s1) in
-    let no1 : is_settled (keeps_horizon net p u) v.horizon o.view.wants t ≡ false = ap (λ z. is_settled (keeps_horizon net p u) v.horizon z.wants t) (sym d.taken.view) ∙ no in
+    let no1 : is_consolidated_by (keeps_horizon net p u) v.horizon o.view.wants t ≡ false = ap (λ z. is_consolidated_by (keeps_horizon net p u) v.horizon z.wants t) (sym d.taken.view) ∙ no in
     record {
       asks = s1;
       unknown = ap (λ z. known_at z.know t) d.taken.view ∙ ⊎_elim (λ z. z ∙ (ap (λ b. if b then F else known_at v.know t) no1 ∙ s.unknown)) (λ z. z.0) (k.know t);

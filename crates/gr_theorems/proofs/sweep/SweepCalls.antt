@@ -7,7 +7,7 @@ use Rattle.gr_frame.specs.declared.Frame.{Frame}
 use Rattle.gr_model.specs.declared.report.Report.TheVariants as line
 use Rattle.gr_model.specs.Net.{Net, numbers}
 use Rattle.gr_model.specs.Broker.{Outcome, max_tick, wake, receive}
-use Rattle.gr_model.specs.World.{World, Told, view_of, log_of, absorbed, unchanged, after, in_turn, wake_for, deliver_frame, frame_at, frames_past, sent_since, is_want, is_know_to, deliver_up, wake_up, hand_down, sweep_for, inwards, outwards, sweep_moment, sweep, deliver_frame_by, deliver_up_by, hand_down_by, sweep_by, sweep_for_by, wake_for_by, wake_up_by}
+use Rattle.gr_model.specs.World.{World, Transition, view_of, log_of, absorbed, unchanged, followed_by, in_turn, wake_for, deliver_frame, frame_at, frames_past, sent_since, is_want, is_know_to, deliver_up, wake_up, hand_down, sweep_for, inwards, outwards, sweep_moment, sweep, deliver_frame_by, deliver_up_by, hand_down_by, sweep_by, sweep_for_by, wake_for_by, wake_up_by}
 use Rattle.gr_theorems.specs.Settles.{Call, wakes, delivers, made, EachSent, all_made, numbers_of, sent_past, calls_in_turn, up_calls, wake_calls, down_calls, sweep_calls_for, at_sweep, sweep_calls}
 
 -- Frames are only added
@@ -38,7 +38,7 @@ made_grows : (net : Net) (w : World) (c : Call) → Grows w (made net w c).world
 made_grows net w (wakes b p) = wake_grows net w b p
 made_grows net w (delivers k) = go (frame_at w k)
   where
-    go : (o : Option Frame) → Grows w (let t : Told = elim o [ None ↦ unchanged w [] | Some f ↦ deliver_frame net w f ] in t.world)
+    go : (o : Option Frame) → Grows w (let t : Transition = elim o [ None ↦ unchanged w [] | Some f ↦ deliver_frame net w f ] in t.world)
     go None = grows_none w
     go (Some f) = deliver_grows net w f
 
@@ -109,15 +109,15 @@ sent_at test n w l = let x = front_of n w.frames l in subst (λ z. Pairs (IsAt w
 
 -- Lists of calls
 
-pub all_made-append : (net : Net) (xs ys : List Call) (w : World) → all_made net (xs ++ ys) w ≡ after (all_made net xs w) (all_made net ys)
+pub all_made-append : (net : Net) (xs ys : List Call) (w : World) → all_made net (xs ++ ys) w ≡ followed_by (all_made net xs w) (all_made net ys)
 all_made-append net [] ys w = refl
 all_made-append net (x ∷ xs) ys w =
     let s = made net w x in
     let a = all_made net xs s.world in
-    ap (λ (r : Told). let t : Told = record { world = r.world; lines = s.lines ++ r.lines } in t) (all_made-append net xs ys s.world)
-    ∙ ap (λ ls. let t : Told = record { world = (all_made net ys a.world).world; lines = ls } in t) (sym (append_assoc s.lines a.lines (all_made net ys a.world).lines))
+    ap (λ (r : Transition). let t : Transition = record { world = r.world; lines = s.lines ++ r.lines } in t) (all_made-append net xs ys s.world)
+    ∙ ap (λ ls. let t : Transition = record { world = (all_made net ys a.world).world; lines = ls } in t) (sym (append_assoc s.lines a.lines (all_made net ys a.world).lines))
 
-pub calls_are : {X Y : Type 0} (net : Net) (R : World → X → Y → Type 0) (g : World → X → List Call) (f : World → Y → Told) → ((w u : World) (x : X) (y : Y) → Grows w u → R w x y → R u x y) → ((w : World) (x : X) (y : Y) → R w x y → all_made net (g w x) w ≡ f w y) →
+pub calls_are : {X Y : Type 0} (net : Net) (R : World → X → Y → Type 0) (g : World → X → List Call) (f : World → Y → Transition) → ((w u : World) (x : X) (y : Y) → Grows w u → R w x y → R u x y) → ((w : World) (x : X) (y : Y) → R w x y → all_made net (g w x) w ≡ f w y) →
     (xs : List X) (ys : List Y) (w : World) → Pairs (R w) xs ys → all_made net (calls_in_turn net g xs w) w ≡ in_turn f ys w
 calls_are net R g f stays one [] [] w a = refl
 calls_are net R g f stays one [] (y ∷ ys) w a = absurd a
@@ -125,8 +125,8 @@ calls_are net R g f stays one (x ∷ xs) [] w a = absurd a
 calls_are {X} {Y} net R g f stays one (x ∷ xs) (y ∷ ys) w a =
     let s = all_made net (g w x) w in
     all_made-append net (g w x) (calls_in_turn net g xs s.world) w
-    ∙ (ap (λ (r : Told). let t : Told = record { world = r.world; lines = s.lines ++ r.lines } in t) (calls_are net R g f stays one xs ys s.world (on xs ys a.1))
-    ∙ ap (λ (t : Told). after t (in_turn f ys)) (one w x y a.0))
+    ∙ (ap (λ (r : Transition). let t : Transition = record { world = r.world; lines = s.lines ++ r.lines } in t) (calls_are net R g f stays one xs ys s.world (on xs ys a.1))
+    ∙ ap (λ (t : Transition). followed_by t (in_turn f ys)) (one w x y a.0))
   where
     on : (xs : List X) (ys : List Y) → Pairs (R w) xs ys → Pairs (R (all_made net (g w x) w).world) xs ys
     on [] [] b = tt
@@ -135,24 +135,24 @@ calls_are {X} {Y} net R g f stays one (x ∷ xs) (y ∷ ys) w a =
     on (u ∷ us) (v ∷ vs) b = (stays w (all_made net (g w x) w).world u v (all_made_grows net (g w x) w) b.0, on us vs b.1)
 
 pub made_is : (net : Net) (w : World) (k : ℕ) (f : Frame) → IsAt w k f → made net w (delivers k) ≡ deliver_frame net w f
-made_is net w k f e = ap (λ o. let t : Told = elim o [ None ↦ unchanged w [] | Some f ↦ deliver_frame net w f ] in t) e
+made_is net w k f e = ap (λ o. let t : Transition = elim o [ None ↦ unchanged w [] | Some f ↦ deliver_frame net w f ] in t) e
 
 pub up_are : (net : Net) (fuel : ℕ) (ks : List ℕ) (fs : List Frame) (w : World) → Pairs (IsAt w) ks fs → all_made net (up_calls net fuel ks w) w ≡ deliver_up net fuel fs w
 unfolding up_calls deliver_up_by
 up_are net zero ks fs w a = refl
-up_are net (suc fuel) ks fs w a = calls_are net (λ u k f. IsAt u k f) (λ u k. let x = (made net u (delivers k)).world in delivers k ∷ up_calls net fuel (sent_past is_want (length u.frames) x) x) (λ u f. after (deliver_frame net u f) (λ x. deliver_up net fuel (filter is_want (sent_since u x)) x))
+up_are net (suc fuel) ks fs w a = calls_are net (λ u k f. IsAt u k f) (λ u k. let x = (made net u (delivers k)).world in delivers k ∷ up_calls net fuel (sent_past is_want (length u.frames) x) x) (λ u f. followed_by (deliver_frame net u f) (λ x. deliver_up net fuel (filter is_want (sent_since u x)) x))
     (λ u v k f g e. at_stays u v k f g e)
     (λ u k f e.
     let s = made net u (delivers k) in
-    ap (λ (r : Told). let t : Told = record { world = r.world; lines = s.lines ++ r.lines } in t) (up_are net fuel (sent_past is_want (length u.frames) s.world) (filter is_want (sent_since u s.world)) s.world (sent_at is_want (length u.frames) s.world (grows_long u s.world (length u.frames) (made_grows net u (delivers k)) (omega arith))))
-    ∙ ap (λ (t : Told). after t (λ x. deliver_up net fuel (filter is_want (sent_since u x)) x)) (made_is net u k f e))
+    ap (λ (r : Transition). let t : Transition = record { world = r.world; lines = s.lines ++ r.lines } in t) (up_are net fuel (sent_past is_want (length u.frames) s.world) (filter is_want (sent_since u s.world)) s.world (sent_at is_want (length u.frames) s.world (grows_long u s.world (length u.frames) (made_grows net u (delivers k)) (omega arith))))
+    ∙ ap (λ (t : Transition). followed_by t (λ x. deliver_up net fuel (filter is_want (sent_since u x)) x)) (made_is net u k f e))
     ks fs w a
 
 pub wakes_are : (net : Net) (p : ℕ) (w : World) (b : ℕ) → all_made net (wake_calls net p w b) w ≡ wake_up net p w b
 unfolding wake_calls wake_up_by
 wakes_are net p w b =
     let s = wake_for net w b p in
-    ap (λ (r : Told). let t : Told = record { world = r.world; lines = s.lines ++ r.lines } in t) (up_are net net.brokers (sent_past is_want (length w.frames) s.world) (filter is_want (sent_since w s.world)) s.world (sent_at is_want (length w.frames) s.world (grows_long w s.world (length w.frames) (wake_grows net w b p) (omega arith))))
+    ap (λ (r : Transition). let t : Transition = record { world = r.world; lines = s.lines ++ r.lines } in t) (up_are net net.brokers (sent_past is_want (length w.frames) s.world) (filter is_want (sent_since w s.world)) s.world (sent_at is_want (length w.frames) s.world (grows_long w s.world (length w.frames) (wake_grows net w b p) (omega arith))))
 
 deliveries_are : (net : Net) (ks : List ℕ) (fs : List Frame) (w : World) → Pairs (IsAt w) ks fs → all_made net (map delivers ks) w ≡ in_turn (deliver_frame net) fs w
 deliveries_are net [] [] w a = refl
@@ -160,8 +160,8 @@ deliveries_are net [] (f ∷ fs) w a = absurd a
 deliveries_are net (k ∷ ks) [] w a = absurd a
 deliveries_are net (k ∷ ks) (f ∷ fs) w a =
     let s = made net w (delivers k) in
-    ap (λ (r : Told). let t : Told = record { world = r.world; lines = s.lines ++ r.lines } in t) (deliveries_are net ks fs s.world (pairs_stay w s.world ks fs (made_grows net w (delivers k)) a.1))
-    ∙ ap (λ (t : Told). after t (in_turn (deliver_frame net) fs)) (made_is net w k f a.0)
+    ap (λ (r : Transition). let t : Transition = record { world = r.world; lines = s.lines ++ r.lines } in t) (deliveries_are net ks fs s.world (pairs_stay w s.world ks fs (made_grows net w (delivers k)) a.1))
+    ∙ ap (λ (t : Transition). followed_by t (in_turn (deliver_frame net) fs)) (made_is net w k f a.0)
 
 pub downs_are : (net : Net) (p first : ℕ) (w : World) (b : ℕ) → first ≤ length w.frames → all_made net (down_calls net p first w b) w ≡ hand_down net p first w b
 unfolding down_calls hand_down_by
@@ -182,10 +182,10 @@ pub sweep_for_are : (net : Net) (w : World) (p : ℕ) → all_made net (sweep_ca
 unfolding sweep_calls_for sweep_for_by
 sweep_for_are net w p =
     all_made-append net (a ++ b) c w
-    ∙ (ap (λ (t : Told). after t (all_made net c)) (all_made-append net a b w)
-    ∙ (ap (λ (r : Told). after_two r) (wake_turns_are net p (inwards net p) y)
-    ∙ (ap (λ (r : Told). let t : Told = record { world = r.world; lines = s.lines ++ r.lines } in after t (in_turn (wake_up net p) (inwards net p))) (down_turns_are net p first (outwards net p) x (grows_long w x first (all_made_grows net a w) (omega arith)))
-    ∙ ap (λ (t : Told). after (after t (in_turn (hand_down net p first) (outwards net p))) (in_turn (wake_up net p) (inwards net p))) (wake_turns_are net p (inwards net p) w))))
+    ∙ (ap (λ (t : Transition). followed_by t (all_made net c)) (all_made-append net a b w)
+    ∙ (ap (λ (r : Transition). after_two r) (wake_turns_are net p (inwards net p) y)
+    ∙ (ap (λ (r : Transition). let t : Transition = record { world = r.world; lines = s.lines ++ r.lines } in followed_by t (in_turn (wake_up net p) (inwards net p))) (down_turns_are net p first (outwards net p) x (grows_long w x first (all_made_grows net a w) (omega arith)))
+    ∙ ap (λ (t : Transition). followed_by (followed_by t (in_turn (hand_down net p first) (outwards net p))) (in_turn (wake_up net p) (inwards net p))) (wake_turns_are net p (inwards net p) w))))
   where
     first : ℕ
     first = length w.frames
@@ -193,7 +193,7 @@ sweep_for_are net w p =
     a : List Call
     a = calls_in_turn net (wake_calls net p) (inwards net p) w
 
-    s : Told
+    s : Transition
     s = all_made net a w
 
     x : World
@@ -208,23 +208,23 @@ sweep_for_are net w p =
     c : List Call
     c = calls_in_turn net (wake_calls net p) (inwards net p) y
 
-    after_two : Told → Told
+    after_two : Transition → Transition
     after_two r = record { world = r.world; lines = (s.lines ++ (all_made net b x).lines) ++ r.lines }
 
 pub sweeps_are : (net : Net) (ps : List ℕ) (w : World) → all_made net (calls_in_turn net (sweep_calls_for net) ps w) w ≡ in_turn (sweep_for net) ps w
 sweeps_are net ps w = calls_are net (λ u x y. x ≡ y) (sweep_calls_for net) (sweep_for net) (λ u v x y g e. e) (λ u x y e. sweep_for_are net u x ∙ ap (sweep_for net u) e) ps ps w (pairs_same (λ x y. x ≡ y) ps (λ x. refl))
 
 -- a sweep that is not refused is its calls
-pub sweep_is_calls : (net : Net) (w : World) (k : ℕ) → nat_lt max_tick (sweep_moment net w) ≡ false → sweep net w k ≡ after (all_made net (sweep_calls net w) (at_sweep net w)) (λ x. unchanged x (line.Swept (sweep_moment net w) ∷ []))
+pub sweep_is_calls : (net : Net) (w : World) (k : ℕ) → nat_lt max_tick (sweep_moment net w) ≡ false → sweep net w k ≡ followed_by (all_made net (sweep_calls net w) (at_sweep net w)) (λ x. unchanged x (line.Swept (sweep_moment net w) ∷ []))
 unfolding sweep_by sweep_calls
 sweep_is_calls net w k ok = go (nat_lt max_tick (sweep_moment net w)) ok
   where
-    swept : Told
+    swept : Transition
     swept = in_turn (sweep_for net) (numbers net.publishers) (at_sweep net w)
 
-    go : (q : Bool) → q ≡ false → (let t : Told = elim q [ true ↦ unchanged w (line.RefusedClock k (sweep_moment net w) ∷ []) | false ↦ after swept (λ x. unchanged x (line.Swept (sweep_moment net w) ∷ [])) ] in t) ≡ after (all_made net (calls_in_turn net (sweep_calls_for net) (numbers net.publishers) (at_sweep net w)) (at_sweep net w)) (λ x. unchanged x (line.Swept (sweep_moment net w) ∷ []))
+    go : (q : Bool) → q ≡ false → (let t : Transition = elim q [ true ↦ unchanged w (line.RefusedClock k (sweep_moment net w) ∷ []) | false ↦ followed_by swept (λ x. unchanged x (line.Swept (sweep_moment net w) ∷ [])) ] in t) ≡ followed_by (all_made net (calls_in_turn net (sweep_calls_for net) (numbers net.publishers) (at_sweep net w)) (at_sweep net w)) (λ x. unchanged x (line.Swept (sweep_moment net w) ∷ []))
     go true e = absurd (true≢false e)
-    go false e = ap (λ (t : Told). after t (λ x. unchanged x (line.Swept (sweep_moment net w) ∷ []))) (sym (sweeps_are net (numbers net.publishers) (at_sweep net w)))
+    go false e = ap (λ (t : Transition). followed_by t (λ x. unchanged x (line.Swept (sweep_moment net w) ∷ []))) (sym (sweeps_are net (numbers net.publishers) (at_sweep net w)))
 
 -- Each frame is there when it is delivered
 

@@ -12,12 +12,12 @@ use Rattle.gr_model.specs.declared.report.Report.{Report}
 use Rattle.gr_model.specs.declared.report.Report.TheVariants as line
 use Rattle.gr_model.specs.Net.{Net, is_host, numbers}
 use Rattle.gr_model.specs.Broker.{View, Log, Outcome, marking, cutting, wake, wake_host, wake_below, asking, receive, max_tick}
-use Rattle.gr_model.specs.World.{World, Told, view_of, log_of, absorbed, unchanged, after, in_turn, sent_lines, wake_for, deliver_frame, sweep, sweep_for, sweep_moment, deliver_frame_by, sweep_by, wake_for_by}
+use Rattle.gr_model.specs.World.{World, Transition, view_of, log_of, absorbed, unchanged, followed_by, in_turn, sent_lines, wake_for, deliver_frame, sweep, sweep_for, sweep_moment, deliver_frame_by, sweep_by, wake_for_by}
 use Rattle.gr_model.specs.Headline.{know_of_line, hearing, hearing_all}
 use Rattle.gr_model.specs.Tree.{IsNet}
 use Rattle.gr_theorems.specs.Fits.{WorldFits, FrameTrue}
-use Rattle.gr_theorems.proofs.records.RecordLines.{Skips, receive_none, marking_none, front}
-use Rattle.gr_theorems.proofs.heard.HeardSteps.{Pieces, HeardLong, heard_in, Adds, body_adds, know_of_body, know_of_sent}
+use Rattle.gr_theorems.proofs.records.RecordLines.{Skips, receive_none, marking_none, host_lines}
+use Rattle.gr_theorems.proofs.heard.HeardSteps.{Pieces, HeardLong, heard_in, AddsHeard, body_adds, know_of_body, know_of_sent}
 use Rattle.gr_theorems.proofs.heard.HeardCalls.{hears_body}
 use Rattle.gr_theorems.proofs.runs.Worlds.{Each}
 use Rattle.gr_theorems.proofs.runs.Chains.{Chains, sweeps_chain}
@@ -65,12 +65,12 @@ hear_sent heard n [] = refl
 hear_sent heard n (f ∷ fs) = ap (λ o. hearing_all (hearing heard o) (sent_lines (suc n) fs)) (know_of_sent n f) ∙ hear_sent (hearing heard (know_of_body f.head f.body)) (suc n) fs
 
 -- the lines say what the frames that were sent add
-record Adding (w : World) (t : Told) : Type 0 where
+record Adding (w : World) (t : Transition) : Type 0 where
   more : List Frame
   frames : t.world.frames ≡ w.frames ++ more
   lines : (heard : Pieces) → hearing_all heard t.lines ≡ hear_frames heard more
 
-adding_seq : (w : World) (t : Told) (f : World → Told) → Adding w t → Adding t.world (f t.world) → Adding w (after t f)
+adding_seq : (w : World) (t : Transition) (f : World → Transition) → Adding w t → Adding t.world (f t.world) → Adding w (followed_by t f)
 adding_seq w t f a b = record {
   more = a.more ++ b.more;
   frames = b.frames ∙ (ap (λ (z : List Frame). z ++ b.more) a.frames ∙ append_assoc w.frames a.more b.more);
@@ -95,7 +95,7 @@ wake_mute net p b now v log = go (is_host net p b)
     new : Log
     new = cutting net p b o.view o.log
 
-    two : (c d : Bool) → filter is_know (front p now new.cut c d) ≡ []
+    two : (c d : Bool) → filter is_know (host_lines p now new.cut c d) ≡ []
     two true true = refl
     two true false = refl
     two false true = refl
@@ -105,7 +105,7 @@ wake_mute net p b now v log = go (is_host net p b)
     go true =
         let c = nat_lt log.settled o.log.settled in
         let d = nat_lt o.log.cut new.cut in
-        filter-append is_know (front p now new.cut c d) o.lines ∙ ap₂ (λ x y. x ++ y) (two c d) (marking_none is_know net p b now v log know_skips)
+        filter-append is_know (host_lines p now new.cut c d) o.lines ∙ ap₂ (λ x y. x ++ y) (two c d) (marking_none is_know net p b now v log know_skips)
     go false = refl
 
 wake_adding : (net : Net) (w : World) (b p : ℕ) → Adding w (wake_for net w b p)
@@ -140,7 +140,7 @@ sweep_adds net w k n f = let a = go (nat_lt max_tick m) in record { more = a.mor
     u : World
     u = record { clock = m; most = max m w.most; frames = w.frames; views = w.views; logs = w.logs }
 
-    go : (q : Bool) → Adding w (elim q [ true ↦ unchanged w (line.RefusedClock k m ∷ []) | false ↦ after (in_turn (sweep_for net) (numbers net.publishers) u) (λ x. unchanged x (line.Swept m ∷ [])) ])
+    go : (q : Bool) → Adding w (elim q [ true ↦ unchanged w (line.RefusedClock k m ∷ []) | false ↦ followed_by (in_turn (sweep_for net) (numbers net.publishers) u) (λ x. unchanged x (line.Swept m ∷ [])) ])
     go true = record { more = []; frames = sym (append-nil w.frames); lines = λ heard. refl }
     go false =
         let c = (sweeps_chain net Adding u (adding_chain net) n (clocked_fits net w m (max m w.most) f)).holds in
@@ -175,7 +175,7 @@ heard_of_frames net w heard (f ∷ fs) b p t l a =
     or_false true = refl
     or_false false = refl
 
-    adds : Adds net heard (hearing heard (know_of_body f.head f.body)) f.head f.body
+    adds : AddsHeard net heard (hearing heard (know_of_body f.head f.body)) f.head f.body
     adds = body_adds net w heard f.head f.body l a.0.fits.to_in a.0.publisher_in a.0.told
 
     brings : (y : Body) → hears_body (heard_in heard f.head.to f.head.publisher) y t ≡ (heard_in heard f.head.to f.head.publisher t || tells_body t y)

@@ -6,7 +6,7 @@ use Rattle.gr_frame.specs.declared.Body.{Body}
 use Rattle.gr_frame.specs.declared.Body.TheVariants as body
 use Rattle.gr_frame.specs.declared.Frame.{Frame}
 use Rattle.gr_model.specs.Net.{Net}
-use Rattle.gr_model.specs.World.{World, Told, in_turn, wake_for, deliver_frame, frames_past, sent_since, is_want, is_know_to, deliver_up, wake_up, hand_down, sweep_for, inwards, outwards, numbers_down, deliver_up_by, sweep_for_by, wake_up_by}
+use Rattle.gr_model.specs.World.{World, Transition, in_turn, wake_for, deliver_frame, frames_past, sent_since, is_want, is_know_to, deliver_up, wake_up, hand_down, sweep_for, inwards, outwards, numbers_down, deliver_up_by, sweep_for_by, wake_up_by}
 use Rattle.gr_theorems.specs.Settles.{Call, delivers, made, all_made, numbers_of, sent_past, calls_in_turn, up_calls, wake_calls, down_calls, sweep_calls_for, times, is_expect}
 use Rattle.gr_model.specs.Tree.{IsNet, IsDistinct}
 use Rattle.gr_theorems.specs.Fits.{WorldFits, FrameTrue, AllFramesTrue}
@@ -17,12 +17,12 @@ use Rattle.gr_theorems.proofs.sweep.Upward.{rank_of, sent_up_less, ranks}
 use Rattle.gr_theorems.proofs.sweep.Rounds.{stands, Each-map, AllDeeper, outwards_deeper, outwards_once, stands_outwards}
 use Rattle.gr_theorems.proofs.sweep.SweepCalls.{Grows, Pairs, IsAt, grows_none, grows_on, grows_long, wake_grows, deliver_grows, all_made_grows, at_stays, sent_at, up_are, wakes_are, downs_are, wake_turns_are, down_turns_are, made_is}
 use Rattle.gr_theorems.proofs.sweep.SweepNumbers.{count, count-append, count_deliveries, sent_more, sent_split, sent_none, one, times_parts, times_none}
-use Rattle.gr_theorems.proofs.sweep.SweepSends.{Adds, adds_on, adds_grow, adds_map, Of, wake_turns_of, is_know, Down, hand_down_adds, KnowOf, hand_turns_add, units}
+use Rattle.gr_theorems.proofs.sweep.SweepSends.{AddsFrames, adds_on, adds_grow, adds_map, Of, wake_turns_of, is_know, Down, hand_down_adds, KnowOf, hand_turns_add, units}
 use Rattle.gr_theorems.proofs.sweep.Settling.{NoKnow}
 
 -- The upward frames
 
-pub in_turn_grows : {X : Type 0} (f : World → X → Told) → ((w : World) (x : X) → Grows w (f w x).world) → (xs : List X) (w : World) → Grows w (in_turn f xs w).world
+pub in_turn_grows : {X : Type 0} (f : World → X → Transition) → ((w : World) (x : X) → Grows w (f w x).world) → (xs : List X) (w : World) → Grows w (in_turn f xs w).world
 in_turn_grows f g [] w = grows_none w
 in_turn_grows f g (x ∷ xs) w = grows_on w (f w x).world (in_turn f xs (f w x).world).world (g w x) (in_turn_grows f g xs (f w x).world)
 
@@ -42,8 +42,8 @@ one_up net fuel u k = let x = (made net u (delivers k)).world in delivers k ∷ 
 one_up_is : (net : Net) (fuel : ℕ) (w : World) (k : ℕ) (x : Frame) → IsAt w k x → all_made net (one_up net fuel w k) w ≡ delivered_up net fuel w x
 one_up_is net fuel w k x e =
     let s = made net w (delivers k) in
-    ap (λ (r : Told). let t : Told = record { world = r.world; lines = s.lines ++ r.lines } in t) (up_are net fuel (sent_past is_want (length w.frames) s.world) (filter is_want (sent_since w s.world)) s.world (sent_at is_want (length w.frames) s.world (grows_long w s.world (length w.frames) (subst (λ t. Grows w t.world) (sym (made_is net w k x e)) (deliver_grows net w x)) (omega arith))))
-    ∙ ap (λ (t : Told). let r = deliver_up net fuel (filter is_want (sent_since w t.world)) t.world in let t : Told = record { world = r.world; lines = t.lines ++ r.lines } in t) (made_is net w k x e)
+    ap (λ (r : Transition). let t : Transition = record { world = r.world; lines = s.lines ++ r.lines } in t) (up_are net fuel (sent_past is_want (length w.frames) s.world) (filter is_want (sent_since w s.world)) s.world (sent_at is_want (length w.frames) s.world (grows_long w s.world (length w.frames) (subst (λ t. Grows w t.world) (sym (made_is net w k x e)) (deliver_grows net w x)) (omega arith))))
+    ∙ ap (λ (t : Transition). let r = deliver_up net fuel (filter is_want (sent_since w t.world)) t.world in let t : Transition = record { world = r.world; lines = t.lines ++ r.lines } in t) (made_is net w k x e)
 
 up_turns : (net : Net) (k fuel : ℕ) → IsNet net → UpOnce net k fuel → (ks : List ℕ) (fs : List Frame) (w : World) → Pairs (IsAt w) ks fs → WorldFits net w → Each (FrameTrue net w) fs → Each (λ z. rank_of net z < suc fuel) fs →
     count k (calls_in_turn net (one_up net fuel) ks w) ≡ times k ks + times k (sent_past is_want (length w.frames) (in_turn (delivered_up net fuel) fs w).world)
@@ -201,14 +201,14 @@ no_know_is f h = go f.body refl
     go (body.Curiosity runs) e = refl
     go (body.Expect tick) e = refl
 
-past_of : (R : Frame → Type 0) (w u : World) → Adds R w u → Each R (frames_past (length w.frames) u.frames)
+past_of : (R : Frame → Type 0) (w u : World) → AddsFrames R w u → Each R (frames_past (length w.frames) u.frames)
 past_of R w u a = subst (Each R) (sym (ap (frames_past (length w.frames)) a.frames ∙ frames_past_all w.frames a.more)) a.each
 
 -- one publisher's sweep, where its third phase sends no knowledge
 pub sweep_for_once : (net : Net) (k p : ℕ) (w : World) → IsNet net → WorldFits net w → p < net.publishers →
     (let w1 = (in_turn (wake_up net p) (inwards net p) w).world in
     let w2 = (in_turn (hand_down net p (length w.frames)) (outwards net p) w1).world in
-    Adds NoKnow w2 (in_turn (wake_up net p) (inwards net p) w2).world) →
+    AddsFrames NoKnow w2 (in_turn (wake_up net p) (inwards net p) w2).world) →
     count k (sweep_calls_for net w p) ≡ times k (sent_past is_due (length w.frames) (sweep_for net w p).world)
 unfolding sweep_calls_for sweep_for_by
 sweep_for_once net k p w n f j quiet =
@@ -241,16 +241,16 @@ sweep_for_once net k p w n f j quiet =
     outs : Each (λ x. x < net.brokers) (outwards net p)
     outs = depths_in net p _
 
-    o1 : Adds (Of p) w w1
+    o1 : AddsFrames (Of p) w w1
     o1 = wake_turns_of net p (inwards net p) w
 
-    k2 : Adds (KnowOf p) w1 w2
+    k2 : AddsFrames (KnowOf p) w1 w2
     k2 = hand_turns_add net p first (outwards net p) w1
 
-    o2 : Adds (Of p) w1 w2
+    o2 : AddsFrames (Of p) w1 w2
     o2 = adds_map (KnowOf p) (Of p) w1 w2 (λ x y. y.publisher) k2
 
-    o3 : Adds (Of p) w2 w3
+    o3 : AddsFrames (Of p) w2 w3
     o3 = wake_turns_of net p (inwards net p) w2
 
     l1 : first ≤ length w1.frames

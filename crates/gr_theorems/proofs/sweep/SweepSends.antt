@@ -10,7 +10,7 @@ use Rattle.gr_frame.specs.declared.Body.TheVariants as body
 use Rattle.gr_frame.specs.declared.Frame.{Frame}
 use Rattle.gr_model.specs.Net.{Net, is_host}
 use Rattle.gr_model.specs.Broker.{View, Log, Outcome, head, know_frames, forward, new_ticks, forward_frames, learn, curiosity, expect, place_of, clashes, receive, marking, cutting, silence, with_mark, wake, wake_host, wake_below, expect_frames}
-use Rattle.gr_model.specs.World.{World, Told, view_of, log_of, absorbed, after, in_turn, wake_for, deliver_frame, frames_past, sent_since, is_want, is_know_to, deliver_up, wake_up, hand_down, deliver_frame_by, deliver_up_by, hand_down_by, wake_for_by, wake_up_by}
+use Rattle.gr_model.specs.World.{World, Transition, view_of, log_of, absorbed, followed_by, in_turn, wake_for, deliver_frame, frames_past, sent_since, is_want, is_know_to, deliver_up, wake_up, hand_down, deliver_frame_by, deliver_up_by, hand_down_by, wake_for_by, wake_up_by}
 use Rattle.gr_theorems.proofs.calls.HostCases.{marking_cases}
 use Rattle.gr_theorems.proofs.runs.Worlds.{Each}
 use Rattle.gr_theorems.proofs.asks.AskMoments.{Each-on}
@@ -21,33 +21,33 @@ use Rattle.gr_theorems.proofs.sweep.Rounds.{stands, Each-map, Each-join, each_te
 use Rattle.gr_theorems.proofs.sweep.SweepCalls.{Grows}
 
 -- more frames, and each has the property
-pub record Adds (R : Frame → Type 0) (w u : World) : Type 0 where
+pub record AddsFrames (R : Frame → Type 0) (w u : World) : Type 0 where
   pub more : List Frame
   pub frames : u.frames ≡ w.frames ++ more
   pub each : Each R more
 
-pub adds_none : (R : Frame → Type 0) (w : World) → Adds R w w
+pub adds_none : (R : Frame → Type 0) (w : World) → AddsFrames R w w
 adds_none R w = record { more = []; frames = sym (append-nil w.frames); each = tt }
 
-pub adds_on : (R : Frame → Type 0) (w u v : World) → Adds R w u → Adds R u v → Adds R w v
+pub adds_on : (R : Frame → Type 0) (w u v : World) → AddsFrames R w u → AddsFrames R u v → AddsFrames R w v
 adds_on R w u v a b = record { more = a.more ++ b.more; frames = b.frames ∙ (ap (λ z. z ++ b.more) a.frames ∙ append_assoc w.frames a.more b.more); each = Each-join R a.more b.more a.each b.each }
 
-pub adds_map : (R S : Frame → Type 0) (w u : World) → ((f : Frame) → R f → S f) → Adds R w u → Adds S w u
+pub adds_map : (R S : Frame → Type 0) (w u : World) → ((f : Frame) → R f → S f) → AddsFrames R w u → AddsFrames S w u
 adds_map R S w u h a = record { more = a.more; frames = a.frames; each = Each-map R S a.more h a.each }
 
-pub adds_grow : (R : Frame → Type 0) (w u : World) → Adds R w u → Grows w u
+pub adds_grow : (R : Frame → Type 0) (w u : World) → AddsFrames R w u → Grows w u
 adds_grow R w u a = record { more = a.more; frames = a.frames }
 
-pub in_turn_adds : {X : Type 0} (R : Frame → Type 0) (ok : X → Type 0) (f : World → X → Told) → ((w : World) (x : X) → ok x → Adds R w (f w x).world) → (xs : List X) (w : World) → Each ok xs → Adds R w (in_turn f xs w).world
+pub in_turn_adds : {X : Type 0} (R : Frame → Type 0) (ok : X → Type 0) (f : World → X → Transition) → ((w : World) (x : X) → ok x → AddsFrames R w (f w x).world) → (xs : List X) (w : World) → Each ok xs → AddsFrames R w (in_turn f xs w).world
 in_turn_adds R ok f one [] w a = adds_none R w
 in_turn_adds R ok f one (x ∷ xs) w a = adds_on R w (f w x).world (in_turn f xs (f w x).world).world (one w x a.0) (in_turn_adds R ok f one xs (f w x).world a.1)
 
-absorbed_adds : (R : Frame → Type 0) (w : World) (b p : ℕ) (o : Outcome) → Each R o.frames → Adds R w (absorbed w b p o).world
+absorbed_adds : (R : Frame → Type 0) (w : World) (b p : ℕ) (o : Outcome) → Each R o.frames → AddsFrames R w (absorbed w b p o).world
 unfolding absorbed
 absorbed_adds R w b p o a = record { more = o.frames; frames = refl; each = a }
 
 -- what was sent since
-since_adds : (R : Frame → Type 0) (w u : World) → Adds R w u → Each R (sent_since w u)
+since_adds : (R : Frame → Type 0) (w u : World) → AddsFrames R w u → Each R (sent_since w u)
 since_adds R w u a = subst (Each R) (sym (ap (frames_past (length w.frames)) a.frames ∙ frames_past_all w.frames a.more)) a.each
 
 -- Frames of one publisher
@@ -70,25 +70,25 @@ wake_each net p b now R v log s = go (is_host net p b)
     go true = Each-on R (marking net p b now v log).frames _ marked (told (nat_lt 0 (cutting net p b (marking net p b now v log).view (marking net p b now v log).log).settled) (cutting net p b (marking net p b now v log).view (marking net p b now v log).log).settled (marking net p b now v log).view.wants)
     go false = asking_each net p b now R _ _ v log s
 
-wake_of : (net : Net) (w : World) (b p : ℕ) → Adds (Of p) w (wake_for net w b p).world
+wake_of : (net : Net) (w : World) (b p : ℕ) → AddsFrames (Of p) w (wake_for net w b p).world
 unfolding wake_for_by
 wake_of net w b p = absorbed_adds (Of p) w b p (wake net p b w.clock (view_of w b p) (log_of w p)) (wake_each net p b w.clock (Of p) (view_of w b p) (log_of w p) (record { know = λ c part. refl; want = λ u part e. refl; expect = λ c tick. refl }))
 
-pub deliver_of : (net : Net) (p : ℕ) (w : World) (f : Frame) → Of p f → Adds (Of p) w (deliver_frame net w f).world
+pub deliver_of : (net : Net) (p : ℕ) (w : World) (f : Frame) → Of p f → AddsFrames (Of p) w (deliver_frame net w f).world
 unfolding deliver_frame_by
 deliver_of net p w f e = absorbed_adds (Of p) w f.head.to f.head.publisher (receive net w.clock f (view_of w f.head.to f.head.publisher) (log_of w f.head.publisher))
     (receive_each net w.clock (Of p) f (view_of w f.head.to f.head.publisher) (log_of w f.head.publisher) (record { know = λ c part. e; want = λ u part h. e; expect = λ c tick. e }))
 
-pub deliver_up_of : (net : Net) (p fuel : ℕ) (fs : List Frame) (w : World) → Each (Of p) fs → Adds (Of p) w (deliver_up net fuel fs w).world
+pub deliver_up_of : (net : Net) (p fuel : ℕ) (fs : List Frame) (w : World) → Each (Of p) fs → AddsFrames (Of p) w (deliver_up net fuel fs w).world
 unfolding deliver_up_by
 deliver_up_of net p zero fs w a = adds_none (Of p) w
 deliver_up_of net p (suc fuel) fs w a =
-    in_turn_adds (Of p) (Of p) (λ u f. after (deliver_frame net u f) (λ x. deliver_up net fuel (filter is_want (sent_since u x)) x))
+    in_turn_adds (Of p) (Of p) (λ u f. followed_by (deliver_frame net u f) (λ x. deliver_up net fuel (filter is_want (sent_since u x)) x))
     (λ u f e. let y = (deliver_frame net u f).world in let d = deliver_of net p u f e in
     adds_on (Of p) u y (deliver_up net fuel (filter is_want (sent_since u y)) y).world d (deliver_up_of net p fuel (filter is_want (sent_since u y)) y (Each-kept (Of p) is_want (sent_since u y) (since_adds (Of p) u y d))))
     fs w a
 
-pub wake_up_of : (net : Net) (p : ℕ) (w : World) (b : ℕ) → Adds (Of p) w (wake_up net p w b).world
+pub wake_up_of : (net : Net) (p : ℕ) (w : World) (b : ℕ) → AddsFrames (Of p) w (wake_up net p w b).world
 unfolding wake_up_by
 wake_up_of net p w b =
     let y = (wake_for net w b p).world in
@@ -99,7 +99,7 @@ pub units : {X : Type 0} (xs : List X) → Each (λ x. Unit {0}) xs
 units [] = tt
 units (x ∷ xs) = (tt, units xs)
 
-pub wake_turns_of : (net : Net) (p : ℕ) (bs : List ℕ) (w : World) → Adds (Of p) w (in_turn (wake_up net p) bs w).world
+pub wake_turns_of : (net : Net) (p : ℕ) (bs : List ℕ) (w : World) → AddsFrames (Of p) w (in_turn (wake_up net p) bs w).world
 wake_turns_of net p bs w = in_turn_adds (Of p) (λ b. Unit {0}) (wake_up net p) (λ u b t. wake_up_of net p u b) bs w (units bs)
 
 -- Knowledge for the children
@@ -155,7 +155,7 @@ know_to_is p b f e = go f.body refl e
     go (body.Curiosity runs) g h = absurd (false≢true h)
     go (body.Expect tick) g h = absurd (false≢true h)
 
-deliver_down : (net : Net) (p b : ℕ) (w : World) (f : Frame) → is_know_to p b f ≡ true → Adds (Down net p b) w (deliver_frame net w f).world
+deliver_down : (net : Net) (p b : ℕ) (w : World) (f : Frame) → is_know_to p b f ≡ true → AddsFrames (Down net p b) w (deliver_frame net w f).world
 unfolding deliver_frame_by
 deliver_down net p b w f e =
     let k = know_to_is p b f e in
@@ -165,7 +165,7 @@ deliver_down net p b w f e =
     (receive_down net w.clock f k.runs (view_of w f.head.to f.head.publisher) (log_of w f.head.publisher) k.body)))
 
 -- the knowledge that is handed down to a broker goes on to its children
-pub hand_down_adds : (net : Net) (p first : ℕ) (w : World) (b : ℕ) → Adds (Down net p b) w (hand_down net p first w b).world
+pub hand_down_adds : (net : Net) (p first : ℕ) (w : World) (b : ℕ) → AddsFrames (Down net p b) w (hand_down net p first w b).world
 unfolding hand_down_by
 hand_down_adds net p first w b = in_turn_adds (Down net p b) (λ f. is_know_to p b f ≡ true) (deliver_frame net) (λ u f e. deliver_down net p b u f e) (filter (is_know_to p b) (frames_past first w.frames)) w (each_tested (is_know_to p b) (frames_past first w.frames))
 
@@ -174,5 +174,5 @@ pub record KnowOf (p : ℕ) (f : Frame) : Type 0 where
   pub know : is_know f ≡ true
   pub publisher : f.head.publisher ≡ p
 
-pub hand_turns_add : (net : Net) (p first : ℕ) (bs : List ℕ) (w : World) → Adds (KnowOf p) w (in_turn (hand_down net p first) bs w).world
+pub hand_turns_add : (net : Net) (p first : ℕ) (bs : List ℕ) (w : World) → AddsFrames (KnowOf p) w (in_turn (hand_down net p first) bs w).world
 hand_turns_add net p first bs w = in_turn_adds (KnowOf p) (λ b. Unit {0}) (hand_down net p first) (λ u b t. adds_map (Down net p b) (KnowOf p) u (hand_down net p first u b).world (λ f d. record { know = d.know; publisher = d.publisher }) (hand_down_adds net p first u b)) bs w (units bs)

@@ -3,7 +3,7 @@ use Rattle.gr_theorems.proofs.server.OpenedLines.{opened_tells, opened_sends_not
 use Rattle.gr_theorems.proofs.theorems.headline_over_logs.Goals as goal
 
 pub returns-clause-schedules : goal.returns-clause-schedules
-returns-clause-schedules c = λ net logs steps r. by_steps net logs steps r.asked.tree r.asked.quiet r.asked.retry r.found r.asked.steps_in
+returns-clause-schedules c = λ net logs steps r. by_steps net logs steps r.asked.tree r.asked.quiet r.asked.retry r.reopened_cuts r.asked.steps_in
 
 pub returns-clause-told : goal.returns-clause-told
 returns-clause-told c = λ net logs n a. opened_tells net logs n a
