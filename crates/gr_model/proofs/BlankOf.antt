@@ -126,6 +126,7 @@ net_by host home up children here below depth wanted = record {
   cache = 1024;
 }
 
+-- the small examples' topology is that of the blank topology part
 pub blank_net : net0 ≡ net_of blank
 blank_net =
     ap (λ f. net_by f net0.at net0.up net0.children net0.subscribers_at net0.below net0.depth net0.wants) (fun_ext host_is)

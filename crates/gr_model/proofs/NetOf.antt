@@ -50,6 +50,7 @@ distinct_cond : (b : Bool) (x : ℕ) (xs : List ℕ) → list_any (λ y. nat_eq 
 distinct_cond true x xs h d = (h, d)
 distinct_cond false x xs h d = d
 
+-- of consecutive numbers, those that pass a test are distinct
 pub distinct_from : (test : ℕ → Bool) (from k : ℕ) → IsDistinct (filter test (numbers_from from k))
 distinct_from test from zero = tt
 distinct_from test from (suc k) =
@@ -167,6 +168,7 @@ place_in_net t p b is lt within = record {
       (r.0, put_among (is_child_at t p b) (size t) r.0 r.1 (up_child t p b r.0 is lt r.1 r.2), put_among (λ z. passes_by t p r.0 (home_of t z)) (length t.subscribers) s below.1 r.3);
 }
 
+-- the net of each topology that was read is a tree
 pub net_is : (t : TopologyView) → IsTopology t → IsNet (net_of t)
 net_is t is = record {
   place = λ p b i j. place_in_net t p b is i j;
@@ -189,6 +191,7 @@ net_is t is = record {
   child_up = λ p b c i j m. child_up t p b c is i (among (is_child_at t p b) (size t) c m).0;
 }
 
+-- a host is on top, and the lists of children and subscribers rise and name what is in the topology
 pub net_is_orderly : (t : TopologyView) → IsTopology t → IsOrderly (net_of t)
 net_is_orderly t is = record {
   host_up = λ p i. (is.rooted p i).no_up;

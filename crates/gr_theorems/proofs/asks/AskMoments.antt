@@ -34,6 +34,7 @@ abbrev pub AllValues : {V : Type 0} → (V → Type 0) → List (Run V) → Type
 AllValues P [] = Unit {0}
 AllValues P (r ∷ rs) = P r.value × AllValues P rs
 
+-- what holds of the value of each run, and of the value between runs, holds of the value at every tick
 pub value_at-all : {V : Type 0} (bottom : V) (P : V → Type 0) (rs : List (Run V)) (t : ℕ) → P bottom → AllValues P rs → P (value_at bottom rs t)
 value_at-all bottom P [] t b a = b
 value_at-all bottom P (r ∷ rs) t b a = go (nat_le r.first t && nat_le t r.last) (value_at-all bottom P rs t b a.1)
@@ -68,16 +69,19 @@ tabulate-all {V} bottom same P g ps h = go (sorted ps)
     go [] = tt
     go (q ∷ qs) = tabulate_from-all bottom same P g q qs h
 
+-- a weaker property holds of the value of each run too
 pub AllValues-on : {V : Type 0} (P R : V → Type 0) (rs : List (Run V)) → ((v : V) → P v → R v) → AllValues P rs → AllValues R rs
 AllValues-on P R [] f a = tt
 AllValues-on P R (r ∷ rs) f a = (f r.value a.0, AllValues-on P R rs f a.1)
 
 -- Asks up to a moment
 
+-- the moment of an ask is at most m, or it was never asked
 abbrev pub IsUpto : ℕ → Moment → Type 0
 IsUpto m Never = Unit {0}
 IsUpto m (At k) = k ≤ m
 
+-- no tick was asked at a moment past m
 abbrev pub AsksUpto : ℕ → Asked → Type 0
 AsksUpto m asks = AllValues (IsUpto m) asks
 
@@ -85,6 +89,7 @@ IsUpto-on : (m n : ℕ) (v : Moment) → m ≤ n → IsUpto m v → IsUpto n v
 IsUpto-on m n Never h k = tt
 IsUpto-on m n (At x) h k = le_trans k h
 
+-- where no ask is past m, a tick that was asked was asked at m or before
 pub asked_upto : (m t k : ℕ) (asks : Asked) → AsksUpto m asks → asked_at asks t ≡ At k → k ≤ m
 asked_upto m t k asks a e = subst (IsUpto m) e (value_at-all Never (IsUpto m) asks t tt a)
 
@@ -170,6 +175,7 @@ marking_asks net p b now v log = record {
   host = λ h x. marking_cases net p b now v log (λ o. o.view.asks ≡ []) (λ e. (learn_asks net p b now _ v _).host h x) (λ e. x);
 }
 
+-- a wake leaves each ask, drops it, or makes it of now; and gives a host none
 pub wake_asks : (net : Net) (p b now : ℕ) (v : View) (log : Log) → KeepsAsks net p b now v (wake net p b now v log)
 unfolding wake wake_host wake_below
 wake_asks net p b now v log = go (is_host net p b) refl
@@ -190,9 +196,11 @@ abbrev pub ExpectBody : Net → ℕ → ℕ → Body → Type 0
 ExpectBody net p to (body.Curiosity runs) = Unit {0}
 ExpectBody net p to _ = is_host net p to ≡ false
 
+-- a frame of knowledge, or of what to expect, goes to a broker that is not the host
 abbrev pub ExpectFits : Net → Frame → Type 0
 ExpectFits net f = ExpectBody net f.head.publisher f.head.to f.body
 
+-- receiving a frame leaves each ask, drops it, or makes it of now; and gives a host none
 pub receive_asks : (net : Net) (now : ℕ) (f : Frame) (v : View) (log : Log) → ExpectFits net f → KeepsAsks net f.head.publisher f.head.to now v (receive net now f v log)
 unfolding receive
 receive_asks net now f v log = go f.body
@@ -218,6 +226,7 @@ publish_asks net p b now number e v log = record {
 
 -- Frames of a call
 
+-- what holds of each of two lists holds of each of the joined list
 pub Each-on : {X : Type 0} (P : X → Type 0) (xs ys : List X) → Each P xs → Each P ys → Each P (xs ++ ys)
 Each-on P [] ys a b = b
 Each-on P (x ∷ xs) ys a b = (a.0, Each-on P xs ys a.1 b)
@@ -273,6 +282,7 @@ expect_call_frames_fit net p b now tick v log h = Each-on (ExpectFits net) _ _ (
 marking_frames_fit : (net : Net) (p b now : ℕ) (v : View) (log : Log) → ((c : ℕ) → list_any (λ x. nat_eq x c) (net.children p b) ≡ true → is_host net p c ≡ false) → Each (ExpectFits net) (marking net p b now v log).frames
 marking_frames_fit net p b now v log h = marking_cases net p b now v log (λ o. Each (ExpectFits net) o.frames) (λ e. learn_frames_fit net p b (silence (suc log.settled) now []) v (with_mark log now) h) (λ e. tt)
 
+-- a wake sends knowledge, and what to expect, to brokers below the host only
 pub wake_frames_fit : (net : Net) (p b now : ℕ) (v : View) (log : Log) → ((c : ℕ) → list_any (λ x. nat_eq x c) (net.children p b) ≡ true → is_host net p c ≡ false) → Each (ExpectFits net) (wake net p b now v log).frames
 unfolding wake wake_host wake_below
 wake_frames_fit net p b now v log h = go (is_host net p b)
@@ -288,6 +298,7 @@ wake_frames_fit net p b now v log h = go (is_host net p b)
     go true = Each-on (ExpectFits net) o.frames _ (marking_frames_fit net p b now v log h) (more (nat_lt 0 (cutting net p b o.view o.log).settled) (cutting net p b o.view o.log).settled)
     go false = asking_frames_fit net p b now _ _ v log
 
+-- receiving a frame sends knowledge, and what to expect, to brokers below the host only
 pub receive_frames_fit : (net : Net) (now : ℕ) (f : Frame) (v : View) (log : Log) → ((c : ℕ) → list_any (λ x. nat_eq x c) (net.children f.head.publisher f.head.to) ≡ true → is_host net f.head.publisher c ≡ false) → BodyFits net f.head.publisher f.head.from f.head.to f.body → Each (ExpectFits net) (receive net now f v log).frames
 unfolding receive
 receive_frames_fit net now f v log h fits = go f.body fits
@@ -328,6 +339,7 @@ pub record Taken (net : Net) (w u : World) (b p : ℕ) (o : Outcome) : Type 0 wh
   pub clock : u.clock ≡ w.clock
   pub most : u.most ≡ w.most
 
+-- putting an outcome in place changes the one view, and the one log, that the call is of
 pub absorbed_taken : (net : Net) (w : World) (b p : ℕ) (o : Outcome) → WorldFits net w → b < net.brokers → p < net.publishers → Taken net w (absorbed w b p o).world b p o
 unfolding absorbed
 absorbed_taken net w b p o f i j =
@@ -389,6 +401,7 @@ publish_now_asks net n w p number e f j a =
     let o = publish net p b w.clock number e (view_of w b p) (log_of w p) in
     taken_asks net w (absorbed w b p o).world b p o (n.host_in p j) j (absorbed_taken net w b p o f (n.host_in p j) j) (publish_asks net p b w.clock number e (view_of w b p) (log_of w p)) (publish_frames_fit net p b w.clock number e (view_of w b p) (log_of w p) (λ c m. (n.place p b j (n.host_in p j)).child_not_host c m)) a
 
+-- a broker that starts has asked nothing
 pub started_asks : (net : Net) (p b : ℕ) (log : Log) → (started net p b log).asks ≡ []
 unfolding started
 started_asks net p b log = refl
@@ -434,6 +447,7 @@ asks_closed net n = record {
   restarts = λ w logs b f i a. restarted_asks net n w logs b f i a;
 }
 
+-- at the start no ask is past the greatest moment, and no host has one
 pub start_asks : (net : Net) → IsNet net → AsksFit net (start net)
 unfolding start
 start_asks net n =

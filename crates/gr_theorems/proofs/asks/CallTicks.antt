@@ -1,4 +1,5 @@
--- What one call does at one tick
+-- What a wake asks and sends up, and what forgetting leaves, is said tick by tick,
+-- since each list of runs that a call makes is a table of a function of ticks
 use Rattle.std.proofs.Common.{◌≡◌, ◌⊎◌, inl, inr, ⊎_elim, ℕ, suc, ◌+◌, ◌-◌, ◌≤◌, ◌<◌, Bool, true, false, not, ◌&&◌, ◌||◌, List, [], ◌∷◌, ◌++◌, refl, sym, ap, ap₂, ◌∙◌, subst, arith, le_refl}
 use Rattle.std.specs.Prelude.{nat_le, nat_lt, if◌then◌else◌}
 use Rattle.std.proofs.lemmas.Bool.{and_parts, and_right, false≢true, le-leb, lt-ltb}
@@ -35,6 +36,7 @@ pub record IsTrimmed (net : Net) (p b : ℕ) (v u : View) : Type 0 where
   pub horizon : u.horizon ≡ v.horizon
   pub each : (t : ℕ) → (known_at u.know t ≡ known_at v.know t) ⊎ ((known_at u.know t ≡ Q) × (is_host net p b ≡ false) × (keeps_horizon net p b ≡ true → t ≤ v.horizon))
 
+-- what is kept of a view is the view, but for ticks that may be forgotten and asks at final ticks
 pub trimmed-is : (net : Net) (p b : ℕ) (v : View) → AreRuns Q v.know → IsTrimmed net p b v (kept_view net p b v)
 unfolding kept_view open_asks
 trimmed-is net p b v a = go (is_host net p b) refl
@@ -85,6 +87,7 @@ trimmed_above net p b t v u i k h = ⊎_elim (λ x. x) (λ x. absurd (omega (ari
 
 -- Outstanding asks
 
+-- a sweep's moment is a whole retry past the greatest moment, so every ask of before is overdue
 pub sweep_is_past : (net : Net) (w : World) → w.most + net.retry ≤ sweep_moment net w
 unfolding sweep_moment
 sweep_is_past net w = omega arith
@@ -97,12 +100,15 @@ just_asked now retry h = rw (le-leb now now (le_refl now), lt-ltb now (now + ret
 
 -- The wake of a broker that is not the host
 
+-- the ticks where what a wake wants may change
 abbrev pub wake_points : Net → ℕ → View → List ℕ
 wake_points net now v = all_points v.wants ++ (suc v.horizon ∷ (suc (now - net.idle) ∷ (suc (now - net.gap) ∷ (top_of v.know ∷ []))))
 
+-- what a wake asks of the next broker up
 abbrev pub wake_asked : Net → ℕ → ℕ → ℕ → View → Wanted
 wake_asked net p b now v = due now net.retry v.know v.asks (wanted_at_wake net (keeps_horizon net p b) now v) (wake_points net now v)
 
+-- what a wake sends up: its acknowledgements, and what it asks
 abbrev pub wake_piece : Net → ℕ → ℕ → ℕ → View → Wanted
 wake_piece net p b now v = upward (consolidated (keeps_horizon net p b) v.horizon v.wants) (wake_asked net p b now v)
 
@@ -110,6 +116,7 @@ wake_piece net p b now v = upward (consolidated (keeps_horizon net p b) v.horizo
 abbrev pub needs : Net → ℕ → ℕ → View → ℕ → Bool
 needs net p b v t = is_Q (known_at v.know t) && (any_C v.wants t || (keeps_horizon net p b && nat_lt v.horizon t))
 
+-- what the wake of a broker below the host does at each tick
 pub record WakeTicks (net : Net) (p b now : ℕ) (v : View) (o : Outcome) : Type 0 where
   pub frames : o.frames ≡ up_frames net p b (wake_piece net p b now v)
   pub asked : (t : ℕ) → wanted_at (wake_asked net p b now v) t ≡ (if wanted_at_wake net (keeps_horizon net p b) now v t && is_Q (known_at v.know t) && not (is_outstanding (asked_at v.asks t) now net.retry) then C else N)
@@ -126,6 +133,8 @@ A_if : (c : Bool) (x : Q3) → (if is_A (if c then A else N) then A else x) ≡ 
 A_if true x = refl
 A_if false x = refl
 
+-- a wake below the host asks exactly the wanted, unknown ticks that
+-- are not outstanding, and acknowledges exactly the consolidated ones
 pub wake_ticks : (net : Net) (f : Facts) (p b now : ℕ) (v : View) (log : Log) → ViewTrue net f p b v → WakeTicks net p b now v (wake_below net p b now v log)
 unfolding wake_below asking
 wake_ticks net f p b now v log h =
@@ -199,6 +208,7 @@ asked_is_noted net p b now t v o k e =
     let q : known_at v.know t ≡ Q = Q_is (known_at v.know t) (and_parts (is_Q (known_at v.know t)) (any_C v.wants t || (keeps_horizon net p b && nat_lt v.horizon t)) (asked_is_needed net p b now t v o k e)).0 in
     k.asks t (⊎_elim (λ z. z ∙ q) (λ z. z.0) (k.know t)) ∙ ap (λ x. if is_C x then At now else asked_at v.asks t) e
 
+-- where a tick is outstanding whenever it is wanted and unknown, it is not asked
 pub not_asked : (w q o : Bool) → (q ≡ true → w ≡ true → o ≡ true) → (if w && q && not o then C else N) ≡ N
 not_asked true true o h = ap (λ x. if not x then C else N) (h refl refl)
 not_asked true false o h = refl

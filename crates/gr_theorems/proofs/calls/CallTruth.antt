@@ -37,9 +37,11 @@ KnowsTruth-by net f p b g know r h = record { runs = r.runs; each = λ t. subst 
 pub WantsTruth-by : (net : Net) (f : Facts) (p c : ℕ) (g : ℕ → Q3) (w : Wanted) → AreRunsOf N g w → ((t : ℕ) → g t ≡ A → TrueF net f p c t) → WantsTruth net f p c w
 WantsTruth-by net f p c g w r h = record { runs = r.runs; each = λ t e. h t (sym (r.same_at t) ∙ e) }
 
+-- what is known truly stays true as more is logged and subscribers come on
 pub KnowsTruth-later : (net : Net) (f g : Facts) (p b : ℕ) (know : Known) → IsLater f g → KnowsTruth net f p b know → KnowsTruth net g p b know
 KnowsTruth-later net f g p b know l h = record { runs = h.runs; each = λ t. IsTrueAt-later net f g p b t (known_at know t) l (h.each t) }
 
+-- a child's curiosity that is true stays true as more is logged and subscribers come on
 pub WantsTruth-later : (net : Net) (f g : Facts) (p c : ℕ) (w : Wanted) → IsLater f g → WantsTruth net f p c w → WantsTruth net g p c w
 WantsTruth-later net f g p c w l h = record { runs = h.runs; each = λ t e. TrueF-later net f g p c t l (h.each t e) }
 
@@ -55,6 +57,7 @@ joined_true net f p b know piece h i =
     KnowsTruth-by net f p b (λ t. join_K (known_at know t) (known_at piece t)) (zip_runs Q Q Q same_K join_K know piece) (zip_runs-is Q Q Q same_K K_decides join_K know piece refl h.runs i.runs)
     (λ t. join_true net f p b t (known_at know t) (known_at piece t) (h.each t) (i.each t))
 
+-- the new ticks of a piece are those that were unknown before
 pub new_ticks-is : (know piece : Known) → AreRuns Q know → AreRuns Q piece → AreRunsOf Q (λ t. if is_Q (known_at know t) then known_at piece t else Q) (new_ticks know piece)
 unfolding new_ticks
 new_ticks-is know piece h i = zip_runs-is Q Q Q same_K K_decides (λ k x. if is_Q k then x else Q) know piece refl h i
@@ -69,6 +72,7 @@ new_true net f p b know piece h i =
     KnowsTruth-by net f p b (λ t. if is_Q (known_at know t) then known_at piece t else Q) (new_ticks know piece) (new_ticks-is know piece h.runs i.runs)
     (λ t. if_true net f p b t (is_Q (known_at know t)) (known_at piece t) Q (i.each t) tt)
 
+-- a child is forwarded what its edge passes of the new ticks, but for those that it has acknowledged
 pub forward-is : (net : Net) (p c : ℕ) (w : Wanted) (new : Known) → AreRuns N w → AreRuns Q new → AreRunsOf Q (λ t. if is_A (wanted_at w t) then Q else pass net p c t (known_at new t)) (forward net p c w new)
 unfolding forward
 forward-is net p c w new h i =
@@ -90,6 +94,7 @@ answered_if false N = refl
 answered_if false C = refl
 answered_if false A = refl
 
+-- knowledge that is sent to a child ends its question at that tick, and nothing else
 pub quenched-is : (w : Wanted) (sent : Known) → AreRuns N w → AreRuns Q sent → AreRunsOf N (λ t. if is_C (wanted_at w t) && not (is_Q (known_at sent t)) then N else wanted_at w t) (still_wanted w sent)
 unfolding still_wanted
 quenched-is w sent h i =
@@ -105,6 +110,7 @@ quenched_true net f p c w sent h i =
     WantsTruth-by net f p c (λ t. if is_C (wanted_at w t) && not (is_Q (known_at sent t)) then N else wanted_at w t) (still_wanted w sent) (quenched-is w sent h.runs i)
     (λ t e. h.each t (quench_A (is_C (wanted_at w t) && not (is_Q (known_at sent t))) (wanted_at w t) e))
 
+-- a consolidated tick becomes final, each other tick stays as it is known
 pub finished-is : (know : Known) (done : Wanted) → AreRuns Q know → AreRuns N done → AreRunsOf Q (λ t. if is_A (wanted_at done t) then F else known_at know t) (finished know done)
 unfolding finished
 finished-is know done h i = zip_runs-is Q N Q same_K K_decides (λ k c. if is_A c then F else k) know done refl h i
@@ -126,6 +132,7 @@ done_A : (b : Bool) → (if b then A else N) ≡ A → b ≡ true
 done_A true e = refl
 done_A false e = cc
 
+-- the test for an acknowledgement passes nothing else
 pub A_is : (q : Q3) → is_A q ≡ true → q ≡ A
 A_is N h = absurd (false≢true h)
 A_is C h = absurd (false≢true h)
@@ -153,10 +160,12 @@ lowered_true net f p b upto old new l k = record {
   each = λ t. ⊎_elim (λ e. subst (λ x. IsTrueAt net f p b t x) (sym e) (k.each t)) (λ e. subst (λ x. IsTrueAt net f p b t x) (sym e.0) tt) (l.each t);
 }
 
+-- what each of the frames says is true at its receiver
 abbrev pub AllTrue : Net → Facts → ℕ → List Frame → Type 0
 AllTrue net f p [] = Unit {0}
 AllTrue net f p (x ∷ xs) = BodyTrue net f p x.head.from x.head.to x.body × AllTrue net f p xs
 
+-- frames of two lists that are true are true in one
 pub AllTrue-append : (net : Net) (f : Facts) (p : ℕ) (xs ys : List Frame) → AllTrue net f p xs → AllTrue net f p ys → AllTrue net f p (xs ++ ys)
 AllTrue-append net f p [] ys a b = b
 AllTrue-append net f p (x ∷ xs) ys a b = (a.0, AllTrue-append net f p xs ys a.1 b)
@@ -231,6 +240,7 @@ pub record HorizonMoves (net : Net) (f : Facts) (know : Known) (h h' : ℕ) : Ty
   pub settled : h' ≤ f.settled
   pub known : (t : ℕ) → h < t → t ≤ h' → known_at know t ≢ Q
 
+-- a kept horizon moves on over known ticks, never back, and never past what is settled
 pub horizon_after-is : (net : Net) (f : Facts) (p b : ℕ) (keeps : Bool) (h : ℕ) (know : Known) → KnowsTruth net f p b know → h ≤ f.settled → HorizonMoves net f know h (horizon_after keeps h know)
 unfolding horizon_after
 horizon_after-is net f p b false h know k s = record { on = le_refl h; settled = s; known = λ t a c. absurd (omega arith) }
@@ -250,6 +260,7 @@ horizon_after-is net f p b true h know k s =
 abbrev pub learned_horizon : Net → ℕ → ℕ → Known → View → ℕ
 learned_horizon net p b piece v = horizon_after (keeps_horizon net p b) v.horizon (zip_runs Q Q Q same_K join_K v.know piece)
 
+-- the view that a call leaves is true, and so is what its frames say
 pub record OutcomeTrue (net : Net) (f : Facts) (p b : ℕ) (o : Outcome) : Type 0 where
   pub view : ViewTrue net f p b o.view
   pub frames : AllTrue net f p o.frames
@@ -430,12 +441,14 @@ wake_wanted net f p b now v h keeps = record {
       (ap₂ (λ x y. keeps && nat_lt v.horizon t && (x || (y && nat_lt t (top_of v.know)))) (lt-leb (t + net.idle) now (omega (arith, k.1.1.0))) (lt-leb (t + net.gap) now (omega (arith, k.1.1.1.0))) ∙ and_false (keeps && nat_lt v.horizon t));
 }
 
+-- the wake of a broker below the host keeps its view true and sends only what is true
 pub wake_below_true : (net : Net) (f : Facts) (p b now : ℕ) (v : View) (log : Log) → IsPlace net p b → ViewTrue net f p b v → OutcomeTrue net f p b (wake_below net p b now v log)
 unfolding wake_below
 wake_below_true net f p b now v log place h =
     asking_true net f p b now (wanted_at_wake net (keeps_horizon net p b) now v)
     (all_points v.wants ++ (suc v.horizon ∷ (suc (now - net.idle) ∷ (suc (now - net.gap) ∷ (top_of v.know ∷ []))))) v log place h (wake_wanted net f p b now v h (keeps_horizon net p b))
 
+-- what an expected tick makes wanted changes only at points of what children want, at the horizon and at the tick
 pub expect_wanted : (net : Net) (f : Facts) (p b tick : ℕ) (v : View) → ViewTrue net f p b v → (keeps : Bool) → IsWanted (λ t. any_C v.wants t || (keeps && nat_lt v.horizon t && nat_le t tick)) (all_points v.wants ++ (suc v.horizon ∷ (suc tick ∷ [])))
 expect_wanted net f p b tick v h keeps = record {
   start = ap₂ (λ x y. x || y) (any_C-start net f p (net.children p b) v.wants h.wants) (ap₂ (λ x y. keeps && x && y) (le-ltb v.horizon 0 (omega arith)) refl ∙ rw and_false refl);
@@ -447,6 +460,7 @@ expect_wanted net f p b tick v h keeps = record {
       ap₂ (λ x y. x || y) (any_C-past v.wants t k.0) (ap (λ y. keeps && nat_lt v.horizon t && y) (lt-leb t tick (omega (arith, k.1.1.0))) ∙ and_false (keeps && nat_lt v.horizon t));
 }
 
+-- an expectation that is handed on to children is of a tick that is settled
 pub expect_frames_true : (net : Net) (f : Facts) (p b tick : ℕ) (cs : List ℕ) (ws : List Wanted) → tick ≤ f.settled → AllTrue net f p (expect_frames p b tick cs ws)
 expect_frames_true net f p b tick [] ws h = tt
 expect_frames_true net f p b tick (c ∷ cs) [] h = tt
@@ -456,6 +470,7 @@ expect_frames_true net f p b tick (c ∷ cs) (w ∷ ws) h = AllTrue-append net f
     go true = tt
     go false = (h, tt)
 
+-- an expected tick that is settled keeps the view true, and so is all that is sent of it
 pub expect_true : (net : Net) (f : Facts) (p b now tick : ℕ) (v : View) (log : Log) → IsPlace net p b → ViewTrue net f p b v → tick ≤ f.settled → OutcomeTrue net f p b (expect net p b now tick v log)
 unfolding expect
 expect_true net f p b now tick v log place h s =
@@ -581,6 +596,7 @@ curiosity_wanted reply piece r = record {
 N_not_A : N ≡ A → ⊥
 N_not_A e = cc
 
+-- a child's true curiosity keeps the view true, and it is answered and handed up truly
 pub curiosity_true : (net : Net) (f : Facts) (p b now c : ℕ) (piece : Wanted) (v : View) (log : Log) → IsPlace net p b → list_any (λ x. nat_eq x c) (net.children p b) ≡ true → ViewTrue net f p b v → WantsTruth net f p c piece → OutcomeTrue net f p b (curiosity net p b now c (place_of c (net.children p b)) piece v log)
 unfolding curiosity
 curiosity_true net f p b now c piece v log place child h i =
@@ -610,6 +626,7 @@ curiosity_true net f p b now c piece v log place child h i =
       frames = AllTrue-append net f p (know_frames b c p reply) (up_frames net p b (asked (is_host net p b))) (know_frames_true net f p b c reply r) (up_frames_true net f p b (asked (is_host net p b)) x);
     }
 
+-- a view that is true stays true as more is logged and subscribers come on
 pub ViewTrue-later : (net : Net) (f g : Facts) (p b : ℕ) (v : View) → IsLater f g → ViewTrue net f p b v → ViewTrue net g p b v
 ViewTrue-later net f g p b v l h = record {
   know = KnowsTruth-later net f g p b v.know l h.know;
@@ -618,9 +635,11 @@ ViewTrue-later net f g p b v l h = record {
   horizon = record { settled = le_trans h.horizon.settled l.settled; here = λ s m. le_trans (h.horizon.here s m) (l.reached s) };
 }
 
+-- an outcome that is true stays true as more is logged and subscribers come on
 pub OutcomeTrue-later : (net : Net) (f g : Facts) (p b : ℕ) (o : Outcome) → IsLater f g → OutcomeTrue net f p b o → OutcomeTrue net g p b o
 OutcomeTrue-later net f g p b o l h = record { view = ViewTrue-later net f g p b o.view l h.view; frames = AllTrue-later net f g p o.frames l h.frames }
 
+-- what is stored of each child stays true where a child's true curiosity is stored
 pub curiosity_wants : (net : Net) (f : Facts) (p b c : ℕ) (piece : Wanted) (v : View) → ViewTrue net f p b v → list_any (λ x. nat_eq x c) (net.children p b) ≡ true → WantsTruth net f p c piece →
     AllWantTruth net f p (net.children p b) (set v.wants (place_of c (net.children p b)) (stored v.know (acknowledged (get_or v.wants (place_of c (net.children p b)) []) piece) piece))
 curiosity_wants net f p b c piece v h child i =
@@ -629,9 +648,11 @@ curiosity_wants net f p b c piece v h child i =
     let a = acknowledged_true net f p c (get_or v.wants at []) piece (wants_at net f p (net.children p b) v.wants c h.wants child) i in
     wants_set net f p (net.children p b) v.wants c (stored v.know w piece) h.wants (stored_true net f p c v.know w piece a i.runs)
 
+-- the join of two lists of runs has at each tick the join of their values
 pub joined-is : (know piece : Known) → AreRuns Q know → AreRuns Q piece → AreRunsOf Q (λ t. join_K (known_at know t) (known_at piece t)) (zip_runs Q Q Q same_K join_K know piece)
 joined-is know piece h i = zip_runs-is Q Q Q same_K K_decides join_K know piece refl h i
 
+-- what is stored of each child stays true where a true piece is forwarded
 pub learn_wants : (net : Net) (f : Facts) (p b : ℕ) (piece : Known) (v : View) → IsPlace net p b → ViewTrue net f p b v → KnowsTruth net f p b piece → AllWantTruth net f p (net.children p b) (forward_wants net p (new_ticks v.know piece) (net.children p b) v.wants)
 learn_wants net f p b piece v place h i = forward_wants_true net f p b (new_ticks v.know piece) (net.children p b) v.wants place (new_true net f p b v.know piece h.know i) (λ c e. e) h.wants
 
@@ -639,5 +660,6 @@ learn_wants net f p b piece v place h i = forward_wants_true net f p b (new_tick
 pub done_runs : (net : Net) (f : Facts) (p b h : ℕ) (ws : List Wanted) → AllWantTruth net f p (net.children p b) ws → AreRuns N (consolidated (keeps_horizon net p b) h ws)
 done_runs net f p b h ws a = (consolidated-is (keeps_horizon net p b) h ws (keeps_or_child net p b ws (some_wants net f p (net.children p b) ws a))).runs
 
+-- what a broker consolidates is an acknowledgement exactly at its consolidated ticks
 pub done_values : (net : Net) (f : Facts) (p b h : ℕ) (ws : List Wanted) → AllWantTruth net f p (net.children p b) ws → (t : ℕ) → wanted_at (consolidated (keeps_horizon net p b) h ws) t ≡ (if is_consolidated_by (keeps_horizon net p b) h ws t then A else N)
 done_values net f p b h ws a = (consolidated-is (keeps_horizon net p b) h ws (keeps_or_child net p b ws (some_wants net f p (net.children p b) ws a))).same_at

@@ -1,4 +1,5 @@
--- What each call of a broker keeps, with the publisher's log
+-- Each call keeps the log in order, the horizon rising and all that is known
+-- and sent true, since only the host logs, and only past what is settled
 use Rattle.std.proofs.Common.{◌≡◌, ◌≢◌, ◌⊎◌, inl, inr, ⊎_elim, ℕ, suc, ◌+◌, ◌-◌, ◌≤◌, ◌<◌, max, Bool, true, false, List, [], ◌∷◌, ◌++◌, map, refl, sym, ap, ◌∙◌, subst, Option, Some, None, arith, le_trans, le_refl}
 use Rattle.std.specs.Prelude.{nat_eq, nat_le, nat_lt, if◌then◌else◌}
 use Rattle.std.specs.List.{list_any}
@@ -34,6 +35,7 @@ pub record ComeOn (net : Net) (b h : ℕ) (reached later : ℕ → ℕ) : Type 0
   pub on : (s : ℕ) → reached s ≤ later s
   pub here : (s : ℕ) → list_any (λ x. nat_eq x s) (net.subscribers_at b) ≡ true → h ≤ later s
 
+-- what each call keeps: a log in order that only grows, a horizon that only rises, and true views and frames
 pub record CallTrue (net : Net) (p b : ℕ) (v : View) (log : Log) (reached : ℕ → ℕ) (o : Outcome) : Type 0 where
   pub log_fits : LogFits o.log
   pub settled : log.settled ≤ o.log.settled
@@ -99,6 +101,7 @@ expect_frames_fit net p b tick (c ∷ cs) (w ∷ ws) a = AllFit-append net p (if
 
 -- Trimming
 
+-- forgetting leaves the horizon
 pub trimmed_horizon : (net : Net) (p b : ℕ) (v : View) → (kept_view net p b v).horizon ≡ v.horizon
 unfolding kept_view
 trimmed_horizon net p b v = go (is_host net p b)
@@ -110,6 +113,7 @@ trimmed_horizon net p b v = go (is_host net p b)
     go true = refl
     go false = refl
 
+-- forgetting leaves what children want
 pub trimmed_wants : (net : Net) (p b : ℕ) (v : View) → (kept_view net p b v).wants ≡ v.wants
 unfolding kept_view
 trimmed_wants net p b v = go (is_host net p b)
@@ -189,6 +193,7 @@ curiosity_call net p b now c piece v log reached n i j child fit h w =
 
 -- Learning
 
+-- what is known on either side is known in the join
 pub join_not_Q : (k x : K) → (k ≢ Q) ⊎ (x ≢ Q) → join_K k x ≢ Q
 join_not_Q Q x h = ⊎_elim (λ n. absurd (n refl)) (λ n. n) h
 join_not_Q F x h = λ e. cc
@@ -213,10 +218,12 @@ learn_known net f p b settled piece v log place h i host known =
     trimmed_known net p b settled _ host (λ t x y. finished_known (zip_runs Q Q Q same_K join_K v.know piece) _ t j.runs (done_runs net f p b (learned_horizon net p b piece v) _ (learn_wants net f p b piece v place h i))
     (λ e. join_not_Q (known_at v.know t) (known_at piece t) (known t x y) (sym (j.same_at t) ∙ e)))
 
+-- learning moves the horizon to where the piece lets it come, whatever is forgotten then
 pub learn_horizon : (net : Net) (p b : ℕ) (piece : Known) (v : View) (log : Log) → (learn net p b piece v log).view.horizon ≡ learned_horizon net p b piece v
 unfolding learn
 learn_horizon net p b piece v log = trimmed_horizon net p b _
 
+-- learning leaves the log
 pub learn_log : (net : Net) (p b : ℕ) (piece : Known) (v : View) (log : Log) → (learn net p b piece v log).log ≡ log
 unfolding learn
 learn_log net p b piece v log = refl
@@ -289,6 +296,7 @@ said_more (x ∷ xs) tick t e n =
       | inr q ↦ said_at-past x (xs ++ (tick, e) ∷ []) t q ∙ (said_more xs tick t e n ∙ sym (said_at-past x xs t q))
     ]
 
+-- an event past what is settled keeps a log in order
 pub with_event_fits : (log : Log) (tick : ℕ) (e : Event) → LogFits log → log.settled < tick → LogFits (with_event log tick e)
 with_event_fits log tick e f h = record {
   rise = rises_append 0 log.settled log.events ((tick, e) ∷ []) (omega arith) f.rise (rise_upto 0 log.settled log.events f.rise f.past) (h, tt);
@@ -296,6 +304,7 @@ with_event_fits log tick e f h = record {
   cut = omega (arith, f.cut);
 }
 
+-- a mark at or past what is settled keeps a log in order
 pub with_mark_fits : (log : Log) (tick : ℕ) → LogFits log → log.settled ≤ tick → LogFits (with_mark log tick)
 with_mark_fits log tick f h = record { rise = f.rise; past = λ t k. f.past t (omega arith); cut = omega (arith, f.cut) }
 
@@ -312,6 +321,7 @@ D_not_Q e h = cc
 pub D_not_S : (e : Event) → D e ≡ S → ⊥
 D_not_S e h = cc
 
+-- the runs of one value from one tick to another
 abbrev pub run_at : ℕ → ℕ → K → Run K
 run_at first last v = record { first = first; last = last; value = v }
 
@@ -335,10 +345,12 @@ silence_true net f p b first last rest one upto none k a s =
       | inr e ↦ rw e k
     ]
 
+-- a stretch of silence has silence at each of its ticks
 pub silence_in : (first last : ℕ) (rest : Known) (t : ℕ) → first ≤ t → t ≤ last → known_at (silence first last rest) t ≡ S
 unfolding silence
 silence_in first last rest t h k = rw (le-leb first last (le_trans h k)) (value_at-in Q (run_at first last S) rest t h k)
 
+-- past a stretch of silence stands what comes after it
 pub silence_above : (first last : ℕ) (rest : Known) (t : ℕ) → last < t → known_at (silence first last rest) t ≡ known_at rest t
 unfolding silence
 silence_above first last rest t h =
@@ -347,6 +359,7 @@ silence_above first last rest t h =
       | inr e ↦ rw e refl
     ]
 
+-- a piece without runs is true
 pub nothing_true : (net : Net) (f : Facts) (p b : ℕ) → KnowsTruth net f p b []
 nothing_true net f p b = record { runs = tt; each = λ t. tt }
 
@@ -402,12 +415,14 @@ publishing_call net p b tick e v log reached ls n i j host fit h l =
 still_call : (net : Net) (p b : ℕ) (v : View) (log : Log) (reached : ℕ → ℕ) (ls : List Report) → LogFits log → ViewTrue net (facts log reached) p b v → CallTrue net p b v log reached (record { view = v; log = log; lines = ls; frames = [] })
 still_call net p b v log reached ls fit h = quiet_call net p b v log reached (record { view = v; log = log; lines = ls; frames = [] }) fit refl refl (record { view = h; frames = tt }) (λ q k. k) tt
 
+-- a publish at its host keeps all that each call has to keep
 pub publish_call : (net : Net) (p b now number : ℕ) (e : Event) (v : View) (log : Log) (reached : ℕ → ℕ) → IsNet net → p < net.publishers → b < net.brokers → is_host net p b ≡ true → LogFits log → ViewTrue net (facts log reached) p b v → CallTrue net p b v log reached (publish net p b now number e v log)
 publish_call net p b now number e v log reached n i j host fit h =
     publish_cases net p b now number e v log (CallTrue net p b v log reached)
     (λ l. still_call net p b v log reached _ fit h) (λ l. still_call net p b v log reached _ fit h) (λ x l. still_call net p b v log reached _ fit h)
     (λ x l. publishing_call net p b (max (suc log.settled) now) e v log reached _ n i j host fit h (omega arith))
 
+-- a mark at a host keeps all that each call has to keep
 pub marking_call : (net : Net) (p b now : ℕ) (v : View) (log : Log) (reached : ℕ → ℕ) → IsNet net → p < net.publishers → b < net.brokers → is_host net p b ≡ true → LogFits log → ViewTrue net (facts log reached) p b v → CallTrue net p b v log reached (marking net p b now v log)
 marking_call net p b now v log reached n i j host fit h = marking_cases net p b now v log (CallTrue net p b v log reached) marked (λ e. still_call net p b v log reached [] fit h)
   where
@@ -463,6 +478,7 @@ pub record SameBut (log new : Log) : Type 0 where
   pub settled : new.settled ≡ log.settled
   pub events : new.events ≡ log.events
 
+-- a cut changes nothing of a log but its cut and its gate
 pub cutting_same : (net : Net) (p b : ℕ) (v : View) (log : Log) → SameBut log (cutting net p b v log)
 unfolding cutting
 cutting_same net p b v log = go (nat_lt log.cut (done_upto (consolidated (keeps_horizon net p b) v.horizon v.wants) log.settled))
@@ -530,6 +546,7 @@ wake_host_call net p b now v log reached n i j host fit h =
     true_if f fs true a = a
     true_if f fs false a = tt
 
+-- a wake keeps all that each call has to keep
 pub wake_call : (net : Net) (p b now : ℕ) (v : View) (log : Log) (reached : ℕ → ℕ) → IsNet net → p < net.publishers → b < net.brokers → LogFits log → ViewTrue net (facts log reached) p b v → CallTrue net p b v log reached (wake net p b now v log)
 unfolding wake
 wake_call net p b now v log reached n i j fit h = go (is_host net p b) refl
@@ -538,6 +555,7 @@ wake_call net p b now v log reached n i j fit h = go (is_host net p b) refl
     go true e = wake_host_call net p b now v log reached n i j e fit h
     go false e = wake_below_call net p b now v log reached n i j fit h
 
+-- receiving a true frame keeps all that each call has to keep
 pub receive_call : (net : Net) (now : ℕ) (f : Frame) (v : View) (log : Log) (reached : ℕ → ℕ) → IsNet net → f.head.publisher < net.publishers → FrameFits net f.head.publisher f → BodyTrue net (facts log reached) f.head.publisher f.head.from f.head.to f.body → LogFits log → ViewTrue net (facts log reached) f.head.publisher f.head.to v → CallTrue net f.head.publisher f.head.to v log reached (receive net now f v log)
 unfolding receive
 receive_call net now f v log reached n i fits told fit h = go f.body told fits.body

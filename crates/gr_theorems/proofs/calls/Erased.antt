@@ -59,6 +59,7 @@ asked_of net p b now i piece reply v =
       | false ↦ due now net.retry know v.asks (λ t. is_C (wanted_at piece t) && is_Q (known_at reply t)) (points piece ++ points reply)
     ]
 
+-- what each subscriber wants of each event
 abbrev pub Wants : Type 0
 Wants = ℕ → ℕ → ℕ → Event → Bool
 
@@ -80,6 +81,7 @@ pass_chosen net f p c t e = go (list_any (λ s. f p s t e) (net.below p c))
     go true = refl
     go false = refl
 
+-- an edge passes the same under two wants that agree on the event at the tick
 pub pass_agree : (net : Net) (f g : Wants) (p c t : ℕ) (k : K) → ((e : Event) → k ≡ D e → (s : ℕ) → f p s t e ≡ g p s t e) → pass (with_wants net f) p c t k ≡ pass (with_wants net g) p c t k
 pass_agree net f g p c t Q h = refl
 pass_agree net f g p c t S h = refl
@@ -116,12 +118,14 @@ sent_agree net f g p b new (c ∷ cs) (w ∷ ws) h =
 
 -- Values with an event
 
+-- a new tick that is an event is one of the piece
 pub new_event : (k x : K) (e : Event) → (if is_Q k then x else Q) ≡ D e → x ≡ D e
 new_event Q x e h = h
 new_event S x e h = cc
 new_event (D a) x e h = cc
 new_event F x e h = cc
 
+-- an event in a join was known on one side
 pub join_event : (k x : K) (e : Event) → join_K k x ≡ D e → (k ≡ D e) ⊎ (x ≡ D e)
 join_event Q x e h = inr h
 join_event F x e h = cc
@@ -143,6 +147,7 @@ new_agree p f g know piece a b h = λ t e x s. h t e (new_event (known_at know t
 
 -- What subscribers are told
 
+-- two tests that agree on each event of a list keep the same of it
 pub filter_agree : (f g : ℕ → Event → Bool) (from : ℕ) (xs : List (ℕ × Event)) → TicksRise from xs → ((t : ℕ) (e : Event) → said_at xs t ≡ Some e → f t e ≡ g t e) → filter (λ x. f x.0 x.1) xs ≡ filter (λ x. g x.0 x.1) xs
 filter_agree f g from [] r h = refl
 filter_agree f g from (x ∷ xs) r h =

@@ -1,4 +1,4 @@
--- A publish and a time of silence, case by case, as the log answers them
+-- What holds of each answer of the log holds of a publish, and of a time of silence, since these only follow the answer
 use Rattle.std.proofs.Common.{◌≡◌, ℕ, suc, ◌+◌, ◌-◌, ◌≤◌, ◌<◌, max, Bool, true, false, [], ◌∷◌, refl, arith}
 use Rattle.std.specs.Prelude.{nat_le, nat_lt}
 use Rattle.std.proofs.lemmas.Bool.{leb-true, ltb-true, ltb-false, leb-false}

@@ -1,4 +1,5 @@
--- Pieces cut into frames, consolidated ticks, lowered data
+-- A frame that a piece is cut into has at each tick what the piece has, or nothing, and
+-- forgetting leaves a tick or makes it unknown, since both only take runs apart or away
 use Rattle.std.proofs.Common.{◌≡◌, ◌≢◌, ◌⊎◌, inl, inr, ⊎_elim, ℕ, suc, zero, ◌+◌, ◌-◌, ◌≤◌, ◌<◌, min, Bool, true, false, ◌&&◌, ◌||◌, List, [], ◌∷◌, ◌++◌, refl, sym, ap, ap₂, ◌∙◌, subst, arith, append_assoc}
 use Rattle.std.specs.Prelude.{nat_le, nat_lt, if◌then◌else◌}
 use Rattle.std.proofs.lemmas.Bool.{and_parts, cases_Bool, cases_lt, false≢true, leb-true, ltb-true, ltb-false, le-leb, lt-leb, and_right}
@@ -73,6 +74,7 @@ cut_from-parts bottom size used begun (r ∷ rs) a =
       | false ↦ ((AreRunsFrom-front bottom 1 begun (r ∷ rs) a, λ t. value_at-front bottom 1 begun (r ∷ rs) t a), AllParts-trans bottom (cut_from size (12 + size r) (r ∷ []) rs) (r ∷ rs) (begun ++ r ∷ rs) (cut_from-parts bottom size (12 + size r) (r ∷ []) rs (AreRunsFrom-back bottom 1 begun (r ∷ rs) a)) (λ t. value_at-back bottom 1 begun (r ∷ rs) t a))
     ]
 
+-- each frame of a cut piece has the value of the piece at a tick, or none
 pub cut_frames-parts : {V : Type 0} (bottom : V) (size : Run V → ℕ) (rs : List (Run V)) → AreRuns bottom rs → AllParts bottom (cut_frames size rs) rs
 unfolding cut_frames
 cut_frames-parts bottom size [] a = tt
@@ -89,6 +91,7 @@ all_A-step (w ∷ ws) t n =
 all_A-past : (w : Wanted) (ws : List Wanted) (t : ℕ) → IsPast t (all_points (w ∷ ws)) → all_A (w ∷ ws) t ≡ false
 all_A-past w ws t n = rw (value_at-past N w t (IsPast-append t (points w) (all_points ws) n).0) refl
 
+-- whether a tick is up to h changes only behind h
 pub le_step : (t h : ℕ) → suc t ≢ suc h → nat_le (suc t) h ≡ nat_le t h
 le_step t h n =
     elim (cases_lt t h) [
@@ -96,6 +99,7 @@ le_step t h n =
       | inr k ↦ let m : t ≡ h → ⊥ = λ e. n (ap suc e) in lt-leb (suc t) h (omega arith) ∙ sym (lt-leb t h (omega (arith, m)))
     ]
 
+-- whether a tick is at least 1 changes only at 1
 pub one_step : (t : ℕ) → suc t ≢ 1 → nat_le 1 (suc t) ≡ nat_le 1 t
 one_step zero n = absurd (n refl)
 one_step (suc t) n = le-leb 1 (suc (suc t)) (omega arith) ∙ sym (le-leb 1 (suc t) (omega arith))
@@ -211,6 +215,7 @@ lowering n upto from (q ∷ qs) a =
       apart = λ r s o. s;
     }
 
+-- forgetting leaves each tick as it was, or unknown where it was data up to the bound
 pub forgotten-is : (limit upto : ℕ) (know : Known) → AreRuns Q know → IsLowered 1 upto know (forgotten limit upto know)
 unfolding forgotten
 forgotten-is limit upto know a = (lowering (data_count know - limit) upto 1 know a).lowered

@@ -1,4 +1,5 @@
--- What each call tells the subscribers
+-- Each call delivers to the subscribers at its broker exactly what is due between the
+-- horizon before and after, since it delivers the data ticks that the horizon passes
 use Rattle.std.proofs.Common.{◌≡◌, ◌⊎◌, inl, inr, ℕ, suc, ◌+◌, ◌≤◌, ◌<◌, max, Bool, true, false, ◌&&◌, ◌||◌, List, [], ◌∷◌, ◌++◌, map, refl, sym, ap, ap₂, ◌∙◌, subst, Option, Some, None, arith, le_refl, append-nil, append_assoc}
 use Rattle.std.specs.Prelude.{nat_eq, nat_le, nat_lt, if◌then◌else◌, flat_map, filter}
 use Rattle.std.specs.List.{list_any}
@@ -28,6 +29,7 @@ use Rattle.gr_theorems.proofs.calls.CallTruth.{joined_true, horizon_after-is, le
 
 -- Lines one after another
 
+-- what a subscriber got in two lists of lines is what it got in the first and then in the second
 pub gots-append : (s p : ℕ) (xs ys : List Report) → delivered_events s p (xs ++ ys) ≡ delivered_events s p xs ++ delivered_events s p ys
 gots-append s p [] ys = refl
 gots-append s p (line.Got r q t e ∷ xs) ys =
@@ -35,11 +37,13 @@ gots-append s p (line.Got r q t e ∷ xs) ys =
     ∙ sym (append_assoc (if nat_eq r s && nat_eq q p then (t, e) ∷ [] else []) (delivered_events s p xs) (delivered_events s p ys))
 gots-append s p (_ ∷ xs) ys = gots-append s p xs ys
 
+-- the last horizon of two lists of lines is that of the second, from that of the first on
 pub last_horizon-append : (s p n : ℕ) (xs ys : List Report) → last_horizon s p n (xs ++ ys) ≡ last_horizon s p (last_horizon s p n xs) ys
 last_horizon-append s p n [] ys = refl
 last_horizon-append s p n (line.Horizon r q t ∷ xs) ys = last_horizon-append s p (if nat_eq r s && nat_eq q p then t else n) xs ys
 last_horizon-append s p n (_ ∷ xs) ys = last_horizon-append s p n xs ys
 
+-- horizons that rise in two lists of lines, one from where the other ends, rise in both together
 pub HorizonsRise-append : (s p n : ℕ) (xs ys : List Report) → HorizonsRise s p n xs → HorizonsRise s p (last_horizon s p n xs) ys → HorizonsRise s p n (xs ++ ys)
 HorizonsRise-append s p n [] ys a b = b
 HorizonsRise-append s p n (line.Horizon r q t ∷ xs) ys a b = (a.0, HorizonsRise-append s p (if nat_eq r s && nat_eq q p then t else n) xs ys a.1 b)
@@ -51,6 +55,7 @@ pub record Neutral (s p : ℕ) (ls : List Report) : Type 0 where
   pub horizon : (n : ℕ) → last_horizon s p n ls ≡ n
   pub rise : (n : ℕ) → HorizonsRise s p n ls
 
+-- two lists of lines that tell a subscriber nothing of a publisher tell it nothing together
 pub Neutral-append : (s p : ℕ) (xs ys : List Report) → Neutral s p xs → Neutral s p ys → Neutral s p (xs ++ ys)
 Neutral-append s p xs ys a b = record {
   got = gots-append s p xs ys ∙ ap₂ (λ u v. u ++ v) a.got b.got;
@@ -58,9 +63,11 @@ Neutral-append s p xs ys a b = record {
   rise = λ n. HorizonsRise-append s p n xs ys (a.rise n) (b.rise (last_horizon s p n xs));
 }
 
+-- no lines tell nothing
 pub Neutral-nil : (s p : ℕ) → Neutral s p []
 Neutral-nil s p = record { got = refl; horizon = λ n. refl; rise = λ n. tt }
 
+-- sent lines tell no subscriber anything
 pub sent_lines_neutral : (s p n : ℕ) (fs : List Frame) → Neutral s p (sent_lines n fs)
 unfolding sent_line
 sent_lines_neutral s p n [] = Neutral-nil s p
@@ -206,6 +213,7 @@ learn_tells net p b piece v log reached n i j fit h k exact =
 
 -- What each call tells
 
+-- a call delivers to the subscribers at its broker exactly what is due between its two horizons
 abbrev pub CallTells : Net → ℕ → ℕ → View → Outcome → Type 0
 CallTells net p b v o = DeliversUpto net p b v.horizon o.view.horizon o.log.events o.lines
 
@@ -256,6 +264,7 @@ curiosity_tells net p b now c i piece v log = Tells-silent net p b v.horizon _ l
 still_tells : (net : Net) (p b : ℕ) (v : View) (log : Log) (ls : List Report) → Silent ls → CallTells net p b v (record { view = v; log = log; lines = ls; frames = [] })
 still_tells net p b v log ls n = Tells-silent net p b v.horizon v.horizon log.events ls refl n
 
+-- receiving a frame delivers exactly what is due between the horizon before and after
 pub receive_tells : (net : Net) (now : ℕ) (f : Frame) (v : View) (log : Log) (reached : ℕ → ℕ) → IsNet net → f.head.publisher < net.publishers → f.head.to < net.brokers → BodyTrue net (facts log reached) f.head.publisher f.head.from f.head.to f.body → LogFits log → ViewTrue net (facts log reached) f.head.publisher f.head.to v → Exact net f.head.to v reached → CallTells net f.head.publisher f.head.to v (receive net now f v log)
 unfolding receive
 receive_tells net now f v log reached n i j delivery_lines fit h exact = go f.body delivery_lines
@@ -299,6 +308,7 @@ wake_host_tells net p b now v log reached n i j host fit h exact =
     (λ x q. Neutral-append x q mark cut (if_silent (nat_lt log.settled o.log.settled) (line.Mark p now) (λ x q. record { got = refl; horizon = λ n. refl; rise = λ n. tt }) x q) (if_silent (nat_lt o.log.cut (cutting net p b o.view o.log).cut) (line.Cut p (cutting net p b o.view o.log).cut) (λ x q. record { got = refl; horizon = λ n. refl; rise = λ n. tt }) x q))
     (marking_tells net p b now v log reached n i j host fit h exact))
 
+-- a wake delivers exactly what is due between the horizon before and after
 pub wake_tells : (net : Net) (p b now : ℕ) (v : View) (log : Log) (reached : ℕ → ℕ) → IsNet net → p < net.publishers → b < net.brokers → LogFits log → ViewTrue net (facts log reached) p b v → Exact net b v reached → CallTells net p b v (wake net p b now v log)
 unfolding wake
 wake_tells net p b now v log reached n i j fit h exact = go (is_host net p b) refl
@@ -307,6 +317,7 @@ wake_tells net p b now v log reached n i j fit h exact = go (is_host net p b) re
     go true e = wake_host_tells net p b now v log reached n i j e fit h exact
     go false e = wake_below_tells net p b now v log
 
+-- a publish delivers exactly what is due between the horizon before and after
 pub publish_tells : (net : Net) (p b now number : ℕ) (e : Event) (v : View) (log : Log) (reached : ℕ → ℕ) → IsNet net → p < net.publishers → b < net.brokers → is_host net p b ≡ true → LogFits log → ViewTrue net (facts log reached) p b v → Exact net b v reached → CallTells net p b v (publish net p b now number e v log)
 publish_tells net p b now number e v log reached n i j host fit h exact =
     publish_cases net p b now number e v log (CallTells net p b v)

@@ -18,6 +18,7 @@ pub use Rattle.gr_subend.proofs.Ticks.{data_ticks_rise, data_ticks_in, data_tick
 
 -- Filters
 
+-- what a test keeps of rising ticks rises
 pub filter-rises : (test : ℕ × Event → Bool) (from : ℕ) (xs : Items) → TicksRise from xs → TicksRise from (filter test xs)
 filter-rises test from [] r = tt
 filter-rises test from (x ∷ xs) r =
@@ -26,10 +27,12 @@ filter-rises test from (x ∷ xs) r =
       | inr e ↦ rw e (TicksRise-lower from x.0 (filter test xs) (omega (arith, r.0)) (filter-rises test x.0 xs r.1))
     ]
 
+-- the event, where there is one that the test passes
 abbrev pub kept_by : (ℕ × Event → Bool) → ℕ → Option Event → Option Event
 kept_by test t None = None
 kept_by test t (Some e) = if test (t, e) then Some e else None
 
+-- a filtered list says at each tick what the list says there, where the test passes it
 pub said_at-filter : (test : ℕ × Event → Bool) (from : ℕ) (xs : Items) (t : ℕ) → TicksRise from xs → said_at (filter test xs) t ≡ kept_by test t (said_at xs t)
 said_at-filter test from [] t r = refl
 said_at-filter test from (x ∷ xs) t r =
@@ -109,6 +112,7 @@ due_upto_none : (net : Net) (p s lo from : ℕ) (events : Items) → lo ≤ from
 due_upto_none net p s lo from [] h r = refl
 due_upto_none net p s lo from (x ∷ xs) h r = filter-no (λ y. nat_le y.0 lo && net.wants p s y.0 y.1) x xs (ap (λ b. b && net.wants p s x.0 x.1) (lt-leb x.0 lo (omega (arith, r.0)))) ∙ due_upto_none net p s lo x.0 xs (omega (arith, r.0)) r.1
 
+-- of events past the lower bound, what is due up to a horizon is what is due between the two
 pub due_upto_past : (net : Net) (p s lo hi from : ℕ) (events : Items) → lo ≤ from → TicksRise from events → due_upto net p s hi events ≡ due_between net p s lo hi events
 due_upto_past net p s lo hi from [] h r = refl
 due_upto_past net p s lo hi from (x ∷ xs) h r =

@@ -1,4 +1,4 @@
--- The truth of a tick: kept by later facts, by joins, by edges, by consolidation
+-- What is true of a tick stays true under later facts, in joins, over edges and where the tick is consolidated
 use Rattle.std.proofs.Common.{◌≡◌, inl, inr, ⊎_elim, ℕ, ◌≤◌, Bool, true, false, ◌&&◌, ◌||◌, List, [], ◌∷◌, refl, sym, ap, ◌∙◌, subst, Option, Some, None, le_trans}
 use Rattle.std.specs.Prelude.{nat_eq, nat_le}
 use Rattle.std.specs.List.{list_any}
@@ -44,12 +44,14 @@ list_any-found test (x ∷ xs) h =
 pub concerns_at : (net : Net) (f : Facts) (p s t : ℕ) (e : Event) → f.said t ≡ Some e → concerns net f p s t ≡ net.wants p s t e
 concerns_at net f p s t e h = ap {A = Option Event} (λ o. elim o [ None ↦ false | Some x ↦ net.wants p s t x ]) h
 
+-- a tick where nothing was logged concerns no subscriber
 pub concerns_none : (net : Net) (f : Facts) (p s t : ℕ) → f.said t ≡ None → concerns net f p s t ≡ false
 concerns_none net f p s t h = ap {A = Option Event} (λ o. elim o [ None ↦ false | Some x ↦ net.wants p s t x ]) h
 
 concerns_later : (net : Net) (f g : Facts) (p s t : ℕ) → IsLater f g → t ≤ f.settled → concerns net g p s t ≡ concerns net f p s t
 concerns_later net f g p s t l h = ap {A = Option Event} (λ o. elim o [ None ↦ false | Some x ↦ net.wants p s t x ]) (l.said t h)
 
+-- a final tick stays truly final as more is logged and subscribers come on
 pub TrueF-later : (net : Net) (f g : Facts) (p b t : ℕ) → IsLater f g → TrueF net f p b t → TrueF net g p b t
 TrueF-later net f g p b t l h = record {
   settled = le_trans h.settled l.settled;

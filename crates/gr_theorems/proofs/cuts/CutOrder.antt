@@ -1,4 +1,5 @@
--- The order of cut lines, over every schedule and by its report
+-- Over every schedule a publisher's cuts rise, and each cut line stands
+-- after the deliveries of what it cuts, since each step keeps that order
 use Rattle.std.proofs.Common.{◌≡◌, inl, inr, ℕ, suc, zero, ◌≤◌, ◌<◌, Bool, true, false, ◌&&◌, List, [], ◌∷◌, ◌++◌, length, refl, sym, ap, ◌∙◌, subst, Some, None, arith}
 use Rattle.std.specs.Prelude.{nat_eq, if◌then◌else◌, get_or, Contains, slice_index_or}
 use Rattle.std.proofs.lemmas.List.{get_or-replicate}
@@ -57,6 +58,7 @@ later_in from [] k d r h = absurd (omega arith)
 later_in from (x ∷ xs) zero d r h = r.0
 later_in from (x ∷ xs) (suc k) d r h = omega (arith, r.0, later_in x.0 xs k d r.1 (omega arith))
 
+-- a rising list says at a tick each event that stands in it with that tick
 pub said_listed : (from : ℕ) (xs : List (ℕ × Event)) (u : ℕ) (e : Event) (k : ℕ) → TicksRise from xs → k < length xs → slice_index_or xs k (u, e) ≡ (u, e) → said_at xs u ≡ Some e
 said_listed from [] u e k r h q = absurd (omega arith)
 said_listed from (x ∷ xs) u e zero r h q = said_at-here x xs u (ap (λ z. z.0) q) ∙ ap (λ z. Some z.1) q
@@ -77,6 +79,7 @@ history_found net h [] rs = refl
 history_found net h (l ∷ ls) [] = refl
 history_found net h (l ∷ ls) (r ∷ rs) = history_found net (history_after net h l r) ls rs
 
+-- at the start the cut lines, of which there are none, are in order
 pub start_ordered : (net : Net) → IsNet net → Ordered net (reopened_cut (begin net)) (start net) []
 start_ordered net n = record { meets = start_meets net n; last = λ q j. begin_found net q j ∙ ap (λ l. l.cut) (sym (start_log net q j)); each = λ q j. tt }
 
@@ -87,6 +90,7 @@ always_ordered net ls n i = run_orders net (start net) ls n (start_fits net n) i
 pub hosts_always_meet : (net : Net) (ls : List Line) → IsNet net → StepsIn net ls → HostsMeet net (run_all net (start net) ls).world
 hosts_always_meet net ls n i = (always_ordered net ls n i).meets
 
+-- over every schedule a publisher's cuts rise, and each cut line stands after all deliveries of what it cuts
 pub cuts_in_order : (net : Net) (ls : List Line) (p : ℕ) → IsNet net → 1 ≤ net.quiet → StepsIn net ls → p < net.publishers → CutsInOrder net (history_of net ls) p
 cuts_in_order net ls p n z i j =
     let w = (run_all net (start net) ls).world in

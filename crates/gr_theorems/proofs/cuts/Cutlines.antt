@@ -1,4 +1,4 @@
--- Cut lines in lists of lines, and what each call cuts
+-- Each call cuts at most the log of its own publisher, with one cut line, since only the wake of a host cuts
 use Rattle.std.proofs.Common.{◌≡◌, ◌≢◌, ◌⊎◌, inl, inr, ℕ, suc, ◌<◌, max, Bool, true, false, List, [], ◌∷◌, ◌++◌, map, refl, sym, ap, ◌∙◌, subst, append-nil, append_assoc}
 use Rattle.std.specs.Prelude.{nat_eq, nat_lt, if◌then◌else◌, flat_map, filter, IsTrue}
 use Rattle.std.proofs.lemmas.Bool.{both_ways, ltb-true, eq-eqb, ne_eqb}
@@ -30,26 +30,31 @@ CutFree p [] = Unit {0}
 CutFree p (line.Cut q t ∷ ls) = (nat_eq q p ≡ false) × CutFree p ls
 CutFree p (l ∷ ls) = CutFree p ls
 
+-- the last cut of two lists of lines is that of the second, from that of the first on
 pub last_cut-append : (p n : ℕ) (xs ys : List Report) → last_cut p n (xs ++ ys) ≡ last_cut p (last_cut p n xs) ys
 last_cut-append p n [] ys = refl
 last_cut-append p n (line.Cut q t ∷ xs) ys = last_cut-append p (if nat_eq q p then t else n) xs ys
 last_cut-append p n (l ∷ xs) ys = last_cut-append p n xs ys
 
+-- two lists without a cut line have none together
 pub CutFree-append : (p : ℕ) (xs ys : List Report) → CutFree p xs → CutFree p ys → CutFree p (xs ++ ys)
 CutFree-append p [] ys a b = b
 CutFree-append p (line.Cut q t ∷ xs) ys a b = (a.0, CutFree-append p xs ys a.1 b)
 CutFree-append p (l ∷ xs) ys a b = CutFree-append p xs ys a b
 
+-- lines without a cut line leave the last cut
 pub CutFree-last : (p n : ℕ) (ls : List Report) → CutFree p ls → last_cut p n ls ≡ n
 CutFree-last p n [] a = refl
 CutFree-last p n (line.Cut q t ∷ ls) a = ap (λ c. last_cut p (if c then t else n) ls) a.0 ∙ CutFree-last p n ls a.1
 CutFree-last p n (l ∷ ls) a = CutFree-last p n ls a
 
+-- of lines without a cut line, each cut line has any property
 pub CutFree-have : (R : ℕ → List Report → Type 0) (p : ℕ) (before ls : List Report) → CutFree p ls → CutsHave R p before ls
 CutFree-have R p before [] a = tt
 CutFree-have R p before (line.Cut q t ∷ ls) a = (λ e. absurd (both_ways (nat_eq q p) a.0 e), CutFree-have R p (before ++ line.Cut q t ∷ []) ls a.1)
 CutFree-have R p before (l ∷ ls) a = CutFree-have R p (before ++ l ∷ []) ls a
 
+-- a weaker property holds of each cut line too
 pub CutsHave-map : (R S : ℕ → List Report → Type 0) (p : ℕ) (before ls : List Report) → ((t : ℕ) (xs : List Report) → R t xs → S t xs) → CutsHave R p before ls → CutsHave S p before ls
 CutsHave-map R S p before [] f a = tt
 CutsHave-map R S p before (line.Cut q t ∷ ls) f a = (λ e. f t before (a.0 e), CutsHave-map R S p (before ++ line.Cut q t ∷ []) ls f a.1)
@@ -58,6 +63,7 @@ CutsHave-map R S p before (l ∷ ls) f a = CutsHave-map R S p (before ++ l ∷ [
 one_more : (before xs : List Report) (l : Report) → (before ++ l ∷ []) ++ xs ≡ before ++ (l ∷ xs)
 one_more before xs l = append_assoc before (l ∷ []) xs
 
+-- what holds of each cut line of two lists, with the lines before it, holds of those of both together
 pub CutsHave-append : (R : ℕ → List Report → Type 0) (p : ℕ) (before xs ys : List Report) → CutsHave R p before xs → CutsHave R p (before ++ xs) ys → CutsHave R p before (xs ++ ys)
 CutsHave-append R p before [] ys a b = subst (λ z. CutsHave R p z ys) (append-nil before) b
 CutsHave-append R p before (line.Cut q t ∷ xs) ys a b = (a.0, CutsHave-append R p (before ++ line.Cut q t ∷ []) xs ys a.1 (subst (λ z. CutsHave R p z ys) (sym (one_more before xs (line.Cut q t))) b))
@@ -71,6 +77,7 @@ CutsHave-at R p t before (l ∷ xs) ys a = subst (λ z. R t z) (one_more before 
 
 -- Lines without cuts
 
+-- sent lines have no cut line
 pub sent_free : (q n : ℕ) (fs : List Frame) → CutFree q (sent_lines n fs)
 unfolding sent_line
 sent_free q n [] = tt
@@ -93,6 +100,7 @@ told_free net q p h h' s items = go (nat_eq h h')
     go true = tt
     go false = CutFree-append q (map (got_line s p) (filter (λ x. net.wants p s x.0 x.1) items)) (line.Horizon s p h' ∷ []) (got_free q s p (filter (λ x. net.wants p s x.0 x.1) items)) tt
 
+-- learning cuts nothing
 pub learn_free : (net : Net) (p b q : ℕ) (piece : Known) (v : View) (log : Log) → CutFree q (learn net p b piece v log).lines
 unfolding learn
 learn_free net p b q piece v log = go _ _ (net.subscribers_at b)
@@ -103,6 +111,7 @@ learn_free net p b q piece v log = go _ _ (net.subscribers_at b)
 
 -- What a call cuts
 
+-- a call of the host that cuts: the log's cut goes on, and the one cut line says so
 pub record NewCut (net : Net) (p b : ℕ) (log : Log) (o : Outcome) : Type 0 where
   pub host : is_host net p b ≡ true
   pub more : log.cut < o.log.cut
@@ -113,6 +122,7 @@ pub record NewCut (net : Net) (p b : ℕ) (log : Log) (o : Outcome) : Type 0 whe
   pub free_post : CutFree p post
   pub lines : o.lines ≡ pre ++ line.Cut p o.log.cut ∷ post
 
+-- a call cuts at most its own log, with one cut line, and no other
 pub record CallCuts (net : Net) (p b : ℕ) (log : Log) (o : Outcome) : Type 0 where
   pub others : (q : ℕ) → q ≢ p → CutFree q o.lines
   pub here : (CutFree p o.lines × (o.log.cut ≡ log.cut)) ⊎ NewCut net p b log o
@@ -138,6 +148,7 @@ receive_free net now f v log q = go f.body
     go (body.Curiosity runs) = tt
     go (body.Expect tick) = tt
 
+-- receiving a frame cuts at most the log of its publisher, with one line
 pub receive_cuts : (net : Net) (now : ℕ) (f : Frame) (v : View) (log : Log) → CallCuts net f.head.publisher f.head.to log (receive net now f v log)
 receive_cuts net now f v log = uncut net f.head.publisher f.head.to log (receive net now f v log) (receive_free net now f v log) (ap (λ l. l.cut) (receive_log net now f v log))
 
@@ -213,6 +224,7 @@ wake_host_cuts net p b now v log host = go (nat_lt o.log.cut new.cut) refl (nat_
     }
     go false e c = uncut net p b log (record { view = o.view; log = new; lines = (mark c ++ []) ++ o.lines; frames = fs }) (λ q. CutFree-append q (mark c ++ []) o.lines (CutFree-append q (mark c) [] (mark_free q c) tt) (k.free q)) (cutting_stays net p b o.view o.log e ∙ k.cut)
 
+-- a wake cuts at most the log of its publisher, with one line
 pub wake_cuts : (net : Net) (p b now : ℕ) (v : View) (log : Log) → CallCuts net p b log (wake net p b now v log)
 unfolding wake wake_below asking
 wake_cuts net p b now v log = go (is_host net p b) refl

@@ -155,6 +155,7 @@ clocked_orders net w clock most t k found ls l o =
     k found ls (record { got = l.got; horizon = l.horizon; rise = l.rise })
     (record { meets = o.meets; last = o.last; each = λ q j. CutsHave-map (CutFits net found w q) (CutFits net found (clocked w clock most) q) q [] ls (λ t xs c. CutFits-later net found w (clocked w clock most) q t xs (clocked_later net w clock most q) c) (o.each q j) })
 
+-- a sweep keeps the cut lines in order
 pub sweep_orders : (net : Net) (w : World) (k : ℕ) → IsNet net → WorldFits net w → Orders net w (sweep net w k)
 unfolding sweep_by
 sweep_orders net w k n f = go (nat_lt max_tick m)
@@ -201,6 +202,7 @@ show_free net w q = CutFree-append q (map log_line (numbers net.publishers)) (fl
     brokers [] = tt
     brokers (b ∷ bs) = CutFree-append q (there b) (flat_map there bs) (row b (numbers net.publishers)) (brokers bs)
 
+-- each step keeps the cut lines in order
 pub next_orders : (net : Net) (w : World) (l : Line) → IsNet net → WorldFits net w → StepIn net l.step → Orders net w (next net w l)
 unfolding next_by
 next_orders net w l n f i = go l.step i
@@ -240,6 +242,7 @@ next_orders net w l n f i = go l.step i
     go step.Show h = still_orders net w (show net w) (show_free net w)
     go (step.Bytes k) h = bytes_at k (frame_at w k)
 
+-- a run of steps keeps the cut lines in order
 pub run_orders : (net : Net) (w : World) (ls : List Line) → IsNet net → WorldFits net w → StepsIn net ls → Orders net w (run_all net w ls)
 run_orders net w [] n f i = still_orders net w [] (λ q. tt)
 run_orders net w (l ∷ ls) n f i =

@@ -27,11 +27,14 @@ pub record CutFits (net : Net) (found : ℕ → ℕ) (w : World) (q t : ℕ) (be
   pub settled : t ≤ (log_of w q).settled
   pub told : (s u : ℕ) (e : Event) → IsSubscriber net s → u ≤ t → said_at (log_of w q).events u ≡ Some e → net.wants q s u e ≡ true → said_at (delivered_events s q before) u ≡ Some e
 
+-- cut lines in order: the last one of each publisher is its
+-- log's cut, and all that each lets go was delivered before it
 pub record Ordered (net : Net) (found : ℕ → ℕ) (w : World) (ls : List Report) : Type 0 where
   pub meets : HostsMeet net w
   pub last : (q : ℕ) → q < net.publishers → last_cut q (found q) ls ≡ (log_of w q).cut
   pub each : (q : ℕ) → q < net.publishers → CutsHave (CutFits net found w q) q [] ls
 
+-- a cut line that is in order stays so as more is logged and subscribers come on
 pub CutFits-later : (net : Net) (found : ℕ → ℕ) (w u : World) (q t : ℕ) (before : List Report) → IsLater (facts_of net w q) (facts_of net u q) → CutFits net found w q t before → CutFits net found u q t before
 CutFits-later net found w u q t before l c = record {
   rise = c.rise;
@@ -57,6 +60,7 @@ said_settled log u e f s =
     some_none : (e : Event) → Some e ≡ None → ⊥
     some_none e q = cc
 
+-- a list with a member is not empty
 pub has_one : (xs : List ℕ) (s : ℕ) → list_any (λ x. nat_eq x s) xs ≡ true → not_empty xs ≡ true
 has_one [] s e = absurd (false≢true e)
 has_one (x ∷ xs) s e = refl
@@ -95,6 +99,7 @@ cut_line_last p n t rest a = ap (λ c. last_cut p (if c then t else n) rest) (eq
 cut_last : (p n t : ℕ) (ls pre rest : List Report) → CutFree p rest → last_cut p n (ls ++ (pre ++ (line.Cut p t ∷ rest))) ≡ t
 cut_last p n t ls pre rest a = last_cut-append p n ls (pre ++ (line.Cut p t ∷ rest)) ∙ (last_cut-append p (last_cut p n ls) pre (line.Cut p t ∷ rest) ∙ cut_line_last p (last_cut p (last_cut p n ls) pre) t rest a)
 
+-- putting the outcome of a call in place keeps the cut lines in order
 pub absorbed_ordered : (net : Net) (found : ℕ → ℕ) (w : World) (b p : ℕ) (o : Outcome) (ls : List Report) → IsNet net → WorldFits net w → b < net.brokers → p < net.publishers → CallCuts net p b (log_of w p) o → Kept net w (absorbed w b p o) → HostsMeet net (absorbed w b p o).world → LinesFit net w ls → Ordered net found w ls → Ordered net found (absorbed w b p o).world (ls ++ (absorbed w b p o).lines)
 absorbed_ordered net found w b p o ls n f i j cuts k m l d =
     let c = absorbed_changed net w b p o f i j in

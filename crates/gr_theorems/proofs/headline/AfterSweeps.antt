@@ -1,4 +1,4 @@
--- The headline, whole, over every schedule, on a topology where every sweep reaches each broker below the host
+-- The headline holds whole over every schedule, on a topology where every sweep reaches each broker below the host
 use Rattle.std.proofs.Common.{◌≡◌, ◌≢◌, inl, inr, ⊎_elim, ℕ, suc, ◌≤◌, ◌<◌, max, Bool, true, false, ◌&&◌, ◌||◌, List, [], ◌∷◌, ◌++◌, refl, sym, ap, ◌∙◌, subst, arith}
 use Rattle.std.specs.Prelude.{nat_eq, nat_le, nat_lt, if◌then◌else◌}
 use Rattle.std.specs.List.{list_any}

@@ -1,4 +1,4 @@
--- The worked examples, by computation
+-- Each worked example has the report that it shows, by computation
 use Rattle.std.proofs.Common.{◌≡◌, ◌∙◌, ℕ, Bool, true, false, List, [], ◌∷◌, ◌++◌, set, refl}
 use Rattle.std.specs.Prelude.{if◌then◌else◌}
 use Rattle.gr_model.specs.declared.report.Report.TheVariants as line
@@ -62,6 +62,7 @@ calls_in_order : calls_after net5 branch_crashes ≡ wakes 2 0 ∷ delivers 7 �
 unfolding machine calls_after branch_crashes settles.sweep_calls settles.sweep_calls_for settles.wake_calls settles.down_calls settles.up_calls
 calls_in_order = refl
 
+-- each worked example has the report that it shows
 pub examples : WorkedExamples
 unfolding machine losses_then_sweep crashes_then_sweep
 examples = record {

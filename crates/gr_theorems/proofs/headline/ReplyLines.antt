@@ -208,6 +208,7 @@ sweep_replies net w k n f = elim (cases_Bool (nat_lt max_tick m)) [
     go true r e g = rw (e, g) refl
     go false r e g = rw (e, g) (filter-append is_reply swept.lines (line.Swept m ∷ []) ∙ ap (λ x. x ++ []) (sweeps_chain net (λ w t. replying t.lines ≡ []) u (silent_chain net) n (clocked_fits net w m (max m w.most) f)).holds)
 
+-- the line of a sent frame says the frame
 pub frame_told : (k : ℕ) (f : Frame) → frame_of_line (sent_line k f) ≡ Some f
 unfolding sent_line
 frame_told k f = go f.body refl
@@ -249,6 +250,7 @@ step_replies net w h n (step.Bytes j) t k i = go (frame_at w j) ∙ ap (bytes_re
 
 -- Numbers
 
+-- the lines of sent frames are numbered on, one by one
 pub numbers_sent : (n : ℕ) (fs : List Frame) → map sent_number (sent_lines n fs) ≡ numbers_from n (length fs)
 numbers_sent n [] = refl
 numbers_sent n (f ∷ fs) = ap₂ (λ x y. x ∷ y) (sent_line_number n f) (numbers_sent (suc n) fs)
@@ -272,6 +274,7 @@ unfolding run_from_by
 replied_from net w h [] n z i k = tt
 replied_from net w h (l ∷ ls) n z i k = (step_replied net w h l n i.0 k, replied_from net (next net w l).world (history_after net h l (next net w l).lines) ls n z i.1 (next_stands net w h l n z i.0 k))
 
+-- over every schedule refused and bytes lines stand exactly where the steps demand them
 pub replied_always : (net : Net) (ls : List Line) → IsNet net → 1 ≤ net.quiet → StepsIn net ls → Replied net ls (report_of net ls)
 unfolding report_of_by
 replied_always net ls n z i = (refl, replied_from net (start net) (begin net) ls n z i (start_stands net n))

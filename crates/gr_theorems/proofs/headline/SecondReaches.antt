@@ -54,6 +54,7 @@ moment_begins net w p f a u j = record {
   far = settled_far net w p f j;
 }
 
+-- an accepted sweep brings the horizon of each broker below the host to the sweep's moment
 pub sweeps_reach : (net : Net) (n : IsNet net) → 1 ≤ net.quiet → 1 ≤ net.retry → SweepsReach net n
 sweeps_reach net n z r w k heard f a u h ok b p i j host keeps = record {
   horizon = le_antisymm (omega (arith, (g.views p b j i).horizon.settled, settled)) brings.horizon;

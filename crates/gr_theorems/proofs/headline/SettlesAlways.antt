@@ -99,11 +99,13 @@ hands_over_at net w h k n z r x unknown ok s p a j =
 whole_always : (net : Net) (steps : List Line) → IsNet net → 1 ≤ net.quiet → 1 ≤ net.retry → StepsIn net steps → Whole net (run_all net (start net) steps).world (history_of net steps) × Unknowns net (run_all net (start net) steps).world
 whole_always net steps n z r i = stands_where_sweeps_reach net (start net) (begin net) steps n (sweeps_reach net n z r) z i (start_whole net n) (unknowns_always net [] n tt)
 
+-- after every schedule an accepted sweep settles everything: each kept horizon, log and cut is at its moment
 pub sweep_settles : (net : Net) (steps : List Line) (k : ℕ) → IsNet net → 1 ≤ net.quiet → 1 ≤ net.retry → StepsIn net steps → is_accepted net (run_all net (start net) steps).world ≡ true → SweepSettles net (run_all net (start net) steps).world k
 sweep_settles net steps k n z r i ok =
     let x = whole_always net steps n z r i in
     settles_at net (run_all net (start net) steps).world (history_of net steps) k n z r x.0 x.1 ok
 
+-- after every schedule an accepted sweep leaves each subscriber with all that was logged for it
 pub sweep_hands_over : (net : Net) (steps : List Line) (k : ℕ) → IsNet net → 1 ≤ net.quiet → 1 ≤ net.retry → StepsIn net steps → is_accepted net (run_all net (start net) steps).world ≡ true → AllGot net (history_of net steps) (run_all net (start net) steps).world k
 sweep_hands_over net steps k n z r i ok =
     let x = whole_always net steps n z r i in

@@ -48,6 +48,7 @@ pub record Stands (net : Net) (w : World) (h : History) : Type 0 where
   pub asks : AsksFit net w
   pub gates : GatesFit net w h.gates
 
+-- each sent frame has one line
 pub lines_long : (n : ℕ) (fs : List Frame) → length (sent_lines n fs) ≡ length fs
 lines_long n [] = refl
 lines_long n (f ∷ fs) = ap suc (lines_long (suc n) fs)
@@ -68,6 +69,7 @@ pub record IsSplit {X : Type 0} (xs : List X) (x : X) : Type 0 where
   pub back : List X
   pub is : xs ≡ front ++ x ∷ back
 
+-- an element that stands in a list splits it
 pub split_from : {X : Type 0} (xs : List X) (x : X) (k : ℕ) → k < length xs → slice_index_or xs k x ≡ x → IsSplit xs x
 split_from [] x k h e = absurd (omega arith)
 split_from (y ∷ ys) x zero h e = record { front = []; back = ys; is = ap (λ z. z ∷ ys) e }
@@ -87,6 +89,7 @@ named_horizon net G s p t (line.Horizon r q u ∷ xs) ys a = named_horizon net G
 named_horizon net G s p t (line.Doubt b q u ∷ xs) ys a = named_horizon net G s p t xs ys a.1
 named_horizon net G s p t (l ∷ xs) ys a = named_horizon net G s p t xs ys a
 
+-- a doubt line among named lines is as it should be
 pub named_doubt : (net : Net) (G : ℕ → ℕ → ℕ → Type 0) (b p t : ℕ) (xs ys : List Report) → Named net G (xs ++ line.Doubt b p t ∷ ys) → G b p t
 named_doubt net G b p t [] ys a = a.0
 named_doubt net G b p t (line.Cut q u ∷ xs) ys a = named_doubt net G b p t xs ys a.1
@@ -104,6 +107,7 @@ cuts_of net w h p k j =
       cut_got = λ t xs ys e s u v m l y wants. got_in s p u v xs ((at t xs ys e).told s u v y l (let q : Contains (log_of w p).events (u, v) = subst (λ r. Contains r.events (u, v)) c m in said_listed 0 (log_of w p).events u v q.0 (k.fits.logs p j).rise q.1 q.2) wants);
     }
 
+-- where all stands, horizons rise, and each event is discarded only after its delivery
 pub in_order : (net : Net) (w : World) (h : History) → IsNet net → Stands net w h → InOrder net h
 in_order net w h n k = record {
   horizons = λ s p m xs ys e. let y = named_horizon net Any s p m xs ys (subst (Named net Any) e k.named) in rise_at s p m 0 xs ys (subst (λ z. HorizonsRise s p 0 z) e (k.lines.rise p s y.1 y.0));
@@ -114,6 +118,7 @@ in_order net w h n k = record {
   cut_got = λ p t xs ys e s u v m l b wants. (cuts_of net w h p k (named_cut net Any p t xs ys (subst (Named net Any) e k.named))).cut_got t xs ys e s u v m l (n.subscriber s b) wants;
 }
 
+-- where all stands, each subscriber got exactly what it is owed
 pub gets_now : (net : Net) (w : World) (h : History) (s p : ℕ) → Stands net w h → p < net.publishers → IsSubscriber net s → GetsExactly net h s p
 gets_now net w h s p k j y = record {
   got = k.lines.got p s j y ∙ ap₂ (λ m r. due_upto net p s m r.events) (sym (k.lines.horizon p s j y)) (sym (record_core net w h p k.records));
@@ -136,6 +141,7 @@ doubt_at net w h b p k j keeps x =
     let f : host_horizon net p w ≡ bare_horizon net h.unlogged w p = k.unlogged.fits p j (subst (λ z. keeps_horizon net p z ≡ true) (sym g) keeps) in
     subst (λ z. (view_of w z p).horizon ≡ (if get_or h.unlogged p true && may_crash net z then 0 else (log_of w p).settled)) g f ∙ ap (λ s. if get_or h.unlogged p true && may_crash net b then 0 else s) (ap (λ r. r.settled) (sym c))
 
+-- what stands before a step stands after it, with its lines
 pub next_stands : (net : Net) (w : World) (h : History) (l : Line) → IsNet net → 1 ≤ net.quiet → StepIn net l.step → Stands net w h → Stands net (next net w l).world (history_after net h l (next net w l).lines)
 next_stands net w h l n z i k =
     let x = next_kept net w l n k.fits i in
@@ -171,6 +177,7 @@ start_bare net n = record {
     zero_both true = refl
     zero_both false = refl
 
+-- at the start all stands
 pub start_stands : (net : Net) → IsNet net → Stands net (start net) (begin net)
 start_stands net n = record {
   fits = start_fits net n;
@@ -190,5 +197,6 @@ unfolding run_from_by
 stands_run net w h [] n z i k = k
 stands_run net w h (l ∷ ls) n z i k = stands_run net (next net w l).world (history_after net h l (next net w l).lines) ls n z i.1 (next_stands net w h l n z i.0 k)
 
+-- over every schedule the sent lines are those of the frames that the steps send
 pub frames_sent : (net : Net) (ls : List Line) → IsNet net → 1 ≤ net.quiet → StepsIn net ls → FramesSent net ls
 frames_sent net ls n z i = (stands_run net (start net) (begin net) ls n z i (start_stands net n)).sent

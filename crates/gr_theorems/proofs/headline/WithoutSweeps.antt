@@ -1,4 +1,4 @@
--- The headline, whole, over each schedule whose steps keep what was heard
+-- The headline holds whole over each schedule whose steps keep what was heard
 use Rattle.std.proofs.Common.{◌≡◌, ℕ, ◌≤◌, ◌<◌, true, false, List, [], ◌∷◌, length, get_or, replicate, sym, ap, ◌∙◌, subst}
 use Rattle.std.proofs.lemmas.Bool.{or_left}
 use Rattle.std.proofs.lemmas.List.{get_or-replicate, length-replicate}
@@ -83,6 +83,7 @@ whole_run net P w h (l ∷ ls) n z on keep i k x = whole_run net P (next net w l
 pub nothing_heard : (net : Net) (b p t : ℕ) → b < net.brokers → p < net.publishers → heard_in (replicate net.brokers (replicate net.publishers [])) b p t ≡ false
 nothing_heard net b p t i j = ap (λ (row : List (List Known)). is_heard (get_or row p []) t) (get_or-replicate net.brokers b (replicate net.publishers []) [] i) ∙ ap (λ (pieces : List Known). is_heard pieces t) (get_or-replicate net.publishers p [] [] j)
 
+-- that nothing was heard has a list for each broker and publisher
 pub nothing_long : (net : Net) → HeardLong net (replicate net.brokers (replicate net.publishers []))
 nothing_long net = record {
   long = length-replicate net.brokers (replicate net.publishers []);
@@ -96,5 +97,6 @@ start_hears net = record {
   fits = λ b p i j host keeps. subst (λ v. HeardFits v (heard_in (begin net).heard b p)) (sym (start_is net b p i j)) (started_heard net p b empty_log (heard_in (begin net).heard b p) host (λ t. nothing_heard net b p t i j));
 }
 
+-- at the start all stands, and nothing was heard
 pub start_whole : (net : Net) → IsNet net → Whole net (start net) (begin net)
 start_whole net n = record { stands = start_stands net n; hears = start_hears net }

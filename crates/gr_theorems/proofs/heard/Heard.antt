@@ -29,18 +29,21 @@ pub record HeardFits (v : View) (heard : ℕ → Bool) : Type 0 where
 abbrev pub hears : (ℕ → Bool) → Known → ℕ → Bool
 hears heard piece t = heard t || not (is_Q (known_at piece t))
 
+-- a known tick does not pass the test for an unknown one
 pub is_Q_at : (k : K) → k ≢ Q → not (is_Q k) ≡ true
 is_Q_at Q n = absurd (n refl)
 is_Q_at S n = refl
 is_Q_at (D e) n = refl
 is_Q_at F n = refl
 
+-- what does not pass the test for an unknown tick is known
 pub not_Q_at : (k : K) → not (is_Q k) ≡ true → k ≢ Q
 not_Q_at Q e = absurd (false≢true e)
 not_Q_at S e = λ h. cc
 not_Q_at (D v) e = λ h. cc
 not_Q_at F e = λ h. cc
 
+-- a tick is unknown, or it is known
 pub cases_Q : (k : K) → (k ≡ Q) ⊎ (k ≢ Q)
 cases_Q Q = inl refl
 cases_Q S = inr (λ h. cc)
@@ -81,12 +84,14 @@ kept_above net f p b know ws v t keeps r a e l = go (is_host net p b)
     go true = base
     go false = ⊎_elim (λ x. x ∙ base) (λ x. absurd (omega (arith, x.1, upto))) (low.each t)
 
+-- above its horizon a broker then knows of each tick what it knew joined with the piece
 pub learn_above : (net : Net) (f : Facts) (p b : ℕ) (piece : Known) (v : View) (log : Log) (t : ℕ) → IsPlace net p b → keeps_horizon net p b ≡ true → ViewTrue net f p b v → KnowsTruth net f p b piece → learned_horizon net p b piece v < t → known_at (learn net p b piece v log).view.know t ≡ join_K (known_at v.know t) (known_at piece t)
 unfolding learn
 learn_above net f p b piece v log t place keeps h k l =
     let j = joined-is v.know piece h.know.runs k.runs in
     kept_above net f p b (zip_runs Q Q Q same_K join_K v.know piece) (forward_wants net p (new_ticks v.know piece) (net.children p b) v.wants) _ t keeps j.runs (learn_wants net f p b piece v place h k) refl l ∙ j.same_at t
 
+-- a kept horizon moves to just before the first unknown tick past it
 pub horizon_keeps : (c : Bool) (n : ℕ) (know : Known) → c ≡ true → horizon_after c n know ≡ first_bottom_from know (suc n) - 1
 unfolding horizon_after
 horizon_keeps true n know q = refl

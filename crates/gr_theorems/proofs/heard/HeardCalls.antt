@@ -122,11 +122,13 @@ absorbed_heard net w b p o H K f i j call same h c q x y =
       ]
     ]
 
+-- a wake keeps that brokers know above their horizons what they have heard
 pub wake_for_heard : (net : Net) (w : World) (b p : ℕ) (H : ℕ → ℕ → ℕ → Bool) → WorldFits net w → b < net.brokers → p < net.publishers → HeardsFit net w H → HeardsFit net (wake_for net w b p).world H
 unfolding wake_for_by
 wake_for_heard net w b p H f i j h =
     absorbed_heard net w b p (wake net p b w.clock (view_of w b p) (log_of w p)) H H f i j (λ host keeps k. wake_heard net p b w.clock (view_of w b p) (log_of w p) (H b p) host keeps (f.views p b j i).know.runs k) (λ c q t x. refl) h
 
+-- a delivery keeps it too, with what the frame says then heard by its receiver
 pub deliver_heard : (net : Net) (w : World) (x : Frame) (H K : ℕ → ℕ → ℕ → Bool) → IsNet net → WorldFits net w → FrameTrue net w x → ((t : ℕ) → K x.head.to x.head.publisher t ≡ hears_body (H x.head.to x.head.publisher) x.body t) → SameBut H K x.head.to x.head.publisher → HeardsFit net w H → HeardsFit net (deliver_frame net w x).world K
 unfolding deliver_frame_by
 deliver_heard net w x H K n f tr here same h =
@@ -137,6 +139,7 @@ deliver_heard net w x H K n f tr here same h =
     (λ host keeps k. heard_as o.view (hears_body (H b p) x.body) (K b p) here (receive_heard net (facts_of net w p) w.clock x (view_of w b p) (log_of w p) (H b p) (n.place p b tr.publisher_in tr.fits.to_in) keeps (f.views p b tr.publisher_in tr.fits.to_in) tr.told tr.fits.body k))
     same h
 
+-- a publish keeps that brokers know above their horizons what they have heard
 pub publish_now_heard : (net : Net) (w : World) (p number : ℕ) (e : Event) (H : ℕ → ℕ → ℕ → Bool) → IsNet net → WorldFits net w → p < net.publishers → HeardsFit net w H → HeardsFit net (publish_now net w p number e).world H
 unfolding publish_now_by
 publish_now_heard net w p number e H n f j h =
@@ -153,6 +156,7 @@ started_heard net p b log H host none = rw host (record {
   kept = λ t x y. absurd (false≢true (sym (none t) ∙ y));
 })
 
+-- a restart keeps it too, after which its broker has heard nothing
 pub restarted_heard : (net : Net) (w : World) (logs : List Log) (b : ℕ) (H K : ℕ → ℕ → ℕ → Bool) → WorldFits net w → b < net.brokers → ((p t : ℕ) → p < net.publishers → K b p t ≡ false) → ((c p t : ℕ) → c ≢ b → K c p t ≡ H c p t) → HeardsFit net w H → HeardsFit net (restarted net (with_logs w logs) b) K
 unfolding restarted
 restarted_heard net w logs b H K f i none same h c q x y =

@@ -143,6 +143,7 @@ line_sent k (l ∷ ls) =
     and_false true = refl
     and_false false = refl
 
+-- the line of a sent frame says its number
 pub sent_line_number : (n : ℕ) (x : Frame) → sent_number (sent_line n x) ≡ n
 unfolding sent_line
 sent_line_number n x = go x.body
@@ -152,6 +153,7 @@ sent_line_number n x = go x.body
     go (body.Curiosity runs) = refl
     go (body.Expect tick) = refl
 
+-- the line of a frame, where there is one
 abbrev pub line_at : ℕ → Option Frame → Option Report
 line_at k o = elim o [ None ↦ None | Some x ↦ Some (sent_line k x) ]
 
@@ -166,16 +168,19 @@ line_in n (suc i) (x ∷ fs) h =
     ap (λ q. if q then Some (sent_line n x) else line_of_frame (n + suc i) (sent_lines (suc n) fs)) e
     ∙ subst (λ k. line_of_frame k (sent_lines (suc n) fs) ≡ line_at k (slice_get fs i)) m (line_in (suc n) i fs (omega arith))
 
+-- the sent line of a number is that of the frame with the number
 pub line_is : (w : World) (k : ℕ) (ls : List Report) → filter is_sent ls ≡ sent_lines 1 w.frames → line_of_frame k ls ≡ line_at k (frame_at w k)
 line_is w zero ls e = line_none ls
 line_is w (suc k) ls e = line_sent k ls ∙ (ap (line_of_frame (suc k)) e ∙ subst (λ m. line_of_frame m (sent_lines 1 w.frames) ≡ line_at m (slice_get w.frames k)) (omega arith) (line_in 1 k w.frames (omega arith)))
 
 -- A delivery
 
+-- the knowledge of a frame, with its receiver and publisher
 abbrev pub know_of_body : Head → Body → Option (ℕ × ℕ × Known)
 know_of_body h (body.Knowledge runs) = Some (h.to, h.publisher, runs)
 know_of_body h _ = None
 
+-- the line of a sent frame says its knowledge
 pub know_of_sent : (k : ℕ) (x : Frame) → know_of_line (sent_line k x) ≡ know_of_body x.head x.body
 unfolding sent_line
 know_of_sent k x = go x.body
@@ -191,6 +196,7 @@ pub record AddsHeard (net : Net) (heard more : Pieces) (h : Head) (y : Body) : T
   pub here : (t : ℕ) → heard_in more h.to h.publisher t ≡ hears_body (heard_in heard h.to h.publisher) y t
   pub same : SameBut (heard_in heard) (heard_in more) h.to h.publisher
 
+-- a delivered frame adds its known ticks to what its receiver has heard of its publisher, and nothing else
 pub body_adds : (net : Net) (w : World) (heard : Pieces) (h : Head) (y : Body) → HeardLong net heard → h.to < net.brokers → h.publisher < net.publishers → BodyTrue net (facts_of net w h.publisher) h.publisher h.from h.to y → AddsHeard net heard (hearing heard (know_of_body h y)) h y
 body_adds net w heard h (body.Knowledge runs) l i j tr = record {
   long = hearing_long net heard h.to h.publisher runs l i;
@@ -258,6 +264,7 @@ stopped_hears net w k p number stop e heard n f j h = go (not_empty (net.subscri
     go false false = record { long = h.long; fits = publish_now_heard net w p number e (heard_in heard) n f j h.fits }
     go false true = restarted_hears net w logs (net.host p) heard f (n.host_in p j) h
 
+-- after each step but a sweep the history has heard what the brokers below the host have heard
 pub hears_by : (net : Net) (w : World) (h : History) (k : ℕ) (s : Step) (ls : List Report) → IsNet net → WorldFits net w → RecordsFit net w h → filter is_sent h.lines ≡ sent_lines 1 w.frames → StepIn net s → is_sweep s ≡ false → Hears net w h.heard → Hears net (next net w (record { number = k; step = s })).world (heard_after net h (record { number = k; step = s }) ls)
 unfolding next_by heard_after
 hears_by net w h k (step.Clock now) ls n f r e i z a = record { long = a.long; fits = a.fits }

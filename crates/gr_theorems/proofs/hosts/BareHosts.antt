@@ -41,6 +41,7 @@ not_record p (line.Logged q n t) e = absurd (true≢false e)
 not_record p (line.Mark q t) e = absurd (true≢false e)
 not_record p _ e = refl
 
+-- whether something was logged or marked is said by the recorded lines alone
 pub told_recs : (p : ℕ) (ls : List Report) → told_of p ls ≡ told_of p (recs ls)
 told_recs p [] = refl
 told_recs p (l ∷ ls) =
@@ -49,6 +50,7 @@ told_recs p (l ∷ ls) =
       | inr e ↦ rw e (rw (not_record p l e) (told_recs p ls))
     ]
 
+-- something was logged or marked in two lists of lines where it was in one of them
 pub told_append : (p : ℕ) (xs ys : List Report) → told_of p (xs ++ ys) ≡ (told_of p xs || told_of p ys)
 told_append p [] ys = refl
 told_append p (x ∷ xs) ys = go (is_record_of p x) (told_append p xs ys)
@@ -61,6 +63,7 @@ told_append p (x ∷ xs) ys = go (is_record_of p x) (told_append p xs ys)
 abbrev pub host_horizon : Net → ℕ → World → ℕ
 host_horizon net p w = (view_of w (net.host p) p).horizon
 
+-- where a publisher's log is settled
 abbrev pub host_settled : ℕ → World → ℕ
 host_settled p w = (log_of w p).settled
 
@@ -69,6 +72,7 @@ pub record RecordsFirst (net : Net) (p : ℕ) (w : World) (t : Transition) : Typ
   pub told : told_of p t.lines ≡ true → host_horizon net p t.world ≡ host_settled p t.world
   pub still : told_of p t.lines ≡ false → (host_horizon net p t.world ≡ host_horizon net p w) × (host_settled p t.world ≡ host_settled p w)
 
+-- where nothing is logged or marked, the host's horizon and what is settled stay
 pub tells_still : (net : Net) (p : ℕ) (w : World) (t : Transition) → told_of p t.lines ≡ false → host_horizon net p t.world ≡ host_horizon net p w → host_settled p t.world ≡ host_settled p w → RecordsFirst net p w t
 tells_still net p w t e h s = record { told = λ x. absurd (false≢true (sym e ∙ x)); still = λ x. (h, s) }
 
@@ -253,6 +257,7 @@ publish_bare net p w q number v n f j keeps =
 
 -- Starting again
 
+-- a broker that starts has its horizon at 0
 pub started_horizon : (net : Net) (p b : ℕ) (log : Log) → (started net p b log).horizon ≡ 0
 unfolding started
 started_horizon net p b log = refl
@@ -323,6 +328,8 @@ show_untold net p w = logs (numbers net.publishers)
 abbrev pub bare_horizon : Net → List Bool → World → ℕ → ℕ
 bare_horizon net bare w p = if get_or bare p true && may_crash net (net.host p) then 0 else (log_of w p).settled
 
+-- one flag for each publisher: its host, where it keeps a horizon,
+-- has it at 0 under the flag, and else where the log is settled
 pub record Unlogged (net : Net) (w : World) (bare : List Bool) : Type 0 where
   pub long : length bare ≡ net.publishers
   pub fits : (p : ℕ) → p < net.publishers → keeps_horizon net p (net.host p) ≡ true → host_horizon net p w ≡ bare_horizon net bare w p
@@ -407,6 +414,7 @@ stopped_bare net w k q number stop e bare n f j h = go (not_empty (net.subscribe
     go false false z = tells_bare net w (publish_now net w q number e) bare h (λ p i keeps. publish_bare net p w q number e n f j keeps)
     go false true z = restarted_bare net w logs (net.host q) bare f (n.host_in q j) (ap not z) (same (is_kept log.gate stop.call stop.pick)) h
 
+-- after each step but a sweep the flags say where the horizons of the hosts are
 pub bare_by : (net : Net) (w : World) (h : History) (k : ℕ) (s : Step) → IsNet net → 1 ≤ net.quiet → WorldFits net w → RecordsFit net w h → Each (ExpectFits net) w.frames → StepIn net s → is_sweep s ≡ false → Unlogged net w h.unlogged → Unlogged net (next net w (record { number = k; step = s })).world (unlogged_after net h (record { number = k; step = s }) (next net w (record { number = k; step = s })).lines)
 unfolding next_by unlogged_after wake_all_by
 bare_by net w h k (step.Clock now) n z f r x i y a =

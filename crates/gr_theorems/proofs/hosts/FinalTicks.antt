@@ -187,5 +187,6 @@ final_closed net n z = record {
 pub all_started : (net : Net) (w : World) (logs : ℕ → Log) → ((p b : ℕ) → p < net.publishers → b < net.brokers → view_of w b p ≡ started net p b (logs p)) → AllFinal net w
 all_started net w logs e p b j i = subst (FinalTicks net p b) (sym (e p b j i)) (started_final net p b (logs p))
 
+-- at the start each consolidated tick is final, as there is none
 pub start_final : (net : Net) → AllFinal net (start net)
 start_final net = all_started net (start net) (λ p. empty_log) (λ p b j i. start_is net b p i j)

@@ -73,6 +73,7 @@ marking_meets net p b now v log reached n i j host keeps fit h known m =
         (silence_true net (facts new reached) p b (suc log.settled) now [] (omega arith) (le_refl now) (λ t x y. fit.past t x) (nothing_true net (facts new reached) p b) tt tt)
         (c.known host known))
 
+-- a wake that marks brings the host's horizon to where its log is settled, and each other wake leaves it there
 pub wake_meets : (net : Net) (p b now : ℕ) (v : View) (log : Log) (reached : ℕ → ℕ) → IsNet net → p < net.publishers → b < net.brokers → is_host net p b ≡ true → keeps_horizon net p b ≡ true → LogFits log → ViewTrue net (facts log reached) p b v → HostKnows v log.settled → (nat_le (log.settled + net.quiet) now ≡ false → Meets v log) → Meets (wake net p b now v log).view (wake net p b now v log).log
 unfolding wake wake_host
 wake_meets net p b now v log reached n i j host keeps fit h known m = go (is_host net p b) host
@@ -84,6 +85,7 @@ wake_meets net p b now v log reached n i j host keeps fit h known m = go (is_hos
     go false e = absurd (false≢true e)
     go true e = marking_meets net p b now v log reached n i j host keeps fit h known m ∙ sym (cutting_same net p b o.view o.log).settled
 
+-- a publish that is recorded brings the host's horizon to where its log is settled, and each other leaves it there
 pub publish_meets : (net : Net) (p b now number : ℕ) (e : Event) (v : View) (log : Log) (reached : ℕ → ℕ) → IsNet net → p < net.publishers → b < net.brokers → is_host net p b ≡ true → keeps_horizon net p b ≡ true → LogFits log → ViewTrue net (facts log reached) p b v → HostKnows v log.settled → (is_record_of p (publish_line p now number (core log)) ≡ false → Meets v log) → Meets (publish net p b now number e v log).view (publish net p b now number e v log).log
 publish_meets net p b now number e v log reached n i j host keeps fit h known m =
     publish_cases net p b now number e v log (λ o. CallTrue net p b v log reached o → Meets o.view o.log)
@@ -128,12 +130,14 @@ absorbed_meets net w b p o f i j t call m q x y =
       ]) y
     ]
 
+-- a wake keeps each host with subscribers at where its log is settled
 pub wake_for_meets : (net : Net) (w : World) (b p : ℕ) → IsNet net → WorldFits net w → b < net.brokers → p < net.publishers → HostsMeet net w → HostsMeet net (wake_for net w b p).world
 unfolding wake_for_by
 wake_for_meets net w b p n f i j m = absorbed_meets net w b p (wake net p b w.clock (view_of w b p) (log_of w p)) f i j
     (wake_call net p b w.clock (view_of w b p) (log_of w p) (reached_in net w p) n j i (f.logs p j) (f.views p b j i))
     (λ host keeps known x. wake_meets net p b w.clock (view_of w b p) (log_of w p) (reached_in net w p) n j i host keeps (f.logs p j) (f.views p b j i) known (λ e. x)) m
 
+-- a delivery keeps each host with subscribers at where its log is settled
 pub deliver_meets : (net : Net) (w : World) (x : Frame) → IsNet net → WorldFits net w → FrameTrue net w x → HostsMeet net w → HostsMeet net (deliver_frame net w x).world
 unfolding deliver_frame_by
 deliver_meets net w x n f t m =
@@ -142,6 +146,7 @@ deliver_meets net w x n f t m =
     absorbed_meets net w x.head.to p (receive net w.clock x (view_of w x.head.to p) (log_of w p)) f t.fits.to_in t.publisher_in c
     (λ host keeps known y. settled_meets net p x.head.to (view_of w x.head.to p) (log_of w p) (reached_in net w p) (receive net w.clock x (view_of w x.head.to p) (log_of w p)) c (ap (λ l. l.settled) (receive_log net w.clock x (view_of w x.head.to p) (log_of w p))) y) m
 
+-- a publish keeps each host with subscribers at where its log is settled
 pub publish_now_meets : (net : Net) (w : World) (p number : ℕ) (e : Event) → IsNet net → WorldFits net w → p < net.publishers → HostsMeet net w → HostsMeet net (publish_now net w p number e).world
 unfolding publish_now_by
 publish_now_meets net w p number e n f j m =

@@ -110,6 +110,7 @@ wake_for_in : (net : Net) (w : World) (b p : ℕ) → IsNet net → IsSmall net 
 unfolding wake_for_by
 wake_for_in net w b p n z f i j a = absorbed_in net w b p (wake net p b w.clock (view_of w b p) (log_of w p)) z i (wake_for_kept net w b p n f i j).fits (wake_in net p b w.clock (view_of w b p) (log_of w p) a.clock (view_in w b p a) (log_in w p a)) a
 
+-- the delivery of a frame within the limits keeps the world within them
 pub deliver_in : (net : Net) (w : World) (x : Frame) → IsNet net → IsSmall net → WorldFits net w → FrameTrue net w x → BodyIn x.body → WorldIn w → WorldIn (deliver_frame net w x).world
 unfolding deliver_frame_by
 deliver_in net w x n z f t r a =
@@ -257,8 +258,10 @@ frame_in w k f a e = frame_at_ready IsSpelled w k f a.frames e
 pub always_in : (net : Net) (ls : List Line) → IsNet net → net.brokers ≤ 2 ^ 16 → net.publishers ≤ 2 ^ 16 → StepsIn net ls → NumbersIn ls → WorldIn (run_all net (start net) ls).world
 always_in net ls n x y i k = run_in net (start net) ls n (record { brokers = x; publishers = y }) (start_fits net n) i k (start_in net)
 
+-- over every schedule within the limits each frame that is sent has a spelling that fits
 pub always_spelled : (net : Net) (ls : List Line) (k : ℕ) (f : Frame) → IsNet net → net.brokers ≤ 2 ^ 16 → net.publishers ≤ 2 ^ 16 → StepsIn net ls → NumbersIn ls → frame_at (run_all net (start net) ls).world k ≡ Some f → IsSpelled f
 always_spelled net ls k f n x y i j e = frame_in (run_all net (start net) ls).world k f (always_in net ls n x y i j) e
 
+-- over every schedule within the limits the bytes of each frame that is sent decode to it
 pub always_decodes : (net : Net) (ls : List Line) (k : ℕ) (f : Frame) → IsNet net → net.brokers ≤ 2 ^ 16 → net.publishers ≤ 2 ^ 16 → StepsIn net ls → NumbersIn ls → frame_at (run_all net (start net) ls).world k ≡ Some f → frame_decoded (frame_bytes f) ≡ Ok f
 always_decodes net ls k f n x y i j e = spelled_decodes (frame_bytes f) f (always_spelled net ls k f n x y i j e)

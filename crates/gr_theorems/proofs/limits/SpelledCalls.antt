@@ -43,6 +43,7 @@ pub record FrameCut (b : ℕ) (f : Frame) : Type 0 where
   pub from : f.head.from ≡ b
   pub body : BodyCut f.body
 
+-- each is a frame of this broker, short enough and within the limits
 abbrev pub AllCut : ℕ → List Frame → Type 0
 AllCut b fs = AllByRecursion (FrameCut b) fs
 
@@ -356,6 +357,7 @@ silence_in first last rest h a = go (nat_le first last) refl
 pub with_event_in : (log : Log) (tick : ℕ) (e : Event) → tick ≤ max_tick → IsEvent e → LogIn log → LogIn (with_event log tick e)
 with_event_in log tick e h k l = record { settled = h; cut = l.cut; events = all_on (λ x. (x.0 ≤ max_tick) × IsEvent x.1) log.events ((tick, e) ∷ []) l.events ((h, k), tt) }
 
+-- a publish of an event within the limits leaves and sends only what is within them
 pub publish_in : (net : Net) (p b now number : ℕ) (e : Event) (v : View) (log : Log) → IsEvent e → ViewIn v → LogIn log → CallIn b (publish net p b now number e v log)
 publish_in net p b now number e v log k a l =
     publish_cases net p b now number e v log (CallIn b) (λ x. record { view = a; log = l; frames = tt }) (λ x. record { view = a; log = l; frames = tt }) (λ x y. record { view = a; log = l; frames = tt })
@@ -403,6 +405,7 @@ wake_host_in net p b now v log h a l =
     told u tick k true e = expects_cut p b tick (net.children p b) u.wants (ltb-true 0 tick e) k
     told u tick k false e = tt
 
+-- a wake up to the last tick leaves and sends only what is within the limits
 pub wake_in : (net : Net) (p b now : ℕ) (v : View) (log : Log) → now ≤ max_tick → ViewIn v → LogIn log → CallIn b (wake net p b now v log)
 unfolding wake
 wake_in net p b now v log h a l = go (is_host net p b)
@@ -417,6 +420,7 @@ BodyIn (body.Knowledge rs) = RunsIn IsKnown rs
 BodyIn (body.Curiosity rs) = RunsIn IsWanted rs
 BodyIn (body.Expect tick) = (1 ≤ tick) × (tick ≤ max_tick)
 
+-- receiving a frame within the limits leaves and sends only what is within them
 pub receive_in : (net : Net) (now : ℕ) (f : Frame) (v : View) (log : Log) → BodyIn f.body → ViewIn v → LogIn log → CallIn f.head.to (receive net now f v log)
 unfolding receive
 receive_in net now f v log h a l = go f.body h
@@ -453,6 +457,7 @@ log_know_in log l = tabulate_in IsKnown Q same_K (log_at log) (1 ∷ (suc log.cu
     go t true false = event_known log.events t l.events
     go t false y = tt
 
+-- a broker that starts from a log within the limits is within them
 pub started_in : (net : Net) (p b : ℕ) (log : Log) → LogIn log → ViewIn (started net p b log)
 unfolding started
 started_in net p b log l = record { know = go (is_host net p b); wants = all_tabulated (RunsIn IsWanted) (λ _. []) (net.children p b) (λ c. tt); asks = tt; horizon = omega arith }

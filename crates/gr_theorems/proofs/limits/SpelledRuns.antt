@@ -19,20 +19,24 @@ use Rattle.gr_theorems.specs.Spelled.{IsRunIn, RunsIn}
 
 -- Lists
 
+-- what holds of all of two lists holds of all of the joined list
 pub all_on : {X : Type 0} (P : X → Type 0) (xs ys : List X) → AllByRecursion P xs → AllByRecursion P ys → AllByRecursion P (xs ++ ys)
 all_on P [] ys a b = b
 all_on P (x ∷ xs) ys a b = (a.0, all_on P xs ys a.1 b)
 
+-- what holds of all of a list, and of one that is put into it, holds of all of the new list
 pub all_set : {X : Type 0} (P : X → Type 0) (xs : List X) (i : ℕ) (x : X) → AllByRecursion P xs → P x → AllByRecursion P (set xs i x)
 all_set P [] i x a h = tt
 all_set P (y ∷ ys) zero x a h = (h, a.1)
 all_set P (y ∷ ys) (suc i) x a h = (a.0, all_set P ys i x a.1 h)
 
+-- what holds of all of a list, and of the default, holds of what is found at a place
 pub all_get : {X : Type 0} (P : X → Type 0) (xs : List X) (i : ℕ) (d : X) → AllByRecursion P xs → P d → P (get_or xs i d)
 all_get P [] i d a h = h
 all_get P (y ∷ ys) zero d a h = a.0
 all_get P (y ∷ ys) (suc i) d a h = all_get P ys i d a.1 h
 
+-- what holds of all that a function makes holds of all that it makes of a list
 pub all_tabulated : {X Y : Type 0} (P : Y → Type 0) (g : X → Y) (xs : List X) → ((x : X) → P (g x)) → AllByRecursion P (map g xs)
 all_tabulated P g [] h = tt
 all_tabulated P g (x ∷ xs) h = (h x, all_tabulated P g xs h)
@@ -56,16 +60,19 @@ sorted_upto : (ps : List ℕ) → AreUpto ps → AreUpto (sorted ps)
 sorted_upto [] a = tt
 sorted_upto (p ∷ ps) a = add_upto p (sorted ps) a.0 (sorted_upto ps a.1)
 
+-- the points of runs that are within the limits are at most behind the last tick
 pub points_upto : {V : Type 0} (Fits : V → Type 0) (rs : List (Run V)) → RunsIn Fits rs → AreUpto (points rs)
 points_upto Fits [] a = tt
 points_upto Fits (r ∷ rs) a = (a.0.first, (omega (arith, a.0.last), points_upto Fits rs a.1))
 
+-- the points of several lists of runs within the limits are at most behind the last tick
 pub all_points_upto : (Fits : Q3 → Type 0) (ws : List Wanted) → AllByRecursion (RunsIn Fits) ws → AreUpto (all_points ws)
 all_points_upto Fits [] a = tt
 all_points_upto Fits (w ∷ ws) a = all_on (λ p. p ≤ suc max_tick) (points w) (all_points ws) (points_upto Fits w a.0) (all_points_upto Fits ws a.1)
 
 -- Made runs
 
+-- the value at each tick of runs within the limits is within them
 pub value_fits : {V : Type 0} (Fits : V → Type 0) (bottom : V) (rs : List (Run V)) (t : ℕ) → Fits bottom → RunsIn Fits rs → Fits (value_at bottom rs t)
 value_fits Fits bottom [] t b a = b
 value_fits {V} Fits bottom (r ∷ rs) t b a = go (nat_le r.first t && nat_le t r.last) (value_fits Fits bottom rs t b a.1)
@@ -93,6 +100,7 @@ tabulate_from_in : {V : Type 0} (Fits : V → Type 0) (bottom : V) (same : V →
 tabulate_from_in Fits bottom same g p [] h a f = tt
 tabulate_from_in Fits bottom same g p (q ∷ qs) h a f = put_in Fits bottom same p (q - 1) (g p) (tabulate_from bottom same g q qs) h (omega (arith, a.0)) (f p) (tabulate_from_in Fits bottom same g q qs a.0 a.1 f)
 
+-- runs made of a function within the limits, over points up to behind the last tick, are within them
 pub tabulate_in : {V : Type 0} (Fits : V → Type 0) (bottom : V) (same : V → V → Bool) (g : ℕ → V) (ps : List ℕ) → AreUpto ps → ((t : ℕ) → Fits (g t)) → RunsIn Fits (tabulate bottom same g ps)
 tabulate_in {V} Fits bottom same g ps a f = go (sorted ps) (sorted_upto ps a)
   where
@@ -104,11 +112,13 @@ tabulate_in {V} Fits bottom same g ps a f = go (sorted ps) (sorted_upto ps a)
 pub both_upto : {A B : Type 0} (FA : A → Type 0) (FB : B → Type 0) (xs : List (Run A)) (ys : List (Run B)) → RunsIn FA xs → RunsIn FB ys → AreUpto (points xs ++ points ys)
 both_upto FA FB xs ys h k = all_on (λ p. p ≤ suc max_tick) (points xs) (points ys) (points_upto FA xs h) (points_upto FB ys k)
 
+-- two lists of runs within the limits, put together tick by tick, are within the limits of what is made
 pub zip_in : {A B V : Type 0} (FA : A → Type 0) (FB : B → Type 0) (Fits : V → Type 0) (a : A) (b : B) (bottom : V) (same : V → V → Bool) (f : A → B → V) (xs : List (Run A)) (ys : List (Run B)) → RunsIn FA xs → RunsIn FB ys → FA a → FB b
     → ((x : A) (y : B) → FA x → FB y → Fits (f x y)) → RunsIn Fits (zip_runs a b bottom same f xs ys)
 zip_in FA FB Fits a b bottom same f xs ys h k x y fits =
     tabulate_in Fits bottom same (λ t. f (value_at a xs t) (value_at b ys t)) (points xs ++ points ys) (both_upto FA FB xs ys h k) (λ t. fits (value_at a xs t) (value_at b ys t) (value_fits FA a xs t x h) (value_fits FB b ys t y k))
 
+-- the first empty tick from a tick on is at most behind the last tick
 pub first_bottom_upto : {V : Type 0} (Fits : V → Type 0) (rs : List (Run V)) (t : ℕ) → t ≤ suc max_tick → RunsIn Fits rs → first_bottom_from rs t ≤ suc max_tick
 first_bottom_upto Fits [] t h a = h
 first_bottom_upto {V} Fits (r ∷ rs) t h a = go (nat_lt t r.first) (first_bottom_upto Fits rs (max t (suc r.last)) (omega (arith, a.0.last)) a.1)
@@ -117,6 +127,7 @@ first_bottom_upto {V} Fits (r ∷ rs) t h a = go (nat_lt t r.first) (first_botto
     go true k = h
     go false k = k
 
+-- the last tick of runs within the limits is at most the last tick of all
 pub top_upto : {V : Type 0} (Fits : V → Type 0) (rs : List (Run V)) → RunsIn Fits rs → top_of rs ≤ max_tick
 top_upto Fits [] a = omega arith
 top_upto Fits (r ∷ []) a = a.0.last
@@ -143,6 +154,7 @@ lower_in Fits n upto (r ∷ rs) a = go (is_D r.value && nat_le r.first upto) (lo
     go true x y = front_in Fits k r (lower_data (n - k) upto rs) a.0 x
     go false x y = (a.0, y)
 
+-- what is left after forgetting is within the limits
 pub forgotten_in : (Fits : K → Type 0) (limit upto : ℕ) (rs : List (Run K)) → RunsIn Fits rs → RunsIn Fits (forgotten limit upto rs)
 unfolding forgotten
 forgotten_in Fits limit upto rs a = lower_in Fits (data_count rs - limit) upto rs a
@@ -182,6 +194,7 @@ from_parts {V} size Fits used begun (r ∷ rs) small some is fits a b =
     go true e x y = x (leb-true (used + size r) 16384 e)
     go false e x y = (record { some = some; short = omega (arith, is, fits); runs = a }, y)
 
+-- each part of a piece that is cut into frames fits into one frame, and is within the limits
 pub parts_in : {V : Type 0} (size : Run V → ℕ) (Fits : V → Type 0) (rs : List (Run V)) → ((r : Run V) → Fits r.value → size r ≤ 8211) → RunsIn Fits rs → AllByRecursion (IsPartIn size Fits) (cut_frames size rs)
 unfolding cut_frames
 parts_in size Fits [] small a = tt
@@ -189,10 +202,12 @@ parts_in size Fits (r ∷ rs) small a = from_parts size Fits (12 + size r) (r �
 
 -- Runs of a frame
 
+-- runs within the limits end before the bound of the frame format
 pub ends_in : {V : Type 0} (Fits : V → Type 0) (rs : List (Run V)) → RunsIn Fits rs → EndBefore rs (2 ^ 62 + 1)
 ends_in Fits [] a = tt
 ends_in Fits (r ∷ rs) a = (omega (arith, a.0.last), ends_in Fits rs a.1)
 
+-- each run within the limits has a value within them
 pub values_in : {V : Type 0} (Fits : V → Type 0) (rs : List (Run V)) → RunsIn Fits rs → AllByRecursion (λ r. Fits r.value) rs
 values_in Fits [] a = tt
 values_in Fits (r ∷ rs) a = (a.0.value, values_in Fits rs a.1)

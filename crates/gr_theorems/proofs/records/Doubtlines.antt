@@ -260,5 +260,6 @@ lined_doubts net w k (step.Bytes j) n f i = go (frame_at w j)
     go None = refl
     go (Some x) = refl
 
+-- the doubt lines of a step are those that its show demands, place by place
 pub doubts_stand : (net : Net) (w : World) (l : Line) → IsNet net → WorldFits net w → StepIn net l.step → map doubt_place (filter is_doubt_line (next net w l).lines) ≡ doubts_shown net l
 doubts_stand net w l n f i = lined_doubts net w l.number l.step n f i

@@ -401,6 +401,7 @@ kept_at_gate net w h l p number stop e f r g i at free due = go l.step at i
         subst (λ (q : Step). says_kept (next net w (record { number = l.number; step = q })).lines ≡ is_kept (headline.gate_of h p) stop.call stop.pick) (sym x)
         ((stopped_is net w l.number p number stop e f j).kept free (sym (next_same net w h p number r) ∙ due) ∙ ap (λ m. is_kept m stop.call stop.pick) (sym (g.each p j)))
 
+-- at the start the gates of the history are those of the logs
 pub start_gates : (net : Net) → GatesFit net (start net) (begin net).gates
 unfolding begin
 start_gates net = record {

@@ -37,6 +37,7 @@ Named net G (l ∷ ls) = Named net G ls
 abbrev Never : ℕ → ℕ → ℕ → Type 0
 Never b p t = ⊥
 
+-- two lists of lines that name only what the topology has do so together
 pub Named-append : (net : Net) (G : ℕ → ℕ → ℕ → Type 0) (xs ys : List Report) → Named net G xs → Named net G ys → Named net G (xs ++ ys)
 Named-append net G [] ys a b = b
 Named-append net G (line.Cut p t ∷ xs) ys a b = (a.0, Named-append net G xs ys a.1 b)
@@ -44,6 +45,7 @@ Named-append net G (line.Horizon s p t ∷ xs) ys a b = (a.0, Named-append net G
 Named-append net G (line.Doubt c p t ∷ xs) ys a b = (a.0, Named-append net G xs ys a.1 b)
 Named-append net G (l ∷ xs) ys a b = Named-append net G xs ys a b
 
+-- it holds with a weaker demand on doubt lines too
 pub Named-map : (net : Net) (G H : ℕ → ℕ → ℕ → Type 0) (xs : List Report) → ((b p t : ℕ) → G b p t → H b p t) → Named net G xs → Named net H xs
 Named-map net G H [] k a = tt
 Named-map net G H (line.Cut p t ∷ xs) k a = (a.0, Named-map net G H xs k a.1)
@@ -135,6 +137,7 @@ wake_for_named : (net : Net) (w : World) (b p : ℕ) → IsNet net → b < net.b
 unfolding wake_for_by
 wake_for_named net w b p n i j = absorbed_named net w b p (wake net p b w.clock (view_of w b p) (log_of w p)) (wake_named net p b w.clock (view_of w b p) (log_of w p) n i j)
 
+-- the lines of a delivery name only what the topology has, and none is a doubt line
 pub deliver_named : (net : Net) (w : World) (x : Frame) → IsNet net → x.head.to < net.brokers → x.head.publisher < net.publishers → Named net Never (deliver_frame net w x).lines
 unfolding deliver_frame_by
 deliver_named net w x n i j = absorbed_named net w x.head.to x.head.publisher (receive net w.clock x (view_of w x.head.to x.head.publisher) (log_of w x.head.publisher)) (receive_named net w.clock x (view_of w x.head.to x.head.publisher) (log_of w x.head.publisher) n i j)
@@ -275,5 +278,6 @@ named_by net w k (step.Bytes j) n f i = go (frame_at w j)
     go None = tt
     go (Some x) = tt
 
+-- the lines of each step name only what the topology has, and its doubt lines say the horizons
 pub step_named : (net : Net) (w : World) (l : Line) → IsNet net → WorldFits net w → StepIn net l.step → Named net (IsShown net w) (next net w l).lines
 step_named net w l n f i = named_by net w l.number l.step n f i

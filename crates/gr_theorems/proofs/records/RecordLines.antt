@@ -61,6 +61,7 @@ learn_none f net p b piece v log k = go _ _ (net.subscribers_at b)
     go h items [] = refl
     go h items (x ∷ xs) = filter-append f (delivery_lines net p v.horizon h items x) (flat_map (delivery_lines net p v.horizon h items) xs) ∙ ap₂ (λ a c. a ++ c) (told_none f net p v.horizon h x items k) (go h items xs)
 
+-- receiving a frame writes no line but delivery lines
 pub receive_none : (f : Report → Bool) (net : Net) (now : ℕ) (x : Frame) (v : View) (log : Log) → Skips f → filter f (receive net now x v log).lines ≡ []
 unfolding receive expect curiosity asking
 receive_none f net now x v log k = go x.body
@@ -112,6 +113,7 @@ publish_line_unsent p now number r = go (nat_le number r.last) (nat_lt (suc r.la
     go false false true = refl
     go false false false = refl
 
+-- marking writes no line but delivery lines
 pub marking_none : (f : Report → Bool) (net : Net) (p b now : ℕ) (v : View) (log : Log) → Skips f → filter f (marking net p b now v log).lines ≡ []
 marking_none f net p b now v log k = marking_cases net p b now v log (λ o. filter f o.lines ≡ []) (λ e. learn_none f net p b _ v _ k) (λ e. refl)
 
@@ -201,6 +203,7 @@ sent_itself n (f ∷ fs) = filter-append is_sent (sent_line (suc n) f ∷ []) (s
     one (body.Curiosity runs) = refl
     one (body.Expect tick) = refl
 
+-- the lines of two lists of sent frames, the second numbered on from the first
 pub sent_lines-append : (n : ℕ) (xs ys : List Frame) → sent_lines n (xs ++ ys) ≡ sent_lines n xs ++ sent_lines (n + length xs) ys
 sent_lines-append n [] ys = ap (λ m. sent_lines m ys) (omega arith)
 sent_lines-append n (x ∷ xs) ys = ap (λ (z : List Report). sent_line n x ∷ z) (sent_lines-append (suc n) xs ys ∙ ap (λ m. sent_lines (suc n) xs ++ sent_lines m ys) (omega arith))
@@ -215,9 +218,11 @@ pub record Sends (w : World) (t : Transition) : Type 0 where
   pub frames : t.world.frames ≡ w.frames ++ more
   pub told : filter is_sent t.lines ≡ sent_lines (suc (length w.frames)) more
 
+-- where no frame is sent and no line says so, the sent lines are those of the sent frames
 pub sends_none : (w : World) (t : Transition) → t.world.frames ≡ w.frames → filter is_sent t.lines ≡ [] → Sends w t
 sends_none w t e h = record { more = []; frames = e ∙ sym (append-nil w.frames); told = h }
 
+-- one after another, the sent lines are those of the sent frames
 pub sends_seq : (w : World) (t : Transition) (f : World → Transition) → Sends w t → Sends t.world (f t.world) → Sends w (followed_by t f)
 sends_seq w t f a b = record {
   more = a.more ++ b.more;
@@ -241,6 +246,7 @@ absorbed_sends w b p o e = record {
   told = filter-append is_sent o.lines (sent_lines (suc (length w.frames)) o.frames) ∙ ap₂ (λ (x y : List Report). x ++ y) e (sent_itself (length w.frames) o.frames);
 }
 
+-- a wake's recorded lines are its mark, where its host was silent for long enough, and else none
 pub wake_for_recs : (net : Net) (w : World) (b p : ℕ) → 1 ≤ net.quiet → recs (wake_for net w b p).lines ≡ mark_line net b w.clock p (core_of w p)
 unfolding wake_for_by
 wake_for_recs net w b p z = absorbed_recs w b p (wake net p b w.clock (view_of w b p) (log_of w p)) ∙ wake_recs net p b w.clock (view_of w b p) (log_of w p) z
@@ -249,18 +255,21 @@ wake_for_sends : (net : Net) (w : World) (b p : ℕ) → Sends w (wake_for net w
 unfolding wake_for_by
 wake_for_sends net w b p = absorbed_sends w b p (wake net p b w.clock (view_of w b p) (log_of w p)) (wake_unsent net p b w.clock (view_of w b p) (log_of w p))
 
+-- a delivery has no recorded line
 pub deliver_recs : (net : Net) (w : World) (x : Frame) → recs (deliver_frame net w x).lines ≡ []
 unfolding deliver_frame_by
 deliver_recs net w x =
     let o = receive net w.clock x (view_of w x.head.to x.head.publisher) (log_of w x.head.publisher) in
     absorbed_recs w x.head.to x.head.publisher o ∙ receive_none is_record_line net w.clock x (view_of w x.head.to x.head.publisher) (log_of w x.head.publisher) records_skip
 
+-- the sent lines of a delivery are those of the frames that it sends
 pub deliver_sends : (net : Net) (w : World) (x : Frame) → Sends w (deliver_frame net w x)
 unfolding deliver_frame_by
 deliver_sends net w x =
     let o = receive net w.clock x (view_of w x.head.to x.head.publisher) (log_of w x.head.publisher) in
     absorbed_sends w x.head.to x.head.publisher o (receive_none is_sent net w.clock x (view_of w x.head.to x.head.publisher) (log_of w x.head.publisher) sents_skip)
 
+-- a publish's one recorded line says what became of it
 pub publish_now_recs : (net : Net) (w : World) (p number : ℕ) (e : Event) → recs (publish_now net w p number e).lines ≡ publish_line p w.clock number (core_of w p) ∷ []
 unfolding publish_now_by
 publish_now_recs net w p number e =
@@ -268,6 +277,7 @@ publish_now_recs net w p number e =
     absorbed_recs w (net.host p) p (publish net p (net.host p) w.clock number e v (log_of w p))
     ∙ (publish_some is_record_line net p (net.host p) w.clock number e v (log_of w p) records_skip ∙ publish_line_recorded p w.clock number (core_of w p))
 
+-- the sent lines of a publish are those of the frames that it sends
 pub publish_now_sends : (net : Net) (w : World) (p number : ℕ) (e : Event) → Sends w (publish_now net w p number e)
 unfolding publish_now_by
 publish_now_sends net w p number e =
@@ -275,6 +285,7 @@ publish_now_sends net w p number e =
     absorbed_sends w (net.host p) p (publish net p (net.host p) w.clock number e v (log_of w p))
     (publish_some is_sent net p (net.host p) w.clock number e v (log_of w p) sents_skip ∙ publish_line_unsent p w.clock number (core_of w p))
 
+-- chains of calls keep that the sent lines are those of the frames that are sent
 pub sends_chain : (net : Net) → Chains net Sends
 sends_chain net = record {
   nil = λ w f. sends_none w (unchanged w []) refl refl;
@@ -421,6 +432,7 @@ sweep_for_recs net w p n z f j l =
     let e : settled_of (sweep_for net w p).world p ≡ w.clock = ap (λ r. r.settled) (sweep_for_marked net w p n z f j) ∙ rw (le-leb (settled_of w p + net.quiet) w.clock l) refl in
     k.lines (λ q i ne. ap (λ r. r.settled) (m.others q ne)) ∙ marks_one (settled_of w p) (settled_of (sweep_for net w p).world p) p w.clock (omega (arith, e, l, z))
 
+-- a sweep's recorded lines are one mark of each publisher, at its clock, in their order
 pub sweeps_recs : (net : Net) (w : World) (a n : ℕ) → IsNet net → 1 ≤ net.quiet → WorldFits net w → a + n ≤ net.publishers → ((q : ℕ) → a ≤ q → q < a + n → (log_of w q).settled + net.quiet ≤ w.clock) → recs (in_turn (sweep_for net) (numbers_from a n) w).lines ≡ map (λ p. line.Mark p w.clock) (numbers_from a n)
 sweeps_recs net w a zero k z f h l = refl
 sweeps_recs net w a (suc n) k z f h l =

@@ -34,11 +34,13 @@ length_map : {A B : Type 0} (f : A → B) (xs : List A) → length (map f xs) �
 length_map f [] = refl
 length_map f (x ∷ xs) = ap suc (length_map f xs)
 
+-- the one at a place of what a function makes of a list is what it makes of the one there
 pub get_map : {A B : Type 0} (f : A → B) (xs : List A) (i : ℕ) (d : A) → get_or (map f xs) i (f d) ≡ f (get_or xs i d)
 get_map f [] i d = refl
 get_map f (x ∷ xs) zero d = refl
 get_map f (x ∷ xs) (suc i) d = get_map f xs i d
 
+-- the history's record of a publisher is that of its log
 pub record_core : (net : Net) (w : World) (h : History) (p : ℕ) → RecordsFit net w h → record_of h p ≡ core_of w p
 record_core net w h p r = ap (λ z. get_or z p nothing_recorded) r.records ∙ get_map core w.logs p empty_log
 
@@ -136,6 +138,7 @@ map_again : {A B C : Type 0} (f : A → B) (g : B → C) (xs : List A) → map g
 map_again f g [] = refl
 map_again f g (x ∷ xs) = ap (λ z. g (f x) ∷ z) (map_again f g xs)
 
+-- the history takes a sweep's moment as the machine does
 pub sweep_same : (net : Net) (w : World) (h : History) → RecordsFit net w h → sweep_at net h ≡ sweep_moment net w
 unfolding sweep_moment
 sweep_same net w h r = ap₂ (λ m s. max m s + net.gap + net.idle + net.retry + net.quiet + 1) r.most (ap (λ z. greatest (map (λ x. x.settled) z)) r.records ∙ (ap greatest (map_again core (λ x. x.settled) w.logs) ∙ greatest_same (map (λ l. l.settled) w.logs)))
@@ -150,6 +153,7 @@ below_greatest [] i h = absurd (omega arith)
 below_greatest (n ∷ ns) zero h = omega arith
 below_greatest (n ∷ ns) (suc i) h = omega (arith, below_greatest ns i (omega arith))
 
+-- each log is settled a whole quiet time before a sweep's moment
 pub settled_below : (net : Net) (w : World) (q : ℕ) → WorldFits net w → q < net.publishers → (log_of w q).settled + net.quiet ≤ sweep_moment net w
 unfolding sweep_moment
 settled_below net w q f j =
@@ -170,6 +174,7 @@ pub most_before : (net : Net) (w : World) → w.most < sweep_moment net w
 unfolding sweep_moment
 most_before net w = omega arith
 
+-- a record that was quiet for long enough is marked
 pub marked_now : (net : Net) (m : ℕ) (r : Recorded) → r.settled + net.quiet ≤ m → marked net m r ≡ settling m r
 marked_now net m r h = rw (le-leb (r.settled + net.quiet) m h) refl
 
@@ -181,6 +186,7 @@ pub record Sweeps (net : Net) (w u : World) (a n : ℕ) : Type 0 where
   pub inside : (q : ℕ) → a ≤ q → q < a + n → core_of u q ≡ marked net w.clock (core_of w q)
   pub outside : (q : ℕ) → (q < a) ⊎ (a + n ≤ q) → core_of u q ≡ core_of w q
 
+-- a sweep over some publishers settles the logs of these, at its clock, and leaves the others'
 pub sweeps_from : (net : Net) (w : World) (a n : ℕ) → IsNet net → 1 ≤ net.quiet → WorldFits net w → a + n ≤ net.publishers → Sweeps net w (in_turn (sweep_for net) (numbers_from a n) w).world a n
 sweeps_from net w a zero k z f h = record { fits = f; clock = refl; most = refl; inside = λ q x y. absurd (omega arith); outside = λ q x. refl }
 sweeps_from net w a (suc n) k z f h =
@@ -214,6 +220,7 @@ sweep_records net w u h m f g r c =
 
 -- A stopped publish
 
+-- what the opening tells says of no publish that it was kept
 pub opened_no_kept : (net : Net) (logs : List Log) (b : ℕ) → says_kept (opened_lines net logs b) ≡ false
 unfolding opened_lines
 opened_no_kept net logs b = go (numbers net.publishers)
@@ -419,6 +426,7 @@ next_recorded net w h k (step.Bytes j) n z f r i g =
     let x = bytes_still net w (frame_at w j) j k in
     steps_of net w h (with_line k (step.Bytes j)) (next net w (with_line k (step.Bytes j))) refl refl refl (still_step net w h (next net w (with_line k (step.Bytes j))) f g r x.0 x.1 x.2)
 
+-- after each step the records of the history are those of the logs
 pub next_records : (net : Net) (w : World) (h : History) (l : Line) → IsNet net → 1 ≤ net.quiet → WorldFits net w → RecordsFit net w h → StepIn net l.step → RecordsFit net (next net w l).world (history_after net h l (next net w l).lines)
 unfolding history_after
 next_records net w h l n z f r i =
@@ -431,6 +439,7 @@ replicate_same : (a n : ℕ) → map core (map (λ p. empty_log) (numbers_from a
 replicate_same a zero = refl
 replicate_same a (suc n) = ap (λ z. nothing_recorded ∷ z) (replicate_same (suc a) n)
 
+-- at the start the records of the history are those of the logs
 pub begin_fits : (net : Net) → RecordsFit net (start net) (begin net)
 unfolding begin start
 begin_fits net = record { clock = refl; most = refl; records = sym (replicate_same 0 net.publishers) }
@@ -440,10 +449,12 @@ pub record Runs (net : Net) (w : World) (h : History) (ls : List Line) : Type 0 
   pub records : RecordsFit net (run_all net w ls).world (history net h ls (run_from net w ls))
   pub lines : (history net h ls (run_from net w ls)).lines ≡ h.lines ++ (run_all net w ls).lines
 
+-- a step adds its lines to those of the history
 pub after_lines : (net : Net) (h : History) (l : Line) (ls : List Report) → (history_after net h l ls).lines ≡ h.lines ++ ls
 unfolding history_after
 after_lines net h l ls = refl
 
+-- along every run the records of the history are those of the logs, and its lines those of the steps
 pub runs : (net : Net) (w : World) (h : History) (ls : List Line) → IsNet net → 1 ≤ net.quiet → WorldFits net w → RecordsFit net w h → StepsIn net ls → Runs net w h ls
 unfolding run_from_by
 runs net w h [] n z f r i = record { records = r; lines = sym (append-nil h.lines) }
@@ -455,6 +466,7 @@ runs net w h (l ∷ ls) n z f r i =
       lines = x.lines ∙ (ap (λ y. y ++ (run_all net (next net w l).world ls).lines) (after_lines net h l (next net w l).lines) ∙ append_assoc h.lines (next net w l).lines (run_all net (next net w l).world ls).lines);
     }
 
+-- a history begins without lines
 pub begin_lines : (net : Net) → (begin net).lines ≡ []
 unfolding begin
 begin_lines net = refl

@@ -25,6 +25,7 @@ core l = record { last = l.last; settled = l.settled; events = l.events }
 
 -- A call's log
 
+-- receiving a frame leaves the log
 pub receive_log : (net : Net) (now : ℕ) (f : Frame) (v : View) (log : Log) → (receive net now f v log).log ≡ log
 unfolding receive expect curiosity asking
 receive_log net now f v log = go f.body
@@ -50,12 +51,14 @@ cutting_core net p b v log = go (nat_lt log.cut (done_upto (consolidated (keeps_
     go true = refl
     go false = refl
 
+-- a mark leaves of a log what the record says of the mark
 pub marking_core : (net : Net) (p b now : ℕ) (v : View) (log : Log) → core (marking net p b now v log).log ≡ marked net now (core log)
 marking_core net p b now v log =
     marking_cases net p b now v log (λ o. core o.log ≡ marked net now (core log))
     (λ e. ap core (learn_log net p b (silence (suc log.settled) now []) v (with_mark log now)) ∙ ap (λ q. if q then settling now (core log) else core log) (sym e))
     (λ e. ap (λ q. if q then settling now (core log) else core log) (sym e))
 
+-- a wake leaves of a log what the record says: a mark at the host, and else nothing new
 pub wake_core : (net : Net) (p b now : ℕ) (v : View) (log : Log) → core (wake net p b now v log).log ≡ (if is_host net p b then marked net now (core log) else core log)
 unfolding wake wake_host wake_below asking
 wake_core net p b now v log = go (is_host net p b)
@@ -64,6 +67,7 @@ wake_core net p b now v log = go (is_host net p b)
     go true = cutting_core net p b (marking net p b now v log).view (marking net p b now v log).log ∙ marking_core net p b now v log
     go false = refl
 
+-- a publish leaves of a log what the record says: the event, where its number is the next one
 pub publish_core : (net : Net) (p b now number : ℕ) (e : Event) (v : View) (log : Log) → core (publish net p b now number e v log).log ≡ (if is_next now (core log) number then recording now (core log) e else core log)
 publish_core net p b now number e v log =
     publish_cases net p b now number e v log (λ o. core o.log ≡ (if is_next now (core log) number then recording now (core log) e else core log))
@@ -77,9 +81,11 @@ publish_core net p b now number e v log =
 
 -- The cores of all logs
 
+-- what a publisher's log has of the record
 abbrev pub core_of : World → ℕ → Recorded
 core_of w q = core (log_of w q)
 
+-- putting an outcome in place changes the record of the call's publisher, and no other
 pub absorbed_cores : (net : Net) (w : World) (b p q : ℕ) (o : Outcome) → WorldFits net w → p < net.publishers → core_of (absorbed w b p o).world q ≡ (if nat_eq q p then core o.log else core_of w q)
 unfolding absorbed
 absorbed_cores net w b p q o f j =
@@ -123,10 +129,12 @@ Marks-after net p w t f h a k = record {
 Marks-refl : (net : Net) (p : ℕ) (w : World) → WorldFits net w → Marks net p w (unchanged w [])
 Marks-refl net p w f = record { kept = Kept-refl net w f; clock = refl; most = refl; others = λ q n. refl; here = inl refl }
 
+-- a wake changes at most the record of its publisher, by a mark at the host
 pub wake_for_core : (net : Net) (w : World) (b p q : ℕ) → WorldFits net w → p < net.publishers → core_of (wake_for net w b p).world q ≡ (if nat_eq q p then (if is_host net p b then marked net w.clock (core_of w p) else core_of w p) else core_of w q)
 unfolding wake_for_by
 wake_for_core net w b p q f j = absorbed_cores net w b p q (wake net p b w.clock (view_of w b p) (log_of w p)) f j ∙ ap (λ z. if nat_eq q p then z else core_of w q) (wake_core net p b w.clock (view_of w b p) (log_of w p))
 
+-- a wake leaves the clock
 pub wake_for_clock : (net : Net) (w : World) (b p : ℕ) → (wake_for net w b p).world.clock ≡ w.clock
 unfolding wake_for_by
 wake_for_clock net w b p = absorbed_clock w b p (wake net p b w.clock (view_of w b p) (log_of w p))
@@ -135,10 +143,12 @@ absorbed_most : (w : World) (b p : ℕ) (o : Outcome) → (absorbed w b p o).wor
 unfolding absorbed
 absorbed_most w b p o = refl
 
+-- a wake leaves the greatest moment
 pub wake_for_most : (net : Net) (w : World) (b p : ℕ) → (wake_for net w b p).world.most ≡ w.most
 unfolding wake_for_by
 wake_for_most net w b p = absorbed_most w b p (wake net p b w.clock (view_of w b p) (log_of w p))
 
+-- a delivery leaves the greatest moment
 pub deliver_most : (net : Net) (w : World) (x : Frame) → (deliver_frame net w x).world.most ≡ w.most
 unfolding deliver_frame_by
 deliver_most net w x = absorbed_most w x.head.to x.head.publisher (receive net w.clock x (view_of w x.head.to x.head.publisher) (log_of w x.head.publisher))
@@ -155,6 +165,7 @@ wake_for_marks net w b p n f i j = record {
   ];
 }
 
+-- a delivery leaves every record
 pub deliver_core : (net : Net) (w : World) (x : Frame) (q : ℕ) → WorldFits net w → x.head.publisher < net.publishers → core_of (deliver_frame net w x).world q ≡ core_of w q
 unfolding deliver_frame_by
 deliver_core net w x q f j =
@@ -164,6 +175,7 @@ deliver_core net w x q f j =
       | inr e ↦ rw (ne_eqb q x.head.publisher e) refl
     ]
 
+-- a delivery leaves the clock
 pub deliver_clock : (net : Net) (w : World) (x : Frame) → (deliver_frame net w x).world.clock ≡ w.clock
 unfolding deliver_frame_by
 deliver_clock net w x = absorbed_clock w x.head.to x.head.publisher (receive net w.clock x (view_of w x.head.to x.head.publisher) (log_of w x.head.publisher))
@@ -208,6 +220,7 @@ hand_down_marks : (net : Net) (p first : ℕ) (w : World) (b : ℕ) → IsNet ne
 unfolding hand_down_by
 hand_down_marks net p first w b n h f = in_turn_marks net p (FrameTrue net) (deliver_frame net) h (FrameTrue-later net) (λ u x g t. deliver_marks net p u x n g t) (filter (is_know_to p b) (frames_past first w.frames)) w f (filter_frames net w (is_know_to p b) (frames_past first w.frames) (frames_past_true net w first w.frames f.frames))
 
+-- the sweep of a publisher does to the logs nothing, or one mark of this publisher's
 pub sweep_for_marks : (net : Net) (w : World) (p : ℕ) → IsNet net → 1 ≤ net.quiet → WorldFits net w → p < net.publishers → Marks net p w (sweep_for net w p)
 unfolding sweep_for_by
 sweep_for_marks net w p n h f j =
@@ -234,6 +247,7 @@ has_append_right : (s : ℕ) (xs ys : List ℕ) → HasLine s ys → HasLine s (
 has_append_right s [] ys h = h
 has_append_right s (x ∷ xs) ys h = or_right (nat_eq x s) (list_any (λ z. nat_eq z s) (xs ++ ys)) (has_append_right s xs ys h)
 
+-- a number of a range stands in the list of the range
 pub has_number : (a n s : ℕ) → a ≤ s → s < a + n → HasLine s (numbers_from a n)
 has_number a zero s h k = absurd (omega arith)
 has_number a (suc n) s h k =
@@ -250,6 +264,7 @@ has_down (suc n) s h =
       | inr e ↦ or_right (nat_eq n s) (list_any (λ z. nat_eq z s) (numbers_down n)) (has_down n s (omega (arith, e)))
     ]
 
+-- a member that passes a test is a member of what the test keeps
 pub has_filter : (test : ℕ → Bool) (s : ℕ) (xs : List ℕ) → test s ≡ true → HasLine s xs → HasLine s (filter test xs)
 has_filter test s [] t h = absurd (false≢true h)
 has_filter test s (x ∷ xs) t h =
@@ -258,11 +273,13 @@ has_filter test s (x ∷ xs) t h =
       | inr e ↦ rw e (⊎_elim (λ k. absurd (both_ways (test x) e (ap test (eqb-true x s k) ∙ t))) (λ k. has_filter test s xs t k) (or_cases (nat_eq x s) (list_any (λ z. nat_eq z s) xs) h))
     ]
 
+-- a member of what is made of a member is a member of all that is made
 pub has_flat : (f : ℕ → List ℕ) (d s : ℕ) (ds : List ℕ) → HasLine d ds → HasLine s (f d) → HasLine s (flat_map f ds)
 has_flat f d s [] h k = absurd (false≢true h)
 has_flat f d s (x ∷ xs) h k =
     ⊎_elim (λ e. has_append_left s (f x) (flat_map f xs) (subst (λ z. HasLine s (f z)) (sym (eqb-true x d e)) k)) (λ e. has_append_right s (f x) (flat_map f xs) (has_flat f d s xs e k)) (or_cases (nat_eq x d) (list_any (λ z. nat_eq z d) xs) h)
 
+-- each broker has its place in the inward order
 pub has_inwards : (net : Net) (p b : ℕ) → IsNet net → p < net.publishers → b < net.brokers → HasLine b (inwards net p)
 has_inwards net p b n j i = has_flat (at_depth net p) (net.depth p b) b (numbers_down net.brokers) (has_down net.brokers (net.depth p b) (n.depth_in p b j i)) (has_filter (λ c. nat_eq (net.depth p c) (net.depth p b)) b (numbers net.brokers) (eq-eqb (net.depth p b) (net.depth p b) refl) (has_number 0 net.brokers b (omega arith) (omega arith)))
 

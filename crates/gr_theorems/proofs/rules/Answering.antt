@@ -41,12 +41,14 @@ SameLength (c ∷ cs) (w ∷ ws) = SameLength cs ws
 SameLength [] (w ∷ ws) = ⊥
 SameLength (c ∷ cs) [] = ⊥
 
+-- a true view has stored something of each child
 pub same_length : (net : Net) (f : Facts) (p : ℕ) (cs : List ℕ) (ws : List Wanted) → AllWantTruth net f p cs ws → SameLength cs ws
 same_length net f p [] [] a = tt
 same_length net f p [] (w ∷ ws) a = absurd a
 same_length net f p (c ∷ cs) [] a = absurd a
 same_length net f p (c ∷ cs) (w ∷ ws) a = same_length net f p cs ws a.1
 
+-- what is stored of a child is found at its place
 pub set_here : (cs : List ℕ) (ws : List Wanted) (c : ℕ) (x : Wanted) → SameLength cs ws → list_any (λ y. nat_eq y c) cs ≡ true → get_or (set ws (place_of c cs) x) (place_of c cs) [] ≡ x
 set_here [] ws c x l m = absurd (false≢true m)
 set_here (d ∷ cs) [] c x l m = absurd l
@@ -56,6 +58,7 @@ set_here (d ∷ cs) (w ∷ ws) c x l m =
       | inr e ↦ rw e (set_here cs ws c x l (subst (λ q. (q || list_any (λ y. nat_eq y c) cs) ≡ true) e m))
     ]
 
+-- two children have two places
 pub place_apart : (cs : List ℕ) (c d : ℕ) → list_any (λ y. nat_eq y c) cs ≡ true → list_any (λ y. nat_eq y d) cs ≡ true → (d ≢ c) → place_of d cs ≢ place_of c cs
 place_apart [] c d m k n = absurd (false≢true m)
 place_apart (x ∷ cs) c d m k n =
@@ -83,6 +86,7 @@ not_all_A (d ∷ cs) (w ∷ ws) c t l m h =
 pub not_settled : (net : Net) (f : Facts) (p b c t h : ℕ) (ws : List Wanted) → AllWantTruth net f p (net.children p b) ws → list_any (λ y. nat_eq y c) (net.children p b) ≡ true → is_A (wanted_at (get_or ws (place_of c (net.children p b)) []) t) ≡ false → is_consolidated_by (keeps_horizon net p b) h ws t ≡ false
 not_settled net f p b c t h ws a m n = ap (λ q. nat_le 1 t && is_reached (horizon_if (keeps_horizon net p b) h) t && q) (not_all_A (net.children p b) ws c t (same_length net f p (net.children p b) ws a) m n) ∙ and_right (nat_le 1 t && is_reached (horizon_if (keeps_horizon net p b) h) t) false refl
 
+-- what is stored of each child is true of it
 pub wants_true_at : (net : Net) (f : Facts) (p : ℕ) (cs : List ℕ) (ws : List Wanted) (c : ℕ) → AllWantTruth net f p cs ws → list_any (λ x. nat_eq x c) cs ≡ true → WantsTruth net f p c (get_or ws (place_of c cs) [])
 wants_true_at net f p [] ws c a m = absurd (false≢true m)
 wants_true_at net f p (d ∷ cs) [] c a m = absurd a
@@ -108,6 +112,7 @@ three_steady bottom g know w piece z r p = record {
   past = p;
 }
 
+-- the answer to a child has at each tick what the rule answers there
 pub answers-is : (net : Net) (p c : ℕ) (know : Known) (w piece : Wanted) → AreRuns Q know → AreRuns N piece → AreRunsOf Q (λ t. answer (pass net p c t (known_at know t)) (wanted_at w t) (wanted_at piece t)) (answers net p c know w piece)
 unfolding answers
 answers-is net p c know w piece k r =
@@ -116,6 +121,7 @@ answers-is net p c know w piece k r =
     (three_steady Q answer (passed net p c know) w piece (λ k a. refl) r (λ t n. ap (answer (known_at (passed net p c know) t) (wanted_at w t)) (value_at-past N piece t (IsPast-append t (points (passed net p c know) ++ points w) (points piece) n).1))) in
     record { runs = i.runs; same_at = λ t. i.same_at t ∙ ap (λ x. answer x (wanted_at w t) (wanted_at piece t)) (s.same_at t) }
 
+-- what is stored of a child has at each tick what the rule stores there
 pub stored-is : (know : Known) (w piece : Wanted) → AreRuns N w → AreRuns N piece → AreRunsOf N (λ t. curious (known_at know t) (wanted_at w t) (wanted_at piece t)) (stored know w piece)
 unfolding stored
 stored-is know w piece rw_ rp =
@@ -153,6 +159,7 @@ abbrev pub NoABody : ℕ → Body → Type 0
 NoABody t (body.Curiosity runs) = wanted_at runs t ≢ A
 NoABody t _ = Unit {0}
 
+-- the frame acknowledges nothing at the tick
 abbrev pub NoA : ℕ → Frame → Type 0
 NoA t f = NoABody t f.body
 
@@ -163,6 +170,7 @@ no_A_know t from to p runs = go (cut_frames known_run_size runs)
     go [] = tt
     go (x ∷ xs) = (tt, go xs)
 
+-- a piece without an acknowledgement at a tick goes up without one
 pub no_A_up : (net : Net) (t p b : ℕ) (runs : Wanted) → AreRuns N runs → wanted_at runs t ≢ A → Each (NoA t) (up_frames net p b runs)
 no_A_up net t p b runs a n = at (net.up p b)
   where
@@ -186,6 +194,7 @@ pub record SentUp (net : Net) (p b t : ℕ) (runs : Wanted) (f : Frame) : Type 0
   pub up : net.up p b ≡ Some f.head.to
   pub value : (wanted_at part t ≡ wanted_at runs t) ⊎ (wanted_at part t ≡ N)
 
+-- each frame that goes up has of a tick what the piece has, or nothing
 pub up_frames_sent : (net : Net) (t p b : ℕ) (runs : Wanted) → AreRuns N runs → Each (SentUp net p b t runs) (up_frames net p b runs)
 up_frames_sent net t p b runs a = at (net.up p b) refl
   where
@@ -239,6 +248,7 @@ up_asks_up net p b t now v runs n k (f ∷ fs) a = (
     N_not_C : N ≡ C → ⊥
     N_not_C e = cc
 
+-- what a child's curiosity does at each tick
 pub record CuriosityTicks (net : Net) (p b now c : ℕ) (piece : Wanted) (v : View) (o : Outcome) : Type 0 where
   pub answered : (t : ℕ) → wanted_at piece t ≡ C → wanted_at (wants_of net p b v c) t ≢ A → known_at v.know t ≢ Q → Has (TellsTick p b c t (pass net p c t (known_at v.know t))) o.frames
   pub told_F : (t : ℕ) → wanted_at piece t ≡ C → wanted_at (wants_of net p b v c) t ≡ A → Has (TellsTick p b c t F) o.frames
@@ -254,6 +264,7 @@ pub record CuriosityTicks (net : Net) (p b now c : ℕ) (piece : Wanted) (v : Vi
   pub horizon : o.view.horizon ≡ v.horizon
   pub know : (t : ℕ) → (known_at o.view.know t ≡ (if is_consolidated_by (keeps_horizon net p b) v.horizon o.view.wants t then F else known_at v.know t)) ⊎ ((known_at o.view.know t ≡ Q) × (is_host net p b ≡ false) × (keeps_horizon net p b ≡ true → t ≤ v.horizon))
 
+-- what is left to ask of a piece changes only at points of the piece and of the reply
 pub curiosity_wanted : (reply : Known) (piece : Wanted) → AreRuns N piece → IsWanted (λ t. is_C (wanted_at piece t) && is_Q (known_at reply t)) (points piece ++ points reply)
 curiosity_wanted reply piece r = record {
   start = ap (λ q. is_C q && is_Q (known_at reply 0)) (value_at-start N 1 piece 0 r (omega arith));
@@ -268,12 +279,15 @@ cases_K S h = h (λ e. cc)
 cases_K (D x) h = h (λ e. cc)
 cases_K F h = h (λ e. cc)
 
+-- the test for an unknown tick passes nothing else
 pub Q_is : (k : K) → is_Q k ≡ true → k ≡ Q
 Q_is Q e = refl
 Q_is S e = absurd (true≢false (sym e))
 Q_is (D x) e = absurd (true≢false (sym e))
 Q_is F e = absurd (true≢false (sym e))
 
+-- each tick that a child asks is answered where it is known, and else
+-- stored, and asked of the next broker up unless that is outstanding
 pub curiosity_ticks : (net : Net) (f : Facts) (p b now c : ℕ) (piece : Wanted) (v : View) (log : Log) → ViewTrue net f p b v → list_any (λ y. nat_eq y c) (net.children p b) ≡ true → WantsTruth net f p c piece →
     CuriosityTicks net p b now c piece v (curiosity net p b now c (place_of c (net.children p b)) piece v log)
 unfolding curiosity

@@ -35,10 +35,12 @@ by_turn g [] ws = []
 by_turn g (c ∷ cs) [] = []
 by_turn g (c ∷ cs) (w ∷ ws) = g c w ++ by_turn g cs ws
 
+-- frames made child by child are the same where they are the same for each child
 pub flat_map_same : (f g : ℕ → List Frame) (cs : List ℕ) → ((d : ℕ) → list_any (λ x. nat_eq x d) cs ≡ true → f d ≡ g d) → flat_map f cs ≡ flat_map g cs
 flat_map_same f g [] h = refl
 flat_map_same f g (c ∷ cs) h = ap₂ (λ x y. x ++ y) (h c (or_left (nat_eq c c) (list_any (λ x. nat_eq x c) cs) (eq-eqb c c refl))) (flat_map_same f g cs (λ d m. h d (or_right (nat_eq c d) (list_any (λ x. nat_eq x d) cs) m)))
 
+-- one that is not in a list differs from each in it
 pub apart : (c d : ℕ) (cs : List ℕ) → list_any (λ y. nat_eq y c) cs ≡ false → list_any (λ x. nat_eq x d) cs ≡ true → nat_eq c d ≡ false
 apart c d cs n m =
     elim (cases_Bool (nat_eq c d)) [
@@ -140,6 +142,7 @@ nothing_sent : (b c p : ℕ) (x : Known) → AreRuns Q x → ((t : ℕ) → know
 unfolding cut_frames
 nothing_sent b c p x r h = ap (know_frames b c p) (runs_equal Q 1 1 x [] r tt h)
 
+-- learning a piece obeys the rule of new ticks
 pub new_ticks_rule : (net : Net) (f : Facts) (p b : ℕ) (piece : Known) (v : View) (log : Log) → IsPlace net p b → IsDistinct (net.children p b) → ViewTrue net f p b v → KnowsTruth net f p b piece → NewTicks net p b piece v log (learn net p b piece v log)
 unfolding learn
 new_ticks_rule net f p b piece v log place distinct h k =
@@ -205,6 +208,7 @@ asks_rule net f p b now wanted ps more fs v log h w same =
     A_if true x = refl
     A_if false x = refl
 
+-- the wake of a broker below the host obeys the rule of asking
 pub wake_below_rule : (net : Net) (f : Facts) (p b now : ℕ) (v : View) (log : Log) → ViewTrue net f p b v → Asks net p b now (wanted_by_age net p b now v) [] v log (wake_below net p b now v log)
 unfolding wake_below asking
 wake_below_rule net f p b now v log h = asks_rule net f p b now (wanted_at_wake net (keeps_horizon net p b) now v) (wake_points net now v) [] (wake_below net p b now v log).frames v log h (wake_wanted net f p b now v h (keeps_horizon net p b)) (sym (append-nil (wake_below net p b now v log).frames))
@@ -266,6 +270,7 @@ bare_among w tick (p ∷ ps) n =
       | inr x ↦ bare_among w tick ps (sym (in_no w tick p ps x) ∙ n)
     ]
 
+-- an expectation is handed on to exactly those children that have not acknowledged all of it
 pub expects_on : (net : Net) (f : Facts) (p b tick : ℕ) (v : View) → IsDistinct (net.children p b) → AllWantTruth net f p (net.children p b) v.wants → SendsExpect net p b tick v (expect_frames p b tick (net.children p b) v.wants)
 expects_on net f p b tick v distinct a = record {
   done = λ c. covers (wants_from net p b v c) tick;
@@ -274,6 +279,7 @@ expects_on net f p b tick v distinct a = record {
   frames_are = expected_by_turn p b tick (net.children p b) v.wants ∙ turns_by_child (λ c w. if covers w tick then [] else expect_frame b c p tick ∷ []) (net.children p b) v.wants (same_length net f p (net.children p b) v.wants a) distinct;
 }
 
+-- receiving an expectation obeys its rule
 pub expects_rule : (net : Net) (f : Facts) (p b now tick : ℕ) (v : View) (log : Log) → IsDistinct (net.children p b) → ViewTrue net f p b v → Expects net p b now tick v log (expect net p b now tick v log)
 unfolding expect asking
 expects_rule net f p b now tick v log distinct h = record {
@@ -336,6 +342,7 @@ set_long [] i x = refl
 set_long (w ∷ ws) zero x = refl
 set_long (w ∷ ws) (suc i) x = ap suc (set_long ws i x)
 
+-- receiving a child's curiosity obeys its rule
 pub child_asks_rule : (net : Net) (f : Facts) (p b now c : ℕ) (piece : Wanted) (v : View) (log : Log) → ViewTrue net f p b v → IsChild net p b c → WantsTruth net f p c piece → ChildAsks net p b now c piece v log (curiosity net p b now c (place_of c (net.children p b)) piece v log)
 unfolding curiosity
 child_asks_rule net f p b now c piece v log h child wt = record {

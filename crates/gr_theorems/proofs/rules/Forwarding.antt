@@ -28,6 +28,7 @@ abbrev pub Has : {X : Type 0} → (X → Type 0) → List X → Type 0
 Has P [] = ⊥
 Has P (x ∷ xs) = P x ⊎ Has P xs
 
+-- one has a weaker property too
 pub Has-on : {X : Type 0} (P R : X → Type 0) (xs : List X) → ((x : X) → P x → R x) → Has P xs → Has R xs
 Has-on P R [] f h = absurd h
 Has-on P R (x ∷ xs) f h = ⊎_elim (λ y. inl (f x y)) (λ y. inr (Has-on P R xs f y)) h
@@ -36,10 +37,12 @@ pub Has-map : {X Y : Type 0} (P : X → Type 0) (R : Y → Type 0) (g : X → Y)
 Has-map P R g [] f h = absurd h
 Has-map P R g (x ∷ xs) f h = ⊎_elim (λ y. inl (f x y)) (λ y. inr (Has-map P R g xs f y)) h
 
+-- one of the first list is one of both
 pub Has-front : {X : Type 0} (P : X → Type 0) (xs ys : List X) → Has P xs → Has P (xs ++ ys)
 Has-front P [] ys h = absurd h
 Has-front P (x ∷ xs) ys h = ⊎_elim (λ y. inl y) (λ y. inr (Has-front P xs ys y)) h
 
+-- one of the second list is one of both
 pub Has-back : {X : Type 0} (P : X → Type 0) (xs ys : List X) → Has P ys → Has P (xs ++ ys)
 Has-back P [] ys h = h
 Has-back P (x ∷ xs) ys h = inr (Has-back P xs ys h)
@@ -73,10 +76,12 @@ unfolding cut_frames
 cut_frames_has bottom size t [] n = absurd (n refl)
 cut_frames_has bottom size t (r ∷ rs) n = cut_from_has bottom size (12 + size r) t (r ∷ []) rs
 
+-- the body is knowledge with this value at the tick
 abbrev pub TellsBody : ℕ → K → Body → Type 0
 TellsBody t k (body.Knowledge runs) = known_at runs t ≡ k
 TellsBody t k _ = ⊥
 
+-- the body is curiosity with this value at the tick
 abbrev pub WantsBody : ℕ → Q3 → Body → Type 0
 WantsBody t q (body.Curiosity runs) = wanted_at runs t ≡ q
 WantsBody t q _ = ⊥
@@ -95,6 +100,7 @@ pub record WantsTick (p from to t : ℕ) (q : Q3) (f : Frame) : Type 0 where
   pub publisher : f.head.publisher ≡ p
   pub body : WantsBody t q f.body
 
+-- each known tick of a piece is in one of the frames that it is cut into
 pub know_frames_tell : (p from to t : ℕ) (runs : Known) → known_at runs t ≢ Q → Has (TellsTick p from to t (known_at runs t)) (know_frames from to p runs)
 know_frames_tell p from to t runs n =
     Has-map (IsThere Q t runs) (TellsTick p from to t (known_at runs t)) (λ part. record { head = head from to p; body = body.Knowledge part }) (cut_frames known_run_size runs)
@@ -105,6 +111,7 @@ want_frames_want p from to t runs n =
     Has-map (IsThere N t runs) (WantsTick p from to t (wanted_at runs t)) (λ part. record { head = head from to p; body = body.Curiosity part }) (cut_frames wanted_run_size runs)
     (λ part e. record { from_is = refl; to_is = refl; publisher = refl; body = e }) (cut_frames_has N wanted_run_size t runs n)
 
+-- each tick that a piece asks or acknowledges is in one of the frames that go up
 pub up_frames_want : (net : Net) (p b u t : ℕ) (runs : Wanted) → net.up p b ≡ Some u → wanted_at runs t ≢ N → Has (WantsTick p b u t (wanted_at runs t)) (up_frames net p b runs)
 up_frames_want net p b u t runs e n = subst (λ x. Has (WantsTick p b u t (wanted_at runs t)) (elim x [ Some u ↦ want_frames b u p runs | None ↦ [] ])) (sym e) (want_frames_want p b u t runs n)
 
@@ -121,11 +128,13 @@ pass_not_Q net p c t (D e) h = go (wanted_below net p c t e)
     go true = λ x. cc
     go false = λ x. cc
 
+-- what is no acknowledgement does not pass the test for one
 pub not_A : (q : Q3) → q ≢ A → is_A q ≡ false
 not_A N h = refl
 not_A C h = refl
 not_A A h = absurd (h refl)
 
+-- an unknown tick passes the test for one
 pub is_Q_of : (k : K) → k ≡ Q → is_Q k ≡ true
 is_Q_of k e = ap is_Q e
 
@@ -177,6 +186,7 @@ forward_quenches net f p c t new (d ∷ cs) (w ∷ ws) a r m =
 abbrev pub known_then : Net → ℕ → ℕ → Known → View → View → ℕ → K
 known_then net p b piece v u t = if is_consolidated_by (keeps_horizon net p b) u.horizon u.wants t then F else join_K (known_at v.know t) (known_at piece t)
 
+-- what learning a piece does at each tick
 pub record LearnTicks (net : Net) (p b : ℕ) (piece : Known) (v : View) (o : Outcome) : Type 0 where
   pub forwarded : (c t : ℕ) → list_any (λ x. nat_eq x c) (net.children p b) ≡ true → known_at v.know t ≡ Q → known_at piece t ≢ Q → wanted_at (wants_of net p b v c) t ≢ A → Has (TellsTick p b c t (pass net p c t (known_at piece t))) o.frames
   pub wants : (c t : ℕ) → list_any (λ x. nat_eq x c) (net.children p b) ≡ true → wanted_at (wants_of net p b o.view c) t ≡ quenched_at net p c t (if is_Q (known_at v.know t) then known_at piece t else Q) (wanted_at (wants_of net p b v c) t)
@@ -184,6 +194,8 @@ pub record LearnTicks (net : Net) (p b : ℕ) (piece : Known) (v : View) (o : Ou
   pub asks : (t : ℕ) → known_at o.view.know t ≡ Q → asked_at o.view.asks t ≡ asked_at v.asks t
   pub know : (t : ℕ) → (known_at o.view.know t ≡ known_then net p b piece v o.view t) ⊎ ((known_at o.view.know t ≡ Q) × (is_host net p b ≡ false) × (keeps_horizon net p b ≡ true → t ≤ o.view.horizon))
 
+-- each new tick goes on to each child that has not acknowledged it and ends its question;
+-- the horizon moves on, and with a kept horizon only what it has passed is forgotten
 pub learn_ticks : (net : Net) (f : Facts) (p b : ℕ) (piece : Known) (v : View) (log : Log) → IsPlace net p b → ViewTrue net f p b v → KnowsTruth net f p b piece → LearnTicks net p b piece v (learn net p b piece v log)
 unfolding learn
 learn_ticks net f p b piece v log place h k =
@@ -215,6 +227,7 @@ learn_ticks net f p b piece v log place h k =
     F_if true x = refl
     F_if false x = refl
 
+-- where something new was learned of a tick, no question stays
 pub quench_not_C : (net : Net) (p c t : ℕ) (k : K) (q : Q3) → k ≢ Q → quenched_at net p c t k q ≢ C
 quench_not_C net p c t k N h = λ e. cc
 quench_not_C net p c t k A h = λ e. cc

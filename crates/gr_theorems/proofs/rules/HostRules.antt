@@ -195,6 +195,7 @@ host_wakes_rule net p b now v log reached n quiet i j host fit h =
       view_same = refl;
     }
 
+-- each wake obeys its rule
 pub wakes_rule : (net : Net) (p b now : ℕ) (v : View) (log : Log) (reached : ℕ → ℕ) → IsNet net → 1 ≤ net.quiet → p < net.publishers → b < net.brokers → LogFits log → ViewTrue net (facts log reached) p b v → Wakes net p b now v log (wake net p b now v log)
 unfolding wake
 wakes_rule net p b now v log reached n quiet i j fit h = record {
@@ -204,6 +205,7 @@ wakes_rule net p b now v log reached n quiet i j fit h = record {
 
 -- A publish
 
+-- each publish at its host obeys its rule
 pub publishes_rule : (net : Net) (p b now number : ℕ) (e : Event) (v : View) (log : Log) (reached : ℕ → ℕ) → IsNet net → p < net.publishers → b < net.brokers → is_host net p b ≡ true → LogFits log → ViewTrue net (facts log reached) p b v → Publishes net p b now number e v log (publish net p b now number e v log)
 unfolding publish published
 publishes_rule net p b now number e v log reached n i j host fit h =
@@ -226,6 +228,7 @@ publishes_rule net p b now number e v log reached n i j host fit h =
 
 -- A frame
 
+-- the receipt of each true frame obeys its rule
 pub comes_rule : (net : Net) (now : ℕ) (f : Frame) (v : View) (log : Log) (reached : ℕ → ℕ) → IsNet net → f.head.publisher < net.publishers → FrameFits net f.head.publisher f → BodyTrue net (facts log reached) f.head.publisher f.head.from f.head.to f.body → ViewTrue net (facts log reached) f.head.publisher f.head.to v →
     Comes net f.head.publisher f.head.from f.head.to now f.body v log (receive net now f v log)
 unfolding receive

@@ -1,4 +1,5 @@
--- What one delivery of a Curiosity frame does for a tick that it asks
+-- Each tick that a delivered Curiosity frame asks is answered, or stored
+-- and, below the host, asked on, since its receiver obeys the rule
 use Rattle.std.proofs.Common.{◌≡◌, ◌≢◌, ◌⊎◌, inl, inr, ⊎_elim, ℕ, true, false, List, [], ◌∷◌, ◌++◌, length, refl, sym, ap, ◌∙◌, subst, Some}
 use Rattle.std.specs.Prelude.{nat_eq, if◌then◌else◌}
 use Rattle.std.specs.List.{list_any}
@@ -25,6 +26,7 @@ use Rattle.gr_theorems.proofs.rules.Forwarding.{Has, Has-on, TellsTick, WantsTic
 use Rattle.gr_theorems.proofs.rules.Answering.{CuriosityTicks, curiosity_ticks, not_settled}
 use Rattle.gr_curio.specs.declared.asks.Moment.TheVariants.{At}
 
+-- the frames past those sent before are those sent since
 pub frames_past_all : (xs ys : List Frame) → frames_past (length xs) (xs ++ ys) ≡ ys
 frames_past_all [] ys = refl
 frames_past_all (x ∷ xs) ys = frames_past_all xs ys
@@ -38,6 +40,7 @@ want_body t q (body.Knowledge runs) h = absurd h
 want_body t q (body.Curiosity runs) h = (runs, refl, h)
 want_body t q (body.Expect tick) h = absurd h
 
+-- receiving a Curiosity frame is the call for its sender's curiosity
 pub receive_curiosity : (net : Net) (now : ℕ) (f : Frame) (runs : Wanted) (v : View) (log : Log) → f.body ≡ body.Curiosity runs → receive net now f v log ≡ curiosity net f.head.publisher f.head.to now f.head.from (place_of f.head.from (net.children f.head.publisher f.head.to)) runs v log
 unfolding receive
 receive_curiosity net now f runs v log e = rw e refl
@@ -58,6 +61,7 @@ pub record AsksOn (net : Net) (w y : World) (p u t : ℕ) : Type 0 where
   pub noted : asked_at (view_of y u p).asks t ≡ At w.clock
   pub before : (asked_at (view_of w u p).asks t ≡ At w.clock) ⊎ ((x : ℕ) → net.up p u ≡ Some x → Has (WantsTick p u x t C) (sent_since w y))
 
+-- a tick that a child asked was sent to it as known; or its question is stored, at the host, or asked on
 abbrev pub Served : Net → World → World → ℕ → ℕ → ℕ → ℕ → Type 0
 Served net w y p u c t = Has (TellsKnown p u c t) (sent_since w y) ⊎ (Stores net y p u c t × ((is_host net p u ≡ true) ⊎ AsksOn net w y p u t))
 
@@ -75,6 +79,7 @@ Q_of F e = absurd (true≢false (sym e))
 F_not_Q : F ≡ Q → ⊥
 F_not_Q e = cc
 
+-- a frame that tells a known value of a tick knows the tick
 pub known_of : (p u c t : ℕ) (k : K) (fs : List Frame) → k ≢ Q → Has (TellsTick p u c t k) fs → Has (TellsKnown p u c t) fs
 known_of p u c t k fs n h = Has-on (TellsTick p u c t k) (TellsKnown p u c t) fs (λ f y. record { value = k; known = n; tells = y }) h
 

@@ -32,6 +32,7 @@ now_none m retry e = absurd (false≢true e)
 now_now : (m retry : ℕ) → IsNow m retry (At m)
 now_now m retry e = refl
 
+-- in a sweep an outstanding ask is one of the sweep's own moment
 pub asked_now : (net : Net) (m p b t : ℕ) (w : World) → AsksNow net m w → p < net.publishers → b < net.brokers → is_outstanding (asked_at (view_of w b p).asks t) m net.retry ≡ true → asked_at (view_of w b p).asks t ≡ At m
 asked_now net m p b t w a i j = value_at-all Never (IsNow m net.retry) (view_of w b p).asks t (now_none m net.retry) (a.asks p b i j)
 

@@ -22,6 +22,7 @@ pub record Both (net : Net) (P : World → Transition → Type 0) (w : World) (t
 both_after : (net : Net) (P : World → Transition → Type 0) (w : World) (t : Transition) (f : World → Transition) → Chains net P → WorldFits net w → Both net P w t → Both net P t.world (f t.world) → Both net P w (followed_by t f)
 both_after net P w t f c g a k = record { kept = Kept-after net w t f a.kept k.kept; holds = c.seq w t f g a.kept a.holds k.kept k.holds }
 
+-- what chains keep, and each single turn has, holds of all turns one after another
 pub in_turn_both : {X : Type 0} (net : Net) (P : World → Transition → Type 0) (ok : World → X → Type 0) (f : World → X → Transition) → Chains net P → ((w u : World) (x : X) → IsLaterWorld net w u → ok w x → ok u x) → ((w : World) (x : X) → WorldFits net w → ok w x → Both net P w (f w x)) →
     (xs : List X) (w : World) → WorldFits net w → Each (ok w) xs → Both net P w (in_turn f xs w)
 in_turn_both {X} net P ok f c stays one [] w fit a = record { kept = Kept-refl net w fit; holds = c.nil w fit }
@@ -39,6 +40,7 @@ wake_for_both net P w b p c n f i j = record { kept = wake_for_kept net w b p n 
 deliver_both : (net : Net) (P : World → Transition → Type 0) (w : World) (x : Frame) → Chains net P → IsNet net → WorldFits net w → FrameTrue net w x → Both net P w (deliver_frame net w x)
 deliver_both net P w x c n f t = record { kept = deliver_kept net w x n f t; holds = c.deliver w x f t }
 
+-- what chains keep holds of waking a broker for all publishers
 pub wake_all_chain : (net : Net) (P : World → Transition → Type 0) (w : World) (b : ℕ) → Chains net P → IsNet net → WorldFits net w → b < net.brokers → Both net P w (wake_all net w b)
 unfolding wake_all_by
 wake_all_chain net P w b c n f i = in_turn_both net P (λ u p. p < net.publishers) (λ u p. wake_for net u b p) c (λ w u p l h. h) (λ u p g h. wake_for_both net P u b p c n g i h) (numbers net.publishers) w f (numbers_below 0 net.publishers net.publishers (omega arith))
@@ -63,6 +65,7 @@ hand_down_both : (net : Net) (P : World → Transition → Type 0) (p first : �
 unfolding hand_down_by
 hand_down_both net P p first w b c n f = in_turn_both net P (FrameTrue net) (deliver_frame net) c (FrameTrue-later net) (λ u x g t. deliver_both net P u x c n g t) (filter (is_know_to p b) (frames_past first w.frames)) w f (filter_frames net w (is_know_to p b) (frames_past first w.frames) (frames_past_true net w first w.frames f.frames))
 
+-- what chains keep holds of the sweep of one publisher
 pub sweep_for_chain : (net : Net) (P : World → Transition → Type 0) (w : World) (p : ℕ) → Chains net P → IsNet net → WorldFits net w → p < net.publishers → Both net P w (sweep_for net w p)
 unfolding sweep_for_by
 sweep_for_chain net P w p c n f j =
@@ -74,6 +77,7 @@ sweep_for_chain net P w p c n f j =
     let d = up w2 b.kept.fits in
     both_after net P w (followed_by (in_turn (wake_up net p) (inwards net p) w) (in_turn (hand_down net p (length w.frames)) (outwards net p))) (in_turn (wake_up net p) (inwards net p)) c f (both_after net P w (in_turn (wake_up net p) (inwards net p) w) (in_turn (hand_down net p (length w.frames)) (outwards net p)) c f a b) d
 
+-- what chains keep holds of the sweeps of all publishers, one after another
 pub sweeps_chain : (net : Net) (P : World → Transition → Type 0) (w : World) → Chains net P → IsNet net → WorldFits net w → Both net P w (in_turn (sweep_for net) (numbers net.publishers) w)
 sweeps_chain net P w c n f = in_turn_both net P (λ x p. p < net.publishers) (sweep_for net) c (λ x y p l h. h) (λ x p g h. sweep_for_chain net P x p c n g h) (numbers net.publishers) w f (numbers_below 0 net.publishers net.publishers (omega arith))
 

@@ -22,6 +22,7 @@ use Rattle.gr_theorems.proofs.runs.Schedules.{next_kept, start_fits, clocked_fit
 abbrev pub clocked : World → ℕ → ℕ → World
 clocked w now most = record { clock = now; most = most; frames = w.frames; views = w.views; logs = w.logs }
 
+-- the world with other logs
 abbrev pub with_logs : World → List Log → World
 with_logs w logs = record { clock = w.clock; most = w.most; frames = w.frames; views = w.views; logs = logs }
 
@@ -43,6 +44,7 @@ pub record Goes (net : Net) (P : World → Type 0) (w : World) (t : Transition) 
   pub kept : Kept net w t
   pub holds : P t.world
 
+-- what goes on fitting through one part of a step and then another does so through both
 pub Goes-after : (net : Net) (P : World → Type 0) (w : World) (t : Transition) (f : World → Transition) → Goes net P w t → Goes net P t.world (f t.world) → Goes net P w (followed_by t f)
 Goes-after net P w t f a k = record { kept = Kept-after net w t f a.kept k.kept; holds = k.holds }
 
@@ -50,6 +52,7 @@ Goes-after net P w t f a k = record { kept = Kept-after net w t f a.kept k.kept;
 abbrev pub IsReady : Net → (Frame → Type 0) → World → Frame → Type 0
 IsReady net R w f = FrameTrue net w f × R f
 
+-- it does so through all turns, one after another
 pub in_turn_goes : {X : Type 0} (net : Net) (P : World → Type 0) (ok : World → X → Type 0) (f : World → X → Transition) → ((w u : World) (x : X) → IsLaterWorld net w u → ok w x → ok u x) → ((w : World) (x : X) → WorldFits net w → P w → ok w x → Goes net P w (f w x)) →
     (xs : List X) (w : World) → WorldFits net w → P w → Each (ok w) xs → Goes net P w (in_turn f xs w)
 in_turn_goes {X} net P ok f stays one [] w fit h a = record { kept = Kept-refl net w fit; holds = h }
@@ -61,11 +64,13 @@ in_turn_goes {X} net P ok f stays one (x ∷ xs) w fit h a =
     all_stay [] b l = tt
     all_stay (y ∷ ys) b l = (stays w (f w x).world y l b.0, all_stay ys b.1 l)
 
+-- what holds of each frame holds of each past the first few
 pub Each-past : (R : Frame → Type 0) (n : ℕ) (fs : List Frame) → Each R fs → Each R (frames_past n fs)
 Each-past R zero fs a = a
 Each-past R (suc n) [] a = tt
 Each-past R (suc n) (f ∷ fs) a = Each-past R n fs a.1
 
+-- what holds of each holds of each that passes a test
 pub Each-kept : {X : Type 0} (P : X → Type 0) (test : X → Bool) (xs : List X) → Each P xs → Each P (filter test xs)
 Each-kept P test [] a = tt
 Each-kept P test (x ∷ xs) a =
@@ -74,6 +79,7 @@ Each-kept P test (x ∷ xs) a =
       | inr e ↦ rw e (Each-kept P test xs a.1)
     ]
 
+-- two properties of each are one of both
 pub Each-both : {X : Type 0} (P R : X → Type 0) (xs : List X) → Each P xs → Each R xs → Each (λ x. P x × R x) xs
 Each-both P R [] a b = tt
 Each-both P R (x ∷ xs) a b = ((a.0, b.0), Each-both P R xs a.1 b.1)
@@ -103,6 +109,7 @@ deliver_up_goes net R P (suc fuel) fs w n c f h a =
     length_of : World → ℕ
     length_of u = length u.frames
 
+-- what calls keep is kept by a wake with the upward deliveries that follow it
 pub wake_up_goes : (net : Net) (R : Frame → Type 0) (P : World → Type 0) (p : ℕ) (w : World) (b : ℕ) → IsNet net → IsCallClosed net R P → WorldFits net w → P w → b < net.brokers → p < net.publishers → Goes net P w (wake_up net p w b)
 unfolding wake_up_by
 wake_up_goes net R P p w b n c f h i j =
@@ -110,10 +117,12 @@ wake_up_goes net R P p w b n c f h i j =
     let y = (wake_for net w b p).world in
     Goes-after net P w (wake_for net w b p) (λ u. deliver_up net net.brokers (filter is_want (sent_since w u)) u) k (deliver_up_goes net R P net.brokers (filter is_want (sent_since w y)) y n c k.kept.fits k.holds (ready net R P y (length w.frames) is_want c k.kept.fits k.holds))
 
+-- what calls keep is kept by a broker's turn in the second phase
 pub hand_down_goes : (net : Net) (R : Frame → Type 0) (P : World → Type 0) (p first : ℕ) (w : World) (b : ℕ) → IsNet net → IsCallClosed net R P → WorldFits net w → P w → Goes net P w (hand_down net p first w b)
 unfolding hand_down_by
 hand_down_goes net R P p first w b n c f h = in_turn_goes net P (IsReady net R) (deliver_frame net) (ready_later net R) (λ u x g k r. deliver_goes net R P u x n c g k r) (filter (is_know_to p b) (frames_past first w.frames)) w f h (ready net R P w first (is_know_to p b) c f h)
 
+-- what calls keep is kept by the sweep of one publisher
 pub sweep_for_goes : (net : Net) (R : Frame → Type 0) (P : World → Type 0) (w : World) (p : ℕ) → IsNet net → IsCallClosed net R P → WorldFits net w → P w → p < net.publishers → Goes net P w (sweep_for net w p)
 unfolding sweep_for_by
 sweep_for_goes net R P w p n c f h j =
@@ -125,6 +134,7 @@ sweep_for_goes net R P w p n c f h j =
     let d = up w2 b.kept.fits b.holds in
     Goes-after net P w (followed_by (in_turn (wake_up net p) (inwards net p) w) (in_turn (hand_down net p (length w.frames)) (outwards net p))) (in_turn (wake_up net p) (inwards net p)) (Goes-after net P w (in_turn (wake_up net p) (inwards net p) w) (in_turn (hand_down net p (length w.frames)) (outwards net p)) a b) d
 
+-- what calls keep is kept by waking a broker for all publishers
 pub wake_all_goes : (net : Net) (R : Frame → Type 0) (P : World → Type 0) (w : World) (b : ℕ) → IsNet net → IsCallClosed net R P → WorldFits net w → P w → b < net.brokers → Goes net P w (wake_all net w b)
 unfolding wake_all_by
 wake_all_goes net R P w b n c f h i = in_turn_goes net P (λ u p. p < net.publishers) (λ u p. wake_for net u b p) (λ w u p l h. h) (λ u p g k h. wake_for_goes net R P u b p n c g k i h) (numbers net.publishers) w f h (numbers_below 0 net.publishers net.publishers (omega arith))
@@ -155,6 +165,7 @@ frame_ready R (x ∷ xs) zero f a e = subst R (some_some x f e) a.0
     some_some x f e = cc
 frame_ready R (x ∷ xs) (suc k) f a e = frame_ready R xs k f a.1 e
 
+-- what holds of each frame sent holds of the one with a number
 pub frame_at_ready : (R : Frame → Type 0) (w : World) (k : ℕ) (f : Frame) → Each R w.frames → frame_at w k ≡ Some f → R f
 frame_at_ready R w zero f a e = absurd (none_some f e)
   where
@@ -192,6 +203,7 @@ publish_stopped_holds net R P w k p number stop e n c f h j = host_at (not_empty
     host_at true = h
     host_at false = number_at (nat_eq number (suc log.last) && nat_le tick max_tick)
 
+-- what each call, clock and restart keeps is kept by each step
 pub next_holds : (net : Net) (R : Frame → Type 0) (P : World → Type 0) (w : World) (l : Line) → IsNet net → IsClosed net R P → WorldFits net w → P w → StepIn net l.step → P (next net w l).world
 unfolding next_by crash
 next_holds net R P w l n c f h i = go l.step i
@@ -231,6 +243,7 @@ next_holds net R P w l n c f h i = go l.step i
     go step.Show x = h
     go (step.Bytes k) x = bytes_at k (frame_at w k)
 
+-- what each call, clock and restart keeps is kept by every run of steps
 pub run_holds : (net : Net) (R : Frame → Type 0) (P : World → Type 0) (w : World) (ls : List Line) → IsNet net → IsClosed net R P → WorldFits net w → P w → StepsIn net ls → P (run_all net w ls).world
 run_holds net R P w [] n c f h i = h
 run_holds net R P w (l ∷ ls) n c f h i = run_holds net R P (next net w l).world ls n c (next_kept net w l n f i.0).fits (next_holds net R P w l n c f h i.0) i.1

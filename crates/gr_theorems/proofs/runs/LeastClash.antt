@@ -25,6 +25,7 @@ as_none false e = refl
 clashes_are : (know piece : Known) → AreRuns Q know → AreRuns Q piece → AreRunsOf N (λ t. if clash_K (known_at know t) (known_at piece t) then A else N) (clash_runs know piece)
 clashes_are know piece h i = zip_runs-is Q Q N same_Q3 Q3_decides (λ k x. if clash_K k x then A else N) know piece refl h i
 
+-- the tick of a clash is the least at which what is known and what comes clash, with what each says there
 pub clash_is_least : (know piece : Known) (t : ℕ) → AreRuns Q know → AreRuns Q piece → first_of (clash_runs know piece) ≡ Some t → IsLeastClash (known_at know) (known_at piece) t (known_at know t) (known_at piece t)
 clash_is_least know piece t h i e = go (clash_runs know piece) (clashes_are know piece h i) e
   where
@@ -47,6 +48,7 @@ clash_is_least know piece t h i e = go (clash_runs know piece) (clashes_are know
           least = λ u x y. as_none (clash_K (known_at know u) (known_at piece u)) (sym (z.same_at u) ∙ (value_at-below N r rs u (omega (arith, y, at)) ∙ value_at-start N _ rs u a.4 (omega (arith, y, at, a.1))));
         }
 
+-- where no clash is found, what is known and what comes clash at no tick
 pub none_clashes : (know piece : Known) → AreRuns Q know → AreRuns Q piece → first_of (clash_runs know piece) ≡ None → (t : ℕ) → clash_K (known_at know t) (known_at piece t) ≡ false
 none_clashes know piece h i e t = go (clash_runs know piece) (clashes_are know piece h i) e
   where

@@ -36,6 +36,7 @@ use Rattle.gr_theorems.proofs.runs.Worlds.{Kept, Kept-after, Kept-still, Kept-re
 
 -- What a log says
 
+-- a logged event as knowledge: data, and else silence
 abbrev pub said_value : Option Event → K
 said_value None = S
 said_value (Some e) = D e
@@ -53,6 +54,7 @@ event_at-step : (events : List (ℕ × Event)) (t : ℕ) → IsNone (suc t) (eve
 event_at-step [] t n = refl
 event_at-step (x ∷ xs) t n = rw (ne_eqb x.0 (suc t) (λ e. n.0 (sym e)), ne_eqb x.0 t (λ e. n.1.0 (ap suc (sym e)))) (event_at-step xs t n.1.1)
 
+-- what is known by a log has at each tick what the log says there
 pub log_know-is : (log : Log) → AreRunsOf Q (log_at log) (log_know log)
 unfolding log_know
 log_know-is log =
@@ -100,6 +102,7 @@ no_wants net f p (c ∷ cs) = (record { runs = tt; each = λ t e. absurd (N_not_
     N_not_A : N ≡ A → ⊥
     N_not_A e = cc
 
+-- a broker that starts from its log has a true view
 pub started_true : (net : Net) (log : Log) (reached : ℕ → ℕ) (p b : ℕ) → (is_host net p b ≡ true → CutTrue net (facts log reached) p b log.cut) → ViewTrue net (facts log reached) p b (started net p b log)
 unfolding started
 started_true net log reached p b c = record {
@@ -113,6 +116,7 @@ started_true net log reached p b c = record {
     know_at true e = KnowsTruth-by net (facts log reached) p b (log_at log) (log_know log) (log_know-is log) (λ t. log_true net log reached p b t e (c e))
     know_at false e = record { runs = tt; each = λ t. tt }
 
+-- a host that starts from its log knows each tick that is settled
 pub started_known : (net : Net) (log : Log) (p b : ℕ) → is_host net p b ≡ true → HostKnows (started net p b log) log.settled
 unfolding started
 started_known net log p b host = λ t x y. rw host (λ e. log_knows log t x y (sym ((log_know-is log).same_at t) ∙ e))
@@ -185,11 +189,13 @@ restarts_kept net w u b more n f i r silent =
       lines = λ ls m. silent_lines net u ls more silent (restarts_lines net w u b ls n f r m);
     }
 
+-- the one at a place of what is made of a range of numbers is what is made of the number there
 pub get_numbers : {X : Type 0} (g : ℕ → X) (a n i : ℕ) (d : X) → i < n → get_or (map g (numbers_from a n)) i d ≡ g (a + i)
 get_numbers g a zero i d h = absurd (omega arith)
 get_numbers g a (suc n) zero d h = ap g (omega arith)
 get_numbers g a (suc n) (suc i) d h = get_numbers g (suc a) n i d (omega arith) ∙ ap g (omega arith)
 
+-- as many are made of a range of numbers as it has
 pub length_numbers : {X : Type 0} (g : ℕ → X) (a n : ℕ) → length (map g (numbers_from a n)) ≡ n
 length_numbers g a zero = refl
 length_numbers g a (suc n) = ap suc (length_numbers g (suc a) n)
@@ -241,6 +247,7 @@ opened_silent net logs b s q = go (numbers net.publishers)
 silent_on : (l : Report) (ls : List Report) → Silent (l ∷ []) → Silent ls → Silent (l ∷ ls)
 silent_on l ls a b s q = Neutral-append s q (l ∷ []) ls (a s q) (b s q)
 
+-- the crash of a broker without subscribers keeps the world fitting
 pub crash_kept : (net : Net) (w : World) (b : ℕ) → IsNet net → WorldFits net w → b < net.brokers → not_empty (net.subscribers_at b) ≡ false → Kept net w (crash net w b)
 unfolding crash
 crash_kept net w b n f i no_one = restarts_kept net w (restarted net w b) b (line.Crashed b ∷ opened_lines net w.logs b) n f i (restarted_is net w w.logs b f i no_one f.logs (λ q x. le_refl (log_of w q).settled) (λ q t x y. refl) (λ q x. refl) (λ q x e. refl) f.logs_long) (silent_on (line.Crashed b) (opened_lines net w.logs b) (λ s q. record { got = refl; horizon = λ n. refl; rise = λ n. tt }) (opened_silent net w.logs b))
@@ -276,6 +283,7 @@ kept_restart net w p tick e more silent n f j no_one l =
     later_tick : (q t : ℕ) → q ≡ p → t ≤ (log_of w q).settled → t ≡ tick → ⊥
     later_tick q t g y h = omega (arith, subst (λ z. t ≤ (log_of w z).settled) g y)
 
+-- a stopped publish keeps the world fitting
 pub publish_stopped_kept : (net : Net) (w : World) (k p number : ℕ) (stop : Stop) (e : Event) → IsNet net → WorldFits net w → p < net.publishers → Kept net w (publish_stopped net w k p number stop e)
 unfolding publish_stopped_by
 publish_stopped_kept net w k p number stop e n f j = host_at (not_empty (net.subscribers_at (net.host p))) refl
@@ -330,6 +338,7 @@ clocked_fits net w clock most f = record { views_long = f.views_long; rows_long 
 from_clock : (net : Net) (w : World) (clock most : ℕ) (t : Transition) → Kept net (record { clock = clock; most = most; frames = w.frames; views = w.views; logs = w.logs }) t → Kept net w t
 from_clock net w clock most t k = record { fits = k.fits; later = k.later; lines = λ ls l. k.lines ls (record { got = l.got; horizon = l.horizon; rise = l.rise }) }
 
+-- a sweep keeps the world fitting
 pub sweep_kept : (net : Net) (w : World) (k : ℕ) → IsNet net → WorldFits net w → Kept net w (sweep net w k)
 unfolding sweep_by
 sweep_kept net w k n f = go (nat_lt max_tick m)
@@ -380,6 +389,7 @@ frame_of net w (x ∷ xs) zero f a e = subst (λ y. FrameTrue net w y) (some_som
     some_some x f e = cc
 frame_of net w (x ∷ xs) (suc k) f a e = frame_of net w xs k f a.1 e
 
+-- the frame with a number is one that was sent, so what it says is true
 pub frame_at_true : (net : Net) (w : World) (k : ℕ) (f : Frame) → WorldFits net w → frame_at w k ≡ Some f → FrameTrue net w f
 frame_at_true net w zero f g e = absurd (none_some f e)
   where
@@ -387,6 +397,7 @@ frame_at_true net w zero f g e = absurd (none_some f e)
     none_some f e = cc
 frame_at_true net w (suc k) f g e = frame_of net w w.frames k f g.frames e
 
+-- each step keeps the world fitting, and only goes on from its facts
 pub next_kept : (net : Net) (w : World) (l : Line) → IsNet net → WorldFits net w → StepIn net l.step → Kept net w (next net w l)
 unfolding next_by
 next_kept net w l n f i = go l.step i
@@ -431,6 +442,7 @@ next_kept net w l n f i = go l.step i
 empty_fits : LogFits empty_log
 empty_fits = record { rise = tt; past = λ t x. refl; cut = le_refl 0 }
 
+-- at the start each view is that of a broker that starts from an empty log
 pub start_is : (net : Net) (b q : ℕ) → b < net.brokers → q < net.publishers → view_of (start net) b q ≡ started net q b empty_log
 unfolding start
 start_is net b q i j =
@@ -438,6 +450,7 @@ start_is net b q i j =
     ap (λ row. get_or row q blank_view) (get_numbers (λ c. map (g c) (numbers net.publishers)) 0 net.brokers b [] i)
     ∙ (get_numbers (g (0 + b)) 0 net.publishers q blank_view j ∙ ap₂ (λ c p. started net p c empty_log) (omega arith) (omega arith))
 
+-- at the start each log is empty
 pub start_log : (net : Net) (q : ℕ) → q < net.publishers → log_of (start net) q ≡ empty_log
 unfolding start
 start_log net q j = get_numbers (λ p. empty_log) 0 net.publishers q empty_log j
@@ -459,6 +472,7 @@ start_shape net =
       frames = refl;
     }
 
+-- the world at the start fits
 pub start_fits : (net : Net) → IsNet net → WorldFits net (start net)
 start_fits net n =
     let s = start_shape net in
@@ -497,6 +511,7 @@ start_reached : (net : Net) (p s : ℕ) → p < net.publishers → IsSubscriber 
 unfolding started
 start_reached net p s j y = reached_here net (start net) p s y ∙ ap (λ v. v.horizon) (start_is net (net.at s) p y.at_in j)
 
+-- at the start no line has told anything, and nothing is reached
 pub start_lines : (net : Net) → LinesFit net (start net) []
 start_lines net = record {
   got = λ p s j y. sym (ap₂ (λ h l. due_upto net p s h l.events) (start_reached net p s j y) (start_log net p j));
@@ -504,5 +519,6 @@ start_lines net = record {
   rise = λ p s j y. tt;
 }
 
+-- over every schedule each subscriber got what is due up to its horizon
 pub lines_always : (net : Net) (ls : List Line) → IsNet net → StepsIn net ls → LinesFit net (run_all net (start net) ls).world (run_all net (start net) ls).lines
 lines_always net ls n i = (run_kept net (start net) ls n (start_fits net n) i).lines [] (start_lines net)

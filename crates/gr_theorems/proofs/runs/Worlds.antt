@@ -48,6 +48,7 @@ BodyTrue-later net f g p from to (body.Knowledge runs) l h = KnowsTruth-later ne
 BodyTrue-later net f g p from to (body.Curiosity runs) l h = WantsTruth-later net f g p from runs l h
 BodyTrue-later net f g p from to (body.Expect tick) l h = le_trans h l.settled
 
+-- frames that are true stay true as more is logged and subscribers come on
 pub frames_later : (net : Net) (w u : World) (fs : List Frame) → ((q : ℕ) → q < net.publishers → IsLater (facts_of net w q) (facts_of net u q)) → AllFramesTrue net w fs → AllFramesTrue net u fs
 frames_later net w u [] l a = tt
 frames_later net w u (f ∷ fs) l a = (record { publisher_in = a.0.publisher_in; fits = a.0.fits; told = BodyTrue-later net (facts_of net w f.head.publisher) (facts_of net u f.head.publisher) f.head.publisher f.head.from f.head.to f.body (l f.head.publisher a.0.publisher_in) a.0.told }, frames_later net w u fs l a.1)
@@ -78,6 +79,7 @@ pub record Changed (net : Net) (w u : World) (b p : ℕ) (o : Outcome) : Type 0 
   pub other_publisher : (c q : ℕ) → q ≢ p → view_of u c q ≡ view_of w c q
   pub other_log : (q : ℕ) → q ≢ p → log_of u q ≡ log_of w q
 
+-- putting an outcome in place changes one view and one log, and adds the frames
 pub absorbed_changed : (net : Net) (w : World) (b p : ℕ) (o : Outcome) → WorldFits net w → b < net.brokers → p < net.publishers → Changed net w (absorbed w b p o).world b p o
 unfolding absorbed
 absorbed_changed net w b p o f i j =
@@ -94,6 +96,7 @@ absorbed_changed net w b p o f i j =
       other_log = λ q n. get_or-set_other w.logs p q o.log empty_log n;
     }
 
+-- under one condition the greater number stays the greater
 pub if_le : (c : Bool) (x y : ℕ) → x ≤ y → (if c then x else 0) ≤ (if c then y else 0)
 if_le true x y h = h
 if_le false x y h = le_refl 0
@@ -186,6 +189,7 @@ pub record Kept (net : Net) (w : World) (t : Transition) : Type 0 where
   pub later : IsLaterWorld net w t.world
   pub lines : (ls : List Report) → LinesFit net w ls → LinesFit net t.world (ls ++ t.lines)
 
+-- how far a subscriber has come is the horizon of its broker
 pub reached_here : (net : Net) (w : World) (p s : ℕ) → IsSubscriber net s → reached_in net w p s ≡ (view_of w (net.at s) p).horizon
 reached_here net w p s i = rw i.here refl
 
@@ -262,6 +266,7 @@ silent_lines net w ls more m l = record {
   rise = λ q s x y. HorizonsRise-append s q 0 ls more (l.rise q s x y) ((m s q).rise (last_horizon s q 0 ls));
 }
 
+-- a call's lines are its own and then those of the frames that it sends
 pub absorbed_lines : (w : World) (b p : ℕ) (o : Outcome) → (absorbed w b p o).lines ≡ o.lines ++ sent_lines (suc (length w.frames)) o.frames
 unfolding absorbed
 absorbed_lines w b p o = refl
@@ -283,6 +288,7 @@ Later-trans f g h a b = record {
   reached = λ s. le_trans (a.reached s) (b.reached s);
 }
 
+-- facts are at least as late as themselves
 pub Later-refl : (f : Facts) → IsLater f f
 Later-refl f = record { settled = le_refl f.settled; said = λ t x. refl; reached = λ s. le_refl (f.reached s) }
 
@@ -298,18 +304,22 @@ Kept-after net w t f a k = record {
 pub Kept-still : (net : Net) (w : World) (ls : List Report) → WorldFits net w → Silent ls → Kept net w (unchanged w ls)
 Kept-still net w ls f m = record { fits = f; later = λ q i. Later-refl (facts_of net w q); lines = λ xs l. silent_lines net w xs ls m l }
 
+-- where nothing happens the world goes on fitting
 pub Kept-refl : (net : Net) (w : World) → WorldFits net w → Kept net w (unchanged w [])
 Kept-refl net w f = Kept-still net w [] f (λ s q. Neutral-nil s q)
 
+-- a frame that is true stays true in every later world
 pub FrameTrue-later : (net : Net) (w u : World) (f : Frame) → IsLaterWorld net w u → FrameTrue net w f → FrameTrue net u f
 FrameTrue-later net w u f l t = record { publisher_in = t.publisher_in; fits = t.fits; told = BodyTrue-later net (facts_of net w f.head.publisher) (facts_of net u f.head.publisher) f.head.publisher f.head.from f.head.to f.body (l f.head.publisher t.publisher_in) t.told }
 
 -- Steps of broker calls
 
+-- a wake keeps the world fitting
 pub wake_for_kept : (net : Net) (w : World) (b p : ℕ) → IsNet net → WorldFits net w → b < net.brokers → p < net.publishers → Kept net w (wake_for net w b p)
 unfolding wake_for_by
 wake_for_kept net w b p n f i j = absorbed_fits net w b p (wake net p b w.clock (view_of w b p) (log_of w p)) n f i j (wake_call net p b w.clock (view_of w b p) (log_of w p) (reached_in net w p) n j i (f.logs p j) (f.views p b j i)) (wake_tells net p b w.clock (view_of w b p) (log_of w p) (reached_in net w p) n j i (f.logs p j) (f.views p b j i) (exact_at net w b p n i))
 
+-- the delivery of a true frame keeps the world fitting
 pub deliver_kept : (net : Net) (w : World) (x : Frame) → IsNet net → WorldFits net w → FrameTrue net w x → Kept net w (deliver_frame net w x)
 unfolding deliver_frame_by
 deliver_kept net w x n f t =
@@ -317,6 +327,7 @@ deliver_kept net w x n f t =
     (receive_call net w.clock x (view_of w x.head.to x.head.publisher) (log_of w x.head.publisher) (reached_in net w x.head.publisher) n t.publisher_in t.fits t.told (f.logs x.head.publisher t.publisher_in) (f.views x.head.publisher x.head.to t.publisher_in t.fits.to_in))
     (receive_tells net w.clock x (view_of w x.head.to x.head.publisher) (log_of w x.head.publisher) (reached_in net w x.head.publisher) n t.publisher_in t.fits.to_in t.told (f.logs x.head.publisher t.publisher_in) (f.views x.head.publisher x.head.to t.publisher_in t.fits.to_in) (exact_at net w x.head.to x.head.publisher n t.fits.to_in))
 
+-- a publish keeps the world fitting
 pub publish_kept : (net : Net) (w : World) (p number : ℕ) (e : Event) → IsNet net → WorldFits net w → p < net.publishers → Kept net w (publish_now net w p number e)
 unfolding publish_now_by
 publish_kept net w p number e n f j =
@@ -342,21 +353,25 @@ in_turn_kept {X} net ok f stays one (x ∷ xs) w fit a =
     all_stay [] b l = tt
     all_stay (y ∷ ys) b l = (stays w (f w x).world y l b.0, all_stay ys b.1 l)
 
+-- each number of a range is below its end
 pub numbers_below : (a n m : ℕ) → a + n ≤ m → Each (λ k. k < m) (numbers_from a n)
 numbers_below a zero m h = tt
 numbers_below a (suc n) m h = (omega arith, numbers_below (suc a) n m (omega arith))
 
+-- waking a broker for all publishers keeps the world fitting
 pub wake_all_kept : (net : Net) (w : World) (b : ℕ) → IsNet net → WorldFits net w → b < net.brokers → Kept net w (wake_all net w b)
 unfolding wake_all_by
 wake_all_kept net w b n f i = in_turn_kept net (λ u p. p < net.publishers) (λ u p. wake_for net u b p) (λ w u p l h. h) (λ u p g h. wake_for_kept net u b p n g i h) (numbers net.publishers) w f (numbers_below 0 net.publishers net.publishers (omega arith))
 
 -- The sweep's phases
 
+-- frames past the first few are true where all are
 pub frames_past_true : (net : Net) (w : World) (n : ℕ) (fs : List Frame) → AllFramesTrue net w fs → AllFramesTrue net w (frames_past n fs)
 frames_past_true net w zero fs a = a
 frames_past_true net w (suc n) [] a = tt
 frames_past_true net w (suc n) (f ∷ fs) a = frames_past_true net w n fs a.1
 
+-- frames that pass a test are true where all are
 pub filter_frames : (net : Net) (w : World) (test : Frame → Bool) (fs : List Frame) → AllFramesTrue net w fs → Each (FrameTrue net w) (filter test fs)
 filter_frames net w test [] a = tt
 filter_frames net w test (f ∷ fs) a =
@@ -365,6 +380,7 @@ filter_frames net w test (f ∷ fs) a =
       | inr e ↦ rw e (filter_frames net w test fs a.1)
     ]
 
+-- deliveries with the upward deliveries that follow them keep the world fitting
 pub deliver_up_kept : (net : Net) (fuel : ℕ) (fs : List Frame) (w : World) → IsNet net → WorldFits net w → Each (FrameTrue net w) fs → Kept net w (deliver_up net fuel fs w)
 unfolding deliver_up_by
 deliver_up_kept net zero fs w n f a = Kept-refl net w f
@@ -374,6 +390,7 @@ deliver_up_kept net (suc fuel) fs w n f a =
     Kept-after net u (deliver_frame net u x) (λ y. deliver_up net fuel (filter is_want (sent_since u y)) y) k (deliver_up_kept net fuel (filter is_want (sent_since u y)) y n k.fits (filter_frames net y is_want (sent_since u y) (frames_past_true net y (length u.frames) y.frames k.fits.frames))))
     fs w f a
 
+-- a wake with the upward deliveries that follow it keeps the world fitting
 pub wake_up_kept : (net : Net) (p : ℕ) (w : World) (b : ℕ) → IsNet net → WorldFits net w → b < net.brokers → p < net.publishers → Kept net w (wake_up net p w b)
 unfolding wake_up_by
 wake_up_kept net p w b n f i j =
@@ -381,6 +398,7 @@ wake_up_kept net p w b n f i j =
     let y = (wake_for net w b p).world in
     Kept-after net w (wake_for net w b p) (λ u. deliver_up net net.brokers (filter is_want (sent_since w u)) u) k (deliver_up_kept net net.brokers (filter is_want (sent_since w y)) y n k.fits (filter_frames net y is_want (sent_since w y) (frames_past_true net y (length w.frames) y.frames k.fits.frames)))
 
+-- a broker's turn in the second phase keeps the world fitting
 pub hand_down_kept : (net : Net) (p first : ℕ) (w : World) (b : ℕ) → IsNet net → WorldFits net w → Kept net w (hand_down net p first w b)
 unfolding hand_down_by
 hand_down_kept net p first w b n f = in_turn_kept net (FrameTrue net) (deliver_frame net) (FrameTrue-later net) (λ u x g h. deliver_kept net u x n g h) (filter (is_know_to p b) (frames_past first w.frames)) w f (filter_frames net w (is_know_to p b) (frames_past first w.frames) (frames_past_true net w first w.frames f.frames))
@@ -397,10 +415,12 @@ Each-filter P test (x ∷ xs) a =
       | inr e ↦ rw e (Each-filter P test xs a.1)
     ]
 
+-- each number in a list by depths is that of a broker
 pub depths_in : (net : Net) (p : ℕ) (ds : List ℕ) → Each (λ b. b < net.brokers) (flat_map (at_depth net p) ds)
 depths_in net p [] = tt
 depths_in net p (d ∷ ds) = Each-append (λ b. b < net.brokers) (at_depth net p d) (flat_map (at_depth net p) ds) (Each-filter (λ b. b < net.brokers) (λ b. nat_eq (net.depth p b) d) (numbers net.brokers) (numbers_below 0 net.brokers net.brokers (omega arith))) (depths_in net p ds)
 
+-- the sweep of one publisher keeps the world fitting
 pub sweep_for_kept : (net : Net) (w : World) (p : ℕ) → IsNet net → WorldFits net w → p < net.publishers → Kept net w (sweep_for net w p)
 unfolding sweep_for_by
 sweep_for_kept net w p n f j =

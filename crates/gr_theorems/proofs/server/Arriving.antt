@@ -85,6 +85,7 @@ pub record Sent (w : World) (k b : ℕ) (bytes : List ℕ) : Type 0 where
   pub to : frame.head.to ≡ b
   pub same : frame_bytes frame ≡ bytes
 
+-- bytes for a broker that have a number among the lines are those of a frame sent to it with that number
 pub number_is : (w : World) (k b : ℕ) (bytes : List ℕ) (ls : List Report) → filter is_sent ls ≡ sent_lines 1 w.frames → number_of_bytes b bytes ls ≡ Some k → Sent w k b bytes
 number_is w k b bytes ls e h =
     let x = number_found w.frames 1 k b bytes (sym (number_sent b bytes ls ∙ ap (number_of_bytes b bytes) e) ∙ h) in
@@ -193,6 +194,7 @@ does net w left a steps none e called = record {
   called = λ f k. ap (λ (t : Transition). filter f t.lines) (sym e) ∙ called f k;
 }
 
+-- a moment without a datagram does what its steps do
 pub quiet_does : (net : Net) (w : World) (left : List Publish) (moment : ℕ) (lines : List Report) → Does net w left (quiet moment) (steps_of_arrival net lines left (quiet moment))
 unfolding comes_by quieted_by
 quiet_does net w left moment lines =
@@ -204,6 +206,7 @@ quiet_does net w left moment lines =
     ∙ (ap (λ (s : Transition). followed_by s (λ v. run_all net v wakes)) (published_run net u left)
     ∙ (let s : Transition = published_first net u left in ap (λ (r : Transition). record { world = r.world; lines = s.lines ++ r.lines }) (wakes_run net (numbers net.brokers) s.world)))))) (λ f k. quieted_none f k net (numbers net.brokers) u left)
 
+-- a datagram with a frame that was sent does what the steps of its delivery do
 pub frame_does : (net : Net) (w : World) (left : List Publish) (b moment k : ℕ) (bytes : List ℕ) (f : Frame) (lines : List Report) → IsNet net → WorldFits net (at_moment w moment) → frame_decoded bytes ≡ Ok f → frame_at w k ≡ Some f → f.head.to ≡ b → GoesOverEdge net f → number_of_bytes b bytes lines ≡ Some k →
     Does net w left (datagram b bytes moment) (steps_of_arrival net lines left (datagram b bytes moment))
 unfolding comes_by
@@ -217,6 +220,7 @@ frame_does net w left b moment k bytes f lines n fit d at to over number =
     ∙ sym (clock_first net w now (as_line (step.Deliver k) ∷ []) ∙ (ap (λ (s : Transition). followed_by s (λ v. unchanged v [])) (delivered_step net u k f at) ∙ one_step (deliver_frame net u f)))))
     (λ g foreign. ap (λ (t : Transition). filter g t.lines) (ap (receives net u b) d ∙ received net u k b f n fit at to over) ∙ deliver_none g foreign net u f))
 
+-- a datagram that is no frame does what its steps do: it changes nothing
 pub fault_does : (net : Net) (w : World) (left : List Publish) (b moment : ℕ) (bytes : List ℕ) (fault : FrameFault) (lines : List Report) → frame_decoded bytes ≡ Err fault → Does net w left (datagram b bytes moment) (steps_of_arrival net lines left (datagram b bytes moment))
 unfolding comes_by receives_by
 fault_does net w left b moment bytes fault lines d =

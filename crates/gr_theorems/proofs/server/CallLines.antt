@@ -35,9 +35,11 @@ pub record IsForeign (f : Report → Bool) : Type 0 where
   pub gap : (p n next : ℕ) → f (line.Gap p n next) ≡ false
   pub exhausted : (p n : ℕ) → f (line.Exhausted p n) ≡ false
 
+-- no call writes a line of a dropped datagram
 pub drops_foreign : IsForeign is_dropped
 drops_foreign = record { got = λ s p t e. refl; horizon = λ s p t. refl; know = λ n a b p r. refl; want = λ n a b p r. refl; expect = λ n a b p t. refl; mark = λ p t. refl; cut = λ p t. refl; logged = λ p n t. refl; already = λ p n. refl; gap = λ p n m. refl; exhausted = λ p n. refl }
 
+-- no call writes a line of a refused step or of bytes
 pub replies_foreign : IsForeign is_reply
 replies_foreign = record { got = λ s p t e. refl; horizon = λ s p t. refl; know = λ n a b p r. refl; want = λ n a b p r. refl; expect = λ n a b p t. refl; mark = λ p t. refl; cut = λ p t. refl; logged = λ p n t. refl; already = λ p n. refl; gap = λ p n m. refl; exhausted = λ p n. refl }
 
@@ -113,10 +115,12 @@ module _ (f : Report → Bool) (k : IsForeign f) where
       absorbed_none w b p (publish net p b w.clock x.1.0 x.1.1 (view_of w b p) (log_of w p))
       (publish_some f net p b w.clock x.1.0 x.1.1 (view_of w b p) (log_of w p) skips ∙ publish_line_none p w.clock x.1.0 (core (log_of w p)))
 
+  -- waking hosts that were quiet writes none of the lines that no call writes
   pub quieted_none : (net : Net) (hosted : List ℕ) (w : World) (left : List Publish) → filter f (quieted net hosted w left).lines ≡ []
   unfolding quieted_by
   quieted_none net hosted w left = let s : Transition = published_first net w left in none_of_both s.lines (in_turn (wake_all net) hosted s.world).lines (published_none net w left) (all_wakes_none net s.world hosted)
 
+  -- a delivery writes none of the lines that no call writes
   pub deliver_none : (net : Net) (w : World) (x : Frame) → filter f (deliver_frame net w x).lines ≡ []
   unfolding deliver_frame_by
   deliver_none net w x = absorbed_none w x.head.to x.head.publisher (receive net w.clock x (view_of w x.head.to x.head.publisher) (log_of w x.head.publisher)) (receive_none f net w.clock x (view_of w x.head.to x.head.publisher) (log_of w x.head.publisher) skips)

@@ -294,6 +294,7 @@ same_wake_for net b p w ls s =
     same_absorbed w ls b p (wake net p b w.clock (view_of w b p) (log_of w p)) (wake net p b w.clock (view_of w b p) (get_or ls p empty_log)) s
     (same_wake net p b w.clock (view_of w b p) (log_of w p) (get_or ls p empty_log) (same_get w.logs ls p s))
 
+-- a delivery does the same over both
 pub same_deliver : (net : Net) (x : Frame) → Follows (λ w. deliver_frame net w x)
 unfolding deliver_frame_by
 same_deliver net x w ls s =
@@ -301,6 +302,7 @@ same_deliver net x w ls s =
     same_absorbed w ls x.head.to p (receive net w.clock x (view_of w x.head.to p) (log_of w p)) (receive net w.clock x (view_of w x.head.to p) (get_or ls p empty_log)) s
     (same_receive net w.clock x (view_of w x.head.to p) (log_of w p) (get_or ls p empty_log) (same_get w.logs ls p s))
 
+-- a publish does the same over both
 pub same_publish_now : (net : Net) (p number : ℕ) (e : Event) → Follows (λ w. publish_now net w p number e)
 unfolding publish_now_by
 same_publish_now net p number e w ls s =
@@ -308,6 +310,7 @@ same_publish_now net p number e w ls s =
     same_absorbed w ls b p (publish net p b w.clock number e (view_of w b p) (log_of w p)) (publish net p b w.clock number e (view_of w b p) (get_or ls p empty_log)) s
     (same_publish net p b w.clock number e (view_of w b p) (log_of w p) (get_or ls p empty_log) (same_get w.logs ls p s))
 
+-- waking a broker for all publishers does the same over both
 pub same_wake_all : (net : Net) (b : ℕ) → Follows (λ w. wake_all net w b)
 unfolding wake_all_by
 same_wake_all net b w ls s = same_in_turn (λ u p. wake_for net u b p) (λ p. same_wake_for net b p) (numbers net.publishers) w ls s

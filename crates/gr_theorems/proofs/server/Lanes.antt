@@ -1,4 +1,5 @@
--- The headline over logs that code opens: what is found of records that follow one another is an old log, and the events that were cut change nothing
+-- The headline holds over logs that code opens, since what is read from records that
+-- follow one another is an old log, and the events that were cut change nothing
 use Rattle.std.proofs.Common.{◌≡◌, ℕ, suc, zero, ◌≤◌, Bool, true, false, List, [], ◌∷◌, ◌++◌, map, length, get_or, refl, sym, ap, ap₂, ◌∙◌, subst, Option, Some, None, Result, Ok, Err, append-nil, append_assoc, arith}
 use Rattle.std.specs.Prelude.{nat_eq, nat_lt, if◌then◌else◌, flat_map}
 use Rattle.std.specs.List.{AllByRecursion}
@@ -277,6 +278,7 @@ served_lanes net lanes steps arrivals a =
     ap (λ (t : Transition). t.lines ∷ served_from net all t.world (publishes_of net all steps) arrivals) k.is
     ∙ ap (λ (rs : List (List Report)). o.lines ∷ rs) (same_served_from net all (publishes_of net all steps) arrivals o.world k.logs k.same)
 
+-- a run over reopened logs is the same whether the events that were cut are kept or not
 pub cut_events_silent : (net : Net) (lanes : List (List Record)) → AllFollow lanes → CutEventsSilent net lanes
 cut_events_silent net lanes a =
     let k = opened_same net lanes a in
@@ -291,6 +293,7 @@ cut_events_silent net lanes a =
           subst (λ (t : Transition). DifferInCut (arrived net all o.world left arrivals) (arrived net all t.world left arrivals)) (sym k.is) (same_arrived net all left arrivals o.world k.logs k.same);
     }
 
+-- the headline holds of every schedule over logs that are read from records in order
 pub holds_over_lanes : (net : Net) (lanes : List (List Record)) (steps : List Line) → IsNet net → 1 ≤ net.quiet → 1 ≤ net.retry → AllFollow lanes → StepsIn net steps → HoldsOverLanes net lanes steps
 holds_over_lanes net lanes steps n z r a i =
     let k = opened_same net lanes a in
@@ -298,6 +301,7 @@ holds_over_lanes net lanes steps n z r a i =
     subst (λ (ls : List Report). Holds_from net (begin_over net founds ls) steps (run_from net (opened_over net (whole_logs lanes)).world steps)) (sym (ap (λ (t : Transition). t.lines) k.is))
     (subst (λ (rs : List (List Report)). Holds_from net (begin_over net founds (opened_over net founds).lines) steps rs) (sym (lines_same net lanes steps a)) (headline_over_logs net founds steps n z r (are_found net lanes a) i))
 
+-- the headline holds of every honest run of a server over logs that are read from records in order
 pub holds_served_lanes : (net : Net) (lanes : List (List Record)) (steps : List Line) (arrivals : List Arrival) → IsNet net → IsSmall net → 1 ≤ net.quiet → 1 ≤ net.retry → AllFollow lanes → StepsIn net steps → NumbersIn steps →
     IsHonestRun arrivals (served net (numbers net.brokers) (whole_logs lanes) steps arrivals) → HoldsServedLanes net lanes steps arrivals
 holds_served_lanes net lanes steps arrivals n small z r a i m =

@@ -1,4 +1,5 @@
--- What stands after a start over old logs and a schedule from there: the opening's turns are deliveries of a frame that says nothing
+-- What stands after every schedule stands after a start over old logs and a schedule
+-- from there, since the opening's turns are deliveries of a frame that says nothing
 use Rattle.std.proofs.Common.{ℕ, ◌≤◌, ◌<◌, Bool, true, false, List, [], ◌∷◌, ◌++◌, subst}
 use Rattle.gr_sched.specs.declared.step.Line.{Line}
 use Rattle.gr_model.specs.declared.report.Report.{Report}

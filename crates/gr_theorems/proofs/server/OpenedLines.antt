@@ -187,5 +187,6 @@ opened_tells net logs n a =
     let below = publishers_below net (numbers net.brokers) in
     turns_lines net logs (over_logs net logs) [] ps n below (turns_once net 0 net.brokers) (over_opening net logs n a) (all_fresh net logs ps n below)
 
+-- the opening sends no frame
 pub opened_sends_nothing : (net : Net) (logs : List Log) → IsNet net → AreReopened net logs → (all_opened net logs).world.frames ≡ []
 opened_sends_nothing net logs n a = (opened net logs n a).frames

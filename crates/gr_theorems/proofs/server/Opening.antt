@@ -54,12 +54,15 @@ nothing net p = record { head = head (net.host p) (net.host p) p; body = body.Kn
 no_runs_true : (net : Net) (f : Facts) (p b : ℕ) → KnowsTruth net f p b []
 no_runs_true net f p b = record { runs = tt; each = λ t. tt }
 
+-- a frame without runs is true wherever it comes
 pub nothing_is_true : (net : Net) (w : World) (p : ℕ) → IsNet net → p < net.publishers → FrameTrue net w (nothing net p)
 nothing_is_true net w p n j = record { publisher_in = j; fits = record { publisher = refl; to_in = n.host_in p j; body = tt }; told = no_runs_true net (facts_of net w p) p (net.host p) }
 
+-- what the host leaves and tells where it learns nothing new
 abbrev pub learns : Net → World → ℕ → Outcome
 learns net w p = learn net p (net.host p) [] (view_of w (net.host p) p) (log_of w p)
 
+-- delivering a frame without runs to the host makes it learn nothing new, and nothing else
 pub delivered_nothing : (net : Net) (w : World) (p : ℕ) → IsNet net → WorldFits net w → p < net.publishers → deliver_frame net w (nothing net p) ≡ absorbed w (net.host p) p (learns net w p)
 unfolding deliver_frame_by receive
 delivered_nothing net w p n f j = go (clashes v.know []) refl
@@ -90,6 +93,7 @@ no_frames net f p b [] ws a = refl
 no_frames net f p b (c ∷ cs) [] a = refl
 no_frames net f p b (c ∷ cs) (w ∷ ws) a = ap₂ (λ (x : Known) (y : List Frame). know_frames b c p x ++ y) (nothing_forward net p c w a.0.runs) (no_frames net f p b cs ws a.1)
 
+-- a host that learns nothing new sends nothing
 pub learns_silently : (net : Net) (w : World) (p : ℕ) → IsNet net → WorldFits net w → p < net.publishers → (learns net w p).frames ≡ []
 unfolding learn
 learns_silently net w p n f j =
@@ -191,6 +195,7 @@ opening_learns net logs w ls p n j some o =
       ]);
     }
 
+-- the line of a reopened log delivers nothing, cuts nothing and is no sent line
 pub found_line_says : (c : Bool) (p last settled cut : ℕ) → (let ls : List Report = if c then line.Opened p last settled cut ∷ [] else [] in Silent ls × ((q : ℕ) → CutFree q ls) × (filter is_sent ls ≡ []))
 found_line_says true p last settled cut = (λ s q. record { got = refl; horizon = λ n. refl; rise = λ n. tt }, λ q. tt, refl)
 found_line_says false p last settled cut = (λ s q. Neutral-nil s q, λ q. tt, refl)
@@ -219,6 +224,7 @@ opening_turn net logs w ls p n j o = go (not_empty (net.subscribers_at (net.host
         (subst (λ (z : List Report). Opening net logs (deliver_frame net w (nothing net p)).world z) (append_assoc ls front (deliver_frame net w (nothing net p)).lines) (opening_learns net logs w (ls ++ front) p n j e begun))
     go false e = subst (λ (z : List Report). Opening net logs w (ls ++ z)) (sym (append-nil front)) begun
 
+-- what holds of the opening so far holds after the turns of more publishers
 pub opening_turns : (net : Net) (logs : List Log) (w : World) (ls : List Report) (ps : List ℕ) → IsNet net → Each (λ p. p < net.publishers) ps → Opening net logs w ls → Opening net logs (in_turn (opened_for net) ps w).world (ls ++ (in_turn (opened_for net) ps w).lines)
 opening_turns net logs w ls [] n a o = subst (λ (z : List Report). Opening net logs w z) (sym (append-nil ls)) o
 opening_turns net logs w ls (p ∷ ps) n a o =
@@ -228,9 +234,11 @@ opening_turns net logs w ls (p ∷ ps) n a o =
 
 -- Horizons of hosts
 
+-- the horizon of a publisher's host is where its log is settled
 abbrev pub MeetsAt : Net → World → ℕ → Type 0
 MeetsAt net w q = (view_of w (net.host q) q).horizon ≡ (log_of w q).settled
 
+-- a host with subscribers that has had its turn has its horizon where its log is settled
 pub learned_meets : (net : Net) (w : World) (p : ℕ) → IsNet net → WorldFits net w → p < net.publishers → not_empty (net.subscribers_at (net.host p)) ≡ true → MeetsAt net (absorbed w (net.host p) p (learns net w p)).world p
 learned_meets net w p n f j some =
     let b = net.host p in
@@ -273,6 +281,7 @@ turns_stay net logs w ls (p ∷ ps) q n a o some m =
 abbrev pub Stands_in : ℕ → List ℕ → Type 0
 Stands_in q ps = list_any (λ p. nat_eq p q) ps ≡ true
 
+-- after the turns of some publishers, each of their hosts with subscribers has its horizon where its log is settled
 pub turns_meet : (net : Net) (logs : List Log) (w : World) (ls : List Report) (ps : List ℕ) (q : ℕ) → IsNet net → Each (λ p. p < net.publishers) ps → Opening net logs w ls → not_empty (net.subscribers_at (net.host q)) ≡ true → Stands_in q ps → MeetsAt net (in_turn (opened_for net) ps w).world q
 turns_meet net logs w ls [] q n a o some m = absurd (false≢true m)
 turns_meet net logs w ls (p ∷ ps) q n a o some m =
@@ -288,6 +297,7 @@ turns_meet net logs w ls (p ∷ ps) q n a o some m =
 
 -- Before the first publisher
 
+-- before its turn each broker is as it starts from its reopened log
 pub over_view : (net : Net) (logs : List Log) (b p : ℕ) → b < net.brokers → p < net.publishers → view_of (over_logs net logs) b p ≡ started net p b (reopened_log logs p)
 unfolding over_logs
 over_view net logs b p i j =
@@ -362,6 +372,7 @@ logs_are : (net : Net) (logs : List Log) → (over_logs net logs).logs ≡ map (
 unfolding over_logs
 logs_are net logs = refl
 
+-- before the first turn nothing was told, and nothing has happened
 pub over_opening : (net : Net) (logs : List Log) → IsNet net → AreReopened net logs → Opening net logs (over_logs net logs) []
 over_opening net logs n a =
     let w = over_logs net logs in

@@ -77,6 +77,7 @@ over_by_rules net logs steps n quiet a i =
     let o : Transition = opening net (numbers net.brokers) logs in
     record { opened = o.world; opens = opens_by_rules net logs n a; run = run_by_rules net steps o.world n quiet (opened_whole net logs n a).stands.fits i }
 
+-- a run over reopened logs that is allowed by the rules has the lines and the world of the machine
 pub over_once : (net : Net) (logs : List Log) (steps : List Line) (told : List Report) (rs : List (List Report)) (u : World) → IsNet net → 1 ≤ net.quiet → AreReopened net logs → StepsIn net steps → RunsOver net logs steps told rs u →
     (let o : Transition = opening net (numbers net.brokers) logs in (told ≡ o.lines) × (rs ≡ run_from net o.world steps) × (u ≡ (run_all net o.world steps).world))
 over_once net logs steps told rs u n quiet a i r =

@@ -32,6 +32,7 @@ use Rattle.gr_theorems.proofs.server.Opening.{Opening, MeetsAt, opening_turns, t
 
 -- Every publisher has its turn
 
+-- the publishers at some brokers are publishers of the topology
 pub publishers_below : (net : Net) (bs : List ℕ) → Each (λ p. p < net.publishers) (publishers_at net bs)
 publishers_below net [] = tt
 publishers_below net (b ∷ bs) = Each-on (λ p. p < net.publishers) (filter (λ p. is_host net p b) (numbers net.publishers)) (publishers_at net bs) (Each-kept (λ p. p < net.publishers) (λ p. is_host net p b) (numbers net.publishers) (numbers_below 0 net.publishers net.publishers (omega arith))) (publishers_below net bs)
@@ -46,6 +47,7 @@ has_turn net q n j =
 abbrev pub all_opened : Net → List Log → Transition
 all_opened net logs = opening net (numbers net.brokers) logs
 
+-- after the opening each log is the reopened one, the world fits, and nothing was sent, asked, cut or heard
 pub opened : (net : Net) (logs : List Log) → IsNet net → AreReopened net logs → Opening net logs (all_opened net logs).world (all_opened net logs).lines
 unfolding opening_by
 opened net logs n a = opening_turns net logs (over_logs net logs) [] (publishers_at net (numbers net.brokers)) n (publishers_below net (numbers net.brokers)) (over_opening net logs n a)
@@ -107,6 +109,7 @@ opened_hears net logs n a =
       fits = λ b p i j host keeps. heard_as (view_of (all_opened net logs).world b p) (λ t. false) (heard_in (replicate net.brokers (replicate net.publishers [])) b p) (λ t. nothing_heard net b p t i j) (o.heard b p i j host keeps);
     }
 
+-- after the opening all stands, with the history of the reopened logs
 pub opened_whole : (net : Net) (logs : List Log) → IsNet net → AreReopened net logs → Whole net (all_opened net logs).world (begin_over net logs (all_opened net logs).lines)
 opened_whole net logs n a = record { stands = opened_stands net logs n a; hears = opened_hears net logs n a }
 

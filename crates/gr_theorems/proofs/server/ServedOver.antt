@@ -1,4 +1,4 @@
--- The headline of a run over logs that were found and an honest journal
+-- The headline holds of a run over old logs and an honest journal, since each arrival does what its steps do
 use Rattle.std.proofs.Common.{◌≡◌, ℕ, ◌≤◌, ◌<◌, Bool, true, false, List, [], ◌∷◌, ◌++◌, map, refl, sym, subst, arith}
 use Rattle.std.specs.List.{AllByRecursion}
 use Rattle.gr_frame.specs.declared.Frame.{Frame}
@@ -69,6 +69,7 @@ begun_lines net logs told = refl
 
 -- The run
 
+-- the headline holds of a server over reopened logs whose journal is honest
 pub headline_served : (net : Net) (logs : List Log) (steps : List Line) (arrivals : List Arrival) → IsNet net → IsSmall net → 1 ≤ net.quiet → 1 ≤ net.retry → AreReopened net logs → StepsIn net steps → NumbersIn steps → IsHonestRun arrivals (served net (numbers net.brokers) logs steps arrivals) → HeadlineServed net logs steps arrivals (served net (numbers net.brokers) logs steps arrivals)
 unfolding served_by begin_over
 headline_served net logs steps arrivals n z on retry a i m honest = (
@@ -76,6 +77,7 @@ headline_served net logs steps arrivals n z on retry a i m honest = (
   holds net n on retry WorldIn (λ u l f j k x. next_in net u l n z f j k x) (λ u x. x.frames) (λ f x. spelled_decodes (frame_bytes f) f x) arrivals (all_opened net logs).world (begin_over net logs (all_opened net logs).lines) (publishes_of net (numbers net.brokers) steps) (opened_ready net logs n z a) (publishes_are_in net (numbers net.brokers) steps i m) honest,
 )
 
+-- each arrival at such a server does what its steps of a schedule do
 pub served_does : (net : Net) (logs : List Log) (steps : List Line) (arrivals : List Arrival) → IsNet net → IsSmall net → 1 ≤ net.quiet → 1 ≤ net.retry → AreReopened net logs → StepsIn net steps → NumbersIn steps → IsHonestRun arrivals (served net (numbers net.brokers) logs steps arrivals) → AllDoSteps net (all_opened net logs).world (all_opened net logs).lines (publishes_of net (numbers net.brokers) steps) arrivals
 unfolding served_by begin_over
 served_does net logs steps arrivals n z on retry a i m honest =

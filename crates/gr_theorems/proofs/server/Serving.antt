@@ -1,4 +1,5 @@
--- The headline of a run over an honest journal: each arrival does what its steps do, and of the steps the headline holds
+-- The headline holds of a run over an honest journal, since each
+-- arrival does what its steps do, and of the steps the headline holds
 use Rattle.std.proofs.lemmas.List.Elements.{filter-append}
 use Rattle.std.proofs.Common.{◌≡◌, inl, inr, ⊎_elim, ℕ, suc, zero, ◌+◌, ◌≤◌, ◌<◌, min, max, Bool, true, false, List, [], ◌∷◌, ◌++◌, map, length, refl, sym, ap, ap₂, ◌∙◌, subst, Option, Some, None, arith, append-nil, append_assoc}
 use Rattle.std.specs.Prelude.{if◌then◌else◌, filter, flat_map, Result, Ok, Err}
@@ -141,6 +142,7 @@ line_publishes net hosted k step.Sweep i m = tt
 line_publishes net hosted k step.Show i m = tt
 line_publishes net hosted k (step.Bytes j) i m = tt
 
+-- the publishes that are left for a server are within the limits where the steps are
 pub publishes_are_in : (net : Net) (hosted : List ℕ) (steps : List Line) → StepsIn net steps → NumbersIn steps → LeftIn net (publishes_of net hosted steps)
 publishes_are_in net hosted [] i m = tt
 publishes_are_in net hosted (l ∷ ls) i m = both_in net (publishes_in net hosted l) (publishes_of net hosted ls) (line_publishes net hosted l.number l.step i.0 m.0) (publishes_are_in net hosted ls i.1 m.1)
@@ -305,6 +307,7 @@ module _ (net : Net) (n : IsNet net) (on : 1 ≤ net.quiet) (retry : 1 ≤ net.r
         numbered = ap (map sent_number) sent ∙ (numbers_sent (suc (length w.frames)) s.more ∙ ap₂ (λ a k. numbers_from (suc a) k) (sym (sent_count_is net w h r.whole.stands)) (sym (ap length sent ∙ lines_long (suc (length w.frames)) s.more)));
       }
 
+  -- from where all stands on, the headline holds of what an honest journal leads to
   pub holds : (arrivals : List Arrival) (w : World) (h : History) (left : List Publish) → Ready net P w h → LeftIn net left → IsHonest h.lines arrivals (served_from net (numbers net.brokers) w left arrivals) → HoldsServed net h left arrivals (served_from net (numbers net.brokers) w left arrivals)
   unfolding served_from_by next_by run_from_by
   holds [] w h left r l x =
@@ -328,6 +331,7 @@ module _ (net : Net) (n : IsNet net) (on : 1 ≤ net.quiet) (retry : 1 ≤ net.r
   steps_same xs ys left (quiet moment) e = refl
   steps_same xs ys left (datagram b bytes moment) e = ap (λ (o : Option ℕ). as_line (step.Clock (min moment max_tick)) ∷ (if is_frame (frame_decoded bytes) then delivery_step o else [])) (number_sent b bytes xs ∙ (ap (number_of_bytes b bytes) e ∙ sym (number_sent b bytes ys)))
 
+  -- from where all stands on, each arrival of an honest journal does what its steps do
   pub all_do : (arrivals : List Arrival) (w : World) (h : History) (left : List Publish) (lines : List Report) → Ready net P w h → LeftIn net left → filter is_sent h.lines ≡ filter is_sent lines → IsHonest h.lines arrivals (served_from net (numbers net.brokers) w left arrivals) → AllDoSteps net w lines left arrivals
   unfolding served_from_by
   all_do [] w h left lines r l e x = sym e ∙ r.whole.stands.sent

@@ -67,6 +67,7 @@ unfolding deliver_up_by
 deliver_none net zero w = refl
 deliver_none net (suc fuel) w = refl
 
+-- a wake changes the one view, and the one log, that it is of
 pub woken_taken : (net : Net) (w : World) (b p : ℕ) → WorldFits net w → b < net.brokers → p < net.publishers → Taken net w (wake_for net w b p).world b p (wake net p b w.clock (view_of w b p) (log_of w p))
 unfolding wake_for_by
 woken_taken net w b p f i j = absorbed_taken net w b p (wake net p b w.clock (view_of w b p) (log_of w p)) f i j
@@ -124,6 +125,7 @@ marking_tells net p b now v log reached place fit h long = marking_cases net p b
       plain = λ c t m a. quench_A _ (wanted_at (wants_of net p b v c) t) (sym (k.wants c t m) ∙ a);
     }
 
+-- a host that was quiet for long tells each child of the silence up to its mark
 pub host_tells : (net : Net) (p b now : ℕ) (v : View) (log : Log) (reached : ℕ → ℕ) → IsPlace net p b → is_host net p b ≡ true → LogFits log → ViewTrue net (facts log reached) p b v → nat_le (log.settled + net.quiet) now ≡ true → TellsMark net p b now v log (wake net p b now v log)
 unfolding wake wake_host
 host_tells net p b now v log reached place host fit h long = go (is_host net p b) host

@@ -65,6 +65,7 @@ filter_one test a (suc k) b l m t h =
 
 -- Depths that fall
 
+-- from depth d on, no broker of the list is deeper than the one before it
 abbrev pub FallsFrom : Net → ℕ → ℕ → List ℕ → Type 0
 FallsFrom net p d [] = Unit {0}
 FallsFrom net p d (b ∷ bs) = (net.depth p b ≤ d) × FallsFrom net p (net.depth p b) bs
@@ -155,6 +156,7 @@ host_last_from net p (suc k) n j l =
           }
     ]
 
+-- inwards the brokers come by falling depth, and the host comes last
 pub host_last : (net : Net) (p : ℕ) → IsNet net → p < net.publishers → HostLast net p net.brokers
 host_last net p n j = host_last_from net p net.brokers n j (n.depth_in p (net.host p) j (n.host_in p j))
 

@@ -93,6 +93,7 @@ same_asked net p t m w y b e h = record {
   needed = λ l a. ap (λ v. asked_at v.asks t) e ∙ h.needed l (sym (ap (λ v. needs net p b v t) e) ∙ a);
 }
 
+-- a joined list is at least as long as its front
 pub longer : (k : ℕ) (xs ys : List Frame) → k ≤ length xs → k ≤ length (xs ++ ys)
 longer k xs ys h = omega (arith, h, length-append xs ys)
 

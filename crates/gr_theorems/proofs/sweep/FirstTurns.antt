@@ -1,4 +1,5 @@
--- All brokers but the host woken one after another, by falling depth
+-- What holds of one tick while brokers are woken holds after all
+-- but the host were, by falling depth, since each turn keeps it
 use Rattle.std.proofs.Common.{◌≡◌, ◌⊎◌, inl, inr, ⊎_elim, ℕ, ◌<◌, false, List, [], ◌∷◌, length, refl, ◌∙◌}
 use Rattle.std.specs.Prelude.{nat_eq, filter}
 use Rattle.std.specs.List.{list_any}
@@ -44,6 +45,7 @@ pub record Turned (net : Net) (p t m first : ℕ) (xs woken : List ℕ) (w y : W
   pub all : (b : ℕ) → IsIn b xs ⊎ IsIn b woken → IsIn b now_woken
   pub holds : FirstAt net p t m first depth now_woken y []
 
+-- what holds of one tick before the turns of some brokers holds after them, with these woken
 pub turned : (net : Net) (p t m first d : ℕ) (xs woken : List ℕ) (w : World) → IsNet net → p < net.publishers → WorldFits net w → FallsFrom net p d xs → Each (IsBelow net p) xs → FirstAt net p t m first d woken w [] → Turned net p t m first xs woken w (in_turn (wake_up net p) xs w).world
 turned net p t m first d [] woken w n j f falls below h = record { depth = d; now_woken = woken; all = λ b e. ⊎_elim (λ x. absurd (false≢true x)) (λ x. x) e; holds = h }
 turned net p t m first d (x ∷ xs) woken w n j f falls below h =
@@ -64,6 +66,7 @@ pub record TurnsKeep (net : Net) (p : ℕ) (w y : World) : Type 0 where
   pub fits : WorldFits net y
   pub log : core_of y p ≡ core_of w p
 
+-- the turns of brokers below the host keep the world fitting, and the record of the log
 pub turns_keep : (net : Net) (p : ℕ) (xs : List ℕ) (w : World) → IsNet net → p < net.publishers → WorldFits net w → Each (IsBelow net p) xs → TurnsKeep net p w (in_turn (wake_up net p) xs w).world
 turns_keep net p [] w n j f below = record { fits = f; log = refl }
 turns_keep net p (x ∷ xs) w n j f below =

@@ -243,12 +243,14 @@ nothing_asked : (cs : List ℕ) (t : ℕ) → any_C (map (λ _. []) cs) t ≡ fa
 nothing_asked [] t = refl
 nothing_asked (c ∷ cs) t = nothing_asked cs t
 
+-- a broker that starts has stored no question at a known tick
 pub started_unknown : (net : Net) (p b : ℕ) (log : Log) → UnknownIn (started net p b log)
 unfolding started
 started_unknown net p b log t e = absurd (false≢true (sym (nothing_asked (net.children p b) t) ∙ e))
 
 -- Worlds
 
+-- where no view has stored a question at a known tick, the world has none
 pub by_any : (net : Net) (w : World) → ((p b : ℕ) → p < net.publishers → b < net.brokers → UnknownIn (view_of w b p)) → Unknowns net w
 by_any net w a = record {
   each = λ p b c t j i m e. a p b j i t (stored_any (view_of w b p).wants (place_of c (net.children p b)) t (ap is_C e));

@@ -371,6 +371,7 @@ next_obeys : (net : Net) (w : World) (l : Line) → IsNet net → 1 ≤ net.quie
 unfolding next_by calls_of called_in
 next_obeys net w l n quiet f i = let x = step_parts net w l.number l.step n quiet f i in record { obey = x.obey; own = x.own; lines = x.lines; own_only = x.own_only; frames = x.frames; views = x.views; restarts = x.restarts; logs = x.logs }
 
+-- over every run each call obeys its rule, and the lines of each step are those of its calls and its own
 pub steps_obey : (net : Net) (w : World) (ls : List Line) → IsNet net → 1 ≤ net.quiet → WorldFits net w → StepsIn net ls → StepsObey net w ls (run_from net w ls)
 unfolding run_from_by
 steps_obey net w [] n quiet f i = tt

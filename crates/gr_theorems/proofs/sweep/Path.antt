@@ -1,4 +1,5 @@
--- The path claim of the first phase, kept by each delivery
+-- Each delivery keeps the path claim of the first phase, since a tick
+-- that is asked is answered, or stored and, below the host, asked on
 use Rattle.std.proofs.Common.{◌≡◌, ◌≢◌, ◌⊎◌, inl, inr, ⊎_elim, ℕ, suc, zero, ◌≤◌, Bool, true, false, List, [], ◌∷◌, ◌++◌, length, refl, sym, ap, ◌∙◌, subst, Some, arith}
 use Rattle.std.specs.Prelude.{filter, nat_eq}
 use Rattle.std.specs.List.{list_any}
@@ -28,11 +29,13 @@ Path net p t m first w c u = Has (TellsKnown p u c t) (frames_past first w.frame
 abbrev pub Claim : Net → ℕ → ℕ → ℕ → ℕ → World → List Frame → Type 0
 Claim net p t m first w pending = (c u : ℕ) → list_any (λ z. nat_eq z c) (net.children p u) ≡ true → net.up p c ≡ Some u → asked_at (view_of w c p).asks t ≡ At m → Path net p t m first w c u ⊎ Has (WantsTick p c u t C) pending
 
+-- a frame past the first few is so in a longer list too
 pub Has-past : (P : Frame → Type 0) (n : ℕ) (xs ys : List Frame) → Has P (frames_past n xs) → Has P (frames_past n (xs ++ ys))
 Has-past P zero xs ys h = Has-front P xs ys h
 Has-past P (suc n) [] ys h = absurd h
 Has-past P (suc n) (x ∷ xs) ys h = Has-past P n xs ys h
 
+-- a frame that is added is past the first few
 pub Has-last : (P : Frame → Type 0) (n : ℕ) (xs ys : List Frame) → n ≤ length xs → Has P ys → Has P (frames_past n (xs ++ ys))
 Has-last P zero xs ys l h = Has-back P xs ys h
 Has-last P (suc n) [] ys l h = absurd (omega (arith, l))
@@ -46,6 +49,7 @@ want_is p c u t f h = go f.body h.body
     go (body.Curiosity runs) k = refl
     go (body.Expect tick) k = absurd k
 
+-- a frame that asks a tick is among the upward frames
 pub Has-wants : (p c u t : ℕ) (fs : List Frame) → Has (WantsTick p c u t C) fs → Has (WantsTick p c u t C) (filter is_want fs)
 Has-wants p c u t [] h = absurd h
 Has-wants p c u t (f ∷ fs) (inl h) = rw (want_is p c u t f h) (inl h)

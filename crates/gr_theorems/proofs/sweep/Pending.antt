@@ -1,4 +1,5 @@
--- The nested deliveries of a sweep, as a list of pending frames
+-- What each delivery keeps of a world and its pending frames, the nested
+-- deliveries of a sweep keep, since what a delivery sends has less rank
 use Rattle.std.proofs.Common.{◌≡◌, ℕ, suc, zero, ◌<◌, List, [], ◌∷◌, ◌++◌, refl, subst, arith, length}
 use Rattle.std.specs.Prelude.{filter}
 use Rattle.gr_frame.specs.declared.Frame.{Frame}
@@ -17,6 +18,7 @@ pub record IsPending (net : Net) (rank : Frame → ℕ) (I : World → List Fram
   pub step : (w : World) (x : Frame) (fs : List Frame) → WorldFits net w → FrameTrue net w x → I w (x ∷ fs) → I (deliver_frame net w x).world (sent_up net w x ++ fs)
   pub less : (w : World) (x : Frame) → WorldFits net w → FrameTrue net w x → Each (λ z. rank z < rank x) (sent_up net w x)
 
+-- a weaker property holds of each too
 pub Each-weaker : {X : Type 0} (P R : X → Type 0) (xs : List X) → ((x : X) → P x → R x) → Each P xs → Each R xs
 Each-weaker P R [] f a = tt
 Each-weaker P R (x ∷ xs) f a = (f x a.0, Each-weaker P R xs f a.1)
@@ -25,6 +27,7 @@ pub none_below : (rank : Frame → ℕ) (fs : List Frame) → Each (λ z. rank z
 none_below rank [] a = refl
 none_below rank (x ∷ xs) a = absurd (omega (arith, a.0))
 
+-- the upward frames that a delivery sends are true after it
 pub up_true : (net : Net) (w : World) (x : Frame) → IsNet net → WorldFits net w → FrameTrue net w x → Each (FrameTrue net (deliver_frame net w x).world) (sent_up net w x)
 up_true net w x n f t =
     let y = (deliver_frame net w x).world in
@@ -35,6 +38,7 @@ up_true net w x n f t =
 abbrev pub delivered_up : Net → ℕ → World → Frame → Transition
 delivered_up net fuel u f = followed_by (deliver_frame net u f) (λ x. deliver_up net fuel (filter is_want (sent_since u x)) x)
 
+-- a delivery with the upward deliveries that follow it keeps the world fitting
 pub one_kept : (net : Net) (fuel : ℕ) (w : World) (x : Frame) → IsNet net → WorldFits net w → FrameTrue net w x → Kept net w (delivered_up net fuel w x)
 one_kept net fuel w x n f t =
     let k = deliver_kept net w x n f t in

@@ -20,6 +20,7 @@ stands-append (x ∷ xs) ys b = ap (λ z. nat_eq x b || z) (stands-append xs ys 
     or_assoc true y z = refl
     or_assoc false y z = refl
 
+-- a number of a range stands in the list of the range
 pub stands_numbers : (a n b : ℕ) → a ≤ b → b < a + n → stands (numbers_from a n) b ≡ true
 stands_numbers a zero b l m = absurd (omega (arith, l, m))
 stands_numbers a (suc n) b l m =
@@ -59,11 +60,13 @@ stands_up net p b a (suc n) i l m =
 pub stands_inwards : (net : Net) (p b : ℕ) → b < net.brokers → net.depth p b < net.brokers → stands (inwards net p) b ≡ true
 stands_inwards net p b i l = stands_down net p b net.brokers i l
 
+-- each broker has its place in the outward order
 pub stands_outwards : (net : Net) (p b : ℕ) → b < net.brokers → net.depth p b < net.brokers → stands (outwards net p) b ≡ true
 stands_outwards net p b i l = stands_up net p b 0 net.brokers i (omega arith) (omega (arith, l))
 
 -- Depths
 
+-- each that a test keeps passes it
 pub each_tested : {X : Type 0} (test : X → Bool) (xs : List X) → Each (λ x. test x ≡ true) (filter test xs)
 each_tested test [] = tt
 each_tested test (x ∷ xs) =
@@ -72,10 +75,12 @@ each_tested test (x ∷ xs) =
       | inr e ↦ rw e (each_tested test xs)
     ]
 
+-- a weaker property holds of each too
 pub Each-map : {X : Type 0} (P R : X → Type 0) (xs : List X) → ((x : X) → P x → R x) → Each P xs → Each R xs
 Each-map P R [] f a = tt
 Each-map P R (x ∷ xs) f a = (f x a.0, Each-map P R xs f a.1)
 
+-- what holds of each of two lists holds of each of the joined list
 pub Each-join : {X : Type 0} (P : X → Type 0) (xs ys : List X) → Each P xs → Each P ys → Each P (xs ++ ys)
 Each-join P [] ys a b = b
 Each-join P (x ∷ xs) ys a b = (a.0, Each-join P xs ys a.1 b)
@@ -103,6 +108,7 @@ down_falls : (net : Net) (p n : ℕ) → Falls net p (flat_map (at_depth net p) 
 down_falls net p zero = tt
 down_falls net p (suc n) = falls_on net p n (at_depth net p n) (flat_map (at_depth net p) (numbers_down n)) (depths_are net p n) (Each-map (λ y. net.depth p y < n) (λ y. net.depth p y ≤ n) (flat_map (at_depth net p) (numbers_down n)) (λ y e. omega (arith, e)) (down_below net p n)) (down_falls net p n)
 
+-- inwards no broker comes before one that is deeper
 pub inwards_falls : (net : Net) (p : ℕ) → Falls net p (inwards net p)
 inwards_falls net p = down_falls net p net.brokers
 
@@ -124,6 +130,7 @@ up_deeper : (net : Net) (p a n : ℕ) → ((c : ℕ) → c < net.brokers → net
 up_deeper net p a zero h = tt
 up_deeper net p a (suc n) h = deeper_on net p a (at_depth net p a) (flat_map (at_depth net p) (numbers_from (suc a) n)) (depths_are net p a) (λ c i l. stands_up net p c (suc a) n i (omega (arith, l)) (omega (arith, h c i))) (up_deeper net p (suc a) n (λ c i. omega (arith, h c i)))
 
+-- outwards no broker comes after one that is deeper
 pub outwards_deeper : (net : Net) (p : ℕ) → ((c : ℕ) → c < net.brokers → net.depth p c < net.brokers) → AllDeeper net p (outwards net p)
 outwards_deeper net p h = up_deeper net p 0 net.brokers (λ c i. omega (arith, h c i))
 
@@ -176,5 +183,6 @@ up_once net p a (suc n) =
     once_on (at_depth net p a) (flat_map (at_depth net p) (numbers_from (suc a) n)) (kept_once (λ x. nat_eq (net.depth p x) a) (numbers net.brokers) (numbers_once 0 net.brokers)) (up_once net p (suc a) n)
     (Each-map (λ x. net.depth p x ≡ a) (λ x. stands (flat_map (at_depth net p) (numbers_from (suc a) n)) x ≡ false) (at_depth net p a) (λ x e. each_stands_not (λ y. suc a ≤ net.depth p y) (flat_map (at_depth net p) (numbers_from (suc a) n)) x (up_above net p (suc a) n (suc a) (omega arith)) (λ l. omega (arith, l, e))) (depths_are net p a))
 
+-- outwards each broker comes once
 pub outwards_once : (net : Net) (p : ℕ) → IsDistinct (outwards net p)
 outwards_once net p = up_once net p 0 net.brokers

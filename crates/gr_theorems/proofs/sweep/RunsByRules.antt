@@ -36,6 +36,7 @@ use Rattle.gr_theorems.proofs.sweep.Obeying.{told_at}
 
 -- What leaves no choice
 
+-- what leaves the same world and tells the same lines is the same
 pub told_same : (t u : Transition) → t.world ≡ u.world → t.lines ≡ u.lines → t ≡ u
 told_same t u a b = λ i. record { world = a i; lines = b i }
 
@@ -50,6 +51,7 @@ pub record Exactly (R : World → Transition → Type 0) (w : World) (t : Transi
   pub holds : R w t
   pub only : (u : Transition) → R w u → u ≡ t
 
+-- telling lines leaves the world as it is, and nothing else may happen
 pub tells_exactly : (ls : List Report) (w : World) → Exactly (Tells ls) w (unchanged w ls)
 tells_exactly ls w = record { holds = record { world = refl; lines = refl }; only = λ u r. told_same u (unchanged w ls) r.world r.lines }
 
@@ -63,6 +65,7 @@ then_only A B w t f a b u r =
     let g : r.second ≡ f t.world = b r.second (subst (λ (x : Transition). B x.world r.second) e r.follows) in
     told_same u (followed_by t f) (r.world ∙ ap (λ (x : Transition). x.world) g) (r.lines ∙ ap₂ (λ (x y : Transition). x.lines ++ y.lines) e g)
 
+-- where each of two parts may do one thing only, so may one after the other
 pub then_exactly : (A B : World → Transition → Type 0) (w : World) (t : Transition) (f : World → Transition) → Exactly A w t → Exactly B t.world (f t.world) → Exactly (Then A B) w (followed_by t f)
 then_exactly A B w t f a b = record {
   holds = record { first = t; happens = a.holds; second = f t.world; follows = b.holds; world = refl; lines = refl };
@@ -115,6 +118,7 @@ comes_once net p from to now (body.Knowledge runs) v log o u d a c = d.new_ticks
 comes_once net p from to now (body.Curiosity runs) v log o u d a c = d.child_asks now from runs v log o u a c
 comes_once net p from to now (body.Expect tick) v log o u d a c = d.expects now tick v log o u a c
 
+-- the rules allow of an arriving frame what the machine does, and nothing else
 pub arrival_exactly : (net : Net) (w : World) (x : Frame) → IsNet net → WorldFits net w → FrameTrue net w x → Exactly (Arrives net x) w (deliver_frame net w x)
 unfolding deliver_frame_by
 arrival_exactly net w x n f t =
@@ -505,6 +509,7 @@ begins_holds : (net : Net) → Begins net (start net)
 unfolding start over_logs
 begins_holds net = begins_over net []
 
+-- over given logs the rules allow one beginning only
 pub begins_once : (net : Net) (found : List Log) (w u : World) → BeginsOver net found w → BeginsOver net found u → w ≡ u
 begins_once net found w u a c =
     let logs : w.logs ≡ u.logs = a.logs ∙ sym c.logs in
@@ -529,5 +534,6 @@ schedule_once net steps (r ∷ rs) u n quiet i a =
 pub report_by_rules : (net : Net) (steps : List Line) → IsNet net → 1 ≤ net.quiet → StepsIn net steps → ReportByRules net steps (report_of net steps)
 report_by_rules net steps n quiet i = record { left = (run_all net (start net) steps).world; schedule = schedule_by_rules net steps n quiet i }
 
+-- the rules allow one report of a schedule only, that of the machine
 pub report_once : (net : Net) (steps : List Line) (rs : List (List Report)) → IsNet net → 1 ≤ net.quiet → StepsIn net steps → ReportByRules net steps rs → rs ≡ report_of net steps
 report_once net steps rs n quiet i a = (schedule_once net steps rs a.left n quiet i a.schedule).0

@@ -306,6 +306,7 @@ phases_then : (net : Net) (b p : ℕ) (w : World) → IsNet net → WorldFits ne
 unfolding sweep_for_by
 phases_then net b p w n f j = (inwards_since net b p p (second_phase net w p) n f j).holds
 
+-- the sweeps of some publishers bring a broker below the host each tick of one of them up to the moment
 pub sweeps_bring : (net : Net) (p m b a k : ℕ) (w : World) → IsNet net → 1 ≤ net.retry → 1 ≤ net.quiet → b < net.brokers → is_host net p b ≡ false → keeps_horizon net p b ≡ true → a ≤ p → p < a + k → a + k ≤ net.publishers → Begins net p m w → Brings net m b p w (in_turn (sweep_for net) (numbers_from a k) w).world
 sweeps_bring net p m b a zero w n retry quiet i host keeps x y z h = absurd (omega (arith, x, y))
 sweeps_bring net p m b a (suc k) w n retry quiet i host keeps x y z h =

@@ -1,4 +1,5 @@
--- All brokers by rising depth, one after another: what holds as each has had its turn
+-- What each broker's turn keeps holds once all brokers have had their
+-- turn by rising depth, since every depth is gone through in order
 use Rattle.std.proofs.Common.{◌≡◌, ◌≢◌, ◌⊎◌, inl, inr, ℕ, suc, zero, ◌+◌, ◌<◌, sym, subst, arith}
 use Rattle.std.specs.Prelude.{nat_eq, filter, flat_map}
 use Rattle.std.proofs.lemmas.Bool.{cases_eq, eq-eqb, ne_eqb}

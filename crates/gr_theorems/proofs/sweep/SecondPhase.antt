@@ -270,6 +270,7 @@ handed_all net p m w n b a =
     none c (inl l) = omega (arith, l)
     none c (inr l) = omega (arith, l.1)
 
+-- after the second phase each kept horizon is at the moment, and each question that stands was asked at it
 pub second_phase_calms : (net : Net) (p m : ℕ) (w : World) → IsNet net → Begins net p m w → Asked net p (log_of w p).settled m (length w.frames) (first_phase net w p) → Calm net p m (length w.frames) (second_phase net w p)
 second_phase_calms net p m w n b a =
     let h = handed_all net p m w n b a in

@@ -138,6 +138,7 @@ know_to p b f e = go f.body e
     go (body.Curiosity runs) e = absurd (false≢true e)
     go (body.Expect tick) e = absurd (false≢true e)
 
+-- the frames picked for a broker bring it knowledge of the publisher
 pub all_know_to : (p b : ℕ) (fs : List Frame) → Each (IsKnowTo p b) (filter (is_know_to p b) fs)
 all_know_to p b [] = tt
 all_know_to p b (f ∷ fs) =
@@ -170,6 +171,7 @@ abbrev pub KnowsBody : ℕ → Body → Type 0
 KnowsBody t (body.Knowledge runs) = known_at runs t ≢ Q
 KnowsBody t _ = ⊥
 
+-- a frame that brings knowledge of the tick
 abbrev pub BringsTick : ℕ → Frame → Type 0
 BringsTick t f = KnowsBody t f.body
 
@@ -337,18 +339,21 @@ handed p first b w = filter (is_know_to p b) (frames_past first w.frames)
 handed_true : (net : Net) (p first b : ℕ) (w : World) → WorldFits net w → Each (FrameTrue net w) (handed p first b w)
 handed_true net p first b w f = filter_frames net w (is_know_to p b) (frames_past first w.frames) (frames_past_true net w first w.frames f.frames)
 
+-- a broker's turn adds frames, leaves the log and the other views, and makes no question new
 pub turn_leaves : (net : Net) (p first : ℕ) (w : World) (b : ℕ) → IsNet net → WorldFits net w → Unknowns net w → Leaves net w p b (hand_down net p first w b).world []
 unfolding hand_down_by
 turn_leaves net p first w b n f u =
     turn_keeps net (Leaves net w) n (leaves_step net w n) p b (handed p first b w) w f (handed_true net p first b w f) (all_know_to p b (frames_past first w.frames))
     (record { more = []; frames = sym (append-nil w.frames); log = refl; other = λ c k. refl; unknown = u; asks = λ t c. refl; wants = λ t c. c })
 
+-- a tick that a child waits for, and that is to come, is sent to it as known in the turn
 pub turn_tells : (net : Net) (c t first p b : ℕ) (w : World) → IsNet net → WorldFits net w → WaitsFor net c t first p b w (handed p first b w) → Has (TellsKnown p b c t) (frames_past first (hand_down net p first w b).world.frames)
 unfolding hand_down_by
 turn_tells net c t first p b w n f h =
     ⊎_elim (λ z. z) (λ z. absurd z.2)
     (turn_keeps net (WaitsFor net c t first) n (waits_step net c t first n) p b (handed p first b w) w f (handed_true net p first b w f) (all_know_to p b (frames_past first w.frames)) h).state
 
+-- where each tick up to the moment is known or to come, the turn brings the horizon to the moment
 pub turn_rises : (net : Net) (m p first b : ℕ) (w : World) → IsNet net → WorldFits net w → Rising net m p b w (handed p first b w) → m ≤ (view_of (hand_down net p first w b).world b p).horizon
 unfolding hand_down_by
 turn_rises net m p first b w n f h =

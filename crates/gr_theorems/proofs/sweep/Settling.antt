@@ -159,6 +159,7 @@ acks_delivered_here net m base rest w x fs n f tr s =
         subst (λ z. wanted_at (wants_of net p z (view_of y z p) b) t ≡ A) h.to_is (subst (λ z. wanted_at (wants_of net p x.head.to (view_of y x.head.to p) z) t ≡ A) h.from_is
         (ap (λ z. wanted_at (wants_of net p x.head.to z x.head.from) t) d.taken.view ∙ (d.ticks.wants t ∙ ap (λ q. curious (known_at (view_of w x.head.to p).know t) (acknowledged_at (wanted_at (wants_of net p x.head.to (view_of w x.head.to p) x.head.from) t) q) q) v)))
 
+-- the delivery of a waiting acknowledgement keeps what holds in the third phase
 pub acks_delivered : (net : Net) (p m : ℕ) (base : List Frame) (rest : List ℕ) (w : World) (x : Frame) (fs : List Frame) → IsNet net → WorldFits net w → FrameTrue net w x → Settling net p m base rest w (x ∷ fs) → Settling net p m base rest (deliver_frame net w x).world (sent_up net w x ++ fs)
 acks_delivered net p m base rest w x fs n f tr s =
     let e = s.plain.0.publisher in
@@ -224,6 +225,7 @@ settled_upto net p m base b bs w t n f i j out s one le =
 not_left : (b c : ℕ) (bs : List ℕ) → c ≢ b → stands bs c ≡ false → stands (b ∷ bs) c ≡ false
 not_left b c bs n e = ap₂ (λ x y. x || y) (ne_eqb b c (λ z. n (sym z))) e
 
+-- the wake of a broker below the host, after all its children, keeps what holds in the third phase
 pub settling_woken : (net : Net) (p m : ℕ) (base : List Frame) (b : ℕ) (bs : List ℕ) (w : World) → IsNet net → 1 ≤ net.retry → WorldFits net w → b < net.brokers → p < net.publishers → is_host net p b ≡ false → ((c : ℕ) → list_any (λ x. nat_eq x c) (net.children p b) ≡ true → stands (b ∷ bs) c ≡ false) → Settling net p m base (b ∷ bs) w [] →
     Settling net p m base bs (wake_for net w b p).world (filter is_want (sent_since w (wake_for net w b p).world))
 settling_woken net p m base b bs w n r f i j host out s =
@@ -400,6 +402,7 @@ host_woken net f p b now v log host late a c h = subst (HostWoken v log) (sym is
     told true tick ws = expects_all p b tick (net.children p b) ws
     told false tick ws = tt
 
+-- the wake of the host, after all its children, keeps what holds in the third phase
 pub settling_host : (net : Net) (p m : ℕ) (base : List Frame) (b : ℕ) (bs : List ℕ) (w : World) → IsNet net → 1 ≤ net.quiet → WorldFits net w → b < net.brokers → p < net.publishers → is_host net p b ≡ true → ((c : ℕ) → list_any (λ x. nat_eq x c) (net.children p b) ≡ true → stands (b ∷ bs) c ≡ false) → Settling net p m base (b ∷ bs) w [] →
     Settling net p m base bs (wake_for net w b p).world (filter is_want (sent_since w (wake_for net w b p).world))
 unfolding wake_for_by

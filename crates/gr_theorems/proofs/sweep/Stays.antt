@@ -29,6 +29,7 @@ pub record DeliveredWant (net : Net) (w y : World) (x : Frame) (runs : Wanted) (
   pub taken : Taken net w y x.head.to x.head.publisher o
   pub fits : WorldFits net y
 
+-- what the delivery of a Curiosity frame does at each tick
 pub delivered_want : (net : Net) (w : World) (x : Frame) (runs : Wanted) → IsNet net → WorldFits net w → FrameTrue net w x → x.body ≡ body.Curiosity runs →
     DeliveredWant net w (deliver_frame net w x).world x runs (receive net w.clock x (view_of w x.head.to x.head.publisher) (log_of w x.head.publisher))
 unfolding deliver_frame_by
@@ -69,6 +70,7 @@ stays_here net w y x runs o c t i j d child na s =
       unknown = ap (λ z. known_at z.know t) d.taken.view ∙ ⊎_elim (λ z. z ∙ (ap (λ b. if b then F else known_at v.know t) no1 ∙ s.unknown)) (λ z. z.0) (k.know t);
     }
 
+-- a broker whose view stays still stores the question
 pub same_stores : (net : Net) (w y : World) (p u c t : ℕ) → view_of y u p ≡ view_of w u p → Stores net w p u c t → Stores net y p u c t
 same_stores net w y p u c t e s = record { asks = ap (λ z. wanted_at (wants_of net p u z c) t) e ∙ s.asks; unknown = ap (λ z. known_at z.know t) e ∙ s.unknown }
 
@@ -111,6 +113,7 @@ pub record WokenBelow (net : Net) (w y : World) (b p : ℕ) (o : Outcome) : Type
   pub ticks : WakeTicks net p b w.clock (view_of w b p) o
   pub taken : Taken net w y b p o
 
+-- what the wake of a broker below the host does at each tick
 pub woken_below : (net : Net) (w : World) (b p : ℕ) → WorldFits net w → b < net.brokers → p < net.publishers → is_host net p b ≡ false → WokenBelow net w (wake_for net w b p).world b p (wake net p b w.clock (view_of w b p) (log_of w p))
 unfolding wake_for_by wake
 woken_below net w b p f i j e = record {

@@ -12,13 +12,16 @@ use Rattle.gr_theorems.specs.Settles.{Call, wakes, delivers, made, EachSent, all
 
 -- Frames are only added
 
+-- the second world has all frames of the first, and maybe more after them
 pub record Grows (w u : World) : Type 0 where
   pub more : List Frame
   pub frames : u.frames ≡ w.frames ++ more
 
+-- a world has all its own frames
 pub grows_none : (w : World) → Grows w w
 grows_none w = record { more = []; frames = sym (append-nil w.frames) }
 
+-- frames that are kept twice are kept
 pub grows_on : (w u v : World) → Grows w u → Grows u v → Grows w v
 grows_on w u v a b = record { more = a.more ++ b.more; frames = b.frames ∙ (ap (λ z. z ++ b.more) a.frames ∙ append_assoc w.frames a.more b.more) }
 
@@ -26,10 +29,12 @@ absorbed_grows : (w : World) (b p : ℕ) (o : Outcome) → Grows w (absorbed w b
 unfolding absorbed
 absorbed_grows w b p o = record { more = o.frames; frames = refl }
 
+-- a wake keeps the frames sent before
 pub wake_grows : (net : Net) (w : World) (b p : ℕ) → Grows w (wake_for net w b p).world
 unfolding wake_for_by
 wake_grows net w b p = absorbed_grows w b p (wake net p b w.clock (view_of w b p) (log_of w p))
 
+-- a delivery keeps the frames sent before
 pub deliver_grows : (net : Net) (w : World) (f : Frame) → Grows w (deliver_frame net w f).world
 unfolding deliver_frame_by
 deliver_grows net w f = absorbed_grows w f.head.to f.head.publisher (receive net w.clock f (view_of w f.head.to f.head.publisher) (log_of w f.head.publisher))
@@ -42,10 +47,12 @@ made_grows net w (delivers k) = go (frame_at w k)
     go None = grows_none w
     go (Some f) = deliver_grows net w f
 
+-- calls made one after another keep the frames sent before
 pub all_made_grows : (net : Net) (cs : List Call) (w : World) → Grows w (all_made net cs w).world
 all_made_grows net [] w = grows_none w
 all_made_grows net (c ∷ cs) w = grows_on w (made net w c).world (all_made net cs (made net w c).world).world (made_grows net w c) (all_made_grows net cs (made net w c).world)
 
+-- as many frames are there as were there
 pub grows_long : (w u : World) (n : ℕ) → Grows w u → n ≤ length w.frames → n ≤ length u.frames
 grows_long w u n g l = omega (arith, l, ap length g.frames ∙ length-append w.frames g.more)
 
@@ -70,6 +77,7 @@ front_stays [] ys k f e = absurd (none_some f e)
 front_stays (x ∷ xs) ys zero f e = e
 front_stays (x ∷ xs) ys (suc k) f e = front_stays xs ys k f e
 
+-- a frame keeps its number
 pub at_stays : (w u : World) (k : ℕ) (f : Frame) → Grows w u → IsAt w k f → IsAt u k f
 at_stays w u zero f g e = e
 at_stays w u (suc k) f g e = ap (λ z. slice_get z k) g.frames ∙ front_stays w.frames g.more k f e
@@ -134,9 +142,11 @@ calls_are {X} {Y} net R g f stays one (x ∷ xs) (y ∷ ys) w a =
     on (u ∷ us) [] b = absurd b
     on (u ∷ us) (v ∷ vs) b = (stays w (all_made net (g w x) w).world u v (all_made_grows net (g w x) w) b.0, on us vs b.1)
 
+-- the call that delivers a number delivers the frame with that number
 pub made_is : (net : Net) (w : World) (k : ℕ) (f : Frame) → IsAt w k f → made net w (delivers k) ≡ deliver_frame net w f
 made_is net w k f e = ap (λ o. let t : Transition = elim o [ None ↦ unchanged w [] | Some f ↦ deliver_frame net w f ] in t) e
 
+-- the calls of upward deliveries, made one after another, are these deliveries
 pub up_are : (net : Net) (fuel : ℕ) (ks : List ℕ) (fs : List Frame) (w : World) → Pairs (IsAt w) ks fs → all_made net (up_calls net fuel ks w) w ≡ deliver_up net fuel fs w
 unfolding up_calls deliver_up_by
 up_are net zero ks fs w a = refl
@@ -148,6 +158,7 @@ up_are net (suc fuel) ks fs w a = calls_are net (λ u k f. IsAt u k f) (λ u k. 
     ∙ ap (λ (t : Transition). followed_by t (λ x. deliver_up net fuel (filter is_want (sent_since u x)) x)) (made_is net u k f e))
     ks fs w a
 
+-- the calls of a broker's wake, with the upward deliveries that follow it, are that wake
 pub wakes_are : (net : Net) (p : ℕ) (w : World) (b : ℕ) → all_made net (wake_calls net p w b) w ≡ wake_up net p w b
 unfolding wake_calls wake_up_by
 wakes_are net p w b =
@@ -163,6 +174,7 @@ deliveries_are net (k ∷ ks) (f ∷ fs) w a =
     ap (λ (r : Transition). let t : Transition = record { world = r.world; lines = s.lines ++ r.lines } in t) (deliveries_are net ks fs s.world (pairs_stay w s.world ks fs (made_grows net w (delivers k)) a.1))
     ∙ ap (λ (t : Transition). followed_by t (in_turn (deliver_frame net) fs)) (made_is net w k f a.0)
 
+-- the calls of a broker's turn in the second phase are that turn
 pub downs_are : (net : Net) (p first : ℕ) (w : World) (b : ℕ) → first ≤ length w.frames → all_made net (down_calls net p first w b) w ≡ hand_down net p first w b
 unfolding down_calls hand_down_by
 downs_are net p first w b l = deliveries_are net (sent_past (is_know_to p b) first w) (filter (is_know_to p b) (frames_past first w.frames)) w (sent_at (is_know_to p b) first w l)
@@ -172,12 +184,15 @@ pairs_same : {X : Type 0} (R : X → X → Type 0) (xs : List X) → ((x : X) �
 pairs_same R [] h = tt
 pairs_same R (x ∷ xs) h = (h x, pairs_same R xs h)
 
+-- the calls of wakes one after another are these wakes
 pub wake_turns_are : (net : Net) (p : ℕ) (bs : List ℕ) (w : World) → all_made net (calls_in_turn net (wake_calls net p) bs w) w ≡ in_turn (wake_up net p) bs w
 wake_turns_are net p bs w = calls_are net (λ u x y. x ≡ y) (wake_calls net p) (wake_up net p) (λ u v x y g e. e) (λ u x y e. wakes_are net p u x ∙ ap (wake_up net p u) e) bs bs w (pairs_same (λ x y. x ≡ y) bs (λ x. refl))
 
+-- the calls of second-phase turns one after another are these turns
 pub down_turns_are : (net : Net) (p first : ℕ) (bs : List ℕ) (w : World) → first ≤ length w.frames → all_made net (calls_in_turn net (down_calls net p first) bs w) w ≡ in_turn (hand_down net p first) bs w
 down_turns_are net p first bs w l = calls_are net (λ u x y. (x ≡ y) × (first ≤ length u.frames)) (down_calls net p first) (hand_down net p first) (λ u v x y g e. (e.0, grows_long u v first g e.1)) (λ u x y e. downs_are net p first u x e.1 ∙ ap (hand_down net p first u) e.0) bs bs w (pairs_same (λ x y. (x ≡ y) × (first ≤ length w.frames)) bs (λ x. (refl, l)))
 
+-- the calls of the sweep of one publisher are that sweep
 pub sweep_for_are : (net : Net) (w : World) (p : ℕ) → all_made net (sweep_calls_for net w p) w ≡ sweep_for net w p
 unfolding sweep_calls_for sweep_for_by
 sweep_for_are net w p =
@@ -211,6 +226,7 @@ sweep_for_are net w p =
     after_two : Transition → Transition
     after_two r = record { world = r.world; lines = (s.lines ++ (all_made net b x).lines) ++ r.lines }
 
+-- the calls of the sweeps of some publishers are these sweeps
 pub sweeps_are : (net : Net) (ps : List ℕ) (w : World) → all_made net (calls_in_turn net (sweep_calls_for net) ps w) w ≡ in_turn (sweep_for net) ps w
 sweeps_are net ps w = calls_are net (λ u x y. x ≡ y) (sweep_calls_for net) (sweep_for net) (λ u v x y g e. e) (λ u x y e. sweep_for_are net u x ∙ ap (sweep_for net u) e) ps ps w (pairs_same (λ x y. x ≡ y) ps (λ x. refl))
 

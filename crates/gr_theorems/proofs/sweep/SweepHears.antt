@@ -1,4 +1,5 @@
--- What a sweep adds to what was heard: the Knowledge frames that are sent in it
+-- A sweep adds to what was heard exactly the Knowledge frames that
+-- are sent in it, since its sent lines are those of its frames
 use Rattle.std.proofs.Common.{◌≡◌, inl, inr, ℕ, suc, max, Bool, true, false, not, ◌&&◌, ◌||◌, List, [], ◌∷◌, ◌++◌, length, refl, sym, ap, ap₂, ◌∙◌, subst, None, append-nil, append_assoc}
 use Rattle.std.specs.Prelude.{nat_eq, nat_lt, filter, cond}
 use Rattle.std.specs.List.{list_any}
@@ -130,6 +131,7 @@ pub record SweepAdds (net : Net) (w : World) (k : ℕ) : Type 0 where
   pub frames : (sweep net w k).world.frames ≡ w.frames ++ more
   pub lines : (heard : Pieces) → hearing_all heard (sweep net w k).lines ≡ hear_frames heard more
 
+-- a sweep adds to what was heard what its Knowledge frames say, each at its receiver
 pub sweep_adds : (net : Net) (w : World) (k : ℕ) → IsNet net → WorldFits net w → SweepAdds net w k
 unfolding sweep_by
 sweep_adds net w k n f = let a = go (nat_lt max_tick m) in record { more = a.more; frames = a.frames; lines = a.lines }
@@ -148,6 +150,7 @@ sweep_adds net w k n f = let a = go (nat_lt max_tick m) in record { more = a.mor
 
 -- Tick by tick
 
+-- whether a body brings knowledge of a tick
 abbrev pub tells_body : ℕ → Body → Bool
 tells_body t (body.Knowledge runs) = not (is_Q (known_at runs t))
 tells_body t _ = false

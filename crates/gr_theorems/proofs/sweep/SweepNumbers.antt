@@ -1,4 +1,5 @@
--- Counting the numbers of frames: those that pass a test, as more are sent
+-- How often a number stands among the frames that pass a test is
+-- counted in parts, since frames are numbered on as they are sent
 use Rattle.std.proofs.Common.{◌≡◌, ℕ, suc, zero, ◌+◌, ◌-◌, ◌≤◌, ◌<◌, Bool, true, false, List, [], ◌∷◌, ◌++◌, map, length, refl, sym, ap, ap₂, ◌∙◌, subst, Some, None, arith}
 use Rattle.std.specs.Prelude.{nat_eq, if◌then◌else◌, slice_get}
 use Rattle.std.proofs.lemmas.Bool.{eq-eqb, ne_eqb}
@@ -22,9 +23,11 @@ delivered-append (delivers k ∷ xs) ys = ap (λ z. k ∷ z) (delivered-append x
 abbrev pub count : ℕ → List Call → ℕ
 count k cs = times k (delivered cs)
 
+-- two lists of calls deliver a number as often as the one and the other together
 pub count-append : (k : ℕ) (xs ys : List Call) → count k (xs ++ ys) ≡ count k xs + count k ys
 count-append k xs ys = ap (times k) (delivered-append xs ys) ∙ times-append k (delivered xs) (delivered ys)
 
+-- calls that deliver numbers deliver each as often as it stands among them
 pub count_deliveries : (k : ℕ) (ks : List ℕ) → count k (map delivers ks) ≡ times k ks
 count_deliveries k [] = refl
 count_deliveries k (x ∷ ks) = ap (λ z. (if nat_eq x k then 1 else 0) + z) (count_deliveries k ks)
@@ -60,6 +63,7 @@ sent_more k test first w u more l e =
 pub sent_new : (test : Frame → Bool) (w u : World) (more : List Frame) → u.frames ≡ w.frames ++ more → sent_past test (length w.frames) u ≡ numbers_of test (suc (length w.frames)) more
 sent_new test w u more e = ap (numbers_of test (suc (length w.frames))) (ap (frames_past (length w.frames)) e ∙ frames_past_all w.frames more)
 
+-- what was sent past a point was sent up to an earlier world, or since
 pub sent_split : (k : ℕ) (test : Frame → Bool) (first : ℕ) (w u : World) → first ≤ length w.frames → Grows w u → times k (sent_past test first u) ≡ times k (sent_past test first w) + times k (sent_past test (length w.frames) u)
 sent_split k test first w u l g = sent_more k test first w u g.more l g.frames ∙ ap (λ z. times k (sent_past test first w) + times k z) (sym (sent_new test w u g.more g.frames))
 
@@ -67,11 +71,13 @@ past_none : (xs : List Frame) → frames_past (length xs) xs ≡ []
 past_none [] = refl
 past_none (x ∷ xs) = past_none xs
 
+-- past all frames of a world none is sent
 pub sent_none : (test : Frame → Bool) (w : World) → sent_past test (length w.frames) w ≡ []
 sent_none test w = ap (numbers_of test (suc (length w.frames))) (past_none w.frames)
 
 -- Tests
 
+-- how often something happens that happens once or not: 1 where it does
 abbrev pub one : Bool → ℕ
 one q = if q then 1 else 0
 
@@ -93,6 +99,7 @@ times_parts k n P a b c (f ∷ fs) h e =
     let z = times-append k (if c f then n ∷ [] else []) (numbers_of c (suc n) fs) in
     omega (arith, x, y, z, head_parts k n (a f) (b f) (c f) (h f e.0), times_parts k (suc n) P a b c fs h e.1)
 
+-- where no frame passes a test, no number is one of those that pass it
 pub times_none : (k n : ℕ) (test : Frame → Bool) (fs : List Frame) → Each (λ f. test f ≡ false) fs → times k (numbers_of test n fs) ≡ 0
 times_none k n test [] a = refl
 times_none k n test (f ∷ fs) a = ap (λ q. times k ((if q then n ∷ [] else []) ++ numbers_of test (suc n) fs)) a.0 ∙ times_none k (suc n) test fs a.1
@@ -158,5 +165,6 @@ sent_never first (suc n) test w f l e t =
     let number : suc first + i ≡ suc n = omega (arith, l) in
     subst (λ z. times z (numbers_of test (suc first) (frames_past first w.frames)) ≡ 0) number (listed_never (suc first) i test (frames_past first w.frames) f (past_get first i w.frames ∙ (ap (slice_get w.frames) at ∙ e)) t)
 
+-- no number up to a point is among those sent past it
 pub sent_not_before : (first n : ℕ) (test : Frame → Bool) (w : World) → n ≤ first → times n (sent_past test first w) ≡ 0
 sent_not_before first n test w l = times_below n (suc first) test (frames_past first w.frames) (omega (arith, l))

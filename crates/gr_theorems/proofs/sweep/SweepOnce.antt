@@ -22,6 +22,7 @@ use Rattle.gr_theorems.proofs.sweep.Settling.{NoKnow}
 
 -- The upward frames
 
+-- turns one after another keep the frames sent before, where each of them does
 pub in_turn_grows : {X : Type 0} (f : World → X → Transition) → ((w : World) (x : X) → Grows w (f w x).world) → (xs : List X) (w : World) → Grows w (in_turn f xs w).world
 in_turn_grows f g [] w = grows_none w
 in_turn_grows f g (x ∷ xs) w = grows_on w (f w x).world (in_turn f xs (f w x).world).world (g w x) (in_turn_grows f g xs (f w x).world)
@@ -174,6 +175,7 @@ down_turns_once net k p first (b ∷ bs) w n j a d o l =
 
 -- Together
 
+-- a frame that a sweep delivers: each but an expectation
 abbrev pub is_due : Frame → Bool
 is_due f = not (is_expect f)
 

@@ -1,4 +1,5 @@
--- What the calls of a sweep send: frames of its publisher, and where knowledge is delivered, knowledge for the children alone
+-- The calls of a sweep send frames of its publisher alone, and where knowledge
+-- is delivered, knowledge for the children alone, since learning asks nothing
 use Rattle.std.proofs.Common.{◌≡◌, ℕ, suc, zero, Bool, true, false, ◌&&◌, List, [], ◌∷◌, ◌++◌, map, length, refl, sym, ap, ◌∙◌, subst, append-nil, append_assoc}
 use Rattle.std.specs.Prelude.{nat_eq, nat_lt, filter, if◌then◌else◌}
 use Rattle.std.proofs.lemmas.Bool.{false≢true, and_parts, eqb-true, eq-eqb, or_left, or_right}
@@ -29,12 +30,15 @@ pub record AddsFrames (R : Frame → Type 0) (w u : World) : Type 0 where
 pub adds_none : (R : Frame → Type 0) (w : World) → AddsFrames R w w
 adds_none R w = record { more = []; frames = sym (append-nil w.frames); each = tt }
 
+-- frames with a property, and then more with it, are more with it
 pub adds_on : (R : Frame → Type 0) (w u v : World) → AddsFrames R w u → AddsFrames R u v → AddsFrames R w v
 adds_on R w u v a b = record { more = a.more ++ b.more; frames = b.frames ∙ (ap (λ z. z ++ b.more) a.frames ∙ append_assoc w.frames a.more b.more); each = Each-join R a.more b.more a.each b.each }
 
+-- the added frames have a weaker property too
 pub adds_map : (R S : Frame → Type 0) (w u : World) → ((f : Frame) → R f → S f) → AddsFrames R w u → AddsFrames S w u
 adds_map R S w u h a = record { more = a.more; frames = a.frames; each = Each-map R S a.more h a.each }
 
+-- where frames with a property are added, those sent before are kept
 pub adds_grow : (R : Frame → Type 0) (w u : World) → AddsFrames R w u → Grows w u
 adds_grow R w u a = record { more = a.more; frames = a.frames }
 
@@ -52,6 +56,7 @@ since_adds R w u a = subst (Each R) (sym (ap (frames_past (length w.frames)) a.f
 
 -- Frames of one publisher
 
+-- a frame of the publisher
 abbrev pub Of : ℕ → Frame → Type 0
 Of p f = f.head.publisher ≡ p
 
@@ -95,18 +100,22 @@ wake_up_of net p w b =
     let d = wake_of net w b p in
     adds_on (Of p) w y (deliver_up net net.brokers (filter is_want (sent_since w y)) y).world d (deliver_up_of net p net.brokers (filter is_want (sent_since w y)) y (Each-kept (Of p) is_want (sent_since w y) (since_adds (Of p) w y d)))
 
+-- a property that says nothing holds of each
 pub units : {X : Type 0} (xs : List X) → Each (λ x. Unit {0}) xs
 units [] = tt
 units (x ∷ xs) = (tt, units xs)
 
+-- the wakes of the first phase send frames of their publisher only
 pub wake_turns_of : (net : Net) (p : ℕ) (bs : List ℕ) (w : World) → AddsFrames (Of p) w (in_turn (wake_up net p) bs w).world
 wake_turns_of net p bs w = in_turn_adds (Of p) (λ b. Unit {0}) (wake_up net p) (λ u b t. wake_up_of net p u b) bs w (units bs)
 
 -- Knowledge for the children
 
+-- whether a frame is a Knowledge frame
 abbrev pub is_know : Frame → Bool
 is_know f = elim f.body [ body.Knowledge runs ↦ true | _ ↦ false ]
 
+-- a frame of knowledge from a broker to one of its children
 pub record Down (net : Net) (p b : ℕ) (f : Frame) : Type 0 where
   pub know : is_know f ≡ true
   pub publisher : f.head.publisher ≡ p
@@ -174,5 +183,6 @@ pub record KnowOf (p : ℕ) (f : Frame) : Type 0 where
   pub know : is_know f ≡ true
   pub publisher : f.head.publisher ≡ p
 
+-- the turns of the second phase send knowledge of their publisher only
 pub hand_turns_add : (net : Net) (p first : ℕ) (bs : List ℕ) (w : World) → AddsFrames (KnowOf p) w (in_turn (hand_down net p first) bs w).world
 hand_turns_add net p first bs w = in_turn_adds (KnowOf p) (λ b. Unit {0}) (hand_down net p first) (λ u b t. adds_map (Down net p b) (KnowOf p) u (hand_down net p first u b).world (λ f d. record { know = d.know; publisher = d.publisher }) (hand_down_adds net p first u b)) bs w (units bs)

@@ -62,5 +62,6 @@ pub record Calm (net : Net) (p m first : ℕ) (w : World) : Type 0 where
 abbrev pub first_phase : Net → World → ℕ → World
 first_phase net w p = (in_turn (wake_up net p) (inwards net p) w).world
 
+-- the world after the second phase
 abbrev pub second_phase : Net → World → ℕ → World
 second_phase net w p = (in_turn (hand_down net p (length w.frames)) (outwards net p) (first_phase net w p)).world

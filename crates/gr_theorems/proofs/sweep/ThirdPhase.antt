@@ -50,6 +50,7 @@ pub record Still (net : Net) (p m : ℕ) (before w : World) : Type 0 where
 abbrev pub third_phase : Net → World → ℕ → World
 third_phase net w p = (in_turn (wake_up net p) (inwards net p) w).world
 
+-- from where every horizon is at the moment, the third phase ends with the log cut there
 pub third_phase_cuts : (net : Net) (p m first : ℕ) (w : World) → IsNet net → 1 ≤ net.quiet → 1 ≤ net.retry → p < net.publishers → Calm net p m first w → Still net p m w (third_phase net w p)
 third_phase_cuts net p m first w n z r j c =
     let s = settling_turns net p m w.frames (inwards net p) w n z r c.fits (depths_in net p (numbers_down net.brokers)) j (inwards_falls net p) (record {

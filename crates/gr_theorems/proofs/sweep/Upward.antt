@@ -47,6 +47,7 @@ forward_each net p b R new [] ws s = tt
 forward_each net p b R new (c ∷ cs) [] s = tt
 forward_each net p b R new (c ∷ cs) (w ∷ ws) s = Each-on R (know_frames b c p (forward net p c w new)) (forward_frames net p b new cs ws) (know_each net p b c R (forward net p c w new) s) (forward_each net p b R new cs ws s)
 
+-- what holds of each frame that a broker may send holds of the expectations that it hands on
 pub expects_each : (net : Net) (p b tick : ℕ) (R : Frame → Type 0) (cs : List ℕ) (ws : List Wanted) → SentBy net p b R → Each R (expect_frames p b tick cs ws)
 expects_each net p b tick R [] ws s = tt
 expects_each net p b tick R (c ∷ cs) [] s = tt
@@ -56,10 +57,12 @@ expects_each net p b tick R (c ∷ cs) (w ∷ ws) s = Each-on R (if covers w tic
     go true = tt
     go false = (s.expect c tick, tt)
 
+-- what holds of each frame that a broker may send holds of all that learning sends
 pub learn_each : (net : Net) (p b : ℕ) (R : Frame → Type 0) (piece : Known) (v : View) (log : Log) → SentBy net p b R → Each R (learn net p b piece v log).frames
 unfolding learn
 learn_each net p b R piece v log s = forward_each net p b R (new_ticks v.know piece) (net.children p b) v.wants s
 
+-- what holds of each frame that a broker may send holds of all that asking sends
 pub asking_each : (net : Net) (p b now : ℕ) (R : Frame → Type 0) (wanted : ℕ → Bool) (ps : List ℕ) (v : View) (log : Log) → SentBy net p b R → Each R (asking net p b now wanted ps v log).frames
 unfolding asking
 asking_each net p b now R wanted ps v log s = up_each net p b R _ s
@@ -111,6 +114,7 @@ pub record HasDepths (net : Net) : Type 0 where
 abbrev pub rank_of : Net → Frame → ℕ
 rank_of net f = net.depth f.head.publisher f.head.to
 
+-- what holds of each upward frame of a list holds of each that is picked from it
 pub up_kept : (P R : Frame → Type 0) (fs : List Frame) → ((f : Frame) → is_want f ≡ true → P f → R f) → Each P fs → Each R (filter is_want fs)
 up_kept P R [] h a = tt
 up_kept P R (f ∷ fs) h a =

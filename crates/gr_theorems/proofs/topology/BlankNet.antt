@@ -33,6 +33,7 @@ place_1 = record {
   split = λ s k n. absurd (true≢false (subst (λ z. list_any (λ x. nat_eq x z) (0 ∷ []) ≡ false) (sym (only_one 0 s k)) n));
 }
 
+-- the topology of the small examples is a tree
 pub net0_is : IsNet net0
 net0_is = record {
   place = λ p b i j. one (λ q. IsPlace net0 q b) (two (IsPlace net0 0) place_0 place_1 b j) p i;

@@ -140,6 +140,7 @@ over_edges net p b n j i = record {
   expect = λ c tick m. record { publisher = j; from = i; to = n.child_in p b c j i m; between = n.child_up p b c j i m };
 }
 
+-- each frame sent so far goes over an edge of the tree
 abbrev pub AllOver : Net → World → Type 0
 AllOver net w = Each (GoesOverEdge net) w.frames
 
@@ -155,6 +156,7 @@ published_over : (net : Net) (w : World) (p number : ℕ) (e : Event) → IsNet 
 unfolding publish_now_by absorbed
 published_over net w p number e n j a = Each-on (GoesOverEdge net) w.frames _ a (publish_on net p (net.host p) w.clock number (GoesOverEdge net) e (view_of w (net.host p) p) (log_of w p) (over_edges net p (net.host p) n j (n.host_in p j)))
 
+-- that each frame goes over an edge of the tree is kept by each call, clock and restart
 pub over_closed : (net : Net) → IsNet net → IsClosed net (GoesOverEdge net) (AllOver net)
 unfolding restarted
 over_closed net n = record {
