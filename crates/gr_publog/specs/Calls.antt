@@ -40,7 +40,8 @@ logging_calls rs (Some r) calls = append_calls (length (front_text rs)) (record_
 
 -- those that open a lane that reads these bytes: one of at most 6 gets the text of an empty log
 abbrev pub opening_calls : List ℕ → List Call → List Call
-opening_calls bytes calls = if nat_le (length bytes) 6 then Sync ∷ (Write 0 (header ++ 0 ∷ []) ∷ (Cut 0 ∷ (Sync ∷ calls))) else Sync ∷ calls
+opening_calls bytes calls =
+    if nat_le (length bytes) 6 then Sync ∷ (Write 0 (header ++ 0 ∷ []) ∷ (Cut 0 ∷ (Sync ∷ calls))) else Sync ∷ calls
 
 -- what it reads then
 abbrev pub opened_text : List ℕ → List ℕ
@@ -53,7 +54,8 @@ abbrev pub IsReady : LogView → Lane → Type 0
 IsReady l lane = l.broken ≡ false → Stands lane l.records
 
 -- What a call that logs a record, or none, does to the lane of a log.
-pub record Appends {T : Type 0} (l : LogView) (logged : Option Record) (before after : Lane) (result : Result T LogFault) : Type 0 where
+pub record Appends {T : Type 0} (l : LogView) (logged : Option Record) (before after : Lane)
+    (result : Result T LogFault) : Type 0 where
   -- after `Ok` a crash leaves the list with the record, and no call was made but those of the format
   pub stands : l.broken ≡ false → OnOk result (Stands after (records_with l.records logged))
   pub calls : OnOk result (after.calls ≡ logging_calls l.records logged before.calls)
@@ -61,7 +63,8 @@ pub record Appends {T : Type 0} (l : LogView) (logged : Option Record) (before a
   pub any_moment : l.broken ≡ false → (image : List ℕ) → LeftSince after (moment before) image → Reads l.records logged image
   -- an ordered stop at one of its calls lets no `Ok` through, and the call and the pick tell which of the two is left
   pub breaks : IsSome logged → (call pick : ℕ) → before.stop ≡ After call pick → call ≤ 4 → IsErr result
-  pub kept : (call pick : ℕ) → Broke before after call pick → log_text (crash_image after) ≡ Ok (records_left l.records logged call pick)
+  pub kept : (call pick : ℕ) → Broke before after call pick
+      → log_text (crash_image after) ≡ Ok (records_left l.records logged call pick)
   -- want of memory comes before the first call, and the disk fails at one of the four
   pub untouched : IsErrOf result fault.Memory → after ≡ before
   pub still : IsErrOf result fault.Memory → l.broken ≡ false → Stands after l.records
@@ -79,7 +82,8 @@ pub record Opens (before after : Lane) (result : Result LogView LogFault) : Type
   pub calls : OnOk result (after.calls ≡ opening_calls (content before) before.calls)
   pub reserved : OnOk result (after.reserved ≡ true)
   -- at every moment of the call a crash leaves what it might have left before, or what reads as before
-  pub any_moment : (image : List ℕ) → LeftSince after (moment before) image → MayLeave before image ⊎ (log_text image ≡ log_text (content before))
+  pub any_moment : (image : List ℕ) → LeftSince after (moment before) image
+      → MayLeave before image ⊎ (log_text image ≡ log_text (content before))
   pub unset : before.stop ≡ Unset → after.stop ≡ Unset
 
 -- an answer other than that the disk failed
@@ -93,22 +97,23 @@ abbrev pub NotFailed : {T : Type 0} → Result T LogFault → Type 0
 NotFailed (Ok x) = Unit {0}
 NotFailed (Err e) = IsNoFailure e
 
--- How the two counts of a disk move in a call: of failures, and of calls that a stop broke. None ever falls, one has risen where
--- the answer is that the disk failed, and neither has moved where it is anything else.
+-- How the two counts of a disk move in a call: of failures, and of calls that a stop broke. None ever falls, one has
+-- risen where the answer is that the disk failed, and neither has moved where it is anything else.
 pub record Tally {T : Type 0} (faults stops faults' stops' : ℕ) (result : Result T LogFault) : Type 0 where
   pub faults_never_fall : faults ≤ faults'
   pub stops_never_fall : stops ≤ stops'
   pub rose : IsErrOf result fault.Disk → EitherRose faults faults' stops stops'
   pub same : NotFailed result → (faults' ≡ faults) × (stops' ≡ stops)
 
--- Why a call answers that the disk failed: the lane was stopped, or the count of failures rose. No call of a faultless disk fails
--- but by a stop.
-pub record Causes {T : Type 0} (faultless : Type 0) (after : Lane) (faults faults' : ℕ) (result : Result T LogFault) : Type 0 where
+-- Why a call answers that the disk failed: the lane was stopped, or the count of failures rose. No call of a faultless
+-- disk fails but by a stop.
+pub record Causes {T : Type 0} (faultless : Type 0) (after : Lane) (faults faults' : ℕ)
+    (result : Result T LogFault) : Type 0 where
   pub why : IsErrOf result fault.Disk → (has_stopped after.stop ≡ true) ⊎ Rose faults faults'
   pub by_stop : faultless → IsErrOf result fault.Disk → has_stopped after.stop ≡ true
 
--- What a call leaves in memory, by its answer: what it has logged, what there was before, or what is broken and has to be opened
--- again. It never answers that the lane is damaged.
+-- What a call leaves in memory, by its answer: what it has logged, what there was before, or what is broken and has to be
+-- opened again. It never answers that the lane is damaged.
 pub record Leaves {V T : Type 0} (before logged broken after : V) (result : Result T LogFault) : Type 0 where
   pub ok : OnOk result (after ≡ logged)
   pub memory : IsErrOf result fault.Memory → after ≡ before

@@ -23,9 +23,9 @@ use std::marker::Model;
 /// The greatest place of a gate behind which a record is appended.
 const LAST_GATE: u64 = 1 << 62;
 
-/// A log, seen as its lane, its records, and whether the disk has failed it. What it keeps is what the records stand for:
-/// the events past the cut, three numbers, and the place of the closed gate behind the text. So its memory and the cost
-/// of a call do not grow with what was cut.
+/// A log, seen as its lane, its records, and whether the disk has failed it. What it keeps is what the records stand
+/// for: the events past the cut, three numbers, and the place of the closed gate behind the text. So its memory and the
+/// cost of a call do not grow with what was cut.
 #[derive(Drop)]
 pub struct Log {
     alloc: Global,
@@ -42,7 +42,8 @@ impl Model for Log {
 
     ghost view = { λ l. record { lane = l.lane; records = l.history.records; broken = l.broken } };
 
-    ghost invariant = { λ l. (l.gate ≡ length (front_text l.history.records)) × (l.state ≡ state_of l.history.records) × Follow empty_state l.history.records × (l.events ≡ live_events l.history.records) };
+    ghost invariant = { λ l. (l.gate ≡ length (front_text l.history.records)) × (l.state ≡ state_of l.history.records)
+        × Follow empty_state l.history.records × (l.events ≡ live_events l.history.records) };
 }
 
 /// The bytes of a record, and a closed gate behind them.
@@ -86,8 +87,8 @@ fn event_text(alloc: Global, event: &Event) -> Result<Vec<u8>, Memory>
     Ok(bytes)
 }
 
-/// Takes the memory that an append on the lane needs of the disk, and answers the bytes of the record with a closed gate
-/// behind them.
+/// Takes the memory that an append on the lane needs of the disk, and answers the bytes of the record with a closed
+/// gate behind them.
 fn prepare<D: Disk>(
     alloc: Global,
     disk: &mut D,

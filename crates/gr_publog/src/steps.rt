@@ -34,7 +34,8 @@ pub fn append_behind<D: Disk>(
     ensures any_moment { let l = D.lane_of disk.old lane in D.tells → (image : List ℕ) →
         LeftSince (D.lane_of disk.new lane) (moment l) image → IsBetween gate bytes.now (content l) image }
     ensures picked { let l = D.lane_of disk.old lane in let l' = D.lane_of disk.new lane in D.tells →
-        (call : ℕ) (pick : ℕ) → Broke l l' call pick → StoppedImage gate bytes.now (content l) call pick (crash_image l') }
+        (call : ℕ) (pick : ℕ) → Broke l l' call pick →
+        StoppedImage gate bytes.now (content l) call pick (crash_image l') }
     ensures breaks { D.tells →
         (call : ℕ) (pick : ℕ) → (D.lane_of disk.old lane).stop ≡ After call pick → call ≤ 4 → IsErr result }
     ensures left { D.tells → (D.lane_of disk.old lane).left ≤ (D.lane_of disk.new lane).left + 4 }
