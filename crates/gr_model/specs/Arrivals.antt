@@ -4,8 +4,7 @@ use Rattle.std.specs.List.{list_any}
 use Rattle.gr_event.specs.declared.event.Event.{Event}
 use Rattle.gr_frame.specs.declared.Body.TheVariants as body
 use Rattle.gr_frame.specs.declared.Frame.{Frame}
-use Rattle.gr_frame.specs.declared.fault.FrameKind.{FrameKind}
-use Rattle.gr_frame.specs.declared.fault.FrameKind.TheVariants.{Memory, Short, BadMagic, BadVersion, BadKind, BadRange, BadOrder, BadEvent, Trailing, TooLong}
+pub use Rattle.gr_frame.specs.Fault.{fault_number}
 use Rattle.gr_frame.specs.declared.fault.FrameFault.{FrameFault}
 use Rattle.gr_frame.specs.Decode.{frame_decoded}
 use Rattle.gr_know.specs.declared.values.K.TheVariants.{Q}
@@ -82,19 +81,6 @@ least_clash know f = elim f.body [ body.Knowledge runs ↦ first_of (clash_runs 
 -- the line of a clash at a tick
 abbrev pub clash_line : ℕ → Known → Frame → ℕ → Report
 clash_line b know f t = line.DroppedClash b t (known_at know t) (elim f.body [ body.Knowledge runs ↦ known_at runs t | _ ↦ Q ])
-
--- the number of a fault of a frame, from 1 to 9; decoding never answers want of memory
-abbrev pub fault_number : FrameKind → ℕ
-fault_number Memory = 0
-fault_number Short = 1
-fault_number BadMagic = 2
-fault_number BadVersion = 3
-fault_number BadKind = 4
-fault_number BadRange = 5
-fault_number BadOrder = 6
-fault_number BadEvent = 7
-fault_number Trailing = 8
-fault_number TooLong = 9
 
 -- a frame that fits is received, unless it clashes
 unfoldable pub takes_by : (View → Net) → Net → World → ℕ → Frame → Transition

@@ -1,5 +1,5 @@
 -- The text of a report: what each line reads. A line is words with one blank between each two.
-use Rattle.std.specs.Prelude.{ℕ, ◌-◌, ◌/◌, ◌%◌, ◌<◌, ◌≤◌, List, [], ◌∷◌, ◌++◌, length, map, slice_index, slice_index_or, codes}
+use Rattle.std.specs.Prelude.{ℕ, ◌/◌, ◌%◌, ◌<◌, ◌≤◌, List, [], ◌∷◌, ◌++◌, length, map, slice_get, slice_index, codes, Option, Some, None}
 use Rattle.std.specs.List.{flat_map, join_by}
 use Rattle.std.specs.Fmt.{decimal}
 use Rattle.gr_tick.specs.declared.run.Run.{Run}
@@ -8,6 +8,8 @@ use Rattle.gr_know.specs.declared.values.K.TheVariants.{Q, S, D, F}
 use Rattle.gr_curio.specs.declared.values.Q3.{Q3}
 use Rattle.gr_curio.specs.declared.values.Q3.TheVariants.{N, C, A}
 use Rattle.gr_event.specs.Json.{json_text}
+use Rattle.gr_frame.specs.declared.fault.FrameKind.{FrameKind}
+use Rattle.gr_frame.specs.Fault.{fault_word, fault_kinds}
 use Rattle.gr_topo.specs.Topology.{TopologyView, name_at}
 use Rattle.gr_model.specs.declared.report.Report.{Report}
 use Rattle.gr_model.specs.declared.report.Report.TheVariants.{Opened, Logged, Already, Gap, Exhausted, Kept, Lost, Mark, Cut, Got, Horizon, SentKnow, SentWant, SentExpect, Crashed, Swept, RefusedHosts, RefusedFrame, RefusedClock, DroppedNotFrame, DroppedStray, DroppedClash, Damaged, Frames, LogOf, Doubt, BytesOf}
@@ -48,8 +50,12 @@ abbrev pub run_word : {V : Type 0} → (V → List ℕ) → Run V → List ℕ
 run_word letter run = letter run.value ++ (decimal run.first ++ (codes "-" ++ decimal run.last))
 
 -- why bytes are no frame, by its number from 1 to 9
-abbrev pub fault_word : ℕ → List ℕ
-fault_word fault = slice_index_or (codes "short" ∷ codes "bad-magic" ∷ codes "bad-version" ∷ codes "bad-kind" ∷ codes "bad-range" ∷ codes "bad-order" ∷ codes "bad-event" ∷ codes "trailing" ∷ codes "too-long" ∷ []) (fault - 1) []
+abbrev pub kind_word : Option FrameKind → List ℕ
+kind_word None = []
+kind_word (Some kind) = fault_word kind
+
+abbrev pub frame_fault_word : ℕ → List ℕ
+frame_fault_word fault = kind_word (slice_get fault_kinds fault)
 
 -- a byte as two hexadecimal digits
 abbrev pub hex_pair : ℕ → List ℕ
@@ -88,7 +94,7 @@ line_words labels (Swept moment) = codes "swept" ∷ decimal moment ∷ []
 line_words labels (RefusedHosts line broker) = codes "refused" ∷ codes "line" ∷ decimal line ∷ codes "hosts-subscriber" ∷ labels.broker broker ∷ []
 line_words labels (RefusedFrame line frame sent) = codes "refused" ∷ codes "line" ∷ decimal line ∷ codes "no-frame" ∷ decimal frame ∷ codes "of" ∷ decimal sent ∷ []
 line_words labels (RefusedClock line moment) = codes "refused" ∷ codes "line" ∷ decimal line ∷ codes "clock-range" ∷ decimal moment ∷ []
-line_words labels (DroppedNotFrame broker fault at) = codes "dropped" ∷ labels.broker broker ∷ codes "not-frame" ∷ fault_word fault ∷ decimal at ∷ []
+line_words labels (DroppedNotFrame broker fault at) = codes "dropped" ∷ labels.broker broker ∷ codes "not-frame" ∷ frame_fault_word fault ∷ decimal at ∷ []
 line_words labels (DroppedStray broker from to publisher) = codes "dropped" ∷ labels.broker broker ∷ codes "stray" ∷ decimal from ∷ decimal to ∷ decimal publisher ∷ []
 line_words labels (DroppedClash broker tick kept came) = codes "dropped" ∷ labels.broker broker ∷ codes "clash" ∷ decimal tick ∷ know_letter kept ∷ know_letter came ∷ []
 line_words labels (Damaged publisher at) = publisher_words labels (codes "damaged") publisher (at ∷ [])

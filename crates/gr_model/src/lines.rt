@@ -5,12 +5,13 @@ ghost use Rattle.std.specs.Fmt.{decimal};
 ghost use Rattle.std.specs.List.{flat_map};
 ghost use Rattle.gr_topo.specs.Topology.{name_at};
 ghost use Rattle.gr_event.specs.Json.{json_text};
-ghost use Rattle.gr_model.specs.Text.{labels_of, know_letter, want_letter, run_word, fault_word, hex_pair, publisher_words, log_words, sent_words, line_words, AreNamed, IsSentNamed, IsNamed};
+ghost use Rattle.gr_model.specs.Text.{labels_of, know_letter, want_letter, run_word, frame_fault_word, hex_pair, publisher_words, log_words, sent_words, line_words, AreNamed, IsSentNamed, IsNamed};
 
 use crate::report::Report;
 use crate::words::{Words, hex_text};
 use gr_curio::Q3;
 use gr_event::{Bytes, Event};
+use gr_frame::FrameKind;
 use gr_know::K;
 use gr_tick::{Lattice, Piece, Run};
 use gr_topo::Topology;
@@ -422,19 +423,11 @@ fn push_dropped(
 fn word_of_fault(fault: u8) -> &'static [u8]
     requires from_one { 1 ≤ fault }
     requires to_nine { fault ≤ 9 }
-    ensures { result.now ≡ fault_word fault }
+    ensures { result.now ≡ frame_fault_word fault }
 {
-    match fault {
-        1 => b"short",
-        2 => b"bad-magic",
-        3 => b"bad-version",
-        4 => b"bad-kind",
-        5 => b"bad-range",
-        6 => b"bad-order",
-        7 => b"bad-event",
-        8 => b"trailing",
-        9 => b"too-long",
-        _ => unreachable!(),
+    match FrameKind::from_number(fault) {
+        Some(kind) => kind.word().as_bytes(),
+        None => unreachable!(),
     }
 }
 
@@ -442,7 +435,7 @@ fn word_of_fault(fault: u8) -> &'static [u8]
 fn push_fault(words: &mut Words, fault: u8, at: u64) -> Result<(), AllocError>
     requires from_one { 1 ≤ fault }
     requires to_nine { fault ≤ 9 }
-    ensures { OnOk result (words.new ≡ words.old ++ fault_word fault ∷ decimal at ∷ []) }
+    ensures { OnOk result (words.new ≡ words.old ++ frame_fault_word fault ∷ decimal at ∷ []) }
 {
     push_pair(words, word_of_fault(fault), at)
 }

@@ -7,21 +7,14 @@ use Rattle.gr_curio.specs.declared.asks.Moment.{Moment}
 use Rattle.gr_frame.specs.declared.Frame.{Frame}
 use Rattle.gr_frame.specs.Bytes.{frame_bytes}
 use Rattle.gr_frame.specs.Limits.{IsKnown, IsWanted, IsFrame}
-use Rattle.gr_sched.specs.declared.step.Step.{Step}
-use Rattle.gr_sched.specs.declared.step.Step.TheVariants as step
+pub use Rattle.gr_sched.specs.Ranges.{IsInLimits}
 use Rattle.gr_sched.specs.declared.step.Line.{Line}
 use Rattle.gr_model.specs.Broker.{View, Log, max_tick}
 use Rattle.gr_model.specs.World.{World}
 
--- a moment of the clock is not past the last tick, and a published event is within the limits of events
-abbrev pub NumberIn : Step → Type 0
-NumberIn (step.Clock now) = now ≤ max_tick
-NumberIn (step.Publish p number stop e) = IsEvent e
-NumberIn _ = Unit {0}
-
--- so it is in all steps
+-- each step is within its limits, as the parser promises: no moment past the last tick, no event past the limits of events
 abbrev pub NumbersIn : List Line → Type 0
-NumbersIn steps = AllByRecursion (λ l. NumberIn l.step) steps
+NumbersIn steps = AllByRecursion (λ l. IsInLimits l.step) steps
 
 -- the bytes of a frame spell it, and fit into one frame
 abbrev pub IsSpelled : Frame → Type 0

@@ -2,8 +2,7 @@
 use Rattle.std.specs.Prelude.{◌≡◌, ℕ, ◌≤◌, ◌^◌, Bool, true, false, nat_lt, if◌then◌else◌, List, [], ◌∷◌, ◌++◌, length, codes, Option, None, Some, Result, Ok, Err}
 use Rattle.std.specs.List.{flat_map}
 use Rattle.std.specs.Fmt.{decimal}
-use Rattle.gr_event.specs.declared.event.EventFault.{EventFault}
-use Rattle.gr_event.specs.declared.event.EventFault.TheVariants as event
+use Rattle.gr_event.specs.Fault.{fault_word}
 use Rattle.gr_sched.specs.declared.fault.StepFault.{StepFault}
 use Rattle.gr_sched.specs.declared.fault.StepFault.TheVariants as fault
 use Rattle.gr_sched.specs.declared.step.TheConstants.{MAX_BYTES, MAX_STEPS}
@@ -41,28 +40,12 @@ first_unbuilt (l ∷ ls) = if is_built l.step then first_unbuilt ls else Some l.
 
 -- Refusals
 
--- why bytes are no event, as a word
-abbrev pub event_fault_word : EventFault → List ℕ
-event_fault_word event.Memory = []
-event_fault_word event.NotObject = codes "not-object"
-event_fault_word event.BadName = codes "bad-name"
-event_fault_word event.BadValue = codes "bad-value"
-event_fault_word event.TooMany = codes "too-many"
-event_fault_word event.TooLong = codes "too-long"
-event_fault_word (event.Short at) = codes "short"
-event_fault_word (event.BadKind at) = codes "bad-kind"
-event_fault_word (event.NotSorted at) = codes "not-sorted"
-event_fault_word (event.Trailing at) = codes "trailing"
-event_fault_word event.NotJson = codes "not-json"
-event_fault_word (event.BadText at) = codes "bad-text"
-event_fault_word (event.BadLength at) = codes "bad-length"
-
 -- the line of a step fault
 abbrev pub fault_line : StepFault → List ℕ
 fault_line fault.Memory = []
 fault_line (fault.BadWord line) = codes "step 1 bad-word line " ++ decimal line
 fault_line (fault.BadNumber line) = codes "step 2 bad-number line " ++ decimal line
-fault_line (fault.BadEvent line why) = codes "step 3 bad-event line " ++ (decimal line ++ (codes " " ++ event_fault_word why))
+fault_line (fault.BadEvent line why) = codes "step 3 bad-event line " ++ (decimal line ++ (codes " " ++ fault_word why))
 fault_line (fault.TooMany line) = codes "too-large steps"
 
 -- What is asked

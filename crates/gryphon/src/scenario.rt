@@ -6,10 +6,10 @@ ghost use Rattle.std.specs.Fmt.{decimal};
 ghost use Rattle.gr_sched.specs.Grammar.{steps_of};
 ghost use Rattle.gr_sched.specs.Ranges.{IsStep};
 ghost use Rattle.gr_topo.specs.Topology.{blank, number_of};
-ghost use Rattle.gryphon.specs.Scenario.{is_built, first_unbuilt, fault_line, event_fault_word, unless_unbuilt, asked_of_steps, asked_by, AreReady, IsReplayable};
+ghost use Rattle.gryphon.specs.Scenario.{is_built, first_unbuilt, fault_line, unless_unbuilt, asked_of_steps, asked_by, AreReady, IsReplayable};
 
 use crate::asked::Asked;
-use gr_event::{EventFault, Text};
+use gr_event::Text;
 use gr_sched::{Line, MAX_BYTES, MAX_STEPS, Step, StepFault, Steps, count, is_blank, parse, split};
 use gr_topo::Topology;
 use std::alloc::{AllocError, Global};
@@ -100,7 +100,7 @@ fn line_of_fault(alloc: Global, fault: StepFault) -> Result<Text, AllocError>
             text_of(alloc, format!(in alloc; "step 2 bad-number line {line}")?)
         }
         StepFault::BadEvent { line, fault } => {
-            let word = event_fault_word(fault);
+            let word = fault.word();
             text_of(
                 alloc,
                 format!(in alloc; "step 3 bad-event line {line} {word}")?,
@@ -115,25 +115,4 @@ fn text_of(alloc: Global, text: String) -> Result<Text, AllocError>
     ensures { IfOk result (λ t. t ≡ string_bytes text) }
 {
     Text::from_slice(alloc, text.as_bytes())
-}
-
-/// Why bytes are no event, as a word.
-fn event_fault_word(fault: EventFault) -> &'static str
-    ensures { result.now ≡ event_fault_word fault }
-{
-    match fault {
-        EventFault::Memory => "",
-        EventFault::NotObject => "not-object",
-        EventFault::BadName => "bad-name",
-        EventFault::BadValue => "bad-value",
-        EventFault::TooMany => "too-many",
-        EventFault::TooLong => "too-long",
-        EventFault::Short { .. } => "short",
-        EventFault::BadKind { .. } => "bad-kind",
-        EventFault::NotSorted { .. } => "not-sorted",
-        EventFault::Trailing { .. } => "trailing",
-        EventFault::NotJson => "not-json",
-        EventFault::BadText { .. } => "bad-text",
-        EventFault::BadLength { .. } => "bad-length",
-    }
 }

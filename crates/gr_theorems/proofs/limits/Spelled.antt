@@ -27,7 +27,7 @@ use Rattle.gr_model.specs.World.{World, Transition, blank_view, view_of, log_of,
 use Rattle.gr_theorems.specs.Truth.{Facts}
 use Rattle.gr_model.specs.Tree.{IsNet}
 use Rattle.gr_theorems.specs.Fits.{facts_of, BodyTrue, FrameTrue, AllFramesTrue, WorldFits, StepIn, StepsIn}
-use Rattle.gr_theorems.specs.Spelled.{NumberIn, NumbersIn, IsSpelled, ViewIn, LogIn, WorldIn}
+use Rattle.gr_theorems.specs.Spelled.{IsInLimits, NumbersIn, IsSpelled, ViewIn, LogIn, WorldIn}
 use Rattle.gr_theorems.proofs.runs.Worlds.{wake_for_kept, deliver_kept, publish_kept, numbers_below}
 use Rattle.gr_theorems.proofs.runs.Schedules.{next_kept, start_fits, clocked_fits, frame_at_true}
 use Rattle.gr_theorems.proofs.runs.Closed.{clocked, with_logs, IsCallClosed, in_turn_goes, sweep_for_goes, wake_all_goes, frame_at_ready}
@@ -197,7 +197,7 @@ publish_stopped_in net w k p number stop e n z f j is a = host_at (not_empty (ne
     host_at false = number_at (nat_eq number (suc log.last) && nat_le tick max_tick) refl
 
 -- each step keeps it
-pub next_in : (net : Net) (w : World) (l : Line) → IsNet net → IsSmall net → WorldFits net w → StepIn net l.step → NumberIn l.step → WorldIn w → WorldIn (next net w l).world
+pub next_in : (net : Net) (w : World) (l : Line) → IsNet net → IsSmall net → WorldFits net w → StepIn net l.step → IsInLimits l.step → WorldIn w → WorldIn (next net w l).world
 unfolding next_by crash
 next_in net w l n z f i k a = go l.step i k
   where
@@ -217,7 +217,7 @@ next_in net w l n z f i k a = go l.step i k
     published p number None e x is = publish_now_in net w p number e n z f x is a
     published p number (Some s) e x is = publish_stopped_in net w l.number p number s e n z f x is a
 
-    go : (s : Step) → StepIn net s → NumberIn s → WorldIn (let t : Transition = elim s [
+    go : (s : Step) → StepIn net s → IsInLimits s → WorldIn (let t : Transition = elim s [
       | step.Clock now ↦ unchanged (record { clock = now; most = max now w.most; frames = w.frames; views = w.views; logs = w.logs }) []
       | step.Publish p number stop e ↦ elim stop [ None ↦ publish_now net w p number e | Some s ↦ publish_stopped net w l.number p number s e ]
       | step.Wake b ↦ wake_all net w b

@@ -20,7 +20,7 @@ use Rattle.gr_model.specs.World.{World, Transition, view_of, log_of, unchanged, 
 use Rattle.gr_theorems.specs.Edges.{GoesOverEdge}
 use Rattle.gr_model.specs.Arrivals.{Arrival, datagram, quiet, Publish, is_hosted, publishes_in, publishes_of, left_after, comes, show_hosted, served_from, served_from_by}
 use Rattle.gr_theorems.specs.Served.{number_of_bytes, IsHonestAt, IsHonest, DoesSteps, AllDoSteps, as_line, publish_step, delivery_step, is_frame, steps_of_arrival, dropped_as, dropped_line, is_dropped, ArrivalTold, ShowHolds, HoldsServed}
-use Rattle.gr_theorems.specs.Spelled.{NumberIn, NumbersIn, IsSpelled}
+use Rattle.gr_theorems.specs.Spelled.{IsInLimits, NumbersIn, IsSpelled}
 use Rattle.gr_model.specs.Headline.{History, history, is_record_line, is_doubt_line, is_sent, sent_number}
 use Rattle.gr_theorems.specs.Replies.{is_reply}
 use Rattle.gr_model.specs.Tree.{IsNet}
@@ -128,7 +128,7 @@ both_in : (net : Net) (xs ys : List Publish) → LeftIn net xs → LeftIn net ys
 both_in net [] ys a b = b
 both_in net (x ∷ xs) ys a b = (a.0, both_in net xs ys a.1 b)
 
-line_publishes : (net : Net) (hosted : List ℕ) (k : ℕ) (s : Step) → StepIn net s → NumberIn s → LeftIn net (publishes_in net hosted (record { number = k; step = s }))
+line_publishes : (net : Net) (hosted : List ℕ) (k : ℕ) (s : Step) → StepIn net s → IsInLimits s → LeftIn net (publishes_in net hosted (record { number = k; step = s }))
 line_publishes net hosted k (step.Publish p number stop e) i m = go (is_hosted net hosted p)
   where
     go : (c : Bool) → LeftIn net (if c then (p, (number, e)) ∷ [] else [])
@@ -154,7 +154,7 @@ record AreIn (net : Net) (ls : List Line) : Type 0 where
   steps : StepsIn net ls
   numbers : NumbersIn ls
 
-in_front : (net : Net) (l : Line) (ls : List Line) → StepIn net l.step → NumberIn l.step → AreIn net ls → AreIn net (l ∷ ls)
+in_front : (net : Net) (l : Line) (ls : List Line) → StepIn net l.step → IsInLimits l.step → AreIn net ls → AreIn net (l ∷ ls)
 in_front net l ls i m a = record { steps = (i, a.steps); numbers = (m, a.numbers) }
 
 none_in : (net : Net) → AreIn net []
@@ -234,7 +234,7 @@ pub record Ready (net : Net) (P : World → Type 0) (w : World) (h : History) : 
   pub over : AllOver net w
   pub limits : P w
 
-module _ (net : Net) (n : IsNet net) (on : 1 ≤ net.quiet) (retry : 1 ≤ net.retry) (P : World → Type 0) (keeps : (u : World) (l : Line) → WorldFits net u → StepIn net l.step → NumberIn l.step → P u → P (next net u l).world) (spelled : (u : World) → P u → AllByRecursion IsSpelled u.frames) (decodes : (f : Frame) → IsSpelled f → frame_decoded (frame_bytes f) ≡ Ok f) where
+module _ (net : Net) (n : IsNet net) (on : 1 ≤ net.quiet) (retry : 1 ≤ net.retry) (P : World → Type 0) (keeps : (u : World) (l : Line) → WorldFits net u → StepIn net l.step → IsInLimits l.step → P u → P (next net u l).world) (spelled : (u : World) → P u → AllByRecursion IsSpelled u.frames) (decodes : (f : Frame) → IsSpelled f → frame_decoded (frame_bytes f) ≡ Ok f) where
   limits_run : (w : World) (ls : List Line) → WorldFits net w → AreIn net ls → P w → P (run_all net w ls).world
   limits_run w [] f i x = x
   limits_run w (l ∷ ls) f i x = limits_run (next net w l).world ls (next_kept net w l n f i.steps.0).fits (record { steps = i.steps.1; numbers = i.numbers.1 }) (keeps w l f i.steps.0 i.numbers.0 x)
