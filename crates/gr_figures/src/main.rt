@@ -4,6 +4,8 @@
 #![tactic(auto)]
 
 mod appends;
+mod joins;
+mod matches;
 
 use std::alloc::Global;
 use std::time::Instant;
@@ -13,6 +15,8 @@ use std::{env, io};
 fn measure(alloc: Global, figure: &str, size: u64) -> io::Result<u64> {
     match figure {
         "appends" => appends::appends(alloc, size),
+        "joins" => joins::joins(alloc, size),
+        "matches" => matches::matches(alloc, size),
         _ => Err(io::Error::from(io::ErrorKind::InvalidInput)),
     }
 }

@@ -1,26 +1,18 @@
 -- What the machine asks of a topology that was read is what the topology and the edges say in their own words
-use Rattle.std.proofs.Common.{◌≡◌, ℕ, Bool, true, false, not, ◌||◌, List, [], ◌∷◌, map, Option, Some, None, refl, ap, ap₂}
+use Rattle.std.proofs.Common.{◌≡◌, ℕ, Bool, true, false, ◌||◌, List, [], ◌∷◌, map, Option, Some, None, refl, ap, ap₂}
 use Rattle.std.specs.List.{list_any}
 use Rattle.gr_event.specs.declared.event.Event.{Event}
 use Rattle.gr_filter.specs.Tree.{Tree}
 use Rattle.gr_know.specs.declared.values.K.{K}
 use Rattle.gr_know.specs.declared.values.K.TheVariants.{Q, S, D, F}
 use Rattle.gr_edge.specs.Pass as edge
-use Rattle.gr_topo.specs.Topology.{TopologyView, filter_of, passes_filter, wants, children_of, subscribers_of, below_of, is_some_list, keeps_horizon_at}
-use Rattle.gr_model.specs.Net.{Net, not_empty, is_empty, keeps_horizon, wanted_below, pass}
+use Rattle.gr_topo.specs.Topology.{TopologyView, filter_of, passes_filter, wants, below_of, keeps_horizon_at}
+use Rattle.gr_model.specs.Net.{Net, keeps_horizon, wanted_below, pass}
 use Rattle.gr_model.specs.NetOf.{net_of}
-
-some_is : {A : Type 0} (xs : List A) → not_empty xs ≡ is_some_list xs
-some_is [] = refl
-some_is (x ∷ xs) = refl
-
-none_is : {A : Type 0} (xs : List A) → is_empty xs ≡ not (is_some_list xs)
-none_is [] = refl
-none_is (x ∷ xs) = refl
 
 -- a broker keeps a horizon exactly where the topology says so
 pub keeps_horizon_of : (t : TopologyView) (p b : ℕ) → keeps_horizon (net_of t) p b ≡ keeps_horizon_at t p b
-keeps_horizon_of t p b = ap₂ (λ x y. x || y) (some_is (subscribers_of t b)) (none_is (children_of t p b))
+keeps_horizon_of t p b = refl
 
 -- a filter passes what it passes at an edge
 pub filter_passes : (f : Option Tree) (e : Event) → passes_filter f e ≡ edge.wants f e

@@ -5,6 +5,7 @@ use Rattle.gr_event.specs.declared.event.Event.{Event}
 use Rattle.gr_know.specs.declared.values.K.{K}
 use Rattle.gr_know.specs.declared.values.K.TheVariants.{Q, S, D, F}
 pub use Rattle.gr_subend.specs.Horizon.{numbers_from}
+pub use Rattle.gr_topo.specs.Topology.{is_empty, not_empty}
 
 pub record Net : Type 0 where
   pub brokers : ℕ  -- how many
@@ -27,14 +28,6 @@ pub record Net : Type 0 where
 -- 0, 1, .. below a number
 abbrev pub numbers : ℕ → List ℕ
 numbers n = numbers_from 0 n
-
-abbrev pub is_empty : {A : Type 0} → List A → Bool
-is_empty [] = true
-is_empty (x ∷ xs) = false
-
-abbrev pub not_empty : {A : Type 0} → List A → Bool
-not_empty [] = false
-not_empty (x ∷ xs) = true
 
 -- a broker keeps a horizon for a publisher where it has subscribers or is a leaf
 abbrev pub keeps_horizon : Net → ℕ → ℕ → Bool
