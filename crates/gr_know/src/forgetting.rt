@@ -39,7 +39,8 @@ fn lower_run(stream: &mut Stream<K>, i: usize, left: u64, upto: u64) -> (usize, 
     ensures smaller { length stream.new.runs - result.0 < length stream.old.runs - i }
     ensures fewer { result.1 ≤ left }
     ensures counted { data_count stream.new.runs + (left - result.1) ≡ data_count stream.old.runs }
-    ensures lowered { take result.0 stream.new.runs ++ lower_data result.1 upto (drop result.0 stream.new.runs) ≡ take i stream.old.runs ++ lower_data left upto (drop i stream.old.runs) }
+    ensures lowered { take result.0 stream.new.runs ++ lower_data result.1 upto (drop result.0 stream.new.runs)
+        ≡ take i stream.old.runs ++ lower_data left upto (drop i stream.old.runs) }
 {
     // Proof only: the runs are canonical.
     let _ = stream.len();

@@ -1,6 +1,6 @@
 ghost use Rattle.std.specs.Prelude.{if◌then◌else◌, ◌&&◌, nat_le, take, drop, ◌++◌, ◌≡◌, ◌≢◌, ◌⊎◌, ℕ, suc, ◌+◌, ◌-◌, ◌^◌, ◌<◌, ◌≤◌, [], length, slice_get, Some, true, false, MatchOption, IfOk, IsOk, OnOk, OnErr};
 ghost use Rattle.gr_tick.specs.Runs.{value_at, AreRuns, first_bottom_from, top_of};
-ghost use Rattle.gr_tick.specs.Stored.{within, IsRun, EndBefore, RunsGive};
+ghost use Rattle.gr_tick.specs.Stored.{within, IsRun, EndBefore, RunsGive, needed};
 ghost use Rattle.gr_know.specs.Values.{known_at, is_D, join_K, new_K, clash_K};
 ghost use Rattle.gr_know.specs.Clash.{IsLeastClash};
 ghost use Rattle.gr_know.specs.Forget.{data_of, data_count, lower_data, forgotten, Forgets};
@@ -25,7 +25,8 @@ pub struct Clash {
     pub came: K,
 }
 
-/// What a broker knows of each tick of one publisher, seen as its list of runs.
+/// What a broker knows of each tick of one publisher, seen as the list of its runs and its spare, how many runs more fit before
+/// memory is asked for.
 #[derive(Drop)]
 pub struct Know {
     alloc: Global,
@@ -35,15 +36,14 @@ pub struct Know {
 }
 
 impl Model for Know {
-    ghost use Rattle.std.specs.Prelude.{List};
-    ghost use Rattle.gr_tick.specs.declared.run.Run.{Run};
     ghost use Rattle.std.specs.Prelude.{◌≡◌};
+    ghost use Rattle.gr_tick.specs.Kept.{Kept};
     ghost use Rattle.gr_know.specs.declared.values.K.{K};
     ghost use Rattle.gr_know.specs.Forget.{data_count};
 
-    ghost Value = { List (Run K) };
+    ghost Value = { Kept K };
 
-    ghost view = { λ k. k.stream.runs };
+    ghost view = { λ k. k.stream };
 
     ghost invariant = { λ k. k.events ≡ data_count k.stream.runs };
 }
@@ -51,7 +51,8 @@ impl Model for Know {
 impl Know {
     /// Nothing is known of any tick. It takes no memory.
     pub fn new(alloc: Global) -> Know
-        ensures { result ≡ [] }
+        ensures runs { result.runs ≡ [] }
+        ensures spare { result.spare ≡ 0 }
     {
         Know {
             alloc,
@@ -60,9 +61,11 @@ impl Know {
         }
     }
 
-    /// An equal object. It fails only where memory is refused.
+    /// An object with equal runs, which has room for the edits that follow: for as many runs more as it has, and 4. It fails only
+    /// where memory is refused.
     pub fn copy(&self) -> Result<Know, AllocError>
-        ensures { IfOk result (λ know. know ≡ self.now) }
+        ensures runs { IfOk result (λ know. know.runs ≡ self.now.runs) }
+        ensures spare { IfOk result (λ know. length self.now.runs + 4 ≤ know.spare) }
     {
         let stream = self.stream.copy()?;
         Ok(Know {
@@ -74,17 +77,17 @@ impl Know {
 
     /// How many runs it has. They are canonical, and none ends past `MAX_TICK`.
     pub fn len(&self) -> usize
-        ensures len { result ≡ length self.now }
-        ensures canonical { AreRuns Q self.now }
-        ensures in_range { EndBefore self.now (2 ^ 62 + 1) }
+        ensures len { result ≡ length self.now.runs }
+        ensures canonical { AreRuns Q self.now.runs }
+        ensures in_range { EndBefore self.now.runs (2 ^ 62 + 1) }
     {
         self.stream.len()
     }
 
     /// The run at place `i`, from 0.
     pub fn run(&self, i: usize) -> &Run<K>
-        requires { i < length self.now }
-        ensures run { slice_get self.now i ≡ Some result.now }
+        requires { i < length self.now.runs }
+        ensures run { slice_get self.now.runs i ≡ Some result.now }
         ensures alone { IsRun Q result.now }
     {
         self.stream.run(i)
@@ -92,14 +95,14 @@ impl Know {
 
     /// What is known of a tick. It takes no memory.
     pub fn at(&self, tick: u64) -> K
-        ensures { result ≡ known_at self.now tick }
+        ensures { result ≡ known_at self.now.runs tick }
     {
         self.stream.at(tick)
     }
 
     /// The greatest known tick, or 0 where nothing is known. It takes no memory.
     pub fn top(&self) -> u64
-        ensures top { result ≡ top_of self.now }
+        ensures top { result ≡ top_of self.now.runs }
         ensures inside { result ≤ 2 ^ 62 }
     {
         self.stream.top()
@@ -109,11 +112,11 @@ impl Know {
     /// memory.
     pub fn horizon_from(&self, horizon: u64) -> u64
         requires { horizon ≤ 2 ^ 62 }
-        ensures horizon { result ≡ first_bottom_from self.now (suc horizon) - 1 }
+        ensures horizon { result ≡ first_bottom_from self.now.runs (suc horizon) - 1 }
         ensures forward { horizon ≤ result }
         ensures inside { result ≤ 2 ^ 62 }
-        ensures known { (t : ℕ) → horizon < t → t ≤ result → known_at self.now t ≢ Q }
-        ensures greatest { known_at self.now (result + 1) ≡ Q }
+        ensures known { (t : ℕ) → horizon < t → t ≤ result → known_at self.now.runs t ≢ Q }
+        ensures greatest { known_at self.now.runs (result + 1) ≡ Q }
     {
         self.stream.first_bottom_from(horizon + 1) - 1
     }
@@ -123,10 +126,22 @@ impl Know {
         requires { horizon ≤ 2 ^ 62 }
         ensures forward { horizon ≤ result }
         ensures inside { result ≤ 2 ^ 62 }
-        ensures known { (t : ℕ) → horizon < t → t ≤ result → join_K (known_at self.now t) (known_at piece.now t) ≢ Q }
-        ensures greatest { join_K (known_at self.now (result + 1)) (known_at piece.now (result + 1)) ≡ Q }
+        ensures known { (t : ℕ) → horizon < t → t ≤ result
+            → join_K (known_at self.now.runs t) (known_at piece.now t) ≢ Q }
+        ensures greatest { join_K (known_at self.now.runs (result + 1)) (known_at piece.now (result + 1)) ≡ Q }
     {
         horizon_with(&self.stream, piece, horizon)
+    }
+
+    /// The greatest tick, at most `MAX_TICK`, up to which what is known stays that of `tick`. It takes no memory.
+    pub fn steady_until(&self, tick: u64) -> u64
+        requires { tick ≤ 2 ^ 62 }
+        ensures forward { tick ≤ result }
+        ensures inside { result ≤ 2 ^ 62 }
+        ensures steady { (t : ℕ) → tick ≤ t → t ≤ result → known_at self.now.runs t ≡ known_at self.now.runs tick }
+        ensures greatest { result < 2 ^ 62 → known_at self.now.runs (result + 1) ≢ known_at self.now.runs tick }
+    {
+        self.stream.steady_until(tick)
     }
 
     /// What would be known of the range once the piece is joined, cut at its ends. It fails only where memory is refused.
@@ -139,38 +154,72 @@ impl Know {
         requires from_one { 1 ≤ first }
         requires ordered { first ≤ last }
         requires upto { last ≤ 2 ^ 62 }
-        ensures { IfOk result (λ joined. RunsGive Q joined (λ t. if within first last t then join_K (known_at self.now t) (known_at piece.now t) else Q)) }
+        ensures { IfOk result (λ joined. RunsGive Q joined
+            (λ t. if within first last t then join_K (known_at self.now.runs t) (known_at piece.now t) else Q)) }
     {
         joined_piece(self.alloc, &self.stream, piece, first, last)
     }
 
     /// The least tick at which the piece clashes with what is known, if there is one. It takes no memory.
     pub fn clash(&self, piece: &Piece<K>) -> Option<Clash>
-        ensures { MatchOption result ((t : ℕ) → clash_K (known_at self.now t) (known_at piece.now t) ≡ false) (λ c. IsLeastClash (known_at self.now) (known_at piece.now) c.tick c.kept c.came) }
+        ensures { MatchOption result ((t : ℕ) → clash_K (known_at self.now.runs t) (known_at piece.now t) ≡ false)
+            (λ c. IsLeastClash (known_at self.now.runs) (known_at piece.now) c.tick c.kept c.came) }
     {
         find_clash(&self.stream, piece)
     }
 
     /// What is new of a piece: its values at exactly the ticks that are unknown. It fails only where memory is refused.
     pub fn news(&self, piece: &Piece<K>) -> Result<Piece<K>, AllocError>
-        ensures { IfOk result (λ fresh. RunsGive Q fresh (λ t. new_K (known_at self.now t) (known_at piece.now t))) }
+        ensures { IfOk result (λ fresh. RunsGive Q fresh
+            (λ t. new_K (known_at self.now.runs t) (known_at piece.now t))) }
     {
         fresh_piece(self.alloc, &self.stream, piece)
+    }
+
+    /// Makes room for at least `n` runs more. It fails only where memory is refused; then all is as it was.
+    pub fn reserve(&mut self, n: usize) -> Result<(), AllocError>
+        ensures runs { self.new.runs ≡ self.old.runs }
+        ensures spare { OnOk result (n ≤ self.new.spare) }
+        ensures never_less { self.old.spare ≤ self.new.spare }
+        ensures succeeds { n ≤ self.old.spare → IsOk result }
+        ensures err { OnErr result (self.new ≡ self.old) }
+    {
+        self.stream.reserve(n)?;
+        Ok(())
+    }
+
+    /// The spare that is enough to join a piece, or `None` where it is no 64-bit number. It takes no memory.
+    pub fn room_for(&self, piece: &Piece<K>) -> Option<usize>
+        ensures { MatchOption result (2 ^ 64 ≤ needed self.now.runs piece.now)
+            (λ n. n ≡ needed self.now.runs piece.now) }
+    {
+        self.stream.room_for(piece)
+    }
+
+    /// Joins a piece, tick by tick, where the room for it is there, as `room_for` says. It takes no memory.
+    pub fn join(&mut self, piece: &Piece<K>)
+        requires { needed self.old.runs piece.now ≤ self.old.spare }
+        ensures joined { RunsGive Q self.new.runs (λ t. join_K (known_at self.old.runs t) (known_at piece.now t)) }
+        ensures spare { self.old.spare ≤ self.new.spare + needed self.old.runs piece.now }
+    {
+        self.events = join_counted(&mut self.stream, piece, self.events);
     }
 
     /// Joins a piece, and answers what is new of it: its values at exactly the ticks that were unknown. It fails only where memory
     /// is refused; then the knowledge is as it was.
     pub fn learn(&mut self, piece: &Piece<K>) -> Result<Piece<K>, AllocError>
-        ensures fresh { IfOk result (λ fresh. RunsGive Q fresh (λ t. new_K (known_at self.old t) (known_at piece.now t))) }
-        ensures joined { OnOk result (RunsGive Q self.new (λ t. join_K (known_at self.old t) (known_at piece.now t))) }
+        ensures fresh { IfOk result (λ fresh. RunsGive Q fresh
+            (λ t. new_K (known_at self.old.runs t) (known_at piece.now t))) }
+        ensures joined { OnOk result (RunsGive Q self.new.runs
+            (λ t. join_K (known_at self.old.runs t) (known_at piece.now t))) }
         ensures err { OnErr result (self.new ≡ self.old) }
     {
-        let fresh = fresh_piece(self.alloc, &self.stream, piece)?;
-        let Some(room) = self.stream.room_for(piece) else {
+        let fresh = self.news(piece)?;
+        let Some(room) = self.room_for(piece) else {
             return Err(AllocError);
         };
-        self.stream.reserve(room)?;
-        self.events = join_counted(&mut self.stream, piece, self.events);
+        self.reserve(room)?;
+        self.join(piece);
         Ok(fresh)
     }
 
@@ -179,7 +228,8 @@ impl Know {
         requires from_one { 1 ≤ first }
         requires ordered { first ≤ last }
         requires upto { last ≤ 2 ^ 62 }
-        ensures { IfOk result (λ piece. RunsGive Q piece (λ t. if within first last t then known_at self.now t else Q)) }
+        ensures { IfOk result (λ piece. RunsGive Q piece
+            (λ t. if within first last t then known_at self.now.runs t else Q)) }
     {
         self.stream.piece(first, last)
     }
@@ -190,12 +240,25 @@ impl Know {
         requires from_one { 1 ≤ first }
         requires ordered { first ≤ last }
         requires upto { last ≤ 2 ^ 62 }
-        ensures finished { OnOk result (RunsGive Q self.new (λ t. if within first last t then F else known_at self.old t)) }
+        ensures finished { OnOk result (RunsGive Q self.new.runs
+            (λ t. if within first last t then F else known_at self.old.runs t)) }
         ensures err { OnErr result (self.new ≡ self.old) }
     {
-        self.stream.reserve(2)?;
-        self.events = finish_counted(&mut self.stream, first, last, self.events);
+        self.reserve(2)?;
+        self.finish_ready(first, last);
         Ok(())
+    }
+
+    /// `finish` where the room for it is there: two runs. It takes no memory.
+    pub fn finish_ready(&mut self, first: u64, last: u64)
+        requires from_one { 1 ≤ first }
+        requires ordered { first ≤ last }
+        requires upto { last ≤ 2 ^ 62 }
+        requires room { 2 ≤ self.old.spare }
+        ensures finished { RunsGive Q self.new.runs (λ t. if within first last t then F else known_at self.old.runs t) }
+        ensures spare { self.old.spare ≤ self.new.spare + 2 }
+    {
+        self.events = finish_counted(&mut self.stream, first, last, self.events);
     }
 
     /// Makes ticks with an event unknown, the least ones first and none past `upto`, until no more than `limit` ticks with an event
@@ -203,10 +266,10 @@ impl Know {
     /// never fails.
     pub fn forget(&mut self, limit: u32, upto: u64) -> Result<(), AllocError>
         ensures succeeds { IsOk result }
-        ensures forgotten { OnOk result (self.new ≡ forgotten limit upto self.old) }
-        ensures forgets { OnOk result (Forgets limit upto self.old self.new) }
-        ensures canonical { OnOk result (AreRuns Q self.new) }
-        ensures in_range { OnOk result (EndBefore self.new (2 ^ 62 + 1)) }
+        ensures forgotten { OnOk result (self.new.runs ≡ forgotten limit upto self.old.runs) }
+        ensures forgets { OnOk result (Forgets limit upto self.old.runs self.new.runs) }
+        ensures canonical { OnOk result (AreRuns Q self.new.runs) }
+        ensures in_range { OnOk result (EndBefore self.new.runs (2 ^ 62 + 1)) }
         ensures err { OnErr result (self.new ≡ self.old) }
     {
         // Proof only: the runs are canonical before and after.

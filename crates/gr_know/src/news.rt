@@ -33,7 +33,8 @@ pub fn horizon_with(stream: &Stream<K>, piece: &Piece<K>, horizon: u64) -> u64
     requires { horizon ≤ 2 ^ 62 }
     ensures forward { horizon ≤ result }
     ensures inside { result ≤ 2 ^ 62 }
-    ensures known { (t : ℕ) → horizon < t → t ≤ result → join_K (known_at stream.now.runs t) (known_at piece.now t) ≢ Q }
+    ensures known { (t : ℕ) → horizon < t → t ≤ result
+        → join_K (known_at stream.now.runs t) (known_at piece.now t) ≢ Q }
     ensures greatest { join_K (known_at stream.now.runs (result + 1)) (known_at piece.now (result + 1)) ≡ Q }
 {
     // Proof only: the runs end by the last tick.
@@ -79,7 +80,8 @@ pub fn joined_piece(
     requires from_one { 1 ≤ first }
     requires ordered { first ≤ last }
     requires upto { last ≤ 2 ^ 62 }
-    ensures { IfOk result (λ joined. RunsGive Q joined (λ t. if within first last t then join_K (known_at stream.now.runs t) (known_at piece.now t) else Q)) }
+    ensures { IfOk result (λ joined. RunsGive Q joined
+        (λ t. if within first last t then join_K (known_at stream.now.runs t) (known_at piece.now t) else Q)) }
 {
     let known = stream.piece(first, last)?;
     let mut joined = Stream::new(alloc);
@@ -92,7 +94,8 @@ pub fn joined_piece(
 fn put_news(fresh: &mut Piece<K>, stream: &Stream<K>, run: &Run<K>) -> Result<(), AllocError>
     requires alone { IsRun Q run.now }
     requires past { EndBefore fresh.old run.now.first }
-    ensures values { OnOk result ((t : ℕ) → known_at fresh.new t ≡ (if is_in t run.now then new_K (known_at stream.now.runs t) run.now.value else known_at fresh.old t)) }
+    ensures values { OnOk result ((t : ℕ) → known_at fresh.new t
+        ≡ (if is_in t run.now then new_K (known_at stream.now.runs t) run.now.value else known_at fresh.old t)) }
     ensures past { OnOk result ((t : ℕ) → run.now.last < t → EndBefore fresh.new t) }
 {
     // Proof only: the runs are canonical.
@@ -117,7 +120,8 @@ fn put_part(fresh: &mut Piece<K>, value: &K, first: u64, last: u64) -> Result<()
     requires upto { last ≤ 2 ^ 62 }
     requires known { value.now ≢ Q }
     requires past { EndBefore fresh.old first }
-    ensures values { OnOk result ((t : ℕ) → known_at fresh.new t ≡ (if within first last t then value.now else known_at fresh.old t)) }
+    ensures values { OnOk result ((t : ℕ) → known_at fresh.new t
+        ≡ (if within first last t then value.now else known_at fresh.old t)) }
     ensures past { OnOk result ((t : ℕ) → EndBefore fresh.old t → last < t → EndBefore fresh.new t) }
 {
     if first > last {
@@ -132,7 +136,8 @@ fn put_part(fresh: &mut Piece<K>, value: &K, first: u64, last: u64) -> Result<()
 
 /// The least clashing tick.
 pub fn find_clash(stream: &Stream<K>, piece: &Piece<K>) -> Option<Clash>
-    ensures { MatchOption result ((t : ℕ) → clash_K (known_at stream.now.runs t) (known_at piece.now t) ≡ false) (λ c. IsLeastClash (known_at stream.now.runs) (known_at piece.now) c.tick c.kept c.came) }
+    ensures { MatchOption result ((t : ℕ) → clash_K (known_at stream.now.runs t) (known_at piece.now t) ≡ false)
+        (λ c. IsLeastClash (known_at stream.now.runs) (known_at piece.now) c.tick c.kept c.came) }
 {
     for i in 0..piece.len() {
         match clash_of(stream, piece.run(i)) {
@@ -146,7 +151,9 @@ pub fn find_clash(stream: &Stream<K>, piece: &Piece<K>) -> Option<Clash>
 /// The least tick of a run that clashes.
 fn clash_of(stream: &Stream<K>, run: &Run<K>) -> Option<Clash>
     requires { IsRun Q run.now }
-    ensures { MatchOption result ((t : ℕ) → is_in t run.now ≡ true → clash_K (known_at stream.now.runs t) run.now.value ≡ false) (λ c. IsLeastClashIn (known_at stream.now.runs) run.now c.tick c.kept c.came) }
+    ensures { MatchOption result
+        ((t : ℕ) → is_in t run.now ≡ true → clash_K (known_at stream.now.runs t) run.now.value ≡ false)
+        (λ c. IsLeastClashIn (known_at stream.now.runs) run.now c.tick c.kept c.came) }
 {
     // Proof only: the runs are canonical.
     let _ = stream.len();

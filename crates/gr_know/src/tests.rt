@@ -76,6 +76,24 @@ fn finishes_and_cuts(rt: HostRuntime) -> Result<(), Fail> {
     Ok(())
 }
 
+// With the room taken first, a piece is joined and a range made final without memory.
+#[test]
+fn edits_in_the_room_that_was_taken(rt: HostRuntime) -> Result<(), Fail> {
+    let mut know = Know::new(rt.alloc());
+    let came = piece_of(rt.alloc(), 4, 8, false)?;
+    let room = know.room_for(&came).ok_or("room")?;
+    assert_eq!(rt; room, 1);
+    know.reserve(room.checked_add(2).ok_or("room")?)?;
+    know.join(&came);
+    assert_eq!(rt; know.steady_until(1), 3);
+    assert_eq!(rt; know.steady_until(4), 8);
+    know.finish_ready(1, 5);
+    assert_eq!(rt; know.steady_until(1), 5);
+    assert!(rt; know.at(5).same(&K::F));
+    assert!(rt; know.at(6).same(&K::S));
+    Ok(())
+}
+
 /// The event `{"price":82}`.
 fn price(alloc: Global) -> Result<Event, Fail> {
     let bytes = b"\x01\x05price\x01\x00\x00\x00\x00\x00\x00\x00\x52";
