@@ -1,5 +1,5 @@
 -- Forgetting run by run: what is done with the runs so far, and left to do with the rest, gives what the definition says.
-use Rattle.std.proofs.Common.{◌≡◌, ℕ, suc, ◌+◌, ◌-◌, ◌<◌, ◌≤◌, ◌⊎◌, inl, inr, min, true, false, ◌&&◌, [], ◌∷◌, ◌++◌, length, take, drop, get_or, nat_le, nat_lt, refl, sym, ap, ◌∙◌, subst, append_assoc, length-append, arith}
+use Rattle.std.proofs.Common.{◌≡◌, ℕ, zero, suc, Bool, ◌+◌, ◌-◌, ◌<◌, ◌≤◌, ◌⊎◌, inl, inr, min, true, false, ◌&&◌, [], ◌∷◌, ◌++◌, length, take, drop, get_or, nat_le, nat_lt, refl, sym, ap, ◌∙◌, subst, append_assoc, length-append, arith}
 use Rattle.std.proofs.lemmas.List.{append-nil, length-drop, take-append-drop, take_at, drop_at, take_more, take_all, drop_all, length-take-le}
 use Rattle.std.proofs.lemmas.Bool.{leb-true, and_parts, lt-ltb, le-ltb, le-leb, lt-leb, cond-true, cond-false, cases_Bool}
 use Rattle.gr_tick.specs.declared.run.Run.{Run}
@@ -70,6 +70,32 @@ none_remain upto i n rs le =
   where
     nothing : lower_data n upto [] ≡ []
     nothing = refl
+
+-- runs that begin past the tick stay
+lower_ahead : (n upto from : ℕ) (rs : Known) → AreRunsFrom Q from rs → upto < from → lower_data n upto rs ≡ rs
+unfolding lower_data
+lower_ahead n upto from [] a lt = refl
+lower_ahead n upto from (r ∷ rs) a lt =
+    let past : upto < r.first = omega (arith, a.0, lt) in
+    let later : upto < suc r.last = omega (arith, a.1, past) in
+    lower_past n upto r rs (and_false (is_D r.value) (nat_le r.first upto) (lt-leb r.first upto past)) ∙ ap (λ zs. r ∷ zs) (lower_ahead n upto (suc r.last) rs a.4 later)
+  where
+    and_false : (b c : Bool) → c ≡ false → (b && c) ≡ false
+    and_false true c e = e
+    and_false false c e = refl
+
+ahead_from : (n upto i from : ℕ) (rs : Known) (r : Run K) → AreRunsFrom Q from rs → i < length rs → r ≡ get_or rs i r → upto < r.first → take i rs ++ lower_data n upto (drop i rs) ≡ rs
+ahead_from n upto i from [] r a lt e past = absurd (omega (arith, lt))
+ahead_from n upto zero from (x ∷ xs) r a lt e past =
+    let begun : upto < x.first = omega (arith, past, ap (λ z. z.first) e) in
+    lower_ahead n upto x.first (x ∷ xs) (omega arith, a.1, a.2, a.3, a.4) begun
+ahead_from n upto (suc i) from (x ∷ xs) r a lt e past =
+    let inside : i < length xs = omega (arith, lt) in
+    ap (λ zs. x ∷ zs) (ahead_from n upto i (suc x.last) xs r a.4 inside e past)
+
+-- all runs are gone through that begin by the tick
+pub none_ahead : (upto i n : ℕ) (rs : Known) (r : Run K) → AreRuns Q rs → i < length rs → r ≡ get_or rs i r → upto < r.first → take i rs ++ lower_data n upto (drop i rs) ≡ rs
+none_ahead upto i n rs r a lt e past = ahead_from n upto i 1 rs r a lt e past
 
 -- a run that stays
 pub kept_run : (old : Known) (i n upto : ℕ) (r : Run K) → i < length old → r ≡ get_or old i r → (is_D r.value && nat_le r.first upto) ≡ false → take (i + 1) old ++ lower_data n upto (drop (i + 1) old) ≡ take i old ++ lower_data n upto (drop i old)

@@ -15,7 +15,7 @@ fn may_lower(run: &Run<K>, upto: u64) -> bool
 }
 
 /// Makes so many ticks with an event unknown, the least ones first and none past a tick, and answers how many are left to do,
-/// since no more have an event up to there. Where there are none to do it looks at no run.
+/// since no more have an event up to there. It looks at no run where there are none to do, and at one past that tick at most.
 pub fn forget_data(stream: &mut Stream<K>, count: u64, upto: u64) -> u64
     ensures lowered { stream.new.runs ≡ lower_data count upto stream.old.runs }
     ensures fewer { result ≤ count }
@@ -23,7 +23,7 @@ pub fn forget_data(stream: &mut Stream<K>, count: u64, upto: u64) -> u64
 {
     let mut left = count;
     let mut i = 0;
-    while left > 0 && i < stream.len() {
+    while left > 0 && i < stream.len() && stream.run(i).first <= upto {
         (i, left) = lower_run(stream, i, left, upto);
     }
     // Proof only: the runs are canonical.
