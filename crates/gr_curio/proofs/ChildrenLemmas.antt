@@ -1,7 +1,7 @@
 -- What the children's streams say, as lists of runs; what is asked and acknowledged out of range is nothing.
-use Rattle.std.proofs.Common.{◌≡◌, ◌≢◌, ℕ, ◌+◌, ◌^◌, ◌<◌, ◌≤◌, ◌⊎◌, inl, inr, Bool, true, false, ◌&&◌, ◌||◌, nat_le, cond, List, [], ◌∷◌, ◌++◌, length, set, take, replicate, get_or, Option, Some, IsTrue, refl, sym, ap, ap₂, ◌∙◌, subst, arith}
+use Rattle.std.proofs.Common.{◌≡◌, ◌≢◌, ℕ, ◌+◌, ◌^◌, ◌<◌, ◌≤◌, ◌⊎◌, inl, inr, Bool, true, false, ◌&&◌, ◌||◌, nat_le, cond, List, [], ◌∷◌, ◌++◌, length, map, set, take, replicate, get_or, Option, Some, IsTrue, refl, sym, ap, ap₂, ◌∙◌, subst, arith}
 use Rattle.std.proofs.lemmas.Bool.{cases_lt, le-leb, lt-leb, leb-true, and_left, and_right, and_from, cond-true, cond-false, false≢true}
-use Rattle.std.proofs.lemmas.List.{get_or-map, map-set, map-append, length-map, get_or-set_same, take_more, take_all, replicate_more}
+use Rattle.std.proofs.lemmas.List.{get_or-map, map-set, map-append, length-map, get_or-set_same, get_or-set_other, set-get_or, take_more, take_all, replicate_more}
 use Rattle.std.proofs.lemmas.List.Folds.{list_all-append, list_any-append}
 use Rattle.std.specs.List.{list_all, list_any}
 use Rattle.gr_tick.specs.declared.run.Run.{Run}
@@ -11,7 +11,7 @@ use Rattle.gr_tick.specs.Stored.{within, EndBefore, RunsGive}
 use Rattle.gr_tick.proofs.RunLaws.{value_at-start}
 use Rattle.gr_tick.proofs.RunsLemmas.{value_at_past}
 use Rattle.gr_curio.specs.Values.{wanted_at, is_A, is_C}
-use Rattle.gr_curio.specs.Wants.{runs_of, wants_of, all_A, any_C, is_reached, is_consolidated, HasChange}
+use Rattle.gr_curio.specs.Wants.{runs_of, wants_of, spare_of, all_A, any_C, is_reached, is_consolidated, HasChange}
 use Rattle.gr_curio.specs.declared.values.Q3.{Q3}
 use Rattle.gr_curio.specs.declared.values.Q3.TheVariants.{N, C, A}
 
@@ -20,20 +20,40 @@ pub read_child : (children : List (Kept Q3)) (i : ℕ) (child : Kept Q3) → i <
 read_child children i child lt e =
     ap (λ c. c.runs) e ∙ sym (get_or-map (λ c. c.runs) children i child [] lt)
 
--- the runs of the children where one was put in place
-pub put_child : (children : List (Kept Q3)) (i : ℕ) (child : Kept Q3) → i < length children → runs_of (set children i child) ≡ set (runs_of children) i (wants_of (runs_of (set children i child)) i)
-put_child children i child lt =
-    map-set (λ c. c.runs) children i child ∙ ap (set (runs_of children) i) (sym (put_here children i child lt))
-  where
-    put_here : (children : List (Kept Q3)) (i : ℕ) (child : Kept Q3) → i < length children → wants_of (runs_of (set children i child)) i ≡ child.runs
-    put_here children i child lt =
-        ap (λ ws. get_or ws i []) (map-set (λ c. c.runs) children i child)
-        ∙ get_or-set_same (runs_of children) i child.runs [] (subst (λ n. i < n) (sym (length-map children (λ c. c.runs))) lt)
+-- what a call finds and leaves where it puts one child in the place of another
+pub record IsPut (old new : List (Kept Q3)) (i : ℕ) (before after : Kept Q3) : Type 0 where
+  pub read : before.runs ≡ wants_of (runs_of old) i
+  pub room : before.spare ≡ spare_of old i
+  pub runs : after.runs ≡ wants_of (runs_of new) i
+  pub spare : after.spare ≡ spare_of new i
+  pub others : runs_of new ≡ set (runs_of old) i (wants_of (runs_of new) i)
+  pub other_spares : (k : ℕ) → k ≢ i → spare_of new k ≡ spare_of old k
 
-pub put_runs : (children : List (Kept Q3)) (i : ℕ) (child : Kept Q3) → i < length children → child.runs ≡ wants_of (runs_of (set children i child)) i
-put_runs children i child lt =
-    sym (ap (λ ws. get_or ws i []) (map-set (λ c. c.runs) children i child)
-    ∙ get_or-set_same (runs_of children) i child.runs [] (subst (λ n. i < n) (sym (length-map children (λ c. c.runs))) lt))
+-- so it is where one item of the list is set
+pub is_put : (items old : List (Kept Q3)) (i : ℕ) (before after : Kept Q3) → items ≡ old → i < length old → before ≡ get_or items i before → IsPut old (set items i after) i before after
+is_put items old i before after same lt is = record {
+  read = read_child items i before inside is ∙ ap (λ ws. wants_of (runs_of ws) i) same;
+  room = ap (λ c. c.spare) is ∙ sym (get_or-map (λ c. c.spare) items i before 0 inside) ∙ ap (λ ws. spare_of ws i) same;
+  runs = sym put_runs;
+  spare = sym (ap (λ ss. get_or ss i 0) (map-set (λ c. c.spare) items i after) ∙ get_or-set_same (map (λ c. c.spare) items) i after.spare 0 (subst (λ n. i < n) (sym (length-map items (λ c. c.spare))) inside));
+  others = map-set (λ c. c.runs) items i after ∙ ap (set (runs_of items) i) (sym put_runs) ∙ ap (λ ws. set (runs_of ws) i (wants_of (runs_of (set items i after)) i)) same;
+  other_spares = λ k differs.
+      ap (λ ss. get_or ss k 0) (map-set (λ c. c.spare) items i after)
+      ∙ get_or-set_other (map (λ c. c.spare) items) i k after.spare 0 differs ∙ ap (λ ws. spare_of ws k) same;
+}
+  where
+    inside : i < length items
+    inside = subst (λ n. i < n) (sym (ap length same)) lt
+
+    put_runs : wants_of (runs_of (set items i after)) i ≡ after.runs
+    put_runs =
+        ap (λ ws. get_or ws i []) (map-set (λ c. c.runs) items i after)
+        ∙ get_or-set_same (runs_of items) i after.runs [] (subst (λ n. i < n) (sym (length-map items (λ c. c.runs))) inside)
+
+-- all runs are as they were where the child's are
+pub put_same : (old new : List (Kept Q3)) (i : ℕ) (before after : Kept Q3) → IsPut old new i before after → after.runs ≡ before.runs → runs_of new ≡ runs_of old
+put_same old new i before after put e =
+    put.others ∙ ap (set (runs_of old) i) (sym put.runs ∙ e ∙ put.read) ∙ set-get_or (runs_of old) i []
 
 -- only acknowledged is acknowledged
 pub is_A-only : (x : Q3) → is_A x ≡ true → x ≡ A

@@ -1,5 +1,6 @@
 -- What the children ask and acknowledge, tick by tick
-use Rattle.std.specs.Prelude.{ℕ, ◌≢◌, ◌⊎◌, Bool, true, ◌&&◌, nat_le, if◌then◌else◌, List, [], ◌∷◌, map, get_or, Option, Some, None}
+use Rattle.std.specs.Prelude.{ℕ, ◌≢◌, ◌⊎◌, Bool, true, ◌&&◌, nat_le, if◌then◌else◌}
+use Rattle.std.specs.Prelude.{List, [], ◌∷◌, map, get_or, Option, Some, None}
 use Rattle.std.specs.List.{list_any, list_all}
 use Rattle.gr_tick.specs.Kept.{Kept}
 use Rattle.gr_curio.specs.Values.{Wanted, wanted_at, is_C, is_A}
@@ -13,6 +14,10 @@ runs_of children = map (λ child. child.runs) children
 -- the runs of one child
 abbrev pub wants_of : List Wanted → ℕ → Wanted
 wants_of wants child = get_or wants child []
+
+-- how many runs more of one child fit before memory is asked for; past the last child 0
+abbrev pub spare_of : List (Kept Q3) → ℕ → ℕ
+spare_of children child = get_or (map (λ c. c.spare) children) child 0
 
 -- whether each child has acknowledged a tick
 abbrev pub all_A : List Wanted → ℕ → Bool
@@ -38,4 +43,5 @@ answered_of inside a = if inside && is_C a then N else a
 -- some child's value at a tick is not that at an earlier one
 abbrev pub HasChange : ℕ → ℕ → List (Kept Q3) → Type 0
 HasChange before t [] = ⊥
-HasChange before t (child ∷ children) = (wanted_at child.runs t ≢ wanted_at child.runs before) ⊎ HasChange before t children
+HasChange before t (child ∷ children) =
+    (wanted_at child.runs t ≢ wanted_at child.runs before) ⊎ HasChange before t children

@@ -1,11 +1,11 @@
-ghost use Rattle.std.specs.Prelude.{if◌then◌else◌, ◌≡◌, ◌↔◌, IsTrue, ℕ, ◌+◌, ◌^◌, ◌<◌, ◌≤◌, IfOk, OnOk, OnErr, List, [], length, map, set, replicate, slice_get, Some, true, unwrap_or, is_some};
+ghost use Rattle.std.specs.Prelude.{if◌then◌else◌, MatchOption, ◌≡◌, ◌≢◌, ◌↔◌, IsTrue, ℕ, ◌+◌, ◌^◌, ◌<◌, ◌≤◌, ◌&&◌};
+ghost use Rattle.std.specs.Prelude.{nat_le, IfOk, OnOk, OnErr, List, [], length, map, set, replicate, slice_get, Some, true, false};
 ghost use Rattle.std.specs.Option.{ForSome, ForNone};
-ghost use Rattle.std.specs.List.{list_all, list_any};
-ghost use Rattle.gr_tick.specs.Runs.{value_at, AreRuns};
-ghost use Rattle.gr_tick.specs.Stored.{within, IsRun, EndBefore, RunsGive};
-ghost use Rattle.gr_curio.specs.Values.{wanted_at, is_A, is_C};
+ghost use Rattle.gr_tick.specs.Runs.{AreRuns};
+ghost use Rattle.gr_tick.specs.Stored.{within, IsRun, EndBefore, RunsGive, is_told, needed};
+ghost use Rattle.gr_curio.specs.Values.{wanted_at, is_A};
 ghost use Rattle.gr_curio.specs.Order.{greater_of};
-ghost use Rattle.gr_curio.specs.Wants.{runs_of, wants_of, all_A, any_C, is_consolidated, answered_of};
+ghost use Rattle.gr_curio.specs.Wants.{runs_of, wants_of, spare_of, any_C, is_consolidated, answered_of};
 ghost use Rattle.gr_curio.specs.declared.values.Q3.TheVariants.{N, C, A};
 
 use crate::children::{
@@ -17,8 +17,8 @@ use gr_tick::{Piece, Run, Stream};
 use std::alloc::{AllocError, Global};
 use std::marker::Model;
 
-/// What each child of a broker asks and has acknowledged, for one publisher. The children are numbered from 0. It is seen as the
-/// list of each child's runs.
+/// What each child of a broker asks and has acknowledged, for one publisher. The children are numbered from 0. It is seen as
+/// the list of each child's runs and its spare, how many runs more fit before memory is asked for.
 #[derive(Drop)]
 pub struct Wants {
     children: Vec<Stream<Q3>>,
@@ -26,27 +26,26 @@ pub struct Wants {
 
 impl Model for Wants {
     ghost use Rattle.std.specs.Prelude.{List};
-    ghost use Rattle.gr_tick.specs.declared.run.Run.{Run};
+    ghost use Rattle.gr_tick.specs.Kept.{Kept};
     ghost use Rattle.gr_curio.specs.declared.values.Q3.{Q3};
-    ghost use Rattle.gr_curio.specs.Wants.{runs_of};
 
-    ghost Value = { List (List (Run Q3)) };
+    ghost Value = { List (Kept Q3) };
 
-    ghost view = { λ w. runs_of w.children.items };
+    ghost view = { λ w. w.children.items };
 }
 
 impl Wants {
     /// So many children that ask and acknowledge nothing. It fails only where memory is refused.
     pub fn new(alloc: Global, children: usize) -> Result<Wants, AllocError>
-        ensures { IfOk result (λ wants. wants ≡ replicate children []) }
+        ensures { IfOk result (λ wants. runs_of wants ≡ replicate children []) }
     {
         let children = quiet_children(alloc, children)?;
         Ok(Wants { children })
     }
 
-    /// An equal object. It fails only where memory is refused.
+    /// An object with equal runs. It fails only where memory is refused.
     pub fn copy(&self) -> Result<Wants, AllocError>
-        ensures { IfOk result (λ wants. wants ≡ self.now) }
+        ensures { IfOk result (λ wants. runs_of wants ≡ runs_of self.now) }
     {
         let children = copy_children(*self.children.allocator(), &self.children)?;
         Ok(Wants { children })
@@ -62,9 +61,9 @@ impl Wants {
     /// How many runs a child has. They are canonical, and none ends past `MAX_TICK`.
     pub fn len(&self, child: usize) -> usize
         requires { child < length self.now }
-        ensures len { result ≡ length (wants_of self.now child) }
-        ensures canonical { AreRuns N (wants_of self.now child) }
-        ensures in_range { EndBefore (wants_of self.now child) (2 ^ 62 + 1) }
+        ensures len { result ≡ length (wants_of (runs_of self.now) child) }
+        ensures canonical { AreRuns N (wants_of (runs_of self.now) child) }
+        ensures in_range { EndBefore (wants_of (runs_of self.now) child) (2 ^ 62 + 1) }
     {
         self.children[child].len()
     }
@@ -72,8 +71,8 @@ impl Wants {
     /// A child's run at place `i`, from 0.
     pub fn run(&self, child: usize, i: usize) -> &Run<Q3>
         requires child { child < length self.now }
-        requires place { i < length (wants_of self.now child) }
-        ensures run { slice_get (wants_of self.now child) i ≡ Some result.now }
+        requires place { i < length (wants_of (runs_of self.now) child) }
+        ensures run { slice_get (wants_of (runs_of self.now) child) i ≡ Some result.now }
         ensures alone { IsRun N result.now }
     {
         self.children[child].run(i)
@@ -82,17 +81,57 @@ impl Wants {
     /// A child's value at a tick. It takes no memory.
     pub fn at(&self, child: usize, tick: u64) -> Q3
         requires { child < length self.now }
-        ensures { result ≡ wanted_at (wants_of self.now child) tick }
+        ensures { result ≡ wanted_at (wants_of (runs_of self.now) child) tick }
     {
         self.children[child].at(tick)
     }
 
-    /// Joins a piece to a child's curiosity, and leaves that of the others. It fails only where memory is refused; then all is as
-    /// it was.
+    /// The greatest tick, at most `MAX_TICK`, up to which a child's value stays that of `tick`. It takes no memory.
+    pub fn steady_until(&self, child: usize, tick: u64) -> u64
+        requires child { child < length self.now }
+        requires tick { tick ≤ 2 ^ 62 }
+        ensures forward { tick ≤ result }
+        ensures inside { result ≤ 2 ^ 62 }
+        ensures steady { (t : ℕ) → tick ≤ t → t ≤ result →
+            wanted_at (wants_of (runs_of self.now) child) t ≡ wanted_at (wants_of (runs_of self.now) child) tick }
+        ensures greatest { result < 2 ^ 62 → wanted_at (wants_of (runs_of self.now) child) (result + 1)
+            ≢ wanted_at (wants_of (runs_of self.now) child) tick }
+    {
+        self.children[child].steady_until(tick)
+    }
+
+    /// Makes room for at least `n` runs more of a child. It fails only where memory is refused; then all is as it was.
+    pub fn reserve(&mut self, child: usize, n: usize) -> Result<(), AllocError>
+        requires { child < length self.old }
+        ensures runs { runs_of self.new ≡ runs_of self.old }
+        ensures spare { OnOk result (n ≤ spare_of self.new child) }
+        ensures others { (i : ℕ) → i ≢ child → spare_of self.new i ≡ spare_of self.old i }
+        ensures never_less { spare_of self.old child ≤ spare_of self.new child }
+        ensures err { OnErr result (self.new ≡ self.old) }
+    {
+        let stream = &mut self.children[child];
+        stream.reserve(n)?;
+        Ok(())
+    }
+
+    /// The spare that is enough to join a piece to a child's curiosity, or `None` where it is no 64-bit number. It takes no
+    /// memory.
+    pub fn room_for(&self, child: usize, piece: &Piece<Q3>) -> Option<usize>
+        requires { child < length self.now }
+        ensures { MatchOption result (2 ^ 64 ≤ needed (wants_of (runs_of self.now) child) piece.now)
+            (λ n. n ≡ needed (wants_of (runs_of self.now) child) piece.now) }
+    {
+        self.children[child].room_for(piece)
+    }
+
+    /// Joins a piece to a child's curiosity, and leaves that of the others. It fails only where memory is refused; then all
+    /// is as it was.
     pub fn raise(&mut self, child: usize, piece: &Piece<Q3>) -> Result<(), AllocError>
         requires { child < length self.old }
-        ensures raised { OnOk result (RunsGive N (wants_of self.new child) (λ t. greater_of (wanted_at (wants_of self.old child) t) (wanted_at piece.now t))) }
-        ensures others { OnOk result (self.new ≡ set self.old child (wants_of self.new child)) }
+        ensures raised { OnOk result (RunsGive N (wants_of (runs_of self.new) child)
+            (λ t. greater_of (wanted_at (wants_of (runs_of self.old) child) t) (wanted_at piece.now t))) }
+        ensures others { OnOk result (runs_of self.new
+            ≡ set (runs_of self.old) child (wants_of (runs_of self.new) child)) }
         ensures err { OnErr result (self.new ≡ self.old) }
     {
         let stream = &mut self.children[child];
@@ -100,15 +139,48 @@ impl Wants {
         Ok(())
     }
 
-    /// Where a child asked for ticks of the range, it asks nothing now; what it has acknowledged stays, and so do the others. It
-    /// fails only where memory is refused; then all is as it was.
+    /// Joins a piece to a child's curiosity, and leaves that of the others, where the room for it is there, as `room_for`
+    /// says. It takes no memory.
+    pub fn raise_ready(&mut self, child: usize, piece: &Piece<Q3>)
+        requires child { child < length self.old }
+        requires room { needed (wants_of (runs_of self.old) child) piece.now ≤ spare_of self.old child }
+        ensures raised { RunsGive N (wants_of (runs_of self.new) child)
+            (λ t. greater_of (wanted_at (wants_of (runs_of self.old) child) t) (wanted_at piece.now t)) }
+        ensures others { runs_of self.new ≡ set (runs_of self.old) child (wants_of (runs_of self.new) child) }
+        ensures spare { spare_of self.old child
+            ≤ spare_of self.new child + needed (wants_of (runs_of self.old) child) piece.now }
+        ensures other_spares { (i : ℕ) → i ≢ child → spare_of self.new i ≡ spare_of self.old i }
+    {
+        let stream = &mut self.children[child];
+        stream.join_ready(piece);
+    }
+
+    /// Takes a piece out of a child's curiosity: nothing is asked or acknowledged at any tick of its runs, whatever was
+    /// there. It leaves what the others ask. It takes no memory: a spare of as many runs as the piece has must be there.
+    pub fn take_out(&mut self, child: usize, piece: &Piece<Q3>)
+        requires child { child < length self.old }
+        requires room { length piece.now ≤ spare_of self.old child }
+        ensures taken { RunsGive N (wants_of (runs_of self.new) child)
+            (λ t. if is_told piece.now t then N else wanted_at (wants_of (runs_of self.old) child) t) }
+        ensures others { runs_of self.new ≡ set (runs_of self.old) child (wants_of (runs_of self.new) child) }
+        ensures spare { spare_of self.old child ≤ spare_of self.new child + length piece.now }
+        ensures other_spares { (i : ℕ) → i ≢ child → spare_of self.new i ≡ spare_of self.old i }
+    {
+        let stream = &mut self.children[child];
+        stream.lower_piece(piece);
+    }
+
+    /// Where a child asked for ticks of the range, it asks nothing now; what it has acknowledged stays, and so do the
+    /// others. It fails only where memory is refused; then all is as it was.
     pub fn answered(&mut self, child: usize, first: u64, last: u64) -> Result<(), AllocError>
         requires child { child < length self.old }
         requires from_one { 1 ≤ first }
         requires ordered { first ≤ last }
         requires upto { last ≤ 2 ^ 62 }
-        ensures answered { OnOk result (RunsGive N (wants_of self.new child) (λ t. answered_of (within first last t) (wanted_at (wants_of self.old child) t))) }
-        ensures others { OnOk result (self.new ≡ set self.old child (wants_of self.new child)) }
+        ensures answered { OnOk result (RunsGive N (wants_of (runs_of self.new) child)
+            (λ t. answered_of (within first last t) (wanted_at (wants_of (runs_of self.old) child) t))) }
+        ensures others { OnOk result (runs_of self.new
+            ≡ set (runs_of self.old) child (wants_of (runs_of self.new) child)) }
         ensures err { OnErr result (self.new ≡ self.old) }
     {
         let stream = &mut self.children[child];
@@ -123,7 +195,8 @@ impl Wants {
         requires from_one { 1 ≤ first }
         requires ordered { first ≤ last }
         requires upto { last ≤ 2 ^ 62 }
-        ensures { IfOk result (λ piece. RunsGive N piece (λ t. if within first last t then wanted_at (wants_of self.now child) t else N)) }
+        ensures { IfOk result (λ piece. RunsGive N piece
+            (λ t. if within first last t then wanted_at (wants_of (runs_of self.now) child) t else N)) }
     {
         self.children[child].piece(first, last)
     }
@@ -131,25 +204,27 @@ impl Wants {
     /// Whether a child has acknowledged each tick from 1 to `upto`; for 0 it has. It takes no memory.
     pub fn covers(&self, child: usize, upto: u64) -> bool
         requires { child < length self.now }
-        ensures { IsTrue result ↔ ((t : ℕ) → 1 ≤ t → t ≤ upto → is_A (wanted_at (wants_of self.now child) t) ≡ true) }
+        ensures { IsTrue result ↔ ((t : ℕ) → 1 ≤ t → t ≤ upto
+            → is_A (wanted_at (wants_of (runs_of self.now) child) t) ≡ true) }
     {
         covers_upto(&self.children[child], upto)
     }
 
-    /// Acknowledged at the ticks that every child has acknowledged, and that the horizon, if one is kept, has come to: what a
-    /// broker may acknowledge upstream. There has to be a child or a horizon; a horizon is at most `MAX_TICK`. It fails only where
-    /// memory is refused.
+    /// Acknowledged at the ticks that every child has acknowledged, and that the horizon, if one is kept, has come to: what
+    /// a broker may acknowledge upstream. There has to be a child or a horizon; a horizon is at most `MAX_TICK`. It fails
+    /// only where memory is refused.
     pub fn consolidate(&self, horizon: Option<u64>) -> Result<Piece<Q3>, AllocError>
         requires some { ForNone horizon (0 < length self.now) }
         requires upto { ForSome horizon (λ h. h ≤ 2 ^ 62) }
-        ensures { IfOk result (λ piece. RunsGive N piece (λ t. if is_consolidated horizon self.now t then A else N)) }
+        ensures { IfOk result (λ piece. RunsGive N piece
+            (λ t. if is_consolidated horizon (runs_of self.now) t then A else N)) }
     {
         consolidated_piece(*self.children.allocator(), &self.children, horizon)
     }
 
     /// Asked at the ticks that some child asks. It fails only where memory is refused.
     pub fn curious(&self) -> Result<Piece<Q3>, AllocError>
-        ensures { IfOk result (λ piece. RunsGive N piece (λ t. if any_C self.now t then C else N)) }
+        ensures { IfOk result (λ piece. RunsGive N piece (λ t. if any_C (runs_of self.now) t then C else N)) }
     {
         curious_piece(*self.children.allocator(), &self.children)
     }
