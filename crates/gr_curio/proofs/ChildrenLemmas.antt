@@ -1,9 +1,11 @@
 -- What the children's streams say, as lists of runs; what is asked and acknowledged out of range is nothing.
-use Rattle.std.proofs.Common.{◌≡◌, ◌≢◌, ℕ, ◌+◌, ◌^◌, ◌<◌, ◌≤◌, ◌⊎◌, inl, inr, Bool, true, false, ◌&&◌, ◌||◌, nat_le, cond, List, [], ◌∷◌, ◌++◌, length, map, set, take, replicate, get_or, Option, Some, IsTrue, refl, sym, ap, ap₂, ◌∙◌, subst, arith}
-use Rattle.std.proofs.lemmas.Bool.{cases_lt, le-leb, lt-leb, leb-true, and_left, and_right, and_from, cond-true, cond-false, false≢true}
-use Rattle.std.proofs.lemmas.List.{get_or-map, map-set, map-append, length-map, get_or-set_same, get_or-set_other, set-get_or, take_more, take_all, replicate_more}
+use Rattle.std.proofs.Common.{◌≡◌, ◌≢◌, ℕ, zero, suc, ◌+◌, ◌^◌, ◌<◌, ◌≤◌, ◌⊎◌, inl, inr, Bool, true, false, ◌&&◌, ◌||◌, nat_le, min, cond, List, [], ◌∷◌, ◌++◌, length, map, set, take, drop, replicate, get_or, Option, Some, None, IsTrue, refl, sym, ap, ap₂, ◌∙◌, subst, arith}
+use Rattle.std.proofs.lemmas.Bool.{cases_lt, le-leb, lt-leb, leb-true, and_left, and_right, and_parts, and_from, cond-true, cond-false, false≢true}
+use Rattle.std.proofs.Math.Bool.{and_assoc}
+use Rattle.std.proofs.lemmas.List.{get_or-map, map-set, map-append, length-map, get_or-set_same, get_or-set_other, set-get_or, take_more, take_all, drop_all, replicate_more}
 use Rattle.std.proofs.lemmas.List.Folds.{list_all-append, list_any-append}
 use Rattle.std.specs.List.{list_all, list_any}
+use Rattle.std.specs.Option.{unwrap_or}
 use Rattle.gr_tick.specs.declared.run.Run.{Run}
 use Rattle.gr_tick.specs.Kept.{Kept}
 use Rattle.gr_tick.specs.Runs.{AreRuns}
@@ -11,7 +13,7 @@ use Rattle.gr_tick.specs.Stored.{within, EndBefore, RunsGive}
 use Rattle.gr_tick.proofs.RunLaws.{value_at-start}
 use Rattle.gr_tick.proofs.RunsLemmas.{value_at_past}
 use Rattle.gr_curio.specs.Values.{wanted_at, is_A, is_C}
-use Rattle.gr_curio.specs.Wants.{runs_of, wants_of, spare_of, all_A, any_C, is_reached, is_consolidated, HasChange}
+use Rattle.gr_curio.specs.Wants.{runs_of, wants_of, spare_of, all_A, all_A_but, any_C, is_reached, is_consolidated, HasChange}
 use Rattle.gr_curio.specs.declared.values.Q3.{Q3}
 use Rattle.gr_curio.specs.declared.values.Q3.TheVariants.{N, C, A}
 
@@ -171,6 +173,99 @@ consolidated_outside horizon ws last t past out = cond-false (is_consolidated ho
     by_place (inl lt) p = and_left (nat_le 1 t && is_reached horizon t) (all_A ws t) (and_left (nat_le 1 t) (is_reached horizon t) (lt-leb 1 t lt))
     by_place (inr ge) (inl gt) = past t gt
     by_place (inr ge) (inr k) = absurd (false≢true (sym out ∙ and_from (nat_le 1 t) (nat_le t last) (le-leb 1 t ge) (le-leb t last k)))
+
+-- how far the horizon has come, of the ticks up to a limit
+reached_upto : (horizon : Option ℕ) (limit last t : ℕ) → last ≡ min (unwrap_or horizon limit) limit → t ≤ last → is_reached horizon t ≡ true
+reached_upto None limit last t e le = refl
+reached_upto (Some h) limit last t e le = let reach : t ≤ h = omega (arith, e, le) in le-leb t h reach
+
+reached_past : (horizon : Option ℕ) (limit last t : ℕ) → last ≡ min (unwrap_or horizon limit) limit → last < t → t ≤ limit → is_reached horizon t ≡ false
+reached_past None limit last t e lt le = absurd (omega (arith, e, lt, le))
+reached_past (Some h) limit last t e lt le = let past : h < t = omega (arith, e, lt, le) in lt-leb t h past
+
+-- where one of the children changes that all have acknowledged a tick, not all have acknowledged the other one
+all_change : (n t : ℕ) (cs : List (Kept Q3)) → HasChange n t cs → list_all (λ c. is_A (wanted_at c.runs n)) cs ≡ true → list_all (λ c. is_A (wanted_at c.runs t)) cs ≡ false
+all_change n t [] h all = absurd h
+all_change n t (c ∷ cs) (inl differs) all =
+    and_left (is_A (wanted_at c.runs t)) (list_all (λ d. is_A (wanted_at d.runs t)) cs)
+    (not_A (wanted_at c.runs t) (wanted_at c.runs n) differs (and_parts (is_A (wanted_at c.runs n)) (list_all (λ d. is_A (wanted_at d.runs n)) cs) all).0)
+  where
+    not_A : (x y : Q3) → x ≢ y → is_A y ≡ true → is_A x ≡ false
+    not_A N y d h = refl
+    not_A C y d h = refl
+    not_A A y d h = absurd (d (sym (is_A-only y h)))
+all_change n t (c ∷ cs) (inr later) all =
+    and_right (is_A (wanted_at c.runs t)) (list_all (λ d. is_A (wanted_at d.runs t)) cs)
+    (all_change n t cs later (and_parts (is_A (wanted_at c.runs n)) (list_all (λ d. is_A (wanted_at d.runs n)) cs) all).1)
+
+-- a tick that some child has not acknowledged
+pub not_consolidated : (horizon : Option ℕ) (cs : List (Kept Q3)) (t : ℕ) → list_all (λ c. is_A (wanted_at c.runs t)) cs ≡ false → is_consolidated horizon (runs_of cs) t ≡ false
+not_consolidated horizon cs t h = and_right (nat_le 1 t && is_reached horizon t) (all_A (runs_of cs) t) (all_runs t cs ∙ h)
+
+-- from tick 1 on all is consolidated, as long as no child changes and the horizon has come there
+pub front_consolidated : (horizon : Option ℕ) (cs : List (Kept Q3)) (limit last t : ℕ) → last ≡ min (unwrap_or horizon limit) limit → 1 ≤ t → t ≤ last → list_all (λ c. is_A (wanted_at c.runs t)) cs ≡ true → is_consolidated horizon (runs_of cs) t ≡ true
+front_consolidated horizon cs limit last t e lo hi all =
+    and_from (nat_le 1 t && is_reached horizon t) (all_A (runs_of cs) t)
+    (and_from (nat_le 1 t) (is_reached horizon t) (le-leb 1 t lo) (reached_upto horizon limit last t e hi)) (all_runs t cs ∙ all)
+
+pub front_ends : (horizon : Option ℕ) (cs : List (Kept Q3)) (limit last end : ℕ) → last ≡ min (unwrap_or horizon limit) limit → end ≤ last → (end < last → HasChange 1 (end + 1) cs) → list_all (λ c. is_A (wanted_at c.runs 1)) cs ≡ true → end < limit → is_consolidated horizon (runs_of cs) (end + 1) ≡ false
+front_ends horizon cs limit last end e le changes all lt = by_place (cases_lt end last)
+  where
+    by_place : (end < last) ⊎ (last ≤ end) → is_consolidated horizon (runs_of cs) (end + 1) ≡ false
+    by_place (inl before) = not_consolidated horizon cs (end + 1) (all_change 1 (end + 1) cs (changes before) all)
+    by_place (inr past) =
+        and_left (nat_le 1 (end + 1) && is_reached horizon (end + 1)) (all_A (runs_of cs) (end + 1))
+        (and_right (nat_le 1 (end + 1)) (is_reached horizon (end + 1)) (reached_past horizon limit last (end + 1) e (omega (arith, past)) (omega (arith, lt))))
+
+-- the children before a place and those after it
+but_split : (cs : List (Kept Q3)) (i t : ℕ) → all_A_but (Some i) (runs_of cs) t ≡ (all_A (runs_of (take i cs)) t && all_A (runs_of (drop (suc i) cs)) t)
+but_split [] zero t = refl
+but_split [] (suc i) t = refl
+but_split (c ∷ cs) zero t = refl
+but_split (c ∷ cs) (suc i) t =
+    ap (λ b. is_A (wanted_at c.runs t) && b) (but_split cs i t)
+    ∙ sym (and_assoc (is_A (wanted_at c.runs t)) (all_A (runs_of (take i cs)) t) (all_A (runs_of (drop (suc i) cs)) t))
+
+-- all children but one: those before it and those after it
+pub all_but_one : (but : Option ℕ) (cs : List (Kept Q3)) (out next t : ℕ) → out ≡ min (unwrap_or but (length cs)) (length cs) → next ≡ min (out + 1) (length cs) → all_A_but but (runs_of cs) t ≡ (all_A (runs_of (take out cs)) t && all_A (runs_of (drop next cs)) t)
+all_but_one None cs out next t eo en =
+    and_true (all_A (runs_of cs) t)
+    ∙ ap₂ (λ xs ys. all_A (runs_of xs) t && all_A (runs_of ys) t) (sym (take_all out cs (omega (arith, eo)))) (sym (drop_all next cs (omega (arith, eo, en))))
+  where
+    and_true : (b : Bool) → b ≡ (b && true)
+    and_true true = refl
+    and_true false = refl
+all_but_one (Some i) cs out next t eo en = but_split cs i t ∙ by_place (cases_lt i (length cs))
+  where
+    by_place : (i < length cs) ⊎ (length cs ≤ i) → (all_A (runs_of (take i cs)) t && all_A (runs_of (drop (suc i) cs)) t) ≡ (all_A (runs_of (take out cs)) t && all_A (runs_of (drop next cs)) t)
+    by_place (inl lt) =
+        let here : i ≡ out = omega (arith, eo, lt) in
+        let after : suc i ≡ next = omega (arith, here, en, lt) in
+        ap₂ (λ a b. all_A (runs_of (take a cs)) t && all_A (runs_of (drop b cs)) t) here after
+    by_place (inr le) =
+        ap₂ (λ xs ys. all_A (runs_of xs) t && all_A (runs_of ys) t) (take_all i cs le ∙ sym (take_all out cs (omega (arith, eo, le))))
+        (drop_all (suc i) cs (omega (arith, le)) ∙ sym (drop_all next cs (omega (arith, eo, en, le))))
+
+-- what is completed is tested by the piece and the children, up to the end
+pub complete_test : (upto t : ℕ) (a : Bool) (xs ys : List (Kept Q3)) → t ≤ upto → (a && nat_le t upto && (all_A (runs_of xs) t && all_A (runs_of ys) t)) ≡ (a && (list_all (λ c. is_A (wanted_at c.runs t)) xs && list_all (λ c. is_A (wanted_at c.runs t)) ys))
+complete_test upto t true xs ys le =
+    ap (λ b. b && (all_A (runs_of xs) t && all_A (runs_of ys) t)) (le-leb t upto le) ∙ ap₂ (λ a b. a && b) (all_runs t xs) (all_runs t ys)
+complete_test upto t false xs ys le = refl
+
+pub complete_outside : (rs : List (Run Q3)) (upto last t : ℕ) (b : Bool) → AreRuns N rs → EndBefore rs (2 ^ 62 + 1) → last ≡ min upto (2 ^ 62) → within 1 last t ≡ false → cond (is_A (wanted_at rs t) && nat_le t upto && b) A N ≡ N
+complete_outside rs upto last t b canonical in_range e out =
+    cond-false (is_A (wanted_at rs t) && nat_le t upto && b) A N (and_left (is_A (wanted_at rs t) && nat_le t upto) b (by_place (cases_lt upto t)))
+  where
+    by_place : (upto < t) ⊎ (t ≤ upto) → (is_A (wanted_at rs t) && nat_le t upto) ≡ false
+    by_place (inl past) = and_right (is_A (wanted_at rs t)) (nat_le t upto) (lt-leb t upto past)
+    by_place (inr le) = and_left (is_A (wanted_at rs t)) (nat_le t upto) (ap is_A (wanted_outside rs (2 ^ 62) t canonical in_range (no_tick (cases_lt t 1) (cases_lt (2 ^ 62) t))))
+      where
+        no_tick : (t < 1) ⊎ (1 ≤ t) → (2 ^ 62 < t) ⊎ (t ≤ 2 ^ 62) → within 1 (2 ^ 62) t ≡ false
+        no_tick (inl lt) p = and_left (nat_le 1 t) (nat_le t (2 ^ 62)) (lt-leb 1 t lt)
+        no_tick (inr ge) (inl gt) = and_right (nat_le 1 t) (nat_le t (2 ^ 62)) (lt-leb t (2 ^ 62) gt)
+        no_tick (inr ge) (inr k) =
+            let inside : t ≤ last = omega (arith, e, le, k) in
+            absurd (false≢true (sym out ∙ and_from (nat_le 1 t) (nat_le t last) (le-leb 1 t ge) (le-leb t last inside)))
 
 pub curious_yes : (cs : List (Kept Q3)) (n t : ℕ) (b : Bool) → list_any (λ c. is_C (wanted_at c.runs t)) cs ≡ list_any (λ c. is_C (wanted_at c.runs n)) cs → b ≡ list_any (λ c. is_C (wanted_at c.runs n)) cs → b ≡ true → C ≡ cond (any_C (runs_of cs) t) C N
 curious_yes cs n t b steady told holds = sym (cond-true (any_C (runs_of cs) t) C N (any_runs t cs ∙ steady ∙ sym told ∙ holds))

@@ -1,5 +1,5 @@
 -- What the children ask and acknowledge, tick by tick
-use Rattle.std.specs.Prelude.{ℕ, ◌≢◌, ◌⊎◌, Bool, true, ◌&&◌, nat_le, if◌then◌else◌}
+use Rattle.std.specs.Prelude.{ℕ, zero, suc, ◌≢◌, ◌⊎◌, Bool, true, ◌&&◌, nat_le, if◌then◌else◌}
 use Rattle.std.specs.Prelude.{List, [], ◌∷◌, map, get_or, Option, Some, None}
 use Rattle.std.specs.List.{list_any, list_all}
 use Rattle.gr_tick.specs.Kept.{Kept}
@@ -22,6 +22,13 @@ spare_of children child = get_or (map (λ c. c.spare) children) child 0
 -- whether each child has acknowledged a tick
 abbrev pub all_A : List Wanted → ℕ → Bool
 all_A wants t = list_all (λ w. is_A (wanted_at w t)) wants
+
+-- whether each child but one, if one is left out, has acknowledged a tick
+abbrev pub all_A_but : Option ℕ → List Wanted → ℕ → Bool
+all_A_but None wants t = all_A wants t
+all_A_but (Some child) [] t = true
+all_A_but (Some zero) (w ∷ wants) t = all_A wants t
+all_A_but (Some (suc child)) (w ∷ wants) t = is_A (wanted_at w t) && all_A_but (Some child) wants t
 
 -- whether some child asks for a tick
 abbrev pub any_C : List Wanted → ℕ → Bool

@@ -1,10 +1,11 @@
 //! The children's curiosity, as a slice of streams.
-ghost use Rattle.std.specs.Prelude.{if◌then◌else◌, ◌≡◌, ◌↔◌, IsTrue, ℕ, ◌+◌, ◌^◌, ◌<◌, ◌≤◌, IfOk, [], length, replicate, true, false};
+ghost use Rattle.std.specs.Prelude.{if◌then◌else◌, ◌≡◌, ◌≢◌, ◌⊎◌, ◌↔◌, IsTrue, ℕ, ◌+◌, ◌^◌, ◌<◌, ◌≤◌, ◌&&◌};
+ghost use Rattle.std.specs.Prelude.{nat_le, IfOk, [], length, replicate, true, false};
 ghost use Rattle.std.specs.Option.{ForSome, ForNone};
 ghost use Rattle.std.specs.List.{list_all, list_any};
 ghost use Rattle.gr_tick.specs.Stored.{within, RunsGive};
 ghost use Rattle.gr_curio.specs.Values.{wanted_at, is_A, is_C};
-ghost use Rattle.gr_curio.specs.Wants.{runs_of, any_C, is_reached, is_consolidated, HasChange};
+ghost use Rattle.gr_curio.specs.Wants.{runs_of, all_A, all_A_but, any_C, is_reached, is_consolidated, HasChange};
 ghost use Rattle.gr_curio.specs.declared.values.Q3.TheVariants.{N, C, A};
 
 use crate::values::Q3;
@@ -91,8 +92,12 @@ fn agree_until(children: &[Stream<Q3>], tick: u64, limit: u64) -> u64
     ensures forward { tick ≤ result }
     ensures inside { result ≤ limit }
     ensures greatest { result < limit → HasChange tick (result + 1) children.now }
-    ensures acknowledged { (t : ℕ) → tick ≤ t → t ≤ result → list_all (λ child. is_A (wanted_at child.runs t)) children.now ≡ list_all (λ child. is_A (wanted_at child.runs tick)) children.now }
-    ensures asked { (t : ℕ) → tick ≤ t → t ≤ result → list_any (λ child. is_C (wanted_at child.runs t)) children.now ≡ list_any (λ child. is_C (wanted_at child.runs tick)) children.now }
+    ensures acknowledged { (t : ℕ) → tick ≤ t → t ≤ result →
+        list_all (λ child. is_A (wanted_at child.runs t)) children.now
+        ≡ list_all (λ child. is_A (wanted_at child.runs tick)) children.now }
+    ensures asked { (t : ℕ) → tick ≤ t → t ≤ result →
+        list_any (λ child. is_C (wanted_at child.runs t)) children.now
+        ≡ list_any (λ child. is_C (wanted_at child.runs tick)) children.now }
 {
     let mut end = limit;
     for child in children {
@@ -128,7 +133,8 @@ pub fn consolidated_piece(
 ) -> Result<Piece<Q3>, AllocError>
     requires some { ForNone horizon (0 < length children.now) }
     requires upto { ForSome horizon (λ h. h ≤ 2 ^ 62) }
-    ensures { IfOk result (λ piece. RunsGive N piece (λ t. if is_consolidated horizon (runs_of children.now) t then A else N)) }
+    ensures { IfOk result (λ piece. RunsGive N piece
+        (λ t. if is_consolidated horizon (runs_of children.now) t then A else N)) }
 {
     let limit = last_consolidated(children, horizon);
     let mut piece = Piece::new(alloc);
@@ -148,10 +154,122 @@ pub fn consolidated_piece(
     Ok(piece)
 }
 
+/// The greatest tick up to `limit` up to which each tick is consolidated.
+pub fn consolidated_upto(children: &[Stream<Q3>], horizon: Option<u64>, limit: u64) -> u64
+    requires { limit ≤ 2 ^ 62 }
+    ensures within { result ≤ limit }
+    ensures each { (t : ℕ) → 1 ≤ t → t ≤ result → is_consolidated horizon (runs_of children.now) t ≡ true }
+    ensures stops { result < limit → is_consolidated horizon (runs_of children.now) (result + 1) ≡ false }
+{
+    let last = horizon.unwrap_or(limit).min(limit);
+    if last == 0 {
+        return 0;
+    }
+    if !all_acknowledge(children, 1) {
+        return 0;
+    }
+    agree_until(children, 1, last)
+}
+
+/// Whether a piece acknowledges a tick, and so has each child before the one that is left out and after it.
+fn is_complete(before: &[Stream<Q3>], after: &[Stream<Q3>], piece: &Piece<Q3>, tick: u64) -> bool
+    ensures { result ≡ (is_A (wanted_at piece.now tick)
+        && (list_all (λ child. is_A (wanted_at child.runs tick)) before.now
+        && list_all (λ child. is_A (wanted_at child.runs tick)) after.now)) }
+{
+    match piece.at(tick) {
+        Q3::A => all_acknowledge(before, tick) && all_acknowledge(after, tick),
+        Q3::N | Q3::C => false,
+    }
+}
+
+/// The greatest tick up to `limit` up to which neither the piece, nor where it acknowledges a child before the one that is left
+/// out or after it, changes.
+fn complete_until(
+    before: &[Stream<Q3>],
+    after: &[Stream<Q3>],
+    piece: &Piece<Q3>,
+    tick: u64,
+    limit: u64,
+) -> u64
+    requires ordered { tick ≤ limit }
+    requires upto { limit ≤ 2 ^ 62 }
+    ensures forward { tick ≤ result }
+    ensures inside { result ≤ limit }
+    ensures greatest { result < limit → (wanted_at piece.now (result + 1) ≢ wanted_at piece.now tick)
+        ⊎ (HasChange tick (result + 1) before.now ⊎ HasChange tick (result + 1) after.now) }
+    ensures steady { (t : ℕ) → tick ≤ t → t ≤ result →
+        (is_A (wanted_at piece.now t)
+        && (list_all (λ child. is_A (wanted_at child.runs t)) before.now
+        && list_all (λ child. is_A (wanted_at child.runs t)) after.now))
+        ≡ (is_A (wanted_at piece.now tick)
+        && (list_all (λ child. is_A (wanted_at child.runs tick)) before.now
+        && list_all (λ child. is_A (wanted_at child.runs tick)) after.now)) }
+{
+    let end = limit.min(piece.steady_until(tick));
+    match piece.at(tick) {
+        Q3::A => {
+            let both = agree_until(before, tick, end);
+            agree_until(after, tick, both)
+        }
+        Q3::N | Q3::C => end,
+    }
+}
+
+/// Acknowledged at the ticks up to `upto` that a piece acknowledges, and that each child before the one that is left out and
+/// after it has acknowledged.
+fn completed_by(
+    alloc: Global,
+    before: &[Stream<Q3>],
+    after: &[Stream<Q3>],
+    piece: &Piece<Q3>,
+    upto: u64,
+) -> Result<Piece<Q3>, AllocError>
+    ensures { IfOk result (λ done. RunsGive N done (λ t. if is_A (wanted_at piece.now t) && nat_le t upto
+        && (all_A (runs_of before.now) t && all_A (runs_of after.now) t) then A else N)) }
+{
+    let limit = upto.min(MAX_TICK);
+    let mut done = Piece::new(alloc);
+    let mut next = 1;
+    while next <= limit {
+        let end = complete_until(before, after, piece, next, limit);
+        if is_complete(before, after, piece, next) {
+            done.push(Run {
+                first: next,
+                last: end,
+                value: Q3::A,
+            })?;
+        }
+        next = end + 1;
+    }
+    let _ = done.len();
+    let _ = piece.len();
+    Ok(done)
+}
+
+/// Acknowledged at the ticks up to `upto` that a piece acknowledges, and that every child has acknowledged, but one that is
+/// left out.
+pub fn completed_piece(
+    alloc: Global,
+    children: &[Stream<Q3>],
+    but: Option<usize>,
+    piece: &Piece<Q3>,
+    upto: u64,
+) -> Result<Piece<Q3>, AllocError>
+    ensures { IfOk result (λ done. RunsGive N done (λ t. if is_A (wanted_at piece.now t) && nat_le t upto
+        && all_A_but but (runs_of children.now) t then A else N)) }
+{
+    let count = children.len();
+    let out = but.unwrap_or(count).min(count);
+    let next = (out + 1).min(count);
+    completed_by(alloc, &children[..out], &children[next..], piece, upto)
+}
+
 /// The last tick that a child has.
 fn last_of_all(children: &[Stream<Q3>]) -> u64
     ensures inside { result ≤ 2 ^ 62 }
-    ensures outside { (t : ℕ) → within 1 result t ≡ false → list_any (λ child. is_C (wanted_at child.runs t)) children.now ≡ false }
+    ensures outside { (t : ℕ) → within 1 result t ≡ false →
+        list_any (λ child. is_C (wanted_at child.runs t)) children.now ≡ false }
 {
     let mut last = 0u64;
     for child in children {

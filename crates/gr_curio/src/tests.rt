@@ -130,6 +130,32 @@ fn consolidates_what_both_acknowledge(rt: HostRuntime) -> Result<(), Fail> {
     Ok(())
 }
 
+// One child acknowledges 1 to 9, the other 1 to 4 so far; then news comes that the other has acknowledged 3 to 8.
+#[test]
+fn reads_ahead_and_edits_with_room(rt: HostRuntime) -> Result<(), Fail> {
+    let mut wants = Wants::new(rt.alloc(), 2)?;
+    let heard = piece_of(rt.alloc(), 1, 9, true)?;
+    let room = wants.room_for(0, &heard).ok_or("room")?;
+    assert_eq!(rt; room, 1);
+    wants.reserve(0, room)?;
+    wants.raise_ready(0, &heard);
+    wants.raise(1, &piece_of(rt.alloc(), 1, 4, true)?)?;
+    assert_eq!(rt; wants.steady_until(1, 2), 4);
+    assert_eq!(rt; wants.consolidated_upto(None, 20), 4);
+    assert_eq!(rt; wants.consolidated_upto(Some(3), 20), 3);
+    let news = piece_of(rt.alloc(), 3, 8, true)?;
+    let done = wants.completed(Some(1), &news, 7)?;
+    assert_eq!(rt; done.len(), 1);
+    assert_eq!(rt; done.run(0).first, 3);
+    assert_eq!(rt; done.run(0).last, 7);
+    wants.reserve(0, news.len())?;
+    wants.take_out(0, &news);
+    assert_eq!(rt; wants.at(0, 2), Q3::A);
+    assert_eq!(rt; wants.at(0, 3), Q3::N);
+    assert_eq!(rt; wants.at(0, 9), Q3::A);
+    Ok(())
+}
+
 #[test]
 fn asks_what_is_due(rt: HostRuntime) -> Result<(), Fail> {
     let mut asks = Asks::new(rt.alloc());

@@ -5,11 +5,12 @@ ghost use Rattle.gr_tick.specs.Runs.{AreRuns};
 ghost use Rattle.gr_tick.specs.Stored.{within, IsRun, EndBefore, RunsGive, is_told, needed};
 ghost use Rattle.gr_curio.specs.Values.{wanted_at, is_A};
 ghost use Rattle.gr_curio.specs.Order.{greater_of};
-ghost use Rattle.gr_curio.specs.Wants.{runs_of, wants_of, spare_of, any_C, is_consolidated, answered_of};
+ghost use Rattle.gr_curio.specs.Wants.{runs_of, wants_of, spare_of, all_A_but, any_C, is_consolidated, answered_of};
 ghost use Rattle.gr_curio.specs.declared.values.Q3.TheVariants.{N, C, A};
 
 use crate::children::{
-    consolidated_piece, copy_children, covers_upto, curious_piece, quiet_children,
+    completed_piece, consolidated_piece, consolidated_upto, copy_children, covers_upto,
+    curious_piece, quiet_children,
 };
 use crate::mark::mark_asked;
 use crate::values::Q3;
@@ -220,6 +221,35 @@ impl Wants {
             (λ t. if is_consolidated horizon (runs_of self.now) t then A else N)) }
     {
         consolidated_piece(*self.children.allocator(), &self.children, horizon)
+    }
+
+    /// The greatest tick up to `limit` up to which every child has acknowledged each tick, and the horizon, if one is kept,
+    /// has come to it: 0 where that is not so of tick 1. There has to be a child or a horizon; a horizon and `limit` are at
+    /// most `MAX_TICK`. It takes no memory.
+    pub fn consolidated_upto(&self, horizon: Option<u64>, limit: u64) -> u64
+        requires some { ForNone horizon (0 < length self.now) }
+        requires upto { ForSome horizon (λ h. h ≤ 2 ^ 62) }
+        requires limit { limit ≤ 2 ^ 62 }
+        ensures within { result ≤ limit }
+        ensures each { (t : ℕ) → 1 ≤ t → t ≤ result → is_consolidated horizon (runs_of self.now) t ≡ true }
+        ensures stops { result < limit → is_consolidated horizon (runs_of self.now) (result + 1) ≡ false }
+    {
+        consolidated_upto(&self.children, horizon, limit)
+    }
+
+    /// Acknowledged at the ticks up to `upto` that a piece acknowledges, and that every child has acknowledged, but one that
+    /// may be left out: what has come to be acknowledged by all, if the piece is news of that one. It fails only where memory
+    /// is refused.
+    pub fn completed(
+        &self,
+        but: Option<usize>,
+        piece: &Piece<Q3>,
+        upto: u64,
+    ) -> Result<Piece<Q3>, AllocError>
+        ensures { IfOk result (λ done. RunsGive N done (λ t. if is_A (wanted_at piece.now t) && nat_le t upto
+            && all_A_but but (runs_of self.now) t then A else N)) }
+    {
+        completed_piece(*self.children.allocator(), &self.children, but, piece, upto)
     }
 
     /// Asked at the ticks that some child asks. It fails only where memory is refused.
