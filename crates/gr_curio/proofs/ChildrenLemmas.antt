@@ -179,6 +179,7 @@ reached_upto : (horizon : Option ℕ) (limit last t : ℕ) → last ≡ min (unw
 reached_upto None limit last t e le = refl
 reached_upto (Some h) limit last t e le = let reach : t ≤ h = omega (arith, e, le) in le-leb t h reach
 
+-- and where it has not
 reached_past : (horizon : Option ℕ) (limit last t : ℕ) → last ≡ min (unwrap_or horizon limit) limit → last < t → t ≤ limit → is_reached horizon t ≡ false
 reached_past None limit last t e lt le = absurd (omega (arith, e, lt, le))
 reached_past (Some h) limit last t e lt le = let past : h < t = omega (arith, e, lt, le) in lt-leb t h past
@@ -208,6 +209,7 @@ front_consolidated horizon cs limit last t e lo hi all =
     and_from (nat_le 1 t && is_reached horizon t) (all_A (runs_of cs) t)
     (and_from (nat_le 1 t) (is_reached horizon t) (le-leb 1 t lo) (reached_upto horizon limit last t e hi)) (all_runs t cs ∙ all)
 
+-- and the tick after them is not
 pub front_ends : (horizon : Option ℕ) (cs : List (Kept Q3)) (limit last end : ℕ) → last ≡ min (unwrap_or horizon limit) limit → end ≤ last → (end < last → HasChange 1 (end + 1) cs) → list_all (λ c. is_A (wanted_at c.runs 1)) cs ≡ true → end < limit → is_consolidated horizon (runs_of cs) (end + 1) ≡ false
 front_ends horizon cs limit last end e le changes all lt = by_place (cases_lt end last)
   where
@@ -246,12 +248,13 @@ all_but_one (Some i) cs out next t eo en = but_split cs i t ∙ by_place (cases_
         ap₂ (λ xs ys. all_A (runs_of xs) t && all_A (runs_of ys) t) (take_all i cs le ∙ sym (take_all out cs (omega (arith, eo, le))))
         (drop_all (suc i) cs (omega (arith, le)) ∙ sym (drop_all next cs (omega (arith, eo, en, le))))
 
--- what is completed is tested by the piece and the children, up to the end
+-- up to the end the test of the piece and of the children tells what is completed
 pub complete_test : (upto t : ℕ) (a : Bool) (xs ys : List (Kept Q3)) → t ≤ upto → (a && nat_le t upto && (all_A (runs_of xs) t && all_A (runs_of ys) t)) ≡ (a && (list_all (λ c. is_A (wanted_at c.runs t)) xs && list_all (λ c. is_A (wanted_at c.runs t)) ys))
 complete_test upto t true xs ys le =
     ap (λ b. b && (all_A (runs_of xs) t && all_A (runs_of ys) t)) (le-leb t upto le) ∙ ap₂ (λ a b. a && b) (all_runs t xs) (all_runs t ys)
 complete_test upto t false xs ys le = refl
 
+-- nothing is completed past the end, or out of range
 pub complete_outside : (rs : List (Run Q3)) (upto last t : ℕ) (b : Bool) → AreRuns N rs → EndBefore rs (2 ^ 62 + 1) → last ≡ min upto (2 ^ 62) → within 1 last t ≡ false → cond (is_A (wanted_at rs t) && nat_le t upto && b) A N ≡ N
 complete_outside rs upto last t b canonical in_range e out =
     cond-false (is_A (wanted_at rs t) && nat_le t upto && b) A N (and_left (is_A (wanted_at rs t) && nat_le t upto) b (by_place (cases_lt upto t)))

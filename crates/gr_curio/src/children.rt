@@ -183,8 +183,8 @@ fn is_complete(before: &[Stream<Q3>], after: &[Stream<Q3>], piece: &Piece<Q3>, t
     }
 }
 
-/// The greatest tick up to `limit` up to which neither the piece, nor where it acknowledges a child before the one that is left
-/// out or after it, changes.
+/// The greatest tick up to `limit` up to which neither the piece, nor where it acknowledges a child before the one
+/// that is left out or after it, changes.
 fn complete_until(
     before: &[Stream<Q3>],
     after: &[Stream<Q3>],
@@ -216,8 +216,8 @@ fn complete_until(
     }
 }
 
-/// Acknowledged at the ticks up to `upto` that a piece acknowledges, and that each child before the one that is left out and
-/// after it has acknowledged.
+/// Acknowledged at the ticks up to `upto` that a piece acknowledges, and that each child before the one that is left
+/// out and after it has acknowledged.
 fn completed_by(
     alloc: Global,
     before: &[Stream<Q3>],
@@ -247,8 +247,8 @@ fn completed_by(
     Ok(done)
 }
 
-/// Acknowledged at the ticks up to `upto` that a piece acknowledges, and that every child has acknowledged, but one that is
-/// left out.
+/// Acknowledged at the ticks up to `upto` that a piece acknowledges, and that every child has acknowledged, but one
+/// that is left out.
 pub fn completed_piece(
     alloc: Global,
     children: &[Stream<Q3>],

@@ -1,5 +1,6 @@
 ghost use Rattle.std.specs.Prelude.{if◌then◌else◌, MatchOption, ◌≡◌, ◌≢◌, ◌↔◌, IsTrue, ℕ, ◌+◌, ◌^◌, ◌<◌, ◌≤◌, ◌&&◌};
-ghost use Rattle.std.specs.Prelude.{nat_le, IfOk, OnOk, OnErr, List, [], length, map, set, replicate, slice_get, Some, true, false};
+ghost use Rattle.std.specs.Prelude.{nat_le, IfOk, OnOk, OnErr, List, [], length, set, replicate, slice_get, Some};
+ghost use Rattle.std.specs.Prelude.{true, false};
 ghost use Rattle.std.specs.Option.{ForSome, ForNone};
 ghost use Rattle.gr_tick.specs.Runs.{AreRuns};
 ghost use Rattle.gr_tick.specs.Stored.{within, IsRun, EndBefore, RunsGive, is_told, needed};
@@ -18,8 +19,8 @@ use gr_tick::{Piece, Run, Stream};
 use std::alloc::{AllocError, Global};
 use std::marker::Model;
 
-/// What each child of a broker asks and has acknowledged, for one publisher. The children are numbered from 0. It is seen as
-/// the list of each child's runs and its spare, how many runs more fit before memory is asked for.
+/// What each child of a broker asks and has acknowledged, for one publisher. The children are numbered from 0. It is
+/// seen as the list of each child's runs and its spare, how many runs more fit before memory is asked for.
 #[derive(Drop)]
 pub struct Wants {
     children: Vec<Stream<Q3>>,
@@ -115,8 +116,8 @@ impl Wants {
         Ok(())
     }
 
-    /// The spare that is enough to join a piece to a child's curiosity, or `None` where it is no 64-bit number. It takes no
-    /// memory.
+    /// The spare that is enough to join a piece to a child's curiosity, or `None` where it is no 64-bit number. It
+    /// takes no memory.
     pub fn room_for(&self, child: usize, piece: &Piece<Q3>) -> Option<usize>
         requires { child < length self.now }
         ensures { MatchOption result (2 ^ 64 ≤ needed (wants_of (runs_of self.now) child) piece.now)
@@ -125,8 +126,8 @@ impl Wants {
         self.children[child].room_for(piece)
     }
 
-    /// Joins a piece to a child's curiosity, and leaves that of the others. It fails only where memory is refused; then all
-    /// is as it was.
+    /// Joins a piece to a child's curiosity, and leaves that of the others. It fails only where memory is refused;
+    /// then all is as it was.
     pub fn raise(&mut self, child: usize, piece: &Piece<Q3>) -> Result<(), AllocError>
         requires { child < length self.old }
         ensures raised { OnOk result (RunsGive N (wants_of (runs_of self.new) child)
@@ -140,8 +141,8 @@ impl Wants {
         Ok(())
     }
 
-    /// Joins a piece to a child's curiosity, and leaves that of the others, where the room for it is there, as `room_for`
-    /// says. It takes no memory.
+    /// Joins a piece to a child's curiosity, and leaves that of the others, where the room for it is there, as
+    /// `room_for` says. It takes no memory.
     pub fn raise_ready(&mut self, child: usize, piece: &Piece<Q3>)
         requires child { child < length self.old }
         requires room { needed (wants_of (runs_of self.old) child) piece.now ≤ spare_of self.old child }
@@ -156,8 +157,9 @@ impl Wants {
         stream.join_ready(piece);
     }
 
-    /// Takes a piece out of a child's curiosity: nothing is asked or acknowledged at any tick of its runs, whatever was
-    /// there. It leaves what the others ask. It takes no memory: a spare of as many runs as the piece has must be there.
+    /// Takes a piece out of a child's curiosity: nothing is asked or acknowledged at any tick of its runs, whatever
+    /// was there. It leaves what the others ask. It takes no memory: a spare of as many runs as the piece has must be
+    /// there.
     pub fn take_out(&mut self, child: usize, piece: &Piece<Q3>)
         requires child { child < length self.old }
         requires room { length piece.now ≤ spare_of self.old child }
@@ -211,9 +213,9 @@ impl Wants {
         covers_upto(&self.children[child], upto)
     }
 
-    /// Acknowledged at the ticks that every child has acknowledged, and that the horizon, if one is kept, has come to: what
-    /// a broker may acknowledge upstream. There has to be a child or a horizon; a horizon is at most `MAX_TICK`. It fails
-    /// only where memory is refused.
+    /// Acknowledged at the ticks that every child has acknowledged, and that the horizon, if one is kept, has come
+    /// to: what a broker may acknowledge upstream. There has to be a child or a horizon; a horizon is at most
+    /// `MAX_TICK`. It fails only where memory is refused.
     pub fn consolidate(&self, horizon: Option<u64>) -> Result<Piece<Q3>, AllocError>
         requires some { ForNone horizon (0 < length self.now) }
         requires upto { ForSome horizon (λ h. h ≤ 2 ^ 62) }
@@ -223,9 +225,9 @@ impl Wants {
         consolidated_piece(*self.children.allocator(), &self.children, horizon)
     }
 
-    /// The greatest tick up to `limit` up to which every child has acknowledged each tick, and the horizon, if one is kept,
-    /// has come to it: 0 where that is not so of tick 1. There has to be a child or a horizon; a horizon and `limit` are at
-    /// most `MAX_TICK`. It takes no memory.
+    /// The greatest tick up to `limit` up to which every child has acknowledged each tick, and the horizon, if one is
+    /// kept, has come to it: 0 where that is not so of tick 1. There has to be a child or a horizon; a horizon and
+    /// `limit` are at most `MAX_TICK`. It takes no memory.
     pub fn consolidated_upto(&self, horizon: Option<u64>, limit: u64) -> u64
         requires some { ForNone horizon (0 < length self.now) }
         requires upto { ForSome horizon (λ h. h ≤ 2 ^ 62) }
@@ -237,9 +239,9 @@ impl Wants {
         consolidated_upto(&self.children, horizon, limit)
     }
 
-    /// Acknowledged at the ticks up to `upto` that a piece acknowledges, and that every child has acknowledged, but one that
-    /// may be left out: what has come to be acknowledged by all, if the piece is news of that one. It fails only where memory
-    /// is refused.
+    /// Acknowledged at the ticks up to `upto` that a piece acknowledges, and that every child has acknowledged, but
+    /// one that may be left out: what has come to be acknowledged by all, if the piece is news of that one. It fails
+    /// only where memory is refused.
     pub fn completed(
         &self,
         but: Option<usize>,
