@@ -44,13 +44,14 @@ impl Subend {
     /// tick. An event that stands at many ticks is given at each of them. The filters of the subscribers are for the
     /// caller. `Memory` leaves the horizon as it was.
     pub fn advance(&mut self, alloc: Global, know: &Know) -> Result<Deliveries, Memory>
-        ensures horizon { OnOk result (self.new ≡ horizon_after true self.old know.now) }
+        ensures horizon { OnOk result (self.new ≡ horizon_after true self.old know.now.runs) }
         ensures forward { self.old ≤ self.new }
-        ensures known { OnOk result ((t : ℕ) → self.old < t → t ≤ self.new → known_at know.now t ≢ Q) }
-        ensures greatest { OnOk result (known_at know.now (self.new + 1) ≡ Q) }
-        ensures delivered { IfOk result (λ ds. items ds ≡ data_ticks self.old self.new know.now) }
+        ensures known { OnOk result ((t : ℕ) → self.old < t → t ≤ self.new → known_at know.now.runs t ≢ Q) }
+        ensures greatest { OnOk result (known_at know.now.runs (self.new + 1) ≡ Q) }
+        ensures delivered { IfOk result (λ ds. items ds ≡ data_ticks self.old self.new know.now.runs) }
         ensures rise { IfOk result (λ ds. TicksRise self.old (items ds)) }
-        ensures each { IfOk result (λ ds. (t : ℕ) → self.old < t → t ≤ self.new → said_at (items ds) t ≡ event_of (known_at know.now t)) }
+        ensures each { IfOk result (λ ds. (t : ℕ) → self.old < t → t ≤ self.new
+            → said_at (items ds) t ≡ event_of (known_at know.now.runs t)) }
         ensures no_other { IfOk result (λ ds. (t : ℕ) → (t ≤ self.old) ⊎ (self.new < t) → said_at (items ds) t ≡ None) }
         ensures err { OnErr result (self.new ≡ self.old) }
     {
@@ -68,7 +69,9 @@ impl Subend {
     /// What `advance` will give once a piece is joined to what is known: for a caller that takes all memory before it changes
     /// anything. `move_on` then moves the horizon. It looks at the ticks that are passed and no others.
     pub fn coming(&self, alloc: Global, know: &Know, piece: &Piece<K>) -> Result<Deliveries, Memory>
-        ensures { IfOk result (λ ds. (joined : Known) → RunsGive Q joined (λ t. join_K (known_at know.now t) (known_at piece.now t)) → items ds ≡ data_ticks self.now (horizon_after true self.now joined) joined) }
+        ensures { IfOk result (λ ds. (joined : Known)
+            → RunsGive Q joined (λ t. join_K (known_at know.now.runs t) (known_at piece.now t))
+            → items ds ≡ data_ticks self.now (horizon_after true self.now joined) joined) }
     {
         // Proof only: the horizon is a tick.
         let _ = self.horizon();
@@ -83,7 +86,7 @@ impl Subend {
 
     /// Moves the horizon as `advance` does, and gives no events. Takes no memory, and never fails.
     pub fn move_on(&mut self, know: &Know)
-        ensures horizon { self.new ≡ horizon_after true self.old know.now }
+        ensures horizon { self.new ≡ horizon_after true self.old know.now.runs }
         ensures forward { self.old ≤ self.new }
     {
         self.horizon = know.horizon_from(self.horizon);
