@@ -1,6 +1,7 @@
 pub mod Numbers
 pub mod Reading
 pub mod Moments
+pub mod Onward
 pub mod Live
 pub mod Appending
 pub mod Stopping

@@ -49,6 +49,12 @@ opened_text bytes = if nat_le (length bytes) 6 then header ++ 0 ∷ [] else byte
 
 -- What each call does
 
+-- What was called on a lane stays called: it read the same at first, and of its calls those before are the earliest.
+pub record GoesOn (before after : Lane) : Type 0 where
+  pub start : after.start ≡ before.start
+  pub more : List Call
+  pub calls : after.calls ≡ more ++ before.calls
+
 -- a log that is not broken has its records in its lane
 abbrev pub IsReady : LogView → Lane → Type 0
 IsReady l lane = l.broken ≡ false → Stands lane l.records

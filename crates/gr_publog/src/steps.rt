@@ -8,7 +8,7 @@ ghost use Rattle.gr_out.specs.declared.disk.Stop.TheVariants.{Unset, After};
 ghost use Rattle.gr_publog.specs.Text.{header};
 ghost use Rattle.gr_publog.specs.Crash.{behind_gate, opened_gate, IsBetween, EitherRose, GaveUp, DiskRose};
 ghost use Rattle.gr_publog.specs.Kept.{Broke, StoppedImage};
-ghost use Rattle.gr_publog.specs.Calls.{append_calls, NotFailed};
+ghost use Rattle.gr_publog.specs.Calls.{append_calls, GoesOn, NotFailed};
 
 use crate::record::LogFault;
 use gr_out::{Disk, Failed};
@@ -31,6 +31,7 @@ pub fn append_behind<D: Disk>(
     ensures only { let l = D.lane_of disk.new lane in D.tells → OnOk result (LeavesOnly l (content l)) }
     ensures calls { let l = D.lane_of disk.old lane in
         D.tells → OnOk result ((D.lane_of disk.new lane).calls ≡ append_calls gate bytes.now l.calls) }
+    ensures goes_on { D.tells → GoesOn (D.lane_of disk.old lane) (D.lane_of disk.new lane) }
     ensures any_moment { let l = D.lane_of disk.old lane in D.tells → (image : List ℕ) →
         LeftSince (D.lane_of disk.new lane) (moment l) image → IsBetween gate bytes.now (content l) image }
     ensures picked { let l = D.lane_of disk.old lane in let l' = D.lane_of disk.new lane in D.tells →

@@ -1,10 +1,11 @@
 -- Call by call: what a crash may leave since the first of them
-use Rattle.std.proofs.Common.{ℕ, List, ap, subst, ◌∙◌}
+use Rattle.std.proofs.Common.{ℕ, ◌+◌, false, List, [], ◌∷◌, ap, subst, ◌∙◌}
 use Rattle.gr_out.specs.Lane.{LeavesOnly}
 use Rattle.gr_publog.specs.Crash.{opened_gate}
 use Rattle.gr_publog.proofs.Moments.{wrote, synced, synced_only}
 use Rattle.gr_publog.proofs.Stopping.{first_broke, second_broke, third_broke, fourth_broke}
 use Rattle.gr_publog.proofs.Appending.{not_due, after_write, after_sync, after_gate, after_all}
+use Rattle.gr_publog.proofs.Onward.{goes_on_write, goes_on_sync, goes_on_then}
 use Rattle.gr_publog.proofs.steps.append_behind.Goals as goal
 
 pub returns-in_err-write_at-clause-any_moment : goal.returns-in_err-write_at-clause-any_moment
@@ -73,3 +74,29 @@ returns-clause-picked g c = λ t call pick b.
     let l4 = g.D.Disk.lane_of c.sync-2.new.self c.args.lane in
     let c1 = wrote l l1 _ _ (c.in_ok-write_at.ensures.after t) (not_due _ c.in_ok-write_at.ensures.cause.breaks) in
     fourth_broke l c.args.gate c.args.bytes.now (c.requires.within t) (c.requires.only t) call pick l1 l2 l3 l4 _ (c.in_ok-write_at.ensures.after t) (not_due _ c.in_ok-write_at.ensures.cause.breaks) c1 (c.in_ok-sync.ensures.after t) (not_due _ c.in_ok-sync.ensures.cause.breaks) (c.in_ok-write_at-2.ensures.after t) (not_due _ c.in_ok-write_at-2.ensures.cause.breaks) (c.sync-2.ensures.after t) b
+
+-- No call takes one back
+
+pub returns-in_err-write_at-clause-goes_on : goal.returns-in_err-write_at-clause-goes_on
+returns-in_err-write_at-clause-goes_on g c = λ t. goes_on_write _ _ _ _ _ (c.write_at.ensures.after t)
+
+pub returns-in_err-sync-clause-goes_on : goal.returns-in_err-sync-clause-goes_on
+returns-in_err-sync-clause-goes_on g c = λ t.
+    let l1 = g.D.Disk.lane_of c.write_at.new.self c.args.lane in
+    goes_on_then _ l1 _ (goes_on_write false _ l1 (c.args.gate + 1) c.args.bytes.now (c.in_ok-write_at.ensures.after t)) (goes_on_sync _ _ _ (c.sync.ensures.after t))
+
+pub returns-in_err-write_at-2-clause-goes_on : goal.returns-in_err-write_at-2-clause-goes_on
+returns-in_err-write_at-2-clause-goes_on g c = λ t.
+    let l1 = g.D.Disk.lane_of c.write_at.new.self c.args.lane in
+    let l2 = g.D.Disk.lane_of c.sync.new.self c.args.lane in
+    goes_on_then _ l1 _ (goes_on_write false _ l1 (c.args.gate + 1) c.args.bytes.now (c.in_ok-write_at.ensures.after t))
+    (goes_on_then l1 l2 _ (goes_on_sync false l1 l2 (c.in_ok-sync.ensures.after t)) (goes_on_write _ _ _ _ _ (c.write_at-2.ensures.after t)))
+
+pub returns-clause-goes_on : goal.returns-clause-goes_on
+returns-clause-goes_on g c = λ t.
+    let l1 = g.D.Disk.lane_of c.write_at.new.self c.args.lane in
+    let l2 = g.D.Disk.lane_of c.sync.new.self c.args.lane in
+    let l3 = g.D.Disk.lane_of c.write_at-2.new.self c.args.lane in
+    goes_on_then _ l1 _ (goes_on_write false _ l1 (c.args.gate + 1) c.args.bytes.now (c.in_ok-write_at.ensures.after t))
+    (goes_on_then l1 l2 _ (goes_on_sync false l1 l2 (c.in_ok-sync.ensures.after t))
+    (goes_on_then l2 l3 _ (goes_on_write false l2 l3 c.args.gate (1 ∷ []) (c.in_ok-write_at-2.ensures.after t)) (goes_on_sync _ _ _ (c.sync-2.ensures.after t))))

@@ -5,6 +5,7 @@ use Rattle.gr_publog.specs.State.{live_after}
 use Rattle.gr_publog.proofs.Live.{live_is}
 use Rattle.gr_publog.proofs.Crash.{log_more}
 use Rattle.gr_publog.proofs.Calling.{appends_refused, appends_failed, appends_ok}
+use Rattle.gr_publog.proofs.Onward.{goes_on_same}
 use Rattle.gr_publog.proofs.log.Log.append.Goals as goal
 
 pub returns-in-Err-clause-lane : goal.returns-in-Err-clause-lane
@@ -51,6 +52,13 @@ returns-clause-lane g c = rw (← c.self.view_is) (λ t.
       reserved = c.append_behind.ensures.reserved t;
       unset = c.append_behind.ensures.unset t;
     }) tt (e.written t) (e.only t) (e.calls t) (e.breaks t))
+
+-- No call is taken back
+
+pub returns-in-Err-prepare-clause-goes_on : goal.returns-in-Err-prepare-clause-goes_on
+returns-in-Err-prepare-clause-goes_on g c = λ t.
+    let same = ap (λ v. v.lane) c.self.view_is in
+    goes_on_same _ _ (rw same at (c.in-Err-prepare.ensures.err t))
 
 -- What is kept
 
