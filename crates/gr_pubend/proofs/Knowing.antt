@@ -1,7 +1,7 @@
 -- A log's knowledge has at each tick what the log says, also after one more record
 use Rattle.std.proofs.Common.{◌≡◌, ◌≢◌, ◌⊎◌, inl, inr, ℕ, zero, suc, ◌+◌, ◌-◌, ◌≤◌, ◌<◌, Bool, true, false, ◌&&◌, List, [], ◌∷◌, ◌++◌, refl, sym, ap, ap₂, ◌∙◌, arith, eq-eqb}
 use Rattle.std.specs.Prelude.{nat_eq, nat_le, nat_lt, if◌then◌else◌}
-use Rattle.std.proofs.lemmas.Bool.{cases_lt, cases_eq, ne_eqb, le-leb, lt-leb, leb-true, ltb-true, eqb-true, and_right, and_parts, and_from}
+use Rattle.std.proofs.lemmas.Bool.{cases_lt, cases_eq, ne_eqb, le-leb, lt-leb, leb-true, eqb-true, and_right, and_parts, and_from}
 use Rattle.gr_event.specs.declared.event.Event.{Event}
 use Rattle.gr_tick.specs.declared.run.Run.{Run}
 use Rattle.gr_tick.specs.Runs.{IsNone}
@@ -15,7 +15,7 @@ use Rattle.gr_know.proofs.ValueLaws.{K_decides}
 use Rattle.gr_publog.specs.declared.record.Record.{Record}
 use Rattle.gr_publog.specs.declared.record.Record.TheVariants as entry
 use Rattle.gr_publog.specs.declared.record.State.{State}
-use Rattle.gr_publog.specs.State.{empty_state, after_record, state_from, state_of, may_settle, may_follow, Follow, max_tick}
+use Rattle.gr_publog.specs.State.{empty_state, after_record, state_from, state_of, may_settle, may_follow, Follow}
 use Rattle.gr_publog.proofs.Live.{settles}
 use Rattle.gr_pubend.specs.Log.{Log, empty_log, with_event, with_mark, with_cut, with_entry, log_from, log_of, event_at, log_at, event_points, log_know, silence, Stays}
 
@@ -55,6 +55,7 @@ known_by log know g =
 
 -- One more record
 
+-- the log goes on record by record
 pub log_more : (log : Log) (rs : List Record) (r : Record) → log_from log (rs ++ r ∷ []) ≡ with_entry (log_from log rs) r
 log_more log [] r = refl
 log_more log (q ∷ rs) r = log_more (with_entry log q) rs r

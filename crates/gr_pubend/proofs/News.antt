@@ -3,13 +3,12 @@ use Rattle.std.proofs.Common.{◌≡◌, ◌≢◌, ◌⊎◌, inl, inr, ℕ, su
 use Rattle.std.specs.Prelude.{nat_eq, nat_le, if◌then◌else◌}
 use Rattle.std.proofs.lemmas.Bool.{false≢true, and_parts, cases_lt, le-leb, lt-leb}
 use Rattle.gr_event.specs.declared.event.Event.{Event}
-use Rattle.gr_tick.specs.declared.run.Run.{Run}
-use Rattle.gr_tick.specs.Runs.{AreRuns, value_at, is_in}
+use Rattle.gr_tick.specs.Runs.{AreRuns, is_in}
 use Rattle.gr_tick.specs.Stored.{within, EndBefore, RunsGive}
 use Rattle.gr_tick.proofs.Canonical.{given_runs}
 use Rattle.gr_know.specs.declared.values.K.{K}
 use Rattle.gr_know.specs.declared.values.K.TheVariants.{Q, S, D, F}
-use Rattle.gr_know.specs.Values.{Known, known_at, is_Q, join_K, new_K}
+use Rattle.gr_know.specs.Values.{Known, known_at, join_K}
 use Rattle.gr_publog.specs.declared.record.Record.{Record}
 use Rattle.gr_publog.specs.declared.record.Record.TheVariants as entry
 use Rattle.gr_publog.specs.declared.record.State.{State}
@@ -19,7 +18,7 @@ use Rattle.gr_publog.specs.Crash.{LogView, with_record}
 use Rattle.gr_publog.proofs.Reading.{state_more}
 use Rattle.gr_publog.proofs.Live.{settles}
 use Rattle.gr_pubend.specs.End.{EndView, grown}
-use Rattle.gr_pubend.proofs.Knowing.{log_know-is, known_by, log_more, stays_more, log_at-past, within_below, within_above, event_piece-below, silence_at, at_tick, up_to_event, at_event, at_mark, at_cut}
+use Rattle.gr_pubend.proofs.Knowing.{log_know-is, known_by, log_more, stays_more, log_at-past, within_above, silence_at, at_tick, up_to_event, at_event, at_mark, at_cut}
 
 S≢Q : S ≢ Q
 S≢Q = λ e. cc

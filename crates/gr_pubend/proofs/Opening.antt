@@ -1,7 +1,7 @@
 -- The events behind a cut, learned one after another, and the silence up to what is settled are what the log says
 use Rattle.std.proofs.Common.{◌≡◌, ◌⊎◌, inl, inr, ℕ, suc, ◌+◌, ◌^◌, ◌≤◌, ◌<◌, Bool, true, false, ◌&&◌, List, [], ◌∷◌, ◌++◌, length, take, drop, get_or, refl, sym, ap, ap₂, ◌∙◌, subst, append_assoc, append-nil, le_refl, arith}
 use Rattle.std.specs.Prelude.{nat_le, nat_lt, nat_eq, if◌then◌else◌}
-use Rattle.std.proofs.lemmas.Bool.{cases_lt, le-leb, lt-leb, ltb-true, ltb-false, ne_eqb, and_parts}
+use Rattle.std.proofs.lemmas.Bool.{cases_lt, le-leb, lt-leb, ltb-false, ne_eqb}
 use Rattle.std.proofs.lemmas.List.{take_more}
 use Rattle.gr_tick.proofs.EditLemmas.{drop_read}
 use Rattle.gr_event.specs.declared.event.Event.{Event}
@@ -12,8 +12,8 @@ use Rattle.gr_publog.specs.declared.record.Record.{Record}
 use Rattle.gr_publog.specs.declared.record.Record.TheVariants as entry
 use Rattle.gr_publog.specs.declared.record.Entry.{Entry}
 use Rattle.gr_publog.specs.declared.record.State.{State}
-use Rattle.gr_publog.specs.State.{empty_state, after_record, state_from, state_of, events_past, live_events, may_settle, may_follow, Follow}
-use Rattle.gr_publog.proofs.Live.{settles_later, from_below, live_rise}
+use Rattle.gr_publog.specs.State.{empty_state, after_record, state_from, state_of, events_past, live_events, Follow}
+use Rattle.gr_publog.proofs.Live.{from_below, live_rise}
 use Rattle.gr_pubend.specs.Log.{Log, empty_log, with_event, with_mark, with_entry, log_from, log_of, event_at, log_at, silence, Stays}
 use Rattle.gr_pubend.specs.Opening.{pairs, last_tick, EntriesRise, seen}
 use Rattle.gr_pubend.proofs.Knowing.{event_at-more, stays_of, log_at-past, log_at-zero, log_at-in, within_in, within_below, within_above, up_to_event, at_event, at_mark}

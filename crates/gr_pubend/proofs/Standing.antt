@@ -1,5 +1,5 @@
 -- What a call has done that logs nothing, or one record; and the answers by the numbers
-use Rattle.std.proofs.Common.{◌≡◌, ◌⊎◌, inl, inr, ⊎_elim, ℕ, suc, ◌+◌, ◌-◌, ◌≤◌, ◌<◌, max, true, false, List, [], ◌∷◌, ◌++◌, Option, Some, None, Ok, refl, sym, ap, ◌∙◌, subst, arith, eq-eqb}
+use Rattle.std.proofs.Common.{◌≡◌, ℕ, suc, ◌+◌, ◌-◌, ◌≤◌, ◌<◌, max, true, [], Option, Some, None, Ok, refl, sym, ap, ◌∙◌, subst, arith, eq-eqb}
 use Rattle.std.specs.Prelude.{nat_eq, nat_le, nat_lt, IsSome, IsErrOf, Err}
 use Rattle.std.proofs.lemmas.Bool.{false≢true, and_from, le-leb, lt-leb, lt-ltb, le-ltb}
 use Rattle.gr_event.specs.declared.event.Event.{Event}

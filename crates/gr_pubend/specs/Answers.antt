@@ -1,5 +1,5 @@
 -- What a publish and a time of silence are answered, the record that each logs, and what was planned
-use Rattle.std.specs.Prelude.{◌≡◌, ℕ, suc, ◌+◌, ◌-◌, max, Bool, true, false, nat_le, nat_lt, List, [], ◌∷◌, Option, Some, None}
+use Rattle.std.specs.Prelude.{◌≡◌, ℕ, suc, ◌+◌, ◌-◌, max, true, false, nat_le, nat_lt, List, [], ◌∷◌, Option, Some, None}
 use Rattle.gr_event.specs.declared.event.Event.{Event}
 use Rattle.gr_know.specs.declared.values.K.TheVariants.{D}
 use Rattle.gr_publog.specs.declared.record.Record.{Record}

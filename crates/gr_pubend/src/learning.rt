@@ -4,7 +4,7 @@ ghost use Rattle.std.specs.Prelude.{◌≡◌, ℕ, ◌+◌, ◌-◌, ◌^◌, �
 ghost use Rattle.gr_tick.specs.Stored.{within, RunsGive};
 ghost use Rattle.gr_know.specs.Values.{known_at, join_K};
 ghost use Rattle.gr_know.specs.declared.values.K.TheVariants.{Q, D, F};
-ghost use Rattle.gr_pubend.specs.Log.{log_of, log_at, silence};
+ghost use Rattle.gr_pubend.specs.Log.{log_of, log_at, log_know, silence};
 ghost use Rattle.gr_pubend.specs.Opening.{last_tick, EntriesRise, seen};
 
 use gr_event::Event;
@@ -115,9 +115,11 @@ fn learn_events(alloc: Global, know: &mut Know, cut: u64, events: &Entries) -> R
     Ok(last)
 }
 
-/// What is known by a log.
+/// What is known by a log: up to its cut all is final, then the logged events are known with silence between them up to
+/// the last settled tick, and nothing past that. It fails only where memory is refused.
 pub fn known_by(alloc: Global, log: &Log) -> Result<Know, Memory>
-    ensures { IfOk result (λ know. RunsGive Q know (log_at (log_of log.now.records))) }
+    ensures known { IfOk result (λ know. know ≡ log_know (log_of log.now.records)) }
+    ensures each { IfOk result (λ know. RunsGive Q know (log_at (log_of log.now.records))) }
 {
     let _ = log.is_broken();
     let cut = log.cut();

@@ -4,9 +4,12 @@
 pub mod answers;
 pub mod law;
 mod learning;
+mod planning;
 mod pubend;
 #[cfg(test)]
 mod tests;
 
 pub use answers::{Published, Quieted};
+pub use learning::known_by;
+pub use planning::{plan, plan_quiet};
 pub use pubend::Pubend;

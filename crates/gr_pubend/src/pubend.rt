@@ -12,12 +12,13 @@ ghost use Rattle.gr_pubend.specs.Answers.{published, quieted, publish_logs, quie
 ghost use Rattle.gr_pubend.specs.End.{grown, after_call, broken_end, log_result};
 
 use crate::answers::{Published, Quieted};
-use crate::learning::{final_upto, fresh_event, fresh_silence, known_by, known_with};
+use crate::learning::{final_upto, known_by, known_with};
+use crate::planning::{plan, plan_quiet};
 use gr_event::Event;
 use gr_know::{K, Know};
 use gr_out::Disk;
 use gr_publog::{Log, LogFault, Memory, Record};
-use gr_tick::{MAX_TICK, Piece};
+use gr_tick::Piece;
 use std::alloc::Global;
 use std::marker::Model;
 
@@ -82,22 +83,7 @@ impl Pubend {
         ensures planned { IfOk result (λ answer. IsPlanned self.now.log.records number event.now answer) }
         ensures wants { IsErr result → IsSome (publish_logs self.now.log.records number event.now now) }
     {
-        let last = self.log.last();
-        if number <= last {
-            return Ok(Published::Already);
-        }
-        if number > last + 1 {
-            return Ok(Published::Gap { next: last + 1 });
-        }
-        let first = self.log.settled() + 1;
-        let tick = now.max(first);
-        if tick > MAX_TICK {
-            return Ok(Published::Exhausted);
-        }
-        match fresh_event(self.alloc, first, tick, event) {
-            Ok(fresh) => Ok(Published::Logged { tick, fresh }),
-            Err(refused) => Err(refused),
-        }
+        plan(self.alloc, &self.log, number, event, now)
     }
 
     /// What a time of `quiet` ticks without an event would be answered: the silence up to `now`, or that it was not
@@ -109,14 +95,7 @@ impl Pubend {
         ensures planned { IfOk result (λ answer. IsPlannedMark self.now.log.records answer) }
         ensures wants { IsErr result → IsSome (quiet_logs self.now.log.records now quiet) }
     {
-        let settled = self.log.settled();
-        if now.saturating_sub(settled) < quiet {
-            return Ok(Quieted::NotYet);
-        }
-        match fresh_silence(self.alloc, settled + 1, now) {
-            Ok(fresh) => Ok(Quieted::Marked { tick: now, fresh }),
-            Err(refused) => Err(refused),
-        }
+        plan_quiet(self.alloc, &self.log, now, quiet)
     }
 
     /// Publishes an event under a number: `plan`, and then `log_event` where it is to be logged. Only once the event is

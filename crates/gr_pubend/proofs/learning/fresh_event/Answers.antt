@@ -1,4 +1,4 @@
-use Rattle.std.proofs.Common.{◌<◌, ◌-◌, [], sym, subst, arith}
+use Rattle.std.proofs.Common.{◌<◌, ◌-◌, sym, subst, arith}
 use Rattle.gr_know.specs.Values.{Known}
 use Rattle.gr_tick.specs.Stored.{EndBefore}
 use Rattle.gr_pubend.proofs.News.{silence_ends, silent_then_is}

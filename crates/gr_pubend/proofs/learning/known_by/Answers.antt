@@ -1,4 +1,6 @@
-use Rattle.std.proofs.Common.{◌≡◌, ◌≤◌, ◌<◌, ◌+◌, ◌^◌, ◌∙◌, List, arith}
+use Rattle.std.proofs.Common.{arith}
+use Rattle.gr_pubend.specs.Log.{log_of}
+use Rattle.gr_pubend.proofs.Knowing.{known_by}
 use Rattle.gr_pubend.proofs.Opening.{opened, are_read, cut_seen, whole_known}
 use Rattle.gr_pubend.proofs.News.{joined_with}
 use Rattle.gr_pubend.proofs.learning.known_by.Goals as goal
@@ -30,5 +32,8 @@ fresh_silence-requires-clause-upto c =
 
 pub returns : goal.returns
 returns c =
-    whole_known c.args.log.now.records c.cut-cut.result c.in_ok-last.last c.settled-settled.result c.events-events.result.now c.learn_events.new.know c.learn.new.self
-    (opened c.args.log.now.records c.is_broken.ensures.follow) c.cut-cut.ensures c.settled-settled.ensures c.events-events.ensures c.in_ok-last.ensures.last c.in_ok-last.ensures.known (joined_with c.in_ok-silence.silence _ c.learn_events.new.know c.learn.new.self c.in_ok-silence.ensures c.in_ok-learn.ensures.joined)
+    let rs = c.args.log.now.records in
+    let each =
+    whole_known rs c.cut-cut.result c.in_ok-last.last c.settled-settled.result c.events-events.result.now c.learn_events.new.know c.learn.new.self
+    (opened rs c.is_broken.ensures.follow) c.cut-cut.ensures c.settled-settled.ensures c.events-events.ensures c.in_ok-last.ensures.last c.in_ok-last.ensures.known (joined_with c.in_ok-silence.silence _ c.learn_events.new.know c.learn.new.self c.in_ok-silence.ensures c.in_ok-learn.ensures.joined) in
+    record { known = known_by (log_of rs) c.learn.new.self each; each = each }

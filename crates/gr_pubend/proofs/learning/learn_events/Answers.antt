@@ -1,10 +1,10 @@
-use Rattle.std.proofs.Common.{◌≡◌, ◌≤◌, ◌<◌, ◌^◌, ◌++◌, ◌∷◌, [], List, length, take, refl, sym, subst, arith}
+use Rattle.std.proofs.Common.{◌<◌, List, length, take, refl, sym, subst, arith}
 use Rattle.gr_tick.specs.Stored.{RunsGive}
 use Rattle.gr_know.specs.declared.values.K.TheVariants.{Q}
 use Rattle.gr_publog.specs.declared.record.Entry.{Entry}
 use Rattle.gr_pubend.specs.Log.{log_at, Stays}
 use Rattle.gr_pubend.specs.Opening.{seen}
-use Rattle.gr_pubend.proofs.Opening.{at_state, seen_none, seen_more, seen_unknown, seen_event, last_up, next_entry}
+use Rattle.gr_pubend.proofs.Opening.{at_state, seen_none, seen_more, seen_event, last_up, next_entry}
 use Rattle.gr_pubend.proofs.learning.learn_events.Goals as goal
 
 pub entries-init : goal.entries-init

@@ -1,0 +1,70 @@
+//! What a log would be made to say next: nothing changes, and no disk is called.
+
+ghost use Rattle.std.specs.Prelude.{◌≡◌, ◌≤◌, ◌^◌, IsErr, IsSome, IfOk};
+ghost use Rattle.gr_pubend.specs.Log.{log_of};
+ghost use Rattle.gr_pubend.specs.Answers.{published, quieted, publish_logs, quiet_logs, IsPlanned, IsPlannedMark};
+
+use crate::answers::{Published, Quieted};
+use crate::learning::{fresh_event, fresh_silence};
+use gr_event::Event;
+use gr_publog::{Log, Memory};
+use gr_tick::MAX_TICK;
+use std::alloc::Global;
+
+/// What a publish of an event under a number would be answered by a log, with the ticks that would become known. It
+/// wants memory only where the event would be logged.
+///
+/// An event gets the next tick, or `now` where that is later. A number that was logged is `Already` there, and one past
+/// the next is out of turn (`Gap`); with no tick left the publisher is `Exhausted`.
+pub fn plan(
+    alloc: Global,
+    log: &Log,
+    number: u64,
+    event: &Event,
+    now: u64,
+) -> Result<Published, Memory>
+    requires now { now ≤ 2 ^ 62 }
+    ensures answer { IfOk result (λ answer. answer ≡ published (log_of log.now.records) number event.now now) }
+    ensures planned { IfOk result (λ answer. IsPlanned log.now.records number event.now answer) }
+    ensures wants { IsErr result → IsSome (publish_logs log.now.records number event.now now) }
+{
+    // Proof only: the records follow one another.
+    let _ = log.is_broken();
+    let last = log.last();
+    if number <= last {
+        return Ok(Published::Already);
+    }
+    if number > last + 1 {
+        return Ok(Published::Gap { next: last + 1 });
+    }
+    let first = log.settled() + 1;
+    let tick = now.max(first);
+    if tick > MAX_TICK {
+        return Ok(Published::Exhausted);
+    }
+    match fresh_event(alloc, first, tick, event) {
+        Ok(fresh) => Ok(Published::Logged { tick, fresh }),
+        Err(refused) => Err(refused),
+    }
+}
+
+/// What a time of `quiet` ticks without an event would be answered by a log: the silence up to `now`, or that it was not
+/// long enough. It wants memory only where a mark would be logged.
+pub fn plan_quiet(alloc: Global, log: &Log, now: u64, quiet: u64) -> Result<Quieted, Memory>
+    requires now { now ≤ 2 ^ 62 }
+    requires some { 1 ≤ quiet }
+    ensures answer { IfOk result (λ answer. answer ≡ quieted (log_of log.now.records) now quiet) }
+    ensures planned { IfOk result (λ answer. IsPlannedMark log.now.records answer) }
+    ensures wants { IsErr result → IsSome (quiet_logs log.now.records now quiet) }
+{
+    // Proof only: the records follow one another.
+    let _ = log.is_broken();
+    let settled = log.settled();
+    if now.saturating_sub(settled) < quiet {
+        return Ok(Quieted::NotYet);
+    }
+    match fresh_silence(alloc, settled + 1, now) {
+        Ok(fresh) => Ok(Quieted::Marked { tick: now, fresh }),
+        Err(refused) => Err(refused),
+    }
+}
