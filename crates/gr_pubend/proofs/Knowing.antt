@@ -60,6 +60,22 @@ pub log_more : (log : Log) (rs : List Record) (r : Record) → log_from log (rs 
 log_more log [] r = refl
 log_more log (q ∷ rs) r = log_more (with_entry log q) rs r
 
+-- the log of records and one more is the log of the records with that one
+pub log_grows : (rs : List Record) (r : Record) → log_of (rs ++ r ∷ []) ≡ with_entry (log_of rs) r
+log_grows rs r = log_more empty_log rs r
+
+-- behind an event it is the log with that event
+pub log_with_event : (rs : List Record) (tick number : ℕ) (e : Event) → log_of (rs ++ entry.Event tick number e ∷ []) ≡ with_event (log_of rs) tick e
+log_with_event rs tick number e = log_grows rs (entry.Event tick number e)
+
+-- behind a mark, the log with that mark
+pub log_with_mark : (rs : List Record) (tick : ℕ) → log_of (rs ++ entry.Mark tick ∷ []) ≡ with_mark (log_of rs) tick
+log_with_mark rs tick = log_grows rs (entry.Mark tick)
+
+-- behind a cut, the log with that cut
+pub log_with_cut : (rs : List Record) (tick : ℕ) → log_of (rs ++ entry.Cut tick ∷ []) ≡ with_cut (log_of rs) tick
+log_with_cut rs tick = log_grows rs (entry.Cut tick)
+
 pub event_at-more : (events : List (ℕ × Event)) (tick t : ℕ) (e : Event) → tick ≢ t → event_at (events ++ (tick, e) ∷ []) t ≡ event_at events t
 event_at-more [] tick t e n = rw (ne_eqb tick t n) refl
 event_at-more (x ∷ xs) tick t e n = ap (λ v. if nat_eq x.0 t then D x.1 else v) (event_at-more xs tick t e n)
