@@ -49,7 +49,7 @@ pub fn fresh_event(alloc: Global, first: u64, tick: u64, event: &Event) -> Resul
 
 /// What is known with a piece that is new.
 pub fn known_with(know: &Know, fresh: &Piece<K>) -> Result<Know, Memory>
-    ensures { IfOk result (λ new. RunsGive Q new (λ t. join_K (known_at know.now t) (known_at fresh.now t))) }
+    ensures { IfOk result (λ new. RunsGive Q new.runs (λ t. join_K (known_at know.now.runs t) (known_at fresh.now t))) }
 {
     let mut know = know.copy()?;
     let _ = know.learn(fresh)?;
@@ -60,7 +60,7 @@ pub fn known_with(know: &Know, fresh: &Piece<K>) -> Result<Know, Memory>
 pub fn final_upto(know: &Know, tick: u64) -> Result<Know, Memory>
     requires from_one { 1 ≤ tick }
     requires upto { tick ≤ 2 ^ 62 }
-    ensures { IfOk result (λ new. RunsGive Q new (λ t. if within 1 tick t then F else known_at know.now t)) }
+    ensures { IfOk result (λ new. RunsGive Q new.runs (λ t. if within 1 tick t then F else known_at know.now.runs t)) }
 {
     let mut know = know.copy()?;
     know.finish(1, tick)?;
@@ -79,7 +79,7 @@ fn learn_event(
     requires ordered { first ≤ tick }
     requires upto { tick ≤ 2 ^ 62 }
     ensures { let piece = silence first (tick - 1) (record { first = tick; last = tick; value = D event.now } ∷ []) in
-        OnOk result (RunsGive Q know.new (λ t. join_K (known_at know.old t) (known_at piece t))) }
+        OnOk result (RunsGive Q know.new.runs (λ t. join_K (known_at know.old.runs t) (known_at piece t))) }
 {
     let piece = fresh_event(alloc, first, tick, event)?;
     let _ = know.learn(&piece)?;
@@ -89,7 +89,7 @@ fn learn_event(
 /// Makes all up to a tick final; nothing for 0.
 fn make_final(know: &mut Know, upto: u64) -> Result<(), Memory>
     requires { upto ≤ 2 ^ 62 }
-    ensures { OnOk result (RunsGive Q know.new (λ t. if within 1 upto t then F else known_at know.old t)) }
+    ensures { OnOk result (RunsGive Q know.new.runs (λ t. if within 1 upto t then F else known_at know.old.runs t)) }
 {
     if upto == 0 {
         let _ = know.len();
@@ -100,11 +100,11 @@ fn make_final(know: &mut Know, upto: u64) -> Result<(), Memory>
 
 /// Learns events behind a cut, with the silence between them, and answers the last tick that is known then.
 fn learn_events(alloc: Global, know: &mut Know, cut: u64, events: &Entries) -> Result<u64, Memory>
-    requires known { RunsGive Q know.old (log_at (seen cut [])) }
+    requires known { RunsGive Q know.old.runs (log_at (seen cut [])) }
     requires rise { EntriesRise cut events.now }
     requires upto { last_tick cut events.now ≤ 2 ^ 62 }
     ensures last { IfOk result (λ last. last ≡ last_tick cut events.now) }
-    ensures known { OnOk result (RunsGive Q know.new (log_at (seen cut events.now))) }
+    ensures known { OnOk result (RunsGive Q know.new.runs (log_at (seen cut events.now))) }
 {
     let mut last = cut;
     'entries: for i in 0..events.len() {
@@ -118,8 +118,8 @@ fn learn_events(alloc: Global, know: &mut Know, cut: u64, events: &Entries) -> R
 /// What is known by a log: up to its cut all is final, then the logged events are known with silence between them up to
 /// the last settled tick, and nothing past that. It fails only where memory is refused.
 pub fn known_by(alloc: Global, log: &Log) -> Result<Know, Memory>
-    ensures known { IfOk result (λ know. know ≡ log_know (log_of log.now.records)) }
-    ensures each { IfOk result (λ know. RunsGive Q know (log_at (log_of log.now.records))) }
+    ensures known { IfOk result (λ know. know.runs ≡ log_know (log_of log.now.records)) }
+    ensures each { IfOk result (λ know. RunsGive Q know.runs (log_at (log_of log.now.records))) }
 {
     let _ = log.is_broken();
     let cut = log.cut();

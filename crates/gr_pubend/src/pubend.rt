@@ -39,9 +39,9 @@ impl Model for Pubend {
 
     ghost Value = { EndView };
 
-    ghost view = { λ p. record { log = p.log; know = p.know } };
+    ghost view = { λ p. record { log = p.log; know = p.know.runs } };
 
-    ghost invariant = { λ p. (p.know ≡ log_know (log_of p.log.records)) × Stays (log_of p.log.records) (state_of p.log.records) };
+    ghost invariant = { λ p. (p.know.runs ≡ log_know (log_of p.log.records)) × Stays (log_of p.log.records) (state_of p.log.records) };
 }
 
 impl Pubend {
@@ -328,7 +328,7 @@ impl Pubend {
 
     /// What is known by the log. Takes no memory.
     pub fn know(&self) -> &Know
-        ensures know { result.now ≡ self.now.know }
+        ensures know { result.now.runs ≡ self.now.know }
         ensures known { self.now.know ≡ log_know (log_of self.now.log.records) }
         ensures each { RunsGive Q self.now.know (log_at (log_of self.now.log.records)) }
     {
@@ -349,7 +349,7 @@ impl Pubend {
     /// Logs a record, and only then puts what is known with it in place.
     fn commit<D: Disk>(&mut self, disk: &mut D, entry: &Record, know: Know) -> Result<(), LogFault>
         requires follows { may_follow (state_of self.old.log.records) entry.now ≡ true }
-        requires known { RunsGive Q know (log_at (log_of (self.old.log.records ++ entry.now ∷ []))) }
+        requires known { RunsGive Q know.runs (log_at (log_of (self.old.log.records ++ entry.now ∷ []))) }
         requires stands { D.tells → IsReady self.old.log (D.lane_of disk.old self.old.log.lane) }
         ensures end { Leaves self.old (grown entry.now self.old) (broken_end self.old) self.new result }
         ensures goes_on { OnOk result

@@ -19,7 +19,7 @@ learn_events-requires-clause-upto c =
     (are_read c.args.log.now.records c.cut-cut.result c.settled-settled.result c.events-events.result.now c.is_broken.ensures.follow c.cut-cut.ensures c.settled-settled.ensures c.events-events.ensures).last_upto
 
 pub learn_events-requires-clause-known : goal.learn_events-requires-clause-known
-learn_events-requires-clause-known c = cut_seen c.cut-cut.result c.new-know.result c.make_final.new.know c.new-know.ensures c.in_ok-make_final.ensures
+learn_events-requires-clause-known c = cut_seen c.cut-cut.result c.new-know.result.runs c.make_final.new.know.runs c.new-know.ensures.runs c.in_ok-make_final.ensures
 
 pub overflow_add-last : goal.overflow_add-last
 overflow_add-last c =
@@ -34,6 +34,6 @@ pub returns : goal.returns
 returns c =
     let rs = c.args.log.now.records in
     let each =
-    whole_known rs c.cut-cut.result c.in_ok-last.last c.settled-settled.result c.events-events.result.now c.learn_events.new.know c.learn.new.self
-    (opened rs c.is_broken.ensures.follow) c.cut-cut.ensures c.settled-settled.ensures c.events-events.ensures c.in_ok-last.ensures.last c.in_ok-last.ensures.known (joined_with c.in_ok-silence.silence _ c.learn_events.new.know c.learn.new.self c.in_ok-silence.ensures c.in_ok-learn.ensures.joined) in
-    record { known = known_by (log_of rs) c.learn.new.self each; each = each }
+    whole_known rs c.cut-cut.result c.in_ok-last.last c.settled-settled.result c.events-events.result.now c.learn_events.new.know.runs c.learn.new.self.runs
+    (opened rs c.is_broken.ensures.follow) c.cut-cut.ensures c.settled-settled.ensures c.events-events.ensures c.in_ok-last.ensures.last c.in_ok-last.ensures.known (joined_with c.in_ok-silence.silence _ c.learn_events.new.know.runs c.learn.new.self.runs c.in_ok-silence.ensures c.in_ok-learn.ensures.joined) in
+    record { known = known_by (log_of rs) c.learn.new.self.runs each; each = each }

@@ -30,7 +30,7 @@ entries-preserved c =
     let n = next_entry c.entries.last c.args.cut c.entries.i c.args.events.now e lt c.get-entry.ensures i.rise i.whole in
     record {
       stays = subst (λ (es : List Entry). Stays (seen c.args.cut es) (at_state e.tick c.args.cut)) (sym n.taken) (seen_more c.args.cut c.entries.last (take c.entries.i c.args.events.now) e i.stays n.past (omega (arith, n.within, c.requires.upto)));
-      known = subst (λ (es : List Entry). RunsGive Q c.learn_event.new.know (log_at (seen c.args.cut es))) (sym n.taken) (seen_event c.args.cut c.entries.last (take c.entries.i c.args.events.now) e c.entries.know c.learn_event.new.know i.stays i.known n.past c.in_ok-learn_event.ensures);
+      known = subst (λ (es : List Entry). RunsGive Q c.learn_event.new.know.runs (log_at (seen c.args.cut es))) (sym n.taken) (seen_event c.args.cut c.entries.last (take c.entries.i c.args.events.now) e c.entries.know.runs c.learn_event.new.know.runs i.stays i.known n.past c.in_ok-learn_event.ensures);
       rise = n.rise;
       whole = n.whole;
     }

@@ -10,7 +10,7 @@ use Rattle.gr_pubend.proofs.learning.learn_events.Given as goal
 abbrev pub invariant-entries : goal.invariant-entries
 invariant-entries l = record {
   stays : Stays (seen l.cut (take l.i l.events)) (at_state l.last l.cut);
-  known : RunsGive Q l.know (log_at (seen l.cut (take l.i l.events)));
+  known : RunsGive Q l.know.runs (log_at (seen l.cut (take l.i l.events)));
   rise : EntriesRise l.last (drop l.i l.events);
   whole : last_tick l.last (drop l.i l.events) ≡ last_tick l.cut l.events;
 }

@@ -11,4 +11,4 @@ pub commit-requires-clause-known : goal.commit-requires-clause-known
 commit-requires-clause-known g c =
     let past = rw (← c.self.view_is) at c.requires.past in
     let upto = rw (← c.self.view_is) at c.requires.upto in
-    rw (← c.self.view_is) (cut_known c.self.inside.log.records c.self.inside.know c.self.inside.know c.in-Ok.know c.self.invariant.0 c.self.invariant.1 refl c.args.tick past upto c.in-Ok.ensures)
+    rw (← c.self.view_is) (cut_known c.self.inside.log.records c.self.inside.know.runs c.self.inside.know.runs c.in-Ok.know.runs c.self.invariant.0 c.self.invariant.1 refl c.args.tick past upto c.in-Ok.ensures)

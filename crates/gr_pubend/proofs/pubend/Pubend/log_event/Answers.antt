@@ -15,5 +15,5 @@ returns-in-Err-clause-lane g c = λ t. appends_refused c.args.self.now.log _ _ _
 pub commit-requires-clause-known : goal.commit-requires-clause-known
 commit-requires-clause-known g c =
     let p = rw (← c.self.view_is) at c.requires.planned in
-    let k = planned_event c.self.inside.log.records c.self.inside.know c.in-Ok.know c.args.fresh.now c.self.invariant.0 c.self.invariant.1 c.in-Ok.ensures c.args.tick c.args.number c.args.event.now p.0 p.1 in
-    rw (← c.self.view_is) (subst (λ (v : Event). RunsGive Q c.in-Ok.know (log_at (log_of (c.self.inside.log.records ++ entry.Event c.args.tick c.args.number v ∷ [])))) (sym c.share.ensures) k)
+    let k = planned_event c.self.inside.log.records c.self.inside.know.runs c.in-Ok.know.runs c.args.fresh.now c.self.invariant.0 c.self.invariant.1 c.in-Ok.ensures c.args.tick c.args.number c.args.event.now p.0 p.1 in
+    rw (← c.self.view_is) (subst (λ (v : Event). RunsGive Q c.in-Ok.know.runs (log_at (log_of (c.self.inside.log.records ++ entry.Event c.args.tick c.args.number v ∷ [])))) (sym c.share.ensures) k)

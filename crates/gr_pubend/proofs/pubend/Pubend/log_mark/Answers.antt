@@ -10,4 +10,4 @@ returns-in-Err-clause-lane g c = λ t. appends_refused c.args.self.now.log _ _ _
 pub commit-requires-clause-known : goal.commit-requires-clause-known
 commit-requires-clause-known g c =
     let p = rw (← c.self.view_is) at c.requires.planned in
-    rw (← c.self.view_is) (planned_mark c.self.inside.log.records c.self.inside.know c.in-Ok.know c.args.fresh.now c.self.invariant.0 c.self.invariant.1 c.in-Ok.ensures c.args.tick p.0 p.1)
+    rw (← c.self.view_is) (planned_mark c.self.inside.log.records c.self.inside.know.runs c.in-Ok.know.runs c.args.fresh.now c.self.invariant.0 c.self.invariant.1 c.in-Ok.ensures c.args.tick p.0 p.1)
