@@ -6,6 +6,7 @@
 mod appends;
 mod joins;
 mod matches;
+mod publishes;
 
 use std::alloc::Global;
 use std::time::Instant;
@@ -17,6 +18,7 @@ fn measure(alloc: Global, figure: &str, size: u64) -> io::Result<u64> {
         "appends" => appends::appends(alloc, size),
         "joins" => joins::joins(alloc, size),
         "matches" => matches::matches(alloc, size),
+        "publishes" => publishes::publishes(alloc, size),
         _ => Err(io::Error::from(io::ErrorKind::InvalidInput)),
     }
 }

@@ -1,5 +1,5 @@
 -- What is learned with a record: with it the knowledge is that of the log with the record
-use Rattle.std.proofs.Common.{◌≡◌, ◌≢◌, ◌⊎◌, inl, inr, ℕ, suc, ◌+◌, ◌-◌, ◌^◌, ◌≤◌, ◌<◌, Bool, true, false, ◌&&◌, List, [], ◌∷◌, ◌++◌, refl, sym, ap, ap₂, ◌∙◌, subst, arith}
+use Rattle.std.proofs.Common.{◌≡◌, ◌≢◌, ◌⊎◌, inl, inr, ℕ, ◌+◌, ◌-◌, ◌^◌, ◌≤◌, ◌<◌, Bool, true, false, ◌&&◌, List, [], ◌∷◌, ◌++◌, refl, sym, ap, ap₂, ◌∙◌, subst, arith}
 use Rattle.std.specs.Prelude.{nat_eq, nat_le, if◌then◌else◌}
 use Rattle.std.proofs.lemmas.Bool.{false≢true, and_parts, cases_lt, le-leb, lt-leb}
 use Rattle.gr_event.specs.declared.event.Event.{Event}
@@ -13,12 +13,13 @@ use Rattle.gr_publog.specs.declared.record.Record.{Record}
 use Rattle.gr_publog.specs.declared.record.Record.TheVariants as entry
 use Rattle.gr_publog.specs.declared.record.State.{State}
 use Rattle.gr_publog.specs.State.{state_of, may_settle, may_follow}
-use Rattle.gr_pubend.specs.Log.{Log, empty_log, with_entry, log_of, log_at, log_know, silence, Stays}
+use Rattle.gr_pubend.specs.Log.{Log, with_entry, log_of, log_at, log_know, silence, Stays}
 use Rattle.gr_publog.specs.Crash.{LogView, with_record}
 use Rattle.gr_publog.proofs.Reading.{state_more}
 use Rattle.gr_publog.proofs.Live.{settles}
+use Rattle.gr_pubend.specs.Answers.{IsNews}
 use Rattle.gr_pubend.specs.End.{EndView, grown}
-use Rattle.gr_pubend.proofs.Knowing.{log_know-is, known_by, log_more, stays_more, log_at-past, within_above, silence_at, at_tick, up_to_event, at_event, at_mark, at_cut}
+use Rattle.gr_pubend.proofs.Knowing.{log_know-is, known_by, log_grows, log_with_event, log_with_mark, log_with_cut, stays_more, within_above, silence_at, at_tick, up_to_event, at_event, at_mark, at_cut}
 
 S≢Q : S ≢ Q
 S≢Q = λ e. cc
@@ -81,81 +82,60 @@ joined_with p q old new e g = record { canonical = g.canonical; in_range = g.in_
 
 -- What is known with one more record
 
-module _ (rs : List Record) (mine old new : Known) (e : mine ≡ log_know (log_of rs)) (h : Stays (log_of rs) (state_of rs)) (o : old ≡ mine) where
-  before : (t : ℕ) → known_at old t ≡ log_at (log_of rs) t
-  before t = ap (λ k. known_at k t) (o ∙ e) ∙ (log_know-is (log_of rs)).same_at t
+-- a record that brings what is new may follow
+pub news_follow : (rs : List Record) (r : Record) (fresh : Known) → IsNews rs r fresh → may_follow (state_of rs) r ≡ true
+news_follow rs (entry.Event tick number v) fresh news = news.0
+news_follow rs (entry.Mark tick) fresh news = news.0
+news_follow rs (entry.Cut tick) fresh news = absurd news
 
-  pub unknown_past : (first : ℕ) → first ≡ (state_of rs).settled + 1 → (t : ℕ) → first ≤ t → known_at old t ≡ Q
-  unknown_past first f t le = before t ∙ log_at-past (log_of rs) t (omega (arith, h.settled))
+-- runs that a piece was joined to have what the join is said to have, and those with final ticks what these are said to have
+pub joined_says : (mine old fresh new : Known) (g : ℕ → K) → old ≡ mine → RunsGive Q new (λ t. join_K (known_at old t) (known_at fresh t)) → ((t : ℕ) → join_K (known_at mine t) (known_at fresh t) ≡ g t) → RunsGive Q new g
+joined_says mine old fresh new g e given says = record {
+  canonical = given.canonical;
+  in_range = given.in_range;
+  values = λ t. given.values t ∙ ap (λ k. join_K (known_at k t) (known_at fresh t)) e ∙ says t;
+}
 
-  pub event_known : (first tick number : ℕ) (v : Event) → first ≡ (state_of rs).settled + 1 → (state_of rs).settled < tick → RunsGive Q new (λ t. join_K (known_at old t) (known_at (up_to_event first tick v) t)) → RunsGive Q new (log_at (log_of (rs ++ entry.Event tick number v ∷ [])))
-  event_known first tick number v f past g =
-      let begins : first ≡ suc (log_of rs).settled = omega (arith, h.settled) in
-      let later : (log_of rs).settled < tick = omega (arith, h.settled) in
-      record {
-        canonical = g.canonical;
-        in_range = g.in_range;
-        values = λ t.
-            g.values t
-            ∙ ap (λ k. join_K k (known_at (up_to_event first tick v) t)) (before t)
-            ∙ ap (λ n. join_K (log_at (log_of rs) t) (known_at (up_to_event n tick v) t)) begins
-            ∙ at_event (log_of rs) (state_of rs) h tick t v later
-            ∙ sym (ap (λ (l : Log). log_at l t) (log_more empty_log rs (entry.Event tick number v)));
-      }
+pub finished_says : (mine old new : Known) (upto : ℕ) (g : ℕ → K) → old ≡ mine → RunsGive Q new (λ t. if within 1 upto t then F else known_at old t) → ((t : ℕ) → (if within 1 upto t then F else known_at mine t) ≡ g t) → RunsGive Q new g
+finished_says mine old new upto g e given says = record {
+  canonical = given.canonical;
+  in_range = given.in_range;
+  values = λ t. given.values t ∙ ap (λ k. if within 1 upto t then F else known_at k t) e ∙ says t;
+}
 
-  pub mark_known : (first tick : ℕ) → first ≡ (state_of rs).settled + 1 → (state_of rs).settled < tick → RunsGive Q new (λ t. join_K (known_at old t) (known_at (silence first tick []) t)) → RunsGive Q new (log_at (log_of (rs ++ entry.Mark tick ∷ [])))
-  mark_known first tick f past g =
-      let begins : first ≡ suc (log_of rs).settled = omega (arith, h.settled) in
-      let later : (log_of rs).settled ≤ tick = omega (arith, h.settled) in
-      record {
-        canonical = g.canonical;
-        in_range = g.in_range;
-        values = λ t.
-            g.values t
-            ∙ ap (λ k. join_K k (known_at (silence first tick []) t)) (before t)
-            ∙ ap (λ n. join_K (log_at (log_of rs) t) (known_at (silence n tick []) t)) begins
-            ∙ at_mark (log_of rs) (state_of rs) h tick t later
-            ∙ sym (ap (λ (l : Log). log_at l t) (log_more empty_log rs (entry.Mark tick)));
-      }
+module _ (rs : List Record) (know : Known) (e : know ≡ log_know (log_of rs)) (h : Stays (log_of rs) (state_of rs)) where
+  before : (t : ℕ) → known_at know t ≡ log_at (log_of rs) t
+  before t = ap (λ k. known_at k t) e ∙ (log_know-is (log_of rs)).same_at t
 
-  pub cut_known : (tick : ℕ) → (state_of rs).cut < tick → tick ≤ (state_of rs).settled → RunsGive Q new (λ t. if within 1 tick t then F else known_at old t) → RunsGive Q new (log_at (log_of (rs ++ entry.Cut tick ∷ [])))
-  cut_known tick past upto g =
-      let low : (log_of rs).cut ≤ tick = omega (arith, h.cut) in
-      let high : tick ≤ (log_of rs).settled = omega (arith, h.settled) in
-      record {
-        canonical = g.canonical;
-        in_range = g.in_range;
-        values = λ t.
-            g.values t
-            ∙ ap (λ k. if within 1 tick t then F else k) (before t)
-            ∙ at_cut (log_of rs) (state_of rs) h tick t low high
-            ∙ sym (ap (λ (l : Log). log_at l t) (log_more empty_log rs (entry.Cut tick)));
-      }
-
--- The same for what was planned
-
-module _ (rs : List Record) (mine new fresh : Known) (e : mine ≡ log_know (log_of rs)) (h : Stays (log_of rs) (state_of rs)) (g : RunsGive Q new (λ t. join_K (known_at mine t) (known_at fresh t))) where
-  begins : suc (log_of rs).settled ≡ (state_of rs).settled + 1
-  begins = omega (arith, h.settled)
-
-  pub planned_event : (tick number : ℕ) (v : Event) → may_follow (state_of rs) (entry.Event tick number v) ≡ true → fresh ≡ up_to_event (suc (log_of rs).settled) tick v
-      → RunsGive Q new (log_at (log_of (rs ++ entry.Event tick number v ∷ [])))
-  planned_event tick number v ok is =
+  -- with what is new of a record it is what the log with the record says
+  pub says_news : (r : Record) (fresh : Known) → IsNews rs r fresh → (t : ℕ) → join_K (known_at know t) (known_at fresh t) ≡ log_at (log_of (rs ++ r ∷ [])) t
+  says_news (entry.Event tick number v) fresh news t =
       let s = state_of rs in
-      let past : s.settled < tick = (settles s tick (and_parts (may_settle s tick) (nat_eq number (s.last + 1)) ok).0).0 in
-      event_known rs mine mine new e h refl (suc (log_of rs).settled) tick number v begins past (joined_with fresh (up_to_event (suc (log_of rs).settled) tick v) mine new is g)
+      let past : s.settled < tick = (settles s tick (and_parts (may_settle s tick) (nat_eq number (s.last + 1)) news.0).0).0 in
+      ap₂ (λ k f. join_K k (known_at f t)) (before t) news.1
+      ∙ at_event (log_of rs) s h tick t v (omega (arith, h.settled, past))
+      ∙ sym (ap (λ (l : Log). log_at l t) (log_with_event rs tick number v))
+  says_news (entry.Mark tick) fresh news t =
+      let s = state_of rs in
+      let past : s.settled < tick = (settles s tick news.0).0 in
+      ap₂ (λ k f. join_K k (known_at f t)) (before t) news.1
+      ∙ at_mark (log_of rs) s h tick t (omega (arith, h.settled, past))
+      ∙ sym (ap (λ (l : Log). log_at l t) (log_with_mark rs tick))
+  says_news (entry.Cut tick) fresh news t = absurd news
 
-  pub planned_mark : (tick : ℕ) → may_follow (state_of rs) (entry.Mark tick) ≡ true → fresh ≡ silence (suc (log_of rs).settled) tick []
-      → RunsGive Q new (log_at (log_of (rs ++ entry.Mark tick ∷ [])))
-  planned_mark tick ok is =
-      let past : (state_of rs).settled < tick = (settles (state_of rs) tick ok).0 in
-      mark_known rs mine mine new e h refl (suc (log_of rs).settled) tick begins past (joined_with fresh (silence (suc (log_of rs).settled) tick []) mine new is g)
+  -- with all up to a tick final it is what the log with the cut says
+  pub says_cut : (tick : ℕ) → (state_of rs).cut < tick → tick ≤ (state_of rs).settled → (t : ℕ)
+      → (if within 1 tick t then F else known_at know t) ≡ log_at (log_of (rs ++ entry.Cut tick ∷ [])) t
+  says_cut tick past upto t =
+      ap (λ k. if within 1 tick t then F else k) (before t)
+      ∙ at_cut (log_of rs) (state_of rs) h tick t (omega (arith, h.cut, past)) (omega (arith, h.settled, upto))
+      ∙ sym (ap (λ (l : Log). log_at l t) (log_with_cut rs tick))
 
 -- the invariant with one more record
 pub grows : (rs : List Record) (r : Record) (new : Known) → Stays (log_of rs) (state_of rs) → may_follow (state_of rs) r ≡ true → RunsGive Q new (log_at (log_of (rs ++ r ∷ []))) → (new ≡ log_know (log_of (rs ++ r ∷ []))) × Stays (log_of (rs ++ r ∷ [])) (state_of (rs ++ r ∷ []))
 grows rs r new h m g = (
   known_by (log_of (rs ++ r ∷ [])) new g,
-  subst (λ (l : Log). Stays l (state_of (rs ++ r ∷ []))) (sym (log_more empty_log rs r)) (subst (λ (s : State). Stays (with_entry (log_of rs) r) s) (sym (state_more rs r)) (stays_more (log_of rs) (state_of rs) r h m)),
+  subst (λ (l : Log). Stays l (state_of (rs ++ r ∷ []))) (sym (log_grows rs r)) (subst (λ (s : State). Stays (with_entry (log_of rs) r) s) (sym (state_more rs r)) (stays_more (log_of rs) (state_of rs) r h m)),
 )
 
 -- silence ends before a later tick

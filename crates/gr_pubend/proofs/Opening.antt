@@ -50,9 +50,6 @@ seen_says : (cut t : ℕ) (es : List Entry) (e : Entry) → log_at (with_event (
 seen_says cut t es e =
     ap₂ (λ s ps. if nat_le 1 t && nat_le t s then (if nat_le t cut then F else event_at ps t) else Q) (sym (last_more cut es e)) (sym (pairs_more es e))
 
-pub seen_unknown : (cut last : ℕ) (es : List Entry) (old : Known) → Stays (seen cut es) (at_state last cut) → RunsGive Q old (log_at (seen cut es)) → (t : ℕ) → last + 1 ≤ t → known_at old t ≡ Q
-seen_unknown cut last es old h o t le = o.values t ∙ log_at-past (seen cut es) t (omega (arith, h.settled))
-
 pub seen_event : (cut last : ℕ) (es : List Entry) (e : Entry) (old new : Known) → Stays (seen cut es) (at_state last cut) → RunsGive Q old (log_at (seen cut es)) → last < e.tick
     → RunsGive Q new (λ t. join_K (known_at old t) (known_at (up_to_event (last + 1) e.tick e.event) t)) → RunsGive Q new (log_at (seen cut (es ++ e ∷ [])))
 seen_event cut last es e old new h o past g =
@@ -228,6 +225,3 @@ are_read rs cut settled es f ec es_is ee =
       last_upto = omega (arith, at, w.last_within, w.settled_upto);
       settled_upto = omega (arith, es_is, w.settled_upto);
     }
-
-pub read_unknown : (cut last : ℕ) (es : List Entry) (old : Known) → last ≡ last_tick cut es → RunsGive Q old (log_at (seen cut es)) → (t : ℕ) → last + 1 ≤ t → known_at old t ≡ Q
-read_unknown cut last es old e o t le = o.values t ∙ log_at-past (seen cut es) t (omega (arith, e))

@@ -2,6 +2,7 @@
 use Rattle.std.specs.Prelude.{◌≡◌, ℕ, suc, ◌+◌, ◌-◌, max, true, false, nat_le, nat_lt, List, [], ◌∷◌, Option, Some, None}
 use Rattle.gr_event.specs.declared.event.Event.{Event}
 use Rattle.gr_know.specs.declared.values.K.TheVariants.{D}
+use Rattle.gr_know.specs.Values.{Known}
 use Rattle.gr_publog.specs.declared.record.Record.{Record}
 use Rattle.gr_publog.specs.declared.record.Record.TheVariants as entry
 use Rattle.gr_publog.specs.State.{max_tick, state_of, may_follow}
@@ -50,14 +51,22 @@ publish_logs rs number e now = event_of (published (log_of rs) number e now) num
 abbrev pub quiet_logs : List Record → ℕ → ℕ → Option Record
 quiet_logs rs now quiet = mark_of (quieted (log_of rs) now quiet)
 
--- An answer that was planned on these records: the event may follow them, and what is new are the silence before it and itself
-abbrev pub IsPlanned : List Record → ℕ → Event → Published → Type 0
-IsPlanned rs number e (Logged tick fresh) =
+-- What is new with a record that may follow these: of an event the silence before it and itself, of a mark the silence up to
+-- it. A cut brings nothing new.
+abbrev pub IsNews : List Record → Record → Known → Type 0
+IsNews rs (entry.Event tick number e) fresh =
     (may_follow (state_of rs) (entry.Event tick number e) ≡ true)
     × (fresh ≡ silence (suc (log_of rs).settled) (tick - 1) (record { first = tick; last = tick; value = D e } ∷ []))
+IsNews rs (entry.Mark tick) fresh =
+    (may_follow (state_of rs) (entry.Mark tick) ≡ true) × (fresh ≡ silence (suc (log_of rs).settled) tick [])
+IsNews rs (entry.Cut tick) fresh = ⊥
+
+-- An answer that was planned on these records: the event may follow them, and what is new is so
+abbrev pub IsPlanned : List Record → ℕ → Event → Published → Type 0
+IsPlanned rs number e (Logged tick fresh) = IsNews rs (entry.Event tick number e) fresh
 IsPlanned rs number e _ = Unit {0}
 
--- the same of a mark, with the silence up to it
+-- the same of a mark
 abbrev pub IsPlannedMark : List Record → Quieted → Type 0
-IsPlannedMark rs (Marked tick fresh) = (may_follow (state_of rs) (entry.Mark tick) ≡ true) × (fresh ≡ silence (suc (log_of rs).settled) tick [])
+IsPlannedMark rs (Marked tick fresh) = IsNews rs (entry.Mark tick) fresh
 IsPlannedMark rs _ = Unit {0}

@@ -1,7 +1,7 @@
 //! What becomes known with a record.
 
-ghost use Rattle.std.specs.Prelude.{◌≡◌, ℕ, ◌+◌, ◌-◌, ◌^◌, ◌≤◌, [], ◌∷◌, if◌then◌else◌, IfOk, OnOk, OnErr};
-ghost use Rattle.gr_tick.specs.Stored.{within, RunsGive};
+ghost use Rattle.std.specs.Prelude.{◌≡◌, ◌+◌, ◌-◌, ◌^◌, ◌≤◌, [], ◌∷◌, if◌then◌else◌, IfOk, OnOk};
+ghost use Rattle.gr_tick.specs.Stored.{within, RunsGive, needed};
 ghost use Rattle.gr_know.specs.Values.{known_at, join_K};
 ghost use Rattle.gr_know.specs.declared.values.K.TheVariants.{Q, D, F};
 ghost use Rattle.gr_pubend.specs.Log.{log_of, log_at, log_know, silence};
@@ -11,7 +11,7 @@ use gr_event::Event;
 use gr_know::{K, Know};
 use gr_publog::{Entries, Log, Memory};
 use gr_tick::{Piece, Run};
-use std::alloc::Global;
+use std::alloc::{AllocError, Global};
 
 /// Silence on a range of ticks. A range that ends before it begins has none.
 pub fn fresh_silence(alloc: Global, first: u64, last: u64) -> Result<Piece<K>, Memory>
@@ -47,24 +47,15 @@ pub fn fresh_event(alloc: Global, first: u64, tick: u64, event: &Event) -> Resul
     Ok(piece)
 }
 
-/// What is known with a piece that is new.
-pub fn known_with(know: &Know, fresh: &Piece<K>) -> Result<Know, Memory>
-    ensures { IfOk result (λ new. RunsGive Q new.runs (λ t. join_K (known_at know.now.runs t) (known_at fresh.now t))) }
+/// Makes room for a piece to be joined. It fails only where memory is refused; what is known stays in any case.
+pub fn make_room(know: &mut Know, piece: &Piece<K>) -> Result<(), Memory>
+    ensures runs { know.new.runs ≡ know.old.runs }
+    ensures room { OnOk result (needed know.new.runs piece.now ≤ know.new.spare) }
 {
-    let mut know = know.copy()?;
-    let _ = know.learn(fresh)?;
-    Ok(know)
-}
-
-/// What is known with all up to a tick final.
-pub fn final_upto(know: &Know, tick: u64) -> Result<Know, Memory>
-    requires from_one { 1 ≤ tick }
-    requires upto { tick ≤ 2 ^ 62 }
-    ensures { IfOk result (λ new. RunsGive Q new.runs (λ t. if within 1 tick t then F else known_at know.now.runs t)) }
-{
-    let mut know = know.copy()?;
-    know.finish(1, tick)?;
-    Ok(know)
+    let Some(room) = know.room_for(piece) else {
+        return Err(AllocError);
+    };
+    know.reserve(room)
 }
 
 /// Learns silence from a tick on, and an event at another, at or past it.

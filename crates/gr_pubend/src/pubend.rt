@@ -1,18 +1,18 @@
 //! A log, and what is known by it.
 
-ghost use Rattle.std.specs.Prelude.{◌≡◌, ◌≢◌, ◌↔◌, ℕ, suc, ◌+◌, ◌-◌, ◌^◌, ◌≤◌, ◌<◌, ◌++◌, ◌∷◌, [], true, false, Some, None, Err, IsErr, IsSome, IfOk, OnOk, IsErrOf};
+ghost use Rattle.std.specs.Prelude.{◌≡◌, ◌≢◌, ◌↔◌, ℕ, ◌^◌, ◌≤◌, ◌<◌, true, false, Some, None, Err, IsErr, IsSome, IfOk, OnOk, IsErrOf};
 ghost use Rattle.gr_out.specs.Stops.{StaysFaultless};
 ghost use Rattle.gr_tick.specs.Stored.{RunsGive};
 ghost use Rattle.gr_know.specs.declared.values.K.TheVariants.{Q};
-ghost use Rattle.gr_publog.specs.State.{state_of, may_follow};
+ghost use Rattle.gr_publog.specs.State.{state_of};
 ghost use Rattle.gr_publog.specs.Calls.{IsReady, Appends, Opens, Tally, Causes, Leaves};
 ghost use Rattle.gr_publog.specs.declared.record.LogFault.TheVariants.{Memory as WantOfMemory, Disk as DiskFailed, Reopen as MustReopen};
 ghost use Rattle.gr_pubend.specs.Log.{log_of, log_at, log_know};
-ghost use Rattle.gr_pubend.specs.Answers.{published, quieted, publish_logs, quiet_logs, IsPlanned, IsPlannedMark};
+ghost use Rattle.gr_pubend.specs.Answers.{published, quieted, publish_logs, quiet_logs, IsNews, IsPlanned, IsPlannedMark};
 ghost use Rattle.gr_pubend.specs.End.{grown, after_call, broken_end, log_result};
 
 use crate::answers::{Published, Quieted};
-use crate::learning::{final_upto, known_by, known_with};
+use crate::learning::{known_by, make_room};
 use crate::planning::{plan, plan_quiet};
 use gr_event::Event;
 use gr_know::{K, Know};
@@ -244,19 +244,12 @@ impl Pubend {
         ensures others { let lane = self.old.log.lane in
             D.tells → (n : ℕ) → n ≢ lane → D.lane_of disk.new n ≡ D.lane_of disk.old n }
     {
-        if self.log.is_broken() {
-            return Err(LogFault::Reopen);
-        }
-        let know = match known_with(&self.know, fresh) {
-            Ok(know) => know,
-            Err(_) => return Err(LogFault::Memory),
-        };
         let entry = Record::Event {
             tick,
             number,
             event: event.share(),
         };
-        self.commit(disk, &entry, know)
+        self.log_and_join(disk, &entry, fresh)
     }
 
     /// Logs a mark as it was planned: `fresh` is what `plan_quiet` answered with this tick, and nothing was logged
@@ -285,14 +278,7 @@ impl Pubend {
         ensures others { let lane = self.old.log.lane in
             D.tells → (n : ℕ) → n ≢ lane → D.lane_of disk.new n ≡ D.lane_of disk.old n }
     {
-        if self.log.is_broken() {
-            return Err(LogFault::Reopen);
-        }
-        let know = match known_with(&self.know, fresh) {
-            Ok(know) => know,
-            Err(_) => return Err(LogFault::Memory),
-        };
-        self.commit(disk, &Record::Mark { tick }, know)
+        self.log_and_join(disk, &Record::Mark { tick }, fresh)
     }
 
     /// Logs that nothing up to a tick is asked for again, and makes all up to it final. Faults are those of `publish`.
@@ -319,11 +305,17 @@ impl Pubend {
         if self.log.is_broken() {
             return Err(LogFault::Reopen);
         }
-        let know = match final_upto(&self.know, tick) {
-            Ok(know) => know,
+        match self.know.reserve(2) {
+            Ok(()) => {}
             Err(_) => return Err(LogFault::Memory),
-        };
-        self.commit(disk, &Record::Cut { tick }, know)
+        }
+        match self.log.append(disk, &Record::Cut { tick }) {
+            Ok(()) => {
+                self.know.finish_ready(1, tick);
+                Ok(())
+            }
+            Err(fault) => Err(fault),
+        }
     }
 
     /// What is known by the log. Takes no memory.
@@ -346,10 +338,15 @@ impl Pubend {
         &self.log
     }
 
-    /// Logs a record, and only then puts what is known with it in place.
-    fn commit<D: Disk>(&mut self, disk: &mut D, entry: &Record, know: Know) -> Result<(), LogFault>
-        requires follows { may_follow (state_of self.old.log.records) entry.now ≡ true }
-        requires known { RunsGive Q know.runs (log_at (log_of (self.old.log.records ++ entry.now ∷ []))) }
+    /// Logs a record, and only then joins what becomes known with it. The room for that is there before the disk is
+    /// called.
+    fn log_and_join<D: Disk>(
+        &mut self,
+        disk: &mut D,
+        entry: &Record,
+        fresh: &Piece<K>,
+    ) -> Result<(), LogFault>
+        requires news { IsNews self.old.log.records entry.now fresh.now }
         requires stands { D.tells → IsReady self.old.log (D.lane_of disk.old self.old.log.lane) }
         ensures end { Leaves self.old (grown entry.now self.old) (broken_end self.old) self.new result }
         ensures goes_on { OnOk result
@@ -367,15 +364,19 @@ impl Pubend {
         ensures others { let lane = self.old.log.lane in
             D.tells → (n : ℕ) → n ≢ lane → D.lane_of disk.new n ≡ D.lane_of disk.old n }
     {
+        if self.log.is_broken() {
+            return Err(LogFault::Reopen);
+        }
+        match make_room(&mut self.know, fresh) {
+            Ok(()) => {}
+            Err(_) => return Err(LogFault::Memory),
+        }
         match self.log.append(disk, entry) {
             Ok(()) => {
-                self.know = know;
+                self.know.join(fresh);
                 Ok(())
             }
-            Err(fault) => {
-                drop(know);
-                Err(fault)
-            }
+            Err(fault) => Err(fault),
         }
     }
 }
