@@ -1,6 +1,6 @@
 -- What a publish does at the broker of the publisher: the log grows by one event, and the broker of the subscriber is
 -- sent what became known
-use Rattle.std.proofs.Common.{◌≡◌, ℕ, Bool, true, false, not, ◌&&◌, List, [], ◌∷◌, refl, sym, ap, ◌∙◌}
+use Rattle.std.proofs.Common.{◌≡◌, ℕ, Bool, true, false, not, List, [], ◌∷◌, refl, sym, ap, ◌∙◌}
 use Rattle.std.specs.Prelude.{if◌then◌else◌}
 use Rattle.gr_tick.specs.declared.run.Run.{Run}
 use Rattle.gr_tick.specs.Runs.{value_at, AreRuns, zip_runs, Decides_same}
@@ -11,7 +11,7 @@ use Rattle.gr_know.specs.Values.{Known, known_at, same_K, join_K, is_Q}
 use Rattle.gr_know.proofs.ValueLaws.{K_decides}
 use Rattle.gr_curio.specs.declared.values.Q3.TheVariants.{N}
 use Rattle.gr_curio.specs.Wants.{answered_of}
-use Rattle.gr_curio.specs.Values.{same_Q3, is_A, is_C}
+use Rattle.gr_curio.specs.Values.{same_Q3, is_A}
 use Rattle.gr_curio.proofs.ValueLaws.{Q3_decides}
 use Rattle.gr_frame.specs.Bytes.{known_run_size, cut_frames}
 use Rattle.gr_model.specs.Blank.{net0}

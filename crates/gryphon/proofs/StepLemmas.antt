@@ -11,7 +11,7 @@ use Rattle.gr_topo.specs.Topology.{blank}
 use Rattle.gr_model.specs.declared.report.Report.{Report}
 use Rattle.gr_model.specs.Blank.{net0}
 use Rattle.gr_model.specs.Text.{labels_of, report_text, whole_line}
-use Rattle.gr_model.specs.World.{World, next, start, run_from, report_of, report_of_by, run_from_by}
+use Rattle.gr_model.specs.World.{World, next, start, run_from, report_of_by, run_from_by}
 use Rattle.gryphon.specs.World.{Tells}
 use Rattle.gryphon.specs.Scenario.{IsReady, AreReady, all_lines, replayed_text}
 

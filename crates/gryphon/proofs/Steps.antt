@@ -13,7 +13,7 @@ use Rattle.gr_model.specs.declared.report.Report.{Report}
 use Rattle.gr_model.specs.declared.report.Report.TheVariants as line
 use Rattle.gr_model.specs.Blank.{net0}
 use Rattle.gr_model.specs.Broker.{started, log_know, max_tick, View, Log, publish, receive, clashes, with_event, published}
-use Rattle.gr_model.specs.World.{next, publish_now, deliver_frame, absorbed, sent_line, start, deliver_frame_by, next_by, publish_now_by}
+use Rattle.gr_model.specs.World.{absorbed, sent_line, start, deliver_frame_by, next_by, publish_now_by}
 use Rattle.gryphon.specs.World.{world_of, log_of_events, host_view, downward, EventsUpto, Tells, Takes, passed_lines}
 use Rattle.gryphon.proofs.Host.{learn-host, IsGrown}
 use Rattle.gryphon.proofs.News.{news, grown, gate_of-append}

@@ -49,7 +49,7 @@ impl Model for World {
 
     ghost use Rattle.gryphon.specs.World.{world_of, IsWorld};
 
-    ghost view = { λ w. world_of w.clock w.most w.last w.settled w.events.items w.sent.items w.know w.horizon };
+    ghost view = { λ w. world_of w.clock w.most w.last w.settled w.events.items w.sent.items w.know.runs w.horizon };
 
     ghost invariant = { λ w. IsWorld w.clock w.last w.settled w.events.items w.horizon };
 }
@@ -156,7 +156,7 @@ impl World {
 
 /// Whether what came says other things of some tick than what is known.
 fn has_clash(know: &Know, piece: &Piece<K>) -> bool
-    ensures { result ≡ clashes know.now piece.now }
+    ensures { result ≡ clashes know.now.runs piece.now }
 {
     let _ = know.len();
     let _ = piece.len();
@@ -178,7 +178,7 @@ fn take(
 ) -> Result<u64, AllocError>
     requires { from ≤ MAX_TICK }
     ensures inside { IfOk result (λ to. to ≤ MAX_TICK) }
-    ensures learned { IfOk result (λ to. Takes know.old piece.now from lines.old know.new to lines.new) }
+    ensures learned { IfOk result (λ to. Takes know.old.runs piece.now from lines.old know.new.runs to lines.new) }
 {
     let _ = know.len();
     let _ = piece.len();
@@ -192,7 +192,8 @@ fn take(
 /// Makes all ticks up to a horizon final.
 fn finish_upto(know: &mut Know, to: u64) -> Result<(), AllocError>
     requires { to ≤ MAX_TICK }
-    ensures { OnOk result (RunsGive Q know.new (λ t. if nat_le 1 t && nat_le t to then F else known_at know.old t)) }
+    ensures { OnOk result (RunsGive Q know.new.runs
+        (λ t. if nat_le 1 t && nat_le t to then F else known_at know.old.runs t)) }
 {
     if to == 0 {
         let _ = know.len();
@@ -205,7 +206,7 @@ fn finish_upto(know: &mut Know, to: u64) -> Result<(), AllocError>
 fn tell_passed(lines: &mut Reports, know: &Know, from: u64, to: u64) -> Result<(), AllocError>
     requires from { from ≤ to }
     requires to { to ≤ MAX_TICK }
-    ensures { OnOk result (lines.new ≡ lines.old ++ passed_lines from to know.now) }
+    ensures { OnOk result (lines.new ≡ lines.old ++ passed_lines from to know.now.runs) }
 {
     if from == to {
         return Ok(());
@@ -239,7 +240,8 @@ fn new_ticks(alloc: Global, settled: u64, tick: u64, event: &Event) -> Result<Pi
 fn tell(lines: &mut Reports, know: &Know, from: u64, to: u64) -> Result<(), AllocError>
     requires from { from ≤ MAX_TICK }
     requires to { to ≤ MAX_TICK }
-    ensures { OnOk result (lines.new ≡ lines.old ++ map (got_line 0 0) (data_ticks from to know.now) ++ line.Horizon 0 0 to ∷ []) }
+    ensures { OnOk result (lines.new ≡ lines.old ++ map (got_line 0 0) (data_ticks from to know.now.runs)
+        ++ line.Horizon 0 0 to ∷ []) }
 {
     'runs: for i in 0..know.len() {
         tell_run(lines, know.run(i), from, to)?;

@@ -16,14 +16,14 @@ returns-then-frame-eq0-clause-told c =
     ] in
     let count : c.len-sent.result ≡ length c.self.inside.sent.items = omega (arith, c.len-sent.ensures) in
     let lines : c.push.new.self ≡ RefusedFrame c.args.line c.args.frame (length c.self.inside.sent.items) ∷ [] = rw (c.in_ok-push.ensures.ok, c.new-lines.ensures, count) refl in
-    rw (← c.self.view_is) (refused_by c.self.inside.clock c.self.inside.most c.self.inside.last c.self.inside.settled c.self.inside.events.items c.self.inside.sent.items c.self.inside.know c.self.inside.horizon c.args.line c.args.frame c.push.new.self none lines)
+    rw (← c.self.view_is) (refused_by c.self.inside.clock c.self.inside.most c.self.inside.last c.self.inside.settled c.self.inside.events.items c.self.inside.sent.items c.self.inside.know.runs c.self.inside.horizon c.args.line c.args.frame c.push.new.self none lines)
 
 pub returns-then-has_clash-clause-told : goal.returns-then-has_clash-clause-told
 returns-then-has_clash-clause-told c =
     let nonzero : c.args.frame ≡ 0 → ⊥ = c.if-frame-eq0.false in
     let some : slice_get c.self.inside.sent.items (c.args.frame - 1) ≡ Some c.index-piece.result.now =
     slice_get_read c.self.inside.sent.items c.len-sent.result (c.args.frame - 1) c.index-piece.result.now (omega (arith, c.len-sent.ensures)) (omega (arith, nonzero, c.if-frame-sent.false)) c.index-piece.ensures in
-    rw (← c.self.view_is) (dropped_by c.self.inside.clock c.self.inside.most c.self.inside.last c.self.inside.settled c.self.inside.events.items c.self.inside.sent.items c.self.inside.know c.index-piece.result.now c.self.inside.horizon c.args.line c.args.frame c.new-lines.result
+    rw (← c.self.view_is) (dropped_by c.self.inside.clock c.self.inside.most c.self.inside.last c.self.inside.settled c.self.inside.events.items c.self.inside.sent.items c.self.inside.know.runs c.index-piece.result.now c.self.inside.horizon c.args.line c.args.frame c.new-lines.result
     (omega (arith, nonzero)) some (sym c.if-has_clash.ensures) c.new-lines.ensures)
 
 pub returns-clause-told : goal.returns-clause-told
@@ -31,7 +31,7 @@ returns-clause-told c =
     let nonzero : c.args.frame ≡ 0 → ⊥ = c.if-frame-eq0.false in
     let some : slice_get c.self.inside.sent.items (c.args.frame - 1) ≡ Some c.index-piece.result.now =
     slice_get_read c.self.inside.sent.items c.len-sent.result (c.args.frame - 1) c.index-piece.result.now (omega (arith, c.len-sent.ensures)) (omega (arith, nonzero, c.if-frame-sent.false)) c.index-piece.ensures in
-    rw (← c.self.view_is) (taken_by c.self.inside.clock c.self.inside.most c.self.inside.last c.self.inside.settled c.self.inside.events.items c.self.inside.sent.items c.self.inside.know c.index-piece.result.now c.take.new.know c.self.inside.horizon c.in_ok-self-inside.field-0 c.args.line c.args.frame c.new-lines.result c.take.new.lines
+    rw (← c.self.view_is) (taken_by c.self.inside.clock c.self.inside.most c.self.inside.last c.self.inside.settled c.self.inside.events.items c.self.inside.sent.items c.self.inside.know.runs c.index-piece.result.now c.take.new.know.runs c.self.inside.horizon c.in_ok-self-inside.field-0 c.args.line c.args.frame c.new-lines.result c.take.new.lines
     (omega (arith, nonzero)) some (sym c.if-has_clash.ensures) c.new-lines.ensures c.in_ok-self-inside.ensures.learned)
 
 pub returns-then-frame-eq0-clause-named : goal.returns-then-frame-eq0-clause-named
