@@ -8,7 +8,7 @@ use Rattle.gr_know.specs.declared.values.K.TheVariants.{Q, S, D, F}
 use Rattle.gr_edge.specs.Pass as edge
 use Rattle.gr_topo.specs.Topology.{TopologyView, filter_of, passes_filter, wants, below_of, keeps_horizon_at}
 use Rattle.gr_model.specs.Net.{Net, keeps_horizon, wanted_below, pass}
-use Rattle.gr_model.specs.NetOf.{net_of}
+use Rattle.gr_model.specs.NetOf.{net_of, filters_below}
 
 -- a broker keeps a horizon exactly where the topology says so
 pub keeps_horizon_of : (t : TopologyView) (p b : ℕ) → keeps_horizon (net_of t) p b ≡ keeps_horizon_at t p b
@@ -18,10 +18,6 @@ keeps_horizon_of t p b = refl
 pub filter_passes : (f : Option Tree) (e : Event) → passes_filter f e ≡ edge.wants f e
 filter_passes None e = refl
 filter_passes (Some tree) e = refl
-
--- the filters of the subscribers at a broker and beyond it
-abbrev pub filters_below : TopologyView → ℕ → ℕ → List (Option Tree)
-filters_below t p b = map (filter_of t) (below_of t p b)
 
 any_wants : (t : TopologyView) (ss : List ℕ) (e : Event) → list_any (λ s. wants t s e) ss ≡ edge.wanted (map (filter_of t) ss) e
 any_wants t [] e = refl

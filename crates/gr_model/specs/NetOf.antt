@@ -1,7 +1,8 @@
 -- The machine's topology of one that was read
-use Rattle.std.specs.Prelude.{◌≡◌, ℕ, ◌<◌, ◌≤◌, true, nat_eq, List, [], ◌∷◌, length, None}
+use Rattle.std.specs.Prelude.{◌≡◌, ℕ, ◌<◌, ◌≤◌, true, nat_eq, List, [], ◌∷◌, length, map, Option, None}
 use Rattle.std.specs.List.{list_any}
-use Rattle.gr_topo.specs.Topology.{TopologyView, host_of, home_of, up_at, depth_at, children_of, subscribers_of, below_of, wants}
+use Rattle.gr_filter.specs.Tree.{Tree}
+use Rattle.gr_topo.specs.Topology.{TopologyView, host_of, home_of, filter_of, up_at, depth_at, children_of, subscribers_of, below_of, wants}
 use Rattle.gr_model.specs.Net.{Net}
 use Rattle.gr_model.specs.Tree.{IsDistinct}
 
@@ -24,6 +25,10 @@ net_of t = record {
   quiet = t.settings.quiet;
   cache = t.settings.cache;
 }
+
+-- the filters of the subscribers at a broker and beyond it
+abbrev pub filters_below : TopologyView → ℕ → ℕ → List (Option Tree)
+filters_below t p b = map (filter_of t) (below_of t p b)
 
 -- each number is less than all that follow it
 abbrev pub IsRising : List ℕ → Type 0

@@ -208,6 +208,16 @@ impl Reports {
         Ok(())
     }
 
+    /// Moves the lines of another list to the end. At want of memory both are as they were.
+    pub fn append(&mut self, others: &mut Reports) -> Result<(), AllocError>
+        ensures ok { OnOk result (self.new ≡ self.old ++ others.old) }
+        ensures emptied { OnOk result (others.new ≡ []) }
+        ensures err { OnErr result (self.new ≡ self.old) }
+        ensures kept { OnErr result (others.new ≡ others.old) }
+    {
+        self.lines.append(&mut others.lines)
+    }
+
     /// How many lines there are.
     pub fn len(&self) -> usize
         ensures { result ≡ length self.now }
