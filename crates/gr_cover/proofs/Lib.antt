@@ -1,0 +1,10 @@
+pub mod Agreeing
+pub mod Choosing
+pub mod Counting
+pub mod Inserting
+pub mod Integers
+pub mod Rising
+pub mod Searching
+pub mod Telling
+pub mod Valid
+pub mod Verdicts

@@ -1,0 +1,4 @@
+pub mod Answer
+pub mod Candidates
+pub mod Covering
+pub mod Mentions

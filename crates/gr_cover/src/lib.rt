@@ -1,0 +1,12 @@
+//! Whether one filter matches every event that another matches.
+#![tactic(auto)]
+
+mod attribute;
+pub mod cover;
+mod mention;
+mod search;
+#[cfg(test)]
+mod tests;
+mod values;
+
+pub use cover::{Cover, MAX_PARTS, covers, limit_of_parts};
