@@ -1,0 +1,3 @@
+pub mod Order
+pub mod Merge
+pub mod Law

@@ -1,0 +1,11 @@
+//! One order over the events of all publishers, by tick and then publisher, as far as every publisher was heard.
+#![tactic(auto)]
+
+pub mod item;
+pub mod law;
+pub mod merge;
+#[cfg(test)]
+mod tests;
+
+pub use item::{Item, Items};
+pub use merge::Merge;
