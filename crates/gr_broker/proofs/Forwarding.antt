@@ -1,0 +1,86 @@
+-- Each child is sent what passes the edge to it and what it has not acknowledged, and then wants what the machine says.
+use Rattle.std.proofs.Common.{◌≡◌, ℕ, suc, ◌+◌, ◌<◌, not, ◌&&◌, List, [], ◌∷◌, ◌++◌, length, get_or, refl, sym, ap, ap₂, ◌∙◌, subst, inl, inr, arith}
+use Rattle.std.specs.Prelude.{if◌then◌else◌, slice_index_or}
+use Rattle.std.proofs.lemmas.Bool.{cases_lt}
+use Rattle.std.proofs.lemmas.List.{ext_get_or, get_or_append_left, get_or_push, get_or_default}
+use Rattle.gr_tick.specs.Runs.{AreRuns}
+use Rattle.gr_tick.specs.Stored.{RunsGive}
+use Rattle.gr_tick.proofs.RunLaws.{zip_runs-is}
+use Rattle.gr_know.specs.declared.values.K.TheVariants.{Q}
+use Rattle.gr_know.specs.Values.{Known, known_at, same_K, is_Q, new_K}
+use Rattle.gr_know.proofs.ValueLaws.{K_decides}
+use Rattle.gr_curio.specs.declared.values.Q3.TheVariants.{N, C}
+use Rattle.gr_curio.specs.Values.{Wanted, wanted_at, is_A, is_C}
+use Rattle.gr_curio.specs.Wants.{wants_of, all_A}
+use Rattle.gr_topo.specs.Topology.{children_of}
+use Rattle.gr_model.specs.Net.{Net}
+use Rattle.gr_model.specs.NetOf.{filters_below}
+use Rattle.gr_model.specs.Broker.{new_ticks, passed, forward, forward_wants}
+use Rattle.gr_theorems.proofs.calls.Passed.{passed-is}
+use Rattle.gr_broker.specs.declared.place.Child.{Child}
+use Rattle.gr_broker.specs.declared.site.Site.{Site}
+use Rattle.gr_broker.specs.Held.{IsSite}
+use Rattle.gr_broker.specs.Changes.{AreTaken}
+use Rattle.gr_broker.proofs.Sited.{child_has_edge, child_edge}
+use Rattle.gr_broker.proofs.Learned.{quenched_is, quenched_stays, forward_wants-length, forward_wants-at}
+
+-- The edge to a child, which is read by its place, has the filters behind it
+pub edge_at : (s : Site) (i : ℕ) (c : Child) → IsSite s → i < length s.position.now.children.items → c ≡ get_or s.position.now.children.items i c → get_or s.edges.now c.edge [] ≡ filters_below s.topo.now s.publisher (get_or (children_of s.topo.now s.publisher s.broker) i 0)
+edge_at s i c is lt e =
+    let inside = child_has_edge i s.edges.now s.position.now c is.edges lt e in
+    child_edge s.topo.now s.broker s.publisher i s.edges.now s.position.now c (get_or s.edges.now c.edge []) is.branch is.edges lt e (get_or_default s.edges.now c.edge [] (get_or s.edges.now c.edge []) inside)
+
+-- The runs of what is forwarded are canonical
+
+-- what is new of a piece
+pub new_runs : (know piece : Known) → AreRuns Q know → AreRuns Q piece → AreRuns Q (new_ticks know piece)
+unfolding new_ticks
+new_runs know piece a b = let z = zip_runs-is Q Q Q same_K K_decides new_K know piece refl a b in z.runs
+
+-- and what of it is sent to a child
+pub forward_runs : (net : Net) (p c : ℕ) (w : Wanted) (new : Known) → AreRuns Q new → AreRuns N w → AreRuns Q (forward net p c w new)
+unfolding forward
+forward_runs net p c w new a b =
+    let k = passed-is net p c new a in
+    let z = zip_runs-is Q N Q same_K K_decides (λ v x. if is_A x then Q else v) (passed net p c new) w refl k.runs b in
+    z.runs
+
+-- What the children want then
+
+all_A_same : (ws us : List Wanted) (t : ℕ) → length us ≡ length ws → ((i : ℕ) → i < length ws → is_A (wanted_at (wants_of us i) t) ≡ is_A (wanted_at (wants_of ws i) t)) → all_A us t ≡ all_A ws t
+all_A_same [] [] t e h = refl
+all_A_same [] (u ∷ us) t e h = absurd (omega (arith, e))
+all_A_same (w ∷ ws) [] t e h = absurd (omega (arith, e))
+all_A_same (w ∷ ws) (u ∷ us) t e h = ap₂ (λ x y. x && y) (h 0 (omega arith)) (all_A_same ws us t (omega (arith, e)) (λ i lt. h (suc i) (omega (arith, lt))))
+
+-- the pieces that are taken out tell what each child asked and is sent
+-- the pieces that are taken out tell what each child asked and is sent
+abbrev pub AreAnswered : Net → ℕ → Known → List ℕ → List Wanted → List Wanted → Type 0
+AreAnswered net p new cs ws pieces = (i : ℕ) → i < length ws → RunsGive N (slice_index_or pieces i []) (λ t.
+    if not (is_Q (known_at (forward net p (get_or cs i 0) (wants_of ws i) new) t)) && is_C (wanted_at (wants_of ws i) t) then C else N)
+
+-- so the children want what the machine says
+pub taken_forwarded : (net : Net) (p : ℕ) (new : Known) (cs : List ℕ) (ws pieces us : List Wanted) → length ws ≡ length cs → AreRuns Q new → AreAnswered net p new cs ws pieces → AreTaken ws pieces us → us ≡ forward_wants net p new cs ws
+taken_forwarded net p new cs ws pieces us e a answered taken =
+    ext_get_or [] us (forward_wants net p new cs ws) (taken.many ∙ sym (forward_wants-length net p new cs ws e)) (λ i lt.
+    let inside : i < length ws = omega (arith, lt, taken.many) in
+    quenched_is (wants_of ws i) (forward net p (get_or cs i 0) (wants_of ws i) new) (slice_index_or pieces i []) (wants_of us i)
+    (taken.canonical i inside) (forward_runs net p (get_or cs i 0) (wants_of ws i) new a (taken.canonical i inside)) (answered i inside) (taken.each i inside)
+    ∙ sym (forward_wants-at net p new cs ws i e inside))
+
+-- and have acknowledged what they had
+pub taken_acknowledged : (net : Net) (p : ℕ) (new : Known) (cs : List ℕ) (ws pieces us : List Wanted) → AreAnswered net p new cs ws pieces → AreTaken ws pieces us → (t : ℕ) → all_A us t ≡ all_A ws t
+taken_acknowledged net p new cs ws pieces us answered taken t =
+    all_A_same ws us t taken.many (λ i lt. quenched_stays (wants_of ws i) (slice_index_or pieces i []) (wants_of us i) (forward net p (get_or cs i 0) (wants_of ws i) new) t (answered i lt) (taken.each i lt))
+
+-- One child more
+
+-- what holds of each element of a list holds of one more
+pub each_more : {X : Type 0} (P : ℕ → X → Type 0) (xs ys : List X) (y d : X) (n : ℕ) → length xs ≡ n → ys ≡ xs ++ y ∷ [] → ((i : ℕ) → i < n → P i (slice_index_or xs i d)) → P n y → (i : ℕ) → i < n + 1 → P i (slice_index_or ys i d)
+each_more P xs ys y d n e same before here i lt =
+    elim (cases_lt i n) [
+      | inl l ↦ subst (P i) (sym (ap (λ zs. get_or zs i d) same ∙ get_or_append_left xs (y ∷ []) d i (omega (arith, l, e)))) (before i l)
+      | inr g ↦
+          let at : n ≡ i = omega (arith, g, lt) in
+          subst (λ k. P k (get_or ys k d)) at (subst (P n) (sym (ap (λ zs. get_or zs n d) same ∙ get_or_push xs y d n e)) here)
+    ]

@@ -1,0 +1,293 @@
+-- One publisher's part is woken, and put back into the broker
+use Rattle.std.proofs.Common.{◌≡◌, ◌≢◌, ◌⊎◌, inl, inr, ⊎_elim, ℕ, ◌*◌, ◌<◌, ◌≤◌, Bool, true, false, List, length, map, get_or, set, Option, Some, None, Result, Ok, Err, refl, sym, ap, ap₂, ◌∙◌, subst, arith}
+use Rattle.std.specs.Prelude.{◌↔◌, is_some, IsSome, IfOk, IsErrOf, OnOk}
+use Rattle.std.proofs.lemmas.Bool.{cases_eq, false≢true}
+use Rattle.std.proofs.lemmas.List.{set-get_or, set-set, get_or-set_same, get_or-set_other, get_or-map, length-set, length-map}
+use Rattle.gr_out.specs.Lane.{Lane}
+use Rattle.gr_publog.specs.declared.record.Record.{Record}
+use Rattle.gr_publog.specs.declared.record.LogFault.{LogFault}
+use Rattle.gr_publog.specs.declared.record.LogFault.TheVariants as fault
+use Rattle.gr_publog.specs.Crash.{LogView, failed}
+use Rattle.gr_publog.specs.Calls.{IsReady}
+use Rattle.gr_pubend.specs.Log.{Log, log_of}
+use Rattle.gr_pubend.specs.Answers.{quiet_logs}
+use Rattle.gr_topo.specs.Topology.{TopologyView}
+use Rattle.gr_model.specs.Net.{Net, is_host}
+use Rattle.gr_model.specs.NetOf.{net_of}
+use Rattle.gr_model.specs.Broker.{View, Outcome, marking, wake, wake_host, wake_below, asking}
+use Rattle.gr_model.specs.World.{blank_view}
+use Rattle.gr_broker.specs.declared.outcome.Outcome.{Outcome as Answer}
+use Rattle.gr_broker.specs.declared.outcome.BrokerFault.{BrokerFault}
+use Rattle.gr_broker.specs.declared.outcome.BrokerFault.TheVariants as refused
+use Rattle.gr_broker.specs.declared.held.Held.{Held}
+use Rattle.gr_broker.specs.declared.site.Seat.{Seat}
+use Rattle.gr_broker.specs.Held.{held_view, broker_at}
+use Rattle.gr_broker.specs.Seen.{BrokerView, log_in, log_said, with_logged, with_failed, broken_at, is_broken}
+use Rattle.gr_broker.specs.Of.{IsKept, IsBrokerOf, LogsStand}
+use Rattle.gr_broker.specs.Told.{Tells, log_answer}
+use Rattle.gr_broker.specs.Hosted.{cut_logs, logged, AppendsTwice, AppendsTwiceAt, WakeLeaves, after_mark, after_wake}
+use Rattle.gr_broker.specs.Host.{HostView, host_with}
+use Rattle.gr_broker.specs.Parts.{PartView, part_with, part_of, part_in, with_part, part_wake, part_mark_logs, part_cut_logs, part_marked, part_woken, part_failed}
+use Rattle.gr_broker.proofs.Reading.{on_ok, each_set, part_is, seen_set}
+use Rattle.gr_broker.proofs.Twice.{second_log}
+
+-- Which of the two wakes it is
+
+-- where the publisher is here it is the host's
+pub wake_here_is : (net : Net) (p b now : ℕ) (v : View) (log : Log) → is_host net p b ≡ true → wake net p b now v log ≡ wake_host net p b now v log
+unfolding wake
+wake_here_is net p b now v log e = ap (λ (q : Bool). elim q [ true ↦ wake_host net p b now v log | false ↦ wake_below net p b now v log ]) e
+
+-- where it is elsewhere it is that of a broker below
+pub wake_below_is : (net : Net) (p b now : ℕ) (v : View) (log : Log) → is_host net p b ≡ false → wake net p b now v log ≡ wake_below net p b now v log
+unfolding wake
+wake_below_is net p b now v log e = ap (λ (q : Bool). elim q [ true ↦ wake_host net p b now v log | false ↦ wake_below net p b now v log ]) e
+
+-- What stands after a wake, seen otherwise
+pub leaves_by : {V W T : Type 0} (f : V → W) {b m w x y a : V} {b' m' w' x' y' a' : W} (r : Result T LogFault) → f b ≡ b' → f m ≡ m' → f w ≡ w' → f x ≡ x' → f y ≡ y' → f a ≡ a' →
+    WakeLeaves b m w x y a r → WakeLeaves b' m' w' x' y' a' r
+leaves_by f {b} {m} {w} {x} {y} {a} r eb em ew ex ey ea k = record {
+  ok = on_ok r (λ (e : a ≡ w). sym ea ∙ ap f e ∙ ew) k.ok;
+  memory = λ h. ⊎_elim (λ (e : a ≡ b). inl (sym ea ∙ ap f e ∙ eb)) (λ (e : a ≡ m). inr (sym ea ∙ ap f e ∙ em)) (k.memory h);
+  failed = λ h. ⊎_elim (λ (e : a ≡ x). inl (sym ea ∙ ap f e ∙ ex)) (λ (e : a ≡ y). inr (sym ea ∙ ap f e ∙ ey)) (k.failed h);
+  closed = λ h. sym ea ∙ ap f (k.closed h) ∙ eb;
+  never_damaged = k.never_damaged;
+}
+
+-- A log that is here, with a record or none, and then another
+
+logged_is : (l : LogView) (r : Option Record) → with_logged (Some l) r ≡ Some (logged l r)
+logged_is l None = refl
+logged_is l (Some r) = refl
+
+logged_twice : (l : LogView) (r s : Option Record) → with_logged (with_logged (Some l) r) s ≡ Some (logged (logged l r) s)
+logged_twice l r s = ap (λ o. with_logged o s) (logged_is l r) ∙ logged_is (logged l r) s
+
+-- two names of one log
+pub some_is : {l m : LogView} → ◌≡◌ {A = Option LogView} (Some l) (Some m) → l ≡ m
+some_is e = cc e
+
+-- A publisher that is here
+
+module _ (t : TopologyView) (p b now : ℕ) (v v' : View) (l l' : LogView) where
+  abbrev marks : Outcome
+  marks = marking (net_of t) p b now v (log_of l.records)
+
+  abbrev to_mark : Option Record
+  to_mark = quiet_logs l.records now t.settings.quiet
+
+  abbrev to_cut : Option Record
+  to_cut = cut_logs (net_of t) p b marks.view marks.log
+
+  abbrev LeftHere : {T : Type 0} → Result T LogFault → Type 0
+  LeftHere r = WakeLeaves (host_with v l) (host_with marks.view (logged l to_mark)) (host_with marks.view (logged (logged l to_mark) to_cut))
+      (host_with v (failed l)) (host_with marks.view (failed (logged l to_mark))) (host_with v' l') r
+
+  woken_view : is_host (net_of t) p b ≡ true → marks.view ≡ (part_wake t p b now (part_with v (Some l))).view
+  unfolding wake_host
+  woken_view host = sym (ap (λ (o : Outcome). o.view) (wake_here_is (net_of t) p b now v (log_of l.records) host))
+
+  -- what is kept then
+  pub here_leaves : {T : Type 0} (x : PartView) (r : Result T LogFault) → x ≡ part_with v (Some l) → is_host (net_of t) p b ≡ true → LeftHere r →
+      WakeLeaves x (part_marked t p b now x) (part_woken t p b now x) (part_failed x) (part_failed (part_marked t p b now x)) (part_with v' (Some l')) r
+  here_leaves x r e host k =
+      subst (λ (y : PartView). WakeLeaves y (part_marked t p b now y) (part_woken t p b now y) (part_failed y) (part_failed (part_marked t p b now y)) (part_with v' (Some l')) r) (sym e)
+      (leaves_by (λ (h : HostView). part_with h.view (Some h.log)) r refl (ap (part_with marks.view) (sym (logged_is l to_mark)))
+      (ap₂ part_with (woken_view host) (sym (logged_twice l to_mark to_cut))) refl
+      (ap (λ o. part_with marks.view (with_failed o)) (sym (logged_is l to_mark))) refl k)
+
+  -- its log is that of the machine
+  pub here_log : {T : Type 0} (x : PartView) (r : Result T LogFault) → x ≡ part_with v (Some l) → is_host (net_of t) p b ≡ true → 1 ≤ t.settings.quiet → LeftHere r →
+      OnOk r (let o : Outcome = part_wake t p b now x in log_of l'.records ≡ o.log)
+  here_log x r e host quiet k =
+      on_ok r (λ (h : host_with v' l' ≡ host_with marks.view (logged (logged l to_mark) to_cut)).
+      ap (λ (y : HostView). log_of y.log.records) h
+      ∙ second_log (net_of t) p b now v marks.view l (logged l to_mark) refl refl quiet
+      ∙ sym (ap (λ (o : Outcome). o.log) (wake_here_is (net_of t) p b now v (log_of l.records) host))
+      ∙ ap (λ (y : PartView). let o : Outcome = part_wake t p b now y in o.log) (sym e))
+      k.ok
+
+  -- the log stays on its lane
+  pub here_lane : {T : Type 0} (r : Result T LogFault) → LeftHere r → l'.lane ≡ l.lane
+  here_lane (Ok told) k = ap (λ (y : HostView). y.log.lane) k.ok
+  here_lane (Err fault.Memory) k = ⊎_elim (λ e. ap (λ (y : HostView). y.log.lane) e) (λ e. ap (λ (y : HostView). y.log.lane) e) (k.memory refl)
+  here_lane (Err fault.Disk) k = ⊎_elim (λ e. ap (λ (y : HostView). y.log.lane) e) (λ e. ap (λ (y : HostView). y.log.lane) e) (k.failed refl)
+  here_lane (Err fault.Reopen) k = ap (λ (y : HostView). y.log.lane) (k.closed refl)
+  here_lane (Err (fault.Damaged at)) k = absurd (k.never_damaged at refl)
+
+  -- what is told
+  pub here_told : (x : PartView) (r : Result Answer LogFault) → x ≡ part_with v (Some l) → is_host (net_of t) p b ≡ true →
+      IfOk r (λ told. Tells (wake_host (net_of t) p b now v (log_of l.records)) told) → IfOk r (λ told. Tells (part_wake t p b now x) told)
+  here_told x r e host k =
+      subst (λ (y : PartView). IfOk r (λ told. Tells (part_wake t p b now y) told)) (sym e)
+      (subst (λ (o : Outcome). IfOk r (λ told. Tells o told)) (sym (wake_here_is (net_of t) p b now v (log_of l.records) host)) k)
+
+  -- its lane
+  pub here_twice : {T : Type 0} (x : PartView) (r : Result T LogFault) (before after : ℕ → Lane) (m : LogView) (n : ℕ) → x ≡ part_with v (Some l) → x.log ≡ Some m → l.lane ≡ n →
+      AppendsTwice l to_mark to_cut (before l.lane) (after l.lane) r → AppendsTwice m (part_mark_logs t now x) (part_cut_logs t p b now x) (before n) (after n) r
+  here_twice x r before after m n e is lane k =
+      subst (λ (z : LogView). AppendsTwice z (part_mark_logs t now x) (part_cut_logs t p b now x) (before n) (after n) r) (some_is (sym (ap (λ (y : PartView). y.log) e) ∙ is))
+      (subst (λ (y : PartView). AppendsTwice l (part_mark_logs t now y) (part_cut_logs t p b now y) (before n) (after n) r) (sym e)
+      (subst (λ (j : ℕ). AppendsTwice l to_mark to_cut (before j) (after j) r) lane k))
+
+  -- when a broken log is appended to
+  pub here_reopen : {T : Type 0} (x : PartView) (r : Result T LogFault) → x ≡ part_with v (Some l) → (IsErrOf r fault.Reopen ↔ ((l.broken ≡ true) × (IsSome to_mark ⊎ IsSome to_cut))) →
+      IsErrOf r fault.Reopen ↔ ((is_broken x.log ≡ true) × (IsSome (part_mark_logs t now x) ⊎ IsSome (part_cut_logs t p b now x)))
+  here_reopen x r e k =
+      subst (λ (y : PartView). IsErrOf r fault.Reopen ↔ ((is_broken y.log ≡ true) × (IsSome (part_mark_logs t now y) ⊎ IsSome (part_cut_logs t p b now y)))) (sym e) k
+
+-- A publisher that is elsewhere
+
+-- there is no log
+pub no_log : (o : Option LogView) → is_some o ≡ false → o ≡ None
+no_log None e = refl
+no_log (Some l) e = absurd (false≢true (sym e))
+
+-- so none stands there
+pub no_some : {o : Option LogView} {l : LogView} → o ≡ None → o ≡ Some l → ⊥
+no_some {o} {l} none some = let e : ◌≡◌ {A = Option LogView} None (Some l) = sym none ∙ some in cc e
+
+module _ (t : TopologyView) (p b now : ℕ) (x : PartView) (host : is_host (net_of t) p b ≡ false) where
+  -- what is told
+  pub below_told : (told : Answer) → ((log : Log) → Tells (wake_below (net_of t) p b now x.view log) told) → Tells (part_wake t p b now x) told
+  below_told told k = subst (λ (o : Outcome). Tells o told) (sym (wake_below_is (net_of t) p b now x.view (log_said x.log) host)) (k (log_said x.log))
+
+  -- what is kept then
+  pub below_ok : {T : Type 0} (x' : PartView) (told : T) → x.log ≡ None → x'.log ≡ x.log →
+      ((log : Log) → let o : Outcome = wake_below (net_of t) p b now x.view log in x'.view ≡ o.view) →
+      WakeLeaves x (part_marked t p b now x) (part_woken t p b now x) (part_failed x) (part_failed (part_marked t p b now x)) x' (Ok told)
+  below_ok x' told none same view = record {
+    ok = ap₂ part_with (view (log_said x.log) ∙ sym (ap (λ (o : Outcome). o.view) (wake_below_is (net_of t) p b now x.view (log_said x.log) host)))
+        (same ∙ none ∙ sym (ap (λ o. with_logged (with_logged o (part_mark_logs t now x)) (part_cut_logs t p b now x)) none));
+    memory = λ h. absurd (cc h);
+    failed = λ h. absurd (cc h);
+    closed = λ h. absurd (cc h);
+    never_damaged = λ at h. cc h;
+  }
+
+  -- at want of memory all is as before
+  pub below_err : {T : Type 0} (x' : PartView) → x' ≡ x →
+      WakeLeaves {T = T} x (part_marked t p b now x) (part_woken t p b now x) (part_failed x) (part_failed (part_marked t p b now x)) x' (Err fault.Memory)
+  below_err x' e = record {
+    ok = tt;
+    memory = λ h. inl e;
+    failed = λ h. absurd (cc h);
+    closed = λ h. absurd (cc h);
+    never_damaged = λ at h. cc h;
+  }
+
+  -- no log is looked at
+  pub below_log : (o : Option LogView) → o ≡ x.log → log_said o ≡ (part_wake t p b now x).log
+  unfolding wake_below asking
+  below_log o e = ap log_said e ∙ sym (ap (λ (q : Outcome). q.log) (wake_below_is (net_of t) p b now x.view (log_said x.log) host))
+
+  -- and none is appended to
+  pub below_reopen : {T : Type 0} (r : Result T LogFault) {A : Type 0} → x.log ≡ None → (IsErrOf r fault.Reopen → ⊥) → IsErrOf r fault.Reopen ↔ ((is_broken x.log ≡ true) × A)
+  below_reopen r none never = (λ h. absurd (never h), λ h. absurd (false≢true (sym (ap is_broken none) ∙ h.0)))
+
+-- The broker, with one part put in place
+
+abbrev made : BrokerView → List View → List (Option LogView) → BrokerView
+made b vs ls = record { number = b.number; here = b.here; branches = b.branches; views = vs; logs = ls }
+
+module _ (b : BrokerView) (p : ℕ) (within : p < length b.logs) where
+  -- the part that it has
+  put_same : with_part b p (part_in b p) ≡ b
+  put_same = ap₂ (made b) (set-get_or b.views p blank_view) (set-get_or b.logs p None)
+
+  put_failed : with_part b p (part_failed (part_in b p)) ≡ broken_at b p
+  put_failed = ap (λ (vs : List View). made b vs (set b.logs p (with_failed (log_in b p)))) (set-get_or b.views p blank_view)
+
+  -- the log of a part that was put in place
+  pub log_put : (x : PartView) → log_in (with_part b p x) p ≡ x.log
+  log_put x = get_or-set_same b.logs p x.log None within
+
+  put_broken : (x : PartView) → with_part b p (part_failed x) ≡ broken_at (with_part b p x) p
+  put_broken x = ap (made b (set b.views p x.view)) (ap (λ o. set b.logs p (with_failed o)) (sym (log_put x)) ∙ sym (set-set b.logs p x.log (with_failed (log_in (with_part b p x) p))))
+
+  -- what stands after a wake
+  pub broker_leaves : (t : TopologyView) (now : ℕ) (b' : BrokerView) (x : PartView) {T : Type 0} (r : Result T LogFault) → with_part b p x ≡ b' →
+      (let y : PartView = part_in b p in let marked : PartView = part_marked t p b.number now y in
+      WakeLeaves y marked (part_woken t p b.number now y) (part_failed y) (part_failed marked) x r) →
+      WakeLeaves b (after_mark t b p now) (after_wake t b p now) (broken_at b p) (broken_at (after_mark t b p now) p) b' r
+  broker_leaves t now b' x r e k = leaves_by (with_part b p) r put_same refl refl put_failed (put_broken (part_marked t p b.number now (part_in b p))) e k
+
+  -- it is still a broker of its topology
+  pub broker_fits : (t : TopologyView) (x : PartView) → IsBrokerOf t b → p < length t.publishers → IsKept (net_of t) p b.number x.view → is_some x.log ≡ is_some (log_in b p) →
+      ((l : LogView) → x.log ≡ Some l → l.lane ≡ 2 * p) → IsBrokerOf t (with_part b p x)
+  broker_fits t x f lt kept hosted lanes = record {
+    number = f.number;
+    here = f.here;
+    branches = f.branches;
+    views = length-set b.views p x.view ∙ f.views;
+    logs = length-set b.logs p x.log ∙ f.logs;
+    kept = each_set (λ q v. IsKept (net_of t) q b.number v) b.views p x.view blank_view (length t.publishers) (omega (arith, lt, f.views)) f.kept kept;
+    hosted = each_set (λ q (o : Option LogView). is_some o ≡ is_host (net_of t) q b.number) b.logs p x.log None (length t.publishers) within f.hosted (hosted ∙ f.hosted p lt);
+    lanes = λ q l e. at q l e (cases_eq q p);
+  }
+    where
+      at : (q : ℕ) (l : LogView) → log_in (with_part b p x) q ≡ Some l → (q ≡ p) ⊎ (q ≢ p) → l.lane ≡ 2 * q
+      at q l e (inl same) = lanes l (sym (log_put x) ∙ ap (log_in (with_part b p x)) (sym same) ∙ e) ∙ ap (λ (n : ℕ). 2 * n) (sym same)
+      at q l e (inr other) = f.lanes q l (sym (get_or-set_other b.logs p q x.log None other) ∙ e)
+
+  -- and each log stands
+  pub broker_stands : (before after : ℕ → Lane) (x : PartView) → LogsStand before b → ((l : LogView) → x.log ≡ Some l → IsReady l (after (2 * p))) → ((n : ℕ) → n ≢ 2 * p → after n ≡ before n) → LogsStand after (with_part b p x)
+  broker_stands before after x old new others q l e = at (cases_eq q p)
+    where
+      at : (q ≡ p) ⊎ (q ≢ p) → IsReady l (after (2 * q))
+      at (inl same) = subst (λ (n : ℕ). IsReady l (after (2 * n))) (sym same) (new l (sym (log_put x) ∙ ap (log_in (with_part b p x)) (sym same) ∙ e))
+      at (inr other) = subst (IsReady l) (sym (others (2 * q) (λ h. other (omega (arith, h))))) (old q l (sym (get_or-set_other b.logs p q x.log None other) ∙ e))
+
+-- An answer of the log as one of the broker
+
+-- what holds of what came, of the log's answer, holds of it of the broker's
+pub ok_of : (r : Result Answer BrokerFault) (P : Answer → Type 0) → IfOk (log_answer r) P → IfOk r P
+ok_of (Ok told) P k = k
+ok_of (Err e) P k = k
+
+-- what holds where the log's call came through holds where the broker's did
+pub on_ok_of : (r : Result Answer BrokerFault) (P : Type 0) → OnOk (log_answer r) P → OnOk r P
+on_ok_of (Ok told) P k = k
+on_ok_of (Err e) P k = k
+
+-- both refuse a broken log at once
+pub reopen_of : (r : Result Answer BrokerFault) → IsErrOf r refused.Reopen ↔ IsErrOf (log_answer r) fault.Reopen
+reopen_of (Ok told) = (λ h. absurd (cc h), λ h. absurd (cc h))
+reopen_of (Err refused.Memory) = (λ h. absurd (cc h), λ h. absurd (cc h))
+reopen_of (Err refused.Disk) = (λ h. absurd (cc h), λ h. absurd (cc h))
+reopen_of (Err refused.Reopen) = (λ h. refl, λ h. refl)
+reopen_of (Err (refused.Damaged p at)) = (λ h. absurd (cc h), λ h. absurd (cc h))
+
+-- What is said of one part of one site is said of a broker's part, and of its answer
+pub moved : (P : TopologyView → ℕ → ℕ → PartView → Result Answer LogFault → Type 0) {t t' : TopologyView} {p p' b b' : ℕ} {x x' : PartView} {r r' : Result Answer LogFault} →
+    t' ≡ t → p' ≡ p → b' ≡ b → x' ≡ x → r' ≡ r → P t' p' b' x' r' → P t p b x r
+moved P {t} {t'} {p} {p'} {b} {b'} {x} {x'} {r} {r'} et ep eb ex er k =
+    subst (P t p b x) er (subst (λ (y : PartView). P t p b y r') ex (subst (λ (n : ℕ). P t p n x' r') eb
+    (subst (λ (n : ℕ). P t n b' x' r') ep (subst (λ (s : TopologyView). P s p' b' x' r') et k))))
+
+-- A broker by its seat
+
+module _ (s : Seat) (held : List Held) (p : ℕ) where
+  -- what is kept at a publisher's place is the broker's part of it
+  pub seen_part : (h : Held) → p < length (map held_view held) → h ≡ get_or held p h → part_of h ≡ part_in (broker_at s held) p
+  seen_part h within e =
+      let lt : p < length held = omega (arith, within, length-map held held_view) in
+      ap₂ part_with (part_is s.number s.here.now s.edges.now s.positions.now held p h lt e) (ap (λ (y : Held). y.log) e ∙ sym (get_or-map (λ (y : Held). y.log) held p h None lt))
+
+  -- what is put at its place is that part exchanged
+  pub seen_put : (h : Held) → with_part (broker_at s held) p (part_of h) ≡ broker_at s (set held p h)
+  seen_put h = ap₂ (made (broker_at s held)) (sym (seen_set held_view held p h)) (sym (seen_set (λ (y : Held). y.log) held p h))
+
+  -- and so is its log
+  pub log_seen : (h : Held) → p < length (broker_at s held).logs → h.log ≡ log_in (broker_at s (set held p h)) p
+  log_seen h within = sym (log_put (broker_at s held) p within (part_of h)) ∙ ap (λ (b : BrokerView). log_in b p) (seen_put h)
+
+-- the lane of a publisher that is here
+pub twice_at : (b : BrokerView) (p : ℕ) (first second : Option Record) (before after : ℕ → Lane) (r : Result Answer LogFault) →
+    ((l : LogView) → log_in b p ≡ Some l → AppendsTwice l first second (before (2 * p)) (after (2 * p)) r) → AppendsTwiceAt b p first second before after r
+twice_at b p first second before after r k = go (log_in b p) k
+  where
+    go : (o : Option LogView) → ((l : LogView) → o ≡ Some l → AppendsTwice l first second (before (2 * p)) (after (2 * p)) r) →
+        elim o as (λ _. Type 0) [ Some l ↦ AppendsTwice l first second (before (2 * p)) (after (2 * p)) r | None ↦ Unit {0} ]
+    go None h = tt
+    go (Some l) h = h l refl

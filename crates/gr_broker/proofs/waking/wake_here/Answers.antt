@@ -1,0 +1,72 @@
+-- The log is taken out and put back
+use Rattle.std.proofs.Common.{◌≡◌, ℕ, ◌*◌, Some, sym, ap, ◌∙◌, subst}
+use Rattle.gr_publog.specs.Crash.{LogView}
+use Rattle.gr_publog.specs.Calls.{IsReady, Causes}
+use Rattle.gr_broker.specs.Held.{held_view}
+use Rattle.gr_broker.specs.Parts.{part_of, part_with}
+use Rattle.gr_broker.proofs.Woken.{some_is, here_leaves, here_log, here_lane, here_told, here_twice, here_reopen}
+use Rattle.gr_broker.proofs.waking.wake_here.Given.{Over}
+use Rattle.gr_broker.proofs.waking.wake_here.Goals as goal
+
+log_is : (g : Over) (c : goal.Joined-part g) → c.args.part.now.log ≡ Some c.in-Some.log
+log_is g c = sym c.take.ensures.value ∙ c.in-Some.is
+
+part_is : (g : Over) (c : goal.Joined-part g) → part_of c.args.part.now ≡ part_with (held_view c.args.part.now) (Some c.in-Some.log)
+part_is g c = ap (part_with (held_view c.args.part.now)) (log_is g c)
+
+old_lane : (g : Over) (c : goal.Joined-part g) → c.in-Some.log.lane ≡ 2 * c.args.site.now.publisher
+old_lane g c = c.requires.lanes c.in-Some.log (log_is g c)
+
+new_lane : (g : Over) (c : goal.Joined-part g) → c.wake_host-answer.new.log.lane ≡ 2 * c.args.site.now.publisher
+new_lane g c =
+    let s = c.args.site.now in
+    here_lane s.topo.now s.publisher s.broker c.args.now (held_view c.args.part.now) (held_view c.wake_host-answer.new.held) c.in-Some.log c.wake_host-answer.new.log
+    c.wake_host-answer.result c.wake_host-answer.ensures.leaves
+    ∙ old_lane g c
+
+pub returns-clause-told : goal.returns-clause-told
+returns-clause-told g c =
+    let s = c.args.site.now in
+    here_told s.topo.now s.publisher s.broker c.args.now (held_view c.args.part.now) (held_view c.wake_host-answer.new.held) c.in-Some.log c.wake_host-answer.new.log
+    (part_of c.args.part.now) c.wake_host-answer.result (part_is g c) c.requires.host c.wake_host-answer.ensures.told
+
+pub returns-clause-leaves : goal.returns-clause-leaves
+returns-clause-leaves g c =
+    let s = c.args.site.now in
+    here_leaves s.topo.now s.publisher s.broker c.args.now (held_view c.args.part.now) (held_view c.wake_host-answer.new.held) c.in-Some.log c.wake_host-answer.new.log
+    (part_of c.args.part.now) c.wake_host-answer.result (part_is g c) c.requires.host c.wake_host-answer.ensures.leaves
+
+pub returns-clause-log : goal.returns-clause-log
+returns-clause-log g c =
+    let s = c.args.site.now in
+    here_log s.topo.now s.publisher s.broker c.args.now (held_view c.args.part.now) (held_view c.wake_host-answer.new.held) c.in-Some.log c.wake_host-answer.new.log
+    (part_of c.args.part.now) c.wake_host-answer.result (part_is g c) c.requires.host c.settings.ensures.topology.sound.settings.quiet.0 c.wake_host-answer.ensures.leaves
+
+pub returns-clause-lanes : goal.returns-clause-lanes
+returns-clause-lanes g c = λ l e. ap (λ (y : LogView). y.lane) (sym (some_is e)) ∙ new_lane g c
+
+pub returns-clause-lane : goal.returns-clause-lane
+returns-clause-lane g c = λ tells l e.
+    let s = c.args.site.now in
+    here_twice s.topo.now s.publisher s.broker c.args.now (held_view c.args.part.now) (held_view c.wake_host-answer.new.held) c.in-Some.log c.wake_host-answer.new.log
+    (part_of c.args.part.now) c.wake_host-answer.result (g.D.Disk.lane_of c.args.disk.now) (g.D.Disk.lane_of c.wake_host-answer.new.disk) l (2 * s.publisher)
+    (part_is g c) e (old_lane g c) (c.wake_host-answer.ensures.lane tells)
+
+pub returns-clause-reopen : goal.returns-clause-reopen
+returns-clause-reopen g c =
+    let s = c.args.site.now in
+    here_reopen s.topo.now s.publisher s.broker c.args.now (held_view c.args.part.now) (held_view c.wake_host-answer.new.held) c.in-Some.log c.wake_host-answer.new.log
+    (part_of c.args.part.now) c.wake_host-answer.result (part_is g c) c.wake_host-answer.ensures.reopen
+
+pub returns-clause-causes : goal.returns-clause-causes
+returns-clause-causes g c = λ tells.
+    subst (λ (n : ℕ). Causes (g.D.Disk.faultless c.args.disk.now) (g.D.Disk.lane_of c.wake_host-answer.new.disk n) (g.D.Disk.faults c.args.disk.now) (g.D.Disk.faults c.wake_host-answer.new.disk) c.wake_host-answer.result)
+    (old_lane g c) (c.wake_host-answer.ensures.causes tells)
+
+pub returns-clause-others : goal.returns-clause-others
+returns-clause-others g c = λ tells n other. c.wake_host-answer.ensures.others tells n (λ e. other (e ∙ old_lane g c))
+
+pub returns-clause-stands : goal.returns-clause-stands
+returns-clause-stands g c = λ tells l e.
+    subst (λ (m : LogView). IsReady m (g.D.Disk.lane_of c.wake_host-answer.new.disk (2 * c.args.site.now.publisher))) (some_is e)
+    (subst (λ (n : ℕ). IsReady c.wake_host-answer.new.log (g.D.Disk.lane_of c.wake_host-answer.new.disk n)) (new_lane g c) (c.wake_host-answer.ensures.stands tells))

@@ -1,0 +1,43 @@
+-- What a host's wake logs and tells: the ticks of its mark and of its cut, their lines, and what children are to expect
+use Rattle.std.specs.Prelude.{ℕ, nat_lt, if◌then◌else◌, List, [], ◌∷◌, Option, Some, None}
+use Rattle.gr_frame.specs.declared.Frame.{Frame}
+use Rattle.gr_curio.specs.Values.{Wanted}
+use Rattle.gr_publog.specs.Crash.{LogView}
+use Rattle.gr_pubend.specs.declared.answers.Quieted.{Quieted}
+use Rattle.gr_pubend.specs.declared.answers.Quieted.TheVariants.{NotYet, Marked}
+use Rattle.gr_model.specs.declared.report.Report.{Report}
+use Rattle.gr_model.specs.declared.report.Report.TheVariants as line
+use Rattle.gr_model.specs.Net.{Net, keeps_horizon}
+use Rattle.gr_model.specs.Broker.{View, Log, consolidated, done_upto, expect_frames}
+
+-- the tick at which a time of silence is marked
+abbrev pub tick_marked : Quieted → Option ℕ
+tick_marked (Marked tick fresh) = Some tick
+tick_marked NotYet = None
+
+-- the tick up to which a log is cut: that up to which all is consolidated, where that is past the last cut
+abbrev pub tick_cut : Net → ℕ → ℕ → View → Log → Option ℕ
+tick_cut net p b v log =
+    let tick : ℕ = done_upto (consolidated (keeps_horizon net p b) v.horizon v.wants) log.settled in
+    if nat_lt log.cut tick then Some tick else None
+
+-- the line of a mark, and that of a cut
+abbrev pub mark_lines : ℕ → Option ℕ → List Report
+mark_lines p None = []
+mark_lines p (Some tick) = line.Mark p tick ∷ []
+
+abbrev pub cut_lines : ℕ → Option ℕ → List Report
+cut_lines p None = []
+cut_lines p (Some tick) = line.Cut p tick ∷ []
+
+-- what the children are to expect, once something is settled
+abbrev pub expected_frames : ℕ → ℕ → ℕ → List ℕ → List Wanted → List Frame
+expected_frames p b settled cs ws = if nat_lt 0 settled then expect_frames p b settled cs ws else []
+
+-- what is kept of a publisher that is here
+pub record HostView : Type 0 where
+  pub view : View
+  pub log : LogView
+
+abbrev pub host_with : View → LogView → HostView
+host_with v l = record { view = v; log = l }

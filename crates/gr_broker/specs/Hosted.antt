@@ -1,0 +1,101 @@
+-- A publisher's calls at its host: what is logged, told and kept
+use Rattle.std.specs.Prelude.{◌≡◌, ◌≢◌, ◌⊎◌, ℕ, ◌*◌, false, nat_lt, if◌then◌else◌, List, Option, Some, None, Result, Err, IsErrOf, OnOk}
+use Rattle.gr_event.specs.declared.event.Event.{Event}
+use Rattle.gr_out.specs.Lane.{Lane, moment, LeftSince}
+use Rattle.gr_publog.specs.declared.record.Record.{Record}
+use Rattle.gr_publog.specs.declared.record.Record.TheVariants as entry
+use Rattle.gr_publog.specs.declared.record.LogFault.{LogFault}
+use Rattle.gr_publog.specs.declared.record.LogFault.TheVariants as fault
+use Rattle.gr_publog.specs.Crash.{LogView}
+use Rattle.gr_publog.specs.Calls.{Appends, Reads, records_with}
+use Rattle.gr_pubend.specs.Answers.{published, quieted, event_of, mark_of}
+use Rattle.gr_topo.specs.Topology.{TopologyView}
+use Rattle.gr_model.specs.Net.{Net, keeps_horizon}
+use Rattle.gr_model.specs.NetOf.{net_of}
+use Rattle.gr_model.specs.Broker.{View, Log, Outcome as MachineOutcome, publish, marking, wake, consolidated, done_upto}
+use Rattle.gr_broker.specs.Seen.{BrokerView, view_in, log_in, machine_log, with_view, with_log, with_logged, logged_at}
+
+-- A publish
+
+-- the machine's call
+abbrev pub publish_at : TopologyView → BrokerView → ℕ → ℕ → ℕ → Event → MachineOutcome
+publish_at t b p now number e = publish (net_of t) p b.number now number e (view_in b p) (machine_log b p)
+
+-- the record that it logs, or none
+abbrev pub publish_logs_at : BrokerView → ℕ → ℕ → ℕ → Event → Option Record
+publish_logs_at b p now number e = event_of (published (machine_log b p) number e now) number e
+
+-- the broker after it
+abbrev pub after_publish : TopologyView → BrokerView → ℕ → ℕ → ℕ → Event → BrokerView
+after_publish t b p now number e =
+    let o : MachineOutcome = publish_at t b p now number e in logged_at b p (publish_logs_at b p now number e) o.view
+
+-- A wake: a mark, and then a cut
+
+abbrev pub wake_at : TopologyView → BrokerView → ℕ → ℕ → MachineOutcome
+wake_at t b p now = wake (net_of t) p b.number now (view_in b p) (machine_log b p)
+
+abbrev pub mark_at : TopologyView → BrokerView → ℕ → ℕ → MachineOutcome
+mark_at t b p now = marking (net_of t) p b.number now (view_in b p) (machine_log b p)
+
+-- the record of the mark, or none; that of the cut at what is kept, or none
+abbrev pub mark_logs_at : TopologyView → BrokerView → ℕ → ℕ → Option Record
+mark_logs_at t b p now = mark_of (quieted (machine_log b p) now t.settings.quiet)
+
+abbrev pub cut_logs : Net → ℕ → ℕ → View → Log → Option Record
+cut_logs net p b v log =
+    let tick : ℕ = done_upto (consolidated (keeps_horizon net p b) v.horizon v.wants) log.settled in
+    if nat_lt log.cut tick then Some (entry.Cut tick) else None
+
+abbrev pub cut_logs_at : TopologyView → BrokerView → ℕ → ℕ → Option Record
+cut_logs_at t b p now = let o : MachineOutcome = mark_at t b p now in cut_logs (net_of t) p b.number o.view o.log
+
+-- the broker after the mark, and after the whole call
+abbrev pub after_mark : TopologyView → BrokerView → ℕ → ℕ → BrokerView
+after_mark t b p now = let o : MachineOutcome = mark_at t b p now in logged_at b p (mark_logs_at t b p now) o.view
+
+abbrev pub after_wake : TopologyView → BrokerView → ℕ → ℕ → BrokerView
+after_wake t b p now =
+    let o : MachineOutcome = wake_at t b p now in
+    let marked : Option LogView = with_logged (log_in b p) (mark_logs_at t b p now) in
+    let log : Option LogView = with_logged marked (cut_logs_at t b p now) in
+    with_view (with_log b p log) p o.view
+
+-- The lane of a publisher
+
+-- what a call that logs a record, or none, does to the lane of a publisher that is here
+abbrev pub AppendsAt : {T : Type 0} → BrokerView → ℕ → Option Record → (ℕ → Lane) → (ℕ → Lane) → Result T LogFault
+    → Type 0
+AppendsAt b p logged before after result =
+    elim (log_in b p) [ Some l ↦ Appends l logged (before (2 * p)) (after (2 * p)) result | None ↦ Unit {0} ]
+
+-- a log with a further record, or none
+abbrev pub logged : LogView → Option Record → LogView
+logged l r = record { lane = l.lane; records = records_with l.records r; broken = l.broken }
+
+-- What a call does to a lane that logs one record or none, and then another or none.
+pub record AppendsTwice {T : Type 0} (l : LogView) (first second : Option Record) (before after : Lane)
+    (result : Result T LogFault) : Type 0 where
+  pub between : Lane
+  pub answer : Result (Unit {0}) LogFault  -- of the first
+  pub one : Appends l first before between answer
+  pub stops : (e : LogFault) → answer ≡ Err e → (after ≡ between) × (result ≡ Err e)
+  pub two : OnOk answer (Appends (logged l first) second between after result)
+  -- at every moment of the call a crash leaves the list before, with the first record, or with both
+  pub any_moment : l.broken ≡ false → (image : List ℕ) → LeftSince after (moment before) image
+      → Reads l.records first image ⊎ Reads (records_with l.records first) second image
+
+abbrev pub AppendsTwiceAt : {T : Type 0} → BrokerView → ℕ → Option Record → Option Record → (ℕ → Lane) → (ℕ → Lane)
+    → Result T LogFault → Type 0
+AppendsTwiceAt b p first second before after result =
+    elim (log_in b p) [ Some l ↦ AppendsTwice l first second (before (2 * p)) (after (2 * p)) result | None ↦ Unit {0} ]
+
+-- What stands after a wake, by its answer: after a fault all is as before, or as after the mark; where the disk failed,
+-- that log has to be opened again
+pub record WakeLeaves {V T : Type 0} (before marked woken broken marked_broken after : V)
+    (result : Result T LogFault) : Type 0 where
+  pub ok : OnOk result (after ≡ woken)
+  pub memory : IsErrOf result fault.Memory → (after ≡ before) ⊎ (after ≡ marked)
+  pub failed : IsErrOf result fault.Disk → (after ≡ broken) ⊎ (after ≡ marked_broken)
+  pub closed : IsErrOf result fault.Reopen → after ≡ before
+  pub never_damaged : (at : ℕ) → result ≢ Err (fault.Damaged at)

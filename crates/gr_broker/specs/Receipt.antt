@@ -1,0 +1,71 @@
+-- What a datagram is answered
+use Rattle.std.specs.Prelude.{◌≡◌, ℕ, Bool, true, false, nat_eq, List, Result, Ok, Err, Option, Some, None}
+use Rattle.std.specs.List.{list_any}
+use Rattle.gr_frame.specs.declared.fault.FrameFault.{FrameFault}
+use Rattle.gr_frame.specs.declared.Head.{Head}
+use Rattle.gr_frame.specs.declared.Body.TheVariants as body
+use Rattle.gr_frame.specs.declared.Frame.{Frame}
+use Rattle.gr_know.specs.declared.values.K.{K}
+use Rattle.gr_know.specs.declared.values.K.TheVariants.{Q}
+use Rattle.gr_know.specs.Values.{known_at}
+use Rattle.gr_model.specs.Net.{Net}
+use Rattle.gr_model.specs.Broker.{View, Outcome as MachineOutcome, empty_log, receive}
+use Rattle.gr_model.specs.Arrivals.{fits_broker, least_clash}
+use Rattle.gr_broker.specs.declared.outcome.Received.{Received}
+use Rattle.gr_broker.specs.declared.outcome.Received.TheVariants as answer
+use Rattle.gr_broker.specs.declared.outcome.Dropped.TheVariants as dropped
+use Rattle.gr_broker.specs.Seen.{BrokerView, view_in, with_view}
+use Rattle.gr_broker.specs.Told.{Tells}
+
+-- it is no frame, or it does not fit, or it clashes at a tick with what is kept there; or it is taken
+pub data Receipt : Type 0 where
+  no_frame : FrameFault → Receipt
+  stray : Head → Receipt
+  clash : ℕ → K → K → Receipt
+  taken : MachineOutcome → Receipt
+
+-- a frame comes over an edge: curiosity from a child, all else from the next broker towards the host
+abbrev pub comes_over : Option ℕ → List ℕ → Frame → Bool
+comes_over up children f = elim f.body [
+  | body.Curiosity runs ↦ list_any (λ x. nat_eq x f.head.from) children
+  | _ ↦ elim up [ Some u ↦ nat_eq u f.head.from | None ↦ false ]
+]
+
+-- what a frame says of a tick
+abbrev pub came_at : Frame → ℕ → K
+came_at f t = elim f.body [ body.Knowledge runs ↦ known_at runs t | _ ↦ Q ]
+
+-- a frame that fits clashes with what is kept, or is taken: the machine's call, by which the log passes untouched
+unfoldable pub receipt_of_fit : Net → ℕ → View → Frame → Receipt
+receipt_of_fit net now v f =
+    elim (least_clash v.know f) [
+      | Some t ↦ clash t (known_at v.know t) (came_at f t)
+      | None ↦ taken (receive net now f v empty_log)
+    ]
+
+-- first decode, then fit, then clash
+unfoldable pub receipt : Net → ℕ → BrokerView → Result Frame FrameFault → Receipt
+receipt net now b (Err fault) = no_frame fault
+receipt net now b (Ok f) =
+    elim (fits_broker net b.number f) [
+      | false ↦ stray f.head
+      | true ↦ receipt_of_fit net now (view_in b f.head.publisher) f
+    ]
+
+-- what is kept of the publisher after it
+abbrev pub view_after : Receipt → View → View
+view_after (taken o) v = o.view
+view_after _ v = v
+
+-- the broker after it
+abbrev pub after_receipt : Result Frame FrameFault → Receipt → BrokerView → BrokerView
+after_receipt (Ok f) (taken o) b = with_view b f.head.publisher o.view
+after_receipt _ _ b = b
+
+-- the answer is this receipt
+abbrev pub Answers : Received → Receipt → Type 0
+Answers (answer.Taken told) (taken o) = Tells o told
+Answers (answer.Dropped (dropped.NotFrame fault)) (no_frame f) = fault ≡ f
+Answers (answer.Dropped (dropped.Stray head)) (stray h) = head ≡ h
+Answers (answer.Dropped (dropped.Clash c)) (clash t kept came) = (c.tick ≡ t) × (c.kept ≡ kept) × (c.came ≡ came)
+Answers _ _ = ⊥

@@ -1,0 +1,86 @@
+-- What a contract sees of a broker
+use Rattle.std.specs.Prelude.{ℕ, ◌<◌, Bool, false, List, length, get_or, set, Option, Some, None, IsSome}
+use Rattle.gr_filter.specs.Tree.{Tree}
+use Rattle.gr_publog.specs.declared.record.Record.{Record}
+use Rattle.gr_publog.specs.Crash.{LogView, with_record, failed}
+use Rattle.gr_pubend.specs.Log.{Log, log_of, empty_log}
+use Rattle.gr_model.specs.Broker.{View}
+use Rattle.gr_model.specs.World.{blank_view}
+
+-- where a broker stands in a publisher's tree
+pub record Branch : Type 0 where
+  pub host : Bool  -- whether the publisher is here
+  pub up : Option ℕ  -- the next broker towards the host; the host has none
+  pub keeps : Bool  -- whether a horizon is kept
+  pub children : List ℕ  -- the next brokers away from the host, in order
+  pub edges : List (List (Option Tree))  -- for each child the filters of the subscribers at it and beyond
+
+-- A broker: what it keeps of each publisher is the machine's view, and where the publisher is here, its log
+pub record BrokerView : Type 0 where
+  pub number : ℕ
+  pub here : List ℕ  -- the subscribers at it
+  pub branches : List Branch  -- for each publisher
+  pub views : List View  -- for each publisher
+  pub logs : List (Option LogView)  -- for each publisher; None where it is elsewhere
+
+-- what is kept of a publisher
+abbrev pub view_in : BrokerView → ℕ → View
+view_in b p = get_or b.views p blank_view
+
+-- the log of a publisher that is here
+abbrev pub log_in : BrokerView → ℕ → Option LogView
+log_in b p = get_or b.logs p None
+
+-- the machine's log of these records; where the publisher is elsewhere no log is looked at
+abbrev pub log_said : Option LogView → Log
+log_said None = empty_log
+log_said (Some l) = log_of l.records
+
+abbrev pub machine_log : BrokerView → ℕ → Log
+machine_log b p = log_said (log_in b p)
+
+-- the broker with what it keeps of one publisher exchanged, and with a log exchanged
+abbrev pub with_view : BrokerView → ℕ → View → BrokerView
+with_view b p v = record {
+  number = b.number;
+  here = b.here;
+  branches = b.branches;
+  views = set b.views p v;
+  logs = b.logs;
+}
+
+abbrev pub with_log : BrokerView → ℕ → Option LogView → BrokerView
+with_log b p l = record {
+  number = b.number;
+  here = b.here;
+  branches = b.branches;
+  views = b.views;
+  logs = set b.logs p l;
+}
+
+-- a log with a further record, or none
+abbrev pub with_logged : Option LogView → Option Record → Option LogView
+with_logged None r = None
+with_logged (Some l) None = Some l
+with_logged (Some l) (Some r) = Some (with_record r l)
+
+-- a log that the disk failed
+abbrev pub with_failed : Option LogView → Option LogView
+with_failed None = None
+with_failed (Some l) = Some (failed l)
+
+abbrev pub is_broken : Option LogView → Bool
+is_broken None = false
+is_broken (Some l) = l.broken
+
+-- the broker whose log of a publisher the disk failed
+abbrev pub broken_at : BrokerView → ℕ → BrokerView
+broken_at b p = with_log b p (with_failed (log_in b p))
+
+-- the broker once a record was logged, or none, and this is kept
+abbrev pub logged_at : BrokerView → ℕ → Option Record → View → BrokerView
+logged_at b p logged v = with_view (with_log b p (with_logged (log_in b p) logged)) p v
+
+-- the publisher is at the broker
+abbrev pub IsHosted : BrokerView → ℕ → Type 0
+IsHosted b p = (p < length b.logs) × IsSome (log_in b p)

@@ -1,0 +1,297 @@
+//! One broker of a topology.
+
+ghost use Rattle.std.specs.Prelude.{◌≡◌, ◌≢◌, ◌↔◌, ◌⊎◌, ℕ, ◌*◌, ◌^◌, ◌<◌, ◌≤◌, true, List, length, Option, Some, None, Result, Err, IsSome, IfOk, OnOk, OnErr, IsErrOf};
+ghost use Rattle.gr_frame.specs.Decode.{frame_decoded};
+ghost use Rattle.gr_out.specs.Lane.{content, moment, has_stopped, MayLeave, LeftSince};
+ghost use Rattle.gr_out.specs.Stops.{StaysFaultless};
+ghost use Rattle.gr_publog.specs.Text.{log_text};
+ghost use Rattle.gr_publog.specs.Crash.{LogView, EitherRose};
+ghost use Rattle.gr_publog.specs.Calls.{Tally, Causes, Leaves};
+ghost use Rattle.gr_model.specs.Net.{is_host};
+ghost use Rattle.gr_model.specs.NetOf.{net_of};
+ghost use Rattle.gr_model.specs.Broker.{Outcome as MachineOutcome};
+ghost use Rattle.gr_broker.specs.Seen.{view_in, log_in, machine_log, is_broken, broken_at, IsHosted};
+ghost use Rattle.gr_broker.specs.Of.{IsBrokerOf, LogsStand};
+ghost use Rattle.gr_broker.specs.Told.{Tells, log_answer};
+ghost use Rattle.gr_broker.specs.Hosted.{publish_at, publish_logs_at, after_publish, wake_at, mark_logs_at, cut_logs_at, after_mark, after_wake, AppendsAt, AppendsTwiceAt, WakeLeaves};
+ghost use Rattle.gr_broker.specs.Receipt.{receipt, after_receipt, Answers};
+ghost use Rattle.gr_broker.specs.Opened.{StartsOver, OpensLanes, LosesNothing, IsDamagedAt};
+
+use crate::held::Held;
+use crate::outcome::{BrokerFault, Memory, Outcome, Received};
+use crate::place::{Position, positions_at};
+use crate::publishing::publish_in;
+use crate::receiving::receive;
+use crate::site::Seat;
+use crate::starting::{fault_at, open_publishers};
+use crate::waking::wake;
+use gr_edge::Edge;
+use gr_event::{Event, Numbers};
+use gr_frame::Frames;
+use gr_out::Disk;
+use gr_publog::Log;
+use gr_topo::Topology;
+use std::alloc::{AllocError, Global};
+use std::marker::Model;
+
+/// A broker, seen as its number, the subscribers at it, where it stands in each publisher's tree, what it keeps of each
+/// publisher, and the logs of the publishers that are here.
+#[derive(Drop)]
+pub struct Broker {
+    alloc: Global,
+    number: u16,
+    here: Numbers,
+    edges: Vec<Edge>,
+    positions: Vec<Position>,
+    held: Vec<Held>,
+}
+
+impl Model for Broker {
+    ghost use Rattle.std.specs.Prelude.{◌≡◌, map};
+    ghost use Rattle.std.specs.List.{AllByRecursion};
+    ghost use Rattle.std.specs.Coded.{codes};
+    ghost use Rattle.gr_topo.specs.TreeCode.{tree_code};
+    ghost use Rattle.gr_filter.specs.contracts.node.Operand as operand;
+    ghost use Rattle.gr_filter.specs.contracts.node.Sign as sign;
+    ghost use Rattle.gr_broker.specs.Seen.{BrokerView};
+    ghost use Rattle.gr_broker.specs.Held.{held_view, seen_branch, HasEdges};
+
+    ghost Value = { BrokerView };
+
+    ghost coded = { Prim.hlevel (codes, tree_code operand.the_row.coded sign.the_row.coded) };
+
+    ghost view = { λ b. record {
+      number = b.number;
+      here = b.here;
+      branches = map (seen_branch b.edges.items) b.positions.items;
+      views = map held_view b.held.items;
+      logs = map (λ h. h.log) b.held.items;
+    } };
+
+    ghost invariant = { λ b. AllByRecursion (HasEdges b.edges.items) b.positions.items };
+}
+
+/// A broker that has started, and what that tells.
+#[derive(Drop)]
+pub struct Started {
+    pub broker: Broker,
+    pub outcome: Outcome,
+}
+
+impl Broker {
+    /// Starts a broker: the logs of the publishers that are here are opened, publisher by publisher in order, publisher
+    /// `p` on lane `2 * p`. What is known is what the logs say; nothing is asked, and each horizon is 0. Where a
+    /// publisher and a subscriber are both here, the horizon moves at once to what is settled, and the subscriber gets
+    /// what its filter matches past the cut. Nothing is sent.
+    ///
+    /// `Damaged` names the first publisher that is here and whose lane holds no log, and `Disk` comes only where the
+    /// disk failed in this call. `Reopen` never comes. After a fault no lane has lost anything.
+    pub fn start<D: Disk>(
+        alloc: Global,
+        topo: &Topology,
+        number: u16,
+        disk: &mut D,
+    ) -> Result<Started, BrokerFault>
+        requires { number < length topo.now.brokers }
+        ensures starts { IfOk result (λ s. StartsOver topo.now number s.broker s.outcome) }
+        ensures opens { D.tells → IfOk result (λ s. OpensLanes s.broker (D.lane_of disk.old) (D.lane_of disk.new)) }
+        ensures damaged { D.tells → (p at : ℕ) → result ≡ Err (BrokerFault.Damaged p at)
+            → IsDamagedAt topo.now number p at (D.lane_of disk.old) }
+        ensures never_reopen { result ≢ Err BrokerFault.Reopen }
+        ensures stands { D.tells → IfOk result (λ s. LogsStand (D.lane_of disk.new) s.broker) }
+        // The lanes of publishers that are elsewhere stay as they are
+        ensures others { D.tells → (n : ℕ)
+            → ((p : ℕ) → p < length topo.now.publishers → is_host (net_of topo.now) p number ≡ true → n ≢ 2 * p)
+            → D.lane_of disk.new n ≡ D.lane_of disk.old n }
+        // At every moment a crash leaves of a lane what it might have left before, or what reads as before
+        ensures any_moment { D.tells → (p : ℕ) → p < length topo.now.publishers
+            → is_host (net_of topo.now) p number ≡ true
+            → LosesNothing (D.lane_of disk.old (2 * p)) (D.lane_of disk.new (2 * p)) }
+        ensures tally { let f = D.faults disk.old in let s = D.stops disk.old in
+            Tally f s (D.faults disk.new) (D.stops disk.new) (log_answer result) }
+        // On a faultless disk only a lane that was stopped makes it fail
+        ensures by_stop { D.tells → D.faultless disk.old → IsErrOf result BrokerFault.Disk
+            → (p : ℕ) × (has_stopped (D.lane_of disk.new (2 * p)).stop ≡ true) }
+        ensures faultless { let f = D.faults disk.old in
+            StaysFaultless (D.faultless disk.old) (D.faultless disk.new) f (D.faults disk.new) }
+    {
+        let here = match topo.subscribers_at(alloc, number) {
+            Ok(here) => here,
+            Err(_) => return Err(BrokerFault::Memory),
+        };
+        let placed = match positions_at(alloc, topo, number) {
+            Ok(placed) => placed,
+            Err(_) => return Err(BrokerFault::Memory),
+        };
+        let opened = match open_publishers(alloc, topo, number, here.as_slice(), &placed, disk) {
+            Ok(opened) => opened,
+            Err(fault) => return Err(fault),
+        };
+        Ok(Started {
+            broker: Broker {
+                alloc,
+                number,
+                here,
+                edges: placed.edges,
+                positions: placed.positions,
+                held: opened.held,
+            },
+            outcome: Outcome {
+                reports: opened.lines,
+                frames: Frames::new(alloc),
+            },
+        })
+    }
+
+    /// Publishes an event under a number, at the moment `now` in milliseconds, for a publisher that is here: the
+    /// machine's publish. The event is told and sent only once it is synced in the log.
+    ///
+    /// `Memory` leaves the broker and what the disk holds as they were. `Disk` comes only where the disk failed in this
+    /// call; what is kept is as before, nothing was sent, and the log answers `Reopen` from then on to each call that
+    /// would append to it. `Damaged` never comes.
+    pub fn publish<D: Disk>(
+        &mut self,
+        topo: &Topology,
+        disk: &mut D,
+        p: u16,
+        number: u64,
+        event: &Event,
+        now: u64,
+    ) -> Result<Outcome, BrokerFault>
+        requires fits { IsBrokerOf topo.now self.old }
+        requires hosted { IsHosted self.old p }
+        requires now { now ≤ 2 ^ 62 }
+        requires stands { D.tells → LogsStand (D.lane_of disk.old) self.old }
+        // What is told and sent, and what is kept: the machine's publish
+        ensures told { IfOk result (λ told. Tells (publish_at topo.now self.old p now number event.now) told) }
+        ensures leaves { let after = after_publish topo.now self.old p now number event.now in
+            Leaves self.old after (broken_at self.old p) self.new (log_answer result) }
+        ensures log { OnOk result (let o : MachineOutcome = publish_at topo.now self.old p now number event.now in
+            machine_log self.new p ≡ o.log) }
+        ensures fits { IsBrokerOf topo.now self.new }
+        // The disk: one record, or none
+        ensures lane { D.tells → AppendsAt self.old p (publish_logs_at self.old p now number event.now)
+            (D.lane_of disk.old) (D.lane_of disk.new) (log_answer result) }
+        ensures reopen { IsErrOf result BrokerFault.Reopen
+            ↔ ((is_broken (log_in self.old p) ≡ true) × IsSome (publish_logs_at self.old p now number event.now)) }
+        ensures idle { IsErrOf result BrokerFault.Reopen → disk.new ≡ disk.old }
+        ensures untouched { publish_logs_at self.old p now number event.now ≡ None → disk.new ≡ disk.old }
+        ensures tally { let f = D.faults disk.old in let s = D.stops disk.old in
+            Tally f s (D.faults disk.new) (D.stops disk.new) (log_answer result) }
+        ensures causes { let f = D.faults disk.old in let f' = D.faults disk.new in
+            D.tells → Causes (D.faultless disk.old) (D.lane_of disk.new (2 * p)) f f' (log_answer result) }
+        ensures faultless { let f = D.faults disk.old in
+            StaysFaultless (D.faultless disk.old) (D.faultless disk.new) f (D.faults disk.new) }
+        ensures others { D.tells → (n : ℕ) → n ≢ 2 * p → D.lane_of disk.new n ≡ D.lane_of disk.old n }
+        // so that the next call may be made
+        ensures stands { D.tells → LogsStand (D.lane_of disk.new) self.new }
+    {
+        let seat = Seat {
+            alloc: self.alloc,
+            topo,
+            number: self.number,
+            here: self.here.as_slice(),
+            edges: &self.edges,
+            positions: &self.positions,
+        };
+        match publish_in(&seat, disk, &mut self.held, p, number, event, now) {
+            Ok(told) => Ok(told),
+            Err(fault) => Err(fault_at(p, fault)),
+        }
+    }
+
+    /// Takes a datagram, at the moment `now`. First it is decoded, then it must fit, then it must not clash; one that
+    /// fails is dropped, and nothing has changed. One that is taken is the machine's receipt of its frame. At want of
+    /// memory the broker is as it was.
+    pub fn receive(&mut self, topo: &Topology, bytes: &[u8], now: u64) -> Result<Received, Memory>
+        requires fits { IsBrokerOf topo.now self.old }
+        ensures says { let r = receipt (net_of topo.now) now self.old (frame_decoded bytes.now) in
+            IfOk result (λ answer. Answers answer r) }
+        ensures after { let r = receipt (net_of topo.now) now self.old (frame_decoded bytes.now) in
+            OnOk result (self.new ≡ after_receipt (frame_decoded bytes.now) r self.old) }
+        ensures err { OnErr result (self.new ≡ self.old) }
+        ensures fits { IsBrokerOf topo.now self.new }
+    {
+        let seat = Seat {
+            alloc: self.alloc,
+            topo,
+            number: self.number,
+            here: self.here.as_slice(),
+            edges: &self.edges,
+            positions: &self.positions,
+        };
+        receive(&seat, &mut self.held, bytes, now)
+    }
+
+    /// Wakes the broker for a publisher, at the moment `now`: the machine's wake. Where the publisher is elsewhere, it
+    /// asks for what is wanted and tells what is consolidated, and the disk is not called. Where the publisher is here,
+    /// its log is marked where it was silent for long, then cut where more is consolidated than was cut, and the
+    /// children are told what to expect.
+    ///
+    /// After `Memory` the mark may be logged, and nothing else has changed; nothing was sent. After `Disk` the mark may
+    /// be logged, nothing was sent, and the log answers `Reopen` from then on to each call that would append to it.
+    /// `Damaged` never comes.
+    pub fn wake<D: Disk>(
+        &mut self,
+        topo: &Topology,
+        disk: &mut D,
+        p: u16,
+        now: u64,
+    ) -> Result<Outcome, BrokerFault>
+        requires fits { IsBrokerOf topo.now self.old }
+        requires publisher { p < length self.old.views }
+        requires now { now ≤ 2 ^ 62 }
+        requires stands { D.tells → LogsStand (D.lane_of disk.old) self.old }
+        ensures told { IfOk result (λ told. Tells (wake_at topo.now self.old p now) told) }
+        ensures leaves { let marked = after_mark topo.now self.old p now in
+            let woken = after_wake topo.now self.old p now in
+            WakeLeaves self.old marked woken (broken_at self.old p) (broken_at marked p) self.new (log_answer result) }
+        ensures log { OnOk result (let o : MachineOutcome = wake_at topo.now self.old p now in
+            machine_log self.new p ≡ o.log) }
+        ensures fits { IsBrokerOf topo.now self.new }
+        ensures lane { let mark = mark_logs_at topo.now self.old p now in
+            let cut = cut_logs_at topo.now self.old p now in
+            D.tells → AppendsTwiceAt self.old p mark cut (D.lane_of disk.old) (D.lane_of disk.new) (log_answer result) }
+        ensures reopen { IsErrOf result BrokerFault.Reopen ↔ ((is_broken (log_in self.old p) ≡ true)
+            × (IsSome (mark_logs_at topo.now self.old p now) ⊎ IsSome (cut_logs_at topo.now self.old p now))) }
+        ensures idle { IsErrOf result BrokerFault.Reopen → disk.new ≡ disk.old }
+        ensures below { log_in self.old p ≡ None → disk.new ≡ disk.old }
+        ensures tally { let f = D.faults disk.old in let s = D.stops disk.old in
+            Tally f s (D.faults disk.new) (D.stops disk.new) (log_answer result) }
+        ensures causes { let f = D.faults disk.old in let f' = D.faults disk.new in
+            D.tells → Causes (D.faultless disk.old) (D.lane_of disk.new (2 * p)) f f' (log_answer result) }
+        ensures faultless { let f = D.faults disk.old in
+            StaysFaultless (D.faultless disk.old) (D.faultless disk.new) f (D.faults disk.new) }
+        ensures others { D.tells → (n : ℕ) → n ≢ 2 * p → D.lane_of disk.new n ≡ D.lane_of disk.old n }
+        ensures stands { D.tells → LogsStand (D.lane_of disk.new) self.new }
+    {
+        let seat = Seat {
+            alloc: self.alloc,
+            topo,
+            number: self.number,
+            here: self.here.as_slice(),
+            edges: &self.edges,
+            positions: &self.positions,
+        };
+        wake(&seat, disk, &mut self.held, p, now)
+    }
+
+    /// How far the subscribers here have heard a publisher: 0 where the broker keeps no horizon. Takes no memory.
+    pub fn horizon(&self, p: u16) -> u64
+        requires { p < length self.now.views }
+        ensures { result ≡ (view_in self.now p).horizon }
+    {
+        self.held[p as usize].horizon.horizon()
+    }
+
+    /// The log of a publisher that is here. Takes no memory.
+    pub fn log(&self, p: u16) -> &Log
+        requires { IsHosted self.now p }
+        ensures { log_in self.now p ≡ Some result.now }
+    {
+        match &self.held[p as usize].log {
+            Some(log) => log,
+            None => unreachable!(),
+        }
+    }
+}

@@ -1,0 +1,628 @@
+//! A publisher's calls at its host: an event is logged and learned, silence is marked, and what all children have is
+//! cut.
+
+ghost use Rattle.std.specs.Prelude.{◌≡◌, ◌≢◌, ◌↔◌, ◌⊎◌, ℕ, ◌+◌, ◌++◌, ◌∷◌, [], ◌^◌, ◌<◌, ◌≤◌, true, false, length, Some, None, Err, IsErr, IsSome, IsErrOf, IfOk, IfSome, OnOk, OnErr};
+ghost use Rattle.std.specs.Option.{ForSome, ForNone};
+ghost use Rattle.gr_out.specs.Stops.{StaysFaultless};
+ghost use Rattle.gr_curio.specs.Wants.{runs_of};
+ghost use Rattle.gr_publog.specs.State.{state_of, may_follow};
+ghost use Rattle.gr_publog.specs.Crash.{with_record, failed};
+ghost use Rattle.gr_publog.specs.Calls.{IsReady, GoesOn, Appends, Tally, Causes, Leaves};
+ghost use Rattle.gr_pubend.specs.Log.{Log as MachineLog, log_of};
+ghost use Rattle.gr_pubend.specs.Answers.{quieted, publish_logs, quiet_logs, IsPlanned, IsPlannedMark};
+ghost use Rattle.gr_topo.specs.Topology.{children_of};
+ghost use Rattle.gr_model.specs.Net.{is_host, keeps_horizon};
+ghost use Rattle.gr_model.specs.NetOf.{net_of};
+ghost use Rattle.gr_model.specs.Broker.{Outcome as MachineOutcome, learn, horizon_if, publish, publish_by, marking, marking_by, wake_host};
+ghost use Rattle.gr_broker.specs.Of.{IsKept};
+ghost use Rattle.gr_broker.specs.Held.{held_view, IsSite};
+ghost use Rattle.gr_broker.specs.Told.{Tells, Adds, AddsFrames};
+ghost use Rattle.gr_broker.specs.Hosted.{logged, cut_logs, AppendsTwice, WakeLeaves};
+ghost use Rattle.gr_broker.specs.Host.{host_with, tick_marked, tick_cut, mark_lines, cut_lines, expected_frames};
+
+use crate::asking::expect_children;
+use crate::held::Held;
+use crate::learning::{apply_learning, plan_learning, reserve_learning};
+use crate::outcome::{Memory, Outcome};
+use crate::site::Site;
+use gr_curio::Wants;
+use gr_event::Event;
+use gr_know::K;
+use gr_model::{Report, Reports};
+use gr_out::Disk;
+use gr_pubend::{Published, Quieted, plan, plan_quiet};
+use gr_publog::{Log, LogFault, Record};
+use gr_tick::Piece;
+
+/// Logs a record at the host, and only once it is synced learns what is new by it. What that tells and sends is put
+/// at the end of an outcome. All its memory is taken before the disk is called, and after a fault nothing was
+/// learned.
+fn log_and_learn<D: Disk>(
+    site: &Site<'_>,
+    disk: &mut D,
+    log: &mut Log,
+    held: &mut Held,
+    entry: &Record,
+    fresh: &Piece<K>,
+    into: &mut Outcome,
+) -> Result<(), LogFault>
+    requires site { IsSite site.now }
+    requires host { is_host (net_of site.now.topo.now) site.now.publisher site.now.broker ≡ true }
+    requires kept { IsKept (net_of site.now.topo.now) site.now.publisher site.now.broker (held_view held.old) }
+    requires whole { log.old.broken ≡ false }
+    requires follows { may_follow (state_of log.old.records) entry.now ≡ true }
+    requires stands { D.tells → IsReady log.old (D.lane_of disk.old log.old.lane) }
+    ensures adds { OnOk result ((l : MachineLog) →
+        let o : MachineOutcome = learn (net_of site.now.topo.now) site.now.publisher site.now.broker fresh.now
+        (held_view held.old) l in
+        Adds o.lines o.frames into.old into.new) }
+    ensures view { OnOk result ((l : MachineLog) →
+        let o : MachineOutcome = learn (net_of site.now.topo.now) site.now.publisher site.now.broker fresh.now
+        (held_view held.old) l in
+        held_view held.new ≡ o.view) }
+    ensures err { OnErr result (held_view held.new ≡ held_view held.old) }
+    ensures kept { IsKept (net_of site.now.topo.now) site.now.publisher site.now.broker (held_view held.new) }
+    ensures elsewhere { held.new.log ≡ held.old.log }
+    ensures log { Leaves log.old (with_record entry.now log.old) (failed log.old) log.new result }
+    ensures lane { let l = log.old in let before = D.lane_of disk.old l.lane in
+        D.tells → Appends l (Some entry.now) before (D.lane_of disk.new l.lane) result }
+    ensures never_reopen { result ≢ Err LogFault.Reopen }
+    ensures stands { D.tells → IsReady log.new (D.lane_of disk.new log.new.lane) }
+    ensures tally { let f = D.faults disk.old in let s = D.stops disk.old in
+        Tally f s (D.faults disk.new) (D.stops disk.new) result }
+    ensures causes { let f = D.faults disk.old in let f' = D.faults disk.new in
+        D.tells → Causes (D.faultless disk.old) (D.lane_of disk.new log.old.lane) f f' result }
+    ensures faultless { let f = D.faults disk.old in
+        StaysFaultless (D.faultless disk.old) (D.faultless disk.new) f (D.faults disk.new) }
+    ensures others { D.tells → (n : ℕ) → n ≢ log.old.lane → D.lane_of disk.new n ≡ D.lane_of disk.old n }
+{
+    let changes = match plan_learning(site, held, fresh, into) {
+        Ok(changes) => changes,
+        Err(_) => return Err(LogFault::Memory),
+    };
+    match reserve_learning(site, held, fresh, &changes) {
+        Ok(()) => {}
+        Err(_) => {
+            drop(changes);
+            return Err(LogFault::Memory);
+        }
+    }
+    match log.append(disk, entry) {
+        Ok(()) => {
+            apply_learning(site, held, fresh, &changes);
+            drop(changes);
+            Ok(())
+        }
+        Err(fault) => {
+            drop(changes);
+            Err(fault)
+        }
+    }
+}
+
+/// Logs an event as it was planned, where the log is not broken, and learns it with the silence before it.
+fn log_event<D: Disk>(
+    site: &Site<'_>,
+    disk: &mut D,
+    log: &mut Log,
+    held: &mut Held,
+    number: u64,
+    event: &Event,
+    tick: u64,
+    fresh: &Piece<K>,
+) -> Result<Outcome, LogFault>
+    requires site { IsSite site.now }
+    requires host { is_host (net_of site.now.topo.now) site.now.publisher site.now.broker ≡ true }
+    requires kept { IsKept (net_of site.now.topo.now) site.now.publisher site.now.broker (held_view held.old) }
+    requires planned { IsPlanned log.old.records number event.now (Published.Logged tick fresh.now) }
+    requires stands { D.tells → IsReady log.old (D.lane_of disk.old log.old.lane) }
+    ensures told { IfOk result (λ told. Tells (publish_by
+        (net_of site.now.topo.now) site.now.publisher site.now.broker number event.now
+        (held_view held.old) (log_of log.old.records) (Published.Logged tick fresh.now)) told) }
+    ensures view { OnOk result (let o : MachineOutcome = publish_by
+        (net_of site.now.topo.now) site.now.publisher site.now.broker number event.now
+        (held_view held.old) (log_of log.old.records) (Published.Logged tick fresh.now) in held_view held.new ≡
+        o.view) }
+    ensures err { OnErr result (held_view held.new ≡ held_view held.old) }
+    ensures kept { IsKept (net_of site.now.topo.now) site.now.publisher site.now.broker (held_view held.new) }
+    ensures elsewhere { held.new.log ≡ held.old.log }
+    ensures log { Leaves log.old (with_record (Record.Event tick number event.now) log.old)
+        (failed log.old) log.new result }
+    ensures lane { let l = log.old in let before = D.lane_of disk.old l.lane in
+        D.tells → Appends l (Some (Record.Event tick number event.now)) before (D.lane_of disk.new l.lane) result }
+    ensures reopen { IsErrOf result LogFault.Reopen ↔ (log.old.broken ≡ true) }
+    ensures idle { IsErrOf result LogFault.Reopen → disk.new ≡ disk.old }
+    ensures stands { D.tells → IsReady log.new (D.lane_of disk.new log.new.lane) }
+    ensures tally { let f = D.faults disk.old in let s = D.stops disk.old in
+        Tally f s (D.faults disk.new) (D.stops disk.new) result }
+    ensures causes { let f = D.faults disk.old in let f' = D.faults disk.new in
+        D.tells → Causes (D.faultless disk.old) (D.lane_of disk.new log.old.lane) f f' result }
+    ensures faultless { let f = D.faults disk.old in
+        StaysFaultless (D.faultless disk.old) (D.faultless disk.new) f (D.faults disk.new) }
+    ensures others { D.tells → (n : ℕ) → n ≢ log.old.lane → D.lane_of disk.new n ≡ D.lane_of disk.old n }
+{
+    if log.is_broken() {
+        return Err(LogFault::Reopen);
+    }
+    let mut told = Outcome::new(site.alloc);
+    match told.reports.push(Report::Logged {
+        publisher: site.publisher,
+        number,
+        tick,
+    }) {
+        Ok(()) => {}
+        Err(_) => {
+            drop(told);
+            return Err(LogFault::Memory);
+        }
+    }
+    let entry = Record::Event {
+        tick,
+        number,
+        event: event.share(),
+    };
+    match log_and_learn(site, disk, log, held, &entry, fresh, &mut told) {
+        Ok(()) => {
+            drop(entry);
+            Ok(told)
+        }
+        Err(fault) => {
+            drop(entry);
+            drop(told);
+            Err(fault)
+        }
+    }
+}
+
+/// One line is told, and nothing is sent.
+fn tell(site: &Site<'_>, line: Report) -> Result<Outcome, LogFault>
+    ensures lines { IfOk result (λ told. told.reports ≡ line ∷ []) }
+    ensures frames { IfOk result (λ told. told.frames.frames ≡ []) }
+    ensures err { (e : LogFault) → result ≡ Err e → e ≡ LogFault.Memory }
+{
+    let mut told = Outcome::new(site.alloc);
+    match told.reports.push(line) {
+        Ok(()) => Ok(told),
+        Err(_) => {
+            drop(told);
+            Err(LogFault::Memory)
+        }
+    }
+}
+
+/// Publishes an event under a number at the host, at the moment `now`: the machine's publish. Only once the event is
+/// synced in the log it is learned, told and sent.
+///
+/// After `Memory` nothing has changed. After `Disk` the log is broken and all else is as before. `Reopen` comes where
+/// a broken log would be appended to, whatever else is wanting.
+pub(crate) fn publish<D: Disk>(
+    site: &Site<'_>,
+    disk: &mut D,
+    log: &mut Log,
+    held: &mut Held,
+    number: u64,
+    event: &Event,
+    now: u64,
+) -> Result<Outcome, LogFault>
+    requires site { IsSite site.now }
+    requires host { is_host (net_of site.now.topo.now) site.now.publisher site.now.broker ≡ true }
+    requires kept { IsKept (net_of site.now.topo.now) site.now.publisher site.now.broker (held_view held.old) }
+    requires now { now ≤ 2 ^ 62 }
+    requires stands { D.tells → IsReady log.old (D.lane_of disk.old log.old.lane) }
+    ensures told { IfOk result (λ told. Tells (publish
+        (net_of site.now.topo.now) site.now.publisher site.now.broker now number event.now
+        (held_view held.old) (log_of log.old.records)) told) }
+    ensures view { OnOk result (let o : MachineOutcome = publish
+        (net_of site.now.topo.now) site.now.publisher site.now.broker now number event.now
+        (held_view held.old) (log_of log.old.records) in held_view held.new ≡ o.view) }
+    ensures err { OnErr result (held_view held.new ≡ held_view held.old) }
+    ensures kept { IsKept (net_of site.now.topo.now) site.now.publisher site.now.broker (held_view held.new) }
+    ensures elsewhere { held.new.log ≡ held.old.log }
+    ensures log { let r = publish_logs log.old.records number event.now now in
+        Leaves log.old (logged log.old r) (failed log.old) log.new result }
+    ensures lane { let l = log.old in let before = D.lane_of disk.old l.lane in let r =
+        publish_logs l.records number event.now now in
+        D.tells → Appends l r before (D.lane_of disk.new l.lane) result }
+    ensures reopen { IsErrOf result LogFault.Reopen
+        ↔ ((log.old.broken ≡ true) × IsSome (publish_logs log.old.records number event.now now)) }
+    ensures idle { IsErrOf result LogFault.Reopen → disk.new ≡ disk.old }
+    ensures untouched { publish_logs log.old.records number event.now now ≡ None → disk.new ≡ disk.old }
+    ensures stands { D.tells → IsReady log.new (D.lane_of disk.new log.new.lane) }
+    ensures tally { let f = D.faults disk.old in let s = D.stops disk.old in
+        Tally f s (D.faults disk.new) (D.stops disk.new) result }
+    ensures causes { let f = D.faults disk.old in let f' = D.faults disk.new in
+        D.tells → Causes (D.faultless disk.old) (D.lane_of disk.new log.old.lane) f f' result }
+    ensures faultless { let f = D.faults disk.old in
+        StaysFaultless (D.faultless disk.old) (D.faultless disk.new) f (D.faults disk.new) }
+    ensures others { D.tells → (n : ℕ) → n ≢ log.old.lane → D.lane_of disk.new n ≡ D.lane_of disk.old n }
+{
+    let answer = match plan(site.alloc, log, number, event, now) {
+        Ok(answer) => answer,
+        Err(_) => {
+            if log.is_broken() {
+                return Err(LogFault::Reopen);
+            }
+            return Err(LogFault::Memory);
+        }
+    };
+    let publisher = site.publisher;
+    match answer {
+        Published::Logged { tick, fresh } => {
+            let told = log_event(site, disk, log, held, number, event, tick, &fresh);
+            drop(fresh);
+            told
+        }
+        Published::Already => tell(site, Report::Already { publisher, number }),
+        Published::Gap { next } => tell(
+            site,
+            Report::Gap {
+                publisher,
+                number,
+                next,
+            },
+        ),
+        Published::Exhausted => tell(site, Report::Exhausted { publisher, number }),
+    }
+}
+
+/// Marks the silence up to `now`, where nothing was logged for long, and learns it; answers the tick of the mark, if
+/// there is one. Faults are those of `publish`.
+fn mark<D: Disk>(
+    site: &Site<'_>,
+    disk: &mut D,
+    log: &mut Log,
+    held: &mut Held,
+    now: u64,
+    into: &mut Outcome,
+) -> Result<Option<u64>, LogFault>
+    requires site { IsSite site.now }
+    requires host { is_host (net_of site.now.topo.now) site.now.publisher site.now.broker ≡ true }
+    requires kept { IsKept (net_of site.now.topo.now) site.now.publisher site.now.broker (held_view held.old) }
+    requires now { now ≤ 2 ^ 62 }
+    requires stands { D.tells → IsReady log.old (D.lane_of disk.old log.old.lane) }
+    ensures tick { IfOk result (λ tick. tick
+        ≡ tick_marked (quieted (log_of log.old.records) now site.now.topo.now.settings.quiet)) }
+    ensures wants { IsErr result → IsSome (quiet_logs log.old.records now site.now.topo.now.settings.quiet) }
+    ensures adds { OnOk result (let o : MachineOutcome = marking
+        (net_of site.now.topo.now) site.now.publisher site.now.broker now
+        (held_view held.old) (log_of log.old.records) in Adds o.lines o.frames into.old into.new) }
+    ensures view { OnOk result (let o : MachineOutcome = marking
+        (net_of site.now.topo.now) site.now.publisher site.now.broker now
+        (held_view held.old) (log_of log.old.records) in held_view held.new ≡ o.view) }
+    ensures err { OnErr result (held_view held.new ≡ held_view held.old) }
+    ensures kept { IsKept (net_of site.now.topo.now) site.now.publisher site.now.broker (held_view held.new) }
+    ensures elsewhere { held.new.log ≡ held.old.log }
+    ensures log { let r = quiet_logs log.old.records now site.now.topo.now.settings.quiet in
+        Leaves log.old (logged log.old r) (failed log.old) log.new result }
+    ensures lane { let l = log.old in let before = D.lane_of disk.old l.lane in
+        let r = quiet_logs l.records now site.now.topo.now.settings.quiet in
+        D.tells → Appends l r before (D.lane_of disk.new l.lane) result }
+    ensures reopen { IsErrOf result LogFault.Reopen
+        ↔ ((log.old.broken ≡ true) × IsSome (quiet_logs log.old.records now site.now.topo.now.settings.quiet)) }
+    ensures idle { IsErrOf result LogFault.Reopen → disk.new ≡ disk.old }
+    ensures untouched { quiet_logs log.old.records now site.now.topo.now.settings.quiet ≡ None → disk.new ≡ disk.old }
+    ensures stands { D.tells → IsReady log.new (D.lane_of disk.new log.new.lane) }
+    ensures tally { let f = D.faults disk.old in let s = D.stops disk.old in
+        Tally f s (D.faults disk.new) (D.stops disk.new) result }
+    ensures causes { let f = D.faults disk.old in let f' = D.faults disk.new in
+        D.tells → Causes (D.faultless disk.old) (D.lane_of disk.new log.old.lane) f f' result }
+    ensures faultless { let f = D.faults disk.old in
+        StaysFaultless (D.faultless disk.old) (D.faultless disk.new) f (D.faults disk.new) }
+    ensures others { D.tells → (n : ℕ) → n ≢ log.old.lane → D.lane_of disk.new n ≡ D.lane_of disk.old n }
+{
+    let answer = match plan_quiet(site.alloc, log, now, site.topo.settings().quiet) {
+        Ok(answer) => answer,
+        Err(_) => {
+            if log.is_broken() {
+                return Err(LogFault::Reopen);
+            }
+            return Err(LogFault::Memory);
+        }
+    };
+    match answer {
+        Quieted::NotYet => Ok(None),
+        Quieted::Marked { tick, fresh } => {
+            let done = log_mark(site, disk, log, held, tick, &fresh, into);
+            drop(fresh);
+            done
+        }
+    }
+}
+
+/// Logs a mark as it was planned, where the log is not broken, and learns the silence up to it; answers its tick.
+fn log_mark<D: Disk>(
+    site: &Site<'_>,
+    disk: &mut D,
+    log: &mut Log,
+    held: &mut Held,
+    tick: u64,
+    fresh: &Piece<K>,
+    into: &mut Outcome,
+) -> Result<Option<u64>, LogFault>
+    requires site { IsSite site.now }
+    requires host { is_host (net_of site.now.topo.now) site.now.publisher site.now.broker ≡ true }
+    requires kept { IsKept (net_of site.now.topo.now) site.now.publisher site.now.broker (held_view held.old) }
+    requires planned { IsPlannedMark log.old.records (Quieted.Marked tick fresh.now) }
+    requires stands { D.tells → IsReady log.old (D.lane_of disk.old log.old.lane) }
+    ensures tick { IfOk result (λ t. t ≡ Some tick) }
+    ensures adds { OnOk result (let o : MachineOutcome = marking_by
+        (net_of site.now.topo.now) site.now.publisher site.now.broker
+        (held_view held.old) (log_of log.old.records) (Quieted.Marked tick fresh.now) in
+        Adds o.lines o.frames into.old into.new) }
+    ensures view { OnOk result (let o : MachineOutcome = marking_by
+        (net_of site.now.topo.now) site.now.publisher site.now.broker
+        (held_view held.old) (log_of log.old.records) (Quieted.Marked tick fresh.now) in held_view held.new ≡ o.view) }
+    ensures err { OnErr result (held_view held.new ≡ held_view held.old) }
+    ensures kept { IsKept (net_of site.now.topo.now) site.now.publisher site.now.broker (held_view held.new) }
+    ensures elsewhere { held.new.log ≡ held.old.log }
+    ensures log { Leaves log.old (with_record (Record.Mark tick) log.old) (failed log.old) log.new result }
+    ensures lane { let l = log.old in let before = D.lane_of disk.old l.lane in
+        D.tells → Appends l (Some (Record.Mark tick)) before (D.lane_of disk.new l.lane) result }
+    ensures reopen { IsErrOf result LogFault.Reopen ↔ (log.old.broken ≡ true) }
+    ensures idle { IsErrOf result LogFault.Reopen → disk.new ≡ disk.old }
+    ensures stands { D.tells → IsReady log.new (D.lane_of disk.new log.new.lane) }
+    ensures tally { let f = D.faults disk.old in let s = D.stops disk.old in
+        Tally f s (D.faults disk.new) (D.stops disk.new) result }
+    ensures causes { let f = D.faults disk.old in let f' = D.faults disk.new in
+        D.tells → Causes (D.faultless disk.old) (D.lane_of disk.new log.old.lane) f f' result }
+    ensures faultless { let f = D.faults disk.old in
+        StaysFaultless (D.faultless disk.old) (D.faultless disk.new) f (D.faults disk.new) }
+    ensures others { D.tells → (n : ℕ) → n ≢ log.old.lane → D.lane_of disk.new n ≡ D.lane_of disk.old n }
+{
+    if log.is_broken() {
+        return Err(LogFault::Reopen);
+    }
+    match log_and_learn(site, disk, log, held, &Record::Mark { tick }, fresh, into) {
+        Ok(()) => Ok(Some(tick)),
+        Err(fault) => Err(fault),
+    }
+}
+
+/// The horizon, where one is kept. Takes no memory.
+fn horizon_of(site: &Site<'_>, held: &Held) -> Option<u64>
+    requires site { IsSite site.now }
+    requires kept { IsKept (net_of site.now.topo.now) site.now.publisher site.now.broker (held_view held.now) }
+    ensures value { result ≡ horizon_if (keeps_horizon
+        (net_of site.now.topo.now) site.now.publisher site.now.broker) held.now.horizon }
+    ensures upto { ForSome result (λ h. h ≤ 2 ^ 62) }
+    ensures some { ForNone result (0 < length held.now.wants) }
+{
+    if site.position.keeps {
+        return Some(held.horizon.horizon());
+    }
+    None
+}
+
+/// Up to which tick the log is to be cut: where more is consolidated than was cut. Takes no memory.
+fn cut_due(site: &Site<'_>, held: &Held, log: &Log) -> Option<u64>
+    requires site { IsSite site.now }
+    requires kept { IsKept (net_of site.now.topo.now) site.now.publisher site.now.broker (held_view held.now) }
+    ensures tick { result ≡ tick_cut (net_of site.now.topo.now) site.now.publisher site.now.broker
+        (held_view held.now) (log_of log.now.records) }
+    ensures follows { IfSome result (λ tick. may_follow (state_of log.now.records) (Record.Cut tick) ≡ true) }
+{
+    // Proof only: the records follow one another.
+    let _ = log.is_broken();
+    let upto = held
+        .wants
+        .consolidated_upto(horizon_of(site, held), log.settled());
+    if log.cut() < upto {
+        return Some(upto);
+    }
+    None
+}
+
+/// The lines of a mark and of a cut, where there is one.
+fn lines_of(site: &Site<'_>, marked: Option<u64>, cut: Option<u64>) -> Result<Reports, Memory>
+    ensures { IfOk result (λ lines. lines ≡ mark_lines site.now.publisher marked ++ cut_lines site.now.publisher cut) }
+{
+    let publisher = site.publisher;
+    let mut lines = Reports::new(site.alloc);
+    match marked {
+        Some(tick) => lines.push(Report::Mark { publisher, tick })?,
+        None => {}
+    }
+    match cut {
+        Some(tick) => lines.push(Report::Cut { publisher, tick })?,
+        None => {}
+    }
+    Ok(lines)
+}
+
+/// Puts the lines of a mark and of a cut before those that were told, and tells the children what to expect.
+fn tell_wake(
+    site: &Site<'_>,
+    wants: &Wants,
+    settled: u64,
+    marked: Option<u64>,
+    cut: Option<u64>,
+    into: &mut Outcome,
+) -> Result<(), Memory>
+    requires site { IsSite site.now }
+    requires upto { settled ≤ 2 ^ 62 }
+    ensures lines { OnOk result (into.new.reports
+        ≡ mark_lines site.now.publisher marked ++ cut_lines site.now.publisher cut ++ into.old.reports) }
+    ensures frames { OnOk result (AddsFrames (expected_frames site.now.publisher site.now.broker settled
+        (children_of site.now.topo.now site.now.publisher site.now.broker)
+        (runs_of wants.now)) into.old.frames into.new.frames) }
+{
+    let mut lines = lines_of(site, marked, cut)?;
+    lines.append(&mut into.reports)?;
+    into.reports = lines;
+    if settled == 0 {
+        return Ok(());
+    }
+    expect_children(site, wants, settled, &mut into.frames)
+}
+
+/// Cuts the log, and tells that before what was told, with the mark; the children are told what to expect. It takes
+/// all its memory before the disk is called.
+fn cut_upto<D: Disk>(
+    site: &Site<'_>,
+    disk: &mut D,
+    log: &mut Log,
+    held: &Held,
+    marked: Option<u64>,
+    tick: u64,
+    into: &mut Outcome,
+) -> Result<(), LogFault>
+    requires site { IsSite site.now }
+    requires due { tick_cut (net_of site.now.topo.now) site.now.publisher site.now.broker (held_view held.now)
+        (log_of log.old.records) ≡ Some tick }
+    requires follows { may_follow (state_of log.old.records) (Record.Cut tick) ≡ true }
+    requires stands { D.tells → IsReady log.old (D.lane_of disk.old log.old.lane) }
+    ensures lines { OnOk result (into.new.reports
+        ≡ mark_lines site.now.publisher marked ++ cut_lines site.now.publisher
+        (tick_cut (net_of site.now.topo.now) site.now.publisher site.now.broker (held_view held.now)
+        (log_of log.old.records)) ++ into.old.reports) }
+    ensures frames { let settled = (log_of log.old.records).settled in
+        OnOk result (AddsFrames (expected_frames site.now.publisher site.now.broker settled
+        (children_of site.now.topo.now site.now.publisher site.now.broker) (runs_of held.now.wants))
+        into.old.frames into.new.frames) }
+    ensures log { Leaves log.old (with_record (Record.Cut tick) log.old) (failed log.old) log.new result }
+    ensures lane { let l = log.old in let before = D.lane_of disk.old l.lane in
+        D.tells → Appends l (Some (Record.Cut tick)) before (D.lane_of disk.new l.lane) result }
+    ensures goes_on { let lane = log.old.lane in D.tells → GoesOn (D.lane_of disk.old lane) (D.lane_of disk.new lane) }
+    ensures reopen { IsErrOf result LogFault.Reopen ↔ (log.old.broken ≡ true) }
+    ensures idle { IsErrOf result LogFault.Reopen → disk.new ≡ disk.old }
+    ensures stands { D.tells → IsReady log.new (D.lane_of disk.new log.new.lane) }
+    ensures tally { let f = D.faults disk.old in let s = D.stops disk.old in
+        Tally f s (D.faults disk.new) (D.stops disk.new) result }
+    ensures causes { let f = D.faults disk.old in let f' = D.faults disk.new in
+        D.tells → Causes (D.faultless disk.old) (D.lane_of disk.new log.old.lane) f f' result }
+    ensures faultless { let f = D.faults disk.old in
+        StaysFaultless (D.faultless disk.old) (D.faultless disk.new) f (D.faults disk.new) }
+    ensures others { D.tells → (n : ℕ) → n ≢ log.old.lane → D.lane_of disk.new n ≡ D.lane_of disk.old n }
+{
+    if log.is_broken() {
+        return Err(LogFault::Reopen);
+    }
+    match tell_wake(site, &held.wants, log.settled(), marked, Some(tick), into) {
+        Ok(()) => {}
+        Err(_) => return Err(LogFault::Memory),
+    }
+    log.append(disk, &Record::Cut { tick })
+}
+
+/// The end of a host's wake, once the silence is marked: the log is cut where more is consolidated than was cut, and
+/// all is told.
+fn cut<D: Disk>(
+    site: &Site<'_>,
+    disk: &mut D,
+    log: &mut Log,
+    held: &Held,
+    marked: Option<u64>,
+    into: &mut Outcome,
+) -> Result<(), LogFault>
+    requires site { IsSite site.now }
+    requires kept { IsKept (net_of site.now.topo.now) site.now.publisher site.now.broker (held_view held.now) }
+    requires stands { D.tells → IsReady log.old (D.lane_of disk.old log.old.lane) }
+    ensures lines { OnOk result (into.new.reports
+        ≡ mark_lines site.now.publisher marked ++ cut_lines site.now.publisher
+        (tick_cut (net_of site.now.topo.now) site.now.publisher site.now.broker (held_view held.now)
+        (log_of log.old.records)) ++ into.old.reports) }
+    ensures frames { let settled = (log_of log.old.records).settled in
+        OnOk result (AddsFrames (expected_frames site.now.publisher site.now.broker settled
+        (children_of site.now.topo.now site.now.publisher site.now.broker) (runs_of held.now.wants))
+        into.old.frames into.new.frames) }
+    ensures log { let r = cut_logs (net_of site.now.topo.now) site.now.publisher site.now.broker (held_view held.now)
+        (log_of log.old.records) in
+        Leaves log.old (logged log.old r) (failed log.old) log.new result }
+    ensures lane { let l = log.old in let before = D.lane_of disk.old l.lane in
+        let r = cut_logs (net_of site.now.topo.now) site.now.publisher site.now.broker (held_view held.now)
+        (log_of log.old.records) in
+        D.tells → Appends l r before (D.lane_of disk.new l.lane) result }
+    ensures goes_on { let lane = log.old.lane in D.tells → GoesOn (D.lane_of disk.old lane) (D.lane_of disk.new lane) }
+    ensures reopen { IsErrOf result LogFault.Reopen ↔ ((log.old.broken ≡ true)
+        × IsSome (cut_logs (net_of site.now.topo.now) site.now.publisher site.now.broker (held_view held.now)
+        (log_of log.old.records))) }
+    ensures idle { IsErrOf result LogFault.Reopen → disk.new ≡ disk.old }
+    ensures stands { D.tells → IsReady log.new (D.lane_of disk.new log.new.lane) }
+    ensures tally { let f = D.faults disk.old in let s = D.stops disk.old in
+        Tally f s (D.faults disk.new) (D.stops disk.new) result }
+    ensures causes { let f = D.faults disk.old in let f' = D.faults disk.new in
+        D.tells → Causes (D.faultless disk.old) (D.lane_of disk.new log.old.lane) f f' result }
+    ensures faultless { let f = D.faults disk.old in
+        StaysFaultless (D.faultless disk.old) (D.faultless disk.new) f (D.faults disk.new) }
+    ensures others { D.tells → (n : ℕ) → n ≢ log.old.lane → D.lane_of disk.new n ≡ D.lane_of disk.old n }
+{
+    // Proof only: the records follow one another.
+    let _ = log.is_broken();
+    match cut_due(site, held, log) {
+        Some(tick) => cut_upto(site, disk, log, held, marked, tick, into),
+        None => match tell_wake(site, &held.wants, log.settled(), marked, None, into) {
+            Ok(()) => Ok(()),
+            Err(_) => Err(LogFault::Memory),
+        },
+    }
+}
+
+/// Wakes the host of a publisher, at the moment `now`: the machine's wake. The log is marked where it was silent for
+/// long, then cut where more is consolidated than was cut, and the children are told what to expect.
+///
+/// After `Memory` the mark may be logged, and nothing else has changed. After `Disk` the mark may be logged, and the
+/// log is broken. `Reopen` comes where a broken log would be appended to, and then all is as before.
+pub(crate) fn wake_host<D: Disk>(
+    site: &Site<'_>,
+    disk: &mut D,
+    log: &mut Log,
+    held: &mut Held,
+    now: u64,
+) -> Result<Outcome, LogFault>
+    requires site { IsSite site.now }
+    requires host { is_host (net_of site.now.topo.now) site.now.publisher site.now.broker ≡ true }
+    requires kept { IsKept (net_of site.now.topo.now) site.now.publisher site.now.broker (held_view held.old) }
+    requires now { now ≤ 2 ^ 62 }
+    requires stands { D.tells → IsReady log.old (D.lane_of disk.old log.old.lane) }
+    ensures told { IfOk result (λ told.
+        Tells (wake_host (net_of site.now.topo.now) site.now.publisher site.now.broker now
+        (held_view held.old) (log_of log.old.records)) told) }
+    ensures leaves { let m : MachineOutcome = marking (net_of site.now.topo.now) site.now.publisher site.now.broker now
+        (held_view held.old) (log_of log.old.records) in
+        let marked = logged log.old (quiet_logs log.old.records now site.now.topo.now.settings.quiet) in
+        let cut = cut_logs (net_of site.now.topo.now) site.now.publisher site.now.broker m.view m.log in
+        let woken = logged marked cut in
+        WakeLeaves (host_with (held_view held.old) log.old) (host_with m.view marked) (host_with m.view woken)
+        (host_with (held_view held.old) (failed log.old)) (host_with m.view (failed marked))
+        (host_with (held_view held.new) log.new) result }
+    ensures kept { IsKept (net_of site.now.topo.now) site.now.publisher site.now.broker (held_view held.new) }
+    ensures elsewhere { held.new.log ≡ held.old.log }
+    ensures lane { let m : MachineOutcome = marking (net_of site.now.topo.now) site.now.publisher site.now.broker now
+        (held_view held.old) (log_of log.old.records) in
+        let marked = quiet_logs log.old.records now site.now.topo.now.settings.quiet in
+        let cut = cut_logs (net_of site.now.topo.now) site.now.publisher site.now.broker m.view m.log in
+        let l = log.old in let before = D.lane_of disk.old l.lane in
+        D.tells → AppendsTwice l marked cut before (D.lane_of disk.new l.lane) result }
+    ensures reopen { let m : MachineOutcome = marking (net_of site.now.topo.now) site.now.publisher site.now.broker now
+        (held_view held.old) (log_of log.old.records) in
+        let marked = quiet_logs log.old.records now site.now.topo.now.settings.quiet in
+        let cut = cut_logs (net_of site.now.topo.now) site.now.publisher site.now.broker m.view m.log in
+        IsErrOf result LogFault.Reopen ↔ ((log.old.broken ≡ true) × (IsSome marked ⊎ IsSome cut)) }
+    ensures idle { IsErrOf result LogFault.Reopen → disk.new ≡ disk.old }
+    ensures stands { D.tells → IsReady log.new (D.lane_of disk.new log.new.lane) }
+    ensures tally { let f = D.faults disk.old in let s = D.stops disk.old in
+        Tally f s (D.faults disk.new) (D.stops disk.new) result }
+    ensures causes { let f = D.faults disk.old in let f' = D.faults disk.new in
+        D.tells → Causes (D.faultless disk.old) (D.lane_of disk.new log.old.lane) f f' result }
+    ensures faultless { let f = D.faults disk.old in
+        StaysFaultless (D.faultless disk.old) (D.faultless disk.new) f (D.faults disk.new) }
+    ensures others { D.tells → (n : ℕ) → n ≢ log.old.lane → D.lane_of disk.new n ≡ D.lane_of disk.old n }
+{
+    // Proof only: a time of silence is at least 1.
+    let _ = site.topo.settings();
+    let mut told = Outcome::new(site.alloc);
+    let marked = match mark(site, disk, log, held, now, &mut told) {
+        Ok(marked) => marked,
+        Err(fault) => {
+            drop(told);
+            return Err(fault);
+        }
+    };
+    match cut(site, disk, log, held, marked, &mut told) {
+        Ok(()) => Ok(told),
+        Err(fault) => {
+            drop(told);
+            Err(fault)
+        }
+    }
+}

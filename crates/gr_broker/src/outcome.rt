@@ -1,0 +1,62 @@
+//! What the calls of a broker answer.
+
+ghost use Rattle.std.specs.Prelude.{◌≡◌, []};
+
+use gr_frame::{FrameFault, Frames, Head};
+use gr_know::Clash;
+use gr_model::Reports;
+use std::alloc::{AllocError, Global};
+
+/// Memory was refused.
+pub type Memory = AllocError;
+
+/// Why a call is refused.
+#[derive(Clone, Copy, Debug, PartialEq, Eq)]
+pub enum BrokerFault {
+    /// Memory was refused.
+    Memory,
+    /// The disk failed in this call. The log concerned has to be opened again.
+    Disk,
+    /// The call would append to a log that the disk has failed before.
+    Reopen,
+    /// The lane of a publisher holds no log; the place of the first fault, counted from 0 in bytes.
+    Damaged { publisher: u16, at: u64 },
+}
+
+/// What a call tells and sends: lines of the report and frames in their bytes, both in order.
+#[derive(Drop)]
+pub struct Outcome {
+    pub reports: Reports,
+    pub frames: Frames,
+}
+
+impl Outcome {
+    /// Nothing is told and sent. Takes no memory.
+    pub(crate) fn new(alloc: Global) -> Outcome
+        ensures reports { result.reports ≡ [] }
+        ensures frames { result.frames.frames ≡ [] }
+    {
+        Outcome {
+            reports: Reports::new(alloc),
+            frames: Frames::new(alloc),
+        }
+    }
+}
+
+/// Why a datagram is dropped. Nothing has changed then.
+#[derive(Drop)]
+pub enum Dropped {
+    /// The bytes are no frame: the first fault and its place.
+    NotFrame { fault: FrameFault },
+    /// It is a frame, and it does not fit: it is for another broker, or it does not come from where it should.
+    Stray { head: Head },
+    /// It fits, and clashes with what is known: the least tick, what is kept there and what came.
+    Clash { clash: Clash },
+}
+
+/// What becomes of a datagram.
+#[derive(Drop)]
+pub enum Received {
+    Taken(Outcome),
+    Dropped(Dropped),
+}

@@ -1,0 +1,187 @@
+//! A datagram comes: it is decoded, then it must fit, then it must not clash with what is known.
+
+ghost use Rattle.std.specs.Prelude.{◌≡◌, ℕ, ◌<◌, true, false, nat_eq, List, length, map, get_or, MatchOption, Ok, IfOk, OnOk, OnErr};
+ghost use Rattle.std.specs.List.{list_any};
+ghost use Rattle.gr_frame.specs.Decode.{frame_decoded};
+ghost use Rattle.gr_frame.specs.Limits.{IsBody};
+ghost use Rattle.gr_model.specs.NetOf.{net_of};
+ghost use Rattle.gr_model.specs.Broker.{place_of};
+ghost use Rattle.gr_model.specs.World.{blank_view};
+ghost use Rattle.gr_model.specs.Arrivals.{fits_broker};
+ghost use Rattle.gr_broker.specs.Of.{IsKept};
+ghost use Rattle.gr_broker.specs.Held.{held_view, broker_at, IsSeat, IsSite};
+ghost use Rattle.gr_broker.specs.Receipt.{comes_over, receipt_of_fit, view_after, receipt, after_receipt, Answers};
+
+use crate::answering::take_curiosity;
+use crate::asking::take_expect;
+use crate::held::Held;
+use crate::learning::learn;
+use crate::outcome::{Dropped, Memory, Received};
+use crate::place::Position;
+use crate::site::{Seat, Site, site_at};
+use gr_frame::{Body, Frame, FrameFault, FrameKind, decode};
+use std::alloc::{AllocError, Global};
+
+/// The place of the child with a number, or None where there is none.
+fn child_at(position: &Position, number: u16) -> Option<usize>
+    ensures { let numbers : List ℕ = map (λ c. c.number) position.now.children.items in
+        MatchOption result (list_any (λ x. nat_eq x number) numbers ≡ false)
+        (λ i. (i ≡ place_of number numbers) × (i < length numbers) × (list_any (λ x. nat_eq x number) numbers ≡ true)) }
+{
+    'children: for i in 0..position.children.len() {
+        if position.children[i].number == number {
+            return Some(i);
+        }
+    }
+    None
+}
+
+/// Whether a frame comes over an edge: curiosity from a child, all else from the next broker towards the host.
+pub(crate) fn comes_over(position: &Position, frame: &Frame) -> bool
+    ensures { result ≡ comes_over position.now.up (map (λ c. c.number) position.now.children.items) frame.now }
+{
+    match &frame.body {
+        Body::Curiosity(_) => child_at(position, frame.head.from).is_some(),
+        Body::Knowledge(_) | Body::Expect(_) => match position.up {
+            Some(up) => up == frame.head.from,
+            None => false,
+        },
+    }
+}
+
+/// Takes a frame that fits, unless it clashes with what is known. At want of memory all is as it was.
+pub(crate) fn take_frame(
+    site: &Site<'_>,
+    held: &mut Held,
+    frame: &Frame,
+    now: u64,
+) -> Result<Received, Memory>
+    requires site { IsSite site.now }
+    requires to { frame.now.head.to ≡ site.now.broker }
+    requires publisher { frame.now.head.publisher ≡ site.now.publisher }
+    requires over { let place = site.now.position.now in
+        comes_over place.up (map (λ c. c.number) place.children.items) frame.now ≡ true }
+    requires body { IsBody frame.now.body }
+    requires kept { IsKept (net_of site.now.topo.now) site.now.publisher site.now.broker (held_view held.old) }
+    ensures says { let r = receipt_of_fit (net_of site.now.topo.now) now (held_view held.old) frame.now in
+        IfOk result (λ answer. Answers answer r) }
+    ensures view { let r = receipt_of_fit (net_of site.now.topo.now) now (held_view held.old) frame.now in
+        OnOk result (held_view held.new ≡ view_after r (held_view held.old)) }
+    ensures err { OnErr result (held_view held.new ≡ held_view held.old) }
+    ensures kept { IsKept (net_of site.now.topo.now) site.now.publisher site.now.broker (held_view held.new) }
+    ensures log { held.new.log ≡ held.old.log }
+{
+    match &frame.body {
+        Body::Knowledge(piece) => {
+            // Proof only: the runs are canonical.
+            let _ = held.know.len();
+            let _ = piece.len();
+            if let Some(clash) = held.know.clash(piece) {
+                return Ok(Received::Dropped(Dropped::Clash { clash }));
+            }
+            match learn(site, held, piece) {
+                Ok(outcome) => Ok(Received::Taken(outcome)),
+                Err(refused) => Err(refused),
+            }
+        }
+        Body::Curiosity(piece) => {
+            let Some(i) = child_at(site.position, frame.head.from) else {
+                unreachable!()
+            };
+            match take_curiosity(site, held, i, piece, now) {
+                Ok(outcome) => Ok(Received::Taken(outcome)),
+                Err(refused) => Err(refused),
+            }
+        }
+        Body::Expect(tick) => {
+            // Proof only: the host of a topology has no next broker.
+            let _ = site.topo.brokers();
+            match take_expect(site, held, *tick, now) {
+                Ok(outcome) => Ok(Received::Taken(outcome)),
+                Err(refused) => Err(refused),
+            }
+        }
+    }
+}
+
+/// Takes a datagram. Every publisher's part stays as it was but for that of a frame that is taken.
+pub(crate) fn receive(
+    seat: &Seat<'_>,
+    held: &mut Vec<Held>,
+    bytes: &[u8],
+    now: u64,
+) -> Result<Received, Memory>
+    requires seat { IsSeat seat.now }
+    requires many { length held.old.items ≡ length seat.now.topo.now.publishers }
+    requires kept { (p : ℕ) → p < length seat.now.topo.now.publishers
+        → IsKept (net_of seat.now.topo.now) p seat.now.number (get_or (map held_view held.old.items) p blank_view) }
+    ensures says { let b = broker_at seat.now held.old.items in
+        IfOk result (λ answer. Answers answer (receipt (net_of seat.now.topo.now) now b (frame_decoded bytes.now))) }
+    ensures after { let b = broker_at seat.now held.old.items in
+        OnOk result (broker_at seat.now held.new.items
+        ≡ after_receipt (frame_decoded bytes.now) (receipt (net_of seat.now.topo.now) now b (frame_decoded bytes.now)) b) }
+    ensures err { OnErr result (map held_view held.new.items ≡ map held_view held.old.items) }
+    ensures logs { map (λ h. h.log) held.new.items ≡ map (λ h. h.log) held.old.items }
+    ensures kept { (p : ℕ) → p < length seat.now.topo.now.publishers
+        → IsKept (net_of seat.now.topo.now) p seat.now.number (get_or (map held_view held.new.items) p blank_view) }
+{
+    let frame = match read(seat.alloc, bytes)? {
+        Ok(frame) => frame,
+        Err(fault) => return Ok(Received::Dropped(Dropped::NotFrame { fault })),
+    };
+    take_at(seat, held, &frame, now)
+}
+
+/// The frame that bytes spell, or why they spell none.
+fn read(alloc: Global, bytes: &[u8]) -> Result<Result<Frame, FrameFault>, Memory>
+    ensures read { IfOk result (λ read. read ≡ frame_decoded bytes.now) }
+    ensures body { IfOk result (λ read. IfOk read (λ frame. IsBody frame.body)) }
+{
+    match decode(alloc, bytes) {
+        Ok(frame) => Ok(Ok(frame)),
+        Err(fault) => match fault.kind {
+            FrameKind::Memory => Err(AllocError),
+            _ => Ok(Err(fault)),
+        },
+    }
+}
+
+/// Takes a frame, unless it does not fit or clashes.
+fn take_at(
+    seat: &Seat<'_>,
+    held: &mut Vec<Held>,
+    frame: &Frame,
+    now: u64,
+) -> Result<Received, Memory>
+    requires seat { IsSeat seat.now }
+    requires many { length held.old.items ≡ length seat.now.topo.now.publishers }
+    requires kept { (p : ℕ) → p < length seat.now.topo.now.publishers
+        → IsKept (net_of seat.now.topo.now) p seat.now.number (get_or (map held_view held.old.items) p blank_view) }
+    requires body { IsBody frame.now.body }
+    ensures says { let b = broker_at seat.now held.old.items in
+        IfOk result (λ answer. Answers answer (receipt (net_of seat.now.topo.now) now b (Ok frame.now))) }
+    ensures after { let b = broker_at seat.now held.old.items in
+        OnOk result (broker_at seat.now held.new.items
+        ≡ after_receipt (Ok frame.now) (receipt (net_of seat.now.topo.now) now b (Ok frame.now)) b) }
+    ensures err { OnErr result (map held_view held.new.items ≡ map held_view held.old.items) }
+    ensures logs { map (λ h. h.log) held.new.items ≡ map (λ h. h.log) held.old.items }
+    ensures kept { (p : ℕ) → p < length seat.now.topo.now.publishers
+        → IsKept (net_of seat.now.topo.now) p seat.now.number (get_or (map held_view held.new.items) p blank_view) }
+{
+    if !fits(seat, frame) {
+        return Ok(Received::Dropped(Dropped::Stray { head: frame.head }));
+    }
+    let site = site_at(seat, frame.head.publisher);
+    take_frame(&site, &mut held[frame.head.publisher as usize], frame, now)
+}
+
+/// Whether a frame fits the broker: it is addressed to it, of a publisher that there is, and comes over the right edge.
+fn fits(seat: &Seat<'_>, frame: &Frame) -> bool
+    requires { IsSeat seat.now }
+    ensures { result ≡ fits_broker (net_of seat.now.topo.now) seat.now.number frame.now }
+{
+    if frame.head.to != seat.number || frame.head.publisher >= seat.topo.publishers() {
+        return false;
+    }
+    comes_over(site_at(seat, frame.head.publisher).position, frame)
+}

@@ -1,0 +1,216 @@
+//! A broker starts, publisher by publisher.
+
+ghost use Rattle.std.specs.Prelude.{◌≡◌, ◌≢◌, ℕ, ◌*◌, ◌<◌, ◌++◌, [], true, false, length, map, Some, None, Err, OnOk, IfOk, IsErrOf};
+ghost use Rattle.std.specs.List.{AllByRecursion};
+ghost use Rattle.gr_out.specs.Lane.{content, has_stopped};
+ghost use Rattle.gr_out.specs.Stops.{StaysFaultless};
+ghost use Rattle.gr_publog.specs.Text.{log_text};
+ghost use Rattle.gr_publog.specs.Crash.{LogView};
+ghost use Rattle.gr_publog.specs.Calls.{Opens, Tally};
+ghost use Rattle.gr_pubend.specs.Log.{log_of};
+ghost use Rattle.gr_topo.specs.Topology.{subscribers_of};
+ghost use Rattle.gr_model.specs.Net.{numbers};
+ghost use Rattle.gr_model.specs.Opening.{reopened_line};
+ghost use Rattle.gr_broker.specs.Of.{branch_of};
+ghost use Rattle.gr_broker.specs.Held.{held_view, seen_branch, HasEdges, IsSite};
+ghost use Rattle.gr_broker.specs.Told.{log_answer};
+ghost use Rattle.gr_broker.specs.Opened.{LosesNothing, IsDamagedAt};
+ghost use Rattle.gr_broker.specs.Starting.{fault_of, fresh_view, is_here, IsStartedAt, lines_at, AreStarted, AreOpened, TouchesLanes};
+
+use crate::held::Held;
+use crate::learning::learn;
+use crate::outcome::{BrokerFault, Memory};
+use crate::place::Placed;
+use crate::site::Site;
+use gr_curio::{Asks, Wants};
+use gr_know::Know;
+use gr_model::{Report, Reports};
+use gr_out::Disk;
+use gr_pubend::known_by;
+use gr_publog::{Log, LogFault};
+use gr_subend::Subend;
+use gr_tick::Piece;
+use gr_topo::Topology;
+use std::alloc::Global;
+
+/// What is kept of a publisher before anything was asked or handed over.
+fn fresh_held(site: &Site<'_>, know: Know, log: Option<Log>) -> Result<Held, Memory>
+    requires { IsSite site.now }
+    ensures view { IfOk result (λ held. held_view held
+        ≡ fresh_view site.now.topo.now site.now.publisher site.now.broker know.runs) }
+    ensures log { IfOk result (λ held. held.log ≡ log) }
+{
+    let wants = Wants::new(site.alloc, site.position.children.len())?;
+    Ok(Held {
+        know,
+        wants,
+        asks: Asks::new(site.alloc),
+        horizon: Subend::new(),
+        log,
+    })
+}
+
+/// The line of a log that was opened, where it is not empty.
+fn tell_opened(log: &Log, p: u16, into: &mut Reports) -> Result<(), Memory>
+    ensures { OnOk result (into.new ≡ into.old ++ reopened_line (log_of log.now.records) p) }
+{
+    let _ = log.is_broken();
+    let settled = log.settled();
+    if settled == 0 {
+        return Ok(());
+    }
+    into.push(Report::Opened {
+        publisher: p,
+        last: log.last(),
+        settled,
+        cut: log.cut(),
+    })
+}
+
+/// What is kept of a publisher that is here, over its log.
+fn held_over(site: &Site<'_>, log: Log, into: &mut Reports) -> Result<Held, Memory>
+    requires site { IsSite site.now }
+    requires here { is_here site.now ≡ true }
+    requires lane { log.lane ≡ 2 * site.now.publisher }
+    requires whole { log.broken ≡ false }
+    ensures started { IfOk result (λ held. IsStartedAt site.now held) }
+    ensures log { IfOk result (λ held. held.log ≡ Some log) }
+    ensures lines { IfOk result (λ held. into.new ≡ into.old ++ lines_at site.now held) }
+{
+    let know = known_by(site.alloc, &log)?;
+    tell_opened(&log, site.publisher, into)?;
+    let mut held = fresh_held(site, know, Some(log))?;
+    if site.here.is_empty() {
+        return Ok(held);
+    }
+    let mut told = learn(site, &mut held, &Piece::new(site.alloc))?;
+    into.append(&mut told.reports)?;
+    Ok(held)
+}
+
+/// What is kept of a publisher that is elsewhere.
+fn held_below(site: &Site<'_>) -> Result<Held, Memory>
+    requires site { IsSite site.now }
+    requires below { is_here site.now ≡ false }
+    ensures started { IfOk result (λ held. IsStartedAt site.now held) }
+    ensures log { IfOk result (λ held. held.log ≡ None) }
+    ensures lines { IfOk result (λ held. lines_at site.now held ≡ []) }
+{
+    let held = fresh_held(site, Know::new(site.alloc), None)?;
+    Ok(held)
+}
+
+/// A fault of the log of a publisher.
+pub(crate) fn fault_at(p: u16, fault: LogFault) -> BrokerFault
+    ensures { result ≡ fault_of p fault }
+{
+    match fault {
+        LogFault::Memory => BrokerFault::Memory,
+        LogFault::Disk => BrokerFault::Disk,
+        LogFault::Reopen => BrokerFault::Reopen,
+        LogFault::Damaged { at } => BrokerFault::Damaged { publisher: p, at },
+    }
+}
+
+/// Starts a publisher: where it is here, its log is opened, and what that tells is put at the end of some lines.
+fn open_publisher<D: Disk>(
+    site: &Site<'_>,
+    disk: &mut D,
+    into: &mut Reports,
+) -> Result<Held, BrokerFault>
+    requires { IsSite site.now }
+    ensures started { IfOk result (λ held. IsStartedAt site.now held) }
+    ensures lines { IfOk result (λ held. into.new ≡ into.old ++ lines_at site.now held) }
+    ensures opens { let lane = 2 * site.now.publisher in D.tells → IfOk result (λ held.
+        (l : LogView) → held.log ≡ Some l → Opens (D.lane_of disk.old lane) (D.lane_of disk.new lane) (Ok l)) }
+    ensures damaged { D.tells → (p at : ℕ) → result ≡ Err (BrokerFault.Damaged p at) → (p ≡ site.now.publisher)
+        × (is_here site.now ≡ true) × (log_text (content (D.lane_of disk.old (2 * site.now.publisher))) ≡ Err at) }
+    ensures never_reopen { result ≢ Err BrokerFault.Reopen }
+    ensures below { is_here site.now ≡ false → disk.new ≡ disk.old }
+    ensures others { D.tells → (n : ℕ) → n ≢ 2 * site.now.publisher → D.lane_of disk.new n ≡ D.lane_of disk.old n }
+    ensures any_moment { let lane = 2 * site.now.publisher in
+        D.tells → is_here site.now ≡ true → LosesNothing (D.lane_of disk.old lane) (D.lane_of disk.new lane) }
+    ensures tally { let f = D.faults disk.old in let s = D.stops disk.old in
+        Tally f s (D.faults disk.new) (D.stops disk.new) (log_answer result) }
+    ensures by_stop { D.tells → D.faultless disk.old → IsErrOf result BrokerFault.Disk
+        → has_stopped (D.lane_of disk.new (2 * site.now.publisher)).stop ≡ true }
+    ensures faultless { let f = D.faults disk.old in
+        StaysFaultless (D.faultless disk.old) (D.faultless disk.new) f (D.faults disk.new) }
+{
+    if !site.position.host {
+        return match held_below(site) {
+            Ok(held) => Ok(held),
+            Err(_) => Err(BrokerFault::Memory),
+        };
+    }
+    let _ = site.topo.publishers();
+    let log = match Log::open(site.alloc, disk, 2 * site.publisher) {
+        Ok(log) => log,
+        Err(fault) => return Err(fault_at(site.publisher, fault)),
+    };
+    match held_over(site, log, into) {
+        Ok(held) => Ok(held),
+        Err(_) => Err(BrokerFault::Memory),
+    }
+}
+
+/// What is kept of each publisher, and what the start tells.
+#[derive(Drop)]
+pub(crate) struct Opened {
+    pub held: Vec<Held>,
+    pub lines: Reports,
+}
+
+/// Starts all publishers, in order.
+pub(crate) fn open_publishers<D: Disk>(
+    alloc: Global,
+    topo: &Topology,
+    b: u16,
+    here: &[u16],
+    placed: &Placed,
+    disk: &mut D,
+) -> Result<Opened, BrokerFault>
+    requires broker { b < length topo.now.brokers }
+    requires here { here.now ≡ subscribers_of topo.now b }
+    requires branches { map (seen_branch placed.now.edges.items) placed.now.positions.items
+        ≡ map (branch_of topo.now b) (numbers (length topo.now.publishers)) }
+    requires edges { AllByRecursion (HasEdges placed.now.edges.items) placed.now.positions.items }
+    ensures started { IfOk result (λ opened. AreStarted topo.now b (length topo.now.publishers)
+        (map held_view opened.held.items) (map (λ held. held.log) opened.held.items) opened.lines) }
+    ensures opens { D.tells → IfOk result (λ opened.
+        AreOpened (map (λ held. held.log) opened.held.items) (D.lane_of disk.old) (D.lane_of disk.new)) }
+    ensures touches { let upto = length topo.now.publishers in
+        D.tells → TouchesLanes topo.now b upto (D.lane_of disk.old) (D.lane_of disk.new) }
+    ensures damaged { D.tells → (p at : ℕ) → result ≡ Err (BrokerFault.Damaged p at)
+        → IsDamagedAt topo.now b p at (D.lane_of disk.old) }
+    ensures never_reopen { result ≢ Err BrokerFault.Reopen }
+    ensures tally { let f = D.faults disk.old in let s = D.stops disk.old in
+        Tally f s (D.faults disk.new) (D.stops disk.new) (log_answer result) }
+    ensures by_stop { D.tells → D.faultless disk.old → IsErrOf result BrokerFault.Disk
+        → (p : ℕ) × (has_stopped (D.lane_of disk.new (2 * p)).stop ≡ true) }
+    ensures faultless { let f = D.faults disk.old in
+        StaysFaultless (D.faultless disk.old) (D.faultless disk.new) f (D.faults disk.new) }
+{
+    let mut held = Vec::new(alloc);
+    let mut lines = Reports::new(alloc);
+    'publishers: for p in 0..topo.publishers() {
+        let site = Site {
+            alloc,
+            topo,
+            edges: &placed.edges,
+            here,
+            position: &placed.positions[p as usize],
+            broker: b,
+            publisher: p,
+        };
+        let opened = match open_publisher(&site, disk, &mut lines) {
+            Ok(opened) => opened,
+            Err(fault) => return Err(fault),
+        };
+        match held.push(opened) {
+            Ok(()) => {}
+            Err(_) => return Err(BrokerFault::Memory),
+        }
+    }
+    Ok(Opened { held, lines })
+}

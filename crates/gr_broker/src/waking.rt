@@ -1,0 +1,188 @@
+//! A broker is woken for a publisher: one part is woken, with its log where the publisher is here, and put back.
+
+ghost use Rattle.std.specs.Prelude.{◌≡◌, ◌≢◌, ◌↔◌, ◌⊎◌, ℕ, ◌*◌, ◌^◌, ◌<◌, ◌≤◌, true, length, is_some, None, Some, IsSome, IfOk, OnOk, IsErrOf};
+ghost use Rattle.gr_out.specs.Stops.{StaysFaultless};
+ghost use Rattle.gr_publog.specs.Crash.{LogView};
+ghost use Rattle.gr_publog.specs.Calls.{IsReady, Tally, Causes};
+ghost use Rattle.gr_model.specs.Net.{is_host};
+ghost use Rattle.gr_model.specs.NetOf.{net_of};
+ghost use Rattle.gr_model.specs.Broker.{Outcome as MachineOutcome};
+ghost use Rattle.gr_broker.specs.Seen.{log_in, log_said, machine_log, is_broken, broken_at};
+ghost use Rattle.gr_broker.specs.Of.{IsKept, IsBrokerOf, LogsStand};
+ghost use Rattle.gr_broker.specs.Held.{held_view, IsSeat, IsSite, broker_at};
+ghost use Rattle.gr_broker.specs.Told.{Tells, log_answer};
+ghost use Rattle.gr_broker.specs.Parts.{part_of, part_wake, part_mark_logs, part_cut_logs, part_marked, part_woken, part_failed};
+ghost use Rattle.gr_broker.specs.Hosted.{wake_at, mark_logs_at, cut_logs_at, after_mark, after_wake, AppendsTwice, AppendsTwiceAt, WakeLeaves};
+
+use crate::asking::wake_below;
+use crate::held::Held;
+use crate::hosting::wake_host;
+use crate::outcome::{BrokerFault, Outcome};
+use crate::site::{Seat, Site, site_at};
+use crate::starting::fault_at;
+use gr_out::Disk;
+use gr_publog::LogFault;
+
+/// Wakes for a publisher that is here: its log is taken out, and put back.
+fn wake_here<D: Disk>(
+    site: &Site<'_>,
+    disk: &mut D,
+    part: &mut Held,
+    now: u64,
+) -> Result<Outcome, LogFault>
+    requires site { IsSite site.now }
+    requires host { is_host (net_of site.now.topo.now) site.now.publisher site.now.broker ≡ true }
+    requires kept { IsKept (net_of site.now.topo.now) site.now.publisher site.now.broker (held_view part.old) }
+    requires hosted { is_some part.old.log ≡ is_host (net_of site.now.topo.now) site.now.publisher site.now.broker }
+    requires lanes { (l : LogView) → part.old.log ≡ Some l → l.lane ≡ 2 * site.now.publisher }
+    requires now { now ≤ 2 ^ 62 }
+    requires stands { let lane = 2 * site.now.publisher in
+        D.tells → (l : LogView) → part.old.log ≡ Some l → IsReady l (D.lane_of disk.old lane) }
+    ensures told { let x = part_of part.old in
+        IfOk result (λ told. Tells (part_wake site.now.topo.now site.now.publisher site.now.broker now x) told) }
+    ensures leaves { let x = part_of part.old in
+        let marked = part_marked site.now.topo.now site.now.publisher site.now.broker now x in
+        let woken = part_woken site.now.topo.now site.now.publisher site.now.broker now x in
+        WakeLeaves x marked woken (part_failed x) (part_failed marked) (part_of part.new) result }
+    ensures log { let x = part_of part.old in
+        OnOk result (let o : MachineOutcome = part_wake site.now.topo.now site.now.publisher site.now.broker now x in
+        log_said part.new.log ≡ o.log) }
+    ensures kept { IsKept (net_of site.now.topo.now) site.now.publisher site.now.broker (held_view part.new) }
+    ensures hosted { is_some part.new.log ≡ is_some part.old.log }
+    ensures lanes { (l : LogView) → part.new.log ≡ Some l → l.lane ≡ 2 * site.now.publisher }
+    ensures lane { let x = part_of part.old in let lane = 2 * site.now.publisher in
+        D.tells → (l : LogView) → part.old.log ≡ Some l → AppendsTwice l (part_mark_logs site.now.topo.now now x)
+        (part_cut_logs site.now.topo.now site.now.publisher site.now.broker now x)
+        (D.lane_of disk.old lane) (D.lane_of disk.new lane) result }
+    ensures reopen { let x = part_of part.old in IsErrOf result LogFault.Reopen ↔ ((is_broken part.old.log ≡ true)
+        × (IsSome (part_mark_logs site.now.topo.now now x)
+        ⊎ IsSome (part_cut_logs site.now.topo.now site.now.publisher site.now.broker now x))) }
+    ensures idle { IsErrOf result LogFault.Reopen → disk.new ≡ disk.old }
+    ensures tally { let f = D.faults disk.old in let s = D.stops disk.old in
+        Tally f s (D.faults disk.new) (D.stops disk.new) result }
+    ensures causes { let f = D.faults disk.old in let f' = D.faults disk.new in
+        D.tells → Causes (D.faultless disk.old) (D.lane_of disk.new (2 * site.now.publisher)) f f' result }
+    ensures faultless { let f = D.faults disk.old in
+        StaysFaultless (D.faultless disk.old) (D.faultless disk.new) f (D.faults disk.new) }
+    ensures others { D.tells → (n : ℕ) → n ≢ 2 * site.now.publisher → D.lane_of disk.new n ≡ D.lane_of disk.old n }
+    ensures stands { let lane = 2 * site.now.publisher in
+        D.tells → (l : LogView) → part.new.log ≡ Some l → IsReady l (D.lane_of disk.new lane) }
+{
+    // Proof only: a time of silence is at least 1.
+    let _ = site.topo.settings();
+    let Some(mut log) = part.log.take() else {
+        unreachable!()
+    };
+    let answer = wake_host(site, disk, &mut log, part, now);
+    part.log = Some(log);
+    answer
+}
+
+/// Wakes for a publisher: where it is elsewhere, the disk is not called.
+fn wake_part<D: Disk>(
+    site: &Site<'_>,
+    disk: &mut D,
+    part: &mut Held,
+    now: u64,
+) -> Result<Outcome, LogFault>
+    requires site { IsSite site.now }
+    requires kept { IsKept (net_of site.now.topo.now) site.now.publisher site.now.broker (held_view part.old) }
+    requires hosted { is_some part.old.log ≡ is_host (net_of site.now.topo.now) site.now.publisher site.now.broker }
+    requires lanes { (l : LogView) → part.old.log ≡ Some l → l.lane ≡ 2 * site.now.publisher }
+    requires now { now ≤ 2 ^ 62 }
+    requires stands { let lane = 2 * site.now.publisher in
+        D.tells → (l : LogView) → part.old.log ≡ Some l → IsReady l (D.lane_of disk.old lane) }
+    ensures told { let x = part_of part.old in
+        IfOk result (λ told. Tells (part_wake site.now.topo.now site.now.publisher site.now.broker now x) told) }
+    ensures leaves { let x = part_of part.old in
+        let marked = part_marked site.now.topo.now site.now.publisher site.now.broker now x in
+        let woken = part_woken site.now.topo.now site.now.publisher site.now.broker now x in
+        WakeLeaves x marked woken (part_failed x) (part_failed marked) (part_of part.new) result }
+    ensures log { let x = part_of part.old in
+        OnOk result (let o : MachineOutcome = part_wake site.now.topo.now site.now.publisher site.now.broker now x in
+        log_said part.new.log ≡ o.log) }
+    ensures kept { IsKept (net_of site.now.topo.now) site.now.publisher site.now.broker (held_view part.new) }
+    ensures hosted { is_some part.new.log ≡ is_some part.old.log }
+    ensures lanes { (l : LogView) → part.new.log ≡ Some l → l.lane ≡ 2 * site.now.publisher }
+    ensures lane { let x = part_of part.old in let lane = 2 * site.now.publisher in
+        D.tells → (l : LogView) → part.old.log ≡ Some l → AppendsTwice l (part_mark_logs site.now.topo.now now x)
+        (part_cut_logs site.now.topo.now site.now.publisher site.now.broker now x)
+        (D.lane_of disk.old lane) (D.lane_of disk.new lane) result }
+    ensures reopen { let x = part_of part.old in IsErrOf result LogFault.Reopen ↔ ((is_broken part.old.log ≡ true)
+        × (IsSome (part_mark_logs site.now.topo.now now x)
+        ⊎ IsSome (part_cut_logs site.now.topo.now site.now.publisher site.now.broker now x))) }
+    ensures idle { IsErrOf result LogFault.Reopen → disk.new ≡ disk.old }
+    ensures below { part.old.log ≡ None → disk.new ≡ disk.old }
+    ensures tally { let f = D.faults disk.old in let s = D.stops disk.old in
+        Tally f s (D.faults disk.new) (D.stops disk.new) result }
+    ensures causes { let f = D.faults disk.old in let f' = D.faults disk.new in
+        D.tells → Causes (D.faultless disk.old) (D.lane_of disk.new (2 * site.now.publisher)) f f' result }
+    ensures faultless { let f = D.faults disk.old in
+        StaysFaultless (D.faultless disk.old) (D.faultless disk.new) f (D.faults disk.new) }
+    ensures others { D.tells → (n : ℕ) → n ≢ 2 * site.now.publisher → D.lane_of disk.new n ≡ D.lane_of disk.old n }
+    ensures stands { let lane = 2 * site.now.publisher in
+        D.tells → (l : LogView) → part.new.log ≡ Some l → IsReady l (D.lane_of disk.new lane) }
+{
+    if site.position.host {
+        return wake_here(site, disk, part, now);
+    }
+    match wake_below(site, part, now) {
+        Ok(told) => Ok(told),
+        Err(_) => Err(LogFault::Memory),
+    }
+}
+
+/// The answer of a publisher's log as that of the broker.
+fn answer_at(p: u16, answer: Result<Outcome, LogFault>) -> Result<Outcome, BrokerFault>
+    ensures { log_answer result ≡ answer }
+{
+    match answer {
+        Ok(told) => Ok(told),
+        Err(fault) => Err(fault_at(p, fault)),
+    }
+}
+
+/// Wakes for a publisher. Every other publisher's part stays as it was.
+pub(crate) fn wake<D: Disk>(
+    seat: &Seat<'_>,
+    disk: &mut D,
+    held: &mut Vec<Held>,
+    p: u16,
+    now: u64,
+) -> Result<Outcome, BrokerFault>
+    requires seat { IsSeat seat.now }
+    requires fits { IsBrokerOf seat.now.topo.now (broker_at seat.now held.old.items) }
+    requires publisher { let b = broker_at seat.now held.old.items in p < length b.views }
+    requires now { now ≤ 2 ^ 62 }
+    requires stands { D.tells → LogsStand (D.lane_of disk.old) (broker_at seat.now held.old.items) }
+    ensures told { let b = broker_at seat.now held.old.items in
+        IfOk result (λ told. Tells (wake_at seat.now.topo.now b p now) told) }
+    ensures leaves { let b = broker_at seat.now held.old.items in
+        let b' = broker_at seat.now held.new.items in
+        let marked = after_mark seat.now.topo.now b p now in let woken = after_wake seat.now.topo.now b p now in
+        WakeLeaves b marked woken (broken_at b p) (broken_at marked p) b' (log_answer result) }
+    ensures log { let b = broker_at seat.now held.old.items in
+        let b' = broker_at seat.now held.new.items in
+        OnOk result (let o : MachineOutcome = wake_at seat.now.topo.now b p now in machine_log b' p ≡ o.log) }
+    ensures fits { IsBrokerOf seat.now.topo.now (broker_at seat.now held.new.items) }
+    ensures lane { let b = broker_at seat.now held.old.items in
+        D.tells → AppendsTwiceAt b p (mark_logs_at seat.now.topo.now b p now) (cut_logs_at seat.now.topo.now b p now)
+        (D.lane_of disk.old) (D.lane_of disk.new) (log_answer result) }
+    ensures reopen { let b = broker_at seat.now held.old.items in
+        IsErrOf result BrokerFault.Reopen ↔ ((is_broken (log_in b p) ≡ true)
+        × (IsSome (mark_logs_at seat.now.topo.now b p now) ⊎ IsSome (cut_logs_at seat.now.topo.now b p now))) }
+    ensures idle { IsErrOf result BrokerFault.Reopen → disk.new ≡ disk.old }
+    ensures below { let b = broker_at seat.now held.old.items in log_in b p ≡ None → disk.new ≡ disk.old }
+    ensures tally { let f = D.faults disk.old in let s = D.stops disk.old in
+        Tally f s (D.faults disk.new) (D.stops disk.new) (log_answer result) }
+    ensures causes { let f = D.faults disk.old in let f' = D.faults disk.new in
+        D.tells → Causes (D.faultless disk.old) (D.lane_of disk.new (2 * p)) f f' (log_answer result) }
+    ensures faultless { let f = D.faults disk.old in
+        StaysFaultless (D.faultless disk.old) (D.faultless disk.new) f (D.faults disk.new) }
+    ensures others { D.tells → (n : ℕ) → n ≢ 2 * p → D.lane_of disk.new n ≡ D.lane_of disk.old n }
+    ensures stands { D.tells → LogsStand (D.lane_of disk.new) (broker_at seat.now held.new.items) }
+{
+    let site = site_at(seat, p);
+    let answer = wake_part(&site, disk, &mut held[p as usize], now);
+    answer_at(p, answer)
+}
