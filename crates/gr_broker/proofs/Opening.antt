@@ -5,6 +5,7 @@ use Rattle.std.specs.Prelude.{IsOk, is_ok, is_some, flat_map}
 use Rattle.std.proofs.lemmas.Bool.{cases_lt, cases_eq, false≢true}
 use Rattle.std.proofs.lemmas.List.{append-nil, append_assoc, length_push, get_or_push, get_or_append_left, get_or_past, map_push}
 use Rattle.gr_topo.specs.Topology.{TopologyView, subscribers_of}
+use Rattle.gr_out.specs.declared.disk.Stop.TheVariants.{Unset}
 use Rattle.gr_out.specs.Lane.{Lane, content, moment, LeftSince}
 use Rattle.gr_out.specs.Stops.{StaysFaultless}
 use Rattle.gr_publog.specs.Text.{log_text}
@@ -80,6 +81,11 @@ module _ (t : TopologyView) (b n : ℕ) (before mid after : ℕ → Lane) where
   -- the lane of the next publisher is as it was at first
   next_lane : TouchesLanes t b n before mid → mid (2 * n) ≡ before (2 * n)
   next_lane s = s.others (2 * n) (λ p j here e. omega (arith, j, e))
+
+  -- so where no stop was ordered on it there is none
+  pub next_unset : TouchesLanes t b n before mid → ((p : ℕ) → p < length t.publishers → is_host (net_of t) p b ≡ true → (before (2 * p)).stop ≡ Unset)
+      → n < length t.publishers → is_host (net_of t) n b ≡ true → (mid (2 * n)).stop ≡ Unset
+  next_unset s none j here = ap (λ (l : Lane). l.stop) (next_lane s) ∙ none n j here
 
   -- one publisher more touches no lane but its own
   pub touches_more : TouchesLanes t b n before mid → ((k : ℕ) → k ≢ 2 * n → after k ≡ mid k) → (is_host (net_of t) n b ≡ false → (k : ℕ) → after k ≡ mid k)

@@ -2,6 +2,7 @@
 
 ghost use Rattle.std.specs.Prelude.{◌≡◌, ◌≢◌, ◌↔◌, ◌⊎◌, ℕ, ◌*◌, ◌^◌, ◌<◌, ◌≤◌, true, List, length, Option, Some, None, Result, Err, IsSome, IfOk, OnOk, OnErr, IsErrOf};
 ghost use Rattle.gr_frame.specs.Decode.{frame_decoded};
+ghost use Rattle.gr_out.specs.declared.disk.Stop.TheVariants.{Unset};
 ghost use Rattle.gr_out.specs.Lane.{content, moment, has_stopped, MayLeave, LeftSince};
 ghost use Rattle.gr_out.specs.Stops.{StaysFaultless};
 ghost use Rattle.gr_publog.specs.Text.{log_text};
@@ -112,6 +113,11 @@ impl Broker {
         // On a faultless disk only a lane that was stopped makes it fail
         ensures by_stop { D.tells → D.faultless disk.old → IsErrOf result BrokerFault.Disk
             → (p : ℕ) × (has_stopped (D.lane_of disk.new (2 * p)).stop ≡ true) }
+        // and where no stop was ordered on the lanes of the publishers that are here, nothing does
+        ensures never_fails { D.tells → D.faultless disk.old
+            → ((p : ℕ) → p < length topo.now.publishers → is_host (net_of topo.now) p number ≡ true
+            → (D.lane_of disk.old (2 * p)).stop ≡ Unset)
+            → result ≢ Err BrokerFault.Disk }
         ensures faultless { let f = D.faults disk.old in
             StaysFaultless (D.faultless disk.old) (D.faultless disk.new) f (D.faults disk.new) }
     {
@@ -256,6 +262,8 @@ impl Broker {
             × (IsSome (mark_logs_at topo.now self.old p now) ⊎ IsSome (cut_logs_at topo.now self.old p now))) }
         ensures idle { IsErrOf result BrokerFault.Reopen → disk.new ≡ disk.old }
         ensures below { log_in self.old p ≡ None → disk.new ≡ disk.old }
+        // A log that the disk has failed is not written to any more
+        ensures closed { is_broken (log_in self.old p) ≡ true → disk.new ≡ disk.old }
         ensures tally { let f = D.faults disk.old in let s = D.stops disk.old in
             Tally f s (D.faults disk.new) (D.stops disk.new) (log_answer result) }
         ensures causes { let f = D.faults disk.old in let f' = D.faults disk.new in

@@ -300,6 +300,7 @@ fn mark<D: Disk>(
     ensures reopen { IsErrOf result LogFault.Reopen
         ↔ ((log.old.broken ≡ true) × IsSome (quiet_logs log.old.records now site.now.topo.now.settings.quiet)) }
     ensures idle { IsErrOf result LogFault.Reopen → disk.new ≡ disk.old }
+    ensures closed { log.old.broken ≡ true → disk.new ≡ disk.old }
     ensures untouched { quiet_logs log.old.records now site.now.topo.now.settings.quiet ≡ None → disk.new ≡ disk.old }
     ensures stands { D.tells → IsReady log.new (D.lane_of disk.new log.new.lane) }
     ensures tally { let f = D.faults disk.old in let s = D.stops disk.old in
@@ -537,6 +538,7 @@ fn cut<D: Disk>(
         × IsSome (cut_logs (net_of site.now.topo.now) site.now.publisher site.now.broker (held_view held.now)
         (log_of log.old.records))) }
     ensures idle { IsErrOf result LogFault.Reopen → disk.new ≡ disk.old }
+    ensures closed { log.old.broken ≡ true → disk.new ≡ disk.old }
     ensures stands { D.tells → IsReady log.new (D.lane_of disk.new log.new.lane) }
     ensures tally { let f = D.faults disk.old in let s = D.stops disk.old in
         Tally f s (D.faults disk.new) (D.stops disk.new) result }
@@ -599,6 +601,7 @@ pub(crate) fn wake_host<D: Disk>(
         let cut = cut_logs (net_of site.now.topo.now) site.now.publisher site.now.broker m.view m.log in
         IsErrOf result LogFault.Reopen ↔ ((log.old.broken ≡ true) × (IsSome marked ⊎ IsSome cut)) }
     ensures idle { IsErrOf result LogFault.Reopen → disk.new ≡ disk.old }
+    ensures closed { log.old.broken ≡ true → disk.new ≡ disk.old }
     ensures stands { D.tells → IsReady log.new (D.lane_of disk.new log.new.lane) }
     ensures tally { let f = D.faults disk.old in let s = D.stops disk.old in
         Tally f s (D.faults disk.new) (D.stops disk.new) result }

@@ -2,6 +2,7 @@
 
 ghost use Rattle.std.specs.Prelude.{◌≡◌, ◌≢◌, ℕ, ◌*◌, ◌<◌, ◌++◌, [], true, false, length, map, Some, None, Err, OnOk, IfOk, IsErrOf};
 ghost use Rattle.std.specs.List.{AllByRecursion};
+ghost use Rattle.gr_out.specs.declared.disk.Stop.TheVariants.{Unset};
 ghost use Rattle.gr_out.specs.Lane.{content, has_stopped};
 ghost use Rattle.gr_out.specs.Stops.{StaysFaultless};
 ghost use Rattle.gr_publog.specs.Text.{log_text};
@@ -9,7 +10,8 @@ ghost use Rattle.gr_publog.specs.Crash.{LogView};
 ghost use Rattle.gr_publog.specs.Calls.{Opens, Tally};
 ghost use Rattle.gr_pubend.specs.Log.{log_of};
 ghost use Rattle.gr_topo.specs.Topology.{subscribers_of};
-ghost use Rattle.gr_model.specs.Net.{numbers};
+ghost use Rattle.gr_model.specs.Net.{numbers, is_host};
+ghost use Rattle.gr_model.specs.NetOf.{net_of};
 ghost use Rattle.gr_model.specs.Opening.{reopened_line};
 ghost use Rattle.gr_broker.specs.Of.{branch_of};
 ghost use Rattle.gr_broker.specs.Held.{held_view, seen_branch, HasEdges, IsSite};
@@ -134,6 +136,9 @@ fn open_publisher<D: Disk>(
         Tally f s (D.faults disk.new) (D.stops disk.new) (log_answer result) }
     ensures by_stop { D.tells → D.faultless disk.old → IsErrOf result BrokerFault.Disk
         → has_stopped (D.lane_of disk.new (2 * site.now.publisher)).stop ≡ true }
+    ensures never_fails { D.tells → D.faultless disk.old
+        → (is_here site.now ≡ true → (D.lane_of disk.old (2 * site.now.publisher)).stop ≡ Unset)
+        → result ≢ Err BrokerFault.Disk }
     ensures faultless { let f = D.faults disk.old in
         StaysFaultless (D.faultless disk.old) (D.faultless disk.new) f (D.faults disk.new) }
 {
@@ -188,6 +193,10 @@ pub(crate) fn open_publishers<D: Disk>(
         Tally f s (D.faults disk.new) (D.stops disk.new) (log_answer result) }
     ensures by_stop { D.tells → D.faultless disk.old → IsErrOf result BrokerFault.Disk
         → (p : ℕ) × (has_stopped (D.lane_of disk.new (2 * p)).stop ≡ true) }
+    ensures never_fails { D.tells → D.faultless disk.old
+        → ((p : ℕ) → p < length topo.now.publishers → is_host (net_of topo.now) p b ≡ true
+        → (D.lane_of disk.old (2 * p)).stop ≡ Unset)
+        → result ≢ Err BrokerFault.Disk }
     ensures faultless { let f = D.faults disk.old in
         StaysFaultless (D.faultless disk.old) (D.faultless disk.new) f (D.faults disk.new) }
 {

@@ -58,6 +58,7 @@ fn wake_here<D: Disk>(
         × (IsSome (part_mark_logs site.now.topo.now now x)
         ⊎ IsSome (part_cut_logs site.now.topo.now site.now.publisher site.now.broker now x))) }
     ensures idle { IsErrOf result LogFault.Reopen → disk.new ≡ disk.old }
+    ensures closed { is_broken part.old.log ≡ true → disk.new ≡ disk.old }
     ensures tally { let f = D.faults disk.old in let s = D.stops disk.old in
         Tally f s (D.faults disk.new) (D.stops disk.new) result }
     ensures causes { let f = D.faults disk.old in let f' = D.faults disk.new in
@@ -113,6 +114,7 @@ fn wake_part<D: Disk>(
         ⊎ IsSome (part_cut_logs site.now.topo.now site.now.publisher site.now.broker now x))) }
     ensures idle { IsErrOf result LogFault.Reopen → disk.new ≡ disk.old }
     ensures below { part.old.log ≡ None → disk.new ≡ disk.old }
+    ensures closed { is_broken part.old.log ≡ true → disk.new ≡ disk.old }
     ensures tally { let f = D.faults disk.old in let s = D.stops disk.old in
         Tally f s (D.faults disk.new) (D.stops disk.new) result }
     ensures causes { let f = D.faults disk.old in let f' = D.faults disk.new in
@@ -173,6 +175,7 @@ pub(crate) fn wake<D: Disk>(
         × (IsSome (mark_logs_at seat.now.topo.now b p now) ⊎ IsSome (cut_logs_at seat.now.topo.now b p now))) }
     ensures idle { IsErrOf result BrokerFault.Reopen → disk.new ≡ disk.old }
     ensures below { let b = broker_at seat.now held.old.items in log_in b p ≡ None → disk.new ≡ disk.old }
+    ensures closed { let b = broker_at seat.now held.old.items in is_broken (log_in b p) ≡ true → disk.new ≡ disk.old }
     ensures tally { let f = D.faults disk.old in let s = D.stops disk.old in
         Tally f s (D.faults disk.new) (D.stops disk.new) (log_answer result) }
     ensures causes { let f = D.faults disk.old in let f' = D.faults disk.new in

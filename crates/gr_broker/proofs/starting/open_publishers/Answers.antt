@@ -3,7 +3,7 @@ use Rattle.gr_broker.specs.declared.held.Held.{Held}
 use Rattle.gr_broker.specs.declared.outcome.BrokerFault.TheVariants as refused
 use Rattle.gr_broker.specs.Held.{held_view}
 use Rattle.gr_broker.proofs.Placed.{as_many_places, branch_at, edges_at}
-use Rattle.gr_broker.proofs.Opening.{touches_more, touches_all, damaged_at, started_next, opened_next, faultless_on, err_is}
+use Rattle.gr_broker.proofs.Opening.{next_unset, touches_more, touches_all, damaged_at, started_next, opened_next, faultless_on, err_is}
 use Rattle.gr_broker.proofs.starting.open_publishers.Goals as goal
 
 pub index-requires : goal.index-requires
@@ -41,6 +41,15 @@ returns-in-Err-clause-damaged g c = λ tells p at e.
     let sofar = c.publishers.invariant in
     damaged_at t c.args.b c.publishers.p p at (map held_view c.publishers.held.items) (map (λ (held : Held). held.log) c.publishers.held.items) c.publishers.lines
     (g.D.Disk.lane_of c.args.disk.now) (g.D.Disk.lane_of c.publishers.disk) (omega (arith, c.publishers-test.true, c.publishers-p-end.ensures.count)) sofar.started (sofar.opens tells) (sofar.touches tells) one.0 one.1 one.2
+
+pub returns-in-Err-clause-never_fails : goal.returns-in-Err-clause-never_fails
+returns-in-Err-clause-never_fails g c = λ tells faultless none e.
+    let t = c.args.topo.now in
+    let mid = g.D.Disk.lane_of c.publishers.disk in
+    let sofar = c.publishers.invariant in
+    c.in-Err.ensures.never_fails tells (sofar.faultless.stays faultless)
+    (λ here. next_unset t c.args.b c.publishers.p (g.D.Disk.lane_of c.args.disk.now) mid mid (sofar.touches tells) none (omega (arith, c.publishers-test.true, c.publishers-p-end.ensures.count)) here)
+    (ap (λ f. Err f) (err_is c.in-Err.fault refused.Disk e))
 
 pub returns-in-Err-push-clause-touches : goal.returns-in-Err-push-clause-touches
 returns-in-Err-push-clause-touches g c = λ tells.

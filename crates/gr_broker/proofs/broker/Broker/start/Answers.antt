@@ -36,3 +36,8 @@ returns-clause-opens g c = λ tells.
 
 pub returns-clause-stands : goal.returns-clause-stands
 returns-clause-stands g c = λ tells p l e whole. (c.in-Ok-open_publishers.ensures.opens tells p l e).stands
+
+pub returns-in-Err-open_publishers-clause-never_fails :
+    goal.returns-in-Err-open_publishers-clause-never_fails
+returns-in-Err-open_publishers-clause-never_fails g c = λ tells faultless none e.
+    c.in-Err-open_publishers.ensures.never_fails tells faultless none (ap (λ f. Err f) (err_is c.in-Err-open_publishers.fault refused.Disk e))
