@@ -1,0 +1,9 @@
+pub mod Counts
+pub mod Streams
+pub mod Address
+pub mod Folder
+pub mod FileDisk
+pub mod LogFolder
+pub mod Network
+pub mod Bound
+pub mod UdpPost
