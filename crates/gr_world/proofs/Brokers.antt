@@ -1,0 +1,156 @@
+-- Brokers start one after another: what is kept and told of one more is put behind that of the others, and each lane is opened as it
+-- was found, since no later broker touches it.
+use Rattle.std.proofs.Common.{◌≡◌, ◌≢◌, inl, inr, ℕ, zero, suc, ◌+◌, ◌*◌, ◌<◌, ◌≤◌, true, List, [], ◌∷◌, ◌++◌, length, get_or, map, Some, Ok, Err, refl, sym, ap, ◌∙◌, subst, arith}
+use Rattle.std.specs.Prelude.{flat_map, IsOk}
+use Rattle.std.proofs.lemmas.Bool.{cases_lt}
+use Rattle.std.proofs.lemmas.List.{append-nil, append_assoc, length_push, get_or_push, get_or_append_left}
+use Rattle.gr_out.specs.declared.disk.Stop.TheVariants.{Unset}
+use Rattle.gr_out.specs.Lane.{Lane, content}
+use Rattle.gr_publog.specs.Text.{log_text}
+use Rattle.gr_publog.specs.Calls.{Opens}
+use Rattle.gr_topo.specs.Topology.{TopologyView, host_of}
+use Rattle.gr_model.specs.declared.report.Report.{Report}
+use Rattle.gr_model.specs.Net.{numbers, numbers_from, is_host}
+use Rattle.gr_model.specs.NetOf.{net_of}
+use Rattle.gr_broker.specs.declared.outcome.Outcome.{Outcome as BrokerOutcome}
+use Rattle.gr_broker.specs.Seen.{BrokerView, log_in}
+use Rattle.gr_broker.specs.Opened.{StartsOver, OpensLanes, IsDamagedAt}
+use Rattle.gr_broker.proofs.Placed.{numbers_more}
+use Rattle.gr_world.specs.Seen.{no_broker}
+use Rattle.gr_world.specs.Opened.{NoStops}
+use Rattle.gr_world.specs.Starting.{start_lines, HasStarted, HaveStarted, HaveOpened}
+use Rattle.gr_world.proofs.Hosts.{host_is, log_hosted, lanes_apart}
+
+-- Lists along numbers
+
+-- functions that agree on the numbers give one list
+pub flat_map_same : {X : Type 0} (f g : ℕ → List X) (a n : ℕ) → ((k : ℕ) → a ≤ k → k < a + n → f k ≡ g k) → flat_map f (numbers_from a n) ≡ flat_map g (numbers_from a n)
+flat_map_same f g a zero h = refl
+flat_map_same f g a (suc n) h =
+    ap (λ xs. xs ++ flat_map f (numbers_from (suc a) n)) (h a (omega arith) (omega arith))
+    ∙ ap (λ xs. g a ++ xs) (flat_map_same f g (suc a) n (λ k from upto. h k (omega (arith, from)) (omega (arith, upto))))
+
+-- the same one by one
+pub map_same : {X : Type 0} (f g : ℕ → X) (a n : ℕ) → ((k : ℕ) → a ≤ k → k < a + n → f k ≡ g k) → map f (numbers_from a n) ≡ map g (numbers_from a n)
+map_same f g a zero h = refl
+map_same f g a (suc n) h =
+    ap (λ x. x ∷ map f (numbers_from (suc a) n)) (h a (omega arith) (omega arith))
+    ∙ ap (λ xs. g a ∷ xs) (map_same f g (suc a) n (λ k from upto. h k (omega (arith, from)) (omega (arith, upto))))
+
+-- lists that are all empty
+pub flat_map_none : {X : Type 0} (f : ℕ → List X) (a n : ℕ) → ((k : ℕ) → a ≤ k → k < a + n → f k ≡ []) → flat_map f (numbers_from a n) ≡ []
+flat_map_none f a zero h = refl
+flat_map_none f a (suc n) h =
+    ap (λ xs. xs ++ flat_map f (numbers_from (suc a) n)) (h a (omega arith) (omega arith))
+    ∙ flat_map_none f (suc a) n (λ k from upto. h k (omega (arith, from)) (omega (arith, upto)))
+
+flat_map_push : {X : Type 0} (f : ℕ → List X) (ks : List ℕ) (k : ℕ) → flat_map f (ks ++ k ∷ []) ≡ flat_map f ks ++ f k
+flat_map_push f [] k = append-nil (f k)
+flat_map_push f (j ∷ js) k = ap (λ xs. f j ++ xs) (flat_map_push f js k) ∙ sym (append_assoc (f j) (flat_map f js) (f k))
+
+lines_more : (f g : ℕ → List Report) (n : ℕ) (told more : List Report) → ((k : ℕ) → k < n → f k ≡ g k) → more ≡ g n → told ≡ flat_map f (numbers n) → told ++ more ≡ flat_map g (numbers (n + 1))
+lines_more f g n told more same e is =
+    ap (λ xs. xs ++ more) (is ∙ flat_map_same f g 0 n (λ k from upto. same k (omega (arith, upto))))
+    ∙ ap (λ xs. flat_map g (numbers n) ++ xs) e
+    ∙ sym (ap (flat_map g) (numbers_more n) ∙ flat_map_push g (numbers n) n)
+
+-- what a broker's start says, but for its frames
+pub has_started : (t : TopologyView) (b : ℕ) (v : BrokerView) (told : BrokerOutcome) → StartsOver t b v told → HasStarted t b v
+has_started t b v told s = record { number = s.number; fits = s.fits; views = s.views; whole = s.whole }
+
+-- One broker more
+
+module _ (t : TopologyView) (n : ℕ) (brokers : List BrokerView) (v : BrokerView) where
+  abbrev more : List BrokerView
+  more = brokers ++ v ∷ []
+
+  at_old : length brokers ≡ n → (b : ℕ) → b < n → get_or more b no_broker ≡ get_or brokers b no_broker
+  at_old many b j = get_or_append_left brokers (v ∷ []) no_broker b (omega (arith, many, j))
+
+  at_new : length brokers ≡ n → get_or more n no_broker ≡ v
+  at_new many = get_or_push brokers v no_broker n many
+
+  each_more : length brokers ≡ n → ((b : ℕ) → b < n → HasStarted t b (get_or brokers b no_broker)) → HasStarted t n v
+      → (b : ℕ) → b < n + 1 → HasStarted t b (get_or more b no_broker)
+  each_more many each one b j = elim (cases_lt b n) [
+    | inl k ↦ subst (λ (x : BrokerView). HasStarted t b x) (sym (at_old many b k)) (each b k)
+    | inr k ↦
+        let e : b ≡ n = omega (arith, k, j) in
+        subst (λ (m : ℕ). HasStarted t m (get_or more m no_broker)) (sym e) (subst (λ (x : BrokerView). HasStarted t n x) (sym (at_new many)) one)
+  ]
+
+  started_more : (told lines : List Report) → HaveStarted t n brokers told → HasStarted t n v → lines ≡ start_lines t n v → HaveStarted t (n + 1) more (told ++ lines)
+  started_more told lines s one e = record {
+    count = length_push brokers v ∙ ap (λ k. k + 1) s.count;
+    each = each_more s.count s.each one;
+    lines = lines_more (λ b. start_lines t b (get_or brokers b no_broker)) (λ b. start_lines t b (get_or more b no_broker)) n told lines
+        (λ k j. ap (start_lines t k) (sym (at_old s.count k j))) (e ∙ ap (start_lines t n) (sym (at_new s.count))) s.lines;
+  }
+
+  module _ (before mid after : ℕ → Lane)
+      (others : (k : ℕ) → ((p : ℕ) → p < length t.publishers → is_host (net_of t) p n ≡ true → k ≢ 2 * p) → after k ≡ mid k) where
+    -- the lanes of publishers at other brokers stay
+    stays : (p b : ℕ) → host_of t p ≡ b → b ≢ n → after (2 * p) ≡ mid (2 * p)
+    stays p b at apart = others (2 * p) (λ q j here. lanes_apart t p q b n at (host_is t q n here) apart)
+
+    opened_more : (told : List Report) → HaveStarted t n brokers told → HasStarted t n v → HaveOpened t n brokers before mid → OpensLanes v mid after → HaveOpened t (n + 1) more before after
+    opened_more told s one sofar new = record {
+      opened = λ b p l j e. elim (cases_lt b n) [
+        | inl k ↦
+            let h = s.each b k in
+            let e' : log_in (get_or brokers b no_broker) p ≡ Some l = subst (λ (x : BrokerView). log_in x p ≡ Some l) (at_old s.count b k) e in
+            let at = log_hosted t b (get_or brokers b no_broker) h.fits h.number p l e' in
+            subst (λ (x : Lane). Opens (before (2 * p)) x (Ok l)) (sym (stays p b at.1 (λ same. omega (arith, k, same)))) (sofar.opened b p l k e')
+        | inr k ↦
+            let same : b ≡ n = omega (arith, k, j) in
+            let e' : log_in v p ≡ Some l = subst (λ (x : BrokerView). log_in x p ≡ Some l) (ap (λ m. get_or more m no_broker) same ∙ at_new s.count) e in
+            let at = log_hosted t n v one.fits one.number p l e' in
+            subst (λ (x : Lane). Opens x (after (2 * p)) (Ok l)) (untouched p at.1) (new.opened p l e')
+      ];
+      others = λ k h. others k (λ p j here. h p j (let e = host_is t p n here in omega (arith, e))) ∙ sofar.others k (λ p j below. h p j (omega (arith, below)));
+    }
+      where
+        untouched : (p : ℕ) → host_of t p ≡ n → mid (2 * p) ≡ before (2 * p)
+        untouched p at = sofar.others (2 * p) (λ q j below. lanes_apart t p q n (host_of t q) at refl (λ e. omega (arith, e, below)))
+
+-- the same of lists by what they are
+pub started_next : (t : TopologyView) (n : ℕ) (old new : List BrokerView) (v : BrokerView) (told told' : List Report) (outcome : BrokerOutcome)
+    → new ≡ old ++ v ∷ [] → told' ≡ told ++ outcome.reports → HaveStarted t n old told → StartsOver t n v outcome → HaveStarted t (n + 1) new told'
+started_next t n old new v told told' outcome e says s one =
+    rw (e, says) (started_more t n old v told outcome.reports s (has_started t n v outcome one) one.lines)
+
+-- and of their lanes
+pub opened_next : (t : TopologyView) (n : ℕ) (old new : List BrokerView) (v : BrokerView) (told : List Report) (outcome : BrokerOutcome) (before mid after : ℕ → Lane)
+    → new ≡ old ++ v ∷ [] → HaveStarted t n old told → StartsOver t n v outcome → HaveOpened t n old before mid → OpensLanes v mid after
+    → ((k : ℕ) → ((p : ℕ) → p < length t.publishers → is_host (net_of t) p n ≡ true → k ≢ 2 * p) → after k ≡ mid k) → HaveOpened t (n + 1) new before after
+opened_next t n old new v told outcome before mid after e s one sofar opens others =
+    rw e (opened_more t n old v before mid after others told s (has_started t n v outcome one) sofar opens)
+
+-- before the first
+pub none_started : (t : TopologyView) (brokers : List BrokerView) (told : List Report) → brokers ≡ [] → told ≡ [] → HaveStarted t 0 brokers told
+none_started t brokers told none nothing = rw (none, nothing) (record { count = refl; each = λ b j. absurd (omega (arith, j)); lines = refl })
+
+-- no lane was opened then
+pub none_opened : (t : TopologyView) (brokers : List BrokerView) (before after : ℕ → Lane) → ((n : ℕ) → after n ≡ before n) → HaveOpened t 0 brokers before after
+none_opened t brokers before after same = record { opened = λ b p l j e. absurd (omega (arith, j)); others = λ n h. same n }
+
+-- The lanes of a broker that is still to start are as they were at first
+
+module _ (t : TopologyView) (n : ℕ) (brokers : List BrokerView) (before mid : ℕ → Lane) (sofar : HaveOpened t n brokers before mid) where
+  lane_first : (p : ℕ) → host_of t p ≡ n → mid (2 * p) ≡ before (2 * p)
+  lane_first p there = sofar.others (2 * p) (λ q j below. lanes_apart t p q n (host_of t q) there refl (λ e. omega (arith, e, below)))
+
+  -- so one that holds no log then held none
+  pub damaged_first : (p at : ℕ) → IsDamagedAt t n p at mid → IsDamagedAt t (host_of t p) p at before
+  damaged_first p at d =
+      let there = host_is t p n d.hosted in
+      subst (λ (b : ℕ). IsDamagedAt t b p at before) (sym there) (record {
+        publisher = d.publisher;
+        hosted = d.hosted;
+        fault = subst (λ (l : Lane). log_text (content l) ≡ Err at) (lane_first p there) d.fault;
+        before = λ q j here. subst (λ (l : Lane). IsOk (log_text (content l))) (lane_first q (host_is t q n here)) (d.before q j here);
+      })
+
+  -- and without a stop there is none
+  pub unset_first : NoStops before → (p : ℕ) → p < length t.publishers → is_host (net_of t) p n ≡ true → (mid (2 * p)).stop ≡ Unset
+  unset_first none p j here = ap (λ (l : Lane). l.stop) (lane_first p (host_is t p n here)) ∙ none (2 * p)

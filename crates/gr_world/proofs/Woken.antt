@@ -1,0 +1,225 @@
+-- A wake within a step: at the publisher's host it is the machine's over the log there; elsewhere the broker has no log, and the
+-- machine's wake looks at none
+use Rattle.std.proofs.Common.{◌≡◌, ◌≢◌, ◌⊎◌, inl, inr, ℕ, ◌*◌, ◌<◌, Bool, true, false, List, length, set, Option, Some, None, Result, Ok, Err, OnOk, refl, sym, ap, ◌∙◌, subst}
+use Rattle.std.specs.Prelude.{◌↔◌, IsSome, is_some, IfOk, IsErrOf}
+use Rattle.std.proofs.lemmas.Bool.{cases_eq, eq-eqb, ne_eqb, true≢false}
+use Rattle.gr_publog.specs.declared.record.LogFault.TheVariants as log_fault
+use Rattle.gr_publog.specs.Crash.{LogView}
+use Rattle.gr_out.specs.Lane.{Lane}
+use Rattle.gr_topo.specs.Topology.{TopologyView, host_of}
+use Rattle.gr_model.specs.declared.report.Report.{Report}
+use Rattle.gr_model.specs.Net.{Net, is_host}
+use Rattle.gr_model.specs.Tree.{IsNet}
+use Rattle.gr_model.specs.Broker.{View, Log, Outcome as MachineOutcome, empty_log, wake, wake_host, wake_below, asking}
+use Rattle.gr_model.specs.World.{World, view_of, log_of, wake_for, wake_for_by}
+use Rattle.gr_theorems.specs.Edges.{GoesOverEdge}
+use Rattle.gr_theorems.proofs.topology.Strays.{wake_on}
+use Rattle.gr_theorems.proofs.server.CutEvents.{on_log}
+use Rattle.gr_broker.specs.declared.outcome.Outcome.{Outcome}
+use Rattle.gr_broker.specs.declared.outcome.BrokerFault.{BrokerFault}
+use Rattle.gr_broker.specs.declared.outcome.BrokerFault.TheVariants as refused
+use Rattle.gr_broker.specs.Seen.{BrokerView, view_in, log_in, log_said, machine_log, with_logged, is_broken, broken_at}
+use Rattle.gr_broker.specs.Of.{IsBrokerOf, LogsStand}
+use Rattle.gr_broker.specs.Told.{Tells, log_answer}
+use Rattle.gr_broker.specs.Hosted.{wake_at, mark_at, mark_logs_at, cut_logs_at, after_mark, after_wake, WakeLeaves, AppendsTwice, AppendsTwiceAt}
+use Rattle.gr_world.specs.declared.fault.WorldFault.{WorldFault}
+use Rattle.gr_world.specs.Seen.{WorldView, broker_in, log_at, world_of, net_in}
+use Rattle.gr_world.specs.Of.{IsWorld, LanesFit}
+use Rattle.gr_world.specs.Steps.{Does}
+use Rattle.gr_world.specs.Ran.{IsOpen, Ran}
+use Rattle.gr_world.specs.Taking.{Follows, TakesUp, put_in}
+use Rattle.gr_world.proofs.Absorbing.{Touches, view_is, log_is, log_here, log_elsewhere}
+use Rattle.gr_world.proofs.Answers.{on_ok, ok_answer, ok_follows, spelled_follow, reopen_follows, not_disk, carried_follows, wake_leaves_on, touched, touched_broken, touched_twice, untouched, whole_logged, whole_with}
+use Rattle.gr_world.proofs.Fitting.{over_edges, all_of}
+use Rattle.gr_world.proofs.Lanes.{LaneMoves, twice_moves, lanes_fit}
+use Rattle.gr_world.proofs.Called.{Called, called_does, Site, site_read, site_fits, site_publisher, site_ran}
+
+-- a broker at which the publisher is not looks at no log, and passes it on
+pub wake_passes : (net : Net) (p b now : ℕ) (v : View) (l : Log) → is_host net p b ≡ false → wake net p b now v l ≡ on_log (wake net p b now v empty_log) l
+unfolding wake wake_below asking
+wake_passes net p b now v l e = go (is_host net p b) e
+  where
+    go : (q : Bool) → q ≡ false →
+        (let o : MachineOutcome = elim q [ true ↦ wake_host net p b now v l | false ↦ wake_below net p b now v l ] in o)
+        ≡ on_log (elim q [ true ↦ wake_host net p b now v empty_log | false ↦ wake_below net p b now v empty_log ]) l
+    go false h = refl
+    go true h = absurd (true≢false h)
+
+-- what is told is the same over another log
+pub tells_on : (o : MachineOutcome) (l : Log) (answer : Result Outcome BrokerFault) → IfOk answer (Tells o) → IfOk answer (Tells (on_log o l))
+tells_on o l (Ok told) t = record { lines = t.lines; frames = t.frames; spelled = t.spelled }
+tells_on o l (Err e) t = tt
+
+-- What the broker's call gives
+pub record Wakes (t : TopologyView) (x : BrokerView) (p now : ℕ) (after : BrokerView) (answer : Result Outcome BrokerFault) : Type 0 where
+  pub told : IfOk answer (Tells (wake_at t x p now))
+  pub leaves : WakeLeaves x (after_mark t x p now) (after_wake t x p now) (broken_at x p) (broken_at (after_mark t x p now) p) after (log_answer answer)
+  pub log : OnOk answer (let m : MachineOutcome = wake_at t x p now in machine_log after p ≡ m.log)
+  pub fits : IsBrokerOf t after
+  pub reopen : IsErrOf answer refused.Reopen ↔ ((is_broken (log_in x p) ≡ true) × (IsSome (mark_logs_at t x p now) ⊎ IsSome (cut_logs_at t x p now)))
+
+-- and does to the lanes
+pub record WakesOn (t : TopologyView) (x : BrokerView) (p now : ℕ) (after : BrokerView) (lanes lanes' : ℕ → Lane) (answer : Result Outcome BrokerFault) : Type 0 where
+  pub lane : AppendsTwiceAt x p (mark_logs_at t x p now) (cut_logs_at t x p now) lanes lanes' (log_answer answer)
+  pub below : log_in x p ≡ None → (n : ℕ) → lanes' n ≡ lanes n
+  pub broken : is_broken (log_in x p) ≡ true → (n : ℕ) → lanes' n ≡ lanes n
+  pub others : (n : ℕ) → n ≢ 2 * p → lanes' n ≡ lanes n
+  pub stands : LogsStand lanes' after
+
+-- the machine's outcome of a wake
+abbrev pub wake_in : WorldView → ℕ → ℕ → MachineOutcome
+wake_in w b p = let m : World = world_of w in wake (net_in w) p b w.clock (view_of m b p) (log_of m p)
+
+module _ (w : WorldView) (b p : ℕ) (i : IsWorld w) (lt : b < length w.topo.brokers) (below : p < length w.topo.publishers) where
+  abbrev broker : BrokerView
+  broker = broker_in w b
+
+  abbrev machine : World
+  machine = world_of w
+
+  within : b < length w.brokers
+  within = subst (λ n. b < n) (sym i.count) lt
+
+  -- elsewhere there is no log
+  pub no_log : host_of w.topo p ≢ b → log_in broker p ≡ None
+  no_log n = go (log_in broker p) (((i.brokers b lt).hosted p below) ∙ ne_eqb (host_of w.topo p) broker.number (λ e. n (e ∙ i.numbered b lt)))
+    where
+      go : (o : Option LogView) → is_some o ≡ false → o ≡ None
+      go None e = refl
+      go (Some l) e = absurd (true≢false e)
+
+  -- the broker's wake at the number and with the view that the machine has
+  numbered_wake : (l : Log) → wake (net_in w) p broker.number w.clock (view_in broker p) l ≡ wake (net_in w) p b w.clock (view_of machine b p) l
+  numbered_wake l =
+      ap (λ n. wake (net_in w) p n w.clock (view_in broker p) l) (i.numbered b lt)
+      ∙ ap (λ (v : View). wake (net_in w) p b w.clock v l) (sym (view_is w b p within))
+
+  -- at the host it is the machine's
+  pub wake_hosted : host_of w.topo p ≡ b → wake_at w.topo broker p w.clock ≡ wake_in w b p
+  wake_hosted e =
+      numbered_wake (machine_log broker p)
+      ∙ ap (λ (l : Log). wake (net_in w) p b w.clock (view_of machine b p) l) (sym (log_is w p below ∙ ap (λ c. log_said (log_in (broker_in w c) p)) e))
+
+  -- elsewhere it is the machine's but for the log, which that passes on
+  pub wake_elsewhere : host_of w.topo p ≢ b → on_log (wake_at w.topo broker p w.clock) (log_of machine p) ≡ wake_in w b p
+  wake_elsewhere n =
+      ap (λ (o : MachineOutcome). on_log o (log_of machine p)) (numbered_wake (machine_log broker p) ∙ ap (λ (l : Option LogView). wake (net_in w) p b w.clock (view_of machine b p) (log_said l)) (no_log n))
+      ∙ sym (wake_passes (net_in w) p b w.clock (view_of machine b p) (log_of machine p) (ne_eqb (host_of w.topo p) b n))
+
+  -- so it is the machine's with the machine's log
+  pub wake_same : on_log (wake_at w.topo broker p w.clock) (wake_in w b p).log ≡ wake_in w b p
+  wake_same = go (cases_eq (host_of w.topo p) b)
+    where
+      go : (host_of w.topo p ≡ b) ⊎ (host_of w.topo p ≢ b) → on_log (wake_at w.topo broker p w.clock) (wake_in w b p).log ≡ wake_in w b p
+      go (inl e) = ap (λ (o : MachineOutcome). on_log o (wake_in w b p).log) (wake_hosted e)
+      go (inr n) = ap (on_log (wake_at w.topo broker p w.clock)) (sym (ap (λ (o : MachineOutcome). o.log) (wake_elsewhere n))) ∙ wake_elsewhere n
+
+  -- the log of the publisher after it
+  log_after : (after : BrokerView) (frames : List (List ℕ)) (answer : Result Outcome BrokerFault)
+      → OnOk answer (let m : MachineOutcome = wake_at w.topo broker p w.clock in machine_log after p ≡ m.log)
+      → OnOk (log_answer answer) (log_said (log_at (put_in w b after frames) p) ≡ (wake_in w b p).log)
+  log_after after frames answer h = go (cases_eq (host_of w.topo p) b)
+    where
+      always : {X : Type 0} (r : Result Outcome BrokerFault) → X → OnOk (log_answer r) X
+      always (Ok told) x = x
+      always (Err e) x = tt
+
+      go : (host_of w.topo p ≡ b) ⊎ (host_of w.topo p ≢ b) → OnOk (log_answer answer) (log_said (log_at (put_in w b after frames) p) ≡ (wake_in w b p).log)
+      go (inl e) = ok_answer answer (λ k. ap log_said (log_here w b p after frames within p e) ∙ (k ∙ ap (λ (o : MachineOutcome). o.log) (wake_hosted e))) h
+      go (inr n) = always answer (ap log_said (log_elsewhere w b p after frames within p n) ∙ (sym (log_is w p below) ∙ ap (λ (o : MachineOutcome). o.log) (wake_elsewhere n)))
+
+  -- a wake that is answered and taken up has done what a call does
+  pub wake_called : (after : BrokerView) (frames : List (List ℕ)) (answer : Result Outcome BrokerFault) (result : Result (List Report) WorldFault) → IsNet (net_in w)
+      → Wakes w.topo broker p w.clock after answer → Follows answer result → ((o : MachineOutcome) → IfOk answer (Tells o) → TakesUp o w.frames frames result)
+      → Called w b p (wake_in w b p) after frames result
+  wake_called after frames answer result n k f takes = record {
+    takes = takes (wake_in w b p) told_in;
+    view = ok_follows _ answer result f (on_ok (log_answer answer) (λ h. ap (λ (x : BrokerView). x.views) h ∙ ap (λ (o : MachineOutcome). set broker.views p o.view) wake_same) k.leaves.ok);
+    log = ok_follows _ answer result f (log_after after frames answer k.log);
+    spelled = ok_follows _ answer result f (spelled_follow (wake_in w b p) answer told_in);
+    over = all_of (GoesOverEdge (net_in w)) _ (wake_on (net_in w) p b w.clock (GoesOverEdge (net_in w)) _ _ (over_edges (net_in w) p b n below lt));
+    touches = on (Touches p broker) (untouched p broker) (touched p broker log_marked view_marked) (touched p broker log_woken view_woken)
+        (λ h. (touched_broken p broker, touched_twice p broker marked (broken_at marked p) (touched p broker log_marked view_marked) (touched_broken p marked)));
+    fits = k.fits;
+    carried = carried_follows answer result f k.leaves.never_damaged;
+    whole = λ not whole. on (λ (x : BrokerView). is_broken (log_in x p) ≡ false) whole
+        (whole_with p broker log_marked view_marked short (whole_logged (log_in broker p) (mark_logs_at w.topo broker p w.clock)) whole)
+        (whole_with p broker log_woken view_woken short
+        (whole_logged (with_logged (log_in broker p) (mark_logs_at w.topo broker p w.clock)) (cut_logs_at w.topo broker p w.clock)
+        ∙ whole_logged (log_in broker p) (mark_logs_at w.topo broker p w.clock)) whole)
+        (λ h. absurd (not_disk answer result f not h));
+    reopen = λ h. (k.reopen.0 (reopen_follows answer result f h)).0;
+  }
+    where
+      marked : BrokerView
+      marked = after_mark w.topo broker p w.clock
+
+      log_marked : Option LogView
+      log_marked = with_logged (log_in broker p) (mark_logs_at w.topo broker p w.clock)
+
+      log_woken : Option LogView
+      log_woken = with_logged log_marked (cut_logs_at w.topo broker p w.clock)
+
+      view_marked : View
+      view_marked = let o : MachineOutcome = mark_at w.topo broker p w.clock in o.view
+
+      view_woken : View
+      view_woken = let o : MachineOutcome = wake_at w.topo broker p w.clock in o.view
+
+      told_in : IfOk answer (Tells (wake_in w b p))
+      told_in = subst (λ (o : MachineOutcome). IfOk answer (Tells o)) wake_same (tells_on (wake_at w.topo broker p w.clock) (wake_in w b p).log answer k.told)
+
+      short : p < length broker.logs
+      short = subst (λ k. p < k) (sym (i.brokers b lt).logs) below
+
+      on : (P : BrokerView → Type 0) → P broker → P marked → P (after_wake w.topo broker p w.clock) → (IsErrOf (log_answer answer) log_fault.Disk → P (broken_at broker p) × P (broken_at marked p)) → P after
+      on P a m b c = wake_leaves_on P broker marked (after_wake w.topo broker p w.clock) (broken_at broker p) (broken_at marked p) after (log_answer answer) k.leaves a m b c
+
+  -- so it does what the machine's wake does
+  pub wake_does : (after : BrokerView) (frames : List (List ℕ)) (result : Result (List Report) WorldFault) → Called w b p (wake_in w b p) after frames result
+      → Does (wake_for (net_in w) (world_of w) b p) (put_in w b after frames) result
+  unfolding wake_for_by
+  wake_does after frames result c = called_does w b p (wake_in w b p) after frames result i lt below c
+
+  -- The lanes
+
+  abbrev Logs : Option LogView → (ℕ → Lane) → (ℕ → Lane) → Result Outcome BrokerFault → Type 0
+  Logs o lanes lanes' answer = elim o [
+    | Some l ↦ AppendsTwice l (mark_logs_at w.topo broker p w.clock) (cut_logs_at w.topo broker p w.clock) (lanes (2 * p)) (lanes' (2 * p)) (log_answer answer)
+    | None ↦ Unit {0}
+  ]
+
+  -- the lane of the log is left with its records, or with those and the mark, or with both records
+  moves : (o : Option LogView) (lanes lanes' : ℕ → Lane) (answer : Result Outcome BrokerFault) → Logs o lanes lanes' answer → is_some o ≡ true → (is_broken o ≡ true → lanes' (2 * p) ≡ lanes (2 * p)) → LaneMoves (lanes (2 * p)) (lanes' (2 * p))
+  moves (Some l) lanes lanes' answer a s quiet = twice_moves l _ _ (lanes (2 * p)) (lanes' (2 * p)) (log_answer answer) a quiet
+  moves None lanes lanes' answer a s quiet = absurd (true≢false (sym s))
+
+  hosted : host_of w.topo p ≡ b → is_some (log_in broker p) ≡ true
+  hosted at = (i.brokers b lt).hosted p below ∙ eq-eqb (host_of w.topo p) broker.number (at ∙ sym (i.numbered b lt))
+
+  pub wake_lanes : (after : BrokerView) (frames : List (List ℕ)) (lanes lanes' : ℕ → Lane) (answer : Result Outcome BrokerFault) (result : Result (List Report) WorldFault) → IsOpen w → LanesFit lanes w
+      → WakesOn w.topo broker p w.clock after lanes lanes' answer → Called w b p (wake_in w b p) after frames result → LanesFit lanes' (put_in w b after frames)
+  wake_lanes after frames lanes lanes' answer result is_open fit on c =
+      lanes_fit w b p after frames lanes lanes' i lt below c.touches is_open fit on.others
+      (λ at. moves (log_in broker p) lanes lanes' answer on.lane (hosted at) (λ h. on.broken h (2 * p))) (λ n. on.below (no_log n) (2 * p)) on.stands
+
+-- The call in code, where the world is seen by its parts
+
+module _ (v w : WorldView) (b p : ℕ) (x after : BrokerView) (frames : List (List ℕ)) (answer : Result Outcome BrokerFault) (result : Result (List Report) WorldFault) (s : Site v w b p x) (n : IsNet (net_in v)) (k : Wakes v.topo x p v.clock after answer) (f : Follows answer result) (takes : (o : MachineOutcome) → IfOk answer (Tells o) → TakesUp o v.frames frames result) where
+  called : Called v b p (wake_in v b p) after frames result
+  called =
+      wake_called v b p (site_fits v w b p x s) s.broker (site_publisher v w b p x s) after frames answer result n
+      (subst (λ (z : BrokerView). Wakes v.topo z p v.clock after answer) (site_read v w b p x s) k) f takes
+
+  pub does_wake : Does (wake_for (net_in w) (world_of w) b p) (put_in v b after frames) result
+  does_wake =
+      subst (λ (u : WorldView). Does (wake_for (net_in u) (world_of u) b p) (put_in v b after frames) result) s.same
+      (wake_does v b p (site_fits v w b p x s) s.broker (site_publisher v w b p x s) after frames result called)
+
+  pub ran_wake : Ran w (put_in v b after frames) result
+  ran_wake = site_ran v w b p x s (wake_in v b p) after frames result called
+
+  pub lanes_wake : (lanes lanes' : ℕ → Lane) → LanesFit lanes w → WakesOn v.topo x p v.clock after lanes lanes' answer → LanesFit lanes' (put_in v b after frames)
+  lanes_wake lanes lanes' fit on =
+      wake_lanes v b p (site_fits v w b p x s) s.broker (site_publisher v w b p x s) after frames lanes lanes' answer result
+      (subst IsOpen (sym s.same) s.is_open) (subst (LanesFit lanes) (sym s.same) fit) (subst (λ (z : BrokerView). WakesOn v.topo z p v.clock after lanes lanes' answer) (site_read v w b p x s) on) called

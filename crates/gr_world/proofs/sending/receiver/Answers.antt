@@ -1,0 +1,13 @@
+-- The two bytes are there, and spell the receiver
+use Rattle.std.proofs.Common.{◌∙◌, arith}
+use Rattle.gr_world.proofs.Receivers.{said_receiver}
+use Rattle.gr_world.proofs.sending.receiver.Goals as goal
+
+pub bounds-bytes-6 : goal.bounds-bytes-6
+bounds-bytes-6 c = omega (arith, (said_receiver c.args.bytes.now c.requires).long)
+
+pub bounds-bytes-7 : goal.bounds-bytes-7
+bounds-bytes-7 c = omega (arith, (said_receiver c.args.bytes.now c.requires).long)
+
+pub returns : goal.returns
+returns c = c.from_be_bytes.ensures ∙ (said_receiver c.args.bytes.now c.requires).number

@@ -1,0 +1,28 @@
+use Rattle.std.proofs.Common.{sym, subst}
+use Rattle.gr_model.specs.World.{crash}
+use Rattle.gr_world.specs.Seen.{net_in, world_of}
+use Rattle.gr_world.specs.Steps.{Does}
+use Rattle.gr_world.proofs.Crashing.{others_fit, logs_found, crash_made, sound_but}
+use Rattle.gr_world.proofs.world.World.crash_at.Goals as goal
+use Rattle.gr_world.proofs.world.World.crash_at.Goals.{in-Ok-crash_lines, in-Err-crash_lines}
+
+pub restart-requires-clause-others : goal.restart-requires-clause-others
+restart-requires-clause-others g c = λ tells.
+    others_fit c.args.self.now c.args.b (g.D.Disk.lane_of c.args.disk.now) (c.requires.lanes tells) c.requires.unspent c.requires.down
+
+pub returns-clause-does : goal.returns-clause-does
+returns-clause-does g c = λ tells sound.
+    let old = c.args.self.now in
+    let new = c.restart.new.self in
+    let b = c.args.b in
+    let one = c.in-Ok.ensures in
+    let same = logs_found old new b (g.D.Disk.lane_of c.args.disk.now) c.requires.fits sound c.requires.unspent (c.requires.lanes tells) c.requires.broker one.restarts.elsewhere (one.found tells) one.restarts.topo in
+    elim c.match-crash_lines.branch [
+      | in-Ok-crash_lines w ↦
+          subst (λ r. Does (crash (net_in old) (world_of old) b) new r) (sym w.result-is)
+          (crash_made old new b c.in-Ok.opened w.in-Ok-crash_lines.lines one.does same w.in-Ok-crash_lines.ensures)
+      | in-Err-crash_lines w ↦ subst (λ r. Does (crash (net_in old) (world_of old) b) new r) (sym w.result-is) (record { world = tt; lines = tt })
+    ]
+
+pub returns-clause-sound : goal.returns-clause-sound
+returns-clause-sound g c = λ sound some. c.in-Ok.ensures.restarts.sound (sound_but c.args.self.now c.args.b sound)

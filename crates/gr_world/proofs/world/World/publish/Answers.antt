@@ -1,0 +1,26 @@
+use Rattle.std.proofs.Common.{None}
+use Rattle.gr_sched.specs.declared.step.Step.TheVariants as step
+use Rattle.gr_model.specs.World.{publish_now}
+use Rattle.gr_world.specs.Seen.{net_in, world_of}
+use Rattle.gr_world.proofs.Leaving.{makes_of, fits_noted, lanes_noted}
+use Rattle.gr_world.proofs.Stepping.{next_publish}
+use Rattle.gr_world.proofs.world.World.publish.Goals as goal
+
+pub returns-clause-makes : goal.returns-clause-makes
+returns-clause-makes g c =
+    let w = c.args.self.now in
+    let e = c.args.event.now in
+    let one = c.publish_at_host-answer in
+    makes_of (step.Publish c.args.p c.args.number None e) w one.new.self c.noted.new.self (publish_now (net_in w) (world_of w) c.args.p c.args.number e)
+    one.result c.noted.result c.noted.ensures.answer c.noted.ensures.view one.ensures.does one.ensures.ran.carried
+    (λ n. next_publish (net_in w) (world_of w) n c.args.p c.args.number e)
+
+pub returns-clause-lanes : goal.returns-clause-lanes
+returns-clause-lanes g c = λ tells.
+    let one = c.publish_at_host-answer in
+    lanes_noted (g.D.Disk.lane_of one.new.disk) one.new.self c.noted.new.self one.result c.noted.ensures.view (one.ensures.lanes tells)
+
+pub returns-clause-fits : goal.returns-clause-fits
+returns-clause-fits g c =
+    let one = c.publish_at_host-answer in
+    fits_noted one.new.self c.noted.new.self one.result c.noted.ensures.view one.ensures.ran.fits

@@ -1,0 +1,79 @@
+-- The call is one of the broker, taken up by the world
+use Rattle.std.proofs.Common.{◌≡◌, ◌*◌, ◌<◌, true, length, ap, subst, sym}
+use Rattle.gr_broker.specs.Seen.{log_in, is_broken}
+use Rattle.gr_world.specs.contracts.world.World.{the_view}
+use Rattle.gr_world.specs.Of.{LanesFit}
+use Rattle.gr_world.specs.Seen.{WorldView}
+use Rattle.gr_world.specs.Ran.{Ran}
+use Rattle.gr_world.specs.Taking.{put_in}
+use Rattle.gr_world.proofs.Answers.{ran_on}
+use Rattle.gr_world.proofs.Called.{Site, read_stands, site_unstopped}
+use Rattle.gr_world.proofs.Woken.{Wakes, does_wake, ran_wake, lanes_wake}
+use Rattle.gr_world.proofs.world.World.wake_at.Given.{Over}
+use Rattle.gr_world.proofs.world.World.wake_at.Goals as goal
+
+pub wake-answer-requires-clause-stands : goal.wake-answer-requires-clause-stands
+wake-answer-requires-clause-stands g c = λ tells.
+    read_stands (the_view c.self.inside) c.args.self.now c.args.b c.index_mut-broker.result.now (g.D.Disk.lane_of c.args.disk.now) c.self.view_is c.requires.fits c.requires.«open» (c.requires.lanes tells)
+    (subst (λ (u : WorldView). c.args.b < length u.topo.brokers) (sym c.self.view_is) c.requires.broker) c.index_mut-broker.ensures.value
+
+-- The broker that is read, and what its call gives
+
+site : (g : Over) (c : goal.After-take_answer g) → Site (the_view c.self.inside) c.args.self.now c.args.b c.args.p c.index_mut-broker.result.now
+site g c = record {
+  same = c.self.view_is;
+  fits = c.requires.fits;
+  is_open = c.requires.«open»;
+  publisher = c.requires.publisher;
+  broker = subst (λ (u : WorldView). c.args.b < length u.topo.brokers) (sym c.self.view_is) c.requires.broker;
+  read = c.index_mut-broker.ensures.value;
+}
+
+gives : (g : Over) (c : goal.After-take_answer g) → Wakes c.self.inside.topology c.index_mut-broker.result.now c.args.p c.self.inside.clock c.wake-answer.new.self c.wake-answer.result
+gives g c =
+    let e = c.wake-answer.ensures in
+    record { told = e.told; leaves = e.leaves; log = e.log; fits = e.fits; reopen = e.reopen }
+
+ran : (g : Over) (c : goal.After-take_answer g) → Ran c.args.self.now (put_in (the_view c.self.inside) c.args.b c.wake-answer.new.self c.take_answer.new.frames.frames) c.take_answer.result
+ran g c =
+    ran_wake (the_view c.self.inside) c.args.self.now c.args.b c.args.p c.index_mut-broker.result.now c.wake-answer.new.self c.take_answer.new.frames.frames
+    c.wake-answer.result c.take_answer.result (site g c) c.every_topology_is_a_tree.ensures.tree (gives g c) c.take_answer.ensures.follows c.take_answer.ensures.takes
+
+-- a log that the disk has failed is not written to any more
+closed : (g : Over) (c : goal.After-take_answer g) → is_broken (log_in c.index_mut-broker.result.now c.args.p) ≡ true → c.wake-answer.new.disk ≡ c.args.disk.now
+closed g c = c.wake-answer.ensures.closed
+
+lanes : (g : Over) (c : goal.After-take_answer g) → g.D.Disk.tells → LanesFit (g.D.Disk.lane_of c.wake-answer.new.disk) (put_in (the_view c.self.inside) c.args.b c.wake-answer.new.self c.take_answer.new.frames.frames)
+lanes g c tells =
+    let e = c.wake-answer.ensures in
+    lanes_wake (the_view c.self.inside) c.args.self.now c.args.b c.args.p c.index_mut-broker.result.now c.wake-answer.new.self c.take_answer.new.frames.frames
+    c.wake-answer.result c.take_answer.result (site g c) c.every_topology_is_a_tree.ensures.tree (gives g c) c.take_answer.ensures.follows c.take_answer.ensures.takes
+    (g.D.Disk.lane_of c.args.disk.now) (g.D.Disk.lane_of c.wake-answer.new.disk) (c.requires.lanes tells) (record {
+      lane = e.lane tells;
+      below = λ h n. ap (λ d. g.D.Disk.lane_of d n) (e.below h);
+      broken = λ h n. ap (λ d. g.D.Disk.lane_of d n) (closed g c h);
+      others = e.others tells;
+      stands = e.stands tells;
+    })
+
+-- What the world answers and leaves
+
+pub returns-clause-does : goal.returns-clause-does
+returns-clause-does g c =
+    does_wake (the_view c.self.inside) c.args.self.now c.args.b c.args.p c.index_mut-broker.result.now c.wake-answer.new.self c.take_answer.new.frames.frames
+    c.wake-answer.result c.take_answer.result (site g c) c.every_topology_is_a_tree.ensures.tree (gives g c) c.take_answer.ensures.follows c.take_answer.ensures.takes
+
+pub returns-clause-ran : goal.returns-clause-ran
+returns-clause-ran g c = ran g c
+
+pub returns-clause-disk : goal.returns-clause-disk
+returns-clause-disk g c =
+    let e = c.wake-answer.ensures in
+    ran_on g.D.Disk.tells (g.D.Disk.faultless c.args.disk.now) (g.D.Disk.faultless c.wake-answer.new.disk) (g.D.Disk.faults c.args.disk.now) (g.D.Disk.stops c.args.disk.now)
+    (g.D.Disk.faults c.wake-answer.new.disk) (g.D.Disk.stops c.wake-answer.new.disk) (g.D.Disk.lane_of c.wake-answer.new.disk (2 * c.args.p)) c.wake-answer.result c.take_answer.result
+    c.take_answer.ensures.follows e.tally e.causes e.faultless
+    (λ tells. site_unstopped (the_view c.self.inside) c.args.self.now c.args.b c.args.p c.index_mut-broker.result.now (site g c) c.wake-answer.new.self c.take_answer.new.frames.frames c.take_answer.result
+    (g.D.Disk.lane_of c.wake-answer.new.disk) c.every_topology_is_a_tree.ensures.tree (ran g c) (lanes g c tells))
+
+pub returns-clause-lanes : goal.returns-clause-lanes
+returns-clause-lanes g c = lanes g c

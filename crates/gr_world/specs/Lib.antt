@@ -1,0 +1,11 @@
+pub mod Seen
+pub mod Of
+pub mod Steps
+pub mod Disk
+pub mod Ran
+pub mod Opened
+pub mod Shown
+pub mod Stopped
+pub mod Taking
+pub mod Starting
+pub mod Sweeps

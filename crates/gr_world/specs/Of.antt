@@ -1,0 +1,48 @@
+-- What holds of a world between its calls, and of the lanes that its logs stand on
+use Rattle.std.specs.Prelude.{◌≡◌, ◌≢◌, ℕ, ◌*◌, ◌^◌, ◌<◌, ◌≤◌, Bool, true, false, List, length, map, Option, Some, None, IsOk}
+use Rattle.std.specs.List.{AllByRecursion}
+use Rattle.gr_frame.specs.Cut.{AreFrames}
+use Rattle.gr_out.specs.declared.disk.Stop.TheVariants.{Unset}
+use Rattle.gr_out.specs.Lane.{Lane, MayLeave}
+use Rattle.gr_publog.specs.Text.{log_text}
+use Rattle.gr_publog.specs.Crash.{LogView}
+use Rattle.gr_publog.specs.Calls.{IsReady}
+use Rattle.gr_topo.specs.Topology.{host_of}
+use Rattle.gr_theorems.specs.Edges.{GoesOverEdge}
+use Rattle.gr_broker.specs.Of.{IsBrokerOf}
+use Rattle.gr_world.specs.Seen.{WorldView, broker_in, log_at, net_in, frame_said}
+
+-- The brokers of the topology, in order, and frames that went over its edges
+pub record IsWorld (w : WorldView) : Type 0 where
+  pub count : length w.brokers ≡ length w.topo.brokers
+  pub brokers : (b : ℕ) → b < length w.topo.brokers → IsBrokerOf w.topo (broker_in w b)
+  pub numbered : (b : ℕ) → b < length w.topo.brokers → (broker_in w b).number ≡ b
+  -- each frame is the spelling of the one that its bytes say, and that one goes over an edge
+  pub spelled : AreFrames w.frames (map frame_said w.frames)
+  pub over : AllByRecursion (GoesOverEdge (net_in w)) (map frame_said w.frames)
+  pub clock : w.clock ≤ 2 ^ 62
+  pub most : w.most ≤ 2 ^ 62
+  pub down : (b : ℕ) → w.down ≡ Some b → b < length w.topo.brokers
+
+-- a lane under a log: unless the disk has failed the log, a crash leaves its records. Room was made, and no stop is
+-- ordered
+pub record LaneFits (l : LogView) (lane : Lane) : Type 0 where
+  pub ready : IsReady l lane
+  pub reserved : lane.reserved ≡ true
+  pub unset : lane.stop ≡ Unset
+
+-- whatever a crash leaves of a lane reads as a log
+abbrev pub IsReadable : Lane → Type 0
+IsReadable lane = (image : List ℕ) → MayLeave lane image → IsOk (log_text image)
+
+-- The lanes of a world, until memory was refused, after which no call uses them
+pub record LanesFit (lanes : ℕ → Lane) (w : WorldView) : Type 0 where
+  -- each lane fits its log, but for those of a broker whose opening failed
+  pub logs : w.spent ≡ false → (p : ℕ) (l : LogView) → p < length w.topo.publishers
+      → w.down ≢ Some (host_of w.topo p) → log_at w p ≡ Some l → LaneFits l (lanes (2 * p))
+  pub readable : w.spent ≡ false → (p : ℕ) → p < length w.topo.publishers → IsReadable (lanes (2 * p))
+
+-- the disk has failed no log, and no broker is down
+pub record IsSound (w : WorldView) : Type 0 where
+  pub logs : (p : ℕ) (l : LogView) → p < length w.topo.publishers → log_at w p ≡ Some l → l.broken ≡ false
+  pub up : w.down ≡ None

@@ -1,0 +1,81 @@
+-- A world's opening, and a broker's start again, over what the lanes hold
+use Rattle.std.specs.Prelude.{◌≡◌, ◌≢◌, ◌⊎◌, ℕ, ◌*◌, ◌<◌, true, false, List, [], length, flat_map, Option, Some, None, Result, Ok, Err, IsErrOf, OnOk}
+use Rattle.gr_out.specs.declared.disk.Stop.TheVariants.{Unset}
+use Rattle.gr_out.specs.Lane.{Lane, content}
+use Rattle.gr_publog.specs.Crash.{LogView}
+use Rattle.gr_publog.specs.Text.{log_text}
+use Rattle.gr_topo.specs.Topology.{TopologyView, host_of}
+use Rattle.gr_model.specs.declared.report.Report.{Report}
+use Rattle.gr_model.specs.Net.{Net, numbers}
+use Rattle.gr_model.specs.NetOf.{net_of}
+use Rattle.gr_model.specs.Broker.{Log}
+use Rattle.gr_model.specs.World.{World, Transition, restarted, opened_lines}
+use Rattle.gr_broker.specs.Seen.{BrokerView, view_in, machine_log}
+use Rattle.gr_broker.specs.Opened.{opened_at}
+use Rattle.gr_world.specs.declared.fault.WorldFault.{WorldFault}
+use Rattle.gr_world.specs.declared.fault.WorldFault.TheVariants as fault
+use Rattle.gr_world.specs.Seen.{WorldView, broker_in, log_at, world_of, net_in}
+use Rattle.gr_world.specs.Of.{IsSound}
+
+-- no stop is ordered on any lane
+abbrev pub NoStops : (ℕ → Lane) → Type 0
+NoStops lanes = (n : ℕ) → (lanes n).stop ≡ Unset
+
+-- the lanes of all publishers read nothing
+abbrev pub AreEmpty : TopologyView → (ℕ → Lane) → Type 0
+AreEmpty t lanes = (p : ℕ) → p < length t.publishers → content (lanes (2 * p)) ≡ []
+
+-- the log is the one that these bytes say
+abbrev pub IsRead : Option LogView → List ℕ → Type 0
+IsRead (Some l) bytes = log_text bytes ≡ Ok l.records
+IsRead None bytes = ⊥
+
+-- A world that was opened: each broker has started over the logs that it has, in order
+pub record IsOpened (t : TopologyView) (w : WorldView) : Type 0 where
+  pub topo : w.topo ≡ t
+  pub clock : w.clock ≡ 0
+  pub most : w.most ≡ 0
+  pub frames : w.frames ≡ []
+  pub unspent : w.spent ≡ false
+  pub sound : IsSound w
+  pub views : (b p : ℕ) → b < length t.brokers → p < length t.publishers
+      → view_in (broker_in w b) p ≡ (opened_at (net_of t) p b (machine_log (broker_in w b) p)).view
+  pub told : w.told ≡ flat_map (λ b. flat_map (λ p. (opened_at (net_of t) p b (machine_log (broker_in w b) p)).lines)
+      (numbers (length t.publishers))) (numbers (length t.brokers))
+
+-- the machine's restart of a broker over logs that were found
+abbrev pub with_logs : World → List Log → World
+with_logs w logs = record { clock = w.clock; most = w.most; frames = w.frames; views = w.views; logs = logs }
+
+abbrev pub restart_over : Net → World → ℕ → List Log → Transition
+restart_over net w b logs = record { world = restarted net (with_logs w logs) b; lines = opened_lines net logs b }
+
+-- no log is broken but those of one broker, and no other broker is down
+pub record IsSoundBut (b : ℕ) (w : WorldView) : Type 0 where
+  pub logs : (p : ℕ) (l : LogView) → p < length w.topo.publishers → host_of w.topo p ≢ b → log_at w p ≡ Some l
+      → l.broken ≡ false
+  pub up : (w.down ≡ None) ⊎ (w.down ≡ Some b)
+
+-- What a broker's start again leaves: after a fault of the disk the broker is down, with what stood before
+pub record Restarts (b : ℕ) (old new : WorldView) (result : Result (List Report) WorldFault) : Type 0 where
+  pub topo : new.topo ≡ old.topo
+  pub told : new.told ≡ old.told
+  pub clock : new.clock ≡ old.clock
+  pub most : new.most ≡ old.most
+  pub frames : new.frames ≡ old.frames
+  pub spent : new.spent ≡ old.spent
+  pub up : OnOk result (new.down ≡ None)
+  pub failed : IsErrOf result fault.Disk → new.down ≡ Some b
+  pub kept : (e : WorldFault) → result ≡ Err e → new.brokers ≡ old.brokers
+  pub down : IsErrOf result fault.Memory → new.down ≡ old.down
+  pub damaged : (p at : ℕ) → IsErrOf result (fault.Damaged p at) → new.down ≡ old.down
+  pub elsewhere : (p : ℕ) → p < length old.topo.publishers → host_of old.topo p ≢ b → log_at new p ≡ log_at old p
+  pub sound : OnOk result (IsSoundBut b old → IsSound new)
+
+-- a start's answer: a fault of memory, of the disk, or of what a lane holds
+abbrev pub IsOpening : Result (List Report) WorldFault → Type 0
+IsOpening (Ok lines) = Unit {0}
+IsOpening (Err fault.Memory) = Unit {0}
+IsOpening (Err fault.Disk) = Unit {0}
+IsOpening (Err (fault.Damaged p at)) = Unit {0}
+IsOpening (Err _) = ⊥

@@ -1,0 +1,90 @@
+-- A publish that stops within: the append that is broken, and the host's start over what is left
+use Rattle.std.specs.Prelude.{◌≡◌, ◌≢◌, ℕ, suc, max, Bool, false, ◌&&◌, nat_eq, nat_le, if◌then◌else◌, List, ◌∷◌, get_or, Option, Some, None, Result, Ok, Err, OnOk}
+use Rattle.gr_event.specs.declared.event.Event.{Event}
+use Rattle.gr_out.specs.Lane.{Lane, crash_image}
+use Rattle.gr_publog.specs.declared.record.Record.TheVariants as entry
+use Rattle.gr_publog.specs.Text.{log_text}
+use Rattle.gr_publog.specs.Crash.{LogView}
+use Rattle.gr_publog.specs.Kept.{records_kept}
+use Rattle.gr_model.specs.declared.report.Report.{Report}
+use Rattle.gr_model.specs.declared.report.Report.TheVariants as line
+use Rattle.gr_model.specs.Net.{Net}
+use Rattle.gr_model.specs.Broker.{Log, empty_log, max_tick}
+use Rattle.gr_model.specs.World.{World, Transition, restarted, opened_lines}
+use Rattle.gr_broker.specs.declared.outcome.BrokerFault.{BrokerFault}
+use Rattle.gr_broker.specs.declared.outcome.BrokerFault.TheVariants as refused
+use Rattle.gr_broker.specs.Seen.{broken_at}
+use Rattle.gr_world.specs.declared.fault.WorldFault.{WorldFault}
+use Rattle.gr_world.specs.declared.fault.WorldFault.TheVariants as fault
+use Rattle.gr_world.specs.Seen.{WorldView, broker_in, log_at}
+use Rattle.gr_world.specs.Of.{IsWorld, IsReadable, IsSound}
+use Rattle.gr_world.specs.Opened.{with_logs, IsSoundBut}
+use Rattle.gr_world.specs.Steps.{Stays, IsCarried, NotMemory}
+use Rattle.gr_world.specs.Disk.{StaysSound}
+use Rattle.gr_world.specs.Taking.{put_in}
+
+-- the tick at which a publish under a number is logged at a moment, where it is
+abbrev pub tick_in : Log → ℕ → ℕ → Option ℕ
+tick_in log number now =
+    let tick : ℕ = max (suc log.settled) now in
+    if nat_eq number (suc log.last) && nat_le tick max_tick then Some tick else None
+
+-- The publish up to the stop. Its answer is Ok None where the stop broke it
+
+-- it was the stop that broke a publish, given whether its lane is stopped
+abbrev pub is_broken_by : {T : Type 0} → Result T BrokerFault → Bool → Bool
+is_broken_by (Err refused.Disk) stopped = stopped
+is_broken_by _ stopped = false
+
+-- the answer in the words of a step: a publish that the stop broke has failed
+abbrev pub lines_in : Result (Option (List Report)) WorldFault → Result (List Report) WorldFault
+lines_in (Ok (Some lines)) = Ok lines
+lines_in (Ok None) = Err fault.Disk
+lines_in (Err e) = Err e
+
+-- the world whose broker has a log that the disk failed
+abbrev pub broken_in : WorldView → ℕ → ℕ → WorldView
+broken_in w b p = put_in w b (broken_at (broker_in w b) p) w.frames
+
+-- What a stop leaves of the lane of a publisher, whose event was to be logged at a tick: the call and the pick tell
+-- whether the image that a crash leaves has its record
+pub record IsStoppedAt (w : WorldView) (p tick number : ℕ) (e : Event) (call pick : ℕ) (lane : Lane) : Type 0 where
+  pub image : (l : LogView) → log_at w p ≡ Some l
+      → log_text (crash_image lane) ≡ Ok (records_kept l.records (entry.Event tick number e) call pick)
+  pub readable : IsReadable lane
+
+-- The host's start
+
+-- the line of a publish that was stopped
+abbrev pub kept_line : Bool → ℕ → ℕ → ℕ → Report
+kept_line kept p number tick = if kept then line.Kept p number tick else line.Lost p number tick
+
+-- the machine's start of the host over the logs that were found: the event is kept where its number is the last one
+abbrev pub stopped_over : Net → World → ℕ → ℕ → ℕ → ℕ → List Log → Transition
+stopped_over net w b p number tick logs =
+    let log : Log = get_or logs p empty_log in
+    record {
+      world = restarted net (with_logs w logs) b;
+      lines = line.Crashed b ∷ (kept_line (nat_eq log.last number) p number tick ∷ opened_lines net logs b);
+    }
+
+-- what a publish that may stop leaves beside the machine's equation. After want of memory no call uses the world
+pub record StopRan (old new : WorldView) (result : Result (List Report) WorldFault) : Type 0 where
+  pub fits : IsWorld new
+  pub stays : Stays old new
+  pub spent : new.spent ≡ old.spent
+  pub sound : NotMemory result → StaysSound old new result
+
+-- the same of the host's start: it opens all logs of the host
+pub record StopRestarts (b : ℕ) (old new : WorldView) (result : Result (List Report) WorldFault) : Type 0 where
+  pub fits : IsWorld new
+  pub stays : Stays old new
+  pub spent : new.spent ≡ old.spent
+  pub carried : IsCarried result
+  pub sound : OnOk result (IsSoundBut b old → IsSound new)
+  pub never_reopen : result ≢ Err fault.Reopen
+
+-- the fault of that start: a lane that holds no log was not kept by its disk
+abbrev pub start_fault : WorldFault → WorldFault
+start_fault (fault.Damaged p at) = fault.Disk
+start_fault e = e

@@ -1,0 +1,93 @@
+//! One broker's call within a step, taken up by the world.
+
+ghost use Rattle.std.specs.Prelude.{◌≡◌, ℕ, ◌<◌, suc, length, Some, Err};
+ghost use Rattle.gr_frame.specs.declared.Frame.{Frame};
+ghost use Rattle.gr_model.specs.World.{wake_for, deliver_frame, publish_now, frame_at};
+ghost use Rattle.gr_world.specs.Seen.{net_in, world_of, log_at};
+ghost use Rattle.gr_world.specs.Of.{IsWorld, LanesFit};
+ghost use Rattle.gr_world.specs.Steps.{Does};
+ghost use Rattle.gr_world.specs.Ran.{IsOpen, Ran, RanOn};
+
+use crate::fault::WorldFault;
+use crate::sending::{receiver, take_answer, take_receipt};
+use crate::world::World;
+use gr_broker::{clashes_have_a_least_tick, frames_pass_the_log};
+use gr_event::Event;
+use gr_model::Reports;
+use gr_model::topologies::every_topology_is_a_tree;
+use gr_out::SimDisk;
+
+impl World {
+    /// Publishes an event at the publisher's host.
+    pub(crate) fn publish_at_host<D: SimDisk>(
+        &mut self,
+        disk: &mut D,
+        p: u16,
+        number: u64,
+        event: &Event,
+    ) -> Result<Reports, WorldFault>
+        requires fits { IsWorld self.old }
+        requires publisher { p < length self.old.topo.publishers }
+        requires open { IsOpen self.old }
+        requires lanes { D.tells → LanesFit (D.lane_of disk.old) self.old }
+        ensures does { Does (publish_now (net_in self.old) (world_of self.old) p number event.now) self.new result }
+        ensures ran { Ran self.old self.new result }
+        ensures disk { RanOn D.tells (D.faultless disk.old) (D.faultless disk.new) (D.faults disk.old)
+            (D.stops disk.old) (D.faults disk.new) (D.stops disk.new) result }
+        ensures lanes { D.tells → LanesFit (D.lane_of disk.new) self.new }
+    {
+        // Proof only: what is sent goes over edges.
+        every_topology_is_a_tree(&self.topology);
+        let host = self.topology.host(p);
+        let broker = &mut self.brokers[host as usize];
+        let answer = broker.publish(&self.topology, disk, p, number, event, self.clock);
+        take_answer(self.alloc, &mut self.frames, answer)
+    }
+
+    /// Gives the bytes of a frame, by its place from 0, to their receiver.
+    pub(crate) fn deliver_at(&mut self, i: usize) -> Result<Reports, WorldFault>
+        requires fits { IsWorld self.old }
+        requires frame { i < length self.old.frames }
+        requires open { IsOpen self.old }
+        ensures does { (f : Frame) → frame_at (world_of self.old) (suc i) ≡ Some f
+            → Does (deliver_frame (net_in self.old) (world_of self.old) f) self.new result }
+        ensures ran { Ran self.old self.new result }
+        // No log has changed, and the disk is not called
+        ensures memory { (e : WorldFault) → result ≡ Err e → e ≡ WorldFault.Memory }
+        ensures logs { (p : ℕ) → p < length self.old.topo.publishers → log_at self.new p ≡ log_at self.old p }
+    {
+        // Proof only: what is sent goes over edges, and no log has a part in a receipt.
+        every_topology_is_a_tree(&self.topology);
+        frames_pass_the_log();
+        clashes_have_a_least_tick();
+        let bytes = self.frames.frame(i);
+        let to = receiver(bytes);
+        let answer = self.brokers[to as usize].receive(&self.topology, bytes, self.clock);
+        take_receipt(self.alloc, &mut self.frames, answer)
+    }
+
+    /// Wakes a broker for a publisher.
+    pub(crate) fn wake_at<D: SimDisk>(
+        &mut self,
+        disk: &mut D,
+        b: u16,
+        p: u16,
+    ) -> Result<Reports, WorldFault>
+        requires fits { IsWorld self.old }
+        requires broker { b < length self.old.topo.brokers }
+        requires publisher { p < length self.old.topo.publishers }
+        requires open { IsOpen self.old }
+        requires lanes { D.tells → LanesFit (D.lane_of disk.old) self.old }
+        ensures does { Does (wake_for (net_in self.old) (world_of self.old) b p) self.new result }
+        ensures ran { Ran self.old self.new result }
+        ensures disk { RanOn D.tells (D.faultless disk.old) (D.faultless disk.new) (D.faults disk.old)
+            (D.stops disk.old) (D.faults disk.new) (D.stops disk.new) result }
+        ensures lanes { D.tells → LanesFit (D.lane_of disk.new) self.new }
+    {
+        // Proof only: what is sent goes over edges.
+        every_topology_is_a_tree(&self.topology);
+        let broker = &mut self.brokers[b as usize];
+        let answer = broker.wake(&self.topology, disk, p, self.clock);
+        take_answer(self.alloc, &mut self.frames, answer)
+    }
+}

@@ -1,0 +1,20 @@
+//! The world of a schedule: all brokers of a topology, and the frames between them in their bytes. Each call carries
+//! out one step of the schedule, and is that step of the machine of definitions.
+#![tactic(auto)]
+
+mod calls;
+mod copying;
+mod delivering;
+mod fault;
+mod opening;
+mod order;
+mod sending;
+mod showing;
+mod starting;
+mod steps;
+mod stopping;
+mod sweeping;
+mod world;
+
+pub use fault::{Memory, WorldFault};
+pub use world::World;

@@ -1,0 +1,137 @@
+//! What a broker's call sends and tells is taken up by the world.
+
+ghost use Rattle.std.specs.Prelude.{◌≡◌, ◌<◌, ◌^◌, ◌+◌, suc, List, ◌++◌, length, map, IsOk, IfOk, OnOk, OnErr};
+ghost use Rattle.gr_frame.specs.declared.Frame.{Frame};
+ghost use Rattle.gr_frame.specs.Bytes.{frame_bytes};
+ghost use Rattle.gr_frame.specs.Cut.{AreFrames};
+ghost use Rattle.gr_frame.specs.Decode.{frame_decoded};
+ghost use Rattle.gr_model.specs.Broker.{Outcome as MachineOutcome};
+ghost use Rattle.gr_model.specs.World.{sent_line, sent_lines};
+ghost use Rattle.gr_broker.specs.Told.{Tells};
+ghost use Rattle.gr_world.specs.Seen.{frame_said};
+ghost use Rattle.gr_world.specs.Taking.{Follows, FollowsReceipt, IsReceived, TakesUp};
+
+use crate::fault::{Memory, WorldFault, world_fault};
+use gr_broker::{BrokerFault, Dropped, Outcome, Received};
+use gr_frame::{Body, Frame, Frames, decode};
+use gr_model::{Report, Reports};
+use std::alloc::{AllocError, Global};
+
+/// The line of a frame, by its number and bytes. Bytes of a frame are refused for want of memory alone.
+fn sent_report(alloc: Global, number: u64, bytes: &[u8]) -> Result<Report, Memory>
+    ensures { IfOk result (λ r. r ≡ sent_line number (frame_said bytes.now)) }
+{
+    let frame = match decode(alloc, bytes) {
+        Ok(frame) => frame,
+        Err(_) => return Err(AllocError),
+    };
+    let Frame { head, body } = frame;
+    match body {
+        Body::Knowledge(runs) => Ok(Report::SentKnow {
+            number,
+            from: head.from,
+            to: head.to,
+            publisher: head.publisher,
+            runs,
+        }),
+        Body::Curiosity(runs) => Ok(Report::SentWant {
+            number,
+            from: head.from,
+            to: head.to,
+            publisher: head.publisher,
+            runs,
+        }),
+        Body::Expect(tick) => Ok(Report::SentExpect {
+            number,
+            from: head.from,
+            to: head.to,
+            publisher: head.publisher,
+            tick,
+        }),
+    }
+}
+
+/// Puts the lines of frames at the end of a list, where `first` frames were sent before. At want of memory some of them
+/// may stand there.
+fn tell_sent(alloc: Global, first: u64, sent: &Frames, lines: &mut Reports) -> Result<(), Memory>
+    requires { first + length sent.now.frames < 2 ^ 64 }
+    ensures { (fs : List Frame) → AreFrames sent.now.frames fs
+        → OnOk result (lines.new ≡ lines.old ++ sent_lines (suc first) fs) }
+{
+    for i in 0..sent.len() {
+        let line = sent_report(alloc, first + i as u64 + 1, sent.frame(i))?;
+        lines.push(line)?;
+    }
+    Ok(())
+}
+
+/// Puts the frames of a broker's call behind those that were sent, and gives its lines and those of the frames. At want
+/// of memory the frames are as they were.
+pub(crate) fn take_up(alloc: Global, frames: &mut Frames, told: Outcome) -> Result<Reports, Memory>
+    ensures lines { (o : MachineOutcome) → Tells o told
+        → IfOk result (λ lines. lines ≡ o.lines ++ sent_lines (suc (length frames.old.frames)) o.frames) }
+    ensures frames { (o : MachineOutcome) → Tells o told
+        → OnOk result (frames.new.frames ≡ frames.old.frames ++ map frame_bytes o.frames) }
+    ensures err { OnErr result (frames.new.frames ≡ frames.old.frames) }
+{
+    let mut lines = told.reports;
+    let mut sent = told.frames;
+    let first = frames.len() as u64;
+    // No memory holds more frames than there are numbers.
+    let Some(_) = first.checked_add(sent.len() as u64) else {
+        return Err(AllocError);
+    };
+    tell_sent(alloc, first, &sent, &mut lines)?;
+    frames.append(&mut sent)?;
+    Ok(lines)
+}
+
+/// Takes up the answer of a broker's call. Its faults are passed on.
+pub(crate) fn take_answer(
+    alloc: Global,
+    frames: &mut Frames,
+    answer: Result<Outcome, BrokerFault>,
+) -> Result<Reports, WorldFault>
+    ensures follows { Follows answer result }
+    ensures takes { (o : MachineOutcome) → IfOk answer (Tells o)
+        → TakesUp o frames.old.frames frames.new.frames result }
+{
+    match answer {
+        Ok(told) => match take_up(alloc, frames, told) {
+            Ok(lines) => Ok(lines),
+            Err(_) => Err(WorldFault::Memory),
+        },
+        Err(fault) => Err(world_fault(fault)),
+    }
+}
+
+/// Takes up what becomes of a frame that fits its receiver: it is taken, or it clashes and is dropped, and then nothing
+/// is told or sent.
+pub(crate) fn take_receipt(
+    alloc: Global,
+    frames: &mut Frames,
+    answer: Result<Received, Memory>,
+) -> Result<Reports, WorldFault>
+    requires { (o : MachineOutcome) × IfOk answer (IsReceived o) }
+    ensures follows { FollowsReceipt answer result }
+    ensures takes { (o : MachineOutcome) → IfOk answer (IsReceived o)
+        → TakesUp o frames.old.frames frames.new.frames result }
+{
+    match answer {
+        Ok(Received::Taken(told)) => match take_up(alloc, frames, told) {
+            Ok(lines) => Ok(lines),
+            Err(_) => Err(WorldFault::Memory),
+        },
+        Ok(Received::Dropped(Dropped::Clash { .. })) => Ok(Reports::new(alloc)),
+        Ok(Received::Dropped(_)) => unreachable!(),
+        Err(_) => Err(WorldFault::Memory),
+    }
+}
+
+/// The broker that a frame is for, by its bytes. Takes no memory.
+pub(crate) fn receiver(bytes: &[u8]) -> u16
+    requires { IsOk (frame_decoded bytes.now) }
+    ensures { result ≡ (frame_said bytes.now).head.to }
+{
+    u16::from_be_bytes([bytes[6], bytes[7]])
+}

@@ -1,0 +1,128 @@
+//! Brokers start over the logs that their lanes hold: all of them, or one again after its lanes have crashed.
+
+ghost use Rattle.std.specs.Prelude.{◌≡◌, ◌≢◌, ℕ, ◌*◌, ◌<◌, length, Err, IfOk, OnOk, OnErr};
+ghost use Rattle.gr_out.specs.Lane.{crashed};
+ghost use Rattle.gr_out.specs.Stops.{StaysFaultless};
+ghost use Rattle.gr_publog.specs.Calls.{Tally};
+ghost use Rattle.gr_topo.specs.Topology.{IsTopology, host_of};
+ghost use Rattle.gr_broker.specs.Told.{log_answer};
+ghost use Rattle.gr_broker.specs.Opened.{IsDamagedAt};
+ghost use Rattle.gr_world.specs.Opened.{NoStops};
+ghost use Rattle.gr_world.specs.Starting.{HaveStarted, HaveOpened, CrashesLanes, IsExchanged, OpensAgain, TouchesLanes, LeavesNoLog};
+
+use gr_broker::{Broker, BrokerFault};
+use gr_model::Reports;
+use gr_out::SimDisk;
+use gr_topo::Topology;
+use std::alloc::Global;
+
+/// Brokers that have started, in order, and what that told.
+#[derive(Drop)]
+pub(crate) struct Opening {
+    pub brokers: Vec<Broker>,
+    pub told: Reports,
+}
+
+/// Starts all brokers, in order. `Damaged` names the first publisher, broker by broker, whose lane holds no log.
+pub(crate) fn start_brokers<D: SimDisk>(
+    alloc: Global,
+    topology: &Topology,
+    disk: &mut D,
+) -> Result<Opening, BrokerFault>
+    ensures started { IfOk result (λ o. HaveStarted topology.now (length topology.now.brokers) o.brokers.items o.told) }
+    ensures opened { D.tells → IfOk result (λ o. HaveOpened topology.now (length topology.now.brokers) o.brokers.items
+        (D.lane_of disk.old) (D.lane_of disk.new)) }
+    ensures topology { IsTopology topology.now }
+    ensures damaged { D.tells → (p at : ℕ) → result ≡ Err (BrokerFault.Damaged p at)
+        → IsDamagedAt topology.now (host_of topology.now p) p at (D.lane_of disk.old) }
+    ensures never_reopen { result ≢ Err BrokerFault.Reopen }
+    ensures tally { let f = D.faults disk.old in let s = D.stops disk.old in
+        Tally f s (D.faults disk.new) (D.stops disk.new) (log_answer result) }
+    ensures faultless { StaysFaultless (D.faultless disk.old) (D.faultless disk.new)
+        (D.faults disk.old) (D.faults disk.new) }
+    ensures never_fails { D.tells → NoStops (D.lane_of disk.old) → D.faultless disk.old
+        → result ≢ Err BrokerFault.Disk }
+{
+    let mut brokers = Vec::new(alloc);
+    let mut told = Reports::new(alloc);
+    'brokers: for b in 0..topology.brokers() {
+        let mut started = match Broker::start(alloc, topology, b, disk) {
+            Ok(started) => started,
+            Err(fault) => return Err(fault),
+        };
+        match told.append(&mut started.outcome.reports) {
+            Ok(()) => {}
+            Err(_) => return Err(BrokerFault::Memory),
+        }
+        match brokers.push(started.broker) {
+            Ok(()) => {}
+            Err(_) => return Err(BrokerFault::Memory),
+        }
+    }
+    Ok(Opening { brokers, told })
+}
+
+/// Crashes the lane of a publisher, where it is at a broker.
+fn crash_lane<D: SimDisk>(topology: &Topology, disk: &mut D, b: u16, p: u16)
+    requires { p < length topology.now.publishers }
+    ensures here { D.tells → host_of topology.now p ≡ b
+        → D.lane_of disk.new (2 * p) ≡ crashed (D.lane_of disk.old (2 * p)) }
+    ensures elsewhere { host_of topology.now p ≢ b → disk.new ≡ disk.old }
+    ensures others { D.tells → (n : ℕ) → n ≢ 2 * p → D.lane_of disk.new n ≡ D.lane_of disk.old n }
+    ensures faults { D.faults disk.new ≡ D.faults disk.old }
+    ensures stops { D.stops disk.new ≡ D.stops disk.old }
+    ensures faultless { StaysFaultless (D.faultless disk.old) (D.faultless disk.new)
+        (D.faults disk.old) (D.faults disk.new) }
+{
+    let _ = topology.publishers();
+    if topology.host(p) == b {
+        disk.crash(2 * p);
+    }
+}
+
+/// Crashes the lanes of a broker's publishers.
+fn crash_lanes<D: SimDisk>(topology: &Topology, disk: &mut D, b: u16)
+    ensures crashes { D.tells → CrashesLanes topology.now b (length topology.now.publishers)
+        (D.lane_of disk.old) (D.lane_of disk.new) }
+    ensures faults { D.faults disk.new ≡ D.faults disk.old }
+    ensures stops { D.stops disk.new ≡ D.stops disk.old }
+    ensures faultless { StaysFaultless (D.faultless disk.old) (D.faultless disk.new)
+        (D.faults disk.old) (D.faults disk.new) }
+{
+    'publishers: for p in 0..topology.publishers() {
+        crash_lane(topology, disk, b, p);
+    }
+}
+
+/// Crashes the lanes of a broker's publishers and starts it again in its place. Gives the lines of the opening. After a
+/// fault the broker from before is in its place.
+pub(crate) fn start_again<D: SimDisk>(
+    alloc: Global,
+    topology: &Topology,
+    brokers: &mut Vec<Broker>,
+    disk: &mut D,
+    b: u16,
+) -> Result<Reports, BrokerFault>
+    requires broker { b < length topology.now.brokers }
+    requires count { length brokers.old.items ≡ length topology.now.brokers }
+    ensures exchanged { IfOk result (λ lines. IsExchanged topology.now b brokers.old.items brokers.new.items lines) }
+    ensures kept { OnErr result (brokers.new.items ≡ brokers.old.items) }
+    ensures opened { D.tells → OnOk result (OpensAgain b brokers.new.items (D.lane_of disk.old) (D.lane_of disk.new)) }
+    ensures touches { D.tells → TouchesLanes topology.now b (D.lane_of disk.old) (D.lane_of disk.new) }
+    ensures damaged { D.tells → (p at : ℕ) → result ≡ Err (BrokerFault.Damaged p at)
+        → LeavesNoLog topology.now b p at (D.lane_of disk.old (2 * p)) }
+    ensures never_reopen { result ≢ Err BrokerFault.Reopen }
+    ensures tally { let f = D.faults disk.old in let s = D.stops disk.old in
+        Tally f s (D.faults disk.new) (D.stops disk.new) (log_answer result) }
+    ensures faultless { StaysFaultless (D.faultless disk.old) (D.faultless disk.new)
+        (D.faults disk.old) (D.faults disk.new) }
+    ensures never_fails { D.tells → D.faultless disk.old → result ≢ Err BrokerFault.Disk }
+{
+    crash_lanes(topology, disk, b);
+    let started = match Broker::start(alloc, topology, b, disk) {
+        Ok(started) => started,
+        Err(fault) => return Err(fault),
+    };
+    brokers[b as usize] = started.broker;
+    Ok(started.outcome.reports)
+}

@@ -1,0 +1,328 @@
+//! A publish that stops inside.
+
+ghost use Rattle.std.specs.Prelude.{◌≡◌, ◌≢◌, ℕ, ◌*◌, ◌∷◌, ◌<◌, ◌≤◌, nat_eq, false, List, length, Some, None, Ok, Err, IsSome, IfOk, OnOk};
+ghost use Rattle.gr_out.specs.Lane.{crash_image};
+ghost use Rattle.gr_out.specs.Stops.{StaysFaultless};
+ghost use Rattle.gr_sched.specs.declared.step.Step.TheVariants as step;
+ghost use Rattle.gr_publog.specs.State.{empty_state, Follow};
+ghost use Rattle.gr_publog.specs.Crash.{LogView};
+ghost use Rattle.gr_pubend.specs.Log.{log_of};
+ghost use Rattle.gr_topo.specs.Topology.{host_of, subscribers_of, not_empty};
+ghost use Rattle.gr_model.specs.declared.report.Report.{Report};
+ghost use Rattle.gr_model.specs.declared.report.Report.TheVariants.{Crashed};
+ghost use Rattle.gr_model.specs.World.{World as MachineWorld, publish_stopped};
+ghost use Rattle.gr_broker.specs.Seen.{log_said};
+ghost use Rattle.gr_world.specs.Seen.{net_in, world_of, log_at};
+ghost use Rattle.gr_world.specs.Of.{IsWorld, LaneFits, IsReadable, LanesFit, IsSound};
+ghost use Rattle.gr_world.specs.Opened.{IsRead};
+ghost use Rattle.gr_world.specs.Ran.{IsOpen, Ran, RanOn};
+ghost use Rattle.gr_world.specs.Steps.{Makes, Refuses, Spends, Stays, Does, IsCarried, NotMemory, refused_at};
+ghost use Rattle.gr_world.specs.Disk.{Counts, StaysSound, IsClosed};
+ghost use Rattle.gr_world.specs.Stopped.{tick_in, is_broken_by, lines_in, broken_in, IsStoppedAt, kept_line, stopped_over, StopRan, StopRestarts, start_fault};
+
+use crate::fault::{Memory, WorldFault};
+use crate::order::hosts_subscriber;
+use crate::sending::take_answer;
+use crate::world::World;
+use gr_broker::{BrokerFault, Outcome};
+use gr_event::Event;
+use gr_model::topologies::every_topology_is_a_tree;
+use gr_model::{Report, Reports};
+use gr_out::SimDisk;
+use gr_publog::Log;
+use gr_publog::record::MAX_TICK;
+use gr_sched::Stop;
+use std::alloc::Global;
+
+/// The tick at which an event of this number would be logged behind a log, at a moment. None where none would be.
+fn tick_logged(log: &Log, number: u64, now: u64) -> Option<u64>
+    requires { Follow empty_state log.now.records }
+    ensures { result ≡ tick_in (log_of log.now.records) number now }
+{
+    let last = log.last();
+    let settled = log.settled();
+    if number <= last || number - last > 1 {
+        return None;
+    }
+    if settled >= MAX_TICK || now > MAX_TICK {
+        return None;
+    }
+    Some(now.max(settled + 1))
+}
+
+/// Whether it was the stop that broke a publish, given whether its lane is stopped.
+fn is_broken_by(answer: &Result<Outcome, BrokerFault>, stopped: bool) -> bool
+    ensures { result ≡ is_broken_by answer.now stopped }
+{
+    match answer {
+        Err(BrokerFault::Disk) => stopped,
+        _ => false,
+    }
+}
+
+/// The fault of a start after a stop. A lane that holds no log was not kept by its disk.
+fn start_fault(fault: WorldFault) -> WorldFault
+    ensures { result ≡ start_fault fault }
+{
+    match fault {
+        WorldFault::Damaged { .. } => WorldFault::Disk,
+        WorldFault::Memory => WorldFault::Memory,
+        WorldFault::Disk => WorldFault::Disk,
+        WorldFault::Reopen => WorldFault::Reopen,
+        WorldFault::HostsSubscriber { broker } => WorldFault::HostsSubscriber { broker },
+        WorldFault::NoFrame { sent } => WorldFault::NoFrame { sent },
+        WorldFault::ClockRange { at } => WorldFault::ClockRange { at },
+    }
+}
+
+/// The lines of a publish that was stopped, before those of its host's opening.
+fn lines_of_stop(alloc: Global, host: u16, kept: Report, opened: Reports) -> Result<Reports, Memory>
+    ensures { IfOk result (λ lines. lines ≡ Crashed host ∷ (kept ∷ opened)) }
+{
+    let mut opened = opened;
+    let mut lines = Reports::new(alloc);
+    lines.push(Report::Crashed { broker: host })?;
+    lines.push(kept)?;
+    lines.append(&mut opened)?;
+    Ok(lines)
+}
+
+/// The line that tells whether the event of a stopped publish is kept: its number is then the last one of the log.
+fn line_of_stop(log: &Log, p: u16, number: u64, tick: u64) -> Report
+    requires { Follow empty_state log.now.records }
+    ensures { let last = (log_of log.now.records).last in result ≡ kept_line (nat_eq last number) p number tick }
+{
+    if log.last() == number {
+        Report::Kept {
+            publisher: p,
+            number,
+            tick,
+        }
+    } else {
+        Report::Lost {
+            publisher: p,
+            number,
+            tick,
+        }
+    }
+}
+
+impl World {
+    /// Publishes an event that stops at a disk call, from 1 to 4, within: the publisher's host crashes there, and
+    /// starts again over the picked image, with the event kept or lost. A publish that logs nothing is not stopped.
+    ///
+    /// `HostsSubscriber` exactly where a subscriber is at the host; then nothing has changed. `Disk` where a call of
+    /// the disk failed that the stop did not break, and no stop is left then, and the log answers `Reopen` until its
+    /// broker crashes; or where the host's opening failed, and then it is down.
+    pub fn publish_stopped<D: SimDisk>(
+        &mut self,
+        disk: &mut D,
+        p: u16,
+        number: u64,
+        event: &Event,
+        stop: &Stop,
+    ) -> Result<Reports, WorldFault>
+        requires fits { IsWorld self.old }
+        requires publisher { p < length self.old.topo.publishers }
+        requires first { 1 ≤ stop.now.call }
+        requires last { stop.now.call ≤ 4 }
+        requires lanes { D.tells → LanesFit (D.lane_of disk.old) self.old }
+        ensures makes { D.tells → IsSound self.old
+            → Makes (step.Publish p number (Some stop.now) event.now) self.old self.new result }
+        ensures refused { D.tells
+            → Refuses (step.Publish p number (Some stop.now) event.now) self.old self.new result }
+        ensures memory { Spends self.old self.new result }
+        ensures closed { self.old.spent ≡ false
+            → refused_at self.old (step.Publish p number (Some stop.now) event.now) ≡ None → IsClosed self.old result }
+        ensures stays { Stays self.old self.new }
+        ensures fits { IsWorld self.new }
+        ensures sound { NotMemory result → StaysSound self.old self.new result }
+        ensures counts { Counts (D.faults disk.old) (D.stops disk.old) (D.faults disk.new) (D.stops disk.new) result }
+        ensures faultless { StaysFaultless (D.faultless disk.old) (D.faultless disk.new)
+            (D.faults disk.old) (D.faults disk.new) }
+        ensures never_fails { D.tells → D.faultless disk.old → result ≢ Err WorldFault.Disk }
+        ensures lanes { D.tells → LanesFit (D.lane_of disk.new) self.new }
+    {
+        if self.spent {
+            return Err(WorldFault::Memory);
+        }
+        let host = self.topology.host(p);
+        if hosts_subscriber(&self.topology, host) {
+            return Err(WorldFault::HostsSubscriber { broker: host });
+        }
+        if self.down.is_some() {
+            return Err(WorldFault::Reopen);
+        }
+        let answer = self.publish_or_stop(disk, host, p, number, event, stop);
+        self.noted(answer)
+    }
+
+    /// The same where no subscriber is at the host and no broker is down.
+    fn publish_or_stop<D: SimDisk>(
+        &mut self,
+        disk: &mut D,
+        host: u16,
+        p: u16,
+        number: u64,
+        event: &Event,
+        stop: &Stop,
+    ) -> Result<Reports, WorldFault>
+        requires fits { IsWorld self.old }
+        requires publisher { p < length self.old.topo.publishers }
+        requires host { host ≡ host_of self.old.topo p }
+        requires broker { host < length self.old.topo.brokers }
+        requires no_subscriber { not_empty (subscribers_of self.old.topo host) ≡ false }
+        requires open { IsOpen self.old }
+        requires first { 1 ≤ stop.now.call }
+        requires last { stop.now.call ≤ 4 }
+        requires lanes { D.tells → LanesFit (D.lane_of disk.old) self.old }
+        ensures does { D.tells → IsSound self.old → (n : ℕ)
+            → Does (publish_stopped (net_in self.old) (world_of self.old) n p number stop.now event.now)
+            self.new result }
+        ensures ran { StopRan self.old self.new result }
+        ensures carried { D.tells → IsCarried result }
+        ensures disk { RanOn D.tells (D.faultless disk.old) (D.faultless disk.new) (D.faults disk.old)
+            (D.stops disk.old) (D.faults disk.new) (D.stops disk.new) result }
+        ensures lanes { D.tells → result ≢ Err WorldFault.Memory → LanesFit (D.lane_of disk.new) self.new }
+    {
+        let log = self.log_here(host, p);
+        let Some(tick) = tick_logged(log, number, self.clock) else {
+            return self.publish_at_host(disk, p, number, event);
+        };
+        match self.publish_to_stop(disk, host, p, number, event, stop) {
+            Ok(None) => self.start_stopped(disk, host, p, number, tick),
+            Ok(Some(lines)) => Ok(lines),
+            Err(fault) => Err(fault),
+        }
+    }
+
+    /// Publishes an event that would be logged up to the ordered stop. None where the stop broke the append: the log
+    /// is left to be opened again. Otherwise no stop is left.
+    fn publish_to_stop<D: SimDisk>(
+        &mut self,
+        disk: &mut D,
+        host: u16,
+        p: u16,
+        number: u64,
+        event: &Event,
+        stop: &Stop,
+    ) -> Result<Option<Reports>, WorldFault>
+        requires fits { IsWorld self.old }
+        requires publisher { p < length self.old.topo.publishers }
+        requires host { host ≡ host_of self.old.topo p }
+        requires broker { host < length self.old.topo.brokers }
+        requires open { IsOpen self.old }
+        requires next { IsSome (tick_in (log_said (log_at self.old p)) number self.old.clock) }
+        requires first { 1 ≤ stop.now.call }
+        requires last { stop.now.call ≤ 4 }
+        requires lanes { D.tells → LanesFit (D.lane_of disk.old) self.old }
+        ensures ran { Ran self.old self.new (lines_in result) }
+        // Where the stop broke it, all is as before but for the log, and the lane is left as the call and the pick tell
+        ensures broken { result ≡ Ok None → self.new ≡ broken_in self.old host p }
+        ensures stopped { D.tells → result ≡ Ok None → (tick : ℕ)
+            → tick_in (log_said (log_at self.old p)) number self.old.clock ≡ Some tick
+            → IsStoppedAt self.old p tick number event.now stop.now.call stop.now.pick (D.lane_of disk.new (2 * p)) }
+        ensures never_through { D.tells → (lines : List Report) → result ≢ Ok (Some lines) }
+        ensures others { D.tells → (n : ℕ) → n ≢ 2 * p → D.lane_of disk.new n ≡ D.lane_of disk.old n }
+        ensures counts { let f = D.faults disk.old in let s = D.stops disk.old in
+            Counts f s (D.faults disk.new) (D.stops disk.new) (lines_in result) }
+        ensures faultless { StaysFaultless (D.faultless disk.old) (D.faultless disk.new)
+            (D.faults disk.old) (D.faults disk.new) }
+        ensures never_fails { D.tells → D.faultless disk.old → result ≢ Err WorldFault.Disk }
+        ensures lanes { D.tells → result ≢ Ok None → LanesFit (D.lane_of disk.new) self.new }
+    {
+        // Proof only: what is sent goes over edges, and each publisher has a lane.
+        every_topology_is_a_tree(&self.topology);
+        let _ = self.topology.publishers();
+        disk.stop_after(2 * p, stop.call, stop.pick);
+        let broker = &mut self.brokers[host as usize];
+        let answer = broker.publish(&self.topology, disk, p, number, event, self.clock);
+        if is_broken_by(&answer, disk.stopped(2 * p)) {
+            drop(answer);
+            return Ok(None);
+        }
+        disk.stop_after(2 * p, 0, 0);
+        match take_answer(self.alloc, &mut self.frames, answer) {
+            Ok(lines) => Ok(Some(lines)),
+            Err(fault) => Err(fault),
+        }
+    }
+
+    /// Starts the host again after a publish that was stopped, over what its lanes hold.
+    fn start_stopped<D: SimDisk>(
+        &mut self,
+        disk: &mut D,
+        host: u16,
+        p: u16,
+        number: u64,
+        tick: u64,
+    ) -> Result<Reports, WorldFault>
+        requires fits { IsWorld self.old }
+        requires publisher { p < length self.old.topo.publishers }
+        requires host { host ≡ host_of self.old.topo p }
+        requires broker { host < length self.old.topo.brokers }
+        requires no_subscriber { not_empty (subscribers_of self.old.topo host) ≡ false }
+        requires open { IsOpen self.old }
+        requires readable { D.tells → (q : ℕ) → q < length self.old.topo.publishers
+            → IsReadable (D.lane_of disk.old (2 * q)) }
+        requires others { D.tells → (q : ℕ) (l : LogView) → q < length self.old.topo.publishers
+            → host_of self.old.topo q ≢ host → log_at self.old q ≡ Some l → LaneFits l (D.lane_of disk.old (2 * q)) }
+        ensures does { let w : MachineWorld = world_of self.new in
+            Does (stopped_over (net_in self.old) (world_of self.old) host p number tick w.logs) self.new result }
+        ensures ran { StopRestarts host self.old self.new result }
+        ensures found { D.tells → OnOk result ((q : ℕ) → q < length self.old.topo.publishers
+            → host_of self.old.topo q ≡ host → IsRead (log_at self.new q) (crash_image (D.lane_of disk.old (2 * q)))) }
+        ensures elsewhere { OnOk result ((q : ℕ) → q < length self.old.topo.publishers
+            → host_of self.old.topo q ≢ host → log_at self.new q ≡ log_at self.old q) }
+        ensures faults { D.faults disk.old ≤ D.faults disk.new }
+        ensures stops { D.stops disk.old ≤ D.stops disk.new }
+        ensures faultless { StaysFaultless (D.faultless disk.old) (D.faultless disk.new)
+            (D.faults disk.old) (D.faults disk.new) }
+        ensures never_fails { D.tells → D.faultless disk.old → result ≢ Err WorldFault.Disk }
+        ensures lanes { D.tells → result ≢ Err WorldFault.Memory → LanesFit (D.lane_of disk.new) self.new }
+    {
+        match self.restart(disk, host) {
+            Ok(opened) => self.tell_stopped(host, p, number, tick, opened),
+            Err(fault) => Err(start_fault(fault)),
+        }
+    }
+
+    /// The lines of a publish that was stopped, once its host has started again.
+    fn tell_stopped(
+        &self,
+        host: u16,
+        p: u16,
+        number: u64,
+        tick: u64,
+        opened: Reports,
+    ) -> Result<Reports, WorldFault>
+        requires fits { IsWorld self.now }
+        requires publisher { p < length self.now.topo.publishers }
+        requires host { host ≡ host_of self.now.topo p }
+        requires broker { host < length self.now.topo.brokers }
+        ensures lines { let last = (log_said (log_at self.now p)).last in
+            IfOk result (λ lines. lines
+            ≡ Crashed host ∷ (kept_line (nat_eq last number) p number tick ∷ opened)) }
+        ensures memory { (e : WorldFault) → result ≡ Err e → e ≡ WorldFault.Memory }
+    {
+        let kept = line_of_stop(self.log_here(host, p), p, number, tick);
+        match lines_of_stop(self.alloc, host, kept, opened) {
+            Ok(lines) => Ok(lines),
+            Err(_) => Err(WorldFault::Memory),
+        }
+    }
+
+    /// The log of a publisher, at its host.
+    fn log_here(&self, host: u16, p: u16) -> &Log
+        requires fits { IsWorld self.now }
+        requires publisher { p < length self.now.topo.publishers }
+        requires host { host ≡ host_of self.now.topo p }
+        requires broker { host < length self.now.topo.brokers }
+        ensures log { log_at self.now p ≡ Some result.now }
+        ensures follow { Follow empty_state result.now.records }
+    {
+        let log = self.brokers[host as usize].log(p);
+        let _ = log.is_broken();
+        log
+    }
+}
