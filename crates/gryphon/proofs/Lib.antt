@@ -1,12 +1,2 @@
-pub mod Host
-pub mod News
-pub mod Far
-pub mod Steps
-pub mod Walk
-pub mod Named
-pub mod TakenLemmas
-pub mod TextLemmas
-pub mod StepLemmas
 pub mod Lengths
-pub mod Ready
-pub mod TopLemmas
+pub mod StepLemmas

@@ -1,4 +1,3 @@
-pub mod World
+pub mod Refusals
 pub mod Scenario
-pub mod Taken
 pub mod Top

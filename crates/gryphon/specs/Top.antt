@@ -2,39 +2,41 @@
 use Rattle.std.specs.Prelude.{◌≡◌, ℕ, ◌⊎◌, List, [], ◌∷◌, Option, codes}
 use Rattle.gr_out.specs.Bytes.{with_more}
 use Rattle.gr_sched.specs.declared.step.Line.{Line}
-use Rattle.gr_model.specs.Blank.{net0}
-use Rattle.gr_model.specs.World.{report_of}
-use Rattle.gr_model.specs.Headline.{Headline}
+use Rattle.gr_topo.specs.Topology.{TopologyView}
 use Rattle.gr_model.specs.declared.report.Report.{Report}
-use Rattle.gryphon.specs.declared.asked.Asked.{Asked}
-use Rattle.gryphon.specs.declared.asked.Asked.TheVariants.{Replayed}
-use Rattle.gryphon.specs.Scenario.{replayed_text}
+use Rattle.gr_model.specs.Headline.{Headline}
+use Rattle.gr_model.specs.NetOf.{net_of}
+use Rattle.gr_model.specs.World.{report_of}
 use Rattle.gr_theorems.specs.ByRules.{ReportByRules}
 use Rattle.gr_theorems.specs.Replies.{Replied}
+use Rattle.gryphon.specs.declared.asked.Asked.{Asked}
+use Rattle.gryphon.specs.declared.asked.Asked.TheVariants.{Replayed}
+use Rattle.gr_replay.specs.Replayed.{replayed_text}
 
 -- the words are those of the one command
 abbrev pub IsReplay : List (List ℕ) → Type 0
 IsReplay words = words ≡ codes "replay" ∷ []
 
--- the report of a schedule meets the headline
-pub record MeetsHeadline (lines : List Line) : Type 0 where
+-- the report of a schedule over a topology meets the headline
+pub record MeetsHeadline (t : TopologyView) (lines : List Line) : Type 0 where
   -- recorded lines, delivered exactly, doubt horizons, horizons rise and discarded only after delivery, step by step
-  pub headline : Headline net0 lines (report_of net0 lines)
-  -- each step makes its calls, and each call forwards, asks, acknowledges, tells and keeps what its rule says; the lines are
-  -- those of the calls and frames in their order
-  pub by_rules : ReportByRules net0 lines (report_of net0 lines)
+  pub headline : Headline (net_of t) lines (report_of (net_of t) lines)
+  -- each step makes its calls, and each call forwards, asks, acknowledges, tells and keeps what its rule says; the
+  -- lines are those of the calls and frames in their order
+  pub by_rules : ReportByRules (net_of t) lines (report_of (net_of t) lines)
   -- no other report is one by the rules
-  pub alone : (rs : List (List Report)) → ReportByRules net0 lines rs → rs ≡ report_of net0 lines
+  pub alone : (rs : List (List Report)) → ReportByRules (net_of t) lines rs → rs ≡ report_of (net_of t) lines
   -- each step is refused, and bytes are shown, exactly where the schedule and the frames sent demand it; sent lines are
   -- numbered 1, 2, 3 and so on
-  pub replied : Replied net0 lines (report_of net0 lines)
+  pub replied : Replied (net_of t) lines (report_of (net_of t) lines)
 
--- a schedule was asked for, its report was taken whole, and it meets the headline
+-- a schedule over a topology was asked for, its report was taken whole, and it meets the headline
 pub record WasReplayed (old new : Option (List ℕ)) (asked : Asked) : Type 0 where
+  pub topology : TopologyView
   pub lines : List Line
-  pub schedule : asked ≡ Replayed lines
-  pub taken : new ≡ with_more old (replayed_text lines)
-  pub meets : MeetsHeadline lines
+  pub schedule : asked ≡ Replayed topology lines
+  pub taken : new ≡ with_more old (replayed_text topology lines)
+  pub meets : MeetsHeadline topology lines
 
 -- a status that comes once all is printed
 abbrev pub IsWhole : ℕ → Type 0

@@ -2,14 +2,17 @@
 
 use gr_event::Text;
 use gr_sched::Steps;
+use gr_topo::Topology;
 
 /// What the bytes of a source ask.
 #[derive(Drop)]
 pub enum Asked {
-    /// They are too many, or their counted lines are; with the line that says which.
-    TooLarge(Text),
-    /// They are no scenario, or one that is not built yet; with the line that says why.
+    /// They are more than a source may have.
+    TooManyBytes,
+    /// They have more counted lines behind the separator than a schedule may have.
+    TooManySteps,
+    /// They are no scenario; with the line that says why.
     Refused(Text),
-    /// The steps of a scenario.
-    Replayed(Steps),
+    /// They are a scenario: its steps are to be carried out over its topology.
+    Replayed { topology: Topology, steps: Steps },
 }

@@ -1,16 +1,15 @@
 //! The command `gryphon`: `gryphon replay` reads a scenario from standard input, carries it out and prints its report.
 #![tactic(auto)]
 
-mod adapters;
 mod asked;
-mod replay;
+mod headline;
+mod refusals;
 mod scenario;
 #[cfg(test)]
 mod tests;
 mod top;
-mod world;
 
-use adapters::{StdSink, StdSource};
+use gr_sock::{StdSink, StdSource};
 use std::env;
 use std::io::ErrorKind;
 use std::process::ExitCode;

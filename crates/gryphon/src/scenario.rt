@@ -1,118 +1,59 @@
 //! Reading what the bytes of a source ask.
 
-ghost use Rattle.std.specs.Prelude.{◌≡◌, ◌≢◌, ◌≤◌, ◌++◌, true, length, IfOk, Result, Ok, Err, codes, string_bytes};
-ghost use Rattle.std.specs.List.{All};
-ghost use Rattle.std.specs.Fmt.{decimal};
-ghost use Rattle.gr_sched.specs.Grammar.{steps_of};
-ghost use Rattle.gr_sched.specs.Ranges.{IsStep};
-ghost use Rattle.gr_topo.specs.Topology.{blank, number_of};
-ghost use Rattle.gryphon.specs.Scenario.{is_built, first_unbuilt, fault_line, unless_unbuilt, asked_of_steps, asked_by, AreReady, IsReplayable};
+ghost use Rattle.std.specs.Prelude.{◌≡◌, ◌≤◌, length, IfOk, IfErr};
+ghost use Rattle.gr_sched.specs.Text.{counted_lines};
+ghost use Rattle.gr_topo.specs.Read.{topology_text};
+ghost use Rattle.gryphon.specs.Scenario.{asked_of_parts, asked_by, IsReplayable, IsTooLarge};
 
 use crate::asked::Asked;
-use gr_event::Text;
-use gr_sched::{Line, MAX_BYTES, MAX_STEPS, Step, StepFault, Steps, count, is_blank, parse, split};
+use crate::refusals::{line_of_step, line_of_topology};
+use gr_replay::steps_that_are_read;
+use gr_sched::{MAX_BYTES, MAX_STEPS, count, parse, split};
 use gr_topo::Topology;
 use std::alloc::{AllocError, Global};
 
-/// Reads the bytes of a source, with the names of the blank topology.
+/// Reads the bytes of a source: first how many bytes and how many steps there are, then the topology, then the steps.
+/// That there are too many of either is answered without memory.
 #[tactic(auto, using(crate::proofs::Lengths::after_separator_le))]
-pub fn read(alloc: Global, topology: &Topology, bytes: &[u8]) -> Result<Asked, AllocError>
-    requires { topology.now ≡ blank }
+pub fn read(alloc: Global, bytes: &[u8]) -> Result<Asked, AllocError>
     ensures asked { IfOk result (λ asked. asked ≡ asked_by bytes.now) }
     ensures ready { IfOk result IsReplayable }
+    ensures large_at_once { IfErr result (λ refused. IsTooLarge (asked_by bytes.now) → ⊥) }
 {
     if bytes.len() > MAX_BYTES {
-        return Ok(Asked::TooLarge(Text::from_slice(alloc, b"too-large bytes")?));
+        return Ok(Asked::TooManyBytes);
     }
     let (front, back) = split(bytes);
     if count(back) > MAX_STEPS {
-        return Ok(Asked::TooLarge(Text::from_slice(alloc, b"too-large steps")?));
+        return Ok(Asked::TooManySteps);
     }
-    if !is_blank(front) {
-        return Ok(Asked::Refused(Text::from_slice(alloc, b"topology 0 not-built")?));
-    }
-    read_steps(alloc, topology, back)
+    read_parts(alloc, front, back)
 }
 
-/// Reads a schedule.
-fn read_steps(alloc: Global, topology: &Topology, steps: &[u8]) -> Result<Asked, AllocError>
-    requires names { topology.now ≡ blank }
-    requires short { length steps.now ≤ MAX_BYTES }
-    ensures asked { IfOk result (λ asked. asked ≡ asked_of_steps (steps_of (number_of blank.brokers) (number_of blank.publishers) steps.now)) }
+/// Reads the two parts of a scenario: the topology, and then the steps with its names.
+fn read_parts(alloc: Global, front: &[u8], back: &[u8]) -> Result<Asked, AllocError>
+    requires short { length back.now ≤ MAX_BYTES }
+    requires few { length (counted_lines back.now) ≤ MAX_STEPS }
+    ensures asked { IfOk result (λ asked. asked ≡ asked_of_parts (topology_text front.now) back.now) }
     ensures ready { IfOk result IsReplayable }
 {
-    match parse(alloc, steps, topology) {
-        Ok(lines) => if_built(alloc, lines),
-        Err(fault) => Ok(Asked::Refused(line_of_fault(alloc, fault)?)),
+    match Topology::read(alloc, front) {
+        Ok(topology) => read_steps(alloc, topology, back),
+        Err(fault) => Ok(Asked::Refused(line_of_topology(alloc, &fault)?)),
     }
 }
 
-/// The steps, unless one of them is not built.
-fn if_built(alloc: Global, lines: Steps) -> Result<Asked, AllocError>
-    requires { All (λ line. IsStep (number_of blank.brokers) (number_of blank.publishers) line.step) lines }
-    ensures asked { IfOk result (λ asked. asked ≡ unless_unbuilt lines (first_unbuilt lines)) }
+/// Reads the steps with the names of a topology.
+fn read_steps(alloc: Global, topology: Topology, back: &[u8]) -> Result<Asked, AllocError>
+    requires short { length back.now ≤ MAX_BYTES }
+    requires few { length (counted_lines back.now) ≤ MAX_STEPS }
+    ensures asked { IfOk result (λ asked. asked ≡ asked_of_parts (Ok topology) back.now) }
     ensures ready { IfOk result IsReplayable }
 {
-    match first_unbuilt(lines.as_slice()) {
-        None => Ok(Asked::Replayed(lines)),
-        Some(line) => {
-            let text = format!(in alloc; "step 0 not-built line {line}")?;
-            Ok(Asked::Refused(text_of(alloc, text)?))
-        }
+    // Proof only: the steps that are read are steps of the topology.
+    steps_that_are_read();
+    match parse(alloc, back, &topology) {
+        Ok(steps) => Ok(Asked::Replayed { topology, steps }),
+        Err(fault) => Ok(Asked::Refused(line_of_step(alloc, fault)?)),
     }
-}
-
-/// The number of the first line whose step is not built.
-fn first_unbuilt(lines: &[Line]) -> Option<u32>
-    ensures { result ≡ first_unbuilt lines.now }
-{
-    for line in lines {
-        if !is_built(&line.step) {
-            return Some(line.number);
-        }
-    }
-    None
-}
-
-/// Whether a step is one that is built: the clock, a delivery, a publish without a stop.
-fn is_built(step: &Step) -> bool
-    ensures { result ≡ is_built step.now }
-{
-    match step {
-        Step::Clock { .. } | Step::Deliver { .. } => true,
-        Step::Publish { stop, .. } => stop.is_none(),
-        Step::Wake { .. } | Step::Crash { .. } | Step::Sweep | Step::Show | Step::Bytes { .. } =>
-            false,
-    }
-}
-
-/// The line of a step fault.
-fn line_of_fault(alloc: Global, fault: StepFault) -> Result<Text, AllocError>
-    ensures line { IfOk result (λ text. text ≡ fault_line fault) }
-    ensures known { IfOk result (λ text. fault ≢ StepFault.Memory) }
-{
-    match fault {
-        StepFault::Memory => Err(AllocError),
-        StepFault::BadWord { line } => {
-            text_of(alloc, format!(in alloc; "step 1 bad-word line {line}")?)
-        }
-        StepFault::BadNumber { line } => {
-            text_of(alloc, format!(in alloc; "step 2 bad-number line {line}")?)
-        }
-        StepFault::BadEvent { line, fault } => {
-            let word = fault.word();
-            text_of(
-                alloc,
-                format!(in alloc; "step 3 bad-event line {line} {word}")?,
-            )
-        }
-        StepFault::TooMany { .. } => Text::from_slice(alloc, b"too-large steps"),
-    }
-}
-
-/// The bytes of a string as a text.
-fn text_of(alloc: Global, text: String) -> Result<Text, AllocError>
-    ensures { IfOk result (λ t. t ≡ string_bytes text) }
-{
-    Text::from_slice(alloc, text.as_bytes())
 }

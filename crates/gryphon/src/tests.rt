@@ -1,8 +1,12 @@
-use crate::adapters::{StdSink, StdSource};
+mod examples;
+
 use crate::top::gryphon;
+use examples::EXAMPLES;
 use gr_out::{MemSink, MemSource, Sink, Source};
+use gr_sock::{StdSink, StdSource};
 use std::alloc::Global;
 use std::process::Abort;
+use std::str;
 use std::test::Fail;
 
 /// The line for words that are no command.
@@ -21,6 +25,14 @@ struct Case<'a> {
     writes: &'a [u64],
 }
 
+/// A text of bytes.
+fn as_text(bytes: &[u8]) -> &str {
+    match str::from_utf8(bytes) {
+        Ok(text) => text,
+        Err(_) => "no text",
+    }
+}
+
 /// Carries out a case, and compares the status and what was printed.
 fn comes_to(
     rt: &impl Abort,
@@ -32,8 +44,8 @@ fn comes_to(
     let mut source = MemSource::new(alloc, case.input, case.reads)?;
     let mut sink = MemSink::new(alloc, case.room, case.writes)?;
     let came = gryphon(alloc, case.words, &mut source, &mut sink);
+    assert_eq!(rt; as_text(sink.bytes()), printed);
     assert_eq!(rt; came, status, "for {printed:?}");
-    assert_eq!(rt; sink.bytes(), printed.as_bytes(), "for {printed:?}");
     Ok(())
 }
 
@@ -49,103 +61,140 @@ fn replays(
         words: &["replay"],
         input,
         reads: &[],
-        room: 1000,
+        room: 10_000,
         writes: &[],
     };
     comes_to(rt, alloc, &case, status, printed)
 }
 
+/// Replays each text, and compares the status and what was printed.
+fn all_replay(
+    rt: &impl Abort,
+    alloc: Global,
+    rows: &[(&str, &str)],
+    status: u8,
+) -> Result<(), Fail> {
+    for row in rows {
+        replays(rt, alloc, row.0.as_bytes(), status, row.1)?;
+    }
+    Ok(())
+}
+
 #[test]
 fn a_schedule_prints_its_report(rt: HostRuntime) -> Result<(), Fail> {
+    for example in EXAMPLES {
+        let text = format!(in rt.alloc(); "{}---\n{}", example.topology, example.steps)?;
+        replays(&rt, rt.alloc(), text.as_bytes(), 0, example.report)?;
+    }
+    Ok(())
+}
+
+#[test]
+fn a_scenario_may_be_short(rt: HostRuntime) -> Result<(), Fail> {
     let rows = [
-        // The first event.
-        (
-            FIRST,
-            "logged P 1 1000\nsent 1 A B know P S1-999 D1000-1000\ngot S P 1000 {\"n\":82}\nhorizon S P 1000\n",
-        ),
         // No steps.
         ("", ""),
         ("\n \t\n---\n# nothing\n", ""),
-        // Two publishes at one moment.
-        (
-            "---\nclock 1000\npublish P 1 {\"n\":1}\npublish P 2 {\"n\":2}\n",
-            "logged P 1 1000\nsent 1 A B know P S1-999 D1000-1000\nlogged P 2 1001\nsent 2 A B know P D1001-1001\n",
-        ),
-        // The clock goes back.
-        (
-            "---\nclock 1000\npublish P 1 {\"n\":1}\nclock 10\npublish P 2 {\"n\":2}\n",
-            "logged P 1 1000\nsent 1 A B know P S1-999 D1000-1000\nlogged P 2 1001\nsent 2 A B know P D1001-1001\n",
-        ),
-        // Frames out of order, and repeated.
-        (
-            "---\nclock 1000\npublish P 1 {\"n\":1}\nclock 2000\npublish P 2 {\"n\":2}\ndeliver 2\ndeliver 1\ndeliver 2\ndeliver 1\n",
-            "logged P 1 1000\nsent 1 A B know P S1-999 D1000-1000\nlogged P 2 2000\nsent 2 A B know P S1001-1999 D2000-2000\ngot S P 1000 {\"n\":1}\ngot S P 2000 {\"n\":2}\nhorizon S P 2000\n",
-        ),
-        // Equal events at two ticks in a row, of which the later comes first.
-        (
-            "---\nclock 1000\npublish P 1 {\"n\":7}\npublish P 2 {\"n\":7}\ndeliver 2\ndeliver 1\n",
-            "logged P 1 1000\nsent 1 A B know P S1-999 D1000-1000\nlogged P 2 1001\nsent 2 A B know P D1001-1001\ngot S P 1000 {\"n\":7}\ngot S P 1001 {\"n\":7}\nhorizon S P 1001\n",
-        ),
-        // A repeated number, and a skipped one.
-        (
-            "---\nclock 1000\npublish P 1 {\"n\":1}\npublish P 1 {\"n\":1}\npublish P 5 {\"n\":5}\n",
-            "logged P 1 1000\nsent 1 A B know P S1-999 D1000-1000\nalready P 1\ngap P 5 next 2\n",
-        ),
-        // No tick is left.
-        (
-            "---\nclock 4611686018427387904\npublish P 1 {\"n\":1}\npublish P 2 {\"n\":2}\n",
-            "logged P 1 4611686018427387904\nsent 1 A B know P S1-4611686018427387903 D4611686018427387904-4611686018427387904\nexhausted P 2\n",
-        ),
-        // No such frame.
-        ("---\ndeliver 9\n", "refused line 1 no-frame 9 of 0\n"),
+        // No separator: all is the topology.
+        ("brokers = [\"A\"]", ""),
         // Lines that are passed over are numbered too. A line may end with CR and LF, and the last one with nothing.
         (
             "---\r\n\r\n# x\r\n\tclock  5 \r\n\r\ndeliver 0",
             "refused line 5 no-frame 0 of 0\n",
         ),
     ];
-    for (input, printed) in rows {
-        replays(&rt, rt.alloc(), input.as_bytes(), 0, printed)?;
+    all_replay(&rt, rt.alloc(), &rows, 0)
+}
+
+/// A publish that is stopped inside, and then made again: at disk call `call`, with image `pick`.
+fn stops(rt: &impl Abort, alloc: Global, call: u8, pick: u8) -> Result<(), Fail> {
+    let text = format!(in alloc;
+        "---\nclock 1000\npublish P 1 stop {call} pick {pick} {{\"n\":1}}\npublish P 1 {{\"n\":1}}\n"
+    )?;
+    // The record is synced before the third call, which opens its gate at byte 5: pick 1 reads what was written there,
+    // and 5 * 205 leaves 1 modulo 256.
+    let printed = if call >= 3 && (pick == 1 || pick == 205) {
+        "crashed A\nkept P 1 1000\nopened P last 1 settled 1000 cut 0\nalready P 1\n"
+    } else {
+        "crashed A\nlost P 1 1000\nlogged P 1 1000\nsent 1 A B know P S1-999 D1000-1000\n"
+    };
+    replays(rt, alloc, text.as_bytes(), 0, printed)
+}
+
+#[test]
+fn a_stopped_publish_is_kept_or_lost(rt: HostRuntime) -> Result<(), Fail> {
+    for call in 1..5 {
+        for pick in 0..=255 {
+            stops(&rt, rt.alloc(), call, pick)?;
+        }
     }
     Ok(())
 }
 
 #[test]
-fn what_is_no_scenario_is_refused(rt: HostRuntime) -> Result<(), Fail> {
+fn what_is_no_topology_is_refused(rt: HostRuntime) -> Result<(), Fail> {
     let rows = [
-        // Another topology than the blank one, whatever the steps are.
-        ("x\n---\nclock 5\n", "topology 0 not-built\n"),
-        ("clock 1000\n", "topology 0 not-built\n"),
-        ("#\n---\nfrob\n", "topology 0 not-built\n"),
-        // Steps that are not built, the first of them, and only where all lines are steps.
-        ("---\nwake A\n", "step 0 not-built line 1\n"),
-        ("---\ncrash B\n", "step 0 not-built line 1\n"),
-        ("---\nclock 5\n\nsweep\nshow\n", "step 0 not-built line 3\n"),
-        ("---\nshow\n", "step 0 not-built line 1\n"),
-        ("---\nbytes 1\n", "step 0 not-built line 1\n"),
+        // The topology is read before the steps. Without a separator all is the topology.
+        ("x\n---\nfrob\n", "topology 1 not-toml\n"),
+        ("clock 1000\n", "topology 1 not-toml\n"),
+        ("#\n---\nfrob\n", "topology 10 missing brokers\n"),
+        // A key and a name are printed as visible characters of ASCII alone.
+        ("\"a b\\u00e9\" = 1\n", "topology 2 bad-key a?b??\n"),
+        ("brokers = 5\n", "topology 3 bad-type brokers\n"),
+        ("brokers = [\"A\", \"A\"]\n", "topology 4 twice A\n"),
         (
-            "---\npublish P 1 stop 1 pick 0 {\"n\":1}\n",
-            "step 0 not-built line 1\n",
+            "brokers = [\"A\"]\nlinks = [[\"A\", \"X\"]]\n",
+            "topology 5 unknown X\n",
         ),
-        ("---\nsweep\nclock\n", "step 1 bad-word line 2\n"),
-        // Lines that are no steps.
-        ("---\ncut P 5\n", "step 1 bad-word line 1\n"),
         (
-            "---\nclock 5\npublish Q 1 {\"n\":1}\n",
+            "brokers = [\"A\", \"B\", \"C\"]\nlinks = [[\"A\", \"B\"], [\"B\", \"C\"], [\"C\", \"A\"]]\n",
+            "topology 6 not-tree\n",
+        ),
+        (
+            "brokers = [\"A\"]\n[[subscriber]]\nname = \"S\"\nat = \"A\"\nfilter = \"a >\"\n",
+            "topology 7 bad-filter S expected 3\n",
+        ),
+        (
+            "brokers = [\"A\"]\n[addresses]\nA = \"1.2.3.4:0\"\n",
+            "topology 9 bad-address A\n",
+        ),
+        ("brokers = [\"A B\"]\n", "topology 11 bad-name A?B\n"),
+        (
+            "brokers = [\"A\"]\n[settings]\ncache = 0\n",
+            "topology 12 bad-range cache\n",
+        ),
+    ];
+    all_replay(&rt, rt.alloc(), &rows, 2)
+}
+
+#[test]
+fn what_are_no_steps_is_refused(rt: HostRuntime) -> Result<(), Fail> {
+    let rows = [
+        ("---\ncut P 5\n", "step 1 bad-word line 1\n"),
+        ("---\nsweep\nclock\n", "step 1 bad-word line 2\n"),
+        // The names are those of the topology.
+        ("---\nwake C\n", "step 1 bad-word line 1\n"),
+        (
+            "brokers = [\"A\"]\n---\nwake A\npublish P 1 {}\n",
             "step 1 bad-word line 2\n",
         ),
+        ("---\nclock x\n", "step 2 bad-number line 1\n"),
         ("---\nclock +5\n", "step 2 bad-number line 1\n"),
         (
             "---\n# x\n\nclock 4611686018427387905\nfrob\n",
             "step 2 bad-number line 3\n",
         ),
         (
-            "---\npublish P 1 [1]\n",
-            "step 3 bad-event line 1 not-object\n",
+            "---\npublish P 1 stop 5 pick 0 {}\n",
+            "step 2 bad-number line 1\n",
         ),
         (
-            "---\npublish P 1 {\"n\":null}\n",
+            "---\npublish P 1 {\"n\":1.5}\n",
             "step 3 bad-event line 1 bad-value\n",
+        ),
+        (
+            "---\npublish P 1 [1]\n",
+            "step 3 bad-event line 1 not-object\n",
         ),
         (
             "---\npublish P 1 {\"\":1}\n",
@@ -153,22 +202,26 @@ fn what_is_no_scenario_is_refused(rt: HostRuntime) -> Result<(), Fail> {
         ),
         ("---\npublish P 1 {\n", "step 3 bad-event line 1 not-json\n"),
     ];
-    for (input, printed) in rows {
-        replays(&rt, rt.alloc(), input.as_bytes(), 2, printed)?;
-    }
-    Ok(())
+    all_replay(&rt, rt.alloc(), &rows, 2)
 }
 
 #[test]
-fn what_is_too_large_is_refused(rt: HostRuntime) -> Result<(), Fail> {
+fn too_many_bytes_are_refused(rt: HostRuntime) -> Result<(), Fail> {
     let mut bytes = vec![in rt.alloc(); b' '; 4_194_304]?;
     replays(&rt, rt.alloc(), bytes.as_slice(), 0, "")?;
     bytes.push(b' ')?;
-    replays(&rt, rt.alloc(), bytes.as_slice(), 9, "too-large bytes\n")?;
+    replays(&rt, rt.alloc(), bytes.as_slice(), 9, "too-large bytes\n")
+}
+
+#[test]
+fn too_many_steps_are_refused(rt: HostRuntime) -> Result<(), Fail> {
     let mut lines = Vec::from_slice(rt.alloc(), b"---\n")?;
-    for _ in 0..100_001 {
+    for _ in 0..100_000 {
         lines.extend_from_slice(b"clock 5\n")?;
     }
+    replays(&rt, rt.alloc(), lines.as_slice(), 0, "")?;
+    // One line more, whether it is a step or not.
+    lines.extend_from_slice(b"frob\n")?;
     replays(&rt, rt.alloc(), lines.as_slice(), 9, "too-large steps\n")
 }
 
@@ -202,16 +255,15 @@ fn other_words_get_the_usage(rt: HostRuntime) -> Result<(), Fail> {
 fn failing_calls_are_told(rt: HostRuntime) -> Result<(), Fail> {
     let whole =
         "logged P 1 1000\nsent 1 A B know P S1-999 D1000-1000\ngot S P 1000 {\"n\":82}\nhorizon S P 1000\n";
-    let lines = "logged P 1 1000\nsent 1 A B know P S1-999 D1000-1000\n";
     let none: [u64; 0] = [];
     let rows: [(&str, &[u64], usize, &[u64], u8, &str); 9] = [
         // The read of the bytes, the one that finds their end, and one that is not made.
         (FIRST, &[1], 1000, &none, 3, ""),
         (FIRST, &[2], 1000, &none, 3, ""),
         (FIRST, &[3], 1000, &none, 0, whole),
-        // The write of the first line, and one in mid-stream.
+        // The write of the lines, which are written in one piece, and one that is not made.
         (FIRST, &none, 1000, &[1], 4, ""),
-        (FIRST, &none, 1000, &[3], 4, lines),
+        (FIRST, &none, 1000, &[2], 0, whole),
         // A sink that is full in the midst of a line.
         (FIRST, &none, 23, &none, 4, "logged P 1 1000\nsent 1 "),
         // The line of a refusal.

@@ -1,0 +1,65 @@
+-- What a replay keeps of a world between two steps, and what its parts answer
+use Rattle.std.specs.Prelude.{◌≡◌, ◌≢◌, ℕ, ◌≤◌, false, List, Result, Ok, Err, IsErrOf}
+use Rattle.gr_out.specs.declared.fault.RunFault.{RunFault}
+use Rattle.gr_out.specs.declared.fault.RunFault.TheVariants as run
+use Rattle.gr_publog.specs.Crash.{EitherRose}
+use Rattle.gr_sched.specs.declared.step.Line.{Line}
+use Rattle.gr_model.specs.declared.report.Report.{Report}
+use Rattle.gr_model.specs.Text.{labels_of, report_text}
+use Rattle.gr_model.specs.World.{next, run_all}
+use Rattle.gr_world.specs.declared.fault.WorldFault.{WorldFault}
+use Rattle.gr_world.specs.declared.fault.WorldFault.TheVariants as fault
+use Rattle.gr_world.specs.Seen.{WorldView, net_in, world_of}
+use Rattle.gr_world.specs.Of.{IsWorld, IsSound}
+
+-- no call on the world failed
+pub record IsGoing (w : WorldView) : Type 0 where
+  pub fits : IsWorld w
+  pub sound : IsSound w
+  pub unspent : w.spent ≡ false
+
+-- the machine's step from one world leads to the other, and tells these lines
+abbrev pub Tells : Line → WorldView → WorldView → List Report → Type 0
+Tells l old new lines = next (net_in old) (world_of old) l ≡ record { world = world_of new; lines = lines }
+
+-- the text of what one step tells, and of what steps tell one after another
+abbrev pub step_text : WorldView → Line → List ℕ
+step_text w l = report_text (labels_of w.topo) (next (net_in w) (world_of w) l).lines
+
+abbrev pub text_from : WorldView → List Line → List ℕ
+text_from w lines = report_text (labels_of w.topo) (run_all (net_in w) (world_of w) lines).lines
+
+-- how the two counts of the disk move, of failures and of calls that a stop broke
+pub record DiskCounts {T : Type 0} (faults stops faults' stops' : ℕ) (result : Result T RunFault) : Type 0 where
+  pub faults_never_fall : faults ≤ faults'
+  pub stops_never_fall : stops ≤ stops'
+  pub rose : IsErrOf result run.Disk → EitherRose faults faults' stops stops'
+
+-- an answer other than that a lane holds no log
+abbrev pub NotDamaged : {T : Type 0} → Result T WorldFault → Type 0
+NotDamaged (Err (fault.Damaged p at)) = ⊥
+NotDamaged _ = Unit {0}
+
+-- why a step ends a replay, by the answer of its call
+abbrev pub IsCause : {T : Type 0} → RunFault → Result T WorldFault → Type 0
+IsCause run.Memory answer = Unit {0}
+IsCause run.Disk answer = answer ≡ Err fault.Disk
+IsCause (run.Damaged p at) answer = answer ≡ Err (fault.Damaged p at)
+IsCause _ answer = ⊥
+
+-- why a world cannot be opened, or a step ends a replay
+abbrev pub IsStepFault : RunFault → Type 0
+IsStepFault run.Memory = Unit {0}
+IsStepFault run.Disk = Unit {0}
+IsStepFault (run.Damaged p at) = Unit {0}
+IsStepFault _ = ⊥
+
+-- a run's answer other than that a lane holds no log
+abbrev pub NotDamagedRun : {T : Type 0} → Result T RunFault → Type 0
+NotDamagedRun (Err (run.Damaged p at)) = ⊥
+NotDamagedRun _ = Unit {0}
+
+-- why a replay ends early
+abbrev pub IsReplayFault : RunFault → Type 0
+IsReplayFault run.Post = ⊥
+IsReplayFault _ = Unit {0}

@@ -1,0 +1,205 @@
+//! A schedule is carried out over a disk, and its report is written.
+
+ghost use Rattle.std.specs.Prelude.{◌≡◌, ◌≢◌, ℕ, ◌++◌, [], take, Err, IfOk, IfErr, OnOk, OnErr, IsErrOf};
+ghost use Rattle.gr_out.specs.Bytes.{with_more};
+ghost use Rattle.gr_out.specs.Faults.{Rose};
+ghost use Rattle.gr_out.specs.Stops.{StaysFaultless};
+ghost use Rattle.gr_publog.specs.Crash.{EitherRose};
+ghost use Rattle.gr_model.specs.NetOf.{net_of};
+ghost use Rattle.gr_model.specs.Text.{labels_of, report_text};
+ghost use Rattle.gr_model.specs.World.{next, start};
+ghost use Rattle.gr_world.specs.Seen.{net_in, world_of};
+ghost use Rattle.gr_world.specs.Of.{LanesFit};
+ghost use Rattle.gr_world.specs.Opened.{NoStops, AreEmpty};
+ghost use Rattle.gr_replay.specs.Page.{TakesBut, IsPutFault};
+ghost use Rattle.gr_replay.specs.Replayed.{AreStepsOf, IsStepOf, IsFresh, AllNamed, TakesFront, replayed_text};
+ghost use Rattle.gr_replay.specs.Going.{IsGoing, IsStepFault, IsReplayFault, NotDamagedRun, DiskCounts, step_text, text_from};
+
+use crate::buffer::Page;
+use crate::putting::put_all;
+use crate::stepping::step;
+use gr_model::topologies::every_topology_is_a_tree;
+use gr_out::{RunFault, SimDisk, Sink};
+use gr_sched::{Line, Steps};
+use gr_topo::Topology;
+use gr_world::{World, WorldFault};
+use std::alloc::Global;
+
+/// Carries out the steps of a schedule over a disk, and writes its report to a sink: what the opening of the logs
+/// tells, and the lines of each step in order, many lines in one call of the sink. A step that is refused tells so in
+/// its line.
+///
+/// `Memory` where memory is refused. `Write` only where the sink failed in this call. `Disk` only where the disk failed
+/// in this call, and no stop that a step orders is such a failure; the lines of all steps before are written then.
+/// `Damaged` where the lane of a publisher holds no log; of a disk that tells what it holds, at the start alone. `Post`
+/// never comes. After each fault the sink took a front of the report.
+pub fn replay<K: Sink, D: SimDisk>(
+    alloc: Global,
+    topology: Topology,
+    steps: &Steps,
+    disk: &mut D,
+    sink: &mut K,
+) -> Result<(), RunFault>
+    requires steps { AreStepsOf topology steps.now }
+    requires stops { D.tells → NoStops (D.lane_of disk.old) }
+    // Over empty lanes the sink took the report of the machine, and nothing else
+    ensures report { D.tells → IsFresh topology (D.lane_of disk.old)
+        → OnOk result (K.taken sink.new ≡ with_more (K.taken sink.old) (replayed_text topology steps.now)) }
+    // after a fault a front of it
+    ensures front { D.tells → IsFresh topology (D.lane_of disk.old)
+        → OnErr result (TakesFront (K.taken sink.old) (K.taken sink.new) (replayed_text topology steps.now)) }
+    // where the disk failed, the lines of all steps before
+    ensures before { D.tells → IsFresh topology (D.lane_of disk.old) → IsErrOf result RunFault.Disk
+        → (k : ℕ) × (let text = replayed_text topology (take k steps.now) in
+        K.taken sink.new ≡ with_more (K.taken sink.old) text) }
+    ensures write { IsErrOf result RunFault.Write → Rose (K.faults sink.old) (K.faults sink.new) }
+    ensures sink_same { result ≢ Err RunFault.Write → K.faults sink.new ≡ K.faults sink.old }
+    ensures disk { IsErrOf result RunFault.Disk
+        → EitherRose (D.faults disk.old) (D.faults disk.new) (D.stops disk.old) (D.stops disk.new) }
+    ensures never_fails { D.tells → IsFresh topology (D.lane_of disk.old) → D.faultless disk.old
+        → result ≢ Err RunFault.Disk }
+    ensures never_damaged { D.tells → IsFresh topology (D.lane_of disk.old)
+        → (p at : ℕ) → result ≢ Err (RunFault.Damaged p at) }
+    ensures never_post { result ≢ Err RunFault.Post }
+{
+    let mut world = match opened(alloc, topology, disk) {
+        Ok(world) => world,
+        Err(fault) => return Err(fault),
+    };
+    let mut page = match first_page(alloc, &world, sink) {
+        Ok(page) => page,
+        Err(fault) => return Err(fault),
+    };
+    run(alloc, &mut world, steps.as_slice(), disk, &mut page, sink)
+}
+
+/// Opens the world of a topology over a disk.
+fn opened<D: SimDisk>(alloc: Global, topology: Topology, disk: &mut D) -> Result<World, RunFault>
+    requires stops { D.tells → NoStops (D.lane_of disk.old) }
+    ensures topology { IfOk result (λ w. w.topo ≡ topology) }
+    ensures going { IfOk result IsGoing }
+    ensures named { IfOk result (λ w. AllNamed w.topo w.told) }
+    ensures fresh { D.tells → AreEmpty topology (D.lane_of disk.old)
+        → IfOk result (λ w. (world_of w ≡ start (net_of topology)) × (w.told ≡ [])) }
+    ensures cause { IfErr result IsStepFault }
+    ensures undamaged { D.tells → AreEmpty topology (D.lane_of disk.old) → NotDamagedRun result }
+    ensures counts { DiskCounts (D.faults disk.old) (D.stops disk.old) (D.faults disk.new) (D.stops disk.new) result }
+    ensures faultless { StaysFaultless (D.faultless disk.old) (D.faultless disk.new)
+        (D.faults disk.old) (D.faults disk.new) }
+    ensures never_fails { D.tells → D.faultless disk.old → result ≢ Err RunFault.Disk }
+    ensures lanes { D.tells → IfOk result (λ w. LanesFit (D.lane_of disk.new) w) }
+{
+    every_topology_is_a_tree(&topology);
+    match World::new(alloc, topology, disk) {
+        Ok(world) => Ok(world),
+        Err(fault) => match fault {
+            WorldFault::Memory => Err(RunFault::Memory),
+            WorldFault::Disk => Err(RunFault::Disk),
+            WorldFault::Damaged { publisher, at } => Err(RunFault::Damaged { publisher, at }),
+            WorldFault::Reopen => unreachable!(),
+            WorldFault::HostsSubscriber { .. } => unreachable!(),
+            WorldFault::NoFrame { .. } => unreachable!(),
+            WorldFault::ClockRange { .. } => unreachable!(),
+        },
+    }
+}
+
+/// A page with what the opening of the logs told.
+fn first_page<K: Sink>(alloc: Global, world: &World, sink: &mut K) -> Result<Page, RunFault>
+    requires { AllNamed world.now.topo world.now.told }
+    ensures ok { IfOk result (λ page. TakesBut (K.taken sink.old) (K.taken sink.new)
+        (report_text (labels_of world.now.topo) world.now.told) page.held) }
+    ensures front { OnErr result (TakesFront (K.taken sink.old) (K.taken sink.new)
+        (report_text (labels_of world.now.topo) world.now.told)) }
+    ensures only { IfErr result IsPutFault }
+    ensures write { IsErrOf result RunFault.Write → Rose (K.faults sink.old) (K.faults sink.new) }
+    ensures same { result ≢ Err RunFault.Write → K.faults sink.new ≡ K.faults sink.old }
+{
+    let mut page = match Page::new(alloc) {
+        Ok(page) => page,
+        Err(_) => return Err(RunFault::Memory),
+    };
+    let told = match world.opened() {
+        Ok(told) => told,
+        Err(_) => return Err(RunFault::Memory),
+    };
+    match put_all(alloc, world.topology(), told.as_slice(), &mut page, sink) {
+        Ok(()) => Ok(page),
+        Err(fault) => Err(fault),
+    }
+}
+
+/// Carries out a step, and puts the lines that it tells. Where the step fails, what the page holds is written before it
+/// is answered.
+fn turn<K: Sink, D: SimDisk>(
+    alloc: Global,
+    world: &mut World,
+    line: &Line,
+    disk: &mut D,
+    page: &mut Page,
+    sink: &mut K,
+) -> Result<(), RunFault>
+    requires going { IsGoing world.old }
+    requires step { IsStepOf world.old.topo line.now.step }
+    requires lanes { D.tells → LanesFit (D.lane_of disk.old) world.old }
+    ensures leads { D.tells → OnOk result (world_of world.new
+        ≡ (next (net_in world.old) (world_of world.old) line.now).world) }
+    ensures put { D.tells → OnOk result (TakesBut (K.taken sink.old) (K.taken sink.new)
+        (page.old.held ++ step_text world.old line.now) page.new.held) }
+    ensures front { D.tells → OnErr result (TakesFront (K.taken sink.old) (K.taken sink.new)
+        (page.old.held ++ step_text world.old line.now)) }
+    ensures before { IsErrOf result RunFault.Disk → K.taken sink.new ≡ with_more (K.taken sink.old) page.old.held }
+    ensures topology { world.new.topo ≡ world.old.topo }
+    ensures going { OnOk result (IsGoing world.new) }
+    ensures cause { IfErr result IsReplayFault }
+    ensures undamaged { D.tells → NotDamagedRun result }
+    ensures counts { DiskCounts (D.faults disk.old) (D.stops disk.old) (D.faults disk.new) (D.stops disk.new) result }
+    ensures faultless { StaysFaultless (D.faultless disk.old) (D.faultless disk.new)
+        (D.faults disk.old) (D.faults disk.new) }
+    ensures never_fails { D.tells → D.faultless disk.old → result ≢ Err RunFault.Disk }
+    ensures lanes { D.tells → LanesFit (D.lane_of disk.new) world.new }
+    ensures write { IsErrOf result RunFault.Write → Rose (K.faults sink.old) (K.faults sink.new) }
+    ensures same { result ≢ Err RunFault.Write → K.faults sink.new ≡ K.faults sink.old }
+{
+    match step(alloc, world, disk, line) {
+        Ok(lines) => put_all(alloc, world.topology(), lines.as_slice(), page, sink),
+        Err(fault) => match page.flush(sink) {
+            Ok(()) => Err(fault),
+            Err(unwritten) => Err(unwritten),
+        },
+    }
+}
+
+/// Carries out steps over a world, and puts what they tell behind what the page holds. At the end all is written.
+fn run<K: Sink, D: SimDisk>(
+    alloc: Global,
+    world: &mut World,
+    steps: &[Line],
+    disk: &mut D,
+    page: &mut Page,
+    sink: &mut K,
+) -> Result<(), RunFault>
+    requires going { IsGoing world.old }
+    requires steps { AreStepsOf world.old.topo steps.now }
+    requires lanes { D.tells → LanesFit (D.lane_of disk.old) world.old }
+    ensures report { D.tells → OnOk result (K.taken sink.new
+        ≡ with_more (K.taken sink.old) (page.old.held ++ text_from world.old steps.now)) }
+    ensures front { D.tells → OnErr result (TakesFront (K.taken sink.old) (K.taken sink.new)
+        (page.old.held ++ text_from world.old steps.now)) }
+    ensures before { D.tells → IsErrOf result RunFault.Disk → (k : ℕ) × (K.taken sink.new
+        ≡ with_more (K.taken sink.old) (page.old.held ++ text_from world.old (take k steps.now))) }
+    ensures cause { IfErr result IsReplayFault }
+    ensures undamaged { D.tells → NotDamagedRun result }
+    ensures counts { DiskCounts (D.faults disk.old) (D.stops disk.old) (D.faults disk.new) (D.stops disk.new) result }
+    ensures never_fails { D.tells → D.faultless disk.old → result ≢ Err RunFault.Disk }
+    ensures write { IsErrOf result RunFault.Write → Rose (K.faults sink.old) (K.faults sink.new) }
+    ensures same { result ≢ Err RunFault.Write → K.faults sink.new ≡ K.faults sink.old }
+{
+    'steps: for line in steps {
+        match turn(alloc, world, line, disk, page, sink) {
+            Ok(()) => {}
+            Err(fault) => return Err(fault),
+        }
+    }
+    page.flush(sink)
+}
