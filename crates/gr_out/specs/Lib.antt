@@ -1,5 +1,6 @@
 pub mod Faults
 pub mod Bytes
+pub mod Page
 pub mod Streams
 pub mod Lane
 pub mod Stops

@@ -154,4 +154,7 @@ pub trait SimDisk: Disk {
         ensures stops { Self.stops self.new ≡ Self.stops self.old }
         ensures faultless { StaysFaultless (Self.faultless self.old) (Self.faultless self.new)
             (Self.faults self.old) (Self.faults self.new) };
+
+    /// Each such disk tells what it holds.
+    ghost told: { Self.Disk.tells };
 }

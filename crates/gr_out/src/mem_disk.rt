@@ -282,6 +282,8 @@ impl Disk for MemDisk {
 }
 
 impl SimDisk for MemDisk {
+    ghost told = { tt };
+
     fn stop_after(&mut self, lane: u16, calls: u8, pick: u8)
         requires reserved { (lane_at self.old.lanes lane).reserved ≡ true }
         ensures stop { lane_at self.new.lanes lane ≡ with_stop (stop_at calls pick) (lane_at self.old.lanes lane) }
