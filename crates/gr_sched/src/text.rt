@@ -136,6 +136,7 @@ fn piece_len(text: &[u8]) -> usize
 pub fn split(bytes: &[u8]) -> (&[u8], &[u8])
     ensures topology { result.0.now ≡ before_separator (pieces_of bytes.now) }
     ensures steps { result.1.now ≡ after_separator (pieces_of bytes.now) }
+    ensures within { length result.0.now + length result.1.now ≤ length bytes.now }
 {
     let mut start = 0;
     'pieces: while start < bytes.len() {
@@ -151,14 +152,14 @@ pub fn split(bytes: &[u8]) -> (&[u8], &[u8])
 
 /// A counted line with its number, and the text after it.
 #[derive(Clone, Copy)]
-pub(crate) struct Counted<'a> {
+pub struct Counted<'a> {
     pub number: u64,
     pub line: &'a [u8],
     pub rest: &'a [u8],
 }
 
 /// The first counted line of a text that `before` lines stand before, or None where there is none.
-pub(crate) fn next_counted(before: u64, text: &[u8]) -> Option<Counted<'_>>
+pub fn next_counted(before: u64, text: &[u8]) -> Option<Counted<'_>>
     requires { before + length text.now < 2 ^ 64 }
     ensures found { MatchOption result (counted_after before (pieces_of text.now) ≡ []) (λ c. counted_after before (pieces_of text.now) ≡ (c.number, c.line.now) ∷ counted_after c.number (pieces_of c.rest.now)) }
     ensures shorter { MatchOption result (Unit {0}) (λ c. (before < c.number) × (c.number + length c.rest.now ≤ before + length text.now)) }
@@ -189,6 +190,20 @@ pub fn count(steps: &[u8]) -> u64
         total += 1;
         before = counted.number;
         rest = counted.rest;
+    }
+    total
+}
+
+/// How many lines there are: each ends with an LF, and what stands behind the last LF is one more where there is
+/// anything.
+pub fn line_count(text: &[u8]) -> u64
+    ensures { result ≡ length (pieces_of text.now) }
+{
+    let mut total = 0;
+    let mut rest = text;
+    'lines: while !rest.is_empty() {
+        rest = &rest[piece_len(rest)..];
+        total += 1;
     }
     total
 }

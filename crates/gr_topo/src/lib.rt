@@ -18,6 +18,7 @@ pub mod topology;
 
 pub use fault::{Memory, TopoFault};
 pub use limits::{MAX_BROKERS, MAX_NAME, MAX_PUBLISHERS, MAX_SUBSCRIBERS, limits_of_topologies};
+pub use names::is_name;
 pub use settings::Settings;
 pub use topology::Topology;
 

@@ -64,8 +64,8 @@ fn has_name_bytes(name: &[u8]) -> bool
     name.iter().all(|byte| is_name_byte(*byte))
 }
 
-/// Whether bytes are a name.
-fn is_name(name: &[u8]) -> bool
+/// Whether bytes are a name: 1 to 64 letters, digits, `_`, `.` and `-` of ASCII.
+pub fn is_name(name: &[u8]) -> bool
     ensures { result ≡ is_name name.now }
 {
     !name.is_empty() && name.len() <= MAX_NAME && has_name_bytes(name)

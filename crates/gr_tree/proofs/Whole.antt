@@ -131,21 +131,21 @@ within_row [] u q e = cc
 within_row (x ∷ row) zero q e = omega arith
 within_row (x ∷ row) (suc u) q e = let h = within_row row u q e in omega arith
 
-reached_self : (n : ℕ) (links : List Link) (a b : ℕ) → a ≡ b → is_reached n links zero a b ≡ true
+pub reached_self : (n : ℕ) (links : List Link) (a b : ℕ) → a ≡ b → is_reached n links zero a b ≡ true
 unfolding is_reached
 reached_self n links a b e = eq-eqb a b e
 
-reached_next : (n : ℕ) (links : List Link) (k a c b : ℕ) → c < n → is_reached n links k a c ≡ true → is_linked links c b ≡ true → is_reached n links (suc k) a b ≡ true
+pub reached_next : (n : ℕ) (links : List Link) (k a c b : ℕ) → c < n → is_reached n links k a c ≡ true → is_linked links c b ≡ true → is_reached n links (suc k) a b ≡ true
 unfolding is_reached
 reached_next n links k a c b lt h l =
     or_right (is_reached n links k a b) _
     (any_from (λ x. is_reached n links k a x && is_linked links x b) 0 n c (omega arith) (omega arith) (and_from (is_reached n links k a c) (is_linked links c b) h l))
 
-reached_later : (n : ℕ) (links : List Link) (k a b : ℕ) → is_reached n links k a b ≡ true → is_reached n links (suc k) a b ≡ true
+pub reached_later : (n : ℕ) (links : List Link) (k a b : ℕ) → is_reached n links k a b ≡ true → is_reached n links (suc k) a b ≡ true
 unfolding is_reached
 reached_later n links k a b h = or_left (is_reached n links k a b) _ h
 
-reached_le : (n : ℕ) (links : List Link) (m k a b : ℕ) → k ≤ m → is_reached n links k a b ≡ true → is_reached n links m a b ≡ true
+pub reached_le : (n : ℕ) (links : List Link) (m k a b : ℕ) → k ≤ m → is_reached n links k a b ≡ true → is_reached n links m a b ≡ true
 reached_le n links zero k a b le h = let e : k ≡ zero = omega arith in subst (λ z. is_reached n links z a b ≡ true) e h
 reached_le n links (suc m) k a b le h =
     elim (cases_eq k (suc m)) [
