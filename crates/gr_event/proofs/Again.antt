@@ -4,8 +4,7 @@ use Rattle.std.specs.Prelude.{IsUtf8}
 use Rattle.std.proofs.lemmas.Int.{ints}
 use Rattle.std.specs.Int.{w64}
 use Rattle.std.specs.List.{AllByRecursion}
-use Rattle.serde_json.specs.Data.{Data, depth, members_depth}
-use Rattle.serde_json.specs.Read.{read, max_depth}
+use Rattle.serde_json.specs.Read.{read}
 use Rattle.serde_json.specs.Events.{members_len}
 use Rattle.std.specs.Prelude.{Some}
 use Rattle.gr_event.specs.declared.value.Value.{Value}
@@ -15,18 +14,6 @@ use Rattle.gr_event.specs.Event.{event_size}
 use Rattle.gr_event.specs.Limits.{IsName, IsValue, IsPair, IsEvent}
 use Rattle.gr_event.specs.Json.{data_of, members_of, json_of, value_from, name_from, pairs_from, event_from, event_text}
 use Rattle.gr_event.proofs.Reading.{read_as}
-
-value_depth : (v : Value) → depth (data_of v) ≡ 0
-value_depth (Int z) = refl
-value_depth (Text s) = refl
-value_depth (Truth b) = refl
-
-flat : (ps : Event) → members_depth (members_of ps) ≡ 0
-flat [] = refl
-flat (p ∷ ps) = rw (value_depth p.1, flat ps) refl
-
-pub json_is_flat : (e : Event) → depth (json_of e) ≤ max_depth
-json_is_flat e = rw (flat e) (omega arith)
 
 below : (n k : ℕ) → n < k → nat_lt n k ≡ true
 below n k h = grind (arith, rules)
@@ -59,10 +46,10 @@ len_of [] = refl
 len_of (p ∷ ps) = ap suc (len_of ps)
 
 -- an event's object is read as the event
-pub event_again : (e : Event) → IsEvent e → event_from (json_of e) ≡ Ok e
+event_again : (e : Event) → IsEvent e → event_from (json_of e) ≡ Ok e
 unfolding event_from
 event_again e h = rw (len_of e, not_below 32 (length e) h.pairs.few, pairs_again e h.pairs.each, not_below 8192 (event_size e) h.short) refl
 
--- and so is its text
-pub text_again : (bytes : List ℕ) (d : Data) (e : Event) → IsEvent e → d ≡ json_of e → IsUtf8 bytes → (depth d ≤ max_depth → read bytes ≡ Some d) → event_text bytes ≡ Ok e
-text_again bytes d e h is u reads = sym (read_as bytes d u (reads (rw is (json_is_flat e)))) ∙ ap event_from is ∙ event_again e h
+-- and so is a text that is read as the object
+pub text_again : (bytes : List ℕ) (e : Event) → IsEvent e → IsUtf8 bytes → read bytes ≡ Some (json_of e) → event_text bytes ≡ Ok e
+text_again bytes e h u reads = sym (read_as bytes (json_of e) u reads) ∙ event_again e h

@@ -1,6 +1,9 @@
 -- Events as JSON, by the meaning that `serde_json` gives to bytes
 use Rattle.std.specs.Prelude.{ℕ, ℤ, ◌||◌, ◌==◌, nat_lt, if◌then◌else◌, List, [], ◌∷◌, length, Option, Some, None, Result, Ok, Err}
 use Rattle.std.specs.Str.{is_utf8}
+use Rattle.std.specs.Fmt.{signed_decimal}
+use Rattle.json.specs.Token as token
+use Rattle.json.specs.Token.{Token}
 use Rattle.serde_json.specs.Data.{Data, null, boolean, number, string, array, object, Members, no_members, member}
 use Rattle.serde_json.specs.Read.{read}
 use Rattle.serde_json.specs.Find.{as_i64, of_integer}
@@ -33,6 +36,21 @@ json_of e = object (members_of e)
 -- the compact text of an event: its object without spaces
 unfoldable pub json_text : Event → List ℕ
 json_text e = compact_text (json_of e)
+
+-- the one token that is a value
+abbrev pub value_token : Value → Token
+value_token (Int z) = token.number (signed_decimal z)
+value_token (Text t) = token.string t
+value_token (Truth b) = token.boolean b
+
+-- the tokens of the members, with the closing bracket
+abbrev pub members_tokens_of : Event → List Token
+members_tokens_of [] = token.end_object ∷ []
+members_tokens_of (p ∷ ps) = token.key p.0 ∷ value_token p.1 ∷ members_tokens_of ps
+
+-- the tokens of the object that an event is
+abbrev pub event_tokens : Event → List Token
+event_tokens e = token.begin_object ∷ members_tokens_of e
 
 -- Reading, with the first fault: too many names, then name by name in byte order, last the size in bytes
 

@@ -5,14 +5,17 @@ pub mod decode;
 pub mod encode;
 pub mod event;
 mod fault;
-pub mod json;
+mod law;
 pub mod limits;
+pub mod parse;
+pub mod print;
 #[cfg(test)]
 mod tests;
 pub mod text;
 pub mod value;
 
 pub use event::{Event, EventFault, Memory};
-pub use limits::{MAX_BYTES, MAX_NAME, MAX_PAIRS, MAX_TEXT, limits_of_events};
+pub use law::{limits_of_events, printed_events_read_back};
+pub use limits::{MAX_BYTES, MAX_NAME, MAX_PAIRS, MAX_TEXT};
 pub use text::{Bytes, Numbers, Text};
 pub use value::{Part, Value};

@@ -24,11 +24,26 @@ fn reads_writes_and_decodes(rt: HostRuntime) -> Result<(), Fail> {
     Ok(())
 }
 
+#[test]
+fn writes_behind_what_a_text_holds(rt: HostRuntime) -> Result<(), Fail> {
+    let event = Event::from_text(
+        rt.alloc(),
+        b"{\"low\":-9223372036854775808,\"a\\nb\":\"\\\"\",\"c\":false}",
+    )?;
+    let mut text = Text::from_slice(rt.alloc(), b"is ")?;
+    event.json_into(&mut text)?;
+    assert_eq!(rt;
+        text.as_slice(),
+        b"is {\"a\\nb\":\"\\\"\",\"c\":false,\"low\":-9223372036854775808}".as_slice()
+    );
+    Ok(())
+}
+
 // Two pairs: a count, six bytes of the text and its name, four of the truth value and its name.
 #[test]
 fn takes_a_json_value(rt: HostRuntime) -> Result<(), Fail> {
     let value = Json::from_slice(rt.alloc(), b"{\"b\":true,\"a\":\"x\"}")?;
-    let event = Event::from_json(rt.alloc(), &value)?;
+    let event = Event::from_json(rt.alloc(), value)?;
     let mut bytes = [0u8; 11];
     assert_eq!(rt; event.size(), 11);
     event.encode_into(&mut bytes);

@@ -1,9 +1,10 @@
 //! Lists of bytes and of numbers with types of their own.
 
-ghost use Rattle.std.specs.Prelude.{◌≡◌, ◌++◌, ◌∷◌, [], bytes_eq, length, IfOk, OnOk, OnErr};
+ghost use Rattle.std.specs.Prelude.{◌≡◌, ◌++◌, ◌∷◌, [], bytes_eq, length, take, IfOk, OnOk, OnErr};
 
 use std::alloc::{AllocError, Global};
 use std::marker::Model;
+use std::mem;
 
 /// A text, seen as its bytes.
 #[derive(Drop)]
@@ -59,6 +60,22 @@ impl Text {
         ensures err { OnErr result (self.new ≡ self.old) }
     {
         self.bytes.extend_from_slice(bytes)
+    }
+
+    /// Keeps so many of its first bytes.
+    pub(crate) fn truncate(&mut self, len: usize)
+        ensures { self.new ≡ take len self.old }
+    {
+        self.bytes.truncate(len);
+    }
+
+    /// Gives its bytes away and is empty. Takes no memory.
+    pub(crate) fn take(&mut self) -> Vec<u8>
+        ensures bytes { result.items ≡ self.old }
+        ensures empty { self.new ≡ [] }
+    {
+        let alloc = *self.bytes.allocator();
+        mem::replace(&mut self.bytes, Vec::new(alloc))
     }
 
     /// Its bytes.
