@@ -1,4 +1,5 @@
 pub mod RunWords
+pub mod Rows
 pub mod NetOf
 pub mod NetWords
 pub mod BlankOf

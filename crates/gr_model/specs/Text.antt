@@ -32,6 +32,10 @@ labels_of t = record {
 abbrev pub spaced : List (List ℕ) → List ℕ
 spaced words = join_by (λ word. word) (32 ∷ []) words
 
+-- words in a row, with one blank before each
+abbrev pub behind_blanks : List (List ℕ) → List ℕ
+behind_blanks words = flat_map (λ word. 32 ∷ word) words
+
 -- the letter of what is known
 abbrev pub know_letter : K → List ℕ
 know_letter Q = codes "Q"
@@ -102,6 +106,10 @@ line_words labels (Frames count) = codes "frames" ∷ decimal count ∷ []
 line_words labels (LogOf publisher last settled cut kept) = log_words labels (codes "log") publisher last settled cut ++ codes "kept" ∷ decimal kept ∷ []
 line_words labels (Doubt broker publisher tick) = codes "doubt" ∷ labels.broker broker ∷ labels.publisher publisher ∷ decimal tick ∷ []
 line_words labels (BytesOf frame bytes) = codes "bytes" ∷ decimal frame ∷ flat_map hex_pair bytes ∷ []
+
+-- the words of a line in a row, with one blank before each
+abbrev pub row_of : TopologyView → Report → List ℕ
+row_of t report = behind_blanks (line_words (labels_of t) report)
 
 -- a line without its end
 abbrev pub line_text : Labels → Report → List ℕ

@@ -5,22 +5,22 @@ ghost use Rattle.std.specs.Fmt.{decimal};
 ghost use Rattle.std.specs.List.{flat_map};
 ghost use Rattle.gr_topo.specs.Topology.{name_at};
 ghost use Rattle.gr_event.specs.Json.{json_text};
-ghost use Rattle.gr_model.specs.Text.{labels_of, know_letter, want_letter, run_word, frame_fault_word, hex_pair, publisher_words, log_words, sent_words, line_words, AreNamed, IsSentNamed, IsNamed};
+ghost use Rattle.gr_model.specs.Text.{labels_of, know_letter, want_letter, run_word, frame_fault_word, hex_pair, publisher_words, log_words, sent_words, behind_blanks, row_of, AreNamed, IsSentNamed, IsNamed};
 
 use crate::report::Report;
-use crate::words::{Words, hex_text};
+use crate::words::Words;
 use gr_curio::Q3;
 use gr_event::{Bytes, Event};
 use gr_frame::FrameKind;
 use gr_know::K;
 use gr_tick::{Lattice, Piece, Run};
 use gr_topo::Topology;
-use std::alloc::{AllocError, Global};
+use std::alloc::AllocError;
 
 /// The name of a broker.
 fn push_broker(words: &mut Words, topo: &Topology, broker: u16) -> Result<(), AllocError>
     requires { broker < length topo.now.brokers }
-    ensures { OnOk result (words.new ≡ words.old ++ name_at topo.now.brokers broker ∷ []) }
+    ensures { OnOk result (words.new ≡ words.old ++ 32 ∷ name_at topo.now.brokers broker) }
 {
     words.push(topo.broker_name(broker).as_slice())
 }
@@ -28,7 +28,7 @@ fn push_broker(words: &mut Words, topo: &Topology, broker: u16) -> Result<(), Al
 /// The name of a publisher.
 fn push_publisher(words: &mut Words, topo: &Topology, publisher: u16) -> Result<(), AllocError>
     requires { publisher < length topo.now.publishers }
-    ensures { OnOk result (words.new ≡ words.old ++ name_at topo.now.publishers publisher ∷ []) }
+    ensures { OnOk result (words.new ≡ words.old ++ 32 ∷ name_at topo.now.publishers publisher) }
 {
     words.push(topo.publisher_name(publisher).as_slice())
 }
@@ -36,14 +36,14 @@ fn push_publisher(words: &mut Words, topo: &Topology, publisher: u16) -> Result<
 /// The name of a subscriber.
 fn push_subscriber(words: &mut Words, topo: &Topology, subscriber: u16) -> Result<(), AllocError>
     requires { subscriber < length topo.now.subscribers }
-    ensures { OnOk result (words.new ≡ words.old ++ name_at topo.now.subscribers subscriber ∷ []) }
+    ensures { OnOk result (words.new ≡ words.old ++ 32 ∷ name_at topo.now.subscribers subscriber) }
 {
     words.push(topo.subscriber_name(subscriber).as_slice())
 }
 
 /// A word and a number.
 fn push_pair(words: &mut Words, word: &[u8], number: u64) -> Result<(), AllocError>
-    ensures { OnOk result (words.new ≡ words.old ++ word.now ∷ decimal number ∷ []) }
+    ensures { OnOk result (words.new ≡ words.old ++ behind_blanks (word.now ∷ decimal number ∷ [])) }
 {
     words.push(word)?;
     words.push_number(number)
@@ -57,7 +57,8 @@ fn push_named(
     publisher: u16,
 ) -> Result<(), AllocError>
     requires { publisher < length topo.now.publishers }
-    ensures { OnOk result (words.new ≡ words.old ++ word.now ∷ name_at topo.now.publishers publisher ∷ []) }
+    ensures { OnOk result (words.new ≡ words.old ++ behind_blanks
+        (word.now ∷ name_at topo.now.publishers publisher ∷ [])) }
 {
     words.push(word)?;
     push_publisher(words, topo, publisher)
@@ -72,7 +73,8 @@ fn push_publisher_line(
     numbers: &[u64],
 ) -> Result<(), AllocError>
     requires { publisher < length topo.now.publishers }
-    ensures { OnOk result (words.new ≡ words.old ++ publisher_words (labels_of topo.now) first.now publisher numbers.now) }
+    ensures { OnOk result (words.new ≡ words.old ++ behind_blanks
+        (publisher_words (labels_of topo.now) first.now publisher numbers.now)) }
 {
     push_named(words, topo, first, publisher)?;
     push_numbers(words, numbers)
@@ -80,7 +82,7 @@ fn push_publisher_line(
 
 /// Numbers, one word each.
 fn push_numbers(words: &mut Words, numbers: &[u64]) -> Result<(), AllocError>
-    ensures { OnOk result (words.new ≡ words.old ++ map decimal numbers.now) }
+    ensures { OnOk result (words.new ≡ words.old ++ behind_blanks (map decimal numbers.now)) }
 {
     for number in numbers {
         words.push_number(*number)?;
@@ -99,7 +101,8 @@ fn push_log(
     cut: u64,
 ) -> Result<(), AllocError>
     requires { publisher < length topo.now.publishers }
-    ensures { OnOk result (words.new ≡ words.old ++ log_words (labels_of topo.now) first.now publisher last settled cut) }
+    ensures { OnOk result (words.new ≡ words.old ++ behind_blanks
+        (log_words (labels_of topo.now) first.now publisher last settled cut)) }
 {
     push_named(words, topo, first, publisher)?;
     push_log_numbers(words, last, settled, cut)
@@ -107,7 +110,8 @@ fn push_log(
 
 /// The numbers of a log.
 fn push_log_numbers(words: &mut Words, last: u64, settled: u64, cut: u64) -> Result<(), AllocError>
-    ensures { OnOk result (words.new ≡ words.old ++ codes "last" ∷ decimal last ∷ codes "settled" ∷ decimal settled ∷ codes "cut" ∷ decimal cut ∷ []) }
+    ensures { OnOk result (words.new ≡ words.old ++ behind_blanks
+        (codes "last" ∷ decimal last ∷ codes "settled" ∷ decimal settled ∷ codes "cut" ∷ decimal cut ∷ [])) }
 {
     push_pair(words, b"last", last)?;
     push_pair(words, b"settled", settled)?;
@@ -125,7 +129,7 @@ fn push_shown_log(
     kept: u64,
 ) -> Result<(), AllocError>
     requires { publisher < length topo.now.publishers }
-    ensures { OnOk result (words.new ≡ words.old ++ line_words (labels_of topo.now) (Report.LogOf publisher last settled cut kept)) }
+    ensures { OnOk result (words.new ≡ words.old ++ row_of topo.now (Report.LogOf publisher last settled cut kept)) }
 {
     push_log(words, topo, b"log", publisher, last, settled, cut)?;
     push_pair(words, b"kept", kept)
@@ -140,7 +144,7 @@ fn push_gap(
     next: u64,
 ) -> Result<(), AllocError>
     requires { publisher < length topo.now.publishers }
-    ensures { OnOk result (words.new ≡ words.old ++ line_words (labels_of topo.now) (Report.Gap publisher number next)) }
+    ensures { OnOk result (words.new ≡ words.old ++ row_of topo.now (Report.Gap publisher number next)) }
 {
     words.push(b"gap")?;
     push_publisher(words, topo, publisher)?;
@@ -150,7 +154,6 @@ fn push_gap(
 
 /// The line of an event that a subscriber got.
 fn push_got(
-    alloc: Global,
     words: &mut Words,
     topo: &Topology,
     subscriber: u16,
@@ -159,13 +162,13 @@ fn push_got(
     event: &Event,
 ) -> Result<(), AllocError>
     requires { AreNamed topo.now subscriber publisher }
-    ensures { OnOk result (words.new ≡ words.old ++ line_words (labels_of topo.now) (Report.Got subscriber publisher tick event.now)) }
+    ensures { OnOk result (words.new ≡ words.old ++ row_of topo.now (Report.Got subscriber publisher tick event.now)) }
 {
     words.push(b"got")?;
     push_subscriber(words, topo, subscriber)?;
     push_publisher(words, topo, publisher)?;
     words.push_number(tick)?;
-    words.push_text(event.json(alloc)?)
+    words.push_event(event)
 }
 
 /// The line of a horizon that moved.
@@ -177,7 +180,7 @@ fn push_horizon(
     tick: u64,
 ) -> Result<(), AllocError>
     requires { AreNamed topo.now subscriber publisher }
-    ensures { OnOk result (words.new ≡ words.old ++ line_words (labels_of topo.now) (Report.Horizon subscriber publisher tick)) }
+    ensures { OnOk result (words.new ≡ words.old ++ row_of topo.now (Report.Horizon subscriber publisher tick)) }
 {
     words.push(b"horizon")?;
     push_subscriber(words, topo, subscriber)?;
@@ -195,7 +198,7 @@ fn push_doubt(
 ) -> Result<(), AllocError>
     requires broker { broker < length topo.now.brokers }
     requires publisher { publisher < length topo.now.publishers }
-    ensures { OnOk result (words.new ≡ words.old ++ line_words (labels_of topo.now) (Report.Doubt broker publisher tick)) }
+    ensures { OnOk result (words.new ≡ words.old ++ row_of topo.now (Report.Doubt broker publisher tick)) }
 {
     words.push(b"doubt")?;
     push_broker(words, topo, broker)?;
@@ -214,7 +217,8 @@ fn push_sent(
     publisher: u16,
 ) -> Result<(), AllocError>
     requires { IsSentNamed topo.now from to publisher }
-    ensures { OnOk result (words.new ≡ words.old ++ sent_words (labels_of topo.now) number from to kind.now publisher) }
+    ensures { OnOk result (words.new ≡ words.old ++ behind_blanks
+        (sent_words (labels_of topo.now) number from to kind.now publisher)) }
 {
     push_pair(words, b"sent", number)?;
     push_broker(words, topo, from)?;
@@ -247,56 +251,40 @@ fn letter_of_want(value: &Q3) -> &'static str
 }
 
 /// The word of a run whose value has this letter.
-fn push_run(
-    words: &mut Words,
-    alloc: Global,
-    letter: &str,
-    first: u64,
-    last: u64,
-) -> Result<(), AllocError>
-    ensures { OnOk result (words.new ≡ words.old ++ (letter.now ++ (decimal first ++ (codes "-" ++ decimal last))) ∷ []) }
+fn push_run(words: &mut Words, letter: &str, first: u64, last: u64) -> Result<(), AllocError>
+    ensures { OnOk result
+        (words.new ≡ words.old ++ 32 ∷ (letter.now ++ (decimal first ++ (codes "-" ++ decimal last)))) }
 {
-    let word = format!(in alloc; "{letter}{first}-{last}")?;
-    words.push(word.as_bytes())
+    words.push(letter.as_bytes())?;
+    words.extend_number(first)?;
+    words.extend(b"-")?;
+    words.extend_number(last)
 }
 
 /// The words of runs of what is known.
-fn push_know_runs(alloc: Global, words: &mut Words, runs: &Piece<K>) -> Result<(), AllocError>
-    ensures { OnOk result (words.new ≡ words.old ++ map (run_word know_letter) runs.now) }
+fn push_know_runs(words: &mut Words, runs: &Piece<K>) -> Result<(), AllocError>
+    ensures { OnOk result (words.new ≡ words.old ++ behind_blanks (map (run_word know_letter) runs.now)) }
 {
     for i in 0..runs.len() {
         let run = runs.run(i);
-        push_run(
-            words,
-            alloc,
-            letter_of_know(&run.value),
-            run.first,
-            run.last,
-        )?;
+        push_run(words, letter_of_know(&run.value), run.first, run.last)?;
     }
     Ok(())
 }
 
 /// The words of runs of what is asked.
-fn push_want_runs(alloc: Global, words: &mut Words, runs: &Piece<Q3>) -> Result<(), AllocError>
-    ensures { OnOk result (words.new ≡ words.old ++ map (run_word want_letter) runs.now) }
+fn push_want_runs(words: &mut Words, runs: &Piece<Q3>) -> Result<(), AllocError>
+    ensures { OnOk result (words.new ≡ words.old ++ behind_blanks (map (run_word want_letter) runs.now)) }
 {
     for i in 0..runs.len() {
         let run = runs.run(i);
-        push_run(
-            words,
-            alloc,
-            letter_of_want(&run.value),
-            run.first,
-            run.last,
-        )?;
+        push_run(words, letter_of_want(&run.value), run.first, run.last)?;
     }
     Ok(())
 }
 
 /// The line of a frame of knowledge.
 fn push_sent_know(
-    alloc: Global,
     words: &mut Words,
     topo: &Topology,
     number: u64,
@@ -306,15 +294,15 @@ fn push_sent_know(
     runs: &Piece<K>,
 ) -> Result<(), AllocError>
     requires { IsSentNamed topo.now from to publisher }
-    ensures { OnOk result (words.new ≡ words.old ++ line_words (labels_of topo.now) (Report.SentKnow number from to publisher runs.now)) }
+    ensures { OnOk result
+        (words.new ≡ words.old ++ row_of topo.now (Report.SentKnow number from to publisher runs.now)) }
 {
     push_sent(words, topo, number, from, to, b"know", publisher)?;
-    push_know_runs(alloc, words, runs)
+    push_know_runs(words, runs)
 }
 
 /// The line of a frame of curiosity.
 fn push_sent_want(
-    alloc: Global,
     words: &mut Words,
     topo: &Topology,
     number: u64,
@@ -324,10 +312,11 @@ fn push_sent_want(
     runs: &Piece<Q3>,
 ) -> Result<(), AllocError>
     requires { IsSentNamed topo.now from to publisher }
-    ensures { OnOk result (words.new ≡ words.old ++ line_words (labels_of topo.now) (Report.SentWant number from to publisher runs.now)) }
+    ensures { OnOk result
+        (words.new ≡ words.old ++ row_of topo.now (Report.SentWant number from to publisher runs.now)) }
 {
     push_sent(words, topo, number, from, to, b"want", publisher)?;
-    push_want_runs(alloc, words, runs)
+    push_want_runs(words, runs)
 }
 
 /// The line of a frame that tells what to expect.
@@ -341,7 +330,7 @@ fn push_sent_expect(
     tick: u64,
 ) -> Result<(), AllocError>
     requires { IsSentNamed topo.now from to publisher }
-    ensures { OnOk result (words.new ≡ words.old ++ line_words (labels_of topo.now) (Report.SentExpect number from to publisher tick)) }
+    ensures { OnOk result (words.new ≡ words.old ++ row_of topo.now (Report.SentExpect number from to publisher tick)) }
 {
     push_sent(words, topo, number, from, to, b"expect", publisher)?;
     words.push_number(tick)
@@ -350,7 +339,7 @@ fn push_sent_expect(
 /// The line of a crash.
 fn push_crashed(words: &mut Words, topo: &Topology, broker: u16) -> Result<(), AllocError>
     requires { broker < length topo.now.brokers }
-    ensures { OnOk result (words.new ≡ words.old ++ line_words (labels_of topo.now) (Report.Crashed broker)) }
+    ensures { OnOk result (words.new ≡ words.old ++ row_of topo.now (Report.Crashed broker)) }
 {
     words.push(b"crashed")?;
     push_broker(words, topo, broker)
@@ -358,11 +347,11 @@ fn push_crashed(words: &mut Words, topo: &Topology, broker: u16) -> Result<(), A
 
 /// The begin of the line of a refused step.
 fn push_refused(words: &mut Words, line: u32, cause: &[u8]) -> Result<(), AllocError>
-    ensures { OnOk result (words.new ≡ words.old ++ codes "refused" ∷ codes "line" ∷ decimal line ∷ cause.now ∷ []) }
+    ensures { OnOk result (words.new ≡ words.old ++ behind_blanks
+        (codes "refused" ∷ codes "line" ∷ decimal line ∷ cause.now ∷ [])) }
 {
     words.push(b"refused")?;
-    words.push(b"line")?;
-    words.push_number(line as u64)?;
+    push_pair(words, b"line", line as u64)?;
     words.push(cause)
 }
 
@@ -374,7 +363,7 @@ fn push_refused_hosts(
     broker: u16,
 ) -> Result<(), AllocError>
     requires { broker < length topo.now.brokers }
-    ensures { OnOk result (words.new ≡ words.old ++ line_words (labels_of topo.now) (Report.RefusedHosts line broker)) }
+    ensures { OnOk result (words.new ≡ words.old ++ row_of topo.now (Report.RefusedHosts line broker)) }
 {
     push_refused(words, line, b"hosts-subscriber")?;
     push_broker(words, topo, broker)
@@ -382,7 +371,9 @@ fn push_refused_hosts(
 
 /// The line of a frame that is not there.
 fn push_refused_frame(words: &mut Words, line: u32, frame: u64, sent: u64) -> Result<(), AllocError>
-    ensures { OnOk result (words.new ≡ words.old ++ codes "refused" ∷ codes "line" ∷ decimal line ∷ codes "no-frame" ∷ decimal frame ∷ codes "of" ∷ decimal sent ∷ []) }
+    ensures { OnOk result (words.new ≡ words.old ++ behind_blanks
+        (codes "refused" ∷ codes "line" ∷ decimal line ∷ codes "no-frame" ∷ decimal frame
+        ∷ codes "of" ∷ decimal sent ∷ [])) }
 {
     push_refused(words, line, b"no-frame")?;
     push_missing(words, frame, sent)
@@ -390,7 +381,7 @@ fn push_refused_frame(words: &mut Words, line: u32, frame: u64, sent: u64) -> Re
 
 /// Which frame is not there, and how many are.
 fn push_missing(words: &mut Words, frame: u64, sent: u64) -> Result<(), AllocError>
-    ensures { OnOk result (words.new ≡ words.old ++ decimal frame ∷ codes "of" ∷ decimal sent ∷ []) }
+    ensures { OnOk result (words.new ≡ words.old ++ behind_blanks (decimal frame ∷ codes "of" ∷ decimal sent ∷ [])) }
 {
     words.push_number(frame)?;
     push_pair(words, b"of", sent)
@@ -398,7 +389,8 @@ fn push_missing(words: &mut Words, frame: u64, sent: u64) -> Result<(), AllocErr
 
 /// The line of a sweep past the last tick.
 fn push_refused_clock(words: &mut Words, line: u32, moment: u64) -> Result<(), AllocError>
-    ensures { OnOk result (words.new ≡ words.old ++ codes "refused" ∷ codes "line" ∷ decimal line ∷ codes "clock-range" ∷ decimal moment ∷ []) }
+    ensures { OnOk result (words.new ≡ words.old ++ behind_blanks
+        (codes "refused" ∷ codes "line" ∷ decimal line ∷ codes "clock-range" ∷ decimal moment ∷ [])) }
 {
     push_refused(words, line, b"clock-range")?;
     words.push_number(moment)
@@ -412,7 +404,8 @@ fn push_dropped(
     cause: &[u8],
 ) -> Result<(), AllocError>
     requires { broker < length topo.now.brokers }
-    ensures { OnOk result (words.new ≡ words.old ++ codes "dropped" ∷ (labels_of topo.now).broker broker ∷ cause.now ∷ []) }
+    ensures { OnOk result (words.new ≡ words.old ++ behind_blanks
+        (codes "dropped" ∷ (labels_of topo.now).broker broker ∷ cause.now ∷ [])) }
 {
     words.push(b"dropped")?;
     push_broker(words, topo, broker)?;
@@ -435,7 +428,7 @@ fn word_of_fault(fault: u8) -> &'static [u8]
 fn push_fault(words: &mut Words, fault: u8, at: u64) -> Result<(), AllocError>
     requires from_one { 1 ≤ fault }
     requires to_nine { fault ≤ 9 }
-    ensures { OnOk result (words.new ≡ words.old ++ frame_fault_word fault ∷ decimal at ∷ []) }
+    ensures { OnOk result (words.new ≡ words.old ++ behind_blanks (frame_fault_word fault ∷ decimal at ∷ [])) }
 {
     push_pair(words, word_of_fault(fault), at)
 }
@@ -449,7 +442,7 @@ fn push_not_frame(
     at: u64,
 ) -> Result<(), AllocError>
     requires { IsNamed topo.now (Report.DroppedNotFrame broker fault at) }
-    ensures { OnOk result (words.new ≡ words.old ++ line_words (labels_of topo.now) (Report.DroppedNotFrame broker fault at)) }
+    ensures { OnOk result (words.new ≡ words.old ++ row_of topo.now (Report.DroppedNotFrame broker fault at)) }
 {
     push_dropped(words, topo, broker, b"not-frame")?;
     push_fault(words, fault, at)
@@ -463,7 +456,8 @@ fn push_stray(
     head: &[u64],
 ) -> Result<(), AllocError>
     requires { broker < length topo.now.brokers }
-    ensures { OnOk result (words.new ≡ words.old ++ (codes "dropped" ∷ (labels_of topo.now).broker broker ∷ codes "stray" ∷ map decimal head.now)) }
+    ensures { OnOk result (words.new ≡ words.old ++ behind_blanks
+        (codes "dropped" ∷ (labels_of topo.now).broker broker ∷ codes "stray" ∷ map decimal head.now)) }
 {
     push_dropped(words, topo, broker, b"stray")?;
     push_numbers(words, head)
@@ -479,7 +473,8 @@ fn push_clash(
     came: &K,
 ) -> Result<(), AllocError>
     requires { broker < length topo.now.brokers }
-    ensures { OnOk result (words.new ≡ words.old ++ line_words (labels_of topo.now) (Report.DroppedClash broker tick kept.now came.now)) }
+    ensures { OnOk result
+        (words.new ≡ words.old ++ row_of topo.now (Report.DroppedClash broker tick kept.now came.now)) }
 {
     push_dropped(words, topo, broker, b"clash")?;
     words.push_number(tick)?;
@@ -488,22 +483,22 @@ fn push_clash(
 }
 
 /// The line of a frame's bytes.
-fn push_bytes(alloc: Global, words: &mut Words, frame: u64, bytes: &Bytes) -> Result<(), AllocError>
-    ensures { OnOk result (words.new ≡ words.old ++ codes "bytes" ∷ decimal frame ∷ flat_map hex_pair bytes.now ∷ []) }
+fn push_bytes(words: &mut Words, frame: u64, bytes: &Bytes) -> Result<(), AllocError>
+    ensures { OnOk result (words.new ≡ words.old ++ behind_blanks
+        (codes "bytes" ∷ decimal frame ∷ flat_map hex_pair bytes.now ∷ [])) }
 {
     push_pair(words, b"bytes", frame)?;
-    words.push_text(hex_text(alloc, bytes.as_slice())?)
+    words.push_hex(bytes.as_slice())
 }
 
 /// The words of a line, which go behind those that are there.
 pub(crate) fn push_line(
-    alloc: Global,
     words: &mut Words,
     report: &Report,
     topo: &Topology,
 ) -> Result<(), AllocError>
     requires { IsNamed topo.now report.now }
-    ensures { OnOk result (words.new ≡ words.old ++ line_words (labels_of topo.now) report.now) }
+    ensures { OnOk result (words.new ≡ words.old ++ row_of topo.now report.now) }
 {
     match report {
         Report::Opened {
@@ -565,7 +560,7 @@ pub(crate) fn push_line(
             publisher,
             tick,
             event,
-        } => push_got(alloc, words, topo, *subscriber, *publisher, *tick, event),
+        } => push_got(words, topo, *subscriber, *publisher, *tick, event),
         Report::Horizon {
             subscriber,
             publisher,
@@ -577,14 +572,14 @@ pub(crate) fn push_line(
             to,
             publisher,
             runs,
-        } => push_sent_know(alloc, words, topo, *number, *from, *to, *publisher, runs),
+        } => push_sent_know(words, topo, *number, *from, *to, *publisher, runs),
         Report::SentWant {
             number,
             from,
             to,
             publisher,
             runs,
-        } => push_sent_want(alloc, words, topo, *number, *from, *to, *publisher, runs),
+        } => push_sent_want(words, topo, *number, *from, *to, *publisher, runs),
         Report::SentExpect {
             number,
             from,
@@ -639,6 +634,6 @@ pub(crate) fn push_line(
             publisher,
             tick,
         } => push_doubt(words, topo, *broker, *publisher, *tick),
-        Report::BytesOf { frame, bytes } => push_bytes(alloc, words, *frame, bytes),
+        Report::BytesOf { frame, bytes } => push_bytes(words, *frame, bytes),
     }
 }

@@ -1,6 +1,6 @@
 //! A line of a report, written to a sink.
 
-ghost use Rattle.std.specs.Prelude.{◌≡◌, ◌≢◌, ℕ, ◌<◌, ◌≤◌, length, take, IfOk, OnOk, IsErrOf};
+ghost use Rattle.std.specs.Prelude.{◌≡◌, ◌≢◌, ℕ, ◌<◌, ◌≤◌, length, take, drop, IfOk, OnOk, IsErrOf};
 ghost use Rattle.gr_out.specs.Faults.{Rose};
 ghost use Rattle.gr_out.specs.Bytes.{with_more};
 ghost use Rattle.gr_model.specs.Text.{labels_of, whole_line, IsNamed};
@@ -8,7 +8,6 @@ ghost use Rattle.gr_model.specs.Text.{labels_of, whole_line, IsNamed};
 use crate::lines::push_line;
 use crate::report::Report;
 use crate::words::Words;
-use gr_event::Text;
 use gr_out::{Sink, write_all};
 use gr_topo::Topology;
 use std::alloc::Global;
@@ -36,31 +35,34 @@ pub fn put<K: Sink>(
     sink: &mut K,
 ) -> Result<(), PutFault>
     requires { IsNamed topo.now report.now }
-    ensures ok { OnOk result (K.taken sink.new ≡ with_more (K.taken sink.old) (whole_line (labels_of topo.now) report.now)) }
-    ensures write { IsErrOf result PutFault.Write → (n : ℕ) × (n < length (whole_line (labels_of topo.now) report.now)) × (K.taken sink.new ≡ with_more (K.taken sink.old) (take n (whole_line (labels_of topo.now) report.now))) }
+    ensures ok { OnOk result
+        (K.taken sink.new ≡ with_more (K.taken sink.old) (whole_line (labels_of topo.now) report.now)) }
+    ensures write { IsErrOf result PutFault.Write →
+        (n : ℕ)
+        × (n < length (whole_line (labels_of topo.now) report.now))
+        × (K.taken sink.new ≡ with_more (K.taken sink.old) (take n (whole_line (labels_of topo.now) report.now))) }
     ensures memory { IsErrOf result PutFault.Memory → sink.new ≡ sink.old }
     ensures never_falls { K.faults sink.old ≤ K.faults sink.new }
     ensures failed { IsErrOf result PutFault.Write → Rose (K.faults sink.old) (K.faults sink.new) }
     ensures same { result ≢ Err PutFault.Write → K.faults sink.new ≡ K.faults sink.old }
 {
-    let line = match text_of(alloc, report, topo) {
-        Ok(line) => line,
+    let row = match row_text(alloc, report, topo) {
+        Ok(row) => row,
         Err(_) => return Err(PutFault::Memory),
     };
-    match write_all(sink, line.as_slice()) {
+    match write_all(sink, row.line()) {
         Ok(()) => Ok(()),
         Err(_) => Err(PutFault::Write),
     }
 }
 
-/// The text of a line with its end.
-fn text_of(alloc: Global, report: &Report, topo: &Topology) -> Result<Text, Memory>
+/// The words of a line in a row, with the line's end behind them. From its second byte on it is the line.
+fn row_text(alloc: Global, report: &Report, topo: &Topology) -> Result<Words, Memory>
     requires { IsNamed topo.now report.now }
-    ensures { IfOk result (λ t. t ≡ whole_line (labels_of topo.now) report.now) }
+    ensures { IfOk result (λ row. drop 1 row ≡ whole_line (labels_of topo.now) report.now) }
 {
-    let mut words = Words::new(alloc);
-    push_line(alloc, &mut words, report, topo)?;
-    let mut line = words.line()?;
-    line.push(b'\n')?;
-    Ok(line)
+    let mut row = Words::new(alloc)?;
+    push_line(&mut row, report, topo)?;
+    row.extend(b"\n")?;
+    Ok(row)
 }

@@ -1,109 +1,117 @@
-//! The words of a line of text.
+//! The words of a line, in one row.
 
-ghost use Rattle.std.specs.Prelude.{◌≡◌, ◌≤◌, ◌++◌, [], ◌∷◌, OnOk, IfOk, string_bytes};
+ghost use Rattle.std.specs.Prelude.{◌≡◌, ◌++◌, [], ◌∷◌, drop, OnOk, IfOk};
 ghost use Rattle.std.specs.Fmt.{decimal};
 ghost use Rattle.std.specs.List.{flat_map};
-ghost use Rattle.gr_model.specs.Text.{spaced, hex_pair};
+ghost use Rattle.gr_event.specs.Json.{json_text};
+ghost use Rattle.gr_model.specs.Text.{hex_pair};
 
-use gr_event::Text;
+use gr_event::{Event, Text};
+use itoa::Buffer;
 use std::alloc::{AllocError, Global};
 use std::marker::Model;
 
-/// Words, seen as their list.
+/// How many bytes a row has room for when it begins, which most lines never pass.
+const FIRST_ROOM: usize = 256;
+
+/// Words in a row, a blank before each, seen as the bytes of the row.
 #[derive(Drop)]
 pub(crate) struct Words {
-    alloc: Global,
-    words: Vec<Text>,
+    row: Text,
 }
 
 impl Model for Words {
     ghost use Rattle.std.specs.Prelude.{List, ℕ};
 
-    ghost Value = { List (List ℕ) };
+    ghost Value = { List ℕ };
 
-    ghost view = { λ w. w.words.items };
+    ghost view = { λ w. w.row };
 }
 
 impl Words {
-    /// No words. Takes no memory.
-    pub(crate) fn new(alloc: Global) -> Words
-        ensures { result ≡ [] }
+    /// No words, with room for most lines.
+    pub(crate) fn new(alloc: Global) -> Result<Words, AllocError>
+        ensures { IfOk result (λ w. w ≡ []) }
     {
-        Words {
-            alloc,
-            words: Vec::new(alloc),
-        }
+        let row = Text::from_vec(Vec::with_capacity(alloc, FIRST_ROOM)?);
+        Ok(Words { row })
+    }
+
+    /// Puts the blank that stands before a word.
+    fn push_blank(&mut self) -> Result<(), AllocError>
+        ensures { OnOk result (self.new ≡ self.old ++ 32 ∷ []) }
+    {
+        self.row.push(b' ')
     }
 
     /// Puts a word at the end.
     pub(crate) fn push(&mut self, word: &[u8]) -> Result<(), AllocError>
-        ensures { OnOk result (self.new ≡ self.old ++ word.now ∷ []) }
+        ensures { OnOk result (self.new ≡ self.old ++ 32 ∷ word.now) }
     {
-        self.words.push(Text::from_slice(self.alloc, word)?)?;
-        Ok(())
-    }
-
-    /// Puts a word at the end that is at hand as a text.
-    pub(crate) fn push_text(&mut self, word: Text) -> Result<(), AllocError>
-        ensures { OnOk result (self.new ≡ self.old ++ word ∷ []) }
-    {
-        self.words.push(word)?;
-        Ok(())
+        self.push_blank()?;
+        self.row.append(word)
     }
 
     /// Puts a number at the end, in decimal.
     pub(crate) fn push_number(&mut self, number: u64) -> Result<(), AllocError>
-        ensures { OnOk result (self.new ≡ self.old ++ decimal number ∷ []) }
+        ensures { OnOk result (self.new ≡ self.old ++ 32 ∷ decimal number) }
     {
-        let digits = format!(in self.alloc; "{number}")?;
-        self.push(digits.as_bytes())
+        let mut digits = Buffer::new();
+        self.push(digits.format(number).as_bytes())
     }
 
-    /// The words in a row, with one blank between each two.
-    pub(crate) fn line(&self) -> Result<Text, AllocError>
-        ensures { IfOk result (λ t. t ≡ spaced self.now) }
+    /// Puts an event's JSON at the end.
+    pub(crate) fn push_event(&mut self, event: &Event) -> Result<(), AllocError>
+        ensures { OnOk result (self.new ≡ self.old ++ 32 ∷ json_text event.now) }
     {
-        spaced_text(self.alloc, &self.words)
+        self.push_blank()?;
+        event.json_into(&mut self.row)
     }
-}
 
-/// The words in a row, with one blank between each two.
-fn spaced_text(alloc: Global, words: &[Text]) -> Result<Text, AllocError>
-    ensures { IfOk result (λ t. t ≡ spaced words.now) }
-{
-    let mut line = Text::new(alloc);
-    match words {
-        [] => Ok(line),
-        [first, rest @ ..] => {
-            line.append(first.as_slice())?;
-            append_after_blanks(&mut line, rest)?;
-            Ok(line)
+    /// Puts bytes at the end, as two lower-case hexadecimal digits each.
+    pub(crate) fn push_hex(&mut self, bytes: &[u8]) -> Result<(), AllocError>
+        ensures { OnOk result (self.new ≡ self.old ++ 32 ∷ flat_map hex_pair bytes.now) }
+    {
+        self.push_blank()?;
+        append_hex(&mut self.row, bytes)
+    }
+
+    /// Puts bytes at the end, with no blank before them.
+    pub(crate) fn extend(&mut self, bytes: &[u8]) -> Result<(), AllocError>
+        ensures { OnOk result (self.new ≡ self.old ++ bytes.now) }
+    {
+        self.row.append(bytes)
+    }
+
+    /// Puts a number's digits at the end, with no blank before them.
+    pub(crate) fn extend_number(&mut self, number: u64) -> Result<(), AllocError>
+        ensures { OnOk result (self.new ≡ self.old ++ decimal number) }
+    {
+        let mut digits = Buffer::new();
+        self.row.append(digits.format(number).as_bytes())
+    }
+
+    /// The row without its first blank.
+    pub(crate) fn line(&self) -> &[u8]
+        ensures { result.now ≡ drop 1 self.now }
+    {
+        match self.row.as_slice() {
+            [] => &[],
+            [_, line @ ..] => line,
         }
     }
-}
-
-/// Puts words at the end, a blank before each.
-fn append_after_blanks(line: &mut Text, words: &[Text]) -> Result<(), AllocError>
-    ensures { OnOk result (line.new ≡ line.old ++ flat_map (λ word. 32 ∷ word) words.now) }
-{
-    for word in words {
-        line.push(b' ')?;
-        line.append(word.as_slice())?;
-    }
-    Ok(())
 }
 
 /// The hexadecimal digits.
 const HEX_DIGITS: &[u8; 16] = b"0123456789abcdef";
 
-/// The bytes as two lower-case hexadecimal digits each.
-pub(crate) fn hex_text(alloc: Global, bytes: &[u8]) -> Result<Text, AllocError>
-    ensures { IfOk result (λ t. t ≡ flat_map hex_pair bytes.now) }
+/// Puts bytes at the end, as two lower-case hexadecimal digits each.
+fn append_hex(text: &mut Text, bytes: &[u8]) -> Result<(), AllocError>
+    ensures { OnOk result (text.new ≡ text.old ++ flat_map hex_pair bytes.now) }
 {
-    let mut text = Text::new(alloc);
     for byte in bytes {
         text.push(HEX_DIGITS[(*byte / 16) as usize])?;
         text.push(HEX_DIGITS[(*byte % 16) as usize])?;
     }
-    Ok(text)
+    Ok(())
 }

@@ -1,5 +1,0 @@
-use Rattle.gr_model.proofs.RunWords.{last_words}
-use Rattle.gr_model.proofs.lines.push_shown_log.Goals as goal
-
-pub returns : goal.returns
-returns c = last_words _ _ _ _ _ _ c.push_pair.ensures c.in_ok-push_log.ensures
