@@ -1,0 +1,3 @@
+pub mod Steps
+pub mod Refusals
+pub mod Scenario
