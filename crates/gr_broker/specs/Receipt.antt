@@ -1,7 +1,8 @@
 -- What a datagram is answered
-use Rattle.std.specs.Prelude.{◌≡◌, ℕ, Bool, true, false, nat_eq, List, Result, Ok, Err, Option, Some, None}
+use Rattle.std.specs.Prelude.{◌≡◌, ◌≢◌, ℕ, Bool, true, false, nat_eq, List, Result, Ok, Err, Option, Some, None}
 use Rattle.std.specs.List.{list_any}
 use Rattle.gr_frame.specs.declared.fault.FrameFault.{FrameFault}
+use Rattle.gr_frame.specs.declared.fault.FrameKind.TheVariants as kind
 use Rattle.gr_frame.specs.declared.Head.{Head}
 use Rattle.gr_frame.specs.declared.Body.TheVariants as body
 use Rattle.gr_frame.specs.declared.Frame.{Frame}
@@ -62,10 +63,10 @@ abbrev pub after_receipt : Result Frame FrameFault → Receipt → BrokerView �
 after_receipt (Ok f) (taken o) b = with_view b f.head.publisher o.view
 after_receipt _ _ b = b
 
--- the answer is this receipt
+-- the answer is this receipt. That memory was refused is no fault of a datagram
 abbrev pub Answers : Received → Receipt → Type 0
 Answers (answer.Taken told) (taken o) = Tells o told
-Answers (answer.Dropped (dropped.NotFrame fault)) (no_frame f) = fault ≡ f
+Answers (answer.Dropped (dropped.NotFrame fault)) (no_frame f) = (fault ≡ f) × (fault.kind ≢ kind.Memory)
 Answers (answer.Dropped (dropped.Stray head)) (stray h) = head ≡ h
 Answers (answer.Dropped (dropped.Clash c)) (clash t kept came) = (c.tick ≡ t) × (c.kept ≡ kept) × (c.came ≡ came)
 Answers _ _ = ⊥

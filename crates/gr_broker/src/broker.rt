@@ -98,6 +98,8 @@ impl Broker {
         ensures opens { D.tells → IfOk result (λ s. OpensLanes s.broker (D.lane_of disk.old) (D.lane_of disk.new)) }
         ensures damaged { D.tells → (p at : ℕ) → result ≡ Err (BrokerFault.Damaged p at)
             → IsDamagedAt topo.now number p at (D.lane_of disk.old) }
+        ensures damaged_here { (p at : ℕ) → result ≡ Err (BrokerFault.Damaged p at)
+            → (p < length topo.now.publishers) × (is_host (net_of topo.now) p number ≡ true) }
         ensures never_reopen { result ≢ Err BrokerFault.Reopen }
         ensures stands { D.tells → IfOk result (λ s. LogsStand (D.lane_of disk.new) s.broker) }
         // The lanes of publishers that are elsewhere stay as they are

@@ -20,8 +20,6 @@ mod receiving;
 mod sending;
 mod site;
 mod starting;
-#[cfg(test)]
-mod tests;
 mod waking;
 mod walks;
 mod wanted;

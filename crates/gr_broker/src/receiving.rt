@@ -1,6 +1,6 @@
 //! A datagram comes: it is decoded, then it must fit, then it must not clash with what is known.
 
-ghost use Rattle.std.specs.Prelude.{◌≡◌, ℕ, ◌<◌, true, false, nat_eq, List, length, map, get_or, MatchOption, Ok, IfOk, OnOk, OnErr};
+ghost use Rattle.std.specs.Prelude.{◌≡◌, ◌≢◌, ℕ, ◌<◌, true, false, nat_eq, List, length, map, get_or, MatchOption, Ok, IfOk, IfErr, OnOk, OnErr};
 ghost use Rattle.std.specs.List.{list_any};
 ghost use Rattle.gr_frame.specs.Decode.{frame_decoded};
 ghost use Rattle.gr_frame.specs.Limits.{IsBody};
@@ -135,6 +135,7 @@ pub(crate) fn receive(
 /// The frame that bytes spell, or why they spell none.
 fn read(alloc: Global, bytes: &[u8]) -> Result<Result<Frame, FrameFault>, Memory>
     ensures read { IfOk result (λ read. read ≡ frame_decoded bytes.now) }
+    ensures known { IfOk result (λ read. IfErr read (λ f. f.kind ≢ FrameKind.Memory)) }
     ensures body { IfOk result (λ read. IfOk read (λ frame. IsBody frame.body)) }
 {
     match decode(alloc, bytes) {

@@ -127,6 +127,8 @@ fn open_publisher<D: Disk>(
         (l : LogView) → held.log ≡ Some l → Opens (D.lane_of disk.old lane) (D.lane_of disk.new lane) (Ok l)) }
     ensures damaged { D.tells → (p at : ℕ) → result ≡ Err (BrokerFault.Damaged p at) → (p ≡ site.now.publisher)
         × (is_here site.now ≡ true) × (log_text (content (D.lane_of disk.old (2 * site.now.publisher))) ≡ Err at) }
+    ensures damaged_here { (p at : ℕ) → result ≡ Err (BrokerFault.Damaged p at)
+        → (p ≡ site.now.publisher) × (is_here site.now ≡ true) }
     ensures never_reopen { result ≢ Err BrokerFault.Reopen }
     ensures below { is_here site.now ≡ false → disk.new ≡ disk.old }
     ensures others { D.tells → (n : ℕ) → n ≢ 2 * site.now.publisher → D.lane_of disk.new n ≡ D.lane_of disk.old n }
@@ -188,6 +190,8 @@ pub(crate) fn open_publishers<D: Disk>(
         D.tells → TouchesLanes topo.now b upto (D.lane_of disk.old) (D.lane_of disk.new) }
     ensures damaged { D.tells → (p at : ℕ) → result ≡ Err (BrokerFault.Damaged p at)
         → IsDamagedAt topo.now b p at (D.lane_of disk.old) }
+    ensures damaged_here { (p at : ℕ) → result ≡ Err (BrokerFault.Damaged p at)
+        → (p < length topo.now.publishers) × (is_host (net_of topo.now) p b ≡ true) }
     ensures never_reopen { result ≢ Err BrokerFault.Reopen }
     ensures tally { let f = D.faults disk.old in let s = D.stops disk.old in
         Tally f s (D.faults disk.new) (D.stops disk.new) (log_answer result) }

@@ -13,4 +13,4 @@ pub returns-in-Err-clause-says : goal.returns-in-Err-clause-says
 returns-in-Err-clause-says c =
     let b : BrokerView = seen_broker c.args.seat.now.number c.args.seat.now.here.now c.args.seat.now.edges.now c.args.seat.now.positions.now c.args.held.now.items in
     subst (λ r. Answers (answer.Dropped (dropped.NotFrame c.in-Err.fault)) r)
-    (sym (no_frame_answer (net_of c.args.seat.now.topo.now) c.args.now b (frame_decoded c.args.bytes.now) c.in-Err.fault (sym c.in_ok-frame.ensures.read ∙ c.in-Err.is))) refl
+    (sym (no_frame_answer (net_of c.args.seat.now.topo.now) c.args.now b (frame_decoded c.args.bytes.now) c.in-Err.fault (sym c.in_ok-frame.ensures.read ∙ c.in-Err.is))) (refl, rw c.in-Err.is at c.in_ok-frame.ensures.known)

@@ -42,6 +42,11 @@ returns-in-Err-clause-damaged g c = λ tells p at e.
     damaged_at t c.args.b c.publishers.p p at (map held_view c.publishers.held.items) (map (λ (held : Held). held.log) c.publishers.held.items) c.publishers.lines
     (g.D.Disk.lane_of c.args.disk.now) (g.D.Disk.lane_of c.publishers.disk) (omega (arith, c.publishers-test.true, c.publishers-p-end.ensures.count)) sofar.started (sofar.opens tells) (sofar.touches tells) one.0 one.1 one.2
 
+pub returns-in-Err-clause-damaged_here : goal.returns-in-Err-clause-damaged_here
+returns-in-Err-clause-damaged_here g c = λ p at e.
+    let one = c.in-Err.ensures.damaged_here p at (ap (λ f. Err f) (err_is c.in-Err.fault (refused.Damaged p at) e)) in
+    (omega (arith, one.0, c.publishers-test.true, c.publishers-p-end.ensures.count), rw one.0 one.1)
+
 pub returns-in-Err-clause-never_fails : goal.returns-in-Err-clause-never_fails
 returns-in-Err-clause-never_fails g c = λ tells faultless none e.
     let t = c.args.topo.now in

@@ -17,6 +17,11 @@ pub returns-in-Err-open_publishers-clause-damaged :
 returns-in-Err-open_publishers-clause-damaged g c = λ tells p at e.
     c.in-Err-open_publishers.ensures.damaged tells p at (ap (λ f. Err f) (err_is c.in-Err-open_publishers.fault (refused.Damaged p at) e))
 
+pub returns-in-Err-open_publishers-clause-damaged_here :
+    goal.returns-in-Err-open_publishers-clause-damaged_here
+returns-in-Err-open_publishers-clause-damaged_here g c = λ p at e.
+    c.in-Err-open_publishers.ensures.damaged_here p at (ap (λ f. Err f) (err_is c.in-Err-open_publishers.fault (refused.Damaged p at) e))
+
 pub returns-clause-starts : goal.returns-clause-starts
 returns-clause-starts g c =
     let placed = c.in-Ok-positions_at.placed in
