@@ -21,7 +21,8 @@ use Rattle.gr_world.specs.declared.fault.WorldFault.{WorldFault}
 use Rattle.gr_world.specs.Seen.{WorldView, net_in, world_of}
 use Rattle.gr_world.specs.Of.{IsWorld}
 use Rattle.gr_world.specs.Steps.{Makes, lines_of_step}
-use Rattle.gr_replay.specs.Replayed.{AllNamed, IsStepOf}
+use Rattle.gr_scenario.specs.Steps.{IsStepOf}
+use Rattle.gr_replay.specs.Replayed.{AllNamed}
 use Rattle.gr_replay.proofs.Names.{Names, Stands, step_names}
 
 -- both words say the same of each element of a list

@@ -13,7 +13,8 @@ use Rattle.gr_theorems.proofs.runs.Schedules.{report_lines}
 use Rattle.gr_theorems.proofs.server.Arriving.{run_append}
 use Rattle.gr_topo.specs.Topology.{TopologyView}
 use Rattle.gr_world.specs.Seen.{WorldView, net_in, world_of}
-use Rattle.gr_replay.specs.Replayed.{replayed_text, TakesFront}
+use Rattle.gr_out.specs.Page.{TakesFront}
+use Rattle.gr_replay.specs.Replayed.{replayed_text}
 use Rattle.gr_replay.specs.Going.{Tells, step_text, text_from}
 
 -- the steps before one, and it

@@ -44,22 +44,35 @@ NotDamaged _ = Unit {0}
 abbrev pub IsCause : {T : Type 0} → RunFault → Result T WorldFault → Type 0
 IsCause run.Memory answer = Unit {0}
 IsCause run.Disk answer = answer ≡ Err fault.Disk
-IsCause (run.Damaged p at) answer = answer ≡ Err (fault.Damaged p at)
 IsCause _ answer = ⊥
 
--- why a world cannot be opened, or a step ends a replay
-abbrev pub IsStepFault : RunFault → Type 0
-IsStepFault run.Memory = Unit {0}
-IsStepFault run.Disk = Unit {0}
-IsStepFault (run.Damaged p at) = Unit {0}
-IsStepFault _ = ⊥
+-- why a world cannot be opened
+abbrev pub IsOpeningFault : RunFault → Type 0
+IsOpeningFault run.Memory = Unit {0}
+IsOpeningFault run.Disk = Unit {0}
+IsOpeningFault (run.Damaged p at) = Unit {0}
+IsOpeningFault _ = ⊥
 
--- a run's answer other than that a lane holds no log
+-- an opening's answer other than that a lane holds no log
 abbrev pub NotDamagedRun : {T : Type 0} → Result T RunFault → Type 0
 NotDamagedRun (Err (run.Damaged p at)) = ⊥
 NotDamagedRun _ = Unit {0}
 
--- why a replay ends early
-abbrev pub IsReplayFault : RunFault → Type 0
-IsReplayFault run.Post = ⊥
-IsReplayFault _ = Unit {0}
+-- why a step ends a replay
+abbrev pub IsStepFault : RunFault → Type 0
+IsStepFault run.Memory = Unit {0}
+IsStepFault run.Disk = Unit {0}
+IsStepFault _ = ⊥
+
+-- why steps end early that are written to a sink
+abbrev pub IsRunFault : RunFault → Type 0
+IsRunFault run.Memory = Unit {0}
+IsRunFault run.Disk = Unit {0}
+IsRunFault run.Write = Unit {0}
+IsRunFault _ = ⊥
+
+-- why lines could not be put
+abbrev pub IsPutFault : RunFault → Type 0
+IsPutFault run.Memory = Unit {0}
+IsPutFault run.Write = Unit {0}
+IsPutFault _ = ⊥

@@ -1,3 +1,2 @@
 pub mod Replayed
-pub mod Page
 pub mod Going

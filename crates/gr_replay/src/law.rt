@@ -1,21 +1,14 @@
 //! What a replay rests on. Each function here does nothing: its contract is the law.
 
-ghost use Rattle.std.specs.Prelude.{List, ◌≡◌};
-ghost use Rattle.std.specs.List.{All, AllByRecursion};
+ghost use Rattle.std.specs.List.{AllByRecursion};
 ghost use Rattle.gr_sched.specs.declared.step.Line.{Line};
-ghost use Rattle.gr_sched.specs.Ranges.{IsStep};
-ghost use Rattle.gr_topo.specs.Topology.{TopologyView, number_of};
+ghost use Rattle.gr_topo.specs.Topology.{TopologyView};
 ghost use Rattle.gr_model.specs.NetOf.{net_of, IsOrderly};
 ghost use Rattle.gr_model.specs.Tree.{IsNet};
 ghost use Rattle.gr_model.specs.World.{World, next};
 ghost use Rattle.gr_theorems.specs.Edges.{GoesOverEdge};
-ghost use Rattle.gr_replay.specs.Replayed.{AllNamed, AreStepsOf, IsStepOf};
-
-/// The steps that are read with the names of a topology are steps of it.
-pub fn steps_that_are_read()
-    ensures { (t : TopologyView) (lines : List Line)
-        → All (λ l. IsStep (number_of t.brokers) (number_of t.publishers) l.step) lines → AreStepsOf t lines }
-{}
+ghost use Rattle.gr_scenario.specs.Steps.{IsStepOf};
+ghost use Rattle.gr_replay.specs.Replayed.{AllNamed};
 
 /// Each line that a step tells names what the topology has, where all frames so far went over edges of its tree.
 pub fn every_line_is_named()

@@ -1,9 +1,7 @@
 //! A schedule is carried out, and its report written to a sink.
 #![tactic(auto)]
 
-mod buffer;
 mod law;
-mod naming;
 #[cfg(test)]
 mod page_tests;
 mod putting;
@@ -12,5 +10,6 @@ mod replay_tests;
 mod replaying;
 mod stepping;
 
-pub use law::{every_line_is_named, steps_that_are_read};
-pub use replaying::replay;
+pub use law::every_line_is_named;
+pub use replaying::{opened, replay};
+pub use stepping::step;

@@ -2,10 +2,9 @@
 
 ghost use Rattle.std.specs.Prelude.{None};
 
-use crate::buffer::Page;
 use crate::putting::put_all;
 use gr_model::Report;
-use gr_out::{Failed, Sink};
+use gr_out::{Failed, Page, Sink};
 use gr_topo::Topology;
 use std::test::Fail;
 

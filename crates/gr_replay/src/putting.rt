@@ -1,14 +1,16 @@
 //! Lines are put into a page, and the page is written where it is full.
 
 ghost use Rattle.std.specs.Prelude.{◌≡◌, ◌≢◌, ◌<◌, ◌++◌, length, Err, IfErr, OnOk, OnErr, IsErrOf};
+ghost use Rattle.gr_out.specs.declared.page.TheConstants.{PAGE_BYTES};
 ghost use Rattle.gr_out.specs.Faults.{Rose};
 ghost use Rattle.gr_model.specs.Text.{IsNamed, labels_of, whole_line, report_text};
-ghost use Rattle.gr_replay.specs.Page.{TakesBut, IsPutFault};
-ghost use Rattle.gr_replay.specs.Replayed.{AllNamed, TakesFront};
+ghost use Rattle.gr_out.specs.Page.{TakesBut};
+ghost use Rattle.gr_replay.specs.Going.{IsPutFault};
+ghost use Rattle.gr_out.specs.Page.{TakesFront};
+ghost use Rattle.gr_replay.specs.Replayed.{AllNamed};
 
-use crate::buffer::{FULL, Page};
 use gr_model::{Report, put};
-use gr_out::{RunFault, Sink};
+use gr_out::{Page, RunFault, Sink};
 use gr_topo::Topology;
 use std::alloc::Global;
 
@@ -25,7 +27,7 @@ fn put_line<K: Sink>(
         (page.old.held ++ whole_line (labels_of topology.now) line.now) page.new.held) }
     ensures front { OnErr result (TakesFront (K.taken sink.old) (K.taken sink.new)
         (page.old.held ++ whole_line (labels_of topology.now) line.now)) }
-    ensures room { OnOk result (length page.new.held < FULL) }
+    ensures room { OnOk result (length page.new.held < PAGE_BYTES) }
     ensures only { IfErr result IsPutFault }
     ensures write { IsErrOf result RunFault.Write → Rose (K.faults sink.old) (K.faults sink.new) }
     ensures same { result ≢ Err RunFault.Write → K.faults sink.new ≡ K.faults sink.old }

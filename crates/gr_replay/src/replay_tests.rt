@@ -3,9 +3,9 @@
 ghost use Rattle.std.specs.Prelude.{◌≤◌, length};
 ghost use Rattle.gr_sched.specs.declared.step.TheConstants.{MAX_BYTES};
 
-use crate::law::steps_that_are_read;
 use crate::replaying::replay;
 use gr_out::{MemDisk, MemSink, RunFault};
+use gr_scenario::steps_that_are_read;
 use gr_sched::parse;
 use gr_topo::Topology;
 use std::alloc::Global;

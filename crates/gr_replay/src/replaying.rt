@@ -5,21 +5,24 @@ ghost use Rattle.gr_out.specs.Bytes.{with_more};
 ghost use Rattle.gr_out.specs.Faults.{Rose};
 ghost use Rattle.gr_out.specs.Stops.{StaysFaultless};
 ghost use Rattle.gr_publog.specs.Crash.{EitherRose};
+ghost use Rattle.gr_topo.specs.Topology.{host_of};
 ghost use Rattle.gr_model.specs.NetOf.{net_of};
 ghost use Rattle.gr_model.specs.Text.{labels_of, report_text};
 ghost use Rattle.gr_model.specs.World.{next, start};
+ghost use Rattle.gr_broker.specs.Opened.{IsDamagedAt};
 ghost use Rattle.gr_world.specs.Seen.{net_in, world_of};
 ghost use Rattle.gr_world.specs.Of.{LanesFit};
 ghost use Rattle.gr_world.specs.Opened.{NoStops, AreEmpty};
-ghost use Rattle.gr_replay.specs.Page.{TakesBut, IsPutFault};
-ghost use Rattle.gr_replay.specs.Replayed.{AreStepsOf, IsStepOf, IsFresh, AllNamed, TakesFront, replayed_text};
-ghost use Rattle.gr_replay.specs.Going.{IsGoing, IsStepFault, IsReplayFault, NotDamagedRun, DiskCounts, step_text, text_from};
+ghost use Rattle.gr_out.specs.Page.{TakesBut};
+ghost use Rattle.gr_scenario.specs.Steps.{AreStepsOf, IsStepOf};
+ghost use Rattle.gr_out.specs.Page.{TakesFront};
+ghost use Rattle.gr_replay.specs.Replayed.{AllNamed, replayed_text};
+ghost use Rattle.gr_replay.specs.Going.{IsGoing, IsPutFault, IsOpeningFault, IsRunFault, NotDamagedRun, DiskCounts, step_text, text_from};
 
-use crate::buffer::Page;
 use crate::putting::put_all;
 use crate::stepping::step;
 use gr_model::topologies::every_topology_is_a_tree;
-use gr_out::{RunFault, SimDisk, Sink};
+use gr_out::{Page, RunFault, SimDisk, Sink};
 use gr_sched::{Line, Steps};
 use gr_topo::Topology;
 use gr_world::{World, WorldFault};
@@ -31,8 +34,8 @@ use std::alloc::Global;
 ///
 /// `Memory` where memory is refused. `Write` only where the sink failed in this call. `Disk` only where the disk failed
 /// in this call, and no stop that a step orders is such a failure; the lines of all steps before are written then.
-/// `Damaged` where the lane of a publisher holds no log; of a disk that tells what it holds, at the start alone. `Post`
-/// never comes. After each fault the sink took a front of the report.
+/// `Damaged` where at the start the lane of a publisher holds no log: that publisher, and the place of the first fault.
+/// `Post` never comes. After each fault the sink took a front of the report.
 pub fn replay<K: Sink, D: SimDisk>(
     alloc: Global,
     topology: Topology,
@@ -41,24 +44,25 @@ pub fn replay<K: Sink, D: SimDisk>(
     sink: &mut K,
 ) -> Result<(), RunFault>
     requires steps { AreStepsOf topology steps.now }
-    requires stops { D.tells → NoStops (D.lane_of disk.old) }
+    requires stops { NoStops (D.lane_of disk.old) }
     // Over empty lanes the sink took the report of the machine, and nothing else
-    ensures report { D.tells → IsFresh topology (D.lane_of disk.old)
+    ensures report { AreEmpty topology (D.lane_of disk.old)
         → OnOk result (K.taken sink.new ≡ with_more (K.taken sink.old) (replayed_text topology steps.now)) }
     // after a fault a front of it
-    ensures front { D.tells → IsFresh topology (D.lane_of disk.old)
+    ensures front { AreEmpty topology (D.lane_of disk.old)
         → OnErr result (TakesFront (K.taken sink.old) (K.taken sink.new) (replayed_text topology steps.now)) }
     // where the disk failed, the lines of all steps before
-    ensures before { D.tells → IsFresh topology (D.lane_of disk.old) → IsErrOf result RunFault.Disk
+    ensures before { AreEmpty topology (D.lane_of disk.old) → IsErrOf result RunFault.Disk
         → (k : ℕ) × (let text = replayed_text topology (take k steps.now) in
         K.taken sink.new ≡ with_more (K.taken sink.old) text) }
     ensures write { IsErrOf result RunFault.Write → Rose (K.faults sink.old) (K.faults sink.new) }
     ensures sink_same { result ≢ Err RunFault.Write → K.faults sink.new ≡ K.faults sink.old }
     ensures disk { IsErrOf result RunFault.Disk
         → EitherRose (D.faults disk.old) (D.faults disk.new) (D.stops disk.old) (D.stops disk.new) }
-    ensures never_fails { D.tells → IsFresh topology (D.lane_of disk.old) → D.faultless disk.old
-        → result ≢ Err RunFault.Disk }
-    ensures never_damaged { D.tells → IsFresh topology (D.lane_of disk.old)
+    ensures never_fails { D.faultless disk.old → result ≢ Err RunFault.Disk }
+    ensures damaged { (p at : ℕ) → result ≡ Err (RunFault.Damaged p at)
+        → IsDamagedAt topology (host_of topology p) p at (D.lane_of disk.old) }
+    ensures never_damaged { AreEmpty topology (D.lane_of disk.old)
         → (p at : ℕ) → result ≢ Err (RunFault.Damaged p at) }
     ensures never_post { result ≢ Err RunFault.Post }
 {
@@ -73,21 +77,31 @@ pub fn replay<K: Sink, D: SimDisk>(
     run(alloc, &mut world, steps.as_slice(), disk, &mut page, sink)
 }
 
-/// Opens the world of a topology over a disk.
-fn opened<D: SimDisk>(alloc: Global, topology: Topology, disk: &mut D) -> Result<World, RunFault>
-    requires stops { D.tells → NoStops (D.lane_of disk.old) }
+/// Opens the world of a topology over a disk on whose lanes no stop is ordered: each broker starts over the logs that
+/// its lanes hold. The world stands ready for `step`.
+///
+/// `Memory` where memory is refused, `Disk` only where the disk failed in this call, `Damaged` where the lane of a
+/// publisher holds no log: that publisher, and the place of the first fault. No other fault comes.
+pub fn opened<D: SimDisk>(
+    alloc: Global,
+    topology: Topology,
+    disk: &mut D,
+) -> Result<World, RunFault>
+    requires stops { NoStops (D.lane_of disk.old) }
     ensures topology { IfOk result (λ w. w.topo ≡ topology) }
     ensures going { IfOk result IsGoing }
     ensures named { IfOk result (λ w. AllNamed w.topo w.told) }
-    ensures fresh { D.tells → AreEmpty topology (D.lane_of disk.old)
+    ensures fresh { AreEmpty topology (D.lane_of disk.old)
         → IfOk result (λ w. (world_of w ≡ start (net_of topology)) × (w.told ≡ [])) }
-    ensures cause { IfErr result IsStepFault }
-    ensures undamaged { D.tells → AreEmpty topology (D.lane_of disk.old) → NotDamagedRun result }
+    ensures cause { IfErr result IsOpeningFault }
+    ensures damaged { (p at : ℕ) → result ≡ Err (RunFault.Damaged p at)
+        → IsDamagedAt topology (host_of topology p) p at (D.lane_of disk.old) }
+    ensures undamaged { AreEmpty topology (D.lane_of disk.old) → NotDamagedRun result }
     ensures counts { DiskCounts (D.faults disk.old) (D.stops disk.old) (D.faults disk.new) (D.stops disk.new) result }
     ensures faultless { StaysFaultless (D.faultless disk.old) (D.faultless disk.new)
         (D.faults disk.old) (D.faults disk.new) }
-    ensures never_fails { D.tells → D.faultless disk.old → result ≢ Err RunFault.Disk }
-    ensures lanes { D.tells → IfOk result (λ w. LanesFit (D.lane_of disk.new) w) }
+    ensures never_fails { D.faultless disk.old → result ≢ Err RunFault.Disk }
+    ensures lanes { IfOk result (λ w. LanesFit (D.lane_of disk.new) w) }
 {
     every_topology_is_a_tree(&topology);
     match World::new(alloc, topology, disk) {
@@ -141,23 +155,22 @@ fn turn<K: Sink, D: SimDisk>(
 ) -> Result<(), RunFault>
     requires going { IsGoing world.old }
     requires step { IsStepOf world.old.topo line.now.step }
-    requires lanes { D.tells → LanesFit (D.lane_of disk.old) world.old }
-    ensures leads { D.tells → OnOk result (world_of world.new
+    requires lanes { LanesFit (D.lane_of disk.old) world.old }
+    ensures leads { OnOk result (world_of world.new
         ≡ (next (net_in world.old) (world_of world.old) line.now).world) }
-    ensures put { D.tells → OnOk result (TakesBut (K.taken sink.old) (K.taken sink.new)
+    ensures put { OnOk result (TakesBut (K.taken sink.old) (K.taken sink.new)
         (page.old.held ++ step_text world.old line.now) page.new.held) }
-    ensures front { D.tells → OnErr result (TakesFront (K.taken sink.old) (K.taken sink.new)
+    ensures front { OnErr result (TakesFront (K.taken sink.old) (K.taken sink.new)
         (page.old.held ++ step_text world.old line.now)) }
     ensures before { IsErrOf result RunFault.Disk → K.taken sink.new ≡ with_more (K.taken sink.old) page.old.held }
     ensures topology { world.new.topo ≡ world.old.topo }
     ensures going { OnOk result (IsGoing world.new) }
-    ensures cause { IfErr result IsReplayFault }
-    ensures undamaged { D.tells → NotDamagedRun result }
+    ensures cause { IfErr result IsRunFault }
     ensures counts { DiskCounts (D.faults disk.old) (D.stops disk.old) (D.faults disk.new) (D.stops disk.new) result }
     ensures faultless { StaysFaultless (D.faultless disk.old) (D.faultless disk.new)
         (D.faults disk.old) (D.faults disk.new) }
-    ensures never_fails { D.tells → D.faultless disk.old → result ≢ Err RunFault.Disk }
-    ensures lanes { D.tells → LanesFit (D.lane_of disk.new) world.new }
+    ensures never_fails { D.faultless disk.old → result ≢ Err RunFault.Disk }
+    ensures lanes { LanesFit (D.lane_of disk.new) world.new }
     ensures write { IsErrOf result RunFault.Write → Rose (K.faults sink.old) (K.faults sink.new) }
     ensures same { result ≢ Err RunFault.Write → K.faults sink.new ≡ K.faults sink.old }
 {
@@ -181,17 +194,16 @@ fn run<K: Sink, D: SimDisk>(
 ) -> Result<(), RunFault>
     requires going { IsGoing world.old }
     requires steps { AreStepsOf world.old.topo steps.now }
-    requires lanes { D.tells → LanesFit (D.lane_of disk.old) world.old }
-    ensures report { D.tells → OnOk result (K.taken sink.new
+    requires lanes { LanesFit (D.lane_of disk.old) world.old }
+    ensures report { OnOk result (K.taken sink.new
         ≡ with_more (K.taken sink.old) (page.old.held ++ text_from world.old steps.now)) }
-    ensures front { D.tells → OnErr result (TakesFront (K.taken sink.old) (K.taken sink.new)
+    ensures front { OnErr result (TakesFront (K.taken sink.old) (K.taken sink.new)
         (page.old.held ++ text_from world.old steps.now)) }
-    ensures before { D.tells → IsErrOf result RunFault.Disk → (k : ℕ) × (K.taken sink.new
+    ensures before { IsErrOf result RunFault.Disk → (k : ℕ) × (K.taken sink.new
         ≡ with_more (K.taken sink.old) (page.old.held ++ text_from world.old (take k steps.now))) }
-    ensures cause { IfErr result IsReplayFault }
-    ensures undamaged { D.tells → NotDamagedRun result }
+    ensures cause { IfErr result IsRunFault }
     ensures counts { DiskCounts (D.faults disk.old) (D.stops disk.old) (D.faults disk.new) (D.stops disk.new) result }
-    ensures never_fails { D.tells → D.faultless disk.old → result ≢ Err RunFault.Disk }
+    ensures never_fails { D.faultless disk.old → result ≢ Err RunFault.Disk }
     ensures write { IsErrOf result RunFault.Write → Rose (K.faults sink.old) (K.faults sink.new) }
     ensures same { result ≢ Err RunFault.Write → K.faults sink.new ≡ K.faults sink.old }
 {

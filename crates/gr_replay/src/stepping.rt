@@ -5,10 +5,10 @@ ghost use Rattle.gr_out.specs.Stops.{StaysFaultless};
 ghost use Rattle.gr_world.specs.Of.{IsWorld, LanesFit};
 ghost use Rattle.gr_world.specs.Disk.{Counts, StaysSound};
 ghost use Rattle.gr_world.specs.Steps.{Makes, NotMemory, Stays, lines_of_step, frame_of_step};
-ghost use Rattle.gr_replay.specs.Replayed.{IsStepOf, AllNamed};
-ghost use Rattle.gr_replay.specs.Going.{IsGoing, NotDamaged, IsCause, IsStepFault, NotDamagedRun, DiskCounts, Tells};
+ghost use Rattle.gr_scenario.specs.Steps.{IsStepOf};
+ghost use Rattle.gr_replay.specs.Replayed.{AllNamed};
+ghost use Rattle.gr_replay.specs.Going.{IsGoing, NotDamaged, IsCause, IsStepFault, DiskCounts, Tells};
 
-use crate::naming::all_named;
 use gr_model::topologies::every_topology_is_a_tree;
 use gr_model::{Report, Reports};
 use gr_out::{RunFault, SimDisk};
@@ -25,9 +25,9 @@ fn call<D: SimDisk>(
 ) -> Result<Reports, WorldFault>
     requires going { IsGoing world.old }
     requires step { IsStepOf world.old.topo step.now }
-    requires lanes { D.tells → LanesFit (D.lane_of disk.old) world.old }
-    ensures makes { D.tells → Makes step.now world.old world.new result }
-    ensures undamaged { D.tells → NotDamaged result }
+    requires lanes { LanesFit (D.lane_of disk.old) world.old }
+    ensures makes { Makes step.now world.old world.new result }
+    ensures undamaged { NotDamaged result }
     ensures stays { Stays world.old world.new }
     ensures fits { IsWorld world.new }
     ensures sound { NotMemory result → StaysSound world.old world.new result }
@@ -35,8 +35,8 @@ fn call<D: SimDisk>(
     ensures counts { Counts (D.faults disk.old) (D.stops disk.old) (D.faults disk.new) (D.stops disk.new) result }
     ensures faultless { StaysFaultless (D.faultless disk.old) (D.faultless disk.new)
         (D.faults disk.old) (D.faults disk.new) }
-    ensures never_fails { D.tells → D.faultless disk.old → result ≢ Err WorldFault.Disk }
-    ensures lanes { D.tells → LanesFit (D.lane_of disk.new) world.new }
+    ensures never_fails { D.faultless disk.old → result ≢ Err WorldFault.Disk }
+    ensures lanes { LanesFit (D.lane_of disk.new) world.new }
 {
     match step {
         Step::Clock { now } => {
@@ -90,7 +90,8 @@ fn answered(
     line: &Line,
     answer: Result<Reports, WorldFault>,
 ) -> Result<Reports, RunFault>
-    requires { answer ≢ Err WorldFault.Reopen }
+    requires opened { answer ≢ Err WorldFault.Reopen }
+    requires undamaged { NotDamaged answer }
     ensures lines { IfOk result (λ lines. lines_of_step line.now.number line.now.step answer ≡ Some lines) }
     ensures cause { IfErr result (λ fault. IsCause fault answer) }
 {
@@ -99,10 +100,7 @@ fn answered(
         Err(WorldFault::Memory) => return Err(RunFault::Memory),
         Err(WorldFault::Disk) => return Err(RunFault::Disk),
         Err(WorldFault::Reopen) => unreachable!(),
-        Err(WorldFault::Damaged { publisher, at }) => return Err(RunFault::Damaged {
-            publisher,
-            at,
-        }),
+        Err(WorldFault::Damaged { .. }) => unreachable!(),
         Err(WorldFault::HostsSubscriber { broker }) => Report::RefusedHosts {
             line: line.number,
             broker,
@@ -122,11 +120,12 @@ fn answered(
     Ok(alone(alloc, refusal)?)
 }
 
-/// Carries out a step. Gives the lines that it tells, each of which names what the topology has.
+/// Carries out a step of a schedule, over the disk of the world as its last call left it. Gives the lines that the step
+/// tells: the machine's lines, each of which names what the topology has. A step that is refused tells so in its line.
 ///
-/// `Damaged` comes only over a disk that does not tell what it holds: after a crash there, a lane may hold no log, or
-/// one that is not of this topology.
-pub(crate) fn step<D: SimDisk>(
+/// `Memory` where memory is refused, and `Disk` only where the disk failed in this call; no stop that the step orders is
+/// such a failure. After a fault the run is over: the lanes still fit the world, but it may not be stepped any more.
+pub fn step<D: SimDisk>(
     alloc: Global,
     world: &mut World,
     disk: &mut D,
@@ -134,32 +133,23 @@ pub(crate) fn step<D: SimDisk>(
 ) -> Result<Reports, RunFault>
     requires going { IsGoing world.old }
     requires step { IsStepOf world.old.topo line.now.step }
-    requires lanes { D.tells → LanesFit (D.lane_of disk.old) world.old }
-    ensures tells { D.tells → IfOk result (Tells line.now world.old world.new) }
+    requires lanes { LanesFit (D.lane_of disk.old) world.old }
+    ensures tells { IfOk result (Tells line.now world.old world.new) }
     ensures named { IfOk result (AllNamed world.old.topo) }
     ensures topology { world.new.topo ≡ world.old.topo }
     ensures going { OnOk result (IsGoing world.new) }
     ensures cause { IfErr result IsStepFault }
-    ensures undamaged { D.tells → NotDamagedRun result }
     ensures counts { DiskCounts (D.faults disk.old) (D.stops disk.old) (D.faults disk.new) (D.stops disk.new) result }
     ensures faultless { StaysFaultless (D.faultless disk.old) (D.faultless disk.new)
         (D.faults disk.old) (D.faults disk.new) }
-    ensures never_fails { D.tells → D.faultless disk.old → result ≢ Err RunFault.Disk }
-    ensures lanes { D.tells → LanesFit (D.lane_of disk.new) world.new }
+    ensures never_fails { D.faultless disk.old → result ≢ Err RunFault.Disk }
+    ensures lanes { LanesFit (D.lane_of disk.new) world.new }
 {
     let answer = call(alloc, world, disk, &line.step);
+    // Proof only: frames go over edges of a tree, so each line names what is there.
     every_topology_is_a_tree(world.topology());
     match answered(alloc, line, answer) {
-        Ok(lines) => {
-            if all_named(world.topology(), lines.as_slice()) {
-                Ok(lines)
-            } else {
-                Err(RunFault::Damaged {
-                    publisher: 0,
-                    at: 0,
-                })
-            }
-        }
+        Ok(lines) => Ok(lines),
         Err(fault) => Err(fault),
     }
 }

@@ -22,8 +22,7 @@ use Rattle.gr_broker.specs.Hosted.{WakeLeaves}
 use Rattle.gr_world.specs.declared.fault.WorldFault.{WorldFault}
 use Rattle.gr_world.specs.declared.fault.WorldFault.TheVariants as fault
 use Rattle.gr_world.specs.Steps.{IsCarried}
-use Rattle.gr_world.specs.Disk.{NotDisk, Counts}
-use Rattle.gr_world.specs.Ran.{RanOn}
+use Rattle.gr_world.specs.Disk.{NotDisk, Counts, UsesDisk}
 use Rattle.gr_world.specs.Taking.{Follows}
 use Rattle.gr_world.proofs.Absorbing.{Touches}
 
@@ -66,6 +65,14 @@ reopen_follows (Err refused.Memory) result f e = cc
 reopen_follows (Err refused.Disk) result f e = cc
 reopen_follows (Err refused.Reopen) result f e = refl
 reopen_follows (Err (refused.Damaged p at)) result f e = cc
+
+-- where the broker does, so does the world
+pub reopen_told : (answer : Result Outcome BrokerFault) (result : Result (List Report) WorldFault) → Follows answer result → IsErrOf answer refused.Reopen → result ≡ Err fault.Reopen
+reopen_told (Ok told) result f e = absurd (cc e)
+reopen_told (Err refused.Memory) result f e = absurd (cc e)
+reopen_told (Err refused.Disk) result f e = absurd (cc e)
+reopen_told (Err refused.Reopen) result f e = f
+reopen_told (Err (refused.Damaged p at)) result f e = absurd (cc e)
 
 -- and that it did not, only where the broker did not
 pub not_disk : (answer : Result Outcome BrokerFault) (result : Result (List Report) WorldFault) → Follows answer result → NotDisk result → IsErrOf (log_answer answer) log_fault.Disk → ⊥
@@ -136,12 +143,12 @@ pub whole_with : (p : ℕ) (b : BrokerView) (l : Option LogView) (v : View) → 
 whole_with p b l v lt same whole = ap is_broken (get_or-set_same b.logs p l None lt) ∙ (same ∙ whole)
 
 -- What a call does to the disk, by what the broker says of it: where no stop is ordered on the lane none has broken it
-pub ran_on : (tells faultless faultless' : Type 0) (faults stops faults' stops' : ℕ) (lane : Lane) (answer : Result Outcome BrokerFault) (result : Result (List Report) WorldFault)
-    → Follows answer result → Tally faults stops faults' stops' (log_answer answer) → (tells → Causes faultless lane faults faults' (log_answer answer))
-    → StaysFaultless faultless faultless' faults faults' → (tells → has_stopped lane.stop ≡ true → ⊥)
-    → RanOn tells faultless faultless' faults stops faults' stops' result
-ran_on tells faultless faultless' faults stops faults' stops' lane answer result f tally causes stays never = record {
+pub ran_on : (faultless faultless' : Type 0) (faults stops faults' stops' : ℕ) (lane : Lane) (answer : Result Outcome BrokerFault) (result : Result (List Report) WorldFault)
+    → Follows answer result → Tally faults stops faults' stops' (log_answer answer) → Causes faultless lane faults faults' (log_answer answer)
+    → StaysFaultless faultless faultless' faults faults' → (has_stopped lane.stop ≡ true → ⊥)
+    → UsesDisk faultless faultless' faults stops faults' stops' result
+ran_on faultless faultless' faults stops faults' stops' lane answer result f tally causes stays never = record {
   counts = counts_follow answer result faults stops faults' stops' f tally;
   faultless_stays = stays;
-  never_fails = λ t less e. never t ((causes t).by_stop less (disk_follows answer result f e));
+  never_fails = λ less e. never (causes.by_stop less (disk_follows answer result f e));
 }

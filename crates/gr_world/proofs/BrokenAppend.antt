@@ -1,7 +1,7 @@
 -- The number and the tick of the record of a publish are read off its log; and a stop that breaks its append leaves the records of
 -- the log, or those with its own.
 use Rattle.std.proofs.Common.{◌≡◌, ◌≢◌, inl, inr, ℕ, suc, ◌+◌, ◌*◌, ◌<◌, ◌≤◌, max, Bool, true, false, ◌&&◌, List, Option, Some, None, Result, Ok, Err, refl, sym, ap, ◌∙◌, subst, arith, eq-eqb}
-use Rattle.std.specs.Prelude.{nat_eq, nat_le, nat_lt, if◌then◌else◌, IsErr, IsSome, is_some, IfOk}
+use Rattle.std.specs.Prelude.{◌↔◌, nat_eq, nat_le, nat_lt, if◌then◌else◌, IsErr, IsErrOf, IsSome, is_some, IfOk}
 use Rattle.std.proofs.lemmas.Bool.{ne_eqb, le-leb, lt-leb, le-ltb, cases_eq, false≢true}
 use Rattle.gr_event.specs.declared.event.Event.{Event}
 use Rattle.gr_out.specs.declared.disk.Stop.{Stop as LaneStop}
@@ -32,12 +32,13 @@ use Rattle.gr_world.specs.declared.fault.WorldFault.{WorldFault}
 use Rattle.gr_world.specs.declared.fault.WorldFault.TheVariants as fault
 use Rattle.gr_world.specs.Seen.{WorldView, broker_in, log_at, net_in}
 use Rattle.gr_world.specs.Of.{IsReadable, LanesFit}
+use Rattle.gr_world.specs.Disk.{IsBarred}
 use Rattle.gr_world.specs.Ran.{IsOpen, Ran}
 use Rattle.gr_world.specs.Taking.{Follows, TakesUp, put_in}
 use Rattle.gr_world.specs.Stopped.{tick_in, is_broken_by, IsStoppedAt}
 use Rattle.gr_world.proofs.Lanes.{LaneMoves, lanes_fit}
 use Rattle.gr_world.proofs.Called.{Called, Site, site_read, site_fits, site_publisher}
-use Rattle.gr_world.proofs.Published.{Publishes, PublishesOn, publish_in, publish_called, ran_publish, moves}
+use Rattle.gr_world.proofs.Published.{Publishes, PublishesOn, publish_in, publish_called, ran_publish, reopens_publish, moves}
 use Rattle.gr_world.proofs.StoppedOver.{next_at}
 
 -- The tick
@@ -131,6 +132,12 @@ module _ (v w : WorldView) (b p number : ℕ) (e : Event) (x after : BrokerView)
   pub stopped_ran : answer ≡ Err refused.Disk → Ran w (put_in v b after v.frames) (Err fault.Disk)
   stopped_ran is =
       ran_publish v w b p number e x after v.frames answer (Err fault.Disk) s host n k (subst (λ (a : Result Outcome BrokerFault). Follows a (Err fault.Disk)) (sym is) refl)
+      (λ o t. record { lines = tt; frames = tt; kept = refl })
+
+  -- and it was not answered that the log is to be opened again, so it was not barred
+  pub stopped_reopens : answer ≡ Err refused.Disk → (let r : Result (List Report) WorldFault = Err fault.Disk in IsErrOf r fault.Reopen ↔ IsBarred w p number e)
+  stopped_reopens is =
+      reopens_publish v w b p number e x after v.frames answer (Err fault.Disk) s host n k (subst (λ (a : Result Outcome BrokerFault). Follows a (Err fault.Disk)) (sym is) refl)
       (λ o t. record { lines = tt; frames = tt; kept = refl })
 
   there : log_at w p ≡ log_in x p

@@ -11,8 +11,8 @@ use Rattle.gr_world.specs.declared.fault.WorldFault.TheVariants as fault
 use Rattle.gr_world.specs.Seen.{WorldView, world_of}
 use Rattle.gr_world.specs.Of.{IsWorld}
 use Rattle.gr_world.specs.Steps.{Does}
-use Rattle.gr_world.specs.Disk.{StaysSound}
-use Rattle.gr_world.specs.Ran.{IsOpen, Keeps, Ran, RanOn}
+use Rattle.gr_world.specs.Disk.{StaysSound, UsesDisk}
+use Rattle.gr_world.specs.Ran.{IsOpen, Keeps, Ran}
 
 -- an answer, with lines that were told before it
 abbrev pub behind : List Report → Result (List Report) WorldFault → Result (List Report) WorldFault
@@ -74,17 +74,17 @@ either_later a b c a' b' c' h h' (inl r) = inl (rose_later a b c h r)
 either_later a b c a' b' c' h h' (inr r) = inr (rose_later a' b' c' h' r)
 
 -- Nothing was done to the disk
-pub disk_none : {tells fl : Type 0} {f s : ℕ} (ls : List Report) → RanOn tells fl fl f s f s (Ok ls)
+pub disk_none : {fl : Type 0} {f s : ℕ} (ls : List Report) → UsesDisk fl fl f s f s (Ok ls)
 disk_none ls = record {
   counts = record { faults_never_fall = omega arith; stops_never_fall = omega arith; rose = λ e. cc };
   faultless_stays = record { stays = λ h. h; same_faults = λ _. refl };
-  never_fails = λ _ _ e. cc;
+  never_fails = λ _ e. cc;
 }
 
 -- Two runs on the disk one after the other are one
-pub disk_on : {tells fl fl' fl'' : Type 0} {f s f' s' f'' s'' : ℕ} {ls : List Report} {r : Result (List Report) WorldFault}
-    → RanOn tells fl fl' f s f' s' (Ok ls) → RanOn tells fl' fl'' f' s' f'' s'' r → RanOn tells fl fl'' f s f'' s'' r
-disk_on {tells} {fl} {fl'} {fl''} {f} {s} {f'} {s'} {f''} {s''} x y = record {
+pub disk_on : {fl fl' fl'' : Type 0} {f s f' s' f'' s'' : ℕ} {ls : List Report} {r : Result (List Report) WorldFault}
+    → UsesDisk fl fl' f s f' s' (Ok ls) → UsesDisk fl' fl'' f' s' f'' s'' r → UsesDisk fl fl'' f s f'' s'' r
+disk_on {fl} {fl'} {fl''} {f} {s} {f'} {s'} {f''} {s''} x y = record {
   counts = record {
     faults_never_fall = omega (arith, x.counts.faults_never_fall, y.counts.faults_never_fall);
     stops_never_fall = omega (arith, x.counts.stops_never_fall, y.counts.stops_never_fall);
@@ -94,23 +94,23 @@ disk_on {tells} {fl} {fl'} {fl''} {f} {s} {f'} {s'} {f''} {s''} x y = record {
     stays = λ h. y.faultless_stays.stays (x.faultless_stays.stays h);
     same_faults = λ h. y.faultless_stays.same_faults (x.faultless_stays.stays h) ∙ x.faultless_stays.same_faults h;
   };
-  never_fails = λ t h. y.never_fails t (x.faultless_stays.stays h);
+  never_fails = λ h. y.never_fails (x.faultless_stays.stays h);
 }
 
 -- A run on the disk that answered Ok is one with any lines
-pub disk_lines : {tells fl fl' : Type 0} {f s f' s' : ℕ} {ls : List Report} (more : List Report) → RanOn tells fl fl' f s f' s' (Ok ls) → RanOn tells fl fl' f s f' s' (Ok more)
+pub disk_lines : {fl fl' : Type 0} {f s f' s' : ℕ} {ls : List Report} (more : List Report) → UsesDisk fl fl' f s f' s' (Ok ls) → UsesDisk fl fl' f s f' s' (Ok more)
 disk_lines more x = record {
   counts = record { faults_never_fall = x.counts.faults_never_fall; stops_never_fall = x.counts.stops_never_fall; rose = λ e. cc };
   faultless_stays = x.faultless_stays;
-  never_fails = λ _ _ e. cc;
+  never_fails = λ _ e. cc;
 }
 
 -- and one after which memory was refused
-pub disk_memory : {tells fl fl' : Type 0} {f s f' s' : ℕ} {ls : List Report} → RanOn tells fl fl' f s f' s' (Ok ls) → RanOn tells fl fl' f s f' s' (Err fault.Memory)
+pub disk_memory : {fl fl' : Type 0} {f s f' s' : ℕ} {ls : List Report} → UsesDisk fl fl' f s f' s' (Ok ls) → UsesDisk fl fl' f s f' s' (Err fault.Memory)
 disk_memory x = record {
   counts = record { faults_never_fall = x.counts.faults_never_fall; stops_never_fall = x.counts.stops_never_fall; rose = λ e. cc };
   faultless_stays = x.faultless_stays;
-  never_fails = λ _ _ e. cc;
+  never_fails = λ _ e. cc;
 }
 
 -- The machine

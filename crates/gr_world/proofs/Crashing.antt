@@ -19,8 +19,9 @@ use Rattle.gr_world.specs.declared.fault.WorldFault.{WorldFault}
 use Rattle.gr_world.specs.declared.fault.WorldFault.TheVariants as fault
 use Rattle.gr_world.specs.Seen.{WorldView, broker_in, log_at, world_of, net_in}
 use Rattle.gr_world.specs.Of.{IsWorld, LaneFits, LanesFit, IsSound}
-use Rattle.gr_world.specs.Opened.{IsRead, IsSoundBut, IsOpening, with_logs, restart_over}
-use Rattle.gr_world.specs.Steps.{Makes, Does}
+use Rattle.gr_world.specs.Opened.{IsRead, IsSoundBut, with_logs, restart_over}
+use Rattle.gr_world.specs.Steps.{Makes, Does, IsCarried}
+use Rattle.gr_world.specs.Disk.{NotDisk, StaysSound}
 use Rattle.gr_world.specs.Ran.{noted_in}
 use Rattle.gr_world.proofs.Hosts.{hosted_log}
 use Rattle.gr_world.proofs.Opened.{reads_same}
@@ -113,7 +114,7 @@ makes_refusal w b some n lines e =
     crash_next w n b true some ∙ ap (λ (ls : List Report). unchanged (world_of w) ls) (lines_are (line.RefusedHosts n b ∷ []) lines e)
 
 -- any other
-pub makes_crash : (old new : WorldView) (b : ℕ) (result : Result (List Report) WorldFault) → not_empty (subscribers_of old.topo b) ≡ false → IsOpening result
+pub makes_crash : (old new : WorldView) (b : ℕ) (result : Result (List Report) WorldFault) → not_empty (subscribers_of old.topo b) ≡ false → IsCarried result
     → Does (crash (net_in old) (world_of old) b) new result → Makes (step.Crash b) old (noted_in new result) result
 makes_crash old new b (Ok told) none o does n lines e =
     crash_next old n b false none ∙ made (crash (net_in old) (world_of old) b) does ∙ ap (λ (ls : List Report). let t : Transition = record { world = world_of new; lines = ls } in t) (lines_are told lines e)
@@ -122,8 +123,8 @@ makes_crash old new b (Ok told) none o does n lines e =
     made t d = ap₂ (λ (w : World) (ls : List Report). let t : Transition = record { world = w; lines = ls } in t) (sym d.world) (sym d.lines)
 makes_crash old new b (Err fault.Memory) none o does n lines e = absurd (none_lines lines e)
 makes_crash old new b (Err fault.Disk) none o does n lines e = absurd (none_lines lines e)
-makes_crash old new b (Err (fault.Damaged p at)) none o does n lines e = absurd (none_lines lines e)
-makes_crash old new b (Err fault.Reopen) none o does n lines e = absurd o
+makes_crash old new b (Err fault.Reopen) none o does n lines e = absurd (none_lines lines e)
+makes_crash old new b (Err (fault.Damaged p at)) none o does n lines e = absurd o
 makes_crash old new b (Err (fault.HostsSubscriber c)) none o does n lines e = absurd o
 makes_crash old new b (Err (fault.NoFrame k)) none o does n lines e = absurd o
 makes_crash old new b (Err (fault.ClockRange at)) none o does n lines e = absurd o
@@ -140,3 +141,15 @@ noted_lanes lanes new (Err (fault.Damaged p at)) fit = fit (λ e. cc)
 noted_lanes lanes new (Err (fault.HostsSubscriber c)) fit = fit (λ e. cc)
 noted_lanes lanes new (Err (fault.NoFrame k)) fit = fit (λ e. cc)
 noted_lanes lanes new (Err (fault.ClockRange at)) fit = fit (λ e. cc)
+
+-- a world stays as sound
+sound_noted : (mid : WorldView) (r : Result (List Report) WorldFault) → IsSound mid → IsSound (noted_in mid r)
+sound_noted mid (Ok lines) s = s
+sound_noted mid (Err fault.Memory) s = record { logs = s.logs; up = s.up }
+sound_noted mid (Err _) s = s
+
+pub noted_sound : (old mid new : WorldView) (r r' : Result (List Report) WorldFault) → r' ≡ r → new ≡ noted_in mid r → (IsSound old → NotDisk r → IsSound mid) → r ≢ Err fault.Reopen → StaysSound old new r'
+noted_sound old mid new r r' same e s never = record {
+  sound = λ h n. subst IsSound (sym e) (sound_noted mid r (s h (subst (λ (x : Result (List Report) WorldFault). NotDisk x) same n)));
+  opened = λ h is. never (sym same ∙ is);
+}

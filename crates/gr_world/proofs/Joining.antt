@@ -13,8 +13,8 @@ use Rattle.gr_world.specs.declared.fault.WorldFault.TheVariants as fault
 use Rattle.gr_world.specs.Seen.{WorldView, log_at, net_in, world_of}
 use Rattle.gr_world.specs.Of.{IsWorld, LanesFit}
 use Rattle.gr_world.specs.Steps.{Does}
-use Rattle.gr_world.specs.Disk.{StaysSound}
-use Rattle.gr_world.specs.Ran.{IsOpen, Keeps, Ran, RanOn}
+use Rattle.gr_world.specs.Disk.{StaysSound, UsesDisk}
+use Rattle.gr_world.specs.Ran.{IsOpen, Keeps, Ran}
 use Rattle.gr_world.specs.Sweeps.{Joins, Delivers, AreBrokers}
 use Rattle.gr_world.proofs.Composed.{keeps_none, keeps_on, ran_none, ran_on, ran_lines, ran_memory, disk_on, disk_lines, disk_memory, does_err, behind, does_on}
 
@@ -26,12 +26,12 @@ ran_joined a b c ls (Err e) (Ok all) j x y = absurd j
 ran_joined a b c ls (Err e) (Err f) j x y = subst (λ (g : WorldFault). Ran a c (Err g)) (sym j) (ran_on x y)
 
 -- and one on the disk
-pub disk_joined : (tells fl fl' fl'' : Type 0) (f s f' s' f'' s'' : ℕ) (ls : List Report) (told result : Result (List Report) WorldFault) → Joins ls told result
-    → RanOn tells fl fl' f s f' s' (Ok ls) → RanOn tells fl' fl'' f' s' f'' s'' told → RanOn tells fl fl'' f s f'' s'' result
-disk_joined tells fl fl' fl'' f s f' s' f'' s'' ls (Ok more) (Ok all) j x y = disk_lines {ls = more} all (disk_on x y)
-disk_joined tells fl fl' fl'' f s f' s' f'' s'' ls (Ok more) (Err e) j x y = subst (λ (g : WorldFault). RanOn tells fl fl'' f s f'' s'' (Err g)) (sym j) (disk_memory {ls = more} (disk_on x y))
-disk_joined tells fl fl' fl'' f s f' s' f'' s'' ls (Err e) (Ok all) j x y = absurd j
-disk_joined tells fl fl' fl'' f s f' s' f'' s'' ls (Err e) (Err g) j x y = subst (λ (h : WorldFault). RanOn tells fl fl'' f s f'' s'' (Err h)) (sym j) (disk_on x y)
+pub disk_joined : (fl fl' fl'' : Type 0) (f s f' s' f'' s'' : ℕ) (ls : List Report) (told result : Result (List Report) WorldFault) → Joins ls told result
+    → UsesDisk fl fl' f s f' s' (Ok ls) → UsesDisk fl' fl'' f' s' f'' s'' told → UsesDisk fl fl'' f s f'' s'' result
+disk_joined fl fl' fl'' f s f' s' f'' s'' ls (Ok more) (Ok all) j x y = disk_lines {ls = more} all (disk_on x y)
+disk_joined fl fl' fl'' f s f' s' f'' s'' ls (Ok more) (Err e) j x y = subst (λ (g : WorldFault). UsesDisk fl fl'' f s f'' s'' (Err g)) (sym j) (disk_memory {ls = more} (disk_on x y))
+disk_joined fl fl' fl'' f s f' s' f'' s'' ls (Err e) (Ok all) j x y = absurd j
+disk_joined fl fl' fl'' f s f' s' f'' s'' ls (Err e) (Err g) j x y = subst (λ (h : WorldFault). UsesDisk fl fl'' f s f'' s'' (Err h)) (sym j) (disk_on x y)
 
 -- what the machine does in both, one after the other
 pub does_joined : (t : Transition) (f : World → Transition) (mid new : WorldView) (ls : List Report) (told result : Result (List Report) WorldFault) → Joins ls told result

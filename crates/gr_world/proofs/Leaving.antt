@@ -51,6 +51,13 @@ fits_noted mid new (Ok ls) e f = subst IsWorld (sym e) f
 fits_noted mid new (Err fault.Memory) e f = subst IsWorld (sym e) (fits_spent mid f)
 fits_noted mid new (Err _) e f = subst IsWorld (sym e) f
 
+-- after a fault other than want of memory nothing is noted
+pub noted_failed : (mid new : WorldView) (r r' : Result (List Report) WorldFault) → r' ≡ r → new ≡ noted_in mid r → r' ≡ Err fault.Disk → (r ≡ Err fault.Disk) × (new ≡ mid)
+noted_failed mid new r r' same e h = let is : r ≡ Err fault.Disk = sym same ∙ h in (is, e ∙ ap (noted_in mid) is)
+
+pub noted_closed : (mid new : WorldView) (r r' : Result (List Report) WorldFault) → r' ≡ r → new ≡ noted_in mid r → r' ≡ Err fault.Reopen → (r ≡ Err fault.Reopen) × (new ≡ mid)
+noted_closed mid new r r' same e h = let is : r ≡ Err fault.Reopen = sym same ∙ h in (is, e ∙ ap (noted_in mid) is)
+
 -- the lanes fit, or no call uses them any more
 pub lanes_noted : (lanes : ℕ → Lane) (mid new : WorldView) (r : Result (List Report) WorldFault) → new ≡ noted_in mid r → LanesFit lanes mid → LanesFit lanes new
 lanes_noted lanes mid new (Ok ls) e f = subst (λ w. LanesFit lanes w) (sym e) f

@@ -1,7 +1,8 @@
 -- A publish within a step is the machine's at the publisher's host
-use Rattle.std.proofs.Common.{◌≡◌, ◌≢◌, ℕ, ◌*◌, ◌<◌, true, false, List, length, set, Option, Some, None, Result, OnOk, refl, sym, ap, ◌∙◌, subst}
+use Rattle.std.proofs.Common.{◌≡◌, ◌≢◌, ℕ, ◌*◌, ◌<◌, true, false, List, length, set, Option, Some, None, Result, Ok, Err, OnOk, OnErr, refl, sym, ap, ap₂, ◌∙◌, subst}
 use Rattle.std.specs.Prelude.{◌↔◌, IsSome, is_some, IfOk, IsErrOf}
 use Rattle.std.proofs.lemmas.Bool.{eq-eqb, false≢true}
+use Rattle.std.proofs.lemmas.List.{set-get_or}
 use Rattle.gr_event.specs.declared.event.Event.{Event}
 use Rattle.gr_out.specs.Lane.{Lane}
 use Rattle.gr_publog.specs.declared.record.Record.{Record}
@@ -23,13 +24,16 @@ use Rattle.gr_broker.specs.Of.{IsBrokerOf, LogsStand}
 use Rattle.gr_broker.specs.Told.{Tells, log_answer}
 use Rattle.gr_broker.specs.Hosted.{publish_at, publish_logs_at, after_publish, AppendsAt}
 use Rattle.gr_world.specs.declared.fault.WorldFault.{WorldFault}
+use Rattle.gr_world.specs.declared.fault.WorldFault.TheVariants as fault
 use Rattle.gr_world.specs.Seen.{WorldView, broker_in, world_of, net_in}
 use Rattle.gr_world.specs.Of.{IsWorld, LanesFit}
 use Rattle.gr_world.specs.Steps.{Does}
+use Rattle.gr_world.specs.Disk.{IsBarred}
 use Rattle.gr_world.specs.Ran.{IsOpen, Ran}
+use Rattle.gr_world.specs.Stopped.{broken_in}
 use Rattle.gr_world.specs.Taking.{Follows, TakesUp, put_in}
 use Rattle.gr_world.proofs.Absorbing.{Touches, view_is, log_is, log_here}
-use Rattle.gr_world.proofs.Answers.{on_ok, ok_answer, ok_follows, spelled_follow, reopen_follows, not_disk, carried_follows, leaves_on, touched, touched_broken, untouched, whole_logged, whole_with}
+use Rattle.gr_world.proofs.Answers.{on_ok, ok_answer, ok_follows, spelled_follow, disk_follows, reopen_follows, reopen_told, not_disk, carried_follows, leaves_on, touched, touched_broken, untouched, whole_logged, whole_with}
 use Rattle.gr_world.proofs.Fitting.{over_edges, all_of}
 use Rattle.gr_world.proofs.Lanes.{LaneMoves, appends_moves, lanes_fit}
 use Rattle.gr_world.proofs.Called.{Called, called_does, Site, site_read, site_fits, site_publisher, site_ran}
@@ -167,3 +171,42 @@ module _ (v w : WorldView) (b p number : ℕ) (e : Event) (x after : BrokerView)
   lanes_publish lanes lanes' fit on =
       publish_lanes v b p number e (site_fits v w b p x s) s.broker (site_publisher v w b p x s) host after frames lanes lanes' answer result
       (subst IsOpen (sym s.same) s.is_open) (subst (LanesFit lanes) (sym s.same) fit) here (subst (λ (z : BrokerView). PublishesOn z p v.clock number e after lanes lanes' answer) (site_read v w b p x s) on) called
+
+  -- It is answered `Reopen` exactly where it would append to a broken log, and then nothing has changed
+
+  read_host : x ≡ broker_in v (host_of v.topo p)
+  read_host = site_read v w b p x s ∙ ap (broker_in v) (sym host)
+
+  abbrev Barred : BrokerView → Type 0
+  Barred y = (is_broken (log_in y p) ≡ true) × IsSome (publish_logs_at y p v.clock number e)
+
+  pub reopens_publish : IsErrOf result fault.Reopen ↔ IsBarred w p number e
+  reopens_publish = (
+    λ h. subst (λ (u : WorldView). IsBarred u p number e) s.same (subst Barred read_host (k.reopen.0 (reopen_follows answer result f h))),
+    λ h. reopen_told answer result f (k.reopen.1 (subst Barred (sym read_host) (subst (λ (u : WorldView). IsBarred u p number e) (sym s.same) h))),
+  )
+
+  frames_kept : (z : WorldFault) → result ≡ Err z → frames ≡ v.frames
+  frames_kept z h = kept result h (takes (publish_at v.topo x p v.clock number e) k.told).kept
+    where
+      kept : (r : Result (List Report) WorldFault) → r ≡ Err z → OnErr r (frames ≡ v.frames) → frames ≡ v.frames
+      kept (Ok ls) h o = absurd (cc h)
+      kept (Err y) h o = o
+
+  pub unchanged_publish : IsErrOf result fault.Reopen → put_in v b after frames ≡ w
+  unchanged_publish h =
+      let same : after ≡ x = k.leaves.closed (ap (λ (a : Result Outcome BrokerFault). log_answer a) (reopen_follows answer result f h)) in
+      ap₂ (λ (y : BrokerView) (fs : List (List ℕ)). put_in v b y fs) same (frames_kept fault.Reopen h)
+      ∙ ap with_list (ap (set v.brokers b) s.read ∙ set-get_or v.brokers b x) ∙ s.same
+    where
+      with_list : List BrokerView → WorldView
+      with_list bs = record { topo = v.topo; brokers = bs; frames = v.frames; clock = v.clock; most = v.most; told = v.told; down = v.down; spent = v.spent }
+
+  -- where the disk fails it, that log is broken and all else stands
+  pub failed_publish : IsErrOf result fault.Disk → put_in v b after frames ≡ broken_in w (host_of w.topo p) p
+  failed_publish h =
+      let broken : after ≡ broken_at x p = k.leaves.failed (disk_follows answer result f h) in
+      ap₂ (λ (y : BrokerView) (fs : List (List ℕ)). put_in v b y fs) broken (frames_kept fault.Disk h)
+      ∙ ap (λ (y : BrokerView). put_in v b (broken_at y p) v.frames) (site_read v w b p x s)
+      ∙ ap (λ c. broken_in v c p) (sym host)
+      ∙ ap (λ (u : WorldView). broken_in u (host_of u.topo p) p) s.same

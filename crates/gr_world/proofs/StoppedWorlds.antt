@@ -82,6 +82,7 @@ ran_restarted b old new opened result r fits faults = record {
   spent = r.spent;
   carried = carried result faults;
   sound = on_ok result;
+  failed = λ e. cc (faults fault.Disk e);
   never_reopen = λ e. cc (faults fault.Reopen e);
 }
   where

@@ -56,6 +56,19 @@ pub record IsSoundBut (b : ℕ) (w : WorldView) : Type 0 where
       → l.broken ≡ false
   pub up : (w.down ≡ None) ⊎ (w.down ≡ Some b)
 
+-- the world with a broker down, whose opening failed: all else is as before its crash
+abbrev pub with_down : WorldView → ℕ → WorldView
+with_down w b = record {
+  topo = w.topo;
+  brokers = w.brokers;
+  frames = w.frames;
+  clock = w.clock;
+  most = w.most;
+  told = w.told;
+  down = Some b;
+  spent = w.spent;
+}
+
 -- What a broker's start again leaves: after a fault of the disk the broker is down, with what stood before
 pub record Restarts (b : ℕ) (old new : WorldView) (result : Result (List Report) WorldFault) : Type 0 where
   pub topo : new.topo ≡ old.topo
@@ -65,17 +78,7 @@ pub record Restarts (b : ℕ) (old new : WorldView) (result : Result (List Repor
   pub frames : new.frames ≡ old.frames
   pub spent : new.spent ≡ old.spent
   pub up : OnOk result (new.down ≡ None)
-  pub failed : IsErrOf result fault.Disk → new.down ≡ Some b
-  pub kept : (e : WorldFault) → result ≡ Err e → new.brokers ≡ old.brokers
-  pub down : IsErrOf result fault.Memory → new.down ≡ old.down
-  pub damaged : (p at : ℕ) → IsErrOf result (fault.Damaged p at) → new.down ≡ old.down
+  pub failed : IsErrOf result fault.Disk → new ≡ with_down old b
+  pub refused : IsErrOf result fault.Memory → new ≡ old
   pub elsewhere : (p : ℕ) → p < length old.topo.publishers → host_of old.topo p ≢ b → log_at new p ≡ log_at old p
   pub sound : OnOk result (IsSoundBut b old → IsSound new)
-
--- a start's answer: a fault of memory, of the disk, or of what a lane holds
-abbrev pub IsOpening : Result (List Report) WorldFault → Type 0
-IsOpening (Ok lines) = Unit {0}
-IsOpening (Err fault.Memory) = Unit {0}
-IsOpening (Err fault.Disk) = Unit {0}
-IsOpening (Err (fault.Damaged p at)) = Unit {0}
-IsOpening (Err _) = ⊥

@@ -1,6 +1,5 @@
 -- One broker's call or several within a step: what they leave beside the machine's equation
-use Rattle.std.specs.Prelude.{◌≡◌, ◌≢◌, ℕ, true, false, List, ◌++◌, Option, None, Result, Err}
-use Rattle.gr_out.specs.Stops.{StaysFaultless}
+use Rattle.std.specs.Prelude.{◌≡◌, true, false, ℕ, List, ◌++◌, Option, None, Result, Err}
 use Rattle.gr_model.specs.declared.report.Report.{Report}
 use Rattle.gr_world.specs.declared.fault.WorldFault.{WorldFault}
 use Rattle.gr_world.specs.declared.fault.WorldFault.TheVariants as fault
@@ -9,7 +8,7 @@ use Rattle.gr_broker.specs.declared.outcome.BrokerFault.TheVariants as refused
 use Rattle.gr_world.specs.Seen.{WorldView}
 use Rattle.gr_world.specs.Of.{IsWorld}
 use Rattle.gr_world.specs.Steps.{IsCarried}
-use Rattle.gr_world.specs.Disk.{Counts, StaysSound}
+use Rattle.gr_world.specs.Disk.{StaysSound}
 
 -- no broker is down, and memory was not refused
 pub record IsOpen (w : WorldView) : Type 0 where
@@ -32,13 +31,6 @@ pub record Ran (old new : WorldView) (result : Result (List Report) WorldFault) 
   pub keeps : Keeps old new
   pub carried : IsCarried result
   pub sound : StaysSound old new result
-
--- what they do to the disk, given whether it tells what it holds. A faultless disk never fails them
-pub record RanOn (tells faultless faultless' : Type 0) (faults stops faults' stops' : ℕ)
-    (result : Result (List Report) WorldFault) : Type 0 where
-  pub counts : Counts faults stops faults' stops' result
-  pub faultless_stays : StaysFaultless faultless faultless' faults faults'
-  pub never_fails : tells → faultless → result ≢ Err fault.Disk
 
 -- a broker's fault as one of the world
 abbrev pub fault_in : BrokerFault → WorldFault

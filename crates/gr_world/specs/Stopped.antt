@@ -1,5 +1,5 @@
 -- A publish that stops within: the append that is broken, and the host's start over what is left
-use Rattle.std.specs.Prelude.{◌≡◌, ◌≢◌, ℕ, suc, max, Bool, false, ◌&&◌, nat_eq, nat_le, if◌then◌else◌, List, ◌∷◌, get_or, Option, Some, None, Result, Ok, Err, OnOk}
+use Rattle.std.specs.Prelude.{◌≡◌, ◌≢◌, ◌⊎◌, ℕ, suc, max, Bool, false, ◌&&◌, nat_eq, nat_le, if◌then◌else◌, List, ◌∷◌, get_or, Option, Some, None, Result, Ok, Err, IsErrOf, OnOk}
 use Rattle.gr_event.specs.declared.event.Event.{Event}
 use Rattle.gr_out.specs.Lane.{Lane, crash_image}
 use Rattle.gr_publog.specs.declared.record.Record.TheVariants as entry
@@ -18,7 +18,7 @@ use Rattle.gr_world.specs.declared.fault.WorldFault.{WorldFault}
 use Rattle.gr_world.specs.declared.fault.WorldFault.TheVariants as fault
 use Rattle.gr_world.specs.Seen.{WorldView, broker_in, log_at}
 use Rattle.gr_world.specs.Of.{IsWorld, IsReadable, IsSound}
-use Rattle.gr_world.specs.Opened.{with_logs, IsSoundBut}
+use Rattle.gr_world.specs.Opened.{with_logs, with_down, IsSoundBut}
 use Rattle.gr_world.specs.Steps.{Stays, IsCarried, NotMemory}
 use Rattle.gr_world.specs.Disk.{StaysSound}
 use Rattle.gr_world.specs.Taking.{put_in}
@@ -45,6 +45,10 @@ lines_in (Err e) = Err e
 -- the world whose broker has a log that the disk failed
 abbrev pub broken_in : WorldView → ℕ → ℕ → WorldView
 broken_in w b p = put_in w b (broken_at (broker_in w b) p) w.frames
+
+-- what a stopped publish leaves where the disk fails: the log is broken, and where the opening failed the host is down
+abbrev pub BreaksStopped : ℕ → ℕ → WorldView → WorldView → Type 0
+BreaksStopped b p old new = (new ≡ broken_in old b p) ⊎ (new ≡ with_down (broken_in old b p) b)
 
 -- What a stop leaves of the lane of a publisher, whose event was to be logged at a tick: the call and the pick tell
 -- whether the image that a crash leaves has its record
@@ -82,9 +86,5 @@ pub record StopRestarts (b : ℕ) (old new : WorldView) (result : Result (List R
   pub spent : new.spent ≡ old.spent
   pub carried : IsCarried result
   pub sound : OnOk result (IsSoundBut b old → IsSound new)
+  pub failed : IsErrOf result fault.Disk → new ≡ with_down old b
   pub never_reopen : result ≢ Err fault.Reopen
-
--- the fault of that start: a lane that holds no log was not kept by its disk
-abbrev pub start_fault : WorldFault → WorldFault
-start_fault (fault.Damaged p at) = fault.Disk
-start_fault e = e

@@ -1,12 +1,15 @@
 //! One broker's call within a step, taken up by the world.
 
-ghost use Rattle.std.specs.Prelude.{◌≡◌, ℕ, ◌<◌, suc, length, Some, Err};
+ghost use Rattle.std.specs.Prelude.{◌≡◌, ◌↔◌, ℕ, ◌<◌, suc, length, Some, Err, IsErrOf};
 ghost use Rattle.gr_frame.specs.declared.Frame.{Frame};
+ghost use Rattle.gr_topo.specs.Topology.{host_of};
 ghost use Rattle.gr_model.specs.World.{wake_for, deliver_frame, publish_now, frame_at};
 ghost use Rattle.gr_world.specs.Seen.{net_in, world_of, log_at};
 ghost use Rattle.gr_world.specs.Of.{IsWorld, LanesFit};
 ghost use Rattle.gr_world.specs.Steps.{Does};
-ghost use Rattle.gr_world.specs.Ran.{IsOpen, Ran, RanOn};
+ghost use Rattle.gr_world.specs.Ran.{IsOpen, Ran};
+ghost use Rattle.gr_world.specs.Disk.{UsesDisk, IsBarred};
+ghost use Rattle.gr_world.specs.Stopped.{broken_in};
 
 use crate::fault::WorldFault;
 use crate::sending::{receiver, take_answer, take_receipt};
@@ -29,12 +32,15 @@ impl World {
         requires fits { IsWorld self.old }
         requires publisher { p < length self.old.topo.publishers }
         requires open { IsOpen self.old }
-        requires lanes { D.tells → LanesFit (D.lane_of disk.old) self.old }
+        requires lanes { LanesFit (D.lane_of disk.old) self.old }
         ensures does { Does (publish_now (net_in self.old) (world_of self.old) p number event.now) self.new result }
         ensures ran { Ran self.old self.new result }
-        ensures disk { RanOn D.tells (D.faultless disk.old) (D.faultless disk.new) (D.faults disk.old)
+        ensures reopen { IsErrOf result WorldFault.Reopen ↔ IsBarred self.old p number event.now }
+        ensures unchanged { IsErrOf result WorldFault.Reopen → (self.new ≡ self.old) × (disk.new ≡ disk.old) }
+        ensures failed { IsErrOf result WorldFault.Disk → self.new ≡ broken_in self.old (host_of self.old.topo p) p }
+        ensures disk { UsesDisk (D.faultless disk.old) (D.faultless disk.new) (D.faults disk.old)
             (D.stops disk.old) (D.faults disk.new) (D.stops disk.new) result }
-        ensures lanes { D.tells → LanesFit (D.lane_of disk.new) self.new }
+        ensures lanes { LanesFit (D.lane_of disk.new) self.new }
     {
         // Proof only: what is sent goes over edges.
         every_topology_is_a_tree(&self.topology);
@@ -77,12 +83,12 @@ impl World {
         requires broker { b < length self.old.topo.brokers }
         requires publisher { p < length self.old.topo.publishers }
         requires open { IsOpen self.old }
-        requires lanes { D.tells → LanesFit (D.lane_of disk.old) self.old }
+        requires lanes { LanesFit (D.lane_of disk.old) self.old }
         ensures does { Does (wake_for (net_in self.old) (world_of self.old) b p) self.new result }
         ensures ran { Ran self.old self.new result }
-        ensures disk { RanOn D.tells (D.faultless disk.old) (D.faultless disk.new) (D.faults disk.old)
+        ensures disk { UsesDisk (D.faultless disk.old) (D.faultless disk.new) (D.faults disk.old)
             (D.stops disk.old) (D.faults disk.new) (D.stops disk.new) result }
-        ensures lanes { D.tells → LanesFit (D.lane_of disk.new) self.new }
+        ensures lanes { LanesFit (D.lane_of disk.new) self.new }
     {
         // Proof only: what is sent goes over edges.
         every_topology_is_a_tree(&self.topology);

@@ -1,6 +1,6 @@
 //! A world is opened over a disk, and a broker crashes and starts again.
 
-ghost use Rattle.std.specs.Prelude.{◌≡◌, ◌≢◌, ◌⊎◌, ℕ, ◌*◌, ◌<◌, true, false, [], ◌∷◌, length, Some, None, Err, IfOk, OnOk};
+ghost use Rattle.std.specs.Prelude.{◌≡◌, ◌≢◌, ◌⊎◌, ℕ, ◌*◌, ◌<◌, true, false, [], ◌∷◌, length, Some, None, Err, IsErrOf, IsSome, IfOk, OnOk};
 ghost use Rattle.gr_out.specs.Lane.{content, crash_image};
 ghost use Rattle.gr_out.specs.Stops.{StaysFaultless};
 ghost use Rattle.gr_sched.specs.declared.step.Step.TheVariants as step;
@@ -12,9 +12,9 @@ ghost use Rattle.gr_broker.specs.Opened.{IsDamagedAt};
 ghost use Rattle.gr_world.specs.Seen.{net_in, world_of, log_at};
 ghost use Rattle.gr_publog.specs.Crash.{LogView};
 ghost use Rattle.gr_world.specs.Of.{IsWorld, LaneFits, IsReadable, LanesFit, IsSound};
-ghost use Rattle.gr_world.specs.Opened.{NoStops, AreEmpty, IsRead, IsOpened, IsSoundBut, IsOpening, Restarts, restart_over};
+ghost use Rattle.gr_world.specs.Opened.{NoStops, AreEmpty, IsRead, IsOpened, IsSoundBut, Restarts, restart_over, with_down};
 ghost use Rattle.gr_world.specs.Steps.{Makes, Refuses, Spends, Stays, Does, IsCarried, refused_at};
-ghost use Rattle.gr_world.specs.Disk.{Counts, StaysSound, NotDisk};
+ghost use Rattle.gr_world.specs.Disk.{Counts, StaysSound, NotDisk, UsesDisk};
 
 use crate::fault::{Memory, WorldFault, world_fault};
 use crate::order::hosts_subscriber;
@@ -41,7 +41,7 @@ fn down_after(down: Option<u16>, b: u16, fault: BrokerFault) -> Option<u16>
 /// Whether a broker may crash: no other one is down.
 fn may_crash(down: Option<u16>, b: u16) -> bool
     ensures may { result ≡ true → (down ≡ None) ⊎ (down ≡ Some b) }
-    ensures other { result ≡ false → down ≢ None }
+    ensures other { result ≡ false → (c : ℕ) × ((down ≡ Some c) × (c ≢ b)) }
 {
     match down {
         None => true,
@@ -72,12 +72,12 @@ impl World {
         ensures opened { IfOk result (IsOpened topology) }
         ensures fits { IfOk result IsWorld }
         // The logs are those that the lanes hold
-        ensures found { D.tells → IfOk result (λ w. (p : ℕ) → p < length topology.publishers
+        ensures found { IfOk result (λ w. (p : ℕ) → p < length topology.publishers
             → IsRead (log_at w p) (content (D.lane_of disk.old (2 * p)))) }
         // Over empty lanes it is the machine's world before the first step, and nothing is told
-        ensures fresh { D.tells → AreEmpty topology (D.lane_of disk.old)
+        ensures fresh { AreEmpty topology (D.lane_of disk.old)
             → IfOk result (λ w. (world_of w ≡ start (net_of topology)) × (w.told ≡ [])) }
-        ensures damaged { D.tells → (p at : ℕ) → result ≡ Err (WorldFault.Damaged p at)
+        ensures damaged { (p at : ℕ) → result ≡ Err (WorldFault.Damaged p at)
             → IsDamagedAt topology (host_of topology p) p at (D.lane_of disk.old) }
         ensures never_reopen { result ≢ Err WorldFault.Reopen }
         ensures carried { (b s at : ℕ) → (result ≢ Err (WorldFault.HostsSubscriber b))
@@ -85,9 +85,9 @@ impl World {
         ensures counts { Counts (D.faults disk.old) (D.stops disk.old) (D.faults disk.new) (D.stops disk.new) result }
         ensures faultless { StaysFaultless (D.faultless disk.old) (D.faultless disk.new)
             (D.faults disk.old) (D.faults disk.new) }
-        ensures never_fails { D.tells → NoStops (D.lane_of disk.old) → D.faultless disk.old
+        ensures never_fails { NoStops (D.lane_of disk.old) → D.faultless disk.old
             → result ≢ Err WorldFault.Disk }
-        ensures lanes { D.tells → NoStops (D.lane_of disk.old) → IfOk result (λ w. LanesFit (D.lane_of disk.new) w) }
+        ensures lanes { NoStops (D.lane_of disk.old) → IfOk result (λ w. LanesFit (D.lane_of disk.new) w) }
     {
         let opened = match start_brokers(alloc, &topology, disk) {
             Ok(opened) => opened,
@@ -118,25 +118,24 @@ impl World {
         requires no_subscriber { not_empty (subscribers_of self.old.topo b) ≡ false }
         requires unspent { self.old.spent ≡ false }
         requires down { (self.old.down ≡ None) ⊎ (self.old.down ≡ Some b) }
-        requires readable { D.tells → (p : ℕ) → p < length self.old.topo.publishers
+        requires readable { (p : ℕ) → p < length self.old.topo.publishers
             → IsReadable (D.lane_of disk.old (2 * p)) }
-        requires others { D.tells → (p : ℕ) (l : LogView) → p < length self.old.topo.publishers
+        requires others { (p : ℕ) (l : LogView) → p < length self.old.topo.publishers
             → host_of self.old.topo p ≢ b → log_at self.old p ≡ Some l → LaneFits l (D.lane_of disk.old (2 * p)) }
         ensures does { Does (let w : MachineWorld = world_of self.new in
             restart_over (net_in self.old) (world_of self.old) b w.logs) self.new result }
         ensures restarts { Restarts b self.old self.new result }
         // The logs of the broker are those that the crash left
-        ensures found { D.tells → OnOk result ((p : ℕ) → p < length self.old.topo.publishers
+        ensures found { OnOk result ((p : ℕ) → p < length self.old.topo.publishers
             → host_of self.old.topo p ≡ b → IsRead (log_at self.new p) (crash_image (D.lane_of disk.old (2 * p)))) }
         ensures fits { IsWorld self.new }
-        ensures faults { (e : WorldFault) → result ≡ Err e → D.tells → (e ≡ WorldFault.Memory) ⊎ (e ≡ WorldFault.Disk) }
-        ensures carried { IsOpening result }
+        ensures faults { (e : WorldFault) → result ≡ Err e → (e ≡ WorldFault.Memory) ⊎ (e ≡ WorldFault.Disk) }
         ensures counts { Counts (D.faults disk.old) (D.stops disk.old) (D.faults disk.new) (D.stops disk.new) result }
         ensures faultless { StaysFaultless (D.faultless disk.old) (D.faultless disk.new)
             (D.faults disk.old) (D.faults disk.new) }
-        ensures never_fails { D.tells → D.faultless disk.old → result ≢ Err WorldFault.Disk }
+        ensures never_fails { D.faultless disk.old → result ≢ Err WorldFault.Disk }
         // but after want of memory, when no call uses the lanes any more
-        ensures lanes { D.tells → (result ≢ Err WorldFault.Memory) → LanesFit (D.lane_of disk.new) self.new }
+        ensures lanes { (result ≢ Err WorldFault.Memory) → LanesFit (D.lane_of disk.new) self.new }
     {
         match start_again(self.alloc, &self.topology, &mut self.brokers, disk, b) {
             Ok(lines) => {
@@ -157,8 +156,8 @@ impl World {
         requires no_subscriber { not_empty (subscribers_of self.old.topo b) ≡ false }
         requires unspent { self.old.spent ≡ false }
         requires down { (self.old.down ≡ None) ⊎ (self.old.down ≡ Some b) }
-        requires lanes { D.tells → LanesFit (D.lane_of disk.old) self.old }
-        ensures does { D.tells → IsSound self.old
+        requires lanes { LanesFit (D.lane_of disk.old) self.old }
+        ensures does { IsSound self.old
             → Does (crash (net_in self.old) (world_of self.old) b) self.new result }
         ensures stays { Stays self.old self.new }
         ensures unspent { self.new.spent ≡ false }
@@ -166,13 +165,14 @@ impl World {
         ensures restarts { OnOk result (IsSoundBut b self.old → IsSound self.new) }
         ensures sound { IsSound self.old → NotDisk result → IsSound self.new }
         ensures fits { IsWorld self.new }
-        ensures faults { D.tells → IsCarried result }
-        ensures carried { IsOpening result }
+        ensures failed { IsErrOf result WorldFault.Disk → self.new ≡ with_down self.old b }
+        ensures carried { IsCarried result }
+        ensures never_reopen { result ≢ Err WorldFault.Reopen }
         ensures counts { Counts (D.faults disk.old) (D.stops disk.old) (D.faults disk.new) (D.stops disk.new) result }
         ensures faultless { StaysFaultless (D.faultless disk.old) (D.faultless disk.new)
             (D.faults disk.old) (D.faults disk.new) }
-        ensures never_fails { D.tells → D.faultless disk.old → result ≢ Err WorldFault.Disk }
-        ensures lanes { D.tells → (result ≢ Err WorldFault.Memory) → LanesFit (D.lane_of disk.new) self.new }
+        ensures never_fails { D.faultless disk.old → result ≢ Err WorldFault.Disk }
+        ensures lanes { (result ≢ Err WorldFault.Memory) → LanesFit (D.lane_of disk.new) self.new }
     {
         let opened = match self.restart(disk, b) {
             Ok(opened) => opened,
@@ -193,23 +193,27 @@ impl World {
     pub fn crash<D: SimDisk>(&mut self, disk: &mut D, b: u16) -> Result<Reports, WorldFault>
         requires fits { IsWorld self.old }
         requires broker { b < length self.old.topo.brokers }
-        requires lanes { D.tells → LanesFit (D.lane_of disk.old) self.old }
+        requires lanes { LanesFit (D.lane_of disk.old) self.old }
         // Where the disk has failed no log, it is the machine's crash
-        ensures makes { D.tells → IsSound self.old → Makes (step.Crash b) self.old self.new result }
-        ensures refused { D.tells → Refuses (step.Crash b) self.old self.new result }
+        ensures makes { IsSound self.old → Makes (step.Crash b) self.old self.new result }
+        ensures refused { Refuses (step.Crash b) self.old self.new result }
         ensures memory { Spends self.old self.new result }
         ensures closed { self.old.spent ≡ false → refused_at self.old (step.Crash b) ≡ None
-            → (c : ℕ) → self.old.down ≡ Some c → c ≢ b → result ≡ Err WorldFault.Reopen }
+            → (c : ℕ) → self.old.down ≡ Some c → c ≢ b → IsErrOf result WorldFault.Reopen }
+        // `Reopen` only where another broker is down; nothing has changed then
+        ensures reopen { IsErrOf result WorldFault.Reopen → (c : ℕ) × ((self.old.down ≡ Some c) × (c ≢ b)) }
+        ensures unchanged { IsErrOf result WorldFault.Reopen → (self.new ≡ self.old) × (disk.new ≡ disk.old) }
+        // Where the disk fails, the broker is down and all else stands
+        ensures failed { IsErrOf result WorldFault.Disk → self.new ≡ with_down self.old b }
         ensures up { OnOk result (self.new.down ≡ None) }
         ensures restarts { OnOk result (IsSoundBut b self.old → IsSound self.new) }
         ensures stays { Stays self.old self.new }
         ensures fits { IsWorld self.new }
         ensures sound { StaysSound self.old self.new result }
-        ensures counts { Counts (D.faults disk.old) (D.stops disk.old) (D.faults disk.new) (D.stops disk.new) result }
-        ensures faultless { StaysFaultless (D.faultless disk.old) (D.faultless disk.new)
-            (D.faults disk.old) (D.faults disk.new) }
-        ensures never_fails { D.tells → D.faultless disk.old → result ≢ Err WorldFault.Disk }
-        ensures lanes { D.tells → LanesFit (D.lane_of disk.new) self.new }
+        ensures disk { UsesDisk (D.faultless disk.old) (D.faultless disk.new) (D.faults disk.old)
+            (D.stops disk.old) (D.faults disk.new) (D.stops disk.new) result }
+        ensures idle { (self.old.spent ≡ true) ⊎ IsSome (refused_at self.old (step.Crash b)) → disk.new ≡ disk.old }
+        ensures lanes { LanesFit (D.lane_of disk.new) self.new }
     {
         if self.spent {
             return Err(WorldFault::Memory);

@@ -30,17 +30,17 @@ pub(crate) fn start_brokers<D: SimDisk>(
     disk: &mut D,
 ) -> Result<Opening, BrokerFault>
     ensures started { IfOk result (λ o. HaveStarted topology.now (length topology.now.brokers) o.brokers.items o.told) }
-    ensures opened { D.tells → IfOk result (λ o. HaveOpened topology.now (length topology.now.brokers) o.brokers.items
+    ensures opened { IfOk result (λ o. HaveOpened topology.now (length topology.now.brokers) o.brokers.items
         (D.lane_of disk.old) (D.lane_of disk.new)) }
     ensures topology { IsTopology topology.now }
-    ensures damaged { D.tells → (p at : ℕ) → result ≡ Err (BrokerFault.Damaged p at)
+    ensures damaged { (p at : ℕ) → result ≡ Err (BrokerFault.Damaged p at)
         → IsDamagedAt topology.now (host_of topology.now p) p at (D.lane_of disk.old) }
     ensures never_reopen { result ≢ Err BrokerFault.Reopen }
     ensures tally { let f = D.faults disk.old in let s = D.stops disk.old in
         Tally f s (D.faults disk.new) (D.stops disk.new) (log_answer result) }
     ensures faultless { StaysFaultless (D.faultless disk.old) (D.faultless disk.new)
         (D.faults disk.old) (D.faults disk.new) }
-    ensures never_fails { D.tells → NoStops (D.lane_of disk.old) → D.faultless disk.old
+    ensures never_fails { NoStops (D.lane_of disk.old) → D.faultless disk.old
         → result ≢ Err BrokerFault.Disk }
 {
     let mut brokers = Vec::new(alloc);
@@ -65,10 +65,10 @@ pub(crate) fn start_brokers<D: SimDisk>(
 /// Crashes the lane of a publisher, where it is at a broker.
 fn crash_lane<D: SimDisk>(topology: &Topology, disk: &mut D, b: u16, p: u16)
     requires { p < length topology.now.publishers }
-    ensures here { D.tells → host_of topology.now p ≡ b
+    ensures here { host_of topology.now p ≡ b
         → D.lane_of disk.new (2 * p) ≡ crashed (D.lane_of disk.old (2 * p)) }
     ensures elsewhere { host_of topology.now p ≢ b → disk.new ≡ disk.old }
-    ensures others { D.tells → (n : ℕ) → n ≢ 2 * p → D.lane_of disk.new n ≡ D.lane_of disk.old n }
+    ensures others { (n : ℕ) → n ≢ 2 * p → D.lane_of disk.new n ≡ D.lane_of disk.old n }
     ensures faults { D.faults disk.new ≡ D.faults disk.old }
     ensures stops { D.stops disk.new ≡ D.stops disk.old }
     ensures faultless { StaysFaultless (D.faultless disk.old) (D.faultless disk.new)
@@ -82,7 +82,7 @@ fn crash_lane<D: SimDisk>(topology: &Topology, disk: &mut D, b: u16, p: u16)
 
 /// Crashes the lanes of a broker's publishers.
 fn crash_lanes<D: SimDisk>(topology: &Topology, disk: &mut D, b: u16)
-    ensures crashes { D.tells → CrashesLanes topology.now b (length topology.now.publishers)
+    ensures crashes { CrashesLanes topology.now b (length topology.now.publishers)
         (D.lane_of disk.old) (D.lane_of disk.new) }
     ensures faults { D.faults disk.new ≡ D.faults disk.old }
     ensures stops { D.stops disk.new ≡ D.stops disk.old }
@@ -107,16 +107,16 @@ pub(crate) fn start_again<D: SimDisk>(
     requires count { length brokers.old.items ≡ length topology.now.brokers }
     ensures exchanged { IfOk result (λ lines. IsExchanged topology.now b brokers.old.items brokers.new.items lines) }
     ensures kept { OnErr result (brokers.new.items ≡ brokers.old.items) }
-    ensures opened { D.tells → OnOk result (OpensAgain b brokers.new.items (D.lane_of disk.old) (D.lane_of disk.new)) }
-    ensures touches { D.tells → TouchesLanes topology.now b (D.lane_of disk.old) (D.lane_of disk.new) }
-    ensures damaged { D.tells → (p at : ℕ) → result ≡ Err (BrokerFault.Damaged p at)
+    ensures opened { OnOk result (OpensAgain b brokers.new.items (D.lane_of disk.old) (D.lane_of disk.new)) }
+    ensures touches { TouchesLanes topology.now b (D.lane_of disk.old) (D.lane_of disk.new) }
+    ensures damaged { (p at : ℕ) → result ≡ Err (BrokerFault.Damaged p at)
         → LeavesNoLog topology.now b p at (D.lane_of disk.old (2 * p)) }
     ensures never_reopen { result ≢ Err BrokerFault.Reopen }
     ensures tally { let f = D.faults disk.old in let s = D.stops disk.old in
         Tally f s (D.faults disk.new) (D.stops disk.new) (log_answer result) }
     ensures faultless { StaysFaultless (D.faultless disk.old) (D.faultless disk.new)
         (D.faults disk.old) (D.faults disk.new) }
-    ensures never_fails { D.tells → D.faultless disk.old → result ≢ Err BrokerFault.Disk }
+    ensures never_fails { D.faultless disk.old → result ≢ Err BrokerFault.Disk }
 {
     crash_lanes(topology, disk, b);
     let started = match Broker::start(alloc, topology, b, disk) {

@@ -1,15 +1,16 @@
 //! The steps that call brokers and leave the disk's stops alone.
 
-ghost use Rattle.std.specs.Prelude.{◌≡◌, ◌≢◌, ℕ, ◌<◌, suc, false, length, Some, None, Err, IsSome, IfSome, IfNone};
+ghost use Rattle.std.specs.Prelude.{◌≡◌, ◌≢◌, ◌⊎◌, ◌↔◌, ℕ, ◌<◌, suc, false, length, Some, None, Err, IsErrOf, IsSome, IfSome, IfNone};
 ghost use Rattle.gr_out.specs.Lane.{Lane};
-ghost use Rattle.gr_out.specs.Stops.{StaysFaultless};
 ghost use Rattle.gr_sched.specs.declared.step.Step.TheVariants as step;
+ghost use Rattle.gr_topo.specs.Topology.{host_of};
 ghost use Rattle.gr_model.specs.World.{wake_all, frame_at};
 ghost use Rattle.gr_world.specs.Seen.{net_in, world_of};
 ghost use Rattle.gr_world.specs.Of.{IsWorld, LanesFit};
-ghost use Rattle.gr_world.specs.Ran.{IsOpen, Ran, RanOn};
+ghost use Rattle.gr_world.specs.Ran.{IsOpen, Ran};
 ghost use Rattle.gr_world.specs.Steps.{Makes, Does, Refuses, Spends, Stays, refused_at};
-ghost use Rattle.gr_world.specs.Disk.{Counts, StaysSound, IsClosed};
+ghost use Rattle.gr_world.specs.Stopped.{broken_in};
+ghost use Rattle.gr_world.specs.Disk.{StaysSound, IsClosed, IsBarred, IsIdle, UsesDisk};
 
 use crate::fault::WorldFault;
 use crate::world::World;
@@ -31,19 +32,24 @@ impl World {
     ) -> Result<Reports, WorldFault>
         requires fits { IsWorld self.old }
         requires publisher { p < length self.old.topo.publishers }
-        requires lanes { D.tells → LanesFit (D.lane_of disk.old) self.old }
+        requires lanes { LanesFit (D.lane_of disk.old) self.old }
         ensures makes { Makes (step.Publish p number None event.now) self.old self.new result }
         ensures refused { Refuses (step.Publish p number None event.now) self.old self.new result }
         ensures memory { Spends self.old self.new result }
-        ensures closed { self.old.spent ≡ false → IsClosed self.old result }
+        ensures closed { self.old.spent ≡ false → IsClosed self.old self.new result }
+        // `Reopen` exactly where a broker is down, or the disk has failed the log; nothing has changed then
+        ensures reopen { self.old.spent ≡ false → (IsErrOf result WorldFault.Reopen
+            ↔ (IsSome self.old.down ⊎ IsBarred self.old p number event.now)) }
+        ensures unchanged { IsErrOf result WorldFault.Reopen → (self.new ≡ self.old) × (disk.new ≡ disk.old) }
+        // Where the disk fails, the log is broken and all else stands
+        ensures failed { IsErrOf result WorldFault.Disk → self.new ≡ broken_in self.old (host_of self.old.topo p) p }
         ensures stays { Stays self.old self.new }
         ensures fits { IsWorld self.new }
         ensures sound { StaysSound self.old self.new result }
-        ensures counts { Counts (D.faults disk.old) (D.stops disk.old) (D.faults disk.new) (D.stops disk.new) result }
-        ensures faultless { StaysFaultless (D.faultless disk.old) (D.faultless disk.new)
-            (D.faults disk.old) (D.faults disk.new) }
-        ensures never_fails { D.tells → D.faultless disk.old → result ≢ Err WorldFault.Disk }
-        ensures lanes { D.tells → LanesFit (D.lane_of disk.new) self.new }
+        ensures disk { UsesDisk (D.faultless disk.old) (D.faultless disk.new) (D.faults disk.old)
+            (D.stops disk.old) (D.faults disk.new) (D.stops disk.new) result }
+        ensures idle { IsIdle self.old (step.Publish p number None event.now) → disk.new ≡ disk.old }
+        ensures lanes { LanesFit (D.lane_of disk.new) self.new }
     {
         if self.spent {
             return Err(WorldFault::Memory);
@@ -62,19 +68,18 @@ impl World {
     pub fn wake<D: SimDisk>(&mut self, disk: &mut D, b: u16) -> Result<Reports, WorldFault>
         requires fits { IsWorld self.old }
         requires broker { b < length self.old.topo.brokers }
-        requires lanes { D.tells → LanesFit (D.lane_of disk.old) self.old }
+        requires lanes { LanesFit (D.lane_of disk.old) self.old }
         ensures makes { Makes (step.Wake b) self.old self.new result }
         ensures refused { Refuses (step.Wake b) self.old self.new result }
         ensures memory { Spends self.old self.new result }
-        ensures closed { self.old.spent ≡ false → IsClosed self.old result }
+        ensures closed { self.old.spent ≡ false → IsClosed self.old self.new result }
         ensures stays { Stays self.old self.new }
         ensures fits { IsWorld self.new }
         ensures sound { StaysSound self.old self.new result }
-        ensures counts { Counts (D.faults disk.old) (D.stops disk.old) (D.faults disk.new) (D.stops disk.new) result }
-        ensures faultless { StaysFaultless (D.faultless disk.old) (D.faultless disk.new)
-            (D.faults disk.old) (D.faults disk.new) }
-        ensures never_fails { D.tells → D.faultless disk.old → result ≢ Err WorldFault.Disk }
-        ensures lanes { D.tells → LanesFit (D.lane_of disk.new) self.new }
+        ensures disk { UsesDisk (D.faultless disk.old) (D.faultless disk.new) (D.faults disk.old)
+            (D.stops disk.old) (D.faults disk.new) (D.stops disk.new) result }
+        ensures idle { IsIdle self.old (step.Wake b) → disk.new ≡ disk.old }
+        ensures lanes { LanesFit (D.lane_of disk.new) self.new }
     {
         if self.spent {
             return Err(WorldFault::Memory);
@@ -91,12 +96,12 @@ impl World {
         requires fits { IsWorld self.old }
         requires broker { b < length self.old.topo.brokers }
         requires open { IsOpen self.old }
-        requires lanes { D.tells → LanesFit (D.lane_of disk.old) self.old }
+        requires lanes { LanesFit (D.lane_of disk.old) self.old }
         ensures does { Does (wake_all (net_in self.old) (world_of self.old) b) self.new result }
         ensures ran { Ran self.old self.new result }
-        ensures disk { RanOn D.tells (D.faultless disk.old) (D.faultless disk.new)
+        ensures disk { UsesDisk (D.faultless disk.old) (D.faultless disk.new)
             (D.faults disk.old) (D.stops disk.old) (D.faults disk.new) (D.stops disk.new) result }
-        ensures lanes { D.tells → LanesFit (D.lane_of disk.new) self.new }
+        ensures lanes { LanesFit (D.lane_of disk.new) self.new }
     {
         let mut lines = Reports::new(self.alloc);
         'publishers: for p in 0..self.topology.publishers() {
@@ -132,7 +137,8 @@ impl World {
         ensures refused { Refuses (step.Deliver frame) self.old self.new result }
         ensures memory { Spends self.old self.new result }
         ensures closed { self.old.spent ≡ false → refused_at self.old (step.Deliver frame) ≡ None
-            → IsClosed self.old result }
+            → IsClosed self.old self.new result }
+        ensures reopen { IsErrOf result WorldFault.Reopen → IsSome self.old.down }
         ensures stays { Stays self.old self.new }
         ensures fits { IsWorld self.new }
         ensures sound { StaysSound self.old self.new result }

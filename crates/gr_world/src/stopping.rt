@@ -1,6 +1,6 @@
 //! A publish that stops inside.
 
-ghost use Rattle.std.specs.Prelude.{◌≡◌, ◌≢◌, ℕ, ◌*◌, ◌∷◌, ◌<◌, ◌≤◌, nat_eq, false, List, length, Some, None, Ok, Err, IsSome, IfOk, OnOk};
+ghost use Rattle.std.specs.Prelude.{◌≡◌, ◌≢◌, ◌⊎◌, ◌↔◌, ℕ, ◌*◌, ◌∷◌, ◌<◌, ◌≤◌, nat_eq, false, List, length, Some, None, Ok, Err, IsErrOf, IsSome, IfOk, OnOk};
 ghost use Rattle.gr_out.specs.Lane.{crash_image};
 ghost use Rattle.gr_out.specs.Stops.{StaysFaultless};
 ghost use Rattle.gr_sched.specs.declared.step.Step.TheVariants as step;
@@ -15,10 +15,10 @@ ghost use Rattle.gr_broker.specs.Seen.{log_said};
 ghost use Rattle.gr_world.specs.Seen.{net_in, world_of, log_at};
 ghost use Rattle.gr_world.specs.Of.{IsWorld, LaneFits, IsReadable, LanesFit, IsSound};
 ghost use Rattle.gr_world.specs.Opened.{IsRead};
-ghost use Rattle.gr_world.specs.Ran.{IsOpen, Ran, RanOn};
+ghost use Rattle.gr_world.specs.Ran.{IsOpen, Ran};
 ghost use Rattle.gr_world.specs.Steps.{Makes, Refuses, Spends, Stays, Does, IsCarried, NotMemory, refused_at};
-ghost use Rattle.gr_world.specs.Disk.{Counts, StaysSound, IsClosed};
-ghost use Rattle.gr_world.specs.Stopped.{tick_in, is_broken_by, lines_in, broken_in, IsStoppedAt, kept_line, stopped_over, StopRan, StopRestarts, start_fault};
+ghost use Rattle.gr_world.specs.Disk.{Counts, StaysSound, IsClosed, IsBarred, IsIdle, UsesDisk};
+ghost use Rattle.gr_world.specs.Stopped.{tick_in, is_broken_by, lines_in, broken_in, BreaksStopped, IsStoppedAt, kept_line, stopped_over, StopRan, StopRestarts};
 
 use crate::fault::{Memory, WorldFault};
 use crate::order::hosts_subscriber;
@@ -57,21 +57,6 @@ fn is_broken_by(answer: &Result<Outcome, BrokerFault>, stopped: bool) -> bool
     match answer {
         Err(BrokerFault::Disk) => stopped,
         _ => false,
-    }
-}
-
-/// The fault of a start after a stop. A lane that holds no log was not kept by its disk.
-fn start_fault(fault: WorldFault) -> WorldFault
-    ensures { result ≡ start_fault fault }
-{
-    match fault {
-        WorldFault::Damaged { .. } => WorldFault::Disk,
-        WorldFault::Memory => WorldFault::Memory,
-        WorldFault::Disk => WorldFault::Disk,
-        WorldFault::Reopen => WorldFault::Reopen,
-        WorldFault::HostsSubscriber { broker } => WorldFault::HostsSubscriber { broker },
-        WorldFault::NoFrame { sent } => WorldFault::NoFrame { sent },
-        WorldFault::ClockRange { at } => WorldFault::ClockRange { at },
     }
 }
 
@@ -126,22 +111,29 @@ impl World {
         requires publisher { p < length self.old.topo.publishers }
         requires first { 1 ≤ stop.now.call }
         requires last { stop.now.call ≤ 4 }
-        requires lanes { D.tells → LanesFit (D.lane_of disk.old) self.old }
-        ensures makes { D.tells → IsSound self.old
+        requires lanes { LanesFit (D.lane_of disk.old) self.old }
+        ensures makes { IsSound self.old
             → Makes (step.Publish p number (Some stop.now) event.now) self.old self.new result }
-        ensures refused { D.tells
-            → Refuses (step.Publish p number (Some stop.now) event.now) self.old self.new result }
+        ensures refused { Refuses (step.Publish p number (Some stop.now) event.now) self.old self.new result }
         ensures memory { Spends self.old self.new result }
         ensures closed { self.old.spent ≡ false
-            → refused_at self.old (step.Publish p number (Some stop.now) event.now) ≡ None → IsClosed self.old result }
+            → refused_at self.old (step.Publish p number (Some stop.now) event.now) ≡ None
+            → IsClosed self.old self.new result }
+        // `Reopen` exactly where a broker is down, or the disk has failed the log; nothing has changed then
+        ensures reopen { self.old.spent ≡ false
+            → refused_at self.old (step.Publish p number (Some stop.now) event.now) ≡ None
+            → (IsErrOf result WorldFault.Reopen ↔ (IsSome self.old.down ⊎ IsBarred self.old p number event.now)) }
+        ensures unchanged { IsErrOf result WorldFault.Reopen → self.new ≡ self.old }
+        // Where the disk fails the log is broken; where it fails the host's opening, the host is down besides
+        ensures failed { let host = host_of self.old.topo p in IsErrOf result WorldFault.Disk
+            → BreaksStopped host p self.old self.new }
         ensures stays { Stays self.old self.new }
         ensures fits { IsWorld self.new }
         ensures sound { NotMemory result → StaysSound self.old self.new result }
-        ensures counts { Counts (D.faults disk.old) (D.stops disk.old) (D.faults disk.new) (D.stops disk.new) result }
-        ensures faultless { StaysFaultless (D.faultless disk.old) (D.faultless disk.new)
-            (D.faults disk.old) (D.faults disk.new) }
-        ensures never_fails { D.tells → D.faultless disk.old → result ≢ Err WorldFault.Disk }
-        ensures lanes { D.tells → LanesFit (D.lane_of disk.new) self.new }
+        ensures disk { UsesDisk (D.faultless disk.old) (D.faultless disk.new) (D.faults disk.old)
+            (D.stops disk.old) (D.faults disk.new) (D.stops disk.new) result }
+        ensures idle { IsIdle self.old (step.Publish p number (Some stop.now) event.now) → disk.new ≡ disk.old }
+        ensures lanes { LanesFit (D.lane_of disk.new) self.new }
     {
         if self.spent {
             return Err(WorldFault::Memory);
@@ -175,15 +167,18 @@ impl World {
         requires open { IsOpen self.old }
         requires first { 1 ≤ stop.now.call }
         requires last { stop.now.call ≤ 4 }
-        requires lanes { D.tells → LanesFit (D.lane_of disk.old) self.old }
-        ensures does { D.tells → IsSound self.old → (n : ℕ)
+        requires lanes { LanesFit (D.lane_of disk.old) self.old }
+        ensures does { IsSound self.old → (n : ℕ)
             → Does (publish_stopped (net_in self.old) (world_of self.old) n p number stop.now event.now)
             self.new result }
         ensures ran { StopRan self.old self.new result }
-        ensures carried { D.tells → IsCarried result }
-        ensures disk { RanOn D.tells (D.faultless disk.old) (D.faultless disk.new) (D.faults disk.old)
+        ensures reopen { IsErrOf result WorldFault.Reopen ↔ IsBarred self.old p number event.now }
+        ensures unchanged { IsErrOf result WorldFault.Reopen → self.new ≡ self.old }
+        ensures failed { IsErrOf result WorldFault.Disk → BreaksStopped host p self.old self.new }
+        ensures carried { IsCarried result }
+        ensures disk { UsesDisk (D.faultless disk.old) (D.faultless disk.new) (D.faults disk.old)
             (D.stops disk.old) (D.faults disk.new) (D.stops disk.new) result }
-        ensures lanes { D.tells → result ≢ Err WorldFault.Memory → LanesFit (D.lane_of disk.new) self.new }
+        ensures lanes { result ≢ Err WorldFault.Memory → LanesFit (D.lane_of disk.new) self.new }
     {
         let log = self.log_here(host, p);
         let Some(tick) = tick_logged(log, number, self.clock) else {
@@ -215,21 +210,24 @@ impl World {
         requires next { IsSome (tick_in (log_said (log_at self.old p)) number self.old.clock) }
         requires first { 1 ≤ stop.now.call }
         requires last { stop.now.call ≤ 4 }
-        requires lanes { D.tells → LanesFit (D.lane_of disk.old) self.old }
+        requires lanes { LanesFit (D.lane_of disk.old) self.old }
         ensures ran { Ran self.old self.new (lines_in result) }
+        ensures reopen { IsErrOf (lines_in result) WorldFault.Reopen ↔ IsBarred self.old p number event.now }
+        ensures unchanged { IsErrOf (lines_in result) WorldFault.Reopen → self.new ≡ self.old }
+        ensures failed { IsErrOf (lines_in result) WorldFault.Disk → self.new ≡ broken_in self.old host p }
         // Where the stop broke it, all is as before but for the log, and the lane is left as the call and the pick tell
         ensures broken { result ≡ Ok None → self.new ≡ broken_in self.old host p }
-        ensures stopped { D.tells → result ≡ Ok None → (tick : ℕ)
+        ensures stopped { result ≡ Ok None → (tick : ℕ)
             → tick_in (log_said (log_at self.old p)) number self.old.clock ≡ Some tick
             → IsStoppedAt self.old p tick number event.now stop.now.call stop.now.pick (D.lane_of disk.new (2 * p)) }
-        ensures never_through { D.tells → (lines : List Report) → result ≢ Ok (Some lines) }
-        ensures others { D.tells → (n : ℕ) → n ≢ 2 * p → D.lane_of disk.new n ≡ D.lane_of disk.old n }
+        ensures never_through { (lines : List Report) → result ≢ Ok (Some lines) }
+        ensures others { (n : ℕ) → n ≢ 2 * p → D.lane_of disk.new n ≡ D.lane_of disk.old n }
         ensures counts { let f = D.faults disk.old in let s = D.stops disk.old in
             Counts f s (D.faults disk.new) (D.stops disk.new) (lines_in result) }
         ensures faultless { StaysFaultless (D.faultless disk.old) (D.faultless disk.new)
             (D.faults disk.old) (D.faults disk.new) }
-        ensures never_fails { D.tells → D.faultless disk.old → result ≢ Err WorldFault.Disk }
-        ensures lanes { D.tells → result ≢ Ok None → LanesFit (D.lane_of disk.new) self.new }
+        ensures never_fails { D.faultless disk.old → result ≢ Err WorldFault.Disk }
+        ensures lanes { result ≢ Ok None → LanesFit (D.lane_of disk.new) self.new }
     {
         // Proof only: what is sent goes over edges, and each publisher has a lane.
         every_topology_is_a_tree(&self.topology);
@@ -263,14 +261,14 @@ impl World {
         requires broker { host < length self.old.topo.brokers }
         requires no_subscriber { not_empty (subscribers_of self.old.topo host) ≡ false }
         requires open { IsOpen self.old }
-        requires readable { D.tells → (q : ℕ) → q < length self.old.topo.publishers
+        requires readable { (q : ℕ) → q < length self.old.topo.publishers
             → IsReadable (D.lane_of disk.old (2 * q)) }
-        requires others { D.tells → (q : ℕ) (l : LogView) → q < length self.old.topo.publishers
+        requires others { (q : ℕ) (l : LogView) → q < length self.old.topo.publishers
             → host_of self.old.topo q ≢ host → log_at self.old q ≡ Some l → LaneFits l (D.lane_of disk.old (2 * q)) }
         ensures does { let w : MachineWorld = world_of self.new in
             Does (stopped_over (net_in self.old) (world_of self.old) host p number tick w.logs) self.new result }
         ensures ran { StopRestarts host self.old self.new result }
-        ensures found { D.tells → OnOk result ((q : ℕ) → q < length self.old.topo.publishers
+        ensures found { OnOk result ((q : ℕ) → q < length self.old.topo.publishers
             → host_of self.old.topo q ≡ host → IsRead (log_at self.new q) (crash_image (D.lane_of disk.old (2 * q)))) }
         ensures elsewhere { OnOk result ((q : ℕ) → q < length self.old.topo.publishers
             → host_of self.old.topo q ≢ host → log_at self.new q ≡ log_at self.old q) }
@@ -278,12 +276,12 @@ impl World {
         ensures stops { D.stops disk.old ≤ D.stops disk.new }
         ensures faultless { StaysFaultless (D.faultless disk.old) (D.faultless disk.new)
             (D.faults disk.old) (D.faults disk.new) }
-        ensures never_fails { D.tells → D.faultless disk.old → result ≢ Err WorldFault.Disk }
-        ensures lanes { D.tells → result ≢ Err WorldFault.Memory → LanesFit (D.lane_of disk.new) self.new }
+        ensures never_fails { D.faultless disk.old → result ≢ Err WorldFault.Disk }
+        ensures lanes { result ≢ Err WorldFault.Memory → LanesFit (D.lane_of disk.new) self.new }
     {
         match self.restart(disk, host) {
             Ok(opened) => self.tell_stopped(host, p, number, tick, opened),
-            Err(fault) => Err(start_fault(fault)),
+            Err(fault) => Err(fault),
         }
     }
 

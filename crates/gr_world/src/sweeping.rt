@@ -1,15 +1,14 @@
 //! A sweep: the clock moves far ahead, and everything settles.
 
 ghost use Rattle.std.specs.Prelude.{◌≡◌, ◌≢◌, ◌^◌, ◌<◌, ◌≤◌, false, length, None, Err, IfOk};
-ghost use Rattle.gr_out.specs.Stops.{StaysFaultless};
 ghost use Rattle.gr_sched.specs.declared.step.Step.TheVariants as step;
 ghost use Rattle.gr_model.specs.Net.{numbers};
 ghost use Rattle.gr_model.specs.World.{inwards, outwards, wake_up, hand_down, in_turn, sweep_for, sweep_moment, log_of};
 ghost use Rattle.gr_world.specs.Seen.{net_in, world_of};
 ghost use Rattle.gr_world.specs.Of.{IsWorld, LanesFit};
 ghost use Rattle.gr_world.specs.Steps.{Makes, Refuses, Spends, Stays, Does, refused_at};
-ghost use Rattle.gr_world.specs.Ran.{IsOpen, Ran, RanOn};
-ghost use Rattle.gr_world.specs.Disk.{Counts, StaysSound, IsClosed};
+ghost use Rattle.gr_world.specs.Ran.{IsOpen, Ran};
+ghost use Rattle.gr_world.specs.Disk.{StaysSound, IsClosed, IsIdle, UsesDisk};
 ghost use Rattle.gr_world.specs.Sweeps.{AreBrokers, Delivers, at_moment, phases, swept};
 
 use crate::delivering::joined;
@@ -93,12 +92,12 @@ impl World {
         requires broker { b < length self.old.topo.brokers }
         requires publisher { p < length self.old.topo.publishers }
         requires open { IsOpen self.old }
-        requires lanes { D.tells → LanesFit (D.lane_of disk.old) self.old }
+        requires lanes { LanesFit (D.lane_of disk.old) self.old }
         ensures does { Does (wake_up (net_in self.old) p (world_of self.old) b) self.new result }
         ensures ran { Ran self.old self.new result }
-        ensures disk { RanOn D.tells (D.faultless disk.old) (D.faultless disk.new) (D.faults disk.old)
+        ensures disk { UsesDisk (D.faultless disk.old) (D.faultless disk.new) (D.faults disk.old)
             (D.stops disk.old) (D.faults disk.new) (D.stops disk.new) result }
-        ensures lanes { D.tells → LanesFit (D.lane_of disk.new) self.new }
+        ensures lanes { LanesFit (D.lane_of disk.new) self.new }
     {
         let before = self.sent();
         let lines = match self.wake_at(disk, b, p) {
@@ -120,12 +119,12 @@ impl World {
         requires brokers { AreBrokers self.old brokers.now }
         requires publisher { p < length self.old.topo.publishers }
         requires open { IsOpen self.old }
-        requires lanes { D.tells → LanesFit (D.lane_of disk.old) self.old }
+        requires lanes { LanesFit (D.lane_of disk.old) self.old }
         ensures does { Does (in_turn (wake_up (net_in self.old) p) brokers.now (world_of self.old)) self.new result }
         ensures ran { Ran self.old self.new result }
-        ensures disk { RanOn D.tells (D.faultless disk.old) (D.faultless disk.new) (D.faults disk.old)
+        ensures disk { UsesDisk (D.faultless disk.old) (D.faultless disk.new) (D.faults disk.old)
             (D.stops disk.old) (D.faults disk.new) (D.stops disk.new) result }
-        ensures lanes { D.tells → LanesFit (D.lane_of disk.new) self.new }
+        ensures lanes { LanesFit (D.lane_of disk.new) self.new }
     {
         let mut lines = self.no_lines();
         'brokers: for b in brokers {
@@ -172,12 +171,12 @@ impl World {
         requires brokers { AreBrokers self.old inwards.now }
         requires publisher { p < length self.old.topo.publishers }
         requires open { IsOpen self.old }
-        requires lanes { D.tells → LanesFit (D.lane_of disk.old) self.old }
+        requires lanes { LanesFit (D.lane_of disk.old) self.old }
         ensures does { Does (phases (net_in self.old) p inwards.now outwards.now (world_of self.old)) self.new result }
         ensures ran { Ran self.old self.new result }
-        ensures disk { RanOn D.tells (D.faultless disk.old) (D.faultless disk.new) (D.faults disk.old)
+        ensures disk { UsesDisk (D.faultless disk.old) (D.faultless disk.new) (D.faults disk.old)
             (D.stops disk.old) (D.faults disk.new) (D.stops disk.new) result }
-        ensures lanes { D.tells → LanesFit (D.lane_of disk.new) self.new }
+        ensures lanes { LanesFit (D.lane_of disk.new) self.new }
     {
         let first = self.sent();
         let woken = match self.wake_brokers(disk, p, inwards) {
@@ -198,12 +197,12 @@ impl World {
         requires fits { IsWorld self.old }
         requires publisher { p < length self.old.topo.publishers }
         requires open { IsOpen self.old }
-        requires lanes { D.tells → LanesFit (D.lane_of disk.old) self.old }
+        requires lanes { LanesFit (D.lane_of disk.old) self.old }
         ensures does { Does (sweep_for (net_in self.old) (world_of self.old) p) self.new result }
         ensures ran { Ran self.old self.new result }
-        ensures disk { RanOn D.tells (D.faultless disk.old) (D.faultless disk.new) (D.faults disk.old)
+        ensures disk { UsesDisk (D.faultless disk.old) (D.faultless disk.new) (D.faults disk.old)
             (D.stops disk.old) (D.faults disk.new) (D.stops disk.new) result }
-        ensures lanes { D.tells → LanesFit (D.lane_of disk.new) self.new }
+        ensures lanes { LanesFit (D.lane_of disk.new) self.new }
     {
         let inwards = match self.inwards(p) {
             Ok(inwards) => inwards,
@@ -220,13 +219,13 @@ impl World {
     fn sweep_publishers<D: SimDisk>(&mut self, disk: &mut D) -> Result<Reports, WorldFault>
         requires fits { IsWorld self.old }
         requires open { IsOpen self.old }
-        requires lanes { D.tells → LanesFit (D.lane_of disk.old) self.old }
+        requires lanes { LanesFit (D.lane_of disk.old) self.old }
         ensures does { let net = net_in self.old in
             Does (in_turn (sweep_for net) (numbers net.publishers) (world_of self.old)) self.new result }
         ensures ran { Ran self.old self.new result }
-        ensures disk { RanOn D.tells (D.faultless disk.old) (D.faultless disk.new) (D.faults disk.old)
+        ensures disk { UsesDisk (D.faultless disk.old) (D.faultless disk.new) (D.faults disk.old)
             (D.stops disk.old) (D.faults disk.new) (D.stops disk.new) result }
-        ensures lanes { D.tells → LanesFit (D.lane_of disk.new) self.new }
+        ensures lanes { LanesFit (D.lane_of disk.new) self.new }
     {
         let mut lines = self.no_lines();
         'publishers: for p in 0..self.publisher_count() {
@@ -243,12 +242,12 @@ impl World {
     fn sweep_all<D: SimDisk>(&mut self, disk: &mut D, moment: u64) -> Result<Reports, WorldFault>
         requires fits { IsWorld self.old }
         requires open { IsOpen self.old }
-        requires lanes { D.tells → LanesFit (D.lane_of disk.old) self.old }
+        requires lanes { LanesFit (D.lane_of disk.old) self.old }
         ensures does { Does (swept (net_in self.old) (world_of self.old) moment) self.new result }
         ensures ran { Ran self.old self.new result }
-        ensures disk { RanOn D.tells (D.faultless disk.old) (D.faultless disk.new) (D.faults disk.old)
+        ensures disk { UsesDisk (D.faultless disk.old) (D.faultless disk.new) (D.faults disk.old)
             (D.stops disk.old) (D.faults disk.new) (D.stops disk.new) result }
-        ensures lanes { D.tells → LanesFit (D.lane_of disk.new) self.new }
+        ensures lanes { LanesFit (D.lane_of disk.new) self.new }
     {
         let mut lines = match self.sweep_publishers(disk) {
             Ok(lines) => lines,
@@ -268,19 +267,18 @@ impl World {
     /// `Disk` and `Reopen` as in `wake`. What was done before stands then, and nothing of it is told.
     pub fn sweep<D: SimDisk>(&mut self, disk: &mut D) -> Result<Reports, WorldFault>
         requires fits { IsWorld self.old }
-        requires lanes { D.tells → LanesFit (D.lane_of disk.old) self.old }
+        requires lanes { LanesFit (D.lane_of disk.old) self.old }
         ensures makes { Makes step.Sweep self.old self.new result }
         ensures refused { Refuses step.Sweep self.old self.new result }
         ensures memory { Spends self.old self.new result }
-        ensures closed { self.old.spent ≡ false → refused_at self.old step.Sweep ≡ None → IsClosed self.old result }
+        ensures closed { self.old.spent ≡ false → refused_at self.old step.Sweep ≡ None → IsClosed self.old self.new result }
         ensures stays { Stays self.old self.new }
         ensures fits { IsWorld self.new }
         ensures sound { StaysSound self.old self.new result }
-        ensures counts { Counts (D.faults disk.old) (D.stops disk.old) (D.faults disk.new) (D.stops disk.new) result }
-        ensures faultless { StaysFaultless (D.faultless disk.old) (D.faultless disk.new)
-            (D.faults disk.old) (D.faults disk.new) }
-        ensures never_fails { D.tells → D.faultless disk.old → result ≢ Err WorldFault.Disk }
-        ensures lanes { D.tells → LanesFit (D.lane_of disk.new) self.new }
+        ensures disk { UsesDisk (D.faultless disk.old) (D.faultless disk.new) (D.faults disk.old)
+            (D.stops disk.old) (D.faults disk.new) (D.stops disk.new) result }
+        ensures idle { IsIdle self.old step.Sweep → disk.new ≡ disk.old }
+        ensures lanes { LanesFit (D.lane_of disk.new) self.new }
     {
         if self.spent {
             return Err(WorldFault::Memory);

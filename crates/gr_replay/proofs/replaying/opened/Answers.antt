@@ -1,4 +1,4 @@
-use Rattle.std.proofs.Common.{◌≡◌, Err}
+use Rattle.std.proofs.Common.{◌≡◌, Err, ap₂, ◌∙◌}
 use Rattle.gr_topo.specs.Topology.{host_of}
 use Rattle.gr_world.specs.declared.fault.WorldFault.TheVariants.{Damaged, HostsSubscriber, NoFrame, ClockRange}
 use Rattle.gr_replay.proofs.OpenedNamed.{named_here, empty_is_whole}
@@ -20,7 +20,14 @@ pub returns-in-Ok-clause-named : goal.returns-in-Ok-clause-named
 returns-in-Ok-clause-named g c = named_here c.args.topology c.in-Ok.world c.every_topology_is_a_tree.ensures.orderly c.in-Ok.ensures.opened
 
 pub returns-in-Damaged-clause-undamaged : goal.returns-in-Damaged-clause-undamaged
-returns-in-Damaged-clause-undamaged g c = λ t e.
+returns-in-Damaged-clause-undamaged g c = λ e.
     let fault : c.new.result ≡ Err (Damaged c.in-Damaged.publisher c.in-Damaged.at) = cc in
     empty_is_whole c.args.topology (g.D.Disk.lane_of c.args.disk.now) (host_of c.args.topology c.in-Damaged.publisher) c.in-Damaged.publisher c.in-Damaged.at e
-    (c.new.ensures.damaged t c.in-Damaged.publisher c.in-Damaged.at fault)
+    (c.new.ensures.damaged c.in-Damaged.publisher c.in-Damaged.at fault)
+
+pub returns-in-Damaged-clause-damaged : goal.returns-in-Damaged-clause-damaged
+returns-in-Damaged-clause-damaged g c = λ p at e.
+    let fault : c.new.result ≡ Err (Damaged c.in-Damaged.publisher c.in-Damaged.at) = cc in
+    let publisher : c.in-Damaged.publisher ≡ p = cc in
+    let place : c.in-Damaged.at ≡ at = cc in
+    c.new.ensures.damaged p at (fault ∙ ap₂ (λ q from. Err (Damaged q from)) publisher place)

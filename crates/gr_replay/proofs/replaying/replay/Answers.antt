@@ -1,50 +1,60 @@
-use Rattle.std.proofs.Common.{take, sym, ap, ◌∙◌, subst, refl}
+use Rattle.std.proofs.Common.{◌≡◌, Err, take, sym, ap, ◌∙◌, subst, refl}
+use Rattle.gr_out.specs.declared.fault.RunFault.TheVariants as run
 use Rattle.gr_out.specs.Bytes.{with_more}
 use Rattle.gr_model.specs.Text.{labels_of, report_text}
-use Rattle.gr_replay.specs.Replayed.{TakesFront}
+use Rattle.gr_out.specs.Page.{TakesFront}
 use Rattle.gr_replay.specs.Going.{text_from}
-use Rattle.gr_replay.proofs.Fronts.{with_more-nil, front-more, front-later, taken-later, on_fault, on_success}
+use Rattle.gr_out.proofs.Fronts.{with_more-nil, front-more, front-later, taken-later, on_fault, on_success}
 use Rattle.gr_replay.proofs.RunTexts.{whole_text, replayed_none}
 use Rattle.gr_replay.proofs.replaying.replay.Goals as goal
 
 pub returns-in-Err-clause-before : goal.returns-in-Err-clause-before
-returns-in-Err-clause-before g c = λ t f e.
+returns-in-Err-clause-before g c = λ f e.
     (0, sym (ap (with_more (g.K.Sink.taken c.args.sink.now)) (replayed_none c.args.topology) ∙ with_more-nil (g.K.Sink.taken c.args.sink.now)))
 
 pub returns-in-Err-first_page-clause-front : goal.returns-in-Err-first_page-clause-front
-returns-in-Err-first_page-clause-front g c = λ t f.
-    let fresh = c.in-Ok.ensures.fresh t f.0 in
+returns-in-Err-first_page-clause-front g c = λ f.
+    let fresh = c.in-Ok.ensures.fresh f in
     let labels = labels_of c.in-Ok.world.topo in
     let text = whole_text c.args.topology c.in-Ok.world (report_text labels c.in-Ok.world.told) c.args.steps.now c.args.steps.now (ap (report_text labels) fresh.1) refl c.in-Ok.ensures.topology fresh.0 in
     subst (TakesFront (g.K.Sink.taken c.args.sink.now) (g.K.Sink.taken c.first_page.new.sink)) text
     (front-more _ _ (report_text labels c.in-Ok.world.told) (text_from c.in-Ok.world c.args.steps.now) c.in-Err-first_page.ensures.front)
 
 pub returns-clause-report : goal.returns-clause-report
-returns-clause-report g c = λ t f.
-    let fresh = c.in-Ok.ensures.fresh t f.0 in
+returns-clause-report g c = λ f.
+    let fresh = c.in-Ok.ensures.fresh f in
     let labels = labels_of c.in-Ok.world.topo in
     let told = report_text labels c.in-Ok.world.told in
     let text = whole_text c.args.topology c.in-Ok.world told c.as_slice.result.now c.args.steps.now (ap (report_text labels) fresh.1) c.as_slice.ensures c.in-Ok.ensures.topology fresh.0 in
     on_success c.run.result
     (λ e. taken-later _ _ _ told (text_from c.in-Ok.world c.as_slice.result.now) c.in-Ok-first_page.page.held c.in-Ok-first_page.ensures.ok e ∙ ap (with_more (g.K.Sink.taken c.args.sink.now)) text)
-    (c.run.ensures.report t)
+    c.run.ensures.report
 
 pub returns-clause-front : goal.returns-clause-front
-returns-clause-front g c = λ t f.
-    let fresh = c.in-Ok.ensures.fresh t f.0 in
+returns-clause-front g c = λ f.
+    let fresh = c.in-Ok.ensures.fresh f in
     let labels = labels_of c.in-Ok.world.topo in
     let told = report_text labels c.in-Ok.world.told in
     let text = whole_text c.args.topology c.in-Ok.world told c.as_slice.result.now c.args.steps.now (ap (report_text labels) fresh.1) c.as_slice.ensures c.in-Ok.ensures.topology fresh.0 in
     on_fault c.run.result
     (λ h. subst (TakesFront (g.K.Sink.taken c.args.sink.now) (g.K.Sink.taken c.run.new.sink)) text
     (front-later _ _ _ told (text_from c.in-Ok.world c.as_slice.result.now) c.in-Ok-first_page.page.held c.in-Ok-first_page.ensures.ok h))
-    (c.run.ensures.front t)
+    c.run.ensures.front
 
 pub returns-clause-before : goal.returns-clause-before
-returns-clause-before g c = λ t f e.
-    let fresh = c.in-Ok.ensures.fresh t f.0 in
+returns-clause-before g c = λ f e.
+    let fresh = c.in-Ok.ensures.fresh f in
     let labels = labels_of c.in-Ok.world.topo in
     let told = report_text labels c.in-Ok.world.told in
-    let k = c.run.ensures.before t e in
+    let k = c.run.ensures.before e in
     let text = whole_text c.args.topology c.in-Ok.world told (take k.0 c.as_slice.result.now) (take k.0 c.args.steps.now) (ap (report_text labels) fresh.1) (ap (take k.0) c.as_slice.ensures) c.in-Ok.ensures.topology fresh.0 in
     (k.0, taken-later _ _ _ told (text_from c.in-Ok.world (take k.0 c.as_slice.result.now)) c.in-Ok-first_page.page.held c.in-Ok-first_page.ensures.ok k.1 ∙ ap (with_more (g.K.Sink.taken c.args.sink.now)) text)
+
+pub returns-in-Err-clause-damaged : goal.returns-in-Err-clause-damaged
+returns-in-Err-clause-damaged g c = λ p at e.
+    let same : c.in-Err.fault ≡ run.Damaged p at = cc in
+    c.in-Err.ensures.damaged p at (ap (λ f. Err f) same)
+
+pub returns-in-Err-first_page-clause-sink_same : goal.returns-in-Err-first_page-clause-sink_same
+returns-in-Err-first_page-clause-sink_same g c = λ other.
+    c.in-Err-first_page.ensures.same (λ e. let same : c.in-Err-first_page.fault ≡ run.Write = cc in other (ap (λ f. Err f) same))

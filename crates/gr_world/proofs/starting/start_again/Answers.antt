@@ -8,30 +8,30 @@ use Rattle.gr_world.proofs.Answering.{err_is, same_fault}
 use Rattle.gr_world.proofs.starting.start_again.Goals as goal
 
 pub returns-in-Err-clause-touches : goal.returns-in-Err-clause-touches
-returns-in-Err-clause-touches g c = λ tells.
-    touches_lanes c.args.topology.now c.args.b (g.D.Disk.lane_of c.args.disk.now) (g.D.Disk.lane_of c.crash_lanes.new.disk) (g.D.Disk.lane_of c.start.new.disk) (c.crash_lanes.ensures.crashes tells)
-    (c.in-Err.ensures.others tells) (c.in-Err.ensures.any_moment tells)
+returns-in-Err-clause-touches g c =
+    touches_lanes c.args.topology.now c.args.b (g.D.Disk.lane_of c.args.disk.now) (g.D.Disk.lane_of c.crash_lanes.new.disk) (g.D.Disk.lane_of c.start.new.disk) c.crash_lanes.ensures.crashes
+    (c.in-Err.ensures.others g.met.D.SimDisk.told) (c.in-Err.ensures.any_moment g.met.D.SimDisk.told)
 
 pub returns-in-Err-clause-damaged : goal.returns-in-Err-clause-damaged
-returns-in-Err-clause-damaged g c = λ tells p at e.
-    damaged_again c.args.topology.now c.args.b (g.D.Disk.lane_of c.args.disk.now) (g.D.Disk.lane_of c.crash_lanes.new.disk) (g.D.Disk.lane_of c.start.new.disk) (c.crash_lanes.ensures.crashes tells) p at
-    (c.in-Err.ensures.damaged tells p at (same_fault c.in-Err.fault (refused.Damaged p at) e))
+returns-in-Err-clause-damaged g c = λ p at e.
+    damaged_again c.args.topology.now c.args.b (g.D.Disk.lane_of c.args.disk.now) (g.D.Disk.lane_of c.crash_lanes.new.disk) (g.D.Disk.lane_of c.start.new.disk) c.crash_lanes.ensures.crashes p at
+    (c.in-Err.ensures.damaged g.met.D.SimDisk.told p at (same_fault c.in-Err.fault (refused.Damaged p at) e))
 
 pub returns-clause-opened : goal.returns-clause-opened
-returns-clause-opened g c = λ tells.
-    opens_again c.args.topology.now c.args.b (g.D.Disk.lane_of c.args.disk.now) (g.D.Disk.lane_of c.crash_lanes.new.disk) (g.D.Disk.lane_of c.start.new.disk) (c.crash_lanes.ensures.crashes tells)
+returns-clause-opened g c =
+    opens_again c.args.topology.now c.args.b (g.D.Disk.lane_of c.args.disk.now) (g.D.Disk.lane_of c.crash_lanes.new.disk) (g.D.Disk.lane_of c.start.new.disk) c.crash_lanes.ensures.crashes
     c.args.brokers.now.items (set c.args.brokers.now.items c.args.b c.in-Ok.started.broker) c.in-Ok.started.broker c.in-Ok.started.outcome
-    refl (subst (λ n. c.args.b < n) (sym c.requires.count) c.requires.broker) c.in-Ok.ensures.starts (c.in-Ok.ensures.opens tells)
+    refl (subst (λ n. c.args.b < n) (sym c.requires.count) c.requires.broker) c.in-Ok.ensures.starts (c.in-Ok.ensures.opens g.met.D.SimDisk.told)
 
 pub returns-clause-touches : goal.returns-clause-touches
-returns-clause-touches g c = λ tells.
-    touches_lanes c.args.topology.now c.args.b (g.D.Disk.lane_of c.args.disk.now) (g.D.Disk.lane_of c.crash_lanes.new.disk) (g.D.Disk.lane_of c.start.new.disk) (c.crash_lanes.ensures.crashes tells)
-    (c.in-Ok.ensures.others tells) (c.in-Ok.ensures.any_moment tells)
+returns-clause-touches g c =
+    touches_lanes c.args.topology.now c.args.b (g.D.Disk.lane_of c.args.disk.now) (g.D.Disk.lane_of c.crash_lanes.new.disk) (g.D.Disk.lane_of c.start.new.disk) c.crash_lanes.ensures.crashes
+    (c.in-Ok.ensures.others g.met.D.SimDisk.told) (c.in-Ok.ensures.any_moment g.met.D.SimDisk.told)
 
 pub returns-in-Err-clause-never_fails : goal.returns-in-Err-clause-never_fails
-returns-in-Err-clause-never_fails g c = λ tells faultless e.
+returns-in-Err-clause-never_fails g c = λ faultless e.
     let t = c.args.topology.now in
     let mid = g.D.Disk.lane_of c.crash_lanes.new.disk in
-    let never : g.D.Disk.faultless c.crash_lanes.new.disk → ((p : ℕ) → p < length t.publishers → is_host (net_of t) p c.args.b ≡ true → (mid (2 * p)).stop ≡ Unset) → c.in-Err.fault ≢ refused.Disk = λ f u h. c.in-Err.ensures.never_fails tells f u (ap (λ x. Err x) h) in
+    let never : g.D.Disk.faultless c.crash_lanes.new.disk → ((p : ℕ) → p < length t.publishers → is_host (net_of t) p c.args.b ≡ true → (mid (2 * p)).stop ≡ Unset) → c.in-Err.fault ≢ refused.Disk = λ f u h. c.in-Err.ensures.never_fails g.met.D.SimDisk.told f u (ap (λ x. Err x) h) in
     never (c.crash_lanes.ensures.faultless.stays faultless)
-    (unset_crashed t c.args.b (g.D.Disk.lane_of c.args.disk.now) mid (g.D.Disk.lane_of c.start.new.disk) (c.crash_lanes.ensures.crashes tells)) (err_is c.in-Err.fault refused.Disk e)
+    (unset_crashed t c.args.b (g.D.Disk.lane_of c.args.disk.now) mid (g.D.Disk.lane_of c.start.new.disk) c.crash_lanes.ensures.crashes) (err_is c.in-Err.fault refused.Disk e)

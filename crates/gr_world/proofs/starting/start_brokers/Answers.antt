@@ -8,9 +8,9 @@ use Rattle.gr_world.proofs.Brokers.{started_next, opened_next, damaged_first, un
 use Rattle.gr_world.proofs.starting.start_brokers.Goals as goal
 
 pub returns-in-Err-clause-damaged : goal.returns-in-Err-clause-damaged
-returns-in-Err-clause-damaged g c = λ tells p at e.
-    damaged_first c.args.topology.now c.brokers.b c.brokers.brokers.items (g.D.Disk.lane_of c.args.disk.now) (g.D.Disk.lane_of c.brokers.disk) (c.brokers.invariant.opened tells) p at
-    (c.in-Err.ensures.damaged tells p at (same_fault c.in-Err.fault (refused.Damaged p at) e))
+returns-in-Err-clause-damaged g c = λ p at e.
+    damaged_first c.args.topology.now c.brokers.b c.brokers.brokers.items (g.D.Disk.lane_of c.args.disk.now) (g.D.Disk.lane_of c.brokers.disk) c.brokers.invariant.opened p at
+    (c.in-Err.ensures.damaged g.met.D.SimDisk.told p at (same_fault c.in-Err.fault (refused.Damaged p at) e))
 
 pub brokers-preserved : goal.brokers-preserved
 brokers-preserved g c =
@@ -24,8 +24,8 @@ brokers-preserved g c =
     let one = c.in-Ok.ensures in
     record {
       started = started_next t n old new v c.brokers.told c.append.new.self told c.in-Ok-push.ensures.items c.in-Ok-append.ensures.ok sofar.started one.starts;
-      opened = λ tells. opened_next t n old new v c.brokers.told told (g.D.Disk.lane_of c.args.disk.now) (g.D.Disk.lane_of c.brokers.disk) (g.D.Disk.lane_of c.start.new.disk)
-          c.in-Ok-push.ensures.items sofar.started one.starts (sofar.opened tells) (one.opens tells) (one.others tells);
+      opened = opened_next t n old new v c.brokers.told told (g.D.Disk.lane_of c.args.disk.now) (g.D.Disk.lane_of c.brokers.disk) (g.D.Disk.lane_of c.start.new.disk)
+          c.in-Ok-push.ensures.items sofar.started one.starts sofar.opened (one.opens g.met.D.SimDisk.told) (one.others g.met.D.SimDisk.told);
       faults = (one.tally.same tt).0 ∙ sofar.faults;
       stops = (one.tally.same tt).1 ∙ sofar.stops;
       faultless = faultless_on (g.D.Disk.faultless c.args.disk.now) (g.D.Disk.faultless c.brokers.disk) (g.D.Disk.faultless c.start.new.disk)
@@ -33,9 +33,9 @@ brokers-preserved g c =
     }
 
 pub returns-in-Err-clause-never_fails : goal.returns-in-Err-clause-never_fails
-returns-in-Err-clause-never_fails g c = λ tells none faultless e.
+returns-in-Err-clause-never_fails g c = λ none faultless e.
     let t = c.args.topology.now in
     let mid = g.D.Disk.lane_of c.brokers.disk in
     let sofar = c.brokers.invariant in
-    let never : g.D.Disk.faultless c.brokers.disk → ((p : ℕ) → p < length t.publishers → is_host (net_of t) p c.brokers.b ≡ true → (mid (2 * p)).stop ≡ Unset) → c.in-Err.fault ≢ refused.Disk = λ f u h. c.in-Err.ensures.never_fails tells f u (ap (λ x. Err x) h) in
-    never (sofar.faultless.stays faultless) (unset_first t c.brokers.b c.brokers.brokers.items (g.D.Disk.lane_of c.args.disk.now) mid (sofar.opened tells) none) (err_is c.in-Err.fault refused.Disk e)
+    let never : g.D.Disk.faultless c.brokers.disk → ((p : ℕ) → p < length t.publishers → is_host (net_of t) p c.brokers.b ≡ true → (mid (2 * p)).stop ≡ Unset) → c.in-Err.fault ≢ refused.Disk = λ f u h. c.in-Err.ensures.never_fails g.met.D.SimDisk.told f u (ap (λ x. Err x) h) in
+    never (sofar.faultless.stays faultless) (unset_first t c.brokers.b c.brokers.brokers.items (g.D.Disk.lane_of c.args.disk.now) mid sofar.opened none) (err_is c.in-Err.fault refused.Disk e)

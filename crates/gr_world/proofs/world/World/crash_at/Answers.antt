@@ -7,16 +7,16 @@ use Rattle.gr_world.proofs.world.World.crash_at.Goals as goal
 use Rattle.gr_world.proofs.world.World.crash_at.Goals.{in-Ok-crash_lines, in-Err-crash_lines}
 
 pub restart-requires-clause-others : goal.restart-requires-clause-others
-restart-requires-clause-others g c = λ tells.
-    others_fit c.args.self.now c.args.b (g.D.Disk.lane_of c.args.disk.now) (c.requires.lanes tells) c.requires.unspent c.requires.down
+restart-requires-clause-others g c =
+    others_fit c.args.self.now c.args.b (g.D.Disk.lane_of c.args.disk.now) c.requires.lanes c.requires.unspent c.requires.down
 
 pub returns-clause-does : goal.returns-clause-does
-returns-clause-does g c = λ tells sound.
+returns-clause-does g c = λ sound.
     let old = c.args.self.now in
     let new = c.restart.new.self in
     let b = c.args.b in
     let one = c.in-Ok.ensures in
-    let same = logs_found old new b (g.D.Disk.lane_of c.args.disk.now) c.requires.fits sound c.requires.unspent (c.requires.lanes tells) c.requires.broker one.restarts.elsewhere (one.found tells) one.restarts.topo in
+    let same = logs_found old new b (g.D.Disk.lane_of c.args.disk.now) c.requires.fits sound c.requires.unspent c.requires.lanes c.requires.broker one.restarts.elsewhere one.found one.restarts.topo in
     elim c.match-crash_lines.branch [
       | in-Ok-crash_lines w ↦
           subst (λ r. Does (crash (net_in old) (world_of old) b) new r) (sym w.result-is)

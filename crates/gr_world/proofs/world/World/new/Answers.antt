@@ -11,8 +11,8 @@ use Rattle.gr_world.proofs.Opened.{world_at, is_opened, opened_found, opened_lan
 use Rattle.gr_world.proofs.world.World.new.Goals as goal
 
 pub returns-in-Err-clause-damaged : goal.returns-in-Err-clause-damaged
-returns-in-Err-clause-damaged g c = λ tells p at e.
-    c.in-Err.ensures.damaged tells p at (ap (λ f. Err f) (damaged_in c.in-Err.fault p at (sym c.world_fault.ensures ∙ err_is c.world_fault.result (fault.Damaged p at) e)))
+returns-in-Err-clause-damaged g c = λ p at e.
+    c.in-Err.ensures.damaged p at (ap (λ f. Err f) (damaged_in c.in-Err.fault p at (sym c.world_fault.ensures ∙ err_is c.world_fault.result (fault.Damaged p at) e)))
 
 pub returns-clause-opened : goal.returns-clause-opened
 returns-clause-opened g c =
@@ -23,33 +23,33 @@ returns-clause-opened g c =
     subst (λ (fs : List (List ℕ)). IsOpened t (world_at t brokers told fs)) (sym c.new.ensures) (is_opened t brokers told one.topology one.started)
 
 pub returns-clause-found : goal.returns-clause-found
-returns-clause-found g c = λ tells.
+returns-clause-found g c =
     let t = c.args.topology in
     let brokers = c.in-Ok.opened.brokers.items in
     let told = c.in-Ok.opened.told in
     let one = c.in-Ok.ensures in
     let before = g.D.Disk.lane_of c.args.disk.now in
     subst (λ (fs : List (List ℕ)). (p : ℕ) → p < length t.publishers → IsRead (log_at (world_at t brokers told fs) p) (content (before (2 * p)))) (sym c.new.ensures)
-    (opened_found t brokers told one.topology one.started before (g.D.Disk.lane_of c.start_brokers.new.disk) (one.opened tells))
+    (opened_found t brokers told one.topology one.started before (g.D.Disk.lane_of c.start_brokers.new.disk) one.opened)
 
 pub returns-clause-fresh : goal.returns-clause-fresh
-returns-clause-fresh g c = λ tells empty.
+returns-clause-fresh g c = λ empty.
     let t = c.args.topology in
     let brokers = c.in-Ok.opened.brokers.items in
     let told = c.in-Ok.opened.told in
     let one = c.in-Ok.ensures in
     let before = g.D.Disk.lane_of c.args.disk.now in
     let after = g.D.Disk.lane_of c.start_brokers.new.disk in (
-      subst (λ (fs : List (List ℕ)). world_of (world_at t brokers told fs) ≡ start (net_of t)) (sym c.new.ensures) (fresh_world t brokers told one.topology one.started before after (one.opened tells) empty),
-      fresh_told t brokers told one.topology one.started before after (one.opened tells) empty,
+      subst (λ (fs : List (List ℕ)). world_of (world_at t brokers told fs) ≡ start (net_of t)) (sym c.new.ensures) (fresh_world t brokers told one.topology one.started before after one.opened empty),
+      fresh_told t brokers told one.topology one.started before after one.opened empty,
     )
 
 pub returns-clause-lanes : goal.returns-clause-lanes
-returns-clause-lanes g c = λ tells none.
+returns-clause-lanes g c = λ none.
     let t = c.args.topology in
     let brokers = c.in-Ok.opened.brokers.items in
     let told = c.in-Ok.opened.told in
     let one = c.in-Ok.ensures in
     let after = g.D.Disk.lane_of c.start_brokers.new.disk in
     subst (λ (fs : List (List ℕ)). LanesFit after (world_at t brokers told fs)) (sym c.new.ensures)
-    (opened_lanes t brokers told one.topology one.started (g.D.Disk.lane_of c.args.disk.now) after (one.opened tells) none)
+    (opened_lanes t brokers told one.topology one.started (g.D.Disk.lane_of c.args.disk.now) after one.opened none)

@@ -4,16 +4,16 @@ use Rattle.gr_world.proofs.Onward.{phases_do}
 use Rattle.gr_world.proofs.world.World.phases.Goals as goal
 
 pub returns-in-Err-joined-clause-lanes : goal.returns-in-Err-joined-clause-lanes
-returns-in-Err-joined-clause-lanes g c = λ t.
-    lanes_kept (g.D.Disk.lane_of c.wake_brokers.new.disk) c.wake_brokers.new.self c.hand_brokers-told.new.self c.hand_brokers-told.ensures.ran.keeps c.hand_brokers-told.ensures.delivers.logs (c.in-Ok.ensures.lanes t)
+returns-in-Err-joined-clause-lanes g c =
+    lanes_kept (g.D.Disk.lane_of c.wake_brokers.new.disk) c.wake_brokers.new.self c.hand_brokers-told.new.self c.hand_brokers-told.ensures.ran.keeps c.hand_brokers-told.ensures.delivers.logs c.in-Ok.ensures.lanes
 
 pub wake_brokers-told-requires-clause-brokers : goal.wake_brokers-told-requires-clause-brokers
 wake_brokers-told-requires-clause-brokers g c =
     brokers_kept c.args.self.now c.hand_brokers-told.new.self c.args.inwards.now (c.hand_brokers-told.ensures.ran.keeps.topo ∙ c.in-Ok.ensures.ran.keeps.topo) c.requires.brokers
 
 pub wake_brokers-told-requires-clause-lanes : goal.wake_brokers-told-requires-clause-lanes
-wake_brokers-told-requires-clause-lanes g c = λ t.
-    lanes_kept (g.D.Disk.lane_of c.wake_brokers.new.disk) c.wake_brokers.new.self c.hand_brokers-told.new.self c.hand_brokers-told.ensures.ran.keeps c.hand_brokers-told.ensures.delivers.logs (c.in-Ok.ensures.lanes t)
+wake_brokers-told-requires-clause-lanes g c =
+    lanes_kept (g.D.Disk.lane_of c.wake_brokers.new.disk) c.wake_brokers.new.self c.hand_brokers-told.new.self c.hand_brokers-told.ensures.ran.keeps c.hand_brokers-told.ensures.delivers.logs c.in-Ok.ensures.lanes
 
 pub returns-clause-ran : goal.returns-clause-ran
 returns-clause-ran g c =

@@ -1,8 +1,8 @@
-use Rattle.std.proofs.Common.{None}
+use Rattle.std.proofs.Common.{None, ◌∙◌}
 use Rattle.gr_sched.specs.declared.step.Step.TheVariants as step
 use Rattle.gr_model.specs.World.{publish_now}
 use Rattle.gr_world.specs.Seen.{net_in, world_of}
-use Rattle.gr_world.proofs.Leaving.{makes_of, fits_noted, lanes_noted}
+use Rattle.gr_world.proofs.Leaving.{makes_of, fits_noted, lanes_noted, noted_failed, noted_closed}
 use Rattle.gr_world.proofs.Stepping.{next_publish}
 use Rattle.gr_world.proofs.world.World.publish.Goals as goal
 
@@ -16,11 +16,23 @@ returns-clause-makes g c =
     (λ n. next_publish (net_in w) (world_of w) n c.args.p c.args.number e)
 
 pub returns-clause-lanes : goal.returns-clause-lanes
-returns-clause-lanes g c = λ tells.
+returns-clause-lanes g c =
     let one = c.publish_at_host-answer in
-    lanes_noted (g.D.Disk.lane_of one.new.disk) one.new.self c.noted.new.self one.result c.noted.ensures.view (one.ensures.lanes tells)
+    lanes_noted (g.D.Disk.lane_of one.new.disk) one.new.self c.noted.new.self one.result c.noted.ensures.view one.ensures.lanes
 
 pub returns-clause-fits : goal.returns-clause-fits
 returns-clause-fits g c =
     let one = c.publish_at_host-answer in
     fits_noted one.new.self c.noted.new.self one.result c.noted.ensures.view one.ensures.ran.fits
+
+pub returns-clause-unchanged : goal.returns-clause-unchanged
+returns-clause-unchanged g c = λ h.
+    let one = c.publish_at_host-answer in
+    let at = noted_closed one.new.self c.noted.new.self one.result c.noted.result c.noted.ensures.answer c.noted.ensures.view h in
+    let same = one.ensures.unchanged at.0 in (at.1 ∙ same.0, same.1)
+
+pub returns-clause-failed : goal.returns-clause-failed
+returns-clause-failed g c = λ h.
+    let one = c.publish_at_host-answer in
+    let at = noted_failed one.new.self c.noted.new.self one.result c.noted.result c.noted.ensures.answer c.noted.ensures.view h in
+    at.1 ∙ one.ensures.failed at.0

@@ -4,9 +4,9 @@ use Rattle.gr_world.specs.contracts.world.World.{the_view}
 use Rattle.gr_world.specs.Of.{LanesFit}
 use Rattle.gr_world.specs.Ran.{Ran}
 use Rattle.gr_world.specs.Taking.{put_in}
-use Rattle.gr_world.proofs.Answers.{ran_on}
+use Rattle.gr_world.proofs.Answers.{ran_on, reopen_follows}
 use Rattle.gr_world.proofs.Called.{Site, read_fits, read_stands, site_unstopped}
-use Rattle.gr_world.proofs.Published.{Publishes, does_publish, ran_publish, lanes_publish}
+use Rattle.gr_world.proofs.Published.{Publishes, does_publish, ran_publish, lanes_publish, reopens_publish, unchanged_publish, failed_publish}
 use Rattle.gr_world.proofs.world.World.publish_at_host.Given.{Over}
 use Rattle.gr_world.proofs.world.World.publish_at_host.Goals as goal
 
@@ -16,7 +16,7 @@ publish-answer-requires-clause-fits g c =
 
 pub publish-answer-requires-clause-stands : goal.publish-answer-requires-clause-stands
 publish-answer-requires-clause-stands g c = λ tells.
-    read_stands (the_view c.self.inside) c.args.self.now c.host-host.result c.index_mut-broker.result.now (g.D.Disk.lane_of c.args.disk.now) c.self.view_is c.requires.fits c.requires.«open» (c.requires.lanes tells)
+    read_stands (the_view c.self.inside) c.args.self.now c.host-host.result c.index_mut-broker.result.now (g.D.Disk.lane_of c.args.disk.now) c.self.view_is c.requires.fits c.requires.«open» c.requires.lanes
     c.host-host.ensures.broker c.index_mut-broker.ensures.value
 
 -- The broker that is read, and what its call gives
@@ -41,17 +41,17 @@ ran g c =
     ran_publish (the_view c.self.inside) c.args.self.now c.host-host.result c.args.p c.args.number c.args.event.now c.index_mut-broker.result.now c.publish-answer.new.self c.take_answer.new.frames.frames
     c.publish-answer.result c.take_answer.result (site g c) (sym c.host-host.ensures.host) c.every_topology_is_a_tree.ensures.tree (gives g c) c.take_answer.ensures.follows c.take_answer.ensures.takes
 
-lanes : (g : Over) (c : goal.After-take_answer g) → g.D.Disk.tells → LanesFit (g.D.Disk.lane_of c.publish-answer.new.disk) (put_in (the_view c.self.inside) c.host-host.result c.publish-answer.new.self c.take_answer.new.frames.frames)
-lanes g c tells =
+lanes : (g : Over) (c : goal.After-take_answer g) → LanesFit (g.D.Disk.lane_of c.publish-answer.new.disk) (put_in (the_view c.self.inside) c.host-host.result c.publish-answer.new.self c.take_answer.new.frames.frames)
+lanes g c =
     let e = c.publish-answer.ensures in
     lanes_publish (the_view c.self.inside) c.args.self.now c.host-host.result c.args.p c.args.number c.args.event.now c.index_mut-broker.result.now c.publish-answer.new.self c.take_answer.new.frames.frames
     c.publish-answer.result c.take_answer.result (site g c) (sym c.host-host.ensures.host) c.every_topology_is_a_tree.ensures.tree (gives g c) c.take_answer.ensures.follows c.take_answer.ensures.takes
-    (g.D.Disk.lane_of c.args.disk.now) (g.D.Disk.lane_of c.publish-answer.new.disk) (c.requires.lanes tells) (record {
-      lane = e.lane tells;
+    (g.D.Disk.lane_of c.args.disk.now) (g.D.Disk.lane_of c.publish-answer.new.disk) c.requires.lanes (record {
+      lane = e.lane g.met.D.SimDisk.told;
       idle = λ h n. ap (λ d. g.D.Disk.lane_of d n) (e.idle h);
       untouched = λ h n. ap (λ d. g.D.Disk.lane_of d n) (e.untouched h);
-      others = e.others tells;
-      stands = e.stands tells;
+      others = e.others g.met.D.SimDisk.told;
+      stands = e.stands g.met.D.SimDisk.told;
     })
 
 -- What the world answers and leaves
@@ -64,14 +64,31 @@ returns-clause-does g c =
 pub returns-clause-ran : goal.returns-clause-ran
 returns-clause-ran g c = ran g c
 
+pub returns-clause-reopen : goal.returns-clause-reopen
+returns-clause-reopen g c =
+    reopens_publish (the_view c.self.inside) c.args.self.now c.host-host.result c.args.p c.args.number c.args.event.now c.index_mut-broker.result.now c.publish-answer.new.self c.take_answer.new.frames.frames
+    c.publish-answer.result c.take_answer.result (site g c) (sym c.host-host.ensures.host) c.every_topology_is_a_tree.ensures.tree (gives g c) c.take_answer.ensures.follows c.take_answer.ensures.takes
+
+pub returns-clause-unchanged : goal.returns-clause-unchanged
+returns-clause-unchanged g c = λ h. (
+  unchanged_publish (the_view c.self.inside) c.args.self.now c.host-host.result c.args.p c.args.number c.args.event.now c.index_mut-broker.result.now c.publish-answer.new.self c.take_answer.new.frames.frames
+      c.publish-answer.result c.take_answer.result (site g c) (sym c.host-host.ensures.host) c.every_topology_is_a_tree.ensures.tree (gives g c) c.take_answer.ensures.follows c.take_answer.ensures.takes h,
+  c.publish-answer.ensures.idle (reopen_follows c.publish-answer.result c.take_answer.result c.take_answer.ensures.follows h),
+)
+
+pub returns-clause-failed : goal.returns-clause-failed
+returns-clause-failed g c =
+    failed_publish (the_view c.self.inside) c.args.self.now c.host-host.result c.args.p c.args.number c.args.event.now c.index_mut-broker.result.now c.publish-answer.new.self c.take_answer.new.frames.frames
+    c.publish-answer.result c.take_answer.result (site g c) (sym c.host-host.ensures.host) c.every_topology_is_a_tree.ensures.tree (gives g c) c.take_answer.ensures.follows c.take_answer.ensures.takes
+
 pub returns-clause-disk : goal.returns-clause-disk
 returns-clause-disk g c =
     let e = c.publish-answer.ensures in
-    ran_on g.D.Disk.tells (g.D.Disk.faultless c.args.disk.now) (g.D.Disk.faultless c.publish-answer.new.disk) (g.D.Disk.faults c.args.disk.now) (g.D.Disk.stops c.args.disk.now)
+    ran_on (g.D.Disk.faultless c.args.disk.now) (g.D.Disk.faultless c.publish-answer.new.disk) (g.D.Disk.faults c.args.disk.now) (g.D.Disk.stops c.args.disk.now)
     (g.D.Disk.faults c.publish-answer.new.disk) (g.D.Disk.stops c.publish-answer.new.disk) (g.D.Disk.lane_of c.publish-answer.new.disk (2 * c.args.p)) c.publish-answer.result c.take_answer.result
-    c.take_answer.ensures.follows e.tally e.causes e.faultless
-    (λ tells. site_unstopped (the_view c.self.inside) c.args.self.now c.host-host.result c.args.p c.index_mut-broker.result.now (site g c) c.publish-answer.new.self c.take_answer.new.frames.frames c.take_answer.result
-    (g.D.Disk.lane_of c.publish-answer.new.disk) c.every_topology_is_a_tree.ensures.tree (ran g c) (lanes g c tells))
+    c.take_answer.ensures.follows e.tally (e.causes g.met.D.SimDisk.told) e.faultless
+    (site_unstopped (the_view c.self.inside) c.args.self.now c.host-host.result c.args.p c.index_mut-broker.result.now (site g c) c.publish-answer.new.self c.take_answer.new.frames.frames c.take_answer.result
+    (g.D.Disk.lane_of c.publish-answer.new.disk) c.every_topology_is_a_tree.ensures.tree (ran g c) (lanes g c))
 
 pub returns-clause-lanes : goal.returns-clause-lanes
 returns-clause-lanes g c = lanes g c

@@ -1,11 +1,15 @@
-use Rattle.std.proofs.Common.{◌≡◌, Ok, None, ap, ◌∙◌, subst}
+use Rattle.std.proofs.Common.{◌≡◌, inl, inr, List, Result, Ok, Err, None, sym, ap, ◌∙◌, subst}
+use Rattle.gr_model.specs.declared.report.Report.{Report}
+use Rattle.gr_world.specs.declared.fault.WorldFault.{WorldFault}
+use Rattle.gr_world.specs.declared.fault.WorldFault.TheVariants as fault
 use Rattle.gr_world.specs.Seen.{WorldView, net_in, world_of}
-use Rattle.gr_world.specs.Stopped.{StopRestarts}
+use Rattle.gr_world.specs.Opened.{with_down}
+use Rattle.gr_world.specs.Stopped.{StopRestarts, lines_in, broken_in}
 use Rattle.gr_world.proofs.StoppedWorlds.{idle_does, none_at, some_at, fits_mid, readable_mid, stopped_mid, ran_started}
 use Rattle.gr_world.proofs.world.World.publish_or_stop.Goals as goal
 
 pub returns-in_default-clause-does : goal.returns-in_default-clause-does
-returns-in_default-clause-does g c = λ t s n.
+returns-in_default-clause-does g c = λ s n.
     let w = c.args.self.now in
     idle_does (net_in w) (world_of w) n c.args.host c.args.p c.args.number c.args.stop.now c.args.event.now c.publish_at_host.new.self c.publish_at_host.result c.requires.host c.requires.no_subscriber
     (none_at w c.args.p c.args.number c.self.inside.clock c.log_here-log.result.now c.tick_logged.result c.requires.publisher c.log_here-log.ensures.log (ap (λ (v : WorldView). v.clock) c.self.view_is)
@@ -13,37 +17,37 @@ returns-in_default-clause-does g c = λ t s n.
     c.publish_at_host.ensures.does
 
 pub start_stopped-requires-clause-others : goal.start_stopped-requires-clause-others
-start_stopped-requires-clause-others g c = λ t.
+start_stopped-requires-clause-others g c =
     let w = c.args.self.now in
     let none : c.publish_to_stop.result ≡ Ok None = c.in-Ok-None.is ∙ ap (λ o. Ok o) c.in-Ok-None.field-0-is in
     let is = c.publish_to_stop.ensures.broken none in
     let next = some_at w c.args.p c.args.number c.self.inside.clock c.in-Some.tick c.log_here-log.result.now c.tick_logged.result c.log_here-log.ensures.log (ap (λ (v : WorldView). v.clock) c.self.view_is)
     c.tick_logged.ensures c.in-Some.is in
-    let left = c.publish_to_stop.ensures.stopped t none c.in-Some.tick next in
-    fits_mid w c.publish_to_stop.new.self (g.D.Disk.lane_of c.args.disk.now) (g.D.Disk.lane_of c.publish_to_stop.new.disk) c.args.host c.args.p c.requires.fits c.requires.«open» (c.requires.lanes t) c.requires.host c.requires.broker
-    c.requires.publisher left.readable (c.publish_to_stop.ensures.others t) is
+    let left = c.publish_to_stop.ensures.stopped none c.in-Some.tick next in
+    fits_mid w c.publish_to_stop.new.self (g.D.Disk.lane_of c.args.disk.now) (g.D.Disk.lane_of c.publish_to_stop.new.disk) c.args.host c.args.p c.requires.fits c.requires.«open» c.requires.lanes c.requires.host c.requires.broker
+    c.requires.publisher left.readable c.publish_to_stop.ensures.others is
 
 pub start_stopped-requires-clause-readable : goal.start_stopped-requires-clause-readable
-start_stopped-requires-clause-readable g c = λ t.
+start_stopped-requires-clause-readable g c =
     let w = c.args.self.now in
     let none : c.publish_to_stop.result ≡ Ok None = c.in-Ok-None.is ∙ ap (λ o. Ok o) c.in-Ok-None.field-0-is in
     let is = c.publish_to_stop.ensures.broken none in
     let next = some_at w c.args.p c.args.number c.self.inside.clock c.in-Some.tick c.log_here-log.result.now c.tick_logged.result c.log_here-log.ensures.log (ap (λ (v : WorldView). v.clock) c.self.view_is)
     c.tick_logged.ensures c.in-Some.is in
-    let left = c.publish_to_stop.ensures.stopped t none c.in-Some.tick next in
-    readable_mid w c.publish_to_stop.new.self (g.D.Disk.lane_of c.args.disk.now) (g.D.Disk.lane_of c.publish_to_stop.new.disk) c.args.host c.args.p c.requires.«open» (c.requires.lanes t) c.requires.host
-    left.readable (c.publish_to_stop.ensures.others t) is
+    let left = c.publish_to_stop.ensures.stopped none c.in-Some.tick next in
+    readable_mid w c.publish_to_stop.new.self (g.D.Disk.lane_of c.args.disk.now) (g.D.Disk.lane_of c.publish_to_stop.new.disk) c.args.host c.args.p c.requires.«open» c.requires.lanes c.requires.host
+    left.readable c.publish_to_stop.ensures.others is
 
 pub returns-in-Ok-None-clause-does : goal.returns-in-Ok-None-clause-does
-returns-in-Ok-None-clause-does g c = λ t s n.
+returns-in-Ok-None-clause-does g c = λ s n.
     let w = c.args.self.now in
     let none : c.publish_to_stop.result ≡ Ok None = c.in-Ok-None.is ∙ ap (λ o. Ok o) c.in-Ok-None.field-0-is in
     let is = c.publish_to_stop.ensures.broken none in
     let next = some_at w c.args.p c.args.number c.self.inside.clock c.in-Some.tick c.log_here-log.result.now c.tick_logged.result c.log_here-log.ensures.log (ap (λ (v : WorldView). v.clock) c.self.view_is)
     c.tick_logged.ensures c.in-Some.is in
     stopped_mid w c.publish_to_stop.new.self c.start_stopped.new.self (g.D.Disk.lane_of c.args.disk.now) (g.D.Disk.lane_of c.publish_to_stop.new.disk) n c.args.host c.args.p c.args.number c.in-Some.tick c.args.stop.now
-    c.args.event.now c.start_stopped.result (c.publish_to_stop.ensures.stopped t none c.in-Some.tick next) c.requires.fits c.requires.«open» (c.requires.lanes t) s c.requires.host c.requires.broker c.requires.publisher
-    c.requires.no_subscriber next (c.publish_to_stop.ensures.others t) is c.start_stopped.ensures.ran c.start_stopped.ensures.does (c.start_stopped.ensures.found t) c.start_stopped.ensures.elsewhere
+    c.args.event.now c.start_stopped.result (c.publish_to_stop.ensures.stopped none c.in-Some.tick next) c.requires.fits c.requires.«open» c.requires.lanes s c.requires.host c.requires.broker c.requires.publisher
+    c.requires.no_subscriber next c.publish_to_stop.ensures.others is c.start_stopped.ensures.ran c.start_stopped.ensures.does c.start_stopped.ensures.found c.start_stopped.ensures.elsewhere
 
 pub returns-in-Ok-None-clause-ran : goal.returns-in-Ok-None-clause-ran
 returns-in-Ok-None-clause-ran g c =
@@ -52,3 +56,19 @@ returns-in-Ok-None-clause-ran g c =
     let is = c.publish_to_stop.ensures.broken none in
     ran_started w c.args.host c.args.p c.requires.fits c.requires.broker c.requires.host c.requires.publisher c.start_stopped.new.self c.start_stopped.result
     (subst (λ (m : WorldView). StopRestarts c.args.host m c.start_stopped.new.self c.start_stopped.result) is c.start_stopped.ensures.ran)
+
+pub returns-in_default-clause-failed : goal.returns-in_default-clause-failed
+returns-in_default-clause-failed g c = λ e. inl (c.publish_at_host.ensures.failed e ∙ ap (λ b. broken_in c.args.self.now b c.args.p) (sym c.requires.host))
+
+pub returns-in-Ok-None-clause-reopen : goal.returns-in-Ok-None-clause-reopen
+returns-in-Ok-None-clause-reopen g c =
+    let none : c.publish_to_stop.result ≡ Ok None = c.in-Ok-None.is ∙ ap (λ o. Ok o) c.in-Ok-None.field-0-is in
+    (λ e. absurd (c.start_stopped.ensures.ran.never_reopen e), λ barred. absurd (not_both (sym (ap lines_in none) ∙ c.publish_to_stop.ensures.reopen.1 barred)))
+  where
+    not_both : ◌≡◌ {A = Result (List Report) WorldFault} (Err fault.Disk) (Err fault.Reopen) → ⊥
+    not_both e = cc
+
+pub returns-in-Ok-None-clause-failed : goal.returns-in-Ok-None-clause-failed
+returns-in-Ok-None-clause-failed g c = λ e.
+    let none : c.publish_to_stop.result ≡ Ok None = c.in-Ok-None.is ∙ ap (λ o. Ok o) c.in-Ok-None.field-0-is in
+    inr (c.start_stopped.ensures.ran.failed e ∙ ap (λ (m : WorldView). with_down m c.args.host) (c.publish_to_stop.ensures.broken none))

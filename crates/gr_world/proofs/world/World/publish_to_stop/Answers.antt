@@ -1,17 +1,20 @@
 -- The call is one of the host while a stop is ordered: it is taken up by the world, or the stop broke it
 use Rattle.std.proofs.Common.{◌≡◌, ◌<◌, List, length, Result, sym, ap, ◌∙◌, subst}
+use Rattle.std.specs.Prelude.{◌↔◌, IsErrOf}
 use Rattle.gr_out.specs.Lane.{stop_at}
 use Rattle.gr_topo.specs.Topology.{host_of}
 use Rattle.gr_model.specs.declared.report.Report.{Report}
 use Rattle.gr_world.specs.contracts.world.World.{the_view}
 use Rattle.gr_world.specs.declared.fault.WorldFault.{WorldFault}
+use Rattle.gr_world.specs.declared.fault.WorldFault.TheVariants as fault
 use Rattle.gr_world.specs.Seen.{WorldView}
+use Rattle.gr_world.specs.Disk.{IsBarred}
 use Rattle.gr_world.specs.Ran.{Ran}
-use Rattle.gr_world.specs.Stopped.{lines_in}
+use Rattle.gr_world.specs.Stopped.{lines_in, broken_in}
 use Rattle.gr_world.specs.Taking.{put_in}
-use Rattle.gr_world.proofs.BrokenAppend.{broken_by, took_none, stand_with, stopped_ran, stopped_at, not_through, reserved_left, ended_fit}
+use Rattle.gr_world.proofs.BrokenAppend.{broken_by, took_none, stand_with, stopped_ran, stopped_reopens, stopped_at, not_through, reserved_left, ended_fit}
 use Rattle.gr_world.proofs.Called.{Site, read_stands}
-use Rattle.gr_world.proofs.Published.{Publishes, PublishesOn, ran_publish}
+use Rattle.gr_world.proofs.Published.{Publishes, PublishesOn, ran_publish, reopens_publish, unchanged_publish, failed_publish}
 use Rattle.gr_world.proofs.StoppedWorlds.{IsHere, is_here}
 use Rattle.gr_world.proofs.world.World.publish_to_stop.Goals.{in-Ok, in-Err}
 use Rattle.gr_world.proofs.world.World.publish_to_stop.Goals as goal
@@ -20,15 +23,15 @@ pub stop_after-requires : goal.stop_after-requires
 stop_after-requires g c = record {
   reserved = λ t.
       let h : IsHere c.args.self.now (g.D.Disk.lane_of c.args.disk.now) c.args.p =
-      is_here c.args.self.now (g.D.Disk.lane_of c.args.disk.now) c.args.p c.requires.fits c.requires.«open» (c.requires.lanes t) c.requires.publisher
+      is_here c.args.self.now (g.D.Disk.lane_of c.args.disk.now) c.args.p c.requires.fits c.requires.«open» c.requires.lanes c.requires.publisher
       (subst (λ k. k < length c.args.self.now.topo.brokers) c.requires.host c.requires.broker) in
       h.lane.reserved;
 }
 
 pub publish-answer-requires-clause-stands : goal.publish-answer-requires-clause-stands
 publish-answer-requires-clause-stands g c = λ t.
-    stand_with c.index_mut-broker.result.now c.args.p (stop_at c.args.stop.now.call c.args.stop.now.pick) (g.D.Disk.lane_of c.args.disk.now) (g.D.Disk.lane_of c.stop_after.new.self) (c.stop_after.ensures.stop t) (c.stop_after.ensures.others t)
-    (read_stands (the_view c.self.inside) c.args.self.now c.args.host c.index_mut-broker.result.now (g.D.Disk.lane_of c.args.disk.now) c.self.view_is c.requires.fits c.requires.«open» (c.requires.lanes t)
+    stand_with c.index_mut-broker.result.now c.args.p (stop_at c.args.stop.now.call c.args.stop.now.pick) (g.D.Disk.lane_of c.args.disk.now) (g.D.Disk.lane_of c.stop_after.new.self) (c.stop_after.ensures.stop g.met.D.SimDisk.told) (c.stop_after.ensures.others g.met.D.SimDisk.told)
+    (read_stands (the_view c.self.inside) c.args.self.now c.args.host c.index_mut-broker.result.now (g.D.Disk.lane_of c.args.disk.now) c.self.view_is c.requires.fits c.requires.«open» c.requires.lanes
     (subst (λ (u : WorldView). c.args.host < length u.topo.brokers) (sym c.self.view_is) c.requires.broker) c.index_mut-broker.ensures.value)
 
 pub returns-then-is_broken_by-clause-ran : goal.returns-then-is_broken_by-clause-ran
@@ -49,7 +52,7 @@ returns-then-is_broken_by-clause-ran g c =
     (broken_by c.publish-answer.result c.stopped.result (sym c.is_broken_by.ensures ∙ c.if-is_broken_by.true)).0
 
 pub returns-then-is_broken_by-clause-stopped : goal.returns-then-is_broken_by-clause-stopped
-returns-then-is_broken_by-clause-stopped g c = λ t is tick some.
+returns-then-is_broken_by-clause-stopped g c = λ is tick some.
     let s : Site (the_view c.self.inside) c.args.self.now c.args.host c.args.p c.index_mut-broker.result.now = record {
       same = c.self.view_is;
       fits = c.requires.fits;
@@ -64,21 +67,21 @@ returns-then-is_broken_by-clause-stopped g c = λ t is tick some.
     record { told = e.told; leaves = e.leaves; log = e.log; fits = e.fits; reopen = e.reopen } in
     let on : PublishesOn c.index_mut-broker.result.now c.args.p c.self.inside.clock c.args.number c.args.event.now c.publish-answer.new.self (g.D.Disk.lane_of c.stop_after.new.self) (g.D.Disk.lane_of c.publish-answer.new.disk) c.publish-answer.result =
     record {
-      lane = e.lane t;
+      lane = e.lane g.met.D.SimDisk.told;
       idle = λ h n. ap (λ d. g.D.Disk.lane_of d n) (e.idle h);
       untouched = λ h n. ap (λ d. g.D.Disk.lane_of d n) (e.untouched h);
-      others = e.others t;
-      stands = e.stands t;
+      others = e.others g.met.D.SimDisk.told;
+      stands = e.stands g.met.D.SimDisk.told;
     } in
-    stopped_at (the_view c.self.inside) c.args.self.now c.args.host c.args.p c.args.number c.args.event.now c.index_mut-broker.result.now c.publish-answer.new.self c.publish-answer.result s host c.every_topology_is_a_tree.ensures.tree k (g.D.Disk.lane_of c.args.disk.now) (g.D.Disk.lane_of c.stop_after.new.self) (g.D.Disk.lane_of c.publish-answer.new.disk) c.args.stop.now.call c.args.stop.now.pick tick (c.stop_after.ensures.stop t) c.requires.first
-    (let f = c.requires.lanes t in f.readable c.requires.«open».unspent c.args.p c.requires.publisher)
-    (sym (c.stopped.ensures t) ∙ (broken_by c.publish-answer.result c.stopped.result (sym c.is_broken_by.ensures ∙ c.if-is_broken_by.true)).1) some on
+    stopped_at (the_view c.self.inside) c.args.self.now c.args.host c.args.p c.args.number c.args.event.now c.index_mut-broker.result.now c.publish-answer.new.self c.publish-answer.result s host c.every_topology_is_a_tree.ensures.tree k (g.D.Disk.lane_of c.args.disk.now) (g.D.Disk.lane_of c.stop_after.new.self) (g.D.Disk.lane_of c.publish-answer.new.disk) c.args.stop.now.call c.args.stop.now.pick tick (c.stop_after.ensures.stop g.met.D.SimDisk.told) c.requires.first
+    (let f = c.requires.lanes in f.readable c.requires.«open».unspent c.args.p c.requires.publisher)
+    (sym (c.stopped.ensures g.met.D.SimDisk.told) ∙ (broken_by c.publish-answer.result c.stopped.result (sym c.is_broken_by.ensures ∙ c.if-is_broken_by.true)).1) some on
 
 pub stop_after-requires-2 : goal.stop_after-requires-2
 stop_after-requires-2 g c = record {
   reserved = λ t.
       let h : IsHere c.args.self.now (g.D.Disk.lane_of c.args.disk.now) c.args.p =
-      is_here c.args.self.now (g.D.Disk.lane_of c.args.disk.now) c.args.p c.requires.fits c.requires.«open» (c.requires.lanes t) c.requires.publisher
+      is_here c.args.self.now (g.D.Disk.lane_of c.args.disk.now) c.args.p c.requires.fits c.requires.«open» c.requires.lanes c.requires.publisher
       (subst (λ k. k < length c.args.self.now.topo.brokers) c.requires.host c.requires.broker) in
       let s : Site (the_view c.self.inside) c.args.self.now c.args.host c.args.p c.index_mut-broker.result.now = record {
         same = c.self.view_is;
@@ -94,13 +97,13 @@ stop_after-requires-2 g c = record {
       record { told = e.told; leaves = e.leaves; log = e.log; fits = e.fits; reopen = e.reopen } in
       let on : PublishesOn c.index_mut-broker.result.now c.args.p c.self.inside.clock c.args.number c.args.event.now c.publish-answer.new.self (g.D.Disk.lane_of c.stop_after.new.self) (g.D.Disk.lane_of c.publish-answer.new.disk) c.publish-answer.result =
       record {
-        lane = e.lane t;
+        lane = e.lane g.met.D.SimDisk.told;
         idle = λ h n. ap (λ d. g.D.Disk.lane_of d n) (e.idle h);
         untouched = λ h n. ap (λ d. g.D.Disk.lane_of d n) (e.untouched h);
-        others = e.others t;
-        stands = e.stands t;
+        others = e.others g.met.D.SimDisk.told;
+        stands = e.stands g.met.D.SimDisk.told;
       } in
-      reserved_left (the_view c.self.inside) c.args.self.now c.args.host c.args.p c.args.number c.args.event.now c.index_mut-broker.result.now c.publish-answer.new.self c.publish-answer.result s host c.every_topology_is_a_tree.ensures.tree k (g.D.Disk.lane_of c.args.disk.now) (g.D.Disk.lane_of c.stop_after.new.self) (g.D.Disk.lane_of c.publish-answer.new.disk) (stop_at c.args.stop.now.call c.args.stop.now.pick) (c.stop_after.ensures.stop t) h.lane.reserved on;
+      reserved_left (the_view c.self.inside) c.args.self.now c.args.host c.args.p c.args.number c.args.event.now c.index_mut-broker.result.now c.publish-answer.new.self c.publish-answer.result s host c.every_topology_is_a_tree.ensures.tree k (g.D.Disk.lane_of c.args.disk.now) (g.D.Disk.lane_of c.stop_after.new.self) (g.D.Disk.lane_of c.publish-answer.new.disk) (stop_at c.args.stop.now.call c.args.stop.now.pick) (c.stop_after.ensures.stop g.met.D.SimDisk.told) h.lane.reserved on;
 }
 
 pub returns-clause-ran : goal.returns-clause-ran
@@ -125,9 +128,9 @@ returns-clause-ran g c =
     (ran_publish (the_view c.self.inside) c.args.self.now c.args.host c.args.p c.args.number c.args.event.now c.index_mut-broker.result.now c.publish-answer.new.self c.take_answer.new.frames.frames c.publish-answer.result c.take_answer.result s host c.every_topology_is_a_tree.ensures.tree k c.take_answer.ensures.follows c.take_answer.ensures.takes)
 
 pub returns-clause-never_through : goal.returns-clause-never_through
-returns-clause-never_through g c = λ t lines is.
+returns-clause-never_through g c = λ lines is.
     let h : IsHere c.args.self.now (g.D.Disk.lane_of c.args.disk.now) c.args.p =
-    is_here c.args.self.now (g.D.Disk.lane_of c.args.disk.now) c.args.p c.requires.fits c.requires.«open» (c.requires.lanes t) c.requires.publisher
+    is_here c.args.self.now (g.D.Disk.lane_of c.args.disk.now) c.args.p c.requires.fits c.requires.«open» c.requires.lanes c.requires.publisher
     (subst (λ k. k < length c.args.self.now.topo.brokers) c.requires.host c.requires.broker) in
     let s : Site (the_view c.self.inside) c.args.self.now c.args.host c.args.p c.index_mut-broker.result.now = record {
       same = c.self.view_is;
@@ -143,21 +146,21 @@ returns-clause-never_through g c = λ t lines is.
     record { told = e.told; leaves = e.leaves; log = e.log; fits = e.fits; reopen = e.reopen } in
     let on : PublishesOn c.index_mut-broker.result.now c.args.p c.self.inside.clock c.args.number c.args.event.now c.publish-answer.new.self (g.D.Disk.lane_of c.stop_after.new.self) (g.D.Disk.lane_of c.publish-answer.new.disk) c.publish-answer.result =
     record {
-      lane = e.lane t;
+      lane = e.lane g.met.D.SimDisk.told;
       idle = λ h n. ap (λ d. g.D.Disk.lane_of d n) (e.idle h);
       untouched = λ h n. ap (λ d. g.D.Disk.lane_of d n) (e.untouched h);
-      others = e.others t;
-      stands = e.stands t;
+      others = e.others g.met.D.SimDisk.told;
+      stands = e.stands g.met.D.SimDisk.told;
     } in
     let lines_is : lines_in c.match-take_answer.result ≡ c.take_answer.result = elim c.match-take_answer.branch [
       | in-Ok w ↦ ap lines_in w.result-is ∙ sym w.in-Ok.is
       | in-Err w ↦ ap lines_in w.result-is ∙ sym w.in-Err.is
     ] in
     took_none c.publish-answer.result c.take_answer.result lines c.take_answer.ensures.follows (sym lines_is ∙ ap lines_in is)
-    (not_through (the_view c.self.inside) c.args.self.now c.args.host c.args.p c.args.number c.args.event.now c.index_mut-broker.result.now c.publish-answer.new.self c.publish-answer.result s host c.every_topology_is_a_tree.ensures.tree k (g.D.Disk.lane_of c.args.disk.now) (g.D.Disk.lane_of c.stop_after.new.self) (g.D.Disk.lane_of c.publish-answer.new.disk) c.args.stop.now.call c.args.stop.now.pick h.log h.there (c.stop_after.ensures.stop t) c.requires.first c.requires.last c.requires.next on)
+    (not_through (the_view c.self.inside) c.args.self.now c.args.host c.args.p c.args.number c.args.event.now c.index_mut-broker.result.now c.publish-answer.new.self c.publish-answer.result s host c.every_topology_is_a_tree.ensures.tree k (g.D.Disk.lane_of c.args.disk.now) (g.D.Disk.lane_of c.stop_after.new.self) (g.D.Disk.lane_of c.publish-answer.new.disk) c.args.stop.now.call c.args.stop.now.pick h.log h.there (c.stop_after.ensures.stop g.met.D.SimDisk.told) c.requires.first c.requires.last c.requires.next on)
 
 pub returns-clause-lanes : goal.returns-clause-lanes
-returns-clause-lanes g c = λ t ne.
+returns-clause-lanes g c = λ ne.
     let s : Site (the_view c.self.inside) c.args.self.now c.args.host c.args.p c.index_mut-broker.result.now = record {
       same = c.self.view_is;
       fits = c.requires.fits;
@@ -172,12 +175,92 @@ returns-clause-lanes g c = λ t ne.
     record { told = e.told; leaves = e.leaves; log = e.log; fits = e.fits; reopen = e.reopen } in
     let on : PublishesOn c.index_mut-broker.result.now c.args.p c.self.inside.clock c.args.number c.args.event.now c.publish-answer.new.self (g.D.Disk.lane_of c.stop_after.new.self) (g.D.Disk.lane_of c.publish-answer.new.disk) c.publish-answer.result =
     record {
-      lane = e.lane t;
+      lane = e.lane g.met.D.SimDisk.told;
       idle = λ h n. ap (λ d. g.D.Disk.lane_of d n) (e.idle h);
       untouched = λ h n. ap (λ d. g.D.Disk.lane_of d n) (e.untouched h);
-      others = e.others t;
-      stands = e.stands t;
+      others = e.others g.met.D.SimDisk.told;
+      stands = e.stands g.met.D.SimDisk.told;
     } in
     ended_fit (the_view c.self.inside) c.args.self.now c.args.host c.args.p c.args.number c.args.event.now c.index_mut-broker.result.now c.publish-answer.new.self c.publish-answer.result s host c.every_topology_is_a_tree.ensures.tree k c.take_answer.new.frames.frames c.take_answer.result (g.D.Disk.lane_of c.args.disk.now) (g.D.Disk.lane_of c.stop_after.new.self) (g.D.Disk.lane_of c.publish-answer.new.disk) (g.D.Disk.lane_of c.stop_after-2.new.self) (stop_at c.args.stop.now.call c.args.stop.now.pick)
-    c.take_answer.ensures.follows c.take_answer.ensures.takes (c.requires.lanes t) (c.stop_after.ensures.stop t) (c.stop_after-2.ensures.stop t) (c.stop_after-2.ensures.others t)
-    (λ m away. c.stop_after-2.ensures.others t m away ∙ (e.others t m away ∙ c.stop_after.ensures.others t m away)) on
+    c.take_answer.ensures.follows c.take_answer.ensures.takes c.requires.lanes (c.stop_after.ensures.stop g.met.D.SimDisk.told) (c.stop_after-2.ensures.stop g.met.D.SimDisk.told) (c.stop_after-2.ensures.others g.met.D.SimDisk.told)
+    (λ m away. c.stop_after-2.ensures.others g.met.D.SimDisk.told m away ∙ (e.others g.met.D.SimDisk.told m away ∙ c.stop_after.ensures.others g.met.D.SimDisk.told m away)) on
+
+pub returns-then-is_broken_by-clause-reopen : goal.returns-then-is_broken_by-clause-reopen
+returns-then-is_broken_by-clause-reopen g c =
+    let s : Site (the_view c.self.inside) c.args.self.now c.args.host c.args.p c.index_mut-broker.result.now = record {
+      same = c.self.view_is;
+      fits = c.requires.fits;
+      is_open = c.requires.«open»;
+      publisher = c.requires.publisher;
+      broker = subst (λ (u : WorldView). c.args.host < length u.topo.brokers) (sym c.self.view_is) c.requires.broker;
+      read = c.index_mut-broker.ensures.value;
+    } in
+    let host : host_of c.self.inside.topology c.args.p ≡ c.args.host = sym (c.requires.host ∙ ap (λ (u : WorldView). host_of u.topo c.args.p) (sym c.self.view_is)) in
+    let e = c.publish-answer.ensures in
+    let k : Publishes c.self.inside.topology c.index_mut-broker.result.now c.args.p c.self.inside.clock c.args.number c.args.event.now c.publish-answer.new.self c.publish-answer.result =
+    record { told = e.told; leaves = e.leaves; log = e.log; fits = e.fits; reopen = e.reopen } in
+    stopped_reopens (the_view c.self.inside) c.args.self.now c.args.host c.args.p c.args.number c.args.event.now c.index_mut-broker.result.now c.publish-answer.new.self c.publish-answer.result s host c.every_topology_is_a_tree.ensures.tree k
+    (broken_by c.publish-answer.result c.stopped.result (sym c.is_broken_by.ensures ∙ c.if-is_broken_by.true)).0
+
+pub returns-clause-reopen : goal.returns-clause-reopen
+returns-clause-reopen g c =
+    let s : Site (the_view c.self.inside) c.args.self.now c.args.host c.args.p c.index_mut-broker.result.now = record {
+      same = c.self.view_is;
+      fits = c.requires.fits;
+      is_open = c.requires.«open»;
+      publisher = c.requires.publisher;
+      broker = subst (λ (u : WorldView). c.args.host < length u.topo.brokers) (sym c.self.view_is) c.requires.broker;
+      read = c.index_mut-broker.ensures.value;
+    } in
+    let host : host_of c.self.inside.topology c.args.p ≡ c.args.host = sym (c.requires.host ∙ ap (λ (u : WorldView). host_of u.topo c.args.p) (sym c.self.view_is)) in
+    let e = c.publish-answer.ensures in
+    let k : Publishes c.self.inside.topology c.index_mut-broker.result.now c.args.p c.self.inside.clock c.args.number c.args.event.now c.publish-answer.new.self c.publish-answer.result =
+    record { told = e.told; leaves = e.leaves; log = e.log; fits = e.fits; reopen = e.reopen } in
+    let lines_is : lines_in c.match-take_answer.result ≡ c.take_answer.result = elim c.match-take_answer.branch [
+      | in-Ok w ↦ ap lines_in w.result-is ∙ sym w.in-Ok.is
+      | in-Err w ↦ ap lines_in w.result-is ∙ sym w.in-Err.is
+    ] in
+    subst (λ (r : Result (List Report) WorldFault). IsErrOf r fault.Reopen ↔ IsBarred c.args.self.now c.args.p c.args.number c.args.event.now) (sym lines_is)
+    (reopens_publish (the_view c.self.inside) c.args.self.now c.args.host c.args.p c.args.number c.args.event.now c.index_mut-broker.result.now c.publish-answer.new.self c.take_answer.new.frames.frames c.publish-answer.result c.take_answer.result s host c.every_topology_is_a_tree.ensures.tree k c.take_answer.ensures.follows c.take_answer.ensures.takes)
+
+pub returns-clause-unchanged : goal.returns-clause-unchanged
+returns-clause-unchanged g c =
+    let s : Site (the_view c.self.inside) c.args.self.now c.args.host c.args.p c.index_mut-broker.result.now = record {
+      same = c.self.view_is;
+      fits = c.requires.fits;
+      is_open = c.requires.«open»;
+      publisher = c.requires.publisher;
+      broker = subst (λ (u : WorldView). c.args.host < length u.topo.brokers) (sym c.self.view_is) c.requires.broker;
+      read = c.index_mut-broker.ensures.value;
+    } in
+    let host : host_of c.self.inside.topology c.args.p ≡ c.args.host = sym (c.requires.host ∙ ap (λ (u : WorldView). host_of u.topo c.args.p) (sym c.self.view_is)) in
+    let e = c.publish-answer.ensures in
+    let k : Publishes c.self.inside.topology c.index_mut-broker.result.now c.args.p c.self.inside.clock c.args.number c.args.event.now c.publish-answer.new.self c.publish-answer.result =
+    record { told = e.told; leaves = e.leaves; log = e.log; fits = e.fits; reopen = e.reopen } in
+    let lines_is : lines_in c.match-take_answer.result ≡ c.take_answer.result = elim c.match-take_answer.branch [
+      | in-Ok w ↦ ap lines_in w.result-is ∙ sym w.in-Ok.is
+      | in-Err w ↦ ap lines_in w.result-is ∙ sym w.in-Err.is
+    ] in
+    subst (λ (r : Result (List Report) WorldFault). IsErrOf r fault.Reopen → (put_in (the_view c.self.inside) c.args.host c.publish-answer.new.self c.take_answer.new.frames.frames) ≡ c.args.self.now) (sym lines_is)
+    (unchanged_publish (the_view c.self.inside) c.args.self.now c.args.host c.args.p c.args.number c.args.event.now c.index_mut-broker.result.now c.publish-answer.new.self c.take_answer.new.frames.frames c.publish-answer.result c.take_answer.result s host c.every_topology_is_a_tree.ensures.tree k c.take_answer.ensures.follows c.take_answer.ensures.takes)
+
+pub returns-clause-failed : goal.returns-clause-failed
+returns-clause-failed g c =
+    let s : Site (the_view c.self.inside) c.args.self.now c.args.host c.args.p c.index_mut-broker.result.now = record {
+      same = c.self.view_is;
+      fits = c.requires.fits;
+      is_open = c.requires.«open»;
+      publisher = c.requires.publisher;
+      broker = subst (λ (u : WorldView). c.args.host < length u.topo.brokers) (sym c.self.view_is) c.requires.broker;
+      read = c.index_mut-broker.ensures.value;
+    } in
+    let host : host_of c.self.inside.topology c.args.p ≡ c.args.host = sym (c.requires.host ∙ ap (λ (u : WorldView). host_of u.topo c.args.p) (sym c.self.view_is)) in
+    let e = c.publish-answer.ensures in
+    let k : Publishes c.self.inside.topology c.index_mut-broker.result.now c.args.p c.self.inside.clock c.args.number c.args.event.now c.publish-answer.new.self c.publish-answer.result =
+    record { told = e.told; leaves = e.leaves; log = e.log; fits = e.fits; reopen = e.reopen } in
+    let lines_is : lines_in c.match-take_answer.result ≡ c.take_answer.result = elim c.match-take_answer.branch [
+      | in-Ok w ↦ ap lines_in w.result-is ∙ sym w.in-Ok.is
+      | in-Err w ↦ ap lines_in w.result-is ∙ sym w.in-Err.is
+    ] in
+    subst (λ (r : Result (List Report) WorldFault). IsErrOf r fault.Disk → (put_in (the_view c.self.inside) c.args.host c.publish-answer.new.self c.take_answer.new.frames.frames) ≡ broken_in c.args.self.now c.args.host c.args.p) (sym lines_is)
+    (λ h. failed_publish (the_view c.self.inside) c.args.self.now c.args.host c.args.p c.args.number c.args.event.now c.index_mut-broker.result.now c.publish-answer.new.self c.take_answer.new.frames.frames c.publish-answer.result c.take_answer.result s host c.every_topology_is_a_tree.ensures.tree k c.take_answer.ensures.follows c.take_answer.ensures.takes h ∙ ap (λ b. broken_in c.args.self.now b c.args.p) (sym c.requires.host))

@@ -22,7 +22,7 @@ publishers-preserved g c =
     let z = c.sweep_for-told.new.disk in
     record {
       ran = ran_joined a b new c.publishers.lines told (Ok c.in-Ok.all) c.in-Ok.ensures sofar.ran c.sweep_for-told.ensures.ran;
-      disk = disk_joined g.D.Disk.tells (g.D.Disk.faultless x) (g.D.Disk.faultless y) (g.D.Disk.faultless z) (g.D.Disk.faults x) (g.D.Disk.stops x) (g.D.Disk.faults y) (g.D.Disk.stops y) (g.D.Disk.faults z) (g.D.Disk.stops z)
+      disk = disk_joined (g.D.Disk.faultless x) (g.D.Disk.faultless y) (g.D.Disk.faultless z) (g.D.Disk.faults x) (g.D.Disk.stops x) (g.D.Disk.faults y) (g.D.Disk.stops y) (g.D.Disk.faults z) (g.D.Disk.stops z)
           c.publishers.lines told (Ok c.in-Ok.all) c.in-Ok.ensures sofar.disk c.sweep_for-told.ensures.disk;
       lanes = c.sweep_for-told.ensures.lanes;
       leads = leads_joined (sweep_for (net_in a)) p (numbers_from (p + 1) (n - (p + 1))) (numbers_from p (n - p)) b new c.publishers.lines c.in-Ok.all told (in_turn (sweep_for (net_in a)) (numbers n) (world_of a))

@@ -3,7 +3,8 @@ use Rattle.gr_model.specs.Net.{numbers, numbers_from}
 use Rattle.gr_model.specs.World.{sweep_for, in_turn}
 use Rattle.gr_world.specs.Seen.{net_in, world_of}
 use Rattle.gr_world.specs.Of.{LanesFit}
-use Rattle.gr_world.specs.Ran.{Ran, RanOn}
+use Rattle.gr_world.specs.Ran.{Ran}
+use Rattle.gr_world.specs.Disk.{UsesDisk}
 use Rattle.gr_world.proofs.Composed.{Leads}
 use Rattle.gr_world.proofs.world.World.sweep_publishers.Given as goal
 
@@ -11,7 +12,7 @@ use Rattle.gr_world.proofs.world.World.sweep_publishers.Given as goal
 abbrev pub invariant-publishers : goal.invariant-publishers
 invariant-publishers g l = record {
   ran : Ran l.initial.self l.self (Ok l.lines);
-  disk : RanOn g.D.Disk.tells (g.D.Disk.faultless l.initial.disk) (g.D.Disk.faultless l.disk) (g.D.Disk.faults l.initial.disk) (g.D.Disk.stops l.initial.disk) (g.D.Disk.faults l.disk) (g.D.Disk.stops l.disk) (Ok l.lines);
-  lanes : g.D.Disk.tells → LanesFit (g.D.Disk.lane_of l.disk) l.self;
+  disk : UsesDisk (g.D.Disk.faultless l.initial.disk) (g.D.Disk.faultless l.disk) (g.D.Disk.faults l.initial.disk) (g.D.Disk.stops l.initial.disk) (g.D.Disk.faults l.disk) (g.D.Disk.stops l.disk) (Ok l.lines);
+  lanes : LanesFit (g.D.Disk.lane_of l.disk) l.self;
   leads : Leads (sweep_for (net_in l.initial.self)) (numbers_from l.p (length l.initial.self.topo.publishers - l.p)) l.self l.lines (in_turn (sweep_for (net_in l.initial.self)) (numbers (length l.initial.self.topo.publishers)) (world_of l.initial.self));
 }

@@ -14,9 +14,9 @@ returns-clause-makes g c =
     (λ n. next_wake (net_in w) (world_of w) n c.args.b)
 
 pub returns-clause-lanes : goal.returns-clause-lanes
-returns-clause-lanes g c = λ tells.
+returns-clause-lanes g c =
     let one = c.wake_each-answer in
-    lanes_noted (g.D.Disk.lane_of one.new.disk) one.new.self c.noted.new.self one.result c.noted.ensures.view (one.ensures.lanes tells)
+    lanes_noted (g.D.Disk.lane_of one.new.disk) one.new.self c.noted.new.self one.result c.noted.ensures.view one.ensures.lanes
 
 pub returns-clause-fits : goal.returns-clause-fits
 returns-clause-fits g c =

@@ -14,7 +14,7 @@ use Rattle.gr_world.proofs.world.World.wake_at.Goals as goal
 
 pub wake-answer-requires-clause-stands : goal.wake-answer-requires-clause-stands
 wake-answer-requires-clause-stands g c = λ tells.
-    read_stands (the_view c.self.inside) c.args.self.now c.args.b c.index_mut-broker.result.now (g.D.Disk.lane_of c.args.disk.now) c.self.view_is c.requires.fits c.requires.«open» (c.requires.lanes tells)
+    read_stands (the_view c.self.inside) c.args.self.now c.args.b c.index_mut-broker.result.now (g.D.Disk.lane_of c.args.disk.now) c.self.view_is c.requires.fits c.requires.«open» c.requires.lanes
     (subst (λ (u : WorldView). c.args.b < length u.topo.brokers) (sym c.self.view_is) c.requires.broker) c.index_mut-broker.ensures.value
 
 -- The broker that is read, and what its call gives
@@ -43,17 +43,17 @@ ran g c =
 closed : (g : Over) (c : goal.After-take_answer g) → is_broken (log_in c.index_mut-broker.result.now c.args.p) ≡ true → c.wake-answer.new.disk ≡ c.args.disk.now
 closed g c = c.wake-answer.ensures.closed
 
-lanes : (g : Over) (c : goal.After-take_answer g) → g.D.Disk.tells → LanesFit (g.D.Disk.lane_of c.wake-answer.new.disk) (put_in (the_view c.self.inside) c.args.b c.wake-answer.new.self c.take_answer.new.frames.frames)
-lanes g c tells =
+lanes : (g : Over) (c : goal.After-take_answer g) → LanesFit (g.D.Disk.lane_of c.wake-answer.new.disk) (put_in (the_view c.self.inside) c.args.b c.wake-answer.new.self c.take_answer.new.frames.frames)
+lanes g c =
     let e = c.wake-answer.ensures in
     lanes_wake (the_view c.self.inside) c.args.self.now c.args.b c.args.p c.index_mut-broker.result.now c.wake-answer.new.self c.take_answer.new.frames.frames
     c.wake-answer.result c.take_answer.result (site g c) c.every_topology_is_a_tree.ensures.tree (gives g c) c.take_answer.ensures.follows c.take_answer.ensures.takes
-    (g.D.Disk.lane_of c.args.disk.now) (g.D.Disk.lane_of c.wake-answer.new.disk) (c.requires.lanes tells) (record {
-      lane = e.lane tells;
+    (g.D.Disk.lane_of c.args.disk.now) (g.D.Disk.lane_of c.wake-answer.new.disk) c.requires.lanes (record {
+      lane = e.lane g.met.D.SimDisk.told;
       below = λ h n. ap (λ d. g.D.Disk.lane_of d n) (e.below h);
       broken = λ h n. ap (λ d. g.D.Disk.lane_of d n) (closed g c h);
-      others = e.others tells;
-      stands = e.stands tells;
+      others = e.others g.met.D.SimDisk.told;
+      stands = e.stands g.met.D.SimDisk.told;
     })
 
 -- What the world answers and leaves
@@ -69,11 +69,11 @@ returns-clause-ran g c = ran g c
 pub returns-clause-disk : goal.returns-clause-disk
 returns-clause-disk g c =
     let e = c.wake-answer.ensures in
-    ran_on g.D.Disk.tells (g.D.Disk.faultless c.args.disk.now) (g.D.Disk.faultless c.wake-answer.new.disk) (g.D.Disk.faults c.args.disk.now) (g.D.Disk.stops c.args.disk.now)
+    ran_on (g.D.Disk.faultless c.args.disk.now) (g.D.Disk.faultless c.wake-answer.new.disk) (g.D.Disk.faults c.args.disk.now) (g.D.Disk.stops c.args.disk.now)
     (g.D.Disk.faults c.wake-answer.new.disk) (g.D.Disk.stops c.wake-answer.new.disk) (g.D.Disk.lane_of c.wake-answer.new.disk (2 * c.args.p)) c.wake-answer.result c.take_answer.result
-    c.take_answer.ensures.follows e.tally e.causes e.faultless
-    (λ tells. site_unstopped (the_view c.self.inside) c.args.self.now c.args.b c.args.p c.index_mut-broker.result.now (site g c) c.wake-answer.new.self c.take_answer.new.frames.frames c.take_answer.result
-    (g.D.Disk.lane_of c.wake-answer.new.disk) c.every_topology_is_a_tree.ensures.tree (ran g c) (lanes g c tells))
+    c.take_answer.ensures.follows e.tally (e.causes g.met.D.SimDisk.told) e.faultless
+    (site_unstopped (the_view c.self.inside) c.args.self.now c.args.b c.args.p c.index_mut-broker.result.now (site g c) c.wake-answer.new.self c.take_answer.new.frames.frames c.take_answer.result
+    (g.D.Disk.lane_of c.wake-answer.new.disk) c.every_topology_is_a_tree.ensures.tree (ran g c) (lanes g c))
 
 pub returns-clause-lanes : goal.returns-clause-lanes
 returns-clause-lanes g c = lanes g c

@@ -2,7 +2,8 @@ use Rattle.std.proofs.Common.{◌≡◌, drop, Ok}
 use Rattle.gr_model.specs.World.{wake_up, in_turn}
 use Rattle.gr_world.specs.Seen.{net_in, world_of}
 use Rattle.gr_world.specs.Of.{LanesFit}
-use Rattle.gr_world.specs.Ran.{Ran, RanOn}
+use Rattle.gr_world.specs.Ran.{Ran}
+use Rattle.gr_world.specs.Disk.{UsesDisk}
 use Rattle.gr_world.proofs.Composed.{Leads}
 use Rattle.gr_world.proofs.world.World.wake_brokers.Given as goal
 
@@ -10,7 +11,7 @@ use Rattle.gr_world.proofs.world.World.wake_brokers.Given as goal
 abbrev pub invariant-brokers : goal.invariant-brokers
 invariant-brokers g l = record {
   ran : Ran l.initial.self l.self (Ok l.lines);
-  disk : RanOn g.D.Disk.tells (g.D.Disk.faultless l.initial.disk) (g.D.Disk.faultless l.disk) (g.D.Disk.faults l.initial.disk) (g.D.Disk.stops l.initial.disk) (g.D.Disk.faults l.disk) (g.D.Disk.stops l.disk) (Ok l.lines);
-  lanes : g.D.Disk.tells → LanesFit (g.D.Disk.lane_of l.disk) l.self;
+  disk : UsesDisk (g.D.Disk.faultless l.initial.disk) (g.D.Disk.faultless l.disk) (g.D.Disk.faults l.initial.disk) (g.D.Disk.stops l.initial.disk) (g.D.Disk.faults l.disk) (g.D.Disk.stops l.disk) (Ok l.lines);
+  lanes : LanesFit (g.D.Disk.lane_of l.disk) l.self;
   leads : Leads (wake_up (net_in l.initial.self) l.p) (drop l.b-index l.brokers) l.self l.lines (in_turn (wake_up (net_in l.initial.self) l.p) l.brokers (world_of l.initial.self));
 }

@@ -12,5 +12,5 @@ returns-clause-ran g c =
     ran_joined c.args.self.now c.wake_at.new.self c.deliver_up-told.new.self c.in-Ok.lines c.deliver_up-told.result c.joined.result c.joined.ensures c.in-Ok.ensures.ran c.deliver_up-told.ensures.ran
 
 pub returns-clause-lanes : goal.returns-clause-lanes
-returns-clause-lanes g c = λ t.
-    lanes_kept (g.D.Disk.lane_of c.wake_at.new.disk) c.wake_at.new.self c.deliver_up-told.new.self c.deliver_up-told.ensures.ran.keeps c.deliver_up-told.ensures.delivers.logs (c.in-Ok.ensures.lanes t)
+returns-clause-lanes g c =
+    lanes_kept (g.D.Disk.lane_of c.wake_at.new.disk) c.wake_at.new.self c.deliver_up-told.new.self c.deliver_up-told.ensures.ran.keeps c.deliver_up-told.ensures.delivers.logs (c.in-Ok.ensures.lanes)
