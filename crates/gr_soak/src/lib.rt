@@ -1,0 +1,15 @@
+//! The soak: a scenario of any size that is made from a number, and counts over the report of its replay.
+//!
+//! `soak_text` makes the scenario, as a text that a replay reads. `soak` makes it too, carries it out and prints nine
+//! lines of counts: it keeps no report, so its memory is that of the scenario, the world and the lines of one step.
+#![tactic(auto)]
+
+mod draws;
+mod running;
+mod summary;
+#[cfg(test)]
+mod tests;
+mod text;
+
+pub use running::soak;
+pub use text::soak_text;
