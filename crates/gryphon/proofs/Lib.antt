@@ -1,2 +1,2 @@
-pub mod Lengths
 pub mod StepLemmas
+pub mod WordLemmas

@@ -1,3 +1,3 @@
-pub mod Refusals
-pub mod Scenario
+pub mod Words
+pub mod Answers
 pub mod Top

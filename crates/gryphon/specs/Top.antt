@@ -1,5 +1,5 @@
 -- What the top call promises
-use Rattle.std.specs.Prelude.{◌≡◌, ℕ, ◌⊎◌, List, [], ◌∷◌, Option, codes}
+use Rattle.std.specs.Prelude.{◌≡◌, ℕ, ◌⊎◌, List, Option}
 use Rattle.gr_out.specs.Bytes.{with_more}
 use Rattle.gr_sched.specs.declared.step.Line.{Line}
 use Rattle.gr_topo.specs.Topology.{TopologyView}
@@ -9,13 +9,10 @@ use Rattle.gr_model.specs.NetOf.{net_of}
 use Rattle.gr_model.specs.World.{report_of}
 use Rattle.gr_theorems.specs.ByRules.{ReportByRules}
 use Rattle.gr_theorems.specs.Replies.{Replied}
-use Rattle.gryphon.specs.declared.asked.Asked.{Asked}
-use Rattle.gryphon.specs.declared.asked.Asked.TheVariants.{Replayed}
+use Rattle.gr_scenario.specs.declared.asked.Asked.{Asked}
+use Rattle.gr_scenario.specs.declared.asked.Asked.TheVariants.{Scenario}
 use Rattle.gr_replay.specs.Replayed.{replayed_text}
-
--- the words are those of the one command
-abbrev pub IsReplay : List (List ℕ) → Type 0
-IsReplay words = words ≡ codes "replay" ∷ []
+use Rattle.gryphon.specs.Answers.{Answer}
 
 -- the report of a schedule over a topology meets the headline
 pub record MeetsHeadline (t : TopologyView) (lines : List Line) : Type 0 where
@@ -34,13 +31,18 @@ pub record MeetsHeadline (t : TopologyView) (lines : List Line) : Type 0 where
 pub record WasReplayed (old new : Option (List ℕ)) (asked : Asked) : Type 0 where
   pub topology : TopologyView
   pub lines : List Line
-  pub schedule : asked ≡ Replayed topology lines
+  pub schedule : asked ≡ Scenario topology lines
   pub taken : new ≡ with_more old (replayed_text topology lines)
   pub meets : MeetsHeadline topology lines
 
+-- the status is that of the answer, and the sink took its text whole
+pub record IsAnswered (status : ℕ) (old new : Option (List ℕ)) (answer : Answer) : Type 0 where
+  pub same : status ≡ answer.status
+  pub taken : new ≡ with_more old answer.text
+
 -- a status that comes once all is printed
 abbrev pub IsWhole : ℕ → Type 0
-IsWhole status = (status ≡ 0) ⊎ ((status ≡ 2) ⊎ (status ≡ 9))
+IsWhole status = (status ≡ 0) ⊎ ((status ≡ 1) ⊎ ((status ≡ 2) ⊎ (status ≡ 9)))
 
 -- a status that comes once a part is printed
 abbrev pub IsCut : ℕ → Type 0

@@ -1,6 +1,6 @@
 //! That the report of every schedule meets the headline.
 
-ghost use Rattle.gr_replay.specs.Replayed.{AreStepsOf};
+ghost use Rattle.gr_scenario.specs.Steps.{AreStepsOf};
 ghost use Rattle.gryphon.specs.Top.{MeetsHeadline};
 
 use gr_model::topologies::every_topology_is_a_tree;

@@ -1,13 +1,18 @@
-//! The command `gryphon`: `gryphon replay` reads a scenario from standard input, carries it out and prints its report.
+//! The command `gryphon`: `gryphon replay` reads a scenario from standard input, carries it out and prints its report;
+//! `gryphon match` reads filters and events, and prints for each event the filters that match it; `gryphon soak N`
+//! makes a scenario, carries it out and prints counts over its report.
 #![tactic(auto)]
 
-mod asked;
 mod headline;
-mod refusals;
-mod scenario;
+mod input;
+mod matching;
+mod printing;
+mod replaying;
+mod soaking;
 #[cfg(test)]
 mod tests;
 mod top;
+mod words;
 
 use gr_sock::{StdSink, StdSource};
 use std::env;

@@ -227,13 +227,34 @@ fn too_many_steps_are_refused(rt: HostRuntime) -> Result<(), Fail> {
 
 #[test]
 fn other_words_get_the_usage(rt: HostRuntime) -> Result<(), Fail> {
-    let rows: [&[&str]; 6] = [
+    let rows: [&[&str]; 23] = [
         &[],
         &["frob"],
-        &["soak", "0"],
-        &["replay", "replay"],
         &["Replay"],
         &["--help"],
+        &["--", "replay"],
+        // A command that is not there.
+        &["serve", "1", "A"],
+        // No number, a number out of range, and a word too many.
+        &["soak"],
+        &["soak", "0"],
+        &["soak", "2001"],
+        &["soak", "-1"],
+        &["soak", "x"],
+        &["soak", "5", "6"],
+        &["soak", "--help"],
+        // A word too many.
+        &["replay", "x"],
+        &["replay", "replay"],
+        &["replay", ""],
+        &["replay", "--", "x"],
+        &["match", "x"],
+        &["match", "replay"],
+        // Requests for help.
+        &["replay", "-h"],
+        &["replay", "--help"],
+        &["match", "-h"],
+        &["match", "--help"],
     ];
     for words in rows {
         // The source's first call is to fail: it is not made.
@@ -247,6 +268,86 @@ fn other_words_get_the_usage(rt: HostRuntime) -> Result<(), Fail> {
         comes_to(&rt, rt.alloc(), &case, 1, USAGE)?;
         case.room = 6;
         comes_to(&rt, rt.alloc(), &case, 4, "usage:")?;
+    }
+    Ok(())
+}
+
+#[test]
+fn a_sign_may_end_the_words(rt: HostRuntime) -> Result<(), Fail> {
+    let case = Case {
+        words: &["replay", "--"],
+        input: b"---\ndeliver 1\n",
+        reads: &[],
+        room: 1000,
+        writes: &[],
+    };
+    comes_to(
+        &rt,
+        rt.alloc(),
+        &case,
+        0,
+        "refused line 1 no-frame 1 of 0\n",
+    )
+}
+
+/// A match text, and the lines that it gives.
+const FILTERS: &str = "high price > 80\nrest NOT price > 80\n---\n{\"price\":82}\n{\"qty\":1}\n";
+
+const MATCHED: &str = "high\n-\n";
+
+#[test]
+fn a_match_text_is_matched(rt: HostRuntime) -> Result<(), Fail> {
+    let none: [u64; 0] = [];
+    let rows: [(&[u8], &[u64], usize, u8, &str); 6] = [
+        (FILTERS.as_bytes(), &none, 1000, 0, MATCHED),
+        (b"", &none, 1000, 0, ""),
+        (
+            b"a x = 1\na y = 2\n",
+            &none,
+            1000,
+            2,
+            "match 5 twice line 2\n",
+        ),
+        // A schedule is no match text.
+        (
+            FIRST.as_bytes(),
+            &none,
+            1000,
+            2,
+            "match 2 bad-event line 2 not-json\n",
+        ),
+        (FILTERS.as_bytes(), &[1], 1000, 3, ""),
+        (FILTERS.as_bytes(), &none, 3, 4, "hig"),
+    ];
+    for (input, reads, room, status, printed) in rows {
+        let case = Case {
+            words: &["match"],
+            input,
+            reads,
+            room,
+            writes: &none,
+        };
+        comes_to(&rt, rt.alloc(), &case, status, printed)?;
+    }
+    Ok(())
+}
+
+#[test]
+fn a_number_of_turns_is_read_by_its_value(rt: HostRuntime) -> Result<(), Fail> {
+    let rows: [&[&str]; 4] = [
+        &["soak", "3"],
+        &["soak", "+3"],
+        &["soak", "003"],
+        &["soak", "3", "--"],
+    ];
+    for words in rows {
+        // The source's first call is to fail: it is not made.
+        let mut source = MemSource::new(rt.alloc(), b"", &[1])?;
+        let mut sink = MemSink::new(rt.alloc(), 1000, &[])?;
+        let came = gryphon(rt.alloc(), words, &mut source, &mut sink);
+        assert_eq!(rt; came, 0);
+        let printed = as_text(sink.bytes());
+        assert!(rt; printed.starts_with("soak 3\nbrokers 7\n"), "{printed:?}");
     }
     Ok(())
 }

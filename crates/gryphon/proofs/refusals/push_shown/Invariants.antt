@@ -1,7 +1,0 @@
-use Rattle.std.proofs.Common.{◌≡◌, ◌++◌, drop, map}
-use Rattle.gryphon.specs.Refusals.{shown_byte}
-use Rattle.gryphon.proofs.refusals.push_shown.Given as goal
-
--- the line so far and what is left make the whole
-abbrev pub invariant-bytes : goal.invariant-bytes
-invariant-bytes l = l.line ++ map shown_byte (drop l.byte-index l.name) ≡ l.initial.line ++ map shown_byte l.name

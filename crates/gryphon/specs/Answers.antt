@@ -1,0 +1,67 @@
+-- What is answered
+use Rattle.std.specs.Prelude.{ℕ, List, [], ◌∷◌, ◌++◌, Option, Some, codes}
+use Rattle.std.specs.Option.{option_map}
+use Rattle.gr_matching.specs.declared.asked.Asked.{Asked as AskedOfMatchText}
+use Rattle.gr_matching.specs.declared.asked.Asked.TheVariants as match_text
+use Rattle.gr_matching.specs.Matching.{matched_text}
+use Rattle.gr_matching.specs.Reading.{asked_by as match_text_by}
+use Rattle.gr_replay.specs.Replayed.{replayed_text}
+use Rattle.gr_scenario.specs.declared.asked.Asked.{Asked as AskedOfScenario}
+use Rattle.gr_scenario.specs.declared.asked.Asked.TheVariants as scenario
+use Rattle.gr_scenario.specs.Scenario.{asked_by as scenario_by}
+use Rattle.gr_soak.specs.Report.{soak_report}
+use Rattle.gryphon.specs.declared.input.Input.{Input}
+use Rattle.gryphon.specs.declared.input.Input.TheVariants.{Scenario, MatchText}
+use Rattle.gryphon.specs.declared.words.Task.{Task}
+use Rattle.gryphon.specs.declared.words.Task.TheVariants.{Usage, Replay, Match, Soak}
+
+-- a status, and all that is printed with it
+pub record Answer : Type 0 where
+  pub status : ℕ
+  pub text : List ℕ
+
+-- To what bytes ask
+
+-- more bytes, or more counted lines, than a source may have
+abbrev pub too_many_bytes : Answer
+too_many_bytes = record { status = 9; text = codes "too-large bytes" ++ 10 ∷ [] }
+
+abbrev pub too_many_lines : Answer
+too_many_lines = record { status = 9; text = codes "too-large steps" ++ 10 ∷ [] }
+
+-- what is refused, with the line that says why
+abbrev pub refusal : List ℕ → Answer
+refusal line = record { status = 2; text = line ++ 10 ∷ [] }
+
+abbrev pub replay_answer : AskedOfScenario → Answer
+replay_answer scenario.TooManyBytes = too_many_bytes
+replay_answer scenario.TooManySteps = too_many_lines
+replay_answer (scenario.Refused line) = refusal line
+replay_answer (scenario.Scenario t lines) = record { status = 0; text = replayed_text t lines }
+
+abbrev pub match_answer : AskedOfMatchText → Answer
+match_answer match_text.TooManyBytes = too_many_bytes
+match_answer match_text.TooManyLines = too_many_lines
+match_answer (match_text.Refused line) = refusal line
+match_answer (match_text.Matching filters events) = record { status = 0; text = matched_text filters events }
+
+-- to bytes, by what they are read as
+abbrev pub answer_of : Input → List ℕ → Answer
+answer_of Scenario bytes = replay_answer (scenario_by bytes)
+answer_of MatchText bytes = match_answer (match_text_by bytes)
+
+-- To words
+
+-- that are no command's
+abbrev pub usage_answer : Answer
+usage_answer = record {
+  status = 1;
+  text = codes "usage: gryphon replay | serve TURNS BROKER... | match | soak N" ++ 10 ∷ [];
+}
+
+-- to a task, with these bytes left in the source. Where they are not told, nothing is said of a task that reads them
+abbrev pub answer_to : Task → Option (List ℕ) → Option Answer
+answer_to Usage left = Some usage_answer
+answer_to Replay left = option_map (answer_of Scenario) left
+answer_to Match left = option_map (answer_of MatchText) left
+answer_to (Soak count) left = Some (record { status = 0; text = soak_report count })

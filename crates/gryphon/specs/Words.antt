@@ -1,0 +1,88 @@
+-- What the words of a command line ask for
+use Rattle.std.specs.Prelude.{◌≡◌, ℕ, ◌≤◌, Bool, true, false, ◌||◌, List, [], ◌∷◌, Option, Some, map, codes}
+use Rattle.std.specs.Prelude.{unwrap_or, if◌then◌else◌}
+use Rattle.std.specs.Borrow.{Bor}
+use Rattle.std.specs.Option.{option_map}
+use Rattle.std.specs.Str.{bytes_eq}
+use Rattle.std.specs.Str.Parse.{digits_value, without_leading_plus}
+use Rattle.clap.specs.declared.builder.ArgAction.TheVariants.{Set}
+use Rattle.clap.specs.declared.builder.value_parser.ValueParser.TheVariants.{Unsigned}
+use Rattle.clap.specs.declared.parser.matches.ArgMatches.{ArgMatches}
+use Rattle.clap.specs.Words.{App, Rule, Text, Kinds, IsUnsignedIn, new_app, new_rule, with_rule, fault_of, found_of}
+use Rattle.clap.specs.Words.{matches_of, one_of, one_text}
+use Rattle.gryphon.specs.declared.words.Task.{Task}
+use Rattle.gryphon.specs.declared.words.Task.TheVariants.{Usage, Replay, Match, Soak}
+
+-- the texts of words
+abbrev pub texts_of : List (Bor Text) → List Text
+texts_of words = map (λ word. word.now) words
+
+-- The commands, each by its definition, which reads all words: the command's own in the place of a program's name
+
+abbrev pub replay_app : App
+replay_app = new_app (codes "replay")
+
+abbrev pub match_app : App
+match_app = new_app (codes "match")
+
+-- one number, from 1 to 2,000
+abbrev pub count_rule : Rule
+count_rule = record (new_rule (codes "count")) {
+  required = true;
+  action = Some Set;
+  parser = Some (Unsigned 1 2000);
+}
+
+abbrev pub soak_app : App
+soak_app = with_rule (new_app (codes "soak")) count_rule
+
+-- the number that the words of `soak` give
+abbrev pub soak_count : List Text → Option ℕ
+soak_count words =
+    option_map (λ t. digits_value 10 (without_leading_plus t)) (one_of (codes "count") (matches_of soak_app words))
+
+-- after a parse there is a text for it, of a number in its range
+abbrev pub HasCount : ArgMatches → Type 0
+HasCount m = (t : List ℕ) × (one_text (found_of m) (codes "count") ≡ Some t) × IsUnsignedIn 1 2000 t
+
+-- the first word is the name of a command
+abbrev pub is_known : List Text → Bool
+is_known [] = false
+is_known (name ∷ words) =
+    bytes_eq name (codes "replay") || (bytes_eq name (codes "match") || bytes_eq name (codes "soak"))
+
+-- What is asked for
+
+-- the task, where the definition finds no fault with the words
+abbrev pub taken : Kinds → Task → Task
+taken [] task = task
+taken (k ∷ ks) task = Usage
+
+-- what is asked of the command with a name by all words
+abbrev pub task_named : Text → List Text → Task
+task_named name words =
+    if bytes_eq name (codes "replay") then taken (fault_of replay_app words) Replay
+    else if bytes_eq name (codes "match") then taken (fault_of match_app words) Match
+    else if bytes_eq name (codes "soak") then taken (fault_of soak_app words) (Soak (unwrap_or (soak_count words) 0))
+    else Usage
+
+-- what is asked for. The first word names the command
+abbrev pub task_by : List Text → Task
+task_by [] = Usage
+task_by (name ∷ words) = task_named name (name ∷ words)
+
+-- What is known of it
+
+-- the number of a soak is in its range
+abbrev pub IsInRange : Task → Type 0
+IsInRange Usage = Unit {0}
+IsInRange Replay = Unit {0}
+IsInRange Match = Unit {0}
+IsInRange (Soak count) = (1 ≤ count) × (count ≤ 2000)
+
+-- the task is on the bytes of the source
+abbrev pub IsReading : Task → Type 0
+IsReading Usage = ⊥
+IsReading Replay = Unit {0}
+IsReading Match = Unit {0}
+IsReading (Soak count) = ⊥

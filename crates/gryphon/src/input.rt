@@ -1,0 +1,10 @@
+//! What the bytes of a source are read as.
+
+/// What the bytes of a source are read as.
+#[derive(Clone, Copy)]
+pub enum Input {
+    /// A scenario, which is carried out.
+    Scenario,
+    /// A match text, of which the events are matched.
+    MatchText,
+}
