@@ -1,6 +1,4 @@
-pub mod Names
-pub mod Named
-pub mod Fronts
+pub mod AnswerNamed
 pub mod StepCalls
 pub mod RunTexts
 pub mod OpenedNamed

@@ -1,56 +1,21 @@
--- The lines that an opening tells are named: each is of a log, or of what a host's subscribers get. And a lane that reads nothing
--- is an empty log
-use Rattle.std.proofs.Common.{◌≡◌, ◌<◌, ◌*◌, arith, ℕ, Bool, true, false, ◌&&◌, List, [], ◌∷◌, ◌++◌, refl, sym, subst, ◌∙◌, length, Ok, Err}
-use Rattle.std.specs.Prelude.{nat_lt, if◌then◌else◌, flat_map}
+-- Each line that the opening of a world tells is named, and a lane that reads nothing is an empty log
+use Rattle.std.proofs.Common.{◌≡◌, ◌<◌, ◌*◌, arith, ℕ, List, [], refl, sym, subst, ◌∙◌, length, Ok, Err}
+use Rattle.std.specs.Prelude.{flat_map}
 use Rattle.gr_out.specs.Lane.{Lane, content}
 use Rattle.gr_publog.specs.Text.{log_text}
 use Rattle.gr_topo.specs.Topology.{TopologyView}
 use Rattle.gr_model.specs.declared.report.Report.{Report}
-use Rattle.gr_model.specs.declared.report.Report.TheVariants as line
-use Rattle.gr_model.specs.Net.{Net, is_host, not_empty, numbers}
+use Rattle.gr_model.specs.Net.{numbers}
 use Rattle.gr_model.specs.NetOf.{net_of, IsOrderly}
-use Rattle.gr_model.specs.Broker.{Log, View, Outcome, learn, started}
-use Rattle.gr_model.specs.Opening.{reopened_line}
 use Rattle.gr_model.specs.Text.{IsNamed}
-use Rattle.gr_theorems.proofs.asks.AskMoments.{Each-on}
 use Rattle.gr_theorems.proofs.runs.Worlds.{Each, numbers_below}
 use Rattle.gr_broker.specs.Seen.{machine_log}
 use Rattle.gr_broker.specs.Opened.{opened_at, IsDamagedAt}
+use Rattle.gr_run.specs.Named.{AllNamed}
+use Rattle.gr_run.proofs.Named.{names_of, all_of}
+use Rattle.gr_run.proofs.OpenedNamed.{start_named, each_flat}
 use Rattle.gr_world.specs.Seen.{WorldView, broker_in}
 use Rattle.gr_world.specs.Opened.{IsOpened, AreEmpty}
-use Rattle.gr_replay.specs.Replayed.{AllNamed}
-use Rattle.gr_replay.proofs.Names.{Names, learn_named}
-use Rattle.gr_replay.proofs.Named.{names_of, all_of}
-
-log_named : (net : Net) (N : Report → Type 0) (log : Log) (p : ℕ) → Names net N → p < net.publishers → Each N (reopened_line log p)
-log_named net N log p k j = go (nat_lt 0 log.settled)
-  where
-    go : (c : Bool) → Each N (if c then line.Opened p log.last log.settled log.cut ∷ [] else [])
-    go true = (k.opened p log.last log.settled log.cut j, tt)
-    go false = tt
-
-start_named : (net : Net) (N : Report → Type 0) (p b : ℕ) (log : Log) → Names net N → IsOrderly net → p < net.publishers → Each N (opened_at net p b log).lines
-unfolding opened_at
-start_named net N p b log k o j = go (is_host net p b && not_empty (net.subscribers_at b)) (is_host net p b)
-  where
-    v : View
-    v = started net p b log
-
-    told : Outcome
-    told = learn net p b [] v log
-
-    go : (c d : Bool) → Each N (let x : Outcome = elim c [
-      | true ↦ record { view = told.view; log = log; lines = reopened_line log p ++ told.lines; frames = told.frames }
-      | false ↦ record { view = v; log = log; lines = if d then reopened_line log p else []; frames = [] }
-    ] in x.lines)
-    go true d = Each-on N (reopened_line log p) told.lines (log_named net N log p k j) (learn_named net N p b [] v log k o j)
-    go false true = log_named net N log p k j
-    go false false = tt
-
--- a list that is told for each of some numbers
-each_flat : (N : Report → Type 0) (ok : ℕ → Type 0) (f : ℕ → List Report) → ((n : ℕ) → ok n → Each N (f n)) → (ns : List ℕ) → Each ok ns → Each N (flat_map f ns)
-each_flat N ok f one [] a = tt
-each_flat N ok f one (n ∷ ns) a = Each-on N (f n) (flat_map f ns) (one n a.0) (each_flat N ok f one ns a.1)
 
 -- each line that the opening told is named
 pub opened_named : (t : TopologyView) (w : WorldView) → IsOrderly (net_of t) → IsOpened t w → AllNamed t w.told

@@ -1,5 +1,5 @@
 -- What a replay keeps of a world between two steps, and what its parts answer
-use Rattle.std.specs.Prelude.{◌≡◌, ◌≢◌, ℕ, ◌≤◌, false, List, Result, Ok, Err, IsErrOf}
+use Rattle.std.specs.Prelude.{◌≡◌, ℕ, ◌≤◌, false, List, Result, Err, IsErrOf}
 use Rattle.gr_out.specs.declared.fault.RunFault.{RunFault}
 use Rattle.gr_out.specs.declared.fault.RunFault.TheVariants as run
 use Rattle.gr_publog.specs.Crash.{EitherRose}
@@ -70,9 +70,3 @@ IsRunFault run.Memory = Unit {0}
 IsRunFault run.Disk = Unit {0}
 IsRunFault run.Write = Unit {0}
 IsRunFault _ = ⊥
-
--- why lines could not be put
-abbrev pub IsPutFault : RunFault → Type 0
-IsPutFault run.Memory = Unit {0}
-IsPutFault run.Write = Unit {0}
-IsPutFault _ = ⊥

@@ -1,12 +1,12 @@
 -- The text that a replay gives
 use Rattle.std.specs.Prelude.{List, ℕ}
-use Rattle.std.specs.List.{AllByRecursion, flat_map}
+use Rattle.std.specs.List.{flat_map}
 use Rattle.gr_sched.specs.declared.step.Line.{Line}
 use Rattle.gr_topo.specs.Topology.{TopologyView}
 use Rattle.gr_model.specs.declared.report.Report.{Report}
 use Rattle.gr_model.specs.NetOf.{net_of}
 use Rattle.gr_model.specs.World.{report_of}
-use Rattle.gr_model.specs.Text.{IsNamed, labels_of, report_text}
+use Rattle.gr_model.specs.Text.{labels_of, report_text}
 
 -- all lines of a report, step after step
 abbrev pub all_lines : List (List Report) → List Report
@@ -15,7 +15,3 @@ all_lines steps = flat_map (λ lines. lines) steps
 -- the text of the report of these steps
 abbrev pub replayed_text : TopologyView → List Line → List ℕ
 replayed_text t lines = report_text (labels_of t) (all_lines (report_of (net_of t) lines))
-
--- each number for which a line has a name or a word is in range
-abbrev pub AllNamed : TopologyView → List Report → Type 0
-AllNamed t lines = AllByRecursion (IsNamed t) lines

@@ -8,7 +8,7 @@ ghost use Rattle.gr_model.specs.Tree.{IsNet};
 ghost use Rattle.gr_model.specs.World.{World, next};
 ghost use Rattle.gr_theorems.specs.Edges.{GoesOverEdge};
 ghost use Rattle.gr_scenario.specs.Steps.{IsStepOf};
-ghost use Rattle.gr_replay.specs.Replayed.{AllNamed};
+ghost use Rattle.gr_run.specs.Named.{AllNamed};
 
 /// Each line that a step tells names what the topology has, where all frames so far went over edges of its tree.
 pub fn every_line_is_named()

@@ -3,9 +3,6 @@
 
 mod law;
 #[cfg(test)]
-mod page_tests;
-mod putting;
-#[cfg(test)]
 mod replay_tests;
 mod replaying;
 mod stepping;

@@ -16,13 +16,14 @@ ghost use Rattle.gr_world.specs.Opened.{NoStops, AreEmpty};
 ghost use Rattle.gr_out.specs.Page.{TakesBut};
 ghost use Rattle.gr_scenario.specs.Steps.{AreStepsOf, IsStepOf};
 ghost use Rattle.gr_out.specs.Page.{TakesFront};
-ghost use Rattle.gr_replay.specs.Replayed.{AllNamed, replayed_text};
-ghost use Rattle.gr_replay.specs.Going.{IsGoing, IsPutFault, IsOpeningFault, IsRunFault, NotDamagedRun, DiskCounts, step_text, text_from};
+ghost use Rattle.gr_run.specs.Named.{AllNamed, IsPutFault};
+ghost use Rattle.gr_replay.specs.Replayed.{replayed_text};
+ghost use Rattle.gr_replay.specs.Going.{IsGoing, IsOpeningFault, IsRunFault, NotDamagedRun, DiskCounts, step_text, text_from};
 
-use crate::putting::put_all;
 use crate::stepping::step;
 use gr_model::topologies::every_topology_is_a_tree;
 use gr_out::{Page, RunFault, SimDisk, Sink};
+use gr_run::put_all;
 use gr_sched::{Line, Steps};
 use gr_topo::Topology;
 use gr_world::{World, WorldFault};

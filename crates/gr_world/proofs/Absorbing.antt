@@ -1,21 +1,19 @@
 -- A broker's call is taken up: the world with the broker that the call leaves, and with the frames that it sends, is the
 -- machine's world with the outcome absorbed, since what is kept of one publisher and one log alone have changed
-use Rattle.std.proofs.Common.{◌≡◌, ◌≢◌, ◌⊎◌, inl, inr, ℕ, suc, ◌+◌, ◌<◌, List, [], ◌∷◌, ◌++◌, length, map, get_or, set, Result, Ok, Err, OnOk, refl, sym, ap, ◌∙◌, subst, arith}
+use Rattle.std.proofs.Common.{◌≡◌, ◌≢◌, ◌⊎◌, inl, inr, ℕ, suc, ◌+◌, ◌<◌, List, [], ◌++◌, length, map, get_or, set, Result, Ok, Err, OnOk, sym, ap, ◌∙◌, subst, arith}
 use Rattle.std.proofs.lemmas.List.{map-append, map-set, get_or-map, get_or-set_same, get_or-set_other, length-map, length-set, ext_get_or}
 use Rattle.std.proofs.lemmas.Bool.{cases_eq}
 use Rattle.gr_frame.specs.declared.Frame.{Frame}
-use Rattle.gr_frame.specs.declared.fault.FrameFault.{FrameFault}
 use Rattle.gr_frame.specs.Bytes.{frame_bytes}
 use Rattle.gr_frame.specs.Cut.{AreFrames}
-use Rattle.gr_frame.specs.Limits.{IsFrame}
-use Rattle.gr_frame.proofs.Spelled.{spelled_decodes}
 use Rattle.gr_topo.specs.Topology.{host_of}
 use Rattle.gr_model.specs.declared.report.Report.{Report}
 use Rattle.gr_model.specs.Net.{numbers}
-use Rattle.gr_model.specs.Broker.{View, Log, Outcome as MachineOutcome, empty_log, expect_frame}
+use Rattle.gr_model.specs.Broker.{View, Log, Outcome as MachineOutcome, empty_log}
 use Rattle.gr_model.specs.World.{World, blank_view, view_of, log_of, with_view, absorbed, sent_lines}
 use Rattle.gr_theorems.proofs.runs.Schedules.{get_numbers, length_numbers}
 use Rattle.gr_broker.specs.Seen.{BrokerView, view_in, log_in, log_said}
+use Rattle.gr_run.proofs.Telling.{frames_back}
 use Rattle.gr_world.specs.declared.fault.WorldFault.{WorldFault}
 use Rattle.gr_world.specs.Seen.{WorldView, no_broker, broker_in, log_at, frame_said, world_of}
 use Rattle.gr_world.specs.Steps.{Does}
@@ -30,19 +28,6 @@ view_is w b p lt = ap (λ (vs : List View). get_or vs p blank_view) (get_or-map 
 -- the log of a publisher of the machine's world is the one at its host
 pub log_is : (w : WorldView) (p : ℕ) → p < length w.topo.publishers → log_of (world_of w) p ≡ log_said (log_at w p)
 log_is w p lt = get_numbers (λ q. log_said (log_at w q)) 0 (length w.topo.publishers) p empty_log lt ∙ ap (λ q. log_said (log_at w q)) (omega arith)
-
--- Frames and their bytes
-
--- bytes that spell a frame say it
-pub frame_back : (bytes : List ℕ) (f : Frame) → IsFrame bytes f → frame_said bytes ≡ f
-frame_back bytes f i = ap (λ (r : Result Frame FrameFault). elim r [ Ok g ↦ g | Err e ↦ expect_frame 0 0 0 0 ]) (spelled_decodes bytes f i)
-
--- so do the bytes of many
-pub frames_back : (bs : List (List ℕ)) (fs : List Frame) → AreFrames bs fs → map frame_said bs ≡ fs
-frames_back [] [] a = refl
-frames_back (b ∷ bs) (f ∷ fs) a = ap (λ (g : Frame). g ∷ map frame_said bs) (frame_back b f a.0) ∙ ap (λ (gs : List Frame). f ∷ gs) (frames_back bs fs a.1)
-frames_back [] (f ∷ fs) a = absurd a
-frames_back (b ∷ bs) [] a = absurd a
 
 -- Lists made of numbers
 

@@ -15,7 +15,7 @@ use Rattle.gr_broker.specs.Seen.{BrokerView, log_in}
 use Rattle.gr_broker.specs.Opened.{StartsOver, OpensLanes, LosesNothing, IsDamagedAt}
 use Rattle.gr_world.specs.Seen.{no_broker}
 use Rattle.gr_world.specs.Starting.{CrashesLanes, IsExchanged, OpensAgain, TouchesLanes, LeavesNoLog}
-use Rattle.gr_world.proofs.Hosts.{host_is, is_host_at, log_hosted}
+use Rattle.gr_run.proofs.Hosts.{host_is, is_host_at, log_hosted}
 use Rattle.gr_world.proofs.Brokers.{has_started}
 
 -- The crash

@@ -1,6 +1,6 @@
 -- Brokers start one after another: what is kept and told of one more is put behind that of the others, and each lane is opened as it
 -- was found, since no later broker touches it.
-use Rattle.std.proofs.Common.{◌≡◌, ◌≢◌, inl, inr, ℕ, zero, suc, ◌+◌, ◌*◌, ◌<◌, ◌≤◌, true, List, [], ◌∷◌, ◌++◌, length, get_or, map, Some, Ok, Err, refl, sym, ap, ◌∙◌, subst, arith}
+use Rattle.std.proofs.Common.{◌≡◌, ◌≢◌, inl, inr, ℕ, ◌+◌, ◌*◌, ◌<◌, true, List, [], ◌∷◌, ◌++◌, length, get_or, Some, Ok, Err, refl, sym, ap, ◌∙◌, subst, arith}
 use Rattle.std.specs.Prelude.{flat_map, IsOk}
 use Rattle.std.proofs.lemmas.Bool.{cases_lt}
 use Rattle.std.proofs.lemmas.List.{append-nil, append_assoc, length_push, get_or_push, get_or_append_left}
@@ -10,39 +10,19 @@ use Rattle.gr_publog.specs.Text.{log_text}
 use Rattle.gr_publog.specs.Calls.{Opens}
 use Rattle.gr_topo.specs.Topology.{TopologyView, host_of}
 use Rattle.gr_model.specs.declared.report.Report.{Report}
-use Rattle.gr_model.specs.Net.{numbers, numbers_from, is_host}
+use Rattle.gr_model.specs.Net.{numbers, is_host}
 use Rattle.gr_model.specs.NetOf.{net_of}
 use Rattle.gr_broker.specs.declared.outcome.Outcome.{Outcome as BrokerOutcome}
 use Rattle.gr_broker.specs.Seen.{BrokerView, log_in}
 use Rattle.gr_broker.specs.Opened.{StartsOver, OpensLanes, IsDamagedAt}
 use Rattle.gr_broker.proofs.Placed.{numbers_more}
+use Rattle.gr_run.proofs.Along.{flat_map_same}
 use Rattle.gr_world.specs.Seen.{no_broker}
 use Rattle.gr_world.specs.Opened.{NoStops}
 use Rattle.gr_world.specs.Starting.{start_lines, HasStarted, HaveStarted, HaveOpened}
-use Rattle.gr_world.proofs.Hosts.{host_is, log_hosted, lanes_apart}
+use Rattle.gr_run.proofs.Hosts.{host_is, log_hosted, lanes_apart}
 
 -- Lists along numbers
-
--- functions that agree on the numbers give one list
-pub flat_map_same : {X : Type 0} (f g : ℕ → List X) (a n : ℕ) → ((k : ℕ) → a ≤ k → k < a + n → f k ≡ g k) → flat_map f (numbers_from a n) ≡ flat_map g (numbers_from a n)
-flat_map_same f g a zero h = refl
-flat_map_same f g a (suc n) h =
-    ap (λ xs. xs ++ flat_map f (numbers_from (suc a) n)) (h a (omega arith) (omega arith))
-    ∙ ap (λ xs. g a ++ xs) (flat_map_same f g (suc a) n (λ k from upto. h k (omega (arith, from)) (omega (arith, upto))))
-
--- the same one by one
-pub map_same : {X : Type 0} (f g : ℕ → X) (a n : ℕ) → ((k : ℕ) → a ≤ k → k < a + n → f k ≡ g k) → map f (numbers_from a n) ≡ map g (numbers_from a n)
-map_same f g a zero h = refl
-map_same f g a (suc n) h =
-    ap (λ x. x ∷ map f (numbers_from (suc a) n)) (h a (omega arith) (omega arith))
-    ∙ ap (λ xs. g a ∷ xs) (map_same f g (suc a) n (λ k from upto. h k (omega (arith, from)) (omega (arith, upto))))
-
--- lists that are all empty
-pub flat_map_none : {X : Type 0} (f : ℕ → List X) (a n : ℕ) → ((k : ℕ) → a ≤ k → k < a + n → f k ≡ []) → flat_map f (numbers_from a n) ≡ []
-flat_map_none f a zero h = refl
-flat_map_none f a (suc n) h =
-    ap (λ xs. xs ++ flat_map f (numbers_from (suc a) n)) (h a (omega arith) (omega arith))
-    ∙ flat_map_none f (suc a) n (λ k from upto. h k (omega (arith, from)) (omega (arith, upto)))
 
 flat_map_push : {X : Type 0} (f : ℕ → List X) (ks : List ℕ) (k : ℕ) → flat_map f (ks ++ k ∷ []) ≡ flat_map f ks ++ f k
 flat_map_push f [] k = append-nil (f k)

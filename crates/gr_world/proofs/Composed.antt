@@ -1,11 +1,12 @@
 -- Brokers' calls one after another, where each but the last answered Ok, are one run: of the machine, of the world, and of the disk. And what is done for each of a list in turn is what was done for those so far, and then what is left
-use Rattle.std.proofs.Common.{◌≡◌, ℕ, suc, ◌+◌, ◌-◌, ◌<◌, ◌≤◌, List, [], ◌∷◌, ◌++◌, length, get_or, drop, Result, Ok, Err, refl, sym, ap, ap₂, ◌∙◌, subst, inl, inr, arith, append-nil, append_assoc, add-one, drop_of_length-le}
+use Rattle.std.proofs.Common.{◌≡◌, ℕ, ◌+◌, ◌-◌, ◌<◌, ◌≤◌, List, [], ◌∷◌, ◌++◌, length, get_or, drop, Result, Ok, Err, refl, sym, ap, ap₂, ◌∙◌, subst, inl, inr, arith, append-nil, append_assoc, add-one, drop_of_length-le}
 use Rattle.std.proofs.Math.Seq.{drop-cons}
 use Rattle.gr_out.specs.Faults.{Rose}
 use Rattle.gr_publog.specs.Crash.{EitherRose}
 use Rattle.gr_model.specs.declared.report.Report.{Report}
 use Rattle.gr_model.specs.Net.{numbers_from}
 use Rattle.gr_model.specs.World.{World, Transition, followed_by, in_turn}
+use Rattle.gr_run.proofs.Along.{numbers_left}
 use Rattle.gr_world.specs.declared.fault.WorldFault.{WorldFault}
 use Rattle.gr_world.specs.declared.fault.WorldFault.TheVariants as fault
 use Rattle.gr_world.specs.Seen.{WorldView, world_of}
@@ -158,12 +159,6 @@ pub leads_end : {X : Type 0} (f : World → X → Transition) {w : WorldView} {l
 leads_end f {w} {ls} {whole} h = record { world = ap (λ (t : Transition). t.world) h.is; lines = sym (append-nil ls) ∙ ap (λ (t : Transition). t.lines) h.is }
 
 -- The same over the numbers below n, from i on
-
--- the numbers from one on are it and those behind it
-pub numbers_left : (i n : ℕ) → i < n → numbers_from i (n - i) ≡ i ∷ numbers_from (i + 1) (n - (i + 1))
-numbers_left i n h =
-    let e : n - i ≡ suc (n - (i + 1)) = omega arith in
-    ap (λ k. numbers_from i k) e ∙ ap (λ k. i ∷ numbers_from k (n - (i + 1))) (sym (add-one i))
 
 -- before the first number, all are left
 pub leads_first : (f : World → ℕ → Transition) (n : ℕ) (w : WorldView) (ls : List Report) → ls ≡ [] → Leads f (numbers_from 0 (n - 0)) w ls (in_turn f (numbers_from 0 n) (world_of w))

@@ -11,13 +11,10 @@ use Rattle.gr_frame.specs.Cut.{AreFrames}
 use Rattle.gr_publog.specs.Crash.{LogView}
 use Rattle.gr_topo.specs.Topology.{TopologyView, host_of}
 use Rattle.gr_model.specs.declared.report.Report.{Report}
-use Rattle.gr_model.specs.Net.{Net, is_host}
+use Rattle.gr_model.specs.Net.{is_host}
 use Rattle.gr_model.specs.NetOf.{net_of}
-use Rattle.gr_model.specs.Tree.{IsNet}
 use Rattle.gr_model.specs.Broker.{Outcome as MachineOutcome}
 use Rattle.gr_theorems.specs.Edges.{GoesOverEdge}
-use Rattle.gr_theorems.proofs.runs.Worlds.{Each}
-use Rattle.gr_theorems.proofs.topology.Strays.{SentOn}
 use Rattle.gr_broker.specs.Seen.{BrokerView, log_in, is_broken}
 use Rattle.gr_broker.specs.Of.{IsBrokerOf}
 use Rattle.gr_world.specs.declared.fault.WorldFault.{WorldFault}
@@ -25,22 +22,10 @@ use Rattle.gr_world.specs.Seen.{WorldView, broker_in, log_at, frame_said, net_in
 use Rattle.gr_world.specs.Of.{IsWorld, IsSound}
 use Rattle.gr_world.specs.Ran.{Keeps}
 use Rattle.gr_world.specs.Taking.{TakesUp, put_in}
-use Rattle.gr_world.proofs.Absorbing.{Touches, each_broker, frames_back, log_here, log_stays, log_elsewhere}
+use Rattle.gr_run.proofs.Telling.{frames_back}
+use Rattle.gr_world.proofs.Absorbing.{Touches, each_broker, log_here, log_stays, log_elsewhere}
 
 -- Frames that are sent
-
--- each frame that a broker sends for a publisher goes over an edge
-pub over_edges : (net : Net) (p b : ℕ) → IsNet net → p < net.publishers → b < net.brokers → SentOn net p b (GoesOverEdge net)
-over_edges net p b n j i = record {
-  know = λ c part m. record { publisher = j; from = i; to = n.child_in p b c j i m; between = n.child_up p b c j i m };
-  want = λ u part e. let x = n.up_in p b u j i e in record { publisher = j; from = i; to = x.0; between = x.1 };
-  expect = λ c tick m. record { publisher = j; from = i; to = n.child_in p b c j i m; between = n.child_up p b c j i m };
-}
-
--- the same of each, in the words of a world
-pub all_of : {X : Type 0} (P : X → Type 0) (xs : List X) → Each P xs → AllByRecursion P xs
-all_of P [] a = tt
-all_of P (x ∷ xs) a = (a.0, all_of P xs a.1)
 
 all_append : {X : Type 0} (P : X → Type 0) (xs ys : List X) → AllByRecursion P xs → AllByRecursion P ys → AllByRecursion P (xs ++ ys)
 all_append P [] ys a b = b

@@ -12,10 +12,8 @@ pub mod Lanes
 pub mod Called
 pub mod Woken
 pub mod Received
-pub mod Telling
 pub mod Receivers
 pub mod Published
-pub mod Hosts
 pub mod Brokers
 pub mod Fresh
 pub mod Opened

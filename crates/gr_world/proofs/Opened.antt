@@ -1,14 +1,12 @@
 -- A world whose brokers have all started: it is one of the topology, its logs are those that the lanes hold, and over empty lanes it
 -- is the machine's world before the first step.
 use Rattle.std.proofs.Common.{◌≡◌, ℕ, ◌*◌, ◌<◌, false, List, [], length, map, Option, Some, None, Ok, refl, sym, ap, ap₂, ◌∙◌, subst, arith}
-use Rattle.std.specs.Prelude.{IsOk, is_ok, Result}
 use Rattle.std.proofs.lemmas.List.{length-map, get_or-map, ext_get_or}
 use Rattle.gr_out.specs.Lane.{Lane, content}
 use Rattle.gr_publog.specs.declared.record.Record.{Record}
 use Rattle.gr_publog.specs.Text.{log_text}
-use Rattle.gr_publog.specs.Crash.{LogView, Stands}
+use Rattle.gr_publog.specs.Crash.{LogView}
 use Rattle.gr_publog.specs.Calls.{Opens}
-use Rattle.gr_publog.proofs.Reading.{reads_spelled}
 use Rattle.gr_pubend.specs.Log.{Log, empty_log, log_of}
 use Rattle.gr_topo.specs.Topology.{TopologyView, IsTopology, host_of}
 use Rattle.gr_model.specs.declared.report.Report.{Report}
@@ -20,27 +18,13 @@ use Rattle.gr_theorems.proofs.runs.Schedules.{get_numbers, length_numbers}
 use Rattle.gr_broker.specs.Seen.{BrokerView, log_in, view_in, log_said, machine_log}
 use Rattle.gr_broker.specs.Opened.{opened_at}
 use Rattle.gr_world.specs.Seen.{WorldView, no_broker, broker_in, log_at, world_of}
-use Rattle.gr_world.specs.Of.{IsWorld, IsReadable, LanesFit}
+use Rattle.gr_world.specs.Of.{IsWorld, LanesFit}
 use Rattle.gr_world.specs.Opened.{NoStops, AreEmpty, IsRead, IsOpened}
 use Rattle.gr_world.specs.Starting.{start_lines, HasStarted, HaveStarted, HaveOpened}
-use Rattle.gr_world.proofs.Hosts.{hosted_log}
-use Rattle.gr_world.proofs.Brokers.{flat_map_none, map_same}
+use Rattle.gr_run.proofs.Hosts.{hosted_log}
+use Rattle.gr_run.proofs.Along.{flat_map_none, map_same}
+use Rattle.gr_run.proofs.Readable.{ok_same, stands_readable}
 use Rattle.gr_world.proofs.Fresh.{fresh_view, fresh_lines}
-
-is_ok_of : {X : Type 0} (r : Result X ℕ) (x : X) → r ≡ Ok x → IsOk r
-is_ok_of {X} r x e = ap (λ (y : Result X ℕ). is_ok y) e
-
-ok_same : {X : Type 0} (x y : X) → ◌≡◌ {A = Result X ℕ} (Ok x) (Ok y) → x ≡ y
-ok_same x y e = cc
-
--- a lane that stands reads as a log, whatever a crash leaves of it
-pub stands_readable : (lane : Lane) (rs : List Record) → Stands lane rs → IsReadable lane
-stands_readable lane rs s image left =
-    is_ok_of (log_text image) rs (ap log_text (s.only image left) ∙ reads_spelled (content lane) rs s.text)
-
--- bytes that read as two lists read as one
-pub reads_same : (bytes : List ℕ) (rs rs' : List Record) → log_text bytes ≡ Ok rs → log_text bytes ≡ Ok rs' → rs ≡ rs'
-reads_same bytes rs rs' e e' = ok_same rs rs' (sym e ∙ e')
 
 reads_nothing : (rs : List Record) → log_text [] ≡ Ok rs → rs ≡ []
 unfolding log_text

@@ -34,7 +34,8 @@ use Rattle.gr_world.specs.Stopped.{broken_in}
 use Rattle.gr_world.specs.Taking.{Follows, TakesUp, put_in}
 use Rattle.gr_world.proofs.Absorbing.{Touches, view_is, log_is, log_here}
 use Rattle.gr_world.proofs.Answers.{on_ok, ok_answer, ok_follows, spelled_follow, disk_follows, reopen_follows, reopen_told, not_disk, carried_follows, leaves_on, touched, touched_broken, untouched, whole_logged, whole_with}
-use Rattle.gr_world.proofs.Fitting.{over_edges, all_of}
+use Rattle.gr_run.proofs.Named.{all_of}
+use Rattle.gr_run.proofs.Passing.{over_edges}
 use Rattle.gr_world.proofs.Lanes.{LaneMoves, appends_moves, lanes_fit}
 use Rattle.gr_world.proofs.Called.{Called, called_does, Site, site_read, site_fits, site_publisher, site_ran}
 

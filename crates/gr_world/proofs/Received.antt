@@ -1,13 +1,11 @@
 -- A frame of a world reaches its receiver: its bytes decode, it fits since it went over an edge, and one that clashes is dropped
 -- where the machine's call changes and tells nothing
-use Rattle.std.proofs.Common.{◌≡◌, ◌≢◌, ◌⊎◌, inl, inr, ℕ, zero, suc, ◌<◌, Bool, true, false, ◌&&◌, List, [], ◌∷◌, length, map, get_or, set, Option, Some, None, Result, Ok, Err, OnOk, OnErr, refl, sym, ap, ap₂, ◌∙◌, subst}
-use Rattle.std.specs.Prelude.{◌↔◌, nat_eq, slice_get, IsOk, IsSome, IfOk}
-use Rattle.std.specs.List.{AllByRecursion, list_any}
+use Rattle.std.proofs.Common.{◌≡◌, ◌≢◌, ◌⊎◌, inl, inr, ℕ, zero, suc, ◌<◌, Bool, true, false, List, [], ◌∷◌, length, map, get_or, set, Option, Some, None, Result, Ok, Err, OnOk, OnErr, refl, sym, ap, ◌∙◌, subst}
+use Rattle.std.specs.Prelude.{slice_get, IsOk, IfOk}
+use Rattle.std.specs.List.{AllByRecursion}
 use Rattle.std.proofs.lemmas.List.{set-get_or}
-use Rattle.std.proofs.lemmas.Bool.{cases_eq, eq-eqb, lt-ltb, true≢false}
+use Rattle.std.proofs.lemmas.Bool.{cases_eq}
 use Rattle.std.specs.declared.alloc.AllocError.{AllocError}
-use Rattle.gr_frame.specs.declared.Body.{Body}
-use Rattle.gr_frame.specs.declared.Body.TheVariants as body
 use Rattle.gr_frame.specs.declared.Frame.{Frame}
 use Rattle.gr_frame.specs.declared.fault.FrameFault.{FrameFault}
 use Rattle.gr_frame.specs.Bytes.{frame_bytes}
@@ -15,17 +13,16 @@ use Rattle.gr_frame.specs.Cut.{AreFrames}
 use Rattle.gr_frame.specs.Decode.{frame_decoded}
 use Rattle.gr_frame.specs.Limits.{IsFrame}
 use Rattle.gr_frame.proofs.Spelled.{spelled_decodes}
-use Rattle.gr_know.specs.Values.{Known, known_at}
+use Rattle.gr_know.specs.Values.{known_at}
 use Rattle.gr_publog.specs.Crash.{LogView}
 use Rattle.gr_topo.specs.Topology.{host_of}
 use Rattle.gr_model.specs.declared.report.Report.{Report}
 use Rattle.gr_model.specs.Net.{Net}
 use Rattle.gr_model.specs.Tree.{IsNet}
-use Rattle.gr_model.specs.Arrivals.{fits_broker, clash_runs, first_of, least_clash}
-use Rattle.gr_model.specs.Broker.{View, Log, Outcome as MachineOutcome, empty_log, clashes, receive, learn, curiosity, expect, place_of}
+use Rattle.gr_model.specs.Arrivals.{fits_broker, least_clash}
+use Rattle.gr_model.specs.Broker.{View, Log, Outcome as MachineOutcome, empty_log, receive}
 use Rattle.gr_model.specs.World.{World, blank_view, view_of, log_of, frame_at, deliver_frame, deliver_frame_by}
-use Rattle.gr_theorems.specs.Edges.{GoesBetween, GoesOverEdge}
-use Rattle.gr_theorems.specs.Fits.{BodyFits}
+use Rattle.gr_theorems.specs.Edges.{GoesOverEdge}
 use Rattle.gr_theorems.proofs.topology.Strays.{receive_on}
 use Rattle.gr_theorems.proofs.server.CutEvents.{on_log}
 use Rattle.gr_broker.specs.declared.outcome.Received.{Received}
@@ -35,7 +32,9 @@ use Rattle.gr_broker.specs.declared.outcome.Dropped.TheVariants as dropped
 use Rattle.gr_broker.specs.Seen.{BrokerView, view_in, log_in, log_said, is_broken}
 use Rattle.gr_broker.specs.Of.{IsBrokerOf}
 use Rattle.gr_broker.specs.Told.{Tells}
-use Rattle.gr_broker.specs.Receipt.{Receipt, no_frame, stray, clash, taken, came_at, receipt, receipt_of_fit, after_receipt, Answers}
+use Rattle.gr_broker.specs.Receipt.{Receipt, stray, clash, taken, came_at, receipt, receipt_of_fit, after_receipt, Answers}
+use Rattle.gr_run.proofs.Named.{all_of}
+use Rattle.gr_run.proofs.Passing.{over_edges, over_fits_broker, body_fits, none_some, PassesLog, PassesRest, HasLeast, receive_passes, clash_drops, receipt_logs, receipt_number}
 use Rattle.gr_world.specs.declared.fault.WorldFault.{WorldFault}
 use Rattle.gr_world.specs.declared.fault.WorldFault.TheVariants as fault
 use Rattle.gr_world.specs.Seen.{WorldView, broker_in, log_at, frame_said, world_of, net_in}
@@ -44,13 +43,9 @@ use Rattle.gr_world.specs.Steps.{Does, IsCarried}
 use Rattle.gr_world.specs.Ran.{IsOpen, Ran}
 use Rattle.gr_world.specs.Taking.{FollowsReceipt, TakesUp, IsReceived, put_in}
 use Rattle.gr_world.proofs.Absorbing.{view_is, log_is, log_here, log_elsewhere}
-use Rattle.gr_world.proofs.Fitting.{over_edges, all_of}
 use Rattle.gr_world.proofs.Called.{Called, called_does, called_ran, broker_read}
 
 -- The frame at a place
-
-none_some : {X : Type 0} {x : X} → None ≡ Some x → ⊥
-none_some e = cc
 
 some_is : {X : Type 0} {x y : X} → Some x ≡ Some y → x ≡ y
 some_is {X} {x} e = ap (λ (o : Option X). elim o [ Some z ↦ z | None ↦ x ]) e
@@ -72,92 +67,6 @@ pub holds_at : (P : Frame → Type 0) (bs : List (List ℕ)) (k : ℕ) (bytes : 
 holds_at P [] k bytes a e = absurd (none_some e)
 holds_at P (b ∷ bs) zero bytes a e = subst (λ (x : List ℕ). P (frame_said x)) (some_is e) a.0
 holds_at P (b ∷ bs) (suc k) bytes a e = holds_at P bs k bytes a.1 e
-
--- A frame that goes over an edge
-
--- it fits its receiver
-pub over_fits_broker : (net : Net) (f : Frame) (b : ℕ) → f.head.to ≡ b → GoesOverEdge net f → fits_broker net b f ≡ true
-over_fits_broker net f b e g =
-    ap₂ (λ x y. x && y) (ap₂ (λ x y. x && y) (eq-eqb f.head.to b e) (lt-ltb f.head.publisher net.publishers g.publisher)) (go f.body g.between)
-  where
-    over : (o : Option ℕ) → o ≡ Some f.head.from → (elim o [ Some u ↦ nat_eq u f.head.from | None ↦ false ]) ≡ true
-    over o h = ap (λ (z : Option ℕ). elim z [ Some u ↦ nat_eq u f.head.from | None ↦ false ]) h ∙ eq-eqb f.head.from f.head.from refl
-
-    go : (y : Body) → GoesBetween net f.head.publisher f.head.from f.head.to y → (elim y [
-      | body.Curiosity runs ↦ list_any (λ x. nat_eq x f.head.from) (net.children f.head.publisher b)
-      | _ ↦ elim (net.up f.head.publisher b) [ Some u ↦ nat_eq u f.head.from | None ↦ false ]
-    ]) ≡ true
-    go (body.Curiosity runs) h = subst (λ z. list_any (λ x. nat_eq x f.head.from) (net.children f.head.publisher z) ≡ true) e h
-    go (body.Knowledge runs) h = over (net.up f.head.publisher b) (subst (λ z. net.up f.head.publisher z ≡ Some f.head.from) e h)
-    go (body.Expect tick) h = over (net.up f.head.publisher b) (subst (λ z. net.up f.head.publisher z ≡ Some f.head.from) e h)
-
--- and its body comes from where it should
-body_fits : (net : Net) (p from to : ℕ) (y : Body) → GoesBetween net p from to y → BodyFits net p from to y
-body_fits net p from to (body.Curiosity runs) h = h
-body_fits net p from to (body.Knowledge runs) h = tt
-body_fits net p from to (body.Expect tick) h = tt
-
--- What the two laws of receipts say
-
-abbrev pub PassesLog : Type 0
-PassesLog = (net : Net) (now : ℕ) (f : Frame) (v : View) (log : Log) → let o : MachineOutcome = receive net now f v log in o.log ≡ log
-
-abbrev pub PassesRest : Type 0
-PassesRest = (net : Net) (now : ℕ) (f : Frame) (v : View) (log : Log) →
-    let o : MachineOutcome = receive net now f v log in let e : MachineOutcome = receive net now f v empty_log in
-    (o.view ≡ e.view) × (o.lines ≡ e.lines) × (o.frames ≡ e.frames)
-
-abbrev pub HasLeast : Type 0
-HasLeast = (know piece : Known) → (clashes know piece ≡ true) ↔ IsSome (first_of (clash_runs know piece))
-
--- over another log all but the log is the same
-pub receive_passes : PassesLog → PassesRest → (net : Net) (now : ℕ) (f : Frame) (v : View) (l : Log) → on_log (receive net now f v empty_log) l ≡ receive net now f v l
-receive_passes passes rest net now f v l =
-    let o : MachineOutcome = receive net now f v l in
-    let m : MachineOutcome = receive net now f v empty_log in
-    let r = rest net now f v l in
-    ap (λ (x : View). made x l m.lines m.frames) (sym r.0)
-    ∙ (ap (λ (x : Log). made o.view x m.lines m.frames) (sym (passes net now f v l))
-    ∙ (ap (λ (x : List Report). made o.view o.log x m.frames) (sym r.1) ∙ ap (λ (x : List Frame). made o.view o.log o.lines x) (sym r.2)))
-  where
-    made : View → Log → List Report → List Frame → MachineOutcome
-    made v l ls fs = record { view = v; log = l; lines = ls; frames = fs }
-
--- where there is a least clash nothing happens
-pub clash_drops : HasLeast → (net : Net) (now : ℕ) (f : Frame) (v : View) (l : Log) (t : ℕ) → least_clash v.know f ≡ Some t → receive net now f v l ≡ record { view = v; log = l; lines = []; frames = [] }
-unfolding receive
-clash_drops law net now f v l t e = go f.body e
-  where
-    nothing : MachineOutcome
-    nothing = record { view = v; log = l; lines = []; frames = [] }
-
-    known : (runs : Known) (q : Bool) → q ≡ true → (let o : MachineOutcome = elim q [ true ↦ record { view = v; log = l; lines = []; frames = [] } | false ↦ learn net f.head.publisher f.head.to runs v l ] in o) ≡ nothing
-    known runs true h = refl
-    known runs false h = absurd (true≢false (sym h))
-
-    go : (y : Body) → (let o : Option ℕ = elim y [ body.Knowledge runs ↦ first_of (clash_runs v.know runs) | _ ↦ None ] in o) ≡ Some t → (let o : MachineOutcome = elim y [
-      | body.Knowledge runs ↦ elim (clashes v.know runs) [ true ↦ record { view = v; log = l; lines = []; frames = [] } | false ↦ learn net f.head.publisher f.head.to runs v l ]
-      | body.Curiosity runs ↦ curiosity net f.head.publisher f.head.to now f.head.from (place_of f.head.from (net.children f.head.publisher f.head.to)) runs v l
-      | body.Expect tick ↦ expect net f.head.publisher f.head.to now tick v l
-    ] in o) ≡ nothing
-    go (body.Knowledge runs) h = known runs (clashes v.know runs) ((law v.know runs).1 (subst IsSome (sym h) refl))
-    go (body.Curiosity runs) h = absurd (none_some h)
-    go (body.Expect tick) h = absurd (none_some h)
-
--- What a receipt leaves
-
--- the logs, the number and all else but one view stay
-pub receipt_logs : (f : Frame) (r : Receipt) (b : BrokerView) → (after_receipt (Ok f) r b).logs ≡ b.logs
-receipt_logs f (no_frame e) b = refl
-receipt_logs f (stray h) b = refl
-receipt_logs f (clash t k c) b = refl
-receipt_logs f (taken o) b = refl
-
-pub receipt_number : (f : Frame) (r : Receipt) (b : BrokerView) → (after_receipt (Ok f) r b).number ≡ b.number
-receipt_number f (no_frame e) b = refl
-receipt_number f (stray h) b = refl
-receipt_number f (clash t k c) b = refl
-receipt_number f (taken o) b = refl
 
 -- What a frame that fits is answered and leaves, beside the machine's outcome
 pub record FitsIn (net : Net) (now : ℕ) (b : BrokerView) (f : Frame) (o : MachineOutcome) : Type 0 where

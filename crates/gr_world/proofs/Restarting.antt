@@ -26,8 +26,8 @@ use Rattle.gr_world.specs.Seen.{WorldView, no_broker, broker_in, log_at, world_o
 use Rattle.gr_world.specs.Of.{IsWorld, LaneFits, IsReadable, LanesFit, IsSound}
 use Rattle.gr_world.specs.Opened.{IsRead, IsSoundBut, with_logs}
 use Rattle.gr_world.specs.Starting.{HasStarted, IsExchanged, OpensAgain, TouchesLanes, LeavesNoLog}
-use Rattle.gr_world.proofs.Hosts.{hosted_log, host_is, lanes_apart}
-use Rattle.gr_world.proofs.Brokers.{flat_map_same}
+use Rattle.gr_run.proofs.Hosts.{hosted_log, host_is, lanes_apart}
+use Rattle.gr_run.proofs.Along.{flat_map_same}
 use Rattle.gr_world.proofs.Fresh.{view_alone, lines_alone, started_below}
 use Rattle.gr_world.proofs.Opened.{is_read}
 

@@ -1,29 +1,22 @@
 -- What is shown, line by line: a publisher's log by the four numbers that its records stand for, and a broker's horizon as it is kept
-use Rattle.std.proofs.Common.{◌≡◌, ℕ, suc, zero, ◌+◌, ◌-◌, ◌<◌, List, [], ◌∷◌, ◌++◌, length, map, get_or, flat_map, Option, Some, sym, ap, ◌∙◌, subst, arith, append_assoc}
+use Rattle.std.proofs.Common.{◌≡◌, ℕ, ◌+◌, ◌<◌, List, [], ◌∷◌, ◌++◌, length, map, get_or, flat_map, Option, Some, sym, ap, ◌∙◌, subst, arith}
 use Rattle.std.proofs.lemmas.List.{get_or_read, length-map}
 use Rattle.gr_publog.specs.State.{empty_state, state_of, live_events, Follow}
 use Rattle.gr_publog.specs.Crash.{LogView}
-use Rattle.gr_publog.specs.declared.record.Entry.{Entry}
-use Rattle.gr_pubend.specs.Opening.{pairs}
-use Rattle.gr_theorems.proofs.server.Lanes.{found_is_past}
 use Rattle.gr_topo.specs.Topology.{host_of}
 use Rattle.gr_model.specs.declared.report.Report.{Report}
 use Rattle.gr_model.specs.declared.report.Report.TheVariants as line
-use Rattle.gr_model.specs.Net.{numbers, numbers_from}
+use Rattle.gr_model.specs.Net.{numbers}
 use Rattle.gr_model.specs.Broker.{Log, empty_log}
 use Rattle.gr_model.specs.World.{log_of, kept_events, show}
 use Rattle.gr_broker.specs.Seen.{BrokerView, log_in, log_said}
+use Rattle.gr_run.proofs.Along.{at_number}
+use Rattle.gr_run.proofs.Shown.{line_of_log}
 use Rattle.gr_world.specs.Seen.{WorldView, no_broker, broker_in, log_at, net_in, world_of, frame_said}
 use Rattle.gr_world.specs.Of.{IsWorld}
 use Rattle.gr_world.specs.Shown.{log_shown, horizons_shown}
-use Rattle.gr_world.proofs.Composed.{numbers_left}
 
 -- Logs
-
-at_number : {X : Type 0} (f : ℕ → X) (from k i : ℕ) (d : X) → i < k → get_or (map f (numbers_from from k)) i d ≡ f (from + i)
-at_number f from zero i d h = absurd (omega arith)
-at_number f from (suc k) zero d h = let e : from ≡ from + 0 = omega arith in ap f e
-at_number f from (suc k) (suc i) d h = let e : suc from + i ≡ from + suc i = omega arith in at_number f (suc from) k i d (omega arith) ∙ ap f e
 
 -- the machine's log of a publisher is the one at its host
 pub log_found : (w : WorldView) (p : ℕ) → p < length w.topo.publishers → log_of (world_of w) p ≡ log_said (log_at w p)
@@ -31,18 +24,13 @@ log_found w p h =
     let e : 0 + p ≡ p = omega arith in
     at_number (λ q. log_said (log_at w q)) 0 (length w.topo.publishers) p empty_log h ∙ ap (λ q. log_said (log_at w q)) e
 
-same_line : (p : ℕ) {a b c d a' b' c' d' : ℕ} → a ≡ a' → b ≡ b' → c ≡ c' → d ≡ d' → line.LogOf p a b c d ≡ line.LogOf p a' b' c' d'
-same_line p e1 e2 e3 e4 = cc
-
 -- its line says the numbers of its records, and how many of its events are past the cut
 pub log_line : (w : WorldView) (p last settled cut kept : ℕ) (l : LogView) → p < length w.topo.publishers → log_at w p ≡ Some l → Follow empty_state l.records
     → last ≡ (state_of l.records).last → settled ≡ (state_of l.records).settled → cut ≡ (state_of l.records).cut → kept ≡ length (live_events l.records)
     → line.LogOf p last settled cut kept ≡ log_shown (world_of w) p
 log_line w p last settled cut kept l h at f e1 e2 e3 e4 =
-    let found = ap (λ (m : Log). line.LogOf p m.last m.settled m.cut (length m.events)) (found_is_past l.records f) in
-    let here = ap (λ (m : Log). line.LogOf p m.last m.settled m.cut (kept_events m)) (log_found w p h ∙ ap log_said at) in
-    let many : length (pairs (live_events l.records)) ≡ length (live_events l.records) = length-map (live_events l.records) (λ (e : Entry). (e.tick, e.event)) in
-    same_line p e1 e2 e3 (e4 ∙ sym many) ∙ (sym found ∙ sym here)
+    line_of_log p last settled cut kept l f e1 e2 e3 e4
+    ∙ sym (ap (λ (m : Log). line.LogOf p m.last m.settled m.cut (kept_events m)) (log_found w p h ∙ ap log_said at))
 
 -- the log at the broker that was read at the host's place
 pub log_hosted : (v w : WorldView) (b : BrokerView) (p h : ℕ) (o : Option LogView) → v ≡ w → IsWorld w → h ≡ host_of v.topo p → h < length v.topo.brokers
@@ -52,20 +40,6 @@ log_hosted v w b p h o same fits host lt read at =
     let there : b ≡ broker_in v h = get_or_read v.brokers h b (omega (arith, f.count, lt)) read no_broker in
     let here : log_at v p ≡ o = ap (λ k. log_in (broker_in v k) p) (sym host) ∙ (ap (λ x. log_in x p) (sym there) ∙ at) in
     subst (λ x. log_at x p ≡ o) same here
-
--- For each number in turn
-
--- a line more is told, and those of the numbers behind are left
-pub mapped_next : (f : ℕ → Report) (xs : List Report) (i n : ℕ) → i < n
-    → (xs ++ f i ∷ []) ++ map f (numbers_from (i + 1) (n - (i + 1))) ≡ xs ++ map f (numbers_from i (n - i))
-mapped_next f xs i n h =
-    append_assoc xs (f i ∷ []) (map f (numbers_from (i + 1) (n - (i + 1)))) ∙ sym (ap (λ ns. xs ++ map f ns) (numbers_left i n h))
-
--- some lines more are told, and those of the numbers behind are left
-pub joined_next : (f : ℕ → List Report) (xs : List Report) (i n : ℕ) → i < n
-    → (xs ++ f i) ++ flat_map f (numbers_from (i + 1) (n - (i + 1))) ≡ xs ++ flat_map f (numbers_from i (n - i))
-joined_next f xs i n h =
-    append_assoc xs (f i) (flat_map f (numbers_from (i + 1) (n - (i + 1)))) ∙ sym (ap (λ ns. xs ++ flat_map f ns) (numbers_left i n h))
 
 -- All that is shown
 

@@ -1,6 +1,6 @@
 -- A wake within a step: at the publisher's host it is the machine's over the log there; elsewhere the broker has no log, and the
 -- machine's wake looks at none
-use Rattle.std.proofs.Common.{◌≡◌, ◌≢◌, ◌⊎◌, inl, inr, ℕ, ◌*◌, ◌<◌, Bool, true, false, List, length, set, Option, Some, None, Result, Ok, Err, OnOk, refl, sym, ap, ◌∙◌, subst}
+use Rattle.std.proofs.Common.{◌≡◌, ◌≢◌, ◌⊎◌, inl, inr, ℕ, ◌*◌, ◌<◌, true, false, List, length, set, Option, Some, None, Result, Ok, Err, OnOk, refl, sym, ap, ◌∙◌, subst}
 use Rattle.std.specs.Prelude.{◌↔◌, IsSome, is_some, IfOk, IsErrOf}
 use Rattle.std.proofs.lemmas.Bool.{cases_eq, eq-eqb, ne_eqb, true≢false}
 use Rattle.gr_publog.specs.declared.record.LogFault.TheVariants as log_fault
@@ -8,9 +8,8 @@ use Rattle.gr_publog.specs.Crash.{LogView}
 use Rattle.gr_out.specs.Lane.{Lane}
 use Rattle.gr_topo.specs.Topology.{TopologyView, host_of}
 use Rattle.gr_model.specs.declared.report.Report.{Report}
-use Rattle.gr_model.specs.Net.{Net, is_host}
 use Rattle.gr_model.specs.Tree.{IsNet}
-use Rattle.gr_model.specs.Broker.{View, Log, Outcome as MachineOutcome, empty_log, wake, wake_host, wake_below, asking}
+use Rattle.gr_model.specs.Broker.{View, Log, Outcome as MachineOutcome, wake}
 use Rattle.gr_model.specs.World.{World, view_of, log_of, wake_for, wake_for_by}
 use Rattle.gr_theorems.specs.Edges.{GoesOverEdge}
 use Rattle.gr_theorems.proofs.topology.Strays.{wake_on}
@@ -22,6 +21,8 @@ use Rattle.gr_broker.specs.Seen.{BrokerView, view_in, log_in, log_said, machine_
 use Rattle.gr_broker.specs.Of.{IsBrokerOf, LogsStand}
 use Rattle.gr_broker.specs.Told.{Tells, log_answer}
 use Rattle.gr_broker.specs.Hosted.{wake_at, mark_at, mark_logs_at, cut_logs_at, after_mark, after_wake, WakeLeaves, AppendsTwice, AppendsTwiceAt}
+use Rattle.gr_run.proofs.Named.{all_of}
+use Rattle.gr_run.proofs.Passing.{wake_passes, tells_on, over_edges}
 use Rattle.gr_world.specs.declared.fault.WorldFault.{WorldFault}
 use Rattle.gr_world.specs.Seen.{WorldView, broker_in, log_at, world_of, net_in}
 use Rattle.gr_world.specs.Of.{IsWorld, LanesFit}
@@ -30,25 +31,8 @@ use Rattle.gr_world.specs.Ran.{IsOpen, Ran}
 use Rattle.gr_world.specs.Taking.{Follows, TakesUp, put_in}
 use Rattle.gr_world.proofs.Absorbing.{Touches, view_is, log_is, log_here, log_elsewhere}
 use Rattle.gr_world.proofs.Answers.{on_ok, ok_answer, ok_follows, spelled_follow, reopen_follows, not_disk, carried_follows, wake_leaves_on, touched, touched_broken, touched_twice, untouched, whole_logged, whole_with}
-use Rattle.gr_world.proofs.Fitting.{over_edges, all_of}
 use Rattle.gr_world.proofs.Lanes.{LaneMoves, twice_moves, lanes_fit}
 use Rattle.gr_world.proofs.Called.{Called, called_does, Site, site_read, site_fits, site_publisher, site_ran}
-
--- a broker at which the publisher is not looks at no log, and passes it on
-pub wake_passes : (net : Net) (p b now : ℕ) (v : View) (l : Log) → is_host net p b ≡ false → wake net p b now v l ≡ on_log (wake net p b now v empty_log) l
-unfolding wake wake_below asking
-wake_passes net p b now v l e = go (is_host net p b) e
-  where
-    go : (q : Bool) → q ≡ false →
-        (let o : MachineOutcome = elim q [ true ↦ wake_host net p b now v l | false ↦ wake_below net p b now v l ] in o)
-        ≡ on_log (elim q [ true ↦ wake_host net p b now v empty_log | false ↦ wake_below net p b now v empty_log ]) l
-    go false h = refl
-    go true h = absurd (true≢false h)
-
--- what is told is the same over another log
-pub tells_on : (o : MachineOutcome) (l : Log) (answer : Result Outcome BrokerFault) → IfOk answer (Tells o) → IfOk answer (Tells (on_log o l))
-tells_on o l (Ok told) t = record { lines = t.lines; frames = t.frames; spelled = t.spelled }
-tells_on o l (Err e) t = tt
 
 -- What the broker's call gives
 pub record Wakes (t : TopologyView) (x : BrokerView) (p now : ℕ) (after : BrokerView) (answer : Result Outcome BrokerFault) : Type 0 where

@@ -1,15 +1,15 @@
 -- What holds of a world between its calls, and of the lanes that its logs stand on
-use Rattle.std.specs.Prelude.{◌≡◌, ◌≢◌, ℕ, ◌*◌, ◌^◌, ◌<◌, ◌≤◌, Bool, true, false, List, length, map, Option, Some, None, IsOk}
+use Rattle.std.specs.Prelude.{◌≡◌, ◌≢◌, ℕ, ◌*◌, ◌^◌, ◌<◌, ◌≤◌, true, false, length, map, Some, None}
 use Rattle.std.specs.List.{AllByRecursion}
 use Rattle.gr_frame.specs.Cut.{AreFrames}
 use Rattle.gr_out.specs.declared.disk.Stop.TheVariants.{Unset}
-use Rattle.gr_out.specs.Lane.{Lane, MayLeave}
-use Rattle.gr_publog.specs.Text.{log_text}
+use Rattle.gr_out.specs.Lane.{Lane}
 use Rattle.gr_publog.specs.Crash.{LogView}
 use Rattle.gr_publog.specs.Calls.{IsReady}
 use Rattle.gr_topo.specs.Topology.{host_of}
 use Rattle.gr_theorems.specs.Edges.{GoesOverEdge}
 use Rattle.gr_broker.specs.Of.{IsBrokerOf}
+pub use Rattle.gr_run.specs.Readable.{IsReadable}
 use Rattle.gr_world.specs.Seen.{WorldView, broker_in, log_at, net_in, frame_said}
 
 -- The brokers of the topology, in order, and frames that went over its edges
@@ -30,10 +30,6 @@ pub record LaneFits (l : LogView) (lane : Lane) : Type 0 where
   pub ready : IsReady l lane
   pub reserved : lane.reserved ≡ true
   pub unset : lane.stop ≡ Unset
-
--- whatever a crash leaves of a lane reads as a log
-abbrev pub IsReadable : Lane → Type 0
-IsReadable lane = (image : List ℕ) → MayLeave lane image → IsOk (log_text image)
 
 -- The lanes of a world, until memory was refused, after which no call uses them
 pub record LanesFit (lanes : ℕ → Lane) (w : WorldView) : Type 0 where

@@ -1,15 +1,13 @@
 -- What a contract sees of a world
-use Rattle.std.specs.Prelude.{ℕ, Bool, List, [], length, map, get_or, Option, None, Ok, Err}
-use Rattle.gr_frame.specs.declared.Frame.{Frame}
-use Rattle.gr_frame.specs.Decode.{frame_decoded}
+use Rattle.std.specs.Prelude.{ℕ, Bool, List, [], length, map, get_or, Option}
 use Rattle.gr_publog.specs.Crash.{LogView}
 use Rattle.gr_topo.specs.Topology.{TopologyView, host_of}
 use Rattle.gr_model.specs.declared.report.Report.{Report}
 use Rattle.gr_model.specs.Net.{Net, numbers}
 use Rattle.gr_model.specs.NetOf.{net_of}
-use Rattle.gr_model.specs.Broker.{expect_frame}
 use Rattle.gr_model.specs.World.{World}
 use Rattle.gr_broker.specs.Seen.{BrokerView, log_in, log_said}
+pub use Rattle.gr_run.specs.Said.{frame_said}
 
 -- All brokers of a topology, and the bytes of each frame that they sent, in order
 pub record WorldView : Type 0 where
@@ -32,10 +30,6 @@ broker_in w b = get_or w.brokers b no_broker
 -- the log of a publisher, at its host
 abbrev pub log_at : WorldView → ℕ → Option LogView
 log_at w p = log_in (broker_in w (host_of w.topo p)) p
-
--- the frame that bytes say
-abbrev pub frame_said : List ℕ → Frame
-frame_said bytes = elim (frame_decoded bytes) [ Ok f ↦ f | Err e ↦ expect_frame 0 0 0 0 ]
 
 abbrev pub net_in : WorldView → Net
 net_in w = net_of w.topo

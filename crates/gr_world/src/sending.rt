@@ -6,50 +6,17 @@ ghost use Rattle.gr_frame.specs.Bytes.{frame_bytes};
 ghost use Rattle.gr_frame.specs.Cut.{AreFrames};
 ghost use Rattle.gr_frame.specs.Decode.{frame_decoded};
 ghost use Rattle.gr_model.specs.Broker.{Outcome as MachineOutcome};
-ghost use Rattle.gr_model.specs.World.{sent_line, sent_lines};
+ghost use Rattle.gr_model.specs.World.{sent_lines};
 ghost use Rattle.gr_broker.specs.Told.{Tells};
 ghost use Rattle.gr_world.specs.Seen.{frame_said};
 ghost use Rattle.gr_world.specs.Taking.{Follows, FollowsReceipt, IsReceived, TakesUp};
 
 use crate::fault::{Memory, WorldFault, world_fault};
 use gr_broker::{BrokerFault, Dropped, Outcome, Received};
-use gr_frame::{Body, Frame, Frames, decode};
-use gr_model::{Report, Reports};
+use gr_frame::Frames;
+use gr_model::Reports;
+use gr_run::sent_report;
 use std::alloc::{AllocError, Global};
-
-/// The line of a frame, by its number and bytes. Bytes of a frame are refused for want of memory alone.
-fn sent_report(alloc: Global, number: u64, bytes: &[u8]) -> Result<Report, Memory>
-    ensures { IfOk result (λ r. r ≡ sent_line number (frame_said bytes.now)) }
-{
-    let frame = match decode(alloc, bytes) {
-        Ok(frame) => frame,
-        Err(_) => return Err(AllocError),
-    };
-    let Frame { head, body } = frame;
-    match body {
-        Body::Knowledge(runs) => Ok(Report::SentKnow {
-            number,
-            from: head.from,
-            to: head.to,
-            publisher: head.publisher,
-            runs,
-        }),
-        Body::Curiosity(runs) => Ok(Report::SentWant {
-            number,
-            from: head.from,
-            to: head.to,
-            publisher: head.publisher,
-            runs,
-        }),
-        Body::Expect(tick) => Ok(Report::SentExpect {
-            number,
-            from: head.from,
-            to: head.to,
-            publisher: head.publisher,
-            tick,
-        }),
-    }
-}
 
 /// Puts the lines of frames at the end of a list, where `first` frames were sent before. At want of memory some of them
 /// may stand there.

@@ -1,7 +1,7 @@
 use Rattle.std.proofs.Common.{◌≡◌, subst, ◌∙◌}
 use Rattle.gr_model.specs.NetOf.{net_of, IsOrderly}
 use Rattle.gr_model.specs.Tree.{IsNet}
-use Rattle.gr_replay.proofs.Named.{answer_named}
+use Rattle.gr_replay.proofs.AnswerNamed.{answer_named}
 use Rattle.gr_replay.proofs.stepping.step.Goals as goal
 
 pub returns-in-Ok-clause-named : goal.returns-in-Ok-clause-named

@@ -1,6 +1,6 @@
 -- Each turn tells the next frame
 use Rattle.std.proofs.Common.{◌+◌, arith}
-use Rattle.gr_world.proofs.Telling.{told_more, told_all}
+use Rattle.gr_run.proofs.Telling.{told_more, told_all}
 use Rattle.gr_world.proofs.sending.tell_sent.Goals as goal
 
 pub loop-i-preserved : goal.loop-i-preserved

@@ -21,13 +21,14 @@ use Rattle.gr_model.specs.NetOf.{IsOrderly}
 use Rattle.gr_model.specs.Tree.{IsNet}
 use Rattle.gr_model.specs.Broker.{View, Log, Outcome, empty_log, is_kept, delivery_lines, got_line, learn, publish, marking, cutting, wake, wake_host, wake_below, asking, curiosity, expect, receive, clashes, place_of, with_event, max_tick}
 use Rattle.gr_model.specs.World.{World, Transition, view_of, log_of, absorbed, unchanged, followed_by, in_turn, sent_line, sent_lines, wake_for, wake_all, deliver_frame, frame_at, publish_now, restarted, crash, publish_stopped, deliver_up, wake_up, hand_down, sweep_for, sweep, sweep_moment, next, show, opened_lines, kept_events, frames_past, sent_since, is_want, is_know_to, outwards, inwards, numbers_down, deliver_frame_by, deliver_up_by, hand_down_by, next_by, publish_now_by, publish_stopped_by, sweep_by, sweep_for_by, wake_all_by, wake_for_by, wake_up_by}
-use Rattle.gr_theorems.specs.Edges.{GoesBetween, GoesOverEdge}
-use Rattle.gr_theorems.specs.Fits.{BodyFits, StepIn}
+use Rattle.gr_theorems.specs.Edges.{GoesOverEdge}
+use Rattle.gr_theorems.specs.Fits.{StepIn}
 use Rattle.gr_theorems.proofs.asks.AskMoments.{Each-on}
 use Rattle.gr_theorems.proofs.calls.HostCases.{publish_cases, marking_cases}
 use Rattle.gr_theorems.proofs.runs.Closed.{Each-past, Each-kept, frame_at_ready}
 use Rattle.gr_theorems.proofs.runs.Worlds.{Each, numbers_below, depths_in}
-use Rattle.gr_theorems.proofs.topology.Strays.{SentOn, AllOver, wake_on, receive_on, publish_on}
+use Rattle.gr_theorems.proofs.topology.Strays.{AllOver, wake_on, receive_on, publish_on}
+use Rattle.gr_run.proofs.Passing.{over_edges, body_fits}
 
 -- a property of lines that holds of each that names publishers, subscribers and brokers of the tree
 pub record Names (net : Net) (N : Report → Type 0) : Type 0 where
@@ -54,7 +55,7 @@ pub record Names (net : Net) (N : Report → Type 0) : Type 0 where
   pub bytes : (frame : ℕ) (bytes : List ℕ) → N (line.BytesOf frame bytes)
 
 -- what a broker's call tells is named, and what it sends goes over edges
-record Says (net : Net) (N : Report → Type 0) (o : Outcome) : Type 0 where
+pub record Says (net : Net) (N : Report → Type 0) (o : Outcome) : Type 0 where
   pub lines : Each N o.lines
   pub frames : Each (GoesOverEdge net) o.frames
 
@@ -64,22 +65,24 @@ pub record Speaks (net : Net) (N : Report → Type 0) (t : Transition) : Type 0 
   pub over : AllOver net t.world
 
 -- one part and then another
-after : (net : Net) (N : Report → Type 0) (t : Transition) (f : World → Transition) → Speaks net N t → Speaks net N (f t.world) → Speaks net N (followed_by t f)
+pub after : (net : Net) (N : Report → Type 0) (t : Transition) (f : World → Transition) → Speaks net N t → Speaks net N (f t.world) → Speaks net N (followed_by t f)
 after net N t f a b = record { lines = Each-on N t.lines (f t.world).lines a.lines b.lines; over = b.over }
 
 -- all turns, one after another
-in_turn_speaks : {X : Type 0} (net : Net) (N : Report → Type 0) (ok : X → Type 0) (f : World → X → Transition) → ((w : World) (x : X) → AllOver net w → ok x → Speaks net N (f w x)) → (xs : List X) (w : World) → AllOver net w → Each ok xs → Speaks net N (in_turn f xs w)
+pub in_turn_speaks : {X : Type 0} (net : Net) (N : Report → Type 0) (ok : X → Type 0) (f : World → X → Transition) → ((w : World) (x : X) → AllOver net w → ok x → Speaks net N (f w x)) → (xs : List X) (w : World) → AllOver net w → Each ok xs → Speaks net N (in_turn f xs w)
 in_turn_speaks net N ok f one [] w a e = record { lines = tt; over = a }
 in_turn_speaks net N ok f one (x ∷ xs) w a e =
     let k = one w x a e.0 in after net N (f w x) (in_turn f xs) k (in_turn_speaks net N ok f one xs (f w x).world k.over e.1)
 
 -- What a call tells
 
-got_named : (net : Net) (N : Report → Type 0) (s p : ℕ) (xs : List (ℕ × Event)) → Names net N → s < net.subscribers → p < net.publishers → Each N (map (got_line s p) xs)
+-- the lines of what a subscriber gets
+pub got_named : (net : Net) (N : Report → Type 0) (s p : ℕ) (xs : List (ℕ × Event)) → Names net N → s < net.subscribers → p < net.publishers → Each N (map (got_line s p) xs)
 got_named net N s p [] k i j = tt
 got_named net N s p (x ∷ xs) k i j = (k.got s p x.0 x.1 i j, got_named net N s p xs k i j)
 
-delivery_named : (net : Net) (N : Report → Type 0) (p h h' s : ℕ) (items : List (ℕ × Event)) → Names net N → s < net.subscribers → p < net.publishers → Each N (delivery_lines net p h h' items s)
+-- and of one delivery
+pub delivery_named : (net : Net) (N : Report → Type 0) (p h h' s : ℕ) (items : List (ℕ × Event)) → Names net N → s < net.subscribers → p < net.publishers → Each N (delivery_lines net p h h' items s)
 unfolding delivery_lines
 delivery_named net N p h h' s items k i j = go (nat_eq h h')
   where
@@ -96,7 +99,8 @@ learn_named net N p b piece v log k o j = go _ _ (net.subscribers_at b) (λ s m.
     go h items [] m = tt
     go h items (x ∷ xs) m = Each-on N (delivery_lines net p v.horizon h items x) (flat_map (delivery_lines net p v.horizon h items) xs) (delivery_named net N p v.horizon h x items k (m x (or_left (nat_eq x x) (list_any (λ y. nat_eq y x) xs) (eq-eqb x x refl))) j) (go h items xs (λ s z. m s (or_right (nat_eq x s) (list_any (λ y. nat_eq y s) xs) z)))
 
-receive_named : (net : Net) (N : Report → Type 0) (now : ℕ) (f : Frame) (v : View) (log : Log) → Names net N → IsOrderly net → f.head.publisher < net.publishers → Each N (receive net now f v log).lines
+-- of a frame that comes
+pub receive_named : (net : Net) (N : Report → Type 0) (now : ℕ) (f : Frame) (v : View) (log : Log) → Names net N → IsOrderly net → f.head.publisher < net.publishers → Each N (receive net now f v log).lines
 unfolding receive expect curiosity asking
 receive_named net N now f v log k o j = go f.body
   where
@@ -113,13 +117,16 @@ receive_named net N now f v log k o j = go f.body
     go (body.Curiosity runs) = tt
     go (body.Expect tick) = tt
 
-publish_named : (net : Net) (N : Report → Type 0) (p b now number : ℕ) (e : Event) (v : View) (log : Log) → Names net N → IsOrderly net → p < net.publishers → Each N (publish net p b now number e v log).lines
+-- of a publish
+pub publish_named : (net : Net) (N : Report → Type 0) (p b now number : ℕ) (e : Event) (v : View) (log : Log) → Names net N → IsOrderly net → p < net.publishers → Each N (publish net p b now number e v log).lines
 publish_named net N p b now number e v log k o j = publish_cases net p b now number e v log (λ x. Each N x.lines) (λ l. (k.already p number j, tt)) (λ l. (k.gap p number (suc log.last) j, tt)) (λ x l. (k.exhausted p number j, tt)) (λ x l. (k.logged p number (max (suc log.settled) now) j, learn_named net N p b _ v _ k o j))
 
-marking_named : (net : Net) (N : Report → Type 0) (p b now : ℕ) (v : View) (log : Log) → Names net N → IsOrderly net → p < net.publishers → Each N (marking net p b now v log).lines
+-- of a mark
+pub marking_named : (net : Net) (N : Report → Type 0) (p b now : ℕ) (v : View) (log : Log) → Names net N → IsOrderly net → p < net.publishers → Each N (marking net p b now v log).lines
 marking_named net N p b now v log k o j = marking_cases net p b now v log (λ x. Each N x.lines) (λ e. learn_named net N p b _ v _ k o j) (λ e. tt)
 
-wake_named : (net : Net) (N : Report → Type 0) (p b now : ℕ) (v : View) (log : Log) → Names net N → IsOrderly net → p < net.publishers → Each N (wake net p b now v log).lines
+-- of a wake
+pub wake_named : (net : Net) (N : Report → Type 0) (p b now : ℕ) (v : View) (log : Log) → Names net N → IsOrderly net → p < net.publishers → Each N (wake net p b now v log).lines
 unfolding wake wake_host wake_below asking
 wake_named net N p b now v log k o j = go (is_host net p b)
   where
@@ -141,24 +148,13 @@ wake_named net N p b now v log k o j = go (is_host net p b)
 
 -- What a call sends
 
-over_edges : (net : Net) (p b : ℕ) → IsNet net → p < net.publishers → b < net.brokers → SentOn net p b (GoesOverEdge net)
-over_edges net p b n j i = record {
-  know = λ c part m. record { publisher = j; from = i; to = n.child_in p b c j i m; between = n.child_up p b c j i m };
-  want = λ u part e. let x = n.up_in p b u j i e in record { publisher = j; from = i; to = x.0; between = x.1 };
-  expect = λ c tick m. record { publisher = j; from = i; to = n.child_in p b c j i m; between = n.child_up p b c j i m };
-}
-
--- what goes over an edge fits its receiver
-body_fits : (net : Net) (p from to : ℕ) (y : Body) → GoesBetween net p from to y → BodyFits net p from to y
-body_fits net p from to (body.Knowledge runs) g = tt
-body_fits net p from to (body.Curiosity runs) g = g
-body_fits net p from to (body.Expect tick) g = tt
-
-sent_named : (net : Net) (N : Report → Type 0) (n : ℕ) (fs : List Frame) → Names net N → Each (GoesOverEdge net) fs → Each N (sent_lines n fs)
+-- the lines of frames that go over edges
+pub sent_named : (net : Net) (N : Report → Type 0) (n : ℕ) (fs : List Frame) → Names net N → Each (GoesOverEdge net) fs → Each N (sent_lines n fs)
 sent_named net N n [] k a = tt
 sent_named net N n (f ∷ fs) k a = (k.sent n f a.0, sent_named net N (suc n) fs k a.1)
 
-absorbed_speaks : (net : Net) (N : Report → Type 0) (w : World) (b p : ℕ) (o : Outcome) → Names net N → AllOver net w → Says net N o → Speaks net N (absorbed w b p o)
+-- and of a call that is taken up
+pub absorbed_speaks : (net : Net) (N : Report → Type 0) (w : World) (b p : ℕ) (o : Outcome) → Names net N → AllOver net w → Says net N o → Speaks net N (absorbed w b p o)
 unfolding absorbed
 absorbed_speaks net N w b p o k a s = record {
   lines = Each-on N o.lines (sent_lines (suc (length w.frames)) o.frames) s.lines (sent_named net N (suc (length w.frames)) o.frames k s.frames);
@@ -173,28 +169,32 @@ pub record Stands (net : Net) (N : Report → Type 0) : Type 0 where
   pub tree : IsNet net
   pub orderly : IsOrderly net
 
-wake_for_speaks : (net : Net) (N : Report → Type 0) (w : World) (b p : ℕ) → Stands net N → AllOver net w → b < net.brokers → p < net.publishers → Speaks net N (wake_for net w b p)
+-- a wake
+pub wake_for_speaks : (net : Net) (N : Report → Type 0) (w : World) (b p : ℕ) → Stands net N → AllOver net w → b < net.brokers → p < net.publishers → Speaks net N (wake_for net w b p)
 unfolding wake_for_by
 wake_for_speaks net N w b p s a i j = absorbed_speaks net N w b p (wake net p b w.clock (view_of w b p) (log_of w p)) s.names a (record {
   lines = wake_named net N p b w.clock (view_of w b p) (log_of w p) s.names s.orderly j;
   frames = wake_on net p b w.clock (GoesOverEdge net) (view_of w b p) (log_of w p) (over_edges net p b s.tree j i);
 })
 
-deliver_speaks : (net : Net) (N : Report → Type 0) (w : World) (x : Frame) → Stands net N → AllOver net w → GoesOverEdge net x → Speaks net N (deliver_frame net w x)
+-- a delivery
+pub deliver_speaks : (net : Net) (N : Report → Type 0) (w : World) (x : Frame) → Stands net N → AllOver net w → GoesOverEdge net x → Speaks net N (deliver_frame net w x)
 unfolding deliver_frame_by
 deliver_speaks net N w x s a g = absorbed_speaks net N w x.head.to x.head.publisher (receive net w.clock x (view_of w x.head.to x.head.publisher) (log_of w x.head.publisher)) s.names a (record {
   lines = receive_named net N w.clock x (view_of w x.head.to x.head.publisher) (log_of w x.head.publisher) s.names s.orderly g.publisher;
   frames = receive_on net w.clock (GoesOverEdge net) x (view_of w x.head.to x.head.publisher) (log_of w x.head.publisher) (over_edges net x.head.publisher x.head.to s.tree g.publisher g.to) (body_fits net x.head.publisher x.head.from x.head.to x.body g.between);
 })
 
-publish_now_speaks : (net : Net) (N : Report → Type 0) (w : World) (p number : ℕ) (e : Event) → Stands net N → AllOver net w → p < net.publishers → Speaks net N (publish_now net w p number e)
+-- a publish
+pub publish_now_speaks : (net : Net) (N : Report → Type 0) (w : World) (p number : ℕ) (e : Event) → Stands net N → AllOver net w → p < net.publishers → Speaks net N (publish_now net w p number e)
 unfolding publish_now_by
 publish_now_speaks net N w p number e s a j = absorbed_speaks net N w (net.host p) p (publish net p (net.host p) w.clock number e (view_of w (net.host p) p) (log_of w p)) s.names a (record {
   lines = publish_named net N p (net.host p) w.clock number e (view_of w (net.host p) p) (log_of w p) s.names s.orderly j;
   frames = publish_on net p (net.host p) w.clock number (GoesOverEdge net) e (view_of w (net.host p) p) (log_of w p) (over_edges net p (net.host p) s.tree j (s.tree.host_in p j));
 })
 
-wake_all_speaks : (net : Net) (N : Report → Type 0) (w : World) (b : ℕ) → Stands net N → AllOver net w → b < net.brokers → Speaks net N (wake_all net w b)
+-- a wake of all publishers at a broker
+pub wake_all_speaks : (net : Net) (N : Report → Type 0) (w : World) (b : ℕ) → Stands net N → AllOver net w → b < net.brokers → Speaks net N (wake_all net w b)
 unfolding wake_all_by
 wake_all_speaks net N w b s a i = in_turn_speaks net N (λ p. p < net.publishers) (λ u p. wake_for net u b p) (λ u p c j. wake_for_speaks net N u b p s c i j) (numbers net.publishers) w a (numbers_below 0 net.publishers net.publishers (omega arith))
 
@@ -257,7 +257,8 @@ sweep_named net N w k s a = go (nat_lt max_tick m)
 
 -- Crashes
 
-opened_named : (net : Net) (N : Report → Type 0) (logs : List Log) (b : ℕ) → Names net N → Each N (opened_lines net logs b)
+-- the lines that an opening tells of the logs at a broker
+pub opened_named : (net : Net) (N : Report → Type 0) (logs : List Log) (b : ℕ) → Names net N → Each N (opened_lines net logs b)
 unfolding opened_lines
 opened_named net N logs b k = go (numbers net.publishers) (numbers_below 0 net.publishers net.publishers (omega arith))
   where
@@ -302,7 +303,7 @@ stopped_named net N w k p number stop e s a j = go (not_empty (net.subscribers_a
 
 -- What is shown
 
-show_named : (net : Net) (N : Report → Type 0) (w : World) → Names net N → Each N (show net w)
+pub show_named : (net : Net) (N : Report → Type 0) (w : World) → Names net N → Each N (show net w)
 unfolding show
 show_named net N w k = (k.frames (length w.frames), logs (numbers net.publishers) (numbers_below 0 net.publishers net.publishers (omega arith)))
   where

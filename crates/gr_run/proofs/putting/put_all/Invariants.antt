@@ -1,7 +1,7 @@
 use Rattle.std.proofs.Common.{◌≡◌, ◌++◌, take}
 use Rattle.gr_model.specs.Text.{labels_of, report_text}
 use Rattle.gr_out.specs.Page.{TakesBut}
-use Rattle.gr_replay.proofs.putting.put_all.Given as goal
+use Rattle.gr_run.proofs.putting.put_all.Given as goal
 
 -- the lines so far were put, and no fault was counted
 abbrev pub invariant-lines : goal.invariant-lines

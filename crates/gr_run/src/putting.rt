@@ -4,18 +4,17 @@ ghost use Rattle.std.specs.Prelude.{◌≡◌, ◌≢◌, ◌<◌, ◌++◌, len
 ghost use Rattle.gr_out.specs.declared.page.TheConstants.{PAGE_BYTES};
 ghost use Rattle.gr_out.specs.Faults.{Rose};
 ghost use Rattle.gr_model.specs.Text.{IsNamed, labels_of, whole_line, report_text};
-ghost use Rattle.gr_out.specs.Page.{TakesBut};
-ghost use Rattle.gr_replay.specs.Going.{IsPutFault};
-ghost use Rattle.gr_out.specs.Page.{TakesFront};
-ghost use Rattle.gr_replay.specs.Replayed.{AllNamed};
+ghost use Rattle.gr_out.specs.Page.{TakesBut, TakesFront};
+ghost use Rattle.gr_run.specs.Named.{AllNamed, IsPutFault};
 
 use gr_model::{Report, put};
 use gr_out::{Page, RunFault, Sink};
 use gr_topo::Topology;
 use std::alloc::Global;
 
-/// Puts a line.
-fn put_line<K: Sink>(
+/// Puts a line, and writes the page where it is full. `Memory` where memory is refused, and `Write` only where the sink
+/// failed; the sink took a front then.
+pub fn put_line<K: Sink>(
     alloc: Global,
     topology: &Topology,
     line: &Report,
@@ -42,7 +41,7 @@ fn put_line<K: Sink>(
 }
 
 /// Puts lines in order. After `Memory` the page may end within a line.
-pub(crate) fn put_all<K: Sink>(
+pub fn put_all<K: Sink>(
     alloc: Global,
     topology: &Topology,
     lines: &[Report],

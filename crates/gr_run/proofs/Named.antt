@@ -1,5 +1,5 @@
 -- Every line that a step tells is named, since the tree that a topology is to the machine has what its names name
-use Rattle.std.proofs.Common.{◌≡◌, ◌<◌, ℕ, List, [], ◌∷◌, refl, ap, subst, Some, Result}
+use Rattle.std.proofs.Common.{ℕ, List, [], ◌∷◌}
 use Rattle.std.specs.List.{AllByRecursion}
 use Rattle.gr_frame.specs.declared.Body.{Body}
 use Rattle.gr_frame.specs.declared.Body.TheVariants as body
@@ -8,22 +8,17 @@ use Rattle.gr_sched.specs.declared.step.Step.{Step}
 use Rattle.gr_sched.specs.declared.step.Step.TheVariants as step
 use Rattle.gr_sched.specs.declared.step.Line.{Line}
 use Rattle.gr_topo.specs.Topology.{TopologyView}
-use Rattle.gr_model.specs.declared.report.Report.{Report}
 use Rattle.gr_model.specs.declared.report.Report.TheVariants as line
 use Rattle.gr_model.specs.NetOf.{net_of, IsOrderly}
 use Rattle.gr_model.specs.Tree.{IsNet}
-use Rattle.gr_model.specs.World.{World, Transition, sent_line, next}
+use Rattle.gr_model.specs.World.{World, sent_line, next}
 use Rattle.gr_model.specs.Text.{IsNamed}
 use Rattle.gr_theorems.specs.Edges.{GoesOverEdge}
 use Rattle.gr_theorems.specs.Fits.{StepIn}
 use Rattle.gr_theorems.proofs.runs.Worlds.{Each}
-use Rattle.gr_world.specs.declared.fault.WorldFault.{WorldFault}
-use Rattle.gr_world.specs.Seen.{WorldView, net_in, world_of}
-use Rattle.gr_world.specs.Of.{IsWorld}
-use Rattle.gr_world.specs.Steps.{Makes, lines_of_step}
 use Rattle.gr_scenario.specs.Steps.{IsStepOf}
-use Rattle.gr_replay.specs.Replayed.{AllNamed}
-use Rattle.gr_replay.proofs.Names.{Names, Stands, step_names}
+use Rattle.gr_run.specs.Named.{AllNamed}
+use Rattle.gr_run.proofs.Names.{Names, step_names}
 
 -- both words say the same of each element of a list
 pub each_of : {X : Type 0} (P : X → Type 0) (xs : List X) → AllByRecursion P xs → Each P xs
@@ -35,7 +30,8 @@ pub all_of : {X : Type 0} (P : X → Type 0) (xs : List X) → Each P xs → All
 all_of P [] a = tt
 all_of P (x ∷ xs) a = (a.0, all_of P xs a.1)
 
-sent_is_named : (t : TopologyView) (n : ℕ) (f : Frame) → GoesOverEdge (net_of t) f → IsNamed t (sent_line n f)
+-- the line of a frame that went over an edge is named
+pub sent_is_named : (t : TopologyView) (n : ℕ) (f : Frame) → GoesOverEdge (net_of t) f → IsNamed t (sent_line n f)
 unfolding sent_line
 sent_is_named t n f g = one f.body
   where
@@ -89,8 +85,3 @@ step_in t (step.Bytes frame) h = tt
 pub next_named : (t : TopologyView) (w : World) (l : Line) → IsNet (net_of t) → IsOrderly (net_of t) → AllByRecursion (GoesOverEdge (net_of t)) w.frames → IsStepOf t l.step → AllNamed t (next (net_of t) w l).lines
 next_named t w l n o a i =
     all_of (IsNamed t) (next (net_of t) w l).lines (step_names (net_of t) (IsNamed t) w l (record { names = names_of t; tree = n; orderly = o }) (each_of (GoesOverEdge (net_of t)) w.frames a) (step_in t l.step i))
-
--- the lines of a step's answer are named, as it is the machine's step
-pub answer_named : (old new : WorldView) (l : Line) (answer : Result (List Report) WorldFault) (lines : List Report) → IsNet (net_in old) → IsOrderly (net_in old) → IsWorld old → IsStepOf old.topo l.step → Makes l.step old new answer → lines_of_step l.number l.step answer ≡ Some lines → AllNamed old.topo lines
-answer_named old new l answer lines n o w i m e =
-    subst (AllNamed old.topo) (ap (λ (t : Transition). t.lines) (m l.number lines e)) (next_named old.topo (world_of old) l n o w.over i)

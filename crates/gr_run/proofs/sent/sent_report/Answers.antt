@@ -2,8 +2,8 @@
 use Rattle.std.proofs.Common.{refl}
 use Rattle.gr_frame.specs.declared.Body.TheVariants as body
 use Rattle.gr_model.specs.World.{sent_line}
-use Rattle.gr_world.proofs.Telling.{line_by}
-use Rattle.gr_world.proofs.sending.sent_report.Goals as goal
+use Rattle.gr_run.proofs.Telling.{line_by}
+use Rattle.gr_run.proofs.sent.sent_report.Goals as goal
 
 pub returns-in-Knowledge : goal.returns-in-Knowledge
 unfolding sent_line

@@ -1,10 +1,9 @@
 use Rattle.std.proofs.Common.{◌++◌, ◌+◌, take, drop, sym, ap, ◌∙◌, subst, append_assoc}
 use Rattle.gr_model.specs.Text.{labels_of, report_text, whole_line}
-use Rattle.gr_out.specs.Page.{TakesBut}
-use Rattle.gr_out.specs.Page.{TakesFront}
+use Rattle.gr_out.specs.Page.{TakesBut, TakesFront}
 use Rattle.gr_out.proofs.Fronts.{front-later, front-more, but-later}
-use Rattle.gr_replay.proofs.Fronts.{text_more, text_cut}
-use Rattle.gr_replay.proofs.putting.put_all.Goals as goal
+use Rattle.gr_run.proofs.Fronts.{text_more, text_cut}
+use Rattle.gr_run.proofs.putting.put_all.Goals as goal
 
 pub returns-in-Err-clause-front : goal.returns-in-Err-clause-front
 returns-in-Err-clause-front g c =

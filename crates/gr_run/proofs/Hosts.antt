@@ -22,9 +22,10 @@ place_of_log logs p l e = elim (cases_lt p (length logs)) [
   | inr k ↦ absurd (none_some l (sym (get_or_past logs p None k) ∙ e))
 ]
 
-some_log : (l : Option LogView) → is_some l ≡ true → (m : LogView) × (l ≡ Some m)
-some_log None e = absurd (false≢true e)
-some_log (Some m) e = (m, refl)
+-- what is there is some
+pub some_of : {X : Type 0} (o : Option X) → is_some o ≡ true → (x : X) × (o ≡ Some x)
+some_of None e = absurd (false≢true e)
+some_of (Some x) e = (x, refl)
 
 -- a publisher that is at a broker has it as its host
 pub host_is : (t : TopologyView) (p b : ℕ) → is_host (net_of t) p b ≡ true → host_of t p ≡ b
@@ -44,7 +45,7 @@ module _ (t : TopologyView) (b : ℕ) (v : BrokerView) (fits : IsBrokerOf t v) (
 
   -- and each publisher that is there has one
   pub hosted_log : (p : ℕ) → p < length t.publishers → host_of t p ≡ b → (l : LogView) × (log_in v p ≡ Some l)
-  hosted_log p k e = some_log (log_in v p) (fits.hosted p k ∙ is_host_at t p v.number (e ∙ sym number))
+  hosted_log p k e = some_of (log_in v p) (fits.hosted p k ∙ is_host_at t p v.number (e ∙ sym number))
 
   -- the log of a publisher that is elsewhere is not there
   pub no_log : (p : ℕ) → host_of t p ≢ b → log_in v p ≡ None

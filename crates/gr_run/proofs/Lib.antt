@@ -1,0 +1,11 @@
+pub mod Along
+pub mod Shown
+pub mod Readable
+pub mod Passing
+pub mod Telling
+pub mod Fronts
+pub mod Names
+pub mod Named
+pub mod OpenedNamed
+pub mod Steps
+pub mod Hosts

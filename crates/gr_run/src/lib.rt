@@ -1,0 +1,13 @@
+//! What every run over a topology shares, whatever brings its steps: lines are put into a page that a sink takes, a frame
+//! is told by its bytes, and the steps of a topology are those that the theorems speak of.
+#![tactic(auto)]
+
+mod law;
+#[cfg(test)]
+mod page_tests;
+mod putting;
+mod sent;
+
+pub use law::steps_fit_the_theorems;
+pub use putting::{put_all, put_line};
+pub use sent::sent_report;
