@@ -1,0 +1,119 @@
+-- What a run does once its brokers have started are calls of hosted brokers, for publishers of the topology, and acts that call none
+use Rattle.std.proofs.Common.{◌≡◌, ◌≤◌, ℕ, zero, suc, ◌+◌, Bool, true, false, List, [], ◌∷◌, ◌++◌, length, map, flat_map, refl, arith}
+use Rattle.std.specs.Prelude.{nat_eq, if◌then◌else◌}
+use Rattle.std.specs.List.{AllByRecursion}
+use Rattle.std.proofs.lemmas.Bool.{eq-eqb, or_left, or_right}
+use Rattle.gr_frame.specs.Decode.{frame_decoded}
+use Rattle.gr_out.specs.Journal.{is_among}
+use Rattle.gr_sched.specs.declared.step.Step.{Step}
+use Rattle.gr_sched.specs.declared.step.Step.TheVariants as step
+use Rattle.gr_sched.specs.declared.step.Line.{Line}
+use Rattle.gr_scenario.specs.Steps.{IsStepOf, AreStepsOf}
+use Rattle.gr_topo.specs.Topology.{TopologyView}
+use Rattle.gr_model.specs.Net.{numbers_from}
+use Rattle.gr_model.specs.NetOf.{net_of}
+use Rattle.gr_model.specs.Arrivals.{Arrival, datagram, quiet, Publish, is_hosted, publishes_of, left_after}
+use Rattle.gr_node.specs.Plan.{Call, gets, publishes, wakes, Act, calls, shows, publish_calls, wake_calls, calls_of, acts_from, closing, run_acts}
+use Rattle.gr_node.proofs.Moving.{IsCallOf, IsActOf}
+
+-- Lists of which each element is so
+
+-- of a list in two parts the front is so
+pub all_front : {X : Type 0} (P : X → Type 0) (xs ys : List X) → AllByRecursion P (xs ++ ys) → AllByRecursion P xs
+all_front P [] ys a = tt
+all_front P (x ∷ xs) ys a = (a.0, all_front P xs ys a.1)
+
+pub all_append : {X : Type 0} (P : X → Type 0) (xs ys : List X) → AllByRecursion P xs → AllByRecursion P ys → AllByRecursion P (xs ++ ys)
+all_append P [] ys a b = b
+all_append P (x ∷ xs) ys a b = (a.0, all_append P xs ys a.1 b)
+
+module _ (t : TopologyView) (hosted : List ℕ) where
+  -- Publishes
+
+  abbrev ArePublishes : List Publish → Type 0
+  ArePublishes left = AllByRecursion (λ x. IsCallOf t hosted (publishes x)) left
+
+  publish_of : (s : Step) → IsStepOf t s → ArePublishes (elim s [
+    | step.Publish p number stop e ↦ if is_hosted (net_of t) hosted p then (p, (number, e)) ∷ [] else []
+    | _ ↦ []
+  ])
+  publish_of (step.Publish p number stop e) h = go (is_hosted (net_of t) hosted p) refl
+    where
+      go : (q : Bool) → is_hosted (net_of t) hosted p ≡ q → ArePublishes (if q then (p, (number, e)) ∷ [] else [])
+      go true k = ((h.0, k), tt)
+      go false k = tt
+  publish_of (step.Clock now) h = tt
+  publish_of (step.Wake b) h = tt
+  publish_of (step.Deliver frame) h = tt
+  publish_of (step.Crash b) h = tt
+  publish_of step.Sweep h = tt
+  publish_of step.Show h = tt
+  publish_of (step.Bytes frame) h = tt
+
+  publishes_are : (steps : List Line) → AreStepsOf t steps → ArePublishes (publishes_of (net_of t) hosted steps)
+  publishes_are [] a = tt
+  publishes_are (l ∷ ls) a = all_append (λ x. IsCallOf t hosted (publishes x)) _ _ (publish_of l.step a.0) (publishes_are ls a.1)
+
+  left_are : (left : List Publish) (a : Arrival) → ArePublishes left → ArePublishes (left_after left a)
+  left_are left (datagram b bytes moment) h = h
+  left_are [] (quiet moment) h = tt
+  left_are (x ∷ left) (quiet moment) h = h.1
+
+  -- Calls
+
+  abbrev AreCalls : List Call → Type 0
+  AreCalls cs = AllByRecursion (IsCallOf t hosted) cs
+
+  first_is : (left : List Publish) → ArePublishes left → AreCalls (publish_calls left)
+  first_is [] h = tt
+  first_is (x ∷ left) h = (h.0, tt)
+
+  wakes_of : (b from k : ℕ) → is_among hosted b ≡ true → from + k ≤ length t.publishers → AreCalls (map (wakes b) (numbers_from from k))
+  wakes_of b from zero h le = tt
+  wakes_of b from (suc k) h le = ((h, omega (arith, le)), wakes_of b (suc from) k h (omega (arith, le)))
+
+  wakes_are : (bs : List ℕ) → ((b : ℕ) → is_among bs b ≡ true → is_among hosted b ≡ true) → AreCalls (flat_map (wake_calls (length t.publishers)) bs)
+  wakes_are [] h = tt
+  wakes_are (b ∷ bs) h =
+      all_append (IsCallOf t hosted) (wake_calls (length t.publishers) b) (flat_map (wake_calls (length t.publishers)) bs)
+      (wakes_of b 0 (length t.publishers) (h b (or_left (nat_eq b b) (is_among bs b) (eq-eqb b b refl))) (omega arith))
+      (wakes_are bs (λ c e. h c (or_right (nat_eq b c) (is_among bs c) e)))
+
+  calls_are : (left : List Publish) (a : Arrival) → ArePublishes left → AreCalls (calls_of (net_of t) hosted left a)
+  calls_are left (datagram b bytes moment) h = go (is_among hosted b) refl
+    where
+      go : (q : Bool) → is_among hosted b ≡ q → AreCalls (if q then gets b (frame_decoded bytes) ∷ [] else [])
+      go true e = (e, tt)
+      go false e = tt
+  calls_are left (quiet moment) h =
+      all_append (IsCallOf t hosted) (publish_calls left) (flat_map (wake_calls (length t.publishers)) hosted) (first_is left h) (wakes_are hosted (λ b e. e))
+
+  -- Acts
+
+  abbrev AreActs : List Act → Type 0
+  AreActs acts = AllByRecursion (IsActOf t hosted) acts
+
+  made_of : (cs : List Call) → AreCalls cs → AreActs (map calls cs)
+  made_of [] h = tt
+  made_of (c ∷ cs) h = (h.0, made_of cs h.1)
+
+  came_are : (left : List Publish) (came : List Arrival) → ArePublishes left → AreActs (acts_from (net_of t) hosted left came)
+  unfolding acts_from
+  came_are left [] h = tt
+  came_are left (a ∷ came) h = (
+    tt,
+    all_append (IsActOf t hosted) (map calls (calls_of (net_of t) hosted left a)) (acts_from (net_of t) hosted (left_after left a) came)
+        (made_of (calls_of (net_of t) hosted left a) (calls_are left a h)) (came_are (left_after left a) came (left_are left a h)),
+  )
+
+  closing_is : (closed : Bool) → AreActs (closing closed)
+  closing_is true = (tt, tt)
+  closing_is false = tt
+
+  -- all that a run does after the starts
+  pub acts_are : (steps : List Line) (came : List Arrival) (closed : Bool) → AreStepsOf t steps
+      → AllByRecursion (IsActOf t hosted) (run_acts (net_of t) hosted steps came closed ++ shows ∷ [])
+  acts_are steps came closed a =
+      all_append (IsActOf t hosted) (run_acts (net_of t) hosted steps came closed) (shows ∷ [])
+      (all_append (IsActOf t hosted) (acts_from (net_of t) hosted (publishes_of (net_of t) hosted steps) came) (closing closed)
+      (came_are (publishes_of (net_of t) hosted steps) came (publishes_are steps a)) (closing_is closed)) (tt, tt)

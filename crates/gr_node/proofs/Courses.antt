@@ -1,0 +1,309 @@
+-- The course of a run: where it is known what was done, and where it is not. What was made of the plan tells the machine's first lines,
+-- and puts its first entries
+use Rattle.std.proofs.Common.{◌≡◌, ◌⊎◌, inl, inr, ℕ, ◌*◌, ◌<◌, ◌≤◌, Bool, true, false, ◌||◌, List, [], ◌∷◌, ◌++◌, length, map, take, drop, get_or, Option, Result, Ok, Err, OnOk, flat_map, refl, sym, ap, ap₂, ◌∙◌, subst, arith, append_assoc, append-nil, take-append-drop, take_all, eq-eqb}
+use Rattle.std.specs.Prelude.{IsSome, nat_eq}
+use Rattle.std.specs.List.{AllByRecursion, list_any}
+use Rattle.std.proofs.lemmas.Bool.{cases_eq, ne_eqb, false≢true, or_left}
+use Rattle.std.proofs.lemmas.List.{map-append}
+use Rattle.std.proofs.lemmas.List.Folds.{list_any-append}
+use Rattle.gr_out.specs.declared.fault.RunFault.{RunFault}
+use Rattle.gr_out.specs.declared.fault.RunFault.TheVariants as run
+use Rattle.gr_out.specs.Bytes.{with_more}
+use Rattle.gr_out.specs.Entry.{Entry}
+use Rattle.gr_out.specs.Journal.{is_among}
+use Rattle.gr_out.specs.Lane.{Lane, content}
+use Rattle.gr_out.specs.Page.{TakesBut, TakesFront}
+use Rattle.gr_out.proofs.Fronts.{front-more}
+use Rattle.gr_publog.specs.declared.record.Record.{Record}
+use Rattle.gr_publog.specs.Text.{log_text}
+use Rattle.gr_sched.specs.declared.step.Line.{Line}
+use Rattle.gr_topo.specs.Topology.{TopologyView, host_of}
+use Rattle.gr_model.specs.Net.{Net, numbers}
+use Rattle.gr_model.specs.NetOf.{net_of}
+use Rattle.gr_model.specs.World.{World, Transition, followed_by, in_turn}
+use Rattle.gr_model.specs.Opening.{over_logs}
+use Rattle.gr_model.specs.Arrivals.{Arrival, served}
+use Rattle.gr_theorems.specs.Lanes.{AllFollow, whole_logs}
+use Rattle.gr_theorems.specs.Served.{joined}
+use Rattle.gr_theorems.proofs.runs.Schedules.{length_numbers}
+use Rattle.gr_node.specs.Seen.{NodeView, broker_in, none_started, records_in, text_of}
+use Rattle.gr_node.specs.Of.{AreHosted, Hosts, OthersStay}
+use Rattle.gr_node.specs.Plan.{Act, binds, starts, shows, ours, bound_entry, act, run_acts, plan, all_entries}
+use Rattle.gr_node.specs.Went.{Outside, outside, IsExact, fault_entries, Begins}
+use Rattle.gr_node.specs.Starting.{Started, HasStarted, Found, start_lines}
+use Rattle.gr_node.specs.Served.{Course, is_start, IsRefused, KeepsLogs}
+use Rattle.gr_node.specs.Ending.{Serves}
+use Rattle.gr_node.proofs.Moving.{IsNode}
+use Rattle.gr_node.proofs.Opening.{opened_is, records_found, records_follow, records_read, binds_nothing, binds_entries, starts_entries, in_turn_append, all_entries_append}
+use Rattle.gr_node.proofs.Planned.{plan_lines, lines_front}
+use Rattle.gr_node.proofs.StartingNodes.{none_begun}
+use Rattle.gr_node.proofs.Ended.{text_append, on_err}
+
+-- where it is not known what was done, the answer is a fault, and nothing is said of what it refused
+unknown_ok : {T : Type 0} (P : Type 0) (q : Result T RunFault) → (IsExact q → ⊥) → OnOk q P
+unknown_ok P (Ok x) h = absurd (h tt)
+unknown_ok P (Err e) h = tt
+
+unknown_refused : (T : Type 0) (t : TopologyView) (e : RunFault) (left : List Act) → (IsExact {T = T} (Err e) → ⊥) → IsRefused t e left
+unknown_refused T t run.Memory left h = tt
+unknown_refused T t run.Write left h = tt
+unknown_refused T t run.Disk left h = absurd (h tt)
+unknown_refused T t (run.Damaged p at) left h = absurd (h tt)
+unknown_refused T t run.Post left h = absurd (h tt)
+
+-- all but nothing was taken
+pub but_all_taken : (old new : Option (List ℕ)) (text : List ℕ) → TakesBut old new text [] → new ≡ with_more old text
+but_all_taken old new text b = b.taken ∙ ap (with_more old) (sym (append-nil b.part) ∙ sym b.whole)
+
+-- The course of a run over these records, with what came
+
+module _ (T : Type 0) (t : TopologyView) (hosted : List ℕ) (steps : List Line) (turns : ℕ) (posts keeps : Type 0) (journal journal' : List Entry) (taken taken' : Option (List ℕ)) (lanes lanes' : ℕ → Lane)
+    (r : Result T RunFault) (records : List (List Record)) (count : length records ≡ length t.publishers) (follow : AllFollow records) (came : List Arrival) (closed : Bool) (within : length came ≤ turns) where
+  abbrev first : World
+  first = over_logs (net_of t) (whole_logs records)
+
+  abbrev ends : List Act → Transition
+  ends acts = in_turn (act (net_of t) hosted) acts first
+
+  abbrev whole_text : List ℕ
+  whole_text = text_of t (joined (served (net_of t) hosted (whole_logs records) steps (ours hosted came)))
+
+  abbrev all_acts : List Act
+  all_acts = plan t hosted steps came closed
+
+  abbrev course : List Act → List Act → Course
+  course made left = record { records = records; came = came; closed = closed; made = made; left = left }
+
+  module _ (made left : List Act) (parts : made ++ left ≡ all_acts) where
+    -- what was made tells a front of what is served
+    text_whole : (rest : List ℕ) × (whole_text ≡ text_of t (ends made).lines ++ rest)
+    text_whole =
+        let front = lines_front t hosted steps came closed (whole_logs records) made left parts in
+        (text_of t front.0, ap (text_of t) front.1 ∙ text_append t (ends made).lines front.0)
+
+    front_whole : TakesFront taken taken' (text_of t (ends made).lines) → TakesFront taken taken' whole_text
+    front_whole f =
+        let rest = text_whole in
+        subst (TakesFront taken taken') (sym rest.1) (front-more taken taken' (text_of t (ends made).lines) rest.0 f)
+
+    -- and puts a front of the plan's entries
+    begins_whole : Begins journal journal' (all_entries t hosted first made) → Begins journal journal' (all_entries t hosted first all_acts)
+    begins_whole b =
+        let u : Transition = ends made in
+        let rest : List Entry = all_entries t hosted u.world left in
+        record {
+          part = b.part;
+          rest = b.rest ++ rest;
+          whole = ap (all_entries t hosted first) (sym parts) ∙ (all_entries_append t hosted first made left
+              ∙ (ap (λ xs. xs ++ rest) b.whole ∙ append_assoc b.part b.rest rest));
+          are = b.are;
+        }
+
+    -- all was made
+    text_all : left ≡ [] → text_of t (ends made).lines ≡ whole_text
+    text_all none =
+        ap (λ acts. text_of t (ends acts).lines) (sym (append-nil made) ∙ (ap (λ xs. made ++ xs) (sym none) ∙ parts))
+        ∙ ap (text_of t) (plan_lines t hosted steps came closed (whole_logs records))
+
+    reported : (q : Result T RunFault) → taken' ≡ with_more taken (text_of t (ends made).lines) → OnOk q (left ≡ []) → OnOk q (taken' ≡ with_more taken whole_text)
+    reported (Ok x) told none = told ∙ ap (with_more taken) (text_all none)
+    reported (Err e) told none = tt
+
+    -- It is known what was done
+    pub carried : IsExact r → OnOk r (left ≡ []) → OnOk r ((closed ≡ true) ⊎ (length came ≡ turns)) → ((e : RunFault) → r ≡ Err e → IsRefused t e left)
+        → (posts → journal' ≡ journal ++ (all_entries t hosted first made ++ fault_entries r)) → taken' ≡ with_more taken (text_of t (ends made).lines)
+        → (keeps → KeepsLogs {T = T} t hosted (course made left) lanes lanes' r)
+        → Serves {T = T} t hosted steps turns posts keeps journal journal' taken taken' lanes lanes' r
+    carried exact whole ended refused sent told kept = record {
+      course = course made left;
+      run = record { acts = parts; count = count; follow = follow; within = within; whole = whole; ended = ended; refused = refused };
+      posted = λ h. record { exact = λ _. sent h; front = λ unknown. absurd (unknown exact) };
+      printed = record {
+        report = reported r told whole;
+        front = on_err r (front_whole (record { part = text_of t (ends made).lines; rest = []; whole = sym (append-nil (text_of t (ends made).lines)); taken = told }));
+        refused = on_err r (λ _. told);
+      };
+      kept = kept;
+    }
+
+    -- It is not: these acts tell and put a front, and no more is said
+    pub cut : (IsExact r → ⊥) → TakesFront taken taken' (text_of t (ends made).lines) → (posts → Begins journal journal' (all_entries t hosted first made))
+        → (keeps → OthersStay t hosted lanes lanes')
+        → Serves {T = T} t hosted steps turns posts keeps journal journal' taken taken' lanes lanes' r
+    cut unknown front begins others = record {
+      course = course [] all_acts;
+      run = record {
+        acts = refl;
+        count = count;
+        follow = follow;
+        within = within;
+        whole = unknown_ok _ r unknown;
+        ended = unknown_ok _ r unknown;
+        refused = λ e is. unknown_refused T t e all_acts (λ exact. unknown (subst (λ q. IsExact q) (sym is) exact));
+      };
+      posted = λ h. record { exact = λ exact. absurd (unknown exact); front = λ _. begins_whole (begins h) };
+      printed = record {
+        report = unknown_ok _ r unknown;
+        front = on_err r (front_whole front);
+        refused = on_err r (λ exact. absurd (unknown exact));
+      };
+      kept = λ h. record {
+        found = λ p below here is. absurd (false≢true is);
+        kept = λ exact. absurd (unknown exact);
+        damaged = λ p at is. absurd (unknown (subst (λ q. IsExact q) (sym is) tt));
+        others = others h;
+      };
+    }
+
+-- A node of which so many brokers have started
+
+pub record IsOpened (t : TopologyView) (hosted bs rest : List ℕ) (n : NodeView) : Type 0 where
+  pub parts : bs ++ rest ≡ hosted
+  pub hosts : Hosts bs n
+  pub each : AllByRecursion (HasStarted t n) bs
+  pub offers : n.offers ≡ 0
+  pub now : n.now ≡ 0
+  pub count : length n.brokers ≡ length t.brokers
+
+-- none yet
+pub none_opened : (t : TopologyView) (hosted : List ℕ) (n : NodeView) → n ≡ none_started (length t.brokers) → IsOpened t hosted [] hosted n
+none_opened t hosted n e =
+    let none = none_begun t n e in
+    record { parts = refl; hosts = none.hosts; each = tt; offers = none.offers; now = none.now; count = none.count }
+
+module _ (T : Type 0) (t : TopologyView) (hosted : List ℕ) (n : NodeView) (o u : Outside) (r : Result T RunFault) (s : Started {T = T} t hosted n o u r)
+    (offers : n.offers ≡ 0) (now : n.now ≡ 0) (count : length n.brokers ≡ length t.brokers) where
+  -- those that have
+  pub some_opened : IsOpened t hosted (take s.made hosted) (drop s.made hosted) n
+  some_opened = record { parts = take-append-drop s.made hosted; hosts = s.hosts; each = s.each; offers = offers; now = now; count = count }
+
+  -- and all
+  pub all_opened : s.made ≡ length hosted → IsOpened t hosted hosted [] n
+  all_opened e =
+      let all : take s.made hosted ≡ hosted = take_all s.made hosted (omega (arith, e)) in
+      record {
+        parts = append-nil hosted;
+        hosts = subst (λ bs. Hosts bs n) all s.hosts;
+        each = subst (λ bs. AllByRecursion (HasStarted t n) bs) all s.each;
+        offers = offers;
+        now = now;
+        count = count;
+      }
+
+pub all_of : (xs : List ℕ) (k : ℕ) → k ≡ length xs → take k xs ≡ xs
+all_of xs k e = take_all k xs (omega (arith, e))
+
+-- what they told was taken, where it is known
+pub told_opening : (T : Type 0) (t : TopologyView) (hosted : List ℕ) (n : NodeView) (taken taken' : Option (List ℕ)) (held : List ℕ) (r : Result T RunFault)
+    (s : Started {T = T} t hosted n (outside taken held []) (outside taken' [] []) r) → held ≡ [] → IsExact r
+    → taken' ≡ with_more taken (text_of t (flat_map (start_lines t n) (take s.made hosted)))
+told_opening T t hosted n taken taken' held r s none exact =
+    let text : List ℕ = text_of t (flat_map (start_lines t n) (take s.made hosted)) in
+    but_all_taken taken taken' (held ++ text) (s.told exact) ∙ ap (λ h. with_more taken (h ++ text)) none
+
+-- and after a fault a front of it
+pub front_opening : (T : Type 0) (t : TopologyView) (hosted : List ℕ) (n : NodeView) (taken taken' : Option (List ℕ)) (held : List ℕ) (e : RunFault)
+    (s : Started {T = T} t hosted n (outside taken held []) (outside taken' [] []) (Err e)) → held ≡ []
+    → TakesFront taken taken' (text_of t (flat_map (start_lines t n) (take s.made hosted)))
+front_opening T t hosted n taken taken' held e s none =
+    subst (λ h. TakesFront taken taken' (h ++ text_of t (flat_map (start_lines t n) (take s.made hosted)))) none s.front
+
+-- Who has started
+
+pub none_bound : (b : ℕ) (ks : List ℕ) → list_any (is_start b) (map binds ks) ≡ false
+none_bound b [] = refl
+none_bound b (k ∷ ks) = none_bound b ks
+
+same_either : (b c : ℕ) → nat_eq b c ≡ nat_eq c b
+same_either b c = elim (cases_eq b c) [
+  | inl e ↦ eq-eqb b c e ∙ sym (eq-eqb c b (sym e))
+  | inr ne ↦ ne_eqb b c ne ∙ sym (ne_eqb c b (λ e. ne (sym e)))
+]
+
+is_started : (b : ℕ) (cs : List ℕ) → list_any (is_start b) (map starts cs) ≡ is_among cs b
+is_started b [] = refl
+is_started b (c ∷ cs) = ap₂ (λ x y. x || y) (same_either b c) (is_started b cs)
+
+-- What the machine does up to there, and then
+
+module _ (t : TopologyView) (hosted : List ℕ) (are : AreHosted t hosted) (bs rest : List ℕ) (n : NodeView) (o : IsOpened t hosted bs rest n) where
+  abbrev net : Net
+  net = net_of t
+
+  abbrev pub records : List (List Record)
+  records = records_found t n
+
+  abbrev pub before : World
+  before = over_logs net (whole_logs records)
+
+  abbrev pub bindings : List Act
+  bindings = map binds (numbers (length t.brokers))
+
+  abbrev pub bounds : List Entry
+  bounds = map (bound_entry t hosted) (numbers (length t.brokers))
+
+  abbrev pub started : Transition
+  started = in_turn (act net hosted) (map starts bs) before
+
+  abbrev pub begun : List Act → List Act
+  begun more = bindings ++ (map starts bs ++ more)
+
+  pub opened : (started.lines ≡ flat_map (start_lines t n) bs) × IsNode t n started.world
+  opened = opened_is t hosted bs rest n o.parts are o.each o.hosts o.offers o.now o.count
+
+  pub many : length records ≡ length t.publishers
+  many = length_numbers (records_in t n) 0 (length t.publishers)
+
+  pub follows : AllFollow records
+  follows = records_follow t bs n o.each o.hosts
+
+  pub turn_behind : (more : List Act) → in_turn (act net hosted) (begun more) before ≡ followed_by started (in_turn (act net hosted) more)
+  turn_behind more =
+      let later : World → Transition = in_turn (act net hosted) (map starts bs ++ more) in
+      in_turn_append (act net hosted) bindings (map starts bs ++ more) before
+      ∙ (ap (λ (s : Transition). followed_by s later) (binds_nothing net hosted (numbers (length t.brokers)) before)
+      ∙ in_turn_append (act net hosted) (map starts bs) more before)
+
+  pub text_behind : (more : List Act) → text_of t (in_turn (act net hosted) (begun more) before).lines
+      ≡ text_of t (flat_map (start_lines t n) bs) ++ text_of t (in_turn (act net hosted) more started.world).lines
+  text_behind more =
+      let u : Transition = in_turn (act net hosted) more started.world in
+      ap (λ (s : Transition). text_of t s.lines) (turn_behind more)
+      ∙ (text_append t started.lines u.lines ∙ ap (λ ls. text_of t ls ++ text_of t u.lines) opened.0)
+
+  pub entries_behind : (more : List Act) → all_entries t hosted before (begun more) ≡ bounds ++ all_entries t hosted started.world more
+  entries_behind more =
+      let later : List Act = map starts bs ++ more in
+      all_entries_append t hosted before bindings later
+      ∙ ap₂ (λ (xs ys : List Entry). xs ++ ys) (binds_entries t hosted (numbers (length t.brokers)) before)
+      (ap (λ (s : Transition). all_entries t hosted s.world later) (binds_nothing net hosted (numbers (length t.brokers)) before)
+      ∙ (all_entries_append t hosted before (map starts bs) more
+      ∙ ap (λ es. es ++ all_entries t hosted started.world more) (starts_entries t hosted bs before)))
+
+  -- the plan, once these have started
+  pub plan_behind : (steps : List Line) (came : List Arrival) (closed : Bool) (made left : List Act)
+      → made ++ left ≡ map starts rest ++ (run_acts net hosted steps came closed ++ shows ∷ [])
+      → begun made ++ left ≡ plan t hosted steps came closed
+  unfolding plan
+  plan_behind steps came closed made left e =
+      let tail : List Act = run_acts net hosted steps came closed ++ shows ∷ [] in
+      append_assoc bindings (map starts bs ++ made) left
+      ∙ ap (λ acts. bindings ++ acts)
+      (append_assoc (map starts bs) made left ∙ (ap (λ acts. map starts bs ++ acts) e
+      ∙ (sym (append_assoc (map starts bs) (map starts rest) tail)
+      ∙ ap (λ acts. acts ++ tail) (sym (map-append starts bs rest) ∙ ap (map starts) o.parts))))
+
+  -- where a broker's start was made, it is among those that have
+  pub started_made : (b : ℕ) → list_any (is_start b) (begun []) ≡ true → is_among bs b ≡ true
+  started_made b e =
+      sym (is_started b bs)
+      ∙ (ap (list_any (is_start b)) (sym (append-nil (map starts bs)))
+      ∙ (ap (λ x. x || list_any (is_start b) (map starts bs ++ [])) (sym (none_bound b (numbers (length t.brokers))))
+      ∙ (sym (list_any-append (is_start b) bindings (map starts bs ++ [])) ∙ e)))
+
+  -- what was found on the lanes of one that has
+  pub found_here : (lanes : ℕ → Lane) → ((b : ℕ) → IsSome (broker_in n b) → Found t n (b ∷ []) lanes) → (p : ℕ) → p < length t.publishers → is_among bs (host_of t p) ≡ true
+      → log_text (content (lanes (2 * p))) ≡ Ok (get_or records p [])
+  found_here lanes found p below here =
+      found (host_of t p) (o.hosts (host_of t p) ∙ here) p below (or_left (nat_eq (host_of t p) (host_of t p)) false (eq-eqb (host_of t p) (host_of t p) refl))
+      ∙ ap (λ rs. Ok rs) (sym (records_read t n p below))

@@ -1,0 +1,160 @@
+-- A run, turn by turn: what came so far was taken, and the next turn takes what comes then
+use Rattle.std.proofs.Common.{◌≡◌, ◌≢◌, ◌⊎◌, inl, inr, ℕ, ◌+◌, ◌<◌, ◌≤◌, Bool, true, false, List, [], ◌∷◌, ◌++◌, length, drop, Result, Ok, Err, OnOk, refl, sym, ap, ap₂, ◌∙◌, subst, arith, append_assoc, append-nil, length-append}
+use Rattle.gr_out.specs.declared.fault.RunFault.{RunFault}
+use Rattle.gr_out.specs.declared.fault.RunFault.TheVariants as run
+use Rattle.gr_out.proofs.Fronts.{front-nothing}
+use Rattle.gr_topo.specs.Topology.{TopologyView}
+use Rattle.gr_sched.specs.declared.step.Line.{Line}
+use Rattle.gr_model.specs.Net.{Net}
+use Rattle.gr_model.specs.NetOf.{net_of}
+use Rattle.gr_model.specs.Arrivals.{Arrival, Publish, publishes_of, left_after}
+use Rattle.gr_node.specs.Seen.{NodeView}
+use Rattle.gr_node.specs.Plan.{Act, arrival_acts, acts_from, closing, run_acts}
+use Rattle.gr_node.specs.Went.{Outside, Went, IsExact}
+use Rattle.gr_node.specs.Turns.{left_behind, Turned}
+use Rattle.gr_node.proofs.Wending.{MadeAll, made_none, all_made, went_ok, went_on, went_as, went_front, begins_nothing}
+
+-- what is left after more came
+left_later : (left : List Publish) (came more : List Arrival) → left_behind (left_behind left came) more ≡ left_behind left (came ++ more)
+unfolding left_behind
+left_later left [] more = refl
+left_later left (a ∷ came) more = left_later (left_after left a) came more
+
+-- the acts of what came, and then of more
+acts_later : (net : Net) (hosted : List ℕ) (left : List Publish) (came more : List Arrival) → acts_from net hosted left (came ++ more) ≡ acts_from net hosted left came ++ acts_from net hosted (left_behind left came) more
+unfolding left_behind acts_from
+acts_later net hosted left [] more = refl
+acts_later net hosted left (a ∷ came) more =
+    ap (λ acts. arrival_acts net hosted left a ++ acts) (acts_later net hosted (left_after left a) came more)
+    ∙ sym (append_assoc (arrival_acts net hosted left a) (acts_from net hosted (left_after left a) came) (acts_from net hosted (left_behind (left_after left a) came) more))
+
+-- So many arrivals have come, and all of their acts were made
+pub record SoFar (t : TopologyView) (hosted : List ℕ) (tells : Type 0) (steps : List Line) (next count : ℕ) (n n' : NodeView) (o o' : Outside) : Type 0 where
+  pub came : List Arrival
+  pub length_is : length came ≡ count
+  pub left : publishes_of (net_of t) hosted (drop next steps) ≡ left_behind (publishes_of (net_of t) hosted steps) came
+  pub goes : MadeAll t hosted tells (acts_from (net_of t) hosted (publishes_of (net_of t) hosted steps) came) n n' o o'
+
+-- none yet
+pub none_came : (t : TopologyView) (hosted : List ℕ) (tells : Type 0) (steps : List Line) (next : ℕ) (n : NodeView) (o : Outside) → publishes_of (net_of t) hosted (drop next steps) ≡ publishes_of (net_of t) hosted steps
+    → SoFar t hosted tells steps next 0 n n o o
+unfolding left_behind acts_from
+none_came t hosted tells steps next n o e = record { came = []; length_is = refl; left = e; goes = made_none t hosted tells n n o o refl refl refl refl }
+
+-- a turn's acts stand behind those before
+turn_on : {T : Type 0} (t : TopologyView) (hosted : List ℕ) (tells : Type 0) (steps : List Line) (next count : ℕ) (n m n' : NodeView) (o u o' : Outside) (came : List Arrival) (shut : Bool) (r : Result T RunFault)
+    → (s : SoFar t hosted tells steps next count n m o u)
+    → Went {T = T} t hosted tells (acts_from (net_of t) hosted (publishes_of (net_of t) hosted (drop next steps)) came ++ closing shut) m n' u o' r
+    → Went {T = T} t hosted tells (run_acts (net_of t) hosted steps (s.came ++ came) shut) n n' o o' r
+turn_on {T} t hosted tells steps next count n m n' o u o' came shut r s w =
+    let before : List Act = acts_from (net_of t) hosted (publishes_of (net_of t) hosted steps) s.came in
+    let later : List Act = acts_from (net_of t) hosted (left_behind (publishes_of (net_of t) hosted steps) s.came) came in
+    subst (λ acts. Went {T = T} t hosted tells acts n n' o o' r)
+    (sym (append_assoc before later (closing shut)) ∙ ap (λ acts. acts ++ closing shut) (sym (acts_later (net_of t) hosted (publishes_of (net_of t) hosted steps) s.came came)))
+    (went_on t hosted tells before (later ++ closing shut) n m n' o u o' r s.goes
+    (subst (λ left. Went {T = T} t hosted tells (acts_from (net_of t) hosted left came ++ closing shut) m n' u o' r) s.left w))
+
+-- one turn more
+pub more_came : (t : TopologyView) (hosted : List ℕ) (tells : Type 0) (steps : List Line) (next next' count : ℕ) (n m n' : NodeView) (o u o' : Outside) (goes_on : Bool) → goes_on ≡ true → SoFar t hosted tells steps next count n m o u
+    → Turned t hosted tells steps next next' m n' u o' (Ok goes_on) → SoFar t hosted tells steps next' (count + 1) n n' o o'
+more_came t hosted tells steps next next' count n m n' o u o' goes_on e s turned =
+    let w : Turned t hosted tells steps next next' m n' u o' (Ok true) = subst (λ (b : Bool). Turned t hosted tells steps next next' m n' u o' (Ok b)) e turned in
+    let went : Went {T = Bool} t hosted tells (run_acts (net_of t) hosted steps (s.came ++ w.came) w.shut) n n' o o' (Ok true) = turn_on t hosted tells steps next count n m n' o u o' w.came w.shut (Ok true) s w.went in
+    let all : List Act = acts_from (net_of t) hosted (publishes_of (net_of t) hosted steps) (s.came ++ w.came) in
+    record {
+      came = s.came ++ w.came;
+      length_is = length-append s.came w.came ∙ ap₂ (λ a b. a + b) s.length_is w.ends.0;
+      left = w.left ∙ ap (λ left. left_behind left w.came) s.left ∙ left_later (publishes_of (net_of t) hosted steps) s.came w.came;
+      goes = subst (λ acts. MadeAll t hosted tells acts n n' o o') (ap (λ shut. all ++ closing shut) w.ends.1 ∙ append-nil all)
+          (all_made t hosted tells (run_acts (net_of t) hosted steps (s.came ++ w.came) w.shut) n n' o o' true went);
+    }
+
+-- How a run ended: what came, whether nothing comes any more, and its acts as far as they were made
+abbrev pub Ran : (t : TopologyView) (hosted : List ℕ) (tells : Type 0) (steps : List Line) (turns : ℕ) (n n' : NodeView) (o o' : Outside) (result : Result (Unit {0}) RunFault) → Type 0
+Ran t hosted tells steps turns n n' o o' result =
+    (came : List Arrival) × ((shut : Bool) × ((length came ≤ turns) × (OnOk result ((shut ≡ true) ⊎ (length came ≡ turns))
+    × Went {T = Unit {0}} t hosted tells (run_acts (net_of t) hosted steps came shut) n n' o o' result)))
+
+-- with as many turns as it may have
+pub ran_all : (t : TopologyView) (hosted : List ℕ) (tells : Type 0) (steps : List Line) (next count turns : ℕ) (n n' : NodeView) (o o' : Outside) (x : Unit {0}) → count ≡ turns → SoFar t hosted tells steps next count n n' o o'
+    → Ran t hosted tells steps turns n n' o o' (Ok x)
+ran_all t hosted tells steps next count turns n n' o o' x e s =
+    let all : List Act = acts_from (net_of t) hosted (publishes_of (net_of t) hosted steps) s.came in
+    let length_is : length s.came ≡ turns = s.length_is ∙ e in (
+      s.came,
+      (
+        false,
+        (
+          omega (arith, length_is),
+          (
+            inr length_is,
+            subst (λ acts. Went {T = Unit {0}} t hosted tells acts n n' o o' (Ok x)) (sym (append-nil all)) (went_ok t hosted tells all n n' o o' x s.goes),
+          ),
+        ),
+      ),
+    )
+
+-- since nothing comes any more
+pub ran_shut : (t : TopologyView) (hosted : List ℕ) (tells : Type 0) (steps : List Line) (next next' count turns : ℕ) (n m n' : NodeView) (o u o' : Outside) (x : Unit {0}) (goes_on : Bool) → goes_on ≡ false → count < turns → SoFar t hosted tells steps next count n m o u
+    → Turned t hosted tells steps next next' m n' u o' (Ok goes_on) → Ran t hosted tells steps turns n n' o o' (Ok x)
+ran_shut t hosted tells steps next next' count turns n m n' o u o' x goes_on e h s turned =
+    let w : Turned t hosted tells steps next next' m n' u o' (Ok false) = subst (λ (b : Bool). Turned t hosted tells steps next next' m n' u o' (Ok b)) e turned in
+    let all : List Act = run_acts (net_of t) hosted steps (s.came ++ w.came) w.shut in
+    let length_is : length (s.came ++ w.came) ≡ count = ap (λ xs. length (s.came ++ xs)) w.ends.0 ∙ ap length (append-nil s.came) ∙ s.length_is in (
+      s.came ++ w.came,
+      (
+        w.shut,
+        (
+          omega (arith, length_is, h),
+          (
+            inl w.ends.1,
+            went_ok t hosted tells all n n' o o' x (all_made t hosted tells all n n' o o' false (turn_on t hosted tells steps next count n m n' o u o' w.came w.shut (Ok false) s w.went)),
+          ),
+        ),
+      ),
+    )
+
+-- by a fault
+pub ran_cut : (t : TopologyView) (hosted : List ℕ) (tells : Type 0) (steps : List Line) (next next' count turns : ℕ) (n m n' : NodeView) (o u o' : Outside) (e : RunFault) → count < turns → SoFar t hosted tells steps next count n m o u
+    → Turned t hosted tells steps next next' m n' u o' (Err e) → Ran t hosted tells steps turns n n' o o' (Err e)
+ran_cut t hosted tells steps next next' count turns n m n' o u o' e h s w =
+    let all : List Act = run_acts (net_of t) hosted steps (s.came ++ w.came) w.shut in
+    let length_is : length (s.came ++ w.came) ≡ count + length w.came = length-append s.came w.came ∙ ap (λ k. k + length w.came) s.length_is in (
+      s.came ++ w.came,
+      (
+        w.shut,
+        (
+          omega (arith, length_is, h, w.ends.0),
+          (
+            tt,
+            went_as {T = Bool} {U = Unit {0}} t hosted tells all n n' o o' e (turn_on t hosted tells steps next count n m n' o u o' w.came w.shut (Err e) s w.went),
+          ),
+        ),
+      ),
+    )
+
+-- before its first turn, for want of memory
+pub ran_none : (t : TopologyView) (hosted : List ℕ) (tells : Type 0) (steps : List Line) (turns : ℕ) (n : NodeView) (o : Outside) → Ran t hosted tells steps turns n n o o (Err run.Memory)
+ran_none t hosted tells steps turns n o = (
+  [],
+  (
+    false,
+    (
+      omega arith,
+      (
+        tt,
+        went_front t hosted tells (run_acts (net_of t) hosted steps [] false) n n o o run.Memory tt
+            (front-nothing o.taken o.taken _ refl) (λ h. begins_nothing o.journal o.journal _ refl),
+      ),
+    ),
+  ),
+)
+
+-- where the page was empty it is so unless the fault is one of those behind which it is written, or nothing is said of it
+pub empty_then : (e : RunFault) (held held' : List ℕ) → ((p at : ℕ) → ◌≢◌ {A = Result Bool RunFault} (Err e) (Err (run.Damaged p at))) → (◌≡◌ {A = Result Bool RunFault} (Err e) (Err run.Post) → held' ≡ held) → held ≡ []
+    → IsExact {T = Unit {0}} (Err e) → ◌≢◌ {A = Result (Unit {0}) RunFault} (Err e) (Err run.Disk) → held' ≡ []
+empty_then run.Memory held held' whole post empty exact other = absurd exact
+empty_then run.Write held held' whole post empty exact other = absurd exact
+empty_then run.Disk held held' whole post empty exact other = absurd (other refl)
+empty_then (run.Damaged p at) held held' whole post empty exact other = absurd (whole p at refl)
+empty_then run.Post held held' whole post empty exact other = post refl ∙ empty

@@ -1,0 +1,43 @@
+-- The event is published at the host's place
+use Rattle.std.proofs.Common.{sym}
+use Rattle.gr_topo.specs.Topology.{host_of}
+use Rattle.gr_node.specs.Seen.{seen}
+use Rattle.gr_node.proofs.Exchanged.{Place, placed, placed_at, hosts_here}
+use Rattle.gr_node.proofs.Called.{Publishes, makes_publish, fits_publish, stands_publish}
+use Rattle.gr_node.proofs.node.Node.publish_at.Given.{Over}
+use Rattle.gr_node.proofs.node.Node.publish_at.Goals as goal
+
+pub publish-answer-requires-clause-fits : goal.publish-answer-requires-clause-fits
+publish-answer-requires-clause-fits g c = c.requires.fits.fits c.host-host.result c.take_out-broker.result c.take_out-broker.ensures.was
+
+pub publish-answer-requires-clause-hosted : goal.publish-answer-requires-clause-hosted
+publish-answer-requires-clause-hosted g c =
+    hosts_here c.args.topo.now (seen c.args.self.now) c.host-host.result c.args.p c.take_out-broker.result c.requires.fits c.take_out-broker.ensures.was c.requires.publisher (sym c.host-host.ensures.host)
+
+pub publish-answer-requires-clause-stands : goal.publish-answer-requires-clause-stands
+publish-answer-requires-clause-stands g c = λ tells. c.requires.stands tells c.host-host.result c.take_out-broker.result c.take_out-broker.ensures.was
+
+place : (g : Over) (c : goal.After-answered g) → Place c.args.topo.now (seen c.args.self.now) (host_of c.args.topo.now c.args.p) c.take_out-broker.result c.publish-answer.new.self c.put_back.new.brokers.items
+place g c =
+    placed_at c.args.topo.now (seen c.args.self.now) c.host-host.result (host_of c.args.topo.now c.args.p) c.take_out-broker.result c.publish-answer.new.self c.put_back.new.brokers.items c.host-host.ensures.host
+    (placed c.args.topo.now (seen c.args.self.now) c.host-host.result c.take_out-broker.result c.publish-answer.new.self c.take_out-broker.new.brokers.items c.put_back.new.brokers.items
+    c.requires.fits c.take_out-broker.ensures.was c.take_out-broker.ensures.left c.put_back.ensures)
+
+gives : (g : Over) (c : goal.After-answered g) → Publishes c.args.topo.now c.take_out-broker.result c.args.p c.args.self.now.now c.args.number c.args.event.now c.publish-answer.new.self c.publish-answer.result
+gives g c = let e = c.publish-answer.ensures in record { told = e.told; leaves = e.leaves; fits = e.fits }
+
+pub returns-clause-makes : goal.returns-clause-makes
+returns-clause-makes g c =
+    makes_publish c.args.topo.now (seen c.args.self.now) c.args.p c.args.number c.args.event.now c.take_out-broker.result c.publish-answer.new.self c.put_back.new.brokers.items
+    (place g c) c.requires.publisher c.publish-answer.result c.answered.result c.answered.ensures (gives g c) c.every_topology_is_a_tree.ensures.tree c.every_topology_is_a_tree.ensures.orderly
+
+pub returns-clause-fits : goal.returns-clause-fits
+returns-clause-fits g c =
+    fits_publish c.args.topo.now (seen c.args.self.now) c.args.p c.args.number c.args.event.now c.take_out-broker.result c.publish-answer.new.self c.put_back.new.brokers.items
+    (place g c) c.requires.publisher c.publish-answer.result c.answered.result c.answered.ensures (gives g c)
+
+pub returns-clause-stands : goal.returns-clause-stands
+returns-clause-stands g c = λ tells.
+    stands_publish c.args.topo.now (seen c.args.self.now) c.args.p c.args.number c.args.event.now c.take_out-broker.result c.publish-answer.new.self c.put_back.new.brokers.items
+    (place g c) c.requires.publisher c.publish-answer.result c.answered.result c.answered.ensures (gives g c)
+    (g.D.Disk.lane_of c.args.disk.now) (g.D.Disk.lane_of c.publish-answer.new.disk) (c.publish-answer.ensures.others tells) (c.requires.stands tells) (c.publish-answer.ensures.stands tells)

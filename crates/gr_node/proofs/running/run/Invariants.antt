@@ -1,0 +1,26 @@
+use Rattle.std.proofs.Common.{◌≡◌, ◌≤◌, [], length, drop}
+use Rattle.gr_model.specs.NetOf.{net_of}
+use Rattle.gr_node.specs.Seen.{seen}
+use Rattle.gr_node.specs.Of.{IsSet, AllStand, OthersStay}
+use Rattle.gr_node.specs.Went.{outside}
+use Rattle.gr_node.specs.Turns.{IsFirst}
+use Rattle.gr_node.proofs.SoFar.{SoFar}
+use Rattle.gr_node.proofs.running.run.Given as goal
+
+-- all that came so far was taken
+abbrev pub invariant-turns : goal.invariant-turns
+invariant-turns g l = record {
+  goes : SoFar l.site.topo.now l.site.hosted.now g.P.Post.tells l.steps l.next l.counter (seen l.fn.node) (seen l.node)
+      (outside (g.K.Sink.taken l.fn.sink) l.fn.page.held (g.P.Post.journal l.fn.post))
+      (outside (g.K.Sink.taken l.sink) l.page.held (g.P.Post.journal l.post));
+  within : l.next ≤ length l.steps;
+  first : IsFirst (net_of l.site.topo.now) l.site.hosted.now (drop l.next l.steps);
+  empty : l.page.held ≡ [];
+  set : IsSet l.site.topo.now l.site.hosted.now (seen l.node);
+  stands : g.D.Disk.tells → AllStand (g.D.Disk.lane_of l.disk) (seen l.node);
+  others : g.D.Disk.tells → OthersStay l.site.topo.now l.site.hosted.now (g.D.Disk.lane_of l.fn.disk) (g.D.Disk.lane_of l.disk);
+  faults : g.D.Disk.faults l.disk ≡ g.D.Disk.faults l.fn.disk;
+  stops : g.D.Disk.stops l.disk ≡ g.D.Disk.stops l.fn.disk;
+  sink : g.K.Sink.faults l.sink ≡ g.K.Sink.faults l.fn.sink;
+  post : g.P.Post.faults l.post ≡ g.P.Post.faults l.fn.post;
+}

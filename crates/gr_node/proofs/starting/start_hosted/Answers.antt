@@ -1,0 +1,257 @@
+use Rattle.std.proofs.Common.{◌+◌, Err, take, refl, sym, ap, ◌∙◌, subst, arith, append-nil}
+use Rattle.gr_out.specs.declared.fault.RunFault.TheVariants as run
+use Rattle.gr_out.specs.Page.{TakesBut}
+use Rattle.gr_out.proofs.Fronts.{but-nothing}
+use Rattle.gr_node.specs.Seen.{seen}
+use Rattle.gr_node.proofs.StartingNodes.{none_begun, begun_set, begun_hosted, with_broker}
+use Rattle.gr_node.proofs.StartingLanes.{none_found, all_found, touched_hosted}
+use Rattle.gr_node.proofs.StartingRuns.{b, begun_next, found_next, left_next, damaged_next, next_hosted, put_next, started_all, started_failed, started_cut}
+use Rattle.gr_node.proofs.StartingFaults.{same_fault, none_moved, still_moved, moved_from, sink_kept, sink_unasked, sink_asked}
+use Rattle.gr_node.proofs.starting.start_hosted.Goals as goal
+
+pub brokers-init : goal.brokers-init
+brokers-init g c =
+    let t = c.args.site.now.topo.now in
+    let n = seen c.args.node.now in
+    let none = none_begun t n c.requires.none in
+    let taken = g.K.Sink.taken c.args.sink.now in
+    let held = c.args.page.now.held in
+    record {
+      begun = none;
+      found = λ tells. none_found t n (g.D.Disk.lane_of c.args.disk.now) (g.D.Disk.lane_of c.args.disk.now) none (λ k. refl);
+      put = subst (λ text. TakesBut taken taken text held) (sym (append-nil held)) (but-nothing taken taken held refl);
+      faults = refl;
+      stops = refl;
+      same = refl;
+    }
+
+pub brokers-preserved : goal.brokers-preserved
+brokers-preserved g c =
+    let t = c.args.site.now.topo.now in
+    let hosted = c.args.site.now.hosted.now in
+    let i = c.brokers.b-index in
+    let n = seen c.brokers.node in
+    let sofar = c.brokers.invariant in
+    let x = c.in-Ok.started.broker in
+    let before = g.D.Disk.lane_of c.args.disk.now in
+    let mid = g.D.Disk.lane_of c.brokers.disk in
+    let after = g.D.Disk.lane_of c.start_one.new.disk in
+    record {
+      begun = begun_next t hosted i n c.requires.hosted c.brokers-test.true sofar.begun x c.in-Ok.ensures.begun;
+      found = λ tells. found_next t hosted i n c.requires.hosted c.brokers-test.true sofar.begun before mid after (sofar.found tells) (c.in-Ok.ensures.others tells) x c.in-Ok.ensures.begun (c.in-Ok.ensures.opens tells) (c.in-Ok.ensures.stands tells);
+      put = put_next t hosted i n c.requires.hosted c.brokers-test.true sofar.begun (g.K.Sink.taken c.args.sink.now) (g.K.Sink.taken c.brokers.sink) c.args.page.now.held c.brokers.page.held sofar.put (g.K.Sink.taken c.put_all.new.sink)
+          x c.in-Ok.ensures.begun c.as_slice.result.now (c.as_slice.ensures ∙ c.in-Ok.ensures.lines) c.put_all.new.page.held c.in-Ok-put_all.ensures.ok;
+      faults = c.in-Ok.ensures.disk.same.0 ∙ sofar.faults;
+      stops = c.in-Ok.ensures.disk.same.1 ∙ sofar.stops;
+      same = c.in-Ok-put_all.ensures.same (λ e. cc) ∙ sofar.same;
+    }
+
+-- The next has not started
+
+pub returns-in-Err-clause-started : goal.returns-in-Err-clause-started
+returns-in-Err-clause-started g c =
+    let t = c.args.site.now.topo.now in
+    let hosted = c.args.site.now.hosted.now in
+    let i = c.brokers.b-index in
+    let n = seen c.brokers.node in
+    let sofar = c.brokers.invariant in
+    started_failed t hosted i n c.requires.hosted c.brokers-test.true sofar.begun (g.K.Sink.taken c.args.sink.now) (g.K.Sink.taken c.brokers.sink) c.args.page.now.held c.brokers.page.held sofar.put
+    c.in-Err.fault (λ p at e. (c.in-Err.ensures.damaged_here p at (ap (λ f. Err f) e)).1)
+
+pub returns-in-Err-clause-short : goal.returns-in-Err-clause-short
+returns-in-Err-clause-short g c = begun_hosted c.args.site.now.topo.now c.args.site.now.hosted.now (seen c.brokers.node) c.brokers.b-index c.brokers.invariant.begun
+
+pub returns-in-Err-clause-offers : goal.returns-in-Err-clause-offers
+returns-in-Err-clause-offers g c = c.brokers.invariant.begun.offers
+
+pub returns-in-Err-clause-now : goal.returns-in-Err-clause-now
+returns-in-Err-clause-now g c = c.brokers.invariant.begun.now
+
+pub returns-in-Err-clause-found : goal.returns-in-Err-clause-found
+returns-in-Err-clause-found g c = λ tells.
+    let t = c.args.site.now.topo.now in
+    let hosted = c.args.site.now.hosted.now in
+    let i = c.brokers.b-index in
+    let n = seen c.brokers.node in
+    let sofar = c.brokers.invariant in
+    all_found t (take i hosted) (take i hosted) n (g.D.Disk.lane_of c.args.disk.now) (g.D.Disk.lane_of c.brokers.disk) sofar.begun (sofar.found tells)
+
+pub returns-in-Err-clause-stands : goal.returns-in-Err-clause-stands
+returns-in-Err-clause-stands g c = λ tells.
+    let t = c.args.site.now.topo.now in
+    let hosted = c.args.site.now.hosted.now in
+    let i = c.brokers.b-index in
+    let n = seen c.brokers.node in
+    let sofar = c.brokers.invariant in
+    let before = g.D.Disk.lane_of c.args.disk.now in
+    let mid = g.D.Disk.lane_of c.brokers.disk in
+    let after = g.D.Disk.lane_of c.start_one.new.disk in
+    (left_next t hosted i n c.requires.hosted c.brokers-test.true sofar.begun before mid after (sofar.found tells) (c.in-Err.ensures.others tells)).stands
+
+pub returns-in-Err-clause-others : goal.returns-in-Err-clause-others
+returns-in-Err-clause-others g c = λ tells.
+    let t = c.args.site.now.topo.now in
+    let hosted = c.args.site.now.hosted.now in
+    let i = c.brokers.b-index in
+    let n = seen c.brokers.node in
+    let sofar = c.brokers.invariant in
+    let before = g.D.Disk.lane_of c.args.disk.now in
+    let mid = g.D.Disk.lane_of c.brokers.disk in
+    let after = g.D.Disk.lane_of c.start_one.new.disk in
+    touched_hosted t hosted (i + 1) before after (left_next t hosted i n c.requires.hosted c.brokers-test.true sofar.begun before mid after (sofar.found tells) (c.in-Err.ensures.others tells)).others
+
+pub returns-in-Err-clause-damaged : goal.returns-in-Err-clause-damaged
+returns-in-Err-clause-damaged g c = λ tells p at e.
+    let t = c.args.site.now.topo.now in
+    let hosted = c.args.site.now.hosted.now in
+    let i = c.brokers.b-index in
+    let n = seen c.brokers.node in
+    let sofar = c.brokers.invariant in
+    let before = g.D.Disk.lane_of c.args.disk.now in
+    let mid = g.D.Disk.lane_of c.brokers.disk in
+    let after = g.D.Disk.lane_of c.start_one.new.disk in
+    damaged_next t hosted i n c.requires.hosted c.brokers-test.true sofar.begun before mid after (sofar.found tells) (c.in-Err.ensures.others tells) p at
+    (c.in-Err.ensures.damaged tells p at (same_fault c.in-Err.fault (run.Damaged p at) e))
+
+pub returns-in-Err-clause-damaged_here : goal.returns-in-Err-clause-damaged_here
+returns-in-Err-clause-damaged_here g c = λ p at e.
+    let t = c.args.site.now.topo.now in
+    let hosted = c.args.site.now.hosted.now in
+    let i = c.brokers.b-index in
+    let n = seen c.brokers.node in
+    let sofar = c.brokers.invariant in
+    let there = c.in-Err.ensures.damaged_here p at (same_fault c.in-Err.fault (run.Damaged p at) e) in
+    (there.0, next_hosted t hosted i n c.requires.hosted c.brokers-test.true sofar.begun p there.1)
+
+pub returns-in-Err-clause-disk : goal.returns-in-Err-clause-disk
+returns-in-Err-clause-disk g c =
+    moved_from c.in-Err.fault (g.D.Disk.faults c.args.disk.now) (g.D.Disk.stops c.args.disk.now) (g.D.Disk.faults c.brokers.disk) (g.D.Disk.stops c.brokers.disk) (g.D.Disk.faults c.start_one.new.disk) (g.D.Disk.stops c.start_one.new.disk)
+    c.brokers.invariant.faults c.brokers.invariant.stops c.in-Err.ensures.disk
+
+pub returns-in-Err-clause-sink : goal.returns-in-Err-clause-sink
+returns-in-Err-clause-sink g c = sink_unasked c.in-Err.fault (g.K.Sink.faults c.args.sink.now) (g.K.Sink.faults c.brokers.sink) c.in-Err.ensures.cause c.brokers.invariant.same
+
+-- Its lines could not be put
+
+pub returns-in-Err-put_all-clause-started : goal.returns-in-Err-put_all-clause-started
+returns-in-Err-put_all-clause-started g c =
+    let t = c.args.site.now.topo.now in
+    let hosted = c.args.site.now.hosted.now in
+    let i = c.brokers.b-index in
+    let n = seen c.brokers.node in
+    let sofar = c.brokers.invariant in
+    let x = c.in-Ok.started.broker in
+    started_cut t hosted i n c.requires.hosted c.brokers-test.true sofar.begun (g.K.Sink.taken c.args.sink.now) (g.K.Sink.taken c.brokers.sink) c.args.page.now.held c.brokers.page.held sofar.put (g.K.Sink.taken c.put_all.new.sink)
+    x c.in-Ok.ensures.begun c.as_slice.result.now (c.as_slice.ensures ∙ c.in-Ok.ensures.lines) c.put_all.new.page.held c.in-Err-put_all.fault c.in-Err-put_all.ensures.only c.in-Err-put_all.ensures.front
+
+pub returns-in-Err-put_all-clause-short : goal.returns-in-Err-put_all-clause-short
+returns-in-Err-put_all-clause-short g c =
+    let t = c.args.site.now.topo.now in
+    let hosted = c.args.site.now.hosted.now in
+    let i = c.brokers.b-index in
+    let n = seen c.brokers.node in
+    let sofar = c.brokers.invariant in
+    let x = c.in-Ok.started.broker in
+    begun_hosted t hosted (with_broker n (b t hosted i n c.requires.hosted c.brokers-test.true sofar.begun) x) (i + 1) (begun_next t hosted i n c.requires.hosted c.brokers-test.true sofar.begun x c.in-Ok.ensures.begun)
+
+pub returns-in-Err-put_all-clause-offers : goal.returns-in-Err-put_all-clause-offers
+returns-in-Err-put_all-clause-offers g c = c.brokers.invariant.begun.offers
+
+pub returns-in-Err-put_all-clause-now : goal.returns-in-Err-put_all-clause-now
+returns-in-Err-put_all-clause-now g c = c.brokers.invariant.begun.now
+
+pub returns-in-Err-put_all-clause-found : goal.returns-in-Err-put_all-clause-found
+returns-in-Err-put_all-clause-found g c = λ tells.
+    let t = c.args.site.now.topo.now in
+    let hosted = c.args.site.now.hosted.now in
+    let i = c.brokers.b-index in
+    let n = seen c.brokers.node in
+    let sofar = c.brokers.invariant in
+    let x = c.in-Ok.started.broker in
+    let before = g.D.Disk.lane_of c.args.disk.now in
+    let mid = g.D.Disk.lane_of c.brokers.disk in
+    let after = g.D.Disk.lane_of c.start_one.new.disk in
+    all_found t (take (i + 1) hosted) (take (i + 1) hosted) (with_broker n (b t hosted i n c.requires.hosted c.brokers-test.true sofar.begun) x) before after
+    (begun_next t hosted i n c.requires.hosted c.brokers-test.true sofar.begun x c.in-Ok.ensures.begun)
+    (found_next t hosted i n c.requires.hosted c.brokers-test.true sofar.begun before mid after (sofar.found tells) (c.in-Ok.ensures.others tells) x c.in-Ok.ensures.begun (c.in-Ok.ensures.opens tells) (c.in-Ok.ensures.stands tells))
+
+pub returns-in-Err-put_all-clause-stands : goal.returns-in-Err-put_all-clause-stands
+returns-in-Err-put_all-clause-stands g c = λ tells.
+    let t = c.args.site.now.topo.now in
+    let hosted = c.args.site.now.hosted.now in
+    let i = c.brokers.b-index in
+    let n = seen c.brokers.node in
+    let sofar = c.brokers.invariant in
+    let x = c.in-Ok.started.broker in
+    let before = g.D.Disk.lane_of c.args.disk.now in
+    let mid = g.D.Disk.lane_of c.brokers.disk in
+    let after = g.D.Disk.lane_of c.start_one.new.disk in
+    (found_next t hosted i n c.requires.hosted c.brokers-test.true sofar.begun before mid after (sofar.found tells) (c.in-Ok.ensures.others tells) x c.in-Ok.ensures.begun (c.in-Ok.ensures.opens tells) (c.in-Ok.ensures.stands tells)).stands
+
+pub returns-in-Err-put_all-clause-others : goal.returns-in-Err-put_all-clause-others
+returns-in-Err-put_all-clause-others g c = λ tells.
+    let t = c.args.site.now.topo.now in
+    let hosted = c.args.site.now.hosted.now in
+    let i = c.brokers.b-index in
+    let n = seen c.brokers.node in
+    let sofar = c.brokers.invariant in
+    let x = c.in-Ok.started.broker in
+    let before = g.D.Disk.lane_of c.args.disk.now in
+    let mid = g.D.Disk.lane_of c.brokers.disk in
+    let after = g.D.Disk.lane_of c.start_one.new.disk in
+    touched_hosted t hosted (i + 1) before after
+    (found_next t hosted i n c.requires.hosted c.brokers-test.true sofar.begun before mid after (sofar.found tells) (c.in-Ok.ensures.others tells) x c.in-Ok.ensures.begun (c.in-Ok.ensures.opens tells) (c.in-Ok.ensures.stands tells)).others
+
+pub returns-in-Err-put_all-clause-disk : goal.returns-in-Err-put_all-clause-disk
+returns-in-Err-put_all-clause-disk g c =
+    still_moved c.in-Err-put_all.fault (g.D.Disk.faults c.args.disk.now) (g.D.Disk.stops c.args.disk.now) (g.D.Disk.faults c.start_one.new.disk) (g.D.Disk.stops c.start_one.new.disk)
+    c.in-Err-put_all.ensures.only (c.in-Ok.ensures.disk.same.0 ∙ c.brokers.invariant.faults) (c.in-Ok.ensures.disk.same.1 ∙ c.brokers.invariant.stops)
+
+pub returns-in-Err-put_all-clause-sink : goal.returns-in-Err-put_all-clause-sink
+returns-in-Err-put_all-clause-sink g c = sink_asked c.in-Err-put_all.fault (g.K.Sink.faults c.args.sink.now) (g.K.Sink.faults c.brokers.sink) (g.K.Sink.faults c.put_all.new.sink) c.brokers.invariant.same c.in-Err-put_all.ensures.write c.in-Err-put_all.ensures.same
+
+-- All have started
+
+pub returns-clause-started : goal.returns-clause-started
+returns-clause-started g c =
+    let t = c.args.site.now.topo.now in
+    let hosted = c.args.site.now.hosted.now in
+    let i = c.brokers.b-index in
+    let n = seen c.brokers.node in
+    let sofar = c.brokers.invariant in
+    started_all t hosted i n (g.K.Sink.taken c.args.sink.now) (g.K.Sink.taken c.brokers.sink) c.args.page.now.held c.brokers.page.held tt
+    sofar.begun (omega (arith, c.brokers.auto.b-index-end, c.brokers-test.false)) sofar.put
+
+pub returns-clause-set : goal.returns-clause-set
+returns-clause-set g c = begun_set c.args.site.now.topo.now c.args.site.now.hosted.now (seen c.brokers.node) c.brokers.b-index c.brokers.invariant.begun (omega (arith, c.brokers-test.false))
+
+pub returns-clause-short : goal.returns-clause-short
+returns-clause-short g c = begun_hosted c.args.site.now.topo.now c.args.site.now.hosted.now (seen c.brokers.node) c.brokers.b-index c.brokers.invariant.begun
+
+pub returns-clause-offers : goal.returns-clause-offers
+returns-clause-offers g c = c.brokers.invariant.begun.offers
+
+pub returns-clause-now : goal.returns-clause-now
+returns-clause-now g c = c.brokers.invariant.begun.now
+
+pub returns-clause-found : goal.returns-clause-found
+returns-clause-found g c = λ tells.
+    let t = c.args.site.now.topo.now in
+    let hosted = c.args.site.now.hosted.now in
+    let i = c.brokers.b-index in
+    let n = seen c.brokers.node in
+    let sofar = c.brokers.invariant in
+    all_found t (take i hosted) (take i hosted) n (g.D.Disk.lane_of c.args.disk.now) (g.D.Disk.lane_of c.brokers.disk) sofar.begun (sofar.found tells)
+
+pub returns-clause-stands : goal.returns-clause-stands
+returns-clause-stands g c = λ tells. (c.brokers.invariant.found tells).stands
+
+pub returns-clause-others : goal.returns-clause-others
+returns-clause-others g c = λ tells.
+    touched_hosted c.args.site.now.topo.now c.args.site.now.hosted.now c.brokers.b-index (g.D.Disk.lane_of c.args.disk.now) (g.D.Disk.lane_of c.brokers.disk) (c.brokers.invariant.found tells).others
+
+pub returns-clause-disk : goal.returns-clause-disk
+returns-clause-disk g c = none_moved tt (g.D.Disk.faults c.args.disk.now) (g.D.Disk.stops c.args.disk.now) (g.D.Disk.faults c.brokers.disk) (g.D.Disk.stops c.brokers.disk) c.brokers.invariant.faults c.brokers.invariant.stops
+
+pub returns-clause-sink : goal.returns-clause-sink
+returns-clause-sink g c = sink_kept tt (g.K.Sink.faults c.args.sink.now) (g.K.Sink.faults c.brokers.sink) c.brokers.invariant.same

@@ -1,0 +1,38 @@
+use Rattle.std.proofs.Common.{◌++◌, suc, subst}
+use Rattle.gr_out.specs.Page.{TakesBut, TakesFront}
+use Rattle.gr_out.proofs.Fronts.{but-later, front-later, front-more, on_fault, on_success}
+use Rattle.gr_model.specs.World.{sent_lines}
+use Rattle.gr_node.specs.Seen.{text_of}
+use Rattle.gr_node.proofs.Offering.{text_joined}
+use Rattle.gr_node.proofs.telling.tell.Goals as goal
+
+pub returns-in-Ok-clause-told : goal.returns-in-Ok-clause-told
+returns-in-Ok-clause-told g c = λ fs a.
+    let t = c.args.topo.now in
+    let told = text_of t c.as_slice.result.now in
+    let sent = text_of t (sent_lines (suc c.args.offers.now) fs) in
+    on_success c.offer_frames.result
+    (λ h. subst (λ xs. TakesBut (g.K.Sink.taken c.args.sink.now) (g.K.Sink.taken c.offer_frames.new.sink) xs c.offer_frames.new.page.held)
+    (text_joined t c.args.page.now.held c.as_slice.result.now c.args.told.reports (sent_lines (suc c.args.offers.now) fs) c.as_slice.ensures)
+    (but-later _ _ _ (c.args.page.now.held ++ told) sent c.put_all.new.page.held c.offer_frames.new.page.held c.in-Ok.ensures.ok h))
+    (c.offer_frames.ensures.told fs a)
+
+pub returns-in-Ok-clause-front : goal.returns-in-Ok-clause-front
+returns-in-Ok-clause-front g c = λ fs a.
+    let t = c.args.topo.now in
+    let told = text_of t c.as_slice.result.now in
+    let sent = text_of t (sent_lines (suc c.args.offers.now) fs) in
+    on_fault c.offer_frames.result
+    (λ h. subst (λ xs. TakesFront (g.K.Sink.taken c.args.sink.now) (g.K.Sink.taken c.offer_frames.new.sink) xs)
+    (text_joined t c.args.page.now.held c.as_slice.result.now c.args.told.reports (sent_lines (suc c.args.offers.now) fs) c.as_slice.ensures)
+    (front-later _ _ _ (c.args.page.now.held ++ told) sent c.put_all.new.page.held c.in-Ok.ensures.ok h))
+    (c.offer_frames.ensures.front fs a)
+
+pub returns-clause-front : goal.returns-clause-front
+returns-clause-front g c = λ fs a.
+    let t = c.args.topo.now in
+    let told = text_of t c.as_slice.result.now in
+    let sent = text_of t (sent_lines (suc c.args.offers.now) fs) in
+    subst (λ xs. TakesFront (g.K.Sink.taken c.args.sink.now) (g.K.Sink.taken c.put_all.new.sink) xs)
+    (text_joined t c.args.page.now.held c.as_slice.result.now c.args.told.reports (sent_lines (suc c.args.offers.now) fs) c.as_slice.ensures)
+    (front-more _ _ (c.args.page.now.held ++ told) sent c.in-Err.ensures.front)

@@ -1,0 +1,11 @@
+pub mod Seen
+pub mod Of
+pub mod Plan
+pub mod Done
+pub mod Went
+pub mod Starting
+pub mod Served
+pub mod Turns
+pub mod Begun
+pub mod Calling
+pub mod Ending

@@ -1,0 +1,43 @@
+-- What a contract sees of a node
+use Rattle.std.specs.Prelude.{ℕ, List, [], get_or, replicate, Option, Some, None}
+use Rattle.gr_publog.specs.declared.record.Record.{Record}
+use Rattle.gr_topo.specs.Topology.{TopologyView, host_of}
+use Rattle.gr_model.specs.declared.report.Report.{Report}
+use Rattle.gr_model.specs.Text.{labels_of, report_text}
+use Rattle.gr_publog.specs.Crash.{LogView}
+use Rattle.gr_broker.specs.Seen.{BrokerView, log_in}
+use Rattle.gr_node.specs.declared.node.Node.{Node}
+
+-- The hosted brokers, how many frames they have offered, and the moment of the last arrival
+pub record NodeView : Type 0 where
+  pub brokers : List (Option BrokerView)  -- by number; None where a broker is elsewhere
+  pub offers : ℕ
+  pub now : ℕ
+
+abbrev pub seen : Node → NodeView
+seen n = record { brokers = n.brokers.items; offers = n.offers; now = n.now }
+
+-- the broker of a number, where it is hosted
+abbrev pub broker_in : NodeView → ℕ → Option BrokerView
+broker_in n b = get_or n.brokers b None
+
+-- before any broker has started
+abbrev pub none_started : ℕ → NodeView
+none_started k = record { brokers = replicate k None; offers = 0; now = 0 }
+
+-- the records of a log; where there is none, none
+abbrev pub records_said : Option LogView → List Record
+records_said None = []
+records_said (Some l) = l.records
+
+-- the records of a publisher's log at its host, where that is hosted
+abbrev pub records_at : Option BrokerView → ℕ → List Record
+records_at None p = []
+records_at (Some x) p = records_said (log_in x p)
+
+abbrev pub records_in : TopologyView → NodeView → ℕ → List Record
+records_in t n p = records_at (broker_in n (host_of t p)) p
+
+-- the text of lines
+abbrev pub text_of : TopologyView → List Report → List ℕ
+text_of t lines = report_text (labels_of t) lines

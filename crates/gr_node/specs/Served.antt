@@ -1,0 +1,123 @@
+-- What a run did, from its first binding to what is shown at the end, and what it left outside
+use Rattle.std.specs.Prelude.{◌≡◌, ◌⊎◌, ℕ, ◌*◌, ◌<◌, ◌≤◌, Bool, true, false, ◌&&◌, nat_eq, bytes_eq, List, [], ◌∷◌, ◌++◌, length, get_or, Option, Result, Ok, Err, OnOk, OnErr}
+use Rattle.std.specs.List.{list_any}
+use Rattle.gr_frame.specs.declared.fault.FrameFault.{FrameFault}
+use Rattle.gr_frame.specs.Decode.{frame_decoded}
+use Rattle.gr_out.specs.declared.fault.RunFault.{RunFault}
+use Rattle.gr_out.specs.declared.fault.RunFault.TheVariants as run
+use Rattle.gr_out.specs.Bytes.{with_more}
+use Rattle.gr_out.specs.Entry.{Entry, offered, datagram}
+use Rattle.gr_out.specs.Lane.{Lane, content}
+use Rattle.gr_out.specs.Page.{TakesFront}
+use Rattle.gr_publog.specs.declared.record.Record.{Record}
+use Rattle.gr_publog.specs.Text.{log_text}
+use Rattle.gr_publog.specs.Crash.{Stands}
+use Rattle.gr_pubend.specs.Log.{log_of}
+use Rattle.gr_sched.specs.declared.step.Line.{Line}
+use Rattle.gr_topo.specs.Topology.{TopologyView, host_of}
+use Rattle.gr_model.specs.NetOf.{net_of}
+use Rattle.gr_model.specs.World.{World, Transition, in_turn, log_of as machine_log_of}
+use Rattle.gr_model.specs.Opening.{over_logs}
+use Rattle.gr_model.specs.Arrivals.{Arrival, is_hosted, served}
+use Rattle.gr_theorems.specs.Served.{joined}
+use Rattle.gr_theorems.specs.Lanes.{AllFollow, whole_logs}
+use Rattle.gr_node.specs.Seen.{text_of}
+use Rattle.gr_node.specs.Of.{OthersStay}
+use Rattle.gr_node.specs.Plan.{Act, binds, starts, shows, ours, act, plan, all_entries}
+use Rattle.gr_node.specs.Went.{IsExact, FirstIs, uses_disk, fault_entries, Begins}
+use Rattle.gr_node.specs.Starting.{IsFirstDamaged}
+
+-- The course of a run
+pub record Course : Type 0 where
+  pub records : List (List Record)  -- of each publisher, what the lane held where its host has started, else none
+  pub came : List Arrival  -- what the post gave, in order
+  pub closed : Bool  -- whether it then said that nothing comes any more
+  pub made : List Act  -- what was done of the plan
+  pub left : List Act  -- what is left of it; a call that was refused is the first of these
+
+-- the machine's world before the first act, and what the acts lead to and tell
+abbrev pub world_before : TopologyView → Course → World
+world_before t c = over_logs (net_of t) (whole_logs c.records)
+
+abbrev pub end_of : TopologyView → List ℕ → Course → Transition
+end_of t hosted c = in_turn (act (net_of t) hosted) c.made (world_before t c)
+
+-- what the whole plan puts into the journal
+abbrev pub planned : TopologyView → List ℕ → List Line → Course → List Entry
+planned t hosted steps c = all_entries t hosted (world_before t c) (plan t hosted steps c.came c.closed)
+
+-- the text of what the machine serves of what came at the hosted brokers
+abbrev pub served_text : TopologyView → List ℕ → List Line → Course → List ℕ
+served_text t hosted steps c =
+    text_of t (joined (served (net_of t) hosted (whole_logs c.records) steps (ours hosted c.came)))
+
+abbrev pub is_bind : Act → Bool
+is_bind (binds b) = true
+is_bind _ = false
+
+abbrev pub is_start : ℕ → Act → Bool
+is_start b (starts c) = nat_eq b c
+is_start b _ = false
+
+-- The act that a fault refused is the first that is left: a binding, or the arrival after the last; one that calls the disk; the
+-- start of the publisher's host. Of want of memory, and of a failure of the sink, it is not said which it is
+abbrev pub IsRefused : TopologyView → RunFault → List Act → Type 0
+IsRefused t run.Post left = FirstIs is_bind left ⊎ (left ≡ shows ∷ [])
+IsRefused t run.Disk left = FirstIs uses_disk left
+IsRefused t (run.Damaged p at) left = FirstIs (is_start (host_of t p)) left
+IsRefused t run.Memory left = Unit {0}
+IsRefused t run.Write left = Unit {0}
+
+-- The plan was carried out, all of it, or up to an act that was refused
+pub record IsRunOf {T : Type 0} (t : TopologyView) (hosted : List ℕ) (steps : List Line) (turns : ℕ) (c : Course)
+    (result : Result T RunFault) : Type 0 where
+  pub acts : c.made ++ c.left ≡ plan t hosted steps c.came c.closed
+  pub count : length c.records ≡ length t.publishers
+  pub follow : AllFollow c.records
+  pub within : length c.came ≤ turns
+  pub whole : OnOk result (c.left ≡ [])
+  pub ended : OnOk result ((c.closed ≡ true) ⊎ (length c.came ≡ turns))
+  pub refused : (e : RunFault) → result ≡ Err e → IsRefused t e c.left
+
+-- Of a post that tells its journal: what was done of the plan was put there, and then the failure that ended it; where it is not
+-- known what was done, a front of what the plan puts there
+pub record Posts {T : Type 0} (t : TopologyView) (hosted : List ℕ) (steps : List Line) (c : Course)
+    (before after : List Entry) (result : Result T RunFault) : Type 0 where
+  pub exact : IsExact result
+      → after ≡ before ++ (all_entries t hosted (world_before t c) c.made ++ fault_entries result)
+  pub front : (IsExact result → ⊥) → Begins before after (planned t hosted steps c)
+
+-- The sink took what the machine serves; after a fault a front of it, and where an act was refused all lines of the acts before
+pub record Prints {T : Type 0} (t : TopologyView) (hosted : List ℕ) (steps : List Line) (c : Course)
+    (before after : Option (List ℕ)) (result : Result T RunFault) : Type 0 where
+  pub report : OnOk result (after ≡ with_more before (served_text t hosted steps c))
+  pub front : OnErr result (TakesFront before after (served_text t hosted steps c))
+  pub refused : OnErr result (IsExact result → after ≡ with_more before (text_of t (end_of t hosted c).lines))
+
+-- Of a disk that tells what it holds: the records are what the lanes of the started brokers held, after a run whose acts are known to
+-- be made each lane stands with the records of the machine's log, and no other lane was touched
+pub record KeepsLogs {T : Type 0} (t : TopologyView) (hosted : List ℕ) (c : Course) (before after : ℕ → Lane)
+    (result : Result T RunFault) : Type 0 where
+  pub found : (p : ℕ) → p < length t.publishers → is_hosted (net_of t) hosted p ≡ true
+      → list_any (is_start (host_of t p)) c.made ≡ true
+      → log_text (content (before (2 * p))) ≡ Ok (get_or c.records p [])
+  pub kept : IsExact result → (c.left ≡ []) ⊎ (c.left ≡ shows ∷ []) → (p : ℕ) → p < length t.publishers
+      → is_hosted (net_of t) hosted p ≡ true
+      → (rs : List Record) × Stands (after (2 * p)) rs × (log_of rs ≡ machine_log_of (end_of t hosted c).world p)
+  pub damaged : (p at : ℕ) → result ≡ Err (run.Damaged p at) → IsFirstDamaged t hosted p at before
+  pub others : OthersStay t hosted before after
+
+-- An honest journal: each datagram in it is no frame, or has the bytes of an offer to the same broker that stands before it
+
+abbrev pub is_offer_to : ℕ → List ℕ → Entry → Bool
+is_offer_to b bytes (offered from to sent) = nat_eq to b && bytes_eq sent bytes
+is_offer_to b bytes _ = false
+
+abbrev pub IsHonestEntry : List Entry → Entry → Type 0
+IsHonestEntry before (datagram b bytes moment) =
+    ((fault : FrameFault) × (frame_decoded bytes ≡ Err fault)) ⊎ (list_any (is_offer_to b bytes) before ≡ true)
+IsHonestEntry before _ = Unit {0}
+
+abbrev pub IsHonestJournal : List Entry → List Entry → Type 0
+IsHonestJournal before [] = Unit {0}
+IsHonestJournal before (e ∷ entries) = IsHonestEntry before e × IsHonestJournal (before ++ e ∷ []) entries

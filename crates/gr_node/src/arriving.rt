@@ -1,0 +1,168 @@
+//! One arrival is taken, with all that it causes.
+
+ghost use Rattle.std.specs.Prelude.{◌≡◌, ◌≢◌, ℕ, ◌≤◌, true, false, min, List, [], length, map, drop, Err, IfOk, IfErr, OnOk, IsErrOf};
+ghost use Rattle.gr_out.specs.Lane.{Lane};
+ghost use Rattle.gr_scenario.specs.Steps.{AreStepsOf};
+ghost use Rattle.gr_model.specs.Broker.{max_tick};
+ghost use Rattle.gr_model.specs.NetOf.{net_of};
+ghost use Rattle.gr_model.specs.Arrivals.{datagram, quiet, Publish, publishes_of};
+ghost use Rattle.gr_run.specs.Named.{IsPutFault};
+ghost use Rattle.gr_node.specs.Seen.{seen};
+ghost use Rattle.gr_node.specs.Of.{AreHosted, IsSet, AllStand, OthersStay};
+ghost use Rattle.gr_node.specs.Plan.{calls, calls_of, quiet_calls};
+ghost use Rattle.gr_node.specs.Done.{at_arrival};
+ghost use Rattle.gr_node.specs.Went.{outside, Went, SinkMoves, DiskMoves, PostMoves, IsTurnFault};
+ghost use Rattle.gr_node.specs.Turns.{IsFirst, Turned};
+
+use crate::bindings::is_among;
+use crate::node::{Node, Site};
+use crate::schedule::next_after;
+use crate::turning::{be_quiet, receive};
+use gr_out::{Arrival, Disk, Page, Post, PostFault, RunFault, Sink};
+use gr_sched::{Line, MAX_NUMBER};
+
+/// A moment past the last tick is taken as the last tick.
+fn last_tick(moment: u64) -> u64
+    ensures { result ≡ min moment max_tick }
+{
+    moment.min(MAX_NUMBER)
+}
+
+/// A datagram that has come is given to its broker; one that is for a broker elsewhere is passed over. Then the page is
+/// flushed.
+fn datagram_comes<P: Post, K: Sink>(
+    site: &Site<'_>,
+    node: &mut Node,
+    b: u16,
+    bytes: &[u8],
+    moment: u64,
+    post: &mut P,
+    page: &mut Page,
+    sink: &mut K,
+) -> Result<(), RunFault>
+    requires set { IsSet site.now.topo.now site.now.hosted.now (seen node.old) }
+    ensures went { (left : List Publish) → Went site.now.topo.now site.now.hosted.now P.tells
+        (map calls (calls_of (net_of site.now.topo.now) site.now.hosted.now left (datagram b bytes.now moment)))
+        (at_arrival site.now.hosted.now (seen node.old) (datagram b bytes.now moment)) (seen node.new)
+        (outside (K.taken sink.old) page.old.held (P.journal post.old))
+        (outside (K.taken sink.new) page.new.held (P.journal post.new)) result }
+    ensures emptied { OnOk result (page.new.held ≡ []) }
+    ensures set { OnOk result (IsSet site.now.topo.now site.now.hosted.now (seen node.new)) }
+    ensures stands { (lanes : ℕ → Lane) → AllStand lanes (seen node.old)
+        → OnOk result (AllStand lanes (seen node.new)) }
+    ensures cause { IfErr result IsPutFault }
+    ensures sink { SinkMoves (K.faults sink.old) (K.faults sink.new) result }
+    ensures post { P.faults post.new ≡ P.faults post.old }
+{
+    if !is_among(site.hosted, b) {
+        return page.flush(sink);
+    }
+    node.now = last_tick(moment);
+    match receive(site, node, b, bytes, post, page, sink) {
+        Ok(()) => page.flush(sink),
+        Err(fault) => Err(fault),
+    }
+}
+
+/// A quiet moment that has come, and then the page is flushed.
+fn quiet_comes<D: Disk, P: Post, K: Sink>(
+    site: &Site<'_>,
+    node: &mut Node,
+    steps: &[Line],
+    next: usize,
+    moment: u64,
+    disk: &mut D,
+    post: &mut P,
+    page: &mut Page,
+    sink: &mut K,
+) -> Result<(), RunFault>
+    requires hosted { AreHosted site.now.topo.now site.now.hosted.now }
+    requires set { IsSet site.now.topo.now site.now.hosted.now (seen node.old) }
+    requires stands { D.tells → AllStand (D.lane_of disk.old) (seen node.old) }
+    requires steps { AreStepsOf site.now.topo.now steps.now }
+    requires first { IsFirst (net_of site.now.topo.now) site.now.hosted.now (drop next steps.now) }
+    ensures went { Went site.now.topo.now site.now.hosted.now P.tells
+        (map calls (quiet_calls (net_of site.now.topo.now) site.now.hosted.now
+        (publishes_of (net_of site.now.topo.now) site.now.hosted.now (drop next steps.now))))
+        (at_arrival site.now.hosted.now (seen node.old) (quiet moment)) (seen node.new)
+        (outside (K.taken sink.old) page.old.held (P.journal post.old))
+        (outside (K.taken sink.new) page.new.held (P.journal post.new)) result }
+    ensures emptied { OnOk result (page.new.held ≡ []) }
+    ensures set { OnOk result (IsSet site.now.topo.now site.now.hosted.now (seen node.new)) }
+    ensures stands { D.tells → OnOk result (AllStand (D.lane_of disk.new) (seen node.new)) }
+    ensures others { D.tells
+        → OthersStay site.now.topo.now site.now.hosted.now (D.lane_of disk.old) (D.lane_of disk.new) }
+    ensures cause { IfErr result IsTurnFault }
+    ensures disk { DiskMoves (D.faults disk.old) (D.stops disk.old) (D.faults disk.new) (D.stops disk.new) result }
+    ensures sink { SinkMoves (K.faults sink.old) (K.faults sink.new) result }
+    ensures post { P.faults post.new ≡ P.faults post.old }
+{
+    node.now = last_tick(moment);
+    match be_quiet(site, node, steps, next, disk, post, page, sink) {
+        Ok(()) => page.flush(sink),
+        Err(fault) => Err(fault),
+    }
+}
+
+/// Takes one arrival, with all that it causes; the page is flushed then. False where nothing comes any more.
+pub(crate) fn turn<D: Disk, P: Post, K: Sink>(
+    site: &Site<'_>,
+    node: &mut Node,
+    steps: &[Line],
+    next: &mut usize,
+    piece: &mut [u8],
+    disk: &mut D,
+    post: &mut P,
+    page: &mut Page,
+    sink: &mut K,
+) -> Result<bool, RunFault>
+    requires hosted { AreHosted site.now.topo.now site.now.hosted.now }
+    requires set { IsSet site.now.topo.now site.now.hosted.now (seen node.old) }
+    requires stands { D.tells → AllStand (D.lane_of disk.old) (seen node.old) }
+    requires steps { AreStepsOf site.now.topo.now steps.now }
+    requires within { next.old ≤ length steps.now }
+    requires first { IsFirst (net_of site.now.topo.now) site.now.hosted.now (drop next.old steps.now) }
+    ensures turned { Turned site.now.topo.now site.now.hosted.now P.tells steps.now next.old next.new
+        (seen node.old) (seen node.new) (outside (K.taken sink.old) page.old.held (P.journal post.old))
+        (outside (K.taken sink.new) page.new.held (P.journal post.new)) result }
+    ensures within { OnOk result (next.new ≤ length steps.now) }
+    ensures first { OnOk result (IsFirst (net_of site.now.topo.now) site.now.hosted.now (drop next.new steps.now)) }
+    ensures emptied { IfOk result (λ goes_on. goes_on ≡ true → page.new.held ≡ []) }
+    ensures closed { IfOk result (λ goes_on. goes_on ≡ false → page.new.held ≡ page.old.held) }
+    ensures at_post { IsErrOf result RunFault.Post → page.new.held ≡ page.old.held }
+    ensures set_at_post { IsErrOf result RunFault.Post → IsSet site.now.topo.now site.now.hosted.now (seen node.new) }
+    ensures stands_at_post { D.tells → IsErrOf result RunFault.Post → AllStand (D.lane_of disk.new) (seen node.new) }
+    ensures set { OnOk result (IsSet site.now.topo.now site.now.hosted.now (seen node.new)) }
+    ensures stands { D.tells → OnOk result (AllStand (D.lane_of disk.new) (seen node.new)) }
+    ensures others { D.tells
+        → OthersStay site.now.topo.now site.now.hosted.now (D.lane_of disk.old) (D.lane_of disk.new) }
+    ensures undamaged { (p at : ℕ) → result ≢ Err (RunFault.Damaged p at) }
+    ensures disk { DiskMoves (D.faults disk.old) (D.stops disk.old) (D.faults disk.new) (D.stops disk.new) result }
+    ensures sink { SinkMoves (K.faults sink.old) (K.faults sink.new) result }
+    ensures moves { PostMoves (P.faults post.old) (P.faults post.new) result }
+{
+    match post.next(piece) {
+        Ok(arrival) => match arrival {
+            Arrival::Datagram { at, len, moment } => {
+                match datagram_comes(site, node, at, &piece[..len], moment, post, page, sink) {
+                    Ok(()) => Ok(true),
+                    Err(fault) => Err(fault),
+                }
+            }
+            Arrival::Quiet { moment } => {
+                match quiet_comes(site, node, steps, *next, moment, disk, post, page, sink) {
+                    Ok(()) => {
+                        *next = next_after(site, steps, *next);
+                        Ok(true)
+                    }
+                    Err(fault) => Err(fault),
+                }
+            }
+            Arrival::Closed => Ok(false),
+        },
+        Err(fault) => match fault {
+            PostFault::Failed => Err(RunFault::Post),
+            PostFault::Memory => Err(RunFault::Memory),
+        },
+    }
+}

@@ -1,0 +1,21 @@
+//! Serving: the brokers of a topology that are hosted here, over a post, with their logs on a disk. A run is made of
+//! acts, and each is the machine's.
+#![tactic(auto)]
+
+mod arriving;
+mod beginning;
+mod bindings;
+mod calling;
+mod finishing;
+mod law;
+mod node;
+mod running;
+mod schedule;
+mod service;
+mod showing;
+mod starting;
+mod telling;
+mod turning;
+
+pub use law::an_honest_journal_meets_the_headline;
+pub use service::serve;

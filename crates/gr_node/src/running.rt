@@ -1,0 +1,82 @@
+//! A run: what comes is taken, turn by turn.
+
+ghost use Rattle.std.specs.Prelude.{◌≡◌, ◌≢◌, ◌⊎◌, ℕ, ◌≤◌, Bool, true, List, [], length, Err, OnOk, IsErrOf};
+ghost use Rattle.gr_scenario.specs.Steps.{AreStepsOf};
+ghost use Rattle.gr_model.specs.NetOf.{net_of};
+ghost use Rattle.gr_model.specs.Arrivals.{Arrival};
+ghost use Rattle.gr_node.specs.Seen.{seen};
+ghost use Rattle.gr_node.specs.Of.{AreHosted, IsSet, AllStand, OthersStay};
+ghost use Rattle.gr_node.specs.Plan.{run_acts};
+ghost use Rattle.gr_node.specs.Went.{outside, Went, IsExact, SinkMoves, DiskMoves, PostMoves};
+
+use crate::arriving::turn;
+use crate::node::{Node, Site};
+use crate::schedule::next_publish;
+use gr_out::{Disk, Memory, Page, Post, RunFault, Sink};
+use gr_sched::Line;
+use std::alloc::Global;
+
+/// How much of a datagram is taken.
+const PIECE_BYTES: usize = 65_535;
+
+/// Room for a datagram.
+fn new_piece(alloc: Global) -> Result<Vec<u8>, Memory> {
+    vec![in alloc; 0u8; PIECE_BYTES]
+}
+
+/// Takes at most so many arrivals, each with all that it causes; after each the page is flushed, before the next is
+/// waited for.
+///
+/// `Memory` where memory is refused, and `Disk`, `Write` and `Post` only where the disk, the sink or the post failed.
+pub(crate) fn run<D: Disk, P: Post, K: Sink>(
+    site: &Site<'_>,
+    node: &mut Node,
+    steps: &[Line],
+    turns: u64,
+    disk: &mut D,
+    post: &mut P,
+    page: &mut Page,
+    sink: &mut K,
+) -> Result<(), RunFault>
+    requires hosted { AreHosted site.now.topo.now site.now.hosted.now }
+    requires set { IsSet site.now.topo.now site.now.hosted.now (seen node.old) }
+    requires stands { D.tells → AllStand (D.lane_of disk.old) (seen node.old) }
+    requires steps { AreStepsOf site.now.topo.now steps.now }
+    requires empty { page.old.held ≡ [] }
+    ensures ran { (came : List Arrival) × ((shut : Bool) × ((length came ≤ turns)
+        × (OnOk result ((shut ≡ true) ⊎ (length came ≡ turns))
+        × Went site.now.topo.now site.now.hosted.now P.tells
+        (run_acts (net_of site.now.topo.now) site.now.hosted.now steps.now came shut)
+        (seen node.old) (seen node.new) (outside (K.taken sink.old) page.old.held (P.journal post.old))
+        (outside (K.taken sink.new) page.new.held (P.journal post.new)) result))) }
+    ensures empty { IsExact result → (result ≢ Err RunFault.Disk) → page.new.held ≡ [] }
+    ensures set { OnOk result (IsSet site.now.topo.now site.now.hosted.now (seen node.new)) }
+    ensures stands { D.tells → OnOk result (AllStand (D.lane_of disk.new) (seen node.new)) }
+    ensures at_post { IsErrOf result RunFault.Post → IsSet site.now.topo.now site.now.hosted.now (seen node.new) }
+    ensures at_post_stands { D.tells → IsErrOf result RunFault.Post → AllStand (D.lane_of disk.new) (seen node.new) }
+    ensures others { D.tells
+        → OthersStay site.now.topo.now site.now.hosted.now (D.lane_of disk.old) (D.lane_of disk.new) }
+    ensures disk { DiskMoves (D.faults disk.old) (D.stops disk.old) (D.faults disk.new) (D.stops disk.new) result }
+    ensures sink { SinkMoves (K.faults sink.old) (K.faults sink.new) result }
+    ensures moves { PostMoves (P.faults post.old) (P.faults post.new) result }
+    ensures never_damaged { (p at : ℕ) → result ≢ Err (RunFault.Damaged p at) }
+{
+    let mut piece = match new_piece(site.alloc) {
+        Ok(piece) => piece,
+        Err(_) => return Err(RunFault::Memory),
+    };
+    let mut next = next_publish(site, steps, 0);
+    'turns: for _ in 0..turns {
+        match turn(
+            site, node, steps, &mut next, &mut piece, disk, post, page, sink,
+        ) {
+            Ok(goes_on) => {
+                if !goes_on {
+                    return Ok(());
+                }
+            }
+            Err(fault) => return Err(fault),
+        }
+    }
+    Ok(())
+}
