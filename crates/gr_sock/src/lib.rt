@@ -1,16 +1,13 @@
 //! The outside as a system has it: readers and writers, files and sockets.
 //!
-//! To the traits of the outside none of these tells what it holds, since a system tells nothing of what it keeps.
-//! Beside that each call says what it does with what stands below it, wherever that tells: with a reader what is left
-//! of it, with a writer what it took, with a folder what its files hold and what has reached the device, with a network
-//! where sockets were opened and what was taken, sent and waited for. So no byte is lost, doubled or made up between
-//! these and the trait. What only the system knows is left to `LogFolder` and `UdpNetwork`, each call of which is a few
-//! calls of the system. Each adapter counts its failures exactly.
+//! To the traits of the outside none of these tells what it holds. Beside that each call says what it does with what
+//! stands below it, wherever that tells: a reader, a writer, a folder, a network. So no byte is lost, doubled or made
+//! up between these and the trait. What only the system knows is left to `LogFolder` and `UdpNetwork`, each call of
+//! which is a few calls of the system. Each adapter counts its failures exactly.
 //!
-//! A program makes them of its runtime `rt`: `StdSource::new(rt.stdin())`, `StdSink::new(rt.stdout())`,
-//! `FileDisk::new(alloc, LogFolder::new(alloc, &rt))` and
-//! `UdpPost::new(alloc, UdpNetwork::new(alloc, &rt), &rt)`, whose last argument is the clock of its moments. None of
-//! these calls can fail, opens a file or opens a socket.
+//! Of a runtime `rt` they are made so: `StdSource::new(rt.stdin())`, `StdSink::new(rt.stdout())`,
+//! `FileDisk::new(alloc, LogFolder::new(alloc, &rt))`, `UdpPost::new(alloc, UdpNetwork::new(alloc, &rt), &rt)`, whose
+//! last argument is the clock of its moments. None of these calls can fail, opens a file or opens a socket.
 #![tactic(auto)]
 
 mod address;

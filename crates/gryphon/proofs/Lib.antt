@@ -1,2 +1,4 @@
-pub mod StepLemmas
 pub mod WordLemmas
+pub mod TwoRequired
+pub mod HostingLemmas
+pub mod RunLemmas

@@ -1,15 +1,17 @@
 -- What the definitions of the commands find, and what the reader of a number gives
 use Rattle.std.proofs.Common.{rules, arith, ◌<◌, ◌≤◌, nat_cmp, ◌≡◌, ◌≢◌, ℕ, ℤ, pos, List, [], ◌∷◌, Option, Some, None, Result, Ok, Err, IfOk, ap, ◌∙◌, refl, inl, inr}
+use Rattle.std.specs.Option.{IsSomeAnd}
 use Rattle.std.specs.Ordering.{ord_min}
 use Rattle.std.specs.Str.Parse.{ParsesUnsigned, digits_value, without_leading_plus}
 use Rattle.clap.specs.Words.{ReadsOne, IsUnsignedIn, NarrowsTo, Kinds, HasKind, kind_of}
 use Rattle.clap.specs.declared.error.Error.{Error}
 use Rattle.clap.specs.declared.error.kind.ErrorKind.TheVariants.{OutOfMemory}
+use Rattle.clap.specs.declared.builder.range.ValueRange.{ValueRange}
 use Rattle.clap.specs.declared.builder.value_parser.ValueParser.{ValueParser}
 use Rattle.clap.specs.declared.builder.value_parser.ValueParser.TheVariants.{Unsigned}
 use Rattle.gryphon.specs.declared.words.Task.{Task}
 use Rattle.gryphon.specs.declared.words.Task.TheVariants.{Usage}
-use Rattle.gryphon.specs.Words.{taken}
+use Rattle.gryphon.specs.Words.{taken, IsInRange}
 
 -- where no fault is found, the task stands
 pub kept : (kinds : Kinds) (task : Task) → kinds ≡ [] → task ≡ taken kinds task
@@ -23,12 +25,23 @@ given_up (k ∷ ks) e task (Ok t) h usage other = usage
 given_up [] e task (Ok t) (inl memory) usage other = absurd (other memory)
 given_up [] e task (Ok t) (inr among) usage other = absurd among
 
+-- a task in its range stays one where it is given up
+pub kept_in_range : {E : Type 0} (kinds : Kinds) (task : Task) (r : Result Task E) → IsInRange task → IfOk r (λ t. t ≡ taken kinds task) → IfOk r IsInRange
+kept_in_range kinds task (Err x) h e = tt
+kept_in_range [] task (Ok t) h e = rw e h
+kept_in_range (k ∷ ks) task (Ok t) h e = rw e tt
+
 -- a reader of `u64` with both ends given
 pub narrowed : (n : ℕ) (r : ValueParser) (low high : Option ℤ) → low ≡ Some (pos 1) → high ≡ Some (pos n) → n < 18446744073709551615
     → NarrowsTo (Unsigned 0 18446744073709551615) low high r → r ≡ Unsigned 1 n
 narrowed n r low high a b small h =
     let made : r ≡ Unsigned 1 (ord_min nat_cmp 18446744073709551615 n) = rw (a, b) at h in
     made ∙ ap (λ k. Unsigned 1 k) (grind (arith, rules))
+
+-- a range of values that is given
+pub given_range : (o : Option ValueRange) (P : ValueRange → Type 0) (v : ValueRange) → IsSomeAnd o P → ((w : ValueRange) → P w → w ≡ v) → o ≡ Some v
+given_range None P v h only = absurd h
+given_range (Some w) P v h only = ap (λ x. Some x) (only w h)
 
 -- a text that passed a range of `u64` reads as a number in it
 pub unsigned_reads : (E : Type 0) (G : List ℕ → Result ℕ E → Type 0) (low high : ℕ) (t : List ℕ) (r : Option ℕ)

@@ -1,5 +1,5 @@
 -- What is answered
-use Rattle.std.specs.Prelude.{ℕ, List, [], ◌∷◌, ◌++◌, Option, Some, codes}
+use Rattle.std.specs.Prelude.{ℕ, List, [], ◌∷◌, ◌++◌, Option, Some, None, option_and_then, codes}
 use Rattle.std.specs.Option.{option_map}
 use Rattle.gr_matching.specs.declared.asked.Asked.{Asked as AskedOfMatchText}
 use Rattle.gr_matching.specs.declared.asked.Asked.TheVariants as match_text
@@ -12,8 +12,11 @@ use Rattle.gr_scenario.specs.Scenario.{asked_by as scenario_by}
 use Rattle.gr_soak.specs.Report.{soak_report}
 use Rattle.gryphon.specs.declared.input.Input.{Input}
 use Rattle.gryphon.specs.declared.input.Input.TheVariants.{Scenario, MatchText}
+use Rattle.gryphon.specs.declared.serving.Serving.{Serving}
+use Rattle.gryphon.specs.declared.serving.Serving.TheVariants as serving
 use Rattle.gryphon.specs.declared.words.Task.{Task}
-use Rattle.gryphon.specs.declared.words.Task.TheVariants.{Usage, Replay, Match, Soak}
+use Rattle.gryphon.specs.declared.words.Task.TheVariants.{Usage, Replay, Serve, Match, Soak}
+use Rattle.gryphon.specs.Serving.{serving_of}
 
 -- a status, and all that is printed with it
 pub record Answer : Type 0 where
@@ -45,6 +48,13 @@ match_answer match_text.TooManyLines = too_many_lines
 match_answer (match_text.Refused line) = refusal line
 match_answer (match_text.Matching filters events) = record { status = 0; text = matched_text filters events }
 
+-- to what `serve` is asked: where there is to be a run, there is no answer before it
+abbrev pub answer_in : Serving → Option Answer
+answer_in serving.TooManyBytes = Some too_many_bytes
+answer_in serving.TooManySteps = Some too_many_lines
+answer_in (serving.Refused line) = Some (refusal line)
+answer_in (serving.Run t lines hosted) = None
+
 -- to bytes, by what they are read as
 abbrev pub answer_of : Input → List ℕ → Answer
 answer_of Scenario bytes = replay_answer (scenario_by bytes)
@@ -59,9 +69,11 @@ usage_answer = record {
   text = codes "usage: gryphon replay | serve TURNS BROKER... | match | soak N" ++ 10 ∷ [];
 }
 
--- to a task, with these bytes left in the source. Where they are not told, nothing is said of a task that reads them
+-- to a task, with these bytes left in the source. Where they are not told, nothing is said of a task that reads them; and of brokers
+-- that serve no answer says what comes
 abbrev pub answer_to : Task → Option (List ℕ) → Option Answer
 answer_to Usage left = Some usage_answer
 answer_to Replay left = option_map (answer_of Scenario) left
+answer_to (Serve turns words) left = option_and_then (λ bytes. answer_in (serving_of words (scenario_by bytes))) left
 answer_to Match left = option_map (answer_of MatchText) left
 answer_to (Soak count) left = Some (record { status = 0; text = soak_report count })

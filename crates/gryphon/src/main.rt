@@ -1,26 +1,32 @@
 //! The command `gryphon`: `gryphon replay` reads a scenario from standard input, carries it out and prints its report;
-//! `gryphon match` reads filters and events, and prints for each event the filters that match it; `gryphon soak N`
-//! makes a scenario, carries it out and prints counts over its report.
+//! `gryphon serve TURNS BROKER...` reads one too, and runs the named brokers of its topology over datagrams; `gryphon
+//! match` reads filters and events, and prints for each event the filters that match it; `gryphon soak N` makes a
+//! scenario, carries it out and prints counts over its report.
 #![tactic(auto)]
 
+mod broker_words;
 mod headline;
+mod hosting;
 mod input;
 mod matching;
 mod printing;
 mod replaying;
+mod running;
+mod serving;
 mod soaking;
 #[cfg(test)]
 mod tests;
 mod top;
 mod words;
 
-use gr_sock::{StdSink, StdSource};
+use gr_sock::{FileDisk, LogFolder, StdSink, StdSource, UdpNetwork, UdpPost};
 use std::env;
 use std::io::ErrorKind;
 use std::process::ExitCode;
 
-/// Carries out the command that the words name, from standard input to standard output. A word that is no text names no
-/// command. Want of memory for the words ends with status 7.
+/// Carries out the command that the words name, from standard input to standard output. Brokers that serve keep their
+/// logs in a folder of files, and send and get datagrams. A word that is no text names no command. Want of memory for
+/// the words ends with status 7.
 fn main(rt: HostRuntime) -> ExitCode {
     let mut texts = Vec::new(rt.alloc());
     match env::args(&rt) {
@@ -42,6 +48,15 @@ fn main(rt: HostRuntime) -> ExitCode {
     }
     let mut source = StdSource::new(rt.stdin());
     let mut sink = StdSink::new(rt.stdout());
-    let status = top::gryphon(rt.alloc(), words.as_slice(), &mut source, &mut sink);
+    let mut disk = FileDisk::new(rt.alloc(), LogFolder::new(rt.alloc(), &rt));
+    let mut post = UdpPost::new(rt.alloc(), UdpNetwork::new(rt.alloc(), &rt), &rt);
+    let status = top::gryphon(
+        rt.alloc(),
+        words.as_slice(),
+        &mut source,
+        &mut sink,
+        &mut disk,
+        &mut post,
+    );
     ExitCode::from(status)
 }

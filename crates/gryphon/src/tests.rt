@@ -1,9 +1,11 @@
 mod examples;
+mod servers;
 
 use crate::top::gryphon;
 use examples::EXAMPLES;
-use gr_out::{MemSink, MemSource, Sink, Source};
+use gr_out::{MemDisk, MemPost, MemSink, MemSource, Memory, Sink, Source};
 use gr_sock::{StdSink, StdSource};
+use servers::{Cue, DELIVERED, DISK_CALLS, LOG, OLD_LOG, SERVERS, STOPPED, Server};
 use std::alloc::Global;
 use std::process::Abort;
 use std::str;
@@ -43,7 +45,17 @@ fn comes_to(
 ) -> Result<(), Fail> {
     let mut source = MemSource::new(alloc, case.input, case.reads)?;
     let mut sink = MemSink::new(alloc, case.room, case.writes)?;
-    let came = gryphon(alloc, case.words, &mut source, &mut sink);
+    // The first call of each is to fail: none is made.
+    let mut disk = MemDisk::new(alloc, &[1])?;
+    let mut post = MemPost::new(alloc, &[1], &[1])?;
+    let came = gryphon(
+        alloc,
+        case.words,
+        &mut source,
+        &mut sink,
+        &mut disk,
+        &mut post,
+    );
     assert_eq!(rt; as_text(sink.bytes()), printed);
     assert_eq!(rt; came, status, "for {printed:?}");
     Ok(())
@@ -227,14 +239,21 @@ fn too_many_steps_are_refused(rt: HostRuntime) -> Result<(), Fail> {
 
 #[test]
 fn other_words_get_the_usage(rt: HostRuntime) -> Result<(), Fail> {
-    let rows: [&[&str]; 23] = [
+    let rows: [&[&str]; 30] = [
         &[],
         &["frob"],
         &["Replay"],
         &["--help"],
         &["--", "replay"],
-        // A command that is not there.
-        &["serve", "1", "A"],
+        // No number of turns, one out of range, no broker, and what looks like a flag.
+        &["serve"],
+        &["serve", "A"],
+        &["serve", "0", "A"],
+        &["serve", "1000001", "A"],
+        &["serve", "-1", "A"],
+        &["serve", "1"],
+        &["serve", "1", "A", "-x"],
+        &["serve", "1", "A", "--help"],
         // No number, a number out of range, and a word too many.
         &["soak"],
         &["soak", "0"],
@@ -344,7 +363,16 @@ fn a_number_of_turns_is_read_by_its_value(rt: HostRuntime) -> Result<(), Fail> {
         // The source's first call is to fail: it is not made.
         let mut source = MemSource::new(rt.alloc(), b"", &[1])?;
         let mut sink = MemSink::new(rt.alloc(), 1000, &[])?;
-        let came = gryphon(rt.alloc(), words, &mut source, &mut sink);
+        let mut disk = MemDisk::new(rt.alloc(), &[1])?;
+        let mut post = MemPost::new(rt.alloc(), &[1], &[1])?;
+        let came = gryphon(
+            rt.alloc(),
+            words,
+            &mut source,
+            &mut sink,
+            &mut disk,
+            &mut post,
+        );
         assert_eq!(rt; came, 0);
         let printed = as_text(sink.bytes());
         assert!(rt; printed.starts_with("soak 3\nbrokers 7\n"), "{printed:?}");
@@ -397,4 +425,92 @@ fn readers_and_writers_are_adapted(rt: HostRuntime) -> Result<(), Fail> {
     assert_eq!(rt; sink.write(b"abc").unwrap_or(9), 3);
     assert_eq!(rt; sink.write(b"").unwrap_or(9), 0);
     Ok(())
+}
+
+/// Puts a cue at the end of a script.
+fn put_cue(post: &mut MemPost, cue: Cue) -> Result<(), Memory> {
+    match cue {
+        Cue::Pass(offer, moment) => post.pass(offer, moment),
+        Cue::Raw(at, bytes, moment) => post.raw(at, bytes, moment),
+        Cue::Quiet(moment) => post.quiet(moment),
+        Cue::Fail => post.fail(),
+    }
+}
+
+/// The post of a server, with its script.
+fn post_of(alloc: Global, server: &Server) -> Result<MemPost, Memory> {
+    let mut post = MemPost::new(alloc, server.offers, server.bindings)?;
+    for cue in server.script {
+        put_cue(&mut post, *cue)?;
+    }
+    Ok(post)
+}
+
+/// The disk of a server, with what its lane holds at first.
+fn disk_of(alloc: Global, server: &Server) -> Result<MemDisk, Memory> {
+    let mut disk = MemDisk::new(alloc, server.disk)?;
+    if !server.lane.is_empty() {
+        disk.put(0, server.lane)?;
+    }
+    Ok(disk)
+}
+
+/// Has brokers serve over a disk, and compares the status and what was printed.
+fn serves_over(
+    rt: &impl Abort,
+    alloc: Global,
+    server: &Server,
+    disk: &mut MemDisk,
+) -> Result<(), Fail> {
+    let mut source = MemSource::new(alloc, server.source.as_bytes(), &[])?;
+    let mut sink = MemSink::new(alloc, server.room, &[])?;
+    let mut post = post_of(alloc, server)?;
+    let came = gryphon(alloc, server.words, &mut source, &mut sink, disk, &mut post);
+    assert_eq!(rt; as_text(sink.bytes()), server.printed);
+    assert_eq!(rt; came, server.status);
+    Ok(())
+}
+
+/// Has brokers serve over a disk of their own.
+fn serves(rt: &impl Abort, alloc: Global, server: &Server) -> Result<(), Fail> {
+    let mut disk = disk_of(alloc, server)?;
+    serves_over(rt, alloc, server, &mut disk)
+}
+
+#[test]
+fn brokers_serve(rt: HostRuntime) -> Result<(), Fail> {
+    for server in SERVERS {
+        serves(&rt, rt.alloc(), &server)?;
+    }
+    Ok(())
+}
+
+#[test]
+fn what_stops_brokers_is_told(rt: HostRuntime) -> Result<(), Fail> {
+    for server in STOPPED {
+        serves(&rt, rt.alloc(), &server)?;
+    }
+    Ok(())
+}
+
+#[test]
+fn each_call_of_the_disk_may_fail(rt: HostRuntime) -> Result<(), Fail> {
+    for disk in DISK_CALLS {
+        let server = Server {
+            disk,
+            status: 5,
+            printed: "",
+            ..DELIVERED
+        };
+        serves(&rt, rt.alloc(), &server)?;
+    }
+    Ok(())
+}
+
+#[test]
+fn a_second_run_begins_on_the_log_of_the_first(rt: HostRuntime) -> Result<(), Fail> {
+    let mut disk = disk_of(rt.alloc(), &DELIVERED)?;
+    serves_over(&rt, rt.alloc(), &DELIVERED, &mut disk)?;
+    assert!(rt; disk.lane(0) == LOG);
+    serves_over(&rt, rt.alloc(), &OLD_LOG, &mut disk)
 }

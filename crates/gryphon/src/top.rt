@@ -1,47 +1,80 @@
 //! The top call.
 
-ghost use Rattle.std.specs.Prelude.{◌≡◌, ◌≢◌, ◌⊎◌, false, IfSome};
+ghost use Rattle.std.specs.Prelude.{◌≡◌, ◌≢◌, ◌⊎◌, false, Ok, IfSome};
 ghost use Rattle.gr_out.specs.Faults.{Rose};
 ghost use Rattle.gr_out.specs.Bytes.{IsAtEnd};
 ghost use Rattle.gr_out.specs.Page.{TakesFront};
+ghost use Rattle.gr_publog.specs.Crash.{EitherRose};
 ghost use Rattle.gr_scenario.specs.Scenario.{asked_by};
-ghost use Rattle.gryphon.specs.Words.{texts_of, task_by, is_known, IsReading};
-ghost use Rattle.gryphon.specs.Answers.{answer_of, answer_to};
-ghost use Rattle.gryphon.specs.Top.{WasReplayed, IsAnswered, IsWhole, IsCut};
+ghost use Rattle.gryphon.specs.Words.{texts_of, task_by, is_known, IsReading, IsServing};
+ghost use Rattle.gryphon.specs.Serving.{serving_of, OnRun, IfRun, around, RunsTo, StopsBy, NotBegun, IsDamaged, AllRead};
+ghost use Rattle.gryphon.specs.Answers.{answer_in, answer_of, answer_to};
+ghost use Rattle.gryphon.specs.Top.{WasReplayed, IsAnswered, IsWhole, IsCut, IsStop};
 
+use crate::broker_words::BrokerWords;
 use crate::input::Input;
 use crate::matching::match_bytes;
 use crate::printing::print;
 use crate::replaying::replay_bytes;
+use crate::serving::serve_bytes;
 use crate::soaking::print_soak;
 use crate::words::{Task, task_of};
-use gr_out::{ReadFault, Sink, Source, read_all};
+use gr_out::{Disk, Post, ReadFault, Sink, Source, read_all};
 use gr_sched::MAX_BYTES;
 use std::alloc::Global;
 
 /// What is printed for words that are no command.
 const USAGE: &[u8] = b"usage: gryphon replay | serve TURNS BROKER... | match | soak N\n";
 
-/// Carries out the command that the words name, over a source and a sink. Gives the exit status.
+/// Carries out the command that the words name, over a source and a sink; brokers that serve have a disk and a post.
+/// Gives the exit status.
 ///
 /// - 0: the command was carried out; the sink took all that it prints.
 /// - 1: the words are no command's; the sink took the usage line.
-/// - 2: the source's bytes are not what the command reads; the sink took the line that says why.
+/// - 2: the source's bytes are not what the command reads, or the named brokers cannot serve; the sink took the line
+///   that says why.
 /// - 3: the source failed; the sink took nothing.
 /// - 4: the sink failed; it took a front of what was to be printed.
+/// - 5: the disk failed while brokers served; the sink took the lines of all calls before.
+/// - 6: the lane of a publisher at a broker that was to serve holds no log; the sink took the lines of all calls
+///   before, and the line that names the publisher and the place.
 /// - 7: want of memory; the sink took a front of what was to be printed.
+/// - 8: the post failed while brokers served; the sink took the lines of all calls before.
 /// - 9: the source has too many bytes or lines; the sink took the line that says which.
-pub fn gryphon<S: Source, K: Sink>(
+pub fn gryphon<S: Source, K: Sink, D: Disk, P: Post>(
     alloc: Global,
     words: &[&str],
     source: &mut S,
     sink: &mut K,
+    disk: &mut D,
+    post: &mut P,
 ) -> u8
     // The headline, of every schedule that was replayed.
     ensures headline { result ≡ 0 → task_by (texts_of words.now) ≡ Task.Replay →
         IfSome (S.left source.old) (λ bytes. WasReplayed (K.taken sink.old) (K.taken sink.new) (asked_by bytes)) }
     ensures read_to_its_end { IsReading (task_by (texts_of words.now)) → (result ≡ 0) ⊎ (result ≡ 2) →
         IsAtEnd (S.left source.new) }
+
+    // Of brokers that serve: a run that was carried out, with its headline, and one that was stopped; and that the
+    // lanes held logs, or which was the first that did not.
+    ensures served { result ≡ 0 → IfRun (task_by (texts_of words.now)) (S.left source.old)
+        (λ turns t lines hosted. RunsTo t lines hosted turns P.tells D.tells
+        (around (K.taken sink.old) (P.journal post.old) (D.lane_of disk.old))
+        (around (K.taken sink.new) (P.journal post.new) (D.lane_of disk.new)) (Ok tt)) }
+    ensures stopped { IsCut result ⊎ IsStop result → IfRun (task_by (texts_of words.now)) (S.left source.old)
+        (λ turns t lines hosted. NotBegun
+        (around (K.taken sink.old) (P.journal post.old) (D.lane_of disk.old))
+        (around (K.taken sink.new) (P.journal post.new) (D.lane_of disk.new)) result
+        ⊎ StopsBy t lines hosted turns P.tells D.tells
+        (around (K.taken sink.old) (P.journal post.old) (D.lane_of disk.old))
+        (around (K.taken sink.new) (P.journal post.new) (D.lane_of disk.new)) result) }
+    ensures damaged { result ≡ 6 → D.tells → IfRun (task_by (texts_of words.now)) (S.left source.old)
+        (λ turns t lines hosted. IsDamaged t hosted (D.lane_of disk.old)) }
+    ensures undamaged { result ≡ 0 → D.tells → IfRun (task_by (texts_of words.now)) (S.left source.old)
+        (λ turns t lines hosted. AllRead t hosted (D.lane_of disk.old)) }
+    // No other command, and none that is refused, comes to the disk or the post.
+    ensures untouched { (IsServing (task_by (texts_of words.now)) → ⊥) ⊎ ((result ≡ 2) ⊎ ((result ≡ 3) ⊎ (result ≡ 9)))
+        → (disk.new ≡ disk.old) × (post.new ≡ post.old) }
 
     // What is printed: all of the one answer to the task, a front of it, or nothing.
     ensures answered { IsWhole result → IfSome (answer_to (task_by (texts_of words.now)) (S.left source.old))
@@ -50,29 +83,116 @@ pub fn gryphon<S: Source, K: Sink>(
         (λ answer. TakesFront (K.taken sink.old) (K.taken sink.new) answer.text) }
     ensures nothing { result ≡ 3 → K.taken sink.new ≡ K.taken sink.old }
 
-    // When each status comes: 1 by the words alone, 0, 2 and 9 by the bytes alone, 3 and 4 by a fault that was counted.
+    // When each status comes: 1 by the words alone, 2 and 9 by the bytes and words alone, 0 too but where brokers
+    // serve, and 3, 4, 5 and 8 by a fault that was counted.
     ensures usage_only { result ≡ 1 → task_by (texts_of words.now) ≡ Task.Usage }
     ensures usage_always { task_by (texts_of words.now) ≡ Task.Usage → (result ≡ 1) ⊎ IsCut result }
     ensures unknown { is_known (texts_of words.now) ≡ false → (result ≡ 1) ⊎ (result ≡ 4) }
     ensures unread { (IsReading (task_by (texts_of words.now)) → ⊥) → (result ≢ 3) × (source.new ≡ source.old) }
+    ensures stop_only { IsStop result → IsServing (task_by (texts_of words.now)) }
+    ensures refuses { IsStop result → IfSome (answer_to (task_by (texts_of words.now)) (S.left source.old))
+        (λ answer. ⊥) }
+    ensures runs { IsWhole result → IfRun (task_by (texts_of words.now)) (S.left source.old)
+        (λ turns t lines hosted. result ≡ 0) }
     ensures read_failed { result ≡ 3 → Rose (S.faults source.old) (S.faults source.new) }
     ensures write_failed { result ≡ 4 → Rose (K.faults sink.old) (K.faults sink.new) }
+    ensures disk_failed { result ≡ 5 →
+        EitherRose (D.faults disk.old) (D.faults disk.new) (D.stops disk.old) (D.stops disk.new) }
+    ensures post_failed { result ≡ 8 → Rose (P.faults post.old) (P.faults post.new) }
     ensures source_same { result ≢ 3 → S.faults source.new ≡ S.faults source.old }
     ensures sink_same { result ≢ 4 → K.faults sink.new ≡ K.faults sink.old }
-    ensures complete { (result ≡ 3) ⊎ (IsWhole result ⊎ IsCut result) }
-    // Where no fault was counted, the status is that of the answer, but for want of memory.
+    ensures disk_same { result ≡ 0 → (D.faults disk.new ≡ D.faults disk.old) × (D.stops disk.new ≡ D.stops disk.old) }
+    ensures post_same { result ≡ 0 → P.faults post.new ≡ P.faults post.old }
+    ensures complete { (result ≡ 3) ⊎ (IsWhole result ⊎ (IsCut result ⊎ IsStop result)) }
+    // Where no fault was counted, the status is that of the answer, but for want of memory; and that of brokers that
+    // serve is 0, but for a lane that holds no log and want of memory.
     ensures completeness { (Rose (S.faults source.old) (S.faults source.new) → ⊥)
         → (Rose (K.faults sink.old) (K.faults sink.new) → ⊥)
         → IfSome (answer_to (task_by (texts_of words.now)) (S.left source.old))
         (λ answer. (result ≡ answer.status) ⊎ (result ≡ 7)) }
+    ensures completeness_of_runs { (Rose (S.faults source.old) (S.faults source.new) → ⊥)
+        → (Rose (K.faults sink.old) (K.faults sink.new) → ⊥)
+        → (EitherRose (D.faults disk.old) (D.faults disk.new) (D.stops disk.old) (D.stops disk.new) → ⊥)
+        → (Rose (P.faults post.old) (P.faults post.new) → ⊥)
+        → IfRun (task_by (texts_of words.now)) (S.left source.old)
+        (λ turns t lines hosted. (result ≡ 0) ⊎ ((result ≡ 6) ⊎ (result ≡ 7))) }
 {
     match task_of(alloc, words) {
         Ok(Task::Usage) => print(sink, USAGE, 1),
         Ok(Task::Replay) => from_source(alloc, Input::Scenario, source, sink),
+        Ok(Task::Serve { turns, brokers }) => {
+            serve_source(alloc, &brokers, turns, source, sink, disk, post)
+        }
         Ok(Task::Match) => from_source(alloc, Input::MatchText, source, sink),
         Ok(Task::Soak { count }) => print_soak(alloc, count, sink),
         Err(_) => 7,
     }
+}
+
+/// Reads the bytes of a source, and has the named brokers of the scenario that they are serve for so many turns. Gives
+/// the status.
+fn serve_source<S: Source, K: Sink, D: Disk, P: Post>(
+    alloc: Global,
+    words: &BrokerWords<'_>,
+    turns: u64,
+    source: &mut S,
+    sink: &mut K,
+    disk: &mut D,
+    post: &mut P,
+) -> u8
+    ensures read_to_its_end { (result ≡ 0) ⊎ (result ≡ 2) → IsAtEnd (S.left source.new) }
+    ensures answered { IsWhole result → IfSome (answer_to (Task.Serve turns words.now) (S.left source.old))
+        (IsAnswered result (K.taken sink.old) (K.taken sink.new)) }
+    ensures front { IsCut result → IfSome (answer_to (Task.Serve turns words.now) (S.left source.old))
+        (λ answer. TakesFront (K.taken sink.old) (K.taken sink.new) answer.text) }
+    ensures nothing { result ≡ 3 → K.taken sink.new ≡ K.taken sink.old }
+    ensures served { result ≡ 0 → IfRun (Task.Serve turns words.now) (S.left source.old)
+        (λ turns t lines hosted. RunsTo t lines hosted turns P.tells D.tells
+        (around (K.taken sink.old) (P.journal post.old) (D.lane_of disk.old))
+        (around (K.taken sink.new) (P.journal post.new) (D.lane_of disk.new)) (Ok tt)) }
+    ensures stopped { IsCut result ⊎ IsStop result → IfRun (Task.Serve turns words.now) (S.left source.old)
+        (λ turns t lines hosted. NotBegun
+        (around (K.taken sink.old) (P.journal post.old) (D.lane_of disk.old))
+        (around (K.taken sink.new) (P.journal post.new) (D.lane_of disk.new)) result
+        ⊎ StopsBy t lines hosted turns P.tells D.tells
+        (around (K.taken sink.old) (P.journal post.old) (D.lane_of disk.old))
+        (around (K.taken sink.new) (P.journal post.new) (D.lane_of disk.new)) result) }
+    ensures damaged { result ≡ 6 → D.tells → IfRun (Task.Serve turns words.now) (S.left source.old)
+        (λ turns t lines hosted. IsDamaged t hosted (D.lane_of disk.old)) }
+    ensures undamaged { result ≡ 0 → D.tells → IfRun (Task.Serve turns words.now) (S.left source.old)
+        (λ turns t lines hosted. AllRead t hosted (D.lane_of disk.old)) }
+    ensures runs { IsWhole result → IfRun (Task.Serve turns words.now) (S.left source.old)
+        (λ turns t lines hosted. result ≡ 0) }
+    ensures refuses { IsStop result → IfSome (answer_to (Task.Serve turns words.now) (S.left source.old))
+        (λ answer. ⊥) }
+    ensures untouched { (result ≡ 2) ⊎ ((result ≡ 3) ⊎ (result ≡ 9))
+        → (disk.new ≡ disk.old) × (post.new ≡ post.old) }
+    ensures known { result ≢ 1 }
+    ensures read_failed { result ≡ 3 → Rose (S.faults source.old) (S.faults source.new) }
+    ensures write_failed { result ≡ 4 → Rose (K.faults sink.old) (K.faults sink.new) }
+    ensures disk_failed { result ≡ 5 →
+        EitherRose (D.faults disk.old) (D.faults disk.new) (D.stops disk.old) (D.stops disk.new) }
+    ensures post_failed { result ≡ 8 → Rose (P.faults post.old) (P.faults post.new) }
+    ensures source_same { result ≢ 3 → S.faults source.new ≡ S.faults source.old }
+    ensures sink_same { result ≢ 4 → K.faults sink.new ≡ K.faults sink.old }
+    ensures disk_same { result ≡ 0 → (D.faults disk.new ≡ D.faults disk.old) × (D.stops disk.new ≡ D.stops disk.old) }
+    ensures post_same { result ≡ 0 → P.faults post.new ≡ P.faults post.old }
+    ensures complete { (result ≡ 3) ⊎ (IsWhole result ⊎ (IsCut result ⊎ IsStop result)) }
+{
+    let bytes = match read_all(alloc, source, MAX_BYTES + 1) {
+        Ok(bytes) => bytes,
+        Err(ReadFault::Failed) => return 3,
+        Err(ReadFault::Memory) => return 7,
+    };
+    serve_bytes(
+        alloc,
+        bytes.as_slice(),
+        words.as_slice(),
+        turns,
+        disk,
+        post,
+        sink,
+    )
 }
 
 /// Reads the bytes of a source, and answers them by what they are read as. Gives the status.
