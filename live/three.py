@@ -1,0 +1,213 @@
+"""Three brokers in processes of their own, over a network that loses, repeats and reorders, killed in mid-run.
+
+    live/run [PROGRAM] [--events N] [--kills K] [--loss PART] [--seconds S] [--seed X]
+
+A (publishers P and Q) and B (subscribers all and dear) talk over M. A is killed with SIGKILL at least K times while it
+publishes, and M about a third as often; each is started again at once, A over the log that it left. At the end the
+output of B is compared with what it has to be: of each publisher each subscriber got exactly the events that match its
+filter, once each and in order; and each event that A ever told as logged is among those that were logged. Prints what
+was lost and how often each was killed, and ends with 1 where anything differs.
+"""
+import argparse
+import json
+import os
+import random
+import shutil
+import signal
+import socket
+import subprocess
+import sys
+import tempfile
+import threading
+import time
+
+from relay import Relay
+
+TOPOLOGY = """brokers = ["A", "M", "B"]
+links = [["A", "M"], ["M", "B"]]
+
+[[publisher]]
+name = "P"
+at = "A"
+
+[[publisher]]
+name = "Q"
+at = "A"
+
+[[subscriber]]
+name = "all"
+at = "B"
+
+[[subscriber]]
+name = "dear"
+at = "B"
+filter = "price > 50"
+
+[settings]
+gap = 20
+idle = 100
+retry = 40
+quiet = 200
+
+[addresses]
+A = "127.0.0.1:{A}"
+M = "127.0.0.1:{M}"
+B = "127.0.0.1:{B}"
+---
+"""
+
+
+def free_port():
+    with socket.socket(socket.AF_INET, socket.SOCK_DGRAM) as it:
+        it.bind(("127.0.0.1", 0))
+        return it.getsockname()[1]
+
+
+class Broker:
+    """One broker in a process of its own; what it prints is gathered line by line, over all its runs."""
+
+    def __init__(self, program, folder, name, scenario):
+        self.program, self.folder, self.name, self.scenario = program, folder, name, scenario
+        self.lines, self.kills, self.process = [], 0, None
+        self.reader = None
+
+    def start(self):
+        with open(os.path.join(self.folder, "scenario"), "w") as it:
+            it.write(self.scenario)
+        self.process = subprocess.Popen(
+            [self.program, "serve", "1000000", self.name],
+            cwd=self.folder,
+            stdin=open(os.path.join(self.folder, "scenario"), "rb"),
+            stdout=subprocess.PIPE,
+        )
+        self.reader = threading.Thread(target=self._read, args=(self.process.stdout,), daemon=True)
+        self.reader.start()
+
+    def _read(self, out):
+        for line in out:
+            if line.endswith(b"\n"):
+                self.lines.append(line[:-1].decode())
+
+    def kill(self):
+        self.process.send_signal(signal.SIGKILL)
+        self.process.wait()
+        self.reader.join()
+        self.kills += 1
+
+
+def publishes(count):
+    """The steps of the schedule, and the events of each publisher in order."""
+    steps, events = [], {"P": [], "Q": []}
+    for k in range(1, count // 2 + 1):
+        for publisher in "PQ":
+            event = {"n": k, "price": (k * (37 if publisher == "P" else 53)) % 101}
+            events[publisher].append(event)
+            steps.append(f"publish {publisher} {k} {json.dumps(event, separators=(',', ':'))}\n")
+    return "".join(steps), events
+
+
+def got(lines, subscriber, publisher):
+    """What B told that a subscriber got from a publisher: ticks with events."""
+    found = []
+    for line in lines:
+        words = line.split(" ", 4)
+        if words[:3] == ["got", subscriber, publisher]:
+            found.append((int(words[3]), json.loads(words[4])))
+    return found
+
+
+def check(told_by_a, told_by_b, events):
+    """What differs, in words."""
+    wrong = []
+    for publisher, whole in events.items():
+        ticks = {}
+        for subscriber, test in (("all", lambda e: True), ("dear", lambda e: e["price"] > 50)):
+            came = got(told_by_b, subscriber, publisher)
+            wanted = [e for e in whole if test(e)]
+            if [e for _, e in came] != wanted:
+                wrong.append(f"{subscriber} got {len(came)} events of {publisher}, and {len(wanted)} match, or others")
+            if any(a[0] >= b[0] for a, b in zip(came, came[1:])):
+                wrong.append(f"{subscriber} got events of {publisher} out of order")
+            if subscriber == "all":
+                ticks = {e["n"]: t for t, e in came}
+        for line in told_by_a:
+            words = line.split()
+            if words[:2] == ["logged", publisher] and ticks.get(int(words[2])) != int(words[3]):
+                wrong.append(f"{line}: told as logged, and not got at this tick")
+    return wrong
+
+
+def main():
+    parser = argparse.ArgumentParser()
+    parser.add_argument("program", nargs="?", default=os.path.join(os.path.dirname(__file__), "..", "gryphon"))
+    parser.add_argument("--events", type=int, default=2000)
+    parser.add_argument("--kills", type=int, default=10)
+    parser.add_argument("--loss", type=float, default=0.2)
+    parser.add_argument("--seconds", type=float, default=110)
+    parser.add_argument("--seed", type=int, default=1)
+    asked = parser.parse_args()
+    chance = random.Random(asked.seed)
+    program = os.path.abspath(asked.program)
+    relay = Relay(asked.loss, asked.loss / 4, asked.loss / 2, asked.seed)
+    real = {name: free_port() for name in "AMB"}
+    seen = {(by, of): real[of] if by == of else relay.port_to(("127.0.0.1", real[of])) for by in "AMB" for of in "AMB"}
+    steps, events = publishes(asked.events)
+    home = tempfile.mkdtemp(prefix="gryphon-live-")
+    brokers = {}
+    for name in "AMB":
+        folder = os.path.join(home, name)
+        os.mkdir(folder)
+        scenario = TOPOLOGY.format(**{of: seen[name, of] for of in "AMB"}) + (steps if name == "A" else "")
+        brokers[name] = Broker(program, folder, name, scenario)
+    begun = time.monotonic()
+    for it in brokers.values():
+        it.start()
+    a, m, b = brokers["A"], brokers["M"], brokers["B"]
+    last = len(events["P"])
+    next_kill = begun + 0.5
+    done = lambda: all(len(got_by(b.lines, p)) >= last for p in events)
+    ended = None
+    while time.monotonic() - begun < asked.seconds:
+        relay.step(0.02)
+        now = time.monotonic()
+        if now >= next_kill:
+            next_kill = now + chance.uniform(0.3, 0.9)
+            if a.kills < asked.kills:
+                a.kill()
+                a.start()
+            if m.kills < asked.kills // 3:
+                m.kill()
+                m.start()
+            if done() and a.kills >= asked.kills:
+                ended = now
+                break
+        for it in brokers.values():
+            if it.process.poll() is not None:
+                print(f"live: broker {it.name} ended with status {it.process.returncode}")
+                return 1
+    for it in brokers.values():
+        it.process.send_signal(signal.SIGKILL)
+        it.process.wait()
+        it.reader.join()
+    wrong = check(a.lines, b.lines, events)
+    if ended is None:
+        wrong.append(f"not everything came within {asked.seconds:g} seconds")
+    print(f"live: {relay.came} datagrams came to the relay; {relay.lost} were lost, {relay.repeated} repeated, {relay.delayed} delayed")
+    print(f"live: A was killed {a.kills} times, M {m.kills} times")
+    if ended is not None:
+        print(f"live: {asked.events} events in {ended - begun:.1f} seconds")
+    for it in wrong:
+        print(f"live: WRONG: {it}")
+    shutil.rmtree(home)
+    if not wrong:
+        print("live: each subscriber got exactly the logged events that match its filter, once each and in order")
+    return 1 if wrong else 0
+
+
+def got_by(lines, publisher):
+    start = f"got all {publisher} "
+    return [line for line in lines if line.startswith(start)]
+
+
+if __name__ == "__main__":
+    sys.exit(main())
