@@ -16,7 +16,8 @@ head_bytes kind publisher = letters ++ (VERSION ∷ (kind ∷ to_be_bytes w16 pu
 
 -- the bytes of a note
 unfoldable pub note_bytes : Note → List ℕ
-note_bytes (Submit publisher number event) = head_bytes SUBMIT publisher ++ (to_be_bytes w64 number ++ (to_be_bytes w16 (event_size event) ++ event_bytes event))
+note_bytes (Submit publisher number event) =
+    head_bytes SUBMIT publisher ++ (to_be_bytes w64 number ++ (to_be_bytes w16 (event_size event) ++ event_bytes event))
 note_bytes (Next publisher next) = head_bytes NEXT publisher ++ to_be_bytes w64 next
 note_bytes (Spent publisher) = head_bytes SPENT publisher
 

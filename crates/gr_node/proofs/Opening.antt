@@ -526,12 +526,12 @@ module _ (t : TopologyView) (bs : List ℕ) (n : NodeView) (each : AllByRecursio
   over_world : IsBegun t over
   unfolding over_logs
   over_world =
-      let row : ℕ → List View = λ b. map (λ p. started net p b (reopened_log logs p)) (numbers net.publishers) in
+      let blank : ℕ → List View = λ b. map (λ p. started net p b (reopened_log logs p)) (numbers net.publishers) in
       record {
         clock = refl;
         frames = refl;
-        views = length_numbers row 0 (length t.brokers);
-        rows = λ b j. ap length (get_numbers row 0 (length t.brokers) b [] j) ∙ length_numbers (λ p. started net p (0 + b) (reopened_log logs p)) 0 net.publishers;
+        views = length_numbers blank 0 (length t.brokers);
+        rows = λ b j. ap length (get_numbers blank 0 (length t.brokers) b [] j) ∙ length_numbers (λ p. started net p (0 + b) (reopened_log logs p)) 0 net.publishers;
         logs = length_numbers (reopened_log logs) 0 (length t.publishers);
       }
 
