@@ -1,5 +1,5 @@
 -- Bytes that are text, and numbers in bytes
-use Rattle.std.proofs.Common.{◌≡◌, ◌<◌, ◌+◌, suc, zero, ℕ, arith, rules, length, drop, nat_cmp, Less, append-nil, if◌then◌else◌, ◌==◌, [], ◌∷◌, ◌++◌, ap, List, Bool, true, false, Result, Ok, Err, sym, ◌∙◌, refl}
+use Rattle.std.proofs.Common.{◌≡◌, ◌<◌, ◌≤◌, ◌+◌, ◌-◌, suc, zero, ℕ, arith, rules, length, drop, nat_cmp, Less, append-nil, if◌then◌else◌, ◌==◌, [], ◌∷◌, ◌++◌, ap, List, Bool, true, false, Result, Ok, Err, sym, ◌∙◌, refl}
 use Rattle.std.proofs.lemmas.List.{drop_all, map-append}
 use Rattle.std.proofs.lemmas.Cmp.{nat_list_cmp_total}
 use Rattle.std.specs.List.{AllByRecursion}
@@ -10,8 +10,7 @@ use Rattle.gr_event.specs.declared.event.Event.{Event}
 use Rattle.gr_event.specs.declared.event.EventFault.{EventFault}
 use Rattle.gr_event.specs.declared.event.EventFault.TheVariants as fault
 use Rattle.gr_event.specs.Event.{value_size, pairs_size}
-use Rattle.gr_event.specs.Gives.{Fails}
-use Rattle.gr_event.specs.Limits.{names, Rise}
+use Rattle.gr_event.specs.Limits.{names, Rise, IsPair}
 use Rattle.gr_event.specs.Decode.{name_at, value_at, pairs_at}
 use Rattle.gr_event.proofs.Reading.{with_front, after}
 use Rattle.std.specs.Prelude.{IsUtf8, MatchResult, is_ok}
@@ -50,17 +49,25 @@ pair_read found more bytes before name value m n at next all l d e a b so_far =
 
 -- a name or a value that was refused refuses all
 pub name_refused : (found : Event) (bytes before : List ℕ) (m n at : ℕ) (e : EventFault) (all : Result Event EventFault)
-    → m ≡ suc n → name_at bytes at before ≡ Err e → with_front found (pairs_at bytes m at before) ≡ all → Fails e all
+    → m ≡ suc n → name_at bytes at before ≡ Err e → with_front found (pairs_at bytes m at before) ≡ all → all ≡ Err e
 unfolding pairs_at
-name_refused found bytes before m n at fault.Memory all d a so_far = tt
 name_refused found bytes before m n at e all d a so_far = sym so_far ∙ rw (d, a) refl
 
 pub value_refused : (found : Event) (bytes before name : List ℕ) (m n at : ℕ) (e : EventFault) (all : Result Event EventFault)
-    → m ≡ suc n → name_at bytes at before ≡ Ok name → Fails e (value_at bytes (at + 1 + length name))
-    → with_front found (pairs_at bytes m at before) ≡ all → Fails e all
+    → m ≡ suc n → name_at bytes at before ≡ Ok name → value_at bytes (at + 1 + length name) ≡ Err e
+    → with_front found (pairs_at bytes m at before) ≡ all → all ≡ Err e
 unfolding pairs_at
-value_refused found bytes before name m n at fault.Memory all d a b so_far = tt
 value_refused found bytes before name m n at e all d a b so_far = sym so_far ∙ rw (d, a, b) refl
+
+-- what is known in front of a place, where some of the pairs were read
+pub record ReadSoFar (bytes before : List ℕ) (found : Event) (count done at : ℕ) : Type 0 where
+  pub place : at ≡ 1 + pairs_size found
+  pub inside : at ≤ length bytes
+  pub read : with_front found (pairs_at bytes (count - done) at before) ≡ pairs_at bytes count 1 []
+  pub each : AllByRecursion IsPair found
+  pub many : length found ≡ done
+  pub rise : Rise (names found)
+  pub above : (n : List ℕ) → slice_cmp nat_cmp before n ≡ Less → Rise (names found ++ n ∷ [])
 
 at_end : (found : Event) (bytes before : List ℕ) (at : ℕ) (b : Bool) → (at == length bytes) ≡ b
     → with_front found (pairs_at bytes zero at before) ≡ (if b then Ok found else Err (fault.Trailing at))

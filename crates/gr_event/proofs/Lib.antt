@@ -1,7 +1,9 @@
 pub mod Again
 pub mod Decoding
+pub mod Members
 pub mod Reading
 pub mod SameEvent
 pub mod Spelled
 pub mod Told
+pub mod Walking
 pub mod Writing

@@ -6,7 +6,9 @@ use Rattle.std.proofs.lemmas.Bool.Decides.{Decides-int_eq}
 use Rattle.gr_event.specs.declared.value.Value.{Value}
 use Rattle.gr_event.specs.declared.value.Value.TheVariants.{Int, Text, Bool as Truth}
 use Rattle.gr_event.specs.declared.event.Event.{Event}
-use Rattle.gr_event.specs.Event.{same_bool, same_value, same_event}
+use Rattle.gr_event.specs.Event.{same_bool, same_value, same_event, event_bytes}
+use Rattle.gr_event.specs.Limits.{IsEvent}
+use Rattle.gr_event.proofs.Walking.{same_bytes}
 
 bytes_equal : (a b : List ℕ) → bytes_eq a b ≡ true → a ≡ b
 bytes_equal [] [] h = refl
@@ -58,6 +60,9 @@ pub event_itself : (a : Event) → same_event a a ≡ true
 event_itself [] = refl
 event_itself (x ∷ xs) = and_from (bytes_eq x.0 x.0 && same_value x.1 x.1) (same_event xs xs) (and_from (bytes_eq x.0 x.0) (same_value x.1 x.1) (bytes_itself x.0) (value_itself x.1)) (event_itself xs)
 
--- what the test answers, of two events
-pub same_event-tells : (r : Bool) (a b : Event) → r ≡ same_event a b → IsTrue r ↔ (a ≡ b)
-same_event-tells r a b e = (λ t. event_equal a b (sym e ∙ t), λ h. e ∙ (ap (λ x. same_event x b) h ∙ event_itself b))
+-- what the test on their bytes answers
+pub same_bytes-tells : (r : Bool) (a b : List ℕ) (d e : Event) → a ≡ event_bytes d → b ≡ event_bytes e → IsEvent d → IsEvent e → r ≡ bytes_eq a b → IsTrue r ↔ (d ≡ e)
+same_bytes-tells r a b d e one two is it h = (
+  λ t. same_bytes d e is it (sym one ∙ bytes_equal a b (sym h ∙ t) ∙ two),
+  λ k. h ∙ (ap (λ l. bytes_eq a l) (two ∙ ap (λ l. event_bytes l) (sym k) ∙ sym one) ∙ bytes_itself a),
+)

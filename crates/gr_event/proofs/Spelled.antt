@@ -126,7 +126,7 @@ pairs_here front (p ∷ ps) bytes before at e d each above rise =
     let rest_is = pairs_here (front ++ (head ++ value)) ps bytes p.0 (at + 2 + length p.0 + value_size p.1) (e ∙ sym (append_assoc front (head ++ value) rest)) next each.1 rise.0 rise.1 in
     rw (name_is, value_is, rest_is) refl
 
-length-pairs_bytes : (ps : Event) → length (pairs_bytes ps) ≡ pairs_size ps
+pub length-pairs_bytes : (ps : Event) → length (pairs_bytes ps) ≡ pairs_size ps
 length-pairs_bytes [] = refl
 length-pairs_bytes (p ∷ ps) =
     let head = length p.0 ∷ p.0 in

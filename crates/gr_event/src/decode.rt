@@ -8,15 +8,16 @@ ghost use Rattle.std.specs.Cmp.Lexicographic.{slice_cmp};
 ghost use Rattle.std.specs.declared.cmp.Ordering.TheVariants.{Less};
 ghost use Rattle.std.specs.List.{AllByRecursion};
 ghost use Rattle.gr_event.specs.Event.{event_bytes, value_size, pairs_size};
-ghost use Rattle.gr_event.specs.Gives.{Gives, GivesPairs};
-ghost use Rattle.gr_event.specs.Limits.{IsName, IsPair, IsValue, IsEvent, Rise, names};
+ghost use Rattle.gr_event.specs.Gives.{Gives};
+ghost use Rattle.gr_event.specs.Form.{TellsEvent};
+ghost use Rattle.gr_event.specs.Get.{part_value};
+ghost use Rattle.gr_event.specs.Limits.{IsName, IsPair, IsValue, Rise, names};
 ghost use Rattle.gr_event.specs.Decode.{byte_at, field_at, name_at, integer_at, text_value_at, truth_at, value_at, pairs_at, event_decoded};
 ghost use Rattle.gr_event.specs.declared.limits.TheConstants.{MAX_BYTES, MAX_PAIRS};
 
-use crate::event::{Event, EventFault, size_of_value};
+use crate::event::{Event, EventFault};
 use crate::limits::{MAX_BYTES, MAX_NAME, MAX_PAIRS, MAX_TEXT};
-use crate::text::Text;
-use crate::value::Value;
+use crate::value::Part;
 use byteorder::{BigEndian, ByteOrder};
 use std::alloc::Global;
 use std::cmp::Ordering;
@@ -38,8 +39,8 @@ impl Event {
         if usize::from(count) > MAX_PAIRS {
             return Err(EventFault::BadLength { at: 0 });
         }
-        let pairs = pairs_at(alloc, bytes, count)?;
-        Ok(Event::of_pairs(alloc, pairs)?)
+        pairs_at(bytes, count)?;
+        Ok(Event::of_bytes(alloc, Vec::from_slice(alloc, bytes)?)?)
     }
 }
 
@@ -57,7 +58,9 @@ fn byte_at(bytes: &[u8], at: usize) -> Result<u8, EventFault>
 /// A field of so many bytes from a place on.
 fn field_at(bytes: &[u8], at: usize, len: usize) -> Result<&[u8], EventFault>
     requires { at + len < 2 ^ 64 }
-    ensures gives { MatchResult result (λ f. field_at bytes.now at len ≡ Ok f.now) (λ e. field_at bytes.now at len ≡ Err e) }
+    ensures gives { MatchResult result
+        (λ f. field_at bytes.now at len ≡ Ok f.now)
+        (λ e. field_at bytes.now at len ≡ Err e) }
     ensures whole { IfOk result (λ f. length f.now ≡ len) }
     ensures within { IfOk result (λ f. at + len ≤ length bytes.now) }
 {
@@ -80,7 +83,9 @@ fn is_text(bytes: &[u8]) -> bool
 fn name_at<'a>(bytes: &'a [u8], at: usize, before: &[u8]) -> Result<&'a [u8], EventFault>
     requires few { length bytes.now ≤ MAX_BYTES }
     requires inside { at ≤ length bytes.now }
-    ensures gives { MatchResult result (λ n. name_at bytes.now at before.now ≡ Ok n.now) (λ e. name_at bytes.now at before.now ≡ Err e) }
+    ensures gives { MatchResult result
+        (λ n. name_at bytes.now at before.now ≡ Ok n.now)
+        (λ e. name_at bytes.now at before.now ≡ Err e) }
     ensures name { IfOk result (λ n. IsName n.now) }
     ensures within { IfOk result (λ n. at + 1 + length n.now ≤ length bytes.now) }
     ensures above { IfOk result (λ n. slice_cmp nat_cmp before.now n.now ≡ Less) }
@@ -101,16 +106,18 @@ fn name_at<'a>(bytes: &'a [u8], at: usize, before: &[u8]) -> Result<&'a [u8], Ev
 
 /// The value behind its kind.
 #[tactic(auto, unfolding(crate::specs::Decode::value_at, crate::specs::Decode::value_of_kind))]
-fn value_at(alloc: Global, bytes: &[u8], at: usize) -> Result<Value, EventFault>
+fn value_at(bytes: &[u8], at: usize) -> Result<Part<'_>, EventFault>
     requires few { length bytes.now ≤ MAX_BYTES }
     requires inside { at ≤ length bytes.now }
-    ensures gives { Gives result (value_at bytes.now at) }
-    ensures value { IfOk result IsValue }
-    ensures within { IfOk result (λ v. at + 1 + value_size v ≤ length bytes.now) }
+    ensures gives { MatchResult result
+        (λ p. value_at bytes.now at ≡ Ok (part_value p))
+        (λ e. value_at bytes.now at ≡ Err e) }
+    ensures value { IfOk result (λ p. IsValue (part_value p)) }
+    ensures within { IfOk result (λ p. at + 1 + value_size (part_value p) ≤ length bytes.now) }
 {
     match byte_at(bytes, at)? {
         1 => integer_at(bytes, at + 1),
-        2 => text_value_at(alloc, bytes, at + 1),
+        2 => text_value_at(bytes, at + 1),
         3 => truth_at(bytes, at + 1),
         _ => Err(EventFault::BadKind { at }),
     }
@@ -118,23 +125,27 @@ fn value_at(alloc: Global, bytes: &[u8], at: usize) -> Result<Value, EventFault>
 
 /// An integer of eight bytes.
 #[tactic(auto, unfolding(crate::specs::Decode::integer_at))]
-fn integer_at(bytes: &[u8], at: usize) -> Result<Value, EventFault>
+fn integer_at(bytes: &[u8], at: usize) -> Result<Part<'_>, EventFault>
     requires { at + 8 < 2 ^ 64 }
-    ensures gives { result ≡ integer_at bytes.now at }
-    ensures value { IfOk result IsValue }
-    ensures within { IfOk result (λ v. at + value_size v ≤ length bytes.now) }
+    ensures gives { MatchResult result
+        (λ p. integer_at bytes.now at ≡ Ok (part_value p))
+        (λ e. integer_at bytes.now at ≡ Err e) }
+    ensures value { IfOk result (λ p. IsValue (part_value p)) }
+    ensures within { IfOk result (λ p. at + value_size (part_value p) ≤ length bytes.now) }
 {
     let field = field_at(bytes, at, 8)?;
-    Ok(Value::Int(number_of(field)))
+    Ok(Part::Int(number_of(field)))
 }
 
 /// A text behind its length of two bytes.
 #[tactic(auto, unfolding(crate::specs::Decode::text_value_at, crate::specs::Decode::text_of_length), using(crate::proofs::Decoding::told_text))]
-fn text_value_at(alloc: Global, bytes: &[u8], at: usize) -> Result<Value, EventFault>
+fn text_value_at(bytes: &[u8], at: usize) -> Result<Part<'_>, EventFault>
     requires { at + 65538 < 2 ^ 64 }
-    ensures gives { Gives result (text_value_at bytes.now at) }
-    ensures value { IfOk result IsValue }
-    ensures within { IfOk result (λ v. at + value_size v ≤ length bytes.now) }
+    ensures gives { MatchResult result
+        (λ p. text_value_at bytes.now at ≡ Ok (part_value p))
+        (λ e. text_value_at bytes.now at ≡ Err e) }
+    ensures value { IfOk result (λ p. IsValue (part_value p)) }
+    ensures within { IfOk result (λ p. at + value_size (part_value p) ≤ length bytes.now) }
 {
     let len = length_of(field_at(bytes, at, 2)?);
     if usize::from(len) > MAX_TEXT {
@@ -144,49 +155,61 @@ fn text_value_at(alloc: Global, bytes: &[u8], at: usize) -> Result<Value, EventF
     if !is_text(text) {
         return Err(EventFault::BadText { at: at + 2 });
     }
-    Ok(Value::Text(Text::from_slice(alloc, text)?))
+    Ok(Part::Text(text))
 }
 
 /// A truth value of one byte.
 #[tactic(auto, unfolding(crate::specs::Decode::truth_at))]
-fn truth_at(bytes: &[u8], at: usize) -> Result<Value, EventFault>
-    ensures gives { result ≡ truth_at bytes.now at }
-    ensures value { IfOk result IsValue }
-    ensures within { IfOk result (λ v. at + value_size v ≤ length bytes.now) }
+fn truth_at(bytes: &[u8], at: usize) -> Result<Part<'_>, EventFault>
+    ensures gives { MatchResult result
+        (λ p. truth_at bytes.now at ≡ Ok (part_value p))
+        (λ e. truth_at bytes.now at ≡ Err e) }
+    ensures value { IfOk result (λ p. IsValue (part_value p)) }
+    ensures within { IfOk result (λ p. at + value_size (part_value p) ≤ length bytes.now) }
 {
     match byte_at(bytes, at)? {
-        0 => Ok(Value::Bool(false)),
-        1 => Ok(Value::Bool(true)),
+        0 => Ok(Part::Bool(false)),
+        1 => Ok(Part::Bool(true)),
         _ => Err(EventFault::BadKind { at }),
     }
 }
 
-/// So many pairs behind their count, and nothing after them.
-fn pairs_at(alloc: Global, bytes: &[u8], count: u8) -> Result<Vec<(Text, Value)>, EventFault>
+/// Whether so many pairs stand behind their count, and nothing after them.
+fn pairs_at(bytes: &[u8], count: u8) -> Result<(), EventFault>
     requires some { 1 ≤ length bytes.now }
     requires short { length bytes.now ≤ MAX_BYTES }
     requires few { count ≤ MAX_PAIRS }
-    ensures gives { GivesPairs result (pairs_at bytes.now count 1 []) }
-    ensures event { IfOk result (λ v. IsEvent v.items) }
+    ensures { TellsEvent result (pairs_at bytes.now count 1 []) }
 {
-    let mut found = Vec::new(alloc);
     let mut before: &[u8] = &[];
     let mut at = 1;
     for _ in 0..count {
         let name = name_at(bytes, at, before)?;
-        let value = value_at(alloc, bytes, at + 1 + name.len())?;
-        at += 2 + name.len() + size_of_value(&value);
-        found.push((Text::from_slice(alloc, name)?, value))?;
+        let part = value_at(bytes, at + 1 + name.len())?;
+        at += 2 + name.len() + size_of_part(part);
         before = name;
     }
     if at < bytes.len() {
         return Err(EventFault::Trailing { at });
     }
-    Ok(found)
+    Ok(())
+}
+
+/// How many bytes a value takes behind its kind.
+fn size_of_part(part: Part<'_>) -> usize
+    requires { IsValue (part_value part) }
+    ensures size { result ≡ value_size (part_value part.entry) }
+    ensures bound { result ≤ 1026 }
+{
+    match part {
+        Part::Int(_) => 8,
+        Part::Text(text) => 2 + text.len(),
+        Part::Bool(_) => 1,
+    }
 }
 
 /// The integer that eight bytes spell.
-fn number_of(field: &[u8]) -> i64
+pub(crate) fn number_of(field: &[u8]) -> i64
     requires { length field.now ≡ 8 }
     ensures { result ≡ cast_signed w64 (from_be_bytes w64 field.now) }
 {
@@ -194,7 +217,7 @@ fn number_of(field: &[u8]) -> i64
 }
 
 /// The length that two bytes spell.
-fn length_of(field: &[u8]) -> u16
+pub(crate) fn length_of(field: &[u8]) -> u16
     requires { length field.now ≡ 2 }
     ensures { result ≡ from_be_bytes w16 field.now }
 {

@@ -26,12 +26,12 @@ impl Event {
         ensures bytes { into.new ≡ event_bytes self.now }
         ensures decodes_back { event_decoded into.new ≡ Ok self.now }
     {
-        put_event(self.pairs(), into);
+        into.copy_from_slice(self.bytes());
     }
 }
 
 /// Writes pairs behind their count into a slice of exactly their size.
-fn put_event(pairs: &[(Text, Value)], into: &mut [u8])
+pub(crate) fn put_event(pairs: &[(Text, Value)], into: &mut [u8])
     requires few { length pairs.now ≤ MAX_PAIRS }
     requires each { AllByRecursion IsPair pairs.now }
     requires room { length into.old ≡ event_size pairs.now }

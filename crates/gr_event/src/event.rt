@@ -2,16 +2,19 @@
 
 ghost use Rattle.std.specs.Prelude.{◌≡◌, ◌↔◌, ◌+◌, ◌<◌, ◌≤◌, ◌*◌, IsTrue, IfOk, Some, length, nat_eq, option_map, slice_get};
 ghost use Rattle.std.specs.List.{AllByRecursion};
-ghost use Rattle.gr_event.specs.Event.{same_event, event_size, pairs_size, value_size};
+ghost use Rattle.gr_event.specs.Event.{event_bytes, event_size, pairs_size, value_size};
+ghost use Rattle.gr_event.specs.Form.{AreOfEvent, event_of};
 ghost use Rattle.gr_event.specs.Limits.{IsEvent, ArePairs, IsPair, IsValue};
 ghost use Rattle.gr_event.specs.Get.{part_value, value_of};
 ghost use Rattle.gr_event.specs.Gives.{Gives};
 ghost use Rattle.gr_event.specs.Json.{short_event};
 ghost use Rattle.gr_event.specs.declared.limits.TheConstants.{MAX_BYTES, MAX_PAIRS};
 
+use crate::encode::put_event;
 use crate::limits::MAX_BYTES;
 use crate::text::Text;
 use crate::value::{Part, Value};
+use crate::walk::{find, nth};
 use gr_gap::Shared;
 use std::alloc::{AllocError, AllocFailed, Global};
 use std::marker::Model;
@@ -19,10 +22,10 @@ use std::marker::Model;
 /// No memory was given.
 pub type Memory = AllocError;
 
-/// An event, seen as its list of names and values, rising by name.
+/// An event, seen as its list of names and values, rising by name. It is kept as its form in bytes.
 #[derive(Drop)]
 pub struct Event {
-    pairs: Shared<Vec<(Text, Value)>>,
+    bytes: Shared<Vec<u8>>,
 }
 
 impl Model for Event {
@@ -31,11 +34,11 @@ impl Model for Event {
 
     ghost Value = { List (List ℕ × EventValue) };
 
-    ghost use Rattle.gr_event.specs.Limits.{IsEvent};
+    ghost use Rattle.gr_event.specs.Form.{AreOfEvent, event_of};
 
-    ghost view = { λ e. e.pairs.items };
+    ghost view = { λ e. event_of e.bytes.items };
 
-    ghost invariant = { λ e. IsEvent e.pairs.items };
+    ghost invariant = { λ e. AreOfEvent e.bytes.items };
 }
 
 impl Event {
@@ -44,8 +47,18 @@ impl Event {
         requires { IsEvent pairs.items }
         ensures { IfOk result (λ e. e ≡ pairs.items) }
     {
+        let mut bytes = vec![in alloc; 0u8; 1 + size_of_pairs(&pairs)]?;
+        put_event(&pairs, &mut bytes);
+        Event::of_bytes(alloc, bytes)
+    }
+
+    /// The event of these bytes.
+    pub(crate) fn of_bytes(alloc: Global, bytes: Vec<u8>) -> Result<Event, Memory>
+        requires { AreOfEvent bytes.items }
+        ensures { IfOk result (λ e. e ≡ event_of bytes.items) }
+    {
         Ok(Event {
-            pairs: Shared::new(alloc, pairs)?,
+            bytes: Shared::new(alloc, bytes)?,
         })
     }
 
@@ -68,7 +81,7 @@ impl Event {
         ensures { result ≡ self.now }
     {
         Event {
-            pairs: self.pairs.share(),
+            bytes: self.bytes.share(),
         }
     }
 
@@ -76,7 +89,7 @@ impl Event {
     pub fn same(&self, other: &Event) -> bool
         ensures { IsTrue result ↔ (self.now ≡ other.now) }
     {
-        same_pairs(self.pairs.get(), other.pairs.get())
+        self.bytes() == other.bytes()
     }
 
     /// How many bytes its form in bytes has, at most 8,192. Takes no memory.
@@ -85,14 +98,14 @@ impl Event {
         ensures short { result ≤ MAX_BYTES }
         ensures event { IsEvent self.now }
     {
-        1 + size_of_pairs(self.pairs.get())
+        self.bytes().len()
     }
 
     /// The value of a name, if the event has it. Takes no memory.
     pub fn get(&self, name: &[u8]) -> Option<Part<'_>>
         ensures { option_map part_value result ≡ value_of name.now self.now }
     {
-        find(self.pairs.get(), name)
+        find(&self.bytes()[1..], name)
     }
 
     /// How many names it has, at most 32. Takes no memory.
@@ -100,14 +113,14 @@ impl Event {
         ensures len { result ≡ length self.now }
         ensures event { IsEvent self.now }
     {
-        self.pairs.get().len()
+        usize::from(self.bytes()[0])
     }
 
     /// Whether it has no name. Takes no memory.
     pub fn is_empty(&self) -> bool
         ensures { result ≡ nat_eq (length self.now) 0 }
     {
-        self.pairs.get().is_empty()
+        self.len() == 0
     }
 
     /// The name and the value at a place, from 0 on by rising name. Takes no memory.
@@ -115,31 +128,15 @@ impl Event {
         requires { i < length self.now }
         ensures { slice_get self.now i ≡ Some (result.0.now, part_value result.1) }
     {
-        let pair = &self.pairs.get()[i];
-        (pair.0.as_slice(), pair.1.part())
+        nth(&self.bytes()[1..], i)
     }
 
-    /// Its pairs.
-    pub(crate) fn pairs(&self) -> &[(Text, Value)]
-        ensures pairs { result.now ≡ self.now }
+    /// Its form in bytes.
+    pub(crate) fn bytes(&self) -> &[u8]
+        ensures bytes { result.now ≡ event_bytes self.now }
         ensures event { IsEvent self.now }
     {
-        self.pairs.get()
-    }
-}
-
-/// Whether two lists of pairs are the same.
-fn same_pairs(left: &[(Text, Value)], right: &[(Text, Value)]) -> bool
-    ensures { result ≡ same_event left.now right.now }
-{
-    match left {
-        [] => right.is_empty(),
-        [first, rest @ ..] => match right {
-            [] => false,
-            [second, others @ ..] => {
-                first.0.same(&second.0) && first.1.same(&second.1) && same_pairs(rest, others)
-            }
-        },
+        self.bytes.get()
     }
 }
 
@@ -166,22 +163,6 @@ pub(crate) fn size_of_value(value: &Value) -> usize
         Value::Int(_) => 8,
         Value::Text(text) => 2 + text.len(),
         Value::Bool(_) => 1,
-    }
-}
-
-/// The value of a name among pairs.
-fn find<'a>(pairs: &'a [(Text, Value)], name: &[u8]) -> Option<Part<'a>>
-    ensures { option_map part_value result ≡ value_of name.now pairs.now }
-{
-    match pairs {
-        [] => None,
-        [first, rest @ ..] => {
-            if first.0.as_slice() == name {
-                Some(first.1.part())
-            } else {
-                find(rest, name)
-            }
-        }
     }
 }
 

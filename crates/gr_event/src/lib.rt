@@ -13,6 +13,7 @@ pub mod print;
 mod tests;
 pub mod text;
 pub mod value;
+mod walk;
 
 pub use event::{Event, EventFault, Memory};
 pub use law::{limits_of_events, printed_events_read_back};

@@ -1,15 +1,18 @@
 //! Events to JSON: tokens that `json` writes at the end of a text.
 
 ghost use Rattle.std.specs.Prelude.{◌≡◌, ◌++◌, Ok, IfOk, OnOk, OnErr, IsUtf8};
-ghost use Rattle.std.specs.List.{AllByRecursion};
 ghost use Rattle.json.specs.Token.{key};
 ghost use Rattle.json.specs.Written.{Writes};
 ghost use Rattle.gr_event.specs.Json.{value_token, members_tokens_of, event_tokens, json_text, event_text};
-ghost use Rattle.gr_event.specs.Limits.{IsEvent, IsPair, IsValue};
+ghost use Rattle.gr_event.specs.Limits.{IsEvent, IsValue};
+ghost use Rattle.gr_event.specs.Form.{Spell};
+ghost use Rattle.gr_event.specs.Get.{part_value};
+ghost use Rattle.gr_event.specs.declared.event.Event.{Event};
 
 use crate::event::{Event, Memory};
 use crate::text::Text;
-use crate::value::Value;
+use crate::value::Part;
+use crate::walk::front;
 use json::Writer;
 use std::alloc::Global;
 
@@ -33,7 +36,7 @@ impl Event {
     {
         let before = into.len();
         let mut writer = Writer::new(into.take());
-        let written = write_event(self.pairs(), &mut writer);
+        let written = write_event(&self.bytes()[1..], &mut writer);
         *into = Text::from_vec(writer.into_inner());
         if written.is_err() {
             into.truncate(before);
@@ -43,29 +46,30 @@ impl Event {
 }
 
 /// Writes the object of an event's pairs. At want of memory some of its tokens may stand there.
-fn write_event(pairs: &[(Text, Value)], writer: &mut Writer) -> Result<(), Memory>
-    requires { AllByRecursion IsPair pairs.now }
-    ensures ok { OnOk result (writer.new.tokens ≡ writer.old.tokens ++ event_tokens pairs.now) }
+fn write_event(rest: &[u8], writer: &mut Writer) -> Result<(), Memory>
+    requires { (ps : Event) × Spell rest.now ps }
+    ensures ok { OnOk result
+        ((ps : Event) → Spell rest.now ps → writer.new.tokens ≡ writer.old.tokens ++ event_tokens ps) }
     ensures before { writer.new.before ≡ writer.old.before }
 {
     writer.begin_object()?;
-    write_members(pairs, writer)
+    write_members(rest, writer)
 }
 
 /// Writes the members of an object and its closing bracket. At want of memory some of them may stand there.
-fn write_members(pairs: &[(Text, Value)], writer: &mut Writer) -> Result<(), Memory>
-    requires { AllByRecursion IsPair pairs.now }
-    ensures ok { OnOk result (writer.new.tokens ≡ writer.old.tokens ++ members_tokens_of pairs.now) }
+fn write_members(rest: &[u8], writer: &mut Writer) -> Result<(), Memory>
+    requires { (ps : Event) × Spell rest.now ps }
+    ensures ok { OnOk result
+        ((ps : Event) → Spell rest.now ps → writer.new.tokens ≡ writer.old.tokens ++ members_tokens_of ps) }
     ensures before { writer.new.before ≡ writer.old.before }
 {
-    match pairs {
-        [] => writer.end_object(),
-        [first, rest @ ..] => {
-            write_name(first.0.as_slice(), writer)?;
-            write_value(&first.1, writer)?;
-            write_members(rest, writer)
-        }
+    if rest.is_empty() {
+        return writer.end_object();
     }
+    let (name, part, others) = front(rest);
+    write_name(name, writer)?;
+    write_part(part, writer)?;
+    write_members(others, writer)
 }
 
 fn write_name(name: &[u8], writer: &mut Writer) -> Result<(), Memory>
@@ -78,16 +82,16 @@ fn write_name(name: &[u8], writer: &mut Writer) -> Result<(), Memory>
     }
 }
 
-fn write_value(value: &Value, writer: &mut Writer) -> Result<(), Memory>
-    requires { IsValue value.now }
-    ensures { Writes result writer.old writer.new (value_token value.now) }
+fn write_part(part: Part<'_>, writer: &mut Writer) -> Result<(), Memory>
+    requires { IsValue (part_value part) }
+    ensures { Writes result writer.old writer.new (value_token (part_value part.entry)) }
 {
-    match value {
-        Value::Int(number) => writer.i64(*number),
-        Value::Text(text) => match std::str::from_utf8(text.as_slice()) {
+    match part {
+        Part::Int(number) => writer.i64(number),
+        Part::Text(text) => match std::str::from_utf8(text) {
             Ok(text) => writer.string(text),
             Err(_) => unreachable!(),
         },
-        Value::Bool(holds) => writer.boolean(*holds),
+        Part::Bool(holds) => writer.boolean(holds),
     }
 }

@@ -1,0 +1,98 @@
+-- Pairs where they stand in bytes: what the first of them is, and what is behind it
+use Rattle.std.proofs.Common.{suc, ◌≡◌, ◌<◌, ◌-◌, ℕ, List, [], ◌∷◌, length, take, drop, get_or, true, false, Option, Some, None, Ok, slice_get, ap, ap₂, refl, sym, subst, ◌∙◌, arith}
+use Rattle.std.specs.Prelude.{bytes_eq}
+use Rattle.std.proofs.lemmas.List.{take_all}
+use Rattle.gr_event.specs.declared.value.Value.{Value}
+use Rattle.gr_event.specs.declared.event.Event.{Event}
+use Rattle.gr_event.specs.Event.{event_bytes, pairs_bytes, event_size}
+use Rattle.gr_event.specs.Limits.{IsEvent}
+use Rattle.gr_event.specs.Form.{Spell, AreOfEvent, event_of, read_or_none}
+use Rattle.gr_event.specs.Get.{value_of}
+use Rattle.gr_event.specs.Decode.{event_decoded}
+use Rattle.gr_event.proofs.Spelled.{decodes_back, length-pairs_bytes}
+use Rattle.gr_event.proofs.Told.{only_its_bytes}
+
+-- no bytes are those of no pair alone
+pub nothing : (bytes : List ℕ) (ps : Event) → Spell bytes ps → length bytes ≡ 0 → ps ≡ []
+nothing bytes [] h none = refl
+nothing bytes (p ∷ ps) h none = absurd (let e = ap length h.spelled in omega arith)
+
+-- some bytes are those of some pair
+pub something : (bytes : List ℕ) (ps : Event) → Spell bytes ps → 0 < length bytes → (p : List ℕ × Value) × (qs : Event) × Spell bytes (p ∷ qs)
+something bytes [] h some = absurd (let e = ap length h.spelled in omega arith)
+something bytes (p ∷ ps) h some = (p, ps, h)
+
+pub none_found : (bytes name : List ℕ) (ps : Event) → Spell bytes ps → length bytes ≡ 0 → None ≡ value_of name ps
+none_found bytes name ps h none = ap (λ (l : Event). value_of name l) (sym (nothing bytes ps h none))
+
+pub some_front : (i : ℕ) (bytes : List ℕ) (ps : Event) → Spell bytes ps → i < length ps
+    → (p : List ℕ × Value) × (qs : Event) × Spell bytes (p ∷ qs) × (i < suc (length qs))
+some_front i bytes [] h within = absurd (omega arith)
+some_front i bytes (p ∷ ps) h within = (p, ps, h, within)
+
+-- what is known of the first pair: its name, its value and the bytes behind it
+abbrev pub FrontOf : List ℕ → List ℕ → Value → List ℕ → Type 0
+FrontOf bytes name value others = (p : List ℕ × Value) (ps : Event) → Spell bytes (p ∷ ps) → (name ≡ p.0) × (value ≡ p.1) × Spell others ps
+
+-- the first pair has the name
+pub found_here : (bytes name first others : List ℕ) (value : Value) (ps : Event) → Spell bytes ps → 0 < length bytes → FrontOf bytes first value others
+    → bytes_eq first name ≡ true → Some value ≡ value_of name ps
+found_here bytes name first others value [] h some front is = absurd (let e = ap length h.spelled in omega arith)
+found_here bytes name first others value (p ∷ ps) h some front is =
+    let f = front p ps h in
+    rw (ap (λ l. bytes_eq l name) (sym f.0) ∙ is) (ap (λ v. Some v) f.1)
+
+-- the first pair has another name
+pub found_behind : (bytes name first others : List ℕ) (value : Value) (r : Option Value) (ps : Event) → Spell bytes ps → 0 < length bytes
+    → FrontOf bytes first value others → bytes_eq first name ≡ false
+    → ((qs : Event) → Spell others qs → r ≡ value_of name qs) → r ≡ value_of name ps
+found_behind bytes name first others value r [] h some front other rest = absurd (let e = ap length h.spelled in omega arith)
+found_behind bytes name first others value r (p ∷ ps) h some front other rest =
+    let f = front p ps h in
+    rw (ap (λ l. bytes_eq l name) (sym f.0) ∙ other) (rest ps f.2)
+
+-- the pair at a place
+pub at_front : (bytes first others : List ℕ) (value : Value) (i : ℕ) (ps : Event) → Spell bytes ps → 0 < length bytes → FrontOf bytes first value others
+    → i ≡ 0 → slice_get ps i ≡ Some (first, value)
+at_front bytes first others value i [] h some front zeroth = absurd (let e = ap length h.spelled in omega arith)
+at_front bytes first others value i (p ∷ ps) h some front zeroth =
+    let f = front p ps h in
+    rw zeroth (ap₂ (λ (n : List ℕ) (v : Value). Some (n, v)) (sym f.0) (sym f.1))
+
+pub at_behind : (bytes first others : List ℕ) (value : Value) (i j : ℕ) (r : Option (List ℕ × Value)) (ps : Event) → Spell bytes ps → 0 < length bytes
+    → FrontOf bytes first value others → i ≡ suc j → ((qs : Event) → Spell others qs → slice_get qs j ≡ r) → slice_get ps i ≡ r
+at_behind bytes first others value i j r [] h some front next rest = absurd (let e = ap length h.spelled in omega arith)
+at_behind bytes first others value i j r (p ∷ ps) h some front next rest =
+    let f = front p ps h in
+    rw next (rest ps f.2)
+
+-- the bytes of an event are those of one, and it is that one
+pub of_its_bytes : (e : Event) → IsEvent e → event_of (event_bytes e) ≡ e
+unfolding event_of
+of_its_bytes e is = ap read_or_none (decodes_back e is)
+
+pub are_of_event : (bytes : List ℕ) (e : Event) → IsEvent e → bytes ≡ event_bytes e → AreOfEvent bytes
+are_of_event bytes e is h =
+    let one : event_of bytes ≡ e = ap event_of h ∙ of_its_bytes e is in
+    record { event = subst IsEvent (sym one) is; spelled = h ∙ ap (λ l. event_bytes l) (sym one) }
+
+pub length_of_event : (bytes : List ℕ) (e : Event) → bytes ≡ event_bytes e → length bytes ≡ event_size e
+length_of_event bytes e h = omega (arith, ap length h, length-pairs_bytes e)
+
+-- bytes that decode to an event are its bytes
+pub are_read : (bytes : List ℕ) (e : Event) → ((i : ℕ) → get_or bytes i 0 < 256) → event_decoded bytes ≡ Ok e → IsEvent e → AreOfEvent bytes
+unfolding event_of
+are_read bytes e fits h is = are_of_event bytes e is (only_its_bytes bytes e fits h)
+
+-- and the event that they are kept as
+pub is_read : (bytes : List ℕ) (e : Event) → event_decoded bytes ≡ Ok e → event_of bytes ≡ e
+unfolding event_of
+is_read bytes e h = ap read_or_none h
+
+-- events are the same where their bytes are
+pub same_bytes : (a b : Event) → IsEvent a → IsEvent b → event_bytes a ≡ event_bytes b → a ≡ b
+same_bytes a b is it h = sym (of_its_bytes a is) ∙ ap event_of h ∙ of_its_bytes b it
+
+-- the pairs of an event stand behind its count
+pub behind_count : (bytes : List ℕ) (e : Event) → IsEvent e → bytes ≡ event_bytes e → Spell (take (length bytes - 1) (drop 1 bytes)) e
+behind_count bytes e is h = record { each = is.pairs.each; spelled = ap (λ l. take (length l - 1) (drop 1 l)) h ∙ take_all (suc (length (pairs_bytes e)) - 1) (pairs_bytes e) (omega arith) }
