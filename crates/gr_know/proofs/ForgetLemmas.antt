@@ -15,7 +15,7 @@ data_count-append : (xs ys : Known) → data_count (xs ++ ys) ≡ data_count xs 
 data_count-append [] ys = omega arith
 data_count-append (x ∷ xs) ys = omega (arith, data_count-append xs ys)
 
-lower_past : (n upto : ℕ) (r : Run K) (rs : Known) → (is_D r.value && nat_le r.first upto) ≡ false → lower_data n upto (r ∷ rs) ≡ r ∷ lower_data n upto rs
+pub lower_past : (n upto : ℕ) (r : Run K) (rs : Known) → (is_D r.value && nat_le r.first upto) ≡ false → lower_data n upto (r ∷ rs) ≡ r ∷ lower_data n upto rs
 unfolding lower_data
 lower_past n upto r rs e = rw (e, lower_data) refl
 

@@ -8,7 +8,8 @@ use Rattle.gr_tick.proofs.RunLaws.{value_at-in, value_at-below, value_at-above, 
 use Rattle.gr_know.specs.declared.values.K.{K}
 use Rattle.gr_know.specs.declared.values.K.TheVariants.{Q}
 use Rattle.gr_know.specs.Values.{Known, known_at, is_D}
-use Rattle.gr_know.specs.Forget.{data_count, without_front, lower_data, forgotten, Forgets}
+use Rattle.gr_know.specs.Forget.{data_count, without_front, lower_data, forgotten, Forgets, NoDataBelow}
+use Rattle.gr_know.proofs.DataBelow.{none_of}
 
 -- A run without its front
 
@@ -202,6 +203,12 @@ lowers n upto from one (q ∷ qs) a = go (goes upto q) refl (lowers (n - going n
           | inr l ↦ partly x.0 (leb-true q.first upto x.1) l i
         ]
 
+-- below a tick without an event before it there is none after
+pub below_lowered : (n count upto : ℕ) (know : Known) → AreRuns Q know → NoDataBelow n know → NoDataBelow n (lower_data count upto know)
+below_lowered n count upto know a b = λ t h.
+    let l = lowers count upto 1 (omega arith) know a in
+    ap is_D (l.each t) ∙ none_of (is_D (known_at know t) && nat_le t l.last) Q (known_at know t) refl (b t h)
+
 -- By the rule
 
 -- the runs that forgetting leaves are those of its rule
@@ -227,3 +234,10 @@ forgotten-is limit upto know a = record {
           | inl y ↦ let e : data_count kept ≡ data_count know = ap data_count (lowered.none (omega (arith, y))) in absurd (omega (arith, l, y, e))
           | inr y ↦ omega (arith, l, y)
         ]
+
+-- where no more than the limit have an event, none is forgotten
+pub none_forgotten : (limit upto : ℕ) (know : Known) → AreRuns Q know → data_count know - limit ≡ 0 → know ≡ forgotten limit upto know
+unfolding forgotten
+none_forgotten limit upto know a e =
+    let l = lowers (data_count know - limit) upto 1 (omega arith) know a in
+    sym (l.none e)

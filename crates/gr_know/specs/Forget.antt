@@ -14,6 +14,10 @@ abbrev pub data_count : Known → ℕ
 data_count [] = 0
 data_count (r ∷ rs) = data_of r + data_count rs
 
+-- no tick below this one has an event
+abbrev pub NoDataBelow : ℕ → Known → Type 0
+NoDataBelow n know = (t : ℕ) → t < n → is_D (known_at know t) ≡ false
+
 -- a run without its first n ticks
 abbrev pub without_front : ℕ → Run K → Known → Known
 without_front n r rs = if nat_lt r.last (r.first + n) then rs else record { first = r.first + n; last = r.last; value = r.value } ∷ rs

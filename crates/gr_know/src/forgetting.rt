@@ -1,11 +1,11 @@
 //! Forgetting: the least ticks with an event are made unknown, run by run.
-ghost use Rattle.std.specs.Prelude.{◌≡◌, ℕ, ◌-◌, ◌+◌, ◌<◌, ◌≤◌, ◌&&◌, nat_le, take, drop, ◌++◌, length};
-ghost use Rattle.gr_know.specs.Values.{is_D};
-ghost use Rattle.gr_know.specs.Forget.{data_count, lower_data};
+ghost use Rattle.std.specs.Prelude.{◌≡◌, ℕ, ◌-◌, ◌+◌, ◌^◌, ◌<◌, ◌≤◌, ◌&&◌, true, nat_le, take, drop, ◌++◌, length};
+ghost use Rattle.gr_know.specs.Values.{known_at, is_D};
+ghost use Rattle.gr_know.specs.Forget.{data_count, lower_data, NoDataBelow};
 
 use crate::events::is_data;
 use crate::values::K;
-use gr_tick::{Run, Stream};
+use gr_tick::{Piece, Run, Stream};
 
 /// Whether a run has an event at a tick up to a given one.
 fn may_lower(run: &Run<K>, upto: u64) -> bool
@@ -14,15 +14,51 @@ fn may_lower(run: &Run<K>, upto: u64) -> bool
     is_data(run) && run.first <= upto
 }
 
+/// The least tick with an event, or 2^64 - 1 where there is none. It looks at no run that ends below a tick below which there is
+/// none.
+pub fn first_data(stream: &Stream<K>, from: u64) -> u64
+    requires none { NoDataBelow from stream.now.runs }
+    ensures none { NoDataBelow result stream.now.runs }
+    ensures event { result < 2 ^ 64 - 1 → is_D (known_at stream.now.runs result) ≡ true }
+{
+    // Proof only: the runs are canonical.
+    let _ = stream.len();
+    for i in stream.seek(from)..stream.len() {
+        let run = stream.run(i);
+        if is_data(run) {
+            return run.first;
+        }
+    }
+    u64::MAX
+}
+
+/// The least tick of a piece with an event, or 2^64 - 1 where there is none.
+pub fn first_data_of(piece: &Piece<K>) -> u64
+    ensures none { NoDataBelow result piece.now }
+    ensures event { result < 2 ^ 64 - 1 → is_D (known_at piece.now result) ≡ true }
+{
+    for i in 0..piece.len() {
+        let run = piece.run(i);
+        if is_data(run) {
+            return run.first;
+        }
+    }
+    u64::MAX
+}
+
 /// Makes so many ticks with an event unknown, the least ones first and none past a tick, and answers how many are left to do,
-/// since no more have an event up to there. It looks at no run where there are none to do, and at one past that tick at most.
-pub fn forget_data(stream: &mut Stream<K>, count: u64, upto: u64) -> u64
+/// since no more have an event up to there. None below `from` has one. It looks at no run that ends below it, at none where
+/// there are none to do, and at one past `upto` at most.
+pub fn forget_data(stream: &mut Stream<K>, from: u64, count: u64, upto: u64) -> u64
+    requires none { NoDataBelow from stream.old.runs }
     ensures lowered { stream.new.runs ≡ lower_data count upto stream.old.runs }
     ensures fewer { result ≤ count }
     ensures counted { data_count stream.new.runs + (count - result) ≡ data_count stream.old.runs }
 {
+    // Proof only: the runs are canonical.
+    let _ = stream.len();
     let mut left = count;
-    let mut i = 0;
+    let mut i = stream.seek(from);
     while left > 0 && i < stream.len() && stream.run(i).first <= upto {
         (i, left) = lower_run(stream, i, left, upto);
     }

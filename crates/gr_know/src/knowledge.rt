@@ -7,7 +7,7 @@ ghost use Rattle.gr_know.specs.Forget.{data_of, data_count, lower_data, forgotte
 ghost use Rattle.gr_know.specs.declared.values.K.TheVariants.{Q, F};
 
 use crate::events::{finish_counted, join_counted};
-use crate::forgetting::forget_data;
+use crate::forgetting::{first_data, first_data_of, forget_data};
 use crate::news::{find_clash, fresh_piece, horizon_with, joined_piece};
 use crate::values::K;
 use gr_tick::{Piece, Run, Stream};
@@ -33,19 +33,21 @@ pub struct Know {
     stream: Stream<K>,
     // How many ticks have an event.
     events: u64,
+    // No tick below it has an event: forgetting begins here, and not at the first run.
+    no_data_below: u64,
 }
 
 impl Model for Know {
     ghost use Rattle.std.specs.Prelude.{◌≡◌};
     ghost use Rattle.gr_tick.specs.Kept.{Kept};
     ghost use Rattle.gr_know.specs.declared.values.K.{K};
-    ghost use Rattle.gr_know.specs.Forget.{data_count};
+    ghost use Rattle.gr_know.specs.Forget.{data_count, NoDataBelow};
 
     ghost Value = { Kept K };
 
     ghost view = { λ k. k.stream };
 
-    ghost invariant = { λ k. k.events ≡ data_count k.stream.runs };
+    ghost invariant = { λ k. (k.events ≡ data_count k.stream.runs) × NoDataBelow k.no_data_below k.stream.runs };
 }
 
 impl Know {
@@ -58,6 +60,7 @@ impl Know {
             alloc,
             stream: Stream::new(alloc),
             events: 0,
+            no_data_below: u64::MAX,
         }
     }
 
@@ -72,6 +75,7 @@ impl Know {
             alloc: self.alloc,
             stream,
             events: self.events,
+            no_data_below: self.no_data_below,
         })
     }
 
@@ -202,6 +206,7 @@ impl Know {
         ensures joined { RunsGive Q self.new.runs (λ t. join_K (known_at self.old.runs t) (known_at piece.now t)) }
         ensures spare { self.old.spare ≤ self.new.spare + needed self.old.runs piece.now }
     {
+        self.no_data_below = self.no_data_below.min(first_data_of(piece));
         self.events = join_counted(&mut self.stream, piece, self.events);
     }
 
@@ -275,7 +280,11 @@ impl Know {
         // Proof only: the runs are canonical before and after.
         let _ = self.stream.len();
         let too_many = self.events.saturating_sub(u64::from(limit));
-        let left = forget_data(&mut self.stream, too_many, upto);
+        if too_many == 0 {
+            return Ok(());
+        }
+        self.no_data_below = first_data(&self.stream, self.no_data_below);
+        let left = forget_data(&mut self.stream, self.no_data_below, too_many, upto);
         self.events -= too_many - left;
         let _ = self.stream.len();
         Ok(())
