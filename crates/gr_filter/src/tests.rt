@@ -1,4 +1,4 @@
-use crate::{FilterFault, Kleene, Node, parse, text, truth};
+use crate::{Filter, FilterFault, Kleene, Node, parse, text, truth};
 use gr_event::{Event, Text};
 use std::alloc::Global;
 use std::test::Fail;
@@ -105,15 +105,26 @@ fn letter(value: Kleene) -> u8 {
     }
 }
 
+/// The truth of a filter on an event.
+fn judged(alloc: Global, filter: &Filter, event: &[u8]) -> Result<Kleene, Fail> {
+    let event = Event::from_text(alloc, event)?;
+    Ok(truth(filter, &event))
+}
+
 /// The truth of a filter on each of the events.
-fn letters(alloc: Global, written: &str) -> Result<Vec<u8>, Fail> {
-    let filter = parse(alloc, written.as_bytes())?;
+fn letters_of(alloc: Global, filter: &Filter) -> Result<Vec<u8>, Fail> {
     let mut found = Vec::new(alloc);
     for event in EVENTS.iter() {
-        let event = Event::from_text(alloc, event.as_bytes())?;
-        found.push(letter(truth(&filter, &event)))?;
+        let value = judged(alloc, filter, event.as_bytes())?;
+        found.push(letter(value))?;
     }
     Ok(found)
+}
+
+/// The truth of a written filter on each of the events.
+fn letters(alloc: Global, written: &str) -> Result<Vec<u8>, Fail> {
+    let filter = parse(alloc, written.as_bytes())?;
+    letters_of(alloc, &filter)
 }
 
 #[test]
@@ -125,21 +136,37 @@ fn judges_events(rt: HostRuntime) -> Result<(), Fail> {
     Ok(())
 }
 
-/// The truth of `sym LIKE` a pattern of thirty times `%a` and an end, where `sym` is a thousand times `a`.
-fn long_like(alloc: Global, end: &[u8]) -> Result<Kleene, Fail> {
+/// `sym LIKE` a pattern of thirty times `%a` and an end.
+fn long_pattern(alloc: Global, end: &[u8]) -> Result<Text, Fail> {
     let mut written = Text::from_slice(alloc, b"sym LIKE '")?;
     for _ in 0..30 {
         written.append(b"%a")?;
     }
     written.append(end)?;
+    Ok(written)
+}
+
+/// An event whose `sym` is a thousand times `a`.
+fn long_event(alloc: Global) -> Result<Text, Fail> {
     let mut json = Text::from_slice(alloc, b"{\"sym\":\"")?;
     for _ in 0..1000 {
         json.push(b'a')?;
     }
     json.append(b"\"}")?;
-    let filter = parse(alloc, written.as_slice())?;
-    let event = Event::from_text(alloc, json.as_slice())?;
-    Ok(truth(&filter, &event))
+    Ok(json)
+}
+
+/// The truth of a written filter on an event.
+fn read_and_judged(alloc: Global, written: &[u8], event: &[u8]) -> Result<Kleene, Fail> {
+    let filter = parse(alloc, written)?;
+    judged(alloc, &filter, event)
+}
+
+/// The truth of the long pattern with an end on the long event.
+fn long_like(alloc: Global, end: &[u8]) -> Result<Kleene, Fail> {
+    let written = long_pattern(alloc, end)?;
+    let json = long_event(alloc)?;
+    read_and_judged(alloc, written.as_slice(), json.as_slice())
 }
 
 // A search that tries each choice again does not end within the time of a test.
@@ -190,11 +217,16 @@ fn refuses_with_the_first_fault(rt: HostRuntime) -> Result<(), Fail> {
     Ok(())
 }
 
-/// What a copy of the filter prints.
-fn printed(alloc: Global, written: &[u8]) -> Result<Text, Fail> {
-    let filter = parse(alloc, written)?;
+/// What a copy of a filter prints.
+fn copy_printed(alloc: Global, filter: &Filter) -> Result<Text, Fail> {
     let copied = filter.copy(alloc)?;
     Ok(text(alloc, &copied)?)
+}
+
+/// What a copy of a written filter prints.
+fn printed(alloc: Global, written: &[u8]) -> Result<Text, Fail> {
+    let filter = parse(alloc, written)?;
+    copy_printed(alloc, &filter)
 }
 
 static PRINTED: [(&str, &str); 5] = [
