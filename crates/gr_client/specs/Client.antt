@@ -46,7 +46,11 @@ after_note publisher m p (note.Spent other) = if other == publisher then after_s
 
 -- the client once it has heard a note
 unfoldable pub heard_by : ClientView → Note → ClientView
-heard_by c n = record { publisher = c.publisher; events = c.events; progress = after_note c.publisher (length c.events) c.progress n }
+heard_by c n = record {
+  publisher = c.publisher;
+  events = c.events;
+  progress = after_note c.publisher (length c.events) c.progress n;
+}
 
 -- what a client offers: its next event while it runs
 unfoldable pub offered : ClientView → Option Note

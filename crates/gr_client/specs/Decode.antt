@@ -17,7 +17,8 @@ use Rattle.gr_client.specs.Gives.{fault, out_of_memory, ◌>>=◌}
 
 -- n bytes from a place on
 abbrev pub field_at : List ℕ → ℕ → ℕ → Result (List ℕ) NoteFault
-field_at bytes at n = if nat_le (at + n) (length bytes) then Ok (slice_range bytes at (at + n)) else Err (fault Short (length bytes))
+field_at bytes at n =
+    if nat_le (at + n) (length bytes) then Ok (slice_range bytes at (at + n)) else Err (fault Short (length bytes))
 
 -- the byte at a place
 abbrev pub byte_at : List ℕ → ℕ → Result ℕ NoteFault

@@ -27,8 +27,8 @@ pub record Done : Type 0 where
 abbrev pub still : NodeView → Done
 still n = record { node = n; lines = []; entries = [] }
 
--- A broker's call is taken up: what it keeps, its lines and those of its frames, which are numbered on from those offered before,
--- and the offers
+-- A broker's call is taken up: what it keeps, its lines and those of its frames, which are numbered on from those
+-- offered before, and the offers
 abbrev pub taken_up : NodeView → ℕ → BrokerView → List Report → List Frame → Done
 taken_up n b x lines frames = record {
   node = record { brokers = set n.brokers b (Some x); offers = n.offers + length frames; now = n.now };

@@ -25,7 +25,8 @@ IsUnwritten (Err run.Post) = Unit {0}
 IsUnwritten _ = ⊥
 
 -- then the answer is that of the part, and the sink took what the page held; or the sink failed, and took a front of it
-pub record Wrote {T : Type 0} (taken taken' : Option (List ℕ)) (held held' : List ℕ) (done result : Result T RunFault) : Type 0 where
+pub record Wrote {T : Type 0} (taken taken' : Option (List ℕ)) (held held' : List ℕ) (done result : Result T RunFault)
+    : Type 0 where
   pub left : IsUnwritten done → (result ≡ done) × ((taken' ≡ taken) × (held' ≡ held))
   pub written : (IsUnwritten done → ⊥) → ((result ≡ done) × ((taken' ≡ with_more taken held) × (held' ≡ [])))
       ⊎ ((result ≡ Err run.Write) × TakesFront taken taken' held)
@@ -36,8 +37,8 @@ IsEnd (Ok x) = Unit {0}
 IsEnd (Err run.Post) = Unit {0}
 IsEnd _ = ⊥
 
--- What follows the starts, up to what is shown: acts were made, all or all up to one that was refused. After want of memory, or a
--- failure of the sink, only fronts are told
+-- What follows the starts, up to what is shown: acts were made, all or all up to one that was refused. After want of
+-- memory, or a failure of the sink, only fronts are told
 pub record Ran {T : Type 0} (t : TopologyView) (hosted : List ℕ) (tells : Type 0) (acts : List Act) (n n' : NodeView)
     (before after : Outside) (result : Result T RunFault) : Type 0 where
   pub made : List Act
@@ -55,17 +56,19 @@ pub record Ran {T : Type 0} (t : TopologyView) (hosted : List ℕ) (tells : Type
   pub sent_front : (IsExact result → ⊥) → tells → Begins before.journal after.journal (all_done t hosted n acts).entries
 
 -- so it went with what came, which are no more arrivals than were asked for
-pub record RanWith {T : Type 0} (t : TopologyView) (hosted : List ℕ) (tells : Type 0) (steps : List Line) (turns : ℕ) (n n' : NodeView)
-    (before after : Outside) (result : Result T RunFault) : Type 0 where
+pub record RanWith {T : Type 0} (t : TopologyView) (hosted : List ℕ) (tells : Type 0) (steps : List Line) (turns : ℕ)
+    (n n' : NodeView) (before after : Outside) (result : Result T RunFault) : Type 0 where
   pub came : List Arrival
   pub closed : Bool
   pub within : length came ≤ turns
   pub ended : OnOk result ((closed ≡ true) ⊎ (length came ≡ turns))
-  pub ran : Ran {T = T} t hosted tells (run_acts (net_of t) hosted steps came closed ++ shows ∷ []) n n' before after result
+  pub ran : Ran {T = T} t hosted tells
+      (run_acts (net_of t) hosted steps came closed ++ shows ∷ []) n n' before after result
 
 -- What a whole run does, and what it leaves at the post, at the sink and on the disk
-pub record Serves {T : Type 0} (t : TopologyView) (hosted : List ℕ) (steps : List Line) (turns : ℕ) (posts keeps : Type 0)
-    (journal journal' : List Entry) (taken taken' : Option (List ℕ)) (lanes lanes' : ℕ → Lane) (result : Result T RunFault) : Type 0 where
+pub record Serves {T : Type 0} (t : TopologyView) (hosted : List ℕ) (steps : List Line) (turns : ℕ)
+    (posts keeps : Type 0) (journal journal' : List Entry) (taken taken' : Option (List ℕ))
+    (lanes lanes' : ℕ → Lane) (result : Result T RunFault) : Type 0 where
   pub course : Course
   pub run : IsRunOf {T = T} t hosted steps turns course result
   pub posted : posts → Posts {T = T} t hosted steps course journal journal' result

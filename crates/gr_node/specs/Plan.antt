@@ -21,8 +21,8 @@ pub data Call : Type 0 where
   publishes : Publish → Call
   wakes : ℕ → ℕ → Call
 
--- A run is made of acts: a broker's address is bound, a hosted broker starts, something arrives, a broker is called, nothing comes
--- any more, and at the end all is shown
+-- A run is made of acts: a broker's address is bound, a hosted broker starts, something arrives, a broker is called,
+-- nothing comes any more, and at the end all is shown
 pub data Act : Type 0 where
   binds : ℕ → Act
   starts : ℕ → Act

@@ -59,8 +59,8 @@ abbrev pub is_start : ℕ → Act → Bool
 is_start b (starts c) = nat_eq b c
 is_start b _ = false
 
--- The act that a fault refused is the first that is left: a binding, or the arrival after the last; one that calls the disk; the
--- start of the publisher's host. Of want of memory, and of a failure of the sink, it is not said which it is
+-- The act that a fault refused is the first that is left: a binding, or the arrival after the last; one that calls the
+-- disk; the start of the publisher's host. Of want of memory, and of a failure of the sink, it is not said which it is
 abbrev pub IsRefused : TopologyView → RunFault → List Act → Type 0
 IsRefused t run.Post left = FirstIs is_bind left ⊎ (left ≡ shows ∷ [])
 IsRefused t run.Disk left = FirstIs uses_disk left
@@ -79,23 +79,24 @@ pub record IsRunOf {T : Type 0} (t : TopologyView) (hosted : List ℕ) (steps : 
   pub ended : OnOk result ((c.closed ≡ true) ⊎ (length c.came ≡ turns))
   pub refused : (e : RunFault) → result ≡ Err e → IsRefused t e c.left
 
--- Of a post that tells its journal: what was done of the plan was put there, and then the failure that ended it; where it is not
--- known what was done, a front of what the plan puts there
+-- Of a post that tells its journal: what was done of the plan was put there, and then the failure that ended it; where
+-- it is not known what was done, a front of what the plan puts there
 pub record Posts {T : Type 0} (t : TopologyView) (hosted : List ℕ) (steps : List Line) (c : Course)
     (before after : List Entry) (result : Result T RunFault) : Type 0 where
   pub exact : IsExact result
       → after ≡ before ++ (all_entries t hosted (world_before t c) c.made ++ fault_entries result)
   pub front : (IsExact result → ⊥) → Begins before after (planned t hosted steps c)
 
--- The sink took what the machine serves; after a fault a front of it, and where an act was refused all lines of the acts before
+-- The sink took what the machine serves; after a fault a front of it, and where an act was refused all lines of the
+-- acts before
 pub record Prints {T : Type 0} (t : TopologyView) (hosted : List ℕ) (steps : List Line) (c : Course)
     (before after : Option (List ℕ)) (result : Result T RunFault) : Type 0 where
   pub report : OnOk result (after ≡ with_more before (served_text t hosted steps c))
   pub front : OnErr result (TakesFront before after (served_text t hosted steps c))
   pub refused : OnErr result (IsExact result → after ≡ with_more before (text_of t (end_of t hosted c).lines))
 
--- Of a disk that tells what it holds: the records are what the lanes of the started brokers held, after a run whose acts are known to
--- be made each lane stands with the records of the machine's log, and no other lane was touched
+-- Of a disk that tells what it holds: the records are what the lanes of the started brokers held, after a run whose
+-- acts are known to be made each lane stands with the records of the machine's log, and no other lane was touched
 pub record KeepsLogs {T : Type 0} (t : TopologyView) (hosted : List ℕ) (c : Course) (before after : ℕ → Lane)
     (result : Result T RunFault) : Type 0 where
   pub found : (p : ℕ) → p < length t.publishers → is_hosted (net_of t) hosted p ≡ true
@@ -107,7 +108,8 @@ pub record KeepsLogs {T : Type 0} (t : TopologyView) (hosted : List ℕ) (c : Co
   pub damaged : (p at : ℕ) → result ≡ Err (run.Damaged p at) → IsFirstDamaged t hosted p at before
   pub others : OthersStay t hosted before after
 
--- An honest journal: each datagram in it is no frame, or has the bytes of an offer to the same broker that stands before it
+-- An honest journal: each datagram in it is no frame, or has the bytes of an offer to the same broker that stands
+-- before it
 
 abbrev pub is_offer_to : ℕ → List ℕ → Entry → Bool
 is_offer_to b bytes (offered from to sent) = nat_eq to b && bytes_eq sent bytes

@@ -41,7 +41,8 @@ pub record HasStarted (t : TopologyView) (n : NodeView) (b : ℕ) : Type 0 where
   pub whole : (p : ℕ) (l : LogView) → log_in broker p ≡ Some l → l.broken ≡ false
   pub follow : (p : ℕ) (l : LogView) → log_in broker p ≡ Some l → Follow empty_state l.records
 
--- The first so many of the hosted brokers have started, and no others, and what they tell was put; after a fault a front of it
+-- The first so many of the hosted brokers have started, and no others, and what they tell was put; after a fault a
+-- front of it
 pub record Started {T : Type 0} (t : TopologyView) (hosted : List ℕ) (n' : NodeView) (before after : Outside)
     (result : Result T RunFault) : Type 0 where
   pub made : ℕ
@@ -61,8 +62,8 @@ abbrev pub Found : TopologyView → NodeView → List ℕ → (ℕ → Lane) →
 Found t n' bs lanes = (p : ℕ) → p < length t.publishers → is_among bs (host_of t p) ≡ true
     → log_text (content (lanes (2 * p))) ≡ Ok (records_in t n' p)
 
--- The lane of a publisher holds no log, with the place of its first fault; those that are opened before it hold one: broker by
--- broker, and at each its publishers in order
+-- The lane of a publisher holds no log, with the place of its first fault; those that are opened before it hold one:
+-- broker by broker, and at each its publishers in order
 pub record IsFirstDamaged (t : TopologyView) (hosted : List ℕ) (p at : ℕ) (lanes : ℕ → Lane) : Type 0 where
   pub publisher : p < length t.publishers
   pub here : is_hosted (net_of t) hosted p ≡ true

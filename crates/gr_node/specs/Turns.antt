@@ -20,15 +20,16 @@ unfoldable pub left_behind : List Publish → List Arrival → List Publish
 left_behind left [] = left
 left_behind left (a ∷ came) = left_behind (left_after left a) came
 
--- what came in a turn that ended so: one arrival, or that nothing comes any more. Where a turn failed it may be that nothing came
+-- what came in a turn that ended so: one arrival, or that nothing comes any more. Where a turn failed it may be that
+-- nothing came
 abbrev pub CameIn : Result Bool RunFault → List Arrival → Bool → Type 0
 CameIn (Ok true) came shut = (length came ≡ 1) × (shut ≡ false)
 CameIn (Ok false) came shut = (came ≡ []) × (shut ≡ true)
 CameIn (Err e) came shut = (length came ≤ 1) × (shut ≡ false)
 
 -- A turn: what came, its acts as far as they were made, and the publishes that are left then
-pub record Turned (t : TopologyView) (hosted : List ℕ) (tells : Type 0) (steps : List Line) (next next' : ℕ) (n n' : NodeView)
-    (before after : Outside) (result : Result Bool RunFault) : Type 0 where
+pub record Turned (t : TopologyView) (hosted : List ℕ) (tells : Type 0) (steps : List Line) (next next' : ℕ)
+    (n n' : NodeView) (before after : Outside) (result : Result Bool RunFault) : Type 0 where
   pub came : List Arrival
   pub shut : Bool
   pub ends : CameIn result came shut

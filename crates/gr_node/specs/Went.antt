@@ -58,8 +58,8 @@ pub record Begins (before after sent : List Entry) : Type 0 where
   pub whole : sent ≡ part ++ rest
   pub are : after ≡ before ++ part
 
--- Acts were made one after another, all or all up to one that was refused. After want of memory, or a failure of the sink, only
--- fronts are told
+-- Acts were made one after another, all or all up to one that was refused. After want of memory, or a failure of the
+-- sink, only fronts are told
 pub record Went {T : Type 0} (t : TopologyView) (hosted : List ℕ) (tells : Type 0) (acts : List Act) (n n' : NodeView)
     (before after : Outside) (result : Result T RunFault) : Type 0 where
   pub made : List Act

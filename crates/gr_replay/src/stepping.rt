@@ -123,8 +123,8 @@ fn answered(
 /// Carries out a step of a schedule, over the disk of the world as its last call left it. Gives the lines that the step
 /// tells: the machine's lines, each of which names what the topology has. A step that is refused tells so in its line.
 ///
-/// `Memory` where memory is refused, and `Disk` only where the disk failed in this call; no stop that the step orders is
-/// such a failure. After a fault the run is over: the lanes still fit the world, but it may not be stepped any more.
+/// `Memory` where memory is refused, and `Disk` only where the disk failed in this call; no stop that the step orders
+/// is such a failure. After a fault the run is over: the lanes still fit the world, but it may not be stepped any more.
 pub fn step<D: SimDisk>(
     alloc: Global,
     world: &mut World,

@@ -1,5 +1,5 @@
-//! What every run over a topology shares, whatever brings its steps: lines are put into a page that a sink takes, a frame
-//! is told by its bytes, and the steps of a topology are those that the theorems speak of.
+//! What every run over a topology shares, whatever brings its steps: lines are put into a page that a sink takes, a
+//! frame is told by its bytes, and the steps of a topology are those that the theorems speak of.
 #![tactic(auto)]
 
 mod law;

@@ -1,7 +1,7 @@
 //! A scenario: a topology, and the steps of a schedule over it, read from the bytes of a source.
 //!
-//! `read` gives what the bytes ask, by their sizes first, then by the topology, then by the steps; what is refused comes
-//! with the line that says why.
+//! `read` gives what the bytes ask, by their sizes first, then by the topology, then by the steps; what is refused
+//! comes with the line that says why.
 #![tactic(auto)]
 
 mod asked;
@@ -12,7 +12,7 @@ mod refusals;
 pub use asked::Asked;
 pub use law::steps_that_are_read;
 pub use reading::read;
-pub use refusals::{line_of_step, line_of_topology};
+pub use refusals::{line_of_step, line_of_topology, push_shown};
 
 #[cfg(test)]
 mod tests;

@@ -56,7 +56,7 @@ fn push_filter_fault(alloc: Global, line: &mut Text, fault: &FilterFault) -> Res
 }
 
 /// Puts a blank and a key or name at the end of a line, with `?` for each byte that is no visible character of ASCII.
-fn push_shown(line: &mut Text, name: &[u8]) -> Result<(), AllocError>
+pub fn push_shown(line: &mut Text, name: &[u8]) -> Result<(), AllocError>
     ensures { OnOk result (line.new ≡ line.old ++ shown name.now) }
 {
     line.push(b' ')?;

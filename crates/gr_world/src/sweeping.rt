@@ -271,7 +271,8 @@ impl World {
         ensures makes { Makes step.Sweep self.old self.new result }
         ensures refused { Refuses step.Sweep self.old self.new result }
         ensures memory { Spends self.old self.new result }
-        ensures closed { self.old.spent ≡ false → refused_at self.old step.Sweep ≡ None → IsClosed self.old self.new result }
+        ensures closed { self.old.spent ≡ false → refused_at self.old step.Sweep ≡ None
+            → IsClosed self.old self.new result }
         ensures stays { Stays self.old self.new }
         ensures fits { IsWorld self.new }
         ensures sound { StaysSound self.old self.new result }

@@ -69,8 +69,8 @@ usage_answer = record {
   text = codes "usage: gryphon replay | serve TURNS BROKER... | match | soak N" ++ 10 ∷ [];
 }
 
--- to a task, with these bytes left in the source. Where they are not told, nothing is said of a task that reads them; and of brokers
--- that serve no answer says what comes
+-- to a task, with these bytes left in the source. Where they are not told, nothing is said of a task that reads them;
+-- and of brokers that serve no answer says what comes
 abbrev pub answer_to : Task → Option (List ℕ) → Option Answer
 answer_to Usage left = Some usage_answer
 answer_to Replay left = option_map (answer_of Scenario) left

@@ -74,8 +74,9 @@ pub record Around : Type 0 where
 abbrev pub around : Option (List ℕ) → List Entry → (ℕ → Lane) → Around
 around taken journal lanes = record { taken = taken; journal = journal; lanes = lanes }
 
--- A run came to an answer. What was done of it is told by its course: the post has the journal of that, the sink took its lines and
--- the lanes hold its logs. Where all brokers served, over old logs too, and the journal is honest, the headline holds
+-- A run came to an answer. What was done of it is told by its course: the post has the journal of that, the sink took
+-- its lines and the lanes hold its logs. Where all brokers served, over old logs too, and the journal is honest, the
+-- headline holds
 pub record RunsTo (t : TopologyView) (lines : List Line) (hosted : List ℕ) (turns : ℕ) (post_tells disk_tells : Type 0)
     (before after : Around) (answer : Result ⊤ RunFault) : Type 0 where
   pub course : Course
@@ -90,7 +91,8 @@ pub record RunsTo (t : TopologyView) (lines : List Line) (hosted : List ℕ) (tu
 abbrev pub damaged_line : TopologyView → ℕ → ℕ → List ℕ
 damaged_line t p at = whole_line (labels_of t) (line.Damaged p at)
 
--- The status after a fault, and what the sink took since: after a log that is none, its line, or a front of it where that failed
+-- The status after a fault, and what the sink took since: after a log that is none, its line, or a front of it where
+-- that failed
 abbrev pub EndsBy : TopologyView → RunFault → ℕ → Option (List ℕ) → Option (List ℕ) → Type 0
 EndsBy t run.Write status old new = (status ≡ 4) × (new ≡ old)
 EndsBy t run.Disk status old new = (status ≡ 5) × (new ≡ old)
@@ -105,7 +107,8 @@ pub record StopsBy (t : TopologyView) (lines : List Line) (hosted : List ℕ) (t
     (before after : Around) (status : ℕ) : Type 0 where
   pub fault : RunFault
   pub taken : Option (List ℕ)  -- what the sink had taken by then
-  pub run : RunsTo t lines hosted turns post_tells disk_tells before (around taken after.journal after.lanes) (Err fault)
+  pub run : RunsTo t lines hosted turns post_tells disk_tells before
+      (around taken after.journal after.lanes) (Err fault)
   pub ends : EndsBy t fault status taken after.taken
 
 -- want of memory came before the run: nothing was done

@@ -1,14 +1,13 @@
 //! Which brokers of a topology are to serve.
 
-ghost use Rattle.std.specs.Prelude.{◌≡◌, ◌<◌, ◌++◌, length, find, IfOk, IfSome, OnOk};
+ghost use Rattle.std.specs.Prelude.{◌≡◌, ◌<◌, length, find, IfOk, IfSome};
 ghost use Rattle.std.specs.Option.{option_map};
 ghost use Rattle.gr_tree.specs.Walks.{numbers};
-ghost use Rattle.gr_scenario.specs.Refusals.{shown_byte, shown};
 ghost use Rattle.gryphon.specs.Words.{texts_of};
 ghost use Rattle.gryphon.specs.Hosting.{is_unknown, unknown_line, is_unaddressed, unaddressed_line, names_broker, is_named, named_brokers, hosting_of, IsReady};
 
 use gr_event::{Numbers, Text};
-use gr_scenario::line_of_topology;
+use gr_scenario::{line_of_topology, push_shown};
 use gr_sched::Names;
 use gr_topo::{TopoFault, Topology};
 use std::alloc::{AllocError, Global};
@@ -108,24 +107,6 @@ fn unknown_line(alloc: Global, word: &str) -> Result<Text, AllocError>
     let mut line = Text::from_slice(alloc, b"serve no-broker")?;
     push_shown(&mut line, word.as_bytes())?;
     Ok(line)
-}
-
-/// Puts a blank and a word at the end of a line, with `?` for each byte that is no visible character of ASCII.
-fn push_shown(line: &mut Text, word: &[u8]) -> Result<(), AllocError>
-    ensures { OnOk result (line.new ≡ line.old ++ shown word.now) }
-{
-    line.push(b' ')?;
-    'bytes: for byte in word {
-        line.push(shown_byte(*byte))?;
-    }
-    Ok(())
-}
-
-/// A byte as it is printed.
-fn shown_byte(byte: u8) -> u8
-    ensures { result ≡ shown_byte byte }
-{
-    if byte.is_ascii_graphic() { byte } else { b'?' }
 }
 
 /// The line of a broker without an address, as `topology 9 bad-address B`.
