@@ -3,8 +3,8 @@ use Rattle.std.specs.Prelude.{ℕ, ◌+◌, ◌-◌, ◌==◌, ◌≤◌, nat_le
 use Rattle.gr_event.specs.declared.event.Event.{Event}
 use Rattle.gr_client.specs.declared.client.Progress.{Progress}
 use Rattle.gr_client.specs.declared.client.Progress.TheVariants as progress
-use Rattle.gr_client.specs.declared.note.Note.{Note}
-use Rattle.gr_client.specs.declared.note.Note.TheVariants as note
+use Rattle.gr_note.specs.declared.note.Note.{Note}
+use Rattle.gr_note.specs.declared.note.Note.TheVariants as note
 
 -- whose events it has, which they are, the first of them having the number 1, and how far it is
 pub record ClientView : Type 0 where

@@ -5,8 +5,8 @@ ghost use Rattle.gr_client.specs.Client.{IsAmong, client_begun, heard_by, offere
 ghost use Rattle.gr_client.specs.Client.{begun_with, after_next, after_spent, after_note};
 
 use crate::events::Events;
-use crate::note::Note;
 use gr_event::Memory;
+use gr_note::Note;
 use std::marker::Model;
 
 /// How far a client is.

@@ -1,36 +1,11 @@
-//! Remote publishers: the notes between a publisher's process and the host of its log, and the side of the process.
+//! The side of a publisher's process: which event it submits next, and how it goes on by what the host of its log says.
 #![tactic(auto)]
 
 mod client;
 mod events;
-mod fault;
-mod field;
-mod laws;
-mod note;
-mod reading;
 #[cfg(test)]
 mod tests;
-mod writing;
 
 pub use client::{Client, Progress};
 pub use events::Events;
-pub use fault::{NoteFault, NoteKind};
-pub use laws::{constants_of_notes, decodes_its_spelling, spelled_decodes, spells_no_prefix};
-pub use note::Note;
-pub use reading::decode;
-pub use writing::encode;
-
-/// The greatest number that an event may have: 2^62.
-pub const MAX_NUMBER: u64 = 1 << 62;
-
-/// The version of the notes.
-pub const VERSION: u8 = 1;
-
-/// The kind of a Submit.
-pub const SUBMIT: u8 = 1;
-
-/// The kind of a Next.
-pub const NEXT: u8 = 2;
-
-/// The kind of a Spent.
-pub const SPENT: u8 = 3;
+pub use gr_note::{Note, NoteFault, NoteKind, decode, encode};

@@ -2,9 +2,9 @@
 
 ghost use Rattle.std.specs.Prelude.{◌≡◌, ◌+◌, ◌<◌, ◌^◌, IfOk};
 ghost use Rattle.gr_event.specs.Limits.{IsEvent};
-ghost use Rattle.gr_client.specs.Decode.{event_refused, event_at, submit_at, next_at, spent_at, kind_at, note_decoded};
-ghost use Rattle.gr_client.specs.Gives.{Gives};
-ghost use Rattle.gr_client.specs.Limits.{IsNote};
+ghost use Rattle.gr_note.specs.Decode.{event_refused, event_at, submit_at, next_at, spent_at, kind_at, note_decoded};
+ghost use Rattle.gr_note.specs.Gives.{Gives};
+ghost use Rattle.gr_note.specs.Limits.{IsNote};
 
 use crate::fault::{NoteFault, NoteKind};
 use crate::field::{byte_at, fault, field_at, number_at, u16_at};

@@ -1,11 +1,12 @@
 //! Laws of the format: each is the contract of a function that does nothing.
 
 ghost use Rattle.std.specs.Prelude.{◌≡◌, ◌^◌, ◌≤◌, ◌∷◌, ◌++◌, [], ℕ, List, Ok, length};
-ghost use Rattle.gr_client.specs.declared.TheConstants.{MAX_NUMBER, VERSION, SUBMIT, NEXT, SPENT};
-ghost use Rattle.gr_client.specs.declared.note.Note.{Note};
-ghost use Rattle.gr_client.specs.Bytes.{letters, note_bytes, note_size};
-ghost use Rattle.gr_client.specs.Decode.{note_decoded};
-ghost use Rattle.gr_client.specs.Limits.{IsNote};
+ghost use Rattle.gr_note.specs.declared.TheConstants.{MAX_NUMBER, VERSION, SUBMIT, NEXT, SPENT};
+ghost use Rattle.gr_note.specs.declared.node.TheConstants.{FIRST_CLIENT};
+ghost use Rattle.gr_note.specs.declared.note.Note.{Note};
+ghost use Rattle.gr_note.specs.Bytes.{letters, note_bytes, note_size};
+ghost use Rattle.gr_note.specs.Decode.{note_decoded};
+ghost use Rattle.gr_note.specs.Limits.{IsNote};
 
 /// The spelling of a note decodes to it.
 pub fn spelled_decodes()
@@ -24,7 +25,7 @@ pub fn spells_no_prefix()
     ensures { (n m : Note) (rest : List ℕ) → IsNote n → IsNote m → note_bytes m ≡ note_bytes n ++ rest → rest ≡ [] }
 {}
 
-/// The letters, the version, the kinds, the greatest number, and how many bytes a note has.
+/// The letters, the version, the kinds, the greatest number, how many bytes a note has, and the first client's node.
 pub fn constants_of_notes()
     ensures letters { letters ≡ 71 ∷ (80 ∷ []) }
     ensures version { VERSION ≡ 1 }
@@ -34,4 +35,5 @@ pub fn constants_of_notes()
     ensures greatest { MAX_NUMBER ≡ 2 ^ 62 }
     ensures sizes { (n : Note) → length (note_bytes n) ≡ note_size n }
     ensures longest { (n : Note) → IsNote n → note_size n ≤ 8208 }
+    ensures first_client { FIRST_CLIENT ≡ 64 }
 {}

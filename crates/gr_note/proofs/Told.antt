@@ -9,14 +9,14 @@ use Rattle.gr_event.specs.declared.event.EventFault.{EventFault}
 use Rattle.gr_event.specs.Event.{event_bytes, event_size}
 use Rattle.gr_event.specs.Decode.{event_decoded}
 use Rattle.gr_event.proofs.Told.{only_its_bytes}
-use Rattle.gr_client.specs.declared.note.Note.{Note}
-use Rattle.gr_client.specs.declared.note.Note.TheVariants.{Submit, Next, Spent}
-use Rattle.gr_client.specs.declared.fault.NoteKind.TheVariants.{BadMagic, BadVersion, BadKind, Trailing}
-use Rattle.gr_client.specs.Bytes.{letters, note_bytes}
-use Rattle.gr_client.specs.Gives.{fault}
-use Rattle.gr_client.specs.Decode.{byte_at, field_at, u16_at, number_at, event_of, event_at, ended, submit_at, next_at, spent_at, kind_at, note_of_kind, note_decoded}
-use Rattle.gr_client.proofs.Fields.{AreBytes, bind_told, then_told, either_told, byte_told, field_told, field_fits, u16_told, number_told}
-use Rattle.gr_client.proofs.Spelled.{length-event_bytes}
+use Rattle.gr_note.specs.declared.note.Note.{Note}
+use Rattle.gr_note.specs.declared.note.Note.TheVariants.{Submit, Next, Spent}
+use Rattle.gr_note.specs.declared.fault.NoteKind.TheVariants.{BadMagic, BadVersion, BadKind, Trailing}
+use Rattle.gr_note.specs.Bytes.{letters, note_bytes}
+use Rattle.gr_note.specs.Gives.{fault}
+use Rattle.gr_note.specs.Decode.{byte_at, field_at, u16_at, number_at, event_of, event_at, ended, submit_at, next_at, spent_at, kind_at, note_of_kind, note_decoded}
+use Rattle.gr_note.proofs.Fields.{AreBytes, bind_told, then_told, either_told, byte_told, field_told, field_fits, u16_told, number_told}
+use Rattle.gr_note.proofs.Spelled.{length-event_bytes}
 
 -- the kind, behind the letters and the version
 kind_told : (bytes : List ℕ) (k : ℕ) → kind_at bytes ≡ Ok k → bytes ≡ 71 ∷ (80 ∷ (1 ∷ (k ∷ drop 4 bytes)))

@@ -2,9 +2,9 @@
 use Rattle.std.specs.Prelude.{ℕ, ◌+◌, List, [], ◌∷◌, ◌++◌}
 use Rattle.std.specs.Int.{to_be_bytes, w16, w64}
 use Rattle.gr_event.specs.Event.{event_size, event_bytes}
-use Rattle.gr_client.specs.declared.TheConstants.{VERSION, SUBMIT, NEXT, SPENT}
-use Rattle.gr_client.specs.declared.note.Note.{Note}
-use Rattle.gr_client.specs.declared.note.Note.TheVariants.{Submit, Next, Spent}
+use Rattle.gr_note.specs.declared.TheConstants.{VERSION, SUBMIT, NEXT, SPENT}
+use Rattle.gr_note.specs.declared.note.Note.{Note}
+use Rattle.gr_note.specs.declared.note.Note.TheVariants.{Submit, Next, Spent}
 
 -- GP
 abbrev pub letters : List ℕ

@@ -1,8 +1,8 @@
 -- What a reader of notes answers: what a total function of the bytes gives, unless memory is refused
 use Rattle.std.specs.Prelude.{◌≡◌, ℕ, Result, Ok, Err}
-use Rattle.gr_client.specs.declared.fault.NoteKind.{NoteKind}
-use Rattle.gr_client.specs.declared.fault.NoteKind.TheVariants as kind
-use Rattle.gr_client.specs.declared.fault.NoteFault.{NoteFault}
+use Rattle.gr_note.specs.declared.fault.NoteKind.{NoteKind}
+use Rattle.gr_note.specs.declared.fault.NoteKind.TheVariants as kind
+use Rattle.gr_note.specs.declared.fault.NoteFault.{NoteFault}
 
 -- a fault of a kind at a place
 abbrev pub fault : NoteKind → ℕ → NoteFault

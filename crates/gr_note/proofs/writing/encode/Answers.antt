@@ -1,7 +1,7 @@
 use Rattle.std.proofs.Common.{◌++◌, ap, ◌∙◌}
-use Rattle.gr_client.specs.Bytes.{note_bytes}
-use Rattle.gr_client.proofs.Spelled.{decodes}
-use Rattle.gr_client.proofs.writing.encode.Goals as goal
+use Rattle.gr_note.specs.Bytes.{note_bytes}
+use Rattle.gr_note.proofs.Spelled.{decodes}
+use Rattle.gr_note.proofs.writing.encode.Goals as goal
 
 pub returns-clause-decodes_back : goal.returns-clause-decodes_back
 returns-clause-decodes_back c =

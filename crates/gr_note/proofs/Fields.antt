@@ -5,10 +5,10 @@ use Rattle.std.specs.Int.{to_be_bytes, from_be_bytes, w16, w64}
 use Rattle.std.proofs.lemmas.Bool.{cases_lt}
 use Rattle.std.proofs.lemmas.List.{take-append-drop, drop-drop, drop_more, get_or-drop, get_or_append_left, get_or_past, length-take, length-drop, take_at, drop_at, get_or_at}
 use Rattle.std.proofs.lemmas.Nat.{be_bytes_2, be_bytes_8, from_be_bytes-to_be_bytes_2, from_be_bytes-to_be_bytes_8}
-use Rattle.gr_client.specs.declared.fault.NoteKind.TheVariants.{Short, BadRange}
-use Rattle.gr_client.specs.declared.fault.NoteFault.{NoteFault}
-use Rattle.gr_client.specs.Gives.{fault, ◌>>=◌}
-use Rattle.gr_client.specs.Decode.{byte_at, field_at, u16_at, u64_at, number_at}
+use Rattle.gr_note.specs.declared.fault.NoteKind.TheVariants.{Short, BadRange}
+use Rattle.gr_note.specs.declared.fault.NoteFault.{NoteFault}
+use Rattle.gr_note.specs.Gives.{fault, ◌>>=◌}
+use Rattle.gr_note.specs.Decode.{byte_at, field_at, u16_at, u64_at, number_at}
 
 -- each is a byte
 abbrev pub AreBytes : List ℕ → Type 0

@@ -1,7 +1,7 @@
 //! Why bytes are no note.
 
 ghost use Rattle.std.specs.Prelude.{◌≡◌, ◌≤◌, IfSome, slice_get};
-ghost use Rattle.gr_client.specs.Fault.{fault_number, fault_word, fault_kinds};
+ghost use Rattle.gr_note.specs.Fault.{fault_number, fault_word, fault_kinds};
 
 use std::alloc::{AllocError, AllocFailed};
 use std::error::Error;
@@ -101,7 +101,7 @@ impl Error for NoteFault {}
 
 impl From<AllocError> for NoteFault {
     ghost use Rattle.std.specs.Prelude.{◌≡◌};
-    ghost use Rattle.gr_client.specs.Gives.{out_of_memory};
+    ghost use Rattle.gr_note.specs.Gives.{out_of_memory};
 
     ghost from_gives = { λ _ e. e ≡ out_of_memory };
 
@@ -115,7 +115,7 @@ impl From<AllocError> for NoteFault {
 
 impl<T: Drop> From<AllocFailed<T>> for NoteFault {
     ghost use Rattle.std.specs.Prelude.{◌≡◌};
-    ghost use Rattle.gr_client.specs.Gives.{out_of_memory};
+    ghost use Rattle.gr_note.specs.Gives.{out_of_memory};
 
     ghost from_gives = { λ _ e. e ≡ out_of_memory };
 

@@ -1,7 +1,7 @@
 -- The number and the word of each fault of notes
 use Rattle.std.specs.Prelude.{ℕ, List, [], ◌∷◌, codes}
-use Rattle.gr_client.specs.declared.fault.NoteKind.{NoteKind}
-use Rattle.gr_client.specs.declared.fault.NoteKind.TheVariants as kind
+use Rattle.gr_note.specs.declared.fault.NoteKind.{NoteKind}
+use Rattle.gr_note.specs.declared.fault.NoteKind.TheVariants as kind
 
 -- want of memory has the number 0, and the faults of what is read those from 1 to 7
 abbrev pub fault_number : NoteKind → ℕ

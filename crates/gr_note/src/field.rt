@@ -2,8 +2,8 @@
 
 ghost use Rattle.std.specs.Prelude.{◌≡◌, ◌+◌, ◌≤◌, ◌<◌, ◌^◌, ◌++◌, ◌∷◌, [], length, IfOk, OnOk, MatchResult, Ok, Err};
 ghost use Rattle.std.specs.Int.{from_be_bytes, to_be_bytes, w16, w64};
-ghost use Rattle.gr_client.specs.Decode.{byte_at, field_at, u16_at, u64_at, number_at};
-ghost use Rattle.gr_client.specs.Gives.{Gives};
+ghost use Rattle.gr_note.specs.Decode.{byte_at, field_at, u16_at, u64_at, number_at};
+ghost use Rattle.gr_note.specs.Gives.{Gives};
 
 use crate::fault::{NoteFault, NoteKind};
 use byteorder::{BigEndian, ByteOrder};

@@ -4,9 +4,9 @@ ghost use Rattle.std.specs.Prelude.{◌≡◌, ◌++◌, Ok, IfOk, OnOk};
 ghost use Rattle.std.specs.Int.{to_be_bytes, w16};
 ghost use Rattle.gr_event.specs.Event.{event_size, event_bytes};
 ghost use Rattle.gr_event.specs.Limits.{IsEvent};
-ghost use Rattle.gr_client.specs.Bytes.{head_bytes, note_bytes, note_size};
-ghost use Rattle.gr_client.specs.Decode.{note_decoded};
-ghost use Rattle.gr_client.specs.Limits.{IsInRange, HasParts};
+ghost use Rattle.gr_note.specs.Bytes.{head_bytes, note_bytes, note_size};
+ghost use Rattle.gr_note.specs.Decode.{note_decoded};
+ghost use Rattle.gr_note.specs.Limits.{IsInRange, HasParts};
 
 use crate::field::{put_byte, put_u16, put_u64};
 use crate::note::Note;

@@ -5,13 +5,13 @@ use Rattle.gr_event.specs.declared.event.Event.{Event}
 use Rattle.gr_event.specs.declared.event.EventFault.{EventFault}
 use Rattle.gr_event.specs.declared.event.EventFault.TheVariants as event_fault
 use Rattle.gr_event.specs.Decode.{event_decoded}
-use Rattle.gr_client.specs.declared.TheConstants.{MAX_NUMBER, VERSION, SUBMIT, NEXT, SPENT}
-use Rattle.gr_client.specs.declared.note.Note.{Note}
-use Rattle.gr_client.specs.declared.note.Note.TheVariants.{Submit, Next, Spent}
-use Rattle.gr_client.specs.declared.fault.NoteKind.TheVariants.{Short, BadMagic, BadVersion, BadKind, BadRange, BadEvent, Trailing}
-use Rattle.gr_client.specs.declared.fault.NoteFault.{NoteFault}
-use Rattle.gr_client.specs.Bytes.{letters}
-use Rattle.gr_client.specs.Gives.{fault, out_of_memory, ◌>>=◌}
+use Rattle.gr_note.specs.declared.TheConstants.{MAX_NUMBER, VERSION, SUBMIT, NEXT, SPENT}
+use Rattle.gr_note.specs.declared.note.Note.{Note}
+use Rattle.gr_note.specs.declared.note.Note.TheVariants.{Submit, Next, Spent}
+use Rattle.gr_note.specs.declared.fault.NoteKind.TheVariants.{Short, BadMagic, BadVersion, BadKind, BadRange, BadEvent, Trailing}
+use Rattle.gr_note.specs.declared.fault.NoteFault.{NoteFault}
+use Rattle.gr_note.specs.Bytes.{letters}
+use Rattle.gr_note.specs.Gives.{fault, out_of_memory, ◌>>=◌}
 
 -- Fields
 

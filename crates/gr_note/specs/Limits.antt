@@ -1,9 +1,9 @@
 -- What notes may say
 use Rattle.std.specs.Prelude.{◌+◌, ◌^◌, ◌<◌, ◌≤◌}
 use Rattle.gr_event.specs.Limits.{IsEvent}
-use Rattle.gr_client.specs.declared.TheConstants.{MAX_NUMBER}
-use Rattle.gr_client.specs.declared.note.Note.{Note}
-use Rattle.gr_client.specs.declared.note.Note.TheVariants.{Submit, Next, Spent}
+use Rattle.gr_note.specs.declared.TheConstants.{MAX_NUMBER}
+use Rattle.gr_note.specs.declared.note.Note.{Note}
+use Rattle.gr_note.specs.declared.note.Note.TheVariants.{Submit, Next, Spent}
 
 -- the number of an event is in 1 to 2^62, and the one that is waited for may be one more
 abbrev pub IsInRange : Note → Type 0

@@ -7,15 +7,15 @@ use Rattle.gr_event.specs.declared.event.Event.{Event}
 use Rattle.gr_event.specs.Event.{event_bytes, event_size, pairs_bytes, pairs_size, value_bytes, value_size}
 use Rattle.gr_event.specs.Limits.{IsEvent}
 use Rattle.gr_event.proofs.Spelled.{decodes_back}
-use Rattle.gr_client.specs.declared.note.Note.{Note}
-use Rattle.gr_client.specs.declared.note.Note.TheVariants.{Submit, Next, Spent}
-use Rattle.gr_client.specs.declared.fault.NoteFault.{NoteFault}
-use Rattle.gr_client.specs.declared.fault.NoteKind.TheVariants.{Trailing}
-use Rattle.gr_client.specs.Bytes.{letters, note_bytes, note_size}
-use Rattle.gr_client.specs.Gives.{fault}
-use Rattle.gr_client.specs.Limits.{IsNote}
-use Rattle.gr_client.specs.Decode.{u16_at, number_at, event_at, ended, submit_at, next_at, spent_at, kind_at, note_decoded}
-use Rattle.gr_client.proofs.Fields.{byte_here, field_here, u16_here, number_here}
+use Rattle.gr_note.specs.declared.note.Note.{Note}
+use Rattle.gr_note.specs.declared.note.Note.TheVariants.{Submit, Next, Spent}
+use Rattle.gr_note.specs.declared.fault.NoteFault.{NoteFault}
+use Rattle.gr_note.specs.declared.fault.NoteKind.TheVariants.{Trailing}
+use Rattle.gr_note.specs.Bytes.{letters, note_bytes, note_size}
+use Rattle.gr_note.specs.Gives.{fault}
+use Rattle.gr_note.specs.Limits.{IsNote}
+use Rattle.gr_note.specs.Decode.{u16_at, number_at, event_at, ended, submit_at, next_at, spent_at, kind_at, note_decoded}
+use Rattle.gr_note.proofs.Fields.{byte_here, field_here, u16_here, number_here}
 
 -- Sizes
 

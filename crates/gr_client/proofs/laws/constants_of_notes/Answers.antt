@@ -1,5 +1,0 @@
-use Rattle.gr_client.proofs.Spelled.{length-note_bytes}
-use Rattle.gr_client.proofs.laws.constants_of_notes.Goals as goal
-
-pub returns-clause-sizes : goal.returns-clause-sizes
-returns-clause-sizes c = length-note_bytes
