@@ -2,7 +2,6 @@ pub mod Words
 pub mod StickyLaws
 pub mod LooseValues
 pub mod OwnerSteps
-pub mod CellSteps
-pub mod CellSharing
-pub mod Turned
-pub mod Laid
+pub mod Packing
+pub mod PackingOn
+pub mod PackingBack

@@ -1,5 +1,5 @@
+pub mod Row
+pub mod Blocks
 pub mod Contents
 pub mod Sticky
 pub mod Ownership
-pub mod Places
-pub mod Halves

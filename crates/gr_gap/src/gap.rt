@@ -1,42 +1,62 @@
-// A gap buffer: one block of memory, with its free places where the last edit was.
-ghost use Rattle.std.specs.Prelude.{◌≡◌, ◌+◌, ◌*◌, ◌^◌, ◌<◌, ◌≤◌, [], length, insert, remove, slice_index_or, slice_set, OnOk, OnErr, IsOk};
+// A list in blocks: an edit moves values in one block, and one for each block behind it.
+ghost use Rattle.std.specs.Prelude.{◌≡◌, ◌+◌, ◌*◌, ◌^◌, ◌<◌, ◌≤◌, [], ◌∷◌, length, insert, remove, slice_index_or, slice_set, OnOk, OnErr, IsOk, max};
 
 use crate::Memory;
-use crate::halves::Halves;
+use crate::blocks::{BLOCK, Blocks, put};
 use std::alloc::{AllocError, Global};
+use std::collections::VecDeque;
 use std::marker::Model;
+use std::mem;
 
 // The least room that is asked for.
 const LEAST_ROOM: usize = 4;
 
+// More room than this is never asked of an allocator.
+const MOST_ROOM: usize = 1 << 61;
+
 /// A list with room for more values: its contracts see the values in order, and `spare`, how many more fit.
-/// An edit costs the distance from the last one, the shorter way round: the two ends of the list are beside each other.
+/// An edit at one of the two ends moves no other value. One elsewhere moves at most half a block's values, and one for
+/// each block that comes after it.
 pub struct Gap<T> {
-    halves: Halves<T>,
+    // The first values, in a block of their own.
+    head: VecDeque<T>,
+    // How many values stand in `head` where any stand in `rest`. Where all fit in one block, it is as wide as a block.
+    width: usize,
+    // The values that come after them.
+    rest: Blocks<T>,
+    // How many values fit in all.
+    room: usize,
 }
 
 impl<T> Model for Gap<T> {
-    ghost use Rattle.std.specs.Prelude.{◌+◌, ◌-◌, ◌^◌, ◌<◌, ◌≤◌, ◌++◌, length};
+    ghost use Rattle.std.specs.Prelude.{◌≡◌, ◌+◌, ◌-◌, ◌*◌, ◌^◌, ◌<◌, ◌≤◌, ◌++◌, length, min, max};
+    ghost use Rattle.std_alloc.specs.VecDeque.{deque_capacity};
     ghost use Rattle.gr_gap.specs.Contents.{Contents};
 
     ghost Value = { Contents T };
 
-    ghost view = { λ g. record { items = g.halves.front ++ g.halves.back; spare = g.halves.room - (length g.halves.front + length g.halves.back) } };
+    ghost view = { λ g. record
+        { items = g.head.items ++ g.rest.items; spare = g.room - (length g.head.items + length g.rest.items) } };
 
-    ghost invariant = { λ g. (length g.halves.front + length g.halves.back ≤ g.halves.room) × (g.halves.room < 2 ^ 64) };
+    ghost invariant = { λ g.
+        (length g.head.items ≡ min g.width (length g.head.items + length g.rest.items))
+        × (length g.head.items + length g.rest.items ≤ g.room)
+        × (0 < g.width) × (g.width ≤ 512) × (512 < max (g.width + 1) g.room)
+        × (min g.room 512 ≤ deque_capacity g.head) × (g.room ≤ max 512 (g.rest.blocks * 512))
+        × (g.room < 2 ^ 62) };
 }
 
-// Drops each value once, and gives the block back.
+// Written out, so that a caller's proof sees one drop and not those of the parts.
 impl<T: Drop> Drop for Gap<T> {
     fn drop(self) {
-        let Gap { mut halves } = self;
-        while halves.before() > 0 {
-            drop(halves.take_before());
-        }
-        while halves.after() > 0 {
-            drop(halves.take_after());
-        }
-        halves.free();
+        let Gap {
+            head,
+            width: _,
+            rest,
+            room: _,
+        } = self;
+        drop(head);
+        drop(rest);
     }
 }
 
@@ -47,7 +67,10 @@ impl<T> Gap<T> {
         ensures spare { result.spare ≡ 0 }
     {
         Gap {
-            halves: Halves::new(alloc),
+            head: VecDeque::new(alloc),
+            width: BLOCK,
+            rest: Blocks::new(alloc),
+            room: 0,
         }
     }
 
@@ -63,14 +86,13 @@ impl<T> Gap<T> {
         ensures err { OnErr result (self.new ≡ self.old) }
     {
         let len = self.len();
-        let room = self.halves.room();
-        if n <= room - len {
+        if n <= self.room - len {
             return Ok(());
         }
         let Some(needed) = len.checked_add(n) else {
             return Err(AllocError);
         };
-        self.halves.widen(wider(room, needed))
+        self.widen(wider(self.room, needed))
     }
 
     /// Puts a value before the one at `i`, or at the end. It takes no memory.
@@ -81,8 +103,23 @@ impl<T> Gap<T> {
         ensures spare { self.new.spare + 1 ≡ self.old.spare }
         ensures counted { length self.new.items < 2 ^ 64 }
     {
-        self.halves.seek(i);
-        self.halves.put_before(value);
+        if i == 0 {
+            self.put_first(value);
+            return;
+        }
+        if self.width <= i {
+            self.rest.insert(i - self.width, value);
+            return;
+        }
+        if self.head.len() < self.width {
+            put(&mut self.head, i, value);
+            return;
+        }
+        let Some(last) = self.head.pop_back() else {
+            unreachable!()
+        };
+        put(&mut self.head, i, value);
+        self.rest.insert(0, last);
     }
 
     /// Takes out the value at `i`.
@@ -92,8 +129,21 @@ impl<T> Gap<T> {
         ensures items { self.new.items ≡ remove self.old.items i }
         ensures spare { self.new.spare ≡ self.old.spare + 1 }
     {
-        self.halves.seek(i);
-        self.halves.take_after()
+        if i == 0 {
+            return self.take_first();
+        }
+        if self.width <= i {
+            return self.rest.remove(i - self.width);
+        }
+        let Some(value) = self.head.remove(i) else {
+            unreachable!()
+        };
+        if self.rest.len() == 0 {
+            return value;
+        }
+        let first = self.rest.remove(0);
+        self.head.push_back_reserved(first);
+        value
     }
 
     /// The value at `i`.
@@ -101,7 +151,11 @@ impl<T> Gap<T> {
         requires { i < length self.now.items }
         ensures { result.now ≡ slice_index_or self.now.items i result.now }
     {
-        self.halves.get(i)
+        if i < self.width {
+            &self.head[i]
+        } else {
+            self.rest.get(i - self.width)
+        }
     }
 
     /// Puts a value in place of the one at `i`, which it answers.
@@ -111,7 +165,11 @@ impl<T> Gap<T> {
         ensures items { self.new.items ≡ slice_set self.old.items i value }
         ensures spare { self.new.spare ≡ self.old.spare }
     {
-        self.halves.replace(i, value)
+        if i < self.width {
+            mem::replace(&mut self.head[i], value)
+        } else {
+            self.rest.replace(i - self.width, value)
+        }
     }
 
     /// Where its memory comes from. There is one such allocator: a list made with it has its memory from the same
@@ -119,15 +177,84 @@ impl<T> Gap<T> {
     pub fn allocator(&self) -> Global
         ensures { (other : Global) → result ≡ other }
     {
-        self.halves.allocator()
+        *self.head.allocator()
     }
 
     /// How many values there are.
     pub fn len(&self) -> usize
         ensures { result ≡ length self.now.items }
     {
-        self.halves.before() + self.halves.after()
+        self.head.len() + self.rest.len()
     }
+
+    // Makes so much room. Where memory is refused, the room stays what it was.
+    fn widen(&mut self, room: usize) -> Result<(), Memory>
+        requires { length self.old.items + self.old.spare < room }
+        ensures items { self.new.items ≡ self.old.items }
+        ensures ok { OnOk result (length self.new.items + self.new.spare ≡ room) }
+        ensures err { OnErr result (self.new ≡ self.old) }
+    {
+        if MOST_ROOM < room {
+            return Err(AllocError);
+        }
+        let alloc = self.allocator();
+        let len = self.head.len();
+        self.head.reserve_exact(room.min(BLOCK).max(len) - len)?;
+        add_blocks(&mut self.rest, room, alloc)?;
+        self.room = room;
+        Ok(())
+    }
+
+    // Puts a value before all. None moves.
+    fn put_first(&mut self, value: T)
+        requires { 0 < self.old.spare }
+        ensures items { self.new.items ≡ value ∷ self.old.items }
+        ensures spare { self.new.spare + 1 ≡ self.old.spare }
+        ensures counted { length self.new.items < 2 ^ 64 }
+    {
+        if self.head.len() < BLOCK {
+            self.head.push_front_reserved(value);
+            self.width = BLOCK.min(self.width + 1);
+            return;
+        }
+        self.rest.put_first(&mut self.head);
+        self.head.push_front_reserved(value);
+        self.width = 1;
+    }
+
+    // Takes the first value. None other moves.
+    fn take_first(&mut self) -> T
+        requires { 0 < length self.old.items }
+        ensures items { self.old.items ≡ result ∷ self.new.items }
+        ensures spare { self.new.spare ≡ self.old.spare + 1 }
+    {
+        let Some(value) = self.head.pop_front() else {
+            unreachable!()
+        };
+        if self.rest.len() == 0 {
+            return value;
+        }
+        if self.width > 1 {
+            self.width -= 1;
+            return value;
+        }
+        self.rest.take_first(&mut self.head);
+        self.width = BLOCK;
+        value
+    }
+}
+
+// Adds blocks, where one alone has not so much room, until they have it.
+fn add_blocks<T>(rest: &mut Blocks<T>, room: usize, alloc: Global) -> Result<(), Memory>
+    requires { room ≤ 2 ^ 61 }
+    ensures items { rest.new.items ≡ rest.old.items }
+    ensures more { rest.old.blocks ≤ rest.new.blocks }
+    ensures ok { OnOk result (room ≤ max 512 (rest.new.blocks * 512)) }
+{
+    while BLOCK < room && rest.room() < room {
+        rest.widen(alloc)?;
+    }
+    Ok(())
 }
 
 // The next room: twice what there was, or what is needed if that is more.

@@ -1,13 +1,11 @@
-//! Memory in the two forms that the crates above need: a list that is edited in one place at a time, with room kept ready;
-//! and a value with any number of owners. Only this crate has raw pointers.
+//! Memory in the two forms that the crates above need: a list that is edited anywhere, with room kept ready; and a
+//! value with any number of owners. Only this crate has raw pointers.
 #![tactic(auto)]
 
-mod cells;
+mod blocks;
 pub mod gap;
-mod halves;
 mod loose;
 mod owner;
-mod ring;
 pub mod shared;
 #[cfg(test)]
 mod tests;

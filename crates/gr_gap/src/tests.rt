@@ -1,3 +1,5 @@
+ghost use Rattle.std.specs.Prelude.{◌≤◌};
+
 use crate::{Gap, Shared};
 use std::alloc::Global;
 use std::cell::Cell;
@@ -26,7 +28,8 @@ fn an_edit_at_each_place(rt: HostRuntime) -> Result<(), Fail> {
     Ok(())
 }
 
-// A plain `Vec` beside it, through several hundred edits that jump about. The gap grows by one place at a time or by many.
+// A plain `Vec` beside it, through several hundred edits that jump about. The list grows by one place at a time or
+// by many.
 #[test]
 fn the_same_as_a_vec(rt: HostRuntime) -> Result<(), Fail> {
     for more in [1usize, 3, 70] {
@@ -42,7 +45,7 @@ fn the_same_as_a_vec(rt: HostRuntime) -> Result<(), Fail> {
             let place = (seed >> 33) as usize;
             if seed % 5 < 3 || len == 0 {
                 let i = if len == 0 { 0 } else { place % len };
-                gap.reserve(more)?;
+                gap.reserve(more.max(1))?;
                 gap.insert(i, step);
                 plain.insert(i, step)?;
             } else if seed % 5 == 3 {
@@ -53,6 +56,52 @@ fn the_same_as_a_vec(rt: HostRuntime) -> Result<(), Fail> {
                 assert_eq!(rt; gap.replace(i, step), plain[i], "at step {step}");
                 plain[i] = step;
             }
+            assert_eq!(rt;
+                listed(rt.alloc(), &gap)?.as_slice(),
+                plain.as_slice(),
+                "at step {step}"
+            );
+        }
+    }
+    Ok(())
+}
+
+// Where to edit: at one of the two ends or anywhere between.
+fn some_place(seed: u64, len: usize) -> usize
+    ensures { result ≤ len }
+{
+    if len == 0 {
+        return 0;
+    }
+    match seed >> 24 & 3 {
+        0 => 0,
+        1 => len,
+        _ => (seed >> 33) as usize % len,
+    }
+}
+
+// Several blocks beside a plain `Vec`: first more comes than goes, then more goes than comes.
+#[test]
+fn many_blocks(rt: HostRuntime) -> Result<(), Fail> {
+    let mut gap = Gap::new(rt.alloc());
+    let mut plain: Vec<u64> = Vec::new(rt.alloc());
+    let mut seed: u64 = 1;
+    for step in 0..9_000u64 {
+        seed = seed
+            .wrapping_mul(6_364_136_223_846_793_005)
+            .wrapping_add(1_442_695_040_888_963_407);
+        let len = gap.len();
+        assert_eq!(rt; plain.len(), len);
+        let i = some_place(seed, len);
+        let grows = step < 5_000;
+        if (seed >> 8) % 8 < (if grows { 6 } else { 2 }) {
+            gap.reserve(1)?;
+            gap.insert(i, step);
+            plain.insert(i, step)?;
+        } else if i < len {
+            assert_eq!(rt; gap.remove(i), plain.remove(i), "at step {step}");
+        }
+        if step % 100 == 0 {
             assert_eq!(rt;
                 listed(rt.alloc(), &gap)?.as_slice(),
                 plain.as_slice(),
@@ -109,13 +158,13 @@ fn each_value_is_dropped_once(rt: HostRuntime) -> Result<(), Fail> {
     Ok(())
 }
 
-// Values before the gap and after it, in a block that has grown several times, with some taken out.
+// Values in several blocks, which came one by one, with some taken out.
 #[test]
 fn each_value_is_dropped_once_after_growth(rt: HostRuntime) -> Result<(), Fail> {
     let drops = Cell::new(0);
     {
         let mut gap = Gap::new(rt.alloc());
-        for _ in 0..100 {
+        for _ in 0..1_500 {
             gap.reserve(1)?;
             let middle = gap.len() / 2;
             gap.insert(middle, Counted(&drops));
@@ -129,9 +178,9 @@ fn each_value_is_dropped_once_after_growth(rt: HostRuntime) -> Result<(), Fail> 
         assert_eq!(rt; drops.get(), 30);
         gap.reserve(1_000)?;
         assert_eq!(rt; drops.get(), 30);
-        assert_eq!(rt; gap.len(), 70);
+        assert_eq!(rt; gap.len(), 1_470);
     }
-    assert_eq!(rt; drops.get(), 100);
+    assert_eq!(rt; drops.get(), 1_500);
     Ok(())
 }
 
