@@ -1,46 +1,54 @@
-// A counted owner, as the pointers to the count and to the value. Where the count is full it stands still.
-ghost use Rattle.std.specs.Prelude.{◌≡◌};
+// A counted owner, as the pointer to the block of the count and the value. Where the count is full it stands still.
+ghost use Rattle.std.specs.Prelude.{◌≡◌, IfSome};
 ghost use Rattle.gr_gap.specs.Ownership.{shared_owns, shared_shares};
 
 use crate::loose::Loose;
 use std::alloc::Global;
 use std::marker::Model;
 
+// What the block holds: the count of owners, and the value.
+#[derive(Drop)]
+pub(crate) struct Counted<T> {
+    pub(crate) count: u64,
+    pub(crate) value: T,
+}
+
 pub(crate) struct Owner<T> {
-    count: *mut u64,
-    ptr: *mut T,
+    block: *mut Counted<T>,
     pub(crate) ghost value: { T },
 }
 
 impl<T> Model for Owner<T> {
-    ghost also_owns = { λ s. shared_owns T.row s.count s.ptr s.value };
+    ghost also_owns = { λ s. shared_owns T.row s.block s.value };
 
-    ghost also_shares = { λ s _ κ. shared_shares T.row s.count s.ptr s.value κ };
+    ghost also_shares = { λ s _ κ. shared_shares T.row s.block s.value κ };
 }
 
 impl<T> Owner<T> {
-    // The first owner of a value, with the count of owners.
-    pub(crate) fn of(value: Loose<T, Global>, count: Loose<u64, Global>) -> Owner<T>
-        requires { count.value ≡ 1 }
-        ensures { result.value ≡ value.value }
+    // The first owner of a value.
+    pub(crate) fn of(first: Loose<Counted<T>, Global>) -> Owner<T>
+        requires { first.value.count ≡ 1 }
+        ensures { result.value ≡ first.value.value }
     {
-        let Loose { at: ptr, alloc: _ } = value;
         let Loose {
-            at: count,
+            at: block,
             alloc: _,
-        } = count;
-        Owner { count, ptr }
+        } = first;
+        Owner { block }
     }
 
-    // Gives this owner up. The last one gets the value and the count; at a full count nobody is the last.
-    pub(crate) fn step_down(self, alloc: Global) -> Option<(Loose<T, Global>, Loose<u64, Global>)> {
-        let Owner { count, ptr } = self;
-        let n = unsafe { *count };
+    // Gives this owner up. It is the last where the count is 1, and gets the block with that count in it. At a full
+    // count nobody is the last. `None` tells no count: how many other owners there are is no value that an owner has.
+    pub(crate) fn step_down(self, alloc: Global) -> Option<Loose<Counted<T>, Global>>
+        ensures { IfSome result (λ last. (last.value.count ≡ 1) × (last.value.value ≡ self.value)) }
+    {
+        let Owner { block } = self;
+        let n = unsafe { (*block).count };
         if n == 1 {
-            return Some((Loose { at: ptr, alloc }, Loose { at: count, alloc }));
+            return Some(Loose { at: block, alloc });
         }
         if n != u64::MAX {
-            unsafe { *count = n - 1 };
+            unsafe { (*block).count = n - 1 };
         }
         None
     }
@@ -48,20 +56,19 @@ impl<T> Owner<T> {
     pub(crate) fn share(&self) -> Owner<T>
         ensures { result.value ≡ self.now.value }
     {
-        let count = self.count;
-        let ptr = self.ptr;
+        let block = self.block;
         unsafe {
-            let n = *count;
+            let n = (*block).count;
             if n != u64::MAX {
-                *count = n + 1;
+                (*block).count = n + 1;
             }
         }
-        Owner { count, ptr }
+        Owner { block }
     }
 
     pub(crate) fn get(&self) -> &T
         ensures { result.now ≡ self.now.value }
     {
-        unsafe { &*self.ptr }
+        unsafe { &(*self.block).value }
     }
 }

@@ -3,12 +3,12 @@ ghost use Rattle.std.specs.Prelude.{◌≡◌, IfOk};
 
 use crate::Memory;
 use crate::loose::Loose;
-use crate::owner::Owner;
+use crate::owner::{Counted, Owner};
 use std::alloc::{AllocError, Global};
 use std::marker::Model;
 
-/// One of the owners of a value on the heap, which is dropped with the last of them. An owner can always be shared: that
-/// takes no memory. Where 2^64 - 1 owners are alive at once, the value stays for good. Contracts see the value.
+/// One of the owners of a value on the heap, which is dropped with the last of them. An owner can always be shared:
+/// that takes no memory. Where 2^64 - 1 owners are alive at once, the value stays for good. Contracts see the value.
 pub struct Shared<T> {
     owner: Owner<T>,
     alloc: Global,
@@ -23,9 +23,8 @@ impl<T> Model for Shared<T> {
 impl<T: Drop> Drop for Shared<T> {
     fn drop(self) {
         let Shared { owner, alloc } = self;
-        if let Some((value, count)) = owner.step_down(alloc) {
-            drop(value.into_box());
-            drop(count.into_box());
+        if let Some(last) = owner.step_down(alloc) {
+            drop(last.into_box());
         }
     }
 }
@@ -35,12 +34,9 @@ impl<T: Drop> Shared<T> {
     pub fn new(alloc: Global, value: T) -> Result<Shared<T>, Memory>
         ensures { IfOk result (λ s. s ≡ value) }
     {
-        let Ok(count) = Box::new(alloc, 1u64) else {
-            return Err(AllocError);
-        };
-        match Box::new(alloc, value) {
-            Ok(value) => Ok(Shared {
-                owner: Owner::of(Loose::of(value), Loose::of(count)),
+        match Box::new(alloc, Counted { count: 1, value }) {
+            Ok(first) => Ok(Shared {
+                owner: Owner::of(Loose::of(first)),
                 alloc,
             }),
             Err(_) => Err(AllocError),

@@ -1,19 +1,19 @@
 -- `get` reads the value through a `&`.
-use mathlib.Core.Path.{◌≡◌, refl, sym, subst}
+use mathlib.Core.Path.{refl, sym, subst}
 use mathlib.Core.Bool.{Bool}
-use Prim.Native.Nat.{ℕ}
+use Prim.Native.Nat.{ℕ, ◌+◌}
 use mir.Syntax.{Fn, Args, Ty, a_type, ty_ptr}
-use mir.Val.{Val, vptr, vcons, vnil, vstruct, of_list}
+use mir.Val.{Val, vptr, vcons, vnil, vstruct}
 use mir.Raw.{raw as bare}
 use base.Logic.{SProp, ent, via, fst∗, snd∗, id⊢}
 use base.Fml.{Lft, Share, Fml, ftrue, flft, fhide, fat}
 use prog.Wp.{Env, Calls, Loops, WpFn, Tables}
-use types.Kit.{Item, ‵, raw, ◌⊛◌, at_ret, ◌$◌, ◌∵◌, !, qed, move, keep, drop, rewrite, use1, split, join, fsplit, fjoin, fpick, feq_i, feq_l, suffices, done}
+use types.Kit.{Item, ‵, raw, ◌⊛◌, at_ret, ◌$◌, ◌∵◌, !, qed, move, keep, drop, rewrite, use1, split, join, fsplit, fjoin, feq_i, suffices, done}
 use types.Run.{hop, stop, fld, of_opd, addr, first, blocks, exec, returns, enter}
 use types.Part.{look_in, sub, whole}
 use types.ByLocal.{sets_last, alloc_all, pass_all, free_all, look_at, get, through, sets, env}
 use denote.RattleType.{RattleType, RowLaws, owns}
-use denote.RawPtr.{coded_ptr, ptr_own, rawptr_pure, Ptr, RawPtr, ptr_val, block_of, count_of, in_a_block}
+use denote.RawPtr.{coded_ptr, ptr_own, rawptr_pure, Ptr, RawPtr, ptr_val, block_of, count_of, in_a_block, ◌+ₚ◌}
 use denote.Builtin.{RefOf}
 use denote.Steps.{nothing, looks, shuts}
 use denote.Copied.{Copied, plain_Copied, Struct-Copied}
@@ -87,11 +87,8 @@ module _ (Y : RattleType) (Yl : RowLaws (F.T-row Y)) {M : Type 1} {𝓤 : Ura M}
     abbrev Goes : List Val → Type 1
     Goes us = ent 𝓤 ((walk_of 𝓛 (ended Y) (stayed Y) held).pre (At us)) (WpFn 𝓤 H C Λ (fn' Y) (us ++ []) (Post us))
 
-    abbrev c : Ptr
-    c = z.0.3.0.now.count
-
     abbrev p : Ptr
-    p = z.0.3.0.now.ptr
+    p = z.0.3.0.now.block
 
     abbrev x : Y.Denot
     x = z.0.3.0.now.value
@@ -99,17 +96,20 @@ module _ (Y : RattleType) (Yl : RowLaws (F.T-row Y)) {M : Type 1} {𝓤 : Ura M}
     abbrev R : RattleType
     R = F.T-row Y
 
+    abbrev off : ℕ
+    off = o.value_offset R
+
     abbrev kk : ℕ × ℕ
-    kk = (block_of c, count_of c)
+    kk = (block_of p, count_of p)
 
     abbrev S : ℕ → Fml
-    S = o.counter R c p x
+    S = o.counter R p x
 
     abbrev P : Fml
-    P = o.whole R c p x
+    P = o.whole R p x
 
     abbrev t : Lft → Fml
-    t = lent_at R p x
+    t = lent_at R (o.value_at R p x) x
 
     abbrev Word : RattleType
     Word = steps.Word R
@@ -124,13 +124,13 @@ module _ (Y : RattleType) (Yl : RowLaws (F.T-row Y)) {M : Type 1} {𝓤 : Ura M}
     live = s.live 64 kk S P
 
     abbrev word : Ptr → Val
-    word r = vstruct (vcons (ptr_val c) (vcons (ptr_val r) vnil))
+    word r = vstruct (vcons (ptr_val r) vnil)
 
     abbrev wty : Ty
     wty = steps.word_ty R
 
     abbrev tlaws : ShrLaws t
-    tlaws = lent_at_shr_laws R Yl p x
+    tlaws = lent_at_shr_laws R Yl (o.value_at R p x) x
 
     abbrev asked : Item 𝓤
     asked = raw ((F.clauses Y 𝓛 at_mem run z.0.0 z.0.3).requires z.1)
@@ -152,27 +152,26 @@ module _ (Y : RattleType) (Yl : RowLaws (F.T-row Y)) {M : Type 1} {𝓤 : Ura M}
         qed 𝓛 (((‵ (flft κ q) ⊛ others) ⊛ ‵ (owns (types_at (ended Y).signature.params z.0.0) z.0.3 (us, tt))) ∷ asked ∷ []) ∵
         split ! $ split ! $ move ! (2 ∷ []) $ fsplit ! $ fsplit ! $ keep ! (1 ∷ 3 ∷ 4 ∷ []) $
         let b = z.0.3.0.ref_ptr.0 in let o' = z.0.3.0.ref_ptr.1 in
-        use1 𝓛 (‵ (hidden_shr Word κ (c, (p, tt)) b o') ⊛ ‵ (fhide (lent κ))) (id⊢ 𝓤 _) $ split ! $ move ! (1 ∷ []) $ unhide ! $
+        use1 𝓛 (‵ (hidden_shr Word κ (p, tt) b o') ⊛ ‵ (fhide (lent κ))) (id⊢ 𝓤 _) $ split ! $ move ! (1 ∷ []) $ unhide ! $
         use1 𝓛 (‵ (t κ)) (laws.sees 64 kk S P 𝓛 t tlaws κ) $
-        in_a_block ! p (λ r. lent_at R r x κ) (fst∗ 𝓤 (never 𝓤) (sem 𝓛 (shared_of R x 0 0 κ))) (λ cb co e. fsplit ! $ drop ! $ hide ! $
+        in_a_block ! p (λ r. lent_at R (r +ₚ off) x κ) (fst∗ 𝓤 (never 𝓤) (sem 𝓛 (shared_of R x 0 0 κ))) (λ cb co e. fsplit ! $ drop ! $ hide ! $
         enter ! C Λ (fn' Y) us _ $ alloc_all ! (λ l. pass_all ! refl ((tt, tt), tt) $
         let En : Env 𝓤 H = env (fn' Y).locals l in
-        let at : Val = vptr cb co in
+        let at : Val = vptr cb (co + off) in
         let raw_copied : Copied 𝓛 RawPtr = plain_Copied 𝓛 Ptr coded_ptr (ty_ptr ∷ []) ptr_own rawptr_pure ptr_val RawPtr-laws.tells in
-        let copied : Copied 𝓛 Word = Struct-Copied 𝓛 (steps.pointers R) (refl, (refl, tt)) (raw_copied, (raw_copied, tt)) in
+        let copied : Copied 𝓛 Word = Struct-Copied 𝓛 (steps.pointers R) (refl, tt) (raw_copied, tt) in
         move ! (1 ∷ 2 ∷ []) $
-        looks ! tt Word copied.opens (c, (p, tt)) b o' (λ q' vs. move ! (3 ∷ []) $ drop ! $ move ! (1 ∷ []) $
-        fpick ! (λ vss. fsplit ! $ feq_l ! (λ ev. fsplit ! $ feq_l ! (λ e0. fsplit ! $ feq_l ! (λ e1. drop ! $
-        let word_is = subst (λ (ws : List Val). vs ≡ vstruct (of_list ((ptr_val c ∷ []) ++ (ws ++ []))) ∷ []) e1 (subst (λ (ws : List Val). vs ≡ vstruct (of_list (ws ++ (vss.1.0 ++ []))) ∷ []) e0 ev) in
+        looks ! tt Word copied.opens (p, tt) b o' (λ q' vs. move ! (3 ∷ []) $ drop ! $ move ! (1 ∷ []) $
+        steps.word_had R p ! vs (λ word_is.
         rewrite ! 0 (λ (ws : List Val). ‵ (cell_at q' (wty ∷ []) ws b o')) word_is refl $ use1 𝓛 (‵ (fat q' wty b o' (word p))) (𝓛.laws.raw_at q' wty b o' (word p)) $
         rewrite ! 0 (λ (r : Ptr). ‵ (fat q' wty b o' (word r))) e refl $ first ! $ blocks ! $
-        sets_last ! (addr ! (through ! refl (fld ! refl (hop ! (look_in ! 0 (sub ! 1 refl (whole !))) (stop !))))) refl (tt, tt) $
+        sets_last ! (addr ! (through ! refl (fld ! refl (hop ! (look_in ! 0 (sub ! 0 refl (whole !))) (fld ! refl (stop !)))))) refl (tt, tt) $
         exec ! C Λ En (after 1 (fn' Y).body) (at_ret En (Post us)) $ sets ! (of_opd ! (get ! refl)) refl (tt, tt) $
         rewrite ! 0 (λ (r : Ptr). ‵ (fat q' wty b o' (word r))) (sym e) refl $
-        use1 𝓛 (‵ (fat q' (bare wty) b o' (word p))) (𝓛.laws.at_raw q' wty b o' (word p)) $ steps.word_made R c p ! $ move ! (1 ∷ 0 ∷ []) $ shuts ! tt Word q' (c, (p, tt)) (word p ∷ []) b o' $
+        use1 𝓛 (‵ (fat q' (bare wty) b o' (word p))) (𝓛.laws.at_raw q' wty b o' (word p)) $ steps.word_made R p ! $ move ! (1 ∷ 0 ∷ []) $ shuts ! tt Word q' (p, tt) (word p ∷ []) b o' $
         move ! (1 ∷ []) $ feq_i ! (List Val) (at ∷ []) (at ∷ []) refl $ fjoin ! $ returns ! (look_at ! 0 refl) $ free_all ! refl $ keep ! (0 ∷ 1 ∷ 2 ∷ []) $
-        suffices ! _ (ends_at 𝓛 (ended Y) (stayed Y) held (At us) at (record { ref_ptr = (cb, co); now = x }) (tt, tt) (tt, tt)) $
-        says ! refl $ nothing ! $ nothing ! $ fjoin ! $ join ! $ move ! (1 ∷ 2 ∷ []) $ join ! $ join ! $ done !)))))))
+        suffices ! _ (ends_at 𝓛 (ended Y) (stayed Y) held (At us) at (record { ref_ptr = (cb, co + off); now = x }) (tt, tt) (tt, tt)) $
+        says ! refl $ nothing ! $ nothing ! $ fjoin ! $ join ! $ move ! (1 ∷ 2 ∷ []) $ join ! $ join ! $ done !))))
 
   meets : (𝓣 : Tables 𝓤 H) → Meets 𝓛 (ended Y).signature (WpFn 𝓤 H 𝓣.C 𝓣.Λ (fn' Y)) (closing 𝓛 (ended Y) held)
   meets 𝓣 =

@@ -1,5 +1,5 @@
--- `step_down` gives an owner up. At a count of 1 it is the last, and has the value and the count; a full count stands still; any other is lowered by one.
-use Rattle.std.proofs.Common.{ℕ, ◌-◌, ◌<◌, ◌^◌, List, [], ◌∷◌, ◌++◌, refl, sym, ap, subst, lit<, arith}
+-- `step_down` gives an owner up. At a count of 1 it is the last, and has the block; a full count stands still; any other is lowered by one.
+use Rattle.std.proofs.Common.{ℕ, ◌+◌, ◌-◌, ◌<◌, ◌^◌, List, [], ◌∷◌, ◌++◌, refl, sym, ap, subst, lit<, arith}
 use mathlib.Core.Bool.{Bool, true}
 use lib.Dec.{T, eqb→eq}
 use seplogic.Ra.Ura.{Ura}
@@ -12,7 +12,6 @@ use contract.Monad.{Fun, fact_use}
 use contract.Named.{bare_unfolds}
 use contract.Running.{tables_of, bare_tables}
 use mir.MapTy.{inst_fn}
-use mir.Raw.{raw as bare}
 use mir.Syntax.{Args, Fn, a_type, w64, ty_int}
 use mir.Val.{Val, vptr, vint, vcons, vnil, has_ty, WT}
 use prog.Memory.{Memory}
@@ -28,21 +27,20 @@ use types.Part.{agg, sub, whole}
 use denote.Builtin.{u64}
 use denote.Exit.{yes, no}
 use denote.Laws.{Are, Ises, Is, owns_show, showss}
-use denote.Memory.{lone}
 use denote.Param.{layout, layouts}
+use denote.Param.Laws.{Laws}
 use denote.Plain.{uint_in, uint_out}
 use denote.RattleType.{RattleType, owns}
-use denote.RawPtr.{Ptr, block_ptr, block_of, count_of, lies_at, in_a_block, ptr_val}
+use denote.RawPtr.{Ptr, block_ptr, block_of, count_of, lies_at, in_a_block, ptr_val, ◌+ₚ◌}
 use denote.Signature.{types_at, plain}
 use denote.Steps.{nothing}
 use denote.Struct.Lending.{lent_at}
-use denote.Struct.Tuple.{Tuple}
 use denote.Triple.Clauses.{Clauses, Ended, closing}
 use denote.Triple.Entry.{on_entry, alive}
 use denote.Triple.Handed.{holding, hands}
 use denote.Triple.Spec.{Meets, triple_of}
 use denote.Triple.Table.{entered}
-use denote.Triple.Walked.{Stays, stay_dropped, walk_of, ends_at, Goes-dropped, walk_Meets}
+use denote.Triple.Walked.{says, Stays, stay_dropped, walk_of, ends_at, Goes-dropped, walk_Meets}
 use Rattle.core.specs.contracts.option.Option as Opt
 use Rattle.core.specs.declared.option.Option.TheVariants.{None, Some}
 use Rattle.libc.specs.Heap.{chunk}
@@ -55,9 +53,9 @@ use Rattle.gr_gap.specs.Sticky as s
 use Rattle.gr_gap.specs.Sticky.{Id, ι}
 use Rattle.gr_gap.specs.Ownership as own
 use Rattle.gr_gap.proofs.StickyLaws as laws
-use Rattle.gr_gap.proofs.LooseValues.{Loose, both, both_tt, loose_good, loose_in, pair_in}
-use Rattle.gr_gap.proofs.OwnerSteps.{word, word-Good, word_had, heap_own, heap_Good, also_tt, Some-of, none_of}
-use Rattle.gr_gap.proofs.Words.{Ptr-Good, is_not}
+use Rattle.gr_gap.proofs.LooseValues.{Loose, both, loose_good, loose_in}
+use Rattle.gr_gap.proofs.OwnerSteps.{Block, together, word, word-Good, word_had, heap_own, heap_Good, also_tt, Some-of, none_of}
+use Rattle.gr_gap.proofs.Words.{is_not}
 use Rattle.gr_gap.specs.contracts.owner.Owner as RC
 use Rattle.gr_gap.specs.contracts.owner.Owner.step_down as F
 use Rattle.gr_gap.specs.contracts.owner.Owner.step_down.Key.{name as #self}
@@ -78,7 +76,7 @@ module _ (Y : RattleType) where
   abbrev stayed : Stays ended.signature.params ended.kept
   stayed = (stay_dropped (plain (λ _. RC.the_row (F.T-row Y))) no, (stay_dropped (plain (λ _. heap.the_row)) yes, tt))
 
-module _ (Y : RattleType) {M : Type 1} {𝓤 : Ura M} (𝓛 : Logic 𝓤) (at_mem : Memory → SProp 𝓤) (run : Routine → Fun 𝓤) where
+module _ (Y : RattleType) (L : Laws Y) {M : Type 1} {𝓤 : Ura M} (𝓛 : Logic 𝓤) (at_mem : Memory → SProp 𝓤) (run : Routine → Fun 𝓤) where
   open 𝓛 use {H, A}
 
   abbrev held : Clauses 𝓤 (ended Y)
@@ -94,38 +92,32 @@ module _ (Y : RattleType) {M : Type 1} {𝓤 : Ura M} (𝓛 : Logic 𝓤) (at_me
     abbrev R : RattleType
     R = F.T-row Y
 
-    abbrev c : Ptr
-    c = z.0.3.0.count
-
     abbrev p : Ptr
-    p = z.0.3.0.ptr
+    p = z.0.3.0.block
 
     abbrev x : Y.Denot
     x = z.0.3.0.value
 
     abbrev kk : ℕ × ℕ
-    kk = (block_of c, count_of c)
+    kk = (block_of p, count_of p)
 
     abbrev S : ℕ → Fml
-    S = own.counter R c p x
+    S = own.counter R p x
 
     abbrev P : Fml
-    P = own.whole R c p x
+    P = own.whole R p x
 
     abbrev t : Lft → Fml
-    t = lent_at R p x
+    t = lent_at R (own.value_at R p x) x
 
     abbrev state : Id → Bool → ℕ → Fml
     state = s.live 64 kk S P
 
-    abbrev V : RattleType
-    V = Loose R heap.the_row heap_laws.the_row_laws ghosts
-
-    abbrev N : RattleType
-    N = Loose u64 heap.the_row heap_laws.the_row_laws ghosts
+    abbrev B : RattleType
+    B = Block Y L
 
     abbrev G : RattleType
-    G = Tuple (V ∷ N ∷ [])
+    G = Loose B heap.the_row heap_laws.the_row_laws ghosts
 
     abbrev toks : Item 𝓤
     toks = ‵ (flft z.0.0.0 z.0.1.0) ⊛ ‵ ftrue
@@ -135,12 +127,12 @@ module _ (Y : RattleType) {M : Type 1} {𝓤 : Ura M} (𝓛 : Logic 𝓤) (at_me
 
     walks : Is heap.the_row z.0.3.1.0 z.0.4.1.0 → ent 𝓤 ((walk_of 𝓛 (ended Y) (stayed Y) held).pre z) (Run (z.0.4.0 ++ (z.0.4.1.0 ++ [])))
     walks his =
-        let hs = heap_Tells z.0.3.1.0 z.0.4.1.0 his in let w : Val = word R c p in
+        let hs = heap_Tells z.0.3.1.0 z.0.4.1.0 his in let w : Val = word R p in
         qed 𝓛 ((toks ⊛ ‵ (owns (types_at (ended Y).signature.params z.0.0) z.0.3 z.0.4)) ∷ (‵ (ftok every) ⊛ asked) ∷ []) ∵
-        split ! $ move ! (1 ∷ []) $ fsplit ! $ move ! (1 ∷ []) $ fsplit ! $ drop ! $ drop ! $ fsplit ! $ word_had R c p ! z.0.4.0 (λ ws.
+        split ! $ move ! (1 ∷ []) $ fsplit ! $ move ! (1 ∷ []) $ fsplit ! $ drop ! $ drop ! $ fsplit ! $ word_had R p ! z.0.4.0 (λ ws.
         use1 𝓛 (‵ (s.shared_owns 64 kk S P t)) (id⊢ 𝓤 _) $
         suffices ! (Run (w ∷ heap_val ∷ [])) (subst (λ (us : List Val). ent 𝓤 (Run (w ∷ heap_val ∷ [])) (Run us)) (sym (λ i. ws i ++ (hs i ++ []))) (id⊢ 𝓤 (Run (w ∷ heap_val ∷ [])))) $
-        enter ! C Λ (fn' Y) (w ∷ heap_val ∷ []) Post $ alloc_all ! (λ l. pass_all ! refl (word-Good R c p, (heap_Good, tt)) $
+        enter ! C Λ (fn' Y) (w ∷ heap_val ∷ []) Post $ alloc_all ! (λ l. pass_all ! refl (word-Good R p, (heap_Good, tt)) $
         let En : Env 𝓤 H = env (fn' Y).locals l in
         fpick ! (λ a. fpick ! (λ y. fsplit3 ! $
         use1 𝓛 (later (some (λ (q : Share). ‵ (flft (ι a) q) ⊛ raw (wand 𝓤 (A.lft (ι a) q) (sem 𝓛 (s.owner 64 a y)))))) (laws.holds 64 kk S P 𝓛 a y) $ await ! tt $ pick ! (λ sh. split ! $
@@ -148,54 +140,50 @@ module _ (Y : RattleType) {M : Type 1} {𝓤 : Ura M} (𝓛 : Logic 𝓤) (at_me
         move ! (5 ∷ []) $ split ! $ move ! (4 ∷ 2 ∷ 0 ∷ []) $
         use3 𝓛 (later (some (λ (u : Bool × ℕ). ‵ (S u.1) ⊛ ‵ (state a u.0 u.1) ⊛ ‵ (flft (ι a) sh) ⊛ raw (laws.Shut 64 kk S P 𝓛 a every)))) (laws.opens 64 kk S P 𝓛 a every refl sh) $ await ! tt $ pick ! (λ u.
         let n = u.1 in split3 ! $ move ! (2 ∷ []) $ split ! $ move ! (2 ∷ []) $
-        in_a_block ! c (λ r. lies_at u64 full_share r n) (id⊢ 𝓤 _) (λ cb co e. use1 𝓛 (‵ (fat full_share (ty_int w64) cb co (vint w64 n))) (uint_out 𝓛 full_share w64 n cb co) $ well_typed ! (λ ok.
+        in_a_block ! p (λ r. lies_at u64 full_share (r +ₚ 0) n) (id⊢ 𝓤 _) (λ cb co e. use1 𝓛 (‵ (fat full_share (ty_int w64) cb (co + 0) (vint w64 n))) (uint_out 𝓛 full_share w64 n cb (co + 0)) $ well_typed ! (λ ok.
         -- [the count; the share; what shuts; the state; the `requires`; the way back; the view; the token]
         move ! (3 ∷ []) $ use1 𝓛 (given (0 < n) (‵ (state a u.0 n))) (laws.some_owner 64 kk S P 𝓛 a (lit< tt) u.0 n) $ learn ! (λ owned.
         move ! (2 ∷ 5 ∷ []) $ use2 𝓛 (‵ (s.owner 64 a y)) (apply∗ 𝓤 (A.lft (ι a) sh) (sem 𝓛 (s.owner 64 a y))) $ move ! (2 ∷ []) $
         -- [the count; the owner; the state; what shuts; the `requires`; the view; the token]
-        sets ! (is ! (of_opd ! (get_in ! (fld ! refl (stop !)) (sub ! 0 refl (whole !)))) (ap ptr_val e)) refl (tt, tt) $ sets ! (of_opd ! (get_in ! (fld ! refl (stop !)) (sub ! 1 refl (whole !)))) refl (Ptr-Good p) $
-        first ! $ blocks ! $ sets_last ! (of_opd ! (load ! (through ! refl (stop !)) (look ! 0 refl))) refl ok $ exec ! C Λ En (after 3 (fn' Y).body) (at_ret En Post) $
+        sets ! (is ! (of_opd ! (get_in ! (fld ! refl (stop !)) (sub ! 0 refl (whole !)))) (ap ptr_val e)) refl (tt, tt) $
+        first ! $ blocks ! $ sets_last ! (of_opd ! (load ! (through ! refl (fld ! refl (stop !))) (look ! 0 refl))) refl ok $ exec ! C Λ En (after 2 (fn' Y).body) (at_ret En Post) $
         sets ! (of_opd ! (get ! refl)) refl ok $ sets ! (bin ! (get ! refl) (lit ! tt) tt) refl (tt, tt) $ first ! $ branches ! (get ! refl)
         (λ last. let one = eqb→eq n 1 last in
         move ! (2 ∷ 1 ∷ []) $ use2 𝓛 (‵ (state a true n) ⊛ ‵ (s.owner 64 a true)) (laws.still 64 kk S P 𝓛 a u.0 y n (omega arith)) $ split ! $ rewrite ! 0 (λ (m : ℕ). ‵ (state a true m)) one refl $
         use2 𝓛 (later (‵ P ⊛ ‵ (s.Inv 64 kk S P a))) (laws.last 64 kk S P 𝓛 a) $ await ! tt $ split ! $
-        -- [the value, with what frees both; the invariant's content; the count; what shuts; the `requires`; the view; the token]
+        -- [the value, with what frees the block; the invariant's content; the count; what shuts; the `requires`; the view; the token]
         move ! (1 ∷ 3 ∷ []) $ use2 𝓛 (later (‵ (ftok every))) (apply∗ 𝓤 (sem 𝓛 (s.Inv 64 kk S P a)) (H.⇛ (A.tok every))) $ await ! tt $ move ! (1 ∷ []) $ fsplit3 ! $
-        in_a_block ! p (λ r. lies_at R full_share r x) (id⊢ 𝓤 _) (λ pb po ep. let c' : Ptr = block_ptr cb co in let p' : Ptr = block_ptr pb po in
-        rewrite ! 1 (λ (r : Ptr). ‵ (chunk (bare (lone R.mir)) r)) ep refl $ rewrite ! 2 (λ (r : Ptr). ‵ (chunk (ty_int w64) r)) e refl $ fjoin ! $
-        move ! (3 ∷ []) $ use1 𝓛 (‵ (lies_at u64 full_share c' n)) (uint_in 𝓛 full_share w64 n cb co) $ rewrite ! 0 (λ (m : ℕ). ‵ (lies_at u64 full_share c' m)) one refl $ move ! (0 ∷ 2 ∷ []) $ fjoin ! $
-        -- [the count's box; the value's; the thread's token; the `requires`; the view; the token]
-        let good : T (has_ty (layout V) (both (vptr pb po) heap_val)) × WT (both (vptr pb po) heap_val) = loose_good R heap.the_row heap_laws.the_row_laws ghosts pb po heap_val heap_Good in
-        let count_good : T (has_ty (layout N) (both (vptr cb co) heap_val)) × WT (both (vptr cb co) heap_val) = loose_good u64 heap.the_row heap_laws.the_row_laws ghosts cb co heap_val heap_Good in
-        let pair : Val = both (both (vptr pb po) heap_val) (both (vptr cb co) heap_val) in
-        let pair_good : T (has_ty (layout G) pair) × WT pair = (both_tt (has_ty (layout V) (both (vptr pb po) heap_val)) (has_ty (layout N) (both (vptr cb co) heap_val)) good.0 count_good.0, (good.1, (count_good.1, tt))) in
-        sets ! (is ! (agg ! (and_then ! (get ! refl) (and_then ! (get ! refl) (no_more !)))) (ap (λ (r : Ptr). both (ptr_val r) heap_val) ep)) refl good $
-        sets ! (agg ! (and_then ! (get ! refl) (and_then ! (get ! refl) (no_more !)))) refl count_good $ sets ! (agg ! (and_then ! (get ! refl) (and_then ! (get ! refl) (no_more !)))) refl pair_good $
-        sets ! (agg ! (and_then ! (lit ! tt) (and_then ! (get ! refl) (no_more !)))) refl (also_tt (has_ty (layout G) pair) pair_good.0, (record { fits = lit< tt }, (pair_good.1, tt))) $
-        use0 𝓛 (‵ (heap.the_row.own_val handle (heap_val ∷ []))) (heap_own 𝓛) $ move ! (1 ∷ 0 ∷ []) $ loose_in u64 heap.the_row heap_laws.the_row_laws ghosts ! cb co heap_val handle 1 $ move ! (1 ∷ []) $
-        use0 𝓛 (‵ (heap.the_row.own_val handle (heap_val ∷ []))) (heap_own 𝓛) $ move ! (1 ∷ 0 ∷ []) $ loose_in R heap.the_row heap_laws.the_row_laws ghosts ! pb po heap_val handle x $
-        let d : G.Denot = (record { at = p'; alloc = handle; value = x }, record { at = c'; alloc = handle; value = 1 }) in
-        pair_in V N ! d.0 d.1 (both (vptr pb po) heap_val) (both (vptr cb co) heap_val) $
-        use1 𝓛 (‵ ((Opt.the_row G).own_val (Some d) (live 1 (vcons pair vnil) ∷ []))) (Some-of 𝓛 G d pair) $
+        -- [the value; what is beside; what frees the block; the thread's token; the count; the `requires`; the view; the token]
+        let p' : Ptr = block_ptr cb co in let d : B.Denot = record { count = 1; value = x } in
+        rewrite ! 0 (λ (r : Ptr). ‵ (lies_at R full_share (own.value_at R r x) x)) e refl $ rewrite ! 1 (λ (r : Ptr). ‵ (own.beside_fields R r)) e refl $ rewrite ! 2 (λ (r : Ptr). ‵ (chunk (own.counted_type R) r)) e refl $
+        move ! (4 ∷ []) $ use1 𝓛 (‵ (lies_at u64 full_share (p' +ₚ 0) n)) (uint_in 𝓛 full_share w64 n cb (co + 0)) $ rewrite ! 0 (λ (m : ℕ). ‵ (lies_at u64 full_share (p' +ₚ 0) m)) one refl $
+        group ! 3 $ use1 𝓛 (‵ (lies_at B full_share p' d)) (together Y L 𝓛 cb co d) $ fjoin ! $
+        -- [the box; the thread's token; the `requires`; the view; the token]
+        let v : Val = both (vptr cb co) heap_val in let good : T (has_ty (layout G) v) × WT v = loose_good B heap.the_row heap_laws.the_row_laws ghosts cb co heap_val heap_Good in
+        sets ! (agg ! (and_then ! (get ! refl) (and_then ! (get ! refl) (no_more !)))) refl good $
+        sets ! (agg ! (and_then ! (lit ! tt) (and_then ! (get ! refl) (no_more !)))) refl (also_tt (has_ty (layout G) v) good.0, (record { fits = lit< tt }, (good.1, tt))) $
+        use0 𝓛 (‵ (heap.the_row.own_val handle (heap_val ∷ []))) (heap_own 𝓛) $ move ! (1 ∷ 0 ∷ []) $ loose_in B heap.the_row heap_laws.the_row_laws ghosts ! cb co heap_val handle d $
+        let last_one : G.Denot = record { at = p'; alloc = handle; value = d } in
+        use1 𝓛 (‵ ((Opt.the_row G).own_val (Some last_one) (live 1 (vcons v vnil) ∷ []))) (Some-of 𝓛 G last_one v) $
         returns_within ! Post refl (look_at ! 0 refl) $ free_all ! refl $ keep ! (0 ∷ 4 ∷ 1 ∷ []) $
-        suffices ! _ (ends_at 𝓛 (ended Y) (stayed Y) held z (live 1 (vcons pair vnil)) (Some d) (tt, (tt, tt)) (tt, (tt, tt))) $ nothing ! $ nothing ! $ fjoin ! $ nothing ! $ fjoin ! $ join ! $ move ! (1 ∷ 0 ∷ []) $ join ! $ frame ! $ nothing ! $ move ! (1 ∷ 0 ∷ []) $ done !))
-        (λ more. let two = is_not n 1 more in skips ! $ exec ! C Λ En (after 6 (fn' Y).body) (at_ret En Post) $
+        suffices ! _ (ends_at 𝓛 (ended Y) (stayed Y) held z (live 1 (vcons v vnil)) (Some last_one) (tt, (tt, tt)) (tt, (tt, tt))) $ nothing ! $ nothing ! $ fjoin ! $ nothing ! $ fjoin ! $ join ! $ move ! (1 ∷ 0 ∷ []) $ join ! $ frame ! $ says ! (refl, refl) $ done !)
+        (λ more. let two = is_not n 1 more in skips ! $ exec ! C Λ En (after 5 (fn' Y).body) (at_ret En Post) $
         sets ! (bin ! (get ! refl) (neg_lit ! tt) tt) refl (tt, tt) $ first ! $ branches ! (get ! refl)
         (λ room. let nf = is_not n (2 ^ 64 - 1) room in let many : 1 < n = omega (arith, owned, two) in let f₁ : n - 1 < 2 ^ 64 = omega (arith, ok.1.fits) in
-        blocks ! $ sets ! (bin ! (get ! refl) (lit ! tt) owned) refl (tt, record { fits = f₁ }) $ assigns_last ! (of_opd ! (get ! refl)) (through ! refl (stop !)) (store ! 0 refl (tt, record { fits = f₁ })) $
-        exec ! C Λ En (after 8 (fn' Y).body) (at_ret En Post) $
+        blocks ! $ sets ! (bin ! (get ! refl) (lit ! tt) owned) refl (tt, record { fits = f₁ }) $ assigns_last ! (of_opd ! (get ! refl)) (through ! refl (fld ! refl (stop !))) (store ! 0 refl (tt, record { fits = f₁ })) $
+        exec ! C Λ En (after 7 (fn' Y).body) (at_ret En Post) $
         move ! (2 ∷ 1 ∷ []) $ use2 𝓛 (‵ (state a true n) ⊛ ‵ (s.owner 64 a true)) (laws.still 64 kk S P 𝓛 a u.0 y n (omega (arith, ok.1.fits, nf))) $ split ! $ use2 𝓛 (‵ (state a true (n - 1))) (laws.less 64 kk S P 𝓛 a n many) $
-        move ! (1 ∷ []) $ use1 𝓛 (‵ (lies_at u64 full_share (block_ptr cb co) (n - 1))) (uint_in 𝓛 full_share w64 (n - 1) cb co) $ rewrite ! 0 (λ (r : Ptr). ‵ (lies_at u64 full_share r (n - 1))) (sym e) refl $ group ! 3 $
+        move ! (1 ∷ []) $ use1 𝓛 (‵ (lies_at u64 full_share (block_ptr cb co +ₚ 0) (n - 1))) (uint_in 𝓛 full_share w64 (n - 1) cb (co + 0)) $ rewrite ! 0 (λ (r : Ptr). ‵ (lies_at u64 full_share (r +ₚ 0) (n - 1))) (sym e) refl $ group ! 3 $
         use1 𝓛 (later (‵ (ftok every))) (laws.shut 64 kk S P 𝓛 a every true (n - 1)) $ await ! tt $
         sets ! (agg ! (and_then ! (lit ! tt) (no_more !))) refl (tt, (record { fits = lit< tt }, tt)) $ use0 𝓛 (‵ ((Opt.the_row G).own_val None (live 0 vnil ∷ []))) (none_of 𝓛 G) $
         returns ! (look_at ! 0 refl) $ free_all ! refl $ keep ! (0 ∷ 4 ∷ 1 ∷ []) $
-        suffices ! _ (ends_at 𝓛 (ended Y) (stayed Y) held z (live 0 vnil) None (tt, (tt, tt)) (tt, (tt, tt))) $ nothing ! $ nothing ! $ fjoin ! $ nothing ! $ fjoin ! $ join ! $ move ! (1 ∷ 0 ∷ []) $ join ! $ frame ! $ nothing ! $ move ! (1 ∷ 0 ∷ []) $ done !)
-        (λ full. skips ! $ exec ! C Λ En (after 8 (fn' Y).body) (at_ret En Post) $
-        use1 𝓛 (‵ (lies_at u64 full_share (block_ptr cb co) n)) (uint_in 𝓛 full_share w64 n cb co) $ rewrite ! 0 (λ (r : Ptr). ‵ (lies_at u64 full_share r n)) (sym e) refl $ move ! (0 ∷ 2 ∷ 3 ∷ []) $ group ! 3 $
+        suffices ! _ (ends_at 𝓛 (ended Y) (stayed Y) held z (live 0 vnil) None (tt, (tt, tt)) (tt, (tt, tt))) $ nothing ! $ nothing ! $ fjoin ! $ nothing ! $ fjoin ! $ join ! $ move ! (1 ∷ 0 ∷ []) $ join ! $ frame ! $ says ! tt $ done !)
+        (λ full. skips ! $ exec ! C Λ En (after 7 (fn' Y).body) (at_ret En Post) $
+        use1 𝓛 (‵ (lies_at u64 full_share (block_ptr cb co +ₚ 0) n)) (uint_in 𝓛 full_share w64 n cb (co + 0)) $ rewrite ! 0 (λ (r : Ptr). ‵ (lies_at u64 full_share (r +ₚ 0) n)) (sym e) refl $ move ! (0 ∷ 2 ∷ 3 ∷ []) $ group ! 3 $
         use1 𝓛 (later (‵ (ftok every))) (laws.shut 64 kk S P 𝓛 a every u.0 n) $ await ! tt $ move ! (1 ∷ []) $ drop ! $
         sets ! (agg ! (and_then ! (lit ! tt) (no_more !))) refl (tt, (record { fits = lit< tt }, tt)) $ use0 𝓛 (‵ ((Opt.the_row G).own_val None (live 0 vnil ∷ []))) (none_of 𝓛 G) $
         returns ! (look_at ! 0 refl) $ free_all ! refl $ keep ! (0 ∷ 4 ∷ 1 ∷ []) $
-        suffices ! _ (ends_at 𝓛 (ended Y) (stayed Y) held z (live 0 vnil) None (tt, (tt, tt)) (tt, (tt, tt))) $ nothing ! $ nothing ! $ fjoin ! $ nothing ! $ fjoin ! $ join ! $ move ! (1 ∷ 0 ∷ []) $ join ! $ frame ! $ nothing ! $ move ! (1 ∷ 0 ∷ []) $ done !)))))))))))
+        suffices ! _ (ends_at 𝓛 (ended Y) (stayed Y) held z (live 0 vnil) None (tt, (tt, tt)) (tt, (tt, tt))) $ nothing ! $ nothing ! $ fjoin ! $ nothing ! $ fjoin ! $ join ! $ move ! (1 ∷ 0 ∷ []) $ join ! $ frame ! $ says ! tt $ done !)))))))))))
 
   meets : (𝓣 : Tables 𝓤 H) → Meets 𝓛 (ended Y).signature (WpFn 𝓤 H 𝓣.C 𝓣.Λ (fn' Y)) (closing 𝓛 (ended Y) held)
   meets 𝓣 =
@@ -217,4 +205,4 @@ step_down_spec 𝓤 𝓛 𝓜 𝓡 wired Y L =
     hands 𝓛 (ended Y) (A.tok every) c 𝓜 𝓒 𝓡 (𝓡.env k)
     (entered 𝓤 𝓛.H (triple_of 𝓛 (ended Y).signature (closing 𝓛 (ended Y) (holding 𝓤 (ended Y) (A.tok every) c))) 𝓣.C 𝓣.Λ k (fn' Y)
     (bare_unfolds 𝓤 𝓛.H 𝓒.inner 𝓡.allowed 𝓡.how 𝓡.env k (fn' Y) (wired.0.0 k refl))
-    (meets Y 𝓛 𝓜.mem 𝓡.returns 𝓣))
+    (meets Y L 𝓛 𝓜.mem 𝓡.returns 𝓣))
