@@ -91,24 +91,32 @@ change_more before t cs i c lt e h = subst (HasChange before t) (sym (take_more 
     with_last (y ∷ ys) (inl (inr x)) = inr (with_last ys (inl x))
     with_last (y ∷ ys) (inr x) = inr (with_last ys (inr x))
 
--- one child more
-pub all_more : (p q : Kept Q3 → Bool) (cs : List (Kept Q3)) (i : ℕ) (c : Kept Q3) → i < length cs → c ≡ get_or cs i c → list_all p (take i cs) ≡ list_all q (take i cs) → p c ≡ q c → list_all p (take (i + 1) cs) ≡ list_all q (take (i + 1) cs)
-all_more p q cs i c lt e so_far here =
-    ap (list_all p) (more cs i c lt e) ∙ list_all-append p (take i cs) (c ∷ [])
-    ∙ ap₂ (λ a b. a && b) so_far (ap (λ b. b && true) here)
-    ∙ sym (ap (list_all q) (more cs i c lt e) ∙ list_all-append q (take i cs) (c ∷ []))
-  where
-    more : (cs : List (Kept Q3)) (i : ℕ) (c : Kept Q3) → i < length cs → c ≡ get_or cs i c → take (i + 1) cs ≡ take i cs ++ c ∷ []
-    more cs i c lt e = take_more cs i c lt ∙ ap (λ z. take i cs ++ z ∷ []) (sym e)
+-- a change of a child is one among them all
+pub change_here : (before t : ℕ) (cs : List (Kept Q3)) (i : ℕ) (c : Kept Q3) → i < length cs → c ≡ get_or cs i c → wanted_at c.runs t ≢ wanted_at c.runs before → HasChange before t cs
+change_here before t [] i c lt e d = absurd (omega (arith, lt))
+change_here before t (x ∷ xs) zero c lt e d = inl (subst (λ k. wanted_at k.runs t ≢ wanted_at k.runs before) e d)
+change_here before t (x ∷ xs) (suc i) c lt e d = inr (change_here before t xs i c (omega (arith, lt)) e d)
 
-pub any_more : (p q : Kept Q3 → Bool) (cs : List (Kept Q3)) (i : ℕ) (c : Kept Q3) → i < length cs → c ≡ get_or cs i c → list_any p (take i cs) ≡ list_any q (take i cs) → p c ≡ q c → list_any p (take (i + 1) cs) ≡ list_any q (take (i + 1) cs)
-any_more p q cs i c lt e so_far here =
-    ap (list_any p) (more cs i c lt e) ∙ list_any-append p (take i cs) (c ∷ [])
-    ∙ ap₂ (λ a b. a || b) so_far (ap (λ b. b || false) here)
-    ∙ sym (ap (list_any q) (more cs i c lt e) ∙ list_any-append q (take i cs) (c ∷ []))
+-- where a test fails of a child it fails of all, and where it holds of one it holds of some
+pub all_fails : (p : Kept Q3 → Bool) (cs : List (Kept Q3)) (i : ℕ) (c : Kept Q3) → i < length cs → c ≡ get_or cs i c → p c ≡ false → list_all p cs ≡ false
+all_fails p [] i c lt e n = absurd (omega (arith, lt))
+all_fails p (x ∷ xs) zero c lt e n = and_left (p x) (list_all p xs) (sym (ap p e) ∙ n)
+all_fails p (x ∷ xs) (suc i) c lt e n = and_right (p x) (list_all p xs) (all_fails p xs i c (omega (arith, lt)) e n)
+
+pub any_holds : (p : Kept Q3 → Bool) (cs : List (Kept Q3)) (i : ℕ) (c : Kept Q3) → i < length cs → c ≡ get_or cs i c → p c ≡ true → list_any p cs ≡ true
+any_holds p [] i c lt e y = absurd (omega (arith, lt))
+any_holds p (x ∷ xs) zero c lt e y = ap (λ b. b || list_any p xs) (sym (ap p e) ∙ y)
+any_holds p (x ∷ xs) (suc i) c lt e y = ap (λ b. p x || b) (any_holds p xs i c (omega (arith, lt)) e y) ∙ or_true (p x)
   where
-    more : (cs : List (Kept Q3)) (i : ℕ) (c : Kept Q3) → i < length cs → c ≡ get_or cs i c → take (i + 1) cs ≡ take i cs ++ c ∷ []
-    more cs i c lt e = take_more cs i c lt ∙ ap (λ z. take i cs ++ z ∷ []) (sym e)
+    or_true : (b : Bool) → (b || true) ≡ true
+    or_true true = refl
+    or_true false = refl
+
+-- one child more
+pub all_hold_more : (p : Kept Q3 → Bool) (cs : List (Kept Q3)) (i : ℕ) (c : Kept Q3) → i < length cs → c ≡ get_or cs i c → list_all p (take i cs) ≡ true → p c ≡ true → list_all p (take (i + 1) cs) ≡ true
+all_hold_more p cs i c lt e so_far here =
+    ap (list_all p) (take_more cs i c lt ∙ ap (λ z. take i cs ++ z ∷ []) (sym e)) ∙ list_all-append p (take i cs) (c ∷ [])
+    ∙ ap₂ (λ a b. a && b) so_far (ap (λ b. b && true) here)
 
 pub none_more : (p : Kept Q3 → Bool) (cs : List (Kept Q3)) (i : ℕ) (c : Kept Q3) → i < length cs → c ≡ get_or cs i c → list_any p (take i cs) ≡ false → p c ≡ false → list_any p (take (i + 1) cs) ≡ false
 none_more p cs i c lt e so_far here =
@@ -156,14 +164,14 @@ any_runs : (t : ℕ) (cs : List (Kept Q3)) → any_C (runs_of cs) t ≡ list_any
 any_runs t [] = refl
 any_runs t (c ∷ cs) = ap (λ b. is_C (wanted_at c.runs t) || b) (any_runs t cs)
 
-pub consolidated_yes : (horizon : Option ℕ) (cs : List (Kept Q3)) (n t : ℕ) (b : Bool) → 1 ≤ t → is_reached horizon t ≡ true → list_all (λ c. is_A (wanted_at c.runs t)) cs ≡ list_all (λ c. is_A (wanted_at c.runs n)) cs → b ≡ list_all (λ c. is_A (wanted_at c.runs n)) cs → b ≡ true → A ≡ cond (is_consolidated horizon (runs_of cs) t) A N
-consolidated_yes horizon cs n t b lo reached steady told holds =
-    let all : all_A (runs_of cs) t ≡ true = all_runs t cs ∙ steady ∙ sym told ∙ holds in
+pub consolidated_yes : (horizon : Option ℕ) (cs : List (Kept Q3)) (t : ℕ) (b : Bool) → 1 ≤ t → is_reached horizon t ≡ true → list_all (λ c. is_A (wanted_at c.runs t)) cs ≡ b → b ≡ true → A ≡ cond (is_consolidated horizon (runs_of cs) t) A N
+consolidated_yes horizon cs t b lo reached steady holds =
+    let all : all_A (runs_of cs) t ≡ true = all_runs t cs ∙ steady ∙ holds in
     sym (cond-true (is_consolidated horizon (runs_of cs) t) A N (and_from (nat_le 1 t && is_reached horizon t) (all_A (runs_of cs) t) (and_from (nat_le 1 t) (is_reached horizon t) (le-leb 1 t lo) reached) all))
 
-pub consolidated_no : (horizon : Option ℕ) (cs : List (Kept Q3)) (n t : ℕ) (b : Bool) → list_all (λ c. is_A (wanted_at c.runs t)) cs ≡ list_all (λ c. is_A (wanted_at c.runs n)) cs → b ≡ list_all (λ c. is_A (wanted_at c.runs n)) cs → b ≡ false → N ≡ cond (is_consolidated horizon (runs_of cs) t) A N
-consolidated_no horizon cs n t b steady told fails =
-    let not_all : all_A (runs_of cs) t ≡ false = all_runs t cs ∙ steady ∙ sym told ∙ fails in
+pub consolidated_no : (horizon : Option ℕ) (cs : List (Kept Q3)) (t : ℕ) (b : Bool) → list_all (λ c. is_A (wanted_at c.runs t)) cs ≡ b → b ≡ false → N ≡ cond (is_consolidated horizon (runs_of cs) t) A N
+consolidated_no horizon cs t b steady fails =
+    let not_all : all_A (runs_of cs) t ≡ false = all_runs t cs ∙ steady ∙ fails in
     sym (cond-false (is_consolidated horizon (runs_of cs) t) A N (and_right (nat_le 1 t && is_reached horizon t) (all_A (runs_of cs) t) not_all))
 
 pub consolidated_outside : (horizon : Option ℕ) (ws : List (List (Run Q3))) (last t : ℕ) → ((u : ℕ) → last < u → is_consolidated horizon ws u ≡ false) → within 1 last t ≡ false → cond (is_consolidated horizon ws t) A N ≡ N
@@ -248,33 +256,24 @@ all_but_one (Some i) cs out next t eo en = but_split cs i t ∙ by_place (cases_
         ap₂ (λ xs ys. all_A (runs_of xs) t && all_A (runs_of ys) t) (take_all i cs le ∙ sym (take_all out cs (omega (arith, eo, le))))
         (drop_all (suc i) cs (omega (arith, le)) ∙ sym (drop_all next cs (omega (arith, eo, en, le))))
 
--- up to the end the test of the piece and of the children tells what is completed
-pub complete_test : (upto t : ℕ) (a : Bool) (xs ys : List (Kept Q3)) → t ≤ upto → (a && nat_le t upto && (all_A (runs_of xs) t && all_A (runs_of ys) t)) ≡ (a && (list_all (λ c. is_A (wanted_at c.runs t)) xs && list_all (λ c. is_A (wanted_at c.runs t)) ys))
-complete_test upto t true xs ys le =
-    ap (λ b. b && (all_A (runs_of xs) t && all_A (runs_of ys) t)) (le-leb t upto le) ∙ ap₂ (λ a b. a && b) (all_runs t xs) (all_runs t ys)
-complete_test upto t false xs ys le = refl
+-- what is completed of a tick that is acknowledged, up to the end, by the test of the other children
+pub completed_test : (upto t : ℕ) (a b : Bool) (xs ys : List (Kept Q3)) → a ≡ true → t ≤ upto → (list_all (λ c. is_A (wanted_at c.runs t)) xs && list_all (λ c. is_A (wanted_at c.runs t)) ys) ≡ b → cond b A N ≡ cond (a && nat_le t upto && (all_A (runs_of xs) t && all_A (runs_of ys) t)) A N
+completed_test upto t a b xs ys y le e =
+    ap (λ x. cond x A N) (sym e ∙ sym (ap₂ (λ x z. x && z) (all_runs t xs) (all_runs t ys)))
+    ∙ ap (λ x. cond (x && (all_A (runs_of xs) t && all_A (runs_of ys) t)) A N) (sym (and_from a (nat_le t upto) y (le-leb t upto le)))
 
--- nothing is completed past the end, or out of range
-pub complete_outside : (rs : List (Run Q3)) (upto last t : ℕ) (b : Bool) → AreRuns N rs → EndBefore rs (2 ^ 62 + 1) → last ≡ min upto (2 ^ 62) → within 1 last t ≡ false → cond (is_A (wanted_at rs t) && nat_le t upto && b) A N ≡ N
-complete_outside rs upto last t b canonical in_range e out =
-    cond-false (is_A (wanted_at rs t) && nat_le t upto && b) A N (and_left (is_A (wanted_at rs t) && nat_le t upto) b (by_place (cases_lt upto t)))
-  where
-    by_place : (upto < t) ⊎ (t ≤ upto) → (is_A (wanted_at rs t) && nat_le t upto) ≡ false
-    by_place (inl past) = and_right (is_A (wanted_at rs t)) (nat_le t upto) (lt-leb t upto past)
-    by_place (inr le) = and_left (is_A (wanted_at rs t)) (nat_le t upto) (ap is_A (wanted_outside rs (2 ^ 62) t canonical in_range (no_tick (cases_lt t 1) (cases_lt (2 ^ 62) t))))
-      where
-        no_tick : (t < 1) ⊎ (1 ≤ t) → (2 ^ 62 < t) ⊎ (t ≤ 2 ^ 62) → within 1 (2 ^ 62) t ≡ false
-        no_tick (inl lt) p = and_left (nat_le 1 t) (nat_le t (2 ^ 62)) (lt-leb 1 t lt)
-        no_tick (inr ge) (inl gt) = and_right (nat_le 1 t) (nat_le t (2 ^ 62)) (lt-leb t (2 ^ 62) gt)
-        no_tick (inr ge) (inr k) =
-            let inside : t ≤ last = omega (arith, e, le, k) in
-            absurd (false≢true (sym out ∙ and_from (nat_le 1 t) (nat_le t last) (le-leb 1 t ge) (le-leb t last inside)))
+-- nothing is completed of what is not acknowledged, or past the end
+pub completed_unheard : (upto t : ℕ) (a b : Bool) → a ≡ false → cond (a && nat_le t upto && b) A N ≡ N
+completed_unheard upto t a b n = cond-false (a && nat_le t upto && b) A N (and_left (a && nat_le t upto) b (and_left a (nat_le t upto) n))
 
-pub curious_yes : (cs : List (Kept Q3)) (n t : ℕ) (b : Bool) → list_any (λ c. is_C (wanted_at c.runs t)) cs ≡ list_any (λ c. is_C (wanted_at c.runs n)) cs → b ≡ list_any (λ c. is_C (wanted_at c.runs n)) cs → b ≡ true → C ≡ cond (any_C (runs_of cs) t) C N
-curious_yes cs n t b steady told holds = sym (cond-true (any_C (runs_of cs) t) C N (any_runs t cs ∙ steady ∙ sym told ∙ holds))
+pub completed_past : (upto t : ℕ) (a b : Bool) → upto < t → cond (a && nat_le t upto && b) A N ≡ N
+completed_past upto t a b lt = cond-false (a && nat_le t upto && b) A N (and_left (a && nat_le t upto) b (and_right a (nat_le t upto) (lt-leb t upto lt)))
 
-pub curious_no : (cs : List (Kept Q3)) (n t : ℕ) (b : Bool) → list_any (λ c. is_C (wanted_at c.runs t)) cs ≡ list_any (λ c. is_C (wanted_at c.runs n)) cs → b ≡ list_any (λ c. is_C (wanted_at c.runs n)) cs → b ≡ false → N ≡ cond (any_C (runs_of cs) t) C N
-curious_no cs n t b steady told fails = sym (cond-false (any_C (runs_of cs) t) C N (any_runs t cs ∙ steady ∙ sym told ∙ fails))
+pub curious_yes : (cs : List (Kept Q3)) (t : ℕ) (b : Bool) → list_any (λ c. is_C (wanted_at c.runs t)) cs ≡ b → b ≡ true → C ≡ cond (any_C (runs_of cs) t) C N
+curious_yes cs t b steady holds = sym (cond-true (any_C (runs_of cs) t) C N (any_runs t cs ∙ steady ∙ holds))
+
+pub curious_no : (cs : List (Kept Q3)) (t : ℕ) (b : Bool) → list_any (λ c. is_C (wanted_at c.runs t)) cs ≡ b → b ≡ false → N ≡ cond (any_C (runs_of cs) t) C N
+curious_no cs t b steady fails = sym (cond-false (any_C (runs_of cs) t) C N (any_runs t cs ∙ steady ∙ fails))
 
 pub curious_outside : (cs : List (Kept Q3)) (t : ℕ) → list_any (λ c. is_C (wanted_at c.runs t)) cs ≡ false → cond (any_C (runs_of cs) t) C N ≡ N
 curious_outside cs t none = cond-false (any_C (runs_of cs) t) C N (any_runs t cs ∙ none)

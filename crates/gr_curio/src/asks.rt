@@ -1,5 +1,5 @@
 ghost use Rattle.std.specs.Prelude.{if◌then◌else◌, ◌≡◌, ◌≢◌, ◌⊎◌, ℕ, ◌+◌, ◌*◌, ◌^◌, ◌<◌, ◌≤◌, IfOk, IsOk, OnOk, OnErr, [], length, slice_get, Some, false};
-ghost use Rattle.gr_tick.specs.Runs.{AreRuns};
+ghost use Rattle.gr_tick.specs.Runs.{is_in, AreRuns};
 ghost use Rattle.gr_tick.specs.Stored.{within, IsRun, EndBefore, RunsGive};
 ghost use Rattle.gr_curio.specs.Moments.{is_at_most, later_of};
 ghost use Rattle.gr_curio.specs.MomentLaws.{moment_laws};
@@ -9,8 +9,8 @@ ghost use Rattle.gr_curio.specs.declared.asks.Moment.TheVariants.{Never};
 ghost use Rattle.gr_curio.specs.declared.values.Q3.TheVariants.{N};
 
 use crate::mark::{mark_asked, mark_ready};
-use crate::values::Q3;
-use gr_tick::{Lattice, MAX_TICK, Piece, Run, Stream, is_bottom};
+use crate::values::{Q3, is_asked};
+use gr_tick::{Lattice, Piece, Run, Stream};
 use std::alloc::{AllocError, Global};
 use std::marker::Model;
 
@@ -188,36 +188,7 @@ fn outstanding(moment: &Moment, now: u64, retry: u64) -> bool
     }
 }
 
-fn due_value(moment: &Moment, wanted: Q3, now: u64, retry: u64) -> Q3
-    ensures { result ≡ due_of moment.now wanted now retry }
-{
-    match wanted {
-        Q3::C => {
-            if outstanding(moment, now, retry) {
-                Q3::N
-            } else {
-                Q3::C
-            }
-        }
-        Q3::N | Q3::A => Q3::N,
-    }
-}
-
-/// The greatest tick up to which neither what is wanted, nor where it is wanted the moment of the last ask, changes.
-fn same_until(moments: &Stream<Moment>, wanted: &Piece<Q3>, tick: u64) -> u64
-    requires { tick ≤ 2 ^ 62 }
-    ensures forward { tick ≤ result }
-    ensures inside { result ≤ 2 ^ 62 }
-    ensures greatest { result < 2 ^ 62 → (wanted_at wanted.now (result + 1) ≢ wanted_at wanted.now tick) ⊎ (asked_at moments.now.runs (result + 1) ≢ asked_at moments.now.runs tick) }
-    ensures due { (t now retry : ℕ) → tick ≤ t → t ≤ result → due_of (asked_at moments.now.runs t) (wanted_at wanted.now t) now retry ≡ due_of (asked_at moments.now.runs tick) (wanted_at wanted.now tick) now retry }
-{
-    let end = wanted.steady_until(tick);
-    if is_bottom(&wanted.at(tick)) {
-        return end;
-    }
-    end.min(moments.steady_until(tick))
-}
-
+/// What is due of what is wanted, run by run.
 fn due_piece(
     alloc: Global,
     moments: &Stream<Moment>,
@@ -228,20 +199,43 @@ fn due_piece(
     ensures { IfOk result (λ piece. RunsGive N piece (λ t. due_of (asked_at moments.now.runs t) (wanted_at wanted.now t) now retry)) }
 {
     let mut due = Piece::new(alloc);
-    let mut next = 1;
-    while next <= MAX_TICK {
-        let end = same_until(moments, wanted, next);
-        let value = due_value(&moments.at(next), wanted.at(next), now, retry);
-        if !is_bottom(&value) {
+    for i in 0..wanted.len() {
+        put_due(&mut due, moments, wanted.run(i), now, retry)?;
+    }
+    // Proof only: the runs are canonical.
+    let _ = due.len();
+    Ok(due)
+}
+
+/// Puts what is due of a run at the end. Where it is asked for, this goes by pieces on which the moment of the last ask stays.
+fn put_due(
+    due: &mut Piece<Q3>,
+    moments: &Stream<Moment>,
+    run: &Run<Q3>,
+    now: u64,
+    retry: u64,
+) -> Result<(), AllocError>
+    requires alone { IsRun N run.now }
+    requires past { EndBefore due.old run.now.first }
+    ensures values { OnOk result ((t : ℕ) → wanted_at due.new t
+        ≡ (if is_in t run.now then due_of (asked_at moments.now.runs t) run.now.value now retry else wanted_at due.old t)) }
+    ensures past { OnOk result ((t : ℕ) → run.now.last < t → EndBefore due.new t) }
+{
+    if !is_asked(run.value) {
+        return Ok(());
+    }
+    let mut next = run.first;
+    while next <= run.last {
+        let asked = moments.steady_at(next);
+        let end = asked.last.min(run.last);
+        if !outstanding(&asked.value, now, retry) {
             due.push(Run {
                 first: next,
                 last: end,
-                value,
+                value: Q3::C,
             })?;
         }
         next = end + 1;
     }
-    let _ = due.len();
-    let _ = wanted.len();
-    Ok(due)
+    Ok(())
 }

@@ -1,15 +1,16 @@
 //! The children's curiosity, as a slice of streams.
 ghost use Rattle.std.specs.Prelude.{if◌then◌else◌, ◌≡◌, ◌≢◌, ◌⊎◌, ◌↔◌, IsTrue, ℕ, ◌+◌, ◌^◌, ◌<◌, ◌≤◌, ◌&&◌};
-ghost use Rattle.std.specs.Prelude.{nat_le, IfOk, [], length, replicate, true, false};
+ghost use Rattle.std.specs.Prelude.{nat_le, IfOk, OnOk, [], length, replicate, true, false};
 ghost use Rattle.std.specs.Option.{ForSome, ForNone};
 ghost use Rattle.std.specs.List.{list_all, list_any};
-ghost use Rattle.gr_tick.specs.Stored.{within, RunsGive};
+ghost use Rattle.gr_tick.specs.Runs.{is_in};
+ghost use Rattle.gr_tick.specs.Stored.{within, IsRun, EndBefore, RunsGive};
 ghost use Rattle.gr_curio.specs.Values.{wanted_at, is_A, is_C};
 ghost use Rattle.gr_curio.specs.Wants.{runs_of, all_A, all_A_but, any_C, is_reached, is_consolidated, HasChange};
 ghost use Rattle.gr_curio.specs.declared.values.Q3.TheVariants.{N, C, A};
 
-use crate::values::Q3;
-use gr_tick::{MAX_TICK, Piece, Run, Stream};
+use crate::values::{Q3, is_acknowledged, is_asked};
+use gr_tick::{Piece, Run, Steady, Stream};
 use std::alloc::{AllocError, Global};
 
 /// A number of children that ask and acknowledge nothing.
@@ -37,26 +38,6 @@ pub fn copy_children(alloc: Global, children: &[Stream<Q3>]) -> Result<Vec<Strea
     Ok(copy)
 }
 
-/// Whether a child has acknowledged a tick.
-fn acknowledges_at(child: &Stream<Q3>, tick: u64) -> bool
-    ensures { result ≡ is_A (wanted_at child.now.runs tick) }
-{
-    match child.at(tick) {
-        Q3::A => true,
-        Q3::N | Q3::C => false,
-    }
-}
-
-/// Whether a child asks for a tick.
-fn asks_at(child: &Stream<Q3>, tick: u64) -> bool
-    ensures { result ≡ is_C (wanted_at child.now.runs tick) }
-{
-    match child.at(tick) {
-        Q3::C => true,
-        Q3::N | Q3::A => false,
-    }
-}
-
 /// Whether a child has acknowledged each tick from 1 to `upto`.
 pub fn covers_upto(child: &Stream<Q3>, upto: u64) -> bool
     ensures { IsTrue result ↔ ((t : ℕ) → 1 ≤ t → t ≤ upto → is_A (wanted_at child.now.runs t) ≡ true) }
@@ -64,46 +45,68 @@ pub fn covers_upto(child: &Stream<Q3>, upto: u64) -> bool
     if upto == 0 {
         return true;
     }
-    if !acknowledges_at(child, 1) {
+    let _ = child.len();
+    let front = child.steady_at(1);
+    if !is_acknowledged(front.value) {
         return false;
     }
-    let _ = child.len();
-    upto <= child.steady_until(1)
+    upto <= front.last
 }
 
-/// Whether every child has acknowledged a tick.
-fn all_acknowledge(children: &[Stream<Q3>], tick: u64) -> bool
-    ensures { result ≡ list_all (λ child. is_A (wanted_at child.runs tick)) children.now }
-{
-    children.iter().all(|child| acknowledges_at(child, tick))
-}
-
-/// Whether some child asks for a tick.
-fn some_asks(children: &[Stream<Q3>], tick: u64) -> bool
-    ensures { result ≡ list_any (λ child. is_C (wanted_at child.runs tick)) children.now }
-{
-    children.iter().any(|child| asks_at(child, tick))
-}
-
-/// The greatest tick up to `limit` up to which each child's value stays that of `tick`.
-fn agree_until(children: &[Stream<Q3>], tick: u64, limit: u64) -> u64
+/// Whether every child has acknowledged a tick, and the last one up to `limit` up to which that is so too. Where one has
+/// not, this is how far that child goes on as it is.
+fn acknowledged_from(children: &[Stream<Q3>], tick: u64, limit: u64) -> Steady<bool>
     requires ordered { tick ≤ limit }
     requires upto { limit ≤ 2 ^ 62 }
-    ensures forward { tick ≤ result }
-    ensures inside { result ≤ limit }
-    ensures greatest { result < limit → HasChange tick (result + 1) children.now }
-    ensures acknowledged { (t : ℕ) → tick ≤ t → t ≤ result →
-        list_all (λ child. is_A (wanted_at child.runs t)) children.now
-        ≡ list_all (λ child. is_A (wanted_at child.runs tick)) children.now }
-    ensures asked { (t : ℕ) → tick ≤ t → t ≤ result →
-        list_any (λ child. is_C (wanted_at child.runs t)) children.now
-        ≡ list_any (λ child. is_C (wanted_at child.runs tick)) children.now }
+    ensures forward { tick ≤ result.last }
+    ensures inside { result.last ≤ limit }
+    ensures greatest { result.last < limit → HasChange tick (result.last + 1) children.now }
+    ensures steady { (t : ℕ) → tick ≤ t → t ≤ result.last →
+        list_all (λ child. is_A (wanted_at child.runs t)) children.now ≡ result.value }
 {
     let mut end = limit;
     for child in children {
-        end = end.min(child.steady_until(tick));
+        let wanted = child.steady_at(tick);
+        end = end.min(wanted.last);
+        if !is_acknowledged(wanted.value) {
+            return Steady {
+                value: false,
+                last: limit.min(wanted.last),
+            };
+        }
     }
-    end
+    Steady {
+        value: true,
+        last: end,
+    }
+}
+
+/// Whether some child asks for a tick, and the last one up to `limit` up to which that is so too. Where one asks, this is
+/// how far that child goes on as it is.
+fn asked_from(children: &[Stream<Q3>], tick: u64, limit: u64) -> Steady<bool>
+    requires ordered { tick ≤ limit }
+    requires upto { limit ≤ 2 ^ 62 }
+    ensures forward { tick ≤ result.last }
+    ensures inside { result.last ≤ limit }
+    ensures greatest { result.last < limit → HasChange tick (result.last + 1) children.now }
+    ensures steady { (t : ℕ) → tick ≤ t → t ≤ result.last →
+        list_any (λ child. is_C (wanted_at child.runs t)) children.now ≡ result.value }
+{
+    let mut end = limit;
+    for child in children {
+        let wanted = child.steady_at(tick);
+        end = end.min(wanted.last);
+        if is_asked(wanted.value) {
+            return Steady {
+                value: true,
+                last: limit.min(wanted.last),
+            };
+        }
+    }
+    Steady {
+        value: false,
+        last: end,
+    }
 }
 
 /// The last tick that may be consolidated: the horizon, if one is kept, and no tick past what the first child has.
@@ -140,15 +143,15 @@ pub fn consolidated_piece(
     let mut piece = Piece::new(alloc);
     let mut next = 1;
     while next <= limit {
-        let end = agree_until(children, next, limit);
-        if all_acknowledge(children, next) {
+        let all = acknowledged_from(children, next, limit);
+        if all.value {
             piece.push(Run {
                 first: next,
-                last: end,
+                last: all.last,
                 value: Q3::A,
             })?;
         }
-        next = end + 1;
+        next = all.last + 1;
     }
     let _ = piece.len();
     Ok(piece)
@@ -165,55 +168,71 @@ pub fn consolidated_upto(children: &[Stream<Q3>], horizon: Option<u64>, limit: u
     if last == 0 {
         return 0;
     }
-    if !all_acknowledge(children, 1) {
-        return 0;
+    let front = acknowledged_from(children, 1, last);
+    if front.value {
+        return front.last;
     }
-    agree_until(children, 1, last)
+    0
 }
 
-/// Whether a piece acknowledges a tick, and so has each child before the one that is left out and after it.
-fn is_complete(before: &[Stream<Q3>], after: &[Stream<Q3>], piece: &Piece<Q3>, tick: u64) -> bool
-    ensures { result ≡ (is_A (wanted_at piece.now tick)
-        && (list_all (λ child. is_A (wanted_at child.runs tick)) before.now
-        && list_all (λ child. is_A (wanted_at child.runs tick)) after.now)) }
-{
-    match piece.at(tick) {
-        Q3::A => all_acknowledge(before, tick) && all_acknowledge(after, tick),
-        Q3::N | Q3::C => false,
-    }
-}
-
-/// The greatest tick up to `limit` up to which neither the piece, nor where it acknowledges a child before the one
-/// that is left out or after it, changes.
-fn complete_until(
+/// Whether each child before the one that is left out and after it has acknowledged a tick, and the last one up to
+/// `limit` up to which that is so too.
+fn completed_from(
     before: &[Stream<Q3>],
     after: &[Stream<Q3>],
-    piece: &Piece<Q3>,
     tick: u64,
     limit: u64,
-) -> u64
+) -> Steady<bool>
     requires ordered { tick ≤ limit }
     requires upto { limit ≤ 2 ^ 62 }
-    ensures forward { tick ≤ result }
-    ensures inside { result ≤ limit }
-    ensures greatest { result < limit → (wanted_at piece.now (result + 1) ≢ wanted_at piece.now tick)
-        ⊎ (HasChange tick (result + 1) before.now ⊎ HasChange tick (result + 1) after.now) }
-    ensures steady { (t : ℕ) → tick ≤ t → t ≤ result →
-        (is_A (wanted_at piece.now t)
-        && (list_all (λ child. is_A (wanted_at child.runs t)) before.now
-        && list_all (λ child. is_A (wanted_at child.runs t)) after.now))
-        ≡ (is_A (wanted_at piece.now tick)
-        && (list_all (λ child. is_A (wanted_at child.runs tick)) before.now
-        && list_all (λ child. is_A (wanted_at child.runs tick)) after.now)) }
+    ensures forward { tick ≤ result.last }
+    ensures inside { result.last ≤ limit }
+    ensures greatest { result.last < limit →
+        HasChange tick (result.last + 1) before.now ⊎ HasChange tick (result.last + 1) after.now }
+    ensures steady { (t : ℕ) → tick ≤ t → t ≤ result.last →
+        (list_all (λ child. is_A (wanted_at child.runs t)) before.now
+        && list_all (λ child. is_A (wanted_at child.runs t)) after.now) ≡ result.value }
 {
-    let end = limit.min(piece.steady_until(tick));
-    match piece.at(tick) {
-        Q3::A => {
-            let both = agree_until(before, tick, end);
-            agree_until(after, tick, both)
-        }
-        Q3::N | Q3::C => end,
+    let first = acknowledged_from(before, tick, limit);
+    if !first.value {
+        return first;
     }
+    acknowledged_from(after, tick, first.last)
+}
+
+/// Puts at the end the ticks of a run up to `upto`, if it acknowledges them, that each child before the one that is left
+/// out and after it has acknowledged.
+fn put_completed(
+    done: &mut Piece<Q3>,
+    before: &[Stream<Q3>],
+    after: &[Stream<Q3>],
+    run: &Run<Q3>,
+    upto: u64,
+) -> Result<(), AllocError>
+    requires alone { IsRun N run.now }
+    requires past { EndBefore done.old run.now.first }
+    ensures values { OnOk result ((t : ℕ) → wanted_at done.new t ≡ (if is_in t run.now
+        then (if is_A run.now.value && nat_le t upto && (all_A (runs_of before.now) t && all_A (runs_of after.now) t)
+        then A else N) else wanted_at done.old t)) }
+    ensures past { OnOk result ((t : ℕ) → run.now.last < t → EndBefore done.new t) }
+{
+    if !is_acknowledged(run.value) {
+        return Ok(());
+    }
+    let last = upto.min(run.last);
+    let mut next = run.first;
+    while next <= last {
+        let all = completed_from(before, after, next, last);
+        if all.value {
+            done.push(Run {
+                first: next,
+                last: all.last,
+                value: Q3::A,
+            })?;
+        }
+        next = all.last + 1;
+    }
+    Ok(())
 }
 
 /// Acknowledged at the ticks up to `upto` that a piece acknowledges, and that each child before the one that is left
@@ -228,22 +247,12 @@ fn completed_by(
     ensures { IfOk result (λ done. RunsGive N done (λ t. if is_A (wanted_at piece.now t) && nat_le t upto
         && (all_A (runs_of before.now) t && all_A (runs_of after.now) t) then A else N)) }
 {
-    let limit = upto.min(MAX_TICK);
     let mut done = Piece::new(alloc);
-    let mut next = 1;
-    while next <= limit {
-        let end = complete_until(before, after, piece, next, limit);
-        if is_complete(before, after, piece, next) {
-            done.push(Run {
-                first: next,
-                last: end,
-                value: Q3::A,
-            })?;
-        }
-        next = end + 1;
+    for i in 0..piece.len() {
+        put_completed(&mut done, before, after, piece.run(i), upto)?;
     }
+    // Proof only: the runs are canonical.
     let _ = done.len();
-    let _ = piece.len();
     Ok(done)
 }
 
@@ -286,15 +295,15 @@ pub fn curious_piece(alloc: Global, children: &[Stream<Q3>]) -> Result<Piece<Q3>
     let mut piece = Piece::new(alloc);
     let mut next = 1;
     while next <= limit {
-        let end = agree_until(children, next, limit);
-        if some_asks(children, next) {
+        let some = asked_from(children, next, limit);
+        if some.value {
             piece.push(Run {
                 first: next,
-                last: end,
+                last: some.last,
                 value: Q3::C,
             })?;
         }
-        next = end + 1;
+        next = some.last + 1;
     }
     let _ = piece.len();
     Ok(piece)

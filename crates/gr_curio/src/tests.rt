@@ -141,6 +141,8 @@ fn reads_ahead_and_edits_with_room(rt: HostRuntime) -> Result<(), Fail> {
     wants.raise_ready(0, &heard);
     wants.raise(1, &piece_of(rt.alloc(), 1, 4, true)?)?;
     assert_eq!(rt; wants.steady_until(1, 2), 4);
+    let second = wants.steady_at(1, 2);
+    assert_eq!(rt; (second.value, second.last), (Q3::A, 4));
     assert_eq!(rt; wants.consolidated_upto(None, 20), 4);
     assert_eq!(rt; wants.consolidated_upto(Some(3), 20), 3);
     let news = piece_of(rt.alloc(), 3, 8, true)?;

@@ -1,3 +1,5 @@
+ghost use Rattle.std.specs.Prelude.{◌≡◌};
+ghost use Rattle.gr_curio.specs.Values.{is_A, is_C};
 ghost use Rattle.gr_curio.specs.Order.{is_at_most, greater_of};
 ghost use Rattle.gr_curio.specs.OrderLaws.{curiosity_laws};
 ghost use Rattle.gr_curio.specs.declared.values.Q3.TheVariants.{N};
@@ -61,4 +63,18 @@ impl Lattice for Q3 {
     fn share(&self) -> Q3 {
         *self
     }
+}
+
+/// Whether a value is that of a tick that is asked for.
+pub(crate) fn is_asked(value: Q3) -> bool
+    ensures { result ≡ is_C value }
+{
+    matches!(value, Q3::C)
+}
+
+/// Whether a value is that of a tick that is acknowledged.
+pub(crate) fn is_acknowledged(value: Q3) -> bool
+    ensures { result ≡ is_A value }
+{
+    matches!(value, Q3::A)
 }

@@ -3,7 +3,7 @@ ghost use Rattle.std.specs.Prelude.{nat_le, IfOk, OnOk, OnErr, List, [], length,
 ghost use Rattle.std.specs.Prelude.{true, false};
 ghost use Rattle.std.specs.Option.{ForSome, ForNone};
 ghost use Rattle.gr_tick.specs.Runs.{AreRuns};
-ghost use Rattle.gr_tick.specs.Stored.{within, IsRun, EndBefore, RunsGive, is_told, needed};
+ghost use Rattle.gr_tick.specs.Stored.{within, IsRun, EndBefore, RunsGive, StaysUntil, is_told, needed};
 ghost use Rattle.gr_curio.specs.Values.{wanted_at, is_A};
 ghost use Rattle.gr_curio.specs.Order.{greater_of};
 ghost use Rattle.gr_curio.specs.Wants.{runs_of, wants_of, spare_of, all_A_but, any_C, is_consolidated, answered_of};
@@ -15,7 +15,7 @@ use crate::children::{
 };
 use crate::mark::mark_asked;
 use crate::values::Q3;
-use gr_tick::{Piece, Run, Stream};
+use gr_tick::{Piece, Run, Steady, Stream};
 use std::alloc::{AllocError, Global};
 use std::marker::Model;
 
@@ -100,6 +100,16 @@ impl Wants {
             ≢ wanted_at (wants_of (runs_of self.now) child) tick }
     {
         self.children[child].steady_until(tick)
+    }
+
+    /// A child's value at a tick and how far it stays, as `at` and `steady_until` say it, by one search. It takes no
+    /// memory.
+    pub fn steady_at(&self, child: usize, tick: u64) -> Steady<Q3>
+        requires child { child < length self.now }
+        requires tick { tick ≤ 2 ^ 62 }
+        ensures { StaysUntil N (wants_of (runs_of self.now) child) tick result }
+    {
+        self.children[child].steady_at(tick)
     }
 
     /// Makes room for at least `n` runs more of a child. It fails only where memory is refused; then all is as it was.

@@ -1,6 +1,6 @@
 ghost use Rattle.std.specs.Prelude.{if◌then◌else◌, ◌&&◌, nat_le, take, drop, ◌++◌, ◌≡◌, ◌≢◌, ◌⊎◌, ℕ, suc, ◌+◌, ◌-◌, ◌^◌, ◌<◌, ◌≤◌, [], length, slice_get, Some, true, false, MatchOption, IfOk, IsOk, OnOk, OnErr};
 ghost use Rattle.gr_tick.specs.Runs.{value_at, AreRuns, first_bottom_from, top_of};
-ghost use Rattle.gr_tick.specs.Stored.{within, IsRun, EndBefore, RunsGive, needed};
+ghost use Rattle.gr_tick.specs.Stored.{within, IsRun, EndBefore, RunsGive, StaysUntil, needed};
 ghost use Rattle.gr_know.specs.Values.{known_at, is_D, join_K, new_K, clash_K};
 ghost use Rattle.gr_know.specs.Clash.{IsLeastClash};
 ghost use Rattle.gr_know.specs.Forget.{data_of, data_count, lower_data, forgotten, Forgets};
@@ -10,7 +10,7 @@ use crate::events::{finish_counted, join_counted};
 use crate::forgetting::{first_data, first_data_of, forget_data};
 use crate::news::{find_clash, fresh_piece, horizon_with, joined_piece};
 use crate::values::K;
-use gr_tick::{Piece, Run, Stream};
+use gr_tick::{Piece, Run, Steady, Stream};
 use std::alloc::{AllocError, Global};
 use std::marker::Model;
 
@@ -146,6 +146,14 @@ impl Know {
         ensures greatest { result < 2 ^ 62 → known_at self.now.runs (result + 1) ≢ known_at self.now.runs tick }
     {
         self.stream.steady_until(tick)
+    }
+
+    /// What is known of a tick and how far it stays so, as `at` and `steady_until` say it, by one search. It takes no memory.
+    pub fn steady_at(&self, tick: u64) -> Steady<K>
+        requires { tick ≤ 2 ^ 62 }
+        ensures { StaysUntil Q self.now.runs tick result }
+    {
+        self.stream.steady_at(tick)
     }
 
     /// What would be known of the range once the piece is joined, cut at its ends. It fails only where memory is refused.

@@ -87,6 +87,9 @@ fn edits_in_the_room_that_was_taken(rt: HostRuntime) -> Result<(), Fail> {
     know.join(&came);
     assert_eq!(rt; know.steady_until(1), 3);
     assert_eq!(rt; know.steady_until(4), 8);
+    let came_at = know.steady_at(4);
+    assert!(rt; came_at.value.same(&K::S));
+    assert_eq!(rt; came_at.last, 8);
     know.finish_ready(1, 5);
     assert_eq!(rt; know.steady_until(1), 5);
     assert!(rt; know.at(5).same(&K::F));

@@ -1,6 +1,7 @@
 pub mod RunLaws
 pub mod Canonical
 pub mod RunsLemmas
+pub mod EachRun
 pub mod EditLemmas
 pub mod StepLemmas
 pub mod LawLemmas

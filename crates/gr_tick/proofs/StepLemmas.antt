@@ -501,7 +501,7 @@ module _ {V : Type 0} where
       ∙ ap (λ w. cond (within f l t) w least) (sym (read_values least xs i t s lt e h))
 
   -- what ends before a tick that the next run has begun by
-  pub next_begins : (least : V) (xs ps : List (Run V)) (i : ℕ) (s : Run V) → i < length xs → s ≡ get_or xs i s → AreTickRuns least xs → ((t : ℕ) → s.last < t → EndBefore ps t) → (n : Run V) (ns : List (Run V)) → drop (i + 1) xs ≡ n ∷ ns → EndBefore ps n.first
+  pub next_begins : {W : Type 0} (least : V) (xs : List (Run V)) (ps : List (Run W)) (i : ℕ) (s : Run V) → i < length xs → s ≡ get_or xs i s → AreTickRuns least xs → ((t : ℕ) → s.last < t → EndBefore ps t) → (n : Run V) (ns : List (Run V)) → drop (i + 1) xs ≡ n ∷ ns → EndBefore ps n.first
   next_begins least xs ps i s lt e h p n ns en =
       let k : AreTickRuns least (take i xs ++ s ∷ drop (i + 1) xs) = rw (split_read xs i s lt e) at h in
       let m : AreTickRuns least (s ∷ drop (i + 1) xs) = AreTickRuns-back least (take i xs) (s ∷ drop (i + 1) xs) k in

@@ -2,6 +2,7 @@
 use Rattle.std.specs.Prelude.{◌≡◌, ◌≢◌, ℕ, ◌+◌, ◌^◌, ◌<◌, ◌≤◌, ◌==◌, Bool, false, not, ◌&&◌, ◌||◌, nat_le, nat_lt, cond, List, [], ◌∷◌}
 use Rattle.std.specs.List.{count_by}
 use Rattle.gr_tick.specs.declared.run.Run.{Run}
+use Rattle.gr_tick.specs.declared.steady.Steady.{Steady}
 use Rattle.gr_tick.specs.Runs.{is_in, value_at, AreRuns}
 
 -- whether a tick lies in a range
@@ -53,6 +54,14 @@ module _ {V : Type 0} where
     pub canonical : AreRuns least rs
     pub in_range : EndBefore rs (2 ^ 62 + 1)
     pub values : (t : ℕ) → value_at least rs t ≡ g t
+
+  -- the value at a tick, and the greatest tick up to which it stays
+  pub record StaysUntil (least : V) (rs : List (Run V)) (tick : ℕ) (s : Steady V) : Type 0 where
+    pub value : s.value ≡ value_at least rs tick
+    pub forward : tick ≤ s.last
+    pub inside : s.last ≤ 2 ^ 62
+    pub steady : (t : ℕ) → tick ≤ t → t ≤ s.last → value_at least rs t ≡ value_at least rs tick
+    pub greatest : s.last < 2 ^ 62 → value_at least rs (s.last + 1) ≢ value_at least rs tick
 
   -- each run begins by the tick
   abbrev pub BeginBy : List (Run V) → ℕ → Type 0

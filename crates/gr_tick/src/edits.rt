@@ -2,11 +2,12 @@
 ghost use Rattle.std.specs.Prelude.{if◌then◌else◌, MatchOption, IfOk, ◌≡◌, ◌≢◌, ℕ, ◌+◌, ◌-◌, ◌<◌, ◌≤◌, ◌&&◌, nat_le, cond, List, [], ◌∷◌, ◌++◌, length, take, drop, insert, ◌^◌, ◌⊎◌};
 ghost use Rattle.std.specs.List.{HoldsAt};
 ghost use Rattle.gr_tick.specs.Runs.{value_at, is_in};
-ghost use Rattle.gr_tick.specs.Stored.{IsRun, AreTickRuns, EndBefore, BeginBy, BeginAfter, part, room, growth, within, between, runs_in, is_told, needed};
+ghost use Rattle.gr_tick.specs.Stored.{IsRun, AreTickRuns, EndBefore, BeginBy, BeginAfter, part, room, growth, within, between, runs_in, is_told, needed, StaysUntil};
 
 use crate::MAX_TICK;
 use crate::lattice::{Lattice, is_bottom};
 use crate::run::Run;
+use crate::steady::Steady;
 use gr_gap::Gap;
 use std::alloc::AllocError;
 
@@ -531,6 +532,32 @@ pub fn steady_until<V: Lattice>(runs: &Gap<Run<V>>, tick: u64) -> u64
         return run.first - 1;
     }
     run.last
+}
+
+/// The value at a tick, and the greatest tick up to which it stays, by one search.
+pub fn steady_in<V: Lattice>(runs: &Gap<Run<V>>, tick: u64) -> Steady<V>
+    requires runs { AreTickRuns V.least runs.now.items }
+    requires upto { tick ≤ 2 ^ 62 }
+    ensures { StaysUntil V.least runs.now.items tick result }
+{
+    let i = seek(runs, tick);
+    if i == runs.len() {
+        return Steady {
+            value: V::bottom(),
+            last: MAX_TICK,
+        };
+    }
+    let run = runs.get(i);
+    if tick < run.first {
+        return Steady {
+            value: V::bottom(),
+            last: run.first - 1,
+        };
+    }
+    Steady {
+        value: run.value.share(),
+        last: run.last,
+    }
 }
 
 /// The room that is enough to join each run of a list, or None exactly where it is no number of the machine's.

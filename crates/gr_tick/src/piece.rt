@@ -1,11 +1,12 @@
 //! What one frame tells, or what one call answers: a function of ticks that is made from its first run to its last.
 ghost use Rattle.std.specs.Prelude.{if◌then◌else◌, ◌≡◌, ◌≢◌, ◌↔◌, IsTrue, ℕ, ◌+◌, ◌<◌, ◌≤◌, ◌^◌, List, [], ◌∷◌, ◌++◌, length, take, drop, slice_get, Some, OnOk, OnErr, IfOk, min, max};
 ghost use Rattle.gr_tick.specs.Runs.{value_at, is_in, AreRuns};
-ghost use Rattle.gr_tick.specs.Stored.{within, IsRun, AreTickRuns, EndBefore, RunsGive};
+ghost use Rattle.gr_tick.specs.Stored.{within, IsRun, AreTickRuns, EndBefore, RunsGive, StaysUntil};
 
-use crate::edits::{copy_runs, put_run, seek, steady_until, value_in};
+use crate::edits::{copy_runs, put_run, seek, steady_in, steady_until, value_in};
 use crate::lattice::Lattice;
 use crate::run::Run;
+use crate::steady::Steady;
 use gr_gap::Gap;
 use std::alloc::{AllocError, Global};
 use std::marker::Model;
@@ -147,5 +148,13 @@ impl<V: Lattice> Piece<V> {
         ensures greatest { result < 2 ^ 62 → value_at V.least self.now (result + 1) ≢ value_at V.least self.now tick }
     {
         steady_until(&self.runs, tick)
+    }
+
+    /// The value at a tick and how far it stays, as `at` and `steady_until` say it, by one search. It takes no memory.
+    pub fn steady_at(&self, tick: u64) -> Steady<V>
+        requires { tick ≤ 2 ^ 62 }
+        ensures { StaysUntil V.least self.now tick result }
+    {
+        steady_in(&self.runs, tick)
     }
 }

@@ -2,15 +2,16 @@
 ghost use Rattle.std.specs.Prelude.{if◌then◌else◌, MatchOption, ◌≡◌, ◌≢◌, ℕ, ◌+◌, ◌^◌, ◌<◌, ◌≤◌, List, [], ◌∷◌, ◌++◌, length, take, drop, slice_get, Some, OnOk, OnErr, IfOk, IsOk};
 ghost use Rattle.std.specs.List.{HoldsAt};
 ghost use Rattle.gr_tick.specs.Runs.{value_at, AreRuns, first_bottom_from, top_of};
-ghost use Rattle.gr_tick.specs.Stored.{runs_in, within, IsRun, AreTickRuns, EndBefore, RunsGive, is_told, needed, part};
+ghost use Rattle.gr_tick.specs.Stored.{runs_in, within, IsRun, AreTickRuns, EndBefore, RunsGive, is_told, needed, part, StaysUntil};
 
 use crate::edits::{
     begun_by, copy_runs, count_in, join_each, join_over, lower_each, lower_front, lower_over,
-    next_bottom, room_for, seek, set_over, steady_until, value_in,
+    next_bottom, room_for, seek, set_over, steady_in, steady_until, value_in,
 };
 use crate::lattice::{Lattice, is_bottom};
 use crate::piece::Piece;
 use crate::run::Run;
+use crate::steady::Steady;
 use gr_gap::Gap;
 use std::alloc::{AllocError, Global};
 use std::marker::Model;
@@ -107,6 +108,14 @@ impl<V: Lattice> Stream<V> {
         ensures greatest { result < 2 ^ 62 → value_at V.least self.now.runs (result + 1) ≢ value_at V.least self.now.runs tick }
     {
         steady_until(&self.runs, tick)
+    }
+
+    /// The value at a tick and how far it stays, as `at` and `steady_until` say it, by one search. It takes no memory.
+    pub fn steady_at(&self, tick: u64) -> Steady<V>
+        requires { tick ≤ 2 ^ 62 }
+        ensures { StaysUntil V.least self.now.runs tick result }
+    {
+        steady_in(&self.runs, tick)
     }
 
     /// The place of the first run that ends at a tick or later: the number of runs where none does. From there runs are

@@ -130,3 +130,36 @@ fn the_first_ticks_of_a_run_go(rt: HostRuntime) -> Result<(), Fail> {
     assert_eq!(rt; stream.at(4), 0);
     Ok(())
 }
+
+// A look-up of the value and of how far it stays, before the runs, on one, between two and past them.
+#[test]
+fn a_value_is_looked_up_with_its_end(rt: HostRuntime) -> Result<(), Fail> {
+    let mut stream = Stream::new(rt.alloc());
+    stream.reserve(2)?;
+    stream.join_range(3, 5, 1u64);
+    stream.reserve(2)?;
+    assert!(rt; stream.runs_in(9, 9) == 0);
+    stream.join_range(9, 9, 2);
+    let piece = stream.piece(1, MAX_TICK)?;
+    for (tick, value, last) in [
+        (1, 0, 2),
+        (4, 1, 5),
+        (6, 0, 8),
+        (9, 2, 9),
+        (10, 0, MAX_TICK),
+    ] {
+        let kept = stream.steady_at(tick);
+        assert_eq!(rt;
+            (kept.value, kept.last),
+            (value, last),
+            "of the stream at {tick}"
+        );
+        let told = piece.steady_at(tick);
+        assert_eq!(rt;
+            (told.value, told.last),
+            (value, last),
+            "of the piece at {tick}"
+        );
+    }
+    Ok(())
+}

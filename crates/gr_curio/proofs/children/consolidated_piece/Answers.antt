@@ -7,24 +7,24 @@ use Rattle.gr_curio.specs.Wants.{runs_of, is_consolidated}
 use Rattle.gr_curio.specs.declared.values.Q3.TheVariants.{N, A}
 use Rattle.gr_curio.proofs.ChildrenLemmas.{consolidated_yes, consolidated_no, consolidated_outside}
 use Rattle.gr_curio.proofs.children.consolidated_piece.Goals as goal
-use Rattle.gr_curio.proofs.children.consolidated_piece.Goals.{then-all_acknowledge+in_ok-push, else-all_acknowledge}
+use Rattle.gr_curio.proofs.children.consolidated_piece.Goals.{then-all+in_ok-push, else-all}
 
 pub loop-next-preserved : goal.loop-next-preserved
 loop-next-preserved c =
-    elim c.if-all_acknowledge.branch [
-      | then-all_acknowledge+in_ok-push w ↦ record {
+    elim c.if-all.branch [
+      | then-all+in_ok-push w ↦ record {
         forward = omega arith;
         inside = omega arith;
-        values = λ t. ap (λ p. value_at N p t) w.piece-is ∙ walk_push 1 c.loop-next.next c.agree_until-end.result t (cond (is_consolidated c.args.horizon (runs_of c.args.children.now) t) A N) A _ _ N c.loop-next.invariant.forward c.agree_until-end.ensures.forward (c.loop-next.invariant.values t) (w.in_ok-push.ensures.ok.values t)
-            (λ lo hi. consolidated_yes c.args.horizon c.args.children.now c.loop-next.next t c.all_acknowledge.result (omega (arith, lo, c.loop-next.invariant.forward)) (c.last_consolidated-limit.ensures.reached t (omega (arith, hi, c.agree_until-end.ensures.inside))) (c.agree_until-end.ensures.acknowledged t lo hi) c.all_acknowledge.ensures w.if-all_acknowledge.true);
-        past = subst (λ p. EndBefore p (c.agree_until-end.result + 1)) (sym w.piece-is) (w.in_ok-push.ensures.past (c.agree_until-end.result + 1) (omega arith));
+        values = λ t. ap (λ p. value_at N p t) w.piece-is ∙ walk_push 1 c.loop-next.next c.acknowledged_from-all.result.last t (cond (is_consolidated c.args.horizon (runs_of c.args.children.now) t) A N) A _ _ N c.loop-next.invariant.forward c.acknowledged_from-all.ensures.forward (c.loop-next.invariant.values t) (w.in_ok-push.ensures.ok.values t)
+            (λ lo hi. consolidated_yes c.args.horizon c.args.children.now t c.acknowledged_from-all.result.value (omega (arith, lo, c.loop-next.invariant.forward)) (c.last_consolidated-limit.ensures.reached t (omega (arith, hi, c.acknowledged_from-all.ensures.inside))) (c.acknowledged_from-all.ensures.steady t lo hi) w.if-all.true);
+        past = subst (λ p. EndBefore p (c.acknowledged_from-all.result.last + 1)) (sym w.piece-is) (w.in_ok-push.ensures.past (c.acknowledged_from-all.result.last + 1) (omega arith));
       }
-      | else-all_acknowledge w ↦ record {
+      | else-all w ↦ record {
         forward = omega arith;
         inside = omega arith;
-        values = λ t. ap (λ p. value_at N p t) w.piece-is ∙ walk_skip 1 c.loop-next.next c.agree_until-end.result t (cond (is_consolidated c.args.horizon (runs_of c.args.children.now) t) A N) _ N c.loop-next.invariant.forward c.agree_until-end.ensures.forward (c.loop-next.invariant.values t)
-            (λ lo hi. consolidated_no c.args.horizon c.args.children.now c.loop-next.next t c.all_acknowledge.result (c.agree_until-end.ensures.acknowledged t lo hi) c.all_acknowledge.ensures w.if-all_acknowledge.false);
-        past = subst (λ p. EndBefore p (c.agree_until-end.result + 1)) (sym w.piece-is) (EndBefore-later _ c.loop-next.next _ c.loop-next.invariant.past (omega arith));
+        values = λ t. ap (λ p. value_at N p t) w.piece-is ∙ walk_skip 1 c.loop-next.next c.acknowledged_from-all.result.last t (cond (is_consolidated c.args.horizon (runs_of c.args.children.now) t) A N) _ N c.loop-next.invariant.forward c.acknowledged_from-all.ensures.forward (c.loop-next.invariant.values t)
+            (λ lo hi. consolidated_no c.args.horizon c.args.children.now t c.acknowledged_from-all.result.value (c.acknowledged_from-all.ensures.steady t lo hi) w.if-all.false);
+        past = subst (λ p. EndBefore p (c.acknowledged_from-all.result.last + 1)) (sym w.piece-is) (EndBefore-later _ c.loop-next.next _ c.loop-next.invariant.past (omega arith));
       }
     ]
 

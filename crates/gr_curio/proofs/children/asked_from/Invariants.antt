@@ -1,0 +1,14 @@
+use Rattle.std.proofs.Common.{◌≡◌, ℕ, ◌+◌, ◌<◌, ◌≤◌, false, take}
+use Rattle.std.specs.List.{list_any}
+use Rattle.gr_curio.specs.Values.{wanted_at, is_C}
+use Rattle.gr_curio.specs.Wants.{HasChange}
+use Rattle.gr_curio.proofs.children.asked_from.Given as goal
+
+-- none of the children so far asks up to the end, after which one changes
+abbrev pub invariant-loop-child : goal.invariant-loop-child
+invariant-loop-child l = record {
+  forward : l.tick ≤ l.end;
+  inside : l.end ≤ l.limit;
+  greatest : l.end < l.limit → HasChange l.tick (l.end + 1) (take l.child-index l.children);
+  steady : (t : ℕ) → l.tick ≤ t → t ≤ l.end → list_any (λ child. is_C (wanted_at child.runs t)) (take l.child-index l.children) ≡ false;
+}
