@@ -1,11 +1,14 @@
 -- Pairs where they stand in bytes: what the first of them is, and what is behind it
 use Rattle.std.proofs.Common.{suc, ◌≡◌, ◌<◌, ◌-◌, ℕ, List, [], ◌∷◌, length, take, drop, get_or, true, false, Option, Some, None, Ok, slice_get, ap, ap₂, refl, sym, subst, ◌∙◌, arith}
-use Rattle.std.specs.Prelude.{bytes_eq}
+use Rattle.std.specs.Prelude.{bytes_eq, slice_index_or}
+use Rattle.std.specs.Cmp.Lexicographic.{slice_cmp}
+use Rattle.std.specs.Ordering.{nat_cmp}
+use Rattle.std.proofs.lemmas.Map.Keys.{sorted_tail}
 use Rattle.std.proofs.lemmas.List.{take_all}
 use Rattle.gr_event.specs.declared.value.Value.{Value}
 use Rattle.gr_event.specs.declared.event.Event.{Event}
 use Rattle.gr_event.specs.Event.{event_bytes, pairs_bytes, event_size}
-use Rattle.gr_event.specs.Limits.{IsEvent}
+use Rattle.gr_event.specs.Limits.{IsEvent, names}
 use Rattle.gr_event.specs.Form.{Spell, AreOfEvent, event_of, read_or_none}
 use Rattle.gr_event.specs.Get.{value_of}
 use Rattle.gr_event.specs.Decode.{event_decoded}
@@ -96,3 +99,45 @@ same_bytes a b is it h = sym (of_its_bytes a is) ∙ ap event_of h ∙ of_its_by
 -- the pairs of an event stand behind its count
 pub behind_count : (bytes : List ℕ) (e : Event) → IsEvent e → bytes ≡ event_bytes e → Spell (take (length bytes - 1) (drop 1 bytes)) e
 behind_count bytes e is h = record { each = is.pairs.each; spelled = ap (λ l. take (length l - 1) (drop 1 l)) h ∙ take_all (suc (length (pairs_bytes e)) - 1) (pairs_bytes e) (omega arith) }
+
+-- a walk over the pairs of an event: the bytes of those that are left, behind their count, are those of an event
+
+pub event_behind : (p : List ℕ × Value) (ps : Event) → IsEvent (p ∷ ps) → IsEvent ps
+event_behind p ps is = record {
+  pairs = record {
+    rise = sorted_tail (slice_cmp nat_cmp) p.0 (names ps) is.pairs.rise;
+    few = omega (arith, is.pairs.few);
+    each = is.pairs.each.1;
+  };
+  short = omega (arith, is.short);
+}
+
+-- the count of the pairs that are left, and their bytes
+left_of_event : (count : ℕ) (rest : List ℕ) (e : Event) → IsEvent e → count ≡ length e → rest ≡ pairs_bytes e → AreOfEvent (count ∷ rest)
+left_of_event count rest e is c r = are_of_event (count ∷ rest) e is (ap₂ (λ (n : ℕ) (l : List ℕ). n ∷ l) c r)
+
+left_is : (count : ℕ) (rest : List ℕ) (e : Event) → IsEvent e → count ≡ length e → rest ≡ pairs_bytes e → event_of (count ∷ rest) ≡ e
+left_is count rest e is c r = ap event_of (ap₂ (λ (n : ℕ) (l : List ℕ). n ∷ l) c r) ∙ of_its_bytes e is
+
+-- at first all are left
+pub all_left : (bytes : List ℕ) (e : Event) → IsEvent e → bytes ≡ event_bytes e → AreOfEvent (slice_index_or bytes 0 0 ∷ take (length bytes - 1) (drop 1 bytes))
+all_left bytes e is h = left_of_event (slice_index_or bytes 0 0) _ e is (ap (λ l. slice_index_or l 0 0) h) (behind_count bytes e is h).spelled
+
+pub all_left_is : (bytes : List ℕ) (e : Event) → IsEvent e → bytes ≡ event_bytes e → event_of (slice_index_or bytes 0 0 ∷ take (length bytes - 1) (drop 1 bytes)) ≡ e
+all_left_is bytes e is h = left_is (slice_index_or bytes 0 0) _ e is (ap (λ l. slice_index_or l 0 0) h) (behind_count bytes e is h).spelled
+
+-- where some are left there is a first one
+pub some_left : (count : ℕ) (rest : List ℕ) (e : Event) → IsEvent e → count ∷ rest ≡ event_bytes e → 0 < count → (p : List ℕ × Value) × (ps : Event) × Spell rest (p ∷ ps)
+some_left count rest [] is h some = absurd (let e : count ≡ 0 = ap (λ l. slice_index_or l 0 0) h in omega arith)
+some_left count rest (p ∷ ps) is h some = (p, ps, record { each = is.pairs.each; spelled = ap (drop 1) h })
+
+-- and the others are left behind it
+pub next_left : (count : ℕ) (rest name others : List ℕ) (value : Value) (e : Event) → IsEvent e → count ∷ rest ≡ event_bytes e → 0 < count → FrontOf rest name value others
+    → AreOfEvent ((count - 1) ∷ others) × (e ≡ (name, value) ∷ event_of ((count - 1) ∷ others))
+next_left count rest name others value [] is h some front = absurd (let e : count ≡ 0 = ap (λ l. slice_index_or l 0 0) h in omega arith)
+next_left count rest name others value (p ∷ ps) is h some front =
+    let f = front p ps (record { each = is.pairs.each; spelled = ap (drop 1) h }) in
+    let count_is : count ≡ suc (length ps) = ap (λ l. slice_index_or l 0 0) h in
+    let less : count - 1 ≡ length ps = omega arith in
+    let behind = event_behind p ps is in
+    (left_of_event (count - 1) others ps behind less f.2.spelled, ap₂ (λ (q : List ℕ × Value) (qs : Event). q ∷ qs) (ap₂ (λ (n : List ℕ) (v : Value). (n, v)) (sym f.0) (sym f.1)) (sym (left_is (count - 1) others ps behind less f.2.spelled)))

@@ -12,6 +12,7 @@ ghost use Rattle.gr_event.specs.declared.limits.TheConstants.{MAX_BYTES, MAX_PAI
 
 use crate::encode::put_event;
 use crate::limits::MAX_BYTES;
+use crate::pairs::Pairs;
 use crate::text::Text;
 use crate::value::{Part, Value};
 use crate::walk::{find, nth};
@@ -129,6 +130,18 @@ impl Event {
         ensures { slice_get self.now i ≡ Some (result.0.now, part_value result.1) }
     {
         nth(&self.bytes()[1..], i)
+    }
+
+    /// Its names and values, by rising name, for a walk from the first to the last. Takes no memory.
+    pub fn pairs(&self) -> Pairs<'_>
+        ensures pairs { result ≡ self.now }
+        ensures event { IsEvent self.now }
+    {
+        let bytes = self.bytes();
+        Pairs {
+            count: bytes[0],
+            rest: &bytes[1..],
+        }
     }
 
     /// Its form in bytes.

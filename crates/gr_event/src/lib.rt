@@ -7,6 +7,7 @@ pub mod event;
 mod fault;
 mod law;
 pub mod limits;
+pub mod pairs;
 pub mod parse;
 pub mod print;
 #[cfg(test)]
@@ -18,5 +19,6 @@ mod walk;
 pub use event::{Event, EventFault, Memory};
 pub use law::{limits_of_events, printed_events_read_back};
 pub use limits::{MAX_BYTES, MAX_NAME, MAX_PAIRS, MAX_TEXT};
+pub use pairs::Pairs;
 pub use text::{Bytes, Numbers, Text};
 pub use value::{Part, Value};

@@ -141,3 +141,15 @@ fn gives_its_pairs_by_rising_name(rt: HostRuntime) -> Result<(), Fail> {
     assert!(rt; matches!(part, Part::Int(7)));
     Ok(())
 }
+
+#[test]
+fn walks_over_its_pairs(rt: HostRuntime) -> Result<(), Fail> {
+    let event = Event::from_text(rt.alloc(), b"{\"qty\":7,\"hot\":true}")?;
+    let mut pairs = event.pairs();
+    assert!(rt;
+        matches!(pairs.next(), Some((name, Part::Bool(true))) if name == b"hot".as_slice())
+    );
+    assert!(rt; matches!(pairs.next(), Some((name, Part::Int(7))) if name == b"qty".as_slice()));
+    assert!(rt; pairs.next().is_none());
+    Ok(())
+}

@@ -4,7 +4,7 @@ use Rattle.std.specs.List.{AllByRecursion, filter, list_any, slice_get}
 use Rattle.std.specs.List.Sorted.{IsPermutation, IsNonDecreasing, IsSorted}
 use Rattle.std.specs.Ordering.{nat_cmp}
 use Rattle.std.proofs.lemmas.List.Sorted.{IsNonDecreasingBy-from_sort}
-use Rattle.std.proofs.lemmas.Bool.{false≢true, eq-eqb, ne_eqb, lt-ltb, or_left, or_right, or_cases}
+use Rattle.std.proofs.lemmas.Bool.{false≢true, eq-eqb, ne_eqb, or_left, or_right, or_cases}
 use Rattle.std.proofs.lemmas.List.Kept.{IsNonDecreasingBy-filter}
 use Rattle.std.proofs.lemmas.List.Folds.{list_any-append}
 use Rattle.std.proofs.lemmas.Option.{slice_get_within}
@@ -16,7 +16,7 @@ use Rattle.gr_match.specs.declared.bucket.Bucket.{Bucket}
 use Rattle.gr_event.specs.Limits.{IsEvent}
 use Rattle.gr_match.specs.Index.{is_match, matches_at, asked, IsIndex}
 use Rattle.gr_match.specs.Index.{times}
-use Rattle.gr_match.proofs.Times.{Rise, rise_from, same_rise, times-append, times-filter, times-IsPermutation, times_below, times_any, any_times}
+use Rattle.gr_match.proofs.Times.{Rise, rise_from, same_rise, times-filter, times-IsPermutation, times_below, times_any, any_times}
 use Rattle.gr_match.proofs.Asking.{once_asked}
 
 -- ---- the definition

@@ -1,10 +1,8 @@
 -- A filter that is not asked does not match
-use Rattle.std.proofs.Common.{◌≡◌, ℕ, zero, suc, ◌+◌, ◌<◌, Bool, true, false, ◌||◌, cond, drop, List, [], ◌∷◌, ◌++◌, length, Option, Some, None, refl, sym, ap, ◌∙◌, subst, arith, nat_eq, inl, inr, Less, add-one}
+use Rattle.std.proofs.Common.{◌≡◌, ℕ, ◌+◌, ◌<◌, Bool, true, false, cond, List, [], ◌∷◌, ◌++◌, length, Option, Some, None, refl, sym, ap, ◌∙◌, subst, arith, nat_eq, inl, inr, Less}
 use Rattle.std.specs.Prelude.{option_and_then, bytes_eq}
 use Rattle.std.specs.Option.{option_or}
 use Rattle.std.specs.List.{AllByRecursion, flat_map, list_any, slice_get}
-use Rattle.std.proofs.lemmas.List.{append_assoc}
-use Rattle.std.proofs.lemmas.List.Folds.{list_any-append}
 use Rattle.std.specs.List.Sorted.{IsStrictlySortedBy}
 use Rattle.std.specs.Ordering.{nat_cmp, is_eq}
 use Rattle.std.specs.Cmp.Lexicographic.{slice_cmp}
@@ -28,7 +26,7 @@ use Rattle.gr_event.specs.Limits.{names, Rise, IsEvent}
 use Rattle.gr_event.proofs.SameEvent.{event_equal, event_itself}
 use Rattle.gr_match.specs.Needed.{Pair, equation, needed, is_value, has, is_pair}
 use Rattle.gr_match.specs.declared.bucket.Bucket.{Bucket}
-use Rattle.gr_match.specs.Index.{is_match, matches_at, bucket_pair, needed_at, NeedsAt, EachNeeds, IsIndex, row_of, places_for, places_of, asked, all_places, times}
+use Rattle.gr_match.specs.Index.{is_match, matches_at, bucket_pair, needed_at, NeedsAt, EachNeeds, IsIndex, row_of, row_at, places_for, places_of, asked, all_places, times}
 use Rattle.gr_match.proofs.Times.{times-append}
 
 least_left : (a b : Kleene) → is_true a ≡ false → is_true (least a b) ≡ false
@@ -185,31 +183,8 @@ asked_by fs rest row e n (Some p) h r q l m =
 pub once_asked : (fs : List Tree) (rest : List ℕ) (row : ℕ → List Bucket) (e : Event) (n : ℕ) → IsIndex fs rest row → IsEvent e → n < length fs → matches_at fs e n ≡ true → times n (rest ++ asked row e) ≡ 1
 once_asked fs rest row e n h i l m = times-append n rest (asked row e) ∙ asked_by fs rest row e n (needed_at fs n) h i.pairs.rise refl l m
 
--- ---- pair by pair
-
--- the places of the pairs from one on, where its value is read
-asked_past : (row : ℕ → List Bucket) (e : Event) (i : ℕ) (p : Pair) (bs : List Bucket) → slice_get e i ≡ Some p → bs ≡ row (row_of p) → asked row (drop i e) ≡ flat_map (places_for p) bs ++ asked row (drop (suc i) e)
-asked_past row [] i p bs h r = cc
-asked_past row (q ∷ qs) zero p bs h r =
-    let same : q ≡ p = some_same _ _ h in
-    ap (λ z. places_of row z ++ asked row qs) same ∙ ap (λ z. flat_map (places_for p) z ++ asked row qs) (sym r)
-asked_past row (q ∷ qs) (suc i) p bs h r = asked_past row qs i p bs h r
-
-asked_from : (row : ℕ → List Bucket) (e : Event) (i : ℕ) (p : Pair) (bs : List Bucket) → slice_get e i ≡ Some p → bs ≡ row (row_of p) → asked row (drop i e) ≡ flat_map (places_for p) bs ++ asked row (drop (i + 1) e)
-asked_from row e i p bs h r = asked_past row e i p bs h r ∙ ap (λ k. flat_map (places_for p) bs ++ asked row (drop k e)) (sym (add-one i))
-
--- the places so far with those of one more pair
-pub asked_more : (row : ℕ → List Bucket) (e : Event) (i : ℕ) (p : Pair) (bs : List Bucket) (so_far more rest : List ℕ) → slice_get e i ≡ Some p → bs ≡ row (row_of p) → more ≡ so_far ++ flat_map (places_for p) bs
-    → so_far ++ asked row (drop i e) ≡ rest ++ asked row e → more ++ asked row (drop (i + 1) e) ≡ rest ++ asked row e
-asked_more row e i p bs so_far more rest h r m inv =
-    ap (λ ns. ns ++ asked row (drop (i + 1) e)) m
-    ∙ (append_assoc so_far (flat_map (places_for p) bs) (asked row (drop (i + 1) e))
-    ∙ (ap (λ ns. so_far ++ ns) (sym (asked_from row e i p bs h r)) ∙ inv))
-
--- whether a place of one pair, or of those past it, passes a test
-pub any_from : (test : ℕ → Bool) (row : ℕ → List Bucket) (e : Event) (i : ℕ) (p : Pair) (bs : List Bucket) (r : Bool) → slice_get e i ≡ Some p → bs ≡ row (row_of p) → r ≡ list_any test (flat_map (places_for p) bs)
-    → list_any test (asked row (drop i e)) ≡ r || list_any test (asked row (drop (i + 1) e))
-any_from test row e i p bs r h b q =
-    ap (list_any test) (asked_from row e i p bs h b)
-    ∙ (list_any-append test (flat_map (places_for p) bs) (asked row (drop (i + 1) e))
-    ∙ ap (λ z. z || list_any test (asked row (drop (i + 1) e))) (sym q))
+-- without rows nothing is asked
+pub no_rows : (test : ℕ → Bool) (rows : List (List Bucket)) (e : Event) → length rows ≡ 0 → false ≡ list_any test (asked (row_at rows) e)
+no_rows test [] [] h = refl
+no_rows test [] (p ∷ ps) h = no_rows test [] ps h
+no_rows test (r ∷ rs) e h = absurd (omega (arith, h))

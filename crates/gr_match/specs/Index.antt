@@ -1,7 +1,7 @@
 -- The index of a list of filters: which of them are asked for an event
-use Rattle.std.specs.Prelude.{◌≡◌, ℕ, ◌+◌, ◌*◌, ◌%◌, ◌≤◌, Bool, false, nat_eq, nat_lt, cond, if◌then◌else◌, List, [], ◌∷◌, ◌++◌, length, map, get_or, Option, Some, None, option_and_then}
+use Rattle.std.specs.Prelude.{◌≡◌, ℕ, ◌+◌, ◌*◌, ◌%◌, ◌^◌, ◌≤◌, Bool, false, nat_eq, nat_lt, cond, if◌then◌else◌, List, [], ◌∷◌, ◌++◌, length, map, get_or, Option, Some, None, option_and_then}
 use Rattle.std.specs.List.{AllByRecursion, flat_map, slice_get}
-use Rattle.std.specs.Int.{to_be_bytes, cast_unsigned, w64}
+use Rattle.std.specs.Int.{cast_unsigned, w64}
 use Rattle.gr_event.specs.declared.value.Value.TheVariants as value
 use Rattle.gr_event.specs.declared.event.Event.{Event}
 use Rattle.gr_filter.specs.declared.filter.Filter.{Filter}
@@ -40,16 +40,20 @@ put p n (b ∷ bs) = if is_pair p (bucket_pair b) then record b { places = b.pla
 abbrev pub row_count : ℕ
 row_count = 251
 
--- bytes mixed into a number below the count of rows
+-- bytes mixed into a number below 2 ^ 32
 abbrev pub mixed : ℕ → List ℕ → ℕ
 mixed h [] = h
-mixed h (b ∷ bs) = mixed ((31 * h + b) % row_count) bs
+mixed h (b ∷ bs) = mixed ((31 * h + b) % 2 ^ 32) bs
+
+-- the number of a pair, of which its row is the rest
+abbrev pub number_of : Pair → ℕ
+number_of (name, value.Int z) = mixed 0 name + cast_unsigned w64 z % row_count
+number_of (name, value.Text t) = mixed (mixed 0 name) t
+number_of (name, value.Bool b) = mixed 0 name + (if b then 1 else 0)
 
 -- the row of a pair
 abbrev pub row_of : Pair → ℕ
-row_of (name, value.Int z) = mixed (mixed 0 name) (to_be_bytes w64 (cast_unsigned w64 z))
-row_of (name, value.Text t) = mixed (mixed 0 name) t
-row_of (name, value.Bool b) = mixed (mixed 0 name) ((if b then 1 else 0) ∷ [])
+row_of p = number_of p % row_count
 
 -- the buckets of a row; none where there is no such row
 abbrev pub row_at : List (List Bucket) → ℕ → List Bucket

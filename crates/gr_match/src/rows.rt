@@ -1,8 +1,8 @@
 //! Rows of buckets: an event looks up the rows of its own pairs, and no others.
 
-ghost use Rattle.std.specs.Prelude.{◌≡◌, ◌≤◌, ◌<◌, ℕ, ◌++◌, [], Some, length, IfOk, OnOk, OnErr};
+ghost use Rattle.std.specs.Prelude.{◌≡◌, ◌≤◌, ◌<◌, ◌^◌, ℕ, ◌++◌, [], Some, length, IfOk, OnOk, OnErr};
 ghost use Rattle.gr_match.specs.Needed.{pair_of};
-ghost use Rattle.gr_match.specs.Index.{row_count, mixed, row_of, row_at, row_with, places_for, places_of, asked};
+ghost use Rattle.gr_match.specs.Index.{row_count, mixed, number_of, row_of, row_at, row_with, places_for, places_of, asked};
 
 use crate::bucket::{Bucket, put};
 use crate::pair::NamedPart;
@@ -11,7 +11,10 @@ use std::alloc::Global;
 use std::marker::Model;
 
 /// How many rows there are, once there is a bucket.
-const ROW_COUNT: u32 = 251;
+const ROW_COUNT: u64 = 251;
+
+/// Names and texts are mixed into numbers below this one.
+const MIX_COUNT: u64 = 0x1_0000_0000;
 
 /// The buckets of one row.
 #[derive(Drop)]
@@ -28,17 +31,29 @@ impl Model for Row {
     ghost view = { λ r. r.buckets.items };
 }
 
-/// Bytes mixed into a number of a row.
-fn mixed(start: u32, bytes: &[u8]) -> u32
-    requires { start < 251 }
+/// Bytes mixed into a number.
+fn mixed(start: u64, bytes: &[u8]) -> u64
+    requires { start < 2 ^ 32 }
     ensures mixed { result ≡ mixed start bytes.now }
-    ensures within { result < 251 }
+    ensures within { result < 2 ^ 32 }
 {
-    let mut row = start;
+    let mut number = start;
     for byte in bytes {
-        row = (31 * row + u32::from(*byte)) % ROW_COUNT;
+        number = (31 * number + u64::from(*byte)) % MIX_COUNT;
     }
-    row
+    number
+}
+
+/// The number of a pair, which names its row.
+fn number_of(pair: NamedPart<'_>) -> u64
+    ensures { result ≡ number_of (pair_of pair.entry) }
+{
+    let named = mixed(0, pair.name);
+    match pair.part {
+        Part::Int(number) => named + number.cast_unsigned() % ROW_COUNT,
+        Part::Text(text) => mixed(named, text),
+        Part::Bool(holds) => named + u64::from(holds),
+    }
 }
 
 /// The row of a pair.
@@ -46,13 +61,7 @@ fn row_of(pair: NamedPart<'_>) -> usize
     ensures row { result ≡ row_of (pair_of pair.entry) }
     ensures within { result < 251 }
 {
-    let named = mixed(0, pair.name);
-    let row = match pair.part {
-        Part::Int(number) => mixed(named, &number.to_be_bytes()),
-        Part::Text(text) => mixed(named, text),
-        Part::Bool(holds) => mixed(named, &[u8::from(holds)]),
-    };
-    row as usize
+    (number_of(pair) % ROW_COUNT) as usize
 }
 
 /// Makes all rows, if there are none yet. At want of memory all stays as it was.

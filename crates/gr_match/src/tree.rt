@@ -1,6 +1,6 @@
 //! A list of filters, kept by what an event has to have.
 
-ghost use Rattle.std.specs.Prelude.{◌≡◌, ℕ, ◌<◌, ◌++◌, ◌∷◌, [], Some, length, slice_get, IfOk, OnOk, OnErr};
+ghost use Rattle.std.specs.Prelude.{◌≡◌, ℕ, ◌<◌, ◌++◌, ◌∷◌, [], length, IfOk, OnOk, OnErr};
 ghost use Rattle.std.specs.List.{filter, flat_map, list_any};
 ghost use Rattle.gr_event.specs.Limits.{IsEvent};
 ghost use Rattle.gr_filter.specs.Tree.{tree_of};
@@ -111,23 +111,15 @@ fn enter(
     }
 }
 
-/// The pair of an event at a place.
-fn pair_at(event: &Event, i: usize) -> NamedPart<'_>
-    requires { i < length event.now }
-    ensures { slice_get event.now i ≡ Some (pair_of result) }
-{
-    let (name, part) = event.pair(i);
-    NamedPart { name, part }
-}
-
 /// The places to ask for an event: those of the rest, and those of the filters that need one of its pairs.
 fn asked(alloc: Global, rest: &Numbers, rows: &[Row], event: &Event) -> Result<Vec<u16>, Memory>
     ensures asked { IfOk result (λ places. places.items ≡ rest.now ++ asked (row_at rows.now) event.now) }
     ensures event { OnOk result (IsEvent event.now) }
 {
     let mut places = Vec::from_slice(alloc, rest.as_slice())?;
-    for i in 0..event.len() {
-        let pair = pair_at(event, i);
+    let mut pairs = event.pairs();
+    'pairs: while let Some((name, part)) = pairs.next() {
+        let pair = NamedPart { name, part };
         add_places(&mut places, row_for(rows, pair), pair)?;
     }
     Ok(places)
@@ -190,8 +182,12 @@ fn any_asked(filters: &[Filter], rows: &[Row], event: &Event) -> bool
     ensures some { result ≡ list_any (matches_at (trees filters.now) event.now) (asked (row_at rows.now) event.now) }
     ensures event { IsEvent event.now }
 {
-    for i in 0..event.len() {
-        let pair = pair_at(event, i);
+    let mut pairs = event.pairs();
+    if rows.is_empty() {
+        return false;
+    }
+    'pairs: while let Some((name, part)) = pairs.next() {
+        let pair = NamedPart { name, part };
         if any_of(filters, row_for(rows, pair), pair, event) {
             return true;
         }
