@@ -54,11 +54,13 @@ blank_sound = record {
   publisher_names = record { each = (refl, tt); found = one_found };
   subscriber_names = record { each = (refl, tt); found = other_found };
   addressed = (tt, (tt, tt));
+  reachable = (tt, tt);
   limits = record { brokers = omega arith; publishers = omega arith; subscribers = omega arith };
   hosts = refl;
   homes = refl;
   filters = refl;
   addresses = refl;
+  clients = refl;
   host_in = λ p h. host_two p;
   home_in = λ s h. home_two s;
   links = two_within;
@@ -67,7 +69,7 @@ blank_sound = record {
 }
 
 -- a view with the parts of the blank topology is it
-pub is_blank : (bs ps ss : List (List ℕ)) (ls : List Link) (hs ms : List ℕ) (fs : List (Option Tree)) (addresses : List (Option (List ℕ)))
-    → bs ≡ blank.brokers → ps ≡ blank.publishers → ss ≡ blank.subscribers → ls ≡ blank.links → hs ≡ blank.hosts → ms ≡ blank.homes → fs ≡ blank.filters → addresses ≡ blank.addresses
-    → IsSound (record { brokers = bs; publishers = ps; subscribers = ss; links = ls; hosts = hs; homes = ms; filters = fs; addresses = addresses; settings = default_values })
-is_blank bs ps ss ls hs ms fs addresses a b c d e f g h = rw (a, b, c, d, e, f, g, h) blank_sound
+pub is_blank : (bs ps ss : List (List ℕ)) (ls : List Link) (hs ms : List ℕ) (fs : List (Option Tree)) (addresses clients : List (Option (List ℕ)))
+    → bs ≡ blank.brokers → ps ≡ blank.publishers → ss ≡ blank.subscribers → ls ≡ blank.links → hs ≡ blank.hosts → ms ≡ blank.homes → fs ≡ blank.filters → addresses ≡ blank.addresses → clients ≡ blank.clients
+    → IsSound (record { brokers = bs; publishers = ps; subscribers = ss; links = ls; hosts = hs; homes = ms; filters = fs; addresses = addresses; clients = clients; settings = default_values })
+is_blank bs ps ss ls hs ms fs addresses clients a b c d e f g h i = rw (a, b, c, d, e, f, g, h, i) blank_sound

@@ -18,7 +18,7 @@ use Rattle.gr_topo.specs.Draft.{DraftLists, no_addresses, no_entries}
 use Rattle.gr_topo.specs.Gives.{◌>>=◌, walk, one_more, each, Gives}
 use Rattle.gr_topo.specs.Names.{is_name, is_address}
 use Rattle.gr_topo.specs.Topology.{TopologyView, number_of}
-use Rattle.gr_topo.specs.Checks.{passes, few, good_name, good_names, seen_once, apart, known, broker_in, brokers_in, link_in, links_in, tree_of, in_range, settings_of, filter_or_fault, filter_in, filter_beside, filters_in, good_address, address_in, addresses_of}
+use Rattle.gr_topo.specs.Checks.{passes, few, good_name, good_names, seen_once, apart, known, number_in, numbers_in, link_in, links_in, tree_of, in_range, settings_of, filter_or_fault, filter_in, filter_beside, filters_in, good_address, address_in, addresses_of}
 use Rattle.gr_topo.specs.Shape.{text_in, integer_in, array_in, table_in, required, texts_in, two_texts, pair_in, pairs_in, no_entry, entry_key, whole_entry, entry_in, one_entry, entries_in, one_address, addresses_in, default_settings, one_setting, settings_in, no_draft, root_key, draft_in, members_list}
 use Rattle.gr_topo.specs.Read.{names_checked, resolved_in, topology_of, draft_topology, table_topology, document_topology}
 use Rattle.gr_topo.specs.Fault.{IsRefusal}
@@ -112,10 +112,11 @@ unfolding root_key
 root found m =
     either (bytes_eq m.0 (codes "addresses")) _ _ (both (addresses_in m.0 m.1) _ (addresses m.0 m.1) (λ x. tt))
     (either (bytes_eq m.0 (codes "brokers")) _ _ (both (texts_in m.0 m.1) _ (lists m.0 m.1) (λ x. tt))
+    (either (bytes_eq m.0 (codes "clients")) _ _ (both (addresses_in m.0 m.1) _ (addresses m.0 m.1) (λ x. tt))
     (either (bytes_eq m.0 (codes "links")) _ _ (both (pairs_in m.0 m.1) _ (links m.0 m.1) (λ x. tt))
     (either (bytes_eq m.0 (codes "publisher")) _ _ (both (entries_in m.0 false m.1) _ (entries m.0 false m.1) (λ x. tt))
     (either (bytes_eq m.0 (codes "settings")) _ _ (both (settings_in m.0 m.1) _ (both (table_in m.0 m.1) (walk one_setting default_settings) (tables m.0 m.1) (walks one_setting setting default_settings)) (λ x. tt))
-    (either (bytes_eq m.0 (codes "subscriber")) _ _ (both (entries_in m.0 true m.1) _ (entries m.0 true m.1) (λ x. tt)) tt)))))
+    (either (bytes_eq m.0 (codes "subscriber")) _ _ (both (entries_in m.0 true m.1) _ (entries m.0 true m.1) (λ x. tt)) tt))))))
 
 -- ---- the tests
 
@@ -144,13 +145,15 @@ checked bs ps ss =
 resolved : (brokers : List (List ℕ)) (d : DraftLists) → Safe (resolved_in brokers d)
 unfolding resolved_in
 resolved brokers d =
-    let one : (n : List ℕ) → Safe (broker_in brokers n) = λ n. knows n (number_of brokers n) in
+    let one : (n : List ℕ) → Safe (number_in brokers n) = λ n. knows n (number_of brokers n) in
+    let publisher : (n : List ℕ) → Safe (number_in d.publishers.names n) = λ n. knows n (number_of d.publishers.names n) in
     both (names_checked brokers d.publishers.names d.subscribers.names) _ (checked brokers d.publishers.names d.subscribers.names) (λ a.
-    both (links_in brokers d.links) _ (all (link_in brokers) (λ ends. both (broker_in brokers ends.0) _ (one ends.0) (λ x. both (broker_in brokers ends.1) _ (one ends.1) (λ y. tt))) d.links) (λ links.
-    both (brokers_in brokers d.publishers.brokers) _ (all (broker_in brokers) one d.publishers.brokers) (λ hosts.
-    both (brokers_in brokers d.subscribers.brokers) _ (all (broker_in brokers) one d.subscribers.brokers) (λ homes.
-    both (brokers_in brokers d.addresses.names) _ (all (broker_in brokers) one d.addresses.names) (λ b.
-    both (tree_of (length brokers) links) _ (tests (is_tree (length brokers) links) fault.NotTree tt) (λ c. tt))))))
+    both (links_in brokers d.links) _ (all (link_in brokers) (λ ends. both (number_in brokers ends.0) _ (one ends.0) (λ x. both (number_in brokers ends.1) _ (one ends.1) (λ y. tt))) d.links) (λ links.
+    both (numbers_in brokers d.publishers.brokers) _ (all (number_in brokers) one d.publishers.brokers) (λ hosts.
+    both (numbers_in brokers d.subscribers.brokers) _ (all (number_in brokers) one d.subscribers.brokers) (λ homes.
+    both (numbers_in brokers d.addresses.names) _ (all (number_in brokers) one d.addresses.names) (λ b.
+    both (numbers_in d.publishers.names d.clients.names) _ (all (number_in d.publishers.names) publisher d.clients.names) (λ c.
+    both (tree_of (length brokers) links) _ (tests (is_tree (length brokers) links) fault.NotTree tt) (λ t. tt)))))))
 
 ranges : (key : List ℕ) (most : ℕ) (z : ℤ) → Safe (in_range key most z)
 ranges key most (pos n) = either (nat_le 1 n && nat_le n most) _ _ tt tt
@@ -189,7 +192,8 @@ topologies brokers d =
     both (resolved_in brokers d) _ (resolved brokers d) (λ found.
     both (settings_of d.settings) _ (settings d.settings) (λ set.
     both (filters_in (zip d.subscribers.names d.subscribers.filters)) _ (all filter_beside (λ s. filters s.0 s.1) (zip d.subscribers.names d.subscribers.filters)) (λ fs.
-    both (addresses_of d.addresses brokers) _ (all (address_in d.addresses) (λ b. address b _) brokers) (λ found_addresses. tt))))
+    both (addresses_of d.addresses brokers) _ (all (address_in d.addresses) (λ b. address b _) brokers) (λ found_addresses.
+    both (addresses_of d.clients d.publishers.names) _ (all (address_in d.clients) (λ p. address p _) d.publishers.names) (λ found_clients. tt)))))
 
 drafts : (d : DraftLists) → Safe (draft_topology d)
 unfolding draft_topology

@@ -21,7 +21,7 @@ use Rattle.gr_topo.specs.Draft.{EntryLists, DraftLists, with_entry, no_entries}
 use Rattle.gr_topo.specs.Gives.{walk, one_more, each}
 use Rattle.gr_topo.specs.Columns.{AreColumns, HasColumns}
 use Rattle.gr_topo.specs.Shape.{entry_in, one_entry, entries_in, array_in, members_list, root_key, no_draft, draft_in, texts_in, pairs_in, addresses_in, settings_in}
-use Rattle.gr_topo.specs.Checks.{passes, few, known, broker_in, brokers_in, link_in, links_in, in_range, settings_of, filters_in, filter_beside, addresses_of, address_in, tree_of}
+use Rattle.gr_topo.specs.Checks.{passes, few, known, number_in, numbers_in, link_in, links_in, in_range, settings_of, filters_in, filter_beside, addresses_of, address_in, tree_of}
 use Rattle.gr_topo.specs.Topology.{number_of, AreNames, IsInRange, IsSound}
 use Rattle.gr_topo.proofs.Steps.{first_gave, ok_same, walk_keeps}
 use Rattle.gr_topo.proofs.Named.{names_named, addresses_addressed}
@@ -42,8 +42,8 @@ each_length f xs ys h = let e = each_length_from f xs [] ys h in omega (arith, e
 
 -- ---- numbers of brokers
 
-number_in : (names : List (List ℕ)) (name : List ℕ) (b : ℕ) → broker_in names name ≡ Ok b → b < length names
-number_in names name b h = go (number_of names name) refl h
+number_below : (names : List (List ℕ)) (name : List ℕ) (b : ℕ) → number_in names name ≡ Ok b → b < length names
+number_below names name b h = go (number_of names name) refl h
   where
     go : (o : Option ℕ) → number_of names name ≡ o → known name o ≡ Ok b → b < length names
     go None e k = absurd (err_ok k)
@@ -62,11 +62,11 @@ below_push n xs x all lt = λ p h.
       | inr e ↦ let short : p < length xs = omega (arith, length_push xs x) in subst (λ z. z < n) (sym (get_or_append_left xs (x ∷ []) 0 p short)) (all p short)
     ]
 
-pub numbers_below : (brokers names : List (List ℕ)) (ns : List ℕ) → brokers_in brokers names ≡ Ok ns → AllBelow (length brokers) ns
+pub numbers_below : (brokers names : List (List ℕ)) (ns : List ℕ) → numbers_in brokers names ≡ Ok ns → AllBelow (length brokers) ns
 numbers_below brokers names ns h =
-    walk_keeps (AllBelow (length brokers)) (one_more (broker_in brokers))
-    (λ s x next p k. let w = first_gave (broker_in brokers x) (λ y. Ok (s ++ y ∷ [])) next k in
-    subst (AllBelow (length brokers)) (ok_same _ _ w.2) (below_push (length brokers) s w.0 p (number_in brokers x w.0 w.1)))
+    walk_keeps (AllBelow (length brokers)) (one_more (number_in brokers))
+    (λ s x next p k. let w = first_gave (number_in brokers x) (λ y. Ok (s ++ y ∷ [])) next k in
+    subst (AllBelow (length brokers)) (ok_same _ _ w.2) (below_push (length brokers) s w.0 p (number_below brokers x w.0 w.1)))
     names [] ns (λ p lt. absurd (omega arith)) h
 
 within_push : (n : ℕ) (links : List Link) (l : Link) → IsWithin n links → (l.one < n) × (l.other < n) → IsWithin n (links ++ l ∷ [])
@@ -87,11 +87,11 @@ links_within brokers pairs links h =
     walk_keeps (IsWithin (length brokers)) (one_more (link_in brokers))
     (λ s x next p k.
     let w = first_gave (link_in brokers x) (λ y. Ok (s ++ y ∷ [])) next k in
-    let one = first_gave (broker_in brokers x.0) _ w.0 w.1 in
-    let other = first_gave (broker_in brokers x.1) _ w.0 one.2 in
+    let one = first_gave (number_in brokers x.0) _ w.0 w.1 in
+    let other = first_gave (number_in brokers x.1) _ w.0 one.2 in
     let made : ◌≡◌ {A = Link} (record { one = one.0; other = other.0 }) w.0 = ok_same _ _ other.2 in
     subst (IsWithin (length brokers)) (ok_same _ _ w.2)
-    (subst (λ z. IsWithin (length brokers) (s ++ z ∷ [])) made (within_push (length brokers) s (record { one = one.0; other = other.0 }) p (number_in brokers x.0 one.0 one.1, number_in brokers x.1 other.0 other.1))))
+    (subst (λ z. IsWithin (length brokers) (s ++ z ∷ [])) made (within_push (length brokers) s (record { one = one.0; other = other.0 }) p (number_below brokers x.0 one.0 one.1, number_below brokers x.1 other.0 other.1))))
     pairs [] links (λ a b e. absurd (false≢true e)) h
 
 -- ---- settings
@@ -159,6 +159,7 @@ unfolding root_key
 root_columns d m next p h =
     ⊎_elim (λ e. let w = first_gave (addresses_in m.0 m.1) _ next e in columns_same _ next (ok_same _ _ w.2) (record { publishers = p.publishers; subscribers = p.subscribers })) (λ h.
     ⊎_elim (λ e. let w = first_gave (texts_in m.0 m.1) _ next e in columns_same _ next (ok_same _ _ w.2) (record { publishers = p.publishers; subscribers = p.subscribers })) (λ h.
+    ⊎_elim (λ e. let w = first_gave (addresses_in m.0 m.1) _ next e in columns_same _ next (ok_same _ _ w.2) (record { publishers = p.publishers; subscribers = p.subscribers })) (λ h.
     ⊎_elim (λ e. let w = first_gave (pairs_in m.0 m.1) _ next e in columns_same _ next (ok_same _ _ w.2) (record { publishers = p.publishers; subscribers = p.subscribers })) (λ h.
     ⊎_elim (λ e. let w = first_gave (entries_in m.0 false m.1) _ next e in columns_same _ next (ok_same _ _ w.2) (record { publishers = entries_columns m.0 false m.1 w.0 w.1; subscribers = p.subscribers })) (λ h.
     ⊎_elim (λ e. let w = first_gave (settings_in m.0 m.1) _ next e in columns_same _ next (ok_same _ _ w.2) (record { publishers = p.publishers; subscribers = p.subscribers })) (λ h.
@@ -167,6 +168,7 @@ root_columns d m next p h =
     (if_gave (bytes_eq m.0 (codes "settings")) _ _ next h))
     (if_gave (bytes_eq m.0 (codes "publisher")) _ _ next h))
     (if_gave (bytes_eq m.0 (codes "links")) _ _ next h))
+    (if_gave (bytes_eq m.0 (codes "clients")) _ _ next h))
     (if_gave (bytes_eq m.0 (codes "brokers")) _ _ next h))
     (if_gave (bytes_eq m.0 (codes "addresses")) _ _ next h)
 
@@ -215,10 +217,11 @@ unfolding resolved_in
 resolved_facts brokers d r h =
     let names = first_gave (names_checked brokers d.publishers.names d.subscribers.names) _ r h in
     let links = first_gave (links_in brokers d.links) _ r names.2 in
-    let hosts = first_gave (brokers_in brokers d.publishers.brokers) _ r links.2 in
-    let homes = first_gave (brokers_in brokers d.subscribers.brokers) _ r hosts.2 in
-    let addresses = first_gave (brokers_in brokers d.addresses.names) _ r homes.2 in
-    let tree = first_gave (tree_of (length brokers) links.0) _ r addresses.2 in
+    let hosts = first_gave (numbers_in brokers d.publishers.brokers) _ r links.2 in
+    let homes = first_gave (numbers_in brokers d.subscribers.brokers) _ r hosts.2 in
+    let addresses = first_gave (numbers_in brokers d.addresses.names) _ r homes.2 in
+    let clients = first_gave (numbers_in d.publishers.names d.clients.names) _ r addresses.2 in
+    let tree = first_gave (tree_of (length brokers) links.0) _ r clients.2 in
     let fits = names_fit brokers d.publishers.names d.subscribers.names names.0 names.1 in
     let made : ◌≡◌ {A = ResolvedLists} (record { links = links.0; hosts = hosts.0; homes = homes.0 }) r = ok_same _ _ tree.2 in
     subst (IsResolved brokers d) made (record {
@@ -230,15 +233,15 @@ resolved_facts brokers d r h =
       tree = a_tree (length brokers) links.0 tree.0 tree.1;
       hosts = numbers_below brokers d.publishers.brokers hosts.0 hosts.1;
       homes = numbers_below brokers d.subscribers.brokers homes.0 homes.1;
-      host_count = each_length (broker_in brokers) d.publishers.brokers hosts.0 hosts.1;
-      home_count = each_length (broker_in brokers) d.subscribers.brokers homes.0 homes.1;
+      host_count = each_length (number_in brokers) d.publishers.brokers hosts.0 hosts.1;
+      home_count = each_length (number_in brokers) d.subscribers.brokers homes.0 homes.1;
     })
 
 -- the parts that were read fit one another
-pub read_sound : (brokers : List (List ℕ)) (d : DraftLists) (r : ResolvedLists) (s : Settings) (fs : List (Option Tree)) (as_given : List (Option (List ℕ))) → HasColumns d → resolved_in brokers d ≡ Ok r → settings_of d.settings ≡ Ok s
-    → filters_in (zip d.subscribers.names d.subscribers.filters) ≡ Ok fs → addresses_of d.addresses brokers ≡ Ok as_given
-    → IsSound (record { brokers = brokers; publishers = d.publishers.names; subscribers = d.subscribers.names; links = r.links; hosts = r.hosts; homes = r.homes; filters = fs; addresses = as_given; settings = s })
-read_sound brokers d r s fs as_given cols found set filters addresses =
+pub read_sound : (brokers : List (List ℕ)) (d : DraftLists) (r : ResolvedLists) (s : Settings) (fs : List (Option Tree)) (as_given clients_given : List (Option (List ℕ))) → HasColumns d → resolved_in brokers d ≡ Ok r → settings_of d.settings ≡ Ok s
+    → filters_in (zip d.subscribers.names d.subscribers.filters) ≡ Ok fs → addresses_of d.addresses brokers ≡ Ok as_given → addresses_of d.clients d.publishers.names ≡ Ok clients_given
+    → IsSound (record { brokers = brokers; publishers = d.publishers.names; subscribers = d.subscribers.names; links = r.links; hosts = r.hosts; homes = r.homes; filters = fs; addresses = as_given; clients = clients_given; settings = s })
+read_sound brokers d r s fs as_given clients_given cols found set filters addresses clients =
     let f = resolved_facts brokers d r found in
     let host_count : length r.hosts ≡ length d.publishers.names = f.host_count ∙ cols.publishers.brokers in
     let home_count : length r.homes ≡ length d.subscribers.names = f.home_count ∙ cols.subscribers.brokers in
@@ -250,10 +253,12 @@ read_sound brokers d r s fs as_given cols found set filters addresses =
       publisher_names = f.named.1;
       subscriber_names = f.named.2;
       addressed = addresses_addressed d.addresses brokers as_given addresses;
+      reachable = addresses_addressed d.clients d.publishers.names clients_given clients;
       hosts = host_count;
       homes = home_count;
       filters = filter_count;
       addresses = each_length (address_in d.addresses) brokers as_given addresses;
+      clients = each_length (address_in d.clients) d.publishers.names clients_given clients;
       host_in = λ p h. f.hosts p (omega (arith, host_count));
       home_in = λ p h. f.homes p (omega (arith, home_count));
       links = f.links;

@@ -43,22 +43,22 @@ seen_once seen name = passes (not (list_any (bytes_eq name) seen)) (Twice name) 
 abbrev pub apart : List (List ℕ) → Result (Unit {0}) TopoFault
 apart names = walk seen_once [] names >>= λ _. Ok tt
 
--- ---- brokers by their names
+-- ---- numbers of names: of brokers, or of publishers
 
 abbrev pub known : List ℕ → Option ℕ → Result ℕ TopoFault
 known name None = Err (Unknown name)
 known name (Some number) = Ok number
 
-abbrev pub broker_in : List (List ℕ) → List ℕ → Result ℕ TopoFault
-broker_in brokers name = known name (number_of brokers name)
+abbrev pub number_in : List (List ℕ) → List ℕ → Result ℕ TopoFault
+number_in names name = known name (number_of names name)
 
-abbrev pub brokers_in : List (List ℕ) → List (List ℕ) → Result (List ℕ) TopoFault
-brokers_in brokers names = each (broker_in brokers) names
+abbrev pub numbers_in : List (List ℕ) → List (List ℕ) → Result (List ℕ) TopoFault
+numbers_in names looked_up = each (number_in names) looked_up
 
 abbrev pub link_in : List (List ℕ) → List ℕ × List ℕ → Result Link TopoFault
 link_in brokers ends = do
-  one ← broker_in brokers ends.0
-  other ← broker_in brokers ends.1
+  one ← number_in brokers ends.0
+  other ← number_in brokers ends.1
   Ok (record { one = one; other = other })
 
 abbrev pub links_in : List (List ℕ) → List (List ℕ × List ℕ) → Result (List Link) TopoFault
@@ -104,7 +104,7 @@ filters_in subscribers = each filter_beside subscribers
 
 -- ---- addresses
 
--- the address of a broker, if it has one
+-- the address of a broker, or of a publisher's client, if it has one
 abbrev pub good_address : List ℕ → Option (List ℕ) → Result (Option (List ℕ)) TopoFault
 good_address name None = Ok None
 good_address name (Some text) = passes (is_address text) (BadAddress name) >>= λ _. Ok (Some text)
@@ -113,4 +113,4 @@ abbrev pub address_in : AddressLists → List ℕ → Result (Option (List ℕ))
 address_in lists name = good_address name (option_and_then (slice_get lists.texts) (number_of lists.names name))
 
 abbrev pub addresses_of : AddressLists → List (List ℕ) → Result (List (Option (List ℕ))) TopoFault
-addresses_of lists brokers = each (address_in lists) brokers
+addresses_of lists names = each (address_in lists) names

@@ -13,7 +13,7 @@ pub record EntryLists : Type 0 where
   pub brokers : List (List ℕ)
   pub filters : List (Option (List ℕ))
 
--- the addresses: names of brokers, and the text of each
+-- addresses: names, of brokers or of publishers with clients, and the text of each
 pub record AddressLists : Type 0 where
   pub names : List (List ℕ)
   pub texts : List (List ℕ)
@@ -24,6 +24,7 @@ pub record DraftLists : Type 0 where
   pub publishers : EntryLists
   pub subscribers : EntryLists
   pub addresses : AddressLists
+  pub clients : AddressLists
   pub settings : WrittenSettings
 
 abbrev pub no_entries : EntryLists
@@ -54,5 +55,6 @@ draft_lists d = record {
   publishers = entry_lists d.publishers;
   subscribers = entry_lists d.subscribers;
   addresses = address_lists d.addresses;
+  clients = address_lists d.clients;
   settings = d.settings;
 }

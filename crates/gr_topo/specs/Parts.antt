@@ -17,6 +17,7 @@ view_of t = record {
   homes = t.homes.items;
   filters = map (option_map filter_tree) t.filters.items;
   addresses = t.addresses.items;
+  clients = t.clients.items;
   settings = t.settings;
 }
 

@@ -13,7 +13,7 @@ use Rattle.gr_topo.specs.Draft.{DraftLists}
 use Rattle.gr_topo.specs.Gives.{◌>>=◌}
 use Rattle.gr_topo.specs.Shape.{draft_in, required}
 use Rattle.gr_topo.specs.Topology.{TopologyView, blank}
-use Rattle.gr_topo.specs.Checks.{few, good_names, apart, brokers_in, links_in, tree_of, settings_of, filters_in, addresses_of}
+use Rattle.gr_topo.specs.Checks.{few, good_names, apart, numbers_in, links_in, tree_of, settings_of, filters_in, addresses_of}
 
 -- the three lists of names: not too many, each a name, none twice
 unfoldable pub names_checked : List (List ℕ) → List (List ℕ) → List (List ℕ) → Result (Unit {0}) TopoFault
@@ -40,9 +40,10 @@ unfoldable pub resolved_in : List (List ℕ) → DraftLists → Result ResolvedL
 resolved_in brokers d = do
   _ ← names_checked brokers d.publishers.names d.subscribers.names
   links ← links_in brokers d.links
-  hosts ← brokers_in brokers d.publishers.brokers
-  homes ← brokers_in brokers d.subscribers.brokers
-  _ ← brokers_in brokers d.addresses.names
+  hosts ← numbers_in brokers d.publishers.brokers
+  homes ← numbers_in brokers d.subscribers.brokers
+  _ ← numbers_in brokers d.addresses.names
+  _ ← numbers_in d.publishers.names d.clients.names
   _ ← tree_of (length brokers) links
   Ok (record { links = links; hosts = hosts; homes = homes })
 
@@ -53,6 +54,7 @@ topology_of brokers d = do
   settings ← settings_of d.settings
   filters ← filters_in (zip d.subscribers.names d.subscribers.filters)
   addresses ← addresses_of d.addresses brokers
+  clients ← addresses_of d.clients d.publishers.names
   Ok (record {
     brokers = brokers;
     publishers = d.publishers.names;
@@ -62,6 +64,7 @@ topology_of brokers d = do
     homes = found.homes;
     filters = filters;
     addresses = addresses;
+    clients = clients;
     settings = settings;
   })
 

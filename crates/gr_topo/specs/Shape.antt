@@ -120,18 +120,27 @@ settings_in key d = table_in key d >>= walk one_setting default_settings
 -- ---- the whole part
 
 abbrev pub no_draft : DraftLists
-no_draft = record { brokers = None; links = []; publishers = no_entries; subscribers = no_entries; addresses = no_addresses; settings = default_settings }
+no_draft = record {
+  brokers = None;
+  links = [];
+  publishers = no_entries;
+  subscribers = no_entries;
+  addresses = no_addresses;
+  clients = no_addresses;
+  settings = default_settings;
+}
 
 -- one key of the root
 unfoldable pub root_key : DraftLists → List ℕ × Data → Result DraftLists TopoFault
 root_key found m =
     if bytes_eq m.0 (codes "addresses") then (addresses_in m.0 m.1 >>= λ x. Ok (record found { addresses = x }))
     else (if bytes_eq m.0 (codes "brokers") then (texts_in m.0 m.1 >>= λ x. Ok (record found { brokers = Some x }))
+    else (if bytes_eq m.0 (codes "clients") then (addresses_in m.0 m.1 >>= λ x. Ok (record found { clients = x }))
     else (if bytes_eq m.0 (codes "links") then (pairs_in m.0 m.1 >>= λ x. Ok (record found { links = x }))
     else (if bytes_eq m.0 (codes "publisher") then (entries_in m.0 false m.1 >>= λ x. Ok (record found { publishers = x }))
     else (if bytes_eq m.0 (codes "settings") then (settings_in m.0 m.1 >>= λ x. Ok (record found { settings = x }))
     else (if bytes_eq m.0 (codes "subscriber") then (entries_in m.0 true m.1 >>= λ x. Ok (record found { subscribers = x }))
-    else Err (BadKey m.0))))))
+    else Err (BadKey m.0)))))))
 
 -- the keys of the root in byte order; what is required there is asked for by whoever reads on
 abbrev pub draft_in : Members → Result DraftLists TopoFault

@@ -12,7 +12,8 @@ use Rattle.gr_topo.specs.declared.settings.TheConstants.{MOST_TIME, MOST_CACHE}
 use Rattle.gr_topo.specs.declared.settings.Settings.{Settings}
 
 -- Brokers, publishers and subscribers by their numbers, from 0: the names of each; the links between brokers; the brokers
--- of publishers and of subscribers; the filters of subscribers and the addresses of brokers, where there are any; the settings.
+-- of publishers and of subscribers; the filters of subscribers, the addresses of brokers and those of the clients of
+-- publishers, where there are any; the settings.
 pub record TopologyView : Type 0 where
   pub brokers : List (List ℕ)
   pub publishers : List (List ℕ)
@@ -22,6 +23,7 @@ pub record TopologyView : Type 0 where
   pub homes : List ℕ
   pub filters : List (Option Tree)
   pub addresses : List (Option (List ℕ))
+  pub clients : List (Option (List ℕ))
   pub settings : Settings
 
 -- how many of each there may be
@@ -55,6 +57,10 @@ filter_of t s = slice_index_or t.filters s None
 
 abbrev pub address_of : TopologyView → ℕ → Option (List ℕ)
 address_of t b = slice_index_or t.addresses b None
+
+-- the address of the client of a publisher, if it has one
+abbrev pub client_of : TopologyView → ℕ → Option (List ℕ)
+client_of t p = slice_index_or t.clients p None
 
 -- every event matches where there is no filter
 abbrev pub passes_filter : Option Tree → Event → Bool
@@ -139,10 +145,12 @@ pub record IsSound (t : TopologyView) : Type 0 where
   pub publisher_names : AreNames t.publishers
   pub subscriber_names : AreNames t.subscribers
   pub addressed : AllByRecursion IsAddressed t.addresses
+  pub reachable : AllByRecursion IsAddressed t.clients
   pub hosts : length t.hosts ≡ length t.publishers
   pub homes : length t.homes ≡ length t.subscribers
   pub filters : length t.filters ≡ length t.subscribers
   pub addresses : length t.addresses ≡ length t.brokers
+  pub clients : length t.clients ≡ length t.publishers
   pub host_in : (p : ℕ) → p < length t.publishers → host_of t p < size t
   pub home_in : (s : ℕ) → s < length t.subscribers → home_of t s < size t
   pub links : IsWithin (size t) t.links
@@ -171,5 +179,6 @@ blank = record {
   homes = 1 ∷ [];
   filters = None ∷ [];
   addresses = None ∷ None ∷ [];
+  clients = None ∷ [];
   settings = default_values;
 }

@@ -124,15 +124,11 @@ fn is_address(text: &[u8]) -> bool
     }
 }
 
-/// The address of a broker, if it has one.
-fn address_in(
-    alloc: Global,
-    addresses: &Addresses,
-    broker: &Text,
-) -> Result<Option<Text>, TopoFault>
-    ensures { Gives (λ a. a) result (address_in (address_lists addresses.now) broker.now) }
+/// The address of a broker, or of a publisher's client, if it has one.
+fn address_in(alloc: Global, addresses: &Addresses, name: &Text) -> Result<Option<Text>, TopoFault>
+    ensures { Gives (λ a. a) result (address_in (address_lists addresses.now) name.now) }
 {
-    let Some(at) = place_of(&addresses.names, broker.as_slice()) else {
+    let Some(at) = place_of(&addresses.names, name.as_slice()) else {
         return Ok(None);
     };
     match addresses.texts.get(at) {
@@ -142,24 +138,24 @@ fn address_in(
                 Ok(Some(Text::from_slice(alloc, text.as_slice())?))
             } else {
                 Err(TopoFault::BadAddress {
-                    name: Text::from_slice(alloc, broker.as_slice())?,
+                    name: Text::from_slice(alloc, name.as_slice())?,
                 })
             }
         }
     }
 }
 
-/// The addresses of brokers.
+/// The addresses of brokers, or of publishers' clients, in the order of these names.
 pub(crate) fn addresses_of(
     alloc: Global,
     addresses: &Addresses,
-    brokers: &[Text],
+    names: &[Text],
 ) -> Result<Vec<Option<Text>>, TopoFault>
-    ensures { Gives (λ v. v.items) result (addresses_of (address_lists addresses.now) brokers.now) }
+    ensures { Gives (λ v. v.items) result (addresses_of (address_lists addresses.now) names.now) }
 {
     let mut found = Vec::new(alloc);
-    for broker in brokers {
-        match address_in(alloc, addresses, broker) {
+    for name in names {
+        match address_in(alloc, addresses, name) {
             Ok(address) => found.push(address)?,
             Err(fault) => return Err(fault),
         }

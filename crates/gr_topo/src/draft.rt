@@ -28,7 +28,7 @@ pub(crate) struct Entries {
     pub filters: Vec<Option<Text>>,
 }
 
-/// Addresses in the byte order of the brokers' names.
+/// Addresses in the byte order of the names: of brokers, or of publishers with clients.
 #[derive(Drop)]
 pub(crate) struct Addresses {
     pub names: Vec<Text>,
@@ -43,5 +43,6 @@ pub(crate) struct Draft {
     pub publishers: Entries,
     pub subscribers: Entries,
     pub addresses: Addresses,
+    pub clients: Addresses,
     pub settings: WrittenSettings,
 }

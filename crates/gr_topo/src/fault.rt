@@ -25,7 +25,7 @@ pub enum TopoFault {
     BadType { key: Text },
     /// A name stands twice among the brokers, the publishers or the subscribers.
     Twice { name: Text },
-    /// A name is that of no broker.
+    /// A name is that of no broker, or, of a client, that of no publisher.
     Unknown { name: Text },
     /// The links make no tree of the brokers.
     NotTree,
@@ -33,7 +33,7 @@ pub enum TopoFault {
     BadFilter { name: Text, fault: FilterFault },
     /// There are more brokers, publishers or subscribers than the limits allow.
     TooMany { key: Text },
-    /// The address of this broker is no address.
+    /// The address of this broker, or of this publisher's client, is no address.
     BadAddress { name: Text },
     /// A table lacks a key that it must have.
     Missing { key: Text },

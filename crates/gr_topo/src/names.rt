@@ -4,7 +4,7 @@ ghost use Rattle.std.specs.Prelude.{◌≡◌, ◌<◌, ◌≤◌, length, IfSom
 ghost use Rattle.std.specs.List.{list_all};
 ghost use Rattle.gr_topo.specs.Topology.{number_of};
 ghost use Rattle.gr_topo.specs.Gives.{Gives, walk, each};
-ghost use Rattle.gr_topo.specs.Checks.{few, is_name_byte, is_name, good_names, apart, broker_in, brokers_in, link_in, links_in};
+ghost use Rattle.gr_topo.specs.Checks.{few, is_name_byte, is_name, good_names, apart, number_in, numbers_in, link_in, links_in};
 ghost use Rattle.gr_topo.specs.declared.limits.TheConstants.{MAX_BROKERS};
 
 use crate::fault::TopoFault;
@@ -102,12 +102,12 @@ pub(crate) fn apart(alloc: Global, names: &[Text]) -> Result<(), TopoFault>
     Ok(())
 }
 
-/// The number of a broker by its name.
-fn broker_in(alloc: Global, brokers: &[Text], name: &Text) -> Result<u16, TopoFault>
-    requires { length brokers.now ≤ MAX_BROKERS }
-    ensures { Gives (λ b. b) result (broker_in brokers.now name.now) }
+/// The number of a name among those of brokers, or of publishers.
+fn number_in(alloc: Global, known: &[Text], name: &Text) -> Result<u16, TopoFault>
+    requires { length known.now ≤ MAX_BROKERS }
+    ensures { Gives (λ b. b) result (number_in known.now name.now) }
 {
-    match position_of(brokers, name.as_slice()) {
+    match position_of(known, name.as_slice()) {
         Some(number) => Ok(number),
         None => Err(TopoFault::Unknown {
             name: Text::from_slice(alloc, name.as_slice())?,
@@ -115,18 +115,18 @@ fn broker_in(alloc: Global, brokers: &[Text], name: &Text) -> Result<u16, TopoFa
     }
 }
 
-/// The numbers of brokers by their names.
-pub(crate) fn brokers_in(
+/// The numbers of names among those of brokers, or of publishers.
+pub(crate) fn numbers_in(
     alloc: Global,
-    brokers: &[Text],
+    known: &[Text],
     names: &[Text],
 ) -> Result<Vec<u16>, TopoFault>
-    requires { length brokers.now ≤ MAX_BROKERS }
-    ensures { Gives (λ v. v.items) result (brokers_in brokers.now names.now) }
+    requires { length known.now ≤ MAX_BROKERS }
+    ensures { Gives (λ v. v.items) result (numbers_in known.now names.now) }
 {
     let mut numbers = Vec::new(alloc);
     for name in names {
-        match broker_in(alloc, brokers, name) {
+        match number_in(alloc, known, name) {
             Ok(number) => numbers.push(number)?,
             Err(fault) => return Err(fault),
         }
@@ -139,8 +139,8 @@ fn link_in(alloc: Global, brokers: &[Text], ends: &(Text, Text)) -> Result<Link,
     requires { length brokers.now ≤ MAX_BROKERS }
     ensures { Gives (λ l. l) result (link_in brokers.now ends.now) }
 {
-    let one = broker_in(alloc, brokers, &ends.0)?;
-    let other = broker_in(alloc, brokers, &ends.1)?;
+    let one = number_in(alloc, brokers, &ends.0)?;
+    let other = number_in(alloc, brokers, &ends.1)?;
     Ok(Link { one, other })
 }
 

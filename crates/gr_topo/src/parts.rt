@@ -17,7 +17,10 @@ pub(crate) struct Parts {
     /// The brokers of the subscribers.
     pub homes: Vec<u16>,
     pub filters: Vec<Option<Filter>>,
+    /// The addresses of the brokers.
     pub addresses: Vec<Option<Text>>,
+    /// The addresses of the publishers' clients.
+    pub clients: Vec<Option<Text>>,
     pub settings: Settings,
 }
 

@@ -10,13 +10,13 @@ ghost use Rattle.gr_topo.specs.Checks.{tree_of};
 ghost use Rattle.gr_topo.specs.Read.{names_checked, resolved_in, topology_of, draft_topology, table_topology, document, document_topology, topology_text};
 ghost use Rattle.gr_topo.specs.Parts.{resolved_lists};
 ghost use Rattle.gr_topo.specs.Columns.{HasColumns};
-ghost use Rattle.gr_topo.specs.declared.limits.TheConstants.{MAX_BROKERS};
+ghost use Rattle.gr_topo.specs.declared.limits.TheConstants.{MAX_BROKERS, MAX_PUBLISHERS};
 
 use crate::check::{addresses_of, filters_in, settings_of};
 use crate::draft::Draft;
 use crate::fault::TopoFault;
 use crate::limits::{MAX_BROKERS, MAX_PUBLISHERS, MAX_SUBSCRIBERS};
-use crate::names::{apart, brokers_in, few, good_names, links_in};
+use crate::names::{apart, few, good_names, links_in, numbers_in};
 use crate::parts::{Parts, Resolved};
 use crate::shape::draft_in;
 use crate::topology::Topology;
@@ -35,7 +35,8 @@ fn names_checked(
     subscribers: &[Text],
 ) -> Result<(), TopoFault>
     ensures gives { Gives (λ x. x) result (names_checked brokers.now publishers.now subscribers.now) }
-    ensures few { OnOk result (length brokers.now ≤ MAX_BROKERS) }
+    ensures few_brokers { OnOk result (length brokers.now ≤ MAX_BROKERS) }
+    ensures few_publishers { OnOk result (length publishers.now ≤ MAX_PUBLISHERS) }
 {
     few(alloc, MAX_BROKERS, "brokers", brokers.len())?;
     few(alloc, MAX_PUBLISHERS, "publisher", publishers.len())?;
@@ -72,9 +73,10 @@ fn resolved_in(alloc: Global, brokers: &[Text], draft: &Draft) -> Result<Resolve
     let subscribers = &draft.subscribers;
     names_checked(alloc, brokers, &publishers.names, &subscribers.names)?;
     let links = links_in(alloc, brokers, &draft.links)?;
-    let hosts = brokers_in(alloc, brokers, &publishers.brokers)?;
-    let homes = brokers_in(alloc, brokers, &subscribers.brokers)?;
-    brokers_in(alloc, brokers, &draft.addresses.names)?;
+    let hosts = numbers_in(alloc, brokers, &publishers.brokers)?;
+    let homes = numbers_in(alloc, brokers, &subscribers.brokers)?;
+    numbers_in(alloc, brokers, &draft.addresses.names)?;
+    numbers_in(alloc, &publishers.names, &draft.clients.names)?;
     tree_of(alloc, brokers.len() as u16, &links)?;
     Ok(Resolved {
         links,
@@ -93,6 +95,7 @@ fn topology_of(alloc: Global, brokers: Vec<Text>, draft: Draft) -> Result<Topolo
     let settings = settings_of(alloc, draft.settings)?;
     let filters = filters_in(alloc, &draft.subscribers.names, &draft.subscribers.filters)?;
     let addresses = addresses_of(alloc, &draft.addresses, &brokers)?;
+    let clients = addresses_of(alloc, &draft.clients, &draft.publishers.names)?;
     let Resolved {
         links,
         hosts,
@@ -109,6 +112,7 @@ fn topology_of(alloc: Global, brokers: Vec<Text>, draft: Draft) -> Result<Topolo
         homes,
         filters,
         addresses,
+        clients,
         settings,
     };
     Ok(Topology::new(alloc, parts)?)

@@ -352,6 +352,10 @@ fn root_key(alloc: Global, found: Draft, key: &str, value: &Value) -> Result<Dra
         let brokers = Some(texts_in(alloc, key, value)?);
         return Ok(Draft { brokers, ..found });
     }
+    if key == "clients" {
+        let clients = addresses_in(alloc, key, value)?;
+        return Ok(Draft { clients, ..found });
+    }
     if key == "links" {
         let links = pairs_in(alloc, key, value)?;
         return Ok(Draft { links, ..found });
@@ -390,6 +394,16 @@ fn no_entries(alloc: Global) -> Entries
     }
 }
 
+/// No addresses.
+fn no_addresses(alloc: Global) -> Addresses
+    ensures { address_lists result ≡ no_addresses }
+{
+    Addresses {
+        names: Vec::new(alloc),
+        texts: Vec::new(alloc),
+    }
+}
+
 /// The draft of an empty part.
 fn no_draft(alloc: Global) -> Draft
     ensures { draft_lists result ≡ no_draft }
@@ -399,10 +413,8 @@ fn no_draft(alloc: Global) -> Draft
         links: Vec::new(alloc),
         publishers: no_entries(alloc),
         subscribers: no_entries(alloc),
-        addresses: Addresses {
-            names: Vec::new(alloc),
-            texts: Vec::new(alloc),
-        },
+        addresses: no_addresses(alloc),
+        clients: no_addresses(alloc),
         settings: default_settings(),
     }
 }

@@ -89,6 +89,62 @@ fn refuses_each_fault(rt: HostRuntime) -> Result<(), Fail> {
     Ok(())
 }
 
+/// Broker A, and publishers P and Q there, Q before P.
+const TWO_PUBLISHERS: &str = "brokers = [\"A\"]
+[[publisher]]
+name = \"Q\"
+at = \"A\"
+[[publisher]]
+name = \"P\"
+at = \"A\"
+";
+
+/// Whether a part with two publishers and these lines is refused by this number and name.
+fn clients_answer(alloc: Global, lines: &str, number: u8, thing: &str) -> Result<bool, AllocError> {
+    let mut part = String::from_str(alloc, TWO_PUBLISHERS)?;
+    part.push_str(lines)?;
+    Ok(answers(alloc, part.as_bytes(), number, thing))
+}
+
+#[test]
+fn refuses_each_fault_of_clients(rt: HostRuntime) -> Result<(), Fail> {
+    for (lines, number, thing) in [
+        ("[clients]\nP = 5", 3, "P"),
+        // A broker is no publisher.
+        ("[clients]\nA = \"1.2.3.4:5\"", 5, "A"),
+        ("[clients]\nB = \"\"\nA = \"\"", 5, "A"),
+        ("[addresses]\nZ = \"\"\n[clients]\nB = \"\"", 5, "Z"),
+        ("[clients]\nP = \"1.2.3.4:0\"", 9, "P"),
+        ("[clients]\nP = \"\"\nQ = \"\"", 9, "Q"),
+        ("[addresses]\nA = \"\"\n[clients]\nP = \"\"", 9, "A"),
+    ] {
+        assert!(rt;
+            clients_answer(rt.alloc(), lines, number, thing)?,
+            "for {lines:?}"
+        );
+    }
+    Ok(())
+}
+
+/// Asserts that the second of two publishers has a client at this address, and the first has none.
+fn is_at(rt: &impl Abort, topology: &Topology, address: &[u8]) -> Result<(), Fail> {
+    assert_eq!(rt; topology.publishers(), 2);
+    assert!(rt; topology.client(0).is_none());
+    let client = topology.client(1).ok_or("no client")?;
+    assert_eq!(rt; client.as_slice(), address);
+    Ok(())
+}
+
+#[test]
+fn a_publisher_with_a_client(rt: HostRuntime) -> Result<(), Fail> {
+    let mut part = String::from_str(rt.alloc(), TWO_PUBLISHERS)?;
+    part.push_str("[clients]\nP = \"127.0.0.1:7501\"\n")?;
+    let Ok(topology) = Topology::read(rt.alloc(), part.as_bytes()) else {
+        return Err("no topology".into());
+    };
+    is_at(&rt, &topology, b"127.0.0.1:7501")
+}
+
 /// A topology part with so many brokers, each linked to the one before it or to the first.
 fn many(alloc: Global, brokers: u16, in_line: bool) -> Result<String, AllocError> {
     let mut text = String::from_str(alloc, "brokers = [")?;
@@ -202,11 +258,13 @@ fn sixty_four_in_a_line(rt: HostRuntime) -> Result<(), Fail> {
     Ok(())
 }
 
-/// Asserts that nothing is set: no address and no filter, and the settings that are not written.
+/// Asserts that nothing is set: no address, no client and no filter, and the settings that are not written.
 fn is_unset(rt: &impl Abort, topology: &Topology) {
     assert!(rt; topology.brokers() > 0);
+    assert!(rt; topology.publishers() > 0);
     assert!(rt; topology.subscribers() > 0);
     assert!(rt; topology.address(0).is_none());
+    assert!(rt; topology.client(0).is_none());
     assert!(rt; topology.filter(0).is_none());
     assert_eq!(rt; topology.settings().cache, 1024);
 }

@@ -4,7 +4,7 @@ ghost use Rattle.std.specs.Prelude.{◌≡◌, ℕ, ◌<◌, ◌≤◌, List, le
 ghost use Rattle.std.specs.Option.{option_map};
 ghost use Rattle.gr_filter.specs.Tree.{tree_of as filter_tree};
 ghost use Rattle.gr_tree.specs.Walks.{IsWithin, IsRooted, HasOnlyPaths, is_tree, places_of};
-ghost use Rattle.gr_topo.specs.Topology.{IsSound, IsTopology, name_at, number_of, blank, host_of, home_of, filter_of, address_of, up_at, depth_at, children_of, subscribers_of, passes_by, below_of, keeps_horizon_at, is_child_at, not_empty};
+ghost use Rattle.gr_topo.specs.Topology.{IsSound, IsTopology, name_at, number_of, blank, host_of, home_of, filter_of, address_of, client_of, up_at, depth_at, children_of, subscribers_of, passes_by, below_of, keeps_horizon_at, is_child_at, not_empty};
 
 use crate::fault::Memory;
 use crate::names::position_of;
@@ -98,6 +98,8 @@ impl Topology {
         let mut addresses = Vec::new(alloc);
         addresses.push(None)?;
         addresses.push(None)?;
+        let mut clients = Vec::new(alloc);
+        clients.push(None)?;
         let parts = Parts {
             brokers,
             publishers,
@@ -107,6 +109,7 @@ impl Topology {
             homes: Vec::from_slice(alloc, &[1])?,
             filters,
             addresses,
+            clients,
             settings: Settings {
                 gap: 200,
                 idle: 1000,
@@ -180,6 +183,15 @@ impl Topology {
         ensures { option_map (λ a. a.now) result ≡ address_of self.now b }
     {
         self.parts.addresses[b as usize].as_ref()
+    }
+
+    /// The address of the client of a publisher: where an application that submits its events is reached. None exactly
+    /// where it has no client.
+    pub fn client(&self, p: u16) -> Option<&Text>
+        requires { p < length self.now.publishers }
+        ensures { option_map (λ a. a.now) result ≡ client_of self.now p }
+    {
+        self.parts.clients[p as usize].as_ref()
     }
 
     /// The broker where a publisher is.
