@@ -1,5 +1,6 @@
 -- A frame cut into frames of at most 16,384 bytes, all with the one head
-use Rattle.std.specs.Prelude.{◌≢◌, ℕ, ◌^◌, ◌≤◌, List, [], ◌∷◌, ◌++◌, map}
+use Rattle.std.specs.Prelude.{◌≢◌, ℕ, ◌≤◌, List, [], ◌∷◌, ◌++◌, map}
+use Rattle.gr_tick.specs.declared.TheConstants.{MAX_TICK}
 use Rattle.gr_frame.specs.declared.Body.{Body}
 use Rattle.gr_frame.specs.declared.Body.TheVariants as body
 use Rattle.gr_frame.specs.declared.Frame.{Frame}
@@ -10,7 +11,7 @@ use Rattle.gr_frame.specs.Limits.{IsFrame}
 abbrev pub IsSent : Body → Type 0
 IsSent (body.Knowledge rs) = rs ≢ []
 IsSent (body.Curiosity rs) = rs ≢ []
-IsSent (body.Expect tick) = (1 ≤ tick) × (tick ≤ 2 ^ 62)
+IsSent (body.Expect tick) = (1 ≤ tick) × (tick ≤ MAX_TICK)
 
 -- the frames that are sent for a frame: its piece in parts, each with its head
 unfoldable pub parts_of : Frame → List Frame

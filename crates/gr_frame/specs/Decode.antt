@@ -1,10 +1,11 @@
 -- Reading a frame field by field, with the place of the first fault
-use Rattle.std.specs.Prelude.{ℕ, zero, suc, ◌+◌, ◌^◌, ◌==◌, ◌||◌, ◌&&◌, Bool, true, false, not, nat_lt, nat_le, bytes_eq, if◌then◌else◌, List, [], ◌∷◌, length, slice_index, slice_range, Option, Some, None, Result, Ok, Err}
+use Rattle.std.specs.Prelude.{ℕ, zero, suc, ◌+◌, ◌==◌, ◌||◌, ◌&&◌, Bool, true, false, not, nat_lt, nat_le, bytes_eq, if◌then◌else◌, List, [], ◌∷◌, length, slice_index, slice_range, Option, Some, None, Result, Ok, Err}
 use Rattle.std.specs.Int.{from_be_bytes, w16, w64}
 use Rattle.gr_event.specs.declared.event.Event.{Event}
 use Rattle.gr_event.specs.declared.event.EventFault.{EventFault}
 use Rattle.gr_event.specs.declared.event.EventFault.TheVariants as event_fault
 use Rattle.gr_event.specs.Decode.{event_decoded}
+use Rattle.gr_tick.specs.declared.TheConstants.{MAX_TICK}
 use Rattle.gr_tick.specs.declared.run.Run.{Run}
 use Rattle.gr_know.specs.declared.values.K.{K}
 use Rattle.gr_know.specs.declared.values.K.TheVariants.{S, D, F}
@@ -12,7 +13,7 @@ use Rattle.gr_know.specs.Values.{same_K}
 use Rattle.gr_curio.specs.declared.values.Q3.{Q3}
 use Rattle.gr_curio.specs.declared.values.Q3.TheVariants.{C, A}
 use Rattle.gr_curio.specs.Values.{same_Q3}
-use Rattle.gr_frame.specs.declared.TheConstants.{MAX_BYTES}
+use Rattle.gr_frame.specs.declared.TheConstants.{MAX_BYTES, HEAD_BYTES, EXPECT_BYTES}
 use Rattle.gr_frame.specs.declared.Body.{Body}
 use Rattle.gr_frame.specs.declared.Body.TheVariants as body
 use Rattle.gr_frame.specs.declared.Head.{Head}
@@ -45,7 +46,7 @@ u64_at bytes at = field_at bytes at 8 >>= λ f. Ok (from_be_bytes w64 f)
 
 -- the tick at a place, none below the least one
 unfoldable pub tick_at : List ℕ → ℕ → ℕ → Result ℕ FrameFault
-tick_at bytes at least = u64_at bytes at >>= λ t. if nat_lt t least || nat_lt (2 ^ 62) t then Err (fault BadRange at) else Ok t
+tick_at bytes at least = u64_at bytes at >>= λ t. if nat_lt t least || nat_lt MAX_TICK t then Err (fault BadRange at) else Ok t
 
 -- Values
 
@@ -169,11 +170,12 @@ count_at bytes k = u16_at bytes 10 >>= λ n. if n == 0 || (is_Expect k && not (n
 
 -- the tick of an Expect, and then nothing
 unfoldable pub expect_at : List ℕ → Result Body FrameFault
-expect_at bytes = tick_at bytes 12 1 >>= λ t. if 20 == length bytes then Ok (body.Expect t) else Err (fault Trailing 20)
+expect_at bytes = tick_at bytes HEAD_BYTES 1 >>= λ t.
+    if EXPECT_BYTES == length bytes then Ok (body.Expect t) else Err (fault Trailing EXPECT_BYTES)
 
 unfoldable pub body_at : List ℕ → BodyKind → ℕ → Result Body FrameFault
-body_at bytes Knowledge n = runs_at known_form bytes n 12 None >>= λ rs. Ok (body.Knowledge rs)
-body_at bytes Curiosity n = runs_at wanted_form bytes n 12 None >>= λ rs. Ok (body.Curiosity rs)
+body_at bytes Knowledge n = runs_at known_form bytes n HEAD_BYTES None >>= λ rs. Ok (body.Knowledge rs)
+body_at bytes Curiosity n = runs_at wanted_form bytes n HEAD_BYTES None >>= λ rs. Ok (body.Curiosity rs)
 body_at bytes Expect n = expect_at bytes
 
 -- the fields of a frame in their order

@@ -2,6 +2,7 @@
 use Rattle.std.specs.Prelude.{◌≡◌, ◌≢◌, ℕ, ◌+◌, ◌^◌, ◌<◌, ◌≤◌, List, [], length}
 use Rattle.std.specs.List.{AllByRecursion}
 use Rattle.gr_event.specs.Limits.{IsEvent}
+use Rattle.gr_tick.specs.declared.TheConstants.{MAX_TICK}
 use Rattle.gr_tick.specs.declared.run.Run.{Run}
 use Rattle.gr_tick.specs.Runs.{AreRuns}
 use Rattle.gr_tick.specs.Stored.{EndBefore}
@@ -28,13 +29,13 @@ IsWanted v = Unit {0}
 pub record IsPiece {V : Type 0} (least : V) (Fits : V → Type 0) (rs : List (Run V)) : Type 0 where
   pub some : rs ≢ []
   pub runs : AreRuns least rs
-  pub upto : EndBefore rs (2 ^ 62 + 1)
+  pub upto : EndBefore rs (MAX_TICK + 1)
   pub each : AllByRecursion (λ r. Fits r.value) rs
 
 abbrev pub IsBody : Body → Type 0
 IsBody (body.Knowledge rs) = IsPiece Q IsKnown rs
 IsBody (body.Curiosity rs) = IsPiece N IsWanted rs
-IsBody (body.Expect tick) = (1 ≤ tick) × (tick ≤ 2 ^ 62)
+IsBody (body.Expect tick) = (1 ≤ tick) × (tick ≤ MAX_TICK)
 
 -- brokers and publishers have numbers of 16 bits
 pub record IsHead (h : Head) : Type 0 where

@@ -10,6 +10,7 @@ use std::fmt;
 /// The first fault of bytes that are no frame.
 #[derive(Clone, Copy, Debug, PartialEq, Eq)]
 pub struct FrameFault {
+    /// What is wrong.
     pub kind: FrameKind,
     /// The place, counted from 0 in bytes; 0 for `Memory`.
     pub at: usize,

@@ -69,7 +69,7 @@ pub fn tick_at(bytes: &[u8], at: usize, least: u64) -> Result<u64, FrameFault>
     ensures gives { Gives result (tick_at bytes.now at least) }
     ensures within { IfOk result (λ t. at + 8 ≤ length bytes.now) }
     ensures least { IfOk result (λ t. least ≤ t) }
-    ensures most { IfOk result (λ t. t ≤ 2 ^ 62) }
+    ensures most { IfOk result (λ t. t ≤ MAX_TICK) }
 {
     let tick = u64_at(bytes, at)?;
     if tick < least || tick > MAX_TICK {

@@ -43,13 +43,6 @@ impl Frames {
         Frames { frames }
     }
 
-    /// The frames, each by value. Takes no memory.
-    pub fn into_vec(self) -> Vec<Bytes>
-        ensures { result.items ≡ self.frames }
-    {
-        self.frames
-    }
-
     /// Makes room for at least `more` frames. At want of memory the list is as it was.
     pub fn reserve(&mut self, more: usize) -> Result<(), AllocError>
         ensures frames { self.new.frames ≡ self.old.frames }

@@ -26,25 +26,39 @@ pub use writing::{encode, encode_into};
 /// How many bytes a frame has at most.
 pub const MAX_BYTES: usize = 16_384;
 
+/// How many bytes stand before the body of a frame.
+pub(crate) const HEAD_BYTES: usize = 12;
+
+/// How many bytes a frame with an Expect has.
+pub(crate) const EXPECT_BYTES: usize = 20;
+
 /// Who sends a frame to whom, and of which publisher it speaks, each by number.
 #[derive(Clone, Copy, Debug, PartialEq, Eq)]
 pub struct Head {
+    /// The broker that sends.
     pub from: u16,
+    /// The broker that is to get it.
     pub to: u16,
+    /// The publisher.
     pub publisher: u16,
 }
 
-/// What a frame carries: knowledge downwards, curiosity upwards, or the tick up to which all is to be asked for.
+/// What a frame carries.
 #[derive(Drop)]
 pub enum Body {
+    /// What is known, downwards.
     Knowledge(Piece<K>),
+    /// What is asked for or acknowledged, upwards.
     Curiosity(Piece<Q3>),
+    /// The tick up to which all is to be asked for, from 1 to 2^62, downwards.
     Expect(u64),
 }
 
 /// A frame from one broker to a neighbour.
 #[derive(Drop)]
 pub struct Frame {
+    /// Who sends it to whom, and of which publisher.
     pub head: Head,
+    /// What it carries.
     pub body: Body,
 }

@@ -9,7 +9,7 @@ ghost use Rattle.gr_frame.specs.declared.TheConstants.{MAX_BYTES};
 use crate::fault::{FrameFault, FrameKind};
 use crate::field::{byte_at, fault, field_at, tick_at, u16_at};
 use crate::value::{BodyKind, FrameValue};
-use crate::{Body, Frame, Head, MAX_BYTES};
+use crate::{Body, EXPECT_BYTES, Frame, HEAD_BYTES, Head, MAX_BYTES};
 use gr_tick::{Piece, Run};
 use std::alloc::Global;
 
@@ -81,7 +81,7 @@ fn head_at(bytes: &[u8]) -> Result<Head, FrameFault>
 #[tactic(auto, unfolding(crate::specs::Decode::count_at))]
 fn count_at(bytes: &[u8], kind: BodyKind) -> Result<u16, FrameFault>
     ensures gives { Gives result (count_at bytes.now kind) }
-    ensures within { IfOk result (λ n. 12 ≤ length bytes.now) }
+    ensures within { IfOk result (λ n. HEAD_BYTES ≤ length bytes.now) }
 {
     let count = u16_at(bytes, 10)?;
     if count == 0 || (matches!(kind, BodyKind::Expect) && count != 1) {
@@ -94,7 +94,7 @@ fn count_at(bytes: &[u8], kind: BodyKind) -> Result<u16, FrameFault>
 #[tactic(auto, unfolding(crate::specs::Decode::body_at))]
 fn body_at(alloc: Global, bytes: &[u8], kind: BodyKind, count: u16) -> Result<Body, FrameFault>
     requires short { length bytes.now ≤ MAX_BYTES }
-    requires inside { 12 ≤ length bytes.now }
+    requires inside { HEAD_BYTES ≤ length bytes.now }
     ensures { Gives result (body_at bytes.now kind count) }
 {
     match kind {
@@ -109,9 +109,9 @@ fn body_at(alloc: Global, bytes: &[u8], kind: BodyKind, count: u16) -> Result<Bo
 fn expect_at(bytes: &[u8]) -> Result<Body, FrameFault>
     ensures { Gives result (expect_at bytes.now) }
 {
-    let tick = tick_at(bytes, 12, 1)?;
-    if bytes.len() > 20 {
-        return Err(fault(FrameKind::Trailing, 20));
+    let tick = tick_at(bytes, HEAD_BYTES, 1)?;
+    if bytes.len() > EXPECT_BYTES {
+        return Err(fault(FrameKind::Trailing, EXPECT_BYTES));
     }
     Ok(Body::Expect(tick))
 }
@@ -119,11 +119,11 @@ fn expect_at(bytes: &[u8]) -> Result<Body, FrameFault>
 /// So many runs behind the count, and nothing after them.
 fn runs_at<V: FrameValue>(alloc: Global, bytes: &[u8], count: u16) -> Result<Piece<V>, FrameFault>
     requires short { length bytes.now ≤ MAX_BYTES }
-    requires inside { 12 ≤ length bytes.now }
-    ensures { Gives result (runs_at V.form bytes.now count 12 None) }
+    requires inside { HEAD_BYTES ≤ length bytes.now }
+    ensures { Gives result (runs_at V.form bytes.now count HEAD_BYTES None) }
 {
     let mut found = Piece::new(alloc);
-    let mut at = 12;
+    let mut at = HEAD_BYTES;
     for _ in 0..count {
         let run = run_at(alloc, bytes, at, &found)?;
         at += V::run_size(&run);

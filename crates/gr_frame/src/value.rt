@@ -28,8 +28,11 @@ use std::alloc::{AllocError, Global};
 /// Which body a frame has.
 #[derive(Clone, Copy, Debug, PartialEq, Eq)]
 pub enum BodyKind {
+    /// What is known.
     Knowledge,
+    /// What is asked for or acknowledged.
     Curiosity,
+    /// A tick up to which all is to be asked for.
     Expect,
 }
 
@@ -75,6 +78,7 @@ pub trait FrameValue: Lattice {
         ensures bytes { OnOk result (bytes.new.items ≡ bytes.old.items ++ form.bytes self.now) }
         ensures fits { fits self.now };
 
+    /// The test of the form says exactly when two values are the same.
     ghost decides: { Decides_same form.same };
 }
 

@@ -3,6 +3,7 @@
 ghost use Rattle.std.specs.Prelude.{◌≡◌, ◌+◌, ◌-◌, ◌*◌, ◌≤◌, ◌<◌, ◌^◌, ◌++◌, ◌∷◌, length, take, drop, map, slice_range, IfOk, OnOk, OnErr};
 ghost use Rattle.std.specs.Int.{to_be_bytes, w64};
 ghost use Rattle.std.specs.List.{AllByRecursion};
+ghost use Rattle.gr_tick.specs.declared.TheConstants.{MAX_TICK};
 ghost use Rattle.gr_tick.specs.Runs.{AreRuns};
 ghost use Rattle.gr_tick.specs.Stored.{EndBefore};
 ghost use Rattle.gr_frame.specs.Bytes.{frame_bytes, head_bytes, runs_bytes, cut_frames};
@@ -13,16 +14,10 @@ ghost use Rattle.gr_frame.specs.Limits.{IsHead};
 use crate::field::{put_byte, put_u16, put_u64};
 use crate::frames::Frames;
 use crate::value::{BodyKind, FrameValue};
-use crate::{Body, Frame, Head, MAX_BYTES};
+use crate::{Body, EXPECT_BYTES, Frame, HEAD_BYTES, Head, MAX_BYTES};
 use gr_event::{Bytes, Memory};
 use gr_tick::{Piece, Run};
 use std::alloc::{AllocError, Global};
-
-/// How many bytes stand before the body.
-const HEAD_BYTES: usize = 12;
-
-/// How many bytes a frame with an Expect has.
-const EXPECT_BYTES: usize = 20;
 
 /// The runs of a piece that go into one frame.
 #[derive(Clone, Copy)]
@@ -113,7 +108,7 @@ fn put_parts<V: FrameValue>(
     ensures kept { OnErr result (take (length into.old.frames) into.new.frames ≡ into.old.frames) }
     ensures head { IsHead head }
     ensures runs { AreRuns V.least piece.now }
-    ensures upto { EndBefore piece.now (2 ^ 62 + 1) }
+    ensures upto { EndBefore piece.now (MAX_TICK + 1) }
     ensures each { OnOk result (AllByRecursion (λ r. V.fits r.value) piece.now) }
 {
     let mut start = 0;

@@ -8,16 +8,35 @@ use std::alloc::AllocError;
 pub(crate) enum MatchFault {
     /// Memory was refused.
     Memory,
-    /// The text behind the name is no filter; the fault is never `Memory`.
-    BadFilter { line: u64, fault: FilterFault },
-    /// The line is no event; the fault is never `Memory`.
-    BadEvent { line: u64, fault: EventFault },
+    /// The text behind the name is no filter.
+    BadFilter {
+        /// The line.
+        line: u64,
+        /// Why it is none; never `Memory`.
+        fault: FilterFault,
+    },
+    /// The line is no event.
+    BadEvent {
+        /// The line.
+        line: u64,
+        /// Why it is none; never `Memory`.
+        fault: EventFault,
+    },
     /// This filter is one more than `MAX_FILTERS`.
-    TooMany { line: u64 },
+    TooMany {
+        /// The line.
+        line: u64,
+    },
     /// The first word is no name.
-    BadName { line: u64 },
+    BadName {
+        /// The line.
+        line: u64,
+    },
     /// A filter before it has the same name.
-    Twice { line: u64 },
+    Twice {
+        /// The line.
+        line: u64,
+    },
 }
 
 impl From<AllocError> for MatchFault {

@@ -1,6 +1,7 @@
 //! What becomes known with a record.
 
-ghost use Rattle.std.specs.Prelude.{◌≡◌, ◌+◌, ◌-◌, ◌^◌, ◌≤◌, [], ◌∷◌, if◌then◌else◌, IfOk, OnOk};
+ghost use Rattle.std.specs.Prelude.{◌≡◌, ◌+◌, ◌-◌, ◌≤◌, [], ◌∷◌, if◌then◌else◌, IfOk, OnOk};
+ghost use Rattle.gr_tick.specs.declared.TheConstants.{MAX_TICK};
 ghost use Rattle.gr_tick.specs.Stored.{within, RunsGive, needed};
 ghost use Rattle.gr_know.specs.Values.{known_at, join_K};
 ghost use Rattle.gr_know.specs.declared.values.K.TheVariants.{Q, D, F};
@@ -16,7 +17,7 @@ use std::alloc::{AllocError, Global};
 /// Silence on a range of ticks. A range that ends before it begins has none.
 pub fn fresh_silence(alloc: Global, first: u64, last: u64) -> Result<Piece<K>, Memory>
     requires from_one { 1 ≤ first }
-    requires upto { last ≤ 2 ^ 62 }
+    requires upto { last ≤ MAX_TICK }
     ensures { IfOk result (λ piece. piece ≡ silence first last []) }
 {
     let mut piece = Piece::new(alloc);
@@ -34,7 +35,7 @@ pub fn fresh_silence(alloc: Global, first: u64, last: u64) -> Result<Piece<K>, M
 pub fn fresh_event(alloc: Global, first: u64, tick: u64, event: &Event) -> Result<Piece<K>, Memory>
     requires from_one { 1 ≤ first }
     requires ordered { first ≤ tick }
-    requires upto { tick ≤ 2 ^ 62 }
+    requires upto { tick ≤ MAX_TICK }
     ensures { IfOk result (λ piece.
         piece ≡ silence first (tick - 1) (record { first = tick; last = tick; value = D event.now } ∷ [])) }
 {
@@ -68,7 +69,7 @@ fn learn_event(
 ) -> Result<(), Memory>
     requires from_one { 1 ≤ first }
     requires ordered { first ≤ tick }
-    requires upto { tick ≤ 2 ^ 62 }
+    requires upto { tick ≤ MAX_TICK }
     ensures { let piece = silence first (tick - 1) (record { first = tick; last = tick; value = D event.now } ∷ []) in
         OnOk result (RunsGive Q know.new.runs (λ t. join_K (known_at know.old.runs t) (known_at piece t))) }
 {
@@ -79,7 +80,7 @@ fn learn_event(
 
 /// Makes all up to a tick final; nothing for 0.
 fn make_final(know: &mut Know, upto: u64) -> Result<(), Memory>
-    requires { upto ≤ 2 ^ 62 }
+    requires { upto ≤ MAX_TICK }
     ensures { OnOk result (RunsGive Q know.new.runs (λ t. if within 1 upto t then F else known_at know.old.runs t)) }
 {
     if upto == 0 {
@@ -93,7 +94,7 @@ fn make_final(know: &mut Know, upto: u64) -> Result<(), Memory>
 fn learn_events(alloc: Global, know: &mut Know, cut: u64, events: &Entries) -> Result<u64, Memory>
     requires known { RunsGive Q know.old.runs (log_at (seen cut [])) }
     requires rise { EntriesRise cut events.now }
-    requires upto { last_tick cut events.now ≤ 2 ^ 62 }
+    requires upto { last_tick cut events.now ≤ MAX_TICK }
     ensures last { IfOk result (λ last. last ≡ last_tick cut events.now) }
     ensures known { OnOk result (RunsGive Q know.new.runs (log_at (seen cut events.now))) }
 {

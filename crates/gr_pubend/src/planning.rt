@@ -1,6 +1,6 @@
 //! What a log would be made to say next: nothing changes, and no disk is called.
 
-ghost use Rattle.std.specs.Prelude.{◌≡◌, ◌≤◌, ◌^◌, IsErr, IsSome, IfOk};
+ghost use Rattle.std.specs.Prelude.{◌≡◌, ◌≤◌, IsErr, IsSome, IfOk};
 ghost use Rattle.gr_pubend.specs.Log.{log_of};
 ghost use Rattle.gr_pubend.specs.Answers.{published, quieted, publish_logs, quiet_logs, IsPlanned, IsPlannedMark};
 
@@ -23,7 +23,7 @@ pub fn plan(
     event: &Event,
     now: u64,
 ) -> Result<Published, Memory>
-    requires now { now ≤ 2 ^ 62 }
+    requires now { now ≤ MAX_TICK }
     ensures answer { IfOk result (λ answer. answer ≡ published (log_of log.now.records) number event.now now) }
     ensures planned { IfOk result (λ answer. IsPlanned log.now.records number event.now answer) }
     ensures wants { IsErr result → IsSome (publish_logs log.now.records number event.now now) }
@@ -51,7 +51,7 @@ pub fn plan(
 /// What a time of `quiet` ticks without an event would be answered by a log: the silence up to `now`, or that it was not
 /// long enough. It wants memory only where a mark would be logged.
 pub fn plan_quiet(alloc: Global, log: &Log, now: u64, quiet: u64) -> Result<Quieted, Memory>
-    requires now { now ≤ 2 ^ 62 }
+    requires now { now ≤ MAX_TICK }
     requires some { 1 ≤ quiet }
     ensures answer { IfOk result (λ answer. answer ≡ quieted (log_of log.now.records) now quiet) }
     ensures planned { IfOk result (λ answer. IsPlannedMark log.now.records answer) }

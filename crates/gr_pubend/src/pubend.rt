@@ -1,7 +1,8 @@
 //! A log, and what is known by it.
 
-ghost use Rattle.std.specs.Prelude.{◌≡◌, ◌≢◌, ◌↔◌, ℕ, ◌^◌, ◌≤◌, ◌<◌, true, false, Some, None, Err, IsErr, IsSome, IfOk, OnOk, IsErrOf};
+ghost use Rattle.std.specs.Prelude.{◌≡◌, ◌≢◌, ◌↔◌, ℕ, ◌≤◌, ◌<◌, true, false, Some, None, Err, IsErr, IsSome, IfOk, OnOk, IsErrOf};
 ghost use Rattle.gr_out.specs.Stops.{StaysFaultless};
+ghost use Rattle.gr_tick.specs.declared.TheConstants.{MAX_TICK};
 ghost use Rattle.gr_tick.specs.Stored.{RunsGive};
 ghost use Rattle.gr_know.specs.declared.values.K.TheVariants.{Q};
 ghost use Rattle.gr_publog.specs.State.{state_of};
@@ -78,7 +79,7 @@ impl Pubend {
     /// An event gets the next tick, or `now` where that is later. A number that was logged is `Already` there, and one
     /// past the next is out of turn (`Gap`); with no tick left the publisher is `Exhausted`.
     pub fn plan(&self, number: u64, event: &Event, now: u64) -> Result<Published, Memory>
-        requires now { now ≤ 2 ^ 62 }
+        requires now { now ≤ MAX_TICK }
         ensures answer { IfOk result (λ answer. answer ≡ published (log_of self.now.log.records) number event.now now) }
         ensures planned { IfOk result (λ answer. IsPlanned self.now.log.records number event.now answer) }
         ensures wants { IsErr result → IsSome (publish_logs self.now.log.records number event.now now) }
@@ -89,7 +90,7 @@ impl Pubend {
     /// What a time of `quiet` ticks without an event would be answered: the silence up to `now`, or that it was not
     /// long enough. Nothing changes, and the disk is not called. It wants memory only where a mark would be logged.
     pub fn plan_quiet(&self, now: u64, quiet: u64) -> Result<Quieted, Memory>
-        requires now { now ≤ 2 ^ 62 }
+        requires now { now ≤ MAX_TICK }
         requires some { 1 ≤ quiet }
         ensures answer { IfOk result (λ answer. answer ≡ quieted (log_of self.now.log.records) now quiet) }
         ensures planned { IfOk result (λ answer. IsPlannedMark self.now.log.records answer) }
@@ -110,7 +111,7 @@ impl Pubend {
         event: &Event,
         now: u64,
     ) -> Result<Published, LogFault>
-        requires now { now ≤ 2 ^ 62 }
+        requires now { now ≤ MAX_TICK }
         requires stands { D.tells → IsReady self.old.log (D.lane_of disk.old self.old.log.lane) }
         ensures answer { IfOk result (λ answer. answer ≡ published (log_of self.old.log.records) number event.now now) }
         ensures end { let logged = publish_logs self.old.log.records number event.now now in
@@ -168,7 +169,7 @@ impl Pubend {
         now: u64,
         quiet: u64,
     ) -> Result<Quieted, LogFault>
-        requires now { now ≤ 2 ^ 62 }
+        requires now { now ≤ MAX_TICK }
         requires some { 1 ≤ quiet }
         requires stands { D.tells → IsReady self.old.log (D.lane_of disk.old self.old.log.lane) }
         ensures answer { IfOk result (λ answer. answer ≡ quieted (log_of self.old.log.records) now quiet) }

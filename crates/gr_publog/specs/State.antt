@@ -5,10 +5,11 @@ use Rattle.gr_publog.specs.declared.record.Record.{Record}
 use Rattle.gr_publog.specs.declared.record.Record.TheVariants.{Event, Mark, Cut}
 use Rattle.gr_publog.specs.declared.record.State.{State}
 use Rattle.gr_publog.specs.declared.record.Entry.{Entry}
+use Rattle.gr_publog.specs.declared.record.TheConstants.{MAX_TICK}
 
 -- the last tick
 abbrev pub max_tick : ℕ
-max_tick = 2 ^ 62
+max_tick = MAX_TICK
 
 -- before the first record
 abbrev pub empty_state : State

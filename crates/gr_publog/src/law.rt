@@ -1,5 +1,7 @@
-//! Laws of the text of a log: each is the contract of a function that does nothing.
+//! Laws of logs: each is the contract of a function that does nothing.
 
+ghost use Rattle.std.specs.Prelude.{◌≡◌, ◌^◌};
+ghost use Rattle.gr_publog.specs.declared.record.TheConstants.{MAX_TICK};
 ghost use Rattle.gr_publog.specs.Text.{ReadsAsSpelled, SpellsOneList};
 
 /// A lane that spells records reads as them, whatever stands behind the closed gate.
@@ -10,4 +12,9 @@ pub fn reads_what_is_spelled()
 /// A lane spells one list of records alone.
 pub fn spells_one_list()
     ensures { SpellsOneList }
+{}
+
+/// The last tick of a log.
+pub fn last_tick_of_logs()
+    ensures { MAX_TICK ≡ 2 ^ 62 }
 {}

@@ -1,6 +1,6 @@
 //! A log on its lane.
 
-ghost use Rattle.std.specs.Prelude.{◌≡◌, ◌≢◌, ◌↔◌, ℕ, ◌+◌, ◌≤◌, ◌^◌, ◌++◌, ◌∷◌, [], Bool, true, false, List, length, Some, Err, OnOk, OnErr, IsTrue, IfOk, IsErrOf};
+ghost use Rattle.std.specs.Prelude.{◌≡◌, ◌≢◌, ◌↔◌, ℕ, ◌+◌, ◌≤◌, ◌++◌, ◌∷◌, [], Bool, true, false, List, length, Some, Err, OnOk, OnErr, IsTrue, IfOk, IsErrOf};
 ghost use Rattle.gr_event.specs.Event.{event_bytes};
 ghost use Rattle.gr_out.specs.Lane.{with_room};
 ghost use Rattle.gr_out.specs.Stops.{StaysFaultless};
@@ -98,7 +98,7 @@ fn prepare<D: Disk>(
 ) -> Result<Vec<u8>, Memory>
     ensures bytes { IfOk result (λ v. v.items ≡ record_bytes entry.now ++ 0 ∷ []) }
     ensures sound { OnOk result (IsSound entry.now) }
-    ensures low { IfOk result (λ v. gate ≤ 2 ^ 62) }
+    ensures low { IfOk result (λ v. gate ≤ LAST_GATE) }
     ensures room { let l = D.lane_of disk.old lane in
         D.tells → IfOk result (λ v. D.lane_of disk.new lane ≡ with_room (gate + 1 + length v.items) l) }
     ensures err { D.tells → OnErr result (D.lane_of disk.new lane ≡ D.lane_of disk.old lane) }

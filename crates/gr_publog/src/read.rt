@@ -12,7 +12,7 @@ use crate::entries::{Entries, note_record};
 use crate::history::History;
 use crate::record::{LogFault, Record, State};
 use byteorder::{BigEndian, ByteOrder};
-use gr_event::{Event, EventFault};
+use gr_event::{Event, EventFault, MAX_BYTES};
 use std::alloc::Global;
 use std::collections::VecDeque;
 
@@ -119,19 +119,19 @@ fn next_in<'a>(total: usize, last: u64, rest: &'a [u8]) -> Result<(u64, &'a [u8]
 /// The size of an event.
 fn size_in(total: usize, rest: &[u8]) -> Result<(usize, &[u8]), LogFault>
     requires { length rest.now ≤ total }
-    ensures gives { let read = number_in total 4 w32 (λ n. nat_le n 8192) rest.now in
+    ensures gives { let read = number_in total 4 w32 (λ n. nat_le n MAX_BYTES) rest.now in
         MatchResult result (λ x. read ≡ Ok (x.0, x.1.now)) (λ e. Fails e read) }
     ensures spelled { IfOk result (λ x. rest.now ≡ to_be_bytes w32 x.0 ++ x.1.now) }
     ensures within { IfOk result (λ x. 4 + length x.1.now ≡ length rest.now) }
 {
     let (field, left) = field_in(total, 4, rest)?;
-    let size = four(field);
-    if size > 8192 {
+    let size = four(field) as usize;
+    if size > MAX_BYTES {
         return Err(LogFault::Damaged {
             at: place(total, rest),
         });
     }
-    Ok((size as usize, left))
+    Ok((size, left))
 }
 
 /// An event of so many bytes.
@@ -265,13 +265,16 @@ fn header_fault(bytes: &[u8]) -> u64
     }
 }
 
-/// What a lane holds: the records that it spells, what they stand for, the events past their cut, and how many bytes
-/// stand before the closed gate.
+/// What a lane holds.
 #[derive(Drop)]
 pub struct Found {
+    /// The records that it spells, for the proofs alone.
     pub history: History,
+    /// What they stand for.
     pub state: State,
+    /// The events past their cut.
     pub events: Entries,
+    /// How many bytes stand before the closed gate.
     pub gate: usize,
 }
 

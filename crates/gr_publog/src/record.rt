@@ -18,16 +18,21 @@ pub const MAX_TICK: u64 = 1 << 62;
 pub enum Record {
     /// An event was published at a tick. Numbers rise by one from 1.
     Event {
+        /// The tick, past every Event and Mark before.
         tick: u64,
+        /// Its number among the events of the publisher.
         number: u64,
+        /// What was published.
         event: Event,
     },
     /// Nothing more is published up to a tick.
     Mark {
+        /// The tick, past every Event and Mark before.
         tick: u64,
     },
     /// Nothing up to a tick is asked for again.
     Cut {
+        /// The tick, past every Cut before and not past the last Event or Mark.
         tick: u64,
     },
 }
@@ -35,8 +40,11 @@ pub enum Record {
 /// A logged event.
 #[derive(Drop)]
 pub struct Entry {
+    /// The tick at which it was published.
     pub tick: u64,
+    /// Its number among the events of the publisher, from 1.
     pub number: u64,
+    /// What was published.
     pub event: Event,
 }
 
@@ -47,8 +55,11 @@ pub enum LogFault {
     Memory,
     /// The disk failed.
     Disk,
-    /// The lane holds no log; `at` is the first byte, from 0, of the first field that breaks it.
-    Damaged { at: u64 },
+    /// The lane holds no log.
+    Damaged {
+        /// The first byte, from 0, of the first field that breaks it.
+        at: u64,
+    },
     /// The disk failed before. The log has to be opened again.
     Reopen,
 }
@@ -69,12 +80,14 @@ impl<T: Drop> From<AllocFailed<T>> for LogFault {
     }
 }
 
-/// What a list of records stands for: the number of the last event, the greatest tick of an Event or a Mark, and the
-/// tick of the last Cut; each 0 where there is none.
+/// What a list of records stands for.
 #[derive(Clone, Copy, Debug, PartialEq, Eq)]
 pub struct State {
+    /// The number of the last event, or 0.
     pub last: u64,
+    /// The greatest tick of an Event or a Mark, or 0.
     pub settled: u64,
+    /// The tick of the last Cut, or 0.
     pub cut: u64,
 }
 

@@ -18,34 +18,53 @@ pub const MAX_BYTES: usize = 4_194_304;
 /// Where a publish is stopped inside: at the disk call `call`, counted from 1 to 4, and which image the crash leaves.
 #[derive(Clone, Copy, Debug, PartialEq, Eq)]
 pub struct Stop {
+    /// Which disk call of the publish breaks, from 1 to 4.
     pub call: u8,
+    /// Which of the images that the crash may leave is the one it leaves.
     pub pick: u8,
 }
 
 /// One step of a schedule. Brokers and publishers are numbers; moments are milliseconds.
 #[derive(Drop)]
 pub enum Step {
+    /// The clock is set to a moment.
     Clock {
+        /// The moment, from 0 to `MAX_NUMBER`.
         now: u64,
     },
+    /// An event is published at the broker that hosts its publisher.
     Publish {
+        /// Which publisher.
         publisher: u16,
+        /// Which of its events this is, from 1 to `MAX_NUMBER`.
         number: u64,
+        /// Where the publish is stopped inside, if it is.
         stop: Option<Stop>,
+        /// What is published.
         event: Event,
     },
+    /// A broker wakes, and does what is due at this moment.
     Wake {
+        /// Which broker.
         broker: u16,
     },
+    /// A frame that was sent arrives. Frames may arrive in any order, more than once, or never.
     Deliver {
+        /// The frame's number, at most `MAX_NUMBER`.
         frame: u64,
     },
+    /// A broker loses its memory, and starts again from its disk.
     Crash {
+        /// Which broker.
         broker: u16,
     },
+    /// All brokers are woken and all frames delivered until everything is settled.
     Sweep,
+    /// Prints how far each broker is.
     Show,
+    /// Prints the bytes of a frame that was sent.
     Bytes {
+        /// The frame's number, at most `MAX_NUMBER`.
         frame: u64,
     },
 }
@@ -53,7 +72,9 @@ pub enum Step {
 /// A step with the number of its line, from 1 at the first line after the separator.
 #[derive(Drop)]
 pub struct Line {
+    /// The number of the line.
     pub number: u32,
+    /// What the line says.
     pub step: Step,
 }
 

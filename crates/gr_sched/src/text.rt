@@ -153,8 +153,11 @@ pub fn split(bytes: &[u8]) -> (&[u8], &[u8])
 /// A counted line with its number, and the text after it.
 #[derive(Clone, Copy)]
 pub struct Counted<'a> {
+    /// Its number, from 1, among all lines of the text.
     pub number: u64,
+    /// The line without its line end.
     pub line: &'a [u8],
+    /// What stands behind its line end.
     pub rest: &'a [u8],
 }
 

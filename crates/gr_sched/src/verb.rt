@@ -6,13 +6,21 @@ ghost use Rattle.gr_sched.specs.Grammar.{verb_of};
 /// What a step word asks for.
 #[derive(Clone, Copy)]
 pub enum Verb {
+    /// `clock`
     Clock,
+    /// `publish`
     Publish,
+    /// `wake`
     Wake,
+    /// `deliver`
     Deliver,
+    /// `crash`
     Crash,
+    /// `sweep`
     Sweep,
+    /// `show`
     Show,
+    /// `bytes`
     Bytes,
 }
 

@@ -1,6 +1,7 @@
 //! The horizon of the subscribers at a broker, for one publisher.
 
-ghost use Rattle.std.specs.Prelude.{◌≡◌, ◌≢◌, ◌⊎◌, ℕ, suc, ◌+◌, ◌-◌, ◌^◌, ◌<◌, ◌≤◌, ◌++◌, true, None, map, IfOk, OnOk, OnErr};
+ghost use Rattle.std.specs.Prelude.{◌≡◌, ◌≢◌, ◌⊎◌, ℕ, suc, ◌+◌, ◌-◌, ◌<◌, ◌≤◌, ◌++◌, true, None, map, IfOk, OnOk, OnErr};
+ghost use Rattle.gr_tick.specs.declared.TheConstants.{MAX_TICK};
 ghost use Rattle.gr_tick.specs.Stored.{IsRun, RunsGive};
 ghost use Rattle.gr_know.specs.Values.{Known, known_at, join_K};
 ghost use Rattle.gr_know.specs.declared.values.K.TheVariants.{Q};
@@ -23,13 +24,14 @@ pub struct Subend {
 }
 
 impl Model for Subend {
-    ghost use Rattle.std.specs.Prelude.{ℕ, ◌≤◌, ◌^◌};
+    ghost use Rattle.std.specs.Prelude.{ℕ, ◌≤◌};
+    ghost use Rattle.gr_tick.specs.declared.TheConstants.{MAX_TICK};
 
     ghost Value = { ℕ };
 
     ghost view = { λ s. s.horizon };
 
-    ghost invariant = { λ s. s.horizon ≤ 2 ^ 62 };
+    ghost invariant = { λ s. s.horizon ≤ MAX_TICK };
 }
 
 impl Subend {
@@ -95,7 +97,7 @@ impl Subend {
     /// The horizon. Takes no memory.
     pub fn horizon(&self) -> u64
         ensures horizon { result ≡ self.now }
-        ensures inside { result ≤ 2 ^ 62 }
+        ensures inside { result ≤ MAX_TICK }
     {
         self.horizon
     }
@@ -112,7 +114,7 @@ impl Subend {
 
 /// The events of a piece, at each of their ticks.
 fn events_in(alloc: Global, piece: &Piece<K>) -> Result<Deliveries, Memory>
-    ensures { IfOk result (λ ds. items ds ≡ data_ticks 0 (2 ^ 62) piece.now) }
+    ensures { IfOk result (λ ds. items ds ≡ data_ticks 0 MAX_TICK piece.now) }
 {
     let mut deliveries = Deliveries::new(alloc);
     for i in 0..piece.len() {
@@ -124,7 +126,7 @@ fn events_in(alloc: Global, piece: &Piece<K>) -> Result<Deliveries, Memory>
 /// Puts the event of a run at the end, once for each of its ticks. A run without an event gives nothing.
 fn put_run(deliveries: &mut Deliveries, run: &Run<K>) -> Result<(), Memory>
     requires { IsRun Q run.now }
-    ensures { OnOk result (items deliveries.new ≡ items deliveries.old ++ data_of_run 0 (2 ^ 62) run.now) }
+    ensures { OnOk result (items deliveries.new ≡ items deliveries.old ++ data_of_run 0 MAX_TICK run.now) }
 {
     match &run.value {
         K::D(event) => put_each(deliveries, event, run.first, run.last),
@@ -135,7 +137,7 @@ fn put_run(deliveries: &mut Deliveries, run: &Run<K>) -> Result<(), Memory>
 /// Puts an event at the end, once for each tick of a range.
 fn put_each(deliveries: &mut Deliveries, event: &Event, first: u64, last: u64) -> Result<(), Memory>
     requires ordered { first ≤ last }
-    requires upto { last ≤ 2 ^ 62 }
+    requires upto { last ≤ MAX_TICK }
     ensures { OnOk result (items deliveries.new ≡ items deliveries.old ++ map (λ t. (t, event.now)) (numbers_from first (suc last - first))) }
 {
     for tick in first..last + 1 {
