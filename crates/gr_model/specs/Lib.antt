@@ -5,6 +5,7 @@ pub mod Headline
 pub mod Tree
 pub mod Blank
 pub mod Text
+pub mod Families
 pub mod NetOf
 pub mod Opening
 pub mod Arrivals

@@ -6,6 +6,7 @@ ghost use Rattle.std.specs.List.{flat_map};
 ghost use Rattle.gr_topo.specs.Topology.{name_at};
 ghost use Rattle.gr_event.specs.Json.{json_text};
 ghost use Rattle.gr_model.specs.Text.{labels_of, know_letter, want_letter, run_word, frame_fault_word, hex_pair, publisher_words, log_words, sent_words, behind_blanks, row_of, AreNamed, IsSentNamed, IsNamed};
+ghost use Rattle.gr_model.specs.Families.{IsOfPublish, IsOfLog, IsOfHorizon, IsOfFrame, IsOfDrop};
 
 use crate::report::Report;
 use crate::words::Words;
@@ -491,22 +492,13 @@ fn push_bytes(words: &mut Words, frame: u64, bytes: &Bytes) -> Result<(), AllocE
     words.push_hex(bytes.as_slice())
 }
 
-/// The words of a line, which go behind those that are there.
-pub(crate) fn push_line(
-    words: &mut Words,
-    report: &Report,
-    topo: &Topology,
-) -> Result<(), AllocError>
-    requires { IsNamed topo.now report.now }
+/// The line of what became of a publish.
+fn push_publish(words: &mut Words, report: &Report, topo: &Topology) -> Result<(), AllocError>
+    requires family { IsOfPublish report.now }
+    requires named { IsNamed topo.now report.now }
     ensures { OnOk result (words.new ≡ words.old ++ row_of topo.now report.now) }
 {
     match report {
-        Report::Opened {
-            publisher,
-            last,
-            settled,
-            cut,
-        } => push_log(words, topo, b"opened", *publisher, *last, *settled, *cut),
         Report::Logged {
             publisher,
             number,
@@ -541,6 +533,23 @@ pub(crate) fn push_line(
             number,
             tick,
         } => push_publisher_line(words, topo, b"lost", *publisher, &[*number, *tick]),
+        _ => unreachable!(),
+    }
+}
+
+/// The line of what became of a log.
+fn push_log_change(words: &mut Words, report: &Report, topo: &Topology) -> Result<(), AllocError>
+    requires family { IsOfLog report.now }
+    requires named { IsNamed topo.now report.now }
+    ensures { OnOk result (words.new ≡ words.old ++ row_of topo.now report.now) }
+{
+    match report {
+        Report::Opened {
+            publisher,
+            last,
+            settled,
+            cut,
+        } => push_log(words, topo, b"opened", *publisher, *last, *settled, *cut),
         Report::Mark { publisher, tick } => push_publisher_line(
             words,
             topo,
@@ -555,6 +564,24 @@ pub(crate) fn push_line(
             *publisher,
             &[*tick],
         ),
+        Report::Damaged { publisher, at } => push_publisher_line(
+            words,
+            topo,
+            b"damaged",
+            *publisher,
+            &[*at],
+        ),
+        _ => unreachable!(),
+    }
+}
+
+/// The line of what a subscriber is told, or of a horizon that is shown.
+fn push_heard(words: &mut Words, report: &Report, topo: &Topology) -> Result<(), AllocError>
+    requires family { IsOfHorizon report.now }
+    requires named { IsNamed topo.now report.now }
+    ensures { OnOk result (words.new ≡ words.old ++ row_of topo.now report.now) }
+{
+    match report {
         Report::Got {
             subscriber,
             publisher,
@@ -566,6 +593,22 @@ pub(crate) fn push_line(
             publisher,
             tick,
         } => push_horizon(words, topo, *subscriber, *publisher, *tick),
+        Report::Doubt {
+            broker,
+            publisher,
+            tick,
+        } => push_doubt(words, topo, *broker, *publisher, *tick),
+        _ => unreachable!(),
+    }
+}
+
+/// The line of a frame that was sent.
+fn push_frame(words: &mut Words, report: &Report, topo: &Topology) -> Result<(), AllocError>
+    requires family { IsOfFrame report.now }
+    requires named { IsNamed topo.now report.now }
+    ensures { OnOk result (words.new ≡ words.old ++ row_of topo.now report.now) }
+{
+    match report {
         Report::SentKnow {
             number,
             from,
@@ -587,13 +630,17 @@ pub(crate) fn push_line(
             publisher,
             tick,
         } => push_sent_expect(words, topo, *number, *from, *to, *publisher, *tick),
-        Report::Crashed { broker } => push_crashed(words, topo, *broker),
-        Report::Swept { moment } => push_pair(words, b"swept", *moment),
-        Report::RefusedHosts { line, broker } => push_refused_hosts(words, topo, *line, *broker),
-        Report::RefusedFrame { line, frame, sent } => push_refused_frame(
-            words, *line, *frame, *sent,
-        ),
-        Report::RefusedClock { line, moment } => push_refused_clock(words, *line, *moment),
+        _ => unreachable!(),
+    }
+}
+
+/// The line of a datagram that was dropped.
+fn push_drop(words: &mut Words, report: &Report, topo: &Topology) -> Result<(), AllocError>
+    requires family { IsOfDrop report.now }
+    requires named { IsNamed topo.now report.now }
+    ensures { OnOk result (words.new ≡ words.old ++ row_of topo.now report.now) }
+{
+    match report {
         Report::DroppedNotFrame { broker, fault, at } => push_not_frame(
             words, topo, *broker, *fault, *at,
         ),
@@ -614,13 +661,27 @@ pub(crate) fn push_line(
             kept,
             came,
         } => push_clash(words, topo, *broker, *tick, kept, came),
-        Report::Damaged { publisher, at } => push_publisher_line(
-            words,
-            topo,
-            b"damaged",
-            *publisher,
-            &[*at],
+        _ => unreachable!(),
+    }
+}
+
+/// The words of a line, which go behind those that are there.
+pub(crate) fn push_line(
+    words: &mut Words,
+    report: &Report,
+    topo: &Topology,
+) -> Result<(), AllocError>
+    requires { IsNamed topo.now report.now }
+    ensures { OnOk result (words.new ≡ words.old ++ row_of topo.now report.now) }
+{
+    match report {
+        Report::Crashed { broker } => push_crashed(words, topo, *broker),
+        Report::Swept { moment } => push_pair(words, b"swept", *moment),
+        Report::RefusedHosts { line, broker } => push_refused_hosts(words, topo, *line, *broker),
+        Report::RefusedFrame { line, frame, sent } => push_refused_frame(
+            words, *line, *frame, *sent,
         ),
+        Report::RefusedClock { line, moment } => push_refused_clock(words, *line, *moment),
         Report::Frames { count } => push_pair(words, b"frames", *count),
         Report::LogOf {
             publisher,
@@ -629,11 +690,23 @@ pub(crate) fn push_line(
             cut,
             kept,
         } => push_shown_log(words, topo, *publisher, *last, *settled, *cut, *kept),
-        Report::Doubt {
-            broker,
-            publisher,
-            tick,
-        } => push_doubt(words, topo, *broker, *publisher, *tick),
         Report::BytesOf { frame, bytes } => push_bytes(words, *frame, bytes),
+        Report::Logged { .. }
+        | Report::Already { .. }
+        | Report::Gap { .. }
+        | Report::Exhausted { .. }
+        | Report::Kept { .. }
+        | Report::Lost { .. } => push_publish(words, report, topo),
+        Report::Opened { .. } | Report::Mark { .. } | Report::Cut { .. } | Report::Damaged { .. } =>
+            push_log_change(words, report, topo),
+        Report::Got { .. } | Report::Horizon { .. } | Report::Doubt { .. } => {
+            push_heard(words, report, topo)
+        }
+        Report::SentKnow { .. } | Report::SentWant { .. } | Report::SentExpect { .. } => {
+            push_frame(words, report, topo)
+        }
+        Report::DroppedNotFrame { .. }
+        | Report::DroppedStray { .. }
+        | Report::DroppedClash { .. } => push_drop(words, report, topo),
     }
 }

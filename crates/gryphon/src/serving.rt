@@ -31,10 +31,13 @@ pub enum Serving {
     TooManySteps,
     /// They are no scenario, or the brokers cannot serve; with the line that says why.
     Refused(Text),
-    /// The brokers are to serve: the topology with its steps, and their numbers.
+    /// The brokers are to serve.
     Run {
+        /// The topology.
         topology: Topology,
+        /// Its steps.
         steps: Steps,
+        /// The brokers' numbers, in rising order and each once.
         brokers: Numbers,
     },
 }

@@ -17,15 +17,18 @@ pub enum Task<'a> {
     Usage,
     /// A scenario is to be read and replayed.
     Replay,
-    /// A scenario is to be read, and the named brokers of its topology are to serve for so many turns, 1 to 1,000,000.
+    /// A scenario is to be read, and brokers of its topology are to serve.
     Serve {
+        /// How many arrivals are taken, 1 to 1,000,000.
         turns: u64,
+        /// The names of the brokers, as they stand among the words.
         brokers: BrokerWords<'a>,
     },
     /// A match text is to be read, and its events matched.
     Match,
-    /// The scenario of a soak of so many turns, 1 to 2,000, is to be made and replayed.
+    /// The scenario of a soak is to be made and replayed.
     Soak {
+        /// How many turns it has, 1 to 2,000.
         count: u64,
     },
 }
