@@ -1,10 +1,11 @@
 //! One broker of a topology.
 
-ghost use Rattle.std.specs.Prelude.{◌≡◌, ◌≢◌, ◌↔◌, ◌⊎◌, ℕ, ◌*◌, ◌^◌, ◌<◌, ◌≤◌, true, List, length, Option, Some, None, Result, Err, IsSome, IfOk, OnOk, OnErr, IsErrOf};
+ghost use Rattle.std.specs.Prelude.{◌≡◌, ◌≢◌, ◌↔◌, ◌⊎◌, ℕ, ◌*◌, ◌<◌, ◌≤◌, true, List, length, Option, Some, None, Result, Err, IsSome, IfOk, OnOk, OnErr, IsErrOf};
 ghost use Rattle.gr_frame.specs.Decode.{frame_decoded};
 ghost use Rattle.gr_out.specs.declared.disk.Stop.TheVariants.{Unset};
 ghost use Rattle.gr_out.specs.Lane.{content, moment, has_stopped, MayLeave, LeftSince};
 ghost use Rattle.gr_out.specs.Stops.{StaysFaultless};
+ghost use Rattle.gr_tick.specs.declared.TheConstants.{MAX_TICK};
 ghost use Rattle.gr_publog.specs.Text.{log_text};
 ghost use Rattle.gr_publog.specs.Crash.{LogView, EitherRose};
 ghost use Rattle.gr_publog.specs.Calls.{Tally, Causes, Leaves};
@@ -75,7 +76,9 @@ impl Model for Broker {
 /// A broker that has started, and what that tells.
 #[derive(Drop)]
 pub struct Started {
+    /// The broker.
     pub broker: Broker,
+    /// What its start tells; nothing is sent.
     pub outcome: Outcome,
 }
 
@@ -168,7 +171,7 @@ impl Broker {
     ) -> Result<Outcome, BrokerFault>
         requires fits { IsBrokerOf topo.now self.old }
         requires hosted { IsHosted self.old p }
-        requires now { now ≤ 2 ^ 62 }
+        requires now { now ≤ MAX_TICK }
         requires stands { D.tells → LogsStand (D.lane_of disk.old) self.old }
         // What is told and sent, and what is kept: the machine's publish
         ensures told { IfOk result (λ told. Tells (publish_at topo.now self.old p now number event.now) told) }
@@ -248,7 +251,7 @@ impl Broker {
     ) -> Result<Outcome, BrokerFault>
         requires fits { IsBrokerOf topo.now self.old }
         requires publisher { p < length self.old.views }
-        requires now { now ≤ 2 ^ 62 }
+        requires now { now ≤ MAX_TICK }
         requires stands { D.tells → LogsStand (D.lane_of disk.old) self.old }
         ensures told { IfOk result (λ told. Tells (wake_at topo.now self.old p now) told) }
         ensures leaves { let marked = after_mark topo.now self.old p now in

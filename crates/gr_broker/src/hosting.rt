@@ -1,9 +1,10 @@
 //! A publisher's calls at its host: an event is logged and learned, silence is marked, and what all children have is
 //! cut.
 
-ghost use Rattle.std.specs.Prelude.{◌≡◌, ◌≢◌, ◌↔◌, ◌⊎◌, ℕ, ◌+◌, ◌++◌, ◌∷◌, [], ◌^◌, ◌<◌, ◌≤◌, true, false, length, Some, None, Err, IsErr, IsSome, IsErrOf, IfOk, IfSome, OnOk, OnErr};
+ghost use Rattle.std.specs.Prelude.{◌≡◌, ◌≢◌, ◌↔◌, ◌⊎◌, ℕ, ◌+◌, ◌++◌, ◌∷◌, [], ◌<◌, ◌≤◌, true, false, length, Some, None, Err, IsErr, IsSome, IsErrOf, IfOk, IfSome, OnOk, OnErr};
 ghost use Rattle.std.specs.Option.{ForSome, ForNone};
 ghost use Rattle.gr_out.specs.Stops.{StaysFaultless};
+ghost use Rattle.gr_tick.specs.declared.TheConstants.{MAX_TICK};
 ghost use Rattle.gr_curio.specs.Wants.{runs_of};
 ghost use Rattle.gr_publog.specs.State.{state_of, may_follow};
 ghost use Rattle.gr_publog.specs.Crash.{with_record, failed};
@@ -144,18 +145,18 @@ fn log_event<D: Disk>(
     if log.is_broken() {
         return Err(LogFault::Reopen);
     }
-    let mut told = Outcome::new(site.alloc);
-    match told.reports.push(Report::Logged {
-        publisher: site.publisher,
-        number,
-        tick,
-    }) {
-        Ok(()) => {}
-        Err(_) => {
-            drop(told);
-            return Err(LogFault::Memory);
-        }
-    }
+    let publisher = site.publisher;
+    let mut told = match tell(
+        site,
+        Report::Logged {
+            publisher,
+            number,
+            tick,
+        },
+    ) {
+        Ok(told) => told,
+        Err(_) => return Err(LogFault::Memory),
+    };
     let entry = Record::Event {
         tick,
         number,
@@ -207,7 +208,7 @@ pub(crate) fn publish<D: Disk>(
     requires site { IsSite site.now }
     requires host { is_host (net_of site.now.topo.now) site.now.publisher site.now.broker ≡ true }
     requires kept { IsKept (net_of site.now.topo.now) site.now.publisher site.now.broker (held_view held.old) }
-    requires now { now ≤ 2 ^ 62 }
+    requires now { now ≤ MAX_TICK }
     requires stands { D.tells → IsReady log.old (D.lane_of disk.old log.old.lane) }
     ensures told { IfOk result (λ told. Tells (publish
         (net_of site.now.topo.now) site.now.publisher site.now.broker now number event.now
@@ -278,7 +279,7 @@ fn mark<D: Disk>(
     requires site { IsSite site.now }
     requires host { is_host (net_of site.now.topo.now) site.now.publisher site.now.broker ≡ true }
     requires kept { IsKept (net_of site.now.topo.now) site.now.publisher site.now.broker (held_view held.old) }
-    requires now { now ≤ 2 ^ 62 }
+    requires now { now ≤ MAX_TICK }
     requires stands { D.tells → IsReady log.old (D.lane_of disk.old log.old.lane) }
     ensures tick { IfOk result (λ tick. tick
         ≡ tick_marked (quieted (log_of log.old.records) now site.now.topo.now.settings.quiet)) }
@@ -385,7 +386,7 @@ fn horizon_of(site: &Site<'_>, held: &Held) -> Option<u64>
     requires kept { IsKept (net_of site.now.topo.now) site.now.publisher site.now.broker (held_view held.now) }
     ensures value { result ≡ horizon_if (keeps_horizon
         (net_of site.now.topo.now) site.now.publisher site.now.broker) held.now.horizon }
-    ensures upto { ForSome result (λ h. h ≤ 2 ^ 62) }
+    ensures upto { ForSome result (λ h. h ≤ MAX_TICK) }
     ensures some { ForNone result (0 < length held.now.wants) }
 {
     if site.position.keeps {
@@ -440,7 +441,7 @@ fn tell_wake(
     into: &mut Outcome,
 ) -> Result<(), Memory>
     requires site { IsSite site.now }
-    requires upto { settled ≤ 2 ^ 62 }
+    requires upto { settled ≤ MAX_TICK }
     ensures lines { OnOk result (into.new.reports
         ≡ mark_lines site.now.publisher marked ++ cut_lines site.now.publisher cut ++ into.old.reports) }
     ensures frames { OnOk result (AddsFrames (expected_frames site.now.publisher site.now.broker settled
@@ -574,7 +575,7 @@ pub(crate) fn wake_host<D: Disk>(
     requires site { IsSite site.now }
     requires host { is_host (net_of site.now.topo.now) site.now.publisher site.now.broker ≡ true }
     requires kept { IsKept (net_of site.now.topo.now) site.now.publisher site.now.broker (held_view held.old) }
-    requires now { now ≤ 2 ^ 62 }
+    requires now { now ≤ MAX_TICK }
     requires stands { D.tells → IsReady log.old (D.lane_of disk.old log.old.lane) }
     ensures told { IfOk result (λ told.
         Tells (wake_host (net_of site.now.topo.now) site.now.publisher site.now.broker now

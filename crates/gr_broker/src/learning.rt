@@ -408,7 +408,7 @@ fn finish_run(know: &mut Know, run: &Run<Q3>)
 }
 
 /// Whether a value is that of an acknowledged tick.
-fn is_acknowledged(value: Q3) -> bool
+pub(crate) fn is_acknowledged(value: Q3) -> bool
     ensures { result ≡ is_A value }
 {
     matches!(value, Q3::A)

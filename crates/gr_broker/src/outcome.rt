@@ -19,14 +19,21 @@ pub enum BrokerFault {
     Disk,
     /// The call would append to a log that the disk has failed before.
     Reopen,
-    /// The lane of a publisher holds no log; the place of the first fault, counted from 0 in bytes.
-    Damaged { publisher: u16, at: u64 },
+    /// The lane of a publisher holds no log.
+    Damaged {
+        /// Which publisher.
+        publisher: u16,
+        /// The place of the first fault, counted from 0 in bytes.
+        at: u64,
+    },
 }
 
-/// What a call tells and sends: lines of the report and frames in their bytes, both in order.
+/// What a call tells and sends.
 #[derive(Drop)]
 pub struct Outcome {
+    /// Lines of the report, in order.
     pub reports: Reports,
+    /// Frames in their bytes, in order.
     pub frames: Frames,
 }
 
@@ -46,17 +53,28 @@ impl Outcome {
 /// Why a datagram is dropped. Nothing has changed then.
 #[derive(Drop)]
 pub enum Dropped {
-    /// The bytes are no frame: the first fault and its place.
-    NotFrame { fault: FrameFault },
+    /// The bytes are no frame.
+    NotFrame {
+        /// The first fault, with its place.
+        fault: FrameFault,
+    },
     /// It is a frame, and it does not fit: it is for another broker, or it does not come from where it should.
-    Stray { head: Head },
-    /// It fits, and clashes with what is known: the least tick, what is kept there and what came.
-    Clash { clash: Clash },
+    Stray {
+        /// Where it says it comes from and goes to, and of which publisher it speaks.
+        head: Head,
+    },
+    /// It fits, and clashes with what is known.
+    Clash {
+        /// The least tick at which it does, what is kept there and what came.
+        clash: Clash,
+    },
 }
 
 /// What becomes of a datagram.
 #[derive(Drop)]
 pub enum Received {
+    /// The broker took it, and this is what it tells and sends.
     Taken(Outcome),
+    /// It was dropped.
     Dropped(Dropped),
 }

@@ -1,7 +1,8 @@
 //! A publish for a publisher that is here, among all that a broker keeps.
 
-ghost use Rattle.std.specs.Prelude.{◌≡◌, ◌≢◌, ◌↔◌, ℕ, ◌*◌, ◌^◌, ◌<◌, ◌≤◌, true, length, map, get_or, Some, None, IsSome, is_some, IfOk, OnOk, OnErr, IsErrOf};
+ghost use Rattle.std.specs.Prelude.{◌≡◌, ◌≢◌, ◌↔◌, ℕ, ◌*◌, ◌<◌, ◌≤◌, true, length, map, get_or, Some, None, IsSome, is_some, IfOk, OnOk, OnErr, IsErrOf};
 ghost use Rattle.gr_out.specs.Stops.{StaysFaultless};
+ghost use Rattle.gr_tick.specs.declared.TheConstants.{MAX_TICK};
 ghost use Rattle.gr_publog.specs.Crash.{LogView};
 ghost use Rattle.gr_publog.specs.Calls.{IsReady, Appends, Tally, Causes, Leaves};
 ghost use Rattle.gr_pubend.specs.Answers.{published, event_of};
@@ -35,7 +36,7 @@ fn publish_part<D: Disk>(
     requires site { IsSite site.now }
     requires host { is_host (net_of site.now.topo.now) site.now.publisher site.now.broker ≡ true }
     requires kept { IsKept (net_of site.now.topo.now) site.now.publisher site.now.broker (held_view part.old) }
-    requires now { now ≤ 2 ^ 62 }
+    requires now { now ≤ MAX_TICK }
     requires here { IsSome part.old.log }
     requires stands { D.tells → (l : LogView) → part.old.log ≡ Some l → IsReady l (D.lane_of disk.old l.lane) }
     ensures told { IfOk result (λ told. Tells (publish (net_of site.now.topo.now) site.now.publisher site.now.broker now
@@ -92,7 +93,7 @@ pub(crate) fn publish_in<D: Disk>(
         → IsKept (net_of seat.now.topo.now) q seat.now.number (get_or (map held_view held.old.items) q blank_view) }
     requires here { IsSome (get_or (logs_of held.old.items) p None) }
     requires lanes { (q : ℕ) (l : LogView) → get_or (logs_of held.old.items) q None ≡ Some l → l.lane ≡ 2 * q }
-    requires now { now ≤ 2 ^ 62 }
+    requires now { now ≤ MAX_TICK }
     requires stands { D.tells → (q : ℕ) (l : LogView) → get_or (logs_of held.old.items) q None ≡ Some l
         → IsReady l (D.lane_of disk.old (2 * q)) }
     ensures told { let b = broker_at seat.now held.old.items in

@@ -1,7 +1,8 @@
 //! A broker is woken for a publisher: one part is woken, with its log where the publisher is here, and put back.
 
-ghost use Rattle.std.specs.Prelude.{◌≡◌, ◌≢◌, ◌↔◌, ◌⊎◌, ℕ, ◌*◌, ◌^◌, ◌<◌, ◌≤◌, true, length, is_some, None, Some, IsSome, IfOk, OnOk, IsErrOf};
+ghost use Rattle.std.specs.Prelude.{◌≡◌, ◌≢◌, ◌↔◌, ◌⊎◌, ℕ, ◌*◌, ◌<◌, ◌≤◌, true, length, is_some, None, Some, IsSome, IfOk, OnOk, IsErrOf};
 ghost use Rattle.gr_out.specs.Stops.{StaysFaultless};
+ghost use Rattle.gr_tick.specs.declared.TheConstants.{MAX_TICK};
 ghost use Rattle.gr_publog.specs.Crash.{LogView};
 ghost use Rattle.gr_publog.specs.Calls.{IsReady, Tally, Causes};
 ghost use Rattle.gr_model.specs.Net.{is_host};
@@ -35,7 +36,7 @@ fn wake_here<D: Disk>(
     requires kept { IsKept (net_of site.now.topo.now) site.now.publisher site.now.broker (held_view part.old) }
     requires hosted { is_some part.old.log ≡ is_host (net_of site.now.topo.now) site.now.publisher site.now.broker }
     requires lanes { (l : LogView) → part.old.log ≡ Some l → l.lane ≡ 2 * site.now.publisher }
-    requires now { now ≤ 2 ^ 62 }
+    requires now { now ≤ MAX_TICK }
     requires stands { let lane = 2 * site.now.publisher in
         D.tells → (l : LogView) → part.old.log ≡ Some l → IsReady l (D.lane_of disk.old lane) }
     ensures told { let x = part_of part.old in
@@ -90,7 +91,7 @@ fn wake_part<D: Disk>(
     requires kept { IsKept (net_of site.now.topo.now) site.now.publisher site.now.broker (held_view part.old) }
     requires hosted { is_some part.old.log ≡ is_host (net_of site.now.topo.now) site.now.publisher site.now.broker }
     requires lanes { (l : LogView) → part.old.log ≡ Some l → l.lane ≡ 2 * site.now.publisher }
-    requires now { now ≤ 2 ^ 62 }
+    requires now { now ≤ MAX_TICK }
     requires stands { let lane = 2 * site.now.publisher in
         D.tells → (l : LogView) → part.old.log ≡ Some l → IsReady l (D.lane_of disk.old lane) }
     ensures told { let x = part_of part.old in
@@ -155,7 +156,7 @@ pub(crate) fn wake<D: Disk>(
     requires seat { IsSeat seat.now }
     requires fits { IsBrokerOf seat.now.topo.now (broker_at seat.now held.old.items) }
     requires publisher { let b = broker_at seat.now held.old.items in p < length b.views }
-    requires now { now ≤ 2 ^ 62 }
+    requires now { now ≤ MAX_TICK }
     requires stands { D.tells → LogsStand (D.lane_of disk.old) (broker_at seat.now held.old.items) }
     ensures told { let b = broker_at seat.now held.old.items in
         IfOk result (λ told. Tells (wake_at seat.now.topo.now b p now) told) }

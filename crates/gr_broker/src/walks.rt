@@ -1,22 +1,29 @@
-//! Walks over the ticks of two functions, by pieces on which both are steady.
+//! Walks over the runs of one function, and on each of them over the pieces on which a second one is steady: outside the runs
+//! there is nothing to say.
 
 ghost use Rattle.std.specs.Prelude.{if◌then◌else◌, ◌≡◌, ◌≢◌, ◌⊎◌, ℕ, ◌+◌, ◌^◌, ◌<◌, ◌≤◌, not, ◌&&◌, IfOk, OnOk, length};
-ghost use Rattle.gr_tick.specs.Runs.{value_at};
-ghost use Rattle.gr_tick.specs.Stored.{within, EndBefore, RunsGive};
+ghost use Rattle.gr_tick.specs.Runs.{is_in, value_at};
+ghost use Rattle.gr_tick.specs.Stored.{within, IsRun, EndBefore, RunsGive};
 ghost use Rattle.gr_know.specs.Values.{known_at, is_Q};
 ghost use Rattle.gr_know.specs.declared.values.K.TheVariants.{Q};
 ghost use Rattle.gr_curio.specs.Values.{wanted_at, is_C, is_A};
 ghost use Rattle.gr_curio.specs.Wants.{runs_of, wants_of};
 ghost use Rattle.gr_curio.specs.declared.values.Q3.TheVariants.{N, C};
-ghost use Rattle.gr_broker.specs.Answers.{said_by, left_by};
+ghost use Rattle.gr_broker.specs.Answers.{said_at, said_by, left_at, left_by};
 
+use crate::learning::is_acknowledged;
 use gr_curio::{Q3, Wants};
 use gr_know::{K, Know};
-use gr_tick::{Lattice, MAX_TICK, Piece, Run, is_bottom};
+use gr_tick::{Lattice, Piece, Run, Steady, is_bottom};
 use std::alloc::{AllocError, Global};
 
 /// Puts a value at the end of a piece, on a range past its last run; the least value puts nothing.
-fn put<V: Lattice>(piece: &mut Piece<V>, first: u64, last: u64, value: V) -> Result<(), AllocError>
+pub(crate) fn put<V: Lattice>(
+    piece: &mut Piece<V>,
+    first: u64,
+    last: u64,
+    value: V,
+) -> Result<(), AllocError>
     requires from_one { 1 ≤ first }
     requires ordered { first ≤ last }
     requires upto { last ≤ 2 ^ 62 }
@@ -32,39 +39,20 @@ fn put<V: Lattice>(piece: &mut Piece<V>, first: u64, last: u64, value: V) -> Res
     piece.push(Run { first, last, value })
 }
 
-/// The greatest tick up to which neither what a piece tells changes, nor, where it tells anything, what a child wants.
-fn steady_until(piece: &Piece<K>, wants: &Wants, child: usize, tick: u64) -> u64
-    requires child { child < length wants.now }
-    requires tick { tick ≤ 2 ^ 62 }
-    ensures forward { tick ≤ result }
-    ensures inside { result ≤ 2 ^ 62 }
-    ensures told { (t : ℕ) → tick ≤ t → t ≤ result → known_at piece.now t ≡ known_at piece.now tick }
-    ensures wanted { (t : ℕ) → tick ≤ t → t ≤ result → (known_at piece.now tick ≡ Q)
-        ⊎ (wanted_at (wants_of (runs_of wants.now) child) t ≡ wanted_at (wants_of (runs_of wants.now) child) tick) }
-    ensures greatest { result < 2 ^ 62 → (known_at piece.now (result + 1) ≢ known_at piece.now tick)
-        ⊎ (wanted_at (wants_of (runs_of wants.now) child) (result + 1)
-        ≢ wanted_at (wants_of (runs_of wants.now) child) tick) }
+/// Whether a value is that of a tick that is asked for.
+pub(crate) fn is_asked(value: Q3) -> bool
+    ensures { result ≡ is_C value }
 {
-    let end = piece.steady_until(tick);
-    let value = piece.at(tick);
-    let is_untold = is_bottom(&value);
-    drop(value);
-    if is_untold {
-        return end;
-    }
-    end.min(wants.steady_until(child, tick))
+    matches!(value, Q3::C)
 }
 
 /// What is sent of a tick: nothing where it was acknowledged.
-fn sent_value(known: K, wanted: Q3) -> K
-    ensures { result ≡ (if is_A wanted then Q else known) }
+fn sent_value(known: &K, wanted: Q3) -> K
+    ensures { result ≡ (if is_A wanted then Q else known.now) }
 {
     match wanted {
-        Q3::A => {
-            drop(known);
-            K::Q
-        }
-        Q3::N | Q3::C => known,
+        Q3::A => K::Q,
+        Q3::N | Q3::C => known.share(),
     }
 }
 
@@ -81,17 +69,38 @@ pub(crate) fn unacknowledged(
         (λ t. if is_A (wanted_at (wants_of (runs_of wants.now) child) t) then Q else known_at passed.now t)) }
 {
     let mut sent = Piece::new(alloc);
-    let mut next = 1;
-    while next <= MAX_TICK {
-        let end = steady_until(passed, wants, child, next);
-        let value = sent_value(passed.at(next), wants.at(child, next));
-        put(&mut sent, next, end, value)?;
+    for i in 0..passed.len() {
+        put_sent(&mut sent, passed.run(i), wants, child)?;
+    }
+    // Proof only: the runs are canonical.
+    let _ = sent.len();
+    Ok(sent)
+}
+
+/// Puts what is sent of a run to a child.
+fn put_sent(
+    sent: &mut Piece<K>,
+    run: &Run<K>,
+    wants: &Wants,
+    child: usize,
+) -> Result<(), AllocError>
+    requires child { child < length wants.now }
+    requires alone { IsRun Q run.now }
+    requires past { EndBefore sent.old run.now.first }
+    ensures values { OnOk result ((t : ℕ) → known_at sent.new t ≡ (if is_in t run.now
+        then (if is_A (wanted_at (wants_of (runs_of wants.now) child) t) then Q else run.now.value)
+        else known_at sent.old t)) }
+    ensures past { OnOk result ((t : ℕ) → run.now.last < t → EndBefore sent.new t) }
+{
+    let mut next = run.first;
+    while next <= run.last {
+        let wanted = wants.steady_at(child, next);
+        let end = wanted.last.min(run.last);
+        let value = sent_value(&run.value, wanted.value);
+        put(sent, next, end, value)?;
         next = end + 1;
     }
-    // Proof only: the runs of both pieces are canonical.
-    let _ = sent.len();
-    let _ = passed.len();
-    Ok(sent)
+    Ok(())
 }
 
 /// Whether a tick was asked and is now told.
@@ -119,66 +128,65 @@ pub(crate) fn quenched(
         && is_C (wanted_at (wants_of (runs_of wants.now) child) t) then C else N)) }
 {
     let mut quenched = Piece::new(alloc);
-    let mut next = 1;
-    while next <= MAX_TICK {
-        let end = steady_until(sent, wants, child, next);
-        let known = sent.at(next);
-        let value = answered_value(&known, wants.at(child, next));
-        drop(known);
-        put(&mut quenched, next, end, value)?;
-        next = end + 1;
+    for i in 0..sent.len() {
+        put_quenched(&mut quenched, sent.run(i), wants, child)?;
     }
-    // Proof only: the runs of both pieces are canonical.
+    // Proof only: the runs are canonical.
     let _ = quenched.len();
-    let _ = sent.len();
     Ok(quenched)
 }
 
-/// Whether a tick is asked for.
-pub(crate) fn is_asked(wanted: &Piece<Q3>, tick: u64) -> bool
-    ensures { result ≡ is_C (wanted_at wanted.now tick) }
+/// Puts the ticks of a run that a child asks, with `C`.
+fn put_quenched(
+    quenched: &mut Piece<Q3>,
+    run: &Run<K>,
+    wants: &Wants,
+    child: usize,
+) -> Result<(), AllocError>
+    requires child { child < length wants.now }
+    requires alone { IsRun Q run.now }
+    requires past { EndBefore quenched.old run.now.first }
+    ensures values { OnOk result ((t : ℕ) → wanted_at quenched.new t ≡ (if is_in t run.now
+        then (if not (is_Q run.now.value) && is_C (wanted_at (wants_of (runs_of wants.now) child) t) then C else N)
+        else wanted_at quenched.old t)) }
+    ensures past { OnOk result ((t : ℕ) → run.now.last < t → EndBefore quenched.new t) }
 {
-    match wanted.at(tick) {
-        Q3::C => true,
-        Q3::N | Q3::A => false,
+    let mut next = run.first;
+    while next <= run.last {
+        let wanted = wants.steady_at(child, next);
+        let end = wanted.last.min(run.last);
+        let value = answered_value(&run.value, wanted.value);
+        put(quenched, next, end, value)?;
+        next = end + 1;
     }
+    Ok(())
 }
 
-/// What a child is told of a tick before the edge.
-fn said_value(asked: &Piece<Q3>, know: &Know, wants: &Wants, child: usize, tick: u64) -> K
-    requires { child < length wants.now }
-    ensures { result ≡ said_by know.now.runs (wants_of (runs_of wants.now) child) asked.now tick }
-{
-    if !is_asked(asked, tick) {
-        return K::Q;
-    }
-    match wants.at(child, tick) {
-        Q3::A => K::F,
-        Q3::N | Q3::C => know.at(tick),
-    }
-}
-
-/// The greatest tick up to which neither what is asked changes, nor, where it is asked, what is known and what the
-/// child has acknowledged.
-fn said_until(asked: &Piece<Q3>, know: &Know, wants: &Wants, child: usize, tick: u64) -> u64
+/// What a child is told of a tick that it asks, before the edge, and how far neither what is known changes nor what the
+/// child has acknowledged: where it has acknowledged it, only that.
+fn said_from(know: &Know, wants: &Wants, child: usize, tick: u64) -> Steady<K>
     requires child { child < length wants.now }
     requires upto { tick ≤ 2 ^ 62 }
-    ensures forward { tick ≤ result }
-    ensures inside { result ≤ 2 ^ 62 }
-    ensures greatest { result < 2 ^ 62 → (wanted_at asked.now (result + 1) ≢ wanted_at asked.now tick)
-        ⊎ ((known_at know.now.runs (result + 1) ≢ known_at know.now.runs tick)
-        ⊎ (wanted_at (wants_of (runs_of wants.now) child) (result + 1)
-        ≢ wanted_at (wants_of (runs_of wants.now) child) tick)) }
-    ensures same { (t : ℕ) → tick ≤ t → t ≤ result →
-        said_by know.now.runs (wants_of (runs_of wants.now) child) asked.now t
-        ≡ said_by know.now.runs (wants_of (runs_of wants.now) child) asked.now tick }
+    ensures forward { tick ≤ result.last }
+    ensures inside { result.last ≤ 2 ^ 62 }
+    ensures greatest { result.last < 2 ^ 62 → (known_at know.now.runs (result.last + 1) ≢ known_at know.now.runs tick)
+        ⊎ (wanted_at (wants_of (runs_of wants.now) child) (result.last + 1)
+        ≢ wanted_at (wants_of (runs_of wants.now) child) tick) }
+    ensures steady { (t : ℕ) → tick ≤ t → t ≤ result.last → said_at (known_at know.now.runs t)
+        (wanted_at (wants_of (runs_of wants.now) child) t) C ≡ result.value }
 {
-    let end = asked.steady_until(tick);
-    if !is_asked(asked, tick) {
-        return end;
+    let wanted = wants.steady_at(child, tick);
+    if is_acknowledged(wanted.value) {
+        return Steady {
+            value: K::F,
+            last: wanted.last,
+        };
     }
-    end.min(know.steady_until(tick))
-        .min(wants.steady_until(child, tick))
+    let Steady { value, last } = know.steady_at(tick);
+    Steady {
+        value,
+        last: last.min(wanted.last),
+    }
 }
 
 /// What a child is told of the ticks that it asks, before the edge: that a tick is final where it has acknowledged it,
@@ -195,51 +203,52 @@ pub(crate) fn said_of(
         RunsGive Q piece (said_by know.now.runs (wants_of (runs_of wants.now) child) asked.now)) }
 {
     let mut piece = Piece::new(alloc);
-    let mut next = 1;
-    while next <= MAX_TICK {
-        let end = said_until(asked, know, wants, child, next);
-        let value = said_value(asked, know, wants, child, next);
-        put(&mut piece, next, end, value)?;
-        next = end + 1;
+    for i in 0..asked.len() {
+        put_said(&mut piece, asked.run(i), know, wants, child)?;
     }
     // Proof only: the runs are canonical.
     let _ = piece.len();
-    let _ = asked.len();
     Ok(piece)
 }
 
-/// What is left of what a child asks and acknowledges of a tick.
-fn left_value(asked: &Piece<Q3>, reply: &Piece<K>, tick: u64) -> Q3
-    ensures { result ≡ left_by asked.now reply.now tick }
+/// Puts what a child is told of a run, before the edge: nothing where it does not ask.
+fn put_said(
+    piece: &mut Piece<K>,
+    run: &Run<Q3>,
+    know: &Know,
+    wants: &Wants,
+    child: usize,
+) -> Result<(), AllocError>
+    requires child { child < length wants.now }
+    requires alone { IsRun N run.now }
+    requires past { EndBefore piece.old run.now.first }
+    ensures values { OnOk result ((t : ℕ) → known_at piece.new t ≡ (if is_in t run.now
+        then said_at (known_at know.now.runs t) (wanted_at (wants_of (runs_of wants.now) child) t) run.now.value
+        else known_at piece.old t)) }
+    ensures past { OnOk result ((t : ℕ) → run.now.last < t → EndBefore piece.new t) }
 {
-    match asked.at(tick) {
-        Q3::C => {
-            if is_bottom(&reply.at(tick)) {
-                Q3::C
-            } else {
-                Q3::N
-            }
-        }
+    if !is_asked(run.value) {
+        return Ok(());
+    }
+    let mut next = run.first;
+    while next <= run.last {
+        let Steady { value, last } = said_from(know, wants, child, next);
+        let end = last.min(run.last);
+        put(piece, next, end, value)?;
+        next = end + 1;
+    }
+    Ok(())
+}
+
+/// What is left of what a child asks and acknowledges of a tick.
+fn left_value(asked: Q3, reply: &K) -> Q3
+    ensures { result ≡ left_at asked (is_Q reply.now) }
+{
+    match asked {
+        Q3::C => { if is_bottom(reply) { Q3::C } else { Q3::N } }
         Q3::A => Q3::A,
         Q3::N => Q3::N,
     }
-}
-
-/// The greatest tick up to which neither what is asked changes, nor, where it is asked, what is told of it.
-fn left_until(asked: &Piece<Q3>, reply: &Piece<K>, tick: u64) -> u64
-    requires { tick ≤ 2 ^ 62 }
-    ensures forward { tick ≤ result }
-    ensures inside { result ≤ 2 ^ 62 }
-    ensures greatest { result < 2 ^ 62 → (wanted_at asked.now (result + 1) ≢ wanted_at asked.now tick)
-        ⊎ (known_at reply.now (result + 1) ≢ known_at reply.now tick) }
-    ensures same { (t : ℕ) → tick ≤ t → t ≤ result →
-        left_by asked.now reply.now t ≡ left_by asked.now reply.now tick }
-{
-    let end = asked.steady_until(tick);
-    if !is_asked(asked, tick) {
-        return end;
-    }
-    end.min(reply.steady_until(tick))
 }
 
 /// What is left of what a child asks and acknowledges, once it is told the reply: what it acknowledges, and what it
@@ -252,15 +261,34 @@ pub(crate) fn left_of(
     ensures { IfOk result (λ piece. RunsGive N piece (left_by asked.now reply.now)) }
 {
     let mut piece = Piece::new(alloc);
-    let mut next = 1;
-    while next <= MAX_TICK {
-        let end = left_until(asked, reply, next);
-        let value = left_value(asked, reply, next);
-        put(&mut piece, next, end, value)?;
-        next = end + 1;
+    for i in 0..asked.len() {
+        put_left(&mut piece, asked.run(i), reply)?;
     }
     // Proof only: the runs are canonical.
     let _ = piece.len();
-    let _ = asked.len();
     Ok(piece)
+}
+
+/// Puts what is left of a run, once a child is told the reply.
+fn put_left(piece: &mut Piece<Q3>, run: &Run<Q3>, reply: &Piece<K>) -> Result<(), AllocError>
+    requires alone { IsRun N run.now }
+    requires past { EndBefore piece.old run.now.first }
+    ensures values { OnOk result ((t : ℕ) → wanted_at piece.new t ≡ (if is_in t run.now
+        then left_at run.now.value (is_Q (known_at reply.now t)) else wanted_at piece.old t)) }
+    ensures past { OnOk result ((t : ℕ) → run.now.last < t → EndBefore piece.new t) }
+{
+    if is_acknowledged(run.value) {
+        put(piece, run.first, run.last, Q3::A)?;
+        return Ok(());
+    }
+    let mut next = run.first;
+    while next <= run.last {
+        let told = reply.steady_at(next);
+        let end = told.last.min(run.last);
+        let value = left_value(run.value, &told.value);
+        drop(told);
+        put(piece, next, end, value)?;
+        next = end + 1;
+    }
+    Ok(())
 }

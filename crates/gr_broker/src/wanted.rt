@@ -1,41 +1,18 @@
 //! What is wanted of the next broker towards the host: sets of ticks.
 
-ghost use Rattle.std.specs.Prelude.{if◌then◌else◌, ◌≡◌, ◌≢◌, ◌⊎◌, ℕ, ◌+◌, ◌^◌, ◌<◌, ◌≤◌, ◌&&◌, IfOk};
-ghost use Rattle.gr_tick.specs.Stored.{within, RunsGive};
+ghost use Rattle.std.specs.Prelude.{if◌then◌else◌, ◌≡◌, ℕ, ◌^◌, ◌<◌, ◌≤◌, ◌&&◌, IfOk, OnOk};
+ghost use Rattle.gr_tick.specs.Runs.{is_in};
+ghost use Rattle.gr_tick.specs.Stored.{within, IsRun, EndBefore, RunsGive};
 ghost use Rattle.gr_know.specs.Values.{known_at, is_Q};
 ghost use Rattle.gr_curio.specs.Values.{wanted_at, is_C};
 ghost use Rattle.gr_curio.specs.Order.{greater_of};
 ghost use Rattle.gr_curio.specs.declared.values.Q3.TheVariants.{N, C};
 
-use crate::walks::is_asked;
+use crate::walks::{is_asked, put};
 use gr_curio::Q3;
-use gr_know::Know;
+use gr_know::{K, Know};
 use gr_tick::{MAX_TICK, Piece, Run, Stream, is_bottom};
 use std::alloc::{AllocError, Global};
-
-/// Whether a tick is asked for and nothing is known of it.
-fn is_unknown(wanted: &Piece<Q3>, know: &Know, tick: u64) -> bool
-    ensures { result ≡ (is_C (wanted_at wanted.now tick) && is_Q (known_at know.now.runs tick)) }
-{
-    is_asked(wanted, tick) && is_bottom(&know.at(tick))
-}
-
-/// The greatest tick up to which neither what is wanted changes, nor, where it is asked for, what is known.
-fn unknown_until(wanted: &Piece<Q3>, know: &Know, tick: u64) -> u64
-    requires { tick ≤ 2 ^ 62 }
-    ensures forward { tick ≤ result }
-    ensures inside { result ≤ 2 ^ 62 }
-    ensures greatest { result < 2 ^ 62 → (wanted_at wanted.now (result + 1) ≢ wanted_at wanted.now tick)
-        ⊎ (known_at know.now.runs (result + 1) ≢ known_at know.now.runs tick) }
-    ensures same { (t : ℕ) → tick ≤ t → t ≤ result → (is_C (wanted_at wanted.now t) && is_Q (known_at know.now.runs t))
-        ≡ (is_C (wanted_at wanted.now tick) && is_Q (known_at know.now.runs tick)) }
-{
-    let end = wanted.steady_until(tick);
-    if is_asked(wanted, tick) {
-        return end.min(know.steady_until(tick));
-    }
-    end
-}
 
 /// Asked at the ticks that a piece asks for and of which nothing is known.
 pub(crate) fn unknown_of(
@@ -47,22 +24,42 @@ pub(crate) fn unknown_of(
         (λ t. if is_C (wanted_at wanted.now t) && is_Q (known_at know.now.runs t) then C else N)) }
 {
     let mut piece = Piece::new(alloc);
-    let mut next = 1;
-    while next <= MAX_TICK {
-        let end = unknown_until(wanted, know, next);
-        if is_unknown(wanted, know, next) {
-            piece.push(Run {
-                first: next,
-                last: end,
-                value: Q3::C,
-            })?;
-        }
-        next = end + 1;
+    for i in 0..wanted.len() {
+        put_unknown(&mut piece, wanted.run(i), know)?;
     }
     // Proof only: the runs are canonical.
     let _ = piece.len();
-    let _ = wanted.len();
     Ok(piece)
+}
+
+/// Puts the ticks of a run of which nothing is known, if it asks for them.
+fn put_unknown(piece: &mut Piece<Q3>, run: &Run<Q3>, know: &Know) -> Result<(), AllocError>
+    requires alone { IsRun N run.now }
+    requires past { EndBefore piece.old run.now.first }
+    ensures values { OnOk result ((t : ℕ) → wanted_at piece.new t ≡ (if is_in t run.now
+        then (if is_C run.now.value && is_Q (known_at know.now.runs t) then C else N) else wanted_at piece.old t)) }
+    ensures past { OnOk result ((t : ℕ) → run.now.last < t → EndBefore piece.new t) }
+{
+    if !is_asked(run.value) {
+        return Ok(());
+    }
+    let mut next = run.first;
+    while next <= run.last {
+        let known = know.steady_at(next);
+        let end = known.last.min(run.last);
+        let value = asked_unknown(&known.value);
+        drop(known);
+        put(piece, next, end, value)?;
+        next = end + 1;
+    }
+    Ok(())
+}
+
+/// Asked where nothing is known.
+fn asked_unknown(known: &K) -> Q3
+    ensures { result ≡ (if is_Q known.now then C else N) }
+{
+    if is_bottom(known) { Q3::C } else { Q3::N }
 }
 
 /// All that a stream says, as a piece.

@@ -56,6 +56,19 @@ returns-in-Err-clause-never_fails g c = λ tells faultless none e.
     (λ here. next_unset t c.args.b c.publishers.p (g.D.Disk.lane_of c.args.disk.now) mid mid (sofar.touches tells) none (omega (arith, c.publishers-test.true, c.publishers-p-end.ensures.count)) here)
     (ap (λ f. Err f) (err_is c.in-Err.fault refused.Disk e))
 
+pub returns-in-Err-push-clause-tally : goal.returns-in-Err-push-clause-tally
+returns-in-Err-push-clause-tally g c =
+    let one = c.in-Ok.ensures.tally.same tt in
+    let sofar = c.publishers.invariant in
+    let faults = one.0 ∙ sofar.faults in
+    let stops = one.1 ∙ sofar.stops in
+    record {
+      faults_never_fall = omega (arith, faults);
+      stops_never_fall = omega (arith, stops);
+      rose = λ e. cc;
+      same = λ _. (faults, stops);
+    }
+
 pub returns-in-Err-push-clause-touches : goal.returns-in-Err-push-clause-touches
 returns-in-Err-push-clause-touches g c = λ tells.
     let t = c.args.topo.now in

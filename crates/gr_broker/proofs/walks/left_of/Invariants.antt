@@ -1,18 +1,16 @@
-use Rattle.std.proofs.Common.{◌≡◌, ℕ, ◌+◌, ◌-◌, ◌^◌, ◌≤◌, cond}
-use Rattle.gr_tick.specs.Runs.{value_at}
-use Rattle.gr_tick.specs.Stored.{EndBefore, between}
-use Rattle.gr_curio.specs.declared.values.Q3.TheVariants.{N}
-use Rattle.gr_broker.specs.Answers.{left_by}
+use Rattle.std.proofs.Common.{◌≡◌, ℕ, ◌≤◌, List, ◌∷◌, length, take, drop}
+use Rattle.gr_tick.specs.declared.run.Run.{Run}
+use Rattle.gr_tick.specs.Stored.{EndBefore}
+use Rattle.gr_curio.specs.declared.values.Q3.{Q3}
+use Rattle.gr_curio.specs.Values.{wanted_at}
+use Rattle.gr_know.specs.Values.{is_Q, known_at}
+use Rattle.gr_broker.specs.Answers.{left_at}
 use Rattle.gr_broker.proofs.walks.left_of.Given as goal
 
--- the piece has what is left before the next tick, and ends before it
-abbrev pub invariant-loop-next : goal.invariant-loop-next
-invariant-loop-next l = record {
-  forward : 1 ≤ l.next;
-  inside : l.next ≤ 2 ^ 62 + 1;
-  values : (t : ℕ) → value_at N l.piece t ≡ cond (between 1 l.next t) (left_by l.asked l.reply t) N;
-  past : EndBefore l.piece l.next;
+-- the piece has what is left of the runs so far, and ends before the next run
+abbrev pub invariant-loop-i : goal.invariant-loop-i
+invariant-loop-i l = record {
+  within : l.i ≤ length l.asked;
+  values : (t : ℕ) → wanted_at l.piece t ≡ left_at (wanted_at (take l.i l.asked) t) (is_Q (known_at l.reply t));
+  past : (s : Run Q3) (rest : List (Run Q3)) → drop l.i l.asked ≡ s ∷ rest → EndBefore l.piece s.first;
 }
-
-abbrev pub decreases-loop-next : goal.decreases-loop-next
-decreases-loop-next l = 2 ^ 62 + 1 - l.next

@@ -1,18 +1,28 @@
-use Rattle.std.proofs.Common.{◌^◌, not, ◌&&◌, cond, arith}
-use Rattle.gr_tick.proofs.Canonical.{value_at-outside}
-use Rattle.gr_tick.proofs.WalkLemmas.{walk_all}
-use Rattle.gr_know.specs.Values.{known_at, is_Q}
+use Rattle.std.proofs.Common.{arith, cond, not, ◌&&◌}
+use Rattle.gr_tick.proofs.EachRun.{each_more, each_all, each_begins, each_next}
 use Rattle.gr_know.specs.declared.values.K.TheVariants.{Q}
-use Rattle.gr_curio.specs.Values.{wanted_at, is_C}
-use Rattle.gr_curio.specs.Wants.{runs_of, wants_of}
 use Rattle.gr_curio.specs.declared.values.Q3.TheVariants.{N, C}
-use Rattle.gr_broker.proofs.Walked.{answered_none}
+use Rattle.gr_curio.specs.Values.{is_C, wanted_at}
+use Rattle.gr_know.specs.Values.{is_Q}
+use Rattle.gr_curio.specs.Wants.{wants_of, runs_of}
 use Rattle.gr_broker.proofs.walks.quenched.Goals as goal
+
+pub put_quenched-requires-clause-past : goal.put_quenched-requires-clause-past
+put_quenched-requires-clause-past c = each_begins c.args.sent.now c.loop-i.quenched c.loop-i.i c.run.result.now (omega arith) c.run.ensures.run c.loop-i.invariant.past
+
+pub loop-i-preserved : goal.loop-i-preserved
+loop-i-preserved c =
+    let xs = c.args.sent.now in
+    record {
+      within = omega arith;
+      values = λ t. each_more Q (λ x. cond (not (is_Q x) && is_C (wanted_at (wants_of (runs_of c.args.wants.now) c.args.child) t)) C N) xs c.loop-i.i t c.run.result.now _ _ c.len-i-end.ensures.canonical c.len-i-end.ensures.in_range (omega arith) c.run.ensures.run
+          (c.loop-i.invariant.values t) (c.in_ok-put_quenched.ensures.values t);
+      past = each_next Q xs _ c.loop-i.i c.run.result.now c.len-i-end.ensures.canonical c.len-i-end.ensures.in_range (omega arith) c.run.ensures.run c.in_ok-put_quenched.ensures.past;
+    }
 
 pub returns : goal.returns
 returns c = record {
   canonical = c.len.ensures.canonical;
   in_range = c.len.ensures.in_range;
-  values = λ t. walk_all c.loop-next.next (2 ^ 62) t (cond (not (is_Q (known_at c.args.sent.now t)) && is_C (wanted_at (wants_of (runs_of c.args.wants.now) c.args.child) t)) C N) N (wanted_at c.loop-next.quenched t) (omega arith) (c.loop-next.invariant.values t)
-      (λ outside. answered_none _ _ (value_at-outside Q c.args.sent.now t c.len-2.ensures.canonical c.len-2.ensures.in_range outside));
+  values = λ t. each_all Q (λ x. cond (not (is_Q x) && is_C (wanted_at (wants_of (runs_of c.args.wants.now) c.args.child) t)) C N) c.args.sent.now c.loop-i.i t _ (omega arith) (c.loop-i.invariant.values t);
 }
