@@ -1,5 +1,6 @@
 //! Joins at both ends in turn: one tick before all runs, then one after them, each a run of its own.
-ghost use Rattle.std.specs.Prelude.{◌≤◌, ◌^◌};
+ghost use Rattle.std.specs.Prelude.{◌≤◌};
+ghost use Rattle.gr_tick.specs.declared.TheConstants.{MAX_TICK};
 
 use gr_curio::Q3;
 use gr_tick::Stream;
@@ -15,7 +16,7 @@ const MOST_JOINS: u64 = 10_000_000;
 /// Joins one tick.
 fn join_at(stream: &mut Stream<Q3>, tick: u64) -> io::Result<()>
     requires from_one { 1 ≤ tick }
-    requires upto { tick ≤ 2 ^ 62 }
+    requires upto { tick ≤ MAX_TICK }
 {
     let Some(room) = stream.runs_in(tick, tick).checked_add(1) else {
         return Err(io::Error::from(io::ErrorKind::OutOfMemory));

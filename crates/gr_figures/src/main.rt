@@ -7,6 +7,7 @@
 mod appends;
 mod hosts;
 mod joins;
+mod learns;
 mod matches;
 mod publishes;
 mod receives;
@@ -21,6 +22,7 @@ fn measure(alloc: Global, figure: &str, size: u64) -> io::Result<u64> {
     match figure {
         "appends" => appends::appends(alloc, size),
         "joins" => joins::joins(alloc, size),
+        "learns" => learns::learns(alloc, size),
         "matches" => matches::matches(alloc, size),
         "publishes" => publishes::publishes(alloc, size),
         _ => Err(io::Error::from(io::ErrorKind::InvalidInput)),

@@ -1,6 +1,7 @@
 //! A broker of the topology that has P at one broker and S, who wants all, at the other, with its disk.
 
-ghost use Rattle.std.specs.Prelude.{◌≤◌, ◌^◌};
+ghost use Rattle.std.specs.Prelude.{◌≤◌};
+ghost use Rattle.gr_tick.specs.declared.TheConstants.{MAX_TICK};
 
 use gr_broker::{Broker, BrokerFault, Outcome, Received};
 use gr_event::Event;
@@ -66,7 +67,7 @@ fn failure(fault: BrokerFault) -> io::Error {
 impl Station {
     /// Publishes an event of P.
     fn publish(&mut self, number: u64, event: &Event, now: u64) -> Result<Outcome, BrokerFault>
-        requires { now ≤ 2 ^ 62 }
+        requires { now ≤ MAX_TICK }
     {
         if self.topo.publishers() == 0 || self.topo.host(0) != self.number {
             return Err(BrokerFault::Memory);
@@ -83,7 +84,7 @@ impl Station {
 
 /// Publishes an event of P, and answers how many frames that sends.
 pub fn publish(host: &mut Station, number: u64, event: &Event, now: u64) -> io::Result<usize>
-    requires { now ≤ 2 ^ 62 }
+    requires { now ≤ MAX_TICK }
 {
     match host.publish(number, event, now) {
         Ok(outcome) => Ok(outcome.frames.len()),
