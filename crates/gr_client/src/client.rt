@@ -62,6 +62,7 @@ impl Client {
     pub fn offer(&self) -> Result<Option<Note>, Memory>
         ensures offers { result ≡ Ok (offered self.now) }
         ensures among { IsAmong (length self.now.events) self.now.progress }
+        ensures few { length self.now.events ≤ 2 ^ 62 }
     {
         match self.progress {
             Progress::Running { next } => {
@@ -88,6 +89,21 @@ impl Client {
             self.progress,
             note,
         );
+    }
+
+    /// Whose events it has.
+    pub(crate) fn publisher(&self) -> u16
+        ensures { result ≡ self.now.publisher }
+    {
+        self.publisher
+    }
+
+    /// How many events it has, at most 2^62.
+    pub(crate) fn count(&self) -> u64
+        ensures count { result ≡ length self.now.events }
+        ensures few { length self.now.events ≤ 2 ^ 62 }
+    {
+        self.events.len() as u64
     }
 
     /// How far it is. Takes no memory.

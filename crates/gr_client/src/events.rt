@@ -1,8 +1,10 @@
 //! The events of a client.
 
-ghost use Rattle.std.specs.Prelude.{◌≡◌, ◌<◌, ◌++◌, ◌∷◌, [], length, slice_get, Some, OnOk, OnErr};
+ghost use Rattle.std.specs.Prelude.{◌≡◌, ◌<◌, ◌++◌, ◌∷◌, [], length, slice_get, Some, IfOk, OnOk, OnErr};
+ghost use Rattle.gr_client.specs.Run.{events_in, events_of};
 
 use gr_event::{Event, Memory};
+use gr_sched::{Line, Step};
 use std::alloc::Global;
 use std::marker::Model;
 
@@ -54,4 +56,34 @@ impl Events {
     {
         &self.events[i]
     }
+}
+
+/// Takes the event of a line, where it is a publish of this publisher. Its written number is left aside.
+fn take_line(events: &mut Events, line: &Line, p: u16) -> Result<(), Memory>
+    ensures { OnOk result (events.new ≡ events.old ++ events_in p line.now) }
+{
+    match &line.step {
+        Step::Publish {
+            publisher,
+            event,
+            ..
+        } => {
+            if *publisher == p {
+                return events.push(event.share());
+            }
+            Ok(())
+        }
+        _ => Ok(()),
+    }
+}
+
+/// The events of a publisher's publish lines, in order. They are shared with the lines.
+pub(crate) fn events_of(alloc: Global, steps: &[Line], p: u16) -> Result<Events, Memory>
+    ensures { IfOk result (λ events. events ≡ events_of p steps.now) }
+{
+    let mut events = Events::new(alloc);
+    'lines: for line in steps {
+        take_line(&mut events, line, p)?;
+    }
+    Ok(events)
 }

@@ -1,3 +1,5 @@
+mod runs;
+
 use crate::{Client, Events, Note, Progress};
 use gr_event::Event;
 use std::alloc::Global;

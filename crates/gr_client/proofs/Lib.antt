@@ -1,0 +1,11 @@
+pub mod Begun
+pub mod Bound
+pub mod Heard
+pub mod LastLine
+pub mod Offers
+pub mod OneTurn
+pub mod SoFar
+pub mod Taken
+pub mod ToldLines
+pub mod WholeRun
+pub mod Ways
