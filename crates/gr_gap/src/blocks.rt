@@ -3,6 +3,7 @@
 ghost use Rattle.std.specs.Prelude.{◌≡◌, ℕ, ◌+◌, ◌*◌, ◌^◌, ◌<◌, ◌≤◌, [], ◌++◌, length, insert, remove, slice_index_or, slice_set, OnOk, OnErr, min};
 ghost use Rattle.std_alloc.specs.VecDeque.{deque_len, deque_capacity};
 ghost use Rattle.gr_gap.specs.Blocks.{values_of, Lacks};
+ghost use Rattle.gr_gap.specs.declared.blocks.TheConstants.{BLOCK};
 
 use std::alloc::{AllocError, Global};
 use std::collections::VecDeque;
@@ -10,7 +11,7 @@ use std::marker::Model;
 use std::mem;
 
 /// How many places a block has.
-pub(crate) const BLOCK: usize = 512;
+pub(crate) const BLOCK: usize = 4096;
 
 #[derive(Drop)]
 pub struct Blocks<T> {
@@ -22,12 +23,13 @@ impl<T> Model for Blocks<T> {
     ghost use Rattle.std.specs.Prelude.{◌≡◌, ◌*◌, ◌^◌, ◌<◌, length};
     ghost use Rattle.gr_gap.specs.Row.{Row};
     ghost use Rattle.gr_gap.specs.Blocks.{values_of, Packed};
+    ghost use Rattle.gr_gap.specs.declared.blocks.TheConstants.{BLOCK};
 
     ghost Value = { Row T };
 
     ghost view = { λ b. record { items = values_of b.blocks.items; blocks = length b.blocks.items } };
 
-    ghost invariant = { λ b. Packed 512 b.len b.blocks.items × (length b.blocks.items * 512 < 2 ^ 63) };
+    ghost invariant = { λ b. Packed BLOCK b.len b.blocks.items × (length b.blocks.items * BLOCK < 2 ^ 63) };
 }
 
 impl<T> Blocks<T> {
@@ -49,7 +51,7 @@ impl<T> Blocks<T> {
 
     // How many values fit in all.
     pub(crate) fn room(&self) -> usize
-        ensures room { result ≡ self.now.blocks * 512 }
+        ensures room { result ≡ self.now.blocks * BLOCK }
         ensures within { length self.now.items ≤ result }
     {
         self.blocks.len() * BLOCK
@@ -73,7 +75,7 @@ impl<T> Blocks<T> {
 
     pub(crate) fn insert(&mut self, i: usize, value: T)
         requires within { i ≤ length self.old.items }
-        requires room { length self.old.items < self.old.blocks * 512 }
+        requires room { length self.old.items < self.old.blocks * BLOCK }
         ensures items { self.new.items ≡ insert self.old.items i value }
         ensures blocks { self.new.blocks ≡ self.old.blocks }
     {
@@ -106,7 +108,7 @@ impl<T> Blocks<T> {
 
     // One more block, behind all. Where memory is refused, all stays as it was.
     pub(crate) fn widen(&mut self, alloc: Global) -> Result<(), AllocError>
-        requires { (self.old.blocks + 1) * 512 < 2 ^ 63 }
+        requires { (self.old.blocks + 1) * BLOCK < 2 ^ 63 }
         ensures items { self.new.items ≡ self.old.items }
         ensures ok { OnOk result (self.new.blocks ≡ self.old.blocks + 1) }
         ensures err { OnErr result (self.new ≡ self.old) }
@@ -119,10 +121,10 @@ impl<T> Blocks<T> {
 
     // Exchanges the first block for an empty one of as many places, which then stands behind all.
     pub(crate) fn take_first(&mut self, head: &mut VecDeque<T>)
-        requires { (0 < self.old.blocks) × (head.old.items ≡ []) × (512 ≤ deque_capacity head.old) }
+        requires { (0 < self.old.blocks) × (head.old.items ≡ []) × (BLOCK ≤ deque_capacity head.old) }
         ensures items { head.new.items ++ self.new.items ≡ self.old.items }
-        ensures count { length head.new.items ≡ min 512 (length self.old.items) }
-        ensures capacity { 512 ≤ deque_capacity head.new }
+        ensures count { length head.new.items ≡ min BLOCK (length self.old.items) }
+        ensures capacity { BLOCK ≤ deque_capacity head.new }
         ensures blocks { self.new.blocks ≡ self.old.blocks }
     {
         let Some(first) = self.blocks.pop_front() else {
@@ -134,10 +136,10 @@ impl<T> Blocks<T> {
 
     // Exchanges the last block, which is empty, for a full one, which then stands before all.
     pub(crate) fn put_first(&mut self, head: &mut VecDeque<T>)
-        requires room { length self.old.items + 512 ≤ self.old.blocks * 512 }
-        requires full { (length head.old.items ≡ 512) × (512 ≤ deque_capacity head.old) }
+        requires room { length self.old.items + BLOCK ≤ self.old.blocks * BLOCK }
+        requires full { (length head.old.items ≡ BLOCK) × (BLOCK ≤ deque_capacity head.old) }
         ensures items { self.new.items ≡ head.old.items ++ self.old.items }
-        ensures empty { (head.new.items ≡ []) × (512 ≤ deque_capacity head.new) }
+        ensures empty { (head.new.items ≡ []) × (BLOCK ≤ deque_capacity head.new) }
         ensures blocks { self.new.blocks ≡ self.old.blocks }
     {
         let Some(last) = self.blocks.pop_back() else {
@@ -156,6 +158,10 @@ pub(crate) fn put<T>(block: &mut VecDeque<T>, i: usize, value: T)
     ensures len { deque_len block.new ≡ deque_len block.old + 1 }
     ensures capacity { deque_capacity block.old ≤ deque_capacity block.new }
 {
+    if i == block.len() {
+        block.push_back_reserved(value);
+        return;
+    }
     match block.insert(i, value) {
         Ok(()) => {}
         // There is room, so this is never met. The value has to go somewhere.
@@ -165,9 +171,9 @@ pub(crate) fn put<T>(block: &mut VecDeque<T>, i: usize, value: T)
 
 // The last value of the block becomes the first of the next.
 fn pass_on<T>(blocks: &mut VecDeque<VecDeque<T>>, block: usize)
-    requires { (n : ℕ) × Lacks 512 n (block + 1) blocks.old.items }
+    requires { (n : ℕ) × Lacks BLOCK n (block + 1) blocks.old.items }
     ensures values { values_of blocks.new.items ≡ values_of blocks.old.items }
-    ensures lacks { (n : ℕ) → Lacks 512 n (block + 1) blocks.old.items → Lacks 512 n block blocks.new.items }
+    ensures lacks { (n : ℕ) → Lacks BLOCK n (block + 1) blocks.old.items → Lacks BLOCK n block blocks.new.items }
     ensures len { deque_len blocks.new ≡ deque_len blocks.old }
 {
     let Some(value) = blocks[block].pop_back() else {
@@ -178,9 +184,9 @@ fn pass_on<T>(blocks: &mut VecDeque<VecDeque<T>>, block: usize)
 
 // The first value of the next block becomes the last of the block.
 fn pass_back<T>(blocks: &mut VecDeque<VecDeque<T>>, block: usize)
-    requires { (n : ℕ) × (Lacks 512 n block blocks.old.items × ((block + 1) * 512 < n)) }
+    requires { (n : ℕ) × (Lacks BLOCK n block blocks.old.items × ((block + 1) * BLOCK < n)) }
     ensures values { values_of blocks.new.items ≡ values_of blocks.old.items }
-    ensures lacks { (n : ℕ) → Lacks 512 n block blocks.old.items → Lacks 512 n (block + 1) blocks.new.items }
+    ensures lacks { (n : ℕ) → Lacks BLOCK n block blocks.old.items → Lacks BLOCK n (block + 1) blocks.new.items }
     ensures len { deque_len blocks.new ≡ deque_len blocks.old }
 {
     let Some(value) = blocks[block + 1].pop_front() else {

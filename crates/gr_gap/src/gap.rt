@@ -1,5 +1,6 @@
 // A list in blocks: an edit moves values in one block, and one for each block behind it.
 ghost use Rattle.std.specs.Prelude.{◌≡◌, ◌+◌, ◌*◌, ◌^◌, ◌<◌, ◌≤◌, [], ◌∷◌, length, insert, remove, slice_index_or, slice_set, OnOk, OnErr, IsOk, max};
+ghost use Rattle.gr_gap.specs.declared.blocks.TheConstants.{BLOCK};
 
 use crate::Memory;
 use crate::blocks::{BLOCK, Blocks, put};
@@ -32,6 +33,7 @@ impl<T> Model for Gap<T> {
     ghost use Rattle.std.specs.Prelude.{◌≡◌, ◌+◌, ◌-◌, ◌*◌, ◌^◌, ◌<◌, ◌≤◌, ◌++◌, length, min, max};
     ghost use Rattle.std_alloc.specs.VecDeque.{deque_capacity};
     ghost use Rattle.gr_gap.specs.Contents.{Contents};
+    ghost use Rattle.gr_gap.specs.declared.blocks.TheConstants.{BLOCK};
 
     ghost Value = { Contents T };
 
@@ -41,8 +43,8 @@ impl<T> Model for Gap<T> {
     ghost invariant = { λ g.
         (length g.head.items ≡ min g.width (length g.head.items + length g.rest.items))
         × (length g.head.items + length g.rest.items ≤ g.room)
-        × (0 < g.width) × (g.width ≤ 512) × (512 < max (g.width + 1) g.room)
-        × (min g.room 512 ≤ deque_capacity g.head) × (g.room ≤ max 512 (g.rest.blocks * 512))
+        × (0 < g.width) × (g.width ≤ BLOCK) × (BLOCK < max (g.width + 1) g.room)
+        × (min g.room BLOCK ≤ deque_capacity g.head) × (g.room ≤ max BLOCK (g.rest.blocks * BLOCK))
         × (g.room < 2 ^ 62) };
 }
 
@@ -249,7 +251,7 @@ fn add_blocks<T>(rest: &mut Blocks<T>, room: usize, alloc: Global) -> Result<(),
     requires { room ≤ 2 ^ 61 }
     ensures items { rest.new.items ≡ rest.old.items }
     ensures more { rest.old.blocks ≤ rest.new.blocks }
-    ensures ok { OnOk result (room ≤ max 512 (rest.new.blocks * 512)) }
+    ensures ok { OnOk result (room ≤ max BLOCK (rest.new.blocks * BLOCK)) }
 {
     while BLOCK < room && rest.room() < room {
         rest.widen(alloc)?;

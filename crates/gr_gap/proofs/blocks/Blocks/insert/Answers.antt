@@ -13,12 +13,12 @@ loop-free-init g c =
     let blocks : length s.blocks.items ≡ c.args.self.now.blocks = ap (λ v. v.blocks) c.self.view_is in
     let count : s.len ≡ length c.args.self.now.items =
     sym (counted s.len s.blocks.items c.self.invariant.0) ∙ ap length values in
-    let there : s.len / 512 < length s.blocks.items = omega (arith, blocks, count, c.requires.room) in
+    let there : s.len / 4096 < length s.blocks.items = omega (arith, blocks, count, c.requires.room) in
     record {
       values = values;
       blocks = blocks;
       count = count;
-      lacks = lacks_one (s.len / 512) s.len s.blocks.items c.self.invariant.0 (omega arith) (omega arith) there;
+      lacks = lacks_one (s.len / 4096) s.len s.blocks.items c.self.invariant.0 (omega arith) (omega arith) there;
       after = omega (arith, count, c.requires.within);
       within = omega arith;
     }
@@ -27,7 +27,7 @@ pub pass_on-requires : goal.pass_on-requires
 pass_on-requires g c =
     let s = c.loop-free.self-inside in let k = c.loop-free.free in
     let same : k ≡ k - 1 + 1 = omega (arith, c.loop-free-test.true) in
-    (s.len + 1, subst (λ j. Lacks 512 (s.len + 1) j s.blocks.items) same c.loop-free.invariant.lacks)
+    (s.len + 1, subst (λ j. Lacks 4096 (s.len + 1) j s.blocks.items) same c.loop-free.invariant.lacks)
 
 pub loop-free-smaller : goal.loop-free-smaller
 loop-free-smaller g c = omega (arith, c.loop-free-test.true)
@@ -39,7 +39,7 @@ loop-free-preserved g c =
     let same : k ≡ k - 1 + 1 = omega (arith, c.loop-free-test.true) in
     let long : length new.items ≡ length s.blocks.items =
     omega (arith, c.pass_on.ensures.len, s.blocks.ok.0, new.ok.0) in
-    let lacks = subst (λ j. Lacks 512 (s.len + 1) j s.blocks.items) same so.lacks in
+    let lacks = subst (λ j. Lacks 4096 (s.len + 1) j s.blocks.items) same so.lacks in
     record {
       values = c.pass_on.ensures.values ∙ so.values;
       blocks = long ∙ so.blocks;
@@ -59,8 +59,8 @@ pub put-requires-clause-within : goal.put-requires-clause-within
 put-requires-clause-within g c =
     let s = c.loop-free.self-inside in let k = c.loop-free.free in let i = c.args.i in let so = c.loop-free.invariant in
     let b = c.index_mut.result.now in
-    let at : i ≡ k * 512 + i % 512 = omega (arith, so.after, c.loop-free-test.false) in
-    let there = place_free k (i % 512) i s.len s.blocks.items b so.lacks c.index_mut.ensures.value (omega arith) at
+    let at : i ≡ k * 4096 + i % 4096 = omega (arith, so.after, c.loop-free-test.false) in
+    let there = place_free k (i % 4096) i s.len s.blocks.items b so.lacks c.index_mut.ensures.value (omega arith) at
     (omega (arith, so.count, c.requires.within)) in
     omega (arith, there.0, b.ok.0)
 
@@ -68,8 +68,8 @@ pub put-requires-clause-room : goal.put-requires-clause-room
 put-requires-clause-room g c =
     let s = c.loop-free.self-inside in let k = c.loop-free.free in let i = c.args.i in let so = c.loop-free.invariant in
     let b = c.index_mut.result.now in
-    let at : i ≡ k * 512 + i % 512 = omega (arith, so.after, c.loop-free-test.false) in
-    let there = place_free k (i % 512) i s.len s.blocks.items b so.lacks c.index_mut.ensures.value (omega arith) at
+    let at : i ≡ k * 4096 + i % 4096 = omega (arith, so.after, c.loop-free-test.false) in
+    let there = place_free k (i % 4096) i s.len s.blocks.items b so.lacks c.index_mut.ensures.value (omega arith) at
     (omega (arith, so.count, c.requires.within)) in
     omega (arith, there.1.0, b.ok.0)
 
@@ -82,8 +82,8 @@ pub invariant_of-self : goal.invariant_of-self
 invariant_of-self g c =
     let s = c.loop-free.self-inside in let k = c.loop-free.free in let i = c.args.i in let so = c.loop-free.invariant in
     let b = c.index_mut.result.now in let new = c.put.new.block in
-    let at : i ≡ k * 512 + i % 512 = omega (arith, so.after, c.loop-free-test.false) in
-    let there = place_free k (i % 512) i s.len s.blocks.items b so.lacks c.index_mut.ensures.value (omega arith) at
+    let at : i ≡ k * 4096 + i % 4096 = omega (arith, so.after, c.loop-free-test.false) in
+    let there = place_free k (i % 4096) i s.len s.blocks.items b so.lacks c.index_mut.ensures.value (omega arith) at
     (omega (arith, so.count, c.requires.within)) in
     let same : length b.items ≡ length (get_or s.blocks.items k b).items =
     ap (λ q. length q.items) c.index_mut.ensures.value in
@@ -98,14 +98,14 @@ pub returns-clause-items : goal.returns-clause-items
 returns-clause-items g c =
     let s = c.loop-free.self-inside in let k = c.loop-free.free in let i = c.args.i in let so = c.loop-free.invariant in
     let b = c.index_mut.result.now in
-    let at : i ≡ k * 512 + i % 512 = omega (arith, so.after, c.loop-free-test.false) in
-    let there = place_free k (i % 512) i s.len s.blocks.items b so.lacks c.index_mut.ensures.value (omega arith) at
+    let at : i ≡ k * 4096 + i % 4096 = omega (arith, so.after, c.loop-free-test.false) in
+    let there = place_free k (i % 4096) i s.len s.blocks.items b so.lacks c.index_mut.ensures.value (omega arith) at
     (omega (arith, so.count, c.requires.within)) in
     let same : length b.items ≡ length (get_or s.blocks.items k b).items =
     ap (λ q. length q.items) c.index_mut.ensures.value in
-    put_in k (i % 512) i (s.len + 1) s.blocks.items b c.put.new.block c.args.value so.lacks (omega (arith, so.within))
+    put_in k (i % 4096) i (s.len + 1) s.blocks.items b c.put.new.block c.args.value so.lacks (omega (arith, so.within))
     (omega (arith, there.0, same)) at
-    (c.put.ensures.items ∙ ap (λ q. insert q.items (i % 512) c.args.value) c.index_mut.ensures.value)
+    (c.put.ensures.items ∙ ap (λ q. insert q.items (i % 4096) c.args.value) c.index_mut.ensures.value)
     ∙ ap (λ l. insert l i c.args.value) so.values
 
 pub returns-clause-blocks : goal.returns-clause-blocks

@@ -8,9 +8,9 @@ invariant-loop-free g l = record {
   values : values_of l.self-inside.blocks.items ≡ l.fn.self.items;
   blocks : length l.self-inside.blocks.items ≡ l.fn.self.blocks;
   count : l.self-inside.len ≡ length l.fn.self.items;
-  lacks : Lacks 512 (l.self-inside.len + 1) l.free l.self-inside.blocks.items;
-  after : l.i / 512 ≤ l.free;
-  within : l.free * 512 ≤ l.self-inside.len;
+  lacks : Lacks 4096 (l.self-inside.len + 1) l.free l.self-inside.blocks.items;
+  after : l.i / 4096 ≤ l.free;
+  within : l.free * 4096 ≤ l.self-inside.len;
 }
 
 abbrev pub decreases-loop-free : goal.decreases-loop-free

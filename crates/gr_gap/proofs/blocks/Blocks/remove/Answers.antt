@@ -1,4 +1,4 @@
--- The block i / 512 has the value and lacks one then. The lack moves on to the last block that has a value.
+-- The block i / 4096 has the value and lacks one then. The lack moves on to the last block that has a value.
 use Rattle.std.proofs.Common.{ap, length, sym, subst, ◌≡◌, ◌<◌, ◌≤◌, ◌∙◌, ◌+◌, ◌-◌, ◌*◌, ◌/◌, ◌%◌, arith, get_or, set, length-set, remove}
 use Rattle.gr_gap.specs.Blocks.{values_of, Lacks}
 use Rattle.gr_gap.proofs.Packing.{counted, fits, block_of, value_at}
@@ -9,16 +9,16 @@ pub index_mut-requires : goal.index_mut-requires
 index_mut-requires g c =
     let s = c.self.inside in
     let seen : length c.args.self.now.items ≡ s.len = ap (λ v. length v.items) (sym c.self.view_is) ∙ counted s.len s.blocks.items c.self.invariant.0 in
-    let within : s.len ≤ length s.blocks.items * 512 = fits s.len s.blocks.items c.self.invariant.0 in
+    let within : s.len ≤ length s.blocks.items * 4096 = fits s.len s.blocks.items c.self.invariant.0 in
     omega (arith, seen, within, c.requires, s.blocks.ok.0)
 
 pub unreachable-requires : goal.unreachable-requires
 unreachable-requires g c =
     let s = c.self.inside in let i = c.args.i in let b = c.index_mut.result.now in
     let seen : length c.args.self.now.items ≡ s.len = ap (λ v. length v.items) (sym c.self.view_is) ∙ counted s.len s.blocks.items c.self.invariant.0 in
-    let there = block_of (i / 512) (i % 512) s.len s.blocks.items b c.self.invariant.0 (omega arith) (omega (arith, seen, c.requires)) in
-    let same : length b.items ≡ length (get_or s.blocks.items (i / 512) b).items = ap (λ q. length q.items) c.index_mut.ensures.value in
-    let near : i % 512 < b.len = omega (arith, there.1, same, b.ok.0) in
+    let there = block_of (i / 4096) (i % 4096) s.len s.blocks.items b c.self.invariant.0 (omega arith) (omega (arith, seen, c.requires)) in
+    let same : length b.items ≡ length (get_or s.blocks.items (i / 4096) b).items = ap (λ q. length q.items) c.index_mut.ensures.value in
+    let near : i % 4096 < b.len = omega (arith, there.1, same, b.ok.0) in
     cc (c.in_default.ensures.variant.1 near)
 
 pub overflow_sub-self : goal.overflow_sub-self
@@ -31,18 +31,18 @@ pub loop-free-init : goal.loop-free-init
 loop-free-init g c =
     let s = c.self.inside in let i = c.args.i in let a = c.index_mut.result.now in let b = c.remove.new.self in
     let seen : length c.args.self.now.items ≡ s.len = ap (λ v. length v.items) (sym c.self.view_is) ∙ counted s.len s.blocks.items c.self.invariant.0 in
-    let there = block_of (i / 512) (i % 512) s.len s.blocks.items a c.self.invariant.0 (omega arith) (omega (arith, seen, c.requires)) in
-    let long : length a.items ≡ length (get_or s.blocks.items (i / 512) a).items = ap (λ q. length q.items) c.index_mut.ensures.value in
-    let room : b.cap ≡ (get_or s.blocks.items (i / 512) a).cap = c.remove.ensures.capacity ∙ ap (λ q. q.cap) c.index_mut.ensures.value in
+    let there = block_of (i / 4096) (i % 4096) s.len s.blocks.items a c.self.invariant.0 (omega arith) (omega (arith, seen, c.requires)) in
+    let long : length a.items ≡ length (get_or s.blocks.items (i / 4096) a).items = ap (λ q. length q.items) c.index_mut.ensures.value in
+    let room : b.cap ≡ (get_or s.blocks.items (i / 4096) a).cap = c.remove.ensures.capacity ∙ ap (λ q. q.cap) c.index_mut.ensures.value in
     let counts : s.len ≡ (s.len - 1) + 1 = omega (arith, seen, c.requires) in
-    let left : b.items ≡ remove (get_or s.blocks.items (i / 512) a).items (i % 512) = c.in-Some.ensures.items ∙ ap (λ q. remove q.items (i % 512)) c.index_mut.ensures.value in
-    let gone : values_of (set s.blocks.items (i / 512) b) ≡ remove (values_of s.blocks.items) i =
-    taken_out (i / 512) (i % 512) i s.len s.blocks.items a b c.self.invariant.0 (omega arith) (omega arith) (omega (arith, seen, c.requires)) left in
+    let left : b.items ≡ remove (get_or s.blocks.items (i / 4096) a).items (i % 4096) = c.in-Some.ensures.items ∙ ap (λ q. remove q.items (i % 4096)) c.index_mut.ensures.value in
+    let gone : values_of (set s.blocks.items (i / 4096) b) ≡ remove (values_of s.blocks.items) i =
+    taken_out (i / 4096) (i % 4096) i s.len s.blocks.items a b c.self.invariant.0 (omega arith) (omega arith) (omega (arith, seen, c.requires)) left in
     record {
-      lacks = subst (λ n. Lacks 512 n (i / 512) (set s.blocks.items (i / 512) b)) counts
-          (emptied (i / 512) s.len s.blocks.items a b c.self.invariant.0 there.0 (omega (arith, c.in-Some.ensures.len, a.ok.0, b.ok.0, long)) room);
+      lacks = subst (λ n. Lacks 4096 n (i / 4096) (set s.blocks.items (i / 4096) b)) counts
+          (emptied (i / 4096) s.len s.blocks.items a b c.self.invariant.0 there.0 (omega (arith, c.in-Some.ensures.len, a.ok.0, b.ok.0, long)) room);
       items = gone ∙ ap (λ v. remove v.items i) c.self.view_is;
-      blocks = length-set s.blocks.items (i / 512) b ∙ ap (λ v. v.blocks) c.self.view_is;
+      blocks = length-set s.blocks.items (i / 4096) b ∙ ap (λ v. v.blocks) c.self.view_is;
     }
 
 pub invariant_of-self : goal.invariant_of-self
@@ -78,8 +78,8 @@ pub returns-clause-value : goal.returns-clause-value
 returns-clause-value g c =
     let s = c.self.inside in let i = c.args.i in let b = c.index_mut.result.now in let x = c.in-Some.value in
     let seen : length c.args.self.now.items ≡ s.len = ap (λ v. length v.items) (sym c.self.view_is) ∙ counted s.len s.blocks.items c.self.invariant.0 in
-    c.in-Some.ensures.value ∙ ap (λ q. get_or q.items (i % 512) x) c.index_mut.ensures.value
-    ∙ sym (value_at (i / 512) (i % 512) i s.len s.blocks.items b x c.self.invariant.0 (omega arith) (omega arith) (omega (arith, seen, c.requires)))
+    c.in-Some.ensures.value ∙ ap (λ q. get_or q.items (i % 4096) x) c.index_mut.ensures.value
+    ∙ sym (value_at (i / 4096) (i % 4096) i s.len s.blocks.items b x c.self.invariant.0 (omega arith) (omega arith) (omega (arith, seen, c.requires)))
     ∙ ap (λ v. get_or v.items i x) c.self.view_is
 
 pub returns-clause-items : goal.returns-clause-items

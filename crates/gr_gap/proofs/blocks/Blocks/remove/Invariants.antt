@@ -5,7 +5,7 @@ use Rattle.gr_gap.proofs.blocks.Blocks.remove.Given as goal
 
 abbrev pub invariant-loop-free : goal.invariant-loop-free
 invariant-loop-free g l = record {
-  lacks : Lacks 512 (l.self-inside.len + 1) l.free l.self-inside.blocks.items;
+  lacks : Lacks 4096 (l.self-inside.len + 1) l.free l.self-inside.blocks.items;
   items : values_of l.self-inside.blocks.items ≡ remove l.fn.self.items l.fn.i;
   blocks : length l.self-inside.blocks.items ≡ l.fn.self.blocks;
 }

@@ -14,7 +14,7 @@ invariant_of-self-2 g c =
     let seen : length s.blocks.items ≡ c.args.self.now.blocks = ap (λ v. v.blocks) c.self.view_is in
     let long : length new ≡ length s.blocks.items + 1 = ap length more ∙ length_push s.blocks.items e in
     let packed = packed_more s.len s.blocks.items e c.self.invariant.0 made.items made.capacity in
-    (subst (λ bs. Packed 512 s.len bs) (sym more) packed, omega (arith, long, seen, c.requires))
+    (subst (λ bs. Packed 4096 s.len bs) (sym more) packed, omega (arith, long, seen, c.requires))
 
 pub returns-clause-items : goal.returns-clause-items
 returns-clause-items g c =
