@@ -1,8 +1,11 @@
 //! Edits of a list of runs. None takes memory: where one may leave more runs, it asks for the spare room.
-ghost use Rattle.std.specs.Prelude.{if◌then◌else◌, MatchOption, IfOk, ◌≡◌, ◌≢◌, ℕ, ◌+◌, ◌-◌, ◌<◌, ◌≤◌, ◌&&◌, nat_le, cond, List, [], ◌∷◌, ◌++◌, length, take, drop, insert, ◌^◌, ◌⊎◌};
+ghost use Rattle.std.specs.Prelude.{if◌then◌else◌, MatchOption, IfOk, ◌≡◌, ◌≢◌, ℕ, ◌+◌, ◌-◌, ◌<◌, ◌≤◌, ◌&&◌, nat_le};
+ghost use Rattle.std.specs.Prelude.{cond, List, [], ◌∷◌, ◌++◌, length, take, drop, insert, ◌^◌, ◌⊎◌};
 ghost use Rattle.std.specs.List.{HoldsAt};
+ghost use Rattle.gr_tick.specs.declared.TheConstants.{MAX_TICK};
 ghost use Rattle.gr_tick.specs.Runs.{value_at, is_in};
-ghost use Rattle.gr_tick.specs.Stored.{IsRun, AreTickRuns, EndBefore, BeginBy, BeginAfter, part, room, growth, within, between, runs_in, is_told, needed, StaysUntil};
+ghost use Rattle.gr_tick.specs.Stored.{IsRun, AreTickRuns, EndBefore, BeginBy, BeginAfter, part, room, growth, within};
+ghost use Rattle.gr_tick.specs.Stored.{between, runs_in, is_told, needed, StaysUntil};
 
 use crate::MAX_TICK;
 use crate::lattice::{Lattice, is_bottom};
@@ -65,16 +68,21 @@ fn insert_part<V: Lattice>(
     i + 1
 }
 
-/// Where the runs that end at a tick or later begin, found by halves.
-fn bisect<V: Lattice>(runs: &Gap<Run<V>>, tick: u64) -> usize
-    requires { AreTickRuns V.least runs.now.items }
+/// Where the runs that end at a tick or later begin, found by halves between two places: those before the one end before
+/// the tick, and the one at the other does not.
+fn bisect<V: Lattice>(runs: &Gap<Run<V>>, tick: u64, from: usize, upto: usize) -> usize
+    requires runs { AreTickRuns V.least runs.now.items }
+    requires ordered { from ≤ upto }
+    requires within { upto ≤ length runs.now.items }
+    requires front { EndBefore (take from runs.now.items) tick }
+    requires here { (r : Run V) (rs : List (Run V)) → drop upto runs.now.items ≡ r ∷ rs → tick ≤ r.last }
     ensures within { result ≤ length runs.now.items }
     ensures front { EndBefore (take result runs.now.items) tick }
     ensures here { (r : Run V) (rs : List (Run V)) → drop result runs.now.items ≡ r ∷ rs → tick ≤ r.last }
 {
     // Each turn halves what is left between the two.
-    let mut low = 0;
-    let mut high = runs.len();
+    let mut low = from;
+    let mut high = upto;
     while low < high {
         let middle = low + (high - low) / 2;
         let run = runs.get(middle);
@@ -87,7 +95,31 @@ fn bisect<V: Lattice>(runs: &Gap<Run<V>>, tick: u64) -> usize
     low
 }
 
-/// Where the runs that end at a tick or later begin. The two ends are looked at first.
+/// Where the runs that end at a tick or later begin, where the one at a place does. It is looked for from there on towards
+/// the first, each step twice as long as the one before: what is near is found at once.
+fn gallop<V: Lattice>(runs: &Gap<Run<V>>, tick: u64, last: usize) -> usize
+    requires runs { AreTickRuns V.least runs.now.items }
+    requires within { last ≤ length runs.now.items }
+    requires here { (r : Run V) (rs : List (Run V)) → drop last runs.now.items ≡ r ∷ rs → tick ≤ r.last }
+    ensures within { result ≤ length runs.now.items }
+    ensures front { EndBefore (take result runs.now.items) tick }
+    ensures here { (r : Run V) (rs : List (Run V)) → drop result runs.now.items ≡ r ∷ rs → tick ≤ r.last }
+{
+    let mut high = last;
+    let mut step = 1usize;
+    while step <= high {
+        let place = high - step;
+        let near = runs.get(place);
+        if near.last < tick {
+            return bisect(runs, tick, place + 1, high);
+        }
+        high = place;
+        step = step.saturating_mul(2);
+    }
+    bisect(runs, tick, 0, high)
+}
+
+/// Where the runs that end at a tick or later begin. The two ends are looked at first, and then what is near the newest.
 pub fn seek<V: Lattice>(runs: &Gap<Run<V>>, tick: u64) -> usize
     requires { AreTickRuns V.least runs.now.items }
     ensures within { result ≤ length runs.now.items }
@@ -106,7 +138,7 @@ pub fn seek<V: Lattice>(runs: &Gap<Run<V>>, tick: u64) -> usize
     if tick <= oldest.last {
         return 0;
     }
-    bisect(runs, tick)
+    gallop(runs, tick, count - 1)
 }
 
 /// How many runs begin by a tick.
@@ -251,7 +283,7 @@ fn join_gap<V: Lattice>(runs: &mut Gap<Run<V>>, i: usize, first: u64, last: u64,
     requires ahead { BeginAfter (drop i runs.old.items) last }
     requires from_one { 1 ≤ first }
     requires ordered { first ≤ last }
-    requires upto { last ≤ 2 ^ 62 }
+    requires upto { last ≤ MAX_TICK }
     requires known { value.now ≢ V.least }
     ensures runs { AreTickRuns V.least runs.new.items }
     ensures values { (t : ℕ) → value_at V.least runs.new.items t ≡ (if within first last t then V.join_of (value_at V.least runs.old.items t) value.now else value_at V.least runs.old.items t) }
@@ -302,7 +334,7 @@ fn join_step<V: Lattice>(runs: &mut Gap<Run<V>>, first: u64, last: u64, value: &
     requires runs { AreTickRuns V.least runs.old.items }
     requires from_one { 1 ≤ first }
     requires ordered { first ≤ last }
-    requires upto { last ≤ 2 ^ 62 }
+    requires upto { last ≤ MAX_TICK }
     requires known { value.now ≢ V.least }
     ensures forward { first ≤ result }
     ensures inside { result ≤ last }
@@ -345,7 +377,7 @@ pub fn join_over<V: Lattice>(runs: &mut Gap<Run<V>>, first: u64, last: u64, valu
     requires runs { AreTickRuns V.least runs.old.items }
     requires from_one { 1 ≤ first }
     requires ordered { first ≤ last }
-    requires upto { last ≤ 2 ^ 62 }
+    requires upto { last ≤ MAX_TICK }
     requires known { value.now ≢ V.least }
     ensures runs { AreTickRuns V.least runs.new.items }
     ensures values { (t : ℕ) → value_at V.least runs.new.items t ≡ (if within first last t then V.join_of (value_at V.least runs.old.items t) value.now else value_at V.least runs.old.items t) }
@@ -387,7 +419,7 @@ pub fn count_in<V: Lattice>(runs: &Gap<Run<V>>, first: u64, last: u64) -> usize
 
 /// The tick after a run that has the tick, and else the tick.
 fn after_run<V: Lattice>(run: &Run<V>, tick: u64) -> u64
-    requires { run.now.last ≤ 2 ^ 62 }
+    requires { run.now.last ≤ MAX_TICK }
     ensures { result ≡ (if is_in tick run.now then run.now.last + 1 else tick) }
 {
     if run.first <= tick && tick <= run.last {
@@ -400,9 +432,9 @@ fn after_run<V: Lattice>(run: &Run<V>, tick: u64) -> u64
 /// The least tick from `tick` on with the least value.
 pub fn next_bottom<V: Lattice>(runs: &Gap<Run<V>>, tick: u64) -> u64
     requires runs { AreTickRuns V.least runs.now.items }
-    requires upto { tick ≤ 2 ^ 62 + 1 }
+    requires upto { tick ≤ MAX_TICK + 1 }
     ensures forward { tick ≤ result }
-    ensures inside { result ≤ 2 ^ 62 + 1 }
+    ensures inside { result ≤ MAX_TICK + 1 }
     ensures bottom { value_at V.least runs.now.items result ≡ V.least }
     ensures least { (t : ℕ) → tick ≤ t → t < result → value_at V.least runs.now.items t ≢ V.least }
 {
@@ -483,7 +515,7 @@ pub fn lower_over<V: Lattice>(runs: &mut Gap<Run<V>>, first: u64, last: u64)
     requires room { 0 < runs.old.spare }
     requires runs { AreTickRuns V.least runs.old.items }
     requires ordered { first ≤ last }
-    requires upto { last ≤ 2 ^ 62 }
+    requires upto { last ≤ MAX_TICK }
     ensures runs { AreTickRuns V.least runs.new.items }
     ensures values { (t : ℕ) → value_at V.least runs.new.items t ≡ (if within first last t then V.least else value_at V.least runs.old.items t) }
     ensures spare { runs.old.spare ≤ runs.new.spare + 1 }
@@ -501,7 +533,7 @@ pub fn set_over<V: Lattice>(runs: &mut Gap<Run<V>>, first: u64, last: u64, value
     requires runs { AreTickRuns V.least runs.old.items }
     requires from_one { 1 ≤ first }
     requires ordered { first ≤ last }
-    requires upto { last ≤ 2 ^ 62 }
+    requires upto { last ≤ MAX_TICK }
     ensures runs { AreTickRuns V.least runs.new.items }
     ensures values { (t : ℕ) → value_at V.least runs.new.items t ≡ (if within first last t then value.now else value_at V.least runs.old.items t) }
     ensures spare { runs.old.spare ≤ runs.new.spare + 2 }
@@ -517,11 +549,11 @@ pub fn set_over<V: Lattice>(runs: &mut Gap<Run<V>>, first: u64, last: u64, value
 /// The greatest tick up to which the value stays that of `tick`.
 pub fn steady_until<V: Lattice>(runs: &Gap<Run<V>>, tick: u64) -> u64
     requires runs { AreTickRuns V.least runs.now.items }
-    requires upto { tick ≤ 2 ^ 62 }
+    requires upto { tick ≤ MAX_TICK }
     ensures forward { tick ≤ result }
-    ensures inside { result ≤ 2 ^ 62 }
+    ensures inside { result ≤ MAX_TICK }
     ensures steady { (t : ℕ) → tick ≤ t → t ≤ result → value_at V.least runs.now.items t ≡ value_at V.least runs.now.items tick }
-    ensures greatest { result < 2 ^ 62 → value_at V.least runs.now.items (result + 1) ≢ value_at V.least runs.now.items tick }
+    ensures greatest { result < MAX_TICK → value_at V.least runs.now.items (result + 1) ≢ value_at V.least runs.now.items tick }
 {
     let i = seek(runs, tick);
     if i == runs.len() {
@@ -537,7 +569,7 @@ pub fn steady_until<V: Lattice>(runs: &Gap<Run<V>>, tick: u64) -> u64
 /// The value at a tick, and the greatest tick up to which it stays, by one search.
 pub fn steady_in<V: Lattice>(runs: &Gap<Run<V>>, tick: u64) -> Steady<V>
     requires runs { AreTickRuns V.least runs.now.items }
-    requires upto { tick ≤ 2 ^ 62 }
+    requires upto { tick ≤ MAX_TICK }
     ensures { StaysUntil V.least runs.now.items tick result }
 {
     let i = seek(runs, tick);
