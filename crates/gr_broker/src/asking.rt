@@ -1,7 +1,9 @@
 //! A broker below the host asks for what is wanted and tells what is consolidated, when it is woken and when it is
 //! told what to expect.
 
-ghost use Rattle.std.specs.Prelude.{◌≡◌, ℕ, ◌+◌, ◌-◌, ◌*◌, ◌^◌, ◌<◌, ◌≤◌, ◌&&◌, ◌||◌, [], ◌∷◌, get_or, true, false, min, max, length, drop, if◌then◌else◌, IfOk, OnOk, OnErr};
+ghost use Rattle.std.specs.Prelude.{◌≡◌, ℕ, ◌+◌, ◌-◌, ◌*◌, ◌<◌, ◌≤◌, ◌&&◌, ◌||◌, [], ◌∷◌, get_or, true, false, min};
+ghost use Rattle.std.specs.Prelude.{max, length, drop, if◌then◌else◌, IfOk, OnOk, OnErr};
+ghost use Rattle.gr_tick.specs.declared.TheConstants.{MAX_TICK};
 ghost use Rattle.gr_tick.specs.Runs.{top_of};
 ghost use Rattle.gr_tick.specs.Stored.{within, RunsGive};
 ghost use Rattle.gr_know.specs.Values.{known_at, is_Q};
@@ -14,7 +16,8 @@ ghost use Rattle.gr_pubend.specs.Log.{Log};
 ghost use Rattle.gr_topo.specs.Topology.{children_of};
 ghost use Rattle.gr_model.specs.Net.{Net, is_host, keeps_horizon};
 ghost use Rattle.gr_model.specs.NetOf.{net_of};
-ghost use Rattle.gr_model.specs.Broker.{Outcome as MachineOutcome, is_consolidated_by, consolidated, upward, up_frames, noted, kept_view, wake_below, expect, expect_frame, expect_frames, covers};
+ghost use Rattle.gr_model.specs.Broker.{Outcome as MachineOutcome, is_consolidated_by, consolidated, upward, up_frames};
+ghost use Rattle.gr_model.specs.Broker.{noted, kept_view, wake_below, expect, expect_frame, expect_frames, covers};
 ghost use Rattle.gr_broker.specs.Of.{IsKept};
 ghost use Rattle.gr_broker.specs.Held.{held_view, IsSite};
 ghost use Rattle.gr_broker.specs.Told.{Tells, AddsFrames};
@@ -63,7 +66,7 @@ fn expect_end(site: &Site<'_>, tick: u64) -> u64
 
 /// Asked for where some child asks, and at each tick above the horizon up to the last one.
 fn wanted_upto(site: &Site<'_>, held: &Held, last: u64) -> Result<Piece<Q3>, Memory>
-    requires { last ≤ 2 ^ 62 }
+    requires { last ≤ MAX_TICK }
     ensures { IfOk result (λ piece. RunsGive N piece
         (λ t. if any_C (runs_of held.now.wants) t || within (held.now.horizon + 1) last t then C else N)) }
 {
@@ -167,7 +170,7 @@ fn note_asked(site: &Site<'_>, held: &mut Held, asked: &Piece<Q3>, now: u64)
 pub(crate) fn wake_below(site: &Site<'_>, held: &mut Held, now: u64) -> Result<Outcome, Memory>
     requires site { IsSite site.now }
     requires below { is_host (net_of site.now.topo.now) site.now.publisher site.now.broker ≡ false }
-    requires now { now ≤ 2 ^ 62 }
+    requires now { now ≤ MAX_TICK }
     requires kept { IsKept (net_of site.now.topo.now) site.now.publisher site.now.broker (held_view held.old) }
     ensures told { let net : Net = net_of site.now.topo.now in IfOk result (λ told. (log : Log) →
         Tells (wake_below net site.now.publisher site.now.broker now (held_view held.old) log) told) }
@@ -196,7 +199,7 @@ pub(crate) fn take_expect(
     requires site { IsSite site.now }
     requires below { is_host (net_of site.now.topo.now) site.now.publisher site.now.broker ≡ false }
     requires from_one { 1 ≤ tick }
-    requires upto { tick ≤ 2 ^ 62 }
+    requires upto { tick ≤ MAX_TICK }
     requires kept { IsKept (net_of site.now.topo.now) site.now.publisher site.now.broker (held_view held.old) }
     ensures told { let net : Net = net_of site.now.topo.now in IfOk result (λ told. (log : Log) →
         Tells (expect net site.now.publisher site.now.broker now tick (held_view held.old) log) told) }
@@ -225,7 +228,7 @@ pub(crate) fn expect_children(
 ) -> Result<(), Memory>
     requires site { IsSite site.now }
     requires from_one { 1 ≤ tick }
-    requires upto { tick ≤ 2 ^ 62 }
+    requires upto { tick ≤ MAX_TICK }
     ensures { OnOk result (AddsFrames (expect_frames site.now.publisher site.now.broker tick
         (children_of site.now.topo.now site.now.publisher site.now.broker) (runs_of wants.now)) into.old into.new) }
 {
@@ -248,7 +251,7 @@ fn expect_one(
     requires child { i < length site.now.position.now.children.items }
     requires wants { i < length wants.now }
     requires from_one { 1 ≤ tick }
-    requires upto { tick ≤ 2 ^ 62 }
+    requires upto { tick ≤ MAX_TICK }
     ensures { let child = get_or (children_of site.now.topo.now site.now.publisher site.now.broker) i 0 in
         let done = covers (wants_of (runs_of wants.now) i) tick in
         OnOk result (AddsFrames (if done then [] else expect_frame site.now.broker child site.now.publisher tick ∷ [])

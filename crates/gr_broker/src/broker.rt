@@ -1,6 +1,7 @@
 //! One broker of a topology.
 
-ghost use Rattle.std.specs.Prelude.{◌≡◌, ◌≢◌, ◌↔◌, ◌⊎◌, ℕ, ◌*◌, ◌<◌, ◌≤◌, true, List, length, Option, Some, None, Result, Err, IsSome, IfOk, OnOk, OnErr, IsErrOf};
+ghost use Rattle.std.specs.Prelude.{◌≡◌, ◌≢◌, ◌↔◌, ◌⊎◌, ℕ, ◌*◌, ◌<◌, ◌≤◌, true, List, length, Option, Some, None};
+ghost use Rattle.std.specs.Prelude.{Result, Err, IsSome, IfOk, OnOk, OnErr, IsErrOf};
 ghost use Rattle.gr_frame.specs.Decode.{frame_decoded};
 ghost use Rattle.gr_out.specs.declared.disk.Stop.TheVariants.{Unset};
 ghost use Rattle.gr_out.specs.Lane.{content, moment, has_stopped, MayLeave, LeftSince};
@@ -15,7 +16,8 @@ ghost use Rattle.gr_model.specs.Broker.{Outcome as MachineOutcome};
 ghost use Rattle.gr_broker.specs.Seen.{view_in, log_in, machine_log, is_broken, broken_at, IsHosted};
 ghost use Rattle.gr_broker.specs.Of.{IsBrokerOf, LogsStand};
 ghost use Rattle.gr_broker.specs.Told.{Tells, log_answer};
-ghost use Rattle.gr_broker.specs.Hosted.{publish_at, publish_logs_at, after_publish, wake_at, mark_logs_at, cut_logs_at, after_mark, after_wake, AppendsAt, AppendsTwiceAt, WakeLeaves};
+ghost use Rattle.gr_broker.specs.Hosted.{publish_at, publish_logs_at, after_publish, wake_at, mark_logs_at};
+ghost use Rattle.gr_broker.specs.Hosted.{cut_logs_at, after_mark, after_wake, AppendsAt, AppendsTwiceAt, WakeLeaves};
 ghost use Rattle.gr_broker.specs.Receipt.{receipt, after_receipt, Answers};
 ghost use Rattle.gr_broker.specs.Opened.{StartsOver, OpensLanes, LosesNothing, IsDamagedAt};
 

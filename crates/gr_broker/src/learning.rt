@@ -1,9 +1,10 @@
 //! New ticks come to a broker: they are handed over, forwarded, consolidated.
 
-ghost use Rattle.std.specs.Prelude.{if◌then◌else◌, ◌≡◌, ◌⊎◌, ℕ, ◌+◌, ◌*◌, ◌^◌, ◌<◌, ◌≤◌, true, false, not, ◌&&◌};
+ghost use Rattle.std.specs.Prelude.{if◌then◌else◌, ◌≡◌, ◌⊎◌, ℕ, ◌+◌, ◌*◌, ◌<◌, ◌≤◌, true, false, not, ◌&&◌};
 ghost use Rattle.std.specs.Prelude.{nat_lt, nat_le, [], ◌++◌, length, get_or, slice_index_or, IfOk, OnOk, OnErr};
 ghost use Rattle.std.specs.List.{flat_map};
 ghost use Rattle.std.specs.Option.{option_map};
+ghost use Rattle.gr_tick.specs.declared.TheConstants.{MAX_TICK};
 ghost use Rattle.gr_filter.specs.Tree.{tree_of};
 ghost use Rattle.gr_tick.specs.Runs.{is_in, AreRuns};
 ghost use Rattle.gr_tick.specs.Stored.{within, IsRun, EndBefore, RunsGive};
@@ -89,7 +90,7 @@ fn horizon_with(site: &Site<'_>, held: &Held, piece: &Piece<K>) -> u64
     ensures reached { result
         ≡ reached (net_of site.now.topo.now) site.now.publisher site.now.broker (held_view held.now) piece.now }
     ensures forward { held.now.horizon ≤ result }
-    ensures inside { result ≤ 2 ^ 62 }
+    ensures inside { result ≤ MAX_TICK }
 {
     // Proof only: the runs of both are canonical.
     let _ = held.know.len();
@@ -256,7 +257,7 @@ fn pass_edge(edges: &[Edge], i: usize, piece: &Piece<K>) -> Result<Piece<K>, Mem
 /// The ticks that a horizon passes and all children have acknowledged, with `A`.
 fn completed_by(alloc: Global, held: &Held, to: u64) -> Result<Piece<Q3>, Memory>
     requires forward { held.now.horizon ≤ to }
-    requires inside { to ≤ 2 ^ 62 }
+    requires inside { to ≤ MAX_TICK }
     ensures { IfOk result (λ completed. RunsGive N completed (λ t.
         if nat_lt held.now.horizon t && nat_le t to && all_A (runs_of held.now.wants) t then A else N)) }
 {
@@ -267,7 +268,7 @@ fn completed_by(alloc: Global, held: &Held, to: u64) -> Result<Piece<Q3>, Memory
 /// The ticks past one tick and up to another, with `A`.
 fn passed_ticks(alloc: Global, from: u64, to: u64) -> Result<Piece<Q3>, Memory>
     requires forward { from ≤ to }
-    requires inside { to ≤ 2 ^ 62 }
+    requires inside { to ≤ MAX_TICK }
     ensures { IfOk result (λ passed. (t : ℕ) → wanted_at passed t ≡ (if nat_lt from t && nat_le t to then A else N)) }
 {
     let mut passed = Piece::new(alloc);
@@ -455,7 +456,7 @@ fn drop_final(asks: &mut Asks, piece: &Piece<K>)
 fn drop_run(asks: &mut Asks, drops: bool, first: u64, last: u64)
     requires from_one { 1 ≤ first }
     requires ordered { first ≤ last }
-    requires upto { last ≤ 2 ^ 62 }
+    requires upto { last ≤ MAX_TICK }
     requires room { 1 ≤ asks.old.spare }
     ensures values { (t : ℕ) → asked_at asks.new.runs t
         ≡ (if within first last t && drops then Never else asked_at asks.old.runs t) }
@@ -478,7 +479,7 @@ pub(crate) fn forget_below(site: &Site<'_>, know: &mut Know, horizon: u64)
         know.new.runs ≡ forgotten net.cache upto know.old.runs }
     ensures keeps_final { (t : ℕ) → is_F (known_at know.new.runs t) ≡ is_F (known_at know.old.runs t) }
     ensures canonical { AreRuns Q know.new.runs }
-    ensures in_range { EndBefore know.new.runs (2 ^ 62 + 1) }
+    ensures in_range { EndBefore know.new.runs (MAX_TICK + 1) }
 {
     let upto = if site.position.keeps {
         horizon

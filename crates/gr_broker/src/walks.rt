@@ -1,7 +1,8 @@
 //! Walks over the runs of one function, and on each of them over the pieces on which a second one is steady: outside the runs
 //! there is nothing to say.
 
-ghost use Rattle.std.specs.Prelude.{if◌then◌else◌, ◌≡◌, ◌≢◌, ◌⊎◌, ℕ, ◌+◌, ◌^◌, ◌<◌, ◌≤◌, not, ◌&&◌, IfOk, OnOk, length};
+ghost use Rattle.std.specs.Prelude.{if◌then◌else◌, ◌≡◌, ◌≢◌, ◌⊎◌, ℕ, ◌+◌, ◌<◌, ◌≤◌, not, ◌&&◌, IfOk, OnOk, length};
+ghost use Rattle.gr_tick.specs.declared.TheConstants.{MAX_TICK};
 ghost use Rattle.gr_tick.specs.Runs.{is_in, value_at};
 ghost use Rattle.gr_tick.specs.Stored.{within, IsRun, EndBefore, RunsGive};
 ghost use Rattle.gr_know.specs.Values.{known_at, is_Q};
@@ -26,7 +27,7 @@ pub(crate) fn put<V: Lattice>(
 ) -> Result<(), AllocError>
     requires from_one { 1 ≤ first }
     requires ordered { first ≤ last }
-    requires upto { last ≤ 2 ^ 62 }
+    requires upto { last ≤ MAX_TICK }
     requires past { EndBefore piece.old first }
     ensures values { OnOk result ((t : ℕ) → value_at V.least piece.new t
         ≡ (if within first last t then value else value_at V.least piece.old t)) }
@@ -166,10 +167,10 @@ fn put_quenched(
 /// child has acknowledged: where it has acknowledged it, only that.
 fn said_from(know: &Know, wants: &Wants, child: usize, tick: u64) -> Steady<K>
     requires child { child < length wants.now }
-    requires upto { tick ≤ 2 ^ 62 }
+    requires upto { tick ≤ MAX_TICK }
     ensures forward { tick ≤ result.last }
-    ensures inside { result.last ≤ 2 ^ 62 }
-    ensures greatest { result.last < 2 ^ 62 → (known_at know.now.runs (result.last + 1) ≢ known_at know.now.runs tick)
+    ensures inside { result.last ≤ MAX_TICK }
+    ensures greatest { result.last < MAX_TICK → (known_at know.now.runs (result.last + 1) ≢ known_at know.now.runs tick)
         ⊎ (wanted_at (wants_of (runs_of wants.now) child) (result.last + 1)
         ≢ wanted_at (wants_of (runs_of wants.now) child) tick) }
     ensures steady { (t : ℕ) → tick ≤ t → t ≤ result.last → said_at (known_at know.now.runs t)

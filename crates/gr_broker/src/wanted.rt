@@ -1,6 +1,7 @@
 //! What is wanted of the next broker towards the host: sets of ticks.
 
-ghost use Rattle.std.specs.Prelude.{if◌then◌else◌, ◌≡◌, ℕ, ◌^◌, ◌<◌, ◌≤◌, ◌&&◌, IfOk, OnOk};
+ghost use Rattle.std.specs.Prelude.{if◌then◌else◌, ◌≡◌, ℕ, ◌<◌, ◌≤◌, ◌&&◌, IfOk, OnOk};
+ghost use Rattle.gr_tick.specs.declared.TheConstants.{MAX_TICK};
 ghost use Rattle.gr_tick.specs.Runs.{is_in};
 ghost use Rattle.gr_tick.specs.Stored.{within, IsRun, EndBefore, RunsGive};
 ghost use Rattle.gr_know.specs.Values.{known_at, is_Q};
@@ -79,7 +80,7 @@ pub(crate) fn wanted_on(
     last: u64,
 ) -> Result<Piece<Q3>, AllocError>
     requires from_one { 1 ≤ first }
-    requires upto { last ≤ 2 ^ 62 }
+    requires upto { last ≤ MAX_TICK }
     ensures { IfOk result (λ piece. RunsGive N piece
         (λ t. if within first last t then greater_of (wanted_at curious.now t) C else wanted_at curious.now t)) }
 {

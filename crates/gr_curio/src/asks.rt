@@ -1,4 +1,5 @@
-ghost use Rattle.std.specs.Prelude.{if◌then◌else◌, ◌≡◌, ◌≢◌, ◌⊎◌, ℕ, ◌+◌, ◌*◌, ◌^◌, ◌<◌, ◌≤◌, IfOk, IsOk, OnOk, OnErr, [], length, slice_get, Some, false};
+ghost use Rattle.std.specs.Prelude.{if◌then◌else◌, ◌≡◌, ◌≢◌, ◌⊎◌, ℕ, ◌+◌, ◌*◌, ◌<◌, ◌≤◌, IfOk, IsOk, OnOk, OnErr, [], length, slice_get, Some, false};
+ghost use Rattle.gr_tick.specs.declared.TheConstants.{MAX_TICK};
 ghost use Rattle.gr_tick.specs.Runs.{is_in, AreRuns};
 ghost use Rattle.gr_tick.specs.Stored.{within, IsRun, EndBefore, RunsGive};
 ghost use Rattle.gr_curio.specs.Moments.{is_at_most, later_of};
@@ -110,7 +111,7 @@ impl Asks {
     pub fn len(&self) -> usize
         ensures len { result ≡ length self.now.runs }
         ensures canonical { AreRuns Never self.now.runs }
-        ensures in_range { EndBefore self.now.runs (2 ^ 62 + 1) }
+        ensures in_range { EndBefore self.now.runs (MAX_TICK + 1) }
     {
         self.moments.len()
     }
@@ -169,7 +170,7 @@ impl Asks {
     pub fn forget(&mut self, first: u64, last: u64) -> Result<(), AllocError>
         requires from_one { 1 ≤ first }
         requires ordered { first ≤ last }
-        requires upto { last ≤ 2 ^ 62 }
+        requires upto { last ≤ MAX_TICK }
         ensures forgotten { OnOk result (RunsGive Never self.new.runs (λ t. if within first last t then Never else asked_at self.old.runs t)) }
         ensures spare { self.old.spare ≤ self.new.spare + 1 }
         ensures succeeds { 1 ≤ self.old.spare → IsOk result }

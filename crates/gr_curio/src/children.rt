@@ -1,8 +1,9 @@
 //! The children's curiosity, as a slice of streams.
-ghost use Rattle.std.specs.Prelude.{if◌then◌else◌, ◌≡◌, ◌≢◌, ◌⊎◌, ◌↔◌, IsTrue, ℕ, ◌+◌, ◌^◌, ◌<◌, ◌≤◌, ◌&&◌};
+ghost use Rattle.std.specs.Prelude.{if◌then◌else◌, ◌≡◌, ◌≢◌, ◌⊎◌, ◌↔◌, IsTrue, ℕ, ◌+◌, ◌<◌, ◌≤◌, ◌&&◌};
 ghost use Rattle.std.specs.Prelude.{nat_le, IfOk, OnOk, [], length, replicate, true, false};
 ghost use Rattle.std.specs.Option.{ForSome, ForNone};
 ghost use Rattle.std.specs.List.{list_all, list_any};
+ghost use Rattle.gr_tick.specs.declared.TheConstants.{MAX_TICK};
 ghost use Rattle.gr_tick.specs.Runs.{is_in};
 ghost use Rattle.gr_tick.specs.Stored.{within, IsRun, EndBefore, RunsGive};
 ghost use Rattle.gr_curio.specs.Values.{wanted_at, is_A, is_C};
@@ -57,7 +58,7 @@ pub fn covers_upto(child: &Stream<Q3>, upto: u64) -> bool
 /// not, this is how far that child goes on as it is.
 fn acknowledged_from(children: &[Stream<Q3>], tick: u64, limit: u64) -> Steady<bool>
     requires ordered { tick ≤ limit }
-    requires upto { limit ≤ 2 ^ 62 }
+    requires upto { limit ≤ MAX_TICK }
     ensures forward { tick ≤ result.last }
     ensures inside { result.last ≤ limit }
     ensures greatest { result.last < limit → HasChange tick (result.last + 1) children.now }
@@ -85,7 +86,7 @@ fn acknowledged_from(children: &[Stream<Q3>], tick: u64, limit: u64) -> Steady<b
 /// how far that child goes on as it is.
 fn asked_from(children: &[Stream<Q3>], tick: u64, limit: u64) -> Steady<bool>
     requires ordered { tick ≤ limit }
-    requires upto { limit ≤ 2 ^ 62 }
+    requires upto { limit ≤ MAX_TICK }
     ensures forward { tick ≤ result.last }
     ensures inside { result.last ≤ limit }
     ensures greatest { result.last < limit → HasChange tick (result.last + 1) children.now }
@@ -112,8 +113,8 @@ fn asked_from(children: &[Stream<Q3>], tick: u64, limit: u64) -> Steady<bool>
 /// The last tick that may be consolidated: the horizon, if one is kept, and no tick past what the first child has.
 fn last_consolidated(children: &[Stream<Q3>], horizon: Option<u64>) -> u64
     requires some { ForNone horizon (0 < length children.now) }
-    requires upto { ForSome horizon (λ h. h ≤ 2 ^ 62) }
-    ensures inside { result ≤ 2 ^ 62 }
+    requires upto { ForSome horizon (λ h. h ≤ MAX_TICK) }
+    ensures inside { result ≤ MAX_TICK }
     ensures reached { (t : ℕ) → t ≤ result → is_reached horizon t ≡ true }
     ensures past { (t : ℕ) → result < t → is_consolidated horizon (runs_of children.now) t ≡ false }
 {
@@ -135,7 +136,7 @@ pub fn consolidated_piece(
     horizon: Option<u64>,
 ) -> Result<Piece<Q3>, AllocError>
     requires some { ForNone horizon (0 < length children.now) }
-    requires upto { ForSome horizon (λ h. h ≤ 2 ^ 62) }
+    requires upto { ForSome horizon (λ h. h ≤ MAX_TICK) }
     ensures { IfOk result (λ piece. RunsGive N piece
         (λ t. if is_consolidated horizon (runs_of children.now) t then A else N)) }
 {
@@ -159,7 +160,7 @@ pub fn consolidated_piece(
 
 /// The greatest tick up to `limit` up to which each tick is consolidated.
 pub fn consolidated_upto(children: &[Stream<Q3>], horizon: Option<u64>, limit: u64) -> u64
-    requires { limit ≤ 2 ^ 62 }
+    requires { limit ≤ MAX_TICK }
     ensures within { result ≤ limit }
     ensures each { (t : ℕ) → 1 ≤ t → t ≤ result → is_consolidated horizon (runs_of children.now) t ≡ true }
     ensures stops { result < limit → is_consolidated horizon (runs_of children.now) (result + 1) ≡ false }
@@ -184,7 +185,7 @@ fn completed_from(
     limit: u64,
 ) -> Steady<bool>
     requires ordered { tick ≤ limit }
-    requires upto { limit ≤ 2 ^ 62 }
+    requires upto { limit ≤ MAX_TICK }
     ensures forward { tick ≤ result.last }
     ensures inside { result.last ≤ limit }
     ensures greatest { result.last < limit →
@@ -276,7 +277,7 @@ pub fn completed_piece(
 
 /// The last tick that a child has.
 fn last_of_all(children: &[Stream<Q3>]) -> u64
-    ensures inside { result ≤ 2 ^ 62 }
+    ensures inside { result ≤ MAX_TICK }
     ensures outside { (t : ℕ) → within 1 result t ≡ false →
         list_any (λ child. is_C (wanted_at child.runs t)) children.now ≡ false }
 {

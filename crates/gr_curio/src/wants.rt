@@ -2,6 +2,7 @@ ghost use Rattle.std.specs.Prelude.{if◌then◌else◌, MatchOption, ◌≡◌,
 ghost use Rattle.std.specs.Prelude.{nat_le, IfOk, OnOk, OnErr, List, [], length, set, replicate, slice_get, Some};
 ghost use Rattle.std.specs.Prelude.{true, false};
 ghost use Rattle.std.specs.Option.{ForSome, ForNone};
+ghost use Rattle.gr_tick.specs.declared.TheConstants.{MAX_TICK};
 ghost use Rattle.gr_tick.specs.Runs.{AreRuns};
 ghost use Rattle.gr_tick.specs.Stored.{within, IsRun, EndBefore, RunsGive, StaysUntil, is_told, needed};
 ghost use Rattle.gr_curio.specs.Values.{wanted_at, is_A};
@@ -65,7 +66,7 @@ impl Wants {
         requires { child < length self.now }
         ensures len { result ≡ length (wants_of (runs_of self.now) child) }
         ensures canonical { AreRuns N (wants_of (runs_of self.now) child) }
-        ensures in_range { EndBefore (wants_of (runs_of self.now) child) (2 ^ 62 + 1) }
+        ensures in_range { EndBefore (wants_of (runs_of self.now) child) (MAX_TICK + 1) }
     {
         self.children[child].len()
     }
@@ -91,12 +92,12 @@ impl Wants {
     /// The greatest tick, at most `MAX_TICK`, up to which a child's value stays that of `tick`. It takes no memory.
     pub fn steady_until(&self, child: usize, tick: u64) -> u64
         requires child { child < length self.now }
-        requires tick { tick ≤ 2 ^ 62 }
+        requires tick { tick ≤ MAX_TICK }
         ensures forward { tick ≤ result }
-        ensures inside { result ≤ 2 ^ 62 }
+        ensures inside { result ≤ MAX_TICK }
         ensures steady { (t : ℕ) → tick ≤ t → t ≤ result →
             wanted_at (wants_of (runs_of self.now) child) t ≡ wanted_at (wants_of (runs_of self.now) child) tick }
-        ensures greatest { result < 2 ^ 62 → wanted_at (wants_of (runs_of self.now) child) (result + 1)
+        ensures greatest { result < MAX_TICK → wanted_at (wants_of (runs_of self.now) child) (result + 1)
             ≢ wanted_at (wants_of (runs_of self.now) child) tick }
     {
         self.children[child].steady_until(tick)
@@ -106,7 +107,7 @@ impl Wants {
     /// memory.
     pub fn steady_at(&self, child: usize, tick: u64) -> Steady<Q3>
         requires child { child < length self.now }
-        requires tick { tick ≤ 2 ^ 62 }
+        requires tick { tick ≤ MAX_TICK }
         ensures { StaysUntil N (wants_of (runs_of self.now) child) tick result }
     {
         self.children[child].steady_at(tick)
@@ -189,7 +190,7 @@ impl Wants {
         requires child { child < length self.old }
         requires from_one { 1 ≤ first }
         requires ordered { first ≤ last }
-        requires upto { last ≤ 2 ^ 62 }
+        requires upto { last ≤ MAX_TICK }
         ensures answered { OnOk result (RunsGive N (wants_of (runs_of self.new) child)
             (λ t. answered_of (within first last t) (wanted_at (wants_of (runs_of self.old) child) t))) }
         ensures others { OnOk result (runs_of self.new
@@ -207,7 +208,7 @@ impl Wants {
         requires child { child < length self.now }
         requires from_one { 1 ≤ first }
         requires ordered { first ≤ last }
-        requires upto { last ≤ 2 ^ 62 }
+        requires upto { last ≤ MAX_TICK }
         ensures { IfOk result (λ piece. RunsGive N piece
             (λ t. if within first last t then wanted_at (wants_of (runs_of self.now) child) t else N)) }
     {
@@ -228,7 +229,7 @@ impl Wants {
     /// `MAX_TICK`. It fails only where memory is refused.
     pub fn consolidate(&self, horizon: Option<u64>) -> Result<Piece<Q3>, AllocError>
         requires some { ForNone horizon (0 < length self.now) }
-        requires upto { ForSome horizon (λ h. h ≤ 2 ^ 62) }
+        requires upto { ForSome horizon (λ h. h ≤ MAX_TICK) }
         ensures { IfOk result (λ piece. RunsGive N piece
             (λ t. if is_consolidated horizon (runs_of self.now) t then A else N)) }
     {
@@ -240,8 +241,8 @@ impl Wants {
     /// `limit` are at most `MAX_TICK`. It takes no memory.
     pub fn consolidated_upto(&self, horizon: Option<u64>, limit: u64) -> u64
         requires some { ForNone horizon (0 < length self.now) }
-        requires upto { ForSome horizon (λ h. h ≤ 2 ^ 62) }
-        requires limit { limit ≤ 2 ^ 62 }
+        requires upto { ForSome horizon (λ h. h ≤ MAX_TICK) }
+        requires limit { limit ≤ MAX_TICK }
         ensures within { result ≤ limit }
         ensures each { (t : ℕ) → 1 ≤ t → t ≤ result → is_consolidated horizon (runs_of self.now) t ≡ true }
         ensures stops { result < limit → is_consolidated horizon (runs_of self.now) (result + 1) ≡ false }

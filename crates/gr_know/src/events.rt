@@ -1,6 +1,7 @@
 //! How many ticks have an event.
 //! Each edit below answers how many have one after it, and looks at no run that it does not touch.
-ghost use Rattle.std.specs.Prelude.{if◌then◌else◌, ◌≡◌, ℕ, suc, ◌-◌, ◌+◌, ◌^◌, ◌<◌, ◌≤◌, length};
+ghost use Rattle.std.specs.Prelude.{if◌then◌else◌, ◌≡◌, ℕ, suc, ◌-◌, ◌+◌, ◌<◌, ◌≤◌, length};
+ghost use Rattle.gr_tick.specs.declared.TheConstants.{MAX_TICK};
 ghost use Rattle.gr_tick.specs.Stored.{within, IsRun, RunsGive, needed, is_told};
 ghost use Rattle.gr_know.specs.Values.{known_at, is_D, join_K};
 ghost use Rattle.gr_know.specs.Forget.{data_count};
@@ -23,7 +24,7 @@ pub fn is_data(run: &Run<K>) -> bool
 /// How many ticks of a range a run has with an event.
 fn events_shared(run: &Run<K>, first: u64, last: u64) -> u64
     requires alone { IsRun Q run.now }
-    requires upto { last ≤ 2 ^ 62 }
+    requires upto { last ≤ MAX_TICK }
     ensures { result ≡ events_shared run.now first last }
 {
     let from = first.max(run.first);
@@ -38,7 +39,7 @@ fn events_shared(run: &Run<K>, first: u64, last: u64) -> u64
 pub fn events_in(stream: &Stream<K>, first: u64, last: u64) -> u64
     requires from_one { 1 ≤ first }
     requires ordered { first ≤ last }
-    requires upto { last ≤ 2 ^ 62 }
+    requires upto { last ≤ MAX_TICK }
     ensures { result ≡ events_from (known_at stream.now.runs) first (suc last - first) }
 {
     // Proof only: the runs are canonical.
@@ -103,7 +104,7 @@ pub fn lower_counted(stream: &mut Stream<K>, piece: &Piece<K>, events: u64) -> u
 pub fn finish_counted(stream: &mut Stream<K>, first: u64, last: u64, events: u64) -> u64
     requires from_one { 1 ≤ first }
     requires ordered { first ≤ last }
-    requires upto { last ≤ 2 ^ 62 }
+    requires upto { last ≤ MAX_TICK }
     requires room { 2 ≤ stream.old.spare }
     requires counted { events ≡ data_count stream.old.runs }
     ensures finished { RunsGive Q stream.new.runs (λ t. if within first last t then F else known_at stream.old.runs t) }

@@ -1,4 +1,7 @@
-ghost use Rattle.std.specs.Prelude.{if◌then◌else◌, ◌&&◌, nat_le, take, drop, ◌++◌, ◌≡◌, ◌≢◌, ◌⊎◌, ℕ, suc, ◌+◌, ◌-◌, ◌^◌, ◌<◌, ◌≤◌, [], length, slice_get, Some, true, false, MatchOption, IfOk, IsOk, OnOk, OnErr};
+ghost use Rattle.std.specs.Prelude.{if◌then◌else◌, ◌&&◌, nat_le, take, drop, ◌++◌, ◌≡◌, ◌≢◌, ◌⊎◌, ℕ, suc, ◌+◌, ◌-◌};
+ghost use Rattle.std.specs.Prelude.{◌^◌, ◌<◌, ◌≤◌, [], length, slice_get, Some, true, false, MatchOption, IfOk, IsOk};
+ghost use Rattle.std.specs.Prelude.{OnOk, OnErr};
+ghost use Rattle.gr_tick.specs.declared.TheConstants.{MAX_TICK};
 ghost use Rattle.gr_tick.specs.Runs.{value_at, AreRuns, first_bottom_from, top_of};
 ghost use Rattle.gr_tick.specs.Stored.{within, IsRun, EndBefore, RunsGive, StaysUntil, needed};
 ghost use Rattle.gr_know.specs.Values.{known_at, is_D, join_K, new_K, clash_K};
@@ -83,7 +86,7 @@ impl Know {
     pub fn len(&self) -> usize
         ensures len { result ≡ length self.now.runs }
         ensures canonical { AreRuns Q self.now.runs }
-        ensures in_range { EndBefore self.now.runs (2 ^ 62 + 1) }
+        ensures in_range { EndBefore self.now.runs (MAX_TICK + 1) }
     {
         self.stream.len()
     }
@@ -107,7 +110,7 @@ impl Know {
     /// The greatest known tick, or 0 where nothing is known. It takes no memory.
     pub fn top(&self) -> u64
         ensures top { result ≡ top_of self.now.runs }
-        ensures inside { result ≤ 2 ^ 62 }
+        ensures inside { result ≤ MAX_TICK }
     {
         self.stream.top()
     }
@@ -115,10 +118,10 @@ impl Know {
     /// The greatest tick up to which, from the one after the horizon on, nothing is unknown: where a horizon moves to. It takes no
     /// memory.
     pub fn horizon_from(&self, horizon: u64) -> u64
-        requires { horizon ≤ 2 ^ 62 }
+        requires { horizon ≤ MAX_TICK }
         ensures horizon { result ≡ first_bottom_from self.now.runs (suc horizon) - 1 }
         ensures forward { horizon ≤ result }
-        ensures inside { result ≤ 2 ^ 62 }
+        ensures inside { result ≤ MAX_TICK }
         ensures known { (t : ℕ) → horizon < t → t ≤ result → known_at self.now.runs t ≢ Q }
         ensures greatest { known_at self.now.runs (result + 1) ≡ Q }
     {
@@ -127,9 +130,9 @@ impl Know {
 
     /// Where a horizon would move to once the piece is joined, as `horizon_from` says it then. It takes no memory.
     pub fn horizon_with(&self, piece: &Piece<K>, horizon: u64) -> u64
-        requires { horizon ≤ 2 ^ 62 }
+        requires { horizon ≤ MAX_TICK }
         ensures forward { horizon ≤ result }
-        ensures inside { result ≤ 2 ^ 62 }
+        ensures inside { result ≤ MAX_TICK }
         ensures known { (t : ℕ) → horizon < t → t ≤ result
             → join_K (known_at self.now.runs t) (known_at piece.now t) ≢ Q }
         ensures greatest { join_K (known_at self.now.runs (result + 1)) (known_at piece.now (result + 1)) ≡ Q }
@@ -139,18 +142,18 @@ impl Know {
 
     /// The greatest tick, at most `MAX_TICK`, up to which what is known stays that of `tick`. It takes no memory.
     pub fn steady_until(&self, tick: u64) -> u64
-        requires { tick ≤ 2 ^ 62 }
+        requires { tick ≤ MAX_TICK }
         ensures forward { tick ≤ result }
-        ensures inside { result ≤ 2 ^ 62 }
+        ensures inside { result ≤ MAX_TICK }
         ensures steady { (t : ℕ) → tick ≤ t → t ≤ result → known_at self.now.runs t ≡ known_at self.now.runs tick }
-        ensures greatest { result < 2 ^ 62 → known_at self.now.runs (result + 1) ≢ known_at self.now.runs tick }
+        ensures greatest { result < MAX_TICK → known_at self.now.runs (result + 1) ≢ known_at self.now.runs tick }
     {
         self.stream.steady_until(tick)
     }
 
     /// What is known of a tick and how far it stays so, as `at` and `steady_until` say it, by one search. It takes no memory.
     pub fn steady_at(&self, tick: u64) -> Steady<K>
-        requires { tick ≤ 2 ^ 62 }
+        requires { tick ≤ MAX_TICK }
         ensures { StaysUntil Q self.now.runs tick result }
     {
         self.stream.steady_at(tick)
@@ -165,7 +168,7 @@ impl Know {
     ) -> Result<Piece<K>, AllocError>
         requires from_one { 1 ≤ first }
         requires ordered { first ≤ last }
-        requires upto { last ≤ 2 ^ 62 }
+        requires upto { last ≤ MAX_TICK }
         ensures { IfOk result (λ joined. RunsGive Q joined
             (λ t. if within first last t then join_K (known_at self.now.runs t) (known_at piece.now t) else Q)) }
     {
@@ -240,7 +243,7 @@ impl Know {
     pub fn piece(&self, first: u64, last: u64) -> Result<Piece<K>, AllocError>
         requires from_one { 1 ≤ first }
         requires ordered { first ≤ last }
-        requires upto { last ≤ 2 ^ 62 }
+        requires upto { last ≤ MAX_TICK }
         ensures { IfOk result (λ piece. RunsGive Q piece
             (λ t. if within first last t then known_at self.now.runs t else Q)) }
     {
@@ -252,7 +255,7 @@ impl Know {
     pub fn finish(&mut self, first: u64, last: u64) -> Result<(), AllocError>
         requires from_one { 1 ≤ first }
         requires ordered { first ≤ last }
-        requires upto { last ≤ 2 ^ 62 }
+        requires upto { last ≤ MAX_TICK }
         ensures finished { OnOk result (RunsGive Q self.new.runs
             (λ t. if within first last t then F else known_at self.old.runs t)) }
         ensures err { OnErr result (self.new ≡ self.old) }
@@ -266,7 +269,7 @@ impl Know {
     pub fn finish_ready(&mut self, first: u64, last: u64)
         requires from_one { 1 ≤ first }
         requires ordered { first ≤ last }
-        requires upto { last ≤ 2 ^ 62 }
+        requires upto { last ≤ MAX_TICK }
         requires room { 2 ≤ self.old.spare }
         ensures finished { RunsGive Q self.new.runs (λ t. if within first last t then F else known_at self.old.runs t) }
         ensures spare { self.old.spare ≤ self.new.spare + 2 }
@@ -282,7 +285,7 @@ impl Know {
         ensures forgotten { OnOk result (self.new.runs ≡ forgotten limit upto self.old.runs) }
         ensures forgets { OnOk result (Forgets limit upto self.old.runs self.new.runs) }
         ensures canonical { OnOk result (AreRuns Q self.new.runs) }
-        ensures in_range { OnOk result (EndBefore self.new.runs (2 ^ 62 + 1)) }
+        ensures in_range { OnOk result (EndBefore self.new.runs (MAX_TICK + 1)) }
         ensures err { OnErr result (self.new ≡ self.old) }
     {
         // Proof only: the runs are canonical before and after.

@@ -1,5 +1,6 @@
 //! What is new of a piece, and where it clashes with what is known: walks over the runs of both, by their places.
-ghost use Rattle.std.specs.Prelude.{if◌then◌else◌, ◌≡◌, ◌≢◌, ℕ, ◌+◌, ◌^◌, ◌<◌, ◌≤◌, MatchOption, IfOk, OnOk, true, false};
+ghost use Rattle.std.specs.Prelude.{if◌then◌else◌, ◌≡◌, ◌≢◌, ℕ, ◌+◌, ◌<◌, ◌≤◌, MatchOption, IfOk, OnOk, true, false};
+ghost use Rattle.gr_tick.specs.declared.TheConstants.{MAX_TICK};
 ghost use Rattle.gr_tick.specs.Runs.{is_in};
 ghost use Rattle.gr_tick.specs.Stored.{within, IsRun, EndBefore, RunsGive};
 ghost use Rattle.gr_know.specs.Values.{known_at, join_K, new_K, clash_K};
@@ -30,9 +31,9 @@ pub fn fresh_piece(
 
 /// How far a horizon moves once a piece is joined: nothing is unknown then on the ticks past it and up to there.
 pub fn horizon_with(stream: &Stream<K>, piece: &Piece<K>, horizon: u64) -> u64
-    requires { horizon ≤ 2 ^ 62 }
+    requires { horizon ≤ MAX_TICK }
     ensures forward { horizon ≤ result }
-    ensures inside { result ≤ 2 ^ 62 }
+    ensures inside { result ≤ MAX_TICK }
     ensures known { (t : ℕ) → horizon < t → t ≤ result
         → join_K (known_at stream.now.runs t) (known_at piece.now t) ≢ Q }
     ensures greatest { join_K (known_at stream.now.runs (result + 1)) (known_at piece.now (result + 1)) ≡ Q }
@@ -52,9 +53,9 @@ pub fn horizon_with(stream: &Stream<K>, piece: &Piece<K>, horizon: u64) -> u64
 
 /// The last tick of the run that goes on past a tick, or that tick where nothing came of the next one.
 fn came_until(piece: &Piece<K>, tick: u64) -> u64
-    requires { tick < 2 ^ 62 }
+    requires { tick < MAX_TICK }
     ensures forward { tick ≤ result }
-    ensures inside { result ≤ 2 ^ 62 }
+    ensures inside { result ≤ MAX_TICK }
     ensures came { (t : ℕ) → tick + 1 ≤ t → t ≤ result → known_at piece.now t ≢ Q }
     ensures none { result ≡ tick → known_at piece.now (tick + 1) ≡ Q }
 {
@@ -79,7 +80,7 @@ pub fn joined_piece(
 ) -> Result<Piece<K>, AllocError>
     requires from_one { 1 ≤ first }
     requires ordered { first ≤ last }
-    requires upto { last ≤ 2 ^ 62 }
+    requires upto { last ≤ MAX_TICK }
     ensures { IfOk result (λ joined. RunsGive Q joined
         (λ t. if within first last t then join_K (known_at stream.now.runs t) (known_at piece.now t) else Q)) }
 {
@@ -117,7 +118,7 @@ fn put_news(fresh: &mut Piece<K>, stream: &Stream<K>, run: &Run<K>) -> Result<()
 /// Puts a value at the end, on a range that may be empty.
 fn put_part(fresh: &mut Piece<K>, value: &K, first: u64, last: u64) -> Result<(), AllocError>
     requires from_one { 1 ≤ first }
-    requires upto { last ≤ 2 ^ 62 }
+    requires upto { last ≤ MAX_TICK }
     requires known { value.now ≢ Q }
     requires past { EndBefore fresh.old first }
     ensures values { OnOk result ((t : ℕ) → known_at fresh.new t

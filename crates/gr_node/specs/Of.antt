@@ -1,8 +1,9 @@
 -- What holds of a node between its calls, and of what a run is asked
-use Rattle.std.specs.Prelude.{◌≡◌, ◌≢◌, ℕ, ◌*◌, ◌^◌, ◌<◌, ◌≤◌, true, false, List, length, Some, is_some, IsSome}
+use Rattle.std.specs.Prelude.{◌≡◌, ◌≢◌, ℕ, ◌*◌, ◌<◌, ◌≤◌, true, false, List, length, Some, is_some, IsSome}
 use Rattle.std.specs.List.{AllByRecursion}
 use Rattle.gr_out.specs.Journal.{is_among}
 use Rattle.gr_out.specs.Lane.{Lane}
+use Rattle.gr_tick.specs.declared.TheConstants.{MAX_TICK}
 use Rattle.gr_publog.specs.Crash.{LogView}
 use Rattle.gr_topo.specs.Topology.{TopologyView, address_of, host_of}
 use Rattle.gr_model.specs.NetOf.{IsRising}
@@ -22,7 +23,7 @@ AreAddressed t = (b : ℕ) → b < length t.brokers → IsSome (address_of t b)
 -- The brokers of the topology that are hosted, each at its number, and no log of theirs is broken
 pub record NodeFits (t : TopologyView) (n : NodeView) : Type 0 where
   pub count : length n.brokers ≡ length t.brokers
-  pub now : n.now ≤ 2 ^ 62
+  pub now : n.now ≤ MAX_TICK
   pub fits : (b : ℕ) (x : BrokerView) → broker_in n b ≡ Some x → IsBrokerOf t x
   pub numbered : (b : ℕ) (x : BrokerView) → broker_in n b ≡ Some x → x.number ≡ b
   pub whole : (b p : ℕ) (x : BrokerView) (l : LogView) → broker_in n b ≡ Some x → log_in x p ≡ Some l → l.broken ≡ false

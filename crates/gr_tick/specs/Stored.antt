@@ -1,6 +1,7 @@
 -- Lists of runs whose ticks are in range, and what their changes need
-use Rattle.std.specs.Prelude.{◌≡◌, ◌≢◌, ℕ, ◌+◌, ◌^◌, ◌<◌, ◌≤◌, ◌==◌, Bool, false, not, ◌&&◌, ◌||◌, nat_le, nat_lt, cond, List, [], ◌∷◌}
+use Rattle.std.specs.Prelude.{◌≡◌, ◌≢◌, ℕ, ◌+◌, ◌<◌, ◌≤◌, ◌==◌, Bool, false, not, ◌&&◌, ◌||◌, nat_le, nat_lt, cond, List, [], ◌∷◌}
 use Rattle.std.specs.List.{count_by}
+use Rattle.gr_tick.specs.declared.TheConstants.{MAX_TICK}
 use Rattle.gr_tick.specs.declared.run.Run.{Run}
 use Rattle.gr_tick.specs.declared.steady.Steady.{Steady}
 use Rattle.gr_tick.specs.Runs.{is_in, value_at, AreRuns}
@@ -26,7 +27,7 @@ module _ {V : Type 0} where
   pub record IsRun (least : V) (r : Run V) : Type 0 where
     pub from_one : 1 ≤ r.first
     pub ordered : r.first ≤ r.last
-    pub upto : r.last ≤ 2 ^ 62
+    pub upto : r.last ≤ MAX_TICK
     pub known : r.value ≢ least
 
   -- one run and a later one, which do not form one run
@@ -52,16 +53,16 @@ module _ {V : Type 0} where
   -- canonical runs of ticks in range, with a function's value at each tick
   pub record RunsGive (least : V) (rs : List (Run V)) (g : ℕ → V) : Type 0 where
     pub canonical : AreRuns least rs
-    pub in_range : EndBefore rs (2 ^ 62 + 1)
+    pub in_range : EndBefore rs (MAX_TICK + 1)
     pub values : (t : ℕ) → value_at least rs t ≡ g t
 
   -- the value at a tick, and the greatest tick up to which it stays
   pub record StaysUntil (least : V) (rs : List (Run V)) (tick : ℕ) (s : Steady V) : Type 0 where
     pub value : s.value ≡ value_at least rs tick
     pub forward : tick ≤ s.last
-    pub inside : s.last ≤ 2 ^ 62
+    pub inside : s.last ≤ MAX_TICK
     pub steady : (t : ℕ) → tick ≤ t → t ≤ s.last → value_at least rs t ≡ value_at least rs tick
-    pub greatest : s.last < 2 ^ 62 → value_at least rs (s.last + 1) ≢ value_at least rs tick
+    pub greatest : s.last < MAX_TICK → value_at least rs (s.last + 1) ≢ value_at least rs tick
 
   -- each run begins by the tick
   abbrev pub BeginBy : List (Run V) → ℕ → Type 0

@@ -1,5 +1,7 @@
 //! What one frame tells, or what one call answers: a function of ticks that is made from its first run to its last.
-ghost use Rattle.std.specs.Prelude.{if◌then◌else◌, ◌≡◌, ◌≢◌, ◌↔◌, IsTrue, ℕ, ◌+◌, ◌<◌, ◌≤◌, ◌^◌, List, [], ◌∷◌, ◌++◌, length, take, drop, slice_get, Some, OnOk, OnErr, IfOk, min, max};
+ghost use Rattle.std.specs.Prelude.{if◌then◌else◌, ◌≡◌, ◌≢◌, ◌↔◌, IsTrue, ℕ, ◌+◌, ◌<◌, ◌≤◌, List, [], ◌∷◌, ◌++◌};
+ghost use Rattle.std.specs.Prelude.{length, take, drop, slice_get, Some, OnOk, OnErr, IfOk, min, max};
+ghost use Rattle.gr_tick.specs.declared.TheConstants.{MAX_TICK};
 ghost use Rattle.gr_tick.specs.Runs.{value_at, is_in, AreRuns};
 ghost use Rattle.gr_tick.specs.Stored.{within, IsRun, AreTickRuns, EndBefore, RunsGive, StaysUntil};
 
@@ -101,7 +103,7 @@ impl<V: Lattice> Piece<V> {
     pub fn len(&self) -> usize
         ensures len { result ≡ length self.now }
         ensures canonical { AreRuns V.least self.now }
-        ensures in_range { EndBefore self.now (2 ^ 62 + 1) }
+        ensures in_range { EndBefore self.now (MAX_TICK + 1) }
     {
         self.runs.len()
     }
@@ -141,18 +143,18 @@ impl<V: Lattice> Piece<V> {
 
     /// The greatest tick, at most `MAX_TICK`, up to which the value stays that of `tick`. It takes no memory.
     pub fn steady_until(&self, tick: u64) -> u64
-        requires { tick ≤ 2 ^ 62 }
+        requires { tick ≤ MAX_TICK }
         ensures forward { tick ≤ result }
-        ensures inside { result ≤ 2 ^ 62 }
+        ensures inside { result ≤ MAX_TICK }
         ensures steady { (t : ℕ) → tick ≤ t → t ≤ result → value_at V.least self.now t ≡ value_at V.least self.now tick }
-        ensures greatest { result < 2 ^ 62 → value_at V.least self.now (result + 1) ≢ value_at V.least self.now tick }
+        ensures greatest { result < MAX_TICK → value_at V.least self.now (result + 1) ≢ value_at V.least self.now tick }
     {
         steady_until(&self.runs, tick)
     }
 
     /// The value at a tick and how far it stays, as `at` and `steady_until` say it, by one search. It takes no memory.
     pub fn steady_at(&self, tick: u64) -> Steady<V>
-        requires { tick ≤ 2 ^ 62 }
+        requires { tick ≤ MAX_TICK }
         ensures { StaysUntil V.least self.now tick result }
     {
         steady_in(&self.runs, tick)

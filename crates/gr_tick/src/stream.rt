@@ -1,6 +1,8 @@
 //! What is known or asked of each tick: a function of ticks that is edited in place, with room that is taken beforehand.
-ghost use Rattle.std.specs.Prelude.{if◌then◌else◌, MatchOption, ◌≡◌, ◌≢◌, ℕ, ◌+◌, ◌^◌, ◌<◌, ◌≤◌, List, [], ◌∷◌, ◌++◌, length, take, drop, slice_get, Some, OnOk, OnErr, IfOk, IsOk};
+ghost use Rattle.std.specs.Prelude.{if◌then◌else◌, MatchOption, ◌≡◌, ◌≢◌, ℕ, ◌+◌, ◌^◌, ◌<◌, ◌≤◌, List, [], ◌∷◌, ◌++◌};
+ghost use Rattle.std.specs.Prelude.{length, take, drop, slice_get, Some, OnOk, OnErr, IfOk, IsOk};
 ghost use Rattle.std.specs.List.{HoldsAt};
+ghost use Rattle.gr_tick.specs.declared.TheConstants.{MAX_TICK};
 ghost use Rattle.gr_tick.specs.Runs.{value_at, AreRuns, first_bottom_from, top_of};
 ghost use Rattle.gr_tick.specs.Stored.{runs_in, within, IsRun, AreTickRuns, EndBefore, RunsGive, is_told, needed, part, StaysUntil};
 
@@ -68,7 +70,7 @@ impl<V: Lattice> Stream<V> {
     pub fn len(&self) -> usize
         ensures len { result ≡ length self.now.runs }
         ensures canonical { AreRuns V.least self.now.runs }
-        ensures in_range { EndBefore self.now.runs (2 ^ 62 + 1) }
+        ensures in_range { EndBefore self.now.runs (MAX_TICK + 1) }
     {
         self.runs.len()
     }
@@ -85,7 +87,7 @@ impl<V: Lattice> Stream<V> {
     /// The greatest tick of a run, or 0 where there is none. It takes no memory.
     pub fn top(&self) -> u64
         ensures top { result ≡ top_of self.now.runs }
-        ensures inside { result ≤ 2 ^ 62 }
+        ensures inside { result ≤ MAX_TICK }
         ensures canonical { AreRuns V.least self.now.runs }
         ensures past { EndBefore self.now.runs (result + 1) }
     {
@@ -101,18 +103,18 @@ impl<V: Lattice> Stream<V> {
 
     /// The greatest tick, at most `MAX_TICK`, up to which the value stays that of `tick`. It takes no memory.
     pub fn steady_until(&self, tick: u64) -> u64
-        requires { tick ≤ 2 ^ 62 }
+        requires { tick ≤ MAX_TICK }
         ensures forward { tick ≤ result }
-        ensures inside { result ≤ 2 ^ 62 }
+        ensures inside { result ≤ MAX_TICK }
         ensures steady { (t : ℕ) → tick ≤ t → t ≤ result → value_at V.least self.now.runs t ≡ value_at V.least self.now.runs tick }
-        ensures greatest { result < 2 ^ 62 → value_at V.least self.now.runs (result + 1) ≢ value_at V.least self.now.runs tick }
+        ensures greatest { result < MAX_TICK → value_at V.least self.now.runs (result + 1) ≢ value_at V.least self.now.runs tick }
     {
         steady_until(&self.runs, tick)
     }
 
     /// The value at a tick and how far it stays, as `at` and `steady_until` say it, by one search. It takes no memory.
     pub fn steady_at(&self, tick: u64) -> Steady<V>
-        requires { tick ≤ 2 ^ 62 }
+        requires { tick ≤ MAX_TICK }
         ensures { StaysUntil V.least self.now.runs tick result }
     {
         steady_in(&self.runs, tick)
@@ -152,7 +154,7 @@ impl<V: Lattice> Stream<V> {
     pub fn join_range(&mut self, first: u64, last: u64, value: V)
         requires from_one { 1 ≤ first }
         requires ordered { first ≤ last }
-        requires upto { last ≤ 2 ^ 62 }
+        requires upto { last ≤ MAX_TICK }
         requires room { runs_in first last self.old.runs + 1 ≤ self.old.spare }
         ensures joined { RunsGive V.least self.new.runs (λ t. if within first last t then V.join_of (value_at V.least self.old.runs t) value else value_at V.least self.old.runs t) }
         ensures spare { self.old.spare ≤ self.new.spare + (runs_in first last self.old.runs + 1) }
@@ -215,7 +217,7 @@ impl<V: Lattice> Stream<V> {
     pub fn set_range(&mut self, first: u64, last: u64, value: V)
         requires from_one { 1 ≤ first }
         requires ordered { first ≤ last }
-        requires upto { last ≤ 2 ^ 62 }
+        requires upto { last ≤ MAX_TICK }
         requires room { 2 ≤ self.old.spare }
         ensures put { RunsGive V.least self.new.runs (λ t. if within first last t then value else value_at V.least self.old.runs t) }
         ensures spare { self.old.spare ≤ self.new.spare + 2 }
@@ -227,7 +229,7 @@ impl<V: Lattice> Stream<V> {
     pub fn lower_range(&mut self, first: u64, last: u64) -> Result<(), AllocError>
         requires from_one { 1 ≤ first }
         requires ordered { first ≤ last }
-        requires upto { last ≤ 2 ^ 62 }
+        requires upto { last ≤ MAX_TICK }
         ensures lowered { OnOk result (RunsGive V.least self.new.runs (λ t. if within first last t then V.least else value_at V.least self.old.runs t)) }
         ensures spare { self.old.spare ≤ self.new.spare + 1 }
         ensures succeeds { 1 ≤ self.old.spare → IsOk result }
@@ -242,7 +244,7 @@ impl<V: Lattice> Stream<V> {
     pub fn lower_ready(&mut self, first: u64, last: u64)
         requires from_one { 1 ≤ first }
         requires ordered { first ≤ last }
-        requires upto { last ≤ 2 ^ 62 }
+        requires upto { last ≤ MAX_TICK }
         requires room { 1 ≤ self.old.spare }
         ensures lowered { RunsGive V.least self.new.runs
             (λ t. if within first last t then V.least else value_at V.least self.old.runs t) }
@@ -264,10 +266,10 @@ impl<V: Lattice> Stream<V> {
     /// The least tick from `tick` on with the least value, or `MAX_TICK + 1`. It takes no memory.
     pub fn first_bottom_from(&self, tick: u64) -> u64
         requires from_one { 1 ≤ tick }
-        requires upto { tick ≤ 2 ^ 62 + 1 }
+        requires upto { tick ≤ MAX_TICK + 1 }
         ensures first { result ≡ first_bottom_from self.now.runs tick }
         ensures forward { tick ≤ result }
-        ensures inside { result ≤ 2 ^ 62 + 1 }
+        ensures inside { result ≤ MAX_TICK + 1 }
         ensures bottom { value_at V.least self.now.runs result ≡ V.least }
         ensures known { (t : ℕ) → tick ≤ t → t < result → value_at V.least self.now.runs t ≢ V.least }
     {
@@ -278,7 +280,7 @@ impl<V: Lattice> Stream<V> {
     pub fn piece(&self, first: u64, last: u64) -> Result<Piece<V>, AllocError>
         requires from_one { 1 ≤ first }
         requires ordered { first ≤ last }
-        requires upto { last ≤ 2 ^ 62 }
+        requires upto { last ≤ MAX_TICK }
         ensures { IfOk result (λ piece. RunsGive V.least piece (λ t. if within first last t then value_at V.least self.now.runs t else V.least)) }
     {
         piece_of(&self.runs, first, last)
@@ -290,7 +292,7 @@ fn piece_of<V: Lattice>(runs: &Gap<Run<V>>, first: u64, last: u64) -> Result<Pie
     requires runs { AreTickRuns V.least runs.now.items }
     requires from_one { 1 ≤ first }
     requires ordered { first ≤ last }
-    requires upto { last ≤ 2 ^ 62 }
+    requires upto { last ≤ MAX_TICK }
     ensures { IfOk result (λ piece. RunsGive V.least piece (λ t. if within first last t then value_at V.least runs.now.items t else V.least)) }
 {
     let mut piece = Piece::new(runs.allocator());
@@ -307,7 +309,7 @@ fn piece_of<V: Lattice>(runs: &Gap<Run<V>>, first: u64, last: u64) -> Result<Pie
 fn last_of<V: Lattice>(runs: &Gap<Run<V>>) -> u64
     requires { AreTickRuns V.least runs.now.items }
     ensures top { result ≡ top_of runs.now.items }
-    ensures inside { result ≤ 2 ^ 62 }
+    ensures inside { result ≤ MAX_TICK }
     ensures past { EndBefore runs.now.items (result + 1) }
 {
     let count = runs.len();

@@ -1,9 +1,10 @@
 -- What holds of a world between its calls, and of the lanes that its logs stand on
-use Rattle.std.specs.Prelude.{◌≡◌, ◌≢◌, ℕ, ◌*◌, ◌^◌, ◌<◌, ◌≤◌, true, false, length, map, Some, None}
+use Rattle.std.specs.Prelude.{◌≡◌, ◌≢◌, ℕ, ◌*◌, ◌<◌, ◌≤◌, true, false, length, map, Some, None}
 use Rattle.std.specs.List.{AllByRecursion}
 use Rattle.gr_frame.specs.Cut.{AreFrames}
 use Rattle.gr_out.specs.declared.disk.Stop.TheVariants.{Unset}
 use Rattle.gr_out.specs.Lane.{Lane}
+use Rattle.gr_tick.specs.declared.TheConstants.{MAX_TICK}
 use Rattle.gr_publog.specs.Crash.{LogView}
 use Rattle.gr_publog.specs.Calls.{IsReady}
 use Rattle.gr_topo.specs.Topology.{host_of}
@@ -20,8 +21,8 @@ pub record IsWorld (w : WorldView) : Type 0 where
   -- each frame is the spelling of the one that its bytes say, and that one goes over an edge
   pub spelled : AreFrames w.frames (map frame_said w.frames)
   pub over : AllByRecursion (GoesOverEdge (net_in w)) (map frame_said w.frames)
-  pub clock : w.clock ≤ 2 ^ 62
-  pub most : w.most ≤ 2 ^ 62
+  pub clock : w.clock ≤ MAX_TICK
+  pub most : w.most ≤ MAX_TICK
   pub down : (b : ℕ) → w.down ≡ Some b → b < length w.topo.brokers
 
 -- a lane under a log: unless the disk has failed the log, a crash leaves its records. Room was made, and no stop is

@@ -18,7 +18,8 @@ ghost use Rattle.gr_world.specs.Opened.{IsRead};
 ghost use Rattle.gr_world.specs.Ran.{IsOpen, Ran};
 ghost use Rattle.gr_world.specs.Steps.{Makes, Refuses, Spends, Stays, Does, IsCarried, NotMemory, refused_at};
 ghost use Rattle.gr_world.specs.Disk.{Counts, StaysSound, IsClosed, IsBarred, IsIdle, UsesDisk};
-ghost use Rattle.gr_world.specs.Stopped.{tick_in, is_broken_by, lines_in, broken_in, BreaksStopped, IsStoppedAt, kept_line, stopped_over, StopRan, StopRestarts};
+ghost use Rattle.gr_world.specs.Stopped.{tick_in, is_broken_by, lines_in, broken_in, BreaksStopped, IsStoppedAt};
+ghost use Rattle.gr_world.specs.Stopped.{kept_line, stopped_over, StopRan, StopRestarts};
 
 use crate::fault::{Memory, WorldFault};
 use crate::order::hosts_subscriber;

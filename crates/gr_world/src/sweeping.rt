@@ -1,6 +1,6 @@
 //! A sweep: the clock moves far ahead, and everything settles.
 
-ghost use Rattle.std.specs.Prelude.{◌≡◌, ◌≢◌, ◌^◌, ◌<◌, ◌≤◌, false, length, None, Err, IfOk};
+ghost use Rattle.std.specs.Prelude.{◌≡◌, ◌≢◌, ◌<◌, ◌≤◌, false, length, None, Err, IfOk};
 ghost use Rattle.gr_sched.specs.declared.step.Step.TheVariants as step;
 ghost use Rattle.gr_model.specs.Net.{numbers};
 ghost use Rattle.gr_model.specs.World.{inwards, outwards, wake_up, hand_down, in_turn, sweep_for, sweep_moment, log_of};
@@ -26,7 +26,7 @@ impl World {
         requires fits { IsWorld self.now }
         requires publisher { p < length self.now.topo.publishers }
         ensures tick { result ≡ (log_of (world_of self.now) p).settled }
-        ensures upto { result ≤ 2 ^ 62 }
+        ensures upto { result ≤ MAX_TICK }
     {
         let broker = &self.brokers[self.topology.host(p) as usize];
         let log = broker.log(p);

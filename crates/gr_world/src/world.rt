@@ -1,7 +1,8 @@
 //! The world: all brokers of a topology, and the frames that they sent.
 
-ghost use Rattle.std.specs.Prelude.{◌≡◌, ℕ, ◌^◌, ◌≤◌, false, [], IfOk, Ok};
+ghost use Rattle.std.specs.Prelude.{◌≡◌, ℕ, ◌≤◌, false, [], IfOk, Ok};
 ghost use Rattle.gr_out.specs.Lane.{Lane};
+ghost use Rattle.gr_tick.specs.declared.TheConstants.{MAX_TICK};
 ghost use Rattle.gr_sched.specs.declared.step.Step.TheVariants.{Clock};
 ghost use Rattle.gr_world.specs.Of.{IsWorld, LanesFit, IsSound};
 ghost use Rattle.gr_world.specs.Ran.{noted_in};
@@ -72,7 +73,7 @@ impl World {
     /// Sets the clock, in milliseconds. It may go back. Takes no memory.
     pub fn clock(&mut self, now: u64)
         requires fits { IsWorld self.old }
-        requires now { now ≤ 2 ^ 62 }
+        requires now { now ≤ MAX_TICK }
         ensures makes { Makes (Clock now) self.old self.new (Ok []) }
         ensures stays { Stays self.old self.new }
         ensures fits { IsWorld self.new }
