@@ -3,9 +3,10 @@
 ghost use Rattle.std.specs.Prelude.{◌≡◌, ◌/◌, ◌%◌, ◌^◌, ◌<◌};
 ghost use Rattle.gr_soak.specs.Text.{stirred};
 
-/// What the state is multiplied by at a draw, and what is added then.
+/// What the state is multiplied by at a draw.
 const MULTIPLIER: u64 = 6_364_136_223_846_793_005;
 
+/// What is added then.
 const INCREMENT: u64 = 1_442_695_040_888_963_407;
 
 /// The state after a draw.

@@ -17,7 +17,7 @@ ghost use Rattle.gr_soak.specs.Summary.{is_logged, is_got, last_lines, summary_o
 ghost use Rattle.gr_soak.specs.Report.{summary_text, soak_report};
 
 use crate::summary::{Summary, behind_in, frames_in, got_in, kept_in, logged_in, summary_text};
-use crate::text::soak_text;
+use crate::text::{MAX_TURNS, soak_text};
 use gr_event::Text;
 use gr_model::Reports;
 use gr_out::{MemDisk, Memory, RunFault, SimDisk, Sink, write_all};
@@ -34,7 +34,7 @@ use std::alloc::{AllocError, Global};
 /// `Memory` where memory is refused. `Write` only where the sink failed in this call. After either the sink took a front
 /// of the lines.
 pub fn soak<K: Sink>(alloc: Global, n: u64, sink: &mut K) -> Result<(), RunFault>
-    requires range { (1 ≤ n) × (n ≤ 2000) }
+    requires range { (1 ≤ n) × (n ≤ MAX_TURNS) }
     ensures printed { OnOk result (K.taken sink.new ≡ with_more (K.taken sink.old) (soak_report n)) }
     ensures front { OnErr result (TakesFront (K.taken sink.old) (K.taken sink.new) (soak_report n)) }
     ensures only { IfErr result IsPutFault }
@@ -54,7 +54,7 @@ pub fn soak<K: Sink>(alloc: Global, n: u64, sink: &mut K) -> Result<(), RunFault
 /// The lines that a soak of `n` turns prints. That its text reads as a scenario is not proved: another answer would be
 /// told as want of memory.
 fn soak_lines(alloc: Global, n: u64) -> Result<Text, Memory>
-    requires { (1 ≤ n) × (n ≤ 2000) }
+    requires { (1 ≤ n) × (n ≤ MAX_TURNS) }
     ensures { IfOk result (λ lines. lines ≡ soak_report n) }
 {
     let text = soak_text(alloc, n)?;

@@ -1,7 +1,10 @@
 //! The text of the soak's scenario.
 
 ghost use Rattle.std.specs.Prelude.{◌≡◌, ◌+◌, ◌*◌, ◌/◌, ◌%◌, ◌<◌, ◌≤◌, ◌++◌, IfOk, OnOk};
-ghost use Rattle.gr_soak.specs.Text.{after, word, name_text, leaf_text, sym_text, price_text, subscriber_text, topology_text, clock_text, publisher_at, publish_text, deliver_text, delivers_text, wakes_text, first_crash_text, second_crash_text, turn_text, turns_text, soak_text};
+ghost use Rattle.gr_soak.specs.Text.{after, word, name_text, leaf_text, sym_text, price_text, subscriber_text};
+ghost use Rattle.gr_soak.specs.Text.{topology_text, clock_text, publisher_at, publish_text, deliver_text};
+ghost use Rattle.gr_soak.specs.Text.{delivers_text, wakes_text, first_crash_text, second_crash_text, turn_text};
+ghost use Rattle.gr_soak.specs.Text.{turns_text, soak_text};
 
 use crate::draws::draw;
 use gr_event::Text;
@@ -19,6 +22,9 @@ name = \"Q\"
 at = \"B1\"
 ";
 
+/// How many turns a soak has at most.
+pub const MAX_TURNS: u64 = 2_000;
+
 /// How many subscribers there are.
 const SUBSCRIBERS: u64 = 12;
 
@@ -28,7 +34,7 @@ const DELIVERIES: u64 = 8;
 /// The scenario of a soak of `n` turns, as a text that a replay reads: the topology, and its steps. `Memory` where memory
 /// is refused.
 pub fn soak_text(alloc: Global, n: u64) -> Result<Text, Memory>
-    requires range { (1 ≤ n) × (n ≤ 2000) }
+    requires range { (1 ≤ n) × (n ≤ MAX_TURNS) }
     ensures text { IfOk result (λ text. text ≡ soak_text n) }
 {
     let mut text = Text::new(alloc);
@@ -127,7 +133,7 @@ fn word(w: u64) -> &'static str
 
 /// Puts the steps of all turns.
 fn put_turns(alloc: Global, text: &mut Text, n: u64) -> Result<(), Memory>
-    requires { n ≤ 2000 }
+    requires { n ≤ MAX_TURNS }
     ensures { OnOk result (text.new ≡ text.old ++ turns_text n) }
 {
     let mut x = n;
@@ -140,7 +146,7 @@ fn put_turns(alloc: Global, text: &mut Text, n: u64) -> Result<(), Memory>
 /// Puts the steps of turn `i` of `n`.
 fn put_turn(alloc: Global, text: &mut Text, n: u64, i: u64, x: &mut u64) -> Result<(), Memory>
     requires turn { (1 ≤ i) × (i ≤ n) }
-    requires few { n ≤ 2000 }
+    requires few { n ≤ MAX_TURNS }
     ensures text { OnOk result (text.new ≡ text.old ++ turn_text n i x.old) }
     ensures state { OnOk result (x.new ≡ after x.old 11) }
 {
@@ -158,7 +164,7 @@ fn put_turn(alloc: Global, text: &mut Text, n: u64, i: u64, x: &mut u64) -> Resu
 /// Puts the clock of turn `i`.
 #[tactic(auto, unfolding(crate::specs::Text::clock_text))]
 fn put_clock(alloc: Global, text: &mut Text, i: u64) -> Result<(), Memory>
-    requires { i ≤ 2000 }
+    requires { i ≤ MAX_TURNS }
     ensures { OnOk result (text.new ≡ text.old ++ clock_text i) }
 {
     let clock = 100 * i;
@@ -176,7 +182,7 @@ fn put_publish(
     qty: u64,
     w: u64,
 ) -> Result<(), Memory>
-    requires turn { i ≤ 2000 }
+    requires turn { i ≤ MAX_TURNS }
     requires word { w < 4 }
     ensures { OnOk result (text.new ≡ text.old ++ publish_text i price qty w) }
 {
@@ -199,9 +205,9 @@ fn publisher_at(i: u64) -> &'static str
 
 /// Puts the deliveries of turn `i`.
 fn put_delivers(alloc: Global, text: &mut Text, i: u64, x: &mut u64) -> Result<(), Memory>
-    requires { (1 ≤ i) × (i ≤ 2000) }
+    requires { (1 ≤ i) × (i ≤ MAX_TURNS) }
     ensures text { OnOk result (text.new ≡ text.old ++ delivers_text i x.old) }
-    ensures state { OnOk result (x.new ≡ after x.old 8) }
+    ensures state { OnOk result (x.new ≡ after x.old DELIVERIES) }
 {
     'delivers: for _ in 0..DELIVERIES {
         let frame = 1 + draw(x, 6 * i);
@@ -239,7 +245,7 @@ fn first_crash(n: u64, i: u64) -> &'static [u8]
 
 /// The step that crashes the root, if turn `i` stands at two thirds.
 fn second_crash(n: u64, i: u64) -> &'static [u8]
-    requires { n ≤ 2000 }
+    requires { n ≤ MAX_TURNS }
     ensures { result.now ≡ second_crash_text n i }
 {
     if i == 2 * n / 3 { b"crash B0\n" } else { b"" }
