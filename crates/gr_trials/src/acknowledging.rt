@@ -1,7 +1,7 @@
 //! What all have acknowledged is cut.
 
 use crate::stage::Step::{Carry, Publish, Wake};
-use crate::stage::told_by;
+use crate::stage::{Scene, play};
 use crate::station::{Station, start_over};
 use crate::trees::TWO_LEAVES;
 use gr_broker::{BrokerFault, Outcome};
@@ -16,51 +16,55 @@ const ACKNOWLEDGED: &[u8] =
     b"GK\x01\x02\x00\x01\x00\x00\x00\x00\x00\x01\x00\x00\x00\x00\x00\x00\x00\x01\
     \x00\x00\x00\x00\x00\x00\x03\xe8\x02";
 
-// What both children have acknowledged is cut, and who has not is told what to expect.
+/// Scenes of what is acknowledged.
+const ACKNOWLEDGEMENTS: [Scene; 1] = [
+    // What both children have acknowledged is cut, and who has not is told what to expect.
+    Scene {
+        part: TWO_LEAVES,
+        brokers: 3,
+        steps: &[
+            Publish {
+                number: 1,
+                now: 1000,
+            },
+            Carry {
+                step: 0,
+                frame: 0,
+                to: 1,
+                now: 1000,
+            },
+            Carry {
+                step: 0,
+                frame: 1,
+                to: 2,
+                now: 1000,
+            },
+            Wake { at: 1, now: 1000 },
+            Carry {
+                step: 3,
+                frame: 0,
+                to: 0,
+                now: 1000,
+            },
+            Wake { at: 0, now: 1000 },
+            Wake { at: 2, now: 1000 },
+            Carry {
+                step: 6,
+                frame: 0,
+                to: 0,
+                now: 1000,
+            },
+            Wake { at: 0, now: 1000 },
+        ],
+        told: "logged 0 1 1000 / 0>1 know S1-999 D1000-1000 / 0>2 know S1-999 D1000-1000 / | \
+        got 0 0 1000 / horizon 0 0 1000 / | got 1 0 1000 / horizon 1 0 1000 / | 1>0 want A1-1000 / | | \
+        0>2 expect 1000 / | 2>0 want A1-1000 / | | cut 0 1000 / | ",
+    },
+];
+
 #[test]
 fn what_all_have_acknowledged_is_cut(rt: HostRuntime) -> Result<(), Fail> {
-    let steps = [
-        Publish {
-            number: 1,
-            now: 1000,
-        },
-        Carry {
-            step: 0,
-            frame: 0,
-            to: 1,
-            now: 1000,
-        },
-        Carry {
-            step: 0,
-            frame: 1,
-            to: 2,
-            now: 1000,
-        },
-        Wake { at: 1, now: 1000 },
-        Carry {
-            step: 3,
-            frame: 0,
-            to: 0,
-            now: 1000,
-        },
-        Wake { at: 0, now: 1000 },
-        Wake { at: 2, now: 1000 },
-        Carry {
-            step: 6,
-            frame: 0,
-            to: 0,
-            now: 1000,
-        },
-        Wake { at: 0, now: 1000 },
-    ];
-    let told = told_by(rt.alloc(), TWO_LEAVES, 3, &steps)?;
-    assert_eq!(rt;
-        told.as_str(),
-        "logged 0 1 1000 / 0>1 know S1-999 D1000-1000 / 0>2 know S1-999 D1000-1000 / | \
-        got 0 0 1000 / horizon 0 0 1000 / | got 1 0 1000 / horizon 1 0 1000 / | 1>0 want A1-1000 / | | \
-        0>2 expect 1000 / | 2>0 want A1-1000 / | | cut 0 1000 / | "
-    );
-    Ok(())
+    play(&rt, rt.alloc(), &ACKNOWLEDGEMENTS)
 }
 
 /// A host whose log has a mark at 1000, which its one child has acknowledged. The second write of its next wake fails.

@@ -11,6 +11,10 @@ mod datagrams;
 #[cfg(test)]
 mod forwarding;
 #[cfg(test)]
+mod lines;
+#[cfg(test)]
+mod run;
+#[cfg(test)]
 mod shown;
 #[cfg(test)]
 mod stage;

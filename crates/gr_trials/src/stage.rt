@@ -9,6 +9,7 @@ use gr_broker::{BrokerFault, Outcome};
 use gr_event::Event;
 use std::alloc::Global;
 use std::fmt::Write;
+use std::process::Abort;
 use std::test::Fail;
 
 /// What is done next, at a moment in milliseconds.
@@ -33,10 +34,27 @@ pub enum Step {
     },
 }
 
+/// The first brokers of a topology, steps with them, and what these tell and send.
+pub struct Scene {
+    pub part: &'static str,
+    pub brokers: u16,
+    pub steps: &'static [Step],
+    pub told: &'static str,
+}
+
+/// Plays each scene, and compares what its steps tell and send.
+pub fn play(rt: &impl Abort, alloc: Global, scenes: &[Scene]) -> Result<(), Fail> {
+    for scene in scenes {
+        let told = told_by(alloc, scene)?;
+        assert_eq!(rt; told.as_str(), scene.told);
+    }
+    Ok(())
+}
+
 /// What each step tells and sends, with a bar behind it.
-pub fn told_by(alloc: Global, part: &str, brokers: u16, steps: &[Step]) -> Result<String, Fail> {
-    let mut stage = Stage::new(alloc, part, brokers)?;
-    for step in steps {
+fn told_by(alloc: Global, scene: &Scene) -> Result<String, Fail> {
+    let mut stage = Stage::new(alloc, scene.part, scene.brokers)?;
+    for step in scene.steps {
         stage.take(step)?;
     }
     Ok(stage.text)
