@@ -2,7 +2,7 @@ mod examples;
 mod servers;
 
 use crate::top::gryphon;
-use examples::EXAMPLES;
+use examples::{EXAMPLES, Example};
 use gr_out::{MemDisk, MemPost, MemSink, MemSource, Memory, Sink, Source};
 use gr_sock::{StdSink, StdSource};
 use servers::{Cue, DELIVERED, DISK_CALLS, LOG, OLD_LOG, SERVERS, STOPPED, Server};
@@ -15,9 +15,10 @@ use std::test::Fail;
 const USAGE: &str = "usage: gryphon replay | serve TURNS BROKER... | match | soak N\n";
 
 /// One event, published and delivered.
-const FIRST: &str = "---\nclock 1000\npublish P 1 {\"n\":82}\ndeliver 1\n";
+const FIRST: &[u8] = b"---\nclock 1000\npublish P 1 {\"n\":82}\ndeliver 1\n";
 
-/// Words, a source of some bytes and a sink with some room, and the numbers of the calls of each that are to fail.
+/// Words, a source of some bytes and a sink with some room, and the numbers of the calls of each that are to fail; the
+/// status, and what is printed.
 #[derive(Clone, Copy)]
 struct Case<'a> {
     words: &'a [&'a str],
@@ -25,7 +26,20 @@ struct Case<'a> {
     reads: &'a [u64],
     room: usize,
     writes: &'a [u64],
+    status: u8,
+    printed: &'a str,
 }
+
+/// A replay of an empty source.
+const REPLAY: Case<'static> = Case {
+    words: &["replay"],
+    input: b"",
+    reads: &[],
+    room: 10_000,
+    writes: &[],
+    status: 0,
+    printed: "",
+};
 
 /// A text of bytes.
 fn as_text(bytes: &[u8]) -> &str {
@@ -35,48 +49,61 @@ fn as_text(bytes: &[u8]) -> &str {
     }
 }
 
-/// Carries out a case, and compares the status and what was printed.
-fn comes_to(
-    rt: &impl Abort,
-    alloc: Global,
-    case: &Case<'_>,
-    status: u8,
-    printed: &str,
-) -> Result<(), Fail> {
+/// Carries out the words of a case over its source and a sink, and gives the status.
+fn carry_out(alloc: Global, case: &Case<'_>, sink: &mut MemSink) -> Result<u8, Memory> {
     let mut source = MemSource::new(alloc, case.input, case.reads)?;
-    let mut sink = MemSink::new(alloc, case.room, case.writes)?;
-    // The first call of each is to fail: none is made.
+    carry_out_alone(alloc, case.words, &mut source, sink)
+}
+
+/// The same over a disk and a post of which the first call of each is to fail: none is made.
+fn carry_out_alone(
+    alloc: Global,
+    words: &[&str],
+    source: &mut MemSource,
+    sink: &mut MemSink,
+) -> Result<u8, Memory> {
     let mut disk = MemDisk::new(alloc, &[1])?;
     let mut post = MemPost::new(alloc, &[1], &[1])?;
-    let came = gryphon(
-        alloc,
-        case.words,
-        &mut source,
-        &mut sink,
-        &mut disk,
-        &mut post,
-    );
+    Ok(gryphon(alloc, words, source, sink, &mut disk, &mut post))
+}
+
+/// Compares the status and what was printed.
+fn compare(rt: &impl Abort, sink: &MemSink, came: u8, status: u8, printed: &str) {
     assert_eq!(rt; as_text(sink.bytes()), printed);
     assert_eq!(rt; came, status, "for {printed:?}");
+}
+
+/// Carries out a case, and compares the status and what was printed.
+fn comes_to(rt: &impl Abort, alloc: Global, case: &Case<'_>) -> Result<(), Fail> {
+    let mut sink = MemSink::new(alloc, case.room, case.writes)?;
+    let came = carry_out(alloc, case, &mut sink)?;
+    compare(rt, &sink, came, case.status, case.printed);
+    Ok(())
+}
+
+/// Carries out each case.
+fn all_come_to(rt: &impl Abort, alloc: Global, cases: &[Case<'_>]) -> Result<(), Fail> {
+    for case in cases {
+        comes_to(rt, alloc, case)?;
+    }
     Ok(())
 }
 
 /// Replays bytes where no call fails, and compares the status and what was printed.
-fn replays(
+fn replays<'a>(
     rt: &impl Abort,
     alloc: Global,
-    input: &[u8],
+    input: &'a [u8],
     status: u8,
-    printed: &str,
+    printed: &'a str,
 ) -> Result<(), Fail> {
     let case = Case {
-        words: &["replay"],
         input,
-        reads: &[],
-        room: 10_000,
-        writes: &[],
+        status,
+        printed,
+        ..REPLAY
     };
-    comes_to(rt, alloc, &case, status, printed)
+    comes_to(rt, alloc, &case)
 }
 
 /// Replays each text, and compares the status and what was printed.
@@ -92,30 +119,37 @@ fn all_replay(
     Ok(())
 }
 
+/// Replays a schedule, and compares its report.
+fn reports(rt: &impl Abort, alloc: Global, example: &Example) -> Result<(), Fail> {
+    let text = format!(in alloc; "{}---\n{}", example.topology, example.steps)?;
+    replays(rt, alloc, text.as_bytes(), 0, example.report)
+}
+
 #[test]
 fn a_schedule_prints_its_report(rt: HostRuntime) -> Result<(), Fail> {
-    for example in EXAMPLES {
-        let text = format!(in rt.alloc(); "{}---\n{}", example.topology, example.steps)?;
-        replays(&rt, rt.alloc(), text.as_bytes(), 0, example.report)?;
+    for example in &EXAMPLES {
+        reports(&rt, rt.alloc(), example)?;
     }
     Ok(())
 }
 
+/// Scenarios without much, each with what is printed.
+const SHORT: [(&str, &str); 4] = [
+    // No steps.
+    ("", ""),
+    ("\n \t\n---\n# nothing\n", ""),
+    // No separator: all is the topology.
+    ("brokers = [\"A\"]", ""),
+    // Lines that are passed over are numbered too. A line may end with CR and LF, and the last one with nothing.
+    (
+        "---\r\n\r\n# x\r\n\tclock  5 \r\n\r\ndeliver 0",
+        "refused line 5 no-frame 0 of 0\n",
+    ),
+];
+
 #[test]
 fn a_scenario_may_be_short(rt: HostRuntime) -> Result<(), Fail> {
-    let rows = [
-        // No steps.
-        ("", ""),
-        ("\n \t\n---\n# nothing\n", ""),
-        // No separator: all is the topology.
-        ("brokers = [\"A\"]", ""),
-        // Lines that are passed over are numbered too. A line may end with CR and LF, and the last one with nothing.
-        (
-            "---\r\n\r\n# x\r\n\tclock  5 \r\n\r\ndeliver 0",
-            "refused line 5 no-frame 0 of 0\n",
-        ),
-    ];
-    all_replay(&rt, rt.alloc(), &rows, 0)
+    all_replay(&rt, rt.alloc(), &SHORT, 0)
 }
 
 /// A publish that is stopped inside, and then made again: at disk call `call`, with image `pick`.
@@ -133,88 +167,98 @@ fn stops(rt: &impl Abort, alloc: Global, call: u8, pick: u8) -> Result<(), Fail>
     replays(rt, alloc, text.as_bytes(), 0, printed)
 }
 
-#[test]
-fn a_stopped_publish_is_kept_or_lost(rt: HostRuntime) -> Result<(), Fail> {
-    for call in 1..5 {
-        for pick in 0..=255 {
-            stops(&rt, rt.alloc(), call, pick)?;
-        }
+/// The same at each of the images.
+fn stops_at(rt: &impl Abort, alloc: Global, call: u8) -> Result<(), Fail> {
+    for pick in 0..=255 {
+        stops(rt, alloc, call, pick)?;
     }
     Ok(())
 }
 
 #[test]
-fn what_is_no_topology_is_refused(rt: HostRuntime) -> Result<(), Fail> {
-    let rows = [
-        // The topology is read before the steps. Without a separator all is the topology.
-        ("x\n---\nfrob\n", "topology 1 not-toml\n"),
-        ("clock 1000\n", "topology 1 not-toml\n"),
-        ("#\n---\nfrob\n", "topology 10 missing brokers\n"),
-        // A key and a name are printed as visible characters of ASCII alone.
-        ("\"a b\\u00e9\" = 1\n", "topology 2 bad-key a?b??\n"),
-        ("brokers = 5\n", "topology 3 bad-type brokers\n"),
-        ("brokers = [\"A\", \"A\"]\n", "topology 4 twice A\n"),
-        (
-            "brokers = [\"A\"]\nlinks = [[\"A\", \"X\"]]\n",
-            "topology 5 unknown X\n",
-        ),
-        (
-            "brokers = [\"A\", \"B\", \"C\"]\nlinks = [[\"A\", \"B\"], [\"B\", \"C\"], [\"C\", \"A\"]]\n",
-            "topology 6 not-tree\n",
-        ),
-        (
-            "brokers = [\"A\"]\n[[subscriber]]\nname = \"S\"\nat = \"A\"\nfilter = \"a >\"\n",
-            "topology 7 bad-filter S expected 3\n",
-        ),
-        (
-            "brokers = [\"A\"]\n[addresses]\nA = \"1.2.3.4:0\"\n",
-            "topology 9 bad-address A\n",
-        ),
-        ("brokers = [\"A B\"]\n", "topology 11 bad-name A?B\n"),
-        (
-            "brokers = [\"A\"]\n[settings]\ncache = 0\n",
-            "topology 12 bad-range cache\n",
-        ),
-    ];
-    all_replay(&rt, rt.alloc(), &rows, 2)
+fn a_stopped_publish_is_kept_or_lost(rt: HostRuntime) -> Result<(), Fail> {
+    for call in 1..5 {
+        stops_at(&rt, rt.alloc(), call)?;
+    }
+    Ok(())
 }
+
+/// Texts that begin with no topology, each with the line that says why.
+const NO_TOPOLOGIES: [(&str, &str); 12] = [
+    // The topology is read before the steps. Without a separator all is the topology.
+    ("x\n---\nfrob\n", "topology 1 not-toml\n"),
+    ("clock 1000\n", "topology 1 not-toml\n"),
+    ("#\n---\nfrob\n", "topology 10 missing brokers\n"),
+    // A key and a name are printed as visible characters of ASCII alone.
+    ("\"a b\\u00e9\" = 1\n", "topology 2 bad-key a?b??\n"),
+    ("brokers = 5\n", "topology 3 bad-type brokers\n"),
+    ("brokers = [\"A\", \"A\"]\n", "topology 4 twice A\n"),
+    (
+        "brokers = [\"A\"]\nlinks = [[\"A\", \"X\"]]\n",
+        "topology 5 unknown X\n",
+    ),
+    (
+        "brokers = [\"A\", \"B\", \"C\"]\nlinks = [[\"A\", \"B\"], [\"B\", \"C\"], [\"C\", \"A\"]]\n",
+        "topology 6 not-tree\n",
+    ),
+    (
+        "brokers = [\"A\"]\n[[subscriber]]\nname = \"S\"\nat = \"A\"\nfilter = \"a >\"\n",
+        "topology 7 bad-filter S expected 3\n",
+    ),
+    (
+        "brokers = [\"A\"]\n[addresses]\nA = \"1.2.3.4:0\"\n",
+        "topology 9 bad-address A\n",
+    ),
+    ("brokers = [\"A B\"]\n", "topology 11 bad-name A?B\n"),
+    (
+        "brokers = [\"A\"]\n[settings]\ncache = 0\n",
+        "topology 12 bad-range cache\n",
+    ),
+];
+
+#[test]
+fn what_is_no_topology_is_refused(rt: HostRuntime) -> Result<(), Fail> {
+    all_replay(&rt, rt.alloc(), &NO_TOPOLOGIES, 2)
+}
+
+/// Texts that go on with no steps, each with the line that says why.
+const NO_STEPS: [(&str, &str); 12] = [
+    ("---\ncut P 5\n", "step 1 bad-word line 1\n"),
+    ("---\nsweep\nclock\n", "step 1 bad-word line 2\n"),
+    // The names are those of the topology.
+    ("---\nwake C\n", "step 1 bad-word line 1\n"),
+    (
+        "brokers = [\"A\"]\n---\nwake A\npublish P 1 {}\n",
+        "step 1 bad-word line 2\n",
+    ),
+    ("---\nclock x\n", "step 2 bad-number line 1\n"),
+    ("---\nclock +5\n", "step 2 bad-number line 1\n"),
+    (
+        "---\n# x\n\nclock 4611686018427387905\nfrob\n",
+        "step 2 bad-number line 3\n",
+    ),
+    (
+        "---\npublish P 1 stop 5 pick 0 {}\n",
+        "step 2 bad-number line 1\n",
+    ),
+    (
+        "---\npublish P 1 {\"n\":1.5}\n",
+        "step 3 bad-event line 1 bad-value\n",
+    ),
+    (
+        "---\npublish P 1 [1]\n",
+        "step 3 bad-event line 1 not-object\n",
+    ),
+    (
+        "---\npublish P 1 {\"\":1}\n",
+        "step 3 bad-event line 1 bad-name\n",
+    ),
+    ("---\npublish P 1 {\n", "step 3 bad-event line 1 not-json\n"),
+];
 
 #[test]
 fn what_are_no_steps_is_refused(rt: HostRuntime) -> Result<(), Fail> {
-    let rows = [
-        ("---\ncut P 5\n", "step 1 bad-word line 1\n"),
-        ("---\nsweep\nclock\n", "step 1 bad-word line 2\n"),
-        // The names are those of the topology.
-        ("---\nwake C\n", "step 1 bad-word line 1\n"),
-        (
-            "brokers = [\"A\"]\n---\nwake A\npublish P 1 {}\n",
-            "step 1 bad-word line 2\n",
-        ),
-        ("---\nclock x\n", "step 2 bad-number line 1\n"),
-        ("---\nclock +5\n", "step 2 bad-number line 1\n"),
-        (
-            "---\n# x\n\nclock 4611686018427387905\nfrob\n",
-            "step 2 bad-number line 3\n",
-        ),
-        (
-            "---\npublish P 1 stop 5 pick 0 {}\n",
-            "step 2 bad-number line 1\n",
-        ),
-        (
-            "---\npublish P 1 {\"n\":1.5}\n",
-            "step 3 bad-event line 1 bad-value\n",
-        ),
-        (
-            "---\npublish P 1 [1]\n",
-            "step 3 bad-event line 1 not-object\n",
-        ),
-        (
-            "---\npublish P 1 {\"\":1}\n",
-            "step 3 bad-event line 1 bad-name\n",
-        ),
-        ("---\npublish P 1 {\n", "step 3 bad-event line 1 not-json\n"),
-    ];
-    all_replay(&rt, rt.alloc(), &rows, 2)
+    all_replay(&rt, rt.alloc(), &NO_STEPS, 2)
 }
 
 #[test]
@@ -237,190 +281,263 @@ fn too_many_steps_are_refused(rt: HostRuntime) -> Result<(), Fail> {
     replays(&rt, rt.alloc(), lines.as_slice(), 9, "too-large steps\n")
 }
 
+/// Words that are no command's.
+const OTHER_WORDS: [&[&str]; 30] = [
+    &[],
+    &["frob"],
+    &["Replay"],
+    &["--help"],
+    &["--", "replay"],
+    // No number of turns, one out of range, no broker, and what looks like a flag.
+    &["serve"],
+    &["serve", "A"],
+    &["serve", "0", "A"],
+    &["serve", "1000001", "A"],
+    &["serve", "-1", "A"],
+    &["serve", "1"],
+    &["serve", "1", "A", "-x"],
+    &["serve", "1", "A", "--help"],
+    // No number, a number out of range, and a word too many.
+    &["soak"],
+    &["soak", "0"],
+    &["soak", "2001"],
+    &["soak", "-1"],
+    &["soak", "x"],
+    &["soak", "5", "6"],
+    &["soak", "--help"],
+    // A word too many.
+    &["replay", "x"],
+    &["replay", "replay"],
+    &["replay", ""],
+    &["replay", "--", "x"],
+    &["match", "x"],
+    &["match", "replay"],
+    // Requests for help.
+    &["replay", "-h"],
+    &["replay", "--help"],
+    &["match", "-h"],
+    &["match", "--help"],
+];
+
+/// Has words get the usage line, whole and where the sink has less room.
+fn get_the_usage(rt: &impl Abort, alloc: Global, words: &[&str]) -> Result<(), Fail> {
+    // The source's first call is to fail: it is not made.
+    let whole = Case {
+        words,
+        input: FIRST,
+        reads: &[1],
+        status: 1,
+        printed: USAGE,
+        ..REPLAY
+    };
+    comes_to(rt, alloc, &whole)?;
+    let cut = Case {
+        room: 6,
+        status: 4,
+        printed: "usage:",
+        ..whole
+    };
+    comes_to(rt, alloc, &cut)
+}
+
 #[test]
 fn other_words_get_the_usage(rt: HostRuntime) -> Result<(), Fail> {
-    let rows: [&[&str]; 30] = [
-        &[],
-        &["frob"],
-        &["Replay"],
-        &["--help"],
-        &["--", "replay"],
-        // No number of turns, one out of range, no broker, and what looks like a flag.
-        &["serve"],
-        &["serve", "A"],
-        &["serve", "0", "A"],
-        &["serve", "1000001", "A"],
-        &["serve", "-1", "A"],
-        &["serve", "1"],
-        &["serve", "1", "A", "-x"],
-        &["serve", "1", "A", "--help"],
-        // No number, a number out of range, and a word too many.
-        &["soak"],
-        &["soak", "0"],
-        &["soak", "2001"],
-        &["soak", "-1"],
-        &["soak", "x"],
-        &["soak", "5", "6"],
-        &["soak", "--help"],
-        // A word too many.
-        &["replay", "x"],
-        &["replay", "replay"],
-        &["replay", ""],
-        &["replay", "--", "x"],
-        &["match", "x"],
-        &["match", "replay"],
-        // Requests for help.
-        &["replay", "-h"],
-        &["replay", "--help"],
-        &["match", "-h"],
-        &["match", "--help"],
-    ];
-    for words in rows {
-        // The source's first call is to fail: it is not made.
-        let mut case = Case {
-            words,
-            input: FIRST.as_bytes(),
-            reads: &[1],
-            room: 1000,
-            writes: &[],
-        };
-        comes_to(&rt, rt.alloc(), &case, 1, USAGE)?;
-        case.room = 6;
-        comes_to(&rt, rt.alloc(), &case, 4, "usage:")?;
+    for words in &OTHER_WORDS {
+        get_the_usage(&rt, rt.alloc(), words)?;
     }
     Ok(())
 }
 
+/// A sign that ends the words.
+const SIGNED: Case<'static> = Case {
+    words: &["replay", "--"],
+    input: b"---\ndeliver 1\n",
+    printed: "refused line 1 no-frame 1 of 0\n",
+    ..REPLAY
+};
+
 #[test]
 fn a_sign_may_end_the_words(rt: HostRuntime) -> Result<(), Fail> {
-    let case = Case {
-        words: &["replay", "--"],
-        input: b"---\ndeliver 1\n",
-        reads: &[],
-        room: 1000,
-        writes: &[],
-    };
-    comes_to(
-        &rt,
-        rt.alloc(),
-        &case,
-        0,
-        "refused line 1 no-frame 1 of 0\n",
-    )
+    comes_to(&rt, rt.alloc(), &SIGNED)
 }
 
-/// A match text, and the lines that it gives.
-const FILTERS: &str = "high price > 80\nrest NOT price > 80\n---\n{\"price\":82}\n{\"qty\":1}\n";
+/// A match text, matched.
+const MATCH: Case<'static> = Case {
+    words: &["match"],
+    input: b"high price > 80\nrest NOT price > 80\n---\n{\"price\":82}\n{\"qty\":1}\n",
+    printed: "high\n-\n",
+    ..REPLAY
+};
 
-const MATCHED: &str = "high\n-\n";
+/// Match texts, and calls that fail.
+const MATCHES: [Case<'static>; 6] = [
+    MATCH,
+    Case {
+        input: b"",
+        printed: "",
+        ..MATCH
+    },
+    Case {
+        input: b"a x = 1\na y = 2\n",
+        status: 2,
+        printed: "match 5 twice line 2\n",
+        ..MATCH
+    },
+    // A schedule is no match text.
+    Case {
+        input: FIRST,
+        status: 2,
+        printed: "match 2 bad-event line 2 not-json\n",
+        ..MATCH
+    },
+    Case {
+        reads: &[1],
+        status: 3,
+        printed: "",
+        ..MATCH
+    },
+    Case {
+        room: 3,
+        status: 4,
+        printed: "hig",
+        ..MATCH
+    },
+];
 
 #[test]
 fn a_match_text_is_matched(rt: HostRuntime) -> Result<(), Fail> {
-    let none: [u64; 0] = [];
-    let rows: [(&[u8], &[u64], usize, u8, &str); 6] = [
-        (FILTERS.as_bytes(), &none, 1000, 0, MATCHED),
-        (b"", &none, 1000, 0, ""),
-        (
-            b"a x = 1\na y = 2\n",
-            &none,
-            1000,
-            2,
-            "match 5 twice line 2\n",
-        ),
-        // A schedule is no match text.
-        (
-            FIRST.as_bytes(),
-            &none,
-            1000,
-            2,
-            "match 2 bad-event line 2 not-json\n",
-        ),
-        (FILTERS.as_bytes(), &[1], 1000, 3, ""),
-        (FILTERS.as_bytes(), &none, 3, 4, "hig"),
-    ];
-    for (input, reads, room, status, printed) in rows {
-        let case = Case {
-            words: &["match"],
-            input,
-            reads,
-            room,
-            writes: &none,
-        };
-        comes_to(&rt, rt.alloc(), &case, status, printed)?;
-    }
+    all_come_to(&rt, rt.alloc(), &MATCHES)
+}
+
+/// Words that ask for three turns. The source's first call is to fail: it is not made.
+const SOAKS: [Case<'static>; 4] = [
+    Case {
+        words: &["soak", "3"],
+        reads: &[1],
+        ..REPLAY
+    },
+    Case {
+        words: &["soak", "+3"],
+        reads: &[1],
+        ..REPLAY
+    },
+    Case {
+        words: &["soak", "003"],
+        reads: &[1],
+        ..REPLAY
+    },
+    Case {
+        words: &["soak", "3", "--"],
+        reads: &[1],
+        ..REPLAY
+    },
+];
+
+/// Carries out a case, and compares the status and the first lines of what was printed.
+fn begins(rt: &impl Abort, alloc: Global, case: &Case<'_>, front: &str) -> Result<(), Fail> {
+    let mut sink = MemSink::new(alloc, case.room, case.writes)?;
+    let came = carry_out(alloc, case, &mut sink)?;
+    assert_eq!(rt; came, case.status);
+    let printed = as_text(sink.bytes());
+    assert!(rt; printed.starts_with(front), "{printed:?}");
     Ok(())
 }
 
 #[test]
 fn a_number_of_turns_is_read_by_its_value(rt: HostRuntime) -> Result<(), Fail> {
-    let rows: [&[&str]; 4] = [
-        &["soak", "3"],
-        &["soak", "+3"],
-        &["soak", "003"],
-        &["soak", "3", "--"],
-    ];
-    for words in rows {
-        // The source's first call is to fail: it is not made.
-        let mut source = MemSource::new(rt.alloc(), b"", &[1])?;
-        let mut sink = MemSink::new(rt.alloc(), 1000, &[])?;
-        let mut disk = MemDisk::new(rt.alloc(), &[1])?;
-        let mut post = MemPost::new(rt.alloc(), &[1], &[1])?;
-        let came = gryphon(
-            rt.alloc(),
-            words,
-            &mut source,
-            &mut sink,
-            &mut disk,
-            &mut post,
-        );
-        assert_eq!(rt; came, 0);
-        let printed = as_text(sink.bytes());
-        assert!(rt; printed.starts_with("soak 3\nbrokers 7\n"), "{printed:?}");
+    for case in &SOAKS {
+        begins(&rt, rt.alloc(), case, "soak 3\nbrokers 7\n")?;
     }
     Ok(())
 }
+
+/// One event, published and delivered.
+const WHOLE: Case<'static> = Case {
+    input: FIRST,
+    printed: "logged P 1 1000\nsent 1 A B know P S1-999 D1000-1000\ngot S P 1000 {\"n\":82}\nhorizon S P 1000\n",
+    ..REPLAY
+};
+
+/// Replays where calls fail.
+const FAILING: [Case<'static>; 9] = [
+    // The read of the bytes, the one that finds their end, and one that is not made.
+    Case {
+        reads: &[1],
+        status: 3,
+        printed: "",
+        ..WHOLE
+    },
+    Case {
+        reads: &[2],
+        status: 3,
+        printed: "",
+        ..WHOLE
+    },
+    Case {
+        reads: &[3],
+        ..WHOLE
+    },
+    // The write of the lines, which are written in one piece, and one that is not made.
+    Case {
+        writes: &[1],
+        status: 4,
+        printed: "",
+        ..WHOLE
+    },
+    Case {
+        writes: &[2],
+        ..WHOLE
+    },
+    // A sink that is full in the midst of a line.
+    Case {
+        room: 23,
+        status: 4,
+        printed: "logged P 1 1000\nsent 1 ",
+        ..WHOLE
+    },
+    // The line of a refusal.
+    Case {
+        input: b"---\nfrob\n",
+        writes: &[1],
+        status: 4,
+        printed: "",
+        ..REPLAY
+    },
+    Case {
+        input: b"x",
+        room: 8,
+        status: 4,
+        printed: "topology",
+        ..REPLAY
+    },
+    // The source fails before the sink could.
+    Case {
+        reads: &[1],
+        room: 0,
+        writes: &[1],
+        status: 3,
+        printed: "",
+        ..WHOLE
+    },
+];
 
 #[test]
 fn failing_calls_are_told(rt: HostRuntime) -> Result<(), Fail> {
-    let whole =
-        "logged P 1 1000\nsent 1 A B know P S1-999 D1000-1000\ngot S P 1000 {\"n\":82}\nhorizon S P 1000\n";
-    let none: [u64; 0] = [];
-    let rows: [(&str, &[u64], usize, &[u64], u8, &str); 9] = [
-        // The read of the bytes, the one that finds their end, and one that is not made.
-        (FIRST, &[1], 1000, &none, 3, ""),
-        (FIRST, &[2], 1000, &none, 3, ""),
-        (FIRST, &[3], 1000, &none, 0, whole),
-        // The write of the lines, which are written in one piece, and one that is not made.
-        (FIRST, &none, 1000, &[1], 4, ""),
-        (FIRST, &none, 1000, &[2], 0, whole),
-        // A sink that is full in the midst of a line.
-        (FIRST, &none, 23, &none, 4, "logged P 1 1000\nsent 1 "),
-        // The line of a refusal.
-        ("---\nfrob\n", &none, 1000, &[1], 4, ""),
-        ("x", &none, 8, &none, 4, "topology"),
-        // The source fails before the sink could.
-        (FIRST, &[1], 0, &[1], 3, ""),
-    ];
-    for (input, reads, room, writes, status, printed) in rows {
-        let case = Case {
-            words: &["replay"],
-            input: input.as_bytes(),
-            reads,
-            room,
-            writes,
-        };
-        comes_to(&rt, rt.alloc(), &case, status, printed)?;
-    }
-    Ok(())
+    all_come_to(&rt, rt.alloc(), &FAILING)
 }
 
 #[test]
-fn readers_and_writers_are_adapted(rt: HostRuntime) -> Result<(), Fail> {
+fn a_reader_is_adapted(rt: HostRuntime) -> Result<(), Fail> {
     let mut source = StdSource::new(b"abc".as_slice());
     let mut piece = [0u8; 2];
     for n in [2, 1, 0] {
         assert_eq!(rt; source.read(&mut piece).unwrap_or(9), n);
     }
+    Ok(())
+}
+
+#[test]
+fn a_writer_is_adapted(rt: HostRuntime) -> Result<(), Fail> {
     let mut sink = StdSink::new(Vec::new(rt.alloc()));
     assert_eq!(rt; sink.write(b"abc").unwrap_or(9), 3);
     assert_eq!(rt; sink.write(b"").unwrap_or(9), 0);
@@ -455,6 +572,18 @@ fn disk_of(alloc: Global, server: &Server) -> Result<MemDisk, Memory> {
     Ok(disk)
 }
 
+/// Has brokers serve over a sink and a disk, and gives the status.
+fn serve(
+    alloc: Global,
+    server: &Server,
+    sink: &mut MemSink,
+    disk: &mut MemDisk,
+) -> Result<u8, Memory> {
+    let mut source = MemSource::new(alloc, server.source.as_bytes(), &[])?;
+    let mut post = post_of(alloc, server)?;
+    Ok(gryphon(alloc, server.words, &mut source, sink, disk, &mut post))
+}
+
 /// Has brokers serve over a disk, and compares the status and what was printed.
 fn serves_over(
     rt: &impl Abort,
@@ -462,12 +591,9 @@ fn serves_over(
     server: &Server,
     disk: &mut MemDisk,
 ) -> Result<(), Fail> {
-    let mut source = MemSource::new(alloc, server.source.as_bytes(), &[])?;
     let mut sink = MemSink::new(alloc, server.room, &[])?;
-    let mut post = post_of(alloc, server)?;
-    let came = gryphon(alloc, server.words, &mut source, &mut sink, disk, &mut post);
-    assert_eq!(rt; as_text(sink.bytes()), server.printed);
-    assert_eq!(rt; came, server.status);
+    let came = serve(alloc, server, &mut sink, disk)?;
+    compare(rt, &sink, came, server.status, server.printed);
     Ok(())
 }
 
@@ -477,40 +603,52 @@ fn serves(rt: &impl Abort, alloc: Global, server: &Server) -> Result<(), Fail> {
     serves_over(rt, alloc, server, &mut disk)
 }
 
-#[test]
-fn brokers_serve(rt: HostRuntime) -> Result<(), Fail> {
-    for server in SERVERS {
-        serves(&rt, rt.alloc(), &server)?;
+/// Has the brokers of each run serve.
+fn all_serve(rt: &impl Abort, alloc: Global, servers: &[Server]) -> Result<(), Fail> {
+    for server in servers {
+        serves(rt, alloc, server)?;
     }
     Ok(())
+}
+
+#[test]
+fn brokers_serve(rt: HostRuntime) -> Result<(), Fail> {
+    all_serve(&rt, rt.alloc(), &SERVERS)
 }
 
 #[test]
 fn what_stops_brokers_is_told(rt: HostRuntime) -> Result<(), Fail> {
-    for server in STOPPED {
-        serves(&rt, rt.alloc(), &server)?;
-    }
-    Ok(())
+    all_serve(&rt, rt.alloc(), &STOPPED)
+}
+
+/// A run of which the disk fails at a call.
+fn fails_at(rt: &impl Abort, alloc: Global, disk: &'static [u64]) -> Result<(), Fail> {
+    let server = Server {
+        disk,
+        status: 5,
+        printed: "",
+        ..DELIVERED
+    };
+    serves(rt, alloc, &server)
 }
 
 #[test]
 fn each_call_of_the_disk_may_fail(rt: HostRuntime) -> Result<(), Fail> {
-    for disk in DISK_CALLS {
-        let server = Server {
-            disk,
-            status: 5,
-            printed: "",
-            ..DELIVERED
-        };
-        serves(&rt, rt.alloc(), &server)?;
+    for disk in &DISK_CALLS {
+        fails_at(&rt, rt.alloc(), disk)?;
     }
     Ok(())
+}
+
+/// A run over an empty disk, and one over the log that it leaves.
+fn serves_twice(rt: &impl Abort, alloc: Global, disk: &mut MemDisk) -> Result<(), Fail> {
+    serves_over(rt, alloc, &DELIVERED, disk)?;
+    assert!(rt; disk.lane(0) == LOG);
+    serves_over(rt, alloc, &OLD_LOG, disk)
 }
 
 #[test]
 fn a_second_run_begins_on_the_log_of_the_first(rt: HostRuntime) -> Result<(), Fail> {
     let mut disk = disk_of(rt.alloc(), &DELIVERED)?;
-    serves_over(&rt, rt.alloc(), &DELIVERED, &mut disk)?;
-    assert!(rt; disk.lane(0) == LOG);
-    serves_over(&rt, rt.alloc(), &OLD_LOG, &mut disk)
+    serves_twice(&rt, rt.alloc(), &mut disk)
 }
