@@ -11,8 +11,6 @@ mod lines;
 mod offering;
 mod running;
 mod telling;
-#[cfg(test)]
-mod tests;
 mod turning;
 
 pub use client::{Client, Progress};

@@ -5,8 +5,6 @@ mod attribute;
 pub mod cover;
 mod mention;
 mod search;
-#[cfg(test)]
-mod tests;
 mod values;
 
 pub use cover::{Cover, MAX_PARTS, covers, limit_of_parts};

@@ -2,7 +2,5 @@
 #![tactic(auto)]
 
 pub mod edge;
-#[cfg(test)]
-mod tests;
 
 pub use edge::Edge;

@@ -10,8 +10,6 @@ pub mod limits;
 pub mod pairs;
 pub mod parse;
 pub mod print;
-#[cfg(test)]
-mod tests;
 pub mod text;
 pub mod value;
 mod walk;

@@ -10,8 +10,6 @@ pub mod like;
 pub mod node;
 pub mod parser;
 pub mod print;
-#[cfg(test)]
-mod tests;
 pub mod token;
 
 pub use evaluate::truth;

@@ -6,8 +6,6 @@ mod field;
 mod frames;
 mod laws;
 mod reading;
-#[cfg(test)]
-mod tests;
 mod value;
 mod writing;
 

@@ -7,8 +7,6 @@ pub mod gap;
 mod loose;
 mod owner;
 pub mod shared;
-#[cfg(test)]
-mod tests;
 
 pub use gap::Gap;
 pub use shared::Shared;

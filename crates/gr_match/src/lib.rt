@@ -4,8 +4,6 @@
 mod bucket;
 mod pair;
 mod rows;
-#[cfg(test)]
-mod tests;
 pub mod tree;
 
 pub use tree::MatchTree;

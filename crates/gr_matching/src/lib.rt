@@ -17,6 +17,3 @@ pub use event_list::EventList;
 pub use filter_list::FilterList;
 pub use printing::print_matches;
 pub use reading::read;
-
-#[cfg(test)]
-mod tests;

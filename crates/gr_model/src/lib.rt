@@ -10,6 +10,3 @@ mod words;
 
 pub use print::{Memory, PutFault, put};
 pub use report::{Report, Reports};
-
-#[cfg(test)]
-mod tests;

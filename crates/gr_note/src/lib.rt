@@ -7,8 +7,6 @@ mod laws;
 mod node;
 mod note;
 mod reading;
-#[cfg(test)]
-mod tests;
 mod writing;
 
 pub use fault::{NoteFault, NoteKind};

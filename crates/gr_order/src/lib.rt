@@ -4,8 +4,6 @@
 pub mod item;
 pub mod law;
 pub mod merge;
-#[cfg(test)]
-mod tests;
 
 pub use item::{Item, Items};
 pub use merge::Merge;

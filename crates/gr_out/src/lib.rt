@@ -29,6 +29,3 @@ pub use post::{Arrival, Post, PostFault};
 pub use sink::Sink;
 pub use source::Source;
 pub use transfer::{ReadFault, read_all, write_all};
-
-#[cfg(test)]
-mod tests;

@@ -6,8 +6,6 @@ pub mod law;
 mod learning;
 mod planning;
 mod pubend;
-#[cfg(test)]
-mod tests;
 
 pub use answers::{Published, Quieted};
 pub use learning::known_by;

@@ -16,6 +16,3 @@ mod steps;
 pub use entries::Entries;
 pub use log::Log;
 pub use record::{Entry, LogFault, Memory, Record};
-
-#[cfg(test)]
-mod tests;

@@ -2,8 +2,6 @@
 #![tactic(auto)]
 
 mod law;
-#[cfg(test)]
-mod replay_tests;
 mod replaying;
 mod stepping;
 

@@ -3,8 +3,6 @@
 #![tactic(auto)]
 
 mod law;
-#[cfg(test)]
-mod page_tests;
 mod putting;
 mod sent;
 

@@ -13,6 +13,3 @@ pub use asked::Asked;
 pub use law::steps_that_are_read;
 pub use reading::read;
 pub use refusals::{line_of_step, line_of_topology, push_shown};
-
-#[cfg(test)]
-mod tests;

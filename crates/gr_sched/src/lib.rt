@@ -18,6 +18,3 @@ pub use schedule::parse;
 pub use step::{Line, MAX_BYTES, MAX_NUMBER, MAX_STEPS, Names, Step, Steps, Stop};
 pub use text::{Counted, count, is_blank, line_count, next_counted, split};
 pub use words::{after_word, first_word, is_number_in, trimmed};
-
-#[cfg(test)]
-mod tests;

@@ -12,4 +12,4 @@ mod tests;
 mod text;
 
 pub use running::soak;
-pub use text::soak_text;
+pub use text::{MAX_TURNS, soak_text};

@@ -3,8 +3,6 @@
 
 pub mod delivery;
 pub mod subend;
-#[cfg(test)]
-mod tests;
 
 pub use delivery::{Deliveries, Delivery};
 pub use subend::Subend;

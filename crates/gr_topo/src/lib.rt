@@ -21,6 +21,3 @@ pub use limits::{MAX_BROKERS, MAX_NAME, MAX_PUBLISHERS, MAX_SUBSCRIBERS, limits_
 pub use names::is_name;
 pub use settings::Settings;
 pub use topology::Topology;
-
-#[cfg(test)]
-mod tests;

@@ -9,6 +9,3 @@ pub mod search;
 
 pub use link::{Link, Place};
 pub use search::{Memory, places};
-
-#[cfg(test)]
-mod tests;
