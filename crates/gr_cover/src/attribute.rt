@@ -4,7 +4,8 @@ ghost use Rattle.std.specs.Prelude.{◌≡◌, ◌+◌, ◌*◌, min, [], map, f
 ghost use Rattle.std.specs.List.{flat_map, list_all};
 ghost use Rattle.std.specs.Ordering.{nat_cmp};
 ghost use Rattle.std.specs.Cmp.Lexicographic.{slice_cmp};
-ghost use Rattle.gr_cover.specs.Candidates.{value_cmp, inserted, with_all, near, values_near, values_at, known, with_zero, spare, with_text, attribute, names_of, attributes, parts};
+ghost use Rattle.gr_cover.specs.Candidates.{value_cmp, inserted, with_all, near, values_near, values_at, known};
+ghost use Rattle.gr_cover.specs.Candidates.{with_zero, spare, with_text, attribute, names_of, attributes, parts};
 
 use crate::mention::Mention;
 use crate::values::{Values, has_integer, has_text};

@@ -3,7 +3,8 @@
 ghost use Rattle.std.specs.Prelude.{◌≡◌, option_map, Some};
 ghost use Rattle.gr_event.specs.Get.{part_value, value_of};
 ghost use Rattle.gr_filter.specs.Tree.{tree_of};
-ghost use Rattle.gr_filter.specs.Truth.{operand_value, holds, holds_same, compare_values, compare_both, truth_between, truth_one_of, truth_like, truth_alone, truth_null, truth};
+ghost use Rattle.gr_filter.specs.Truth.{operand_value, holds, holds_same, compare_values, compare_both, truth_between};
+ghost use Rattle.gr_filter.specs.Truth.{truth_one_of, truth_like, truth_alone, truth_null, truth};
 
 use crate::filter::Filter;
 use crate::kleene::Kleene;

@@ -3,7 +3,10 @@
 ghost use Rattle.std.specs.Prelude.{◌≡◌, ◌≤◌, ◌++◌, ◌∷◌, [], Ok, IfOk, length, slice_range};
 ghost use Rattle.gr_filter.specs.Gives.{Gives, as_it_is, as_tree};
 ghost use Rattle.gr_filter.specs.Tree.{tree_of, both, either};
-ghost use Rattle.gr_filter.specs.Grammar.{misfit, literal_at, operand_at, text_of, open_at, close_at, and_word_at, null_at, pattern_at, between_at, literals_at, one_of_at, like_at, null_test_at, alone_at, negated_at, tail_at, test_at, not_at, and_at, or_at, filter_text};
+ghost use Rattle.gr_filter.specs.Grammar.{misfit, literal_at, operand_at, text_of, open_at, close_at, and_word_at};
+ghost use Rattle.gr_filter.specs.Grammar.{null_at, pattern_at, between_at, literals_at, one_of_at, like_at};
+ghost use Rattle.gr_filter.specs.Grammar.{null_test_at, alone_at, negated_at, tail_at, test_at, not_at, and_at, or_at};
+ghost use Rattle.gr_filter.specs.Grammar.{filter_text};
 
 use crate::fault::{FilterFault, Memory};
 use crate::filter::Filter;

@@ -3,7 +3,9 @@
 ghost use Rattle.std.specs.Prelude.{◌≡◌, ◌+◌, ◌-◌, ◌≤◌, ◌<◌, ◌^◌, length, take, IfSome, Some, IfOk, OnOk, ◌++◌};
 ghost use Rattle.std.specs.Option.{ForSome};
 ghost use Rattle.std.specs.Str.{is_utf8};
-ghost use Rattle.gr_filter.specs.Token.{is_space, is_digit, begins_name, goes_on, front, capital, is_word, word_token, number_from, integer_token, number_token, text_len, undoubled, text_token, sign_token, less_token, greater_token, minus_token, token_of, lexeme};
+ghost use Rattle.gr_filter.specs.Token.{is_space, is_digit, begins_name, goes_on, front, capital, is_word, word_token};
+ghost use Rattle.gr_filter.specs.Token.{number_from, integer_token, number_token, text_len, undoubled, text_token};
+ghost use Rattle.gr_filter.specs.Token.{sign_token, less_token, greater_token, minus_token, token_of, lexeme};
 
 use crate::fault::Memory;
 use crate::node::Sign;

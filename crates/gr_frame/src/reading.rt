@@ -2,7 +2,8 @@
 
 ghost use Rattle.std.specs.Prelude.{◌≡◌, ◌+◌, ◌≤◌, ◌<◌, ◌++◌, ◌∷◌, [], None, true, false, length, IfOk, Ok};
 ghost use Rattle.gr_tick.specs.Stored.{IsRun, AreTickRuns, EndBefore};
-ghost use Rattle.gr_frame.specs.Decode.{last_run, is_above, goes_on, run_size, run_at, run_with_ticks, runs_at, kind_at, head_at, count_at, expect_at, body_at, fields_of, frame_decoded};
+ghost use Rattle.gr_frame.specs.Decode.{last_run, is_above, goes_on, run_size, run_at, run_with_ticks, runs_at};
+ghost use Rattle.gr_frame.specs.Decode.{kind_at, head_at, count_at, expect_at, body_at, fields_of, frame_decoded};
 ghost use Rattle.gr_frame.specs.Gives.{Gives};
 ghost use Rattle.gr_frame.specs.declared.TheConstants.{MAX_BYTES};
 

@@ -5,7 +5,9 @@ ghost use Rattle.std.specs.Fmt.{decimal};
 ghost use Rattle.std.specs.List.{flat_map};
 ghost use Rattle.gr_topo.specs.Topology.{name_at};
 ghost use Rattle.gr_event.specs.Json.{json_text};
-ghost use Rattle.gr_model.specs.Text.{labels_of, know_letter, want_letter, run_word, frame_fault_word, hex_pair, publisher_words, log_words, sent_words, behind_blanks, row_of, AreNamed, IsSentNamed, IsNamed};
+ghost use Rattle.gr_model.specs.Text.{labels_of, know_letter, want_letter, run_word, frame_fault_word, hex_pair};
+ghost use Rattle.gr_model.specs.Text.{publisher_words, log_words, sent_words, behind_blanks, row_of, AreNamed};
+ghost use Rattle.gr_model.specs.Text.{IsSentNamed, IsNamed};
 ghost use Rattle.gr_model.specs.Families.{IsOfPublish, IsOfLog, IsOfHorizon, IsOfFrame, IsOfDrop};
 
 use crate::report::Report;

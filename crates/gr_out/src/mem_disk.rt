@@ -1,8 +1,10 @@
 //! A disk in memory, some of whose calls fail, that can be stopped at a chosen call.
 
 ghost use Rattle.std.specs.Prelude.{◌≡◌, ◌≢◌, ℕ, ◌+◌, ◌<◌, ◌≤◌, [], IsTrue, Bool, true, is_err, IsErr, List, length, take, drop, IfOk, OnOk, OnErr};
-ghost use Rattle.gr_out.specs.Lane.{Lane, lane_at, lane_of, content, is_due, has_stopped, after_call, Write, Cut, Sync, with_room, with_stop, stop_at, crashed, MayLeave};
-ghost use Rattle.gr_out.specs.Kept.{DiskView, is_failure, is_broken, fate_of_read, faults_after, stops_after, look_fate, change_fate, FailsAsListed, IsUncounted};
+ghost use Rattle.gr_out.specs.Lane.{Lane, lane_at, lane_of, content, is_due, has_stopped, after_call, Write, Cut, Sync};
+ghost use Rattle.gr_out.specs.Lane.{with_room, with_stop, stop_at, crashed, MayLeave};
+ghost use Rattle.gr_out.specs.Kept.{DiskView, is_failure, is_broken, fate_of_read, faults_after, stops_after};
+ghost use Rattle.gr_out.specs.Kept.{look_fate, change_fate, FailsAsListed, IsUncounted};
 ghost use Rattle.gr_out.specs.Streams.{counted, is_listed};
 ghost use Rattle.gr_out.specs.Stops.{StopCounts, StaysFaultless};
 

@@ -1,8 +1,10 @@
 //! A lane in memory: what it reads, what it read at its last sync, and which bytes were written since.
 
-ghost use Rattle.std.specs.Prelude.{◌≡◌, ℕ, ◌+◌, ◌-◌, ◌*◌, ◌%◌, ◌≤◌, ◌<◌, max, ◌++◌, ◌∷◌, if◌then◌else◌, Bool, true, false, List, length, take, replicate, IfOk, OnOk, OnErr, vec_len};
+ghost use Rattle.std.specs.Prelude.{◌≡◌, ℕ, ◌+◌, ◌-◌, ◌*◌, ◌%◌, ◌≤◌, ◌<◌, max, ◌++◌, ◌∷◌, if◌then◌else◌, Bool, true};
+ghost use Rattle.std.specs.Prelude.{false, List, length, take, replicate, IfOk, OnOk, OnErr, vec_len};
 ghost use Rattle.std.specs.Vec.{vec_capacity};
-ghost use Rattle.gr_out.specs.Lane.{Lane, Write, Cut, Sync, FailedWrite, FailedCut, blank, lane_of, content, over, garbled, after_call, fate_of, one_later, with_room, with_stop, crashed};
+ghost use Rattle.gr_out.specs.Lane.{Lane, Write, Cut, Sync, FailedWrite, FailedCut, blank, lane_of, content, over};
+ghost use Rattle.gr_out.specs.Lane.{garbled, after_call, fate_of, one_later, with_room, with_stop, crashed};
 ghost use Rattle.gr_out.specs.Kept.{with_calls, IsKept, HasRoom, left_by};
 
 use crate::disk::{Fate, Stop};

@@ -3,7 +3,8 @@
 ghost use Rattle.std.specs.Prelude.{◌≡◌, ℕ, ◌+◌, ◌-◌, ◌<◌, ◌≤◌, ◌^◌, ◌∷◌, ◌==◌, [], length, take, drop, MatchOption, not};
 ghost use Rattle.std.specs.List.{position, position_or_len};
 ghost use Rattle.std.specs.Io.BufRead.{ends_with_byte, strip_last};
-ghost use Rattle.gr_sched.specs.Text.{is_gap, is_blank, is_separator, is_counted, line_of, pieces_of, before_separator, after_separator, without_gaps, counted_after, counted_lines};
+ghost use Rattle.gr_sched.specs.Text.{is_gap, is_blank, is_separator, is_counted, line_of, pieces_of, before_separator};
+ghost use Rattle.gr_sched.specs.Text.{after_separator, without_gaps, counted_after, counted_lines};
 
 /// Whether a byte is a space or a tab.
 pub(crate) fn is_gap(byte: u8) -> bool

@@ -2,7 +2,8 @@
 
 ghost use Rattle.std.specs.Prelude.{◌≡◌, ℕ, ◌+◌, ◌-◌, ◌*◌, ◌<◌, ◌≤◌, ◌^◌, IfOk, true, length, drop, take};
 ghost use Rattle.std.specs.List.{list_all};
-ghost use Rattle.gr_sched.specs.Words.{Gives, trimmed, trimmed_end, first_word, after_word, next_word, ended, known, is_digit, is_number, value_after, is_number_in, number_in, next_number};
+ghost use Rattle.gr_sched.specs.Words.{Gives, trimmed, trimmed_end, first_word, after_word, next_word, ended, known};
+ghost use Rattle.gr_sched.specs.Words.{is_digit, is_number, value_after, is_number_in, number_in, next_number};
 
 use crate::fault::StepFault;
 use crate::text::{is_gap, without_gaps, word_len};

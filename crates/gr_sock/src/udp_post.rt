@@ -4,7 +4,8 @@ ghost use Rattle.std.specs.Prelude.{◌≡◌, ◌≢◌, ◌≤◌, ◌<◌, �
 ghost use Rattle.gr_out.specs.Journal.{Fits, CountsFailed};
 ghost use Rattle.gr_sock.specs.Counts.{RaisesOnFailed};
 ghost use Rattle.gr_sock.specs.Address.{address_of};
-ghost use Rattle.gr_sock.specs.Bound.{is_bound, address_in, socket_in, IsBinding, BindDid, HasSocket, Looked, NextDid, CameHosted, OfferDid, datagram_in, pause_after, longest};
+ghost use Rattle.gr_sock.specs.Bound.{is_bound, address_in, socket_in, IsBinding, BindDid, HasSocket, Looked, NextDid};
+ghost use Rattle.gr_sock.specs.Bound.{CameHosted, OfferDid, datagram_in, pause_after, longest};
 
 use crate::address::{Address, address_of};
 use crate::bound::Bound;

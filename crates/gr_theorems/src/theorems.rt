@@ -26,10 +26,15 @@ ghost use Rattle.gr_theorems.specs.Settles.{SweepSettles, AllGot};
 ghost use Rattle.gr_theorems.specs.Standing.{Fits};
 ghost use Rattle.gr_theorems.specs.OverLogs.{StandsOver};
 ghost use Rattle.gr_publog.specs.declared.record.Record.{Record};
-ghost use Rattle.gr_theorems.specs.Lanes.{AllFollow, IsRunOverLanes, IsServedOverLanes, found_logs, FoundIsPastCut, HoldsOverLanes, HoldsServedLanes, CutEventsSilent};
+ghost use Rattle.gr_theorems.specs.Lanes.{AllFollow, IsRunOverLanes, IsServedOverLanes, found_logs, FoundIsPastCut};
+ghost use Rattle.gr_theorems.specs.Lanes.{HoldsOverLanes, HoldsServedLanes, CutEventsSilent};
 ghost use Rattle.gr_theorems.specs.Examples.{WorkedExamples};
 ghost use Rattle.gr_theorems.specs.ServedExample.{ServedExamples};
-ghost use Rattle.gr_theorems.specs.Statements.{IsRun, IsMarkedRun, IsAskedRun, IsSweptRun, IsSpelledRun, IsRunOverLogs, IsServedRun, world_after, NothingClashes, NothingStrays, AllSpelled, AllDecode, AllGetExactly, AllCutsInOrder, HostsMeet, DoubtsStand, HoldsOverLogs, OpeningTells, OpeningSendsNothing, RunsOverByRules, RunsOverByNoOther, MeetsHeadlineServed, ArrivalsDoSteps, FirstClash};
+ghost use Rattle.gr_theorems.specs.Statements.{IsRun, IsMarkedRun, IsAskedRun, IsSweptRun, IsSpelledRun, IsRunOverLogs};
+ghost use Rattle.gr_theorems.specs.Statements.{IsServedRun, world_after, NothingClashes, NothingStrays, AllSpelled};
+ghost use Rattle.gr_theorems.specs.Statements.{AllDecode, AllGetExactly, AllCutsInOrder, HostsMeet, DoubtsStand};
+ghost use Rattle.gr_theorems.specs.Statements.{HoldsOverLogs, OpeningTells, OpeningSendsNothing, RunsOverByRules};
+ghost use Rattle.gr_theorems.specs.Statements.{RunsOverByNoOther, MeetsHeadlineServed, ArrivalsDoSteps, FirstClash};
 
 /// The topology of the small examples is a tree, so the theorems speak of something.
 pub fn net0_is_a_tree()

@@ -6,7 +6,8 @@ ghost use Rattle.std.specs.List.{zip, position};
 ghost use Rattle.gr_filter.specs.Tree.{tree_of as filter_tree};
 ghost use Rattle.gr_topo.specs.Gives.{Gives};
 ghost use Rattle.gr_topo.specs.Draft.{address_lists};
-ghost use Rattle.gr_topo.specs.Checks.{in_range, settings_of, filter_in, filters_in, behind_octet, port_of, is_port, is_address, good_address, address_in, addresses_of};
+ghost use Rattle.gr_topo.specs.Checks.{in_range, settings_of, filter_in, filters_in, behind_octet, port_of, is_port};
+ghost use Rattle.gr_topo.specs.Checks.{is_address, good_address, address_in, addresses_of};
 
 use crate::draft::Addresses;
 use crate::fault::TopoFault;

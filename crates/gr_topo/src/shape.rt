@@ -4,7 +4,10 @@ ghost use Rattle.std.specs.Prelude.{◌≡◌, IfOk};
 ghost use Rattle.toml.specs.View.{view, table_view};
 ghost use Rattle.gr_topo.specs.Gives.{Gives, walk, each, one_more};
 ghost use Rattle.gr_topo.specs.Draft.{entry_lists, address_lists, draft_lists, no_entries, no_addresses};
-ghost use Rattle.gr_topo.specs.Shape.{text_in, integer_in, array_in, table_in, two_texts, pair_in, pairs_in, texts_in, entry_key, no_entry, whole_entry, entry_in, one_entry, entries_in, one_address, addresses_in, one_setting, default_settings, settings_in, root_key, no_draft, draft_in};
+ghost use Rattle.gr_topo.specs.Shape.{text_in, integer_in, array_in, table_in, two_texts, pair_in, pairs_in, texts_in};
+ghost use Rattle.gr_topo.specs.Shape.{entry_key, no_entry, whole_entry, entry_in, one_entry, entries_in, one_address};
+ghost use Rattle.gr_topo.specs.Shape.{addresses_in, one_setting, default_settings, settings_in, root_key, no_draft};
+ghost use Rattle.gr_topo.specs.Shape.{draft_in};
 ghost use Rattle.gr_topo.specs.Columns.{HasColumns};
 ghost use Rattle.gr_topo.specs.Seen.{seen_items, seen_members};
 

@@ -4,7 +4,9 @@ ghost use Rattle.std.specs.Prelude.{◌≡◌, ℕ, ◌<◌, ◌≤◌, List, le
 ghost use Rattle.std.specs.Option.{option_map};
 ghost use Rattle.gr_filter.specs.Tree.{tree_of as filter_tree};
 ghost use Rattle.gr_tree.specs.Walks.{IsWithin, IsRooted, HasOnlyPaths, is_tree, places_of};
-ghost use Rattle.gr_topo.specs.Topology.{IsSound, IsTopology, name_at, number_of, blank, host_of, home_of, filter_of, address_of, client_of, up_at, depth_at, children_of, subscribers_of, passes_by, below_of, keeps_horizon_at, is_child_at, not_empty};
+ghost use Rattle.gr_topo.specs.Topology.{IsSound, IsTopology, name_at, number_of, blank, host_of, home_of, filter_of};
+ghost use Rattle.gr_topo.specs.Topology.{address_of, client_of, up_at, depth_at, children_of, subscribers_of};
+ghost use Rattle.gr_topo.specs.Topology.{passes_by, below_of, keeps_horizon_at, is_child_at, not_empty};
 
 use crate::fault::Memory;
 use crate::names::position_of;

@@ -1,6 +1,7 @@
 //! The search for the places of nodes: it starts at the root and hangs each further node below one that is placed.
 
-ghost use Rattle.std.specs.Prelude.{◌≡◌, ℕ, ◌+◌, ◌<◌, length, map, false, true, Some, None, replicate, IfOk, IfNone, IfSome, OnSome, MatchOption, slice_index_or};
+ghost use Rattle.std.specs.Prelude.{◌≡◌, ℕ, ◌+◌, ◌<◌, length, map, false, true, Some, None, replicate, IfOk, IfNone};
+ghost use Rattle.std.specs.Prelude.{IfSome, OnSome, MatchOption, slice_index_or};
 ghost use Rattle.std.specs.List.{position};
 ghost use Rattle.gr_tree.specs.Walks.{IsWithin, IsRooted, HasOnlyPaths, is_tree, places_of};
 ghost use Rattle.gr_tree.specs.Search.{is_placed, crosses, place_below, attached, IsShallow};
