@@ -25,8 +25,8 @@ use crate::site::Site;
 use crate::walks::{left_of, quenched, said_of};
 use gr_curio::{Q3, Wants};
 use gr_edge::Edge;
-use gr_frame::Frames;
 use gr_know::K;
+use gr_sent::Sent;
 use gr_tick::{MAX_TICK, Piece};
 use std::alloc::AllocError;
 
@@ -80,7 +80,7 @@ fn plan_answers(
     i: usize,
     piece: &Piece<Q3>,
     now: u64,
-    into: &mut Frames,
+    into: &mut Sent,
 ) -> Result<Answers, Memory>
     requires site { IsSite site.now }
     requires child { i < length (children_of site.now.topo.now site.now.publisher site.now.broker) }
@@ -118,7 +118,7 @@ fn send_answers(
     i: usize,
     reply: Piece<K>,
     asked: &Piece<Q3>,
-    into: &mut Frames,
+    into: &mut Sent,
 ) -> Result<(), Memory>
     requires site { IsSite site.now }
     requires child { i < length (children_of site.now.topo.now site.now.publisher site.now.broker) }

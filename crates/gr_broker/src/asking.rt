@@ -29,7 +29,8 @@ use crate::sending::send_up;
 use crate::site::Site;
 use crate::wanted::{unknown_of, wanted_on, whole_of};
 use gr_curio::{Q3, Wants};
-use gr_frame::{Body, Frame, Frames, Head, encode_into};
+use gr_frame::{Body, Frame, Head};
+use gr_sent::Sent;
 use gr_tick::{Piece, Stream};
 use std::alloc::{AllocError, Global};
 
@@ -107,7 +108,7 @@ fn asked_upward(
     held: &Held,
     wanted: &Piece<Q3>,
     now: u64,
-    into: &mut Frames,
+    into: &mut Sent,
 ) -> Result<Piece<Q3>, Memory>
     requires site { IsSite site.now }
     requires kept { IsKept (net_of site.now.topo.now) site.now.publisher site.now.broker (held_view held.now) }
@@ -224,7 +225,7 @@ pub(crate) fn expect_children(
     site: &Site<'_>,
     wants: &Wants,
     tick: u64,
-    into: &mut Frames,
+    into: &mut Sent,
 ) -> Result<(), Memory>
     requires site { IsSite site.now }
     requires from_one { 1 ≤ tick }
@@ -245,7 +246,7 @@ fn expect_one(
     wants: &Wants,
     i: usize,
     tick: u64,
-    into: &mut Frames,
+    into: &mut Sent,
 ) -> Result<(), Memory>
     requires site { IsSite site.now }
     requires child { i < length site.now.position.now.children.items }
@@ -269,5 +270,5 @@ fn expect_one(
         head,
         body: Body::Expect(tick),
     };
-    encode_into(site.alloc, &frame, into)
+    into.push(site.alloc, frame)
 }

@@ -31,9 +31,9 @@ use crate::starting::{fault_at, open_publishers};
 use crate::waking::wake;
 use gr_edge::Edge;
 use gr_event::{Event, Numbers};
-use gr_frame::Frames;
 use gr_out::Disk;
 use gr_publog::Log;
+use gr_sent::Sent;
 use gr_topo::Topology;
 use std::alloc::{AllocError, Global};
 use std::marker::Model;
@@ -151,7 +151,7 @@ impl Broker {
             },
             outcome: Outcome {
                 reports: opened.lines,
-                frames: Frames::new(alloc),
+                frames: Sent::new(alloc),
             },
         })
     }

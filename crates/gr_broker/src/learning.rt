@@ -37,9 +37,9 @@ use gr_curio::{Asks, Q3, Wants};
 use gr_edge::Edge;
 use gr_event::Event;
 use gr_filter::{Filter, Kleene, truth};
-use gr_frame::Frames;
 use gr_know::{K, Know};
 use gr_model::{Report, Reports};
+use gr_sent::Sent;
 use gr_subend::{Delivery, Subend};
 use gr_tick::{MAX_TICK, Piece, Run};
 use std::alloc::{AllocError, Global};
@@ -190,7 +190,7 @@ fn forward(
     site: &Site<'_>,
     wants: &Wants,
     fresh: &Piece<K>,
-    into: &mut Frames,
+    into: &mut Sent,
 ) -> Result<Vec<Piece<Q3>>, Memory>
     requires site { IsSite site.now }
     requires wants { length wants.now ≡ length site.now.position.now.children.items }
@@ -218,7 +218,7 @@ fn forward_to(
     i: usize,
     wants: &Wants,
     fresh: &Piece<K>,
-    into: &mut Frames,
+    into: &mut Sent,
 ) -> Result<Piece<Q3>, Memory>
     requires site { IsSite site.now }
     requires child { i < length site.now.position.now.children.items }

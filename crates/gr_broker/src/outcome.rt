@@ -2,9 +2,10 @@
 
 ghost use Rattle.std.specs.Prelude.{◌≡◌, []};
 
-use gr_frame::{FrameFault, Frames, Head};
+use gr_frame::{FrameFault, Head};
 use gr_know::Clash;
 use gr_model::Reports;
+use gr_sent::Sent;
 use std::alloc::{AllocError, Global};
 
 /// Memory was refused.
@@ -33,8 +34,8 @@ pub enum BrokerFault {
 pub struct Outcome {
     /// Lines of the report, in order.
     pub reports: Reports,
-    /// Frames in their bytes, in order.
-    pub frames: Frames,
+    /// Frames in their bytes, in order, each with what its line tells.
+    pub frames: Sent,
 }
 
 impl Outcome {
@@ -45,7 +46,7 @@ impl Outcome {
     {
         Outcome {
             reports: Reports::new(alloc),
-            frames: Frames::new(alloc),
+            frames: Sent::new(alloc),
         }
     }
 }

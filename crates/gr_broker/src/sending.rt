@@ -9,8 +9,9 @@ ghost use Rattle.gr_broker.specs.Told.{AddsFrames};
 use crate::outcome::Memory;
 use crate::site::Site;
 use gr_curio::Q3;
-use gr_frame::{Body, Frame, Frames, Head, encode_into};
+use gr_frame::{Body, Frame, Head};
 use gr_know::K;
+use gr_sent::Sent;
 use gr_tick::Piece;
 
 /// Puts the frames of a piece for a child at the end of a list. A piece with no run makes no frame.
@@ -18,7 +19,7 @@ pub(crate) fn send_down(
     site: &Site<'_>,
     child: u16,
     piece: Piece<K>,
-    into: &mut Frames,
+    into: &mut Sent,
 ) -> Result<(), Memory>
     ensures { OnOk result (AddsFrames (know_frames site.now.broker child site.now.publisher piece) into.old into.new) }
 {
@@ -34,12 +35,12 @@ pub(crate) fn send_down(
         },
         body: Body::Knowledge(piece),
     };
-    encode_into(site.alloc, &frame, into)
+    into.push(site.alloc, frame)
 }
 
 /// Puts the frames of a piece for the next broker towards the host at the end of a list. The host sends none, and a
 /// piece with no run makes none.
-pub(crate) fn send_up(site: &Site<'_>, piece: Piece<Q3>, into: &mut Frames) -> Result<(), Memory>
+pub(crate) fn send_up(site: &Site<'_>, piece: Piece<Q3>, into: &mut Sent) -> Result<(), Memory>
     requires { IsSite site.now }
     ensures { OnOk result (AddsFrames
         (up_frames (net_of site.now.topo.now) site.now.publisher site.now.broker piece) into.old into.new) }
@@ -54,7 +55,7 @@ pub(crate) fn send_up(site: &Site<'_>, piece: Piece<Q3>, into: &mut Frames) -> R
 }
 
 /// Puts the frames of a piece for a broker at the end of a list. A piece with no run makes no frame.
-fn send_wanted(site: &Site<'_>, to: u16, piece: Piece<Q3>, into: &mut Frames) -> Result<(), Memory>
+fn send_wanted(site: &Site<'_>, to: u16, piece: Piece<Q3>, into: &mut Sent) -> Result<(), Memory>
     ensures { OnOk result (AddsFrames (want_frames site.now.broker to site.now.publisher piece) into.old into.new) }
 {
     if piece.is_empty() {
@@ -69,5 +70,5 @@ fn send_wanted(site: &Site<'_>, to: u16, piece: Piece<Q3>, into: &mut Frames) ->
         },
         body: Body::Curiosity(piece),
     };
-    encode_into(site.alloc, &frame, into)
+    into.push(site.alloc, frame)
 }

@@ -87,7 +87,7 @@ pub fn publish(host: &mut Station, number: u64, event: &Event, now: u64) -> io::
     requires { now ≤ MAX_TICK }
 {
     match host.publish(number, event, now) {
-        Ok(outcome) => Ok(outcome.frames.len()),
+        Ok(outcome) => Ok(outcome.frames.bytes().len()),
         Err(fault) => Err(failure(fault)),
     }
 }

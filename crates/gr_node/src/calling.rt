@@ -15,10 +15,10 @@ ghost use Rattle.gr_node.specs.Calling.{Follows, FollowsReceipt, line_of_drop};
 use crate::node::Node;
 use gr_broker::{Broker, BrokerFault, Dropped, Outcome, Received};
 use gr_event::Event;
-use gr_frame::Frames;
 use gr_model::topologies::every_topology_is_a_tree;
 use gr_model::{Report, Reports};
 use gr_out::{Disk, Memory, RunFault};
+use gr_sent::Sent;
 use gr_topo::Topology;
 use std::alloc::Global;
 
@@ -98,7 +98,7 @@ fn dropped_outcome(alloc: Global, b: u16, dropped: Dropped) -> Result<Outcome, R
     }
     Ok(Outcome {
         reports,
-        frames: Frames::new(alloc),
+        frames: Sent::new(alloc),
     })
 }
 

@@ -12,7 +12,7 @@ ghost use Rattle.gr_model.specs.Text.{labels_of, whole_line};
 ghost use Rattle.gr_model.specs.World.{sent_line, sent_lines};
 ghost use Rattle.gr_theorems.specs.Edges.{GoesOverEdge};
 ghost use Rattle.gr_run.specs.Named.{AllNamed, IsPutFault};
-ghost use Rattle.gr_run.specs.Said.{frame_said};
+ghost use Rattle.gr_sent.specs.Said.{frame_said};
 ghost use Rattle.gr_node.specs.Seen.{text_of};
 ghost use Rattle.gr_node.specs.Plan.{offers_of};
 ghost use Rattle.gr_node.specs.Went.{Begins, SinkMoves};
@@ -21,7 +21,8 @@ use gr_broker::Outcome;
 use gr_frame::Frames;
 use gr_model::Report;
 use gr_out::{Page, Post, PostFault, RunFault, Sink};
-use gr_run::{put_all, put_line, sent_report};
+use gr_run::{put_all, put_line};
+use gr_sent::sent_report;
 use gr_topo::Topology;
 use std::alloc::Global;
 
@@ -182,7 +183,7 @@ pub(crate) fn tell<P: Post, K: Sink>(
     ensures post { P.faults post.new ≡ P.faults post.old }
 {
     match put_all(alloc, topo, told.reports.as_slice(), page, sink) {
-        Ok(()) => offer_frames(alloc, topo, &told.frames, offers, post, page, sink),
+        Ok(()) => offer_frames(alloc, topo, told.frames.bytes(), offers, post, page, sink),
         Err(fault) => Err(fault),
     }
 }

@@ -2,7 +2,6 @@ pub mod Along
 pub mod Shown
 pub mod Readable
 pub mod Passing
-pub mod Telling
 pub mod Fronts
 pub mod Names
 pub mod Named

@@ -16,8 +16,9 @@ pub fn shown(alloc: Global, outcome: &Outcome) -> Result<String, Fail> {
     for line in outcome.reports.as_slice() {
         show_line(&mut text, line)?;
     }
-    for i in 0..outcome.frames.len() {
-        show_bytes(alloc, &mut text, outcome.frames.frame(i))?;
+    let sent = outcome.frames.bytes();
+    for i in 0..sent.len() {
+        show_bytes(alloc, &mut text, sent.frame(i))?;
     }
     Ok(text)
 }

@@ -132,7 +132,7 @@ impl Stage {
         if step >= self.steps.len() || to >= self.stations.len() {
             return Err("no such step or broker".into());
         }
-        let sent = &self.steps[step].frames;
+        let sent = self.steps[step].frames.bytes();
         if frame >= sent.len() {
             return Err("no such frame".into());
         }

@@ -1,5 +1,5 @@
-//! Tests of frames, notes and clients by their public calls alone. Nothing but tests stands here, since a crate with
-//! tests is proved twice.
+//! Tests of frames, their store, notes and clients by their public calls alone. Nothing but tests stands here, since a
+//! crate with tests is proved twice.
 #![tactic(auto)]
 
 #[cfg(test)]
@@ -10,3 +10,5 @@ mod frame;
 mod note;
 #[cfg(test)]
 mod runs;
+#[cfg(test)]
+mod store;

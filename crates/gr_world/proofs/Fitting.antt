@@ -22,7 +22,7 @@ use Rattle.gr_world.specs.Seen.{WorldView, broker_in, log_at, frame_said, net_in
 use Rattle.gr_world.specs.Of.{IsWorld, IsSound}
 use Rattle.gr_world.specs.Ran.{Keeps}
 use Rattle.gr_world.specs.Taking.{TakesUp, put_in}
-use Rattle.gr_run.proofs.Telling.{frames_back}
+use Rattle.gr_sent.proofs.Telling.{frames_back}
 use Rattle.gr_world.proofs.Absorbing.{Touches, each_broker, log_here, log_stays, log_elsewhere}
 
 -- Frames that are sent

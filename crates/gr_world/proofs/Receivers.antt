@@ -15,7 +15,7 @@ use Rattle.gr_frame.specs.Decode.{frame_decoded, fields_of, kind_at, head_at, co
 use Rattle.gr_frame.specs.Gives.{fault, ◌>>=◌}
 use Rattle.gr_frame.proofs.Fields.{bind_told, else_told, then_told}
 use Rattle.gr_world.specs.Seen.{frame_said}
-use Rattle.gr_run.proofs.Telling.{said_by}
+use Rattle.gr_sent.proofs.Telling.{said_by}
 
 -- the bytes of the places 6 and 7 spell the receiver
 pub record HasReceiver (bytes : List ℕ) (to : ℕ) : Type 0 where

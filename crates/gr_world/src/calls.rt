@@ -47,7 +47,7 @@ impl World {
         let host = self.topology.host(p);
         let broker = &mut self.brokers[host as usize];
         let answer = broker.publish(&self.topology, disk, p, number, event, self.clock);
-        take_answer(self.alloc, &mut self.frames, answer)
+        take_answer(&mut self.frames, answer)
     }
 
     /// Gives the bytes of a frame, by its place from 0, to their receiver.
@@ -94,6 +94,6 @@ impl World {
         every_topology_is_a_tree(&self.topology);
         let broker = &mut self.brokers[b as usize];
         let answer = broker.wake(&self.topology, disk, p, self.clock);
-        take_answer(self.alloc, &mut self.frames, answer)
+        take_answer(&mut self.frames, answer)
     }
 }

@@ -21,9 +21,9 @@ use crate::order::hosts_subscriber;
 use crate::starting::{start_again, start_brokers};
 use crate::world::World;
 use gr_broker::BrokerFault;
-use gr_frame::Frames;
 use gr_model::{Report, Reports};
 use gr_out::SimDisk;
+use gr_store::FrameStore;
 use gr_topo::Topology;
 use std::alloc::Global;
 
@@ -97,7 +97,7 @@ impl World {
             alloc,
             topology,
             brokers: opened.brokers,
-            frames: Frames::new(alloc),
+            frames: FrameStore::new(alloc),
             clock: 0,
             most: 0,
             told: opened.told,

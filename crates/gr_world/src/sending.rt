@@ -1,9 +1,7 @@
 //! What a broker's call sends and tells is taken up by the world.
 
-ghost use Rattle.std.specs.Prelude.{◌≡◌, ◌<◌, ◌^◌, ◌+◌, suc, List, ◌++◌, length, map, IsOk, IfOk, OnOk, OnErr};
-ghost use Rattle.gr_frame.specs.declared.Frame.{Frame};
+ghost use Rattle.std.specs.Prelude.{◌≡◌, suc, ◌++◌, length, map, IsOk, IfOk, OnOk, OnErr};
 ghost use Rattle.gr_frame.specs.Bytes.{frame_bytes};
-ghost use Rattle.gr_frame.specs.Cut.{AreFrames};
 ghost use Rattle.gr_frame.specs.Decode.{frame_decoded};
 ghost use Rattle.gr_model.specs.Broker.{Outcome as MachineOutcome};
 ghost use Rattle.gr_model.specs.World.{sent_lines};
@@ -13,58 +11,41 @@ ghost use Rattle.gr_world.specs.Taking.{Follows, FollowsReceipt, IsReceived, Tak
 
 use crate::fault::{Memory, WorldFault, world_fault};
 use gr_broker::{BrokerFault, Dropped, Outcome, Received};
-use gr_frame::Frames;
 use gr_model::Reports;
-use gr_run::sent_report;
+use gr_store::FrameStore;
 use std::alloc::{AllocError, Global};
-
-/// Puts the lines of frames at the end of a list, where `first` frames were sent before. At want of memory some of them
-/// may stand there.
-fn tell_sent(alloc: Global, first: u64, sent: &Frames, lines: &mut Reports) -> Result<(), Memory>
-    requires { first + length sent.now.frames < 2 ^ 64 }
-    ensures { (fs : List Frame) → AreFrames sent.now.frames fs
-        → OnOk result (lines.new ≡ lines.old ++ sent_lines (suc first) fs) }
-{
-    for i in 0..sent.len() {
-        let line = sent_report(alloc, first + i as u64 + 1, sent.frame(i))?;
-        lines.push(line)?;
-    }
-    Ok(())
-}
 
 /// Puts the frames of a broker's call behind those that were sent, and gives its lines and those of the frames. At want
 /// of memory the frames are as they were.
-pub(crate) fn take_up(alloc: Global, frames: &mut Frames, told: Outcome) -> Result<Reports, Memory>
+pub(crate) fn take_up(frames: &mut FrameStore, told: Outcome) -> Result<Reports, Memory>
     ensures lines { (o : MachineOutcome) → Tells o told
-        → IfOk result (λ lines. lines ≡ o.lines ++ sent_lines (suc (length frames.old.frames)) o.frames) }
+        → IfOk result (λ lines. lines ≡ o.lines ++ sent_lines (suc (length frames.old)) o.frames) }
     ensures frames { (o : MachineOutcome) → Tells o told
-        → OnOk result (frames.new.frames ≡ frames.old.frames ++ map frame_bytes o.frames) }
-    ensures err { OnErr result (frames.new.frames ≡ frames.old.frames) }
+        → OnOk result (frames.new ≡ frames.old ++ map frame_bytes o.frames) }
+    ensures err { OnErr result (frames.new ≡ frames.old) }
 {
     let mut lines = told.reports;
-    let mut sent = told.frames;
     let first = frames.len() as u64;
     // No memory holds more frames than there are numbers.
-    let Some(_) = first.checked_add(sent.len() as u64) else {
+    let Some(_) = first.checked_add(told.frames.bytes().len() as u64) else {
         return Err(AllocError);
     };
-    tell_sent(alloc, first, &sent, &mut lines)?;
-    frames.append(&mut sent)?;
+    let sent = told.frames.tell(first, &mut lines)?;
+    frames.append(&sent)?;
     Ok(lines)
 }
 
 /// Takes up the answer of a broker's call. Its faults are passed on.
 pub(crate) fn take_answer(
-    alloc: Global,
-    frames: &mut Frames,
+    frames: &mut FrameStore,
     answer: Result<Outcome, BrokerFault>,
 ) -> Result<Reports, WorldFault>
     ensures follows { Follows answer result }
     ensures takes { (o : MachineOutcome) → IfOk answer (Tells o)
-        → TakesUp o frames.old.frames frames.new.frames result }
+        → TakesUp o frames.old frames.new result }
 {
     match answer {
-        Ok(told) => match take_up(alloc, frames, told) {
+        Ok(told) => match take_up(frames, told) {
             Ok(lines) => Ok(lines),
             Err(_) => Err(WorldFault::Memory),
         },
@@ -76,16 +57,16 @@ pub(crate) fn take_answer(
 /// is told or sent.
 pub(crate) fn take_receipt(
     alloc: Global,
-    frames: &mut Frames,
+    frames: &mut FrameStore,
     answer: Result<Received, Memory>,
 ) -> Result<Reports, WorldFault>
     requires { (o : MachineOutcome) × IfOk answer (IsReceived o) }
     ensures follows { FollowsReceipt answer result }
     ensures takes { (o : MachineOutcome) → IfOk answer (IsReceived o)
-        → TakesUp o frames.old.frames frames.new.frames result }
+        → TakesUp o frames.old frames.new result }
 {
     match answer {
-        Ok(Received::Taken(told)) => match take_up(alloc, frames, told) {
+        Ok(Received::Taken(told)) => match take_up(frames, told) {
             Ok(lines) => Ok(lines),
             Err(_) => Err(WorldFault::Memory),
         },

@@ -241,7 +241,7 @@ impl World {
             return Ok(None);
         }
         disk.stop_after(2 * p, 0, 0);
-        match take_answer(self.alloc, &mut self.frames, answer) {
+        match take_answer(&mut self.frames, answer) {
             Ok(lines) => Ok(Some(lines)),
             Err(fault) => Err(fault),
         }

@@ -11,8 +11,8 @@ ghost use Rattle.gr_world.specs.Steps.{Makes, Stays};
 use crate::copying::copy_reports;
 use crate::fault::{Memory, WorldFault};
 use gr_broker::Broker;
-use gr_frame::Frames;
 use gr_model::Reports;
+use gr_store::FrameStore;
 use gr_topo::Topology;
 use std::alloc::Global;
 use std::marker::Model;
@@ -24,7 +24,7 @@ pub struct World {
     pub(crate) alloc: Global,
     pub(crate) topology: Topology,
     pub(crate) brokers: Vec<Broker>,
-    pub(crate) frames: Frames,
+    pub(crate) frames: FrameStore,
     pub(crate) clock: u64,
     pub(crate) most: u64,
     pub(crate) told: Reports,
@@ -46,7 +46,7 @@ impl Model for World {
     ghost view = { λ w. record {
       topo = w.topology;
       brokers = w.brokers.items;
-      frames = w.frames.frames;
+      frames = w.frames;
       clock = w.clock;
       most = w.most;
       told = w.told;

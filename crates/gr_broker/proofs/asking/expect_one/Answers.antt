@@ -19,5 +19,5 @@ returns c =
     let s = c.args.site.now in
     let w = wants_of (runs_of c.args.wants.now) c.args.i in
     let number = child_number s.topo.now s.broker s.publisher c.args.i s.edges.now s.position.now c.index.result.now c.requires.site.branch c.requires.child c.index.ensures in
-    subst (λ n. OnOk c.encode_into.result (AddsFrames (if covers w c.args.tick then [] else expect_frame s.broker n s.publisher c.args.tick ∷ []) c.args.into.now c.encode_into.new.into)) number
-    (tells_one c.encode_into.result s.publisher s.broker c.args.tick c.index.result.now.number w c.args.into.now c.encode_into.new.into (covers_is w c.args.tick c.covers.result c.covers.ensures ∙ c.if-covers.false) c.encode_into.ensures.cut c.encode_into.ensures.spelled)
+    subst (λ n. OnOk c.push.result (AddsFrames (if covers w c.args.tick then [] else expect_frame s.broker n s.publisher c.args.tick ∷ []) c.args.into.now c.push.new.self)) number
+    (tells_one c.push.result s.publisher s.broker c.args.tick c.index.result.now.number w c.args.into.now c.push.new.self (covers_is w c.args.tick c.covers.result c.covers.ensures ∙ c.if-covers.false) c.push.ensures.cut c.push.ensures.spelled)

@@ -1,4 +1,6 @@
-use Rattle.std.proofs.Common.{◌++◌, suc, subst}
+use Rattle.std.proofs.Common.{◌++◌, suc, sym, subst}
+use Rattle.gr_frame.specs.Cut.{AreFrames}
+use Rattle.gr_frame.specs.Frames.{FrameList}
 use Rattle.gr_out.specs.Page.{TakesBut, TakesFront}
 use Rattle.gr_out.proofs.Fronts.{but-later, front-later, front-more, on_fault, on_success}
 use Rattle.gr_model.specs.World.{sent_lines}
@@ -15,7 +17,7 @@ returns-in-Ok-clause-told g c = λ fs a.
     (λ h. subst (λ xs. TakesBut (g.K.Sink.taken c.args.sink.now) (g.K.Sink.taken c.offer_frames.new.sink) xs c.offer_frames.new.page.held)
     (text_joined t c.args.page.now.held c.as_slice.result.now c.args.told.reports (sent_lines (suc c.args.offers.now) fs) c.as_slice.ensures)
     (but-later _ _ _ (c.args.page.now.held ++ told) sent c.put_all.new.page.held c.offer_frames.new.page.held c.in-Ok.ensures.ok h))
-    (c.offer_frames.ensures.told fs a)
+    (c.offer_frames.ensures.told fs (subst (λ (l : FrameList). AreFrames l.frames fs) (sym c.bytes.ensures) a))
 
 pub returns-in-Ok-clause-front : goal.returns-in-Ok-clause-front
 returns-in-Ok-clause-front g c = λ fs a.
@@ -26,7 +28,7 @@ returns-in-Ok-clause-front g c = λ fs a.
     (λ h. subst (λ xs. TakesFront (g.K.Sink.taken c.args.sink.now) (g.K.Sink.taken c.offer_frames.new.sink) xs)
     (text_joined t c.args.page.now.held c.as_slice.result.now c.args.told.reports (sent_lines (suc c.args.offers.now) fs) c.as_slice.ensures)
     (front-later _ _ _ (c.args.page.now.held ++ told) sent c.put_all.new.page.held c.in-Ok.ensures.ok h))
-    (c.offer_frames.ensures.front fs a)
+    (c.offer_frames.ensures.front fs (subst (λ (l : FrameList). AreFrames l.frames fs) (sym c.bytes.ensures) a))
 
 pub returns-clause-front : goal.returns-clause-front
 returns-clause-front g c = λ fs a.

@@ -40,19 +40,19 @@ pub returns-clause-does : goal.returns-clause-does
 returns-clause-does c =
     does_deliver (the_view c.self.inside) c.args.self.now c.args.i c.frame-bytes.result.now (place c) c.receiver-to.result c.index_mut.result.now c.receive-answer.new.self c.receive-answer.result
     c.receiver-to.ensures c.index_mut.ensures.value c.frames_pass_the_log.ensures.log c.frames_pass_the_log.ensures.rest c.clashes_have_a_least_tick.ensures c.receive-answer.ensures.says
-    c.take_receipt.new.frames.frames c.take_receipt.result c.every_topology_is_a_tree.ensures.tree c.receive-answer.ensures.after c.receive-answer.ensures.err c.receive-answer.ensures.fits
+    c.take_receipt.new.frames c.take_receipt.result c.every_topology_is_a_tree.ensures.tree c.receive-answer.ensures.after c.receive-answer.ensures.err c.receive-answer.ensures.fits
     c.take_receipt.ensures.follows c.take_receipt.ensures.takes
 
 pub returns-clause-ran : goal.returns-clause-ran
 returns-clause-ran c =
     ran_deliver (the_view c.self.inside) c.args.self.now c.args.i c.frame-bytes.result.now (place c) c.receiver-to.result c.index_mut.result.now c.receive-answer.new.self c.receive-answer.result
     c.receiver-to.ensures c.index_mut.ensures.value c.frames_pass_the_log.ensures.log c.frames_pass_the_log.ensures.rest c.clashes_have_a_least_tick.ensures c.receive-answer.ensures.says
-    c.take_receipt.new.frames.frames c.take_receipt.result c.every_topology_is_a_tree.ensures.tree c.receive-answer.ensures.after c.receive-answer.ensures.err c.receive-answer.ensures.fits
+    c.take_receipt.new.frames c.take_receipt.result c.every_topology_is_a_tree.ensures.tree c.receive-answer.ensures.after c.receive-answer.ensures.err c.receive-answer.ensures.fits
     c.take_receipt.ensures.follows c.take_receipt.ensures.takes
 
 pub returns-clause-logs : goal.returns-clause-logs
 returns-clause-logs c = λ p below.
     logs_deliver (the_view c.self.inside) c.args.self.now c.args.i c.frame-bytes.result.now (place c) c.receiver-to.result c.index_mut.result.now c.receive-answer.new.self c.receive-answer.result
     c.receiver-to.ensures c.index_mut.ensures.value c.frames_pass_the_log.ensures.log c.frames_pass_the_log.ensures.rest c.clashes_have_a_least_tick.ensures c.receive-answer.ensures.says
-    c.take_receipt.new.frames.frames c.take_receipt.result c.every_topology_is_a_tree.ensures.tree c.receive-answer.ensures.after c.receive-answer.ensures.err c.receive-answer.ensures.fits
+    c.take_receipt.new.frames c.take_receipt.result c.every_topology_is_a_tree.ensures.tree c.receive-answer.ensures.after c.receive-answer.ensures.err c.receive-answer.ensures.fits
     c.take_receipt.ensures.follows c.take_receipt.ensures.takes p

@@ -36,15 +36,15 @@ gives g c =
     let e = c.publish-answer.ensures in
     record { told = e.told; leaves = e.leaves; log = e.log; fits = e.fits; reopen = e.reopen }
 
-ran : (g : Over) (c : goal.After-take_answer g) → Ran c.args.self.now (put_in (the_view c.self.inside) c.host-host.result c.publish-answer.new.self c.take_answer.new.frames.frames) c.take_answer.result
+ran : (g : Over) (c : goal.After-take_answer g) → Ran c.args.self.now (put_in (the_view c.self.inside) c.host-host.result c.publish-answer.new.self c.take_answer.new.frames) c.take_answer.result
 ran g c =
-    ran_publish (the_view c.self.inside) c.args.self.now c.host-host.result c.args.p c.args.number c.args.event.now c.index_mut-broker.result.now c.publish-answer.new.self c.take_answer.new.frames.frames
+    ran_publish (the_view c.self.inside) c.args.self.now c.host-host.result c.args.p c.args.number c.args.event.now c.index_mut-broker.result.now c.publish-answer.new.self c.take_answer.new.frames
     c.publish-answer.result c.take_answer.result (site g c) (sym c.host-host.ensures.host) c.every_topology_is_a_tree.ensures.tree (gives g c) c.take_answer.ensures.follows c.take_answer.ensures.takes
 
-lanes : (g : Over) (c : goal.After-take_answer g) → LanesFit (g.D.Disk.lane_of c.publish-answer.new.disk) (put_in (the_view c.self.inside) c.host-host.result c.publish-answer.new.self c.take_answer.new.frames.frames)
+lanes : (g : Over) (c : goal.After-take_answer g) → LanesFit (g.D.Disk.lane_of c.publish-answer.new.disk) (put_in (the_view c.self.inside) c.host-host.result c.publish-answer.new.self c.take_answer.new.frames)
 lanes g c =
     let e = c.publish-answer.ensures in
-    lanes_publish (the_view c.self.inside) c.args.self.now c.host-host.result c.args.p c.args.number c.args.event.now c.index_mut-broker.result.now c.publish-answer.new.self c.take_answer.new.frames.frames
+    lanes_publish (the_view c.self.inside) c.args.self.now c.host-host.result c.args.p c.args.number c.args.event.now c.index_mut-broker.result.now c.publish-answer.new.self c.take_answer.new.frames
     c.publish-answer.result c.take_answer.result (site g c) (sym c.host-host.ensures.host) c.every_topology_is_a_tree.ensures.tree (gives g c) c.take_answer.ensures.follows c.take_answer.ensures.takes
     (g.D.Disk.lane_of c.args.disk.now) (g.D.Disk.lane_of c.publish-answer.new.disk) c.requires.lanes (record {
       lane = e.lane g.met.D.SimDisk.told;
@@ -58,7 +58,7 @@ lanes g c =
 
 pub returns-clause-does : goal.returns-clause-does
 returns-clause-does g c =
-    does_publish (the_view c.self.inside) c.args.self.now c.host-host.result c.args.p c.args.number c.args.event.now c.index_mut-broker.result.now c.publish-answer.new.self c.take_answer.new.frames.frames
+    does_publish (the_view c.self.inside) c.args.self.now c.host-host.result c.args.p c.args.number c.args.event.now c.index_mut-broker.result.now c.publish-answer.new.self c.take_answer.new.frames
     c.publish-answer.result c.take_answer.result (site g c) (sym c.host-host.ensures.host) c.every_topology_is_a_tree.ensures.tree (gives g c) c.take_answer.ensures.follows c.take_answer.ensures.takes
 
 pub returns-clause-ran : goal.returns-clause-ran
@@ -66,19 +66,19 @@ returns-clause-ran g c = ran g c
 
 pub returns-clause-reopen : goal.returns-clause-reopen
 returns-clause-reopen g c =
-    reopens_publish (the_view c.self.inside) c.args.self.now c.host-host.result c.args.p c.args.number c.args.event.now c.index_mut-broker.result.now c.publish-answer.new.self c.take_answer.new.frames.frames
+    reopens_publish (the_view c.self.inside) c.args.self.now c.host-host.result c.args.p c.args.number c.args.event.now c.index_mut-broker.result.now c.publish-answer.new.self c.take_answer.new.frames
     c.publish-answer.result c.take_answer.result (site g c) (sym c.host-host.ensures.host) c.every_topology_is_a_tree.ensures.tree (gives g c) c.take_answer.ensures.follows c.take_answer.ensures.takes
 
 pub returns-clause-unchanged : goal.returns-clause-unchanged
 returns-clause-unchanged g c = λ h. (
-  unchanged_publish (the_view c.self.inside) c.args.self.now c.host-host.result c.args.p c.args.number c.args.event.now c.index_mut-broker.result.now c.publish-answer.new.self c.take_answer.new.frames.frames
+  unchanged_publish (the_view c.self.inside) c.args.self.now c.host-host.result c.args.p c.args.number c.args.event.now c.index_mut-broker.result.now c.publish-answer.new.self c.take_answer.new.frames
       c.publish-answer.result c.take_answer.result (site g c) (sym c.host-host.ensures.host) c.every_topology_is_a_tree.ensures.tree (gives g c) c.take_answer.ensures.follows c.take_answer.ensures.takes h,
   c.publish-answer.ensures.idle (reopen_follows c.publish-answer.result c.take_answer.result c.take_answer.ensures.follows h),
 )
 
 pub returns-clause-failed : goal.returns-clause-failed
 returns-clause-failed g c =
-    failed_publish (the_view c.self.inside) c.args.self.now c.host-host.result c.args.p c.args.number c.args.event.now c.index_mut-broker.result.now c.publish-answer.new.self c.take_answer.new.frames.frames
+    failed_publish (the_view c.self.inside) c.args.self.now c.host-host.result c.args.p c.args.number c.args.event.now c.index_mut-broker.result.now c.publish-answer.new.self c.take_answer.new.frames
     c.publish-answer.result c.take_answer.result (site g c) (sym c.host-host.ensures.host) c.every_topology_is_a_tree.ensures.tree (gives g c) c.take_answer.ensures.follows c.take_answer.ensures.takes
 
 pub returns-clause-disk : goal.returns-clause-disk
@@ -87,7 +87,7 @@ returns-clause-disk g c =
     ran_on (g.D.Disk.faultless c.args.disk.now) (g.D.Disk.faultless c.publish-answer.new.disk) (g.D.Disk.faults c.args.disk.now) (g.D.Disk.stops c.args.disk.now)
     (g.D.Disk.faults c.publish-answer.new.disk) (g.D.Disk.stops c.publish-answer.new.disk) (g.D.Disk.lane_of c.publish-answer.new.disk (2 * c.args.p)) c.publish-answer.result c.take_answer.result
     c.take_answer.ensures.follows e.tally (e.causes g.met.D.SimDisk.told) e.faultless
-    (site_unstopped (the_view c.self.inside) c.args.self.now c.host-host.result c.args.p c.index_mut-broker.result.now (site g c) c.publish-answer.new.self c.take_answer.new.frames.frames c.take_answer.result
+    (site_unstopped (the_view c.self.inside) c.args.self.now c.host-host.result c.args.p c.index_mut-broker.result.now (site g c) c.publish-answer.new.self c.take_answer.new.frames c.take_answer.result
     (g.D.Disk.lane_of c.publish-answer.new.disk) c.every_topology_is_a_tree.ensures.tree (ran g c) (lanes g c))
 
 pub returns-clause-lanes : goal.returns-clause-lanes

@@ -124,8 +124,8 @@ returns-clause-ran g c =
       | in-Ok w ↦ ap lines_in w.result-is ∙ sym w.in-Ok.is
       | in-Err w ↦ ap lines_in w.result-is ∙ sym w.in-Err.is
     ] in
-    subst (λ (r : Result (List Report) WorldFault). Ran c.args.self.now (put_in (the_view c.self.inside) c.args.host c.publish-answer.new.self c.take_answer.new.frames.frames) r) (sym lines_is)
-    (ran_publish (the_view c.self.inside) c.args.self.now c.args.host c.args.p c.args.number c.args.event.now c.index_mut-broker.result.now c.publish-answer.new.self c.take_answer.new.frames.frames c.publish-answer.result c.take_answer.result s host c.every_topology_is_a_tree.ensures.tree k c.take_answer.ensures.follows c.take_answer.ensures.takes)
+    subst (λ (r : Result (List Report) WorldFault). Ran c.args.self.now (put_in (the_view c.self.inside) c.args.host c.publish-answer.new.self c.take_answer.new.frames) r) (sym lines_is)
+    (ran_publish (the_view c.self.inside) c.args.self.now c.args.host c.args.p c.args.number c.args.event.now c.index_mut-broker.result.now c.publish-answer.new.self c.take_answer.new.frames c.publish-answer.result c.take_answer.result s host c.every_topology_is_a_tree.ensures.tree k c.take_answer.ensures.follows c.take_answer.ensures.takes)
 
 pub returns-clause-never_through : goal.returns-clause-never_through
 returns-clause-never_through g c = λ lines is.
@@ -181,7 +181,7 @@ returns-clause-lanes g c = λ ne.
       others = e.others g.met.D.SimDisk.told;
       stands = e.stands g.met.D.SimDisk.told;
     } in
-    ended_fit (the_view c.self.inside) c.args.self.now c.args.host c.args.p c.args.number c.args.event.now c.index_mut-broker.result.now c.publish-answer.new.self c.publish-answer.result s host c.every_topology_is_a_tree.ensures.tree k c.take_answer.new.frames.frames c.take_answer.result (g.D.Disk.lane_of c.args.disk.now) (g.D.Disk.lane_of c.stop_after.new.self) (g.D.Disk.lane_of c.publish-answer.new.disk) (g.D.Disk.lane_of c.stop_after-2.new.self) (stop_at c.args.stop.now.call c.args.stop.now.pick)
+    ended_fit (the_view c.self.inside) c.args.self.now c.args.host c.args.p c.args.number c.args.event.now c.index_mut-broker.result.now c.publish-answer.new.self c.publish-answer.result s host c.every_topology_is_a_tree.ensures.tree k c.take_answer.new.frames c.take_answer.result (g.D.Disk.lane_of c.args.disk.now) (g.D.Disk.lane_of c.stop_after.new.self) (g.D.Disk.lane_of c.publish-answer.new.disk) (g.D.Disk.lane_of c.stop_after-2.new.self) (stop_at c.args.stop.now.call c.args.stop.now.pick)
     c.take_answer.ensures.follows c.take_answer.ensures.takes c.requires.lanes (c.stop_after.ensures.stop g.met.D.SimDisk.told) (c.stop_after-2.ensures.stop g.met.D.SimDisk.told) (c.stop_after-2.ensures.others g.met.D.SimDisk.told)
     (λ m away. c.stop_after-2.ensures.others g.met.D.SimDisk.told m away ∙ (e.others g.met.D.SimDisk.told m away ∙ c.stop_after.ensures.others g.met.D.SimDisk.told m away)) on
 
@@ -221,7 +221,7 @@ returns-clause-reopen g c =
       | in-Err w ↦ ap lines_in w.result-is ∙ sym w.in-Err.is
     ] in
     subst (λ (r : Result (List Report) WorldFault). IsErrOf r fault.Reopen ↔ IsBarred c.args.self.now c.args.p c.args.number c.args.event.now) (sym lines_is)
-    (reopens_publish (the_view c.self.inside) c.args.self.now c.args.host c.args.p c.args.number c.args.event.now c.index_mut-broker.result.now c.publish-answer.new.self c.take_answer.new.frames.frames c.publish-answer.result c.take_answer.result s host c.every_topology_is_a_tree.ensures.tree k c.take_answer.ensures.follows c.take_answer.ensures.takes)
+    (reopens_publish (the_view c.self.inside) c.args.self.now c.args.host c.args.p c.args.number c.args.event.now c.index_mut-broker.result.now c.publish-answer.new.self c.take_answer.new.frames c.publish-answer.result c.take_answer.result s host c.every_topology_is_a_tree.ensures.tree k c.take_answer.ensures.follows c.take_answer.ensures.takes)
 
 pub returns-clause-unchanged : goal.returns-clause-unchanged
 returns-clause-unchanged g c =
@@ -241,8 +241,8 @@ returns-clause-unchanged g c =
       | in-Ok w ↦ ap lines_in w.result-is ∙ sym w.in-Ok.is
       | in-Err w ↦ ap lines_in w.result-is ∙ sym w.in-Err.is
     ] in
-    subst (λ (r : Result (List Report) WorldFault). IsErrOf r fault.Reopen → (put_in (the_view c.self.inside) c.args.host c.publish-answer.new.self c.take_answer.new.frames.frames) ≡ c.args.self.now) (sym lines_is)
-    (unchanged_publish (the_view c.self.inside) c.args.self.now c.args.host c.args.p c.args.number c.args.event.now c.index_mut-broker.result.now c.publish-answer.new.self c.take_answer.new.frames.frames c.publish-answer.result c.take_answer.result s host c.every_topology_is_a_tree.ensures.tree k c.take_answer.ensures.follows c.take_answer.ensures.takes)
+    subst (λ (r : Result (List Report) WorldFault). IsErrOf r fault.Reopen → (put_in (the_view c.self.inside) c.args.host c.publish-answer.new.self c.take_answer.new.frames) ≡ c.args.self.now) (sym lines_is)
+    (unchanged_publish (the_view c.self.inside) c.args.self.now c.args.host c.args.p c.args.number c.args.event.now c.index_mut-broker.result.now c.publish-answer.new.self c.take_answer.new.frames c.publish-answer.result c.take_answer.result s host c.every_topology_is_a_tree.ensures.tree k c.take_answer.ensures.follows c.take_answer.ensures.takes)
 
 pub returns-clause-failed : goal.returns-clause-failed
 returns-clause-failed g c =
@@ -262,5 +262,5 @@ returns-clause-failed g c =
       | in-Ok w ↦ ap lines_in w.result-is ∙ sym w.in-Ok.is
       | in-Err w ↦ ap lines_in w.result-is ∙ sym w.in-Err.is
     ] in
-    subst (λ (r : Result (List Report) WorldFault). IsErrOf r fault.Disk → (put_in (the_view c.self.inside) c.args.host c.publish-answer.new.self c.take_answer.new.frames.frames) ≡ broken_in c.args.self.now c.args.host c.args.p) (sym lines_is)
-    (λ h. failed_publish (the_view c.self.inside) c.args.self.now c.args.host c.args.p c.args.number c.args.event.now c.index_mut-broker.result.now c.publish-answer.new.self c.take_answer.new.frames.frames c.publish-answer.result c.take_answer.result s host c.every_topology_is_a_tree.ensures.tree k c.take_answer.ensures.follows c.take_answer.ensures.takes h ∙ ap (λ b. broken_in c.args.self.now b c.args.p) (sym c.requires.host))
+    subst (λ (r : Result (List Report) WorldFault). IsErrOf r fault.Disk → (put_in (the_view c.self.inside) c.args.host c.publish-answer.new.self c.take_answer.new.frames) ≡ broken_in c.args.self.now c.args.host c.args.p) (sym lines_is)
+    (λ h. failed_publish (the_view c.self.inside) c.args.self.now c.args.host c.args.p c.args.number c.args.event.now c.index_mut-broker.result.now c.publish-answer.new.self c.take_answer.new.frames c.publish-answer.result c.take_answer.result s host c.every_topology_is_a_tree.ensures.tree k c.take_answer.ensures.follows c.take_answer.ensures.takes h ∙ ap (λ b. broken_in c.args.self.now b c.args.p) (sym c.requires.host))

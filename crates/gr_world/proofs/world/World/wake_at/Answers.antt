@@ -34,19 +34,19 @@ gives g c =
     let e = c.wake-answer.ensures in
     record { told = e.told; leaves = e.leaves; log = e.log; fits = e.fits; reopen = e.reopen }
 
-ran : (g : Over) (c : goal.After-take_answer g) → Ran c.args.self.now (put_in (the_view c.self.inside) c.args.b c.wake-answer.new.self c.take_answer.new.frames.frames) c.take_answer.result
+ran : (g : Over) (c : goal.After-take_answer g) → Ran c.args.self.now (put_in (the_view c.self.inside) c.args.b c.wake-answer.new.self c.take_answer.new.frames) c.take_answer.result
 ran g c =
-    ran_wake (the_view c.self.inside) c.args.self.now c.args.b c.args.p c.index_mut-broker.result.now c.wake-answer.new.self c.take_answer.new.frames.frames
+    ran_wake (the_view c.self.inside) c.args.self.now c.args.b c.args.p c.index_mut-broker.result.now c.wake-answer.new.self c.take_answer.new.frames
     c.wake-answer.result c.take_answer.result (site g c) c.every_topology_is_a_tree.ensures.tree (gives g c) c.take_answer.ensures.follows c.take_answer.ensures.takes
 
 -- a log that the disk has failed is not written to any more
 closed : (g : Over) (c : goal.After-take_answer g) → is_broken (log_in c.index_mut-broker.result.now c.args.p) ≡ true → c.wake-answer.new.disk ≡ c.args.disk.now
 closed g c = c.wake-answer.ensures.closed
 
-lanes : (g : Over) (c : goal.After-take_answer g) → LanesFit (g.D.Disk.lane_of c.wake-answer.new.disk) (put_in (the_view c.self.inside) c.args.b c.wake-answer.new.self c.take_answer.new.frames.frames)
+lanes : (g : Over) (c : goal.After-take_answer g) → LanesFit (g.D.Disk.lane_of c.wake-answer.new.disk) (put_in (the_view c.self.inside) c.args.b c.wake-answer.new.self c.take_answer.new.frames)
 lanes g c =
     let e = c.wake-answer.ensures in
-    lanes_wake (the_view c.self.inside) c.args.self.now c.args.b c.args.p c.index_mut-broker.result.now c.wake-answer.new.self c.take_answer.new.frames.frames
+    lanes_wake (the_view c.self.inside) c.args.self.now c.args.b c.args.p c.index_mut-broker.result.now c.wake-answer.new.self c.take_answer.new.frames
     c.wake-answer.result c.take_answer.result (site g c) c.every_topology_is_a_tree.ensures.tree (gives g c) c.take_answer.ensures.follows c.take_answer.ensures.takes
     (g.D.Disk.lane_of c.args.disk.now) (g.D.Disk.lane_of c.wake-answer.new.disk) c.requires.lanes (record {
       lane = e.lane g.met.D.SimDisk.told;
@@ -60,7 +60,7 @@ lanes g c =
 
 pub returns-clause-does : goal.returns-clause-does
 returns-clause-does g c =
-    does_wake (the_view c.self.inside) c.args.self.now c.args.b c.args.p c.index_mut-broker.result.now c.wake-answer.new.self c.take_answer.new.frames.frames
+    does_wake (the_view c.self.inside) c.args.self.now c.args.b c.args.p c.index_mut-broker.result.now c.wake-answer.new.self c.take_answer.new.frames
     c.wake-answer.result c.take_answer.result (site g c) c.every_topology_is_a_tree.ensures.tree (gives g c) c.take_answer.ensures.follows c.take_answer.ensures.takes
 
 pub returns-clause-ran : goal.returns-clause-ran
@@ -72,7 +72,7 @@ returns-clause-disk g c =
     ran_on (g.D.Disk.faultless c.args.disk.now) (g.D.Disk.faultless c.wake-answer.new.disk) (g.D.Disk.faults c.args.disk.now) (g.D.Disk.stops c.args.disk.now)
     (g.D.Disk.faults c.wake-answer.new.disk) (g.D.Disk.stops c.wake-answer.new.disk) (g.D.Disk.lane_of c.wake-answer.new.disk (2 * c.args.p)) c.wake-answer.result c.take_answer.result
     c.take_answer.ensures.follows e.tally (e.causes g.met.D.SimDisk.told) e.faultless
-    (site_unstopped (the_view c.self.inside) c.args.self.now c.args.b c.args.p c.index_mut-broker.result.now (site g c) c.wake-answer.new.self c.take_answer.new.frames.frames c.take_answer.result
+    (site_unstopped (the_view c.self.inside) c.args.self.now c.args.b c.args.p c.index_mut-broker.result.now (site g c) c.wake-answer.new.self c.take_answer.new.frames c.take_answer.result
     (g.D.Disk.lane_of c.wake-answer.new.disk) c.every_topology_is_a_tree.ensures.tree (ran g c) (lanes g c))
 
 pub returns-clause-lanes : goal.returns-clause-lanes

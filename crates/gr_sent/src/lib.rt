@@ -1,0 +1,6 @@
+//! Frames that are sent, and the lines that tell them.
+#![tactic(auto)]
+
+mod sent;
+
+pub use sent::{Memory, Sent, sent_report};
