@@ -119,7 +119,8 @@ fn gallop<V: Lattice>(runs: &Gap<Run<V>>, tick: u64, last: usize) -> usize
     bisect(runs, tick, 0, high)
 }
 
-/// Where the runs that end at a tick or later begin. The two ends are looked at first, and then what is near the newest.
+/// Where the runs that end at a tick or later begin. The two newest are looked at first, then the oldest, and then what is
+/// near the newest.
 pub fn seek<V: Lattice>(runs: &Gap<Run<V>>, tick: u64) -> usize
     requires { AreTickRuns V.least runs.now.items }
     ensures within { result ≤ length runs.now.items }
@@ -134,11 +135,18 @@ pub fn seek<V: Lattice>(runs: &Gap<Run<V>>, tick: u64) -> usize
     if newest.last < tick {
         return count;
     }
+    if count == 1 {
+        return 0;
+    }
+    let second = runs.get(count - 2);
+    if second.last < tick {
+        return count - 1;
+    }
     let oldest = runs.get(0);
     if tick <= oldest.last {
         return 0;
     }
-    gallop(runs, tick, count - 1)
+    gallop(runs, tick, count - 2)
 }
 
 /// How many runs begin by a tick.
