@@ -1,13 +1,13 @@
 -- The topology of the small examples is that of the blank topology part, number by number
 use Rattle.std.proofs.Common.{◌≡◌, ℕ, zero, suc, Bool, true, false, ◌&&◌, not, nat_eq, List, [], ◌∷◌, Option, Some, None, refl, sym, ap, ◌∙◌, arith, ne_eqb}
-use Rattle.std.specs.Prelude.{nat_lt}
+use Rattle.std.specs.Prelude.{nat_lt, is_some}
 use Rattle.std.specs.List.{list_any, filter}
 use Rattle.std.proofs.lemmas.Bool.{false_from_ne_true, and_left, cond-false, le-ltb}
 use Rattle.std.proofs.Math.Path.{fun_ext}
 use Rattle.gr_event.specs.declared.event.Event.{Event}
 use Rattle.gr_tree.specs.Walks.{numbers, is_linked, is_reached, distance, up_of, path_of}
 use Rattle.gr_tree.proofs.Numbers.{first_none}
-use Rattle.gr_topo.specs.Topology.{blank, host_of, home_of, up_at, depth_at, is_this, children_of, subscribers_of, below_of, wants}
+use Rattle.gr_topo.specs.Topology.{blank, host_of, client_of, home_of, up_at, depth_at, is_this, children_of, subscribers_of, below_of, wants}
 use Rattle.gr_topo.proofs.Blank.{two_within}
 use Rattle.gr_model.specs.Net.{Net}
 use Rattle.gr_model.specs.Blank.{net0}
@@ -16,6 +16,10 @@ use Rattle.gr_model.specs.NetOf.{net_of}
 host_is : (p : ℕ) → 0 ≡ host_of blank p
 host_is zero = refl
 host_is (suc p) = refl
+
+client_is : (p : ℕ) → false ≡ is_some (client_of blank p)
+client_is zero = refl
+client_is (suc p) = refl
 
 -- ---- a number past the second
 
@@ -106,12 +110,13 @@ wants_is (suc s) e = refl
 
 -- ---- the whole
 
-abbrev net_by : (ℕ → ℕ) → (ℕ → ℕ) → (ℕ → ℕ → Option ℕ) → (ℕ → ℕ → List ℕ) → (ℕ → List ℕ) → (ℕ → ℕ → List ℕ) → (ℕ → ℕ → ℕ) → (ℕ → ℕ → ℕ → Event → Bool) → Net
-net_by host home up children here below depth wanted = record {
+abbrev net_by : (ℕ → ℕ) → (ℕ → Bool) → (ℕ → ℕ) → (ℕ → ℕ → Option ℕ) → (ℕ → ℕ → List ℕ) → (ℕ → List ℕ) → (ℕ → ℕ → List ℕ) → (ℕ → ℕ → ℕ) → (ℕ → ℕ → ℕ → Event → Bool) → Net
+net_by host client home up children here below depth wanted = record {
   brokers = 2;
   publishers = 1;
   subscribers = 1;
   host = host;
+  client = client;
   at = home;
   up = up;
   children = children;
@@ -129,11 +134,12 @@ net_by host home up children here below depth wanted = record {
 -- the small examples' topology is that of the blank topology part
 pub blank_net : net0 ≡ net_of blank
 blank_net =
-    ap (λ f. net_by f net0.at net0.up net0.children net0.subscribers_at net0.below net0.depth net0.wants) (fun_ext host_is)
-    ∙ ap (λ f. net_by (host_of blank) f net0.up net0.children net0.subscribers_at net0.below net0.depth net0.wants) (fun_ext home_is)
-    ∙ ap (λ f. net_by (host_of blank) (home_of blank) f net0.children net0.subscribers_at net0.below net0.depth net0.wants) (fun_ext (λ p. fun_ext (up_is p)))
-    ∙ ap (λ f. net_by (host_of blank) (home_of blank) (up_at blank) f net0.subscribers_at net0.below net0.depth net0.wants) (fun_ext (λ p. fun_ext (children_is p)))
-    ∙ ap (λ f. net_by (host_of blank) (home_of blank) (up_at blank) (children_of blank) f net0.below net0.depth net0.wants) (fun_ext here_is)
-    ∙ ap (λ f. net_by (host_of blank) (home_of blank) (up_at blank) (children_of blank) (subscribers_of blank) f net0.depth net0.wants) (fun_ext (λ p. fun_ext (below_is p)))
-    ∙ ap (λ f. net_by (host_of blank) (home_of blank) (up_at blank) (children_of blank) (subscribers_of blank) (below_of blank) f net0.wants) (fun_ext (λ p. fun_ext (depth_is p)))
-    ∙ ap (λ f. net_by (host_of blank) (home_of blank) (up_at blank) (children_of blank) (subscribers_of blank) (below_of blank) (depth_at blank) f) (fun_ext (λ p. fun_ext (λ s. fun_ext (λ t. fun_ext (wants_is s)))))
+    ap (λ f. net_by f net0.client net0.at net0.up net0.children net0.subscribers_at net0.below net0.depth net0.wants) (fun_ext host_is)
+    ∙ ap (λ f. net_by (host_of blank) f net0.at net0.up net0.children net0.subscribers_at net0.below net0.depth net0.wants) (fun_ext client_is)
+    ∙ ap (λ f. net_by (host_of blank) (λ p. is_some (client_of blank p)) f net0.up net0.children net0.subscribers_at net0.below net0.depth net0.wants) (fun_ext home_is)
+    ∙ ap (λ f. net_by (host_of blank) (λ p. is_some (client_of blank p)) (home_of blank) f net0.children net0.subscribers_at net0.below net0.depth net0.wants) (fun_ext (λ p. fun_ext (up_is p)))
+    ∙ ap (λ f. net_by (host_of blank) (λ p. is_some (client_of blank p)) (home_of blank) (up_at blank) f net0.subscribers_at net0.below net0.depth net0.wants) (fun_ext (λ p. fun_ext (children_is p)))
+    ∙ ap (λ f. net_by (host_of blank) (λ p. is_some (client_of blank p)) (home_of blank) (up_at blank) (children_of blank) f net0.below net0.depth net0.wants) (fun_ext here_is)
+    ∙ ap (λ f. net_by (host_of blank) (λ p. is_some (client_of blank p)) (home_of blank) (up_at blank) (children_of blank) (subscribers_of blank) f net0.depth net0.wants) (fun_ext (λ p. fun_ext (below_is p)))
+    ∙ ap (λ f. net_by (host_of blank) (λ p. is_some (client_of blank p)) (home_of blank) (up_at blank) (children_of blank) (subscribers_of blank) (below_of blank) f net0.wants) (fun_ext (λ p. fun_ext (depth_is p)))
+    ∙ ap (λ f. net_by (host_of blank) (λ p. is_some (client_of blank p)) (home_of blank) (up_at blank) (children_of blank) (subscribers_of blank) (below_of blank) (depth_at blank) f) (fun_ext (λ p. fun_ext (λ s. fun_ext (λ t. fun_ext (wants_is s)))))

@@ -2,7 +2,7 @@
 use Rattle.std.proofs.Common.{◌≡◌, ℕ, List, [], ◌∷◌, ◌++◌, drop, refl, ap, ◌∙◌}
 use Rattle.gr_topo.specs.Topology.{TopologyView}
 use Rattle.gr_model.specs.declared.report.Report.{Report}
-use Rattle.gr_model.specs.declared.report.Report.TheVariants.{Opened, Logged, Already, Gap, Exhausted, Kept, Lost, Mark, Cut, Got, Horizon, SentKnow, SentWant, SentExpect, Crashed, Swept, RefusedHosts, RefusedFrame, RefusedClock, DroppedNotFrame, DroppedStray, DroppedClash, Damaged, Frames, LogOf, Doubt, BytesOf}
+use Rattle.gr_model.specs.declared.report.Report.TheVariants.{Opened, Logged, Already, Gap, Exhausted, Kept, Lost, Mark, Cut, Got, Horizon, SentKnow, SentWant, SentExpect, Crashed, Swept, RefusedHosts, RefusedFrame, RefusedClock, DroppedNotFrame, DroppedStray, DroppedClash, DroppedBadNote, DroppedStrayNote, Damaged, Frames, LogOf, Doubt, BytesOf}
 use Rattle.gr_model.specs.Text.{labels_of, row_of, whole_line}
 
 -- a row with the line's end, from the second byte on
@@ -29,6 +29,8 @@ line_in_row t (RefusedClock line moment) = refl
 line_in_row t (DroppedNotFrame broker fault at) = refl
 line_in_row t (DroppedStray broker from to publisher) = refl
 line_in_row t (DroppedClash broker tick kept came) = refl
+line_in_row t (DroppedBadNote broker fault at) = refl
+line_in_row t (DroppedStrayNote broker publisher) = refl
 line_in_row t (Damaged publisher at) = refl
 line_in_row t (Frames count) = refl
 line_in_row t (LogOf publisher last settled cut kept) = refl

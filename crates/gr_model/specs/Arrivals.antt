@@ -1,5 +1,5 @@
 -- A server: what comes to its brokers from outside, and what they do
-use Rattle.std.specs.Prelude.{ℕ, ◌&&◌, ◌++◌, min, max, Bool, true, false, nat_eq, nat_lt, if◌then◌else◌, List, [], ◌∷◌, length, Option, Some, None, Result, Ok, Err, flat_map}
+use Rattle.std.specs.Prelude.{ℕ, ◌&&◌, ◌++◌, min, max, not, Bool, true, false, nat_eq, nat_lt, if◌then◌else◌, List, [], ◌∷◌, length, Option, Some, None, Result, Ok, Err, flat_map}
 use Rattle.std.specs.List.{list_any}
 use Rattle.gr_event.specs.declared.event.Event.{Event}
 use Rattle.gr_frame.specs.declared.Body.TheVariants as body
@@ -7,6 +7,12 @@ use Rattle.gr_frame.specs.declared.Frame.{Frame}
 pub use Rattle.gr_frame.specs.Fault.{fault_number}
 use Rattle.gr_frame.specs.declared.fault.FrameFault.{FrameFault}
 use Rattle.gr_frame.specs.Decode.{frame_decoded}
+use Rattle.gr_note.specs.declared.note.Note.{Note}
+use Rattle.gr_note.specs.declared.note.Note.TheVariants.{Submit, Next, Spent}
+use Rattle.gr_note.specs.declared.fault.NoteFault.{NoteFault}
+use Rattle.gr_note.specs.Fault as note
+use Rattle.gr_note.specs.Bytes.{begins_note}
+use Rattle.gr_note.specs.Decode.{note_decoded}
 use Rattle.gr_know.specs.declared.values.K.TheVariants.{Q}
 use Rattle.gr_curio.specs.declared.values.Q3.TheVariants.{N, A}
 use Rattle.gr_curio.specs.Values.{Wanted, same_Q3}
@@ -36,10 +42,14 @@ Publish = ℕ × (ℕ × Event)
 abbrev pub is_hosted : Net → List ℕ → ℕ → Bool
 is_hosted net hosted p = list_any (λ b. nat_eq b (net.host p)) hosted
 
--- The publishes of a schedule whose publisher is at one of the hosted brokers, in order. A stop is left aside, and so are all
--- other steps
+-- a schedule publishes for the publisher: it is at one of the hosted brokers, and has no client
+abbrev pub is_scheduled : Net → List ℕ → ℕ → Bool
+is_scheduled net hosted p = is_hosted net hosted p && not (net.client p)
+
+-- The publishes of a schedule whose publisher is at one of the hosted brokers and has no client, in order. A stop is left aside,
+-- and so are all other steps
 abbrev pub publishes_in : Net → List ℕ → Line → List Publish
-publishes_in net hosted l = elim l.step [ step.Publish p number stop e ↦ if is_hosted net hosted p then (p, (number, e)) ∷ [] else [] | _ ↦ [] ]
+publishes_in net hosted l = elim l.step [ step.Publish p number stop e ↦ if is_scheduled net hosted p then (p, (number, e)) ∷ [] else [] | _ ↦ [] ]
 
 abbrev pub publishes_of : Net → List ℕ → List Line → List Publish
 publishes_of net hosted steps = flat_map (publishes_in net hosted) steps
@@ -105,6 +115,52 @@ receives_by see net w b (Ok f) =
 abbrev pub receives : Net → World → ℕ → Result Frame FrameFault → Transition
 receives net = receives_by (λ _. net) net
 
+-- A note
+
+-- the publisher of which a note speaks
+abbrev pub publisher_of : Note → ℕ
+publisher_of (Submit publisher number event) = publisher
+publisher_of (Next publisher next) = publisher
+publisher_of (Spent publisher) = publisher
+
+-- the publisher has a client, and is at the broker
+abbrev pub takes_notes : Net → ℕ → ℕ → Bool
+takes_notes net b p = nat_lt p net.publishers && (net.client p && nat_eq (net.host p) b)
+
+-- the publish that a note submits at a broker, if it does
+abbrev pub submitted_in : Net → ℕ → Note → Option Publish
+submitted_in net b (Submit publisher number event) =
+    if takes_notes net b publisher then Some (publisher, (number, event)) else None
+submitted_in net b (Next publisher next) = None
+submitted_in net b (Spent publisher) = None
+
+-- what is submitted is published, and any other note is dropped
+abbrev pub submits_by : (View → Net) → Net → World → ℕ → Note → Transition
+submits_by see net w b n =
+    elim (submitted_in net b n) [
+      | Some x ↦ publish_now_by see net w x.0 x.1.0 x.1.1
+      | None ↦ unchanged w (line.DroppedStrayNote b (publisher_of n) ∷ [])
+    ]
+
+-- bytes that begin as a note are decoded; such as spell none are dropped
+unfoldable pub notes_by : (View → Net) → Net → World → ℕ → Result Note NoteFault → Transition
+notes_by see net w b (Err fault) = unchanged w (line.DroppedBadNote b (note.fault_number fault.kind) fault.at ∷ [])
+notes_by see net w b (Ok n) = submits_by see net w b n
+
+abbrev pub notes : Net → World → ℕ → Result Note NoteFault → Transition
+notes net = notes_by (λ _. net) net
+
+-- a datagram is a note by its first bytes, and else is to be a frame
+abbrev pub reads_by : (View → Net) → Net → World → ℕ → List ℕ → Transition
+reads_by see net w b bytes =
+    elim (begins_note bytes) [
+      | true ↦ notes_by see net w b (note_decoded bytes)
+      | false ↦ receives_by see net w b (frame_decoded bytes)
+    ]
+
+abbrev pub reads : Net → World → ℕ → List ℕ → Transition
+reads net = reads_by (λ _. net) net
+
 -- A quiet moment: the first publish that is left, and then each hosted broker is woken for each publisher
 
 abbrev pub published_first_by : (View → Net) → Net → World → List Publish → Transition
@@ -123,7 +179,7 @@ quieted net = quieted_by (λ _. net) net
 -- The run
 
 unfoldable pub comes_by : (View → Net) → Net → List ℕ → World → List Publish → Arrival → Transition
-comes_by see net hosted w left (datagram b bytes moment) = receives_by see net (at_moment w moment) b (frame_decoded bytes)
+comes_by see net hosted w left (datagram b bytes moment) = reads_by see net (at_moment w moment) b bytes
 comes_by see net hosted w left (quiet moment) = quieted_by see net hosted (at_moment w moment) left
 
 abbrev pub comes : Net → List ℕ → World → List Publish → Arrival → Transition

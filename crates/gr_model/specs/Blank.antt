@@ -1,5 +1,5 @@
 -- The topology of the small examples: A and B linked, a publisher P at A, a subscriber S at B that wants every event
-use Rattle.std.specs.Prelude.{true, nat_eq, nat_lt, if◌then◌else◌, [], ◌∷◌, Some, None}
+use Rattle.std.specs.Prelude.{true, false, nat_eq, nat_lt, if◌then◌else◌, [], ◌∷◌, Some, None}
 use Rattle.gr_model.specs.Net.{Net}
 
 -- A is broker 0 and B is broker 1; P is publisher 0 and S is subscriber 0
@@ -9,6 +9,7 @@ net0 = record {
   publishers = 1;
   subscribers = 1;
   host = λ p. 0;
+  client = λ p. false;
   at = λ s. if nat_eq s 0 then 1 else 0;
   up = λ p b. if nat_eq b 1 then Some 0 else None;
   children = λ p b. if nat_eq b 0 then 1 ∷ [] else [];

@@ -39,4 +39,6 @@ abbrev pub IsOfDrop : Report → Type 0
 IsOfDrop (line.DroppedNotFrame broker fault at) = Unit {0}
 IsOfDrop (line.DroppedStray broker from to publisher) = Unit {0}
 IsOfDrop (line.DroppedClash broker tick kept came) = Unit {0}
+IsOfDrop (line.DroppedBadNote broker fault at) = Unit {0}
+IsOfDrop (line.DroppedStrayNote broker publisher) = Unit {0}
 IsOfDrop _ = ⊥

@@ -12,6 +12,7 @@ pub record Net : Type 0 where
   pub publishers : ℕ
   pub subscribers : ℕ
   pub host : ℕ → ℕ  -- the broker of a publisher
+  pub client : ℕ → Bool  -- the publisher is in a process of its own
   pub at : ℕ → ℕ  -- the broker of a subscriber
   pub up : ℕ → ℕ → Option ℕ  -- for a publisher, the next broker from a broker towards the host; the host has none
   pub children : ℕ → ℕ → List ℕ  -- for a publisher, the next brokers away from the host, in rising order

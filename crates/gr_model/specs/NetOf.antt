@@ -1,8 +1,8 @@
 -- The machine's topology of one that was read
-use Rattle.std.specs.Prelude.{◌≡◌, ℕ, ◌<◌, ◌≤◌, true, nat_eq, List, [], ◌∷◌, length, map, Option, None}
+use Rattle.std.specs.Prelude.{◌≡◌, ℕ, ◌<◌, ◌≤◌, true, nat_eq, List, [], ◌∷◌, length, map, Option, None, is_some}
 use Rattle.std.specs.List.{list_any}
 use Rattle.gr_filter.specs.Tree.{Tree}
-use Rattle.gr_topo.specs.Topology.{TopologyView, host_of, home_of, filter_of, up_at, depth_at, children_of, subscribers_of, below_of, wants}
+use Rattle.gr_topo.specs.Topology.{TopologyView, host_of, client_of, home_of, filter_of, up_at, depth_at, children_of, subscribers_of, below_of, wants}
 use Rattle.gr_model.specs.Net.{Net}
 use Rattle.gr_model.specs.Tree.{IsDistinct}
 
@@ -12,6 +12,7 @@ net_of t = record {
   publishers = length t.publishers;
   subscribers = length t.subscribers;
   host = host_of t;
+  client = λ p. is_some (client_of t p);
   at = home_of t;
   up = up_at t;
   children = children_of t;

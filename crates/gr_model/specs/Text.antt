@@ -10,9 +10,11 @@ use Rattle.gr_curio.specs.declared.values.Q3.TheVariants.{N, C, A}
 use Rattle.gr_event.specs.Json.{json_text}
 use Rattle.gr_frame.specs.declared.fault.FrameKind.{FrameKind}
 use Rattle.gr_frame.specs.Fault.{fault_word, fault_kinds}
+use Rattle.gr_note.specs.declared.fault.NoteKind.{NoteKind}
+use Rattle.gr_note.specs.Fault as note
 use Rattle.gr_topo.specs.Topology.{TopologyView, name_at}
 use Rattle.gr_model.specs.declared.report.Report.{Report}
-use Rattle.gr_model.specs.declared.report.Report.TheVariants.{Opened, Logged, Already, Gap, Exhausted, Kept, Lost, Mark, Cut, Got, Horizon, SentKnow, SentWant, SentExpect, Crashed, Swept, RefusedHosts, RefusedFrame, RefusedClock, DroppedNotFrame, DroppedStray, DroppedClash, Damaged, Frames, LogOf, Doubt, BytesOf}
+use Rattle.gr_model.specs.declared.report.Report.TheVariants.{Opened, Logged, Already, Gap, Exhausted, Kept, Lost, Mark, Cut, Got, Horizon, SentKnow, SentWant, SentExpect, Crashed, Swept, RefusedHosts, RefusedFrame, RefusedClock, DroppedNotFrame, DroppedStray, DroppedClash, DroppedBadNote, DroppedStrayNote, Damaged, Frames, LogOf, Doubt, BytesOf}
 
 -- The names of brokers, publishers and subscribers by their numbers.
 pub record Labels : Type 0 where
@@ -61,6 +63,14 @@ kind_word (Some kind) = fault_word kind
 abbrev pub frame_fault_word : ℕ → List ℕ
 frame_fault_word fault = kind_word (slice_get fault_kinds fault)
 
+-- why bytes are no note, by its number from 1 to 7
+abbrev pub note_kind_word : Option NoteKind → List ℕ
+note_kind_word None = []
+note_kind_word (Some kind) = note.fault_word kind
+
+abbrev pub note_fault_word : ℕ → List ℕ
+note_fault_word fault = note_kind_word (slice_get note.fault_kinds fault)
+
 -- a byte as two hexadecimal digits
 abbrev pub hex_pair : ℕ → List ℕ
 hex_pair byte = slice_index (codes "0123456789abcdef") (byte / 16) ∷ slice_index (codes "0123456789abcdef") (byte % 16) ∷ []
@@ -101,6 +111,8 @@ line_words labels (RefusedClock line moment) = codes "refused" ∷ codes "line" 
 line_words labels (DroppedNotFrame broker fault at) = codes "dropped" ∷ labels.broker broker ∷ codes "not-frame" ∷ frame_fault_word fault ∷ decimal at ∷ []
 line_words labels (DroppedStray broker from to publisher) = codes "dropped" ∷ labels.broker broker ∷ codes "stray" ∷ decimal from ∷ decimal to ∷ decimal publisher ∷ []
 line_words labels (DroppedClash broker tick kept came) = codes "dropped" ∷ labels.broker broker ∷ codes "clash" ∷ decimal tick ∷ know_letter kept ∷ know_letter came ∷ []
+line_words labels (DroppedBadNote broker fault at) = codes "dropped" ∷ labels.broker broker ∷ codes "bad-note" ∷ note_fault_word fault ∷ decimal at ∷ []
+line_words labels (DroppedStrayNote broker publisher) = codes "dropped" ∷ labels.broker broker ∷ codes "stray-note" ∷ decimal publisher ∷ []
 line_words labels (Damaged publisher at) = publisher_words labels (codes "damaged") publisher (at ∷ [])
 line_words labels (Frames count) = codes "frames" ∷ decimal count ∷ []
 line_words labels (LogOf publisher last settled cut kept) = log_words labels (codes "log") publisher last settled cut ++ codes "kept" ∷ decimal kept ∷ []
@@ -155,6 +167,8 @@ IsNamed t (RefusedClock line moment) = Unit {0}
 IsNamed t (DroppedNotFrame broker fault at) = (broker < length t.brokers) × (1 ≤ fault) × (fault ≤ 9)
 IsNamed t (DroppedStray broker from to publisher) = broker < length t.brokers
 IsNamed t (DroppedClash broker tick kept came) = broker < length t.brokers
+IsNamed t (DroppedBadNote broker fault at) = (broker < length t.brokers) × (1 ≤ fault) × (fault ≤ 7)
+IsNamed t (DroppedStrayNote broker publisher) = broker < length t.brokers
 IsNamed t (Damaged publisher at) = publisher < length t.publishers
 IsNamed t (Frames count) = Unit {0}
 IsNamed t (LogOf publisher last settled cut kept) = publisher < length t.publishers

@@ -5,9 +5,9 @@ ghost use Rattle.std.specs.Fmt.{decimal};
 ghost use Rattle.std.specs.List.{flat_map};
 ghost use Rattle.gr_topo.specs.Topology.{name_at};
 ghost use Rattle.gr_event.specs.Json.{json_text};
-ghost use Rattle.gr_model.specs.Text.{labels_of, know_letter, want_letter, run_word, frame_fault_word, hex_pair};
-ghost use Rattle.gr_model.specs.Text.{publisher_words, log_words, sent_words, behind_blanks, row_of, AreNamed};
-ghost use Rattle.gr_model.specs.Text.{IsSentNamed, IsNamed};
+ghost use Rattle.gr_model.specs.Text.{labels_of, know_letter, want_letter, run_word, frame_fault_word, note_fault_word};
+ghost use Rattle.gr_model.specs.Text.{hex_pair, publisher_words, log_words, sent_words, behind_blanks, row_of};
+ghost use Rattle.gr_model.specs.Text.{AreNamed, IsSentNamed, IsNamed};
 ghost use Rattle.gr_model.specs.Families.{IsOfPublish, IsOfLog, IsOfHorizon, IsOfFrame, IsOfDrop};
 
 use crate::report::Report;
@@ -16,6 +16,7 @@ use gr_curio::Q3;
 use gr_event::{Bytes, Event};
 use gr_frame::FrameKind;
 use gr_know::K;
+use gr_note::NoteKind;
 use gr_tick::{Lattice, Piece, Run};
 use gr_topo::Topology;
 use std::alloc::AllocError;
@@ -451,6 +452,47 @@ fn push_not_frame(
     push_fault(words, fault, at)
 }
 
+/// The word of why bytes are no note.
+fn word_of_note_fault(fault: u8) -> &'static [u8]
+    requires from_one { 1 ≤ fault }
+    requires to_seven { fault ≤ 7 }
+    ensures { result.now ≡ note_fault_word fault }
+{
+    match NoteKind::from_number(fault) {
+        Some(kind) => kind.word().as_bytes(),
+        None => unreachable!(),
+    }
+}
+
+/// The line of a datagram that begins as a note, and is none.
+fn push_bad_note(
+    words: &mut Words,
+    topo: &Topology,
+    broker: u16,
+    fault: u8,
+    at: u64,
+) -> Result<(), AllocError>
+    requires { IsNamed topo.now (Report.DroppedBadNote broker fault at) }
+    ensures { OnOk result (words.new ≡ words.old ++ row_of topo.now (Report.DroppedBadNote broker fault at)) }
+{
+    push_dropped(words, topo, broker, b"bad-note")?;
+    push_pair(words, word_of_note_fault(fault), at)
+}
+
+/// The line of a note that is no Submit, or none of a client of the broker.
+fn push_stray_note(
+    words: &mut Words,
+    topo: &Topology,
+    broker: u16,
+    publisher: u16,
+) -> Result<(), AllocError>
+    requires { broker < length topo.now.brokers }
+    ensures { OnOk result (words.new ≡ words.old ++ row_of topo.now (Report.DroppedStrayNote broker publisher)) }
+{
+    push_dropped(words, topo, broker, b"stray-note")?;
+    words.push_number(publisher as u64)
+}
+
 /// The line of a frame that does not fit.
 fn push_stray(
     words: &mut Words,
@@ -663,6 +705,12 @@ fn push_drop(words: &mut Words, report: &Report, topo: &Topology) -> Result<(), 
             kept,
             came,
         } => push_clash(words, topo, *broker, *tick, kept, came),
+        Report::DroppedBadNote { broker, fault, at } => push_bad_note(
+            words, topo, *broker, *fault, *at,
+        ),
+        Report::DroppedStrayNote { broker, publisher } => push_stray_note(
+            words, topo, *broker, *publisher,
+        ),
         _ => unreachable!(),
     }
 }
@@ -709,6 +757,8 @@ pub(crate) fn push_line(
         }
         Report::DroppedNotFrame { .. }
         | Report::DroppedStray { .. }
-        | Report::DroppedClash { .. } => push_drop(words, report, topo),
+        | Report::DroppedClash { .. }
+        | Report::DroppedBadNote { .. }
+        | Report::DroppedStrayNote { .. } => push_drop(words, report, topo),
     }
 }

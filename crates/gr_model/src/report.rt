@@ -211,6 +211,22 @@ pub enum Report {
         /// What came.
         came: K,
     },
+    /// A datagram begins as a note, and is none.
+    DroppedBadNote {
+        /// The broker that dropped it.
+        broker: u16,
+        /// The fault's number, from 1 to 7.
+        fault: u8,
+        /// The place of the fault, counted from 0 in bytes.
+        at: u64,
+    },
+    /// A note is no Submit, or none of a client of the broker.
+    DroppedStrayNote {
+        /// The broker that dropped it.
+        broker: u16,
+        /// The publisher of which it speaks.
+        publisher: u16,
+    },
     /// A lane holds no log.
     Damaged {
         /// Which publisher.

@@ -1,3 +1,4 @@
 pub mod Fields
 pub mod Spelled
 pub mod Told
+pub mod Submitted

@@ -32,13 +32,14 @@ kind_told bytes k h =
     ∙ ap (λ l. 71 ∷ (80 ∷ (1 ∷ l))) (byte_told bytes 3 k four.1)
 
 -- what was read up to a place that is the end
-ended_told : (bytes : List ℕ) (at : ℕ) (n m : Note) → ended bytes at n ≡ Ok m → (n ≡ m) × (drop at bytes ≡ [])
+pub ended_told : (bytes : List ℕ) (at : ℕ) (n m : Note) → ended bytes at n ≡ Ok m → (n ≡ m) × (drop at bytes ≡ [])
 ended_told bytes at n m h =
     let one = then_told (at == length bytes) (fault Trailing at) (Ok n) m h in
     let end : at ≡ length bytes = eqb-true at (length bytes) one.0 in
     ((let e = one.1 in cc), drop_all at bytes (omega (arith, end)))
 
-event_of_told : (at : ℕ) (r : Result Event EventFault) (e : Event) → event_of at r ≡ Ok e → r ≡ Ok e
+-- an event that stood there decodes
+pub event_of_told : (at : ℕ) (r : Result Event EventFault) (e : Event) → event_of at r ≡ Ok e → r ≡ Ok e
 event_of_told at (Ok x) e h = ap (λ y. Ok y) (let is : x ≡ e = cc in is)
 event_of_told at (Err f) e h = absurd (cc)
 

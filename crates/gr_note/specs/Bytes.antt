@@ -1,5 +1,6 @@
 -- The bytes of a note, and how many they are
-use Rattle.std.specs.Prelude.{ℕ, ◌+◌, List, [], ◌∷◌, ◌++◌}
+use Rattle.std.specs.Prelude.{ℕ, ◌+◌, Bool, nat_eq, List, [], ◌∷◌, ◌++◌}
+use Rattle.std.specs.List.{starts_with}
 use Rattle.std.specs.Int.{to_be_bytes, w16, w64}
 use Rattle.gr_event.specs.Event.{event_size, event_bytes}
 use Rattle.gr_note.specs.declared.TheConstants.{VERSION, SUBMIT, NEXT, SPENT}
@@ -9,6 +10,10 @@ use Rattle.gr_note.specs.declared.note.Note.TheVariants.{Submit, Next, Spent}
 -- GP
 abbrev pub letters : List ℕ
 letters = 71 ∷ (80 ∷ [])
+
+-- whether a datagram is to be read as a note
+abbrev pub begins_note : List ℕ → Bool
+begins_note bytes = starts_with nat_eq bytes letters
 
 -- the letters, the version, the kind and the publisher
 abbrev pub head_bytes : ℕ → ℕ → List ℕ

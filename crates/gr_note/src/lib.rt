@@ -13,7 +13,7 @@ pub use fault::{NoteFault, NoteKind};
 pub use laws::{constants_of_notes, decodes_its_spelling, spelled_decodes, spells_no_prefix};
 pub use node::{FIRST_CLIENT, client_node};
 pub use note::Note;
-pub use reading::decode;
+pub use reading::{begins_note, decode};
 pub use writing::encode;
 
 /// The greatest number that an event may have: 2^62.

@@ -2,6 +2,7 @@
 
 ghost use Rattle.std.specs.Prelude.{◌≡◌, ◌+◌, ◌<◌, ◌^◌, IfOk};
 ghost use Rattle.gr_event.specs.Limits.{IsEvent};
+ghost use Rattle.gr_note.specs.Bytes.{begins_note};
 ghost use Rattle.gr_note.specs.Decode.{event_refused, event_at, submit_at, next_at, spent_at, kind_at, note_decoded};
 ghost use Rattle.gr_note.specs.Gives.{Gives};
 ghost use Rattle.gr_note.specs.Limits.{IsNote};
@@ -12,6 +13,13 @@ use crate::note::Note;
 use crate::{MAX_NUMBER, NEXT, SPENT, SUBMIT, VERSION};
 use gr_event::{Event, EventFault};
 use std::alloc::Global;
+
+/// Whether bytes begin with the letters of notes, and so are to be read as a note. Takes no memory.
+pub fn begins_note(bytes: &[u8]) -> bool
+    ensures { result ≡ begins_note bytes.now }
+{
+    bytes.starts_with(b"GP")
+}
 
 /// The note that the bytes spell.
 ///

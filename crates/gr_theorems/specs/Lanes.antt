@@ -16,7 +16,7 @@ use Rattle.gr_model.specs.Arrivals.{Arrival, publishes_of, served, arrived}
 use Rattle.gr_theorems.specs.Spelled.{NumbersIn}
 use Rattle.gr_theorems.specs.Statements.{IsAskedRun, opened_over}
 use Rattle.gr_theorems.specs.OverLogs.{world_over, report_over}
-use Rattle.gr_theorems.specs.Served.{IsHonestRun, HeadlineServed}
+use Rattle.gr_theorems.specs.Served.{IsOfBytes, IsHonestRun, HeadlineServed}
 
 -- one list of records for each publisher; in each list every record may follow those before it
 abbrev pub AllFollow : List (List Record) → Type 0
@@ -68,6 +68,7 @@ pub record IsServedOverLanes (net : Net) (lanes : List (List Record)) (steps : L
   pub brokers : net.brokers ≤ 2 ^ 16
   pub publishers : net.publishers ≤ 2 ^ 16
   pub numbers_in : NumbersIn steps
+  pub bytes : AllByRecursion IsOfBytes arrivals
   pub honest : IsHonestRun arrivals (served net (numbers net.brokers) (whole_logs lanes) steps arrivals)
 
 -- A schedule that begins on the logs of lanes: the headline holds, where the record begins with what was found

@@ -28,6 +28,7 @@ tree next ats wants cache =
       publishers = 1;
       subscribers = length ats;
       host = λ p. 0;
+      client = λ p. false;
       at = λ s. get_or ats s 0;
       up = λ p b. get_or next b None;
       children = λ p b. filter (is_child next b) (numbers n);

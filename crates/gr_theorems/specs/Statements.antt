@@ -1,5 +1,6 @@
 -- What the theorems speak of, and what they say of it
 use Rattle.std.specs.Prelude.{◌≡◌, ℕ, ◌≤◌, ◌<◌, ◌^◌, true, false, List, [], map, filter, flat_map, Option, Some, Ok}
+use Rattle.std.specs.List.{AllByRecursion}
 use Rattle.gr_frame.specs.declared.Body.TheVariants as body
 use Rattle.gr_frame.specs.declared.Frame.{Frame}
 use Rattle.gr_frame.specs.Bytes.{frame_bytes}
@@ -22,7 +23,7 @@ use Rattle.gr_theorems.specs.Spelled.{NumbersIn}
 use Rattle.gr_theorems.specs.Settles.{is_accepted}
 use Rattle.gr_theorems.specs.Found.{AreReopened, told_at_opening}
 use Rattle.gr_theorems.specs.ByRules.{RunsOver}
-use Rattle.gr_theorems.specs.Served.{IsHonestRun, AllDoSteps, HeadlineServed}
+use Rattle.gr_theorems.specs.Served.{IsOfBytes, IsHonestRun, AllDoSteps, HeadlineServed}
 
 -- Runs
 
@@ -67,6 +68,7 @@ pub record IsServedRun (net : Net) (logs : List Log) (steps : List Line) (arriva
   pub brokers : net.brokers ≤ 2 ^ 16
   pub publishers : net.publishers ≤ 2 ^ 16
   pub numbers_in : NumbersIn steps
+  pub bytes : AllByRecursion IsOfBytes arrivals
   pub honest : IsHonestRun arrivals (served net (numbers net.brokers) logs steps arrivals)
 
 -- the world after all steps

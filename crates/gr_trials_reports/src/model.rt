@@ -363,6 +363,43 @@ fn prints_why_bytes_are_no_frame(rt: HostRuntime) -> Result<(), Fail> {
 }
 
 #[test]
+fn prints_dropped_notes(rt: HostRuntime) -> Result<(), Fail> {
+    let alloc = rt.alloc();
+    let words = [
+        "short",
+        "bad-magic",
+        "bad-version",
+        "bad-kind",
+        "bad-range",
+        "bad-event",
+        "trailing",
+    ];
+    for fault in 1..8u8 {
+        let word = words[fault as usize - 1];
+        let text = format!(in alloc; "dropped A bad-note {word} 2")?;
+        reads(
+            &rt,
+            alloc,
+            &Report::DroppedBadNote {
+                broker: 0,
+                fault,
+                at: 2,
+            },
+            text.as_str(),
+        )?;
+    }
+    reads(
+        &rt,
+        alloc,
+        &Report::DroppedStrayNote {
+            broker: 1,
+            publisher: 7,
+        },
+        "dropped B stray-note 7",
+    )
+}
+
+#[test]
 fn stops_where_the_sink_fails(rt: HostRuntime) -> Result<(), Fail> {
     let topo = Topology::blank(rt.alloc())?;
     let mut lines = Reports::new(rt.alloc());

@@ -46,6 +46,8 @@ fn copy_report(alloc: Global, line: &Report) -> Result<Report, Memory>
         DroppedNotFrame { broker, fault, at }
         DroppedStray { broker, from, to, publisher }
         DroppedClash { broker, tick; kept: kept.share(), came: came.share() }
+        DroppedBadNote { broker, fault, at }
+        DroppedStrayNote { broker, publisher }
         Damaged { publisher, at }
         Frames { count }
         LogOf { publisher, last, settled, cut, kept }

@@ -106,7 +106,8 @@ module _ (f : Report → Bool) (k : IsForeign f) where
   all_wakes_none net w [] = refl
   all_wakes_none net w (b ∷ bs) = none_of_both (wake_all net w b).lines (in_turn (wake_all net) bs (wake_all net w b).world).lines (wakes_none net w b (numbers net.publishers)) (all_wakes_none net (wake_all net w b).world bs)
 
-  published_none : (net : Net) (w : World) (left : List Publish) → filter f (published_first net w left).lines ≡ []
+  -- a publish writes none of the lines that no call writes
+  pub published_none : (net : Net) (w : World) (left : List Publish) → filter f (published_first net w left).lines ≡ []
   unfolding publish_now_by
   published_none net w [] = refl
   published_none net w (x ∷ left) =

@@ -10,6 +10,11 @@ use Rattle.gr_event.specs.Limits.{IsEvent}
 use Rattle.gr_frame.specs.declared.Frame.{Frame}
 use Rattle.gr_frame.specs.declared.fault.FrameFault.{FrameFault}
 use Rattle.gr_frame.specs.Decode.{frame_decoded}
+use Rattle.gr_note.specs.declared.note.Note.{Note}
+use Rattle.gr_note.specs.declared.fault.NoteFault.{NoteFault}
+use Rattle.gr_note.specs.Fault as note
+use Rattle.gr_note.specs.Bytes.{begins_note}
+use Rattle.gr_note.specs.Decode.{note_decoded}
 use Rattle.gr_publog.specs.declared.record.Record.{Record}
 use Rattle.gr_publog.specs.declared.record.Record.TheVariants as entry
 use Rattle.gr_publog.specs.State.{empty_state, state_of, events_past, live_events, Follow}
@@ -24,16 +29,16 @@ use Rattle.gr_model.specs.declared.report.Report.{Report}
 use Rattle.gr_model.specs.declared.report.Report.TheVariants as line
 use Rattle.gr_model.specs.Net.{Net, keeps_horizon, not_empty, numbers}
 use Rattle.gr_model.specs.Broker.{View, Log, empty_log, with_event, max_tick, learn, started}
-use Rattle.gr_model.specs.World.{World, Transition, view_of, log_of, unchanged, in_turn, absorbed, wake_all, deliver_frame, kept_events, next, run_all, run_from}
+use Rattle.gr_model.specs.World.{World, Transition, view_of, log_of, unchanged, in_turn, absorbed, wake_all, deliver_frame, publish_now, kept_events, next, run_all, run_from}
 use Rattle.gr_model.specs.Opening.{reopened_log, over_logs, reopened_line, opened_for, publishers_at, opening, begin_over, opened_for_by, opening_by}
 use Rattle.gr_model.specs.Headline.{Holds_from}
-use Rattle.gr_model.specs.Arrivals.{Arrival, datagram, quiet, Publish, publishes_of, left_after, at_moment, fits_broker, least_clash, clash_line, fault_number, takes, receives, published_first, quieted, comes, is_hosted, show_hosted, served_from, served, arrived, takes_by, receives_by, quieted_by, comes_by, served_from_by, arrived_by, served_by}
+use Rattle.gr_model.specs.Arrivals.{Arrival, datagram, quiet, Publish, publishes_of, left_after, at_moment, fits_broker, least_clash, clash_line, fault_number, publisher_of, submitted_in, takes, receives, notes, reads, published_first, quieted, comes, is_hosted, show_hosted, served_from, served, arrived, takes_by, receives_by, notes_by, quieted_by, comes_by, served_from_by, arrived_by, served_by}
 use Rattle.gr_model.specs.Tree.{IsNet}
 use Rattle.gr_theorems.specs.Said.{said_at, TicksRise}
 use Rattle.gr_theorems.specs.Fits.{StepsIn}
 use Rattle.gr_theorems.specs.Spelled.{NumbersIn}
 use Rattle.gr_theorems.specs.Found.{IsReopened, AreReopened}
-use Rattle.gr_theorems.specs.Served.{IsHonestRun, HeadlineServed}
+use Rattle.gr_theorems.specs.Served.{IsOfBytes, IsHonestRun, HeadlineServed}
 use Rattle.gr_theorems.specs.Statements.{opened_over}
 use Rattle.gr_theorems.specs.Lanes.{AllFollow, whole_logs, found_logs, past_cut, DifferInCut, HoldsOverLanes, HoldsServedLanes, CutEventsSilent}
 use Rattle.gr_theorems.proofs.limits.Spelled.{IsSmall}
@@ -197,9 +202,25 @@ same_quieted net hosted left w ls s =
     same_after (published_first net w left) (published_first net (with_logs w ls) left) wakes wakes (same_first net left w ls s)
     (λ ms r. same_in_turn (wake_all net) (λ b. same_wake_all net b) hosted (published_first net w left).world ms r)
 
+same_notes : (net : Net) (b : ℕ) (r : Result Note NoteFault) → Follows (λ w. notes net w b r)
+unfolding notes_by
+same_notes net b (Err fault) w ls s = same_unchanged w ls (line.DroppedBadNote b (note.fault_number fault.kind) fault.at ∷ []) s
+same_notes net b (Ok n) w ls s = go (submitted_in net b n)
+  where
+    go : (o : Option Publish) → (let t : World → Transition = λ u. elim o [ Some x ↦ publish_now net u x.0 x.1.0 x.1.1 | None ↦ unchanged u (line.DroppedStrayNote b (publisher_of n) ∷ []) ] in SameTold (t w) (t (with_logs w ls)))
+    go (Some x) = same_publish_now net x.0 x.1.0 x.1.1 w ls s
+    go None = same_unchanged w ls (line.DroppedStrayNote b (publisher_of n) ∷ []) s
+
+same_reads : (net : Net) (b : ℕ) (bytes : List ℕ) → Follows (λ w. reads net w b bytes)
+same_reads net b bytes w ls s = go (begins_note bytes)
+  where
+    go : (c : Bool) → (let t : World → Transition = λ u. elim c [ true ↦ notes net u b (note_decoded bytes) | false ↦ receives net u b (frame_decoded bytes) ] in SameTold (t w) (t (with_logs w ls)))
+    go true = same_notes net b (note_decoded bytes) w ls s
+    go false = same_receives net b (frame_decoded bytes) w ls s
+
 same_comes : (net : Net) (hosted : List ℕ) (left : List Publish) (a : Arrival) → Follows (λ w. comes net hosted w left a)
 unfolding comes_by
-same_comes net hosted left (datagram b bytes moment) w ls s = same_receives net b (frame_decoded bytes) (at_moment w moment) ls s
+same_comes net hosted left (datagram b bytes moment) w ls s = same_reads net b bytes (at_moment w moment) ls s
 same_comes net hosted left (quiet moment) w ls s = same_quieted net hosted left (at_moment w moment) ls s
 
 same_show_hosted : (net : Net) (hosted : List ℕ) (w : World) (ls : List Log) → SameLogs w.logs ls → show_hosted net hosted (with_logs w ls) ≡ show_hosted net hosted w
@@ -302,8 +323,8 @@ holds_over_lanes net lanes steps n z r a i =
     (subst (λ (rs : List (List Report)). Holds_from net (begin_over net founds (opened_over net founds).lines) steps rs) (sym (lines_same net lanes steps a)) (headline_over_logs net founds steps n z r (are_found net lanes a) i))
 
 -- the headline holds of every honest run of a server over logs that are read from records in order
-pub holds_served_lanes : (net : Net) (lanes : List (List Record)) (steps : List Line) (arrivals : List Arrival) → IsNet net → IsSmall net → 1 ≤ net.quiet → 1 ≤ net.retry → AllFollow lanes → StepsIn net steps → NumbersIn steps →
+pub holds_served_lanes : (net : Net) (lanes : List (List Record)) (steps : List Line) (arrivals : List Arrival) → IsNet net → IsSmall net → 1 ≤ net.quiet → 1 ≤ net.retry → AllFollow lanes → StepsIn net steps → NumbersIn steps → AllByRecursion IsOfBytes arrivals →
     IsHonestRun arrivals (served net (numbers net.brokers) (whole_logs lanes) steps arrivals) → HoldsServedLanes net lanes steps arrivals
-holds_served_lanes net lanes steps arrivals n small z r a i m =
+holds_served_lanes net lanes steps arrivals n small z r a i m fits =
     subst (λ (rs : List (List Report)). IsHonestRun arrivals rs → HeadlineServed net (found_logs lanes) steps arrivals rs) (sym (served_lanes net lanes steps arrivals a))
-    (λ honest. headline_served net (found_logs lanes) steps arrivals n small z r (are_found net lanes a) i m honest)
+    (λ honest. headline_served net (found_logs lanes) steps arrivals n small z r (are_found net lanes a) i m fits honest)

@@ -12,7 +12,7 @@ use Rattle.gr_model.specs.World.{World, Transition, view_of, log_of, absorbed, u
 use Rattle.gr_model.specs.Opening.{reopened_log, over_logs, opened_for, publishers_at, opening, begin_over, opened_for_by, opening_by}
 use Rattle.gr_theorems.specs.Found.{AreReopened}
 use Rattle.gr_model.specs.Arrivals.{Arrival, publishes_of, served, served_by}
-use Rattle.gr_theorems.specs.Served.{IsHonestRun, AllDoSteps, HeadlineServed}
+use Rattle.gr_theorems.specs.Served.{IsOfBytes, IsHonestRun, AllDoSteps, HeadlineServed}
 use Rattle.gr_theorems.specs.Edges.{GoesOverEdge}
 use Rattle.gr_theorems.specs.Spelled.{NumbersIn, ViewIn, LogIn, WorldIn}
 use Rattle.gr_model.specs.Tree.{IsNet}
@@ -70,15 +70,15 @@ begun_lines net logs told = refl
 -- The run
 
 -- the headline holds of a server over reopened logs whose journal is honest
-pub headline_served : (net : Net) (logs : List Log) (steps : List Line) (arrivals : List Arrival) → IsNet net → IsSmall net → 1 ≤ net.quiet → 1 ≤ net.retry → AreReopened net logs → StepsIn net steps → NumbersIn steps → IsHonestRun arrivals (served net (numbers net.brokers) logs steps arrivals) → HeadlineServed net logs steps arrivals (served net (numbers net.brokers) logs steps arrivals)
+pub headline_served : (net : Net) (logs : List Log) (steps : List Line) (arrivals : List Arrival) → IsNet net → IsSmall net → 1 ≤ net.quiet → 1 ≤ net.retry → AreReopened net logs → StepsIn net steps → NumbersIn steps → AllByRecursion IsOfBytes arrivals → IsHonestRun arrivals (served net (numbers net.brokers) logs steps arrivals) → HeadlineServed net logs steps arrivals (served net (numbers net.brokers) logs steps arrivals)
 unfolding served_by begin_over
-headline_served net logs steps arrivals n z on retry a i m honest = (
+headline_served net logs steps arrivals n z on retry a i m fits honest = (
   opened_tells net logs n a,
-  holds net n on retry WorldIn (λ u l f j k x. next_in net u l n z f j k x) (λ u x. x.frames) (λ f x. spelled_decodes (frame_bytes f) f x) arrivals (all_opened net logs).world (begin_over net logs (all_opened net logs).lines) (publishes_of net (numbers net.brokers) steps) (opened_ready net logs n z a) (publishes_are_in net (numbers net.brokers) steps i m) honest,
+  holds net n on retry WorldIn (λ u l f j k x. next_in net u l n z f j k x) (λ u x. x.frames) (λ f x. spelled_decodes (frame_bytes f) f x) arrivals (all_opened net logs).world (begin_over net logs (all_opened net logs).lines) (publishes_of net (numbers net.brokers) steps) (opened_ready net logs n z a) (publishes_are_in net (numbers net.brokers) steps i m) fits honest,
 )
 
 -- each arrival at such a server does what its steps of a schedule do
-pub served_does : (net : Net) (logs : List Log) (steps : List Line) (arrivals : List Arrival) → IsNet net → IsSmall net → 1 ≤ net.quiet → 1 ≤ net.retry → AreReopened net logs → StepsIn net steps → NumbersIn steps → IsHonestRun arrivals (served net (numbers net.brokers) logs steps arrivals) → AllDoSteps net (all_opened net logs).world (all_opened net logs).lines (publishes_of net (numbers net.brokers) steps) arrivals
+pub served_does : (net : Net) (logs : List Log) (steps : List Line) (arrivals : List Arrival) → IsNet net → IsSmall net → 1 ≤ net.quiet → 1 ≤ net.retry → AreReopened net logs → StepsIn net steps → NumbersIn steps → AllByRecursion IsOfBytes arrivals → IsHonestRun arrivals (served net (numbers net.brokers) logs steps arrivals) → AllDoSteps net (all_opened net logs).world (all_opened net logs).lines (publishes_of net (numbers net.brokers) steps) arrivals
 unfolding served_by begin_over
-served_does net logs steps arrivals n z on retry a i m honest =
-    all_do net n on retry WorldIn (λ u l f j k x. next_in net u l n z f j k x) (λ u x. x.frames) (λ f x. spelled_decodes (frame_bytes f) f x) arrivals (all_opened net logs).world (begin_over net logs (all_opened net logs).lines) (publishes_of net (numbers net.brokers) steps) (all_opened net logs).lines (opened_ready net logs n z a) (publishes_are_in net (numbers net.brokers) steps i m) refl honest
+served_does net logs steps arrivals n z on retry a i m fits honest =
+    all_do net n on retry WorldIn (λ u l f j k x. next_in net u l n z f j k x) (λ u x. x.frames) (λ f x. spelled_decodes (frame_bytes f) f x) arrivals (all_opened net logs).world (begin_over net logs (all_opened net logs).lines) (publishes_of net (numbers net.brokers) steps) (all_opened net logs).lines (opened_ready net logs n z a) (publishes_are_in net (numbers net.brokers) steps i m) fits refl honest

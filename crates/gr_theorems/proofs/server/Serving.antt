@@ -2,13 +2,23 @@
 -- arrival does what its steps do, and of the steps the headline holds
 use Rattle.std.proofs.lemmas.List.Elements.{filter-append}
 use Rattle.std.proofs.Common.{◌≡◌, inl, inr, ⊎_elim, ℕ, suc, zero, ◌+◌, ◌≤◌, ◌<◌, min, max, Bool, true, false, List, [], ◌∷◌, ◌++◌, map, length, refl, sym, ap, ap₂, ◌∙◌, subst, Option, Some, None, arith, append-nil, append_assoc}
-use Rattle.std.specs.Prelude.{if◌then◌else◌, filter, flat_map, Result, Ok, Err}
+use Rattle.std.specs.Prelude.{◌&&◌, nat_eq, nat_lt, if◌then◌else◌, filter, flat_map, Result, Ok, Err}
+use Rattle.std.proofs.lemmas.Bool.{cases_Bool, cond-true, cond-false, and_parts, ltb-true}
 use Rattle.std.specs.List.{AllByRecursion}
 use Rattle.gr_event.specs.Limits.{IsEvent}
 use Rattle.gr_frame.specs.declared.Frame.{Frame}
 use Rattle.gr_frame.specs.declared.fault.FrameFault.{FrameFault}
 use Rattle.gr_frame.specs.Bytes.{frame_bytes}
 use Rattle.gr_frame.specs.Decode.{frame_decoded}
+use Rattle.gr_frame.proofs.Events.{event_limits}
+use Rattle.gr_note.specs.declared.note.Note.{Note}
+use Rattle.gr_note.specs.declared.note.Note.TheVariants.{Submit, Next, Spent}
+use Rattle.gr_note.specs.declared.fault.NoteFault.{NoteFault}
+use Rattle.gr_note.specs.Fault as note
+use Rattle.gr_note.specs.Bytes.{begins_note}
+use Rattle.gr_note.specs.Decode.{note_decoded}
+use Rattle.gr_note.proofs.Fields.{AreBytes}
+use Rattle.gr_note.proofs.Submitted.{event_decodes}
 use Rattle.gr_sched.specs.declared.step.Step.{Step}
 use Rattle.gr_sched.specs.declared.step.Step.TheVariants as step
 use Rattle.gr_sched.specs.declared.step.Line.{Line}
@@ -18,8 +28,8 @@ use Rattle.gr_model.specs.Net.{Net, keeps_horizon, numbers, numbers_from}
 use Rattle.gr_model.specs.Broker.{max_tick}
 use Rattle.gr_model.specs.World.{World, Transition, view_of, log_of, unchanged, sent_lines, next, show, run_from, run_all, kept_events, next_by, run_from_by}
 use Rattle.gr_theorems.specs.Edges.{GoesOverEdge}
-use Rattle.gr_model.specs.Arrivals.{Arrival, datagram, quiet, Publish, is_hosted, publishes_in, publishes_of, left_after, comes, show_hosted, served_from, served_from_by}
-use Rattle.gr_theorems.specs.Served.{number_of_bytes, IsHonestAt, IsHonest, DoesSteps, AllDoSteps, as_line, publish_step, delivery_step, is_frame, steps_of_arrival, dropped_as, dropped_line, is_dropped, ArrivalTold, ShowHolds, HoldsServed}
+use Rattle.gr_model.specs.Arrivals.{Arrival, datagram, quiet, Publish, fault_number, publisher_of, takes_notes, submitted_in, is_hosted, is_scheduled, publishes_in, publishes_of, left_after, comes, show_hosted, served_from, served_from_by}
+use Rattle.gr_theorems.specs.Served.{IsOfBytes, number_of_bytes, IsHonestAt, IsHonest, DoesSteps, AllDoSteps, as_line, publish_step, delivery_step, is_frame, submitted_step, note_step, datagram_step, steps_of_arrival, dropped_as, unsubmitted_as, note_dropped_as, dropped_line, is_dropped, ArrivalTold, ShowHolds, HoldsServed}
 use Rattle.gr_theorems.specs.Spelled.{IsInLimits, NumbersIn, IsSpelled}
 use Rattle.gr_model.specs.Headline.{History, history, is_record_line, is_doubt_line, is_sent, sent_number}
 use Rattle.gr_theorems.specs.Replies.{is_reply}
@@ -42,7 +52,7 @@ use Rattle.gr_theorems.proofs.sweep.SweepStates.{Unknowns}
 use Rattle.gr_theorems.proofs.headline.WithoutSweeps.{Whole}
 use Rattle.gr_theorems.proofs.headline.AfterSweeps.{holds_where_sweeps_reach, stands_where_sweeps_reach}
 use Rattle.gr_theorems.proofs.headline.SecondReaches.{sweeps_reach}
-use Rattle.gr_theorems.proofs.server.Arriving.{number_sent, number_is, Does, quiet_does, frame_does, fault_does}
+use Rattle.gr_theorems.proofs.server.Arriving.{number_sent, number_is, Does, quiet_does, frame_does, fault_does, note_does}
 
 -- The end: all brokers are hosted, so all is shown
 
@@ -129,7 +139,7 @@ both_in net [] ys a b = b
 both_in net (x ∷ xs) ys a b = (a.0, both_in net xs ys a.1 b)
 
 line_publishes : (net : Net) (hosted : List ℕ) (k : ℕ) (s : Step) → StepIn net s → IsInLimits s → LeftIn net (publishes_in net hosted (record { number = k; step = s }))
-line_publishes net hosted k (step.Publish p number stop e) i m = go (is_hosted net hosted p)
+line_publishes net hosted k (step.Publish p number stop e) i m = go (is_scheduled net hosted p)
   where
     go : (c : Bool) → LeftIn net (if c then (p, (number, e)) ∷ [] else [])
     go true = ((i, m), tt)
@@ -172,13 +182,46 @@ publish_in : (net : Net) (left : List Publish) (ls : List Line) → LeftIn net l
 publish_in net [] ls l a = a
 publish_in net (x ∷ left) ls l a = in_front net (as_line (step.Publish x.0 x.1.0 None x.1.1)) ls l.0.0 l.0.1 a
 
-arrival_in : (net : Net) (lines : List Report) (left : List Publish) (a : Arrival) → LeftIn net left → AreIn net (steps_of_arrival net lines left a)
-arrival_in net lines left (datagram b bytes moment) l = in_front net (as_line (step.Clock (min moment max_tick))) (if is_frame (frame_decoded bytes) then delivery_step (number_of_bytes b bytes lines) else []) tt (omega arith) (go (is_frame (frame_decoded bytes)))
+submitted_is : (net : Net) (b : ℕ) (n : Note) (x : Publish) → submitted_in net b n ≡ Some x → (n ≡ Submit x.0 x.1.0 x.1.1) × (x.0 < net.publishers)
+submitted_is net b (Submit p k e) x h = go (takes_notes net b p) refl h
   where
-    go : (c : Bool) → AreIn net (if c then delivery_step (number_of_bytes b bytes lines) else [])
-    go true = delivery_in net (number_of_bytes b bytes lines)
-    go false = none_in net
-arrival_in net lines left (quiet moment) l = in_front net (as_line (step.Clock (min moment max_tick))) (publish_step left ++ map (λ b. as_line (step.Wake b)) (numbers net.brokers)) tt (omega arith) (publish_in net left (map (λ b. as_line (step.Wake b)) (numbers net.brokers)) l (wakes_in net 0 net.brokers (omega arith)))
+    go : (c : Bool) → takes_notes net b p ≡ c → (if c then Some (p, (k, e)) else None) ≡ Some x → (Submit p k e ≡ Submit x.0 x.1.0 x.1.1) × (x.0 < net.publishers)
+    go true t h =
+        let same : (p, (k, e)) ≡ x = cc in
+        (ap (λ (y : Publish). Submit y.0 y.1.0 y.1.1) same, subst (λ (y : Publish). y.0 < net.publishers) same (ltb-true p net.publishers (and_parts (nat_lt p net.publishers) (net.client p && nat_eq (net.host p) b) t).0))
+    go false t h = absurd (cc)
+submitted_is net b (Next p k) x h = absurd (cc)
+submitted_is net b (Spent p) x h = absurd (cc)
+
+-- the publish that a note submits
+note_in : (net : Net) (b : ℕ) (bytes : List ℕ) → AreBytes bytes → AreIn net (note_step net b (note_decoded bytes))
+note_in net b bytes fits = go (note_decoded bytes) refl
+  where
+    submit : (n : Note) (o : Option Publish) → note_decoded bytes ≡ Ok n → submitted_in net b n ≡ o → AreIn net (submitted_step o)
+    submit n None d e = none_in net
+    submit n (Some x) d e =
+        let s = submitted_is net b n x e in
+        let f = event_decodes bytes x.0 x.1.0 x.1.1 fits (d ∙ ap (λ (m : Note). Ok m) s.0) in
+        in_front net (as_line (step.Publish x.0 x.1.0 None x.1.1)) [] s.1 (event_limits f.0 x.1.1 f.1.0 f.1.1) (none_in net)
+
+    go : (r : Result Note NoteFault) → note_decoded bytes ≡ r → AreIn net (note_step net b r)
+    go (Err fault) d = none_in net
+    go (Ok n) d = submit n (submitted_in net b n) d refl
+
+arrival_in : (net : Net) (lines : List Report) (left : List Publish) (a : Arrival) → LeftIn net left → IsOfBytes a → AreIn net (steps_of_arrival net lines left a)
+arrival_in net lines left (datagram b bytes moment) l fits = in_front net (as_line (step.Clock (min moment max_tick))) (datagram_step net lines b bytes) tt (omega arith) (go (begins_note bytes))
+  where
+    delivered : (c : Bool) → AreIn net (if c then delivery_step (number_of_bytes b bytes lines) else [])
+    delivered true = delivery_in net (number_of_bytes b bytes lines)
+    delivered false = none_in net
+
+    go : (c : Bool) → AreIn net (elim c [
+      | true ↦ note_step net b (note_decoded bytes)
+      | false ↦ if is_frame (frame_decoded bytes) then delivery_step (number_of_bytes b bytes lines) else []
+    ])
+    go true = note_in net b bytes fits
+    go false = delivered (is_frame (frame_decoded bytes))
+arrival_in net lines left (quiet moment) l fits = in_front net (as_line (step.Clock (min moment max_tick))) (publish_step left ++ map (λ b. as_line (step.Wake b)) (numbers net.brokers)) tt (omega arith) (publish_in net left (map (λ b. as_line (step.Wake b)) (numbers net.brokers)) l (wakes_in net 0 net.brokers (omega arith)))
 
 -- An honest journal
 
@@ -192,29 +235,52 @@ honest_same xs ys [] rs e h = tt
 honest_same xs ys (a ∷ arrivals) [] e h = h
 honest_same xs ys (a ∷ arrivals) (r ∷ rs) e h = (honest_at xs ys a e h.0, honest_same (xs ++ r) (ys ++ r) arrivals rs (filter-append is_sent xs r ∙ (ap (λ (z : List Report). z ++ filter is_sent r) e ∙ sym (filter-append is_sent ys r))) h.1)
 
-dropped_unsent : (a : Arrival) → filter is_sent (dropped_line a) ≡ []
-dropped_unsent (quiet moment) = refl
-dropped_unsent (datagram b bytes moment) = go (frame_decoded bytes)
-  where
-    go : (r : Result Frame FrameFault) → filter is_sent (dropped_as b r) ≡ []
-    go (Ok f) = refl
-    go (Err fault) = refl
+-- a test says the same of each line of a datagram that is dropped
+record OfDrops (test : Report → Bool) (is : Bool) : Type 0 where
+  frame : (b fault at : ℕ) → test (line.DroppedNotFrame b fault at) ≡ is
+  bad : (b fault at : ℕ) → test (line.DroppedBadNote b fault at) ≡ is
+  stray : (b p : ℕ) → test (line.DroppedStrayNote b p) ≡ is
 
-dropped_itself : (a : Arrival) → filter is_dropped (dropped_line a) ≡ dropped_line a
-dropped_itself (quiet moment) = refl
-dropped_itself (datagram b bytes moment) = go (frame_decoded bytes)
+drop_lines : (net : Net) (test : Report → Bool) (is : Bool) (a : Arrival) → OfDrops test is → filter test (dropped_line net a) ≡ (if is then dropped_line net a else [])
+drop_lines net test true (quiet moment) o = refl
+drop_lines net test false (quiet moment) o = refl
+drop_lines net test is (datagram b bytes moment) o = go (begins_note bytes)
   where
-    go : (r : Result Frame FrameFault) → filter is_dropped (dropped_as b r) ≡ dropped_as b r
-    go (Ok f) = refl
-    go (Err fault) = refl
+    kept : List Report → Type 0
+    kept ls = filter test ls ≡ (if is then ls else [])
 
-dropped_unreplied : (a : Arrival) → filter is_reply (dropped_line a) ≡ []
-dropped_unreplied (quiet moment) = refl
-dropped_unreplied (datagram b bytes moment) = go (frame_decoded bytes)
-  where
-    go : (r : Result Frame FrameFault) → filter is_reply (dropped_as b r) ≡ []
-    go (Ok f) = refl
-    go (Err fault) = refl
+    none : (k : Bool) → filter test [] ≡ (if k then [] else [])
+    none true = refl
+    none false = refl
+
+    one : (l : Report) (k : Bool) → test l ≡ k → filter test (l ∷ []) ≡ (if k then l ∷ [] else [])
+    one l true e = cond-true (test l) (l ∷ []) [] e
+    one l false e = cond-false (test l) (l ∷ []) [] e
+
+    unsubmitted : (p : ℕ) (x : Option Publish) → kept (unsubmitted_as b p x)
+    unsubmitted p None = one (line.DroppedStrayNote b p) is (o.stray b p)
+    unsubmitted p (Some x) = none is
+
+    noted : (r : Result Note NoteFault) → kept (note_dropped_as net b r)
+    noted (Ok n) = unsubmitted (publisher_of n) (submitted_in net b n)
+    noted (Err fault) = one (line.DroppedBadNote b (note.fault_number fault.kind) fault.at) is (o.bad b (note.fault_number fault.kind) fault.at)
+
+    framed : (r : Result Frame FrameFault) → kept (dropped_as b r)
+    framed (Ok f) = none is
+    framed (Err fault) = one (line.DroppedNotFrame b (fault_number fault.kind) fault.at) is (o.frame b (fault_number fault.kind) fault.at)
+
+    go : (c : Bool) → kept (elim c [ true ↦ note_dropped_as net b (note_decoded bytes) | false ↦ dropped_as b (frame_decoded bytes) ])
+    go true = noted (note_decoded bytes)
+    go false = framed (frame_decoded bytes)
+
+dropped_unsent : (net : Net) (a : Arrival) → filter is_sent (dropped_line net a) ≡ []
+dropped_unsent net a = drop_lines net is_sent false a (record { frame = λ b k at. refl; bad = λ b k at. refl; stray = λ b p. refl })
+
+dropped_itself : (net : Net) (a : Arrival) → filter is_dropped (dropped_line net a) ≡ dropped_line net a
+dropped_itself net a = drop_lines net is_dropped true a (record { frame = λ b k at. refl; bad = λ b k at. refl; stray = λ b p. refl })
+
+dropped_unreplied : (net : Net) (a : Arrival) → filter is_reply (dropped_line net a) ≡ []
+dropped_unreplied net a = drop_lines net is_reply false a (record { frame = λ b k at. refl; bad = λ b k at. refl; stray = λ b p. refl })
 
 -- the sent lines of a run are those of the frames that it sends
 run_sends : (net : Net) (w : World) (ls : List Line) → IsNet net → WorldFits net w → StepsIn net ls → Sends w (run_all net w ls)
@@ -241,15 +307,18 @@ module _ (net : Net) (n : IsNet net) (on : 1 ≤ net.quiet) (retry : 1 ≤ net.r
 
   arrival_does : (w : World) (h : History) (left : List Publish) (a : Arrival) → Ready net P w h → IsHonestAt h.lines a → Does net w left a (steps_of_arrival net h.lines left a)
   arrival_does w h left (quiet moment) r x = quiet_does net w left moment h.lines
-  arrival_does w h left (datagram b bytes moment) r x = ⊎_elim
-      (λ z. fault_does net w left b moment bytes z.0 h.lines z.1)
-      (λ z.
-      let k : ℕ = z.0 in
-      let s = number_is w k b bytes h.lines r.whole.stands.sent z.1 in
-      let whole_frame : IsSpelled s.frame = frame_at_ready IsSpelled w k s.frame (each_of IsSpelled w.frames (spelled w r.limits)) s.there in
-      frame_does net w left b moment k bytes s.frame h.lines n (clocked_fits net w (min moment max_tick) (max (min moment max_tick) w.most) r.whole.stands.fits)
-      (subst (λ z. frame_decoded z ≡ Ok s.frame) s.same (decodes s.frame whole_frame)) s.there s.to (frame_at_ready (GoesOverEdge net) w k s.frame r.over s.there) z.1)
-      x
+  arrival_does w h left (datagram b bytes moment) r x = elim (cases_Bool (begins_note bytes)) [
+    | inl noted ↦ note_does net w left b moment bytes h.lines noted
+    | inr plain ↦ ⊎_elim
+        (λ z. fault_does net w left b moment bytes z.0 h.lines plain z.1)
+        (λ z.
+        let k : ℕ = z.0 in
+        let s = number_is w k b bytes h.lines r.whole.stands.sent z.1 in
+        let whole_frame : IsSpelled s.frame = frame_at_ready IsSpelled w k s.frame (each_of IsSpelled w.frames (spelled w r.limits)) s.there in
+        frame_does net w left b moment k bytes s.frame h.lines n (clocked_fits net w (min moment max_tick) (max (min moment max_tick) w.most) r.whole.stands.fits) plain
+        (subst (λ z. frame_decoded z ≡ Ok s.frame) s.same (decodes s.frame whole_frame)) s.there s.to (frame_at_ready (GoesOverEdge net) w k s.frame r.over s.there) z.1)
+        x
+  ]
 
   -- an arrival, what stands after it, and the frames told on the way
   record Turn (w : World) (h : History) (left : List Publish) (a : Arrival) : Type 0 where
@@ -258,10 +327,10 @@ module _ (net : Net) (n : IsNet net) (on : 1 ≤ net.quiet) (retry : 1 ≤ net.r
     ready : Ready net P (run_all net w (steps_of_arrival net h.lines left a)).world (history net h (steps_of_arrival net h.lines left a) (run_from net w (steps_of_arrival net h.lines left a)))
     same : (let t : Transition = comes net (numbers net.brokers) w left a in filter is_sent (h.lines ++ t.lines)) ≡ filter is_sent (history net h (steps_of_arrival net h.lines left a) (run_from net w (steps_of_arrival net h.lines left a))).lines
 
-  turn : (w : World) (h : History) (left : List Publish) (a : Arrival) → Ready net P w h → LeftIn net left → IsHonestAt h.lines a → Turn w h left a
-  turn w h left a r l x =
+  turn : (w : World) (h : History) (left : List Publish) (a : Arrival) → Ready net P w h → LeftIn net left → IsOfBytes a → IsHonestAt h.lines a → Turn w h left a
+  turn w h left a r l f x =
       let steps = steps_of_arrival net h.lines left a in
-      let i = arrival_in net h.lines left a l in
+      let i = arrival_in net h.lines left a l f in
       let t = comes net (numbers net.brokers) w left a in
       let d = arrival_does w h left a r x in
       let g : History = history net h steps (run_from net w steps) in
@@ -278,9 +347,9 @@ module _ (net : Net) (n : IsNet net) (on : 1 ≤ net.quiet) (retry : 1 ≤ net.r
         };
         same =
             ap (λ (z : List Report). filter is_sent (h.lines ++ z)) d.lines
-            ∙ (ap (filter is_sent) (sym (append_assoc h.lines (run_all net w steps).lines (dropped_line a)))
-            ∙ (filter-append is_sent (h.lines ++ (run_all net w steps).lines) (dropped_line a)
-            ∙ (ap₂ (λ (p q : List Report). p ++ q) (ap (filter is_sent) (sym lines)) (dropped_unsent a) ∙ append-nil (filter is_sent g.lines))));
+            ∙ (ap (filter is_sent) (sym (append_assoc h.lines (run_all net w steps).lines (dropped_line net a)))
+            ∙ (filter-append is_sent (h.lines ++ (run_all net w steps).lines) (dropped_line net a)
+            ∙ (ap₂ (λ (p q : List Report). p ++ q) (ap (filter is_sent) (sym lines)) (dropped_unsent net a) ∙ append-nil (filter is_sent g.lines))));
       }
 
   -- what is left of the journal is honest after the steps
@@ -293,55 +362,60 @@ module _ (net : Net) (n : IsNet net) (on : 1 ≤ net.quiet) (retry : 1 ≤ net.r
       let g : History = history net h steps (run_from net w steps) in
       subst (λ z. IsHonest g.lines arrivals (served_from net (numbers net.brokers) z (left_after left a) arrivals)) y.does.world (honest_same (h.lines ++ t.lines) g.lines arrivals (served_from net (numbers net.brokers) t.world (left_after left a) arrivals) y.same x.1)
 
-  arrival_told : (w : World) (h : History) (left : List Publish) (a : Arrival) → Ready net P w h → Turn w h left a → (let t : Transition = comes net (numbers net.brokers) w left a in ArrivalTold h a t.lines)
+  arrival_told : (w : World) (h : History) (left : List Publish) (a : Arrival) → Ready net P w h → Turn w h left a → (let t : Transition = comes net (numbers net.brokers) w left a in ArrivalTold net h a t.lines)
   arrival_told w h left a r y =
       let steps = steps_of_arrival net h.lines left a in
       let t = comes net (numbers net.brokers) w left a in
       let lines : List Report = (run_all net w steps).lines in
       let s = run_sends net w steps n r.whole.stands.fits y.are_in.steps in
-      let parted : (f : Report → Bool) → filter f t.lines ≡ filter f lines ++ filter f (dropped_line a) = λ f. ap (filter f) y.does.lines ∙ filter-append f lines (dropped_line a) in
-      let sent : filter is_sent t.lines ≡ sent_lines (suc (length w.frames)) s.more = parted is_sent ∙ (ap₂ (λ (p q : List Report). p ++ q) s.told (dropped_unsent a) ∙ append-nil (sent_lines (suc (length w.frames)) s.more)) in
+      let parted : (f : Report → Bool) → filter f t.lines ≡ filter f lines ++ filter f (dropped_line net a) = λ f. ap (filter f) y.does.lines ∙ filter-append f lines (dropped_line net a) in
+      let sent : filter is_sent t.lines ≡ sent_lines (suc (length w.frames)) s.more = parted is_sent ∙ (ap₂ (λ (p q : List Report). p ++ q) s.told (dropped_unsent net a) ∙ append-nil (sent_lines (suc (length w.frames)) s.more)) in
       record {
-        dropped = parted is_dropped ∙ ap₂ (λ (p q : List Report). p ++ q) (y.does.called is_dropped drops_foreign) (dropped_itself a);
-        unreplied = parted is_reply ∙ ap₂ (λ (p q : List Report). p ++ q) (y.does.called is_reply replies_foreign) (dropped_unreplied a);
+        dropped = parted is_dropped ∙ ap₂ (λ (p q : List Report). p ++ q) (y.does.called is_dropped drops_foreign) (dropped_itself net a);
+        unreplied = parted is_reply ∙ ap₂ (λ (p q : List Report). p ++ q) (y.does.called is_reply replies_foreign) (dropped_unreplied net a);
         numbered = ap (map sent_number) sent ∙ (numbers_sent (suc (length w.frames)) s.more ∙ ap₂ (λ a k. numbers_from (suc a) k) (sym (sent_count_is net w h r.whole.stands)) (sym (ap length sent ∙ lines_long (suc (length w.frames)) s.more)));
       }
 
   -- from where all stands on, the headline holds of what an honest journal leads to
-  pub holds : (arrivals : List Arrival) (w : World) (h : History) (left : List Publish) → Ready net P w h → LeftIn net left → IsHonest h.lines arrivals (served_from net (numbers net.brokers) w left arrivals) → HoldsServed net h left arrivals (served_from net (numbers net.brokers) w left arrivals)
+  pub holds : (arrivals : List Arrival) (w : World) (h : History) (left : List Publish) → Ready net P w h → LeftIn net left → AllByRecursion IsOfBytes arrivals → IsHonest h.lines arrivals (served_from net (numbers net.brokers) w left arrivals) → HoldsServed net h left arrivals (served_from net (numbers net.brokers) w left arrivals)
   unfolding served_from_by next_by run_from_by
-  holds [] w h left r l x =
+  holds [] w h left r l f x =
       subst (λ (z : List Report). ShowHolds net h z) (sym (shown net w n))
       (record { shown = shown_parts net w; steps = holds_where_sweeps_reach net w h (as_line step.Show ∷ []) n (sweeps_reach net n on retry) on (tt, tt) r.whole r.unknown })
-  holds (a ∷ arrivals) w h left r l x =
+  holds (a ∷ arrivals) w h left r l f x =
       let steps = steps_of_arrival net h.lines left a in
       let parts = run_from net w steps in
-      let y = turn w h left a r l x.0 in
+      let y = turn w h left a r l f.0 x.0 in
       let g : History = history net h steps parts in
       record {
         told = arrival_told w h left a r y;
         parts = parts;
-        lines = y.does.lines ∙ ap (λ (z : List Report). z ++ dropped_line a) (sym (report_lines net w steps));
+        lines = y.does.lines ∙ ap (λ (z : List Report). z ++ dropped_line net a) (sym (report_lines net w steps));
         steps = holds_where_sweeps_reach net w h steps n (sweeps_reach net n on retry) on y.are_in.steps r.whole r.unknown;
-        rest = subst (λ z. HoldsServed net g (left_after left a) arrivals (served_from net (numbers net.brokers) z (left_after left a) arrivals)) (sym y.does.world) (holds arrivals (run_all net w steps).world g (left_after left a) y.ready (left_in net left a l) (still_honest w h left a arrivals y x));
+        rest = subst (λ z. HoldsServed net g (left_after left a) arrivals (served_from net (numbers net.brokers) z (left_after left a) arrivals)) (sym y.does.world) (holds arrivals (run_all net w steps).world g (left_after left a) y.ready (left_in net left a l) f.1 (still_honest w h left a arrivals y x));
       }
 
   -- the steps are the same by the lines of frames alone
   steps_same : (xs ys : List Report) (left : List Publish) (a : Arrival) → filter is_sent xs ≡ filter is_sent ys → steps_of_arrival net xs left a ≡ steps_of_arrival net ys left a
   steps_same xs ys left (quiet moment) e = refl
-  steps_same xs ys left (datagram b bytes moment) e = ap (λ (o : Option ℕ). as_line (step.Clock (min moment max_tick)) ∷ (if is_frame (frame_decoded bytes) then delivery_step o else [])) (number_sent b bytes xs ∙ (ap (number_of_bytes b bytes) e ∙ sym (number_sent b bytes ys)))
+  steps_same xs ys left (datagram b bytes moment) e =
+      let same : number_of_bytes b bytes xs ≡ number_of_bytes b bytes ys = number_sent b bytes xs ∙ (ap (number_of_bytes b bytes) e ∙ sym (number_sent b bytes ys)) in
+      ap (λ (o : Option ℕ). as_line (step.Clock (min moment max_tick)) ∷ (elim (begins_note bytes) [
+        | true ↦ note_step net b (note_decoded bytes)
+        | false ↦ if is_frame (frame_decoded bytes) then delivery_step o else []
+      ])) same
 
   -- from where all stands on, each arrival of an honest journal does what its steps do
-  pub all_do : (arrivals : List Arrival) (w : World) (h : History) (left : List Publish) (lines : List Report) → Ready net P w h → LeftIn net left → filter is_sent h.lines ≡ filter is_sent lines → IsHonest h.lines arrivals (served_from net (numbers net.brokers) w left arrivals) → AllDoSteps net w lines left arrivals
+  pub all_do : (arrivals : List Arrival) (w : World) (h : History) (left : List Publish) (lines : List Report) → Ready net P w h → LeftIn net left → AllByRecursion IsOfBytes arrivals → filter is_sent h.lines ≡ filter is_sent lines → IsHonest h.lines arrivals (served_from net (numbers net.brokers) w left arrivals) → AllDoSteps net w lines left arrivals
   unfolding served_from_by
-  all_do [] w h left lines r l e x = sym e ∙ r.whole.stands.sent
-  all_do (a ∷ arrivals) w h left lines r l e x =
+  all_do [] w h left lines r l f e x = sym e ∙ r.whole.stands.sent
+  all_do (a ∷ arrivals) w h left lines r l f e x =
       let steps = steps_of_arrival net h.lines left a in
       let t = comes net (numbers net.brokers) w left a in
-      let y = turn w h left a r l x.0 in
+      let y = turn w h left a r l f.0 x.0 in
       let g : History = history net h steps (run_from net w steps) in
       let same : filter is_sent g.lines ≡ filter is_sent (lines ++ t.lines) = sym y.same ∙ (filter-append is_sent h.lines t.lines ∙ (ap (λ (z : List Report). z ++ filter is_sent t.lines) e ∙ sym (filter-append is_sent lines t.lines))) in (
         sym e ∙ r.whole.stands.sent,
         subst (λ (z : List Line). DoesSteps net w left a z) (steps_same h.lines lines left a e) (record { world = y.does.world; lines = y.does.lines; obey = steps_obey net w steps n on r.whole.stands.fits y.are_in.steps; by_rules = run_by_rules net steps w n on r.whole.stands.fits y.are_in.steps }),
-        subst (λ z. AllDoSteps net z (lines ++ t.lines) (left_after left a) arrivals) (sym y.does.world) (all_do arrivals (run_all net w steps).world g (left_after left a) (lines ++ t.lines) y.ready (left_in net left a l) same (still_honest w h left a arrivals y x)),
+        subst (λ z. AllDoSteps net z (lines ++ t.lines) (left_after left a) arrivals) (sym y.does.world) (all_do arrivals (run_all net w steps).world g (left_after left a) (lines ++ t.lines) y.ready (left_in net left a l) f.1 same (still_honest w h left a arrivals y x)),
       )

@@ -7,7 +7,7 @@ returns-clause-schedules c = λ net lanes steps r. holds_over_lanes net lanes st
 pub returns-clause-served : goal.returns-clause-served
 returns-clause-served c = λ net lanes steps arrivals r.
     let o = r.over in
-    holds_served_lanes net lanes steps arrivals o.asked.tree (record { brokers = r.brokers; publishers = r.publishers }) o.asked.quiet o.asked.retry o.follow o.asked.steps_in r.numbers_in r.honest
+    holds_served_lanes net lanes steps arrivals o.asked.tree (record { brokers = r.brokers; publishers = r.publishers }) o.asked.quiet o.asked.retry o.follow o.asked.steps_in r.numbers_in r.bytes r.honest
 
 pub returns-clause-found : goal.returns-clause-found
 returns-clause-found c = λ net lanes a. are_found net lanes a
