@@ -1,20 +1,26 @@
--- What a run does once its brokers have started are calls of hosted brokers, for publishers of the topology, and acts that call none
-use Rattle.std.proofs.Common.{◌≡◌, ◌≤◌, ℕ, zero, suc, ◌+◌, Bool, true, false, List, [], ◌∷◌, ◌++◌, length, map, flat_map, refl, arith}
+-- What a run does once its brokers have started are calls of hosted brokers and answers, for publishers of the topology, and acts that
+-- call none
+use Rattle.std.proofs.Common.{◌≡◌, ◌<◌, ◌≤◌, ℕ, zero, suc, ◌+◌, Bool, true, false, List, [], ◌∷◌, ◌++◌, length, map, flat_map, Option, Some, None, Result, Ok, Err, refl, ap, ◌∙◌, arith}
 use Rattle.std.specs.Prelude.{nat_eq, if◌then◌else◌}
 use Rattle.std.specs.List.{AllByRecursion}
-use Rattle.std.proofs.lemmas.Bool.{eq-eqb, or_left, or_right}
+use Rattle.std.proofs.lemmas.Bool.{eq-eqb, or_left, or_right, and_parts}
 use Rattle.gr_frame.specs.Decode.{frame_decoded}
+use Rattle.gr_note.specs.declared.note.Note.{Note}
+use Rattle.gr_note.specs.declared.fault.NoteFault.{NoteFault}
+use Rattle.gr_note.specs.Bytes.{begins_note}
+use Rattle.gr_note.specs.Decode.{note_decoded}
 use Rattle.gr_out.specs.Journal.{is_among}
 use Rattle.gr_sched.specs.declared.step.Step.{Step}
 use Rattle.gr_sched.specs.declared.step.Step.TheVariants as step
 use Rattle.gr_sched.specs.declared.step.Line.{Line}
 use Rattle.gr_scenario.specs.Steps.{IsStepOf, AreStepsOf}
-use Rattle.gr_topo.specs.Topology.{TopologyView}
+use Rattle.gr_topo.specs.Topology.{TopologyView, host_of}
 use Rattle.gr_model.specs.Net.{numbers_from}
 use Rattle.gr_model.specs.NetOf.{net_of}
-use Rattle.gr_model.specs.Arrivals.{Arrival, datagram, quiet, Publish, is_hosted, publishes_of, left_after}
-use Rattle.gr_node.specs.Plan.{Call, gets, publishes, wakes, Act, calls, shows, publish_calls, wake_calls, calls_of, acts_from, closing, run_acts}
+use Rattle.gr_model.specs.Arrivals.{Arrival, datagram, quiet, Publish, publisher_of, submitted_in, is_hosted, is_scheduled, publishes_of, left_after}
+use Rattle.gr_node.specs.Plan.{Call, gets, publishes, wakes, Act, calls, shows, publish_calls, wake_calls, quiet_calls, submit_acts, note_acts, datagram_acts, acts_of, acts_from, closing, run_acts}
 use Rattle.gr_node.proofs.Moving.{IsCallOf, IsActOf}
+use Rattle.gr_node.proofs.Notes.{submits}
 
 -- Lists of which each element is so
 
@@ -34,13 +40,13 @@ module _ (t : TopologyView) (hosted : List ℕ) where
   ArePublishes left = AllByRecursion (λ x. IsCallOf t hosted (publishes x)) left
 
   publish_of : (s : Step) → IsStepOf t s → ArePublishes (elim s [
-    | step.Publish p number stop e ↦ if is_hosted (net_of t) hosted p then (p, (number, e)) ∷ [] else []
+    | step.Publish p number stop e ↦ if is_scheduled (net_of t) hosted p then (p, (number, e)) ∷ [] else []
     | _ ↦ []
   ])
-  publish_of (step.Publish p number stop e) h = go (is_hosted (net_of t) hosted p) refl
+  publish_of (step.Publish p number stop e) h = go (is_scheduled (net_of t) hosted p) refl
     where
-      go : (q : Bool) → is_hosted (net_of t) hosted p ≡ q → ArePublishes (if q then (p, (number, e)) ∷ [] else [])
-      go true k = ((h.0, k), tt)
+      go : (q : Bool) → is_scheduled (net_of t) hosted p ≡ q → ArePublishes (if q then (p, (number, e)) ∷ [] else [])
+      go true k = ((h.0, (and_parts (is_hosted (net_of t) hosted p) _ k).0), tt)
       go false k = tt
   publish_of (step.Clock now) h = tt
   publish_of (step.Wake b) h = tt
@@ -79,13 +85,8 @@ module _ (t : TopologyView) (hosted : List ℕ) where
       (wakes_of b 0 (length t.publishers) (h b (or_left (nat_eq b b) (is_among bs b) (eq-eqb b b refl))) (omega arith))
       (wakes_are bs (λ c e. h c (or_right (nat_eq b c) (is_among bs c) e)))
 
-  calls_are : (left : List Publish) (a : Arrival) → ArePublishes left → AreCalls (calls_of (net_of t) hosted left a)
-  calls_are left (datagram b bytes moment) h = go (is_among hosted b) refl
-    where
-      go : (q : Bool) → is_among hosted b ≡ q → AreCalls (if q then gets b (frame_decoded bytes) ∷ [] else [])
-      go true e = (e, tt)
-      go false e = tt
-  calls_are left (quiet moment) h =
+  quiet_are : (left : List Publish) → ArePublishes left → AreCalls (quiet_calls (net_of t) hosted left)
+  quiet_are left h =
       all_append (IsCallOf t hosted) (publish_calls left) (flat_map (wake_calls (length t.publishers)) hosted) (first_is left h) (wakes_are hosted (λ b e. e))
 
   -- Acts
@@ -97,13 +98,40 @@ module _ (t : TopologyView) (hosted : List ℕ) where
   made_of [] h = tt
   made_of (c ∷ cs) h = (h.0, made_of cs h.1)
 
+  -- of a note at a hosted broker
+  submitted_are : (b p : ℕ) (o : Option Publish) → is_among hosted b ≡ true → ((x : Publish) → o ≡ Some x → (x.0 < length t.publishers) × (host_of t x.0 ≡ b)) → AreActs (submit_acts b p o)
+  submitted_are b p None here is = (tt, tt)
+  submitted_are b p (Some x) here is =
+      let e = is x refl in
+      let k : IsCallOf t hosted (publishes x) = (e.0, ap (is_among hosted) e.1 ∙ here) in
+      (k, (k, tt))
+
+  note_are : (b : ℕ) (r : Result Note NoteFault) → is_among hosted b ≡ true → AreActs (note_acts (net_of t) b r)
+  note_are b (Err fault) here = (tt, tt)
+  note_are b (Ok n) here = submitted_are b (publisher_of n) (submitted_in (net_of t) b n) here (λ x e. submits (net_of t) b n x e)
+
+  datagram_are : (b : ℕ) (bytes : List ℕ) → is_among hosted b ≡ true → AreActs (datagram_acts (net_of t) b bytes)
+  datagram_are b bytes here = go (begins_note bytes)
+    where
+      go : (q : Bool) → AreActs (elim q [ true ↦ note_acts (net_of t) b (note_decoded bytes) | false ↦ calls (gets b (frame_decoded bytes)) ∷ [] ])
+      go true = note_are b (note_decoded bytes) here
+      go false = (here, tt)
+
+  arrival_are : (left : List Publish) (a : Arrival) → ArePublishes left → AreActs (acts_of (net_of t) hosted left a)
+  arrival_are left (datagram b bytes moment) h = go (is_among hosted b) refl
+    where
+      go : (q : Bool) → is_among hosted b ≡ q → AreActs (if q then datagram_acts (net_of t) b bytes else [])
+      go true e = datagram_are b bytes e
+      go false e = tt
+  arrival_are left (quiet moment) h = made_of (quiet_calls (net_of t) hosted left) (quiet_are left h)
+
   came_are : (left : List Publish) (came : List Arrival) → ArePublishes left → AreActs (acts_from (net_of t) hosted left came)
   unfolding acts_from
   came_are left [] h = tt
   came_are left (a ∷ came) h = (
     tt,
-    all_append (IsActOf t hosted) (map calls (calls_of (net_of t) hosted left a)) (acts_from (net_of t) hosted (left_after left a) came)
-        (made_of (calls_of (net_of t) hosted left a) (calls_are left a h)) (came_are (left_after left a) came (left_are left a h)),
+    all_append (IsActOf t hosted) (acts_of (net_of t) hosted left a) (acts_from (net_of t) hosted (left_after left a) came)
+        (arrival_are left a h) (came_are (left_after left a) came (left_are left a h)),
   )
 
   closing_is : (closed : Bool) → AreActs (closing closed)

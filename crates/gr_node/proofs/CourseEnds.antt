@@ -27,18 +27,27 @@ use Rattle.gr_broker.specs.Seen.{log_in, log_said}
 use Rattle.gr_run.proofs.Passing.{PassesLog, PassesRest}
 use Rattle.gr_node.specs.Seen.{NodeView, broker_in, none_started, text_of}
 use Rattle.gr_node.specs.Of.{AreHosted, IsSet, AllStand, OthersStay}
-use Rattle.gr_node.specs.Plan.{Act, binds, starts, shows, bound_entry, act, run_acts, plan, all_entries}
+use Rattle.gr_node.specs.Plan.{Act, binds, starts, shows, bound_entry, act, run_acts, nodes, plan, all_entries}
 use Rattle.gr_node.specs.Done.{all_done}
-use Rattle.gr_node.specs.Went.{Outside, outside, IsExact, IsPostFault, fault_entries, uses_disk, FirstIs}
+use Rattle.gr_node.specs.Went.{Outside, outside, IsExact, IsPostFault, Bound, fault_entries, uses_disk, FirstIs}
 use Rattle.gr_node.specs.Starting.{Started, Found, IsFirstDamaged, start_lines}
 use Rattle.gr_node.specs.Served.{Course, is_start, IsRefused, IsRunOf, Posts, Prints, KeepsLogs}
 use Rattle.gr_node.specs.Ending.{IsEnd, Ran, RanWith, Serves}
 use Rattle.gr_node.proofs.Moving.{IsNode, IsActOf, Moved, moves_all}
 use Rattle.gr_node.proofs.Taken.{broker_here, found_in}
 use Rattle.gr_node.proofs.Opening.{binds_nothing, binds_entries}
+use Rattle.gr_node.proofs.BoundNodes.{made_all}
 use Rattle.gr_node.proofs.Acting.{acts_are, all_front}
 use Rattle.gr_node.proofs.Ended.{exact_or}
 use Rattle.gr_node.proofs.Courses.{but_all_taken, carried, cut, IsOpened, none_opened, none_bound, records, before, bounds, started, begun, opened, many, follows, turn_behind, text_behind, entries_behind, plan_behind, started_made, found_here}
+
+-- What a fault puts does not depend on what was to be answered
+same_entries : (T U : Type 0) (e : RunFault) → fault_entries {T = T} (Err e) ≡ fault_entries {T = U} (Err e)
+same_entries T U run.Memory = refl
+same_entries T U run.Write = refl
+same_entries T U run.Disk = refl
+same_entries T U (run.Damaged p at) = refl
+same_entries T U run.Post = refl
 
 -- A fault that is none of the post puts no entry
 no_failed : (T : Type 0) (e : RunFault) → ◌≢◌ {A = Result T RunFault} (Err e) (Err run.Post) → fault_entries {T = T} (Err e) ≡ []
@@ -117,7 +126,7 @@ module _ (T : Type 0) (t : TopologyView) (hosted : List ℕ) (are : AreHosted t 
     where
       go : IsExact {T = T} (Err e) ⊎ (IsExact {T = T} (Err e) → ⊥) → Serves {T = T} t hosted steps turns posts keeps journal journal' taken taken' lanes lanes' (Err e)
       go (inl exact) =
-          carried T t hosted steps turns posts keeps journal journal' taken taken' lanes lanes' (Err e) (records t hosted are bs rest n o) (many t hosted are bs rest n o) (follows t hosted are bs rest n o) [] false (omega arith)
+          carried T t hosted steps turns posts keeps journal journal' taken taken' lanes lanes' (Err e) (records t hosted are bs rest n o) (many t hosted are bs rest n o) (follows t hosted are bs rest n o) [] false (omega arith) tt
           made left parts exact tt tt (refused_by (next exact) no_post)
           (λ h. sent h ∙ ap (λ xs. journal ++ xs) (sym entries_made ∙ (sym (append-nil (all_entries t hosted (before t hosted are bs rest n o) made)) ∙ ap (λ xs. all_entries t hosted (before t hosted are bs rest n o) made ++ xs) (sym (no_failed T e no_post)))))
           (told exact ∙ ap (with_more taken) (sym text_made))
@@ -128,7 +137,7 @@ module _ (T : Type 0) (t : TopologyView) (hosted : List ℕ) (are : AreHosted t 
             others = others h;
           })
       go (inr unknown) =
-          cut T t hosted steps turns posts keeps journal journal' taken taken' lanes lanes' (Err e) (records t hosted are bs rest n o) (many t hosted are bs rest n o) (follows t hosted are bs rest n o) [] false (omega arith)
+          cut T t hosted steps turns posts keeps journal journal' taken taken' lanes lanes' (Err e) (records t hosted are bs rest n o) (many t hosted are bs rest n o) (follows t hosted are bs rest n o) [] false (omega arith) tt
           made left parts unknown (subst (TakesFront taken taken') (sym text_made) front)
           (λ h. record {
             part = bounds t hosted are bs rest n o;
@@ -140,7 +149,7 @@ module _ (T : Type 0) (t : TopologyView) (hosted : List ℕ) (are : AreHosted t 
 
 -- There was no memory for the node, or for the page
 pub serves_memory : (T : Type 0) (t : TopologyView) (hosted : List ℕ) (steps : List Line) (turns : ℕ) (posts keeps : Type 0) (journal journal' : List Entry) (taken : Option (List ℕ)) (lanes : ℕ → Lane)
-    → AreHosted t hosted → (posts → journal' ≡ journal ++ map (bound_entry t hosted) (numbers (length t.brokers)))
+    → AreHosted t hosted → (posts → journal' ≡ journal ++ map (bound_entry t hosted) (nodes t hosted))
     → Serves {T = T} t hosted steps turns posts keeps journal journal' taken taken lanes lanes (Err run.Memory)
 serves_memory T t hosted steps turns posts keeps journal journal' taken lanes are sent =
     let none = none_opened t hosted (none_started (length t.brokers)) refl in
@@ -225,7 +234,7 @@ module _ (T : Type 0) (t : TopologyView) (hosted : List ℕ) (are : AreHosted t 
     where
       go : IsExact r ⊎ (IsExact r → ⊥) → Serves {T = T} t hosted steps turns posts keeps journal journal' taken taken' lanes lanes' r
       go (inl exact) =
-          carried T t hosted steps turns posts keeps journal journal' taken taken' lanes lanes' r (records t hosted are hosted [] n o) (many t hosted are hosted [] n o) (follows t hosted are hosted [] n o) w.came w.closed w.within
+          carried T t hosted steps turns posts keeps journal journal' taken taken' lanes lanes' r (records t hosted are hosted [] n o) (many t hosted are hosted [] n o) (follows t hosted are hosted [] n o) w.came w.closed w.within w.bytes
           (begun t hosted are hosted [] n o ran.made) ran.left (plan_behind t hosted are hosted [] n o steps w.came w.closed ran.made ran.left ran.parts) exact ran.whole w.ended ran.refused
           (λ h. ran.sent exact h ∙ (ap (λ xs. xs ++ ((all_done t hosted n ran.made).entries ++ fault_entries r)) (sent_first h)
           ∙ (append_assoc journal (bounds t hosted are hosted [] n o) ((all_done t hosted n ran.made).entries ++ fault_entries r)
@@ -241,7 +250,7 @@ module _ (T : Type 0) (t : TopologyView) (hosted : List ℕ) (are : AreHosted t 
             others = others h;
           })
       go (inr unknown) =
-          cut T t hosted steps turns posts keeps journal journal' taken taken' lanes lanes' r (records t hosted are hosted [] n o) (many t hosted are hosted [] n o) (follows t hosted are hosted [] n o) w.came w.closed w.within
+          cut T t hosted steps turns posts keeps journal journal' taken taken' lanes lanes' r (records t hosted are hosted [] n o) (many t hosted are hosted [] n o) (follows t hosted are hosted [] n o) w.came w.closed w.within w.bytes
           (begun t hosted are hosted [] n o tail) [] (plan_behind t hosted are hosted [] n o steps w.came w.closed tail [] (append-nil tail)) unknown
           (subst (TakesFront taken taken') (text_begun tail tail_moved)
           (front-later taken opening taken' start_text (text_of t (all_done t hosted n tail).lines) [] (but-all taken opening start_text told_first) (ran.told_front unknown)))
@@ -255,48 +264,41 @@ module _ (T : Type 0) (t : TopologyView) (hosted : List ℕ) (are : AreHosted t 
 
 -- A binding failed, or there was no memory for it
 
-numbers_split : (a k m : ℕ) → numbers_from a (k + m) ≡ numbers_from a k ++ numbers_from (a + k) m
-numbers_split a zero m = ap₂ (λ (b k : ℕ). numbers_from b k) (let e : a ≡ a + 0 = omega arith in e) (let e : 0 + m ≡ m = omega arith in e)
-numbers_split a (suc k) m =
-    ap (numbers_from a) (let e : suc k + m ≡ suc (k + m) = omega arith in e)
-    ∙ ap (λ xs. a ∷ xs) (numbers_split (suc a) k m ∙ ap (λ b. numbers_from (suc a) k ++ numbers_from b m) (let e : suc a + k ≡ a + suc k = omega arith in e))
-
 module _ (T : Type 0) (t : TopologyView) (hosted : List ℕ) (are : AreHosted t hosted) (n : NodeView) (o : IsOpened t hosted [] hosted n) (steps : List Line) (turns : ℕ) (posts keeps : Type 0)
-    (journal journal' : List Entry) (taken : Option (List ℕ)) (lanes : ℕ → Lane) (k m : ℕ) (all : length t.brokers ≡ k + suc m) where
+    (journal journal' : List Entry) (taken : Option (List ℕ)) (lanes : ℕ → Lane) (ks : List ℕ) (next : ℕ) (more : List ℕ) (all : ks ++ (next ∷ more) ≡ nodes t hosted) where
   abbrev all_left : List Act
   all_left = map starts hosted ++ (run_acts (net_of t) hosted steps [] false ++ shows ∷ [])
 
   abbrev bound_so_far : List Act
-  bound_so_far = map binds (numbers k)
+  bound_so_far = map binds ks
 
   abbrev unbound : List Act
-  unbound = map binds (numbers_from (0 + k) (suc m)) ++ all_left
+  unbound = map binds (next ∷ more) ++ all_left
 
   bound_parts : bound_so_far ++ unbound ≡ plan t hosted steps [] false
   unfolding plan
   bound_parts =
-      sym (append_assoc bound_so_far (map binds (numbers_from (0 + k) (suc m))) all_left)
-      ∙ ap (λ xs. xs ++ all_left) (sym (map-append binds (numbers k) (numbers_from (0 + k) (suc m)))
-      ∙ ap (map binds) (sym (numbers_split 0 k (suc m)) ∙ ap numbers (sym all)))
+      sym (append_assoc bound_so_far (map binds (next ∷ more)) all_left)
+      ∙ ap (λ xs. xs ++ all_left) (sym (map-append binds ks (next ∷ more)) ∙ ap (map binds) all)
 
   abbrev first_world : World
   first_world = before t hosted are [] hosted n o
 
   no_lines : text_of t (in_turn (act (net_of t) hosted) bound_so_far first_world).lines ≡ []
-  no_lines = ap (λ (s : Transition). text_of t s.lines) (binds_nothing (net_of t) hosted (numbers k) first_world)
+  no_lines = ap (λ (s : Transition). text_of t s.lines) (binds_nothing (net_of t) hosted ks first_world)
 
-  their_entries : all_entries t hosted first_world bound_so_far ≡ map (bound_entry t hosted) (numbers k)
-  their_entries = binds_entries t hosted (numbers k) first_world
+  their_entries : all_entries t hosted first_world bound_so_far ≡ map (bound_entry t hosted) ks
+  their_entries = binds_entries t hosted ks first_world
 
-  pub serves_unbound : (e : RunFault) → IsPostFault e → (posts → journal' ≡ journal ++ (map (bound_entry t hosted) (numbers k) ++ fault_entries {T = T} (Err e)))
+  pub serves_unbound : (e : RunFault) → IsPostFault e → (posts → journal' ≡ journal ++ (map (bound_entry t hosted) ks ++ fault_entries {T = T} (Err e)))
       → Serves {T = T} t hosted steps turns posts keeps journal journal' taken taken lanes lanes (Err e)
   serves_unbound run.Post cause sent =
-      carried T t hosted steps turns posts keeps journal journal' taken taken lanes lanes (Err run.Post) (records t hosted are [] hosted n o) (many t hosted are [] hosted n o) (follows t hosted are [] hosted n o) [] false (omega arith)
+      carried T t hosted steps turns posts keeps journal journal' taken taken lanes lanes (Err run.Post) (records t hosted are [] hosted n o) (many t hosted are [] hosted n o) (follows t hosted are [] hosted n o) [] false (omega arith) tt
       bound_so_far unbound bound_parts tt tt tt post_refused
       (λ h. sent h ∙ ap (λ xs. journal ++ (xs ++ entry.failed ∷ [])) (sym their_entries))
       (sym (with_more-nil taken) ∙ ap (with_more taken) (sym no_lines))
       (λ h. record {
-        found = λ p below here is. absurd (false≢true (sym (none_bound (host_of t p) (numbers k)) ∙ is));
+        found = λ p below here is. absurd (false≢true (sym (none_bound (host_of t p) ks) ∙ is));
         kept = λ known end. absurd (not_ended end);
         damaged = λ p at is. cc;
         others = λ lane here. refl;
@@ -313,23 +315,28 @@ module _ (T : Type 0) (t : TopologyView) (hosted : List ℕ) (are : AreHosted t 
       not_ended (inl h) = cc
       not_ended (inr h) = cc
   serves_unbound run.Memory cause sent =
-      cut T t hosted steps turns posts keeps journal journal' taken taken lanes lanes (Err run.Memory) (records t hosted are [] hosted n o) (many t hosted are [] hosted n o) (follows t hosted are [] hosted n o) [] false (omega arith)
+      cut T t hosted steps turns posts keeps journal journal' taken taken lanes lanes (Err run.Memory) (records t hosted are [] hosted n o) (many t hosted are [] hosted n o) (follows t hosted are [] hosted n o) [] false (omega arith) tt
       bound_so_far unbound bound_parts (λ exact. exact)
       (record { part = []; rest = text_of t (in_turn (act (net_of t) hosted) bound_so_far first_world).lines; whole = refl; taken = sym (with_more-nil taken) })
       (λ h. record {
-        part = map (bound_entry t hosted) (numbers k);
+        part = map (bound_entry t hosted) ks;
         rest = [];
-        whole = their_entries ∙ sym (append-nil (map (bound_entry t hosted) (numbers k)));
-        are = sent h ∙ ap (λ xs. journal ++ xs) (append-nil (map (bound_entry t hosted) (numbers k)));
+        whole = their_entries ∙ sym (append-nil (map (bound_entry t hosted) ks));
+        are = sent h ∙ ap (λ xs. journal ++ xs) (append-nil (map (bound_entry t hosted) ks));
       })
       (λ h lane here. refl)
   serves_unbound run.Write cause sent = absurd cause
   serves_unbound run.Disk cause sent = absurd cause
   serves_unbound (run.Damaged p at) cause sent = absurd cause
 
--- so many are bound, and there are more
-pub unbound_left : (k n : ℕ) → k < n → n ≡ k + suc (n - (k + 1))
-unbound_left k n j = omega (arith, j)
+-- the first that is left is the one whose binding failed
+pub serves_bound : {T U : Type 0} (t : TopologyView) (hosted : List ℕ) (are : AreHosted t hosted) (n : NodeView) (o : IsOpened t hosted [] hosted n) (steps : List Line) (turns : ℕ) (posts keeps : Type 0)
+    (journal journal' : List Entry) (taken : Option (List ℕ)) (lanes : ℕ → Lane) (e : RunFault) → IsPostFault e → Bound {T = U} t hosted posts (nodes t hosted) journal journal' (Err e)
+    → Serves {T = T} t hosted steps turns posts keeps journal journal' taken taken lanes lanes (Err e)
+serves_bound {T} {U} t hosted are n o steps turns posts keeps journal journal' taken lanes e cause b =
+    let short = b.short in
+    serves_unbound T t hosted are n o steps turns posts keeps journal journal' taken lanes b.bound short.0 short.1.0 (ap (λ xs. b.bound ++ xs) (sym short.1.1) ∙ b.parts) e cause
+    (λ h. b.put h ∙ ap (λ xs. journal ++ (map (bound_entry t hosted) b.bound ++ xs)) (same_entries U T e))
 
 -- The course of a run with all that is said of it
 pub with_course : {T : Type 0} (t : TopologyView) (hosted : List ℕ) (steps : List Line) (turns : ℕ) (posts keeps : Type 0) (journal journal' : List Entry) (taken taken' : Option (List ℕ)) (lanes lanes' : ℕ → Lane) (r : Result T RunFault)
@@ -339,7 +346,6 @@ pub with_course : {T : Type 0} (t : TopologyView) (hosted : List ℕ) (steps : L
 with_course t hosted steps turns posts keeps journal journal' taken taken' lanes lanes' r s = (s.course, (s.run, (s.posted, (s.printed, s.kept))))
 
 -- all are bound
-pub bound_all : (t : TopologyView) (hosted : List ℕ) (k : ℕ) (journal journal' : List Entry) → k ≡ length t.brokers
-    → journal' ≡ journal ++ (map (bound_entry t hosted) (numbers k) ++ []) → journal' ≡ journal ++ map (bound_entry t hosted) (numbers (length t.brokers))
-bound_all t hosted k journal journal' all e =
-    e ∙ ap (λ xs. journal ++ xs) (append-nil (map (bound_entry t hosted) (numbers k)) ∙ ap (λ n. map (bound_entry t hosted) (numbers n)) all)
+pub bound_all : {T : Type 0} (t : TopologyView) (hosted : List ℕ) (tells : Type 0) (journal journal' : List Entry) (x : T) → Bound {T = T} t hosted tells (nodes t hosted) journal journal' (Ok x)
+    → tells → journal' ≡ journal ++ map (bound_entry t hosted) (nodes t hosted)
+bound_all t hosted tells journal journal' x b h = made_all t hosted tells (nodes t hosted) journal journal' x b h

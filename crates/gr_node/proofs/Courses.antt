@@ -24,11 +24,11 @@ use Rattle.gr_model.specs.World.{World, Transition, followed_by, in_turn}
 use Rattle.gr_model.specs.Opening.{over_logs}
 use Rattle.gr_model.specs.Arrivals.{Arrival, served}
 use Rattle.gr_theorems.specs.Lanes.{AllFollow, whole_logs}
-use Rattle.gr_theorems.specs.Served.{joined}
+use Rattle.gr_theorems.specs.Served.{joined, IsOfBytes}
 use Rattle.gr_theorems.proofs.runs.Schedules.{length_numbers}
 use Rattle.gr_node.specs.Seen.{NodeView, broker_in, none_started, records_in, text_of}
 use Rattle.gr_node.specs.Of.{AreHosted, Hosts, OthersStay}
-use Rattle.gr_node.specs.Plan.{Act, binds, starts, shows, ours, bound_entry, act, run_acts, plan, all_entries}
+use Rattle.gr_node.specs.Plan.{Act, binds, starts, shows, ours, bound_entry, act, run_acts, nodes, plan, all_entries}
 use Rattle.gr_node.specs.Went.{Outside, outside, IsExact, fault_entries, Begins}
 use Rattle.gr_node.specs.Starting.{Started, HasStarted, Found, start_lines}
 use Rattle.gr_node.specs.Served.{Course, is_start, IsRefused, KeepsLogs}
@@ -58,7 +58,7 @@ but_all_taken old new text b = b.taken ∙ ap (with_more old) (sym (append-nil b
 -- The course of a run over these records, with what came
 
 module _ (T : Type 0) (t : TopologyView) (hosted : List ℕ) (steps : List Line) (turns : ℕ) (posts keeps : Type 0) (journal journal' : List Entry) (taken taken' : Option (List ℕ)) (lanes lanes' : ℕ → Lane)
-    (r : Result T RunFault) (records : List (List Record)) (count : length records ≡ length t.publishers) (follow : AllFollow records) (came : List Arrival) (closed : Bool) (within : length came ≤ turns) where
+    (r : Result T RunFault) (records : List (List Record)) (count : length records ≡ length t.publishers) (follow : AllFollow records) (came : List Arrival) (closed : Bool) (within : length came ≤ turns) (bytes : AllByRecursion IsOfBytes came) where
   abbrev first : World
   first = over_logs (net_of t) (whole_logs records)
 
@@ -116,7 +116,7 @@ module _ (T : Type 0) (t : TopologyView) (hosted : List ℕ) (steps : List Line)
         → Serves {T = T} t hosted steps turns posts keeps journal journal' taken taken' lanes lanes' r
     carried exact whole ended refused sent told kept = record {
       course = course made left;
-      run = record { acts = parts; count = count; follow = follow; within = within; whole = whole; ended = ended; refused = refused };
+      run = record { acts = parts; count = count; follow = follow; within = within; bytes = bytes; whole = whole; ended = ended; refused = refused };
       posted = λ h. record { exact = λ _. sent h; front = λ unknown. absurd (unknown exact) };
       printed = record {
         report = reported r told whole;
@@ -137,6 +137,7 @@ module _ (T : Type 0) (t : TopologyView) (hosted : List ℕ) (steps : List Line)
         count = count;
         follow = follow;
         within = within;
+        bytes = bytes;
         whole = unknown_ok _ r unknown;
         ended = unknown_ok _ r unknown;
         refused = λ e is. unknown_refused T t e all_acts (λ exact. unknown (subst (λ q. IsExact q) (sym is) exact));
@@ -237,10 +238,10 @@ module _ (t : TopologyView) (hosted : List ℕ) (are : AreHosted t hosted) (bs r
   before = over_logs net (whole_logs records)
 
   abbrev pub bindings : List Act
-  bindings = map binds (numbers (length t.brokers))
+  bindings = map binds (nodes t hosted)
 
   abbrev pub bounds : List Entry
-  bounds = map (bound_entry t hosted) (numbers (length t.brokers))
+  bounds = map (bound_entry t hosted) (nodes t hosted)
 
   abbrev pub started : Transition
   started = in_turn (act net hosted) (map starts bs) before
@@ -261,7 +262,7 @@ module _ (t : TopologyView) (hosted : List ℕ) (are : AreHosted t hosted) (bs r
   turn_behind more =
       let later : World → Transition = in_turn (act net hosted) (map starts bs ++ more) in
       in_turn_append (act net hosted) bindings (map starts bs ++ more) before
-      ∙ (ap (λ (s : Transition). followed_by s later) (binds_nothing net hosted (numbers (length t.brokers)) before)
+      ∙ (ap (λ (s : Transition). followed_by s later) (binds_nothing net hosted (nodes t hosted) before)
       ∙ in_turn_append (act net hosted) (map starts bs) more before)
 
   pub text_behind : (more : List Act) → text_of t (in_turn (act net hosted) (begun more) before).lines
@@ -275,8 +276,8 @@ module _ (t : TopologyView) (hosted : List ℕ) (are : AreHosted t hosted) (bs r
   entries_behind more =
       let later : List Act = map starts bs ++ more in
       all_entries_append t hosted before bindings later
-      ∙ ap₂ (λ (xs ys : List Entry). xs ++ ys) (binds_entries t hosted (numbers (length t.brokers)) before)
-      (ap (λ (s : Transition). all_entries t hosted s.world later) (binds_nothing net hosted (numbers (length t.brokers)) before)
+      ∙ ap₂ (λ (xs ys : List Entry). xs ++ ys) (binds_entries t hosted (nodes t hosted) before)
+      (ap (λ (s : Transition). all_entries t hosted s.world later) (binds_nothing net hosted (nodes t hosted) before)
       ∙ (all_entries_append t hosted before (map starts bs) more
       ∙ ap (λ es. es ++ all_entries t hosted started.world more) (starts_entries t hosted bs before)))
 
@@ -298,7 +299,7 @@ module _ (t : TopologyView) (hosted : List ℕ) (are : AreHosted t hosted) (bs r
   started_made b e =
       sym (is_started b bs)
       ∙ (ap (list_any (is_start b)) (sym (append-nil (map starts bs)))
-      ∙ (ap (λ x. x || list_any (is_start b) (map starts bs ++ [])) (sym (none_bound b (numbers (length t.brokers))))
+      ∙ (ap (λ x. x || list_any (is_start b) (map starts bs ++ [])) (sym (none_bound b (nodes t hosted)))
       ∙ (sym (list_any-append (is_start b) bindings (map starts bs ++ [])) ∙ e)))
 
   -- what was found on the lanes of one that has

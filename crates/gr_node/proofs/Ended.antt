@@ -207,6 +207,7 @@ ran_wrote {T} t hosted tells steps turns n n' o taken taken' held held' journal 
     came = w.came;
     closed = w.closed;
     within = w.within;
+    bytes = w.bytes;
     ended = w.ended;
     ran = record {
       made = m.made;
@@ -226,6 +227,7 @@ ran_wrote {T} t hosted tells steps turns n n' o taken taken' held held' journal 
       came = w.came;
       closed = w.closed;
       within = w.within;
+      bytes = w.bytes;
       ended = w.ended;
       ran = record {
         made = m.made;
@@ -244,6 +246,7 @@ ran_wrote {T} t hosted tells steps turns n n' o taken taken' held held' journal 
       came = w.came;
       closed = w.closed;
       within = w.within;
+      bytes = w.bytes;
       ended = tt;
       ran = record {
         made = m.made;

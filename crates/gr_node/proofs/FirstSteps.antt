@@ -1,5 +1,5 @@
--- The publish that is next among steps: it is at a hosted broker, and the others are left behind it
-use Rattle.std.proofs.Common.{◌≡◌, ◌≢◌, ℕ, suc, ◌+◌, ◌<◌, ◌≤◌, Bool, true, false, List, [], ◌∷◌, ◌++◌, length, get_or, drop, Option, if◌then◌else◌, refl, sym, ap, ◌∙◌, add-one, drop-drop}
+-- The publish that is next among steps: its publisher is at a hosted broker and has no client, and the others are left behind it
+use Rattle.std.proofs.Common.{◌≡◌, ◌≢◌, ℕ, suc, ◌+◌, ◌<◌, ◌≤◌, Bool, true, false, List, [], ◌∷◌, ◌++◌, length, get_or, drop, Option, Some, None, is_some, ◌&&◌, not, if◌then◌else◌, refl, sym, ap, ◌∙◌, add-one, drop-drop}
 use Rattle.std.proofs.lemmas.List.{drop_all}
 use Rattle.std.proofs.Math.Seq.{drop-cons}
 use Rattle.gr_event.specs.declared.event.Event.{Event}
@@ -8,7 +8,7 @@ use Rattle.gr_sched.specs.declared.step.Stop.{Stop}
 use Rattle.gr_sched.specs.declared.step.Step.{Step}
 use Rattle.gr_sched.specs.declared.step.Step.TheVariants as step
 use Rattle.gr_model.specs.Net.{Net}
-use Rattle.gr_model.specs.Arrivals.{quiet, Publish, is_hosted, publishes_in, publishes_of, left_after}
+use Rattle.gr_model.specs.Arrivals.{quiet, Publish, is_scheduled, publishes_in, publishes_of, left_after}
 use Rattle.gr_node.specs.Turns.{IsFirst}
 
 -- past the last step there is no publish
@@ -19,8 +19,18 @@ none_next net hosted steps next h = ap (publishes_of net hosted) (drop_all next 
 pub step_there : (steps : List Line) (i : ℕ) (l : Line) → i < length steps → l ≡ get_or steps i l → drop i steps ≡ l ∷ drop (i + 1) steps
 step_there steps i l h e = drop-cons steps i l h ∙ ap (λ (x : Line). x ∷ drop (suc i) steps) (sym e) ∙ ap (λ k. l ∷ drop k steps) (sym (add-one i))
 
--- a publish of a publisher elsewhere is none here
-pub none_here : (net : Net) (hosted : List ℕ) (l : Line) (p number : ℕ) (stop : Option Stop) (e : Event) → l.step ≡ step.Publish p number stop e → is_hosted net hosted p ≡ false → publishes_in net hosted l ≡ []
+-- for a publisher with a client no schedule publishes
+pub with_client : (here : Bool) (o : Option (List ℕ)) (address : List ℕ) → Some address ≡ o → false ≡ (here && not (is_some o))
+with_client true o address e = ap (λ (x : Option (List ℕ)). not (is_some x)) e
+with_client false o address e = refl
+
+-- for one without it does where it is at a hosted broker
+pub without_client : (here : Bool) (o : Option (List ℕ)) → None ≡ o → here ≡ (here && not (is_some o))
+without_client true o e = ap (λ (x : Option (List ℕ)). not (is_some x)) e
+without_client false o e = refl
+
+-- a publish that no schedule makes here is none
+pub none_here : (net : Net) (hosted : List ℕ) (l : Line) (p number : ℕ) (stop : Option Stop) (e : Event) → l.step ≡ step.Publish p number stop e → is_scheduled net hosted p ≡ false → publishes_in net hosted l ≡ []
 none_here net hosted l p number stop e is h =
     ap (λ (x : Step). publishes_in net hosted (record { number = l.number; step = x })) is
     ∙ ap (λ (b : Bool). if b then (p, (number, e)) ∷ [] else []) h
@@ -40,7 +50,7 @@ one_if x false h = absurd (h refl)
 left_behind_it : (net : Net) (hosted : List ℕ) (number moment : ℕ) (s : Step) (ls : List Line) → publishes_in net hosted (record { number = number; step = s }) ≢ []
     → publishes_of net hosted ls ≡ left_after (publishes_in net hosted (record { number = number; step = s }) ++ publishes_of net hosted ls) (quiet moment)
 left_behind_it net hosted number moment (step.Publish p at stop e) ls h =
-    ap (λ (xs : List Publish). left_after (xs ++ publishes_of net hosted ls) (quiet moment)) (sym (one_if (p, (at, e)) (is_hosted net hosted p) h))
+    ap (λ (xs : List Publish). left_after (xs ++ publishes_of net hosted ls) (quiet moment)) (sym (one_if (p, (at, e)) (is_scheduled net hosted p) h))
 left_behind_it net hosted number moment (step.Clock now) ls h = absurd (h refl)
 left_behind_it net hosted number moment (step.Wake b) ls h = absurd (h refl)
 left_behind_it net hosted number moment (step.Deliver f) ls h = absurd (h refl)

@@ -1,51 +1,62 @@
--- An honest journal makes an honest run: each offer that a plan puts into the journal is of a frame that the lines so far tell, so
--- bytes that were offered to a broker have a number among these lines
-use Rattle.std.proofs.Common.{◌≡◌, ◌⊎◌, inl, inr, ℕ, suc, Bool, true, false, ◌&&◌, ◌||◌, List, [], ◌∷◌, ◌++◌, map, length, refl, sym, ap, ap₂, ◌∙◌, subst, Option, Some, None, append-nil, append_assoc}
-use Rattle.std.specs.Prelude.{nat_eq, bytes_eq, if◌then◌else◌, Result, Ok, Err}
-use Rattle.std.specs.List.{list_any}
+-- An honest journal makes an honest run: each offer that a plan puts into the journal is of a frame that the lines so far tell, or
+-- of a note, so bytes that were offered to a broker, and are no note, have a number among these lines
+use Rattle.std.proofs.Common.{◌≡◌, ◌⊎◌, inl, inr, ℕ, suc, Bool, true, false, ◌&&◌, ◌||◌, List, [], ◌∷◌, ◌++◌, map, length, drop, refl, sym, ap, ap₂, ◌∙◌, subst, Option, Some, None, append-nil, append_assoc}
+use Rattle.std.specs.Prelude.{nat_eq, nat_lt, bytes_eq, if◌then◌else◌, Result, Ok, Err}
+use Rattle.std.specs.List.{list_any, AllByRecursion}
 use Rattle.std.proofs.lemmas.Bool.{cases_Bool, or_cases, or_left, or_right, true≢false}
 use Rattle.std.proofs.lemmas.List.Folds.{list_any-append}
+use Rattle.std.proofs.lemmas.Slice.Eq.{bytes_eq-Decides}
+use Rattle.std.proofs.Math.Bool.{and-false}
 use Rattle.gr_frame.specs.declared.Body.{Body}
 use Rattle.gr_frame.specs.declared.Body.TheVariants as body
 use Rattle.gr_frame.specs.declared.Frame.{Frame}
 use Rattle.gr_frame.specs.declared.fault.FrameFault.{FrameFault}
+use Rattle.gr_frame.specs.declared.fault.FrameKind.TheVariants.{TooLong, BadMagic}
 use Rattle.gr_frame.specs.Bytes.{frame_bytes}
+use Rattle.gr_frame.specs.Gives.{fault}
+use Rattle.gr_frame.specs.Decode.{field_at, byte_at, kind_at, fields_of, frame_decoded}
+use Rattle.gr_frame.proofs.Fields.{bind_told, else_told, then_told, field_told}
+use Rattle.gr_note.specs.declared.note.Note.{Note}
+use Rattle.gr_note.specs.declared.note.Note.TheVariants.{Submit, Next, Spent}
+use Rattle.gr_note.specs.Bytes.{begins_note, note_bytes}
+use Rattle.gr_note.specs.Nodes.{client_node}
 use Rattle.gr_out.specs.Entry.{Entry}
+use Rattle.gr_out.specs.Entry as entry
 use Rattle.gr_sched.specs.declared.step.Line.{Line}
-use Rattle.gr_topo.specs.Topology.{TopologyView}
+use Rattle.gr_topo.specs.Topology.{TopologyView, host_of}
 use Rattle.gr_model.specs.declared.report.Report.{Report}
 use Rattle.gr_model.specs.declared.report.Report.TheVariants as line
-use Rattle.gr_model.specs.Net.{Net, numbers}
+use Rattle.gr_model.specs.Net.{Net}
 use Rattle.gr_model.specs.NetOf.{net_of}
 use Rattle.gr_model.specs.Broker.{Log, Outcome, publish, receive, wake}
 use Rattle.gr_model.specs.World.{World, Transition, view_of, log_of, unchanged, absorbed, in_turn, sent_line, sent_lines, sent_since, frames_past, deliver_frame, deliver_frame_by, publish_now_by, wake_for_by}
 use Rattle.gr_model.specs.Opening.{over_logs}
 use Rattle.gr_model.specs.Arrivals.{Arrival, datagram, quiet, Publish, publishes_of, left_after, fits_broker, least_clash, clash_line, fault_number, takes, receives, takes_by, receives_by, served, served_from, served_from_by, served_by}
 use Rattle.gr_model.specs.Headline.{is_sent, sent_number}
-use Rattle.gr_theorems.specs.Served.{tells_bytes, number_of_bytes, IsHonestAt, IsHonest, IsHonestRun}
+use Rattle.gr_theorems.specs.Served.{IsOfBytes, tells_bytes, number_of_bytes, IsHonestAt, IsHonest, IsHonestRun}
 use Rattle.gr_theorems.proofs.rules.Serves.{frames_past_all}
 use Rattle.gr_theorems.proofs.headline.ReplyLines.{frame_told}
-use Rattle.gr_node.specs.Plan.{Call, gets, publishes, wakes, Act, binds, starts, arrives, calls, closes, shows, is_ours, ours, called, arrival_acts, acts_from, closing, plan, act, entry_of, offers_of, entries, all_entries}
+use Rattle.gr_node.specs.Plan.{Call, gets, publishes, wakes, Act, binds, starts, arrives, calls, answers, drops, closes, shows, is_ours, ours, called, arrival_acts, acts_from, closing, nodes, plan, act, entry_of, offers_of, reply_to, reply_entry, entries, all_entries}
 use Rattle.gr_node.specs.Served.{is_offer_to, IsHonestEntry, IsHonestJournal}
 use Rattle.gr_node.proofs.Opening.{all_entries_append}
 use Rattle.gr_node.proofs.Planned.{arrival_is, passed_over, none_taken, ours_more, ours_same, begun_as}
 
 -- What entries offer, lines tell
 
--- to each offer there is a line of a frame that goes to the same broker in these bytes
+-- to each offer of what is no note there is a line of a frame that goes to the same broker in these bytes
 pub record Told (es : List Entry) (ls : List Report) : Type 0 where
-  pub tells : (b : ℕ) (bytes : List ℕ) → list_any (is_offer_to b bytes) es ≡ true → list_any (tells_bytes b bytes) ls ≡ true
+  pub tells : (b : ℕ) (bytes : List ℕ) → begins_note bytes ≡ false → list_any (is_offer_to b bytes) es ≡ true → list_any (tells_bytes b bytes) ls ≡ true
 
 -- no entry is no offer
 told_none : (ls : List Report) → Told [] ls
-told_none ls = record { tells = λ b bytes e. absurd (true≢false (sym e)) }
+told_none ls = record { tells = λ b bytes plain e. absurd (true≢false (sym e)) }
 
 -- some, and then more
 told_on : (es fs : List Entry) (ls ms : List Report) → Told es ls → Told fs ms → Told (es ++ fs) (ls ++ ms)
 told_on es fs ls ms t u = record { tells = on }
   where
-    on : (b : ℕ) (bytes : List ℕ) → list_any (is_offer_to b bytes) (es ++ fs) ≡ true → list_any (tells_bytes b bytes) (ls ++ ms) ≡ true
-    on b bytes e = go (or_cases (list_any (is_offer_to b bytes) es) (list_any (is_offer_to b bytes) fs) (sym (list_any-append (is_offer_to b bytes) es fs) ∙ e))
+    on : (b : ℕ) (bytes : List ℕ) → begins_note bytes ≡ false → list_any (is_offer_to b bytes) (es ++ fs) ≡ true → list_any (tells_bytes b bytes) (ls ++ ms) ≡ true
+    on b bytes plain e = go (or_cases (list_any (is_offer_to b bytes) es) (list_any (is_offer_to b bytes) fs) (sym (list_any-append (is_offer_to b bytes) es fs) ∙ e))
       where
         before : Bool
         before = list_any (tells_bytes b bytes) ls
@@ -54,8 +65,8 @@ told_on es fs ls ms t u = record { tells = on }
         after = list_any (tells_bytes b bytes) ms
 
         go : (list_any (is_offer_to b bytes) es ≡ true) ⊎ (list_any (is_offer_to b bytes) fs ≡ true) → list_any (tells_bytes b bytes) (ls ++ ms) ≡ true
-        go (inl h) = list_any-append (tells_bytes b bytes) ls ms ∙ or_left before after (t.tells b bytes h)
-        go (inr h) = list_any-append (tells_bytes b bytes) ls ms ∙ or_right before after (u.tells b bytes h)
+        go (inl h) = list_any-append (tells_bytes b bytes) ls ms ∙ or_left before after (t.tells b bytes plain h)
+        go (inr h) = list_any-append (tells_bytes b bytes) ls ms ∙ or_right before after (u.tells b bytes plain h)
 
 -- Frames
 
@@ -76,7 +87,7 @@ line_tells n b bytes f =
 
 -- the lines of frames tell their offers
 frames_told : (n : ℕ) (fs : List Frame) → Told (offers_of fs) (sent_lines n fs)
-frames_told n fs = record { tells = λ b bytes e. sym (same n b bytes fs) ∙ e }
+frames_told n fs = record { tells = λ b bytes plain e. sym (same n b bytes fs) ∙ e }
   where
     same : (n b : ℕ) (bytes : List ℕ) (fs : List Frame) → list_any (is_offer_to b bytes) (offers_of fs) ≡ list_any (tells_bytes b bytes) (sent_lines n fs)
     same n b bytes [] = refl
@@ -145,17 +156,37 @@ no_offer : (a : Arrival) (b : ℕ) (bytes : List ℕ) → is_offer_to b bytes (e
 no_offer (datagram c sent moment) b bytes = refl
 no_offer (quiet moment) b bytes = refl
 
--- an entry that is no offer
-told_one : (e : Entry) (ls : List Report) → ((b : ℕ) (bytes : List ℕ) → is_offer_to b bytes e ≡ false) → Told (e ∷ []) ls
-told_one e ls n = record { tells = λ b bytes h. absurd (true≢false (sym h ∙ ap (λ (x : Bool). x || false) (n b bytes))) }
+-- an entry that is no offer of what is no note
+told_one : (e : Entry) (ls : List Report) → ((b : ℕ) (bytes : List ℕ) → begins_note bytes ≡ false → is_offer_to b bytes e ≡ false) → Told (e ∷ []) ls
+told_one e ls n = record { tells = λ b bytes plain h. absurd (true≢false (sym h ∙ ap (λ (x : Bool). x || false) (n b bytes plain))) }
+
+-- a note begins as one
+note_begins : (n : Note) → begins_note (note_bytes n) ≡ true
+unfolding note_bytes
+note_begins (Submit p k e) = refl
+note_begins (Next p k) = refl
+note_begins (Spent p) = refl
+
+-- so an offer of a note is none of what is no note
+no_reply : (from to : ℕ) (n : Note) (b : ℕ) (bytes : List ℕ) → begins_note bytes ≡ false → is_offer_to b bytes (entry.offered from to (note_bytes n)) ≡ false
+no_reply from to n b bytes plain = go (cases_Bool (bytes_eq (note_bytes n) bytes))
+  where
+    go : (bytes_eq (note_bytes n) bytes ≡ true) ⊎ (bytes_eq (note_bytes n) bytes ≡ false) → (nat_eq to b && bytes_eq (note_bytes n) bytes) ≡ false
+    go (inl e) =
+        let same : note_bytes n ≡ bytes = (bytes_eq-Decides (note_bytes n) bytes).0 e in
+        absurd (true≢false (sym (note_begins n) ∙ (ap begins_note same ∙ plain)))
+    go (inr e) = ap (λ (x : Bool). nat_eq to b && x) e ∙ and-false (nat_eq to b)
 
 act_told : (t : TopologyView) (hosted : List ℕ) (w : World) (a : Act) → Told (entries t hosted w a) (act (net_of t) hosted w a).lines
 unfolding entries act
-act_told t hosted w (binds b) = record { tells = λ c bytes e. absurd (true≢false (sym e)) }
+act_told t hosted w (binds b) = record { tells = λ c bytes plain e. absurd (true≢false (sym e)) }
 act_told t hosted w (starts b) = told_none _
-act_told t hosted w (arrives a) = told_one (entry_of a) [] (no_offer a)
+act_told t hosted w (arrives a) = told_one (entry_of a) [] (λ b bytes plain. no_offer a b bytes)
 act_told t hosted w (calls c) = (called_tells (net_of t) w c).sent
-act_told t hosted w closes = record { tells = λ c bytes e. absurd (true≢false (sym e)) }
+act_told t hosted w (answers x) = let l : Log = log_of w x.0 in
+    told_one (reply_entry t l.last x) [] (no_reply (host_of t x.0) (client_node x.0) (reply_to l.last x))
+act_told t hosted w (drops l) = told_none (l ∷ [])
+act_told t hosted w closes = record { tells = λ c bytes plain e. absurd (true≢false (sym e)) }
 act_told t hosted w shows = told_none _
 
 -- what acts put into the journal, they tell
@@ -185,10 +216,34 @@ numbered b bytes (l ∷ ls) e =
           (x.0, ap (λ (c : Bool). if c then Some (sent_number l) else number_of_bytes b bytes ls) h ∙ x.1)
     ]
 
+-- bytes that decode to a frame begin otherwise than a note
+letters_told : (bytes : List ℕ) (f : Frame) → frame_decoded bytes ≡ Ok f → bytes ≡ 71 ∷ (75 ∷ drop 2 bytes)
+unfolding frame_decoded fields_of kind_at
+letters_told bytes f h =
+    let all = else_told (nat_lt 16384 (length bytes)) (fault TooLong 16384) (fields_of bytes) f h in
+    let kind = bind_told (kind_at bytes) _ f all.1 in
+    let field = bind_told (field_at bytes 0 2) _ kind.0 kind.1 in
+    let letters = field.0 in
+    let version = bind_told (if bytes_eq letters (71 ∷ (75 ∷ [])) then byte_at bytes 2 else Err (fault BadMagic 0)) _ kind.0 field.2 in
+    let test = then_told (bytes_eq letters (71 ∷ (75 ∷ []))) (fault BadMagic 0) (byte_at bytes 2) version.0 version.1 in
+    let spelled : letters ≡ 71 ∷ (75 ∷ []) = (bytes_eq-Decides letters (71 ∷ (75 ∷ []))).0 test.0 in
+    (field_told bytes 0 2 letters field.1).0 ∙ ap (λ l. l ++ drop 2 bytes) spelled
+
+-- so what begins as a note is no frame
+no_frame : (bytes : List ℕ) → begins_note bytes ≡ true → (f : FrameFault) × (frame_decoded bytes ≡ Err f)
+no_frame bytes noted = go (frame_decoded bytes) refl
+  where
+    go : (r : Result Frame FrameFault) → frame_decoded bytes ≡ r → (f : FrameFault) × (frame_decoded bytes ≡ Err f)
+    go (Err f) e = (f, e)
+    go (Ok f) e = absurd (true≢false (sym noted ∙ ap begins_note (letters_told bytes f e)))
+
 -- an entry that is honest is of an honest arrival
 arrival_honest : (es : List Entry) (ls : List Report) (a : Arrival) → Told es ls → IsHonestEntry es (entry_of a) → IsHonestAt ls a
 arrival_honest es ls (datagram b bytes moment) t (inl h) = inl h
-arrival_honest es ls (datagram b bytes moment) t (inr h) = inr (numbered b bytes ls (t.tells b bytes h))
+arrival_honest es ls (datagram b bytes moment) t (inr h) = elim (cases_Bool (begins_note bytes)) [
+  | inl noted ↦ inl (no_frame bytes noted)
+  | inr plain ↦ inr (numbered b bytes ls (t.tells b bytes plain h))
+]
 arrival_honest es ls (quiet moment) t h = tt
 
 -- one arrival, where those after it are honest
@@ -244,7 +299,7 @@ honest_run t hosted steps came closed logs h =
     let net : Net = net_of t in
     let w : World = over_logs net logs in
     let left : List Publish = publishes_of net hosted steps in
-    let bound : List Act = map binds (numbers (length t.brokers)) in
+    let bound : List Act = map binds (nodes t hosted) in
     let begun : List Act = bound ++ map starts hosted in
     let acts : List Act = acts_from net hosted left came in
     let more : List Act = closing closed ++ shows ∷ [] in
@@ -257,5 +312,13 @@ honest_run t hosted steps came closed logs h =
     let parts : IsHonestJournal [] (before ++ after) =
     subst (IsHonestJournal []) (ap (all_entries t hosted w) is ∙ all_entries_append t hosted w begun (acts ++ more)) h in
     subst (λ (u : Transition). IsHonest u.lines (ours hosted came) (served_from net hosted u.world left (ours hosted came)))
-    (begun_as net hosted (numbers (length t.brokers)) logs)
+    (begun_as net hosted (nodes t hosted) logs)
     (arrivals_honest t hosted left came more s.world before s.lines (acts_told t hosted begun w) (honest_past [] before after parts))
+
+-- What came at the hosted brokers is bytes, where all that came is
+pub bytes_ours : (hosted : List ℕ) (came : List Arrival) → AllByRecursion IsOfBytes came → AllByRecursion IsOfBytes (ours hosted came)
+bytes_ours hosted [] h = tt
+bytes_ours hosted (a ∷ came) h = elim (cases_Bool (is_ours hosted a)) [
+  | inl e ↦ subst (AllByRecursion IsOfBytes) (sym (ours_more hosted a came e)) (h.0, bytes_ours hosted came h.1)
+  | inr e ↦ subst (AllByRecursion IsOfBytes) (sym (ours_same hosted a came e)) (bytes_ours hosted came h.1)
+]

@@ -7,7 +7,8 @@ pub mod Wending
 pub mod Within
 pub mod Offering
 pub mod ShownLines
-pub mod BoundBrokers
+pub mod BoundNodes
+pub mod Notes
 pub mod StartingOrder
 pub mod StartingNodes
 pub mod StartingLanes

@@ -35,7 +35,7 @@ use Rattle.gr_run.proofs.Along.{flat_map_same}
 use Rattle.gr_run.proofs.Passing.{PassesLog, PassesRest, wake_passes, receive_passes}
 use Rattle.gr_node.specs.Seen.{NodeView, broker_in, records_at, records_in}
 use Rattle.gr_node.specs.Of.{Hosts}
-use Rattle.gr_node.specs.Plan.{Call, gets, publishes, wakes, Act, binds, starts, arrives, calls, closes, shows, is_ours, moment_of, offers_of, called, act, entries, all_entries}
+use Rattle.gr_node.specs.Plan.{Call, gets, publishes, wakes, Act, binds, starts, arrives, calls, answers, drops, closes, shows, is_ours, moment_of, offers_of, reply_entry, called, act, entries, all_entries}
 use Rattle.gr_node.specs.Done.{Done, taken_up, receipt_lines, receipt_frames, done_by, done_at, call_done, log_shown, log_shown_in, logs_shown, doubt_shown, doubts_by, doubts_shown, shown, done, all_done}
 pub use Rattle.gr_node.proofs.Taken.{IsShaped, IsNode}
 use Rattle.gr_node.proofs.Taken.{Does, offers_since, broker_here, said_by, exchanges_log, exchanges_view, logged_some, taken_is}
@@ -51,6 +51,8 @@ IsCallOf t hosted (wakes b p) = (is_among hosted b ≡ true) × (p < length t.pu
 -- an act once the hosted brokers have started
 abbrev pub IsActOf : TopologyView → List ℕ → Act → Type 0
 IsActOf t hosted (calls c) = IsCallOf t hosted c
+IsActOf t hosted (answers x) = IsCallOf t hosted (publishes x)
+IsActOf t hosted (drops l) = Unit {0}
 IsActOf t hosted (arrives a) = Unit {0}
 IsActOf t hosted closes = Unit {0}
 IsActOf t hosted shows = Unit {0}
@@ -452,6 +454,13 @@ moved_by t hosted n w (arrives a) passes rest i h k = record {
   node = arrival_node t hosted n w a (is_ours hosted a) i;
   hosts = arrival_hosts hosted n a (is_ours hosted a) h;
 }
+moved_by t hosted n w (answers x) passes rest i h k = record {
+  lines = refl;
+  entries = ap (λ (l : Log). reply_entry t l.last x ∷ []) (hosted_log t hosted n w i h x.0 k.0 k.1);
+  node = i;
+  hosts = h;
+}
+moved_by t hosted n w (drops l) passes rest i h k = record { lines = refl; entries = refl; node = i; hosts = h }
 moved_by t hosted n w closes passes rest i h k = record { lines = refl; entries = refl; node = i; hosts = h }
 moved_by t hosted n w shows passes rest i h k = record { lines = shown_is t hosted n w i h; entries = refl; node = i; hosts = h }
 moved_by t hosted n w (binds b) passes rest i h k = absurd k

@@ -1,6 +1,5 @@
--- One turn of a run: what came is an act, then come its calls, and then the page is written
+-- One turn of a run: what came is an act, then come those that it leads to, and then the page is written
 use Rattle.std.proofs.Common.{◌≡◌, ℕ, Bool, true, false, min, List, [], ◌∷◌, ◌++◌, map, drop, Option, Result, Ok, Err, IsOkUnless, OnOk, OnErr, if◌then◌else◌, refl, sym, ap, ◌∙◌, subst, arith, append-nil}
-use Rattle.gr_frame.specs.Decode.{frame_decoded}
 use Rattle.gr_out.specs.declared.fault.RunFault.{RunFault}
 use Rattle.gr_out.specs.declared.fault.RunFault.TheVariants as run
 use Rattle.gr_out.specs.Bytes.{with_more}
@@ -14,8 +13,9 @@ use Rattle.gr_sched.specs.declared.step.Line.{Line}
 use Rattle.gr_model.specs.NetOf.{net_of}
 use Rattle.gr_model.specs.Broker.{max_tick}
 use Rattle.gr_model.specs.Arrivals.{Arrival, datagram, quiet, Publish, publishes_of, left_after}
+use Rattle.gr_theorems.specs.Served.{IsOfBytes}
 use Rattle.gr_node.specs.Seen.{NodeView}
-use Rattle.gr_node.specs.Plan.{gets, Act, arrives, calls, closes, calls_of, quiet_calls, acts_from, closing, entry_of}
+use Rattle.gr_node.specs.Plan.{Act, arrives, calls, closes, datagram_acts, acts_of, quiet_calls, acts_from, closing, entry_of}
 use Rattle.gr_node.specs.Done.{at_arrival}
 use Rattle.gr_node.specs.Went.{Outside, outside, Went}
 use Rattle.gr_node.specs.Turns.{left_behind, Turned}
@@ -37,23 +37,23 @@ went_flushed t hosted tells acts n n' o taken taken' held held' journal (Err e) 
 -- that is for a broker elsewhere is passed over
 pub went_elsewhere : {T : Type 0} (t : TopologyView) (hosted : List ℕ) (tells : Type 0) (b : ℕ) (bytes : List ℕ) (moment : ℕ) (left : List Publish) (n n' : NodeView) (o o' : Outside) (r : Result T RunFault) → is_among hosted b ≡ false
     → Went {T = T} t hosted tells [] n n' o o' r
-    → Went {T = T} t hosted tells (map calls (calls_of (net_of t) hosted left (datagram b bytes moment))) (at_arrival hosted n (datagram b bytes moment)) n' o o' r
+    → Went {T = T} t hosted tells (acts_of (net_of t) hosted left (datagram b bytes moment)) (at_arrival hosted n (datagram b bytes moment)) n' o o' r
 went_elsewhere {T} t hosted tells b bytes moment left n n' o o' r e w =
-    subst (λ (here : Bool). Went {T = T} t hosted tells (map calls (if here then gets b (frame_decoded bytes) ∷ [] else []))
+    subst (λ (here : Bool). Went {T = T} t hosted tells (if here then datagram_acts (net_of t) b bytes else [])
     (if here then record { brokers = n.brokers; offers = n.offers; now = min moment max_tick } else n) n' o o' r)
     (sym e) w
 
--- one that is for a hosted broker is given to it, at its moment
+-- one that is for a hosted broker is taken there, at its moment
 pub went_here : {T : Type 0} (t : TopologyView) (hosted : List ℕ) (tells : Type 0) (b : ℕ) (bytes : List ℕ) (moment now : ℕ) (left : List Publish) (n n' : NodeView) (o o' : Outside) (r : Result T RunFault) → is_among hosted b ≡ true
-    → now ≡ min moment max_tick → Went {T = T} t hosted tells (calls (gets b (frame_decoded bytes)) ∷ []) (record { brokers = n.brokers; offers = n.offers; now = now }) n' o o' r
-    → Went {T = T} t hosted tells (map calls (calls_of (net_of t) hosted left (datagram b bytes moment))) (at_arrival hosted n (datagram b bytes moment)) n' o o' r
+    → now ≡ min moment max_tick → Went {T = T} t hosted tells (datagram_acts (net_of t) b bytes) (record { brokers = n.brokers; offers = n.offers; now = now }) n' o o' r
+    → Went {T = T} t hosted tells (acts_of (net_of t) hosted left (datagram b bytes moment)) (at_arrival hosted n (datagram b bytes moment)) n' o o' r
 went_here {T} t hosted tells b bytes moment now left n n' o o' r e clock w =
-    subst (λ (here : Bool). Went {T = T} t hosted tells (map calls (if here then gets b (frame_decoded bytes) ∷ [] else []))
+    subst (λ (here : Bool). Went {T = T} t hosted tells (if here then datagram_acts (net_of t) b bytes else [])
     (if here then record { brokers = n.brokers; offers = n.offers; now = min moment max_tick } else n) n' o o' r)
     (sym e)
-    (subst (λ k. Went {T = T} t hosted tells (calls (gets b (frame_decoded bytes)) ∷ []) (record { brokers = n.brokers; offers = n.offers; now = k }) n' o o' r) clock w)
+    (subst (λ k. Went {T = T} t hosted tells (datagram_acts (net_of t) b bytes) (record { brokers = n.brokers; offers = n.offers; now = k }) n' o o' r) clock w)
 
--- A quiet moment: the clock moves, and then come its calls
+-- A quiet moment: the clock moves, and then come its acts
 pub went_quiet : {T : Type 0} (t : TopologyView) (hosted : List ℕ) (tells : Type 0) (left : List Publish) (moment now : ℕ) (n n' : NodeView) (o o' : Outside) (r : Result T RunFault) → now ≡ min moment max_tick
     → Went {T = T} t hosted tells (map calls (quiet_calls (net_of t) hosted left)) (record { brokers = n.brokers; offers = n.offers; now = now }) n' o o' r
     → Went {T = T} t hosted tells (map calls (quiet_calls (net_of t) hosted left)) (at_arrival hosted n (quiet moment)) n' o o' r
@@ -63,20 +63,20 @@ went_quiet {T} t hosted tells left moment now n n' o o' r e w =
 -- A turn
 
 -- the acts of an arrival alone
-acts_of_one : (t : TopologyView) (hosted : List ℕ) (left : List Publish) (a : Arrival) → (arrives a ∷ []) ++ map calls (calls_of (net_of t) hosted left a) ≡ acts_from (net_of t) hosted left (a ∷ []) ++ closing false
+acts_of_one : (t : TopologyView) (hosted : List ℕ) (left : List Publish) (a : Arrival) → (arrives a ∷ []) ++ acts_of (net_of t) hosted left a ≡ acts_from (net_of t) hosted left (a ∷ []) ++ closing false
 unfolding acts_from
 acts_of_one t hosted left a =
-    let acts : List Act = arrives a ∷ map calls (calls_of (net_of t) hosted left a) in
+    let acts : List Act = arrives a ∷ acts_of (net_of t) hosted left a in
     sym (append-nil (acts ++ []) ∙ append-nil acts)
 
--- an arrival and then its calls, as far as code went
+-- an arrival and then its acts, as far as code went
 came_on : {T : Type 0} (t : TopologyView) (hosted : List ℕ) (tells : Type 0) (left : List Publish) (a : Arrival) (n n' : NodeView) (taken : Option (List ℕ)) (held : List ℕ) (before came : List Entry) (o' : Outside) (r : Result T RunFault)
     → (tells → came ≡ before ++ entry_of a ∷ [])
-    → Went {T = T} t hosted tells (map calls (calls_of (net_of t) hosted left a)) (at_arrival hosted n a) n' (outside taken held came) o' r
+    → Went {T = T} t hosted tells (acts_of (net_of t) hosted left a) (at_arrival hosted n a) n' (outside taken held came) o' r
     → Went {T = T} t hosted tells (acts_from (net_of t) hosted left (a ∷ []) ++ closing false) n n' (outside taken held before) o' r
 came_on {T} t hosted tells left a n n' taken held before came o' r put w =
     subst (λ acts. Went {T = T} t hosted tells acts n n' (outside taken held before) o' r) (acts_of_one t hosted left a)
-    (went_on t hosted tells (arrives a ∷ []) (map calls (calls_of (net_of t) hosted left a)) n (at_arrival hosted n a) n' (outside taken held before) (outside taken held came) o' r
+    (went_on t hosted tells (arrives a ∷ []) (acts_of (net_of t) hosted left a) n (at_arrival hosted n a) n' (outside taken held before) (outside taken held came) o' r
     (made_arrives t hosted tells a n (at_arrival hosted n a) (outside taken held before) (outside taken held came) refl refl refl put) w)
 
 -- what is left after one arrival
@@ -86,16 +86,17 @@ left_one left a = refl
 
 -- A turn that took what came
 pub turned_on : (t : TopologyView) (hosted : List ℕ) (tells : Type 0) (steps : List Line) (next next' : ℕ) (a : Arrival) (n n' : NodeView) (taken : Option (List ℕ)) (held : List ℕ) (before came : List Entry) (o' : Outside) (x : Unit {0})
-    → (tells → came ≡ before ++ entry_of a ∷ [])
-    → Went {T = Unit {0}} t hosted tells (map calls (calls_of (net_of t) hosted (publishes_of (net_of t) hosted (drop next steps)) a)) (at_arrival hosted n a) n' (outside taken held came) o' (Ok x)
+    → IsOfBytes a → (tells → came ≡ before ++ entry_of a ∷ [])
+    → Went {T = Unit {0}} t hosted tells (acts_of (net_of t) hosted (publishes_of (net_of t) hosted (drop next steps)) a) (at_arrival hosted n a) n' (outside taken held came) o' (Ok x)
     → publishes_of (net_of t) hosted (drop next' steps) ≡ left_after (publishes_of (net_of t) hosted (drop next steps)) a
     → Turned t hosted tells steps next next' n n' (outside taken held before) o' (Ok true)
-turned_on t hosted tells steps next next' a n n' taken held before came o' x put w left =
+turned_on t hosted tells steps next next' a n n' taken held before came o' x bytes put w left =
     let all : List Act = acts_from (net_of t) hosted (publishes_of (net_of t) hosted (drop next steps)) (a ∷ []) ++ closing false in
     record {
       came = a ∷ [];
       shut = false;
       ends = (refl, refl);
+      bytes = (bytes, tt);
       went = went_ok t hosted tells all n n' (outside taken held before) o' true
           (all_made t hosted tells all n n' (outside taken held before) o' x
           (came_on t hosted tells (publishes_of (net_of t) hosted (drop next steps)) a n n' taken held before came o' (Ok x) put w));
@@ -104,15 +105,16 @@ turned_on t hosted tells steps next next' a n n' taken held before came o' x put
 
 -- one that ended within what came
 pub turned_cut : (t : TopologyView) (hosted : List ℕ) (tells : Type 0) (steps : List Line) (next next' : ℕ) (a : Arrival) (n n' : NodeView) (taken : Option (List ℕ)) (held : List ℕ) (before came : List Entry) (o' : Outside) (e : RunFault)
-    → (tells → came ≡ before ++ entry_of a ∷ [])
-    → Went {T = Unit {0}} t hosted tells (map calls (calls_of (net_of t) hosted (publishes_of (net_of t) hosted (drop next steps)) a)) (at_arrival hosted n a) n' (outside taken held came) o' (Err e)
+    → IsOfBytes a → (tells → came ≡ before ++ entry_of a ∷ [])
+    → Went {T = Unit {0}} t hosted tells (acts_of (net_of t) hosted (publishes_of (net_of t) hosted (drop next steps)) a) (at_arrival hosted n a) n' (outside taken held came) o' (Err e)
     → Turned t hosted tells steps next next' n n' (outside taken held before) o' (Err e)
-turned_cut t hosted tells steps next next' a n n' taken held before came o' e put w =
+turned_cut t hosted tells steps next next' a n n' taken held before came o' e bytes put w =
     let all : List Act = acts_from (net_of t) hosted (publishes_of (net_of t) hosted (drop next steps)) (a ∷ []) ++ closing false in
     record {
       came = a ∷ [];
       shut = false;
       ends = (omega arith, refl);
+      bytes = (bytes, tt);
       went = went_as {T = Unit {0}} {U = Bool} t hosted tells all n n' (outside taken held before) o' e
           (came_on t hosted tells (publishes_of (net_of t) hosted (drop next steps)) a n n' taken held before came o' (Err e) put w);
       left = tt;
@@ -133,6 +135,7 @@ turned_shut t hosted tells steps next next' n n' taken held before after e put s
       came = [];
       shut = true;
       ends = (refl, refl);
+      bytes = tt;
       went = subst (λ acts. Went {T = Bool} t hosted tells acts n n' (outside taken held before) (outside taken held after) (Ok false)) (sym (acts_shut t hosted left true))
           (went_ok t hosted tells (closes ∷ []) n n' (outside taken held before) (outside taken held after) false
           (made_closes t hosted tells n n' (outside taken held before) (outside taken held after) e refl refl put));
@@ -148,6 +151,7 @@ turned_failed t hosted tells steps next next' n n' taken held before after e put
       came = [];
       shut = false;
       ends = (omega arith, refl);
+      bytes = tt;
       went = subst (λ acts. Went {T = Bool} t hosted tells acts n n' (outside taken held before) (outside taken held after) (Err run.Post)) (sym (acts_shut t hosted left false))
           (went_failed t hosted tells n n' (outside taken held before) (outside taken held after) e refl refl put);
       left = tt;
@@ -162,6 +166,7 @@ turned_refused t hosted tells steps next next' n n' taken held before after put 
       came = [];
       shut = false;
       ends = (omega arith, refl);
+      bytes = tt;
       went = went_front t hosted tells (acts_from (net_of t) hosted left [] ++ closing false) n n' (outside taken held before) (outside taken held after) run.Memory tt
           (front-nothing taken taken _ refl) (λ h. begins_nothing before after _ (put h ∙ append-nil before));
       left = tt;

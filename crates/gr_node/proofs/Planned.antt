@@ -1,22 +1,28 @@
 -- The acts of a plan, one after another, are what the machine serves of what came at the hosted brokers: an arrival's acts are
 -- what the machine does when it comes, and nothing where it came at another broker
-use Rattle.std.proofs.Common.{◌≡◌, ℕ, ◌⊎◌, Bool, true, false, inl, inr, List, [], ◌∷◌, ◌++◌, map, length, refl, sym, ap, ◌∙◌, append-nil, append_assoc}
+use Rattle.std.proofs.Common.{◌≡◌, ℕ, ◌⊎◌, Bool, true, false, inl, inr, List, [], ◌∷◌, ◌++◌, map, length, Option, Some, None, Result, Ok, Err, refl, sym, ap, ◌∙◌, append-nil, append_assoc}
 use Rattle.std.specs.Prelude.{if◌then◌else◌, filter, flat_map}
 use Rattle.std.proofs.lemmas.Bool.{cases_Bool, true≢false}
 use Rattle.std.proofs.lemmas.List.{map-append}
 use Rattle.gr_frame.specs.Decode.{frame_decoded}
+use Rattle.gr_note.specs.declared.note.Note.{Note}
+use Rattle.gr_note.specs.declared.fault.NoteFault.{NoteFault}
+use Rattle.gr_note.specs.Fault as note
+use Rattle.gr_note.specs.Bytes.{begins_note}
+use Rattle.gr_note.specs.Decode.{note_decoded}
 use Rattle.gr_out.specs.Journal.{is_among}
 use Rattle.gr_sched.specs.declared.step.Line.{Line}
 use Rattle.gr_topo.specs.Topology.{TopologyView}
 use Rattle.gr_model.specs.declared.report.Report.{Report}
+use Rattle.gr_model.specs.declared.report.Report.TheVariants as line
 use Rattle.gr_model.specs.Net.{Net, is_host, numbers}
 use Rattle.gr_model.specs.NetOf.{net_of}
 use Rattle.gr_model.specs.Broker.{Log}
 use Rattle.gr_model.specs.World.{World, Transition, unchanged, followed_by, in_turn, publish_now, wake_for, wake_all, wake_all_by}
 use Rattle.gr_model.specs.Opening.{over_logs, opened_for, publishers_at, opening, opening_by}
-use Rattle.gr_model.specs.Arrivals.{Arrival, datagram, quiet, Publish, publishes_of, left_after, at_moment, is_hosted, receives, published_first, quieted, quieted_by, comes, comes_by, show_hosted, served_from, served_from_by, arrived, arrived_by, served, served_by}
+use Rattle.gr_model.specs.Arrivals.{Arrival, datagram, quiet, Publish, publishes_of, left_after, at_moment, is_hosted, publisher_of, submitted_in, receives, notes, notes_by, reads, published_first, quieted, quieted_by, comes, comes_by, show_hosted, served_from, served_from_by, arrived, arrived_by, served, served_by}
 use Rattle.gr_theorems.specs.Served.{joined}
-use Rattle.gr_node.specs.Plan.{Act, binds, starts, calls, shows, gets, wakes, is_ours, ours, publish_calls, wake_calls, quiet_calls, arrival_acts, acts_from, closing, run_acts, plan, act}
+use Rattle.gr_node.specs.Plan.{Act, binds, starts, calls, shows, gets, wakes, is_ours, ours, publish_calls, wake_calls, quiet_calls, submit_acts, note_acts, datagram_acts, arrival_acts, acts_from, closing, run_acts, nodes, plan, act}
 use Rattle.gr_node.proofs.Opening.{in_turn_append, binds_nothing}
 
 -- One after another
@@ -104,14 +110,37 @@ quieted_as net hosted left w =
     ∙ (ap (λ (s : Transition). followed_by s later) (published_as net hosted left w)
     ∙ followed_same first later (in_turn (wake_all net) hosted) (all_woken net hosted hosted first.world)))
 
+-- what a note submits
+submitted_as : (net : Net) (hosted : List ℕ) (b p : ℕ) (o : Option Publish) (u : World) → in_turn (act net hosted) (submit_acts b p o) u
+    ≡ elim o [ Some x ↦ publish_now net u x.0 x.1.0 x.1.1 | None ↦ unchanged u (line.DroppedStrayNote b p ∷ []) ]
+unfolding act
+submitted_as net hosted b p None u = followed_none (unchanged u (line.DroppedStrayNote b p ∷ []))
+submitted_as net hosted b p (Some x) u = followed_none (publish_now net u x.0 x.1.0 x.1.1)
+
+-- a note
+noted_as : (net : Net) (hosted : List ℕ) (b : ℕ) (r : Result Note NoteFault) (u : World) → in_turn (act net hosted) (note_acts net b r) u ≡ notes net u b r
+unfolding act notes_by
+noted_as net hosted b (Err fault) u = followed_none (unchanged u (line.DroppedBadNote b (note.fault_number fault.kind) fault.at ∷ []))
+noted_as net hosted b (Ok n) u = submitted_as net hosted b (publisher_of n) (submitted_in net b n) u
+
+-- a datagram at a hosted broker
+read_as : (net : Net) (hosted : List ℕ) (b : ℕ) (bytes : List ℕ) (u : World) → in_turn (act net hosted) (datagram_acts net b bytes) u ≡ reads net u b bytes
+unfolding act
+read_as net hosted b bytes u = go (begins_note bytes)
+  where
+    go : (c : Bool) → in_turn (act net hosted) (elim c [ true ↦ note_acts net b (note_decoded bytes) | false ↦ calls (gets b (frame_decoded bytes)) ∷ [] ]) u
+        ≡ elim c [ true ↦ notes net u b (note_decoded bytes) | false ↦ receives net u b (frame_decoded bytes) ]
+    go true = noted_as net hosted b (note_decoded bytes) u
+    go false = followed_none (receives net u b (frame_decoded bytes))
+
 -- where it came at a hosted broker, or at a quiet moment, its acts are what the machine does
 pub arrival_is : (net : Net) (hosted : List ℕ) (left : List Publish) (a : Arrival) (w : World)
     → is_ours hosted a ≡ true → in_turn (act net hosted) (arrival_acts net hosted left a) w ≡ comes net hosted w left a
 unfolding act comes_by
 arrival_is net hosted left (datagram b bytes moment) w e =
     ap (λ (c : Bool). followed_by (unchanged (if c then at_moment w moment else w) [])
-    (in_turn (act net hosted) (map calls (if c then gets b (frame_decoded bytes) ∷ [] else [])))) e
-    ∙ followed_none (receives net (at_moment w moment) b (frame_decoded bytes))
+    (in_turn (act net hosted) (if c then datagram_acts net b bytes else []))) e
+    ∙ read_as net hosted b bytes (at_moment w moment)
 arrival_is net hosted left (quiet moment) w e = quieted_as net hosted left (at_moment w moment)
 
 -- and where it came at another they do nothing
@@ -120,7 +149,7 @@ pub passed_over : (net : Net) (hosted : List ℕ) (left : List Publish) (a : Arr
 unfolding act
 passed_over net hosted left (datagram b bytes moment) w e =
     ap (λ (c : Bool). followed_by (unchanged (if c then at_moment w moment else w) [])
-    (in_turn (act net hosted) (map calls (if c then gets b (frame_decoded bytes) ∷ [] else [])))) e
+    (in_turn (act net hosted) (if c then datagram_acts net b bytes else []))) e
 passed_over net hosted left (quiet moment) w e = absurd (true≢false e)
 
 -- such an arrival takes no publish
@@ -243,7 +272,7 @@ plan_is_served t hosted steps came closed logs =
     w = over_logs net logs
 
     bs : List ℕ
-    bs = numbers (length t.brokers)
+    bs = nodes t hosted
 
     done : World → Act → Transition
     done = act net hosted

@@ -1,5 +1,6 @@
 -- A run, turn by turn: what came so far was taken, and the next turn takes what comes then
 use Rattle.std.proofs.Common.{◌≡◌, ◌≢◌, ◌⊎◌, inl, inr, ℕ, ◌+◌, ◌<◌, ◌≤◌, Bool, true, false, List, [], ◌∷◌, ◌++◌, length, drop, Result, Ok, Err, OnOk, refl, sym, ap, ap₂, ◌∙◌, subst, arith, append_assoc, append-nil, length-append}
+use Rattle.std.specs.List.{AllByRecursion}
 use Rattle.gr_out.specs.declared.fault.RunFault.{RunFault}
 use Rattle.gr_out.specs.declared.fault.RunFault.TheVariants as run
 use Rattle.gr_out.proofs.Fronts.{front-nothing}
@@ -8,10 +9,12 @@ use Rattle.gr_sched.specs.declared.step.Line.{Line}
 use Rattle.gr_model.specs.Net.{Net}
 use Rattle.gr_model.specs.NetOf.{net_of}
 use Rattle.gr_model.specs.Arrivals.{Arrival, Publish, publishes_of, left_after}
+use Rattle.gr_theorems.specs.Served.{IsOfBytes}
 use Rattle.gr_node.specs.Seen.{NodeView}
 use Rattle.gr_node.specs.Plan.{Act, arrival_acts, acts_from, closing, run_acts}
 use Rattle.gr_node.specs.Went.{Outside, Went, IsExact}
 use Rattle.gr_node.specs.Turns.{left_behind, Turned}
+use Rattle.gr_node.proofs.Acting.{all_append}
 use Rattle.gr_node.proofs.Wending.{MadeAll, made_none, all_made, went_ok, went_on, went_as, went_front, begins_nothing}
 
 -- what is left after more came
@@ -32,6 +35,7 @@ acts_later net hosted left (a ∷ came) more =
 pub record SoFar (t : TopologyView) (hosted : List ℕ) (tells : Type 0) (steps : List Line) (next count : ℕ) (n n' : NodeView) (o o' : Outside) : Type 0 where
   pub came : List Arrival
   pub length_is : length came ≡ count
+  pub bytes : AllByRecursion IsOfBytes came
   pub left : publishes_of (net_of t) hosted (drop next steps) ≡ left_behind (publishes_of (net_of t) hosted steps) came
   pub goes : MadeAll t hosted tells (acts_from (net_of t) hosted (publishes_of (net_of t) hosted steps) came) n n' o o'
 
@@ -39,7 +43,7 @@ pub record SoFar (t : TopologyView) (hosted : List ℕ) (tells : Type 0) (steps 
 pub none_came : (t : TopologyView) (hosted : List ℕ) (tells : Type 0) (steps : List Line) (next : ℕ) (n : NodeView) (o : Outside) → publishes_of (net_of t) hosted (drop next steps) ≡ publishes_of (net_of t) hosted steps
     → SoFar t hosted tells steps next 0 n n o o
 unfolding left_behind acts_from
-none_came t hosted tells steps next n o e = record { came = []; length_is = refl; left = e; goes = made_none t hosted tells n n o o refl refl refl refl }
+none_came t hosted tells steps next n o e = record { came = []; length_is = refl; bytes = tt; left = e; goes = made_none t hosted tells n n o o refl refl refl refl }
 
 -- a turn's acts stand behind those before
 turn_on : {T : Type 0} (t : TopologyView) (hosted : List ℕ) (tells : Type 0) (steps : List Line) (next count : ℕ) (n m n' : NodeView) (o u o' : Outside) (came : List Arrival) (shut : Bool) (r : Result T RunFault)
@@ -64,6 +68,7 @@ more_came t hosted tells steps next next' count n m n' o u o' goes_on e s turned
     record {
       came = s.came ++ w.came;
       length_is = length-append s.came w.came ∙ ap₂ (λ a b. a + b) s.length_is w.ends.0;
+      bytes = all_append IsOfBytes s.came w.came s.bytes w.bytes;
       left = w.left ∙ ap (λ left. left_behind left w.came) s.left ∙ left_later (publishes_of (net_of t) hosted steps) s.came w.came;
       goes = subst (λ acts. MadeAll t hosted tells acts n n' o o') (ap (λ shut. all ++ closing shut) w.ends.1 ∙ append-nil all)
           (all_made t hosted tells (run_acts (net_of t) hosted steps (s.came ++ w.came) w.shut) n n' o o' true went);
@@ -72,8 +77,8 @@ more_came t hosted tells steps next next' count n m n' o u o' goes_on e s turned
 -- How a run ended: what came, whether nothing comes any more, and its acts as far as they were made
 abbrev pub Ran : (t : TopologyView) (hosted : List ℕ) (tells : Type 0) (steps : List Line) (turns : ℕ) (n n' : NodeView) (o o' : Outside) (result : Result (Unit {0}) RunFault) → Type 0
 Ran t hosted tells steps turns n n' o o' result =
-    (came : List Arrival) × ((shut : Bool) × ((length came ≤ turns) × (OnOk result ((shut ≡ true) ⊎ (length came ≡ turns))
-    × Went {T = Unit {0}} t hosted tells (run_acts (net_of t) hosted steps came shut) n n' o o' result)))
+    (came : List Arrival) × ((shut : Bool) × ((length came ≤ turns) × (AllByRecursion IsOfBytes came × (OnOk result ((shut ≡ true) ⊎ (length came ≡ turns))
+    × Went {T = Unit {0}} t hosted tells (run_acts (net_of t) hosted steps came shut) n n' o o' result))))
 
 -- with as many turns as it may have
 pub ran_all : (t : TopologyView) (hosted : List ℕ) (tells : Type 0) (steps : List Line) (next count turns : ℕ) (n n' : NodeView) (o o' : Outside) (x : Unit {0}) → count ≡ turns → SoFar t hosted tells steps next count n n' o o'
@@ -87,8 +92,11 @@ ran_all t hosted tells steps next count turns n n' o o' x e s =
         (
           omega (arith, length_is),
           (
-            inr length_is,
-            subst (λ acts. Went {T = Unit {0}} t hosted tells acts n n' o o' (Ok x)) (sym (append-nil all)) (went_ok t hosted tells all n n' o o' x s.goes),
+            s.bytes,
+            (
+              inr length_is,
+              subst (λ acts. Went {T = Unit {0}} t hosted tells acts n n' o o' (Ok x)) (sym (append-nil all)) (went_ok t hosted tells all n n' o o' x s.goes),
+            ),
           ),
         ),
       ),
@@ -107,8 +115,11 @@ ran_shut t hosted tells steps next next' count turns n m n' o u o' x goes_on e h
         (
           omega (arith, length_is, h),
           (
-            inl w.ends.1,
-            went_ok t hosted tells all n n' o o' x (all_made t hosted tells all n n' o o' false (turn_on t hosted tells steps next count n m n' o u o' w.came w.shut (Ok false) s w.went)),
+            all_append IsOfBytes s.came w.came s.bytes w.bytes,
+            (
+              inl w.ends.1,
+              went_ok t hosted tells all n n' o o' x (all_made t hosted tells all n n' o o' false (turn_on t hosted tells steps next count n m n' o u o' w.came w.shut (Ok false) s w.went)),
+            ),
           ),
         ),
       ),
@@ -126,8 +137,11 @@ ran_cut t hosted tells steps next next' count turns n m n' o u o' e h s w =
         (
           omega (arith, length_is, h, w.ends.0),
           (
-            tt,
-            went_as {T = Bool} {U = Unit {0}} t hosted tells all n n' o o' e (turn_on t hosted tells steps next count n m n' o u o' w.came w.shut (Err e) s w.went),
+            all_append IsOfBytes s.came w.came s.bytes w.bytes,
+            (
+              tt,
+              went_as {T = Bool} {U = Unit {0}} t hosted tells all n n' o o' e (turn_on t hosted tells steps next count n m n' o u o' w.came w.shut (Err e) s w.went),
+            ),
           ),
         ),
       ),
@@ -143,8 +157,11 @@ ran_none t hosted tells steps turns n o = (
       omega arith,
       (
         tt,
-        went_front t hosted tells (run_acts (net_of t) hosted steps [] false) n n o o run.Memory tt
-            (front-nothing o.taken o.taken _ refl) (λ h. begins_nothing o.journal o.journal _ refl),
+        (
+          tt,
+          went_front t hosted tells (run_acts (net_of t) hosted steps [] false) n n o o run.Memory tt
+              (front-nothing o.taken o.taken _ refl) (λ h. begins_nothing o.journal o.journal _ refl),
+        ),
       ),
     ),
   ),

@@ -1,6 +1,6 @@
 -- Acts that were made one after another are made as one list. What stands outside then is that of the first with what the
 -- others put behind it, since the page holds back what the sink has not taken and a journal only grows
-use Rattle.std.proofs.Common.{◌≡◌, ◌≢◌, ℕ, Bool, true, suc, ◌+◌, List, [], ◌∷◌, ◌++◌, length, Option, Result, Ok, Err, IfErr, OnOk, OnErr, refl, sym, ap, ap₂, ◌∙◌, subst, append_assoc, append-nil}
+use Rattle.std.proofs.Common.{◌≡◌, ◌≢◌, ℕ, Bool, true, suc, ◌+◌, List, [], ◌∷◌, ◌++◌, length, Option, Result, Ok, Err, IfErr, OnOk, OnErr, IsOkUnless, refl, sym, ap, ap₂, ◌∙◌, subst, append_assoc, append-nil}
 use Rattle.gr_frame.specs.declared.Frame.{Frame}
 use Rattle.gr_frame.specs.Cut.{AreFrames}
 use Rattle.gr_out.specs.declared.fault.RunFault.{RunFault}
@@ -10,15 +10,16 @@ use Rattle.gr_out.specs.Entry.{Entry}
 use Rattle.gr_out.specs.Entry as entry
 use Rattle.gr_out.specs.Page.{TakesBut, TakesFront}
 use Rattle.gr_out.proofs.Fronts.{but-nothing, but-later, but-all, front-nothing, front-more, front-later, front-held, taken-whole, on_fault}
+use Rattle.gr_pubend.specs.Log.{Log, log_of}
 use Rattle.gr_topo.specs.Topology.{TopologyView}
 use Rattle.gr_model.specs.declared.report.Report.{Report}
 use Rattle.gr_model.specs.Text.{labels_of, whole_line}
 use Rattle.gr_model.specs.World.{sent_lines}
-use Rattle.gr_model.specs.Arrivals.{Arrival}
+use Rattle.gr_model.specs.Arrivals.{Arrival, Publish}
 use Rattle.gr_broker.specs.declared.outcome.Outcome.{Outcome}
 use Rattle.gr_run.specs.Named.{IsPutFault}
-use Rattle.gr_node.specs.Seen.{NodeView, text_of}
-use Rattle.gr_node.specs.Plan.{Call, Act, arrives, calls, closes, entry_of, offers_of}
+use Rattle.gr_node.specs.Seen.{NodeView, records_in, text_of}
+use Rattle.gr_node.specs.Plan.{Call, Act, arrives, calls, answers, drops, closes, entry_of, offers_of, reply_entry}
 use Rattle.gr_node.specs.Done.{Done, and_then, done, all_done, call_done, at_arrival}
 use Rattle.gr_node.specs.Went.{Outside, outside, IsCallFault, IsTurnFault, fault_entries, uses_disk, FirstIs, Begins, Went, Makes}
 use Rattle.std.proofs.lemmas.Grind.{flat_map-append}
@@ -258,6 +259,12 @@ went_front t hosted tells acts n n' o o' run.Disk why front begins = absurd why
 went_front t hosted tells acts n n' o o' (run.Damaged p at) why front begins = absurd why
 went_front t hosted tells acts n n' o o' run.Post why front begins = absurd why
 
+-- for want of memory, with nothing done
+pub went_memory : {T : Type 0} (t : TopologyView) (hosted : List ℕ) (tells : Type 0) (acts : List Act) (n : NodeView) (o : Outside) (e : RunFault) → e ≡ run.Memory → Went {T = T} t hosted tells acts n n o o (Err e)
+went_memory {T} t hosted tells acts n o e is =
+    subst (λ (f : RunFault). Went {T = T} t hosted tells acts n n o o (Err f)) (sym is)
+    (went_front t hosted tells acts n n o o run.Memory tt (front-nothing o.taken o.taken _ refl) (λ h. begins_nothing o.journal o.journal _ refl))
+
 -- The first act was refused: its broker, or the disk, had no memory, or the disk failed. Nothing outside has changed
 pub went_refused : {T : Type 0} (t : TopologyView) (hosted : List ℕ) (tells : Type 0) (a : Act) (acts : List Act) (n n' : NodeView) (o : Outside) (e : RunFault) → IsCallFault e → (e ≡ run.Disk → uses_disk a ≡ true)
     → Went {T = T} t hosted tells (a ∷ acts) n n' o o (Err e)
@@ -320,6 +327,49 @@ made_closes t hosted tells n n' o o' e taken held journal = record {
   told = subst (λ xs. TakesBut o.taken o'.taken (o.held ++ []) xs) (append-nil o.held ∙ sym held) (but-nothing o.taken o'.taken (o.held ++ []) taken);
   sent = journal;
 }
+
+-- what was submitted is answered
+pub went_answers : {T : Type 0} (t : TopologyView) (hosted : List ℕ) (tells : Type 0) (x : Publish) (n : NodeView) (taken : Option (List ℕ)) (held : List ℕ) (before after : List Entry) (r : Result T RunFault)
+    → (tells → OnOk r (after ≡ before ++ reply_entry t (let l : Log = log_of (records_in t n x.0) in l.last) x ∷ [])) → (tells → OnErr r (after ≡ before)) → IsOkUnless r run.Memory
+    → Went {T = T} t hosted tells (answers x ∷ []) n n (outside taken held before) (outside taken held after) r
+unfolding all_done done
+went_answers t hosted tells x n taken held before after (Ok y) sent unsent cause = went_ok t hosted tells (answers x ∷ []) n n (outside taken held before) (outside taken held after) y (record {
+  node = refl;
+  told = subst (λ xs. TakesBut taken taken (held ++ []) xs) (append-nil held) (but-nothing taken taken (held ++ []) refl);
+  sent = sent;
+})
+went_answers {T} t hosted tells x n taken held before after (Err e) sent unsent cause =
+    subst (λ (f : RunFault). Went {T = T} t hosted tells (answers x ∷ []) n n (outside taken held before) (outside taken held after) (Err f)) (sym cause)
+    (went_front t hosted tells (answers x ∷ []) n n (outside taken held before) (outside taken held after) run.Memory tt
+    (front-nothing taken taken (held ++ []) refl) (λ h. begins_nothing before after _ (unsent h)))
+
+-- an answer ends early for want of memory alone
+pub answer_fault : {T : Type 0} (r : Result T RunFault) → IsOkUnless r run.Memory → IfErr r IsTurnFault
+answer_fault (Ok x) h = tt
+answer_fault (Err e) h = subst IsTurnFault (sym h) tt
+
+-- and a line that could not be put is one of a turn
+pub put_fault : {T : Type 0} (r : Result T RunFault) → IfErr r IsPutFault → IfErr r IsTurnFault
+put_fault (Ok x) h = tt
+put_fault (Err run.Memory) h = tt
+put_fault (Err run.Write) h = tt
+put_fault (Err run.Disk) h = absurd h
+put_fault (Err run.Post) h = absurd h
+put_fault (Err (run.Damaged p at)) h = absurd h
+
+-- a note is dropped with its line
+pub went_dropped : {T : Type 0} (t : TopologyView) (hosted : List ℕ) (tells : Type 0) (l : Report) (n : NodeView) (taken taken' : Option (List ℕ)) (held held' : List ℕ) (journal : List Entry) (r : Result T RunFault)
+    → OnOk r (TakesBut taken taken' (held ++ whole_line (labels_of t) l) held') → OnErr r (TakesFront taken taken' (held ++ whole_line (labels_of t) l)) → IfErr r IsPutFault
+    → Went {T = T} t hosted tells (drops l ∷ []) n n (outside taken held journal) (outside taken' held' journal) r
+unfolding all_done done
+went_dropped t hosted tells l n taken taken' held held' journal (Ok x) told front cause = went_ok t hosted tells (drops l ∷ []) n n (outside taken held journal) (outside taken' held' journal) x (record {
+  node = refl;
+  told = subst (λ xs. TakesBut taken taken' (held ++ xs) held') (sym (append-nil (whole_line (labels_of t) l))) told;
+  sent = λ h. sym (append-nil journal);
+})
+went_dropped t hosted tells l n taken taken' held held' journal (Err e) told front cause =
+    went_front t hosted tells (drops l ∷ []) n n (outside taken held journal) (outside taken' held' journal) e cause
+    (subst (λ xs. TakesFront taken taken' (held ++ xs)) (sym (append-nil (whole_line (labels_of t) l))) front) (λ h. begins_nothing journal journal _ refl)
 
 -- so many frames as there are bytes of frames
 frames_count : (bytes : List (List ℕ)) (frames : List Frame) → AreFrames bytes frames → length bytes ≡ length frames

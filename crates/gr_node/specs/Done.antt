@@ -16,7 +16,8 @@ use Rattle.gr_broker.specs.Seen.{BrokerView, view_in}
 use Rattle.gr_broker.specs.Hosted.{publish_at, after_publish, wake_at, after_wake}
 use Rattle.gr_broker.specs.Receipt.{Receipt, no_frame, stray, clash, taken, receipt, after_receipt}
 use Rattle.gr_node.specs.Seen.{NodeView, broker_in, records_in}
-use Rattle.gr_node.specs.Plan.{Call, gets, publishes, wakes, Act, binds, starts, arrives, calls, closes, shows, is_ours, moment_of, entry_of, offers_of}
+use Rattle.gr_node.specs.Plan.{Call, gets, publishes, wakes, Act, binds, starts, arrives, calls, answers, drops}
+use Rattle.gr_node.specs.Plan.{closes, shows, is_ours, moment_of, entry_of, offers_of, reply_entry}
 
 pub record Done : Type 0 where
   pub node : NodeView
@@ -110,6 +111,10 @@ done t hosted n (binds b) = still n
 done t hosted n (starts b) = still n
 done t hosted n (arrives a) = record { node = at_arrival hosted n a; lines = []; entries = entry_of a ∷ [] }
 done t hosted n (calls c) = call_done t n c
+done t hosted n (answers x) =
+    let l : Log = log_of (records_in t n x.0) in
+    record { node = n; lines = []; entries = reply_entry t l.last x ∷ [] }
+done t hosted n (drops l) = record { node = n; lines = l ∷ []; entries = [] }
 done t hosted n closes = record { node = n; lines = []; entries = entry.closed ∷ [] }
 done t hosted n shows = record { node = n; lines = shown t hosted n; entries = [] }
 

@@ -1,5 +1,6 @@
 -- How the parts of a run end: what was done and told, and what stands outside once the page is written
 use Rattle.std.specs.Prelude.{◌≡◌, ◌⊎◌, ℕ, ◌≤◌, Bool, true, List, [], ◌∷◌, ◌++◌, length, Option, Result, Ok, Err, OnOk}
+use Rattle.std.specs.List.{AllByRecursion}
 use Rattle.gr_out.specs.declared.fault.RunFault.{RunFault}
 use Rattle.gr_out.specs.declared.fault.RunFault.TheVariants as run
 use Rattle.gr_out.specs.Bytes.{with_more}
@@ -10,6 +11,7 @@ use Rattle.gr_sched.specs.declared.step.Line.{Line}
 use Rattle.gr_topo.specs.Topology.{TopologyView}
 use Rattle.gr_model.specs.NetOf.{net_of}
 use Rattle.gr_model.specs.Arrivals.{Arrival}
+use Rattle.gr_theorems.specs.Served.{IsOfBytes}
 use Rattle.gr_node.specs.Seen.{NodeView, text_of}
 use Rattle.gr_node.specs.Plan.{Act, shows, run_acts}
 use Rattle.gr_node.specs.Done.{all_done}
@@ -61,6 +63,7 @@ pub record RanWith {T : Type 0} (t : TopologyView) (hosted : List ℕ) (tells : 
   pub came : List Arrival
   pub closed : Bool
   pub within : length came ≤ turns
+  pub bytes : AllByRecursion IsOfBytes came
   pub ended : OnOk result ((closed ≡ true) ⊎ (length came ≡ turns))
   pub ran : Ran {T = T} t hosted tells
       (run_acts (net_of t) hosted steps came closed ++ shows ∷ []) n n' before after result

@@ -1,6 +1,6 @@
 -- What a run did, from its first binding to what is shown at the end, and what it left outside
 use Rattle.std.specs.Prelude.{◌≡◌, ◌⊎◌, ℕ, ◌*◌, ◌<◌, ◌≤◌, Bool, true, false, ◌&&◌, nat_eq, bytes_eq, List, [], ◌∷◌, ◌++◌, length, get_or, Option, Result, Ok, Err, OnOk, OnErr}
-use Rattle.std.specs.List.{list_any}
+use Rattle.std.specs.List.{list_any, AllByRecursion}
 use Rattle.gr_frame.specs.declared.fault.FrameFault.{FrameFault}
 use Rattle.gr_frame.specs.Decode.{frame_decoded}
 use Rattle.gr_out.specs.declared.fault.RunFault.{RunFault}
@@ -19,7 +19,7 @@ use Rattle.gr_model.specs.NetOf.{net_of}
 use Rattle.gr_model.specs.World.{World, Transition, in_turn, log_of as machine_log_of}
 use Rattle.gr_model.specs.Opening.{over_logs}
 use Rattle.gr_model.specs.Arrivals.{Arrival, is_hosted, served}
-use Rattle.gr_theorems.specs.Served.{joined}
+use Rattle.gr_theorems.specs.Served.{joined, IsOfBytes}
 use Rattle.gr_theorems.specs.Lanes.{AllFollow, whole_logs}
 use Rattle.gr_node.specs.Seen.{text_of}
 use Rattle.gr_node.specs.Of.{OthersStay}
@@ -75,6 +75,7 @@ pub record IsRunOf {T : Type 0} (t : TopologyView) (hosted : List ℕ) (steps : 
   pub count : length c.records ≡ length t.publishers
   pub follow : AllFollow c.records
   pub within : length c.came ≤ turns
+  pub bytes : AllByRecursion IsOfBytes c.came
   pub whole : OnOk result (c.left ≡ [])
   pub ended : OnOk result ((c.closed ≡ true) ⊎ (length c.came ≡ turns))
   pub refused : (e : RunFault) → result ≡ Err e → IsRefused t e c.left
@@ -108,8 +109,8 @@ pub record KeepsLogs {T : Type 0} (t : TopologyView) (hosted : List ℕ) (c : Co
   pub damaged : (p at : ℕ) → result ≡ Err (run.Damaged p at) → IsFirstDamaged t hosted p at before
   pub others : OthersStay t hosted before after
 
--- An honest journal: each datagram in it is no frame, or has the bytes of an offer to the same broker that stands
--- before it
+-- An honest journal: each datagram in it is no frame, as notes are none, or has the bytes of an offer to the same
+-- broker that stands before it
 
 abbrev pub is_offer_to : ℕ → List ℕ → Entry → Bool
 is_offer_to b bytes (offered from to sent) = nat_eq to b && bytes_eq sent bytes

@@ -1,16 +1,18 @@
 -- The turns of a run: which publish is next, and what one arrival leads to
 use Rattle.std.specs.Prelude.{◌≡◌, ◌≢◌, ℕ, ◌≤◌, Bool, true, false, List, [], ◌∷◌, ◌++◌, length, drop, Result, Ok, Err, OnOk}
+use Rattle.std.specs.List.{AllByRecursion}
 use Rattle.gr_out.specs.declared.fault.RunFault.{RunFault}
 use Rattle.gr_topo.specs.Topology.{TopologyView}
 use Rattle.gr_sched.specs.declared.step.Line.{Line}
 use Rattle.gr_model.specs.Net.{Net}
 use Rattle.gr_model.specs.NetOf.{net_of}
 use Rattle.gr_model.specs.Arrivals.{Arrival, Publish, publishes_in, publishes_of, left_after}
+use Rattle.gr_theorems.specs.Served.{IsOfBytes}
 use Rattle.gr_node.specs.Seen.{NodeView}
 use Rattle.gr_node.specs.Plan.{acts_from, closing}
 use Rattle.gr_node.specs.Went.{Outside, Went}
 
--- the first of these steps, where there is one, is a publish of a hosted publisher
+-- the first of these steps, where there is one, is a publish of a hosted publisher that has no client
 abbrev pub IsFirst : Net → List ℕ → List Line → Type 0
 IsFirst net hosted [] = Unit {0}
 IsFirst net hosted (l ∷ ls) = publishes_in net hosted l ≢ []
@@ -33,6 +35,7 @@ pub record Turned (t : TopologyView) (hosted : List ℕ) (tells : Type 0) (steps
   pub came : List Arrival
   pub shut : Bool
   pub ends : CameIn result came shut
+  pub bytes : AllByRecursion IsOfBytes came
   pub went : Went t hosted tells
       (acts_from (net_of t) hosted (publishes_of (net_of t) hosted (drop next steps)) came ++ closing shut)
       n n' before after result

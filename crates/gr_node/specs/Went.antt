@@ -1,5 +1,6 @@
 -- How far code went with acts that it is to do: what it leaves, and what the sink, the page and the post have of it
-use Rattle.std.specs.Prelude.{◌≡◌, ◌≢◌, ℕ, suc, ◌+◌, ◌≤◌, true, false, Bool, List, [], ◌∷◌, ◌++◌, length, Option, Result, Err, IsErrOf, OnOk, OnErr}
+use Rattle.std.specs.Prelude.{◌≡◌, ◌≢◌, ℕ, suc, ◌+◌, ◌≤◌, true, false, Bool, List, [], ◌∷◌, ◌++◌, length, map, Option}
+use Rattle.std.specs.Prelude.{Result, Err, IsErrOf, OnOk, OnErr}
 use Rattle.std.specs.List.{AllByRecursion}
 use Rattle.gr_frame.specs.declared.Frame.{Frame}
 use Rattle.gr_frame.specs.Cut.{AreFrames}
@@ -17,7 +18,7 @@ use Rattle.gr_theorems.specs.Edges.{GoesOverEdge}
 use Rattle.gr_broker.specs.declared.outcome.Outcome.{Outcome}
 use Rattle.gr_run.specs.Named.{AllNamed}
 use Rattle.gr_node.specs.Seen.{NodeView, text_of}
-use Rattle.gr_node.specs.Plan.{Call, publishes, wakes, Act, starts, calls, offers_of}
+use Rattle.gr_node.specs.Plan.{Call, publishes, wakes, Act, starts, calls, offers_of, bound_entry}
 use Rattle.gr_node.specs.Done.{call_done, all_done}
 
 -- What stands outside: what the sink took, what the page holds, and the journal of the post
@@ -57,6 +58,16 @@ pub record Begins (before after sent : List Entry) : Type 0 where
   pub rest : List Entry
   pub whole : sent ≡ part ++ rest
   pub are : after ≡ before ++ part
+
+-- Nodes were bound one after another, all or all up to one whose binding failed
+pub record Bound {T : Type 0} (t : TopologyView) (hosted : List ℕ) (tells : Type 0) (all : List ℕ)
+    (before after : List Entry) (result : Result T RunFault) : Type 0 where
+  pub bound : List ℕ
+  pub left : List ℕ
+  pub parts : bound ++ left ≡ all
+  pub whole : OnOk result (left ≡ [])
+  pub short : OnErr result ((next : ℕ) × ((more : List ℕ) × (left ≡ next ∷ more)))
+  pub put : tells → after ≡ before ++ (map (bound_entry t hosted) bound ++ fault_entries result)
 
 -- Acts were made one after another, all or all up to one that was refused. After want of memory, or a failure of the
 -- sink, only fronts are told

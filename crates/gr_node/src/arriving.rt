@@ -1,23 +1,24 @@
 //! One arrival is taken, with all that it causes.
 
-ghost use Rattle.std.specs.Prelude.{◌≡◌, ◌≢◌, ℕ, ◌≤◌, true, false, min, List, [], length, map, drop, Err, IfOk, IfErr, OnOk, IsErrOf};
-ghost use Rattle.gr_out.specs.Lane.{Lane};
+ghost use Rattle.std.specs.Prelude.{◌≡◌, ◌≢◌, ℕ, ◌≤◌, true, false, min, List, [], length, map, drop, Err};
+ghost use Rattle.std.specs.Prelude.{IfOk, IfErr, OnOk, IsErrOf};
 ghost use Rattle.gr_scenario.specs.Steps.{AreStepsOf};
 ghost use Rattle.gr_model.specs.Broker.{max_tick};
 ghost use Rattle.gr_model.specs.NetOf.{net_of};
 ghost use Rattle.gr_model.specs.Arrivals.{datagram, quiet, Publish, publishes_of};
-ghost use Rattle.gr_run.specs.Named.{IsPutFault};
+ghost use Rattle.gr_theorems.specs.Served.{IsOfBytes};
 ghost use Rattle.gr_node.specs.Seen.{seen};
 ghost use Rattle.gr_node.specs.Of.{AreHosted, IsSet, AllStand, OthersStay};
-ghost use Rattle.gr_node.specs.Plan.{calls, calls_of, quiet_calls};
+ghost use Rattle.gr_node.specs.Plan.{calls, acts_of, quiet_calls};
 ghost use Rattle.gr_node.specs.Done.{at_arrival};
 ghost use Rattle.gr_node.specs.Went.{outside, Went, SinkMoves, DiskMoves, PostMoves, IsTurnFault};
 ghost use Rattle.gr_node.specs.Turns.{IsFirst, Turned};
 
 use crate::bindings::is_among;
 use crate::node::{Node, Site};
+use crate::noting::take_datagram;
 use crate::schedule::next_after;
-use crate::turning::{be_quiet, receive};
+use crate::turning::be_quiet;
 use gr_out::{Arrival, Disk, Page, Post, PostFault, RunFault, Sink};
 use gr_sched::{Line, MAX_NUMBER};
 
@@ -28,29 +29,34 @@ fn last_tick(moment: u64) -> u64
     moment.min(MAX_NUMBER)
 }
 
-/// A datagram that has come is given to its broker; one that is for a broker elsewhere is passed over. Then the page is
+/// A datagram that has come is taken at its broker; one that is for a broker elsewhere is passed over. Then the page is
 /// flushed.
-fn datagram_comes<P: Post, K: Sink>(
+fn datagram_comes<D: Disk, P: Post, K: Sink>(
     site: &Site<'_>,
     node: &mut Node,
     b: u16,
     bytes: &[u8],
     moment: u64,
+    disk: &mut D,
     post: &mut P,
     page: &mut Page,
     sink: &mut K,
 ) -> Result<(), RunFault>
     requires set { IsSet site.now.topo.now site.now.hosted.now (seen node.old) }
+    requires stands { D.tells → AllStand (D.lane_of disk.old) (seen node.old) }
+    ensures bytes { IsOfBytes (datagram b bytes.now moment) }
     ensures went { (left : List Publish) → Went site.now.topo.now site.now.hosted.now P.tells
-        (map calls (calls_of (net_of site.now.topo.now) site.now.hosted.now left (datagram b bytes.now moment)))
+        (acts_of (net_of site.now.topo.now) site.now.hosted.now left (datagram b bytes.now moment))
         (at_arrival site.now.hosted.now (seen node.old) (datagram b bytes.now moment)) (seen node.new)
         (outside (K.taken sink.old) page.old.held (P.journal post.old))
         (outside (K.taken sink.new) page.new.held (P.journal post.new)) result }
     ensures emptied { OnOk result (page.new.held ≡ []) }
     ensures set { OnOk result (IsSet site.now.topo.now site.now.hosted.now (seen node.new)) }
-    ensures stands { (lanes : ℕ → Lane) → AllStand lanes (seen node.old)
-        → OnOk result (AllStand lanes (seen node.new)) }
-    ensures cause { IfErr result IsPutFault }
+    ensures stands { D.tells → OnOk result (AllStand (D.lane_of disk.new) (seen node.new)) }
+    ensures others { D.tells
+        → OthersStay site.now.topo.now site.now.hosted.now (D.lane_of disk.old) (D.lane_of disk.new) }
+    ensures cause { IfErr result IsTurnFault }
+    ensures disk { DiskMoves (D.faults disk.old) (D.stops disk.old) (D.faults disk.new) (D.stops disk.new) result }
     ensures sink { SinkMoves (K.faults sink.old) (K.faults sink.new) result }
     ensures post { P.faults post.new ≡ P.faults post.old }
 {
@@ -58,7 +64,7 @@ fn datagram_comes<P: Post, K: Sink>(
         return page.flush(sink);
     }
     node.now = last_tick(moment);
-    match receive(site, node, b, bytes, post, page, sink) {
+    match take_datagram(site, node, b, bytes, disk, post, page, sink) {
         Ok(()) => page.flush(sink),
         Err(fault) => Err(fault),
     }
@@ -144,7 +150,17 @@ pub(crate) fn turn<D: Disk, P: Post, K: Sink>(
     match post.next(piece) {
         Ok(arrival) => match arrival {
             Arrival::Datagram { at, len, moment } => {
-                match datagram_comes(site, node, at, &piece[..len], moment, post, page, sink) {
+                match datagram_comes(
+                    site,
+                    node,
+                    at,
+                    &piece[..len],
+                    moment,
+                    disk,
+                    post,
+                    page,
+                    sink,
+                ) {
                     Ok(()) => Ok(true),
                     Err(fault) => Err(fault),
                 }

@@ -1,6 +1,7 @@
 //! What follows of every run. Each function here does nothing: its contract is the law.
 
 ghost use Rattle.std.specs.Prelude.{◌≡◌, ℕ, Bool, List, [], length};
+ghost use Rattle.std.specs.List.{AllByRecursion};
 ghost use Rattle.gr_sched.specs.declared.step.Line.{Line};
 ghost use Rattle.gr_model.specs.Net.{Net, numbers};
 ghost use Rattle.gr_model.specs.NetOf.{net_of};
@@ -9,7 +10,7 @@ ghost use Rattle.gr_model.specs.World.{Transition, in_turn};
 ghost use Rattle.gr_model.specs.Opening.{over_logs, opening};
 ghost use Rattle.gr_model.specs.Arrivals.{Arrival, publishes_of, served, arrived};
 ghost use Rattle.gr_scenario.specs.Steps.{AreStepsOf};
-ghost use Rattle.gr_theorems.specs.Served.{joined};
+ghost use Rattle.gr_theorems.specs.Served.{joined, IsOfBytes};
 ghost use Rattle.gr_theorems.specs.Lanes.{AllFollow, HoldsServedLanes, found_logs};
 ghost use Rattle.gr_theorems.specs.Statements.{ArrivalsDoSteps};
 ghost use Rattle.gr_node.specs.Plan.{ours, act, plan};
@@ -27,9 +28,11 @@ use gr_topo::Topology;
 /// and leave the world after it.
 pub fn an_honest_journal_meets_the_headline(topo: &Topology)
     ensures headline { (steps : List Line) (c : Course) → AreStepsOf topo.now steps → AllFollow c.records
+        → AllByRecursion IsOfBytes c.came
         → IsHonestJournal [] (planned topo.now (numbers (length topo.now.brokers)) steps c)
         → HoldsServedLanes (net_of topo.now) c.records steps (ours (numbers (length topo.now.brokers)) c.came) }
     ensures calls { (steps : List Line) (c : Course) → AreStepsOf topo.now steps → AllFollow c.records
+        → AllByRecursion IsOfBytes c.came
         → IsHonestJournal [] (planned topo.now (numbers (length topo.now.brokers)) steps c)
         → ArrivalsDoSteps (net_of topo.now) (found_logs c.records) steps
         (ours (numbers (length topo.now.brokers)) c.came) }

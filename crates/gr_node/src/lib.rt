@@ -9,6 +9,7 @@ mod calling;
 mod finishing;
 mod law;
 mod node;
+mod noting;
 mod running;
 mod schedule;
 mod service;

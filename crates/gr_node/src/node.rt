@@ -1,7 +1,12 @@
 //! A node: the brokers that are hosted here.
 
-ghost use Rattle.std.specs.Prelude.{◌≡◌, is_some, IfOk};
-ghost use Rattle.gr_node.specs.Seen.{seen, broker_in, none_started};
+ghost use Rattle.std.specs.Prelude.{◌≡◌, ◌<◌, ◌≤◌, true, length, is_some, IfOk};
+ghost use Rattle.gr_note.specs.declared.TheConstants.{MAX_NUMBER};
+ghost use Rattle.gr_pubend.specs.Log.{log_of};
+ghost use Rattle.gr_broker.specs.Of.{IsBrokerOf};
+ghost use Rattle.gr_broker.specs.Seen.{log_in, machine_log};
+ghost use Rattle.gr_node.specs.Seen.{seen, broker_in, records_in, none_started};
+ghost use Rattle.gr_node.specs.Of.{NodeFits};
 
 use gr_broker::Broker;
 use gr_out::Memory;
@@ -23,6 +28,20 @@ pub(crate) struct Node {
     pub brokers: Vec<Option<Broker>>,
     pub offers: u64,
     pub now: u64,
+}
+
+/// The number of the last event in the log of a publisher, at its host.
+fn last_in(topo: &Topology, host: &Broker, p: u16) -> u64
+    requires fits { IsBrokerOf topo.now host.now }
+    requires publisher { p < length topo.now.publishers }
+    requires here { is_some (log_in host.now p) ≡ true }
+    ensures last { result ≡ (machine_log host.now p).last }
+    ensures most { result ≤ MAX_NUMBER }
+{
+    let log = host.log(p);
+    // Proof only: the records follow one another.
+    let _ = log.is_broken();
+    log.last()
 }
 
 impl Node {
@@ -52,6 +71,20 @@ impl Node {
         match &self.brokers[b] {
             Some(_) => true,
             None => false,
+        }
+    }
+
+    /// The number of the last event in the log of a publisher at its host, 0 where that is not hosted here.
+    pub(crate) fn last_at(&self, topo: &Topology, p: u16) -> u64
+        requires fits { NodeFits topo.now (seen self.now) }
+        requires publisher { p < length topo.now.publishers }
+        ensures last { result ≡ (log_of (records_in topo.now (seen self.entry.now) p)).last }
+        ensures most { result ≤ MAX_NUMBER }
+    {
+        let host = topo.host(p);
+        match &self.brokers[host as usize] {
+            Some(broker) => last_in(topo, broker, p),
+            None => 0,
         }
     }
 }

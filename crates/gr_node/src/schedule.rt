@@ -3,26 +3,38 @@
 ghost use Rattle.std.specs.Prelude.{◌≡◌, ◌≢◌, ℕ, ◌≤◌, ◌<◌, true, false, [], length, drop};
 ghost use Rattle.gr_scenario.specs.Steps.{AreStepsOf, IsStepOf};
 ghost use Rattle.gr_model.specs.NetOf.{net_of};
-ghost use Rattle.gr_model.specs.Arrivals.{quiet, publishes_in, publishes_of, left_after};
+ghost use Rattle.gr_model.specs.Arrivals.{quiet, is_scheduled, publishes_in, publishes_of, left_after};
 ghost use Rattle.gr_node.specs.Turns.{IsFirst};
 
 use crate::bindings::is_among;
 use crate::node::Site;
 use gr_sched::{Line, Step};
 
-/// Whether a step is a publish of a hosted publisher.
+/// Whether a schedule publishes for a publisher: it is at a hosted broker, and has no client.
+fn is_scheduled(site: &Site<'_>, p: u16) -> bool
+    requires { p < length site.now.topo.now.publishers }
+    ensures { result ≡ is_scheduled (net_of site.now.topo.now) site.now.hosted.now p }
+{
+    match site.topo.client(p) {
+        Some(_) => false,
+        None => is_among(site.hosted, site.topo.host(p)),
+    }
+}
+
+/// Whether a step is a publish of a hosted publisher that has no client.
 fn publishes_here(site: &Site<'_>, line: &Line) -> bool
     requires step { IsStepOf site.now.topo.now line.now.step }
     ensures some { result ≡ true → publishes_in (net_of site.now.topo.now) site.now.hosted.now line.now ≢ [] }
     ensures none { result ≡ false → publishes_in (net_of site.now.topo.now) site.now.hosted.now line.now ≡ [] }
 {
     match &line.step {
-        Step::Publish { publisher, .. } => is_among(site.hosted, site.topo.host(*publisher)),
+        Step::Publish { publisher, .. } => is_scheduled(site, *publisher),
         _ => false,
     }
 }
 
-/// The place of the next publish of a hosted publisher, from a place on; the end where there is none.
+/// The place of the next publish of a hosted publisher that has no client, from a place on; the end where there is
+/// none.
 pub(crate) fn next_publish(site: &Site<'_>, steps: &[Line], from: usize) -> usize
     requires steps { AreStepsOf site.now.topo.now steps.now }
     requires from { from ≤ length steps.now }

@@ -1,16 +1,15 @@
-//! A whole run: the brokers are bound, the hosted ones start, what comes is taken, and at the end all is shown.
+//! A whole run: the nodes are bound, the hosted ones start, what comes is taken, and at the end all is shown.
 
 ghost use Rattle.std.specs.Prelude.{◌≡◌, ◌≢◌, ℕ, ◌<◌, ◌++◌, ◌∷◌, true, List, [], length, map, Err, IsSome, IsErrOf, IfErr, OnOk, OnErr};
 ghost use Rattle.gr_out.specs.Entry.{Entry};
 ghost use Rattle.gr_out.specs.Page.{TakesBut, TakesFront};
 ghost use Rattle.gr_scenario.specs.Steps.{AreStepsOf};
-ghost use Rattle.gr_model.specs.Net.{numbers};
 ghost use Rattle.gr_model.specs.NetOf.{net_of};
 ghost use Rattle.gr_model.specs.Arrivals.{is_hosted};
 ghost use Rattle.gr_run.specs.Named.{IsPutFault};
 ghost use Rattle.gr_node.specs.Seen.{seen, broker_in, none_started, text_of};
 ghost use Rattle.gr_node.specs.Of.{AreHosted, AreAddressed, IsSet, AllStand, OthersStay};
-ghost use Rattle.gr_node.specs.Plan.{bound_entry};
+ghost use Rattle.gr_node.specs.Plan.{bound_entry, nodes};
 ghost use Rattle.gr_node.specs.Done.{shown};
 ghost use Rattle.gr_node.specs.Went.{outside, SinkMoves, DiskMoves, PostMoves};
 ghost use Rattle.gr_node.specs.Starting.{Started, Found, IsFirstDamaged};
@@ -157,7 +156,7 @@ fn carry_out<D: Disk, P: Post, K: Sink>(
     finish(done, page, sink)
 }
 
-/// Serves with a node and a page that are new, once all brokers are bound.
+/// Serves with a node and a page that are new, once all nodes are bound.
 fn serve_with<D: Disk, P: Post, K: Sink>(
     site: &Site<'_>,
     node: &mut Node,
@@ -173,7 +172,7 @@ fn serve_with<D: Disk, P: Post, K: Sink>(
     requires none { seen node.old ≡ none_started (length site.now.topo.now.brokers) }
     requires empty { page.old.held ≡ [] }
     ensures serves { (journal : List Entry) → (P.tells → P.journal post.old ≡ journal
-        ++ map (bound_entry site.now.topo.now site.now.hosted.now) (numbers (length site.now.topo.now.brokers)))
+        ++ map (bound_entry site.now.topo.now site.now.hosted.now) (nodes site.now.topo.now site.now.hosted.now))
         → Serves site.now.topo.now site.now.hosted.now steps.now turns P.tells D.tells journal (P.journal post.new)
         (K.taken sink.old) (K.taken sink.new) (D.lane_of disk.old) (D.lane_of disk.new) result }
     ensures damaged_here { (p at : ℕ) → result ≡ Err (RunFault.Damaged p at)
@@ -191,7 +190,7 @@ fn serve_with<D: Disk, P: Post, K: Sink>(
     }
 }
 
-/// Serves, once all brokers are bound.
+/// Serves, once all nodes are bound.
 fn serve_bound<D: Disk, P: Post, K: Sink>(
     site: &Site<'_>,
     steps: &[Line],
@@ -203,7 +202,7 @@ fn serve_bound<D: Disk, P: Post, K: Sink>(
     requires hosted { AreHosted site.now.topo.now site.now.hosted.now }
     requires steps { AreStepsOf site.now.topo.now steps.now }
     ensures serves { (journal : List Entry) → (P.tells → P.journal post.old ≡ journal
-        ++ map (bound_entry site.now.topo.now site.now.hosted.now) (numbers (length site.now.topo.now.brokers)))
+        ++ map (bound_entry site.now.topo.now site.now.hosted.now) (nodes site.now.topo.now site.now.hosted.now))
         → Serves site.now.topo.now site.now.hosted.now steps.now turns P.tells D.tells journal (P.journal post.new)
         (K.taken sink.old) (K.taken sink.new) (D.lane_of disk.old) (D.lane_of disk.new) result }
     ensures damaged_here { (p at : ℕ) → result ≡ Err (RunFault.Damaged p at)
@@ -227,11 +226,13 @@ fn serve_bound<D: Disk, P: Post, K: Sink>(
 /// Serves the hosted brokers of a topology over a post, with their logs on a disk, and writes the report of it to a
 /// sink. Ticks and moments are milliseconds.
 ///
-/// In order: each broker is bound to its address; the hosted brokers start, in rising order, over the logs that their
-/// lanes hold; at most so many arrivals are taken, as `turns` says, each with all that it causes, until nothing comes
-/// any more; and then all is shown. At a quiet moment the next publish of the steps whose publisher is hosted is made,
-/// and each hosted broker is woken for each publisher. What an arrival has caused is written before the next is waited
-/// for.
+/// In order: each broker is bound to its address, and then the client of each publisher that has one and whose broker
+/// is hosted; the hosted brokers start, in rising order, over the logs that their lanes hold; at most so many arrivals
+/// are taken, as `turns` says, each with all that it causes, until nothing comes any more; and then all is shown. At a
+/// quiet moment the next publish of the steps whose publisher is hosted and has no client is made, and each hosted
+/// broker is woken for each publisher. A datagram that begins as a note is one: what a client submits to its host is
+/// published, and once it is logged the host offers the client which number it waits for; any other note is dropped.
+/// What an arrival has caused is written before the next is waited for.
 ///
 /// `Post` only where a binding failed, or the wait for an arrival; `Damaged` where the lane of a publisher at a hosted
 /// broker holds no log: the first such publisher, and the place of the first fault; `Disk` only where the disk failed

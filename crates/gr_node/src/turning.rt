@@ -57,7 +57,7 @@ pub(crate) fn receive<P: Post, K: Sink>(
 }
 
 /// A publish at its publisher's host, which is hosted.
-fn publish<D: Disk, P: Post, K: Sink>(
+pub(crate) fn publish<D: Disk, P: Post, K: Sink>(
     site: &Site<'_>,
     node: &mut Node,
     p: u16,

@@ -2,7 +2,7 @@
 -- each broker has started
 use Rattle.std.proofs.Common.{◌≡◌, ◌⊎◌, ℕ, ◌*◌, Bool, true, nat_eq, List, [], ◌∷◌, ◌++◌, length, map, Option, Result, Ok, Err, IsOk, refl, sym, ap, ◌∙◌, subst, inl, inr, ⊎_elim}
 use Rattle.std.specs.Prelude.{⊤}
-use Rattle.std.specs.List.{list_any}
+use Rattle.std.specs.List.{list_any, AllByRecursion}
 use Rattle.std.proofs.lemmas.Bool.{false≢true, or_cases, or_left, or_right, eqb-true, eq-eqb}
 use Rattle.std.proofs.lemmas.List.{append-nil}
 use Rattle.gr_out.specs.declared.fault.RunFault.{RunFault}
@@ -16,8 +16,9 @@ use Rattle.gr_topo.specs.Topology.{TopologyView, host_of}
 use Rattle.gr_scenario.specs.Steps.{AreStepsOf}
 use Rattle.gr_model.specs.Net.{numbers}
 use Rattle.gr_model.specs.NetOf.{net_of}
+use Rattle.gr_theorems.specs.Served.{IsOfBytes}
 use Rattle.gr_theorems.specs.Lanes.{AllFollow, HoldsServedLanes}
-use Rattle.gr_node.specs.Plan.{Act, binds, starts, shows, ours, plan, run_acts}
+use Rattle.gr_node.specs.Plan.{Act, binds, starts, shows, ours, nodes, plan, run_acts}
 use Rattle.gr_node.specs.Served.{Course, is_start, planned, IsRunOf, Posts, Prints, KeepsLogs, IsHonestJournal}
 use Rattle.gryphon.specs.Serving.{CanRun, Around, around, RunsTo, StopsBy, EndsBy, AllRead, damaged_line}
 use Rattle.gryphon.specs.Top.{IsCut}
@@ -33,7 +34,7 @@ HasRun t lines hosted turns post_tells disk_tells before after answer =
 -- that an honest journal of all brokers meets the headline
 abbrev pub MeetsServed : TopologyView → Type 0
 MeetsServed t = (steps : List Line) (c : Course) → AreStepsOf t steps → AllFollow c.records
-    → IsHonestJournal [] (planned t (numbers (length t.brokers)) steps c)
+    → AllByRecursion IsOfBytes c.came → IsHonestJournal [] (planned t (numbers (length t.brokers)) steps c)
     → HoldsServedLanes (net_of t) c.records steps (ours (numbers (length t.brokers)) c.came)
 
 -- so the run came to its answer
@@ -48,7 +49,7 @@ runs_to t lines hosted turns post_tells disk_tells before after answer can meets
   keeps = r.1.1.1.1;
   headline = λ all honest.
       subst (λ h. HoldsServedLanes (net_of t) r.0.records lines (ours h r.0.came)) (sym all)
-      (meets lines r.0 can.steps r.1.0.follow (subst (λ h. IsHonestJournal [] (planned t h lines r.0)) all honest));
+      (meets lines r.0 can.steps r.1.0.follow r.1.0.bytes (subst (λ h. IsHonestJournal [] (planned t h lines r.0)) all honest));
 }
 
 -- a run that a fault ended, and what its status says
@@ -103,7 +104,7 @@ plan_starts : (t : TopologyView) (lines : List Line) (hosted : List ℕ) (c : Co
 unfolding plan
 plan_starts t lines hosted c h e =
     let rest = run_acts (net_of t) hosted lines c.came c.closed ++ shows ∷ [] in
-    any_append (is_start h) (map binds (numbers (length t.brokers))) (map starts hosted ++ rest)
+    any_append (is_start h) (map binds (nodes t hosted)) (map starts hosted ++ rest)
     (inr (any_append (is_start h) (map starts hosted) rest (inl (starts_of h hosted e))))
 
 -- what is read was read

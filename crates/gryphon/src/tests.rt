@@ -5,7 +5,9 @@ use crate::top::gryphon;
 use examples::{EXAMPLES, Example};
 use gr_out::{MemDisk, MemPost, MemSink, MemSource, Memory, Sink, Source};
 use gr_sock::{StdSink, StdSource};
-use servers::{Cue, DELIVERED, DISK_CALLS, LOG, OLD_LOG, SERVERS, STOPPED, Server};
+use servers::{
+    Cue, DELIVERED, DISK_CALLS, LOG, NEXT_TWO, OLD_LOG, SERVERS, STOPPED, SUBMITTED, Server,
+};
 use std::alloc::Global;
 use std::process::Abort;
 use std::str;
@@ -572,6 +574,18 @@ fn disk_of(alloc: Global, server: &Server) -> Result<MemDisk, Memory> {
     Ok(disk)
 }
 
+/// Has brokers serve over a sink, a disk and a post, and gives the status.
+fn serve_by(
+    alloc: Global,
+    server: &Server,
+    sink: &mut MemSink,
+    disk: &mut MemDisk,
+    post: &mut MemPost,
+) -> Result<u8, Memory> {
+    let mut source = MemSource::new(alloc, server.source.as_bytes(), &[])?;
+    Ok(gryphon(alloc, server.words, &mut source, sink, disk, post))
+}
+
 /// Has brokers serve over a sink and a disk, and gives the status.
 fn serve(
     alloc: Global,
@@ -579,9 +593,8 @@ fn serve(
     sink: &mut MemSink,
     disk: &mut MemDisk,
 ) -> Result<u8, Memory> {
-    let mut source = MemSource::new(alloc, server.source.as_bytes(), &[])?;
     let mut post = post_of(alloc, server)?;
-    Ok(gryphon(alloc, server.words, &mut source, sink, disk, &mut post))
+    serve_by(alloc, server, sink, disk, &mut post)
 }
 
 /// Has brokers serve over a disk, and compares the status and what was printed.
@@ -614,6 +627,26 @@ fn all_serve(rt: &impl Abort, alloc: Global, servers: &[Server]) -> Result<(), F
 #[test]
 fn brokers_serve(rt: HostRuntime) -> Result<(), Fail> {
     all_serve(&rt, rt.alloc(), &SERVERS)
+}
+
+/// Has brokers serve a client over a post, and compares the status and what was printed.
+fn serves_client(rt: &impl Abort, alloc: Global, post: &mut MemPost) -> Result<(), Fail> {
+    let mut disk = disk_of(alloc, &SUBMITTED)?;
+    let mut sink = MemSink::new(alloc, SUBMITTED.room, &[])?;
+    let came = serve_by(alloc, &SUBMITTED, &mut sink, &mut disk, post)?;
+    compare(rt, &sink, came, SUBMITTED.status, SUBMITTED.printed);
+    Ok(())
+}
+
+#[test]
+fn a_client_is_answered(rt: HostRuntime) -> Result<(), Fail> {
+    let mut post = post_of(rt.alloc(), &SUBMITTED)?;
+    serves_client(&rt, rt.alloc(), &mut post)?;
+    for offer in [2, 3, 4] {
+        assert!(rt; post.offered(offer) == Some(NEXT_TWO));
+    }
+    assert!(rt; post.offered(5).is_none());
+    Ok(())
 }
 
 #[test]

@@ -65,6 +65,25 @@ A = "127.0.0.1:7401"
 B = "127.0.0.1:7402"
 "#;
 
+/// P has a client, and yet a publish line.
+const WITH_CLIENT: &str = r#"brokers = ["A", "B"]
+links = [["A", "B"]]
+[[publisher]]
+name = "P"
+at = "A"
+[[subscriber]]
+name = "S"
+at = "B"
+filter = "price > 80"
+[addresses]
+A = "127.0.0.1:7401"
+B = "127.0.0.1:7402"
+[clients]
+P = "127.0.0.1:7501"
+---
+publish P 1 {"price":82}
+"#;
+
 /// What a publish at 1000 and the wake behind it tell.
 const PUBLISHED: &str =
     "logged P 1 1000\nsent 1 A B know P S1-999 D1000-1000\nsent 2 A B expect P 1000\n";
@@ -110,6 +129,21 @@ const EVENT: &[u8] = b"GK\x01\x01\x00\x00\x00\x01\x00\x00\x00\x01\x00\x00\x00\x0
 const SILENCE: &[u8] = b"GK\x01\x01\x00\x00\x00\x01\x00\x00\x00\x01\x00\x00\x00\x00\x00\x00\x07\xd0\
 \x00\x00\x00\x00\x00\x00\x07\xd0\x01";
 
+/// Submit 1 of publisher 0, `{"price":82}`.
+const FIRST_NOTE: &[u8] = b"GP\x01\x01\x00\x00\x00\x00\x00\x00\x00\x00\x00\x01\x00\x10\
+\x01\x05price\x01\x00\x00\x00\x00\x00\x00\x00\x52";
+
+/// Submit 3 of publisher 0, `{"price":1}`.
+const THIRD_NOTE: &[u8] = b"GP\x01\x01\x00\x00\x00\x00\x00\x00\x00\x00\x00\x03\x00\x10\
+\x01\x05price\x01\x00\x00\x00\x00\x00\x00\x00\x01";
+
+/// Submit 1 of publisher 7, `{"price":82}`.
+const NOTE_OF_SEVEN: &[u8] = b"GP\x01\x01\x00\x07\x00\x00\x00\x00\x00\x00\x00\x01\x00\x10\
+\x01\x05price\x01\x00\x00\x00\x00\x00\x00\x00\x52";
+
+/// Next 2 of publisher 0.
+pub const NEXT_TWO: &[u8] = b"GP\x01\x02\x00\x00\x00\x00\x00\x00\x00\x00\x00\x02";
+
 /// An event is published, its frame arrives, and then a byte that is no frame.
 pub const DELIVERED: Server = Server {
     words: &["serve", "10", "A", "B"],
@@ -150,11 +184,24 @@ log P last 2 settled 2000 cut 1000 kept 1\ndoubt A P 2000\n",
     ..DELIVERED
 };
 
+/// A client submits its first event, the same again, and then one that skips a number. Its publish line is passed over.
+pub const SUBMITTED: Server = Server {
+    source: WITH_CLIENT,
+    script: &[
+        Cue::Raw(0, FIRST_NOTE, 1000),
+        Cue::Raw(0, FIRST_NOTE, 1000),
+        Cue::Raw(0, THIRD_NOTE, 1000),
+    ],
+    printed: "logged P 1 1000\nsent 1 A B know P S1-999 D1000-1000\nalready P 1\ngap P 3 next 2\nframes 1\n\
+log P last 1 settled 1000 cut 0 kept 1\ndoubt B P 0\n",
+    ..DELIVERED
+};
+
 /// The calls of the disk that `DELIVERED` makes: five open the empty log, and four log the event.
 pub const DISK_CALLS: [&[u64]; 9] = [&[1], &[2], &[3], &[4], &[5], &[6], &[7], &[8], &[9]];
 
 /// Runs that are carried out.
-pub const SERVERS: [Server; 10] = [
+pub const SERVERS: [Server; 13] = [
     DELIVERED,
     OLD_LOG,
     AT_THE_HOST,
@@ -210,6 +257,49 @@ log P last 1 settled 1000 cut 0 kept 1\n",
         printed: "dropped B not-frame short 0\ndropped B not-frame bad-version 2\ndropped A stray 0 1 0\n\
 dropped A stray 1 0 0\ndropped B stray 0 1 7\ndropped B clash 2000 D S\nframes 0\n\
 log P last 0 settled 0 cut 0 kept 0\ndoubt B P 0\n",
+        ..DELIVERED
+    },
+    // What begins as a note, and is none.
+    Server {
+        source: WITH_CLIENT,
+        script: &[
+            Cue::Raw(0, b"GP", 1000),
+            Cue::Raw(0, b"GP\x02", 1000),
+            Cue::Raw(0, b"GP\x01\x04", 1000),
+            Cue::Raw(
+                0,
+                b"GP\x01\x01\x00\x00\x00\x00\x00\x00\x00\x00\x00\x00",
+                1000,
+            ),
+            Cue::Raw(
+                0,
+                b"GP\x01\x01\x00\x00\x00\x00\x00\x00\x00\x00\x00\x01\x00\x01\x21",
+                1000,
+            ),
+            Cue::Raw(0, b"GP\x01\x03\x00\x00\x00", 1000),
+        ],
+        printed: "dropped A bad-note short 2\ndropped A bad-note bad-version 2\ndropped A bad-note bad-kind 3\n\
+dropped A bad-note bad-range 6\ndropped A bad-note bad-event 16\ndropped A bad-note trailing 6\nframes 0\n\
+log P last 0 settled 0 cut 0 kept 0\ndoubt B P 0\n",
+        ..DELIVERED
+    },
+    // A note that is no Submit, one at the wrong broker, and one of a publisher that is not there.
+    Server {
+        source: WITH_CLIENT,
+        script: &[
+            Cue::Raw(0, NEXT_TWO, 1000),
+            Cue::Raw(1, FIRST_NOTE, 1000),
+            Cue::Raw(0, NOTE_OF_SEVEN, 1000),
+        ],
+        printed: "dropped A stray-note 0\ndropped B stray-note 0\ndropped A stray-note 7\nframes 0\n\
+log P last 0 settled 0 cut 0 kept 0\ndoubt B P 0\n",
+        ..DELIVERED
+    },
+    // A publisher without a client has none that submits; its publish line is carried out.
+    Server {
+        script: &[Cue::Raw(0, FIRST_NOTE, 1000), Cue::Quiet(1000)],
+        printed: "dropped A stray-note 0\nlogged P 1 1000\nsent 1 A B know P S1-999 D1000-1000\n\
+sent 2 A B expect P 1000\nframes 2\nlog P last 1 settled 1000 cut 0 kept 1\ndoubt B P 0\n",
         ..DELIVERED
     },
 ];

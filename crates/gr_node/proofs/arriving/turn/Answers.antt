@@ -13,7 +13,7 @@ returns-in-Ok-datagram_comes-clause-turned g c =
     let t = c.args.site.now.topo.now in
     let hosted = c.args.site.now.hosted.now in
     turned_on t hosted g.P.Post.tells c.args.steps.now c.args.next.now c.args.next.now (datagram c.in-Datagram.at (take c.in-Datagram.len c.next.new.into) c.in-Datagram.moment) (seen c.args.node.now) (seen c.datagram_comes.new.node) (g.K.Sink.taken c.args.sink.now) c.args.page.now.held (g.P.Post.journal c.args.post.now) (g.P.Post.journal c.next.new.self) _ c.in-Ok-datagram_comes.field-0
-    (λ tells. c.in-Ok.ensures.journal tells ∙ ap (λ (a : PostArrival). g.P.Post.journal c.args.post.now ++ next_entries c.next.new.into (Ok a)) c.in-Datagram.is)
+    c.in-Ok-datagram_comes.ensures.bytes (λ tells. c.in-Ok.ensures.journal tells ∙ ap (λ (a : PostArrival). g.P.Post.journal c.args.post.now ++ next_entries c.next.new.into (Ok a)) c.in-Datagram.is)
     (c.in-Ok-datagram_comes.ensures.went (publishes_of (net_of t) hosted (drop c.args.next.now c.args.steps.now))) refl
 
 pub returns-in-Err-datagram_comes-clause-turned : goal.returns-in-Err-datagram_comes-clause-turned
@@ -21,7 +21,7 @@ returns-in-Err-datagram_comes-clause-turned g c =
     let t = c.args.site.now.topo.now in
     let hosted = c.args.site.now.hosted.now in
     turned_cut t hosted g.P.Post.tells c.args.steps.now c.args.next.now c.args.next.now (datagram c.in-Datagram.at (take c.in-Datagram.len c.next.new.into) c.in-Datagram.moment) (seen c.args.node.now) (seen c.datagram_comes.new.node) (g.K.Sink.taken c.args.sink.now) c.args.page.now.held (g.P.Post.journal c.args.post.now) (g.P.Post.journal c.next.new.self) _ c.in-Err-datagram_comes.fault
-    (λ tells. c.in-Ok.ensures.journal tells ∙ ap (λ (a : PostArrival). g.P.Post.journal c.args.post.now ++ next_entries c.next.new.into (Ok a)) c.in-Datagram.is)
+    c.in-Err-datagram_comes.ensures.bytes (λ tells. c.in-Ok.ensures.journal tells ∙ ap (λ (a : PostArrival). g.P.Post.journal c.args.post.now ++ next_entries c.next.new.into (Ok a)) c.in-Datagram.is)
     (c.in-Err-datagram_comes.ensures.went (publishes_of (net_of t) hosted (drop c.args.next.now c.args.steps.now)))
 
 pub returns-in-Ok-quiet_comes-clause-turned : goal.returns-in-Ok-quiet_comes-clause-turned
@@ -29,7 +29,7 @@ returns-in-Ok-quiet_comes-clause-turned g c =
     let t = c.args.site.now.topo.now in
     let hosted = c.args.site.now.hosted.now in
     turned_on t hosted g.P.Post.tells c.args.steps.now c.args.next.now c.next_after.result (quiet c.in-Quiet.moment) (seen c.args.node.now) (seen c.quiet_comes.new.node) (g.K.Sink.taken c.args.sink.now) c.args.page.now.held (g.P.Post.journal c.args.post.now) (g.P.Post.journal c.next.new.self) _ c.in-Ok-quiet_comes.field-0
-    (λ tells. c.in-Ok.ensures.journal tells ∙ ap (λ (a : PostArrival). g.P.Post.journal c.args.post.now ++ next_entries c.next.new.into (Ok a)) c.in-Quiet.is)
+    tt (λ tells. c.in-Ok.ensures.journal tells ∙ ap (λ (a : PostArrival). g.P.Post.journal c.args.post.now ++ next_entries c.next.new.into (Ok a)) c.in-Quiet.is)
     c.in-Ok-quiet_comes.ensures.went (c.next_after.ensures.left c.in-Quiet.moment)
 
 pub returns-in-Err-quiet_comes-clause-turned : goal.returns-in-Err-quiet_comes-clause-turned
@@ -37,7 +37,7 @@ returns-in-Err-quiet_comes-clause-turned g c =
     let t = c.args.site.now.topo.now in
     let hosted = c.args.site.now.hosted.now in
     turned_cut t hosted g.P.Post.tells c.args.steps.now c.args.next.now c.args.next.now (quiet c.in-Quiet.moment) (seen c.args.node.now) (seen c.quiet_comes.new.node) (g.K.Sink.taken c.args.sink.now) c.args.page.now.held (g.P.Post.journal c.args.post.now) (g.P.Post.journal c.next.new.self) _ c.in-Err-quiet_comes.fault
-    (λ tells. c.in-Ok.ensures.journal tells ∙ ap (λ (a : PostArrival). g.P.Post.journal c.args.post.now ++ next_entries c.next.new.into (Ok a)) c.in-Quiet.is)
+    tt (λ tells. c.in-Ok.ensures.journal tells ∙ ap (λ (a : PostArrival). g.P.Post.journal c.args.post.now ++ next_entries c.next.new.into (Ok a)) c.in-Quiet.is)
     c.in-Err-quiet_comes.ensures.went
 
 pub returns-in-Closed-clause-turned : goal.returns-in-Closed-clause-turned
@@ -63,6 +63,3 @@ returns-in-Memory-clause-turned g c =
 
 pub returns-in-Failed-clause-stands_at_post : goal.returns-in-Failed-clause-stands_at_post
 returns-in-Failed-clause-stands_at_post g c = λ tells e. c.requires.stands tells
-
-pub returns-in-Ok-datagram_comes-clause-stands : goal.returns-in-Ok-datagram_comes-clause-stands
-returns-in-Ok-datagram_comes-clause-stands g c = λ tells. c.in-Ok-datagram_comes.ensures.stands (g.D.Disk.lane_of c.args.disk.now) (c.requires.stands tells)

@@ -5,11 +5,11 @@ use Rattle.gr_theorems.specs.Lanes.{whole_logs, found_logs}
 use Rattle.gr_theorems.specs.Served.{IsHonestRun}
 use Rattle.gr_node.specs.Plan.{ours}
 use Rattle.gr_node.proofs.Planned.{plan_lines, plan_world}
-use Rattle.gr_node.proofs.Honest.{honest_run}
+use Rattle.gr_node.proofs.Honest.{honest_run, bytes_ours}
 use Rattle.gr_node.proofs.law.an_honest_journal_meets_the_headline.Goals as goal
 
 pub returns-clause-headline : goal.returns-clause-headline
-returns-clause-headline c = λ steps run steps_of follow honest.
+returns-clause-headline c = λ steps run steps_of follow bytes honest.
     let t = c.args.topo.now in
     let tree = c.every_topology_is_a_tree.ensures in
     let fit = c.steps_fit_the_theorems.ensures t steps steps_of in
@@ -20,11 +20,12 @@ returns-clause-headline c = λ steps run steps_of follow honest.
       brokers = omega (arith, limits.brokers);
       publishers = omega (arith, limits.publishers);
       numbers_in = fit.1;
+      bytes = bytes_ours all run.came bytes;
       honest = honest_run t all steps run.came run.closed (whole_logs run.records) honest;
     })
 
 pub returns-clause-calls : goal.returns-clause-calls
-returns-clause-calls c = λ steps run steps_of follow honest.
+returns-clause-calls c = λ steps run steps_of follow bytes honest.
     let t = c.args.topo.now in
     let tree = c.every_topology_is_a_tree.ensures in
     let fit = c.steps_fit_the_theorems.ensures t steps steps_of in
@@ -39,6 +40,7 @@ returns-clause-calls c = λ steps run steps_of follow honest.
       brokers = omega (arith, limits.brokers);
       publishers = omega (arith, limits.publishers);
       numbers_in = fit.1;
+      bytes = bytes_ours all run.came bytes;
       honest = subst (IsHonestRun (ours all run.came)) (silent.served_same steps (ours all run.came))
           (honest_run t all steps run.came run.closed (whole_logs run.records) honest);
     })

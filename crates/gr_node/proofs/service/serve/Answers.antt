@@ -1,8 +1,8 @@
-use Rattle.std.proofs.Common.{◌-◌, ◌+◌, length, refl, subst}
+use Rattle.std.proofs.Common.{length, refl, subst}
 use Rattle.gr_node.specs.Seen.{none_started}
 use Rattle.gr_node.specs.Ending.{Serves}
 use Rattle.gr_node.proofs.Courses.{none_opened}
-use Rattle.gr_node.proofs.CourseEnds.{serves_unbound, unbound_left, bound_all, with_course}
+use Rattle.gr_node.proofs.CourseEnds.{serves_bound, bound_all, with_course}
 use Rattle.gr_node.proofs.service.serve.Goals as goal
 
 pub returns-in-Err-clause-ran : goal.returns-in-Err-clause-ran
@@ -14,10 +14,9 @@ returns-in-Err-clause-ran g c =
     let after = g.P.Post.journal c.bind_all.new.post in
     let taken = g.K.Sink.taken c.args.sink.now in
     let lanes = g.D.Disk.lane_of c.args.disk.now in
-    let bound = c.in-Err.ensures.bound in
     with_course t hosted steps c.args.turns g.P.Post.tells g.D.Disk.tells before after taken taken lanes lanes _
-    (serves_unbound _ t hosted c.requires.hosted (none_started (length t.brokers)) (none_opened t hosted (none_started (length t.brokers)) refl) steps c.args.turns g.P.Post.tells g.D.Disk.tells
-    before after taken lanes bound.0 (length t.brokers - (bound.0 + 1)) (unbound_left bound.0 (length t.brokers) bound.1.1.1.0) c.in-Err.fault c.in-Err.ensures.cause bound.1.1.1.1)
+    (serves_bound t hosted c.requires.hosted (none_started (length t.brokers)) (none_opened t hosted (none_started (length t.brokers)) refl) steps c.args.turns g.P.Post.tells g.D.Disk.tells
+    before after taken lanes c.in-Err.fault c.in-Err.ensures.cause c.in-Err.ensures.bound)
 
 pub returns-clause-ran : goal.returns-clause-ran
 returns-clause-ran g c =
@@ -29,7 +28,6 @@ returns-clause-ran g c =
     let taken' = g.K.Sink.taken c.serve_bound.new.sink in
     let lanes = g.D.Disk.lane_of c.args.disk.now in
     let lanes' = g.D.Disk.lane_of c.serve_bound.new.disk in
-    let bound = c.in-Ok.ensures.bound in
     with_course t hosted c.args.steps.now c.args.turns g.P.Post.tells g.D.Disk.tells before after taken taken' lanes lanes' c.serve_bound.result
     (subst (λ steps. Serves t hosted steps c.args.turns g.P.Post.tells g.D.Disk.tells before after taken taken' lanes lanes' c.serve_bound.result) c.as_slice.ensures
-    (c.serve_bound.ensures.serves before (λ tells. bound_all t hosted bound.0 before (g.P.Post.journal c.bind_all.new.post) bound.1.1.0 (bound.1.1.1.1 tells))))
+    (c.serve_bound.ensures.serves before (λ tells. bound_all t hosted g.P.Post.tells before (g.P.Post.journal c.bind_all.new.post) _ c.in-Ok.ensures.bound tells)))
