@@ -27,3 +27,7 @@ pub mod Acting
 pub mod Ended
 pub mod Courses
 pub mod CourseEnds
+pub mod Logging
+pub mod Replying
+pub mod Submitting
+pub mod Spending

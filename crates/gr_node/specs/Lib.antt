@@ -9,3 +9,4 @@ pub mod Turns
 pub mod Begun
 pub mod Calling
 pub mod Ending
+pub mod Submitted

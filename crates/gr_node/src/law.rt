@@ -1,20 +1,26 @@
 //! What follows of every run. Each function here does nothing: its contract is the law.
 
-ghost use Rattle.std.specs.Prelude.{◌≡◌, ℕ, Bool, List, [], length};
-ghost use Rattle.std.specs.List.{AllByRecursion};
+ghost use Rattle.std.specs.Prelude.{◌≡◌, ◌↔◌, ℕ, suc, ◌<◌, ◌≤◌, ◌^◌, Bool, true};
+ghost use Rattle.std.specs.Prelude.{List, [], length, map, take, drop};
+ghost use Rattle.std.specs.List.{list_any, AllByRecursion};
+ghost use Rattle.gr_event.specs.declared.event.Event.{Event};
+ghost use Rattle.gr_note.specs.declared.note.Note.TheVariants.{Spent};
+ghost use Rattle.gr_pubend.specs.Answers.{published};
+ghost use Rattle.gr_pubend.specs.declared.answers.Published.TheVariants.{Exhausted};
 ghost use Rattle.gr_sched.specs.declared.step.Line.{Line};
 ghost use Rattle.gr_model.specs.Net.{Net, numbers};
 ghost use Rattle.gr_model.specs.NetOf.{net_of};
 ghost use Rattle.gr_model.specs.Broker.{Log};
-ghost use Rattle.gr_model.specs.World.{Transition, in_turn};
+ghost use Rattle.gr_model.specs.World.{World, Transition, in_turn, publish_now, log_of};
 ghost use Rattle.gr_model.specs.Opening.{over_logs, opening};
-ghost use Rattle.gr_model.specs.Arrivals.{Arrival, publishes_of, served, arrived};
+ghost use Rattle.gr_model.specs.Arrivals.{Arrival, Publish, publishes_of, served, arrived};
 ghost use Rattle.gr_scenario.specs.Steps.{AreStepsOf};
 ghost use Rattle.gr_theorems.specs.Served.{joined, IsOfBytes};
 ghost use Rattle.gr_theorems.specs.Lanes.{AllFollow, HoldsServedLanes, found_logs};
 ghost use Rattle.gr_theorems.specs.Statements.{ArrivalsDoSteps};
-ghost use Rattle.gr_node.specs.Plan.{ours, act, plan};
-ghost use Rattle.gr_node.specs.Served.{Course, planned, IsHonestJournal};
+ghost use Rattle.gr_node.specs.Plan.{Act, ours, act, plan, all_entries, reply_to};
+ghost use Rattle.gr_node.specs.Served.{Course, world_before, planned, IsHonestJournal};
+ghost use Rattle.gr_node.specs.Submitted.{IsFirstOf, Logs, log_found, after_acts, AreFirst, IsOfClient, offers_next};
 
 use gr_model::topologies::every_topology_is_a_tree;
 use gr_run::steps_fit_the_theorems;
@@ -49,4 +55,39 @@ pub fn an_honest_journal_meets_the_headline(topo: &Topology)
     headline_over_lanes();
     headline_served();
     let _ = topo.brokers();
+}
+
+/// What the log of a publisher gets in a run, up to any time: the acts that were made until then are the first of the
+/// plan, as all that a run made are.
+///
+/// Each event that is logged takes the number behind the last, from the last that was found on, and has its line. Where
+/// the publisher has a client, and the notes that come are those of a client over a list of events, the event that is
+/// logged with a number is the one of this number in the list; and the log holds the first events of the list, where it
+/// did so when it was found. Where the journal has offered the client that a number comes next, the log has all numbers
+/// below it from then on. And a client is answered that its publisher is spent exactly where no tick was left for the
+/// event that it submitted.
+pub fn what_is_logged_was_submitted(topo: &Topology)
+    ensures numbers { (hosted : List ℕ) (steps : List Line) (c : Course) (done : List Act) (p : ℕ)
+        → AreFirst topo.now hosted steps c done → p < length topo.now.publishers
+        → let s : Transition = after_acts topo.now hosted c done in
+        (new : List (ℕ × Event)) × Logs p (log_found c p) (log_of s.world p) s.lines new }
+    ensures submitted { (hosted : List ℕ) (steps : List Line) (c : Course) (done : List Act) (p : ℕ) (es : List Event)
+        → AreFirst topo.now hosted steps c done → IsOfClient topo.now c p es
+        → let s : Transition = after_acts topo.now hosted c done in let found : Log = log_found c p in
+        (new : List (ℕ × Event)) × Logs p found (log_of s.world p) s.lines new
+        × (map (λ x. x.1) new ≡ take (length new) (drop found.last es)) }
+    ensures prefix { (hosted : List ℕ) (steps : List Line) (c : Course) (done : List Act) (p : ℕ) (es : List Event)
+        → AreFirst topo.now hosted steps c done → IsOfClient topo.now c p es
+        → IsFirstOf es (log_found c p)
+        → let s : Transition = after_acts topo.now hosted c done in IsFirstOf es (log_of s.world p) }
+    ensures answered { (hosted : List ℕ) (steps : List Line) (c : Course) (done : List Act) (p n : ℕ)
+        → AreFirst topo.now hosted steps c done → p < length topo.now.publishers → n < 2 ^ 64
+        → list_any (offers_next p n) (all_entries topo.now hosted (world_before topo.now c) done) ≡ true
+        → let s : Transition = after_acts topo.now hosted c done in let l : Log = log_of s.world p in
+        n ≤ suc l.last }
+    ensures spent { (w : World) (x : Publish) → x.0 < length w.logs
+        → let u : Transition = publish_now (net_of topo.now) w x.0 x.1.0 x.1.1 in let l : Log = log_of u.world x.0 in
+        (reply_to l.last x ≡ Spent x.0) ↔ (published (log_of w x.0) x.1.0 x.1.1 w.clock ≡ Exhausted) }
+{
+    let _ = topo;
 }
