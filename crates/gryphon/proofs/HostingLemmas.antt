@@ -84,6 +84,10 @@ some_there : (o : Option (List ℕ)) → not (is_some o) ≡ false → IsSome o
 some_there (Some a) e = refl
 some_there None e = let bad : true ≡ false = e in cc
 
+-- where none is found without an address, each broker has one
+pub all_addressed : (t : TopologyView) → find (is_unaddressed t) (numbers (length t.brokers)) ≡ None → AreAddressed t
+all_addressed t none = λ b lt. some_there (address_of t b) (none_found (is_unaddressed t) 0 (length t.brokers) b none (omega arith) (omega arith))
+
 -- the named brokers are ready to serve, where none is without an address
 pub ready : (t : TopologyView) (words : List (List ℕ)) (brokers : List ℕ) → brokers ≡ named_brokers t words
     → find (is_unaddressed t) (numbers (length t.brokers)) ≡ None → AreHosted t brokers × AreAddressed t
@@ -91,7 +95,4 @@ ready t words brokers e none =
     let hosted : AreHosted t (named_brokers t words) = record {
       rising = rising_from (is_named t words) 0 (length t.brokers);
       brokers = within t (is_named t words) 0 (length t.brokers) (omega arith);
-    } in (
-      rw e hosted,
-      λ b lt. some_there (address_of t b) (none_found (is_unaddressed t) 0 (length t.brokers) b none (omega arith) (omega arith)),
-    )
+    } in (rw e hosted, all_addressed t none)

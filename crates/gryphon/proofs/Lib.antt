@@ -1,4 +1,5 @@
 pub mod WordLemmas
 pub mod TwoRequired
 pub mod HostingLemmas
+pub mod FewSteps
 pub mod RunLemmas

@@ -12,10 +12,13 @@ use Rattle.gr_scenario.specs.Scenario.{asked_by as scenario_by}
 use Rattle.gr_soak.specs.Report.{soak_report}
 use Rattle.gryphon.specs.declared.input.Input.{Input}
 use Rattle.gryphon.specs.declared.input.Input.TheVariants.{Scenario, MatchText}
+use Rattle.gryphon.specs.declared.publishing.Publishing.{Publishing}
+use Rattle.gryphon.specs.declared.publishing.Publishing.TheVariants as publishing
 use Rattle.gryphon.specs.declared.serving.Serving.{Serving}
 use Rattle.gryphon.specs.declared.serving.Serving.TheVariants as serving
 use Rattle.gryphon.specs.declared.words.Task.{Task}
-use Rattle.gryphon.specs.declared.words.Task.TheVariants.{Usage, Replay, Serve, Match, Soak}
+use Rattle.gryphon.specs.declared.words.Task.TheVariants.{Usage, Replay, Serve, Publish, Match, Soak}
+use Rattle.gryphon.specs.Publishing.{publishing_of}
 use Rattle.gryphon.specs.Serving.{serving_of}
 
 -- a status, and all that is printed with it
@@ -55,6 +58,13 @@ answer_in serving.TooManySteps = Some too_many_lines
 answer_in (serving.Refused line) = Some (refusal line)
 answer_in (serving.Run t lines hosted) = None
 
+-- and to what `publish` is
+abbrev pub publish_answer : Publishing → Option Answer
+publish_answer publishing.TooManyBytes = Some too_many_bytes
+publish_answer publishing.TooManySteps = Some too_many_lines
+publish_answer (publishing.Refused line) = Some (refusal line)
+publish_answer (publishing.Run t lines p) = None
+
 -- to bytes, by what they are read as
 abbrev pub answer_of : Input → List ℕ → Answer
 answer_of Scenario bytes = replay_answer (scenario_by bytes)
@@ -66,14 +76,16 @@ answer_of MatchText bytes = match_answer (match_text_by bytes)
 abbrev pub usage_answer : Answer
 usage_answer = record {
   status = 1;
-  text = codes "usage: gryphon replay | serve TURNS BROKER... | match | soak N" ++ 10 ∷ [];
+  text = codes "usage: gryphon replay | serve TURNS BROKER... | publish P TURNS | match | soak N" ++ 10 ∷ [];
 }
 
 -- to a task, with these bytes left in the source. Where they are not told, nothing is said of a task that reads them;
--- and of brokers that serve no answer says what comes
+-- and of brokers that serve, or of a client that submits, no answer says what comes
 abbrev pub answer_to : Task → Option (List ℕ) → Option Answer
 answer_to Usage left = Some usage_answer
 answer_to Replay left = option_map (answer_of Scenario) left
 answer_to (Serve turns words) left = option_and_then (λ bytes. answer_in (serving_of words (scenario_by bytes))) left
+answer_to (Publish word turns) left =
+    option_and_then (λ bytes. publish_answer (publishing_of word (scenario_by bytes))) left
 answer_to Match left = option_map (answer_of MatchText) left
 answer_to (Soak count) left = Some (record { status = 0; text = soak_report count })

@@ -1,5 +1,7 @@
 pub mod Words
 pub mod Hosting
 pub mod Serving
+pub mod Submitter
+pub mod Publishing
 pub mod Answers
 pub mod Top

@@ -10,9 +10,9 @@ use Rattle.clap.specs.declared.builder.ArgAction.TheVariants.{Set}
 use Rattle.clap.specs.declared.builder.value_parser.ValueParser.TheVariants.{Unsigned}
 use Rattle.clap.specs.declared.parser.matches.ArgMatches.{ArgMatches}
 use Rattle.clap.specs.Words.{App, Rule, Text, Kinds, IsUnsignedIn, new_app, new_rule, with_rule, fault_of, found_of}
-use Rattle.clap.specs.Words.{matches_of, all_of, one_of, one_text}
+use Rattle.clap.specs.Words.{matches_of, all_of, first_of, one_of, one_text}
 use Rattle.gryphon.specs.declared.words.Task.{Task}
-use Rattle.gryphon.specs.declared.words.Task.TheVariants.{Usage, Replay, Serve, Match, Soak}
+use Rattle.gryphon.specs.declared.words.Task.TheVariants.{Usage, Replay, Serve, Publish, Match, Soak}
 
 -- the texts of words
 abbrev pub texts_of : List (Bor Text) → List Text
@@ -41,6 +41,13 @@ brokers_rule = record (new_rule (codes "brokers")) {
 abbrev pub serve_app : App
 serve_app = with_rule (with_rule (new_app (codes "serve")) turns_rule) brokers_rule
 
+-- one text
+abbrev pub publisher_rule : Rule
+publisher_rule = record (new_rule (codes "publisher")) { required = true }
+
+abbrev pub publish_app : App
+publish_app = with_rule (with_rule (new_app (codes "publish")) publisher_rule) turns_rule
+
 abbrev pub match_app : App
 match_app = new_app (codes "match")
 
@@ -59,12 +66,16 @@ soak_app = with_rule (new_app (codes "soak")) count_rule
 abbrev pub number_said : Text → ℕ
 number_said t = digits_value 10 (without_leading_plus t)
 
--- the number of turns that the words of `serve` give, and the names of brokers
-abbrev pub turns_count : List Text → Option ℕ
-turns_count words = option_map number_said (one_of (codes "turns") (matches_of serve_app words))
+-- the number of turns that words give by the definition of a command
+abbrev pub turns_count : App → List Text → Option ℕ
+turns_count app words = option_map number_said (one_of (codes "turns") (matches_of app words))
 
+-- the names of brokers that the words of `serve` give, and the name of a publisher that those of `publish` do
 abbrev pub broker_words : List Text → Option (List Text)
 broker_words words = all_of (codes "brokers") (matches_of serve_app words)
+
+abbrev pub publisher_word : List Text → Option Text
+publisher_word words = first_of (codes "publisher") (matches_of publish_app words)
 
 -- after a parse there is a text for the turns, of a number in its range
 abbrev pub HasTurns : ArgMatches → Type 0
@@ -83,7 +94,8 @@ abbrev pub is_known : List Text → Bool
 is_known [] = false
 is_known (name ∷ words) =
     bytes_eq name (codes "replay")
-    || (bytes_eq name (codes "serve") || (bytes_eq name (codes "match") || bytes_eq name (codes "soak")))
+    || (bytes_eq name (codes "serve")
+    || (bytes_eq name (codes "publish") || (bytes_eq name (codes "match") || bytes_eq name (codes "soak"))))
 
 -- What is asked for
 
@@ -92,15 +104,19 @@ abbrev pub taken : Kinds → Task → Task
 taken [] task = task
 taken (k ∷ ks) task = Usage
 
--- the task of `serve`, by all words
+-- the task of `serve`, and that of `publish`, by all words
 abbrev pub serve_by : List Text → Task
-serve_by words = Serve (unwrap_or (turns_count words) 0) (unwrap_or (broker_words words) [])
+serve_by words = Serve (unwrap_or (turns_count serve_app words) 0) (unwrap_or (broker_words words) [])
+
+abbrev pub publish_by : List Text → Task
+publish_by words = Publish (unwrap_or (publisher_word words) []) (unwrap_or (turns_count publish_app words) 0)
 
 -- what is asked of the command with a name by all words
 abbrev pub task_named : Text → List Text → Task
 task_named name words =
     if bytes_eq name (codes "replay") then taken (fault_of replay_app words) Replay
     else if bytes_eq name (codes "serve") then taken (fault_of serve_app words) (serve_by words)
+    else if bytes_eq name (codes "publish") then taken (fault_of publish_app words) (publish_by words)
     else if bytes_eq name (codes "match") then taken (fault_of match_app words) Match
     else if bytes_eq name (codes "soak") then taken (fault_of soak_app words) (Soak (unwrap_or (soak_count words) 0))
     else Usage
@@ -112,11 +128,12 @@ task_by (name ∷ words) = task_named name (name ∷ words)
 
 -- What is known of it
 
--- the number of a server's turns, and that of a soak, is in its range
+-- the number of turns of a server or of a client, and that of a soak, is in its range
 abbrev pub IsInRange : Task → Type 0
 IsInRange Usage = Unit {0}
 IsInRange Replay = Unit {0}
 IsInRange (Serve turns brokers) = (1 ≤ turns) × (turns ≤ 1000000)
+IsInRange (Publish publisher turns) = (1 ≤ turns) × (turns ≤ 1000000)
 IsInRange Match = Unit {0}
 IsInRange (Soak count) = (1 ≤ count) × (count ≤ 2000)
 
@@ -125,13 +142,24 @@ abbrev pub IsReading : Task → Type 0
 IsReading Usage = ⊥
 IsReading Replay = Unit {0}
 IsReading (Serve turns brokers) = Unit {0}
+IsReading (Publish publisher turns) = Unit {0}
 IsReading Match = Unit {0}
 IsReading (Soak count) = ⊥
 
--- the task is to serve
+-- brokers are to serve: they have a disk
 abbrev pub IsServing : Task → Type 0
 IsServing Usage = ⊥
 IsServing Replay = ⊥
 IsServing (Serve turns brokers) = Unit {0}
+IsServing (Publish publisher turns) = ⊥
 IsServing Match = ⊥
 IsServing (Soak count) = ⊥
+
+-- brokers are to serve, or a client is to submit: they have a post
+abbrev pub IsPosting : Task → Type 0
+IsPosting Usage = ⊥
+IsPosting Replay = ⊥
+IsPosting (Serve turns brokers) = Unit {0}
+IsPosting (Publish publisher turns) = Unit {0}
+IsPosting Match = ⊥
+IsPosting (Soak count) = ⊥

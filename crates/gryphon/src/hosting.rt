@@ -53,7 +53,7 @@ fn unknown_in<'a>(topo: &Topology, words: &'a [&'a str]) -> Option<&'a str>
 }
 
 /// The first broker that has no address.
-fn unaddressed_in(topo: &Topology) -> Option<u16>
+pub(crate) fn unaddressed_in(topo: &Topology) -> Option<u16>
     ensures first { result ≡ find (is_unaddressed topo.now) (numbers (length topo.now.brokers)) }
     ensures within { IfSome result (λ b. b < length topo.now.brokers) }
 {
@@ -110,7 +110,7 @@ fn unknown_line(alloc: Global, word: &str) -> Result<Text, AllocError>
 }
 
 /// The line of a broker without an address, as `topology 9 bad-address B`.
-fn unaddressed_line(alloc: Global, topo: &Topology, b: u16) -> Result<Text, AllocError>
+pub(crate) fn unaddressed_line(alloc: Global, topo: &Topology, b: u16) -> Result<Text, AllocError>
     requires { b < length topo.now.brokers }
     ensures { IfOk result (λ line. line ≡ unaddressed_line topo.now b) }
 {

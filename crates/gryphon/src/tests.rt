@@ -1,10 +1,12 @@
 mod examples;
+mod publishers;
 mod servers;
 
 use crate::top::gryphon;
 use examples::{EXAMPLES, Example};
 use gr_out::{MemDisk, MemPost, MemSink, MemSource, Memory, Sink, Source};
 use gr_sock::{StdSink, StdSource};
+use publishers::{PUBLISHERS, Publisher, UNPUBLISHED};
 use servers::{
     Cue, DELIVERED, DISK_CALLS, LOG, NEXT_TWO, OLD_LOG, SERVERS, STOPPED, SUBMITTED, Server,
 };
@@ -14,7 +16,8 @@ use std::str;
 use std::test::Fail;
 
 /// The line for words that are no command.
-const USAGE: &str = "usage: gryphon replay | serve TURNS BROKER... | match | soak N\n";
+const USAGE: &str =
+    "usage: gryphon replay | serve TURNS BROKER... | publish P TURNS | match | soak N\n";
 
 /// One event, published and delivered.
 const FIRST: &[u8] = b"---\nclock 1000\npublish P 1 {\"n\":82}\ndeliver 1\n";
@@ -284,7 +287,7 @@ fn too_many_steps_are_refused(rt: HostRuntime) -> Result<(), Fail> {
 }
 
 /// Words that are no command's.
-const OTHER_WORDS: [&[&str]; 30] = [
+const OTHER_WORDS: [&[&str]; 40] = [
     &[],
     &["frob"],
     &["Replay"],
@@ -299,6 +302,17 @@ const OTHER_WORDS: [&[&str]; 30] = [
     &["serve", "1"],
     &["serve", "1", "A", "-x"],
     &["serve", "1", "A", "--help"],
+    // No publisher, no number of turns, one out of range, a word too many, and what looks like a flag.
+    &["publish"],
+    &["publish", "P"],
+    &["publish", "P", "0"],
+    &["publish", "P", "1000001"],
+    &["publish", "P", "-1"],
+    &["publish", "P", "x"],
+    &["publish", "1", "P"],
+    &["publish", "P", "1", "x"],
+    &["publish", "P", "1", "-x"],
+    &["publish", "P", "--help"],
     // No number, a number out of range, and a word too many.
     &["soak"],
     &["soak", "0"],
@@ -460,8 +474,8 @@ const WHOLE: Case<'static> = Case {
     ..REPLAY
 };
 
-/// Replays where calls fail.
-const FAILING: [Case<'static>; 9] = [
+/// Runs where calls fail.
+const FAILING: [Case<'static>; 10] = [
     // The read of the bytes, the one that finds their end, and one that is not made.
     Case {
         reads: &[1],
@@ -521,6 +535,14 @@ const FAILING: [Case<'static>; 9] = [
         printed: "",
         ..WHOLE
     },
+    // It fails before it is looked whether a client can submit.
+    Case {
+        words: &["publish", "Z", "1"],
+        reads: &[2],
+        status: 3,
+        printed: "",
+        ..WHOLE
+    },
 ];
 
 #[test]
@@ -574,7 +596,7 @@ fn disk_of(alloc: Global, server: &Server) -> Result<MemDisk, Memory> {
     Ok(disk)
 }
 
-/// Has brokers serve over a sink, a disk and a post, and gives the status.
+/// Has brokers serve, or a client submit, over a sink, a disk and a post, and gives the status.
 fn serve_by(
     alloc: Global,
     server: &Server,
@@ -586,7 +608,7 @@ fn serve_by(
     Ok(gryphon(alloc, server.words, &mut source, sink, disk, post))
 }
 
-/// Has brokers serve over a sink and a disk, and gives the status.
+/// The same over a post of its own.
 fn serve(
     alloc: Global,
     server: &Server,
@@ -597,7 +619,7 @@ fn serve(
     serve_by(alloc, server, sink, disk, &mut post)
 }
 
-/// Has brokers serve over a disk, and compares the status and what was printed.
+/// Carries out a run over a disk, and compares the status and what was printed.
 fn serves_over(
     rt: &impl Abort,
     alloc: Global,
@@ -610,13 +632,13 @@ fn serves_over(
     Ok(())
 }
 
-/// Has brokers serve over a disk of their own.
+/// Carries out a run over a disk of its own.
 fn serves(rt: &impl Abort, alloc: Global, server: &Server) -> Result<(), Fail> {
     let mut disk = disk_of(alloc, server)?;
     serves_over(rt, alloc, server, &mut disk)
 }
 
-/// Has the brokers of each run serve.
+/// Carries out each run.
 fn all_serve(rt: &impl Abort, alloc: Global, servers: &[Server]) -> Result<(), Fail> {
     for server in servers {
         serves(rt, alloc, server)?;
@@ -629,19 +651,24 @@ fn brokers_serve(rt: HostRuntime) -> Result<(), Fail> {
     all_serve(&rt, rt.alloc(), &SERVERS)
 }
 
-/// Has brokers serve a client over a post, and compares the status and what was printed.
-fn serves_client(rt: &impl Abort, alloc: Global, post: &mut MemPost) -> Result<(), Fail> {
-    let mut disk = disk_of(alloc, &SUBMITTED)?;
-    let mut sink = MemSink::new(alloc, SUBMITTED.room, &[])?;
-    let came = serve_by(alloc, &SUBMITTED, &mut sink, &mut disk, post)?;
-    compare(rt, &sink, came, SUBMITTED.status, SUBMITTED.printed);
+/// Carries out a run over a post, and compares the status and what was printed.
+fn runs_over(
+    rt: &impl Abort,
+    alloc: Global,
+    server: &Server,
+    post: &mut MemPost,
+) -> Result<(), Fail> {
+    let mut disk = disk_of(alloc, server)?;
+    let mut sink = MemSink::new(alloc, server.room, &[])?;
+    let came = serve_by(alloc, server, &mut sink, &mut disk, post)?;
+    compare(rt, &sink, came, server.status, server.printed);
     Ok(())
 }
 
 #[test]
 fn a_client_is_answered(rt: HostRuntime) -> Result<(), Fail> {
     let mut post = post_of(rt.alloc(), &SUBMITTED)?;
-    serves_client(&rt, rt.alloc(), &mut post)?;
+    runs_over(&rt, rt.alloc(), &SUBMITTED, &mut post)?;
     for offer in [2, 3, 4] {
         assert!(rt; post.offered(offer) == Some(NEXT_TWO));
     }
@@ -652,6 +679,32 @@ fn a_client_is_answered(rt: HostRuntime) -> Result<(), Fail> {
 #[test]
 fn what_stops_brokers_is_told(rt: HostRuntime) -> Result<(), Fail> {
     all_serve(&rt, rt.alloc(), &STOPPED)
+}
+
+/// How many offers are looked at: one more than any client makes.
+const OFFERS: usize = 4;
+
+/// Carries out the run of a client, and compares the status, what was printed and what was offered.
+fn publishes(rt: &impl Abort, alloc: Global, publisher: &Publisher) -> Result<(), Fail> {
+    let mut post = post_of(alloc, &publisher.run)?;
+    runs_over(rt, alloc, &publisher.run, &mut post)?;
+    for n in 0..OFFERS {
+        assert!(rt; post.offered(n as u64 + 1) == publisher.offers.get(n).copied());
+    }
+    Ok(())
+}
+
+#[test]
+fn clients_submit(rt: HostRuntime) -> Result<(), Fail> {
+    for publisher in &PUBLISHERS {
+        publishes(&rt, rt.alloc(), publisher)?;
+    }
+    Ok(())
+}
+
+#[test]
+fn what_stops_clients_is_told(rt: HostRuntime) -> Result<(), Fail> {
+    all_serve(&rt, rt.alloc(), &UNPUBLISHED)
 }
 
 /// A run of which the disk fails at a call.

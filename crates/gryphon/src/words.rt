@@ -1,11 +1,16 @@
 //! What the words of a command line ask for.
 
-ghost use Rattle.std.specs.Prelude.{◌≡◌, ◌≢◌, [], false, codes, unwrap_or, IfOk, IsOk};
-ghost use Rattle.clap.specs.Words.{all_of, app_of, fault_of, found_of, kind_of, new_app, rows_of, IsParsedFrom};
+ghost use Rattle.std.specs.Prelude.{◌≡◌, ◌≢◌, ◌≤◌, [], true, false, None, Some, codes, unwrap_or, IfOk, IsOk};
+ghost use Rattle.clap.specs.Facts.{least_values};
+ghost use Rattle.clap.specs.Words.{all_of, app_of, fault_of, first_of, found_of, kind_of, new_app, rows_of, rule_of};
+ghost use Rattle.clap.specs.Words.{IsParsedFrom, IsPlainArg};
+ghost use Rattle.clap.specs.declared.builder.ArgAction.TheVariants.{Set};
+ghost use Rattle.clap.specs.declared.builder.value_parser.ValueParser.TheVariants.{Unsigned};
 ghost use Rattle.clap.specs.declared.error.kind.ErrorKind.TheVariants.{OutOfMemory};
-ghost use Rattle.gryphon.specs.Words.{texts_of, serve_app, soak_app, soak_count, HasTurns, HasCount, taken, serve_by, task_by, is_known, IsInRange};
+ghost use Rattle.gryphon.specs.Words.{texts_of, turns_rule, serve_app, publish_app, soak_app, soak_count, HasTurns, HasCount, taken, serve_by, publish_by, task_by, is_known, IsInRange};
 
 use crate::broker_words::BrokerWords;
+use crate::word::Word;
 use clap::error::ErrorKind;
 use clap::{Arg, ArgAction, ArgMatches, Command, Error};
 use std::alloc::{AllocError, Global};
@@ -23,6 +28,13 @@ pub enum Task<'a> {
         turns: u64,
         /// The names of the brokers, as they stand among the words.
         brokers: BrokerWords<'a>,
+    },
+    /// A scenario is to be read, and the client of a publisher of its topology is to submit.
+    Publish {
+        /// The name of the publisher, as it stands among the words.
+        publisher: Word<'a>,
+        /// How many arrivals are taken, 1 to 1,000,000.
+        turns: u64,
     },
     /// A match text is to be read, and its events matched.
     Match,
@@ -49,6 +61,9 @@ pub fn task_of<'a>(alloc: Global, words: &'a [&'a str]) -> Result<Task<'a>, Allo
     }
     if name == "serve" {
         return serve_task(alloc, words);
+    }
+    if name == "publish" {
+        return publish_task(alloc, words);
     }
     if name == "match" {
         return bare_task(alloc, "match", words, Task::Match);
@@ -99,13 +114,28 @@ fn serve_command<'a>(alloc: Global) -> Result<Command<'a>, AllocError>
     ensures app { IfOk result (λ command. app_of command ≡ serve_app) }
     ensures reads { IfOk result (λ command. (matches : _) → IsParsedFrom command matches → HasTurns matches) }
 {
-    let turns = Arg::new(alloc, "turns")
-        .required(true)
-        .action(ArgAction::Set)
-        .value_parser(clap::value_parser!(u64).range(1..=1_000_000));
+    let turns = turns_argument(alloc);
     let brokers = Arg::new(alloc, "brokers").required(true).num_args(1..);
     let command = Command::new(alloc, "serve").arg(turns)?.arg(brokers)?;
     Ok(command)
+}
+
+/// The argument TURNS: one number, from 1 to 1,000,000.
+fn turns_argument<'a>(alloc: Global) -> Arg<'a>
+    ensures id { result.id.now ≡ codes "turns" }
+    ensures rule { rule_of result ≡ turns_rule }
+    ensures plain { IsPlainArg result }
+    ensures own { result.global ≡ false }
+    ensures required { result.required ≡ true }
+    ensures set { result.action ≡ Some Set }
+    ensures whole { result.val_delim ≡ None }
+    ensures some { 1 ≤ least_values result }
+    ensures reader { result.value_parser ≡ Some (Unsigned 1 1000000) }
+{
+    Arg::new(alloc, "turns")
+        .required(true)
+        .action(ArgAction::Set)
+        .value_parser(clap::value_parser!(u64).range(1..=1_000_000))
 }
 
 /// The words that name brokers.
@@ -115,6 +145,46 @@ fn brokers_in<'a>(alloc: Global, matches: &ArgMatches<'a>) -> Result<BrokerWords
     match matches.get_strs("brokers") {
         Some(words) => BrokerWords::from_slice(alloc, words),
         None => BrokerWords::from_slice(alloc, &[]),
+    }
+}
+
+/// The task of `publish P TURNS`, where its definition takes the words.
+fn publish_task<'a>(alloc: Global, words: &'a [&'a str]) -> Result<Task<'a>, AllocError>
+    ensures task { IfOk result (λ t. t ≡ taken (fault_of publish_app (texts_of words.entry.now))
+        (publish_by (texts_of words.entry.now))) }
+    ensures range { IfOk result IsInRange }
+{
+    let command = publish_command(alloc)?;
+    match command.try_get_matches_from(words) {
+        Ok(matches) => match matches.get_one::<u64>("turns") {
+            Some(turns) => {
+                let publisher = publisher_in(&matches);
+                Ok(Task::Publish { publisher, turns })
+            }
+            None => unreachable!(),
+        },
+        Err(error) => refused(&error),
+    }
+}
+
+/// The definition of `publish P TURNS`.
+fn publish_command<'a>(alloc: Global) -> Result<Command<'a>, AllocError>
+    ensures app { IfOk result (λ command. app_of command ≡ publish_app) }
+    ensures reads { IfOk result (λ command. (matches : _) → IsParsedFrom command matches → HasTurns matches) }
+{
+    let publisher = Arg::new(alloc, "publisher").required(true);
+    let turns = turns_argument(alloc);
+    let command = Command::new(alloc, "publish").arg(publisher)?.arg(turns)?;
+    Ok(command)
+}
+
+/// The word that names a publisher.
+fn publisher_in<'a>(matches: &ArgMatches<'a>) -> Word<'a>
+    ensures { result ≡ unwrap_or (first_of (codes "publisher") (rows_of (found_of matches.now))) [] }
+{
+    match matches.get_str("publisher") {
+        Some(word) => Word::new(word),
+        None => Word::new(""),
     }
 }
 

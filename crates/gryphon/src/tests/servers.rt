@@ -2,12 +2,12 @@
 
 use super::examples::FILTERED;
 
-/// What the script of a post gives.
+/// What the script of a post gives. A node is a broker's by its number, or 64 and more for a publisher's client.
 #[derive(Clone, Copy)]
 pub enum Cue {
     /// The bytes of an offer by its number, counted from 1, at a moment.
     Pass(u64, u64),
-    /// Bytes to a broker, at a moment.
+    /// Bytes to a node, at a moment.
     Raw(u16, &'static [u8], u64),
     /// Nothing up to a moment.
     Quiet(u64),
@@ -130,7 +130,7 @@ const SILENCE: &[u8] = b"GK\x01\x01\x00\x00\x00\x01\x00\x00\x00\x01\x00\x00\x00\
 \x00\x00\x00\x00\x00\x00\x07\xd0\x01";
 
 /// Submit 1 of publisher 0, `{"price":82}`.
-const FIRST_NOTE: &[u8] = b"GP\x01\x01\x00\x00\x00\x00\x00\x00\x00\x00\x00\x01\x00\x10\
+pub const FIRST_NOTE: &[u8] = b"GP\x01\x01\x00\x00\x00\x00\x00\x00\x00\x00\x00\x01\x00\x10\
 \x01\x05price\x01\x00\x00\x00\x00\x00\x00\x00\x52";
 
 /// Submit 3 of publisher 0, `{"price":1}`.

@@ -16,7 +16,7 @@ returns-in_ok-brokers-in-Some-clause-task c =
     let rows = (c.in-Ok.ensures.matches (ap is_simple app)).0 ∙ ap (λ (a : App). matches_of a words) app in
     let text = ap (one_of (codes "turns")) (sym rows) ∙ sym (one_text-rows (found_of c.in-Ok.matches) (codes "turns")) ∙ has.1 in
     let read = unsigned_reads _ (λ bs r. ParsesUnsigned 64 10 bs r × ExplainsUnsignedError 10 bs r × HasUnsignedDigitsIfOk bs r) 1 1000000 has.0 c.get_one.result (c.get_one.ensures.value has.0 has.1) (λ u x g. g.0) has.2 in
-    let turns : turns_count words ≡ Some c.in-Some.turns = ap (option_map number_said) text ∙ ap (λ n. Some n) (sym read.2) ∙ sym read.1 ∙ c.in-Some.is in
+    let turns : turns_count serve_app words ≡ Some c.in-Some.turns = ap (option_map number_said) text ∙ ap (λ n. Some n) (sym read.2) ∙ sym read.1 ∙ c.in-Some.is in
     let brokers : c.in_ok-brokers-in-Some.brokers ≡ unwrap_or (broker_words words) [] = c.in_ok-brokers-in-Some.ensures ∙ ap (λ rs. unwrap_or (all_of (codes "brokers") rs) []) rows in
     ap₂ Serve (ap (λ n. unwrap_or n 0) (sym turns)) brokers ∙ kept (fault_of serve_app words) (serve_by words) free
 

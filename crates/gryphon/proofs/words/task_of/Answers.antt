@@ -8,6 +8,6 @@ pub returns-then-eq-clause-range : goal.returns-then-eq-clause-range
 returns-then-eq-clause-range c =
     kept_in_range (fault_of replay_app (texts_of c.args.words.now)) Replay c.bare_task.result tt c.bare_task.ensures
 
-pub returns-then-eq-3-clause-range : goal.returns-then-eq-3-clause-range
-returns-then-eq-3-clause-range c =
-    kept_in_range (fault_of match_app (texts_of c.args.words.now)) Match c.bare_task-then-eq-3.result tt c.bare_task-then-eq-3.ensures
+pub returns-then-eq-4-clause-range : goal.returns-then-eq-4-clause-range
+returns-then-eq-4-clause-range c =
+    kept_in_range (fault_of match_app (texts_of c.args.words.now)) Match c.bare_task-then-eq-4.result tt c.bare_task-then-eq-4.ensures
