@@ -17,6 +17,12 @@ class Relay:
         self.came = self.lost = self.repeated = self.delayed = 0
         self.out = socket.socket(socket.AF_INET, socket.SOCK_DGRAM)
 
+    def __str__(self):
+        return (
+            f"{self.came} datagrams came to the relay; {self.lost} were lost, {self.repeated} repeated, "
+            f"{self.delayed} delayed"
+        )
+
     def port_to(self, address):
         """A new port, what comes to which goes to the address."""
         inlet = socket.socket(socket.AF_INET, socket.SOCK_DGRAM)

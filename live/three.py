@@ -53,33 +53,38 @@ quiet = 200
 A = "127.0.0.1:{A}"
 M = "127.0.0.1:{M}"
 B = "127.0.0.1:{B}"
----
 """
 
 
-def free_port():
-    with socket.socket(socket.AF_INET, socket.SOCK_DGRAM) as it:
+def views(relay, names):
+    """The port by which each name knows each: its own, or one of the relay that leads there."""
+    sockets = {name: socket.socket(socket.AF_INET, socket.SOCK_DGRAM) for name in names}
+    for it in sockets.values():
         it.bind(("127.0.0.1", 0))
-        return it.getsockname()[1]
+    real = {name: it.getsockname() for name, it in sockets.items()}
+    seen = {by: {of: real[of][1] if by == of else relay.port_to(real[of]) for of in names} for by in names}
+    for it in sockets.values():
+        it.close()
+    return seen
 
 
-class Broker:
-    """One broker in a process of its own; what it prints is gathered line by line, over all its runs."""
+class Process:
+    """A process in a folder of its own, killed and started again; what it prints is gathered over all its runs."""
 
-    def __init__(self, program, folder, name, scenario):
-        self.program, self.folder, self.name, self.scenario = program, folder, name, scenario
-        self.lines, self.kills, self.process = [], 0, None
-        self.reader = None
+    def __init__(self, home, name, command, text):
+        self.folder, self.name, self.command = os.path.join(home, name), name, command
+        self.lines, self.kills, self.process, self.reader = [], 0, None, None
+        os.mkdir(self.folder)
+        with open(os.path.join(self.folder, "input"), "w") as it:
+            it.write(text)
+
+    def __str__(self):
+        status = self.process.poll()
+        return f"{self.name} runs" if status is None else f"{self.name} ended with status {status}"
 
     def start(self):
-        with open(os.path.join(self.folder, "scenario"), "w") as it:
-            it.write(self.scenario)
-        self.process = subprocess.Popen(
-            [self.program, "serve", "1000000", self.name],
-            cwd=self.folder,
-            stdin=open(os.path.join(self.folder, "scenario"), "rb"),
-            stdout=subprocess.PIPE,
-        )
+        with open(os.path.join(self.folder, "input"), "rb") as text:
+            self.process = subprocess.Popen(self.command, cwd=self.folder, stdin=text, stdout=subprocess.PIPE)
         self.reader = threading.Thread(target=self._read, args=(self.process.stdout,), daemon=True)
         self.reader.start()
 
@@ -88,11 +93,23 @@ class Broker:
             if line.endswith(b"\n"):
                 self.lines.append(line[:-1].decode())
 
-    def kill(self):
+    def stop(self):
         self.process.send_signal(signal.SIGKILL)
         self.process.wait()
-        self.reader.join()
+        if self.reader:
+            self.reader.join()
+
+    def kill(self):
+        self.stop()
         self.kills += 1
+        self.start()
+
+
+class Broker(Process):
+    """A broker that serves a scenario."""
+
+    def __init__(self, program, home, name, scenario):
+        super().__init__(home, name, [program, "serve", "1000000", name], scenario)
 
 
 def publishes(count):
@@ -137,7 +154,8 @@ def check(told_by_a, told_by_b, events):
     return wrong
 
 
-def main():
+def options():
+    """The words of the command, and the relay that they ask for."""
     parser = argparse.ArgumentParser()
     parser.add_argument("program", nargs="?", default=os.path.join(os.path.dirname(__file__), "..", "gryphon"))
     parser.add_argument("--events", type=int, default=2000)
@@ -146,19 +164,20 @@ def main():
     parser.add_argument("--seconds", type=float, default=110)
     parser.add_argument("--seed", type=int, default=1)
     asked = parser.parse_args()
+    asked.program = os.path.abspath(asked.program)
+    return asked, Relay(asked.loss, asked.loss / 4, asked.loss / 2, asked.seed)
+
+
+def main():
+    asked, relay = options()
     chance = random.Random(asked.seed)
-    program = os.path.abspath(asked.program)
-    relay = Relay(asked.loss, asked.loss / 4, asked.loss / 2, asked.seed)
-    real = {name: free_port() for name in "AMB"}
-    seen = {(by, of): real[of] if by == of else relay.port_to(("127.0.0.1", real[of])) for by in "AMB" for of in "AMB"}
+    seen = views(relay, "AMB")
     steps, events = publishes(asked.events)
     home = tempfile.mkdtemp(prefix="gryphon-live-")
     brokers = {}
     for name in "AMB":
-        folder = os.path.join(home, name)
-        os.mkdir(folder)
-        scenario = TOPOLOGY.format(**{of: seen[name, of] for of in "AMB"}) + (steps if name == "A" else "")
-        brokers[name] = Broker(program, folder, name, scenario)
+        scenario = TOPOLOGY.format(**seen[name]) + "---\n" + (steps if name == "A" else "")
+        brokers[name] = Broker(asked.program, home, name, scenario)
     begun = time.monotonic()
     for it in brokers.values():
         it.start()
@@ -174,25 +193,23 @@ def main():
             next_kill = now + chance.uniform(0.3, 0.9)
             if a.kills < asked.kills:
                 a.kill()
-                a.start()
             if m.kills < asked.kills // 3:
                 m.kill()
-                m.start()
             if done() and a.kills >= asked.kills:
                 ended = now
                 break
         for it in brokers.values():
             if it.process.poll() is not None:
-                print(f"live: broker {it.name} ended with status {it.process.returncode}")
+                print(f"live: {it}")
+                for other in brokers.values():
+                    other.stop()
                 return 1
     for it in brokers.values():
-        it.process.send_signal(signal.SIGKILL)
-        it.process.wait()
-        it.reader.join()
+        it.stop()
     wrong = check(a.lines, b.lines, events)
     if ended is None:
         wrong.append(f"not everything came within {asked.seconds:g} seconds")
-    print(f"live: {relay.came} datagrams came to the relay; {relay.lost} were lost, {relay.repeated} repeated, {relay.delayed} delayed")
+    print(f"live: {relay}")
     print(f"live: A was killed {a.kills} times, M {m.kills} times")
     if ended is not None:
         print(f"live: {asked.events} events in {ended - begun:.1f} seconds")
