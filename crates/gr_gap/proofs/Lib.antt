@@ -2,6 +2,7 @@ pub mod Words
 pub mod StickyLaws
 pub mod LooseValues
 pub mod OwnerSteps
-pub mod Packing
-pub mod PackingOn
-pub mod PackingBack
+pub mod Rows
+pub mod RowEdits
+pub mod Changes
+pub mod Neighbours

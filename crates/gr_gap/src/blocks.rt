@@ -1,35 +1,47 @@
-// Blocks of so many places each, in a row: each but the last that has a value is full. So the value at `i` stands in
-// the block `i / BLOCK`, and an edit passes one value on from each block between there and the last.
+// Values in order, in blocks of so many places each, which need not be full. An edit moves values within one block, and
+// changes the starts of those behind it.
 ghost use Rattle.std.specs.Prelude.{◌≡◌, ℕ, ◌+◌, ◌*◌, ◌^◌, ◌<◌, ◌≤◌, [], ◌++◌, length, insert, remove, slice_index_or, slice_set, OnOk, OnErr, min};
 ghost use Rattle.std_alloc.specs.VecDeque.{deque_len, deque_capacity};
-ghost use Rattle.gr_gap.specs.Blocks.{values_of, Lacks};
 ghost use Rattle.gr_gap.specs.declared.blocks.TheConstants.{BLOCK};
 
+use crate::moves::{close_empty, put, put_first, take_first};
+use crate::places::place_for;
+use crate::starts::{block_of, lower, raise};
 use std::alloc::{AllocError, Global};
 use std::collections::VecDeque;
 use std::marker::Model;
 use std::mem;
 
 /// How many places a block has.
-pub(crate) const BLOCK: usize = 4096;
+pub(crate) const BLOCK: usize = 512;
 
 #[derive(Drop)]
 pub struct Blocks<T> {
+    // The blocks in use, in order, and behind them the free ones, which are empty.
     blocks: VecDeque<VecDeque<T>>,
+    // How many values stand before each block in use.
+    starts: Vec<usize>,
+    // How many values there are.
     len: usize,
+    // The block of the last edit: a search looks there early.
+    near: usize,
 }
 
 impl<T> Model for Blocks<T> {
-    ghost use Rattle.std.specs.Prelude.{◌≡◌, ◌*◌, ◌^◌, ◌<◌, length};
+    ghost use Rattle.std.specs.Prelude.{◌≡◌, ◌*◌, ◌^◌, ◌<◌, ◌≤◌, length, vec_capacity};
     ghost use Rattle.gr_gap.specs.Row.{Row};
-    ghost use Rattle.gr_gap.specs.Blocks.{values_of, Packed};
+    ghost use Rattle.gr_gap.specs.Blocks.{values_of, IsRow};
     ghost use Rattle.gr_gap.specs.declared.blocks.TheConstants.{BLOCK};
 
     ghost Value = { Row T };
 
     ghost view = { λ b. record { items = values_of b.blocks.items; blocks = length b.blocks.items } };
 
-    ghost invariant = { λ b. Packed BLOCK b.len b.blocks.items × (length b.blocks.items * BLOCK < 2 ^ 63) };
+    ghost invariant = { λ b.
+        IsRow BLOCK 0 b.starts.items b.blocks.items
+        × (b.len ≡ length (values_of b.blocks.items))
+        × (length b.blocks.items ≤ vec_capacity b.starts)
+        × (length b.blocks.items * BLOCK < 2 ^ 63) };
 }
 
 impl<T> Blocks<T> {
@@ -39,7 +51,9 @@ impl<T> Blocks<T> {
     {
         Blocks {
             blocks: VecDeque::new(alloc),
+            starts: Vec::new(alloc),
             len: 0,
+            near: 0,
         }
     }
 
@@ -61,7 +75,8 @@ impl<T> Blocks<T> {
         requires { i < length self.now.items }
         ensures { result.now ≡ slice_index_or self.now.items i result.now }
     {
-        &self.blocks[i / BLOCK][i % BLOCK]
+        let block = block_of(self.starts.as_slice(), self.near, i);
+        &self.blocks[block][i - self.starts[block]]
     }
 
     pub(crate) fn replace(&mut self, i: usize, value: T) -> T
@@ -70,7 +85,10 @@ impl<T> Blocks<T> {
         ensures items { self.new.items ≡ slice_set self.old.items i value }
         ensures blocks { self.new.blocks ≡ self.old.blocks }
     {
-        mem::replace(&mut self.blocks[i / BLOCK][i % BLOCK], value)
+        let block = block_of(self.starts.as_slice(), self.near, i);
+        self.near = block;
+        let place = i - self.starts[block];
+        mem::replace(&mut self.blocks[block][place], value)
     }
 
     pub(crate) fn insert(&mut self, i: usize, value: T)
@@ -79,12 +97,11 @@ impl<T> Blocks<T> {
         ensures items { self.new.items ≡ insert self.old.items i value }
         ensures blocks { self.new.blocks ≡ self.old.blocks }
     {
-        let mut free = self.len / BLOCK;
-        while i / BLOCK < free {
-            free -= 1;
-            pass_on(&mut self.blocks, free);
-        }
-        put(&mut self.blocks[free], i % BLOCK, value);
+        let block = place_for(&mut self.blocks, &mut self.starts, self.near, i);
+        let place = i - self.starts[block];
+        put(&mut self.blocks[block], place, value);
+        raise(&mut self.starts, block + 1, 1);
+        self.near = block;
         self.len += 1;
     }
 
@@ -94,15 +111,15 @@ impl<T> Blocks<T> {
         ensures items { self.new.items ≡ remove self.old.items i }
         ensures blocks { self.new.blocks ≡ self.old.blocks }
     {
-        let mut free = i / BLOCK;
-        let Some(value) = self.blocks[free].remove(i % BLOCK) else {
+        let block = block_of(self.starts.as_slice(), self.near, i);
+        let place = i - self.starts[block];
+        let Some(value) = self.blocks[block].remove(place) else {
             unreachable!()
         };
+        lower(&mut self.starts, block + 1, 1);
+        self.near = block;
         self.len -= 1;
-        while free < self.len / BLOCK {
-            pass_back(&mut self.blocks, free);
-            free += 1;
-        }
+        close_empty(&mut self.blocks, &mut self.starts, block);
         value
     }
 
@@ -113,84 +130,50 @@ impl<T> Blocks<T> {
         ensures ok { OnOk result (self.new.blocks ≡ self.old.blocks + 1) }
         ensures err { OnErr result (self.new ≡ self.old) }
     {
+        let used = self.starts.len();
+        self.starts.reserve(self.blocks.len() + 1 - used)?;
         self.blocks.reserve(1)?;
         let block = VecDeque::with_capacity(alloc, BLOCK)?;
         self.blocks.push_back_reserved(block);
         Ok(())
     }
 
-    // Exchanges the first block for an empty one of as many places, which then stands behind all.
-    pub(crate) fn take_first(&mut self, head: &mut VecDeque<T>)
-        requires { (0 < self.old.blocks) × (head.old.items ≡ []) × (BLOCK ≤ deque_capacity head.old) }
+    // Exchanges an empty block that stands before all for the first in use, where there is one. The empty one is free
+    // then.
+    pub(crate) fn refill(&mut self, head: &mut VecDeque<T>)
+        requires empty { head.old.items ≡ [] }
+        requires capacity { 0 < length self.old.items → BLOCK ≤ deque_capacity head.old }
         ensures items { head.new.items ++ self.new.items ≡ self.old.items }
-        ensures count { length head.new.items ≡ min BLOCK (length self.old.items) }
-        ensures capacity { BLOCK ≤ deque_capacity head.new }
+        ensures count { length head.new.items ≤ BLOCK }
+        ensures capacity { min BLOCK (deque_capacity head.old) ≤ deque_capacity head.new }
         ensures blocks { self.new.blocks ≡ self.old.blocks }
     {
-        let Some(first) = self.blocks.pop_front() else {
-            unreachable!()
-        };
-        self.len -= first.len();
-        self.blocks.push_back_reserved(mem::replace(head, first));
+        if self.len == 0 {
+            return;
+        }
+        take_first(&mut self.blocks, &mut self.starts, head);
+        self.near = 0;
+        self.len -= head.len();
     }
 
-    // Exchanges the last block, which is empty, for a full one, which then stands before all.
-    pub(crate) fn put_first(&mut self, head: &mut VecDeque<T>)
-        requires room { length self.old.items + BLOCK ≤ self.old.blocks * BLOCK }
+    // Makes a place in a full block that stands before all. Where a block is free, it is exchanged for the full one,
+    // which is the first in use then; else the last value of the full one goes before the others.
+    pub(crate) fn relieve(&mut self, head: &mut VecDeque<T>)
+        requires room { length self.old.items < self.old.blocks * BLOCK }
         requires full { (length head.old.items ≡ BLOCK) × (BLOCK ≤ deque_capacity head.old) }
-        ensures items { self.new.items ≡ head.old.items ++ self.old.items }
-        ensures empty { (head.new.items ≡ []) × (BLOCK ≤ deque_capacity head.new) }
+        ensures items { head.new.items ++ self.new.items ≡ head.old.items ++ self.old.items }
+        ensures place { (length head.new.items < BLOCK) × (BLOCK ≤ deque_capacity head.new) }
         ensures blocks { self.new.blocks ≡ self.old.blocks }
     {
-        let Some(last) = self.blocks.pop_back() else {
+        if self.starts.len() < self.blocks.len() {
+            put_first(&mut self.blocks, &mut self.starts, head);
+            self.near = 0;
+            self.len += BLOCK;
+            return;
+        }
+        let Some(last) = head.pop_back() else {
             unreachable!()
         };
-        self.len += head.len();
-        self.blocks.push_front_reserved(mem::replace(head, last));
+        self.insert(0, last);
     }
-}
-
-// Puts a value into a block that has a free place.
-pub(crate) fn put<T>(block: &mut VecDeque<T>, i: usize, value: T)
-    requires within { i ≤ deque_len block.old }
-    requires room { deque_len block.old < deque_capacity block.old }
-    ensures items { block.new.items ≡ insert block.old.items i value }
-    ensures len { deque_len block.new ≡ deque_len block.old + 1 }
-    ensures capacity { deque_capacity block.old ≤ deque_capacity block.new }
-{
-    if i == block.len() {
-        block.push_back_reserved(value);
-        return;
-    }
-    match block.insert(i, value) {
-        Ok(()) => {}
-        // There is room, so this is never met. The value has to go somewhere.
-        Err(failed) => block.push_back_reserved(failed.value),
-    }
-}
-
-// The last value of the block becomes the first of the next.
-fn pass_on<T>(blocks: &mut VecDeque<VecDeque<T>>, block: usize)
-    requires { (n : ℕ) × Lacks BLOCK n (block + 1) blocks.old.items }
-    ensures values { values_of blocks.new.items ≡ values_of blocks.old.items }
-    ensures lacks { (n : ℕ) → Lacks BLOCK n (block + 1) blocks.old.items → Lacks BLOCK n block blocks.new.items }
-    ensures len { deque_len blocks.new ≡ deque_len blocks.old }
-{
-    let Some(value) = blocks[block].pop_back() else {
-        unreachable!()
-    };
-    blocks[block + 1].push_front_reserved(value);
-}
-
-// The first value of the next block becomes the last of the block.
-fn pass_back<T>(blocks: &mut VecDeque<VecDeque<T>>, block: usize)
-    requires { (n : ℕ) × (Lacks BLOCK n block blocks.old.items × ((block + 1) * BLOCK < n)) }
-    ensures values { values_of blocks.new.items ≡ values_of blocks.old.items }
-    ensures lacks { (n : ℕ) → Lacks BLOCK n block blocks.old.items → Lacks BLOCK n (block + 1) blocks.new.items }
-    ensures len { deque_len blocks.new ≡ deque_len blocks.old }
-{
-    let Some(value) = blocks[block + 1].pop_front() else {
-        unreachable!()
-    };
-    blocks[block].push_back_reserved(value);
 }

@@ -1,10 +1,12 @@
-// A list in blocks: an edit moves values in one block, and one for each block behind it.
+// A list in blocks: an edit moves values within one block.
 ghost use Rattle.std.specs.Prelude.{◌≡◌, ◌+◌, ◌*◌, ◌^◌, ◌<◌, ◌≤◌, [], ◌∷◌, length, insert, remove, slice_index_or, slice_set, OnOk, OnErr, IsOk, max};
 ghost use Rattle.gr_gap.specs.declared.blocks.TheConstants.{BLOCK};
 
 use crate::Memory;
-use crate::blocks::{BLOCK, Blocks, put};
+use crate::blocks::{BLOCK, Blocks};
+use crate::moves::put;
 use std::alloc::{AllocError, Global};
+use std::cell::Cell;
 use std::collections::VecDeque;
 use std::marker::Model;
 use std::mem;
@@ -16,17 +18,17 @@ const LEAST_ROOM: usize = 4;
 const MOST_ROOM: usize = 1 << 61;
 
 /// A list with room for more values: its contracts see the values in order, and `spare`, how many more fit.
-/// An edit at one of the two ends moves no other value. One elsewhere moves at most half a block's values, and one for
-/// each block that comes after it.
+/// An edit at one of the two ends moves no other value. One elsewhere moves at most half a block's values.
 pub struct Gap<T> {
-    // The first values, in a block of their own.
+    // The first values, in a block of their own: so an edit before all leaves the starts of the other blocks as they are.
+    // Where all fit in one block, they stand here.
     head: VecDeque<T>,
-    // How many values stand in `head` where any stand in `rest`. Where all fit in one block, it is as wide as a block.
-    width: usize,
     // The values that come after them.
     rest: Blocks<T>,
     // How many values fit in all.
     room: usize,
+    // Where a search may well begin. What it holds is no part of the list.
+    near: Cell<usize>,
 }
 
 impl<T> Model for Gap<T> {
@@ -41,9 +43,9 @@ impl<T> Model for Gap<T> {
         { items = g.head.items ++ g.rest.items; spare = g.room - (length g.head.items + length g.rest.items) } };
 
     ghost invariant = { λ g.
-        (length g.head.items ≡ min g.width (length g.head.items + length g.rest.items))
+        (length g.head.items ≤ BLOCK)
         × (length g.head.items + length g.rest.items ≤ g.room)
-        × (0 < g.width) × (g.width ≤ BLOCK) × (BLOCK < max (g.width + 1) g.room)
+        × (BLOCK < max g.room (BLOCK + 1 - length g.rest.items))
         × (min g.room BLOCK ≤ deque_capacity g.head) × (g.room ≤ max BLOCK (g.rest.blocks * BLOCK))
         × (g.room < 2 ^ 62) };
 }
@@ -53,9 +55,9 @@ impl<T: Drop> Drop for Gap<T> {
     fn drop(self) {
         let Gap {
             head,
-            width: _,
             rest,
             room: _,
+            near: _,
         } = self;
         drop(head);
         drop(rest);
@@ -70,9 +72,9 @@ impl<T> Gap<T> {
     {
         Gap {
             head: VecDeque::new(alloc),
-            width: BLOCK,
             rest: Blocks::new(alloc),
             room: 0,
+            near: Cell::new(0),
         }
     }
 
@@ -105,23 +107,21 @@ impl<T> Gap<T> {
         ensures spare { self.new.spare + 1 ≡ self.old.spare }
         ensures counted { length self.new.items < 2 ^ 64 }
     {
-        if i == 0 {
-            self.put_first(value);
+        self.near.set(i);
+        if self.head.len() < i || i == BLOCK {
+            self.rest.insert(i - self.head.len(), value);
             return;
         }
-        if self.width <= i {
-            self.rest.insert(i - self.width, value);
-            return;
-        }
-        if self.head.len() < self.width {
+        if self.head.len() < BLOCK {
             put(&mut self.head, i, value);
             return;
         }
-        let Some(last) = self.head.pop_back() else {
-            unreachable!()
-        };
-        put(&mut self.head, i, value);
-        self.rest.insert(0, last);
+        self.rest.relieve(&mut self.head);
+        if i <= self.head.len() {
+            put(&mut self.head, i, value);
+            return;
+        }
+        self.rest.insert(i - self.head.len(), value);
     }
 
     /// Takes out the value at `i`.
@@ -131,20 +131,16 @@ impl<T> Gap<T> {
         ensures items { self.new.items ≡ remove self.old.items i }
         ensures spare { self.new.spare ≡ self.old.spare + 1 }
     {
-        if i == 0 {
-            return self.take_first();
-        }
-        if self.width <= i {
-            return self.rest.remove(i - self.width);
+        self.near.set(i);
+        if self.head.len() <= i {
+            return self.rest.remove(i - self.head.len());
         }
         let Some(value) = self.head.remove(i) else {
             unreachable!()
         };
-        if self.rest.len() == 0 {
-            return value;
+        if self.head.len() == 0 {
+            self.rest.refill(&mut self.head);
         }
-        let first = self.rest.remove(0);
-        self.head.push_back_reserved(first);
         value
     }
 
@@ -153,10 +149,10 @@ impl<T> Gap<T> {
         requires { i < length self.now.items }
         ensures { result.now ≡ slice_index_or self.now.items i result.now }
     {
-        if i < self.width {
+        if i < self.head.len() {
             &self.head[i]
         } else {
-            self.rest.get(i - self.width)
+            self.rest.get(i - self.head.len())
         }
     }
 
@@ -167,10 +163,11 @@ impl<T> Gap<T> {
         ensures items { self.new.items ≡ slice_set self.old.items i value }
         ensures spare { self.new.spare ≡ self.old.spare }
     {
-        if i < self.width {
+        self.near.set(i);
+        if i < self.head.len() {
             mem::replace(&mut self.head[i], value)
         } else {
-            self.rest.replace(i - self.width, value)
+            self.rest.replace(i - self.head.len(), value)
         }
     }
 
@@ -180,6 +177,17 @@ impl<T> Gap<T> {
         ensures { (other : Global) → result ≡ other }
     {
         *self.head.allocator()
+    }
+
+    /// Where a search may well begin, since what is looked for and edited lies near what was before: the place of the
+    /// last edit, or the last one that was noted. It is a hint alone: there may be no value at that place.
+    pub fn near(&self) -> usize {
+        self.near.get()
+    }
+
+    /// Notes a place at which something was found, for the next search.
+    pub fn note(&self, i: usize) {
+        self.near.set(i);
     }
 
     /// How many values there are.
@@ -205,44 +213,6 @@ impl<T> Gap<T> {
         add_blocks(&mut self.rest, room, alloc)?;
         self.room = room;
         Ok(())
-    }
-
-    // Puts a value before all. None moves.
-    fn put_first(&mut self, value: T)
-        requires { 0 < self.old.spare }
-        ensures items { self.new.items ≡ value ∷ self.old.items }
-        ensures spare { self.new.spare + 1 ≡ self.old.spare }
-        ensures counted { length self.new.items < 2 ^ 64 }
-    {
-        if self.head.len() < BLOCK {
-            self.head.push_front_reserved(value);
-            self.width = BLOCK.min(self.width + 1);
-            return;
-        }
-        self.rest.put_first(&mut self.head);
-        self.head.push_front_reserved(value);
-        self.width = 1;
-    }
-
-    // Takes the first value. None other moves.
-    fn take_first(&mut self) -> T
-        requires { 0 < length self.old.items }
-        ensures items { self.old.items ≡ result ∷ self.new.items }
-        ensures spare { self.new.spare ≡ self.old.spare + 1 }
-    {
-        let Some(value) = self.head.pop_front() else {
-            unreachable!()
-        };
-        if self.rest.len() == 0 {
-            return value;
-        }
-        if self.width > 1 {
-            self.width -= 1;
-            return value;
-        }
-        self.rest.take_first(&mut self.head);
-        self.width = BLOCK;
-        value
     }
 }
 

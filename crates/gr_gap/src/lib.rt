@@ -5,8 +5,11 @@
 mod blocks;
 pub mod gap;
 mod loose;
+mod moves;
 mod owner;
+mod places;
 pub mod shared;
+mod starts;
 
 pub use gap::Gap;
 pub use shared::Shared;

@@ -6,4 +6,4 @@ abbrev pub invariant-loop-rest : goal.invariant-loop-rest
 invariant-loop-rest g l = record { same : l.rest.items ≡ l.initial.rest.items; more : l.initial.rest.blocks ≤ l.rest.blocks }
 
 abbrev pub decreases-loop-rest : goal.decreases-loop-rest
-decreases-loop-rest g l = l.fn.room - l.rest.blocks * 4096
+decreases-loop-rest g l = l.fn.room - l.rest.blocks * 512

@@ -1,27 +1,37 @@
--- The value at i stands in the block i / 4096, at i % 4096.
-use Rattle.std.proofs.Common.{ap, length, sym, ◌≡◌, ◌≤◌, ◌∙◌, ◌*◌, ◌/◌, ◌%◌, arith, get_or}
-use Rattle.gr_gap.proofs.Packing.{counted, fits, block_of, value_at}
+-- The value stands in its block, at its place behind the start.
+use Rattle.std.proofs.Common.{ap, length, sym, ◌≡◌, ◌-◌, ◌∙◌, arith, get_or}
+use Rattle.gr_gap.specs.Blocks.{values_of}
+use Rattle.gr_gap.proofs.Rows.{some_start, held_at, in_row, located}
+use Rattle.gr_gap.proofs.RowEdits.{value_at}
 use Rattle.gr_gap.proofs.blocks.Blocks.get.Goals as goal
+
+pub block_of-block-requires-clause-some : goal.block_of-block-requires-clause-some
+block_of-block-requires-clause-some g c =
+    let s = c.self.inside in
+    let seen : length (values_of s.blocks.items) ≡ length c.args.self.now.items = ap (λ v. length v.items) c.self.view_is in
+    let long : length c.as_slice.result.now ≡ length s.starts.items = ap length c.as_slice.ensures.value in
+    omega (arith, long, some_start s.starts.items s.blocks.items c.self.invariant.0 (omega (arith, seen, c.requires)))
 
 pub index-requires : goal.index-requires
 index-requires g c =
     let s = c.self.inside in
-    let seen : length c.args.self.now.items ≡ s.len = ap (λ v. length v.items) (sym c.self.view_is) ∙ counted s.len s.blocks.items c.self.invariant.0 in
-    let within : s.len ≤ length s.blocks.items * 4096 = fits s.len s.blocks.items c.self.invariant.0 in
-    omega (arith, seen, within, c.requires, s.blocks.ok.0)
+    let long : length c.as_slice.result.now ≡ length s.starts.items = ap length c.as_slice.ensures.value in
+    omega (arith, long, c.block_of-block.ensures.within, in_row 0 s.starts.items s.blocks.items c.self.invariant.0, s.blocks.ok.0)
 
-pub index-requires-2 : goal.index-requires-2
-index-requires-2 g c =
-    let s = c.self.inside in let i = c.args.i in let b = c.index.result.now in
-    let seen : length c.args.self.now.items ≡ s.len = ap (λ v. length v.items) (sym c.self.view_is) ∙ counted s.len s.blocks.items c.self.invariant.0 in
-    let there = block_of (i / 4096) (i % 4096) s.len s.blocks.items b c.self.invariant.0 (omega arith) (omega (arith, seen, c.requires)) in
-    let same : length b.items ≡ length (get_or s.blocks.items (i / 4096) b).items = ap (λ q. length q.items) c.index.ensures in
-    omega (arith, there.1, same, b.ok.0)
+pub index-requires-3 : goal.index-requires-3
+index-requires-3 g c =
+    let s = c.self.inside in let k = c.block_of-block.result in let b = c.index.result.now in
+    let seen : length (values_of s.blocks.items) ≡ length c.args.self.now.items = ap (λ v. length v.items) c.self.view_is in
+    let found = located k c.args.i c.index-2.result.now c.as_slice.result.now s.starts.items s.blocks.items c.as_slice.ensures.value
+    c.self.invariant.0 c.block_of-block.ensures c.index-2.ensures (omega (arith, seen, c.requires)) in
+    omega (arith, found.3, held_at k s.blocks.items b found.1 c.index.ensures, b.ok.0)
 
 pub returns : goal.returns
 returns g c =
-    let s = c.self.inside in let i = c.args.i in let b = c.index.result.now in let x = c.index-2.result.now in
-    let seen : length c.args.self.now.items ≡ s.len = ap (λ v. length v.items) (sym c.self.view_is) ∙ counted s.len s.blocks.items c.self.invariant.0 in
-    c.index-2.ensures ∙ ap (λ q. get_or q.items (i % 4096) x) c.index.ensures
-    ∙ sym (value_at (i / 4096) (i % 4096) i s.len s.blocks.items b x c.self.invariant.0 (omega arith) (omega arith) (omega (arith, seen, c.requires)))
-    ∙ ap (λ v. get_or v.items i x) c.self.view_is
+    let s = c.self.inside in let k = c.block_of-block.result in let b = c.index.result.now in let i = c.args.i in
+    let r = c.index-2.result.now in let x = c.index-3.result.now in
+    let seen : length (values_of s.blocks.items) ≡ length c.args.self.now.items = ap (λ v. length v.items) c.self.view_is in
+    let found = located k i r c.as_slice.result.now s.starts.items s.blocks.items c.as_slice.ensures.value
+    c.self.invariant.0 c.block_of-block.ensures c.index-2.ensures (omega (arith, seen, c.requires)) in
+    c.index-3.ensures ∙ ap (λ q. get_or q.items (i - r) x) c.index.ensures
+    ∙ sym (value_at k (i - r) i s.blocks.items b x found.2 found.3) ∙ ap (λ v. get_or v.items i x) c.self.view_is
