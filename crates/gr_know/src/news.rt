@@ -85,6 +85,9 @@ pub fn joined_piece(
         (λ t. if within first last t then join_K (known_at stream.now.runs t) (known_at piece.now t) else Q)) }
 {
     let known = stream.piece(first, last)?;
+    if known.is_empty() {
+        return piece.cut(first, last);
+    }
     let mut joined = Stream::new(alloc);
     joined.join_piece(&known)?;
     joined.join_piece(piece)?;

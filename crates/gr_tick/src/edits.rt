@@ -119,8 +119,34 @@ fn gallop<V: Lattice>(runs: &Gap<Run<V>>, tick: u64, last: usize) -> usize
     bisect(runs, tick, 0, high)
 }
 
-/// Where the runs that end at a tick or later begin. The two newest are looked at first, then the oldest, and then what is
-/// near the newest.
+/// Where the runs that end at a tick or later begin, where those before a place end before the tick and the one at
+/// another does not. It is looked for from the first place on, each step twice as long as the one before.
+fn climb<V: Lattice>(runs: &Gap<Run<V>>, tick: u64, from: usize, upto: usize) -> usize
+    requires runs { AreTickRuns V.least runs.now.items }
+    requires ordered { from ≤ upto }
+    requires within { upto ≤ length runs.now.items }
+    requires front { EndBefore (take from runs.now.items) tick }
+    requires here { (r : Run V) (rs : List (Run V)) → drop upto runs.now.items ≡ r ∷ rs → tick ≤ r.last }
+    ensures within { result ≤ length runs.now.items }
+    ensures front { EndBefore (take result runs.now.items) tick }
+    ensures here { (r : Run V) (rs : List (Run V)) → drop result runs.now.items ≡ r ∷ rs → tick ≤ r.last }
+{
+    let mut low = from;
+    let mut step = 1usize;
+    while step <= upto - low {
+        let place = low + (step - 1);
+        let near = runs.get(place);
+        if tick <= near.last {
+            return bisect(runs, tick, low, place);
+        }
+        low = place + 1;
+        step = step.saturating_mul(2);
+    }
+    bisect(runs, tick, low, upto)
+}
+
+/// Where the runs that end at a tick or later begin. The two newest are looked at first, then two where the last edit or
+/// search was, then the oldest, and then what is near that place.
 pub fn seek<V: Lattice>(runs: &Gap<Run<V>>, tick: u64) -> usize
     requires { AreTickRuns V.least runs.now.items }
     ensures within { result ≤ length runs.now.items }
@@ -142,11 +168,38 @@ pub fn seek<V: Lattice>(runs: &Gap<Run<V>>, tick: u64) -> usize
     if second.last < tick {
         return count - 1;
     }
+    let place = seek_from(runs, tick, runs.near().min(count - 2));
+    runs.note(place);
+    place
+}
+
+/// The same, where the newest run but one does not end before the tick, from a place on.
+fn seek_from<V: Lattice>(runs: &Gap<Run<V>>, tick: u64, place: usize) -> usize
+    requires runs { AreTickRuns V.least runs.now.items }
+    requires within { place + 2 ≤ length runs.now.items }
+    requires here { (r : Run V) (rs : List (Run V)) →
+        drop (length runs.now.items - 2) runs.now.items ≡ r ∷ rs → tick ≤ r.last }
+    ensures within { result ≤ length runs.now.items }
+    ensures front { EndBefore (take result runs.now.items) tick }
+    ensures here { (r : Run V) (rs : List (Run V)) → drop result runs.now.items ≡ r ∷ rs → tick ≤ r.last }
+{
+    let second = runs.len() - 2;
+    let near = runs.get(place);
+    if near.last < tick {
+        return climb(runs, tick, place + 1, second);
+    }
+    if place == 0 {
+        return 0;
+    }
+    let before = runs.get(place - 1);
+    if before.last < tick {
+        return place;
+    }
     let oldest = runs.get(0);
     if tick <= oldest.last {
         return 0;
     }
-    gallop(runs, tick, count - 2)
+    gallop(runs, tick, place - 1)
 }
 
 /// How many runs begin by a tick.

@@ -9,6 +9,7 @@ use crate::edits::{copy_runs, put_run, seek, steady_in, steady_until, value_in};
 use crate::lattice::Lattice;
 use crate::run::Run;
 use crate::steady::Steady;
+use crate::stream::piece_of;
 use gr_gap::Gap;
 use std::alloc::{AllocError, Global};
 use std::marker::Model;
@@ -89,6 +90,17 @@ impl<V: Lattice> Piece<V> {
             last: upto,
             value: run.value.share(),
         })
+    }
+
+    /// The runs of the range, cut at its ends. It fails only where memory is refused.
+    pub fn cut(&self, first: u64, last: u64) -> Result<Piece<V>, AllocError>
+        requires from_one { 1 ≤ first }
+        requires ordered { first ≤ last }
+        requires upto { last ≤ MAX_TICK }
+        ensures { IfOk result (λ piece. RunsGive V.least piece
+            (λ t. if within first last t then value_at V.least self.now t else V.least)) }
+    {
+        piece_of(&self.runs, first, last)
     }
 
     /// Its runs.

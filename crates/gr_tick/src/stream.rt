@@ -288,7 +288,11 @@ impl<V: Lattice> Stream<V> {
 }
 
 /// The runs of a range, cut at its ends.
-fn piece_of<V: Lattice>(runs: &Gap<Run<V>>, first: u64, last: u64) -> Result<Piece<V>, AllocError>
+pub(crate) fn piece_of<V: Lattice>(
+    runs: &Gap<Run<V>>,
+    first: u64,
+    last: u64,
+) -> Result<Piece<V>, AllocError>
     requires runs { AreTickRuns V.least runs.now.items }
     requires from_one { 1 ≤ first }
     requires ordered { first ≤ last }
