@@ -1,5 +1,7 @@
 pub mod Numbers
 pub mod Reading
+pub mod Events
+pub mod Told
 pub mod Moments
 pub mod Onward
 pub mod Live

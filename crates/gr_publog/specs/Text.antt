@@ -1,5 +1,5 @@
 -- The text of a log in its lane: what records spell, and what bytes stand for
-use Rattle.std.specs.Prelude.{◌≡◌, ◌≢◌, ℕ, zero, suc, ◌+◌, ◌-◌, Bool, true, false, ◌==◌, nat_le, if◌then◌else◌, List, [], ◌∷◌, ◌++◌, length, take, drop, Result, Ok, Err}
+use Rattle.std.specs.Prelude.{◌≡◌, ◌≢◌, ℕ, zero, suc, ◌+◌, ◌-◌, ◌<◌, ◌≤◌, Bool, true, false, ◌==◌, nat_le, if◌then◌else◌, List, [], ◌∷◌, ◌++◌, length, get_or, take, drop, Result, Ok, Err}
 use Rattle.std.specs.Int.{Width, from_be_bytes, to_be_bytes, w32, w64}
 use Rattle.gr_event.specs.declared.event.Event.{Event as EventPairs}
 use Rattle.gr_event.specs.declared.event.EventFault.{EventFault}
@@ -127,6 +127,18 @@ log_text bytes =
 abbrev pub ReadsAsSpelled : Type 0
 ReadsAsSpelled = (bytes : List ℕ) (rs : List Record) → IsSpelled bytes rs → log_text bytes ≡ Ok rs
 
--- and nothing else is spelled by these bytes
+-- each is a byte
+abbrev pub AreBytes : List ℕ → Type 0
+AreBytes bytes = (i : ℕ) → get_or bytes i 0 < 256
+
+-- what is read is spelled, where there are more than six bytes
+abbrev pub SpellsWhatIsRead : Type 0
+SpellsWhatIsRead = (bytes : List ℕ) (rs : List Record) → AreBytes bytes → 6 < length bytes → log_text bytes ≡ Ok rs → IsSpelled bytes rs
+
+-- at most six bytes are an empty log, whatever they are
+abbrev pub ReadsShortAsEmpty : Type 0
+ReadsShortAsEmpty = (bytes : List ℕ) → length bytes ≤ 6 → log_text bytes ≡ Ok []
+
+-- nothing else is spelled by these bytes
 abbrev pub SpellsOneList : Type 0
 SpellsOneList = (bytes : List ℕ) (rs rs' : List Record) → IsSpelled bytes rs → IsSpelled bytes rs' → rs ≡ rs'

@@ -2,11 +2,18 @@
 
 ghost use Rattle.std.specs.Prelude.{◌≡◌, ◌^◌};
 ghost use Rattle.gr_publog.specs.declared.record.TheConstants.{MAX_TICK};
-ghost use Rattle.gr_publog.specs.Text.{ReadsAsSpelled, SpellsOneList};
+ghost use Rattle.gr_publog.specs.Text.{ReadsAsSpelled, ReadsShortAsEmpty, SpellsOneList, SpellsWhatIsRead};
 
 /// A lane that spells records reads as them, whatever stands behind the closed gate.
 pub fn reads_what_is_spelled()
     ensures { ReadsAsSpelled }
+{}
+
+/// A lane reads as nothing else: records that it reads as are spelled by it, if it has more than six bytes, and at most
+/// six are an empty log.
+pub fn spells_what_is_read()
+    ensures spelled { SpellsWhatIsRead }
+    ensures short { ReadsShortAsEmpty }
 {}
 
 /// A lane spells one list of records alone.
