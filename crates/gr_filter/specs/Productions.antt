@@ -1,6 +1,7 @@
 -- The grammar of filters, as one reads it: productions over words
 use Rattle.std.specs.Prelude.{◌≡◌, ℕ, suc, ℤ, Bool, true, false, ◌≤◌, List, [], ◌∷◌, ◌++◌, length, flat_map, Option, Some, None}
 use Rattle.gr_filter.specs.declared.node.Operand.{Operand}
+use Rattle.gr_filter.specs.declared.parser.TheConstants.{LEVELS, MAX_BYTES}
 use Rattle.gr_filter.specs.declared.node.Operand.TheVariants as operand
 use Rattle.gr_filter.specs.declared.node.Sign.{Sign}
 use Rattle.gr_filter.specs.declared.token.Token.{Token}
@@ -146,11 +147,11 @@ abbrev pub AreWords : List ℕ → ℕ → List Word → ℕ → Type 0
 AreWords bytes at [] to = at ≡ to
 AreWords bytes at (w ∷ ws) to = (word_at bytes at ≡ Some w) × AreWords bytes (lexeme bytes at).to ws to
 
--- The text has these words, and they derive the tree, with at most 64 levels.
+-- The text has these words, and they derive the tree, with no more levels than there may be.
 pub record IsFilterText (bytes : List ℕ) (t : Tree) : Type 0 where
-  pub short : length bytes ≤ 4096
+  pub short : length bytes ≤ MAX_BYTES
   pub words : List Word
   pub upto : ℕ
   pub are_words : AreWords bytes 0 words upto
   pub whole : (lexeme bytes upto).token ≡ token.End
-  pub derives : Derives filter 64 words t
+  pub derives : Derives filter LEVELS words t

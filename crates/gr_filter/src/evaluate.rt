@@ -20,6 +20,7 @@ pub fn truth(filter: &Filter, event: &Event) -> Kleene
     truth_of(filter.root(), event)
 }
 
+/// Whether the tree of a node holds of an event.
 fn truth_of(node: &Node, event: &Event) -> Kleene
     ensures { result ≡ truth (tree_of node.now) event.now }
 {
@@ -126,6 +127,7 @@ fn compare(sign: Sign, left: Option<Part>, right: Option<Part>) -> Kleene
     }
 }
 
+/// Whether the operand lies between two others, both included, or does not.
 fn between(negated: bool, operand: Option<Part>, low: Option<Part>, high: Option<Part>) -> Kleene
     ensures { result ≡ truth_between negated (option_map part_value operand.entry) (option_map part_value low.entry) (option_map part_value high.entry) }
 {
@@ -148,6 +150,7 @@ fn one_of(operand: Option<Part>, event: &Event, literals: &[Operand]) -> Kleene
     }
 }
 
+/// Whether the operand is a text that the pattern fits.
 fn like(operand: Option<Part>, pattern: &[u8]) -> Kleene
     ensures { result ≡ truth_like (option_map part_value operand.entry) pattern.now }
 {
@@ -158,6 +161,7 @@ fn like(operand: Option<Part>, pattern: &[u8]) -> Kleene
     }
 }
 
+/// Whether the operand is TRUE.
 fn alone(operand: Option<Part>) -> Kleene
     ensures { result ≡ truth_alone (option_map part_value operand.entry) }
 {
@@ -168,6 +172,7 @@ fn alone(operand: Option<Part>) -> Kleene
     }
 }
 
+/// Whether the operand is absent, or is not.
 fn null(negated: bool, operand: Option<Part>) -> Kleene
     ensures { result ≡ truth_null negated (option_map part_value operand.entry) }
 {

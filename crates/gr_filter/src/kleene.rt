@@ -6,8 +6,11 @@ ghost use Rattle.gr_filter.specs.Kleene.{known, opposite, opposite_if, least, gr
 /// Whether a filter holds of an event: false < unknown < true.
 #[derive(Clone, Copy, Debug, PartialEq, Eq)]
 pub enum Kleene {
+    /// It does not hold.
     False,
+    /// The event does not say what the filter asks.
     Unknown,
+    /// It holds.
     True,
 }
 

@@ -10,20 +10,30 @@ use std::marker::Model;
 /// What is compared: a name of the event, or a literal.
 #[derive(Drop)]
 pub enum Operand {
+    /// A name, which stands for its value in the event.
     Name(Text),
+    /// An integer.
     Int(i64),
+    /// A text, without its quotes.
     Text(Text),
+    /// TRUE or FALSE.
     Bool(bool),
 }
 
 /// How two operands are compared.
 #[derive(Clone, Copy, Debug, PartialEq, Eq)]
 pub enum Sign {
+    /// `=`
     Equal,
+    /// `<>`
     Differs,
+    /// `<`
     Less,
+    /// `<=`
     AtMost,
+    /// `>`
     Greater,
+    /// `>=`
     AtLeast,
 }
 
@@ -49,32 +59,47 @@ pub enum Node {
     Alone(Operand),
     /// Two operands and a sign.
     Compare {
+        /// What stands before the sign.
         left: Operand,
+        /// How both are compared.
         sign: Sign,
+        /// What stands behind the sign.
         right: Operand,
     },
     /// BETWEEN, with both ends.
     Between {
+        /// Whether NOT stands before BETWEEN.
         negated: bool,
+        /// What is to lie between both ends.
         operand: Operand,
+        /// The lower end.
         low: Operand,
+        /// The upper end.
         high: Operand,
     },
     /// IN, with its literals.
     OneOf {
+        /// Whether NOT stands before IN.
         negated: bool,
+        /// The name whose value is to be one of the literals.
         name: Text,
+        /// The literals.
         literals: Operands,
     },
     /// LIKE, with its pattern.
     Like {
+        /// Whether NOT stands before LIKE.
         negated: bool,
+        /// The name whose value is to fit the pattern.
         name: Text,
+        /// The pattern: `%` stands for any characters, `_` for one.
         pattern: Text,
     },
     /// IS NULL.
     IsNull {
+        /// Whether NOT stands before NULL.
         negated: bool,
+        /// The name that is to be absent.
         name: Text,
     },
     /// NOT.

@@ -4,6 +4,7 @@ ghost use Rattle.std.specs.Prelude.{◌≡◌, ◌++◌, ◌≤◌, Ok, length, 
 ghost use Rattle.gr_filter.specs.Grammar.{filter_text};
 ghost use Rattle.gr_filter.specs.Tree.{tree_of};
 ghost use Rattle.gr_filter.specs.Written.{depth};
+ghost use Rattle.gr_filter.specs.declared.parser.TheConstants.{LEVELS, MAX_BYTES};
 ghost use Rattle.gr_filter.specs.Print.{sign_text, doubled, quoted, operand_text, more_text, literals_text, not_text, tree_text};
 
 use crate::fault::Memory;
@@ -17,13 +18,15 @@ use std::alloc::Global;
 /// Where it has at most 4,096 bytes and nests at most 64 deep, it reads as the filter again.
 pub fn text(alloc: Global, filter: &Filter) -> Result<Text, Memory>
     ensures text { IfOk result (λ t. t ≡ tree_text (tree_of filter.now)) }
-    ensures reads_back { IfOk result (λ t. length t ≤ 4096 → depth (tree_of filter.now) ≤ 64 → filter_text t ≡ Ok (tree_of filter.now)) }
+    ensures reads_back { let tree = tree_of filter.now in
+        IfOk result (λ t. length t ≤ MAX_BYTES → depth tree ≤ LEVELS → filter_text t ≡ Ok tree) }
 {
     let mut out = Text::new(alloc);
     put_node(alloc, &mut out, filter.root())?;
     Ok(out)
 }
 
+/// Puts the text of a node.
 fn put_node(alloc: Global, out: &mut Text, node: &Node) -> Result<(), Memory>
     ensures { OnOk result (out.new ≡ out.old ++ tree_text (tree_of node.now)) }
 {
@@ -96,6 +99,7 @@ fn put_node(alloc: Global, out: &mut Text, node: &Node) -> Result<(), Memory>
     }
 }
 
+/// A sign, with a space on both sides.
 fn sign_text(sign: Sign) -> &'static [u8]
     ensures { result.now ≡ sign_text sign }
 {
@@ -109,12 +113,14 @@ fn sign_text(sign: Sign) -> &'static [u8]
     }
 }
 
+/// NOT with a space before it, or nothing.
 fn not_text(negated: bool) -> &'static [u8]
     ensures { result.now ≡ not_text negated }
 {
     if negated { b" NOT" } else { b"" }
 }
 
+/// Puts an operand: a name as it is, a number, a text in quotes, TRUE or FALSE.
 fn put_operand(alloc: Global, out: &mut Text, operand: &Operand) -> Result<(), Memory>
     ensures { OnOk result (out.new ≡ out.old ++ operand_text operand.now) }
 {
@@ -139,6 +145,7 @@ fn put_quoted(out: &mut Text, text: &[u8]) -> Result<(), Memory>
     out.push(b'\'')
 }
 
+/// Puts a text with each quote of it doubled.
 fn put_doubled(out: &mut Text, text: &[u8]) -> Result<(), Memory>
     ensures { OnOk result (out.new ≡ out.old ++ doubled text.now) }
 {
@@ -151,6 +158,7 @@ fn put_doubled(out: &mut Text, text: &[u8]) -> Result<(), Memory>
     Ok(())
 }
 
+/// Puts literals with commas between them.
 fn put_literals(alloc: Global, out: &mut Text, literals: &[Operand]) -> Result<(), Memory>
     ensures { OnOk result (out.new ≡ out.old ++ literals_text literals.now) }
 {
@@ -163,6 +171,7 @@ fn put_literals(alloc: Global, out: &mut Text, literals: &[Operand]) -> Result<(
     }
 }
 
+/// Puts literals, with a comma before each.
 fn put_more(alloc: Global, out: &mut Text, literals: &[Operand]) -> Result<(), Memory>
     ensures { OnOk result (out.new ≡ out.old ++ more_text literals.now) }
 {

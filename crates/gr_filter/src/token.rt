@@ -5,6 +5,7 @@ ghost use Rattle.std.specs.Option.{ForSome};
 ghost use Rattle.std.specs.Str.{is_utf8};
 ghost use Rattle.gr_filter.specs.Token.{is_space, is_digit, begins_name, goes_on, front, capital, is_word, word_token};
 ghost use Rattle.gr_filter.specs.Token.{number_from, integer_token, number_token, text_len, undoubled, text_token};
+ghost use Rattle.gr_filter.specs.declared.parser.TheConstants.{MAX_BYTES};
 ghost use Rattle.gr_filter.specs.Token.{sign_token, less_token, greater_token, minus_token, token_of, lexeme};
 
 use crate::fault::Memory;
@@ -16,23 +17,39 @@ use gr_event::Text;
 pub enum Token {
     /// The end of the text.
     End,
+    /// A name.
     Name,
+    /// An integer of 64 bits, with its minus if it has one.
     Integer(i64),
     /// A text with its quotes.
     Text,
+    /// The word AND, in any case, as all words.
     And,
+    /// The word OR.
     Or,
+    /// The word NOT.
     Not,
+    /// The word BETWEEN.
     Between,
+    /// The word IN.
     In,
+    /// The word LIKE.
     Like,
+    /// The word IS.
     Is,
+    /// The word NULL.
     Null,
+    /// The word TRUE.
     True,
+    /// The word FALSE.
     False,
+    /// A sign that compares.
     Sign(Sign),
+    /// An opening parenthesis.
     Open,
+    /// A closing parenthesis.
     Close,
+    /// A comma.
     Comma,
     /// No token begins here.
     Bad,
@@ -43,14 +60,17 @@ pub enum Token {
 /// A token and the bytes `from..to` that it has.
 #[derive(Clone, Copy)]
 pub struct Lexeme {
+    /// What it is.
     pub token: Token,
+    /// The place of its first byte, counted from 0 in the text.
     pub from: usize,
+    /// The place behind its last byte.
     pub to: usize,
 }
 
 /// The first token from a place on.
 pub(crate) fn next_token(bytes: &[u8], at: usize) -> Lexeme
-    requires few { length bytes.now ≤ 4096 }
+    requires few { length bytes.now ≤ MAX_BYTES }
     requires inside { at ≤ length bytes.now }
     ensures is { result ≡ lexeme bytes.now at }
     ensures rises { at ≤ result.from }
@@ -66,24 +86,28 @@ pub(crate) fn next_token(bytes: &[u8], at: usize) -> Lexeme
     }
 }
 
+/// Whether a byte is a space, a tab, CR or LF.
 fn is_space(byte: u8) -> bool
     ensures { result ≡ is_space byte }
 {
     byte == b' ' || byte == b'\t' || byte == b'\r' || byte == b'\n'
 }
 
+/// Whether a byte is a digit.
 fn is_digit(byte: u8) -> bool
     ensures { result ≡ is_digit byte }
 {
     byte >= b'0' && byte <= b'9'
 }
 
+/// Whether a name or a word may begin with this byte.
 fn begins_name(byte: u8) -> bool
     ensures { result ≡ begins_name byte }
 {
     (byte >= b'A' && byte <= b'Z') || (byte >= b'a' && byte <= b'z') || byte == b'_' || byte == b'$'
 }
 
+/// Whether a name or a word may go on with this byte.
 fn goes_on(byte: u8) -> bool
     ensures { result ≡ goes_on byte }
 {
@@ -129,6 +153,7 @@ fn name_bytes(text: &[u8]) -> usize
     text.len()
 }
 
+/// The capital of a small letter; any other byte as it is.
 fn capital(byte: u8) -> u8
     ensures { result ≡ capital byte }
 {
@@ -152,6 +177,7 @@ fn is_word(word: &[u8], keyword: &[u8]) -> bool
     }
 }
 
+/// The keyword that a word is, or a name.
 #[tactic(auto, unfolding(crate::specs::Token::word_token))]
 fn word_token(word: &[u8]) -> Token
     ensures { result ≡ word_token word.now }
@@ -199,6 +225,7 @@ fn number_from(read: u64, digits: &[u8]) -> u64
     }
 }
 
+/// The token of a number of at most 2^63, behind a minus or not.
 fn integer_token(minus: bool, number: u64) -> Token
     ensures { result ≡ integer_token minus number }
 {
@@ -272,6 +299,7 @@ fn is_text(bytes: &[u8]) -> bool
     std::str::from_utf8(bytes).is_ok()
 }
 
+/// The sign that begins with `<`, by what stands behind it, and how many bytes it has.
 fn less_token(text: &[u8]) -> (Token, usize)
     ensures is { result ≡ less_token text.now }
     ensures within { result.1 ≤ length text.now + 1 }
@@ -283,6 +311,7 @@ fn less_token(text: &[u8]) -> (Token, usize)
     }
 }
 
+/// The sign that begins with `>`, by what stands behind it, and how many bytes it has.
 fn greater_token(text: &[u8]) -> (Token, usize)
     ensures is { result ≡ greater_token text.now }
     ensures within { result.1 ≤ length text.now + 1 }
@@ -293,6 +322,7 @@ fn greater_token(text: &[u8]) -> (Token, usize)
     }
 }
 
+/// The sign or mark that begins with a byte, by what stands behind it, and how many bytes it has.
 fn sign_token(first: u8, rest: &[u8]) -> (Token, usize)
     ensures is { result ≡ sign_token first rest.now }
     ensures within { result.1 ≤ length rest.now + 1 }
@@ -308,8 +338,9 @@ fn sign_token(first: u8, rest: &[u8]) -> (Token, usize)
     }
 }
 
+/// The number behind a minus, and how many bytes it has with the minus.
 fn minus_token(rest: &[u8]) -> (Token, usize)
-    requires { length rest.now ≤ 4096 }
+    requires { length rest.now ≤ MAX_BYTES }
     ensures is { result ≡ minus_token rest.now }
     ensures within { result.1 ≤ length rest.now + 1 }
 {
@@ -324,7 +355,7 @@ fn minus_token(rest: &[u8]) -> (Token, usize)
 /// The token at the front of a text that begins with no space, and how many bytes it has.
 #[tactic(auto, unfolding(crate::specs::Token::token_of))]
 fn token_of(text: &[u8]) -> (Token, usize)
-    requires { length text.now ≤ 4096 }
+    requires { length text.now ≤ MAX_BYTES }
     ensures is { result ≡ token_of text.now }
     ensures within { result.1 ≤ length text.now }
 {
