@@ -16,8 +16,11 @@ use std::cmp::Ordering;
 /// A name with the values that it is tried with, and whether there is a text among them that is no literal.
 #[derive(Drop)]
 pub(crate) struct Attribute {
+    /// The name of the attribute.
     pub(crate) name: Text,
+    /// The values that it is tried with, rising.
     pub(crate) values: Values,
+    /// Whether a text that is no literal is among these.
     pub(crate) has_spare: bool,
 }
 

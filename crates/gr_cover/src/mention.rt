@@ -11,7 +11,9 @@ use std::alloc::Global;
 /// A name of a filter, and the literal that it is compared with, if it is compared with one.
 #[derive(Drop)]
 pub(crate) struct Mention {
+    /// The name that the filter says.
     pub(crate) name: Text,
+    /// The literal on the other side of the comparison, if there is one.
     pub(crate) literal: Option<Value>,
 }
 

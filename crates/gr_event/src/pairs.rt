@@ -10,7 +10,9 @@ use std::marker::Model;
 /// The pairs of an event that a walk has not come to yet, seen as their list.
 #[derive(Drop)]
 pub struct Pairs<'a> {
+    /// How many pairs are left.
     pub(crate) count: u8,
+    /// The bytes of these pairs, in the form of the event.
     pub(crate) rest: &'a [u8],
 }
 

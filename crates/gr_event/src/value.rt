@@ -47,7 +47,10 @@ impl Value {
 /// A value of an event as a reader sees it, a text as its bytes.
 #[derive(Clone, Copy)]
 pub enum Part<'a> {
+    /// A signed integer of 64 bits.
     Int(i64),
+    /// The bytes of a text, at most 1,024 of UTF-8.
     Text(&'a [u8]),
+    /// A truth value.
     Bool(bool),
 }

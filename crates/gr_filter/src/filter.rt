@@ -12,6 +12,7 @@ use std::marker::Model;
 /// A filter, seen as the root of its tree. Its names, integers and texts can be written down.
 #[derive(Drop)]
 pub struct Filter {
+    /// The root of the tree.
     pub(crate) root: Node,
 }
 

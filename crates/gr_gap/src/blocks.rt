@@ -15,6 +15,7 @@ use std::mem;
 /// How many places a block has.
 pub(crate) const BLOCK: usize = 512;
 
+/// Values in order, in blocks of `BLOCK` places each.
 #[derive(Drop)]
 pub struct Blocks<T> {
     // The blocks in use, in order, and behind them the free ones, which are empty.
@@ -45,7 +46,7 @@ impl<T> Model for Blocks<T> {
 }
 
 impl<T> Blocks<T> {
-    // No block. It takes no memory.
+    /// No block. It takes no memory.
     pub(crate) fn new(alloc: Global) -> Blocks<T>
         ensures { (result.items ≡ []) × (result.blocks ≡ 0) }
     {
@@ -57,13 +58,14 @@ impl<T> Blocks<T> {
         }
     }
 
+    /// How many values there are.
     pub(crate) fn len(&self) -> usize
         ensures { result ≡ length self.now.items }
     {
         self.len
     }
 
-    // How many values fit in all.
+    /// How many values fit in all.
     pub(crate) fn room(&self) -> usize
         ensures room { result ≡ self.now.blocks * BLOCK }
         ensures within { length self.now.items ≤ result }
@@ -71,6 +73,7 @@ impl<T> Blocks<T> {
         self.blocks.len() * BLOCK
     }
 
+    /// The value at a place, counted from 0.
     pub(crate) fn get(&self, i: usize) -> &T
         requires { i < length self.now.items }
         ensures { result.now ≡ slice_index_or self.now.items i result.now }
@@ -79,6 +82,7 @@ impl<T> Blocks<T> {
         &self.blocks[block][i - self.starts[block]]
     }
 
+    /// Puts a value in the place of another, which it answers.
     pub(crate) fn replace(&mut self, i: usize, value: T) -> T
         requires { i < length self.old.items }
         ensures value { result ≡ slice_index_or self.old.items i result }
@@ -91,6 +95,7 @@ impl<T> Blocks<T> {
         mem::replace(&mut self.blocks[block][place], value)
     }
 
+    /// Puts a value before the one at a place, or behind all. There must be room for it.
     pub(crate) fn insert(&mut self, i: usize, value: T)
         requires within { i ≤ length self.old.items }
         requires room { length self.old.items < self.old.blocks * BLOCK }
@@ -105,6 +110,7 @@ impl<T> Blocks<T> {
         self.len += 1;
     }
 
+    /// Takes the value at a place out; those behind it come one place nearer.
     pub(crate) fn remove(&mut self, i: usize) -> T
         requires { i < length self.old.items }
         ensures value { result ≡ slice_index_or self.old.items i result }
@@ -123,7 +129,7 @@ impl<T> Blocks<T> {
         value
     }
 
-    // One more block, behind all. Where memory is refused, all stays as it was.
+    /// One more block, behind all. Where memory is refused, all stays as it was.
     pub(crate) fn widen(&mut self, alloc: Global) -> Result<(), AllocError>
         requires { (self.old.blocks + 1) * BLOCK < 2 ^ 63 }
         ensures items { self.new.items ≡ self.old.items }
@@ -138,8 +144,8 @@ impl<T> Blocks<T> {
         Ok(())
     }
 
-    // Exchanges an empty block that stands before all for the first in use, where there is one. The empty one is free
-    // then.
+    /// Exchanges an empty block that stands before all for the first in use, where there is one. The empty one is free
+    /// then.
     pub(crate) fn refill(&mut self, head: &mut VecDeque<T>)
         requires empty { head.old.items ≡ [] }
         requires capacity { 0 < length self.old.items → BLOCK ≤ deque_capacity head.old }
@@ -156,8 +162,8 @@ impl<T> Blocks<T> {
         self.len -= head.len();
     }
 
-    // Makes a place in a full block that stands before all. Where a block is free, it is exchanged for the full one,
-    // which is the first in use then; else the last value of the full one goes before the others.
+    /// Makes a place in a full block that stands before all. Where a block is free, it is exchanged for the full one,
+    /// which is the first in use then; else the last value of the full one goes before the others.
     pub(crate) fn relieve(&mut self, head: &mut VecDeque<T>)
         requires room { length self.old.items < self.old.blocks * BLOCK }
         requires full { (length head.old.items ≡ BLOCK) × (BLOCK ≤ deque_capacity head.old) }

@@ -6,15 +6,19 @@ use crate::loose::Loose;
 use std::alloc::Global;
 use std::marker::Model;
 
-// What the block holds: the count of owners, and the value.
+/// What the block holds: the count of owners, and the value.
 #[derive(Drop)]
 pub(crate) struct Counted<T> {
+    /// How many owners there are, at least 1; at `u64::MAX` it stands still.
     pub(crate) count: u64,
+    /// The value that the owners share.
     pub(crate) value: T,
 }
 
+/// One of the owners of a value.
 pub(crate) struct Owner<T> {
     block: *mut Counted<T>,
+    /// The value that it shares.
     pub(crate) ghost value: { T },
 }
 
@@ -25,7 +29,7 @@ impl<T> Model for Owner<T> {
 }
 
 impl<T> Owner<T> {
-    // The first owner of a value.
+    /// The first owner of a value.
     pub(crate) fn of(first: Loose<Counted<T>, Global>) -> Owner<T>
         requires { first.value.count ≡ 1 }
         ensures { result.value ≡ first.value.value }
@@ -37,8 +41,8 @@ impl<T> Owner<T> {
         Owner { block }
     }
 
-    // Gives this owner up. It is the last where the count is 1, and gets the block with that count in it. At a full
-    // count nobody is the last. `None` tells no count: how many other owners there are is no value that an owner has.
+    /// Gives this owner up. It is the last where the count is 1, and gets the block with that count in it. At a full
+    /// count nobody is the last. `None` tells no count: how many other owners there are is no value that an owner has.
     pub(crate) fn step_down(self, alloc: Global) -> Option<Loose<Counted<T>, Global>>
         ensures { IfSome result (λ last. (last.value.count ≡ 1) × (last.value.value ≡ self.value)) }
     {
@@ -53,6 +57,7 @@ impl<T> Owner<T> {
         None
     }
 
+    /// One more owner of the same value. Takes no memory.
     pub(crate) fn share(&self) -> Owner<T>
         ensures { result.value ≡ self.now.value }
     {
@@ -66,6 +71,7 @@ impl<T> Owner<T> {
         Owner { block }
     }
 
+    /// The value.
     pub(crate) fn get(&self) -> &T
         ensures { result.now ≡ self.now.value }
     {

@@ -12,8 +12,11 @@ use std::alloc::Global;
 /// The places of the filters that have the part `name = value`, rising.
 #[derive(Drop)]
 pub(crate) struct Bucket {
+    /// The name of the part.
     pub(crate) name: Text,
+    /// The value that the name is to have.
     pub(crate) value: Value,
+    /// The places of the filters that have the part, rising.
     pub(crate) places: Numbers,
 }
 

@@ -12,7 +12,9 @@ use gr_filter::{Node, Operand, Sign};
 /// A name and the value that it is to have.
 #[derive(Clone, Copy)]
 pub(crate) struct NamedPart<'a> {
+    /// The bytes of the name.
     pub(crate) name: &'a [u8],
+    /// The value, as a reader sees it.
     pub(crate) part: Part<'a>,
 }
 

@@ -19,6 +19,7 @@ const MIX_COUNT: u64 = 0x1_0000_0000;
 /// The buckets of one row.
 #[derive(Drop)]
 pub(crate) struct Row {
+    /// The buckets, one for each part.
     pub(crate) buckets: Vec<Bucket>,
 }
 

@@ -10,6 +10,7 @@ use std::fmt;
 /// The first fault of bytes that are no note.
 #[derive(Clone, Copy, Debug, PartialEq, Eq)]
 pub struct NoteFault {
+    /// What is wrong.
     pub kind: NoteKind,
     /// The place, counted from 0 in bytes; 0 for `Memory`.
     pub at: usize,

@@ -21,10 +21,15 @@ impl Model for History {
 pub(crate) enum Note<'a> {
     /// The lane reads these bytes, synced, and its history begins anew.
     Holds(&'a [u8]),
+    /// These bytes were written from the place `at` on, counted from 0.
     Wrote { at: usize, bytes: &'a [u8] },
+    /// The lane was cut to `len` bytes.
     Cut { len: usize },
+    /// The lane was synced.
     Synced,
+    /// A write of `len` bytes from the place `at` on failed.
     FailedWrite { at: usize, len: usize },
+    /// A cut to `len` bytes failed.
     FailedCut { len: usize },
 }
 

@@ -20,16 +20,19 @@ impl Model for Journal {
 /// A call of the post and its answer.
 #[derive(Clone, Copy, Drop)]
 pub(crate) enum Note<'a> {
+    /// A binding: a broker's address, and whether the broker is hosted here.
     Bound {
         broker: u16,
         address: &'a [u8],
         here: bool,
         answer: Result<(), PostFault>,
     },
+    /// An arrival: the buffer after the call, and what came.
     Came {
         piece: &'a [u8],
         answer: Result<Arrival, PostFault>,
     },
+    /// An offer of bytes of one broker to another.
     Offered {
         from: u16,
         to: u16,

@@ -12,6 +12,7 @@ use std::marker::Model;
 /// Logged events in their order, seen as a list.
 #[derive(Drop)]
 pub struct Entries {
+    /// The events with their ticks, the earliest first.
     pub(crate) entries: VecDeque<Entry>,
 }
 

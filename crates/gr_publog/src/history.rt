@@ -11,6 +11,7 @@ use std::marker::Model;
 /// list as `records`.
 #[derive(Drop)]
 pub struct History {
+    /// The records, the earliest first.
     pub ghost records: { List Record },
 }
 

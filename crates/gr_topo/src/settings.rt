@@ -25,9 +25,14 @@ pub struct Settings {
 /// The settings as they are written, before their ranges are tested.
 #[derive(Clone, Copy, Debug, PartialEq, Eq)]
 pub struct WrittenSettings {
+    /// The age at which a tick is asked for below something known, in milliseconds.
     pub gap: i64,
+    /// The age at which any tick is asked for, in milliseconds.
     pub idle: i64,
+    /// How long an ask is outstanding, in milliseconds.
     pub retry: i64,
+    /// How long a log is silent before it is marked, in milliseconds.
     pub quiet: i64,
+    /// How many event ticks a broker below the host keeps for a publisher.
     pub cache: i64,
 }

@@ -3,7 +3,9 @@
 /// A link between two nodes, in no direction.
 #[derive(Clone, Copy, Debug, PartialEq, Eq)]
 pub struct Link {
+    /// One of the two nodes.
     pub one: u16,
+    /// The other node.
     pub other: u16,
 }
 

@@ -19,7 +19,9 @@ use std::alloc::Global;
 /// Brokers that have started, in order, and what that told.
 #[derive(Drop)]
 pub(crate) struct Opening {
+    /// The brokers, in order of number.
     pub brokers: Vec<Broker>,
+    /// What their starts told, the earliest first.
     pub told: Reports,
 }
 

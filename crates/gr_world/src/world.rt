@@ -21,14 +21,23 @@ use std::marker::Model;
 /// sent, and each stays deliverable for good. The clock starts at 0; moments are milliseconds.
 #[derive(Drop)]
 pub struct World {
+    /// Where the memory of the world comes from.
     pub(crate) alloc: Global,
+    /// The topology that the world was made with.
     pub(crate) topology: Topology,
+    /// The brokers, in order of number.
     pub(crate) brokers: Vec<Broker>,
+    /// All frames that were sent, in order of number.
     pub(crate) frames: FrameStore,
+    /// The present moment, in milliseconds.
     pub(crate) clock: u64,
+    /// The greatest of all moments that the clock had, in milliseconds.
     pub(crate) most: u64,
+    /// What the opening of the logs told.
     pub(crate) told: Reports,
+    /// The broker whose last opening failed, if there is one.
     pub(crate) down: Option<u16>,
+    /// Whether memory was refused in a call that changes the world; it stays refused.
     pub(crate) spent: bool,
 }
 
