@@ -1,5 +1,6 @@
 -- What a client of a publisher is, what it offers, and how it goes on
-use Rattle.std.specs.Prelude.{ℕ, ◌+◌, ◌-◌, ◌==◌, ◌≤◌, nat_le, if◌then◌else◌, List, length, Option, None, option_map, slice_get}
+use Rattle.std.specs.Prelude.{ℕ, ◌+◌, ◌-◌, ◌==◌, ◌≤◌, nat_le, if◌then◌else◌, List, length, Option, None, option_map}
+use Rattle.std.specs.Prelude.{slice_get}
 use Rattle.gr_event.specs.declared.event.Event.{Event}
 use Rattle.gr_client.specs.declared.client.Progress.{Progress}
 use Rattle.gr_client.specs.declared.client.Progress.TheVariants as progress

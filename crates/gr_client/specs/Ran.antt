@@ -1,5 +1,6 @@
 -- What a run of a client did, from its first binding to its last line, and what it left outside
-use Rattle.std.specs.Prelude.{◌≡◌, ◌⊎◌, ℕ, ◌<◌, ◌≤◌, Bool, true, false, List, [], ◌∷◌, ◌++◌, length, Option, Result, OnOk, OnErr, IsErrOf}
+use Rattle.std.specs.Prelude.{◌≡◌, ◌⊎◌, ℕ, ◌<◌, ◌≤◌, Bool, true, false, List, [], ◌∷◌, ◌++◌, length, Option, Result}
+use Rattle.std.specs.Prelude.{OnOk, OnErr, IsErrOf}
 use Rattle.gr_out.specs.declared.fault.RunFault.{RunFault}
 use Rattle.gr_out.specs.declared.fault.RunFault.TheVariants as run
 use Rattle.gr_out.specs.Bytes.{with_more}
@@ -12,7 +13,8 @@ use Rattle.gr_topo.specs.Topology.{TopologyView, host_of}
 use Rattle.gr_client.specs.declared.client.Progress.{Progress}
 use Rattle.gr_client.specs.declared.client.Progress.TheVariants.{Running}
 use Rattle.gr_client.specs.Client.{ClientView}
-use Rattle.gr_client.specs.Run.{events_of, begun, after_one, after_all, turns_text, turns_entries, closing, begun_entries, last_line}
+use Rattle.gr_client.specs.Run.{events_of, begun, after_one, after_all, turns_text, turns_entries, closing}
+use Rattle.gr_client.specs.Run.{begun_entries, last_line}
 
 -- The course of a run
 pub record Course : Type 0 where

@@ -1,5 +1,6 @@
 -- What a client does of what comes: the notes that it offers, and the lines that it prints
-use Rattle.std.specs.Prelude.{ℕ, ◌+◌, Bool, true, false, nat_eq, if◌then◌else◌, List, [], ◌∷◌, ◌++◌, length, take, Option, Some, None, Result, Ok, Err, codes, flat_map, unwrap_or}
+use Rattle.std.specs.Prelude.{ℕ, ◌+◌, Bool, true, false, nat_eq, if◌then◌else◌, List, [], ◌∷◌, ◌++◌, length, take}
+use Rattle.std.specs.Prelude.{Option, Some, None, Result, Ok, Err, codes, flat_map, unwrap_or}
 use Rattle.std.specs.Fmt.{decimal}
 use Rattle.gr_event.specs.declared.event.Event.{Event}
 use Rattle.gr_note.specs.declared.note.Note.{Note}

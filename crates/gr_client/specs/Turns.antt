@@ -1,5 +1,6 @@
 -- The turns of a client's run: what one arrival leads to, what several do, and what stands behind the last of them
-use Rattle.std.specs.Prelude.{◌≡◌, ◌⊎◌, ℕ, ◌≤◌, Bool, true, false, List, [], ◌++◌, length, Option, Result, Ok, Err, IsErrOf, OnOk, OnErr}
+use Rattle.std.specs.Prelude.{◌≡◌, ◌⊎◌, ℕ, ◌≤◌, Bool, true, false, List, [], ◌++◌, length, Option, Result, Ok, Err}
+use Rattle.std.specs.Prelude.{IsErrOf, OnOk, OnErr}
 use Rattle.gr_out.specs.declared.fault.RunFault.{RunFault}
 use Rattle.gr_out.specs.declared.fault.RunFault.TheVariants as run
 use Rattle.gr_out.specs.Bytes.{with_more}

@@ -1,5 +1,6 @@
 -- What is answered to whether one filter covers another
-use Rattle.std.specs.Prelude.{◌≡◌, ◌≤◌, ℕ, Bool, true, false, not, ◌&&◌, nat_le, if◌then◌else◌, List, ◌++◌, Option, Some, None, find}
+use Rattle.std.specs.Prelude.{◌≡◌, ◌≤◌, ℕ, Bool, true, false, not, ◌&&◌, nat_le, if◌then◌else◌, List, ◌++◌, Option}
+use Rattle.std.specs.Prelude.{Some, None, find}
 use Rattle.std.specs.List.{list_all}
 use Rattle.gr_event.specs.declared.event.Event.{Event}
 use Rattle.gr_event.specs.Limits.{IsEvent}
@@ -47,7 +48,8 @@ first_verdict wide narrow = verdict (find (differs wide narrow) (candidates (pai
 abbrev pub answer : Tree → Tree → Cover
 answer wide narrow =
     let parts = pair_parts wide narrow in
-    if is_plain_pair wide narrow then (if nat_le parts MAX_PARTS then first_verdict wide narrow else Unknown parts) else Unknown 0
+    if is_plain_pair wide narrow then (if nat_le parts MAX_PARTS then first_verdict wide narrow else Unknown parts)
+    else Unknown 0
 
 -- a pair of which the answer is Yes or No
 pub record IsDecided (wide narrow : Tree) : Type 0 where

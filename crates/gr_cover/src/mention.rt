@@ -2,7 +2,8 @@
 
 ghost use Rattle.std.specs.Prelude.{◌≡◌, ◌++◌, ◌∷◌, [], IfOk, OnOk};
 ghost use Rattle.gr_filter.specs.Tree.{tree_of};
-ghost use Rattle.gr_cover.specs.Mentions.{literal_value, met, literals_met, compared, mentions, is_name, apart, is_plain};
+ghost use Rattle.gr_cover.specs.Mentions.{literal_value, met, literals_met, compared, mentions, is_name, apart};
+ghost use Rattle.gr_cover.specs.Mentions.{is_plain};
 
 use gr_event::{Memory, Text, Value};
 use gr_filter::{Node, Operand};

@@ -1,4 +1,5 @@
-ghost use Rattle.std.specs.Prelude.{if◌then◌else◌, ◌≡◌, ◌≢◌, ◌⊎◌, ℕ, ◌+◌, ◌*◌, ◌<◌, ◌≤◌, IfOk, IsOk, OnOk, OnErr, [], length, slice_get, Some, false};
+ghost use Rattle.std.specs.Prelude.{if◌then◌else◌, ◌≡◌, ◌≢◌, ◌⊎◌, ℕ, ◌+◌, ◌*◌, ◌<◌, ◌≤◌, IfOk, IsOk, OnOk, OnErr, []};
+ghost use Rattle.std.specs.Prelude.{length, slice_get, Some, false};
 ghost use Rattle.gr_tick.specs.declared.TheConstants.{MAX_TICK};
 ghost use Rattle.gr_tick.specs.Runs.{is_in, AreRuns};
 ghost use Rattle.gr_tick.specs.Stored.{within, IsRun, EndBefore, RunsGive};
@@ -66,8 +67,8 @@ impl Lattice for Moment {
     }
 }
 
-/// When a broker last asked each tick upstream, for one publisher, seen as the list of its runs and its spare, how many runs more
-/// fit before memory is asked for.
+/// When a broker last asked each tick upstream, for one publisher, seen as the list of its runs and its spare, how many
+/// runs more fit before memory is asked for.
 #[derive(Drop)]
 pub struct Asks {
     alloc: Global,
@@ -125,10 +126,11 @@ impl Asks {
         self.moments.run(i)
     }
 
-    /// The ticks that `wanted` asks and whose last ask is not outstanding at `now`. An ask is outstanding from its moment on, for
-    /// `retry` milliseconds. All moments are milliseconds. It fails only where memory is refused.
+    /// The ticks that `wanted` asks and whose last ask is not outstanding at `now`. An ask is outstanding from its
+    /// moment on, for `retry` milliseconds. All moments are milliseconds. It fails only where memory is refused.
     pub fn due(&self, wanted: &Piece<Q3>, now: u64, retry: u64) -> Result<Piece<Q3>, AllocError>
-        ensures { IfOk result (λ piece. RunsGive N piece (λ t. due_of (asked_at self.now.runs t) (wanted_at wanted.now t) now retry)) }
+        ensures { IfOk result (λ piece. RunsGive N piece (λ t.
+            due_of (asked_at self.now.runs t) (wanted_at wanted.now t) now retry)) }
     {
         due_piece(self.alloc, &self.moments, wanted, now, retry)
     }
@@ -145,11 +147,13 @@ impl Asks {
         Ok(())
     }
 
-    /// Notes that the ticks that a piece asks were asked at `now`: those with `C`, and no others. It fails only where memory is
-    /// refused; then all is as it was.
+    /// Notes that the ticks that a piece asks were asked at `now`: those with `C`, and no others. It fails only where
+    /// memory is refused; then all is as it was.
     pub fn asked(&mut self, piece: &Piece<Q3>, now: u64) -> Result<(), AllocError>
-        ensures asked { OnOk result (RunsGive Never self.new.runs (λ t. noted_of now (asked_at self.old.runs t) (wanted_at piece.now t))) }
-        ensures other { OnOk result ((t : ℕ) → is_C (wanted_at piece.now t) ≡ false → asked_at self.new.runs t ≡ asked_at self.old.runs t) }
+        ensures asked { OnOk result (RunsGive Never self.new.runs (λ t.
+            noted_of now (asked_at self.old.runs t) (wanted_at piece.now t))) }
+        ensures other { OnOk result ((t : ℕ) → is_C (wanted_at piece.now t) ≡ false → asked_at self.new.runs t
+            ≡ asked_at self.old.runs t) }
         ensures err { OnErr result (self.new ≡ self.old) }
     {
         mark_asked(&mut self.moments, piece, &Moment::At(now))?;
@@ -159,19 +163,22 @@ impl Asks {
     /// `asked` where the room for it is there: two runs for each run of the piece. It takes no memory.
     pub fn asked_ready(&mut self, piece: &Piece<Q3>, now: u64)
         requires { length piece.now * 2 ≤ self.old.spare }
-        ensures asked { RunsGive Never self.new.runs (λ t. noted_of now (asked_at self.old.runs t) (wanted_at piece.now t)) }
+        ensures asked { RunsGive Never self.new.runs (λ t.
+            noted_of now (asked_at self.old.runs t) (wanted_at piece.now t)) }
         ensures spare { self.old.spare ≤ self.new.spare + length piece.now * 2 }
     {
         mark_ready(&mut self.moments, piece, &Moment::At(now));
     }
 
-    /// Keeps no moment of the ticks of a range any more, as if they had never been asked: of ticks that are final, which are asked
-    /// no more. It takes no memory where there is room for one run. It fails only where memory is refused; then all is as it was.
+    /// Keeps no moment of the ticks of a range any more, as if they had never been asked: of ticks that are final,
+    /// which are asked no more. It takes no memory where there is room for one run. It fails only where memory is
+    /// refused; then all is as it was.
     pub fn forget(&mut self, first: u64, last: u64) -> Result<(), AllocError>
         requires from_one { 1 ≤ first }
         requires ordered { first ≤ last }
         requires upto { last ≤ MAX_TICK }
-        ensures forgotten { OnOk result (RunsGive Never self.new.runs (λ t. if within first last t then Never else asked_at self.old.runs t)) }
+        ensures forgotten { OnOk result (RunsGive Never self.new.runs (λ t. if within first last t then Never
+            else asked_at self.old.runs t)) }
         ensures spare { self.old.spare ≤ self.new.spare + 1 }
         ensures succeeds { 1 ≤ self.old.spare → IsOk result }
         ensures err { OnErr result (self.new ≡ self.old) }
@@ -197,7 +204,8 @@ fn due_piece(
     now: u64,
     retry: u64,
 ) -> Result<Piece<Q3>, AllocError>
-    ensures { IfOk result (λ piece. RunsGive N piece (λ t. due_of (asked_at moments.now.runs t) (wanted_at wanted.now t) now retry)) }
+    ensures { IfOk result (λ piece.
+        RunsGive N piece (λ t. due_of (asked_at moments.now.runs t) (wanted_at wanted.now t) now retry)) }
 {
     let mut due = Piece::new(alloc);
     for i in 0..wanted.len() {
@@ -208,7 +216,8 @@ fn due_piece(
     Ok(due)
 }
 
-/// Puts what is due of a run at the end. Where it is asked for, this goes by pieces on which the moment of the last ask stays.
+/// Puts what is due of a run at the end. Where it is asked for, this goes by pieces on which the moment of the last ask
+/// stays.
 fn put_due(
     due: &mut Piece<Q3>,
     moments: &Stream<Moment>,
@@ -219,7 +228,8 @@ fn put_due(
     requires alone { IsRun N run.now }
     requires past { EndBefore due.old run.now.first }
     ensures values { OnOk result ((t : ℕ) → wanted_at due.new t
-        ≡ (if is_in t run.now then due_of (asked_at moments.now.runs t) run.now.value now retry else wanted_at due.old t)) }
+        ≡ (if is_in t run.now then due_of (asked_at moments.now.runs t) run.now.value now retry
+        else wanted_at due.old t)) }
     ensures past { OnOk result ((t : ℕ) → run.now.last < t → EndBefore due.new t) }
 {
     if !is_asked(run.value) {

@@ -54,8 +54,8 @@ pub fn covers_upto(child: &Stream<Q3>, upto: u64) -> bool
     upto <= front.last
 }
 
-/// Whether every child has acknowledged a tick, and the last one up to `limit` up to which that is so too. Where one has
-/// not, this is how far that child goes on as it is.
+/// Whether every child has acknowledged a tick, and the last one up to `limit` up to which that is so too. Where one
+/// has not, this is how far that child goes on as it is.
 fn acknowledged_from(children: &[Stream<Q3>], tick: u64, limit: u64) -> Steady<bool>
     requires ordered { tick ≤ limit }
     requires upto { limit ≤ MAX_TICK }
@@ -82,8 +82,8 @@ fn acknowledged_from(children: &[Stream<Q3>], tick: u64, limit: u64) -> Steady<b
     }
 }
 
-/// Whether some child asks for a tick, and the last one up to `limit` up to which that is so too. Where one asks, this is
-/// how far that child goes on as it is.
+/// Whether some child asks for a tick, and the last one up to `limit` up to which that is so too. Where one asks, this
+/// is how far that child goes on as it is.
 fn asked_from(children: &[Stream<Q3>], tick: u64, limit: u64) -> Steady<bool>
     requires ordered { tick ≤ limit }
     requires upto { limit ≤ MAX_TICK }
@@ -201,8 +201,8 @@ fn completed_from(
     acknowledged_from(after, tick, first.last)
 }
 
-/// Puts at the end the ticks of a run up to `upto`, if it acknowledges them, that each child before the one that is left
-/// out and after it has acknowledged.
+/// Puts at the end the ticks of a run up to `upto`, if it acknowledges them, that each child before the one that is
+/// left out and after it has acknowledged.
 fn put_completed(
     done: &mut Piece<Q3>,
     before: &[Stream<Q3>],

@@ -15,7 +15,8 @@ pub fn mark_asked<V: Lattice>(
     piece: &Piece<Q3>,
     value: &V,
 ) -> Result<(), AllocError>
-    ensures marked { OnOk result (RunsGive V.least stream.new.runs (λ t. if is_C (wanted_at piece.now t) then value.now else value_at V.least stream.old.runs t)) }
+    ensures marked { OnOk result (RunsGive V.least stream.new.runs (λ t. if is_C (wanted_at piece.now t) then value.now
+        else value_at V.least stream.old.runs t)) }
     ensures err { OnErr result (stream.new ≡ stream.old) }
 {
     let Some(room) = piece.len().checked_mul(2) else {
@@ -26,10 +27,12 @@ pub fn mark_asked<V: Lattice>(
     Ok(())
 }
 
-/// Puts a value at each tick that a piece asks, where there is room for two runs for each run of the piece. It takes no memory.
+/// Puts a value at each tick that a piece asks, where there is room for two runs for each run of the piece. It takes no
+/// memory.
 pub fn mark_ready<V: Lattice>(stream: &mut Stream<V>, piece: &Piece<Q3>, value: &V)
     requires { length piece.now * 2 ≤ stream.old.spare }
-    ensures marked { RunsGive V.least stream.new.runs (λ t. if is_C (wanted_at piece.now t) then value.now else value_at V.least stream.old.runs t) }
+    ensures marked { RunsGive V.least stream.new.runs (λ t. if is_C (wanted_at piece.now t) then value.now
+        else value_at V.least stream.old.runs t) }
     ensures spare { stream.old.spare ≤ stream.new.spare + length piece.now * 2 }
 {
     for i in 0..piece.len() {
@@ -43,7 +46,8 @@ pub fn mark_ready<V: Lattice>(stream: &mut Stream<V>, piece: &Piece<Q3>, value: 
 fn mark_run<V: Lattice>(stream: &mut Stream<V>, run: &Run<Q3>, value: &V)
     requires alone { IsRun N run.now }
     requires room { 2 ≤ stream.old.spare }
-    ensures values { (t : ℕ) → value_at V.least stream.new.runs t ≡ (if is_in t run.now && is_C run.now.value then value.now else value_at V.least stream.old.runs t) }
+    ensures values { (t : ℕ) → value_at V.least stream.new.runs t
+        ≡ (if is_in t run.now && is_C run.now.value then value.now else value_at V.least stream.old.runs t) }
     ensures spare { stream.old.spare ≤ stream.new.spare + 2 }
 {
     if matches!(run.value, Q3::C) {

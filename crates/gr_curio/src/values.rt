@@ -6,8 +6,8 @@ ghost use Rattle.gr_curio.specs.declared.values.Q3.TheVariants.{N};
 
 use gr_tick::Lattice;
 
-/// What a neighbour wants to know of a tick of one publisher. Nothing asked is below asked, and that is below acknowledged; the
-/// join is the greater one.
+/// What a neighbour wants to know of a tick of one publisher. Nothing asked is below asked, and that is below
+/// acknowledged; the join is the greater one.
 #[derive(Clone, Copy, Debug, PartialEq, Eq)]
 pub enum Q3 {
     /// Nothing is asked.

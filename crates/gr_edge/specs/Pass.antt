@@ -1,4 +1,5 @@
--- What an edge passes, for the list of the filters of the subscribers behind it; None is that of a subscriber without one
+-- What an edge passes, for the list of the filters of the subscribers behind it; None is that of a subscriber without
+-- one
 use Rattle.std.specs.Prelude.{Bool, true, false, List, Option, Some, None}
 use Rattle.std.specs.List.{list_any}
 use Rattle.std.specs.Coded.{Coded, coded_list, coded_option}

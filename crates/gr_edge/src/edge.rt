@@ -68,7 +68,8 @@ impl Edge {
         }
     }
 
-    /// Puts a copy of a subscriber's filter at the end of the list. `Memory`, where no memory was given, leaves the list as it was.
+    /// Puts a copy of a subscriber's filter at the end of the list. `Memory`, where no memory was given, leaves the
+    /// list as it was.
     pub fn add(&mut self, filter: Option<&Filter>) -> Result<(), Memory>
         requires { length self.old < 65536 }
         ensures ok { OnOk result (self.new ≡ self.old ++ option_map (λ f. tree_of f.now) filter.entry ∷ []) }
@@ -88,8 +89,8 @@ impl Edge {
         Ok(())
     }
 
-    /// What the edge passes of a piece, tick by tick: an event that nobody behind it wants becomes silence, and all else
-    /// stays as it is. `Memory` where no memory was given for the runs.
+    /// What the edge passes of a piece, tick by tick: an event that nobody behind it wants becomes silence, and all
+    /// else stays as it is. `Memory` where no memory was given for the runs.
     pub fn pass(&self, piece: &Piece<K>) -> Result<Piece<K>, Memory>
         ensures { IfOk result (λ passed. RunsGive Q passed (λ t. pass self.now (known_at piece.now t))) }
     {

@@ -1,5 +1,6 @@
 -- Reading the form in bytes, field by field, with the place of the first fault
-use Rattle.std.specs.Prelude.{ℕ, zero, suc, ◌+◌, ◌==◌, ◌||◌, nat_lt, nat_le, if◌then◌else◌, true, false, List, [], ◌∷◌, length, slice_index, slice_range, Result, Ok, Err}
+use Rattle.std.specs.Prelude.{ℕ, zero, suc, ◌+◌, ◌==◌, ◌||◌, nat_lt, nat_le, if◌then◌else◌, true, false, List, [], ◌∷◌}
+use Rattle.std.specs.Prelude.{length, slice_index, slice_range, Result, Ok, Err}
 use Rattle.std.specs.Int.{from_be_bytes, cast_signed, w16, w64}
 use Rattle.std.specs.Str.{is_utf8}
 use Rattle.std.specs.Ordering.{nat_cmp, is_lt}
@@ -19,7 +20,8 @@ byte_at bytes at = if nat_lt at (length bytes) then Ok (slice_index bytes at) el
 
 -- n bytes from a place on
 abbrev pub field_at : List ℕ → ℕ → ℕ → Result (List ℕ) EventFault
-field_at bytes at n = if nat_le (at + n) (length bytes) then Ok (slice_range bytes at (at + n)) else Err (fault.Short (length bytes))
+field_at bytes at n = if nat_le (at + n) (length bytes) then Ok (slice_range bytes at (at + n))
+    else Err (fault.Short (length bytes))
 
 -- what was read at a place is UTF-8
 abbrev pub text_at : ℕ → List ℕ → Result (List ℕ) EventFault
@@ -31,7 +33,8 @@ risen_at at before name = if is_lt (slice_cmp nat_cmp before name) then Ok name 
 
 -- the name behind its length n
 unfoldable pub name_of_length : List ℕ → ℕ → List ℕ → ℕ → Result (List ℕ) EventFault
-name_of_length bytes at before n = if n == 0 || nat_lt MAX_NAME n then Err (fault.BadLength at) else (field_at bytes (at + 1) n >>= text_at (at + 1) >>= risen_at (at + 1) before)
+name_of_length bytes at before n = if n == 0 || nat_lt MAX_NAME n then Err (fault.BadLength at)
+    else (field_at bytes (at + 1) n >>= text_at (at + 1) >>= risen_at (at + 1) before)
 
 -- a length and the name
 unfoldable pub name_at : List ℕ → ℕ → List ℕ → Result (List ℕ) EventFault
@@ -39,7 +42,8 @@ name_at bytes at before = byte_at bytes at >>= name_of_length bytes at before
 
 -- the text behind its length n
 unfoldable pub text_of_length : List ℕ → ℕ → ℕ → Result Value EventFault
-text_of_length bytes at n = if nat_lt MAX_TEXT n then Err (fault.BadLength at) else (field_at bytes (at + 2) n >>= text_at (at + 2) >>= λ t. Ok (Text t))
+text_of_length bytes at n = if nat_lt MAX_TEXT n then Err (fault.BadLength at)
+    else (field_at bytes (at + 2) n >>= text_at (at + 2) >>= λ t. Ok (Text t))
 
 abbrev pub truth_of : ℕ → ℕ → Result Value EventFault
 truth_of at b = if b == 0 then Ok (Truth false) else (if b == 1 then Ok (Truth true) else Err (fault.BadKind at))
@@ -80,4 +84,5 @@ pairs_of_count bytes n = if nat_lt MAX_PAIRS n then Err (fault.BadLength 0) else
 
 -- the event that the bytes spell, or the first fault. No name is below the empty one
 unfoldable pub event_decoded : List ℕ → Result Event EventFault
-event_decoded bytes = if nat_lt MAX_BYTES (length bytes) then Err fault.TooLong else (byte_at bytes 0 >>= pairs_of_count bytes)
+event_decoded bytes = if nat_lt MAX_BYTES (length bytes) then Err fault.TooLong
+    else (byte_at bytes 0 >>= pairs_of_count bytes)

@@ -15,7 +15,8 @@ Gives (Ok x) read = read ≡ Ok x
 Gives (Err e) read = Fails e read
 
 -- the same, where the answer is the vector of an event's pairs
-abbrev pub GivesPairs : Result (Vec (List ℕ × Value) Global) EventFault → Result (List (List ℕ × Value)) EventFault → Type 0
+abbrev pub GivesPairs : Result (Vec (List ℕ × Value) Global) EventFault → Result (List (List ℕ × Value)) EventFault
+    → Type 0
 GivesPairs (Ok v) read = read ≡ Ok v.items
 GivesPairs (Err e) read = Fails e read
 

@@ -1,5 +1,6 @@
 -- Events as JSON, by the meaning that `serde_json` gives to bytes
-use Rattle.std.specs.Prelude.{ℕ, ℤ, ◌||◌, ◌==◌, nat_lt, if◌then◌else◌, List, [], ◌∷◌, length, Option, Some, None, Result, Ok, Err}
+use Rattle.std.specs.Prelude.{ℕ, ℤ, ◌||◌, ◌==◌, nat_lt, if◌then◌else◌, List, [], ◌∷◌, length, Option, Some, None}
+use Rattle.std.specs.Prelude.{Result, Ok, Err}
 use Rattle.std.specs.Str.{is_utf8}
 use Rattle.std.specs.Fmt.{signed_decimal}
 use Rattle.json.specs.Token as token
@@ -92,7 +93,8 @@ short_event e = if nat_lt MAX_BYTES (event_size e) then Err fault.TooLong else O
 
 -- the event that a JSON value is
 unfoldable pub event_from : Data → Result Event EventFault
-event_from (object ms) = if nat_lt MAX_PAIRS (members_len ms) then Err fault.TooMany else (pairs_from ms >>= short_event)
+event_from (object ms) = if nat_lt MAX_PAIRS (members_len ms) then Err fault.TooMany
+    else (pairs_from ms >>= short_event)
 event_from _ = Err fault.NotObject
 
 abbrev pub event_of_read : Option Data → Result Event EventFault

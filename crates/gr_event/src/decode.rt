@@ -12,7 +12,8 @@ ghost use Rattle.gr_event.specs.Gives.{Gives};
 ghost use Rattle.gr_event.specs.Form.{TellsEvent};
 ghost use Rattle.gr_event.specs.Get.{part_value};
 ghost use Rattle.gr_event.specs.Limits.{IsName, IsPair, IsValue, Rise, names};
-ghost use Rattle.gr_event.specs.Decode.{byte_at, field_at, name_at, integer_at, text_value_at, truth_at, value_at, pairs_at, event_decoded};
+ghost use Rattle.gr_event.specs.Decode.{byte_at, field_at, name_at, integer_at, text_value_at, truth_at, value_at};
+ghost use Rattle.gr_event.specs.Decode.{pairs_at, event_decoded};
 ghost use Rattle.gr_event.specs.declared.limits.TheConstants.{MAX_BYTES, MAX_PAIRS};
 
 use crate::event::{Event, EventFault};

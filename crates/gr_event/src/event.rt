@@ -1,6 +1,7 @@
 //! Events and their two forms.
 
-ghost use Rattle.std.specs.Prelude.{◌≡◌, ◌↔◌, ◌+◌, ◌<◌, ◌≤◌, ◌*◌, IsTrue, IfOk, Some, length, nat_eq, option_map, slice_get};
+ghost use Rattle.std.specs.Prelude.{◌≡◌, ◌↔◌, ◌+◌, ◌<◌, ◌≤◌, ◌*◌, IsTrue, IfOk, Some, length, nat_eq, option_map};
+ghost use Rattle.std.specs.Prelude.{slice_get};
 ghost use Rattle.std.specs.List.{AllByRecursion};
 ghost use Rattle.gr_event.specs.Event.{event_bytes, event_size, pairs_size, value_size};
 ghost use Rattle.gr_event.specs.Form.{AreOfEvent, event_of};

@@ -1,7 +1,7 @@
-//! Figures of cost. `gr_figures appends 1000` does a thousand appends to a disk in memory, and prints how long they took.
-//! The work is done once before the clock starts, so that the system has given its memory by then. With no words nothing
-//! is done, so that the gate pays nothing. Each figure is a file here, and an arm in `measure`, or in `main` where it
-//! prints what one call costs once much has been done.
+//! Figures of cost. `gr_figures appends 1000` does a thousand appends to a disk in memory, and prints how long they
+//! took. The work is done once before the clock starts, so that the system has given its memory by then. With no words
+//! nothing is done, so that the gate pays nothing. Each figure is a file here, and an arm in `measure`, or in `main`
+//! where it prints what one call costs once much has been done.
 #![tactic(auto)]
 
 mod appends;

@@ -1,5 +1,6 @@
 -- The grammar of filters, token by token, with the place of the first fault
-use Rattle.std.specs.Prelude.{ℕ, zero, suc, ◌-◌, Bool, true, false, nat_lt, if◌then◌else◌, List, [], ◌∷◌, ◌++◌, length, take, drop, slice_range, Result, Ok, Err}
+use Rattle.std.specs.Prelude.{ℕ, zero, suc, ◌-◌, Bool, true, false, nat_lt, if◌then◌else◌, List, [], ◌∷◌, ◌++◌, length}
+use Rattle.std.specs.Prelude.{take, drop, slice_range, Result, Ok, Err}
 use Rattle.gr_filter.specs.declared.fault.FilterFault.{FilterFault}
 use Rattle.gr_filter.specs.declared.fault.FilterFault.TheVariants as fault
 use Rattle.gr_filter.specs.declared.node.Operand.{Operand}
@@ -203,7 +204,8 @@ unfoldable pub or_more : List ℕ → (ℕ → Read Tree) → ℕ → Tree → �
 or_more bytes part zero found at = Ok (found, at)
 or_more bytes part (suc n) found at =
     let l = lexeme bytes at in
-    if is_or l.token then (and_at bytes part l.to >>= λ r. or_more bytes part n (either found r.0) r.1) else Ok (found, at)
+    if is_or l.token then (and_at bytes part l.to >>= λ r. or_more bytes part n (either found r.0) r.1)
+    else Ok (found, at)
 
 -- and { OR and }
 unfoldable pub or_at : List ℕ → (ℕ → Read Tree) → ℕ → Read Tree
@@ -224,7 +226,8 @@ not_nested l _ test = test
 -- not = NOT not | "(" or ")" | test, with so many levels left
 unfoldable pub not_at : List ℕ → ℕ → ℕ → Read Tree
 not_at bytes zero at = let l = lexeme bytes at in not_nested l l.token (test_at bytes at)
-not_at bytes (suc levels) at = let l = lexeme bytes at in nested bytes (not_at bytes levels) l l.token (test_at bytes at)
+not_at bytes (suc levels) at = let l = lexeme bytes at in
+    nested bytes (not_at bytes levels) l l.token (test_at bytes at)
 
 -- nothing is left behind the filter
 abbrev pub ended : List ℕ → Tree × ℕ → Result Tree FilterFault
@@ -232,4 +235,5 @@ ended bytes r = let l = lexeme bytes r.1 in if is_end l.token then Ok r.0 else E
 
 -- the filter that a text is, or the first fault
 unfoldable pub filter_text : List ℕ → Result Tree FilterFault
-filter_text bytes = if nat_lt MAX_BYTES (length bytes) then Err fault.TooLong else (or_at bytes (not_at bytes LEVELS) 0 >>= ended bytes)
+filter_text bytes = if nat_lt MAX_BYTES (length bytes) then Err fault.TooLong
+    else (or_at bytes (not_at bytes LEVELS) 0 >>= ended bytes)

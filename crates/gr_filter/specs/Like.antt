@@ -32,4 +32,5 @@ is_nothing (c ∷ cs) = false
 -- the text fits the pattern; 37 is '%', 95 is '_'
 abbrev pub fits : List ℕ → List ℕ → Bool
 fits [] text = is_nothing text
-fits (p ∷ ps) text = if p == 37 then any_front (fits ps) text else (if p == 95 then one_character (fits ps) text else same_byte p (fits ps) text)
+fits (p ∷ ps) text = if p == 37 then any_front (fits ps) text
+    else (if p == 95 then one_character (fits ps) text else same_byte p (fits ps) text)

@@ -44,8 +44,10 @@ not_text negated = if negated then codes " NOT" else []
 abbrev pub tree_text : Tree → List ℕ
 tree_text (alone x) = operand_text x
 tree_text (compare x sign y) = operand_text x ++ sign_text sign ++ operand_text y
-tree_text (between negated x low high) = operand_text x ++ not_text negated ++ codes " BETWEEN " ++ operand_text low ++ codes " AND " ++ operand_text high
-tree_text (one_of negated name literals) = name ++ not_text negated ++ codes " IN (" ++ literals_text literals ++ codes ")"
+tree_text (between negated x low high) = operand_text x ++ not_text negated ++ codes " BETWEEN " ++ operand_text low
+    ++ codes " AND " ++ operand_text high
+tree_text (one_of negated name literals) = name ++ not_text negated ++ codes " IN (" ++ literals_text literals
+    ++ codes ")"
 tree_text (like negated name pattern) = name ++ not_text negated ++ codes " LIKE " ++ quoted pattern
 tree_text (is_null negated name) = name ++ codes " IS" ++ not_text negated ++ codes " NULL"
 tree_text (negation a) = codes "(NOT " ++ tree_text a ++ codes ")"

@@ -1,5 +1,6 @@
 -- The grammar of filters, as one reads it: productions over words
-use Rattle.std.specs.Prelude.{◌≡◌, ℕ, suc, ℤ, Bool, true, false, ◌≤◌, List, [], ◌∷◌, ◌++◌, length, flat_map, Option, Some, None}
+use Rattle.std.specs.Prelude.{◌≡◌, ℕ, suc, ℤ, Bool, true, false, ◌≤◌, List, [], ◌∷◌, ◌++◌, length, flat_map, Option}
+use Rattle.std.specs.Prelude.{Some, None}
 use Rattle.gr_filter.specs.declared.node.Operand.{Operand}
 use Rattle.gr_filter.specs.declared.parser.TheConstants.{LEVELS, MAX_BYTES}
 use Rattle.gr_filter.specs.declared.node.Operand.TheVariants as operand
@@ -74,13 +75,15 @@ abbrev pub literal_words : List Operand → List Word
 literal_words [] = []
 literal_words (x ∷ xs) = operand_word x ∷ more_words xs
 
--- operand, or operand sign operand, or operand [ NOT ] BETWEEN operand AND operand, or name [ NOT ] IN "(" literal { "," literal } ")",
--- or name [ NOT ] LIKE text, or name IS [ NOT ] NULL
+-- operand, or operand sign operand, or operand [ NOT ] BETWEEN operand AND operand, or name [ NOT ] IN "(" literal {
+-- "," literal } ")", or name [ NOT ] LIKE text, or name IS [ NOT ] NULL
 abbrev pub test_words : Tree → List Word
 test_words (alone x) = operand_word x ∷ []
 test_words (compare x sign y) = operand_word x ∷ (sign_word sign ∷ (operand_word y ∷ []))
-test_words (between negated x low high) = operand_word x ∷ (not_words negated ++ between_word ∷ (operand_word low ∷ (and_word ∷ (operand_word high ∷ []))))
-test_words (one_of negated name xs) = name_word name ∷ (not_words negated ++ in_word ∷ (opening ∷ (literal_words xs ++ closing ∷ [])))
+test_words (between negated x low high) = operand_word x ∷ (not_words negated
+    ++ between_word ∷ (operand_word low ∷ (and_word ∷ (operand_word high ∷ []))))
+test_words (one_of negated name xs) = name_word name ∷ (not_words negated
+    ++ in_word ∷ (opening ∷ (literal_words xs ++ closing ∷ [])))
 test_words (like negated name pattern) = name_word name ∷ (not_words negated ++ like_word ∷ (text_word pattern ∷ []))
 test_words (is_null negated name) = name_word name ∷ (is_word ∷ (not_words negated ++ null_word ∷ []))
 test_words _ = []
@@ -102,16 +105,21 @@ pub data Production : Type 0 where
   conjunction : Production
   factor : Production
 
--- These words derive the tree, where so many levels of NOT and parentheses may stand in one another. AND binds closer than OR,
--- and both group from the left.
+-- These words derive the tree, where so many levels of NOT and parentheses may stand in one another. AND binds closer
+-- than OR, and both group from the left.
 pub data Derives : Production → ℕ → List Word → Tree → Type 0 where
   one_test : (levels : ℕ) (t : Tree) → IsTest t → Derives factor levels (test_words t) t
-  one_not : (levels : ℕ) (ws : List Word) (t : Tree) → Derives factor levels ws t → Derives factor (suc levels) (not_word ∷ ws) (negation t)
-  one_group : (levels : ℕ) (ws : List Word) (t : Tree) → Derives filter levels ws t → Derives factor (suc levels) (opening ∷ (ws ++ closing ∷ [])) t
+  one_not : (levels : ℕ) (ws : List Word) (t : Tree) → Derives factor levels ws t
+      → Derives factor (suc levels) (not_word ∷ ws) (negation t)
+  one_group : (levels : ℕ) (ws : List Word) (t : Tree) → Derives filter levels ws t
+      → Derives factor (suc levels) (opening ∷ (ws ++ closing ∷ [])) t
   one_factor : (levels : ℕ) (ws : List Word) (t : Tree) → Derives factor levels ws t → Derives conjunction levels ws t
-  joined_by_and : (levels : ℕ) (xs ys : List Word) (a b : Tree) → Derives conjunction levels xs a → Derives factor levels ys b → Derives conjunction levels (xs ++ and_word ∷ ys) (both a b)
-  one_conjunction : (levels : ℕ) (ws : List Word) (t : Tree) → Derives conjunction levels ws t → Derives filter levels ws t
-  joined_by_or : (levels : ℕ) (xs ys : List Word) (a b : Tree) → Derives filter levels xs a → Derives conjunction levels ys b → Derives filter levels (xs ++ or_word ∷ ys) (either a b)
+  joined_by_and : (levels : ℕ) (xs ys : List Word) (a b : Tree) → Derives conjunction levels xs a
+      → Derives factor levels ys b → Derives conjunction levels (xs ++ and_word ∷ ys) (both a b)
+  one_conjunction : (levels : ℕ) (ws : List Word) (t : Tree) → Derives conjunction levels ws t
+      → Derives filter levels ws t
+  joined_by_or : (levels : ℕ) (xs ys : List Word) (a b : Tree) → Derives filter levels xs a
+      → Derives conjunction levels ys b → Derives filter levels (xs ++ or_word ∷ ys) (either a b)
 
 -- The words of a text
 

@@ -25,7 +25,8 @@ reach_byte p rest (c ∷ cs) = if p == c then rest cs else differs
 
 abbrev pub reach : List ℕ → List ℕ → Reach
 reach [] text = whole text
-reach (p ∷ ps) text = if p == 37 then up_to ps text else (if p == 95 then reach_character (reach ps) text else reach_byte p (reach ps) text)
+reach (p ∷ ps) text = if p == 37 then up_to ps text
+    else (if p == 95 then reach_character (reach ps) text else reach_byte p (reach ps) text)
 
 -- what is left behind some front of one byte or more fits
 abbrev pub any_later : (List ℕ → Bool) → List ℕ → Bool

@@ -1,5 +1,6 @@
 -- The tokens of a filter's text
-use Rattle.std.specs.Prelude.{ℕ, pos, neg_ℤ, ◌+◌, ◌-◌, ◌*◌, ◌^◌, ◌==◌, ◌&&◌, ◌||◌, nat_le, nat_lt, Bool, true, false, if◌then◌else◌, List, [], ◌∷◌, take, drop, Option, Some, None, codes}
+use Rattle.std.specs.Prelude.{ℕ, pos, neg_ℤ, ◌+◌, ◌-◌, ◌*◌, ◌^◌, ◌==◌, ◌&&◌, ◌||◌, nat_le, nat_lt, Bool, true, false}
+use Rattle.std.specs.Prelude.{if◌then◌else◌, List, [], ◌∷◌, take, drop, Option, Some, None, codes}
 use Rattle.std.specs.Option.{option_map}
 use Rattle.std.specs.Str.{is_utf8}
 use Rattle.gr_filter.specs.declared.node.Sign.TheVariants.{Equal, Differs, Less, AtMost, Greater, AtLeast}
@@ -68,7 +69,8 @@ next_goes_on (c ∷ cs) = goes_on c
 
 -- digits, behind a minus or not
 unfoldable pub number_token : Bool → List ℕ → Token
-number_token minus ds = if next_goes_on (drop (front is_digit ds) ds) then token.Bad else integer_token minus (number_from 0 (take (front is_digit ds) ds))
+number_token minus ds = if next_goes_on (drop (front is_digit ds) ds) then token.Bad
+    else integer_token minus (number_from 0 (take (front is_digit ds) ds))
 
 -- how many bytes a text has behind its first quote, with its last one; a doubled quote stands inside
 abbrev mutual
@@ -98,7 +100,8 @@ text_token cs (Some n) = if is_utf8 (take (n - 1) cs) then (token.Text, n + 1) e
 
 abbrev pub less_token : List ℕ → Token × ℕ
 less_token [] = (token.Sign Less, 1)
-less_token (c ∷ cs) = if c == 62 then (token.Sign Differs, 2) else (if c == 61 then (token.Sign AtMost, 2) else (token.Sign Less, 1))
+less_token (c ∷ cs) = if c == 62 then (token.Sign Differs, 2)
+    else (if c == 61 then (token.Sign AtMost, 2) else (token.Sign Less, 1))
 
 abbrev pub greater_token : List ℕ → Token × ℕ
 greater_token [] = (token.Sign Greater, 1)

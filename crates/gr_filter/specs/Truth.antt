@@ -83,7 +83,8 @@ truth_null negated x = opposite_if negated (known (absent x))
 abbrev pub truth : Tree → Event → Kleene
 truth (alone x) e = truth_alone (operand_value x e)
 truth (compare x sign y) e = compare_both sign (operand_value x e) (operand_value y e)
-truth (between negated x low high) e = truth_between negated (operand_value x e) (operand_value low e) (operand_value high e)
+truth (between negated x low high) e =
+    truth_between negated (operand_value x e) (operand_value low e) (operand_value high e)
 truth (one_of negated name literals) e = opposite_if negated (truth_one_of (value_of name e) e literals)
 truth (like negated name pattern) e = opposite_if negated (truth_like (value_of name e) pattern)
 truth (is_null negated name) e = truth_null negated (value_of name e)

@@ -1,4 +1,5 @@
--- Trees as they come of a text: their names, integers and texts can be written down; and how deep the printed form nests
+-- Trees as they come of a text: their names, integers and texts can be written down; and how deep the printed form
+-- nests
 use Rattle.std.specs.Prelude.{◌≡◌, ℕ, ◌+◌, max, Bool, true, false, FitsSigned, List, [], ◌∷◌, length}
 use Rattle.std.specs.Int.{w64}
 use Rattle.std.specs.List.{AllByRecursion}

@@ -129,7 +129,9 @@ fn compare(sign: Sign, left: Option<Part>, right: Option<Part>) -> Kleene
 
 /// Whether the operand lies between two others, both included, or does not.
 fn between(negated: bool, operand: Option<Part>, low: Option<Part>, high: Option<Part>) -> Kleene
-    ensures { result ≡ truth_between negated (option_map part_value operand.entry) (option_map part_value low.entry) (option_map part_value high.entry) }
+    ensures { result
+        ≡ truth_between negated (option_map part_value operand.entry) (option_map part_value low.entry)
+        (option_map part_value high.entry) }
 {
     if negated {
         compare(Sign::Less, operand, low).greatest(compare(Sign::Greater, operand, high))

@@ -27,8 +27,8 @@ pub(crate) fn fits(pattern: &[u8], text: &[u8]) -> bool
 
 /// Whether the text fits the pattern from some place on.
 ///
-/// The first place where the pattern fits up to its next `%` serves, since behind a later place less of the text is left.
-/// So no choice is ever taken back.
+/// The first place where the pattern fits up to its next `%` serves, since behind a later place less of the text is
+/// left. So no choice is ever taken back.
 #[cycle(fits_from)]
 fn fits_from(pattern: &[u8], text: &[u8]) -> bool
     ensures { result ≡ any_front (fits pattern.now) text.now }

@@ -5,7 +5,8 @@ ghost use Rattle.gr_filter.specs.Grammar.{filter_text};
 ghost use Rattle.gr_filter.specs.Tree.{tree_of};
 ghost use Rattle.gr_filter.specs.Written.{depth};
 ghost use Rattle.gr_filter.specs.declared.parser.TheConstants.{LEVELS, MAX_BYTES};
-ghost use Rattle.gr_filter.specs.Print.{sign_text, doubled, quoted, operand_text, more_text, literals_text, not_text, tree_text};
+ghost use Rattle.gr_filter.specs.Print.{sign_text, doubled, quoted, operand_text, more_text, literals_text, not_text};
+ghost use Rattle.gr_filter.specs.Print.{tree_text};
 
 use crate::fault::Memory;
 use crate::filter::Filter;

@@ -34,7 +34,8 @@ runs_bytes value (r ∷ rs) = to_be_bytes w64 r.first ++ to_be_bytes w64 r.last 
 
 -- the letters GK, the version 1, the kind, who sends to whom of which publisher, and how many runs follow
 abbrev pub head_bytes : ℕ → Head → ℕ → List ℕ
-head_bytes kind h count = 71 ∷ (75 ∷ (1 ∷ (kind ∷ (to_be_bytes w16 h.from ++ to_be_bytes w16 h.to ++ to_be_bytes w16 h.publisher ++ to_be_bytes w16 count))))
+head_bytes kind h count = 71 ∷ (75 ∷ (1 ∷ (kind ∷ (to_be_bytes w16 h.from ++ to_be_bytes w16 h.to
+    ++ to_be_bytes w16 h.publisher ++ to_be_bytes w16 count))))
 
 -- the bytes of a frame
 unfoldable pub frame_bytes : Frame → List ℕ

@@ -17,8 +17,14 @@ IsSent (body.Expect tick) = (1 ≤ tick) × (tick ≤ MAX_TICK)
 unfoldable pub parts_of : Frame → List Frame
 parts_of f =
     elim f.body [
-      | body.Knowledge rs ↦ map (λ part. record { head = f.head; body = body.Knowledge part }) (cut_frames known_run_size rs)
-      | body.Curiosity rs ↦ map (λ part. record { head = f.head; body = body.Curiosity part }) (cut_frames wanted_run_size rs)
+      | body.Knowledge rs ↦ map (λ part. record {
+        head = f.head;
+        body = body.Knowledge part;
+      }) (cut_frames known_run_size rs)
+      | body.Curiosity rs ↦ map (λ part. record {
+        head = f.head;
+        body = body.Curiosity part;
+      }) (cut_frames wanted_run_size rs)
       | body.Expect tick ↦ f ∷ []
     ]
 

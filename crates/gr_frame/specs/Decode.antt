@@ -1,5 +1,7 @@
 -- Reading a frame field by field, with the place of the first fault
-use Rattle.std.specs.Prelude.{ℕ, zero, suc, ◌+◌, ◌==◌, ◌||◌, ◌&&◌, Bool, true, false, not, nat_lt, nat_le, bytes_eq, if◌then◌else◌, List, [], ◌∷◌, length, slice_index, slice_range, Option, Some, None, Result, Ok, Err}
+use Rattle.std.specs.Prelude.{ℕ, zero, suc, ◌+◌, ◌==◌, ◌||◌, ◌&&◌, Bool, true, false, not, nat_lt, nat_le, bytes_eq}
+use Rattle.std.specs.Prelude.{if◌then◌else◌, List, [], ◌∷◌, length, slice_index, slice_range, Option, Some, None}
+use Rattle.std.specs.Prelude.{Result, Ok, Err}
 use Rattle.std.specs.Int.{from_be_bytes, w16, w64}
 use Rattle.gr_event.specs.declared.event.Event.{Event}
 use Rattle.gr_event.specs.declared.event.EventFault.{EventFault}
@@ -20,7 +22,8 @@ use Rattle.gr_frame.specs.declared.Head.{Head}
 use Rattle.gr_frame.specs.declared.Frame.{Frame}
 use Rattle.gr_frame.specs.declared.value.BodyKind.{BodyKind}
 use Rattle.gr_frame.specs.declared.value.BodyKind.TheVariants.{Knowledge, Curiosity, Expect}
-use Rattle.gr_frame.specs.declared.fault.FrameKind.TheVariants.{TooLong, Short, BadMagic, BadVersion, BadKind, BadRange, BadOrder, BadEvent, Trailing}
+use Rattle.gr_frame.specs.declared.fault.FrameKind.TheVariants.{TooLong, Short, BadMagic, BadVersion, BadKind, BadRange}
+use Rattle.gr_frame.specs.declared.fault.FrameKind.TheVariants.{BadOrder, BadEvent, Trailing}
 use Rattle.gr_frame.specs.declared.fault.FrameFault.{FrameFault}
 use Rattle.gr_frame.specs.Bytes.{known_bytes, wanted_bytes, known_run_size, wanted_run_size}
 use Rattle.gr_frame.specs.Form.{Form}
@@ -30,7 +33,8 @@ use Rattle.gr_frame.specs.Gives.{fault, out_of_memory, ◌>>=◌}
 
 -- n bytes from a place on
 abbrev pub field_at : List ℕ → ℕ → ℕ → Result (List ℕ) FrameFault
-field_at bytes at n = if nat_le (at + n) (length bytes) then Ok (slice_range bytes at (at + n)) else Err (fault Short (length bytes))
+field_at bytes at n = if nat_le (at + n) (length bytes) then Ok (slice_range bytes at (at + n))
+    else Err (fault Short (length bytes))
 
 -- the byte at a place
 abbrev pub byte_at : List ℕ → ℕ → Result ℕ FrameFault
@@ -46,7 +50,8 @@ u64_at bytes at = field_at bytes at 8 >>= λ f. Ok (from_be_bytes w64 f)
 
 -- the tick at a place, none below the least one
 unfoldable pub tick_at : List ℕ → ℕ → ℕ → Result ℕ FrameFault
-tick_at bytes at least = u64_at bytes at >>= λ t. if nat_lt t least || nat_lt MAX_TICK t then Err (fault BadRange at) else Ok t
+tick_at bytes at least = u64_at bytes at >>= λ t. if nat_lt t least || nat_lt MAX_TICK t then Err (fault BadRange at)
+    else Ok t
 
 -- Values
 
@@ -113,7 +118,8 @@ goes_on same (Some r) first v = (suc r.last == first) && same r.value v
 -- the value of a run from first to last, which stands at a place
 unfoldable pub run_with_ticks : {V : Type 0} → Form V → List ℕ → ℕ → Option (Run V) → ℕ → ℕ → Result (Run V) FrameFault
 run_with_ticks form bytes at before first last = form.read bytes (at + 16) >>= λ v.
-    if goes_on form.same before first v then Err (fault BadOrder at) else Ok (record { first = first; last = last; value = v })
+    if goes_on form.same before first v then Err (fault BadOrder at)
+    else Ok (record { first = first; last = last; value = v })
 
 -- a run: its first tick, its last tick and its value
 unfoldable pub run_at : {V : Type 0} → Form V → List ℕ → ℕ → Option (Run V) → Result (Run V) FrameFault
@@ -142,7 +148,8 @@ kind_number Curiosity = 2
 kind_number Expect = 3
 
 abbrev pub kind_of : ℕ → Result BodyKind FrameFault
-kind_of k = if k == 1 then Ok Knowledge else (if k == 2 then Ok Curiosity else (if k == 3 then Ok Expect else Err (fault BadKind 3)))
+kind_of k = if k == 1 then Ok Knowledge else (if k == 2 then Ok Curiosity
+    else (if k == 3 then Ok Expect else Err (fault BadKind 3)))
 
 -- the letters GK, the version 1 and the kind
 unfoldable pub kind_at : List ℕ → Result BodyKind FrameFault
@@ -166,7 +173,8 @@ is_Expect _ = false
 
 -- how many runs follow; an Expect has the count 1
 unfoldable pub count_at : List ℕ → BodyKind → Result ℕ FrameFault
-count_at bytes k = u16_at bytes 10 >>= λ n. if n == 0 || (is_Expect k && not (n == 1)) then Err (fault BadRange 10) else Ok n
+count_at bytes k = u16_at bytes 10 >>= λ n. if n == 0 || (is_Expect k && not (n == 1)) then Err (fault BadRange 10)
+    else Ok n
 
 -- the tick of an Expect, and then nothing
 unfoldable pub expect_at : List ℕ → Result Body FrameFault

@@ -31,7 +31,8 @@ pub fn byte_at(bytes: &[u8], at: usize) -> Result<u8, FrameFault>
 /// A field of so many bytes from a place on.
 pub fn field_at(bytes: &[u8], at: usize, len: usize) -> Result<&[u8], FrameFault>
     requires { at + len < 2 ^ 64 }
-    ensures gives { MatchResult result (λ f. field_at bytes.now at len ≡ Ok f.now) (λ e. field_at bytes.now at len ≡ Err e) }
+    ensures gives { MatchResult result (λ f. field_at bytes.now at len ≡ Ok f.now) (λ e. field_at bytes.now at len
+        ≡ Err e) }
     ensures whole { IfOk result (λ f. length f.now ≡ len) }
     ensures within { IfOk result (λ f. at + len ≤ length bytes.now) }
 {

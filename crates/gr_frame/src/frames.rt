@@ -1,6 +1,7 @@
 //! A list of frames in their bytes.
 
-ghost use Rattle.std.specs.Prelude.{◌≡◌, ◌==◌, ◌+◌, ◌≤◌, ◌<◌, ◌++◌, ◌∷◌, [], length, take, slice_get, Some, OnOk, OnErr, IsOk};
+ghost use Rattle.std.specs.Prelude.{◌≡◌, ◌==◌, ◌+◌, ◌≤◌, ◌<◌, ◌++◌, ◌∷◌, [], length, take, slice_get, Some, OnOk};
+ghost use Rattle.std.specs.Prelude.{OnErr, IsOk};
 
 use gr_event::Bytes;
 use std::alloc::{AllocError, Global};
@@ -118,7 +119,8 @@ impl IntoIterator for Frames {
 
     type IntoIter = IntoIter<Bytes, Global>;
 
-    ghost into_iter_gives = { λ v r. (into_iter_items r ≡ v.frames) × (into_iter_len r ≡ length v.frames) × (into_iter_len r < 2 ^ 64)
+    ghost into_iter_gives = { λ v r. (into_iter_items r ≡ v.frames) × (into_iter_len r ≡ length v.frames) ×
+        (into_iter_len r < 2 ^ 64)
         × EveryRun (into_iter_steps {X = List ℕ} {Z = Global}) (λ p. ItemsAre p (into_iter_items p.from)) };
 
     /// The frames in order, each by value. Takes no memory.

@@ -1,4 +1,5 @@
--- What a `Shared` owns, and what a `&` to one holds. p points to the block of a `Counted`: the count, and the value x of the row R.
+-- What a `Shared` owns, and what a `&` to one holds. p points to the block of a `Counted`: the count, and the value x
+-- of the row R.
 use Prim.Native.Nat.{ℕ}
 use mathlib.Core.List.{[]}
 use base.Fraction.{full_share}

@@ -1,5 +1,6 @@
 // A list in blocks: an edit moves values within one block.
-ghost use Rattle.std.specs.Prelude.{◌≡◌, ◌+◌, ◌*◌, ◌^◌, ◌<◌, ◌≤◌, [], ◌∷◌, length, insert, remove, slice_index_or, slice_set, OnOk, OnErr, IsOk, max};
+ghost use Rattle.std.specs.Prelude.{◌≡◌, ◌+◌, ◌*◌, ◌^◌, ◌<◌, ◌≤◌, [], ◌∷◌, length, insert, remove, slice_index_or};
+ghost use Rattle.std.specs.Prelude.{slice_set, OnOk, OnErr, IsOk, max};
 ghost use Rattle.gr_gap.specs.declared.blocks.TheConstants.{BLOCK};
 
 use crate::Memory;
@@ -20,8 +21,8 @@ const MOST_ROOM: usize = 1 << 61;
 /// A list with room for more values: its contracts see the values in order, and `spare`, how many more fit.
 /// An edit at one of the two ends moves no other value. One elsewhere moves at most half a block's values.
 pub struct Gap<T> {
-    // The first values, in a block of their own: so an edit before all leaves the starts of the other blocks as they are.
-    // Where all fit in one block, they stand here.
+    // The first values, in a block of their own: so an edit before all leaves the starts of the other blocks as they
+    // are. Where all fit in one block, they stand here.
     head: VecDeque<T>,
     // The values that come after them.
     rest: Blocks<T>,
@@ -85,7 +86,8 @@ impl<T> Gap<T> {
         ensures kept { self.new.items ≡ self.old.items }
         ensures never_less { self.old.spare ≤ self.new.spare }
         ensures twice { OnOk result
-            (self.old.spare < n → 2 * (length self.old.items + self.old.spare) ≤ length self.new.items + self.new.spare) }
+            (self.old.spare < n →
+            2 * (length self.old.items + self.old.spare) ≤ length self.new.items + self.new.spare) }
         ensures succeeds { n ≤ self.old.spare → IsOk result }
         ensures err { OnErr result (self.new ≡ self.old) }
     {

@@ -1,5 +1,6 @@
 -- Forgetting: the least data ticks lowered to unknown, until few enough are left
-use Rattle.std.specs.Prelude.{◌≡◌, ℕ, suc, ◌+◌, ◌-◌, ◌<◌, ◌≤◌, min, true, false, ◌&&◌, nat_le, nat_lt, if◌then◌else◌, [], ◌∷◌}
+use Rattle.std.specs.Prelude.{◌≡◌, ℕ, suc, ◌+◌, ◌-◌, ◌<◌, ◌≤◌, min, true, false, ◌&&◌, nat_le, nat_lt, if◌then◌else◌}
+use Rattle.std.specs.Prelude.{[], ◌∷◌}
 use Rattle.gr_tick.specs.declared.run.Run.{Run}
 use Rattle.gr_know.specs.declared.values.K.{K}
 use Rattle.gr_know.specs.declared.values.K.TheVariants.{Q}
@@ -20,7 +21,8 @@ NoDataBelow n know = (t : ℕ) → t < n → is_D (known_at know t) ≡ false
 
 -- a run without its first n ticks
 abbrev pub without_front : ℕ → Run K → Known → Known
-without_front n r rs = if nat_lt r.last (r.first + n) then rs else record { first = r.first + n; last = r.last; value = r.value } ∷ rs
+without_front n r rs = if nat_lt r.last (r.first + n) then rs
+    else record { first = r.first + n; last = r.last; value = r.value } ∷ rs
 
 -- the least n data ticks up to a tick lowered
 unfoldable pub lower_data : ℕ → ℕ → Known → Known

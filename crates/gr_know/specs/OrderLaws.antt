@@ -81,7 +81,9 @@ above_right (D e) Q = refl
 above_right (D e) S = refl
 above_right (D e) (D f) =
     elim (cases_Bool (same_event e f)) [
-      | inl h ↦ ap (is_at_most (D f)) (cond-true (same_event e f) (D e) F h) ∙ ap (same_event f) (event_equal e f h) ∙ event_itself f
+      | inl h ↦
+          ap (is_at_most (D f)) (cond-true (same_event e f) (D e) F h) ∙ ap (same_event f)
+          (event_equal e f h) ∙ event_itself f
       | inr h ↦ ap (is_at_most (D f)) (cond-false (same_event e f) (D e) F h)
     ]
 above_right (D e) F = refl

@@ -14,8 +14,8 @@ fn may_lower(run: &Run<K>, upto: u64) -> bool
     is_data(run) && run.first <= upto
 }
 
-/// The least tick with an event, or 2^64 - 1 where there is none. It looks at no run that ends below a tick below which there is
-/// none.
+/// The least tick with an event, or 2^64 - 1 where there is none. It looks at no run that ends below a tick below which
+/// there is none.
 pub fn first_data(stream: &Stream<K>, from: u64) -> u64
     requires none { NoDataBelow from stream.now.runs }
     ensures none { NoDataBelow result stream.now.runs }
@@ -46,9 +46,9 @@ pub fn first_data_of(piece: &Piece<K>) -> u64
     u64::MAX
 }
 
-/// Makes so many ticks with an event unknown, the least ones first and none past a tick, and answers how many are left to do,
-/// since no more have an event up to there. None below `from` has one. It looks at no run that ends below it, at none where
-/// there are none to do, and at one past `upto` at most.
+/// Makes so many ticks with an event unknown, the least ones first and none past a tick, and answers how many are left
+/// to do, since no more have an event up to there. None below `from` has one. It looks at no run that ends below it, at
+/// none where there are none to do, and at one past `upto` at most.
 pub fn forget_data(stream: &mut Stream<K>, from: u64, count: u64, upto: u64) -> u64
     requires none { NoDataBelow from stream.old.runs }
     ensures lowered { stream.new.runs ≡ lower_data count upto stream.old.runs }
@@ -67,7 +67,8 @@ pub fn forget_data(stream: &mut Stream<K>, from: u64, count: u64, upto: u64) -> 
     left
 }
 
-/// Lowers what is to be lowered of the run at a place, and answers the place to go on at, and how many ticks are left to lower.
+/// Lowers what is to be lowered of the run at a place, and answers the place to go on at, and how many ticks are left
+/// to lower.
 fn lower_run(stream: &mut Stream<K>, i: usize, left: u64, upto: u64) -> (usize, u64)
     requires within { i < length stream.old.runs }
     requires some { 0 < left }

@@ -28,8 +28,8 @@ pub struct Clash {
     pub came: K,
 }
 
-/// What a broker knows of each tick of one publisher, seen as the list of its runs and its spare, how many runs more fit before
-/// memory is asked for.
+/// What a broker knows of each tick of one publisher, seen as the list of its runs and its spare, how many runs more
+/// fit before memory is asked for.
 #[derive(Drop)]
 pub struct Know {
     alloc: Global,
@@ -67,8 +67,8 @@ impl Know {
         }
     }
 
-    /// An object with equal runs, which has room for the edits that follow: for as many runs more as it has, and 4. It fails only
-    /// where memory is refused.
+    /// An object with equal runs, which has room for the edits that follow: for as many runs more as it has, and 4. It
+    /// fails only where memory is refused.
     pub fn copy(&self) -> Result<Know, AllocError>
         ensures runs { IfOk result (λ know. know.runs ≡ self.now.runs) }
         ensures spare { IfOk result (λ know. length self.now.runs + 4 ≤ know.spare) }
@@ -115,8 +115,8 @@ impl Know {
         self.stream.top()
     }
 
-    /// The greatest tick up to which, from the one after the horizon on, nothing is unknown: where a horizon moves to. It takes no
-    /// memory.
+    /// The greatest tick up to which, from the one after the horizon on, nothing is unknown: where a horizon moves to.
+    /// It takes no memory.
     pub fn horizon_from(&self, horizon: u64) -> u64
         requires { horizon ≤ MAX_TICK }
         ensures horizon { result ≡ first_bottom_from self.now.runs (suc horizon) - 1 }
@@ -151,7 +151,8 @@ impl Know {
         self.stream.steady_until(tick)
     }
 
-    /// What is known of a tick and how far it stays so, as `at` and `steady_until` say it, by one search. It takes no memory.
+    /// What is known of a tick and how far it stays so, as `at` and `steady_until` say it, by one search. It takes no
+    /// memory.
     pub fn steady_at(&self, tick: u64) -> Steady<K>
         requires { tick ≤ MAX_TICK }
         ensures { StaysUntil Q self.now.runs tick result }
@@ -159,7 +160,8 @@ impl Know {
         self.stream.steady_at(tick)
     }
 
-    /// What would be known of the range once the piece is joined, cut at its ends. It fails only where memory is refused.
+    /// What would be known of the range once the piece is joined, cut at its ends. It fails only where memory is
+    /// refused.
     pub fn piece_with(
         &self,
         piece: &Piece<K>,
@@ -221,8 +223,8 @@ impl Know {
         self.events = join_counted(&mut self.stream, piece, self.events);
     }
 
-    /// Joins a piece, and answers what is new of it: its values at exactly the ticks that were unknown. It fails only where memory
-    /// is refused; then the knowledge is as it was.
+    /// Joins a piece, and answers what is new of it: its values at exactly the ticks that were unknown. It fails only
+    /// where memory is refused; then the knowledge is as it was.
     pub fn learn(&mut self, piece: &Piece<K>) -> Result<Piece<K>, AllocError>
         ensures fresh { IfOk result (λ fresh. RunsGive Q fresh
             (λ t. new_K (known_at self.old.runs t) (known_at piece.now t))) }
@@ -250,8 +252,8 @@ impl Know {
         self.stream.piece(first, last)
     }
 
-    /// Makes each tick of the range final, whatever was known of it. It fails only where memory is refused; then the knowledge is
-    /// as it was.
+    /// Makes each tick of the range final, whatever was known of it. It fails only where memory is refused; then the
+    /// knowledge is as it was.
     pub fn finish(&mut self, first: u64, last: u64) -> Result<(), AllocError>
         requires from_one { 1 ≤ first }
         requires ordered { first ≤ last }
@@ -277,9 +279,9 @@ impl Know {
         self.events = finish_counted(&mut self.stream, first, last, self.events);
     }
 
-    /// Makes ticks with an event unknown, the least ones first and none past `upto`, until no more than `limit` ticks with an event
-    /// are left, or none up to `upto`. So a broker's cache is bounded: what it has forgotten it asks again. It takes no memory, and
-    /// never fails.
+    /// Makes ticks with an event unknown, the least ones first and none past `upto`, until no more than `limit` ticks
+    /// with an event are left, or none up to `upto`. So a broker's cache is bounded: what it has forgotten it asks
+    /// again. It takes no memory, and never fails.
     pub fn forget(&mut self, limit: u32, upto: u64) -> Result<(), AllocError>
         ensures succeeds { IsOk result }
         ensures forgotten { OnOk result (self.new.runs ≡ forgotten limit upto self.old.runs) }

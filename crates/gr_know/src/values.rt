@@ -6,8 +6,8 @@ ghost use Rattle.gr_know.specs.declared.values.K.TheVariants.{Q};
 use gr_event::Event;
 use gr_tick::Lattice;
 
-/// What is known of a tick of one publisher. Unknown is below all, final is above all, and no two others are related: silence
-/// and an event, or two events, join to final.
+/// What is known of a tick of one publisher. Unknown is below all, final is above all, and no two others are related:
+/// silence and an event, or two events, join to final.
 #[derive(Drop)]
 pub enum K {
     /// Unknown.

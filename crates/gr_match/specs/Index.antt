@@ -1,5 +1,6 @@
 -- The index of a list of filters: which of them are asked for an event
-use Rattle.std.specs.Prelude.{◌≡◌, ℕ, ◌+◌, ◌*◌, ◌%◌, ◌^◌, ◌≤◌, Bool, false, nat_eq, nat_lt, cond, if◌then◌else◌, List, [], ◌∷◌, ◌++◌, length, map, get_or, Option, Some, None, option_and_then}
+use Rattle.std.specs.Prelude.{◌≡◌, ℕ, ◌+◌, ◌*◌, ◌%◌, ◌^◌, ◌≤◌, Bool, false, nat_eq, nat_lt, cond, if◌then◌else◌, List}
+use Rattle.std.specs.Prelude.{[], ◌∷◌, ◌++◌, length, map, get_or, Option, Some, None, option_and_then}
 use Rattle.std.specs.List.{AllByRecursion, flat_map, slice_get}
 use Rattle.std.specs.Int.{cast_unsigned, w64}
 use Rattle.gr_event.specs.declared.value.Value.TheVariants as value
@@ -102,8 +103,8 @@ abbrev pub EachNeeds : List Tree → List Bucket → Type 0
 EachNeeds fs [] = Unit {0}
 EachNeeds fs (b ∷ bs) = AllByRecursion (NeedsAt fs (bucket_pair b)) b.places × EachNeeds fs bs
 
--- Each filter has one place in the index: in the rest where it needs no pair, else in the row of its pair. It stands in no
--- bucket but that of a pair without which it does not match.
+-- Each filter has one place in the index: in the rest where it needs no pair, else in the row of its pair. It stands in
+-- no bucket but that of a pair without which it does not match.
 pub record IsIndex (fs : List Tree) (rest : List ℕ) (row : ℕ → List Bucket) : Type 0 where
   pub few : length fs ≤ 65536
   pub in_rest : (n : ℕ) → needed_at fs n ≡ None → times n rest ≡ cond (nat_lt n (length fs)) 1 0

@@ -2,7 +2,8 @@
 
 ghost use Rattle.std.specs.Prelude.{◌≡◌, ◌≤◌, ◌<◌, ◌^◌, ℕ, ◌++◌, [], Some, length, IfOk, OnOk, OnErr};
 ghost use Rattle.gr_match.specs.Needed.{pair_of};
-ghost use Rattle.gr_match.specs.Index.{row_count, mixed, number_of, row_of, row_at, row_with, places_for, places_of, asked};
+ghost use Rattle.gr_match.specs.Index.{row_count, mixed, number_of, row_of, row_at, row_with, places_for, places_of};
+ghost use Rattle.gr_match.specs.Index.{asked};
 
 use crate::bucket::{Bucket, put};
 use crate::pair::NamedPart;
@@ -88,7 +89,8 @@ pub(crate) fn put_in_row(
     pair: NamedPart<'_>,
     place: u16,
 ) -> Result<(), Memory>
-    ensures ok { OnOk result ((i : ℕ) → row_at rows.new.items i ≡ row_with (Some (pair_of pair.entry)) place (row_at rows.old.items) i) }
+    ensures ok { OnOk result ((i : ℕ) → row_at rows.new.items i
+        ≡ row_with (Some (pair_of pair.entry)) place (row_at rows.old.items) i) }
     ensures err { OnErr result ((i : ℕ) → row_at rows.new.items i ≡ row_at rows.old.items i) }
 {
     make_rows(alloc, rows)?;

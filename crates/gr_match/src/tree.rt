@@ -19,9 +19,9 @@ use std::marker::Model;
 
 /// A list of at most 65,536 filters, seen as the list of their trees.
 ///
-/// A filter whose outermost ANDs join a part `name = literal` stands in a bucket under that name and value, and is asked
-/// only for events that have it. Buckets stand in rows, by name and value: an event looks up the rows of its own pairs.
-/// All other filters are always asked.
+/// A filter whose outermost ANDs join a part `name = literal` stands in a bucket under that name and value, and is
+/// asked only for events that have it. Buckets stand in rows, by name and value: an event looks up the rows of its own
+/// pairs. All other filters are always asked.
 #[derive(Drop)]
 pub struct MatchTree {
     alloc: Global,
@@ -59,7 +59,8 @@ impl MatchTree {
         }
     }
 
-    /// Puts a copy of the filter at the end of the list. `Memory`, where no memory was given, leaves the list as it was.
+    /// Puts a copy of the filter at the end of the list. `Memory`, where no memory was given, leaves the list as it
+    /// was.
     pub fn add(&mut self, filter: &Filter) -> Result<(), Memory>
         requires { length self.old < 65536 }
         ensures ok { OnOk result (self.new ≡ self.old ++ tree_of filter.now ∷ []) }
@@ -101,7 +102,8 @@ fn enter(
     place: u16,
 ) -> Result<(), Memory>
     ensures rest { OnOk result (rest.new ≡ rest_with (needed (tree_of filter.now)) place rest.old) }
-    ensures rows { OnOk result ((i : ℕ) → row_at rows.new.items i ≡ row_with (needed (tree_of filter.now)) place (row_at rows.old.items) i) }
+    ensures rows { OnOk result ((i : ℕ) → row_at rows.new.items i
+        ≡ row_with (needed (tree_of filter.now)) place (row_at rows.old.items) i) }
     ensures same_rest { OnErr result (rest.new ≡ rest.old) }
     ensures same_rows { OnErr result ((i : ℕ) → row_at rows.new.items i ≡ row_at rows.old.items i) }
 {
@@ -127,7 +129,8 @@ fn asked(alloc: Global, rest: &Numbers, rows: &[Row], event: &Event) -> Result<V
 
 /// Puts the places of the buckets that are of a pair at the end.
 fn add_places(places: &mut Vec<u16>, buckets: &[Bucket], pair: NamedPart<'_>) -> Result<(), Memory>
-    ensures { OnOk result (places.new.items ≡ places.old.items ++ flat_map (places_for (pair_of pair.entry)) buckets.now) }
+    ensures { OnOk result (places.new.items ≡ places.old.items
+        ++ flat_map (places_for (pair_of pair.entry)) buckets.now) }
 {
     for bucket in buckets {
         if bucket.is_of(pair) {
@@ -197,7 +200,8 @@ fn any_asked(filters: &[Filter], rows: &[Row], event: &Event) -> bool
 
 /// Whether a filter of the buckets that are of a pair matches the event.
 fn any_of(filters: &[Filter], buckets: &[Bucket], pair: NamedPart<'_>, event: &Event) -> bool
-    ensures { result ≡ list_any (matches_at (trees filters.now) event.now) (flat_map (places_for (pair_of pair.entry)) buckets.now) }
+    ensures { result
+        ≡ list_any (matches_at (trees filters.now) event.now) (flat_map (places_for (pair_of pair.entry)) buckets.now) }
 {
     for bucket in buckets {
         if bucket.is_of(pair) && any_at(filters, bucket.places.as_slice(), event) {

@@ -6,7 +6,8 @@ ghost use Rattle.gr_out.specs.declared.page.TheConstants.{PAGE_BYTES};
 ghost use Rattle.gr_out.specs.Bytes.{with_more};
 ghost use Rattle.gr_out.specs.Faults.{Rose};
 ghost use Rattle.gr_out.specs.Page.{TakesBut, TakesFront};
-ghost use Rattle.gr_matching.specs.Matching.{names_at, behind_space, names_text, matched_line, matched_text, IsPutFault};
+ghost use Rattle.gr_matching.specs.Matching.{names_at, behind_space, names_text, matched_line, matched_text};
+ghost use Rattle.gr_matching.specs.Matching.{IsPutFault};
 
 use crate::filter_list::FilterList;
 use gr_event::Event;

@@ -5,7 +5,8 @@ ghost use Rattle.gr_filter.specs.Tree.{tree_of};
 ghost use Rattle.gr_sched.specs.declared.step.TheConstants.{MAX_BYTES};
 ghost use Rattle.gr_sched.specs.Text.{pieces_of, counted_after, counted_lines};
 ghost use Rattle.gr_matching.specs.Gives.{Gives};
-ghost use Rattle.gr_matching.specs.Reading.{filter_of, with_filter, filters_of, event_of, events_of, asked_of_events, asked_of_parts, asked_by, IsTooLarge};
+ghost use Rattle.gr_matching.specs.Reading.{filter_of, with_filter, filters_of, event_of, events_of, asked_of_events};
+ghost use Rattle.gr_matching.specs.Reading.{asked_of_parts, asked_by, IsTooLarge};
 
 use crate::asked::Asked;
 use crate::event_list::EventList;

@@ -1,5 +1,6 @@
 -- A server: what comes to its brokers from outside, and what they do
-use Rattle.std.specs.Prelude.{ℕ, ◌&&◌, ◌++◌, min, max, not, Bool, true, false, nat_eq, nat_lt, if◌then◌else◌, List, [], ◌∷◌, length, Option, Some, None, Result, Ok, Err, flat_map}
+use Rattle.std.specs.Prelude.{ℕ, ◌&&◌, ◌++◌, min, max, not, Bool, true, false, nat_eq, nat_lt, if◌then◌else◌, List, []}
+use Rattle.std.specs.Prelude.{◌∷◌, length, Option, Some, None, Result, Ok, Err, flat_map}
 use Rattle.std.specs.List.{list_any}
 use Rattle.gr_event.specs.declared.event.Event.{Event}
 use Rattle.gr_frame.specs.declared.Body.TheVariants as body
@@ -24,7 +25,8 @@ use Rattle.gr_model.specs.declared.report.Report.{Report}
 use Rattle.gr_model.specs.declared.report.Report.TheVariants as line
 use Rattle.gr_model.specs.Net.{Net, keeps_horizon, numbers}
 use Rattle.gr_model.specs.Broker.{View, Log, max_tick}
-use Rattle.gr_model.specs.World.{World, Transition, view_of, log_of, unchanged, followed_by, in_turn, deliver_frame, publish_now, wake_all, kept_events, deliver_frame_by, publish_now_by, wake_all_by}
+use Rattle.gr_model.specs.World.{World, Transition, view_of, log_of, unchanged, followed_by, in_turn, deliver_frame}
+use Rattle.gr_model.specs.World.{publish_now, wake_all, kept_events, deliver_frame_by, publish_now_by, wake_all_by}
 use Rattle.gr_model.specs.Opening.{opening, opening_by}
 
 -- What comes
@@ -46,10 +48,14 @@ is_hosted net hosted p = list_any (λ b. nat_eq b (net.host p)) hosted
 abbrev pub is_scheduled : Net → List ℕ → ℕ → Bool
 is_scheduled net hosted p = is_hosted net hosted p && not (net.client p)
 
--- The publishes of a schedule whose publisher is at one of the hosted brokers and has no client, in order. A stop is left aside,
--- and so are all other steps
+-- The publishes of a schedule whose publisher is at one of the hosted brokers and has no client, in order. A stop is
+-- left aside, and so are all other steps
 abbrev pub publishes_in : Net → List ℕ → Line → List Publish
-publishes_in net hosted l = elim l.step [ step.Publish p number stop e ↦ if is_scheduled net hosted p then (p, (number, e)) ∷ [] else [] | _ ↦ [] ]
+publishes_in net hosted l = elim l.step [
+  | step.Publish p number stop e ↦ if is_scheduled net hosted p
+      then (p, (number, e)) ∷ [] else []
+  | _ ↦ []
+]
 
 abbrev pub publishes_of : Net → List ℕ → List Line → List Publish
 publishes_of net hosted steps = flat_map (publishes_in net hosted) steps
@@ -64,10 +70,11 @@ left_after (x ∷ left) (quiet moment) = left
 
 -- a moment past the last tick is taken as the last tick
 abbrev pub at_moment : World → ℕ → World
-at_moment w moment = let now : ℕ = min moment max_tick in record { clock = now; most = max now w.most; frames = w.frames; views = w.views; logs = w.logs }
+at_moment w moment = let now : ℕ = min moment max_tick in
+    record { clock = now; most = max now w.most; frames = w.frames; views = w.views; logs = w.logs }
 
--- The frame fits the broker: it is addressed to it, of a publisher that there is, and curiosity comes from a child, all else from
--- the next broker towards the host
+-- The frame fits the broker: it is addressed to it, of a publisher that there is, and curiosity comes from a child, all
+-- else from the next broker towards the host
 abbrev pub fits_broker : Net → ℕ → Frame → Bool
 fits_broker net b f =
     (nat_eq f.head.to b && nat_lt f.head.publisher net.publishers)
@@ -90,7 +97,10 @@ least_clash know f = elim f.body [ body.Knowledge runs ↦ first_of (clash_runs 
 
 -- the line of a clash at a tick
 abbrev pub clash_line : ℕ → Known → Frame → ℕ → Report
-clash_line b know f t = line.DroppedClash b t (known_at know t) (elim f.body [ body.Knowledge runs ↦ known_at runs t | _ ↦ Q ])
+clash_line b know f t = line.DroppedClash b t (known_at know t) (elim f.body [
+  | body.Knowledge runs ↦ known_at runs t
+  | _ ↦ Q
+])
 
 -- a frame that fits is received, unless it clashes
 unfoldable pub takes_by : (View → Net) → Net → World → ℕ → Frame → Transition
@@ -171,7 +181,8 @@ abbrev pub published_first : Net → World → List Publish → Transition
 published_first net = published_first_by (λ _. net) net
 
 unfoldable pub quieted_by : (View → Net) → Net → List ℕ → World → List Publish → Transition
-quieted_by see net hosted w left = followed_by (published_first_by see net w left) (in_turn (wake_all_by see net) hosted)
+quieted_by see net hosted w left =
+    followed_by (published_first_by see net w left) (in_turn (wake_all_by see net) hosted)
 
 abbrev pub quieted : Net → List ℕ → World → List Publish → Transition
 quieted net = quieted_by (λ _. net) net
@@ -189,13 +200,16 @@ comes net = comes_by (λ _. net) net
 unfoldable pub show_hosted : Net → List ℕ → World → List Report
 show_hosted net hosted w =
     line.Frames (length w.frames) ∷
-    (flat_map (λ p. let l = log_of w p in if is_hosted net hosted p then line.LogOf p l.last l.settled l.cut (kept_events l) ∷ [] else []) (numbers net.publishers)
-    ++ flat_map (λ b. flat_map (λ p. if keeps_horizon net p b then line.Doubt b p (view_of w b p).horizon ∷ [] else []) (numbers net.publishers)) hosted)
+    (flat_map (λ p. let l = log_of w p in if is_hosted net hosted p
+    then line.LogOf p l.last l.settled l.cut (kept_events l) ∷ [] else []) (numbers net.publishers)
+    ++ flat_map (λ b. flat_map (λ p. if keeps_horizon net p b then line.Doubt b p (view_of w b p).horizon ∷ []
+    else []) (numbers net.publishers)) hosted)
 
 -- the lines of each arrival, and then what is shown
 unfoldable pub served_from_by : (View → Net) → Net → List ℕ → World → List Publish → List Arrival → List (List Report)
 served_from_by see net hosted w left [] = show_hosted net hosted w ∷ []
-served_from_by see net hosted w left (a ∷ arrivals) = let t = comes_by see net hosted w left a in t.lines ∷ served_from_by see net hosted t.world (left_after left a) arrivals
+served_from_by see net hosted w left (a ∷ arrivals) = let t = comes_by see net hosted w left a in
+    t.lines ∷ served_from_by see net hosted t.world (left_after left a) arrivals
 
 abbrev pub served_from : Net → List ℕ → World → List Publish → List Arrival → List (List Report)
 served_from net = served_from_by (λ _. net) net
@@ -203,15 +217,17 @@ served_from net = served_from_by (λ _. net) net
 -- the world after arrivals: its frames are what was offered to the network, in order, and its logs what the lanes hold
 unfoldable pub arrived_by : (View → Net) → Net → List ℕ → World → List Publish → List Arrival → World
 arrived_by see net hosted w left [] = w
-arrived_by see net hosted w left (a ∷ arrivals) = let t = comes_by see net hosted w left a in arrived_by see net hosted t.world (left_after left a) arrivals
+arrived_by see net hosted w left (a ∷ arrivals) = let t = comes_by see net hosted w left a in
+    arrived_by see net hosted t.world (left_after left a) arrivals
 
 abbrev pub arrived : Net → List ℕ → World → List Publish → List Arrival → World
 arrived net = arrived_by (λ _. net) net
 
--- A run over a journal: the opening, then each arrival in turn, then what is shown. The hosted brokers are given in rising order; of
--- a publisher that is not hosted no log is looked at; and the journal ends with the list
+-- A run over a journal: the opening, then each arrival in turn, then what is shown. The hosted brokers are given in
+-- rising order; of a publisher that is not hosted no log is looked at; and the journal ends with the list
 unfoldable pub served_by : (View → Net) → Net → List ℕ → List Log → List Line → List Arrival → List (List Report)
-served_by see net hosted logs steps arrivals = let o = opening_by see net hosted logs in o.lines ∷ served_from_by see net hosted o.world (publishes_of net hosted steps) arrivals
+served_by see net hosted logs steps arrivals = let o = opening_by see net hosted logs in
+    o.lines ∷ served_from_by see net hosted o.world (publishes_of net hosted steps) arrivals
 
 abbrev pub served : Net → List ℕ → List Log → List Line → List Arrival → List (List Report)
 served net = served_by (λ _. net) net

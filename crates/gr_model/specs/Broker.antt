@@ -1,5 +1,7 @@
 -- One broker's calls for one publisher
-use Rattle.std.specs.Prelude.{ℕ, suc, ◌+◌, ◌-◌, min, Bool, true, false, not, ◌&&◌, ◌||◌, nat_eq, nat_le, nat_lt, if◌then◌else◌, List, [], ◌∷◌, ◌++◌, map, filter, get_or, set, Some, None, flat_map, Option}
+use Rattle.std.specs.Prelude.{ℕ, suc, ◌+◌, ◌-◌, min, Bool, true, false, not, ◌&&◌, ◌||◌, nat_eq, nat_le, nat_lt}
+use Rattle.std.specs.Prelude.{if◌then◌else◌, List, [], ◌∷◌, ◌++◌, map, filter, get_or, set, Some, None, flat_map}
+use Rattle.std.specs.Prelude.{Option}
 use Rattle.std.specs.List.{list_all}
 use Rattle.gr_event.specs.declared.event.Event.{Event}
 use Rattle.gr_know.specs.declared.values.K.{K}
@@ -56,10 +58,16 @@ head from to p = record { from = from; to = to; publisher = p }
 
 -- what is known, wanted or to be expected as frames; nothing makes no frame
 abbrev pub know_frames : ℕ → ℕ → ℕ → Known → List Frame
-know_frames from to p runs = map (λ part. record { head = head from to p; body = body.Knowledge part }) (cut_frames known_run_size runs)
+know_frames from to p runs = map (λ part. record {
+  head = head from to p;
+  body = body.Knowledge part;
+}) (cut_frames known_run_size runs)
 
 abbrev pub want_frames : ℕ → ℕ → ℕ → Wanted → List Frame
-want_frames from to p runs = map (λ part. record { head = head from to p; body = body.Curiosity part }) (cut_frames wanted_run_size runs)
+want_frames from to p runs = map (λ part. record {
+  head = head from to p;
+  body = body.Curiosity part;
+}) (cut_frames wanted_run_size runs)
 
 abbrev pub expect_frame : ℕ → ℕ → ℕ → ℕ → Frame
 expect_frame from to p tick = record { head = head from to p; body = body.Expect tick }
@@ -116,7 +124,8 @@ got_line s p x = line.Got s p x.0 x.1
 
 -- what one subscriber here gets where the horizon moves
 unfoldable pub delivery_lines : Net → ℕ → ℕ → ℕ → List (ℕ × Event) → ℕ → List Report
-delivery_lines net p h h' items s = if nat_eq h h' then [] else map (got_line s p) (filter (λ x. net.wants p s x.0 x.1) items) ++ line.Horizon s p h' ∷ []
+delivery_lines net p h h' items s = if nat_eq h h' then []
+    else map (got_line s p) (filter (λ x. net.wants p s x.0 x.1) items) ++ line.Horizon s p h' ∷ []
 
 -- Forwarding
 
@@ -150,7 +159,8 @@ still_wanted w sent = zip_runs N Q N same_Q3 (λ a v. answered_of (not (is_Q v))
 abbrev pub forward_frames : Net → ℕ → ℕ → Known → List ℕ → List Wanted → List Frame
 forward_frames net p b new [] ws = []
 forward_frames net p b new (c ∷ cs) [] = []
-forward_frames net p b new (c ∷ cs) (w ∷ ws) = know_frames b c p (forward net p c w new) ++ forward_frames net p b new cs ws
+forward_frames net p b new (c ∷ cs) (w ∷ ws) = know_frames b c p (forward net p c w new)
+    ++ forward_frames net p b new cs ws
 
 -- each child's curiosity after that
 abbrev pub forward_wants : Net → ℕ → Known → List ℕ → List Wanted → List Wanted
@@ -168,7 +178,12 @@ learn net p b piece v log =
     let items = data_ticks v.horizon h know in
     let ws = forward_wants net p new (net.children p b) v.wants in
     record {
-      view = kept_view net p b (record { know = finished know (consolidated keeps h ws); wants = ws; asks = v.asks; horizon = h });
+      view = kept_view net p b (record {
+        know = finished know (consolidated keeps h ws);
+        wants = ws;
+        asks = v.asks;
+        horizon = h;
+      });
       log = log;
       lines = flat_map (delivery_lines net p v.horizon h items) (net.subscribers_at b);
       frames = forward_frames net p b new (net.children p b) v.wants;
@@ -178,7 +193,8 @@ learn net p b piece v log =
 
 -- the ticks of a wanted set that are asked
 unfoldable pub due : ℕ → ℕ → Known → Asked → (ℕ → Bool) → List ℕ → Wanted
-due now retry know asks wanted ps = wanteds (λ t. due_of (asked_at asks t) (if wanted t && is_Q (known_at know t) then C else N) now retry) (ps ++ points know ++ points asks)
+due now retry know asks wanted ps = wanteds (λ t. due_of (asked_at asks t) (if wanted t && is_Q (known_at know t) then C
+    else N) now retry) (ps ++ points know ++ points asks)
 
 -- the asked ticks get the moment of their ask
 unfoldable pub noted : ℕ → Asked → Wanted → Asked
@@ -205,7 +221,8 @@ answer k a _ = Q
 
 -- the answers to a child whose curiosity is w, of what passes the edge to it
 abbrev pub answers_of : Known → Wanted → Wanted → Known
-answers_of known w piece = knowns (λ t. answer (known_at known t) (wanted_at w t) (wanted_at piece t)) (points known ++ points w ++ points piece)
+answers_of known w piece = knowns (λ t. answer (known_at known t) (wanted_at w t) (wanted_at piece t)) (points known
+    ++ points w ++ points piece)
 
 -- the answers to c, whose curiosity is w
 unfoldable pub answers : Net → ℕ → ℕ → Known → Wanted → Wanted → Known
@@ -218,9 +235,11 @@ curious k a _ = a
 
 -- the child's curiosity after its asks
 unfoldable pub stored : Known → Wanted → Wanted → Wanted
-stored know w piece = wanteds (λ t. curious (known_at know t) (wanted_at w t) (wanted_at piece t)) (points know ++ points w ++ points piece)
+stored know w piece = wanteds (λ t. curious (known_at know t) (wanted_at w t) (wanted_at piece t)) (points know
+    ++ points w ++ points piece)
 
--- asked and acknowledged ticks come from a child: they are answered from what is known, stored, and asked upstream where unknown
+-- asked and acknowledged ticks come from a child: they are answered from what is known, stored, and asked upstream
+-- where unknown
 unfoldable pub curiosity : Net → ℕ → ℕ → ℕ → ℕ → ℕ → Wanted → View → Log → Outcome
 curiosity net p b now c i piece v log =
     let keeps = keeps_horizon net p b in
@@ -230,7 +249,8 @@ curiosity net p b now c i piece v log =
     let know = finished v.know (consolidated keeps v.horizon ws) in
     let asked : Wanted = elim (is_host net p b) [
       | true ↦ []
-      | false ↦ due now net.retry know v.asks (λ t. is_C (wanted_at piece t) && is_Q (known_at reply t)) (points piece ++ points reply)
+      | false ↦ due now net.retry know v.asks (λ t. is_C (wanted_at piece t) && is_Q (known_at reply t)) (points piece
+          ++ points reply)
     ] in
     record {
       view = kept_view net p b (record { know = know; wants = ws; asks = noted now v.asks asked; horizon = v.horizon });
@@ -245,22 +265,30 @@ asking net p b now wanted ps v log =
     let done = consolidated (keeps_horizon net p b) v.horizon v.wants in
     let asked = due now net.retry v.know v.asks wanted ps in
     record {
-      view = kept_view net p b (record { know = v.know; wants = v.wants; asks = noted now v.asks asked; horizon = v.horizon });
+      view = kept_view net p b (record {
+        know = v.know;
+        wants = v.wants;
+        asks = noted now v.asks asked;
+        horizon = v.horizon;
+      });
       log = log;
       lines = [];
       frames = up_frames net p b (upward done asked);
     }
 
--- a woken broker wants what a child asked, what is unknown and idle, and what is unknown for a gap's time below something known
+-- a woken broker wants what a child asked, what is unknown and idle, and what is unknown for a gap's time below
+-- something known
 abbrev pub wanted_at_wake : Net → Bool → ℕ → View → ℕ → Bool
 wanted_at_wake net keeps now v t =
-    any_C v.wants t || (keeps && nat_lt v.horizon t && (nat_le (t + net.idle) now || (nat_le (t + net.gap) now && nat_lt t (top_of v.know))))
+    any_C v.wants t || (keeps && nat_lt v.horizon t && (nat_le (t + net.idle) now
+    || (nat_le (t + net.gap) now && nat_lt t (top_of v.know))))
 
 -- a broker below the host is woken
 unfoldable pub wake_below : Net → ℕ → ℕ → ℕ → View → Log → Outcome
 wake_below net p b now v log =
     asking net p b now (wanted_at_wake net (keeps_horizon net p b) now v)
-    (all_points v.wants ++ (suc v.horizon ∷ (suc (now - net.idle) ∷ (suc (now - net.gap) ∷ (top_of v.know ∷ []))))) v log
+    (all_points v.wants
+    ++ (suc v.horizon ∷ (suc (now - net.idle) ∷ (suc (now - net.gap) ∷ (top_of v.know ∷ []))))) v log
 
 -- A child has an A at each tick of 1 to upto
 abbrev pub covers : Wanted → ℕ → Bool
@@ -270,13 +298,21 @@ covers w upto = list_all (λ t. is_A (wanted_at w t)) (filter (λ t. nat_le 1 t 
 abbrev pub expect_frames : ℕ → ℕ → ℕ → List ℕ → List Wanted → List Frame
 expect_frames p b tick [] ws = []
 expect_frames p b tick (c ∷ cs) [] = []
-expect_frames p b tick (c ∷ cs) (w ∷ ws) = (if covers w tick then [] else expect_frame b c p tick ∷ []) ++ expect_frames p b tick cs ws
+expect_frames p b tick (c ∷ cs) (w ∷ ws) = (if covers w tick then [] else expect_frame b c p tick ∷ [])
+    ++ expect_frames p b tick cs ws
 
 -- Expect comes from upstream
 unfoldable pub expect : Net → ℕ → ℕ → ℕ → ℕ → View → Log → Outcome
 expect net p b now tick v log =
-    let o = asking net p b now (λ t. any_C v.wants t || (keeps_horizon net p b && nat_lt v.horizon t && nat_le t tick)) (all_points v.wants ++ (suc v.horizon ∷ (suc tick ∷ []))) v log in
-    record { view = o.view; log = o.log; lines = o.lines; frames = o.frames ++ expect_frames p b tick (net.children p b) v.wants }
+    let o = asking net p b now (λ t. any_C v.wants t
+    || (keeps_horizon net p b && nat_lt v.horizon t && nat_le t tick)) (all_points v.wants
+    ++ (suc v.horizon ∷ (suc tick ∷ []))) v log in
+    record {
+      view = o.view;
+      log = o.log;
+      lines = o.lines;
+      frames = o.frames ++ expect_frames p b tick (net.children p b) v.wants;
+    }
 
 -- The publisher
 
@@ -331,12 +367,16 @@ wake_host net p b now v log =
       lines = (if nat_lt log.settled o.log.settled then line.Mark p now ∷ [] else [])
           ++ (if nat_lt o.log.cut cut.cut then line.Cut p cut.cut ∷ [] else [])
           ++ o.lines;
-      frames = o.frames ++ (if nat_lt 0 cut.settled then expect_frames p b cut.settled (net.children p b) o.view.wants else []);
+      frames = o.frames ++ (if nat_lt 0 cut.settled then expect_frames p b cut.settled (net.children p b) o.view.wants
+          else []);
     }
 
 -- a broker is woken
 unfoldable pub wake : Net → ℕ → ℕ → ℕ → View → Log → Outcome
-wake net p b now v log = elim (is_host net p b) [ true ↦ wake_host net p b now v log | false ↦ wake_below net p b now v log ]
+wake net p b now v log = elim (is_host net p b) [
+  | true ↦ wake_host net p b now v log
+  | false ↦ wake_below net p b now v log
+]
 
 -- Start, and start again
 
@@ -369,6 +409,8 @@ receive net now f v log =
             | true ↦ record { view = v; log = log; lines = []; frames = [] }
             | false ↦ learn net f.head.publisher f.head.to runs v log
           ]
-      | body.Curiosity runs ↦ curiosity net f.head.publisher f.head.to now f.head.from (place_of f.head.from (net.children f.head.publisher f.head.to)) runs v log
+      | body.Curiosity runs ↦
+          curiosity net f.head.publisher f.head.to now f.head.from
+          (place_of f.head.from (net.children f.head.publisher f.head.to)) runs v log
       | body.Expect tick ↦ expect net f.head.publisher f.head.to now tick v log
     ]

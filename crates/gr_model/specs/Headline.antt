@@ -1,5 +1,7 @@
 -- What the report of a schedule says, apart from any machine: the record, the gots, the horizons, the cuts
-use Rattle.std.specs.Prelude.{◌≡◌, ℕ, suc, ◌+◌, ◌*◌, ◌≤◌, ◌<◌, max, Bool, true, false, not, ◌&&◌, ◌||◌, nat_eq, nat_le, nat_lt, if◌then◌else◌, List, [], ◌∷◌, ◌++◌, length, map, filter, get_or, set, replicate, Option, Some, None, flat_map, Contains, IsTrue}
+use Rattle.std.specs.Prelude.{◌≡◌, ℕ, suc, ◌+◌, ◌*◌, ◌≤◌, ◌<◌, max, Bool, true, false, not, ◌&&◌, ◌||◌, nat_eq, nat_le}
+use Rattle.std.specs.Prelude.{nat_lt, if◌then◌else◌, List, [], ◌∷◌, ◌++◌, length, map, filter, get_or, set, replicate}
+use Rattle.std.specs.Prelude.{Option, Some, None, flat_map, Contains, IsTrue}
 use Rattle.std.specs.List.{list_any}
 use Rattle.gr_event.specs.declared.event.Event.{Event}
 use Rattle.gr_event.specs.Event.{event_size}
@@ -27,9 +29,11 @@ pub record History : Type 0 where
   pub clock : ℕ
   pub most : ℕ
   pub records : List Recorded
-  pub reopened_cuts : List ℕ  -- publisher by publisher: the cut that was found when its log was opened; 0 where no log is older than the schedule
+  -- publisher by publisher: the cut that was found when its log was opened; 0 where no log is older than the schedule
+  pub reopened_cuts : List ℕ
   pub lines : List Report
-  pub heard : List (List (List Known))  -- broker by broker, publisher by publisher: the pieces heard since the last crash
+  -- broker by broker, publisher by publisher: the pieces heard since the last crash
+  pub heard : List (List (List Known))
   pub unlogged : List Bool  -- publisher by publisher: nothing was logged or marked since its host started
   pub gates : List ℕ  -- publisher by publisher: the place of the closed gate in its log's lane
 
@@ -53,7 +57,11 @@ is_next clock r number = nat_eq number (suc r.last) && nat_le (tick_of clock r) 
 
 -- the record with a further event
 abbrev pub recording : ℕ → Recorded → Event → Recorded
-recording clock r e = record { last = suc r.last; settled = tick_of clock r; events = r.events ++ (tick_of clock r, e) ∷ [] }
+recording clock r e = record {
+  last = suc r.last;
+  settled = tick_of clock r;
+  events = r.events ++ (tick_of clock r, e) ∷ [];
+}
 
 -- the record settled up to a tick
 abbrev pub settling : ℕ → Recorded → Recorded
@@ -100,7 +108,8 @@ records_after net h l ls =
     elim l.step [
       | step.Publish p number stop e ↦
           let r = record_of h p in
-          if is_next h.clock r number && elim stop [ None ↦ true | Some s ↦ says_kept ls ] then set h.records p (recording h.clock r e) else h.records
+          if is_next h.clock r number && elim stop [ None ↦ true | Some s ↦ says_kept ls ]
+          then set h.records p (recording h.clock r e) else h.records
       | step.Wake b ↦ each_record (λ p r. if is_host net p b then marked net h.clock r else r) 0 h.records
       | step.Sweep ↦ if is_swept net h then map (settling (sweep_at net h)) h.records else h.records
       | _ ↦ h.records
@@ -212,7 +221,11 @@ abbrev pub crashed_by : Net → History → Line → Option ℕ
 crashed_by net h l =
     elim l.step [
       | step.Crash b ↦ if may_crash net b then Some b else None
-      | step.Publish p number stop e ↦ elim stop [ None ↦ None | Some s ↦ if may_crash net (net.host p) && is_next h.clock (record_of h p) number then Some (net.host p) else None ]
+      | step.Publish p number stop e ↦ elim stop [
+        | None ↦ None
+        | Some s ↦ if may_crash net (net.host p)
+            && is_next h.clock (record_of h p) number then Some (net.host p) else None
+      ]
       | _ ↦ None
     ]
 
@@ -274,10 +287,13 @@ begin net = record {
 abbrev pub is_heard : List Known → ℕ → Bool
 is_heard pieces t = list_any (λ runs. list_any (is_in t) runs) pieces
 
--- n is a broker's doubt horizon: below the host all up to n was heard since the last crash and n + 1 was not; at the host it is where the log is settled
+-- n is a broker's doubt horizon: below the host all up to n was heard since the last crash and n + 1 was not; at the
+-- host it is where the log is settled
 pub record IsDoubt (net : Net) (h : History) (b p n : ℕ) : Type 0 where
-  pub at_host : IsTrue (is_host net p b) → n ≡ (if get_or h.unlogged p true && may_crash net b then 0 else (record_of h p).settled)
-  pub below : is_host net p b ≡ false → (t : ℕ) → 1 ≤ t → t ≤ n → IsTrue (is_heard (get_or (get_or h.heard b []) p []) t)
+  pub at_host : IsTrue (is_host net p b) → n
+      ≡ (if get_or h.unlogged p true && may_crash net b then 0 else (record_of h p).settled)
+  pub below : is_host net p b ≡ false → (t : ℕ) → 1 ≤ t → t ≤ n
+      → IsTrue (is_heard (get_or (get_or h.heard b []) p []) t)
   pub ends : is_host net p b ≡ false → is_heard (get_or (get_or h.heard b []) p []) (suc n) ≡ false
 
 -- What was told
@@ -297,13 +313,15 @@ last_horizon s p n (_ ∷ ls) = last_horizon s p n ls
 -- the horizon lines of s and p rise strictly, from above n on
 abbrev pub HorizonsRise : ℕ → ℕ → ℕ → List Report → Type 0
 HorizonsRise s p n [] = Unit {0}
-HorizonsRise s p n (line.Horizon r q t ∷ ls) = (IsTrue (nat_eq r s && nat_eq q p) → n < t) × HorizonsRise s p (if nat_eq r s && nat_eq q p then t else n) ls
+HorizonsRise s p n (line.Horizon r q t ∷ ls) = (IsTrue (nat_eq r s && nat_eq q p) → n < t)
+    × HorizonsRise s p (if nat_eq r s && nat_eq q p then t else n) ls
 HorizonsRise s p n (_ ∷ ls) = HorizonsRise s p n ls
 
 -- what s got from p
 abbrev pub delivered_events : ℕ → ℕ → List Report → List (ℕ × Event)
 delivered_events s p [] = []
-delivered_events s p (line.Got r q t e ∷ ls) = (if nat_eq r s && nat_eq q p then (t, e) ∷ [] else []) ++ delivered_events s p ls
+delivered_events s p (line.Got r q t e ∷ ls) = (if nat_eq r s && nat_eq q p then (t, e) ∷ [] else [])
+    ++ delivered_events s p ls
 delivered_events s p (_ ∷ ls) = delivered_events s p ls
 
 -- what s is to have got from p up to tick n
@@ -331,7 +349,8 @@ is_record_line _ = false
 -- the opened lines of a broker that starts
 abbrev pub opened_of : Net → List ℕ → List Recorded → List Report → ℕ → List Report
 opened_of net found records lines b =
-    flat_map (λ p. let r = get_or records p nothing_recorded in if is_host net p b && nat_lt 0 r.settled then line.Opened p r.last r.settled (last_cut p (get_or found p 0) lines) ∷ [] else []) (numbers net.publishers)
+    flat_map (λ p. let r = get_or records p nothing_recorded in if is_host net p b && nat_lt 0 r.settled
+    then line.Opened p r.last r.settled (last_cut p (get_or found p 0) lines) ∷ [] else []) (numbers net.publishers)
 
 -- the line that a publish gets
 abbrev pub publish_line : ℕ → ℕ → ℕ → Recorded → Report
@@ -361,17 +380,22 @@ record_lines net h l ls =
                         | false ↦ publish_line p h.clock number r ∷ []
                         | true ↦
                             line.Crashed (net.host p) ∷
-                            ((if says_kept ls then line.Kept p number (tick_of h.clock r) else line.Lost p number (tick_of h.clock r)) ∷
+                            ((if says_kept ls then line.Kept p number (tick_of h.clock r)
+                            else line.Lost p number (tick_of h.clock r)) ∷
                             opened_of net h.reopened_cuts (records_after net h l ls) h.lines (net.host p))
                       ]
                 ]
           ]
-      | step.Wake b ↦ flat_map (λ p. if is_host net p b && nat_le ((record_of h p).settled + net.quiet) h.clock then line.Mark p h.clock ∷ [] else []) (numbers net.publishers)
-      | step.Sweep ↦ if is_swept net h then map (λ p. line.Mark p (sweep_at net h)) (numbers net.publishers) ++ line.Swept (sweep_at net h) ∷ [] else []
-      | step.Crash b ↦ if may_crash net b then line.Crashed b ∷ opened_of net h.reopened_cuts h.records h.lines b else []
+      | step.Wake b ↦ flat_map (λ p. if is_host net p b && nat_le ((record_of h p).settled + net.quiet) h.clock
+          then line.Mark p h.clock ∷ [] else []) (numbers net.publishers)
+      | step.Sweep ↦ if is_swept net h then map (λ p. line.Mark p (sweep_at net h)) (numbers net.publishers)
+          ++ line.Swept (sweep_at net h) ∷ [] else []
+      | step.Crash b ↦ if may_crash net b then line.Crashed b ∷ opened_of net h.reopened_cuts h.records h.lines b
+          else []
       | step.Show ↦
           line.Frames (sent_count h.lines) ∷
-          map (λ p. let r = record_of h p in let c = last_cut p (reopened_cut h p) h.lines in line.LogOf p r.last r.settled c (count_past c r.events)) (numbers net.publishers)
+          map (λ p. let r = record_of h p in let c = last_cut p (reopened_cut h p) h.lines in
+          line.LogOf p r.last r.settled c (count_past c r.events)) (numbers net.publishers)
       | _ ↦ []
     ]
 
@@ -384,7 +408,8 @@ is_doubt_line _ = false
 abbrev pub doubts_shown : Net → Line → List (ℕ × ℕ)
 doubts_shown net l =
     elim l.step [
-      | step.Show ↦ flat_map (λ b. flat_map (λ p. if keeps_horizon net p b then (b, p) ∷ [] else []) (numbers net.publishers)) (numbers net.brokers)
+      | step.Show ↦ flat_map (λ b. flat_map (λ p. if keeps_horizon net p b then (b, p) ∷ []
+          else []) (numbers net.publishers)) (numbers net.brokers)
       | _ ↦ []
     ]
 
@@ -405,8 +430,10 @@ pub record StepReports (net : Net) (h : History) (l : Line) (ls : List Report) :
 
 -- delivered exactly, and doubt horizons, after each step
 pub record Delivered (net : Net) (h : History) : Type 0 where
-  pub got : (s p : ℕ) → s < net.subscribers → p < net.publishers → delivered_events s p h.lines ≡ expected net h s p (last_horizon s p 0 h.lines)
-  pub doubt : (s p : ℕ) → s < net.subscribers → p < net.publishers → IsDoubt net h (net.at s) p (last_horizon s p 0 h.lines)
+  pub got : (s p : ℕ) → s < net.subscribers → p < net.publishers → delivered_events s p h.lines
+      ≡ expected net h s p (last_horizon s p 0 h.lines)
+  pub doubt : (s p : ℕ) → s < net.subscribers → p < net.publishers
+      → IsDoubt net h (net.at s) p (last_horizon s p 0 h.lines)
 
 -- horizons rise, and discarded only after delivery, of all lines of the history h
 pub record InOrder (net : Net) (h : History) : Type 0 where
@@ -414,12 +441,14 @@ pub record InOrder (net : Net) (h : History) : Type 0 where
   pub cuts : (p t : ℕ) (xs ys : List Report) → h.lines ≡ xs ++ line.Cut p t ∷ ys → last_cut p (reopened_cut h p) xs < t
   pub cut_settled : (p t : ℕ) → Contains h.lines (line.Cut p t) → t ≤ (record_of h p).settled
   pub cut_got : (p t : ℕ) (xs ys : List Report) → h.lines ≡ xs ++ line.Cut p t ∷ ys →
-      (s u : ℕ) (e : Event) → Contains (record_of h p).events (u, e) → u ≤ t → s < net.subscribers → IsTrue (net.wants p s u e) → Contains xs (line.Got s p u e)
+      (s u : ℕ) (e : Event) → Contains (record_of h p).events (u, e) → u ≤ t → s < net.subscribers
+      → IsTrue (net.wants p s u e) → Contains xs (line.Got s p u e)
 
 -- what the headline says, step by step
 abbrev pub Holds_from : Net → History → List Line → List (List Report) → Type 0
 Holds_from net h [] [] = Delivered net h × InOrder net h
-Holds_from net h (l ∷ ls) (r ∷ rs) = Delivered net h × InOrder net h × StepReports net h l r × Holds_from net (history_after net h l r) ls rs
+Holds_from net h (l ∷ ls) (r ∷ rs) = Delivered net h × InOrder net h × StepReports net h l r
+    × Holds_from net (history_after net h l r) ls rs
 Holds_from net h [] (r ∷ rs) = ⊥
 Holds_from net h (l ∷ ls) [] = ⊥
 

@@ -2,7 +2,8 @@
 use Rattle.std.specs.Prelude.{◌≡◌, ℕ, ◌<◌, ◌≤◌, true, nat_eq, List, [], ◌∷◌, length, map, Option, None, is_some}
 use Rattle.std.specs.List.{list_any}
 use Rattle.gr_filter.specs.Tree.{Tree}
-use Rattle.gr_topo.specs.Topology.{TopologyView, host_of, client_of, home_of, filter_of, up_at, depth_at, children_of, subscribers_of, below_of, wants}
+use Rattle.gr_topo.specs.Topology.{TopologyView, host_of, client_of, home_of, filter_of, up_at, depth_at, children_of}
+use Rattle.gr_topo.specs.Topology.{subscribers_of, below_of, wants}
 use Rattle.gr_model.specs.Net.{Net}
 use Rattle.gr_model.specs.Tree.{IsDistinct}
 

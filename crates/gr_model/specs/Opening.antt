@@ -1,5 +1,6 @@
 -- A start over logs that were found: the world, and what is told
-use Rattle.std.specs.Prelude.{◌≡◌, ℕ, ◌≤◌, true, false, nat_lt, if◌then◌else◌, List, [], ◌∷◌, ◌++◌, map, filter, get_or, replicate, None, flat_map}
+use Rattle.std.specs.Prelude.{◌≡◌, ℕ, ◌≤◌, true, false, nat_lt, if◌then◌else◌, List, [], ◌∷◌, ◌++◌, map, filter, get_or}
+use Rattle.std.specs.Prelude.{replicate, None, flat_map}
 use Rattle.gr_model.specs.declared.report.Report.{Report}
 use Rattle.gr_model.specs.declared.report.Report.TheVariants as line
 use Rattle.gr_model.specs.Net.{Net, is_host, not_empty, numbers}
@@ -29,7 +30,9 @@ reopened_line log p = if nat_lt 0 log.settled then line.Opened p log.last log.se
 unfoldable pub opened_for_by : (View → Net) → Net → World → ℕ → Transition
 opened_for_by see net w p =
     followed_by (unchanged w (reopened_line (log_of w p) p)) (λ u. elim (not_empty (net.subscribers_at (net.host p))) [
-      | true ↦ absorbed u (net.host p) p (learn (see (view_of u (net.host p) p)) p (net.host p) [] (view_of u (net.host p) p) (log_of u p))
+      | true ↦
+          absorbed u (net.host p) p (learn (see (view_of u (net.host p) p)) p (net.host p) [] (view_of u (net.host p) p)
+          (log_of u p))
       | false ↦ unchanged u []
     ])
 

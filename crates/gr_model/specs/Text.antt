@@ -1,5 +1,6 @@
 -- The text of a report: what each line reads. A line is words with one blank between each two.
-use Rattle.std.specs.Prelude.{ℕ, ◌/◌, ◌%◌, ◌<◌, ◌≤◌, List, [], ◌∷◌, ◌++◌, length, map, slice_get, slice_index, codes, Option, Some, None}
+use Rattle.std.specs.Prelude.{ℕ, ◌/◌, ◌%◌, ◌<◌, ◌≤◌, List, [], ◌∷◌, ◌++◌, length, map, slice_get, slice_index, codes}
+use Rattle.std.specs.Prelude.{Option, Some, None}
 use Rattle.std.specs.List.{flat_map, join_by}
 use Rattle.std.specs.Fmt.{decimal}
 use Rattle.gr_tick.specs.declared.run.Run.{Run}
@@ -14,7 +15,12 @@ use Rattle.gr_note.specs.declared.fault.NoteKind.{NoteKind}
 use Rattle.gr_note.specs.Fault as note
 use Rattle.gr_topo.specs.Topology.{TopologyView, name_at}
 use Rattle.gr_model.specs.declared.report.Report.{Report}
-use Rattle.gr_model.specs.declared.report.Report.TheVariants.{Opened, Logged, Already, Gap, Exhausted, Kept, Lost, Mark, Cut, Got, Horizon, SentKnow, SentWant, SentExpect, Crashed, Swept, RefusedHosts, RefusedFrame, RefusedClock, DroppedNotFrame, DroppedStray, DroppedClash, DroppedBadNote, DroppedStrayNote, Damaged, Frames, LogOf, Doubt, BytesOf}
+use Rattle.gr_model.specs.declared.report.Report.TheVariants.{Opened, Logged, Already, Gap, Exhausted, Kept, Lost, Mark}
+use Rattle.gr_model.specs.declared.report.Report.TheVariants.{Cut, Got, Horizon, SentKnow, SentWant, SentExpect}
+use Rattle.gr_model.specs.declared.report.Report.TheVariants.{Crashed, Swept, RefusedHosts, RefusedFrame, RefusedClock}
+use Rattle.gr_model.specs.declared.report.Report.TheVariants.{DroppedNotFrame, DroppedStray, DroppedClash}
+use Rattle.gr_model.specs.declared.report.Report.TheVariants.{DroppedBadNote, DroppedStrayNote, Damaged, Frames, LogOf}
+use Rattle.gr_model.specs.declared.report.Report.TheVariants.{Doubt, BytesOf}
 
 -- The names of brokers, publishers and subscribers by their numbers.
 pub record Labels : Type 0 where
@@ -73,7 +79,8 @@ note_fault_word fault = note_kind_word (slice_get note.fault_kinds fault)
 
 -- a byte as two hexadecimal digits
 abbrev pub hex_pair : ℕ → List ℕ
-hex_pair byte = slice_index (codes "0123456789abcdef") (byte / 16) ∷ slice_index (codes "0123456789abcdef") (byte % 16) ∷ []
+hex_pair byte =
+    slice_index (codes "0123456789abcdef") (byte / 16) ∷ slice_index (codes "0123456789abcdef") (byte % 16) ∷ []
 
 -- a line that begins with this word and goes on with a publisher and numbers
 abbrev pub publisher_words : Labels → List ℕ → ℕ → List ℕ → List (List ℕ)
@@ -81,42 +88,62 @@ publisher_words labels first publisher numbers = first ∷ labels.publisher publ
 
 -- what is told of a log
 abbrev pub log_words : Labels → List ℕ → ℕ → ℕ → ℕ → ℕ → List (List ℕ)
-log_words labels first publisher last settled cut = first ∷ labels.publisher publisher ∷ codes "last" ∷ decimal last ∷ codes "settled" ∷ decimal settled ∷ codes "cut" ∷ decimal cut ∷ []
+log_words labels first publisher last settled cut =
+    first ∷ labels.publisher publisher ∷ codes "last" ∷ decimal last ∷ codes "settled" ∷ decimal settled ∷ codes "cut" ∷
+    decimal cut ∷ []
 
 -- which frame was sent, from where, to whom, of which kind and for which publisher
 abbrev pub sent_words : Labels → ℕ → ℕ → ℕ → List ℕ → ℕ → List (List ℕ)
-sent_words labels number from to kind publisher = codes "sent" ∷ decimal number ∷ labels.broker from ∷ labels.broker to ∷ kind ∷ labels.publisher publisher ∷ []
+sent_words labels number from to kind publisher =
+    codes "sent" ∷ decimal number ∷ labels.broker from ∷ labels.broker to ∷ kind ∷ labels.publisher publisher ∷ []
 
 -- the words of a line
 abbrev pub line_words : Labels → Report → List (List ℕ)
 line_words labels (Opened publisher last settled cut) = log_words labels (codes "opened") publisher last settled cut
-line_words labels (Logged publisher number tick) = publisher_words labels (codes "logged") publisher (number ∷ tick ∷ [])
+line_words labels (Logged publisher number tick) =
+    publisher_words labels (codes "logged") publisher (number ∷ tick ∷ [])
 line_words labels (Already publisher number) = publisher_words labels (codes "already") publisher (number ∷ [])
-line_words labels (Gap publisher number next) = codes "gap" ∷ labels.publisher publisher ∷ decimal number ∷ codes "next" ∷ decimal next ∷ []
+line_words labels (Gap publisher number next) =
+    codes "gap" ∷ labels.publisher publisher ∷ decimal number ∷ codes "next" ∷ decimal next ∷ []
 line_words labels (Exhausted publisher number) = publisher_words labels (codes "exhausted") publisher (number ∷ [])
 line_words labels (Kept publisher number tick) = publisher_words labels (codes "kept") publisher (number ∷ tick ∷ [])
 line_words labels (Lost publisher number tick) = publisher_words labels (codes "lost") publisher (number ∷ tick ∷ [])
 line_words labels (Mark publisher tick) = publisher_words labels (codes "mark") publisher (tick ∷ [])
 line_words labels (Cut publisher tick) = publisher_words labels (codes "cut") publisher (tick ∷ [])
-line_words labels (Got subscriber publisher tick event) = codes "got" ∷ labels.subscriber subscriber ∷ labels.publisher publisher ∷ decimal tick ∷ json_text event ∷ []
-line_words labels (Horizon subscriber publisher tick) = codes "horizon" ∷ labels.subscriber subscriber ∷ labels.publisher publisher ∷ decimal tick ∷ []
-line_words labels (SentKnow number from to publisher runs) = sent_words labels number from to (codes "know") publisher ++ map (run_word know_letter) runs
-line_words labels (SentWant number from to publisher runs) = sent_words labels number from to (codes "want") publisher ++ map (run_word want_letter) runs
-line_words labels (SentExpect number from to publisher tick) = sent_words labels number from to (codes "expect") publisher ++ decimal tick ∷ []
+line_words labels (Got subscriber publisher tick event) =
+    codes "got" ∷ labels.subscriber subscriber ∷ labels.publisher publisher ∷ decimal tick ∷ json_text event ∷ []
+line_words labels (Horizon subscriber publisher tick) =
+    codes "horizon" ∷ labels.subscriber subscriber ∷ labels.publisher publisher ∷ decimal tick ∷ []
+line_words labels (SentKnow number from to publisher runs) = sent_words labels number from to (codes "know") publisher
+    ++ map (run_word know_letter) runs
+line_words labels (SentWant number from to publisher runs) = sent_words labels number from to (codes "want") publisher
+    ++ map (run_word want_letter) runs
+line_words labels (SentExpect number from to publisher tick) =
+    sent_words labels number from to (codes "expect") publisher ++ decimal tick ∷ []
 line_words labels (Crashed broker) = codes "crashed" ∷ labels.broker broker ∷ []
 line_words labels (Swept moment) = codes "swept" ∷ decimal moment ∷ []
-line_words labels (RefusedHosts line broker) = codes "refused" ∷ codes "line" ∷ decimal line ∷ codes "hosts-subscriber" ∷ labels.broker broker ∷ []
-line_words labels (RefusedFrame line frame sent) = codes "refused" ∷ codes "line" ∷ decimal line ∷ codes "no-frame" ∷ decimal frame ∷ codes "of" ∷ decimal sent ∷ []
-line_words labels (RefusedClock line moment) = codes "refused" ∷ codes "line" ∷ decimal line ∷ codes "clock-range" ∷ decimal moment ∷ []
-line_words labels (DroppedNotFrame broker fault at) = codes "dropped" ∷ labels.broker broker ∷ codes "not-frame" ∷ frame_fault_word fault ∷ decimal at ∷ []
-line_words labels (DroppedStray broker from to publisher) = codes "dropped" ∷ labels.broker broker ∷ codes "stray" ∷ decimal from ∷ decimal to ∷ decimal publisher ∷ []
-line_words labels (DroppedClash broker tick kept came) = codes "dropped" ∷ labels.broker broker ∷ codes "clash" ∷ decimal tick ∷ know_letter kept ∷ know_letter came ∷ []
-line_words labels (DroppedBadNote broker fault at) = codes "dropped" ∷ labels.broker broker ∷ codes "bad-note" ∷ note_fault_word fault ∷ decimal at ∷ []
-line_words labels (DroppedStrayNote broker publisher) = codes "dropped" ∷ labels.broker broker ∷ codes "stray-note" ∷ decimal publisher ∷ []
+line_words labels (RefusedHosts line broker) =
+    codes "refused" ∷ codes "line" ∷ decimal line ∷ codes "hosts-subscriber" ∷ labels.broker broker ∷ []
+line_words labels (RefusedFrame line frame sent) =
+    codes "refused" ∷ codes "line" ∷ decimal line ∷ codes "no-frame" ∷ decimal frame ∷ codes "of" ∷ decimal sent ∷ []
+line_words labels (RefusedClock line moment) =
+    codes "refused" ∷ codes "line" ∷ decimal line ∷ codes "clock-range" ∷ decimal moment ∷ []
+line_words labels (DroppedNotFrame broker fault at) =
+    codes "dropped" ∷ labels.broker broker ∷ codes "not-frame" ∷ frame_fault_word fault ∷ decimal at ∷ []
+line_words labels (DroppedStray broker from to publisher) =
+    codes "dropped" ∷ labels.broker broker ∷ codes "stray" ∷ decimal from ∷ decimal to ∷ decimal publisher ∷ []
+line_words labels (DroppedClash broker tick kept came) =
+    codes "dropped" ∷ labels.broker broker ∷ codes "clash" ∷ decimal tick ∷ know_letter kept ∷ know_letter came ∷ []
+line_words labels (DroppedBadNote broker fault at) =
+    codes "dropped" ∷ labels.broker broker ∷ codes "bad-note" ∷ note_fault_word fault ∷ decimal at ∷ []
+line_words labels (DroppedStrayNote broker publisher) =
+    codes "dropped" ∷ labels.broker broker ∷ codes "stray-note" ∷ decimal publisher ∷ []
 line_words labels (Damaged publisher at) = publisher_words labels (codes "damaged") publisher (at ∷ [])
 line_words labels (Frames count) = codes "frames" ∷ decimal count ∷ []
-line_words labels (LogOf publisher last settled cut kept) = log_words labels (codes "log") publisher last settled cut ++ codes "kept" ∷ decimal kept ∷ []
-line_words labels (Doubt broker publisher tick) = codes "doubt" ∷ labels.broker broker ∷ labels.publisher publisher ∷ decimal tick ∷ []
+line_words labels (LogOf publisher last settled cut kept) = log_words labels (codes "log") publisher last settled cut
+    ++ codes "kept" ∷ decimal kept ∷ []
+line_words labels (Doubt broker publisher tick) =
+    codes "doubt" ∷ labels.broker broker ∷ labels.publisher publisher ∷ decimal tick ∷ []
 line_words labels (BytesOf frame bytes) = codes "bytes" ∷ decimal frame ∷ flat_map hex_pair bytes ∷ []
 
 -- the words of a line in a row, with one blank before each
@@ -141,7 +168,8 @@ AreNamed t subscriber publisher = (subscriber < length t.subscribers) × (publis
 
 -- there are such brokers and such a publisher
 abbrev pub IsSentNamed : TopologyView → ℕ → ℕ → ℕ → Type 0
-IsSentNamed t from to publisher = (from < length t.brokers) × (to < length t.brokers) × (publisher < length t.publishers)
+IsSentNamed t from to publisher = (from < length t.brokers) × (to < length t.brokers)
+    × (publisher < length t.publishers)
 
 -- each number for which the line has a name or a word is in range
 abbrev pub IsNamed : TopologyView → Report → Type 0

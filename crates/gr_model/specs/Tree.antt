@@ -14,9 +14,11 @@ pub record IsSubscriber (net : Net) (s : ℕ) : Type 0 where
 
 -- what the truth needs of a broker's place in the tree
 pub record IsPlace (net : Net) (p b : ℕ) : Type 0 where
-  pub child_below : (c s : ℕ) → list_any (λ x. nat_eq x c) (net.children p b) ≡ true → is_below net p c s ≡ true → is_below net p b s ≡ true
+  pub child_below : (c s : ℕ) → list_any (λ x. nat_eq x c) (net.children p b) ≡ true → is_below net p c s ≡ true
+      → is_below net p b s ≡ true
   pub child_not_host : (c : ℕ) → list_any (λ x. nat_eq x c) (net.children p b) ≡ true → is_host net p c ≡ false
-  pub split : (s : ℕ) → is_below net p b s ≡ true → list_any (λ x. nat_eq x s) (net.subscribers_at b) ≡ false → (c : ℕ) × (list_any (λ x. nat_eq x c) (net.children p b) ≡ true) × (is_below net p c s ≡ true)
+  pub split : (s : ℕ) → is_below net p b s ≡ true → list_any (λ x. nat_eq x s) (net.subscribers_at b) ≡ false → (c : ℕ)
+      × (list_any (λ x. nat_eq x c) (net.children p b) ≡ true) × (is_below net p c s ≡ true)
 
 -- no number stands twice
 abbrev pub IsDistinct : List ℕ → Type 0
@@ -28,14 +30,21 @@ pub record IsNet (net : Net) : Type 0 where
   pub place : (p b : ℕ) → p < net.publishers → b < net.brokers → IsPlace net p b
   pub depth_in : (p b : ℕ) → p < net.publishers → b < net.brokers → net.depth p b < net.brokers
   pub host_in : (p : ℕ) → p < net.publishers → net.host p < net.brokers
-  pub child_in : (p b c : ℕ) → p < net.publishers → b < net.brokers → list_any (λ x. nat_eq x c) (net.children p b) ≡ true → c < net.brokers
-  pub up_in : (p b u : ℕ) → p < net.publishers → b < net.brokers → net.up p b ≡ Some u → (u < net.brokers) × (list_any (λ x. nat_eq x b) (net.children p u) ≡ true)
+  pub child_in : (p b c : ℕ) → p < net.publishers → b < net.brokers → list_any (λ x. nat_eq x c) (net.children p b)
+      ≡ true → c < net.brokers
+  pub up_in : (p b u : ℕ) → p < net.publishers → b < net.brokers → net.up p b ≡ Some u → (u < net.brokers)
+      × (list_any (λ x. nat_eq x b) (net.children p u) ≡ true)
   pub distinct : (b : ℕ) → b < net.brokers → IsDistinct (net.subscribers_at b)
-  pub here_below : (p b s : ℕ) → p < net.publishers → b < net.brokers → list_any (λ x. nat_eq x s) (net.subscribers_at b) ≡ true → is_below net p b s ≡ true
-  pub all_below : (p s : ℕ) → p < net.publishers → net.at s < net.brokers → list_any (λ x. nat_eq x s) (net.subscribers_at (net.at s)) ≡ true → is_below net p (net.host p) s ≡ true
+  pub here_below : (p b s : ℕ) → p < net.publishers → b < net.brokers
+      → list_any (λ x. nat_eq x s) (net.subscribers_at b) ≡ true → is_below net p b s ≡ true
+  pub all_below : (p s : ℕ) → p < net.publishers → net.at s < net.brokers
+      → list_any (λ x. nat_eq x s) (net.subscribers_at (net.at s)) ≡ true → is_below net p (net.host p) s ≡ true
   pub here_at : (b s : ℕ) → b < net.brokers → list_any (λ x. nat_eq x s) (net.subscribers_at b) ≡ true → net.at s ≡ b
-  pub depth_up : (p b u : ℕ) → p < net.publishers → b < net.brokers → net.up p b ≡ Some u → net.depth p b ≡ suc (net.depth p u)
+  pub depth_up : (p b u : ℕ) → p < net.publishers → b < net.brokers → net.up p b ≡ Some u → net.depth p b
+      ≡ suc (net.depth p u)
   pub children_once : (p b : ℕ) → p < net.publishers → b < net.brokers → IsDistinct (net.children p b)
   pub subscriber : (s : ℕ) → s < net.subscribers → IsSubscriber net s
-  pub up_below : (p b : ℕ) → p < net.publishers → b < net.brokers → is_host net p b ≡ false → (u : ℕ) × (net.up p b ≡ Some u)
-  pub child_up : (p b c : ℕ) → p < net.publishers → b < net.brokers → list_any (λ x. nat_eq x c) (net.children p b) ≡ true → net.up p c ≡ Some b
+  pub up_below : (p b : ℕ) → p < net.publishers → b < net.brokers → is_host net p b ≡ false → (u : ℕ)
+      × (net.up p b ≡ Some u)
+  pub child_up : (p b c : ℕ) → p < net.publishers → b < net.brokers → list_any (λ x. nat_eq x c) (net.children p b)
+      ≡ true → net.up p c ≡ Some b

@@ -1,5 +1,7 @@
 -- All brokers, the frames sent, and the report of a schedule
-use Rattle.std.specs.Prelude.{ℕ, zero, suc, ◌+◌, max, Bool, true, false, ◌&&◌, nat_eq, nat_le, nat_lt, if◌then◌else◌, List, [], ◌∷◌, ◌++◌, length, map, filter, get_or, set, Option, Some, None, slice_get, flat_map}
+use Rattle.std.specs.Prelude.{ℕ, zero, suc, ◌+◌, max, Bool, true, false, ◌&&◌, nat_eq, nat_le, nat_lt, if◌then◌else◌}
+use Rattle.std.specs.Prelude.{List, [], ◌∷◌, ◌++◌, length, map, filter, get_or, set, Option, Some, None, slice_get}
+use Rattle.std.specs.Prelude.{flat_map}
 use Rattle.gr_event.specs.declared.event.Event.{Event}
 use Rattle.gr_frame.specs.declared.Body.TheVariants as body
 use Rattle.gr_frame.specs.declared.Frame.{Frame}
@@ -10,7 +12,8 @@ use Rattle.gr_sched.specs.declared.step.Line.{Line}
 use Rattle.gr_model.specs.declared.report.Report.{Report}
 use Rattle.gr_model.specs.declared.report.Report.TheVariants as line
 use Rattle.gr_model.specs.Net.{Net, keeps_horizon, not_empty, numbers}
-use Rattle.gr_model.specs.Broker.{max_tick, View, Log, Outcome, empty_log, with_event, publish, wake, receive, started, is_kept}
+use Rattle.gr_model.specs.Broker.{max_tick, View, Log, Outcome, empty_log, with_event, publish, wake, receive, started}
+use Rattle.gr_model.specs.Broker.{is_kept}
 
 pub record World : Type 0 where
   pub clock : ℕ
@@ -94,7 +97,9 @@ wake_all net = wake_all_by (λ _. net) net
 
 -- a frame reaches its receiver
 unfoldable pub deliver_frame_by : (View → Net) → Net → World → Frame → Transition
-deliver_frame_by see net w f = absorbed w f.head.to f.head.publisher (receive (see (view_of w f.head.to f.head.publisher)) w.clock f (view_of w f.head.to f.head.publisher) (log_of w f.head.publisher))
+deliver_frame_by see net w f =
+    absorbed w f.head.to f.head.publisher (receive (see (view_of w f.head.to f.head.publisher)) w.clock f
+    (view_of w f.head.to f.head.publisher) (log_of w f.head.publisher))
 
 abbrev pub deliver_frame : Net → World → Frame → Transition
 deliver_frame net = deliver_frame_by (λ _. net) net
@@ -106,7 +111,9 @@ frame_at w (suc k) = slice_get w.frames k
 
 -- a publish at the host
 unfoldable pub publish_now_by : (View → Net) → Net → World → ℕ → ℕ → Event → Transition
-publish_now_by see net w p number e = absorbed w (net.host p) p (publish (see (view_of w (net.host p) p)) p (net.host p) w.clock number e (view_of w (net.host p) p) (log_of w p))
+publish_now_by see net w p number e =
+    absorbed w (net.host p) p (publish (see (view_of w (net.host p) p)) p (net.host p) w.clock number e
+    (view_of w (net.host p) p) (log_of w p))
 
 abbrev pub publish_now : Net → World → ℕ → ℕ → Event → Transition
 publish_now net = publish_now_by (λ _. net) net
@@ -114,7 +121,8 @@ publish_now net = publish_now_by (λ _. net) net
 -- the opened lines of a broker's publishers
 unfoldable pub opened_lines : Net → List Log → ℕ → List Report
 opened_lines net logs b =
-    flat_map (λ p. let log = get_or logs p empty_log in if nat_eq (net.host p) b && nat_lt 0 log.settled then line.Opened p log.last log.settled log.cut ∷ [] else []) (numbers net.publishers)
+    flat_map (λ p. let log = get_or logs p empty_log in if nat_eq (net.host p) b && nat_lt 0 log.settled
+    then line.Opened p log.last log.settled log.cut ∷ [] else []) (numbers net.publishers)
 
 -- the broker starts again
 unfoldable pub restarted : Net → World → ℕ → World
@@ -143,10 +151,17 @@ publish_stopped_by see net w number_of_line p number stop e =
         | true ↦
             let kept = is_kept log.gate stop.call stop.pick in
             let logs = if kept then set w.logs p (with_event log tick e) else w.logs in
-            let u : World = record { clock = w.clock; most = w.most; frames = w.frames; views = w.views; logs = logs } in
+            let u : World = record {
+              clock = w.clock;
+              most = w.most;
+              frames = w.frames;
+              views = w.views;
+              logs = logs;
+            } in
             record {
               world = restarted net u b;
-              lines = line.Crashed b ∷ ((if kept then line.Kept p number tick else line.Lost p number tick) ∷ opened_lines net logs b);
+              lines = line.Crashed b ∷ ((if kept then line.Kept p number tick
+                  else line.Lost p number tick) ∷ opened_lines net logs b);
             }
       ]
     ]
@@ -163,7 +178,8 @@ greatest_settled (n ∷ ns) = max n (greatest_settled ns)
 
 -- a moment at which every ask is due again and every log is silent for long
 unfoldable pub sweep_moment : Net → World → ℕ
-sweep_moment net w = max w.most (greatest_settled (map (λ l. l.settled) w.logs)) + net.gap + net.idle + net.retry + net.quiet + 1
+sweep_moment net w = max w.most (greatest_settled (map (λ l.
+    l.settled) w.logs)) + net.gap + net.idle + net.retry + net.quiet + 1
 
 -- the brokers at one depth
 abbrev pub at_depth : Net → ℕ → ℕ → List ℕ
@@ -202,21 +218,24 @@ sent_since old new = frames_past (length old.frames) new.frames
 -- the upward frames are delivered at once, with those that this sends, at most so deep
 unfoldable pub deliver_up_by : (View → Net) → Net → ℕ → List Frame → World → Transition
 deliver_up_by see net zero fs w = unchanged w []
-deliver_up_by see net (suc fuel) fs w = in_turn (λ u f. followed_by (deliver_frame_by see net u f) (λ x. deliver_up_by see net fuel (filter is_want (sent_since u x)) x)) fs w
+deliver_up_by see net (suc fuel) fs w = in_turn (λ u f. followed_by (deliver_frame_by see net u f) (λ x.
+    deliver_up_by see net fuel (filter is_want (sent_since u x)) x)) fs w
 
 abbrev pub deliver_up : Net → ℕ → List Frame → World → Transition
 deliver_up net = deliver_up_by (λ _. net) net
 
 -- a broker is woken, and the upward frames that this sends are delivered at once
 unfoldable pub wake_up_by : (View → Net) → Net → ℕ → World → ℕ → Transition
-wake_up_by see net p w b = followed_by (wake_for_by see net w b p) (λ u. deliver_up_by see net net.brokers (filter is_want (sent_since w u)) u)
+wake_up_by see net p w b = followed_by (wake_for_by see net w b p) (λ u.
+    deliver_up_by see net net.brokers (filter is_want (sent_since w u)) u)
 
 abbrev pub wake_up : Net → ℕ → World → ℕ → Transition
 wake_up net = wake_up_by (λ _. net) net
 
 -- the knowledge sent to a broker in this sweep is delivered
 unfoldable pub hand_down_by : (View → Net) → Net → ℕ → ℕ → World → ℕ → Transition
-hand_down_by see net p first w b = in_turn (deliver_frame_by see net) (filter (is_know_to p b) (frames_past first w.frames)) w
+hand_down_by see net p first w b =
+    in_turn (deliver_frame_by see net) (filter (is_know_to p b) (frames_past first w.frames)) w
 
 abbrev pub hand_down : Net → ℕ → ℕ → World → ℕ → Transition
 hand_down net = hand_down_by (λ _. net) net
@@ -225,7 +244,8 @@ hand_down net = hand_down_by (λ _. net) net
 unfoldable pub sweep_for_by : (View → Net) → Net → World → ℕ → Transition
 sweep_for_by see net w p =
     let first = length w.frames in
-    followed_by (followed_by (in_turn (wake_up_by see net p) (inwards net p) w) (in_turn (hand_down_by see net p first) (outwards net p))) (in_turn (wake_up_by see net p) (inwards net p))
+    followed_by (followed_by (in_turn (wake_up_by see net p) (inwards net p) w)
+    (in_turn (hand_down_by see net p first) (outwards net p))) (in_turn (wake_up_by see net p) (inwards net p))
 
 abbrev pub sweep_for : Net → World → ℕ → Transition
 sweep_for net = sweep_for_by (λ _. net) net
@@ -237,7 +257,13 @@ sweep_by see net w number_of_line =
     elim (nat_lt max_tick m) [
       | true ↦ unchanged w (line.RefusedClock number_of_line m ∷ [])
       | false ↦
-          let u : World = record { clock = m; most = max m w.most; frames = w.frames; views = w.views; logs = w.logs } in
+          let u : World = record {
+            clock = m;
+            most = max m w.most;
+            frames = w.frames;
+            views = w.views;
+            logs = w.logs;
+          } in
           followed_by (in_turn (sweep_for_by see net) (numbers net.publishers) u) (λ x. unchanged x (line.Swept m ∷ []))
     ]
 
@@ -255,7 +281,8 @@ unfoldable pub show : Net → World → List Report
 show net w =
     line.Frames (length w.frames) ∷
     (map (λ p. let l = log_of w p in line.LogOf p l.last l.settled l.cut (kept_events l)) (numbers net.publishers)
-    ++ flat_map (λ b. flat_map (λ p. if keeps_horizon net p b then line.Doubt b p (view_of w b p).horizon ∷ [] else []) (numbers net.publishers)) (numbers net.brokers))
+    ++ flat_map (λ b. flat_map (λ p. if keeps_horizon net p b then line.Doubt b p (view_of w b p).horizon ∷ []
+    else []) (numbers net.publishers)) (numbers net.brokers))
 
 -- One step, and all
 
@@ -263,14 +290,34 @@ show net w =
 unfoldable pub next_by : (View → Net) → Net → World → Line → Transition
 next_by see net w l =
     elim l.step [
-      | step.Clock now ↦ unchanged (record { clock = now; most = max now w.most; frames = w.frames; views = w.views; logs = w.logs }) []
-      | step.Publish p number stop e ↦ elim stop [ None ↦ publish_now_by see net w p number e | Some s ↦ publish_stopped_by see net w l.number p number s e ]
+      | step.Clock now ↦ unchanged (record {
+        clock = now;
+        most = max now w.most;
+        frames = w.frames;
+        views = w.views;
+        logs = w.logs;
+      }) []
+      | step.Publish p number stop e ↦ elim stop [
+        | None ↦ publish_now_by see net w p number e
+        | Some s ↦ publish_stopped_by see net w l.number p number s e
+      ]
       | step.Wake b ↦ wake_all_by see net w b
-      | step.Deliver k ↦ elim (frame_at w k) [ None ↦ unchanged w (line.RefusedFrame l.number k (length w.frames) ∷ []) | Some f ↦ deliver_frame_by see net w f ]
-      | step.Crash b ↦ elim (not_empty (net.subscribers_at b)) [ true ↦ unchanged w (line.RefusedHosts l.number b ∷ []) | false ↦ crash net w b ]
+      | step.Deliver k ↦
+          elim (frame_at w k) [
+            | None ↦ unchanged w (line.RefusedFrame l.number k (length w.frames) ∷ [])
+            | Some f ↦ deliver_frame_by see net w f
+          ]
+      | step.Crash b ↦ elim (not_empty (net.subscribers_at b)) [
+        | true ↦ unchanged w (line.RefusedHosts l.number b ∷ [])
+        | false ↦ crash net w b
+      ]
       | step.Sweep ↦ sweep_by see net w l.number
       | step.Show ↦ unchanged w (show net w)
-      | step.Bytes k ↦ elim (frame_at w k) [ None ↦ unchanged w (line.RefusedFrame l.number k (length w.frames) ∷ []) | Some f ↦ unchanged w (line.BytesOf k (frame_bytes f) ∷ []) ]
+      | step.Bytes k ↦
+          elim (frame_at w k) [
+            | None ↦ unchanged w (line.RefusedFrame l.number k (length w.frames) ∷ [])
+            | Some f ↦ unchanged w (line.BytesOf k (frame_bytes f) ∷ [])
+          ]
     ]
 
 abbrev pub next : Net → World → Line → Transition

@@ -1,5 +1,6 @@
 -- Reading a note field by field, with the place of the first fault
-use Rattle.std.specs.Prelude.{ℕ, ◌+◌, ◌==◌, ◌||◌, nat_lt, nat_le, bytes_eq, if◌then◌else◌, List, length, slice_index, slice_range, Result, Ok, Err}
+use Rattle.std.specs.Prelude.{ℕ, ◌+◌, ◌==◌, ◌||◌, nat_lt, nat_le, bytes_eq, if◌then◌else◌, List, length, slice_index}
+use Rattle.std.specs.Prelude.{slice_range, Result, Ok, Err}
 use Rattle.std.specs.Int.{from_be_bytes, w16, w64}
 use Rattle.gr_event.specs.declared.event.Event.{Event}
 use Rattle.gr_event.specs.declared.event.EventFault.{EventFault}
@@ -8,7 +9,8 @@ use Rattle.gr_event.specs.Decode.{event_decoded}
 use Rattle.gr_note.specs.declared.TheConstants.{MAX_NUMBER, VERSION, SUBMIT, NEXT, SPENT}
 use Rattle.gr_note.specs.declared.note.Note.{Note}
 use Rattle.gr_note.specs.declared.note.Note.TheVariants.{Submit, Next, Spent}
-use Rattle.gr_note.specs.declared.fault.NoteKind.TheVariants.{Short, BadMagic, BadVersion, BadKind, BadRange, BadEvent, Trailing}
+use Rattle.gr_note.specs.declared.fault.NoteKind.TheVariants.{Short, BadMagic, BadVersion, BadKind, BadRange, BadEvent}
+use Rattle.gr_note.specs.declared.fault.NoteKind.TheVariants.{Trailing}
 use Rattle.gr_note.specs.declared.fault.NoteFault.{NoteFault}
 use Rattle.gr_note.specs.Bytes.{letters}
 use Rattle.gr_note.specs.Gives.{fault, out_of_memory, ◌>>=◌}

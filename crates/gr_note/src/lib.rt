@@ -1,4 +1,5 @@
-//! What a publisher's process and the host of its log tell each other: notes, their bytes, and the one spelling of each.
+//! What a publisher's process and the host of its log tell each other: notes, their bytes, and the one spelling of
+//! each.
 #![tactic(auto)]
 
 mod fault;

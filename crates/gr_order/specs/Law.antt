@@ -3,7 +3,8 @@ use Rattle.std.specs.Prelude.{◌≡◌, ◌↔◌, ℕ, ◌≤◌, List, [], �
 use Rattle.std.specs.List.{Contains}
 use Rattle.gr_order.specs.declared.item.Item.{Item}
 use Rattle.gr_order.specs.Order.{IsRising}
-use Rattle.gr_order.specs.Merge.{MergeView, fresh, least_horizon, MayTake, MayAdvance, with_item, with_horizon, ready_items, without_ready}
+use Rattle.gr_order.specs.Merge.{MergeView, fresh, least_horizon, MayTake, MayAdvance, with_item, with_horizon}
+use Rattle.gr_order.specs.Merge.{ready_items, without_ready}
 
 -- A call that is answered. One that is refused for want of memory changes nothing.
 pub data Call : Type 0 where

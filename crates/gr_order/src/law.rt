@@ -2,8 +2,8 @@
 
 ghost use Rattle.gr_order.specs.Law.{GivesInOrder, IsOneList, GivesOneOrder};
 
-/// Whatever the calls of a merge were, what it gave and what is ready are all items that it took up to the least horizon,
-/// each once, rising by tick and then publisher.
+/// Whatever the calls of a merge were, what it gave and what is ready are all items that it took up to the least
+/// horizon, each once, rising by tick and then publisher.
 pub fn gives_in_order()
     ensures { GivesInOrder }
 {}

@@ -2,7 +2,8 @@
 
 ghost use Rattle.std.specs.Prelude.{◌≡◌, ◌≤◌, map, length, drop, IfOk, OnOk, OnErr};
 ghost use Rattle.gr_order.specs.Order.{IsRising, up_to};
-ghost use Rattle.gr_order.specs.Merge.{fresh, item_of, least_of, MayTake, MayAdvance, with_item, with_horizon, ready_items, without_ready};
+ghost use Rattle.gr_order.specs.Merge.{fresh, item_of, least_of, MayTake, MayAdvance, with_item, with_horizon};
+ghost use Rattle.gr_order.specs.Merge.{ready_items, without_ready};
 
 use crate::item::{Item, Items};
 use gr_event::{Event, Memory};
@@ -13,8 +14,9 @@ use std::marker::Model;
 /// The events that wait, by tick and then publisher.
 type Waiting = BTreeMap<(u64, u16), Event>;
 
-/// Events of all publishers on their way into one order, seen as the items that wait, rising by tick and then publisher,
-/// and one horizon for each publisher. Up to its horizon a publisher was heard, and nothing more of it will come.
+/// Events of all publishers on their way into one order, seen as the items that wait, rising by tick and then
+/// publisher, and one horizon for each publisher. Up to its horizon a publisher was heard, and nothing more of it will
+/// come.
 #[derive(Drop)]
 pub struct Merge {
     alloc: Global,
@@ -49,8 +51,8 @@ impl Merge {
     }
 
     /// Takes an item, which waits until it is ready. It is past its publisher's horizon, and later than each item that
-    /// was taken of this publisher. `Memory` leaves the merge as it was, and the item is dropped. Costs the logarithm of
-    /// what waits.
+    /// was taken of this publisher. `Memory` leaves the merge as it was, and the item is dropped. Costs the logarithm
+    /// of what waits.
     pub fn take(&mut self, item: Item) -> Result<(), Memory>
         requires { MayTake self.old item }
         ensures ok { OnOk result (self.new ≡ with_item self.old item) }
@@ -65,8 +67,8 @@ impl Merge {
         Ok(())
     }
 
-    /// A publisher was heard up to this tick, which is not below its horizon so far. Takes no memory. Looks at the other
-    /// horizons only where this one was the least.
+    /// A publisher was heard up to this tick, which is not below its horizon so far. Takes no memory. Looks at the
+    /// other horizons only where this one was the least.
     pub fn advance(&mut self, publisher: u16, horizon: u64)
         requires { MayAdvance self.old publisher horizon }
         ensures { self.new ≡ with_horizon self.old publisher horizon }
@@ -79,8 +81,8 @@ impl Merge {
         }
     }
 
-    /// Gives, and takes out, the waiting items up to the least horizon, rising by tick and then publisher. `Memory` leaves
-    /// the merge as it was. Costs, for each item that it gives, the logarithm of what waits.
+    /// Gives, and takes out, the waiting items up to the least horizon, rising by tick and then publisher. `Memory`
+    /// leaves the merge as it was. Costs, for each item that it gives, the logarithm of what waits.
     pub fn ready(&mut self) -> Result<Items, Memory>
         ensures given { IfOk result (λ items. items ≡ ready_items self.old) }
         ensures rises { IfOk result IsRising }

@@ -27,7 +27,8 @@ to_parts closed = (5, (0, (0, ([], false))))
 abbrev from_parts : Parts → Entry
 from_parts p =
     cond (p.0 == 0) (bound p.1.0 p.1.1.1.0 p.1.1.1.1) (cond (p.0 == 1) (offered p.1.0 p.1.1.0 p.1.1.1.0)
-    (cond (p.0 == 2) (datagram p.1.0 p.1.1.1.0 p.1.1.0) (cond (p.0 == 3) (quiet p.1.0) (cond (p.0 == 4) failed closed))))
+    (cond (p.0 == 2) (datagram p.1.0 p.1.1.1.0 p.1.1.0)
+    (cond (p.0 == 3) (quiet p.1.0) (cond (p.0 == 4) failed closed))))
 
 pub from_parts-to_parts : (e : Entry) → from_parts (to_parts e) ≡ e
 from_parts-to_parts (bound broker address here) = refl

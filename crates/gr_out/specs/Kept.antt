@@ -1,5 +1,6 @@
 -- What a lane in memory keeps, the room that it has, and what becomes of each call of a disk in memory
-use Rattle.std.specs.Prelude.{◌≡◌, ℕ, ◌-◌, ◌≤◌, nat_eq, Bool, true, false, if◌then◌else◌, List, length, take, replicate, Result, is_err}
+use Rattle.std.specs.Prelude.{◌≡◌, ℕ, ◌-◌, ◌≤◌, nat_eq, Bool, true, false, if◌then◌else◌, List, length, take, replicate}
+use Rattle.std.specs.Prelude.{Result, is_err}
 use Rattle.gr_out.specs.declared.disk.Fate.{Fate}
 use Rattle.gr_out.specs.declared.disk.Fate.TheVariants.{Done, Failed, Broken, Lost}
 use Rattle.gr_out.specs.declared.disk.Stop.{Stop}
@@ -38,7 +39,14 @@ left_by stop synced fresh bytes =
 
 -- a lane with these calls, and one call less to come
 abbrev pub with_calls : List Call → Lane → Lane
-with_calls calls l = record { start = l.start; calls = calls; room = l.room; left = l.left - 1; reserved = l.reserved; stop = l.stop }
+with_calls calls l = record {
+  start = l.start;
+  calls = calls;
+  room = l.room;
+  left = l.left - 1;
+  reserved = l.reserved;
+  stop = l.stop;
+}
 
 -- the call does not come through
 abbrev pub is_failure : Fate → Bool

@@ -1,5 +1,6 @@
 -- A lane of a disk: the calls on it, what it reads, and what a crash may leave of it
-use Rattle.std.specs.Prelude.{◌≡◌, ◌⊎◌, ℕ, ◌+◌, ◌-◌, ◌*◌, ◌%◌, ◌≤◌, min, max, Bool, true, false, nat_le, nat_eq, if◌then◌else◌, List, [], ◌∷◌, ◌++◌, length, take, drop, replicate, get_or}
+use Rattle.std.specs.Prelude.{◌≡◌, ◌⊎◌, ℕ, ◌+◌, ◌-◌, ◌*◌, ◌%◌, ◌≤◌, min, max, Bool, true, false, nat_le, nat_eq}
+use Rattle.std.specs.Prelude.{if◌then◌else◌, List, [], ◌∷◌, ◌++◌, length, take, drop, replicate, get_or}
 use Rattle.gr_out.specs.declared.disk.Stop.{Stop}
 use Rattle.gr_out.specs.declared.disk.Stop.TheVariants.{Unset, After, Stopped}
 use Rattle.gr_out.specs.declared.disk.Fate.{Fate}
@@ -62,7 +63,8 @@ pub record Shortened (n : ℕ) (old new : List ℕ) : Type 0 where
 -- a crash after these calls may leave these bytes. A sync leaves what a read gives, and nothing else
 abbrev pub LeftAfter : List ℕ → List Call → List ℕ → Type 0
 LeftAfter start [] image = image ≡ start
-LeftAfter start (Write at bytes ∷ calls) image = (old : List ℕ) × LeftAfter start calls old × Torn at (length bytes) old image
+LeftAfter start (Write at bytes ∷ calls) image = (old : List ℕ) × LeftAfter start calls old
+    × Torn at (length bytes) old image
 LeftAfter start (Cut n ∷ calls) image = (old : List ℕ) × LeftAfter start calls old × Shortened n old image
 LeftAfter start (Sync ∷ calls) image = image ≡ read_after start calls
 LeftAfter start (FailedWrite at n ∷ calls) image = (old : List ℕ) × LeftAfter start calls old × Torn at n old image
@@ -79,7 +81,8 @@ moment l = length l.calls
 -- a crash at some moment from the one with n calls on may have left these bytes
 abbrev pub LeftFrom : List ℕ → List Call → ℕ → List ℕ → Type 0
 LeftFrom start [] n image = LeftAfter start [] image
-LeftFrom start (call ∷ calls) n image = LeftAfter start (call ∷ calls) image ⊎ ((n ≤ length calls) × LeftFrom start calls n image)
+LeftFrom start (call ∷ calls) n image = LeftAfter start (call ∷ calls) image
+    ⊎ ((n ≤ length calls) × LeftFrom start calls n image)
 
 abbrev pub LeftSince : Lane → ℕ → List ℕ → Type 0
 LeftSince l since image = LeftFrom l.start l.calls since image
@@ -143,11 +146,25 @@ after_call call fails l = record {
 
 -- a lane with room up to a place, for 16 calls
 abbrev pub with_room : ℕ → Lane → Lane
-with_room size l = record { start = l.start; calls = l.calls; room = max size l.room; left = 16; reserved = true; stop = l.stop }
+with_room size l = record {
+  start = l.start;
+  calls = l.calls;
+  room = max size l.room;
+  left = 16;
+  reserved = true;
+  stop = l.stop;
+}
 
 -- a lane with another stop
 abbrev pub with_stop : Stop → Lane → Lane
-with_stop stop l = record { start = l.start; calls = l.calls; room = l.room; left = l.left; reserved = l.reserved; stop = stop }
+with_stop stop l = record {
+  start = l.start;
+  calls = l.calls;
+  room = l.room;
+  left = l.left;
+  reserved = l.reserved;
+  stop = stop;
+}
 
 -- the call with number n from now on is to break; none for 0
 abbrev pub stop_at : ℕ → ℕ → Stop
@@ -183,7 +200,8 @@ garbled pick i (f ∷ fs) (b ∷ bytes) = (if f then (i * pick) % 256 else b) �
 abbrev pub picked_after : ℕ → List ℕ → List Call → List ℕ
 picked_after pick start calls =
     if nat_eq pick 0 then synced_after start calls
-    else (if nat_eq pick 1 then read_after start calls else garbled pick 0 (fresh_after start calls) (read_after start calls))
+    else (if nat_eq pick 1 then read_after start calls
+    else garbled pick 0 (fresh_after start calls) (read_after start calls))
 
 -- the image that a crash picks. On a lane that was not stopped it is what the lane reads
 abbrev pub crash_image : Lane → List ℕ
@@ -191,7 +209,14 @@ crash_image l = elim l.stop [ Stopped pick ↦ picked_after pick l.start l.calls
 
 -- a lane after a crash
 abbrev pub crashed : Lane → Lane
-crashed l = record { start = crash_image l; calls = []; room = l.room; left = l.left; reserved = l.reserved; stop = Unset }
+crashed l = record {
+  start = crash_image l;
+  calls = [];
+  room = l.room;
+  left = l.left;
+  reserved = l.reserved;
+  stop = Unset;
+}
 
 -- Lanes by number
 

@@ -1,5 +1,6 @@
 -- A post in memory: what its script gives, and what it is after each call
-use Rattle.std.specs.Prelude.{◌≡◌, ◌≤◌, ◌-◌, ◌++◌, ℕ, Bool, true, false, nat_eq, if◌then◌else◌, List, [], ◌∷◌, length, take, drop, map, Option, Some, None, slice_get}
+use Rattle.std.specs.Prelude.{◌≡◌, ◌≤◌, ◌-◌, ◌++◌, ℕ, Bool, true, false, nat_eq, if◌then◌else◌, List, [], ◌∷◌, length}
+use Rattle.std.specs.Prelude.{take, drop, map, Option, Some, None, slice_get}
 use Rattle.gr_out.specs.declared.mem_post.Cue.{Cue}
 use Rattle.gr_out.specs.declared.mem_post.Cue.TheVariants as cue
 use Rattle.gr_out.specs.declared.mem_post.Offer.{Offer}

@@ -1,5 +1,6 @@
 -- A source and a sink in memory: which of their calls fail, what the others answer, and what each leaves.
-use Rattle.std.specs.Prelude.{ℕ, ◌+◌, ◌-◌, min, ◌&&◌, ◌||◌, Bool, true, false, List, [], ◌++◌, length, take, drop, ◌==◌, if◌then◌else◌}
+use Rattle.std.specs.Prelude.{ℕ, ◌+◌, ◌-◌, min, ◌&&◌, ◌||◌, Bool, true, false, List, [], ◌++◌, length, take, drop, ◌==◌}
+use Rattle.std.specs.Prelude.{if◌then◌else◌}
 use Rattle.std.specs.List.{list_any}
 use Rattle.gr_out.specs.Faults.{last_count}
 

@@ -1,7 +1,9 @@
 //! Where bytes are kept, and what a crash leaves of them.
 
-ghost use Rattle.std.specs.Prelude.{◌≡◌, ◌≢◌, ℕ, ◌+◌, ◌<◌, ◌≤◌, Bool, true, not, is_err, IsErr, length, take, drop, IfOk, OnOk, OnErr, slice_range};
-ghost use Rattle.gr_out.specs.Lane.{Lane, Write, Cut, Sync, content, after_call, with_room, with_stop, stop_at, crashed, is_due, has_stopped, MayLeave};
+ghost use Rattle.std.specs.Prelude.{◌≡◌, ◌≢◌, ℕ, ◌+◌, ◌<◌, ◌≤◌, Bool, true, not, is_err, IsErr, length, take, drop};
+ghost use Rattle.std.specs.Prelude.{IfOk, OnOk, OnErr, slice_range};
+ghost use Rattle.gr_out.specs.Lane.{Lane, Write, Cut, Sync, content, after_call, with_room, with_stop, stop_at};
+ghost use Rattle.gr_out.specs.Lane.{crashed, is_due, has_stopped, MayLeave};
 ghost use Rattle.gr_out.specs.Stops.{StopCounts, StaysFaultless};
 
 use crate::fault::{Failed, Memory};

@@ -1,6 +1,7 @@
 //! A disk in memory, some of whose calls fail, that can be stopped at a chosen call.
 
-ghost use Rattle.std.specs.Prelude.{◌≡◌, ◌≢◌, ℕ, ◌+◌, ◌<◌, ◌≤◌, [], IsTrue, Bool, true, is_err, IsErr, List, length, take, drop, IfOk, OnOk, OnErr};
+ghost use Rattle.std.specs.Prelude.{◌≡◌, ◌≢◌, ℕ, ◌+◌, ◌<◌, ◌≤◌, [], IsTrue, Bool, true, is_err, IsErr, List, length};
+ghost use Rattle.std.specs.Prelude.{take, drop, IfOk, OnOk, OnErr};
 ghost use Rattle.gr_out.specs.Lane.{Lane, lane_at, lane_of, content, is_due, has_stopped, after_call, Write, Cut, Sync};
 ghost use Rattle.gr_out.specs.Lane.{with_room, with_stop, stop_at, crashed, MayLeave};
 ghost use Rattle.gr_out.specs.Kept.{DiskView, is_failure, is_broken, fate_of_read, faults_after, stops_after};

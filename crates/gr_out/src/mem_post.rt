@@ -4,7 +4,8 @@ ghost use Rattle.std.specs.Prelude.{◌≡◌, ◌≢◌, ◌<◌, ℕ, ◌++◌
 ghost use Rattle.std.specs.Prelude.{length, drop, map, option_map, IfOk, OnOk, OnErr, vec_len};
 ghost use Rattle.std.specs.Vec.{vec_capacity};
 ghost use Rattle.gr_out.specs.Streams.{counted, is_listed};
-ghost use Rattle.gr_out.specs.Journal.{bind_entries, next_entries, offer_entries, hosted, offers, Fits, CameAt, CountsFailed};
+ghost use Rattle.gr_out.specs.Journal.{bind_entries, next_entries, offer_entries, hosted, offers, Fits, CameAt};
+ghost use Rattle.gr_out.specs.Journal.{CountsFailed};
 ghost use Rattle.gr_out.specs.Script.{PostView, post_of, with_scripted, pass, raw, pause, fail, nth_offer, came};
 ghost use Rattle.gr_out.specs.Script.{scripted_entry, next_entry, next_of, binding_fails, offer_fails, after_next};
 ghost use Rattle.gr_out.specs.Script.{after_bind, after_offer, scripted_of, offer_of};

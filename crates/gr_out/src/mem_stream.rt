@@ -1,9 +1,11 @@
 //! A source and a sink in memory, some of whose calls fail.
 
-ghost use Rattle.std.specs.Prelude.{◌≡◌, ℕ, ◌<◌, ◌≤◌, ◌++◌, ◌↔◌, length, take, drop, IsTrue, IsErr, IfOk, OnErr, Some, vec_len};
+ghost use Rattle.std.specs.Prelude.{◌≡◌, ℕ, ◌<◌, ◌≤◌, ◌++◌, ◌↔◌, length, take, drop, IsTrue, IsErr, IfOk, OnErr, Some};
+ghost use Rattle.std.specs.Prelude.{vec_len};
 ghost use Rattle.std.specs.Vec.{vec_capacity};
 ghost use Rattle.gr_out.specs.Faults.{Counts};
-ghost use Rattle.gr_out.specs.Streams.{SourceView, source_of, SinkView, sink_of, read_fails, read_count, after_read, write_fails, write_count, after_write};
+ghost use Rattle.gr_out.specs.Streams.{SourceView, source_of, SinkView, sink_of, read_fails, read_count, after_read};
+ghost use Rattle.gr_out.specs.Streams.{write_fails, write_count, after_write};
 
 use crate::fault::{Failed, Memory};
 use crate::sink::Sink;

@@ -1,6 +1,7 @@
 //! Text that is gathered in memory, so that a sink takes many lines in one call.
 
-ghost use Rattle.std.specs.Prelude.{◌≡◌, ◌≢◌, ℕ, ◌<◌, ◌≤◌, ◌++◌, nat_le, [], length, Some, Err, IfOk, OnOk, OnErr, IsOkUnless, IsErrOf};
+ghost use Rattle.std.specs.Prelude.{◌≡◌, ◌≢◌, ℕ, ◌<◌, ◌≤◌, ◌++◌, nat_le, [], length, Some, Err, IfOk, OnOk, OnErr};
+ghost use Rattle.std.specs.Prelude.{IsOkUnless, IsErrOf};
 ghost use Rattle.gr_out.specs.Bytes.{with_more};
 ghost use Rattle.gr_out.specs.Faults.{Counts, Rose};
 ghost use Rattle.gr_out.specs.Page.{PageView, TakesFront};

@@ -1,5 +1,6 @@
 -- What a publish and a time of silence are answered, the record that each logs, and what was planned
-use Rattle.std.specs.Prelude.{◌≡◌, ℕ, suc, ◌+◌, ◌-◌, max, true, false, nat_le, nat_lt, List, [], ◌∷◌, Option, Some, None}
+use Rattle.std.specs.Prelude.{◌≡◌, ℕ, suc, ◌+◌, ◌-◌, max, true, false, nat_le, nat_lt, List, [], ◌∷◌, Option, Some}
+use Rattle.std.specs.Prelude.{None}
 use Rattle.gr_event.specs.declared.event.Event.{Event}
 use Rattle.gr_know.specs.declared.values.K.TheVariants.{D}
 use Rattle.gr_know.specs.Values.{Known}
@@ -22,7 +23,11 @@ published log number e now =
         | true ↦ Gap (suc log.last)
         | false ↦ elim (nat_lt max_tick tick) [
           | true ↦ Exhausted
-          | false ↦ Logged tick (silence (suc log.settled) (tick - 1) (record { first = tick; last = tick; value = D e } ∷ []))
+          | false ↦ Logged tick (silence (suc log.settled) (tick - 1) (record {
+            first = tick;
+            last = tick;
+            value = D e;
+          } ∷ []))
         ]
       ]
     ]
@@ -51,8 +56,8 @@ publish_logs rs number e now = event_of (published (log_of rs) number e now) num
 abbrev pub quiet_logs : List Record → ℕ → ℕ → Option Record
 quiet_logs rs now quiet = mark_of (quieted (log_of rs) now quiet)
 
--- What is new with a record that may follow these: of an event the silence before it and itself, of a mark the silence up to
--- it. A cut brings nothing new.
+-- What is new with a record that may follow these: of an event the silence before it and itself, of a mark the silence
+-- up to it. A cut brings nothing new.
 abbrev pub IsNews : List Record → Record → Known → Type 0
 IsNews rs (entry.Event tick number e) fresh =
     (may_follow (state_of rs) (entry.Event tick number e) ≡ true)

@@ -24,13 +24,31 @@ empty_log = record { last = 0; settled = 0; cut = 0; events = []; gate = 5 }
 
 -- the log with a further event; with a mark; with a cut
 abbrev pub with_event : Log → ℕ → Event → Log
-with_event log tick e = record { last = suc log.last; settled = tick; cut = log.cut; events = log.events ++ (tick, e) ∷ []; gate = log.gate + 22 + event_size e }
+with_event log tick e = record {
+  last = suc log.last;
+  settled = tick;
+  cut = log.cut;
+  events = log.events ++ (tick, e) ∷ [];
+  gate = log.gate + 22 + event_size e;
+}
 
 abbrev pub with_mark : Log → ℕ → Log
-with_mark log tick = record { last = log.last; settled = tick; cut = log.cut; events = log.events; gate = log.gate + 10 }
+with_mark log tick = record {
+  last = log.last;
+  settled = tick;
+  cut = log.cut;
+  events = log.events;
+  gate = log.gate + 10;
+}
 
 abbrev pub with_cut : Log → ℕ → Log
-with_cut log tick = record { last = log.last; settled = log.settled; cut = tick; events = log.events; gate = log.gate + 10 }
+with_cut log tick = record {
+  last = log.last;
+  settled = log.settled;
+  cut = tick;
+  events = log.events;
+  gate = log.gate + 10;
+}
 
 -- the log with a further record
 abbrev pub with_entry : Log → Record → Log

@@ -48,8 +48,8 @@ pub fn plan(
     }
 }
 
-/// What a time of `quiet` ticks without an event would be answered by a log: the silence up to `now`, or that it was not
-/// long enough. It wants memory only where a mark would be logged.
+/// What a time of `quiet` ticks without an event would be answered by a log: the silence up to `now`, or that it was
+/// not long enough. It wants memory only where a mark would be logged.
 pub fn plan_quiet(alloc: Global, log: &Log, now: u64, quiet: u64) -> Result<Quieted, Memory>
     requires now { now ≤ MAX_TICK }
     requires some { 1 ≤ quiet }

@@ -1,15 +1,18 @@
 //! A log, and what is known by it.
 
-ghost use Rattle.std.specs.Prelude.{◌≡◌, ◌≢◌, ◌↔◌, ℕ, ◌≤◌, ◌<◌, true, false, Some, None, Err, IsErr, IsSome, IfOk, OnOk, IsErrOf};
+ghost use Rattle.std.specs.Prelude.{◌≡◌, ◌≢◌, ◌↔◌, ℕ, ◌≤◌, ◌<◌, true, false, Some, None, Err, IsErr, IsSome, IfOk};
+ghost use Rattle.std.specs.Prelude.{OnOk, IsErrOf};
 ghost use Rattle.gr_out.specs.Stops.{StaysFaultless};
 ghost use Rattle.gr_tick.specs.declared.TheConstants.{MAX_TICK};
 ghost use Rattle.gr_tick.specs.Stored.{RunsGive};
 ghost use Rattle.gr_know.specs.declared.values.K.TheVariants.{Q};
 ghost use Rattle.gr_publog.specs.State.{state_of};
 ghost use Rattle.gr_publog.specs.Calls.{IsReady, Appends, Opens, Tally, Causes, Leaves};
-ghost use Rattle.gr_publog.specs.declared.record.LogFault.TheVariants.{Memory as WantOfMemory, Disk as DiskFailed, Reopen as MustReopen};
+ghost use Rattle.gr_publog.specs.declared.record.LogFault.TheVariants.{Memory as WantOfMemory, Disk as DiskFailed};
+ghost use Rattle.gr_publog.specs.declared.record.LogFault.TheVariants.{Reopen as MustReopen};
 ghost use Rattle.gr_pubend.specs.Log.{log_of, log_at, log_know};
-ghost use Rattle.gr_pubend.specs.Answers.{published, quieted, publish_logs, quiet_logs, IsNews, IsPlanned, IsPlannedMark};
+ghost use Rattle.gr_pubend.specs.Answers.{published, quieted, publish_logs, quiet_logs, IsNews, IsPlanned};
+ghost use Rattle.gr_pubend.specs.Answers.{IsPlannedMark};
 ghost use Rattle.gr_pubend.specs.End.{grown, after_call, broken_end, log_result};
 
 use crate::answers::{Published, Quieted};
@@ -42,7 +45,8 @@ impl Model for Pubend {
 
     ghost view = { λ p. record { log = p.log; know = p.know.runs } };
 
-    ghost invariant = { λ p. (p.know.runs ≡ log_know (log_of p.log.records)) × Stays (log_of p.log.records) (state_of p.log.records) };
+    ghost invariant = { λ p. (p.know.runs ≡ log_know (log_of p.log.records)) ×
+        Stays (log_of p.log.records) (state_of p.log.records) };
 }
 
 impl Pubend {

@@ -1,8 +1,10 @@
 -- What a call on a log does: to its lane, to the counts of its disk, and to what is kept in memory
-use Rattle.std.specs.Prelude.{◌≡◌, ◌≢◌, ◌⊎◌, ℕ, ◌+◌, ◌≤◌, nat_le, if◌then◌else◌, true, false, List, [], ◌∷◌, ◌++◌, length, Option, Some, None, Result, Ok, Err, IsErr, IsErrOf, IsSome, OnOk, IfOk}
+use Rattle.std.specs.Prelude.{◌≡◌, ◌≢◌, ◌⊎◌, ℕ, ◌+◌, ◌≤◌, nat_le, if◌then◌else◌, true, false, List, [], ◌∷◌, ◌++◌}
+use Rattle.std.specs.Prelude.{length, Option, Some, None, Result, Ok, Err, IsErr, IsErrOf, IsSome, OnOk, IfOk}
 use Rattle.gr_out.specs.declared.disk.Stop.TheVariants.{Unset, After}
 use Rattle.gr_out.specs.Faults.{Rose}
-use Rattle.gr_out.specs.Lane.{Lane, Call, Write, Cut, Sync, content, moment, crash_image, has_stopped, MayLeave, LeftSince}
+use Rattle.gr_out.specs.Lane.{Lane, Call, Write, Cut, Sync, content, moment, crash_image, has_stopped, MayLeave}
+use Rattle.gr_out.specs.Lane.{LeftSince}
 use Rattle.gr_publog.specs.declared.record.Record.{Record}
 use Rattle.gr_publog.specs.declared.record.LogFault.{LogFault}
 use Rattle.gr_publog.specs.declared.record.LogFault.TheVariants as fault
@@ -66,7 +68,8 @@ pub record Appends {T : Type 0} (l : LogView) (logged : Option Record) (before a
   pub stands : l.broken ≡ false → OnOk result (Stands after (records_with l.records logged))
   pub calls : OnOk result (after.calls ≡ logging_calls l.records logged before.calls)
   -- at every moment of the call a crash leaves the list before, or the list with the record
-  pub any_moment : l.broken ≡ false → (image : List ℕ) → LeftSince after (moment before) image → Reads l.records logged image
+  pub any_moment : l.broken ≡ false → (image : List ℕ) → LeftSince after (moment before) image
+      → Reads l.records logged image
   -- an ordered stop at one of its calls lets no `Ok` through, and the call and the pick tell which of the two is left
   pub breaks : IsSome logged → (call pick : ℕ) → before.stop ≡ After call pick → call ≤ 4 → IsErr result
   pub kept : (call pick : ℕ) → Broke before after call pick
@@ -82,7 +85,8 @@ pub record Appends {T : Type 0} (l : LogView) (logged : Option Record) (before a
 pub record Opens (before after : Lane) (result : Result LogView LogFault) : Type 0 where
   -- it answers what the lane reads: the records, or the place of the first fault
   pub gives : OpensAs result (log_text (content before))
-  -- then a crash leaves these records; the lane reads as before, or as the text of an empty log, by the calls of the format
+  -- then a crash leaves these records; the lane reads as before, or as the text of an empty log, by the calls of the
+  -- format
   pub stands : IfOk result (λ l. Stands after l.records)
   pub reads : OnOk result (content after ≡ opened_text (content before))
   pub calls : OnOk result (after.calls ≡ opening_calls (content before) before.calls)
@@ -118,8 +122,8 @@ pub record Causes {T : Type 0} (faultless : Type 0) (after : Lane) (faults fault
   pub why : IsErrOf result fault.Disk → (has_stopped after.stop ≡ true) ⊎ Rose faults faults'
   pub by_stop : faultless → IsErrOf result fault.Disk → has_stopped after.stop ≡ true
 
--- What a call leaves in memory, by its answer: what it has logged, what there was before, or what is broken and has to be
--- opened again. It never answers that the lane is damaged.
+-- What a call leaves in memory, by its answer: what it has logged, what there was before, or what is broken and has to
+-- be opened again. It never answers that the lane is damaged.
 pub record Leaves {V T : Type 0} (before logged broken after : V) (result : Result T LogFault) : Type 0 where
   pub ok : OnOk result (after ≡ logged)
   pub memory : IsErrOf result fault.Memory → after ≡ before

@@ -16,7 +16,8 @@ opened_gate gate old = over gate (1 ∷ []) old
 
 -- an image of a lane while bytes are put behind a gate, and then while the gate is opened
 abbrev pub IsBetween : ℕ → List ℕ → List ℕ → List ℕ → Type 0
-IsBetween gate bytes old image = Torn (gate + 1) (length bytes) old image ⊎ Torn gate 1 (behind_gate gate bytes old) image
+IsBetween gate bytes old image = Torn (gate + 1) (length bytes) old image
+    ⊎ Torn gate 1 (behind_gate gate bytes old) image
 
 -- one of a disk's two counts rose: of failures, or of calls that a stop broke
 abbrev pub EitherRose : ℕ → ℕ → ℕ → ℕ → Type 0

@@ -1,5 +1,6 @@
 -- What a stopped append leaves
-use Rattle.std.specs.Prelude.{◌≡◌, ℕ, ◌+◌, ◌*◌, ◌%◌, ◌≤◌, Bool, true, ◌&&◌, ◌||◌, nat_eq, nat_lt, nat_le, if◌then◌else◌, List, [], ◌∷◌, ◌++◌, length}
+use Rattle.std.specs.Prelude.{◌≡◌, ℕ, ◌+◌, ◌*◌, ◌%◌, ◌≤◌, Bool, true, ◌&&◌, ◌||◌, nat_eq, nat_lt, nat_le, if◌then◌else◌}
+use Rattle.std.specs.Prelude.{List, [], ◌∷◌, ◌++◌, length}
 use Rattle.gr_out.specs.declared.disk.Stop.TheVariants.{After}
 use Rattle.gr_out.specs.Lane.{Lane, has_stopped, over, Torn}
 use Rattle.gr_publog.specs.declared.record.Record.{Record}

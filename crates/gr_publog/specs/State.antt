@@ -1,5 +1,6 @@
 -- What a list of records stands for: the last number, the ticks settled and cut, and the events past the cut
-use Rattle.std.specs.Prelude.{◌≡◌, ℕ, ◌+◌, ◌^◌, ◌<◌, Bool, true, false, if◌then◌else◌, ◌&&◌, ◌==◌, nat_lt, nat_le, List, [], ◌∷◌, ◌++◌, filter}
+use Rattle.std.specs.Prelude.{◌≡◌, ℕ, ◌+◌, ◌^◌, ◌<◌, Bool, true, false, if◌then◌else◌, ◌&&◌, ◌==◌, nat_lt, nat_le, List}
+use Rattle.std.specs.Prelude.{[], ◌∷◌, ◌++◌, filter}
 use Rattle.gr_event.specs.Limits.{IsEvent}
 use Rattle.gr_publog.specs.declared.record.Record.{Record}
 use Rattle.gr_publog.specs.declared.record.Record.TheVariants.{Event, Mark, Cut}
@@ -33,7 +34,8 @@ state_of rs = state_from empty_state rs
 -- the events of records that are past a tick, in their order
 abbrev pub events_past : ℕ → List Record → List Entry
 events_past cut [] = []
-events_past cut (Event tick number event ∷ rs) = if nat_lt cut tick then record { tick = tick; number = number; event = event } ∷ events_past cut rs else events_past cut rs
+events_past cut (Event tick number event ∷ rs) = if nat_lt cut tick
+    then record { tick = tick; number = number; event = event } ∷ events_past cut rs else events_past cut rs
 events_past cut (Mark tick ∷ rs) = events_past cut rs
 events_past cut (Cut tick ∷ rs) = events_past cut rs
 

@@ -1,5 +1,6 @@
 -- The text of a log in its lane: what records spell, and what bytes stand for
-use Rattle.std.specs.Prelude.{◌≡◌, ◌≢◌, ℕ, zero, suc, ◌+◌, ◌-◌, ◌<◌, ◌≤◌, Bool, true, false, ◌==◌, nat_le, if◌then◌else◌, List, [], ◌∷◌, ◌++◌, length, get_or, take, drop, Result, Ok, Err}
+use Rattle.std.specs.Prelude.{◌≡◌, ◌≢◌, ℕ, zero, suc, ◌+◌, ◌-◌, ◌<◌, ◌≤◌, Bool, true, false, ◌==◌, nat_le}
+use Rattle.std.specs.Prelude.{if◌then◌else◌, List, [], ◌∷◌, ◌++◌, length, get_or, take, drop, Result, Ok, Err}
 use Rattle.std.specs.Int.{Width, from_be_bytes, to_be_bytes, w32, w64}
 use Rattle.gr_event.specs.declared.event.Event.{Event as EventPairs}
 use Rattle.gr_event.specs.declared.event.EventFault.{EventFault}
@@ -15,7 +16,8 @@ use Rattle.gr_publog.specs.State.{empty_state, after_record, may_settle, may_cut
 
 -- a record: its kind, its tick and, of an event, its number, its size and its bytes
 abbrev pub record_bytes : Record → List ℕ
-record_bytes (Event tick number event) = 1 ∷ (to_be_bytes w64 tick ++ (to_be_bytes w64 number ++ (to_be_bytes w32 (event_size event) ++ event_bytes event)))
+record_bytes (Event tick number event) = 1 ∷ (to_be_bytes w64 tick
+    ++ (to_be_bytes w64 number ++ (to_be_bytes w32 (event_size event) ++ event_bytes event)))
 record_bytes (Mark tick) = 2 ∷ to_be_bytes w64 tick
 record_bytes (Cut tick) = 3 ∷ to_be_bytes w64 tick
 
@@ -63,7 +65,8 @@ field_in total n rest = if nat_le n (length rest) then Ok (take n rest, drop n r
 
 -- a number of n bytes that passes a test
 abbrev pub number_in : ℕ → ℕ → Width → (ℕ → Bool) → List ℕ → Result (ℕ × List ℕ) ℕ
-number_in total n w passes rest = field_in total n rest >>= λ x. if passes (from_be_bytes w x.0) then Ok (from_be_bytes w x.0, x.1) else Err (total - length rest)
+number_in total n w passes rest = field_in total n rest >>= λ x. if passes (from_be_bytes w x.0)
+    then Ok (from_be_bytes w x.0, x.1) else Err (total - length rest)
 
 -- the event that so many bytes spell
 abbrev pub event_of : ℕ → Result EventPairs EventFault → Result EventPairs ℕ
@@ -119,7 +122,9 @@ header_fault at _ _ = at
 unfoldable pub log_text : List ℕ → Result (List Record) ℕ
 log_text bytes =
     if nat_le (length bytes) 6 then Ok []
-    else (if header_fault 0 header bytes == 5 then records_in (length bytes + 1) (length bytes) empty_state (drop 5 bytes) else Err (header_fault 0 header bytes))
+    else (if header_fault 0 header bytes == 5
+    then records_in (length bytes + 1) (length bytes) empty_state (drop 5 bytes)
+    else Err (header_fault 0 header bytes))
 
 -- The laws
 
@@ -133,7 +138,8 @@ AreBytes bytes = (i : ℕ) → get_or bytes i 0 < 256
 
 -- what is read is spelled, where there are more than six bytes
 abbrev pub SpellsWhatIsRead : Type 0
-SpellsWhatIsRead = (bytes : List ℕ) (rs : List Record) → AreBytes bytes → 6 < length bytes → log_text bytes ≡ Ok rs → IsSpelled bytes rs
+SpellsWhatIsRead = (bytes : List ℕ) (rs : List Record) → AreBytes bytes → 6 < length bytes → log_text bytes ≡ Ok rs
+    → IsSpelled bytes rs
 
 -- at most six bytes are an empty log, whatever they are
 abbrev pub ReadsShortAsEmpty : Type 0

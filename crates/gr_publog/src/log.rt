@@ -1,6 +1,7 @@
 //! A log on its lane.
 
-ghost use Rattle.std.specs.Prelude.{◌≡◌, ◌≢◌, ◌↔◌, ℕ, ◌+◌, ◌≤◌, ◌++◌, ◌∷◌, [], Bool, true, false, List, length, Some, Err, OnOk, OnErr, IsTrue, IfOk, IsErrOf};
+ghost use Rattle.std.specs.Prelude.{◌≡◌, ◌≢◌, ◌↔◌, ℕ, ◌+◌, ◌≤◌, ◌++◌, ◌∷◌, [], Bool, true, false, List, length, Some};
+ghost use Rattle.std.specs.Prelude.{Err, OnOk, OnErr, IsTrue, IfOk, IsErrOf};
 ghost use Rattle.gr_event.specs.Event.{event_bytes};
 ghost use Rattle.gr_out.specs.Lane.{with_room};
 ghost use Rattle.gr_out.specs.Stops.{StaysFaultless};
@@ -8,7 +9,8 @@ ghost use Rattle.gr_publog.specs.State.{empty_state, state_of, live_events, may_
 ghost use Rattle.gr_publog.specs.Text.{front_text, record_bytes};
 ghost use Rattle.gr_publog.specs.Crash.{LogView, with_record, failed};
 ghost use Rattle.gr_publog.specs.Calls.{IsReady, GoesOn, Appends, Opens, Tally, Causes, Leaves};
-ghost use Rattle.gr_publog.specs.declared.record.LogFault.TheVariants.{Memory as WantOfMemory, Disk as DiskFailed, Reopen as MustReopen};
+ghost use Rattle.gr_publog.specs.declared.record.LogFault.TheVariants.{Memory as WantOfMemory, Disk as DiskFailed};
+ghost use Rattle.gr_publog.specs.declared.record.LogFault.TheVariants.{Reopen as MustReopen};
 
 use crate::entries::{Entries, note_record};
 use crate::history::History;
@@ -200,7 +202,8 @@ impl Log {
         ensures log { Leaves self.old (with_record entry.now self.old) (failed self.old) self.new result }
         ensures lane { let l = self.old in let before = D.lane_of disk.old l.lane in
             D.tells → Appends l (Some entry.now) before (D.lane_of disk.new l.lane) result }
-        ensures goes_on { let lane = self.old.lane in D.tells → GoesOn (D.lane_of disk.old lane) (D.lane_of disk.new lane) }
+        ensures goes_on { let lane = self.old.lane in D.tells →
+            GoesOn (D.lane_of disk.old lane) (D.lane_of disk.new lane) }
         ensures reopen { IsErrOf result LogFault.Reopen ↔ (self.old.broken ≡ true) }
         ensures idle { IsErrOf result LogFault.Reopen → disk.new ≡ disk.old }
         ensures tally { let f = D.faults disk.old in let s = D.stops disk.old in

@@ -1,10 +1,12 @@
 //! The text of a log, read.
 
-ghost use Rattle.std.specs.Prelude.{◌≡◌, ◌+◌, ◌-◌, ◌≤◌, ◌<◌, ◌^◌, ◌==◌, ◌∷◌, ◌++◌, [], length, IfOk, MatchResult, Ok, Err, nat_le, true, drop};
+ghost use Rattle.std.specs.Prelude.{◌≡◌, ◌+◌, ◌-◌, ◌≤◌, ◌<◌, ◌^◌, ◌==◌, ◌∷◌, ◌++◌, [], length, IfOk, MatchResult, Ok};
+ghost use Rattle.std.specs.Prelude.{Err, nat_le, true, drop};
 ghost use Rattle.std.specs.Int.{from_be_bytes, to_be_bytes, w32, w64};
 ghost use Rattle.gr_event.specs.Event.{event_bytes};
 ghost use Rattle.gr_event.specs.Limits.{IsEvent};
-ghost use Rattle.gr_publog.specs.State.{may_settle, may_cut, may_follow, IsSound, Follow, empty_state, state_of, live_events};
+ghost use Rattle.gr_publog.specs.State.{may_settle, may_cut, may_follow, IsSound, Follow, empty_state, state_of};
+ghost use Rattle.gr_publog.specs.State.{live_events};
 ghost use Rattle.gr_publog.specs.Text.{field_in, number_in, event_in, logged_in, mark_in, cut_in, record_in};
 ghost use Rattle.gr_publog.specs.Text.{records_in, record_bytes, blocks, front_text, header, header_fault, Closes};
 ghost use Rattle.gr_publog.specs.Text.{IsSpelled, log_text};

@@ -1,8 +1,10 @@
 //! The calls on a disk that open a log and append a record.
 
-ghost use Rattle.std.specs.Prelude.{◌≡◌, ◌≢◌, ℕ, ◌+◌, ◌^◌, ◌<◌, ◌≤◌, List, length, true, IsErr, IsErrOf, OnOk, IfOk, ◌⊎◌, ◌++◌, ◌∷◌, []};
+ghost use Rattle.std.specs.Prelude.{◌≡◌, ◌≢◌, ℕ, ◌+◌, ◌^◌, ◌<◌, ◌≤◌, List, length, true, IsErr, IsErrOf, OnOk, IfOk};
+ghost use Rattle.std.specs.Prelude.{◌⊎◌, ◌++◌, ◌∷◌, []};
 ghost use Rattle.gr_out.specs.Faults.{Rose};
-ghost use Rattle.gr_out.specs.Lane.{content, moment, crash_image, has_stopped, LeavesOnly, LeftSince, MayLeave, Write, Cut, Sync};
+ghost use Rattle.gr_out.specs.Lane.{content, moment, crash_image, has_stopped, LeavesOnly, LeftSince, MayLeave, Write};
+ghost use Rattle.gr_out.specs.Lane.{Cut, Sync};
 ghost use Rattle.gr_out.specs.Stops.{StaysFaultless};
 ghost use Rattle.gr_out.specs.declared.disk.Stop.TheVariants.{Unset, After};
 ghost use Rattle.gr_publog.specs.Text.{header};

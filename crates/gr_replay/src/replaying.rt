@@ -18,7 +18,8 @@ ghost use Rattle.gr_scenario.specs.Steps.{AreStepsOf, IsStepOf};
 ghost use Rattle.gr_out.specs.Page.{TakesFront};
 ghost use Rattle.gr_run.specs.Named.{AllNamed, IsPutFault};
 ghost use Rattle.gr_replay.specs.Replayed.{replayed_text};
-ghost use Rattle.gr_replay.specs.Going.{IsGoing, IsOpeningFault, IsRunFault, NotDamagedRun, DiskCounts, step_text, text_from};
+ghost use Rattle.gr_replay.specs.Going.{IsGoing, IsOpeningFault, IsRunFault, NotDamagedRun, DiskCounts, step_text};
+ghost use Rattle.gr_replay.specs.Going.{text_from};
 
 use crate::stepping::step;
 use gr_model::topologies::every_topology_is_a_tree;

@@ -52,7 +52,8 @@ stop_of n text = do
 
 -- `stop K pick J` where the next word is `stop`, else nothing, with what follows it
 abbrev pub next_stop : ℕ → List ℕ → Result (Option Stop × List ℕ) StepFault
-next_stop n text = if bytes_eq (first_word text) (codes "stop") then (stop_of n (after_word text) >>= λ stop. Ok (Some stop.0, stop.1)) else Ok (None, text)
+next_stop n text = if bytes_eq (first_word text) (codes "stop")
+    then (stop_of n (after_word text) >>= λ stop. Ok (Some stop.0, stop.1)) else Ok (None, text)
 
 -- the event of line n, or its fault
 abbrev pub event_or_fault : ℕ → Result Event EventFault → Result Event StepFault
@@ -75,14 +76,19 @@ publish_of publisher_of n text = do
 
 -- what a step word asks for after it
 abbrev pub step_by : (List ℕ → Option ℕ) → (List ℕ → Option ℕ) → ℕ → Verb → List ℕ → Result Step StepFault
-step_by broker_of publisher_of n verb.Clock text = next_number n 0 MAX_NUMBER text >>= λ now. ended n now.1 (Clock now.0)
+step_by broker_of publisher_of n verb.Clock text = next_number n 0 MAX_NUMBER text >>= λ now.
+    ended n now.1 (Clock now.0)
 step_by broker_of publisher_of n verb.Publish text = publish_of publisher_of n text
-step_by broker_of publisher_of n verb.Wake text = next_name broker_of n text >>= λ broker. ended n broker.1 (Wake broker.0)
-step_by broker_of publisher_of n verb.Deliver text = next_number n 0 MAX_NUMBER text >>= λ frame. ended n frame.1 (Deliver frame.0)
-step_by broker_of publisher_of n verb.Crash text = next_name broker_of n text >>= λ broker. ended n broker.1 (Crash broker.0)
+step_by broker_of publisher_of n verb.Wake text = next_name broker_of n text >>= λ broker.
+    ended n broker.1 (Wake broker.0)
+step_by broker_of publisher_of n verb.Deliver text = next_number n 0 MAX_NUMBER text >>= λ frame.
+    ended n frame.1 (Deliver frame.0)
+step_by broker_of publisher_of n verb.Crash text = next_name broker_of n text >>= λ broker.
+    ended n broker.1 (Crash broker.0)
 step_by broker_of publisher_of n verb.Sweep text = ended n text Sweep
 step_by broker_of publisher_of n verb.Show text = ended n text Show
-step_by broker_of publisher_of n verb.Bytes text = next_number n 0 MAX_NUMBER text >>= λ frame. ended n frame.1 (Bytes frame.0)
+step_by broker_of publisher_of n verb.Bytes text = next_number n 0 MAX_NUMBER text >>= λ frame.
+    ended n frame.1 (Bytes frame.0)
 
 -- the step of line n
 abbrev pub step_of : (List ℕ → Option ℕ) → (List ℕ → Option ℕ) → ℕ → List ℕ → Result Step StepFault
@@ -106,4 +112,5 @@ limited (Some counted) read = Err (TooMany counted.0)
 
 -- the steps of a schedule
 abbrev pub steps_of : (List ℕ → Option ℕ) → (List ℕ → Option ℕ) → List ℕ → Result (List Line) StepFault
-steps_of broker_of publisher_of bytes = limited (slice_get (counted_lines bytes) MAX_STEPS) (lines_of broker_of publisher_of (counted_lines bytes))
+steps_of broker_of publisher_of bytes =
+    limited (slice_get (counted_lines bytes) MAX_STEPS) (lines_of broker_of publisher_of (counted_lines bytes))

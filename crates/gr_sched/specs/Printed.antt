@@ -1,5 +1,6 @@
 -- The text of a step: its word and what follows it, with one space between
-use Rattle.std.specs.Prelude.{◌≡◌, ℕ, ◌<◌, ◌≤◌, true, not, List, [], ◌∷◌, ◌++◌, length, codes, Option, None, Some, Ok, IfSome}
+use Rattle.std.specs.Prelude.{◌≡◌, ℕ, ◌<◌, ◌≤◌, true, not, List, [], ◌∷◌, ◌++◌, length, codes, Option, None, Some, Ok}
+use Rattle.std.specs.Prelude.{IfSome}
 use Rattle.std.specs.List.{list_all}
 use Rattle.std.specs.Fmt.{decimal}
 use Rattle.gr_event.specs.declared.event.Event.{Event}
@@ -20,11 +21,13 @@ pub record Writing : Type 0 where
 -- a stop, if there is one, before what follows it
 abbrev pub stop_text : Option Stop → List ℕ → List ℕ
 stop_text None more = more
-stop_text (Some stop) more = codes "stop " ++ (decimal stop.call ++ (codes " pick " ++ (decimal stop.pick ++ (codes " " ++ more))))
+stop_text (Some stop) more = codes "stop " ++ (decimal stop.call
+    ++ (codes " pick " ++ (decimal stop.pick ++ (codes " " ++ more))))
 
 abbrev pub step_text : Writing → Step → List ℕ
 step_text w (Clock now) = codes "clock " ++ decimal now
-step_text w (Publish publisher number stop event) = codes "publish " ++ (w.publisher publisher ++ (codes " " ++ (decimal number ++ (codes " " ++ stop_text stop (w.event event)))))
+step_text w (Publish publisher number stop event) = codes "publish "
+    ++ (w.publisher publisher ++ (codes " " ++ (decimal number ++ (codes " " ++ stop_text stop (w.event event)))))
 step_text w (Wake broker) = codes "wake " ++ w.broker broker
 step_text w (Deliver frame) = codes "deliver " ++ decimal frame
 step_text w (Crash broker) = codes "crash " ++ w.broker broker
@@ -51,7 +54,9 @@ pub record IsEventText (text : List ℕ) (event : Event) : Type 0 where
 -- the numbers of a step are in their ranges, and what it names is written so that it is known again
 abbrev pub IsWritten : (List ℕ → Option ℕ) → (List ℕ → Option ℕ) → Writing → Step → Type 0
 IsWritten broker_of publisher_of w (Clock now) = now ≤ MAX_NUMBER
-IsWritten broker_of publisher_of w (Publish publisher number stop event) = Names publisher_of (w.publisher publisher) publisher × (1 ≤ number) × (number ≤ MAX_NUMBER) × IfSome stop IsStop × IsEventText (w.event event) event
+IsWritten broker_of publisher_of w (Publish publisher number stop event) =
+    Names publisher_of (w.publisher publisher) publisher × (1 ≤ number) × (number ≤ MAX_NUMBER) × IfSome stop IsStop
+    × IsEventText (w.event event) event
 IsWritten broker_of publisher_of w (Wake broker) = Names broker_of (w.broker broker) broker
 IsWritten broker_of publisher_of w (Deliver frame) = frame ≤ MAX_NUMBER
 IsWritten broker_of publisher_of w (Crash broker) = Names broker_of (w.broker broker) broker

@@ -1,5 +1,6 @@
 -- The lines of a text, the separator between the two parts of a scenario, and the counted lines of a schedule
-use Rattle.std.specs.Prelude.{ℕ, ◌+◌, ◌==◌, ◌||◌, Bool, false, not, if◌then◌else◌, List, [], ◌∷◌, ◌++◌, codes, bytes_eq, drop}
+use Rattle.std.specs.Prelude.{ℕ, ◌+◌, ◌==◌, ◌||◌, Bool, false, not, if◌then◌else◌, List, [], ◌∷◌, ◌++◌, codes, bytes_eq}
+use Rattle.std.specs.Prelude.{drop}
 use Rattle.std.specs.List.{list_all, position_or_len}
 use Rattle.std.specs.Io.BufRead.{ends_with_byte, strip_last}
 
@@ -64,7 +65,8 @@ is_counted line = says_more (without_gaps line)
 -- the counted lines of these pieces, each behind its number, where n lines stand before them
 abbrev pub counted_after : ℕ → List (List ℕ) → List (ℕ × List ℕ)
 counted_after n [] = []
-counted_after n (piece ∷ pieces) = if is_counted (line_of piece) then (n + 1, line_of piece) ∷ counted_after (n + 1) pieces else counted_after (n + 1) pieces
+counted_after n (piece ∷ pieces) = if is_counted (line_of piece)
+    then (n + 1, line_of piece) ∷ counted_after (n + 1) pieces else counted_after (n + 1) pieces
 
 -- the counted lines of a schedule, each behind its number, from 1 at the first line
 abbrev pub counted_lines : List ℕ → List (ℕ × List ℕ)

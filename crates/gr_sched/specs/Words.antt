@@ -1,5 +1,6 @@
 -- The words of a line and its numbers, with the fault of a word that does not fit
-use Rattle.std.specs.Prelude.{◌≡◌, ℕ, ◌+◌, ◌-◌, ◌*◌, ◌&&◌, nat_le, nat_lt, Bool, if◌then◌else◌, List, [], ◌∷◌, length, reverse, drop, take, Option, None, Some, Result, Ok, Err}
+use Rattle.std.specs.Prelude.{◌≡◌, ℕ, ◌+◌, ◌-◌, ◌*◌, ◌&&◌, nat_le, nat_lt, Bool, if◌then◌else◌, List, [], ◌∷◌, length}
+use Rattle.std.specs.Prelude.{reverse, drop, take, Option, None, Some, Result, Ok, Err}
 use Rattle.std.specs.List.{list_all, position_or_len}
 use Rattle.gr_sched.specs.declared.fault.StepFault.{StepFault}
 use Rattle.gr_sched.specs.declared.fault.StepFault.TheVariants.{Memory, BadWord, BadNumber}
@@ -68,11 +69,13 @@ value_after value (b ∷ bs) = value_after (value * 10 + (b - 48)) bs
 
 -- a word is a number of at most so many digits, from low to high
 abbrev pub is_number_in : ℕ → ℕ → ℕ → List ℕ → Bool
-is_number_in digits low high word = nat_le (length word) digits && is_number word && nat_le low (value_after 0 word) && nat_le (value_after 0 word) high
+is_number_in digits low high word = nat_le (length word) digits && is_number word && nat_le low (value_after 0 word)
+    && nat_le (value_after 0 word) high
 
 -- a word as a number from low to high
 abbrev pub number_in : ℕ → ℕ → ℕ → List ℕ → Result ℕ StepFault
-number_in n low high word = if is_number word && nat_le low (value_after 0 word) && nat_le (value_after 0 word) high then Ok (value_after 0 word) else Err (BadNumber n)
+number_in n low high word = if is_number word && nat_le low (value_after 0 word) && nat_le (value_after 0 word) high
+    then Ok (value_after 0 word) else Err (BadNumber n)
 
 -- the next word as a number from low to high, with what follows it
 abbrev pub next_number : ℕ → ℕ → ℕ → List ℕ → Result (ℕ × List ℕ) StepFault

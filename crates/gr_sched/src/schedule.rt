@@ -9,7 +9,8 @@ ghost use Rattle.gr_sched.specs.Text.{counted_lines};
 ghost use Rattle.gr_sched.specs.Words.{Gives, ended, known, next_word};
 ghost use Rattle.gr_sched.specs.Ranges.{IsStep, IsInLimits, IsFault};
 ghost use Rattle.gr_event.specs.Limits.{IsEvent};
-ghost use Rattle.gr_sched.specs.Grammar.{next_name, after_pick, stop_of, next_stop, event_of, publish_of, step_by, step_of, lines_of, steps_of};
+ghost use Rattle.gr_sched.specs.Grammar.{next_name, after_pick, stop_of, next_stop, event_of, publish_of, step_by};
+ghost use Rattle.gr_sched.specs.Grammar.{step_of, lines_of, steps_of};
 
 use crate::fault::StepFault;
 use crate::step::{Line, MAX_NUMBER, MAX_STEPS, Names, Step, Steps, Stop};
@@ -134,7 +135,8 @@ fn step_by<N: Names>(
     text: &[u8],
     names: &N,
 ) -> Result<Step, StepFault>
-    ensures gives { Gives (λ s. s) result (step_by (N.broker_of names.now) (N.publisher_of names.now) line verb text.now) }
+    ensures gives { Gives (λ s.
+        s) result (step_by (N.broker_of names.now) (N.publisher_of names.now) line verb text.now) }
     ensures limits { IfOk result IsInLimits }
 {
     match verb {

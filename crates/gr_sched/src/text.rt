@@ -1,6 +1,7 @@
 //! The lines of a text: the separator, the blank text and the counted lines. Nothing here takes memory.
 
-ghost use Rattle.std.specs.Prelude.{◌≡◌, ℕ, ◌+◌, ◌-◌, ◌<◌, ◌≤◌, ◌^◌, ◌∷◌, ◌==◌, [], length, take, drop, MatchOption, not};
+ghost use Rattle.std.specs.Prelude.{◌≡◌, ℕ, ◌+◌, ◌-◌, ◌<◌, ◌≤◌, ◌^◌, ◌∷◌, ◌==◌, [], length, take, drop, MatchOption};
+ghost use Rattle.std.specs.Prelude.{not};
 ghost use Rattle.std.specs.List.{position, position_or_len};
 ghost use Rattle.std.specs.Io.BufRead.{ends_with_byte, strip_last};
 ghost use Rattle.gr_sched.specs.Text.{is_gap, is_blank, is_separator, is_counted, line_of, pieces_of, before_separator};
@@ -165,8 +166,11 @@ pub struct Counted<'a> {
 /// The first counted line of a text that `before` lines stand before, or None where there is none.
 pub fn next_counted(before: u64, text: &[u8]) -> Option<Counted<'_>>
     requires { before + length text.now < 2 ^ 64 }
-    ensures found { MatchOption result (counted_after before (pieces_of text.now) ≡ []) (λ c. counted_after before (pieces_of text.now) ≡ (c.number, c.line.now) ∷ counted_after c.number (pieces_of c.rest.now)) }
-    ensures shorter { MatchOption result (Unit {0}) (λ c. (before < c.number) × (c.number + length c.rest.now ≤ before + length text.now)) }
+    ensures found { MatchOption result (counted_after before (pieces_of text.now) ≡ []) (λ c.
+        counted_after before (pieces_of text.now) ≡ (c.number, c.line.now) ∷
+        counted_after c.number (pieces_of c.rest.now)) }
+    ensures shorter { MatchOption result (Unit {0}) (λ c. (before < c.number) ×
+        (c.number + length c.rest.now ≤ before + length text.now)) }
 {
     let mut number = before;
     let mut rest = text;

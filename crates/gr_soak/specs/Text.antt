@@ -1,5 +1,6 @@
 -- The scenario of a soak, as a text: a tree of seven brokers with twelve filters, and n turns of steps over it
-use Rattle.std.specs.Prelude.{ℕ, ◌+◌, ◌*◌, ◌/◌, ◌%◌, ◌^◌, zero, suc, nat_eq, if◌then◌else◌, List, [], ◌∷◌, ◌++◌, map, get_or, flat_map, codes}
+use Rattle.std.specs.Prelude.{ℕ, ◌+◌, ◌*◌, ◌/◌, ◌%◌, ◌^◌, zero, suc, nat_eq, if◌then◌else◌, List, [], ◌∷◌, ◌++◌, map}
+use Rattle.std.specs.Prelude.{get_or, flat_map, codes}
 use Rattle.std.specs.List.{join_by}
 use Rattle.std.specs.Fmt.{decimal}
 use Rattle.gr_model.specs.Net.{numbers}

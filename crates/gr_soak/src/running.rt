@@ -28,11 +28,11 @@ use gr_topo::Topology;
 use gr_world::World;
 use std::alloc::{AllocError, Global};
 
-/// Carries out the scenario of a soak of `n` turns over a disk in memory, and prints counts over its report: nine lines,
-/// in one write.
+/// Carries out the scenario of a soak of `n` turns over a disk in memory, and prints counts over its report: nine
+/// lines, in one write.
 ///
-/// `Memory` where memory is refused. `Write` only where the sink failed in this call. After either the sink took a front
-/// of the lines.
+/// `Memory` where memory is refused. `Write` only where the sink failed in this call. After either the sink took a
+/// front of the lines.
 pub fn soak<K: Sink>(alloc: Global, n: u64, sink: &mut K) -> Result<(), RunFault>
     requires range { (1 ≤ n) × (n ≤ MAX_TURNS) }
     ensures printed { OnOk result (K.taken sink.new ≡ with_more (K.taken sink.old) (soak_report n)) }
@@ -93,8 +93,8 @@ pub(crate) fn summary_of(
     })
 }
 
-/// What is kept of the lines that steps told: how many log an event, how many hand one to a subscriber, and the lines of
-/// the last step.
+/// What is kept of the lines that steps told: how many log an event, how many hand one to a subscriber, and the lines
+/// of the last step.
 #[derive(Drop)]
 struct Told {
     logged: u128,

@@ -31,8 +31,8 @@ const SUBSCRIBERS: u64 = 12;
 /// How many frames a turn delivers.
 const DELIVERIES: u64 = 8;
 
-/// The scenario of a soak of `n` turns, as a text that a replay reads: the topology, and its steps. `Memory` where memory
-/// is refused.
+/// The scenario of a soak of `n` turns, as a text that a replay reads: the topology, and its steps. `Memory` where
+/// memory is refused.
 pub fn soak_text(alloc: Global, n: u64) -> Result<Text, Memory>
     requires range { (1 ≤ n) × (n ≤ MAX_TURNS) }
     ensures text { IfOk result (λ text. text ≡ soak_text n) }

@@ -1,5 +1,6 @@
 -- What a post of sockets keeps of the brokers that were bound, and what its calls do with their sockets.
-use Rattle.std.specs.Prelude.{◌≡◌, ℕ, ◌*◌, ◌==◌, ◌⊎◌, min, List, Option, None, Some, is_some, Bool, true, false, length, take, ⊤}
+use Rattle.std.specs.Prelude.{◌≡◌, ℕ, ◌*◌, ◌==◌, ◌⊎◌, min, List, Option, None, Some, is_some, Bool, true, false, length}
+use Rattle.std.specs.Prelude.{take, ⊤}
 use Rattle.std.specs.List.{find, list_any}
 use Rattle.std.specs.Prelude.{Contains}
 use Rattle.gr_out.specs.declared.post.Arrival.{Arrival}

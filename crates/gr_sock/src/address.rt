@@ -13,7 +13,8 @@ pub struct Address {
     pub port: u16,
 }
 
-ghost use Rattle.gr_sock.specs.Address.{is_digit, value_after, has_digits, number_in, octet_before, host_before_port, address_of};
+ghost use Rattle.gr_sock.specs.Address.{is_digit, value_after, has_digits, number_in, octet_before, host_before_port};
+ghost use Rattle.gr_sock.specs.Address.{address_of};
 
 /// Whether each byte is a digit.
 fn has_only_digits(text: &[u8]) -> bool

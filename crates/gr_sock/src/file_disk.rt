@@ -1,6 +1,7 @@
 //! A disk of which each lane is a file.
 
-ghost use Rattle.std.specs.Prelude.{◌≡◌, ℕ, ◌<◌, ◌≤◌, ◌+◌, true, false, get_or, length, take, drop, IfOk, OnOk, OnErr, IsErr, Ok, vec_len};
+ghost use Rattle.std.specs.Prelude.{◌≡◌, ℕ, ◌<◌, ◌≤◌, ◌+◌, true, false, get_or, length, take, drop, IfOk, OnOk, OnErr};
+ghost use Rattle.std.specs.Prelude.{IsErr, Ok, vec_len};
 ghost use Rattle.gr_out.specs.Lane.{over, blank};
 ghost use Rattle.gr_out.specs.Stops.{StopCounts};
 ghost use Rattle.gr_sock.specs.Counts.{RaisesOnErr};

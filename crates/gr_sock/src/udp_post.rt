@@ -1,6 +1,7 @@
 //! A post over sockets.
 
-ghost use Rattle.std.specs.Prelude.{◌≡◌, ◌≢◌, ◌≤◌, ◌<◌, ◌∷◌, ◌++◌, [], ℕ, true, length, take, IfOk, IfSome, OnOk, OnErr, IsErrOf, Ok, Err, Option, None, Some};
+ghost use Rattle.std.specs.Prelude.{◌≡◌, ◌≢◌, ◌≤◌, ◌<◌, ◌∷◌, ◌++◌, [], ℕ, true, length, take, IfOk, IfSome, OnOk};
+ghost use Rattle.std.specs.Prelude.{OnErr, IsErrOf, Ok, Err, Option, None, Some};
 ghost use Rattle.gr_out.specs.Journal.{Fits, CountsFailed};
 ghost use Rattle.gr_sock.specs.Counts.{RaisesOnFailed};
 ghost use Rattle.gr_sock.specs.Address.{address_of};

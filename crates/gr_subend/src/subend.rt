@@ -1,6 +1,7 @@
 //! The horizon of the subscribers at a broker, for one publisher.
 
-ghost use Rattle.std.specs.Prelude.{◌≡◌, ◌≢◌, ◌⊎◌, ℕ, suc, ◌+◌, ◌-◌, ◌<◌, ◌≤◌, ◌++◌, true, None, map, IfOk, OnOk, OnErr};
+ghost use Rattle.std.specs.Prelude.{◌≡◌, ◌≢◌, ◌⊎◌, ℕ, suc, ◌+◌, ◌-◌, ◌<◌, ◌≤◌, ◌++◌, true, None, map, IfOk, OnOk};
+ghost use Rattle.std.specs.Prelude.{OnErr};
 ghost use Rattle.gr_tick.specs.declared.TheConstants.{MAX_TICK};
 ghost use Rattle.gr_tick.specs.Stored.{IsRun, RunsGive};
 ghost use Rattle.gr_know.specs.Values.{Known, known_at, join_K};
@@ -68,8 +69,8 @@ impl Subend {
         Ok(deliveries)
     }
 
-    /// What `advance` will give once a piece is joined to what is known: for a caller that takes all memory before it changes
-    /// anything. `move_on` then moves the horizon. It looks at the ticks that are passed and no others.
+    /// What `advance` will give once a piece is joined to what is known: for a caller that takes all memory before it
+    /// changes anything. `move_on` then moves the horizon. It looks at the ticks that are passed and no others.
     pub fn coming(&self, alloc: Global, know: &Know, piece: &Piece<K>) -> Result<Deliveries, Memory>
         ensures { IfOk result (λ ds. (joined : Known)
             → RunsGive Q joined (λ t. join_K (known_at know.now.runs t) (known_at piece.now t))
@@ -138,7 +139,8 @@ fn put_run(deliveries: &mut Deliveries, run: &Run<K>) -> Result<(), Memory>
 fn put_each(deliveries: &mut Deliveries, event: &Event, first: u64, last: u64) -> Result<(), Memory>
     requires ordered { first ≤ last }
     requires upto { last ≤ MAX_TICK }
-    ensures { OnOk result (items deliveries.new ≡ items deliveries.old ++ map (λ t. (t, event.now)) (numbers_from first (suc last - first))) }
+    ensures { OnOk result (items deliveries.new ≡ items deliveries.old
+        ++ map (λ t. (t, event.now)) (numbers_from first (suc last - first))) }
 {
     for tick in first..last + 1 {
         deliveries.push(Delivery {

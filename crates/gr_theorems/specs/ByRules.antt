@@ -1,6 +1,7 @@
 -- A run of a schedule by the rules of the calls, with no word of how anything is computed: each definition relates a
 -- state to what is left and told from it. Of every schedule these relations allow exactly one report (`runs_by_rules`).
-use Rattle.std.specs.Prelude.{◌≡◌, ℕ, zero, suc, ◌<◌, max, Bool, true, false, ◌&&◌, nat_lt, if◌then◌else◌, List, [], ◌∷◌, ◌++◌, length, map, filter, get_or, set, Some, None, flat_map}
+use Rattle.std.specs.Prelude.{◌≡◌, ℕ, zero, suc, ◌<◌, max, Bool, true, false, ◌&&◌, nat_lt, if◌then◌else◌, List, []}
+use Rattle.std.specs.Prelude.{◌∷◌, ◌++◌, length, map, filter, get_or, set, Some, None, flat_map}
 use Rattle.gr_event.specs.declared.event.Event.{Event}
 use Rattle.gr_frame.specs.declared.Frame.{Frame}
 use Rattle.gr_frame.specs.Bytes.{frame_bytes}
@@ -12,14 +13,16 @@ use Rattle.gr_model.specs.declared.report.Report.{Report}
 use Rattle.gr_model.specs.declared.report.Report.TheVariants as line
 use Rattle.gr_model.specs.Net.{Net, is_host, keeps_horizon, not_empty, numbers}
 use Rattle.gr_model.specs.Broker.{View, Log, Outcome, empty_log, with_event, log_at, is_kept}
-use Rattle.gr_model.specs.World.{World, Transition, blank_view, view_of, log_of, with_view, sent_lines, frame_at, frames_past, sent_since, is_want, is_know_to, inwards, outwards, sweep_moment, kept_events}
+use Rattle.gr_model.specs.World.{World, Transition, blank_view, view_of, log_of, with_view, sent_lines, frame_at}
+use Rattle.gr_model.specs.World.{frames_past, sent_since, is_want, is_know_to, inwards, outwards, sweep_moment}
+use Rattle.gr_model.specs.World.{kept_events}
 use Rattle.gr_model.specs.Opening.{reopened_log, reopened_line, publishers_at}
 use Rattle.gr_theorems.specs.Rules.{HasKnown, NewTicks, Publishes, Wakes, Comes}
 use Rattle.gr_theorems.specs.Settles.{is_accepted}
 use Rattle.gr_theorems.specs.Obeys.{is_next_of}
 
--- A state is the clock and its greatest moment so far, the frames that were sent, the views and the logs (`World`). With
--- the lines told on the way to it, it is a `Told`.
+-- A state is the clock and its greatest moment so far, the frames that were sent, the views and the logs (`World`).
+-- With the lines told on the way to it, it is a `Told`.
 
 -- One after another
 
@@ -177,7 +180,8 @@ pub record Crashes (net : Net) (number b : ℕ) (w : World) (t : Transition) : T
 abbrev pub next_tick : World → ℕ → ℕ
 next_tick w p = max (suc (log_of w p).settled) w.clock
 
--- the event of a stopped publish is kept: so say its log's gate, the disk's call that it stops at, and what the disk picks
+-- the event of a stopped publish is kept: so say its log's gate, the disk's call that it stops at, and what the disk
+-- picks
 abbrev pub keeps : World → ℕ → Stop → Bool
 keeps w p stop = is_kept (log_of w p).gate stop.call stop.pick
 

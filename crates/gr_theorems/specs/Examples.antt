@@ -1,5 +1,6 @@
 -- Worked examples: small schedules, and the whole report of each
-use Rattle.std.specs.Prelude.{◌≡◌, ℕ, suc, Bool, true, false, List, [], ◌∷◌, filter, flat_map, if◌then◌else◌, pos, Some, None, get_or, ◌-◌}
+use Rattle.std.specs.Prelude.{◌≡◌, ℕ, suc, Bool, true, false, List, [], ◌∷◌, filter, flat_map, if◌then◌else◌, pos, Some}
+use Rattle.std.specs.Prelude.{None, get_or, ◌-◌}
 use Rattle.gr_event.specs.declared.value.Value.TheVariants as value
 use Rattle.gr_event.specs.declared.event.Event.{Event}
 use Rattle.gr_know.specs.declared.values.K.{K}
@@ -22,7 +23,8 @@ use Rattle.gr_event.specs.Event.{same_bool}
 use Rattle.gr_know.specs.Values.{Known}
 use Rattle.gr_tick.specs.Runs.{tabulate, points, first_bottom_from}
 use Rattle.gr_model.specs.Blank.{net0}
-use Rattle.gr_theorems.specs.SmallNets.{net1, net1_both, net2, net2_forgetful, net3, net4, net5, inner_net, filtered_net, price}
+use Rattle.gr_theorems.specs.SmallNets.{net1, net1_both, net2, net2_forgetful, net3, net4, net5, inner_net}
+use Rattle.gr_theorems.specs.SmallNets.{filtered_net, price}
 
 -- Short words
 
@@ -82,25 +84,37 @@ is_end _ = false
 
 -- a publish that stops within, then the same publish
 unfoldable pub stopped_then_again : ℕ → ℕ → List Step
-stopped_then_again call pick = clock 1000 ∷ step.Publish 0 1 (Some (record { call = call; pick = pick })) (n_is 1) ∷ publishing 1 (n_is 1) ∷ []
+stopped_then_again call pick = clock 1000 ∷ step.Publish 0 1 (Some (record {
+  call = call;
+  pick = pick;
+})) (n_is 1) ∷ publishing 1 (n_is 1) ∷ []
 
 unfoldable pub lost_lines : List Report
-lost_lines = line.Crashed 0 ∷ line.Lost 0 1 1000 ∷ line.Logged 0 1 1000 ∷ line.SentKnow 1 0 1 0 (silent 1 999 ∷ event (n_is 1) 1000 1000 ∷ []) ∷ []
+lost_lines =
+    line.Crashed 0 ∷ line.Lost 0 1 1000 ∷ line.Logged 0 1 1000 ∷
+    line.SentKnow 1 0 1 0 (silent 1 999 ∷ event (n_is 1) 1000 1000 ∷ []) ∷ []
 
 unfoldable pub kept_lines : List Report
 kept_lines = line.Crashed 0 ∷ line.Kept 0 1 1000 ∷ line.Opened 0 1 1000 0 ∷ line.Already 0 1 ∷ []
 
 -- lost frames, two crashes, a sweep and a show
 unfoldable pub losses_then_sweep : List Step
-losses_then_sweep = clock 1000 ∷ publishing 1 (n_is 1) ∷ clock 2000 ∷ publishing 2 (n_is 2) ∷ clock 3000 ∷ publishing 3 (n_is 3) ∷ deliver 3 ∷ deliver 2 ∷ waking 0 ∷ clock 3100 ∷ waking 2 ∷ step.Crash 4 ∷ step.Crash 3 ∷ step.Sweep ∷ step.Show ∷ []
+losses_then_sweep =
+    clock 1000 ∷ publishing 1 (n_is 1) ∷ clock 2000 ∷ publishing 2 (n_is 2) ∷ clock 3000 ∷ publishing 3 (n_is 3) ∷
+    deliver 3 ∷ deliver 2 ∷ waking 0 ∷ clock 3100 ∷ waking 2 ∷ step.Crash 4 ∷ step.Crash 3 ∷ step.Sweep ∷ step.Show ∷ []
 
 -- a crash of a whole branch and of the host, a sweep and a show
 unfoldable pub crashes_then_sweep : List Step
-crashes_then_sweep = clock 1000 ∷ publishing 1 (int_event price 90) ∷ publishing 2 (int_event price 7) ∷ deliver 1 ∷ deliver 3 ∷ deliver 5 ∷ deliver 6 ∷ deliver 7 ∷ waking 3 ∷ deliver 8 ∷ waking 2 ∷ waking 1 ∷ step.Crash 3 ∷ step.Crash 0 ∷ step.Crash 2 ∷ step.Sweep ∷ step.Show ∷ []
+crashes_then_sweep =
+    clock 1000 ∷ publishing 1 (int_event price 90) ∷ publishing 2 (int_event price 7) ∷ deliver 1 ∷ deliver 3 ∷
+    deliver 5 ∷ deliver 6 ∷ deliver 7 ∷ waking 3 ∷ deliver 8 ∷ waking 2 ∷ waking 1 ∷ step.Crash 3 ∷ step.Crash 0 ∷
+    step.Crash 2 ∷ step.Sweep ∷ step.Show ∷ []
 
 -- a branch of two brokers crashes with what it has heard, and asks again
 unfoldable pub branch_crashes : List Step
-branch_crashes = clock 1000 ∷ publishing 1 (n_is 1) ∷ deliver 1 ∷ deliver 2 ∷ waking 2 ∷ step.Crash 2 ∷ step.Crash 1 ∷ deliver 3 ∷ clock 2100 ∷ waking 2 ∷ deliver 4 ∷ deliver 5 ∷ []
+branch_crashes =
+    clock 1000 ∷ publishing 1 (n_is 1) ∷ deliver 1 ∷ deliver 2 ∷ waking 2 ∷ step.Crash 2 ∷ step.Crash 1 ∷ deliver 3 ∷
+    clock 2100 ∷ waking 2 ∷ deliver 4 ∷ deliver 5 ∷ []
 
 -- the calls of a sweep after some steps
 unfoldable pub calls_after : Net → List Step → List Call
@@ -130,9 +144,11 @@ pub record WorkedExamples : Type 0 where
       line.Logged 0 2 1001 ∷
       line.SentKnow 2 0 1 0 (event (n_is 2) 1001 1001 ∷ []) ∷ []
   -- The clock may go back: ticks still rise
-  pub clock_may_go_back : report net0 (clock 1000 ∷ publishing 1 (n_is 1) ∷ clock 10 ∷ publishing 2 (n_is 2) ∷ []) ≡ report net0 (clock 1000 ∷ publishing 1 (n_is 1) ∷ publishing 2 (n_is 2) ∷ [])
+  pub clock_may_go_back : report net0 (clock 1000 ∷ publishing 1 (n_is 1) ∷ clock 10 ∷ publishing 2 (n_is 2) ∷ [])
+      ≡ report net0 (clock 1000 ∷ publishing 1 (n_is 1) ∷ publishing 2 (n_is 2) ∷ [])
   -- A lost frame is asked for, once while that ask is outstanding, and then both events are got in order
-  pub lost_is_asked : report net0 (clock 1000 ∷ publishing 1 (n_is 1) ∷ clock 2000 ∷ publishing 2 (n_is 2) ∷ deliver 2 ∷ waking 1 ∷ waking 1 ∷ deliver 3 ∷ deliver 4 ∷ []) ≡
+  pub lost_is_asked : report net0 (clock 1000 ∷ publishing 1 (n_is 1) ∷ clock 2000 ∷ publishing 2 (n_is 2) ∷ deliver 2 ∷
+      waking 1 ∷ waking 1 ∷ deliver 3 ∷ deliver 4 ∷ []) ≡
       line.Logged 0 1 1000 ∷
       line.SentKnow 1 0 1 0 (silent 1 999 ∷ event (n_is 1) 1000 1000 ∷ []) ∷
       line.Logged 0 2 2000 ∷
@@ -143,7 +159,8 @@ pub record WorkedExamples : Type 0 where
       line.Got 0 0 2000 (n_is 2) ∷
       line.Horizon 0 0 2000 ∷ []
   -- Frames may come out of order and twice: each event is got once, in order
-  pub repeats_are_got_once : report net0 (clock 1000 ∷ publishing 1 (n_is 1) ∷ clock 2000 ∷ publishing 2 (n_is 2) ∷ deliver 2 ∷ deliver 1 ∷ deliver 2 ∷ deliver 1 ∷ []) ≡
+  pub repeats_are_got_once : report net0 (clock 1000 ∷ publishing 1 (n_is 1) ∷ clock 2000 ∷ publishing 2 (n_is 2) ∷
+      deliver 2 ∷ deliver 1 ∷ deliver 2 ∷ deliver 1 ∷ []) ≡
       line.Logged 0 1 1000 ∷
       line.SentKnow 1 0 1 0 (silent 1 999 ∷ event (n_is 1) 1000 1000 ∷ []) ∷
       line.Logged 0 2 2000 ∷
@@ -152,7 +169,8 @@ pub record WorkedExamples : Type 0 where
       line.Got 0 0 2000 (n_is 2) ∷
       line.Horizon 0 0 2000 ∷ []
   -- Where the horizon moves on, an event below it that a child has not acknowledged yet is not got again
-  pub each_is_got_once : report inner_net (clock 1000 ∷ publishing 1 (n_is 1) ∷ deliver 1 ∷ publishing 2 (n_is 2) ∷ deliver 4 ∷ []) ≡
+  pub each_is_got_once : report inner_net (clock 1000 ∷ publishing 1 (n_is 1) ∷ deliver 1 ∷ publishing 2 (n_is 2) ∷
+      deliver 4 ∷ []) ≡
       line.Logged 0 1 1000 ∷
       line.SentKnow 1 0 1 0 (silent 1 999 ∷ event (n_is 1) 1000 1000 ∷ []) ∷
       line.Got 0 0 1000 (n_is 1) ∷
@@ -171,13 +189,15 @@ pub record WorkedExamples : Type 0 where
       line.SentKnow 1 0 1 0 (silent 1 1000 ∷ []) ∷
       line.Horizon 0 0 1000 ∷ []
   -- Neither a filter nor its negation is true of an event without the name
-  pub no_filter_on_missing : report net1_both (clock 1000 ∷ publishing 1 (int_event (113 ∷ 116 ∷ 121 ∷ []) 5) ∷ deliver 1 ∷ []) ≡
+  pub no_filter_on_missing : report net1_both (clock 1000 ∷ publishing 1 (int_event (113 ∷ 116 ∷ 121 ∷ []) 5) ∷
+      deliver 1 ∷ []) ≡
       line.Logged 0 1 1000 ∷
       line.SentKnow 1 0 1 0 (silent 1 1000 ∷ []) ∷
       line.Horizon 0 0 1000 ∷
       line.Horizon 1 0 1000 ∷ []
   -- A crashed broker has forgotten all, and passes the ask and the answer on
-  pub crashed_broker_asks_on : report net2 (clock 1000 ∷ publishing 1 (n_is 1) ∷ deliver 1 ∷ step.Crash 1 ∷ clock 2100 ∷ waking 2 ∷ deliver 3 ∷ deliver 4 ∷ deliver 5 ∷ deliver 6 ∷ deliver 2 ∷ []) ≡
+  pub crashed_broker_asks_on : report net2 (clock 1000 ∷ publishing 1 (n_is 1) ∷ deliver 1 ∷ step.Crash 1 ∷ clock 2100 ∷
+      waking 2 ∷ deliver 3 ∷ deliver 4 ∷ deliver 5 ∷ deliver 6 ∷ deliver 2 ∷ []) ≡
       line.Logged 0 1 1000 ∷
       line.SentKnow 1 0 1 0 (silent 1 999 ∷ event (n_is 1) 1000 1000 ∷ []) ∷
       line.SentKnow 2 1 2 0 (silent 1 999 ∷ event (n_is 1) 1000 1000 ∷ []) ∷
@@ -189,7 +209,8 @@ pub record WorkedExamples : Type 0 where
       line.Got 0 0 1000 (n_is 1) ∷
       line.Horizon 0 0 1000 ∷ []
   -- After a crash the host remembers how far it told silence, although the clock went back
-  pub mark_outlives_crash : report net0 (clock 5000 ∷ waking 0 ∷ step.Crash 0 ∷ clock 3000 ∷ publishing 1 (n_is 1) ∷ deliver 3 ∷ deliver 1 ∷ []) ≡
+  pub mark_outlives_crash : report net0 (clock 5000 ∷ waking 0 ∷ step.Crash 0 ∷ clock 3000 ∷ publishing 1 (n_is 1) ∷
+      deliver 3 ∷ deliver 1 ∷ []) ≡
       line.Mark 0 5000 ∷
       line.SentKnow 1 0 1 0 (silent 1 5000 ∷ []) ∷
       line.SentExpect 2 0 1 0 5000 ∷
@@ -200,7 +221,8 @@ pub record WorkedExamples : Type 0 where
       line.Got 0 0 5001 (n_is 1) ∷
       line.Horizon 0 0 5001 ∷ []
   -- Two children ask for the same ticks: the broker between asks once and answers both
-  pub two_asks_go_up_once : report net3 (clock 1000 ∷ publishing 1 (n_is 1) ∷ clock 2100 ∷ waking 2 ∷ waking 3 ∷ deliver 2 ∷ deliver 3 ∷ deliver 4 ∷ deliver 5 ∷ deliver 6 ∷ deliver 7 ∷ []) ≡
+  pub two_asks_go_up_once : report net3 (clock 1000 ∷ publishing 1 (n_is 1) ∷ clock 2100 ∷ waking 2 ∷ waking 3 ∷
+      deliver 2 ∷ deliver 3 ∷ deliver 4 ∷ deliver 5 ∷ deliver 6 ∷ deliver 7 ∷ []) ≡
       line.Logged 0 1 1000 ∷
       line.SentKnow 1 0 1 0 (silent 1 999 ∷ event (n_is 1) 1000 1000 ∷ []) ∷
       line.SentWant 2 2 1 0 (asked 1 1100 ∷ []) ∷
@@ -214,7 +236,8 @@ pub record WorkedExamples : Type 0 where
       line.Got 1 0 1000 (n_is 1) ∷
       line.Horizon 1 0 1000 ∷ []
   -- The log is cut where every child has acknowledged, and the host tells the others what to expect
-  pub cut_when_all_have_acknowledged : report net4 (clock 1000 ∷ publishing 1 (n_is 1) ∷ deliver 1 ∷ deliver 2 ∷ waking 1 ∷ deliver 3 ∷ waking 0 ∷ waking 2 ∷ deliver 5 ∷ waking 0 ∷ step.Show ∷ step.Bytes 4 ∷ []) ≡
+  pub cut_when_all_have_acknowledged : report net4 (clock 1000 ∷ publishing 1 (n_is 1) ∷ deliver 1 ∷ deliver 2 ∷
+      waking 1 ∷ deliver 3 ∷ waking 0 ∷ waking 2 ∷ deliver 5 ∷ waking 0 ∷ step.Show ∷ step.Bytes 4 ∷ []) ≡
       line.Logged 0 1 1000 ∷
       line.SentKnow 1 0 1 0 (silent 1 999 ∷ event (n_is 1) 1000 1000 ∷ []) ∷
       line.SentKnow 2 0 2 0 (silent 1 999 ∷ event (n_is 1) 1000 1000 ∷ []) ∷
@@ -230,9 +253,12 @@ pub record WorkedExamples : Type 0 where
       line.LogOf 0 1 1000 1000 0 ∷
       line.Doubt 1 0 1000 ∷
       line.Doubt 2 0 1000 ∷
-      line.BytesOf 4 (0x47 ∷ 0x4b ∷ 1 ∷ 3 ∷ 0 ∷ 0 ∷ 0 ∷ 2 ∷ 0 ∷ 0 ∷ 0 ∷ 1 ∷ 0 ∷ 0 ∷ 0 ∷ 0 ∷ 0 ∷ 0 ∷ 0x03 ∷ 0xe8 ∷ []) ∷ []
+      line.BytesOf 4 (0x47 ∷ 0x4b ∷ 1 ∷ 3 ∷ 0 ∷ 0 ∷ 0 ∷ 2 ∷ 0 ∷ 0 ∷ 0 ∷ 1 ∷ 0 ∷ 0 ∷ 0 ∷ 0 ∷ 0 ∷ 0 ∷ 0x03 ∷ 0xe8 ∷ []) ∷
+      []
   -- After crashes of a whole branch a sweep brings all to its moment
-  pub sweep_settles : report net5 (clock 1000 ∷ publishing 1 (n_is 1) ∷ deliver 1 ∷ deliver 2 ∷ waking 2 ∷ step.Crash 2 ∷ step.Crash 1 ∷ deliver 3 ∷ clock 2100 ∷ waking 2 ∷ deliver 4 ∷ deliver 5 ∷ step.Sweep ∷ step.Show ∷ []) ≡
+  pub sweep_settles : report net5 (clock 1000 ∷ publishing 1 (n_is 1) ∷ deliver 1 ∷ deliver 2 ∷ waking 2 ∷
+      step.Crash 2 ∷ step.Crash 1 ∷ deliver 3 ∷ clock 2100 ∷ waking 2 ∷ deliver 4 ∷ deliver 5 ∷ step.Sweep ∷ step.Show ∷
+      []) ≡
       line.Logged 0 1 1000 ∷
       line.SentKnow 1 0 1 0 (silent 1 1000 ∷ []) ∷
       line.SentKnow 2 1 2 0 (silent 1 1000 ∷ []) ∷
@@ -258,16 +284,20 @@ pub record WorkedExamples : Type 0 where
       line.LogOf 0 1 4801 4801 0 ∷
       line.Doubt 2 0 4801 ∷ []
   -- A repeated number is told as such, and so is a skipped one
-  pub numbers_stand_once : report net0 (clock 1000 ∷ publishing 1 (n_is 1) ∷ publishing 1 (n_is 1) ∷ publishing 5 (n_is 5) ∷ []) ≡
+  pub numbers_stand_once : report net0 (clock 1000 ∷ publishing 1 (n_is 1) ∷ publishing 1 (n_is 1) ∷
+      publishing 5 (n_is 5) ∷ []) ≡
       line.Logged 0 1 1000 ∷
       line.SentKnow 1 0 1 0 (silent 1 999 ∷ event (n_is 1) 1000 1000 ∷ []) ∷
       line.Already 0 1 ∷
       line.Gap 0 5 2 ∷ []
   -- A publish that stops within is kept exactly where the log has its record, whatever image of the disk is left
-  pub stopped_is_kept_or_lost : (call pick : ℕ) → report net0 (stopped_then_again call pick) ≡ (if is_kept 5 call pick then kept_lines else lost_lines)
-  pub kept_picks : (filter (is_kept 5 1) (numbers 256) ≡ []) × (filter (is_kept 5 2) (numbers 256) ≡ []) × (filter (is_kept 5 3) (numbers 256) ≡ 1 ∷ 205 ∷ []) × (filter (is_kept 5 4) (numbers 256) ≡ 1 ∷ 205 ∷ [])
+  pub stopped_is_kept_or_lost : (call pick : ℕ) → report net0 (stopped_then_again call pick)
+      ≡ (if is_kept 5 call pick then kept_lines else lost_lines)
+  pub kept_picks : (filter (is_kept 5 1) (numbers 256) ≡ []) × (filter (is_kept 5 2) (numbers 256) ≡ [])
+      × (filter (is_kept 5 3) (numbers 256) ≡ 1 ∷ 205 ∷ []) × (filter (is_kept 5 4) (numbers 256) ≡ 1 ∷ 205 ∷ [])
   -- What the host says to expect is asked for at once
-  pub expected_is_asked : report net0 (clock 1000 ∷ publishing 1 (n_is 1) ∷ waking 0 ∷ deliver 2 ∷ deliver 3 ∷ deliver 4 ∷ []) ≡
+  pub expected_is_asked : report net0 (clock 1000 ∷ publishing 1 (n_is 1) ∷ waking 0 ∷ deliver 2 ∷ deliver 3 ∷
+      deliver 4 ∷ []) ≡
       line.Logged 0 1 1000 ∷
       line.SentKnow 1 0 1 0 (silent 1 999 ∷ event (n_is 1) 1000 1000 ∷ []) ∷
       line.SentExpect 2 0 1 0 1000 ∷
@@ -276,7 +306,9 @@ pub record WorkedExamples : Type 0 where
       line.Got 0 0 1000 (n_is 1) ∷
       line.Horizon 0 0 1000 ∷ []
   -- A broker that keeps one event asks upstream for the one that it has forgotten
-  pub forgotten_is_asked_on : report net2_forgetful (clock 1000 ∷ publishing 1 (n_is 1) ∷ clock 2000 ∷ publishing 2 (n_is 2) ∷ deliver 1 ∷ deliver 2 ∷ clock 3100 ∷ waking 2 ∷ deliver 5 ∷ deliver 7 ∷ deliver 8 ∷ deliver 6 ∷ deliver 9 ∷ []) ≡
+  pub forgotten_is_asked_on : report net2_forgetful (clock 1000 ∷ publishing 1 (n_is 1) ∷ clock 2000 ∷
+      publishing 2 (n_is 2) ∷ deliver 1 ∷ deliver 2 ∷ clock 3100 ∷ waking 2 ∷ deliver 5 ∷ deliver 7 ∷ deliver 8 ∷
+      deliver 6 ∷ deliver 9 ∷ []) ≡
       line.Logged 0 1 1000 ∷
       line.SentKnow 1 0 1 0 (silent 1 999 ∷ event (n_is 1) 1000 1000 ∷ []) ∷
       line.Logged 0 2 2000 ∷
@@ -293,19 +325,26 @@ pub record WorkedExamples : Type 0 where
       line.Got 0 0 2000 (n_is 2) ∷
       line.Horizon 0 0 2000 ∷ []
   -- Past the last tick nothing is published and no sweep is made
-  pub last_tick : report net0 (clock 4611686018427387904 ∷ publishing 1 (n_is 1) ∷ publishing 2 (n_is 2) ∷ step.Sweep ∷ []) ≡
+  pub last_tick : report net0 (clock 4611686018427387904 ∷ publishing 1 (n_is 1) ∷ publishing 2 (n_is 2) ∷ step.Sweep ∷
+      []) ≡
       line.Logged 0 1 4611686018427387904 ∷
-      line.SentKnow 1 0 1 0 (silent 1 4611686018427387903 ∷ event (n_is 1) 4611686018427387904 4611686018427387904 ∷ []) ∷
+      line.SentKnow 1 0 1 0 (silent 1 4611686018427387903 ∷ event (n_is 1) 4611686018427387904 4611686018427387904 ∷
+      []) ∷
       line.Exhausted 0 2 ∷
       line.RefusedClock 4 4611686018427390605 ∷ []
-  -- A broker with a subscriber does not crash, a frame must have been sent, and a stopped publish at the first disk call is lost
-  pub refusals : report net0 (step.Crash 1 ∷ deliver 9 ∷ step.Publish 0 1 (Some (record { call = 1; pick = 0 })) (n_is 1) ∷ []) ≡
+  -- A broker with a subscriber does not crash, a frame must have been sent, and a stopped publish at the first disk
+  -- call is lost
+  pub refusals : report net0 (step.Crash 1 ∷ deliver 9 ∷ step.Publish 0 1 (Some (record {
+    call = 1;
+    pick = 0;
+  })) (n_is 1) ∷ []) ≡
       line.RefusedHosts 1 1 ∷
       line.RefusedFrame 2 9 0 ∷
       line.Crashed 0 ∷
       line.Lost 0 1 1 ∷ []
   -- Equal events at ticks in a row are one run, and are got one by one
-  pub equal_events_are_one_run : report net0 (clock 1000 ∷ publishing 1 (n_is 7) ∷ publishing 2 (n_is 7) ∷ clock 2100 ∷ waking 1 ∷ deliver 3 ∷ deliver 4 ∷ []) ≡
+  pub equal_events_are_one_run : report net0 (clock 1000 ∷ publishing 1 (n_is 7) ∷ publishing 2 (n_is 7) ∷ clock 2100 ∷
+      waking 1 ∷ deliver 3 ∷ deliver 4 ∷ []) ≡
       line.Logged 0 1 1000 ∷
       line.SentKnow 1 0 1 0 (silent 1 999 ∷ event (n_is 7) 1000 1000 ∷ []) ∷
       line.Logged 0 2 1001 ∷
@@ -315,7 +354,8 @@ pub record WorkedExamples : Type 0 where
       line.Got 0 0 1000 (n_is 7) ∷
       line.Got 0 0 1001 (n_is 7) ∷
       line.Horizon 0 0 1001 ∷ []
-  -- After lost frames, crashes and forgetting, with subscribers at inner brokers, a sweep brings every horizon to its moment and cuts the log there
+  -- After lost frames, crashes and forgetting, with subscribers at inner brokers, a sweep brings every horizon to its
+  -- moment and cuts the log there
   pub sweep_after_losses : filter is_end (report inner_net losses_then_sweep) ≡
       line.Horizon 0 0 3000 ∷ line.Horizon 0 0 5801 ∷ line.Horizon 1 0 3000 ∷ line.Horizon 1 0 5801 ∷ line.Swept 5801 ∷
       line.LogOf 0 3 5801 5801 0 ∷ line.Doubt 1 0 5801 ∷ line.Doubt 2 0 5801 ∷ line.Doubt 4 0 5801 ∷ []
@@ -324,9 +364,13 @@ pub record WorkedExamples : Type 0 where
       line.Horizon 0 0 1001 ∷ line.Horizon 0 0 3702 ∷ line.Swept 3702 ∷
       line.LogOf 0 2 3702 3702 0 ∷ line.Doubt 3 0 3702 ∷ line.Doubt 4 0 3702 ∷ []
   -- In both, each broker with a horizon has heard all up to the sweep's moment and not the tick after it
-  pub sweep_is_heard : (heard_upto inner_net losses_then_sweep 1 ≡ 5801) × (heard_upto inner_net losses_then_sweep 2 ≡ 5801) × (heard_upto inner_net losses_then_sweep 4 ≡ 5801)
-  pub crashes_are_heard : (heard_upto filtered_net crashes_then_sweep 3 ≡ 3702) × (heard_upto filtered_net crashes_then_sweep 4 ≡ 3702)
-  -- After the crashes of the branch, frames 1 to 6 sent: the sweep wakes L, whose questions 7 and 8 go up at once, M with 9, and the host; the mark 10 goes down to M, and as 12 to L; each wakes again and acknowledges, 13 and 14. The Expect 11 is not delivered
+  pub sweep_is_heard : (heard_upto inner_net losses_then_sweep 1 ≡ 5801)
+      × (heard_upto inner_net losses_then_sweep 2 ≡ 5801) × (heard_upto inner_net losses_then_sweep 4 ≡ 5801)
+  pub crashes_are_heard : (heard_upto filtered_net crashes_then_sweep 3 ≡ 3702)
+      × (heard_upto filtered_net crashes_then_sweep 4 ≡ 3702)
+  -- After the crashes of the branch, frames 1 to 6 sent: the sweep wakes L, whose questions 7 and 8 go up at once, M
+  -- with 9, and the host; the mark 10 goes down to M, and as 12 to L; each wakes again and acknowledges, 13 and 14. The
+  -- Expect 11 is not delivered
   pub sweep_in_order : calls_after net5 branch_crashes ≡
       wakes 2 0 ∷ delivers 7 ∷ delivers 8 ∷ wakes 1 0 ∷ delivers 9 ∷ wakes 0 0 ∷
       delivers 10 ∷ delivers 12 ∷

@@ -26,7 +26,8 @@ facts log reached = record { settled = log.settled; said = said_at log.events; r
 
 -- how far a subscriber has come; for a number that is no subscriber, 0
 abbrev pub reached_in : Net → World → ℕ → ℕ → ℕ
-reached_in net w p s = if list_any (λ x. nat_eq x s) (net.subscribers_at (net.at s)) then (view_of w (net.at s) p).horizon else 0
+reached_in net w p s = if list_any (λ x. nat_eq x s) (net.subscribers_at (net.at s))
+    then (view_of w (net.at s) p).horizon else 0
 
 -- what was logged for a publisher so far, and how far each subscriber has come
 abbrev pub facts_of : Net → World → ℕ → Facts
@@ -91,7 +92,8 @@ abbrev pub AllFramesTrue : Net → World → List Frame → Type 0
 AllFramesTrue net w [] = Unit {0}
 AllFramesTrue net w (f ∷ fs) = FrameTrue net w f × AllFramesTrue net w fs
 
--- one view for each broker and publisher and one log for each publisher, each with what holds of it; and all frames sent are true
+-- one view for each broker and publisher and one log for each publisher, each with what holds of it; and all frames
+-- sent are true
 pub record WorldFits (net : Net) (w : World) : Type 0 where
   pub views_long : length w.views ≡ net.brokers
   pub rows_long : (b : ℕ) → b < net.brokers → length (get_or w.views b []) ≡ net.publishers
@@ -104,7 +106,8 @@ pub record WorldFits (net : Net) (w : World) : Type 0 where
 
 -- what the lines so far have told each subscriber
 pub record LinesFit (net : Net) (w : World) (ls : List Report) : Type 0 where
-  pub got : (p s : ℕ) → p < net.publishers → IsSubscriber net s → delivered_events s p ls ≡ due_upto net p s (reached_in net w p s) (log_of w p).events
+  pub got : (p s : ℕ) → p < net.publishers → IsSubscriber net s → delivered_events s p ls
+      ≡ due_upto net p s (reached_in net w p s) (log_of w p).events
   pub horizon : (p s : ℕ) → p < net.publishers → IsSubscriber net s → last_horizon s p 0 ls ≡ reached_in net w p s
   pub rise : (p s : ℕ) → p < net.publishers → IsSubscriber net s → HorizonsRise s p 0 ls
 

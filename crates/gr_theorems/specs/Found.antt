@@ -9,8 +9,8 @@ use Rattle.gr_theorems.specs.Said.{said_at, due_upto}
 use Rattle.gr_theorems.specs.Fits.{LogFits}
 use Rattle.gr_theorems.specs.Spelled.{LogIn}
 
--- A log as it was found, with its ticks and events within their limits. Its events are those past its cut: what was cut is told
--- to nobody any more
+-- A log as it was found, with its ticks and events within their limits. Its events are those past its cut: what was cut
+-- is told to nobody any more
 pub record IsReopened (log : Log) : Type 0 where
   pub fits : LogFits log
   pub past_cut : (t : ℕ) → t ≤ log.cut → said_at log.events t ≡ None
@@ -24,8 +24,10 @@ AreReopened net logs = (p : ℕ) → IsReopened (reopened_log logs p)
 
 -- what a subscriber at the host gets at once: the events past the cut that it wants, and its horizon
 abbrev pub got_at_once : Net → Log → ℕ → ℕ → List Report
-got_at_once net log p s = if nat_lt 0 log.settled then map (got_line s p) (due_upto net p s log.settled log.events) ++ line.Horizon s p log.settled ∷ [] else []
+got_at_once net log p s = if nat_lt 0 log.settled then map (got_line s p) (due_upto net p s log.settled log.events)
+    ++ line.Horizon s p log.settled ∷ [] else []
 
 -- of a publisher: its log, if that is not empty, and what each subscriber at its host gets
 abbrev pub told_at_opening : Net → List Log → ℕ → List Report
-told_at_opening net logs p = reopened_line (reopened_log logs p) p ++ flat_map (got_at_once net (reopened_log logs p) p) (net.subscribers_at (net.host p))
+told_at_opening net logs p = reopened_line (reopened_log logs p) p
+    ++ flat_map (got_at_once net (reopened_log logs p) p) (net.subscribers_at (net.host p))

@@ -55,7 +55,8 @@ pub record DifferInCut (w u : World) : Type 0 where
 -- the world after a journal that comes to all brokers over these logs
 abbrev pub served_on : Net → List Log → List Line → List Arrival → World
 served_on net logs steps arrivals =
-    arrived net (numbers net.brokers) (opened_over net logs).world (publishes_of net (numbers net.brokers) steps) arrivals
+    arrived net (numbers net.brokers) (opened_over net logs).world
+    (publishes_of net (numbers net.brokers) steps) arrivals
 
 -- a run over lanes
 pub record IsRunOverLanes (net : Net) (lanes : List (List Record)) (steps : List Line) : Type 0 where
@@ -63,7 +64,8 @@ pub record IsRunOverLanes (net : Net) (lanes : List (List Record)) (steps : List
   pub follow : AllFollow lanes
 
 -- a server's run over lanes, within the limits of frames, whose journal is honest
-pub record IsServedOverLanes (net : Net) (lanes : List (List Record)) (steps : List Line) (arrivals : List Arrival) : Type 0 where
+pub record IsServedOverLanes (net : Net) (lanes : List (List Record)) (steps : List Line)
+    (arrivals : List Arrival) : Type 0 where
   pub over : IsRunOverLanes net lanes steps
   pub brokers : net.brokers ≤ 2 ^ 16
   pub publishers : net.publishers ≤ 2 ^ 16
@@ -80,7 +82,8 @@ HoldsOverLanes net lanes steps =
 -- A server over lanes: so does its headline
 abbrev pub HoldsServedLanes : Net → List (List Record) → List Line → List Arrival → Type 0
 HoldsServedLanes net lanes steps arrivals =
-    HeadlineServed net (found_logs lanes) steps arrivals (served net (numbers net.brokers) (whole_logs lanes) steps arrivals)
+    HeadlineServed net (found_logs lanes) steps arrivals
+    (served net (numbers net.brokers) (whole_logs lanes) steps arrivals)
 
 -- Whatever comes, events that were cut change nothing: neither the lines, nor the worlds but for these events
 pub record CutEventsSilent (net : Net) (lanes : List (List Record)) : Type 0 where

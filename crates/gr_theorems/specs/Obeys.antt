@@ -1,5 +1,6 @@
 -- The calls of each step in their order: each obeys its rule, and the step's lines are theirs and its own
-use Rattle.std.specs.Prelude.{◌≡◌, ℕ, suc, max, Bool, true, false, ◌&&◌, ◌||◌, nat_eq, nat_le, if◌then◌else◌, List, [], ◌∷◌, ◌++◌, length, map, filter, set, Option, Some, None}
+use Rattle.std.specs.Prelude.{◌≡◌, ℕ, suc, max, Bool, true, false, ◌&&◌, ◌||◌, nat_eq, nat_le, if◌then◌else◌, List, []}
+use Rattle.std.specs.Prelude.{◌∷◌, ◌++◌, length, map, filter, set, Option, Some, None}
 use Rattle.gr_event.specs.declared.event.Event.{Event}
 use Rattle.gr_frame.specs.declared.Frame.{Frame}
 use Rattle.gr_sched.specs.declared.step.Step.TheVariants as step
@@ -8,7 +9,8 @@ use Rattle.gr_model.specs.declared.report.Report.{Report}
 use Rattle.gr_model.specs.declared.report.Report.TheVariants as line
 use Rattle.gr_model.specs.Net.{Net, not_empty, numbers}
 use Rattle.gr_model.specs.Broker.{View, Log, Outcome, max_tick, started}
-use Rattle.gr_model.specs.World.{World, Transition, view_of, log_of, with_view, sent_lines, in_turn, publish_now, frame_at, next, start}
+use Rattle.gr_model.specs.World.{World, Transition, view_of, log_of, with_view, sent_lines, in_turn, publish_now}
+use Rattle.gr_model.specs.World.{frame_at, next, start}
 use Rattle.gr_model.specs.Headline.{says_kept}
 use Rattle.gr_theorems.specs.Settles.{Call, wakes, delivers, made, at_sweep, sweep_calls, is_accepted}
 use Rattle.gr_theorems.specs.Rules.{Publishes, Wakes, Comes}
@@ -42,9 +44,12 @@ pub record Obeys (net : Net) (w : World) (a : Action) (b p : ℕ) (Rule : View �
 
 -- each call by its rule; the frame that is delivered is the one of that number
 abbrev pub CallObeys : Net → World → Action → Type 0
-CallObeys net w (publishes p number e) = Obeys net w (publishes p number e) (net.host p) p (Publishes net p (net.host p) w.clock number e)
+CallObeys net w (publishes p number e) =
+    Obeys net w (publishes p number e) (net.host p) p (Publishes net p (net.host p) w.clock number e)
 CallObeys net w (makes (wakes b p)) = Obeys net w (makes (wakes b p)) b p (Wakes net p b w.clock)
-CallObeys net w (makes (delivers k)) = (f : Frame) × (frame_at w k ≡ Some f) × Obeys net w (makes (delivers k)) f.head.to f.head.publisher (Comes net f.head.publisher f.head.from f.head.to w.clock f.body)
+CallObeys net w (makes (delivers k)) = (f : Frame) × (frame_at w k ≡ Some f)
+    × Obeys net w (makes (delivers k)) f.head.to f.head.publisher
+    (Comes net f.head.publisher f.head.from f.head.to w.clock f.body)
 
 -- and so does each of a list, in the world that the calls before it leave
 abbrev pub AllObey : Net → List Action → World → Type 0
@@ -53,15 +58,21 @@ AllObey net (c ∷ cs) w = CallObeys net w c × AllObey net cs (done net w c).wo
 
 -- the next number of a publisher, whose tick is not past the last one
 abbrev pub is_next_of : World → ℕ → ℕ → Bool
-is_next_of w p number = nat_eq number (suc (log_of w p).last) && nat_le (max (suc (log_of w p).settled) w.clock) max_tick
+is_next_of w p number = nat_eq number (suc (log_of w p).last)
+    && nat_le (max (suc (log_of w p).settled) w.clock) max_tick
 
--- The calls of a step. A publish is one call; but where it is stopped, none if its host has a subscriber, and none if it would be
--- logged, since then the host crashes within. A wake is one call for each publisher. A frame that was sent is delivered by one
--- call. A sweep that is not refused has those of `sweep_calls`. The other steps have none.
+-- The calls of a step. A publish is one call; but where it is stopped, none if its host has a subscriber, and none if
+-- it would be logged, since then the host crashes within. A wake is one call for each publisher. A frame that was sent
+-- is delivered by one call. A sweep that is not refused has those of `sweep_calls`. The other steps have none.
 unfoldable pub calls_of : Net → World → Line → List Action
 calls_of net w l =
     elim l.step [
-      | step.Publish p number stop e ↦ elim stop [ None ↦ publishes p number e ∷ [] | Some s ↦ if not_empty (net.subscribers_at (net.host p)) || is_next_of w p number then [] else publishes p number e ∷ [] ]
+      | step.Publish p number stop e ↦ elim stop [
+        | None ↦ publishes p number e ∷ []
+        | Some s ↦
+            if not_empty (net.subscribers_at (net.host p)) || is_next_of w p number then []
+            else publishes p number e ∷ []
+      ]
       | step.Wake b ↦ map (λ p. makes (wakes b p)) (numbers net.publishers)
       | step.Deliver k ↦ elim (frame_at w k) [ None ↦ [] | Some f ↦ makes (delivers k) ∷ [] ]
       | step.Sweep ↦ if is_accepted net w then map makes (sweep_calls net w) else []
@@ -72,7 +83,8 @@ calls_of net w l =
 unfoldable pub called_in : Net → World → Line → World
 called_in net w l = elim l.step [ step.Sweep ↦ if is_accepted net w then at_sweep net w else w | _ ↦ w ]
 
--- the line is of no call: a refusal or bytes, a crash with what was kept, lost and opened, the end of a sweep, or a show
+-- the line is of no call: a refusal or bytes, a crash with what was kept, lost and opened, the end of a sweep, or a
+-- show
 abbrev pub is_own : Report → Bool
 is_own (line.Crashed b) = true
 is_own (line.Kept p n t) = true
@@ -111,9 +123,11 @@ pub record StepObeys (net : Net) (w : World) (l : Line) (ls : List Report) : Typ
   pub own_only : filter is_own own ≡ own
   -- no frame is sent but by its calls
   pub frames : (next net w l).world.frames ≡ (called net w l).world.frames
-  -- where no broker crashes no view changes but by its calls; a broker that crashes starts again with what the logs then say
+  -- where no broker crashes no view changes but by its calls; a broker that crashes starts again with what the logs
+  -- then say
   pub views : crashed_in own ≡ None → (next net w l).world.views ≡ (called net w l).world.views
-  pub restarts : (b : ℕ) → crashed_in own ≡ Some b → (next net w l).world.views ≡ set w.views b (map (λ p. started net p b (log_of (next net w l).world p)) (numbers net.publishers))
+  pub restarts : (b : ℕ) → crashed_in own ≡ Some b → (next net w l).world.views
+      ≡ set w.views b (map (λ p. started net p b (log_of (next net w l).world p)) (numbers net.publishers))
   -- no log changes but by its calls, and by a stopped publish that was kept
   pub logs : says_kept own ≡ false → (next net w l).world.logs ≡ (called net w l).world.logs
 

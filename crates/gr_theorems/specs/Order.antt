@@ -12,12 +12,14 @@ use Rattle.gr_model.specs.Tree.{IsSubscriber}
 use Rattle.gr_model.specs.World.{start, run_all, sent_lines}
 use Rattle.gr_theorems.specs.Fits.{history_of}
 
--- discarded only after delivery, for one publisher: cuts rise strictly, none is past what is settled, and each event up to a cut was got before it by each subscriber that wants it
+-- discarded only after delivery, for one publisher: cuts rise strictly, none is past what is settled, and each event up
+-- to a cut was got before it by each subscriber that wants it
 pub record CutsInOrder (net : Net) (h : History) (p : ℕ) : Type 0 where
   pub cuts : (t : ℕ) (xs ys : List Report) → h.lines ≡ xs ++ line.Cut p t ∷ ys → last_cut p (reopened_cut h p) xs < t
   pub cut_settled : (t : ℕ) (xs ys : List Report) → h.lines ≡ xs ++ line.Cut p t ∷ ys → t ≤ (record_of h p).settled
   pub cut_got : (t : ℕ) (xs ys : List Report) → h.lines ≡ xs ++ line.Cut p t ∷ ys →
-      (s u : ℕ) (e : Event) → Contains (record_of h p).events (u, e) → u ≤ t → IsSubscriber net s → net.wants p s u e ≡ true → Contains xs (line.Got s p u e)
+      (s u : ℕ) (e : Event) → Contains (record_of h p).events (u, e) → u ≤ t → IsSubscriber net s → net.wants p s u e
+      ≡ true → Contains xs (line.Got s p u e)
 
 -- a sweep
 abbrev pub is_sweep : Step → Bool
@@ -26,4 +28,5 @@ is_sweep _ = false
 
 -- frames sent: the sent lines are numbered 1, 2, 3 and so on, and say the frames that the calls sent, in their order
 abbrev pub FramesSent : Net → List Line → Type 0
-FramesSent net steps = filter is_sent (history_of net steps).lines ≡ sent_lines 1 (run_all net (start net) steps).world.frames
+FramesSent net steps = filter is_sent (history_of net steps).lines
+    ≡ sent_lines 1 (run_all net (start net) steps).world.frames

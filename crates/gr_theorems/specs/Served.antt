@@ -1,5 +1,6 @@
 -- The headline of a run over a journal: an arrival is a few steps of a schedule, and of those the headline holds
-use Rattle.std.specs.Prelude.{◌≡◌, ◌⊎◌, ℕ, suc, ◌<◌, min, Bool, true, false, ◌&&◌, nat_eq, bytes_eq, if◌then◌else◌, List, [], ◌∷◌, ◌++◌, map, filter, Option, Some, None, Result, Ok, Err, flat_map, get_or}
+use Rattle.std.specs.Prelude.{◌≡◌, ◌⊎◌, ℕ, suc, ◌<◌, min, Bool, true, false, ◌&&◌, nat_eq, bytes_eq, if◌then◌else◌}
+use Rattle.std.specs.Prelude.{List, [], ◌∷◌, ◌++◌, map, filter, Option, Some, None, Result, Ok, Err, flat_map, get_or}
 use Rattle.gr_frame.specs.declared.Frame.{Frame}
 use Rattle.gr_frame.specs.declared.fault.FrameFault.{FrameFault}
 use Rattle.gr_frame.specs.Bytes.{frame_bytes}
@@ -21,8 +22,10 @@ use Rattle.gr_theorems.specs.Found.{told_at_opening}
 use Rattle.gr_model.specs.World.{World, Transition, sent_lines, run_from, run_all}
 use Rattle.gr_theorems.specs.Obeys.{StepsObey}
 use Rattle.gr_theorems.specs.ByRules.{RunByRules}
-use Rattle.gr_model.specs.Arrivals.{Arrival, datagram, quiet, Publish, publishes_of, left_after, fault_number, publisher_of, submitted_in, comes}
-use Rattle.gr_model.specs.Headline.{History, history, Holds_from, is_record_line, is_doubt_line, is_sent, sent_number, sent_count}
+use Rattle.gr_model.specs.Arrivals.{Arrival, datagram, quiet, Publish, publishes_of, left_after, fault_number}
+use Rattle.gr_model.specs.Arrivals.{publisher_of, submitted_in, comes}
+use Rattle.gr_model.specs.Headline.{History, history, Holds_from, is_record_line, is_doubt_line, is_sent, sent_number}
+use Rattle.gr_model.specs.Headline.{sent_count}
 use Rattle.gr_theorems.specs.Replies.{frame_of_line, is_reply}
 
 -- what came is bytes
@@ -34,17 +37,22 @@ IsOfBytes (quiet moment) = Unit {0}
 
 -- the line says that a frame with these bytes was sent to the broker
 abbrev pub tells_bytes : ℕ → List ℕ → Report → Bool
-tells_bytes b bytes l = is_sent l && elim (frame_of_line l) [ Some f ↦ nat_eq f.head.to b && bytes_eq (frame_bytes f) bytes | None ↦ false ]
+tells_bytes b bytes l = is_sent l && elim (frame_of_line l) [
+  | Some f ↦ nat_eq f.head.to b
+      && bytes_eq (frame_bytes f) bytes
+  | None ↦ false
+]
 
 -- the number of the first frame of these bytes that was sent to the broker
 abbrev pub number_of_bytes : ℕ → List ℕ → List Report → Option ℕ
 number_of_bytes b bytes [] = None
 number_of_bytes b bytes (l ∷ ls) = if tells_bytes b bytes l then Some (sent_number l) else number_of_bytes b bytes ls
 
--- a datagram that came is no frame, as notes are none, or has the bytes of a frame that was sent to the same broker before; it
--- may come again
+-- a datagram that came is no frame, as notes are none, or has the bytes of a frame that was sent to the same broker
+-- before; it may come again
 abbrev pub IsHonestAt : List Report → Arrival → Type 0
-IsHonestAt lines (datagram b bytes moment) = ((fault : FrameFault) × (frame_decoded bytes ≡ Err fault)) ⊎ ((k : ℕ) × (number_of_bytes b bytes lines ≡ Some k))
+IsHonestAt lines (datagram b bytes moment) = ((fault : FrameFault) × (frame_decoded bytes ≡ Err fault))
+    ⊎ ((k : ℕ) × (number_of_bytes b bytes lines ≡ Some k))
 IsHonestAt lines (quiet moment) = Unit {0}
 
 -- each arrival, after the lines told so far; the reports are those of the arrivals
@@ -88,12 +96,15 @@ datagram_step net lines b bytes =
       | false ↦ if is_frame (frame_decoded bytes) then delivery_step (number_of_bytes b bytes lines) else []
     ]
 
--- The clock moves to the moment of the arrival. A note is the publish that it submits, a datagram with the bytes of a frame that
--- was sent is the delivery of that frame, and a quiet moment is a publish, where one is left, and then a wake of each broker in
--- order.
+-- The clock moves to the moment of the arrival. A note is the publish that it submits, a datagram with the bytes of a
+-- frame that was sent is the delivery of that frame, and a quiet moment is a publish, where one is left, and then a
+-- wake of each broker in order.
 abbrev pub steps_of_arrival : Net → List Report → List Publish → Arrival → List Line
-steps_of_arrival net lines left (datagram b bytes moment) = as_line (step.Clock (min moment max_tick)) ∷ datagram_step net lines b bytes
-steps_of_arrival net lines left (quiet moment) = as_line (step.Clock (min moment max_tick)) ∷ (publish_step left ++ map (λ b. as_line (step.Wake b)) (numbers net.brokers))
+steps_of_arrival net lines left (datagram b bytes moment) =
+    as_line (step.Clock (min moment max_tick)) ∷ datagram_step net lines b bytes
+steps_of_arrival net lines left (quiet moment) =
+    as_line (step.Clock (min moment max_tick)) ∷ (publish_step left
+    ++ map (λ b. as_line (step.Wake b)) (numbers net.brokers))
 
 -- the line of a datagram that is no frame; it belongs to none of the steps
 abbrev pub dropped_as : ℕ → Result Frame FrameFault → List Report
@@ -133,25 +144,26 @@ is_dropped (line.DroppedBadNote b fault at) = true
 is_dropped (line.DroppedStrayNote b p) = true
 is_dropped _ = false
 
--- An arrival leaves the world of its steps and tells their lines, and then that of a datagram that is dropped. Each call of the
--- steps obeys its rule, and all that the steps leave and tell is by the rules
+-- An arrival leaves the world of its steps and tells their lines, and then that of a datagram that is dropped. Each
+-- call of the steps obeys its rule, and all that the steps leave and tell is by the rules
 pub record DoesSteps (net : Net) (w : World) (left : List Publish) (a : Arrival) (steps : List Line) : Type 0 where
   pub world : (comes net (numbers net.brokers) w left a).world ≡ (run_all net w steps).world
   pub lines : (comes net (numbers net.brokers) w left a).lines ≡ (run_all net w steps).lines ++ dropped_line net a
   pub obey : StepsObey net w steps (run_from net w steps)
   pub by_rules : RunByRules net w steps (run_from net w steps) (run_all net w steps).world
 
--- So does each, in the world that those before it leave and after the lines told so far. The lines of frames tell all frames of
--- that world, numbered 1, 2, 3 and so on
+-- So does each, in the world that those before it leave and after the lines told so far. The lines of frames tell all
+-- frames of that world, numbered 1, 2, 3 and so on
 abbrev pub AllDoSteps : Net → World → List Report → List Publish → List Arrival → Type 0
 AllDoSteps net w lines left [] = filter is_sent lines ≡ sent_lines 1 w.frames
 AllDoSteps net w lines left (a ∷ arrivals) =
     (filter is_sent lines ≡ sent_lines 1 w.frames)
     × DoesSteps net w left a (steps_of_arrival net lines left a)
-    × (let t : Transition = comes net (numbers net.brokers) w left a in AllDoSteps net t.world (lines ++ t.lines) (left_after left a) arrivals)
+    × (let t : Transition = comes net (numbers net.brokers) w left a in
+    AllDoSteps net t.world (lines ++ t.lines) (left_after left a) arrivals)
 
--- Of an arrival's lines as a whole: none drops a datagram but one that is no frame and submits nothing, none refuses or shows bytes,
--- and frames are numbered on from those sent before
+-- Of an arrival's lines as a whole: none drops a datagram but one that is no frame and submits nothing, none refuses or
+-- shows bytes, and frames are numbered on from those sent before
 pub record ArrivalTold (net : Net) (h : History) (a : Arrival) (ls : List Report) : Type 0 where
   pub dropped : filter is_dropped ls ≡ dropped_line net a
   pub unreplied : filter is_reply ls ≡ []
@@ -182,9 +194,9 @@ HoldsServed net h left (a ∷ arrivals) [] = ⊥
 HoldsServed net h left (a ∷ arrivals) (r ∷ rs) =
     ArrivalHolds net h left a r (λ g. HoldsServed net g (left_after left a) arrivals rs)
 
--- The headline of a run of all brokers over a journal. The opening tells each log that is not empty and what the subscribers at its
--- host get at once, and nothing else; then all of the above. The record begins with what the logs say, and each subscriber starts
--- at the cut that was found.
+-- The headline of a run of all brokers over a journal. The opening tells each log that is not empty and what the
+-- subscribers at its host get at once, and nothing else; then all of the above. The record begins with what the logs
+-- say, and each subscriber starts at the cut that was found.
 abbrev pub HeadlineServed : Net → List Log → List Line → List Arrival → List (List Report) → Type 0
 HeadlineServed net logs steps arrivals [] = ⊥
 HeadlineServed net logs steps arrivals (r ∷ rs) =

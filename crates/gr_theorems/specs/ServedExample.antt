@@ -21,7 +21,8 @@ publishes_price = record { number = 1; step = step.Publish 0 1 None (int_event p
 
 -- the frame with silence up to 999 and the event at 1000
 unfoldable pub first_frame : Frame
-first_frame = record { head = head 0 1 0; body = body.Knowledge (silent 1 999 ∷ event (int_event price 82) 1000 1000 ∷ []) }
+first_frame =
+    record { head = head 0 1 0; body = body.Knowledge (silent 1 999 ∷ event (int_event price 82) 1000 1000 ∷ []) }
 
 -- a quiet moment; then the first frame arrives; then a byte that is no frame
 unfoldable pub three_arrivals : List Arrival
@@ -35,8 +36,8 @@ old_log = record { last = 2; settled = 30; cut = 10; events = (20, n_is 2) ∷ [
 abbrev pub one_broker : Net
 one_broker = tree (None ∷ []) (0 ∷ []) all_events 1024
 
--- datagrams of a journal that is not honest: no bytes, another version, a frame at its sender, a tick to expect from a child, a
--- publisher that there is not, an event alone, and silence where the event was
+-- datagrams of a journal that is not honest: no bytes, another version, a frame at its sender, a tick to expect from a
+-- child, a publisher that there is not, an event alone, and silence where the event was
 unfoldable pub false_datagrams : List Arrival
 false_datagrams =
     datagram 1 [] 1000 ∷
@@ -44,15 +45,19 @@ false_datagrams =
     datagram 0 (frame_bytes first_frame) 1000 ∷
     datagram 0 (frame_bytes (record { head = head 1 0 0; body = body.Expect 5 })) 1000 ∷
     datagram 1 (frame_bytes (record { head = head 0 1 7; body = body.Expect 5 })) 1000 ∷
-    datagram 1 (frame_bytes (record { head = head 0 1 0; body = body.Knowledge (event (int_event price 82) 2000 2000 ∷ []) })) 1000 ∷
+    datagram 1 (frame_bytes (record {
+      head = head 0 1 0;
+      body = body.Knowledge (event (int_event price 82) 2000 2000 ∷ []);
+    })) 1000 ∷
     datagram 1 (frame_bytes (record { head = head 0 1 0; body = body.Knowledge (silent 2000 2000 ∷ []) })) 1000 ∷ []
 
 pub record ServedExamples : Type 0 where
-  -- The event is published at the quiet moment, which also wakes the brokers; the datagram brings it to the subscriber; the last
-  -- datagram is dropped
+  -- The event is published at the quiet moment, which also wakes the brokers; the datagram brings it to the subscriber;
+  -- the last datagram is dropped
   pub a_run : served net1 (0 ∷ 1 ∷ []) [] publishes_price three_arrivals ≡
       [] ∷
-      (line.Logged 0 1 1000 ∷ line.SentKnow 1 0 1 0 (silent 1 999 ∷ event (int_event price 82) 1000 1000 ∷ []) ∷ line.SentExpect 2 0 1 0 1000 ∷ []) ∷
+      (line.Logged 0 1 1000 ∷ line.SentKnow 1 0 1 0 (silent 1 999 ∷ event (int_event price 82) 1000 1000 ∷ []) ∷
+      line.SentExpect 2 0 1 0 1000 ∷ []) ∷
       (line.Got 0 0 1000 (int_event price 82) ∷ line.Horizon 0 0 1000 ∷ []) ∷
       (line.DroppedNotFrame 1 1 1 ∷ []) ∷
       (line.Frames 2 ∷ line.LogOf 0 1 1000 0 1 ∷ line.Doubt 1 0 1000 ∷ []) ∷ []
@@ -70,11 +75,14 @@ pub record ServedExamples : Type 0 where
       (line.DroppedClash 1 2000 (D (int_event price 82)) S ∷ []) ∷
       (line.Frames 0 ∷ line.LogOf 0 0 0 0 0 ∷ line.Doubt 1 0 0 ∷ []) ∷ []
   -- Where only B is hosted, P is not published, and only what B has is shown
-  pub one_is_hosted : served net1 (1 ∷ []) [] publishes_price (quiet 1000 ∷ []) ≡ [] ∷ ([] ∷ ((line.Frames 0 ∷ line.Doubt 1 0 0 ∷ []) ∷ []))
+  pub one_is_hosted : served net1 (1 ∷ []) [] publishes_price (quiet 1000 ∷ [])
+      ≡ [] ∷ ([] ∷ ((line.Frames 0 ∷ line.Doubt 1 0 0 ∷ []) ∷ []))
   -- A moment past the last tick is taken as the last tick
   pub past_the_last_tick : served net1 (0 ∷ []) [] publishes_price (quiet (2 ^ 63) ∷ []) ≡
       [] ∷
-      (line.Logged 0 1 (2 ^ 62) ∷ line.SentKnow 1 0 1 0 (silent 1 (2 ^ 62 - 1) ∷ event (int_event price 82) (2 ^ 62) (2 ^ 62) ∷ []) ∷ line.SentExpect 2 0 1 0 (2 ^ 62) ∷ []) ∷
+      (line.Logged 0 1 (2 ^ 62) ∷ line.SentKnow 1 0 1 0 (silent 1 (2 ^ 62 - 1) ∷
+      event (int_event price 82) (2 ^ 62) (2 ^ 62) ∷ []) ∷ line.SentExpect 2 0 1 0 (2 ^ 62) ∷ []) ∷
       (line.Frames 2 ∷ line.LogOf 0 1 (2 ^ 62) 0 1 ∷ []) ∷ []
   -- Where all is at one broker, the subscriber gets what the log has past its cut, at once
-  pub at_one_broker : (opening one_broker (0 ∷ []) (old_log ∷ [])).lines ≡ line.Opened 0 2 30 10 ∷ line.Got 0 0 20 (n_is 2) ∷ line.Horizon 0 0 30 ∷ []
+  pub at_one_broker : (opening one_broker (0 ∷ []) (old_log ∷ [])).lines
+      ≡ line.Opened 0 2 30 10 ∷ line.Got 0 0 20 (n_is 2) ∷ line.Horizon 0 0 30 ∷ []

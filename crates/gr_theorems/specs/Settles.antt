@@ -1,11 +1,14 @@
 -- The calls of a sweep in their order, and what it says that a sweep settles everything
-use Rattle.std.specs.Prelude.{◌≡◌, ℕ, zero, suc, ◌+◌, ◌≤◌, ◌<◌, max, Bool, true, false, nat_eq, if◌then◌else◌, List, [], ◌∷◌, ◌++◌, length, map, filter, nat_le, Some, None, Contains}
+use Rattle.std.specs.Prelude.{◌≡◌, ℕ, zero, suc, ◌+◌, ◌≤◌, ◌<◌, max, Bool, true, false, nat_eq, if◌then◌else◌, List, []}
+use Rattle.std.specs.Prelude.{◌∷◌, ◌++◌, length, map, filter, nat_le, Some, None, Contains}
 use Rattle.gr_frame.specs.declared.Body.TheVariants as body
 use Rattle.gr_frame.specs.declared.Frame.{Frame}
 use Rattle.gr_model.specs.declared.report.Report.TheVariants as line
 use Rattle.gr_model.specs.Net.{Net, keeps_horizon, numbers}
 use Rattle.gr_model.specs.Broker.{max_tick}
-use Rattle.gr_model.specs.World.{World, Transition, view_of, log_of, unchanged, followed_by, in_turn, wake_for, deliver_frame, frame_at, frames_past, is_want, is_know_to, inwards, outwards, sweep_moment, sweep}
+use Rattle.gr_model.specs.World.{World, Transition, view_of, log_of, unchanged, followed_by, in_turn, wake_for}
+use Rattle.gr_model.specs.World.{deliver_frame, frame_at, frames_past, is_want, is_know_to, inwards, outwards}
+use Rattle.gr_model.specs.World.{sweep_moment, sweep}
 use Rattle.gr_model.specs.Headline.{History, record_of, last_cut, last_horizon, delivered_events}
 
 -- a call within a sweep: a broker is woken for a publisher, or the frame of a number reaches its receiver
@@ -49,11 +52,13 @@ calls_in_turn net f (x ∷ xs) w = f w x ++ calls_in_turn net f xs (all_made net
 -- the frames of these numbers, each followed by the upward frames that its delivery sends, at most so deep
 unfoldable pub up_calls : Net → ℕ → List ℕ → World → List Call
 up_calls net zero ks w = []
-up_calls net (suc depth) ks w = calls_in_turn net (λ u k. let x = (made net u (delivers k)).world in delivers k ∷ up_calls net depth (sent_past is_want (length u.frames) x) x) ks w
+up_calls net (suc depth) ks w = calls_in_turn net (λ u k. let x = (made net u (delivers k)).world in
+    delivers k ∷ up_calls net depth (sent_past is_want (length u.frames) x) x) ks w
 
 -- a broker is woken, followed by the upward frames that this sends
 unfoldable pub wake_calls : Net → ℕ → World → ℕ → List Call
-wake_calls net p w b = let x = (wake_for net w b p).world in wakes b p ∷ up_calls net net.brokers (sent_past is_want (length w.frames) x) x
+wake_calls net p w b = let x = (wake_for net w b p).world in
+    wakes b p ∷ up_calls net net.brokers (sent_past is_want (length w.frames) x) x
 
 -- the knowledge sent to a broker past the first so many frames
 unfoldable pub down_calls : Net → ℕ → ℕ → World → ℕ → List Call
@@ -70,7 +75,13 @@ sweep_calls_for net w p =
 
 -- the world at the moment of its sweep
 abbrev pub at_sweep : Net → World → World
-at_sweep net w = record { clock = sweep_moment net w; most = max (sweep_moment net w) w.most; frames = w.frames; views = w.views; logs = w.logs }
+at_sweep net w = record {
+  clock = sweep_moment net w;
+  most = max (sweep_moment net w) w.most;
+  frames = w.frames;
+  views = w.views;
+  logs = w.logs;
+}
 
 -- the calls of a sweep
 unfoldable pub sweep_calls : Net → World → List Call
@@ -94,20 +105,27 @@ is_expect f = elim f.body [ body.Expect tick ↦ true | _ ↦ false ]
 -- a sweep settles everything: with M its moment, which is at least 1
 pub record SweepSettles (net : Net) (w : World) (k : ℕ) : Type 0 where
   -- every kept horizon, what is settled of every log, and every cut are M
-  pub horizons : (p b : ℕ) → p < net.publishers → b < net.brokers → keeps_horizon net p b ≡ true → (view_of (sweep net w k).world b p).horizon ≡ sweep_moment net w
+  pub horizons : (p b : ℕ) → p < net.publishers → b < net.brokers → keeps_horizon net p b ≡ true
+      → (view_of (sweep net w k).world b p).horizon ≡ sweep_moment net w
   pub settled : (p : ℕ) → p < net.publishers → (log_of (sweep net w k).world p).settled ≡ sweep_moment net w
   pub cut : (p : ℕ) → p < net.publishers → (log_of (sweep net w k).world p).cut ≡ sweep_moment net w
-  -- it is these calls, each frame is there when it is delivered, and each one that the sweep sends but an Expect is delivered by exactly one of them
-  pub calls : sweep net w k ≡ followed_by (all_made net (sweep_calls net w) (at_sweep net w)) (λ x. unchanged x (line.Swept (sweep_moment net w) ∷ []))
+  -- it is these calls, each frame is there when it is delivered, and each one that the sweep sends but an Expect is
+  -- delivered by exactly one of them
+  pub calls : sweep net w k ≡ followed_by (all_made net (sweep_calls net w) (at_sweep net w)) (λ x.
+      unchanged x (line.Swept (sweep_moment net w) ∷ []))
   pub sent : EachSent net (sweep_calls net w) (at_sweep net w)
-  pub once : (n : ℕ) (f : Frame) → length w.frames < n → frame_at (sweep net w k).world n ≡ Some f → is_expect f ≡ false → times n (delivered (sweep_calls net w)) ≡ 1
+  pub once : (n : ℕ) (f : Frame) → length w.frames < n → frame_at (sweep net w k).world n ≡ Some f → is_expect f ≡ false
+      → times n (delivered (sweep_calls net w)) ≡ 1
   -- nothing else is delivered in it: no frame of before, and no Expect
   pub none_before : (n : ℕ) → n ≤ length w.frames → times n (delivered (sweep_calls net w)) ≡ 0
-  pub no_expect : (n : ℕ) (f : Frame) → frame_at (sweep net w k).world n ≡ Some f → is_expect f ≡ true → times n (delivered (sweep_calls net w)) ≡ 0
-  -- its lines hold the mark of each publisher at M, the last cut line of each publisher is at M, and the last horizon line of each subscriber and publisher too
+  pub no_expect : (n : ℕ) (f : Frame) → frame_at (sweep net w k).world n ≡ Some f → is_expect f ≡ true
+      → times n (delivered (sweep_calls net w)) ≡ 0
+  -- its lines hold the mark of each publisher at M, the last cut line of each publisher is at M, and the last horizon
+  -- line of each subscriber and publisher too
   pub marked : (p : ℕ) → p < net.publishers → Contains (sweep net w k).lines (line.Mark p (sweep_moment net w))
   pub last_cuts : (p : ℕ) → p < net.publishers → last_cut p 0 (sweep net w k).lines ≡ sweep_moment net w
-  pub last_horizons : (s p : ℕ) → s < net.subscribers → p < net.publishers → last_horizon s p 0 (sweep net w k).lines ≡ sweep_moment net w
+  pub last_horizons : (s p : ℕ) → s < net.subscribers → p < net.publishers → last_horizon s p 0 (sweep net w k).lines
+      ≡ sweep_moment net w
 
 -- afterwards each subscriber has got exactly what is recorded that it wants; h is the history before the sweep
 abbrev pub AllGot : Net → History → World → ℕ → Type 0

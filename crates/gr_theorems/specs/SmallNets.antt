@@ -1,5 +1,6 @@
 -- The topologies of the worked examples, each with one publisher P at broker 0
-use Rattle.std.specs.Prelude.{ℕ, zero, suc, Bool, true, false, not, ◌&&◌, ◌||◌, nat_eq, List, [], ◌∷◌, get_or, length, filter, if◌then◌else◌, int_lt, bytes_eq, pos, Option, Some, None}
+use Rattle.std.specs.Prelude.{ℕ, zero, suc, Bool, true, false, not, ◌&&◌, ◌||◌, nat_eq, List, [], ◌∷◌, get_or, length}
+use Rattle.std.specs.Prelude.{filter, if◌then◌else◌, int_lt, bytes_eq, pos, Option, Some, None}
 use Rattle.gr_event.specs.declared.value.Value.TheVariants as value
 use Rattle.gr_event.specs.declared.event.Event.{Event}
 use Rattle.gr_model.specs.Net.{Net, numbers}
@@ -59,7 +60,8 @@ over_80 (p ∷ ps) = (bytes_eq p.0 price && elim p.1 [ value.Int v ↦ int_lt (p
 
 abbrev pub not_over_80 : Event → Bool
 not_over_80 [] = false
-not_over_80 (p ∷ ps) = (bytes_eq p.0 price && elim p.1 [ value.Int v ↦ not (int_lt (pos 80) v) | _ ↦ false ]) || not_over_80 ps
+not_over_80 (p ∷ ps) = (bytes_eq p.0 price && elim p.1 [ value.Int v ↦ not (int_lt (pos 80) v) | _ ↦ false ])
+    || not_over_80 ps
 
 -- Topologies
 

@@ -12,7 +12,8 @@ use Rattle.gr_sched.specs.declared.step.Line.{Line}
 use Rattle.gr_model.specs.Broker.{View, Log, max_tick}
 use Rattle.gr_model.specs.World.{World}
 
--- each step is within its limits, as the parser promises: no moment past the last tick, no event past the limits of events
+-- each step is within its limits, as the parser promises: no moment past the last tick, no event past the limits of
+-- events
 abbrev pub NumbersIn : List Line → Type 0
 NumbersIn steps = AllByRecursion (λ l. IsInLimits l.step) steps
 

@@ -1,5 +1,6 @@
 -- What a layer above may use of every world that a schedule leads to: the world beside the history of the steps to it
-use Rattle.std.specs.Prelude.{◌≡◌, ◌≢◌, ◌⊎◌, ℕ, suc, ◌≤◌, ◌<◌, Bool, true, false, ◌&&◌, if◌then◌else◌, [], filter, get_or, IsTrue}
+use Rattle.std.specs.Prelude.{◌≡◌, ◌≢◌, ◌⊎◌, ℕ, suc, ◌≤◌, ◌<◌, Bool, true, false, ◌&&◌, if◌then◌else◌, [], filter}
+use Rattle.std.specs.Prelude.{get_or, IsTrue}
 use Rattle.gr_know.specs.declared.values.K.{K}
 use Rattle.gr_know.specs.declared.values.K.TheVariants.{Q, F}
 use Rattle.gr_know.specs.Values.{known_at}
@@ -9,7 +10,8 @@ use Rattle.gr_model.specs.Net.{Net, keeps_horizon, is_host}
 use Rattle.gr_model.specs.Broker.{View, event_at, is_consolidated_by}
 use Rattle.gr_model.specs.World.{World, view_of, log_of, sent_lines}
 use Rattle.gr_model.specs.Opening.{recorded_of}
-use Rattle.gr_model.specs.Headline.{History, record_of, reopened_cut, gate_of, last_cut, last_horizon, delivered_events, expected, is_heard, is_sent, may_crash, InOrder}
+use Rattle.gr_model.specs.Headline.{History, record_of, reopened_cut, gate_of, last_cut, last_horizon, delivered_events}
+use Rattle.gr_model.specs.Headline.{expected, is_heard, is_sent, may_crash, InOrder}
 use Rattle.gr_theorems.specs.Fits.{WorldFits}
 
 -- The log of p is its record, with its marks and its cuts
@@ -51,7 +53,8 @@ pub record KnowsLog (net : Net) (w : World) (p : ℕ) : Type 0 where
 
 -- every child acknowledged the tick, and a kept horizon has come past it
 abbrev pub is_consolidated_at : Net → World → ℕ → ℕ → ℕ → Bool
-is_consolidated_at net w b p t = is_consolidated_by (keeps_horizon net p b) (view_of w b p).horizon (view_of w b p).wants t
+is_consolidated_at net w b p t =
+    is_consolidated_by (keeps_horizon net p b) (view_of w b p).horizon (view_of w b p).wants t
 
 -- a host's kept horizon is where its log is settled, or 0 while nothing was logged or marked since it started
 abbrev pub host_reaches : Net → History → ℕ → ℕ

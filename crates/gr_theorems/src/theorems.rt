@@ -123,7 +123,8 @@ pub fn runs_by_rules()
         ScheduleByRules net steps (report_of net steps) (world_after net steps) }
     ensures alone { (net : Net) (steps : List Line) (rs : List (List Report)) (w : World) → IsMarkedRun net steps →
         ScheduleByRules net steps rs w → (rs ≡ report_of net steps) × (w ≡ world_after net steps) }
-    ensures over_logs { (net : Net) (logs : List Log) (steps : List Line) → IsMarkedRun net steps → AreReopened net logs →
+    ensures over_logs { (net : Net) (logs : List Log) (steps : List Line) → IsMarkedRun net steps →
+        AreReopened net logs →
         RunsOverByRules net logs steps }
     ensures over_logs_alone { (net : Net) (logs : List Log) (steps : List Line) → IsMarkedRun net steps →
         AreReopened net logs → RunsOverByNoOther net logs steps }
@@ -156,15 +157,16 @@ pub fn sweep_hands_over()
 {}
 
 /// What a layer above may use, after every schedule: all that is known and sent is true, each log is the record, each
-/// subscriber got what it is owed up to its broker's horizon, what is heard and what is known agree above a horizon, a host
-/// knows what its log says, and no ask is of a moment past the greatest.
+/// subscriber got what it is owed up to its broker's horizon, what is heard and what is known agree above a horizon, a
+/// host knows what its log says, and no ask is of a moment past the greatest.
 pub fn fits_always()
     ensures { (net : Net) (steps : List Line) → IsAskedRun net steps →
         Fits net (history_of net steps) (world_after net steps) }
 {}
 
-/// The same of every schedule that begins on logs that were found; and its calls obey their rules, its steps are replied as
-/// they are to be, nothing that was sent clashes, and a sweep settles everything and hands over all that is recorded.
+/// The same of every schedule that begins on logs that were found; and its calls obey their rules, its steps are
+/// replied as they are to be, nothing that was sent clashes, and a sweep settles everything and hands over all that is
+/// recorded.
 pub fn stands_over_logs()
     ensures { (net : Net) (logs : List Log) (steps : List Line) → IsRunOverLogs net logs steps →
         StandsOver net logs steps }
@@ -191,9 +193,9 @@ pub fn headline_served()
         IsServedRun net logs steps arrivals → ArrivalsDoSteps net logs steps arrivals }
 {}
 
-/// The headline over logs that code opens: each lane has records that may follow one another, and its log all their events.
-/// The record begins with what is found, the events past the cut, of schedules and of a server over an honest journal. So
-/// what was cut changes nothing: no line, and no world but for the events themselves.
+/// The headline over logs that code opens: each lane has records that may follow one another, and its log all their
+/// events. The record begins with what is found, the events past the cut, of schedules and of a server over an honest
+/// journal. So what was cut changes nothing: no line, and no world but for the events themselves.
 pub fn headline_over_lanes()
     ensures schedules { (net : Net) (lanes : List (List Record)) (steps : List Line) →
         IsRunOverLanes net lanes steps → HoldsOverLanes net lanes steps }

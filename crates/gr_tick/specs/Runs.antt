@@ -1,5 +1,6 @@
 -- Functions of ticks as lists of runs, and runs made from a function that is steady between points
-use Rattle.std.specs.Prelude.{◌≡◌, ◌≢◌, ℕ, suc, ◌-◌, ◌≤◌, Bool, true, false, ◌&&◌, nat_eq, nat_le, nat_lt, max, if◌then◌else◌, List, [], ◌∷◌, ◌++◌}
+use Rattle.std.specs.Prelude.{◌≡◌, ◌≢◌, ℕ, suc, ◌-◌, ◌≤◌, Bool, true, false, ◌&&◌, nat_eq, nat_le, nat_lt, max}
+use Rattle.std.specs.Prelude.{if◌then◌else◌, List, [], ◌∷◌, ◌++◌}
 use Rattle.gr_tick.specs.declared.run.Run.{Run}
 
 -- the tick is in the run
@@ -19,7 +20,8 @@ StartsApart r (s ∷ ss) = s.first ≡ suc r.last → s.value ≢ r.value
 -- the runs rise from a tick on, are disjoint and maximal, and none is least
 abbrev pub AreRunsFrom : {V : Type 0} → V → ℕ → List (Run V) → Type 0
 AreRunsFrom bottom from [] = Unit {0}
-AreRunsFrom bottom from (r ∷ rs) = (from ≤ r.first) × (r.first ≤ r.last) × (r.value ≢ bottom) × StartsApart r rs × AreRunsFrom bottom (suc r.last) rs
+AreRunsFrom bottom from (r ∷ rs) = (from ≤ r.first) × (r.first ≤ r.last) × (r.value ≢ bottom) × StartsApart r rs
+    × AreRunsFrom bottom (suc r.last) rs
 
 abbrev pub AreRuns : {V : Type 0} → V → List (Run V) → Type 0
 AreRuns bottom rs = AreRunsFrom bottom 1 rs
@@ -83,15 +85,18 @@ abbrev pub Decides_same : {V : Type 0} → (V → V → Bool) → Type 0
 Decides_same {V} same = (a b : V) → (same a b ≡ true → a ≡ b) × (same a b ≡ false → a ≢ b)
 
 -- tick by tick
-abbrev pub zip_runs : {A B V : Type 0} → A → B → V → (V → V → Bool) → (A → B → V) → List (Run A) → List (Run B) → List (Run V)
-zip_runs a b bottom same f xs ys = tabulate bottom same (λ t. f (value_at a xs t) (value_at b ys t)) (points xs ++ points ys)
+abbrev pub zip_runs : {A B V : Type 0} → A → B → V → (V → V → Bool) → (A → B → V) → List (Run A) → List (Run B)
+    → List (Run V)
+zip_runs a b bottom same f xs ys = tabulate bottom same (λ t. f (value_at a xs t) (value_at b ys t)) (points xs
+    ++ points ys)
 
 abbrev pub map_runs : {A V : Type 0} → A → V → (V → V → Bool) → (A → V) → List (Run A) → List (Run V)
 map_runs a bottom same f xs = tabulate bottom same (λ t. f (value_at a xs t)) (points xs)
 
 -- the ticks of a range alone
 abbrev pub in_range : {V : Type 0} → V → (V → V → Bool) → ℕ → ℕ → List (Run V) → List (Run V)
-in_range bottom same first last xs = tabulate bottom same (λ t. if nat_le first t && nat_le t last then value_at bottom xs t else bottom) (first ∷ (suc last ∷ points xs))
+in_range bottom same first last xs = tabulate bottom same (λ t. if nat_le first t && nat_le t last
+    then value_at bottom xs t else bottom) (first ∷ (suc last ∷ points xs))
 
 -- the least tick from t on that is in no run
 abbrev pub first_bottom_from : {V : Type 0} → List (Run V) → ℕ → ℕ

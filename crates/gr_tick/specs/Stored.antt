@@ -1,5 +1,6 @@
 -- Lists of runs whose ticks are in range, and what their changes need
-use Rattle.std.specs.Prelude.{◌≡◌, ◌≢◌, ℕ, ◌+◌, ◌<◌, ◌≤◌, ◌==◌, Bool, false, not, ◌&&◌, ◌||◌, nat_le, nat_lt, cond, List, [], ◌∷◌}
+use Rattle.std.specs.Prelude.{◌≡◌, ◌≢◌, ℕ, ◌+◌, ◌<◌, ◌≤◌, ◌==◌, Bool, false, not, ◌&&◌, ◌||◌, nat_le, nat_lt, cond}
+use Rattle.std.specs.Prelude.{List, [], ◌∷◌}
 use Rattle.std.specs.List.{count_by}
 use Rattle.gr_tick.specs.declared.TheConstants.{MAX_TICK}
 use Rattle.gr_tick.specs.declared.run.Run.{Run}
@@ -74,7 +75,8 @@ module _ {V : Type 0} where
   BeginAfter [] t = Unit {0}
   BeginAfter (r ∷ rs) t = (t < r.first) × BeginAfter rs t
 
-  -- whether a join from `at` to `last` may need room for the run: it has a tick of the range, and does not begin at its start
+  -- whether a join from `at` to `last` may need room for the run: it has a tick of the range, and does not begin at its
+  -- start
   abbrev pub needs_room : ℕ → ℕ → Run V → Bool
   needs_room at last r = touches at last r && not (r.first == at)
 

@@ -68,8 +68,8 @@ fn insert_part<V: Lattice>(
     i + 1
 }
 
-/// Where the runs that end at a tick or later begin, found by halves between two places: those before the one end before
-/// the tick, and the one at the other does not.
+/// Where the runs that end at a tick or later begin, found by halves between two places: those before the one end
+/// before the tick, and the one at the other does not.
 fn bisect<V: Lattice>(runs: &Gap<Run<V>>, tick: u64, from: usize, upto: usize) -> usize
     requires runs { AreTickRuns V.least runs.now.items }
     requires ordered { from ≤ upto }
@@ -95,8 +95,8 @@ fn bisect<V: Lattice>(runs: &Gap<Run<V>>, tick: u64, from: usize, upto: usize) -
     low
 }
 
-/// Where the runs that end at a tick or later begin, where the one at a place does. It is looked for from there on towards
-/// the first, each step twice as long as the one before: what is near is found at once.
+/// Where the runs that end at a tick or later begin, where the one at a place does. It is looked for from there on
+/// towards the first, each step twice as long as the one before: what is near is found at once.
 fn gallop<V: Lattice>(runs: &Gap<Run<V>>, tick: u64, last: usize) -> usize
     requires runs { AreTickRuns V.least runs.now.items }
     requires within { last ≤ length runs.now.items }
@@ -145,8 +145,8 @@ fn climb<V: Lattice>(runs: &Gap<Run<V>>, tick: u64, from: usize, upto: usize) ->
     bisect(runs, tick, low, upto)
 }
 
-/// Where the runs that end at a tick or later begin. The two newest are looked at first, then two where the last edit or
-/// search was, then the oldest, and then what is near that place.
+/// Where the runs that end at a tick or later begin. The two newest are looked at first, then two where the last edit
+/// or search was, then the oldest, and then what is near that place.
 pub fn seek<V: Lattice>(runs: &Gap<Run<V>>, tick: u64) -> usize
     requires { AreTickRuns V.least runs.now.items }
     ensures within { result ≤ length runs.now.items }
@@ -220,8 +220,8 @@ pub fn begun_by<V: Lattice>(runs: &Gap<Run<V>>, tick: u64) -> usize
     i + 1
 }
 
-/// Joins the run before a place to a run that begins past it, where they form one run: removes it, and answers the place
-/// then, with the longer run.
+/// Joins the run before a place to a run that begins past it, where they form one run: removes it, and answers the
+/// place then, with the longer run.
 fn absorb_before<V: Lattice>(runs: &mut Gap<Run<V>>, i: usize, run: Run<V>) -> (usize, Run<V>)
     requires within { i ≤ length runs.old.items }
     requires runs { AreTickRuns V.least (take i runs.old.items) }
@@ -230,7 +230,8 @@ fn absorb_before<V: Lattice>(runs: &mut Gap<Run<V>>, i: usize, run: Run<V>) -> (
     ensures within { result.0 ≤ length runs.new.items }
     ensures rest { drop result.0 runs.new.items ≡ drop i runs.old.items }
     ensures runs { AreTickRuns V.least (take result.0 runs.new.items ++ result.1 ∷ []) }
-    ensures values { (d : V) (t : ℕ) → value_at d (take result.0 runs.new.items ++ result.1 ∷ []) t ≡ value_at d (take i runs.old.items ++ run ∷ []) t }
+    ensures values { (d : V) (t : ℕ) → value_at d (take result.0 runs.new.items ++ result.1 ∷ []) t
+        ≡ value_at d (take i runs.old.items ++ run ∷ []) t }
     ensures last { result.1.last ≡ run.last }
     ensures value { result.1.value ≡ run.value }
     ensures first { result.1.first ≤ run.first }
@@ -257,7 +258,8 @@ fn absorb_before<V: Lattice>(runs: &mut Gap<Run<V>>, i: usize, run: Run<V>) -> (
     )
 }
 
-/// Joins the run at a place to a run that ends ahead of it, where they form one run: removes it, and answers the longer run.
+/// Joins the run at a place to a run that ends ahead of it, where they form one run: removes it, and answers the longer
+/// run.
 fn absorb_after<V: Lattice>(runs: &mut Gap<Run<V>>, i: usize, run: Run<V>) -> Run<V>
     requires within { i ≤ length runs.old.items }
     requires runs { AreTickRuns V.least (drop i runs.old.items) }
@@ -266,11 +268,14 @@ fn absorb_after<V: Lattice>(runs: &mut Gap<Run<V>>, i: usize, run: Run<V>) -> Ru
     ensures within { i ≤ length runs.new.items }
     ensures front { take i runs.new.items ≡ take i runs.old.items }
     ensures runs { AreTickRuns V.least (result ∷ drop i runs.new.items) }
-    ensures values { (d : V) (t : ℕ) → value_at d (result ∷ drop i runs.new.items) t ≡ value_at d (run ∷ drop i runs.old.items) t }
+    ensures values { (d : V) (t : ℕ) → value_at d (result ∷ drop i runs.new.items) t
+        ≡ value_at d (run ∷ drop i runs.old.items) t }
     ensures first { result.first ≡ run.first }
     ensures value { result.value ≡ run.value }
-    ensures room { (last : ℕ) → room (run.last + 1) last (result ∷ drop i runs.new.items) + runs.old.spare ≤ room (run.last + 1) last (drop i runs.old.items) + runs.new.spare }
-    ensures later { (f l : ℕ) → run.last < f → f ≤ l → runs_in f l (result ∷ drop i runs.new.items) ≤ runs_in f l (drop i runs.old.items) }
+    ensures room { (last : ℕ) → room (run.last + 1) last (result ∷
+        drop i runs.new.items) + runs.old.spare ≤ room (run.last + 1) last (drop i runs.old.items) + runs.new.spare }
+    ensures later { (f l : ℕ) → run.last < f → f ≤ l →
+        runs_in f l (result ∷ drop i runs.new.items) ≤ runs_in f l (drop i runs.old.items) }
     ensures spare { runs.old.spare ≤ runs.new.spare }
 {
     if i == runs.len() {
@@ -301,9 +306,13 @@ pub fn put_run<V: Lattice>(runs: &mut Gap<Run<V>>, i: usize, run: Run<V>)
     requires ahead { BeginAfter (drop i runs.old.items) run.last }
     requires alone { IsRun V.least run }
     ensures runs { AreTickRuns V.least runs.new.items }
-    ensures values { (t : ℕ) → value_at V.least runs.new.items t ≡ cond (is_in t run) run.value (value_at V.least runs.old.items t) }
-    ensures room { (last : ℕ) → room (run.last + 1) last runs.new.items + runs.old.spare ≤ room (run.last + 1) last (drop i runs.old.items) + runs.new.spare + 1 }
-    ensures later { (f l : ℕ) → run.last < f → f ≤ l → runs_in f l runs.new.items ≤ runs_in f l (drop i runs.old.items) }
+    ensures values { (t : ℕ) → value_at V.least runs.new.items t
+        ≡ cond (is_in t run) run.value (value_at V.least runs.old.items t) }
+    ensures room { (last : ℕ) →
+        room (run.last + 1) last runs.new.items + runs.old.spare ≤ room (run.last + 1) last
+        (drop i runs.old.items) + runs.new.spare + 1 }
+    ensures later { (f l : ℕ) → run.last < f → f ≤ l →
+        runs_in f l runs.new.items ≤ runs_in f l (drop i runs.old.items) }
     ensures spare { runs.old.spare ≤ runs.new.spare + 1 }
 {
     let (place, longer) = absorb_before(runs, i, run);
@@ -326,9 +335,11 @@ fn keep_rest<V: Lattice>(
     requires ordered { first ≤ last }
     requires ends { last ≤ run.now.last }
     ensures within { result ≤ length runs.new.items }
-    ensures before { take result runs.new.items ≡ take i runs.old.items ++ part run.now.first (first - 1) run.now.value }
+    ensures before { take result runs.new.items ≡ take i runs.old.items
+        ++ part run.now.first (first - 1) run.now.value }
     ensures after { drop result runs.new.items ≡ part (last + 1) run.now.last run.now.value ++ drop i runs.old.items }
-    ensures spare { runs.new.spare + length (part run.now.first (first - 1) run.now.value) + length (part (last + 1) run.now.last run.now.value) ≡ runs.old.spare }
+    ensures spare { runs.new.spare + length (part run.now.first (first - 1) run.now.value) + length
+        (part (last + 1) run.now.last run.now.value) ≡ runs.old.spare }
 {
     let place = insert_part(runs, i, run.first, first - 1, &run.value);
     insert_part(runs, place, last + 1, run.last, &run.value);
@@ -347,8 +358,12 @@ fn join_gap<V: Lattice>(runs: &mut Gap<Run<V>>, i: usize, first: u64, last: u64,
     requires upto { last ≤ MAX_TICK }
     requires known { value.now ≢ V.least }
     ensures runs { AreTickRuns V.least runs.new.items }
-    ensures values { (t : ℕ) → value_at V.least runs.new.items t ≡ (if within first last t then V.join_of (value_at V.least runs.old.items t) value.now else value_at V.least runs.old.items t) }
-    ensures room { (end : ℕ) → room (last + 1) end runs.new.items + runs.old.spare ≤ room (last + 1) end (drop i runs.old.items) + runs.new.spare + 1 }
+    ensures values { (t : ℕ) → value_at V.least runs.new.items t
+        ≡ (if within first last t then V.join_of (value_at V.least runs.old.items t) value.now
+        else value_at V.least runs.old.items t) }
+    ensures room { (end : ℕ) →
+        room (last + 1) end runs.new.items + runs.old.spare ≤ room (last + 1) end
+        (drop i runs.old.items) + runs.new.spare + 1 }
     ensures later { (f l : ℕ) → last < f → f ≤ l → runs_in f l runs.new.items ≤ runs_in f l runs.old.items }
     ensures spare { runs.old.spare ≤ runs.new.spare + 1 }
 {
@@ -371,8 +386,12 @@ fn join_run<V: Lattice>(runs: &mut Gap<Run<V>>, i: usize, first: u64, last: u64,
     requires holds { HoldsAt (λ r. (r.first ≤ first) × (last ≤ r.last)) runs.old.items i }
     requires ordered { first ≤ last }
     ensures runs { AreTickRuns V.least runs.new.items }
-    ensures values { (t : ℕ) → value_at V.least runs.new.items t ≡ (if within first last t then V.join_of (value_at V.least runs.old.items t) value.now else value_at V.least runs.old.items t) }
-    ensures growth { HoldsAt (λ r. (end : ℕ) → first ≤ end → (last ≡ end) ⊎ (last ≡ r.last) → growth (last + 1) end runs.new.items + runs.old.spare ≤ growth first end runs.old.items + runs.new.spare) runs.old.items i }
+    ensures values { (t : ℕ) → value_at V.least runs.new.items t
+        ≡ (if within first last t then V.join_of (value_at V.least runs.old.items t) value.now
+        else value_at V.least runs.old.items t) }
+    ensures growth { HoldsAt (λ r. (end : ℕ) → first ≤ end → (last ≡ end) ⊎ (last ≡ r.last) →
+        growth (last + 1) end runs.new.items + runs.old.spare
+        ≤ growth first end runs.old.items + runs.new.spare) runs.old.items i }
     ensures later { (f l : ℕ) → last < f → f ≤ l → runs_in f l runs.new.items ≤ runs_in f l runs.old.items }
 {
     let run = runs.remove(i);
@@ -400,8 +419,11 @@ fn join_step<V: Lattice>(runs: &mut Gap<Run<V>>, first: u64, last: u64, value: &
     ensures forward { first ≤ result }
     ensures inside { result ≤ last }
     ensures runs { AreTickRuns V.least runs.new.items }
-    ensures values { (t : ℕ) → value_at V.least runs.new.items t ≡ (if within first result t then V.join_of (value_at V.least runs.old.items t) value.now else value_at V.least runs.old.items t) }
-    ensures growth { growth (result + 1) last runs.new.items + runs.old.spare ≤ growth first last runs.old.items + runs.new.spare }
+    ensures values { (t : ℕ) → value_at V.least runs.new.items t
+        ≡ (if within first result t then V.join_of (value_at V.least runs.old.items t) value.now
+        else value_at V.least runs.old.items t) }
+    ensures growth { growth (result + 1) last runs.new.items + runs.old.spare
+        ≤ growth first last runs.old.items + runs.new.spare }
     ensures later { (f l : ℕ) → result < f → f ≤ l → runs_in f l runs.new.items ≤ runs_in f l runs.old.items }
 {
     let i = seek(runs, first);
@@ -441,7 +463,9 @@ pub fn join_over<V: Lattice>(runs: &mut Gap<Run<V>>, first: u64, last: u64, valu
     requires upto { last ≤ MAX_TICK }
     requires known { value.now ≢ V.least }
     ensures runs { AreTickRuns V.least runs.new.items }
-    ensures values { (t : ℕ) → value_at V.least runs.new.items t ≡ (if within first last t then V.join_of (value_at V.least runs.old.items t) value.now else value_at V.least runs.old.items t) }
+    ensures values { (t : ℕ) → value_at V.least runs.new.items t
+        ≡ (if within first last t then V.join_of (value_at V.least runs.old.items t) value.now
+        else value_at V.least runs.old.items t) }
     ensures spare { runs.old.spare ≤ growth first last runs.old.items + runs.new.spare }
     ensures later { (f l : ℕ) → last < f → f ≤ l → runs_in f l runs.new.items ≤ runs_in f l runs.old.items }
 {
@@ -515,7 +539,8 @@ pub fn lower_front<V: Lattice>(runs: &mut Gap<Run<V>>, i: usize, last: u64)
     requires within { i < length runs.old.items }
     requires runs { AreTickRuns V.least runs.old.items }
     requires holds { HoldsAt (λ r. (r.first ≤ last) × (last ≤ r.last)) runs.old.items i }
-    ensures items { HoldsAt (λ r. runs.new.items ≡ take i runs.old.items ++ (part (last + 1) r.last r.value ++ drop (i + 1) runs.old.items)) runs.old.items i }
+    ensures items { HoldsAt (λ r. runs.new.items ≡ take i runs.old.items
+        ++ (part (last + 1) r.last r.value ++ drop (i + 1) runs.old.items)) runs.old.items i }
     ensures runs { AreTickRuns V.least runs.new.items }
 {
     let run = runs.remove(i);
@@ -530,7 +555,8 @@ fn lower_run<V: Lattice>(runs: &mut Gap<Run<V>>, i: usize, first: u64, last: u64
     requires holds { HoldsAt (λ r. (r.first ≤ first) × (last ≤ r.last)) runs.old.items i }
     requires ordered { first ≤ last }
     ensures runs { AreTickRuns V.least runs.new.items }
-    ensures values { (t : ℕ) → value_at V.least runs.new.items t ≡ (if within first last t then V.least else value_at V.least runs.old.items t) }
+    ensures values { (t : ℕ) → value_at V.least runs.new.items t
+        ≡ (if within first last t then V.least else value_at V.least runs.old.items t) }
     ensures kept { HoldsAt (λ r. last ≡ r.last → runs.old.spare ≤ runs.new.spare) runs.old.items i }
     ensures spare { runs.old.spare ≤ runs.new.spare + 1 }
 {
@@ -546,7 +572,8 @@ fn lower_step<V: Lattice>(runs: &mut Gap<Run<V>>, first: u64, last: u64) -> u64
     ensures forward { first ≤ result }
     ensures inside { result ≤ last }
     ensures runs { AreTickRuns V.least runs.new.items }
-    ensures values { (t : ℕ) → value_at V.least runs.new.items t ≡ (if within first result t then V.least else value_at V.least runs.old.items t) }
+    ensures values { (t : ℕ) → value_at V.least runs.new.items t
+        ≡ (if within first result t then V.least else value_at V.least runs.old.items t) }
     ensures kept { result < last → runs.old.spare ≤ runs.new.spare }
     ensures spare { runs.old.spare ≤ runs.new.spare + 1 }
 {
@@ -578,7 +605,8 @@ pub fn lower_over<V: Lattice>(runs: &mut Gap<Run<V>>, first: u64, last: u64)
     requires ordered { first ≤ last }
     requires upto { last ≤ MAX_TICK }
     ensures runs { AreTickRuns V.least runs.new.items }
-    ensures values { (t : ℕ) → value_at V.least runs.new.items t ≡ (if within first last t then V.least else value_at V.least runs.old.items t) }
+    ensures values { (t : ℕ) → value_at V.least runs.new.items t
+        ≡ (if within first last t then V.least else value_at V.least runs.old.items t) }
     ensures spare { runs.old.spare ≤ runs.new.spare + 1 }
 {
     // Each step comes to the end of a run or of a gap, and goes on after it.
@@ -596,7 +624,8 @@ pub fn set_over<V: Lattice>(runs: &mut Gap<Run<V>>, first: u64, last: u64, value
     requires ordered { first ≤ last }
     requires upto { last ≤ MAX_TICK }
     ensures runs { AreTickRuns V.least runs.new.items }
-    ensures values { (t : ℕ) → value_at V.least runs.new.items t ≡ (if within first last t then value.now else value_at V.least runs.old.items t) }
+    ensures values { (t : ℕ) → value_at V.least runs.new.items t
+        ≡ (if within first last t then value.now else value_at V.least runs.old.items t) }
     ensures spare { runs.old.spare ≤ runs.new.spare + 2 }
 {
     lower_over(runs, first, last);
@@ -613,8 +642,10 @@ pub fn steady_until<V: Lattice>(runs: &Gap<Run<V>>, tick: u64) -> u64
     requires upto { tick ≤ MAX_TICK }
     ensures forward { tick ≤ result }
     ensures inside { result ≤ MAX_TICK }
-    ensures steady { (t : ℕ) → tick ≤ t → t ≤ result → value_at V.least runs.now.items t ≡ value_at V.least runs.now.items tick }
-    ensures greatest { result < MAX_TICK → value_at V.least runs.now.items (result + 1) ≢ value_at V.least runs.now.items tick }
+    ensures steady { (t : ℕ) → tick ≤ t → t ≤ result → value_at V.least runs.now.items t
+        ≡ value_at V.least runs.now.items tick }
+    ensures greatest { result < MAX_TICK →
+        value_at V.least runs.now.items (result + 1) ≢ value_at V.least runs.now.items tick }
 {
     let i = seek(runs, tick);
     if i == runs.len() {
@@ -656,7 +687,8 @@ pub fn steady_in<V: Lattice>(runs: &Gap<Run<V>>, tick: u64) -> Steady<V>
 /// The room that is enough to join each run of a list, or None exactly where it is no number of the machine's.
 pub fn room_for<V: Lattice>(runs: &Gap<Run<V>>, others: &Gap<Run<V>>) -> Option<usize>
     requires { AreTickRuns V.least runs.now.items }
-    ensures { MatchOption result (2 ^ 64 ≤ needed runs.now.items others.now.items) (λ n. n ≡ needed runs.now.items others.now.items) }
+    ensures { MatchOption result (2 ^ 64 ≤ needed runs.now.items others.now.items) (λ n. n
+        ≡ needed runs.now.items others.now.items) }
 {
     let mut room = 0usize;
     for i in 0..others.len() {
@@ -678,7 +710,8 @@ pub fn join_each<V: Lattice>(runs: &mut Gap<Run<V>>, others: &Gap<Run<V>>)
     requires runs { AreTickRuns V.least runs.old.items }
     requires others { AreTickRuns V.least others.now.items }
     ensures runs { AreTickRuns V.least runs.new.items }
-    ensures values { (t : ℕ) → value_at V.least runs.new.items t ≡ V.join_of (value_at V.least runs.old.items t) (value_at V.least others.now.items t) }
+    ensures values { (t : ℕ) → value_at V.least runs.new.items t
+        ≡ V.join_of (value_at V.least runs.old.items t) (value_at V.least others.now.items t) }
     ensures spare { runs.old.spare ≤ runs.new.spare + needed runs.old.items others.now.items }
 {
     for i in 0..others.len() {

@@ -2,8 +2,8 @@
 ghost use Rattle.std.specs.Prelude.{◌≡◌, ◌↔◌, Bool, IsTrue};
 ghost use Rattle.gr_tick.specs.Laws.{LatticeLaws};
 
-/// Values with a least one, in which any two have a least upper bound, as `laws` says. A tick has the least value where nothing
-/// else was said of it. No call takes memory, and none can be refused.
+/// Values with a least one, in which any two have a least upper bound, as `laws` says. A tick has the least value where
+/// nothing else was said of it. No call takes memory, and none can be refused.
 pub trait Lattice: Drop {
     /// The least value.
     ghost least: { Self };

@@ -14,8 +14,8 @@ use gr_gap::Gap;
 use std::alloc::{AllocError, Global};
 use std::marker::Model;
 
-/// A function from ticks to values that is the least value but on a list of runs: what one frame tells, or what one call answers.
-/// It is made from its first run to its last, and seen as the list of its runs.
+/// A function from ticks to values that is the least value but on a list of runs: what one frame tells, or what one
+/// call answers. It is made from its first run to its last, and seen as the list of its runs.
 ///
 /// The runs rise, are disjoint and maximal, and none has the least value. So each function has one list.
 #[derive(Drop)]
@@ -53,12 +53,13 @@ impl<V: Lattice> Piece<V> {
         Ok(Piece { runs })
     }
 
-    /// Adds a run past the last one, and joins it to that where the two touch and have the same value. It fails only where memory
-    /// is refused; then the piece is as it was.
+    /// Adds a run past the last one, and joins it to that where the two touch and have the same value. It fails only
+    /// where memory is refused; then the piece is as it was.
     pub fn push(&mut self, run: Run<V>) -> Result<(), AllocError>
         requires alone { IsRun V.least run }
         requires past { EndBefore self.old run.first }
-        ensures ok { OnOk result (RunsGive V.least self.new (λ t. if is_in t run then run.value else value_at V.least self.old t)) }
+        ensures ok { OnOk result (RunsGive V.least self.new (λ t. if is_in t run then run.value
+            else value_at V.least self.old t)) }
         ensures past { OnOk result ((t : ℕ) → run.last < t → EndBefore self.new t) }
         ensures err { OnErr result (self.new ≡ self.old) }
     {
@@ -68,13 +69,15 @@ impl<V: Lattice> Piece<V> {
         Ok(())
     }
 
-    /// Adds what a run past the last one has in the range from `first` to `last`, if it has a tick there. It fails only where
-    /// memory is refused; then the piece is as it was.
+    /// Adds what a run past the last one has in the range from `first` to `last`, if it has a tick there. It fails only
+    /// where memory is refused; then the piece is as it was.
     pub fn push_cut(&mut self, run: &Run<V>, first: u64, last: u64) -> Result<(), AllocError>
         requires from_one { 1 ≤ first }
         requires alone { IsRun V.least run.now }
         requires past { EndBefore self.old run.now.first }
-        ensures ok { OnOk result (RunsGive V.least self.new (λ t. if within (max first run.now.first) (min last run.now.last) t then run.now.value else value_at V.least self.old t)) }
+        ensures ok { OnOk result (RunsGive V.least self.new (λ t.
+            if within (max first run.now.first) (min last run.now.last) t then run.now.value
+            else value_at V.least self.old t)) }
         ensures past { OnOk result ((t : ℕ) → run.now.last < t → EndBefore self.new t) }
         ensures err { OnErr result (self.new ≡ self.old) }
     {
@@ -158,7 +161,8 @@ impl<V: Lattice> Piece<V> {
         requires { tick ≤ MAX_TICK }
         ensures forward { tick ≤ result }
         ensures inside { result ≤ MAX_TICK }
-        ensures steady { (t : ℕ) → tick ≤ t → t ≤ result → value_at V.least self.now t ≡ value_at V.least self.now tick }
+        ensures steady { (t : ℕ) → tick ≤ t → t ≤ result → value_at V.least self.now t
+            ≡ value_at V.least self.now tick }
         ensures greatest { result < MAX_TICK → value_at V.least self.now (result + 1) ≢ value_at V.least self.now tick }
     {
         steady_until(&self.runs, tick)

@@ -1,7 +1,7 @@
 //! A value at a tick, and how far it stays: what a walk over the ticks looks up at each step.
 
-/// A value at a tick, and the greatest tick, at most `MAX_TICK`, up to which it stays. A walk over the ticks goes on with the tick
-/// after it.
+/// A value at a tick, and the greatest tick, at most `MAX_TICK`, up to which it stays. A walk over the ticks goes on
+/// with the tick after it.
 #[derive(Drop)]
 pub struct Steady<V> {
     /// The value.

@@ -1,10 +1,12 @@
-//! What is known or asked of each tick: a function of ticks that is edited in place, with room that is taken beforehand.
+//! What is known or asked of each tick: a function of ticks that is edited in place, with room that is taken
+//! beforehand.
 ghost use Rattle.std.specs.Prelude.{if◌then◌else◌, MatchOption, ◌≡◌, ◌≢◌, ℕ, ◌+◌, ◌^◌, ◌<◌, ◌≤◌, List, [], ◌∷◌, ◌++◌};
 ghost use Rattle.std.specs.Prelude.{length, take, drop, slice_get, Some, OnOk, OnErr, IfOk, IsOk};
 ghost use Rattle.std.specs.List.{HoldsAt};
 ghost use Rattle.gr_tick.specs.declared.TheConstants.{MAX_TICK};
 ghost use Rattle.gr_tick.specs.Runs.{value_at, AreRuns, first_bottom_from, top_of};
-ghost use Rattle.gr_tick.specs.Stored.{runs_in, within, IsRun, AreTickRuns, EndBefore, RunsGive, is_told, needed, part, StaysUntil};
+ghost use Rattle.gr_tick.specs.Stored.{runs_in, within, IsRun, AreTickRuns, EndBefore, RunsGive, is_told, needed, part};
+ghost use Rattle.gr_tick.specs.Stored.{StaysUntil};
 
 use crate::edits::{
     begun_by, copy_runs, count_in, join_each, join_over, lower_each, lower_front, lower_over,
@@ -21,11 +23,12 @@ use std::marker::Model;
 /// How many runs more a copy has room for, besides as many as it has.
 const COPY_SPARE: usize = 4;
 
-/// A function from ticks to values that is the least value but on a list of runs, which is edited in place: what is known, or
-/// asked, of each tick. It is seen as the list of its runs and its spare, how many runs more fit before memory is asked for.
+/// A function from ticks to values that is the least value but on a list of runs, which is edited in place: what is
+/// known, or asked, of each tick. It is seen as the list of its runs and its spare, how many runs more fit before
+/// memory is asked for.
 ///
-/// The runs rise, are disjoint and maximal, and none has the least value. So each function has one list. A look-up costs the
-/// logarithm of the runs, and an edit the runs that it changes and the way from the edit before.
+/// The runs rise, are disjoint and maximal, and none has the least value. So each function has one list. A look-up
+/// costs the logarithm of the runs, and an edit the runs that it changes and the way from the edit before.
 #[derive(Drop)]
 pub struct Stream<V: Lattice> {
     runs: Gap<Run<V>>,
@@ -106,8 +109,10 @@ impl<V: Lattice> Stream<V> {
         requires { tick ≤ MAX_TICK }
         ensures forward { tick ≤ result }
         ensures inside { result ≤ MAX_TICK }
-        ensures steady { (t : ℕ) → tick ≤ t → t ≤ result → value_at V.least self.now.runs t ≡ value_at V.least self.now.runs tick }
-        ensures greatest { result < MAX_TICK → value_at V.least self.now.runs (result + 1) ≢ value_at V.least self.now.runs tick }
+        ensures steady { (t : ℕ) → tick ≤ t → t ≤ result → value_at V.least self.now.runs t
+            ≡ value_at V.least self.now.runs tick }
+        ensures greatest { result < MAX_TICK →
+            value_at V.least self.now.runs (result + 1) ≢ value_at V.least self.now.runs tick }
     {
         steady_until(&self.runs, tick)
     }
@@ -149,14 +154,15 @@ impl<V: Lattice> Stream<V> {
         Ok(())
     }
 
-    /// Joins the value to that of each tick of the range. It takes no memory: the spare has to be enough for the runs in the
-    /// range and one more, and is lowered by at most that. The runs of later ranges do not grow in number.
+    /// Joins the value to that of each tick of the range. It takes no memory: the spare has to be enough for the runs
+    /// in the range and one more, and is lowered by at most that. The runs of later ranges do not grow in number.
     pub fn join_range(&mut self, first: u64, last: u64, value: V)
         requires from_one { 1 ≤ first }
         requires ordered { first ≤ last }
         requires upto { last ≤ MAX_TICK }
         requires room { runs_in first last self.old.runs + 1 ≤ self.old.spare }
-        ensures joined { RunsGive V.least self.new.runs (λ t. if within first last t then V.join_of (value_at V.least self.old.runs t) value else value_at V.least self.old.runs t) }
+        ensures joined { RunsGive V.least self.new.runs (λ t. if within first last t
+            then V.join_of (value_at V.least self.old.runs t) value else value_at V.least self.old.runs t) }
         ensures spare { self.old.spare ≤ self.new.spare + (runs_in first last self.old.runs + 1) }
         ensures later { (f l : ℕ) → last < f → f ≤ l → runs_in f l self.new.runs ≤ runs_in f l self.old.runs }
     {
@@ -168,12 +174,14 @@ impl<V: Lattice> Stream<V> {
         join_over(&mut self.runs, first, last, &value);
     }
 
-    /// Joins a piece, tick by tick. It takes the memory for all its runs before the first join, and fails only where that is
-    /// refused; then the stream is as it was.
+    /// Joins a piece, tick by tick. It takes the memory for all its runs before the first join, and fails only where
+    /// that is refused; then the stream is as it was.
     pub fn join_piece(&mut self, piece: &Piece<V>) -> Result<(), AllocError>
-        ensures joined { OnOk result (RunsGive V.least self.new.runs (λ t. V.join_of (value_at V.least self.old.runs t) (value_at V.least piece.now t))) }
+        ensures joined { OnOk result (RunsGive V.least self.new.runs (λ t.
+            V.join_of (value_at V.least self.old.runs t) (value_at V.least piece.now t))) }
         ensures spare { self.old.spare ≤ self.new.spare + needed self.old.runs piece.now }
-        ensures succeeds { needed self.old.runs piece.now < 2 ^ 64 → needed self.old.runs piece.now ≤ self.old.spare → IsOk result }
+        ensures succeeds { needed self.old.runs piece.now < 2 ^ 64 → needed self.old.runs piece.now ≤ self.old.spare →
+            IsOk result }
         ensures err { OnErr result (self.new ≡ self.old) }
     {
         let others = piece.runs();
@@ -187,7 +195,8 @@ impl<V: Lattice> Stream<V> {
 
     /// The spare that is enough to join a piece, or `None` where it is no 64-bit number. It takes no memory.
     pub fn room_for(&self, piece: &Piece<V>) -> Option<usize>
-        ensures { MatchOption result (2 ^ 64 ≤ needed self.now.runs piece.now) (λ n. n ≡ needed self.now.runs piece.now) }
+        ensures { MatchOption result (2 ^ 64 ≤ needed self.now.runs piece.now) (λ n. n
+            ≡ needed self.now.runs piece.now) }
     {
         room_for(&self.runs, piece.runs())
     }
@@ -202,8 +211,8 @@ impl<V: Lattice> Stream<V> {
         join_each(&mut self.runs, piece.runs());
     }
 
-    /// Takes a piece out: puts the least value at each tick of its runs, whatever was there. It takes no memory: a spare
-    /// of as many runs as the piece has must be there.
+    /// Takes a piece out: puts the least value at each tick of its runs, whatever was there. It takes no memory: a
+    /// spare of as many runs as the piece has must be there.
     pub fn lower_piece(&mut self, piece: &Piece<V>)
         requires { length piece.now ≤ self.old.spare }
         ensures lowered { RunsGive V.least self.new.runs
@@ -219,18 +228,21 @@ impl<V: Lattice> Stream<V> {
         requires ordered { first ≤ last }
         requires upto { last ≤ MAX_TICK }
         requires room { 2 ≤ self.old.spare }
-        ensures put { RunsGive V.least self.new.runs (λ t. if within first last t then value else value_at V.least self.old.runs t) }
+        ensures put { RunsGive V.least self.new.runs (λ t. if within first last t then value
+            else value_at V.least self.old.runs t) }
         ensures spare { self.old.spare ≤ self.new.spare + 2 }
     {
         set_over(&mut self.runs, first, last, &value);
     }
 
-    /// Puts the least value at each tick of the range. It fails only where memory is refused; then the stream is as it was.
+    /// Puts the least value at each tick of the range. It fails only where memory is refused; then the stream is as it
+    /// was.
     pub fn lower_range(&mut self, first: u64, last: u64) -> Result<(), AllocError>
         requires from_one { 1 ≤ first }
         requires ordered { first ≤ last }
         requires upto { last ≤ MAX_TICK }
-        ensures lowered { OnOk result (RunsGive V.least self.new.runs (λ t. if within first last t then V.least else value_at V.least self.old.runs t)) }
+        ensures lowered { OnOk result (RunsGive V.least self.new.runs (λ t. if within first last t then V.least
+            else value_at V.least self.old.runs t)) }
         ensures spare { self.old.spare ≤ self.new.spare + 1 }
         ensures succeeds { 1 ≤ self.old.spare → IsOk result }
         ensures err { OnErr result (self.new ≡ self.old) }
@@ -253,12 +265,13 @@ impl<V: Lattice> Stream<V> {
         lower_over(&mut self.runs, first, last);
     }
 
-    /// Puts the least value at the first ticks of the run at place `i`, up to `last`, which is one of its ticks. It takes no
-    /// memory.
+    /// Puts the least value at the first ticks of the run at place `i`, up to `last`, which is one of its ticks. It
+    /// takes no memory.
     pub fn lower_front(&mut self, i: usize, last: u64)
         requires within { i < length self.old.runs }
         requires holds { HoldsAt (λ r. (r.first ≤ last) × (last ≤ r.last)) self.old.runs i }
-        ensures { HoldsAt (λ r. self.new.runs ≡ take i self.old.runs ++ (part (last + 1) r.last r.value ++ drop (i + 1) self.old.runs)) self.old.runs i }
+        ensures { HoldsAt (λ r. self.new.runs ≡ take i self.old.runs
+            ++ (part (last + 1) r.last r.value ++ drop (i + 1) self.old.runs)) self.old.runs i }
     {
         lower_front(&mut self.runs, i, last);
     }
@@ -281,7 +294,8 @@ impl<V: Lattice> Stream<V> {
         requires from_one { 1 ≤ first }
         requires ordered { first ≤ last }
         requires upto { last ≤ MAX_TICK }
-        ensures { IfOk result (λ piece. RunsGive V.least piece (λ t. if within first last t then value_at V.least self.now.runs t else V.least)) }
+        ensures { IfOk result (λ piece. RunsGive V.least piece (λ t. if within first last t
+            then value_at V.least self.now.runs t else V.least)) }
     {
         piece_of(&self.runs, first, last)
     }
@@ -297,7 +311,8 @@ pub(crate) fn piece_of<V: Lattice>(
     requires from_one { 1 ≤ first }
     requires ordered { first ≤ last }
     requires upto { last ≤ MAX_TICK }
-    ensures { IfOk result (λ piece. RunsGive V.least piece (λ t. if within first last t then value_at V.least runs.now.items t else V.least)) }
+    ensures { IfOk result (λ piece. RunsGive V.least piece (λ t. if within first last t
+        then value_at V.least runs.now.items t else V.least)) }
 {
     let mut piece = Piece::new(runs.allocator());
     for i in seek(runs, first)..begun_by(runs, last) {

@@ -1,5 +1,6 @@
 -- What is tested of a topology part whose shape is right, one test after the other
-use Rattle.std.specs.Prelude.{ℕ, ℤ, pos, negsuc, Bool, true, false, not, ◌&&◌, nat_le, if◌then◌else◌, List, [], ◌∷◌, ◌++◌, Option, Some, None, Result, Ok, Err, codes, bytes_eq}
+use Rattle.std.specs.Prelude.{ℕ, ℤ, pos, negsuc, Bool, true, false, not, ◌&&◌, nat_le, if◌then◌else◌, List, [], ◌∷◌}
+use Rattle.std.specs.Prelude.{◌++◌, Option, Some, None, Result, Ok, Err, codes, bytes_eq}
 use Rattle.std.specs.List.{list_any, slice_get}
 use Rattle.std.specs.Option.{option_and_then}
 use Rattle.gr_filter.specs.declared.fault.FilterFault.{FilterFault}
@@ -9,7 +10,8 @@ use Rattle.gr_filter.specs.Tree.{Tree}
 use Rattle.gr_tree.specs.declared.link.Link.{Link}
 use Rattle.gr_tree.specs.Walks.{is_tree}
 use Rattle.gr_topo.specs.declared.fault.TopoFault.{TopoFault}
-use Rattle.gr_topo.specs.declared.fault.TopoFault.TheVariants.{Memory, Twice, Unknown, NotTree, BadFilter, TooMany, BadAddress, BadName, BadRange}
+use Rattle.gr_topo.specs.declared.fault.TopoFault.TheVariants.{Memory, Twice, Unknown, NotTree, BadFilter, TooMany}
+use Rattle.gr_topo.specs.declared.fault.TopoFault.TheVariants.{BadAddress, BadName, BadRange}
 use Rattle.gr_topo.specs.declared.settings.TheConstants.{MOST_TIME, MOST_CACHE}
 use Rattle.gr_topo.specs.declared.settings.Settings.{Settings}
 use Rattle.gr_topo.specs.declared.settings.WrittenSettings.{WrittenSettings}

@@ -35,7 +35,11 @@ no_addresses = record { names = []; texts = [] }
 
 -- one entry more at the end
 abbrev pub with_entry : EntryLists → Entry → EntryLists
-with_entry lists e = record { names = lists.names ++ e.name ∷ []; brokers = lists.brokers ++ e.at ∷ []; filters = lists.filters ++ e.filter ∷ [] }
+with_entry lists e = record {
+  names = lists.names ++ e.name ∷ [];
+  brokers = lists.brokers ++ e.at ∷ [];
+  filters = lists.filters ++ e.filter ∷ [];
+}
 
 abbrev pub with_address : AddressLists → List ℕ → List ℕ → AddressLists
 with_address lists name text = record { names = lists.names ++ name ∷ []; texts = lists.texts ++ text ∷ [] }

@@ -1,5 +1,6 @@
 -- What names and addresses are
-use Rattle.std.specs.Prelude.{ℕ, ◌+◌, ◌==◌, Bool, false, ◌&&◌, ◌||◌, nat_le, nat_lt, if◌then◌else◌, List, length, take, drop, Option, Some, None}
+use Rattle.std.specs.Prelude.{ℕ, ◌+◌, ◌==◌, Bool, false, ◌&&◌, ◌||◌, nat_le, nat_lt, if◌then◌else◌, List, length, take}
+use Rattle.std.specs.Prelude.{drop, Option, Some, None}
 use Rattle.std.specs.List.{list_all, position_or_len}
 use Rattle.std.specs.Option.{option_and_then}
 use Rattle.gr_sched.specs.Words.{is_number_in}
@@ -23,7 +24,9 @@ behind_octet mark text =
 
 -- the port of an address: what follows four numbers, three dots between them and ':'; 46 is '.', 58 is ':'
 abbrev pub port_of : List ℕ → Option (List ℕ)
-port_of text = option_and_then (behind_octet 58) (option_and_then (behind_octet 46) (option_and_then (behind_octet 46) (behind_octet 46 text)))
+port_of text =
+    option_and_then (behind_octet 58) (option_and_then (behind_octet 46)
+    (option_and_then (behind_octet 46) (behind_octet 46 text)))
 
 -- a port of 1 to 65535 in 1 to 5 digits
 abbrev pub is_port : Option (List ℕ) → Bool

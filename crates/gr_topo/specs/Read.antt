@@ -13,7 +13,8 @@ use Rattle.gr_topo.specs.Draft.{DraftLists}
 use Rattle.gr_topo.specs.Gives.{◌>>=◌}
 use Rattle.gr_topo.specs.Shape.{draft_in, required}
 use Rattle.gr_topo.specs.Topology.{TopologyView, blank}
-use Rattle.gr_topo.specs.Checks.{few, good_names, apart, numbers_in, links_in, tree_of, settings_of, filters_in, addresses_of}
+use Rattle.gr_topo.specs.Checks.{few, good_names, apart, numbers_in, links_in, tree_of, settings_of, filters_in}
+use Rattle.gr_topo.specs.Checks.{addresses_of}
 
 -- the three lists of names: not too many, each a name, none twice
 unfoldable pub names_checked : List (List ℕ) → List (List ℕ) → List (List ℕ) → Result (Unit {0}) TopoFault

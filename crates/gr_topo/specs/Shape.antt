@@ -1,12 +1,15 @@
--- What a topology part says, key by key, by the meaning of `toml`: its texts and numbers, or the first that is of another shape
-use Rattle.std.specs.Prelude.{ℕ, ℤ, pos, Bool, true, false, ◌&&◌, if◌then◌else◌, List, [], ◌∷◌, Option, Some, None, Result, Ok, Err, codes, bytes_eq}
+-- What a topology part says, key by key, by the meaning of `toml`: its texts and numbers, or the first that is of
+-- another shape
+use Rattle.std.specs.Prelude.{ℕ, ℤ, pos, Bool, true, false, ◌&&◌, if◌then◌else◌, List, [], ◌∷◌, Option, Some, None}
+use Rattle.std.specs.Prelude.{Result, Ok, Err, codes, bytes_eq}
 use Rattle.toml.specs.Data.{Data, string, integer, array, table, Items, no_items, item, Members, no_members, member}
 use Rattle.gr_topo.specs.declared.fault.TopoFault.{TopoFault}
 use Rattle.gr_topo.specs.declared.fault.TopoFault.TheVariants.{BadKey, BadType, Missing}
 use Rattle.gr_topo.specs.declared.settings.WrittenSettings.{WrittenSettings}
 use Rattle.gr_topo.specs.declared.draft.Entry.{Entry}
 use Rattle.gr_topo.specs.declared.draft.FoundEntry.{FoundEntry}
-use Rattle.gr_topo.specs.Draft.{EntryLists, AddressLists, DraftLists, no_entries, no_addresses, with_entry, with_address}
+use Rattle.gr_topo.specs.Draft.{EntryLists, AddressLists, DraftLists, no_entries, no_addresses, with_entry}
+use Rattle.gr_topo.specs.Draft.{with_address}
 use Rattle.gr_topo.specs.Gives.{◌>>=◌, walk, each}
 
 -- the items of an array in their order
@@ -71,7 +74,8 @@ unfoldable pub entry_key : Bool → FoundEntry → List ℕ × Data → Result F
 entry_key filters found m =
     if bytes_eq m.0 (codes "at") then (text_in m.0 m.1 >>= λ t. Ok (record found { at = Some t }))
     else (if bytes_eq m.0 (codes "name") then (text_in m.0 m.1 >>= λ t. Ok (record found { name = Some t }))
-    else (if bytes_eq m.0 (codes "filter") && filters then (text_in m.0 m.1 >>= λ t. Ok (record found { filter = Some t }))
+    else (if bytes_eq m.0 (codes "filter") && filters
+    then (text_in m.0 m.1 >>= λ t. Ok (record found { filter = Some t }))
     else Err (BadKey m.0)))
 
 -- `name` and `at` are required
@@ -137,9 +141,11 @@ root_key found m =
     else (if bytes_eq m.0 (codes "brokers") then (texts_in m.0 m.1 >>= λ x. Ok (record found { brokers = Some x }))
     else (if bytes_eq m.0 (codes "clients") then (addresses_in m.0 m.1 >>= λ x. Ok (record found { clients = x }))
     else (if bytes_eq m.0 (codes "links") then (pairs_in m.0 m.1 >>= λ x. Ok (record found { links = x }))
-    else (if bytes_eq m.0 (codes "publisher") then (entries_in m.0 false m.1 >>= λ x. Ok (record found { publishers = x }))
+    else (if bytes_eq m.0 (codes "publisher")
+    then (entries_in m.0 false m.1 >>= λ x. Ok (record found { publishers = x }))
     else (if bytes_eq m.0 (codes "settings") then (settings_in m.0 m.1 >>= λ x. Ok (record found { settings = x }))
-    else (if bytes_eq m.0 (codes "subscriber") then (entries_in m.0 true m.1 >>= λ x. Ok (record found { subscribers = x }))
+    else (if bytes_eq m.0 (codes "subscriber")
+    then (entries_in m.0 true m.1 >>= λ x. Ok (record found { subscribers = x }))
     else Err (BadKey m.0)))))))
 
 -- the keys of the root in byte order; what is required there is asked for by whoever reads on

@@ -1,5 +1,6 @@
 -- A topology as callers see it.
-use Rattle.std.specs.Prelude.{◌≡◌, ℕ, ◌<◌, ◌≤◌, Bool, true, false, not, ◌&&◌, ◌||◌, nat_eq, List, [], ◌∷◌, length, filter, Option, Some, None, bytes_eq, codes, slice_index, slice_index_or}
+use Rattle.std.specs.Prelude.{◌≡◌, ℕ, ◌<◌, ◌≤◌, Bool, true, false, not, ◌&&◌, ◌||◌, nat_eq, List, [], ◌∷◌, length}
+use Rattle.std.specs.Prelude.{filter, Option, Some, None, bytes_eq, codes, slice_index, slice_index_or}
 use Rattle.std.specs.List.{AllByRecursion, position, list_any}
 use Rattle.gr_event.specs.declared.event.Event.{Event}
 use Rattle.gr_filter.specs.Tree.{Tree}
@@ -11,9 +12,9 @@ use Rattle.gr_topo.specs.declared.limits.TheConstants.{MAX_BROKERS, MAX_PUBLISHE
 use Rattle.gr_topo.specs.declared.settings.TheConstants.{MOST_TIME, MOST_CACHE}
 use Rattle.gr_topo.specs.declared.settings.Settings.{Settings}
 
--- Brokers, publishers and subscribers by their numbers, from 0: the names of each; the links between brokers; the brokers
--- of publishers and of subscribers; the filters of subscribers, the addresses of brokers and those of the clients of
--- publishers, where there are any; the settings.
+-- Brokers, publishers and subscribers by their numbers, from 0: the names of each; the links between brokers; the
+-- brokers of publishers and of subscribers; the filters of subscribers, the addresses of brokers and those of the
+-- clients of publishers, where there are any; the settings.
 pub record TopologyView : Type 0 where
   pub brokers : List (List ℕ)
   pub publishers : List (List ℕ)

@@ -17,9 +17,12 @@ module _ (O : Coded Operand) (S : Coded Sign) where
   abbrev pub code_of : Tree → Gv
   code_of (alone x) = gcons (gnum 0) (O.code x)
   code_of (compare x sign y) = gcons (gnum 1) (gcons (O.code x) (gcons (S.code sign) (O.code y)))
-  code_of (between negated x low high) = gcons (gnum 2) (gcons (coded_bool.code negated) (gcons (O.code x) (gcons (O.code low) (O.code high))))
-  code_of (one_of negated name literals) = gcons (gnum 3) (gcons (coded_bool.code negated) (gcons (texts.code name) (operands.code literals)))
-  code_of (like negated name pattern) = gcons (gnum 4) (gcons (coded_bool.code negated) (gcons (texts.code name) (texts.code pattern)))
+  code_of (between negated x low high) =
+      gcons (gnum 2) (gcons (coded_bool.code negated) (gcons (O.code x) (gcons (O.code low) (O.code high))))
+  code_of (one_of negated name literals) =
+      gcons (gnum 3) (gcons (coded_bool.code negated) (gcons (texts.code name) (operands.code literals)))
+  code_of (like negated name pattern) =
+      gcons (gnum 4) (gcons (coded_bool.code negated) (gcons (texts.code name) (texts.code pattern)))
   code_of (is_null negated name) = gcons (gnum 5) (gcons (coded_bool.code negated) (texts.code name))
   code_of (negation a) = gcons (gnum 6) (code_of a)
   code_of (both a b) = gcons (gnum 7) (gcons (code_of a) (code_of b))

@@ -4,7 +4,8 @@ ghost use Rattle.std.specs.Prelude.{◌≡◌, ◌<◌, ◌≤◌, length, IfSom
 ghost use Rattle.std.specs.List.{list_all};
 ghost use Rattle.gr_topo.specs.Topology.{number_of};
 ghost use Rattle.gr_topo.specs.Gives.{Gives, walk, each};
-ghost use Rattle.gr_topo.specs.Checks.{few, is_name_byte, is_name, good_names, apart, number_in, numbers_in, link_in, links_in};
+ghost use Rattle.gr_topo.specs.Checks.{few, is_name_byte, is_name, good_names, apart, number_in, numbers_in, link_in};
+ghost use Rattle.gr_topo.specs.Checks.{links_in};
 ghost use Rattle.gr_topo.specs.declared.limits.TheConstants.{MAX_BROKERS};
 
 use crate::fault::TopoFault;

@@ -43,7 +43,9 @@ impl Model for Topology {
 
     ghost view = { λ t. view_of t.parts };
 
-    ghost invariant = { λ t. IsTopology (view_of t.parts) × (map (λ r. r.items) t.rows.items ≡ map (places_of (length t.parts.brokers.items) t.parts.links.items) t.parts.hosts.items) };
+    ghost invariant = { λ t. IsTopology (view_of t.parts) ×
+        (map (λ r. r.items) t.rows.items
+        ≡ map (places_of (length t.parts.brokers.items) t.parts.links.items) t.parts.hosts.items) };
 }
 
 /// For each host the places of the brokers, seen from it.
@@ -57,8 +59,10 @@ fn rows_of(
     requires links { IsWithin brokers links.now }
     requires hosts { (p : ℕ) → p < length hosts.now → slice_index hosts.now p < brokers }
     ensures rows { IfOk result (λ rows. map (λ r. r.items) rows.items ≡ map (places_of brokers links.now) hosts.now) }
-    ensures rooted { OnOk result ((p : ℕ) → p < length hosts.now → IsRooted brokers links.now (slice_index hosts.now p)) }
-    ensures paths { OnOk result ((p : ℕ) → p < length hosts.now → HasOnlyPaths brokers links.now (slice_index hosts.now p)) }
+    ensures rooted { OnOk result ((p : ℕ) → p < length hosts.now →
+        IsRooted brokers links.now (slice_index hosts.now p)) }
+    ensures paths { OnOk result ((p : ℕ) → p < length hosts.now →
+        HasOnlyPaths brokers links.now (slice_index hosts.now p)) }
 {
     let mut rows = Vec::new(alloc);
     for host in hosts {

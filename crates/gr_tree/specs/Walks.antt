@@ -1,5 +1,6 @@
 -- Links between numbered nodes, walks over them, and where each node stands, seen from a root
-use Rattle.std.specs.Prelude.{◌≡◌, ◌⊎◌, ℕ, zero, suc, ◌+◌, ◌-◌, ◌<◌, Bool, true, false, ◌&&◌, ◌||◌, nat_eq, nat_lt, if◌then◌else◌, List, [], ◌∷◌, length, map, Option, Some, None}
+use Rattle.std.specs.Prelude.{◌≡◌, ◌⊎◌, ℕ, zero, suc, ◌+◌, ◌-◌, ◌<◌, Bool, true, false, ◌&&◌, ◌||◌, nat_eq, nat_lt}
+use Rattle.std.specs.Prelude.{if◌then◌else◌, List, [], ◌∷◌, length, map, Option, Some, None}
 use Rattle.std.specs.List.{list_any, list_all}
 use Rattle.gr_tree.specs.declared.link.Link.{Link}
 use Rattle.gr_tree.specs.declared.link.Place.{Place}
@@ -56,11 +57,13 @@ pub record IsOnlyPath (links : List Link) (a : ℕ) (nodes : List ℕ) (b : ℕ)
 -- a walk of at most k links leads from a to b
 unfoldable pub is_reached : ℕ → List Link → ℕ → ℕ → ℕ → Bool
 is_reached n links zero a b = nat_eq a b
-is_reached n links (suc k) a b = is_reached n links k a b || list_any (λ c. is_reached n links k a c && is_linked links c b) (numbers n)
+is_reached n links (suc k) a b = is_reached n links k a b
+    || list_any (λ c. is_reached n links k a c && is_linked links c b) (numbers n)
 
 -- there is a node, there is one link fewer than nodes, and every node is reached from the first
 unfoldable pub is_tree : ℕ → List Link → Bool
-is_tree n links = nat_lt 0 n && (nat_eq (length links + 1) n && list_all (λ b. is_reached n links (n - 1) 0 b) (numbers n))
+is_tree n links = nat_lt 0 n && (nat_eq (length links + 1) n
+    && list_all (λ b. is_reached n links (n - 1) 0 b) (numbers n))
 
 -- ---- places
 
@@ -70,7 +73,8 @@ distance n links a b = least_number (λ k. is_reached n links k a b) 0 n
 
 -- the next node from b towards the root: a neighbour that is one link nearer
 unfoldable pub up_of : ℕ → List Link → ℕ → ℕ → Option ℕ
-up_of n links root b = first_number (λ c. is_linked links b c && nat_eq (suc (distance n links root c)) (distance n links root b)) 0 n
+up_of n links root b = first_number (λ c. is_linked links b c
+    && nat_eq (suc (distance n links root c)) (distance n links root b)) 0 n
 
 abbrev pub place_of : ℕ → List Link → ℕ → ℕ → Place
 place_of n links root b = record { up = up_of n links root b; depth = distance n links root b }
@@ -98,9 +102,11 @@ pub record IsRooted (n : ℕ) (links : List Link) (root : ℕ) : Type 0 where
   pub root_in : root < n
   pub no_up : up_of n links root root ≡ None
   pub top : distance n links root root ≡ 0
-  pub up_in : (b u : ℕ) → b < n → up_of n links root b ≡ Some u → (u < n) × (is_linked links b u ≡ true) × (distance n links root b ≡ suc (distance n links root u))
+  pub up_in : (b u : ℕ) → b < n → up_of n links root b ≡ Some u → (u < n) × (is_linked links b u ≡ true)
+      × (distance n links root b ≡ suc (distance n links root u))
   pub up_some : (b : ℕ) → b < n → (b ≡ root → ⊥) → (u : ℕ) × (up_of n links root b ≡ Some u)
-  pub link_up : (a b : ℕ) → is_linked links a b ≡ true → (up_of n links root a ≡ Some b) ⊎ (up_of n links root b ≡ Some a)
+  pub link_up : (a b : ℕ) → is_linked links a b ≡ true → (up_of n links root a ≡ Some b)
+      ⊎ (up_of n links root b ≡ Some a)
   pub depth_in : (b : ℕ) → b < n → distance n links root b < n
 
 -- from each node there is one walk to the root without a repeat: its path

@@ -12,7 +12,8 @@ use std::alloc::Global;
 /// Want of memory.
 pub type Memory = std::alloc::AllocError;
 
-/// The places of all nodes, seen from a root, or None exactly where the links make no tree of the nodes, whatever the root.
+/// The places of all nodes, seen from a root, or None exactly where the links make no tree of the nodes, whatever the
+/// root.
 ///
 /// Links make a tree where there is a node, there is one link fewer than nodes, and every node is reached from
 /// node 0.
@@ -111,7 +112,8 @@ fn attach(row: &mut [Option<Place>], link: Link)
 
 /// The places of all nodes, if each is placed.
 fn all_placed(alloc: Global, row: &[Option<Place>]) -> Result<Option<Vec<Place>>, Memory>
-    ensures { IfOk result (λ r. MatchOption r ((b : ℕ) × (b < length row.now) × (is_placed row.now b ≡ false)) (λ p. map Some p.items ≡ row.now)) }
+    ensures { IfOk result (λ r. MatchOption r ((b : ℕ) × (b < length row.now) × (is_placed row.now b ≡ false)) (λ p.
+        map Some p.items ≡ row.now)) }
 {
     let mut places = Vec::new(alloc);
     for place in row {

@@ -1,5 +1,5 @@
-//! Tests of trees, schedules, topologies, scenarios and match texts by their public calls alone. Nothing but tests stands
-//! here, since a crate with tests is proved twice.
+//! Tests of trees, schedules, topologies, scenarios and match texts by their public calls alone. Nothing but tests
+//! stands here, since a crate with tests is proved twice.
 #![tactic(auto)]
 
 #[cfg(test)]

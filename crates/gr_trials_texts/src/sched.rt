@@ -13,9 +13,11 @@ struct Two;
 impl Names for Two {
     ghost use Rattle.std.specs.Prelude.{◌≡◌, ℕ, List, Option, Some, None, codes, bytes_eq, if◌then◌else◌};
 
-    ghost broker_of = { λ _ name. if bytes_eq name (codes "A") then Some 0 else if bytes_eq name (codes "B-2") then Some 1 else None };
+    ghost broker_of = { λ _ name. if bytes_eq name (codes "A") then Some 0 else if bytes_eq name (codes "B-2")
+        then Some 1 else None };
 
-    ghost publisher_of = { λ _ name. if bytes_eq name (codes "P") then Some 0 else if bytes_eq name (codes "stop") then Some 1 else None };
+    ghost publisher_of = { λ _ name. if bytes_eq name (codes "P") then Some 0 else if bytes_eq name (codes "stop")
+        then Some 1 else None };
 
     fn broker(&self, name: &[u8]) -> Option<u16> {
         if name == b"A".as_slice() {

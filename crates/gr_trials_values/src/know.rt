@@ -163,7 +163,8 @@ fn quiet_then(alloc: Global, first: u64, tick: u64, event: &Event) -> Result<Pie
     Ok(piece)
 }
 
-// Two events come in the wrong order; the older one is answered from what is kept, then forgotten, and all is final at last.
+// Two events come in the wrong order; the older one is answered from what is kept, then forgotten, and all is final at
+// last.
 #[test]
 fn a_gap_is_filled_answered_and_forgotten(rt: HostRuntime) -> Result<(), Fail> {
     let one = numbered(rt.alloc(), 1)?;

@@ -1,5 +1,5 @@
-//! Tests of memory, events, filters, what is known and asked of ticks, and one order over publishers, each by the public
-//! calls of its crate alone. Nothing but tests stands here, since a crate with tests is proved twice.
+//! Tests of memory, events, filters, what is known and asked of ticks, and one order over publishers, each by the
+//! public calls of its crate alone. Nothing but tests stands here, since a crate with tests is proved twice.
 #![tactic(auto)]
 
 #[cfg(test)]

@@ -39,7 +39,8 @@ fn are(rt: &impl Abort, alloc: Global, items: &Items, expected: &[Named]) -> Res
     Ok(true)
 }
 
-/// Publisher 0 was heard up to 1500 and publisher 1 not at all: nothing is ready. Then publisher 1 was heard up to 1000.
+/// Publisher 0 was heard up to 1500 and publisher 1 not at all: nothing is ready. Then publisher 1 was heard up to
+/// 1000.
 #[test]
 fn waits_for_the_silent_publisher(rt: HostRuntime) -> Result<(), Fail> {
     let alloc = rt.alloc();

@@ -1,5 +1,6 @@
 -- A world's opening, and a broker's start again, over what the lanes hold
-use Rattle.std.specs.Prelude.{◌≡◌, ◌≢◌, ◌⊎◌, ℕ, ◌*◌, ◌<◌, true, false, List, [], length, flat_map, Option, Some, None, Result, Ok, Err, IsErrOf, OnOk}
+use Rattle.std.specs.Prelude.{◌≡◌, ◌≢◌, ◌⊎◌, ℕ, ◌*◌, ◌<◌, true, false, List, [], length, flat_map, Option, Some, None}
+use Rattle.std.specs.Prelude.{Result, Ok, Err, IsErrOf, OnOk}
 use Rattle.gr_out.specs.declared.disk.Stop.TheVariants.{Unset}
 use Rattle.gr_out.specs.Lane.{Lane, content}
 use Rattle.gr_publog.specs.Crash.{LogView}

@@ -1,5 +1,6 @@
 -- A publish that stops within: the append that is broken, and the host's start over what is left
-use Rattle.std.specs.Prelude.{◌≡◌, ◌≢◌, ◌⊎◌, ℕ, suc, max, Bool, false, ◌&&◌, nat_eq, nat_le, if◌then◌else◌, List, ◌∷◌, get_or, Option, Some, None, Result, Ok, Err, IsErrOf, OnOk}
+use Rattle.std.specs.Prelude.{◌≡◌, ◌≢◌, ◌⊎◌, ℕ, suc, max, Bool, false, ◌&&◌, nat_eq, nat_le, if◌then◌else◌, List, ◌∷◌}
+use Rattle.std.specs.Prelude.{get_or, Option, Some, None, Result, Ok, Err, IsErrOf, OnOk}
 use Rattle.gr_event.specs.declared.event.Event.{Event}
 use Rattle.gr_out.specs.Lane.{Lane, crash_image}
 use Rattle.gr_publog.specs.declared.record.Record.TheVariants as entry

@@ -5,7 +5,8 @@ use Rattle.gr_frame.specs.declared.Frame.{Frame}
 use Rattle.gr_model.specs.declared.report.Report.{Report}
 use Rattle.gr_model.specs.declared.report.Report.TheVariants as line
 use Rattle.gr_model.specs.Net.{Net, numbers}
-use Rattle.gr_model.specs.World.{World, Transition, unchanged, followed_by, in_turn, deliver_frame, deliver_up, is_want, frames_past, sent_since, wake_up, hand_down, sweep_for}
+use Rattle.gr_model.specs.World.{World, Transition, unchanged, followed_by, in_turn, deliver_frame, deliver_up, is_want}
+use Rattle.gr_model.specs.World.{frames_past, sent_since, wake_up, hand_down, sweep_for}
 use Rattle.gr_world.specs.declared.fault.WorldFault.{WorldFault}
 use Rattle.gr_world.specs.declared.fault.WorldFault.TheVariants as fault
 use Rattle.gr_world.specs.Seen.{WorldView, log_at, world_of}

@@ -1,6 +1,7 @@
 //! A world is opened over a disk, and a broker crashes and starts again.
 
-ghost use Rattle.std.specs.Prelude.{◌≡◌, ◌≢◌, ◌⊎◌, ℕ, ◌*◌, ◌<◌, true, false, [], ◌∷◌, length, Some, None, Err, IsErrOf, IsSome, IfOk, OnOk};
+ghost use Rattle.std.specs.Prelude.{◌≡◌, ◌≢◌, ◌⊎◌, ℕ, ◌*◌, ◌<◌, true, false, [], ◌∷◌, length, Some, None, Err, IsErrOf};
+ghost use Rattle.std.specs.Prelude.{IsSome, IfOk, OnOk};
 ghost use Rattle.gr_out.specs.Lane.{content, crash_image};
 ghost use Rattle.gr_out.specs.Stops.{StaysFaultless};
 ghost use Rattle.gr_sched.specs.declared.step.Step.TheVariants as step;
@@ -12,7 +13,8 @@ ghost use Rattle.gr_broker.specs.Opened.{IsDamagedAt};
 ghost use Rattle.gr_world.specs.Seen.{net_in, world_of, log_at};
 ghost use Rattle.gr_publog.specs.Crash.{LogView};
 ghost use Rattle.gr_world.specs.Of.{IsWorld, LaneFits, IsReadable, LanesFit, IsSound};
-ghost use Rattle.gr_world.specs.Opened.{NoStops, AreEmpty, IsRead, IsOpened, IsSoundBut, Restarts, restart_over, with_down};
+ghost use Rattle.gr_world.specs.Opened.{NoStops, AreEmpty, IsRead, IsOpened, IsSoundBut, Restarts, restart_over};
+ghost use Rattle.gr_world.specs.Opened.{with_down};
 ghost use Rattle.gr_world.specs.Steps.{Makes, Refuses, Spends, Stays, Does, IsCarried, refused_at};
 ghost use Rattle.gr_world.specs.Disk.{Counts, StaysSound, NotDisk, UsesDisk};
 

@@ -8,7 +8,8 @@ ghost use Rattle.gr_topo.specs.Topology.{IsTopology, host_of};
 ghost use Rattle.gr_broker.specs.Told.{log_answer};
 ghost use Rattle.gr_broker.specs.Opened.{IsDamagedAt};
 ghost use Rattle.gr_world.specs.Opened.{NoStops};
-ghost use Rattle.gr_world.specs.Starting.{HaveStarted, HaveOpened, CrashesLanes, IsExchanged, OpensAgain, TouchesLanes, LeavesNoLog};
+ghost use Rattle.gr_world.specs.Starting.{HaveStarted, HaveOpened, CrashesLanes, IsExchanged, OpensAgain, TouchesLanes};
+ghost use Rattle.gr_world.specs.Starting.{LeavesNoLog};
 
 use gr_broker::{Broker, BrokerFault};
 use gr_model::Reports;

@@ -1,6 +1,7 @@
 //! A publish that stops inside.
 
-ghost use Rattle.std.specs.Prelude.{◌≡◌, ◌≢◌, ◌⊎◌, ◌↔◌, ℕ, ◌*◌, ◌∷◌, ◌<◌, ◌≤◌, nat_eq, false, List, length, Some, None, Ok, Err, IsErrOf, IsSome, IfOk, OnOk};
+ghost use Rattle.std.specs.Prelude.{◌≡◌, ◌≢◌, ◌⊎◌, ◌↔◌, ℕ, ◌*◌, ◌∷◌, ◌<◌, ◌≤◌, nat_eq, false, List, length, Some, None};
+ghost use Rattle.std.specs.Prelude.{Ok, Err, IsErrOf, IsSome, IfOk, OnOk};
 ghost use Rattle.gr_out.specs.Lane.{crash_image};
 ghost use Rattle.gr_out.specs.Stops.{StaysFaultless};
 ghost use Rattle.gr_sched.specs.declared.step.Step.TheVariants as step;
