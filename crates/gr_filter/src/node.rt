@@ -1,7 +1,7 @@
 //! The tree of a filter.
 
 ghost use Rattle.std.specs.Prelude.{◌≡◌, ◌++◌, ◌∷◌, [], IfOk, OnOk, OnErr};
-ghost use Rattle.gr_filter.specs.Tree.{tree_of};
+ghost use Rattle.gr_filter.specs.Tree.{tree_of, between, one_of, like};
 
 use gr_event::Text;
 use std::alloc::{AllocError, Global};
@@ -169,6 +169,51 @@ pub(crate) fn copy_text(alloc: Global, text: &Text) -> Result<Text, AllocError>
     Text::from_slice(alloc, text.as_slice())
 }
 
+/// A node of BETWEEN with copies of its operands.
+fn copy_between(
+    alloc: Global,
+    negated: bool,
+    operand: &Operand,
+    low: &Operand,
+    high: &Operand,
+) -> Result<Node, AllocError>
+    ensures { IfOk result (λ n. tree_of n ≡ between negated operand.now low.now high.now) }
+{
+    Ok(Node::Between {
+        negated,
+        operand: operand.copy(alloc)?,
+        low: low.copy(alloc)?,
+        high: high.copy(alloc)?,
+    })
+}
+
+/// A node of IN with copies of its name and its literals.
+fn copy_one_of(
+    alloc: Global,
+    negated: bool,
+    name: &Text,
+    literals: &Operands,
+) -> Result<Node, AllocError>
+    ensures { IfOk result (λ n. tree_of n ≡ one_of negated name.now literals.now) }
+{
+    Ok(Node::OneOf {
+        negated,
+        name: copy_text(alloc, name)?,
+        literals: literals.copy(alloc)?,
+    })
+}
+
+/// A node of LIKE with copies of its name and its pattern.
+fn copy_like(alloc: Global, negated: bool, name: &Text, pattern: &Text) -> Result<Node, AllocError>
+    ensures { IfOk result (λ n. tree_of n ≡ like negated name.now pattern.now) }
+{
+    Ok(Node::Like {
+        negated,
+        name: copy_text(alloc, name)?,
+        pattern: copy_text(alloc, pattern)?,
+    })
+}
+
 impl Node {
     /// A node with an equal tree.
     pub fn copy(&self, alloc: Global) -> Result<Node, AllocError>
@@ -186,30 +231,17 @@ impl Node {
                 operand,
                 low,
                 high,
-            } => Ok(Node::Between {
-                negated: *negated,
-                operand: operand.copy(alloc)?,
-                low: low.copy(alloc)?,
-                high: high.copy(alloc)?,
-            }),
+            } => copy_between(alloc, *negated, operand, low, high),
             Node::OneOf {
                 negated,
                 name,
                 literals,
-            } => Ok(Node::OneOf {
-                negated: *negated,
-                name: copy_text(alloc, name)?,
-                literals: literals.copy(alloc)?,
-            }),
+            } => copy_one_of(alloc, *negated, name, literals),
             Node::Like {
                 negated,
                 name,
                 pattern,
-            } => Ok(Node::Like {
-                negated: *negated,
-                name: copy_text(alloc, name)?,
-                pattern: copy_text(alloc, pattern)?,
-            }),
+            } => copy_like(alloc, *negated, name, pattern),
             Node::IsNull { negated, name } => Ok(Node::IsNull {
                 negated: *negated,
                 name: copy_text(alloc, name)?,

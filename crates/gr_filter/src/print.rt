@@ -2,7 +2,7 @@
 
 ghost use Rattle.std.specs.Prelude.{◌≡◌, ◌++◌, ◌≤◌, Ok, length, IfOk, OnOk};
 ghost use Rattle.gr_filter.specs.Grammar.{filter_text};
-ghost use Rattle.gr_filter.specs.Tree.{tree_of};
+ghost use Rattle.gr_filter.specs.Tree.{tree_of, compare, between, one_of, like, is_null};
 ghost use Rattle.gr_filter.specs.Written.{depth};
 ghost use Rattle.gr_filter.specs.declared.parser.TheConstants.{LEVELS, MAX_BYTES};
 ghost use Rattle.gr_filter.specs.Print.{sign_text, doubled, quoted, operand_text, more_text, literals_text, not_text};
@@ -33,51 +33,24 @@ fn put_node(alloc: Global, out: &mut Text, node: &Node) -> Result<(), Memory>
 {
     match node {
         Node::Alone(operand) => put_operand(alloc, out, operand),
-        Node::Compare { left, sign, right } => {
-            put_operand(alloc, out, left)?;
-            out.append(sign_text(*sign))?;
-            put_operand(alloc, out, right)
-        }
+        Node::Compare { left, sign, right } => put_compare(alloc, out, left, *sign, right),
         Node::Between {
             negated,
             operand,
             low,
             high,
-        } => {
-            put_operand(alloc, out, operand)?;
-            out.append(not_text(*negated))?;
-            out.append(b" BETWEEN ")?;
-            put_operand(alloc, out, low)?;
-            out.append(b" AND ")?;
-            put_operand(alloc, out, high)
-        }
+        } => put_between(alloc, out, *negated, operand, low, high),
         Node::OneOf {
             negated,
             name,
             literals,
-        } => {
-            out.append(name.as_slice())?;
-            out.append(not_text(*negated))?;
-            out.append(b" IN (")?;
-            put_literals(alloc, out, literals.as_slice())?;
-            out.append(b")")
-        }
+        } => put_one_of(alloc, out, *negated, name, literals.as_slice()),
         Node::Like {
             negated,
             name,
             pattern,
-        } => {
-            out.append(name.as_slice())?;
-            out.append(not_text(*negated))?;
-            out.append(b" LIKE ")?;
-            put_quoted(out, pattern.as_slice())
-        }
-        Node::IsNull { negated, name } => {
-            out.append(name.as_slice())?;
-            out.append(b" IS")?;
-            out.append(not_text(*negated))?;
-            out.append(b" NULL")
-        }
+        } => put_like(out, *negated, name, pattern),
+        Node::IsNull { negated, name } => put_null(out, *negated, name),
         Node::Not(node) => {
             out.append(b"(NOT ")?;
             put_node(alloc, out, node)?;
@@ -98,6 +71,77 @@ fn put_node(alloc: Global, out: &mut Text, node: &Node) -> Result<(), Memory>
             out.append(b")")
         }
     }
+}
+
+/// Puts two operands with a sign between them.
+fn put_compare(
+    alloc: Global,
+    out: &mut Text,
+    left: &Operand,
+    sign: Sign,
+    right: &Operand,
+) -> Result<(), Memory>
+    ensures { OnOk result (out.new ≡ out.old ++ tree_text (compare left.now sign right.now)) }
+{
+    put_operand(alloc, out, left)?;
+    out.append(sign_text(sign))?;
+    put_operand(alloc, out, right)
+}
+
+/// Puts an operand, BETWEEN and both ends.
+fn put_between(
+    alloc: Global,
+    out: &mut Text,
+    negated: bool,
+    operand: &Operand,
+    low: &Operand,
+    high: &Operand,
+) -> Result<(), Memory>
+    ensures { OnOk result (out.new ≡ out.old ++ tree_text (between negated operand.now low.now high.now)) }
+{
+    put_operand(alloc, out, operand)?;
+    out.append(not_text(negated))?;
+    out.append(b" BETWEEN ")?;
+    put_operand(alloc, out, low)?;
+    out.append(b" AND ")?;
+    put_operand(alloc, out, high)
+}
+
+/// Puts a name, IN and literals in parentheses.
+fn put_one_of(
+    alloc: Global,
+    out: &mut Text,
+    negated: bool,
+    name: &Text,
+    literals: &[Operand],
+) -> Result<(), Memory>
+    ensures { OnOk result (out.new ≡ out.old ++ tree_text (one_of negated name.now literals.now)) }
+{
+    out.append(name.as_slice())?;
+    out.append(not_text(negated))?;
+    out.append(b" IN (")?;
+    put_literals(alloc, out, literals)?;
+    out.append(b")")
+}
+
+/// Puts a name, LIKE and a pattern in quotes.
+fn put_like(out: &mut Text, negated: bool, name: &Text, pattern: &Text) -> Result<(), Memory>
+    ensures { OnOk result (out.new ≡ out.old ++ tree_text (like negated name.now pattern.now)) }
+{
+    out.append(name.as_slice())?;
+    out.append(not_text(negated))?;
+    out.append(b" LIKE ")?;
+    put_quoted(out, pattern.as_slice())
+}
+
+/// Puts a name and IS NULL or IS NOT NULL.
+fn put_null(out: &mut Text, negated: bool, name: &Text) -> Result<(), Memory>
+    ensures { OnOk result (out.new ≡ out.old ++ tree_text (is_null negated name.now)) }
+{
+    out.append(name.as_slice())?;
+    out.append(b" IS")?;
+    out.append(not_text(negated))?;
+    out.append(b" NULL")
 }
 
 /// A sign, with a space on both sides.
