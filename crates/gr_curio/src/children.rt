@@ -15,7 +15,7 @@ use gr_tick::{Piece, Run, Steady, Stream};
 use std::alloc::{AllocError, Global};
 
 /// A number of children that ask and acknowledge nothing.
-pub fn quiet_children(alloc: Global, count: usize) -> Result<Vec<Stream<Q3>>, AllocError>
+pub(crate) fn quiet_children(alloc: Global, count: usize) -> Result<Vec<Stream<Q3>>, AllocError>
     ensures { IfOk result (λ children. runs_of children.items ≡ replicate count []) }
 {
     let mut children = Vec::new(alloc);
@@ -28,7 +28,10 @@ pub fn quiet_children(alloc: Global, count: usize) -> Result<Vec<Stream<Q3>>, Al
 }
 
 /// Children with equal runs.
-pub fn copy_children(alloc: Global, children: &[Stream<Q3>]) -> Result<Vec<Stream<Q3>>, AllocError>
+pub(crate) fn copy_children(
+    alloc: Global,
+    children: &[Stream<Q3>],
+) -> Result<Vec<Stream<Q3>>, AllocError>
     ensures { IfOk result (λ copy. runs_of copy.items ≡ runs_of children.now) }
 {
     let mut copy = Vec::new(alloc);
@@ -40,7 +43,7 @@ pub fn copy_children(alloc: Global, children: &[Stream<Q3>]) -> Result<Vec<Strea
 }
 
 /// Whether a child has acknowledged each tick from 1 to `upto`.
-pub fn covers_upto(child: &Stream<Q3>, upto: u64) -> bool
+pub(crate) fn covers_upto(child: &Stream<Q3>, upto: u64) -> bool
     ensures { IsTrue result ↔ ((t : ℕ) → 1 ≤ t → t ≤ upto → is_A (wanted_at child.now.runs t) ≡ true) }
 {
     if upto == 0 {
@@ -259,7 +262,7 @@ fn completed_by(
 
 /// Acknowledged at the ticks up to `upto` that a piece acknowledges, and that every child has acknowledged, but one
 /// that is left out.
-pub fn completed_piece(
+pub(crate) fn completed_piece(
     alloc: Global,
     children: &[Stream<Q3>],
     but: Option<usize>,
@@ -289,7 +292,7 @@ fn last_of_all(children: &[Stream<Q3>]) -> u64
 }
 
 /// Asked at the ticks that some child asks.
-pub fn curious_piece(alloc: Global, children: &[Stream<Q3>]) -> Result<Piece<Q3>, AllocError>
+pub(crate) fn curious_piece(alloc: Global, children: &[Stream<Q3>]) -> Result<Piece<Q3>, AllocError>
     ensures { IfOk result (λ piece. RunsGive N piece (λ t. if any_C (runs_of children.now) t then C else N)) }
 {
     let limit = last_of_all(children);

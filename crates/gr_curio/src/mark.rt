@@ -10,7 +10,7 @@ use gr_tick::{Lattice, Piece, Run, Stream};
 use std::alloc::AllocError;
 
 /// Puts a value at each tick that a piece asks. `AllocError` leaves the stream as it was.
-pub fn mark_asked<V: Lattice>(
+pub(crate) fn mark_asked<V: Lattice>(
     stream: &mut Stream<V>,
     piece: &Piece<Q3>,
     value: &V,
@@ -29,7 +29,7 @@ pub fn mark_asked<V: Lattice>(
 
 /// Puts a value at each tick that a piece asks, where there is room for two runs for each run of the piece. It takes no
 /// memory.
-pub fn mark_ready<V: Lattice>(stream: &mut Stream<V>, piece: &Piece<Q3>, value: &V)
+pub(crate) fn mark_ready<V: Lattice>(stream: &mut Stream<V>, piece: &Piece<Q3>, value: &V)
     requires { length piece.now * 2 ≤ stream.old.spare }
     ensures marked { RunsGive V.least stream.new.runs (λ t. if is_C (wanted_at piece.now t) then value.now
         else value_at V.least stream.old.runs t) }

@@ -12,7 +12,7 @@ use crate::values::K;
 use gr_tick::{Piece, Run, Stream};
 
 /// Whether a run has an event.
-pub fn is_data(run: &Run<K>) -> bool
+pub(crate) fn is_data(run: &Run<K>) -> bool
     ensures { result ≡ is_D run.now.value }
 {
     match &run.value {
@@ -36,7 +36,7 @@ fn events_shared(run: &Run<K>, first: u64, last: u64) -> u64
 }
 
 /// How many ticks of a range have an event.
-pub fn events_in(stream: &Stream<K>, first: u64, last: u64) -> u64
+pub(crate) fn events_in(stream: &Stream<K>, first: u64, last: u64) -> u64
     requires from_one { 1 ≤ first }
     requires ordered { first ≤ last }
     requires upto { last ≤ MAX_TICK }
@@ -56,7 +56,7 @@ pub fn events_in(stream: &Stream<K>, first: u64, last: u64) -> u64
 }
 
 /// How many ticks of a piece have an event in what is known.
-pub fn events_at(stream: &Stream<K>, piece: &Piece<K>) -> u64
+pub(crate) fn events_at(stream: &Stream<K>, piece: &Piece<K>) -> u64
     ensures { result ≡ events_at (known_at stream.now.runs) piece.now }
 {
     let mut count = 0u64;
@@ -68,7 +68,7 @@ pub fn events_at(stream: &Stream<K>, piece: &Piece<K>) -> u64
 }
 
 /// Joins a piece, where the room for it is there.
-pub fn join_counted(stream: &mut Stream<K>, piece: &Piece<K>, events: u64) -> u64
+pub(crate) fn join_counted(stream: &mut Stream<K>, piece: &Piece<K>, events: u64) -> u64
     requires room { needed stream.old.runs piece.now ≤ stream.old.spare }
     requires counted { events ≡ data_count stream.old.runs }
     ensures joined { RunsGive Q stream.new.runs (λ t. join_K (known_at stream.old.runs t) (known_at piece.now t)) }
@@ -85,7 +85,7 @@ pub fn join_counted(stream: &mut Stream<K>, piece: &Piece<K>, events: u64) -> u6
 }
 
 /// Makes the ticks of a piece unknown, where there is room for as many runs as it has.
-pub fn lower_counted(stream: &mut Stream<K>, piece: &Piece<K>, events: u64) -> u64
+pub(crate) fn lower_counted(stream: &mut Stream<K>, piece: &Piece<K>, events: u64) -> u64
     requires room { length piece.now ≤ stream.old.spare }
     requires counted { events ≡ data_count stream.old.runs }
     ensures lowered { RunsGive Q stream.new.runs (λ t. if is_told piece.now t then Q else known_at stream.old.runs t) }
@@ -101,7 +101,7 @@ pub fn lower_counted(stream: &mut Stream<K>, piece: &Piece<K>, events: u64) -> u
 }
 
 /// Makes the ticks of a range final, where there is room for two runs.
-pub fn finish_counted(stream: &mut Stream<K>, first: u64, last: u64, events: u64) -> u64
+pub(crate) fn finish_counted(stream: &mut Stream<K>, first: u64, last: u64, events: u64) -> u64
     requires from_one { 1 ≤ first }
     requires ordered { first ≤ last }
     requires upto { last ≤ MAX_TICK }

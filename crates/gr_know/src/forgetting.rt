@@ -16,7 +16,7 @@ fn may_lower(run: &Run<K>, upto: u64) -> bool
 
 /// The least tick with an event, or 2^64 - 1 where there is none. It looks at no run that ends below a tick below which
 /// there is none.
-pub fn first_data(stream: &Stream<K>, from: u64) -> u64
+pub(crate) fn first_data(stream: &Stream<K>, from: u64) -> u64
     requires none { NoDataBelow from stream.now.runs }
     ensures none { NoDataBelow result stream.now.runs }
     ensures event { result < 2 ^ 64 - 1 → is_D (known_at stream.now.runs result) ≡ true }
@@ -33,7 +33,7 @@ pub fn first_data(stream: &Stream<K>, from: u64) -> u64
 }
 
 /// The least tick of a piece with an event, or 2^64 - 1 where there is none.
-pub fn first_data_of(piece: &Piece<K>) -> u64
+pub(crate) fn first_data_of(piece: &Piece<K>) -> u64
     ensures none { NoDataBelow result piece.now }
     ensures event { result < 2 ^ 64 - 1 → is_D (known_at piece.now result) ≡ true }
 {
@@ -49,7 +49,7 @@ pub fn first_data_of(piece: &Piece<K>) -> u64
 /// Makes so many ticks with an event unknown, the least ones first and none past a tick, and answers how many are left
 /// to do, since no more have an event up to there. None below `from` has one. It looks at no run that ends below it, at
 /// none where there are none to do, and at one past `upto` at most.
-pub fn forget_data(stream: &mut Stream<K>, from: u64, count: u64, upto: u64) -> u64
+pub(crate) fn forget_data(stream: &mut Stream<K>, from: u64, count: u64, upto: u64) -> u64
     requires none { NoDataBelow from stream.old.runs }
     ensures lowered { stream.new.runs ≡ lower_data count upto stream.old.runs }
     ensures fewer { result ≤ count }

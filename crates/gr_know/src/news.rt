@@ -13,7 +13,7 @@ use gr_tick::{Lattice, MAX_TICK, Piece, Run, Stream};
 use std::alloc::{AllocError, Global};
 
 /// What came where nothing was known.
-pub fn fresh_piece(
+pub(crate) fn fresh_piece(
     alloc: Global,
     stream: &Stream<K>,
     piece: &Piece<K>,
@@ -30,7 +30,7 @@ pub fn fresh_piece(
 }
 
 /// How far a horizon moves once a piece is joined: nothing is unknown then on the ticks past it and up to there.
-pub fn horizon_with(stream: &Stream<K>, piece: &Piece<K>, horizon: u64) -> u64
+pub(crate) fn horizon_with(stream: &Stream<K>, piece: &Piece<K>, horizon: u64) -> u64
     requires { horizon ≤ MAX_TICK }
     ensures forward { horizon ≤ result }
     ensures inside { result ≤ MAX_TICK }
@@ -71,7 +71,7 @@ fn came_until(piece: &Piece<K>, tick: u64) -> u64
 }
 
 /// What is known of a range once a piece is joined.
-pub fn joined_piece(
+pub(crate) fn joined_piece(
     alloc: Global,
     stream: &Stream<K>,
     piece: &Piece<K>,
@@ -139,7 +139,7 @@ fn put_part(fresh: &mut Piece<K>, value: &K, first: u64, last: u64) -> Result<()
 }
 
 /// The least clashing tick.
-pub fn find_clash(stream: &Stream<K>, piece: &Piece<K>) -> Option<Clash>
+pub(crate) fn find_clash(stream: &Stream<K>, piece: &Piece<K>) -> Option<Clash>
     ensures { MatchOption result ((t : ℕ) → clash_K (known_at stream.now.runs t) (known_at piece.now t) ≡ false)
         (λ c. IsLeastClash (known_at stream.now.runs) (known_at piece.now) c.tick c.kept c.came) }
 {

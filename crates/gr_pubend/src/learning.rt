@@ -15,7 +15,7 @@ use gr_tick::{Piece, Run};
 use std::alloc::{AllocError, Global};
 
 /// Silence on a range of ticks. A range that ends before it begins has none.
-pub fn fresh_silence(alloc: Global, first: u64, last: u64) -> Result<Piece<K>, Memory>
+pub(crate) fn fresh_silence(alloc: Global, first: u64, last: u64) -> Result<Piece<K>, Memory>
     requires from_one { 1 ≤ first }
     requires upto { last ≤ MAX_TICK }
     ensures { IfOk result (λ piece. piece ≡ silence first last []) }
@@ -32,7 +32,12 @@ pub fn fresh_silence(alloc: Global, first: u64, last: u64) -> Result<Piece<K>, M
 }
 
 /// Silence from one tick on, and an event at another, at or past it.
-pub fn fresh_event(alloc: Global, first: u64, tick: u64, event: &Event) -> Result<Piece<K>, Memory>
+pub(crate) fn fresh_event(
+    alloc: Global,
+    first: u64,
+    tick: u64,
+    event: &Event,
+) -> Result<Piece<K>, Memory>
     requires from_one { 1 ≤ first }
     requires ordered { first ≤ tick }
     requires upto { tick ≤ MAX_TICK }

@@ -17,7 +17,7 @@ use gr_out::{Disk, Failed};
 use std::alloc::Global;
 
 /// Writes bytes behind a closed gate, and only once they are synced opens the gate.
-pub fn append_behind<D: Disk>(
+pub(crate) fn append_behind<D: Disk>(
     disk: &mut D,
     lane: u16,
     gate: u64,
@@ -66,7 +66,7 @@ pub fn append_behind<D: Disk>(
 }
 
 /// Makes room for an empty log in a lane and syncs it, and answers how many bytes it has.
-pub fn ready_lane<D: Disk>(disk: &mut D, lane: u16) -> Result<u64, LogFault>
+pub(crate) fn ready_lane<D: Disk>(disk: &mut D, lane: u16) -> Result<u64, LogFault>
     ensures size { D.tells → IfOk result (λ n. n ≡ length (content (D.lane_of disk.old lane))) }
     ensures content { D.tells → content (D.lane_of disk.new lane) ≡ content (D.lane_of disk.old lane) }
     ensures only { let l = D.lane_of disk.new lane in D.tells → OnOk result (LeavesOnly l (content l)) }
@@ -107,7 +107,7 @@ pub fn ready_lane<D: Disk>(disk: &mut D, lane: u16) -> Result<u64, LogFault>
 }
 
 /// Gives a lane of at most 6 bytes the text of an empty log.
-pub fn write_empty<D: Disk>(disk: &mut D, lane: u16) -> Result<(), Failed>
+pub(crate) fn write_empty<D: Disk>(disk: &mut D, lane: u16) -> Result<(), Failed>
     requires short { D.tells → length (content (D.lane_of disk.old lane)) ≤ 6 }
     requires room { D.tells → 6 ≤ (D.lane_of disk.old lane).room }
     requires few { D.tells → 3 ≤ (D.lane_of disk.old lane).left }
