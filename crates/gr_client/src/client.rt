@@ -1,6 +1,7 @@
 //! The side of a publisher's process.
 
-ghost use Rattle.std.specs.Prelude.{◌≡◌, ◌^◌, ◌≤◌, length, Ok};
+ghost use Rattle.std.specs.Prelude.{◌≡◌, ◌≤◌, length, Ok};
+ghost use Rattle.gr_note.specs.declared.TheConstants.{MAX_NUMBER};
 ghost use Rattle.gr_client.specs.Client.{IsAmong, client_begun, heard_by, offered};
 ghost use Rattle.gr_client.specs.Client.{begun_with, after_next, after_spent, after_note};
 
@@ -32,20 +33,21 @@ pub struct Client {
 }
 
 impl Model for Client {
-    ghost use Rattle.std.specs.Prelude.{◌^◌, ◌≤◌, length};
+    ghost use Rattle.std.specs.Prelude.{◌≤◌, length};
+    ghost use Rattle.gr_note.specs.declared.TheConstants.{MAX_NUMBER};
     ghost use Rattle.gr_client.specs.Client.{ClientView, IsAmong};
 
     ghost Value = { ClientView };
 
     ghost view = { λ c. record { publisher = c.publisher; events = c.events; progress = c.progress } };
 
-    ghost invariant = { λ c. (length c.events ≤ 2 ^ 62) × IsAmong (length c.events) c.progress };
+    ghost invariant = { λ c. (length c.events ≤ MAX_NUMBER) × IsAmong (length c.events) c.progress };
 }
 
 impl Client {
     /// A client that begins with the first of its events. Takes no memory.
     pub fn new(publisher: u16, events: Events) -> Client
-        requires { length events ≤ 2 ^ 62 }
+        requires { length events ≤ MAX_NUMBER }
         ensures { result ≡ client_begun publisher events }
     {
         let progress = begun_with(events.len() as u64);
@@ -62,7 +64,7 @@ impl Client {
     pub fn offer(&self) -> Result<Option<Note>, Memory>
         ensures offers { result ≡ Ok (offered self.now) }
         ensures among { IsAmong (length self.now.events) self.now.progress }
-        ensures few { length self.now.events ≤ 2 ^ 62 }
+        ensures few { length self.now.events ≤ MAX_NUMBER }
     {
         match self.progress {
             Progress::Running { next } => {
@@ -101,7 +103,7 @@ impl Client {
     /// How many events it has, at most 2^62.
     pub(crate) fn count(&self) -> u64
         ensures count { result ≡ length self.now.events }
-        ensures few { length self.now.events ≤ 2 ^ 62 }
+        ensures few { length self.now.events ≤ MAX_NUMBER }
     {
         self.events.len() as u64
     }
@@ -128,7 +130,7 @@ fn begun_with(count: u64) -> Progress
 
 /// How far a client of a publisher is after a note.
 fn after_note(publisher: u16, count: u64, progress: Progress, note: &Note) -> Progress
-    requires few { count ≤ 2 ^ 62 }
+    requires few { count ≤ MAX_NUMBER }
     requires among { IsAmong count progress }
     ensures after { result ≡ after_note publisher count progress note.now }
     ensures among { IsAmong count result }
@@ -145,7 +147,7 @@ fn after_note(publisher: u16, count: u64, progress: Progress, note: &Note) -> Pr
 
 /// How far a client is that is told which number comes next.
 fn after_next(count: u64, progress: Progress, next: u64) -> Progress
-    requires few { count ≤ 2 ^ 62 }
+    requires few { count ≤ MAX_NUMBER }
     requires among { IsAmong count progress }
     ensures after { result ≡ after_next count progress next }
     ensures among { IsAmong count result }

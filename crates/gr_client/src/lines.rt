@@ -1,7 +1,8 @@
 //! The lines that a client prints.
 
-ghost use Rattle.std.specs.Prelude.{◌≡◌, ◌<◌, ◌≤◌, ◌^◌, ◌++◌, length, IfOk, OnOk};
+ghost use Rattle.std.specs.Prelude.{◌≡◌, ◌<◌, ◌≤◌, ◌++◌, length, IfOk, OnOk};
 ghost use Rattle.std.specs.Fmt.{decimal};
+ghost use Rattle.gr_note.specs.declared.TheConstants.{MAX_NUMBER};
 ghost use Rattle.gr_client.specs.Run.{next_line, next_of_line, spent_line, ahead_line, last_line};
 
 use crate::client::Progress;
@@ -85,7 +86,7 @@ pub(crate) fn last_line(
     progress: Progress,
 ) -> Result<Text, Memory>
     requires publisher { p < length topo.now.publishers }
-    requires few { count ≤ 2 ^ 62 }
+    requires few { count ≤ MAX_NUMBER }
     ensures { IfOk result (λ line. line ≡ last_line topo.now p count progress) }
 {
     match progress {
