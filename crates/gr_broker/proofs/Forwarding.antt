@@ -1,5 +1,5 @@
 -- Each child is sent what passes the edge to it and what it has not acknowledged, and then wants what the machine says.
-use Rattle.std.proofs.Common.{◌≡◌, ℕ, suc, ◌+◌, ◌<◌, not, ◌&&◌, List, [], ◌∷◌, ◌++◌, length, get_or, refl, sym, ap, ap₂, ◌∙◌, subst, inl, inr, arith}
+use Rattle.std.proofs.Common.{◌≡◌, ℕ, suc, ◌+◌, ◌<◌, ◌⊎◌, not, ◌&&◌, List, [], ◌∷◌, ◌++◌, length, get_or, refl, sym, ap, ap₂, ◌∙◌, subst, inl, inr, arith}
 use Rattle.std.specs.Prelude.{if◌then◌else◌, slice_index_or}
 use Rattle.std.proofs.lemmas.Bool.{cases_lt}
 use Rattle.std.proofs.lemmas.List.{ext_get_or, get_or_append_left, get_or_push, get_or_default}
@@ -12,23 +12,44 @@ use Rattle.gr_know.proofs.ValueLaws.{K_decides}
 use Rattle.gr_curio.specs.declared.values.Q3.TheVariants.{N, C}
 use Rattle.gr_curio.specs.Values.{Wanted, wanted_at, is_A, is_C}
 use Rattle.gr_curio.specs.Wants.{wants_of, all_A}
+use Rattle.gr_edge.specs.Pass.{pass}
+use Rattle.gr_frame.specs.declared.Frame.{Frame}
+use Rattle.gr_frame.specs.Frames.{FrameList}
 use Rattle.gr_topo.specs.Topology.{children_of}
 use Rattle.gr_model.specs.Net.{Net}
-use Rattle.gr_model.specs.NetOf.{filters_below}
-use Rattle.gr_model.specs.Broker.{new_ticks, passed, forward, forward_wants}
+use Rattle.gr_model.specs.NetOf.{net_of, filters_below}
+use Rattle.gr_model.specs.Broker.{new_ticks, passed, forward, know_frames, forward_wants}
 use Rattle.gr_theorems.proofs.calls.Passed.{passed-is}
 use Rattle.gr_broker.specs.declared.place.Child.{Child}
 use Rattle.gr_broker.specs.declared.site.Site.{Site}
 use Rattle.gr_broker.specs.Held.{IsSite}
 use Rattle.gr_broker.specs.Changes.{AreTaken}
-use Rattle.gr_broker.proofs.Sited.{child_has_edge, child_edge}
-use Rattle.gr_broker.proofs.Learned.{quenched_is, quenched_stays, forward_wants-length, forward_wants-at}
+use Rattle.gr_broker.specs.Told.{AddsFrames}
+use Rattle.gr_broker.proofs.Sited.{child_number, child_has_edge, child_edge}
+use Rattle.gr_broker.proofs.Untouched.{sent_whole}
+use Rattle.gr_broker.proofs.Learned.{sent_is, quenched_is, quenched_stays, forward_wants-length, forward_wants-at}
 
 -- The edge to a child, which is read by its place, has the filters behind it
 pub edge_at : (s : Site) (i : ℕ) (c : Child) → IsSite s → i < length s.position.now.children.items → c ≡ get_or s.position.now.children.items i c → get_or s.edges.now c.edge [] ≡ filters_below s.topo.now s.publisher (get_or (children_of s.topo.now s.publisher s.broker) i 0)
 edge_at s i c is lt e =
     let inside = child_has_edge i s.edges.now s.position.now c is.edges lt e in
     child_edge s.topo.now s.broker s.publisher i s.edges.now s.position.now c (get_or s.edges.now c.edge []) is.branch is.edges lt e (get_or_default s.edges.now c.edge [] (get_or s.edges.now c.edge []) inside)
+
+-- so what passes it and was not acknowledged is what the machine forwards
+pub forwarded : (s : Site) (i : ℕ) (c : Child) (w : Wanted) (fresh let_by sent : Known) → IsSite s → i < length s.position.now.children.items → c ≡ get_or s.position.now.children.items i c → AreRuns Q fresh → AreRuns N w → RunsGive Q let_by (λ t. pass (slice_index_or s.edges.now c.edge []) (known_at fresh t)) → RunsGive Q sent (λ t. if is_A (wanted_at w t) then Q else known_at let_by t) → sent ≡ forward (net_of s.topo.now) s.publisher (get_or (children_of s.topo.now s.publisher s.broker) i 0) w fresh
+forwarded s i c w fresh let_by sent is lt e a b g h =
+    sent_is s.topo.now s.publisher (get_or (children_of s.topo.now s.publisher s.broker) i 0) (get_or s.edges.now c.edge []) w fresh let_by sent (edge_at s i c is lt e) a b g h
+
+-- and where the child wants none of what passes it, that is all of it
+pub forwarded_whole : (s : Site) (i : ℕ) (c : Child) (w : Wanted) (fresh let_by : Known) → IsSite s → i < length s.position.now.children.items → c ≡ get_or s.position.now.children.items i c → AreRuns Q fresh → AreRuns N w → RunsGive Q let_by (λ t. pass (slice_index_or s.edges.now c.edge []) (known_at fresh t)) → ((t : ℕ) → (known_at let_by t ≡ Q) ⊎ (wanted_at w t ≡ N)) → let_by ≡ forward (net_of s.topo.now) s.publisher (get_or (children_of s.topo.now s.publisher s.broker) i 0) w fresh
+forwarded_whole s i c w fresh let_by is lt e a b g untouched =
+    forwarded s i c w fresh let_by let_by is lt e a b g (sent_whole w let_by (λ t. pass (slice_index_or s.edges.now c.edge []) (known_at fresh t)) g untouched)
+
+-- and so are its frames
+pub sends_forwarded : (s : Site) (i : ℕ) (c : Child) (sent new : Known) (before after : FrameList) → IsSite s → i < length s.position.now.children.items → c ≡ get_or s.position.now.children.items i c → sent ≡ new → AddsFrames (know_frames s.broker c.number s.publisher sent) before after → AddsFrames (know_frames s.broker (get_or (children_of s.topo.now s.publisher s.broker) i 0) s.publisher new) before after
+sends_forwarded s i c sent new before after is lt e same adds =
+    subst (λ (fs : List Frame). AddsFrames fs before after)
+    (ap₂ (λ n k. know_frames s.broker n s.publisher k) (child_number s.topo.now s.broker s.publisher i s.edges.now s.position.now c is.branch lt e) same) adds
 
 -- The runs of what is forwarded are canonical
 

@@ -5,6 +5,7 @@ pub mod Marked
 pub mod Handing
 pub mod Forwarding
 pub mod Reaching
+pub mod Untouched
 pub mod Planned
 pub mod Applied
 pub mod Sent

@@ -21,18 +21,18 @@ ghost use Rattle.gr_topo.specs.Topology.{passes_filter};
 ghost use Rattle.gr_model.specs.Net.{Net, is_host, keeps_horizon};
 ghost use Rattle.gr_model.specs.NetOf.{net_of};
 ghost use Rattle.gr_model.specs.Broker.{Outcome as MachineOutcome, is_F, forgotten, max_tick, horizon_after};
-ghost use Rattle.gr_model.specs.Broker.{forward, forward_frames, know_frames, learn};
+ghost use Rattle.gr_model.specs.Broker.{forward, forward_frames, know_frames, learn, new_ticks};
 ghost use Rattle.gr_broker.specs.Of.{IsKept};
 ghost use Rattle.gr_broker.specs.Held.{held_view, IsSite};
 ghost use Rattle.gr_broker.specs.Handed.{told_to, lines_to};
 ghost use Rattle.gr_broker.specs.Told.{Tells, Adds, AddsFrames};
-ghost use Rattle.gr_broker.specs.Changes.{AreChanges, HasRoom, AreTaken, reached, learned};
+ghost use Rattle.gr_broker.specs.Changes.{AreChanges, HasRoom, AreTaken, reached, learned, sent_to};
 
 use crate::held::Held;
 use crate::outcome::{Memory, Outcome};
 use crate::sending::send_down;
 use crate::site::Site;
-use crate::walks::{quenched, unacknowledged};
+use crate::walks::{is_untouched, quenched, unacknowledged};
 use gr_curio::{Asks, Q3, Wants};
 use gr_edge::Edge;
 use gr_event::Event;
@@ -70,13 +70,9 @@ pub(crate) fn plan_learning(
         AreChanges (net_of site.now.topo.now) site.now.publisher site.now.broker (held_view held.now) piece.now
         changes) }
 {
-    // Proof only: the runs of both are canonical.
-    let _ = held.know.len();
-    let _ = piece.len();
     let to = horizon_with(site, held, piece);
     deliver(site, held, piece, to, &mut into.reports)?;
-    let fresh = held.know.news(piece)?;
-    let quenched = forward(site, &held.wants, &fresh, &mut into.frames)?;
+    let quenched = forward_news(site, held, piece, &mut into.frames)?;
     let completed = completed_by(site.alloc, held, to)?;
     Ok(Changes {
         quenched,
@@ -184,6 +180,37 @@ fn passes(filter: Option<&Filter>, event: &Event) -> bool
     }
 }
 
+/// Sends each child what is new of a piece, as far as it passes the edge to it and was not acknowledged, and gives for
+/// each child the ticks that it asked and is sent. Where there is no child, what is new is not looked for.
+fn forward_news(
+    site: &Site<'_>,
+    held: &Held,
+    piece: &Piece<K>,
+    into: &mut Sent,
+) -> Result<Vec<Piece<Q3>>, Memory>
+    requires site { IsSite site.now }
+    requires wants { length held.now.wants ≡ length site.now.position.now.children.items }
+    ensures adds { let net : Net = net_of site.now.topo.now in
+        OnOk result (AddsFrames (forward_frames net site.now.publisher site.now.broker
+        (new_ticks held.now.know.runs piece.now) (net.children site.now.publisher site.now.broker)
+        (runs_of held.now.wants)) into.old into.new) }
+    ensures many { IfOk result (λ quenched. length quenched.items ≡ length (runs_of held.now.wants)) }
+    ensures each { let net : Net = net_of site.now.topo.now in
+        IfOk result (λ quenched. (i : ℕ) → i < length (runs_of held.now.wants) →
+        RunsGive N (slice_index_or quenched.items i []) (λ t. if not (is_Q (known_at
+        (sent_to net site.now.publisher site.now.broker (held_view held.now) piece.now i) t))
+        && is_C (wanted_at (wants_of (runs_of held.now.wants) i) t) then C else N)) }
+{
+    if site.position.children.is_empty() {
+        return Ok(Vec::new(site.alloc));
+    }
+    // Proof only: the runs of both are canonical.
+    let _ = held.know.len();
+    let _ = piece.len();
+    let fresh = held.know.news(piece)?;
+    forward(site, &held.wants, &fresh, into)
+}
+
 /// Sends each child the new ticks that it has not acknowledged, as far as they pass the edge to it, and gives for each
 /// child the ticks that it asked and is sent.
 fn forward(
@@ -212,7 +239,7 @@ fn forward(
 }
 
 /// Sends one child the new ticks that it has not acknowledged, as far as they pass the edge to it, and gives the ticks
-/// that it asked and is sent.
+/// that it asked and is sent. Where it neither asked nor acknowledged any of them, they are sent as they are.
 fn forward_to(
     site: &Site<'_>,
     i: usize,
@@ -238,6 +265,10 @@ fn forward_to(
     let _ = wants.len(i);
     let child = site.position.children[i];
     let passed = pass_edge(site.edges, child.edge, fresh)?;
+    if is_untouched(&passed, wants, i) {
+        send_down(site, child.number, passed, into)?;
+        return Ok(Piece::new(site.alloc));
+    }
     let sent = unacknowledged(site.alloc, &passed, wants, i)?;
     let answered = quenched(site.alloc, &sent, wants, i)?;
     send_down(site, child.number, sent, into)?;

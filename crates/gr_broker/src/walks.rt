@@ -1,7 +1,8 @@
-//! Walks over the runs of one function, and on each of them over the pieces on which a second one is steady: outside the runs
-//! there is nothing to say.
+//! Walks over the runs of one function, and on each of them over the pieces on which a second one is steady: outside the
+//! runs there is nothing to say.
 
-ghost use Rattle.std.specs.Prelude.{if◌then◌else◌, ◌≡◌, ◌≢◌, ◌⊎◌, ℕ, ◌+◌, ◌<◌, ◌≤◌, not, ◌&&◌, IfOk, OnOk, length};
+ghost use Rattle.std.specs.Prelude.{if◌then◌else◌, ◌≡◌, ◌≢◌, ◌⊎◌, ℕ, ◌+◌, ◌<◌, ◌≤◌, not, ◌&&◌, IfOk, OnOk, IsTrue};
+ghost use Rattle.std.specs.Prelude.{length};
 ghost use Rattle.gr_tick.specs.declared.TheConstants.{MAX_TICK};
 ghost use Rattle.gr_tick.specs.Runs.{is_in, value_at};
 ghost use Rattle.gr_tick.specs.Stored.{within, IsRun, EndBefore, RunsGive};
@@ -102,6 +103,35 @@ fn put_sent(
         next = end + 1;
     }
     Ok(())
+}
+
+/// Whether a child neither asked nor acknowledged any tick that a piece tells. It looks up once, and answers yes only
+/// where nothing is wanted from the first of these ticks to the last.
+pub(crate) fn is_untouched(passed: &Piece<K>, wants: &Wants, child: usize) -> bool
+    requires { child < length wants.now }
+    ensures { IsTrue result → (t : ℕ) → (known_at passed.now t ≡ Q)
+        ⊎ (wanted_at (wants_of (runs_of wants.now) child) t ≡ N) }
+{
+    let many = passed.len();
+    if many == 0 {
+        return true;
+    }
+    let first = passed.run(0);
+    let last = passed.run(many - 1);
+    is_unwanted(wants, child, first.first, last.last)
+}
+
+/// Whether a child neither asked nor acknowledged any tick of a range.
+fn is_unwanted(wants: &Wants, child: usize, first: u64, last: u64) -> bool
+    requires child { child < length wants.now }
+    requires upto { first ≤ MAX_TICK }
+    ensures { IsTrue result → (t : ℕ) → first ≤ t → t ≤ last → wanted_at (wants_of (runs_of wants.now) child) t ≡ N }
+{
+    let wanted = wants.steady_at(child, first);
+    if !is_bottom(&wanted.value) {
+        return false;
+    }
+    last <= wanted.last
 }
 
 /// Whether a tick was asked and is now told.
