@@ -9,7 +9,7 @@ ghost use Rattle.gr_out.specs.Stops.{StaysFaultless};
 ghost use Rattle.gr_tick.specs.declared.TheConstants.{MAX_TICK};
 ghost use Rattle.gr_publog.specs.Text.{log_text};
 ghost use Rattle.gr_publog.specs.Crash.{LogView, EitherRose};
-ghost use Rattle.gr_publog.specs.Calls.{Tally, Causes, Leaves};
+ghost use Rattle.gr_publog.specs.Calls.{GoesOn, Tally, Causes, Leaves};
 ghost use Rattle.gr_model.specs.Net.{is_host};
 ghost use Rattle.gr_model.specs.NetOf.{net_of};
 ghost use Rattle.gr_model.specs.Broker.{Outcome as MachineOutcome};
@@ -185,6 +185,7 @@ impl Broker {
         // The disk: one record, or none
         ensures lane { D.tells → AppendsAt self.old p (publish_logs_at self.old p now number event.now)
             (D.lane_of disk.old) (D.lane_of disk.new) (log_answer result) }
+        ensures goes_on { D.tells → GoesOn (D.lane_of disk.old (2 * p)) (D.lane_of disk.new (2 * p)) }
         ensures reopen { IsErrOf result BrokerFault.Reopen
             ↔ ((is_broken (log_in self.old p) ≡ true) × IsSome (publish_logs_at self.old p now number event.now)) }
         ensures idle { IsErrOf result BrokerFault.Reopen → disk.new ≡ disk.old }
@@ -265,6 +266,7 @@ impl Broker {
         ensures lane { let mark = mark_logs_at topo.now self.old p now in
             let cut = cut_logs_at topo.now self.old p now in
             D.tells → AppendsTwiceAt self.old p mark cut (D.lane_of disk.old) (D.lane_of disk.new) (log_answer result) }
+        ensures goes_on { D.tells → GoesOn (D.lane_of disk.old (2 * p)) (D.lane_of disk.new (2 * p)) }
         ensures reopen { IsErrOf result BrokerFault.Reopen ↔ ((is_broken (log_in self.old p) ≡ true)
             × (IsSome (mark_logs_at topo.now self.old p now) ⊎ IsSome (cut_logs_at topo.now self.old p now))) }
         ensures idle { IsErrOf result BrokerFault.Reopen → disk.new ≡ disk.old }

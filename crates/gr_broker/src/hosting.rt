@@ -70,6 +70,7 @@ fn log_and_learn<D: Disk>(
         D.tells → Appends l (Some entry.now) before (D.lane_of disk.new l.lane) result }
     ensures never_reopen { result ≢ Err LogFault.Reopen }
     ensures stands { D.tells → IsReady log.new (D.lane_of disk.new log.new.lane) }
+    ensures goes_on { let lane = log.old.lane in D.tells → GoesOn (D.lane_of disk.old lane) (D.lane_of disk.new lane) }
     ensures tally { let f = D.faults disk.old in let s = D.stops disk.old in
         Tally f s (D.faults disk.new) (D.stops disk.new) result }
     ensures causes { let f = D.faults disk.old in let f' = D.faults disk.new in
@@ -132,6 +133,7 @@ fn log_event<D: Disk>(
         (failed log.old) log.new result }
     ensures lane { let l = log.old in let before = D.lane_of disk.old l.lane in
         D.tells → Appends l (Some (Record.Event tick number event.now)) before (D.lane_of disk.new l.lane) result }
+    ensures goes_on { let lane = log.old.lane in D.tells → GoesOn (D.lane_of disk.old lane) (D.lane_of disk.new lane) }
     ensures reopen { IsErrOf result LogFault.Reopen ↔ (log.old.broken ≡ true) }
     ensures idle { IsErrOf result LogFault.Reopen → disk.new ≡ disk.old }
     ensures stands { D.tells → IsReady log.new (D.lane_of disk.new log.new.lane) }
@@ -225,6 +227,7 @@ pub(crate) fn publish<D: Disk>(
     ensures lane { let l = log.old in let before = D.lane_of disk.old l.lane in let r =
         publish_logs l.records number event.now now in
         D.tells → Appends l r before (D.lane_of disk.new l.lane) result }
+    ensures goes_on { let lane = log.old.lane in D.tells → GoesOn (D.lane_of disk.old lane) (D.lane_of disk.new lane) }
     ensures reopen { IsErrOf result LogFault.Reopen
         ↔ ((log.old.broken ≡ true) × IsSome (publish_logs log.old.records number event.now now)) }
     ensures idle { IsErrOf result LogFault.Reopen → disk.new ≡ disk.old }
@@ -299,6 +302,7 @@ fn mark<D: Disk>(
     ensures lane { let l = log.old in let before = D.lane_of disk.old l.lane in
         let r = quiet_logs l.records now site.now.topo.now.settings.quiet in
         D.tells → Appends l r before (D.lane_of disk.new l.lane) result }
+    ensures goes_on { let lane = log.old.lane in D.tells → GoesOn (D.lane_of disk.old lane) (D.lane_of disk.new lane) }
     ensures reopen { IsErrOf result LogFault.Reopen
         ↔ ((log.old.broken ≡ true) × IsSome (quiet_logs log.old.records now site.now.topo.now.settings.quiet)) }
     ensures idle { IsErrOf result LogFault.Reopen → disk.new ≡ disk.old }
@@ -361,6 +365,7 @@ fn log_mark<D: Disk>(
     ensures log { Leaves log.old (with_record (Record.Mark tick) log.old) (failed log.old) log.new result }
     ensures lane { let l = log.old in let before = D.lane_of disk.old l.lane in
         D.tells → Appends l (Some (Record.Mark tick)) before (D.lane_of disk.new l.lane) result }
+    ensures goes_on { let lane = log.old.lane in D.tells → GoesOn (D.lane_of disk.old lane) (D.lane_of disk.new lane) }
     ensures reopen { IsErrOf result LogFault.Reopen ↔ (log.old.broken ≡ true) }
     ensures idle { IsErrOf result LogFault.Reopen → disk.new ≡ disk.old }
     ensures stands { D.tells → IsReady log.new (D.lane_of disk.new log.new.lane) }
@@ -597,6 +602,7 @@ pub(crate) fn wake_host<D: Disk>(
         let cut = cut_logs (net_of site.now.topo.now) site.now.publisher site.now.broker m.view m.log in
         let l = log.old in let before = D.lane_of disk.old l.lane in
         D.tells → AppendsTwice l marked cut before (D.lane_of disk.new l.lane) result }
+    ensures goes_on { let lane = log.old.lane in D.tells → GoesOn (D.lane_of disk.old lane) (D.lane_of disk.new lane) }
     ensures reopen { let m : MachineOutcome = marking (net_of site.now.topo.now) site.now.publisher site.now.broker now
         (held_view held.old) (log_of log.old.records) in
         let marked = quiet_logs log.old.records now site.now.topo.now.settings.quiet in

@@ -4,7 +4,7 @@ ghost use Rattle.std.specs.Prelude.{◌≡◌, ◌≢◌, ◌↔◌, ℕ, ◌*�
 ghost use Rattle.gr_out.specs.Stops.{StaysFaultless};
 ghost use Rattle.gr_tick.specs.declared.TheConstants.{MAX_TICK};
 ghost use Rattle.gr_publog.specs.Crash.{LogView};
-ghost use Rattle.gr_publog.specs.Calls.{IsReady, Appends, Tally, Causes, Leaves};
+ghost use Rattle.gr_publog.specs.Calls.{IsReady, GoesOn, Appends, Tally, Causes, Leaves};
 ghost use Rattle.gr_pubend.specs.Answers.{published, event_of};
 ghost use Rattle.gr_model.specs.Net.{Net, is_host};
 ghost use Rattle.gr_model.specs.NetOf.{net_of};
@@ -51,6 +51,8 @@ fn publish_part<D: Disk>(
     ensures lane { let r = event_of (published (log_said part.old.log) number event.now now) number event.now in
         D.tells → (l : LogView) → part.old.log ≡ Some l
         → Appends l r (D.lane_of disk.old l.lane) (D.lane_of disk.new l.lane) result }
+    ensures goes_on { D.tells → (l : LogView) → part.old.log ≡ Some l
+        → GoesOn (D.lane_of disk.old l.lane) (D.lane_of disk.new l.lane) }
     ensures reopen { let r = event_of (published (log_said part.old.log) number event.now now) number event.now in
         IsErrOf result LogFault.Reopen ↔ ((is_broken part.old.log ≡ true) × IsSome r) }
     ensures idle { IsErrOf result LogFault.Reopen → disk.new ≡ disk.old }
@@ -112,6 +114,7 @@ pub(crate) fn publish_in<D: Disk>(
     ensures many { length held.new.items ≡ length held.old.items }
     ensures lane { let b = broker_at seat.now held.old.items in D.tells
         → AppendsAt b p (publish_logs_at b p now number event.now) (D.lane_of disk.old) (D.lane_of disk.new) result }
+    ensures goes_on { D.tells → GoesOn (D.lane_of disk.old (2 * p)) (D.lane_of disk.new (2 * p)) }
     ensures reopen { let b = broker_at seat.now held.old.items in IsErrOf result LogFault.Reopen
         ↔ ((is_broken (log_in b p) ≡ true) × IsSome (publish_logs_at b p now number event.now)) }
     ensures idle { IsErrOf result LogFault.Reopen → disk.new ≡ disk.old }

@@ -4,7 +4,7 @@ ghost use Rattle.std.specs.Prelude.{◌≡◌, ◌≢◌, ◌↔◌, ◌⊎◌, 
 ghost use Rattle.gr_out.specs.Stops.{StaysFaultless};
 ghost use Rattle.gr_tick.specs.declared.TheConstants.{MAX_TICK};
 ghost use Rattle.gr_publog.specs.Crash.{LogView};
-ghost use Rattle.gr_publog.specs.Calls.{IsReady, Tally, Causes};
+ghost use Rattle.gr_publog.specs.Calls.{IsReady, GoesOn, Tally, Causes};
 ghost use Rattle.gr_model.specs.Net.{is_host};
 ghost use Rattle.gr_model.specs.NetOf.{net_of};
 ghost use Rattle.gr_model.specs.Broker.{Outcome as MachineOutcome};
@@ -55,6 +55,8 @@ fn wake_here<D: Disk>(
         D.tells → (l : LogView) → part.old.log ≡ Some l → AppendsTwice l (part_mark_logs site.now.topo.now now x)
         (part_cut_logs site.now.topo.now site.now.publisher site.now.broker now x)
         (D.lane_of disk.old lane) (D.lane_of disk.new lane) result }
+    ensures goes_on { let lane = 2 * site.now.publisher in
+        D.tells → GoesOn (D.lane_of disk.old lane) (D.lane_of disk.new lane) }
     ensures reopen { let x = part_of part.old in IsErrOf result LogFault.Reopen ↔ ((is_broken part.old.log ≡ true)
         × (IsSome (part_mark_logs site.now.topo.now now x)
         ⊎ IsSome (part_cut_logs site.now.topo.now site.now.publisher site.now.broker now x))) }
@@ -110,6 +112,8 @@ fn wake_part<D: Disk>(
         D.tells → (l : LogView) → part.old.log ≡ Some l → AppendsTwice l (part_mark_logs site.now.topo.now now x)
         (part_cut_logs site.now.topo.now site.now.publisher site.now.broker now x)
         (D.lane_of disk.old lane) (D.lane_of disk.new lane) result }
+    ensures goes_on { let lane = 2 * site.now.publisher in
+        D.tells → GoesOn (D.lane_of disk.old lane) (D.lane_of disk.new lane) }
     ensures reopen { let x = part_of part.old in IsErrOf result LogFault.Reopen ↔ ((is_broken part.old.log ≡ true)
         × (IsSome (part_mark_logs site.now.topo.now now x)
         ⊎ IsSome (part_cut_logs site.now.topo.now site.now.publisher site.now.broker now x))) }
@@ -171,6 +175,7 @@ pub(crate) fn wake<D: Disk>(
     ensures lane { let b = broker_at seat.now held.old.items in
         D.tells → AppendsTwiceAt b p (mark_logs_at seat.now.topo.now b p now) (cut_logs_at seat.now.topo.now b p now)
         (D.lane_of disk.old) (D.lane_of disk.new) (log_answer result) }
+    ensures goes_on { D.tells → GoesOn (D.lane_of disk.old (2 * p)) (D.lane_of disk.new (2 * p)) }
     ensures reopen { let b = broker_at seat.now held.old.items in
         IsErrOf result BrokerFault.Reopen ↔ ((is_broken (log_in b p) ≡ true)
         × (IsSome (mark_logs_at seat.now.topo.now b p now) ⊎ IsSome (cut_logs_at seat.now.topo.now b p now))) }

@@ -2,6 +2,7 @@
 use Rattle.std.proofs.Common.{◌≡◌, true, Ok, Err, refl, sym, ap, ◌∙◌}
 use Rattle.gr_publog.specs.declared.record.LogFault.TheVariants as fault
 use Rattle.gr_publog.specs.Crash.{LogView}
+use Rattle.gr_publog.proofs.Onward.{goes_on_then}
 use Rattle.gr_publog.proofs.Calling.{appends_ok_as, appends_err_as, same_fault}
 use Rattle.gr_model.specs.NetOf.{net_of}
 use Rattle.gr_broker.specs.Held.{held_view}
@@ -44,6 +45,15 @@ returns-in-Ok-cut-clause-lane g c = λ t.
     (appends_ok_as _ _ _ _ tt c.cut.new.into
     (second_lane (net_of site.topo.now) site.publisher site.broker c.args.now (held_view c.args.held.now) (held_view c.mark.new.held) c.args.log.now c.mark.new.log m.log.ok m.view before after _ (c.in-Ok-cut.ensures.lane t)))
 
+pub returns-in-Ok-cut-clause-goes_on : goal.returns-in-Ok-cut-clause-goes_on
+returns-in-Ok-cut-clause-goes_on g c = λ t.
+    let site = c.args.site.now in
+    let m = c.in-Ok.ensures in
+    let before = g.D.Disk.lane_of c.mark.new.disk in
+    let after = g.D.Disk.lane_of c.cut.new.disk in
+    goes_on_then _ _ _ (m.goes_on t)
+    (second_on (net_of site.topo.now) site.publisher site.broker c.args.now (held_view c.args.held.now) (held_view c.mark.new.held) c.args.log.now c.mark.new.log m.log.ok m.view before after (c.in-Ok-cut.ensures.goes_on t))
+
 pub returns-in-Ok-cut-clause-reopen : goal.returns-in-Ok-cut-clause-reopen
 returns-in-Ok-cut-clause-reopen g c =
     let site = c.args.site.now in
@@ -75,6 +85,15 @@ returns-in-Err-cut-clause-lane g c = λ t.
     twice_on c.args.log.now _ _ _ _ _ _ on.more on.start on.calls (appends_ok_as c.args.log.now _ _ _ c.in-Ok.marked tt (m.lane t))
     (appends_err_as _ _ _ _ c.in-Err-cut.fault
     (second_lane (net_of site.topo.now) site.publisher site.broker c.args.now (held_view c.args.held.now) (held_view c.mark.new.held) c.args.log.now c.mark.new.log m.log.ok m.view before after _ (c.in-Err-cut.ensures.lane t)))
+
+pub returns-in-Err-cut-clause-goes_on : goal.returns-in-Err-cut-clause-goes_on
+returns-in-Err-cut-clause-goes_on g c = λ t.
+    let site = c.args.site.now in
+    let m = c.in-Ok.ensures in
+    let before = g.D.Disk.lane_of c.mark.new.disk in
+    let after = g.D.Disk.lane_of c.cut.new.disk in
+    goes_on_then _ _ _ (m.goes_on t)
+    (second_on (net_of site.topo.now) site.publisher site.broker c.args.now (held_view c.args.held.now) (held_view c.mark.new.held) c.args.log.now c.mark.new.log m.log.ok m.view before after (c.in-Err-cut.ensures.goes_on t))
 
 pub returns-in-Err-cut-clause-reopen : goal.returns-in-Err-cut-clause-reopen
 returns-in-Err-cut-clause-reopen g c =

@@ -2,7 +2,7 @@ use Rattle.std.proofs.Common.{◌≡◌, ℕ, ◌*◌, ◌<◌, length, map, get
 use Rattle.std.specs.Prelude.{is_some, IsSome}
 use Rattle.std.proofs.lemmas.List.{length-map}
 use Rattle.gr_publog.specs.Crash.{LogView}
-use Rattle.gr_publog.specs.Calls.{IsReady, Appends, Causes, Leaves}
+use Rattle.gr_publog.specs.Calls.{IsReady, GoesOn, Appends, Causes, Leaves}
 use Rattle.gr_pubend.specs.Answers.{published, event_of}
 use Rattle.gr_model.specs.NetOf.{net_of}
 use Rattle.gr_model.specs.Broker.{View, Outcome as MachineOutcome, publish}
@@ -90,6 +90,11 @@ pub returns-clause-causes : goal.returns-clause-causes
 returns-clause-causes g c t =
     there c.index_mut.result.now.log (has_log g c) (λ l e. subst (λ (n : ℕ). Causes (g.D.Disk.faultless c.args.disk.now) (g.D.Disk.lane_of c.publish_part.new.disk n) (g.D.Disk.faults c.args.disk.now) (g.D.Disk.faults c.publish_part.new.disk) c.publish_part.result)
     (on_lane g c l e) (c.publish_part.ensures.causes t l e))
+
+pub returns-clause-goes_on : goal.returns-clause-goes_on
+returns-clause-goes_on g c t =
+    there c.index_mut.result.now.log (has_log g c) (λ l e. subst (λ (n : ℕ). GoesOn (g.D.Disk.lane_of c.args.disk.now n) (g.D.Disk.lane_of c.publish_part.new.disk n))
+    (on_lane g c l e) (c.publish_part.ensures.goes_on t l e))
 
 pub returns-clause-others : goal.returns-clause-others
 returns-clause-others g c t n ne =

@@ -4,7 +4,7 @@ use Rattle.std.specs.Prelude.{◌↔◌, is_some, IsSome, IfOk, OnOk, IsErrOf}
 use Rattle.gr_publog.specs.declared.record.LogFault.{LogFault}
 use Rattle.gr_publog.specs.declared.record.LogFault.TheVariants as fault
 use Rattle.gr_publog.specs.Crash.{LogView}
-use Rattle.gr_publog.specs.Calls.{IsReady, Tally, Causes}
+use Rattle.gr_publog.specs.Calls.{GoesOn, IsReady, Tally, Causes}
 use Rattle.gr_topo.specs.Topology.{TopologyView}
 use Rattle.gr_model.specs.Net.{is_host}
 use Rattle.gr_model.specs.NetOf.{net_of}
@@ -116,6 +116,10 @@ returns-clause-causes g c = λ tells.
 
 pub returns-clause-faultless : goal.returns-clause-faultless
 returns-clause-faultless g c = c.wake_part-answer.ensures.faultless
+
+pub returns-clause-goes_on : goal.returns-clause-goes_on
+returns-clause-goes_on g c = λ tells.
+    there g c (λ t q n y a. GoesOn (g.D.Disk.lane_of c.args.disk.now (2 * q)) (g.D.Disk.lane_of c.wake_part-answer.new.disk (2 * q))) (c.wake_part-answer.ensures.goes_on tells)
 
 pub returns-clause-others : goal.returns-clause-others
 returns-clause-others g c = λ tells.

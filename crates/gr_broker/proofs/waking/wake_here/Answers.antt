@@ -1,7 +1,7 @@
 -- The log is taken out and put back
 use Rattle.std.proofs.Common.{◌≡◌, ℕ, ◌*◌, Some, sym, ap, ◌∙◌, subst}
 use Rattle.gr_publog.specs.Crash.{LogView}
-use Rattle.gr_publog.specs.Calls.{IsReady, Causes}
+use Rattle.gr_publog.specs.Calls.{IsReady, GoesOn, Causes}
 use Rattle.gr_broker.specs.Held.{held_view}
 use Rattle.gr_broker.specs.Parts.{part_of, part_with}
 use Rattle.gr_broker.proofs.Woken.{some_is, here_leaves, here_log, here_lane, here_told, here_twice, here_reopen}
@@ -62,6 +62,10 @@ pub returns-clause-causes : goal.returns-clause-causes
 returns-clause-causes g c = λ tells.
     subst (λ (n : ℕ). Causes (g.D.Disk.faultless c.args.disk.now) (g.D.Disk.lane_of c.wake_host-answer.new.disk n) (g.D.Disk.faults c.args.disk.now) (g.D.Disk.faults c.wake_host-answer.new.disk) c.wake_host-answer.result)
     (old_lane g c) (c.wake_host-answer.ensures.causes tells)
+
+pub returns-clause-goes_on : goal.returns-clause-goes_on
+returns-clause-goes_on g c = λ tells.
+    subst (λ (n : ℕ). GoesOn (g.D.Disk.lane_of c.args.disk.now n) (g.D.Disk.lane_of c.wake_host-answer.new.disk n)) (old_lane g c) (c.wake_host-answer.ensures.goes_on tells)
 
 pub returns-clause-others : goal.returns-clause-others
 returns-clause-others g c = λ tells n other. c.wake_host-answer.ensures.others tells n (λ e. other (e ∙ old_lane g c))
