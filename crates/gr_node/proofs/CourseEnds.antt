@@ -1,6 +1,6 @@
 -- The course of each way in which a run may end: a binding failed, a start was refused, or it was run. What its parts did at the node
 -- is what the machine does
-use Rattle.std.proofs.Common.{◌≡◌, ◌≢◌, ◌⊎◌, inl, inr, ℕ, zero, suc, ◌+◌, ◌-◌, ◌*◌, ◌<◌, true, false, List, [], ◌∷◌, ◌++◌, length, map, drop, get_or, Option, Result, Ok, Err, flat_map, refl, sym, ap, ap₂, ◌∙◌, subst, arith, append_assoc, append-nil, eq-eqb}
+use Rattle.std.proofs.Common.{◌≡◌, ◌≢◌, ◌⊎◌, inl, inr, ℕ, ◌+◌, ◌*◌, ◌<◌, true, false, List, [], ◌∷◌, ◌++◌, length, map, take, drop, get_or, Option, Result, Ok, Err, flat_map, refl, sym, ap, ◌∙◌, subst, arith, append_assoc, append-nil, eq-eqb}
 use Rattle.std.specs.Prelude.{IsSome}
 use Rattle.std.specs.List.{AllByRecursion}
 use Rattle.std.proofs.lemmas.Bool.{false≢true}
@@ -19,24 +19,25 @@ use Rattle.gr_pubend.specs.Log.{log_of as log_made}
 use Rattle.gr_sched.specs.declared.step.Line.{Line}
 use Rattle.gr_scenario.specs.Steps.{AreStepsOf}
 use Rattle.gr_topo.specs.Topology.{TopologyView, host_of}
-use Rattle.gr_model.specs.Net.{numbers, numbers_from}
 use Rattle.gr_model.specs.NetOf.{net_of}
 use Rattle.gr_model.specs.World.{World, Transition, in_turn, log_of as machine_log_of}
-use Rattle.gr_model.specs.Arrivals.{is_hosted}
+use Rattle.gr_model.specs.Arrivals.{is_hosted, publishes_of}
 use Rattle.gr_broker.specs.Seen.{log_in, log_said}
 use Rattle.gr_run.proofs.Passing.{PassesLog, PassesRest}
 use Rattle.gr_node.specs.Seen.{NodeView, broker_in, none_started, text_of}
 use Rattle.gr_node.specs.Of.{AreHosted, IsSet, AllStand, OthersStay}
-use Rattle.gr_node.specs.Plan.{Act, binds, starts, shows, bound_entry, act, run_acts, nodes, plan, all_entries}
+use Rattle.gr_node.specs.Lasting.{StoodEachTime, node_upto}
+use Rattle.gr_node.specs.Plan.{Act, binds, starts, shows, bound_entry, act, acts_from, run_acts, nodes, plan, all_entries}
 use Rattle.gr_node.specs.Done.{all_done}
 use Rattle.gr_node.specs.Went.{Outside, outside, IsExact, IsPostFault, Bound, fault_entries, uses_disk, FirstIs}
 use Rattle.gr_node.specs.Starting.{Started, Found, IsFirstDamaged, start_lines}
-use Rattle.gr_node.specs.Served.{Course, is_start, IsRefused, IsRunOf, Posts, Prints, KeepsLogs}
+use Rattle.gr_node.specs.Served.{Course, is_start, IsRefused, IsRunOf, Posts, Prints, LogsLast, KeepsLogs}
 use Rattle.gr_node.specs.Ending.{IsEnd, Ran, RanWith, Serves}
 use Rattle.gr_node.proofs.Moving.{IsNode, IsActOf, Moved, moves_all}
 use Rattle.gr_node.proofs.Taken.{broker_here, found_in}
 use Rattle.gr_node.proofs.Opening.{binds_nothing, binds_entries}
 use Rattle.gr_node.proofs.BoundNodes.{made_all}
+use Rattle.gr_node.proofs.Lasting.{lasts}
 use Rattle.gr_node.proofs.Acting.{acts_are, all_front}
 use Rattle.gr_node.proofs.Ended.{exact_or}
 use Rattle.gr_node.proofs.Courses.{but_all_taken, carried, cut, IsOpened, none_opened, none_bound, records, before, bounds, started, begun, opened, many, follows, turn_behind, text_behind, entries_behind, plan_behind, started_made, found_here}
@@ -133,6 +134,7 @@ module _ (T : Type 0) (t : TopologyView) (hosted : List ℕ) (are : AreHosted t 
           (λ h. record {
             found = λ p below here is. found_here t hosted are bs rest n o lanes (found h) p below (started_made t hosted are bs rest n o (host_of t p) is);
             kept = λ known end. absurd (not_ended (next exact) end);
+            since = λ k lt. absurd (omega (arith, lt));
             damaged = damaged h;
             others = others h;
           })
@@ -145,7 +147,7 @@ module _ (T : Type 0) (t : TopologyView) (hosted : List ℕ) (are : AreHosted t 
             whole = entries_made ∙ sym (append-nil (bounds t hosted are bs rest n o));
             are = sent h;
           })
-          others
+          (λ h k lt. absurd (omega (arith, lt))) others
 
 -- There was no memory for the node, or for the page
 pub serves_memory : (T : Type 0) (t : TopologyView) (hosted : List ℕ) (steps : List Line) (turns : ℕ) (posts keeps : Type 0) (journal journal' : List Entry) (taken : Option (List ℕ)) (lanes : ℕ → Lane)
@@ -162,7 +164,7 @@ module _ (T : Type 0) (t : TopologyView) (hosted : List ℕ) (are : AreHosted t 
     (journal mid journal' : List Entry) (taken opening taken' : Option (List ℕ)) (lanes lanes' : ℕ → Lane) (r : Result T RunFault) (n' : NodeView)
     (passes : PassesLog) (passes_rest : PassesRest)
     (told_first : opening ≡ with_more taken (text_of t (flat_map (start_lines t n) hosted))) (sent_first : posts → mid ≡ journal ++ bounds t hosted are hosted [] n o)
-    (w : RanWith {T = T} t hosted posts steps turns n n' (outside opening [] mid) (outside taken' [] journal') r) where
+    (w : RanWith {T = T} t hosted posts keeps steps turns n n' (outside opening [] mid) (outside taken' [] journal') lanes' r) where
   abbrev tail : List Act
   tail = run_acts (net_of t) hosted steps w.came w.closed ++ shows ∷ []
 
@@ -227,6 +229,26 @@ module _ (T : Type 0) (t : TopologyView) (hosted : List ℕ) (are : AreHosted t 
         sym (ap (λ (u : Transition). machine_log_of u.world p) (turn_behind t hosted are hosted [] n o ran.made) ∙ (node.logs p x.0 x.1 below ∙ ap log_said l.1)),
       )
 
+  -- and each time that another arrival came it stood, and it lasts
+  logs_last : (all_made rest_left : List Act) → StoodEachTime t hosted steps n w.came lanes'
+      → LogsLast t hosted steps (record { records = records t hosted are hosted [] n o; came = w.came; closed = w.closed; made = all_made; left = rest_left }) lanes'
+  logs_last all_made rest_left each k lt p below here =
+      let s = each k lt in
+      let x = broker_here hosted (node_upto t hosted steps n w.came k) (host_of t p) s.set.hosts here in
+      let node : IsNode t (node_upto t hosted steps n w.came k) (in_turn (act (net_of t) hosted) acts opened_world).world = (moved acts all).node in
+      let l = found_in (log_in x.0 p) ((node.shaped (host_of t p) x.0 x.1).hosted p below ∙ eq-eqb (host_of t p) (host_of t p) refl) in (
+        l.0.records,
+        s.between (2 * p),
+        lasts l.0.records (s.between (2 * p)) (lanes' (2 * p)) (s.stand (host_of t p) x.0 x.1 p l.0 l.1 (s.set.fits.whole (host_of t p) p x.0 l.0 x.1 l.1)) (s.keep.lane (2 * p)),
+        sym (ap (λ (u : Transition). machine_log_of u.world p) (turn_behind t hosted are hosted [] n o acts) ∙ (node.logs p x.0 x.1 below ∙ ap log_said l.1)),
+      )
+    where
+      acts : List Act
+      acts = acts_from (net_of t) hosted (publishes_of (net_of t) hosted steps) (take k w.came)
+
+      all : AllByRecursion (IsActOf t hosted) acts
+      all = all_front (IsActOf t hosted) acts [] (all_front (IsActOf t hosted) (acts ++ []) (shows ∷ []) (acts_are t hosted steps (take k w.came) false steps_are))
+
   pub serves_ran : (keeps → (b : ℕ) → IsSome (broker_in n b) → Found t n (b ∷ []) lanes) → (IsEnd r → IsSet t hosted n') → (keeps → IsEnd r → AllStand lanes' n')
       → (keeps → OthersStay t hosted lanes lanes') → ((p at : ℕ) → r ≢ Err (run.Damaged p at))
       → Serves {T = T} t hosted steps turns posts keeps journal journal' taken taken' lanes lanes' r
@@ -245,6 +267,7 @@ module _ (T : Type 0) (t : TopologyView) (hosted : List ℕ) (are : AreHosted t 
           ∙ (with_more-twice taken start_text (text_of t (all_done t hosted n ran.made).lines) ∙ ap (with_more taken) (text_begun ran.made made_moved))))
           (λ h. record {
             found = λ p below here is. found_here t hosted are hosted [] n o lanes (found h) p below here;
+            since = logs_last (begun t hosted are hosted [] n o ran.made) ran.left (w.stood h);
             kept = λ known end. let over = ended_by r known ran.refused end in log_stands over (set over) (stands h over);
             damaged = λ p at is. absurd (undamaged p at is);
             others = others h;
@@ -260,7 +283,7 @@ module _ (T : Type 0) (t : TopologyView) (hosted : List ℕ) (are : AreHosted t 
             whole = entries_begun tail tail_moved ∙ (ap (λ xs. bounds t hosted are hosted [] n o ++ xs) b.whole ∙ sym (append_assoc (bounds t hosted are hosted [] n o) b.part b.rest));
             are = b.are ∙ (ap (λ xs. xs ++ b.part) (sent_first h) ∙ append_assoc journal (bounds t hosted are hosted [] n o) b.part);
           })
-          others
+          (λ h. logs_last [] (plan t hosted steps w.came w.closed) (w.stood h)) others
 
 -- A binding failed, or there was no memory for it
 
@@ -300,6 +323,7 @@ module _ (T : Type 0) (t : TopologyView) (hosted : List ℕ) (are : AreHosted t 
       (λ h. record {
         found = λ p below here is. absurd (false≢true (sym (none_bound (host_of t p) ks) ∙ is));
         kept = λ known end. absurd (not_ended end);
+        since = λ k lt. absurd (omega (arith, lt));
         damaged = λ p at is. cc;
         others = λ lane here. refl;
       })
@@ -324,7 +348,7 @@ module _ (T : Type 0) (t : TopologyView) (hosted : List ℕ) (are : AreHosted t 
         whole = their_entries ∙ sym (append-nil (map (bound_entry t hosted) ks));
         are = sent h ∙ ap (λ xs. journal ++ xs) (append-nil (map (bound_entry t hosted) ks));
       })
-      (λ h lane here. refl)
+      (λ h k lt. absurd (omega (arith, lt))) (λ h lane here. refl)
   serves_unbound run.Write cause sent = absurd cause
   serves_unbound run.Disk cause sent = absurd cause
   serves_unbound (run.Damaged p at) cause sent = absurd cause
@@ -342,7 +366,7 @@ serves_bound {T} {U} t hosted are n o steps turns posts keeps journal journal' t
 pub with_course : {T : Type 0} (t : TopologyView) (hosted : List ℕ) (steps : List Line) (turns : ℕ) (posts keeps : Type 0) (journal journal' : List Entry) (taken taken' : Option (List ℕ)) (lanes lanes' : ℕ → Lane) (r : Result T RunFault)
     → Serves {T = T} t hosted steps turns posts keeps journal journal' taken taken' lanes lanes' r
     → (c : Course) × (IsRunOf {T = T} t hosted steps turns c r × ((posts → Posts {T = T} t hosted steps c journal journal' r)
-    × (Prints {T = T} t hosted steps c taken taken' r × (keeps → KeepsLogs {T = T} t hosted c lanes lanes' r))))
+    × (Prints {T = T} t hosted steps c taken taken' r × (keeps → KeepsLogs {T = T} t hosted steps c lanes lanes' r))))
 with_course t hosted steps turns posts keeps journal journal' taken taken' lanes lanes' r s = (s.course, (s.run, (s.posted, (s.printed, s.kept))))
 
 -- all are bound

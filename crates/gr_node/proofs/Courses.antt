@@ -18,7 +18,7 @@ use Rattle.gr_publog.specs.declared.record.Record.{Record}
 use Rattle.gr_publog.specs.Text.{log_text}
 use Rattle.gr_sched.specs.declared.step.Line.{Line}
 use Rattle.gr_topo.specs.Topology.{TopologyView, host_of}
-use Rattle.gr_model.specs.Net.{Net, numbers}
+use Rattle.gr_model.specs.Net.{Net}
 use Rattle.gr_model.specs.NetOf.{net_of}
 use Rattle.gr_model.specs.World.{World, Transition, followed_by, in_turn}
 use Rattle.gr_model.specs.Opening.{over_logs}
@@ -31,7 +31,7 @@ use Rattle.gr_node.specs.Of.{AreHosted, Hosts, OthersStay}
 use Rattle.gr_node.specs.Plan.{Act, binds, starts, shows, ours, bound_entry, act, run_acts, nodes, plan, all_entries}
 use Rattle.gr_node.specs.Went.{Outside, outside, IsExact, fault_entries, Begins}
 use Rattle.gr_node.specs.Starting.{Started, HasStarted, Found, start_lines}
-use Rattle.gr_node.specs.Served.{Course, is_start, IsRefused, KeepsLogs}
+use Rattle.gr_node.specs.Served.{Course, is_start, IsRefused, LogsLast, KeepsLogs}
 use Rattle.gr_node.specs.Ending.{Serves}
 use Rattle.gr_node.proofs.Moving.{IsNode}
 use Rattle.gr_node.proofs.Opening.{opened_is, records_found, records_follow, records_read, binds_nothing, binds_entries, starts_entries, in_turn_append, all_entries_append}
@@ -112,7 +112,7 @@ module _ (T : Type 0) (t : TopologyView) (hosted : List ℕ) (steps : List Line)
     -- It is known what was done
     pub carried : IsExact r → OnOk r (left ≡ []) → OnOk r ((closed ≡ true) ⊎ (length came ≡ turns)) → ((e : RunFault) → r ≡ Err e → IsRefused t e left)
         → (posts → journal' ≡ journal ++ (all_entries t hosted first made ++ fault_entries r)) → taken' ≡ with_more taken (text_of t (ends made).lines)
-        → (keeps → KeepsLogs {T = T} t hosted (course made left) lanes lanes' r)
+        → (keeps → KeepsLogs {T = T} t hosted steps (course made left) lanes lanes' r)
         → Serves {T = T} t hosted steps turns posts keeps journal journal' taken taken' lanes lanes' r
     carried exact whole ended refused sent told kept = record {
       course = course made left;
@@ -128,9 +128,9 @@ module _ (T : Type 0) (t : TopologyView) (hosted : List ℕ) (steps : List Line)
 
     -- It is not: these acts tell and put a front, and no more is said
     pub cut : (IsExact r → ⊥) → TakesFront taken taken' (text_of t (ends made).lines) → (posts → Begins journal journal' (all_entries t hosted first made))
-        → (keeps → OthersStay t hosted lanes lanes')
+        → (keeps → LogsLast t hosted steps (course [] all_acts) lanes') → (keeps → OthersStay t hosted lanes lanes')
         → Serves {T = T} t hosted steps turns posts keeps journal journal' taken taken' lanes lanes' r
-    cut unknown front begins others = record {
+    cut unknown front begins since others = record {
       course = course [] all_acts;
       run = record {
         acts = refl;
@@ -151,6 +151,7 @@ module _ (T : Type 0) (t : TopologyView) (hosted : List ℕ) (steps : List Line)
       kept = λ h. record {
         found = λ p below here is. absurd (false≢true is);
         kept = λ exact. absurd (unknown exact);
+        since = since h;
         damaged = λ p at is. absurd (unknown (subst (λ q. IsExact q) (sym is) tt));
         others = others h;
       };

@@ -6,6 +6,7 @@ use Rattle.gr_out.specs.declared.fault.RunFault.{RunFault}
 use Rattle.gr_out.specs.declared.fault.RunFault.TheVariants as run
 use Rattle.gr_out.specs.Bytes.{with_more}
 use Rattle.gr_out.specs.Entry.{Entry}
+use Rattle.gr_out.specs.Lane.{Lane}
 use Rattle.gr_out.specs.Page.{TakesBut, TakesFront}
 use Rattle.gr_out.proofs.Fronts.{but-all, but-later, front-more, front-later, front-held, taken-whole}
 use Rattle.gr_sched.specs.declared.step.Line.{Line}
@@ -198,16 +199,17 @@ module _ (t : TopologyView) (hosted : List ℕ) (n : NodeView) (acts more : List
   }
 
 -- The page is written at the end of a run
-pub ran_wrote : {T : Type 0} (t : TopologyView) (hosted : List ℕ) (tells : Type 0) (steps : List Line) (turns : ℕ) (n n' : NodeView) (o : Outside)
+pub ran_wrote : {T : Type 0} (t : TopologyView) (hosted : List ℕ) (tells keeps : Type 0) (lanes : ℕ → Lane) (steps : List Line) (turns : ℕ) (n n' : NodeView) (o : Outside)
     (taken taken' : Option (List ℕ)) (held held' : List ℕ) (journal : List Entry) (before result : Result T RunFault)
-    → (IsErrOf before run.Post → held ≡ []) → RanWith t hosted tells steps turns n n' o (outside taken held journal) before → Wrote taken taken' held held' before result
-    → RanWith t hosted tells steps turns n n' o (outside taken' [] journal) result
-ran_wrote {T} t hosted tells steps turns n n' o taken taken' held held' journal before result at_post w wrote = elim (unwritten_or before) [
-  | inl u ↦ subst (λ r. RanWith {T = T} t hosted tells steps turns n n' o (outside taken' [] journal) r) (sym (wrote.left u).0) (record {
+    → (IsErrOf before run.Post → held ≡ []) → RanWith t hosted tells keeps steps turns n n' o (outside taken held journal) lanes before → Wrote taken taken' held held' before result
+    → RanWith t hosted tells keeps steps turns n n' o (outside taken' [] journal) lanes result
+ran_wrote {T} t hosted tells keeps lanes steps turns n n' o taken taken' held held' journal before result at_post w wrote = elim (unwritten_or before) [
+  | inl u ↦ subst (λ r. RanWith {T = T} t hosted tells keeps steps turns n n' o (outside taken' [] journal) lanes r) (sym (wrote.left u).0) (record {
     came = w.came;
     closed = w.closed;
     within = w.within;
     bytes = w.bytes;
+    stood = w.stood;
     ended = w.ended;
     ran = record {
       made = m.made;
@@ -223,11 +225,12 @@ ran_wrote {T} t hosted tells steps turns n n' o taken taken' held held' journal 
     };
   })
   | inr written ↦ elim (wrote.written written) [
-    | inl same ↦ subst (λ r. RanWith {T = T} t hosted tells steps turns n n' o (outside taken' [] journal) r) (sym same.0) (record {
+    | inl same ↦ subst (λ r. RanWith {T = T} t hosted tells keeps steps turns n n' o (outside taken' [] journal) lanes r) (sym same.0) (record {
       came = w.came;
       closed = w.closed;
       within = w.within;
       bytes = w.bytes;
+      stood = w.stood;
       ended = w.ended;
       ran = record {
         made = m.made;
@@ -242,11 +245,12 @@ ran_wrote {T} t hosted tells steps turns n n' o taken taken' held held' journal 
         sent_front = m.sent_front;
       };
     })
-    | inr failed ↦ subst (λ r. RanWith {T = T} t hosted tells steps turns n n' o (outside taken' [] journal) r) (sym failed.0) (record {
+    | inr failed ↦ subst (λ r. RanWith {T = T} t hosted tells keeps steps turns n n' o (outside taken' [] journal) lanes r) (sym failed.0) (record {
       came = w.came;
       closed = w.closed;
       within = w.within;
       bytes = w.bytes;
+      stood = w.stood;
       ended = tt;
       ran = record {
         made = m.made;

@@ -2,6 +2,7 @@
 pub mod FirstSteps
 pub mod Keeping
 pub mod OneTurn
+pub mod Lasting
 pub mod SoFar
 pub mod Wending
 pub mod Within
@@ -30,4 +31,5 @@ pub mod CourseEnds
 pub mod Logging
 pub mod Replying
 pub mod Submitting
+pub mod AnswersLast
 pub mod Spending

@@ -24,7 +24,7 @@ left_later left [] more = refl
 left_later left (a ∷ came) more = left_later (left_after left a) came more
 
 -- the acts of what came, and then of more
-acts_later : (net : Net) (hosted : List ℕ) (left : List Publish) (came more : List Arrival) → acts_from net hosted left (came ++ more) ≡ acts_from net hosted left came ++ acts_from net hosted (left_behind left came) more
+pub acts_later : (net : Net) (hosted : List ℕ) (left : List Publish) (came more : List Arrival) → acts_from net hosted left (came ++ more) ≡ acts_from net hosted left came ++ acts_from net hosted (left_behind left came) more
 unfolding left_behind acts_from
 acts_later net hosted left [] more = refl
 acts_later net hosted left (a ∷ came) more =
@@ -32,25 +32,26 @@ acts_later net hosted left (a ∷ came) more =
     ∙ sym (append_assoc (arrival_acts net hosted left a) (acts_from net hosted (left_after left a) came) (acts_from net hosted (left_behind (left_after left a) came) more))
 
 -- So many arrivals have come, and all of their acts were made
-pub record SoFar (t : TopologyView) (hosted : List ℕ) (tells : Type 0) (steps : List Line) (next count : ℕ) (n n' : NodeView) (o o' : Outside) : Type 0 where
+pub record SoFar (t : TopologyView) (hosted : List ℕ) (tells : Type 0) (steps : List Line) (next count : ℕ) (n n' : NodeView) (o o' : Outside) (P : List Arrival → Type 0) : Type 0 where
   pub came : List Arrival
   pub length_is : length came ≡ count
   pub bytes : AllByRecursion IsOfBytes came
   pub left : publishes_of (net_of t) hosted (drop next steps) ≡ left_behind (publishes_of (net_of t) hosted steps) came
   pub goes : MadeAll t hosted tells (acts_from (net_of t) hosted (publishes_of (net_of t) hosted steps) came) n n' o o'
+  pub stood : P came  -- what else holds of what came
 
 -- none yet
-pub none_came : (t : TopologyView) (hosted : List ℕ) (tells : Type 0) (steps : List Line) (next : ℕ) (n : NodeView) (o : Outside) → publishes_of (net_of t) hosted (drop next steps) ≡ publishes_of (net_of t) hosted steps
-    → SoFar t hosted tells steps next 0 n n o o
+pub none_came : (t : TopologyView) (hosted : List ℕ) (tells : Type 0) (steps : List Line) (next : ℕ) (n : NodeView) (o : Outside) (P : List Arrival → Type 0) → publishes_of (net_of t) hosted (drop next steps) ≡ publishes_of (net_of t) hosted steps
+    → P [] → SoFar t hosted tells steps next 0 n n o o P
 unfolding left_behind acts_from
-none_came t hosted tells steps next n o e = record { came = []; length_is = refl; bytes = tt; left = e; goes = made_none t hosted tells n n o o refl refl refl refl }
+none_came t hosted tells steps next n o P e h = record { came = []; length_is = refl; bytes = tt; left = e; goes = made_none t hosted tells n n o o refl refl refl refl; stood = h }
 
 -- a turn's acts stand behind those before
-turn_on : {T : Type 0} (t : TopologyView) (hosted : List ℕ) (tells : Type 0) (steps : List Line) (next count : ℕ) (n m n' : NodeView) (o u o' : Outside) (came : List Arrival) (shut : Bool) (r : Result T RunFault)
-    → (s : SoFar t hosted tells steps next count n m o u)
+turn_on : {T : Type 0} (t : TopologyView) (hosted : List ℕ) (tells : Type 0) (steps : List Line) (next count : ℕ) (n m n' : NodeView) (o u o' : Outside) (P : List Arrival → Type 0) (came : List Arrival) (shut : Bool) (r : Result T RunFault)
+    → (s : SoFar t hosted tells steps next count n m o u P)
     → Went {T = T} t hosted tells (acts_from (net_of t) hosted (publishes_of (net_of t) hosted (drop next steps)) came ++ closing shut) m n' u o' r
     → Went {T = T} t hosted tells (run_acts (net_of t) hosted steps (s.came ++ came) shut) n n' o o' r
-turn_on {T} t hosted tells steps next count n m n' o u o' came shut r s w =
+turn_on {T} t hosted tells steps next count n m n' o u o' P came shut r s w =
     let before : List Act = acts_from (net_of t) hosted (publishes_of (net_of t) hosted steps) s.came in
     let later : List Act = acts_from (net_of t) hosted (left_behind (publishes_of (net_of t) hosted steps) s.came) came in
     subst (λ acts. Went {T = T} t hosted tells acts n n' o o' r)
@@ -59,11 +60,11 @@ turn_on {T} t hosted tells steps next count n m n' o u o' came shut r s w =
     (subst (λ left. Went {T = T} t hosted tells (acts_from (net_of t) hosted left came ++ closing shut) m n' u o' r) s.left w))
 
 -- one turn more
-pub more_came : (t : TopologyView) (hosted : List ℕ) (tells : Type 0) (steps : List Line) (next next' count : ℕ) (n m n' : NodeView) (o u o' : Outside) (goes_on : Bool) → goes_on ≡ true → SoFar t hosted tells steps next count n m o u
-    → Turned t hosted tells steps next next' m n' u o' (Ok goes_on) → SoFar t hosted tells steps next' (count + 1) n n' o o'
-more_came t hosted tells steps next next' count n m n' o u o' goes_on e s turned =
+pub more_came : (t : TopologyView) (hosted : List ℕ) (tells : Type 0) (steps : List Line) (next next' count : ℕ) (n m n' : NodeView) (o u o' : Outside) (P Q : List Arrival → Type 0) (goes_on : Bool) → goes_on ≡ true → (s : SoFar t hosted tells steps next count n m o u P)
+    → Turned t hosted tells steps next next' m n' u o' (Ok goes_on) → ((more : List Arrival) → length more ≤ 1 → Q (s.came ++ more)) → SoFar t hosted tells steps next' (count + 1) n n' o o' Q
+more_came t hosted tells steps next next' count n m n' o u o' P Q goes_on e s turned holds =
     let w : Turned t hosted tells steps next next' m n' u o' (Ok true) = subst (λ (b : Bool). Turned t hosted tells steps next next' m n' u o' (Ok b)) e turned in
-    let went : Went {T = Bool} t hosted tells (run_acts (net_of t) hosted steps (s.came ++ w.came) w.shut) n n' o o' (Ok true) = turn_on t hosted tells steps next count n m n' o u o' w.came w.shut (Ok true) s w.went in
+    let went : Went {T = Bool} t hosted tells (run_acts (net_of t) hosted steps (s.came ++ w.came) w.shut) n n' o o' (Ok true) = turn_on t hosted tells steps next count n m n' o u o' P w.came w.shut (Ok true) s w.went in
     let all : List Act = acts_from (net_of t) hosted (publishes_of (net_of t) hosted steps) (s.came ++ w.came) in
     record {
       came = s.came ++ w.came;
@@ -72,18 +73,19 @@ more_came t hosted tells steps next next' count n m n' o u o' goes_on e s turned
       left = w.left ∙ ap (λ left. left_behind left w.came) s.left ∙ left_later (publishes_of (net_of t) hosted steps) s.came w.came;
       goes = subst (λ acts. MadeAll t hosted tells acts n n' o o') (ap (λ shut. all ++ closing shut) w.ends.1 ∙ append-nil all)
           (all_made t hosted tells (run_acts (net_of t) hosted steps (s.came ++ w.came) w.shut) n n' o o' true went);
+      stood = holds w.came (omega (arith, w.ends.0));
     }
 
 -- How a run ended: what came, whether nothing comes any more, and its acts as far as they were made
-abbrev pub Ran : (t : TopologyView) (hosted : List ℕ) (tells : Type 0) (steps : List Line) (turns : ℕ) (n n' : NodeView) (o o' : Outside) (result : Result (Unit {0}) RunFault) → Type 0
-Ran t hosted tells steps turns n n' o o' result =
+abbrev pub Ran : (t : TopologyView) (hosted : List ℕ) (tells : Type 0) (steps : List Line) (turns : ℕ) (n n' : NodeView) (o o' : Outside) (P : List Arrival → Type 0) (result : Result (Unit {0}) RunFault) → Type 0
+Ran t hosted tells steps turns n n' o o' P result =
     (came : List Arrival) × ((shut : Bool) × ((length came ≤ turns) × (AllByRecursion IsOfBytes came × (OnOk result ((shut ≡ true) ⊎ (length came ≡ turns))
-    × Went {T = Unit {0}} t hosted tells (run_acts (net_of t) hosted steps came shut) n n' o o' result))))
+    × (Went {T = Unit {0}} t hosted tells (run_acts (net_of t) hosted steps came shut) n n' o o' result × P came)))))
 
 -- with as many turns as it may have
-pub ran_all : (t : TopologyView) (hosted : List ℕ) (tells : Type 0) (steps : List Line) (next count turns : ℕ) (n n' : NodeView) (o o' : Outside) (x : Unit {0}) → count ≡ turns → SoFar t hosted tells steps next count n n' o o'
-    → Ran t hosted tells steps turns n n' o o' (Ok x)
-ran_all t hosted tells steps next count turns n n' o o' x e s =
+pub ran_all : (t : TopologyView) (hosted : List ℕ) (tells : Type 0) (steps : List Line) (next count turns : ℕ) (n n' : NodeView) (o o' : Outside) (P : List Arrival → Type 0) (x : Unit {0}) → count ≡ turns → SoFar t hosted tells steps next count n n' o o' P
+    → Ran t hosted tells steps turns n n' o o' P (Ok x)
+ran_all t hosted tells steps next count turns n n' o o' P x e s =
     let all : List Act = acts_from (net_of t) hosted (publishes_of (net_of t) hosted steps) s.came in
     let length_is : length s.came ≡ turns = s.length_is ∙ e in (
       s.came,
@@ -95,7 +97,10 @@ ran_all t hosted tells steps next count turns n n' o o' x e s =
             s.bytes,
             (
               inr length_is,
-              subst (λ acts. Went {T = Unit {0}} t hosted tells acts n n' o o' (Ok x)) (sym (append-nil all)) (went_ok t hosted tells all n n' o o' x s.goes),
+              (
+                subst (λ acts. Went {T = Unit {0}} t hosted tells acts n n' o o' (Ok x)) (sym (append-nil all)) (went_ok t hosted tells all n n' o o' x s.goes),
+                s.stood,
+              ),
             ),
           ),
         ),
@@ -103,9 +108,9 @@ ran_all t hosted tells steps next count turns n n' o o' x e s =
     )
 
 -- since nothing comes any more
-pub ran_shut : (t : TopologyView) (hosted : List ℕ) (tells : Type 0) (steps : List Line) (next next' count turns : ℕ) (n m n' : NodeView) (o u o' : Outside) (x : Unit {0}) (goes_on : Bool) → goes_on ≡ false → count < turns → SoFar t hosted tells steps next count n m o u
-    → Turned t hosted tells steps next next' m n' u o' (Ok goes_on) → Ran t hosted tells steps turns n n' o o' (Ok x)
-ran_shut t hosted tells steps next next' count turns n m n' o u o' x goes_on e h s turned =
+pub ran_shut : (t : TopologyView) (hosted : List ℕ) (tells : Type 0) (steps : List Line) (next next' count turns : ℕ) (n m n' : NodeView) (o u o' : Outside) (P Q : List Arrival → Type 0) (x : Unit {0}) (goes_on : Bool) → goes_on ≡ false → count < turns → (s : SoFar t hosted tells steps next count n m o u P)
+    → Turned t hosted tells steps next next' m n' u o' (Ok goes_on) → ((more : List Arrival) → length more ≤ 1 → Q (s.came ++ more)) → Ran t hosted tells steps turns n n' o o' Q (Ok x)
+ran_shut t hosted tells steps next next' count turns n m n' o u o' P Q x goes_on e h s turned holds =
     let w : Turned t hosted tells steps next next' m n' u o' (Ok false) = subst (λ (b : Bool). Turned t hosted tells steps next next' m n' u o' (Ok b)) e turned in
     let all : List Act = run_acts (net_of t) hosted steps (s.came ++ w.came) w.shut in
     let length_is : length (s.came ++ w.came) ≡ count = ap (λ xs. length (s.came ++ xs)) w.ends.0 ∙ ap length (append-nil s.came) ∙ s.length_is in (
@@ -118,7 +123,10 @@ ran_shut t hosted tells steps next next' count turns n m n' o u o' x goes_on e h
             all_append IsOfBytes s.came w.came s.bytes w.bytes,
             (
               inl w.ends.1,
-              went_ok t hosted tells all n n' o o' x (all_made t hosted tells all n n' o o' false (turn_on t hosted tells steps next count n m n' o u o' w.came w.shut (Ok false) s w.went)),
+              (
+                went_ok t hosted tells all n n' o o' x (all_made t hosted tells all n n' o o' false (turn_on t hosted tells steps next count n m n' o u o' P w.came w.shut (Ok false) s w.went)),
+                holds w.came (omega (arith, ap length w.ends.0)),
+              ),
             ),
           ),
         ),
@@ -126,9 +134,9 @@ ran_shut t hosted tells steps next next' count turns n m n' o u o' x goes_on e h
     )
 
 -- by a fault
-pub ran_cut : (t : TopologyView) (hosted : List ℕ) (tells : Type 0) (steps : List Line) (next next' count turns : ℕ) (n m n' : NodeView) (o u o' : Outside) (e : RunFault) → count < turns → SoFar t hosted tells steps next count n m o u
-    → Turned t hosted tells steps next next' m n' u o' (Err e) → Ran t hosted tells steps turns n n' o o' (Err e)
-ran_cut t hosted tells steps next next' count turns n m n' o u o' e h s w =
+pub ran_cut : (t : TopologyView) (hosted : List ℕ) (tells : Type 0) (steps : List Line) (next next' count turns : ℕ) (n m n' : NodeView) (o u o' : Outside) (P Q : List Arrival → Type 0) (e : RunFault) → count < turns → (s : SoFar t hosted tells steps next count n m o u P)
+    → Turned t hosted tells steps next next' m n' u o' (Err e) → ((more : List Arrival) → length more ≤ 1 → Q (s.came ++ more)) → Ran t hosted tells steps turns n n' o o' Q (Err e)
+ran_cut t hosted tells steps next next' count turns n m n' o u o' P Q e h s w holds =
     let all : List Act = run_acts (net_of t) hosted steps (s.came ++ w.came) w.shut in
     let length_is : length (s.came ++ w.came) ≡ count + length w.came = length-append s.came w.came ∙ ap (λ k. k + length w.came) s.length_is in (
       s.came ++ w.came,
@@ -140,7 +148,10 @@ ran_cut t hosted tells steps next next' count turns n m n' o u o' e h s w =
             all_append IsOfBytes s.came w.came s.bytes w.bytes,
             (
               tt,
-              went_as {T = Bool} {U = Unit {0}} t hosted tells all n n' o o' e (turn_on t hosted tells steps next count n m n' o u o' w.came w.shut (Err e) s w.went),
+              (
+                went_as {T = Bool} {U = Unit {0}} t hosted tells all n n' o o' e (turn_on t hosted tells steps next count n m n' o u o' P w.came w.shut (Err e) s w.went),
+                holds w.came w.ends.0,
+              ),
             ),
           ),
         ),
@@ -148,8 +159,8 @@ ran_cut t hosted tells steps next next' count turns n m n' o u o' e h s w =
     )
 
 -- before its first turn, for want of memory
-pub ran_none : (t : TopologyView) (hosted : List ℕ) (tells : Type 0) (steps : List Line) (turns : ℕ) (n : NodeView) (o : Outside) → Ran t hosted tells steps turns n n o o (Err run.Memory)
-ran_none t hosted tells steps turns n o = (
+pub ran_none : (t : TopologyView) (hosted : List ℕ) (tells : Type 0) (steps : List Line) (turns : ℕ) (n : NodeView) (o : Outside) (P : List Arrival → Type 0) → P [] → Ran t hosted tells steps turns n n o o P (Err run.Memory)
+ran_none t hosted tells steps turns n o P h = (
   [],
   (
     false,
@@ -159,8 +170,11 @@ ran_none t hosted tells steps turns n o = (
         tt,
         (
           tt,
-          went_front t hosted tells (run_acts (net_of t) hosted steps [] false) n n o o run.Memory tt
-              (front-nothing o.taken o.taken _ refl) (λ h. begins_nothing o.journal o.journal _ refl),
+          (
+            went_front t hosted tells (run_acts (net_of t) hosted steps [] false) n n o o run.Memory tt
+                (front-nothing o.taken o.taken _ refl) (λ h. begins_nothing o.journal o.journal _ refl),
+            h,
+          ),
         ),
       ),
     ),

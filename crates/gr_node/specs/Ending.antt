@@ -13,6 +13,7 @@ use Rattle.gr_model.specs.NetOf.{net_of}
 use Rattle.gr_model.specs.Arrivals.{Arrival}
 use Rattle.gr_theorems.specs.Served.{IsOfBytes}
 use Rattle.gr_node.specs.Seen.{NodeView, text_of}
+use Rattle.gr_node.specs.Lasting.{StoodEachTime}
 use Rattle.gr_node.specs.Plan.{Act, shows, run_acts}
 use Rattle.gr_node.specs.Done.{all_done}
 use Rattle.gr_node.specs.Went.{Outside, IsExact, fault_entries, Begins}
@@ -58,8 +59,9 @@ pub record Ran {T : Type 0} (t : TopologyView) (hosted : List ℕ) (tells : Type
   pub sent_front : (IsExact result → ⊥) → tells → Begins before.journal after.journal (all_done t hosted n acts).entries
 
 -- so it went with what came, which are no more arrivals than were asked for
-pub record RanWith {T : Type 0} (t : TopologyView) (hosted : List ℕ) (tells : Type 0) (steps : List Line) (turns : ℕ)
-    (n n' : NodeView) (before after : Outside) (result : Result T RunFault) : Type 0 where
+pub record RanWith {T : Type 0} (t : TopologyView) (hosted : List ℕ) (tells keeps : Type 0) (steps : List Line)
+    (turns : ℕ) (n n' : NodeView) (before after : Outside) (lanes : ℕ → Lane)
+    (result : Result T RunFault) : Type 0 where
   pub came : List Arrival
   pub closed : Bool
   pub within : length came ≤ turns
@@ -67,6 +69,7 @@ pub record RanWith {T : Type 0} (t : TopologyView) (hosted : List ℕ) (tells : 
   pub ended : OnOk result ((closed ≡ true) ⊎ (length came ≡ turns))
   pub ran : Ran {T = T} t hosted tells
       (run_acts (net_of t) hosted steps came closed ++ shows ∷ []) n n' before after result
+  pub stood : keeps → StoodEachTime t hosted steps n came lanes
 
 -- What a whole run does, and what it leaves at the post, at the sink and on the disk
 pub record Serves {T : Type 0} (t : TopologyView) (hosted : List ℕ) (steps : List Line) (turns : ℕ)
@@ -76,4 +79,4 @@ pub record Serves {T : Type 0} (t : TopologyView) (hosted : List ℕ) (steps : L
   pub run : IsRunOf {T = T} t hosted steps turns course result
   pub posted : posts → Posts {T = T} t hosted steps course journal journal' result
   pub printed : Prints {T = T} t hosted steps course taken taken' result
-  pub kept : keeps → KeepsLogs {T = T} t hosted course lanes lanes' result
+  pub kept : keeps → KeepsLogs {T = T} t hosted steps course lanes lanes' result

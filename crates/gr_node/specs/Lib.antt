@@ -6,6 +6,7 @@ pub mod Went
 pub mod Starting
 pub mod Served
 pub mod Turns
+pub mod Lasting
 pub mod Begun
 pub mod Calling
 pub mod Ending

@@ -1,5 +1,5 @@
 -- What a run did, from its first binding to what is shown at the end, and what it left outside
-use Rattle.std.specs.Prelude.{◌≡◌, ◌⊎◌, ℕ, ◌*◌, ◌<◌, ◌≤◌, Bool, true, false, ◌&&◌, nat_eq, bytes_eq, List, [], ◌∷◌, ◌++◌, length, get_or, Option, Result, Ok, Err, OnOk, OnErr}
+use Rattle.std.specs.Prelude.{◌≡◌, ◌⊎◌, ℕ, ◌*◌, ◌<◌, ◌≤◌, Bool, true, false, ◌&&◌, nat_eq, bytes_eq, List, [], ◌∷◌, ◌++◌, length, map, take, get_or, Option, Result, Ok, Err, OnOk, OnErr}
 use Rattle.std.specs.List.{list_any, AllByRecursion}
 use Rattle.gr_frame.specs.declared.fault.FrameFault.{FrameFault}
 use Rattle.gr_frame.specs.Decode.{frame_decoded}
@@ -18,12 +18,13 @@ use Rattle.gr_topo.specs.Topology.{TopologyView, host_of}
 use Rattle.gr_model.specs.NetOf.{net_of}
 use Rattle.gr_model.specs.World.{World, Transition, in_turn, log_of as machine_log_of}
 use Rattle.gr_model.specs.Opening.{over_logs}
-use Rattle.gr_model.specs.Arrivals.{Arrival, is_hosted, served}
+use Rattle.gr_model.specs.Arrivals.{Arrival, is_hosted, served, publishes_of}
 use Rattle.gr_theorems.specs.Served.{joined, IsOfBytes}
 use Rattle.gr_theorems.specs.Lanes.{AllFollow, whole_logs}
 use Rattle.gr_node.specs.Seen.{text_of}
 use Rattle.gr_node.specs.Of.{OthersStay}
-use Rattle.gr_node.specs.Plan.{Act, binds, starts, shows, ours, act, plan, all_entries}
+use Rattle.gr_node.specs.Lasting.{Lasts}
+use Rattle.gr_node.specs.Plan.{Act, binds, starts, shows, ours, act, acts_from, nodes, plan, all_entries}
 use Rattle.gr_node.specs.Went.{IsExact, FirstIs, uses_disk, fault_entries, Begins}
 use Rattle.gr_node.specs.Starting.{IsFirstDamaged}
 
@@ -96,16 +97,35 @@ pub record Prints {T : Type 0} (t : TopologyView) (hosted : List ℕ) (steps : L
   pub front : OnErr result (TakesFront before after (served_text t hosted steps c))
   pub refused : OnErr result (IsExact result → after ≡ with_more before (text_of t (end_of t hosted c).lines))
 
+-- the acts of a run up to those of its first k arrivals, and the machine's world then
+abbrev pub acts_upto : TopologyView → List ℕ → List Line → Course → ℕ → List Act
+acts_upto t hosted steps c k = map binds (nodes t hosted)
+    ++ (map starts hosted ++ acts_from (net_of t) hosted (publishes_of (net_of t) hosted steps) (take k c.came))
+
+abbrev pub world_upto : TopologyView → List ℕ → List Line → Course → ℕ → World
+world_upto t hosted steps c k =
+    let s : Transition = in_turn (act (net_of t) hosted) (acts_upto t hosted steps c k) (world_before t c) in s.world
+
+-- Nothing that was logged is lost by a crash in the run: once another arrival has come after the first k, the log of
+-- each publisher stood with the records that the machine's log had after these, and whatever a crash may have left of
+-- its lane at any moment since then is a log that begins with them
+abbrev pub LogsLast : TopologyView → List ℕ → List Line → Course → (ℕ → Lane) → Type 0
+LogsLast t hosted steps c after = (k : ℕ) → k < length c.came → (p : ℕ) → p < length t.publishers
+    → is_hosted (net_of t) hosted p ≡ true
+    → (rs : List Record) × (mid : Lane) × Lasts rs mid (after (2 * p))
+    × (log_of rs ≡ machine_log_of (world_upto t hosted steps c k) p)
+
 -- Of a disk that tells what it holds: the records are what the lanes of the started brokers held, after a run whose
 -- acts are known to be made each lane stands with the records of the machine's log, and no other lane was touched
-pub record KeepsLogs {T : Type 0} (t : TopologyView) (hosted : List ℕ) (c : Course) (before after : ℕ → Lane)
-    (result : Result T RunFault) : Type 0 where
+pub record KeepsLogs {T : Type 0} (t : TopologyView) (hosted : List ℕ) (steps : List Line) (c : Course)
+    (before after : ℕ → Lane) (result : Result T RunFault) : Type 0 where
   pub found : (p : ℕ) → p < length t.publishers → is_hosted (net_of t) hosted p ≡ true
       → list_any (is_start (host_of t p)) c.made ≡ true
       → log_text (content (before (2 * p))) ≡ Ok (get_or c.records p [])
   pub kept : IsExact result → (c.left ≡ []) ⊎ (c.left ≡ shows ∷ []) → (p : ℕ) → p < length t.publishers
       → is_hosted (net_of t) hosted p ≡ true
       → (rs : List Record) × Stands (after (2 * p)) rs × (log_of rs ≡ machine_log_of (end_of t hosted c).world p)
+  pub since : LogsLast t hosted steps c after
   pub damaged : (p at : ℕ) → result ≡ Err (run.Damaged p at) → IsFirstDamaged t hosted p at before
   pub others : OthersStay t hosted before after
 

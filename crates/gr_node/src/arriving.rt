@@ -2,6 +2,7 @@
 
 ghost use Rattle.std.specs.Prelude.{◌≡◌, ◌≢◌, ℕ, ◌≤◌, true, false, min, List, [], length, map, drop, Err};
 ghost use Rattle.std.specs.Prelude.{IfOk, IfErr, OnOk, IsErrOf};
+ghost use Rattle.gr_out.specs.Lane.{Lane};
 ghost use Rattle.gr_scenario.specs.Steps.{AreStepsOf};
 ghost use Rattle.gr_model.specs.Broker.{max_tick};
 ghost use Rattle.gr_model.specs.NetOf.{net_of};
@@ -9,6 +10,7 @@ ghost use Rattle.gr_model.specs.Arrivals.{datagram, quiet, Publish, publishes_of
 ghost use Rattle.gr_theorems.specs.Served.{IsOfBytes};
 ghost use Rattle.gr_node.specs.Seen.{seen};
 ghost use Rattle.gr_node.specs.Of.{AreHosted, IsSet, AllStand, OthersStay};
+ghost use Rattle.gr_node.specs.Lasting.{AllKeep};
 ghost use Rattle.gr_node.specs.Plan.{calls, acts_of, quiet_calls};
 ghost use Rattle.gr_node.specs.Done.{at_arrival};
 ghost use Rattle.gr_node.specs.Went.{outside, Went, SinkMoves, DiskMoves, PostMoves, IsTurnFault};
@@ -55,6 +57,7 @@ fn datagram_comes<D: Disk, P: Post, K: Sink>(
     ensures stands { D.tells → OnOk result (AllStand (D.lane_of disk.new) (seen node.new)) }
     ensures others { D.tells
         → OthersStay site.now.topo.now site.now.hosted.now (D.lane_of disk.old) (D.lane_of disk.new) }
+    ensures keeps { D.tells → (l : ℕ → Lane) → AllKeep l (D.lane_of disk.old) → AllKeep l (D.lane_of disk.new) }
     ensures cause { IfErr result IsTurnFault }
     ensures disk { DiskMoves (D.faults disk.old) (D.stops disk.old) (D.faults disk.new) (D.stops disk.new) result }
     ensures sink { SinkMoves (K.faults sink.old) (K.faults sink.new) result }
@@ -98,6 +101,7 @@ fn quiet_comes<D: Disk, P: Post, K: Sink>(
     ensures stands { D.tells → OnOk result (AllStand (D.lane_of disk.new) (seen node.new)) }
     ensures others { D.tells
         → OthersStay site.now.topo.now site.now.hosted.now (D.lane_of disk.old) (D.lane_of disk.new) }
+    ensures keeps { D.tells → (l : ℕ → Lane) → AllKeep l (D.lane_of disk.old) → AllKeep l (D.lane_of disk.new) }
     ensures cause { IfErr result IsTurnFault }
     ensures disk { DiskMoves (D.faults disk.old) (D.stops disk.old) (D.faults disk.new) (D.stops disk.new) result }
     ensures sink { SinkMoves (K.faults sink.old) (K.faults sink.new) result }
@@ -142,6 +146,7 @@ pub(crate) fn turn<D: Disk, P: Post, K: Sink>(
     ensures stands { D.tells → OnOk result (AllStand (D.lane_of disk.new) (seen node.new)) }
     ensures others { D.tells
         → OthersStay site.now.topo.now site.now.hosted.now (D.lane_of disk.old) (D.lane_of disk.new) }
+    ensures keeps { D.tells → (l : ℕ → Lane) → AllKeep l (D.lane_of disk.old) → AllKeep l (D.lane_of disk.new) }
     ensures undamaged { (p at : ℕ) → result ≢ Err (RunFault.Damaged p at) }
     ensures disk { DiskMoves (D.faults disk.old) (D.stops disk.old) (D.faults disk.new) (D.stops disk.new) result }
     ensures sink { SinkMoves (K.faults sink.old) (K.faults sink.new) result }

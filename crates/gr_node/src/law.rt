@@ -1,10 +1,14 @@
 //! What follows of every run. Each function here does nothing: its contract is the law.
 
 ghost use Rattle.std.specs.Prelude.{◌≡◌, ◌↔◌, ℕ, suc, ◌<◌, ◌≤◌, ◌^◌, Bool, true};
-ghost use Rattle.std.specs.Prelude.{List, [], length, map, take, drop};
+ghost use Rattle.std.specs.Prelude.{List, [], length, map, take, drop, Ok};
 ghost use Rattle.std.specs.List.{list_any, AllByRecursion};
 ghost use Rattle.gr_event.specs.declared.event.Event.{Event};
 ghost use Rattle.gr_note.specs.declared.note.Note.TheVariants.{Spent};
+ghost use Rattle.gr_out.specs.Lane.{Lane, moment, LeftSince};
+ghost use Rattle.gr_publog.specs.declared.record.Record.{Record};
+ghost use Rattle.gr_publog.specs.Text.{log_text};
+ghost use Rattle.gr_pubend.specs.Log.{log_of as log_made};
 ghost use Rattle.gr_pubend.specs.Answers.{published};
 ghost use Rattle.gr_pubend.specs.declared.answers.Published.TheVariants.{Exhausted};
 ghost use Rattle.gr_sched.specs.declared.step.Line.{Line};
@@ -19,7 +23,8 @@ ghost use Rattle.gr_theorems.specs.Served.{joined, IsOfBytes};
 ghost use Rattle.gr_theorems.specs.Lanes.{AllFollow, HoldsServedLanes, found_logs};
 ghost use Rattle.gr_theorems.specs.Statements.{ArrivalsDoSteps};
 ghost use Rattle.gr_node.specs.Plan.{Act, ours, act, plan, all_entries, reply_to};
-ghost use Rattle.gr_node.specs.Served.{Course, world_before, planned, IsHonestJournal};
+ghost use Rattle.gr_node.specs.Lasting.{Lasts};
+ghost use Rattle.gr_node.specs.Served.{Course, world_before, acts_upto, world_upto, planned, IsHonestJournal};
 ghost use Rattle.gr_node.specs.Submitted.{IsFirstOf, Logs, log_found, after_acts, AreFirst, IsOfClient, offers_next};
 
 use gr_model::topologies::every_topology_is_a_tree;
@@ -88,6 +93,24 @@ pub fn what_is_logged_was_submitted(topo: &Topology)
     ensures spent { (w : World) (x : Publish) → x.0 < length w.logs
         → let u : Transition = publish_now (net_of topo.now) w x.0 x.1.0 x.1.1 in let l : Log = log_of u.world x.0 in
         (reply_to l.last x ≡ Spent x.0) ↔ (published (log_of w x.0) x.1.0 x.1.1 w.clock ≡ Exhausted) }
+{
+    let _ = topo;
+}
+
+/// What a client was answered is never lost again by a crash in the run. Let the journal have offered it that a number
+/// comes next by the time when the acts of the first arrivals were made, and let the log of the publisher have lasted
+/// since, as the logs of every run do (`since` of `KeepsLogs`). Then whatever a crash may have left of the lane at any
+/// moment since that time is a log that has every number below the one that was offered.
+pub fn what_was_answered_lasts(topo: &Topology)
+    ensures lasts { (hosted : List ℕ) (steps : List Line) (c : Course) (k p n : ℕ) (rs : List Record) (mid after : Lane)
+        → p < length topo.now.publishers → n < 2 ^ 64
+        → list_any (offers_next p n) (all_entries topo.now hosted (world_before topo.now c)
+        (acts_upto topo.now hosted steps c k)) ≡ true
+        → Lasts rs mid after → log_made rs ≡ log_of (world_upto topo.now hosted steps c k) p
+        → (image : List ℕ) → LeftSince after (moment mid) image
+        → (left : List Record) × (log_text image ≡ Ok left) × (let l : Log = log_made left in n ≤ suc l.last) }
+    ensures first { (hosted : List ℕ) (steps : List Line) (c : Course) (k : ℕ)
+        → AreFirst topo.now hosted steps c (acts_upto topo.now hosted steps c k) }
 {
     let _ = topo;
 }

@@ -18,5 +18,7 @@ mod starting;
 mod telling;
 mod turning;
 
-pub use law::{an_honest_journal_meets_the_headline, what_is_logged_was_submitted};
+pub use law::{
+    an_honest_journal_meets_the_headline, what_is_logged_was_submitted, what_was_answered_lasts,
+};
 pub use service::serve;

@@ -5,6 +5,7 @@ ghost use Rattle.std.specs.Prelude.{◌≡◌, ◌≢◌, ℕ, ◌<◌, ◌≤�
 ghost use Rattle.std.specs.Prelude.{IsSome, IfOk, IfErr, OnOk, OnErr, IsOkUnless};
 ghost use Rattle.gr_event.specs.declared.event.Event.{Event as Said};
 ghost use Rattle.gr_out.specs.Page.{TakesBut, TakesFront};
+ghost use Rattle.gr_out.specs.Lane.{Lane};
 ghost use Rattle.gr_note.specs.declared.TheConstants.{MAX_NUMBER};
 ghost use Rattle.gr_note.specs.Fault.{fault_number};
 ghost use Rattle.gr_note.specs.Decode.{note_decoded};
@@ -17,6 +18,7 @@ ghost use Rattle.gr_pubend.specs.Log.{log_of};
 ghost use Rattle.gr_run.specs.Named.{IsPutFault};
 ghost use Rattle.gr_node.specs.Seen.{seen, broker_in, records_in};
 ghost use Rattle.gr_node.specs.Of.{IsSet, NodeFits, AllStand, OthersStay};
+ghost use Rattle.gr_node.specs.Lasting.{AllKeep};
 ghost use Rattle.gr_node.specs.Plan.{publishes, calls, answers, note_acts, datagram_acts, reply_to, reply_entry};
 ghost use Rattle.gr_node.specs.Went.{outside, Went, SinkMoves, DiskMoves, IsTurnFault};
 
@@ -111,6 +113,7 @@ fn submit<D: Disk, P: Post, K: Sink>(
     ensures stands { D.tells → OnOk result (AllStand (D.lane_of disk.new) (seen node.new)) }
     ensures others { D.tells
         → OthersStay site.now.topo.now site.now.hosted.now (D.lane_of disk.old) (D.lane_of disk.new) }
+    ensures keeps { D.tells → (l : ℕ → Lane) → AllKeep l (D.lane_of disk.old) → AllKeep l (D.lane_of disk.new) }
     ensures cause { IfErr result IsTurnFault }
     ensures disk { DiskMoves (D.faults disk.old) (D.stops disk.old) (D.faults disk.new) (D.stops disk.new) result }
     ensures sink { SinkMoves (K.faults sink.old) (K.faults sink.new) result }
@@ -193,6 +196,7 @@ fn take_read<D: Disk, P: Post, K: Sink>(
     ensures stands { D.tells → OnOk result (AllStand (D.lane_of disk.new) (seen node.new)) }
     ensures others { D.tells
         → OthersStay site.now.topo.now site.now.hosted.now (D.lane_of disk.old) (D.lane_of disk.new) }
+    ensures keeps { D.tells → (l : ℕ → Lane) → AllKeep l (D.lane_of disk.old) → AllKeep l (D.lane_of disk.new) }
     ensures cause { IfErr result IsTurnFault }
     ensures disk { DiskMoves (D.faults disk.old) (D.stops disk.old) (D.faults disk.new) (D.stops disk.new) result }
     ensures sink { SinkMoves (K.faults sink.old) (K.faults sink.new) result }
@@ -238,6 +242,7 @@ fn take_note<D: Disk, P: Post, K: Sink>(
     ensures stands { D.tells → OnOk result (AllStand (D.lane_of disk.new) (seen node.new)) }
     ensures others { D.tells
         → OthersStay site.now.topo.now site.now.hosted.now (D.lane_of disk.old) (D.lane_of disk.new) }
+    ensures keeps { D.tells → (l : ℕ → Lane) → AllKeep l (D.lane_of disk.old) → AllKeep l (D.lane_of disk.new) }
     ensures cause { IfErr result IsTurnFault }
     ensures disk { DiskMoves (D.faults disk.old) (D.stops disk.old) (D.faults disk.new) (D.stops disk.new) result }
     ensures sink { SinkMoves (K.faults sink.old) (K.faults sink.new) result }
@@ -275,6 +280,7 @@ pub(crate) fn take_datagram<D: Disk, P: Post, K: Sink>(
     ensures stands { D.tells → OnOk result (AllStand (D.lane_of disk.new) (seen node.new)) }
     ensures others { D.tells
         → OthersStay site.now.topo.now site.now.hosted.now (D.lane_of disk.old) (D.lane_of disk.new) }
+    ensures keeps { D.tells → (l : ℕ → Lane) → AllKeep l (D.lane_of disk.old) → AllKeep l (D.lane_of disk.new) }
     ensures cause { IfErr result IsTurnFault }
     ensures disk { DiskMoves (D.faults disk.old) (D.stops disk.old) (D.faults disk.new) (D.stops disk.new) result }
     ensures sink { SinkMoves (K.faults sink.old) (K.faults sink.new) result }

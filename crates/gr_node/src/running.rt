@@ -8,6 +8,7 @@ ghost use Rattle.gr_model.specs.Arrivals.{Arrival};
 ghost use Rattle.gr_theorems.specs.Served.{IsOfBytes};
 ghost use Rattle.gr_node.specs.Seen.{seen};
 ghost use Rattle.gr_node.specs.Of.{AreHosted, IsSet, AllStand, OthersStay};
+ghost use Rattle.gr_node.specs.Lasting.{StoodEachTime};
 ghost use Rattle.gr_node.specs.Plan.{run_acts};
 ghost use Rattle.gr_node.specs.Went.{outside, Went, IsExact, SinkMoves, DiskMoves, PostMoves};
 
@@ -47,10 +48,12 @@ pub(crate) fn run<D: Disk, P: Post, K: Sink>(
     requires empty { page.old.held ≡ [] }
     ensures ran { (came : List Arrival) × ((shut : Bool) × ((length came ≤ turns) × (AllByRecursion IsOfBytes came
         × (OnOk result ((shut ≡ true) ⊎ (length came ≡ turns))
-        × Went site.now.topo.now site.now.hosted.now P.tells
+        × (Went site.now.topo.now site.now.hosted.now P.tells
         (run_acts (net_of site.now.topo.now) site.now.hosted.now steps.now came shut)
         (seen node.old) (seen node.new) (outside (K.taken sink.old) page.old.held (P.journal post.old))
-        (outside (K.taken sink.new) page.new.held (P.journal post.new)) result)))) }
+        (outside (K.taken sink.new) page.new.held (P.journal post.new)) result
+        × (D.tells → StoodEachTime site.now.topo.now site.now.hosted.now steps.now (seen node.old) came
+        (D.lane_of disk.new))))))) }
     ensures empty { IsExact result → (result ≢ Err RunFault.Disk) → page.new.held ≡ [] }
     ensures set { OnOk result (IsSet site.now.topo.now site.now.hosted.now (seen node.new)) }
     ensures stands { D.tells → OnOk result (AllStand (D.lane_of disk.new) (seen node.new)) }

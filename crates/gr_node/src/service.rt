@@ -105,9 +105,10 @@ fn run_and_show<D: Disk, P: Post, K: Sink>(
     requires set { IsSet site.now.topo.now site.now.hosted.now (seen node.old) }
     requires stands { D.tells → AllStand (D.lane_of disk.old) (seen node.old) }
     requires empty { page.old.held ≡ [] }
-    ensures ran { RanWith site.now.topo.now site.now.hosted.now P.tells steps.now turns (seen node.old) (seen node.new)
+    ensures ran { RanWith site.now.topo.now site.now.hosted.now P.tells D.tells steps.now turns
+        (seen node.old) (seen node.new)
         (outside (K.taken sink.old) page.old.held (P.journal post.old))
-        (outside (K.taken sink.new) page.new.held (P.journal post.new)) result }
+        (outside (K.taken sink.new) page.new.held (P.journal post.new)) (D.lane_of disk.new) result }
     ensures at_post { IsErrOf result RunFault.Post → page.new.held ≡ [] }
     ensures set { IsEnd result → IsSet site.now.topo.now site.now.hosted.now (seen node.new) }
     ensures stands { D.tells → IsEnd result → AllStand (D.lane_of disk.new) (seen node.new) }
@@ -140,9 +141,10 @@ fn carry_out<D: Disk, P: Post, K: Sink>(
     requires set { IsSet site.now.topo.now site.now.hosted.now (seen node.old) }
     requires stands { D.tells → AllStand (D.lane_of disk.old) (seen node.old) }
     requires empty { page.old.held ≡ [] }
-    ensures ran { RanWith site.now.topo.now site.now.hosted.now P.tells steps.now turns (seen node.old) (seen node.new)
+    ensures ran { RanWith site.now.topo.now site.now.hosted.now P.tells D.tells steps.now turns
+        (seen node.old) (seen node.new)
         (outside (K.taken sink.old) [] (P.journal post.old)) (outside (K.taken sink.new) [] (P.journal post.new))
-        result }
+        (D.lane_of disk.new) result }
     ensures set { IsEnd result → IsSet site.now.topo.now site.now.hosted.now (seen node.new) }
     ensures stands { D.tells → IsEnd result → AllStand (D.lane_of disk.new) (seen node.new) }
     ensures others { D.tells
@@ -256,7 +258,7 @@ pub fn serve<D: Disk, P: Post, K: Sink>(
     ensures ran { (c : Course) × (IsRunOf topo.now hosted.now steps.now turns c result
         × ((P.tells → Posts topo.now hosted.now steps.now c (P.journal post.old) (P.journal post.new) result)
         × (Prints topo.now hosted.now steps.now c (K.taken sink.old) (K.taken sink.new) result
-        × (D.tells → KeepsLogs topo.now hosted.now c (D.lane_of disk.old) (D.lane_of disk.new) result)))) }
+        × (D.tells → KeepsLogs topo.now hosted.now steps.now c (D.lane_of disk.old) (D.lane_of disk.new) result)))) }
     ensures damaged_here { (p at : ℕ) → result ≡ Err (RunFault.Damaged p at)
         → (p < length topo.now.publishers) × (is_hosted (net_of topo.now) hosted.now p ≡ true) }
     ensures disk { DiskMoves (D.faults disk.old) (D.stops disk.old) (D.faults disk.new) (D.stops disk.new) result }

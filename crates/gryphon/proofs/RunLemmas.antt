@@ -29,7 +29,7 @@ HasRun t lines hosted turns post_tells disk_tells before after answer =
     (c : Course) × (IsRunOf t hosted lines turns c answer
     × ((post_tells → Posts t hosted lines c before.journal after.journal answer)
     × (Prints t hosted lines c before.taken after.taken answer
-    × (disk_tells → KeepsLogs t hosted c before.lanes after.lanes answer))))
+    × (disk_tells → KeepsLogs t hosted lines c before.lanes after.lanes answer))))
 
 -- that an honest journal of all brokers meets the headline
 abbrev pub MeetsServed : TopologyView → Type 0
@@ -114,7 +114,7 @@ ok_by (Err x) a e = let bad : Err x ≡ Ok a = e in cc
 
 -- so each of their lanes held a log
 pub all_read : (t : TopologyView) (lines : List Line) (hosted : List ℕ) (turns : ℕ) (c : Course) (before after : ℕ → Lane)
-    → IsRunOf {T = ⊤} t hosted lines turns c (Ok tt) → KeepsLogs {T = ⊤} t hosted c before after (Ok tt) → AllRead t hosted before
+    → IsRunOf {T = ⊤} t hosted lines turns c (Ok tt) → KeepsLogs {T = ⊤} t hosted lines c before after (Ok tt) → AllRead t hosted before
 all_read t lines hosted turns c before after is_run keeps = λ p lt here.
     let made : c.made ≡ plan t hosted lines c.came c.closed =
     sym (append-nil c.made) ∙ (ap (λ l. c.made ++ l) (sym is_run.whole) ∙ is_run.acts) in

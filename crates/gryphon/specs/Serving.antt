@@ -83,7 +83,7 @@ pub record RunsTo (t : TopologyView) (lines : List Line) (hosted : List ℕ) (tu
   pub is_run : IsRunOf t hosted lines turns course answer
   pub posts : post_tells → Posts t hosted lines course before.journal after.journal answer
   pub prints : Prints t hosted lines course before.taken after.taken answer
-  pub keeps : disk_tells → KeepsLogs t hosted course before.lanes after.lanes answer
+  pub keeps : disk_tells → KeepsLogs t hosted lines course before.lanes after.lanes answer
   pub headline : hosted ≡ numbers (length t.brokers) → IsHonestJournal [] (planned t hosted lines course)
       → HoldsServedLanes (net_of t) course.records lines (ours hosted course.came)
 

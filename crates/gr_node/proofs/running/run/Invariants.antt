@@ -2,6 +2,7 @@ use Rattle.std.proofs.Common.{◌≡◌, ◌≤◌, [], length, drop}
 use Rattle.gr_model.specs.NetOf.{net_of}
 use Rattle.gr_node.specs.Seen.{seen}
 use Rattle.gr_node.specs.Of.{IsSet, AllStand, OthersStay}
+use Rattle.gr_node.specs.Lasting.{StoodEachTime}
 use Rattle.gr_node.specs.Went.{outside}
 use Rattle.gr_node.specs.Turns.{IsFirst}
 use Rattle.gr_node.proofs.SoFar.{SoFar}
@@ -12,7 +13,8 @@ abbrev pub invariant-turns : goal.invariant-turns
 invariant-turns g l = record {
   goes : SoFar l.site.topo.now l.site.hosted.now g.P.Post.tells l.steps l.next l.counter (seen l.fn.node) (seen l.node)
       (outside (g.K.Sink.taken l.fn.sink) l.fn.page.held (g.P.Post.journal l.fn.post))
-      (outside (g.K.Sink.taken l.sink) l.page.held (g.P.Post.journal l.post));
+      (outside (g.K.Sink.taken l.sink) l.page.held (g.P.Post.journal l.post))
+      (λ came. g.D.Disk.tells → StoodEachTime l.site.topo.now l.site.hosted.now l.steps (seen l.fn.node) came (g.D.Disk.lane_of l.disk));
   within : l.next ≤ length l.steps;
   first : IsFirst (net_of l.site.topo.now) l.site.hosted.now (drop l.next l.steps);
   empty : l.page.held ≡ [];

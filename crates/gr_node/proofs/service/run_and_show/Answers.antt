@@ -19,8 +19,9 @@ returns-in-Ok-clause-ran g c =
       ran = ran_shown _ t hosted g.P.Post.tells (run_acts (net_of t) hosted c.args.steps.now went.0 went.1.0) (seen c.args.node.now) (seen c.run.new.node)
           (outside (g.K.Sink.taken c.args.sink.now) c.args.page.now.held (g.P.Post.journal c.args.post.now))
           (outside (g.K.Sink.taken c.run.new.sink) c.run.new.page.held (g.P.Post.journal c.run.new.post))
-          _ went.1.1.1.1.1 (g.K.Sink.taken c.put_shown.new.sink) c.put_shown.new.page.held c.put_shown.result
+          _ went.1.1.1.1.1.0 (g.K.Sink.taken c.put_shown.new.sink) c.put_shown.new.page.held c.put_shown.result
           c.put_shown.ensures.told c.put_shown.ensures.front c.put_shown.ensures.cause;
+      stood = went.1.1.1.1.1.1;
     }
 
 pub returns-in-Ok-clause-stands : goal.returns-in-Ok-clause-stands
@@ -40,7 +41,8 @@ returns-in-Err-clause-ran g c =
       ran = ran_failed t hosted g.P.Post.tells (run_acts (net_of t) hosted c.args.steps.now went.0 went.1.0) (seen c.args.node.now) (seen c.run.new.node)
           (outside (g.K.Sink.taken c.args.sink.now) c.args.page.now.held (g.P.Post.journal c.args.post.now))
           (outside (g.K.Sink.taken c.run.new.sink) c.run.new.page.held (g.P.Post.journal c.run.new.post))
-          c.in-Err.fault c.in-Err.ensures.never_damaged went.1.1.1.1.1;
+          c.in-Err.fault c.in-Err.ensures.never_damaged went.1.1.1.1.1.0;
+      stood = went.1.1.1.1.1.1;
     }
 
 pub returns-in-Err-clause-stands : goal.returns-in-Err-clause-stands

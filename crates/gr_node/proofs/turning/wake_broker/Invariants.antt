@@ -1,6 +1,8 @@
-use Rattle.std.proofs.Common.{◌≡◌, length, map}
+use Rattle.std.proofs.Common.{◌≡◌, ℕ, length, map}
+use Rattle.gr_out.specs.Lane.{Lane}
 use Rattle.gr_node.specs.Seen.{seen}
 use Rattle.gr_node.specs.Of.{IsSet, AllStand, OthersStay}
+use Rattle.gr_node.specs.Lasting.{AllKeep}
 use Rattle.gr_node.specs.Plan.{calls, wake_calls}
 use Rattle.gr_node.specs.Went.{outside}
 use Rattle.gr_node.proofs.Within.{Within, wakes_from}
@@ -16,6 +18,7 @@ invariant-publishers g l = record {
   set : IsSet l.site.topo.now l.site.hosted.now (seen l.node);
   stands : g.D.Disk.tells → AllStand (g.D.Disk.lane_of l.disk) (seen l.node);
   others : g.D.Disk.tells → OthersStay l.site.topo.now l.site.hosted.now (g.D.Disk.lane_of l.initial.disk) (g.D.Disk.lane_of l.disk);
+  keeps : g.D.Disk.tells → (lanes : ℕ → Lane) → AllKeep lanes (g.D.Disk.lane_of l.initial.disk) → AllKeep lanes (g.D.Disk.lane_of l.disk);
   faults : g.D.Disk.faults l.disk ≡ g.D.Disk.faults l.initial.disk;
   stops : g.D.Disk.stops l.disk ≡ g.D.Disk.stops l.initial.disk;
   sink : g.K.Sink.faults l.sink ≡ g.K.Sink.faults l.initial.sink;

@@ -1,9 +1,12 @@
 -- The event is published at the host's place
 use Rattle.std.proofs.Common.{sym}
 use Rattle.gr_topo.specs.Topology.{host_of}
+use Rattle.gr_broker.specs.Told.{log_answer}
+use Rattle.gr_broker.specs.Hosted.{publish_logs_at}
 use Rattle.gr_node.specs.Seen.{seen}
 use Rattle.gr_node.proofs.Exchanged.{Place, placed, placed_at, hosts_here}
 use Rattle.gr_node.proofs.Called.{Publishes, makes_publish, fits_publish, stands_publish}
+use Rattle.gr_node.proofs.Lasting.{all_on, keep_publish}
 use Rattle.gr_node.proofs.node.Node.publish_at.Given.{Over}
 use Rattle.gr_node.proofs.node.Node.publish_at.Goals as goal
 
@@ -41,3 +44,15 @@ returns-clause-stands g c = λ tells.
     stands_publish c.args.topo.now (seen c.args.self.now) c.args.p c.args.number c.args.event.now c.take_out-broker.result c.publish-answer.new.self c.put_back.new.brokers.items
     (place g c) c.requires.publisher c.publish-answer.result c.answered.result c.answered.ensures (gives g c)
     (g.D.Disk.lane_of c.args.disk.now) (g.D.Disk.lane_of c.publish-answer.new.disk) (c.publish-answer.ensures.others tells) (c.requires.stands tells) (c.publish-answer.ensures.stands tells)
+
+pub returns-clause-keeps : goal.returns-clause-keeps
+returns-clause-keeps g c = λ tells lanes kept.
+    let x = c.take_out-broker.result in
+    let was = c.take_out-broker.ensures.was in
+    let e = c.publish-answer.ensures in
+    let before = g.D.Disk.lane_of c.args.disk.now in
+    let after = g.D.Disk.lane_of c.publish-answer.new.disk in
+    let here = hosts_here c.args.topo.now (seen c.args.self.now) c.host-host.result c.args.p x c.requires.fits was c.requires.publisher (sym c.host-host.ensures.host) in
+    all_on lanes before after kept
+    (keep_publish x c.args.p before after (log_answer c.publish-answer.result) (λ l h. c.requires.fits.whole c.host-host.result c.args.p x l was h) (c.requires.stands tells c.host-host.result x was) (e.goes_on tells) (e.others tells)
+    (publish_logs_at x c.args.p c.args.self.now.now c.args.number c.args.event.now) here.1 (e.lane tells))
