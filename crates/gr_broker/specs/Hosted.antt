@@ -1,5 +1,6 @@
 -- A publisher's calls at its host: what is logged, told and kept
-use Rattle.std.specs.Prelude.{◌≡◌, ◌≢◌, ◌⊎◌, ℕ, ◌*◌, false, nat_lt, if◌then◌else◌, List, Option, Some, None, Result, Err, IsErrOf, OnOk}
+use Rattle.std.specs.Prelude.{◌≡◌, ◌≢◌, ◌⊎◌, ℕ, ◌*◌, false, nat_lt, if◌then◌else◌, List, Option, Some, None, Result}
+use Rattle.std.specs.Prelude.{Err, IsErrOf, OnOk}
 use Rattle.gr_event.specs.declared.event.Event.{Event}
 use Rattle.gr_out.specs.Lane.{Lane, moment, LeftSince}
 use Rattle.gr_publog.specs.declared.record.Record.{Record}

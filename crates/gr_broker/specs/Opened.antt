@@ -1,5 +1,6 @@
 -- A broker starts over the logs that its lanes hold
-use Rattle.std.specs.Prelude.{◌≡◌, ◌≢◌, ◌⊎◌, ℕ, ◌*◌, ◌<◌, true, false, ◌&&◌, if◌then◌else◌, List, [], ◌++◌, length, Some, Ok, Err, IsOk, IsSome, flat_map}
+use Rattle.std.specs.Prelude.{◌≡◌, ◌≢◌, ◌⊎◌, ℕ, ◌*◌, ◌<◌, true, false, ◌&&◌, if◌then◌else◌, List, [], ◌++◌, length}
+use Rattle.std.specs.Prelude.{Some, Ok, Err, IsOk, IsSome, flat_map}
 use Rattle.gr_topo.specs.Topology.{TopologyView}
 use Rattle.gr_out.specs.Lane.{Lane, content, moment, MayLeave, LeftSince}
 use Rattle.gr_publog.specs.Text.{log_text}

@@ -1,5 +1,6 @@
 -- A broker's start, publisher by publisher: what is kept of those so far, and what was done to their lanes
-use Rattle.std.specs.Prelude.{◌≡◌, ◌≢◌, ℕ, ◌*◌, ◌<◌, Bool, true, false, List, [], length, map, get_or, Option, Some, None, Ok, is_some, flat_map}
+use Rattle.std.specs.Prelude.{◌≡◌, ◌≢◌, ℕ, ◌*◌, ◌<◌, Bool, true, false, List, [], length, map, get_or, Option, Some}
+use Rattle.std.specs.Prelude.{None, Ok, is_some, flat_map}
 use Rattle.gr_topo.specs.Topology.{TopologyView, children_of}
 use Rattle.gr_out.specs.Lane.{Lane}
 use Rattle.gr_publog.specs.declared.record.LogFault.{LogFault}

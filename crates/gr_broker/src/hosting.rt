@@ -15,7 +15,8 @@ ghost use Rattle.gr_pubend.specs.Answers.{quieted, publish_logs, quiet_logs, IsP
 ghost use Rattle.gr_topo.specs.Topology.{children_of};
 ghost use Rattle.gr_model.specs.Net.{is_host, keeps_horizon};
 ghost use Rattle.gr_model.specs.NetOf.{net_of};
-ghost use Rattle.gr_model.specs.Broker.{Outcome as MachineOutcome, learn, horizon_if, publish, publish_by, marking, marking_by, wake_host};
+ghost use Rattle.gr_model.specs.Broker.{Outcome as MachineOutcome, learn, horizon_if, publish, publish_by, marking};
+ghost use Rattle.gr_model.specs.Broker.{marking_by, wake_host};
 ghost use Rattle.gr_broker.specs.Of.{IsKept};
 ghost use Rattle.gr_broker.specs.Held.{held_view, IsSite};
 ghost use Rattle.gr_broker.specs.Told.{Tells, Adds, AddsFrames};

@@ -1,6 +1,7 @@
 //! A datagram comes: it is decoded, then it must fit, then it must not clash with what is known.
 
-ghost use Rattle.std.specs.Prelude.{◌≡◌, ◌≢◌, ℕ, ◌<◌, true, false, nat_eq, List, length, map, get_or, MatchOption, Ok, IfOk, IfErr, OnOk, OnErr};
+ghost use Rattle.std.specs.Prelude.{◌≡◌, ◌≢◌, ℕ, ◌<◌, true, false, nat_eq, List, length, map, get_or, MatchOption, Ok};
+ghost use Rattle.std.specs.Prelude.{IfOk, IfErr, OnOk, OnErr};
 ghost use Rattle.std.specs.List.{list_any};
 ghost use Rattle.gr_frame.specs.Decode.{frame_decoded};
 ghost use Rattle.gr_frame.specs.Limits.{IsBody};
@@ -119,7 +120,8 @@ pub(crate) fn receive(
         IfOk result (λ answer. Answers answer (receipt (net_of seat.now.topo.now) now b (frame_decoded bytes.now))) }
     ensures after { let b = broker_at seat.now held.old.items in
         OnOk result (broker_at seat.now held.new.items
-        ≡ after_receipt (frame_decoded bytes.now) (receipt (net_of seat.now.topo.now) now b (frame_decoded bytes.now)) b) }
+        ≡ after_receipt (frame_decoded bytes.now)
+        (receipt (net_of seat.now.topo.now) now b (frame_decoded bytes.now)) b) }
     ensures err { OnErr result (map held_view held.new.items ≡ map held_view held.old.items) }
     ensures logs { map (λ h. h.log) held.new.items ≡ map (λ h. h.log) held.old.items }
     ensures kept { (p : ℕ) → p < length seat.now.topo.now.publishers

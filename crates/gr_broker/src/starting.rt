@@ -1,6 +1,7 @@
 //! A broker starts, publisher by publisher.
 
-ghost use Rattle.std.specs.Prelude.{◌≡◌, ◌≢◌, ℕ, ◌*◌, ◌<◌, ◌++◌, [], true, false, length, map, Some, None, Err, OnOk, IfOk, IsErrOf};
+ghost use Rattle.std.specs.Prelude.{◌≡◌, ◌≢◌, ℕ, ◌*◌, ◌<◌, ◌++◌, [], true, false, length, map, Some, None, Err, OnOk};
+ghost use Rattle.std.specs.Prelude.{IfOk, IsErrOf};
 ghost use Rattle.std.specs.List.{AllByRecursion};
 ghost use Rattle.gr_out.specs.declared.disk.Stop.TheVariants.{Unset};
 ghost use Rattle.gr_out.specs.Lane.{content, has_stopped};
@@ -17,7 +18,8 @@ ghost use Rattle.gr_broker.specs.Of.{branch_of};
 ghost use Rattle.gr_broker.specs.Held.{held_view, seen_branch, HasEdges, IsSite};
 ghost use Rattle.gr_broker.specs.Told.{log_answer};
 ghost use Rattle.gr_broker.specs.Opened.{LosesNothing, IsDamagedAt};
-ghost use Rattle.gr_broker.specs.Starting.{fault_of, fresh_view, is_here, IsStartedAt, lines_at, AreStarted, AreOpened, TouchesLanes};
+ghost use Rattle.gr_broker.specs.Starting.{fault_of, fresh_view, is_here, IsStartedAt, lines_at, AreStarted, AreOpened};
+ghost use Rattle.gr_broker.specs.Starting.{TouchesLanes};
 
 use crate::held::Held;
 use crate::learning::learn;

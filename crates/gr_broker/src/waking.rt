@@ -1,6 +1,7 @@
 //! A broker is woken for a publisher: one part is woken, with its log where the publisher is here, and put back.
 
-ghost use Rattle.std.specs.Prelude.{◌≡◌, ◌≢◌, ◌↔◌, ◌⊎◌, ℕ, ◌*◌, ◌<◌, ◌≤◌, true, length, is_some, None, Some, IsSome, IfOk, OnOk, IsErrOf};
+ghost use Rattle.std.specs.Prelude.{◌≡◌, ◌≢◌, ◌↔◌, ◌⊎◌, ℕ, ◌*◌, ◌<◌, ◌≤◌, true, length, is_some, None, Some, IsSome};
+ghost use Rattle.std.specs.Prelude.{IfOk, OnOk, IsErrOf};
 ghost use Rattle.gr_out.specs.Stops.{StaysFaultless};
 ghost use Rattle.gr_tick.specs.declared.TheConstants.{MAX_TICK};
 ghost use Rattle.gr_publog.specs.Crash.{LogView};
@@ -12,8 +13,10 @@ ghost use Rattle.gr_broker.specs.Seen.{log_in, log_said, machine_log, is_broken,
 ghost use Rattle.gr_broker.specs.Of.{IsKept, IsBrokerOf, LogsStand};
 ghost use Rattle.gr_broker.specs.Held.{held_view, IsSeat, IsSite, broker_at};
 ghost use Rattle.gr_broker.specs.Told.{Tells, log_answer};
-ghost use Rattle.gr_broker.specs.Parts.{part_of, part_wake, part_mark_logs, part_cut_logs, part_marked, part_woken, part_failed};
-ghost use Rattle.gr_broker.specs.Hosted.{wake_at, mark_logs_at, cut_logs_at, after_mark, after_wake, AppendsTwice, AppendsTwiceAt, WakeLeaves};
+ghost use Rattle.gr_broker.specs.Parts.{part_of, part_wake, part_mark_logs, part_cut_logs, part_marked, part_woken};
+ghost use Rattle.gr_broker.specs.Parts.{part_failed};
+ghost use Rattle.gr_broker.specs.Hosted.{wake_at, mark_logs_at, cut_logs_at, after_mark, after_wake, AppendsTwice};
+ghost use Rattle.gr_broker.specs.Hosted.{AppendsTwiceAt, WakeLeaves};
 
 use crate::asking::wake_below;
 use crate::held::Held;

@@ -1,5 +1,5 @@
-//! Walks over the runs of one function, and on each of them over the pieces on which a second one is steady: outside the
-//! runs there is nothing to say.
+//! Walks over the runs of one function, and on each of them over the pieces on which a second one is steady: outside
+//! the runs there is nothing to say.
 
 ghost use Rattle.std.specs.Prelude.{if◌then◌else◌, ◌≡◌, ◌≢◌, ◌⊎◌, ℕ, ◌+◌, ◌<◌, ◌≤◌, not, ◌&&◌, IfOk, OnOk, IsTrue};
 ghost use Rattle.std.specs.Prelude.{length};

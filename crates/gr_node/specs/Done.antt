@@ -1,5 +1,6 @@
 -- The acts of a run at a node: what each leaves, tells and puts into the journal
-use Rattle.std.specs.Prelude.{ℕ, suc, ◌+◌, min, if◌then◌else◌, List, [], ◌∷◌, ◌++◌, length, set, Option, Some, None, flat_map}
+use Rattle.std.specs.Prelude.{ℕ, suc, ◌+◌, min, if◌then◌else◌, List, [], ◌∷◌, ◌++◌, length, set, Option, Some, None}
+use Rattle.std.specs.Prelude.{flat_map}
 use Rattle.gr_frame.specs.declared.Frame.{Frame}
 use Rattle.gr_out.specs.Entry.{Entry}
 use Rattle.gr_out.specs.Entry as entry

@@ -1,5 +1,6 @@
 -- What a run did, from its first binding to what is shown at the end, and what it left outside
-use Rattle.std.specs.Prelude.{◌≡◌, ◌⊎◌, ℕ, ◌*◌, ◌<◌, ◌≤◌, Bool, true, false, ◌&&◌, nat_eq, bytes_eq, List, [], ◌∷◌, ◌++◌, length, map, take, get_or, Option, Result, Ok, Err, OnOk, OnErr}
+use Rattle.std.specs.Prelude.{◌≡◌, ◌⊎◌, ℕ, ◌*◌, ◌<◌, ◌≤◌, Bool, true, false, ◌&&◌, nat_eq, bytes_eq, List, [], ◌∷◌}
+use Rattle.std.specs.Prelude.{◌++◌, length, map, take, get_or, Option, Result, Ok, Err, OnOk, OnErr}
 use Rattle.std.specs.List.{list_any, AllByRecursion}
 use Rattle.gr_frame.specs.declared.fault.FrameFault.{FrameFault}
 use Rattle.gr_frame.specs.Decode.{frame_decoded}

@@ -1,5 +1,6 @@
 -- The hosted brokers start: what each keeps and tells, and what was found on the lanes
-use Rattle.std.specs.Prelude.{◌≡◌, ◌⊎◌, ℕ, ◌*◌, ◌<◌, ◌≤◌, true, false, List, [], ◌++◌, length, take, get_or, Option, Some, None, Result, Ok, Err, IsOk, OnOk, OnErr, flat_map}
+use Rattle.std.specs.Prelude.{◌≡◌, ◌⊎◌, ℕ, ◌*◌, ◌<◌, ◌≤◌, true, false, List, [], ◌++◌, length, take, get_or, Option}
+use Rattle.std.specs.Prelude.{Some, None, Result, Ok, Err, IsOk, OnOk, OnErr, flat_map}
 use Rattle.std.specs.List.{AllByRecursion}
 use Rattle.gr_out.specs.declared.fault.RunFault.{RunFault}
 use Rattle.gr_out.specs.declared.fault.RunFault.TheVariants as run

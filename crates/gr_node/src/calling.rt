@@ -1,6 +1,7 @@
 //! One call of a hosted broker. It is taken out of its place, called, and put back.
 
-ghost use Rattle.std.specs.Prelude.{◌≡◌, ◌≢◌, ℕ, ◌<◌, [], ◌∷◌, get_or, set, length, Some, None, Err, IsSome, IfOk, IfErr, OnOk};
+ghost use Rattle.std.specs.Prelude.{◌≡◌, ◌≢◌, ℕ, ◌<◌, [], ◌∷◌, get_or, set, length, Some, None, Err, IsSome, IfOk};
+ghost use Rattle.std.specs.Prelude.{IfErr, OnOk};
 ghost use Rattle.gr_frame.specs.Decode.{frame_decoded};
 ghost use Rattle.gr_out.specs.Lane.{Lane};
 ghost use Rattle.gr_publog.specs.declared.record.LogFault.TheVariants as log_fault;

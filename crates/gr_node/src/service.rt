@@ -1,6 +1,7 @@
 //! A whole run: the nodes are bound, the hosted ones start, what comes is taken, and at the end all is shown.
 
-ghost use Rattle.std.specs.Prelude.{◌≡◌, ◌≢◌, ℕ, ◌<◌, ◌++◌, ◌∷◌, true, List, [], length, map, Err, IsSome, IsErrOf, IfErr, OnOk, OnErr};
+ghost use Rattle.std.specs.Prelude.{◌≡◌, ◌≢◌, ℕ, ◌<◌, ◌++◌, ◌∷◌, true, List, [], length, map, Err, IsSome, IsErrOf};
+ghost use Rattle.std.specs.Prelude.{IfErr, OnOk, OnErr};
 ghost use Rattle.gr_out.specs.Entry.{Entry};
 ghost use Rattle.gr_out.specs.Page.{TakesBut, TakesFront};
 ghost use Rattle.gr_scenario.specs.Steps.{AreStepsOf};

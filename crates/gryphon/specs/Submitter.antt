@@ -1,5 +1,6 @@
 -- The publisher of a topology that the word of `publish` names, or why its client cannot submit
-use Rattle.std.specs.Prelude.{ℕ, ◌<◌, if◌then◌else◌, List, ◌++◌, length, Option, Some, None, is_some, IsSome, find, codes}
+use Rattle.std.specs.Prelude.{ℕ, ◌<◌, if◌then◌else◌, List, ◌++◌, length, Option, Some, None, is_some, IsSome, find}
+use Rattle.std.specs.Prelude.{codes}
 use Rattle.gr_scenario.specs.Refusals.{shown}
 use Rattle.gr_topo.specs.Topology.{TopologyView, number_of, host_of, address_of, client_of}
 use Rattle.gr_tree.specs.Walks.{numbers}

@@ -4,7 +4,8 @@ ghost use Rattle.std.specs.Prelude.{◌≡◌, ◌<◌, length, find, IfOk, IfSo
 ghost use Rattle.std.specs.Option.{option_map};
 ghost use Rattle.gr_tree.specs.Walks.{numbers};
 ghost use Rattle.gryphon.specs.Words.{texts_of};
-ghost use Rattle.gryphon.specs.Hosting.{is_unknown, unknown_line, is_unaddressed, unaddressed_line, names_broker, is_named, named_brokers, hosting_of, IsReady};
+ghost use Rattle.gryphon.specs.Hosting.{is_unknown, unknown_line, is_unaddressed, unaddressed_line, names_broker};
+ghost use Rattle.gryphon.specs.Hosting.{is_named, named_brokers, hosting_of, IsReady};
 
 use gr_event::{Numbers, Text};
 use gr_scenario::{line_of_topology, push_shown};

@@ -6,7 +6,8 @@ ghost use Rattle.gr_out.specs.Page.{TakesFront};
 ghost use Rattle.gr_sched.specs.declared.step.TheConstants.{MAX_STEPS};
 ghost use Rattle.gr_scenario.specs.Scenario.{asked_by, IsTooLarge};
 ghost use Rattle.gryphon.specs.Submitter.{submitter_of};
-ghost use Rattle.gryphon.specs.Publishing.{publishing_over, publishing_of, OnPublish, CanPublish, outside, PublishesTo, StopsPublishing, NotPublished};
+ghost use Rattle.gryphon.specs.Publishing.{publishing_over, publishing_of, OnPublish, CanPublish, outside, PublishesTo};
+ghost use Rattle.gryphon.specs.Publishing.{StopsPublishing, NotPublished};
 ghost use Rattle.gryphon.specs.Answers.{publish_answer};
 ghost use Rattle.gryphon.specs.Top.{IsAnswered, IsWhole, IsCut};
 

@@ -8,7 +8,8 @@ ghost use Rattle.gr_scenario.specs.Scenario.{asked_by, IsTooLarge};
 ghost use Rattle.gr_scenario.specs.Steps.{AreStepsOf};
 ghost use Rattle.gryphon.specs.Words.{texts_of};
 ghost use Rattle.gryphon.specs.Hosting.{hosting_of};
-ghost use Rattle.gryphon.specs.Serving.{serving_over, serving_of, OnRun, CanRun, around, RunsTo, StopsBy, NotBegun, IsDamaged, AllRead};
+ghost use Rattle.gryphon.specs.Serving.{serving_over, serving_of, OnRun, CanRun, around, RunsTo, StopsBy, NotBegun};
+ghost use Rattle.gryphon.specs.Serving.{IsDamaged, AllRead};
 ghost use Rattle.gryphon.specs.Answers.{answer_in};
 ghost use Rattle.gryphon.specs.Top.{IsAnswered, IsWhole, IsCut, IsStop};
 

@@ -7,7 +7,8 @@ ghost use Rattle.clap.specs.Words.{IsParsedFrom, IsPlainArg};
 ghost use Rattle.clap.specs.declared.builder.ArgAction.TheVariants.{Set};
 ghost use Rattle.clap.specs.declared.builder.value_parser.ValueParser.TheVariants.{Unsigned};
 ghost use Rattle.clap.specs.declared.error.kind.ErrorKind.TheVariants.{OutOfMemory};
-ghost use Rattle.gryphon.specs.Words.{texts_of, turns_rule, serve_app, publish_app, soak_app, soak_count, HasTurns, HasCount, taken, serve_by, publish_by, task_by, is_known, IsInRange};
+ghost use Rattle.gryphon.specs.Words.{texts_of, turns_rule, serve_app, publish_app, soak_app, soak_count, HasTurns};
+ghost use Rattle.gryphon.specs.Words.{HasCount, taken, serve_by, publish_by, task_by, is_known, IsInRange};
 
 use crate::broker_words::BrokerWords;
 use crate::word::Word;
