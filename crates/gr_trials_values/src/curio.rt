@@ -119,10 +119,10 @@ fn consolidates_what_both_acknowledge(rt: HostRuntime) -> Result<(), Fail> {
     let part = wants.consolidate(Some(2))?;
     assert_eq!(rt; part.len(), 1);
     assert_eq!(rt; part.run(0).last, 2);
+    assert_eq!(rt; wants.children(), 2);
     assert!(rt; wants.covers(1, 4));
     assert!(rt; !wants.covers(1, 5));
     assert!(rt; wants.covers(1, 0));
-    assert_eq!(rt; wants.children(), 2);
     assert_eq!(rt; wants.len(1), 1);
     assert_eq!(rt; wants.run(1, 0).last, 4);
     Ok(())
