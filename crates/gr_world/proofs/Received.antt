@@ -1,7 +1,7 @@
 -- A frame of a world reaches its receiver: its bytes decode, it fits since it went over an edge, and one that clashes is dropped
 -- where the machine's call changes and tells nothing
 use Rattle.std.proofs.Common.{◌≡◌, ◌≢◌, ◌⊎◌, inl, inr, ℕ, zero, suc, ◌<◌, Bool, true, false, List, [], ◌∷◌, length, map, get_or, set, Option, Some, None, Result, Ok, Err, OnOk, OnErr, refl, sym, ap, ◌∙◌, subst}
-use Rattle.std.specs.Prelude.{slice_get, IsOk, IfOk}
+use Rattle.std.specs.Prelude.{slice_get, IfOk}
 use Rattle.std.specs.List.{AllByRecursion}
 use Rattle.std.proofs.lemmas.List.{set-get_or}
 use Rattle.std.proofs.lemmas.Bool.{cases_eq}
@@ -255,15 +255,11 @@ module _ (v w : WorldView) (k : ℕ) (bytes : List ℕ) (s : Place v w k bytes) 
   place_fits : IsWorld v
   place_fits = subst IsWorld (sym s.same) s.fits
 
-  place_spelled : IsFrame bytes frame
+  pub place_spelled : IsFrame bytes frame
   place_spelled = spelled_at v.frames k bytes place_fits.spelled s.there
 
   place_over : GoesOverEdge (net_in v) frame
   place_over = holds_at (GoesOverEdge (net_in v)) v.frames k bytes place_fits.over s.there
-
-  -- its bytes decode
-  pub place_decodes : IsOk (frame_decoded bytes)
-  place_decodes = subst IsOk (sym (decodes v frame bytes place_fits place_spelled place_over)) refl
 
   -- its receiver is a broker
   pub place_to : (to : ℕ) → to ≡ frame.head.to → to < length v.topo.brokers

@@ -12,7 +12,8 @@ ghost use Rattle.gr_world.specs.Disk.{UsesDisk, IsBarred};
 ghost use Rattle.gr_world.specs.Stopped.{broken_in};
 
 use crate::fault::WorldFault;
-use crate::sending::{receiver, take_answer, take_receipt};
+use crate::heads::receiver;
+use crate::sending::{take_answer, take_receipt};
 use crate::world::World;
 use gr_broker::{clashes_have_a_least_tick, frames_pass_the_log};
 use gr_event::Event;

@@ -1,20 +1,18 @@
 //! What brokers send in a sweep is delivered: curiosity at once, and knowledge broker by broker.
 
-ghost use Rattle.std.specs.Prelude.{◌≡◌, ◌<◌, ◌≤◌, suc, [], length, Some, IsOk, IfOk};
+ghost use Rattle.std.specs.Prelude.{◌≡◌, ◌<◌, ◌≤◌, suc, [], length, Some};
 ghost use Rattle.gr_frame.specs.declared.Frame.{Frame as MachineFrame};
-ghost use Rattle.gr_frame.specs.Decode.{frame_decoded};
 ghost use Rattle.gr_model.specs.World.{frame_at, is_want, is_know_to, deliver_up, hand_down};
-ghost use Rattle.gr_world.specs.Seen.{frame_said, net_in, world_of};
+ghost use Rattle.gr_world.specs.Seen.{net_in, world_of};
 ghost use Rattle.gr_world.specs.Of.{IsWorld};
 ghost use Rattle.gr_world.specs.Steps.{Does};
 ghost use Rattle.gr_world.specs.Ran.{IsOpen, Ran};
 ghost use Rattle.gr_world.specs.Sweeps.{Joins, Delivers, wants_past, with_wants};
 
-use crate::fault::{Memory, WorldFault};
+use crate::fault::WorldFault;
+use crate::heads::{is_know_to, is_want};
 use crate::world::World;
-use gr_frame::{Body, Frame, decode};
 use gr_model::Reports;
-use std::alloc::{AllocError, Global};
 
 /// The lines so far, with those of one more call.
 pub(crate) fn joined(
@@ -29,39 +27,6 @@ pub(crate) fn joined(
             Err(_) => Err(WorldFault::Memory),
         },
         Err(fault) => Err(fault),
-    }
-}
-
-/// Whether a frame goes upwards.
-fn is_want(frame: &Frame) -> bool
-    ensures { result ≡ is_want frame.now }
-{
-    match &frame.body {
-        Body::Curiosity(_) => true,
-        Body::Knowledge(_) => false,
-        Body::Expect(_) => false,
-    }
-}
-
-/// Whether a frame brings knowledge of a publisher to a broker.
-fn is_know_to(frame: &Frame, p: u16, b: u16) -> bool
-    ensures { result ≡ is_know_to p b frame.now }
-{
-    match &frame.body {
-        Body::Knowledge(_) => frame.head.publisher == p && frame.head.to == b,
-        Body::Curiosity(_) => false,
-        Body::Expect(_) => false,
-    }
-}
-
-/// The frame that these bytes say.
-fn frame_in(alloc: Global, bytes: &[u8]) -> Result<Frame, Memory>
-    requires { IsOk (frame_decoded bytes.now) }
-    ensures { IfOk result (λ f. f ≡ frame_said bytes.now) }
-{
-    match decode(alloc, bytes) {
-        Ok(frame) => Ok(frame),
-        Err(_) => Err(AllocError),
     }
 }
 
@@ -80,31 +45,22 @@ impl World {
         Reports::new(self.alloc)
     }
 
-    /// Whether the frame at a place, from 0, goes upwards. At want of memory it cannot be read.
-    fn goes_up(&self, i: usize) -> Result<bool, Memory>
+    /// Whether the frame at a place, from 0, goes upwards. Takes no memory.
+    fn goes_up(&self, i: usize) -> bool
         requires fits { IsWorld self.now }
         requires frame { i < length self.now.frames }
-        ensures { (f : MachineFrame) → frame_at (world_of self.now) (suc i) ≡ Some f
-            → IfOk result (λ up. up ≡ is_want f) }
+        ensures { (f : MachineFrame) → frame_at (world_of self.now) (suc i) ≡ Some f → result ≡ is_want f }
     {
-        let frame = frame_in(self.alloc, self.frames.frame(i))?;
-        let up = is_want(&frame);
-        drop(frame);
-        Ok(up)
+        is_want(self.frames.frame(i))
     }
 
-    /// Whether the frame at a place, from 0, brings knowledge of a publisher to a broker. At want of memory it cannot
-    /// be read.
-    fn brings_down(&self, i: usize, p: u16, b: u16) -> Result<bool, Memory>
+    /// Whether the frame at a place, from 0, brings knowledge of a publisher to a broker. Takes no memory.
+    fn brings_down(&self, i: usize, p: u16, b: u16) -> bool
         requires fits { IsWorld self.now }
         requires frame { i < length self.now.frames }
-        ensures { (f : MachineFrame) → frame_at (world_of self.now) (suc i) ≡ Some f
-            → IfOk result (λ down. down ≡ is_know_to p b f) }
+        ensures { (f : MachineFrame) → frame_at (world_of self.now) (suc i) ≡ Some f → result ≡ is_know_to p b f }
     {
-        let frame = frame_in(self.alloc, self.frames.frame(i))?;
-        let down = is_know_to(&frame, p, b);
-        drop(frame);
-        Ok(down)
+        is_know_to(self.frames.frame(i), p, b)
     }
 
     /// Delivers a frame, and then the upward frames that this sends, at most so deep.
@@ -143,11 +99,7 @@ impl World {
             return Ok(lines);
         }
         'frames: for i in first..self.sent() {
-            let up = match self.goes_up(i) {
-                Ok(up) => up,
-                Err(_) => return Err(WorldFault::Memory),
-            };
-            if !up {
+            if !self.goes_up(i) {
                 continue;
             }
             let told = self.deliver_with(i, fuel - 1);
@@ -170,11 +122,7 @@ impl World {
     {
         let mut lines = self.no_lines();
         'frames: for i in first..self.sent() {
-            let down = match self.brings_down(i, p, b) {
-                Ok(down) => down,
-                Err(_) => return Err(WorldFault::Memory),
-            };
-            if !down {
+            if !self.brings_down(i, p, b) {
                 continue;
             }
             let told = self.deliver_at(i);

@@ -6,6 +6,7 @@ mod calls;
 mod copying;
 mod delivering;
 mod fault;
+mod heads;
 mod opening;
 mod order;
 mod sending;

@@ -1,12 +1,10 @@
 //! What a broker's call sends and tells is taken up by the world.
 
-ghost use Rattle.std.specs.Prelude.{◌≡◌, suc, ◌++◌, length, map, IsOk, IfOk, OnOk, OnErr};
+ghost use Rattle.std.specs.Prelude.{◌≡◌, suc, ◌++◌, length, map, IfOk, OnOk, OnErr};
 ghost use Rattle.gr_frame.specs.Bytes.{frame_bytes};
-ghost use Rattle.gr_frame.specs.Decode.{frame_decoded};
 ghost use Rattle.gr_model.specs.Broker.{Outcome as MachineOutcome};
 ghost use Rattle.gr_model.specs.World.{sent_lines};
 ghost use Rattle.gr_broker.specs.Told.{Tells};
-ghost use Rattle.gr_world.specs.Seen.{frame_said};
 ghost use Rattle.gr_world.specs.Taking.{Follows, FollowsReceipt, IsReceived, TakesUp};
 
 use crate::fault::{Memory, WorldFault, world_fault};
@@ -74,12 +72,4 @@ pub(crate) fn take_receipt(
         Ok(Received::Dropped(_)) => unreachable!(),
         Err(_) => Err(WorldFault::Memory),
     }
-}
-
-/// The broker that a frame is for, by its bytes. Takes no memory.
-pub(crate) fn receiver(bytes: &[u8]) -> u16
-    requires { IsOk (frame_decoded bytes.now) }
-    ensures { result ≡ (frame_said bytes.now).head.to }
-{
-    u16::from_be_bytes([bytes[6], bytes[7]])
 }

@@ -2,15 +2,15 @@ use Rattle.std.proofs.Common.{sym, ap, ◌∙◌}
 use Rattle.std.specs.List.{slice_get}
 use Rattle.gr_model.specs.World.{is_know_to}
 use Rattle.gr_world.specs.Seen.{WorldView}
-use Rattle.gr_world.proofs.Spelled.{frame_decodes, frame_says}
+use Rattle.gr_world.proofs.Spelled.{frame_is_spelled, frame_says}
 use Rattle.gr_world.proofs.world.World.brings_down.Goals as goal
 
-pub frame_in-requires : goal.frame_in-requires
-frame_in-requires c =
+pub is_know_to-requires : goal.is_know_to-requires
+is_know_to-requires c =
     let e = ap (λ (w : WorldView). slice_get w.frames c.args.i) (sym c.self.view_is) ∙ c.frame.ensures in
-    frame_decodes c.args.self.now c.args.i c.frame.result.now c.requires.fits e
+    frame_is_spelled c.args.self.now c.args.i c.frame.result.now c.requires.fits e
 
 pub returns : goal.returns
 returns c = λ f h.
     let e = ap (λ (w : WorldView). slice_get w.frames c.args.i) (sym c.self.view_is) ∙ c.frame.ensures in
-    c.is_know_to-down.ensures ∙ ap (is_know_to c.args.p c.args.b) (c.in_ok-frame.ensures ∙ sym (frame_says c.args.self.now c.args.i c.frame.result.now f e h))
+    c.is_know_to.ensures ∙ ap (is_know_to c.args.p c.args.b) (sym (frame_says c.args.self.now c.args.i c.frame.result.now f e h))

@@ -3,12 +3,12 @@ use Rattle.std.proofs.Common.{◌<◌, length, arith}
 use Rattle.gr_world.specs.contracts.world.World.{the_view}
 use Rattle.gr_world.specs.Seen.{frame_said}
 use Rattle.gr_world.proofs.Called.{read_fits}
-use Rattle.gr_world.proofs.Received.{Place, deliver_in, place_decodes, place_to, place_broker, place_received, does_deliver, ran_deliver, logs_deliver}
+use Rattle.gr_world.proofs.Received.{Place, deliver_in, place_spelled, place_to, place_broker, place_received, does_deliver, ran_deliver, logs_deliver}
 use Rattle.gr_world.proofs.world.World.deliver_at.Goals as goal
 
 pub receiver-to-requires : goal.receiver-to-requires
 receiver-to-requires c =
-    place_decodes (the_view c.self.inside) c.args.self.now c.args.i c.frame-bytes.result.now (record { same = c.self.view_is; fits = c.requires.fits; is_open = c.requires.«open»; there = c.frame-bytes.ensures })
+    place_spelled (the_view c.self.inside) c.args.self.now c.args.i c.frame-bytes.result.now (record { same = c.self.view_is; fits = c.requires.fits; is_open = c.requires.«open»; there = c.frame-bytes.ensures })
 
 pub index_mut-requires : goal.index_mut-requires
 index_mut-requires c =
