@@ -11,6 +11,7 @@ use Rattle.gr_publog.specs.Text.{log_text}
 use Rattle.gr_publog.specs.Crash.{LogView, Stands}
 use Rattle.gr_publog.specs.Calls.{GoesOn, Reads, records_with, Appends}
 use Rattle.gr_publog.proofs.Moments.{only_now}
+use Rattle.gr_publog.proofs.Onward.{goes_on_then}
 use Rattle.gr_publog.proofs.Reading.{reads_spelled}
 use Rattle.gr_sched.specs.declared.step.Line.{Line}
 use Rattle.gr_topo.specs.Topology.{TopologyView}
@@ -44,18 +45,10 @@ keeps_same l = record {
   images = λ rs all image left. all image (only_now l.start l.calls image left);
 }
 
--- what goes on from a lane that went on goes on from the first
-on_and_on : (a b c : Lane) → GoesOn a b → GoesOn b c → GoesOn a c
-on_and_on a b c x y = record {
-  start = y.start ∙ x.start;
-  more = y.more ++ x.more;
-  calls = y.calls ∙ (ap (λ cs. y.more ++ cs) x.calls ∙ sym (append_assoc y.more x.more a.calls));
-}
-
--- and loses nothing, where neither does
+-- what goes on from a lane that lost nothing loses nothing of it
 pub keeps_on : (a b c : Lane) → Keeps a b → Keeps b c → Keeps a c
 keeps_on a b c x y = record {
-  on = on_and_on a b c x.on y.on;
+  on = goes_on_then a b c x.on y.on;
   images = λ rs all image left.
       ⊎_elim (λ later. y.images rs (λ k now. x.images rs all k (still_left b.start b.calls (moment a) k now)) image later)
       (λ before. x.images rs all image before)

@@ -1,8 +1,7 @@
 -- The text of what steps tell, cut behind one of them
-use Rattle.std.proofs.Common.{◌≡◌, ℕ, ◌+◌, ◌<◌, ◌≤◌, List, [], ◌∷◌, ◌++◌, take, drop, get_or, length, Option, refl, sym, ap, subst, ◌∙◌, append_assoc}
+use Rattle.std.proofs.Common.{◌≡◌, ℕ, ◌+◌, ◌<◌, List, [], ◌∷◌, ◌++◌, take, drop, get_or, length, refl, sym, ap, ◌∙◌}
 use Rattle.std.proofs.lemmas.List.{append-nil, take_more, take-append-drop}
 use Rattle.std.proofs.lemmas.Grind.{flat_map-append}
-use Rattle.gr_out.specs.Bytes.{with_more}
 use Rattle.gr_sched.specs.declared.step.Line.{Line}
 use Rattle.gr_model.specs.declared.report.Report.{Report}
 use Rattle.gr_model.specs.Net.{Net}
@@ -13,7 +12,6 @@ use Rattle.gr_theorems.proofs.runs.Schedules.{report_lines}
 use Rattle.gr_theorems.proofs.server.Arriving.{run_append}
 use Rattle.gr_topo.specs.Topology.{TopologyView}
 use Rattle.gr_world.specs.Seen.{WorldView, net_in, world_of}
-use Rattle.gr_out.specs.Page.{TakesFront}
 use Rattle.gr_replay.specs.Replayed.{replayed_text}
 use Rattle.gr_replay.specs.Going.{Tells, step_text, text_from}
 

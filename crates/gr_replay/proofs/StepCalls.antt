@@ -1,5 +1,5 @@
 -- What a step's call leaves and tells, by the step
-use Rattle.std.proofs.Common.{◌≡◌, ℕ, List, refl, sym, ap, ◌∙◌, subst, Some, Ok}
+use Rattle.std.proofs.Common.{◌≡◌, List, sym, ap, ◌∙◌, subst, Some, Ok}
 use Rattle.gr_sched.specs.declared.step.Step.{Step}
 use Rattle.gr_sched.specs.declared.step.Step.TheVariants as step
 use Rattle.gr_model.specs.declared.report.Report.{Report}

@@ -1,6 +1,6 @@
 -- What steps tell, with one step more
 use Rattle.std.proofs.Common.{◌≡◌, ℕ, ◌+◌, ◌<◌, List, [], ◌∷◌, ◌++◌, take, get_or, length, Option, None, Some, refl, sym, ap, ap₂, ◌∙◌}
-use Rattle.std.specs.List.{count_by, sum_by, last_or, flat_map}
+use Rattle.std.specs.List.{count_by, sum_by, last_or}
 use Rattle.std.specs.Option.{unwrap_or}
 use Rattle.std.specs.Prelude.{Bool}
 use Rattle.std.proofs.lemmas.List.{append-nil, take_more}

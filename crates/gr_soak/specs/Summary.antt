@@ -1,5 +1,5 @@
 -- What a soak counts over a report
-use Rattle.std.specs.Prelude.{ℕ, Bool, true, false, ◌&&◌, not, nat_eq, List, [], Option, None, unwrap_or}
+use Rattle.std.specs.Prelude.{ℕ, Bool, true, false, ◌&&◌, not, nat_eq, List, [], None, unwrap_or}
 use Rattle.std.specs.List.{count_by, sum_by, list_any, last_or}
 use Rattle.gr_model.specs.declared.report.Report.{Report}
 use Rattle.gr_model.specs.declared.report.Report.TheVariants.{Logged, Got, Frames, LogOf, Doubt}

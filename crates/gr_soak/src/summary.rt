@@ -1,6 +1,6 @@
 //! Counts over the lines of a report.
 
-ghost use Rattle.std.specs.Prelude.{◌≡◌, not, if◌then◌else◌, ◌+◌, ◌*◌, ◌<◌, ◌≤◌, ◌^◌, ◌++◌, length, IfOk, OnOk};
+ghost use Rattle.std.specs.Prelude.{◌≡◌, not, if◌then◌else◌, ◌+◌, ◌*◌, ◌<◌, ◌≤◌, ◌^◌, ◌++◌, IfOk, OnOk};
 ghost use Rattle.std.specs.List.{count_by, sum_by, list_any};
 ghost use Rattle.gr_soak.specs.Summary.{is_logged, is_got, is_behind, is_settled, frames_told, kept_told};
 ghost use Rattle.gr_soak.specs.Report.{row_text, summary_text};

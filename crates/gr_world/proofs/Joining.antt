@@ -1,22 +1,21 @@
 -- Lines that were told are joined with what the next call answers: the two calls are one run, whatever the second answers. Deliveries are runs on a disk that they leave as it is
-use Rattle.std.proofs.Common.{◌≡◌, ◌≢◌, ℕ, ◌+◌, ◌*◌, ◌<◌, ◌≤◌, true, false, List, [], ◌∷◌, ◌++◌, length, Option, Some, None, Result, Ok, Err, refl, sym, ap, ◌∙◌, subst, arith}
+use Rattle.std.proofs.Common.{◌≡◌, ℕ, ◌<◌, List, length, Some, Result, Ok, Err, refl, sym, ap, ◌∙◌, subst}
 use Rattle.std.specs.List.{AllByRecursion}
 use Rattle.gr_out.specs.Lane.{Lane}
-use Rattle.gr_publog.specs.Crash.{LogView}
 use Rattle.gr_model.specs.declared.report.Report.{Report}
 use Rattle.gr_topo.specs.Topology.{TopologyView, host_of}
 use Rattle.gr_model.specs.Net.{Net}
 use Rattle.gr_model.specs.NetOf.{net_of}
-use Rattle.gr_model.specs.World.{World, Transition, followed_by, in_turn}
+use Rattle.gr_model.specs.World.{World, Transition, followed_by}
 use Rattle.gr_world.specs.declared.fault.WorldFault.{WorldFault}
 use Rattle.gr_world.specs.declared.fault.WorldFault.TheVariants as fault
 use Rattle.gr_world.specs.Seen.{WorldView, log_at, net_in, world_of}
-use Rattle.gr_world.specs.Of.{IsWorld, LanesFit}
+use Rattle.gr_world.specs.Of.{LanesFit}
 use Rattle.gr_world.specs.Steps.{Does}
-use Rattle.gr_world.specs.Disk.{StaysSound, UsesDisk}
-use Rattle.gr_world.specs.Ran.{IsOpen, Keeps, Ran}
+use Rattle.gr_world.specs.Disk.{UsesDisk}
+use Rattle.gr_world.specs.Ran.{Keeps, Ran}
 use Rattle.gr_world.specs.Sweeps.{Joins, Delivers, AreBrokers}
-use Rattle.gr_world.proofs.Composed.{keeps_none, keeps_on, ran_none, ran_on, ran_lines, ran_memory, disk_on, disk_lines, disk_memory, does_err, behind, does_on}
+use Rattle.gr_world.proofs.Composed.{ran_on, ran_lines, ran_memory, disk_on, disk_lines, disk_memory, does_err, does_on}
 
 -- two runs whose lines are joined are one
 pub ran_joined : (a b c : WorldView) (ls : List Report) (told result : Result (List Report) WorldFault) → Joins ls told result → Ran a b (Ok ls) → Ran b c told → Ran a c result

@@ -1,17 +1,16 @@
 -- The moment of a sweep: the greatest of all moments and settled ticks, publisher by publisher, and the settings on top, which stay far below the last number of 64 bits
-use Rattle.std.proofs.Common.{◌≡◌, ℕ, suc, ◌+◌, ◌-◌, ◌^◌, ◌<◌, ◌≤◌, max, true, nat_eq, List, [], ◌∷◌, length, map, get_or, Option, Some, None, refl, sym, ap, ap₂, ◌∙◌, arith, add-one}
+use Rattle.std.proofs.Common.{◌≡◌, ℕ, suc, ◌+◌, ◌-◌, ◌^◌, ◌<◌, ◌≤◌, max, List, ◌∷◌, length, map, get_or, Some, sym, ap, ap₂, ◌∙◌, arith, add-one}
 use Rattle.std.proofs.lemmas.List.{get_or_read}
 use Rattle.gr_publog.specs.Crash.{LogView}
 use Rattle.gr_publog.specs.State.{state_of, empty_state, Follow}
 use Rattle.gr_pubend.specs.Log.{Log, empty_log, log_of as log_of_records}
 use Rattle.gr_pubend.proofs.Knowing.{stays_of}
 use Rattle.gr_topo.specs.Topology.{TopologyView, host_of}
-use Rattle.gr_model.specs.Net.{Net, numbers, numbers_from}
-use Rattle.gr_model.specs.World.{World, greatest_settled, log_of, sweep_moment}
+use Rattle.gr_model.specs.Net.{numbers, numbers_from}
+use Rattle.gr_model.specs.World.{greatest_settled, log_of, sweep_moment}
 use Rattle.gr_theorems.proofs.runs.Schedules.{get_numbers}
 use Rattle.gr_broker.specs.Seen.{BrokerView, log_in, log_said}
 use Rattle.gr_world.specs.Seen.{WorldView, no_broker, log_at, net_in, world_of}
-use Rattle.gr_world.specs.Of.{IsWorld}
 
 -- The log of a publisher
 

@@ -1,5 +1,5 @@
 -- A sweep is what is done at its moment, with the clock there: so it is the machine's step, keeps a sound world sound, and leaves lanes that fit, also where it is noted that memory was refused
-use Rattle.std.proofs.Common.{◌≡◌, ℕ, ◌*◌, ◌^◌, ◌<◌, ◌≤◌, max, Bool, true, false, nat_lt, List, [], ◌∷◌, length, Option, Some, None, Result, Ok, Err, refl, sym, ap, ap₂, ◌∙◌, subst, arith, lt-ltb, le-ltb}
+use Rattle.std.proofs.Common.{◌≡◌, ℕ, ◌^◌, ◌<◌, ◌≤◌, max, Bool, true, false, nat_lt, List, [], ◌∷◌, Result, Ok, Err, refl, sym, ap, ap₂, ◌∙◌, subst, lt-ltb, le-ltb}
 use Rattle.std.proofs.lemmas.Bool.{true≢false}
 use Rattle.gr_out.specs.Lane.{Lane}
 use Rattle.gr_sched.specs.declared.step.Step.TheVariants as step

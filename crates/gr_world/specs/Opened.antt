@@ -1,6 +1,6 @@
 -- A world's opening, and a broker's start again, over what the lanes hold
-use Rattle.std.specs.Prelude.{◌≡◌, ◌≢◌, ◌⊎◌, ℕ, ◌*◌, ◌<◌, true, false, List, [], length, flat_map, Option, Some, None}
-use Rattle.std.specs.Prelude.{Result, Ok, Err, IsErrOf, OnOk}
+use Rattle.std.specs.Prelude.{◌≡◌, ◌≢◌, ◌⊎◌, ℕ, ◌*◌, ◌<◌, false, List, [], length, flat_map, Option, Some, None}
+use Rattle.std.specs.Prelude.{Result, Ok, IsErrOf, OnOk}
 use Rattle.gr_out.specs.declared.disk.Stop.TheVariants.{Unset}
 use Rattle.gr_out.specs.Lane.{Lane, content}
 use Rattle.gr_publog.specs.Crash.{LogView}
@@ -11,11 +11,11 @@ use Rattle.gr_model.specs.Net.{Net, numbers}
 use Rattle.gr_model.specs.NetOf.{net_of}
 use Rattle.gr_model.specs.Broker.{Log}
 use Rattle.gr_model.specs.World.{World, Transition, restarted, opened_lines}
-use Rattle.gr_broker.specs.Seen.{BrokerView, view_in, machine_log}
+use Rattle.gr_broker.specs.Seen.{view_in, machine_log}
 use Rattle.gr_broker.specs.Opened.{opened_at}
 use Rattle.gr_world.specs.declared.fault.WorldFault.{WorldFault}
 use Rattle.gr_world.specs.declared.fault.WorldFault.TheVariants as fault
-use Rattle.gr_world.specs.Seen.{WorldView, broker_in, log_at, world_of, net_in}
+use Rattle.gr_world.specs.Seen.{WorldView, broker_in, log_at}
 use Rattle.gr_world.specs.Of.{IsSound}
 
 -- no stop is ordered on any lane

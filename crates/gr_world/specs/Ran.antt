@@ -1,5 +1,5 @@
 -- One broker's call or several within a step: what they leave beside the machine's equation
-use Rattle.std.specs.Prelude.{◌≡◌, true, false, ℕ, List, ◌++◌, Option, None, Result, Err}
+use Rattle.std.specs.Prelude.{◌≡◌, true, false, ℕ, List, ◌++◌, None, Result, Err}
 use Rattle.gr_model.specs.declared.report.Report.{Report}
 use Rattle.gr_world.specs.declared.fault.WorldFault.{WorldFault}
 use Rattle.gr_world.specs.declared.fault.WorldFault.TheVariants as fault

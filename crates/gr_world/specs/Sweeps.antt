@@ -9,7 +9,7 @@ use Rattle.gr_model.specs.World.{World, Transition, unchanged, followed_by, in_t
 use Rattle.gr_model.specs.World.{frames_past, sent_since, wake_up, hand_down, sweep_for}
 use Rattle.gr_world.specs.declared.fault.WorldFault.{WorldFault}
 use Rattle.gr_world.specs.declared.fault.WorldFault.TheVariants as fault
-use Rattle.gr_world.specs.Seen.{WorldView, log_at, world_of}
+use Rattle.gr_world.specs.Seen.{WorldView, log_at}
 
 -- the answer of two calls one after another: the lines of both, why the second failed, or want of memory for the lines
 abbrev pub Joins : List Report → Result (List Report) WorldFault → Result (List Report) WorldFault → Type 0

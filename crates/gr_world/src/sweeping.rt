@@ -1,6 +1,6 @@
 //! A sweep: the clock moves far ahead, and everything settles.
 
-ghost use Rattle.std.specs.Prelude.{◌≡◌, ◌≢◌, ◌<◌, ◌≤◌, false, length, None, Err, IfOk};
+ghost use Rattle.std.specs.Prelude.{◌≡◌, ◌<◌, ◌≤◌, false, length, None, Err, IfOk};
 ghost use Rattle.gr_sched.specs.declared.step.Step.TheVariants as step;
 ghost use Rattle.gr_model.specs.Net.{numbers};
 ghost use Rattle.gr_model.specs.World.{inwards, outwards, wake_up, hand_down, in_turn, sweep_for, sweep_moment, log_of};

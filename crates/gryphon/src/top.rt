@@ -7,11 +7,11 @@ ghost use Rattle.gr_out.specs.Page.{TakesFront};
 ghost use Rattle.gr_publog.specs.Crash.{EitherRose};
 ghost use Rattle.gr_scenario.specs.Scenario.{asked_by};
 ghost use Rattle.gryphon.specs.Words.{texts_of, task_by, is_known, IsReading, IsServing, IsPosting};
-ghost use Rattle.gryphon.specs.Serving.{serving_of, OnRun, IfRun, around, RunsTo, StopsBy, NotBegun, IsDamaged};
+ghost use Rattle.gryphon.specs.Serving.{IfRun, around, RunsTo, StopsBy, NotBegun, IsDamaged};
 ghost use Rattle.gryphon.specs.Serving.{AllRead};
-ghost use Rattle.gryphon.specs.Publishing.{publishing_of, OnPublish, IfPublish, outside, PublishesTo, StopsPublishing};
+ghost use Rattle.gryphon.specs.Publishing.{IfPublish, outside, PublishesTo, StopsPublishing};
 ghost use Rattle.gryphon.specs.Publishing.{NotPublished};
-ghost use Rattle.gryphon.specs.Answers.{answer_in, publish_answer, answer_of, answer_to};
+ghost use Rattle.gryphon.specs.Answers.{answer_of, answer_to};
 ghost use Rattle.gryphon.specs.Top.{WasReplayed, IsAnswered, IsWhole, IsCut, IsStop};
 
 use crate::broker_words::BrokerWords;

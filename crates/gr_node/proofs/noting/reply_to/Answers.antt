@@ -1,4 +1,3 @@
-use Rattle.std.proofs.Common.{◌∙◌}
 use Rattle.gr_node.proofs.Notes.{spent_reply, next_reply}
 use Rattle.gr_node.proofs.noting.reply_to.Goals as goal
 

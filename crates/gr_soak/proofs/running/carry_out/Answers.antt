@@ -1,5 +1,5 @@
 use Rattle.std.proofs.Common.{◌+◌, refl, sym, ap, ◌∙◌, take, arith}
-use Rattle.gr_model.specs.World.{Transition, run_from_by, run_from, run_all}
+use Rattle.gr_model.specs.World.{Transition, run_from_by, run_from}
 use Rattle.gr_world.specs.Seen.{net_in, world_of}
 use Rattle.std.specs.List.{count_by}
 use Rattle.gr_replay.proofs.RunTexts.{leads_step}

@@ -1,4 +1,4 @@
-use Rattle.std.proofs.Common.{◌≡◌, ap, ◌∙◌, OnOk}
+use Rattle.std.proofs.Common.{ap, ◌∙◌}
 use Rattle.gr_out.proofs.Fronts.{on_success}
 use Rattle.gr_soak.specs.Text.{stirred, after}
 use Rattle.gr_soak.proofs.Pieces.{turn_whole}

@@ -1,4 +1,4 @@
-use Rattle.std.proofs.Common.{◌++◌, [], ap, ◌∙◌, codes}
+use Rattle.std.proofs.Common.{◌++◌, [], ap, ◌∙◌}
 use Rattle.gr_soak.specs.Text.{topology_text, turns_text, soak_text}
 use Rattle.gr_soak.proofs.Pieces.{both}
 use Rattle.gr_soak.proofs.text.soak_text.Goals as goal

@@ -1,4 +1,4 @@
-use Rattle.std.proofs.Common.{◌≡◌, ◌+◌, ◌<◌, length, get_or, drop, Ok, Err, arith}
+use Rattle.std.proofs.Common.{◌+◌, ◌<◌, length, get_or, drop, Ok, Err, arith}
 use Rattle.gr_model.specs.World.{hand_down, in_turn}
 use Rattle.gr_world.specs.Seen.{net_in, world_of}
 use Rattle.gr_world.proofs.Joining.{ran_joined, delivers_joined, does_same}

@@ -1,4 +1,4 @@
-use Rattle.std.proofs.Common.{◌≡◌, drop, Ok}
+use Rattle.std.proofs.Common.{drop, Ok}
 use Rattle.gr_model.specs.World.{hand_down, in_turn}
 use Rattle.gr_world.specs.Seen.{net_in, world_of}
 use Rattle.gr_world.specs.Ran.{Ran}

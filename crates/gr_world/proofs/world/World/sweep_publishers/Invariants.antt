@@ -1,4 +1,4 @@
-use Rattle.std.proofs.Common.{◌≡◌, ◌-◌, length, Ok}
+use Rattle.std.proofs.Common.{◌-◌, length, Ok}
 use Rattle.gr_model.specs.Net.{numbers, numbers_from}
 use Rattle.gr_model.specs.World.{sweep_for, in_turn}
 use Rattle.gr_world.specs.Seen.{net_in, world_of}

@@ -1,10 +1,9 @@
-use Rattle.std.proofs.Common.{◌≡◌, ℕ, ◌+◌, ◌-◌, ◌<◌, ◌≤◌, length, sym, ap, subst, arith}
+use Rattle.std.proofs.Common.{◌≡◌, ℕ, ◌-◌, ◌<◌, length, ap, arith}
 use Rattle.gr_topo.specs.Topology.{TopologyView}
-use Rattle.gr_model.specs.Net.{numbers_from}
 use Rattle.gr_model.specs.NetOf.{net_of}
-use Rattle.gr_model.specs.World.{World, wake_for, wake_all}
-use Rattle.gr_world.specs.Seen.{WorldView, net_in, world_of}
-use Rattle.gr_world.proofs.Composed.{Leads, leads_number, leads_numbers, open_kept, ran_none, ran_on, ran_lines, disk_none, disk_on, disk_lines}
+use Rattle.gr_model.specs.World.{World, wake_for}
+use Rattle.gr_world.specs.Seen.{WorldView, net_in}
+use Rattle.gr_world.proofs.Composed.{leads_number, ran_none, ran_on, ran_lines, disk_none, disk_on, disk_lines}
 use Rattle.gr_world.proofs.Stepping.{wakes_first, wake_next}
 use Rattle.gr_world.proofs.world.World.wake_each.Goals as goal
 

@@ -1,4 +1,4 @@
-use Rattle.std.proofs.Common.{◌≡◌, ◌-◌, length, Ok}
+use Rattle.std.proofs.Common.{◌-◌, length, Ok}
 use Rattle.gr_model.specs.Net.{numbers_from}
 use Rattle.gr_model.specs.World.{wake_for, wake_all}
 use Rattle.gr_world.specs.Seen.{net_in, world_of}
