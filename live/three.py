@@ -154,6 +154,15 @@ def check(told_by_a, told_by_b, events):
     return wrong
 
 
+def built(program):
+    """Where the program is, which is built by then: ./gryphon is built on first use, before any clock may run."""
+    program = os.path.abspath(program)
+    ended = subprocess.run([program, "replay"], stdin=subprocess.DEVNULL, stdout=subprocess.DEVNULL)
+    if ended.returncode:
+        sys.exit(f"live: {program} ended with status {ended.returncode} for no input")
+    return program
+
+
 def options():
     """The words of the command, and the relay that they ask for."""
     parser = argparse.ArgumentParser()
@@ -164,7 +173,7 @@ def options():
     parser.add_argument("--seconds", type=float, default=110)
     parser.add_argument("--seed", type=int, default=1)
     asked = parser.parse_args()
-    asked.program = os.path.abspath(asked.program)
+    asked.program = built(asked.program)
     return asked, Relay(asked.loss, asked.loss / 4, asked.loss / 2, asked.seed)
 
 
