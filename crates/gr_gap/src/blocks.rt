@@ -1,8 +1,8 @@
 // Values in order, in blocks of so many places each, which need not be full. An edit moves values within one block, and
 // changes the starts of those behind it.
-ghost use Rattle.std.specs.Prelude.{◌≡◌, ℕ, ◌+◌, ◌*◌, ◌^◌, ◌<◌, ◌≤◌, [], ◌++◌, length, insert, remove, slice_index_or};
+ghost use Rattle.std.specs.Prelude.{◌≡◌, ◌+◌, ◌*◌, ◌^◌, ◌<◌, ◌≤◌, [], ◌++◌, length, insert, remove, slice_index_or};
 ghost use Rattle.std.specs.Prelude.{slice_set, OnOk, OnErr, min};
-ghost use Rattle.std_alloc.specs.VecDeque.{deque_len, deque_capacity};
+ghost use Rattle.std_alloc.specs.VecDeque.{deque_capacity};
 ghost use Rattle.gr_gap.specs.declared.blocks.TheConstants.{BLOCK};
 
 use crate::moves::{close_empty, put, put_first, take_first};

@@ -1,11 +1,12 @@
 // A list in blocks: an edit moves values within one block.
-ghost use Rattle.std.specs.Prelude.{◌≡◌, ◌+◌, ◌*◌, ◌^◌, ◌<◌, ◌≤◌, [], ◌∷◌, length, insert, remove, slice_index_or};
+ghost use Rattle.std.specs.Prelude.{◌≡◌, ◌+◌, ◌*◌, ◌^◌, ◌<◌, ◌≤◌, [], length, insert, remove, slice_index_or};
 ghost use Rattle.std.specs.Prelude.{slice_set, OnOk, OnErr, IsOk, max};
 ghost use Rattle.gr_gap.specs.declared.blocks.TheConstants.{BLOCK};
 
 use crate::Memory;
-use crate::blocks::{BLOCK, Blocks};
+use crate::blocks::BLOCK;
 use crate::moves::put;
+use crate::rest::Rest;
 use std::alloc::{AllocError, Global};
 use std::cell::Cell;
 use std::collections::VecDeque;
@@ -25,7 +26,7 @@ pub struct Gap<T> {
     // are. Where all fit in one block, they stand here.
     head: VecDeque<T>,
     // The values that come after them.
-    rest: Blocks<T>,
+    rest: Rest<T>,
     // How many values fit in all.
     room: usize,
     // Where a search may well begin. What it holds is no part of the list.
@@ -73,7 +74,7 @@ impl<T> Gap<T> {
     {
         Gap {
             head: VecDeque::new(alloc),
-            rest: Blocks::new(alloc),
+            rest: Rest::new(alloc),
             room: 0,
             near: Cell::new(0),
         }
@@ -219,7 +220,7 @@ impl<T> Gap<T> {
 }
 
 // Adds blocks, where one alone has not so much room, until they have it.
-fn add_blocks<T>(rest: &mut Blocks<T>, room: usize, alloc: Global) -> Result<(), Memory>
+fn add_blocks<T>(rest: &mut Rest<T>, room: usize, alloc: Global) -> Result<(), Memory>
     requires { room ≤ 2 ^ 61 }
     ensures items { rest.new.items ≡ rest.old.items }
     ensures more { rest.old.blocks ≤ rest.new.blocks }

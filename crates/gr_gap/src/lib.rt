@@ -8,6 +8,7 @@ mod loose;
 mod moves;
 mod owner;
 mod places;
+mod rest;
 pub mod shared;
 mod starts;
 

@@ -1,7 +1,7 @@
 // Blocks in a row: a value passed on to a neighbour, and a block put among those in use or taken from them. All values
 // stay as they are, in order.
 ghost use Rattle.std.specs.Prelude.{◌≡◌, ℕ, [], ◌++◌, ◌+◌, ◌-◌, ◌*◌, ◌^◌, ◌<◌, ◌≤◌, length, insert, remove};
-ghost use Rattle.std.specs.Prelude.{slice_index, slice_index_or, slice_set, vec_capacity};
+ghost use Rattle.std.specs.Prelude.{slice_index, vec_capacity};
 ghost use Rattle.std_alloc.specs.VecDeque.{deque_len, deque_capacity};
 ghost use Rattle.gr_gap.specs.Blocks.{values_of, held, before, IsRow, Rearranged};
 ghost use Rattle.gr_gap.specs.declared.blocks.TheConstants.{BLOCK};
