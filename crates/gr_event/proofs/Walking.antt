@@ -1,5 +1,5 @@
 -- Pairs where they stand in bytes: what the first of them is, and what is behind it
-use Rattle.std.proofs.Common.{suc, ◌≡◌, ◌<◌, ◌-◌, ℕ, List, [], ◌∷◌, length, take, drop, get_or, true, false, Option, Some, None, Ok, slice_get, ap, ap₂, refl, sym, subst, ◌∙◌, arith}
+use Rattle.std.proofs.Common.{suc, ◌≡◌, ◌<◌, ◌-◌, ℕ, List, [], ◌∷◌, length, take, drop, get_or, true, false, Option, Some, None, Result, Ok, Err, OnOk, slice_get, ap, ap₂, refl, sym, subst, ◌∙◌, arith}
 use Rattle.std.specs.Prelude.{bytes_eq, slice_index_or}
 use Rattle.std.specs.Cmp.Lexicographic.{slice_cmp}
 use Rattle.std.specs.Ordering.{nat_cmp}
@@ -7,9 +7,10 @@ use Rattle.std.proofs.lemmas.Map.Keys.{sorted_tail}
 use Rattle.std.proofs.lemmas.List.{take_all}
 use Rattle.gr_event.specs.declared.value.Value.{Value}
 use Rattle.gr_event.specs.declared.event.Event.{Event}
+use Rattle.gr_event.specs.declared.event.EventFault.{EventFault}
 use Rattle.gr_event.specs.Event.{event_bytes, pairs_bytes, event_size}
 use Rattle.gr_event.specs.Limits.{IsEvent, names}
-use Rattle.gr_event.specs.Form.{Spell, AreOfEvent, event_of, read_or_none}
+use Rattle.gr_event.specs.Form.{Spell, AreOfEvent, TellsEvent, event_of, read_or_none}
 use Rattle.gr_event.specs.Get.{value_of}
 use Rattle.gr_event.specs.Decode.{event_decoded}
 use Rattle.gr_event.proofs.Spelled.{decodes_back, length-pairs_bytes}
@@ -91,6 +92,11 @@ are_read bytes e fits h is = are_of_event bytes e is (only_its_bytes bytes e fit
 pub is_read : (bytes : List ℕ) (e : Event) → event_decoded bytes ≡ Ok e → event_of bytes ≡ e
 unfolding event_of
 is_read bytes e h = ap read_or_none h
+
+-- so they are those of an event, where what was read tells that there is one
+pub form_told : {X : Type 0} (r : Result X EventFault) (bytes : List ℕ) → ((i : ℕ) → get_or bytes i 0 < 256) → TellsEvent r (event_decoded bytes) → OnOk r (AreOfEvent bytes)
+form_told (Ok x) bytes fits told = are_read bytes told.0 fits told.1 told.2
+form_told (Err e) bytes fits told = tt
 
 -- events are the same where their bytes are
 pub same_bytes : (a b : Event) → IsEvent a → IsEvent b → event_bytes a ≡ event_bytes b → a ≡ b

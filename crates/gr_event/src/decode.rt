@@ -1,22 +1,21 @@
 //! The form of an event in bytes, read.
 
-ghost use Rattle.std.specs.Prelude.{◌≡◌, ◌+◌, ◌≤◌, ◌<◌, ◌^◌, [], length, IfOk, IsTrue, MatchResult, Ok, Err};
+ghost use Rattle.std.specs.Prelude.{◌≡◌, ◌+◌, ◌≤◌, ◌<◌, ◌^◌, [], length, IfOk, IfSome, OnOk, MatchResult, Ok, Err};
 ghost use Rattle.std.specs.Int.{from_be_bytes, cast_signed, w16, w64};
 ghost use Rattle.std.specs.Str.{is_utf8};
 ghost use Rattle.std.specs.Ordering.{nat_cmp};
 ghost use Rattle.std.specs.Cmp.Lexicographic.{slice_cmp};
 ghost use Rattle.std.specs.declared.cmp.Ordering.TheVariants.{Less};
-ghost use Rattle.std.specs.List.{AllByRecursion};
-ghost use Rattle.gr_event.specs.Event.{event_bytes, value_size, pairs_size};
+ghost use Rattle.gr_event.specs.Event.{event_bytes, value_size};
 ghost use Rattle.gr_event.specs.Gives.{Gives};
-ghost use Rattle.gr_event.specs.Form.{TellsEvent};
+ghost use Rattle.gr_event.specs.Form.{AreOfEvent, TellsEvent};
 ghost use Rattle.gr_event.specs.Get.{part_value};
-ghost use Rattle.gr_event.specs.Limits.{IsName, IsPair, IsValue, Rise, names};
+ghost use Rattle.gr_event.specs.Limits.{IsName, IsValue};
 ghost use Rattle.gr_event.specs.Decode.{byte_at, field_at, name_at, integer_at, text_value_at, truth_at, value_at};
 ghost use Rattle.gr_event.specs.Decode.{pairs_at, event_decoded};
 ghost use Rattle.gr_event.specs.declared.limits.TheConstants.{MAX_BYTES, MAX_PAIRS};
 
-use crate::event::{Event, EventFault};
+use crate::event::{Event, EventFault, Memory};
 use crate::limits::{MAX_BYTES, MAX_NAME, MAX_PAIRS, MAX_TEXT};
 use crate::value::Part;
 use byteorder::{BigEndian, ByteOrder};
@@ -28,21 +27,39 @@ impl Event {
     ///
     /// The first fault comes: `TooLong` for more than 8,192 bytes, and then, field by field, `Short`,
     /// `BadLength`, `BadText`, `NotSorted` and `BadKind` at their places, and last `Trailing`.
-    #[tactic(auto, unfolding(crate::specs::Decode::event_decoded))]
     pub fn decode(alloc: Global, bytes: &[u8]) -> Result<Event, EventFault>
         ensures gives { Gives result (event_decoded bytes.now) }
         ensures spelled { IfOk result (λ e. bytes.now ≡ event_bytes e) }
     {
-        if bytes.len() > MAX_BYTES {
-            return Err(EventFault::TooLong);
-        }
-        let count = byte_at(bytes, 0)?;
-        if usize::from(count) > MAX_PAIRS {
-            return Err(EventFault::BadLength { at: 0 });
-        }
-        pairs_at(bytes, count)?;
+        fields_of(bytes)?;
         Ok(Event::of_bytes(alloc, Vec::from_slice(alloc, bytes)?)?)
     }
+
+    /// The event that the bytes spell, which are kept as they are; none where they spell none.
+    pub(crate) fn from_form(alloc: Global, bytes: Vec<u8>) -> Result<Option<Event>, Memory>
+        ensures { IfOk result (λ found. IfSome found (λ e. event_decoded bytes.items ≡ Ok e)) }
+    {
+        match fields_of(&bytes) {
+            Ok(()) => Ok(Some(Event::of_bytes(alloc, bytes)?)),
+            Err(_) => Ok(None),
+        }
+    }
+}
+
+/// Whether the bytes are those of an event: field by field.
+#[tactic(auto, unfolding(crate::specs::Decode::event_decoded))]
+fn fields_of(bytes: &[u8]) -> Result<(), EventFault>
+    ensures told { TellsEvent result (event_decoded bytes.now) }
+    ensures event { OnOk result (AreOfEvent bytes.now) }
+{
+    if bytes.len() > MAX_BYTES {
+        return Err(EventFault::TooLong);
+    }
+    let count = byte_at(bytes, 0)?;
+    if usize::from(count) > MAX_PAIRS {
+        return Err(EventFault::BadLength { at: 0 });
+    }
+    pairs_at(bytes, count)
 }
 
 /// The byte at a place.

@@ -13,11 +13,14 @@ use crate::text::Text;
 use crate::value::Value;
 use byteorder::{BigEndian, ByteOrder};
 
-const INTEGER: u8 = 1;
+/// The kind of an integer.
+pub(crate) const INTEGER: u8 = 1;
 
-const TEXT: u8 = 2;
+/// The kind of a text.
+pub(crate) const TEXT: u8 = 2;
 
-const TRUTH: u8 = 3;
+/// The kind of a truth value.
+pub(crate) const TRUTH: u8 = 3;
 
 impl Event {
     /// Writes its form in bytes into a slice of exactly its size. Takes no memory.

@@ -1,6 +1,7 @@
 //! Events: what publishers publish, as a list of names and values, rising by name.
 #![tactic(auto)]
 
+mod compact;
 pub mod decode;
 pub mod encode;
 pub mod event;

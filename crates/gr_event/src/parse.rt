@@ -8,6 +8,7 @@ ghost use Rattle.gr_event.specs.Gives.{Gives, GivesPairs};
 ghost use Rattle.gr_event.specs.Json.{text_from, value_from, name_from, pair_from, pairs_from, event_from, event_text};
 ghost use Rattle.gr_event.specs.Limits.{names, key_texts, IsName, IsValue, IsPair};
 
+use crate::compact::from_compact;
 use crate::event::{Event, EventFault};
 use crate::limits::{MAX_NAME, MAX_PAIRS, MAX_TEXT};
 use crate::text::Text;
@@ -23,6 +24,9 @@ impl Event {
     pub fn from_text(alloc: Global, bytes: &[u8]) -> Result<Event, EventFault>
         ensures { Gives result (event_text bytes.now) }
     {
+        if let Some(event) = from_compact(alloc, bytes)? {
+            return Ok(event);
+        }
         match Json::from_slice(alloc, bytes) {
             Ok(value) => Event::from_json(alloc, value),
             Err(error) => {
