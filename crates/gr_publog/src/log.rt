@@ -1,6 +1,6 @@
 //! A log on its lane.
 
-ghost use Rattle.std.specs.Prelude.{◌≡◌, ◌≢◌, ◌↔◌, ℕ, ◌+◌, ◌≤◌, ◌++◌, ◌∷◌, [], Bool, true, false, List, length, Some};
+ghost use Rattle.std.specs.Prelude.{◌≡◌, ◌≢◌, ◌↔◌, ℕ, ◌+◌, ◌≤◌, ◌++◌, ◌∷◌, [], true, false, length, Some};
 ghost use Rattle.std.specs.Prelude.{Err, OnOk, OnErr, IsTrue, IfOk, IsErrOf};
 ghost use Rattle.gr_event.specs.Event.{event_bytes};
 ghost use Rattle.gr_out.specs.Lane.{with_room};
@@ -9,8 +9,6 @@ ghost use Rattle.gr_publog.specs.State.{empty_state, state_of, live_events, may_
 ghost use Rattle.gr_publog.specs.Text.{front_text, record_bytes};
 ghost use Rattle.gr_publog.specs.Crash.{LogView, with_record, failed};
 ghost use Rattle.gr_publog.specs.Calls.{IsReady, GoesOn, Appends, Opens, Tally, Causes, Leaves};
-ghost use Rattle.gr_publog.specs.declared.record.LogFault.TheVariants.{Memory as WantOfMemory, Disk as DiskFailed};
-ghost use Rattle.gr_publog.specs.declared.record.LogFault.TheVariants.{Reopen as MustReopen};
 
 use crate::entries::{Entries, note_record};
 use crate::history::History;
@@ -24,6 +22,9 @@ use std::marker::Model;
 
 /// The greatest place of a gate behind which a record is appended.
 const LAST_GATE: u64 = 1 << 62;
+
+/// How many bytes an event's record has beside the event, with the gate behind it.
+const EVENT_ROOM: usize = 22;
 
 /// A log, seen as its lane, its records, and whether the disk has failed it. What it keeps is what the records stand
 /// for: the events past the cut, three numbers, and the place of the closed gate behind the text. So its memory and the
@@ -60,11 +61,12 @@ fn record_text(alloc: Global, entry: &Record) -> Result<Vec<u8>, Memory>
             number,
             event,
         } => {
+            bytes.reserve(EVENT_ROOM + event.size())?;
             bytes.push(1)?;
             bytes.extend_from_slice(&tick.to_be_bytes())?;
             bytes.extend_from_slice(&number.to_be_bytes())?;
             bytes.extend_from_slice(&(event.size() as u32).to_be_bytes())?;
-            bytes.extend_from_slice(&event_text(alloc, event)?)?;
+            put_event(event, &mut bytes)?;
         }
         Record::Mark { tick } => {
             bytes.push(2)?;
@@ -79,14 +81,14 @@ fn record_text(alloc: Global, entry: &Record) -> Result<Vec<u8>, Memory>
     Ok(bytes)
 }
 
-/// The bytes of an event.
-fn event_text(alloc: Global, event: &Event) -> Result<Vec<u8>, Memory>
-    ensures { IfOk result (λ v. v.items ≡ event_bytes event.now) }
+/// Puts the bytes of an event at the end.
+fn put_event(event: &Event, bytes: &mut Vec<u8>) -> Result<(), Memory>
+    ensures { OnOk result (bytes.new.items ≡ bytes.old.items ++ event_bytes event.now) }
 {
-    let mut bytes = Vec::new(alloc);
-    bytes.resize(event.size(), 0)?;
-    event.encode_into(&mut bytes);
-    Ok(bytes)
+    let from = bytes.len();
+    bytes.resize(from + event.size(), 0)?;
+    event.encode_into(&mut bytes[from..]);
+    Ok(())
 }
 
 /// Takes the memory that an append on the lane needs of the disk, and answers the bytes of the record with a closed
