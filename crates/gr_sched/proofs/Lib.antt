@@ -1,4 +1,5 @@
 pub mod Pieces
+pub mod Firsts
 pub mod Digits
 pub mod Ends
 pub mod EventFaults

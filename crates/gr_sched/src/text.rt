@@ -7,6 +7,8 @@ ghost use Rattle.std.specs.Io.BufRead.{ends_with_byte, strip_last};
 ghost use Rattle.gr_sched.specs.Text.{is_gap, is_blank, is_separator, is_counted, line_of, pieces_of, before_separator};
 ghost use Rattle.gr_sched.specs.Text.{after_separator, without_gaps, counted_after, counted_lines};
 
+use memchr::memchr;
+
 /// Whether a byte is a space or a tab.
 pub(crate) fn is_gap(byte: u8) -> bool
     ensures { result ≡ is_gap byte }
@@ -41,7 +43,7 @@ fn find_word(text: &[u8]) -> Option<usize>
 fn find_end(text: &[u8]) -> Option<usize>
     ensures { result ≡ position (λ b. b == 10) text.now }
 {
-    text.iter().position(|byte| *byte == b'\n')
+    memchr(b'\n', text)
 }
 
 /// Where the first word ends: at the first space or tab, or with the text.
