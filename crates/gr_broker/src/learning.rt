@@ -285,7 +285,8 @@ fn pass_edge(edges: &[Edge], i: usize, piece: &Piece<K>) -> Result<Piece<K>, Mem
     edge.pass(piece)
 }
 
-/// The ticks that a horizon passes and all children have acknowledged, with `A`.
+/// The ticks that a horizon passes and all children have acknowledged, with `A`: all that it passes where there is no
+/// child.
 fn completed_by(alloc: Global, held: &Held, to: u64) -> Result<Piece<Q3>, Memory>
     requires forward { held.now.horizon ≤ to }
     requires inside { to ≤ MAX_TICK }
@@ -293,6 +294,11 @@ fn completed_by(alloc: Global, held: &Held, to: u64) -> Result<Piece<Q3>, Memory
         if nat_lt held.now.horizon t && nat_le t to && all_A (runs_of held.now.wants) t then A else N)) }
 {
     let passed = passed_ticks(alloc, held.horizon.horizon(), to)?;
+    if held.wants.children() == 0 {
+        // Proof only: the runs are canonical.
+        let _ = passed.len();
+        return Ok(passed);
+    }
     held.wants.completed(None, &passed, to)
 }
 
