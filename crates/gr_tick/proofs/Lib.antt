@@ -10,3 +10,4 @@ pub mod SteadyLemmas
 pub mod SeekLemmas
 pub mod ToldLemmas
 pub mod RoomLemmas
+pub mod LastLemmas

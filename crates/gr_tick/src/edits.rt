@@ -320,6 +320,41 @@ pub fn put_run<V: Lattice>(runs: &mut Gap<Run<V>>, i: usize, run: Run<V>)
     runs.insert(place, longest);
 }
 
+/// Puts a run behind all, as a part of the last one where the two form one run.
+pub fn put_last<V: Lattice>(runs: &mut Gap<Run<V>>, run: Run<V>)
+    requires room { 0 < runs.old.spare }
+    requires runs { AreTickRuns V.least runs.old.items }
+    requires past { EndBefore runs.old.items run.first }
+    requires alone { IsRun V.least run }
+    ensures runs { AreTickRuns V.least runs.new.items }
+    ensures values { (t : ℕ) → value_at V.least runs.new.items t
+        ≡ cond (is_in t run) run.value (value_at V.least runs.old.items t) }
+{
+    let end = runs.len();
+    if end == 0 {
+        runs.insert(end, run);
+        return;
+    }
+    let before = runs.get(end - 1);
+    if before.last + 1 != run.first {
+        runs.insert(end, run);
+        return;
+    }
+    if !before.value.same(&run.value) {
+        runs.insert(end, run);
+        return;
+    }
+    let first = before.first;
+    runs.replace(
+        end - 1,
+        Run {
+            first,
+            last: run.last,
+            value: run.value,
+        },
+    );
+}
+
 /// Inserts at a place what a run has outside a range of it, and answers where the range lies then.
 fn keep_rest<V: Lattice>(
     runs: &mut Gap<Run<V>>,

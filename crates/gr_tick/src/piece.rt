@@ -5,7 +5,7 @@ ghost use Rattle.gr_tick.specs.declared.TheConstants.{MAX_TICK};
 ghost use Rattle.gr_tick.specs.Runs.{value_at, is_in, AreRuns};
 ghost use Rattle.gr_tick.specs.Stored.{within, IsRun, AreTickRuns, EndBefore, RunsGive, StaysUntil};
 
-use crate::edits::{copy_runs, put_run, seek, steady_in, steady_until, value_in};
+use crate::edits::{copy_runs, put_last, seek, steady_in, steady_until, value_in};
 use crate::lattice::Lattice;
 use crate::run::Run;
 use crate::steady::Steady;
@@ -64,8 +64,7 @@ impl<V: Lattice> Piece<V> {
         ensures err { OnErr result (self.new ≡ self.old) }
     {
         self.runs.reserve(1)?;
-        let end = self.runs.len();
-        put_run(&mut self.runs, end, run);
+        put_last(&mut self.runs, run);
         Ok(())
     }
 

@@ -6,10 +6,10 @@ use Rattle.gr_tick.proofs.piece.Piece.push.Goals as goal
 
 pub returns-clause-ok : goal.returns-clause-ok
 returns-clause-ok g c =
-    RunsGive-in_range g.V.Lattice.least c.put_run.new.runs.items _ c.put_run.ensures.runs
-    (λ n. c.put_run.ensures.values n ∙ ap (λ zs. cond (is_in n c.args.run) c.args.run.value (value_at g.V.Lattice.least zs n)) (c.reserve.ensures.kept ∙ c.self.view_is))
+    RunsGive-in_range g.V.Lattice.least c.put_last.new.runs.items _ c.put_last.ensures.runs
+    (λ n. c.put_last.ensures.values n ∙ ap (λ zs. cond (is_in n c.args.run) c.args.run.value (value_at g.V.Lattice.least zs n)) (c.reserve.ensures.kept ∙ c.self.view_is))
 
 pub returns-clause-past : goal.returns-clause-past
 returns-clause-past g c = λ t lt.
-    pushed_past g.V.Lattice.least c.args.self.now c.put_run.new.runs.items c.args.run t c.put_run.ensures.runs c.requires.past c.requires.alone.ordered
-    (λ n. c.put_run.ensures.values n ∙ ap (λ zs. cond (is_in n c.args.run) c.args.run.value (value_at g.V.Lattice.least zs n)) (c.reserve.ensures.kept ∙ c.self.view_is)) lt
+    pushed_past g.V.Lattice.least c.args.self.now c.put_last.new.runs.items c.args.run t c.put_last.ensures.runs c.requires.past c.requires.alone.ordered
+    (λ n. c.put_last.ensures.values n ∙ ap (λ zs. cond (is_in n c.args.run) c.args.run.value (value_at g.V.Lattice.least zs n)) (c.reserve.ensures.kept ∙ c.self.view_is)) lt
