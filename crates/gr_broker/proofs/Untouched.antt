@@ -23,7 +23,7 @@ module _ {V : Type 0} (least : V) where
   told_nowhere (x ∷ xs) t e = absurd (omega (arith, e))
 
   -- nothing is told before the first run
-  told_from : (xs : List (Run V)) (r : Run V) (t : ℕ) → AreRuns least xs → r ≡ get_or xs 0 r → t < r.first → value_at least xs t ≡ least
+  pub told_from : (xs : List (Run V)) (r : Run V) (t : ℕ) → AreRuns least xs → r ≡ get_or xs 0 r → t < r.first → value_at least xs t ≡ least
   told_from [] r t a e lt = refl
   told_from (x ∷ xs) r t a e lt =
       value_at-start least x.first (x ∷ xs) t (omega arith, a.1, a.2, a.3, a.4) (omega (arith, lt, ap (λ (z : Run V). z.first) e))

@@ -1,14 +1,14 @@
 //! New ticks come to a broker: they are handed over, forwarded, consolidated.
 
 ghost use Rattle.std.specs.Prelude.{if◌then◌else◌, ◌≡◌, ◌⊎◌, ℕ, ◌+◌, ◌*◌, ◌<◌, ◌≤◌, true, false, not, ◌&&◌};
-ghost use Rattle.std.specs.Prelude.{nat_lt, nat_le, [], ◌++◌, length, get_or, slice_index_or, IfOk, OnOk, OnErr};
+ghost use Rattle.std.specs.Prelude.{nat_lt, nat_le, [], ◌++◌, length, get_or, slice_index_or, IfOk, OnOk, OnErr, IsTrue};
 ghost use Rattle.std.specs.List.{flat_map};
 ghost use Rattle.std.specs.Option.{option_map};
 ghost use Rattle.gr_tick.specs.declared.TheConstants.{MAX_TICK};
 ghost use Rattle.gr_filter.specs.Tree.{tree_of};
 ghost use Rattle.gr_tick.specs.Runs.{is_in, AreRuns};
 ghost use Rattle.gr_tick.specs.Stored.{within, IsRun, EndBefore, RunsGive};
-ghost use Rattle.gr_know.specs.Values.{known_at, is_Q, clash_K};
+ghost use Rattle.gr_know.specs.Values.{known_at, is_Q, new_K, clash_K};
 ghost use Rattle.gr_know.specs.declared.values.K.TheVariants.{Q, F};
 ghost use Rattle.gr_curio.specs.declared.asks.Moment.TheVariants.{Never};
 ghost use Rattle.gr_curio.specs.declared.values.Q3.TheVariants.{N, C, A};
@@ -181,7 +181,8 @@ fn passes(filter: Option<&Filter>, event: &Event) -> bool
 }
 
 /// Sends each child what is new of a piece, as far as it passes the edge to it and was not acknowledged, and gives for
-/// each child the ticks that it asked and is sent. Where there is no child, what is new is not looked for.
+/// each child the ticks that it asked and is sent. Where there is no child, what is new is not looked for; where all of
+/// the piece is, it is not copied.
 fn forward_news(
     site: &Site<'_>,
     held: &Held,
@@ -207,8 +208,24 @@ fn forward_news(
     // Proof only: the runs of both are canonical.
     let _ = held.know.len();
     let _ = piece.len();
+    if is_past(&held.know, piece) {
+        return forward(site, &held.wants, piece, into);
+    }
     let fresh = held.know.news(piece)?;
     forward(site, &held.wants, &fresh, into)
+}
+
+/// Whether a piece begins past all that is known: then all of it is new.
+fn is_past(know: &Know, piece: &Piece<K>) -> bool
+    ensures { IsTrue result → (t : ℕ) → known_at piece.now t
+        ≡ new_K (known_at know.now.runs t) (known_at piece.now t) }
+{
+    // Proof only: the runs are canonical.
+    let _ = piece.len();
+    if piece.is_empty() {
+        return false;
+    }
+    know.top() < piece.run(0).first
 }
 
 /// Sends each child the new ticks that it has not acknowledged, as far as they pass the edge to it, and gives for each

@@ -111,6 +111,7 @@ impl Know {
     pub fn top(&self) -> u64
         ensures top { result ≡ top_of self.now.runs }
         ensures inside { result ≤ MAX_TICK }
+        ensures past { EndBefore self.now.runs (result + 1) }
     {
         self.stream.top()
     }

@@ -1,5 +1,5 @@
 -- A run behind all others: it stands there, or makes the last one longer
-use Rattle.std.proofs.Common.{◌≡◌, ◌≢◌, ℕ, suc, ◌+◌, ◌-◌, ◌<◌, ◌≤◌, cond, List, [], ◌∷◌, ◌++◌, length, take, drop, get_or, slice_set, insert, arith, ap, refl, sym, ◌∙◌, subst, append-nil}
+use Rattle.std.proofs.Common.{◌≡◌, ◌≢◌, ℕ, suc, ◌+◌, ◌-◌, ◌<◌, ◌≤◌, cond, List, [], ◌∷◌, ◌++◌, length, take, drop, get_or, slice_set, insert, arith, ap, sym, ◌∙◌, subst, append-nil}
 use Rattle.std.proofs.lemmas.List.{take_all, drop_all}
 use lib.Seq.{set_split}
 use Rattle.gr_tick.specs.declared.run.Run.{Run}

@@ -1,4 +1,4 @@
--- What is new is looked for only where there is a child.
+-- What is new is looked for only where there is a child, and is the piece itself where that begins past all that is known.
 use Rattle.std.proofs.Common.{◌≡◌, ℕ, ◌<◌, List, [], not, ◌&&◌, length, get_or, sym, ◌∙◌, subst, arith, refl}
 use Rattle.std.specs.Prelude.{if◌then◌else◌, slice_index_or, OnOk, IfOk}
 use Rattle.std.proofs.lemmas.Bool.{eqb-true}
@@ -37,23 +37,50 @@ returns-then-is_empty-clause-each c = λ i lt.
     let empty = eqb-true _ 0 (sym c.is_empty.ensures ∙ c.if-is_empty.true) in
     absurd (omega (arith, lt, empty, length-map c.args.held.now.wants (λ k. k.runs), c.requires.wants))
 
-fresh : (c : goal.After-drop-fresh-inside) → c.in_ok-fresh.fresh ≡ new_ticks c.args.held.now.know.runs c.args.piece.now
-fresh c = new_is c.args.held.now.know.runs c.args.piece.now c.in_ok-fresh.fresh c.len.ensures.canonical c.len-2.ensures.canonical c.in_ok-fresh.ensures
+-- All of the piece is new
 
-pub returns-clause-adds : goal.returns-clause-adds
-returns-clause-adds c =
+whole : (c : goal.After-forward) → c.args.piece.now ≡ new_ticks c.args.held.now.know.runs c.args.piece.now
+whole c =
+    new_is c.args.held.now.know.runs c.args.piece.now c.args.piece.now c.len.ensures.canonical c.len-2.ensures.canonical
+    (record { canonical = c.len-2.ensures.canonical; in_range = c.len-2.ensures.in_range; values = c.is_past.ensures c.if-is_past.true })
+
+pub returns-then-is_past-clause-adds : goal.returns-then-is_past-clause-adds
+returns-then-is_past-clause-adds c =
     subst (λ (k : Known). OnOk c.forward.result (AddsFrames (forward_frames (net_of c.args.site.now.topo.now) c.args.site.now.publisher c.args.site.now.broker k (children_of c.args.site.now.topo.now c.args.site.now.publisher c.args.site.now.broker) (runs_of c.args.held.now.wants)) c.args.into.now c.forward.new.into))
-    (fresh c) c.forward.ensures.adds
+    (whole c) c.forward.ensures.adds
 
-pub returns-clause-many : goal.returns-clause-many
-returns-clause-many c =
+pub returns-then-is_past-clause-many : goal.returns-then-is_past-clause-many
+returns-then-is_past-clause-many c =
     subst (λ n. IfOk c.forward.result (λ quenched. length quenched.items ≡ n)) (sym (length-map c.args.held.now.wants (λ k. k.runs))) c.forward.ensures.many
 
-pub returns-clause-each : goal.returns-clause-each
-returns-clause-each c =
+pub returns-then-is_past-clause-each : goal.returns-then-is_past-clause-each
+returns-then-is_past-clause-each c =
     subst (λ n. IfOk c.forward.result (λ quenched. (i : ℕ) → i < n → RunsGive N (slice_index_or quenched.items i []) (λ t.
     if not (is_Q (known_at (forward (net_of c.args.site.now.topo.now) c.args.site.now.publisher (get_or (children_of c.args.site.now.topo.now c.args.site.now.publisher c.args.site.now.broker) i 0) (wants_of (runs_of c.args.held.now.wants) i) (new_ticks c.args.held.now.know.runs c.args.piece.now)) t)) && is_C (wanted_at (wants_of (runs_of c.args.held.now.wants) i) t) then C else N)))
     (sym (length-map c.args.held.now.wants (λ k. k.runs)))
     (subst (λ (k : Known). IfOk c.forward.result (λ quenched. (i : ℕ) → i < length c.args.held.now.wants → RunsGive N (slice_index_or quenched.items i []) (λ t.
     if not (is_Q (known_at (forward (net_of c.args.site.now.topo.now) c.args.site.now.publisher (get_or (children_of c.args.site.now.topo.now c.args.site.now.publisher c.args.site.now.broker) i 0) (wants_of (runs_of c.args.held.now.wants) i) k) t)) && is_C (wanted_at (wants_of (runs_of c.args.held.now.wants) i) t) then C else N)))
-    (fresh c) c.forward.ensures.each)
+    (whole c) c.forward.ensures.each)
+
+-- What is new is looked for
+
+fresh : (c : goal.After-drop-fresh-inside) → c.in_ok-fresh.fresh ≡ new_ticks c.args.held.now.know.runs c.args.piece.now
+fresh c = new_is c.args.held.now.know.runs c.args.piece.now c.in_ok-fresh.fresh c.len.ensures.canonical c.len-2.ensures.canonical c.in_ok-fresh.ensures
+
+pub returns-clause-adds : goal.returns-clause-adds
+returns-clause-adds c =
+    subst (λ (k : Known). OnOk c.forward-2.result (AddsFrames (forward_frames (net_of c.args.site.now.topo.now) c.args.site.now.publisher c.args.site.now.broker k (children_of c.args.site.now.topo.now c.args.site.now.publisher c.args.site.now.broker) (runs_of c.args.held.now.wants)) c.args.into.now c.forward-2.new.into))
+    (fresh c) c.forward-2.ensures.adds
+
+pub returns-clause-many : goal.returns-clause-many
+returns-clause-many c =
+    subst (λ n. IfOk c.forward-2.result (λ quenched. length quenched.items ≡ n)) (sym (length-map c.args.held.now.wants (λ k. k.runs))) c.forward-2.ensures.many
+
+pub returns-clause-each : goal.returns-clause-each
+returns-clause-each c =
+    subst (λ n. IfOk c.forward-2.result (λ quenched. (i : ℕ) → i < n → RunsGive N (slice_index_or quenched.items i []) (λ t.
+    if not (is_Q (known_at (forward (net_of c.args.site.now.topo.now) c.args.site.now.publisher (get_or (children_of c.args.site.now.topo.now c.args.site.now.publisher c.args.site.now.broker) i 0) (wants_of (runs_of c.args.held.now.wants) i) (new_ticks c.args.held.now.know.runs c.args.piece.now)) t)) && is_C (wanted_at (wants_of (runs_of c.args.held.now.wants) i) t) then C else N)))
+    (sym (length-map c.args.held.now.wants (λ k. k.runs)))
+    (subst (λ (k : Known). IfOk c.forward-2.result (λ quenched. (i : ℕ) → i < length c.args.held.now.wants → RunsGive N (slice_index_or quenched.items i []) (λ t.
+    if not (is_Q (known_at (forward (net_of c.args.site.now.topo.now) c.args.site.now.publisher (get_or (children_of c.args.site.now.topo.now c.args.site.now.publisher c.args.site.now.broker) i 0) (wants_of (runs_of c.args.held.now.wants) i) k) t)) && is_C (wanted_at (wants_of (runs_of c.args.held.now.wants) i) t) then C else N)))
+    (fresh c) c.forward-2.ensures.each)

@@ -1,8 +1,6 @@
 -- The run stands behind all others, or the last one goes on to its end
-use Rattle.std.proofs.Common.{◌≡◌, ◌-◌, ◌<◌, length, get_or, arith, ap, ◌∙◌}
-use Rattle.gr_tick.specs.Runs.{value_at}
-use Rattle.gr_tick.specs.Stored.{AreTickRuns}
-use Rattle.gr_tick.proofs.EditLemmas.{run_before, with_before}
+use Rattle.std.proofs.Common.{◌-◌, get_or, arith, ap, ◌∙◌}
+use Rattle.gr_tick.proofs.EditLemmas.{with_before}
 use Rattle.gr_tick.proofs.LastLemmas.{at_end, set_end, last_values, last_kept, last_longer, longer_values, last_is}
 use Rattle.gr_tick.proofs.edits.put_last.Goals as goal
 
