@@ -9,6 +9,7 @@ use crate::moves::{close_empty, put, put_first, take_first};
 use crate::places::place_for;
 use crate::starts::{block_of, lower, raise};
 use std::alloc::{AllocError, Global};
+use std::cell::Cell;
 use std::collections::VecDeque;
 use std::marker::Model;
 use std::mem;
@@ -25,8 +26,8 @@ pub struct Blocks<T> {
     starts: Vec<usize>,
     // How many values there are.
     len: usize,
-    // The block of the last edit: a search looks there early.
-    near: usize,
+    // The block of the last look or edit: the next one looks there first.
+    near: Cell<usize>,
 }
 
 impl<T> Model for Blocks<T> {
@@ -55,7 +56,7 @@ impl<T> Blocks<T> {
             blocks: VecDeque::new(alloc),
             starts: Vec::new(alloc),
             len: 0,
-            near: 0,
+            near: Cell::new(0),
         }
     }
 
@@ -79,7 +80,8 @@ impl<T> Blocks<T> {
         requires { i < length self.now.items }
         ensures { result.now ≡ slice_index_or self.now.items i result.now }
     {
-        let block = block_of(self.starts.as_slice(), self.near, i);
+        let block = block_of(self.starts.as_slice(), self.near.get(), i);
+        self.near.set(block);
         &self.blocks[block][i - self.starts[block]]
     }
 
@@ -90,8 +92,8 @@ impl<T> Blocks<T> {
         ensures items { self.new.items ≡ slice_set self.old.items i value }
         ensures blocks { self.new.blocks ≡ self.old.blocks }
     {
-        let block = block_of(self.starts.as_slice(), self.near, i);
-        self.near = block;
+        let block = block_of(self.starts.as_slice(), self.near.get(), i);
+        self.near.set(block);
         let place = i - self.starts[block];
         mem::replace(&mut self.blocks[block][place], value)
     }
@@ -103,11 +105,11 @@ impl<T> Blocks<T> {
         ensures items { self.new.items ≡ insert self.old.items i value }
         ensures blocks { self.new.blocks ≡ self.old.blocks }
     {
-        let block = place_for(&mut self.blocks, &mut self.starts, self.near, i);
+        let block = place_for(&mut self.blocks, &mut self.starts, self.near.get(), i);
         let place = i - self.starts[block];
         put(&mut self.blocks[block], place, value);
         raise(&mut self.starts, block + 1, 1);
-        self.near = block;
+        self.near.set(block);
         self.len += 1;
     }
 
@@ -118,13 +120,13 @@ impl<T> Blocks<T> {
         ensures items { self.new.items ≡ remove self.old.items i }
         ensures blocks { self.new.blocks ≡ self.old.blocks }
     {
-        let block = block_of(self.starts.as_slice(), self.near, i);
+        let block = block_of(self.starts.as_slice(), self.near.get(), i);
         let place = i - self.starts[block];
         let Some(value) = self.blocks[block].remove(place) else {
             unreachable!()
         };
         lower(&mut self.starts, block + 1, 1);
-        self.near = block;
+        self.near.set(block);
         self.len -= 1;
         close_empty(&mut self.blocks, &mut self.starts, block);
         value
@@ -159,7 +161,7 @@ impl<T> Blocks<T> {
             return;
         }
         take_first(&mut self.blocks, &mut self.starts, head);
-        self.near = 0;
+        self.near.set(0);
         self.len -= head.len();
     }
 
@@ -174,7 +176,7 @@ impl<T> Blocks<T> {
     {
         if self.starts.len() < self.blocks.len() {
             put_first(&mut self.blocks, &mut self.starts, head);
-            self.near = 0;
+            self.near.set(0);
             self.len += BLOCK;
             return;
         }
