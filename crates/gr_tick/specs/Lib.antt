@@ -3,3 +3,4 @@ pub mod Runs
 pub mod Stored
 pub mod Kept
 pub mod Levels
+pub mod Listed

@@ -9,6 +9,7 @@ ghost use Rattle.gr_tick.specs.Stored.{between, runs_in, is_told, needed, StaysU
 
 use crate::MAX_TICK;
 use crate::lattice::{Lattice, is_bottom};
+use crate::row::Row;
 use crate::run::Run;
 use crate::steady::Steady;
 use gr_gap::Gap;
@@ -318,41 +319,6 @@ pub fn put_run<V: Lattice>(runs: &mut Gap<Run<V>>, i: usize, run: Run<V>)
     let (place, longer) = absorb_before(runs, i, run);
     let longest = absorb_after(runs, place, longer);
     runs.insert(place, longest);
-}
-
-/// Puts a run behind all, as a part of the last one where the two form one run.
-pub fn put_last<V: Lattice>(runs: &mut Gap<Run<V>>, run: Run<V>)
-    requires room { 0 < runs.old.spare }
-    requires runs { AreTickRuns V.least runs.old.items }
-    requires past { EndBefore runs.old.items run.first }
-    requires alone { IsRun V.least run }
-    ensures runs { AreTickRuns V.least runs.new.items }
-    ensures values { (t : ℕ) → value_at V.least runs.new.items t
-        ≡ cond (is_in t run) run.value (value_at V.least runs.old.items t) }
-{
-    let end = runs.len();
-    if end == 0 {
-        runs.insert(end, run);
-        return;
-    }
-    let before = runs.get(end - 1);
-    if before.last + 1 != run.first {
-        runs.insert(end, run);
-        return;
-    }
-    if !before.value.same(&run.value) {
-        runs.insert(end, run);
-        return;
-    }
-    let first = before.first;
-    runs.replace(
-        end - 1,
-        Run {
-            first,
-            last: run.last,
-            value: run.value,
-        },
-    );
 }
 
 /// Inserts at a place what a run has outside a range of it, and answers where the range lies then.
@@ -720,7 +686,7 @@ pub fn steady_in<V: Lattice>(runs: &Gap<Run<V>>, tick: u64) -> Steady<V>
 }
 
 /// The room that is enough to join each run of a list, or None exactly where it is no number of the machine's.
-pub fn room_for<V: Lattice>(runs: &Gap<Run<V>>, others: &Gap<Run<V>>) -> Option<usize>
+pub fn room_for<V: Lattice>(runs: &Gap<Run<V>>, others: &Row<Run<V>>) -> Option<usize>
     requires { AreTickRuns V.least runs.now.items }
     ensures { MatchOption result (2 ^ 64 ≤ needed runs.now.items others.now.items) (λ n. n
         ≡ needed runs.now.items others.now.items) }
@@ -740,7 +706,7 @@ pub fn room_for<V: Lattice>(runs: &Gap<Run<V>>, others: &Gap<Run<V>>) -> Option<
 }
 
 /// Joins each run of a list.
-pub fn join_each<V: Lattice>(runs: &mut Gap<Run<V>>, others: &Gap<Run<V>>)
+pub fn join_each<V: Lattice>(runs: &mut Gap<Run<V>>, others: &Row<Run<V>>)
     requires room { needed runs.old.items others.now.items ≤ runs.old.spare }
     requires runs { AreTickRuns V.least runs.old.items }
     requires others { AreTickRuns V.least others.now.items }
@@ -756,7 +722,7 @@ pub fn join_each<V: Lattice>(runs: &mut Gap<Run<V>>, others: &Gap<Run<V>>)
 }
 
 /// Puts the least value at each tick of a list's runs.
-pub fn lower_each<V: Lattice>(runs: &mut Gap<Run<V>>, others: &Gap<Run<V>>)
+pub fn lower_each<V: Lattice>(runs: &mut Gap<Run<V>>, others: &Row<Run<V>>)
     requires room { length others.now.items ≤ runs.old.spare }
     requires runs { AreTickRuns V.least runs.old.items }
     requires others { AreTickRuns V.least others.now.items }

@@ -5,12 +5,12 @@ ghost use Rattle.gr_tick.specs.declared.TheConstants.{MAX_TICK};
 ghost use Rattle.gr_tick.specs.Runs.{value_at, is_in, AreRuns};
 ghost use Rattle.gr_tick.specs.Stored.{within, IsRun, AreTickRuns, EndBefore, RunsGive, StaysUntil};
 
-use crate::edits::{copy_runs, put_last, seek, steady_in, steady_until, value_in};
+use crate::MAX_TICK;
 use crate::lattice::Lattice;
+use crate::row::Row;
+use crate::rows::{copy_row, put_last, seek_row, steady_row};
 use crate::run::Run;
 use crate::steady::Steady;
-use crate::stream::piece_of;
-use gr_gap::Gap;
 use std::alloc::{AllocError, Global};
 use std::marker::Model;
 
@@ -20,7 +20,8 @@ use std::marker::Model;
 /// The runs rise, are disjoint and maximal, and none has the least value. So each function has one list.
 #[derive(Drop)]
 pub struct Piece<V: Lattice> {
-    runs: Gap<Run<V>>,
+    alloc: Global,
+    runs: Row<Run<V>>,
 }
 
 impl<V: Lattice> Model for Piece<V> {
@@ -41,7 +42,8 @@ impl<V: Lattice> Piece<V> {
         ensures { result ≡ [] }
     {
         Piece {
-            runs: Gap::new(alloc),
+            alloc,
+            runs: Row::new(),
         }
     }
 
@@ -49,8 +51,11 @@ impl<V: Lattice> Piece<V> {
     pub fn copy(&self) -> Result<Piece<V>, AllocError>
         ensures { IfOk result (λ piece. piece ≡ self.now) }
     {
-        let runs = copy_runs(&self.runs, 0)?;
-        Ok(Piece { runs })
+        let runs = copy_row(self.alloc, &self.runs)?;
+        Ok(Piece {
+            alloc: self.alloc,
+            runs,
+        })
     }
 
     /// Adds a run past the last one, and joins it to that where the two touch and have the same value. It fails only
@@ -63,9 +68,7 @@ impl<V: Lattice> Piece<V> {
         ensures past { OnOk result ((t : ℕ) → run.last < t → EndBefore self.new t) }
         ensures err { OnErr result (self.new ≡ self.old) }
     {
-        self.runs.reserve(1)?;
-        put_last(&mut self.runs, run);
-        Ok(())
+        put_last(&mut self.runs, self.alloc, run)
     }
 
     /// Adds what a run past the last one has in the range from `first` to `last`, if it has a tick there. It fails only
@@ -102,11 +105,11 @@ impl<V: Lattice> Piece<V> {
         ensures { IfOk result (λ piece. RunsGive V.least piece
             (λ t. if within first last t then value_at V.least self.now t else V.least)) }
     {
-        piece_of(&self.runs, first, last)
+        cut_row(self.alloc, &self.runs, first, last)
     }
 
     /// Its runs.
-    pub(crate) fn runs(&self) -> &Gap<Run<V>>
+    pub(crate) fn runs(&self) -> &Row<Run<V>>
         ensures items { result.now.items ≡ self.now }
         ensures runs { AreTickRuns V.least result.now.items }
     {
@@ -145,14 +148,19 @@ impl<V: Lattice> Piece<V> {
         ensures front { EndBefore (take result self.now) tick }
         ensures here { (r : Run V) (rs : List (Run V)) → drop result self.now ≡ r ∷ rs → tick ≤ r.last }
     {
-        seek(&self.runs, tick)
+        seek_row(&self.runs, tick)
     }
 
     /// The value at a tick: that of its run, or the least value. It takes no memory.
     pub fn at(&self, tick: u64) -> V
         ensures { result ≡ value_at V.least self.now tick }
     {
-        value_in(&self.runs, tick)
+        // No run ends past the last tick.
+        let _ = self.len();
+        if MAX_TICK < tick {
+            return V::bottom();
+        }
+        steady_row(&self.runs, tick).value
     }
 
     /// The greatest tick, at most `MAX_TICK`, up to which the value stays that of `tick`. It takes no memory.
@@ -164,7 +172,7 @@ impl<V: Lattice> Piece<V> {
             ≡ value_at V.least self.now tick }
         ensures greatest { result < MAX_TICK → value_at V.least self.now (result + 1) ≢ value_at V.least self.now tick }
     {
-        steady_until(&self.runs, tick)
+        steady_row(&self.runs, tick).last
     }
 
     /// The value at a tick and how far it stays, as `at` and `steady_until` say it, by one search. It takes no memory.
@@ -172,6 +180,34 @@ impl<V: Lattice> Piece<V> {
         requires { tick ≤ MAX_TICK }
         ensures { StaysUntil V.least self.now tick result }
     {
-        steady_in(&self.runs, tick)
+        steady_row(&self.runs, tick)
     }
+}
+
+/// The runs of a range, cut at its ends. It fails only where memory is refused.
+fn cut_row<V: Lattice>(
+    alloc: Global,
+    runs: &Row<Run<V>>,
+    first: u64,
+    last: u64,
+) -> Result<Piece<V>, AllocError>
+    requires runs { AreTickRuns V.least runs.now.items }
+    requires from_one { 1 ≤ first }
+    requires ordered { first ≤ last }
+    requires upto { last ≤ MAX_TICK }
+    ensures { IfOk result (λ piece. RunsGive V.least piece
+        (λ t. if within first last t then value_at V.least runs.now.items t else V.least)) }
+{
+    let mut piece = Piece::new(alloc);
+    for i in seek_row(runs, first)..runs.len() {
+        let run = runs.get(i);
+        // The runs of any piece are canonical, so these are.
+        let _ = piece.len();
+        if last < run.first {
+            return Ok(piece);
+        }
+        piece.push_cut(run, first, last)?;
+    }
+    let _ = piece.len();
+    Ok(piece)
 }

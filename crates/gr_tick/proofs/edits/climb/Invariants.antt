@@ -1,5 +1,4 @@
-use Rattle.std.proofs.Common.{◌≡◌, ◌≤◌, ◌-◌, List, ◌∷◌, length, take, drop}
-use Rattle.gr_tick.specs.declared.run.Run.{Run}
+use Rattle.std.proofs.Common.{◌≤◌, ◌-◌, take}
 use Rattle.gr_tick.specs.Stored.{EndBefore}
 use Rattle.gr_tick.proofs.edits.climb.Given as goal
 

@@ -1,4 +1,4 @@
-use Rattle.std.proofs.Common.{◌+◌, ◌-◌, arith}
+use Rattle.std.proofs.Common.{◌-◌, arith}
 use Rattle.gr_tick.proofs.SeekLemmas.{seek_low}
 use Rattle.gr_tick.proofs.edits.gallop.Goals as goal
 
