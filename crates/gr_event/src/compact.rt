@@ -10,7 +10,11 @@ use crate::encode::{INTEGER, TEXT, TRUTH};
 use crate::event::{Event, Memory};
 use crate::limits::{MAX_NAME, MAX_PAIRS, MAX_TEXT};
 use crate::text::Text;
+use smallvec::SmallVec;
 use std::alloc::Global;
+
+/// A form in bytes that is guessed. Most are short, and take no memory.
+type Form = SmallVec<u8, 64>;
 
 /// The event whose compact text the bytes are, if they are one. Nothing is said of other texts: of those the answer is
 /// none.
@@ -20,7 +24,7 @@ pub(crate) fn from_compact(alloc: Global, bytes: &[u8]) -> Result<Option<Event>,
     let Some(form) = guess(alloc, bytes)? else {
         return Ok(None);
     };
-    let Some(event) = Event::from_form(alloc, form)? else {
+    let Some(event) = Event::from_form(alloc, form.as_slice())? else {
         return Ok(None);
     };
     let mut text = Text::from_vec(Vec::with_capacity(alloc, bytes.len())?);
@@ -32,8 +36,8 @@ pub(crate) fn from_compact(alloc: Global, bytes: &[u8]) -> Result<Option<Event>,
 }
 
 /// The form in bytes that a text may stand for, if it looks like the compact text of an event. It is only a guess.
-fn guess(alloc: Global, text: &[u8]) -> Result<Option<Vec<u8>>, Memory> {
-    let mut form = Vec::with_capacity(alloc, text.len())?;
+fn guess(alloc: Global, text: &[u8]) -> Result<Option<Form>, Memory> {
+    let mut form = Form::new(alloc);
     form.push(0u8)?;
     let Some(mut rest) = text.strip_prefix(b"{") else {
         return Ok(None);
@@ -44,7 +48,7 @@ fn guess(alloc: Global, text: &[u8]) -> Result<Option<Vec<u8>>, Memory> {
         };
         match behind {
             [b'}'] => {
-                put_count(&mut form, count as u8);
+                put_count(form.as_mut_slice(), count as u8);
                 return Ok(Some(form));
             }
             [b',', others @ ..] => rest = others,
@@ -62,7 +66,7 @@ fn put_count(form: &mut [u8], count: u8) {
 }
 
 /// Puts the pair at the front of a text behind a form, and gives what stands behind it.
-fn put_pair<'a>(text: &'a [u8], form: &mut Vec<u8>) -> Result<Option<&'a [u8]>, Memory> {
+fn put_pair<'a>(text: &'a [u8], form: &mut Form) -> Result<Option<&'a [u8]>, Memory> {
     let Some((name, behind)) = quoted(text) else {
         return Ok(None);
     };
@@ -78,7 +82,7 @@ fn put_pair<'a>(text: &'a [u8], form: &mut Vec<u8>) -> Result<Option<&'a [u8]>, 
 }
 
 /// Puts the value at the front of a text behind a form, and gives what stands behind it.
-fn put_value<'a>(text: &'a [u8], form: &mut Vec<u8>) -> Result<Option<&'a [u8]>, Memory> {
+fn put_value<'a>(text: &'a [u8], form: &mut Form) -> Result<Option<&'a [u8]>, Memory> {
     match text {
         [b'"', ..] => put_text(text, form),
         [b't', b'r', b'u', b'e', rest @ ..] => put_truth(1, rest, form),
@@ -89,14 +93,14 @@ fn put_value<'a>(text: &'a [u8], form: &mut Vec<u8>) -> Result<Option<&'a [u8]>,
 }
 
 /// Puts a truth value behind a form.
-fn put_truth<'a>(byte: u8, rest: &'a [u8], form: &mut Vec<u8>) -> Result<Option<&'a [u8]>, Memory> {
+fn put_truth<'a>(byte: u8, rest: &'a [u8], form: &mut Form) -> Result<Option<&'a [u8]>, Memory> {
     form.push(TRUTH)?;
     form.push(byte)?;
     Ok(Some(rest))
 }
 
 /// Puts the text between quotes at the front behind a form, and gives what stands behind it.
-fn put_text<'a>(text: &'a [u8], form: &mut Vec<u8>) -> Result<Option<&'a [u8]>, Memory> {
+fn put_text<'a>(text: &'a [u8], form: &mut Form) -> Result<Option<&'a [u8]>, Memory> {
     let Some((inside, rest)) = quoted(text) else {
         return Ok(None);
     };
@@ -113,7 +117,7 @@ fn put_text<'a>(text: &'a [u8], form: &mut Vec<u8>) -> Result<Option<&'a [u8]>, 
 fn put_integer<'a>(
     negative: bool,
     text: &'a [u8],
-    form: &mut Vec<u8>,
+    form: &mut Form,
 ) -> Result<Option<&'a [u8]>, Memory> {
     let end = digits_len(text);
     let mut value = 0u64;

@@ -32,14 +32,14 @@ impl Event {
         ensures spelled { IfOk result (λ e. bytes.now ≡ event_bytes e) }
     {
         fields_of(bytes)?;
-        Ok(Event::of_bytes(alloc, Vec::from_slice(alloc, bytes)?)?)
+        Ok(Event::of_bytes(alloc, bytes)?)
     }
 
-    /// The event that the bytes spell, which are kept as they are; none where they spell none.
-    pub(crate) fn from_form(alloc: Global, bytes: Vec<u8>) -> Result<Option<Event>, Memory>
-        ensures { IfOk result (λ found. IfSome found (λ e. event_decoded bytes.items ≡ Ok e)) }
+    /// The event that the bytes spell; none where they spell none.
+    pub(crate) fn from_form(alloc: Global, bytes: &[u8]) -> Result<Option<Event>, Memory>
+        ensures { IfOk result (λ found. IfSome found (λ e. event_decoded bytes.now ≡ Ok e)) }
     {
-        match fields_of(&bytes) {
+        match fields_of(bytes) {
             Ok(()) => Ok(Some(Event::of_bytes(alloc, bytes)?)),
             Err(_) => Ok(None),
         }

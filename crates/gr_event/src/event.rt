@@ -18,16 +18,20 @@ use crate::text::Text;
 use crate::value::{Part, Value};
 use crate::walk::{find, nth};
 use gr_gap::Shared;
+use smallvec::SmallVec;
 use std::alloc::{AllocError, AllocFailed, Global};
 use std::marker::Model;
 
 /// No memory was given.
 pub type Memory = AllocError;
 
+/// Up to how many bytes stand in the one block that the owners of an event share.
+const SHORT: usize = 40;
+
 /// An event, seen as its list of names and values, rising by name. It is kept as its form in bytes.
 #[derive(Drop)]
 pub struct Event {
-    bytes: Shared<Vec<u8>>,
+    bytes: Shared<SmallVec<u8, SHORT>>,
 }
 
 impl Model for Event {
@@ -51,16 +55,17 @@ impl Event {
     {
         let mut bytes = vec![in alloc; 0u8; 1 + size_of_pairs(&pairs)]?;
         put_event(&pairs, &mut bytes);
-        Event::of_bytes(alloc, bytes)
+        Event::of_bytes(alloc, &bytes)
     }
 
     /// The event of these bytes.
-    pub(crate) fn of_bytes(alloc: Global, bytes: Vec<u8>) -> Result<Event, Memory>
-        requires { AreOfEvent bytes.items }
-        ensures { IfOk result (λ e. e ≡ event_of bytes.items) }
+    pub(crate) fn of_bytes(alloc: Global, bytes: &[u8]) -> Result<Event, Memory>
+        requires { AreOfEvent bytes.now }
+        ensures { IfOk result (λ e. e ≡ event_of bytes.now) }
     {
+        let form = SmallVec::from_slice(alloc, bytes)?;
         Ok(Event {
-            bytes: Shared::new(alloc, bytes)?,
+            bytes: Shared::new(alloc, form)?,
         })
     }
 
@@ -150,7 +155,7 @@ impl Event {
         ensures bytes { result.now ≡ event_bytes self.now }
         ensures event { IsEvent self.now }
     {
-        self.bytes.get()
+        self.bytes.get().as_slice()
     }
 }
 

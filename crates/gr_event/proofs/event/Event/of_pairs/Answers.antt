@@ -10,11 +10,11 @@ pub of_bytes-requires : goal.of_bytes-requires
 of_bytes-requires c =
     let e = c.args.pairs.items in
     let written : c.put_event.new.into ≡ event_bytes e = c.put_event.ensures ∙ ap event_bytes c.deref-2.ensures.value in
-    are_of_event _ e c.requires (take_at _ _ _ (omega (arith, length_of_event c.put_event.new.into e written, c.in_ok-bytes.ensures.len, c.size_of_pairs.ensures.size)) ∙ written)
+    are_of_event _ e c.requires (c.deref-3.ensures.value ∙ take_at _ _ _ (omega (arith, length_of_event c.put_event.new.into e written, c.in_ok-bytes.ensures.len, c.size_of_pairs.ensures.size)) ∙ written)
 
 pub returns : goal.returns
 returns c =
     let e = c.args.pairs.items in
     let written : c.put_event.new.into ≡ event_bytes e = c.put_event.ensures ∙ ap event_bytes c.deref-2.ensures.value in
-    let is = take_at _ _ _ (omega (arith, length_of_event c.put_event.new.into e written, c.in_ok-bytes.ensures.len, c.size_of_pairs.ensures.size)) ∙ written in
+    let is = c.deref-3.ensures.value ∙ take_at _ _ _ (omega (arith, length_of_event c.put_event.new.into e written, c.in_ok-bytes.ensures.len, c.size_of_pairs.ensures.size)) ∙ written in
     subst (λ l. IfOk c.of_bytes.result (λ k. k ≡ l)) (ap event_of is ∙ of_its_bytes e c.requires) c.of_bytes.ensures
