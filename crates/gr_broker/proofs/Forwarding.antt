@@ -1,8 +1,8 @@
 -- Each child is sent what passes the edge to it and what it has not acknowledged, and then wants what the machine says.
-use Rattle.std.proofs.Common.{◌≡◌, ℕ, suc, ◌+◌, ◌<◌, ◌⊎◌, not, ◌&&◌, List, [], ◌∷◌, ◌++◌, length, get_or, refl, sym, ap, ap₂, ◌∙◌, subst, inl, inr, arith}
+use Rattle.std.proofs.Common.{◌≡◌, ℕ, suc, cond, nat_eq, ◌+◌, ◌<◌, ◌⊎◌, not, ◌&&◌, List, [], ◌∷◌, length, get_or, refl, sym, ap, ap₂, ◌∙◌, subst, inl, inr, arith}
 use Rattle.std.specs.Prelude.{if◌then◌else◌, slice_index_or}
-use Rattle.std.proofs.lemmas.Bool.{cases_lt}
-use Rattle.std.proofs.lemmas.List.{ext_get_or, get_or_append_left, get_or_push, get_or_default}
+use Rattle.std.proofs.lemmas.Bool.{cases_lt, eq-eqb, ne_eqb}
+use Rattle.std.proofs.lemmas.List.{ext_get_or, get_or_default}
 use Rattle.gr_tick.specs.Runs.{AreRuns}
 use Rattle.gr_tick.specs.Stored.{RunsGive}
 use Rattle.gr_tick.proofs.RunLaws.{zip_runs-is}
@@ -97,11 +97,11 @@ taken_acknowledged net p new cs ws pieces us answered taken t =
 -- One child more
 
 -- what holds of each element of a list holds of one more
-pub each_more : {X : Type 0} (P : ℕ → X → Type 0) (xs ys : List X) (y d : X) (n : ℕ) → length xs ≡ n → ys ≡ xs ++ y ∷ [] → ((i : ℕ) → i < n → P i (slice_index_or xs i d)) → P n y → (i : ℕ) → i < n + 1 → P i (slice_index_or ys i d)
-each_more P xs ys y d n e same before here i lt =
+pub each_more : {X : Type 0} (P : ℕ → X → Type 0) (xs ys : List X) (y d : X) (n : ℕ) → ((k : ℕ) → get_or ys k d ≡ cond (nat_eq k n) y (get_or xs k d)) → ((i : ℕ) → i < n → P i (slice_index_or xs i d)) → P n y → (i : ℕ) → i < n + 1 → P i (slice_index_or ys i d)
+each_more P xs ys y d n same before here i lt =
     elim (cases_lt i n) [
-      | inl l ↦ subst (P i) (sym (ap (λ zs. get_or zs i d) same ∙ get_or_append_left xs (y ∷ []) d i (omega (arith, l, e)))) (before i l)
+      | inl l ↦ subst (P i) (sym (same i ∙ ap (λ b. cond b y (get_or xs i d)) (ne_eqb i n (λ e. absurd (omega (arith, l, e)))))) (before i l)
       | inr g ↦
           let at : n ≡ i = omega (arith, g, lt) in
-          subst (λ k. P k (get_or ys k d)) at (subst (P n) (sym (ap (λ zs. get_or zs n d) same ∙ get_or_push xs y d n e)) here)
+          subst (λ k. P k (get_or ys k d)) at (subst (P n) (sym (same n ∙ ap (λ b. cond b y (get_or xs n d)) (eq-eqb n n refl))) here)
     ]

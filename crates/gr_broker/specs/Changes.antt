@@ -27,8 +27,7 @@ sent_to net p b v piece i =
 
 -- What learning a piece changes besides what is known and the horizon
 pub record AreChanges (net : Net) (p b : ℕ) (v : View) (piece : Known) (c : Changes) : Type 0 where
-  -- for each child what it asked and is now sent
-  pub many : length c.quenched.items ≡ length v.wants
+  -- for each child what it asked and is now sent; nothing for those past the list
   pub each : (i : ℕ) → i < length v.wants → RunsGive N (slice_index_or c.quenched.items i [])
       (λ t. if not (is_Q (known_at (sent_to net p b v piece i) t)) && is_C (wanted_at (wants_of v.wants i) t)
       then C else N)

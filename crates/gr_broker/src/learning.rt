@@ -1,13 +1,14 @@
 //! New ticks come to a broker: they are handed over, forwarded, consolidated.
 
 ghost use Rattle.std.specs.Prelude.{if◌then◌else◌, ◌≡◌, ◌⊎◌, ℕ, ◌+◌, ◌*◌, ◌<◌, ◌≤◌, true, false, not, ◌&&◌};
-ghost use Rattle.std.specs.Prelude.{nat_lt, nat_le, [], ◌++◌, length, get_or, slice_index_or, IfOk, OnOk, OnErr, IsTrue};
+ghost use Rattle.std.specs.Prelude.{nat_lt, nat_le, [], ◌++◌, length, get_or, set, slice_index_or, IfOk, OnOk, OnErr, IsTrue};
+ghost use Rattle.std.specs.Prelude.{◌==◌, ◌≢◌};
 ghost use Rattle.std.specs.List.{flat_map};
 ghost use Rattle.std.specs.Option.{option_map};
 ghost use Rattle.gr_tick.specs.declared.TheConstants.{MAX_TICK};
 ghost use Rattle.gr_filter.specs.Tree.{tree_of};
 ghost use Rattle.gr_tick.specs.Runs.{is_in, AreRuns};
-ghost use Rattle.gr_tick.specs.Stored.{within, IsRun, EndBefore, RunsGive};
+ghost use Rattle.gr_tick.specs.Stored.{within, IsRun, EndBefore, RunsGive, is_told};
 ghost use Rattle.gr_know.specs.Values.{known_at, is_Q, new_K, clash_K};
 ghost use Rattle.gr_know.specs.declared.values.K.TheVariants.{Q, F};
 ghost use Rattle.gr_curio.specs.declared.asks.Moment.TheVariants.{Never};
@@ -195,7 +196,6 @@ fn forward_news(
         OnOk result (AddsFrames (forward_frames net site.now.publisher site.now.broker
         (new_ticks held.now.know.runs piece.now) (net.children site.now.publisher site.now.broker)
         (runs_of held.now.wants)) into.old into.new) }
-    ensures many { IfOk result (λ quenched. length quenched.items ≡ length (runs_of held.now.wants)) }
     ensures each { let net : Net = net_of site.now.topo.now in
         IfOk result (λ quenched. (i : ℕ) → i < length (runs_of held.now.wants) →
         RunsGive N (slice_index_or quenched.items i []) (λ t. if not (is_Q (known_at
@@ -241,7 +241,6 @@ fn forward(
     ensures adds { let net : Net = net_of site.now.topo.now in
         OnOk result (AddsFrames (forward_frames net site.now.publisher site.now.broker fresh.now
         (net.children site.now.publisher site.now.broker) (runs_of wants.now)) into.old into.new) }
-    ensures many { IfOk result (λ quenched. length quenched.items ≡ length wants.now) }
     ensures each { let net : Net = net_of site.now.topo.now in IfOk result (λ quenched. (i : ℕ) → i < length wants.now →
         RunsGive N (slice_index_or quenched.items i []) (λ t. if not (is_Q (known_at (forward net site.now.publisher
         (get_or (net.children site.now.publisher site.now.broker) i 0) (wants_of (runs_of wants.now) i) fresh.now) t))
@@ -250,9 +249,36 @@ fn forward(
     let mut all = Vec::new(site.alloc);
     for i in 0..site.position.children.len() {
         let quenched = forward_to(site, i, wants, fresh, into)?;
-        all.push(quenched)?;
+        put_at(site.alloc, &mut all, i, quenched)?;
     }
     Ok(all)
+}
+
+/// Puts the piece of the child at place `i` behind those of the children before it, some of which may have none. An
+/// empty one is left out: a child past the list has an empty piece.
+fn put_at(
+    alloc: Global,
+    pieces: &mut Vec<Piece<Q3>>,
+    i: usize,
+    piece: Piece<Q3>,
+) -> Result<(), Memory>
+    requires { length pieces.old.items ≤ i }
+    ensures many { OnOk result (length pieces.new.items ≤ i + 1) }
+    ensures each { OnOk result ((k : ℕ) → slice_index_or pieces.new.items k []
+        ≡ (if k == i then piece else slice_index_or pieces.old.items k [])) }
+{
+    if piece.is_empty() {
+        drop(piece);
+        return Ok(());
+    }
+    'blanks: while pieces.len() < i {
+        match pieces.push(Piece::new(alloc)) {
+            Ok(()) => {}
+            Err(_) => return Err(AllocError),
+        }
+    }
+    pieces.push(piece)?;
+    Ok(())
 }
 
 /// Sends one child the new ticks that it has not acknowledged, as far as they pass the edge to it, and gives the ticks
@@ -424,15 +450,31 @@ fn move_on(keeps: bool, horizon: &mut Subend, know: &Know)
 
 /// Takes a piece out of what each child wants. It takes no memory.
 fn quench(wants: &mut Wants, pieces: &[Piece<Q3>])
-    requires many { length pieces.now ≡ length wants.old }
-    requires room { (i : ℕ) → i < length wants.old → length (slice_index_or pieces.now i []) ≤ spare_of wants.old i }
+    requires { (i : ℕ) → i < length wants.old → length (slice_index_or pieces.now i []) ≤ spare_of wants.old i }
     ensures { AreTaken (runs_of wants.old) pieces.now (runs_of wants.new) }
 {
-    for i in 0..pieces.len() {
-        // Proof only: the runs are canonical.
-        let _ = wants.len(i);
-        wants.take_out(i, &pieces[i]);
+    for i in 0..wants.children() {
+        take_at(wants, pieces, i);
     }
+}
+
+/// Takes what the child at place `i` asked and is now sent out of what it wants. A child past the list has an empty
+/// piece.
+fn take_at(wants: &mut Wants, pieces: &[Piece<Q3>], i: usize)
+    requires child { i < length wants.old }
+    requires room { length (slice_index_or pieces.now i []) ≤ spare_of wants.old i }
+    ensures canonical { AreRuns N (wants_of (runs_of wants.old) i) }
+    ensures taken { RunsGive N (wants_of (runs_of wants.new) i)
+        (λ t. if is_told (slice_index_or pieces.now i []) t then N else wanted_at (wants_of (runs_of wants.old) i) t) }
+    ensures others { runs_of wants.new ≡ set (runs_of wants.old) i (wants_of (runs_of wants.new) i) }
+    ensures other_spares { (k : ℕ) → k ≢ i → spare_of wants.new k ≡ spare_of wants.old k }
+{
+    // Proof only: the runs are canonical.
+    let _ = wants.len(i);
+    if pieces.len() <= i {
+        return;
+    }
+    wants.take_out(i, &pieces[i]);
 }
 
 /// Makes final each tick that a piece acknowledges. It takes no memory.

@@ -1,8 +1,7 @@
 -- The frames to each child follow those to the children before it.
-use Rattle.std.proofs.Common.{◌≡◌, ℕ, ◌+◌, ◌<◌, List, [], not, ◌&&◌, length, get_or, drop, sym, ap, ◌∙◌, subst, arith, refl}
+use Rattle.std.proofs.Common.{◌≡◌, ℕ, ◌+◌, ◌<◌, List, [], not, ◌&&◌, length, get_or, drop, sym, ◌∙◌, subst, arith, refl}
 use Rattle.std.specs.Prelude.{if◌then◌else◌}
 use Rattle.std.proofs.lemmas.List.{length-map}
-use Rattle.std.proofs.Common.{length-append, ◌∷◌}
 use Rattle.gr_tick.specs.Stored.{RunsGive}
 use Rattle.gr_know.specs.Values.{known_at, is_Q}
 use Rattle.gr_curio.specs.declared.values.Q3.TheVariants.{N, C}
@@ -34,9 +33,9 @@ loop-i-preserved c =
       adds = λ last h. c.loop-i.invariant.adds last
           (subst (λ (fs : List Frame). AddsFrames fs c.loop-i.into last) (sym (forward_step net p b c.args.fresh.now cs ws c.loop-i.i many inside))
           (adds_after (know_frames b (get_or cs c.loop-i.i 0) p (forward net p (get_or cs c.loop-i.i 0) (wants_of ws c.loop-i.i) c.args.fresh.now)) (forward_frames net p b c.args.fresh.now (drop (c.loop-i.i + 1) cs) (drop (c.loop-i.i + 1) ws)) c.loop-i.into c.forward_to.new.into last c.in_ok-quenched.ensures.adds h));
-      many = omega (arith, c.loop-i.invariant.many, ap length c.in_ok-push.ensures.items, length-append c.loop-i.all.items (c.in_ok-quenched.quenched ∷ []));
+      many = c.in_ok-put_at.ensures.many;
       each = each_more (λ k (q : Wanted). RunsGive N q (λ t. if not (is_Q (known_at (forward net p (get_or cs k 0) (wants_of ws k) c.args.fresh.now) t)) && is_C (wanted_at (wants_of ws k) t) then C else N))
-          c.loop-i.all.items c.push.new.self.items c.in_ok-quenched.quenched [] c.loop-i.i c.loop-i.invariant.many c.in_ok-push.ensures.items c.loop-i.invariant.each c.in_ok-quenched.ensures.quenched;
+          c.loop-i.all.items c.put_at.new.pieces.items c.in_ok-quenched.quenched [] c.loop-i.i c.in_ok-put_at.ensures.each c.loop-i.invariant.each c.in_ok-quenched.ensures.quenched;
     }
 
 pub returns-clause-adds : goal.returns-clause-adds

@@ -1,4 +1,4 @@
-use Rattle.std.proofs.Common.{◌≡◌, ℕ, ◌<◌, not, ◌&&◌, [], length, get_or, drop}
+use Rattle.std.proofs.Common.{ℕ, ◌<◌, ◌≤◌, not, ◌&&◌, [], length, get_or, drop}
 use Rattle.std.specs.Prelude.{if◌then◌else◌, slice_index_or}
 use Rattle.gr_tick.specs.Stored.{RunsGive}
 use Rattle.gr_know.specs.Values.{known_at, is_Q}
@@ -17,7 +17,7 @@ abbrev pub invariant-loop-i : goal.invariant-loop-i
 invariant-loop-i l = record {
   adds : (last : FrameList) → AddsFrames (forward_frames (net_of l.site.topo.now) l.site.publisher l.site.broker l.fresh (drop l.i (children_of l.site.topo.now l.site.publisher l.site.broker)) (drop l.i (runs_of l.wants))) l.into last
       → AddsFrames (forward_frames (net_of l.site.topo.now) l.site.publisher l.site.broker l.fresh (children_of l.site.topo.now l.site.publisher l.site.broker) (runs_of l.wants)) l.fn.into last;
-  many : length l.all.items ≡ l.i;
+  many : length l.all.items ≤ l.i;
   each : (i : ℕ) → i < l.i → RunsGive N (slice_index_or l.all.items i []) (λ t.
       if not (is_Q (known_at (forward (net_of l.site.topo.now) l.site.publisher (get_or (children_of l.site.topo.now l.site.publisher l.site.broker) i 0) (wants_of (runs_of l.wants) i) l.fresh) t)) && is_C (wanted_at (wants_of (runs_of l.wants) i) t) then C else N);
 }

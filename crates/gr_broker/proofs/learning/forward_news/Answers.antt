@@ -27,11 +27,6 @@ returns-then-is_empty-clause-adds c =
     (sym (forward_done (net_of c.args.site.now.topo.now) c.args.site.now.publisher c.args.site.now.broker (new_ticks c.args.held.now.know.runs c.args.piece.now) (children_of c.args.site.now.topo.now c.args.site.now.publisher c.args.site.now.broker) (runs_of c.args.held.now.wants) 0 (omega (arith, count, empty))))
     (adds_none c.args.into.now c.args.into.now refl)
 
-pub returns-then-is_empty-clause-many : goal.returns-then-is_empty-clause-many
-returns-then-is_empty-clause-many c =
-    let empty = eqb-true _ 0 (sym c.is_empty.ensures ∙ c.if-is_empty.true) in
-    omega (arith, empty, length-map c.args.held.now.wants (λ k. k.runs), c.requires.wants)
-
 pub returns-then-is_empty-clause-each : goal.returns-then-is_empty-clause-each
 returns-then-is_empty-clause-each c = λ i lt.
     let empty = eqb-true _ 0 (sym c.is_empty.ensures ∙ c.if-is_empty.true) in
@@ -49,10 +44,6 @@ returns-then-is_past-clause-adds c =
     subst (λ (k : Known). OnOk c.forward.result (AddsFrames (forward_frames (net_of c.args.site.now.topo.now) c.args.site.now.publisher c.args.site.now.broker k (children_of c.args.site.now.topo.now c.args.site.now.publisher c.args.site.now.broker) (runs_of c.args.held.now.wants)) c.args.into.now c.forward.new.into))
     (whole c) c.forward.ensures.adds
 
-pub returns-then-is_past-clause-many : goal.returns-then-is_past-clause-many
-returns-then-is_past-clause-many c =
-    subst (λ n. IfOk c.forward.result (λ quenched. length quenched.items ≡ n)) (sym (length-map c.args.held.now.wants (λ k. k.runs))) c.forward.ensures.many
-
 pub returns-then-is_past-clause-each : goal.returns-then-is_past-clause-each
 returns-then-is_past-clause-each c =
     subst (λ n. IfOk c.forward.result (λ quenched. (i : ℕ) → i < n → RunsGive N (slice_index_or quenched.items i []) (λ t.
@@ -64,17 +55,10 @@ returns-then-is_past-clause-each c =
 
 -- What is new is looked for
 
-fresh : (c : goal.After-drop-fresh-inside) → c.in_ok-fresh.fresh ≡ new_ticks c.args.held.now.know.runs c.args.piece.now
-fresh c = new_is c.args.held.now.know.runs c.args.piece.now c.in_ok-fresh.fresh c.len.ensures.canonical c.len-2.ensures.canonical c.in_ok-fresh.ensures
-
 pub returns-clause-adds : goal.returns-clause-adds
 returns-clause-adds c =
     subst (λ (k : Known). OnOk c.forward-2.result (AddsFrames (forward_frames (net_of c.args.site.now.topo.now) c.args.site.now.publisher c.args.site.now.broker k (children_of c.args.site.now.topo.now c.args.site.now.publisher c.args.site.now.broker) (runs_of c.args.held.now.wants)) c.args.into.now c.forward-2.new.into))
-    (fresh c) c.forward-2.ensures.adds
-
-pub returns-clause-many : goal.returns-clause-many
-returns-clause-many c =
-    subst (λ n. IfOk c.forward-2.result (λ quenched. length quenched.items ≡ n)) (sym (length-map c.args.held.now.wants (λ k. k.runs))) c.forward-2.ensures.many
+    (new_is c.args.held.now.know.runs c.args.piece.now c.in_ok-fresh.fresh c.len.ensures.canonical c.len-2.ensures.canonical c.in_ok-fresh.ensures) c.forward-2.ensures.adds
 
 pub returns-clause-each : goal.returns-clause-each
 returns-clause-each c =
@@ -83,4 +67,4 @@ returns-clause-each c =
     (sym (length-map c.args.held.now.wants (λ k. k.runs)))
     (subst (λ (k : Known). IfOk c.forward-2.result (λ quenched. (i : ℕ) → i < length c.args.held.now.wants → RunsGive N (slice_index_or quenched.items i []) (λ t.
     if not (is_Q (known_at (forward (net_of c.args.site.now.topo.now) c.args.site.now.publisher (get_or (children_of c.args.site.now.topo.now c.args.site.now.publisher c.args.site.now.broker) i 0) (wants_of (runs_of c.args.held.now.wants) i) k) t)) && is_C (wanted_at (wants_of (runs_of c.args.held.now.wants) i) t) then C else N)))
-    (fresh c) c.forward-2.ensures.each)
+    (new_is c.args.held.now.know.runs c.args.piece.now c.in_ok-fresh.fresh c.len.ensures.canonical c.len-2.ensures.canonical c.in_ok-fresh.ensures) c.forward-2.ensures.each)

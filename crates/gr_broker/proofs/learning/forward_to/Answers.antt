@@ -1,14 +1,11 @@
 -- What passes the edge and was not acknowledged is what the machine forwards. Where the child wants none of it that is all of it.
-use Rattle.std.proofs.Common.{◌≡◌, not, ◌&&◌, get_or, subst}
+use Rattle.std.proofs.Common.{not, ◌&&◌, subst}
 use Rattle.std.specs.Prelude.{if◌then◌else◌}
 use Rattle.gr_tick.specs.Stored.{RunsGive}
 use Rattle.gr_know.specs.Values.{Known, known_at, is_Q}
 use Rattle.gr_curio.specs.declared.values.Q3.TheVariants.{N, C}
 use Rattle.gr_curio.specs.Values.{wanted_at, is_C}
 use Rattle.gr_curio.specs.Wants.{runs_of, wants_of}
-use Rattle.gr_topo.specs.Topology.{children_of}
-use Rattle.gr_model.specs.NetOf.{net_of}
-use Rattle.gr_model.specs.Broker.{forward}
 use Rattle.gr_broker.proofs.Forwarding.{forwarded, forwarded_whole, sends_forwarded}
 use Rattle.gr_broker.proofs.Untouched.{answers_none}
 use Rattle.gr_broker.proofs.learning.forward_to.Goals as goal
@@ -25,14 +22,14 @@ returns-then-is_untouched-clause-quenched c =
     (forwarded_whole c.args.site.now c.args.i c.index-child.result.now (wants_of (runs_of c.args.wants.now) c.args.i) c.args.fresh.now c.in_ok-passed.passed c.requires.site c.requires.child c.index-child.ensures c.len.ensures.canonical c.len-2.ensures.canonical c.in_ok-passed.ensures (c.is_untouched.ensures c.if-is_untouched.true))
     (answers_none (wants_of (runs_of c.args.wants.now) c.args.i) c.in_ok-passed.passed c.new.result c.new.ensures (c.is_untouched.ensures c.if-is_untouched.true))
 
-sent : (c : goal.After-drop-passed-inside-2) → c.in_ok-sent.sent ≡ forward (net_of c.args.site.now.topo.now) c.args.site.now.publisher (get_or (children_of c.args.site.now.topo.now c.args.site.now.publisher c.args.site.now.broker) c.args.i 0) (wants_of (runs_of c.args.wants.now) c.args.i) c.args.fresh.now
-sent c =
-    forwarded c.args.site.now c.args.i c.index-child.result.now (wants_of (runs_of c.args.wants.now) c.args.i) c.args.fresh.now c.in_ok-passed.passed c.in_ok-sent.sent c.requires.site c.requires.child c.index-child.ensures c.len.ensures.canonical c.len-2.ensures.canonical c.in_ok-passed.ensures c.in_ok-sent.ensures
-
 pub returns-clause-adds : goal.returns-clause-adds
 returns-clause-adds c =
-    sends_forwarded c.args.site.now c.args.i c.index-child.result.now c.in_ok-sent.sent _ c.args.into.now c.send_down-2.new.into c.requires.site c.requires.child c.index-child.ensures (sent c) c.in_ok-send_down-2.ensures
+    sends_forwarded c.args.site.now c.args.i c.index-child.result.now c.in_ok-sent.sent _ c.args.into.now c.send_down-2.new.into c.requires.site c.requires.child c.index-child.ensures
+    (forwarded c.args.site.now c.args.i c.index-child.result.now (wants_of (runs_of c.args.wants.now) c.args.i) c.args.fresh.now c.in_ok-passed.passed c.in_ok-sent.sent c.requires.site c.requires.child c.index-child.ensures c.len.ensures.canonical c.len-2.ensures.canonical c.in_ok-passed.ensures c.in_ok-sent.ensures)
+    c.in_ok-send_down-2.ensures
 
 pub returns-clause-quenched : goal.returns-clause-quenched
 returns-clause-quenched c =
-    subst (λ (k : Known). RunsGive N c.in_ok-answered.answered (λ t. if not (is_Q (known_at k t)) && is_C (wanted_at (wants_of (runs_of c.args.wants.now) c.args.i) t) then C else N)) (sent c) c.in_ok-answered.ensures
+    subst (λ (k : Known). RunsGive N c.in_ok-answered.answered (λ t. if not (is_Q (known_at k t)) && is_C (wanted_at (wants_of (runs_of c.args.wants.now) c.args.i) t) then C else N))
+    (forwarded c.args.site.now c.args.i c.index-child.result.now (wants_of (runs_of c.args.wants.now) c.args.i) c.args.fresh.now c.in_ok-passed.passed c.in_ok-sent.sent c.requires.site c.requires.child c.index-child.ensures c.len.ensures.canonical c.len-2.ensures.canonical c.in_ok-passed.ensures c.in_ok-sent.ensures)
+    c.in_ok-answered.ensures
