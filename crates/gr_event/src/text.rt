@@ -69,6 +69,14 @@ impl Text {
         self.bytes.truncate(len);
     }
 
+    /// The bytes that it is made of. Takes no memory.
+    pub fn into_vec(self) -> Vec<u8>
+        ensures { result.items ≡ self }
+    {
+        let Text { bytes } = self;
+        bytes
+    }
+
     /// Gives its bytes away and is empty. Takes no memory.
     pub(crate) fn take(&mut self) -> Vec<u8>
         ensures bytes { result.items ≡ self.old }

@@ -1,12 +1,13 @@
--- A line is its row without the first blank: each line has a word.
-use Rattle.std.proofs.Common.{◌≡◌, ℕ, List, [], ◌∷◌, ◌++◌, drop, refl, ap, ◌∙◌}
+-- A row has a blank before a line: each line has a word.
+use Rattle.std.proofs.Common.{◌≡◌, ℕ, List, [], ◌∷◌, ◌++◌, refl, ap, ◌∙◌}
+use Rattle.std.proofs.lemmas.List.{append_assoc}
 use Rattle.gr_topo.specs.Topology.{TopologyView}
 use Rattle.gr_model.specs.declared.report.Report.{Report}
 use Rattle.gr_model.specs.declared.report.Report.TheVariants.{Opened, Logged, Already, Gap, Exhausted, Kept, Lost, Mark, Cut, Got, Horizon, SentKnow, SentWant, SentExpect, Crashed, Swept, RefusedHosts, RefusedFrame, RefusedClock, DroppedNotFrame, DroppedStray, DroppedClash, DroppedBadNote, DroppedStrayNote, Damaged, Frames, LogOf, Doubt, BytesOf}
 use Rattle.gr_model.specs.Text.{labels_of, row_of, whole_line}
 
--- a row with the line's end, from the second byte on
-line_in_row : (t : TopologyView) (report : Report) → drop 1 (row_of t report ++ 10 ∷ []) ≡ whole_line (labels_of t) report
+-- a row with the line's end is a blank and the line
+pub line_in_row : (t : TopologyView) (report : Report) → row_of t report ++ 10 ∷ [] ≡ 32 ∷ whole_line (labels_of t) report
 line_in_row t (Opened publisher last settled cut) = refl
 line_in_row t (Logged publisher number tick) = refl
 line_in_row t (Already publisher number) = refl
@@ -37,7 +38,7 @@ line_in_row t (LogOf publisher last settled cut kept) = refl
 line_in_row t (Doubt broker publisher tick) = refl
 line_in_row t (BytesOf frame bytes) = refl
 
--- a line's words and the line's end, put behind nothing, are the line from the second byte on
-pub line_written : (t : TopologyView) (report : Report) (start row ended : List ℕ) → start ≡ [] → row ≡ start ++ row_of t report → ended ≡ row ++ 10 ∷ [] → drop 1 ended ≡ whole_line (labels_of t) report
-line_written t report start row ended none words end =
-    ap (λ xs. drop 1 xs) (end ∙ ap (λ xs. xs ++ 10 ∷ []) (words ∙ ap (λ xs. xs ++ row_of t report) none)) ∙ line_in_row t report
+-- a line's words and the line's end put a blank and the line behind what a row has
+pub line_behind : (t : TopologyView) (report : Report) (start row ended : List ℕ) → row ≡ start ++ row_of t report → ended ≡ row ++ 10 ∷ [] → ended ≡ start ++ 32 ∷ whole_line (labels_of t) report
+line_behind t report start row ended words end =
+    end ∙ ap (λ xs. xs ++ 10 ∷ []) words ∙ append_assoc start (row_of t report) (10 ∷ []) ∙ ap (λ xs. start ++ xs) (line_in_row t report)

@@ -8,5 +8,5 @@ pub mod report;
 pub mod topologies;
 mod words;
 
-pub use print::{Memory, PutFault, put};
+pub use print::{Memory, PutFault, put, put_behind};
 pub use report::{Report, Reports};

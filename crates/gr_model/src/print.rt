@@ -1,6 +1,6 @@
 //! A line of a report, written to a sink.
 
-ghost use Rattle.std.specs.Prelude.{◌≡◌, ◌≢◌, ℕ, ◌<◌, ◌≤◌, length, take, drop, IfOk, OnOk, IsErrOf};
+ghost use Rattle.std.specs.Prelude.{◌≡◌, ◌≢◌, ℕ, ◌<◌, ◌≤◌, length, take, drop, IfOk, OnOk, IsErrOf, ◌++◌, ◌∷◌};
 ghost use Rattle.gr_out.specs.Faults.{Rose};
 ghost use Rattle.gr_out.specs.Bytes.{with_more};
 ghost use Rattle.gr_model.specs.Text.{labels_of, whole_line, IsNamed};
@@ -8,7 +8,7 @@ ghost use Rattle.gr_model.specs.Text.{labels_of, whole_line, IsNamed};
 use crate::lines::push_line;
 use crate::report::Report;
 use crate::words::Words;
-use gr_out::{Sink, write_all};
+use gr_out::{Page, Sink, write_all};
 use gr_topo::Topology;
 use std::alloc::Global;
 
@@ -56,13 +56,49 @@ pub fn put<K: Sink>(
     }
 }
 
+/// Puts a line of a report with its end behind what a page holds. Each number for which it prints a name or a word is
+/// in range. Where memory is refused, nothing is said of what the page holds then.
+pub fn put_behind(report: &Report, topo: &Topology, page: &mut Page) -> Result<(), Memory>
+    requires { IsNamed topo.now report.now }
+    ensures ok { OnOk result (page.new.held ≡ page.old.held ++ whole_line (labels_of topo.now) report.now) }
+    ensures faults { page.new.faults ≡ page.old.faults }
+{
+    let bytes = page.take();
+    let start = bytes.len();
+    let mut row = Words::behind(bytes);
+    match put_words(&mut row, report, topo) {
+        Ok(()) => {
+            let mut bytes = row.into_vec();
+            // The blank before the first word.
+            bytes.remove(start);
+            page.hold(bytes);
+            Ok(())
+        }
+        Err(refused) => {
+            let mut bytes = row.into_vec();
+            bytes.truncate(start);
+            page.hold(bytes);
+            Err(refused)
+        }
+    }
+}
+
+/// Puts the words of a line at the end of a row, a blank before each, and the line's end behind them.
+fn put_words(row: &mut Words, report: &Report, topo: &Topology) -> Result<(), Memory>
+    requires { IsNamed topo.now report.now }
+    ensures { OnOk result (row.new ≡ row.old ++ 32 ∷ whole_line (labels_of topo.now) report.now) }
+{
+    push_line(row, report, topo)?;
+    row.extend(b"\n")?;
+    Ok(())
+}
+
 /// The words of a line in a row, with the line's end behind them. From its second byte on it is the line.
 fn row_text(alloc: Global, report: &Report, topo: &Topology) -> Result<Words, Memory>
     requires { IsNamed topo.now report.now }
     ensures { IfOk result (λ row. drop 1 row ≡ whole_line (labels_of topo.now) report.now) }
 {
     let mut row = Words::new(alloc)?;
-    push_line(&mut row, report, topo)?;
-    row.extend(b"\n")?;
+    put_words(&mut row, report, topo)?;
     Ok(row)
 }

@@ -37,6 +37,23 @@ impl Words {
         Ok(Words { row })
     }
 
+    /// Words behind the bytes that a row has already. Takes no memory.
+    pub(crate) fn behind(bytes: Vec<u8>) -> Words
+        ensures { result ≡ bytes.items }
+    {
+        Words {
+            row: Text::from_vec(bytes),
+        }
+    }
+
+    /// The bytes of the row. Takes no memory.
+    pub(crate) fn into_vec(self) -> Vec<u8>
+        ensures { result.items ≡ self }
+    {
+        let Words { row } = self;
+        row.into_vec()
+    }
+
     /// Puts the blank that stands before a word.
     fn push_blank(&mut self) -> Result<(), AllocError>
         ensures { OnOk result (self.new ≡ self.old ++ 32 ∷ []) }

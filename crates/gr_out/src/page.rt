@@ -11,6 +11,7 @@ use crate::sink::Sink;
 use crate::transfer::write_all;
 use std::alloc::Global;
 use std::marker::Model;
+use std::mem;
 
 /// From how many bytes on a page is full.
 pub const PAGE_BYTES: usize = 65_536;
@@ -45,6 +46,25 @@ impl Page {
         ensures { result ≡ nat_le PAGE_BYTES (length self.now.held) }
     {
         self.bytes.len() >= PAGE_BYTES
+    }
+
+    /// Gives what it holds away, and holds nothing: for a caller that puts a line behind it and gives it back by
+    /// `hold`. Takes no memory.
+    pub fn take(&mut self) -> Vec<u8>
+        ensures bytes { result.items ≡ self.old.held }
+        ensures emptied { self.new.held ≡ [] }
+        ensures faults { self.new.faults ≡ self.old.faults }
+    {
+        let alloc = *self.bytes.allocator();
+        mem::replace(&mut self.bytes, Vec::new(alloc))
+    }
+
+    /// Holds these bytes, and nothing else. Takes no memory.
+    pub fn hold(&mut self, bytes: Vec<u8>)
+        ensures bytes { self.new.held ≡ bytes.items }
+        ensures faults { self.new.faults ≡ self.old.faults }
+    {
+        self.bytes = bytes;
     }
 
     /// Writes what the page holds, and leaves it empty. After `Write` the sink took a front of it.

@@ -7,7 +7,7 @@ ghost use Rattle.gr_model.specs.Text.{IsNamed, labels_of, whole_line, report_tex
 ghost use Rattle.gr_out.specs.Page.{TakesBut, TakesFront};
 ghost use Rattle.gr_run.specs.Named.{AllNamed, IsPutFault};
 
-use gr_model::{Report, put};
+use gr_model::{Report, put_behind};
 use gr_out::{Page, RunFault, Sink};
 use gr_topo::Topology;
 use std::alloc::Global;
@@ -31,7 +31,7 @@ pub fn put_line<K: Sink>(
     ensures write { IsErrOf result RunFault.Write → Rose (K.faults sink.old) (K.faults sink.new) }
     ensures same { result ≢ Err RunFault.Write → K.faults sink.new ≡ K.faults sink.old }
 {
-    if put(alloc, line, topology, page).is_err() {
+    if put_behind(line, topology, page).is_err() {
         return Err(RunFault::Memory);
     }
     if page.is_full() {
