@@ -7,3 +7,4 @@ pub mod Spelled
 pub mod Told
 pub mod Walking
 pub mod Writing
+pub mod Escapes

@@ -53,12 +53,6 @@ pub prints : (e : Event) → print (event_tokens e) ≡ json_text e
 unfolding json_text
 prints e = ap print (sym (tokens_are e)) ∙ print-outline (json_of e)
 
--- so tokens that were written behind a text put the event's text behind it
-pub put_behind : (e : Event) (old before text : List ℕ) (start new : List Token) → text ≡ before ++ print new → before ≡ old → start ≡ [] → new ≡ start ++ event_tokens e
-    → text ≡ old ++ json_text e
-put_behind e old before text start new is same none more =
-    is ∙ ap₂ (λ (a b : List ℕ). a ++ b) same (ap print (more ∙ ap (λ ts. ts ++ event_tokens e) none) ∙ prints e)
-
 -- Each token is printable, and its text is UTF-8
 
 within : (z : ℤ) → FitsSigned w64 z → mag z < 2 ^ 63

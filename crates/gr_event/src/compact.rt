@@ -119,28 +119,20 @@ fn put_integer<'a>(
     text: &'a [u8],
     form: &mut Form,
 ) -> Result<Option<&'a [u8]>, Memory> {
-    let end = digits_len(text);
     let mut value = 0u64;
-    for digit in &text[..end] {
+    let mut rest = text;
+    'digits: while let [digit @ b'0'..=b'9', others @ ..] = rest {
         value = value
             .wrapping_mul(10)
             .wrapping_add(u64::from(digit.wrapping_sub(b'0')));
+        rest = others;
     }
     if negative {
         value = value.wrapping_neg();
     }
     form.push(INTEGER)?;
     form.extend_from_slice(&value.to_be_bytes())?;
-    Ok(Some(&text[end..]))
-}
-
-/// How many digits stand at the front of a text.
-fn digits_len(text: &[u8]) -> usize
-    ensures { result ≤ length text.now }
-{
-    text.iter()
-        .position(|byte| *byte < b'0' || *byte > b'9')
-        .unwrap_or(text.len())
+    Ok(Some(rest))
 }
 
 /// What stands between the quotes at the front of a text, up to the next quote, and what stands behind that.
