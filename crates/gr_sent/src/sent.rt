@@ -7,10 +7,10 @@ ghost use Rattle.gr_frame.specs.Cut.{IsSent, AreFrames, parts_of};
 ghost use Rattle.gr_model.specs.World.{sent_line, sent_lines};
 ghost use Rattle.gr_sent.specs.Said.{frame_said};
 
+use crate::queue::Queue;
 use gr_frame::{Body, Frame, Frames, decode, encode_into};
 use gr_model::{Report, Reports};
 use std::alloc::{AllocError, Global};
-use std::collections::VecDeque;
 use std::marker::Model;
 
 /// Memory was refused.
@@ -71,7 +71,7 @@ fn line_of(number: u64, frame: Frame) -> Report
 #[derive(Drop)]
 pub struct Sent {
     frames: Frames,
-    said: VecDeque<Frame>,
+    said: Queue,
 }
 
 impl Model for Sent {
@@ -93,7 +93,7 @@ impl Sent {
     {
         Sent {
             frames: Frames::new(alloc),
-            said: VecDeque::new(alloc),
+            said: Queue::new(alloc),
         }
     }
 
@@ -138,12 +138,12 @@ impl Sent {
 
 /// Puts the line of each of these frames at the end of a list, where `first` frames were sent before. At want of memory
 /// some of them may stand there.
-fn put_lines(first: u64, said: &mut VecDeque<Frame>, lines: &mut Reports) -> Result<(), Memory>
+fn put_lines(first: u64, said: &mut Queue, lines: &mut Reports) -> Result<(), Memory>
     requires { first + length said.old.items < 2 ^ 64 }
     ensures { OnOk result (lines.new ≡ lines.old ++ sent_lines (suc first) said.old.items) }
 {
     let mut number = first;
-    'frames: while let Some(frame) = said.pop_front() {
+    'frames: while let Some(frame) = said.pop() {
         number += 1;
         lines.push(line_of(number, frame))?;
     }
@@ -156,7 +156,7 @@ fn put_frame(
     alloc: Global,
     frame: Frame,
     frames: &mut Frames,
-    said: &mut VecDeque<Frame>,
+    said: &mut Queue,
 ) -> Result<(), Memory>
     requires sent { IsSent frame.body }
     requires said { said.old.items ≡ map frame_said frames.old.frames }
@@ -170,25 +170,18 @@ fn put_frame(
         drop(frame);
         return read_from(alloc, frames, before, said);
     }
-    said.reserve(1)?;
-    said.push_back_reserved(frame);
+    said.push(frame)?;
     Ok(())
 }
 
 /// Puts what each frame from a place on says at the end of a list. At want of memory some of them may stand there.
-fn read_from(
-    alloc: Global,
-    frames: &Frames,
-    from: usize,
-    said: &mut VecDeque<Frame>,
-) -> Result<(), Memory>
+fn read_from(alloc: Global, frames: &Frames, from: usize, said: &mut Queue) -> Result<(), Memory>
     requires { from ≤ length frames.now.frames }
     ensures { OnOk result (said.new.items ≡ said.old.items ++ map frame_said (drop from frames.now.frames)) }
 {
     for i in from..frames.len() {
         let frame = frame_in(alloc, frames.frame(i))?;
-        said.reserve(1)?;
-        said.push_back_reserved(frame);
+        said.push(frame)?;
     }
     Ok(())
 }

@@ -1,13 +1,10 @@
 -- What is not cut says what it was made of
-use Rattle.std.proofs.Common.{◌≡◌, ◌+◌, ◌++◌, ◌∷◌, [], List, length, ap, ◌∙◌, arith}
-use Rattle.gr_frame.specs.declared.Frame.{Frame}
+use Rattle.std.proofs.Common.{◌≡◌, ◌+◌, length, arith}
 use Rattle.gr_sent.proofs.Telling.{said_one}
 use Rattle.gr_sent.proofs.sent.put_frame.Goals as goal
 
 pub returns-clause-said : goal.returns-clause-said
 returns-clause-said c =
     let one : length c.encode_into.new.into.frames ≡ length c.args.frames.now.frames + 1 = omega (arith, c.len.ensures, c.len-before.ensures, c.if-len-before-ne1.false) in
-    let pushed : c.push_back_reserved.new.self.items ≡ c.args.said.now.items ++ c.args.frame ∷ [] =
-    ◌∙◌ {A = List Frame} c.push_back_reserved.ensures.items (ap (λ (fs : List Frame). fs ++ c.args.frame ∷ []) c.reserve.ensures.items) in
-    said_one c.args.frame c.args.frames.now.frames c.encode_into.new.into.frames c.args.said.now.items c.push_back_reserved.new.self.items
-    c.requires.said c.in_ok-encode_into.ensures.cut c.in_ok-encode_into.ensures.spelled one pushed
+    said_one c.args.frame c.args.frames.now.frames c.encode_into.new.into.frames c.args.said.now.items c.push.new.self.items
+    c.requires.said c.in_ok-encode_into.ensures.cut c.in_ok-encode_into.ensures.spelled one c.in_ok-push.ensures.ok

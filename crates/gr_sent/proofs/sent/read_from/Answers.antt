@@ -1,11 +1,10 @@
 -- Each turn reads the next frame
-use Rattle.std.proofs.Common.{◌+◌, ◌++◌, ◌∷◌, [], List, ap, ◌∙◌, arith}
-use Rattle.gr_frame.specs.declared.Frame.{Frame}
+use Rattle.std.proofs.Common.{◌+◌, arith}
 use Rattle.gr_sent.proofs.Telling.{reads_more}
 use Rattle.gr_sent.proofs.sent.read_from.Goals as goal
 
 pub loop-i-preserved : goal.loop-i-preserved
 loop-i-preserved c =
-    reads_more c.args.frames.now.frames c.loop-i.i (c.loop-i.i + 1) c.frame.result.now c.in_ok-frame.frame c.loop-i.said.items c.push_back_reserved.new.self.items _
+    reads_more c.args.frames.now.frames c.loop-i.i (c.loop-i.i + 1) c.frame.result.now c.in_ok-frame.frame c.loop-i.said.items c.push.new.self.items _
     (omega arith) c.frame.ensures c.in_ok-frame.ensures
-    (c.push_back_reserved.ensures.items ∙ ap (λ (fs : List Frame). fs ++ c.in_ok-frame.frame ∷ []) c.reserve.ensures.items) c.loop-i.invariant
+    c.in_ok-push.ensures.ok c.loop-i.invariant
