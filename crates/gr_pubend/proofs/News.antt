@@ -77,8 +77,12 @@ silent_then_is first tick e v p q one le same e0 g = given_runs Q q (up_to_event
     either t (inr h) true w = absurd (false≢true (sym (within_above first (tick - 1) t (omega arith)) ∙ w))
 
 -- A piece that is learned, by what it is
-pub joined_with : (p q old new : Known) → p ≡ q → RunsGive Q new (λ t. join_K (known_at old t) (known_at p t)) → RunsGive Q new (λ t. join_K (known_at old t) (known_at q t))
-joined_with p q old new e g = record { canonical = g.canonical; in_range = g.in_range; values = λ t. g.values t ∙ ap (λ x. join_K (known_at old t) (known_at x t)) e }
+pub joined_with : (p q old room new : Known) → room ≡ old → p ≡ q → RunsGive Q new (λ t. join_K (known_at room t) (known_at p t)) → RunsGive Q new (λ t. join_K (known_at old t) (known_at q t))
+joined_with p q old room new s e g = record {
+  canonical = g.canonical;
+  in_range = g.in_range;
+  values = λ t. g.values t ∙ ap (λ x. join_K (known_at x t) (known_at p t)) s ∙ ap (λ x. join_K (known_at old t) (known_at x t)) e;
+}
 
 -- What is known with one more record
 

@@ -79,7 +79,8 @@ fn learn_event(
         OnOk result (RunsGive Q know.new.runs (λ t. join_K (known_at know.old.runs t) (known_at piece t))) }
 {
     let piece = fresh_event(alloc, first, tick, event)?;
-    let _ = know.learn(&piece)?;
+    make_room(know, &piece)?;
+    know.join(&piece);
     Ok(())
 }
 
@@ -126,6 +127,7 @@ pub fn known_by(alloc: Global, log: &Log) -> Result<Know, Memory>
     let events = log.events();
     let last = learn_events(alloc, &mut know, cut, events)?;
     let silence = fresh_silence(alloc, last + 1, settled)?;
-    let _ = know.learn(&silence)?;
+    make_room(&mut know, &silence)?;
+    know.join(&silence);
     Ok(know)
 }

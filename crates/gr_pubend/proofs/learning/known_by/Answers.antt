@@ -34,6 +34,6 @@ pub returns : goal.returns
 returns c =
     let rs = c.args.log.now.records in
     let each =
-    whole_known rs c.cut-cut.result c.in_ok-last.last c.settled-settled.result c.events-events.result.now c.learn_events.new.know.runs c.learn.new.self.runs
-    (opened rs c.is_broken.ensures.follow) c.cut-cut.ensures c.settled-settled.ensures c.events-events.ensures c.in_ok-last.ensures.last c.in_ok-last.ensures.known (joined_with c.in_ok-silence.silence _ c.learn_events.new.know.runs c.learn.new.self.runs c.in_ok-silence.ensures c.in_ok-learn.ensures.joined) in
-    record { known = known_by (log_of rs) c.learn.new.self.runs each; each = each }
+    whole_known rs c.cut-cut.result c.in_ok-last.last c.settled-settled.result c.events-events.result.now c.learn_events.new.know.runs c.join.new.self.runs
+    (opened rs c.is_broken.ensures.follow) c.cut-cut.ensures c.settled-settled.ensures c.events-events.ensures c.in_ok-last.ensures.last c.in_ok-last.ensures.known (joined_with c.in_ok-silence.silence _ c.learn_events.new.know.runs c.make_room.new.know.runs c.join.new.self.runs c.make_room.ensures.runs c.in_ok-silence.ensures c.join.ensures.joined) in
+    record { known = known_by (log_of rs) c.join.new.self.runs each; each = each }
