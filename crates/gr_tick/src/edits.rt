@@ -146,8 +146,8 @@ fn climb<V: Lattice>(runs: &Gap<Run<V>>, tick: u64, from: usize, upto: usize) ->
     bisect(runs, tick, low, upto)
 }
 
-/// Where the runs that end at a tick or later begin. The two newest are looked at first, then two where the last edit
-/// or search was, then the oldest, and then what is near that place.
+/// Where the runs that end at a tick or later begin: the number of runs where none does. The run of the last look or
+/// edit and its neighbours are looked at first.
 pub fn seek<V: Lattice>(runs: &Gap<Run<V>>, tick: u64) -> usize
     requires { AreTickRuns V.least runs.now.items }
     ensures within { result ≤ length runs.now.items }
@@ -158,36 +158,10 @@ pub fn seek<V: Lattice>(runs: &Gap<Run<V>>, tick: u64) -> usize
     if count == 0 {
         return 0;
     }
-    let newest = runs.get(count - 1);
-    if newest.last < tick {
-        return count;
-    }
-    if count == 1 {
-        return 0;
-    }
-    let second = runs.get(count - 2);
-    if second.last < tick {
-        return count - 1;
-    }
-    let place = seek_from(runs, tick, runs.near().min(count - 2));
-    runs.note(place);
-    place
-}
-
-/// The same, where the newest run but one does not end before the tick, from a place on.
-fn seek_from<V: Lattice>(runs: &Gap<Run<V>>, tick: u64, place: usize) -> usize
-    requires runs { AreTickRuns V.least runs.now.items }
-    requires within { place + 2 ≤ length runs.now.items }
-    requires here { (r : Run V) (rs : List (Run V)) →
-        drop (length runs.now.items - 2) runs.now.items ≡ r ∷ rs → tick ≤ r.last }
-    ensures within { result ≤ length runs.now.items }
-    ensures front { EndBefore (take result runs.now.items) tick }
-    ensures here { (r : Run V) (rs : List (Run V)) → drop result runs.now.items ≡ r ∷ rs → tick ≤ r.last }
-{
-    let second = runs.len() - 2;
+    let place = runs.near().min(count - 1);
     let near = runs.get(place);
     if near.last < tick {
-        return climb(runs, tick, place + 1, second);
+        return seek_behind(runs, tick, place + 1);
     }
     if place == 0 {
         return 0;
@@ -196,11 +170,52 @@ fn seek_from<V: Lattice>(runs: &Gap<Run<V>>, tick: u64, place: usize) -> usize
     if before.last < tick {
         return place;
     }
+    let found = seek_before(runs, tick, place - 1);
+    runs.note(found);
+    found
+}
+
+/// The same where the runs before a place end before the tick.
+fn seek_behind<V: Lattice>(runs: &Gap<Run<V>>, tick: u64, from: usize) -> usize
+    requires runs { AreTickRuns V.least runs.now.items }
+    requires within { from ≤ length runs.now.items }
+    requires front { EndBefore (take from runs.now.items) tick }
+    ensures within { result ≤ length runs.now.items }
+    ensures front { EndBefore (take result runs.now.items) tick }
+    ensures here { (r : Run V) (rs : List (Run V)) → drop result runs.now.items ≡ r ∷ rs → tick ≤ r.last }
+{
+    let count = runs.len();
+    if from == count {
+        return count;
+    }
+    let next = runs.get(from);
+    if tick <= next.last {
+        runs.note(from);
+        return from;
+    }
+    let newest = runs.get(count - 1);
+    if newest.last < tick {
+        return count;
+    }
+    let found = climb(runs, tick, from + 1, count - 1);
+    runs.note(found);
+    found
+}
+
+/// The same where the run at a place does not end before the tick.
+fn seek_before<V: Lattice>(runs: &Gap<Run<V>>, tick: u64, place: usize) -> usize
+    requires runs { AreTickRuns V.least runs.now.items }
+    requires within { place < length runs.now.items }
+    requires here { (r : Run V) (rs : List (Run V)) → drop place runs.now.items ≡ r ∷ rs → tick ≤ r.last }
+    ensures within { result ≤ length runs.now.items }
+    ensures front { EndBefore (take result runs.now.items) tick }
+    ensures here { (r : Run V) (rs : List (Run V)) → drop result runs.now.items ≡ r ∷ rs → tick ≤ r.last }
+{
     let oldest = runs.get(0);
     if tick <= oldest.last {
         return 0;
     }
-    gallop(runs, tick, place - 1)
+    gallop(runs, tick, place)
 }
 
 /// How many runs begin by a tick.
