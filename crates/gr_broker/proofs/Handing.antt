@@ -1,5 +1,5 @@
 -- What the code tells the subscribers at a broker, one by one and event by event, is what the machine's lines say.
-use Rattle.std.proofs.Common.{◌≡◌, ℕ, zero, suc, ◌<◌, Bool, true, false, nat_eq, List, [], ◌∷◌, ◌++◌, length, get_or, refl, sym, ap, ap₂, ◌∙◌, subst, arith}
+use Rattle.std.proofs.Common.{◌≡◌, ℕ, zero, suc, ◌<◌, true, nat_eq, List, [], ◌∷◌, ◌++◌, length, get_or, refl, sym, ap, ap₂, ◌∙◌, subst, arith}
 use Rattle.std.specs.Prelude.{flat_map}
 use Rattle.std.specs.List.{list_any}
 use Rattle.std.proofs.lemmas.Bool.{eq-eqb, ne_eqb, or_left, or_right}
@@ -10,10 +10,10 @@ use Rattle.gr_subend.specs.declared.delivery.Delivery.{Delivery}
 use Rattle.gr_subend.specs.Deliveries.{items}
 use Rattle.gr_topo.specs.Topology.{TopologyView, home_of, subscribers_of}
 use Rattle.gr_model.specs.declared.report.Report.{Report}
-use Rattle.gr_model.specs.Net.{Net, keeps_horizon}
+use Rattle.gr_model.specs.Net.{Net}
 use Rattle.gr_model.specs.NetOf.{net_of}
 use Rattle.gr_model.proofs.NetOf.{among}
-use Rattle.gr_model.specs.Broker.{horizon_after, data_ticks, delivery_lines}
+use Rattle.gr_model.specs.Broker.{data_ticks, delivery_lines}
 use Rattle.gr_broker.specs.Handed.{told_to, lines_to}
 
 -- The subscribers
@@ -54,15 +54,9 @@ pub none_told : (net : Net) (p b h to : ℕ) (know : Known) (old new : List Repo
 none_told net p b h to know old new e en =
     en ∙ sym (append-nil old) ∙ ap (λ xs. old ++ xs) (sym (none_each (delivery_lines net p h to (data_ticks h to know)) (net.subscribers_at b) (λ s. delivers_none net p h to (data_ticks h to know) s (sym e))))
 
-keeps_on : (keeps : Bool) (h to : ℕ) (know : Known) → (to ≡ h → ⊥) → to ≡ horizon_after keeps h know → to ≡ horizon_after true h know
-unfolding horizon_after
-keeps_on true h to know n e = e
-keeps_on false h to know n e = absurd (n e)
-
 -- else each subscriber here is told what the horizon passed
-pub some_told : (t : TopologyView) (p b h to : ℕ) (know : Known) (ds : List Delivery) (here : List ℕ) → (to ≡ h → ⊥) → to ≡ horizon_after (keeps_horizon (net_of t) p b) h know → items ds ≡ data_ticks h (horizon_after true h know) know → here ≡ subscribers_of t b
+pub some_told : (t : TopologyView) (p b h to : ℕ) (know : Known) (ds : List Delivery) (here : List ℕ) → (to ≡ h → ⊥) → items ds ≡ data_ticks h to know → here ≡ subscribers_of t b
     → flat_map (told_to t p to (items ds)) here ≡ lines_to (net_of t) p b h to know
-some_told t p b h to know ds here n e ei eh =
-    let passed : items ds ≡ data_ticks h to know = ei ∙ ap (λ x. data_ticks h x know) (sym (keeps_on (keeps_horizon (net_of t) p b) h to know n e)) in
+some_told t p b h to know ds here n passed eh =
     ap₂ (λ xs ss. flat_map (told_to t p to xs) ss) passed eh
     ∙ sym (same_each (delivery_lines (net_of t) p h to (data_ticks h to know)) (told_to t p to (data_ticks h to know)) (subscribers_of t b) (λ s. delivers_some t p h to (data_ticks h to know) s (λ q. n (sym q))))

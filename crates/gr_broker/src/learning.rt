@@ -110,6 +110,8 @@ fn deliver(
     requires site { IsSite site.now }
     requires to { to
         ≡ reached (net_of site.now.topo.now) site.now.publisher site.now.broker (held_view held.now) piece.now }
+    requires later { held.now.horizon ≤ to }
+    requires inside { to ≤ MAX_TICK }
     ensures { OnOk result (reports.new ≡ reports.old
         ++ lines_to (net_of site.now.topo.now) site.now.publisher site.now.broker held.now.horizon to
         (learned held.now.know.runs piece.now)) }
@@ -120,7 +122,7 @@ fn deliver(
     if to == held.horizon.horizon() {
         return Ok(());
     }
-    let deliveries = held.horizon.coming(site.alloc, &held.know, piece)?;
+    let deliveries = held.horizon.coming_upto(site.alloc, &held.know, piece, to)?;
     hand_over(site, deliveries.as_slice(), to, reports)
 }
 

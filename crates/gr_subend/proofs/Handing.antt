@@ -129,16 +129,16 @@ moves_with h k joined at g le known next =
     omega (arith, only)
 
 -- where it stays nothing is handed over
-pub none_coming : (h k : ℕ) (joined : Known) (at : ℕ → K) (ds : List Delivery) → ds ≡ [] → RunsGive Q joined at → h ≡ k → k ≡ horizon_after true h joined → items ds ≡ data_ticks h (horizon_after true h joined) joined
-none_coming h k joined at ds e g same m =
-    ap items e ∙ sym (no_ticks h joined g.canonical) ∙ ap (λ n. data_ticks h n joined) (same ∙ m)
+pub none_upto : (h k : ℕ) (joined : Known) (at : ℕ → K) (ds : List Delivery) → ds ≡ [] → RunsGive Q joined at → h ≡ k → items ds ≡ data_ticks h k joined
+none_upto h k joined at ds e g same =
+    ap items e ∙ sym (no_ticks h joined g.canonical) ∙ ap (λ n. data_ticks h n joined) same
 
 -- else the data ticks that it passes
-pub some_coming : (i h k : ℕ) (joined piece : Known) (at : ℕ → K) (ds : List Delivery) → i ≡ h → k ≤ 2 ^ 62 → RunsGive Q joined at → RunsGive Q piece (λ t. if within (i + 1) k t then at t else Q) → items ds ≡ data_ticks 0 (2 ^ 62) piece → k ≡ horizon_after true h joined → items ds ≡ data_ticks h (horizon_after true h joined) joined
-some_coming i h k joined piece at ds e le g p d m =
+pub some_upto : (i h k : ℕ) (joined piece : Known) (at : ℕ → K) (ds : List Delivery) → i ≡ h → k ≤ 2 ^ 62 → RunsGive Q joined at → RunsGive Q piece (λ t. if within (i + 1) k t then at t else Q) → items ds ≡ data_ticks 0 (2 ^ 62) piece → items ds ≡ data_ticks h k joined
+some_upto i h k joined piece at ds e le g p d =
     let q : RunsGive Q piece (λ t. if within (i + 1) k t then known_at joined t else Q) = record {
       canonical = p.canonical;
       in_range = p.in_range;
       values = λ t. p.values t ∙ ap (λ v. if within (i + 1) k t then v else Q) (sym (g.values t));
     } in
-    handed i h k joined piece ds e le g.canonical q d ∙ ap (λ n. data_ticks h n joined) m
+    handed i h k joined piece ds e le g.canonical q d

@@ -79,6 +79,25 @@ impl Subend {
         // Proof only: the horizon is a tick.
         let _ = self.horizon();
         let horizon = know.horizon_with(piece, self.horizon);
+        let deliveries = self.coming_upto(alloc, know, piece, horizon)?;
+        Ok(deliveries)
+    }
+
+    /// The events that a move of the horizon to a tick passes, once a piece is joined to what is known: for a caller that
+    /// knows that tick. It looks at the ticks that are passed and no others.
+    pub fn coming_upto(
+        &self,
+        alloc: Global,
+        know: &Know,
+        piece: &Piece<K>,
+        horizon: u64,
+    ) -> Result<Deliveries, Memory>
+        requires forward { self.now ≤ horizon }
+        requires inside { horizon ≤ MAX_TICK }
+        ensures { IfOk result (λ ds. (joined : Known)
+            → RunsGive Q joined (λ t. join_K (known_at know.now.runs t) (known_at piece.now t))
+            → items ds ≡ data_ticks self.now horizon joined) }
+    {
         if horizon == self.horizon {
             return Ok(Deliveries::new(alloc));
         }

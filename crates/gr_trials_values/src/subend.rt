@@ -89,3 +89,23 @@ fn tells_what_is_coming(rt: HostRuntime) -> Result<(), Fail> {
     assert_eq!(rt; end.horizon(), 3);
     Ok(())
 }
+
+/// Of a piece that goes further, only the ticks up to the one that is asked for come.
+#[test]
+fn tells_what_is_coming_up_to_a_tick(rt: HostRuntime) -> Result<(), Fail> {
+    let alloc = rt.alloc();
+    let event = Event::from_text(alloc, b"{\"price\":82}")?;
+    let know = Know::new(alloc);
+    let end = Subend::new();
+    let piece = piece_of(alloc, 1, 3, Some(&event))?;
+    assert_eq!(rt; end.coming_upto(alloc, &know, &piece, 0)?.len(), 0);
+    assert!(rt;
+        delivers(
+            &rt,
+            &end.coming_upto(alloc, &know, &piece, 2)?,
+            &[1, 2],
+            &event
+        )
+    );
+    Ok(())
+}

@@ -16,7 +16,7 @@ pub returns : goal.returns
 returns c =
     let told : flat_map (told_to c.args.site.now.topo.now c.args.site.now.publisher c.args.to (items c.as_slice.result.now)) c.args.site.now.here.now ≡ lines_to (net_of c.args.site.now.topo.now) c.args.site.now.publisher c.args.site.now.broker c.args.held.now.horizon c.args.to (learned c.args.held.now.know.runs c.args.piece.now) =
     some_told c.args.site.now.topo.now c.args.site.now.publisher c.args.site.now.broker c.args.held.now.horizon c.args.to (learned c.args.held.now.know.runs c.args.piece.now) c.as_slice.result.now c.args.site.now.here.now
-    (λ e. c.if-to-horizon.false (e ∙ sym c.horizon.ensures.horizon)) c.requires.to
+    (λ e. c.if-to-horizon.false (e ∙ sym c.horizon.ensures.horizon))
     (ap items c.as_slice.ensures ∙ c.in_ok-deliveries.ensures (learned c.args.held.now.know.runs c.args.piece.now) (joined_gives c.args.held.now.know.runs c.args.piece.now c.len.ensures.canonical c.len.ensures.in_range c.len-2.ensures.canonical c.len-2.ensures.in_range))
     c.requires.site.here in
     subst (λ (xs : List Report). OnOk c.hand_over.result (c.hand_over.new.reports ≡ c.args.reports.now ++ xs)) told c.hand_over.ensures
