@@ -1,5 +1,5 @@
 -- A run behind all others: it stands there, or makes the last one longer
-use Rattle.std.proofs.Common.{◌≡◌, ◌≢◌, ℕ, suc, ◌+◌, ◌-◌, ◌<◌, ◌≤◌, cond, List, [], ◌∷◌, ◌++◌, length, take, get_or, slice_set, arith, ap, sym, ◌∙◌, subst, append-nil, Result, Ok, Err, OnOk}
+use Rattle.std.proofs.Common.{◌≡◌, ◌≢◌, ℕ, suc, ◌+◌, ◌-◌, ◌<◌, ◌≤◌, cond, List, [], ◌∷◌, ◌++◌, length, take, drop, get_or, slice_set, insert, arith, ap, sym, ◌∙◌, subst, append-nil, Result, Ok, Err, OnOk}
 use Rattle.std.proofs.lemmas.List.{take_all, drop_all}
 use lib.Seq.{set_split}
 use Rattle.gr_tick.specs.declared.run.Run.{Run}
@@ -20,6 +20,10 @@ on_ok (Err e) f h = tt
 pub both_ok : {X E P Q R : Type 0} (r : Result X E) → (P → Q → R) → OnOk r P → OnOk r Q → OnOk r R
 both_ok (Ok x) f h k = f h k
 both_ok (Err e) f h k = tt
+
+pub at_end : {X : Type 0} (xs : List X) (n : ℕ) (x : X) → n ≡ length xs → insert xs n x ≡ xs ++ x ∷ []
+at_end xs n x e =
+    ap (λ ys. ys ++ x ∷ drop n xs) (ap (λ k. take k xs) e ∙ whole xs) ∙ ap (λ ys. xs ++ x ∷ ys) (drop_all n xs (omega arith))
 
 pub set_end : {X : Type 0} (xs : List X) (n : ℕ) (x : X) → n ≡ length xs → 0 < n → slice_set xs (n - 1) x ≡ take (length xs - 1) xs ++ x ∷ []
 set_end xs n x e some =

@@ -548,7 +548,7 @@ module _ {V : Type 0} where
   touches_later : (f l : ℕ) (r s : Run V) → s.last ≤ r.last → r.first ≤ f → f ≤ l → cond (touches f l s) 1 0 ≤ cond (touches f l r) 1 0
   touches_later f l r s b a le = grind (arith, nat_tests)
 
-  runs_in_past : (f l : ℕ) (xs : List (Run V)) → EndBefore xs f → runs_in f l xs ≤ 0
+  pub runs_in_past : (f l : ℕ) (xs : List (Run V)) → EndBefore xs f → runs_in f l xs ≤ 0
   runs_in_past f l [] h = omega arith
   runs_in_past f l (x ∷ xs) h = omega (arith, runs_in-cons f l x xs, touches_past f l x h.0, runs_in_past f l xs h.1)
 

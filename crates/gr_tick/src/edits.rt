@@ -312,6 +312,42 @@ fn absorb_after<V: Lattice>(runs: &mut Gap<Run<V>>, i: usize, run: Run<V>) -> Ru
     }
 }
 
+/// Puts a run behind all, as a part of the last one where the two form one run.
+fn put_end<V: Lattice>(runs: &mut Gap<Run<V>>, run: Run<V>)
+    requires room { 0 < runs.old.spare }
+    requires runs { AreTickRuns V.least runs.old.items }
+    requires past { EndBefore runs.old.items run.first }
+    requires alone { IsRun V.least run }
+    ensures runs { AreTickRuns V.least runs.new.items }
+    ensures values { (t : ℕ) → value_at V.least runs.new.items t
+        ≡ cond (is_in t run) run.value (value_at V.least runs.old.items t) }
+    ensures spare { runs.old.spare ≤ runs.new.spare + 1 }
+{
+    let end = runs.len();
+    if end == 0 {
+        runs.insert(end, run);
+        return;
+    }
+    let before = runs.get(end - 1);
+    if before.last + 1 != run.first {
+        runs.insert(end, run);
+        return;
+    }
+    if !before.value.same(&run.value) {
+        runs.insert(end, run);
+        return;
+    }
+    let first = before.first;
+    runs.replace(
+        end - 1,
+        Run {
+            first,
+            last: run.last,
+            value: run.value,
+        },
+    );
+}
+
 /// Puts a run into the gap before a place.
 pub fn put_run<V: Lattice>(runs: &mut Gap<Run<V>>, i: usize, run: Run<V>)
     requires within { i ≤ length runs.old.items }
@@ -331,6 +367,10 @@ pub fn put_run<V: Lattice>(runs: &mut Gap<Run<V>>, i: usize, run: Run<V>)
         runs_in f l runs.new.items ≤ runs_in f l (drop i runs.old.items) }
     ensures spare { runs.old.spare ≤ runs.new.spare + 1 }
 {
+    if i == runs.len() {
+        put_end(runs, run);
+        return;
+    }
     let (place, longer) = absorb_before(runs, i, run);
     let longest = absorb_after(runs, place, longer);
     runs.insert(place, longest);
