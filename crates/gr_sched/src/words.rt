@@ -47,13 +47,15 @@ pub fn after_word(text: &[u8]) -> &[u8]
 }
 
 /// The next word of line `line`, and what follows it.
+#[tactic(auto, using(crate::proofs::Pieces::place_within))]
 pub fn next_word(line: u32, text: &[u8]) -> Result<(&[u8], &[u8]), StepFault>
     ensures { Gives (λ r. (r.0.now, r.1.now)) result (next_word line text.now) }
 {
     if text.is_empty() {
         return Err(StepFault::BadWord { line });
     }
-    Ok((first_word(text), after_word(text)))
+    let end = word_len(text);
+    Ok((&text[..end], without_gaps(&text[end..])))
 }
 
 /// Whether each byte is a digit.
