@@ -44,7 +44,7 @@ abbrev pub topology_line : TopoFault → List ℕ
 topology_line why =
     codes "topology " ++ (decimal (topology_number why) ++ (codes " " ++ (topology_word why ++ refused_thing why)))
 
--- the line of a step's fault. That there are too many steps is said before any is read
+-- the line of a step's fault. That there are too many steps is said before any other
 abbrev pub step_line : StepFault → List ℕ
 step_line step.Memory = []
 step_line (step.BadWord line) = codes "step 1 bad-word line " ++ decimal line

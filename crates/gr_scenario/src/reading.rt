@@ -1,8 +1,10 @@
 //! Reading what the bytes of a source ask.
 
-ghost use Rattle.std.specs.Prelude.{◌≡◌, ◌≤◌, length, IfOk, IfErr};
+ghost use Rattle.std.specs.Prelude.{◌≡◌, ◌≤◌, nat_lt, if◌then◌else◌, length, IfOk, IfErr};
+ghost use Rattle.gr_sched.specs.declared.step.TheConstants.{MAX_BYTES, MAX_STEPS};
 ghost use Rattle.gr_sched.specs.Text.{counted_lines};
 ghost use Rattle.gr_topo.specs.Read.{topology_text};
+ghost use Rattle.gr_scenario.specs.declared.asked.Asked.TheVariants.{TooManySteps};
 ghost use Rattle.gr_scenario.specs.Scenario.{asked_of_parts, asked_by, IsScenario, IsTooLarge};
 
 use crate::asked::Asked;
@@ -12,8 +14,8 @@ use gr_sched::{MAX_BYTES, MAX_STEPS, count, parse, split};
 use gr_topo::Topology;
 use std::alloc::{AllocError, Global};
 
-/// Reads the bytes of a source: first how many bytes and how many steps there are, then the topology, then the steps.
-/// That there are too many of either is answered without memory.
+/// Reads the bytes of a source. That there are too many bytes comes first, then that there are too many steps, then
+/// what is wrong with the topology, and then what is wrong with a step. Want of memory hides neither size.
 pub fn read(alloc: Global, bytes: &[u8]) -> Result<Asked, AllocError>
     ensures asked { IfOk result (λ asked. asked ≡ asked_by bytes.now) }
     ensures ready { IfOk result IsScenario }
@@ -23,36 +25,45 @@ pub fn read(alloc: Global, bytes: &[u8]) -> Result<Asked, AllocError>
         return Ok(Asked::TooManyBytes);
     }
     let (front, back) = split(bytes);
-    if count(back) > MAX_STEPS {
-        return Ok(Asked::TooManySteps);
-    }
     read_parts(alloc, front, back)
+}
+
+/// Whether there are more steps than a schedule may have. It is asked only where reading ends with a fault, so that
+/// where all is well each line is walked once.
+fn has_too_many_steps(back: &[u8]) -> bool
+    ensures { result ≡ nat_lt MAX_STEPS (length (counted_lines back.now)) }
+{
+    count(back) > MAX_STEPS
 }
 
 /// Reads the two parts of a scenario: the topology, and then the steps with its names.
 fn read_parts(alloc: Global, front: &[u8], back: &[u8]) -> Result<Asked, AllocError>
-    requires short { length back.now ≤ MAX_BYTES }
-    requires few { length (counted_lines back.now) ≤ MAX_STEPS }
-    ensures asked { IfOk result (λ asked. asked ≡ asked_of_parts (topology_text front.now) back.now) }
+    requires { length back.now ≤ MAX_BYTES }
+    ensures asked { let many = nat_lt MAX_STEPS (length (counted_lines back.now)) in IfOk result (λ asked.
+        asked ≡ if many then TooManySteps else asked_of_parts (topology_text front.now) back.now) }
     ensures ready { IfOk result IsScenario }
+    ensures few { IfErr result (λ refused. length (counted_lines back.now) ≤ MAX_STEPS) }
 {
     match Topology::read(alloc, front) {
         Ok(topology) => read_steps(alloc, topology, back),
+        Err(_) if has_too_many_steps(back) => Ok(Asked::TooManySteps),
         Err(fault) => Ok(Asked::Refused(line_of_topology(alloc, &fault)?)),
     }
 }
 
 /// Reads the steps with the names of a topology.
 fn read_steps(alloc: Global, topology: Topology, back: &[u8]) -> Result<Asked, AllocError>
-    requires short { length back.now ≤ MAX_BYTES }
-    requires few { length (counted_lines back.now) ≤ MAX_STEPS }
-    ensures asked { IfOk result (λ asked. asked ≡ asked_of_parts (Ok topology) back.now) }
+    requires { length back.now ≤ MAX_BYTES }
+    ensures asked { let many = nat_lt MAX_STEPS (length (counted_lines back.now)) in IfOk result (λ asked.
+        asked ≡ if many then TooManySteps else asked_of_parts (Ok topology) back.now) }
     ensures ready { IfOk result IsScenario }
+    ensures few { IfErr result (λ refused. length (counted_lines back.now) ≤ MAX_STEPS) }
 {
     // Proof only: the steps that are read are steps of the topology.
     steps_that_are_read();
     match parse(alloc, back, &topology) {
         Ok(steps) => Ok(Asked::Scenario { topology, steps }),
+        Err(_) if has_too_many_steps(back) => Ok(Asked::TooManySteps),
         Err(fault) => Ok(Asked::Refused(line_of_step(alloc, fault)?)),
     }
 }

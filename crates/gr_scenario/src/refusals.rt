@@ -74,7 +74,7 @@ fn shown_byte(byte: u8) -> u8
 }
 
 /// The line of a step's fault, as `step 1 bad-word line 7`. Want of memory has none, and that there are too many steps
-/// was answered before any was read.
+/// is answered before.
 pub fn line_of_step(alloc: Global, fault: StepFault) -> Result<Text, AllocError>
     requires { (line : ℕ) → fault ≢ StepFault.TooMany line }
     ensures line { IfOk result (λ text. text ≡ step_line fault) }

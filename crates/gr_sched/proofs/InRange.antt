@@ -19,7 +19,7 @@ use Rattle.gr_sched.specs.declared.step.Line.{Line}
 use Rattle.gr_sched.specs.declared.verb.Verb.{Verb}
 use Rattle.gr_sched.specs.declared.verb.Verb.TheVariants as verb
 use Rattle.gr_sched.specs.Words.{◌>>=◌, Gives, trimmed, first_word, after_word, next_word, ended, known, is_number, value_after, number_in, next_number}
-use Rattle.gr_sched.specs.Grammar.{verb_of, next_name, after_pick, stop_of, next_stop, event_or_fault, event_of, publish_of, step_by, step_of, lines_of}
+use Rattle.gr_sched.specs.Grammar.{verb_of, next_name, after_pick, stop_of, next_stop, event_or_fault, event_of, publish_of, step_by, step_of, lines_of, limited}
 use Rattle.gr_sched.specs.Ranges.{IsNamed, IsStop, IsStep, IsInLimits, IsFault, Holds}
 use Rattle.gr_sched.proofs.EventFaults.{NotMemory, texts}
 
@@ -153,7 +153,8 @@ gives_holds P (Err (fault.BadNumber line)) read e h = tt
 gives_holds P (Err (fault.BadEvent line f)) read e h = subst (Holds P) e h
 gives_holds P (Err (fault.TooMany line)) read e h = subst (Holds P) e h
 
-few_counted : (counted : List (ℕ × List ℕ)) (n : ℕ) → None ≡ option_map (λ c. c.0) (slice_get counted n) → length counted ≤ n
+-- where there is no line past the limit, there are no more lines than the limit
+pub few_counted : (counted : List (ℕ × List ℕ)) (n : ℕ) → None ≡ option_map (λ c. c.0) (slice_get counted n) → length counted ≤ n
 few_counted counted n e = elim (slice_get_cases counted n).1 [ inl h ↦ absurd (let k : None ≡ Some h.0.0 = e ∙ ap (option_map (λ c. c.0)) h.2 in cc) | inr h ↦ h.0 ]
 
 -- in a list that is read each step is in range, and there are no more than counted lines
@@ -210,6 +211,10 @@ read_cause broker_of publisher_of counted n r e = part r (gives_holds _ r _ e (a
 -- a line past the limit is one of more lines than the limit
 pub many_counted : (counted : List (ℕ × List ℕ)) (n line : ℕ) → Some line ≡ option_map (λ c. c.0) (slice_get counted n) → n < length counted
 many_counted counted n line e = elim (slice_get_cases counted n).1 [ inl h ↦ h.1 | inr h ↦ absurd (let k : Some line ≡ None = e ∙ ap (option_map (λ c. c.0)) h.1 in cc) ]
+
+-- with no more lines than the limit all depends on what reading gives
+pub within_limit : (counted : List (ℕ × List ℕ)) (n : ℕ) (read : Result (List Line) StepFault) → length counted ≤ n → limited (slice_get counted n) read ≡ read
+within_limit counted n read few = elim (slice_get_cases counted n).1 [ inl h ↦ absurd (omega (arith, h.1, few)) | inr h ↦ ap (λ o. limited o read) h.1 ]
 
 -- with no more lines than the limit there are not too many
 pub not_many : (n : ℕ) (r : Result (List Line) StepFault) → IfErr r (IsFault n) → n ≤ MAX_STEPS → (line : ℕ) → r ≡ Err (fault.TooMany line) → ⊥

@@ -1,3 +1,4 @@
+pub mod Begins
 pub mod Pieces
 pub mod Firsts
 pub mod Digits
@@ -6,3 +7,4 @@ pub mod EventFaults
 pub mod Faults
 pub mod InRange
 pub mod ReadsBack
+pub mod Spelled

@@ -1,12 +1,13 @@
 //! From lines to steps.
 
 ghost use Rattle.std.specs.Prelude.{◌≡◌, ◌≢◌, Err, ℕ, ◌+◌, ◌-◌, ◌<◌, ◌≤◌, ◌^◌, IfSome, IfOk, IfErr, length};
+ghost use Rattle.std.specs.Prelude.{bytes_eq, codes};
 ghost use Rattle.std.specs.List.{All, AllByRecursion, slice_get};
 ghost use Rattle.std.specs.Option.{option_map};
 ghost use Rattle.gr_sched.specs.declared.step.TheConstants.{MAX_BYTES, MAX_STEPS};
 ghost use Rattle.gr_sched.specs.declared.fault.StepFault.TheVariants.{TooMany};
 ghost use Rattle.gr_sched.specs.Text.{counted_lines};
-ghost use Rattle.gr_sched.specs.Words.{Gives, ended, known, next_word};
+ghost use Rattle.gr_sched.specs.Words.{Gives, ended, first_word, known, next_word};
 ghost use Rattle.gr_sched.specs.Ranges.{IsStep, IsInLimits, IsFault};
 ghost use Rattle.gr_event.specs.Limits.{IsEvent};
 ghost use Rattle.gr_sched.specs.Grammar.{next_name, after_pick, stop_of, next_stop, event_of, publish_of, step_by};
@@ -83,11 +84,22 @@ fn stop_of(line: u32, text: &[u8]) -> Result<(Stop, &[u8]), StepFault>
     Ok((Stop { call, pick }, rest))
 }
 
+/// Whether the next word is `stop`. An event, which begins otherwise, is not looked through for its first word's end.
+#[tactic(auto, using(crate::proofs::Begins::begins_otherwise))]
+fn is_stop_next(text: &[u8]) -> bool
+    ensures { result ≡ bytes_eq (first_word text.now) (codes "stop") }
+{
+    match text {
+        [b's', ..] => first_word(text) == b"stop".as_slice(),
+        _ => false,
+    }
+}
+
 /// A stop of line `line` where the next word is `stop`, else none, and what follows it.
 fn next_stop(line: u32, text: &[u8]) -> Result<(Option<Stop>, &[u8]), StepFault>
     ensures { Gives (λ r. (r.0, r.1.now)) result (next_stop line text.now) }
 {
-    if first_word(text) == b"stop".as_slice() {
+    if is_stop_next(text) {
         let (stop, rest) = stop_of(line, after_word(text))?;
         return Ok((Some(stop), rest));
     }
@@ -197,11 +209,12 @@ fn past_limit(steps: &[u8]) -> Option<u64>
     None
 }
 
-/// The steps of the counted lines.
+/// The steps of the counted lines. Reading ends at the first line past the limit at the latest.
 fn read_lines<N: Names>(alloc: Global, steps: &[u8], names: &N) -> Result<Steps, StepFault>
     requires { length steps.now ≤ MAX_BYTES }
-    ensures gives { let counted = counted_lines steps.now in
-        Gives (λ s. s) result (lines_of (N.broker_of names.now) (N.publisher_of names.now) counted) }
+    ensures gives { let counted = counted_lines steps.now in length counted ≤ MAX_STEPS
+        → Gives (λ s. s) result (lines_of (N.broker_of names.now) (N.publisher_of names.now) counted) }
+    ensures few { IfOk result (λ _. length (counted_lines steps.now) ≤ MAX_STEPS) }
     ensures limits { IfOk result (λ s. AllByRecursion (λ line. IsInLimits line.step) s) }
 {
     let mut found = Steps::new(alloc);
@@ -209,6 +222,9 @@ fn read_lines<N: Names>(alloc: Global, steps: &[u8], names: &N) -> Result<Steps,
     let mut rest = steps;
     'lines: while let Some(counted) = next_counted(before, rest) {
         let number = counted.number as u32;
+        if found.len() as u64 == MAX_STEPS {
+            return Err(StepFault::TooMany { line: number });
+        }
         match step_of(alloc, number, counted.line, names) {
             Ok(step) => found.push(Line { number, step })?,
             Err(fault) => return Err(fault),
@@ -221,7 +237,8 @@ fn read_lines<N: Names>(alloc: Global, steps: &[u8], names: &N) -> Result<Steps,
 
 /// The steps of a schedule, or its first fault in reading order, word by word.
 ///
-/// `TooMany` comes exactly where `count` is above `MAX_STEPS`, and is tested before any line is read as a step.
+/// `TooMany` comes exactly where `count` is above `MAX_STEPS`, before any other fault. That is looked for only where
+/// reading ends with a fault, so that where all is well each line is walked once.
 pub fn parse<N: Names>(alloc: Global, steps: &[u8], names: &N) -> Result<Steps, StepFault>
     requires { length steps.now ≤ MAX_BYTES }
     ensures steps { Gives (λ s. s) result (steps_of (N.broker_of names.now) (N.publisher_of names.now) steps.now) }
@@ -235,10 +252,13 @@ pub fn parse<N: Names>(alloc: Global, steps: &[u8], names: &N) -> Result<Steps, 
     // With no more counted lines than the limit there are not too many.
     ensures not_many { length (counted_lines steps.now) ≤ MAX_STEPS → (n : ℕ) → result ≢ Err (TooMany n) }
 {
-    match past_limit(steps) {
-        Some(number) => Err(StepFault::TooMany {
-            line: number as u32,
-        }),
-        None => read_lines(alloc, steps, names),
+    match read_lines(alloc, steps, names) {
+        Ok(found) => Ok(found),
+        Err(fault) => match past_limit(steps) {
+            Some(number) => Err(StepFault::TooMany {
+                line: number as u32,
+            }),
+            None => Err(fault),
+        },
     }
 }

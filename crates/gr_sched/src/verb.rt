@@ -28,23 +28,15 @@ pub enum Verb {
 pub fn verb_of(word: &[u8]) -> Option<Verb>
     ensures { result ≡ verb_of word.now }
 {
-    if word == b"clock".as_slice() {
-        Some(Verb::Clock)
-    } else if word == b"publish".as_slice() {
-        Some(Verb::Publish)
-    } else if word == b"wake".as_slice() {
-        Some(Verb::Wake)
-    } else if word == b"deliver".as_slice() {
-        Some(Verb::Deliver)
-    } else if word == b"crash".as_slice() {
-        Some(Verb::Crash)
-    } else if word == b"sweep".as_slice() {
-        Some(Verb::Sweep)
-    } else if word == b"show".as_slice() {
-        Some(Verb::Show)
-    } else if word == b"bytes".as_slice() {
-        Some(Verb::Bytes)
-    } else {
-        None
+    match word {
+        b"clock" => Some(Verb::Clock),
+        b"publish" => Some(Verb::Publish),
+        b"wake" => Some(Verb::Wake),
+        b"deliver" => Some(Verb::Deliver),
+        b"crash" => Some(Verb::Crash),
+        b"sweep" => Some(Verb::Sweep),
+        b"show" => Some(Verb::Show),
+        b"bytes" => Some(Verb::Bytes),
+        _ => None,
     }
 }

@@ -1,9 +1,9 @@
 //! The words of a line and its numbers. Nothing here takes memory.
 
-ghost use Rattle.std.specs.Prelude.{◌≡◌, ℕ, ◌+◌, ◌-◌, ◌*◌, ◌<◌, ◌≤◌, ◌^◌, IfOk, true, length, drop, take};
-ghost use Rattle.std.specs.List.{list_all};
+ghost use Rattle.std.specs.Prelude.{◌≡◌, ℕ, ◌+◌, ◌-◌, ◌*◌, ◌<◌, ◌≤◌, ◌^◌, IfOk, length, drop, take};
+ghost use Rattle.std.specs.Prelude.{if◌then◌else◌, Some, None};
 ghost use Rattle.gr_sched.specs.Words.{Gives, trimmed, trimmed_end, first_word, after_word, next_word, ended, known};
-ghost use Rattle.gr_sched.specs.Words.{is_digit, is_number, value_after, is_number_in, number_in, next_number};
+ghost use Rattle.gr_sched.specs.Words.{is_number, value_after, is_number_in, number_in, next_number};
 
 use crate::fault::StepFault;
 use crate::text::{is_gap, without_gaps, word_len};
@@ -58,42 +58,34 @@ pub fn next_word(line: u32, text: &[u8]) -> Result<(&[u8], &[u8]), StepFault>
     Ok((&text[..end], without_gaps(&text[end..])))
 }
 
-/// Whether each byte is a digit.
-fn has_only_digits(word: &[u8]) -> bool
-    ensures { result ≡ list_all is_digit word.now }
+/// The value of a word of 1 to 19 digits, or None where it is no such word.
+fn value(word: &[u8]) -> Option<u64>
+    ensures { result ≡ if is_number word.now then Some (value_after 0 word.now) else None }
 {
-    word.iter().all(|byte| *byte >= b'0' && *byte <= b'9')
-}
-
-/// Whether a word is 1 to 19 digits.
-fn is_number(word: &[u8]) -> bool
-    ensures { result ≡ is_number word.now }
-{
-    !word.is_empty() && word.len() <= 19 && has_only_digits(word)
-}
-
-/// The value of at most 19 digits.
-fn value(digits: &[u8]) -> u64
-    requires short { length digits.now ≤ 19 }
-    requires digits { list_all is_digit digits.now ≡ true }
-    ensures { result ≡ value_after 0 digits.now }
-{
-    let mut value = 0u64;
-    for digit in digits {
-        value = value * 10 + u64::from(*digit - b'0');
+    if word.is_empty() || word.len() > 19 {
+        return None;
     }
-    value
+    let mut value = 0u64;
+    'digits: for byte in word {
+        if !byte.is_ascii_digit() {
+            return None;
+        }
+        value = value * 10 + u64::from(*byte - b'0');
+    }
+    Some(value)
 }
 
 /// Whether a word is a number of at most so many digits, from `low` to `high`.
 pub fn is_number_in(digits: usize, low: u64, high: u64, word: &[u8]) -> bool
     ensures { result ≡ is_number_in digits low high word.now }
 {
-    if word.len() > digits || !is_number(word) {
+    if word.len() > digits {
         return false;
     }
-    let number = value(word);
-    low <= number && number <= high
+    match value(word) {
+        Some(number) => low <= number && number <= high,
+        None => false,
+    }
 }
 
 /// A word of line `line` as a number from `low` to `high`.
@@ -101,13 +93,10 @@ fn number_in(line: u32, low: u64, high: u64, word: &[u8]) -> Result<u64, StepFau
     ensures gives { Gives (λ n. n) result (number_in line low high word.now) }
     ensures range { IfOk result (λ n. n ≤ high) }
 {
-    if is_number(word) {
-        let number = value(word);
-        if low <= number && number <= high {
-            return Ok(number);
-        }
+    match value(word) {
+        Some(number) if low <= number && number <= high => Ok(number),
+        _ => Err(StepFault::BadNumber { line }),
     }
-    Err(StepFault::BadNumber { line })
 }
 
 /// The next word of line `line` as a number from `low` to `high`, and what follows it.
