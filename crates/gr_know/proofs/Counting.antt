@@ -320,3 +320,47 @@ count_finished old new first last one le upto a b g =
 
     final : events_from (known_at new) first (suc last - first) ≡ 0
     final = events_steady (known_at new) F (suc last - first) first (λ t lo hi. g.values t ∙ cond-true (within first last t) F (known_at old t) (and_from (nat_le first t) (nat_le t last) (le-leb first t lo) (le-leb t last (omega (arith, hi, le)))))
+
+-- A piece past all that is known
+
+unknown_none : (at : ℕ → K) (ps : Known) (f : ℕ) → AreRunsFrom Q f ps → ((t : ℕ) → f ≤ t → at t ≡ Q) → events_at at ps ≡ 0
+unknown_none at [] f a h = refl
+unknown_none at (r ∷ rs) f a h =
+    let here : events_from at r.first (suc r.last - r.first) ≡ 0 = events_unknown at (suc r.last - r.first) r.first (λ t lo hi. h t (omega (arith, lo, a.0))) in
+    omega (arith, here, unknown_none at rs (suc r.last) a.4 (λ t lo. h t (omega (arith, lo, a.0, a.1))))
+
+-- what a piece says of its own ticks is what its runs count
+own_count : (at : ℕ → K) (ps : Known) (f : ℕ) → AreRunsFrom Q f ps → ((t : ℕ) → f ≤ t → at t ≡ known_at ps t) → events_at at ps ≡ data_count ps
+own_count at [] f a h = refl
+own_count at (r ∷ rs) f a h =
+    let here : events_from at r.first (suc r.last - r.first) ≡ data_of r = events_steady at r.value (suc r.last - r.first) r.first (λ t lo hi. h t (omega (arith, lo, a.0)) ∙ value_at-in Q r rs t lo (omega (arith, hi, a.1))) in
+    omega (arith, here, own_count at rs (suc r.last) a.4 (λ t lo. h t (omega (arith, lo, a.0, a.1)) ∙ value_at-above Q r rs t lo))
+
+join_known : (k j : K) → k ≡ Q → join_K k j ≡ j
+join_known k j e = ap (λ x. join_K x j) e
+
+pub count_past : (old new ps : Known) (f : ℕ) → AreRuns Q old → EndBefore old (2 ^ 62 + 1) → AreRuns Q ps → EndBefore ps (2 ^ 62 + 1) → RunsGive Q new (λ t. join_K (known_at old t) (known_at ps t)) → AreRunsFrom Q f ps → ((t : ℕ) → f ≤ t → known_at old t ≡ Q) → data_count old + data_count ps ≡ data_count new
+count_past old new ps f a b p q g from h =
+    omega (
+      arith,
+      count_joined old new ps a b p q g,
+      unknown_none (known_at old) ps f from h,
+      own_count (known_at new) ps f from (λ t lo. g.values t ∙ join_known (known_at old t) (known_at ps t) (h t lo)),
+    )
+
+data_count-append : (xs ys : Known) → data_count (xs ++ ys) ≡ data_count xs + data_count ys
+data_count-append [] ys = omega arith
+data_count-append (x ∷ xs) ys = omega (arith, data_count-append xs ys)
+
+-- one run more is counted by itself
+pub own_more : (ps : Known) (i : ℕ) (r : Run K) → i < length ps → r ≡ get_or ps i r → data_count (take (i + 1) ps) ≡ data_count (take i ps) + events_shared r r.first r.last
+own_more ps i r lt e =
+    let one : data_count (r ∷ []) ≡ data_of r + 0 = refl in
+    let n : suc (min r.last r.last) - max r.first r.first ≡ suc r.last - r.first = omega arith in
+    let own : events_shared r r.first r.last ≡ data_of r = ap (λ k. if is_D r.value then k else 0) n in
+    omega (arith, ap data_count (take_at_read ps i r lt e), data_count-append (take i ps) (r ∷ []), one, own)
+
+pub own_fits : (ps : Known) (i : ℕ) → AreTickRuns Q ps → data_count (take i ps) ≤ 2 ^ 62
+own_fits ps i h =
+    let k : AreTickRuns Q (take i ps) = AreTickRuns-take Q ps i h in
+    count_fits (take i ps) (AreRuns-in_range Q (take i ps) k) (EndBefore-in_range Q (take i ps) k)

@@ -1,11 +1,11 @@
 //! How many ticks have an event.
 //! Each edit below answers how many have one after it, and looks at no run that it does not touch.
-ghost use Rattle.std.specs.Prelude.{if◌then◌else◌, ◌≡◌, ℕ, suc, ◌-◌, ◌+◌, ◌<◌, ◌≤◌, length};
+ghost use Rattle.std.specs.Prelude.{if◌then◌else◌, ◌≡◌, ℕ, suc, ◌-◌, ◌+◌, ◌<◌, ◌≤◌, length, IsTrue};
 ghost use Rattle.gr_tick.specs.declared.TheConstants.{MAX_TICK};
 ghost use Rattle.gr_tick.specs.Stored.{within, IsRun, RunsGive, needed, is_told};
 ghost use Rattle.gr_know.specs.Values.{known_at, is_D, join_K};
 ghost use Rattle.gr_know.specs.Forget.{data_count};
-ghost use Rattle.gr_know.specs.Events.{events_from, events_at, events_shared};
+ghost use Rattle.gr_know.specs.Events.{events_from, events_at, events_shared, IsPast};
 ghost use Rattle.gr_know.specs.declared.values.K.TheVariants.{Q, F};
 
 use crate::values::K;
@@ -67,6 +67,46 @@ pub(crate) fn events_at(stream: &Stream<K>, piece: &Piece<K>) -> u64
     count
 }
 
+/// How many ticks of a piece have an event in the piece itself.
+fn events_of(piece: &Piece<K>) -> u64
+    ensures { result ≡ data_count piece.now }
+{
+    let mut count = 0u64;
+    for i in 0..piece.len() {
+        let run = piece.run(i);
+        count += events_shared(run, run.first, run.last);
+    }
+    count
+}
+
+/// Whether a piece begins past all that is known.
+fn is_past(stream: &Stream<K>, piece: &Piece<K>) -> bool
+    ensures { IsTrue result → IsPast stream.now.runs piece.now }
+{
+    // Proof only: the runs are canonical.
+    let _ = piece.len();
+    if piece.is_empty() {
+        return false;
+    }
+    stream.top() < piece.run(0).first
+}
+
+/// Joins a piece that begins past all that is known, where the room for it is there.
+fn join_past(stream: &mut Stream<K>, piece: &Piece<K>, events: u64) -> u64
+    requires past { IsPast stream.old.runs piece.now }
+    requires room { needed stream.old.runs piece.now ≤ stream.old.spare }
+    requires counted { events ≡ data_count stream.old.runs }
+    ensures joined { RunsGive Q stream.new.runs (λ t. join_K (known_at stream.old.runs t) (known_at piece.now t)) }
+    ensures spare { stream.old.spare ≤ stream.new.spare + needed stream.old.runs piece.now }
+    ensures counted { result ≡ data_count stream.new.runs }
+{
+    // Proof only: the runs are canonical.
+    let _ = stream.len();
+    let _ = piece.len();
+    stream.join_ready(piece);
+    events + events_of(piece)
+}
+
 /// Joins a piece, where the room for it is there.
 pub(crate) fn join_counted(stream: &mut Stream<K>, piece: &Piece<K>, events: u64) -> u64
     requires room { needed stream.old.runs piece.now ≤ stream.old.spare }
@@ -75,6 +115,9 @@ pub(crate) fn join_counted(stream: &mut Stream<K>, piece: &Piece<K>, events: u64
     ensures spare { stream.old.spare ≤ stream.new.spare + needed stream.old.runs piece.now }
     ensures counted { result ≡ data_count stream.new.runs }
 {
+    if is_past(stream, piece) {
+        return join_past(stream, piece, events);
+    }
     // Proof only: the runs are canonical.
     let _ = stream.len();
     let _ = piece.len();

@@ -1,9 +1,7 @@
-use Rattle.std.proofs.Common.{◌≡◌, ap, ◌∙◌}
+use Rattle.std.proofs.Common.{ap, ◌∙◌}
 use Rattle.std.proofs.lemmas.Result.{IfOk-weaker}
-use Rattle.gr_tick.specs.Runs.{value_at}
 use Rattle.gr_tick.specs.Stored.{within}
 use Rattle.gr_know.specs.Values.{known_at, join_K}
-use Rattle.gr_know.specs.declared.values.K.TheVariants.{Q}
 use Rattle.gr_know.proofs.Walks.{joined_at}
 use Rattle.gr_know.proofs.news.joined_piece.Goals as goal
 
