@@ -96,8 +96,11 @@ fn bisect<V: Lattice>(runs: &Gap<Run<V>>, tick: u64, from: usize, upto: usize) -
     low
 }
 
+/// How many times as long as the one before each step of a search is that begins near what is looked for.
+const FARTHER: usize = 8;
+
 /// Where the runs that end at a tick or later begin, where the one at a place does. It is looked for from there on
-/// towards the first, each step twice as long as the one before: what is near is found at once.
+/// towards the first, each step longer than the one before: what is near is found at once.
 fn gallop<V: Lattice>(runs: &Gap<Run<V>>, tick: u64, last: usize) -> usize
     requires runs { AreTickRuns V.least runs.now.items }
     requires within { last ≤ length runs.now.items }
@@ -115,13 +118,13 @@ fn gallop<V: Lattice>(runs: &Gap<Run<V>>, tick: u64, last: usize) -> usize
             return bisect(runs, tick, place + 1, high);
         }
         high = place;
-        step = step.saturating_mul(2);
+        step = step.saturating_mul(FARTHER);
     }
     bisect(runs, tick, 0, high)
 }
 
 /// Where the runs that end at a tick or later begin, where those before a place end before the tick and the one at
-/// another does not. It is looked for from the first place on, each step twice as long as the one before.
+/// another does not. It is looked for from the first place on, each step longer than the one before.
 fn climb<V: Lattice>(runs: &Gap<Run<V>>, tick: u64, from: usize, upto: usize) -> usize
     requires runs { AreTickRuns V.least runs.now.items }
     requires ordered { from ≤ upto }
@@ -141,7 +144,7 @@ fn climb<V: Lattice>(runs: &Gap<Run<V>>, tick: u64, from: usize, upto: usize) ->
             return bisect(runs, tick, low, place);
         }
         low = place + 1;
-        step = step.saturating_mul(2);
+        step = step.saturating_mul(FARTHER);
     }
     bisect(runs, tick, low, upto)
 }
@@ -170,9 +173,7 @@ pub fn seek<V: Lattice>(runs: &Gap<Run<V>>, tick: u64) -> usize
     if before.last < tick {
         return place;
     }
-    let found = seek_before(runs, tick, place - 1);
-    runs.note(found);
-    found
+    seek_before(runs, tick, place - 1)
 }
 
 /// The same where the runs before a place end before the tick.
@@ -202,7 +203,8 @@ fn seek_behind<V: Lattice>(runs: &Gap<Run<V>>, tick: u64, from: usize) -> usize
     found
 }
 
-/// The same where the run at a place does not end before the tick.
+/// The same where the run at a place does not end before the tick. The first two runs are looked at, and not noted: a
+/// horizon stands there, and is asked for between looks at other ticks.
 fn seek_before<V: Lattice>(runs: &Gap<Run<V>>, tick: u64, place: usize) -> usize
     requires runs { AreTickRuns V.least runs.now.items }
     requires within { place < length runs.now.items }
@@ -211,11 +213,20 @@ fn seek_before<V: Lattice>(runs: &Gap<Run<V>>, tick: u64, place: usize) -> usize
     ensures front { EndBefore (take result runs.now.items) tick }
     ensures here { (r : Run V) (rs : List (Run V)) → drop result runs.now.items ≡ r ∷ rs → tick ≤ r.last }
 {
+    if place == 0 {
+        return 0;
+    }
     let oldest = runs.get(0);
     if tick <= oldest.last {
         return 0;
     }
-    gallop(runs, tick, place)
+    let second = runs.get(1);
+    if tick <= second.last {
+        return 1;
+    }
+    let found = gallop(runs, tick, place);
+    runs.note(found);
+    found
 }
 
 /// How many runs begin by a tick.
