@@ -150,8 +150,8 @@ impl Event {
         }
     }
 
-    /// Its form in bytes.
-    pub(crate) fn bytes(&self) -> &[u8]
+    /// Its form in bytes. Takes no memory.
+    pub fn bytes(&self) -> &[u8]
         ensures bytes { result.now ≡ event_bytes self.now }
         ensures event { IsEvent self.now }
     {

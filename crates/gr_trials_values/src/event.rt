@@ -13,6 +13,7 @@ fn reads_writes_and_decodes(rt: HostRuntime) -> Result<(), Fail> {
         1, 5, 0x70, 0x72, 0x69, 0x63, 0x65, 1, 0, 0, 0, 0, 0, 0, 0, 0x52,
     ];
     assert_eq!(rt; bytes.as_slice(), spelled.as_slice());
+    assert_eq!(rt; event.bytes(), spelled.as_slice());
     let decoded = Event::decode(rt.alloc(), &bytes)?;
     assert!(rt; decoded.same(&event));
     assert_eq!(rt;
