@@ -2,7 +2,6 @@
 
 ghost use Rattle.std.specs.Prelude.{◌≡◌, ◌≢◌, ◌↔◌, ℕ, ◌+◌, ◌≤◌, ◌++◌, ◌∷◌, [], true, false, length, Some};
 ghost use Rattle.std.specs.Prelude.{Err, OnOk, OnErr, IsTrue, IfOk, IsErrOf};
-ghost use Rattle.gr_event.specs.Event.{event_bytes};
 ghost use Rattle.gr_out.specs.Lane.{with_room};
 ghost use Rattle.gr_out.specs.Stops.{StaysFaultless};
 ghost use Rattle.gr_publog.specs.State.{empty_state, state_of, live_events, may_follow, Follow, IsSound};
@@ -17,6 +16,7 @@ use crate::record::{LogFault, Memory, Record, State};
 use crate::steps::{append_behind, bytes_in, ready_lane, write_empty};
 use gr_event::Event;
 use gr_out::Disk;
+use smallvec::SmallVec;
 use std::alloc::{AllocError, Global};
 use std::marker::Model;
 
@@ -49,24 +49,28 @@ impl Model for Log {
         × Follow empty_state l.history.records × (l.events ≡ live_events l.history.records) };
 }
 
+/// The bytes of a record, and a closed gate behind them. Those of a short one take no memory.
+type RecordText = SmallVec<u8, 96>;
+
 /// The bytes of a record, and a closed gate behind them.
-fn record_text(alloc: Global, entry: &Record) -> Result<Vec<u8>, Memory>
+fn record_text(alloc: Global, entry: &Record) -> Result<RecordText, Memory>
     ensures text { IfOk result (λ v. v.items ≡ record_bytes entry.now ++ 0 ∷ []) }
     ensures sound { OnOk result (IsSound entry.now) }
 {
-    let mut bytes = Vec::new(alloc);
+    let mut bytes = RecordText::new(alloc);
     match entry {
         Record::Event {
             tick,
             number,
             event,
         } => {
-            bytes.reserve(EVENT_ROOM + event.size())?;
+            let form = event.bytes();
+            bytes.reserve(EVENT_ROOM + form.len())?;
             bytes.push(1)?;
             bytes.extend_from_slice(&tick.to_be_bytes())?;
             bytes.extend_from_slice(&number.to_be_bytes())?;
             bytes.extend_from_slice(&(event.size() as u32).to_be_bytes())?;
-            put_event(event, &mut bytes)?;
+            bytes.extend_from_slice(form)?;
         }
         Record::Mark { tick } => {
             bytes.push(2)?;
@@ -81,16 +85,6 @@ fn record_text(alloc: Global, entry: &Record) -> Result<Vec<u8>, Memory>
     Ok(bytes)
 }
 
-/// Puts the bytes of an event at the end.
-fn put_event(event: &Event, bytes: &mut Vec<u8>) -> Result<(), Memory>
-    ensures { OnOk result (bytes.new.items ≡ bytes.old.items ++ event_bytes event.now) }
-{
-    let from = bytes.len();
-    bytes.resize(from + event.size(), 0)?;
-    event.encode_into(&mut bytes[from..]);
-    Ok(())
-}
-
 /// Takes the memory that an append on the lane needs of the disk, and answers the bytes of the record with a closed
 /// gate behind them.
 fn prepare<D: Disk>(
@@ -99,7 +93,7 @@ fn prepare<D: Disk>(
     lane: u16,
     gate: u64,
     entry: &Record,
-) -> Result<Vec<u8>, Memory>
+) -> Result<RecordText, Memory>
     ensures bytes { IfOk result (λ v. v.items ≡ record_bytes entry.now ++ 0 ∷ []) }
     ensures sound { OnOk result (IsSound entry.now) }
     ensures low { IfOk result (λ v. gate ≤ LAST_GATE) }
@@ -228,7 +222,7 @@ impl Log {
             Ok(bytes) => bytes,
             Err(_) => return Err(LogFault::Memory),
         };
-        match append_behind(disk, self.lane, self.gate, &bytes) {
+        match append_behind(disk, self.lane, self.gate, bytes.as_slice()) {
             Ok(()) => {}
             Err(_) => {
                 self.broken = true;

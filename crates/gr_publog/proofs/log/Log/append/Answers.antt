@@ -20,13 +20,13 @@ pub returns-in-Err-append_behind-clause-lane : goal.returns-in-Err-append_behind
 returns-in-Err-append_behind-clause-lane g c = rw (← c.self.view_is) (λ t.
     let s = rw (← c.self.view_is) at c.requires.stands in
     let f = rw (← c.self.view_is) at c.requires.follows in
-    appends_failed _ c.args.entry.now _ (g.D.Disk.lane_of c.prepare.new.disk c.self.inside.lane) _ _ c.self.inside.gate c.deref.result.now (record {
+    appends_failed _ c.args.entry.now _ (g.D.Disk.lane_of c.prepare.new.disk c.self.inside.lane) _ _ c.self.inside.gate c.as_slice.result.now (record {
       stands = s t c.if-self.false;
       room = c.in-Ok-prepare.ensures.room t;
       place = c.self.invariant.0;
       ok = f;
       sound = c.in-Ok-prepare.ensures.sound;
-      text = c.deref.ensures.value ∙ c.in-Ok-prepare.ensures.bytes;
+      text = c.as_slice.ensures ∙ c.in-Ok-prepare.ensures.bytes;
       any_moment = c.append_behind.ensures.any_moment t;
       picked = c.append_behind.ensures.picked t;
       left = c.append_behind.ensures.left t;
@@ -39,13 +39,13 @@ returns-clause-lane g c = rw (← c.self.view_is) (λ t.
     let s = rw (← c.self.view_is) at c.requires.stands in
     let f = rw (← c.self.view_is) at c.requires.follows in
     let e = c.in-Ok-append_behind.ensures in
-    appends_ok _ c.args.entry.now _ (g.D.Disk.lane_of c.prepare.new.disk c.self.inside.lane) _ _ c.self.inside.gate c.deref.result.now (record {
+    appends_ok _ c.args.entry.now _ (g.D.Disk.lane_of c.prepare.new.disk c.self.inside.lane) _ _ c.self.inside.gate c.as_slice.result.now (record {
       stands = s t c.if-self.false;
       room = c.in-Ok-prepare.ensures.room t;
       place = c.self.invariant.0;
       ok = f;
       sound = c.in-Ok-prepare.ensures.sound;
-      text = c.deref.ensures.value ∙ c.in-Ok-prepare.ensures.bytes;
+      text = c.as_slice.ensures ∙ c.in-Ok-prepare.ensures.bytes;
       any_moment = c.append_behind.ensures.any_moment t;
       picked = c.append_behind.ensures.picked t;
       left = c.append_behind.ensures.left t;
