@@ -180,8 +180,5 @@ fn put_event(event: &Event, bytes: &mut Vec<u8>) -> Result<(), AllocError>
     let size = event.size();
     put_byte(bytes, 2)?;
     put_u16(bytes, size as u16)?;
-    let at = bytes.len();
-    bytes.resize(at + size, 0)?;
-    event.encode_into(&mut bytes[at..]);
-    Ok(())
+    bytes.extend_from_slice(event.bytes())
 }
