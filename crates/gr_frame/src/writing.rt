@@ -187,10 +187,22 @@ fn put_head(bytes: &mut Vec<u8>, head: Head, kind: BodyKind, count: u16) -> Resu
     ensures bytes { OnOk result (bytes.new.items ≡ bytes.old.items ++ head_bytes (kind_number kind) head count) }
     ensures head { IsHead head }
 {
-    bytes.extend_from_slice(b"GK\x01")?;
-    put_byte(bytes, kind.number())?;
-    put_u16(bytes, head.from)?;
-    put_u16(bytes, head.to)?;
-    put_u16(bytes, head.publisher)?;
-    put_u16(bytes, count)
+    let [from, from_low] = head.from.to_be_bytes();
+    let [to, to_low] = head.to.to_be_bytes();
+    let [publisher, publisher_low] = head.publisher.to_be_bytes();
+    let [many, few] = count.to_be_bytes();
+    bytes.extend_from_slice(&[
+        b'G',
+        b'K',
+        1,
+        kind.number(),
+        from,
+        from_low,
+        to,
+        to_low,
+        publisher,
+        publisher_low,
+        many,
+        few,
+    ])
 }
