@@ -13,7 +13,7 @@ no_letter x h = grind (arith, nat_tests)
 no_control : (x : ℕ) → is_plain x ≡ true → nat_lt x 32 ≡ false
 no_control x h = grind (arith, nat_tests)
 
-plain_byte : (x : ℕ) → is_plain x ≡ true → escape_byte x ≡ x ∷ []
+pub plain_byte : (x : ℕ) → is_plain x ≡ true → escape_byte x ≡ x ∷ []
 unfolding escape_byte
 plain_byte x h = rw (escape_byte, no_letter x h, no_control x h) refl
 

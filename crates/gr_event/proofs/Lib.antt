@@ -8,3 +8,4 @@ pub mod Told
 pub mod Walking
 pub mod Writing
 pub mod Escapes
+pub mod Found

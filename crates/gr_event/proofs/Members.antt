@@ -10,13 +10,13 @@ use Rattle.gr_event.specs.Json.{value_token, members_tokens_of, event_tokens}
 use Rattle.gr_event.proofs.Walking.{nothing, FrontOf}
 
 -- the closing bracket stands alone
-end_text : (after : Bool) → print_from after (end_object ∷ []) ≡ 125 ∷ []
+pub end_text : (after : Bool) → print_from after (end_object ∷ []) ≡ 125 ∷ []
 unfolding print_from
 end_text true = refl
 end_text false = refl
 
 -- a name and its value stand before the others
-front_text : (after : Bool) (k : List ℕ) (v : Value) (ts : List Token) → print_from after (key k ∷ value_token v ∷ ts) ≡ (separator after (key k) ++ token_text (key k)) ++ (token_text (value_token v) ++ print_from true ts)
+pub front_text : (after : Bool) (k : List ℕ) (v : Value) (ts : List Token) → print_from after (key k ∷ value_token v ∷ ts) ≡ (separator after (key k) ++ token_text (key k)) ++ (token_text (value_token v) ++ print_from true ts)
 unfolding print_from
 front_text after k (Int z) ts = sym (append_assoc (separator after (key k)) (token_text (key k)) (token_text (value_token (Int z)) ++ print_from true ts))
 front_text after k (Text t) ts = sym (append_assoc (separator after (key k)) (token_text (key k)) (token_text (value_token (Text t)) ++ print_from true ts))

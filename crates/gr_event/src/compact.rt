@@ -3,122 +3,126 @@
 //! The form in bytes is guessed from the text. Where that is an event which prints the very same text, the guess was
 //! right, since what is printed reads back; every other text is left to `serde_json`.
 
-ghost use Rattle.std.specs.Prelude.{◌≡◌, ◌≤◌, Ok, IfOk, IfSome, length};
+ghost use Rattle.std.specs.Prelude.{◌≡◌, Ok, IfOk, IfSome};
 ghost use Rattle.gr_event.specs.Json.{event_text};
 
 use crate::encode::{INTEGER, TEXT, TRUTH};
 use crate::event::{Event, Memory};
-use crate::limits::{MAX_NAME, MAX_PAIRS, MAX_TEXT};
-use crate::text::Text;
-use smallvec::SmallVec;
+use crate::limits::{MAX_BYTES, MAX_NAME, MAX_PAIRS, MAX_TEXT};
 use std::alloc::Global;
 
-/// A form in bytes that is guessed. Most are short, and take no memory.
-type Form = SmallVec<u8, 64>;
+/// Up to how many bytes a text has whose form is guessed without memory.
+const SHORT: usize = 64;
+
+/// By how many bytes a form is longer than its text, at most: by five for an integer of one digit.
+const LONGER: usize = 5 * MAX_PAIRS;
 
 /// The event whose compact text the bytes are, if they are one. Nothing is said of other texts: of those the answer is
 /// none.
 pub(crate) fn from_compact(alloc: Global, bytes: &[u8]) -> Result<Option<Event>, Memory>
     ensures { IfOk result (λ found. IfSome found (λ e. event_text bytes.now ≡ Ok e)) }
 {
-    let Some(form) = guess(alloc, bytes)? else {
+    if bytes.len() <= SHORT {
+        let mut room = [0u8; 2 * SHORT];
+        return from_guess(alloc, bytes, &mut room);
+    }
+    if bytes.len() > 2 * MAX_BYTES {
+        return Ok(None);
+    }
+    let mut room = vec![in alloc; 0u8; bytes.len() + LONGER]?;
+    from_guess(alloc, bytes, &mut room)
+}
+
+/// The same, with room for the form that is guessed.
+fn from_guess(alloc: Global, bytes: &[u8], room: &mut [u8]) -> Result<Option<Event>, Memory>
+    ensures { IfOk result (λ found. IfSome found (λ e. event_text bytes.now ≡ Ok e)) }
+{
+    let Some(size) = guess(bytes, room) else {
         return Ok(None);
     };
-    let Some(event) = Event::from_form(alloc, form.as_slice())? else {
+    let Some(form) = room.get(..size) else {
         return Ok(None);
     };
-    let mut text = Text::from_vec(Vec::with_capacity(alloc, bytes.len())?);
-    event.json_into(&mut text)?;
-    if text.as_slice() == bytes {
+    let Some(event) = Event::from_form(alloc, form)? else {
+        return Ok(None);
+    };
+    if event.prints(bytes) {
         return Ok(Some(event));
     }
     Ok(None)
 }
 
-/// The form in bytes that a text may stand for, if it looks like the compact text of an event. It is only a guess.
-fn guess(alloc: Global, text: &[u8]) -> Result<Option<Form>, Memory> {
-    let mut form = Form::new(alloc);
-    form.push(0u8)?;
-    let Some(mut rest) = text.strip_prefix(b"{") else {
-        return Ok(None);
+/// Writes the form in bytes that a text may stand for, if it looks like the compact text of an event, to the front of a
+/// room, and gives its size. It is only a guess.
+fn guess(text: &[u8], room: &mut [u8]) -> Option<usize> {
+    let size = room.len();
+    let rest = text.strip_prefix(b"{")?;
+    let [first, free @ ..] = room else {
+        return None;
     };
+    let (count, left) = put_pairs(rest, free)?;
+    *first = count;
+    Some(size.wrapping_sub(left))
+}
+
+/// Writes the pairs of an object, and gives their count and how much room is left.
+fn put_pairs(text: &[u8], room: &mut [u8]) -> Option<(u8, usize)> {
+    let mut rest = text;
+    let mut free = room;
     for count in 1..=MAX_PAIRS {
-        let Some(behind) = put_pair(rest, &mut form)? else {
-            return Ok(None);
-        };
+        let (behind, left) = put_pair(rest, free)?;
         match behind {
-            [b'}'] => {
-                put_count(form.as_mut_slice(), count as u8);
-                return Ok(Some(form));
+            [b'}'] => return Some((count as u8, left.len())),
+            [b',', others @ ..] => {
+                rest = others;
+                free = left;
             }
-            [b',', others @ ..] => rest = others,
-            _ => return Ok(None),
+            _ => return None,
         }
     }
-    Ok(None)
+    None
 }
 
-/// Puts the count of the pairs at the place that is kept for it.
-fn put_count(form: &mut [u8], count: u8) {
-    if let [first, ..] = form {
-        *first = count;
-    }
-}
-
-/// Puts the pair at the front of a text behind a form, and gives what stands behind it.
-fn put_pair<'a>(text: &'a [u8], form: &mut Form) -> Result<Option<&'a [u8]>, Memory> {
-    let Some((name, behind)) = quoted(text) else {
-        return Ok(None);
-    };
+/// Writes the pair at the front of a text, and gives what stands behind it and the room that is left.
+fn put_pair<'a, 'b>(text: &'a [u8], room: &'b mut [u8]) -> Option<(&'a [u8], &'b mut [u8])> {
+    let (name, behind) = quoted(text)?;
     if name.len() > MAX_NAME {
-        return Ok(None);
+        return None;
     }
-    form.push(name.len() as u8)?;
-    form.extend_from_slice(name)?;
+    let left = put(name, put(&[name.len() as u8], room)?)?;
     match behind {
-        [b':', value @ ..] => put_value(value, form),
-        _ => Ok(None),
+        [b':', value @ ..] => put_value(value, left),
+        _ => None,
     }
 }
 
-/// Puts the value at the front of a text behind a form, and gives what stands behind it.
-fn put_value<'a>(text: &'a [u8], form: &mut Form) -> Result<Option<&'a [u8]>, Memory> {
+/// Writes the value at the front of a text, and gives what stands behind it and the room that is left.
+fn put_value<'a, 'b>(text: &'a [u8], room: &'b mut [u8]) -> Option<(&'a [u8], &'b mut [u8])> {
     match text {
-        [b'"', ..] => put_text(text, form),
-        [b't', b'r', b'u', b'e', rest @ ..] => put_truth(1, rest, form),
-        [b'f', b'a', b'l', b's', b'e', rest @ ..] => put_truth(0, rest, form),
-        [b'-', digits @ ..] => put_integer(true, digits, form),
-        _ => put_integer(false, text, form),
+        [b'"', ..] => put_text(text, room),
+        [b't', b'r', b'u', b'e', rest @ ..] => Some((rest, put(&[TRUTH, 1], room)?)),
+        [b'f', b'a', b'l', b's', b'e', rest @ ..] => Some((rest, put(&[TRUTH, 0], room)?)),
+        [b'-', digits @ ..] => put_integer(true, digits, room),
+        _ => put_integer(false, text, room),
     }
 }
 
-/// Puts a truth value behind a form.
-fn put_truth<'a>(byte: u8, rest: &'a [u8], form: &mut Form) -> Result<Option<&'a [u8]>, Memory> {
-    form.push(TRUTH)?;
-    form.push(byte)?;
-    Ok(Some(rest))
-}
-
-/// Puts the text between quotes at the front behind a form, and gives what stands behind it.
-fn put_text<'a>(text: &'a [u8], form: &mut Form) -> Result<Option<&'a [u8]>, Memory> {
-    let Some((inside, rest)) = quoted(text) else {
-        return Ok(None);
-    };
+/// Writes the text between quotes at the front, and gives what stands behind it and the room that is left.
+fn put_text<'a, 'b>(text: &'a [u8], room: &'b mut [u8]) -> Option<(&'a [u8], &'b mut [u8])> {
+    let (inside, rest) = quoted(text)?;
     if inside.len() > MAX_TEXT {
-        return Ok(None);
+        return None;
     }
-    form.push(TEXT)?;
-    form.extend_from_slice(&(inside.len() as u16).to_be_bytes())?;
-    form.extend_from_slice(inside)?;
-    Ok(Some(rest))
+    let [high, low] = (inside.len() as u16).to_be_bytes();
+    Some((rest, put(inside, put(&[TEXT, high, low], room)?)?))
 }
 
-/// Puts the integer that the digits at the front are behind a form, and gives what stands behind them.
-fn put_integer<'a>(
+/// Writes the integer that the digits at the front are, and gives what stands behind them and the room that is left.
+fn put_integer<'a, 'b>(
     negative: bool,
     text: &'a [u8],
-    form: &mut Form,
-) -> Result<Option<&'a [u8]>, Memory> {
+    room: &'b mut [u8],
+) -> Option<(&'a [u8], &'b mut [u8])> {
     let mut value = 0u64;
     let mut rest = text;
     'digits: while let [digit @ b'0'..=b'9', others @ ..] = rest {
@@ -130,9 +134,14 @@ fn put_integer<'a>(
     if negative {
         value = value.wrapping_neg();
     }
-    form.push(INTEGER)?;
-    form.extend_from_slice(&value.to_be_bytes())?;
-    Ok(Some(rest))
+    Some((rest, put(&value.to_be_bytes(), put(&[INTEGER], room)?)?))
+}
+
+/// Writes bytes to the front of a room, and gives what is left of it.
+fn put<'a>(bytes: &[u8], room: &'a mut [u8]) -> Option<&'a mut [u8]> {
+    let (front, left) = room.split_at_mut_checked(bytes.len())?;
+    front.copy_from_slice(bytes);
+    Some(left)
 }
 
 /// What stands between the quotes at the front of a text, up to the next quote, and what stands behind that.

@@ -2,6 +2,7 @@
 #![tactic(auto)]
 
 mod compact;
+mod compare;
 pub mod decode;
 pub mod encode;
 pub mod event;

@@ -181,7 +181,7 @@ fn is_plain_text(text: &[u8]) -> bool
 }
 
 /// Whether a byte stands for itself in a text of JSON.
-fn is_plain(byte: u8) -> bool
+pub(crate) fn is_plain(byte: u8) -> bool
     ensures { result ≡ is_plain byte }
 {
     byte != b'"' && byte != b'\\' && byte >= b' '
