@@ -93,6 +93,9 @@ fn field_at(bytes: &[u8], at: usize, len: usize) -> Result<&[u8], EventFault>
 fn is_text(bytes: &[u8]) -> bool
     ensures { result ≡ is_utf8 bytes.now }
 {
+    if bytes.is_ascii() {
+        return true;
+    }
     std::str::from_utf8(bytes).is_ok()
 }
 
