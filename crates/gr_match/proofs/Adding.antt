@@ -16,7 +16,7 @@ use Rattle.gr_match.proofs.Times.{times-append}
 head_same : (p q : Pair) → p ∷ [] ≡ q ∷ [] → p ≡ q
 head_same p q h = cc
 
-pair_equal : (p q : Pair) → is_pair p q ≡ true → p ≡ q
+pub pair_equal : (p q : Pair) → is_pair p q ≡ true → p ≡ q
 pair_equal p q h = head_same p q (event_equal (p ∷ []) (q ∷ []) (and_from (is_pair p q) true h refl))
 
 -- ---- one place more in a bucket

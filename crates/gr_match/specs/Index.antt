@@ -10,6 +10,7 @@ use Rattle.gr_filter.specs.Tree.{Tree, tree_of}
 use Rattle.gr_filter.specs.Truth as truth
 use Rattle.gr_match.specs.declared.bucket.Bucket.{Bucket}
 use Rattle.gr_match.specs.Needed.{Pair, needed, is_pair}
+use Rattle.gr_match.specs.Marked.{mark_of}
 
 -- the filters of a list as trees
 abbrev pub trees : List Filter → List Tree
@@ -48,9 +49,9 @@ mixed h (b ∷ bs) = mixed ((31 * h + b) % 2 ^ 32) bs
 
 -- the number of a pair, of which its row is the rest
 abbrev pub number_of : Pair → ℕ
-number_of (name, value.Int z) = mixed 0 name + cast_unsigned w64 z % row_count
-number_of (name, value.Text t) = mixed (mixed 0 name) t
-number_of (name, value.Bool b) = mixed 0 name + (if b then 1 else 0)
+number_of (name, value.Int z) = mark_of name + cast_unsigned w64 z % row_count
+number_of (name, value.Text t) = mixed (mark_of name) t
+number_of (name, value.Bool b) = mark_of name + (if b then 1 else 0)
 
 -- the row of a pair
 abbrev pub row_of : Pair → ℕ

@@ -2,6 +2,7 @@
 #![tactic(auto)]
 
 mod bucket;
+mod marks;
 mod pair;
 mod rows;
 pub mod tree;

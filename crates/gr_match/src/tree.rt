@@ -11,7 +11,7 @@ ghost use Rattle.gr_match.specs.Index.{trees, matches_at, places_for, places_of,
 
 use crate::bucket::Bucket;
 use crate::pair::{NamedPart, needed};
-use crate::rows::{Row, put_in_row, row_for};
+use crate::rows::Rows;
 use gr_event::{Event, Memory, Numbers};
 use gr_filter::{Filter, Kleene, truth};
 use std::alloc::Global;
@@ -27,7 +27,7 @@ pub struct MatchTree {
     alloc: Global,
     filters: Vec<Filter>,
     rest: Numbers,
-    rows: Vec<Row>,
+    rows: Rows,
 }
 
 impl Model for MatchTree {
@@ -43,7 +43,7 @@ impl Model for MatchTree {
 
     ghost view = { λ t. trees t.filters.items };
 
-    ghost invariant = { λ t. IsIndex (trees t.filters.items) t.rest (row_at t.rows.items) };
+    ghost invariant = { λ t. IsIndex (trees t.filters.items) t.rest (row_at t.rows) };
 }
 
 impl MatchTree {
@@ -55,7 +55,7 @@ impl MatchTree {
             alloc,
             filters: Vec::new(alloc),
             rest: Numbers::new(alloc),
-            rows: Vec::new(alloc),
+            rows: Rows::new(alloc),
         }
     }
 
@@ -97,24 +97,24 @@ impl MatchTree {
 fn enter(
     alloc: Global,
     rest: &mut Numbers,
-    rows: &mut Vec<Row>,
+    rows: &mut Rows,
     filter: &Filter,
     place: u16,
 ) -> Result<(), Memory>
     ensures rest { OnOk result (rest.new ≡ rest_with (needed (tree_of filter.now)) place rest.old) }
-    ensures rows { OnOk result ((i : ℕ) → row_at rows.new.items i
-        ≡ row_with (needed (tree_of filter.now)) place (row_at rows.old.items) i) }
+    ensures rows { OnOk result ((i : ℕ) → row_at rows.new i
+        ≡ row_with (needed (tree_of filter.now)) place (row_at rows.old) i) }
     ensures same_rest { OnErr result (rest.new ≡ rest.old) }
-    ensures same_rows { OnErr result ((i : ℕ) → row_at rows.new.items i ≡ row_at rows.old.items i) }
+    ensures same_rows { OnErr result ((i : ℕ) → row_at rows.new i ≡ row_at rows.old i) }
 {
     match needed(filter.root()) {
-        Some(pair) => put_in_row(alloc, rows, pair, place),
+        Some(pair) => rows.put(alloc, pair, place),
         None => rest.push(place),
     }
 }
 
 /// The places to ask for an event: those of the rest, and those of the filters that need one of its pairs.
-fn asked(alloc: Global, rest: &Numbers, rows: &[Row], event: &Event) -> Result<Vec<u16>, Memory>
+fn asked(alloc: Global, rest: &Numbers, rows: &Rows, event: &Event) -> Result<Vec<u16>, Memory>
     ensures asked { IfOk result (λ places. places.items ≡ rest.now ++ asked (row_at rows.now) event.now) }
     ensures event { OnOk result (IsEvent event.now) }
 {
@@ -122,7 +122,7 @@ fn asked(alloc: Global, rest: &Numbers, rows: &[Row], event: &Event) -> Result<V
     let mut pairs = event.pairs();
     'pairs: while let Some((name, part)) = pairs.next() {
         let pair = NamedPart { name, part };
-        add_places(&mut places, row_for(rows, pair), pair)?;
+        add_places(&mut places, rows.buckets_for(pair), pair)?;
     }
     Ok(places)
 }
@@ -181,7 +181,7 @@ fn any_at(filters: &[Filter], places: &[u16], event: &Event) -> bool
 }
 
 /// Whether a filter that needs one of the event's pairs matches the event.
-fn any_asked(filters: &[Filter], rows: &[Row], event: &Event) -> bool
+fn any_asked(filters: &[Filter], rows: &Rows, event: &Event) -> bool
     ensures some { result ≡ list_any (matches_at (trees filters.now) event.now) (asked (row_at rows.now) event.now) }
     ensures event { IsEvent event.now }
 {
@@ -191,11 +191,21 @@ fn any_asked(filters: &[Filter], rows: &[Row], event: &Event) -> bool
     }
     'pairs: while let Some((name, part)) = pairs.next() {
         let pair = NamedPart { name, part };
-        if any_of(filters, row_for(rows, pair), pair, event) {
+        if rows.may_have(pair) && any_in_row(filters, rows, pair, event) {
             return true;
         }
     }
     false
+}
+
+/// Whether a filter that needs a pair matches the event. It is called for few of the pairs, and stands apart so that
+/// the walk over all of them is short.
+#[inline(never)]
+fn any_in_row(filters: &[Filter], rows: &Rows, pair: NamedPart<'_>, event: &Event) -> bool
+    ensures { result ≡ list_any (matches_at (trees filters.now) event.now)
+        (places_of (row_at rows.now) (pair_of pair.entry)) }
+{
+    any_of(filters, rows.row_for(pair), pair, event)
 }
 
 /// Whether a filter of the buckets that are of a pair matches the event.

@@ -12,4 +12,4 @@ invariant_of-self-2 c =
     let mapped = length-map t.filters.items (λ f. tree_of f) in
     let place : c.len-place.result ≡ length (trees t.filters.items) = omega (arith, mapped, c.len-place.ensures, c.reserve.ensures.len) in
     let more : c.push.new.self.items ≡ t.filters.items ++ c.in_ok-copy.copy ∷ [] = search rules in
-    added t.filters.items c.push.new.self.items c.in_ok-copy.copy (tree_of c.args.filter.now) c.len-place.result t.rest c.enter.new.rest (row_at t.rows.items) (row_at c.enter.new.rows.items) c.self.invariant few place more c.in_ok-copy.ensures c.in_ok-enter.ensures.rest c.in_ok-enter.ensures.rows
+    added t.filters.items c.push.new.self.items c.in_ok-copy.copy (tree_of c.args.filter.now) c.len-place.result t.rest c.enter.new.rest (row_at t.rows) (row_at c.enter.new.rows) c.self.invariant few place more c.in_ok-copy.ensures c.in_ok-enter.ensures.rest c.in_ok-enter.ensures.rows

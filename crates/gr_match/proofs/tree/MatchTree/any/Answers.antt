@@ -13,5 +13,5 @@ returns-then-any_at c =
 pub returns-else-any_at : goal.returns-else-any_at
 returns-else-any_at c =
     let t = c.self.inside in
-    any_in_buckets (trees t.filters.items) t.rest (row_at t.rows.items) c.args.event.now c.any_at.result c.any_asked.result c.self.invariant c.any_asked.ensures.event (search rules) c.if-any_at.false (search rules)
+    any_in_buckets (trees t.filters.items) t.rest (row_at t.rows) c.args.event.now c.any_at.result c.any_asked.result c.self.invariant c.any_asked.ensures.event (search rules) c.if-any_at.false (search rules)
     ∙ ap (λ fs. any fs c.args.event.now) c.self.view_is
