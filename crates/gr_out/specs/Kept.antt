@@ -1,6 +1,6 @@
 -- What a lane in memory keeps, the room that it has, and what becomes of each call of a disk in memory
-use Rattle.std.specs.Prelude.{◌≡◌, ℕ, ◌-◌, ◌≤◌, nat_eq, Bool, true, false, if◌then◌else◌, List, length, take, replicate}
-use Rattle.std.specs.Prelude.{Result, is_err}
+use Rattle.std.specs.Prelude.{◌≡◌, ℕ, ◌+◌, ◌-◌, ◌≤◌, nat_eq, Bool, true, false, if◌then◌else◌, List, length, take, drop}
+use Rattle.std.specs.Prelude.{◌++◌, replicate, Result, is_err}
 use Rattle.gr_out.specs.declared.disk.Fate.{Fate}
 use Rattle.gr_out.specs.declared.disk.Fate.TheVariants.{Done, Failed, Broken, Lost}
 use Rattle.gr_out.specs.declared.disk.Stop.{Stop}
@@ -8,22 +8,27 @@ use Rattle.gr_out.specs.declared.disk.Stop.TheVariants.{Stopped}
 use Rattle.gr_out.specs.Lane.{Lane, Call, read_after, synced_after, fresh_after, garbled, has_stopped, fate_of, lane_at}
 use Rattle.gr_out.specs.Streams.{counted, is_listed}
 
--- What is kept of a lane is what its calls make of it. All before the first place that was written or cut since the
--- last sync is as it was then.
+-- what was synced: the bytes, with others in place of as many as there are marks, from a first place on
+abbrev pub synced_of : List ℕ → List ℕ → List Bool → ℕ → List ℕ
+synced_of bytes synced fresh first = take first bytes ++ (synced ++ drop (first + length fresh) bytes)
+
+-- which of the bytes are fresh: those that are marked, from a first place on
+abbrev pub fresh_of : List ℕ → List Bool → ℕ → List Bool
+fresh_of bytes fresh first =
+    replicate first false ++ (fresh ++ replicate (length bytes - (first + length fresh)) false)
+
+-- What is kept of a lane is what its calls make of it.
 pub record IsKept (start bytes synced : List ℕ) (fresh : List Bool) (first : ℕ) (calls : List Call) : Type 0 where
   pub bytes_are : bytes ≡ read_after start calls
-  pub synced_are : synced ≡ synced_after start calls
-  pub fresh_are : fresh ≡ fresh_after start calls
-  pub marked : length fresh ≡ length bytes
-  pub first_in : first ≤ length bytes
-  pub first_synced : first ≤ length synced
-  pub same : take first synced ≡ take first bytes
-  pub unmarked : take first fresh ≡ replicate first false
+  pub synced_are : synced_of bytes synced fresh first ≡ synced_after start calls
+  pub fresh_are : fresh_of bytes fresh first ≡ fresh_after start calls
+  pub within : first + length fresh ≤ length bytes
 
--- There is room for the bytes up to an extent.
-pub record HasRoom (extent room : ℕ) (bytes synced : List ℕ) (bytes_cap synced_cap fresh_cap : ℕ) : Type 0 where
+-- There is room for the bytes, and for what was synced, up to an extent.
+pub record HasRoom (extent room first : ℕ) (bytes synced : List ℕ) (fresh : List Bool)
+    (bytes_cap synced_cap fresh_cap : ℕ) : Type 0 where
   pub bytes_in : length bytes ≤ extent
-  pub synced_in : length synced ≤ extent
+  pub synced_in : first + length synced + (length bytes - (first + length fresh)) ≤ extent
   pub room_in : room ≤ extent
   pub bytes_fit : extent ≤ bytes_cap
   pub synced_fit : extent ≤ synced_cap

@@ -1,11 +1,11 @@
-//! A lane in memory: what it reads, what it read at its last sync, and which bytes were written since.
+//! A lane in memory: what it reads, and what was written or cut since its last sync.
 
-ghost use Rattle.std.specs.Prelude.{◌≡◌, ℕ, ◌+◌, ◌-◌, ◌*◌, ◌%◌, ◌≤◌, ◌<◌, max, ◌++◌, ◌∷◌, if◌then◌else◌, Bool, true};
-ghost use Rattle.std.specs.Prelude.{false, List, length, take, replicate, IfOk, OnOk, OnErr, vec_len};
+ghost use Rattle.std.specs.Prelude.{◌≡◌, ℕ, ◌+◌, ◌-◌, ◌*◌, ◌%◌, ◌≤◌, ◌<◌, min, max, ◌++◌, ◌∷◌, if◌then◌else◌, Bool};
+ghost use Rattle.std.specs.Prelude.{true, false, List, length, take, drop, replicate, IfOk, OnOk, OnErr, vec_len};
 ghost use Rattle.std.specs.Vec.{vec_capacity};
 ghost use Rattle.gr_out.specs.Lane.{Lane, Write, Cut, Sync, FailedWrite, FailedCut, blank, lane_of, content, over};
 ghost use Rattle.gr_out.specs.Lane.{garbled, after_call, fate_of, one_later, with_room, with_stop, crashed};
-ghost use Rattle.gr_out.specs.Kept.{with_calls, IsKept, HasRoom, left_by};
+ghost use Rattle.gr_out.specs.Kept.{with_calls, IsKept, HasRoom, synced_of, fresh_of, left_by};
 
 use crate::disk::{Fate, Stop};
 use crate::fault::Memory;
@@ -13,11 +13,14 @@ use crate::history::{History, Note};
 use std::alloc::Global;
 use std::marker::Model;
 
-/// A lane in memory. It keeps three times its bytes, and nothing of the calls before the last sync.
+/// A lane in memory. It keeps its bytes once, and nothing of the calls before the last sync. Of what it read then it
+/// keeps only the part that was written over or cut since.
 #[derive(Drop)]
 pub(crate) struct MemLane {
     bytes: Vec<u8>,
+    /// What the last sync had in place of the bytes that `fresh` counts. All others are as it had them.
     synced: Vec<u8>,
+    /// Of as many bytes from the place `first` on, which ones were written since the last sync. No other was.
     fresh: Vec<bool>,
     first: usize,
     extent: usize,
@@ -42,7 +45,7 @@ impl Model for MemLane {
 
     ghost invariant = { λ l. IsKept l.history.past.start l.bytes.items l.synced.items l.fresh.items l.first
         l.history.past.calls
-        × HasRoom l.extent l.room l.bytes.items l.synced.items
+        × HasRoom l.extent l.room l.first l.bytes.items l.synced.items l.fresh.items
         (vec_capacity l.bytes) (vec_capacity l.synced) (vec_capacity l.fresh) };
 }
 
@@ -53,9 +56,12 @@ fn overwrite(bytes: &mut Vec<u8>, at: usize, new: &[u8])
     ensures items { bytes.new.items ≡ over at new.now bytes.old.items }
     ensures capacity { vec_capacity bytes.old ≤ vec_capacity bytes.new }
 {
-    let end = bytes.len().min(at + new.len());
-    bytes[at..end].copy_from_slice(&new[..end - at]);
-    bytes.extend_from_slice(&new[end - at..]).unwrap();
+    if at + new.len() <= bytes.len() {
+        bytes[at..at + new.len()].copy_from_slice(new);
+    } else {
+        bytes.truncate(at);
+        bytes.extend_from_slice(new).unwrap();
+    }
 }
 
 /// Marks so many from a place on, and past the end.
@@ -73,28 +79,132 @@ fn mark(fresh: &mut Vec<bool>, at: usize, len: usize)
     }
 }
 
-/// Leaves so many, none of them marked from a place on.
-fn unmark(fresh: &mut Vec<bool>, first: usize, len: usize)
-    requires marked { first ≤ length fresh.old.items }
-    requires within { first ≤ len }
-    requires fits { len ≤ vec_capacity fresh.old }
-    ensures items { fresh.new.items ≡ take first fresh.old.items ++ replicate (len - first) false }
+/// Puts bytes before those that are there.
+fn put_front(bytes: &mut Vec<u8>, front: &[u8])
+    requires fits { length front.now + length bytes.old.items ≤ vec_capacity bytes.old }
+    ensures items { bytes.new.items ≡ front.now ++ bytes.old.items }
+    ensures capacity { vec_capacity bytes.old ≤ vec_capacity bytes.new }
+{
+    let was_empty = bytes.is_empty();
+    bytes.extend_from_slice(front).unwrap();
+    if !was_empty {
+        bytes.rotate_right(front.len());
+    }
+}
+
+/// Puts so many that are not marked before those that are there.
+fn put_unmarked(fresh: &mut Vec<bool>, count: usize)
+    requires fits { count + length fresh.old.items ≤ vec_capacity fresh.old }
+    ensures items { fresh.new.items ≡ replicate count false ++ fresh.old.items }
     ensures capacity { vec_capacity fresh.old ≤ vec_capacity fresh.new }
 {
-    fresh.truncate(first);
+    let len = fresh.len();
+    fresh.resize(count + len, false).unwrap();
+    if len > 0 {
+        fresh.rotate_right(count);
+    }
+}
+
+/// Adds ones that are not marked behind those that are there, up to a length.
+fn unmark_to(fresh: &mut Vec<bool>, len: usize)
+    requires longer { length fresh.old.items ≤ len }
+    requires fits { len ≤ vec_capacity fresh.old }
+    ensures items { fresh.new.items ≡ fresh.old.items ++ replicate (len - length fresh.old.items) false }
+    ensures capacity { vec_capacity fresh.old ≤ vec_capacity fresh.new }
+{
     fresh.resize(len, false).unwrap();
 }
 
-/// Makes one list of bytes as another is, where both agree up to a place.
-fn renew(copy: &mut Vec<u8>, bytes: &[u8], first: usize)
-    requires same { take first copy.old.items ≡ take first bytes.now }
-    requires within { first ≤ length bytes.now }
-    requires fits { length bytes.now ≤ vec_capacity copy.old }
-    ensures items { copy.new.items ≡ bytes.now }
-    ensures capacity { vec_capacity copy.old ≤ vec_capacity copy.new }
+/// Keeps what was synced, and which bytes are fresh, of all bytes up to the end, and of those from a place on, where
+/// that is before the first. Answers from where on it is kept now.
+fn keep_from(
+    place: usize,
+    bytes: &[u8],
+    synced: &mut Vec<u8>,
+    fresh: &mut Vec<bool>,
+    first: usize,
+) -> usize
+    requires within { first + length fresh.old.items ≤ length bytes.now }
+    requires synced_fits { first + length synced.old.items + (length bytes.now - (first + length fresh.old.items))
+        ≤ vec_capacity synced.old }
+    requires fresh_fits { length bytes.now ≤ vec_capacity fresh.old }
+    ensures first { result ≡ min first place }
+    ensures marked { result + length fresh.new.items ≡ length bytes.now }
+    ensures synced { take result bytes.now ++ synced.new.items
+        ≡ synced_of bytes.now synced.old.items fresh.old.items first }
+    ensures fresh { replicate result false ++ fresh.new.items ≡ fresh_of bytes.now fresh.old.items first }
+    ensures synced_capacity { vec_capacity synced.old ≤ vec_capacity synced.new }
+    ensures fresh_capacity { vec_capacity fresh.old ≤ vec_capacity fresh.new }
 {
-    copy.truncate(first);
-    copy.extend_from_slice(&bytes[first..]).unwrap();
+    synced
+        .extend_from_slice(&bytes[first + fresh.len()..])
+        .unwrap();
+    unmark_to(fresh, bytes.len() - first);
+    if first <= place {
+        return first;
+    }
+    put_front(synced, &bytes[place..first]);
+    put_unmarked(fresh, first - place);
+    place
+}
+
+/// Keeps the bytes that a write of so many at a place puts others over.
+fn keep_overwritten(synced: &mut Vec<u8>, bytes: &[u8], at: usize, len: usize)
+    requires within { at ≤ length bytes.now }
+    requires fits { length synced.old.items + length bytes.now ≤ vec_capacity synced.old }
+    ensures items { synced.new.items ≡ synced.old.items ++ take len (drop at bytes.now) }
+    ensures capacity { vec_capacity synced.old ≤ vec_capacity synced.new }
+{
+    if at < bytes.len() {
+        let count = len.min(bytes.len() - at);
+        synced.extend_from_slice(&bytes[at..at + count]).unwrap();
+    }
+}
+
+/// Keeps what a write will change, and answers from where on it is kept. The first write after a sync keeps no more
+/// than the bytes that it puts others over.
+fn note_write(
+    bytes: &[u8],
+    at: usize,
+    len: usize,
+    synced: &mut Vec<u8>,
+    fresh: &mut Vec<bool>,
+    first: usize,
+) -> usize
+    requires within { first + length fresh.old.items ≤ length bytes.now }
+    requires place { at ≤ length bytes.now }
+    requires synced_fits { first + length synced.old.items + (length bytes.now - (first + length fresh.old.items))
+        ≤ vec_capacity synced.old }
+    requires bytes_fit { length bytes.now ≤ vec_capacity synced.old }
+    requires fresh_fits { max (length bytes.now) (at + len) ≤ vec_capacity fresh.old }
+    ensures within { result + length fresh.new.items ≤ max (length bytes.now) (at + len) }
+    ensures synced { (new : List ℕ) → length new ≡ len
+        → synced_of (over at new bytes.now) synced.new.items fresh.new.items result
+        ≡ synced_of bytes.now synced.old.items fresh.old.items first }
+    ensures fresh { (new : List ℕ) → length new ≡ len
+        → fresh_of (over at new bytes.now) fresh.new.items result
+        ≡ over at (replicate len true) (fresh_of bytes.now fresh.old.items first) }
+    ensures synced_capacity { vec_capacity synced.old ≤ vec_capacity synced.new }
+    ensures fresh_capacity { vec_capacity fresh.old ≤ vec_capacity fresh.new }
+{
+    if synced.is_empty() && fresh.is_empty() {
+        keep_overwritten(synced, bytes, at, len);
+        fresh.resize(len, true).unwrap();
+        return at;
+    }
+    let first = keep_from(at, bytes, synced, fresh, first);
+    mark(fresh, at - first, len);
+    first
+}
+
+/// Puts other bytes in place of all from a place on.
+fn put_back(bytes: &mut Vec<u8>, first: usize, tail: &[u8])
+    requires fits { first + length tail.now ≤ vec_capacity bytes.old }
+    ensures items { bytes.new.items ≡ take first bytes.old.items ++ tail.now }
+    ensures capacity { vec_capacity bytes.old ≤ vec_capacity bytes.new }
+{
+    bytes.truncate(first);
+    bytes.extend_from_slice(tail).unwrap();
 }
 
 /// A byte at a place, as its place times the pick modulo 256 where it is marked.
@@ -109,35 +219,28 @@ fn garbled_byte(at: usize, pick: u8, is_fresh: bool, byte: u8) -> u8
     }
 }
 
-/// Puts in place of each marked byte its place times the pick, modulo 256, where none is marked up to a place.
+/// Puts in place of each marked byte its place times the pick, modulo 256. The marks begin at the place `first`.
 fn garble(bytes: &mut [u8], fresh: &[bool], first: usize, pick: u8)
-    requires marked { length fresh.now ≡ length bytes.old }
-    requires unmarked { take first fresh.now ≡ replicate first false }
-    ensures bytes { bytes.new ≡ garbled pick 0 fresh.now bytes.old }
-    ensures front { take first bytes.new ≡ take first bytes.old }
+    requires marked { first + length fresh.now ≡ length bytes.old }
+    ensures { bytes.new ≡ garbled pick 0 (replicate first false ++ fresh.now) bytes.old }
 {
     for i in first..bytes.len() {
-        bytes[i] = garbled_byte(i, pick, fresh[i], bytes[i]);
+        bytes[i] = garbled_byte(i, pick, fresh[i - first], bytes[i]);
     }
 }
 
 /// Leaves of the bytes what a crash picks. All up to the place `first` was synced and is not marked.
 fn leave_picked(bytes: &mut Vec<u8>, synced: &[u8], fresh: &[bool], first: usize, stop: Stop)
-    requires same { take first synced.now ≡ take first bytes.old.items }
-    requires marked { length fresh.now ≡ length bytes.old.items }
-    requires unmarked { take first fresh.now ≡ replicate first false }
-    requires within { first ≤ length bytes.old.items }
-    requires synced { first ≤ length synced.now }
-    requires fits { length synced.now ≤ vec_capacity bytes.old }
-    ensures items { bytes.new.items ≡ left_by stop synced.now fresh.now bytes.old.items }
-    ensures front { take first bytes.new.items ≡ take first bytes.old.items }
-    ensures within { first ≤ length bytes.new.items }
-    ensures long { length bytes.new.items ≤ max (length bytes.old.items) (length synced.now) }
+    requires marked { first + length fresh.now ≡ length bytes.old.items }
+    requires fits { first + length synced.now ≤ vec_capacity bytes.old }
+    ensures items { bytes.new.items ≡ left_by stop (take first bytes.old.items ++ synced.now)
+        (replicate first false ++ fresh.now) bytes.old.items }
+    ensures long { length bytes.new.items ≤ max (length bytes.old.items) (first + length synced.now) }
     ensures capacity { vec_capacity bytes.old ≤ vec_capacity bytes.new }
 {
     if let Stop::Stopped { pick } = stop {
         if pick == 0 {
-            renew(bytes, synced, first);
+            put_back(bytes, first, synced);
         } else if pick > 1 {
             garble(bytes, fresh, first, pick);
         }
@@ -192,6 +295,25 @@ fn make_room<T>(items: &mut Vec<T>, len: usize) -> Result<(), Memory>
     items.reserve(len.saturating_sub(items.len()))
 }
 
+/// The same for a list that is mostly empty. An empty one gets a new block, at least twice as large as before: so none
+/// is copied for it.
+fn make_empty_room<T: Drop>(items: &mut Vec<T>, len: usize) -> Result<(), Memory>
+    ensures items { items.new.items ≡ items.old.items }
+    ensures len { vec_len items.new ≡ vec_len items.old }
+    ensures room { OnOk result (len ≤ vec_capacity items.new) }
+    ensures capacity { vec_capacity items.old ≤ vec_capacity items.new }
+{
+    if len <= items.capacity() {
+        return Ok(());
+    }
+    if !items.is_empty() {
+        return make_room(items, len);
+    }
+    let alloc = *items.allocator();
+    *items = Vec::with_capacity(alloc, len.max(items.capacity().saturating_mul(2)))?;
+    Ok(())
+}
+
 impl MemLane {
     /// A lane that was never touched.
     pub(crate) fn new(alloc: Global) -> MemLane
@@ -215,12 +337,10 @@ impl MemLane {
     pub(crate) fn of(alloc: Global, bytes: &[u8]) -> Result<MemLane, Memory>
         ensures { IfOk result (λ l. l ≡ lane_of bytes.now) }
     {
-        let mut fresh = Vec::new(alloc);
-        fresh.resize(bytes.len(), false)?;
         Ok(MemLane {
             bytes: Vec::from_slice(alloc, bytes)?,
-            synced: Vec::from_slice(alloc, bytes)?,
-            fresh,
+            synced: Vec::with_capacity(alloc, bytes.len())?,
+            fresh: Vec::with_capacity(alloc, bytes.len())?,
             first: bytes.len(),
             extent: bytes.len(),
             room: 0,
@@ -257,13 +377,14 @@ impl MemLane {
         ensures ok { OnOk result (self.new ≡ with_room size self.old) }
         ensures err { OnErr result (self.new ≡ self.old) }
     {
-        let room = self.room.max(size);
-        let extent = self.extent.max(room);
-        make_room(&mut self.bytes, extent)?;
-        make_room(&mut self.synced, extent)?;
-        make_room(&mut self.fresh, extent)?;
-        self.extent = extent;
-        self.room = room;
+        if size > self.extent {
+            make_room(&mut self.bytes, size)?;
+            make_empty_room(&mut self.synced, size)?;
+            make_empty_room(&mut self.fresh, size)?;
+            let capacity = self.bytes.capacity().min(self.synced.capacity());
+            self.extent = capacity.min(self.fresh.capacity());
+        }
+        self.room = self.room.max(size);
         self.left = 16;
         self.reserved = true;
         Ok(())
@@ -329,15 +450,16 @@ impl MemLane {
     pub(crate) fn crash(&mut self)
         ensures { self.new ≡ crashed self.old }
     {
-        leave_picked(
-            &mut self.bytes,
-            &self.synced,
-            &self.fresh,
+        let first = keep_from(
             self.first,
-            self.stop,
+            &self.bytes,
+            &mut self.synced,
+            &mut self.fresh,
+            self.first,
         );
-        renew(&mut self.synced, &self.bytes, self.first);
-        unmark(&mut self.fresh, self.first, self.bytes.len());
+        leave_picked(&mut self.bytes, &self.synced, &self.fresh, first, self.stop);
+        self.synced.clear();
+        self.fresh.clear();
         self.first = self.bytes.len();
         self.history = self.history.then(&Note::Holds(&self.bytes));
         self.stop = Stop::Unset;
@@ -350,9 +472,15 @@ impl MemLane {
         requires few { 0 < self.old.left }
         ensures { self.new ≡ with_calls (Write at bytes.now ∷ self.old.calls) self.old }
     {
+        self.first = note_write(
+            &self.bytes,
+            at,
+            bytes.len(),
+            &mut self.synced,
+            &mut self.fresh,
+            self.first,
+        );
         overwrite(&mut self.bytes, at, bytes);
-        mark(&mut self.fresh, at, bytes.len());
-        self.first = self.first.min(at);
         self.history = self.history.then(&Note::Wrote { at, bytes });
         self.left -= 1;
     }
@@ -362,21 +490,27 @@ impl MemLane {
         requires few { 0 < self.old.left }
         ensures { self.new ≡ with_calls (Cut len ∷ self.old.calls) self.old }
     {
+        let first = keep_from(
+            len,
+            &self.bytes,
+            &mut self.synced,
+            &mut self.fresh,
+            self.first,
+        );
         self.bytes.truncate(len);
-        self.fresh.truncate(len);
-        self.first = self.first.min(len);
+        self.fresh.truncate(len - first);
+        self.first = first;
         self.history = self.history.then(&Note::Cut { len });
         self.left -= 1;
     }
 
-    /// A sync that was made. It costs what stands past the first place that was written or cut since the last one.
+    /// A sync that was made. It copies no byte.
     fn keep_sync(&mut self)
         requires few { 0 < self.old.left }
         ensures { self.new ≡ with_calls (Sync ∷ self.old.calls) self.old }
     {
-        renew(&mut self.synced, &self.bytes, self.first);
-        unmark(&mut self.fresh, self.first, self.bytes.len());
-        self.first = self.bytes.len();
+        self.synced.clear();
+        self.fresh.clear();
         self.history = self.history.then(&Note::Synced);
         self.left -= 1;
     }
