@@ -3,12 +3,13 @@
 //! The form in bytes is guessed from the text. Where that is an event which prints the very same text, the guess was
 //! right, since what is printed reads back; every other text is left to `serde_json`.
 
-ghost use Rattle.std.specs.Prelude.{◌≡◌, Ok, IfOk, IfSome};
+ghost use Rattle.std.specs.Prelude.{◌≡◌, ◌<◌, Ok, IfOk, IfSome, length};
 ghost use Rattle.gr_event.specs.Json.{event_text};
 
 use crate::encode::{INTEGER, TEXT, TRUTH};
 use crate::event::{Event, Memory};
 use crate::limits::{MAX_BYTES, MAX_NAME, MAX_PAIRS, MAX_TEXT};
+use memchr::memchr;
 use std::alloc::Global;
 
 /// Up to how many bytes a text has whose form is guessed without memory.
@@ -149,6 +150,25 @@ fn quoted(text: &[u8]) -> Option<(&[u8], &[u8])> {
     let [b'"', inside @ ..] = text else {
         return None;
     };
-    let end = inside.iter().position(|byte| *byte == b'"')?;
+    let end = place_of_quote(inside)?;
     Some((&inside[..end], &inside[end + 1..]))
+}
+
+/// Where the first quote of a text stands. In a short text it is sought byte by byte.
+#[inline]
+fn place_of_quote(text: &[u8]) -> Option<usize>
+    ensures { IfSome result (λ place. place < length text.now) }
+{
+    if text.len() <= SHORT {
+        return text.iter().position(|byte| *byte == b'"');
+    }
+    far_quote(text)
+}
+
+/// The same in a long text. Never inlined, so that the search in a short one can be.
+#[inline(never)]
+fn far_quote(text: &[u8]) -> Option<usize>
+    ensures { IfSome result (λ place. place < length text.now) }
+{
+    memchr(b'"', text)
 }

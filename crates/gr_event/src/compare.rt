@@ -14,10 +14,13 @@ ghost use Rattle.gr_event.specs.Get.{part_value};
 ghost use Rattle.gr_event.specs.declared.event.Event.{Event};
 
 use crate::event::Event;
-use crate::print::is_plain;
+use crate::print::{is_plain, is_plain_text};
 use crate::value::Part;
 use crate::walk::front;
 use itoa::Buffer;
+
+/// From so many bytes on a text is not compared byte by byte.
+const MANY: usize = 12;
 
 impl Event {
     /// Whether it prints as this text, and no byte of that is an escape.
@@ -111,6 +114,27 @@ fn behind_quoted<'a>(inside: &[u8], text: &'a [u8]) -> Option<&'a [u8]>
 
 /// Behind a text that stands for itself.
 fn behind_plain<'a>(inside: &[u8], text: &'a [u8]) -> Option<&'a [u8]>
+    ensures { IfSome result (λ left. text.now ≡ escape inside.now ++ left.now) }
+{
+    if inside.len() < MANY {
+        return behind_few(inside, text);
+    }
+    behind_many(inside, text)
+}
+
+/// The same, many bytes at a time. Never inlined, so that the walk over few can be.
+#[inline(never)]
+fn behind_many<'a>(inside: &[u8], text: &'a [u8]) -> Option<&'a [u8]>
+    ensures { IfSome result (λ left. text.now ≡ escape inside.now ++ left.now) }
+{
+    if !is_plain_text(inside) {
+        return None;
+    }
+    behind_bytes(inside, text)
+}
+
+/// The same, byte by byte.
+fn behind_few<'a>(inside: &[u8], text: &'a [u8]) -> Option<&'a [u8]>
     ensures { IfSome result (λ left. text.now ≡ escape inside.now ++ left.now) }
 {
     let mut left = text;

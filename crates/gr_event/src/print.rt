@@ -173,11 +173,15 @@ fn put_escaped(text: &[u8], into: &mut Text) -> Result<(), Memory>
     Ok(())
 }
 
-/// Whether each byte of a text stands for itself.
-fn is_plain_text(text: &[u8]) -> bool
+/// Whether each byte of a text stands for itself. All are looked at, many at a time.
+pub(crate) fn is_plain_text(text: &[u8]) -> bool
     ensures { result ≡ list_all is_plain text.now }
 {
-    text.iter().all(|byte| is_plain(*byte))
+    let mut plain = true;
+    'bytes: for byte in text {
+        plain &= is_plain(*byte);
+    }
+    plain
 }
 
 /// Whether a byte stands for itself in a text of JSON.

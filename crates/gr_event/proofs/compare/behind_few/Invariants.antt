@@ -1,6 +1,6 @@
 use Rattle.std.proofs.Common.{◌≡◌, ◌++◌, List, ℕ, drop}
 use Rattle.json.specs.Print.{escape}
-use Rattle.gr_event.proofs.compare.behind_plain.Given as goal
+use Rattle.gr_event.proofs.compare.behind_few.Given as goal
 
 -- what is found of the bytes that are left is found of all
 abbrev pub invariant-bytes : goal.invariant-bytes

@@ -1,6 +1,6 @@
 use Rattle.std.proofs.Common.{sym, ◌∙◌, rules}
 use Rattle.gr_event.proofs.Found.{found_plain}
-use Rattle.gr_event.proofs.compare.behind_plain.Goals as goal
+use Rattle.gr_event.proofs.compare.behind_few.Goals as goal
 
 pub bytes-preserved : goal.bytes-preserved
 bytes-preserved c = λ end more.
