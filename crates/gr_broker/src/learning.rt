@@ -1,8 +1,8 @@
 //! New ticks come to a broker: they are handed over, forwarded, consolidated.
 
 ghost use Rattle.std.specs.Prelude.{if◌then◌else◌, ◌≡◌, ◌⊎◌, ℕ, ◌+◌, ◌*◌, ◌<◌, ◌≤◌, true, false, not, ◌&&◌};
-ghost use Rattle.std.specs.Prelude.{nat_lt, nat_le, [], ◌++◌, length, get_or, set, slice_index_or, IfOk, OnOk, OnErr, IsTrue};
-ghost use Rattle.std.specs.Prelude.{◌==◌, ◌≢◌};
+ghost use Rattle.std.specs.Prelude.{nat_lt, nat_le, [], ◌++◌, length, get_or, set, slice_index_or, IfOk, OnOk};
+ghost use Rattle.std.specs.Prelude.{◌==◌, ◌≢◌, OnErr, IsTrue};
 ghost use Rattle.std.specs.List.{flat_map};
 ghost use Rattle.std.specs.Option.{option_map};
 ghost use Rattle.gr_tick.specs.declared.TheConstants.{MAX_TICK};

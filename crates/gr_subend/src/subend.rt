@@ -83,8 +83,8 @@ impl Subend {
         Ok(deliveries)
     }
 
-    /// The events that a move of the horizon to a tick passes, once a piece is joined to what is known: for a caller that
-    /// knows that tick. It looks at the ticks that are passed and no others.
+    /// The events that a move of the horizon to a tick passes, once a piece is joined to what is known: for a caller
+    /// that knows that tick. It looks at the ticks that are passed and no others.
     pub fn coming_upto(
         &self,
         alloc: Global,

@@ -1,6 +1,6 @@
 //! The runs of a piece: they stand in a row that is made from its first run to its last.
-ghost use Rattle.std.specs.Prelude.{if◌then◌else◌, ◌≡◌, ◌+◌, ◌<◌, ◌≤◌, ℕ, cond, List, ◌∷◌, length, take, drop, IfOk, OnOk};
-ghost use Rattle.std.specs.Prelude.{OnErr};
+ghost use Rattle.std.specs.Prelude.{if◌then◌else◌, ◌≡◌, ◌+◌, ◌<◌, ◌≤◌, ℕ, cond, List, ◌∷◌, length, take, drop};
+ghost use Rattle.std.specs.Prelude.{IfOk, OnOk, OnErr};
 ghost use Rattle.gr_tick.specs.declared.TheConstants.{MAX_TICK};
 ghost use Rattle.gr_tick.specs.Runs.{value_at, is_in};
 ghost use Rattle.gr_tick.specs.Stored.{IsRun, AreTickRuns, EndBefore, StaysUntil};
