@@ -66,7 +66,9 @@ impl<T> Row<T> {
 }
 
 impl<T: Drop> Row<T> {
-    /// Puts a value at the end. It fails only where memory is refused; then the row is as it was.
+    /// Puts a value at the end. It fails only where memory is refused; then the row is as it was. Inlined always, since
+    /// most rows get one value.
+    #[inline(always)]
     pub(crate) fn push(&mut self, alloc: Global, value: T) -> Result<(), AllocError>
         ensures ok { OnOk result (self.new.items ≡ self.old.items ++ value ∷ []) }
         ensures err { OnErr result (self.new ≡ self.old) }
@@ -98,6 +100,7 @@ impl<T: Drop> Row<T> {
 }
 
 /// Puts a second value behind the one that stands alone. It fails only where memory is refused; then all is as it was.
+#[inline(never)]
 fn put_second<T: Drop>(values: &mut Values<T>, alloc: Global, value: T) -> Result<(), AllocError>
     requires { IsAlone values.old }
     ensures ok { OnOk result ((listed values.new).items ≡ (listed values.old).items ++ value ∷ []) }
