@@ -13,7 +13,10 @@ use memchr::memchr;
 use std::alloc::Global;
 
 /// Up to how many bytes a text has whose form is guessed without memory.
-const SHORT: usize = 64;
+const SHORT: usize = 128;
+
+/// Up to how many bytes a text has in which a quote is sought byte by byte.
+const NEAR: usize = 64;
 
 /// By how many bytes a form is longer than its text, at most: by five for an integer of one digit.
 const LONGER: usize = 5 * MAX_PAIRS;
@@ -159,7 +162,7 @@ fn quoted(text: &[u8]) -> Option<(&[u8], &[u8])> {
 fn place_of_quote(text: &[u8]) -> Option<usize>
     ensures { IfSome result (λ place. place < length text.now) }
 {
-    if text.len() <= SHORT {
+    if text.len() <= NEAR {
         return text.iter().position(|byte| *byte == b'"');
     }
     far_quote(text)

@@ -14,13 +14,10 @@ ghost use Rattle.gr_event.specs.Get.{part_value};
 ghost use Rattle.gr_event.specs.declared.event.Event.{Event};
 
 use crate::event::Event;
-use crate::print::{is_plain, is_plain_text};
+use crate::print::{MANY, are_all_plain, is_plain};
 use crate::value::Part;
 use crate::walk::front;
 use itoa::Buffer;
-
-/// From so many bytes on a text is not compared byte by byte.
-const MANY: usize = 12;
 
 impl Event {
     /// Whether it prints as this text, and no byte of that is an escape.
@@ -127,7 +124,7 @@ fn behind_plain<'a>(inside: &[u8], text: &'a [u8]) -> Option<&'a [u8]>
 fn behind_many<'a>(inside: &[u8], text: &'a [u8]) -> Option<&'a [u8]>
     ensures { IfSome result (λ left. text.now ≡ escape inside.now ++ left.now) }
 {
-    if !is_plain_text(inside) {
+    if !are_all_plain(inside) {
         return None;
     }
     behind_bytes(inside, text)

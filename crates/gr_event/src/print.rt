@@ -21,6 +21,9 @@ use crate::walk::front;
 use itoa::Buffer;
 use std::alloc::Global;
 
+/// From so many bytes on a text is not looked at byte by byte.
+pub(crate) const MANY: usize = 12;
+
 impl Event {
     /// Its compact JSON text: `{"name":value,...}` without spaces, names rising.
     pub fn json(&self, alloc: Global) -> Result<Text, Memory>
@@ -173,8 +176,19 @@ fn put_escaped(text: &[u8], into: &mut Text) -> Result<(), Memory>
     Ok(())
 }
 
-/// Whether each byte of a text stands for itself. All are looked at, many at a time.
-pub(crate) fn is_plain_text(text: &[u8]) -> bool
+/// Whether each byte of a text stands for itself.
+fn is_plain_text(text: &[u8]) -> bool
+    ensures { result ≡ list_all is_plain text.now }
+{
+    if text.len() < MANY {
+        return text.iter().all(|byte| is_plain(*byte));
+    }
+    are_all_plain(text)
+}
+
+/// The same, many bytes at a time. Never inlined, so that the walk over few can be.
+#[inline(never)]
+pub(crate) fn are_all_plain(text: &[u8]) -> bool
     ensures { result ≡ list_all is_plain text.now }
 {
     let mut plain = true;
