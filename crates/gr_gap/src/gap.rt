@@ -147,7 +147,8 @@ impl<T> Gap<T> {
         value
     }
 
-    /// The value at `i`.
+    /// The value at `i`. Inlined always: most lists have no more than their first block.
+    #[inline(always)]
     pub fn get(&self, i: usize) -> &T
         requires { i < length self.now.items }
         ensures { result.now ≡ slice_index_or self.now.items i result.now }

@@ -82,7 +82,7 @@ module _ {V : Type 0} where
   pub touches_one : (f l : ℕ) (r : Run V) → cond (touches f l r) 1 0 ≤ 1
   touches_one f l r = grind (arith, nat_tests)
 
-  none_ended : (f l : ℕ) (xs : List (Run V)) → EndBefore xs f → runs_in f l xs ≤ 0
+  pub none_ended : (f l : ℕ) (xs : List (Run V)) → EndBefore xs f → runs_in f l xs ≤ 0
   none_ended f l [] h = omega arith
   none_ended f l (x ∷ xs) h = omega (arith, runs_in-cons f l x xs, touches_none f l x h.0, none_ended f l xs h.1)
 

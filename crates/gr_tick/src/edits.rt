@@ -565,6 +565,9 @@ pub fn count_in<V: Lattice>(runs: &Gap<Run<V>>, first: u64, last: u64) -> usize
     ensures { result ≡ runs_in first last runs.now.items }
 {
     let begin = seek(runs, first);
+    if begin == runs.len() {
+        return 0;
+    }
     let end = begun_by(runs, last);
     end.saturating_sub(begin)
 }
