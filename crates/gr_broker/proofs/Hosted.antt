@@ -1,7 +1,7 @@
 -- What the host logs, in the machine's words: the log with one record more, how far all is consolidated, and which
 -- crashes lie before and which after the end of the first of two appends
 use Rattle.std.proofs.Common.{◌≡◌, ◌≢◌, ◌⊎◌, inl, inr, ⊎_elim, ℕ, suc, ◌+◌, ◌-◌, ◌<◌, ◌≤◌, min, Bool, true, false, ◌||◌, List, [], ◌∷◌, ◌++◌, length, Option, Some, None, Result, Ok, Err, refl, sym, ap, ap₂, ◌∙◌, subst, arith, le_refl, length-append, append-nil}
-use Rattle.std.specs.Prelude.{nat_le, nat_lt, if◌then◌else◌, option_map, IfOk, OnOk}
+use Rattle.std.specs.Prelude.{nat_le, nat_lt, if◌then◌else◌, option_map, IfOk, OnOk, IsErrOf}
 use Rattle.std.proofs.lemmas.Bool.{cases_lt, true≢false, leb-true, lt-ltb, le-ltb}
 use Rattle.gr_event.specs.declared.event.Event.{Event}
 use Rattle.gr_out.specs.Lane.{Lane, Call, LeftFrom, LeftSince, moment}
@@ -251,9 +251,9 @@ host_woken net p b now v log quiet = ap (λ marks. cut_after marks (cut_by (nat_
 -- Answers of one line, and of nothing logged
 
 -- a line alone is told
-pub line_told : (answer : Result Told LogFault) (v : View) (log : Log) (r : Report) → IfOk answer (λ told. told.reports ≡ r ∷ []) → IfOk answer (λ told. told.frames.frames ≡ []) → IfOk answer (λ told. Tells (says v log r) told)
-line_told (Ok told) v log r lines frames = record { lines = lines; frames = frames; spelled = subst (λ fs. AreFrames fs []) (sym frames) tt }
-line_told (Err e) v log r lines frames = tt
+pub line_told : {T : Type 0} (answer : Result T LogFault) (told : Told) (v : View) (log : Log) (r : Report) → OnOk answer (told.reports ≡ r ∷ []) → OnOk answer (told.frames.frames ≡ []) → OnOk answer (Tells (says v log r) told)
+line_told (Ok x) told v log r lines frames = record { lines = lines; frames = frames; spelled = subst (λ fs. AreFrames fs []) (sym frames) tt }
+line_told (Err e) told v log r lines frames = tt
 
 -- what holds anyway holds where the answer is `Ok`
 pub on_ok : {T E : Type 0} (answer : Result T E) (P : Type 0) → P → OnOk answer P
@@ -270,4 +270,37 @@ pub adds_nothing : (told : Told) → Adds [] [] told told
 adds_nothing told = record {
   lines = sym (append-nil told.reports);
   frames = record { added = sym (append-nil told.frames.frames); spelled = tt };
+}
+
+-- What a call does to its lane hangs on its fault alone, and not on what else it answers
+
+pub appends_done : {T U : Type 0} (l : LogView) (logged : Option Record) (before after : Lane) (x : T) (y : U) → Appends {T = T} l logged before after (Ok x) → Appends {T = U} l logged before after (Ok y)
+appends_done l logged before after x y h = record {
+  stands = h.stands;
+  calls = h.calls;
+  any_moment = h.any_moment;
+  breaks = h.breaks;
+  kept = h.kept;
+  untouched = λ no. cc;
+  still = λ no. cc;
+  few = λ no. cc;
+  reserved = h.reserved;
+  unset = h.unset;
+}
+
+fault_stays : {T U : Type 0} (e f : LogFault) → IsErrOf {T = U} (Err e) f → IsErrOf {T = T} (Err e) f
+fault_stays {T} e f is = let same : e ≡ f = cc in ap (λ (x : LogFault). Err x) same
+
+pub appends_stopped : {T U : Type 0} (l : LogView) (logged : Option Record) (before after : Lane) (e : LogFault) → Appends {T = T} l logged before after (Err e) → Appends {T = U} l logged before after (Err e)
+appends_stopped l logged before after e h = record {
+  stands = h.stands;
+  calls = h.calls;
+  any_moment = h.any_moment;
+  breaks = h.breaks;
+  kept = h.kept;
+  untouched = λ is. h.untouched (fault_stays e _ is);
+  still = λ is. h.still (fault_stays e _ is);
+  few = λ is. h.few (fault_stays e _ is);
+  reserved = h.reserved;
+  unset = h.unset;
 }

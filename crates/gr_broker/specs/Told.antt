@@ -1,5 +1,5 @@
 -- What a call tells
-use Rattle.std.specs.Prelude.{◌≡◌, List, ◌++◌, map, Result, Ok, Err}
+use Rattle.std.specs.Prelude.{◌≡◌, List, [], ◌++◌, map, Result, Ok, Err}
 use Rattle.gr_frame.specs.declared.Frame.{Frame}
 use Rattle.gr_frame.specs.Bytes.{frame_bytes}
 use Rattle.gr_frame.specs.Cut.{AreFrames}
@@ -18,6 +18,11 @@ pub record Tells (o : MachineOutcome) (told : Outcome) : Type 0 where
   pub lines : told.reports ≡ o.lines
   pub frames : told.frames.frames ≡ map frame_bytes o.frames
   pub spelled : AreFrames told.frames.frames o.frames
+
+-- nothing is told or sent yet
+pub record IsBlank (told : Outcome) : Type 0 where
+  pub lines : told.reports ≡ []
+  pub frames : told.frames.frames ≡ []
 
 -- these frames are put at the end, each spelled
 pub record AddsFrames (sent : List Frame) (before after : FrameList) : Type 0 where

@@ -208,10 +208,24 @@ impl Broker {
             edges: &self.edges,
             positions: &self.positions,
         };
-        match publish_in(&seat, disk, &mut self.held, p, number, event, now) {
-            Ok(told) => Ok(told),
-            Err(fault) => Err(fault_at(p, fault)),
+        let mut told = Outcome::new(self.alloc);
+        match publish_in(
+            &seat,
+            disk,
+            &mut self.held,
+            p,
+            number,
+            event,
+            now,
+            &mut told,
+        ) {
+            Ok(()) => {}
+            Err(fault) => {
+                drop(told);
+                return Err(fault_at(p, fault));
+            }
         }
+        Ok(told)
     }
 
     /// Takes a datagram, at the moment `now`. First it is decoded, then it must fit, then it must not clash; one that

@@ -19,7 +19,7 @@ ghost use Rattle.gr_model.specs.Broker.{Outcome as MachineOutcome, learn, horizo
 ghost use Rattle.gr_model.specs.Broker.{marking_by, wake_host};
 ghost use Rattle.gr_broker.specs.Of.{IsKept};
 ghost use Rattle.gr_broker.specs.Held.{held_view, IsSite};
-ghost use Rattle.gr_broker.specs.Told.{Tells, Adds, AddsFrames};
+ghost use Rattle.gr_broker.specs.Told.{Tells, Adds, AddsFrames, IsBlank};
 ghost use Rattle.gr_broker.specs.Hosted.{logged, cut_logs, AppendsTwice, WakeLeaves};
 ghost use Rattle.gr_broker.specs.Host.{host_with, tick_marked, tick_cut, mark_lines, cut_lines, expected_frames};
 
@@ -104,7 +104,8 @@ fn log_and_learn<D: Disk>(
     }
 }
 
-/// Logs an event as it was planned, where the log is not broken, and learns it with the silence before it.
+/// Logs an event as it was planned, where the log is not broken, and learns it with the silence before it. What that
+/// tells and sends is put into an outcome that told nothing before.
 fn log_event<D: Disk>(
     site: &Site<'_>,
     disk: &mut D,
@@ -114,15 +115,17 @@ fn log_event<D: Disk>(
     event: &Event,
     tick: u64,
     fresh: &Piece<K>,
-) -> Result<Outcome, LogFault>
+    into: &mut Outcome,
+) -> Result<(), LogFault>
     requires site { IsSite site.now }
     requires host { is_host (net_of site.now.topo.now) site.now.publisher site.now.broker ≡ true }
     requires kept { IsKept (net_of site.now.topo.now) site.now.publisher site.now.broker (held_view held.old) }
     requires planned { IsPlanned log.old.records number event.now (Published.Logged tick fresh.now) }
     requires stands { D.tells → IsReady log.old (D.lane_of disk.old log.old.lane) }
-    ensures told { IfOk result (λ told. Tells (publish_by
+    requires blank { IsBlank into.old }
+    ensures told { OnOk result (Tells (publish_by
         (net_of site.now.topo.now) site.now.publisher site.now.broker number event.now
-        (held_view held.old) (log_of log.old.records) (Published.Logged tick fresh.now)) told) }
+        (held_view held.old) (log_of log.old.records) (Published.Logged tick fresh.now)) into.new) }
     ensures view { OnOk result (let o : MachineOutcome = publish_by
         (net_of site.now.topo.now) site.now.publisher site.now.broker number event.now
         (held_view held.old) (log_of log.old.records) (Published.Logged tick fresh.now) in held_view held.new ≡
@@ -150,53 +153,42 @@ fn log_event<D: Disk>(
         return Err(LogFault::Reopen);
     }
     let publisher = site.publisher;
-    let mut told = match tell(
-        site,
+    match tell(
         Report::Logged {
             publisher,
             number,
             tick,
         },
+        into,
     ) {
-        Ok(told) => told,
+        Ok(()) => {}
         Err(_) => return Err(LogFault::Memory),
-    };
+    }
     let entry = Record::Event {
         tick,
         number,
         event: event.share(),
     };
-    match log_and_learn(site, disk, log, held, &entry, fresh, &mut told) {
-        Ok(()) => {
-            drop(entry);
-            Ok(told)
-        }
-        Err(fault) => {
-            drop(entry);
-            drop(told);
-            Err(fault)
-        }
-    }
+    let done = log_and_learn(site, disk, log, held, &entry, fresh, into);
+    drop(entry);
+    done
 }
 
-/// One line is told, and nothing is sent.
-fn tell(site: &Site<'_>, line: Report) -> Result<Outcome, LogFault>
-    ensures lines { IfOk result (λ told. told.reports ≡ line ∷ []) }
-    ensures frames { IfOk result (λ told. told.frames.frames ≡ []) }
+/// One line is told, and nothing is sent, by an outcome that told nothing before.
+fn tell(line: Report, into: &mut Outcome) -> Result<(), LogFault>
+    requires { IsBlank into.old }
+    ensures lines { OnOk result (into.new.reports ≡ line ∷ []) }
+    ensures frames { OnOk result (into.new.frames.frames ≡ []) }
     ensures err { (e : LogFault) → result ≡ Err e → e ≡ LogFault.Memory }
 {
-    let mut told = Outcome::new(site.alloc);
-    match told.reports.push(line) {
-        Ok(()) => Ok(told),
-        Err(_) => {
-            drop(told);
-            Err(LogFault::Memory)
-        }
+    match into.reports.push(line) {
+        Ok(()) => Ok(()),
+        Err(_) => Err(LogFault::Memory),
     }
 }
 
 /// Publishes an event under a number at the host, at the moment `now`: the machine's publish. Only once the event is
-/// synced in the log it is learned, told and sent.
+/// synced in the log it is learned, told and sent. What is told and sent is put into an outcome that told nothing before.
 ///
 /// After `Memory` nothing has changed. After `Disk` the log is broken and all else is as before. `Reopen` comes where
 /// a broken log would be appended to, whatever else is wanting.
@@ -208,15 +200,17 @@ pub(crate) fn publish<D: Disk>(
     number: u64,
     event: &Event,
     now: u64,
-) -> Result<Outcome, LogFault>
+    into: &mut Outcome,
+) -> Result<(), LogFault>
     requires site { IsSite site.now }
     requires host { is_host (net_of site.now.topo.now) site.now.publisher site.now.broker ≡ true }
     requires kept { IsKept (net_of site.now.topo.now) site.now.publisher site.now.broker (held_view held.old) }
     requires now { now ≤ MAX_TICK }
     requires stands { D.tells → IsReady log.old (D.lane_of disk.old log.old.lane) }
-    ensures told { IfOk result (λ told. Tells (publish
+    requires blank { IsBlank into.old }
+    ensures told { OnOk result (Tells (publish
         (net_of site.now.topo.now) site.now.publisher site.now.broker now number event.now
-        (held_view held.old) (log_of log.old.records)) told) }
+        (held_view held.old) (log_of log.old.records)) into.new) }
     ensures view { OnOk result (let o : MachineOutcome = publish
         (net_of site.now.topo.now) site.now.publisher site.now.broker now number event.now
         (held_view held.old) (log_of log.old.records) in held_view held.new ≡ o.view) }
@@ -254,20 +248,20 @@ pub(crate) fn publish<D: Disk>(
     let publisher = site.publisher;
     match answer {
         Published::Logged { tick, fresh } => {
-            let told = log_event(site, disk, log, held, number, event, tick, &fresh);
+            let done = log_event(site, disk, log, held, number, event, tick, &fresh, into);
             drop(fresh);
-            told
+            done
         }
-        Published::Already => tell(site, Report::Already { publisher, number }),
+        Published::Already => tell(Report::Already { publisher, number }, into),
         Published::Gap { next } => tell(
-            site,
             Report::Gap {
                 publisher,
                 number,
                 next,
             },
+            into,
         ),
-        Published::Exhausted => tell(site, Report::Exhausted { publisher, number }),
+        Published::Exhausted => tell(Report::Exhausted { publisher, number }, into),
     }
 }
 

@@ -15,7 +15,7 @@ ghost use Rattle.gr_broker.specs.Seen.{log_in, log_said, with_logged, with_faile
 ghost use Rattle.gr_broker.specs.Of.{IsKept};
 ghost use Rattle.gr_broker.specs.Held.{held_view, logs_of, broker_at, IsSeat, IsSite};
 ghost use Rattle.gr_broker.specs.Hosted.{publish_at, publish_logs_at, after_publish, AppendsAt};
-ghost use Rattle.gr_broker.specs.Told.{Tells};
+ghost use Rattle.gr_broker.specs.Told.{Tells, IsBlank};
 
 use crate::held::Held;
 use crate::hosting::publish;
@@ -25,7 +25,8 @@ use gr_event::Event;
 use gr_out::Disk;
 use gr_publog::LogFault;
 
-/// Publishes at one publisher's part, which has its log. Faults are those of `hosting::publish`.
+/// Publishes at one publisher's part, which has its log. Faults are those of `hosting::publish`, and so is what becomes
+/// of the outcome.
 fn publish_part<D: Disk>(
     site: &Site<'_>,
     disk: &mut D,
@@ -33,15 +34,17 @@ fn publish_part<D: Disk>(
     number: u64,
     event: &Event,
     now: u64,
-) -> Result<Outcome, LogFault>
+    into: &mut Outcome,
+) -> Result<(), LogFault>
     requires site { IsSite site.now }
     requires host { is_host (net_of site.now.topo.now) site.now.publisher site.now.broker ≡ true }
     requires kept { IsKept (net_of site.now.topo.now) site.now.publisher site.now.broker (held_view part.old) }
     requires now { now ≤ MAX_TICK }
     requires here { IsSome part.old.log }
+    requires blank { IsBlank into.old }
     requires stands { D.tells → (l : LogView) → part.old.log ≡ Some l → IsReady l (D.lane_of disk.old l.lane) }
-    ensures told { IfOk result (λ told. Tells (publish (net_of site.now.topo.now) site.now.publisher site.now.broker now
-        number event.now (held_view part.old) (log_said part.old.log)) told) }
+    ensures told { OnOk result (Tells (publish (net_of site.now.topo.now) site.now.publisher site.now.broker now
+        number event.now (held_view part.old) (log_said part.old.log)) into.new) }
     ensures view { OnOk result (let o : MachineOutcome = publish (net_of site.now.topo.now) site.now.publisher
         site.now.broker now number event.now (held_view part.old) (log_said part.old.log) in
         held_view part.new ≡ o.view) }
@@ -73,12 +76,13 @@ fn publish_part<D: Disk>(
     let Some(mut log) = part.log.take() else {
         unreachable!()
     };
-    let answer = publish(site, disk, &mut log, part, number, event, now);
+    let answer = publish(site, disk, &mut log, part, number, event, now, into);
     part.log = Some(log);
     answer
 }
 
-/// Publishes an event for a publisher that is here. All that is kept of other publishers stays as it was.
+/// Publishes an event for a publisher that is here. All that is kept of other publishers stays as it was. What is told
+/// and sent is put into an outcome that told nothing before.
 pub(crate) fn publish_in<D: Disk>(
     seat: &Seat<'_>,
     disk: &mut D,
@@ -87,7 +91,8 @@ pub(crate) fn publish_in<D: Disk>(
     number: u64,
     event: &Event,
     now: u64,
-) -> Result<Outcome, LogFault>
+    into: &mut Outcome,
+) -> Result<(), LogFault>
     requires seat { IsSeat seat.now }
     requires many { length held.old.items ≡ length seat.now.topo.now.publishers }
     requires publisher { p < length seat.now.topo.now.publishers }
@@ -97,10 +102,11 @@ pub(crate) fn publish_in<D: Disk>(
     requires here { IsSome (get_or (logs_of held.old.items) p None) }
     requires lanes { (q : ℕ) (l : LogView) → get_or (logs_of held.old.items) q None ≡ Some l → l.lane ≡ 2 * q }
     requires now { now ≤ MAX_TICK }
+    requires blank { IsBlank into.old }
     requires stands { D.tells → (q : ℕ) (l : LogView) → get_or (logs_of held.old.items) q None ≡ Some l
         → IsReady l (D.lane_of disk.old (2 * q)) }
     ensures told { let b = broker_at seat.now held.old.items in
-        IfOk result (λ told. Tells (publish_at seat.now.topo.now b p now number event.now) told) }
+        OnOk result (Tells (publish_at seat.now.topo.now b p now number event.now) into.new) }
     ensures leaves { let b = broker_at seat.now held.old.items in
         let after = after_publish seat.now.topo.now b p now number event.now in
         Leaves b after (broken_at b p) (broker_at seat.now held.new.items) result }
@@ -132,5 +138,5 @@ pub(crate) fn publish_in<D: Disk>(
         → IsReady l (D.lane_of disk.new (2 * q)) }
 {
     let site = site_at(seat, p);
-    publish_part(&site, disk, &mut held[p as usize], number, event, now)
+    publish_part(&site, disk, &mut held[p as usize], number, event, now, into)
 }
