@@ -295,25 +295,6 @@ fn make_room<T>(items: &mut Vec<T>, len: usize) -> Result<(), Memory>
     items.reserve(len.saturating_sub(items.len()))
 }
 
-/// The same for a list that is mostly empty. An empty one gets a new block, at least twice as large as before: so none
-/// is copied for it.
-fn make_empty_room<T: Drop>(items: &mut Vec<T>, len: usize) -> Result<(), Memory>
-    ensures items { items.new.items ≡ items.old.items }
-    ensures len { vec_len items.new ≡ vec_len items.old }
-    ensures room { OnOk result (len ≤ vec_capacity items.new) }
-    ensures capacity { vec_capacity items.old ≤ vec_capacity items.new }
-{
-    if len <= items.capacity() {
-        return Ok(());
-    }
-    if !items.is_empty() {
-        return make_room(items, len);
-    }
-    let alloc = *items.allocator();
-    *items = Vec::with_capacity(alloc, len.max(items.capacity().saturating_mul(2)))?;
-    Ok(())
-}
-
 impl MemLane {
     /// A lane that was never touched.
     pub(crate) fn new(alloc: Global) -> MemLane
@@ -379,8 +360,8 @@ impl MemLane {
     {
         if size > self.extent {
             make_room(&mut self.bytes, size)?;
-            make_empty_room(&mut self.synced, size)?;
-            make_empty_room(&mut self.fresh, size)?;
+            make_room(&mut self.synced, size)?;
+            make_room(&mut self.fresh, size)?;
             let capacity = self.bytes.capacity().min(self.synced.capacity());
             self.extent = capacity.min(self.fresh.capacity());
         }
