@@ -1,5 +1,6 @@
 -- A row has a blank before a line: each line has a word.
-use Rattle.std.proofs.Common.{◌≡◌, ℕ, List, [], ◌∷◌, ◌++◌, refl, ap, ◌∙◌}
+use Rattle.std.proofs.Common.{◌≡◌, ℕ, List, [], ◌∷◌, ◌++◌, length, set, refl, ap, sym, ◌∙◌}
+use Rattle.std.proofs.Math.Seq.{set-append_seam}
 use Rattle.std.proofs.lemmas.List.{append_assoc}
 use Rattle.gr_topo.specs.Topology.{TopologyView}
 use Rattle.gr_model.specs.declared.report.Report.{Report}
@@ -42,3 +43,7 @@ line_in_row t (BytesOf frame bytes) = refl
 pub line_behind : (t : TopologyView) (report : Report) (start row ended : List ℕ) → row ≡ start ++ row_of t report → ended ≡ row ++ 10 ∷ [] → ended ≡ start ++ 32 ∷ whole_line (labels_of t) report
 line_behind t report start row ended words end =
     end ∙ ap (λ xs. xs ++ 10 ∷ []) words ∙ append_assoc start (row_of t report) (10 ∷ []) ∙ ap (λ xs. start ++ xs) (line_in_row t report)
+
+-- a line behind the bytes before, its blank in the place of the last of them
+pub behind_last : (held init row bytes line : List ℕ) (last : ℕ) → held ≡ init ++ last ∷ [] → row ≡ init ++ 32 ∷ line → bytes ≡ set row (length init) last → bytes ≡ held ++ line
+behind_last held init row bytes line last h r b = b ∙ ap (λ xs. set xs (length init) last) r ∙ set-append_seam init 32 line last ∙ sym (append_assoc init (last ∷ []) line) ∙ ap (λ xs. xs ++ line) (sym h)

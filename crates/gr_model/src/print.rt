@@ -1,6 +1,6 @@
 //! A line of a report, written to a sink.
 
-ghost use Rattle.std.specs.Prelude.{◌≡◌, ◌≢◌, ℕ, ◌<◌, ◌≤◌, length, take, drop, IfOk, OnOk, IsErrOf, ◌++◌, ◌∷◌};
+ghost use Rattle.std.specs.Prelude.{◌≡◌, ◌≢◌, ℕ, ◌<◌, ◌≤◌, length, take, drop, IfOk, OnOk, IsErrOf, ◌++◌, ◌∷◌, []};
 ghost use Rattle.gr_out.specs.Faults.{Rose};
 ghost use Rattle.gr_out.specs.Bytes.{with_more};
 ghost use Rattle.gr_model.specs.Text.{labels_of, whole_line, IsNamed};
@@ -63,20 +63,50 @@ pub fn put_behind(report: &Report, topo: &Topology, page: &mut Page) -> Result<(
     ensures ok { OnOk result (page.new.held ≡ page.old.held ++ whole_line (labels_of topo.now) report.now) }
     ensures faults { page.new.faults ≡ page.old.faults }
 {
-    let bytes = page.take();
+    let mut bytes = page.take();
+    // The blank before the first word takes the place of the last byte, which is put back when the line stands.
+    let Some(last) = bytes.pop() else {
+        page.hold(bytes);
+        return put_first(report, topo, page);
+    };
     let start = bytes.len();
     let mut row = Words::behind(bytes);
     match put_words(&mut row, report, topo) {
         Ok(()) => {
             let mut bytes = row.into_vec();
-            // The blank before the first word.
-            bytes.remove(start);
+            bytes[start] = last;
             page.hold(bytes);
             Ok(())
         }
         Err(refused) => {
             let mut bytes = row.into_vec();
             bytes.truncate(start);
+            // It has its place there.
+            let _ = bytes.push(last);
+            page.hold(bytes);
+            Err(refused)
+        }
+    }
+}
+
+/// The same where the page holds nothing.
+fn put_first(report: &Report, topo: &Topology, page: &mut Page) -> Result<(), Memory>
+    requires named { IsNamed topo.now report.now }
+    requires empty { page.old.held ≡ [] }
+    ensures ok { OnOk result (page.new.held ≡ whole_line (labels_of topo.now) report.now) }
+    ensures faults { page.new.faults ≡ page.old.faults }
+{
+    let mut row = Words::behind(page.take());
+    match put_words(&mut row, report, topo) {
+        Ok(()) => {
+            let mut bytes = row.into_vec();
+            bytes.remove(0);
+            page.hold(bytes);
+            Ok(())
+        }
+        Err(refused) => {
+            let mut bytes = row.into_vec();
+            bytes.truncate(0);
             page.hold(bytes);
             Err(refused)
         }

@@ -61,7 +61,8 @@ impl Words {
         self.row.push(b' ')
     }
 
-    /// Puts a word at the end.
+    /// Puts a word at the end. Inlined always, since most words are literals.
+    #[inline(always)]
     pub(crate) fn push(&mut self, word: &[u8]) -> Result<(), AllocError>
         ensures { OnOk result (self.new ≡ self.old ++ 32 ∷ word.now) }
     {
