@@ -1,6 +1,7 @@
 //! The text of the soak's scenario.
 
 ghost use Rattle.std.specs.Prelude.{◌≡◌, ◌+◌, ◌*◌, ◌/◌, ◌%◌, ◌<◌, ◌≤◌, ◌++◌, IfOk, OnOk};
+ghost use Rattle.std.specs.Fmt.{decimal};
 ghost use Rattle.gr_soak.specs.Text.{after, word, name_text, leaf_text, sym_text, price_text, subscriber_text};
 ghost use Rattle.gr_soak.specs.Text.{topology_text, clock_text, publisher_at, publish_text, deliver_text};
 ghost use Rattle.gr_soak.specs.Text.{delivers_text, wakes_text, first_crash_text, second_crash_text, turn_text};
@@ -9,6 +10,7 @@ ghost use Rattle.gr_soak.specs.Text.{turns_text, soak_text};
 use crate::draws::draw;
 use gr_event::Text;
 use gr_out::Memory;
+use itoa::Buffer;
 use std::alloc::Global;
 
 /// The brokers, the links between them and the publishers.
@@ -38,7 +40,7 @@ pub fn soak_text(alloc: Global, n: u64) -> Result<Text, Memory>
     ensures text { IfOk result (λ text. text ≡ soak_text n) }
 {
     let mut text = Text::new(alloc);
-    put_topology(alloc, &mut text)?;
+    put_topology(&mut text)?;
     text.append(b"---\n")?;
     put_turns(alloc, &mut text, n)?;
     text.append(b"sweep\nshow\n")?;
@@ -46,68 +48,69 @@ pub fn soak_text(alloc: Global, n: u64) -> Result<Text, Memory>
 }
 
 /// Puts the topology.
-fn put_topology(alloc: Global, text: &mut Text) -> Result<(), Memory>
+fn put_topology(text: &mut Text) -> Result<(), Memory>
     ensures { OnOk result (text.new ≡ text.old ++ topology_text) }
 {
     text.append(TREE)?;
     'subscribers: for i in 0..SUBSCRIBERS {
-        put_subscriber(alloc, text, i)?;
+        put_subscriber(text, i)?;
     }
     Ok(())
 }
 
 /// Puts a subscriber.
-fn put_subscriber(alloc: Global, text: &mut Text, i: u64) -> Result<(), Memory>
+fn put_subscriber(text: &mut Text, i: u64) -> Result<(), Memory>
     requires { i < SUBSCRIBERS }
     ensures { OnOk result (text.new ≡ text.old ++ subscriber_text i) }
 {
     text.append(b"[[subscriber]]\n")?;
-    put_name(alloc, text, i)?;
-    put_leaf(alloc, text, i)?;
+    put_name(text, i)?;
+    put_leaf(text, i)?;
     text.append(b"filter = \"")?;
-    put_sym(alloc, text, i)?;
-    put_price(alloc, text, i)
+    put_sym(text, i)?;
+    put_price(text, i)
 }
 
 /// Puts a subscriber's name.
 #[tactic(auto, unfolding(crate::specs::Text::name_text))]
-fn put_name(alloc: Global, text: &mut Text, i: u64) -> Result<(), Memory>
+fn put_name(text: &mut Text, i: u64) -> Result<(), Memory>
     ensures { OnOk result (text.new ≡ text.old ++ name_text i) }
 {
-    let line = format!(in alloc; "name = \"S{i}\"\n")?;
-    text.append(line.as_bytes())
+    text.append(b"name = \"S")?;
+    put_number(text, i)?;
+    text.append(b"\"\n")
 }
 
 /// Puts a subscriber's broker.
 #[tactic(auto, unfolding(crate::specs::Text::leaf_text))]
-fn put_leaf(alloc: Global, text: &mut Text, i: u64) -> Result<(), Memory>
+fn put_leaf(text: &mut Text, i: u64) -> Result<(), Memory>
     requires { i < SUBSCRIBERS }
     ensures { OnOk result (text.new ≡ text.old ++ leaf_text i) }
 {
-    let leaf = 3 + i % 4;
-    let line = format!(in alloc; "at = \"B{leaf}\"\n")?;
-    text.append(line.as_bytes())
+    text.append(b"at = \"B")?;
+    put_number(text, 3 + i % 4)?;
+    text.append(b"\"\n")
 }
 
 /// Puts what a subscriber asks of the word.
 #[tactic(auto, unfolding(crate::specs::Text::sym_text))]
-fn put_sym(alloc: Global, text: &mut Text, i: u64) -> Result<(), Memory>
+fn put_sym(text: &mut Text, i: u64) -> Result<(), Memory>
     ensures { OnOk result (text.new ≡ text.old ++ sym_text i) }
 {
-    let sym = word_of(i);
-    let test = format!(in alloc; "sym = '{sym}'")?;
-    text.append(test.as_bytes())
+    text.append(b"sym = '")?;
+    text.append(word_of(i).as_bytes())?;
+    text.append(b"'")
 }
 
 /// Puts what a subscriber asks of the price.
 #[tactic(auto, unfolding(crate::specs::Text::price_text))]
-fn put_price(alloc: Global, text: &mut Text, i: u64) -> Result<(), Memory>
+fn put_price(text: &mut Text, i: u64) -> Result<(), Memory>
     requires { i < SUBSCRIBERS }
     ensures { OnOk result (text.new ≡ text.old ++ price_text i) }
 {
-    let price = 15 * i;
-    let test = format!(in alloc; " AND price > {price}\"\n")?;
-    text.append(test.as_bytes())
+    text.append(b" AND price > ")?;
+    put_number(text, 15 * i)?;
+    text.append(b"\"\n")
 }
 
 /// The word that subscriber `i` asks for.
@@ -150,12 +153,12 @@ fn put_turn(alloc: Global, text: &mut Text, n: u64, i: u64, x: &mut u64) -> Resu
     ensures text { OnOk result (text.new ≡ text.old ++ turn_text n i x.old) }
     ensures state { OnOk result (x.new ≡ after x.old 11) }
 {
-    put_clock(alloc, text, i)?;
+    put_clock(text, i)?;
     let price = draw(x, 200);
     let qty = draw(x, 1000);
     let w = draw(x, 4);
     put_publish(alloc, text, i, price, qty, w)?;
-    put_delivers(alloc, text, i, x)?;
+    put_delivers(text, i, x)?;
     text.append(wakes(i))?;
     text.append(first_crash(n, i))?;
     text.append(second_crash(n, i))
@@ -163,13 +166,13 @@ fn put_turn(alloc: Global, text: &mut Text, n: u64, i: u64, x: &mut u64) -> Resu
 
 /// Puts the clock of turn `i`.
 #[tactic(auto, unfolding(crate::specs::Text::clock_text))]
-fn put_clock(alloc: Global, text: &mut Text, i: u64) -> Result<(), Memory>
+fn put_clock(text: &mut Text, i: u64) -> Result<(), Memory>
     requires { i ≤ MAX_TURNS }
     ensures { OnOk result (text.new ≡ text.old ++ clock_text i) }
 {
-    let clock = 100 * i;
-    let line = format!(in alloc; "clock {clock}\n")?;
-    text.append(line.as_bytes())
+    text.append(b"clock ")?;
+    put_number(text, 100 * i)?;
+    text.append(b"\n")
 }
 
 /// Puts the publish of turn `i`, of an event with these values.
@@ -204,25 +207,34 @@ fn publisher_at(i: u64) -> &'static str
 }
 
 /// Puts the deliveries of turn `i`.
-fn put_delivers(alloc: Global, text: &mut Text, i: u64, x: &mut u64) -> Result<(), Memory>
+fn put_delivers(text: &mut Text, i: u64, x: &mut u64) -> Result<(), Memory>
     requires { (1 ≤ i) × (i ≤ MAX_TURNS) }
     ensures text { OnOk result (text.new ≡ text.old ++ delivers_text i x.old) }
     ensures state { OnOk result (x.new ≡ after x.old DELIVERIES) }
 {
     'delivers: for _ in 0..DELIVERIES {
         let frame = 1 + draw(x, 6 * i);
-        put_deliver(alloc, text, frame)?;
+        put_deliver(text, frame)?;
     }
     Ok(())
 }
 
 /// Puts a delivery.
 #[tactic(auto, unfolding(crate::specs::Text::deliver_text))]
-fn put_deliver(alloc: Global, text: &mut Text, frame: u64) -> Result<(), Memory>
+fn put_deliver(text: &mut Text, frame: u64) -> Result<(), Memory>
     ensures { OnOk result (text.new ≡ text.old ++ deliver_text frame) }
 {
-    let line = format!(in alloc; "deliver {frame}\n")?;
-    text.append(line.as_bytes())
+    text.append(b"deliver ")?;
+    put_number(text, frame)?;
+    text.append(b"\n")
+}
+
+/// Puts a number in decimal.
+fn put_number(text: &mut Text, number: u64) -> Result<(), Memory>
+    ensures { OnOk result (text.new ≡ text.old ++ decimal number) }
+{
+    let mut digits = Buffer::new();
+    text.append(digits.format(number).as_bytes())
 }
 
 /// The steps that wake the leaves, if turn `i` is a tenth one.
