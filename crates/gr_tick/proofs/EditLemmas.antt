@@ -1,6 +1,7 @@
 -- Edits of a list of runs around a place.
-use Rattle.std.proofs.Common.{◌≡◌, ◌≢◌, ℕ, ◌+◌, ◌-◌, ◌<◌, ◌≤◌, Bool, cond, List, [], ◌∷◌, ◌++◌, length, take, drop, get_or, suc, sym, ap, ◌∙◌, add-one, append_assoc, length-append, arith}
+use Rattle.std.proofs.Common.{◌≡◌, ◌≢◌, ℕ, ◌+◌, ◌-◌, ◌<◌, ◌≤◌, Bool, cond, List, [], ◌∷◌, ◌++◌, length, take, drop, get_or, slice_set, suc, sym, ap, ◌∙◌, add-one, append_assoc, length-append, arith}
 use Rattle.std.proofs.lemmas.List.{take_more, take_at, drop_at, length-take-le, drop_more, get_or_default, take-append-drop, length-drop}
+use lib.Seq.{set_split}
 use Rattle.std.proofs.lemmas.Bool.Decides.{nat_tests}
 use Rattle.std.specs.List.{remove}
 use Rattle.gr_tick.specs.declared.run.Run.{Run}
@@ -53,6 +54,31 @@ pub drop-put_two : {X : Type 0} (s p q a b : List X) (i place : ℕ) → i ≤ l
 drop-put_two s p q a b i place le e ea eb pl =
     ap (drop place) eb ∙ drop_at (take place a) (q ++ drop place a) place (length-take-le place a pl)
     ∙ ap (λ zs. q ++ zs) (ap (drop place) ea ∙ ap (λ k. drop k (take i s ++ (p ++ drop i s))) e ∙ drop-put s p i le)
+
+-- what comes after an element, where those before it up to a place were removed
+drop_next : {X : Type 0} (xs : List X) (i n : ℕ) (d : X) → i < n → n ≤ length xs → drop (suc i) (take i xs ++ drop (n - 1) xs) ≡ drop n xs
+drop_next xs i n d lo le =
+    let one : (n - 1) + 1 ≡ n = omega arith in
+    let y = get_or xs (n - 1) d in
+    ap (λ ys. drop (suc i) (take i xs ++ ys)) (drop_more xs (n - 1) d (omega arith))
+    ∙ ap (drop (suc i)) (sym (append_assoc (take i xs) (y ∷ []) (drop ((n - 1) + 1) xs)))
+    ∙ drop_at (take i xs ++ y ∷ []) (drop ((n - 1) + 1) xs) (suc i) (omega (arith, length-append (take i xs) (y ∷ []), length-take-le i xs (omega arith)))
+    ∙ ap (λ k. drop k xs) one
+
+-- one of these is removed, and the last one is replaced
+pub remove_next : {X : Type 0} (xs ys zs : List X) (i n : ℕ) (d : X) → i < n → n ≤ length xs → ys ≡ take i xs ++ drop (n - 1) xs → zs ≡ remove ys i → zs ≡ take i xs ++ drop n xs
+remove_next xs ys zs i n d lo le e f =
+    f ∙ ap (λ s. remove s i) e
+    ∙ ap (λ s. s ++ drop (suc i) (take i xs ++ drop (n - 1) xs)) (take_at (take i xs) (drop (n - 1) xs) i (length-take-le i xs (omega arith)))
+    ∙ ap (λ s. take i xs ++ s) (drop_next xs i n d lo le)
+
+pub replace_next : {X : Type 0} (xs ys zs : List X) (i n : ℕ) (x : X) → i < n → n ≤ length xs → ys ≡ take i xs ++ drop (n - 1) xs → zs ≡ slice_set ys i x → zs ≡ take i xs ++ x ∷ drop n xs
+replace_next xs ys zs i n x lo le e f =
+    let within : i < length (take i xs ++ drop (n - 1) xs) = omega (arith, length-append (take i xs) (drop (n - 1) xs), length-take-le i xs (omega arith), length-drop (n - 1) xs) in
+    f ∙ ap (λ s. slice_set s i x) e
+    ∙ set_split (take i xs ++ drop (n - 1) xs) i x within
+    ∙ ap (λ s. s ++ x ∷ drop (suc i) (take i xs ++ drop (n - 1) xs)) (take_at (take i xs) (drop (n - 1) xs) i (length-take-le i xs (omega arith)))
+    ∙ ap (λ s. take i xs ++ x ∷ s) (drop_next xs i n x lo le)
 
 one_or_none : (b : Bool) → cond b 1 0 ≤ 1
 one_or_none b = grind (arith, nat_tests)

@@ -1,15 +1,17 @@
 -- Where a tick is found in a list of runs, and how many runs a range has.
-use Rattle.std.proofs.Common.{◌≡◌, ℕ, ◌+◌, ◌-◌, ◌<◌, ◌≤◌, ◌⊎◌, inl, inr, Bool, true, false, cond, leb, List, [], ◌∷◌, ◌++◌, length, take, drop, get_or, refl, sym, ap, ◌∙◌, subst, append_assoc, arith}
+use Rattle.std.proofs.Common.{◌≡◌, ℕ, ◌+◌, ◌-◌, ◌<◌, ◌≤◌, ◌⊎◌, inl, inr, Bool, true, false, cond, leb, List, [], ◌∷◌, ◌++◌, length, take, drop, get_or, slice_set, add-one, refl, sym, ap, ◌∙◌, subst, append_assoc, arith}
 use Rattle.std.proofs.lemmas.List.{take-append-drop, drop_all, drop-drop, length-take-le, length-drop}
+use lib.Seq.{set_split}
+use Rattle.std.specs.List.{remove}
 use Rattle.std.proofs.Math.Seq.{take-add}
 use Rattle.std.proofs.lemmas.Bool.{cases_lt, leb-true, and_parts}
 use Rattle.std.proofs.lemmas.Bool.Decides.{nat_tests}
 use Rattle.gr_tick.specs.declared.run.Run.{Run}
 use Rattle.gr_tick.specs.Runs.{value_at}
 use Rattle.gr_tick.specs.Stored.{within, AreTickRuns, EndBefore, BeginBy, BeginAfter, touches, runs_in, part}
-use Rattle.gr_tick.proofs.EditLemmas.{drop_read, split_read, AreTickRuns-take, AreTickRuns-drop}
+use Rattle.gr_tick.proofs.EditLemmas.{drop_read, split_read, put_in_place, AreTickRuns-take, AreTickRuns-drop}
 use Rattle.gr_tick.proofs.RunsLemmas.{value_at-append, value_at_past, value_at_ahead, AreTickRuns-front, AreTickRuns-back, AreTickRuns-upto, AreTickRuns-gap, EndBefore-front, EndBefore-later, EndBefore-append, BeginAfter-back, BeginAfter-earlier}
-use Rattle.gr_tick.proofs.StepLemmas.{ahead_at, alone_at_end, take_at_read, gap_value, run_value, runs_in-append, runs_in-cons, rest_after_runs, rest_after_ahead}
+use Rattle.gr_tick.proofs.StepLemmas.{ahead_at, alone_at_end, take_at_read, gap_value, run_value, runs_in-append, runs_in-cons, rest_after_runs, rest_after_ahead, no_part, one_part}
 
 module _ {V : Type 0} where
   -- where a run ends before a tick, so do those before it
@@ -151,6 +153,20 @@ module _ {V : Type 0} where
       (AreTickRuns-take least xs i h) (rest_after_runs least r (drop (i + 1) xs) b c fb bl)
       (EndBefore-front least (take i xs) r (AreTickRuns-upto least (take i xs) r (drop (i + 1) xs) k))
       (rest_after_ahead least r (drop (i + 1) xs) b c bl) fb
+
+  -- what is left of the run is none where its last tick is taken out, and else it stands in its place
+  pub all_lowered : (xs new : List (Run V)) (i b : ℕ) (r : Run V) → i < length xs → r.last ≡ b → new ≡ remove xs i → new ≡ take i xs ++ (part (b + 1) r.last r.value ++ drop (i + 1) xs)
+  all_lowered xs new i b r lt el e =
+      put_in_place xs new new [] i lt e (sym (take-append-drop i new))
+      ∙ ap (λ p. take i xs ++ (p ++ drop (i + 1) xs)) (sym (no_part (b + 1) r.last r.value (omega (arith, el))))
+
+  pub rest_kept : (xs new : List (Run V)) (i b : ℕ) (r : Run V) (v : V) → i < length xs → v ≡ r.value → b < r.last → new ≡ slice_set xs i (record { first = b + 1; last = r.last; value = v }) → new ≡ take i xs ++ (part (b + 1) r.last r.value ++ drop (i + 1) xs)
+  rest_kept xs new i b r v lt ev bl e =
+      let le : b + 1 ≤ r.last = omega arith in
+      e ∙ set_split xs i (record { first = b + 1; last = r.last; value = v }) lt
+      ∙ ap (λ n. take i xs ++ record { first = b + 1; last = r.last; value = v } ∷ drop n xs) (sym (add-one i))
+      ∙ ap (λ w. take i xs ++ record { first = b + 1; last = r.last; value = w } ∷ drop (i + 1) xs) ev
+      ∙ ap (λ p. take i xs ++ (p ++ drop (i + 1) xs)) (sym (one_part (b + 1) r.last r.value le))
 
   -- where a run begins after a tick, the runs before it give the tick's value
   pub bottom_early : (least : V) (xs : List (Run V)) (i n : ℕ) (r : Run V) → i < length xs → r ≡ get_or xs i r → AreTickRuns least xs → value_at least (take i xs) n ≡ least → n < r.first → value_at least xs n ≡ least

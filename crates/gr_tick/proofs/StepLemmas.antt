@@ -1,6 +1,6 @@
 -- A run put into a gap, and a range taken out of a run.
 use Rattle.std.proofs.Common.{◌≡◌, ◌≢◌, ℕ, zero, suc, ◌+◌, ◌-◌, ◌<◌, ◌≤◌, ◌⊎◌, inl, inr, Bool, true, false, cond, leb, min, max, ◌^◌, List, [], ◌∷◌, ◌++◌, length, take, drop, get_or, refl, sym, ap, ◌∙◌, subst, zero-add, append_assoc, arith}
-use Rattle.std.proofs.lemmas.List.{append-nil, take-append-drop, drop_all, take_more}
+use Rattle.std.proofs.lemmas.List.{append-nil, take-append-drop, drop_all, take_more, take_at, drop_at, length-take-le}
 use Rattle.std.proofs.lemmas.Bool.{cond_both, leb-true, leb-false, le-leb, lt-leb, cond-true, cond-false, and_parts, and_from, and_right, cases_lt, cases_Bool}
 use Rattle.std.proofs.lemmas.Bool.Decides.{nat_tests}
 use Rattle.gr_tick.specs.declared.run.Run.{Run}
@@ -267,6 +267,31 @@ module _ {V : Type 0} where
         back = eb ∙ ap (λ zs. part (b + 1) r.last r.value ++ drop i zs) er ∙ ap (λ zs. part (b + 1) r.last r.value ++ zs) (drop-remove old i lt);
       }
 
+  pub no_part : (first last : ℕ) (v : V) → last < first → part first last v ≡ []
+  no_part first last v lt = cond-false (leb first last) _ _ (lt-leb first last lt)
+
+  pub one_part : (first last : ℕ) (v : V) → first ≤ last → part first last v ≡ record { first = first; last = last; value = v } ∷ []
+  one_part first last v le = cond-true (leb first last) _ _ (le-leb first last le)
+
+  -- nothing is left of a run that the range is all of
+  pub carved_whole : (least : V) (old : List (Run V)) (i a b : ℕ) (r : Run V) → i < length old → r ≡ get_or old i r → AreTickRuns least old → r.first ≡ a → r.last ≡ b → Carved least old (take i old ++ drop (i + 1) old) i i a b r
+  carved_whole least old i a b r lt e h ea eb =
+      let s : old ≡ take i old ++ r ∷ drop (i + 1) old = split_read old i r lt e in
+      let k : AreTickRuns least (take i old ++ r ∷ drop (i + 1) old) = rw s at h in
+      let is : IsRun least r = (AreTickRuns-back least (take i old) (r ∷ drop (i + 1) old) k).0 in
+      let count : length (take i old) ≡ i = length-take-le i old (omega arith) in
+      record {
+        split = s;
+        runs = k;
+        begins = omega (arith, ea);
+        ordered = omega (arith, is.ordered, ea, eb);
+        ends = omega (arith, eb);
+        front = take_at (take i old) (drop (i + 1) old) i count ∙ sym (append-nil (take i old))
+            ∙ ap (λ p. take i old ++ p) (sym (no_part r.first (a - 1) r.value (omega (arith, is.from_one, ea))));
+        back = drop_at (take i old) (drop (i + 1) old) i count
+            ∙ ap (λ p. p ++ drop (i + 1) old) (sym (no_part (b + 1) r.last r.value (omega (arith, eb))));
+      }
+
   pub read_alone : (least : V) (old : List (Run V)) (i : ℕ) (r : Run V) → i < length old → r ≡ get_or old i r → AreTickRuns least old → IsRun least r
   read_alone least old i r lt e h =
       let s : old ≡ take i old ++ r ∷ drop (i + 1) old = split_read old i r lt e in
@@ -307,6 +332,27 @@ module _ {V : Type 0} where
         let g : growth (b + 1) l new + z ≤ growth a l (take i old ++ r ∷ drop (i + 1) old) + n =
         growth_run least (take i old) r (drop (i + 1) old) new a b l n m z k.runs k.begins k.ordered k.ends al which em ez (omega (arith, e)) in
         omega (arith, ap (growth a l) k.split)
+
+  -- the runs before the one that is read and those behind it
+  pub run_past : (least : V) (old : List (Run V)) (i a : ℕ) (r : Run V) → i < length old → r ≡ get_or old i r → AreTickRuns least old → r.first ≡ a → EndBefore (take i old) a
+  run_past least old i a r lt e h ea =
+      let k : AreTickRuns least (take i old ++ r ∷ drop (i + 1) old) = rw (split_read old i r lt e) at h in
+      EndBefore-later (take i old) r.first a (EndBefore-front least (take i old) r (AreTickRuns-upto least (take i old) r (drop (i + 1) old) k)) (omega (arith, ea))
+
+  pub run_ahead : (least : V) (old : List (Run V)) (i b : ℕ) (r : Run V) → i < length old → r ≡ get_or old i r → AreTickRuns least old → r.last ≡ b → BeginAfter (drop (i + 1) old) b
+  run_ahead least old i b r lt e h eb =
+      let k : AreTickRuns least (take i old ++ r ∷ drop (i + 1) old) = rw (split_read old i r lt e) at h in
+      BeginAfter-earlier (drop (i + 1) old) r.last b (BeginAfter-back least r (drop (i + 1) old) (AreTickRuns-back least (take i old) (r ∷ drop (i + 1) old) k)) (omega (arith, eb))
+
+  -- a join on all of a run needs no room but for the runs behind it
+  pub whole_growth : (least : V) (old new : List (Run V)) (i a b l n z : ℕ) (r : Run V) → i < length old → r ≡ get_or old i r → AreTickRuns least old → r.first ≡ a → r.last ≡ b → a ≤ l → (b ≡ l) ⊎ (b ≡ r.last) → 0 < n → z ≤ n → room (b + 1) l new + z ≤ room (b + 1) l (drop (i + 1) old) + n → growth (b + 1) l new + z ≤ growth a l old + n
+  whole_growth least old new i a b l n z r lt e h ea eb al which some zn er =
+      let carved : List (Run V) = take i old ++ drop (i + 1) old in
+      let is : IsRun least r = read_alone least old i r lt e h in
+      let behind : drop i carved ≡ drop (i + 1) old = drop_at (take i old) (drop (i + 1) old) i (length-take-le i old (omega arith)) in
+      joined_growth least old carved i i a b r (carved_whole least old i a b r lt e h ea eb) new l n (n - 1) z al which
+      (omega (arith, ap length (no_part r.first (a - 1) r.value (omega (arith, is.from_one, ea))), ap length (no_part (b + 1) r.last r.value (omega (arith, eb)))))
+      (omega arith) (omega (arith, ap (room (b + 1) l) behind))
 
   pub join_alone : (least : V) (join_of : V → V → V) (is_at_most : V → V → Bool) (r : Run V) (a b : ℕ) (v w x : V) → LatticeLaws least join_of is_at_most → IsRun least r → r.first ≤ a → a ≤ b → b ≤ r.last → x ≡ join_of r.value w → w ≡ v → IsRun least (record { first = a; last = b; value = x })
   join_alone least join_of is_at_most r a b v w x laws is fa ab bl e f =

@@ -247,22 +247,20 @@ pub fn begun_by<V: Lattice>(runs: &Gap<Run<V>>, tick: u64) -> usize
     i + 1
 }
 
-/// Joins the run before a place to a run that begins past it, where they form one run: removes it, and answers the
-/// place then, with the longer run.
-fn absorb_before<V: Lattice>(runs: &mut Gap<Run<V>>, i: usize, run: Run<V>) -> (usize, Run<V>)
-    requires within { i ≤ length runs.old.items }
-    requires runs { AreTickRuns V.least (take i runs.old.items) }
-    requires past { EndBefore (take i runs.old.items) run.first }
+/// Joins a run that begins past the runs before a place to the last of them, where they form one run: answers where the
+/// runs end that it does not join, and the longer run.
+fn with_before<V: Lattice>(runs: &Gap<Run<V>>, i: usize, run: Run<V>) -> (usize, Run<V>)
+    requires within { i ≤ length runs.now.items }
+    requires runs { AreTickRuns V.least (take i runs.now.items) }
+    requires past { EndBefore (take i runs.now.items) run.first }
     requires alone { IsRun V.least run }
-    ensures within { result.0 ≤ length runs.new.items }
-    ensures rest { drop result.0 runs.new.items ≡ drop i runs.old.items }
-    ensures runs { AreTickRuns V.least (take result.0 runs.new.items ++ result.1 ∷ []) }
-    ensures values { (d : V) (t : ℕ) → value_at d (take result.0 runs.new.items ++ result.1 ∷ []) t
-        ≡ value_at d (take i runs.old.items ++ run ∷ []) t }
+    ensures within { result.0 ≤ i }
+    ensures runs { AreTickRuns V.least (take result.0 runs.now.items ++ result.1 ∷ []) }
+    ensures values { (d : V) (t : ℕ) → value_at d (take result.0 runs.now.items ++ result.1 ∷ []) t
+        ≡ value_at d (take i runs.now.items ++ run ∷ []) t }
     ensures last { result.1.last ≡ run.last }
     ensures value { result.1.value ≡ run.value }
     ensures first { result.1.first ≤ run.first }
-    ensures spare { runs.old.spare ≤ runs.new.spare }
 {
     if i == 0 {
         return (i, run);
@@ -274,53 +272,100 @@ fn absorb_before<V: Lattice>(runs: &mut Gap<Run<V>>, i: usize, run: Run<V>) -> (
     if !before.value.same(&run.value) {
         return (i, run);
     }
-    let removed = runs.remove(i - 1);
     (
         i - 1,
         Run {
-            first: removed.first,
+            first: before.first,
             last: run.last,
             value: run.value,
         },
     )
 }
 
-/// Joins the run at a place to a run that ends ahead of it, where they form one run: removes it, and answers the longer
-/// run.
-fn absorb_after<V: Lattice>(runs: &mut Gap<Run<V>>, i: usize, run: Run<V>) -> Run<V>
-    requires within { i ≤ length runs.old.items }
-    requires runs { AreTickRuns V.least (drop i runs.old.items) }
-    requires ahead { BeginAfter (drop i runs.old.items) run.last }
+/// Joins a run that ends ahead of the runs from a place on to the first of them, where they form one run: answers where
+/// the runs begin that it does not join, and the longer run.
+fn with_after<V: Lattice>(runs: &Gap<Run<V>>, i: usize, run: Run<V>) -> (usize, Run<V>)
+    requires within { i ≤ length runs.now.items }
+    requires runs { AreTickRuns V.least (drop i runs.now.items) }
+    requires ahead { BeginAfter (drop i runs.now.items) run.last }
     requires alone { IsRun V.least run }
-    ensures within { i ≤ length runs.new.items }
-    ensures front { take i runs.new.items ≡ take i runs.old.items }
-    ensures runs { AreTickRuns V.least (result ∷ drop i runs.new.items) }
-    ensures values { (d : V) (t : ℕ) → value_at d (result ∷ drop i runs.new.items) t
-        ≡ value_at d (run ∷ drop i runs.old.items) t }
-    ensures first { result.first ≡ run.first }
-    ensures value { result.value ≡ run.value }
-    ensures room { (last : ℕ) → room (run.last + 1) last (result ∷
-        drop i runs.new.items) + runs.old.spare ≤ room (run.last + 1) last (drop i runs.old.items) + runs.new.spare }
+    ensures forward { i ≤ result.0 }
+    ensures within { result.0 ≤ length runs.now.items }
+    ensures runs { AreTickRuns V.least (result.1 ∷ drop result.0 runs.now.items) }
+    ensures values { (d : V) (t : ℕ) → value_at d (result.1 ∷ drop result.0 runs.now.items) t
+        ≡ value_at d (run ∷ drop i runs.now.items) t }
+    ensures first { result.1.first ≡ run.first }
+    ensures value { result.1.value ≡ run.value }
+    ensures room { (last : ℕ) → room (run.last + 1) last (result.1 ∷ drop result.0 runs.now.items) + i
+        ≤ room (run.last + 1) last (drop i runs.now.items) + result.0 }
     ensures later { (f l : ℕ) → run.last < f → f ≤ l →
-        runs_in f l (result ∷ drop i runs.new.items) ≤ runs_in f l (drop i runs.old.items) }
-    ensures spare { runs.old.spare ≤ runs.new.spare }
+        runs_in f l (result.1 ∷ drop result.0 runs.now.items) ≤ runs_in f l (drop i runs.now.items) }
 {
     if i == runs.len() {
-        return run;
+        return (i, run);
     }
     let after = runs.get(i);
     if run.last + 1 != after.first {
-        return run;
+        return (i, run);
     }
     if !after.value.same(&run.value) {
-        return run;
+        return (i, run);
     }
-    let removed = runs.remove(i);
-    Run {
-        first: run.first,
-        last: removed.last,
-        value: run.value,
+    (
+        i + 1,
+        Run {
+            first: run.first,
+            last: after.last,
+            value: run.value,
+        },
+    )
+}
+
+/// Puts a run in the place of those from one place up to another. Where there are some, the first is replaced, and runs
+/// move for the others alone.
+fn put_between<V: Lattice>(runs: &mut Gap<Run<V>>, from: usize, upto: usize, run: Run<V>)
+    requires ordered { from ≤ upto }
+    requires within { upto ≤ length runs.old.items }
+    requires room { from < upto + runs.old.spare }
+    ensures items { runs.new.items ≡ take from runs.old.items ++ run ∷ drop upto runs.old.items }
+    ensures spare { runs.new.spare + (from + 1) ≡ runs.old.spare + upto }
+{
+    if from == upto {
+        runs.insert(from, run);
+        return;
     }
+    let mut next = from + 1;
+    while next < upto {
+        runs.remove(from);
+        next += 1;
+    }
+    runs.replace(from, run);
+}
+
+/// Puts a run in the place of those from one place up to another, as one with the run before and the one behind where
+/// they form one run with it.
+fn put_over<V: Lattice>(runs: &mut Gap<Run<V>>, from: usize, upto: usize, run: Run<V>)
+    requires ordered { from ≤ upto }
+    requires within { upto ≤ length runs.old.items }
+    requires room { from < upto + runs.old.spare }
+    requires before { AreTickRuns V.least (take from runs.old.items) }
+    requires after { AreTickRuns V.least (drop upto runs.old.items) }
+    requires past { EndBefore (take from runs.old.items) run.first }
+    requires ahead { BeginAfter (drop upto runs.old.items) run.last }
+    requires alone { IsRun V.least run }
+    ensures runs { AreTickRuns V.least runs.new.items }
+    ensures values { (t : ℕ) → value_at V.least runs.new.items t ≡ cond (is_in t run) run.value
+        (value_at V.least (take from runs.old.items ++ drop upto runs.old.items) t) }
+    ensures room { (last : ℕ) →
+        room (run.last + 1) last runs.new.items + runs.old.spare + upto ≤ room (run.last + 1) last
+        (drop upto runs.old.items) + runs.new.spare + (from + 1) }
+    ensures later { (f l : ℕ) → run.last < f → f ≤ l →
+        runs_in f l runs.new.items ≤ runs_in f l (drop upto runs.old.items) }
+    ensures spare { runs.old.spare + upto ≤ runs.new.spare + (from + 1) }
+{
+    let (place, longer) = with_before(runs, from, run);
+    let (next, longest) = with_after(runs, upto, longer);
+    put_between(runs, place, next, longest);
 }
 
 /// Puts a run behind all, as a part of the last one where the two form one run.
@@ -382,9 +427,7 @@ pub fn put_run<V: Lattice>(runs: &mut Gap<Run<V>>, i: usize, run: Run<V>)
         put_end(runs, run);
         return;
     }
-    let (place, longer) = absorb_before(runs, i, run);
-    let longest = absorb_after(runs, place, longer);
-    runs.insert(place, longest);
+    put_over(runs, i, i, run);
 }
 
 /// Inserts at a place what a run has outside a range of it, and answers where the range lies then.
@@ -461,6 +504,23 @@ fn join_run<V: Lattice>(runs: &mut Gap<Run<V>>, i: usize, first: u64, last: u64,
         ≤ growth first end runs.old.items + runs.new.spare) runs.old.items i }
     ensures later { (f l : ℕ) → last < f → f ≤ l → runs_in f l runs.new.items ≤ runs_in f l runs.old.items }
 {
+    // The place behind the run is no more than their number: it fits.
+    let _ = runs.len();
+    let whole = runs.get(i);
+    if whole.first == first && whole.last == last {
+        let joined = whole.value.share().join(value.share());
+        put_over(
+            runs,
+            i,
+            i + 1,
+            Run {
+                first,
+                last,
+                value: joined,
+            },
+        );
+        return;
+    }
     let run = runs.remove(i);
     let place = keep_rest(runs, i, &run, first, last);
     let joined = run.value.join(value.share());
@@ -613,8 +673,17 @@ pub fn lower_front<V: Lattice>(runs: &mut Gap<Run<V>>, i: usize, last: u64)
         ++ (part (last + 1) r.last r.value ++ drop (i + 1) runs.old.items)) runs.old.items i }
     ensures runs { AreTickRuns V.least runs.new.items }
 {
-    let run = runs.remove(i);
-    insert_part(runs, i, last + 1, run.last, &run.value);
+    let run = runs.get(i);
+    if run.last == last {
+        runs.remove(i);
+        return;
+    }
+    let rest = Run {
+        first: last + 1,
+        last: run.last,
+        value: run.value.share(),
+    };
+    runs.replace(i, rest);
 }
 
 /// Takes a part of the run at a place out.
