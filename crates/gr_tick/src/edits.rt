@@ -1,6 +1,6 @@
 //! Edits of a list of runs. None takes memory: where one may leave more runs, it asks for the spare room.
 ghost use Rattle.std.specs.Prelude.{if◌then◌else◌, MatchOption, IfOk, ◌≡◌, ◌≢◌, ℕ, ◌+◌, ◌-◌, ◌<◌, ◌≤◌, ◌&&◌, nat_le};
-ghost use Rattle.std.specs.Prelude.{cond, List, [], ◌∷◌, ◌++◌, length, take, drop, insert, ◌^◌, ◌⊎◌};
+ghost use Rattle.std.specs.Prelude.{cond, List, [], ◌∷◌, ◌++◌, length, take, drop, insert, ◌^◌, ◌⊎◌, true};
 ghost use Rattle.std.specs.List.{HoldsAt};
 ghost use Rattle.gr_tick.specs.declared.TheConstants.{MAX_TICK};
 ghost use Rattle.gr_tick.specs.Runs.{value_at, is_in};
@@ -164,6 +164,9 @@ pub fn seek<V: Lattice>(runs: &Gap<Run<V>>, tick: u64) -> usize
     let place = runs.near().min(count - 1);
     let near = runs.get(place);
     if near.last < tick {
+        if place + 1 == count {
+            return count;
+        }
         return seek_behind(runs, tick, place + 1);
     }
     if place == 0 {
@@ -176,7 +179,8 @@ pub fn seek<V: Lattice>(runs: &Gap<Run<V>>, tick: u64) -> usize
     seek_before(runs, tick, place - 1)
 }
 
-/// The same where the runs before a place end before the tick.
+/// The same where the runs before a place end before the tick. Inlined never, so that what is near is found without it.
+#[inline(never)]
 fn seek_behind<V: Lattice>(runs: &Gap<Run<V>>, tick: u64, from: usize) -> usize
     requires runs { AreTickRuns V.least runs.now.items }
     requires within { from ≤ length runs.now.items }
@@ -205,6 +209,7 @@ fn seek_behind<V: Lattice>(runs: &Gap<Run<V>>, tick: u64, from: usize) -> usize
 
 /// The same where the run at a place does not end before the tick. The first two runs are looked at, and not noted: a
 /// horizon stands there, and is asked for between looks at other ticks.
+#[inline(never)]
 fn seek_before<V: Lattice>(runs: &Gap<Run<V>>, tick: u64, place: usize) -> usize
     requires runs { AreTickRuns V.least runs.now.items }
     requires within { place < length runs.now.items }
@@ -227,6 +232,20 @@ fn seek_before<V: Lattice>(runs: &Gap<Run<V>>, tick: u64, place: usize) -> usize
     let found = gallop(runs, tick, place);
     runs.note(found);
     found
+}
+
+/// Whether all runs end before a tick.
+#[inline(always)]
+pub fn is_past<V: Lattice>(runs: &Gap<Run<V>>, tick: u64) -> bool
+    requires { AreTickRuns V.least runs.now.items }
+    ensures { result ≡ true → EndBefore runs.now.items tick }
+{
+    let count = runs.len();
+    if count == 0 {
+        return true;
+    }
+    let newest = runs.get(count - 1);
+    newest.last < tick
 }
 
 /// How many runs begin by a tick.
@@ -596,6 +615,11 @@ pub fn join_over<V: Lattice>(runs: &mut Gap<Run<V>>, first: u64, last: u64, valu
     ensures spare { runs.old.spare ≤ growth first last runs.old.items + runs.new.spare }
     ensures later { (f l : ℕ) → last < f → f ≤ l → runs_in f l runs.new.items ≤ runs_in f l runs.old.items }
 {
+    if is_past(runs, first) {
+        let end = runs.len();
+        join_gap(runs, end, first, last, value);
+        return;
+    }
     // Each step comes to the end of a run or of a gap, and goes on after it.
     let mut next = first;
     while next <= last {
@@ -624,10 +648,10 @@ pub fn count_in<V: Lattice>(runs: &Gap<Run<V>>, first: u64, last: u64) -> usize
     requires { AreTickRuns V.least runs.now.items }
     ensures { result ≡ runs_in first last runs.now.items }
 {
-    let begin = seek(runs, first);
-    if begin == runs.len() {
+    if is_past(runs, first) {
         return 0;
     }
+    let begin = seek(runs, first);
     let end = begun_by(runs, last);
     end.saturating_sub(begin)
 }
@@ -767,6 +791,23 @@ pub fn set_over<V: Lattice>(runs: &mut Gap<Run<V>>, first: u64, last: u64, value
         ≡ (if within first last t then value.now else value_at V.least runs.old.items t) }
     ensures spare { runs.old.spare ≤ runs.new.spare + 2 }
 {
+    let place = seek(runs, first);
+    if place < runs.len() {
+        let whole = runs.get(place);
+        if whole.first == first && whole.last == last && !is_bottom(value) {
+            put_over(
+                runs,
+                place,
+                place + 1,
+                Run {
+                    first,
+                    last,
+                    value: value.share(),
+                },
+            );
+            return;
+        }
+    }
     lower_over(runs, first, last);
     if is_bottom(value) {
         return;
@@ -824,6 +865,7 @@ pub fn steady_in<V: Lattice>(runs: &Gap<Run<V>>, tick: u64) -> Steady<V>
 }
 
 /// The room that is enough to join each run of a list, or None exactly where it is no number of the machine's.
+#[inline(always)]
 pub fn room_for<V: Lattice>(runs: &Gap<Run<V>>, others: &Row<Run<V>>) -> Option<usize>
     requires { AreTickRuns V.least runs.now.items }
     ensures { MatchOption result (2 ^ 64 ≤ needed runs.now.items others.now.items) (λ n. n
@@ -844,6 +886,7 @@ pub fn room_for<V: Lattice>(runs: &Gap<Run<V>>, others: &Row<Run<V>>) -> Option<
 }
 
 /// Joins each run of a list.
+#[inline(always)]
 pub fn join_each<V: Lattice>(runs: &mut Gap<Run<V>>, others: &Row<Run<V>>)
     requires room { needed runs.old.items others.now.items ≤ runs.old.spare }
     requires runs { AreTickRuns V.least runs.old.items }

@@ -7,7 +7,7 @@ use std::marker::Model;
 use std::mem;
 
 /// How many values a row has room for when it gets its second one.
-const FIRST_ROOM: usize = 2;
+const FIRST_ROOM: usize = 4;
 
 /// Where the values of a row stand.
 #[derive(Drop)]

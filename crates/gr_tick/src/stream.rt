@@ -9,8 +9,8 @@ ghost use Rattle.gr_tick.specs.Stored.{runs_in, within, IsRun, AreTickRuns, EndB
 ghost use Rattle.gr_tick.specs.Stored.{StaysUntil};
 
 use crate::edits::{
-    begun_by, copy_runs, count_in, join_each, join_over, lower_each, lower_front, lower_over,
-    next_bottom, room_for, seek, set_over, steady_in, steady_until, value_in,
+    begun_by, copy_runs, count_in, is_past, join_each, join_over, lower_each, lower_front,
+    lower_over, next_bottom, room_for, seek, set_over, steady_in, steady_until, value_in,
 };
 use crate::lattice::{Lattice, is_bottom};
 use crate::piece::Piece;
@@ -315,6 +315,9 @@ pub(crate) fn piece_of<V: Lattice>(
         then value_at V.least runs.now.items t else V.least)) }
 {
     let mut piece = Piece::new(runs.allocator());
+    if is_past(runs, first) {
+        return Ok(piece);
+    }
     for i in seek(runs, first)..begun_by(runs, last) {
         let run = runs.get(i);
         piece.push_cut(run, first, last)?;

@@ -1,15 +1,11 @@
-use Rattle.std.proofs.Common.{ℕ, ◌≤◌, List, length, take, subst, ◌∙◌, arith}
-use Rattle.std.proofs.lemmas.List.{take_all}
-use Rattle.gr_tick.specs.Stored.{EndBefore, runs_in}
+use Rattle.std.proofs.Common.{ℕ, ◌≤◌, ◌∙◌, arith}
+use Rattle.gr_tick.specs.Stored.{runs_in}
 use Rattle.gr_tick.proofs.SeekLemmas.{counted, none_ended}
 use Rattle.gr_tick.proofs.edits.count_in.Goals as goal
 
 -- where all runs end before the range, none has a tick of it
-pub returns-then-begin-len : goal.returns-then-begin-len
-returns-then-begin-len g c =
-    let runs = c.args.runs.now.items in
-    let all = subst (λ xs. EndBefore xs c.args.first) (take_all c.seek-begin.result runs (omega arith)) c.seek-begin.ensures.front in
-    omega (arith, none_ended c.args.first c.args.last runs all)
+pub returns-then-is_past : goal.returns-then-is_past
+returns-then-is_past g c = omega (arith, none_ended c.args.first c.args.last c.args.runs.now.items (c.is_past.ensures c.if-is_past.true))
 
 pub returns : goal.returns
 returns g c =

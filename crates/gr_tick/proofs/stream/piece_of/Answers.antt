@@ -1,10 +1,19 @@
-use Rattle.std.proofs.Common.{refl, sym, ap, ◌∙◌, subst, arith}
-use Rattle.gr_tick.specs.Runs.{value_at}
+use Rattle.std.proofs.Common.{◌+◌, refl, sym, ap, ◌∙◌, subst, arith}
+use Rattle.gr_tick.specs.declared.TheConstants.{MAX_TICK}
+use Rattle.gr_tick.specs.Runs.{value_at, AreRuns}
 use Rattle.gr_tick.specs.Stored.{EndBefore}
 use Rattle.gr_tick.proofs.EditLemmas.{drop_read}
 use Rattle.gr_tick.proofs.StepLemmas.{read_alone, piece_more, next_begins}
 use Rattle.gr_tick.proofs.SeekLemmas.{piece_none, piece_whole}
 use Rattle.gr_tick.proofs.stream.piece_of.Goals as goal
+
+-- where all runs end before the range, nothing is in it
+pub returns-then-is_past : goal.returns-then-is_past
+returns-then-is_past g c = record {
+  canonical = subst (AreRuns g.V.Lattice.least) (sym c.new-piece.ensures) tt;
+  in_range = subst (λ p. EndBefore p (MAX_TICK + 1)) (sym c.new-piece.ensures) tt;
+  values = λ t. ap (λ p. value_at g.V.Lattice.least p t) c.new-piece.ensures ∙ piece_none g.V.Lattice.least c.args.runs.now.items c.args.first c.args.last t (c.is_past.ensures c.if-is_past.true);
+}
 
 pub loop-i-init : goal.loop-i-init
 loop-i-init g c = record {
