@@ -82,6 +82,7 @@ impl<T> Gap<T> {
 
     /// Makes room for at least `n` more values. Where it has to grow, it has at least twice the room then. Where
     /// memory is refused, all stays as it was.
+    #[inline(always)]
     pub fn reserve(&mut self, n: usize) -> Result<(), Memory>
         ensures ok { OnOk result (n ≤ self.new.spare) }
         ensures kept { self.new.items ≡ self.old.items }
@@ -103,6 +104,7 @@ impl<T> Gap<T> {
     }
 
     /// Puts a value before the one at `i`, or at the end. It takes no memory.
+    #[inline(always)]
     pub fn insert(&mut self, i: usize, value: T)
         requires within { i ≤ length self.old.items }
         requires room { 0 < self.old.spare }
@@ -128,6 +130,7 @@ impl<T> Gap<T> {
     }
 
     /// Takes out the value at `i`.
+    #[inline(always)]
     pub fn remove(&mut self, i: usize) -> T
         requires { i < length self.old.items }
         ensures value { result ≡ slice_index_or self.old.items i result }

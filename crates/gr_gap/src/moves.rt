@@ -12,6 +12,7 @@ use std::collections::VecDeque;
 use std::mem;
 
 /// Puts a value into a list that has a free place.
+#[inline(always)]
 pub(crate) fn put<T>(list: &mut VecDeque<T>, i: usize, value: T)
     requires within { i ≤ deque_len list.old }
     requires room { deque_len list.old < deque_capacity list.old }

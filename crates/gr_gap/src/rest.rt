@@ -56,7 +56,7 @@ impl<T> Rest<T> {
     }
 
     /// The value at a place, counted from 0.
-    #[inline(never)]
+    #[inline(always)]
     pub(crate) fn get(&self, i: usize) -> &T
         requires { i < length self.now.items }
         ensures { result.now ≡ slice_index_or self.now.items i result.now }

@@ -215,6 +215,7 @@ impl Know {
     }
 
     /// Joins a piece, tick by tick, where the room for it is there, as `room_for` says. It takes no memory.
+    #[inline(always)]
     pub fn join(&mut self, piece: &Piece<K>)
         requires { needed self.old.runs piece.now ≤ self.old.spare }
         ensures joined { RunsGive Q self.new.runs (λ t. join_K (known_at self.old.runs t) (known_at piece.now t)) }
@@ -269,6 +270,7 @@ impl Know {
     }
 
     /// `finish` where the room for it is there: two runs. It takes no memory.
+    #[inline(always)]
     pub fn finish_ready(&mut self, first: u64, last: u64)
         requires from_one { 1 ≤ first }
         requires ordered { first ≤ last }
