@@ -66,10 +66,12 @@ fn record_text(alloc: Global, entry: &Record) -> Result<RecordText, Memory>
         } => {
             let form = event.bytes();
             bytes.reserve(EVENT_ROOM + form.len())?;
-            bytes.push(1)?;
-            bytes.extend_from_slice(&tick.to_be_bytes())?;
-            bytes.extend_from_slice(&number.to_be_bytes())?;
-            bytes.extend_from_slice(&(event.size() as u32).to_be_bytes())?;
+            let [t0, t1, t2, t3, t4, t5, t6, t7] = tick.to_be_bytes();
+            let [n0, n1, n2, n3, n4, n5, n6, n7] = number.to_be_bytes();
+            let [s0, s1, s2, s3] = (event.size() as u32).to_be_bytes();
+            bytes.extend_from_slice(&[
+                1, t0, t1, t2, t3, t4, t5, t6, t7, n0, n1, n2, n3, n4, n5, n6, n7, s0, s1, s2, s3,
+            ])?;
             bytes.extend_from_slice(form)?;
         }
         Record::Mark { tick } => {
