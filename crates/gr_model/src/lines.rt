@@ -26,7 +26,7 @@ fn push_broker(words: &mut Words, topo: &Topology, broker: u16) -> Result<(), Al
     requires { broker < length topo.now.brokers }
     ensures { OnOk result (words.new ≡ words.old ++ 32 ∷ name_at topo.now.brokers broker) }
 {
-    words.push(topo.broker_name(broker).as_slice())
+    words.push_name(topo.broker_name(broker).as_slice())
 }
 
 /// The name of a publisher.
@@ -34,7 +34,7 @@ fn push_publisher(words: &mut Words, topo: &Topology, publisher: u16) -> Result<
     requires { publisher < length topo.now.publishers }
     ensures { OnOk result (words.new ≡ words.old ++ 32 ∷ name_at topo.now.publishers publisher) }
 {
-    words.push(topo.publisher_name(publisher).as_slice())
+    words.push_name(topo.publisher_name(publisher).as_slice())
 }
 
 /// The name of a subscriber.
@@ -42,7 +42,7 @@ fn push_subscriber(words: &mut Words, topo: &Topology, subscriber: u16) -> Resul
     requires { subscriber < length topo.now.subscribers }
     ensures { OnOk result (words.new ≡ words.old ++ 32 ∷ name_at topo.now.subscribers subscriber) }
 {
-    words.push(topo.subscriber_name(subscriber).as_slice())
+    words.push_name(topo.subscriber_name(subscriber).as_slice())
 }
 
 /// A word and a number.

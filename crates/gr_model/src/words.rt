@@ -14,6 +14,9 @@ use std::marker::Model;
 /// How many bytes a row has room for when it begins, which most lines never pass.
 const FIRST_ROOM: usize = 256;
 
+/// How many letters a name has at most that is put letter by letter.
+const SHORT_NAME: usize = 3;
+
 /// Words in a row, a blank before each, seen as the bytes of the row.
 #[derive(Drop)]
 pub(crate) struct Words {
@@ -70,6 +73,14 @@ impl Words {
         self.row.append(word)
     }
 
+    /// Puts a name at the end.
+    pub(crate) fn push_name(&mut self, name: &[u8]) -> Result<(), AllocError>
+        ensures { OnOk result (self.new ≡ self.old ++ 32 ∷ name.now) }
+    {
+        self.push_blank()?;
+        append_name(&mut self.row, name)
+    }
+
     /// Puts a number at the end, in decimal.
     pub(crate) fn push_number(&mut self, number: u64) -> Result<(), AllocError>
         ensures { OnOk result (self.new ≡ self.old ++ 32 ∷ decimal number) }
@@ -118,6 +129,19 @@ impl Words {
             [_, line @ ..] => line,
         }
     }
+}
+
+/// Puts a name at the end. One of few letters is put letter by letter, which costs less than a copy.
+fn append_name(text: &mut Text, name: &[u8]) -> Result<(), AllocError>
+    ensures { OnOk result (text.new ≡ text.old ++ name.now) }
+{
+    if name.len() > SHORT_NAME {
+        return text.append(name);
+    }
+    for letter in name {
+        text.push(*letter)?;
+    }
+    Ok(())
 }
 
 /// The hexadecimal digits.
