@@ -2,9 +2,9 @@
 use Rattle.std.proofs.Common.{◌≡◌, ℕ, ◌+◌, ◌*◌, ◌<◌, ◌≤◌, Bool, true, false, cond, leb, List, [], ◌∷◌, length, refl, arith}
 use Rattle.std.proofs.lemmas.Bool.{leb-true, leb-false}
 use Rattle.gr_tick.specs.declared.run.Run.{Run}
-use Rattle.gr_tick.specs.Stored.{AreTickRuns, runs_in, needed}
-use Rattle.gr_tick.proofs.RunsLemmas.{BeginAfter-back, BeginAfter-earlier}
-use Rattle.gr_tick.proofs.SeekLemmas.{none_begun, touches_one}
+use Rattle.gr_tick.specs.Stored.{AreTickRuns, EndBefore, runs_in, needed}
+use Rattle.gr_tick.proofs.RunsLemmas.{BeginAfter-back, BeginAfter-earlier, EndBefore-later}
+use Rattle.gr_tick.proofs.SeekLemmas.{none_begun, none_ended, touches_one}
 use Rattle.gr_tick.proofs.StepLemmas.{runs_in-cons, later_kept, needed_later}
 
 module _ {V : Type 0} where
@@ -47,3 +47,10 @@ module _ {V : Type 0} where
   needed_at_most least rs (o ∷ os) h k =
       let rest = needed_later least (past o.last rs) rs os o.last k.2 (BeginAfter-back least o os k) (λ f l lt le. past_in o.last rs f l lt) in
       omega (arith, rest, needed_at_most least (past o.last rs) os (past_runs least o.last rs h) k.2, past_count least o.first o.last rs h)
+
+  -- where all runs end before the first of others, each of these needs room for itself alone
+  pub needed_past : (least : V) (rs : List (Run V)) (o : Run V) (os : List (Run V)) → AreTickRuns least (o ∷ os) → EndBefore rs o.first → needed rs (o ∷ os) ≡ length (o ∷ os)
+  needed_past least rs o [] k ended = omega (arith, none_ended o.first o.last rs ended)
+  needed_past least rs o (p ∷ ps) k ended =
+      let next = needed_past least rs p ps k.2 (EndBefore-later rs o.first p.first ended (omega (arith, k.0.ordered, k.1.later))) in
+      omega (arith, none_ended o.first o.last rs ended, next)

@@ -1,5 +1,5 @@
 -- Lists of runs: values at ticks, and what follows what.
-use Rattle.std.proofs.Common.{◌≡◌, ◌≢◌, ℕ, ◌+◌, ◌<◌, ◌≤◌, Bool, true, false, ◌&&◌, cond, eqb, leb, List, [], ◌∷◌, ◌++◌, length, take, drop, get_or, refl, sym, ap, ◌∙◌, subst, zero-add, arith, rules}
+use Rattle.std.proofs.Common.{◌≡◌, ◌≢◌, ℕ, ◌+◌, ◌<◌, ◌≤◌, Bool, true, false, ◌&&◌, cond, eqb, leb, List, [], ◌∷◌, ◌++◌, length, take, drop, get_or, zero, suc, refl, sym, ap, ◌∙◌, subst, zero-add, arith, rules}
 use Rattle.std.proofs.lemmas.List.{take_more, take_all}
 use Rattle.std.proofs.lemmas.List.Sums.{sum_by-append, sum_by-cons, sum_by-le-sum_by}
 use Rattle.std.proofs.lemmas.Bool.{cond_both, le-leb, lt-leb, cond-false, and_from, and_left, and_right}
@@ -90,6 +90,11 @@ module _ {V : Type 0} where
   pub BeginAfter-earlier : (xs : List (Run V)) (a b : ℕ) → BeginAfter xs a → b ≤ a → BeginAfter xs b
   BeginAfter-earlier [] a b h le = tt
   BeginAfter-earlier (x ∷ xs) a b h le = (omega (arith, h.0), BeginAfter-earlier xs a b h.1 le)
+
+  pub EndBefore-take : (xs : List (Run V)) (n t : ℕ) → EndBefore xs t → EndBefore (take n xs) t
+  EndBefore-take xs zero t h = tt
+  EndBefore-take [] (suc n) t h = tt
+  EndBefore-take (x ∷ xs) (suc n) t h = (h.0, EndBefore-take xs n t h.1)
 
   pub EndBefore-append : (xs ys : List (Run V)) (a : ℕ) → EndBefore xs a → EndBefore ys a → EndBefore (xs ++ ys) a
   EndBefore-append [] ys a h k = k

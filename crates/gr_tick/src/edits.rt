@@ -397,6 +397,7 @@ fn put_end<V: Lattice>(runs: &mut Gap<Run<V>>, run: Run<V>)
     ensures values { (t : ℕ) → value_at V.least runs.new.items t
         ≡ cond (is_in t run) run.value (value_at V.least runs.old.items t) }
     ensures spare { runs.old.spare ≤ runs.new.spare + 1 }
+    ensures past { (t : ℕ) → run.last < t → EndBefore runs.new.items t }
 {
     let end = runs.len();
     if end == 0 {
@@ -615,11 +616,6 @@ pub fn join_over<V: Lattice>(runs: &mut Gap<Run<V>>, first: u64, last: u64, valu
     ensures spare { runs.old.spare ≤ growth first last runs.old.items + runs.new.spare }
     ensures later { (f l : ℕ) → last < f → f ≤ l → runs_in f l runs.new.items ≤ runs_in f l runs.old.items }
 {
-    if is_past(runs, first) {
-        let end = runs.len();
-        join_gap(runs, end, first, last, value);
-        return;
-    }
     // Each step comes to the end of a run or of a gap, and goes on after it.
     let mut next = first;
     while next <= last {
@@ -867,12 +863,21 @@ pub fn steady_in<V: Lattice>(runs: &Gap<Run<V>>, tick: u64) -> Steady<V>
 /// The room that is enough to join each run of a list, or None exactly where it is no number of the machine's.
 #[inline(always)]
 pub fn room_for<V: Lattice>(runs: &Gap<Run<V>>, others: &Row<Run<V>>) -> Option<usize>
-    requires { AreTickRuns V.least runs.now.items }
+    requires runs { AreTickRuns V.least runs.now.items }
+    requires others { AreTickRuns V.least others.now.items }
     ensures { MatchOption result (2 ^ 64 ≤ needed runs.now.items others.now.items) (λ n. n
         ≡ needed runs.now.items others.now.items) }
 {
+    let count = others.len();
+    if count == 0 {
+        return Some(0);
+    }
+    let oldest = others.get(0);
+    if is_past(runs, oldest.first) {
+        return Some(count);
+    }
     let mut room = 0usize;
-    for i in 0..others.len() {
+    for i in 0..count {
         let other = others.get(i);
         let Some(more) = count_in(runs, other.first, other.last).checked_add(1) else {
             return None;
@@ -883,6 +888,30 @@ pub fn room_for<V: Lattice>(runs: &Gap<Run<V>>, others: &Row<Run<V>>) -> Option<
         room = sum;
     }
     Some(room)
+}
+
+/// Joins each run of a list that comes behind all that are kept.
+fn join_past<V: Lattice>(runs: &mut Gap<Run<V>>, others: &Row<Run<V>>)
+    requires room { length others.now.items ≤ runs.old.spare }
+    requires runs { AreTickRuns V.least runs.old.items }
+    requires others { AreTickRuns V.least others.now.items }
+    requires past { (o : Run V) (os : List (Run V)) → others.now.items ≡ o ∷ os → EndBefore runs.old.items o.first }
+    ensures runs { AreTickRuns V.least runs.new.items }
+    ensures values { (t : ℕ) → value_at V.least runs.new.items t
+        ≡ V.join_of (value_at V.least runs.old.items t) (value_at V.least others.now.items t) }
+    ensures spare { runs.old.spare ≤ runs.new.spare + length others.now.items }
+{
+    for i in 0..others.len() {
+        let other = others.get(i);
+        put_end(
+            runs,
+            Run {
+                first: other.first,
+                last: other.last,
+                value: other.value.share(),
+            },
+        );
+    }
 }
 
 /// Joins each run of a list.
@@ -896,6 +925,13 @@ pub fn join_each<V: Lattice>(runs: &mut Gap<Run<V>>, others: &Row<Run<V>>)
         ≡ V.join_of (value_at V.least runs.old.items t) (value_at V.least others.now.items t) }
     ensures spare { runs.old.spare ≤ runs.new.spare + needed runs.old.items others.now.items }
 {
+    if others.len() > 0 {
+        let oldest = others.get(0);
+        if is_past(runs, oldest.first) {
+            join_past(runs, others);
+            return;
+        }
+    }
     for i in 0..others.len() {
         let other = others.get(i);
         join_over(runs, other.first, other.last, &other.value);

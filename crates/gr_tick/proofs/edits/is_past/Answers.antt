@@ -1,5 +1,5 @@
 -- Where the last run ends before the tick, all do
-use Rattle.std.proofs.Common.{◌≡◌, ◌+◌, ◌-◌, subst, arith}
+use Rattle.std.proofs.Common.{◌+◌, ◌-◌, subst, arith}
 use Rattle.std.proofs.lemmas.Bool.{ltb-true}
 use Rattle.std.proofs.lemmas.List.{take_all}
 use Rattle.gr_tick.specs.Stored.{EndBefore}

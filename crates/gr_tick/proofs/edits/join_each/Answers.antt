@@ -1,8 +1,37 @@
-use Rattle.std.proofs.Common.{◌+◌, ◌≤◌, drop, arith}
-use Rattle.gr_tick.specs.Stored.{needed}
+use Rattle.std.proofs.Common.{◌≡◌, ◌+◌, ◌≤◌, ◌∷◌, length, drop, get_or, ap, sym, ◌∙◌, subst, arith}
+use Rattle.gr_tick.specs.Stored.{AreTickRuns, EndBefore, needed}
+use Rattle.gr_tick.proofs.EditLemmas.{drop_read}
+use Rattle.gr_tick.proofs.RoomLemmas.{needed_past}
 use Rattle.gr_tick.proofs.RunsLemmas.{growth-le}
 use Rattle.gr_tick.proofs.StepLemmas.{read_alone, needed-drop, needed_step, each_more}
 use Rattle.gr_tick.proofs.edits.join_each.Goals as goal
+
+-- All others come behind the runs
+
+pub join_past-requires-clause-room : goal.join_past-requires-clause-room
+join_past-requires-clause-room g c =
+    let runs = c.args.runs.now.items in
+    let others = c.args.others.now.items in
+    let oldest = c.get-oldest.result.now in
+    let all : others ≡ oldest ∷ drop 1 others = drop_read others 0 oldest (omega arith) c.get-oldest.ensures in
+    let each = subst (λ os. AreTickRuns g.V.Lattice.least os → needed runs os ≡ length os) (sym all) (λ k. needed_past g.V.Lattice.least runs oldest (drop 1 others) k (c.is_past.ensures c.if-is_past.true)) c.requires.others in
+    omega (arith, each, c.requires.room)
+
+pub join_past-requires-clause-past : goal.join_past-requires-clause-past
+join_past-requires-clause-past g c = λ o os e.
+    let first : c.get-oldest.result.now ≡ o = c.get-oldest.ensures ∙ ap (λ xs. get_or xs 0 c.get-oldest.result.now) e in
+    subst (λ r. EndBefore c.args.runs.now.items r.first) first (c.is_past.ensures c.if-is_past.true)
+
+pub returns-then-is_past-clause-spare : goal.returns-then-is_past-clause-spare
+returns-then-is_past-clause-spare g c =
+    let runs = c.args.runs.now.items in
+    let others = c.args.others.now.items in
+    let oldest = c.get-oldest.result.now in
+    let all : others ≡ oldest ∷ drop 1 others = drop_read others 0 oldest (omega arith) c.get-oldest.ensures in
+    let each = subst (λ os. AreTickRuns g.V.Lattice.least os → needed runs os ≡ length os) (sym all) (λ k. needed_past g.V.Lattice.least runs oldest (drop 1 others) k (c.is_past.ensures c.if-is_past.true)) c.requires.others in
+    omega (arith, each, c.join_past.ensures.spare)
+
+-- They do not
 
 pub join_over-requires-clause-room : goal.join_over-requires-clause-room
 join_over-requires-clause-room g c =
