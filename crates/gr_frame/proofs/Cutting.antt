@@ -416,11 +416,11 @@ wanted_spelled : (h : Head) (part : List (Run Q3)) → frame_bytes (record { hea
 unfolding frame_bytes
 wanted_spelled h part = refl
 
-known_parts : (f : Frame) (rs : List (Run K)) → f.body ≡ body.Knowledge rs → parts_of f ≡ map (λ part. record { head = f.head; body = body.Knowledge part }) (cut_frames known_run_size rs)
+pub known_parts : (f : Frame) (rs : List (Run K)) → f.body ≡ body.Knowledge rs → parts_of f ≡ map (λ part. record { head = f.head; body = body.Knowledge part }) (cut_frames known_run_size rs)
 unfolding parts_of
 known_parts f rs e = rw e refl
 
-wanted_parts : (f : Frame) (rs : List (Run Q3)) → f.body ≡ body.Curiosity rs → parts_of f ≡ map (λ part. record { head = f.head; body = body.Curiosity part }) (cut_frames wanted_run_size rs)
+pub wanted_parts : (f : Frame) (rs : List (Run Q3)) → f.body ≡ body.Curiosity rs → parts_of f ≡ map (λ part. record { head = f.head; body = body.Curiosity part }) (cut_frames wanted_run_size rs)
 unfolding parts_of
 wanted_parts f rs e = rw e refl
 
@@ -449,7 +449,7 @@ wanted_framed f rs fs e head piece made =
     frames_of_parts N IsWanted wanted_form 2 f.head body.Curiosity (wanted_spelled f.head) (λ part p. p) head (cut_frames wanted_run_size rs) (parts_fit N IsWanted wanted_form wanted_sized rs piece)
     )
 
-expect_parts : (f : Frame) (t : ℕ) → f.body ≡ body.Expect t → parts_of f ≡ f ∷ []
+pub expect_parts : (f : Frame) (t : ℕ) → f.body ≡ body.Expect t → parts_of f ≡ f ∷ []
 unfolding parts_of
 expect_parts f t e = rw e refl
 

@@ -4,6 +4,7 @@ use Rattle.gr_tick.specs.declared.TheConstants.{MAX_TICK}
 use Rattle.gr_frame.specs.declared.Body.{Body}
 use Rattle.gr_frame.specs.declared.Body.TheVariants as body
 use Rattle.gr_frame.specs.declared.Frame.{Frame}
+use Rattle.gr_frame.specs.declared.Head.{Head}
 use Rattle.gr_frame.specs.Bytes.{known_run_size, wanted_run_size, cut_frames}
 use Rattle.gr_frame.specs.Limits.{IsFrame}
 
@@ -12,6 +13,10 @@ abbrev pub IsSent : Body → Type 0
 IsSent (body.Knowledge rs) = rs ≢ []
 IsSent (body.Curiosity rs) = rs ≢ []
 IsSent (body.Expect tick) = (1 ≤ tick) × (tick ≤ MAX_TICK)
+
+-- the frame of a body
+abbrev pub with_head : Head → Body → Frame
+with_head h b = record { head = h; body = b }
 
 -- the frames that are sent for a frame: its piece in parts, each with its head
 unfoldable pub parts_of : Frame → List Frame

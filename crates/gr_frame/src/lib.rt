@@ -5,6 +5,7 @@ pub mod fault;
 mod field;
 mod frames;
 mod laws;
+mod part;
 mod reading;
 mod value;
 mod writing;
@@ -18,6 +19,7 @@ pub use laws::{
     bytes_spell_one_frame, cut_loses_nothing, decodes_what_is_spelled, limit_of_frames,
     one_frame_is_not_cut, spells_no_prefix,
 };
+pub use part::parts;
 pub use reading::decode;
 pub use writing::{encode, encode_into};
 

@@ -22,9 +22,9 @@ use std::alloc::{AllocError, Global};
 
 /// The runs of a piece that go into one frame.
 #[derive(Clone, Copy)]
-struct Part {
+pub(crate) struct Part {
     /// The place behind the last of them.
-    end: usize,
+    pub(crate) end: usize,
     /// How many bytes the frame has.
     size: usize,
 }
@@ -126,7 +126,7 @@ fn put_parts<V: FrameValue>(
 }
 
 /// The runs that go into a frame with the run at `start`, and how many bytes that frame has.
-fn part_from<V: FrameValue>(piece: &Piece<V>, start: usize) -> Part
+pub(crate) fn part_from<V: FrameValue>(piece: &Piece<V>, start: usize) -> Part
     requires { start < length piece.now }
     ensures later { start < result.end }
     ensures within { result.end ≤ length piece.now }

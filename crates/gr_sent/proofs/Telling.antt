@@ -1,7 +1,6 @@
 -- What frames that are sent say, and their lines one after another: each is said by the frame that its bytes spell
-use Rattle.std.proofs.Common.{◌≡◌, ℕ, zero, suc, ◌+◌, List, [], ◌∷◌, ◌++◌, length, map, drop, Some}
-use Rattle.std.proofs.Common.{None, Result, Ok, Err, refl, sym, ap, ap₂, ◌∙◌, arith, append-nil, append_assoc}
-use Rattle.std.specs.Prelude.{slice_get}
+use Rattle.std.proofs.Common.{◌≡◌, ℕ, suc, ◌+◌, List, [], ◌∷◌, ◌++◌, length, map}
+use Rattle.std.proofs.Common.{Result, Ok, Err, refl, sym, ap, ◌∙◌, arith, append-nil, append_assoc}
 use Rattle.std.proofs.lemmas.List.{map-append, length-append}
 use Rattle.gr_frame.specs.declared.Body.{Body}
 use Rattle.gr_frame.specs.declared.Body.TheVariants as body
@@ -71,45 +70,41 @@ part_under h (body.Expect tick) p e = sym (same e)
 pub one_part : (f p : Frame) → parts_of f ≡ p ∷ [] → p ≡ f
 one_part f p e = part_under f.head f.body p e
 
-one_back : (f : Frame) (ps : List Frame) → parts_of f ≡ ps → AreFrames (map frame_bytes ps) ps → length ps ≡ 1 → map frame_said (map frame_bytes ps) ≡ f ∷ []
-one_back f [] e a n = absurd (omega (arith, n))
-one_back f (p ∷ []) e a n = ap (λ (g : Frame). g ∷ []) (frame_back (frame_bytes p) p a.0 ∙ one_part f p e)
-one_back f (p ∷ (q ∷ ps)) e a n = absurd (omega (arith, n))
+alone : (f : Frame) (ps : List Frame) → parts_of f ≡ ps → length ps ≡ 1 → ps ≡ f ∷ []
+alone f [] e n = absurd (omega (arith, n))
+alone f (p ∷ []) e n = ap (λ (g : Frame). g ∷ []) (one_part f p e)
+alone f (p ∷ (q ∷ ps)) e n = absurd (omega (arith, n))
 
--- One more frame is said beside its bytes
+-- More frames are said beside their bytes
+
+-- all parts of a frame
+pub said_parts : (f : Frame) (old new : List (List ℕ)) (before said : List Frame) → before ≡ map frame_said old → new ≡ old ++ map frame_bytes (parts_of f)
+    → AreFrames (map frame_bytes (parts_of f)) (parts_of f) → said ≡ before ++ parts_of f → said ≡ map frame_said new
+said_parts f old new before said b n a s =
+    let ps = parts_of f in
+    s ∙ ap (λ (fs : List Frame). fs ++ ps) b
+    ∙ ap (λ (fs : List Frame). map frame_said old ++ fs) (sym (frames_back (map frame_bytes ps) ps a))
+    ∙ sym (map-append frame_said old (map frame_bytes ps)) ∙ ap (map frame_said) (sym n)
 
 many : (ps : List Frame) → length (map frame_bytes ps) ≡ length ps
 many [] = refl
 many (p ∷ ps) = ap suc (many ps)
 
+-- a frame that is its only part
 pub said_one : (f : Frame) (old new : List (List ℕ)) (before said : List Frame) → before ≡ map frame_said old → new ≡ old ++ map frame_bytes (parts_of f)
     → AreFrames (map frame_bytes (parts_of f)) (parts_of f) → length new ≡ length old + 1 → said ≡ before ++ f ∷ [] → said ≡ map frame_said new
 said_one f old new before said b n a one s =
     let ps = parts_of f in
     let count : length ps ≡ 1 = omega (arith, one, ap length n ∙ length-append old (map frame_bytes ps), many ps) in
-    s ∙ ap (λ (fs : List Frame). fs ++ f ∷ []) b
-    ∙ ap (λ (fs : List Frame). map frame_said old ++ fs) (sym (one_back f ps refl a count))
-    ∙ sym (map-append frame_said old (map frame_bytes ps)) ∙ ap (map frame_said) (sym n)
+    said_parts f old new before said b n a (s ∙ ap (λ (fs : List Frame). before ++ fs) (sym (alone f ps refl count)))
 
--- What frames say is read
+-- Frames taken one by one
 
--- the bytes at a place are the first of those from there on
-pub first_at : (bs : List (List ℕ)) (k : ℕ) (bytes : List ℕ) → slice_get bs k ≡ Some bytes → drop k bs ≡ bytes ∷ drop (suc k) bs
-first_at [] k bytes e = absurd (none e)
-  where
-    none : {x : List ℕ} → None ≡ Some x → ⊥
-    none h = cc
-first_at (b ∷ bs) zero bytes e = ap (λ (x : List ℕ). x ∷ bs) (is e)
-  where
-    is : {x y : List ℕ} → Some x ≡ Some y → x ≡ y
-    is h = cc
-first_at (b ∷ bs) (suc k) bytes e = first_at bs k bytes e
+pub nothing_left : {X : Type 0} (l : List X) → length l ≡ 0 → l ≡ []
+nothing_left [] h = refl
+nothing_left (x ∷ xs) h = absurd (omega (arith, h))
 
--- one more is read: what is said so far, with what all that is left says, stays the same
-pub reads_more : (bs : List (List ℕ)) (k k' : ℕ) (bytes : List ℕ) (f : Frame) (before after all : List Frame) → k' ≡ suc k
-    → slice_get bs k ≡ Some bytes → f ≡ frame_said bytes → after ≡ before ++ f ∷ [] → before ++ map frame_said (drop k bs) ≡ all → after ++ map frame_said (drop k' bs) ≡ all
-reads_more bs k k' bytes f before after all step e said pushed h =
-    let rest : List Frame = map frame_said (drop (suc k) bs) in
-    ap₂ (λ (fs : List Frame) (n : ℕ). fs ++ map frame_said (drop n bs)) pushed step ∙ append_assoc before (f ∷ []) rest
-    ∙ ap (λ (g : Frame). before ++ (g ∷ rest)) said
-    ∙ ap (λ (cs : List (List ℕ)). before ++ map frame_said cs) (sym (first_at bs k bytes e)) ∙ h
+-- one more is put
+pub put_more : {X : Type 0} (before after left rest all : List X) (x : X) → left ≡ x ∷ rest → after ≡ before ++ x ∷ [] → before ++ left ≡ all → after ++ rest ≡ all
+put_more before after left rest all x taken put h =
+    ap (λ l. l ++ rest) put ∙ append_assoc before (x ∷ []) rest ∙ ap (λ l. before ++ l) (sym taken) ∙ h

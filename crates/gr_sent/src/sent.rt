@@ -1,6 +1,6 @@
 //! Frames in their bytes, each with what it says until its line is told.
 
-ghost use Rattle.std.specs.Prelude.{◌≡◌, ◌+◌, ◌<◌, ◌≤◌, ◌^◌, ◌++◌, [], suc, List, map, drop, length, IfOk, OnOk};
+ghost use Rattle.std.specs.Prelude.{◌≡◌, ◌+◌, ◌<◌, ◌^◌, ◌++◌, [], suc, List, map, length, IfOk, OnOk};
 ghost use Rattle.gr_frame.specs.declared.Frame.{Frame as MachineFrame};
 ghost use Rattle.gr_frame.specs.Bytes.{frame_bytes};
 ghost use Rattle.gr_frame.specs.Cut.{IsSent, AreFrames, parts_of};
@@ -8,7 +8,7 @@ ghost use Rattle.gr_model.specs.World.{sent_line, sent_lines};
 ghost use Rattle.gr_sent.specs.Said.{frame_said};
 
 use crate::queue::Queue;
-use gr_frame::{Body, Frame, Frames, decode, encode_into};
+use gr_frame::{Body, Frame, Frames, decode, encode_into, parts};
 use gr_model::{Report, Reports};
 use std::alloc::{AllocError, Global};
 use std::marker::Model;
@@ -167,20 +167,17 @@ fn put_frame(
     let before = frames.len();
     encode_into(alloc, &frame, frames)?;
     if frames.len() - before != 1 {
-        drop(frame);
-        return read_from(alloc, frames, before, said);
+        return put_all(parts(alloc, &frame)?, said);
     }
     said.push(frame)?;
     Ok(())
 }
 
-/// Puts what each frame from a place on says at the end of a list. At want of memory some of them may stand there.
-fn read_from(alloc: Global, frames: &Frames, from: usize, said: &mut Queue) -> Result<(), Memory>
-    requires { from ≤ length frames.now.frames }
-    ensures { OnOk result (said.new.items ≡ said.old.items ++ map frame_said (drop from frames.now.frames)) }
+/// Puts frames at the end of a list. At want of memory some of them may stand there.
+fn put_all(frames: Vec<Frame>, said: &mut Queue) -> Result<(), Memory>
+    ensures { OnOk result (said.new.items ≡ said.old.items ++ frames.items) }
 {
-    for i in from..frames.len() {
-        let frame = frame_in(alloc, frames.frame(i))?;
+    'frames: for frame in frames {
         said.push(frame)?;
     }
     Ok(())

@@ -3,7 +3,9 @@ ghost use Rattle.gr_tick.specs.Stored.{EndBefore};
 
 use gr_curio::Q3;
 use gr_event::{Bytes, Event};
-use gr_frame::{Body, Frame, FrameFault, FrameKind, Frames, Head, decode, encode, encode_into};
+use gr_frame::{
+    Body, Frame, FrameFault, FrameKind, Frames, Head, decode, encode, encode_into, parts,
+};
 use gr_know::K;
 use gr_tick::{Lattice, Piece, Run};
 use std::alloc::Global;
@@ -71,12 +73,17 @@ fn is_refused(alloc: Global, bytes: &[u8], kind: FrameKind, at: usize) -> bool {
 /// Whether the frame that the bytes spell is spelled so again.
 fn is_spelled_again(rt: &impl Abort, alloc: Global, bytes: &[u8]) -> Result<bool, Fail> {
     let frame = decode(alloc, bytes)?;
+    is_spelled(rt, alloc, &frame, bytes)
+}
+
+/// Whether a frame is spelled by these bytes.
+fn is_spelled(rt: &impl Abort, alloc: Global, frame: &Frame, bytes: &[u8]) -> Result<bool, Fail> {
     match &frame.body {
         Body::Knowledge(piece) => assert!(rt; !piece.is_empty()),
         Body::Curiosity(piece) => assert!(rt; !piece.is_empty()),
         Body::Expect(tick) => assert!(rt; *tick >= 1 && *tick <= gr_tick::MAX_TICK),
     }
-    let frames = encode(alloc, &frame)?;
+    let frames = encode(alloc, frame)?;
     assert_eq!(rt; frames.len(), 1);
     Ok(frames.frame(0) == bytes)
 }
@@ -660,6 +667,27 @@ fn cuts_a_piece_into_three(rt: HostRuntime) -> Result<(), Fail> {
             assert_eq!(rt; bytes.len(), len);
             assert!(rt; bytes.starts_with(&front));
             assert!(rt; is_spelled_again(&rt, rt.alloc(), bytes)?);
+        }
+    }
+    Ok(())
+}
+
+/// Each part of a piece is spelled by the bytes of the frame at its place.
+#[test]
+fn parts_are_spelled(rt: HostRuntime) -> Result<(), Fail> {
+    let piece = at_odd_ticks(rt.alloc(), 2000, &K::S)?;
+    assert!(rt; !piece.is_empty());
+    let frame = Frame {
+        head: HEAD,
+        body: Body::Knowledge(piece),
+    };
+    let frames = encode(rt.alloc(), &frame)?;
+    let cut = parts(rt.alloc(), &frame)?;
+    assert_eq!(rt; frames.len(), 3);
+    assert_eq!(rt; cut.len(), 3);
+    for i in 0..cut.len() {
+        if i < frames.len() {
+            assert!(rt; is_spelled(&rt, rt.alloc(), &cut[i], frames.frame(i))?);
         }
     }
     Ok(())
