@@ -1,6 +1,7 @@
 //! A lane in memory: what it reads, and what was written or cut since its last sync.
 
-ghost use Rattle.std.specs.Prelude.{◌≡◌, ℕ, ◌+◌, ◌-◌, ◌*◌, ◌%◌, ◌≤◌, ◌<◌, min, max, ◌++◌, ◌∷◌, if◌then◌else◌, Bool};
+ghost use Rattle.std.specs.Prelude.{◌≡◌, ℕ, ◌+◌, ◌-◌, ◌*◌, ◌%◌, ◌≤◌, ◌<◌, min, max, ◌++◌, ◌∷◌};
+ghost use Rattle.std.specs.Prelude.{if◌then◌else◌, Bool};
 ghost use Rattle.std.specs.Prelude.{true, false, List, length, take, drop, replicate, IfOk, OnOk, OnErr, vec_len};
 ghost use Rattle.std.specs.Vec.{vec_capacity};
 ghost use Rattle.gr_out.specs.Lane.{Lane, Write, Cut, Sync, FailedWrite, FailedCut, blank, lane_of, content, over};
