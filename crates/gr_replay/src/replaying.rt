@@ -29,6 +29,7 @@ use gr_sched::{Line, Steps};
 use gr_topo::Topology;
 use gr_world::{World, WorldFault};
 use std::alloc::Global;
+use std::mem::forget;
 
 /// Carries out the steps of a schedule over a disk, and writes its report to a sink: what the opening of the logs
 /// tells, and the lines of each step in order, many lines in one call of the sink. A step that is refused tells so in
@@ -38,6 +39,9 @@ use std::alloc::Global;
 /// in this call, and no stop that a step orders is such a failure; the lines of all steps before are written then.
 /// `Damaged` where at the start the lane of a publisher holds no log: that publisher, and the place of the first fault.
 /// `Post` never comes. After each fault the sink took a front of the report.
+///
+/// What the world holds at the end is left to the end of the process, which gives all of it back at once: event by event
+/// that is a twentieth of the whole replay.
 pub fn replay<K: Sink, D: SimDisk>(
     alloc: Global,
     topology: Topology,
@@ -76,7 +80,9 @@ pub fn replay<K: Sink, D: SimDisk>(
         Ok(page) => page,
         Err(fault) => return Err(fault),
     };
-    run(alloc, &mut world, steps.as_slice(), disk, &mut page, sink)
+    let done = run(alloc, &mut world, steps.as_slice(), disk, &mut page, sink);
+    forget(world);
+    done
 }
 
 /// Opens the world of a topology over a disk on whose lanes no stop is ordered: each broker starts over the logs that

@@ -18,6 +18,7 @@ use gr_scenario::{Asked, read};
 use gr_sched::Steps;
 use gr_topo::Topology;
 use std::alloc::Global;
+use std::mem::forget;
 
 /// Answers the bytes of a scenario: its steps are carried out. Gives the status.
 pub(crate) fn replay_bytes<K: Sink>(alloc: Global, bytes: &[u8], sink: &mut K) -> u8
@@ -36,7 +37,12 @@ pub(crate) fn replay_bytes<K: Sink>(alloc: Global, bytes: &[u8], sink: &mut K) -
         Ok(Asked::TooManyBytes) => print(sink, b"too-large bytes\n", 9),
         Ok(Asked::TooManySteps) => print(sink, b"too-large steps\n", 9),
         Ok(Asked::Refused(line)) => print_line(line, sink),
-        Ok(Asked::Scenario { topology, steps }) => carry_out(alloc, topology, &steps, sink),
+        Ok(Asked::Scenario { topology, steps }) => {
+            let status = carry_out(alloc, topology, &steps, sink);
+            // The process ends, and gives all memory back at once.
+            forget(steps);
+            status
+        }
         Err(_) => 7,
     }
 }
@@ -56,7 +62,9 @@ fn carry_out<K: Sink>(alloc: Global, topology: Topology, steps: &Steps, sink: &m
         Ok(disk) => disk,
         Err(_) => return 7,
     };
-    match replay(alloc, topology, steps, &mut disk, sink) {
+    let done = replay(alloc, topology, steps, &mut disk, sink);
+    forget(disk);
+    match done {
         Ok(()) => 0,
         Err(RunFault::Write) => 4,
         Err(RunFault::Memory) => 7,

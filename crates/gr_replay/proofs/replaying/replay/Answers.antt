@@ -26,9 +26,9 @@ returns-clause-report g c = λ f.
     let labels = labels_of c.in-Ok.world.topo in
     let told = report_text labels c.in-Ok.world.told in
     let text = whole_text c.args.topology c.in-Ok.world told c.as_slice.result.now c.args.steps.now (ap (report_text labels) fresh.1) c.as_slice.ensures c.in-Ok.ensures.topology fresh.0 in
-    on_success c.run.result
+    on_success c.run-done.result
     (λ e. taken-later _ _ _ told (text_from c.in-Ok.world c.as_slice.result.now) c.in-Ok-first_page.page.held c.in-Ok-first_page.ensures.ok e ∙ ap (with_more (g.K.Sink.taken c.args.sink.now)) text)
-    c.run.ensures.report
+    c.run-done.ensures.report
 
 pub returns-clause-front : goal.returns-clause-front
 returns-clause-front g c = λ f.
@@ -36,17 +36,17 @@ returns-clause-front g c = λ f.
     let labels = labels_of c.in-Ok.world.topo in
     let told = report_text labels c.in-Ok.world.told in
     let text = whole_text c.args.topology c.in-Ok.world told c.as_slice.result.now c.args.steps.now (ap (report_text labels) fresh.1) c.as_slice.ensures c.in-Ok.ensures.topology fresh.0 in
-    on_fault c.run.result
-    (λ h. subst (TakesFront (g.K.Sink.taken c.args.sink.now) (g.K.Sink.taken c.run.new.sink)) text
+    on_fault c.run-done.result
+    (λ h. subst (TakesFront (g.K.Sink.taken c.args.sink.now) (g.K.Sink.taken c.run-done.new.sink)) text
     (front-later _ _ _ told (text_from c.in-Ok.world c.as_slice.result.now) c.in-Ok-first_page.page.held c.in-Ok-first_page.ensures.ok h))
-    c.run.ensures.front
+    c.run-done.ensures.front
 
 pub returns-clause-before : goal.returns-clause-before
 returns-clause-before g c = λ f e.
     let fresh = c.in-Ok.ensures.fresh f in
     let labels = labels_of c.in-Ok.world.topo in
     let told = report_text labels c.in-Ok.world.told in
-    let k = c.run.ensures.before e in
+    let k = c.run-done.ensures.before e in
     let text = whole_text c.args.topology c.in-Ok.world told (take k.0 c.as_slice.result.now) (take k.0 c.args.steps.now) (ap (report_text labels) fresh.1) (ap (take k.0) c.as_slice.ensures) c.in-Ok.ensures.topology fresh.0 in
     (k.0, taken-later _ _ _ told (text_from c.in-Ok.world (take k.0 c.as_slice.result.now)) c.in-Ok-first_page.page.held c.in-Ok-first_page.ensures.ok k.1 ∙ ap (with_more (g.K.Sink.taken c.args.sink.now)) text)
 
