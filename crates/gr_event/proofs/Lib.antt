@@ -1,6 +1,7 @@
 pub mod Again
 pub mod Decoding
 pub mod Members
+pub mod Digits
 pub mod Reading
 pub mod SameEvent
 pub mod Spelled

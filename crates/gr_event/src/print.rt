@@ -1,6 +1,6 @@
 //! Events to JSON: their compact text at the end of a text.
 
-ghost use Rattle.std.specs.Prelude.{◌≡◌, ℕ, ◌<◌, List, ◌++◌, Ok, IfOk, OnOk, OnErr};
+ghost use Rattle.std.specs.Prelude.{◌≡◌, ℕ, ◌<◌, List, ◌++◌, ◌∷◌, Ok, IfOk, OnOk, OnErr};
 ghost use Rattle.std.specs.Char.{digit_char};
 ghost use Rattle.std.specs.Fmt.{signed_decimal};
 ghost use Rattle.std.specs.List.{list_all};
@@ -18,7 +18,6 @@ use crate::event::{Event, Memory};
 use crate::text::Text;
 use crate::value::Part;
 use crate::walk::front;
-use itoa::Buffer;
 use std::alloc::Global;
 
 /// From so many bytes on a text is not looked at byte by byte.
@@ -95,19 +94,16 @@ fn put_member(after: bool, name: &[u8], part: Part<'_>, into: &mut Text) -> Resu
     }
 }
 
-/// Puts a name and its colon at the end of a text. At want of memory a part of them may stand there.
+/// Puts a name at the end of a text, with no colon behind it. At want of memory a part of it may stand there.
 fn put_name(after: bool, name: &[u8], into: &mut Text) -> Result<(), Memory>
-    ensures ok { OnOk result (into.new ≡ into.old ++ (separator after (key name.now) ++ token_text (key name.now))) }
+    ensures ok { OnOk result (into.new ≡ into.old ++ (separator after (key name.now) ++ quoted name.now)) }
     ensures grows { Grows into.old into.new }
 {
     match put_comma(after, into) {
         Ok(()) => {}
         Err(refused) => return Err(refused),
     }
-    match put_quoted(name, into) {
-        Ok(()) => into.push(b':'),
-        Err(refused) => Err(refused),
-    }
+    put_quoted(name, into)
 }
 
 /// Puts the comma that stands after another member, if there is one.
@@ -121,26 +117,34 @@ fn put_comma(after: bool, into: &mut Text) -> Result<(), Memory>
     Ok(())
 }
 
-/// Puts a value at the end of a text. At want of memory a part of it may stand there.
+/// Puts a colon and a value behind it at the end of a text. At want of memory a part of them may stand there.
 fn put_part(part: Part<'_>, into: &mut Text) -> Result<(), Memory>
-    ensures ok { OnOk result (into.new ≡ into.old ++ token_text (value_token (part_value part.entry))) }
+    ensures ok { OnOk result (into.new ≡ into.old ++ 58 ∷ token_text (value_token (part_value part.entry))) }
     ensures grows { Grows into.old into.new }
 {
     match part {
         Part::Int(number) => put_number(number, into),
-        Part::Text(text) => put_quoted(text, into),
-        Part::Bool(true) => into.append(b"true"),
-        Part::Bool(false) => into.append(b"false"),
+        Part::Text(text) => match into.push(b':') {
+            Ok(()) => put_quoted(text, into),
+            Err(refused) => Err(refused),
+        },
+        Part::Bool(true) => into.append(b":true"),
+        Part::Bool(false) => into.append(b":false"),
     }
 }
 
-/// Puts an integer at the end of a text.
+/// Puts a colon and an integer behind it at the end of a text. At want of memory the colon may stand there.
 fn put_number(number: i64, into: &mut Text) -> Result<(), Memory>
-    ensures ok { OnOk result (into.new ≡ into.old ++ signed_decimal number) }
+    ensures ok { OnOk result (into.new ≡ into.old ++ 58 ∷ signed_decimal number) }
     ensures grows { Grows into.old into.new }
 {
-    let mut digits = Buffer::new();
-    into.append(digits.format(number).as_bytes())
+    if number >= 0 {
+        return into.append_number(b':', number as u64);
+    }
+    match into.push(b':') {
+        Ok(()) => into.append_number(b'-', number.unsigned_abs()),
+        Err(refused) => Err(refused),
+    }
 }
 
 /// Puts a text between quotes at the end of a text. At want of memory a part of it may stand there.

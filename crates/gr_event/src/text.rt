@@ -1,10 +1,14 @@
 //! Lists of bytes and of numbers with types of their own.
 
-ghost use Rattle.std.specs.Prelude.{◌≡◌, ◌++◌, ◌∷◌, [], bytes_eq, length, take, IfOk, OnOk, OnErr};
+ghost use Rattle.std.specs.Prelude.{◌≡◌, ◌++◌, ◌∷◌, [], bytes_eq, decimal, length, take, IfOk, OnOk, OnErr};
 
+use itoa::write_digits;
 use std::alloc::{AllocError, Global};
 use std::marker::Model;
 use std::mem;
+
+/// How many bytes are copied for a byte and a number behind it, which has at most 20 digits.
+const NUMBER_ROOM: usize = 24;
 
 /// A text, seen as its bytes.
 #[derive(Drop)]
@@ -60,6 +64,24 @@ impl Text {
         ensures err { OnErr result (self.new ≡ self.old) }
     {
         self.bytes.extend_from_slice(bytes)
+    }
+
+    /// Puts a byte and behind it a number in decimal at the end. At want of memory the text stays as it was.
+    ///
+    /// The same count of bytes is copied for each number, and what stands behind its digits is cut off: that costs less
+    /// than a copy of just the digits.
+    pub fn append_number(&mut self, before: u8, number: u64) -> Result<(), AllocError>
+        ensures ok { OnOk result (self.new ≡ self.old ++ before ∷ decimal number) }
+        ensures err { OnErr result (self.new ≡ self.old) }
+    {
+        let mut room = [0; 2 * NUMBER_ROOM];
+        let start = write_digits(number, &mut room, NUMBER_ROOM) - 1;
+        room[start] = before;
+        let len = self.len();
+        self.bytes
+            .extend_from_slice(&room[start..start + NUMBER_ROOM])?;
+        self.bytes.truncate(len + (NUMBER_ROOM - start));
+        Ok(())
     }
 
     /// Keeps so many of its first bytes.

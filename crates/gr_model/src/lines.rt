@@ -46,6 +46,7 @@ fn push_subscriber(words: &mut Words, topo: &Topology, subscriber: u16) -> Resul
 }
 
 /// A word and a number.
+#[inline(always)]
 fn push_pair(words: &mut Words, word: &[u8], number: u64) -> Result<(), AllocError>
     ensures { OnOk result (words.new ≡ words.old ++ behind_blanks (word.now ∷ decimal number ∷ [])) }
 {
@@ -54,6 +55,7 @@ fn push_pair(words: &mut Words, word: &[u8], number: u64) -> Result<(), AllocErr
 }
 
 /// A word and the name of a publisher.
+#[inline(always)]
 fn push_named(
     words: &mut Words,
     topo: &Topology,
@@ -69,6 +71,7 @@ fn push_named(
 }
 
 /// A line of a publisher and numbers.
+#[inline(always)]
 fn push_publisher_line(
     words: &mut Words,
     topo: &Topology,
@@ -95,6 +98,7 @@ fn push_numbers(words: &mut Words, numbers: &[u64]) -> Result<(), AllocError>
 }
 
 /// The line of a log.
+#[inline(always)]
 fn push_log(
     words: &mut Words,
     topo: &Topology,
@@ -211,6 +215,7 @@ fn push_doubt(
 }
 
 /// The begin of the line of a frame that was sent.
+#[inline(always)]
 fn push_sent(
     words: &mut Words,
     topo: &Topology,
@@ -232,37 +237,36 @@ fn push_sent(
 }
 
 /// The letter of what is known.
-fn letter_of_know(value: &K) -> &'static str
-    ensures { result.now ≡ know_letter value.now }
+fn letter_of_know(value: &K) -> u8
+    ensures { result ∷ [] ≡ know_letter value.now }
 {
     match value {
-        K::Q => "Q",
-        K::S => "S",
-        K::D(_) => "D",
-        K::F => "F",
+        K::Q => b'Q',
+        K::S => b'S',
+        K::D(_) => b'D',
+        K::F => b'F',
     }
 }
 
 /// The letter of what is asked.
-fn letter_of_want(value: &Q3) -> &'static str
-    ensures { result.now ≡ want_letter value.now }
+fn letter_of_want(value: &Q3) -> u8
+    ensures { result ∷ [] ≡ want_letter value.now }
 {
     match value {
-        Q3::N => "N",
-        Q3::C => "C",
-        Q3::A => "A",
+        Q3::N => b'N',
+        Q3::C => b'C',
+        Q3::A => b'A',
     }
 }
 
 /// The word of a run whose value has this letter.
-fn push_run(words: &mut Words, letter: &str, first: u64, last: u64) -> Result<(), AllocError>
+fn push_run(words: &mut Words, letter: u8, first: u64, last: u64) -> Result<(), AllocError>
     ensures { OnOk result
-        (words.new ≡ words.old ++ 32 ∷ (letter.now ++ (decimal first ++ (codes "-" ++ decimal last)))) }
+        (words.new ≡ words.old ++ 32 ∷ letter ∷ (decimal first ++ (codes "-" ++ decimal last))) }
 {
-    words.push(letter.as_bytes())?;
-    words.extend_number(first)?;
-    words.extend(b"-")?;
-    words.extend_number(last)
+    words.push_blank()?;
+    words.extend_number(letter, first)?;
+    words.extend_number(b'-', last)
 }
 
 /// The words of runs of what is known.
@@ -523,8 +527,8 @@ fn push_clash(
 {
     push_dropped(words, topo, broker, b"clash")?;
     words.push_number(tick)?;
-    words.push(letter_of_know(kept).as_bytes())?;
-    words.push(letter_of_know(came).as_bytes())
+    words.push(&[letter_of_know(kept)])?;
+    words.push(&[letter_of_know(came)])
 }
 
 /// The line of a frame's bytes.

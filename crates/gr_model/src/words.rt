@@ -7,15 +7,11 @@ ghost use Rattle.gr_event.specs.Json.{json_text};
 ghost use Rattle.gr_model.specs.Text.{hex_pair};
 
 use gr_event::{Event, Text};
-use itoa::Buffer;
 use std::alloc::{AllocError, Global};
 use std::marker::Model;
 
 /// How many bytes a row has room for when it begins, which most lines never pass.
 const FIRST_ROOM: usize = 256;
-
-/// How many letters a name has at most that is put letter by letter.
-const SHORT_NAME: usize = 3;
 
 /// Words in a row, a blank before each, seen as the bytes of the row.
 #[derive(Drop)]
@@ -58,7 +54,7 @@ impl Words {
     }
 
     /// Puts the blank that stands before a word.
-    fn push_blank(&mut self) -> Result<(), AllocError>
+    pub(crate) fn push_blank(&mut self) -> Result<(), AllocError>
         ensures { OnOk result (self.new ≡ self.old ++ 32 ∷ []) }
     {
         self.row.push(b' ')
@@ -77,16 +73,22 @@ impl Words {
     pub(crate) fn push_name(&mut self, name: &[u8]) -> Result<(), AllocError>
         ensures { OnOk result (self.new ≡ self.old ++ 32 ∷ name.now) }
     {
-        self.push_blank()?;
-        append_name(&mut self.row, name)
+        match name {
+            [a] => self.row.append(&[b' ', *a]),
+            [a, b] => self.row.append(&[b' ', *a, *b]),
+            [a, b, c] => self.row.append(&[b' ', *a, *b, *c]),
+            _ => {
+                self.push_blank()?;
+                self.row.append(name)
+            }
+        }
     }
 
     /// Puts a number at the end, in decimal.
     pub(crate) fn push_number(&mut self, number: u64) -> Result<(), AllocError>
         ensures { OnOk result (self.new ≡ self.old ++ 32 ∷ decimal number) }
     {
-        let mut digits = Buffer::new();
-        self.push(digits.format(number).as_bytes())
+        self.row.append_number(b' ', number)
     }
 
     /// Puts an event's JSON at the end.
@@ -106,18 +108,18 @@ impl Words {
     }
 
     /// Puts bytes at the end, with no blank before them.
+    #[inline(always)]
     pub(crate) fn extend(&mut self, bytes: &[u8]) -> Result<(), AllocError>
         ensures { OnOk result (self.new ≡ self.old ++ bytes.now) }
     {
         self.row.append(bytes)
     }
 
-    /// Puts a number's digits at the end, with no blank before them.
-    pub(crate) fn extend_number(&mut self, number: u64) -> Result<(), AllocError>
-        ensures { OnOk result (self.new ≡ self.old ++ decimal number) }
+    /// Puts a byte and a number's digits behind it at the end, with no blank before them.
+    pub(crate) fn extend_number(&mut self, before: u8, number: u64) -> Result<(), AllocError>
+        ensures { OnOk result (self.new ≡ self.old ++ before ∷ decimal number) }
     {
-        let mut digits = Buffer::new();
-        self.row.append(digits.format(number).as_bytes())
+        self.row.append_number(before, number)
     }
 
     /// The row without its first blank.
@@ -129,19 +131,6 @@ impl Words {
             [_, line @ ..] => line,
         }
     }
-}
-
-/// Puts a name at the end. One of few letters is put letter by letter, which costs less than a copy.
-fn append_name(text: &mut Text, name: &[u8]) -> Result<(), AllocError>
-    ensures { OnOk result (text.new ≡ text.old ++ name.now) }
-{
-    if name.len() > SHORT_NAME {
-        return text.append(name);
-    }
-    for letter in name {
-        text.push(*letter)?;
-    }
-    Ok(())
 }
 
 /// The hexadecimal digits.
