@@ -141,9 +141,14 @@ impl<T> Gap<T> {
         if self.head.len() <= i {
             return self.rest.remove(i - self.head.len());
         }
-        let Some(value) = self.head.remove(i) else {
-            unreachable!()
+        // What stands first is most often what goes, and goes without a look at what is behind it.
+        let first = i == 0;
+        let removed = if first {
+            self.head.pop_front()
+        } else {
+            self.head.remove(i)
         };
+        let Some(value) = removed else { unreachable!() };
         if self.head.len() == 0 {
             self.rest.refill(&mut self.head);
         }
