@@ -19,8 +19,11 @@ le_trans h k = omega arith
 lt_le : {a b : ℕ} → a < b → a ≤ b
 lt_le h = omega arith
 
+within_less : (a b f l t : ℕ) → a ≤ f → l ≤ b → within a b t ≡ false → within f l t ≡ false
+within_less a b f l t fa lb e = grind (arith, nat_tests)
+
 module _ {V : Type 0} where
-  cond_same : (b : Bool) (x y z w : V) → (b ≡ true → x ≡ y) → (b ≡ false → z ≡ w) → cond b x z ≡ cond b y w
+  pub cond_same : (b : Bool) (x y z w : V) → (b ≡ true → x ≡ y) → (b ≡ false → z ≡ w) → cond b x z ≡ cond b y w
   cond_same true x y z w h k = h refl
   cond_same false x y z w h k = k refl
 
@@ -34,6 +37,13 @@ module _ {V : Type 0} where
   pub put_runs : (least : V) (xs ys : List (Run V)) (b c : Run V) → AreTickRuns least (xs ++ b ∷ []) → AreTickRuns least (c ∷ ys) → c.first ≡ b.first → c.value ≡ b.value → AreTickRuns least (xs ++ c ∷ ys)
   put_runs least xs ys b c h k f v =
       AreTickRuns-join least xs c ys (AreTickRuns-other_last least xs b c h k.0 (omega arith) (λ _. sym v)) k
+
+  -- a run that lies whole in a range has none of the other ticks
+  pub passed_over : (least : V) (xs : List (Run V)) (from i a b t : ℕ) (r : Run V) → i < length xs → r ≡ get_or xs i r → a ≤ r.first → r.last ≤ b → within a b t ≡ false → value_at least (take from xs ++ drop (i + 1) xs) t ≡ value_at least (take from xs ++ drop i xs) t
+  passed_over least xs from i a b t r lt e ar rb out =
+      value_at-append least (take from xs) (drop (i + 1) xs) t
+      ∙ ap (λ v. value_at v (take from xs) t) (sym (ap (λ zs. value_at least zs t) (drop_read xs i r lt e) ∙ cond-false (is_in t r) r.value (value_at least (drop (i + 1) xs) t) (within_less a b r.first r.last t ar rb out)))
+      ∙ sym (value_at-append least (take from xs) (drop i xs) t)
 
   -- a run between the earlier and the later ones
   pub insert_values : (d : V) (xs : List (Run V)) (r : Run V) (ys : List (Run V)) (t : ℕ) → EndBefore xs r.first → value_at d (xs ++ r ∷ ys) t ≡ cond (is_in t r) r.value (value_at d (xs ++ ys) t)

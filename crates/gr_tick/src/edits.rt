@@ -1,6 +1,7 @@
 //! Edits of a list of runs. None takes memory: where one may leave more runs, it asks for the spare room.
 ghost use Rattle.std.specs.Prelude.{if◌then◌else◌, MatchOption, IfOk, ◌≡◌, ◌≢◌, ℕ, ◌+◌, ◌-◌, ◌<◌, ◌≤◌, ◌&&◌, nat_le};
-ghost use Rattle.std.specs.Prelude.{cond, List, [], ◌∷◌, ◌++◌, length, take, drop, insert, ◌^◌, ◌⊎◌, true};
+ghost use Rattle.std.specs.Prelude.{cond, List, [], ◌∷◌, ◌++◌, length, take, drop, insert, ◌^◌, ◌⊎◌, true, false};
+ghost use Rattle.std.specs.Prelude.{IfSome};
 ghost use Rattle.std.specs.List.{HoldsAt};
 ghost use Rattle.gr_tick.specs.declared.TheConstants.{MAX_TICK};
 ghost use Rattle.gr_tick.specs.Runs.{value_at, is_in};
@@ -775,7 +776,33 @@ pub fn lower_over<V: Lattice>(runs: &mut Gap<Run<V>>, first: u64, last: u64)
     }
 }
 
-/// Puts a value on a range.
+/// The place behind the runs that have ticks of a range, the first of which stands at `from`. None where one of these
+/// has other ticks too, and so does not lie whole in the range.
+fn whole_upto<V: Lattice>(runs: &Gap<Run<V>>, from: usize, first: u64, last: u64) -> Option<usize>
+    requires within { from ≤ length runs.now.items }
+    requires runs { AreTickRuns V.least runs.now.items }
+    ensures within { IfSome result (λ upto. (from ≤ upto) × (upto ≤ length runs.now.items)) }
+    ensures ahead { IfSome result (λ upto. BeginAfter (drop upto runs.now.items) last) }
+    ensures values { IfSome result (λ upto. (t : ℕ) → within first last t ≡ false →
+        value_at V.least (take from runs.now.items ++ drop upto runs.now.items) t
+        ≡ value_at V.least runs.now.items t) }
+{
+    let count = runs.len();
+    let mut upto = from;
+    while upto < count {
+        let run = runs.get(upto);
+        if last < run.first {
+            return Some(upto);
+        }
+        if run.first < first || last < run.last {
+            return None;
+        }
+        upto += 1;
+    }
+    Some(upto)
+}
+
+/// Puts a value on a range. Where each run of the range lies whole in it, one run comes in the place of all of them.
 pub fn set_over<V: Lattice>(runs: &mut Gap<Run<V>>, first: u64, last: u64, value: &V)
     requires room { 2 ≤ runs.old.spare }
     requires runs { AreTickRuns V.least runs.old.items }
@@ -787,14 +814,13 @@ pub fn set_over<V: Lattice>(runs: &mut Gap<Run<V>>, first: u64, last: u64, value
         ≡ (if within first last t then value.now else value_at V.least runs.old.items t) }
     ensures spare { runs.old.spare ≤ runs.new.spare + 2 }
 {
-    let place = seek(runs, first);
-    if place < runs.len() {
-        let whole = runs.get(place);
-        if whole.first == first && whole.last == last && !is_bottom(value) {
+    if !is_bottom(value) {
+        let from = seek(runs, first);
+        if let Some(upto) = whole_upto(runs, from, first, last) {
             put_over(
                 runs,
-                place,
-                place + 1,
+                from,
+                upto,
                 Run {
                     first,
                     last,
