@@ -1,16 +1,9 @@
--- Faults that pass through, and lines that stand before others
-use Rattle.std.proofs.Common.{◌≡◌, List, ◌++◌, refl}
-use Rattle.std.specs.Prelude.{Result, Ok, Err}
+-- Faults that pass through
+use Rattle.std.proofs.Common.{◌≡◌, refl}
+use Rattle.std.specs.Prelude.{Result, Err}
 use Rattle.gr_event.specs.declared.event.EventFault.{EventFault}
 use Rattle.gr_event.specs.declared.event.EventFault.TheVariants as fault
 use Rattle.gr_event.specs.Gives.{Fails}
-use Rattle.gr_sched.specs.declared.fault.StepFault.{StepFault}
-use Rattle.gr_sched.specs.declared.step.Line.{Line}
-
--- these lines before those that were read
-abbrev pub behind : List Line → Result (List Line) StepFault → Result (List Line) StepFault
-behind front (Ok lines) = Ok (front ++ lines)
-behind front (Err f) = Err f
 
 -- a fault that is not memory is the fault of reading
 pub other_fault : {X : Type 0} (e : EventFault) (read : Result X EventFault) → Fails e read → (e ≡ fault.Memory → ⊥) → read ≡ Err e

@@ -8,3 +8,4 @@ pub mod Faults
 pub mod InRange
 pub mod ReadsBack
 pub mod Spelled
+pub mod PlainLines

@@ -5,7 +5,7 @@ use Rattle.std.specs.List.{list_all, position_or_len}
 use Rattle.std.specs.Fmt.{decimal}
 use Rattle.std.proofs.lemmas.List.{take_at, drop_at, take_all, drop_all, append_assoc, append-nil, reverse-append, reverse-reverse, length_push}
 use Rattle.std.proofs.lemmas.Fmt.{decimal_by_steps, length-decimal-le}
-use Rattle.std.proofs.lemmas.Bool.{and_parts, and_from, cond-true, cond-false, lt-ltb, le-leb, leb-true, ne_eqb, not_from_false, not_from_true, or_from}
+use Rattle.std.proofs.lemmas.Bool.{and_parts, and_from, cond-true, cond-false, lt-ltb, le-leb, leb-true, ltb-true, ne_eqb, not_from_false, not_from_true, or_from}
 use Rattle.gr_event.specs.declared.event.Event.{Event}
 use Rattle.gr_event.specs.Json.{event_text}
 use Rattle.gr_sched.specs.declared.step.TheConstants.{MAX_NUMBER}
@@ -43,7 +43,7 @@ whole_len (x ∷ w) h =
 begins : (b : ℕ) (bs : List ℕ) → not (is_gap b) ≡ true → without_gaps (b ∷ bs) ≡ b ∷ bs
 begins b bs h = ap (λ k. drop k (b ∷ bs)) (cond-false (not (not (is_gap b))) (1 + position_or_len (λ c. not (is_gap c)) bs) 0 (not_from_true (not (is_gap b)) h))
 
-word_begins : (w more : List ℕ) → IsWord w → without_gaps (w ++ more) ≡ w ++ more
+pub word_begins : (w more : List ℕ) → IsWord w → without_gaps (w ++ more) ≡ w ++ more
 word_begins [] more h = absurd (omega (arith, h.some))
 word_begins (x ∷ w) more h = begins x (w ++ more) (and_parts (not (is_gap x)) (list_all (λ b. not (is_gap b)) w) h.whole).0
 
@@ -77,7 +77,7 @@ pub record EndsWhole (text : List ℕ) : Type 0 where
   pub is : text ≡ front ++ last ∷ []
   pub whole : not (is_gap last) ≡ true
 
-word_ends : (w : List ℕ) → IsWord w → EndsWhole w
+pub word_ends : (w : List ℕ) → IsWord w → EndsWhole w
 word_ends [] h = absurd (omega (arith, h.some))
 word_ends (x ∷ []) h = record { front = []; last = x; is = refl; whole = (and_parts (not (is_gap x)) true h.whole).0 }
 word_ends (x ∷ y ∷ w) h =
@@ -85,7 +85,7 @@ word_ends (x ∷ y ∷ w) h =
     let e = word_ends (y ∷ w) (record { some = omega arith; whole = parts.1 }) in
     record { front = x ∷ e.front; last = e.last; is = ap (λ l. x ∷ l) e.is; whole = e.whole }
 
-ends_behind : (a t : List ℕ) → EndsWhole t → EndsWhole (a ++ t)
+abbrev pub ends_behind : (a t : List ℕ) → EndsWhole t → EndsWhole (a ++ t)
 ends_behind a t e = record { front = a ++ e.front; last = e.last; is = ap (λ l. a ++ l) e.is ∙ sym (append_assoc a e.front (e.last ∷ [])); whole = e.whole }
 
 trimmed_is : (text : List ℕ) → without_gaps text ≡ text → EndsWhole text → trimmed text ≡ text
@@ -95,7 +95,7 @@ trimmed_is text g e =
 
 -- ---- digits
 
-digit_is_whole : (b : ℕ) → is_digit b ≡ true → not (is_gap b) ≡ true
+pub digit_is_whole : (b : ℕ) → is_digit b ≡ true → not (is_gap b) ≡ true
 digit_is_whole b h =
     let parts = and_parts (nat_le 48 b) (nat_le b 57) h in
     let low = leb-true 48 b parts.0 in
@@ -107,13 +107,13 @@ digits_are_whole (d ∷ ds) h =
     let parts = and_parts (is_digit d) (list_all is_digit ds) h in
     and_from (not (is_gap d)) (list_all (λ b. not (is_gap b)) ds) (digit_is_whole d parts.0) (digits_are_whole ds parts.1)
 
-digits_push : (ds : List ℕ) (d : ℕ) → list_all is_digit ds ≡ true → is_digit d ≡ true → list_all is_digit (ds ++ d ∷ []) ≡ true
+pub digits_push : (ds : List ℕ) (d : ℕ) → list_all is_digit ds ≡ true → is_digit d ≡ true → list_all is_digit (ds ++ d ∷ []) ≡ true
 digits_push [] d h g = and_from (is_digit d) true g refl
 digits_push (x ∷ ds) d h g =
     let parts = and_parts (is_digit x) (list_all is_digit ds) h in
     and_from (is_digit x) (list_all is_digit (ds ++ d ∷ [])) parts.0 (digits_push ds d parts.1 g)
 
-value_push : (v : ℕ) (ds : List ℕ) (d : ℕ) → value_after v (ds ++ d ∷ []) ≡ value_after v ds * 10 + (d - 48)
+pub value_push : (v : ℕ) (ds : List ℕ) (d : ℕ) → value_after v (ds ++ d ∷ []) ≡ value_after v ds * 10 + (d - 48)
 value_push v [] d = refl
 value_push v (x ∷ ds) d = value_push (v * 10 + (x - 48)) ds d
 
@@ -136,28 +136,50 @@ decimal_digits n h = decimal_by_steps AreDigits
 
 -- ---- numbers and names
 
-number_word : (m : ℕ) → m ≤ MAX_NUMBER → IsWord (decimal m)
-number_word m h = let d = decimal_digits m (omega arith) in record { some = d.some; whole = digits_are_whole (decimal m) d.digits }
+-- a word of digits that is the number m
+pub record Spells (m : ℕ) (ds : List ℕ) : Type 0 where
+  pub reads : is_number ds ≡ true
+  pub value : value_after 0 ds ≡ m
 
-number_is : (n low high m : ℕ) → low ≤ m → m ≤ high → m ≤ MAX_NUMBER → number_in n low high (decimal m) ≡ Ok m
-number_is n low high m least most h =
+pub digits_word : (m : ℕ) (ds : List ℕ) → Spells m ds → IsWord ds
+digits_word m ds h =
+    let parts = and_parts (nat_lt 0 (length ds) && nat_le (length ds) 19) (list_all is_digit ds) h.reads in
+    let some = and_parts (nat_lt 0 (length ds)) (nat_le (length ds) 19) parts.0 in
+    record { some = ltb-true 0 (length ds) some.0; whole = digits_are_whole ds parts.1 }
+
+digits_in : (n low high m : ℕ) (ds : List ℕ) → Spells m ds → low ≤ m → m ≤ high → number_in n low high ds ≡ Ok m
+digits_in n low high m ds h least most =
+    let test = and_from (is_number ds && nat_le low (value_after 0 ds)) (nat_le (value_after 0 ds) high)
+    (and_from (is_number ds) (nat_le low (value_after 0 ds)) h.reads (le-leb low (value_after 0 ds) (omega (arith, h.value, least))))
+    (le-leb (value_after 0 ds) high (omega (arith, h.value, most))) in
+    cond-true _ (Ok (value_after 0 ds)) _ test ∙ ap Ok h.value
+
+pub digits_last : (n low high m : ℕ) (ds : List ℕ) → Spells m ds → low ≤ m → m ≤ high → next_number n low high ds ≡ Ok (m, [])
+digits_last n low high m ds h least most =
+    ap (λ r. r >>= λ w. number_in n low high w.0 >>= λ v. Ok (v, w.1)) (last_is n ds (digits_word m ds h)) ∙ ap (λ r. r >>= λ v. Ok (v, [])) (digits_in n low high m ds h least most)
+
+digits_next : (n low high m : ℕ) (ds r : List ℕ) → Spells m ds → low ≤ m → m ≤ high → without_gaps r ≡ r → next_number n low high (ds ++ 32 ∷ r) ≡ Ok (m, r)
+digits_next n low high m ds r h least most g =
+    ap (λ u. u >>= λ w. number_in n low high w.0 >>= λ v. Ok (v, w.1)) (next_is n ds r (digits_word m ds h) g) ∙ ap (λ u. u >>= λ v. Ok (v, r)) (digits_in n low high m ds h least most)
+
+decimal_spells : (m : ℕ) → m ≤ MAX_NUMBER → Spells m (decimal m)
+decimal_spells m h =
     let d = decimal_digits m (omega arith) in
     let few = length-decimal-le 19 m (omega arith) (omega arith) (omega arith) in
-    let test = and_from (is_number (decimal m) && nat_le low (value_after 0 (decimal m))) (nat_le (value_after 0 (decimal m)) high)
-    (and_from (is_number (decimal m)) (nat_le low (value_after 0 (decimal m)))
-    (and_from (nat_lt 0 (length (decimal m)) && nat_le (length (decimal m)) 19) (list_all is_digit (decimal m))
-    (and_from (nat_lt 0 (length (decimal m))) (nat_le (length (decimal m)) 19) (lt-ltb 0 (length (decimal m)) d.some) (le-leb (length (decimal m)) 19 few)) d.digits)
-    (le-leb low (value_after 0 (decimal m)) (omega (arith, d.value))))
-    (le-leb (value_after 0 (decimal m)) high (omega (arith, d.value))) in
-    cond-true _ (Ok (value_after 0 (decimal m))) _ test ∙ ap Ok d.value
+    record {
+      reads = and_from (nat_lt 0 (length (decimal m)) && nat_le (length (decimal m)) 19) (list_all is_digit (decimal m))
+          (and_from (nat_lt 0 (length (decimal m))) (nat_le (length (decimal m)) 19) (lt-ltb 0 (length (decimal m)) d.some) (le-leb (length (decimal m)) 19 few)) d.digits;
+      value = d.value;
+    }
+
+number_word : (m : ℕ) → m ≤ MAX_NUMBER → IsWord (decimal m)
+number_word m h = digits_word m (decimal m) (decimal_spells m h)
 
 number_last : (n low high m : ℕ) → low ≤ m → m ≤ high → m ≤ MAX_NUMBER → next_number n low high (decimal m) ≡ Ok (m, [])
-number_last n low high m least most h =
-    ap (λ r. r >>= λ w. number_in n low high w.0 >>= λ v. Ok (v, w.1)) (last_is n (decimal m) (number_word m h)) ∙ ap (λ r. r >>= λ v. Ok (v, [])) (number_is n low high m least most h)
+number_last n low high m least most h = digits_last n low high m (decimal m) (decimal_spells m h) least most
 
 number_next : (n low high m : ℕ) (r : List ℕ) → low ≤ m → m ≤ high → m ≤ MAX_NUMBER → without_gaps r ≡ r → next_number n low high (decimal m ++ 32 ∷ r) ≡ Ok (m, r)
-number_next n low high m r least most h g =
-    ap (λ u. u >>= λ w. number_in n low high w.0 >>= λ v. Ok (v, w.1)) (next_is n (decimal m) r (number_word m h) g) ∙ ap (λ u. u >>= λ v. Ok (v, r)) (number_is n low high m least most h)
+number_next n low high m r least most h g = digits_next n low high m (decimal m) r (decimal_spells m h) least most g
 
 name_last : (number_of : List ℕ → Option ℕ) (n : ℕ) (w : List ℕ) (x : ℕ) → Names number_of w x → next_name number_of n w ≡ Ok (x, [])
 name_last number_of n w x h =
@@ -169,7 +191,7 @@ name_next number_of n w r x h g =
 
 -- ---- a line
 
-line_is : (b p : List ℕ → Option ℕ) (n : ℕ) (word rest : List ℕ) (v : Verb) → IsWord word → verb_of word ≡ Some v → without_gaps rest ≡ rest → EndsWhole rest → step_of b p n (word ++ 32 ∷ rest) ≡ step_by b p n v rest
+pub line_is : (b p : List ℕ → Option ℕ) (n : ℕ) (word rest : List ℕ) (v : Verb) → IsWord word → verb_of word ≡ Some v → without_gaps rest ≡ rest → EndsWhole rest → step_of b p n (word ++ 32 ∷ rest) ≡ step_by b p n v rest
 line_is b p n word rest v h known_as g e =
     ap (λ t. next_word n t >>= λ w. known n (verb_of w.0) >>= λ u. step_by b p n u w.1) (trimmed_is (word ++ 32 ∷ rest) (word_begins word (32 ∷ rest) h) (ends_behind word (32 ∷ rest) (ends_behind (32 ∷ []) rest e)))
     ∙ ap (λ r. r >>= λ w. known n (verb_of w.0) >>= λ u. step_by b p n u w.1) (next_is n word rest h g)
@@ -181,15 +203,15 @@ alone_is b p n word v h known_as =
     ∙ ap (λ r. r >>= λ w. known n (verb_of w.0) >>= λ u. step_by b p n u w.1) (last_is n word h)
     ∙ ap (λ o. known n o >>= λ u. step_by b p n u []) known_as
 
-word_rest : (w : List ℕ) → IsWord w → without_gaps w ≡ w
+pub word_rest : (w : List ℕ) → IsWord w → without_gaps w ≡ w
 word_rest w h = ap without_gaps (sym (append-nil w)) ∙ word_begins w [] h ∙ append-nil w
 
 -- ---- a publish
 
-abbrev brace : List ℕ → List ℕ
+abbrev pub brace : List ℕ → List ℕ
 brace inside = 123 ∷ (inside ++ 125 ∷ [])
 
-brace_ends : (inside : List ℕ) → EndsWhole (brace inside)
+abbrev pub brace_ends : (inside : List ℕ) → EndsWhole (brace inside)
 brace_ends inside = record { front = 123 ∷ inside; last = 125; is = refl; whole = refl }
 
 brace_begins : (inside : List ℕ) → without_gaps (brace inside) ≡ brace inside
@@ -234,19 +256,19 @@ stop_is n (Some s) inside h =
     ∙ ap (λ t. stop_of n t >>= λ x. Ok (Some x.0, x.1)) (after_is (codes "stop") rest stop_word (word_begins (decimal s.call) (32 ∷ first) call_in))
     ∙ ap (λ r. r >>= λ x. Ok (Some x.0, x.1)) read
 
-publish_is : (p : List ℕ → Option ℕ) (n : ℕ) (name : List ℕ) (publisher number : ℕ) (stop : Option Stop) (event : Event) (inside : List ℕ) → Names p name publisher → 1 ≤ number → number ≤ MAX_NUMBER → IfSome stop IsStop → event_text (brace inside) ≡ Ok event
-    → publish_of p n (name ++ 32 ∷ (decimal number ++ 32 ∷ stop_text stop (brace inside))) ≡ Ok (Publish publisher number stop event)
-publish_is p n name publisher number stop event inside known_as least most good reads =
+pub publish_is : (p : List ℕ → Option ℕ) (n : ℕ) (name ds : List ℕ) (publisher number : ℕ) (stop : Option Stop) (event : Event) (inside : List ℕ) → Names p name publisher → Spells number ds → 1 ≤ number → number ≤ MAX_NUMBER → IfSome stop IsStop → event_text (brace inside) ≡ Ok event
+    → publish_of p n (name ++ 32 ∷ (ds ++ 32 ∷ stop_text stop (brace inside))) ≡ Ok (Publish publisher number stop event)
+publish_is p n name ds publisher number stop event inside known_as spelled least most good reads =
     let second = stop_text stop (brace inside) in
-    let first = decimal number ++ 32 ∷ second in
-    ap (λ r. r >>= λ q. next_number n 1 MAX_NUMBER q.1 >>= λ m. next_stop n m.1 >>= λ s. event_of n s.1 >>= λ e. Ok (Publish q.0 m.0 s.0 e)) (name_next p n name first publisher known_as (word_begins (decimal number) (32 ∷ second) (number_word number most)))
-    ∙ ap (λ r. r >>= λ m. next_stop n m.1 >>= λ s. event_of n s.1 >>= λ e. Ok (Publish publisher m.0 s.0 e)) (number_next n 1 MAX_NUMBER number second least most most (stop_begins stop inside))
+    let first = ds ++ 32 ∷ second in
+    ap (λ r. r >>= λ q. next_number n 1 MAX_NUMBER q.1 >>= λ m. next_stop n m.1 >>= λ s. event_of n s.1 >>= λ e. Ok (Publish q.0 m.0 s.0 e)) (name_next p n name first publisher known_as (word_begins ds (32 ∷ second) (digits_word number ds spelled)))
+    ∙ ap (λ r. r >>= λ m. next_stop n m.1 >>= λ s. event_of n s.1 >>= λ e. Ok (Publish publisher m.0 s.0 e)) (digits_next n 1 MAX_NUMBER number ds second spelled least most (stop_begins stop inside))
     ∙ ap (λ r. r >>= λ s. event_of n s.1 >>= λ e. Ok (Publish publisher number s.0 e)) (stop_is n stop inside good)
     ∙ ap (λ r. event_or_fault n r >>= λ e. Ok (Publish publisher number stop e)) reads
 
 -- ---- each step
 
-whole_word : (w : List ℕ) → list_all (λ b. not (is_gap b)) w ≡ true → 0 < length w → IsWord w
+pub whole_word : (w : List ℕ) → list_all (λ b. not (is_gap b)) w ≡ true → 0 < length w → IsWord w
 whole_word w h k = record { some = k; whole = h }
 
 pub reads_back : (b p : List ℕ → Option ℕ) (n : ℕ) (w : Writing) (s : Step) → IsWritten b p w s → step_of b p n (step_text w s) ≡ Ok s
@@ -260,7 +282,7 @@ reads_back b p n w (Publish publisher number stop event) h =
     ap (λ t. step_of b p n (codes "publish" ++ 32 ∷ (w.publisher publisher ++ 32 ∷ (decimal number ++ 32 ∷ stop_text stop t)))) j.braces
     ∙ line_is b p n (codes "publish") (w.publisher publisher ++ 32 ∷ rest) verb.Publish (whole_word (codes "publish") refl (omega arith)) refl (word_begins (w.publisher publisher) (32 ∷ rest) h.0.is_word)
     (ends_behind (w.publisher publisher) _ (ends_behind (32 ∷ []) _ (ends_behind (decimal number) _ (ends_behind (32 ∷ []) _ (stop_ends stop j.inside)))))
-    ∙ publish_is p n (w.publisher publisher) publisher number stop event j.inside h.0 h.1 h.2 h.3 (ap event_text (sym j.braces) ∙ j.reads)
+    ∙ publish_is p n (w.publisher publisher) (decimal number) publisher number stop event j.inside h.0 (decimal_spells number h.2) h.1 h.2 h.3 (ap event_text (sym j.braces) ∙ j.reads)
 reads_back b p n w (Wake broker) h =
     line_is b p n (codes "wake") (w.broker broker) verb.Wake (whole_word (codes "wake") refl (omega arith)) refl (word_rest (w.broker broker) h.is_word) (word_ends (w.broker broker) h.is_word)
     ∙ ap (λ r. r >>= λ x. ended n x.1 (Wake x.0)) (name_last b n (w.broker broker) broker h)

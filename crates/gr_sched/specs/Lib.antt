@@ -4,3 +4,4 @@ pub mod Grammar
 pub mod Ranges
 pub mod Fault
 pub mod Printed
+pub mod Plain

@@ -6,6 +6,7 @@
 
 pub mod fault;
 mod law;
+mod plain;
 pub mod schedule;
 pub mod step;
 pub mod text;

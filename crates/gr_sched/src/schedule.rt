@@ -14,6 +14,7 @@ ghost use Rattle.gr_sched.specs.Grammar.{next_name, after_pick, stop_of, next_st
 ghost use Rattle.gr_sched.specs.Grammar.{step_of, lines_of, steps_of};
 
 use crate::fault::StepFault;
+use crate::plain::push_lines;
 use crate::step::{Line, MAX_NUMBER, MAX_STEPS, Names, Step, Steps, Stop};
 use crate::text::next_counted;
 use crate::verb::{Verb, verb_of};
@@ -210,6 +211,7 @@ fn past_limit(steps: &[u8]) -> Option<u64>
 }
 
 /// The steps of the counted lines. Reading ends at the first line past the limit at the latest.
+#[inline(never)]
 fn read_lines<N: Names>(alloc: Global, steps: &[u8], names: &N) -> Result<Steps, StepFault>
     requires { length steps.now ≤ MAX_BYTES }
     ensures gives { let counted = counted_lines steps.now in length counted ≤ MAX_STEPS
@@ -220,7 +222,13 @@ fn read_lines<N: Names>(alloc: Global, steps: &[u8], names: &N) -> Result<Steps,
     let mut found = Steps::new(alloc);
     let mut before = 0;
     let mut rest = steps;
-    'lines: while let Some(counted) = next_counted(before, rest) {
+    'lines: while !rest.is_empty() {
+        let Ok((count, behind)) = push_lines(alloc, before, rest, names, &mut found) else {
+            return Err(StepFault::Memory);
+        };
+        let Some(counted) = next_counted(before + count, behind) else {
+            break;
+        };
         let number = counted.number as u32;
         if found.len() as u64 == MAX_STEPS {
             return Err(StepFault::TooMany { line: number });

@@ -104,6 +104,7 @@ impl Steps {
     }
 
     /// One more line at the end. At want of memory the lines are as they were.
+    #[inline(always)]
     pub fn push(&mut self, line: Line) -> Result<(), AllocError>
         ensures pushed { OnOk result (self.new ≡ self.old ++ line ∷ []) }
         ensures unchanged { OnErr result (self.new ≡ self.old) }

@@ -40,7 +40,7 @@ fn find_word(text: &[u8]) -> Option<usize>
 }
 
 /// Where the first LF stands, if any.
-fn find_end(text: &[u8]) -> Option<usize>
+pub(crate) fn find_end(text: &[u8]) -> Option<usize>
     ensures { result ≡ position (λ b. b == 10) text.now }
 {
     memchr(b'\n', text)

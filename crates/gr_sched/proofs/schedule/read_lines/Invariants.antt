@@ -4,7 +4,7 @@ use Rattle.gr_sched.specs.declared.step.TheConstants.{MAX_STEPS}
 use Rattle.gr_sched.specs.Text.{pieces_of, counted_after, counted_lines}
 use Rattle.gr_sched.specs.Ranges.{IsInLimits}
 use Rattle.gr_sched.specs.Grammar.{lines_of}
-use Rattle.gr_sched.proofs.Faults.{behind}
+use Rattle.gr_sched.specs.Plain.{behind}
 use Rattle.gr_sched.proofs.schedule.read_lines.Given as goal
 
 abbrev pub invariant-lines : goal.invariant-lines
