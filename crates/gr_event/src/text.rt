@@ -1,6 +1,7 @@
 //! Lists of bytes and of numbers with types of their own.
 
-ghost use Rattle.std.specs.Prelude.{◌≡◌, ◌++◌, ◌∷◌, [], bytes_eq, decimal, length, take, IfOk, OnOk, OnErr};
+ghost use Rattle.std.specs.Prelude.{◌≡◌, ◌<◌, ◌++◌, ◌∷◌, [], bytes_eq, decimal, drop, length, set, take, IfOk, OnOk};
+ghost use Rattle.std.specs.Prelude.{OnErr, option_to_list, IsNone};
 
 use itoa::write_digits;
 use std::alloc::{AllocError, Global};
@@ -49,8 +50,28 @@ impl Text {
         Text { bytes }
     }
 
+    /// Whether memory that it has already holds so many bytes more.
+    fn has_room(&self, count: usize) -> bool {
+        count <= self.bytes.capacity().wrapping_sub(self.bytes.len())
+    }
+
     /// Puts a byte at the end. At want of memory the text stays as it was.
+    #[inline(always)]
     pub fn push(&mut self, byte: u8) -> Result<(), AllocError>
+        ensures ok { OnOk result (self.new ≡ self.old ++ byte ∷ []) }
+        ensures err { OnErr result (self.new ≡ self.old) }
+    {
+        if self.bytes.len() < self.bytes.capacity() {
+            self.bytes.push_reserved(byte);
+            return Ok(());
+        }
+        self.push_growing(byte)
+    }
+
+    /// The same, where the text has to grow.
+    #[cold]
+    #[inline(never)]
+    fn push_growing(&mut self, byte: u8) -> Result<(), AllocError>
         ensures ok { OnOk result (self.new ≡ self.old ++ byte ∷ []) }
         ensures err { OnErr result (self.new ≡ self.old) }
     {
@@ -59,11 +80,53 @@ impl Text {
     }
 
     /// Puts bytes at the end. At want of memory the text stays as it was.
+    ///
+    /// Inlined always: most callers put a few bytes, and where these find room no call is left of it.
+    #[inline(always)]
     pub fn append(&mut self, bytes: &[u8]) -> Result<(), AllocError>
         ensures ok { OnOk result (self.new ≡ self.old ++ bytes.now) }
         ensures err { OnErr result (self.new ≡ self.old) }
     {
+        if self.has_room(bytes.len()) {
+            return self.bytes.extend_from_slice(bytes);
+        }
+        self.append_growing(bytes)
+    }
+
+    /// The same, where the text has to grow.
+    #[cold]
+    #[inline(never)]
+    fn append_growing(&mut self, bytes: &[u8]) -> Result<(), AllocError>
+        ensures ok { OnOk result (self.new ≡ self.old ++ bytes.now) }
+        ensures err { OnErr result (self.new ≡ self.old) }
+    {
         self.bytes.extend_from_slice(bytes)
+    }
+
+    /// Puts a byte and bytes behind it at the end. At want of memory only the byte may stand there.
+    ///
+    /// Most words are short: up to three bytes are put by one copy together with the byte before them.
+    pub fn append_word(&mut self, before: u8, word: &[u8]) -> Result<(), AllocError>
+        ensures { OnOk result (self.new ≡ self.old ++ before ∷ word.now) }
+    {
+        if self.has_room(4) {
+            match word {
+                [a] => return self.append(&[before, *a]),
+                [a, b] => return self.append(&[before, *a, *b]),
+                [a, b, c] => return self.append(&[before, *a, *b, *c]),
+                _ => {}
+            }
+        }
+        self.append_long_word(before, word)
+    }
+
+    /// The same for words of any length. Never inlined, so that what is put of a short word can be.
+    #[inline(never)]
+    fn append_long_word(&mut self, before: u8, word: &[u8]) -> Result<(), AllocError>
+        ensures { OnOk result (self.new ≡ self.old ++ before ∷ word.now) }
+    {
+        self.push(before)?;
+        self.append(word)
     }
 
     /// Puts a byte and behind it a number in decimal at the end. At want of memory the text stays as it was.
@@ -71,6 +134,28 @@ impl Text {
     /// The same count of bytes is copied for each number, and what stands behind its digits is cut off: that costs less
     /// than a copy of just the digits.
     pub fn append_number(&mut self, before: u8, number: u64) -> Result<(), AllocError>
+        ensures ok { OnOk result (self.new ≡ self.old ++ before ∷ decimal number) }
+        ensures err { OnErr result (self.new ≡ self.old) }
+    {
+        if self.has_room(NUMBER_ROOM) {
+            return self.put_number(before, number);
+        }
+        self.append_number_growing(before, number)
+    }
+
+    /// The same, where the text has to grow.
+    #[cold]
+    #[inline(never)]
+    fn append_number_growing(&mut self, before: u8, number: u64) -> Result<(), AllocError>
+        ensures ok { OnOk result (self.new ≡ self.old ++ before ∷ decimal number) }
+        ensures err { OnErr result (self.new ≡ self.old) }
+    {
+        self.put_number(before, number)
+    }
+
+    /// The same, whether it has to grow or not.
+    #[inline(always)]
+    fn put_number(&mut self, before: u8, number: u64) -> Result<(), AllocError>
         ensures ok { OnOk result (self.new ≡ self.old ++ before ∷ decimal number) }
         ensures err { OnErr result (self.new ≡ self.old) }
     {
@@ -84,8 +169,32 @@ impl Text {
         Ok(())
     }
 
+    /// Takes its last byte off and answers it, or `None` where it has none. Takes no memory.
+    pub fn pop(&mut self) -> Option<u8>
+        ensures byte { self.old ≡ self.new ++ option_to_list result }
+        ensures none { IsNone result → self.new ≡ [] }
+    {
+        self.bytes.pop()
+    }
+
+    /// Puts another byte in the place of one that it has. Places are counted from 0.
+    pub fn set(&mut self, place: usize, byte: u8)
+        requires { place < length self.old }
+        ensures { self.new ≡ set self.old place byte }
+    {
+        self.bytes[place] = byte;
+    }
+
+    /// Takes its first byte off. Takes no memory.
+    pub fn remove_first(&mut self)
+        requires { 0 < length self.old }
+        ensures { self.new ≡ drop 1 self.old }
+    {
+        self.bytes.remove(0);
+    }
+
     /// Keeps so many of its first bytes.
-    pub(crate) fn truncate(&mut self, len: usize)
+    pub fn truncate(&mut self, len: usize)
         ensures { self.new ≡ take len self.old }
     {
         self.bytes.truncate(len);

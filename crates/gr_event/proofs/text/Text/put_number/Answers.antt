@@ -1,7 +1,7 @@
 use Rattle.std.proofs.Common.{rules, ◌≡◌, ◌++◌, ◌∷◌, decimal, length, take, drop, slice_set as set, ℕ, ◌+◌, ◌-◌, ◌<◌, ◌≤◌, ap₂, ap, ◌∙◌, arith}
 use Rattle.std.proofs.lemmas.Fmt.{length-decimal-le}
 use Rattle.gr_event.proofs.Digits.{put_number}
-use Rattle.gr_event.proofs.text.Text.append_number.Goals as goal
+use Rattle.gr_event.proofs.text.Text.put_number.Goals as goal
 
 pub write_digits-start-requires : goal.write_digits-start-requires
 write_digits-start-requires c =
