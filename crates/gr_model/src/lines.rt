@@ -6,14 +6,14 @@ ghost use Rattle.std.specs.List.{flat_map};
 ghost use Rattle.gr_topo.specs.Topology.{name_at};
 ghost use Rattle.gr_event.specs.Json.{json_text};
 ghost use Rattle.gr_model.specs.Text.{labels_of, know_letter, want_letter, run_word, frame_fault_word, note_fault_word};
-ghost use Rattle.gr_model.specs.Text.{hex_pair, publisher_words, log_words, sent_words, behind_blanks, row_of};
+ghost use Rattle.gr_model.specs.Text.{hex_pair, log_words, sent_words, behind_blanks, row_of};
 ghost use Rattle.gr_model.specs.Text.{AreNamed, IsSentNamed, IsNamed};
 ghost use Rattle.gr_model.specs.Families.{IsOfPublish, IsOfLog, IsOfHorizon, IsOfFrame, IsOfDrop};
 
 use crate::report::Report;
-use crate::words::Words;
+use crate::words::{push_event, push_hex, push_name, push_number, push_word};
 use gr_curio::Q3;
-use gr_event::{Bytes, Event};
+use gr_event::{Bytes, Event, Text};
 use gr_frame::FrameKind;
 use gr_know::K;
 use gr_note::NoteKind;
@@ -22,42 +22,42 @@ use gr_topo::Topology;
 use std::alloc::AllocError;
 
 /// The name of a broker.
-fn push_broker(words: &mut Words, topo: &Topology, broker: u16) -> Result<(), AllocError>
+fn push_broker(words: &mut Text, topo: &Topology, broker: u16) -> Result<(), AllocError>
     requires { broker < length topo.now.brokers }
     ensures { OnOk result (words.new ≡ words.old ++ 32 ∷ name_at topo.now.brokers broker) }
 {
-    words.push_name(topo.broker_name(broker).as_slice())
+    push_name(words, topo.broker_name(broker).as_slice())
 }
 
 /// The name of a publisher.
-fn push_publisher(words: &mut Words, topo: &Topology, publisher: u16) -> Result<(), AllocError>
+fn push_publisher(words: &mut Text, topo: &Topology, publisher: u16) -> Result<(), AllocError>
     requires { publisher < length topo.now.publishers }
     ensures { OnOk result (words.new ≡ words.old ++ 32 ∷ name_at topo.now.publishers publisher) }
 {
-    words.push_name(topo.publisher_name(publisher).as_slice())
+    push_name(words, topo.publisher_name(publisher).as_slice())
 }
 
 /// The name of a subscriber.
-fn push_subscriber(words: &mut Words, topo: &Topology, subscriber: u16) -> Result<(), AllocError>
+fn push_subscriber(words: &mut Text, topo: &Topology, subscriber: u16) -> Result<(), AllocError>
     requires { subscriber < length topo.now.subscribers }
     ensures { OnOk result (words.new ≡ words.old ++ 32 ∷ name_at topo.now.subscribers subscriber) }
 {
-    words.push_name(topo.subscriber_name(subscriber).as_slice())
+    push_name(words, topo.subscriber_name(subscriber).as_slice())
 }
 
 /// A word and a number.
 #[inline(always)]
-fn push_pair(words: &mut Words, word: &[u8], number: u64) -> Result<(), AllocError>
+fn push_pair(words: &mut Text, word: &[u8], number: u64) -> Result<(), AllocError>
     ensures { OnOk result (words.new ≡ words.old ++ behind_blanks (word.now ∷ decimal number ∷ [])) }
 {
-    words.push(word)?;
-    words.push_number(number)
+    push_word(words, word)?;
+    push_number(words, number)
 }
 
 /// A word and the name of a publisher.
 #[inline(always)]
 fn push_named(
-    words: &mut Words,
+    words: &mut Text,
     topo: &Topology,
     word: &[u8],
     publisher: u16,
@@ -66,33 +66,34 @@ fn push_named(
     ensures { OnOk result (words.new ≡ words.old ++ behind_blanks
         (word.now ∷ name_at topo.now.publishers publisher ∷ [])) }
 {
-    words.push(word)?;
+    push_word(words, word)?;
     push_publisher(words, topo, publisher)
 }
 
-/// A line of a publisher and numbers.
+/// A line of a publisher and numbers. The first word comes with the blank before it.
 #[inline(always)]
 fn push_publisher_line(
-    words: &mut Words,
+    words: &mut Text,
     topo: &Topology,
     first: &[u8],
     publisher: u16,
     numbers: &[u64],
 ) -> Result<(), AllocError>
     requires { publisher < length topo.now.publishers }
-    ensures { OnOk result (words.new ≡ words.old ++ behind_blanks
-        (publisher_words (labels_of topo.now) first.now publisher numbers.now)) }
+    ensures { OnOk result (words.new ≡ words.old ++ (first.now
+        ++ behind_blanks (name_at topo.now.publishers publisher ∷ map decimal numbers.now))) }
 {
-    push_named(words, topo, first, publisher)?;
+    words.append(first)?;
+    push_publisher(words, topo, publisher)?;
     push_numbers(words, numbers)
 }
 
 /// Numbers, one word each.
-fn push_numbers(words: &mut Words, numbers: &[u64]) -> Result<(), AllocError>
+fn push_numbers(words: &mut Text, numbers: &[u64]) -> Result<(), AllocError>
     ensures { OnOk result (words.new ≡ words.old ++ behind_blanks (map decimal numbers.now)) }
 {
     for number in numbers {
-        words.push_number(*number)?;
+        push_number(words, *number)?;
     }
     Ok(())
 }
@@ -100,7 +101,7 @@ fn push_numbers(words: &mut Words, numbers: &[u64]) -> Result<(), AllocError>
 /// The line of a log.
 #[inline(always)]
 fn push_log(
-    words: &mut Words,
+    words: &mut Text,
     topo: &Topology,
     first: &[u8],
     publisher: u16,
@@ -117,7 +118,7 @@ fn push_log(
 }
 
 /// The numbers of a log.
-fn push_log_numbers(words: &mut Words, last: u64, settled: u64, cut: u64) -> Result<(), AllocError>
+fn push_log_numbers(words: &mut Text, last: u64, settled: u64, cut: u64) -> Result<(), AllocError>
     ensures { OnOk result (words.new ≡ words.old ++ behind_blanks
         (codes "last" ∷ decimal last ∷ codes "settled" ∷ decimal settled ∷ codes "cut" ∷ decimal cut ∷ [])) }
 {
@@ -128,7 +129,7 @@ fn push_log_numbers(words: &mut Words, last: u64, settled: u64, cut: u64) -> Res
 
 /// The line of a log that is shown.
 fn push_shown_log(
-    words: &mut Words,
+    words: &mut Text,
     topo: &Topology,
     publisher: u16,
     last: u64,
@@ -145,7 +146,7 @@ fn push_shown_log(
 
 /// The line of a gap.
 fn push_gap(
-    words: &mut Words,
+    words: &mut Text,
     topo: &Topology,
     publisher: u16,
     number: u64,
@@ -154,15 +155,15 @@ fn push_gap(
     requires { publisher < length topo.now.publishers }
     ensures { OnOk result (words.new ≡ words.old ++ row_of topo.now (Report.Gap publisher number next)) }
 {
-    words.push(b"gap")?;
+    push_word(words, b"gap")?;
     push_publisher(words, topo, publisher)?;
-    words.push_number(number)?;
+    push_number(words, number)?;
     push_pair(words, b"next", next)
 }
 
 /// The line of an event that a subscriber got.
 fn push_got(
-    words: &mut Words,
+    words: &mut Text,
     topo: &Topology,
     subscriber: u16,
     publisher: u16,
@@ -172,16 +173,16 @@ fn push_got(
     requires { AreNamed topo.now subscriber publisher }
     ensures { OnOk result (words.new ≡ words.old ++ row_of topo.now (Report.Got subscriber publisher tick event.now)) }
 {
-    words.push(b"got")?;
+    words.append(b" got")?;
     push_subscriber(words, topo, subscriber)?;
     push_publisher(words, topo, publisher)?;
-    words.push_number(tick)?;
-    words.push_event(event)
+    push_number(words, tick)?;
+    push_event(words, event)
 }
 
 /// The line of a horizon that moved.
 fn push_horizon(
-    words: &mut Words,
+    words: &mut Text,
     topo: &Topology,
     subscriber: u16,
     publisher: u16,
@@ -190,15 +191,15 @@ fn push_horizon(
     requires { AreNamed topo.now subscriber publisher }
     ensures { OnOk result (words.new ≡ words.old ++ row_of topo.now (Report.Horizon subscriber publisher tick)) }
 {
-    words.push(b"horizon")?;
+    words.append(b" horizon")?;
     push_subscriber(words, topo, subscriber)?;
     push_publisher(words, topo, publisher)?;
-    words.push_number(tick)
+    push_number(words, tick)
 }
 
 /// The line of a doubt horizon.
 fn push_doubt(
-    words: &mut Words,
+    words: &mut Text,
     topo: &Topology,
     broker: u16,
     publisher: u16,
@@ -208,16 +209,16 @@ fn push_doubt(
     requires publisher { publisher < length topo.now.publishers }
     ensures { OnOk result (words.new ≡ words.old ++ row_of topo.now (Report.Doubt broker publisher tick)) }
 {
-    words.push(b"doubt")?;
+    push_word(words, b"doubt")?;
     push_broker(words, topo, broker)?;
     push_publisher(words, topo, publisher)?;
-    words.push_number(tick)
+    push_number(words, tick)
 }
 
 /// The begin of the line of a frame that was sent.
 #[inline(always)]
 fn push_sent(
-    words: &mut Words,
+    words: &mut Text,
     topo: &Topology,
     number: u64,
     from: u16,
@@ -229,10 +230,11 @@ fn push_sent(
     ensures { OnOk result (words.new ≡ words.old ++ behind_blanks
         (sent_words (labels_of topo.now) number from to kind.now publisher)) }
 {
-    push_pair(words, b"sent", number)?;
+    words.append(b" sent")?;
+    push_number(words, number)?;
     push_broker(words, topo, from)?;
     push_broker(words, topo, to)?;
-    words.push(kind)?;
+    push_word(words, kind)?;
     push_publisher(words, topo, publisher)
 }
 
@@ -260,17 +262,17 @@ fn letter_of_want(value: &Q3) -> u8
 }
 
 /// The word of a run whose value has this letter.
-fn push_run(words: &mut Words, letter: u8, first: u64, last: u64) -> Result<(), AllocError>
+fn push_run(words: &mut Text, letter: u8, first: u64, last: u64) -> Result<(), AllocError>
     ensures { OnOk result
         (words.new ≡ words.old ++ 32 ∷ letter ∷ (decimal first ++ (codes "-" ++ decimal last))) }
 {
-    words.push_blank()?;
-    words.extend_number(letter, first)?;
-    words.extend_number(b'-', last)
+    words.push(b' ')?;
+    words.append_number(letter, first)?;
+    words.append_number(b'-', last)
 }
 
 /// The words of runs of what is known.
-fn push_know_runs(words: &mut Words, runs: &Piece<K>) -> Result<(), AllocError>
+fn push_know_runs(words: &mut Text, runs: &Piece<K>) -> Result<(), AllocError>
     ensures { OnOk result (words.new ≡ words.old ++ behind_blanks (map (run_word know_letter) runs.now)) }
 {
     for i in 0..runs.len() {
@@ -281,7 +283,7 @@ fn push_know_runs(words: &mut Words, runs: &Piece<K>) -> Result<(), AllocError>
 }
 
 /// The words of runs of what is asked.
-fn push_want_runs(words: &mut Words, runs: &Piece<Q3>) -> Result<(), AllocError>
+fn push_want_runs(words: &mut Text, runs: &Piece<Q3>) -> Result<(), AllocError>
     ensures { OnOk result (words.new ≡ words.old ++ behind_blanks (map (run_word want_letter) runs.now)) }
 {
     for i in 0..runs.len() {
@@ -293,7 +295,7 @@ fn push_want_runs(words: &mut Words, runs: &Piece<Q3>) -> Result<(), AllocError>
 
 /// The line of a frame of knowledge.
 fn push_sent_know(
-    words: &mut Words,
+    words: &mut Text,
     topo: &Topology,
     number: u64,
     from: u16,
@@ -311,7 +313,7 @@ fn push_sent_know(
 
 /// The line of a frame of curiosity.
 fn push_sent_want(
-    words: &mut Words,
+    words: &mut Text,
     topo: &Topology,
     number: u64,
     from: u16,
@@ -329,7 +331,7 @@ fn push_sent_want(
 
 /// The line of a frame that tells what to expect.
 fn push_sent_expect(
-    words: &mut Words,
+    words: &mut Text,
     topo: &Topology,
     number: u64,
     from: u16,
@@ -341,31 +343,31 @@ fn push_sent_expect(
     ensures { OnOk result (words.new ≡ words.old ++ row_of topo.now (Report.SentExpect number from to publisher tick)) }
 {
     push_sent(words, topo, number, from, to, b"expect", publisher)?;
-    words.push_number(tick)
+    push_number(words, tick)
 }
 
 /// The line of a crash.
-fn push_crashed(words: &mut Words, topo: &Topology, broker: u16) -> Result<(), AllocError>
+fn push_crashed(words: &mut Text, topo: &Topology, broker: u16) -> Result<(), AllocError>
     requires { broker < length topo.now.brokers }
     ensures { OnOk result (words.new ≡ words.old ++ row_of topo.now (Report.Crashed broker)) }
 {
-    words.push(b"crashed")?;
+    push_word(words, b"crashed")?;
     push_broker(words, topo, broker)
 }
 
 /// The begin of the line of a refused step.
-fn push_refused(words: &mut Words, line: u32, cause: &[u8]) -> Result<(), AllocError>
+fn push_refused(words: &mut Text, line: u32, cause: &[u8]) -> Result<(), AllocError>
     ensures { OnOk result (words.new ≡ words.old ++ behind_blanks
         (codes "refused" ∷ codes "line" ∷ decimal line ∷ cause.now ∷ [])) }
 {
-    words.push(b"refused")?;
+    push_word(words, b"refused")?;
     push_pair(words, b"line", line as u64)?;
-    words.push(cause)
+    push_word(words, cause)
 }
 
 /// The line of a crash that is refused.
 fn push_refused_hosts(
-    words: &mut Words,
+    words: &mut Text,
     topo: &Topology,
     line: u32,
     broker: u16,
@@ -378,7 +380,7 @@ fn push_refused_hosts(
 }
 
 /// The line of a frame that is not there.
-fn push_refused_frame(words: &mut Words, line: u32, frame: u64, sent: u64) -> Result<(), AllocError>
+fn push_refused_frame(words: &mut Text, line: u32, frame: u64, sent: u64) -> Result<(), AllocError>
     ensures { OnOk result (words.new ≡ words.old ++ behind_blanks
         (codes "refused" ∷ codes "line" ∷ decimal line ∷ codes "no-frame" ∷ decimal frame
         ∷ codes "of" ∷ decimal sent ∷ [])) }
@@ -388,25 +390,25 @@ fn push_refused_frame(words: &mut Words, line: u32, frame: u64, sent: u64) -> Re
 }
 
 /// Which frame is not there, and how many are.
-fn push_missing(words: &mut Words, frame: u64, sent: u64) -> Result<(), AllocError>
+fn push_missing(words: &mut Text, frame: u64, sent: u64) -> Result<(), AllocError>
     ensures { OnOk result (words.new ≡ words.old ++ behind_blanks (decimal frame ∷ codes "of" ∷ decimal sent ∷ [])) }
 {
-    words.push_number(frame)?;
+    push_number(words, frame)?;
     push_pair(words, b"of", sent)
 }
 
 /// The line of a sweep past the last tick.
-fn push_refused_clock(words: &mut Words, line: u32, moment: u64) -> Result<(), AllocError>
+fn push_refused_clock(words: &mut Text, line: u32, moment: u64) -> Result<(), AllocError>
     ensures { OnOk result (words.new ≡ words.old ++ behind_blanks
         (codes "refused" ∷ codes "line" ∷ decimal line ∷ codes "clock-range" ∷ decimal moment ∷ [])) }
 {
     push_refused(words, line, b"clock-range")?;
-    words.push_number(moment)
+    push_number(words, moment)
 }
 
 /// The begin of the line of a dropped datagram.
 fn push_dropped(
-    words: &mut Words,
+    words: &mut Text,
     topo: &Topology,
     broker: u16,
     cause: &[u8],
@@ -415,9 +417,9 @@ fn push_dropped(
     ensures { OnOk result (words.new ≡ words.old ++ behind_blanks
         (codes "dropped" ∷ (labels_of topo.now).broker broker ∷ cause.now ∷ [])) }
 {
-    words.push(b"dropped")?;
+    push_word(words, b"dropped")?;
     push_broker(words, topo, broker)?;
-    words.push(cause)
+    push_word(words, cause)
 }
 
 /// The word of why bytes are no frame.
@@ -433,7 +435,7 @@ fn word_of_fault(fault: u8) -> &'static [u8]
 }
 
 /// The word of why bytes are no frame, and where.
-fn push_fault(words: &mut Words, fault: u8, at: u64) -> Result<(), AllocError>
+fn push_fault(words: &mut Text, fault: u8, at: u64) -> Result<(), AllocError>
     requires from_one { 1 ≤ fault }
     requires to_nine { fault ≤ 9 }
     ensures { OnOk result (words.new ≡ words.old ++ behind_blanks (frame_fault_word fault ∷ decimal at ∷ [])) }
@@ -443,7 +445,7 @@ fn push_fault(words: &mut Words, fault: u8, at: u64) -> Result<(), AllocError>
 
 /// The line of a datagram that is no frame.
 fn push_not_frame(
-    words: &mut Words,
+    words: &mut Text,
     topo: &Topology,
     broker: u16,
     fault: u8,
@@ -470,7 +472,7 @@ fn word_of_note_fault(fault: u8) -> &'static [u8]
 
 /// The line of a datagram that begins as a note, and is none.
 fn push_bad_note(
-    words: &mut Words,
+    words: &mut Text,
     topo: &Topology,
     broker: u16,
     fault: u8,
@@ -485,7 +487,7 @@ fn push_bad_note(
 
 /// The line of a note that is no Submit, or none of a client of the broker.
 fn push_stray_note(
-    words: &mut Words,
+    words: &mut Text,
     topo: &Topology,
     broker: u16,
     publisher: u16,
@@ -494,12 +496,12 @@ fn push_stray_note(
     ensures { OnOk result (words.new ≡ words.old ++ row_of topo.now (Report.DroppedStrayNote broker publisher)) }
 {
     push_dropped(words, topo, broker, b"stray-note")?;
-    words.push_number(publisher as u64)
+    push_number(words, publisher as u64)
 }
 
 /// The line of a frame that does not fit.
 fn push_stray(
-    words: &mut Words,
+    words: &mut Text,
     topo: &Topology,
     broker: u16,
     head: &[u64],
@@ -514,7 +516,7 @@ fn push_stray(
 
 /// The line of a frame that clashes.
 fn push_clash(
-    words: &mut Words,
+    words: &mut Text,
     topo: &Topology,
     broker: u16,
     tick: u64,
@@ -526,22 +528,22 @@ fn push_clash(
         (words.new ≡ words.old ++ row_of topo.now (Report.DroppedClash broker tick kept.now came.now)) }
 {
     push_dropped(words, topo, broker, b"clash")?;
-    words.push_number(tick)?;
-    words.push(&[letter_of_know(kept)])?;
-    words.push(&[letter_of_know(came)])
+    push_number(words, tick)?;
+    push_word(words, &[letter_of_know(kept)])?;
+    push_word(words, &[letter_of_know(came)])
 }
 
 /// The line of a frame's bytes.
-fn push_bytes(words: &mut Words, frame: u64, bytes: &Bytes) -> Result<(), AllocError>
+fn push_bytes(words: &mut Text, frame: u64, bytes: &Bytes) -> Result<(), AllocError>
     ensures { OnOk result (words.new ≡ words.old ++ behind_blanks
         (codes "bytes" ∷ decimal frame ∷ flat_map hex_pair bytes.now ∷ [])) }
 {
     push_pair(words, b"bytes", frame)?;
-    words.push_hex(bytes.as_slice())
+    push_hex(words, bytes.as_slice())
 }
 
 /// The line of what became of a publish.
-fn push_publish(words: &mut Words, report: &Report, topo: &Topology) -> Result<(), AllocError>
+fn push_publish(words: &mut Text, report: &Report, topo: &Topology) -> Result<(), AllocError>
     requires family { IsOfPublish report.now }
     requires named { IsNamed topo.now report.now }
     ensures { OnOk result (words.new ≡ words.old ++ row_of topo.now report.now) }
@@ -551,11 +553,11 @@ fn push_publish(words: &mut Words, report: &Report, topo: &Topology) -> Result<(
             publisher,
             number,
             tick,
-        } => push_publisher_line(words, topo, b"logged", *publisher, &[*number, *tick]),
+        } => push_publisher_line(words, topo, b" logged", *publisher, &[*number, *tick]),
         Report::Already { publisher, number } => push_publisher_line(
             words,
             topo,
-            b"already",
+            b" already",
             *publisher,
             &[*number],
         ),
@@ -567,7 +569,7 @@ fn push_publish(words: &mut Words, report: &Report, topo: &Topology) -> Result<(
         Report::Exhausted { publisher, number } => push_publisher_line(
             words,
             topo,
-            b"exhausted",
+            b" exhausted",
             *publisher,
             &[*number],
         ),
@@ -575,18 +577,18 @@ fn push_publish(words: &mut Words, report: &Report, topo: &Topology) -> Result<(
             publisher,
             number,
             tick,
-        } => push_publisher_line(words, topo, b"kept", *publisher, &[*number, *tick]),
+        } => push_publisher_line(words, topo, b" kept", *publisher, &[*number, *tick]),
         Report::Lost {
             publisher,
             number,
             tick,
-        } => push_publisher_line(words, topo, b"lost", *publisher, &[*number, *tick]),
+        } => push_publisher_line(words, topo, b" lost", *publisher, &[*number, *tick]),
         _ => unreachable!(),
     }
 }
 
 /// The line of what became of a log.
-fn push_log_change(words: &mut Words, report: &Report, topo: &Topology) -> Result<(), AllocError>
+fn push_log_change(words: &mut Text, report: &Report, topo: &Topology) -> Result<(), AllocError>
     requires family { IsOfLog report.now }
     requires named { IsNamed topo.now report.now }
     ensures { OnOk result (words.new ≡ words.old ++ row_of topo.now report.now) }
@@ -601,21 +603,21 @@ fn push_log_change(words: &mut Words, report: &Report, topo: &Topology) -> Resul
         Report::Mark { publisher, tick } => push_publisher_line(
             words,
             topo,
-            b"mark",
+            b" mark",
             *publisher,
             &[*tick],
         ),
         Report::Cut { publisher, tick } => push_publisher_line(
             words,
             topo,
-            b"cut",
+            b" cut",
             *publisher,
             &[*tick],
         ),
         Report::Damaged { publisher, at } => push_publisher_line(
             words,
             topo,
-            b"damaged",
+            b" damaged",
             *publisher,
             &[*at],
         ),
@@ -624,7 +626,7 @@ fn push_log_change(words: &mut Words, report: &Report, topo: &Topology) -> Resul
 }
 
 /// The line of what a subscriber is told, or of a horizon that is shown.
-fn push_heard(words: &mut Words, report: &Report, topo: &Topology) -> Result<(), AllocError>
+fn push_heard(words: &mut Text, report: &Report, topo: &Topology) -> Result<(), AllocError>
     requires family { IsOfHorizon report.now }
     requires named { IsNamed topo.now report.now }
     ensures { OnOk result (words.new ≡ words.old ++ row_of topo.now report.now) }
@@ -651,7 +653,7 @@ fn push_heard(words: &mut Words, report: &Report, topo: &Topology) -> Result<(),
 }
 
 /// The line of a frame that was sent.
-fn push_frame(words: &mut Words, report: &Report, topo: &Topology) -> Result<(), AllocError>
+fn push_frame(words: &mut Text, report: &Report, topo: &Topology) -> Result<(), AllocError>
     requires family { IsOfFrame report.now }
     requires named { IsNamed topo.now report.now }
     ensures { OnOk result (words.new ≡ words.old ++ row_of topo.now report.now) }
@@ -683,7 +685,7 @@ fn push_frame(words: &mut Words, report: &Report, topo: &Topology) -> Result<(),
 }
 
 /// The line of a datagram that was dropped.
-fn push_drop(words: &mut Words, report: &Report, topo: &Topology) -> Result<(), AllocError>
+fn push_drop(words: &mut Text, report: &Report, topo: &Topology) -> Result<(), AllocError>
     requires family { IsOfDrop report.now }
     requires named { IsNamed topo.now report.now }
     ensures { OnOk result (words.new ≡ words.old ++ row_of topo.now report.now) }
@@ -721,7 +723,7 @@ fn push_drop(words: &mut Words, report: &Report, topo: &Topology) -> Result<(), 
 
 /// The words of a line, which go behind those that are there.
 pub(crate) fn push_line(
-    words: &mut Words,
+    words: &mut Text,
     report: &Report,
     topo: &Topology,
 ) -> Result<(), AllocError>

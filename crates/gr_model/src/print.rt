@@ -7,7 +7,8 @@ ghost use Rattle.gr_model.specs.Text.{labels_of, whole_line, IsNamed};
 
 use crate::lines::push_line;
 use crate::report::Report;
-use crate::words::Words;
+use crate::words::{line_of, new_row};
+use gr_event::Text;
 use gr_out::{Page, Sink, write_all};
 use gr_topo::Topology;
 use std::alloc::Global;
@@ -50,7 +51,7 @@ pub fn put<K: Sink>(
         Ok(row) => row,
         Err(_) => return Err(PutFault::Memory),
     };
-    match write_all(sink, row.line()) {
+    match write_all(sink, line_of(&row)) {
         Ok(()) => Ok(()),
         Err(_) => Err(PutFault::Write),
     }
@@ -63,72 +64,68 @@ pub fn put_behind(report: &Report, topo: &Topology, page: &mut Page) -> Result<(
     ensures ok { OnOk result (page.new.held ≡ page.old.held ++ whole_line (labels_of topo.now) report.now) }
     ensures faults { page.new.faults ≡ page.old.faults }
 {
-    let mut bytes = page.take();
+    put_line(&mut page.held, report, topo)
+}
+
+/// Puts a line with its end behind a text. Where memory is refused, the text is as it was but for its room.
+fn put_line(text: &mut Text, report: &Report, topo: &Topology) -> Result<(), Memory>
+    requires { IsNamed topo.now report.now }
+    ensures { OnOk result (text.new ≡ text.old ++ whole_line (labels_of topo.now) report.now) }
+{
     // The blank before the first word takes the place of the last byte, which is put back when the line stands.
-    let Some(last) = bytes.pop() else {
-        page.hold(bytes);
-        return put_first(report, topo, page);
+    let Some(last) = text.pop() else {
+        return put_first(text, report, topo);
     };
-    let start = bytes.len();
-    let mut row = Words::behind(bytes);
-    match put_words(&mut row, report, topo) {
+    let start = text.len();
+    match put_words(text, report, topo) {
         Ok(()) => {
-            let mut bytes = row.into_vec();
-            bytes[start] = last;
-            page.hold(bytes);
+            text.set(start, last);
             Ok(())
         }
         Err(refused) => {
-            let mut bytes = row.into_vec();
-            bytes.truncate(start);
+            text.truncate(start);
             // It has its place there.
-            let _ = bytes.push(last);
-            page.hold(bytes);
+            let _ = text.push(last);
             Err(refused)
         }
     }
 }
 
-/// The same where the page holds nothing.
-fn put_first(report: &Report, topo: &Topology, page: &mut Page) -> Result<(), Memory>
+/// The same where the text is empty. Never inlined, since that is rare.
+#[inline(never)]
+fn put_first(text: &mut Text, report: &Report, topo: &Topology) -> Result<(), Memory>
     requires named { IsNamed topo.now report.now }
-    requires empty { page.old.held ≡ [] }
-    ensures ok { OnOk result (page.new.held ≡ whole_line (labels_of topo.now) report.now) }
-    ensures faults { page.new.faults ≡ page.old.faults }
+    requires empty { text.old ≡ [] }
+    ensures { OnOk result (text.new ≡ whole_line (labels_of topo.now) report.now) }
 {
-    let mut row = Words::behind(page.take());
-    match put_words(&mut row, report, topo) {
+    match put_words(text, report, topo) {
         Ok(()) => {
-            let mut bytes = row.into_vec();
-            bytes.remove(0);
-            page.hold(bytes);
+            text.remove_first();
             Ok(())
         }
         Err(refused) => {
-            let mut bytes = row.into_vec();
-            bytes.truncate(0);
-            page.hold(bytes);
+            text.truncate(0);
             Err(refused)
         }
     }
 }
 
 /// Puts the words of a line at the end of a row, a blank before each, and the line's end behind them.
-fn put_words(row: &mut Words, report: &Report, topo: &Topology) -> Result<(), Memory>
+fn put_words(row: &mut Text, report: &Report, topo: &Topology) -> Result<(), Memory>
     requires { IsNamed topo.now report.now }
     ensures { OnOk result (row.new ≡ row.old ++ 32 ∷ whole_line (labels_of topo.now) report.now) }
 {
     push_line(row, report, topo)?;
-    row.extend(b"\n")?;
+    row.push(b'\n')?;
     Ok(())
 }
 
 /// The words of a line in a row, with the line's end behind them. From its second byte on it is the line.
-fn row_text(alloc: Global, report: &Report, topo: &Topology) -> Result<Words, Memory>
+fn row_text(alloc: Global, report: &Report, topo: &Topology) -> Result<Text, Memory>
     requires { IsNamed topo.now report.now }
     ensures { IfOk result (λ row. drop 1 row ≡ whole_line (labels_of topo.now) report.now) }
 {
-    let mut row = Words::new(alloc)?;
+    let mut row = new_row(alloc)?;
     put_words(&mut row, report, topo)?;
     Ok(row)
 }

@@ -9,9 +9,9 @@ ghost use Rattle.gr_out.specs.Page.{PageView, TakesFront};
 use crate::fault::{Failed, Memory, RunFault};
 use crate::sink::Sink;
 use crate::transfer::write_all;
+use gr_event::Text;
 use std::alloc::Global;
 use std::marker::Model;
-use std::mem;
 
 /// From how many bytes on a page is full.
 pub const PAGE_BYTES: usize = 65_536;
@@ -20,14 +20,15 @@ pub const PAGE_BYTES: usize = 65_536;
 /// and leaves it as it was.
 #[derive(Drop)]
 pub struct Page {
-    bytes: Vec<u8>,
+    /// What it holds. Who puts a line there looks whether the page is full then.
+    pub held: Text,
     faults: u64,
 }
 
 impl Model for Page {
     ghost Value = { PageView };
 
-    ghost view = { λ p. record { held = p.bytes.items; faults = p.faults } };
+    ghost view = { λ p. record { held = p.held; faults = p.faults } };
 }
 
 impl Page {
@@ -36,7 +37,7 @@ impl Page {
         ensures { IfOk result (λ p. p.held ≡ []) }
     {
         Ok(Page {
-            bytes: Vec::with_capacity(alloc, PAGE_BYTES)?,
+            held: Text::from_vec(Vec::with_capacity(alloc, PAGE_BYTES)?),
             faults: 0,
         })
     }
@@ -45,29 +46,12 @@ impl Page {
     pub fn is_full(&self) -> bool
         ensures { result ≡ nat_le PAGE_BYTES (length self.now.held) }
     {
-        self.bytes.len() >= PAGE_BYTES
+        self.held.len() >= PAGE_BYTES
     }
 
-    /// Gives what it holds away, and holds nothing: for a caller that puts a line behind it and gives it back by
-    /// `hold`. Takes no memory.
-    pub fn take(&mut self) -> Vec<u8>
-        ensures bytes { result.items ≡ self.old.held }
-        ensures emptied { self.new.held ≡ [] }
-        ensures faults { self.new.faults ≡ self.old.faults }
-    {
-        let alloc = *self.bytes.allocator();
-        mem::replace(&mut self.bytes, Vec::new(alloc))
-    }
-
-    /// Holds these bytes, and nothing else. Takes no memory.
-    pub fn hold(&mut self, bytes: Vec<u8>)
-        ensures bytes { self.new.held ≡ bytes.items }
-        ensures faults { self.new.faults ≡ self.old.faults }
-    {
-        self.bytes = bytes;
-    }
-
-    /// Writes what the page holds, and leaves it empty. After `Write` the sink took a front of it.
+    /// Writes what the page holds, and leaves it empty. After `Write` the sink took a front of it. Never inlined, since
+    /// most lines leave a page that is not full.
+    #[inline(never)]
     pub fn flush<K: Sink>(&mut self, sink: &mut K) -> Result<(), RunFault>
         ensures taken { OnOk result (K.taken sink.new ≡ with_more (K.taken sink.old) self.old.held) }
         ensures emptied { OnOk result (self.new.held ≡ []) }
@@ -76,9 +60,9 @@ impl Page {
         ensures write { IsErrOf result RunFault.Write → Rose (K.faults sink.old) (K.faults sink.new) }
         ensures same { result ≢ Err RunFault.Write → K.faults sink.new ≡ K.faults sink.old }
     {
-        match write_all(sink, &self.bytes) {
+        match write_all(sink, self.held.as_slice()) {
             Ok(()) => {
-                self.bytes.clear();
+                self.held.truncate(0);
                 Ok(())
             }
             Err(_) => Err(RunFault::Write),
@@ -98,7 +82,7 @@ impl Sink for Page {
         ensures err { OnErr result (self.new.held ≡ self.old.held) }
         ensures cause { Counts self.old.faults self.new.faults result }
     {
-        match self.bytes.extend_from_slice(bytes) {
+        match self.held.append(bytes) {
             Ok(()) => Ok(bytes.len()),
             Err(_) => {
                 self.faults = self.faults.saturating_add(1);

@@ -8,5 +8,5 @@ use Rattle.gr_model.proofs.lines.push_refused.Goals as goal
 pub returns : goal.returns
 returns c =
     let numbered = codes "line" ∷ decimal c.args.line ∷ [] in
-    let before = c.in_ok-push_pair.ensures ∙ ap (λ row. row ++ behind_blanks numbered) c.in_ok-push.ensures ∙ append_assoc c.args.words.now (32 ∷ codes "refused") (behind_blanks numbered) in
-    last_word _ _ _ _ (codes "refused" ∷ numbered) c.args.cause.now c.push-2.ensures before
+    let before = c.in_ok-push_pair.ensures ∙ ap (λ row. row ++ behind_blanks numbered) c.in_ok-push_word.ensures ∙ append_assoc c.args.words.now (32 ∷ codes "refused") (behind_blanks numbered) in
+    last_word _ _ _ _ (codes "refused" ∷ numbered) c.args.cause.now c.push_word-2.ensures before
