@@ -26,7 +26,7 @@ use std::marker::Model;
 pub type Memory = AllocError;
 
 /// Up to how many bytes stand in the one block that the owners of an event share.
-const SHORT: usize = 40;
+const SHORT: usize = 32;
 
 /// An event, seen as its list of names and values, rising by name. It is kept as its form in bytes.
 #[derive(Drop)]
