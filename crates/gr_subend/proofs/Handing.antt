@@ -1,21 +1,24 @@
 -- The piece past a horizon has the data ticks of the knowledge that the horizon passes
-use Rattle.std.proofs.Common.{◌≡◌, ◌≢◌, ◌⊎◌, inl, inr, ℕ, suc, ◌+◌, ◌-◌, ◌^◌, ◌≤◌, ◌<◌, Bool, true, false, List, [], ◌∷◌, ◌++◌, length, drop, refl, sym, ap, ◌∙◌, Some, append_assoc, arith}
+use Rattle.std.proofs.Common.{◌≡◌, ◌≢◌, ◌⊎◌, inl, inr, ℕ, suc, ◌+◌, ◌-◌, ◌^◌, ◌≤◌, ◌<◌, Bool, true, false, List, [], ◌∷◌, ◌++◌, length, drop, get_or, refl, sym, ap, ◌∙◌, subst, Some, append_assoc, arith}
 use Rattle.std.specs.Prelude.{flat_map, if◌then◌else◌, ◌&&◌, nat_le, slice_get}
 use Rattle.std.proofs.lemmas.Bool.{cases_lt, le-leb, lt-leb, and_from, cond-true}
 use Rattle.gr_event.specs.declared.event.Event.{Event}
 use Rattle.gr_tick.specs.declared.run.Run.{Run}
-use Rattle.std.proofs.lemmas.List.{append-nil, drop_all}
+use Rattle.std.proofs.lemmas.List.{append-nil, drop_all, take_all}
 use Rattle.std.proofs.lemmas.Option.{get_or_from_slice_get}
 use Rattle.gr_tick.specs.Runs.{AreRuns, first_bottom_from}
 use Rattle.gr_tick.proofs.EditLemmas.{drop_read}
-use Rattle.gr_tick.specs.Stored.{within, RunsGive}
+use Rattle.gr_tick.specs.Stored.{within, EndBefore, RunsGive}
 use Rattle.gr_tick.proofs.Canonical.{value_at-outside, AreTickRuns-canonical}
 use Rattle.gr_tick.proofs.SteadyLemmas.{first_bottom_from-only}
+use Rattle.gr_tick.proofs.RunsLemmas.{value_at_past}
+use Rattle.gr_tick.proofs.SeekLemmas.{seek_low}
+use Rattle.gr_tick.proofs.RunLaws.{value_at-below, value_at-start}
 use Rattle.gr_know.specs.declared.values.K.{K}
 use Rattle.gr_know.specs.declared.values.K.TheVariants.{Q}
-use Rattle.gr_know.specs.Values.{Known, known_at}
+use Rattle.gr_know.specs.Values.{Known, known_at, join_K}
 use Rattle.gr_subend.specs.declared.delivery.Delivery.{Delivery}
-use Rattle.gr_subend.specs.Horizon.{horizon_after, numbers_from, data_of_run, data_ticks}
+use Rattle.gr_subend.specs.Horizon.{horizon_after, numbers_from, data_of_run, data_ticks, LiesWithin}
 use Rattle.gr_subend.specs.Said.{said_at, event_of}
 use Rattle.gr_subend.specs.Deliveries.{items}
 use Rattle.gr_subend.proofs.Saying.{Items, said_equal, dated}
@@ -132,6 +135,41 @@ moves_with h k joined at g le known next =
 pub none_upto : (h k : ℕ) (joined : Known) (at : ℕ → K) (ds : List Delivery) → ds ≡ [] → RunsGive Q joined at → h ≡ k → items ds ≡ data_ticks h k joined
 none_upto h k joined at ds e g same =
     ap items e ∙ sym (no_ticks h joined g.canonical) ∙ ap (λ n. data_ticks h n joined) same
+
+-- where the first run begins past a tick and the last one ends by another, all of them lie within
+pub lies : (past upto : ℕ) (piece : Known) (first last : Run K) → AreRuns Q piece → EndBefore piece (2 ^ 62 + 1) → 0 < length piece → slice_get piece 0 ≡ Some first → slice_get piece (length piece - 1) ≡ Some last → past < first.first → last.last ≤ upto → LiesWithin past upto piece
+lies past upto piece first last a b some f l p q = record { begins = begins; ends = ends }
+  where
+    begins : (r : Run K) (rs : Known) → piece ≡ r ∷ rs → past < r.first
+    begins r rs e =
+        let same : get_or piece 0 r ≡ first = get_or_from_slice_get piece 0 first r f in
+        let here : r ≡ first = sym (ap (λ xs. get_or xs 0 r) e) ∙ same in
+        subst (λ x. past < x.first) (sym here) p
+
+    ends : EndBefore piece (upto + 1)
+    ends =
+        subst (λ xs. EndBefore xs (upto + 1)) (take_all (length piece - 1 + 1) piece (omega arith))
+        (seek_low Q piece (length piece - 1) (upto + 1) last (omega (arith, some)) (sym (get_or_from_slice_get piece (length piece - 1) last last l)) (AreTickRuns-canonical Q piece a b) (omega (arith, q)))
+
+-- a piece that follows all that is known, and is passed whole, is what is known of the ticks that are passed
+pub passed_whole : (h k : ℕ) (know piece : Known) → AreRuns Q piece → EndBefore piece (2 ^ 62 + 1) → EndBefore know (h + 1) → LiesWithin h k piece → RunsGive Q piece (λ t. if within (h + 1) k t then join_K (known_at know t) (known_at piece t) else Q)
+passed_whole h k know piece a b past w = record { canonical = a; in_range = b; values = λ t. at t (cases_lt h t) (cases_lt k t) }
+  where
+    early : (t : ℕ) → t ≤ h → known_at piece t ≡ Q
+    early t le = go piece refl a
+      where
+        go : (rs : Known) → piece ≡ rs → AreRuns Q rs → known_at rs t ≡ Q
+        go [] e c = refl
+        go (r ∷ rs) e c =
+            let lt : t < r.first = omega (arith, le, w.begins r rs e) in
+            value_at-below Q r rs t lt ∙ value_at-start Q (suc r.last) rs t c.4 (omega (arith, lt, c.1))
+
+    at : (t : ℕ) → (h < t) ⊎ (t ≤ h) → (k < t) ⊎ (t ≤ k) → known_at piece t ≡ (if within (h + 1) k t then join_K (known_at know t) (known_at piece t) else Q)
+    at t (inl p) (inr q) =
+        let unknown : known_at know t ≡ Q = value_at_past Q know (h + 1) t past (omega (arith, p)) in
+        sym (ap (λ x. join_K x (known_at piece t)) unknown) ∙ sym (in_range h k t (join_K (known_at know t) (known_at piece t)) p q)
+    at t (inl p) (inl q) = value_at_past Q piece (k + 1) t w.ends (omega (arith, q)) ∙ sym (out_of_range h k t (join_K (known_at know t) (known_at piece t)) (inr q))
+    at t (inr p) q = early t p ∙ sym (out_of_range h k t (join_K (known_at know t) (known_at piece t)) (inl p))
 
 -- else the data ticks that it passes
 pub some_upto : (i h k : ℕ) (joined piece : Known) (at : ℕ → K) (ds : List Delivery) → i ≡ h → k ≤ 2 ^ 62 → RunsGive Q joined at → RunsGive Q piece (λ t. if within (i + 1) k t then at t else Q) → items ds ≡ data_ticks 0 (2 ^ 62) piece → items ds ≡ data_ticks h k joined

@@ -6,7 +6,7 @@ ghost use Rattle.gr_tick.specs.declared.TheConstants.{MAX_TICK};
 ghost use Rattle.gr_tick.specs.Stored.{IsRun, RunsGive};
 ghost use Rattle.gr_know.specs.Values.{Known, known_at, join_K};
 ghost use Rattle.gr_know.specs.declared.values.K.TheVariants.{Q};
-ghost use Rattle.gr_subend.specs.Horizon.{horizon_after, numbers_from, data_of_run, data_ticks};
+ghost use Rattle.gr_subend.specs.Horizon.{horizon_after, numbers_from, data_of_run, data_ticks, LiesWithin};
 ghost use Rattle.gr_subend.specs.Said.{said_at, TicksRise, event_of};
 ghost use Rattle.gr_subend.specs.Deliveries.{items};
 
@@ -101,6 +101,12 @@ impl Subend {
         if horizon == self.horizon {
             return Ok(Deliveries::new(alloc));
         }
+        // Most pieces follow all that is known, and are passed whole. Proof only: the runs are canonical.
+        let _ = piece.len();
+        if know.top() <= self.horizon && lies_within(piece, self.horizon, horizon) {
+            let deliveries = events_in(alloc, piece)?;
+            return Ok(deliveries);
+        }
         let passed = know.piece_with(piece, self.horizon + 1, horizon)?;
         let deliveries = events_in(alloc, &passed)?;
         Ok(deliveries)
@@ -112,6 +118,15 @@ impl Subend {
         ensures forward { self.old ≤ self.new }
     {
         self.horizon = know.horizon_from(self.horizon);
+    }
+
+    /// Moves the horizon to a tick that is not below it, for a caller that knows where it is to stand. Takes no memory.
+    pub fn move_to(&mut self, tick: u64)
+        requires forward { self.old ≤ tick }
+        requires inside { tick ≤ MAX_TICK }
+        ensures { self.new ≡ tick }
+    {
+        self.horizon = tick;
     }
 
     /// The horizon. Takes no memory.
@@ -130,6 +145,20 @@ impl Subend {
             horizon: self.horizon,
         }
     }
+}
+
+/// Whether all runs of a piece, of which it has some, lie past one tick and go up to another at most.
+fn lies_within(piece: &Piece<K>, past: u64, upto: u64) -> bool
+    requires { upto ≤ MAX_TICK }
+    ensures { result ≡ true → LiesWithin past upto piece.now }
+{
+    let count = piece.len();
+    if count == 0 {
+        return false;
+    }
+    let first = piece.run(0);
+    let last = piece.run(count - 1);
+    past < first.first && last.last <= upto
 }
 
 /// The events of a piece, at each of their ticks.
