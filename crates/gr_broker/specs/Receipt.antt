@@ -12,6 +12,8 @@ use Rattle.gr_know.specs.Values.{known_at}
 use Rattle.gr_model.specs.Net.{Net}
 use Rattle.gr_model.specs.Broker.{View, Outcome as MachineOutcome, empty_log, receive}
 use Rattle.gr_model.specs.Arrivals.{fits_broker, least_clash}
+use Rattle.gr_broker.specs.declared.outcome.Outcome.{Outcome}
+use Rattle.gr_broker.specs.declared.outcome.Dropped.{Dropped}
 use Rattle.gr_broker.specs.declared.outcome.Received.{Received}
 use Rattle.gr_broker.specs.declared.outcome.Received.TheVariants as answer
 use Rattle.gr_broker.specs.declared.outcome.Dropped.TheVariants as dropped
@@ -70,3 +72,8 @@ Answers (answer.Dropped (dropped.NotFrame fault)) (no_frame f) = (fault ≡ f) �
 Answers (answer.Dropped (dropped.Stray head)) (stray h) = head ≡ h
 Answers (answer.Dropped (dropped.Clash c)) (clash t kept came) = (c.tick ≡ t) × (c.kept ≡ kept) × (c.came ≡ came)
 Answers _ _ = ⊥
+
+-- the same where what a frame that is taken tells stands by itself
+abbrev pub AnswersInto : Outcome → Option Dropped → Receipt → Type 0
+AnswersInto told None r = Answers (answer.Taken told) r
+AnswersInto told (Some d) r = Answers (answer.Dropped d) r

@@ -14,7 +14,7 @@ ghost use Rattle.gr_model.specs.NetOf.{net_of, filters_below};
 ghost use Rattle.gr_model.specs.Broker.{Outcome as MachineOutcome, curiosity, know_frames, up_frames};
 ghost use Rattle.gr_broker.specs.Of.{IsKept};
 ghost use Rattle.gr_broker.specs.Held.{held_view, IsSite};
-ghost use Rattle.gr_broker.specs.Told.{Tells, AddsFrames};
+ghost use Rattle.gr_broker.specs.Told.{Tells, AddsFrames, IsBlank};
 ghost use Rattle.gr_broker.specs.Answers.{reply_to, last_completed, AreAnswers, HasAnswerRoom};
 
 use crate::held::Held;
@@ -43,20 +43,23 @@ pub(crate) struct Answers {
     pub asked: Piece<Q3>,
 }
 
-/// Takes the curiosity of the child at place `i`, at the moment `now`. At want of memory all is as it was.
+/// Takes the curiosity of the child at place `i`, at the moment `now`. What that sends is put into an outcome that told
+/// nothing before. At want of memory all else is as it was.
 pub(crate) fn take_curiosity(
     site: &Site<'_>,
     held: &mut Held,
     i: usize,
     piece: &Piece<Q3>,
     now: u64,
-) -> Result<Outcome, Memory>
+    into: &mut Outcome,
+) -> Result<(), Memory>
     requires site { IsSite site.now }
     requires child { i < length (children_of site.now.topo.now site.now.publisher site.now.broker) }
     requires kept { IsKept (net_of site.now.topo.now) site.now.publisher site.now.broker (held_view held.old) }
-    ensures told { let net : Net = net_of site.now.topo.now in IfOk result (λ told. (log : Log) →
+    requires blank { IsBlank into.old }
+    ensures told { let net : Net = net_of site.now.topo.now in OnOk result ((log : Log) →
         Tells (curiosity net site.now.publisher site.now.broker now
-        (get_or (net.children site.now.publisher site.now.broker) i 0) i piece.now (held_view held.old) log) told) }
+        (get_or (net.children site.now.publisher site.now.broker) i 0) i piece.now (held_view held.old) log) into.new) }
     ensures view { let net : Net = net_of site.now.topo.now in OnOk result ((log : Log) →
         let o : MachineOutcome = curiosity net site.now.publisher site.now.broker now
         (get_or (net.children site.now.publisher site.now.broker) i 0) i piece.now (held_view held.old) log in
@@ -65,11 +68,10 @@ pub(crate) fn take_curiosity(
     ensures kept { IsKept (net_of site.now.topo.now) site.now.publisher site.now.broker (held_view held.new) }
     ensures log { held.new.log ≡ held.old.log }
 {
-    let mut told = Outcome::new(site.alloc);
-    let answers = plan_answers(site, held, i, piece, now, &mut told.frames)?;
+    let answers = plan_answers(site, held, i, piece, now, &mut into.frames)?;
     reserve_answers(site, held, i, &answers)?;
     apply_answers(site, held, i, piece, now, &answers);
-    Ok(told)
+    Ok(())
 }
 
 /// What the curiosity of the child at place `i` sends, put at the end of a list, and what it changes. Nothing has

@@ -20,7 +20,7 @@ ghost use Rattle.gr_model.specs.Broker.{Outcome as MachineOutcome, is_consolidat
 ghost use Rattle.gr_model.specs.Broker.{noted, kept_view, wake_below, expect, expect_frame, expect_frames, covers};
 ghost use Rattle.gr_broker.specs.Of.{IsKept};
 ghost use Rattle.gr_broker.specs.Held.{held_view, IsSite};
-ghost use Rattle.gr_broker.specs.Told.{Tells, AddsFrames};
+ghost use Rattle.gr_broker.specs.Told.{Tells, AddsFrames, IsBlank};
 
 use crate::held::Held;
 use crate::learning::forget_below;
@@ -190,20 +190,23 @@ pub(crate) fn wake_below(site: &Site<'_>, held: &mut Held, now: u64) -> Result<O
     Ok(told)
 }
 
-/// Takes the tick that is to be expected, from upstream, at the moment `now`. At want of memory all is as it was.
+/// Takes the tick that is to be expected, from upstream, at the moment `now`. What that sends is put into an outcome
+/// that told nothing before. At want of memory all else is as it was.
 pub(crate) fn take_expect(
     site: &Site<'_>,
     held: &mut Held,
     tick: u64,
     now: u64,
-) -> Result<Outcome, Memory>
+    into: &mut Outcome,
+) -> Result<(), Memory>
     requires site { IsSite site.now }
     requires below { is_host (net_of site.now.topo.now) site.now.publisher site.now.broker ≡ false }
     requires from_one { 1 ≤ tick }
     requires upto { tick ≤ MAX_TICK }
     requires kept { IsKept (net_of site.now.topo.now) site.now.publisher site.now.broker (held_view held.old) }
-    ensures told { let net : Net = net_of site.now.topo.now in IfOk result (λ told. (log : Log) →
-        Tells (expect net site.now.publisher site.now.broker now tick (held_view held.old) log) told) }
+    requires blank { IsBlank into.old }
+    ensures told { let net : Net = net_of site.now.topo.now in OnOk result ((log : Log) →
+        Tells (expect net site.now.publisher site.now.broker now tick (held_view held.old) log) into.new) }
     ensures view { let net : Net = net_of site.now.topo.now in OnOk result ((log : Log) →
         let o : MachineOutcome = expect net site.now.publisher site.now.broker now tick (held_view held.old) log in
         held_view held.new ≡ o.view) }
@@ -212,12 +215,11 @@ pub(crate) fn take_expect(
     ensures log { held.new.log ≡ held.old.log }
 {
     let wanted = wanted_upto(site, held, expect_end(site, tick))?;
-    let mut told = Outcome::new(site.alloc);
-    let asked = asked_upward(site, held, &wanted, now, &mut told.frames)?;
-    expect_children(site, &held.wants, tick, &mut told.frames)?;
+    let asked = asked_upward(site, held, &wanted, now, &mut into.frames)?;
+    expect_children(site, &held.wants, tick, &mut into.frames)?;
     reserve_asks(held, &asked)?;
     note_asked(site, held, &asked, now);
-    Ok(told)
+    Ok(())
 }
 
 /// Tells each child that has not acknowledged all up to a tick to expect it.

@@ -22,7 +22,7 @@ ghost use Rattle.gr_broker.specs.Receipt.{receipt, after_receipt, Answers};
 ghost use Rattle.gr_broker.specs.Opened.{StartsOver, OpensLanes, LosesNothing, IsDamagedAt};
 
 use crate::held::Held;
-use crate::outcome::{BrokerFault, Memory, Outcome, Received};
+use crate::outcome::{BrokerFault, Memory, Outcome, Received, Spare};
 use crate::place::{Position, positions_at};
 use crate::publishing::publish_in;
 use crate::receiving::receive;
@@ -31,6 +31,8 @@ use crate::starting::{fault_at, open_publishers};
 use crate::waking::wake;
 use gr_edge::Edge;
 use gr_event::{Event, Numbers};
+use gr_frame::Frames;
+use gr_model::Reports;
 use gr_out::Disk;
 use gr_publog::Log;
 use gr_sent::Sent;
@@ -48,6 +50,7 @@ pub struct Broker {
     edges: Vec<Edge>,
     positions: Vec<Position>,
     held: Vec<Held>,
+    spare: Spare,
 }
 
 impl Model for Broker {
@@ -148,6 +151,7 @@ impl Broker {
                 edges: placed.edges,
                 positions: placed.positions,
                 held: opened.held,
+                spare: Spare::new(alloc),
             },
             outcome: Outcome {
                 reports: opened.lines,
@@ -208,7 +212,7 @@ impl Broker {
             edges: &self.edges,
             positions: &self.positions,
         };
-        let mut told = Outcome::new(self.alloc);
+        let mut told = self.spare.outcome(self.alloc);
         match publish_in(
             &seat,
             disk,
@@ -248,7 +252,11 @@ impl Broker {
             edges: &self.edges,
             positions: &self.positions,
         };
-        receive(&seat, &mut self.held, bytes, now)
+        let mut told = self.spare.outcome(self.alloc);
+        match receive(&seat, &mut self.held, bytes, now, &mut told)? {
+            None => Ok(Received::Taken(told)),
+            Some(dropped) => Ok(Received::Dropped(dropped)),
+        }
     }
 
     /// Wakes the broker for a publisher, at the moment `now`: the machine's wake. Where the publisher is elsewhere, it
@@ -305,6 +313,14 @@ impl Broker {
             positions: &self.positions,
         };
         wake(&seat, disk, &mut self.held, p, now)
+    }
+
+    /// Takes lists back that an answer was made of: the next call tells and sends in their room, of which they are
+    /// emptied. Nothing else changes.
+    pub fn reuse(&mut self, reports: Reports, frames: Frames)
+        ensures { self.new ≡ self.old }
+    {
+        self.spare = Spare { reports, frames };
     }
 
     /// How far the subscribers here have heard a publisher: 0 where the broker keeps no horizon. Takes no memory.

@@ -26,7 +26,7 @@ ghost use Rattle.gr_model.specs.Broker.{forward, forward_frames, know_frames, le
 ghost use Rattle.gr_broker.specs.Of.{IsKept};
 ghost use Rattle.gr_broker.specs.Held.{held_view, IsSite};
 ghost use Rattle.gr_broker.specs.Handed.{told_to, lines_to};
-ghost use Rattle.gr_broker.specs.Told.{Tells, Adds, AddsFrames};
+ghost use Rattle.gr_broker.specs.Told.{Tells, Adds, AddsFrames, IsBlank};
 ghost use Rattle.gr_broker.specs.Changes.{AreChanges, HasRoom, AreTaken, reached, learned, sent_to};
 
 use crate::held::Held;
@@ -590,14 +590,21 @@ pub(crate) fn forget_below(site: &Site<'_>, know: &mut Know, horizon: u64)
     }
 }
 
-/// Learns a piece that does not clash with what is known. At want of memory all is as it was.
-pub(crate) fn learn(site: &Site<'_>, held: &mut Held, piece: &Piece<K>) -> Result<Outcome, Memory>
+/// Learns a piece that does not clash with what is known. What that tells and sends is put into an outcome that told
+/// nothing before. At want of memory all else is as it was.
+pub(crate) fn learn(
+    site: &Site<'_>,
+    held: &mut Held,
+    piece: &Piece<K>,
+    into: &mut Outcome,
+) -> Result<(), Memory>
     requires site { IsSite site.now }
     requires kept { IsKept (net_of site.now.topo.now) site.now.publisher site.now.broker (held_view held.old) }
     requires goes { (is_host (net_of site.now.topo.now) site.now.publisher site.now.broker ≡ true)
         ⊎ ((t : ℕ) → clash_K (known_at held.old.know.runs t) (known_at piece.now t) ≡ false) }
-    ensures told { let net : Net = net_of site.now.topo.now in IfOk result (λ told. (log : Log) →
-        Tells (learn net site.now.publisher site.now.broker piece.now (held_view held.old) log) told) }
+    requires blank { IsBlank into.old }
+    ensures told { let net : Net = net_of site.now.topo.now in OnOk result ((log : Log) →
+        Tells (learn net site.now.publisher site.now.broker piece.now (held_view held.old) log) into.new) }
     ensures view { let net : Net = net_of site.now.topo.now in OnOk result ((log : Log) →
         let o : MachineOutcome = learn net site.now.publisher site.now.broker piece.now (held_view held.old) log in
         held_view held.new ≡ o.view) }
@@ -605,9 +612,8 @@ pub(crate) fn learn(site: &Site<'_>, held: &mut Held, piece: &Piece<K>) -> Resul
     ensures kept { IsKept (net_of site.now.topo.now) site.now.publisher site.now.broker (held_view held.new) }
     ensures log { held.new.log ≡ held.old.log }
 {
-    let mut told = Outcome::new(site.alloc);
-    let changes = plan_learning(site, held, piece, &mut told)?;
+    let changes = plan_learning(site, held, piece, into)?;
     reserve_learning(site, held, piece, &changes)?;
     apply_learning(site, held, piece, &changes);
-    Ok(told)
+    Ok(())
 }

@@ -2,11 +2,12 @@
 
 ghost use Rattle.std.specs.Prelude.{◌≡◌, []};
 
-use gr_frame::{FrameFault, Head};
+use gr_frame::{FrameFault, Frames, Head};
 use gr_know::Clash;
 use gr_model::Reports;
 use gr_sent::Sent;
 use std::alloc::{AllocError, Global};
+use std::mem;
 
 /// Memory was refused.
 pub type Memory = AllocError;
@@ -47,6 +48,37 @@ impl Outcome {
         Outcome {
             reports: Reports::new(alloc),
             frames: Sent::new(alloc),
+        }
+    }
+}
+
+/// Lists that were given back, for the next answer to be made in their room.
+#[derive(Drop)]
+pub(crate) struct Spare {
+    pub reports: Reports,
+    pub frames: Frames,
+}
+
+impl Spare {
+    /// No lists. Takes no memory.
+    pub(crate) fn new(alloc: Global) -> Spare {
+        Spare {
+            reports: Reports::new(alloc),
+            frames: Frames::new(alloc),
+        }
+    }
+
+    /// Nothing is told and sent, in the room of the lists. Takes no memory.
+    pub(crate) fn outcome(&mut self, alloc: Global) -> Outcome
+        ensures reports { result.reports ≡ [] }
+        ensures frames { result.frames.frames ≡ [] }
+    {
+        let mut reports = mem::replace(&mut self.reports, Reports::new(alloc));
+        reports.clear();
+        let frames = mem::replace(&mut self.frames, Frames::new(alloc));
+        Outcome {
+            reports,
+            frames: Sent::within(alloc, frames),
         }
     }
 }

@@ -11,13 +11,14 @@ ghost use Rattle.gr_model.specs.World.{blank_view};
 ghost use Rattle.gr_model.specs.Arrivals.{fits_broker};
 ghost use Rattle.gr_broker.specs.Of.{IsKept};
 ghost use Rattle.gr_broker.specs.Held.{held_view, broker_at, IsSeat, IsSite};
-ghost use Rattle.gr_broker.specs.Receipt.{comes_over, receipt_of_fit, view_after, receipt, after_receipt, Answers};
+ghost use Rattle.gr_broker.specs.Receipt.{comes_over, receipt_of_fit, view_after, receipt, after_receipt, AnswersInto};
+ghost use Rattle.gr_broker.specs.Told.{IsBlank};
 
 use crate::answering::take_curiosity;
 use crate::asking::take_expect;
 use crate::held::Held;
 use crate::learning::learn;
-use crate::outcome::{Dropped, Memory, Received};
+use crate::outcome::{Dropped, Memory, Outcome};
 use crate::place::Position;
 use crate::site::{Seat, Site, site_at};
 use gr_frame::{Body, Frame, FrameFault, FrameKind, decode};
@@ -50,13 +51,15 @@ pub(crate) fn comes_over(position: &Position, frame: &Frame) -> bool
     }
 }
 
-/// Takes a frame that fits, unless it clashes with what is known. At want of memory all is as it was.
+/// Takes a frame that fits, unless it clashes with what is known: answers why it is dropped, or None where it is taken.
+/// What it tells and sends is put into an outcome that told nothing before. At want of memory all else is as it was.
 pub(crate) fn take_frame(
     site: &Site<'_>,
     held: &mut Held,
     frame: &Frame,
     now: u64,
-) -> Result<Received, Memory>
+    into: &mut Outcome,
+) -> Result<Option<Dropped>, Memory>
     requires site { IsSite site.now }
     requires to { frame.now.head.to ≡ site.now.broker }
     requires publisher { frame.now.head.publisher ≡ site.now.publisher }
@@ -64,8 +67,9 @@ pub(crate) fn take_frame(
         comes_over place.up (map (λ c. c.number) place.children.items) frame.now ≡ true }
     requires body { IsBody frame.now.body }
     requires kept { IsKept (net_of site.now.topo.now) site.now.publisher site.now.broker (held_view held.old) }
+    requires blank { IsBlank into.old }
     ensures says { let r = receipt_of_fit (net_of site.now.topo.now) now (held_view held.old) frame.now in
-        IfOk result (λ answer. Answers answer r) }
+        IfOk result (λ dropped. AnswersInto into.new dropped r) }
     ensures view { let r = receipt_of_fit (net_of site.now.topo.now) now (held_view held.old) frame.now in
         OnOk result (held_view held.new ≡ view_after r (held_view held.old)) }
     ensures err { OnErr result (held_view held.new ≡ held_view held.old) }
@@ -78,10 +82,10 @@ pub(crate) fn take_frame(
             let _ = held.know.len();
             let _ = piece.len();
             if let Some(clash) = held.know.clash(piece) {
-                return Ok(Received::Dropped(Dropped::Clash { clash }));
+                return Ok(Some(Dropped::Clash { clash }));
             }
-            match learn(site, held, piece) {
-                Ok(outcome) => Ok(Received::Taken(outcome)),
+            match learn(site, held, piece, into) {
+                Ok(()) => Ok(None),
                 Err(refused) => Err(refused),
             }
         }
@@ -89,35 +93,39 @@ pub(crate) fn take_frame(
             let Some(i) = child_at(site.position, frame.head.from) else {
                 unreachable!()
             };
-            match take_curiosity(site, held, i, piece, now) {
-                Ok(outcome) => Ok(Received::Taken(outcome)),
+            match take_curiosity(site, held, i, piece, now, into) {
+                Ok(()) => Ok(None),
                 Err(refused) => Err(refused),
             }
         }
         Body::Expect(tick) => {
             // Proof only: the host of a topology has no next broker.
             let _ = site.topo.brokers();
-            match take_expect(site, held, *tick, now) {
-                Ok(outcome) => Ok(Received::Taken(outcome)),
+            match take_expect(site, held, *tick, now, into) {
+                Ok(()) => Ok(None),
                 Err(refused) => Err(refused),
             }
         }
     }
 }
 
-/// Takes a datagram. Every publisher's part stays as it was but for that of a frame that is taken.
+/// Takes a datagram: answers why it is dropped, or None where it is taken. What a frame that is taken tells and sends
+/// is put into an outcome that told nothing before. Every publisher's part stays as it was but for that of such a frame.
 pub(crate) fn receive(
     seat: &Seat<'_>,
     held: &mut Vec<Held>,
     bytes: &[u8],
     now: u64,
-) -> Result<Received, Memory>
+    into: &mut Outcome,
+) -> Result<Option<Dropped>, Memory>
     requires seat { IsSeat seat.now }
     requires many { length held.old.items ≡ length seat.now.topo.now.publishers }
     requires kept { (p : ℕ) → p < length seat.now.topo.now.publishers
         → IsKept (net_of seat.now.topo.now) p seat.now.number (get_or (map held_view held.old.items) p blank_view) }
+    requires blank { IsBlank into.old }
     ensures says { let b = broker_at seat.now held.old.items in
-        IfOk result (λ answer. Answers answer (receipt (net_of seat.now.topo.now) now b (frame_decoded bytes.now))) }
+        IfOk result (λ dropped.
+        AnswersInto into.new dropped (receipt (net_of seat.now.topo.now) now b (frame_decoded bytes.now))) }
     ensures after { let b = broker_at seat.now held.old.items in
         OnOk result (broker_at seat.now held.new.items
         ≡ after_receipt (frame_decoded bytes.now)
@@ -129,9 +137,9 @@ pub(crate) fn receive(
 {
     let frame = match read(seat.alloc, bytes)? {
         Ok(frame) => frame,
-        Err(fault) => return Ok(Received::Dropped(Dropped::NotFrame { fault })),
+        Err(fault) => return Ok(Some(Dropped::NotFrame { fault })),
     };
-    take_at(seat, held, &frame, now)
+    take_at(seat, held, &frame, now, into)
 }
 
 /// The frame that bytes spell, or why they spell none.
@@ -149,20 +157,23 @@ fn read(alloc: Global, bytes: &[u8]) -> Result<Result<Frame, FrameFault>, Memory
     }
 }
 
-/// Takes a frame, unless it does not fit or clashes.
+/// The same of a frame.
 fn take_at(
     seat: &Seat<'_>,
     held: &mut Vec<Held>,
     frame: &Frame,
     now: u64,
-) -> Result<Received, Memory>
+    into: &mut Outcome,
+) -> Result<Option<Dropped>, Memory>
     requires seat { IsSeat seat.now }
     requires many { length held.old.items ≡ length seat.now.topo.now.publishers }
     requires kept { (p : ℕ) → p < length seat.now.topo.now.publishers
         → IsKept (net_of seat.now.topo.now) p seat.now.number (get_or (map held_view held.old.items) p blank_view) }
     requires body { IsBody frame.now.body }
+    requires blank { IsBlank into.old }
     ensures says { let b = broker_at seat.now held.old.items in
-        IfOk result (λ answer. Answers answer (receipt (net_of seat.now.topo.now) now b (Ok frame.now))) }
+        IfOk result (λ dropped.
+        AnswersInto into.new dropped (receipt (net_of seat.now.topo.now) now b (Ok frame.now))) }
     ensures after { let b = broker_at seat.now held.old.items in
         OnOk result (broker_at seat.now held.new.items
         ≡ after_receipt (Ok frame.now) (receipt (net_of seat.now.topo.now) now b (Ok frame.now)) b) }
@@ -172,10 +183,16 @@ fn take_at(
         → IsKept (net_of seat.now.topo.now) p seat.now.number (get_or (map held_view held.new.items) p blank_view) }
 {
     if !fits(seat, frame) {
-        return Ok(Received::Dropped(Dropped::Stray { head: frame.head }));
+        return Ok(Some(Dropped::Stray { head: frame.head }));
     }
     let site = site_at(seat, frame.head.publisher);
-    take_frame(&site, &mut held[frame.head.publisher as usize], frame, now)
+    take_frame(
+        &site,
+        &mut held[frame.head.publisher as usize],
+        frame,
+        now,
+        into,
+    )
 }
 
 /// Whether a frame fits the broker: it is addressed to it, of a publisher that there is, and comes over the right edge.

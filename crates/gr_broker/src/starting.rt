@@ -23,7 +23,7 @@ ghost use Rattle.gr_broker.specs.Starting.{TouchesLanes};
 
 use crate::held::Held;
 use crate::learning::learn;
-use crate::outcome::{BrokerFault, Memory};
+use crate::outcome::{BrokerFault, Memory, Outcome};
 use crate::place::Placed;
 use crate::site::Site;
 use gr_curio::{Asks, Wants};
@@ -87,7 +87,8 @@ fn held_over(site: &Site<'_>, log: Log, into: &mut Reports) -> Result<Held, Memo
     if site.here.is_empty() {
         return Ok(held);
     }
-    let mut told = learn(site, &mut held, &Piece::new(site.alloc))?;
+    let mut told = Outcome::new(site.alloc);
+    learn(site, &mut held, &Piece::new(site.alloc), &mut told)?;
     into.append(&mut told.reports)?;
     Ok(held)
 }

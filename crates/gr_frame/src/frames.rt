@@ -86,6 +86,13 @@ impl Frames {
         self.frames.truncate(count);
     }
 
+    /// Drops all frames, and keeps the room that the list has. Takes no memory.
+    pub fn clear(&mut self)
+        ensures { self.new.frames ≡ [] }
+    {
+        self.frames.clear();
+    }
+
     /// How many frames there are.
     pub fn len(&self) -> usize
         ensures { result ≡ length self.now.frames }

@@ -314,6 +314,13 @@ impl Reports {
         self.lines.append(&mut others.lines)
     }
 
+    /// Drops all lines, and keeps the room that the list has. Takes no memory.
+    pub fn clear(&mut self)
+        ensures { self.new ≡ [] }
+    {
+        self.lines.clear();
+    }
+
     /// How many lines there are.
     pub fn len(&self) -> usize
         ensures { result ≡ length self.now }

@@ -40,8 +40,8 @@ use std::mem::forget;
 /// `Damaged` where at the start the lane of a publisher holds no log: that publisher, and the place of the first fault.
 /// `Post` never comes. After each fault the sink took a front of the report.
 ///
-/// What the world holds at the end is left to the end of the process, which gives all of it back at once: event by event
-/// that is a twentieth of the whole replay.
+/// What the world holds at the end is left to the end of the process, which gives all of it back at once: event by
+/// event that takes three to five parts of a hundred of the whole replay.
 pub fn replay<K: Sink, D: SimDisk>(
     alloc: Global,
     topology: Topology,
@@ -183,7 +183,11 @@ fn turn<K: Sink, D: SimDisk>(
     ensures same { result ≢ Err RunFault.Write → K.faults sink.new ≡ K.faults sink.old }
 {
     match step(alloc, world, disk, line) {
-        Ok(lines) => put_all(alloc, world.topology(), lines.as_slice(), page, sink),
+        Ok(lines) => {
+            let done = put_all(alloc, world.topology(), lines.as_slice(), page, sink);
+            world.reuse(lines);
+            done
+        }
         Err(fault) => match page.flush(sink) {
             Ok(()) => Err(fault),
             Err(unwritten) => Err(unwritten),

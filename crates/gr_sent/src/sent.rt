@@ -97,6 +97,17 @@ impl Sent {
         }
     }
 
+    /// No frames, in the room of a list that is emptied. Takes no memory.
+    pub fn within(alloc: Global, mut room: Frames) -> Sent
+        ensures { result.frames ≡ [] }
+    {
+        room.clear();
+        Sent {
+            frames: room,
+            said: Queue::new(alloc),
+        }
+    }
+
     /// Puts a frame at the end, in as many frames as its piece needs. At want of memory all that was to be sent is
     /// dropped.
     pub fn push(&mut self, alloc: Global, frame: Frame) -> Result<(), Memory>

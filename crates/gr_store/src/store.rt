@@ -5,6 +5,7 @@ ghost use Rattle.gr_store.specs.Parts.{parts, RiseTo};
 use gr_frame::Frames;
 use std::alloc::{AllocError as Memory, Global};
 use std::marker::Model;
+use std::mem;
 
 /// The bytes of frames, in order, one after another in one block. It is seen as the list of them.
 #[derive(Drop)]
@@ -12,6 +13,8 @@ pub struct FrameStore {
     bytes: Vec<u8>,
     /// Where each frame ends.
     ends: Vec<usize>,
+    /// A list that was given back.
+    spare: Frames,
 }
 
 impl Model for FrameStore {
@@ -33,6 +36,7 @@ impl FrameStore {
         FrameStore {
             bytes: Vec::new(alloc),
             ends: Vec::new(alloc),
+            spare: Frames::new(alloc),
         }
     }
 
@@ -67,6 +71,21 @@ impl FrameStore {
                 Err(refused)
             }
         }
+    }
+
+    /// Keeps a list whose frames were put at the end, for its room to be used again. The frames stay as they are.
+    pub fn keep(&mut self, frames: Frames)
+        ensures { self.new ≡ self.old }
+    {
+        self.spare = frames;
+    }
+
+    /// Gives the list that was kept last, with what it holds, or one without room. The frames stay as they are. Takes
+    /// no memory.
+    pub fn spare(&mut self, alloc: Global) -> Frames
+        ensures { self.new ≡ self.old }
+    {
+        mem::replace(&mut self.spare, Frames::new(alloc))
     }
 }
 

@@ -1,8 +1,8 @@
 -- A broker's call within a step, in the words of a world: what is left is a world still, and the machine's
-use Rattle.std.proofs.Common.{◌≡◌, ◌⊎◌, inl, inr, ℕ, ◌*◌, ◌<◌, ◌≤◌, true, false, List, length, map, get_or, set, Some, None, Result, Ok, Err, OnOk, sym, ◌∙◌, subst}
+use Rattle.std.proofs.Common.{◌≡◌, ◌⊎◌, inl, inr, ℕ, ◌*◌, ◌<◌, ◌≤◌, true, false, List, length, map, get_or, set, Some, None, Result, Ok, Err, OnOk, sym, ap, ap₂, ◌∙◌, subst}
 use Rattle.std.specs.List.{AllByRecursion}
 use Rattle.std.proofs.lemmas.Bool.{cases_lt, true≢false}
-use Rattle.std.proofs.lemmas.List.{get_or_past, get_or_default}
+use Rattle.std.proofs.lemmas.List.{get_or_past, get_or_default, set-get_or}
 use Rattle.gr_frame.specs.Bytes.{frame_bytes}
 use Rattle.gr_frame.specs.Cut.{AreFrames}
 use Rattle.gr_out.specs.Lane.{Lane, has_stopped}
@@ -99,6 +99,14 @@ pub read_stands : (v w : WorldView) (b : ℕ) (x : BrokerView) (lanes : ℕ → 
 read_stands v w b x lanes same i is_open f lt e =
     let j = subst IsWorld (sym same) i in
     subst (LogsStand lanes) (sym (broker_read v b x j lt e)) (logs_stand v b lanes j (subst IsOpen (sym same) is_open) (subst (LanesFit lanes) (sym same) f) lt)
+
+-- a broker that is seen as before leaves the world as it was
+pub put_back : (v w : WorldView) (b : ℕ) (x y : BrokerView) (frames : List (List ℕ)) → v ≡ w → x ≡ get_or v.brokers b x → y ≡ x → frames ≡ v.frames → put_in v b y frames ≡ w
+put_back v w b x y frames same read e f =
+    ap₂ with_lists (ap (λ (z : BrokerView). set v.brokers b z) (e ∙ read) ∙ set-get_or v.brokers b x) f ∙ same
+  where
+    with_lists : List BrokerView → List (List ℕ) → WorldView
+    with_lists bs fs = record { topo = v.topo; brokers = bs; frames = fs; clock = v.clock; most = v.most; told = v.told; down = v.down; spent = v.spent }
 
 -- A call in code: the world is seen by its parts, and the broker at a number is read
 pub record Site (v w : WorldView) (b p : ℕ) (x : BrokerView) : Type 0 where

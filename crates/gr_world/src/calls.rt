@@ -46,6 +46,7 @@ impl World {
         // Proof only: what is sent goes over edges.
         every_topology_is_a_tree(&self.topology);
         let host = self.topology.host(p);
+        self.last.set(host);
         let broker = &mut self.brokers[host as usize];
         let answer = broker.publish(&self.topology, disk, p, number, event, self.clock);
         take_answer(&mut self.frames, answer)
@@ -69,6 +70,7 @@ impl World {
         clashes_have_a_least_tick();
         let bytes = self.frames.frame(i);
         let to = receiver(bytes);
+        self.last.set(to);
         let answer = self.brokers[to as usize].receive(&self.topology, bytes, self.clock);
         take_receipt(self.alloc, &mut self.frames, answer)
     }

@@ -28,6 +28,7 @@ use gr_out::SimDisk;
 use gr_store::FrameStore;
 use gr_topo::Topology;
 use std::alloc::Global;
+use std::cell::Cell;
 
 /// Which broker is down after a start that failed: this one after a failure of the disk, else the one from before.
 fn down_after(down: Option<u16>, b: u16, fault: BrokerFault) -> Option<u16>
@@ -103,6 +104,7 @@ impl World {
             clock: 0,
             most: 0,
             told: opened.told,
+            last: Cell::new(0),
             down: None,
             spent: false,
         })

@@ -30,6 +30,7 @@ pub(crate) fn take_up(frames: &mut FrameStore, told: Outcome) -> Result<Reports,
     };
     let sent = told.frames.tell(first, &mut lines)?;
     frames.append(&sent)?;
+    frames.keep(sent);
     Ok(lines)
 }
 

@@ -15,6 +15,7 @@ use gr_model::Reports;
 use gr_store::FrameStore;
 use gr_topo::Topology;
 use std::alloc::Global;
+use std::cell::Cell;
 use std::marker::Model;
 
 /// All brokers of a topology, and the frames between them. Frames have numbers from 1 in the order in which they were
@@ -35,6 +36,8 @@ pub struct World {
     pub(crate) most: u64,
     /// What the opening of the logs told.
     pub(crate) told: Reports,
+    /// Which broker published or received last. It is a hint alone.
+    pub(crate) last: Cell<u16>,
     /// The broker whose last opening failed, if there is one.
     pub(crate) down: Option<u16>,
     /// Whether memory was refused in a call that changes the world; it stays refused.
@@ -93,6 +96,19 @@ impl World {
     {
         self.clock = now;
         self.most = self.most.max(now);
+    }
+
+    /// Takes the lines of the last call back, once they are told: a later call tells and sends in the room of their
+    /// list. Nothing else changes.
+    pub fn reuse(&mut self, lines: Reports)
+        ensures { self.new ≡ self.old }
+    {
+        let last = self.last.get() as usize;
+        if lines.len() == 0 || last >= self.brokers.len() {
+            return;
+        }
+        let frames = self.frames.spare(self.alloc);
+        self.brokers[last].reuse(lines, frames);
     }
 
     /// Notes where memory was refused, after which it is refused for good.

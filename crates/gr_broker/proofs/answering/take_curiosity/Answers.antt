@@ -14,6 +14,6 @@ returns-clause-told c = λ log.
     let net : Net = net_of s.topo.now in
     let child : ℕ = get_or (children_of s.topo.now s.publisher s.broker) c.args.i 0 in
     let o : MachineOutcome = curiosity net s.publisher s.broker c.args.now child c.args.i c.args.piece.now (held_view c.args.held.now) log in
-    tells_all o (record { reports = c.new-told.result.reports; frames = c.plan_answers.new.into }) c.new-told.result.frames
-    (c.new-told.ensures.reports ∙ sym (no_lines net s.publisher s.broker c.args.now child c.args.i c.args.piece.now (held_view c.args.held.now) log))
-    c.new-told.ensures.frames (c.in_ok-answers.ensures.adds log)
+    tells_all o (record { reports = c.args.into.now.reports; frames = c.plan_answers.new.into }) c.args.into.now.frames
+    (c.requires.blank.lines ∙ sym (no_lines net s.publisher s.broker c.args.now child c.args.i c.args.piece.now (held_view c.args.held.now) log))
+    c.requires.blank.frames (c.in_ok-answers.ensures.adds log)

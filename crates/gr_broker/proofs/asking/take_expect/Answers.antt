@@ -15,10 +15,10 @@ returns-clause-told c = λ log.
     let v = held_view c.args.held.now in
     let asked = c.in_ok-asked.asked in
     let asks : MachineOutcome = asked_outcome net s.publisher s.broker c.args.now v log asked in
-    subst (λ (o : MachineOutcome). Tells o (record { reports = c.new-told.result.reports; frames = c.expect_children.new.into }))
+    subst (λ (o : MachineOutcome). Tells o (record { reports = c.args.into.now.reports; frames = c.expect_children.new.into }))
     (sym (expect_is net s.publisher s.broker c.args.now c.args.tick c.expect_end.result v log c.in_ok-wanted.wanted asked c.expect_end.ensures.end c.in_ok-wanted.ensures c.in_ok-asked.ensures.asked))
-    (told_first (expected_outcome net s.publisher s.broker c.args.now c.args.tick v log asked) _ c.new-told.result.frames c.new-told.ensures.reports c.new-told.ensures.frames
-    (adds_after asks.frames (expect_frames s.publisher s.broker c.args.tick (children_of s.topo.now s.publisher s.broker) v.wants) c.new-told.result.frames c.asked_upward.new.into c.expect_children.new.into c.in_ok-asked.ensures.frames c.in_ok-expect_children.ensures))
+    (told_first (expected_outcome net s.publisher s.broker c.args.now c.args.tick v log asked) _ c.args.into.now.frames c.requires.blank.lines c.requires.blank.frames
+    (adds_after asks.frames (expect_frames s.publisher s.broker c.args.tick (children_of s.topo.now s.publisher s.broker) v.wants) c.args.into.now.frames c.asked_upward.new.into c.expect_children.new.into c.in_ok-asked.ensures.frames c.in_ok-expect_children.ensures))
 
 pub returns-clause-view : goal.returns-clause-view
 returns-clause-view c = λ log.

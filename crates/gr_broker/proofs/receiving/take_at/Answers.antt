@@ -1,21 +1,20 @@
-use Rattle.std.proofs.Common.{rules, ◌≡◌, ℕ, ◌<◌, List, length, map, get_or, Ok, IfOk, refl, sym, ap, ◌∙◌, subst}
+use Rattle.std.proofs.Common.{rules, ◌≡◌, ℕ, ◌<◌, List, length, map, get_or, Some, Ok, IfOk, refl, sym, ap, ◌∙◌, subst}
 use Rattle.std.proofs.lemmas.List.{length-map}
 use Rattle.gr_model.specs.NetOf.{net_of}
 use Rattle.gr_model.specs.Broker.{View}
 use Rattle.gr_model.specs.World.{blank_view}
-use Rattle.gr_broker.specs.declared.outcome.Received.TheVariants as answer
 use Rattle.gr_broker.specs.declared.outcome.Dropped.TheVariants as dropped
 use Rattle.gr_broker.specs.Seen.{BrokerView}
 use Rattle.gr_broker.specs.Of.{IsKept}
 use Rattle.gr_broker.specs.Held.{held_view, seen_broker}
-use Rattle.gr_broker.specs.Receipt.{receipt, receipt_of_fit, view_after, after_receipt, Answers}
+use Rattle.gr_broker.specs.Receipt.{receipt, receipt_of_fit, view_after, after_receipt, AnswersInto}
 use Rattle.gr_broker.proofs.Reading.{stray_answer, fit_answer, part_is, put_back, on_ok, on_err, same_set, each_set, seen_set}
 use Rattle.gr_broker.proofs.receiving.take_at.Goals as goal
 
 pub returns-then-not-fits-clause-says : goal.returns-then-not-fits-clause-says
 returns-then-not-fits-clause-says c =
     let b : BrokerView = seen_broker c.args.seat.now.number c.args.seat.now.here.now c.args.seat.now.edges.now c.args.seat.now.positions.now c.args.held.now.items in
-    subst (λ r. Answers (answer.Dropped (dropped.Stray c.args.frame.now.head)) r) (sym (stray_answer (net_of c.args.seat.now.topo.now) c.args.now b c.args.frame.now (sym (c.if-not-fits.ensures {u = tt})))) refl
+    subst (λ r. AnswersInto c.args.into.now (Some (dropped.Stray c.args.frame.now.head)) r) (sym (stray_answer (net_of c.args.seat.now.topo.now) c.args.now b c.args.frame.now (sym (c.if-not-fits.ensures {u = tt})))) refl
 
 pub returns-then-not-fits-clause-after : goal.returns-then-not-fits-clause-after
 returns-then-not-fits-clause-after c =
@@ -31,7 +30,7 @@ receipt_is c =
     ∙ ap (λ t. receipt_of_fit (net_of t) c.args.now (held_view c.index_mut.result.now) c.args.frame.now) (sym c.site_at-site.ensures.topo)
 
 pub returns-clause-says : goal.returns-clause-says
-returns-clause-says c = subst (λ r. IfOk c.take_frame.result (λ a. Answers a r)) (sym (receipt_is c)) c.take_frame.ensures.says
+returns-clause-says c = subst (λ r. IfOk c.take_frame.result (λ d. AnswersInto c.take_frame.new.into d r)) (sym (receipt_is c)) c.take_frame.ensures.says
 
 pub returns-clause-after : goal.returns-clause-after
 returns-clause-after c =

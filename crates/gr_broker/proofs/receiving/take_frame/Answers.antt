@@ -1,10 +1,9 @@
-use Rattle.std.proofs.Common.{map, refl, sym, ap, ◌∙◌, subst}
+use Rattle.std.proofs.Common.{Some, None, map, refl, sym, ap, ◌∙◌, subst}
 use Rattle.gr_model.specs.NetOf.{net_of}
 use Rattle.gr_model.specs.Broker.{empty_log}
-use Rattle.gr_broker.specs.declared.outcome.Received.TheVariants as answer
 use Rattle.gr_broker.specs.declared.outcome.Dropped.TheVariants as dropped
 use Rattle.gr_broker.specs.Held.{held_view}
-use Rattle.gr_broker.specs.Receipt.{view_after, Answers}
+use Rattle.gr_broker.specs.Receipt.{view_after, AnswersInto}
 use Rattle.gr_broker.proofs.Receipts.{answers_clash, answers_knowledge, answers_expect, expects_below}
 use Rattle.gr_broker.proofs.ReceiptSites.{taken_from}
 use Rattle.gr_broker.proofs.receiving.take_frame.Goals as goal
@@ -13,7 +12,7 @@ pub returns-in-Some-clause-says : goal.returns-in-Some-clause-says
 returns-in-Some-clause-says c =
     let e = answers_clash (net_of c.args.site.now.topo.now) c.args.now c.in-Some.clash.tick (held_view c.args.held.now) c.args.frame.now c.in-Knowledge.piece c.in-Some.clash.kept c.in-Some.clash.came
     c.in-Knowledge.is c.len.ensures.canonical c.len-in-Knowledge.ensures.canonical c.in-Some.ensures in
-    subst (λ r. Answers (answer.Dropped (dropped.Clash c.in-Some.clash)) r) (sym e) (refl, refl, refl)
+    subst (λ r. AnswersInto c.args.into.now (Some (dropped.Clash c.in-Some.clash)) r) (sym e) (refl, refl, refl)
 
 pub returns-in-Some-clause-view : goal.returns-in-Some-clause-view
 returns-in-Some-clause-view c =
@@ -25,7 +24,7 @@ pub returns-in-Ok-clause-says : goal.returns-in-Ok-clause-says
 returns-in-Ok-clause-says c =
     let e = answers_knowledge (net_of c.args.site.now.topo.now) c.args.now c.args.site.now.publisher c.args.site.now.broker (held_view c.args.held.now) c.args.frame.now c.in-Knowledge.piece
     c.requires.publisher c.requires.to c.in-Knowledge.is c.len.ensures.canonical c.len-in-Knowledge.ensures.canonical c.in_default.ensures in
-    subst (λ r. Answers (answer.Taken c.in-Ok.outcome) r) (sym e) (c.in-Ok.ensures.told empty_log)
+    subst (λ r. AnswersInto c.learn.new.into None r) (sym e) (c.in-Ok.ensures.told empty_log)
 
 pub returns-in-Ok-clause-view : goal.returns-in-Ok-clause-view
 returns-in-Ok-clause-view c =
@@ -42,7 +41,7 @@ pub returns-in-Ok-take_expect-clause-says : goal.returns-in-Ok-take_expect-claus
 returns-in-Ok-take_expect-clause-says c =
     let e = answers_expect (net_of c.args.site.now.topo.now) c.args.now c.args.site.now.publisher c.args.site.now.broker (held_view c.args.held.now) c.args.frame.now c.in-Expect.tick
     c.requires.publisher c.requires.to c.in-Expect.is in
-    subst (λ r. Answers (answer.Taken c.in-Ok-take_expect.outcome) r) (sym e) (c.in-Ok-take_expect.ensures.told empty_log)
+    subst (λ r. AnswersInto c.take_expect.new.into None r) (sym e) (c.in-Ok-take_expect.ensures.told empty_log)
 
 pub returns-in-Ok-take_expect-clause-view : goal.returns-in-Ok-take_expect-clause-view
 returns-in-Ok-take_expect-clause-view c =
@@ -54,7 +53,7 @@ pub returns-in-Ok-take_curiosity-clause-says : goal.returns-in-Ok-take_curiosity
 returns-in-Ok-take_curiosity-clause-says c =
     let e = taken_from c.args.site.now c.args.now c.in-Some-child_at.i (held_view c.args.held.now) c.args.frame.now c.in-Curiosity.piece
     c.requires.site c.requires.publisher c.requires.to c.in-Curiosity.is (c.in-Some-child_at.ensures.0, c.in-Some-child_at.ensures.2) in
-    subst (λ r. Answers (answer.Taken c.in-Ok-take_curiosity.outcome) r) (sym e) (c.in-Ok-take_curiosity.ensures.told empty_log)
+    subst (λ r. AnswersInto c.take_curiosity.new.into None r) (sym e) (c.in-Ok-take_curiosity.ensures.told empty_log)
 
 pub returns-in-Ok-take_curiosity-clause-view : goal.returns-in-Ok-take_curiosity-clause-view
 returns-in-Ok-take_curiosity-clause-view c =

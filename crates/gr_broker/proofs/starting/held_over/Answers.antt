@@ -39,7 +39,7 @@ returns-clause-started c =
     let fresh = fresh_here s.topo.now s.publisher s.broker c.requires.here c.args.log c.in_ok-know.know.runs held c.in_ok-held.ensures.view c.in_ok-know.ensures.known in
     let same = learns_nothing s.topo.now s.publisher s.broker c.requires.here c.args.log c.new.result held c.new.ensures fresh in
     started_with s.topo.now s.publisher s.broker c.requires.here c.args.log c.requires.lane c.requires.whole (held_view c.learn-2.new.held) some
-    (c.in_ok-told.ensures.view (log_of c.args.log.records) ∙ ap (λ (o : Outcome). o.view) same) c.in_ok-told.ensures.kept c.learn-2.new.held.log (c.in_ok-told.ensures.log ∙ c.in_ok-held.ensures.log)
+    (c.in_ok-learn.ensures.view (log_of c.args.log.records) ∙ ap (λ (o : Outcome). o.view) same) c.in_ok-learn.ensures.kept c.learn-2.new.held.log (c.in_ok-learn.ensures.log ∙ c.in_ok-held.ensures.log)
 
 pub returns-clause-lines : goal.returns-clause-lines
 returns-clause-lines c =
@@ -48,11 +48,11 @@ returns-clause-lines c =
     let some = somebody s.here.now _ c.requires.site.here (λ e. false≢true (sym c.if-is_empty.false ∙ c.is_empty.ensures ∙ (Decides-eqb (length s.here.now) 0).1 e)) in
     let fresh = fresh_here s.topo.now s.publisher s.broker c.requires.here c.args.log c.in_ok-know.know.runs held c.in_ok-held.ensures.view c.in_ok-know.ensures.known in
     let same = learns_nothing s.topo.now s.publisher s.broker c.requires.here c.args.log c.new.result held c.new.ensures fresh in
-    let told = c.in_ok-told.ensures.told (log_of c.args.log.records) in
+    let told = c.in_ok-learn.ensures.told (log_of c.args.log.records) in
     let line = reopened_line (log_of c.args.log.records) s.publisher in
     let into = c.args.into.now in
     c.in_ok-append.ensures.ok
-    ∙ ap (λ xs. xs ++ c.in_ok-told.told.reports) c.in_ok-tell_opened.ensures
-    ∙ append_assoc into line c.in_ok-told.told.reports
+    ∙ ap (λ xs. xs ++ c.learn-2.new.into.reports) c.in_ok-tell_opened.ensures
+    ∙ append_assoc into line c.learn-2.new.into.reports
     ∙ ap (λ xs. into ++ (line ++ xs)) (told.lines ∙ ap (λ (o : Outcome). o.lines) same)
-    ∙ ap (λ xs. into ++ xs) (sym (lines_with s.topo.now s.publisher s.broker c.requires.here c.args.log some c.learn-2.new.held.log (c.in_ok-told.ensures.log ∙ c.in_ok-held.ensures.log)))
+    ∙ ap (λ xs. into ++ xs) (sym (lines_with s.topo.now s.publisher s.broker c.requires.here c.args.log some c.learn-2.new.held.log (c.in_ok-learn.ensures.log ∙ c.in_ok-held.ensures.log)))

@@ -27,8 +27,8 @@ returns-clause-starts g c =
     let placed = c.in-Ok-positions_at.placed in
     let opened = c.in-Ok-open_publishers.opened in
     starts_over c.args.topo.now c.args.number c.in-Ok.here (map (seen_branch placed.edges.items) placed.positions.items) (map held_view opened.held.items)
-    (map (λ (held : Held). held.log) opened.held.items) (record { reports = opened.lines; frames = c.new.result }) c.requires c.in-Ok.ensures c.in-Ok-positions_at.ensures.branches
-    c.in-Ok-open_publishers.ensures.started c.new.ensures
+    (map (λ (held : Held). held.log) opened.held.items) (record { reports = opened.lines; frames = c.new-2.result }) c.requires c.in-Ok.ensures c.in-Ok-positions_at.ensures.branches
+    c.in-Ok-open_publishers.ensures.started c.new-2.ensures
 
 pub returns-clause-opens : goal.returns-clause-opens
 returns-clause-opens g c = λ tells.
@@ -36,7 +36,7 @@ returns-clause-opens g c = λ tells.
     let opened = c.in-Ok-open_publishers.opened in
     let one = c.in-Ok-open_publishers.ensures in
     opens_lanes c.args.topo.now c.args.number c.in-Ok.here (map (seen_branch placed.edges.items) placed.positions.items) (map held_view opened.held.items)
-    (map (λ (held : Held). held.log) opened.held.items) (record { reports = opened.lines; frames = c.new.result }) (g.D.Disk.lane_of c.args.disk.now) (g.D.Disk.lane_of c.open_publishers.new.disk)
+    (map (λ (held : Held). held.log) opened.held.items) (record { reports = opened.lines; frames = c.new-2.result }) (g.D.Disk.lane_of c.args.disk.now) (g.D.Disk.lane_of c.open_publishers.new.disk)
     one.started (one.opens tells) (one.touches tells)
 
 pub returns-clause-stands : goal.returns-clause-stands
