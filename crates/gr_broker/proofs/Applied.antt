@@ -1,9 +1,9 @@
 -- The edits of a planned learning leave the machine's view, and what every call needs of it.
-use Rattle.std.proofs.Common.{◌≡◌, ℕ, ◌≤◌, Bool, true, false, ◌&&◌, ◌||◌, nat_lt, nat_le, List, [], ◌∷◌, length, refl, sym, ap, ◌∙◌, subst, ◌⊎◌, inl, inr, arith}
+use Rattle.std.proofs.Common.{◌≡◌, ℕ, ◌+◌, ◌^◌, ◌≤◌, Bool, true, false, ◌&&◌, ◌||◌, nat_lt, nat_le, List, [], ◌∷◌, length, refl, sym, ap, ◌∙◌, subst, ◌⊎◌, inl, inr, arith}
 use Rattle.std.specs.Prelude.{if◌then◌else◌}
 use Rattle.std.proofs.lemmas.Bool.{false≢true, or_right}
 use Rattle.gr_tick.specs.Runs.{AreRuns, zip_runs}
-use Rattle.gr_tick.specs.Stored.{RunsGive}
+use Rattle.gr_tick.specs.Stored.{EndBefore, RunsGive}
 use Rattle.gr_know.specs.declared.values.K.TheVariants.{Q, F}
 use Rattle.gr_know.specs.Values.{Known, known_at, same_K, join_K, clash_K}
 use Rattle.gr_curio.specs.declared.values.Q3.TheVariants.{N, A}
@@ -18,8 +18,8 @@ use Rattle.gr_broker.specs.declared.site.Site.{Site}
 use Rattle.gr_broker.specs.Seen.{Branch}
 use Rattle.gr_broker.specs.Held.{IsSite}
 use Rattle.gr_broker.specs.Of.{IsKept}
-use Rattle.gr_broker.specs.Changes.{AreChanges, AreTaken, reached}
-use Rattle.gr_broker.proofs.Learned.{Completes, joined_is, finished_on, final_on, final_in, asks_kept, dropped_on, is_F-only, learned_host, learned_below}
+use Rattle.gr_broker.specs.Changes.{AreChanges, AreTaken, learned, reached}
+use Rattle.gr_broker.proofs.Learned.{Completes, joined_is, joined_gives, finished_on, final_on, final_in, asks_kept, dropped_on, is_F-only, learned_host, learned_below}
 use Rattle.gr_broker.proofs.Forwarding.{new_runs, taken_forwarded, taken_acknowledged}
 use Rattle.gr_broker.proofs.Reaching.{stays}
 
@@ -36,20 +36,25 @@ pub record Edits (net : Net) (p b : ℕ) (piece : Known) (v : View) (c : Changes
   pub finishes : RunsGive Q left (λ t. if is_A (wanted_at c.completed t) then F else known_at joined t)
 
 -- the same, of what a site says
-pub edits_at : (s : Site) (piece : Known) (v : View) (c : Changes) (joined left : Known) (wants pieces : List Wanted) (to : ℕ) → IsSite s → IsKept (net_of s.topo.now) s.publisher s.broker v → AreChanges (net_of s.topo.now) s.publisher s.broker v piece c → AreRuns Q v.know → AreRuns Q piece
-    → RunsGive Q joined (λ t. join_K (known_at v.know t) (known_at piece t)) → to ≡ horizon_after s.position.now.keeps v.horizon joined → v.horizon ≤ to → pieces ≡ c.quenched.items → AreTaken v.wants pieces wants → RunsGive Q left (λ t. if is_A (wanted_at c.completed t) then F else known_at joined t)
-    → Edits (net_of s.topo.now) s.publisher s.broker piece v c joined left wants to
-edits_at s piece v c joined left wants pieces to site kept changes a b joins moves forward same taken finishes = record {
-  kept = kept;
-  changes = changes;
-  know_runs = a;
-  piece_runs = b;
-  joins = joins;
-  moves = moves ∙ ap (λ k. horizon_after k v.horizon joined) (ap (λ (x : Branch). x.keeps) site.branch);
-  forward = forward;
-  taken = subst (λ (ps : List Wanted). AreTaken v.wants ps wants) same taken;
-  finishes = finishes;
-}
+pub edits_at : (s : Site) (piece : Known) (v : View) (c : Changes) (left : Known) (wants pieces : List Wanted) (to : ℕ) → IsSite s → IsKept (net_of s.topo.now) s.publisher s.broker v → AreChanges (net_of s.topo.now) s.publisher s.broker v piece c → AreRuns Q v.know → EndBefore v.know (2 ^ 62 + 1) → AreRuns Q piece
+    → EndBefore piece (2 ^ 62 + 1) → to ≡ c.to → pieces ≡ c.quenched.items → AreTaken v.wants pieces wants → RunsGive Q left (λ t. if is_A (wanted_at c.completed t) then F else join_K (known_at v.know t) (known_at piece t)) → Edits (net_of s.topo.now) s.publisher s.broker piece v c (learned v.know piece) left wants to
+edits_at s piece v c left wants pieces to site kept changes a u b w there same taken finishes =
+    let g : RunsGive Q (learned v.know piece) (λ t. join_K (known_at v.know t) (known_at piece t)) = joined_gives v.know piece a u b w in
+    record {
+      kept = kept;
+      changes = changes;
+      know_runs = a;
+      piece_runs = b;
+      joins = g;
+      moves = there ∙ changes.moves;
+      forward = subst (λ (n : ℕ). v.horizon ≤ n) (sym there) changes.onward;
+      taken = subst (λ (ps : List Wanted). AreTaken v.wants ps wants) same taken;
+      finishes = record {
+        canonical = finishes.canonical;
+        in_range = finishes.in_range;
+        values = λ t. finishes.values t ∙ ap (λ x. if is_A (wanted_at c.completed t) then F else x) (sym (g.values t));
+      };
+    }
 
 -- the host, and that a broker is below it, by its site
 pub host_there : (s : Site) (h : Bool) → IsSite s → s.position.now.host ≡ h → is_host (net_of s.topo.now) s.publisher s.broker ≡ h

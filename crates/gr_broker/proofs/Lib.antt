@@ -7,6 +7,7 @@ pub mod Forwarding
 pub mod Reaching
 pub mod Untouched
 pub mod Planned
+pub mod Whole
 pub mod Applied
 pub mod Sent
 pub mod Sited

@@ -1,6 +1,7 @@
 -- What a learned piece changes, worked out before anything is changed, and the room for it
 use Rattle.std.specs.Prelude.{◌≡◌, ℕ, ◌+◌, ◌*◌, ◌<◌, ◌≤◌, Bool, true, not, ◌&&◌, nat_le, nat_lt, if◌then◌else◌}
 use Rattle.std.specs.Prelude.{List, [], length, get_or, slice_index_or}
+use Rattle.gr_tick.specs.declared.TheConstants.{MAX_TICK}
 use Rattle.gr_tick.specs.Stored.{RunsGive, needed, is_told}
 use Rattle.gr_tick.specs.Runs.{AreRuns, zip_runs}
 use Rattle.gr_know.specs.Values.{Known, known_at, same_K, is_Q, join_K}
@@ -25,8 +26,12 @@ abbrev pub sent_to : Net → ℕ → ℕ → View → Known → ℕ → Known
 sent_to net p b v piece i =
     forward net p (get_or (net.children p b) i 0) (wants_of v.wants i) (new_ticks v.know piece)
 
--- What learning a piece changes besides what is known and the horizon
+-- What learning a piece changes besides what is known
 pub record AreChanges (net : Net) (p b : ℕ) (v : View) (piece : Known) (c : Changes) : Type 0 where
+  -- where the horizon moves to
+  pub moves : c.to ≡ reached net p b v piece
+  pub onward : v.horizon ≤ c.to
+  pub inside : c.to ≤ MAX_TICK
   -- for each child what it asked and is now sent; nothing for those past the list
   pub each : (i : ℕ) → i < length v.wants → RunsGive N (slice_index_or c.quenched.items i [])
       (λ t. if not (is_Q (known_at (sent_to net p b v piece i) t)) && is_C (wanted_at (wants_of v.wants i) t)

@@ -8,8 +8,8 @@ ghost use Rattle.std.specs.Option.{option_map};
 ghost use Rattle.gr_tick.specs.declared.TheConstants.{MAX_TICK};
 ghost use Rattle.gr_filter.specs.Tree.{tree_of};
 ghost use Rattle.gr_tick.specs.Runs.{is_in, AreRuns};
-ghost use Rattle.gr_tick.specs.Stored.{within, IsRun, EndBefore, RunsGive, is_told};
-ghost use Rattle.gr_know.specs.Values.{known_at, is_Q, new_K, clash_K};
+ghost use Rattle.gr_tick.specs.Stored.{within, IsRun, EndBefore, RunsGive, is_told, needed};
+ghost use Rattle.gr_know.specs.Values.{known_at, is_Q, new_K, join_K, clash_K};
 ghost use Rattle.gr_know.specs.declared.values.K.TheVariants.{Q, F};
 ghost use Rattle.gr_curio.specs.declared.asks.Moment.TheVariants.{Never};
 ghost use Rattle.gr_curio.specs.declared.values.Q3.TheVariants.{N, C, A};
@@ -21,7 +21,7 @@ ghost use Rattle.gr_subend.specs.Deliveries.{items};
 ghost use Rattle.gr_topo.specs.Topology.{passes_filter};
 ghost use Rattle.gr_model.specs.Net.{Net, is_host, keeps_horizon};
 ghost use Rattle.gr_model.specs.NetOf.{net_of};
-ghost use Rattle.gr_model.specs.Broker.{Outcome as MachineOutcome, is_F, forgotten, max_tick, horizon_after};
+ghost use Rattle.gr_model.specs.Broker.{Outcome as MachineOutcome, is_F, forgotten, max_tick};
 ghost use Rattle.gr_model.specs.Broker.{forward, forward_frames, know_frames, learn, new_ticks};
 ghost use Rattle.gr_broker.specs.Of.{IsKept};
 ghost use Rattle.gr_broker.specs.Held.{held_view, IsSite};
@@ -45,9 +45,11 @@ use gr_subend::{Delivery, Subend};
 use gr_tick::{MAX_TICK, Piece, Run};
 use std::alloc::{AllocError, Global};
 
-/// What learning a piece changes besides what is known and the horizon.
+/// What learning a piece changes besides what is known.
 #[derive(Drop)]
 pub(crate) struct Changes {
+    /// Where the horizon moves to.
+    pub to: u64,
     /// For each child what it asked and is now sent.
     pub quenched: Vec<Piece<Q3>>,
     /// The ticks that are consolidated only now.
@@ -76,6 +78,7 @@ pub(crate) fn plan_learning(
     let quenched = forward_news(site, held, piece, &mut into.frames)?;
     let completed = completed_by(site.alloc, held, to)?;
     Ok(Changes {
+        to,
         quenched,
         completed,
     })
@@ -428,10 +431,9 @@ pub(crate) fn apply_learning(site: &Site<'_>, held: &mut Held, piece: &Piece<K>,
     let _ = held.know.len();
     let _ = piece.len();
     let _ = held.asks.len();
-    held.know.join(piece);
-    move_on(site.position.keeps, &mut held.horizon, &held.know);
+    take_in(&mut held.know, piece, &changes.completed);
+    held.horizon.move_to(changes.to);
     quench(&mut held.wants, &changes.quenched);
-    finish_each(&mut held.know, &changes.completed);
     if site.position.host {
         return;
     }
@@ -440,14 +442,36 @@ pub(crate) fn apply_learning(site: &Site<'_>, held: &mut Held, piece: &Piece<K>,
     forget_below(site, &mut held.know, held.horizon.horizon());
 }
 
-/// Moves a horizon that is kept to where what is known lets it.
-fn move_on(keeps: bool, horizon: &mut Subend, know: &Know)
-    ensures moved { horizon.new ≡ horizon_after keeps horizon.old know.now.runs }
-    ensures forward { horizon.old ≤ horizon.new }
+/// Joins a piece to what is known, and makes final each tick that is acknowledged. Where these are all ticks of the
+/// piece, it is not joined first.
+fn take_in(know: &mut Know, piece: &Piece<K>, done: &Piece<Q3>)
+    requires { needed know.old.runs piece.now + 2 * length done.now ≤ know.old.spare }
+    ensures { RunsGive Q know.new.runs (λ t. if is_A (wanted_at done.now t) then F
+        else join_K (known_at know.old.runs t) (known_at piece.now t)) }
 {
-    if keeps {
-        horizon.move_on(know);
+    if is_whole(piece, done) {
+        finish_each(know, done);
+        return;
     }
+    know.join(piece);
+    finish_each(know, done);
+}
+
+/// Whether all runs of a piece, of which it has some, lie in one run of acknowledged ticks.
+fn is_whole(piece: &Piece<K>, done: &Piece<Q3>) -> bool
+    ensures { result ≡ true → (t : ℕ) → is_A (wanted_at done.now t) ≡ false → known_at piece.now t ≡ Q }
+{
+    let count = piece.len();
+    if count == 0 || done.len() != 1 {
+        return false;
+    }
+    let run = done.run(0);
+    let first = piece.run(0);
+    let last = piece.run(count - 1);
+    if !is_acknowledged(run.value) {
+        return false;
+    }
+    run.first <= first.first && last.last <= run.last
 }
 
 /// Takes a piece out of what each child wants. It takes no memory.

@@ -22,6 +22,9 @@ returns-clause-adds c = λ log.
 
 pub returns-clause-changes : goal.returns-clause-changes
 returns-clause-changes c = record {
+  moves = c.horizon_with-to.ensures.reached;
+  onward = c.horizon_with-to.ensures.forward;
+  inside = c.horizon_with-to.ensures.inside;
   each = c.in_ok-quenched.ensures.each;
   completed = subst (λ (x : ℕ). RunsGive N c.in_ok-completed.completed (λ t. if nat_lt c.args.held.now.horizon t && nat_le t x && all_A (runs_of c.args.held.now.wants) t then A else N)) c.horizon_with-to.ensures.reached c.in_ok-completed.ensures;
 }
