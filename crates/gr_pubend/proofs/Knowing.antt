@@ -179,7 +179,7 @@ at_tick tick e = record { first = tick; last = tick; value = D e }
 abbrev pub up_to_event : ℕ → ℕ → Event → Known
 up_to_event first tick e = silence first (tick - 1) (at_tick tick e ∷ [])
 
-event_piece : (first tick t : ℕ) (e : Event) → known_at (up_to_event first tick e) t ≡ (if within first (tick - 1) t then S else (if within tick tick t then D e else Q))
+pub event_piece : (first tick t : ℕ) (e : Event) → known_at (up_to_event first tick e) t ≡ (if within first (tick - 1) t then S else (if within tick tick t then D e else Q))
 event_piece first tick t e = silence_at first (tick - 1) t (at_tick tick e ∷ [])
 
 pub event_piece-below : (first tick t : ℕ) (e : Event) → t < first → first ≤ tick → known_at (up_to_event first tick e) t ≡ Q

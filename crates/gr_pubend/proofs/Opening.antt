@@ -1,12 +1,14 @@
 -- The events behind a cut, learned one after another, and the silence up to what is settled are what the log says
-use Rattle.std.proofs.Common.{◌≡◌, ◌⊎◌, inl, inr, ℕ, suc, ◌+◌, ◌^◌, ◌≤◌, ◌<◌, Bool, true, false, ◌&&◌, List, [], ◌∷◌, ◌++◌, length, take, drop, get_or, refl, sym, ap, ap₂, ◌∙◌, subst, append_assoc, append-nil, le_refl, arith}
+use Rattle.std.proofs.Common.{◌≡◌, ◌⊎◌, inl, inr, ℕ, suc, ◌+◌, ◌-◌, ◌^◌, ◌≤◌, ◌<◌, Bool, true, false, ◌&&◌, List, [], ◌∷◌, ◌++◌, length, take, drop, get_or, refl, sym, ap, ap₂, ◌∙◌, subst, append_assoc, append-nil, le_refl, arith}
 use Rattle.std.specs.Prelude.{nat_le, nat_lt, nat_eq, if◌then◌else◌}
-use Rattle.std.proofs.lemmas.Bool.{cases_lt, le-leb, lt-leb, ltb-false, ne_eqb}
+use Rattle.std.proofs.lemmas.Bool.{and_parts, cases_lt, le-leb, leb-true, lt-leb, ltb-false, ne_eqb}
 use Rattle.std.proofs.lemmas.List.{take_more}
 use Rattle.gr_tick.proofs.EditLemmas.{drop_read}
 use Rattle.gr_event.specs.declared.event.Event.{Event}
-use Rattle.gr_tick.specs.Stored.{within, RunsGive}
+use Rattle.gr_event.specs.Event.{same_event}
+use Rattle.gr_tick.specs.Stored.{within, RunsGive, EndBefore}
 use Rattle.gr_know.specs.declared.values.K.TheVariants.{Q, S, D, F}
+use Rattle.gr_know.specs.declared.values.K.{K}
 use Rattle.gr_know.specs.Values.{Known, known_at, join_K}
 use Rattle.gr_publog.specs.declared.record.Record.{Record}
 use Rattle.gr_publog.specs.declared.record.Record.TheVariants as entry
@@ -16,7 +18,7 @@ use Rattle.gr_publog.specs.State.{empty_state, after_record, state_from, state_o
 use Rattle.gr_publog.proofs.Live.{from_below, live_rise}
 use Rattle.gr_pubend.specs.Log.{Log, empty_log, with_event, with_mark, with_entry, log_from, log_of, event_at, log_at, silence, Stays}
 use Rattle.gr_pubend.specs.Opening.{pairs, last_tick, EntriesRise, seen}
-use Rattle.gr_pubend.proofs.Knowing.{event_at-more, stays_of, log_at-past, log_at-zero, log_at-in, within_in, within_below, within_above, up_to_event, at_event, at_mark}
+use Rattle.gr_pubend.proofs.Knowing.{event_at-more, stays_of, log_at-past, log_at-zero, log_at-in, within_in, within_below, within_above, up_to_event, join_Q, event_piece, at_event, at_mark}
 
 pairs_more : (es : List Entry) (e : Entry) → pairs (es ++ e ∷ []) ≡ pairs es ++ (e.tick, e.event) ∷ []
 pairs_more [] e = refl
@@ -50,21 +52,71 @@ seen_says : (cut t : ℕ) (es : List Entry) (e : Entry) → log_at (with_event (
 seen_says cut t es e =
     ap₂ (λ s ps. if nat_le 1 t && nat_le t s then (if nat_le t cut then F else event_at ps t) else Q) (sym (last_more cut es e)) (sym (pairs_more es e))
 
-pub seen_event : (cut last : ℕ) (es : List Entry) (e : Entry) (old new : Known) → Stays (seen cut es) (at_state last cut) → RunsGive Q old (log_at (seen cut es)) → last < e.tick
-    → RunsGive Q new (λ t. join_K (known_at old t) (known_at (up_to_event (last + 1) e.tick e.event) t)) → RunsGive Q new (log_at (seen cut (es ++ e ∷ [])))
-seen_event cut last es e old new h o past g =
-    let begins : last + 1 ≡ suc (seen cut es).settled = omega (arith, h.settled) in
-    let later : (seen cut es).settled < e.tick = omega (arith, h.settled) in
-    record {
-      canonical = g.canonical;
-      in_range = g.in_range;
-      values = λ t.
-          g.values t
-          ∙ ap (λ k. join_K k (known_at (up_to_event (last + 1) e.tick e.event) t)) (o.values t)
-          ∙ ap (λ n. join_K (log_at (seen cut es) t) (known_at (up_to_event n e.tick e.event) t)) begins
-          ∙ at_event (seen cut es) (at_state last cut) h e.tick t e.event later
-          ∙ seen_says cut t es e;
-    }
+-- Where nothing was known and gathered of a tick, what comes stands for itself.
+gathered : (a b v : K) → join_K a b ≡ Q → join_K a v ≡ join_K (join_K a b) v
+gathered Q b v h = ap (λ x. join_K x v) (sym h)
+gathered S Q v h = cc
+gathered S S v h = cc
+gathered S (D e) v h = cc
+gathered S F v h = cc
+gathered (D a) Q v h = cc
+gathered (D a) S v h = cc
+gathered (D a) (D b) v h = by_test (same_event a b) h
+  where
+    by_test : (c : Bool) → (if c then D a else F) ≡ Q → join_K (D a) v ≡ join_K (if c then D a else F) v
+    by_test true q = cc
+    by_test false q = cc
+gathered (D a) F v h = cc
+gathered F b v h = cc
+
+-- what is known with what is gathered, once an entry is put there too
+pub seen_gathered : (cut last : ℕ) (es : List Entry) (e : Entry) (know piece more : Known) → Stays (seen cut es) (at_state last cut)
+    → ((t : ℕ) → join_K (known_at know t) (known_at piece t) ≡ log_at (seen cut es) t) → last < e.tick
+    → ((t : ℕ) → known_at more t ≡ (if within (last + 1) (e.tick - 1) t then S else if within e.tick e.tick t then D e.event else known_at piece t))
+    → (t : ℕ) → join_K (known_at know t) (known_at more t) ≡ log_at (seen cut (es ++ e ∷ [])) t
+seen_gathered cut last es e know piece more h o past g t =
+    ap (join_K (known_at know t)) (g t)
+    ∙ by_place (within (last + 1) (e.tick - 1) t) (within e.tick e.tick t) refl refl
+    ∙ ap (join_K (join_K (known_at know t) (known_at piece t))) (sym (event_piece (last + 1) e.tick t e.event))
+    ∙ ap (λ k. join_K k (known_at (up_to_event (last + 1) e.tick e.event) t)) (o t)
+    ∙ ap (λ n. join_K (log_at (seen cut es) t) (known_at (up_to_event n e.tick e.event) t)) begins
+    ∙ at_event (seen cut es) (at_state last cut) h e.tick t e.event later
+    ∙ seen_says cut t es e
+  where
+    begins : last + 1 ≡ suc (seen cut es).settled
+    begins = omega (arith, h.settled)
+
+    later : (seen cut es).settled < e.tick
+    later = omega (arith, h.settled)
+
+    unknown : last < t → join_K (known_at know t) (known_at piece t) ≡ Q
+    unknown after = o t ∙ log_at-past (seen cut es) t (omega (arith, h.settled, after))
+
+    by_place : (b c : Bool) → within (last + 1) (e.tick - 1) t ≡ b → within e.tick e.tick t ≡ c
+        → join_K (known_at know t) (if b then S else if c then D e.event else known_at piece t)
+        ≡ join_K (join_K (known_at know t) (known_at piece t)) (if b then S else if c then D e.event else Q)
+    by_place true c p q =
+        let from : last + 1 ≤ t = leb-true (last + 1) t (and_parts (nat_le (last + 1) t) (nat_le t (e.tick - 1)) p).0 in
+        gathered (known_at know t) (known_at piece t) S (unknown (omega (arith, from)))
+    by_place false true p q =
+        let from : e.tick ≤ t = leb-true e.tick t (and_parts (nat_le e.tick t) (nat_le t e.tick) q).0 in
+        gathered (known_at know t) (known_at piece t) (D e.event) (unknown (omega (arith, from, past)))
+    by_place false false p q = sym (join_Q (join_K (known_at know t) (known_at piece t)))
+
+-- what was gathered is learned, and nothing is gathered then
+pub seen_learned : (know piece new : Known) (log : Log) → RunsGive Q new (λ t. join_K (known_at know t) (known_at piece t))
+    → ((t : ℕ) → join_K (known_at know t) (known_at piece t) ≡ log_at log t) → RunsGive Q new (log_at log)
+seen_learned know piece new log g says = record {
+  canonical = g.canonical;
+  in_range = g.in_range;
+  values = λ t. g.values t ∙ says t;
+}
+
+pub nothing_gathered : (know none : Known) (log : Log) → none ≡ [] → RunsGive Q know (log_at log) → (t : ℕ) → join_K (known_at know t) (known_at none t) ≡ log_at log t
+nothing_gathered know none log e g t = ap (λ p. join_K (known_at know t) (known_at p t)) e ∙ join_Q (known_at know t) ∙ g.values t
+
+pub none_ends : (none : Known) (t : ℕ) → none ≡ [] → EndBefore none t
+none_ends none t e = subst (λ (p : Known). EndBefore p t) (sym e) tt
 
 pub last_up : (from : ℕ) (es : List Entry) → EntriesRise from es → from ≤ last_tick from es
 last_up from [] r = le_refl from

@@ -1,10 +1,10 @@
 //! What becomes known with a record.
 
-ghost use Rattle.std.specs.Prelude.{◌≡◌, ◌+◌, ◌-◌, ◌≤◌, [], ◌∷◌, if◌then◌else◌, IfOk, OnOk};
+ghost use Rattle.std.specs.Prelude.{◌≡◌, ℕ, ◌+◌, ◌-◌, ◌≤◌, [], ◌∷◌, if◌then◌else◌, IfOk, OnOk};
 ghost use Rattle.gr_tick.specs.declared.TheConstants.{MAX_TICK};
-ghost use Rattle.gr_tick.specs.Stored.{within, RunsGive, needed};
+ghost use Rattle.gr_tick.specs.Stored.{within, RunsGive, EndBefore, needed};
 ghost use Rattle.gr_know.specs.Values.{known_at, join_K};
-ghost use Rattle.gr_know.specs.declared.values.K.TheVariants.{Q, D, F};
+ghost use Rattle.gr_know.specs.declared.values.K.TheVariants.{Q, S, D, F};
 ghost use Rattle.gr_pubend.specs.Log.{log_of, log_at, log_know, silence};
 ghost use Rattle.gr_pubend.specs.Opening.{last_tick, EntriesRise, seen};
 
@@ -64,26 +64,6 @@ pub fn make_room(know: &mut Know, piece: &Piece<K>) -> Result<(), Memory>
     know.reserve(room)
 }
 
-/// Learns silence from a tick on, and an event at another, at or past it.
-fn learn_event(
-    alloc: Global,
-    know: &mut Know,
-    first: u64,
-    tick: u64,
-    event: &Event,
-) -> Result<(), Memory>
-    requires from_one { 1 ≤ first }
-    requires ordered { first ≤ tick }
-    requires upto { tick ≤ MAX_TICK }
-    ensures { let piece = silence first (tick - 1) (record { first = tick; last = tick; value = D event.now } ∷ []) in
-        OnOk result (RunsGive Q know.new.runs (λ t. join_K (known_at know.old.runs t) (known_at piece t))) }
-{
-    let piece = fresh_event(alloc, first, tick, event)?;
-    make_room(know, &piece)?;
-    know.join(&piece);
-    Ok(())
-}
-
 /// Makes all up to a tick final; nothing for 0.
 fn make_final(know: &mut Know, upto: u64) -> Result<(), Memory>
     requires { upto ≤ MAX_TICK }
@@ -96,7 +76,45 @@ fn make_final(know: &mut Know, upto: u64) -> Result<(), Memory>
     know.finish(1, upto)
 }
 
-/// Learns events behind a cut, with the silence between them, and answers the last tick that is known then.
+/// How many runs are gathered before they are joined to what is known.
+const GATHERED: usize = 256;
+
+/// Puts silence from a tick on, and an event at another, at or past it, behind what a piece has.
+fn put_event(piece: &mut Piece<K>, first: u64, tick: u64, event: &Event) -> Result<(), Memory>
+    requires from_one { 1 ≤ first }
+    requires ordered { first ≤ tick }
+    requires upto { tick ≤ MAX_TICK }
+    requires past { EndBefore piece.old first }
+    ensures values { OnOk result ((t : ℕ) → known_at piece.new t
+        ≡ (if within first (tick - 1) t then S else if within tick tick t then D event.now else known_at piece.old t)) }
+    ensures past { OnOk result (EndBefore piece.new (tick + 1)) }
+{
+    if first < tick {
+        piece.push(Run {
+            first,
+            last: tick - 1,
+            value: K::S,
+        })?;
+    }
+    piece.push(Run {
+        first: tick,
+        last: tick,
+        value: K::D(event.share()),
+    })
+}
+
+/// Joins a piece that was gathered.
+fn take_in(know: &mut Know, piece: &Piece<K>) -> Result<(), Memory>
+    ensures { OnOk result (RunsGive Q know.new.runs
+        (λ t. join_K (known_at know.old.runs t) (known_at piece.now t))) }
+{
+    make_room(know, piece)?;
+    know.join(piece);
+    Ok(())
+}
+
+/// Learns events behind a cut, with the silence between them, and answers the last tick that is known then. Many are
+/// gathered in a piece before they are joined.
 fn learn_events(alloc: Global, know: &mut Know, cut: u64, events: &Entries) -> Result<u64, Memory>
     requires known { RunsGive Q know.old.runs (log_at (seen cut [])) }
     requires rise { EntriesRise cut events.now }
@@ -105,11 +123,17 @@ fn learn_events(alloc: Global, know: &mut Know, cut: u64, events: &Entries) -> R
     ensures known { OnOk result (RunsGive Q know.new.runs (log_at (seen cut events.now))) }
 {
     let mut last = cut;
+    let mut piece = Piece::new(alloc);
     'entries: for i in 0..events.len() {
         let entry = events.get(i);
-        learn_event(alloc, know, last + 1, entry.tick, &entry.event)?;
+        put_event(&mut piece, last + 1, entry.tick, &entry.event)?;
         last = entry.tick;
+        if GATHERED <= piece.len() {
+            take_in(know, &piece)?;
+            piece = Piece::new(alloc);
+        }
     }
+    take_in(know, &piece)?;
     Ok(last)
 }
 
