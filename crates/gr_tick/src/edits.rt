@@ -257,6 +257,20 @@ pub fn begun_by<V: Lattice>(runs: &Gap<Run<V>>, tick: u64) -> usize
     ensures ahead { BeginAfter (drop result runs.now.items) tick }
 {
     let i = seek(runs, tick);
+    begun_at(runs, i, tick)
+}
+
+/// The same, where the runs that end at the tick or later begin at a place.
+#[inline(always)]
+fn begun_at<V: Lattice>(runs: &Gap<Run<V>>, i: usize, tick: u64) -> usize
+    requires runs { AreTickRuns V.least runs.now.items }
+    requires within { i ≤ length runs.now.items }
+    requires front { EndBefore (take i runs.now.items) tick }
+    requires here { (r : Run V) (rs : List (Run V)) → drop i runs.now.items ≡ r ∷ rs → tick ≤ r.last }
+    ensures within { result ≤ length runs.now.items }
+    ensures front { BeginBy (take result runs.now.items) tick }
+    ensures ahead { BeginAfter (drop result runs.now.items) tick }
+{
     if i == runs.len() {
         return i;
     }
@@ -265,6 +279,26 @@ pub fn begun_by<V: Lattice>(runs: &Gap<Run<V>>, tick: u64) -> usize
         return i;
     }
     i + 1
+}
+
+/// The same, where those that end before an earlier tick are counted. Most ranges end within the run behind them.
+#[inline(always)]
+fn begun_from<V: Lattice>(runs: &Gap<Run<V>>, begin: usize, first: u64, tick: u64) -> usize
+    requires runs { AreTickRuns V.least runs.now.items }
+    requires within { begin ≤ length runs.now.items }
+    requires front { EndBefore (take begin runs.now.items) first }
+    ensures within { result ≤ length runs.now.items }
+    ensures front { BeginBy (take result runs.now.items) tick }
+    ensures ahead { BeginAfter (drop result runs.now.items) tick }
+{
+    if begin == runs.len() || tick < first {
+        return begun_by(runs, tick);
+    }
+    let run = runs.get(begin);
+    if tick > run.last {
+        return begun_by(runs, tick);
+    }
+    begun_at(runs, begin, tick)
 }
 
 /// Joins a run that begins past the runs before a place to the last of them, where they form one run: answers where the
@@ -649,7 +683,7 @@ pub fn count_in<V: Lattice>(runs: &Gap<Run<V>>, first: u64, last: u64) -> usize
         return 0;
     }
     let begin = seek(runs, first);
-    let end = begun_by(runs, last);
+    let end = begun_from(runs, begin, first, last);
     end.saturating_sub(begin)
 }
 

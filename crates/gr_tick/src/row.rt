@@ -9,6 +9,9 @@ use std::mem;
 /// How many values a row has room for when it gets its second one.
 const FIRST_ROOM: usize = 4;
 
+/// From how many values on a row that is full gets no more than twice the room.
+const MANY: usize = 32;
+
 /// Where the values of a row stand.
 #[derive(Drop)]
 enum Values<T> {
@@ -80,8 +83,11 @@ impl<T: Drop> Row<T> {
             }
             Values::Alone(_) => put_second(&mut self.values, alloc, value),
             Values::Many(values) => {
-                values.push(value)?;
-                Ok(())
+                if values.len() < values.capacity() {
+                    values.push_reserved(value);
+                    return Ok(());
+                }
+                push_growing(values, value)
             }
         }
     }
@@ -97,6 +103,22 @@ impl<T: Drop> Row<T> {
             Values::Many(values) => values[i] = value,
         }
     }
+}
+
+/// Puts a value behind those that have no room for it. They get four times the room where they are few, so that they are
+/// seldom moved, and else twice the room, of which less may stay unused. It fails only where memory is refused; then they
+/// are as they were.
+#[cold]
+#[inline(never)]
+fn push_growing<T: Drop>(values: &mut Vec<T>, value: T) -> Result<(), AllocError>
+    ensures ok { OnOk result (values.new.items ≡ values.old.items ++ value ∷ []) }
+    ensures err { OnErr result (values.new.items ≡ values.old.items) }
+{
+    let len = values.len();
+    let more = if len < MANY { 3 * len } else { len };
+    values.reserve(more.max(1))?;
+    values.push_reserved(value);
+    Ok(())
 }
 
 /// Puts a second value behind the one that stands alone. It fails only where memory is refused; then all is as it was.

@@ -10,4 +10,4 @@ returns-then-is_past g c = omega (arith, none_ended c.args.first c.args.last c.a
 pub returns : goal.returns
 returns g c =
     c.saturating_sub.ensures
-    ∙ counted g.V.Lattice.least c.args.runs.now.items c.seek-begin.result c.begun_by-end.result c.args.first c.args.last c.requires c.seek-begin.ensures.within c.begun_by-end.ensures.within c.seek-begin.ensures.front c.seek-begin.ensures.here c.begun_by-end.ensures.front c.begun_by-end.ensures.ahead
+    ∙ counted g.V.Lattice.least c.args.runs.now.items c.seek-begin.result c.begun_from-end.result c.args.first c.args.last c.requires c.seek-begin.ensures.within c.begun_from-end.ensures.within c.seek-begin.ensures.front c.seek-begin.ensures.here c.begun_from-end.ensures.front c.begun_from-end.ensures.ahead
