@@ -5,3 +5,4 @@ pub mod DataBelow
 pub mod Lowering
 pub mod Walks
 pub mod Counting
+pub mod Held

@@ -1,7 +1,8 @@
 //! How many ticks have an event.
 //! Each edit below answers how many have one after it, and looks at no run that it does not touch.
-ghost use Rattle.std.specs.Prelude.{if◌then◌else◌, ◌≡◌, ℕ, suc, ◌-◌, ◌+◌, ◌<◌, ◌≤◌, length, IsTrue};
+ghost use Rattle.std.specs.Prelude.{if◌then◌else◌, ◌≡◌, ℕ, suc, ◌-◌, ◌+◌, ◌<◌, ◌≤◌, true, length, IsTrue};
 ghost use Rattle.gr_tick.specs.declared.TheConstants.{MAX_TICK};
+ghost use Rattle.gr_tick.specs.Runs.{is_in};
 ghost use Rattle.gr_tick.specs.Stored.{within, IsRun, RunsGive, needed, is_told};
 ghost use Rattle.gr_know.specs.Values.{known_at, is_D, join_K};
 ghost use Rattle.gr_know.specs.Forget.{data_count};
@@ -9,7 +10,7 @@ ghost use Rattle.gr_know.specs.Events.{events_from, events_at, events_shared, Is
 ghost use Rattle.gr_know.specs.declared.values.K.TheVariants.{Q, F};
 
 use crate::values::K;
-use gr_tick::{Piece, Run, Stream};
+use gr_tick::{Lattice, Piece, Run, Stream};
 
 /// Whether a run has an event.
 pub(crate) fn is_data(run: &Run<K>) -> bool
@@ -107,6 +108,37 @@ fn join_past(stream: &mut Stream<K>, piece: &Piece<K>, events: u64) -> u64
     events + events_of(piece)
 }
 
+/// Whether each tick of a run is known already, so that a join with the run would change nothing.
+fn is_held(stream: &Stream<K>, run: &Run<K>) -> bool
+    ensures { IsTrue result → (t : ℕ) → is_in t run.now ≡ true
+        → join_K (known_at stream.now.runs t) run.now.value ≡ known_at stream.now.runs t }
+{
+    // Proof only: the runs are canonical.
+    let _ = stream.len();
+    let i = stream.seek(run.first);
+    if i == stream.len() {
+        return false;
+    }
+    let known = stream.run(i);
+    if run.first < known.first || known.last < run.last {
+        return false;
+    }
+    run.value.at_most(&known.value)
+}
+
+/// Whether a join with a piece would change nothing, as where it came before.
+fn is_known(stream: &Stream<K>, piece: &Piece<K>) -> bool
+    ensures { IsTrue result → (t : ℕ) → join_K (known_at stream.now.runs t) (known_at piece.now t)
+        ≡ known_at stream.now.runs t }
+{
+    for i in 0..piece.len() {
+        if !is_held(stream, piece.run(i)) {
+            return false;
+        }
+    }
+    true
+}
+
 /// Joins a piece, where the room for it is there.
 pub(crate) fn join_counted(stream: &mut Stream<K>, piece: &Piece<K>, events: u64) -> u64
     requires room { needed stream.old.runs piece.now ≤ stream.old.spare }
@@ -121,6 +153,9 @@ pub(crate) fn join_counted(stream: &mut Stream<K>, piece: &Piece<K>, events: u64
     // Proof only: the runs are canonical.
     let _ = stream.len();
     let _ = piece.len();
+    if is_known(stream, piece) {
+        return events;
+    }
     let before = events_at(stream, piece);
     stream.join_ready(piece);
     let after = events_at(stream, piece);
