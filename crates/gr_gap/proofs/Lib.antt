@@ -6,3 +6,4 @@ pub mod Rows
 pub mod RowEdits
 pub mod Changes
 pub mod Neighbours
+pub mod Ranks

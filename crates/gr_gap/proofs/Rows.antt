@@ -5,7 +5,7 @@ use Rattle.gr_gap.proofs.Changes.{read_is}
 use Rattle.gr_gap.specs.Blocks.{IsBlockOf, IsBlockFor, values_of, held, before, IsRow, Rearranged}
 
 -- a block is the last one, or there is another behind it
-last_or : (k n : ℕ) → k < n → (k + 1 < n) ⊎ (suc k ≡ n)
+pub last_or : (k n : ℕ) → k < n → (k + 1 < n) ⊎ (suc k ≡ n)
 last_or k zero lt = absurd (omega (arith, lt))
 last_or zero (suc zero) lt = inr refl
 last_or zero (suc (suc n)) lt = inl (omega arith)
@@ -75,7 +75,7 @@ module _ {X Z : Type 0} where
   block_is (suc k) n (s ∷ ss) (b ∷ bs) d h lt = block_is k (n + length b.items) ss bs d h.1.1.1 (omega (arith, lt))
 
   -- behind the last block in use there is no value
-  last_end : (k n : ℕ) (ss : List ℕ) (bs : List (VecDeque X Z)) → IsRow 512 n ss bs → suc k ≡ length ss →
+  pub last_end : (k n : ℕ) (ss : List ℕ) (bs : List (VecDeque X Z)) → IsRow 512 n ss bs → suc k ≡ length ss →
       length (values_of bs) ≡ before k bs + held k bs
   last_end k n [] bs h e = absurd (omega (arith, e))
   last_end k n (s ∷ ss) [] h e = absurd h

@@ -2,11 +2,13 @@
 // changes the starts of those behind it.
 ghost use Rattle.std.specs.Prelude.{◌≡◌, ◌+◌, ◌*◌, ◌^◌, ◌<◌, ◌≤◌, [], ◌++◌, length, insert, remove, slice_index_or};
 ghost use Rattle.std.specs.Prelude.{slice_set, OnOk, OnErr, min};
+ghost use Rattle.std.specs.List.Sorted.{IsNonDecreasingBy, IsPartitionPoint};
 ghost use Rattle.std_alloc.specs.VecDeque.{deque_capacity};
 ghost use Rattle.gr_gap.specs.declared.blocks.TheConstants.{BLOCK};
 
 use crate::moves::{close_empty, put, put_first, take_first};
 use crate::places::place_for;
+use crate::ranked::{Ranked, count_in};
 use crate::starts::{block_of, lower, raise};
 use std::alloc::{AllocError, Global};
 use std::cell::Cell;
@@ -184,5 +186,37 @@ impl<T> Blocks<T> {
             unreachable!()
         };
         self.insert(0, last);
+    }
+}
+
+impl<T: Ranked> Blocks<T> {
+    /// How many values have a rank below another, where ranks do not fall. Looked for by halves: first the block, then
+    /// the place in it.
+    pub(crate) fn count_below(&self, rank: u64) -> usize
+        requires { IsNonDecreasingBy T.rank_of self.now.items }
+        ensures within { result ≤ length self.now.items }
+        ensures point { IsPartitionPoint (λ v. T.rank_of v < rank) (λ v. rank ≤ T.rank_of v) self.now.items result }
+    {
+        // How many blocks begin below the rank. Each turn halves what is left.
+        let mut low = 0;
+        let mut high = self.starts.len();
+        while low < high {
+            let middle = low + (high - low) / 2;
+            let start = self.starts[middle];
+            let is_below = match self.blocks[middle].front() {
+                Some(first) => first.rank() < rank,
+                None => start < self.len && self.get(start).rank() < rank,
+            };
+            if is_below {
+                low = middle + 1;
+            } else {
+                high = middle;
+            }
+        }
+        if low == 0 {
+            return 0;
+        }
+        self.near.set(low - 1);
+        self.starts[low - 1] + count_in(&self.blocks[low - 1], rank)
     }
 }

@@ -1,11 +1,13 @@
 // A list in blocks: an edit moves values within one block.
 ghost use Rattle.std.specs.Prelude.{◌≡◌, ◌+◌, ◌*◌, ◌^◌, ◌<◌, ◌≤◌, [], length, insert, remove, slice_index_or};
 ghost use Rattle.std.specs.Prelude.{slice_set, OnOk, OnErr, IsOk, max};
+ghost use Rattle.std.specs.List.Sorted.{IsNonDecreasingBy, IsPartitionPoint};
 ghost use Rattle.gr_gap.specs.declared.blocks.TheConstants.{BLOCK};
 
 use crate::Memory;
 use crate::blocks::BLOCK;
 use crate::moves::put;
+use crate::ranked::{Ranked, count_in};
 use crate::rest::Rest;
 use std::alloc::{AllocError, Global};
 use std::cell::Cell;
@@ -225,6 +227,24 @@ impl<T> Gap<T> {
         add_blocks(&mut self.rest, room, alloc)?;
         self.room = room;
         Ok(())
+    }
+}
+
+impl<T: Ranked> Gap<T> {
+    /// How many values have a rank below another, where ranks do not fall: so the first of that rank or a higher one
+    /// stands at this place, if there is one. It looks at some value of as many blocks as it takes to halve their
+    /// number down to one, and then at as many values of one block.
+    pub fn count_below(&self, rank: u64) -> usize
+        requires { IsNonDecreasingBy T.rank_of self.now.items }
+        ensures within { result ≤ length self.now.items }
+        ensures point { IsPartitionPoint (λ v. T.rank_of v < rank) (λ v. rank ≤ T.rank_of v) self.now.items result }
+    {
+        if let Some(last) = self.head.back() {
+            if rank <= last.rank() {
+                return count_in(&self.head, rank);
+            }
+        }
+        self.head.len() + self.rest.count_below(rank)
     }
 }
 

@@ -8,11 +8,13 @@ mod loose;
 mod moves;
 mod owner;
 mod places;
+pub mod ranked;
 mod rest;
 pub mod shared;
 mod starts;
 
 pub use gap::Gap;
+pub use ranked::Ranked;
 pub use shared::Shared;
 
 /// What a call answers where memory is refused.

@@ -1,10 +1,12 @@
 // What comes behind the first block: nothing at all where one block holds all values, so that a short list is small.
 ghost use Rattle.std.specs.Prelude.{◌≡◌, ◌+◌, ◌*◌, ◌^◌, ◌<◌, ◌≤◌, [], ◌++◌, length, insert, remove, slice_index_or};
 ghost use Rattle.std.specs.Prelude.{slice_set, OnOk, OnErr, min};
+ghost use Rattle.std.specs.List.Sorted.{IsNonDecreasingBy, IsPartitionPoint};
 ghost use Rattle.std_alloc.specs.VecDeque.{deque_capacity};
 ghost use Rattle.gr_gap.specs.declared.blocks.TheConstants.{BLOCK};
 
 use crate::blocks::{BLOCK, Blocks};
+use crate::ranked::Ranked;
 use std::alloc::{AllocError, Global};
 use std::collections::VecDeque;
 use std::marker::Model;
@@ -151,6 +153,20 @@ impl<T> Rest<T> {
         match self.blocks.first_mut() {
             None => unreachable!(),
             Some(blocks) => blocks.relieve(head),
+        }
+    }
+}
+
+impl<T: Ranked> Rest<T> {
+    /// How many values have a rank below another, where ranks do not fall.
+    pub(crate) fn count_below(&self, rank: u64) -> usize
+        requires { IsNonDecreasingBy T.rank_of self.now.items }
+        ensures within { result ≤ length self.now.items }
+        ensures point { IsPartitionPoint (λ v. T.rank_of v < rank) (λ v. rank ≤ T.rank_of v) self.now.items result }
+    {
+        match self.blocks.first() {
+            None => 0,
+            Some(blocks) => blocks.count_below(rank),
         }
     }
 }

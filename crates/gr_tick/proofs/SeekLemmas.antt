@@ -1,8 +1,9 @@
 -- Where a tick is found in a list of runs, and how many runs a range has.
-use Rattle.std.proofs.Common.{◌≡◌, ℕ, ◌+◌, ◌-◌, ◌<◌, ◌≤◌, ◌⊎◌, inl, inr, Bool, true, false, cond, leb, List, [], ◌∷◌, ◌++◌, length, take, drop, get_or, slice_set, add-one, refl, sym, ap, ◌∙◌, subst, append_assoc, arith}
+use Rattle.std.proofs.Common.{◌≡◌, ℕ, zero, suc, ◌+◌, ◌-◌, ◌<◌, ◌≤◌, ◌⊎◌, inl, inr, Bool, true, false, cond, leb, List, [], ◌∷◌, ◌++◌, length, take, drop, get_or, slice_set, add-one, refl, sym, ap, ◌∙◌, subst, append_assoc, arith}
 use Rattle.std.proofs.lemmas.List.{take-append-drop, drop_all, drop-drop, length-take-le, length-drop}
 use lib.Seq.{set_split}
 use Rattle.std.specs.List.{remove}
+use Rattle.std.specs.List.Sorted.{IsNonDecreasingBy}
 use Rattle.std.proofs.Math.Seq.{take-add}
 use Rattle.std.proofs.lemmas.Bool.{cases_lt, leb-true, and_parts}
 use Rattle.std.proofs.lemmas.Bool.Decides.{nat_tests}
@@ -14,6 +15,27 @@ use Rattle.gr_tick.proofs.RunsLemmas.{value_at-append, value_at_past, value_at_a
 use Rattle.gr_tick.proofs.StepLemmas.{ahead_at, alone_at_end, take_at_read, gap_value, run_value, runs_in-append, runs_in-cons, rest_after_runs, rest_after_ahead, no_part, one_part}
 
 module _ {V : Type 0} where
+  -- the last ticks of runs rise
+  first_lowest : (least : V) (x : Run V) (xs : List (Run V)) (j : ℕ) (d : Run V) → AreTickRuns least (x ∷ xs) → j < length xs → x.last ≤ (get_or xs j d).last
+  first_lowest least x [] j d h lt = absurd (omega (arith, lt))
+  first_lowest least x (y ∷ ys) zero d h lt = omega (arith, h.1.later, h.2.0.ordered)
+  first_lowest least x (y ∷ ys) (suc j) d h lt = omega (arith, h.1.later, h.2.0.ordered, first_lowest least y ys j d h.2 (omega (arith, lt)))
+
+  pub ends_rise : (least : V) (xs : List (Run V)) → AreTickRuns least xs → IsNonDecreasingBy (λ r. r.last) xs
+  ends_rise least [] h i j d le lt = absurd (omega (arith, lt))
+  ends_rise least (x ∷ xs) h zero zero d le lt = omega arith
+  ends_rise least (x ∷ xs) h zero (suc j) d le lt = first_lowest least x xs j d h (omega (arith, lt))
+  ends_rise least (x ∷ xs) h (suc i) zero d le lt = absurd (omega (arith, le))
+  ends_rise least (x ∷ xs) h (suc i) (suc j) d le lt = ends_rise least xs h.2 i j d (omega (arith, le)) (omega (arith, lt))
+
+  -- where each run up to a place ends before a tick
+  pub ended_upto : (xs : List (Run V)) (i t : ℕ) → i ≤ length xs → ((k : ℕ) (d : Run V) → 0 ≤ k → k < i → (get_or xs k d).last < t) → EndBefore (take i xs) t
+  ended_upto [] zero t le all = tt
+  ended_upto (x ∷ xs) zero t le all = tt
+  ended_upto [] (suc i) t le all = absurd (omega (arith, le))
+  ended_upto (x ∷ xs) (suc i) t le all =
+      (all 0 x (omega arith) (omega arith), ended_upto xs i t (omega (arith, le)) (λ k d from lt. all (suc k) d (omega arith) (omega (arith, lt))))
+
   -- where a run ends before a tick, so do those before it
   pub seek_low : (least : V) (xs : List (Run V)) (i t : ℕ) (r : Run V) → i < length xs → r ≡ get_or xs i r → AreTickRuns least xs → r.last < t → EndBefore (take (i + 1) xs) t
   seek_low least xs i t r lt e h rt =

@@ -97,58 +97,8 @@ fn bisect<V: Lattice>(runs: &Gap<Run<V>>, tick: u64, from: usize, upto: usize) -
     low
 }
 
-/// How many times as long as the one before each step of a search is that begins near what is looked for.
-const FARTHER: usize = 8;
-
-/// Where the runs that end at a tick or later begin, where the one at a place does. It is looked for from there on
-/// towards the first, each step longer than the one before: what is near is found at once.
-fn gallop<V: Lattice>(runs: &Gap<Run<V>>, tick: u64, last: usize) -> usize
-    requires runs { AreTickRuns V.least runs.now.items }
-    requires within { last ≤ length runs.now.items }
-    requires here { (r : Run V) (rs : List (Run V)) → drop last runs.now.items ≡ r ∷ rs → tick ≤ r.last }
-    ensures within { result ≤ length runs.now.items }
-    ensures front { EndBefore (take result runs.now.items) tick }
-    ensures here { (r : Run V) (rs : List (Run V)) → drop result runs.now.items ≡ r ∷ rs → tick ≤ r.last }
-{
-    let mut high = last;
-    let mut step = 1usize;
-    while step <= high {
-        let place = high - step;
-        let near = runs.get(place);
-        if near.last < tick {
-            return bisect(runs, tick, place + 1, high);
-        }
-        high = place;
-        step = step.saturating_mul(FARTHER);
-    }
-    bisect(runs, tick, 0, high)
-}
-
-/// Where the runs that end at a tick or later begin, where those before a place end before the tick and the one at
-/// another does not. It is looked for from the first place on, each step longer than the one before.
-fn climb<V: Lattice>(runs: &Gap<Run<V>>, tick: u64, from: usize, upto: usize) -> usize
-    requires runs { AreTickRuns V.least runs.now.items }
-    requires ordered { from ≤ upto }
-    requires within { upto ≤ length runs.now.items }
-    requires front { EndBefore (take from runs.now.items) tick }
-    requires here { (r : Run V) (rs : List (Run V)) → drop upto runs.now.items ≡ r ∷ rs → tick ≤ r.last }
-    ensures within { result ≤ length runs.now.items }
-    ensures front { EndBefore (take result runs.now.items) tick }
-    ensures here { (r : Run V) (rs : List (Run V)) → drop result runs.now.items ≡ r ∷ rs → tick ≤ r.last }
-{
-    let mut low = from;
-    let mut step = 1usize;
-    while step <= upto - low {
-        let place = low + (step - 1);
-        let near = runs.get(place);
-        if tick <= near.last {
-            return bisect(runs, tick, low, place);
-        }
-        low = place + 1;
-        step = step.saturating_mul(FARTHER);
-    }
-    bisect(runs, tick, low, upto)
-}
+/// How far from the last look or edit a tick is sought by itself, and not among all.
+const NEAR: usize = 8;
 
 /// Where the runs that end at a tick or later begin: the number of runs where none does. The run of the last look or
 /// edit and its neighbours are looked at first.
@@ -180,7 +130,8 @@ pub fn seek<V: Lattice>(runs: &Gap<Run<V>>, tick: u64) -> usize
     seek_before(runs, tick, place - 1)
 }
 
-/// The same where the runs before a place end before the tick. Inlined never, so that what is near is found without it.
+/// The same from a place on, before which all runs end before the tick. Inlined never, so that what is near is found
+/// without it.
 #[inline(never)]
 fn seek_behind<V: Lattice>(runs: &Gap<Run<V>>, tick: u64, from: usize) -> usize
     requires runs { AreTickRuns V.least runs.now.items }
@@ -203,7 +154,12 @@ fn seek_behind<V: Lattice>(runs: &Gap<Run<V>>, tick: u64, from: usize) -> usize
     if newest.last < tick {
         return count;
     }
-    let found = climb(runs, tick, from + 1, count - 1);
+    let upto = from.saturating_add(NEAR).min(count - 1);
+    let farther = runs.get(upto);
+    if farther.last < tick {
+        return seek_far(runs, tick);
+    }
+    let found = bisect(runs, tick, from + 1, upto);
     runs.note(found);
     found
 }
@@ -230,7 +186,24 @@ fn seek_before<V: Lattice>(runs: &Gap<Run<V>>, tick: u64, place: usize) -> usize
     if tick <= second.last {
         return 1;
     }
-    let found = gallop(runs, tick, place);
+    let from = place.saturating_sub(NEAR);
+    let farther = runs.get(from);
+    if tick <= farther.last {
+        return seek_far(runs, tick);
+    }
+    let found = bisect(runs, tick, from + 1, place);
+    runs.note(found);
+    found
+}
+
+/// The same among all runs, since the last of a run rises from run to run. What is found is noted.
+fn seek_far<V: Lattice>(runs: &Gap<Run<V>>, tick: u64) -> usize
+    requires { AreTickRuns V.least runs.now.items }
+    ensures within { result ≤ length runs.now.items }
+    ensures front { EndBefore (take result runs.now.items) tick }
+    ensures here { (r : Run V) (rs : List (Run V)) → drop result runs.now.items ≡ r ∷ rs → tick ≤ r.last }
+{
+    let found = runs.count_below(tick);
     runs.note(found);
     found
 }

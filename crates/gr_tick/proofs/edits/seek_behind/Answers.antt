@@ -10,6 +10,6 @@ returns-then-newest-tick-clause-front g c =
     subst (λ k. EndBefore (take k c.args.runs.now.items) c.args.tick) all
     (seek_low g.V.Lattice.least c.args.runs.now.items (c.len-count.result - 1) c.args.tick c.get-newest.result.now (omega arith) c.get-newest.ensures c.requires.runs c.if-newest-tick.true)
 
-pub climb-found-requires-clause-front : goal.climb-found-requires-clause-front
-climb-found-requires-clause-front g c =
+pub bisect-found-requires-clause-front : goal.bisect-found-requires-clause-front
+bisect-found-requires-clause-front g c =
     seek_low g.V.Lattice.least c.args.runs.now.items c.args.from c.args.tick c.get-next.result.now (omega arith) c.get-next.ensures c.requires.runs (omega arith)
