@@ -20,16 +20,17 @@ use Rattle.gr_topo.specs.Topology.{TopologyView}
 use Rattle.gr_model.specs.Net.{Net, is_host, keeps_horizon, pass, not_empty}
 use Rattle.gr_model.specs.NetOf.{net_of, filters_below}
 use Rattle.gr_model.specs.Broker.{View, Log, all_A, max_tick, is_consolidated_by, consolidated, finished, is_F, open_asks, kept_view, kept_view_below, due, noted, acknowledged, answer, answers, curious, stored, curiosity, know_frames, up_frames}
-use Rattle.gr_broker.specs.Answers.{left_at, said_by, left_by, reply_to}
+use Rattle.gr_walks.specs.Told.{left_at, said_by, left_by}
+use Rattle.gr_broker.specs.Answers.{reply_to}
 use Rattle.gr_tick.proofs.RunLaws.{AreRunsOf, zip_runs-is}
 use Rattle.gr_tick.proofs.Canonical.{given_runs, given_zip, value_at-outside}
 use Rattle.gr_know.proofs.ValueLaws.{K_decides}
 use Rattle.gr_curio.proofs.ValueLaws.{moment_decides}
 use Rattle.gr_model.proofs.NetWords.{pass_of}
-use Rattle.gr_theorems.proofs.calls.Pieces.{consolidated-is}
-use Rattle.gr_theorems.proofs.calls.CallTruth.{finished-is}
-use Rattle.gr_theorems.proofs.asks.CallTicks.{due-at, noted-at}
-use Rattle.gr_theorems.proofs.rules.Answering.{acknowledged-is, answers-is, stored-is, curiosity_wanted}
+use Rattle.gr_invariants.proofs.calls.Pieces.{consolidated-is}
+use Rattle.gr_invariants.proofs.calls.CallTruth.{finished-is}
+use Rattle.gr_invariants.proofs.asks.CallTicks.{due-at, noted-at}
+use Rattle.gr_invariants.proofs.rules.Answering.{acknowledged-is, answers-is, stored-is, curiosity_wanted}
 use Rattle.gr_broker.proofs.LearnedTicks.{told_by_value}
 use Rattle.gr_broker.proofs.Learned.{is_F-only}
 use Rattle.gr_broker.proofs.AnsweredTicks.{silent_passed, answer_passes, silent_answer, stored_value, stored_A, left_A, left_C, asked_on, swapped, reached_A, finished_value, and_known, due_C, open_value, reaches}

@@ -17,7 +17,7 @@ use Rattle.gr_curio.specs.Due.{due_of, noted_of}
 use Rattle.gr_edge.specs.Pass as edge
 use Rattle.gr_model.specs.Net.{Net, pass, wanted_below}
 use Rattle.gr_model.specs.Broker.{max_tick, horizon_if, is_reached, is_F, answer, curious}
-use Rattle.gr_broker.specs.Answers.{said_at, left_at}
+use Rattle.gr_walks.specs.Told.{said_at, left_at}
 
 -- what passes is nothing exactly where nothing comes
 pub silent_passed : (net : Net) (p c t : ℕ) (k : K) → is_Q (pass net p c t k) ≡ is_Q k

@@ -23,9 +23,9 @@ use Rattle.gr_curio.specs.Due.{due_of, noted_of}
 use Rattle.gr_curio.proofs.ValueLaws.{Q3_decides, moment_decides}
 use Rattle.gr_model.specs.Net.{Net, is_host, keeps_horizon, not_empty}
 use Rattle.gr_model.specs.Broker.{View, all_points, any_C, horizon_if, is_consolidated, consolidated, is_F, open_asks, kept_view, kept_view_below, forgotten, max_tick, due, noted, upward, wanted_at_wake, covers}
-use Rattle.gr_theorems.proofs.calls.Pieces.{le_step, consolidated-is}
-use Rattle.gr_theorems.proofs.calls.CallTruth.{IsWanted, due-at}
-use Rattle.gr_theorems.proofs.asks.CallTicks.{wake_points}
+use Rattle.gr_invariants.proofs.calls.Pieces.{le_step, consolidated-is}
+use Rattle.gr_invariants.proofs.calls.CallTruth.{IsWanted, due-at}
+use Rattle.gr_invariants.proofs.asks.CallTicks.{wake_points}
 
 -- Where what is wanted may change
 

@@ -16,7 +16,7 @@ use Rattle.gr_curio.specs.Values.{Wanted, wanted_at, asked_at, is_C, is_A}
 use Rattle.gr_curio.specs.Due.{due_of}
 use Rattle.gr_model.specs.Net.{Net, keeps_horizon, not_empty, is_empty}
 use Rattle.gr_model.specs.Broker.{View, Log, Outcome as MachineOutcome, all_points, any_C, horizon_if, is_consolidated, consolidated, upward, up_frames, noted, kept_view, asking, wake_below, wanted_at_wake, expect, expect_frame, expect_frames, covers}
-use Rattle.gr_theorems.proofs.asks.CallTicks.{wake_points}
+use Rattle.gr_invariants.proofs.asks.CallTicks.{wake_points}
 use Rattle.gr_broker.specs.declared.outcome.Outcome.{Outcome}
 use Rattle.gr_broker.specs.Told.{Tells, AddsFrames}
 use Rattle.gr_broker.proofs.Sent.{adds_none}

@@ -19,14 +19,14 @@ use Rattle.gr_topo.specs.Topology.{children_of}
 use Rattle.gr_model.specs.Net.{Net}
 use Rattle.gr_model.specs.NetOf.{net_of, filters_below}
 use Rattle.gr_model.specs.Broker.{new_ticks, passed, forward, know_frames, forward_wants}
-use Rattle.gr_theorems.proofs.calls.Passed.{passed-is}
+use Rattle.gr_invariants.proofs.calls.Passed.{passed-is}
 use Rattle.gr_broker.specs.declared.place.Child.{Child}
 use Rattle.gr_broker.specs.declared.site.Site.{Site}
 use Rattle.gr_broker.specs.Held.{IsSite}
 use Rattle.gr_broker.specs.Changes.{AreTaken}
 use Rattle.gr_broker.specs.Told.{AddsFrames}
 use Rattle.gr_broker.proofs.Sited.{child_number, child_has_edge, child_edge}
-use Rattle.gr_broker.proofs.Untouched.{sent_whole}
+use Rattle.gr_walks.proofs.Untouched.{sent_whole}
 use Rattle.gr_broker.proofs.Learned.{sent_is, quenched_is, quenched_stays, forward_wants-length, forward_wants-at}
 
 -- The edge to a child, which is read by its place, has the filters behind it

@@ -11,7 +11,7 @@ use Rattle.gr_tick.proofs.RunLaws.{runs_equal}
 use Rattle.gr_frame.specs.declared.Frame.{Frame}
 use Rattle.gr_frame.specs.Bytes.{cut_frames}
 use Rattle.gr_pubend.proofs.Knowing.{log_know-is}
-use Rattle.gr_theorems.proofs.calls.CallTruth.{new_ticks-is, forward-is}
+use Rattle.gr_invariants.proofs.calls.CallTruth.{new_ticks-is, forward-is}
 use Rattle.gr_curio.specs.Values.{Wanted, Asked, wanted_at, is_A}
 use Rattle.gr_know.specs.Values.{Known, known_at, is_Q}
 use Rattle.gr_know.specs.declared.values.K.TheVariants.{Q}

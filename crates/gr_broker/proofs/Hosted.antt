@@ -34,7 +34,7 @@ use Rattle.gr_broker.specs.declared.outcome.Outcome.{Outcome as Told}
 use Rattle.gr_broker.specs.Told.{Tells, Adds}
 use Rattle.gr_broker.specs.Hosted.{cut_logs}
 use Rattle.gr_broker.specs.Host.{tick_marked, tick_cut, mark_lines, cut_lines, expected_frames}
-use Rattle.gr_theorems.proofs.calls.Pieces.{consolidated-is}
+use Rattle.gr_invariants.proofs.calls.Pieces.{consolidated-is}
 
 -- The log with one record more
 

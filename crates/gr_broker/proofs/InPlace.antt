@@ -17,8 +17,9 @@ use Rattle.gr_model.specs.Net.{Net, is_host, keeps_horizon, not_empty}
 use Rattle.gr_model.specs.Broker.{View, Log, max_tick, consolidated, finished, is_F, open_asks, forgotten, kept_view, noted, acknowledged, stored, curiosity}
 use Rattle.gr_broker.specs.declared.answering.Answers.{Answers}
 use Rattle.gr_broker.specs.Of.{IsKept}
-use Rattle.gr_broker.specs.Answers.{said_by, reply_to, AreAnswers}
-use Rattle.gr_theorems.proofs.asks.CallTicks.{noted-at}
+use Rattle.gr_walks.specs.Told.{said_by}
+use Rattle.gr_broker.specs.Answers.{reply_to, AreAnswers}
+use Rattle.gr_invariants.proofs.asks.CallTicks.{noted-at}
 use Rattle.gr_broker.proofs.Answered.{reply_silent, stored_is, not_empty_set, finished_is, asked_unknown, asks_is, final_by, dropped_by, kept_host, kept_below, asked_by, answered_by, asked_are, none_noted}
 
 set_again : (ws : List Wanted) (i : ℕ) (x y : Wanted) → set (set ws i x) i y ≡ set ws i y

@@ -31,9 +31,9 @@ use Rattle.gr_model.specs.Net.{Net, keeps_horizon, is_host, not_empty}
 use Rattle.gr_model.specs.NetOf.{net_of, filters_below}
 use Rattle.gr_model.specs.Broker.{View, Log, is_F, is_consolidated_by, consolidated, finished, forgotten, open_asks, max_tick, horizon_after, new_ticks, passed, forward, still_wanted, know_frames, forward_frames, forward_wants, kept_view, kept_view_below, learn}
 use Rattle.gr_model.proofs.NetWords.{pass_of}
-use Rattle.gr_theorems.proofs.calls.Passed.{passed-is}
-use Rattle.gr_theorems.proofs.calls.Pieces.{consolidated-is}
-use Rattle.gr_theorems.proofs.calls.Calls.{trimmed_host}
+use Rattle.gr_invariants.proofs.calls.Passed.{passed-is}
+use Rattle.gr_invariants.proofs.calls.Pieces.{consolidated-is}
+use Rattle.gr_invariants.proofs.calls.Calls.{trimmed_host}
 use Rattle.gr_broker.proofs.LearnedTicks.{told_by_value, EndBefore-values, quench_value, consolidates_more, consolidates_same, finish_value}
 
 -- What is known

@@ -1,11 +1,9 @@
 pub mod LearnedTicks
 pub mod Learned
-pub mod Walked
 pub mod Marked
 pub mod Handing
 pub mod Forwarding
 pub mod Reaching
-pub mod Untouched
 pub mod Planned
 pub mod Whole
 pub mod Applied

@@ -13,7 +13,7 @@ use Rattle.gr_broker.specs.declared.place.Position.{Position}
 use Rattle.gr_broker.specs.Seen.{Branch}
 use Rattle.gr_broker.specs.Held.{seen_branch, HasEdges}
 use Rattle.gr_broker.specs.Positions.{Keeps}
-use Rattle.gr_theorems.proofs.runs.Schedules.{get_numbers, length_numbers}
+use Rattle.gr_invariants.proofs.runs.Schedules.{get_numbers, length_numbers}
 
 -- one more of which it holds
 pub all_push : {X : Type 0} (P : X → Type 0) (xs : List X) (x : X) → AllByRecursion P xs → P x → AllByRecursion P (xs ++ x ∷ [])

@@ -9,7 +9,7 @@ use Rattle.gr_broker.specs.declared.place.Position.{Position}
 use Rattle.gr_broker.specs.Seen.{Branch}
 use Rattle.gr_broker.specs.Of.{branch_of}
 use Rattle.gr_broker.specs.Held.{seen_branch, HasEdges}
-use Rattle.gr_theorems.proofs.runs.Schedules.{get_numbers, length_numbers}
+use Rattle.gr_invariants.proofs.runs.Schedules.{get_numbers, length_numbers}
 
 -- where a broker stands nowhere
 blank_branch : Branch

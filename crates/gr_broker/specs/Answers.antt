@@ -10,26 +10,11 @@ use Rattle.gr_curio.specs.declared.values.Q3.TheVariants.{N, C, A}
 use Rattle.gr_curio.specs.Values.{Wanted, wanted_at, asked_at, is_C, is_A}
 use Rattle.gr_curio.specs.Due.{due_of}
 use Rattle.gr_curio.specs.Wants.{runs_of, wants_of, spare_of, all_A_but}
+use Rattle.gr_walks.specs.Told.{left_by}
 use Rattle.gr_model.specs.Net.{Net, is_host, keeps_horizon}
 use Rattle.gr_model.specs.Broker.{View, max_tick, acknowledged, answers}
 use Rattle.gr_broker.specs.declared.held.Held.{Held}
 use Rattle.gr_broker.specs.declared.answering.Answers.{Answers}
-
--- what a child that asks a tick is told before the edge, by what is known and what it has acknowledged
-abbrev pub said_at : K → Q3 → Q3 → K
-said_at known curious asked = if is_C asked then (if is_A curious then F else known) else Q
-
--- what is left of what it asks and acknowledges: where it asks and nothing is told, it goes on asking
-abbrev pub left_at : Q3 → Bool → Q3
-left_at asked untold = if is_A asked then A else (if is_C asked && untold then C else N)
-
--- the same at each tick, of what is known, what the child has acknowledged and what it asks; of what it asks and is
--- told
-abbrev pub said_by : Known → Wanted → Wanted → ℕ → K
-said_by know curious asked t = said_at (known_at know t) (wanted_at curious t) (wanted_at asked t)
-
-abbrev pub left_by : Wanted → Known → ℕ → Q3
-left_by asked reply t = left_at (wanted_at asked t) (is_Q (known_at reply t))
 
 -- the last tick that may be consolidated: the horizon, where one is kept
 abbrev pub last_completed : Net → ℕ → ℕ → ℕ → ℕ

@@ -22,12 +22,12 @@ use crate::learning::{drop_each, finish_each, forget_below};
 use crate::outcome::{Memory, Outcome};
 use crate::sending::{send_down, send_up};
 use crate::site::Site;
-use crate::walks::{left_of, quenched, said_of};
 use gr_curio::{Q3, Wants};
 use gr_edge::Edge;
 use gr_know::K;
 use gr_sent::Sent;
 use gr_tick::{MAX_TICK, Piece};
+use gr_walks::{left_of, quenched, said_of};
 use std::alloc::AllocError;
 
 /// What a child's curiosity changes.

@@ -27,11 +27,11 @@ use crate::learning::forget_below;
 use crate::outcome::{Memory, Outcome};
 use crate::sending::send_up;
 use crate::site::Site;
-use crate::wanted::{unknown_of, wanted_on, whole_of};
 use gr_curio::{Q3, Wants};
 use gr_frame::{Body, Frame, Head};
 use gr_sent::Sent;
 use gr_tick::{Piece, Stream};
+use gr_walks::{unknown_of, wanted_on, whole_of};
 use std::alloc::{AllocError, Global};
 
 /// The tick up to which a wake at the moment `now` wants all above the horizon: what is idle, and what is a gap's time

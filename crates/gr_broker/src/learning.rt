@@ -33,7 +33,6 @@ use crate::held::Held;
 use crate::outcome::{Memory, Outcome};
 use crate::sending::send_down;
 use crate::site::Site;
-use crate::walks::{is_untouched, quenched, unacknowledged};
 use gr_curio::{Asks, Q3, Wants};
 use gr_edge::Edge;
 use gr_event::Event;
@@ -43,6 +42,7 @@ use gr_model::{Report, Reports};
 use gr_sent::Sent;
 use gr_subend::{Delivery, Subend};
 use gr_tick::{MAX_TICK, Piece, Run};
+use gr_walks::{is_acknowledged, is_untouched, quenched, unacknowledged};
 use std::alloc::{AllocError, Global};
 
 /// What learning a piece changes besides what is known.
@@ -528,13 +528,6 @@ fn finish_run(know: &mut Know, run: &Run<Q3>)
     if is_acknowledged(run.value) {
         know.finish_ready(run.first, run.last);
     }
-}
-
-/// Whether a value is that of an acknowledged tick.
-pub(crate) fn is_acknowledged(value: Q3) -> bool
-    ensures { result ≡ is_A value }
-{
-    matches!(value, Q3::A)
 }
 
 /// Whether a value is that of a final tick.

@@ -21,8 +21,6 @@ mod sending;
 mod site;
 mod starting;
 mod waking;
-mod walks;
-mod wanted;
 
 pub use broker::{Broker, Started};
 pub use law::{clashes_have_a_least_tick, frames_pass_the_log, nothing_new_sends_nothing};

@@ -14,8 +14,8 @@ use Rattle.gr_model.specs.Tree.{IsNet}
 use Rattle.gr_model.specs.NetOf.{net_of, IsOrderly}
 use Rattle.gr_model.specs.Broker.{Outcome as MachineOutcome}
 use Rattle.gr_model.specs.Text.{IsNamed}
-use Rattle.gr_theorems.specs.Edges.{GoesOverEdge}
-use Rattle.gr_theorems.proofs.topology.Strays.{publish_on, wake_on}
+use Rattle.gr_invariants.specs.Edges.{GoesOverEdge}
+use Rattle.gr_invariants.proofs.topology.Strays.{publish_on, wake_on}
 use Rattle.gr_broker.specs.declared.outcome.Outcome.{Outcome}
 use Rattle.gr_broker.specs.declared.outcome.BrokerFault.{BrokerFault}
 use Rattle.gr_broker.specs.declared.outcome.BrokerFault.TheVariants as refused

@@ -24,7 +24,7 @@ use Rattle.gr_model.specs.NetOf.{net_of}
 use Rattle.gr_model.specs.Broker.{View, Log, Outcome as MachineOutcome, empty_log, max_tick, publish, marking, wake, wake_host, wake_below, receive}
 use Rattle.gr_model.specs.World.{World, Transition, view_of, log_of, absorbed, unchanged, in_turn, frames_past, wake_for, wake_for_by, publish_now, publish_now_by, deliver_frame, deliver_frame_by}
 use Rattle.gr_model.specs.Arrivals.{Arrival, at_moment, fault_number, fits_broker, least_clash, clash_line, takes, takes_by, receives, receives_by, is_hosted, show_hosted}
-use Rattle.gr_theorems.proofs.rules.Serves.{frames_past_all}
+use Rattle.gr_invariants.proofs.rules.Serves.{frames_past_all}
 use Rattle.gr_theorems.proofs.server.CutEvents.{on_log}
 use Rattle.gr_broker.specs.Seen.{BrokerView, view_in, log_in, log_said, machine_log, with_view, with_logged}
 use Rattle.gr_broker.specs.Hosted.{publish_at, publish_logs_at, after_publish, wake_at, mark_logs_at, cut_logs, cut_logs_at, after_wake, logged}

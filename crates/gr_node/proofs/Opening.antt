@@ -21,7 +21,7 @@ use Rattle.gr_model.specs.Broker.{View, Log, Outcome as MachineOutcome, empty_lo
 use Rattle.gr_model.specs.World.{World, Transition, blank_view, view_of, log_of, sent_lines, absorbed, unchanged, followed_by, in_turn}
 use Rattle.gr_model.specs.Opening.{reopened_log, over_logs, reopened_line, opened_for, opened_for_by}
 use Rattle.gr_theorems.specs.Lanes.{AllFollow, whole_logs}
-use Rattle.gr_theorems.proofs.runs.Schedules.{get_numbers, length_numbers}
+use Rattle.gr_invariants.proofs.runs.Schedules.{get_numbers, length_numbers}
 use Rattle.gr_theorems.proofs.server.Opening.{over_view}
 use Rattle.gr_broker.specs.Seen.{BrokerView, view_in, log_in, machine_log}
 use Rattle.gr_broker.specs.Opened.{opened_at}

@@ -28,9 +28,9 @@ use Rattle.gr_model.specs.Tree.{IsNet}
 use Rattle.gr_model.specs.Text.{IsNamed}
 use Rattle.gr_model.specs.Arrivals.{fits_broker, least_clash}
 use Rattle.gr_model.specs.Broker.{View, empty_log, receive}
-use Rattle.gr_theorems.specs.Edges.{GoesOverEdge}
-use Rattle.gr_theorems.specs.Fits.{BodyFits}
-use Rattle.gr_theorems.proofs.topology.Strays.{receive_on}
+use Rattle.gr_invariants.specs.Edges.{GoesOverEdge}
+use Rattle.gr_invariants.specs.Fits.{BodyFits}
+use Rattle.gr_invariants.proofs.topology.Strays.{receive_on}
 use Rattle.gr_broker.specs.declared.outcome.Outcome.{Outcome}
 use Rattle.gr_broker.specs.declared.outcome.Received.{Received}
 use Rattle.gr_broker.specs.declared.outcome.Received.TheVariants as answer

@@ -12,8 +12,8 @@ use Rattle.gr_model.specs.Net.{keeps_horizon, numbers}
 use Rattle.gr_model.specs.NetOf.{net_of}
 use Rattle.gr_model.specs.Text.{IsNamed}
 use Rattle.gr_model.specs.Arrivals.{is_hosted}
-use Rattle.gr_theorems.proofs.asks.AskMoments.{Each-on}
-use Rattle.gr_theorems.proofs.runs.Worlds.{Each, numbers_below}
+use Rattle.gr_invariants.proofs.asks.AskMoments.{Each-on}
+use Rattle.gr_invariants.proofs.runs.Worlds.{Each, numbers_below}
 use Rattle.gr_broker.specs.Seen.{BrokerView, view_in, log_in}
 use Rattle.gr_run.specs.Named.{AllNamed}
 use Rattle.gr_run.proofs.Named.{each_of, all_of}

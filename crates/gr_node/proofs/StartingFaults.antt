@@ -10,7 +10,7 @@ use Rattle.gr_model.specs.declared.report.Report.{Report}
 use Rattle.gr_model.specs.Net.{numbers}
 use Rattle.gr_model.specs.NetOf.{net_of, IsOrderly}
 use Rattle.gr_model.specs.Text.{IsNamed}
-use Rattle.gr_theorems.proofs.runs.Worlds.{Each, numbers_below}
+use Rattle.gr_invariants.proofs.runs.Worlds.{Each, numbers_below}
 use Rattle.gr_broker.specs.declared.outcome.BrokerFault.{BrokerFault}
 use Rattle.gr_broker.specs.declared.outcome.BrokerFault.TheVariants as refused
 use Rattle.gr_broker.specs.Seen.{BrokerView, machine_log}

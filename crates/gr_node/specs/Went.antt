@@ -14,7 +14,7 @@ use Rattle.gr_publog.specs.Crash.{EitherRose}
 use Rattle.gr_topo.specs.Topology.{TopologyView}
 use Rattle.gr_model.specs.NetOf.{net_of}
 use Rattle.gr_model.specs.World.{sent_lines}
-use Rattle.gr_theorems.specs.Edges.{GoesOverEdge}
+use Rattle.gr_invariants.specs.Edges.{GoesOverEdge}
 use Rattle.gr_broker.specs.declared.outcome.Outcome.{Outcome}
 use Rattle.gr_run.specs.Named.{AllNamed}
 use Rattle.gr_node.specs.Seen.{NodeView, text_of}

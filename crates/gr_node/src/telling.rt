@@ -10,7 +10,7 @@ ghost use Rattle.gr_out.specs.Page.{TakesBut, TakesFront};
 ghost use Rattle.gr_model.specs.NetOf.{net_of};
 ghost use Rattle.gr_model.specs.Text.{labels_of, whole_line};
 ghost use Rattle.gr_model.specs.World.{sent_line, sent_lines};
-ghost use Rattle.gr_theorems.specs.Edges.{GoesOverEdge};
+ghost use Rattle.gr_invariants.specs.Edges.{GoesOverEdge};
 ghost use Rattle.gr_run.specs.Named.{AllNamed, IsPutFault};
 ghost use Rattle.gr_sent.specs.Said.{frame_said};
 ghost use Rattle.gr_node.specs.Seen.{text_of};

@@ -8,7 +8,7 @@ use Rattle.gr_model.specs.declared.report.Report.{Report}
 use Rattle.gr_model.specs.Net.{numbers}
 use Rattle.gr_model.specs.NetOf.{net_of, IsOrderly}
 use Rattle.gr_model.specs.Text.{IsNamed}
-use Rattle.gr_theorems.proofs.runs.Worlds.{Each, numbers_below}
+use Rattle.gr_invariants.proofs.runs.Worlds.{Each, numbers_below}
 use Rattle.gr_broker.specs.Seen.{machine_log}
 use Rattle.gr_broker.specs.Opened.{opened_at, IsDamagedAt}
 use Rattle.gr_run.specs.Named.{AllNamed}

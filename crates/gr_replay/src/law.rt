@@ -6,7 +6,7 @@ ghost use Rattle.gr_topo.specs.Topology.{TopologyView};
 ghost use Rattle.gr_model.specs.NetOf.{net_of, IsOrderly};
 ghost use Rattle.gr_model.specs.Tree.{IsNet};
 ghost use Rattle.gr_model.specs.World.{World, next};
-ghost use Rattle.gr_theorems.specs.Edges.{GoesOverEdge};
+ghost use Rattle.gr_invariants.specs.Edges.{GoesOverEdge};
 ghost use Rattle.gr_scenario.specs.Steps.{IsStepOf};
 ghost use Rattle.gr_run.specs.Named.{AllNamed};
 

@@ -13,9 +13,9 @@ use Rattle.gr_model.specs.NetOf.{net_of, IsOrderly}
 use Rattle.gr_model.specs.Tree.{IsNet}
 use Rattle.gr_model.specs.World.{World, sent_line, next}
 use Rattle.gr_model.specs.Text.{IsNamed}
-use Rattle.gr_theorems.specs.Edges.{GoesOverEdge}
-use Rattle.gr_theorems.specs.Fits.{StepIn}
-use Rattle.gr_theorems.proofs.runs.Worlds.{Each}
+use Rattle.gr_invariants.specs.Edges.{GoesOverEdge}
+use Rattle.gr_invariants.specs.Fits.{StepIn}
+use Rattle.gr_invariants.proofs.runs.Worlds.{Each}
 use Rattle.gr_scenario.specs.Steps.{IsStepOf}
 use Rattle.gr_run.specs.Named.{AllNamed}
 use Rattle.gr_run.proofs.Names.{Names, step_names}

@@ -21,13 +21,13 @@ use Rattle.gr_model.specs.NetOf.{IsOrderly}
 use Rattle.gr_model.specs.Tree.{IsNet}
 use Rattle.gr_model.specs.Broker.{View, Log, Outcome, empty_log, is_kept, delivery_lines, got_line, learn, publish, marking, cutting, wake, wake_host, wake_below, asking, curiosity, expect, receive, clashes, place_of, with_event, max_tick}
 use Rattle.gr_model.specs.World.{World, Transition, view_of, log_of, absorbed, unchanged, followed_by, in_turn, sent_line, sent_lines, wake_for, wake_all, deliver_frame, frame_at, publish_now, restarted, crash, publish_stopped, deliver_up, wake_up, hand_down, sweep_for, sweep, sweep_moment, next, show, opened_lines, kept_events, frames_past, sent_since, is_want, is_know_to, outwards, inwards, numbers_down, deliver_frame_by, deliver_up_by, hand_down_by, next_by, publish_now_by, publish_stopped_by, sweep_by, sweep_for_by, wake_all_by, wake_for_by, wake_up_by}
-use Rattle.gr_theorems.specs.Edges.{GoesOverEdge}
-use Rattle.gr_theorems.specs.Fits.{StepIn}
-use Rattle.gr_theorems.proofs.asks.AskMoments.{Each-on}
-use Rattle.gr_theorems.proofs.calls.HostCases.{publish_cases, marking_cases}
-use Rattle.gr_theorems.proofs.runs.Closed.{Each-past, Each-kept, frame_at_ready}
-use Rattle.gr_theorems.proofs.runs.Worlds.{Each, numbers_below, depths_in}
-use Rattle.gr_theorems.proofs.topology.Strays.{AllOver, wake_on, receive_on, publish_on}
+use Rattle.gr_invariants.specs.Edges.{GoesOverEdge}
+use Rattle.gr_invariants.specs.Fits.{StepIn}
+use Rattle.gr_invariants.proofs.asks.AskMoments.{Each-on}
+use Rattle.gr_invariants.proofs.calls.HostCases.{publish_cases, marking_cases}
+use Rattle.gr_invariants.proofs.runs.Closed.{Each-past, Each-kept, frame_at_ready}
+use Rattle.gr_invariants.proofs.runs.Worlds.{Each, numbers_below, depths_in}
+use Rattle.gr_invariants.proofs.topology.Strays.{AllOver, wake_on, receive_on, publish_on}
 use Rattle.gr_run.proofs.Passing.{over_edges, body_fits}
 
 -- a property of lines that holds of each that names publishers, subscribers and brokers of the tree

@@ -7,8 +7,8 @@ use Rattle.gr_model.specs.Net.{Net, is_host, not_empty}
 use Rattle.gr_model.specs.NetOf.{IsOrderly}
 use Rattle.gr_model.specs.Broker.{Log, View, Outcome, learn, started}
 use Rattle.gr_model.specs.Opening.{reopened_line}
-use Rattle.gr_theorems.proofs.asks.AskMoments.{Each-on}
-use Rattle.gr_theorems.proofs.runs.Worlds.{Each}
+use Rattle.gr_invariants.proofs.asks.AskMoments.{Each-on}
+use Rattle.gr_invariants.proofs.runs.Worlds.{Each}
 use Rattle.gr_broker.specs.Opened.{opened_at}
 use Rattle.gr_run.proofs.Names.{Names, learn_named}
 

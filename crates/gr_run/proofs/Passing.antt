@@ -13,9 +13,9 @@ use Rattle.gr_model.specs.Net.{Net, is_host}
 use Rattle.gr_model.specs.Tree.{IsNet}
 use Rattle.gr_model.specs.Arrivals.{fits_broker, clash_runs, first_of, least_clash}
 use Rattle.gr_model.specs.Broker.{View, Log, Outcome as MachineOutcome, empty_log, wake, wake_host, wake_below, asking, clashes, receive, learn, curiosity, expect, place_of}
-use Rattle.gr_theorems.specs.Edges.{GoesBetween, GoesOverEdge}
-use Rattle.gr_theorems.specs.Fits.{BodyFits}
-use Rattle.gr_theorems.proofs.topology.Strays.{SentOn}
+use Rattle.gr_invariants.specs.Edges.{GoesBetween, GoesOverEdge}
+use Rattle.gr_invariants.specs.Fits.{BodyFits}
+use Rattle.gr_invariants.proofs.topology.Strays.{SentOn}
 use Rattle.gr_theorems.proofs.server.CutEvents.{on_log}
 use Rattle.gr_broker.specs.declared.outcome.Outcome.{Outcome}
 use Rattle.gr_broker.specs.declared.outcome.BrokerFault.{BrokerFault}

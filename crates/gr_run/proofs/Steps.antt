@@ -7,7 +7,7 @@ use Rattle.gr_sched.specs.declared.step.Line.{Line}
 use Rattle.gr_sched.specs.Ranges.{IsInLimits}
 use Rattle.gr_topo.specs.Topology.{TopologyView}
 use Rattle.gr_model.specs.NetOf.{net_of}
-use Rattle.gr_theorems.specs.Fits.{StepsIn}
+use Rattle.gr_invariants.specs.Fits.{StepsIn}
 use Rattle.gr_theorems.specs.Spelled.{NumbersIn}
 use Rattle.gr_scenario.specs.Steps.{IsStepOf, AreStepsOf}
 use Rattle.gr_run.proofs.Named.{step_in}

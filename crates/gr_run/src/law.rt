@@ -4,7 +4,7 @@ ghost use Rattle.std.specs.Prelude.{List};
 ghost use Rattle.gr_sched.specs.declared.step.Line.{Line};
 ghost use Rattle.gr_topo.specs.Topology.{TopologyView};
 ghost use Rattle.gr_model.specs.NetOf.{net_of};
-ghost use Rattle.gr_theorems.specs.Fits.{StepsIn};
+ghost use Rattle.gr_invariants.specs.Fits.{StepsIn};
 ghost use Rattle.gr_theorems.specs.Spelled.{NumbersIn};
 ghost use Rattle.gr_scenario.specs.Steps.{AreStepsOf};
 

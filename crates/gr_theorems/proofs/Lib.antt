@@ -1,13 +1,8 @@
-pub mod calls
-pub mod runs
-pub mod asks
-pub mod topology
 pub mod limits
 pub mod records
 pub mod heard
 pub mod hosts
 pub mod cuts
-pub mod rules
 pub mod sweep
 pub mod headline
 pub mod server

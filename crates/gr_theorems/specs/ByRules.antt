@@ -17,7 +17,7 @@ use Rattle.gr_model.specs.World.{World, Transition, blank_view, view_of, log_of,
 use Rattle.gr_model.specs.World.{frames_past, sent_since, is_want, is_know_to, inwards, outwards, sweep_moment}
 use Rattle.gr_model.specs.World.{kept_events}
 use Rattle.gr_model.specs.Opening.{reopened_log, reopened_line, publishers_at}
-use Rattle.gr_theorems.specs.Rules.{HasKnown, NewTicks, Publishes, Wakes, Comes}
+use Rattle.gr_invariants.specs.Rules.{HasKnown, NewTicks, Publishes, Wakes, Comes}
 use Rattle.gr_theorems.specs.Settles.{is_accepted}
 use Rattle.gr_theorems.specs.Obeys.{is_next_of}
 

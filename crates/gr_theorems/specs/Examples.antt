@@ -18,7 +18,7 @@ use Rattle.gr_model.specs.Broker.{is_kept}
 use Rattle.gr_model.specs.World.{report_of, run_all, start}
 use Rattle.gr_theorems.specs.Settles.{Call, wakes, delivers, sweep_calls}
 use Rattle.gr_model.specs.Headline.{is_heard}
-use Rattle.gr_theorems.specs.Fits.{history_of}
+use Rattle.gr_invariants.specs.Fits.{history_of}
 use Rattle.gr_event.specs.Event.{same_bool}
 use Rattle.gr_know.specs.Values.{Known}
 use Rattle.gr_tick.specs.Runs.{tabulate, points, first_bottom_from}

@@ -5,8 +5,8 @@ use Rattle.gr_model.specs.declared.report.Report.TheVariants as line
 use Rattle.gr_model.specs.Net.{Net}
 use Rattle.gr_model.specs.Broker.{Log, got_line}
 use Rattle.gr_model.specs.Opening.{reopened_log, reopened_line}
-use Rattle.gr_theorems.specs.Said.{said_at, due_upto}
-use Rattle.gr_theorems.specs.Fits.{LogFits}
+use Rattle.gr_invariants.specs.Said.{said_at, due_upto}
+use Rattle.gr_invariants.specs.Fits.{LogFits}
 use Rattle.gr_theorems.specs.Spelled.{LogIn}
 
 -- A log as it was found, with its ticks and events within their limits. Its events are those past its cut: what was cut

@@ -1,14 +1,9 @@
-pub mod Truth
-pub mod Said
-pub mod Fits
 pub mod Order
 pub mod Settles
-pub mod Rules
 pub mod Obeys
 pub mod ByRules
 pub mod Statements
 pub mod Replies
-pub mod Edges
 pub mod Spelled
 pub mod SmallNets
 pub mod Examples

@@ -13,7 +13,7 @@ use Rattle.gr_model.specs.World.{World, Transition, view_of, log_of, with_view, 
 use Rattle.gr_model.specs.World.{frame_at, next, start}
 use Rattle.gr_model.specs.Headline.{says_kept}
 use Rattle.gr_theorems.specs.Settles.{Call, wakes, delivers, made, at_sweep, sweep_calls, is_accepted}
-use Rattle.gr_theorems.specs.Rules.{Publishes, Wakes, Comes}
+use Rattle.gr_invariants.specs.Rules.{Publishes, Wakes, Comes}
 
 -- a call of a broker: a publish at its host, a wake, or the frame of a number that reaches its receiver
 pub data Action : Type 0 where

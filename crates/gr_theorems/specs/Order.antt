@@ -10,7 +10,7 @@ use Rattle.gr_sched.specs.declared.step.Step.TheVariants as step
 use Rattle.gr_model.specs.Headline.{History, record_of, reopened_cut, last_cut, is_sent}
 use Rattle.gr_model.specs.Tree.{IsSubscriber}
 use Rattle.gr_model.specs.World.{start, run_all, sent_lines}
-use Rattle.gr_theorems.specs.Fits.{history_of}
+use Rattle.gr_invariants.specs.Fits.{history_of}
 
 -- discarded only after delivery, for one publisher: cuts rise strictly, none is past what is settled, and each event up
 -- to a cut was got before it by each subscriber that wants it

@@ -12,7 +12,7 @@ use Rattle.gr_model.specs.World.{World, view_of, log_of, sent_lines}
 use Rattle.gr_model.specs.Opening.{recorded_of}
 use Rattle.gr_model.specs.Headline.{History, record_of, reopened_cut, gate_of, last_cut, last_horizon, delivered_events}
 use Rattle.gr_model.specs.Headline.{expected, is_heard, is_sent, may_crash, InOrder}
-use Rattle.gr_theorems.specs.Fits.{WorldFits}
+use Rattle.gr_invariants.specs.Fits.{WorldFits}
 
 -- The log of p is its record, with its marks and its cuts
 pub record IsRecorded (net : Net) (h : History) (w : World) (p : ℕ) : Type 0 where

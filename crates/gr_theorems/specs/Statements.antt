@@ -16,9 +16,9 @@ use Rattle.gr_model.specs.World.{World, Transition, view_of, log_of, frame_at, r
 use Rattle.gr_model.specs.Opening.{opening, publishers_at, begin_over}
 use Rattle.gr_model.specs.Arrivals.{Arrival, publishes_of, served, clash_runs, first_of}
 use Rattle.gr_model.specs.Headline.{History, GetsExactly, Holds_from, is_doubt_line, doubt_place, doubts_shown}
-use Rattle.gr_theorems.specs.Fits.{StepsIn}
+use Rattle.gr_invariants.specs.Fits.{StepsIn}
 use Rattle.gr_theorems.specs.Order.{CutsInOrder}
-use Rattle.gr_theorems.specs.Edges.{GoesOverEdge}
+use Rattle.gr_invariants.specs.Edges.{GoesOverEdge}
 use Rattle.gr_theorems.specs.Spelled.{NumbersIn}
 use Rattle.gr_theorems.specs.Settles.{is_accepted}
 use Rattle.gr_theorems.specs.Found.{AreReopened, told_at_opening}

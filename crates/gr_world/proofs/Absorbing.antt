@@ -11,7 +11,7 @@ use Rattle.gr_model.specs.declared.report.Report.{Report}
 use Rattle.gr_model.specs.Net.{numbers}
 use Rattle.gr_model.specs.Broker.{View, Log, Outcome as MachineOutcome, empty_log}
 use Rattle.gr_model.specs.World.{World, blank_view, view_of, log_of, with_view, absorbed, sent_lines}
-use Rattle.gr_theorems.proofs.runs.Schedules.{get_numbers, length_numbers}
+use Rattle.gr_invariants.proofs.runs.Schedules.{get_numbers, length_numbers}
 use Rattle.gr_broker.specs.Seen.{BrokerView, view_in, log_in, log_said}
 use Rattle.gr_sent.proofs.Telling.{frames_back}
 use Rattle.gr_world.specs.declared.fault.WorldFault.{WorldFault}

@@ -14,7 +14,7 @@ use Rattle.gr_model.specs.declared.report.Report.{Report}
 use Rattle.gr_model.specs.Net.{is_host}
 use Rattle.gr_model.specs.NetOf.{net_of}
 use Rattle.gr_model.specs.Broker.{Outcome as MachineOutcome}
-use Rattle.gr_theorems.specs.Edges.{GoesOverEdge}
+use Rattle.gr_invariants.specs.Edges.{GoesOverEdge}
 use Rattle.gr_broker.specs.Seen.{BrokerView, log_in, is_broken}
 use Rattle.gr_broker.specs.Of.{IsBrokerOf}
 use Rattle.gr_world.specs.declared.fault.WorldFault.{WorldFault}

@@ -14,7 +14,7 @@ use Rattle.gr_model.specs.Net.{numbers}
 use Rattle.gr_model.specs.NetOf.{net_of}
 use Rattle.gr_model.specs.Broker.{View, started}
 use Rattle.gr_model.specs.World.{World, blank_view, start}
-use Rattle.gr_theorems.proofs.runs.Schedules.{get_numbers, length_numbers}
+use Rattle.gr_invariants.proofs.runs.Schedules.{get_numbers, length_numbers}
 use Rattle.gr_broker.specs.Seen.{BrokerView, log_in, view_in, log_said, machine_log}
 use Rattle.gr_broker.specs.Opened.{opened_at}
 use Rattle.gr_world.specs.Seen.{WorldView, no_broker, broker_in, log_at, world_of}

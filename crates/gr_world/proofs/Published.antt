@@ -14,8 +14,8 @@ use Rattle.gr_model.specs.declared.report.Report.{Report}
 use Rattle.gr_model.specs.Tree.{IsNet}
 use Rattle.gr_model.specs.Broker.{View, Log, Outcome as MachineOutcome, publish}
 use Rattle.gr_model.specs.World.{World, view_of, log_of, absorbed, publish_now, publish_now_by}
-use Rattle.gr_theorems.specs.Edges.{GoesOverEdge}
-use Rattle.gr_theorems.proofs.topology.Strays.{publish_on}
+use Rattle.gr_invariants.specs.Edges.{GoesOverEdge}
+use Rattle.gr_invariants.proofs.topology.Strays.{publish_on}
 use Rattle.gr_broker.specs.declared.outcome.Outcome.{Outcome}
 use Rattle.gr_broker.specs.declared.outcome.BrokerFault.{BrokerFault}
 use Rattle.gr_broker.specs.declared.outcome.BrokerFault.TheVariants as refused

@@ -22,8 +22,8 @@ use Rattle.gr_model.specs.Tree.{IsNet}
 use Rattle.gr_model.specs.Arrivals.{fits_broker, least_clash}
 use Rattle.gr_model.specs.Broker.{View, Log, Outcome as MachineOutcome, empty_log, receive}
 use Rattle.gr_model.specs.World.{World, blank_view, view_of, log_of, frame_at, deliver_frame, deliver_frame_by}
-use Rattle.gr_theorems.specs.Edges.{GoesOverEdge}
-use Rattle.gr_theorems.proofs.topology.Strays.{receive_on}
+use Rattle.gr_invariants.specs.Edges.{GoesOverEdge}
+use Rattle.gr_invariants.proofs.topology.Strays.{receive_on}
 use Rattle.gr_theorems.proofs.server.CutEvents.{on_log}
 use Rattle.gr_broker.specs.declared.outcome.Received.{Received}
 use Rattle.gr_broker.specs.declared.outcome.Received.TheVariants as answer

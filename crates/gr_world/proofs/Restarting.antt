@@ -18,7 +18,7 @@ use Rattle.gr_model.specs.NetOf.{net_of}
 use Rattle.gr_model.specs.Broker.{View, started}
 use Rattle.gr_model.specs.World.{World, blank_view, restarted, opened_lines}
 use Rattle.gr_model.specs.Opening.{reopened_line}
-use Rattle.gr_theorems.proofs.runs.Schedules.{get_numbers, length_numbers}
+use Rattle.gr_invariants.proofs.runs.Schedules.{get_numbers, length_numbers}
 use Rattle.gr_broker.specs.Seen.{BrokerView, log_in, view_in, log_said, machine_log}
 use Rattle.gr_broker.specs.Of.{IsBrokerOf}
 use Rattle.gr_broker.specs.Opened.{LosesNothing, opened_at}

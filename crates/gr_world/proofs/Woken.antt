@@ -11,8 +11,8 @@ use Rattle.gr_model.specs.declared.report.Report.{Report}
 use Rattle.gr_model.specs.Tree.{IsNet}
 use Rattle.gr_model.specs.Broker.{View, Log, Outcome as MachineOutcome, wake}
 use Rattle.gr_model.specs.World.{World, view_of, log_of, wake_for, wake_for_by}
-use Rattle.gr_theorems.specs.Edges.{GoesOverEdge}
-use Rattle.gr_theorems.proofs.topology.Strays.{wake_on}
+use Rattle.gr_invariants.specs.Edges.{GoesOverEdge}
+use Rattle.gr_invariants.proofs.topology.Strays.{wake_on}
 use Rattle.gr_theorems.proofs.server.CutEvents.{on_log}
 use Rattle.gr_broker.specs.declared.outcome.Outcome.{Outcome}
 use Rattle.gr_broker.specs.declared.outcome.BrokerFault.{BrokerFault}

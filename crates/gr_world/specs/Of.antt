@@ -8,7 +8,7 @@ use Rattle.gr_tick.specs.declared.TheConstants.{MAX_TICK}
 use Rattle.gr_publog.specs.Crash.{LogView}
 use Rattle.gr_publog.specs.Calls.{IsReady}
 use Rattle.gr_topo.specs.Topology.{host_of}
-use Rattle.gr_theorems.specs.Edges.{GoesOverEdge}
+use Rattle.gr_invariants.specs.Edges.{GoesOverEdge}
 use Rattle.gr_broker.specs.Of.{IsBrokerOf}
 pub use Rattle.gr_run.specs.Readable.{IsReadable}
 use Rattle.gr_world.specs.Seen.{WorldView, broker_in, log_at, net_in, frame_said}

@@ -11,15 +11,15 @@ use Rattle.gr_model.specs.declared.report.Report.TheVariants as line
 use Rattle.gr_model.specs.Net.{Net}
 use Rattle.gr_model.specs.World.{log_of, start, run_all, run_from}
 use Rattle.gr_model.specs.Headline.{History, history_after, begin, reopened_cut, history, record_of, delivered_events}
-use Rattle.gr_theorems.specs.Said.{said_at, TicksRise}
+use Rattle.gr_invariants.specs.Said.{said_at, TicksRise}
 use Rattle.gr_model.specs.Broker.{started}
 use Rattle.gr_model.specs.Tree.{IsNet}
-use Rattle.gr_theorems.specs.Fits.{StepsIn, history_of}
+use Rattle.gr_invariants.specs.Fits.{StepsIn, history_of}
 use Rattle.gr_theorems.specs.Order.{CutsInOrder}
-use Rattle.gr_theorems.proofs.calls.Told.{said_at-here, said_at-past}
+use Rattle.gr_invariants.proofs.calls.Told.{said_at-here, said_at-past}
 use Rattle.gr_theorems.proofs.records.Records.{core_of}
 use Rattle.gr_theorems.proofs.records.Recorded.{record_core, runs, begin_fits, begin_lines}
-use Rattle.gr_theorems.proofs.runs.Schedules.{always_true, start_fits, start_is, start_log, start_lines}
+use Rattle.gr_invariants.proofs.runs.Schedules.{always_true, start_fits, start_is, start_log, start_lines}
 use Rattle.gr_theorems.proofs.hosts.HostHorizon.{HostsMeet}
 use Rattle.gr_theorems.proofs.cuts.Cutlines.{CutsHave, CutsHave-at}
 use Rattle.gr_theorems.proofs.cuts.Orders.{CutFits, Ordered}

@@ -14,8 +14,8 @@ use Rattle.gr_model.specs.Broker.{View, Log, Outcome, delivery_lines, got_line, 
 use Rattle.gr_model.specs.World.{sent_line, sent_lines}
 use Rattle.gr_model.specs.Headline.{last_cut}
 use Rattle.gr_pubend.specs.declared.answers.Published.TheVariants.{Logged}
-use Rattle.gr_theorems.proofs.calls.HostCases.{publish_cases, marking_cases, news_of}
-use Rattle.gr_theorems.proofs.calls.Calls.{cutting_same, learn_log}
+use Rattle.gr_invariants.proofs.calls.HostCases.{publish_cases, marking_cases, news_of}
+use Rattle.gr_invariants.proofs.calls.Calls.{cutting_same, learn_log}
 use Rattle.gr_theorems.proofs.records.Records.{receive_log}
 
 -- each cut line of p, with the lines before it

@@ -15,15 +15,15 @@ use Rattle.gr_model.specs.Net.{Net, not_empty, numbers, keeps_horizon}
 use Rattle.gr_model.specs.Broker.{Log, empty_log, with_event, is_kept, max_tick, wake, receive, publish}
 use Rattle.gr_model.specs.World.{World, Transition, blank_view, view_of, log_of, unchanged, followed_by, in_turn, wake_for, wake_all, deliver_frame, frame_at, publish_now, restarted, crash, publish_stopped, sweep_for, sweep, sweep_moment, next, show, opened_lines, kept_events, run_all, deliver_frame_by, next_by, publish_now_by, publish_stopped_by, sweep_by, wake_for_by}
 use Rattle.gr_frame.specs.Bytes.{frame_bytes}
-use Rattle.gr_theorems.specs.Truth.{IsLater}
-use Rattle.gr_theorems.specs.Fits.{facts_of, reached_in, WorldFits, LinesFit, FrameTrue, StepIn, StepsIn}
+use Rattle.gr_invariants.specs.Truth.{IsLater}
+use Rattle.gr_invariants.specs.Fits.{facts_of, reached_in, WorldFits, LinesFit, FrameTrue, StepIn, StepsIn}
 use Rattle.gr_model.specs.Tree.{IsNet}
-use Rattle.gr_theorems.proofs.runs.Worlds.{Kept, Later-refl, wake_for_kept, deliver_kept, publish_kept}
-use Rattle.gr_theorems.proofs.runs.Schedules.{next_kept, crash_kept, publish_stopped_kept, frame_at_true, clocked_fits}
+use Rattle.gr_invariants.proofs.runs.Worlds.{Kept, Later-refl, wake_for_kept, deliver_kept, publish_kept}
+use Rattle.gr_invariants.proofs.runs.Schedules.{next_kept, crash_kept, publish_stopped_kept, frame_at_true, clocked_fits}
 use Rattle.gr_theorems.proofs.hosts.HostHorizon.{HostsMeet, wake_for_meets, deliver_meets, publish_now_meets}
 use Rattle.gr_theorems.proofs.cuts.Cutlines.{CutFree, CutFree-append, CutsHave-map, wake_cuts, receive_cuts, publish_cuts}
 use Rattle.gr_theorems.proofs.cuts.Orders.{CutFits, CutFits-later, Ordered, ordered_free, absorbed_ordered}
-use Rattle.gr_theorems.proofs.runs.Chains.{Chains, wake_all_chain, sweeps_chain}
+use Rattle.gr_invariants.proofs.runs.Chains.{Chains, wake_all_chain, sweeps_chain}
 
 -- what a step does to the order
 abbrev pub Orders : Net → World → Transition → Type 0

@@ -10,14 +10,14 @@ use Rattle.gr_model.specs.Net.{Net, not_empty}
 use Rattle.gr_model.specs.Broker.{Log, Outcome}
 use Rattle.gr_model.specs.World.{World, view_of, log_of, absorbed, sent_lines}
 use Rattle.gr_model.specs.Headline.{delivered_events, last_cut}
-use Rattle.gr_theorems.specs.Truth.{IsLater}
-use Rattle.gr_theorems.specs.Said.{said_at}
-use Rattle.gr_theorems.specs.Fits.{facts_of, reached_in, LogFits, WorldFits, LinesFit}
+use Rattle.gr_invariants.specs.Truth.{IsLater}
+use Rattle.gr_invariants.specs.Said.{said_at}
+use Rattle.gr_invariants.specs.Fits.{facts_of, reached_in, LogFits, WorldFits, LinesFit}
 use Rattle.gr_model.specs.Tree.{IsNet, IsSubscriber}
-use Rattle.gr_theorems.proofs.calls.TruthTicks.{concerns_at}
-use Rattle.gr_theorems.proofs.calls.Told.{said_at-filter, said_append_front, said_at-below}
-use Rattle.gr_theorems.proofs.calls.Telling.{gots-append}
-use Rattle.gr_theorems.proofs.runs.Worlds.{Kept, IsLaterWorld, Changed, absorbed_changed, absorbed_lines, exact_at, reached_here}
+use Rattle.gr_invariants.proofs.calls.TruthTicks.{concerns_at}
+use Rattle.gr_invariants.proofs.calls.Told.{said_at-filter, said_append_front, said_at-below}
+use Rattle.gr_invariants.proofs.calls.Telling.{gots-append}
+use Rattle.gr_invariants.proofs.runs.Worlds.{Kept, IsLaterWorld, Changed, absorbed_changed, absorbed_lines, exact_at, reached_here}
 use Rattle.gr_theorems.proofs.hosts.HostHorizon.{HostsMeet}
 use Rattle.gr_theorems.proofs.cuts.Cutlines.{CutsHave, CutFree, last_cut-append, CutFree-append, CutFree-last, CutFree-have, CutsHave-map, CutsHave-append, sent_free, NewCut, CallCuts}
 

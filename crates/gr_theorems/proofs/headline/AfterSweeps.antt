@@ -18,20 +18,20 @@ use Rattle.gr_model.specs.Broker.{max_tick}
 use Rattle.gr_model.specs.World.{World, Transition, view_of, log_of, unchanged, followed_by, in_turn, sweep, sweep_for, sweep_moment, next, start, report_of, run_from, run_all, next_by, report_of_by, sweep_by}
 use Rattle.gr_model.specs.Headline.{Headline, Holds_from, begin, history, History, heard_after, hearing, hearing_all, is_swept, sweep_at}
 use Rattle.gr_model.specs.Tree.{IsNet}
-use Rattle.gr_theorems.specs.Truth.{Facts, IsTrueAt}
-use Rattle.gr_theorems.specs.Fits.{StepIn, StepsIn, WorldFits, FrameTrue, AllFramesTrue, BodyTrue, facts_of}
+use Rattle.gr_invariants.specs.Truth.{Facts, IsTrueAt}
+use Rattle.gr_invariants.specs.Fits.{StepIn, StepsIn, WorldFits, FrameTrue, AllFramesTrue, BodyTrue, facts_of}
 use Rattle.gr_theorems.proofs.records.Records.{core_of}
 use Rattle.gr_theorems.proofs.records.Recorded.{Sweeps, sweeps_from, marked_now, settled_below, sweep_same}
 use Rattle.gr_theorems.proofs.heard.Heard.{not_Q_at}
 use Rattle.gr_theorems.proofs.heard.HeardSteps.{hears_by, Pieces, Hears, HeardLong, heard_in, AddsHeard, body_adds, know_of_body}
 use Rattle.gr_theorems.proofs.sweep.SweepHears.{SweepAdds, sweep_adds, hear_frames, heard_of_frames, tells_to, tells_body}
-use Rattle.gr_theorems.proofs.asks.AskMoments.{AsksFit}
+use Rattle.gr_invariants.proofs.asks.AskMoments.{AsksFit}
 use Rattle.gr_theorems.proofs.headline.WithoutSweeps.{Whole, holds_from, whole_run, start_whole}
-use Rattle.gr_theorems.proofs.runs.Worlds.{Each}
-use Rattle.gr_theorems.proofs.runs.Closed.{next_holds, run_holds}
+use Rattle.gr_invariants.proofs.runs.Worlds.{Each}
+use Rattle.gr_invariants.proofs.runs.Closed.{next_holds, run_holds}
 use Rattle.gr_theorems.proofs.sweep.SweepStates.{Unknowns}
 use Rattle.gr_theorems.proofs.sweep.FirstUnknown.{unknown_closed, unknowns_always}
-use Rattle.gr_theorems.proofs.runs.Schedules.{clocked_fits, sweep_kept}
+use Rattle.gr_invariants.proofs.runs.Schedules.{clocked_fits, sweep_kept}
 
 -- what is known is settled
 at_settled : (net : Net) (f : Facts) (p b t : ℕ) (k : K) → k ≢ Q → IsTrueAt net f p b t k → t ≤ f.settled

@@ -21,13 +21,13 @@ use Rattle.gr_model.specs.World as world
 use Rattle.gr_model.specs.Headline.{Recorded, History, begin, history_after, publish_line, may_crash, sent_number, sent_count}
 use Rattle.gr_theorems.specs.Replies.{is_reply, frame_of_line, shown_bytes, replies, StepReplied, Replied_from, Replied}
 use Rattle.gr_model.specs.Tree.{IsNet}
-use Rattle.gr_theorems.specs.Fits.{WorldFits, StepIn, StepsIn}
+use Rattle.gr_invariants.specs.Fits.{WorldFits, StepIn, StepsIn}
 use Rattle.gr_theorems.proofs.records.Records.{core}
 use Rattle.gr_theorems.proofs.records.RecordLines.{Skips, host_lines, receive_none, marking_none, publish_some, Sends}
 use Rattle.gr_theorems.proofs.records.RecordSteps.{step_sends}
 use Rattle.gr_theorems.proofs.records.Recorded.{sweep_same}
-use Rattle.gr_theorems.proofs.runs.Chains.{Chains, wake_all_chain, sweeps_chain}
-use Rattle.gr_theorems.proofs.runs.Schedules.{clocked_fits}
+use Rattle.gr_invariants.proofs.runs.Chains.{Chains, wake_all_chain, sweeps_chain}
+use Rattle.gr_invariants.proofs.runs.Schedules.{clocked_fits}
 use Rattle.gr_theorems.proofs.heard.HeardSteps.{line_is, line_at, sent_line_number}
 use Rattle.gr_theorems.proofs.headline.SoFar.{Stands, next_stands, start_stands, sent_count_is}
 

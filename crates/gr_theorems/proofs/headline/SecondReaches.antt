@@ -11,16 +11,16 @@ use Rattle.gr_model.specs.Broker.{max_tick}
 use Rattle.gr_model.specs.World.{World, Transition, view_of, log_of, unchanged, followed_by, in_turn, sweep, sweep_for, sweep_moment, report_of, frames_past, sweep_by}
 use Rattle.gr_model.specs.Headline.{Headline}
 use Rattle.gr_model.specs.Tree.{IsNet}
-use Rattle.gr_theorems.specs.Fits.{StepsIn, WorldFits}
-use Rattle.gr_theorems.proofs.runs.Closed.{clocked}
+use Rattle.gr_invariants.specs.Fits.{StepsIn, WorldFits}
+use Rattle.gr_invariants.proofs.runs.Closed.{clocked}
 use Rattle.gr_theorems.proofs.records.Recorded.{settled_far, most_before}
-use Rattle.gr_theorems.proofs.runs.Schedules.{clocked_fits, sweep_kept}
-use Rattle.gr_theorems.proofs.asks.AskMoments.{AsksFit, asked_upto}
-use Rattle.gr_theorems.proofs.rules.SweepAsks.{sweep_begins}
+use Rattle.gr_invariants.proofs.runs.Schedules.{clocked_fits, sweep_kept}
+use Rattle.gr_invariants.proofs.asks.AskMoments.{AsksFit, asked_upto}
+use Rattle.gr_invariants.proofs.rules.SweepAsks.{sweep_begins}
 use Rattle.gr_theorems.proofs.heard.Heard.{HeardFits}
 use Rattle.gr_theorems.proofs.heard.HeardSteps.{heard_in}
 use Rattle.gr_theorems.proofs.sweep.SweepHears.{SweepAdds, sweep_adds, tells_to}
-use Rattle.gr_theorems.proofs.rules.Serves.{frames_past_all}
+use Rattle.gr_invariants.proofs.rules.Serves.{frames_past_all}
 use Rattle.gr_theorems.proofs.sweep.SweepStates.{Unknowns, Begins}
 use Rattle.gr_theorems.proofs.headline.AfterSweeps.{SweepsReach, swept_settled, headline_where_sweeps_reach}
 use Rattle.gr_theorems.proofs.sweep.SecondBrings.{Brings, sweeps_bring}

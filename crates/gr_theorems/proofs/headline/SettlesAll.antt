@@ -12,16 +12,16 @@ use Rattle.gr_model.specs.World.{World, Transition, view_of, log_of, absorbed, u
 use Rattle.gr_model.specs.Headline.{is_record_line, last_cut, last_horizon}
 use Rattle.gr_theorems.specs.Settles.{all_made, calls_in_turn, sweep_calls_for, sweep_calls, at_sweep, sent_past, times, is_expect, SweepSettles}
 use Rattle.gr_model.specs.Tree.{IsNet, IsSubscriber}
-use Rattle.gr_theorems.specs.Fits.{WorldFits, LinesFit, reached_in}
-use Rattle.gr_theorems.proofs.calls.Calls.{wake_call, receive_call}
+use Rattle.gr_invariants.specs.Fits.{WorldFits, LinesFit, reached_in}
+use Rattle.gr_invariants.proofs.calls.Calls.{wake_call, receive_call}
 use Rattle.gr_theorems.proofs.cuts.Cutlines.{CallCuts, wake_cuts, receive_cuts, last_cut-append}
-use Rattle.gr_theorems.proofs.calls.Telling.{last_horizon-append}
+use Rattle.gr_invariants.proofs.calls.Telling.{last_horizon-append}
 use Rattle.gr_theorems.proofs.records.Records.{core_of}
 use Rattle.gr_theorems.proofs.records.Recorded.{Sweeps, sweeps_from, marked_now, settled_below}
 use Rattle.gr_theorems.proofs.records.RecordLines.{sweeps_recs}
-use Rattle.gr_theorems.proofs.runs.Worlds.{Each, Kept, absorbed_changed, sweep_for_kept, reached_here, numbers_below}
-use Rattle.gr_theorems.proofs.runs.Chains.{Chains, in_turn_both, sweep_for_chain}
-use Rattle.gr_theorems.proofs.runs.Schedules.{clocked_fits, sweep_kept}
+use Rattle.gr_invariants.proofs.runs.Worlds.{Each, Kept, absorbed_changed, sweep_for_kept, reached_here, numbers_below}
+use Rattle.gr_invariants.proofs.runs.Chains.{Chains, in_turn_both, sweep_for_chain}
+use Rattle.gr_invariants.proofs.runs.Schedules.{clocked_fits, sweep_kept}
 use Rattle.gr_theorems.proofs.cuts.Orders.{Ordered, has_one}
 use Rattle.gr_theorems.proofs.cuts.Ordering.{sweep_orders}
 use Rattle.gr_theorems.proofs.sweep.SweepStates.{Calm, second_phase}

@@ -7,17 +7,17 @@ use Rattle.gr_model.specs.declared.report.Report.TheVariants as line
 use Rattle.gr_model.specs.Net.{Net, numbers, numbers_from}
 use Rattle.gr_model.specs.Broker.{max_tick}
 use Rattle.gr_model.specs.World.{World, Transition, log_of, unchanged, followed_by, in_turn, sweep_for, sweep_moment, sweep, run_all, start, sweep_by}
-use Rattle.gr_theorems.specs.Said.{said_at, TicksRise, due_upto}
+use Rattle.gr_invariants.specs.Said.{said_at, TicksRise, due_upto}
 use Rattle.gr_model.specs.Headline.{History, reopened_cut, begin, record_of, settling}
 use Rattle.gr_theorems.specs.Settles.{SweepSettles, AllGot, is_accepted, at_sweep}
 use Rattle.gr_model.specs.Tree.{IsNet}
-use Rattle.gr_theorems.specs.Fits.{StepsIn, WorldFits, reached_in, history_of}
+use Rattle.gr_invariants.specs.Fits.{StepsIn, WorldFits, reached_in, history_of}
 use Rattle.gr_sched.specs.declared.step.Line.{Line}
-use Rattle.gr_theorems.proofs.calls.Told.{said_at-here, said_at-past}
-use Rattle.gr_theorems.proofs.runs.Schedules.{clocked_fits, sweep_kept}
+use Rattle.gr_invariants.proofs.calls.Told.{said_at-here, said_at-past}
+use Rattle.gr_invariants.proofs.runs.Schedules.{clocked_fits, sweep_kept}
 use Rattle.gr_theorems.proofs.records.Records.{core_of}
 use Rattle.gr_theorems.proofs.records.Recorded.{Sweeps, sweeps_from, marked_now, settled_below, record_core}
-use Rattle.gr_theorems.proofs.runs.Worlds.{reached_here}
+use Rattle.gr_invariants.proofs.runs.Worlds.{reached_here}
 use Rattle.gr_theorems.proofs.sweep.SweepStates.{Begins, Unknowns}
 use Rattle.gr_theorems.proofs.sweep.FirstUnknown.{unknowns_always}
 use Rattle.gr_theorems.proofs.sweep.FirstPhase.{first_phase_asks}

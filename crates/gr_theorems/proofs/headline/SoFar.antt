@@ -12,22 +12,22 @@ use Rattle.gr_model.specs.World.{sent_lines, World, view_of, log_of, start, next
 use Rattle.gr_model.specs.Headline.{GetsExactly, unlogged_after, InOrder, History, history, reopened_cut, record_of, history_after, begin, last_horizon, may_crash, HorizonsRise, sent_count, is_sent}
 use Rattle.gr_theorems.proofs.records.RecordLines.{sent_lines-append}
 use Rattle.gr_theorems.proofs.records.RecordSteps.{step_sends}
-use Rattle.gr_theorems.specs.Said.{due_upto}
+use Rattle.gr_invariants.specs.Said.{due_upto}
 use Rattle.gr_model.specs.Tree.{IsNet, IsSubscriber}
-use Rattle.gr_theorems.specs.Fits.{WorldFits, LinesFit, StepIn, StepsIn}
+use Rattle.gr_invariants.specs.Fits.{WorldFits, LinesFit, StepIn, StepsIn}
 use Rattle.gr_theorems.specs.Order.{FramesSent, CutsInOrder}
 use Rattle.gr_theorems.proofs.records.Records.{core_of}
 use Rattle.gr_theorems.proofs.records.Recorded.{RecordsFit, record_core, next_records, begin_fits, begin_lines, after_lines}
 use Rattle.gr_theorems.proofs.records.Gates.{GatesFit, next_gates, start_gates}
-use Rattle.gr_theorems.proofs.runs.Schedules.{start_is, start_log, next_kept, start_fits, start_lines}
+use Rattle.gr_invariants.proofs.runs.Schedules.{start_is, start_log, next_kept, start_fits, start_lines}
 use Rattle.gr_theorems.proofs.cuts.Cutlines.{CutsHave, CutsHave-at}
 use Rattle.gr_theorems.proofs.cuts.Orders.{CutFits, Ordered}
 use Rattle.gr_theorems.proofs.cuts.Ordering.{next_orders}
 use Rattle.gr_theorems.proofs.cuts.CutOrder.{got_in, said_listed, start_ordered}
 use Rattle.gr_theorems.proofs.hosts.BareHosts.{Unlogged, bare_horizon, host_horizon, started_horizon}
 use Rattle.gr_theorems.proofs.sweep.SweepHosts.{step_bare}
-use Rattle.gr_theorems.proofs.asks.AskMoments.{ExpectFits, AsksFit, asks_closed, start_asks}
-use Rattle.gr_theorems.proofs.runs.Closed.{next_holds}
+use Rattle.gr_invariants.proofs.asks.AskMoments.{ExpectFits, AsksFit, asks_closed, start_asks}
+use Rattle.gr_invariants.proofs.runs.Closed.{next_holds}
 use Rattle.std.proofs.lemmas.List.{get_or-replicate, length-replicate}
 use Rattle.gr_model.specs.Broker.{empty_log}
 use Rattle.gr_theorems.proofs.records.NamedLines.{Named, Named-append, Named-map, IsShown, step_named}

@@ -10,15 +10,15 @@ use Rattle.gr_model.specs.Broker.{event_at}
 use Rattle.gr_model.specs.World.{World, view_of, log_of, run_all, run_from, start}
 use Rattle.gr_model.specs.Headline.{History, history, begin}
 use Rattle.gr_model.specs.Tree.{IsNet}
-use Rattle.gr_theorems.specs.Truth.{Facts, IsTrueAt}
-use Rattle.gr_theorems.specs.Said.{due_upto}
-use Rattle.gr_theorems.specs.Fits.{StepsIn, facts_of, history_of}
+use Rattle.gr_invariants.specs.Truth.{Facts, IsTrueAt}
+use Rattle.gr_invariants.specs.Said.{due_upto}
+use Rattle.gr_invariants.specs.Fits.{StepsIn, facts_of, history_of}
 use Rattle.gr_theorems.specs.Standing.{KnowsLog, Fits}
-use Rattle.gr_theorems.proofs.asks.AskMoments.{asked_upto}
+use Rattle.gr_invariants.proofs.asks.AskMoments.{asked_upto}
 use Rattle.gr_theorems.proofs.records.Recorded.{record_core}
-use Rattle.gr_theorems.proofs.runs.Schedules.{event_said, said_value}
-use Rattle.gr_theorems.proofs.runs.Worlds.{reached_here}
-use Rattle.gr_theorems.proofs.runs.Closed.{run_holds}
+use Rattle.gr_invariants.proofs.runs.Schedules.{event_said, said_value}
+use Rattle.gr_invariants.proofs.runs.Worlds.{reached_here}
+use Rattle.gr_invariants.proofs.runs.Closed.{run_holds}
 use Rattle.gr_theorems.proofs.hosts.FinalTicks.{AllFinal, final_closed, start_final}
 use Rattle.gr_theorems.proofs.sweep.SweepStates.{Unknowns}
 use Rattle.gr_theorems.proofs.sweep.FirstUnknown.{unknowns_always}

@@ -10,7 +10,7 @@ use Rattle.gr_model.specs.Broker.{empty_log}
 use Rattle.gr_model.specs.World.{World, view_of, start, next, run_from, run_all, run_from_by}
 use Rattle.gr_model.specs.Headline.{heard_after, history, History, history_after, begin, is_heard, IsDoubt, Delivered, StepReports, Holds_from}
 use Rattle.gr_model.specs.Tree.{IsNet}
-use Rattle.gr_theorems.specs.Fits.{StepIn, StepsIn, WorldFits}
+use Rattle.gr_invariants.specs.Fits.{StepIn, StepsIn, WorldFits}
 use Rattle.gr_theorems.proofs.records.RecordSteps.{step_records}
 use Rattle.gr_theorems.proofs.records.Gates.{kept_at_gate}
 use Rattle.gr_theorems.proofs.records.Doubtlines.{doubts_stand}
@@ -19,9 +19,9 @@ use Rattle.gr_theorems.proofs.heard.Heard.{HeardFits}
 use Rattle.gr_theorems.proofs.headline.SoFar.{doubt_at, Stands, gets_now, in_order, next_stands, start_stands, sent_count_is, split_from, named_doubt}
 use Rattle.gr_theorems.proofs.heard.HeardCalls.{started_heard}
 use Rattle.gr_theorems.proofs.heard.HeardSteps.{Hears, HeardLong, heard_in}
-use Rattle.gr_theorems.proofs.runs.Worlds.{reached_here}
+use Rattle.gr_invariants.proofs.runs.Worlds.{reached_here}
 use Rattle.gr_theorems.proofs.cuts.Orders.{has_one}
-use Rattle.gr_theorems.proofs.runs.Schedules.{start_is}
+use Rattle.gr_invariants.proofs.runs.Schedules.{start_is}
 
 -- what stands, with what was heard
 pub record Whole (net : Net) (w : World) (h : History) : Type 0 where

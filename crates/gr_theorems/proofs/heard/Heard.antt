@@ -10,13 +10,13 @@ use Rattle.gr_know.specs.Values.{Known, known_at, is_Q, join_K, same_K}
 use Rattle.gr_curio.specs.Values.{Wanted, wanted_at, is_A}
 use Rattle.gr_model.specs.Net.{Net, is_host, keeps_horizon}
 use Rattle.gr_model.specs.Broker.{View, Log, learn, kept_view, kept_view_below, finished, consolidated, horizon_after, is_consolidated_by, all_A, new_ticks, forward_wants, max_tick}
-use Rattle.gr_theorems.specs.Truth.{Facts, KnowsTruth, AllWantTruth}
+use Rattle.gr_invariants.specs.Truth.{Facts, KnowsTruth, AllWantTruth}
 use Rattle.gr_model.specs.Tree.{IsPlace}
-use Rattle.gr_theorems.specs.Fits.{ViewTrue}
+use Rattle.gr_invariants.specs.Fits.{ViewTrue}
 use Rattle.gr_tick.proofs.RunLaws.{AreRunsOf, first_bottom_from-is}
-use Rattle.gr_theorems.proofs.calls.Pieces.{IsLowered, forgotten-is}
-use Rattle.gr_theorems.proofs.calls.CallTruth.{finished-is, joined-is, learn_wants, done_runs, done_values, learned_horizon}
-use Rattle.gr_theorems.proofs.calls.Calls.{learn_horizon, join_not_Q}
+use Rattle.gr_invariants.proofs.calls.Pieces.{IsLowered, forgotten-is}
+use Rattle.gr_invariants.proofs.calls.CallTruth.{finished-is, joined-is, learn_wants, done_runs, done_values, learned_horizon}
+use Rattle.gr_invariants.proofs.calls.Calls.{learn_horizon, join_not_Q}
 
 -- a broker that keeps a horizon: all up to it was heard, the next tick was not, and above it the known ticks are the heard ones
 pub record HeardFits (v : View) (heard : ℕ → Bool) : Type 0 where

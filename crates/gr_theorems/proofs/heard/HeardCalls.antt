@@ -13,17 +13,17 @@ use Rattle.gr_curio.specs.Values.{Wanted}
 use Rattle.gr_model.specs.Net.{Net, is_host, keeps_horizon, numbers}
 use Rattle.gr_model.specs.Broker.{View, Log, Outcome, empty_log, learn, asking, expect, curiosity, wake, wake_host, wake_below, receive, clashes, stored, acknowledged, place_of, due, noted, publish, started}
 use Rattle.gr_model.specs.World.{World, blank_view, view_of, log_of, absorbed, wake_for, deliver_frame, publish_now, restarted, deliver_frame_by, publish_now_by, wake_for_by}
-use Rattle.gr_theorems.specs.Truth.{Facts, AllWantTruth}
+use Rattle.gr_invariants.specs.Truth.{Facts, AllWantTruth}
 use Rattle.gr_model.specs.Tree.{IsNet, IsPlace}
-use Rattle.gr_theorems.specs.Fits.{WorldFits, ViewTrue, FrameTrue, BodyTrue, BodyFits, facts_of}
-use Rattle.gr_theorems.proofs.calls.CallTruth.{curiosity_wants}
-use Rattle.gr_theorems.proofs.asks.CallTicks.{IsTrimmed, trimmed-is, trimmed_above}
+use Rattle.gr_invariants.specs.Fits.{WorldFits, ViewTrue, FrameTrue, BodyTrue, BodyFits, facts_of}
+use Rattle.gr_invariants.proofs.calls.CallTruth.{curiosity_wants}
+use Rattle.gr_invariants.proofs.asks.CallTicks.{IsTrimmed, trimmed-is, trimmed_above}
 use Rattle.gr_theorems.proofs.heard.Heard.{HeardFits, hears, learn_heard, kept_above}
-use Rattle.gr_theorems.proofs.runs.Clash.{true_pieces}
-use Rattle.gr_theorems.proofs.runs.Closed.{with_logs}
-use Rattle.gr_theorems.proofs.runs.Schedules.{get_numbers}
-use Rattle.gr_theorems.proofs.runs.Worlds.{absorbed_changed}
-use Rattle.gr_theorems.proofs.calls.Calls.{trimmed_horizon}
+use Rattle.gr_invariants.proofs.runs.Clash.{true_pieces}
+use Rattle.gr_invariants.proofs.runs.Closed.{with_logs}
+use Rattle.gr_invariants.proofs.runs.Schedules.{get_numbers}
+use Rattle.gr_invariants.proofs.runs.Worlds.{absorbed_changed}
+use Rattle.gr_invariants.proofs.calls.Calls.{trimmed_horizon}
 
 -- the same horizon, and the same knowledge above it
 same_heard : (v u : View) (H : ℕ → Bool) → u.horizon ≡ v.horizon → ((t : ℕ) → v.horizon < t → known_at u.know t ≡ known_at v.know t) → HeardFits v H → HeardFits u H

@@ -23,15 +23,15 @@ use Rattle.gr_model.specs.Broker.{Log, with_event, is_kept, max_tick}
 use Rattle.gr_model.specs.World.{World, Transition, log_of, unchanged, wake_for, wake_all, deliver_frame, frame_at, publish_now, publish_stopped, restarted, crash, next, sent_line, sent_lines, opened_lines, next_by, publish_stopped_by, wake_all_by}
 use Rattle.gr_model.specs.Headline.{History, is_sent, sent_number, line_of_frame, know_of_line, hearing, heard_nothing, is_heard, heard_after, may_crash, is_next}
 use Rattle.gr_model.specs.Tree.{IsNet}
-use Rattle.gr_theorems.specs.Fits.{WorldFits, BodyTrue, StepIn, facts_of}
+use Rattle.gr_invariants.specs.Fits.{WorldFits, BodyTrue, StepIn, facts_of}
 use Rattle.gr_theorems.specs.Order.{is_sweep}
 use Rattle.gr_theorems.proofs.records.Records.{core_of}
 use Rattle.gr_theorems.proofs.records.Recorded.{RecordsFit, record_core}
 use Rattle.gr_theorems.proofs.heard.Heard.{hears, is_Q_at}
 use Rattle.gr_theorems.proofs.heard.HeardCalls.{HeardsFit, SameBut, hears_body, wake_for_heard, deliver_heard, publish_now_heard, restarted_heard}
-use Rattle.gr_theorems.proofs.runs.Closed.{in_turn_goes, with_logs}
-use Rattle.gr_theorems.proofs.runs.Worlds.{wake_for_kept, numbers_below}
-use Rattle.gr_theorems.proofs.runs.Schedules.{frame_at_true}
+use Rattle.gr_invariants.proofs.runs.Closed.{in_turn_goes, with_logs}
+use Rattle.gr_invariants.proofs.runs.Worlds.{wake_for_kept, numbers_below}
+use Rattle.gr_invariants.proofs.runs.Schedules.{frame_at_true}
 
 -- the pieces heard, broker by broker and publisher by publisher
 abbrev pub Pieces : Type 0

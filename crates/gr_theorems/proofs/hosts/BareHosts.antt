@@ -19,18 +19,18 @@ use Rattle.gr_model.specs.Broker.{View, Log, Outcome, empty_log, learn, publish,
 use Rattle.gr_model.specs.World.{World, Transition, blank_view, view_of, log_of, absorbed, unchanged, followed_by, in_turn, wake_for, deliver_frame, frame_at, publish_now, publish_stopped, restarted, crash, next, show, opened_lines, kept_events, deliver_frame_by, next_by, publish_now_by, publish_stopped_by, wake_all_by, wake_for_by}
 use Rattle.gr_model.specs.Headline.{Recorded, History, is_record_line, is_record_of, publish_line, unlogged_after, each_flag, may_crash, is_next}
 use Rattle.gr_model.specs.Tree.{IsNet}
-use Rattle.gr_theorems.specs.Fits.{WorldFits, FrameTrue, HostKnows, StepIn, reached_in}
+use Rattle.gr_invariants.specs.Fits.{WorldFits, FrameTrue, HostKnows, StepIn, reached_in}
 use Rattle.gr_theorems.specs.Order.{is_sweep}
-use Rattle.gr_theorems.proofs.calls.HostCases.{publish_cases, marking_cases}
-use Rattle.gr_theorems.proofs.calls.Calls.{trimmed_horizon}
+use Rattle.gr_invariants.proofs.calls.HostCases.{publish_cases, marking_cases}
+use Rattle.gr_invariants.proofs.calls.Calls.{trimmed_horizon}
 use Rattle.gr_theorems.proofs.records.Records.{core, core_of, receive_log, wake_core}
 use Rattle.gr_theorems.proofs.records.Recorded.{RecordsFit, record_core}
 use Rattle.gr_theorems.proofs.records.RecordLines.{recs, wake_for_recs, deliver_recs, publish_now_recs}
 use Rattle.gr_theorems.proofs.hosts.HostHorizon.{wake_meets, publish_meets}
-use Rattle.gr_theorems.proofs.asks.AskMoments.{ExpectFits, ExpectBody}
-use Rattle.gr_theorems.proofs.runs.Closed.{with_logs, frame_at_ready}
-use Rattle.gr_theorems.proofs.runs.Worlds.{Each, absorbed_changed, wake_for_kept}
-use Rattle.gr_theorems.proofs.runs.Schedules.{frame_at_true, get_numbers}
+use Rattle.gr_invariants.proofs.asks.AskMoments.{ExpectFits, ExpectBody}
+use Rattle.gr_invariants.proofs.runs.Closed.{with_logs, frame_at_ready}
+use Rattle.gr_invariants.proofs.runs.Worlds.{Each, absorbed_changed, wake_for_kept}
+use Rattle.gr_invariants.proofs.runs.Schedules.{frame_at_true, get_numbers}
 
 -- some line says that something was logged or marked for p
 abbrev pub told_of : ℕ → List Report → Bool

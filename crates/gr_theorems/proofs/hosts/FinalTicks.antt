@@ -14,12 +14,12 @@ use Rattle.gr_model.specs.Net.{Net, is_host, is_empty, keeps_horizon, not_empty,
 use Rattle.gr_model.specs.Broker.{View, Log, Outcome, empty_log, is_consolidated_by, all_A, publish, wake, receive, started, max_tick}
 use Rattle.gr_model.specs.World.{World, blank_view, view_of, log_of, absorbed, wake_for, deliver_frame, publish_now, restarted, start, wake_for_by, deliver_frame_by, publish_now_by}
 use Rattle.gr_model.specs.Tree.{IsNet}
-use Rattle.gr_theorems.specs.Rules.{Forgets, Knows, Asks, HostWakes, Wakes, Publishes, Comes}
-use Rattle.gr_theorems.specs.Fits.{WorldFits, FrameTrue, reached_in}
-use Rattle.gr_theorems.proofs.rules.HostRules.{wakes_rule, publishes_rule, comes_rule}
-use Rattle.gr_theorems.proofs.runs.Worlds.{Each, Changed, absorbed_changed}
-use Rattle.gr_theorems.proofs.runs.Schedules.{get_numbers, start_is}
-use Rattle.gr_theorems.proofs.runs.Closed.{with_logs, IsClosed}
+use Rattle.gr_invariants.specs.Rules.{Forgets, Knows, Asks, HostWakes, Wakes, Publishes, Comes}
+use Rattle.gr_invariants.specs.Fits.{WorldFits, FrameTrue, reached_in}
+use Rattle.gr_invariants.proofs.rules.HostRules.{wakes_rule, publishes_rule, comes_rule}
+use Rattle.gr_invariants.proofs.runs.Worlds.{Each, Changed, absorbed_changed}
+use Rattle.gr_invariants.proofs.runs.Schedules.{get_numbers, start_is}
+use Rattle.gr_invariants.proofs.runs.Closed.{with_logs, IsClosed}
 
 -- the consolidated ticks of a view are final
 abbrev pub FinalTicks : Net → ℕ → ℕ → View → Type 0

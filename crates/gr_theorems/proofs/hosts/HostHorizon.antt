@@ -11,16 +11,16 @@ use Rattle.gr_know.specs.Values.{Known, known_at, join_K, same_K}
 use Rattle.gr_model.specs.Net.{Net, is_host, keeps_horizon, not_empty, is_empty}
 use Rattle.gr_model.specs.Broker.{View, Log, Outcome, learn, publish, marking, wake, wake_host, wake_below, receive, silence, with_event, with_mark, max_tick}
 use Rattle.gr_model.specs.World.{World, view_of, log_of, absorbed, wake_for, deliver_frame, publish_now, deliver_frame_by, publish_now_by, wake_for_by}
-use Rattle.gr_theorems.specs.Truth.{KnowsTruth}
-use Rattle.gr_theorems.specs.Fits.{facts, reached_in, LogFits, ViewTrue, HostKnows, FrameTrue, WorldFits}
+use Rattle.gr_invariants.specs.Truth.{KnowsTruth}
+use Rattle.gr_invariants.specs.Fits.{facts, reached_in, LogFits, ViewTrue, HostKnows, FrameTrue, WorldFits}
 use Rattle.gr_model.specs.Tree.{IsNet}
-use Rattle.gr_theorems.proofs.calls.HostCases.{publish_cases, marking_cases, news_of}
+use Rattle.gr_invariants.proofs.calls.HostCases.{publish_cases, marking_cases, news_of}
 use Rattle.gr_tick.proofs.RunLaws.{first_bottom_from-is}
-use Rattle.gr_theorems.proofs.calls.CallTruth.{joined-is, learned_horizon, ViewTrue-later}
-use Rattle.gr_theorems.proofs.calls.Calls.{CallTrue, learn_horizon, cutting_same, marking_call, wake_call, publish_call, receive_call, later_facts, silence_true, nothing_true, said_more, published_piece}
+use Rattle.gr_invariants.proofs.calls.CallTruth.{joined-is, learned_horizon, ViewTrue-later}
+use Rattle.gr_invariants.proofs.calls.Calls.{CallTrue, learn_horizon, cutting_same, marking_call, wake_call, publish_call, receive_call, later_facts, silence_true, nothing_true, said_more, published_piece}
 use Rattle.gr_theorems.proofs.heard.Heard.{learn_above, horizon_keeps}
 use Rattle.gr_theorems.proofs.records.Records.{core, receive_log}
-use Rattle.gr_theorems.proofs.runs.Worlds.{absorbed_changed}
+use Rattle.gr_invariants.proofs.runs.Worlds.{absorbed_changed}
 
 -- a call leaves the horizon within what is settled
 pub call_within : (net : Net) (p b : ℕ) (v : View) (log : Log) (reached : ℕ → ℕ) (o : Outcome) → CallTrue net p b v log reached o → o.view.horizon ≤ o.log.settled

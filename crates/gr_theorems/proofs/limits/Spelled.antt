@@ -24,13 +24,13 @@ use Rattle.gr_model.specs.declared.report.Report.TheVariants as line
 use Rattle.gr_model.specs.Net.{Net, not_empty, numbers}
 use Rattle.gr_model.specs.Broker.{Log, Outcome, max_tick, empty_log, with_event, is_kept, publish, wake, receive, started}
 use Rattle.gr_model.specs.World.{World, Transition, blank_view, view_of, log_of, absorbed, unchanged, followed_by, in_turn, wake_for, wake_all, deliver_frame, publish_now, sweep_for, sweep, sweep_moment, frame_at, restarted, crash, publish_stopped, opened_lines, next, start, show, run_all, deliver_frame_by, next_by, publish_now_by, publish_stopped_by, sweep_by, wake_for_by}
-use Rattle.gr_theorems.specs.Truth.{Facts}
+use Rattle.gr_invariants.specs.Truth.{Facts}
 use Rattle.gr_model.specs.Tree.{IsNet}
-use Rattle.gr_theorems.specs.Fits.{facts_of, BodyTrue, FrameTrue, AllFramesTrue, WorldFits, StepIn, StepsIn}
+use Rattle.gr_invariants.specs.Fits.{facts_of, BodyTrue, FrameTrue, AllFramesTrue, WorldFits, StepIn, StepsIn}
 use Rattle.gr_theorems.specs.Spelled.{IsInLimits, NumbersIn, IsSpelled, ViewIn, LogIn, WorldIn}
-use Rattle.gr_theorems.proofs.runs.Worlds.{wake_for_kept, deliver_kept, publish_kept, numbers_below}
-use Rattle.gr_theorems.proofs.runs.Schedules.{next_kept, start_fits, clocked_fits, frame_at_true}
-use Rattle.gr_theorems.proofs.runs.Closed.{clocked, with_logs, IsCallClosed, in_turn_goes, sweep_for_goes, wake_all_goes, frame_at_ready}
+use Rattle.gr_invariants.proofs.runs.Worlds.{wake_for_kept, deliver_kept, publish_kept, numbers_below}
+use Rattle.gr_invariants.proofs.runs.Schedules.{next_kept, start_fits, clocked_fits, frame_at_true}
+use Rattle.gr_invariants.proofs.runs.Closed.{clocked, with_logs, IsCallClosed, in_turn_goes, sweep_for_goes, wake_all_goes, frame_at_ready}
 use Rattle.gr_theorems.proofs.limits.SpelledRuns.{all_on, all_set, all_get, all_tabulated, ends_in, values_in, runs_in, total, total_is}
 use Rattle.gr_theorems.proofs.limits.SpelledCalls.{BodyCut, FrameCut, AllCut, CallIn, BodyIn, wake_in, receive_in, publish_in, with_event_in, started_in}
 

@@ -27,7 +27,7 @@ use Rattle.gr_frame.specs.Limits.{IsKnown, IsWanted}
 use Rattle.gr_model.specs.Net.{Net, is_host, keeps_horizon, wanted_below, pass, numbers_from}
 use Rattle.gr_model.specs.Broker.{View, Log, Outcome, max_tick, head, know_frames, want_frames, expect_frame, up_frames, all_points, is_consolidated_by, consolidated, finished, forgotten, is_F, open_asks, kept_view_below, kept_view, horizon_after, new_ticks, event_ticks, pass_points, passed, forward, still_wanted, forward_frames, forward_wants, learn, due, noted, upward, acknowledged, answer, answers, curious, stored, curiosity, asking, wanted_at_wake, wake_below, covers, expect_frames, expect, any_C, with_event, with_mark, with_cut, event_at, event_points, log_at, log_know, silence, publish, done_upto, cutting, marking, wake_host, wake, started, place_of, clashes, receive}
 use Rattle.gr_theorems.specs.Spelled.{RunsIn, IsMoment, ViewIn, LogIn}
-use Rattle.gr_theorems.proofs.calls.HostCases.{publish_cases, marking_cases, news_of}
+use Rattle.gr_invariants.proofs.calls.HostCases.{publish_cases, marking_cases, news_of}
 use Rattle.gr_theorems.proofs.limits.SpelledRuns.{all_on, all_set, all_get, all_tabulated, AreUpto, points_upto, all_points_upto, value_fits, tabulate_in, both_upto, zip_in, first_bottom_upto, top_upto, forgotten_in, IsPartIn, parts_in}
 
 -- Frames that a broker sends

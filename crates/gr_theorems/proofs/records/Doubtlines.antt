@@ -18,10 +18,10 @@ use Rattle.gr_model.specs.World.{World, Transition, view_of, log_of, absorbed, u
 use Rattle.gr_frame.specs.Bytes.{frame_bytes}
 use Rattle.gr_model.specs.Headline.{is_doubt_line, doubt_place, doubts_shown}
 use Rattle.gr_model.specs.Tree.{IsNet}
-use Rattle.gr_theorems.specs.Fits.{WorldFits, StepIn}
-use Rattle.gr_theorems.proofs.calls.HostCases.{publish_cases, marking_cases}
-use Rattle.gr_theorems.proofs.runs.Schedules.{clocked_fits}
-use Rattle.gr_theorems.proofs.runs.Chains.{Chains, wake_all_chain, sweeps_chain}
+use Rattle.gr_invariants.specs.Fits.{WorldFits, StepIn}
+use Rattle.gr_invariants.proofs.calls.HostCases.{publish_cases, marking_cases}
+use Rattle.gr_invariants.proofs.runs.Schedules.{clocked_fits}
+use Rattle.gr_invariants.proofs.runs.Chains.{Chains, wake_all_chain, sweeps_chain}
 
 -- no doubt line
 abbrev pub Plain : List Report → Type 0

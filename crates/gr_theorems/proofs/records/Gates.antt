@@ -23,11 +23,11 @@ use Rattle.gr_model.specs.Headline.{History, record_of, is_next, is_mark_of, fir
 use Rattle.gr_model.specs.Headline as headline
 use Rattle.gr_model.specs.Opening.{reopened_log, begin_over}
 use Rattle.gr_model.specs.Tree.{IsNet}
-use Rattle.gr_theorems.specs.Fits.{WorldFits, FrameTrue, StepIn}
-use Rattle.gr_theorems.proofs.calls.Calls.{learn_log}
-use Rattle.gr_theorems.proofs.calls.HostCases.{publish_cases, marking_cases}
-use Rattle.gr_theorems.proofs.runs.Chains.{Chains, wake_all_chain, sweeps_chain}
-use Rattle.gr_theorems.proofs.runs.Schedules.{clocked_fits, frame_at_true, get_numbers, start_log}
+use Rattle.gr_invariants.specs.Fits.{WorldFits, FrameTrue, StepIn}
+use Rattle.gr_invariants.proofs.calls.Calls.{learn_log}
+use Rattle.gr_invariants.proofs.calls.HostCases.{publish_cases, marking_cases}
+use Rattle.gr_invariants.proofs.runs.Chains.{Chains, wake_all_chain, sweeps_chain}
+use Rattle.gr_invariants.proofs.runs.Schedules.{clocked_fits, frame_at_true, get_numbers, start_log}
 use Rattle.gr_theorems.proofs.records.Records.{core, core_of, receive_log}
 use Rattle.gr_theorems.proofs.records.Recorded.{RecordsFit, record_core, opened_no_kept}
 use Rattle.gr_theorems.proofs.records.RecordLines.{Skips, receive_none, marking_none, host_lines}

@@ -17,13 +17,13 @@ use Rattle.gr_model.specs.Broker.{View, Log, Outcome, empty_log, is_kept, delive
 use Rattle.gr_model.specs.World.{World, Transition, view_of, log_of, absorbed, unchanged, followed_by, in_turn, sent_line, sent_lines, wake_for, wake_all, deliver_frame, frame_at, publish_now, restarted, crash, publish_stopped, sweep_for, sweep, sweep_moment, next, show, opened_lines, kept_events, deliver_frame_by, next_by, publish_now_by, publish_stopped_by, sweep_by, wake_for_by}
 use Rattle.gr_frame.specs.Bytes.{frame_bytes}
 use Rattle.gr_model.specs.Tree.{IsNet, IsSubscriber}
-use Rattle.gr_theorems.specs.Fits.{WorldFits, StepIn}
-use Rattle.gr_theorems.proofs.calls.HostCases.{publish_cases, marking_cases}
-use Rattle.gr_theorems.proofs.runs.Schedules.{clocked_fits, frame_at_true}
+use Rattle.gr_invariants.specs.Fits.{WorldFits, StepIn}
+use Rattle.gr_invariants.proofs.calls.HostCases.{publish_cases, marking_cases}
+use Rattle.gr_invariants.proofs.runs.Schedules.{clocked_fits, frame_at_true}
 use Rattle.std.specs.List.{list_any}
 use Rattle.std.proofs.lemmas.Bool.{eq-eqb, or_left, or_right}
-use Rattle.gr_theorems.proofs.runs.Worlds.{Each, numbers_below}
-use Rattle.gr_theorems.proofs.runs.Chains.{Chains, wake_all_chain, sweeps_chain}
+use Rattle.gr_invariants.proofs.runs.Worlds.{Each, numbers_below}
+use Rattle.gr_invariants.proofs.runs.Chains.{Chains, wake_all_chain, sweeps_chain}
 
 -- cut and horizon lines name a publisher and a subscriber of the topology, and each doubt line is as G says
 abbrev pub Named : Net → (ℕ → ℕ → ℕ → Type 0) → List Report → Type 0

@@ -15,11 +15,11 @@ use Rattle.gr_model.specs.Broker.{View, Log, Outcome, delivery_lines, got_line, 
 use Rattle.gr_model.specs.World.{World, Transition, view_of, log_of, absorbed, unchanged, followed_by, in_turn, sent_line, sent_lines, wake_for, deliver_frame, publish_now, sweep_for, deliver_frame_by, publish_now_by, wake_for_by}
 use Rattle.gr_model.specs.Headline.{Recorded, is_record_line, is_sent, publish_line, marked, settling}
 use Rattle.gr_model.specs.Tree.{IsNet}
-use Rattle.gr_theorems.specs.Fits.{WorldFits, FrameTrue}
-use Rattle.gr_theorems.proofs.calls.HostCases.{publish_cases, marking_cases}
+use Rattle.gr_invariants.specs.Fits.{WorldFits, FrameTrue}
+use Rattle.gr_invariants.proofs.calls.HostCases.{publish_cases, marking_cases}
 use Rattle.gr_theorems.proofs.records.Records.{core, core_of, marking_core, wake_for_core, wake_for_clock, deliver_core, deliver_clock, sweep_for_marks, sweep_for_marked}
-use Rattle.gr_theorems.proofs.runs.Worlds.{wake_for_kept}
-use Rattle.gr_theorems.proofs.runs.Chains.{Chains, sweep_for_chain}
+use Rattle.gr_invariants.proofs.runs.Worlds.{wake_for_kept}
+use Rattle.gr_invariants.proofs.runs.Chains.{Chains, sweep_for_chain}
 
 -- the recorded lines among some
 abbrev pub recs : List Report → List Report

@@ -19,11 +19,11 @@ use Rattle.gr_model.specs.World.{World, Transition, view_of, log_of, unchanged, 
 use Rattle.gr_model.specs.Headline.{Recorded, History, nothing_recorded, reopened_cut, record_of, is_record_line, is_sent, sent_count, record_lines, records_after, publish_line, opened_of, last_cut, count_past, is_next, tick_of, says_kept, may_crash, is_swept, sweep_at}
 use Rattle.gr_model.specs.Headline as headline
 use Rattle.gr_model.specs.Tree.{IsNet}
-use Rattle.gr_theorems.specs.Fits.{WorldFits, StepIn}
+use Rattle.gr_invariants.specs.Fits.{WorldFits, StepIn}
 use Rattle.gr_theorems.proofs.records.Records.{core, core_of}
 use Rattle.gr_theorems.proofs.records.Recorded.{RecordsFit, record_core, next_records, get_map, opened_no_kept, sweep_same, settled_below}
-use Rattle.gr_theorems.proofs.runs.Schedules.{clocked_fits}
-use Rattle.gr_theorems.proofs.runs.Chains.{wake_all_chain, sweeps_chain}
+use Rattle.gr_invariants.proofs.runs.Schedules.{clocked_fits}
+use Rattle.gr_invariants.proofs.runs.Chains.{wake_all_chain, sweeps_chain}
 use Rattle.gr_theorems.proofs.records.RecordLines.{recs, Sends, sends_chain, sends_none, sends_seq, deliver_recs, deliver_sends, publish_now_recs, publish_now_sends, wakes_recs, sweeps_recs, mark_line}
 
 -- What is opened

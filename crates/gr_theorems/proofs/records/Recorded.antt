@@ -17,11 +17,11 @@ use Rattle.gr_model.specs.Broker.{Log, empty_log, publish, with_event, is_kept, 
 use Rattle.gr_model.specs.World as world
 use Rattle.gr_model.specs.World.{World, Transition, view_of, log_of, absorbed, unchanged, in_turn, wake_for, wake_all, deliver_frame, frame_at, publish_now, publish_stopped, crash, restarted, sweep, sweep_for, sweep_moment, next, start, opened_lines, run_all, run_from, next_by, publish_now_by, publish_stopped_by, run_from_by, sweep_by, wake_all_by}
 use Rattle.gr_model.specs.Headline.{Recorded, History, nothing_recorded, record_of, recording, settling, marked, is_next, greatest, sweep_at, is_swept, each_record, records_after, clock_after, most_after, history_after, history, begin, expected, delivered_events, last_horizon, HorizonsRise, GetsExactly, says_kept}
-use Rattle.gr_theorems.specs.Said.{due_upto}
+use Rattle.gr_invariants.specs.Said.{due_upto}
 use Rattle.gr_model.specs.Tree.{IsNet, IsSubscriber}
-use Rattle.gr_theorems.specs.Fits.{WorldFits, StepIn, StepsIn, FrameTrue, history_of}
-use Rattle.gr_theorems.proofs.runs.Worlds.{wake_for_kept}
-use Rattle.gr_theorems.proofs.runs.Schedules.{next_kept, start_fits, lines_always, frame_at_true, clocked_fits}
+use Rattle.gr_invariants.specs.Fits.{WorldFits, StepIn, StepsIn, FrameTrue, history_of}
+use Rattle.gr_invariants.proofs.runs.Worlds.{wake_for_kept}
+use Rattle.gr_invariants.proofs.runs.Schedules.{next_kept, start_fits, lines_always, frame_at_true, clocked_fits}
 use Rattle.gr_theorems.proofs.records.Records.{core, core_of, absorbed_cores, publish_core, wake_for_core, wake_for_clock, wake_for_most, deliver_core, deliver_clock, deliver_most, sweep_for_marks, sweep_for_marked}
 
 -- the history's records are the cores of the logs

@@ -14,10 +14,10 @@ use Rattle.gr_model.specs.Broker.{View, Log, Outcome, empty_log, publish, wake, 
 use Rattle.gr_model.specs.World.{World, Transition, view_of, log_of, absorbed, unchanged, followed_by, in_turn, wake_for, deliver_frame, deliver_up, wake_up, hand_down, sweep_for, frames_past, sent_since, is_want, is_know_to, at_depth, outwards, inwards, numbers_down, deliver_frame_by, deliver_up_by, hand_down_by, sweep_for_by, wake_for_by, wake_up_by}
 use Rattle.gr_model.specs.Headline.{Recorded, recording, settling, marked, is_next}
 use Rattle.gr_model.specs.Tree.{IsNet}
-use Rattle.gr_theorems.specs.Fits.{WorldFits, FrameTrue}
-use Rattle.gr_theorems.proofs.calls.HostCases.{publish_cases, marking_cases}
-use Rattle.gr_theorems.proofs.calls.Calls.{learn_log}
-use Rattle.gr_theorems.proofs.runs.Worlds.{Kept, Kept-refl, Kept-after, wake_for_kept, deliver_kept, Each, IsLaterWorld, FrameTrue-later, frames_past_true, filter_frames, depths_in}
+use Rattle.gr_invariants.specs.Fits.{WorldFits, FrameTrue}
+use Rattle.gr_invariants.proofs.calls.HostCases.{publish_cases, marking_cases}
+use Rattle.gr_invariants.proofs.calls.Calls.{learn_log}
+use Rattle.gr_invariants.proofs.runs.Worlds.{Kept, Kept-refl, Kept-after, wake_for_kept, deliver_kept, Each, IsLaterWorld, FrameTrue-later, frames_past_true, filter_frames, depths_in}
 
 -- what a log has of the record
 abbrev pub core : Log → Recorded

@@ -22,9 +22,9 @@ use Rattle.gr_model.specs.Broker.{View, Log, Outcome, empty_log, event_at, log_a
 use Rattle.gr_model.specs.World.{World, Transition, view_of, log_of, absorbed, unchanged, followed_by, in_turn, wake_for, wake_all, deliver_frame, frame_at, publish_now, publish_stopped, opened_lines, restarted, crash, greatest_settled, sweep_moment, sweep, sweep_for, deliver_up, wake_up, hand_down, is_want, is_know_to, inwards, outwards, frames_past, sent_since, kept_events, show, next, run_from, wake_for_by, wake_all_by, deliver_frame_by, publish_now_by, publish_stopped_by, deliver_up_by, wake_up_by, hand_down_by, sweep_for_by, sweep_by, next_by, run_from_by}
 use Rattle.gr_pubend.specs.declared.answers.Published.TheVariants.{Logged, Already, Gap, Exhausted}
 use Rattle.gr_pubend.specs.declared.answers.Quieted.TheVariants.{NotYet, Marked}
-use Rattle.gr_theorems.proofs.calls.HostCases.{news_of}
-use Rattle.gr_theorems.proofs.runs.Closed.{with_logs}
-use Rattle.gr_theorems.proofs.runs.Schedules.{log_know-is}
+use Rattle.gr_invariants.proofs.calls.HostCases.{news_of}
+use Rattle.gr_invariants.proofs.runs.Closed.{with_logs}
+use Rattle.gr_invariants.proofs.runs.Schedules.{log_know-is}
 use Rattle.gr_tick.proofs.RunLaws.{runs_equal}
 
 -- Logs

@@ -34,8 +34,8 @@ use Rattle.gr_model.specs.Opening.{reopened_log, over_logs, reopened_line, opene
 use Rattle.gr_model.specs.Headline.{Holds_from}
 use Rattle.gr_model.specs.Arrivals.{Arrival, datagram, quiet, Publish, publishes_of, left_after, at_moment, fits_broker, least_clash, clash_line, fault_number, publisher_of, submitted_in, takes, receives, notes, reads, published_first, quieted, comes, is_hosted, show_hosted, served_from, served, arrived, takes_by, receives_by, notes_by, quieted_by, comes_by, served_from_by, arrived_by, served_by}
 use Rattle.gr_model.specs.Tree.{IsNet}
-use Rattle.gr_theorems.specs.Said.{said_at, TicksRise}
-use Rattle.gr_theorems.specs.Fits.{StepsIn}
+use Rattle.gr_invariants.specs.Said.{said_at, TicksRise}
+use Rattle.gr_invariants.specs.Fits.{StepsIn}
 use Rattle.gr_theorems.specs.Spelled.{NumbersIn}
 use Rattle.gr_theorems.specs.Found.{IsReopened, AreReopened}
 use Rattle.gr_theorems.specs.Served.{IsOfBytes, IsHonestRun, HeadlineServed}
@@ -43,7 +43,7 @@ use Rattle.gr_theorems.specs.Statements.{opened_over}
 use Rattle.gr_theorems.specs.Lanes.{AllFollow, whole_logs, found_logs, past_cut, DifferInCut, HoldsOverLanes, HoldsServedLanes, CutEventsSilent}
 use Rattle.gr_theorems.proofs.limits.Spelled.{IsSmall}
 use Rattle.gr_theorems.proofs.records.Recorded.{get_map}
-use Rattle.gr_theorems.proofs.runs.Closed.{with_logs}
+use Rattle.gr_invariants.proofs.runs.Closed.{with_logs}
 use Rattle.gr_theorems.proofs.server.CutEvents.{with_events, past, SameLog, SameLogs, same_get, same_started, same_learn, SameTold, Follows, same_absorbed, same_unchanged, same_after, same_in_turn, same_wake_all, same_deliver, same_publish_now, same_next, same_run}
 use Rattle.gr_theorems.proofs.server.OverLogs.{headline_over_logs}
 use Rattle.gr_theorems.proofs.server.ServedOver.{headline_served}

@@ -8,13 +8,13 @@ use Rattle.gr_model.specs.Broker.{Log, learn}
 use Rattle.gr_model.specs.World.{World, Transition, view_of, log_of, absorbed, unchanged, in_turn}
 use Rattle.gr_model.specs.Opening.{reopened_log, over_logs, opened_for, publishers_at, opened_for_by, opening_by}
 use Rattle.gr_model.specs.Tree.{IsNet}
-use Rattle.gr_theorems.specs.Fits.{StepsIn}
+use Rattle.gr_invariants.specs.Fits.{StepsIn}
 use Rattle.gr_theorems.specs.Found.{AreReopened}
 use Rattle.gr_theorems.specs.Standing.{Fits}
 use Rattle.gr_theorems.specs.OverLogs.{began_over, world_over, history_over, StandsOver}
-use Rattle.gr_theorems.proofs.runs.Worlds.{Each}
+use Rattle.gr_invariants.proofs.runs.Worlds.{Each}
 use Rattle.gr_theorems.proofs.hosts.FinalTicks.{AllFinal, all_started, final_closed}
-use Rattle.gr_theorems.proofs.runs.Clash.{no_frame_clashes}
+use Rattle.gr_invariants.proofs.runs.Clash.{no_frame_clashes}
 use Rattle.gr_theorems.proofs.sweep.Obeying.{steps_obey}
 use Rattle.gr_theorems.proofs.headline.ReplyLines.{replied_from}
 use Rattle.gr_theorems.proofs.headline.AfterSweeps.{stands_where_sweeps_reach}

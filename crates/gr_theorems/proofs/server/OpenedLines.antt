@@ -15,14 +15,14 @@ use Rattle.gr_model.specs.Broker.{View, Log, data_ticks, got_line, delivery_line
 use Rattle.gr_model.specs.World.{World, Transition, view_of, log_of, absorbed, unchanged, in_turn, sent_lines}
 use Rattle.gr_model.specs.Opening.{over_logs, reopened_line, opened_for, publishers_at, opening, opened_for_by, opening_by}
 use Rattle.gr_theorems.specs.Found.{AreReopened, got_at_once, told_at_opening}
-use Rattle.gr_theorems.specs.Said.{due_upto, due_between}
-use Rattle.gr_theorems.specs.Truth.{Facts, KnowsTruth}
+use Rattle.gr_invariants.specs.Said.{due_upto, due_between}
+use Rattle.gr_invariants.specs.Truth.{Facts, KnowsTruth}
 use Rattle.gr_model.specs.Tree.{IsNet, IsDistinct}
-use Rattle.gr_theorems.specs.Fits.{WorldFits, facts_of}
-use Rattle.gr_theorems.proofs.calls.CallTruth.{HorizonMoves, joined_true, horizon_after-is, learned_horizon}
-use Rattle.gr_theorems.proofs.calls.Calls.{learn_horizon}
-use Rattle.gr_theorems.proofs.calls.Told.{told_is_due, due_upto_past}
-use Rattle.gr_theorems.proofs.runs.Worlds.{Each, absorbed_changed, exact_at}
+use Rattle.gr_invariants.specs.Fits.{WorldFits, facts_of}
+use Rattle.gr_invariants.proofs.calls.CallTruth.{HorizonMoves, joined_true, horizon_after-is, learned_horizon}
+use Rattle.gr_invariants.proofs.calls.Calls.{learn_horizon}
+use Rattle.gr_invariants.proofs.calls.Told.{told_is_due, due_upto_past}
+use Rattle.gr_invariants.proofs.runs.Worlds.{Each, absorbed_changed, exact_at}
 use Rattle.gr_theorems.proofs.records.Records.{HasLine}
 use Rattle.gr_model.proofs.NetOf.{distinct_from}
 use Rattle.gr_theorems.proofs.server.Opening.{Opening, learned_meets, learns_silently, opening_turn, over_view, over_opening, opened_logs}

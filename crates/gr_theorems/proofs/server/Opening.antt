@@ -22,18 +22,18 @@ use Rattle.gr_model.specs.Broker.{View, Log, Outcome, empty_log, head, learn, re
 use Rattle.gr_model.specs.World.{World, Transition, blank_view, view_of, log_of, absorbed, unchanged, in_turn, deliver_frame, sent_lines, deliver_frame_by}
 use Rattle.gr_model.specs.Opening.{reopened_log, over_logs, reopened_line, opened_for, opened_for_by}
 use Rattle.gr_theorems.specs.Found.{IsReopened, AreReopened}
-use Rattle.gr_theorems.specs.Truth.{Facts, KnowsTruth, AllWantTruth}
-use Rattle.gr_theorems.specs.Said.{TicksRise, due_upto}
+use Rattle.gr_invariants.specs.Truth.{Facts, KnowsTruth, AllWantTruth}
+use Rattle.gr_invariants.specs.Said.{TicksRise, due_upto}
 use Rattle.gr_model.specs.Tree.{IsNet, IsSubscriber}
-use Rattle.gr_theorems.specs.Fits.{facts, facts_of, reached_in, LogFits, ViewTrue, CutTrue, HostKnows, FrameTrue, AllFramesTrue, WorldFits, LinesFit}
+use Rattle.gr_invariants.specs.Fits.{facts, facts_of, reached_in, LogFits, ViewTrue, CutTrue, HostKnows, FrameTrue, AllFramesTrue, WorldFits, LinesFit}
 use Rattle.gr_model.specs.Headline.{is_sent}
-use Rattle.gr_theorems.proofs.calls.CallTruth.{new_ticks-is, forward-is}
-use Rattle.gr_theorems.proofs.runs.Clash.{true_pieces}
-use Rattle.gr_theorems.proofs.runs.Worlds.{Each, absorbed_changed, deliver_kept, silent_lines, reached_here}
-use Rattle.gr_theorems.proofs.runs.Schedules.{get_numbers, length_numbers, started_true, started_known}
-use Rattle.gr_theorems.proofs.calls.Telling.{Neutral-nil, Silent}
+use Rattle.gr_invariants.proofs.calls.CallTruth.{new_ticks-is, forward-is}
+use Rattle.gr_invariants.proofs.runs.Clash.{true_pieces}
+use Rattle.gr_invariants.proofs.runs.Worlds.{Each, absorbed_changed, deliver_kept, silent_lines, reached_here}
+use Rattle.gr_invariants.proofs.runs.Schedules.{get_numbers, length_numbers, started_true, started_known}
+use Rattle.gr_invariants.proofs.calls.Telling.{Neutral-nil, Silent}
 use Rattle.gr_theorems.proofs.cuts.Cutlines.{CutFree, CutFree-append, learn_free, sent_free}
-use Rattle.gr_theorems.proofs.asks.AskMoments.{learn_asks, started_asks}
+use Rattle.gr_invariants.proofs.asks.AskMoments.{learn_asks, started_asks}
 use Rattle.gr_theorems.proofs.hosts.BareHosts.{started_horizon}
 use Rattle.gr_theorems.proofs.heard.Heard.{HeardFits}
 use Rattle.gr_theorems.proofs.heard.HeardCalls.{HeardsFit, deliver_heard, started_heard}

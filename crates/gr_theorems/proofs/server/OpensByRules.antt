@@ -10,10 +10,10 @@ use Rattle.gr_model.specs.Broker.{Log}
 use Rattle.gr_model.specs.World.{World, Transition, log_of, absorbed, unchanged, run_from, run_all}
 use Rattle.gr_model.specs.Opening.{over_logs, reopened_line, opened_for, opened_for_by, publishers_at, opening, opening_by}
 use Rattle.gr_model.specs.Tree.{IsNet}
-use Rattle.gr_theorems.specs.Fits.{WorldFits, StepsIn}
+use Rattle.gr_invariants.specs.Fits.{WorldFits, StepsIn}
 use Rattle.gr_theorems.specs.Found.{AreReopened}
 use Rattle.gr_theorems.specs.ByRules.{Tells, EachInTurn, Arrives, HostReaches, OpensLog, Opens, RunByRules, RunsOver}
-use Rattle.gr_theorems.proofs.runs.Worlds.{Kept, Kept-after, Kept-still, Kept-refl, deliver_kept}
+use Rattle.gr_invariants.proofs.runs.Worlds.{Kept, Kept-after, Kept-still, Kept-refl, deliver_kept}
 use Rattle.gr_theorems.proofs.sweep.RunsByRules.{told_same, Exactly, tells_exactly, then_exactly, turns_exactly, arrival_exactly, begins_over, begins_once, run_by_rules, run_once}
 use Rattle.gr_theorems.proofs.server.Opening.{nothing, nothing_is_true, learns, delivered_nothing, found_line_says, over_opening}
 use Rattle.gr_theorems.proofs.server.OverLogs.{opened_whole, publishers_below}

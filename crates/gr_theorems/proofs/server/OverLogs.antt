@@ -13,13 +13,13 @@ use Rattle.gr_model.specs.Opening.{reopened_log, over_logs, publishers_at, openi
 use Rattle.gr_theorems.specs.Found.{AreReopened}
 use Rattle.gr_model.specs.Headline.{Holds_from, reopened_cut, Recorded}
 use Rattle.gr_model.specs.Tree.{IsNet}
-use Rattle.gr_theorems.specs.Fits.{StepsIn}
-use Rattle.gr_theorems.proofs.runs.Worlds.{Each, numbers_below}
-use Rattle.gr_theorems.proofs.runs.Schedules.{get_numbers}
+use Rattle.gr_invariants.specs.Fits.{StepsIn}
+use Rattle.gr_invariants.proofs.runs.Worlds.{Each, numbers_below}
+use Rattle.gr_invariants.proofs.runs.Schedules.{get_numbers}
 use Rattle.gr_theorems.proofs.records.Gates.{over_gates}
 use Rattle.gr_theorems.proofs.records.Records.{HasLine, has_filter, has_flat, has_number, core}
-use Rattle.gr_theorems.proofs.runs.Closed.{Each-kept}
-use Rattle.gr_theorems.proofs.asks.AskMoments.{AsksUpto, ExpectFits, Each-on}
+use Rattle.gr_invariants.proofs.runs.Closed.{Each-kept}
+use Rattle.gr_invariants.proofs.asks.AskMoments.{AsksUpto, ExpectFits, Each-on}
 use Rattle.gr_theorems.proofs.cuts.Cutlines.{CutFree-last, CutFree-have}
 use Rattle.gr_theorems.proofs.cuts.Orders.{CutFits}
 use Rattle.gr_theorems.proofs.heard.HeardCalls.{heard_as}

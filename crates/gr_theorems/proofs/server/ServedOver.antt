@@ -13,11 +13,11 @@ use Rattle.gr_model.specs.Opening.{reopened_log, over_logs, opened_for, publishe
 use Rattle.gr_theorems.specs.Found.{AreReopened}
 use Rattle.gr_model.specs.Arrivals.{Arrival, publishes_of, served, served_by}
 use Rattle.gr_theorems.specs.Served.{IsOfBytes, IsHonestRun, AllDoSteps, HeadlineServed}
-use Rattle.gr_theorems.specs.Edges.{GoesOverEdge}
+use Rattle.gr_invariants.specs.Edges.{GoesOverEdge}
 use Rattle.gr_theorems.specs.Spelled.{NumbersIn, ViewIn, LogIn, WorldIn}
 use Rattle.gr_model.specs.Tree.{IsNet}
-use Rattle.gr_theorems.specs.Fits.{StepsIn}
-use Rattle.gr_theorems.proofs.runs.Worlds.{Each}
+use Rattle.gr_invariants.specs.Fits.{StepsIn}
+use Rattle.gr_invariants.proofs.runs.Worlds.{Each}
 use Rattle.gr_theorems.proofs.limits.SpelledCalls.{started_in}
 use Rattle.gr_theorems.proofs.limits.SpelledRuns.{all_tabulated}
 use Rattle.gr_theorems.proofs.limits.Spelled.{IsSmall, deliver_in, next_in}

@@ -27,17 +27,17 @@ use Rattle.gr_model.specs.declared.report.Report.TheVariants as line
 use Rattle.gr_model.specs.Net.{Net, keeps_horizon, numbers, numbers_from}
 use Rattle.gr_model.specs.Broker.{max_tick}
 use Rattle.gr_model.specs.World.{World, Transition, view_of, log_of, unchanged, sent_lines, next, show, run_from, run_all, kept_events, next_by, run_from_by}
-use Rattle.gr_theorems.specs.Edges.{GoesOverEdge}
+use Rattle.gr_invariants.specs.Edges.{GoesOverEdge}
 use Rattle.gr_model.specs.Arrivals.{Arrival, datagram, quiet, Publish, fault_number, publisher_of, takes_notes, submitted_in, is_hosted, is_scheduled, publishes_in, publishes_of, left_after, comes, show_hosted, served_from, served_from_by}
 use Rattle.gr_theorems.specs.Served.{IsOfBytes, number_of_bytes, IsHonestAt, IsHonest, DoesSteps, AllDoSteps, as_line, publish_step, delivery_step, is_frame, submitted_step, note_step, datagram_step, steps_of_arrival, dropped_as, unsubmitted_as, note_dropped_as, dropped_line, is_dropped, ArrivalTold, ShowHolds, HoldsServed}
 use Rattle.gr_theorems.specs.Spelled.{IsInLimits, NumbersIn, IsSpelled}
 use Rattle.gr_model.specs.Headline.{History, history, is_record_line, is_doubt_line, is_sent, sent_number}
 use Rattle.gr_theorems.specs.Replies.{is_reply}
 use Rattle.gr_model.specs.Tree.{IsNet}
-use Rattle.gr_theorems.specs.Fits.{WorldFits, StepIn, StepsIn}
-use Rattle.gr_theorems.proofs.runs.Worlds.{Each}
-use Rattle.gr_theorems.proofs.runs.Closed.{run_holds, frame_at_ready}
-use Rattle.gr_theorems.proofs.runs.Schedules.{next_kept, clocked_fits, report_lines}
+use Rattle.gr_invariants.specs.Fits.{WorldFits, StepIn, StepsIn}
+use Rattle.gr_invariants.proofs.runs.Worlds.{Each}
+use Rattle.gr_invariants.proofs.runs.Closed.{run_holds, frame_at_ready}
+use Rattle.gr_invariants.proofs.runs.Schedules.{next_kept, clocked_fits, report_lines}
 use Rattle.gr_theorems.proofs.records.Records.{has_number}
 use Rattle.gr_theorems.proofs.records.Recorded.{runs}
 use Rattle.gr_theorems.proofs.sweep.Obeying.{steps_obey}
@@ -47,7 +47,7 @@ use Rattle.gr_theorems.proofs.records.RecordLines.{Sends, sends_none, sends_seq}
 use Rattle.gr_theorems.proofs.records.RecordSteps.{step_sends}
 use Rattle.gr_theorems.proofs.headline.ReplyLines.{numbers_sent}
 use Rattle.gr_theorems.proofs.headline.SoFar.{sent_count_is, lines_long}
-use Rattle.gr_theorems.proofs.topology.Strays.{AllOver, over_closed}
+use Rattle.gr_invariants.proofs.topology.Strays.{AllOver, over_closed}
 use Rattle.gr_theorems.proofs.sweep.SweepStates.{Unknowns}
 use Rattle.gr_theorems.proofs.headline.WithoutSweeps.{Whole}
 use Rattle.gr_theorems.proofs.headline.AfterSweeps.{holds_where_sweeps_reach, stands_where_sweeps_reach}

@@ -12,14 +12,14 @@ use Rattle.gr_model.specs.Net.{Net, is_host, pass}
 use Rattle.gr_model.specs.Broker.{View, Log, Outcome, learn, marking, cutting, silence, with_mark, wake, wake_host, wake_below, expect_frames}
 use Rattle.gr_model.specs.World.{World, view_of, log_of, wake_for, wake_up, deliver_up, frames_past, sent_since, is_want, deliver_up_by, wake_for_by, wake_up_by}
 use Rattle.gr_model.specs.Tree.{IsNet, IsPlace}
-use Rattle.gr_theorems.specs.Fits.{WorldFits, ViewTrue, LogFits, facts}
-use Rattle.gr_theorems.proofs.calls.HostCases.{marking_cases}
-use Rattle.gr_theorems.proofs.calls.CallTruth.{ViewTrue-later}
-use Rattle.gr_theorems.proofs.calls.Calls.{later_facts, silence_true, nothing_true, silence_in}
-use Rattle.gr_theorems.proofs.runs.Worlds.{Each}
-use Rattle.gr_theorems.proofs.asks.AskMoments.{Each-on, Taken, absorbed_taken}
-use Rattle.gr_theorems.proofs.rules.Forwarding.{Has, Has-front, TellsTick, LearnTicks, learn_ticks, wants_of}
-use Rattle.gr_theorems.proofs.rules.Serves.{frames_past_all}
+use Rattle.gr_invariants.specs.Fits.{WorldFits, ViewTrue, LogFits, facts}
+use Rattle.gr_invariants.proofs.calls.HostCases.{marking_cases}
+use Rattle.gr_invariants.proofs.calls.CallTruth.{ViewTrue-later}
+use Rattle.gr_invariants.proofs.calls.Calls.{later_facts, silence_true, nothing_true, silence_in}
+use Rattle.gr_invariants.proofs.runs.Worlds.{Each}
+use Rattle.gr_invariants.proofs.asks.AskMoments.{Each-on, Taken, absorbed_taken}
+use Rattle.gr_invariants.proofs.rules.Forwarding.{Has, Has-front, TellsTick, LearnTicks, learn_ticks, wants_of}
+use Rattle.gr_invariants.proofs.rules.Serves.{frames_past_all}
 use Rattle.gr_theorems.proofs.sweep.Upward.{SentBy, learn_each, expects_each}
 use Rattle.gr_theorems.proofs.sweep.SweepStates.{IsChild}
 

@@ -6,7 +6,7 @@ use Rattle.std.proofs.lemmas.Bool.{cases_Bool, cases_eq, true≢false, eqb-true,
 use Rattle.gr_model.specs.Net.{Net, is_host, numbers, numbers_from}
 use Rattle.gr_model.specs.World.{at_depth, inwards, numbers_down}
 use Rattle.gr_model.specs.Tree.{IsNet}
-use Rattle.gr_theorems.proofs.runs.Worlds.{Each, numbers_below}
+use Rattle.gr_invariants.proofs.runs.Worlds.{Each, numbers_below}
 use Rattle.gr_theorems.proofs.records.Records.{has_inwards}
 use Rattle.gr_theorems.proofs.sweep.FirstPending.{IsIn}
 

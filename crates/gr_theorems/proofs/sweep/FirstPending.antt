@@ -15,15 +15,15 @@ use Rattle.gr_model.specs.Net.{Net, is_host, keeps_horizon}
 use Rattle.gr_model.specs.Broker.{View, Outcome, any_C, is_consolidated_by, place_of, curiosity, receive}
 use Rattle.gr_model.specs.World.{World, view_of, log_of, deliver_frame, frames_past, sent_since, is_want}
 use Rattle.gr_model.specs.Tree.{IsNet}
-use Rattle.gr_theorems.specs.Fits.{WorldFits, FrameTrue, BodyTrue, BodyFits, facts_of}
-use Rattle.gr_theorems.proofs.runs.Worlds.{Each}
-use Rattle.gr_theorems.proofs.asks.AskMoments.{Each-on, ExpectBody}
-use Rattle.gr_theorems.proofs.rules.SweepAsks.{AsksNow, now_closed, asked_now}
-use Rattle.gr_theorems.proofs.asks.CallTicks.{needs}
+use Rattle.gr_invariants.specs.Fits.{WorldFits, FrameTrue, BodyTrue, BodyFits, facts_of}
+use Rattle.gr_invariants.proofs.runs.Worlds.{Each}
+use Rattle.gr_invariants.proofs.asks.AskMoments.{Each-on, ExpectBody}
+use Rattle.gr_invariants.proofs.rules.SweepAsks.{AsksNow, now_closed, asked_now}
+use Rattle.gr_invariants.proofs.asks.CallTicks.{needs}
 use Rattle.gr_theorems.proofs.heard.Heard.{not_done}
-use Rattle.gr_theorems.proofs.rules.Forwarding.{wants_of}
-use Rattle.gr_theorems.proofs.rules.Answering.{UpAsks, Q_is}
-use Rattle.gr_theorems.proofs.rules.Serves.{Stores, frames_past_all, receive_curiosity}
+use Rattle.gr_invariants.proofs.rules.Forwarding.{wants_of}
+use Rattle.gr_invariants.proofs.rules.Answering.{UpAsks, Q_is}
+use Rattle.gr_invariants.proofs.rules.Serves.{Stores, frames_past_all, receive_curiosity}
 use Rattle.gr_theorems.proofs.sweep.Stays.{DeliveredWant, delivered_want, stores_stay, noted_stays}
 use Rattle.gr_theorems.proofs.sweep.Pending.{sent_up, IsPending}
 use Rattle.gr_theorems.proofs.sweep.Upward.{rank_of, sent_up_less, up_kept}

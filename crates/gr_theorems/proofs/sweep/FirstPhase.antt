@@ -12,18 +12,18 @@ use Rattle.gr_model.specs.Net.{Net, is_host, keeps_horizon}
 use Rattle.gr_model.specs.Broker.{View, Outcome, any_C, wake}
 use Rattle.gr_model.specs.World.{World, blank_view, view_of, log_of, in_turn, wake_for, wake_up, frames_past}
 use Rattle.gr_model.specs.Tree.{IsNet}
-use Rattle.gr_theorems.specs.Fits.{WorldFits, facts_of, reached_in}
-use Rattle.gr_theorems.proofs.calls.CallTruth.{true_settled}
-use Rattle.gr_theorems.proofs.runs.Worlds.{wake_for_kept}
+use Rattle.gr_invariants.specs.Fits.{WorldFits, facts_of, reached_in}
+use Rattle.gr_invariants.proofs.calls.CallTruth.{true_settled}
+use Rattle.gr_invariants.proofs.runs.Worlds.{wake_for_kept}
 use Rattle.gr_theorems.proofs.records.Records.{core_of, wake_for_core}
 use Rattle.gr_theorems.proofs.records.Recorded.{marked_now}
 use Rattle.gr_theorems.proofs.hosts.HostHorizon.{wake_meets}
-use Rattle.gr_theorems.proofs.asks.AskMoments.{Taken}
-use Rattle.gr_theorems.proofs.rules.SweepAsks.{AsksNow, now_closed}
-use Rattle.gr_theorems.proofs.asks.CallTicks.{needs}
-use Rattle.gr_theorems.proofs.rules.Forwarding.{Has, wants_of}
-use Rattle.gr_theorems.proofs.rules.Answering.{Q_is, wants_true_at}
-use Rattle.gr_theorems.proofs.rules.Serves.{TellsKnown, Stores, known_of}
+use Rattle.gr_invariants.proofs.asks.AskMoments.{Taken}
+use Rattle.gr_invariants.proofs.rules.SweepAsks.{AsksNow, now_closed}
+use Rattle.gr_invariants.proofs.asks.CallTicks.{needs}
+use Rattle.gr_invariants.proofs.rules.Forwarding.{Has, wants_of}
+use Rattle.gr_invariants.proofs.rules.Answering.{Q_is, wants_true_at}
+use Rattle.gr_invariants.proofs.rules.Serves.{TellsKnown, Stores, known_of}
 use Rattle.gr_theorems.proofs.sweep.Stays.{same_stores}
 use Rattle.gr_theorems.proofs.sweep.Path.{Path, Has-past, Has-last}
 use Rattle.gr_theorems.proofs.sweep.SweepStates.{IsChild, Begins, Asked, first_phase}
@@ -32,7 +32,7 @@ use Rattle.gr_theorems.proofs.sweep.FirstPending.{HasAskedAll, FirstAt, longer}
 use Rattle.gr_theorems.proofs.sweep.FirstOrder.{HostLast, host_last, woken_before}
 use Rattle.gr_theorems.proofs.sweep.FirstTurns.{Turned, turned, TurnsKeep, turns_keep}
 use Rattle.gr_theorems.proofs.sweep.FirstHost.{TellsMark, host_tells, host_alone, woken_taken}
-use Rattle.gr_theorems.proofs.runs.Chains.{in_turn_append}
+use Rattle.gr_invariants.proofs.runs.Chains.{in_turn_append}
 
 get_or_past : {X : Type 0} (xs : List X) (i : ℕ) (d : X) → length xs ≤ i → get_or xs i d ≡ d
 get_or_past [] i d l = refl

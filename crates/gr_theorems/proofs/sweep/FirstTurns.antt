@@ -8,8 +8,8 @@ use Rattle.gr_model.specs.Headline.{Recorded}
 use Rattle.gr_model.specs.Net.{Net, is_host}
 use Rattle.gr_model.specs.World.{World, in_turn, wake_for, wake_up, sent_since, is_want, wake_up_by}
 use Rattle.gr_model.specs.Tree.{IsNet}
-use Rattle.gr_theorems.specs.Fits.{WorldFits}
-use Rattle.gr_theorems.proofs.runs.Worlds.{Each, wake_for_kept, wake_up_kept, filter_frames, frames_past_true}
+use Rattle.gr_invariants.specs.Fits.{WorldFits}
+use Rattle.gr_invariants.proofs.runs.Worlds.{Each, wake_for_kept, wake_up_kept, filter_frames, frames_past_true}
 use Rattle.gr_theorems.proofs.records.Records.{core_of, wake_for_core, deliver_core}
 use Rattle.gr_theorems.proofs.sweep.Upward.{rank_of, sent_up_less, ranks}
 use Rattle.gr_theorems.proofs.sweep.Pending.{IsPending, deliver_up_all}

@@ -19,19 +19,19 @@ use Rattle.gr_curio.specs.Values.{Wanted, wanted_at, is_C, is_A}
 use Rattle.gr_model.specs.Net.{Net, is_host, keeps_horizon, numbers}
 use Rattle.gr_model.specs.Broker.{View, Log, Outcome, empty_log, all_A, any_C, horizon_if, is_reached, is_consolidated_by, new_ticks, forward, still_wanted, forward_wants, learn, asking, expect, curiosity, curious, stored, acknowledged, place_of, publish, silence, with_event, with_mark, marking, wake, wake_host, wake_below, receive, clashes, noted, due, started}
 use Rattle.gr_model.specs.World.{World, blank_view, view_of, log_of, absorbed, wake_for, deliver_frame, publish_now, restarted, start, run_all, deliver_frame_by, publish_now_by, wake_for_by}
-use Rattle.gr_theorems.specs.Truth.{Facts, KnowsTruth, WantsTruth, AllWantTruth}
+use Rattle.gr_invariants.specs.Truth.{Facts, KnowsTruth, WantsTruth, AllWantTruth}
 use Rattle.gr_model.specs.Tree.{IsNet, IsPlace}
-use Rattle.gr_theorems.specs.Fits.{WorldFits, FrameTrue, ViewTrue, LogFits, BodyTrue, BodyFits, StepsIn, facts, facts_of, reached_in}
-use Rattle.gr_theorems.proofs.calls.HostCases.{publish_cases, marking_cases, news_of}
-use Rattle.gr_theorems.proofs.calls.CallTruth.{ViewTrue-later, new_ticks-is, forward-is, quenched-is}
-use Rattle.gr_theorems.proofs.calls.Calls.{later_facts, silence_true, nothing_true, published_piece, said_more, trimmed_wants}
-use Rattle.gr_theorems.proofs.asks.CallTicks.{trimmed-is}
-use Rattle.gr_theorems.proofs.rules.Forwarding.{learn_ticks, quenched_at, quench_not_C, wants_of}
-use Rattle.gr_theorems.proofs.rules.Answering.{curiosity_ticks, acknowledged_at, acknowledged-is, stored-is, wants_true_at}
-use Rattle.gr_theorems.proofs.asks.AskMoments.{Taken, absorbed_taken}
-use Rattle.gr_theorems.proofs.runs.Worlds.{Each}
-use Rattle.gr_theorems.proofs.runs.Schedules.{get_numbers}
-use Rattle.gr_theorems.proofs.runs.Closed.{clocked, with_logs, IsClosed, IsCallClosed, holds_always}
+use Rattle.gr_invariants.specs.Fits.{WorldFits, FrameTrue, ViewTrue, LogFits, BodyTrue, BodyFits, StepsIn, facts, facts_of, reached_in}
+use Rattle.gr_invariants.proofs.calls.HostCases.{publish_cases, marking_cases, news_of}
+use Rattle.gr_invariants.proofs.calls.CallTruth.{ViewTrue-later, new_ticks-is, forward-is, quenched-is}
+use Rattle.gr_invariants.proofs.calls.Calls.{later_facts, silence_true, nothing_true, published_piece, said_more, trimmed_wants}
+use Rattle.gr_invariants.proofs.asks.CallTicks.{trimmed-is}
+use Rattle.gr_invariants.proofs.rules.Forwarding.{learn_ticks, quenched_at, quench_not_C, wants_of}
+use Rattle.gr_invariants.proofs.rules.Answering.{curiosity_ticks, acknowledged_at, acknowledged-is, stored-is, wants_true_at}
+use Rattle.gr_invariants.proofs.asks.AskMoments.{Taken, absorbed_taken}
+use Rattle.gr_invariants.proofs.runs.Worlds.{Each}
+use Rattle.gr_invariants.proofs.runs.Schedules.{get_numbers}
+use Rattle.gr_invariants.proofs.runs.Closed.{clocked, with_logs, IsClosed, IsCallClosed, holds_always}
 use Rattle.gr_theorems.proofs.sweep.SweepStates.{Unknowns}
 
 -- Lists of what children want

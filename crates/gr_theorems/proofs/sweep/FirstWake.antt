@@ -15,13 +15,13 @@ use Rattle.gr_model.specs.Net.{Net, is_host, keeps_horizon}
 use Rattle.gr_model.specs.Broker.{View, Outcome, any_C, is_consolidated_by, wake, up_frames, wanted_at_wake}
 use Rattle.gr_model.specs.World.{World, view_of, log_of, wake_for, wake_up, frames_past, sent_since, is_want, wake_up_by}
 use Rattle.gr_model.specs.Tree.{IsNet}
-use Rattle.gr_theorems.specs.Fits.{WorldFits}
-use Rattle.gr_theorems.proofs.runs.Worlds.{Each, wake_for_kept, filter_frames, frames_past_true}
-use Rattle.gr_theorems.proofs.rules.SweepAsks.{now_closed, asked_now}
-use Rattle.gr_theorems.proofs.asks.CallTicks.{needs, wake_piece, wake_asked, asked_is_needed, needed_is_asked, asked_is_noted}
-use Rattle.gr_theorems.proofs.rules.Forwarding.{Has, WantsTick, up_frames_want, wants_of}
-use Rattle.gr_theorems.proofs.rules.Answering.{SentUp, up_frames_sent, Q_is}
-use Rattle.gr_theorems.proofs.rules.Serves.{TellsKnown, frames_past_all}
+use Rattle.gr_invariants.specs.Fits.{WorldFits}
+use Rattle.gr_invariants.proofs.runs.Worlds.{Each, wake_for_kept, filter_frames, frames_past_true}
+use Rattle.gr_invariants.proofs.rules.SweepAsks.{now_closed, asked_now}
+use Rattle.gr_invariants.proofs.asks.CallTicks.{needs, wake_piece, wake_asked, asked_is_needed, needed_is_asked, asked_is_noted}
+use Rattle.gr_invariants.proofs.rules.Forwarding.{Has, WantsTick, up_frames_want, wants_of}
+use Rattle.gr_invariants.proofs.rules.Answering.{SentUp, up_frames_sent, Q_is}
+use Rattle.gr_invariants.proofs.rules.Serves.{TellsKnown, frames_past_all}
 use Rattle.gr_theorems.proofs.sweep.Stays.{WokenBelow, woken_below, stores_stay_wake}
 use Rattle.gr_theorems.proofs.sweep.Upward.{rank_of, up_kept, ranks}
 use Rattle.gr_theorems.proofs.sweep.Pending.{deliver_up_all}

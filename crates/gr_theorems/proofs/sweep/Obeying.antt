@@ -13,19 +13,19 @@ use Rattle.gr_model.specs.declared.report.Report.{Report}
 use Rattle.gr_model.specs.declared.report.Report.TheVariants as line
 use Rattle.gr_frame.specs.Bytes.{frame_bytes}
 use Rattle.gr_model.specs.Net.{Net, keeps_horizon, not_empty, numbers}
-use Rattle.gr_theorems.specs.Rules.{Publishes, Wakes, Comes}
+use Rattle.gr_invariants.specs.Rules.{Publishes, Wakes, Comes}
 use Rattle.gr_model.specs.Broker.{View, Log, Outcome, started, with_event, is_kept, max_tick, publish, wake, receive}
 use Rattle.gr_model.specs.World.{absorbed, World, Transition, is_want, inwards, outwards, view_of, log_of, unchanged, in_turn, wake_for, wake_all, deliver_frame, frame_at, publish_now, opened_lines, restarted, crash, publish_stopped, sweep, sweep_moment, kept_events, show, next, start, run_from, report_of, deliver_frame_by, next_by, publish_now_by, publish_stopped_by, report_of_by, run_from_by, sweep_by, wake_all_by, wake_for_by}
 use Rattle.gr_model.specs.Tree.{IsNet}
-use Rattle.gr_theorems.specs.Fits.{WorldFits, StepIn, StepsIn, reached_in}
+use Rattle.gr_invariants.specs.Fits.{WorldFits, StepIn, StepsIn, reached_in}
 use Rattle.gr_model.specs.Headline.{says_kept}
 use Rattle.gr_theorems.specs.Settles.{sent_past, Call, wakes, delivers, made, all_made, WasSent, EachSent, at_sweep, sweep_calls, is_accepted, calls_in_turn, up_calls, wake_calls, down_calls, sweep_calls_for}
 use Rattle.gr_theorems.specs.Obeys.{Action, publishes, makes, done, all_done, CallObeys, AllObey, is_next_of, calls_of, called_in, is_own, crashed_in, Obeys, StepObeys, StepsObey, CallsObey}
-use Rattle.gr_theorems.proofs.runs.Worlds.{depths_in, Each, wake_for_kept, deliver_kept, numbers_below}
-use Rattle.gr_theorems.proofs.runs.Schedules.{start_fits, next_kept, clocked_fits, frame_at_true}
+use Rattle.gr_invariants.proofs.runs.Worlds.{depths_in, Each, wake_for_kept, deliver_kept, numbers_below}
+use Rattle.gr_invariants.proofs.runs.Schedules.{start_fits, next_kept, clocked_fits, frame_at_true}
 use Rattle.gr_theorems.proofs.sweep.SweepCalls.{made_is, sweep_is_calls, sweep_sent}
 use Rattle.gr_theorems.proofs.sweep.Rounds.{Each-join}
-use Rattle.gr_theorems.proofs.rules.HostRules.{wakes_rule, publishes_rule, comes_rule}
+use Rattle.gr_invariants.proofs.rules.HostRules.{wakes_rule, publishes_rule, comes_rule}
 
 -- One call
 

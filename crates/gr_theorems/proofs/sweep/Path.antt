@@ -13,10 +13,10 @@ use Rattle.gr_model.specs.Net.{Net, is_host}
 use Rattle.gr_model.specs.Broker.{receive}
 use Rattle.gr_model.specs.World.{World, view_of, log_of, deliver_frame, frames_past, sent_since, is_want}
 use Rattle.gr_model.specs.Tree.{IsNet}
-use Rattle.gr_theorems.specs.Fits.{WorldFits, FrameTrue}
-use Rattle.gr_theorems.proofs.rules.SweepAsks.{AsksNow}
-use Rattle.gr_theorems.proofs.rules.Forwarding.{Has, Has-front, Has-back, WantsTick, WantsBody}
-use Rattle.gr_theorems.proofs.rules.Serves.{TellsKnown, Stores, Served, delivered_serves, frames_past_all}
+use Rattle.gr_invariants.specs.Fits.{WorldFits, FrameTrue}
+use Rattle.gr_invariants.proofs.rules.SweepAsks.{AsksNow}
+use Rattle.gr_invariants.proofs.rules.Forwarding.{Has, Has-front, Has-back, WantsTick, WantsBody}
+use Rattle.gr_invariants.proofs.rules.Serves.{TellsKnown, Stores, Served, delivered_serves, frames_past_all}
 use Rattle.gr_theorems.proofs.sweep.Stays.{DeliveredWant, delivered_want, stores_stay, noted_stays}
 use Rattle.gr_theorems.proofs.sweep.Pending.{sent_up}
 use Rattle.gr_curio.specs.declared.asks.Moment.TheVariants.{At}

@@ -6,8 +6,8 @@ use Rattle.gr_frame.specs.declared.Frame.{Frame}
 use Rattle.gr_model.specs.Net.{Net}
 use Rattle.gr_model.specs.World.{World, Transition, deliver_frame, deliver_up, followed_by, in_turn, sent_since, is_want, deliver_up_by}
 use Rattle.gr_model.specs.Tree.{IsNet}
-use Rattle.gr_theorems.specs.Fits.{WorldFits, FrameTrue}
-use Rattle.gr_theorems.proofs.runs.Worlds.{Each, Kept, Kept-after, FrameTrue-later, deliver_kept, deliver_up_kept, filter_frames, frames_past_true}
+use Rattle.gr_invariants.specs.Fits.{WorldFits, FrameTrue}
+use Rattle.gr_invariants.proofs.runs.Worlds.{Each, Kept, Kept-after, FrameTrue-later, deliver_kept, deliver_up_kept, filter_frames, frames_past_true}
 
 -- the upward frames that the delivery of a frame sends
 abbrev pub sent_up : Net → World → Frame → List Frame

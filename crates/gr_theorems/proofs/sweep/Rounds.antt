@@ -6,7 +6,7 @@ use Rattle.std.proofs.lemmas.Bool.{cases_Bool, cases_eq, false≢true, or_left, 
 use Rattle.gr_model.specs.Net.{Net, numbers, numbers_from}
 use Rattle.gr_model.specs.World.{at_depth, outwards, inwards, numbers_down}
 use Rattle.gr_model.specs.Tree.{IsDistinct}
-use Rattle.gr_theorems.proofs.runs.Worlds.{Each}
+use Rattle.gr_invariants.proofs.runs.Worlds.{Each}
 
 -- the broker stands in the list
 abbrev pub stands : List ℕ → ℕ → Bool

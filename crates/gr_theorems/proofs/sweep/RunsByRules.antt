@@ -21,15 +21,15 @@ use Rattle.gr_model.specs.Broker.{View, Log, Outcome, empty_log, log_at, log_kno
 use Rattle.gr_model.specs.World.{World, Transition, blank_view, view_of, log_of, with_view, absorbed, unchanged, followed_by, in_turn, sent_lines, wake_for, wake_all, deliver_frame, frame_at, publish_now, frames_past, sent_since, is_want, is_know_to, inwards, outwards, numbers_down, opened_lines, restarted, crash, publish_stopped, deliver_up, wake_up, hand_down, sweep_for, sweep, sweep_moment, show, next, start, run_from, run_all, report_of, wake_for_by, wake_all_by, deliver_frame_by, publish_now_by, publish_stopped_by, deliver_up_by, wake_up_by, hand_down_by, sweep_for_by, sweep_by, next_by, run_from_by, report_of_by}
 use Rattle.gr_model.specs.Opening.{reopened_log, over_logs}
 use Rattle.gr_model.specs.Tree.{IsNet}
-use Rattle.gr_theorems.specs.Fits.{WorldFits, FrameTrue, StepIn, StepsIn, reached_in}
-use Rattle.gr_theorems.specs.Rules.{HasKnown, Publishes, Wakes, Comes, RulesDetermine}
+use Rattle.gr_invariants.specs.Fits.{WorldFits, FrameTrue, StepIn, StepsIn, reached_in}
+use Rattle.gr_invariants.specs.Rules.{HasKnown, Publishes, Wakes, Comes, RulesDetermine}
 use Rattle.gr_theorems.specs.Settles.{is_accepted, at_sweep}
 use Rattle.gr_theorems.specs.Obeys.{is_next_of}
 use Rattle.gr_theorems.specs.ByRules.{Tells, Then, EachInTurn, Starts, StartsAll, BeginsOver, Begins, StartsAgain, Calls, IsPublished, IsWoken, Arrives, SetsClock, Crashes, fate, logs_left, Stops, upward_since, AtOnce, WakesUp, HandsDown, SweepsFor, SweepsAll, Sweeps, shown, Delivers, ShowsBytes, Happens, RunByRules, ScheduleByRules, ReportByRules}
-use Rattle.gr_theorems.proofs.runs.Worlds.{Kept, IsLaterWorld, FrameTrue-later, Each, wake_for_kept, deliver_kept, wake_up_kept, hand_down_kept, sweep_for_kept, in_turn_kept, frames_past_true, filter_frames, depths_in, numbers_below}
-use Rattle.gr_theorems.proofs.runs.Schedules.{log_know-is, get_numbers, length_numbers, clocked_fits, frame_at_true, next_kept, start_fits}
-use Rattle.gr_theorems.proofs.rules.HostRules.{wakes_rule, publishes_rule, comes_rule}
-use Rattle.gr_theorems.proofs.rules.Determined.{determined}
+use Rattle.gr_invariants.proofs.runs.Worlds.{Kept, IsLaterWorld, FrameTrue-later, Each, wake_for_kept, deliver_kept, wake_up_kept, hand_down_kept, sweep_for_kept, in_turn_kept, frames_past_true, filter_frames, depths_in, numbers_below}
+use Rattle.gr_invariants.proofs.runs.Schedules.{log_know-is, get_numbers, length_numbers, clocked_fits, frame_at_true, next_kept, start_fits}
+use Rattle.gr_invariants.proofs.rules.HostRules.{wakes_rule, publishes_rule, comes_rule}
+use Rattle.gr_invariants.proofs.rules.Determined.{determined}
 use Rattle.gr_theorems.proofs.sweep.Pending.{sent_up, delivered_up, one_kept, up_true, Each-weaker}
 use Rattle.gr_theorems.proofs.sweep.Upward.{rank_of, ranks, sent_up_less}
 use Rattle.gr_theorems.proofs.sweep.Obeying.{told_at}

@@ -14,15 +14,15 @@ use Rattle.gr_model.specs.Net.{Net, is_host, keeps_horizon, numbers_from}
 use Rattle.gr_model.specs.Broker.{View, Outcome, wake, receive, is_consolidated_by}
 use Rattle.gr_model.specs.World.{World, view_of, log_of, absorbed, in_turn, wake_for, deliver_frame, wake_up, sweep_for, inwards, numbers_down, frames_past, is_want, deliver_frame_by, sweep_for_by, wake_for_by}
 use Rattle.gr_model.specs.Tree.{IsNet}
-use Rattle.gr_theorems.specs.Fits.{WorldFits, FrameTrue, reached_in}
-use Rattle.gr_theorems.proofs.calls.Calls.{wake_call, receive_call}
+use Rattle.gr_invariants.specs.Fits.{WorldFits, FrameTrue, reached_in}
+use Rattle.gr_invariants.proofs.calls.Calls.{wake_call, receive_call}
 use Rattle.gr_theorems.proofs.heard.Heard.{cases_Q, is_Q_at, not_done}
-use Rattle.gr_theorems.proofs.runs.Worlds.{Each, depths_in, numbers_below}
-use Rattle.gr_theorems.proofs.asks.AskMoments.{Taken, absorbed_taken}
-use Rattle.gr_theorems.proofs.rules.SweepAsks.{sweep_for_now}
-use Rattle.gr_theorems.proofs.runs.Closed.{Goes, IsCallClosed, in_turn_goes, wake_up_goes, sweep_for_goes}
-use Rattle.gr_theorems.proofs.rules.Forwarding.{Has, TellsBody}
-use Rattle.gr_theorems.proofs.rules.Serves.{TellsKnown, frames_past_all}
+use Rattle.gr_invariants.proofs.runs.Worlds.{Each, depths_in, numbers_below}
+use Rattle.gr_invariants.proofs.asks.AskMoments.{Taken, absorbed_taken}
+use Rattle.gr_invariants.proofs.rules.SweepAsks.{sweep_for_now}
+use Rattle.gr_invariants.proofs.runs.Closed.{Goes, IsCallClosed, in_turn_goes, wake_up_goes, sweep_for_goes}
+use Rattle.gr_invariants.proofs.rules.Forwarding.{Has, TellsBody}
+use Rattle.gr_invariants.proofs.rules.Serves.{TellsKnown, frames_past_all}
 use Rattle.gr_theorems.proofs.sweep.Stays.{DeliveredWant, delivered_want, WokenBelow, woken_below}
 use Rattle.gr_theorems.proofs.sweep.SweepHears.{tells_to, tells_body}
 use Rattle.gr_theorems.proofs.sweep.SweepStates.{Unknowns, Begins, Asked, first_phase, second_phase}

@@ -5,7 +5,7 @@ use Rattle.std.specs.Prelude.{nat_eq, filter, flat_map}
 use Rattle.std.proofs.lemmas.Bool.{cases_eq, eq-eqb, ne_eqb}
 use Rattle.gr_model.specs.Net.{Net, numbers_from}
 use Rattle.gr_model.specs.World.{World, Transition, in_turn, at_depth, outwards}
-use Rattle.gr_theorems.proofs.runs.Chains.{in_turn_append}
+use Rattle.gr_invariants.proofs.runs.Chains.{in_turn_append}
 
 -- a broker has had its turn, where those of depth d have it from 0 on and a is next
 abbrev pub Had : Net → ℕ → ℕ → ℕ → ℕ → Type 0

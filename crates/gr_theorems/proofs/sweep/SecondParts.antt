@@ -7,11 +7,11 @@ use Rattle.gr_model.specs.Net.{Net, numbers}
 use Rattle.gr_model.specs.Broker.{Outcome, wake, receive}
 use Rattle.gr_model.specs.World.{World, view_of, log_of, absorbed, followed_by, in_turn, wake_for, deliver_frame, deliver_up, wake_up, hand_down, sweep_for, frames_past, sent_since, is_want, is_know_to, outwards, inwards, numbers_down, deliver_frame_by, deliver_up_by, hand_down_by, sweep_for_by, wake_for_by, wake_up_by}
 use Rattle.gr_model.specs.Tree.{IsNet}
-use Rattle.gr_theorems.specs.Fits.{WorldFits, FrameTrue, AllFit, AllFramesTrue, reached_in}
-use Rattle.gr_theorems.proofs.calls.Calls.{wake_call, receive_call}
-use Rattle.gr_theorems.proofs.runs.Worlds.{Kept-refl, Each, IsLaterWorld, FrameTrue-later, wake_for_kept, deliver_kept, depths_in, frames_past_true, filter_frames}
-use Rattle.gr_theorems.proofs.runs.Closed.{Goes, Goes-after, in_turn_goes, Each-both}
-use Rattle.gr_theorems.proofs.rules.Serves.{frames_past_all}
+use Rattle.gr_invariants.specs.Fits.{WorldFits, FrameTrue, AllFit, AllFramesTrue, reached_in}
+use Rattle.gr_invariants.proofs.calls.Calls.{wake_call, receive_call}
+use Rattle.gr_invariants.proofs.runs.Worlds.{Kept-refl, Each, IsLaterWorld, FrameTrue-later, wake_for_kept, deliver_kept, depths_in, frames_past_true, filter_frames}
+use Rattle.gr_invariants.proofs.runs.Closed.{Goes, Goes-after, in_turn_goes, Each-both}
+use Rattle.gr_invariants.proofs.rules.Serves.{frames_past_all}
 use Rattle.gr_theorems.proofs.sweep.SecondTurn.{IsKnowTo, all_know_to}
 
 -- a property that the wakes for a publisher and the deliveries of its Curiosity frames keep

@@ -14,14 +14,14 @@ use Rattle.gr_model.specs.Net.{Net, is_host, keeps_horizon}
 use Rattle.gr_model.specs.Broker.{View, any_C, place_of}
 use Rattle.gr_model.specs.World.{World, view_of, log_of, hand_down, frames_past}
 use Rattle.gr_model.specs.Tree.{IsNet}
-use Rattle.gr_theorems.specs.Fits.{WorldFits}
+use Rattle.gr_invariants.specs.Fits.{WorldFits}
 use Rattle.gr_theorems.proofs.heard.Heard.{cases_Q}
-use Rattle.gr_theorems.proofs.asks.AskMoments.{ExpectFits}
-use Rattle.gr_theorems.proofs.rules.SweepAsks.{AsksNow, now_closed}
-use Rattle.gr_theorems.proofs.runs.Closed.{Goes, hand_down_goes}
-use Rattle.gr_theorems.proofs.asks.CallTicks.{needs}
-use Rattle.gr_theorems.proofs.rules.Forwarding.{Has, wants_of}
-use Rattle.gr_theorems.proofs.rules.Serves.{TellsKnown, Stores}
+use Rattle.gr_invariants.proofs.asks.AskMoments.{ExpectFits}
+use Rattle.gr_invariants.proofs.rules.SweepAsks.{AsksNow, now_closed}
+use Rattle.gr_invariants.proofs.runs.Closed.{Goes, hand_down_goes}
+use Rattle.gr_invariants.proofs.asks.CallTicks.{needs}
+use Rattle.gr_invariants.proofs.rules.Forwarding.{Has, wants_of}
+use Rattle.gr_invariants.proofs.rules.Serves.{TellsKnown, Stores}
 use Rattle.gr_theorems.proofs.sweep.Path.{Has-past}
 use Rattle.gr_theorems.proofs.sweep.SweepStates.{IsChild, Unknowns, Begins, Asked, Calm, first_phase, second_phase}
 use Rattle.gr_theorems.proofs.sweep.SecondTurn.{BringsTick, Leaves, turn_leaves, turn_tells, turn_rises, handed, told_handed}

@@ -17,20 +17,20 @@ use Rattle.gr_curio.specs.Values.{Wanted, wanted_at, asked_at, is_C}
 use Rattle.gr_model.specs.Net.{Net, keeps_horizon, pass}
 use Rattle.gr_model.specs.Broker.{View, Log, Outcome, learn, receive, clashes, any_C, is_consolidated_by, forward, forward_wants, new_ticks, still_wanted, consolidated, finished}
 use Rattle.gr_model.specs.World.{World, view_of, log_of, absorbed, in_turn, deliver_frame, hand_down, frames_past, is_know_to, deliver_frame_by, hand_down_by}
-use Rattle.gr_theorems.specs.Truth.{Facts, KnowsTruth, AllWantTruth}
+use Rattle.gr_invariants.specs.Truth.{Facts, KnowsTruth, AllWantTruth}
 use Rattle.gr_model.specs.Tree.{IsNet, IsPlace}
-use Rattle.gr_theorems.specs.Fits.{WorldFits, FrameTrue, BodyTrue, ViewTrue, facts_of, reached_in}
+use Rattle.gr_invariants.specs.Fits.{WorldFits, FrameTrue, BodyTrue, ViewTrue, facts_of, reached_in}
 use Rattle.gr_tick.proofs.RunLaws.{first_bottom_from-is}
-use Rattle.gr_theorems.proofs.calls.CallTruth.{learned_horizon, joined-is, learn_wants, new_ticks-is, forward-is, quenched-is, finished-is, done_runs}
-use Rattle.gr_theorems.proofs.calls.Calls.{CallTrue, receive_call, join_not_Q}
-use Rattle.gr_theorems.proofs.runs.Clash.{true_pieces}
+use Rattle.gr_invariants.proofs.calls.CallTruth.{learned_horizon, joined-is, learn_wants, new_ticks-is, forward-is, quenched-is, finished-is, done_runs}
+use Rattle.gr_invariants.proofs.calls.Calls.{CallTrue, receive_call, join_not_Q}
+use Rattle.gr_invariants.proofs.runs.Clash.{true_pieces}
 use Rattle.gr_theorems.proofs.heard.Heard.{cases_Q, horizon_keeps, learn_above}
-use Rattle.gr_theorems.proofs.runs.Worlds.{Each, IsLaterWorld, FrameTrue-later, deliver_kept, filter_frames, frames_past_true}
-use Rattle.gr_theorems.proofs.asks.AskMoments.{Taken, absorbed_taken}
-use Rattle.gr_theorems.proofs.asks.CallTicks.{trimmed-is}
-use Rattle.gr_theorems.proofs.rules.Forwarding.{Has, TellsBody, pass_not_Q, is_Q_of, not_A, wants_of, quenched_at, LearnTicks, learn_ticks}
-use Rattle.gr_theorems.proofs.rules.Answering.{not_settled}
-use Rattle.gr_theorems.proofs.rules.Serves.{TellsKnown, known_of}
+use Rattle.gr_invariants.proofs.runs.Worlds.{Each, IsLaterWorld, FrameTrue-later, deliver_kept, filter_frames, frames_past_true}
+use Rattle.gr_invariants.proofs.asks.AskMoments.{Taken, absorbed_taken}
+use Rattle.gr_invariants.proofs.asks.CallTicks.{trimmed-is}
+use Rattle.gr_invariants.proofs.rules.Forwarding.{Has, TellsBody, pass_not_Q, is_Q_of, not_A, wants_of, quenched_at, LearnTicks, learn_ticks}
+use Rattle.gr_invariants.proofs.rules.Answering.{not_settled}
+use Rattle.gr_invariants.proofs.rules.Serves.{TellsKnown, known_of}
 use Rattle.gr_theorems.proofs.sweep.Path.{Has-past, Has-last}
 use Rattle.gr_theorems.proofs.sweep.SweepStates.{Unknowns}
 use Rattle.gr_theorems.proofs.sweep.FirstUnknown.{unknown_calls}

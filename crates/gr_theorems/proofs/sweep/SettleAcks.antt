@@ -15,13 +15,13 @@ use Rattle.gr_curio.specs.Values.{Wanted, wanted_at, asked_at, is_C, is_A, is_ou
 use Rattle.gr_model.specs.Net.{Net, is_host, keeps_horizon, pass}
 use Rattle.gr_model.specs.Broker.{View, Log, know_frames, want_frames, all_A, any_C, consolidated, finished, due, up_frames, place_of, answer, answers, curious, stored, acknowledged, curiosity}
 use Rattle.gr_model.specs.Tree.{IsDistinct}
-use Rattle.gr_theorems.specs.Truth.{Facts, WantsTruth}
-use Rattle.gr_theorems.specs.Fits.{ViewTrue}
+use Rattle.gr_invariants.specs.Truth.{Facts, WantsTruth}
+use Rattle.gr_invariants.specs.Fits.{ViewTrue}
 use Rattle.gr_tick.proofs.RunLaws.{AreRunsOf, runs_equal}
-use Rattle.gr_theorems.proofs.asks.CallTicks.{due-at}
-use Rattle.gr_theorems.proofs.rules.Forwarding.{wants_of}
-use Rattle.gr_theorems.proofs.rules.Answering.{SameLength, wants_true_at, acknowledged-is, answers-is, stored-is, curiosity_wanted}
-use Rattle.gr_theorems.proofs.calls.Calls.{trimmed_wants}
+use Rattle.gr_invariants.proofs.asks.CallTicks.{due-at}
+use Rattle.gr_invariants.proofs.rules.Forwarding.{wants_of}
+use Rattle.gr_invariants.proofs.rules.Answering.{SameLength, wants_true_at, acknowledged-is, answers-is, stored-is, curiosity_wanted}
+use Rattle.gr_invariants.proofs.calls.Calls.{trimmed_wants}
 
 -- Lists of runs in which nothing stands
 

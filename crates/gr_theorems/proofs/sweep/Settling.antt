@@ -15,22 +15,22 @@ use Rattle.gr_curio.specs.Values.{Wanted, wanted_at, asked_at, is_C, is_outstand
 use Rattle.gr_model.specs.Net.{Net, is_host, keeps_horizon}
 use Rattle.gr_model.specs.Broker.{View, Log, Outcome, any_C, horizon_if, is_reached, is_consolidated_by, consolidated, up_frames, want_frames, place_of, head, wake, wake_host, wake_below, asking, marking, cutting, with_cut, done_upto, expect_frames, expect_frame, covers, curious, receive}
 use Rattle.gr_model.specs.World.{World, view_of, log_of, wake_for, deliver_frame, sent_since, frames_past, is_want, wake_for_by}
-use Rattle.gr_theorems.specs.Truth.{Facts, AllWantTruth}
+use Rattle.gr_invariants.specs.Truth.{Facts, AllWantTruth}
 use Rattle.gr_model.specs.Tree.{IsNet}
-use Rattle.gr_theorems.specs.Fits.{WorldFits, FrameTrue, BodyFits, BodyTrue, facts_of}
-use Rattle.gr_theorems.proofs.calls.HostCases.{marking_cases}
+use Rattle.gr_invariants.specs.Fits.{WorldFits, FrameTrue, BodyFits, BodyTrue, facts_of}
+use Rattle.gr_invariants.proofs.calls.HostCases.{marking_cases}
 use Rattle.gr_curio.specs.declared.asks.Moment.TheVariants.{At}
 use Rattle.gr_tick.proofs.RunLaws.{first_bottom_from-is}
-use Rattle.gr_theorems.proofs.calls.Pieces.{AllParts, cut_frames-parts}
-use Rattle.gr_theorems.proofs.calls.CallTruth.{done_runs, done_values}
-use Rattle.gr_theorems.proofs.calls.Calls.{cutting_same}
+use Rattle.gr_invariants.proofs.calls.Pieces.{AllParts, cut_frames-parts}
+use Rattle.gr_invariants.proofs.calls.CallTruth.{done_runs, done_values}
+use Rattle.gr_invariants.proofs.calls.Calls.{cutting_same}
 use Rattle.gr_theorems.proofs.records.Records.{receive_log}
-use Rattle.gr_theorems.proofs.runs.Worlds.{Each}
-use Rattle.gr_theorems.proofs.asks.AskMoments.{Each-on, Taken, absorbed_taken}
-use Rattle.gr_theorems.proofs.asks.CallTicks.{wake_piece, wake_asked, not_asked, just_asked}
-use Rattle.gr_theorems.proofs.rules.Forwarding.{Has, WantsTick, WantsBody, wants_of, up_frames_want}
-use Rattle.gr_theorems.proofs.rules.Answering.{same_length, acknowledged_at}
-use Rattle.gr_theorems.proofs.rules.Serves.{receive_curiosity, frames_past_all}
+use Rattle.gr_invariants.proofs.runs.Worlds.{Each}
+use Rattle.gr_invariants.proofs.asks.AskMoments.{Each-on, Taken, absorbed_taken}
+use Rattle.gr_invariants.proofs.asks.CallTicks.{wake_piece, wake_asked, not_asked, just_asked}
+use Rattle.gr_invariants.proofs.rules.Forwarding.{Has, WantsTick, WantsBody, wants_of, up_frames_want}
+use Rattle.gr_invariants.proofs.rules.Answering.{same_length, acknowledged_at}
+use Rattle.gr_invariants.proofs.rules.Serves.{receive_curiosity, frames_past_all}
 use Rattle.gr_theorems.proofs.sweep.Stays.{DeliveredWant, delivered_want, WokenBelow, woken_below}
 use Rattle.gr_theorems.proofs.sweep.Pending.{sent_up}
 use Rattle.gr_theorems.proofs.sweep.Rounds.{stands}

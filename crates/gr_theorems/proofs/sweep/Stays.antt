@@ -13,14 +13,14 @@ use Rattle.gr_curio.specs.Values.{Wanted, wanted_at, asked_at, is_A}
 use Rattle.gr_model.specs.Net.{Net, is_host, keeps_horizon}
 use Rattle.gr_model.specs.Broker.{Outcome, place_of, receive, curious, is_consolidated_by, wake, wake_below, wake_host}
 use Rattle.gr_model.specs.World.{World, view_of, log_of, deliver_frame, wake_for, deliver_frame_by, wake_for_by}
-use Rattle.gr_theorems.specs.Fits.{facts_of, WorldFits, FrameTrue, BodyTrue, BodyFits}
+use Rattle.gr_invariants.specs.Fits.{facts_of, WorldFits, FrameTrue, BodyTrue, BodyFits}
 use Rattle.gr_model.specs.Tree.{IsNet}
-use Rattle.gr_theorems.proofs.runs.Worlds.{deliver_kept}
-use Rattle.gr_theorems.proofs.asks.AskMoments.{Taken, absorbed_taken}
-use Rattle.gr_theorems.proofs.asks.CallTicks.{WakeTicks, wake_ticks}
-use Rattle.gr_theorems.proofs.rules.Forwarding.{wants_of}
-use Rattle.gr_theorems.proofs.rules.Answering.{CuriosityTicks, curiosity_ticks, not_settled}
-use Rattle.gr_theorems.proofs.rules.Serves.{receive_curiosity, Stores}
+use Rattle.gr_invariants.proofs.runs.Worlds.{deliver_kept}
+use Rattle.gr_invariants.proofs.asks.AskMoments.{Taken, absorbed_taken}
+use Rattle.gr_invariants.proofs.asks.CallTicks.{WakeTicks, wake_ticks}
+use Rattle.gr_invariants.proofs.rules.Forwarding.{wants_of}
+use Rattle.gr_invariants.proofs.rules.Answering.{CuriosityTicks, curiosity_ticks, not_settled}
+use Rattle.gr_invariants.proofs.rules.Serves.{receive_curiosity, Stores}
 use Rattle.gr_curio.specs.declared.asks.Moment.TheVariants.{At}
 
 -- what the delivery of a Curiosity frame does, by ticks

@@ -16,13 +16,13 @@ use Rattle.gr_model.specs.Broker.{View, Log, Outcome, marking, cutting, wake, wa
 use Rattle.gr_model.specs.World.{World, Transition, view_of, log_of, absorbed, unchanged, followed_by, in_turn, sent_lines, wake_for, deliver_frame, sweep, sweep_for, sweep_moment, deliver_frame_by, sweep_by, wake_for_by}
 use Rattle.gr_model.specs.Headline.{know_of_line, hearing, hearing_all}
 use Rattle.gr_model.specs.Tree.{IsNet}
-use Rattle.gr_theorems.specs.Fits.{WorldFits, FrameTrue}
+use Rattle.gr_invariants.specs.Fits.{WorldFits, FrameTrue}
 use Rattle.gr_theorems.proofs.records.RecordLines.{Skips, receive_none, marking_none, host_lines}
 use Rattle.gr_theorems.proofs.heard.HeardSteps.{Pieces, HeardLong, heard_in, AddsHeard, body_adds, know_of_body, know_of_sent}
 use Rattle.gr_theorems.proofs.heard.HeardCalls.{hears_body}
-use Rattle.gr_theorems.proofs.runs.Worlds.{Each}
-use Rattle.gr_theorems.proofs.runs.Chains.{Chains, sweeps_chain}
-use Rattle.gr_theorems.proofs.runs.Schedules.{clocked_fits}
+use Rattle.gr_invariants.proofs.runs.Worlds.{Each}
+use Rattle.gr_invariants.proofs.runs.Chains.{Chains, sweeps_chain}
+use Rattle.gr_invariants.proofs.runs.Schedules.{clocked_fits}
 
 -- what frames add to what was heard
 abbrev pub hear_frames : Pieces → List Frame → Pieces

@@ -12,16 +12,16 @@ use Rattle.gr_model.specs.Tree.{IsNet}
 use Rattle.gr_sched.specs.declared.step.Step.{Step}
 use Rattle.gr_sched.specs.declared.step.Step.TheVariants as step
 use Rattle.gr_sched.specs.declared.step.Line.{Line}
-use Rattle.gr_theorems.specs.Fits.{WorldFits, FrameTrue, HostKnows, StepIn, reached_in}
-use Rattle.gr_theorems.proofs.calls.Calls.{CallTrue, wake_call, receive_call}
+use Rattle.gr_invariants.specs.Fits.{WorldFits, FrameTrue, HostKnows, StepIn, reached_in}
+use Rattle.gr_invariants.proofs.calls.Calls.{CallTrue, wake_call, receive_call}
 use Rattle.gr_theorems.proofs.records.Records.{core_of, receive_log, wake_core}
 use Rattle.gr_theorems.proofs.records.Recorded.{RecordsFit, Sweeps, sweeps_from, marked_now, settled_below}
 use Rattle.gr_theorems.proofs.records.RecordLines.{sweeps_recs}
 use Rattle.gr_theorems.proofs.hosts.HostHorizon.{wake_meets}
-use Rattle.gr_theorems.proofs.runs.Worlds.{Each, absorbed_changed}
-use Rattle.gr_theorems.proofs.asks.AskMoments.{ExpectFits}
-use Rattle.gr_theorems.proofs.runs.Chains.{Chains, sweeps_chain}
-use Rattle.gr_theorems.proofs.runs.Schedules.{clocked_fits}
+use Rattle.gr_invariants.proofs.runs.Worlds.{Each, absorbed_changed}
+use Rattle.gr_invariants.proofs.asks.AskMoments.{ExpectFits}
+use Rattle.gr_invariants.proofs.runs.Chains.{Chains, sweeps_chain}
+use Rattle.gr_invariants.proofs.runs.Schedules.{clocked_fits}
 use Rattle.gr_theorems.proofs.hosts.BareHosts.{Unlogged, bare_by, RecordsFirst, tells_bare, tells_still, told_of, told_recs, told_append, host_horizon, host_settled}
 
 -- the horizon of the host only rises, and where the log went on it has come there

@@ -6,8 +6,8 @@ use Rattle.std.proofs.lemmas.Bool.{eq-eqb, ne_eqb}
 use Rattle.gr_frame.specs.declared.Frame.{Frame}
 use Rattle.gr_model.specs.World.{World, frame_at, frames_past}
 use Rattle.gr_theorems.specs.Settles.{Call, wakes, delivers, numbers_of, sent_past, delivered, times}
-use Rattle.gr_theorems.proofs.runs.Worlds.{Each}
-use Rattle.gr_theorems.proofs.rules.Serves.{frames_past_all}
+use Rattle.gr_invariants.proofs.runs.Worlds.{Each}
+use Rattle.gr_invariants.proofs.rules.Serves.{frames_past_all}
 use Rattle.gr_theorems.proofs.sweep.SweepCalls.{Grows}
 
 pub times-append : (k : ℕ) (xs ys : List ℕ) → times k (xs ++ ys) ≡ times k xs + times k ys

@@ -9,9 +9,9 @@ use Rattle.gr_model.specs.Net.{Net}
 use Rattle.gr_model.specs.World.{World, Transition, in_turn, wake_for, deliver_frame, frames_past, sent_since, is_want, is_know_to, deliver_up, wake_up, hand_down, sweep_for, inwards, outwards, numbers_down, deliver_up_by, sweep_for_by, wake_up_by}
 use Rattle.gr_theorems.specs.Settles.{Call, delivers, made, all_made, numbers_of, sent_past, calls_in_turn, up_calls, wake_calls, down_calls, sweep_calls_for, times, is_expect}
 use Rattle.gr_model.specs.Tree.{IsNet, IsDistinct}
-use Rattle.gr_theorems.specs.Fits.{WorldFits, FrameTrue, AllFramesTrue}
-use Rattle.gr_theorems.proofs.runs.Worlds.{Each, FrameTrue-later, wake_for_kept, deliver_kept, wake_up_kept, hand_down_kept, in_turn_kept, filter_frames, frames_past_true, depths_in}
-use Rattle.gr_theorems.proofs.rules.Serves.{frames_past_all}
+use Rattle.gr_invariants.specs.Fits.{WorldFits, FrameTrue, AllFramesTrue}
+use Rattle.gr_invariants.proofs.runs.Worlds.{Each, FrameTrue-later, wake_for_kept, deliver_kept, wake_up_kept, hand_down_kept, in_turn_kept, filter_frames, frames_past_true, depths_in}
+use Rattle.gr_invariants.proofs.rules.Serves.{frames_past_all}
 use Rattle.gr_theorems.proofs.sweep.Pending.{sent_up, delivered_up, one_kept, up_true, Each-weaker}
 use Rattle.gr_theorems.proofs.sweep.Upward.{rank_of, sent_up_less, ranks}
 use Rattle.gr_theorems.proofs.sweep.Rounds.{stands, Each-map, AllDeeper, outwards_deeper, outwards_once, stands_outwards}

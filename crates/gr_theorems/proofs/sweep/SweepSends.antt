@@ -12,11 +12,11 @@ use Rattle.gr_frame.specs.declared.Frame.{Frame}
 use Rattle.gr_model.specs.Net.{Net, is_host}
 use Rattle.gr_model.specs.Broker.{View, Log, Outcome, head, know_frames, forward, new_ticks, forward_frames, learn, curiosity, expect, place_of, clashes, receive, marking, cutting, silence, with_mark, wake, wake_host, wake_below, expect_frames}
 use Rattle.gr_model.specs.World.{World, Transition, view_of, log_of, absorbed, followed_by, in_turn, wake_for, deliver_frame, frames_past, sent_since, is_want, is_know_to, deliver_up, wake_up, hand_down, deliver_frame_by, deliver_up_by, hand_down_by, wake_for_by, wake_up_by}
-use Rattle.gr_theorems.proofs.calls.HostCases.{marking_cases}
-use Rattle.gr_theorems.proofs.runs.Worlds.{Each}
-use Rattle.gr_theorems.proofs.asks.AskMoments.{Each-on}
-use Rattle.gr_theorems.proofs.runs.Closed.{Each-kept}
-use Rattle.gr_theorems.proofs.rules.Serves.{frames_past_all}
+use Rattle.gr_invariants.proofs.calls.HostCases.{marking_cases}
+use Rattle.gr_invariants.proofs.runs.Worlds.{Each}
+use Rattle.gr_invariants.proofs.asks.AskMoments.{Each-on}
+use Rattle.gr_invariants.proofs.runs.Closed.{Each-kept}
+use Rattle.gr_invariants.proofs.rules.Serves.{frames_past_all}
 use Rattle.gr_theorems.proofs.sweep.Upward.{SentBy, learn_each, expects_each, asking_each, receive_each}
 use Rattle.gr_theorems.proofs.sweep.Rounds.{stands, Each-map, Each-join, each_tested}
 use Rattle.gr_theorems.proofs.sweep.SweepCalls.{Grows}

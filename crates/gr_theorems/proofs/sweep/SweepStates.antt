@@ -8,12 +8,12 @@ use Rattle.gr_curio.specs.Values.{wanted_at, asked_at}
 use Rattle.gr_model.specs.Net.{Net, is_host, keeps_horizon}
 use Rattle.gr_model.specs.Broker.{any_C}
 use Rattle.gr_model.specs.World.{World, view_of, log_of, in_turn, wake_up, inwards, hand_down, outwards, frames_past}
-use Rattle.gr_theorems.specs.Fits.{WorldFits}
-pub use Rattle.gr_theorems.specs.Rules.{IsChild}
-use Rattle.gr_theorems.proofs.rules.SweepAsks.{AsksNow}
-use Rattle.gr_theorems.proofs.rules.Forwarding.{Has, wants_of}
-use Rattle.gr_theorems.proofs.asks.CallTicks.{needs}
-use Rattle.gr_theorems.proofs.rules.Serves.{TellsKnown, Stores}
+use Rattle.gr_invariants.specs.Fits.{WorldFits}
+pub use Rattle.gr_invariants.specs.Rules.{IsChild}
+use Rattle.gr_invariants.proofs.rules.SweepAsks.{AsksNow}
+use Rattle.gr_invariants.proofs.rules.Forwarding.{Has, wants_of}
+use Rattle.gr_invariants.proofs.asks.CallTicks.{needs}
+use Rattle.gr_invariants.proofs.rules.Serves.{TellsKnown, Stores}
 
 -- a broker that has stored a child's question does not know the tick
 pub record Unknowns (net : Net) (w : World) : Type 0 where

@@ -7,8 +7,8 @@ use Rattle.gr_frame.specs.declared.Frame.{Frame}
 use Rattle.gr_model.specs.Net.{Net, is_host, keeps_horizon}
 use Rattle.gr_model.specs.World.{World, view_of, log_of, in_turn, wake_for, wake_up, inwards, numbers_down, sent_since, is_want, wake_up_by}
 use Rattle.gr_model.specs.Tree.{IsNet}
-use Rattle.gr_theorems.specs.Fits.{WorldFits}
-use Rattle.gr_theorems.proofs.runs.Worlds.{Each, wake_for_kept, wake_up_kept, filter_frames, frames_past_true, depths_in}
+use Rattle.gr_invariants.specs.Fits.{WorldFits}
+use Rattle.gr_invariants.proofs.runs.Worlds.{Each, wake_for_kept, wake_up_kept, filter_frames, frames_past_true, depths_in}
 use Rattle.gr_theorems.proofs.sweep.Pending.{IsPending, deliver_up_all}
 use Rattle.gr_theorems.proofs.sweep.Upward.{rank_of, sent_up_less, ranks}
 use Rattle.gr_theorems.proofs.sweep.SweepStates.{Calm}

@@ -12,10 +12,10 @@ use Rattle.gr_model.specs.Broker.{View, Log, Outcome, know_frames, want_frames, 
 use Rattle.gr_frame.specs.Bytes.{known_run_size, wanted_run_size, cut_frames}
 use Rattle.gr_model.specs.World.{World, view_of, log_of, absorbed, is_want, deliver_frame_by}
 use Rattle.gr_model.specs.Tree.{IsNet}
-use Rattle.gr_theorems.specs.Fits.{WorldFits, FrameTrue}
-use Rattle.gr_theorems.proofs.runs.Worlds.{Each}
-use Rattle.gr_theorems.proofs.asks.AskMoments.{Each-on}
-use Rattle.gr_theorems.proofs.rules.Serves.{frames_past_all}
+use Rattle.gr_invariants.specs.Fits.{WorldFits, FrameTrue}
+use Rattle.gr_invariants.proofs.runs.Worlds.{Each}
+use Rattle.gr_invariants.proofs.asks.AskMoments.{Each-on}
+use Rattle.gr_invariants.proofs.rules.Serves.{frames_past_all}
 use Rattle.gr_theorems.proofs.sweep.Pending.{sent_up}
 
 -- a property of each kind of frame that a broker sends for a publisher

@@ -7,7 +7,7 @@ use Rattle.gr_curio.specs.declared.values.Q3.TheVariants.{N, C}
 use Rattle.gr_curio.specs.Values.{wanted_at, is_C}
 use Rattle.gr_curio.specs.Wants.{runs_of, wants_of}
 use Rattle.gr_broker.proofs.Forwarding.{forwarded, forwarded_whole, sends_forwarded}
-use Rattle.gr_broker.proofs.Untouched.{answers_none}
+use Rattle.gr_walks.proofs.Untouched.{answers_none}
 use Rattle.gr_broker.proofs.learning.forward_to.Goals as goal
 
 pub returns-then-is_untouched-clause-adds : goal.returns-then-is_untouched-clause-adds

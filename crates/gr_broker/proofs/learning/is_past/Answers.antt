@@ -9,7 +9,7 @@ use Rattle.gr_tick.proofs.RunsLemmas.{value_at_past}
 use Rattle.gr_know.specs.declared.values.K.{K}
 use Rattle.gr_know.specs.declared.values.K.TheVariants.{Q}
 use Rattle.gr_know.specs.Values.{Known, known_at, is_Q, new_K}
-use Rattle.gr_broker.proofs.Untouched.{told_from}
+use Rattle.gr_walks.proofs.Untouched.{told_from}
 use Rattle.gr_broker.proofs.learning.is_past.Goals as goal
 
 first_is : (xs : Known) (r : Run K) → slice_get xs 0 ≡ Some r → r ≡ get_or xs 0 r

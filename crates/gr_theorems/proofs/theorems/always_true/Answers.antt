@@ -1,4 +1,4 @@
-use Rattle.gr_theorems.proofs.runs.Schedules.{always_true as by_steps}
+use Rattle.gr_invariants.proofs.runs.Schedules.{always_true as by_steps}
 use Rattle.gr_theorems.proofs.theorems.always_true.Goals as goal
 
 pub returns : goal.returns

@@ -1,4 +1,4 @@
-use Rattle.gr_theorems.proofs.runs.LeastClash.{clash_is_least, none_clashes}
+use Rattle.gr_invariants.proofs.runs.LeastClash.{clash_is_least, none_clashes}
 use Rattle.gr_theorems.proofs.theorems.clashes_are_least.Goals as goal
 
 pub returns-clause-some : goal.returns-clause-some

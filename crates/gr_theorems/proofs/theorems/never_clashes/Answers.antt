@@ -1,6 +1,6 @@
 use Rattle.gr_model.specs.World.{start, run_all}
-use Rattle.gr_theorems.proofs.runs.Schedules.{always_true}
-use Rattle.gr_theorems.proofs.runs.Clash.{no_frame_clashes}
+use Rattle.gr_invariants.proofs.runs.Schedules.{always_true}
+use Rattle.gr_invariants.proofs.runs.Clash.{no_frame_clashes}
 use Rattle.gr_theorems.proofs.theorems.never_clashes.Goals as goal
 
 pub returns : goal.returns

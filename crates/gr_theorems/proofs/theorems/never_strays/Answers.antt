@@ -1,4 +1,4 @@
-use Rattle.gr_theorems.proofs.topology.Strays.{no_strays}
+use Rattle.gr_invariants.proofs.topology.Strays.{no_strays}
 use Rattle.gr_theorems.proofs.theorems.never_strays.Goals as goal
 
 pub returns : goal.returns

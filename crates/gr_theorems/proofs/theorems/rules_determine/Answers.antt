@@ -1,4 +1,4 @@
-use Rattle.gr_theorems.proofs.rules.Determined.{determined}
+use Rattle.gr_invariants.proofs.rules.Determined.{determined}
 use Rattle.gr_theorems.proofs.theorems.rules_determine.Goals as goal
 
 pub returns : goal.returns

@@ -1,0 +1,5 @@
+pub mod calls
+pub mod runs
+pub mod asks
+pub mod rules
+pub mod topology

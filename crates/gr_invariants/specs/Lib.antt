@@ -1,0 +1,5 @@
+pub mod Truth
+pub mod Said
+pub mod Fits
+pub mod Edges
+pub mod Rules

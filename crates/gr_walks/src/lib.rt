@@ -1,0 +1,10 @@
+//! Walks over pieces of what is known and of what is wanted, run by run: what a child is sent, told and asked of them.
+//!
+//! Each answers a new piece, and fails only where memory is refused.
+#![tactic(auto)]
+
+mod walks;
+mod wanted;
+
+pub use walks::{is_acknowledged, is_untouched, left_of, quenched, said_of, unacknowledged};
+pub use wanted::{unknown_of, wanted_on, whole_of};
