@@ -18,7 +18,7 @@ fn reads_fail_where_listed(rt: HostRuntime) -> Result<(), Fail> {
         let mut source = MemSource::new(rt.alloc(), b"abcde", &fails)?;
         let mut piece = [0u8; 2];
         for answer in answers {
-            assert_eq!(rt; source.read(&mut piece).unwrap_or(9), answer);
+            assert!(rt; source.read(&mut piece).unwrap_or(9) == answer);
         }
     }
     Ok(())
@@ -37,10 +37,10 @@ fn writes_fail_where_listed_or_full(rt: HostRuntime) -> Result<(), Fail> {
     for (fails, answers, taken) in rows {
         let mut sink = MemSink::new(rt.alloc(), 7, &fails)?;
         for answer in answers {
-            assert_eq!(rt; sink.write(b"xyz").unwrap_or(9), answer);
+            assert!(rt; sink.write(b"xyz").unwrap_or(9) == answer);
         }
-        assert_eq!(rt; sink.write(b"").unwrap_or(9), 0);
-        assert_eq!(rt; sink.bytes().len(), taken);
+        assert!(rt; sink.write(b"").unwrap_or(9) == 0);
+        assert!(rt; sink.bytes().len() == taken);
     }
     Ok(())
 }
@@ -48,33 +48,27 @@ fn writes_fail_where_listed_or_full(rt: HostRuntime) -> Result<(), Fail> {
 #[test]
 fn reads_a_whole_source(rt: HostRuntime) -> Result<(), Fail> {
     let mut source = MemSource::new(rt.alloc(), b"abcde", &[])?;
-    assert_eq!(rt;
-        read_all(rt.alloc(), &mut source, 4)?.as_slice(),
-        b"abcd".as_slice()
-    );
-    assert_eq!(rt;
-        read_all(rt.alloc(), &mut source, 4)?.as_slice(),
-        b"e".as_slice()
-    );
+    assert!(rt; read_all(rt.alloc(), &mut source, 4)?.as_slice() == b"abcd".as_slice());
+    assert!(rt; read_all(rt.alloc(), &mut source, 4)?.as_slice() == b"e".as_slice());
     let mut failing = MemSource::new(rt.alloc(), b"abcde", &[2])?;
     let failed = read_all(rt.alloc(), &mut failing, 9).err();
-    assert_eq!(rt; failed, Some(ReadFault::Failed));
+    assert!(rt; failed == Some(ReadFault::Failed));
     Ok(())
 }
 
 #[test]
 fn writes_a_whole_text(rt: HostRuntime) -> Result<(), Fail> {
     let mut sink = MemSink::new(rt.alloc(), 9, &[2])?;
-    assert_eq!(rt; write_all(&mut sink, b"first "), Ok(()));
-    assert_eq!(rt; write_all(&mut sink, b"lost"), Err(Failed));
-    assert_eq!(rt; write_all(&mut sink, b"second"), Err(Failed));
-    assert_eq!(rt; sink.bytes(), b"first sec".as_slice());
+    assert!(rt; write_all(&mut sink, b"first ") == Ok(()));
+    assert!(rt; write_all(&mut sink, b"lost") == Err(Failed));
+    assert!(rt; write_all(&mut sink, b"second") == Err(Failed));
+    assert!(rt; sink.bytes() == b"first sec".as_slice());
     Ok(())
 }
 
 #[test]
 fn takes_want_of_memory(rt: HostRuntime) {
-    assert_eq!(rt; RunFault::from(std::alloc::AllocError), RunFault::Memory);
+    assert!(rt; RunFault::from(std::alloc::AllocError) == RunFault::Memory);
 }
 
 /// A write behind `a`, and then a sync that the stop breaks, with the picks and what the crash leaves.
@@ -91,12 +85,12 @@ fn crashes_with_the_picked_image(rt: HostRuntime) -> Result<(), Fail> {
         disk.put(0, b"abc")?;
         disk.reserve(0, 8)?;
         disk.stop_after(0, 2, pick);
-        assert_eq!(rt; disk.write_at(0, 1, b"XYZ"), Ok(()));
+        assert!(rt; disk.write_at(0, 1, b"XYZ") == Ok(()));
         assert!(rt; !disk.stopped(0));
-        assert_eq!(rt; disk.sync(0), Err(Failed));
+        assert!(rt; disk.sync(0) == Err(Failed));
         assert!(rt; disk.stopped(0));
         disk.crash(0);
-        assert_eq!(rt; disk.lane(0), image);
+        assert!(rt; disk.lane(0) == image);
         assert!(rt; !disk.stopped(0));
     }
     Ok(())
@@ -119,16 +113,16 @@ fn disk_calls_fail_where_listed(rt: HostRuntime) -> Result<(), Fail> {
         let mut disk = MemDisk::new(rt.alloc(), &[call])?;
         disk.put(3, b"abcd")?;
         disk.reserve(3, 8)?;
-        assert_eq!(rt; disk.size(3).is_err(), call == 1);
+        assert!(rt; disk.size(3).is_err() == (call == 1));
         let mut piece = *b"--";
-        assert_eq!(rt; disk.read(3, 1, &mut piece).is_err(), call == 2);
-        assert_eq!(rt; piece, if call == 2 { *b"--" } else { *b"bc" });
-        assert_eq!(rt; disk.write_at(3, 4, b"e").is_err(), call == 3);
-        assert_eq!(rt; disk.cut(3, 2).is_err(), call == 4);
-        assert_eq!(rt; disk.sync(3).is_err(), call == 5);
+        assert!(rt; disk.read(3, 1, &mut piece).is_err() == (call == 2));
+        assert!(rt; piece == (if call == 2 { *b"--" } else { *b"bc" }));
+        assert!(rt; disk.write_at(3, 4, b"e").is_err() == (call == 3));
+        assert!(rt; disk.cut(3, 2).is_err() == (call == 4));
+        assert!(rt; disk.sync(3).is_err() == (call == 5));
         disk.crash(3);
-        assert_eq!(rt; disk.size(3).is_err(), call == 6);
-        assert_eq!(rt; disk.lane(3), left);
+        assert!(rt; disk.size(3).is_err() == (call == 6));
+        assert!(rt; disk.lane(3) == left);
     }
     Ok(())
 }
@@ -145,11 +139,11 @@ fn a_post_gives_its_script(rt: HostRuntime) -> Result<(), Fail> {
     post.raw(7, b"no", 5)?;
     post.raw(0, b"long", 6)?;
     post.fail()?;
-    assert_eq!(rt; post.bind(0, b"here", true), Ok(()));
-    assert_eq!(rt; post.bind(1, b"there", false), Ok(()));
-    assert_eq!(rt; post.bind(7, b"here", true), Err(PostFault::Failed));
-    assert_eq!(rt; post.offer(1, 0, b"xy"), Ok(()));
-    assert_eq!(rt; post.offer(0, 1, b"z"), Err(PostFault::Failed));
+    assert!(rt; post.bind(0, b"here", true) == Ok(()));
+    assert!(rt; post.bind(1, b"there", false) == Ok(()));
+    assert!(rt; post.bind(7, b"here", true) == Err(PostFault::Failed));
+    assert!(rt; post.offer(1, 0, b"xy") == Ok(()));
+    assert!(rt; post.offer(0, 1, b"z") == Err(PostFault::Failed));
     let arrivals = [
         Ok(Arrival::Quiet { moment: 1 }),
         Ok(Arrival::Datagram {
@@ -171,11 +165,11 @@ fn a_post_gives_its_script(rt: HostRuntime) -> Result<(), Fail> {
     ];
     let mut piece = [0u8; 3];
     for arrival in arrivals {
-        assert_eq!(rt; post.next(&mut piece), arrival);
+        assert!(rt; post.next(&mut piece) == arrival);
     }
-    assert_eq!(rt; piece, *b"lon");
-    assert_eq!(rt; post.offered(0), None);
-    assert_eq!(rt; post.offered(2), Some(b"z".as_slice()));
-    assert_eq!(rt; post.offered(3), None);
+    assert!(rt; piece == *b"lon");
+    assert!(rt; post.offered(0) == None);
+    assert!(rt; post.offered(2) == Some(b"z".as_slice()));
+    assert!(rt; post.offered(3) == None);
     Ok(())
 }

@@ -44,11 +44,11 @@ fn marks_a_long_silence(rt: HostRuntime) -> Result<(), Fail> {
     let mut end = Pubend::open(alloc, &mut disk, 0)?;
     assert!(rt; matches!(end.quiet(&mut disk, 999, 1000)?, Quieted::NotYet));
     let (tick, fresh) = marked(end.quiet(&mut disk, 1000, 1000)?).ok_or("not marked")?;
-    assert_eq!(rt; tick, 1000);
-    assert_eq!(rt; fresh.len(), 1);
+    assert!(rt; tick == 1000);
+    assert!(rt; fresh.len() == 1);
     assert!(rt; fresh.at(1).same(&K::S));
     assert!(rt; fresh.at(1000).same(&K::S));
-    assert_eq!(rt; end.log().settled(), 1000);
+    assert!(rt; end.log().settled() == 1000);
     Ok(())
 }
 
@@ -59,8 +59,8 @@ fn publishes_with_the_silence_before(rt: HostRuntime) -> Result<(), Fail> {
     let mut disk = MemDisk::new(alloc, &[])?;
     let mut end = Pubend::open(alloc, &mut disk, 0)?;
     let (tick, fresh) = logged(end.publish(&mut disk, 1, &event, 1000)?).ok_or("not logged")?;
-    assert_eq!(rt; tick, 1000);
-    assert_eq!(rt; fresh.len(), 2);
+    assert!(rt; tick == 1000);
+    assert!(rt; fresh.len() == 2);
     assert!(rt; fresh.at(1).same(&K::S));
     assert!(rt; fresh.at(999).same(&K::S));
     assert!(rt; fresh.at(1000).same(&K::D(event)));
@@ -132,9 +132,9 @@ fn answers_reopen_after_a_failure(rt: HostRuntime) -> Result<(), Fail> {
     disk.put(0, ONE_EVENT)?;
     let mut end = Pubend::open(alloc, &mut disk, 0)?;
     let first = end.publish(&mut disk, 2, &event, 2000).err();
-    assert_eq!(rt; first, Some(LogFault::Disk));
+    assert!(rt; first == Some(LogFault::Disk));
     let second = end.publish(&mut disk, 2, &event, 2000).err();
-    assert_eq!(rt; second, Some(LogFault::Reopen));
+    assert!(rt; second == Some(LogFault::Reopen));
     assert!(rt; end.know().at(2000).same(&K::Q));
     Ok(())
 }
@@ -148,8 +148,8 @@ fn logs_what_was_planned(rt: HostRuntime) -> Result<(), Fail> {
     disk.put(0, ONE_EVENT)?;
     let mut end = Pubend::open(alloc, &mut disk, 0)?;
     let (tick, fresh) = marked(end.plan_quiet(3000, 1000)?).ok_or("not planned")?;
-    assert_eq!(rt; end.log().settled(), 1000);
-    assert_eq!(rt; tick, 3000);
-    assert_eq!(rt; fresh.len(), 1);
+    assert!(rt; end.log().settled() == 1000);
+    assert!(rt; tick == 3000);
+    assert!(rt; fresh.len() == 1);
     Ok(())
 }

@@ -25,15 +25,15 @@ fn opens_and_appends(rt: HostRuntime) -> Result<(), Fail> {
     let mut disk = MemDisk::new(alloc, &[])?;
     let mut log = Log::open(alloc, &mut disk, 0)?;
     assert!(rt; log.is_empty());
-    assert_eq!(rt; disk.lane(0), b"GLOG\x01\x00".as_slice());
+    assert!(rt; disk.lane(0) == b"GLOG\x01\x00".as_slice());
     let entry = price(alloc, 1000, 1)?;
     assert!(rt; log.may_follow(&entry));
     log.append(&mut disk, &entry)?;
-    assert_eq!(rt; disk.lane(0), ONE_EVENT);
+    assert!(rt; disk.lane(0) == ONE_EVENT);
     let again = Log::open(alloc, &mut disk, 0)?;
-    assert_eq!(rt; again.last(), 1);
-    assert_eq!(rt; again.settled(), 1000);
-    assert_eq!(rt; again.cut(), 0);
+    assert!(rt; again.last() == 1);
+    assert!(rt; again.settled() == 1000);
+    assert!(rt; again.cut() == 0);
     Ok(())
 }
 
@@ -77,7 +77,7 @@ fn six_bytes_are_empty(rt: HostRuntime) -> Result<(), Fail> {
     disk.put(0, b"\x01\x02\x03\x04\x05\x01")?;
     let log = Log::open(alloc, &mut disk, 0)?;
     assert!(rt; log.is_empty());
-    assert_eq!(rt; disk.lane(0), b"GLOG\x01\x00".as_slice());
+    assert!(rt; disk.lane(0) == b"GLOG\x01\x00".as_slice());
     Ok(())
 }
 
@@ -108,7 +108,7 @@ fn finds_the_damaged_field(rt: HostRuntime) -> Result<(), Fail> {
         let mut disk = MemDisk::new(alloc, &[])?;
         disk.put(0, bytes)?;
         let fault = Log::open(alloc, &mut disk, 0).err();
-        assert_eq!(rt; fault, Some(LogFault::Damaged { at }));
+        assert!(rt; fault == Some(LogFault::Damaged { at }));
     }
     Ok(())
 }
@@ -119,9 +119,9 @@ fn fails_at(alloc: Global, call: u64, rt: &impl Abort) -> Result<(), Fail> {
     let mut log = Log::open(alloc, &mut disk, 0)?;
     let entry = price(alloc, 1000, 1)?;
     assert!(rt; log.may_follow(&entry));
-    assert_eq!(rt; log.append(&mut disk, &entry), Err(LogFault::Disk));
+    assert!(rt; log.append(&mut disk, &entry) == Err(LogFault::Disk));
     assert!(rt; log.may_follow(&entry));
-    assert_eq!(rt; log.append(&mut disk, &entry), Err(LogFault::Reopen));
+    assert!(rt; log.append(&mut disk, &entry) == Err(LogFault::Reopen));
     Ok(())
 }
 
@@ -141,7 +141,7 @@ fn is_kept(alloc: Global, calls: u8, pick: u8, rt: &impl Abort) -> Result<bool, 
     let entry = price(alloc, 1000, 1)?;
     disk.stop_after(0, calls, pick);
     assert!(rt; log.may_follow(&entry));
-    assert_eq!(rt; log.append(&mut disk, &entry), Err(LogFault::Disk));
+    assert!(rt; log.append(&mut disk, &entry) == Err(LogFault::Disk));
     assert!(rt; disk.stopped(0));
     disk.crash(0);
     let again = Log::open(alloc, &mut disk, 0)?;
@@ -155,7 +155,7 @@ fn keeps_a_stopped_append_by_its_image(rt: HostRuntime) -> Result<(), Fail> {
     for calls in 1..5u8 {
         for pick in 0..=255u8 {
             let kept = is_kept(rt.alloc(), calls, pick, &rt)?;
-            assert_eq!(rt; kept, calls >= 3 && (pick == 1 || pick == 205));
+            assert!(rt; kept == (calls >= 3 && (pick == 1 || pick == 205)));
         }
     }
     Ok(())
@@ -169,7 +169,7 @@ fn opens_again_after_a_stopped_opening(rt: HostRuntime) -> Result<(), Fail> {
         let mut disk = MemDisk::new(alloc, &[])?;
         disk.put(0, b"GLO")?;
         disk.stop_after(0, calls, 1);
-        assert_eq!(rt; Log::open(alloc, &mut disk, 0).err(), Some(LogFault::Disk));
+        assert!(rt; Log::open(alloc, &mut disk, 0).err() == Some(LogFault::Disk));
         assert!(rt; disk.stopped(0));
         disk.crash(0);
         let log = Log::open(alloc, &mut disk, 0)?;

@@ -26,7 +26,7 @@ fn said(
     };
     let mut sink = MemSink::new(alloc, room, &[])?;
     let ended = print_matches(alloc, &filters, events.as_slice(), &mut sink);
-    assert_eq!(rt; ended, came);
+    assert!(rt; ended == came);
     Ok(Text::from_slice(alloc, sink.bytes())?)
 }
 
@@ -115,19 +115,16 @@ fn there_are_limits(rt: HostRuntime) -> Result<(), Fail> {
         lines.extend_from_slice(b"x\n")?;
     }
     let came = said(&rt, alloc, &lines, 0, Ok(()))?;
-    assert_eq!(rt;
-        as_text(came.as_slice()),
-        "match 1 bad-filter line 1 expected 3"
-    );
+    assert!(rt; as_text(came.as_slice()) == ("match 1 bad-filter line 1 expected 3"));
     lines.extend_from_slice(b"x\n")?;
     let came = said(&rt, alloc, &lines, 0, Ok(()))?;
-    assert_eq!(rt; as_text(came.as_slice()), "lines");
+    assert!(rt; as_text(came.as_slice()) == "lines");
     Ok(())
 }
 
 #[test]
 fn a_sink_without_room_takes_a_front(rt: HostRuntime) -> Result<(), Fail> {
     let came = said(&rt, rt.alloc(), THREE.as_bytes(), 8, Err(RunFault::Write))?;
-    assert_eq!(rt; as_text(came.as_slice()), "high ibm");
+    assert!(rt; as_text(came.as_slice()) == "high ibm");
     Ok(())
 }

@@ -78,14 +78,8 @@ fn refuses_what_is_no_scenario(rt: HostRuntime) -> Result<(), Fail> {
         assert_eq!(rt; came.as_slice(), line.as_bytes(), "for {bytes:?}");
     }
     let bytes = vec![in rt.alloc(); b'x'; 4_194_305]?;
-    assert_eq!(rt;
-        shown(rt.alloc(), &bytes)?.as_slice(),
-        b"(bytes)".as_slice()
-    );
+    assert!(rt; shown(rt.alloc(), &bytes)?.as_slice() == b"(bytes)".as_slice());
     let bytes = too_many_steps(rt.alloc())?;
-    assert_eq!(rt;
-        shown(rt.alloc(), &bytes)?.as_slice(),
-        b"(steps)".as_slice()
-    );
+    assert!(rt; shown(rt.alloc(), &bytes)?.as_slice() == b"(steps)".as_slice());
     Ok(())
 }

@@ -17,20 +17,20 @@ fn names_the_blank_topology(rt: HostRuntime) -> Result<(), Fail> {
 
 /// Whether a topology is the blank one, by its names.
 fn is_blank(rt: &impl Abort, topology: &Topology) {
-    assert_eq!(rt; topology.brokers(), 2);
-    assert_eq!(rt; topology.publishers(), 1);
-    assert_eq!(rt; topology.subscribers(), 1);
-    assert_eq!(rt; topology.broker_name(1).as_slice(), b"B".as_slice());
-    assert_eq!(rt; topology.publisher_name(0).as_slice(), b"P".as_slice());
-    assert_eq!(rt; topology.subscriber_name(0).as_slice(), b"S".as_slice());
+    assert!(rt; topology.brokers() == 2);
+    assert!(rt; topology.publishers() == 1);
+    assert!(rt; topology.subscribers() == 1);
+    assert!(rt; topology.broker_name(1).as_slice() == b"B".as_slice());
+    assert!(rt; topology.publisher_name(0).as_slice() == b"P".as_slice());
+    assert!(rt; topology.subscriber_name(0).as_slice() == b"S".as_slice());
     for (name, broker, publisher) in [
         (b"A", Some(0), None),
         (b"B", Some(1), None),
         (b"P", None, Some(0)),
         (b"C", None, None),
     ] {
-        assert_eq!(rt; topology.broker(name), broker);
-        assert_eq!(rt; topology.publisher(name), publisher);
+        assert!(rt; topology.broker(name) == broker);
+        assert!(rt; topology.publisher(name) == publisher);
     }
 }
 
@@ -128,10 +128,10 @@ fn refuses_each_fault_of_clients(rt: HostRuntime) -> Result<(), Fail> {
 
 /// Asserts that the second of two publishers has a client at this address, and the first has none.
 fn is_at(rt: &impl Abort, topology: &Topology, address: &[u8]) -> Result<(), Fail> {
-    assert_eq!(rt; topology.publishers(), 2);
+    assert!(rt; topology.publishers() == 2);
     assert!(rt; topology.client(0).is_none());
     let client = topology.client(1).ok_or("no client")?;
-    assert_eq!(rt; client.as_slice(), address);
+    assert!(rt; client.as_slice() == address);
     Ok(())
 }
 
@@ -173,9 +173,9 @@ fn stands(
 ) {
     assert!(rt; topology.publishers() > 0);
     assert!(rt; b < topology.brokers());
-    assert_eq!(rt; topology.up(0, b), up);
-    assert_eq!(rt; topology.depth(0, b), depth);
-    assert_eq!(rt; topology.keeps_horizon(0, b), horizon);
+    assert!(rt; topology.up(0, b) == up);
+    assert!(rt; topology.depth(0, b) == depth);
+    assert!(rt; topology.keeps_horizon(0, b) == horizon);
 }
 
 /// Asserts the children of a broker, seen from publisher 0.
@@ -189,7 +189,7 @@ fn has_children(
     assert!(rt; topology.publishers() > 0);
     assert!(rt; b < topology.brokers());
     let found = topology.children(alloc, 0, b)?;
-    assert_eq!(rt; found.as_slice(), children);
+    assert!(rt; found.as_slice() == children);
     Ok(())
 }
 
@@ -204,7 +204,7 @@ fn has_below(
     assert!(rt; topology.publishers() > 0);
     assert!(rt; b < topology.brokers());
     let found = topology.below(alloc, 0, b)?;
-    assert_eq!(rt; found.as_slice(), below);
+    assert!(rt; found.as_slice() == below);
     Ok(())
 }
 
@@ -218,20 +218,20 @@ fn has_subscribers(
 ) -> Result<(), AllocError> {
     assert!(rt; b < topology.brokers());
     let found = topology.subscribers_at(alloc, b)?;
-    assert_eq!(rt; found.as_slice(), subscribers);
+    assert!(rt; found.as_slice() == subscribers);
     Ok(())
 }
 
 /// Asserts how many brokers, publishers and subscribers there are, and where the first of each of the last two is.
 fn has_sizes(rt: &impl Abort, topology: &Topology, sizes: (u16, u16, u16), host: u16, home: u16) {
     let (brokers, publishers, subscribers) = sizes;
-    assert_eq!(rt; topology.brokers(), brokers);
-    assert_eq!(rt; topology.publishers(), publishers);
-    assert_eq!(rt; topology.subscribers(), subscribers);
+    assert!(rt; topology.brokers() == brokers);
+    assert!(rt; topology.publishers() == publishers);
+    assert!(rt; topology.subscribers() == subscribers);
     assert!(rt; publishers > 0);
     assert!(rt; subscribers > 0);
-    assert_eq!(rt; topology.host(0), host);
-    assert_eq!(rt; topology.at(0), home);
+    assert!(rt; topology.host(0) == host);
+    assert!(rt; topology.at(0) == home);
 }
 
 /// Asserts what a line of 64 brokers is, with the publisher at its first and the subscriber at its last.
@@ -266,14 +266,14 @@ fn is_unset(rt: &impl Abort, topology: &Topology) {
     assert!(rt; topology.address(0).is_none());
     assert!(rt; topology.client(0).is_none());
     assert!(rt; topology.filter(0).is_none());
-    assert_eq!(rt; topology.settings().cache, 1024);
+    assert!(rt; topology.settings().cache == 1024);
 }
 
 /// Asserts what a star of 64 brokers is, with the publisher in its middle.
 fn is_star(rt: &impl Abort, alloc: Global, topology: &Topology) -> Result<(), AllocError> {
-    assert_eq!(rt; topology.brokers(), 64);
-    assert_eq!(rt; topology.publishers(), 1);
-    assert_eq!(rt; topology.children(alloc, 0, 0)?.len(), 63);
+    assert!(rt; topology.brokers() == 64);
+    assert!(rt; topology.publishers() == 1);
+    assert!(rt; topology.children(alloc, 0, 0)?.len() == 63);
     stands(rt, topology, 1, Some(0), 1, true);
     stands(rt, topology, 63, Some(0), 1, true);
     is_unset(rt, topology);
@@ -400,17 +400,17 @@ fn says_the_tree(rt: &impl Abort, alloc: Global, topology: &Topology) -> Result<
 
 /// Asserts the addresses, filters and settings of the part.
 fn says_what_is_set(rt: &impl Abort, alloc: Global, topology: &Topology) -> Result<(), Fail> {
-    assert_eq!(rt; topology.brokers(), 4);
-    assert_eq!(rt; topology.subscribers(), 2);
+    assert!(rt; topology.brokers() == 4);
+    assert!(rt; topology.subscribers() == 2);
     assert!(rt; topology.address(0).is_none());
     let address = topology.address(3).ok_or("no address")?;
-    assert_eq!(rt; address.as_slice(), b"127.0.0.1:7".as_slice());
+    assert!(rt; address.as_slice() == b"127.0.0.1:7".as_slice());
     assert!(rt; topology.filter(1).is_none());
     let filter = topology.filter(0).ok_or("no filter")?;
-    assert_eq!(rt; text(alloc, filter)?.as_slice(), b"a > 1".as_slice());
+    assert!(rt; text(alloc, filter)?.as_slice() == (b"a > 1".as_slice()));
     let settings = topology.settings();
-    assert_eq!(rt; (settings.gap, settings.idle, settings.retry), (1, 2, 3));
-    assert_eq!(rt; (settings.quiet, settings.cache), (4, 5));
+    assert!(rt; (settings.gap, settings.idle, settings.retry) == (1, 2, 3));
+    assert!(rt; (settings.quiet, settings.cache) == (4, 5));
     Ok(())
 }
 

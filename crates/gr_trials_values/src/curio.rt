@@ -15,14 +15,14 @@ fn joins_and_lowers(rt: HostRuntime) -> Result<(), Fail> {
     assert!(rt; stream.runs_in(4, 5) == 1);
     stream.join_range(4, 5, Q3::A);
     let piece = stream.piece(1, 9)?;
-    assert_eq!(rt; piece.len(), 3);
+    assert!(rt; piece.len() == 3);
     for (i, wanted) in [(0, (1, 3, Q3::C)), (1, (4, 5, Q3::A)), (2, (6, 9, Q3::C))] {
         let run = piece.run(i);
-        assert_eq!(rt; (run.first, run.last, run.value), wanted);
+        assert!(rt; (run.first, run.last, run.value) == wanted);
     }
     stream.lower_range(1, 3)?;
-    assert_eq!(rt; stream.first_bottom_from(1), 1);
-    assert_eq!(rt; stream.first_bottom_from(4), 10);
+    assert!(rt; stream.first_bottom_from(1) == 1);
+    assert!(rt; stream.first_bottom_from(4) == 10);
     Ok(())
 }
 
@@ -51,7 +51,7 @@ fn a_piece_is_cut_and_joined(rt: HostRuntime) -> Result<(), Fail> {
     ] {
         assert_eq!(rt; stream.at(tick), value, "at tick {tick}");
     }
-    assert_eq!(rt; stream.len(), 3);
+    assert!(rt; stream.len() == 3);
     Ok(())
 }
 
@@ -113,18 +113,18 @@ fn consolidates_what_both_acknowledge(rt: HostRuntime) -> Result<(), Fail> {
     wants.raise(0, &piece_of(rt.alloc(), 1, 9, true)?)?;
     wants.raise(1, &piece_of(rt.alloc(), 1, 4, true)?)?;
     let whole = wants.consolidate(None)?;
-    assert_eq!(rt; whole.len(), 1);
-    assert_eq!(rt; whole.run(0).first, 1);
-    assert_eq!(rt; whole.run(0).last, 4);
+    assert!(rt; whole.len() == 1);
+    assert!(rt; whole.run(0).first == 1);
+    assert!(rt; whole.run(0).last == 4);
     let part = wants.consolidate(Some(2))?;
-    assert_eq!(rt; part.len(), 1);
-    assert_eq!(rt; part.run(0).last, 2);
-    assert_eq!(rt; wants.children(), 2);
+    assert!(rt; part.len() == 1);
+    assert!(rt; part.run(0).last == 2);
+    assert!(rt; wants.children() == 2);
     assert!(rt; wants.covers(1, 4));
     assert!(rt; !wants.covers(1, 5));
     assert!(rt; wants.covers(1, 0));
-    assert_eq!(rt; wants.len(1), 1);
-    assert_eq!(rt; wants.run(1, 0).last, 4);
+    assert!(rt; wants.len(1) == 1);
+    assert!(rt; wants.run(1, 0).last == 4);
     Ok(())
 }
 
@@ -134,25 +134,25 @@ fn reads_ahead_and_edits_with_room(rt: HostRuntime) -> Result<(), Fail> {
     let mut wants = Wants::new(rt.alloc(), 2)?;
     let heard = piece_of(rt.alloc(), 1, 9, true)?;
     let room = wants.room_for(0, &heard).ok_or("room")?;
-    assert_eq!(rt; room, 1);
+    assert!(rt; room == 1);
     wants.reserve(0, room)?;
     wants.raise_ready(0, &heard);
     wants.raise(1, &piece_of(rt.alloc(), 1, 4, true)?)?;
-    assert_eq!(rt; wants.steady_until(1, 2), 4);
+    assert!(rt; wants.steady_until(1, 2) == 4);
     let second = wants.steady_at(1, 2);
-    assert_eq!(rt; (second.value, second.last), (Q3::A, 4));
-    assert_eq!(rt; wants.consolidated_upto(None, 20), 4);
-    assert_eq!(rt; wants.consolidated_upto(Some(3), 20), 3);
+    assert!(rt; (second.value, second.last) == (Q3::A, 4));
+    assert!(rt; wants.consolidated_upto(None, 20) == 4);
+    assert!(rt; wants.consolidated_upto(Some(3), 20) == 3);
     let news = piece_of(rt.alloc(), 3, 8, true)?;
     let done = wants.completed(Some(1), &news, 7)?;
-    assert_eq!(rt; done.len(), 1);
-    assert_eq!(rt; done.run(0).first, 3);
-    assert_eq!(rt; done.run(0).last, 7);
+    assert!(rt; done.len() == 1);
+    assert!(rt; done.run(0).first == 3);
+    assert!(rt; done.run(0).last == 7);
     wants.reserve(0, news.len())?;
     wants.take_out(0, &news);
-    assert_eq!(rt; wants.at(0, 2), Q3::A);
-    assert_eq!(rt; wants.at(0, 3), Q3::N);
-    assert_eq!(rt; wants.at(0, 9), Q3::A);
+    assert!(rt; wants.at(0, 2) == Q3::A);
+    assert!(rt; wants.at(0, 3) == Q3::N);
+    assert!(rt; wants.at(0, 9) == Q3::A);
     Ok(())
 }
 
@@ -160,15 +160,15 @@ fn reads_ahead_and_edits_with_room(rt: HostRuntime) -> Result<(), Fail> {
 fn asks_what_is_due(rt: HostRuntime) -> Result<(), Fail> {
     let mut asks = Asks::new(rt.alloc());
     asks.asked(&piece_of(rt.alloc(), 1, 10, false)?, 1000)?;
-    assert_eq!(rt; asks.len(), 1);
-    assert_eq!(rt; asks.run(0).last, 10);
-    assert_eq!(rt; asks.run(0).value, Moment::At(1000));
+    assert!(rt; asks.len() == 1);
+    assert!(rt; asks.run(0).last == 10);
+    assert!(rt; asks.run(0).value == Moment::At(1000));
     let wanted = piece_of(rt.alloc(), 5, 12, false)?;
     for (now, first) in [(1499, 11), (1500, 5), (900, 5)] {
         let due = asks.copy()?.due(&wanted, now, 500)?;
-        assert_eq!(rt; due.len(), 1);
-        assert_eq!(rt; due.run(0).first, first);
-        assert_eq!(rt; due.run(0).last, 12);
+        assert!(rt; due.len() == 1);
+        assert!(rt; due.run(0).first == first);
+        assert!(rt; due.run(0).last == 12);
     }
     Ok(())
 }
@@ -181,10 +181,10 @@ fn answers_end_questions(rt: HostRuntime) -> Result<(), Fail> {
     let copy = wants.copy()?;
     assert!(rt; copy.at(0, 7).same(&Q3::C));
     let asked = copy.curious()?;
-    assert_eq!(rt; asked.len(), 1);
-    assert_eq!(rt; asked.run(0).first, 7);
+    assert!(rt; asked.len() == 1);
+    assert!(rt; asked.run(0).first == 7);
     let piece = copy.piece(0, 8, 9)?;
-    assert_eq!(rt; piece.len(), 1);
+    assert!(rt; piece.len() == 1);
     Ok(())
 }
 
@@ -198,13 +198,13 @@ fn what_was_sent_is_asked_no_more(rt: HostRuntime) -> Result<(), Fail> {
     wants.answered(0, 1, 999)?;
     wants.answered(0, 1000, 1000)?;
     let asked = wants.curious()?;
-    assert_eq!(rt; asked.len(), 1);
-    assert_eq!(rt; asked.run(0).first, 1);
+    assert!(rt; asked.len() == 1);
+    assert!(rt; asked.run(0).first == 1);
     wants.answered(1, 1, 1000)?;
     let asked = wants.curious()?;
-    assert_eq!(rt; asked.len(), 1);
-    assert_eq!(rt; asked.run(0).first, 1001);
-    assert_eq!(rt; asked.run(0).last, 1100);
+    assert!(rt; asked.len() == 1);
+    assert!(rt; asked.run(0).first == 1001);
+    assert!(rt; asked.run(0).last == 1100);
     Ok(())
 }
 
@@ -219,11 +219,11 @@ fn a_piece_and_its_copy(rt: HostRuntime) -> Result<(), Fail> {
     })?;
     let copy = piece.copy()?;
     assert!(rt; !copy.is_empty());
-    assert_eq!(rt; copy.len(), 1);
-    assert_eq!(rt; copy.at(9), Q3::C);
-    assert_eq!(rt; copy.at(10), Q3::N);
-    assert_eq!(rt; copy.steady_until(1), 9);
-    assert_eq!(rt; copy.steady_until(10), MAX_TICK);
+    assert!(rt; copy.len() == 1);
+    assert!(rt; copy.at(9) == Q3::C);
+    assert!(rt; copy.at(10) == Q3::N);
+    assert!(rt; copy.steady_until(1) == 9);
+    assert!(rt; copy.steady_until(10) == MAX_TICK);
     Ok(())
 }
 
@@ -233,11 +233,11 @@ fn the_last_tick(rt: HostRuntime) -> Result<(), Fail> {
     stream.reserve(1)?;
     assert!(rt; stream.runs_in(MAX_TICK, MAX_TICK) == 0);
     stream.join_range(MAX_TICK, MAX_TICK, Q3::C);
-    assert_eq!(rt; stream.top(), MAX_TICK);
-    assert_eq!(rt; stream.first_bottom_from(MAX_TICK), MAX_TICK + 1);
+    assert!(rt; stream.top() == MAX_TICK);
+    assert!(rt; stream.first_bottom_from(MAX_TICK) == MAX_TICK + 1);
     let copy = stream.copy()?;
-    assert_eq!(rt; copy.len(), 1);
-    assert_eq!(rt; copy.run(0).first, MAX_TICK);
+    assert!(rt; copy.len() == 1);
+    assert!(rt; copy.run(0).first == MAX_TICK);
     Ok(())
 }
 
@@ -265,7 +265,7 @@ fn agrees(rt: &impl Abort, stream: &Stream<Q3>, plain: &[Q3; 26]) {
             assert_eq!(rt; stream.steady_until(tick), end, "from tick {tick}");
         }
     }
-    assert_eq!(rt; stream.len(), runs);
+    assert!(rt; stream.len() == runs);
 }
 
 #[test]
@@ -310,11 +310,11 @@ fn the_same_as_a_value_for_each_tick(rt: HostRuntime) -> Result<(), Fail> {
 fn moments_of_final_ticks_go(rt: HostRuntime) -> Result<(), Fail> {
     let mut asks = Asks::new(rt.alloc());
     let asked = piece_of(rt.alloc(), 1, 10, false)?;
-    assert_eq!(rt; asked.len(), 1);
+    assert!(rt; asked.len() == 1);
     asks.reserve(3)?;
     asks.asked_ready(&asked, 1000);
     asks.forget(1, 4)?;
-    assert_eq!(rt; asks.len(), 1);
-    assert_eq!(rt; asks.run(0).first, 5);
+    assert!(rt; asks.len() == 1);
+    assert!(rt; asks.run(0).first == 5);
     Ok(())
 }

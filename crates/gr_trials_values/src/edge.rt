@@ -51,10 +51,10 @@ fn passes(rt: &impl Abort, alloc: Global, edge: &Edge, event: &str) -> Result<bo
     assert!(rt; passed.at(1005).same(&K::F));
     assert!(rt; passed.at(1006).same(&K::Q));
     if passed.at(1000).same(&K::D(event)) {
-        assert_eq!(rt; passed.len(), 3);
+        assert!(rt; passed.len() == 3);
         return Ok(true);
     }
-    assert_eq!(rt; passed.len(), 2);
+    assert!(rt; passed.len() == 2);
     assert!(rt; passed.at(1000).same(&K::S));
     Ok(false)
 }

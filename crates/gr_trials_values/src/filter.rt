@@ -172,8 +172,8 @@ fn long_like(alloc: Global, end: &[u8]) -> Result<Kleene, Fail> {
 // A search that tries each choice again does not end within the time of a test.
 #[test]
 fn takes_no_choice_back(rt: HostRuntime) -> Result<(), Fail> {
-    assert_eq!(rt; long_like(rt.alloc(), b"%a'")?, Kleene::True);
-    assert_eq!(rt; long_like(rt.alloc(), b"%b'")?, Kleene::False);
+    assert!(rt; long_like(rt.alloc(), b"%a'")? == Kleene::True);
+    assert!(rt; long_like(rt.alloc(), b"%b'")? == Kleene::False);
     Ok(())
 }
 
@@ -247,9 +247,9 @@ static PRINTED: [(&str, &str); 5] = [
 fn prints_and_reads_again(rt: HostRuntime) -> Result<(), Fail> {
     for (written, wanted) in PRINTED.iter() {
         let once = printed(rt.alloc(), written.as_bytes())?;
-        assert_eq!(rt; once.as_slice(), wanted.as_bytes());
+        assert!(rt; once.as_slice() == wanted.as_bytes());
         let again = printed(rt.alloc(), once.as_slice())?;
-        assert_eq!(rt; again.as_slice(), wanted.as_bytes());
+        assert!(rt; again.as_slice() == wanted.as_bytes());
     }
     Ok(())
 }

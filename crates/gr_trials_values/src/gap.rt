@@ -20,11 +20,11 @@ fn an_edit_at_each_place(rt: HostRuntime) -> Result<(), Fail> {
     gap.insert(0, 7);
     gap.insert(0, 8);
     gap.insert(1, 9);
-    assert_eq!(rt; listed(rt.alloc(), &gap)?.as_slice(), [8, 9, 7].as_slice());
-    assert_eq!(rt; gap.replace(1, 5), 9);
-    assert_eq!(rt; gap.replace(1, 9), 5);
-    assert_eq!(rt; gap.remove(0), 8);
-    assert_eq!(rt; listed(rt.alloc(), &gap)?.as_slice(), [9, 7].as_slice());
+    assert!(rt; listed(rt.alloc(), &gap)?.as_slice() == [8, 9, 7].as_slice());
+    assert!(rt; gap.replace(1, 5) == 9);
+    assert!(rt; gap.replace(1, 9) == 5);
+    assert!(rt; gap.remove(0) == 8);
+    assert!(rt; listed(rt.alloc(), &gap)?.as_slice() == [9, 7].as_slice());
     Ok(())
 }
 
@@ -41,7 +41,7 @@ fn the_same_as_a_vec(rt: HostRuntime) -> Result<(), Fail> {
                 .wrapping_mul(6_364_136_223_846_793_005)
                 .wrapping_add(1_442_695_040_888_963_407);
             let len = gap.len();
-            assert_eq!(rt; plain.len(), len);
+            assert!(rt; plain.len() == len);
             let place = (seed >> 33) as usize;
             if seed % 5 < 3 || len == 0 {
                 let i = if len == 0 { 0 } else { place % len };
@@ -91,7 +91,7 @@ fn many_blocks(rt: HostRuntime) -> Result<(), Fail> {
             .wrapping_mul(6_364_136_223_846_793_005)
             .wrapping_add(1_442_695_040_888_963_407);
         let len = gap.len();
-        assert_eq!(rt; plain.len(), len);
+        assert!(rt; plain.len() == len);
         let i = some_place(seed, len);
         let grows = step < 5_000;
         if (seed >> 8) % 8 < (if grows { 6 } else { 2 }) {
@@ -122,7 +122,7 @@ fn values_of_no_size(rt: HostRuntime) -> Result<(), Fail> {
     if 7 < gap.len() {
         gap.remove(7);
     }
-    assert_eq!(rt; gap.len(), 19);
+    assert!(rt; gap.len() == 19);
     Ok(())
 }
 
@@ -146,15 +146,15 @@ fn each_value_is_dropped_once(rt: HostRuntime) -> Result<(), Fail> {
         gap.insert(0, Counted(&drops));
         gap.insert(1, Counted(&drops));
         gap.insert(3, Counted(&drops));
-        assert_eq!(rt; drops.get(), 0);
+        assert!(rt; drops.get() == 0);
         drop(gap.remove(2));
-        assert_eq!(rt; drops.get(), 1);
+        assert!(rt; drops.get() == 1);
         drop(gap.replace(0, Counted(&drops)));
-        assert_eq!(rt; drops.get(), 2);
+        assert!(rt; drops.get() == 2);
         gap.reserve(10)?;
-        assert_eq!(rt; drops.get(), 2);
+        assert!(rt; drops.get() == 2);
     }
-    assert_eq!(rt; drops.get(), 5);
+    assert!(rt; drops.get() == 5);
     Ok(())
 }
 
@@ -169,18 +169,18 @@ fn each_value_is_dropped_once_after_growth(rt: HostRuntime) -> Result<(), Fail> 
             let middle = gap.len() / 2;
             gap.insert(middle, Counted(&drops));
         }
-        assert_eq!(rt; drops.get(), 0);
+        assert!(rt; drops.get() == 0);
         for _ in 0..1_400 {
             if 20 < gap.len() {
                 drop(gap.remove(20));
             }
         }
-        assert_eq!(rt; drops.get(), 1_400);
+        assert!(rt; drops.get() == 1_400);
         gap.reserve(1_000)?;
-        assert_eq!(rt; drops.get(), 1_400);
-        assert_eq!(rt; gap.len(), 100);
+        assert!(rt; drops.get() == 1_400);
+        assert!(rt; gap.len() == 100);
     }
-    assert_eq!(rt; drops.get(), 1_500);
+    assert!(rt; drops.get() == 1_500);
     Ok(())
 }
 
@@ -191,20 +191,20 @@ fn the_last_owner_drops_the_value(rt: HostRuntime) -> Result<(), Fail> {
         let first = Shared::new(rt.alloc(), (7u64, Counted(&drops)))?;
         let second = first.share();
         let third = second.share();
-        assert_eq!(rt; third.get().0, 7);
+        assert!(rt; third.get().0 == 7);
         drop(first);
         drop(third);
-        assert_eq!(rt; drops.get(), 0);
-        assert_eq!(rt; second.get().0, 7);
+        assert!(rt; drops.get() == 0);
+        assert!(rt; second.get().0 == 7);
         let mut kept = Vec::new(rt.alloc());
         for _ in 0..100 {
             kept.push(second.share())?;
         }
         drop(second);
-        assert_eq!(rt; drops.get(), 0);
-        assert_eq!(rt; kept.len(), 100);
-        assert_eq!(rt; kept[99].get().0, 7);
+        assert!(rt; drops.get() == 0);
+        assert!(rt; kept.len() == 100);
+        assert!(rt; kept[99].get().0 == 7);
     }
-    assert_eq!(rt; drops.get(), 1);
+    assert!(rt; drops.get() == 1);
     Ok(())
 }

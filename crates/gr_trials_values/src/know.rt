@@ -24,12 +24,12 @@ fn learns_what_is_new(rt: HostRuntime) -> Result<(), Fail> {
     let mut know = Know::new(rt.alloc());
     let _ = know.learn(&piece_of(rt.alloc(), 1, 5, false)?)?;
     let fresh = know.learn(&piece_of(rt.alloc(), 4, 8, false)?)?;
-    assert_eq!(rt; fresh.len(), 1);
-    assert_eq!(rt; fresh.run(0).first, 6);
-    assert_eq!(rt; fresh.run(0).last, 8);
+    assert!(rt; fresh.len() == 1);
+    assert!(rt; fresh.run(0).first == 6);
+    assert!(rt; fresh.run(0).last == 8);
     assert!(rt; fresh.run(0).value.same(&K::S));
-    assert_eq!(rt; know.horizon_from(0), 8);
-    assert_eq!(rt; know.top(), 8);
+    assert!(rt; know.horizon_from(0) == 8);
+    assert!(rt; know.top() == 8);
     Ok(())
 }
 
@@ -40,11 +40,11 @@ fn tells_what_would_be_new(rt: HostRuntime) -> Result<(), Fail> {
     let _ = know.learn(&piece_of(rt.alloc(), 1, 5, false)?)?;
     let came = piece_of(rt.alloc(), 4, 8, true)?;
     let news = know.news(&came)?;
-    assert_eq!(rt; news.len(), 1);
-    assert_eq!(rt; (news.run(0).first, news.run(0).last), (6, 8));
-    assert_eq!(rt; know.horizon_with(&came, 0), 8);
+    assert!(rt; news.len() == 1);
+    assert!(rt; (news.run(0).first, news.run(0).last) == (6, 8));
+    assert!(rt; know.horizon_with(&came, 0) == 8);
     let joined = know.piece_with(&came, 3, 6)?;
-    assert_eq!(rt; joined.len(), 2);
+    assert!(rt; joined.len() == 2);
     assert!(rt; joined.at(3).same(&K::S));
     assert!(rt; joined.run(1).value.same(&K::F));
     Ok(())
@@ -65,12 +65,12 @@ fn finishes_and_cuts(rt: HostRuntime) -> Result<(), Fail> {
     know.finish(4, 5)?;
     know.forget(0, 9)?;
     let copy = know.copy()?;
-    assert_eq!(rt; copy.len(), 3);
-    assert_eq!(rt; copy.run(1).first, 4);
-    assert_eq!(rt; copy.run(1).last, 5);
+    assert!(rt; copy.len() == 3);
+    assert!(rt; copy.run(1).first == 4);
+    assert!(rt; copy.run(1).last == 5);
     assert!(rt; copy.at(5).same(&K::F));
     let piece = know.piece(5, 6)?;
-    assert_eq!(rt; piece.len(), 2);
+    assert!(rt; piece.len() == 2);
     assert!(rt; piece.run(1).value.same(&K::S));
     Ok(())
 }
@@ -81,16 +81,16 @@ fn edits_in_the_room_that_was_taken(rt: HostRuntime) -> Result<(), Fail> {
     let mut know = Know::new(rt.alloc());
     let came = piece_of(rt.alloc(), 4, 8, false)?;
     let room = know.room_for(&came).ok_or("room")?;
-    assert_eq!(rt; room, 1);
+    assert!(rt; room == 1);
     know.reserve(room.checked_add(2).ok_or("room")?)?;
     know.join(&came);
-    assert_eq!(rt; know.steady_until(1), 3);
-    assert_eq!(rt; know.steady_until(4), 8);
+    assert!(rt; know.steady_until(1) == 3);
+    assert!(rt; know.steady_until(4) == 8);
     let came_at = know.steady_at(4);
     assert!(rt; came_at.value.same(&K::S));
-    assert_eq!(rt; came_at.last, 8);
+    assert!(rt; came_at.last == 8);
     know.finish_ready(1, 5);
-    assert_eq!(rt; know.steady_until(1), 5);
+    assert!(rt; know.steady_until(1) == 5);
     assert!(rt; know.at(5).same(&K::F));
     assert!(rt; know.at(6).same(&K::S));
     Ok(())
@@ -114,7 +114,7 @@ fn an_event_clashes_with_silence(rt: HostRuntime) -> Result<(), Fail> {
         value: K::D(event.share()),
     })?;
     let clash = know.clash(&came).ok_or("no clash")?;
-    assert_eq!(rt; clash.tick, 3);
+    assert!(rt; clash.tick == 3);
     assert!(rt; clash.kept.same(&K::S));
     assert!(rt; clash.came.same(&K::D(event)));
     Ok(())
@@ -132,8 +132,8 @@ fn forgets_the_least_events(rt: HostRuntime) -> Result<(), Fail> {
     })?;
     let _ = know.learn(&piece)?;
     know.forget(2, 9)?;
-    assert_eq!(rt; know.len(), 1);
-    assert_eq!(rt; know.run(0).first, 5);
+    assert!(rt; know.len() == 1);
+    assert!(rt; know.run(0).first == 5);
     Ok(())
 }
 
@@ -171,24 +171,24 @@ fn a_gap_is_filled_answered_and_forgotten(rt: HostRuntime) -> Result<(), Fail> {
     let two = numbered(rt.alloc(), 2)?;
     let mut know = Know::new(rt.alloc());
     let _ = know.learn(&quiet_then(rt.alloc(), 1001, 2000, &two)?)?;
-    assert_eq!(rt; know.horizon_from(0), 0);
-    assert_eq!(rt; know.top(), 2000);
+    assert!(rt; know.horizon_from(0) == 0);
+    assert!(rt; know.top() == 2000);
     let fresh = know.learn(&quiet_then(rt.alloc(), 1, 1000, &one)?)?;
-    assert_eq!(rt; fresh.len(), 2);
-    assert_eq!(rt; know.horizon_from(0), 2000);
+    assert!(rt; fresh.len() == 2);
+    assert!(rt; know.horizon_from(0) == 2000);
     let answer = know.piece(1, 1000)?;
-    assert_eq!(rt; answer.len(), 2);
-    assert_eq!(rt; answer.run(0).last, 999);
+    assert!(rt; answer.len() == 2);
+    assert!(rt; answer.run(0).last == 999);
     assert!(rt; answer.run(1).value.same(&K::D(one.share())));
     know.forget(1, 2000)?;
-    assert_eq!(rt; know.len(), 3);
-    assert_eq!(rt; know.horizon_from(0), 999);
-    assert_eq!(rt; know.run(1).first, 1001);
+    assert!(rt; know.len() == 3);
+    assert!(rt; know.horizon_from(0) == 999);
+    assert!(rt; know.run(1).first == 1001);
     assert!(rt; know.at(2000).same(&K::D(two.share())));
     know.forget(0, 1999)?;
-    assert_eq!(rt; know.len(), 3);
+    assert!(rt; know.len() == 3);
     know.finish(1, 2000)?;
-    assert_eq!(rt; know.len(), 1);
+    assert!(rt; know.len() == 1);
     assert!(rt; know.at(1000).same(&K::F));
     Ok(())
 }

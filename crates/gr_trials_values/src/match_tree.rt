@@ -35,8 +35,8 @@ fn gives_the_places_in_order(rt: HostRuntime) -> Result<(), Fail> {
     for (event, places) in cases {
         let event = Event::from_text(rt.alloc(), event.as_bytes())?;
         let found = tree.matches(&event)?;
-        assert_eq!(rt; found.as_slice(), places);
-        assert_eq!(rt; tree.any(&event), !places.is_empty());
+        assert!(rt; found.as_slice() == places);
+        assert!(rt; tree.any(&event) == !places.is_empty());
     }
     Ok(())
 }
@@ -73,8 +73,8 @@ fn asks_no_filter_in_vain(rt: HostRuntime) -> Result<(), Fail> {
     for (event, places) in cases {
         let event = Event::from_text(rt.alloc(), event.as_bytes())?;
         let found = tree.matches(&event)?;
-        assert_eq!(rt; found.as_slice(), places);
-        assert_eq!(rt; tree.any(&event), !places.is_empty());
+        assert!(rt; found.as_slice() == places);
+        assert!(rt; tree.any(&event) == !places.is_empty());
     }
     Ok(())
 }
@@ -83,7 +83,7 @@ fn asks_no_filter_in_vain(rt: HostRuntime) -> Result<(), Fail> {
 fn holds_nothing_at_first(rt: HostRuntime) -> Result<(), Fail> {
     let tree = tree_of(rt.alloc(), &[])?;
     let event = Event::from_text(rt.alloc(), b"{\"price\":82}")?;
-    assert_eq!(rt; tree.matches(&event)?.len(), 0);
+    assert!(rt; tree.matches(&event)?.len() == 0);
     assert!(rt; !tree.any(&event));
     Ok(())
 }

@@ -47,7 +47,7 @@ fn hears_notes_of_its_publisher(rt: HostRuntime) -> Result<(), Fail> {
         for (publisher, next) in notes {
             hear(&mut client, *publisher, *next);
         }
-        assert_eq!(rt; client.progress(), progress);
+        assert!(rt; client.progress() == progress);
     }
     Ok(())
 }
@@ -75,11 +75,8 @@ fn offers_its_next_event(rt: HostRuntime) -> Result<(), Fail> {
         (4, "-"),
     ] {
         hear(&mut client, 7, Some(next));
-        assert_eq!(rt; offered(&client, rt.alloc())?.as_str(), text);
+        assert!(rt; offered(&client, rt.alloc())?.as_str() == text);
     }
-    assert_eq!(rt;
-        Client::new(7, Events::new(rt.alloc())).progress(),
-        Progress::Done
-    );
+    assert!(rt; Client::new(7, Events::new(rt.alloc())).progress() == Progress::Done);
     Ok(())
 }

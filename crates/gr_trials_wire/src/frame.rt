@@ -84,7 +84,7 @@ fn is_spelled(rt: &impl Abort, alloc: Global, frame: &Frame, bytes: &[u8]) -> Re
         Body::Expect(tick) => assert!(rt; *tick >= 1 && *tick <= gr_tick::MAX_TICK),
     }
     let frames = encode(alloc, frame)?;
-    assert_eq!(rt; frames.len(), 1);
+    assert!(rt; frames.len() == 1);
     Ok(frames.frame(0) == bytes)
 }
 
@@ -109,8 +109,8 @@ fn spells_the_example(rt: HostRuntime) -> Result<(), Fail> {
     };
     let frames = encode(rt.alloc(), &frame)?;
     let spelled = bytes_of(rt.alloc(), PRICE, "")?;
-    assert_eq!(rt; spelled.len(), 64);
-    assert_eq!(rt; frames.len(), 1);
+    assert!(rt; spelled.len() == 64);
+    assert!(rt; frames.len() == 1);
     assert!(rt; frames.frame(0) == spelled.as_slice());
     Ok(())
 }
@@ -120,14 +120,14 @@ fn reads_the_example(rt: HostRuntime) -> Result<(), Fail> {
     let event = Event::from_text(rt.alloc(), b"{\"price\":82}")?;
     let mut bytes = bytes_of(rt.alloc(), PRICE, "")?;
     let frame = decode(rt.alloc(), &bytes)?;
-    assert_eq!(rt; frame.head, HEAD);
+    assert!(rt; frame.head == HEAD);
     if let Body::Knowledge(piece) = &frame.body {
-        assert_eq!(rt; piece.len(), 2);
-        assert_eq!(rt; piece.run(0).first, 1);
-        assert_eq!(rt; piece.run(0).last, 999);
+        assert!(rt; piece.len() == 2);
+        assert!(rt; piece.run(0).first == 1);
+        assert!(rt; piece.run(0).last == 999);
         assert!(rt; piece.run(0).value.same(&K::S));
-        assert_eq!(rt; piece.run(1).first, 1000);
-        assert_eq!(rt; piece.run(1).last, 1000);
+        assert!(rt; piece.run(1).first == 1000);
+        assert!(rt; piece.run(1).last == 1000);
         assert!(rt; piece.run(1).value.same(&K::D(event)));
     } else {
         return Err(Fail::from("another kind"));
@@ -211,7 +211,7 @@ fn reads_a_changed_head(rt: HostRuntime) -> Result<(), Fail> {
         to: 257,
         publisher: 3,
     };
-    assert_eq!(rt; decode(rt.alloc(), &bytes)?.head, head);
+    assert!(rt; decode(rt.alloc(), &bytes)?.head == head);
     assert!(rt; is_spelled_again(&rt, rt.alloc(), &bytes)?);
     Ok(())
 }
@@ -612,7 +612,7 @@ fn spells_an_expect(rt: HostRuntime) -> Result<(), Fail> {
         "474b 01 03 0001 0102 ffff 0001",
         "00000000000003e8",
     )?;
-    assert_eq!(rt; frames.len(), 1);
+    assert!(rt; frames.len() == 1);
     assert!(rt; frames.frame(0) == spelled.as_slice());
     Ok(())
 }
@@ -659,12 +659,12 @@ fn cuts_a_piece_into_three(rt: HostRuntime) -> Result<(), Fail> {
             "474b 01 02 0000 0001 0000 004a 0000000000000f0d 0000000000000f0d 02",
         ),
     ];
-    assert_eq!(rt; frames.len(), 3);
+    assert!(rt; frames.len() == 3);
     for (i, (len, front)) in parts.into_iter().enumerate() {
         if i < frames.len() {
             let bytes = frames.frame(i);
             let front = bytes_of(rt.alloc(), front, "")?;
-            assert_eq!(rt; bytes.len(), len);
+            assert!(rt; bytes.len() == len);
             assert!(rt; bytes.starts_with(&front));
             assert!(rt; is_spelled_again(&rt, rt.alloc(), bytes)?);
         }
@@ -683,8 +683,8 @@ fn parts_are_spelled(rt: HostRuntime) -> Result<(), Fail> {
     };
     let frames = encode(rt.alloc(), &frame)?;
     let cut = parts(rt.alloc(), &frame)?;
-    assert_eq!(rt; frames.len(), 3);
-    assert_eq!(rt; cut.len(), 3);
+    assert!(rt; frames.len() == 3);
+    assert!(rt; cut.len() == 3);
     for i in 0..cut.len() {
         if i < frames.len() {
             assert!(rt; is_spelled(&rt, rt.alloc(), &cut[i], frames.frame(i))?);
@@ -718,9 +718,9 @@ fn lengths_with_event(rt: &impl Abort, alloc: Global, text: &[u8]) -> Result<Vec
 #[test]
 fn cuts_at_the_last_byte(rt: HostRuntime) -> Result<(), Fail> {
     let full = lengths_with_event(&rt, rt.alloc(), b"{\"price\":82}")?;
-    assert_eq!(rt; full.as_slice(), [16_384].as_slice());
+    assert!(rt; full.as_slice() == [16_384].as_slice());
     let longer = lengths_with_event(&rt, rt.alloc(), b"{\"prices\":82}")?;
-    assert_eq!(rt; longer.as_slice(), [16_349, 48].as_slice());
+    assert!(rt; longer.as_slice() == [16_349, 48].as_slice());
     Ok(())
 }
 
@@ -754,7 +754,7 @@ fn greatest_event(alloc: Global) -> Result<Event, Fail> {
 #[test]
 fn gives_the_greatest_event_a_frame_alone(rt: HostRuntime) -> Result<(), Fail> {
     let event = greatest_event(rt.alloc())?;
-    assert_eq!(rt; event.size(), 8192);
+    assert!(rt; event.size() == 8192);
     let piece = at_odd_ticks(rt.alloc(), 2, &K::D(event))?;
     assert!(rt; !piece.is_empty());
     let frame = Frame {
@@ -766,12 +766,12 @@ fn gives_the_greatest_event_a_frame_alone(rt: HostRuntime) -> Result<(), Fail> {
         "474b 01 01 0000 0001 0000 0001 0000000000000001 0000000000000001 02 2000 08 0161 02 0400 78",
         "474b 01 01 0000 0001 0000 0001 0000000000000003 0000000000000003 02 2000 08 0161 02 0400 78",
     ];
-    assert_eq!(rt; frames.len(), 2);
+    assert!(rt; frames.len() == 2);
     for (i, front) in fronts.into_iter().enumerate() {
         if i < frames.len() {
             let bytes = frames.frame(i);
             let front = bytes_of(rt.alloc(), front, "")?;
-            assert_eq!(rt; bytes.len(), 8_223);
+            assert!(rt; bytes.len() == 8_223);
             assert!(rt; bytes.starts_with(&front));
             assert!(rt; is_spelled_again(&rt, rt.alloc(), bytes)?);
         }
@@ -796,7 +796,7 @@ fn joins_frames(rt: HostRuntime) -> Result<(), Fail> {
     all.push(Bytes::from_slice(rt.alloc(), b"GK")?)?;
     all.append(&mut sent)?;
     assert!(rt; sent.is_empty());
-    assert_eq!(rt; all.len(), 3);
+    assert!(rt; all.len() == 3);
     let mut lengths = Vec::new(rt.alloc());
     for bytes in all {
         lengths.push(bytes.len())?;

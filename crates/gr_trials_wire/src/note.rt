@@ -58,11 +58,8 @@ fn reads_a_submit(rt: HostRuntime) -> Result<(), Fail> {
             number,
             event,
         } => {
-            assert_eq!(rt; (publisher, number), (258, 3));
-            assert_eq!(rt;
-                event.json(rt.alloc())?.as_slice(),
-                b"{\"price\":82}".as_slice()
-            );
+            assert!(rt; (publisher, number) == (258, 3));
+            assert!(rt; event.json(rt.alloc())?.as_slice() == b"{\"price\":82}".as_slice());
             Ok(())
         }
         Note::Next { .. } | Note::Spent { .. } => Err(Fail::from("another kind")),
@@ -143,8 +140,8 @@ fn prints_a_fault(rt: HostRuntime) -> Result<(), Fail> {
         kind: NoteKind::BadRange,
         at: 6,
     };
-    assert_eq!(rt; fault.kind.number(), 5);
-    assert_eq!(rt; NoteKind::from_number(5), Some(NoteKind::BadRange));
-    assert_eq!(rt; format!(in rt.alloc(); "{fault}")?.as_str(), "bad-range 6");
+    assert!(rt; fault.kind.number() == 5);
+    assert!(rt; NoteKind::from_number(5) == Some(NoteKind::BadRange));
+    assert!(rt; format!(in rt.alloc(); "{fault}")?.as_str() == "bad-range 6");
     Ok(())
 }
