@@ -1,6 +1,6 @@
 //! Walks over pieces of what is known and of what is wanted, run by run: what a child is sent, told and asked of them.
 //!
-//! Each answers a new piece, and fails only where memory is refused.
+//! Those that make a piece fail only where memory is refused; the other two only look.
 #![tactic(auto)]
 
 mod walks;
