@@ -32,9 +32,10 @@ impl Model for Page {
 }
 
 impl Page {
-    /// An empty page, with its room.
+    /// An empty page, with its room. Its count of faults begins at 0.
     pub fn new(alloc: Global) -> Result<Page, Memory>
-        ensures { IfOk result (λ p. p.held ≡ []) }
+        ensures empty { IfOk result (λ p. p.held ≡ []) }
+        ensures count { IfOk result (λ p. p.faults ≡ 0) }
     {
         Ok(Page {
             held: Text::from_vec(Vec::with_capacity(alloc, PAGE_BYTES)?),
@@ -49,12 +50,14 @@ impl Page {
         self.held.len() >= PAGE_BYTES
     }
 
-    /// Writes what the page holds, and leaves it empty. After `Write` the sink took a front of it. Never inlined, since
-    /// most lines leave a page that is not full.
+    /// Writes what the page holds, and leaves it empty. After `Write` the sink took a front of it, and the page still
+    /// holds all of it. Never inlined, since most lines leave a page that is not full.
     #[inline(never)]
     pub fn flush<K: Sink>(&mut self, sink: &mut K) -> Result<(), RunFault>
         ensures taken { OnOk result (K.taken sink.new ≡ with_more (K.taken sink.old) self.old.held) }
         ensures emptied { OnOk result (self.new.held ≡ []) }
+        ensures held { OnErr result (self.new.held ≡ self.old.held) }
+        ensures count { self.new.faults ≡ self.old.faults }
         ensures front { OnErr result (TakesFront (K.taken sink.old) (K.taken sink.new) self.old.held) }
         ensures only { IsOkUnless result RunFault.Write }
         ensures write { IsErrOf result RunFault.Write → Rose (K.faults sink.old) (K.faults sink.new) }

@@ -9,7 +9,7 @@ ghost use Rattle.gr_out.specs.Journal.{bind_entries, next_entries, offer_entries
 pub enum Arrival {
     /// A datagram of `len` bytes at the broker `at`, at a moment in milliseconds.
     Datagram { at: u16, len: usize, moment: u64 },
-    /// Nothing came up to this moment, in milliseconds.
+    /// A quiet moment, in milliseconds: nothing is taken now. A datagram that came before it may still wait.
     Quiet { moment: u64 },
     /// Nothing comes any more.
     Closed,
