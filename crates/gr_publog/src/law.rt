@@ -1,6 +1,7 @@
 //! Laws of logs: each is the contract of a function that does nothing.
 
 ghost use Rattle.std.specs.Prelude.{◌≡◌, ◌^◌};
+ghost use Rattle.gr_publog.specs.declared.log.TheConstants.{LAST_GATE};
 ghost use Rattle.gr_publog.specs.declared.record.TheConstants.{MAX_TICK};
 ghost use Rattle.gr_publog.specs.Text.{ReadsAsSpelled, ReadsShortAsEmpty, SpellsOneList, SpellsWhatIsRead};
 
@@ -24,4 +25,9 @@ pub fn spells_one_list()
 /// The last tick of a log.
 pub fn last_tick_of_logs()
     ensures { MAX_TICK ≡ 2 ^ 62 }
+{}
+
+/// The greatest place of a gate behind which a record is appended: no log of a real disk is too long.
+pub fn last_gate_of_logs()
+    ensures { LAST_GATE ≡ 2 ^ 62 }
 {}

@@ -20,8 +20,9 @@ use smallvec::SmallVec;
 use std::alloc::{AllocError, Global};
 use std::marker::Model;
 
-/// The greatest place of a gate behind which a record is appended.
-const LAST_GATE: u64 = 1 << 62;
+/// The greatest place of a gate behind which a record is appended, 2^62. A log whose gate stands past it answers want of
+/// memory.
+pub(crate) const LAST_GATE: u64 = 1 << 62;
 
 /// How many bytes an event's record has beside the event, with the gate behind it.
 const EVENT_ROOM: usize = 22;
