@@ -68,11 +68,10 @@ fn soak_lines(alloc: Global, n: u64) -> Result<Text, Memory>
 }
 
 /// Carries out steps over a topology, with logs that are kept in memory, and counts over their report.
-pub(crate) fn summary_of(
-    alloc: Global,
-    topology: Topology,
-    steps: &Steps,
-) -> Result<Summary, Memory>
+///
+/// Steps that end with no show leave `frames`, `behind` and `kept` at 0, since these are counted in the lines of the
+/// last step. Want of memory is the only error.
+pub fn summary_of(alloc: Global, topology: Topology, steps: &Steps) -> Result<Summary, Memory>
     requires { AreStepsOf topology steps.now }
     ensures { IfOk result (λ s. s ≡ summary_of (report_of (net_of topology) steps.now)) }
 {

@@ -10,19 +10,19 @@ use gr_model::Report;
 use gr_out::Memory;
 use std::alloc::Global;
 
-/// What is printed of a soak.
+/// Counts over the report of a run that ends with a show: what a soak prints.
 #[derive(Clone, Copy, Debug, PartialEq, Eq)]
-pub(crate) struct Summary {
+pub struct Summary {
     /// How many lines of the report log an event.
-    pub(crate) logged: u128,
-    /// How many frames were sent.
-    pub(crate) frames: u128,
+    pub logged: u128,
+    /// How many frames were sent, by the last step's lines.
+    pub frames: u128,
     /// How many lines hand an event to a subscriber.
-    pub(crate) got: u128,
-    /// How many horizons are shown that are not what their publisher's log is settled up to.
-    pub(crate) behind: u128,
-    /// How many events the logs keep.
-    pub(crate) kept: u128,
+    pub got: u128,
+    /// How many horizons the last step shows that are not what their publisher's log is settled up to.
+    pub behind: u128,
+    /// How many events the logs keep, by the last step's lines.
+    pub kept: u128,
 }
 
 /// How many lines log an event.
