@@ -21,9 +21,9 @@ use Rattle.gr_model.specs.Net.{Net, is_host, keeps_horizon}
 use Rattle.gr_model.specs.NetOf.{net_of}
 use Rattle.gr_model.specs.Broker.{View, Outcome, is_consolidated_by, new_ticks, forward, know_frames, forward_frames, learn, started}
 use Rattle.gr_model.specs.Opening.{reopened_line}
-use Rattle.gr_broker.specs.declared.place.Child.{Child}
+use Rattle.gr_relay.specs.declared.place.Child.{Child}
+use Rattle.gr_relay.specs.Kept.{IsKept}
 use Rattle.gr_broker.specs.Seen.{log_said}
-use Rattle.gr_broker.specs.Of.{IsKept}
 use Rattle.gr_broker.specs.Opened.{opened_at}
 use Rattle.gr_broker.specs.Starting.{fresh_view, start_lines, IsStarted}
 

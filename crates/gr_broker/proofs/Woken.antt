@@ -16,15 +16,17 @@ use Rattle.gr_model.specs.Net.{Net, is_host}
 use Rattle.gr_model.specs.NetOf.{net_of}
 use Rattle.gr_model.specs.Broker.{View, Outcome, marking, wake, wake_host, wake_below, asking}
 use Rattle.gr_model.specs.World.{blank_view}
-use Rattle.gr_broker.specs.declared.outcome.Outcome.{Outcome as Answer}
+use Rattle.gr_relay.specs.declared.outcome.Outcome.{Outcome as Answer}
+use Rattle.gr_relay.specs.declared.held.Held.{Held}
+use Rattle.gr_relay.specs.declared.site.Seat.{Seat}
+use Rattle.gr_relay.specs.Held.{held_view}
+use Rattle.gr_relay.specs.Kept.{IsKept}
+use Rattle.gr_relay.specs.Told.{Tells}
 use Rattle.gr_broker.specs.declared.outcome.BrokerFault.{BrokerFault}
 use Rattle.gr_broker.specs.declared.outcome.BrokerFault.TheVariants as refused
-use Rattle.gr_broker.specs.declared.held.Held.{Held}
-use Rattle.gr_broker.specs.declared.site.Seat.{Seat}
-use Rattle.gr_broker.specs.Held.{held_view, broker_at}
-use Rattle.gr_broker.specs.Seen.{BrokerView, log_in, log_said, with_logged, with_failed, broken_at, is_broken}
-use Rattle.gr_broker.specs.Of.{IsKept, IsBrokerOf, LogsStand}
-use Rattle.gr_broker.specs.Told.{Tells, log_answer}
+use Rattle.gr_broker.specs.Seen.{broker_at, BrokerView, log_in, log_said, with_logged, with_failed, broken_at, is_broken}
+use Rattle.gr_broker.specs.Of.{IsBrokerOf, LogsStand}
+use Rattle.gr_broker.specs.Told.{log_answer}
 use Rattle.gr_broker.specs.Hosted.{cut_logs, logged, AppendsTwice, AppendsTwiceAt, WakeLeaves, after_mark, after_wake}
 use Rattle.gr_broker.specs.Host.{HostView, host_with}
 use Rattle.gr_broker.specs.Parts.{PartView, part_with, part_of, part_in, with_part, part_wake, part_mark_logs, part_cut_logs, part_marked, part_woken, part_failed}

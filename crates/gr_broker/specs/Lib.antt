@@ -1,14 +1,9 @@
 pub mod Seen
 pub mod Of
-pub mod Held
 pub mod Told
-pub mod Changes
-pub mod Handed
-pub mod Answers
 pub mod Hosted
 pub mod Host
 pub mod Parts
 pub mod Receipt
 pub mod Opened
-pub mod Positions
 pub mod Starting

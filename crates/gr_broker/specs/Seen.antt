@@ -1,19 +1,16 @@
 -- What a contract sees of a broker
-use Rattle.std.specs.Prelude.{ℕ, ◌<◌, Bool, false, List, length, get_or, set, Option, Some, None, IsSome}
+use Rattle.std.specs.Prelude.{ℕ, ◌<◌, Bool, false, List, length, map, get_or, set, Option, Some, None, IsSome}
 use Rattle.gr_filter.specs.Tree.{Tree}
 use Rattle.gr_publog.specs.declared.record.Record.{Record}
 use Rattle.gr_publog.specs.Crash.{LogView, with_record, failed}
 use Rattle.gr_pubend.specs.Log.{Log, log_of, empty_log}
 use Rattle.gr_model.specs.Broker.{View}
 use Rattle.gr_model.specs.World.{blank_view}
-
--- where a broker stands in a publisher's tree
-pub record Branch : Type 0 where
-  pub host : Bool  -- whether the publisher is here
-  pub up : Option ℕ  -- the next broker towards the host; the host has none
-  pub keeps : Bool  -- whether a horizon is kept
-  pub children : List ℕ  -- the next brokers away from the host, in order
-  pub edges : List (List (Option Tree))  -- for each child the filters of the subscribers at it and beyond
+use Rattle.gr_relay.specs.declared.held.Held.{Held}
+use Rattle.gr_relay.specs.declared.place.Position.{Position}
+use Rattle.gr_relay.specs.declared.site.Seat.{Seat}
+use Rattle.gr_relay.specs.Branch.{Branch}
+use Rattle.gr_relay.specs.Held.{held_view, seen_branch}
 
 -- A broker: what it keeps of each publisher is the machine's view, and where the publisher is here, its log
 pub record BrokerView : Type 0 where
@@ -84,3 +81,21 @@ logged_at b p logged v = with_view (with_log b p (with_logged (log_in b p) logge
 -- the publisher is at the broker
 abbrev pub IsHosted : BrokerView → ℕ → Type 0
 IsHosted b p = (p < length b.logs) × IsSome (log_in b p)
+
+-- a broker, by its parts
+abbrev pub seen_broker : ℕ → List ℕ → List (List (Option Tree)) → List Position → List Held → BrokerView
+seen_broker number here edges positions held = record {
+  number = number;
+  here = here;
+  branches = map (seen_branch edges) positions;
+  views = map held_view held;
+  logs = map (λ h. h.log) held;
+}
+
+-- the logs of the parts
+abbrev pub logs_of : List Held → List (Option LogView)
+logs_of held = map (λ h. h.log) held
+
+-- the broker at a seat, with these parts
+abbrev pub broker_at : Seat → List Held → BrokerView
+broker_at s held = seen_broker s.number s.here.now s.edges.now s.positions.now held

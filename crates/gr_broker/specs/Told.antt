@@ -1,40 +1,10 @@
--- What a call tells
-use Rattle.std.specs.Prelude.{◌≡◌, List, [], ◌++◌, map, Result, Ok, Err}
-use Rattle.gr_frame.specs.declared.Frame.{Frame}
-use Rattle.gr_frame.specs.Bytes.{frame_bytes}
-use Rattle.gr_frame.specs.Cut.{AreFrames}
-use Rattle.gr_frame.specs.Frames.{FrameList}
-use Rattle.gr_model.specs.declared.report.Report.{Report}
-use Rattle.gr_model.specs.Broker.{Outcome as MachineOutcome}
+-- A broker's answer in the words of a log
+use Rattle.std.specs.Prelude.{Result, Ok, Err}
 use Rattle.gr_publog.specs.declared.record.LogFault.{LogFault}
 use Rattle.gr_publog.specs.declared.record.LogFault.TheVariants as fault
-use Rattle.gr_broker.specs.declared.outcome.Outcome.{Outcome}
 use Rattle.gr_broker.specs.declared.outcome.BrokerFault.{BrokerFault}
 use Rattle.gr_broker.specs.declared.outcome.BrokerFault.TheVariants as refused
 
--- What is told is what the machine's call tells: its lines, and its frames as bytes, each the spelling of the frame at
--- its place
-pub record Tells (o : MachineOutcome) (told : Outcome) : Type 0 where
-  pub lines : told.reports ≡ o.lines
-  pub frames : told.frames.frames ≡ map frame_bytes o.frames
-  pub spelled : AreFrames told.frames.frames o.frames
-
--- nothing is told or sent yet
-pub record IsBlank (told : Outcome) : Type 0 where
-  pub lines : told.reports ≡ []
-  pub frames : told.frames.frames ≡ []
-
--- these frames are put at the end, each spelled
-pub record AddsFrames (sent : List Frame) (before after : FrameList) : Type 0 where
-  pub added : after.frames ≡ before.frames ++ map frame_bytes sent
-  pub spelled : AreFrames (map frame_bytes sent) sent
-
--- these lines and frames are put at the end of what is told
-pub record Adds (told : List Report) (sent : List Frame) (before after : Outcome) : Type 0 where
-  pub lines : after.reports ≡ before.reports ++ told
-  pub frames : AddsFrames sent before.frames after.frames
-
--- a broker's answer in the words of a log
 abbrev pub log_fault : BrokerFault → LogFault
 log_fault refused.Memory = fault.Memory
 log_fault refused.Disk = fault.Disk

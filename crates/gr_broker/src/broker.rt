@@ -13,20 +13,18 @@ ghost use Rattle.gr_publog.specs.Calls.{GoesOn, Tally, Causes, Leaves};
 ghost use Rattle.gr_model.specs.Net.{is_host};
 ghost use Rattle.gr_model.specs.NetOf.{net_of};
 ghost use Rattle.gr_model.specs.Broker.{Outcome as MachineOutcome};
+ghost use Rattle.gr_relay.specs.Told.{Tells};
 ghost use Rattle.gr_broker.specs.Seen.{view_in, log_in, machine_log, is_broken, broken_at, IsHosted};
 ghost use Rattle.gr_broker.specs.Of.{IsBrokerOf, LogsStand};
-ghost use Rattle.gr_broker.specs.Told.{Tells, log_answer};
+ghost use Rattle.gr_broker.specs.Told.{log_answer};
 ghost use Rattle.gr_broker.specs.Hosted.{publish_at, publish_logs_at, after_publish, wake_at, mark_logs_at};
 ghost use Rattle.gr_broker.specs.Hosted.{cut_logs_at, after_mark, after_wake, AppendsAt, AppendsTwiceAt, WakeLeaves};
 ghost use Rattle.gr_broker.specs.Receipt.{receipt, after_receipt, Answers};
 ghost use Rattle.gr_broker.specs.Opened.{StartsOver, OpensLanes, LosesNothing, IsDamagedAt};
 
-use crate::held::Held;
-use crate::outcome::{BrokerFault, Memory, Outcome, Received, Spare};
-use crate::place::{Position, positions_at};
+use crate::outcome::{BrokerFault, Received, Spare};
 use crate::publishing::publish_in;
 use crate::receiving::receive;
-use crate::site::Seat;
 use crate::starting::{fault_at, open_publishers};
 use crate::waking::wake;
 use gr_edge::Edge;
@@ -35,6 +33,7 @@ use gr_frame::Frames;
 use gr_model::Reports;
 use gr_out::Disk;
 use gr_publog::Log;
+use gr_relay::{Held, Memory, Outcome, Position, Seat, positions_at};
 use gr_sent::Sent;
 use gr_topo::Topology;
 use std::alloc::{AllocError, Global};
@@ -60,8 +59,8 @@ impl Model for Broker {
     ghost use Rattle.gr_topo.specs.TreeCode.{tree_code};
     ghost use Rattle.gr_filter.specs.contracts.node.Operand as operand;
     ghost use Rattle.gr_filter.specs.contracts.node.Sign as sign;
+    ghost use Rattle.gr_relay.specs.Held.{held_view, seen_branch, HasEdges};
     ghost use Rattle.gr_broker.specs.Seen.{BrokerView};
-    ghost use Rattle.gr_broker.specs.Held.{held_view, seen_branch, HasEdges};
 
     ghost Value = { BrokerView };
 

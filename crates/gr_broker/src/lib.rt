@@ -6,22 +6,16 @@
 //! wants memory has changed nothing.
 #![tactic(auto)]
 
-mod answering;
-mod asking;
 mod broker;
-mod held;
 mod hosting;
 mod law;
-mod learning;
 mod outcome;
-mod place;
 mod publishing;
 mod receiving;
-mod sending;
-mod site;
 mod starting;
 mod waking;
 
 pub use broker::{Broker, Started};
+pub use gr_relay::{Memory, Outcome};
 pub use law::{clashes_have_a_least_tick, frames_pass_the_log, nothing_new_sends_nothing};
-pub use outcome::{BrokerFault, Dropped, Memory, Outcome, Received};
+pub use outcome::{BrokerFault, Dropped, Received};

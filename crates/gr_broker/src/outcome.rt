@@ -5,12 +5,10 @@ ghost use Rattle.std.specs.Prelude.{◌≡◌, []};
 use gr_frame::{FrameFault, Frames, Head};
 use gr_know::Clash;
 use gr_model::Reports;
+use gr_relay::Outcome;
 use gr_sent::Sent;
-use std::alloc::{AllocError, Global};
+use std::alloc::Global;
 use std::mem;
-
-/// Memory was refused.
-pub type Memory = AllocError;
 
 /// Why a call is refused.
 #[derive(Clone, Copy, Debug, PartialEq, Eq)]
@@ -28,28 +26,6 @@ pub enum BrokerFault {
         /// The place of the first fault, counted from 0 in bytes.
         at: u64,
     },
-}
-
-/// What a call tells and sends.
-#[derive(Drop)]
-pub struct Outcome {
-    /// Lines of the report, in order.
-    pub reports: Reports,
-    /// Frames in their bytes, in order, each with what its line tells.
-    pub frames: Sent,
-}
-
-impl Outcome {
-    /// Nothing is told and sent. Takes no memory.
-    pub(crate) fn new(alloc: Global) -> Outcome
-        ensures reports { result.reports ≡ [] }
-        ensures frames { result.frames.frames ≡ [] }
-    {
-        Outcome {
-            reports: Reports::new(alloc),
-            frames: Sent::new(alloc),
-        }
-    }
 }
 
 /// Lists that were given back, for the next answer to be made in their room.

@@ -18,7 +18,7 @@ use Rattle.gr_model.specs.NetOf.{net_of}
 use Rattle.gr_model.specs.Broker.{View}
 use Rattle.gr_model.specs.World.{sent_lines}
 use Rattle.gr_invariants.specs.Edges.{GoesOverEdge}
-use Rattle.gr_broker.specs.declared.outcome.Outcome.{Outcome}
+use Rattle.gr_relay.specs.declared.outcome.Outcome.{Outcome}
 use Rattle.gr_broker.specs.Seen.{BrokerView, log_in, with_view, with_log, with_logged, is_broken, IsHosted}
 use Rattle.gr_broker.specs.Of.{IsBrokerOf, LogsStand}
 use Rattle.gr_run.specs.Named.{AllNamed}

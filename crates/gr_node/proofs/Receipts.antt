@@ -31,7 +31,7 @@ use Rattle.gr_model.specs.Broker.{View, empty_log, receive}
 use Rattle.gr_invariants.specs.Edges.{GoesOverEdge}
 use Rattle.gr_invariants.specs.Fits.{BodyFits}
 use Rattle.gr_invariants.proofs.topology.Strays.{receive_on}
-use Rattle.gr_broker.specs.declared.outcome.Outcome.{Outcome}
+use Rattle.gr_relay.specs.declared.outcome.Outcome.{Outcome}
 use Rattle.gr_broker.specs.declared.outcome.Received.{Received}
 use Rattle.gr_broker.specs.declared.outcome.Received.TheVariants as answer
 use Rattle.gr_broker.specs.declared.outcome.Dropped.TheVariants as dropped

@@ -17,10 +17,10 @@ use Rattle.gr_invariants.specs.Edges.{GoesBetween, GoesOverEdge}
 use Rattle.gr_invariants.specs.Fits.{BodyFits}
 use Rattle.gr_invariants.proofs.topology.Strays.{SentOn}
 use Rattle.gr_theorems.proofs.server.CutEvents.{on_log}
-use Rattle.gr_broker.specs.declared.outcome.Outcome.{Outcome}
+use Rattle.gr_relay.specs.declared.outcome.Outcome.{Outcome}
+use Rattle.gr_relay.specs.Told.{Tells}
 use Rattle.gr_broker.specs.declared.outcome.BrokerFault.{BrokerFault}
 use Rattle.gr_broker.specs.Seen.{BrokerView}
-use Rattle.gr_broker.specs.Told.{Tells}
 use Rattle.gr_broker.specs.Receipt.{Receipt, no_frame, stray, clash, taken, after_receipt}
 
 -- A wake

@@ -10,7 +10,7 @@ use Rattle.gr_publog.specs.Calls.{Opens}
 use Rattle.gr_topo.specs.Topology.{TopologyView, host_of}
 use Rattle.gr_model.specs.Net.{is_host}
 use Rattle.gr_model.specs.NetOf.{net_of}
-use Rattle.gr_broker.specs.declared.outcome.Outcome.{Outcome as BrokerOutcome}
+use Rattle.gr_relay.specs.declared.outcome.Outcome.{Outcome as BrokerOutcome}
 use Rattle.gr_broker.specs.Seen.{BrokerView, log_in}
 use Rattle.gr_broker.specs.Opened.{StartsOver, OpensLanes, LosesNothing, IsDamagedAt}
 use Rattle.gr_world.specs.Seen.{no_broker}

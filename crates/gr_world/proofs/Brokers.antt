@@ -12,10 +12,10 @@ use Rattle.gr_topo.specs.Topology.{TopologyView, host_of}
 use Rattle.gr_model.specs.declared.report.Report.{Report}
 use Rattle.gr_model.specs.Net.{numbers, is_host}
 use Rattle.gr_model.specs.NetOf.{net_of}
-use Rattle.gr_broker.specs.declared.outcome.Outcome.{Outcome as BrokerOutcome}
+use Rattle.gr_relay.specs.declared.outcome.Outcome.{Outcome as BrokerOutcome}
+use Rattle.gr_relay.proofs.Placing.{numbers_more}
 use Rattle.gr_broker.specs.Seen.{BrokerView, log_in}
 use Rattle.gr_broker.specs.Opened.{StartsOver, OpensLanes, IsDamagedAt}
-use Rattle.gr_broker.proofs.Placed.{numbers_more}
 use Rattle.gr_run.proofs.Along.{flat_map_same}
 use Rattle.gr_world.specs.Seen.{no_broker}
 use Rattle.gr_world.specs.Opened.{NoStops}

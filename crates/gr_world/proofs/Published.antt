@@ -16,12 +16,13 @@ use Rattle.gr_model.specs.Broker.{View, Log, Outcome as MachineOutcome, publish}
 use Rattle.gr_model.specs.World.{World, view_of, log_of, absorbed, publish_now, publish_now_by}
 use Rattle.gr_invariants.specs.Edges.{GoesOverEdge}
 use Rattle.gr_invariants.proofs.topology.Strays.{publish_on}
-use Rattle.gr_broker.specs.declared.outcome.Outcome.{Outcome}
+use Rattle.gr_relay.specs.declared.outcome.Outcome.{Outcome}
+use Rattle.gr_relay.specs.Told.{Tells}
 use Rattle.gr_broker.specs.declared.outcome.BrokerFault.{BrokerFault}
 use Rattle.gr_broker.specs.declared.outcome.BrokerFault.TheVariants as refused
 use Rattle.gr_broker.specs.Seen.{BrokerView, view_in, log_in, log_said, machine_log, with_logged, is_broken, broken_at}
 use Rattle.gr_broker.specs.Of.{IsBrokerOf, LogsStand}
-use Rattle.gr_broker.specs.Told.{Tells, log_answer}
+use Rattle.gr_broker.specs.Told.{log_answer}
 use Rattle.gr_broker.specs.Hosted.{publish_at, publish_logs_at, after_publish, AppendsAt}
 use Rattle.gr_world.specs.declared.fault.WorldFault.{WorldFault}
 use Rattle.gr_world.specs.declared.fault.WorldFault.TheVariants as fault

@@ -25,13 +25,13 @@ use Rattle.gr_model.specs.World.{World, blank_view, view_of, log_of, frame_at, d
 use Rattle.gr_invariants.specs.Edges.{GoesOverEdge}
 use Rattle.gr_invariants.proofs.topology.Strays.{receive_on}
 use Rattle.gr_theorems.proofs.server.CutEvents.{on_log}
+use Rattle.gr_relay.specs.Told.{Tells}
 use Rattle.gr_broker.specs.declared.outcome.Received.{Received}
 use Rattle.gr_broker.specs.declared.outcome.Received.TheVariants as answer
 use Rattle.gr_broker.specs.declared.outcome.Dropped.{Dropped}
 use Rattle.gr_broker.specs.declared.outcome.Dropped.TheVariants as dropped
 use Rattle.gr_broker.specs.Seen.{BrokerView, view_in, log_in, log_said, is_broken}
 use Rattle.gr_broker.specs.Of.{IsBrokerOf}
-use Rattle.gr_broker.specs.Told.{Tells}
 use Rattle.gr_broker.specs.Receipt.{Receipt, stray, clash, taken, came_at, receipt, receipt_of_fit, after_receipt, Answers}
 use Rattle.gr_run.proofs.Named.{all_of}
 use Rattle.gr_run.proofs.Passing.{over_edges, over_fits_broker, body_fits, none_some, PassesLog, PassesRest, HasLeast, receive_passes, clash_drops, receipt_logs, receipt_number}

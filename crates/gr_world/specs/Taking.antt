@@ -5,13 +5,13 @@ use Rattle.gr_frame.specs.Bytes.{frame_bytes}
 use Rattle.gr_model.specs.declared.report.Report.{Report}
 use Rattle.gr_model.specs.Broker.{Outcome as MachineOutcome}
 use Rattle.gr_model.specs.World.{sent_lines}
-use Rattle.gr_broker.specs.declared.outcome.Outcome.{Outcome}
+use Rattle.gr_relay.specs.declared.outcome.Outcome.{Outcome}
+use Rattle.gr_relay.specs.Told.{Tells}
 use Rattle.gr_broker.specs.declared.outcome.BrokerFault.{BrokerFault}
 use Rattle.gr_broker.specs.declared.outcome.Received.{Received}
 use Rattle.gr_broker.specs.declared.outcome.Received.TheVariants as answer
 use Rattle.gr_broker.specs.declared.outcome.Dropped.TheVariants as dropped
 use Rattle.gr_broker.specs.Seen.{BrokerView}
-use Rattle.gr_broker.specs.Told.{Tells}
 use Rattle.gr_world.specs.declared.fault.WorldFault.{WorldFault}
 use Rattle.gr_world.specs.declared.fault.WorldFault.TheVariants as fault
 use Rattle.gr_world.specs.Seen.{WorldView}

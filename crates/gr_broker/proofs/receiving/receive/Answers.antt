@@ -2,8 +2,7 @@ use Rattle.std.proofs.Common.{Some, refl, sym, ◌∙◌, subst}
 use Rattle.gr_frame.specs.Decode.{frame_decoded}
 use Rattle.gr_model.specs.NetOf.{net_of}
 use Rattle.gr_broker.specs.declared.outcome.Dropped.TheVariants as dropped
-use Rattle.gr_broker.specs.Seen.{BrokerView}
-use Rattle.gr_broker.specs.Held.{seen_broker}
+use Rattle.gr_broker.specs.Seen.{BrokerView, seen_broker}
 use Rattle.gr_broker.specs.Receipt.{AnswersInto}
 use Rattle.gr_broker.proofs.Reading.{no_frame_answer}
 use Rattle.gr_broker.proofs.receiving.receive.Goals as goal

@@ -3,10 +3,10 @@ use Rattle.std.proofs.lemmas.List.{length-map}
 use Rattle.gr_model.specs.NetOf.{net_of}
 use Rattle.gr_model.specs.Broker.{View}
 use Rattle.gr_model.specs.World.{blank_view}
+use Rattle.gr_relay.specs.Kept.{IsKept}
+use Rattle.gr_relay.specs.Held.{held_view}
 use Rattle.gr_broker.specs.declared.outcome.Dropped.TheVariants as dropped
-use Rattle.gr_broker.specs.Seen.{BrokerView}
-use Rattle.gr_broker.specs.Of.{IsKept}
-use Rattle.gr_broker.specs.Held.{held_view, seen_broker}
+use Rattle.gr_broker.specs.Seen.{BrokerView, seen_broker}
 use Rattle.gr_broker.specs.Receipt.{receipt, receipt_of_fit, view_after, after_receipt, AnswersInto}
 use Rattle.gr_broker.proofs.Reading.{stray_answer, fit_answer, part_is, put_back, on_ok, on_err, same_set, each_set, seen_set}
 use Rattle.gr_broker.proofs.receiving.take_at.Goals as goal

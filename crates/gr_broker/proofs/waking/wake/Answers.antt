@@ -9,11 +9,13 @@ use Rattle.gr_topo.specs.Topology.{TopologyView}
 use Rattle.gr_model.specs.Net.{is_host}
 use Rattle.gr_model.specs.NetOf.{net_of}
 use Rattle.gr_model.specs.Broker.{Outcome as MachineOutcome}
-use Rattle.gr_broker.specs.declared.outcome.Outcome.{Outcome}
-use Rattle.gr_broker.specs.Seen.{log_said, is_broken}
-use Rattle.gr_broker.specs.Of.{IsKept, IsBrokerOf, LogsStand}
-use Rattle.gr_broker.specs.Held.{held_view, broker_at}
-use Rattle.gr_broker.specs.Told.{Tells, log_answer}
+use Rattle.gr_relay.specs.declared.outcome.Outcome.{Outcome}
+use Rattle.gr_relay.specs.Kept.{IsKept}
+use Rattle.gr_relay.specs.Held.{held_view}
+use Rattle.gr_relay.specs.Told.{Tells}
+use Rattle.gr_broker.specs.Seen.{log_said, is_broken, broker_at}
+use Rattle.gr_broker.specs.Of.{IsBrokerOf, LogsStand}
+use Rattle.gr_broker.specs.Told.{log_answer}
 use Rattle.gr_broker.specs.Hosted.{wake_at, AppendsTwice, WakeLeaves}
 use Rattle.gr_broker.specs.Parts.{PartView, part_of, part_in, part_wake, part_mark_logs, part_cut_logs, part_marked, part_woken, part_failed}
 use Rattle.gr_broker.proofs.Woken.{moved, seen_part, seen_put, log_seen, broker_leaves, broker_fits, broker_stands, ok_of, on_ok_of, reopen_of, twice_at}
