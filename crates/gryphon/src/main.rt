@@ -5,33 +5,41 @@
 //! carries it out and prints counts over its report.
 #![tactic(auto)]
 
-mod broker_words;
-mod headline;
-mod hosting;
-mod input;
-mod matching;
-mod printing;
-mod publishing;
-mod replaying;
-mod running;
-mod serving;
-mod soaking;
-mod submitter;
-mod submitting;
-#[cfg(test)]
-mod tests;
 mod top;
-mod word;
-mod words;
 
-use gr_sock::{FileDisk, LogFolder, StdSink, StdSource, UdpNetwork, UdpPost};
+use gr_sock::{FileDisk, Folder, LogFolder, Network, StdSink, StdSource, UdpNetwork, UdpPost};
 use std::env;
 use std::io::ErrorKind;
 use std::process::ExitCode;
+use std::rt::Clock;
+
+/// Tells the operator, on standard error, what the system said where a status comes of it, and how many offers were
+/// lost. A word that cannot be written is left out.
+fn tell<D: Folder, N: Network, C: Clock>(
+    rt: &HostRuntime,
+    status: u8,
+    disk: &FileDisk<D>,
+    post: &UdpPost<N, C>,
+) {
+    if status == 5
+        && let Some(said) = disk.last_error()
+    {
+        let _ = eprintln!(rt; "gryphon: {said}");
+    }
+    if status == 8
+        && let Some(said) = post.last_error()
+    {
+        let _ = eprintln!(rt; "gryphon: {said}");
+    }
+    if let Some(said) = post.last_loss() {
+        let _ = eprintln!(rt; "gryphon: offers lost: {}, the last {said}", post.lost());
+    }
+}
 
 /// Carries out the command that the words name, from standard input to standard output. Brokers that serve keep their
 /// logs in a folder of files; they send and get datagrams, and so does a client that submits. A word that is no text
-/// names no command. Want of memory for the words ends with status 7.
+/// names no command. Want of memory for the words ends with status 7. Standard error has a word for the operator where
+/// the disk or the network failed, or offers were lost.
 fn main(rt: HostRuntime) -> ExitCode {
     let mut texts = Vec::new(rt.alloc());
     match env::args(&rt) {
@@ -63,5 +71,6 @@ fn main(rt: HostRuntime) -> ExitCode {
         &mut disk,
         &mut post,
     );
+    tell(&rt, status, &disk, &post);
     ExitCode::from(status)
 }

@@ -6,31 +6,17 @@ ghost use Rattle.gr_out.specs.Bytes.{IsAtEnd};
 ghost use Rattle.gr_out.specs.Page.{TakesFront};
 ghost use Rattle.gr_publog.specs.Crash.{EitherRose};
 ghost use Rattle.gr_scenario.specs.Scenario.{asked_by};
-ghost use Rattle.gryphon.specs.Words.{texts_of, task_by, is_known, IsReading, IsServing, IsPosting};
-ghost use Rattle.gryphon.specs.Serving.{IfRun, around, RunsTo, StopsBy, NotBegun, IsDamaged};
-ghost use Rattle.gryphon.specs.Serving.{AllRead};
-ghost use Rattle.gryphon.specs.Publishing.{IfPublish, outside, PublishesTo, StopsPublishing};
-ghost use Rattle.gryphon.specs.Publishing.{NotPublished};
-ghost use Rattle.gryphon.specs.Answers.{answer_of, answer_to};
-ghost use Rattle.gryphon.specs.Top.{WasReplayed, IsAnswered, IsWhole, IsCut, IsStop};
+ghost use Rattle.gr_top.specs.declared.words.Task.TheVariants as Task;
+ghost use Rattle.gr_top.specs.Words.{texts_of, task_by, is_known, IsReading, IsServing, IsPosting};
+ghost use Rattle.gr_top.specs.Serving.{IfRun, around, RunsTo, StopsBy, NotBegun, IsDamaged};
+ghost use Rattle.gr_top.specs.Serving.{AllRead};
+ghost use Rattle.gr_top.specs.Publishing.{IfPublish, outside, PublishesTo, StopsPublishing};
+ghost use Rattle.gr_top.specs.Publishing.{NotPublished};
+ghost use Rattle.gr_top.specs.Answers.{answer_of, answer_to};
+ghost use Rattle.gr_top.specs.Top.{WasReplayed, IsAnswered, IsWhole, IsCut, IsStop};
 
-use crate::broker_words::BrokerWords;
-use crate::input::Input;
-use crate::matching::match_bytes;
-use crate::printing::print;
-use crate::publishing::publish_bytes;
-use crate::replaying::replay_bytes;
-use crate::serving::serve_bytes;
-use crate::soaking::print_soak;
-use crate::word::Word;
-use crate::words::{Task, task_of};
-use gr_out::{Disk, Post, ReadFault, Sink, Source, read_all};
-use gr_sched::MAX_BYTES;
+use gr_out::{Disk, Post, Sink, Source};
 use std::alloc::Global;
-
-/// What is printed for words that are no command.
-const USAGE: &[u8] =
-    b"usage: gryphon replay | serve TURNS BROKER... | publish P TURNS | match | soak N\n";
 
 /// Carries out the command that the words name, over a source and a sink; brokers that serve have a disk and a post,
 /// and a client that submits has the post. Gives the exit status.
@@ -144,174 +130,5 @@ pub fn gryphon<S: Source, K: Sink, D: Disk, P: Post>(
         → IfPublish (task_by (texts_of words.now)) (S.left source.old)
         (λ turns t lines p. (result ≡ 0) ⊎ (result ≡ 7)) }
 {
-    match task_of(alloc, words) {
-        Ok(Task::Usage) => print(sink, USAGE, 1),
-        Ok(Task::Replay) => from_source(alloc, Input::Scenario, source, sink),
-        Ok(Task::Serve { turns, brokers }) => {
-            serve_source(alloc, &brokers, turns, source, sink, disk, post)
-        }
-        Ok(Task::Publish { publisher, turns }) => {
-            publish_source(alloc, &publisher, turns, source, sink, post)
-        }
-        Ok(Task::Match) => from_source(alloc, Input::MatchText, source, sink),
-        Ok(Task::Soak { count }) => print_soak(alloc, count, sink),
-        Err(_) => 7,
-    }
-}
-
-/// Reads the bytes of a source, and has the named brokers of the scenario that they are serve for so many turns. Gives
-/// the status.
-fn serve_source<S: Source, K: Sink, D: Disk, P: Post>(
-    alloc: Global,
-    words: &BrokerWords<'_>,
-    turns: u64,
-    source: &mut S,
-    sink: &mut K,
-    disk: &mut D,
-    post: &mut P,
-) -> u8
-    ensures read_to_its_end { (result ≡ 0) ⊎ (result ≡ 2) → IsAtEnd (S.left source.new) }
-    ensures answered { IsWhole result → IfSome (answer_to (Task.Serve turns words.now) (S.left source.old))
-        (IsAnswered result (K.taken sink.old) (K.taken sink.new)) }
-    ensures front { IsCut result → IfSome (answer_to (Task.Serve turns words.now) (S.left source.old))
-        (λ answer. TakesFront (K.taken sink.old) (K.taken sink.new) answer.text) }
-    ensures nothing { result ≡ 3 → K.taken sink.new ≡ K.taken sink.old }
-    ensures served { result ≡ 0 → IfRun (Task.Serve turns words.now) (S.left source.old)
-        (λ turns t lines hosted. RunsTo t lines hosted turns P.tells D.tells
-        (around (K.taken sink.old) (P.journal post.old) (D.lane_of disk.old))
-        (around (K.taken sink.new) (P.journal post.new) (D.lane_of disk.new)) (Ok tt)) }
-    ensures stopped { IsCut result ⊎ IsStop result → IfRun (Task.Serve turns words.now) (S.left source.old)
-        (λ turns t lines hosted. NotBegun
-        (around (K.taken sink.old) (P.journal post.old) (D.lane_of disk.old))
-        (around (K.taken sink.new) (P.journal post.new) (D.lane_of disk.new)) result
-        ⊎ StopsBy t lines hosted turns P.tells D.tells
-        (around (K.taken sink.old) (P.journal post.old) (D.lane_of disk.old))
-        (around (K.taken sink.new) (P.journal post.new) (D.lane_of disk.new)) result) }
-    ensures damaged { result ≡ 6 → D.tells → IfRun (Task.Serve turns words.now) (S.left source.old)
-        (λ turns t lines hosted. IsDamaged t hosted (D.lane_of disk.old)) }
-    ensures undamaged { result ≡ 0 → D.tells → IfRun (Task.Serve turns words.now) (S.left source.old)
-        (λ turns t lines hosted. AllRead t hosted (D.lane_of disk.old)) }
-    ensures runs { IsWhole result → IfRun (Task.Serve turns words.now) (S.left source.old)
-        (λ turns t lines hosted. result ≡ 0) }
-    ensures refuses { IsStop result → IfSome (answer_to (Task.Serve turns words.now) (S.left source.old))
-        (λ answer. ⊥) }
-    ensures untouched { (result ≡ 2) ⊎ ((result ≡ 3) ⊎ (result ≡ 9))
-        → (disk.new ≡ disk.old) × (post.new ≡ post.old) }
-    ensures known { result ≢ 1 }
-    ensures read_failed { result ≡ 3 → Rose (S.faults source.old) (S.faults source.new) }
-    ensures write_failed { result ≡ 4 → Rose (K.faults sink.old) (K.faults sink.new) }
-    ensures disk_failed { result ≡ 5 →
-        EitherRose (D.faults disk.old) (D.faults disk.new) (D.stops disk.old) (D.stops disk.new) }
-    ensures post_failed { result ≡ 8 → Rose (P.faults post.old) (P.faults post.new) }
-    ensures source_same { result ≢ 3 → S.faults source.new ≡ S.faults source.old }
-    ensures sink_same { result ≢ 4 → K.faults sink.new ≡ K.faults sink.old }
-    ensures disk_same { result ≡ 0 → (D.faults disk.new ≡ D.faults disk.old) × (D.stops disk.new ≡ D.stops disk.old) }
-    ensures post_same { result ≡ 0 → P.faults post.new ≡ P.faults post.old }
-    ensures complete { (result ≡ 3) ⊎ (IsWhole result ⊎ (IsCut result ⊎ IsStop result)) }
-{
-    let bytes = match read_all(alloc, source, MAX_BYTES + 1) {
-        Ok(bytes) => bytes,
-        Err(ReadFault::Failed) => return 3,
-        Err(ReadFault::Memory) => return 7,
-    };
-    serve_bytes(
-        alloc,
-        bytes.as_slice(),
-        words.as_slice(),
-        turns,
-        disk,
-        post,
-        sink,
-    )
-}
-
-/// Reads the bytes of a source, and has the client of the named publisher of the scenario that they are submit for so
-/// many turns. Gives the status.
-fn publish_source<S: Source, K: Sink, P: Post>(
-    alloc: Global,
-    word: &Word<'_>,
-    turns: u64,
-    source: &mut S,
-    sink: &mut K,
-    post: &mut P,
-) -> u8
-    ensures read_to_its_end { (result ≡ 0) ⊎ (result ≡ 2) → IsAtEnd (S.left source.new) }
-    ensures answered { IsWhole result → IfSome (answer_to (Task.Publish word.now turns) (S.left source.old))
-        (IsAnswered result (K.taken sink.old) (K.taken sink.new)) }
-    ensures front { IsCut result → IfSome (answer_to (Task.Publish word.now turns) (S.left source.old))
-        (λ answer. TakesFront (K.taken sink.old) (K.taken sink.new) answer.text) }
-    ensures nothing { result ≡ 3 → K.taken sink.new ≡ K.taken sink.old }
-    ensures published { result ≡ 0 → IfPublish (Task.Publish word.now turns) (S.left source.old)
-        (λ turns t lines p. PublishesTo t lines p turns P.tells
-        (outside (K.taken sink.old) (P.journal post.old)) (outside (K.taken sink.new) (P.journal post.new)) (Ok tt)) }
-    ensures stopped { IsCut result ⊎ (result ≡ 8) →
-        IfPublish (Task.Publish word.now turns) (S.left source.old) (λ turns t lines p. NotPublished
-        (outside (K.taken sink.old) (P.journal post.old)) (outside (K.taken sink.new) (P.journal post.new)) result
-        ⊎ StopsPublishing t lines p turns P.tells
-        (outside (K.taken sink.old) (P.journal post.old)) (outside (K.taken sink.new) (P.journal post.new)) result) }
-    ensures runs { IsWhole result → IfPublish (Task.Publish word.now turns) (S.left source.old)
-        (λ turns t lines p. result ≡ 0) }
-    ensures refuses { result ≡ 8 → IfSome (answer_to (Task.Publish word.now turns) (S.left source.old))
-        (λ answer. ⊥) }
-    ensures untouched { (result ≡ 2) ⊎ ((result ≡ 3) ⊎ (result ≡ 9)) → post.new ≡ post.old }
-    ensures known { result ≢ 1 }
-    ensures diskless { (result ≢ 5) × (result ≢ 6) }
-    ensures read_failed { result ≡ 3 → Rose (S.faults source.old) (S.faults source.new) }
-    ensures write_failed { result ≡ 4 → Rose (K.faults sink.old) (K.faults sink.new) }
-    ensures post_failed { result ≡ 8 → Rose (P.faults post.old) (P.faults post.new) }
-    ensures source_same { result ≢ 3 → S.faults source.new ≡ S.faults source.old }
-    ensures sink_same { result ≢ 4 → K.faults sink.new ≡ K.faults sink.old }
-    ensures post_same { result ≡ 0 → P.faults post.new ≡ P.faults post.old }
-    ensures complete { (result ≡ 3) ⊎ (IsWhole result ⊎ (IsCut result ⊎ (result ≡ 8))) }
-{
-    let bytes = match read_all(alloc, source, MAX_BYTES + 1) {
-        Ok(bytes) => bytes,
-        Err(ReadFault::Failed) => return 3,
-        Err(ReadFault::Memory) => return 7,
-    };
-    publish_bytes(alloc, bytes.as_slice(), word.as_str(), turns, post, sink)
-}
-
-/// Reads the bytes of a source, and answers them by what they are read as. Gives the status.
-fn from_source<S: Source, K: Sink>(alloc: Global, input: Input, source: &mut S, sink: &mut K) -> u8
-    ensures replayed { result ≡ 0 → input ≡ Input.Scenario →
-        IfSome (S.left source.old) (λ bytes. WasReplayed (K.taken sink.old) (K.taken sink.new) (asked_by bytes)) }
-    ensures read_to_its_end { (result ≡ 0) ⊎ (result ≡ 2) → IsAtEnd (S.left source.new) }
-    ensures answered { IsWhole result → IfSome (S.left source.old)
-        (λ bytes. IsAnswered result (K.taken sink.old) (K.taken sink.new) (answer_of input bytes)) }
-    ensures front { IsCut result → IfSome (S.left source.old)
-        (λ bytes. TakesFront (K.taken sink.old) (K.taken sink.new) (answer_of input bytes).text) }
-    ensures nothing { result ≡ 3 → K.taken sink.new ≡ K.taken sink.old }
-    ensures known { result ≢ 1 }
-    ensures read_failed { result ≡ 3 → Rose (S.faults source.old) (S.faults source.new) }
-    ensures write_failed { result ≡ 4 → Rose (K.faults sink.old) (K.faults sink.new) }
-    ensures source_same { result ≢ 3 → S.faults source.new ≡ S.faults source.old }
-    ensures sink_same { result ≢ 4 → K.faults sink.new ≡ K.faults sink.old }
-    ensures complete { (result ≡ 3) ⊎ (IsWhole result ⊎ IsCut result) }
-{
-    let bytes = match read_all(alloc, source, MAX_BYTES + 1) {
-        Ok(bytes) => bytes,
-        Err(ReadFault::Failed) => return 3,
-        Err(ReadFault::Memory) => return 7,
-    };
-    answer(alloc, input, bytes.as_slice(), sink)
-}
-
-/// Answers bytes by what they are read as. Gives the status.
-fn answer<K: Sink>(alloc: Global, input: Input, bytes: &[u8], sink: &mut K) -> u8
-    ensures replayed { result ≡ 0 → input ≡ Input.Scenario →
-        WasReplayed (K.taken sink.old) (K.taken sink.new) (asked_by bytes.now) }
-    ensures answered { IsWhole result →
-        IsAnswered result (K.taken sink.old) (K.taken sink.new) (answer_of input bytes.now) }
-    ensures front { IsCut result →
-        TakesFront (K.taken sink.old) (K.taken sink.new) (answer_of input bytes.now).text }
-    ensures known { result ≢ 1 }
-    ensures write_failed { result ≡ 4 → Rose (K.faults sink.old) (K.faults sink.new) }
-    ensures sink_same { result ≢ 4 → K.faults sink.new ≡ K.faults sink.old }
-    ensures complete { IsWhole result ⊎ IsCut result }
-{
-    match input {
-        Input::Scenario => replay_bytes(alloc, bytes, sink),
-        Input::MatchText => match_bytes(alloc, bytes, sink),
-    }
+    gr_top::gryphon(alloc, words, source, sink, disk, post)
 }

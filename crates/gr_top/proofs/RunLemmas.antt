@@ -1,0 +1,123 @@
+-- What a run of brokers ensures, as the answer that it comes to; and after a run that was carried out each lane held a log, since
+-- each broker has started
+use Rattle.std.proofs.Common.{◌≡◌, ◌⊎◌, ℕ, ◌*◌, Bool, true, nat_eq, List, [], ◌∷◌, ◌++◌, length, map, Option, Result, Ok, Err, IsOk, refl, sym, ap, ◌∙◌, subst, inl, inr, ⊎_elim}
+use Rattle.std.specs.Prelude.{⊤}
+use Rattle.std.specs.List.{list_any, AllByRecursion}
+use Rattle.std.proofs.lemmas.Bool.{false≢true, or_cases, or_left, or_right, eqb-true, eq-eqb}
+use Rattle.std.proofs.lemmas.List.{append-nil}
+use Rattle.gr_out.specs.declared.fault.RunFault.{RunFault}
+use Rattle.gr_out.specs.declared.fault.RunFault.TheVariants as run
+use Rattle.gr_out.specs.Bytes.{with_more}
+use Rattle.gr_out.specs.Lane.{Lane, content}
+use Rattle.gr_out.specs.Page.{TakesFront}
+use Rattle.gr_publog.specs.Text.{log_text}
+use Rattle.gr_sched.specs.declared.step.Line.{Line}
+use Rattle.gr_topo.specs.Topology.{TopologyView, host_of}
+use Rattle.gr_scenario.specs.Steps.{AreStepsOf}
+use Rattle.gr_model.specs.Net.{numbers}
+use Rattle.gr_model.specs.NetOf.{net_of}
+use Rattle.gr_theorems.specs.Served.{IsOfBytes}
+use Rattle.gr_theorems.specs.Lanes.{AllFollow, HoldsServedLanes}
+use Rattle.gr_node.specs.Plan.{Act, binds, starts, shows, ours, nodes, plan, run_acts}
+use Rattle.gr_node.specs.Served.{Course, is_start, planned, IsRunOf, Posts, Prints, KeepsLogs, IsHonestJournal}
+use Rattle.gr_top.specs.Serving.{CanRun, Around, around, RunsTo, StopsBy, EndsBy, AllRead, damaged_line}
+use Rattle.gr_top.specs.Top.{IsCut}
+
+-- what the run itself says of its course
+abbrev pub HasRun : TopologyView → List Line → List ℕ → ℕ → Type 0 → Type 0 → Around → Around → Result ⊤ RunFault → Type 0
+HasRun t lines hosted turns post_tells disk_tells before after answer =
+    (c : Course) × (IsRunOf t hosted lines turns c answer
+    × ((post_tells → Posts t hosted lines c before.journal after.journal answer)
+    × (Prints t hosted lines c before.taken after.taken answer
+    × (disk_tells → KeepsLogs t hosted lines c before.lanes after.lanes answer))))
+
+-- that an honest journal of all brokers meets the headline
+abbrev pub MeetsServed : TopologyView → Type 0
+MeetsServed t = (steps : List Line) (c : Course) → AreStepsOf t steps → AllFollow c.records
+    → AllByRecursion IsOfBytes c.came → IsHonestJournal [] (planned t (numbers (length t.brokers)) steps c)
+    → HoldsServedLanes (net_of t) c.records steps (ours (numbers (length t.brokers)) c.came)
+
+-- so the run came to its answer
+pub runs_to : (t : TopologyView) (lines : List Line) (hosted : List ℕ) (turns : ℕ) (post_tells disk_tells : Type 0) (before after : Around) (answer : Result ⊤ RunFault)
+    → CanRun t lines hosted → MeetsServed t → HasRun t lines hosted turns post_tells disk_tells before after answer
+    → RunsTo t lines hosted turns post_tells disk_tells before after answer
+runs_to t lines hosted turns post_tells disk_tells before after answer can meets r = record {
+  course = r.0;
+  is_run = r.1.0;
+  posts = r.1.1.0;
+  prints = r.1.1.1.0;
+  keeps = r.1.1.1.1;
+  headline = λ all honest.
+      subst (λ h. HoldsServedLanes (net_of t) r.0.records lines (ours h r.0.came)) (sym all)
+      (meets lines r.0 can.steps r.1.0.follow r.1.0.bytes (subst (λ h. IsHonestJournal [] (planned t h lines r.0)) all honest));
+}
+
+-- a run that a fault ended, and what its status says
+pub stops_by : (t : TopologyView) (lines : List Line) (hosted : List ℕ) (turns : ℕ) (post_tells disk_tells : Type 0) (before after : Around) (fault : RunFault) (status : ℕ)
+    (taken : Option (List ℕ)) → CanRun t lines hosted → MeetsServed t
+    → HasRun t lines hosted turns post_tells disk_tells before after (Err fault) → EndsBy t fault status after.taken taken
+    → StopsBy t lines hosted turns post_tells disk_tells before (around taken after.journal after.lanes) status
+stops_by t lines hosted turns post_tells disk_tells before after fault status taken can meets r ends = record {
+  fault = fault;
+  taken = after.taken;
+  run = runs_to t lines hosted turns post_tells disk_tells before after (Err fault) can meets r;
+  ends = ends;
+}
+
+-- the line of a log that is none was printed, or a front of it
+pub ends_damaged : (t : TopologyView) (fault : RunFault) (p at status : ℕ) (old new : Option (List ℕ)) → fault ≡ run.Damaged p at → (status ≡ 6) ⊎ IsCut status
+    → (status ≡ 6 → new ≡ with_more old (damaged_line t p at)) → (IsCut status → TakesFront old new (damaged_line t p at))
+    → EndsBy t fault status old new
+ends_damaged t fault p at status old new is (inl e) printed front = rw is (inl (e, printed e))
+ends_damaged t fault p at status old new is (inr cut) printed front = rw is (inr (cut, front cut))
+
+-- nothing more was printed after any other
+pub ends_at_once : (t : TopologyView) (fault known : RunFault) (status : ℕ) (taken : Option (List ℕ)) → fault ≡ known → EndsBy t known status taken taken
+    → EndsBy t fault status taken taken
+ends_at_once t fault known status taken is ends = rw is ends
+
+-- Each hosted broker has started
+
+-- what passes in one part passes in the whole
+any_append : (test : Act → Bool) (xs ys : List Act) → (list_any test xs ≡ true) ⊎ (list_any test ys ≡ true) → list_any test (xs ++ ys) ≡ true
+any_append test [] ys (inl e) = absurd (false≢true e)
+any_append test [] ys (inr e) = e
+any_append test (x ∷ xs) ys (inl e) =
+    ⊎_elim
+    (λ here. or_left (test x) (list_any test (xs ++ ys)) here)
+    (λ later. or_right (test x) (list_any test (xs ++ ys)) (any_append test xs ys (inl later)))
+    (or_cases (test x) (list_any test xs) e)
+any_append test (x ∷ xs) ys (inr e) = or_right (test x) (list_any test (xs ++ ys)) (any_append test xs ys (inr e))
+
+-- of a broker that is hosted there is a start
+starts_of : (h : ℕ) (hosted : List ℕ) → list_any (λ b. nat_eq b h) hosted ≡ true → list_any (is_start h) (map starts hosted) ≡ true
+starts_of h [] e = absurd (false≢true e)
+starts_of h (b ∷ bs) e =
+    ⊎_elim
+    (λ here. or_left (nat_eq h b) (list_any (is_start h) (map starts bs)) (eq-eqb h b (sym (eqb-true b h here))))
+    (λ later. or_right (nat_eq h b) (list_any (is_start h) (map starts bs)) (starts_of h bs later))
+    (or_cases (nat_eq b h) (list_any (λ c. nat_eq c h) bs) e)
+
+-- and so there is in the plan
+plan_starts : (t : TopologyView) (lines : List Line) (hosted : List ℕ) (c : Course) (h : ℕ) → list_any (λ b. nat_eq b h) hosted ≡ true
+    → list_any (is_start h) (plan t hosted lines c.came c.closed) ≡ true
+unfolding plan
+plan_starts t lines hosted c h e =
+    let rest = run_acts (net_of t) hosted lines c.came c.closed ++ shows ∷ [] in
+    any_append (is_start h) (map binds (nodes t hosted)) (map starts hosted ++ rest)
+    (inr (any_append (is_start h) (map starts hosted) rest (inl (starts_of h hosted e))))
+
+-- what is read was read
+ok_by : {A E : Type 0} (r : Result A E) (a : A) → r ≡ Ok a → IsOk r
+ok_by (Ok x) a e = refl
+ok_by (Err x) a e = let bad : Err x ≡ Ok a = e in cc
+
+-- so each of their lanes held a log
+pub all_read : (t : TopologyView) (lines : List Line) (hosted : List ℕ) (turns : ℕ) (c : Course) (before after : ℕ → Lane)
+    → IsRunOf {T = ⊤} t hosted lines turns c (Ok tt) → KeepsLogs {T = ⊤} t hosted lines c before after (Ok tt) → AllRead t hosted before
+all_read t lines hosted turns c before after is_run keeps = λ p lt here.
+    let made : c.made ≡ plan t hosted lines c.came c.closed =
+    sym (append-nil c.made) ∙ (ap (λ l. c.made ++ l) (sym is_run.whole) ∙ is_run.acts) in
+    let started : list_any (is_start (host_of t p)) c.made ≡ true =
+    ap (list_any (is_start (host_of t p))) made ∙ plan_starts t lines hosted c (host_of t p) here in
+    ok_by (log_text (content (before (2 * p)))) _ (keeps.found p lt here started)

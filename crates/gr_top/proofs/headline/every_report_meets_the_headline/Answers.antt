@@ -1,0 +1,19 @@
+use Rattle.gr_model.specs.NetOf.{net_of}
+use Rattle.gr_theorems.specs.Statements.{IsAskedRun, IsMarkedRun, world_after}
+use Rattle.gr_run.proofs.Steps.{steps_in}
+use Rattle.gr_top.proofs.headline.every_report_meets_the_headline.Goals as goal
+
+pub returns : goal.returns
+returns c =
+    let t = c.args.topology.now in
+    let lines = c.args.steps.now in
+    let tree = c.every_topology_is_a_tree.ensures in
+    let steps = steps_in t lines c.requires in
+    let asked : IsAskedRun (net_of t) lines = record { tree = tree.tree; quiet = tree.orderly.quiet; retry = tree.orderly.retry; steps_in = steps } in
+    let marked : IsMarkedRun (net_of t) lines = record { tree = tree.tree; quiet = tree.orderly.quiet; steps_in = steps } in
+    record {
+      headline = c.headline_always.ensures (net_of t) lines asked;
+      by_rules = record { left = world_after (net_of t) lines; schedule = c.runs_by_rules.ensures.allowed (net_of t) lines marked };
+      alone = λ rs r. (c.runs_by_rules.ensures.alone (net_of t) lines rs r.left marked r.schedule).0;
+      replied = c.replies_stand.ensures (net_of t) lines marked;
+    }

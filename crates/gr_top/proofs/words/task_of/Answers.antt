@@ -1,0 +1,13 @@
+use Rattle.clap.specs.Words.{fault_of}
+use Rattle.gr_top.specs.declared.words.Task.TheVariants.{Replay, Match}
+use Rattle.gr_top.specs.Words.{texts_of, replay_app, match_app}
+use Rattle.gr_top.proofs.WordLemmas.{kept_in_range}
+use Rattle.gr_top.proofs.words.task_of.Goals as goal
+
+pub returns-then-eq-clause-range : goal.returns-then-eq-clause-range
+returns-then-eq-clause-range c =
+    kept_in_range (fault_of replay_app (texts_of c.args.words.now)) Replay c.bare_task.result tt c.bare_task.ensures
+
+pub returns-then-eq-4-clause-range : goal.returns-then-eq-4-clause-range
+returns-then-eq-4-clause-range c =
+    kept_in_range (fault_of match_app (texts_of c.args.words.now)) Match c.bare_task-then-eq-4.result tt c.bare_task-then-eq-4.ensures

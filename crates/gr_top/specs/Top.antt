@@ -1,0 +1,53 @@
+-- What the top call promises
+use Rattle.std.specs.Prelude.{◌≡◌, ℕ, ◌⊎◌, List, Option}
+use Rattle.gr_out.specs.Bytes.{with_more}
+use Rattle.gr_sched.specs.declared.step.Line.{Line}
+use Rattle.gr_topo.specs.Topology.{TopologyView}
+use Rattle.gr_model.specs.declared.report.Report.{Report}
+use Rattle.gr_model.specs.Headline.{Headline}
+use Rattle.gr_model.specs.NetOf.{net_of}
+use Rattle.gr_model.specs.World.{report_of}
+use Rattle.gr_theorems.specs.ByRules.{ReportByRules}
+use Rattle.gr_theorems.specs.Replies.{Replied}
+use Rattle.gr_scenario.specs.declared.asked.Asked.{Asked}
+use Rattle.gr_scenario.specs.declared.asked.Asked.TheVariants.{Scenario}
+use Rattle.gr_replay.specs.Replayed.{replayed_text}
+use Rattle.gr_top.specs.Answers.{Answer}
+
+-- the report of a schedule over a topology meets the headline
+pub record MeetsHeadline (t : TopologyView) (lines : List Line) : Type 0 where
+  -- recorded lines, delivered exactly, doubt horizons, horizons rise and discarded only after delivery, step by step
+  pub headline : Headline (net_of t) lines (report_of (net_of t) lines)
+  -- each step makes its calls, and each call forwards, asks, acknowledges, tells and keeps what its rule says; the
+  -- lines are those of the calls and frames in their order
+  pub by_rules : ReportByRules (net_of t) lines (report_of (net_of t) lines)
+  -- no other report is one by the rules
+  pub alone : (rs : List (List Report)) → ReportByRules (net_of t) lines rs → rs ≡ report_of (net_of t) lines
+  -- each step is refused, and bytes are shown, exactly where the schedule and the frames sent demand it; sent lines are
+  -- numbered 1, 2, 3 and so on
+  pub replied : Replied (net_of t) lines (report_of (net_of t) lines)
+
+-- a schedule over a topology was asked for, its report was taken whole, and it meets the headline
+pub record WasReplayed (old new : Option (List ℕ)) (asked : Asked) : Type 0 where
+  pub topology : TopologyView
+  pub lines : List Line
+  pub schedule : asked ≡ Scenario topology lines
+  pub taken : new ≡ with_more old (replayed_text topology lines)
+  pub meets : MeetsHeadline topology lines
+
+-- the status is that of the answer, and the sink took its text whole
+pub record IsAnswered (status : ℕ) (old new : Option (List ℕ)) (answer : Answer) : Type 0 where
+  pub same : status ≡ answer.status
+  pub taken : new ≡ with_more old answer.text
+
+-- a status that comes once all is printed
+abbrev pub IsWhole : ℕ → Type 0
+IsWhole status = (status ≡ 0) ⊎ ((status ≡ 1) ⊎ ((status ≡ 2) ⊎ (status ≡ 9)))
+
+-- a status that comes once a part is printed
+abbrev pub IsCut : ℕ → Type 0
+IsCut status = (status ≡ 4) ⊎ (status ≡ 7)
+
+-- a status that comes where a run was stopped: by the disk, by a lane that holds no log, or by the post
+abbrev pub IsStop : ℕ → Type 0
+IsStop status = (status ≡ 5) ⊎ ((status ≡ 6) ⊎ (status ≡ 8))

@@ -1,0 +1,22 @@
+//! That the report of every schedule meets the headline.
+
+ghost use Rattle.gr_scenario.specs.Steps.{AreStepsOf};
+ghost use Rattle.gr_top.specs.Top.{MeetsHeadline};
+
+use gr_model::topologies::every_topology_is_a_tree;
+use gr_sched::Steps;
+use gr_theorems::theorems::{headline_always, replies_stand, runs_by_rules};
+use gr_topo::Topology;
+
+/// Over every topology that was read, the report of every schedule meets the headline. The function does nothing: its
+/// contract is the theorem.
+pub fn every_report_meets_the_headline(topology: &Topology, steps: &Steps)
+    requires { AreStepsOf topology.now steps.now }
+    ensures { MeetsHeadline topology.now steps.now }
+{
+    every_topology_is_a_tree(topology);
+    headline_always();
+    runs_by_rules();
+    replies_stand();
+    let _ = steps;
+}

@@ -1,0 +1,25 @@
+//! The top call: what each command of `gryphon` reads, does, prints and answers, over a source, a sink, a disk and a
+//! post. `replay` carries out a scenario and prints its report; `serve` runs the named brokers of its topology; `publish`
+//! submits the events of a publisher of it to its host; `match` prints for each event the filters that match it; `soak`
+//! makes a scenario, carries it out and prints counts over its report. The contract of `gryphon` speaks in the words of
+//! `specs/Top.antt`.
+#![tactic(auto)]
+
+mod broker_words;
+pub mod headline;
+mod hosting;
+mod input;
+mod matching;
+mod printing;
+mod publishing;
+mod replaying;
+mod running;
+mod serving;
+mod soaking;
+mod submitter;
+mod submitting;
+mod top;
+mod word;
+mod words;
+
+pub use top::gryphon;

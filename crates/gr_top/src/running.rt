@@ -1,0 +1,82 @@
+//! Brokers of a topology serve.
+
+ghost use Rattle.std.specs.Prelude.{◌≡◌, ◌≢◌, ◌⊎◌, ◌<◌, length, Ok};
+ghost use Rattle.gr_out.specs.Bytes.{with_more};
+ghost use Rattle.gr_out.specs.Faults.{Rose};
+ghost use Rattle.gr_out.specs.Page.{TakesFront};
+ghost use Rattle.gr_publog.specs.Crash.{EitherRose};
+ghost use Rattle.gr_top.specs.Serving.{CanRun, around, RunsTo, StopsBy, IsDamaged, AllRead, damaged_line};
+ghost use Rattle.gr_top.specs.Top.{IsCut, IsStop};
+
+use gr_model::{PutFault, Report, put};
+use gr_node::{an_honest_journal_meets_the_headline, serve};
+use gr_out::{Disk, Post, RunFault, Sink};
+use gr_sched::Steps;
+use gr_topo::Topology;
+use std::alloc::Global;
+
+/// Runs brokers of a topology over a post, with their logs on a disk. Gives the status.
+pub(crate) fn run<D: Disk, P: Post, K: Sink>(
+    alloc: Global,
+    topo: &Topology,
+    steps: &Steps,
+    hosted: &[u16],
+    turns: u64,
+    disk: &mut D,
+    post: &mut P,
+    sink: &mut K,
+) -> u8
+    requires { CanRun topo.now steps.now hosted.now }
+    ensures served { result ≡ 0 → RunsTo topo.now steps.now hosted.now turns P.tells D.tells
+        (around (K.taken sink.old) (P.journal post.old) (D.lane_of disk.old))
+        (around (K.taken sink.new) (P.journal post.new) (D.lane_of disk.new)) (Ok tt) }
+    ensures stopped { IsCut result ⊎ IsStop result → StopsBy topo.now steps.now hosted.now turns P.tells D.tells
+        (around (K.taken sink.old) (P.journal post.old) (D.lane_of disk.old))
+        (around (K.taken sink.new) (P.journal post.new) (D.lane_of disk.new)) result }
+    ensures damaged { result ≡ 6 → D.tells → IsDamaged topo.now hosted.now (D.lane_of disk.old) }
+    ensures undamaged { result ≡ 0 → D.tells → AllRead topo.now hosted.now (D.lane_of disk.old) }
+    ensures disk_failed { result ≡ 5 →
+        EitherRose (D.faults disk.old) (D.faults disk.new) (D.stops disk.old) (D.stops disk.new) }
+    ensures post_failed { result ≡ 8 → Rose (P.faults post.old) (P.faults post.new) }
+    ensures disk_same { result ≡ 0 → (D.faults disk.new ≡ D.faults disk.old) × (D.stops disk.new ≡ D.stops disk.old) }
+    ensures post_same { result ≡ 0 → P.faults post.new ≡ P.faults post.old }
+    ensures write_failed { result ≡ 4 → Rose (K.faults sink.old) (K.faults sink.new) }
+    ensures sink_same { result ≢ 4 → K.faults sink.new ≡ K.faults sink.old }
+    ensures complete { (result ≡ 0) ⊎ (IsCut result ⊎ IsStop result) }
+{
+    // Proof only: the headline of an honest journal.
+    an_honest_journal_meets_the_headline(topo);
+    match serve(alloc, topo, steps, hosted, turns, disk, post, sink) {
+        Ok(()) => 0,
+        Err(RunFault::Write) => 4,
+        Err(RunFault::Disk) => 5,
+        Err(RunFault::Damaged { publisher, at }) => print_damaged(alloc, topo, publisher, at, sink),
+        Err(RunFault::Memory) => 7,
+        Err(RunFault::Post) => 8,
+    }
+}
+
+/// Prints the line of a publisher whose lane holds no log, with the place of its fault. Gives the status 6, or 7 or 4
+/// where that failed.
+fn print_damaged<K: Sink>(
+    alloc: Global,
+    topo: &Topology,
+    publisher: u16,
+    at: u64,
+    sink: &mut K,
+) -> u8
+    requires { publisher < length topo.now.publishers }
+    ensures printed { result ≡ 6 →
+        K.taken sink.new ≡ with_more (K.taken sink.old) (damaged_line topo.now publisher at) }
+    ensures front { IsCut result → TakesFront (K.taken sink.old) (K.taken sink.new)
+        (damaged_line topo.now publisher at) }
+    ensures write_failed { result ≡ 4 → Rose (K.faults sink.old) (K.faults sink.new) }
+    ensures sink_same { result ≢ 4 → K.faults sink.new ≡ K.faults sink.old }
+    ensures complete { (result ≡ 6) ⊎ IsCut result }
+{
+    match put(alloc, &Report::Damaged { publisher, at }, topo, sink) {
+        Ok(()) => 6,
+        Err(PutFault::Write) => 4,
+        Err(PutFault::Memory) => 7,
+    }
+}

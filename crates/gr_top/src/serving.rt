@@ -1,0 +1,192 @@
+//! The command `serve`.
+
+ghost use Rattle.std.specs.Prelude.{◌≡◌, ◌≢◌, ◌⊎◌, Ok, IfOk, IfErr, IfSome};
+ghost use Rattle.gr_out.specs.Faults.{Rose};
+ghost use Rattle.gr_out.specs.Page.{TakesFront};
+ghost use Rattle.gr_publog.specs.Crash.{EitherRose};
+ghost use Rattle.gr_scenario.specs.Scenario.{asked_by, IsTooLarge};
+ghost use Rattle.gr_scenario.specs.Steps.{AreStepsOf};
+ghost use Rattle.gr_top.specs.Words.{texts_of};
+ghost use Rattle.gr_top.specs.Hosting.{hosting_of};
+ghost use Rattle.gr_top.specs.Serving.{serving_over, serving_of, OnRun, CanRun, around, RunsTo, StopsBy, NotBegun};
+ghost use Rattle.gr_top.specs.Serving.{IsDamaged, AllRead};
+ghost use Rattle.gr_top.specs.Answers.{answer_in};
+ghost use Rattle.gr_top.specs.Top.{IsAnswered, IsWhole, IsCut, IsStop};
+
+use crate::hosting::{Hosting, hosted_in};
+use crate::printing::{print, print_line};
+use crate::running::run;
+use gr_event::{Numbers, Text};
+use gr_out::{Disk, Post, Sink};
+use gr_scenario::{Asked, read};
+use gr_sched::Steps;
+use gr_topo::Topology;
+use std::alloc::{AllocError, Global};
+
+/// What the bytes of a source and the words that name brokers ask.
+#[derive(Drop)]
+pub enum Serving {
+    /// The bytes are more than a source may have.
+    TooManyBytes,
+    /// They have more counted lines behind the separator than a schedule may have.
+    TooManySteps,
+    /// They are no scenario, or the brokers cannot serve; with the line that says why.
+    Refused(Text),
+    /// The brokers are to serve.
+    Run {
+        /// The topology.
+        topology: Topology,
+        /// Its steps.
+        steps: Steps,
+        /// The brokers' numbers, in rising order and each once.
+        brokers: Numbers,
+    },
+}
+
+/// Answers the bytes of a scenario: the brokers that words name serve for so many turns. Gives the status.
+pub(crate) fn serve_bytes<D: Disk, P: Post, K: Sink>(
+    alloc: Global,
+    bytes: &[u8],
+    words: &[&str],
+    turns: u64,
+    disk: &mut D,
+    post: &mut P,
+    sink: &mut K,
+) -> u8
+    ensures answered { IsWhole result → IfSome (answer_in (serving_of (texts_of words.now) (asked_by bytes.now)))
+        (IsAnswered result (K.taken sink.old) (K.taken sink.new)) }
+    ensures front { IsCut result → IfSome (answer_in (serving_of (texts_of words.now) (asked_by bytes.now)))
+        (λ answer. TakesFront (K.taken sink.old) (K.taken sink.new) answer.text) }
+    ensures served { result ≡ 0 → OnRun (serving_of (texts_of words.now) (asked_by bytes.now))
+        (λ t lines hosted. RunsTo t lines hosted turns P.tells D.tells
+        (around (K.taken sink.old) (P.journal post.old) (D.lane_of disk.old))
+        (around (K.taken sink.new) (P.journal post.new) (D.lane_of disk.new)) (Ok tt)) }
+    ensures stopped { IsCut result ⊎ IsStop result → OnRun (serving_of (texts_of words.now) (asked_by bytes.now))
+        (λ t lines hosted. NotBegun
+        (around (K.taken sink.old) (P.journal post.old) (D.lane_of disk.old))
+        (around (K.taken sink.new) (P.journal post.new) (D.lane_of disk.new)) result
+        ⊎ StopsBy t lines hosted turns P.tells D.tells
+        (around (K.taken sink.old) (P.journal post.old) (D.lane_of disk.old))
+        (around (K.taken sink.new) (P.journal post.new) (D.lane_of disk.new)) result) }
+    ensures damaged { result ≡ 6 → D.tells → OnRun (serving_of (texts_of words.now) (asked_by bytes.now))
+        (λ t lines hosted. IsDamaged t hosted (D.lane_of disk.old)) }
+    ensures undamaged { result ≡ 0 → D.tells → OnRun (serving_of (texts_of words.now) (asked_by bytes.now))
+        (λ t lines hosted. AllRead t hosted (D.lane_of disk.old)) }
+    ensures runs { IsWhole result → OnRun (serving_of (texts_of words.now) (asked_by bytes.now))
+        (λ t lines hosted. result ≡ 0) }
+    ensures refuses { IsStop result → IfSome (answer_in (serving_of (texts_of words.now) (asked_by bytes.now)))
+        (λ answer. ⊥) }
+    ensures untouched { (result ≡ 2) ⊎ (result ≡ 9) → (disk.new ≡ disk.old) × (post.new ≡ post.old) }
+    ensures known { result ≢ 1 }
+    ensures large_at_once { IsTooLarge (asked_by bytes.now) → result ≢ 7 }
+    ensures disk_failed { result ≡ 5 →
+        EitherRose (D.faults disk.old) (D.faults disk.new) (D.stops disk.old) (D.stops disk.new) }
+    ensures post_failed { result ≡ 8 → Rose (P.faults post.old) (P.faults post.new) }
+    ensures disk_same { result ≡ 0 → (D.faults disk.new ≡ D.faults disk.old) × (D.stops disk.new ≡ D.stops disk.old) }
+    ensures post_same { result ≡ 0 → P.faults post.new ≡ P.faults post.old }
+    ensures write_failed { result ≡ 4 → Rose (K.faults sink.old) (K.faults sink.new) }
+    ensures sink_same { result ≢ 4 → K.faults sink.new ≡ K.faults sink.old }
+    ensures complete { IsWhole result ⊎ (IsCut result ⊎ IsStop result) }
+{
+    match serving_in(alloc, bytes, words) {
+        Ok(serving) => serve_asked(alloc, serving, turns, disk, post, sink),
+        Err(_) => 7,
+    }
+}
+
+/// Answers what is asked: brokers serve for so many turns, or the line that says why not is printed. Gives the status.
+fn serve_asked<D: Disk, P: Post, K: Sink>(
+    alloc: Global,
+    serving: Serving,
+    turns: u64,
+    disk: &mut D,
+    post: &mut P,
+    sink: &mut K,
+) -> u8
+    requires { OnRun serving CanRun }
+    ensures answered { IsWhole result → IfSome (answer_in serving)
+        (IsAnswered result (K.taken sink.old) (K.taken sink.new)) }
+    ensures front { IsCut result → IfSome (answer_in serving)
+        (λ answer. TakesFront (K.taken sink.old) (K.taken sink.new) answer.text) }
+    ensures served { result ≡ 0 → OnRun serving (λ t lines hosted. RunsTo t lines hosted turns P.tells D.tells
+        (around (K.taken sink.old) (P.journal post.old) (D.lane_of disk.old))
+        (around (K.taken sink.new) (P.journal post.new) (D.lane_of disk.new)) (Ok tt)) }
+    ensures stopped { IsCut result ⊎ IsStop result →
+        OnRun serving (λ t lines hosted. StopsBy t lines hosted turns P.tells D.tells
+        (around (K.taken sink.old) (P.journal post.old) (D.lane_of disk.old))
+        (around (K.taken sink.new) (P.journal post.new) (D.lane_of disk.new)) result) }
+    ensures damaged { result ≡ 6 → D.tells →
+        OnRun serving (λ t lines hosted. IsDamaged t hosted (D.lane_of disk.old)) }
+    ensures undamaged { result ≡ 0 → D.tells →
+        OnRun serving (λ t lines hosted. AllRead t hosted (D.lane_of disk.old)) }
+    ensures runs { IsWhole result → OnRun serving (λ t lines hosted. result ≡ 0) }
+    ensures refuses { IsStop result → IfSome (answer_in serving) (λ answer. ⊥) }
+    ensures untouched { (result ≡ 2) ⊎ (result ≡ 9) → (disk.new ≡ disk.old) × (post.new ≡ post.old) }
+    ensures known { result ≢ 1 }
+    ensures large { (serving ≡ Serving.TooManyBytes) ⊎ (serving ≡ Serving.TooManySteps) → result ≢ 7 }
+    ensures disk_failed { result ≡ 5 →
+        EitherRose (D.faults disk.old) (D.faults disk.new) (D.stops disk.old) (D.stops disk.new) }
+    ensures post_failed { result ≡ 8 → Rose (P.faults post.old) (P.faults post.new) }
+    ensures disk_same { result ≡ 0 → (D.faults disk.new ≡ D.faults disk.old) × (D.stops disk.new ≡ D.stops disk.old) }
+    ensures post_same { result ≡ 0 → P.faults post.new ≡ P.faults post.old }
+    ensures write_failed { result ≡ 4 → Rose (K.faults sink.old) (K.faults sink.new) }
+    ensures sink_same { result ≢ 4 → K.faults sink.new ≡ K.faults sink.old }
+    ensures complete { IsWhole result ⊎ (IsCut result ⊎ IsStop result) }
+{
+    match serving {
+        Serving::TooManyBytes => print(sink, b"too-large bytes\n", 9),
+        Serving::TooManySteps => print(sink, b"too-large steps\n", 9),
+        Serving::Refused(line) => print_line(line, sink),
+        Serving::Run {
+            topology,
+            steps,
+            brokers,
+        } => run(
+            alloc,
+            &topology,
+            &steps,
+            brokers.as_slice(),
+            turns,
+            disk,
+            post,
+            sink,
+        ),
+    }
+}
+
+/// Reads what is asked: the scenario first, and then which of its brokers serve.
+pub(crate) fn serving_in(alloc: Global, bytes: &[u8], words: &[&str]) -> Result<Serving, AllocError>
+    ensures serving { IfOk result (λ s. s ≡ serving_of (texts_of words.now) (asked_by bytes.now)) }
+    ensures ready { IfOk result (λ s. OnRun s CanRun) }
+    ensures large_at_once { IfErr result (λ refused. IsTooLarge (asked_by bytes.now) → ⊥) }
+{
+    match read(alloc, bytes) {
+        Ok(Asked::TooManyBytes) => Ok(Serving::TooManyBytes),
+        Ok(Asked::TooManySteps) => Ok(Serving::TooManySteps),
+        Ok(Asked::Refused(line)) => Ok(Serving::Refused(line)),
+        Ok(Asked::Scenario { topology, steps }) => serving_over(alloc, topology, steps, words),
+        Err(_) => Err(AllocError),
+    }
+}
+
+/// What is asked of a topology that was read with its steps.
+fn serving_over(
+    alloc: Global,
+    topology: Topology,
+    steps: Steps,
+    words: &[&str],
+) -> Result<Serving, AllocError>
+    requires { AreStepsOf topology steps }
+    ensures serving { IfOk result (λ s. s ≡ serving_over topology steps (hosting_of topology (texts_of words.now))) }
+    ensures ready { IfOk result (λ s. OnRun s CanRun) }
+{
+    match hosted_in(alloc, &topology, words) {
+        Ok(Hosting::Refused(line)) => Ok(Serving::Refused(line)),
+        Ok(Hosting::Hosted(brokers)) => Ok(Serving::Run {
+            topology,
+            steps,
+            brokers,
+        }),
+        Err(_) => Err(AllocError),
+    }
+}

@@ -1,9 +1,0 @@
-use Rattle.std.proofs.Common.{◌≡◌, drop}
-use Rattle.std.specs.List.{list_any}
-use Rattle.gryphon.specs.Words.{texts_of}
-use Rattle.gryphon.specs.Hosting.{names_broker, is_named}
-use Rattle.gryphon.proofs.hosting.is_named.Given as goal
-
--- what is left decides
-abbrev pub invariant-words : goal.invariant-words
-invariant-words l = list_any (names_broker l.topo l.b) (texts_of (drop l.word-index l.words)) ≡ is_named l.topo (texts_of l.words) l.b
