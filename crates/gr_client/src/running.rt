@@ -1,6 +1,6 @@
 //! A run of a client: what comes is taken, turn by turn.
 
-ghost use Rattle.std.specs.Prelude.{◌≡◌, ◌+◌, ◌<◌, ◌≤◌, ◌^◌, true, false, List, length, IfErr, IsSome};
+ghost use Rattle.std.specs.Prelude.{◌≡◌, ◌+◌, ◌<◌, ◌≤◌, ◌^◌, true, false, List, length, IfErr, IfOk, IsSome, vec_len};
 ghost use Rattle.gr_note.specs.declared.node.TheConstants.{FIRST_CLIENT};
 ghost use Rattle.gr_sched.specs.declared.step.TheConstants.{MAX_STEPS};
 ghost use Rattle.gr_sched.specs.declared.step.Line.{Line};
@@ -25,7 +25,9 @@ use std::alloc::Global;
 const PIECE_BYTES: usize = 65_535;
 
 /// Room for a datagram.
-fn new_piece(alloc: Global) -> Result<Vec<u8>, Memory> {
+fn new_piece(alloc: Global) -> Result<Vec<u8>, Memory>
+    ensures { IfOk result (λ v. vec_len v ≡ 65535) }
+{
     vec![in alloc; 0u8; PIECE_BYTES]
 }
 
@@ -55,6 +57,7 @@ fn go_on<P: Post, K: Sink>(
 ) -> Result<(), RunFault>
     requires publisher { p < length topo.now.publishers }
     requires node { FIRST_CLIENT + client.old.publisher < 2 ^ 16 }
+    requires piece { length piece.old ≡ 65535 }
     ensures went { WentOn topo.now p P.tells turns client.old client.new (K.taken sink.old) (K.taken sink.new)
         (P.journal post.old) (P.journal post.new) result }
     ensures cause { IfErr result IsClientFault }

@@ -86,6 +86,8 @@ pub(crate) fn turn<P: Post, K: Sink>(
 ) -> Result<bool, RunFault>
     requires publisher { p < length topo.now.publishers }
     requires node { FIRST_CLIENT + client.old.publisher < 2 ^ 16 }
+    requires piece { length piece.old ≡ 65535 }
+    ensures piece { length piece.new ≡ 65535 }
     ensures turned { Turned topo.now p P.tells client.old client.new (K.taken sink.old) (K.taken sink.new)
         (P.journal post.old) (P.journal post.new) result }
     ensures cause { IfErr result IsClientFault }

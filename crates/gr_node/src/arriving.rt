@@ -114,7 +114,8 @@ fn quiet_comes<D: Disk, P: Post, K: Sink>(
     }
 }
 
-/// Takes one arrival, with all that it causes; the page is flushed then. False where nothing comes any more.
+/// Takes one arrival, with all that it causes; the page is flushed then. False where nothing comes any more. The piece
+/// has room for every datagram.
 pub(crate) fn turn<D: Disk, P: Post, K: Sink>(
     site: &Site<'_>,
     node: &mut Node,
@@ -132,6 +133,8 @@ pub(crate) fn turn<D: Disk, P: Post, K: Sink>(
     requires steps { AreStepsOf site.now.topo.now steps.now }
     requires within { next.old ≤ length steps.now }
     requires first { IsFirst (net_of site.now.topo.now) site.now.hosted.now (drop next.old steps.now) }
+    requires piece { length piece.old ≡ 65535 }
+    ensures piece { length piece.new ≡ 65535 }
     ensures turned { Turned site.now.topo.now site.now.hosted.now P.tells steps.now next.old next.new
         (seen node.old) (seen node.new) (outside (K.taken sink.old) page.old.held (P.journal post.old))
         (outside (K.taken sink.new) page.new.held (P.journal post.new)) result }

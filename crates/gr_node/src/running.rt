@@ -1,6 +1,6 @@
 //! A run: what comes is taken, turn by turn.
 
-ghost use Rattle.std.specs.Prelude.{◌≡◌, ◌≢◌, ◌⊎◌, ℕ, ◌≤◌, Bool, true, List, [], length, Err, OnOk, IsErrOf};
+ghost use Rattle.std.specs.Prelude.{◌≡◌, ◌≢◌, ◌⊎◌, ℕ, ◌≤◌, Bool, true, List, [], length, Err, OnOk, IfOk, IsErrOf, vec_len};
 ghost use Rattle.std.specs.List.{AllByRecursion};
 ghost use Rattle.gr_scenario.specs.Steps.{AreStepsOf};
 ghost use Rattle.gr_model.specs.NetOf.{net_of};
@@ -23,12 +23,14 @@ use std::alloc::Global;
 const PIECE_BYTES: usize = 65_535;
 
 /// Room for a datagram.
-fn new_piece(alloc: Global) -> Result<Vec<u8>, Memory> {
+fn new_piece(alloc: Global) -> Result<Vec<u8>, Memory>
+    ensures { IfOk result (λ v. vec_len v ≡ 65535) }
+{
     vec![in alloc; 0u8; PIECE_BYTES]
 }
 
 /// Takes at most so many arrivals, each with all that it causes; after each the page is flushed, before the next is
-/// waited for.
+/// waited for. Of a datagram 65,535 bytes are taken.
 ///
 /// `Memory` where memory is refused, and `Disk`, `Write` and `Post` only where the disk, the sink or the post failed.
 pub(crate) fn run<D: Disk, P: Post, K: Sink>(

@@ -3,7 +3,7 @@ use Rattle.gr_client.proofs.SoFar.{none_came, publisher_so_far, more_came, went_
 use Rattle.gr_client.proofs.running.go_on.Goals as goal
 
 pub turns-init : goal.turns-init
-turns-init g c = record { goes = none_came c.args.topo.now c.args.p g.P.Post.tells c.args.client.now _ _; sink = refl; post = refl }
+turns-init g c = record { goes = none_came c.args.topo.now c.args.p g.P.Post.tells c.args.client.now _ _; sink = refl; post = refl; piece = c.requires.piece }
 
 pub turn-requires-clause-node : goal.turn-requires-clause-node
 turn-requires-clause-node g c =
@@ -17,6 +17,7 @@ turns-preserved g c =
       goes = more_came c.args.topo.now c.args.p g.P.Post.tells c.turns.counter c.args.client.now c.turns.client c.turn.new.client _ _ _ _ _ _ c.in-Ok.goes_on c.if-not-goes_on.false (c.is_running.ensures.running c.if-not-is_running.false) i.goes c.in-Ok.ensures.turned;
       sink = c.in-Ok.ensures.sink.same (λ e. cc) ∙ i.sink;
       post = c.in-Ok.ensures.moves.same ∙ i.post;
+      piece = c.turn.ensures.piece;
     }
 
 pub returns-then-not-is_running-clause-went : goal.returns-then-not-is_running-clause-went

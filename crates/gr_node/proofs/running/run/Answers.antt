@@ -26,6 +26,7 @@ turns-init g c = record {
   stops = refl;
   sink = refl;
   post = refl;
+  piece = c.in-Ok.ensures;
 }
 
 pub turns-preserved : goal.turns-preserved
@@ -45,6 +46,7 @@ turns-preserved g c =
       stops = c.in-Ok-turn.ensures.disk.same.1 ∙ i.stops;
       sink = c.in-Ok-turn.ensures.sink.same (λ e. cc) ∙ i.sink;
       post = c.in-Ok-turn.ensures.moves.same ∙ i.post;
+      piece = i.piece;
     }
 
 pub returns-then-not-goes_on-clause-ran : goal.returns-then-not-goes_on-clause-ran

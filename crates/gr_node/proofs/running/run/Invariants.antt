@@ -1,4 +1,4 @@
-use Rattle.std.proofs.Common.{◌≡◌, ◌≤◌, [], length, drop}
+use Rattle.std.proofs.Common.{◌≡◌, ◌≤◌, [], length, drop, vec_len}
 use Rattle.gr_model.specs.NetOf.{net_of}
 use Rattle.gr_node.specs.Seen.{seen}
 use Rattle.gr_node.specs.Of.{IsSet, AllStand, OthersStay}
@@ -25,4 +25,5 @@ invariant-turns g l = record {
   stops : g.D.Disk.stops l.disk ≡ g.D.Disk.stops l.fn.disk;
   sink : g.K.Sink.faults l.sink ≡ g.K.Sink.faults l.fn.sink;
   post : g.P.Post.faults l.post ≡ g.P.Post.faults l.fn.post;
+  piece : vec_len l.piece ≡ 65535;
 }
