@@ -1,14 +1,15 @@
 -- What a post of sockets keeps of the brokers that were bound, and what its calls do with their sockets.
-use Rattle.std.specs.Prelude.{◌≡◌, ℕ, ◌*◌, ◌==◌, ◌⊎◌, min, List, Option, None, Some, is_some, Bool, true, false, length}
-use Rattle.std.specs.Prelude.{take, ⊤}
+use Rattle.std.specs.Prelude.{◌≡◌, ℕ, ◌+◌, ◌-◌, ◌*◌, ◌/◌, ◌==◌, ◌⊎◌, ◌||◌, min, max, nat_lt, nat_le, zero, suc}
+use Rattle.std.specs.Prelude.{if◌then◌else◌, List, Option, None, Some, is_some, Bool, true, false, length, take, ⊤}
 use Rattle.std.specs.List.{find, list_any}
 use Rattle.std.specs.Prelude.{Contains}
+use Rattle.gr_out.specs.Streams.{counted}
 use Rattle.gr_out.specs.declared.post.Arrival.{Arrival}
 use Rattle.gr_out.specs.declared.post.Arrival.TheVariants.{Datagram, Quiet, Closed}
 use Rattle.gr_sock.specs.declared.bound.Bound.{Bound}
 use Rattle.gr_sock.specs.declared.address.Address.{Address}
-use Rattle.gr_sock.specs.Address.{address_of}
 use Rattle.std.specs.Option.{option_map, option_and_then}
+use Rattle.gr_sock.specs.Digest.{nothing}
 use Rattle.gr_sock.specs.Network.{Traffic, with_opened, with_taken, with_sent, with_wait}
 
 -- the broker was bound
@@ -23,10 +24,10 @@ address_in broker bound = option_map (λ b. b.address) (find (λ b. b.broker == 
 abbrev pub socket_in : ℕ → List Bound → Option ℕ
 socket_in broker bound = option_and_then (λ b. b.socket) (find (λ b. b.broker == broker) bound)
 
--- What binding a broker by the text of its address put there.
-pub record IsBinding (broker : ℕ) (text : List ℕ) (here : Bool) (b : Bound) : Type 0 where
+-- What binding a broker at an address put there.
+pub record IsBinding (broker : ℕ) (place : Option Address) (here : Bool) (b : Bound) : Type 0 where
   pub broker_is : b.broker ≡ broker
-  pub address_is : address_of text ≡ Some b.address
+  pub address_is : place ≡ Some b.address
   pub hosted : is_some b.socket ≡ here
 
 -- What binding it did: it opened a socket at its address, where it is hosted, and nothing else.
@@ -46,23 +47,95 @@ abbrev pub Looked : List Bound → Traffic → Traffic → List ℕ → Option (
 Looked bound old new piece None = new ≡ old
 Looked bound old new piece (Some d) = (s : ℕ) × HasSocket bound d.0 s × (new ≡ with_taken s (take d.1 piece) old)
 
--- the longest wait in one call, in milliseconds
+-- the longest wait in one call, and the longest time from one quiet moment to the next, in milliseconds
 abbrev pub longest : ℕ
 longest = 50
 
--- the wait of the next call
-abbrev pub pause_after : ℕ → Arrival → ℕ
-pause_after pause (Datagram at len moment) = 1
-pause_after pause (Quiet moment) = min (pause * 2) longest
-pause_after pause Closed = pause
+-- a quiet moment is due: so much time has passed since the last one, or the clock was set back behind it
+abbrev pub is_due : ℕ → ℕ → Bool
+is_due last moment = nat_lt moment last || nat_le (last + longest) moment
 
--- What a call of `next` did: it looked, and where nothing had come it waited once, at most as long as the pause, and
--- looked again.
-abbrev pub NextDid : List Bound → ℕ → Traffic → Traffic → List ℕ → Arrival → Type 0
-NextDid bound pause old new piece (Datagram at len moment) =
-    Looked bound old new piece (Some (at, len)) ⊎ Looked bound (with_wait pause old) new piece (Some (at, len))
-NextDid bound pause old new piece (Quiet moment) = new ≡ with_wait pause old
-NextDid bound pause old new piece Closed = ⊥
+-- no datagram is taken where a quiet moment is due
+abbrev pub IsInTime : ℕ → Arrival → Type 0
+IsInTime last (Datagram at len moment) = is_due last moment ≡ false
+IsInTime last (Quiet moment) = ⊤
+IsInTime last Closed = ⊤
+
+-- the moment of the last quiet moment, after a call
+abbrev pub quiet_after : ℕ → Arrival → ℕ
+quiet_after last (Datagram at len moment) = last
+quiet_after last (Quiet moment) = moment
+quiet_after last Closed = last
+
+-- what was offered since the last quiet moment, and between that and the one before, after a call
+abbrev pub offered_after : ℕ → Arrival → ℕ
+offered_after offered (Datagram at len moment) = offered
+offered_after offered (Quiet moment) = nothing
+offered_after offered Closed = offered
+
+abbrev pub before_after : ℕ → ℕ → Arrival → ℕ
+before_after offered before (Datagram at len moment) = before
+before_after offered before (Quiet moment) = offered
+before_after offered before Closed = before
+
+-- before how many quiet moments in a row there was news, after one more and after a call
+abbrev pub run_with : ℕ → Bool → ℕ
+run_with run news = if news then counted run else 0
+
+abbrev pub run_after : ℕ → Bool → Arrival → ℕ
+run_after run news (Datagram at len moment) = run
+run_after run news (Quiet moment) = run_with run news
+run_after run news Closed = run
+
+-- so many in a row make the longest wait shorter
+abbrev pub enough : ℕ
+enough = 5
+
+-- the wait after a quiet moment: four times as long where there was no news, and else half as long; but the longest one
+-- stays until there was enough of it
+abbrev pub wait_after : ℕ → ℕ → ℕ
+wait_after pause zero = min (pause * 4) longest
+wait_after pause (suc run) = if nat_lt pause longest || nat_le enough (suc run) then max (pause / 2) 1 else pause
+
+-- the wait of the next call
+abbrev pub pause_after : ℕ → ℕ → Arrival → ℕ
+pause_after pause run (Datagram at len moment) = pause
+pause_after pause run (Quiet moment) = wait_after pause run
+pause_after pause run Closed = pause
+
+-- how long a call waits that began at a moment at which none was due: no longer than until one is
+abbrev pub wait_from : ℕ → ℕ → ℕ → ℕ
+wait_from pause last moment = min pause (last + longest - moment)
+
+-- what may be answered before any wait: a datagram, or a quiet moment that is due
+abbrev pub is_at_once : ℕ → Arrival → Bool
+is_at_once last (Datagram at len moment) = true
+is_at_once last (Quiet moment) = is_due last moment
+is_at_once last Closed = false
+
+-- the datagram of an arrival, as the broker and the length
+abbrev pub datagram_in : Arrival → Option (ℕ × ℕ)
+datagram_in (Datagram at len moment) = Some (at, len)
+datagram_in (Quiet moment) = None
+datagram_in Closed = None
+
+-- A call answered without a wait.
+pub record AtOnce (bound : List Bound) (last : ℕ) (old new : Traffic) (piece : List ℕ) (arrival : Arrival)
+    : Type 0 where
+  pub at_once : is_at_once last arrival ≡ true
+  pub looked : Looked bound old new piece (datagram_in arrival)
+
+-- A call waited once, at most as long as the pause, and then looked.
+pub record AfterWait (bound : List Bound) (pause last : ℕ) (old new : Traffic) (piece : List ℕ) (arrival : Arrival)
+    : Type 0 where
+  pub began : ℕ
+  pub before : is_due last began ≡ false
+  pub looked : Looked bound (with_wait (wait_from pause last began) old) new piece (datagram_in arrival)
+
+-- What a call of `next` did.
+abbrev pub NextDid : List Bound → ℕ → ℕ → Traffic → Traffic → List ℕ → Arrival → Type 0
+NextDid bound pause last old new piece arrival =
+    AtOnce bound last old new piece arrival ⊎ AfterWait bound pause last old new piece arrival
 
 -- it came at a broker that is hosted
 abbrev pub CameHosted : List Bound → Arrival → Type 0
@@ -75,9 +148,3 @@ abbrev pub OfferDid : List Bound → ℕ → ℕ → List ℕ → Traffic → Tr
 OfferDid bound from to bytes old new =
     (s : ℕ) × (a : Address) × (socket_in from bound ≡ Some s) × (address_in to bound ≡ Some a)
     × (new ≡ with_sent s a bytes old)
-
--- the datagram of an arrival, as the broker and the length
-abbrev pub datagram_in : Arrival → Option (ℕ × ℕ)
-datagram_in (Datagram at len moment) = Some (at, len)
-datagram_in (Quiet moment) = None
-datagram_in Closed = None

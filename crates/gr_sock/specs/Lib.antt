@@ -1,9 +1,11 @@
 pub mod Counts
+pub mod Kinds
 pub mod Streams
 pub mod Address
 pub mod Folder
 pub mod FileDisk
 pub mod LogFolder
 pub mod Network
+pub mod Digest
 pub mod Bound
 pub mod UdpPost

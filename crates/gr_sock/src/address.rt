@@ -4,6 +4,9 @@ ghost use Rattle.std.specs.Prelude.{◌≡◌, ◌==◌, ◌<◌, ◌≤◌, ◌
 ghost use Rattle.std.specs.List.{list_all, position};
 ghost use Rattle.std.specs.Option.{option_map};
 
+use std::fmt;
+use std::fmt::{Display, Formatter};
+
 /// An IPv4 address with a port.
 #[derive(Clone, Copy, Debug, PartialEq, Eq)]
 pub struct Address {
@@ -11,6 +14,14 @@ pub struct Address {
     pub host: [u8; 4],
     /// The port, not 0.
     pub port: u16,
+}
+
+/// As it is read, with no zeros before a number.
+impl Display for Address {
+    fn fmt<W: fmt::Write>(&self, f: &mut Formatter<W>) -> fmt::Result {
+        let [a, b, c, d] = self.host;
+        write!(f, "{a}.{b}.{c}.{d}:{}", self.port)
+    }
 }
 
 ghost use Rattle.gr_sock.specs.Address.{is_digit, value_after, has_digits, number_in, octet_before, host_before_port};

@@ -1,14 +1,15 @@
 //! A disk of which each lane is a file.
 
 ghost use Rattle.std.specs.Prelude.{◌≡◌, ℕ, ◌<◌, ◌≤◌, ◌+◌, true, false, get_or, length, take, drop, IfOk, OnOk, OnErr};
-ghost use Rattle.std.specs.Prelude.{IsErr, Ok, vec_len};
+ghost use Rattle.std.specs.Prelude.{IsErr, Ok, None, vec_len};
 ghost use Rattle.gr_out.specs.Lane.{over, blank};
 ghost use Rattle.gr_out.specs.Stops.{StopCounts};
-ghost use Rattle.gr_sock.specs.Counts.{RaisesOnErr};
+ghost use Rattle.gr_sock.specs.Counts.{RaisesOnErr, KeepsSaid};
 ghost use Rattle.gr_sock.specs.Folder.{AllSame, OthersSame, Remains, AllRemain, OthersRemain, AllNamed, HasFront};
 
 use crate::count::raised;
 use crate::folder::Folder;
+use crate::trouble::LaneError;
 use gr_out::{Disk, Failed, Memory};
 use std::alloc::Global;
 use std::io;
@@ -26,37 +27,61 @@ pub struct FileDisk<D: Folder> {
     // Of each lane, whether its file is open, and it and its name have reached the device since.
     ready: Vec<bool>,
     faults: u64,
+    said: Option<LaneError>,
     ghost named: { D.tells → AllNamed (D.file_of folder) ready.items },
 }
 
 impl<D: Folder> FileDisk<D> {
-    ghost use Rattle.gr_sock.specs.FileDisk.{folder_of, is_ready, disk_faults};
+    ghost use Rattle.gr_sock.specs.FileDisk.{folder_of, has_place, is_ready, disk_faults, disk_said};
 
     /// The files of a folder, with no fault so far.
     pub fn new(alloc: Global, folder: D) -> FileDisk<D>
         ensures folder { folder_of result ≡ folder }
         ensures ready { (n : ℕ) → is_ready result n ≡ false }
         ensures faults { disk_faults result ≡ 0 }
+        ensures said { disk_said result ≡ None }
     {
         FileDisk {
             folder,
             ready: Vec::new(alloc),
             faults: 0,
+            said: None,
         }
+    }
+
+    /// The folder, for looking at it.
+    pub fn folder(&self) -> &D
+        ensures { result.now ≡ folder_of self.now }
+    {
+        &self.folder
+    }
+
+    /// What the system said at the last failure, where there was one.
+    pub fn last_error(&self) -> Option<LaneError>
+        ensures { result ≡ disk_said self.now }
+    {
+        self.said
     }
 }
 
-/// The answer for what the system answered. An error is counted.
-fn counted<T: Drop>(faults: &mut u64, outcome: io::Result<T>) -> Result<T, Failed>
+/// The answer for what the system answered at a lane. An error is counted, and kept.
+fn counted<T: Drop>(
+    faults: &mut u64,
+    said: &mut Option<LaneError>,
+    lane: u16,
+    outcome: io::Result<T>,
+) -> Result<T, Failed>
     ensures ok { IfOk outcome (λ x. result ≡ Ok x) }
     ensures err { OnErr outcome (IsErr result) }
     ensures raises { RaisesOnErr faults.old faults.new result }
     ensures cause { StopCounts false faults.old faults.new 0 0 result }
+    ensures said { KeepsSaid lane said.old said.new result }
 {
     match outcome {
         Ok(answer) => Ok(answer),
-        Err(_) => {
+        Err(error) => {
             *faults = raised(*faults);
+            *said = Some(LaneError { lane, error });
             Err(Failed)
         }
     }
@@ -163,7 +188,7 @@ fn cut_to<D: Folder>(folder: &mut D, lane: u16, len: u64) -> io::Result<()>
 }
 
 impl<D: Folder> FileDisk<D> {
-    ghost use Rattle.gr_sock.specs.FileDisk.{folder_of, is_ready, disk_faults};
+    ghost use Rattle.gr_sock.specs.FileDisk.{folder_of, has_place, is_ready, disk_faults, disk_said};
 
     /// Makes the file of a lane ready.
     fn open(&mut self, lane: u16) -> Result<(), Failed>
@@ -173,14 +198,15 @@ impl<D: Folder> FileDisk<D> {
             → OnOk result ((D.file_of (folder_of self.new) lane).is_kept ≡ true) }
         ensures raises { RaisesOnErr (disk_faults self.old) (disk_faults self.new) result }
         ensures cause { StopCounts false (disk_faults self.old) (disk_faults self.new) 0 0 result }
+        ensures said { KeepsSaid lane (disk_said self.old) (disk_said self.new) result }
     {
         let outcome = make_ready(&mut self.folder, &mut self.ready, lane);
-        counted(&mut self.faults, outcome)
+        counted(&mut self.faults, &mut self.said, lane, outcome)
     }
 }
 
 impl<D: Folder> Disk for FileDisk<D> {
-    ghost use Rattle.gr_sock.specs.FileDisk.{folder_of, is_ready, disk_faults};
+    ghost use Rattle.gr_sock.specs.FileDisk.{folder_of, has_place, is_ready, disk_faults, disk_said};
 
     ghost tells = { ⊥ };
 
@@ -194,8 +220,10 @@ impl<D: Folder> Disk for FileDisk<D> {
 
     /// Takes the memory that the later calls on a lane need.
     fn reserve(&mut self, lane: u16, _size: u64) -> Result<(), Memory>
+        ensures room { OnOk result (has_place self.new lane ≡ true) }
         ensures same { D.tells → AllSame (D.file_of (folder_of self.old)) (D.file_of (folder_of self.new)) }
         ensures faults { disk_faults self.new ≡ disk_faults self.old }
+        ensures said { disk_said self.new ≡ disk_said self.old }
     {
         extend(&mut self.ready, lane)?;
         self.folder.reserve(lane)
@@ -208,10 +236,11 @@ impl<D: Folder> Disk for FileDisk<D> {
             → OnOk result ((D.file_of (folder_of self.new) lane).is_kept ≡ true) }
         ensures raises { RaisesOnErr (disk_faults self.old) (disk_faults self.new) result }
         ensures cause { StopCounts false (disk_faults self.old) (disk_faults self.new) 0 0 result }
+        ensures said { KeepsSaid lane (disk_said self.old) (disk_said self.new) result }
     {
         self.open(lane)?;
         let outcome = self.folder.size(lane);
-        counted(&mut self.faults, outcome)
+        counted(&mut self.faults, &mut self.said, lane, outcome)
     }
 
     /// Reads as much at a time as the system gives. Fewer bytes than `into` has are a failure.
@@ -224,10 +253,11 @@ impl<D: Folder> Disk for FileDisk<D> {
             → OnOk result ((D.file_of (folder_of self.new) lane).is_kept ≡ true) }
         ensures raises { RaisesOnErr (disk_faults self.old) (disk_faults self.new) result }
         ensures cause { StopCounts false (disk_faults self.old) (disk_faults self.new) 0 0 result }
+        ensures said { KeepsSaid lane (disk_said self.old) (disk_said self.new) result }
     {
         self.open(lane)?;
         let outcome = read_whole(&mut self.folder, lane, at, into);
-        counted(&mut self.faults, outcome)
+        counted(&mut self.faults, &mut self.said, lane, outcome)
     }
 
     /// Writes as much at a time as the system takes. After `Failed` a front of the bytes stands there.
@@ -241,10 +271,11 @@ impl<D: Folder> Disk for FileDisk<D> {
         ensures others { D.tells → OthersRemain lane (D.file_of (folder_of self.old)) (D.file_of (folder_of self.new)) }
         ensures raises { RaisesOnErr (disk_faults self.old) (disk_faults self.new) result }
         ensures cause { StopCounts false (disk_faults self.old) (disk_faults self.new) 0 0 result }
+        ensures said { KeepsSaid lane (disk_said self.old) (disk_said self.new) result }
     {
         self.open(lane)?;
         let outcome = write_whole(&mut self.folder, lane, at, bytes);
-        counted(&mut self.faults, outcome)
+        counted(&mut self.faults, &mut self.said, lane, outcome)
     }
 
     fn cut(&mut self, lane: u16, len: u64) -> Result<(), Failed>
@@ -255,10 +286,11 @@ impl<D: Folder> Disk for FileDisk<D> {
         ensures others { D.tells → OthersRemain lane (D.file_of (folder_of self.old)) (D.file_of (folder_of self.new)) }
         ensures raises { RaisesOnErr (disk_faults self.old) (disk_faults self.new) result }
         ensures cause { StopCounts false (disk_faults self.old) (disk_faults self.new) 0 0 result }
+        ensures said { KeepsSaid lane (disk_said self.old) (disk_said self.new) result }
     {
         self.open(lane)?;
         let outcome = cut_to(&mut self.folder, lane, len);
-        counted(&mut self.faults, outcome)
+        counted(&mut self.faults, &mut self.said, lane, outcome)
     }
 
     /// After `Ok` all that the file holds, its name and that of the folder have reached the device.
@@ -268,12 +300,10 @@ impl<D: Folder> Disk for FileDisk<D> {
         ensures remains { D.tells → AllRemain (D.file_of (folder_of self.old)) (D.file_of (folder_of self.new)) }
         ensures raises { RaisesOnErr (disk_faults self.old) (disk_faults self.new) result }
         ensures cause { StopCounts false (disk_faults self.old) (disk_faults self.new) 0 0 result }
+        ensures said { KeepsSaid lane (disk_said self.old) (disk_said self.new) result }
     {
         self.open(lane)?;
         let outcome = self.folder.sync(lane);
-        counted(&mut self.faults, outcome)
+        counted(&mut self.faults, &mut self.said, lane, outcome)
     }
 }
-
-#[cfg(test)]
-mod tests;

@@ -6,26 +6,38 @@ ghost use Rattle.gr_sock.specs.LogFolder.{lane_path};
 use crate::folder::Folder;
 use gr_out::Memory;
 use std::alloc::Global;
-use std::fs::{File, OpenOptions};
+use std::fs::{DirBuilder, File, OpenOptions, TryLockError};
 use std::io::ErrorKind;
 use std::os::fd::AsRawFd;
-use std::os::unix::fs::FileExt;
+use std::os::unix::fs::{DirBuilderExt, FileExt, MetadataExt, OpenOptionsExt};
 use std::rt::Files;
 use std::{fs, io};
 
-// The folder of the logs, and the folder that it is in.
-const FOLDER: &str = "gryphon-log";
+/// The folder of the logs.
+pub const FOLDER: &str = "gryphon-log";
+
+// The folder that it is in.
 
 const PARENT: &str = ".";
 
 // No path of a lane is longer.
 const PATH_LEN: usize = 32;
 
+// What the owner of a folder or of a file may do, and nobody else anything.
+const FOLDER_MODE: u32 = 0o700;
+
+const FILE_MODE: u32 = 0o600;
+
 /// The folder `gryphon-log` below the current one, in which the file `lane-n` is that of lane n. It tells nothing of
 /// what its files hold.
+///
+/// The folder is locked before its first file is opened, until the process ends: while it is, an `open` of another
+/// process is an error. What is made is for its owner alone. Neither the folder nor a file may be a link.
 #[derive(Drop)]
 pub struct LogFolder<R: Files<File = File>> {
     system: R,
+    // The folder, once it is locked.
+    folder: Option<File>,
     // The last path that was written, so that its memory is taken once.
     path: String,
     // The files by lane.
@@ -37,6 +49,7 @@ impl<R: Files<File = File>> LogFolder<R> {
     pub fn new(alloc: Global, files: R) -> LogFolder<R> {
         LogFolder {
             system: files,
+            folder: None,
             path: String::new(alloc),
             opened: Vec::new(alloc),
         }
@@ -69,9 +82,54 @@ fn file_of(opened: &[Option<File>], lane: u16) -> io::Result<&File> {
     }
 }
 
-/// Brings what a folder names to the device.
-fn sync_folder<R: Files<File = File>>(files: &R, path: &str) -> io::Result<()> {
-    File::open(files, path)?.sync_all()
+/// Refuses a path that is a link to what was opened by it.
+fn refuse_link<R: Files<File = File>>(files: &R, path: &str, opened: &File) -> io::Result<()> {
+    let named = fs::symlink_metadata(files, path)?;
+    let found = opened.metadata()?;
+    if named.dev() != found.dev() || named.ino() != found.ino() {
+        return Err(ErrorKind::FilesystemLoop.into());
+    }
+    Ok(())
+}
+
+/// Makes the folder, unless it is there.
+fn make_folder<R: Files<File = File>>(files: &R) -> io::Result<()> {
+    let mut how = DirBuilder::new();
+    how.mode(FOLDER_MODE);
+    match how.create(files, FOLDER) {
+        Err(error) if error.kind() == ErrorKind::AlreadyExists => Ok(()),
+        made => made,
+    }
+}
+
+/// Locks the folder, until it is closed.
+fn locked_folder<R: Files<File = File>>(files: &R) -> io::Result<File> {
+    make_folder(files)?;
+    let folder = File::open(files, FOLDER)?;
+    refuse_link(files, FOLDER, &folder)?;
+    match folder.try_lock() {
+        Ok(()) => Ok(folder),
+        Err(TryLockError::WouldBlock) => Err(io::Error::new(
+            ErrorKind::ResourceBusy,
+            "another process keeps its logs in this folder",
+        )),
+        Err(TryLockError::Error(error)) => Err(error),
+    }
+}
+
+/// Opens the file of a lane. Where there is none it is made.
+fn lane_file<R: Files<File = File>>(files: &R, path: &str) -> io::Result<File> {
+    let mut how = OpenOptions::new();
+    how.read(true).write(true).mode(FILE_MODE);
+    let file = match how.open(files, path) {
+        // This follows no link either, where `create` would.
+        Err(error) if error.kind() == ErrorKind::NotFound => how
+            .create_new(true)
+            .open(files, path)?,
+        opened => opened?,
+    };
+    refuse_link(files, path, &file)?;
+    Ok(file)
 }
 
 /// Brings a file that was just opened to the device, and has it read from there from now on. An earlier run may have
@@ -83,16 +141,6 @@ fn sync_opened(file: &File) -> io::Result<()> {
         return Err(io::Error::from_raw_os_error(advised));
     }
     Ok(())
-}
-
-impl<R: Files<File = File>> LogFolder<R> {
-    /// Makes the folder, unless it is there.
-    fn make(&self) -> io::Result<()> {
-        match fs::create_dir(&self.system, FOLDER) {
-            Err(error) if error.kind() == ErrorKind::AlreadyExists => Ok(()),
-            made => made,
-        }
-    }
 }
 
 impl<R: Files<File = File>> Folder for LogFolder<R> {
@@ -110,11 +158,11 @@ impl<R: Files<File = File>> Folder for LogFolder<R> {
             return Ok(());
         }
         extend(&mut self.opened, lane)?;
-        self.make()?;
+        if self.folder.is_none() {
+            self.folder = Some(locked_folder(&self.system)?);
+        }
         write_path(&mut self.path, lane)?;
-        let mut how = OpenOptions::new();
-        how.read(true).write(true).create(true);
-        let file = how.open(&self.system, self.path.as_str())?;
+        let file = lane_file(&self.system, self.path.as_str())?;
         sync_opened(&file)?;
         self.opened[usize::from(lane)] = Some(file);
         Ok(())
@@ -142,7 +190,10 @@ impl<R: Files<File = File>> Folder for LogFolder<R> {
 
     fn sync_name(&mut self, lane: u16) -> io::Result<()> {
         file_of(&self.opened, lane)?;
-        sync_folder(&self.system, FOLDER)?;
-        sync_folder(&self.system, PARENT)
+        match &self.folder {
+            Some(folder) => folder.sync_all()?,
+            None => return Err(ErrorKind::NotFound.into()),
+        }
+        File::open(&self.system, PARENT)?.sync_all()
     }
 }

@@ -1,33 +1,52 @@
 //! A post over sockets.
 
 ghost use Rattle.std.specs.Prelude.{◌≡◌, ◌≢◌, ◌≤◌, ◌<◌, ◌∷◌, ◌++◌, [], ℕ, true, length, take, IfOk, IfSome, OnOk};
-ghost use Rattle.std.specs.Prelude.{OnErr, IsErrOf, Ok, Err, Option, None, Some};
+ghost use Rattle.std.specs.Prelude.{OnErr, IsErrAnd, IsErrOf, IsSome, false, Ok, Err, Option, None, Some, ◌/◌, min};
+ghost use Rattle.std.specs.Duration.{as_nanos};
 ghost use Rattle.gr_out.specs.Journal.{Fits, CountsFailed};
-ghost use Rattle.gr_sock.specs.Counts.{RaisesOnFailed};
+ghost use Rattle.gr_sock.specs.Counts.{RaisesOnFailed, KeepsFailed};
+ghost use Rattle.gr_sock.specs.Kinds.{passes, fault_for};
 ghost use Rattle.gr_sock.specs.Address.{address_of};
 ghost use Rattle.gr_sock.specs.Bound.{is_bound, address_in, socket_in, IsBinding, BindDid, HasSocket, Looked, NextDid};
-ghost use Rattle.gr_sock.specs.Bound.{CameHosted, OfferDid, datagram_in, pause_after, longest};
+ghost use Rattle.gr_sock.specs.Bound.{CameHosted, OfferDid, datagram_in, pause_after, longest, is_due, wait_from};
+ghost use Rattle.gr_sock.specs.Bound.{IsInTime, quiet_after, offered_after, before_after, run_after};
+ghost use Rattle.gr_sock.specs.Digest.{nothing, with_offer};
+ghost use Rattle.gr_sock.specs.Network.{with_sent};
 
 use crate::address::{Address, address_of};
 use crate::bound::Bound;
 use crate::count::raised;
+use crate::digest::{NOTHING, with_offer};
 use crate::network::Network;
+use crate::trouble::PostError;
 use gr_out::{Arrival, Post, PostFault};
 use std::alloc::Global;
 use std::io;
 use std::io::ErrorKind;
 use std::rt::Clock;
+use std::time::Duration;
 
-// The longest wait of one `next`, in milliseconds.
+// The longest wait of one `next`, and the longest time from one quiet moment to the next, in milliseconds.
 const LONGEST: u64 = 50;
+
+// How many quiet moments in a row have to have news before them, so that the longest wait gets shorter.
+const ENOUGH: u64 = 5;
 
 /// A post of which each hosted broker has a socket. To `Post` it tells nothing of what came and went; each call says
 /// what it does with the network, where that tells what passed.
 ///
-/// `next` takes a datagram that is there. Where none is, it waits for one, and where none comes it answers `Quiet`. The
-/// wait is 1 millisecond after a datagram, and twice as long after each quiet moment, up to 50: while brokers answer
-/// one another, quiet moments come fast, and an idle broker is woken 20 times a second. All sockets are looked at in
-/// turn, each first once the one before it gave something. A broker can be bound once.
+/// `next` takes a datagram that is there. Where none is, it waits for one, and where none comes it answers `Quiet`.
+///
+/// The wait is 1 to 50 milliseconds. At each quiet moment the offers since the last one are compared with those between
+/// that and the one before, by a digest of 64 bits. Where they are the same it is four times as long from then on, and
+/// where there is news half as long; but the longest wait stays until there was news five times in a row. So while
+/// brokers go on telling one another what is new quiet moments come fast, and brokers that only repeat themselves, or
+/// have news now and then, are woken 20 times a second, however many of them send to one another.
+///
+/// Whatever comes, the next quiet moment comes no later than 50 milliseconds after the last one: once they have passed,
+/// by the clock, `next` answers `Quiet` and leaves a datagram that is there to the next call.
+///
+/// All sockets are looked at in turn, each first once the one before it gave something. A broker can be bound once.
 #[derive(Drop)]
 pub struct UdpPost<N: Network, C: Clock> {
     network: N,
@@ -37,13 +56,23 @@ pub struct UdpPost<N: Network, C: Clock> {
     turn: usize,
     // How long the next wait is, in milliseconds.
     pause: u64,
+    // The moment of the last quiet moment, 0 before the first.
+    quiet: u64,
+    // The digests of the offers since the last quiet moment, and of those between that and the one before.
+    offered: u64,
+    before: u64,
+    // Before how many quiet moments in a row these were not the same.
+    run: u64,
     faults: u64,
     lost: u64,
+    said: Option<PostError>,
+    loss: Option<PostError>,
     ghost brief: { pause ≤ longest },
 }
 
 impl<N: Network, C: Clock> UdpPost<N, C> {
-    ghost use Rattle.gr_sock.specs.UdpPost.{network_of, bound_of, pause_of, post_faults, post_lost};
+    ghost use Rattle.gr_sock.specs.UdpPost.{network_of, bound_of, pause_of, quiet_of, post_faults, post_lost};
+    ghost use Rattle.gr_sock.specs.UdpPost.{offered_of, before_of, has_news, run_of, post_said, loss_said};
 
     /// A post over a network, with no broker bound and no fault so far. The clock gives the moments.
     pub fn new(alloc: Global, network: N, clock: C) -> UdpPost<N, C>
@@ -52,6 +81,11 @@ impl<N: Network, C: Clock> UdpPost<N, C> {
         ensures pause { pause_of result ≡ 1 }
         ensures faults { post_faults result ≡ 0 }
         ensures lost { post_lost result ≡ 0 }
+        ensures quiet { quiet_of result ≡ 0 }
+        ensures offered { (offered_of result ≡ nothing) × (before_of result ≡ nothing) }
+        ensures run { run_of result ≡ 0 }
+        ensures said { post_said result ≡ None }
+        ensures loss { loss_said result ≡ None }
     {
         UdpPost {
             network,
@@ -59,14 +93,50 @@ impl<N: Network, C: Clock> UdpPost<N, C> {
             bound: Vec::new(alloc),
             turn: 0,
             pause: 1,
+            quiet: 0,
+            offered: NOTHING,
+            before: NOTHING,
+            run: 0,
             faults: 0,
             lost: 0,
+            said: None,
+            loss: None,
         }
+    }
+
+    /// The network, for looking at it.
+    pub fn network(&self) -> &N
+        ensures { result.now ≡ network_of self.now }
+    {
+        &self.network
+    }
+
+    /// How many offers were lost.
+    pub fn lost(&self) -> u64
+        ensures { result ≡ post_lost self.now }
+    {
+        self.lost
+    }
+
+    /// What the system said at the last binding or arrival that failed, where one did.
+    pub fn last_error(&self) -> Option<PostError>
+        ensures { result ≡ post_said self.now }
+    {
+        self.said
+    }
+
+    /// What the system said at the last offer that was lost, where one was.
+    pub fn last_loss(&self) -> Option<PostError>
+        ensures { result ≡ loss_said self.now }
+    {
+        self.loss
     }
 }
 
 /// Whether an error of a socket says nothing of it: none is there, or an earlier datagram did not arrive.
-fn passes(kind: ErrorKind) -> bool {
+fn passes(kind: ErrorKind) -> bool
+    ensures { result ≡ passes kind }
+{
     matches!(
         kind,
         ErrorKind::WouldBlock
@@ -99,7 +169,7 @@ fn look<N: Network>(
     bound: &[Bound],
     turn: &mut usize,
     into: &mut [u8],
-) -> io::Result<Option<(u16, usize)>>
+) -> Result<Option<(u16, usize)>, PostError>
     ensures fits { IfOk result (λ r. IfSome r (λ d. d.1 ≤ length into.new)) }
     ensures len { length into.new ≡ length into.old }
     ensures looked { N.tells → IfOk result (λ r.
@@ -110,8 +180,12 @@ fn look<N: Network>(
     let count = bound.len();
     'sockets: for step in 0..count {
         let place = place_after(*turn, step, count);
-        let broker = bound[place].broker;
-        let Some(socket) = bound[place].socket else {
+        let Bound {
+            broker,
+            address,
+            socket,
+        } = bound[place];
+        let Some(socket) = socket else {
             continue;
         };
         match network.take(socket, into) {
@@ -121,7 +195,10 @@ fn look<N: Network>(
             }
             Err(error) => {
                 if !passes(error.kind()) {
-                    return Err(error);
+                    return Err(PostError {
+                        address: Some(address),
+                        error,
+                    });
                 }
             }
         }
@@ -129,70 +206,101 @@ fn look<N: Network>(
     Ok(None)
 }
 
-/// How long the next wait is, after this one and what it brought.
-fn pause_after(pause: u64, arrival: Arrival) -> u64
+/// How long the next wait is, after this one and what it brought, where there was news before so many quiet moments in
+/// a row.
+fn pause_after(pause: u64, run: u64, arrival: Arrival) -> u64
     requires { pause ≤ longest }
-    ensures after { result ≡ pause_after pause arrival }
+    ensures after { result ≡ pause_after pause run arrival }
     ensures brief { result ≤ longest }
 {
     match arrival {
-        Arrival::Datagram { .. } => 1,
-        Arrival::Quiet { .. } => (pause * 2).min(LONGEST),
-        Arrival::Closed => pause,
+        Arrival::Quiet { .. } if run == 0 => (pause * 4).min(LONGEST),
+        Arrival::Quiet { .. } if pause < LONGEST || run >= ENOUGH => (pause / 2).max(1),
+        Arrival::Datagram { .. } | Arrival::Quiet { .. } | Arrival::Closed => pause,
     }
+}
+
+/// Whether a quiet moment is due at this moment, where that was the last one.
+fn is_due(last: u64, moment: u64) -> bool
+    ensures { result ≡ is_due last moment }
+{
+    moment < last || moment - last >= LONGEST
+}
+
+/// How long to wait, where none is due.
+fn wait_from(pause: u64, last: u64, moment: u64) -> u64
+    requires { is_due last moment ≡ false }
+    ensures { result ≡ wait_from pause last moment }
+{
+    pause.min(LONGEST - (moment - last))
+}
+
+/// A time since 1970 in milliseconds.
+fn milliseconds(time: Duration) -> u64
+    ensures { result ≡ min (as_nanos time / 1_000_000) 18_446_744_073_709_551_615 }
+{
+    u64::try_from(time.as_millis()).unwrap_or(u64::MAX)
 }
 
 /// The moment, in milliseconds since 1970.
 fn moment<C: Clock>(clock: &C) -> io::Result<u64> {
-    let time = clock.since_1970()?;
-    Ok(u64::try_from(time.as_millis()).unwrap_or(u64::MAX))
+    Ok(milliseconds(clock.since_1970()?))
 }
 
-/// A datagram that is there, if there is one at a socket, with its moment; else the moment alone.
+/// A datagram that is there, if there is one at a socket, with its moment; else the moment alone, and so where a quiet
+/// moment is due.
 fn look_now<N: Network, C: Clock>(
     network: &mut N,
     clock: &C,
     bound: &[Bound],
     turn: &mut usize,
+    quiet: u64,
     into: &mut [u8],
-) -> io::Result<Arrival>
+) -> Result<Arrival, PostError>
     ensures fits { IfOk result (λ a. Fits (length into.new) a) }
     ensures len { length into.new ≡ length into.old }
     ensures looked { N.tells → IfOk result (λ a.
         Looked bound.now (N.traffic network.old) (N.traffic network.new) into.new (datagram_in a)) }
     ensures hosted { IfOk result (λ a. CameHosted bound.now a) }
+    ensures in_time { IfOk result (λ a. IsInTime quiet a) }
     ensures err { N.tells → OnErr result (N.traffic network.new ≡ N.traffic network.old) }
 {
     let moment = moment(clock)?;
+    if is_due(quiet, moment) {
+        return Ok(Arrival::Quiet { moment });
+    }
     match look(network, bound, turn, into)? {
         Some((at, len)) => Ok(Arrival::Datagram { at, len, moment }),
         None => Ok(Arrival::Quiet { moment }),
     }
 }
 
-/// What comes next: what is there, or what comes within the pause.
+/// What comes next: what is there, or what comes within the pause, or a quiet moment that is due.
 fn await_next<N: Network, C: Clock>(
     network: &mut N,
     clock: &C,
     bound: &[Bound],
     turn: &mut usize,
     pause: u64,
+    quiet: u64,
     into: &mut [u8],
-) -> io::Result<Arrival>
+) -> Result<Arrival, PostError>
     ensures fits { IfOk result (λ a. Fits (length into.new) a) }
     ensures len { length into.new ≡ length into.old }
     ensures did { N.tells → IfOk result (λ a.
-        NextDid bound.now pause (N.traffic network.old) (N.traffic network.new) into.new a) }
+        NextDid bound.now pause quiet (N.traffic network.old) (N.traffic network.new) into.new a) }
     ensures hosted { IfOk result (λ a. CameHosted bound.now a) }
+    ensures in_time { IfOk result (λ a. IsInTime quiet a) }
     ensures taken { N.tells → OnErr result ((N.traffic network.new).taken ≡ (N.traffic network.old).taken) }
     ensures sent { N.tells → OnErr result ((N.traffic network.new).sent ≡ (N.traffic network.old).sent) }
 {
-    let there = look_now(network, clock, bound, turn, into)?;
-    if matches!(there, Arrival::Datagram { .. }) {
-        return Ok(there);
-    }
-    network.wait(pause)?;
-    look_now(network, clock, bound, turn, into)
+    let there = look_now(network, clock, bound, turn, quiet, into)?;
+    let began = match there {
+        Arrival::Quiet { moment } if !is_due(quiet, moment) => moment,
+        _ => return Ok(there),
+    };
+    network.wait(wait_from(pause, quiet, began))?;
+    look_now(network, clock, bound, turn, quiet, into)
 }
 
 /// Whether a broker was bound.
@@ -222,59 +330,43 @@ fn socket_in(broker: u16, bound: &[Bound]) -> Option<usize>
 }
 
 /// The fault for an error of the system.
-fn fault_of(error: io::Error) -> PostFault {
-    if error.kind() == ErrorKind::OutOfMemory {
-        PostFault::Memory
-    } else {
-        PostFault::Failed
-    }
-}
-
-/// The answer of a post for an outcome. A failure is counted.
-fn counted<T: Drop>(count: &mut u64, outcome: Result<T, PostFault>) -> Result<T, PostFault>
-    ensures same { result ≡ outcome }
-    ensures raises { RaisesOnFailed count.old count.new result }
-    ensures cause { CountsFailed count.old count.new result }
+fn fault_of(error: &io::Error) -> PostFault
+    ensures { result ≡ fault_for error.now }
 {
-    match outcome {
-        Err(PostFault::Failed) => {
-            *count = raised(*count);
-            Err(PostFault::Failed)
-        }
-        answer => answer,
+    match error.kind() {
+        ErrorKind::OutOfMemory => PostFault::Memory,
+        _ => PostFault::Failed,
     }
 }
 
-/// Binds a broker: reads its address, and opens its socket where it is hosted here.
+/// Binds a broker at an address: opens its socket where it is hosted here. No address is an error.
 fn binding<N: Network>(
     network: &mut N,
     bound: &mut Vec<Bound>,
     broker: u16,
-    text: &[u8],
+    place: Option<Address>,
     here: bool,
-) -> Result<(), PostFault>
-    ensures ok { OnOk result ((b : Bound) × IsBinding broker text.now here b
+) -> io::Result<()>
+    ensures ok { OnOk result ((b : Bound) × IsBinding broker place here b
         × (bound.new.items ≡ bound.old.items ++ b ∷ [])
         × (N.tells → BindDid here b (N.traffic network.old) (N.traffic network.new))) }
     ensures err { OnErr result (bound.new.items ≡ bound.old.items) }
-    ensures twice { is_bound broker bound.old.items ≡ true → IsErrOf result PostFault.Failed }
-    ensures unread { address_of text.now ≡ None → IsErrOf result PostFault.Failed }
+    ensures twice { is_bound broker bound.old.items ≡ true → IsErrAnd result (λ e. fault_for e ≡ PostFault.Failed) }
+    ensures unread { place ≡ None → IsErrAnd result (λ e. fault_for e ≡ PostFault.Failed) }
     ensures opened { N.tells → OnErr result (N.traffic network.new ≡ N.traffic network.old) }
 {
     if is_bound(broker, bound) {
-        return Err(PostFault::Failed);
+        return Err(io::Error::new(ErrorKind::AddrInUse, "this broker has an address"));
     }
-    let Some(address) = address_of(text) else {
-        return Err(PostFault::Failed);
+    let Some(address) = place else {
+        return Err(io::Error::new(
+            ErrorKind::InvalidInput,
+            "an address is not one of IPv4 with a port",
+        ));
     };
-    if bound.reserve(1).is_err() {
-        return Err(PostFault::Memory);
-    }
+    bound.reserve(1)?;
     let socket = if here {
-        match network.open(address) {
-            Ok(number) => Some(number),
-            Err(error) => return Err(fault_of(error)),
-        }
+        Some(network.open(address)?)
     } else {
         None
     };
@@ -293,28 +385,25 @@ fn carried<N: Network>(
     network: &mut N,
     bound: &[Bound],
     from: u16,
-    to: u16,
+    target: Option<Address>,
     bytes: &[u8],
-) -> Result<(), PostFault>
-    ensures ok { N.tells → OnOk result
-        (OfferDid bound.now from to bytes.now (N.traffic network.old) (N.traffic network.new)) }
+) -> io::Result<()>
+    ensures ok { N.tells → OnOk result ((s : ℕ) × (a : Address) × (socket_in from bound.now ≡ Some s)
+        × (target ≡ Some a) × (N.traffic network.new ≡ with_sent s a bytes.now (N.traffic network.old))) }
     ensures err { N.tells → OnErr result (N.traffic network.new ≡ N.traffic network.old) }
-    ensures memory { result ≢ Err PostFault.Memory }
 {
-    let Some(target) = address_in(to, bound) else {
-        return Err(PostFault::Failed);
+    let Some(target) = target else {
+        return Err(io::Error::new(ErrorKind::NotFound, "the receiver has no address"));
     };
     let Some(socket) = socket_in(from, bound) else {
-        return Err(PostFault::Failed);
+        return Err(io::Error::new(ErrorKind::NotFound, "the sender has no socket"));
     };
-    match network.send(socket, target, bytes) {
-        Ok(()) => Ok(()),
-        Err(_) => Err(PostFault::Failed),
-    }
+    network.send(socket, target, bytes)
 }
 
 impl<N: Network, C: Clock> Post for UdpPost<N, C> {
-    ghost use Rattle.gr_sock.specs.UdpPost.{network_of, bound_of, pause_of, post_faults, post_lost};
+    ghost use Rattle.gr_sock.specs.UdpPost.{network_of, bound_of, pause_of, quiet_of, post_faults, post_lost};
+    ghost use Rattle.gr_sock.specs.UdpPost.{offered_of, before_of, has_news, run_of, post_said, loss_said};
 
     ghost tells = { ⊥ };
 
@@ -327,7 +416,7 @@ impl<N: Network, C: Clock> Post for UdpPost<N, C> {
     /// Opens a socket at the address where the broker is hosted; else keeps the address. An address whose text is none
     /// is a failure, and so is a broker that was bound.
     fn bind(&mut self, broker: u16, address: &[u8], here: bool) -> Result<(), PostFault>
-        ensures ok { OnOk result ((b : Bound) × IsBinding broker address.now here b
+        ensures ok { OnOk result ((b : Bound) × IsBinding broker (address_of address.now) here b
             × (bound_of self.new ≡ bound_of self.old ++ b ∷ [])
             × (N.tells → BindDid here b (N.traffic (network_of self.old)) (N.traffic (network_of self.new)))) }
         ensures err { OnErr result (bound_of self.new ≡ bound_of self.old) }
@@ -339,17 +428,35 @@ impl<N: Network, C: Clock> Post for UdpPost<N, C> {
         ensures raises { RaisesOnFailed (post_faults self.old) (post_faults self.new) result }
         ensures cause { CountsFailed (post_faults self.old) (post_faults self.new) result }
         ensures lost { post_lost self.new ≡ post_lost self.old }
+        ensures quiet { quiet_of self.new ≡ quiet_of self.old }
+        ensures offered { offered_of self.new ≡ offered_of self.old }
+        ensures before { before_of self.new ≡ before_of self.old }
+        ensures run { run_of self.new ≡ run_of self.old }
+        ensures said { KeepsFailed (address_of address.now) (post_said self.old) (post_said self.new) result }
+        ensures loss { loss_said self.new ≡ loss_said self.old }
     {
-        let outcome = binding(&mut self.network, &mut self.bound, broker, address, here);
-        counted(&mut self.faults, outcome)
+        let place = address_of(address);
+        let Err(error) = binding(&mut self.network, &mut self.bound, broker, place, here) else {
+            return Ok(());
+        };
+        let fault = fault_of(&error);
+        if fault == PostFault::Failed {
+            self.faults = raised(self.faults);
+            self.said = Some(PostError {
+                address: place,
+                error,
+            });
+        }
+        Err(fault)
     }
 
     /// Never answers that nothing comes any more, and never want of memory.
     fn next(&mut self, into: &mut [u8]) -> Result<Arrival, PostFault>
         ensures fits { IfOk result (λ a. Fits (length into.old) a) }
         ensures len { length into.new ≡ length into.old }
-        ensures did { N.tells → IfOk result (λ a. NextDid (bound_of self.old) (pause_of self.old)
+        ensures did { N.tells → IfOk result (λ a. NextDid (bound_of self.old) (pause_of self.old) (quiet_of self.old)
             (N.traffic (network_of self.old)) (N.traffic (network_of self.new)) into.new a) }
+        ensures in_time { IfOk result (λ a. IsInTime (quiet_of self.old) a) }
         ensures hosted { IfOk result (λ a. CameHosted (bound_of self.old) a) }
         ensures taken { N.tells → OnErr result
             ((N.traffic (network_of self.new)).taken ≡ (N.traffic (network_of self.old)).taken) }
@@ -357,8 +464,19 @@ impl<N: Network, C: Clock> Post for UdpPost<N, C> {
             ((N.traffic (network_of self.new)).sent ≡ (N.traffic (network_of self.old)).sent) }
         ensures memory { result ≢ Err PostFault.Memory }
         ensures bound { bound_of self.new ≡ bound_of self.old }
-        ensures pause { IfOk result (λ a. pause_of self.new ≡ pause_after (pause_of self.old) a) }
+        ensures pause { IfOk result (λ a. pause_of self.new ≡ pause_after (pause_of self.old) (run_of self.new) a) }
+        ensures run { IfOk result (λ a. run_of self.new ≡ run_after (run_of self.old) (has_news self.old) a) }
+        ensures offered { IfOk result (λ a. offered_of self.new ≡ offered_after (offered_of self.old) a) }
+        ensures before { IfOk result (λ a.
+            before_of self.new ≡ before_after (offered_of self.old) (before_of self.old) a) }
+        ensures kept { OnErr result ((offered_of self.new ≡ offered_of self.old)
+            × (before_of self.new ≡ before_of self.old) × (run_of self.new ≡ run_of self.old)) }
+        ensures quiet { IfOk result (λ a. quiet_of self.new ≡ quiet_after (quiet_of self.old) a) }
         ensures err { OnErr result (pause_of self.new ≡ pause_of self.old) }
+        ensures still { OnErr result (quiet_of self.new ≡ quiet_of self.old) }
+        ensures said { OnErr result (IsSome (post_said self.new)) }
+        ensures unsaid { OnOk result (post_said self.new ≡ post_said self.old) }
+        ensures loss { loss_said self.new ≡ loss_said self.old }
         ensures brief { pause_of self.old ≤ longest }
         ensures raises { RaisesOnFailed (post_faults self.old) (post_faults self.new) result }
         ensures cause { CountsFailed (post_faults self.old) (post_faults self.new) result }
@@ -370,15 +488,27 @@ impl<N: Network, C: Clock> Post for UdpPost<N, C> {
             &self.bound,
             &mut self.turn,
             self.pause,
+            self.quiet,
             into,
         );
         match outcome {
             Ok(arrival) => {
-                self.pause = pause_after(self.pause, arrival);
+                if let Arrival::Quiet { moment } = arrival {
+                    self.quiet = moment;
+                    self.run = if self.offered == self.before {
+                        0
+                    } else {
+                        raised(self.run)
+                    };
+                    self.before = self.offered;
+                    self.offered = NOTHING;
+                }
+                self.pause = pause_after(self.pause, self.run, arrival);
                 Ok(arrival)
             }
-            Err(_) => {
+            Err(said) => {
                 self.faults = raised(self.faults);
+                self.said = Some(said);
                 Err(PostFault::Failed)
             }
         }
@@ -396,11 +526,26 @@ impl<N: Network, C: Clock> Post for UdpPost<N, C> {
         ensures faults { post_faults self.new ≡ post_faults self.old }
         ensures raises { RaisesOnFailed (post_lost self.old) (post_lost self.new) result }
         ensures cause { CountsFailed (post_lost self.old) (post_lost self.new) result }
+        ensures quiet { quiet_of self.new ≡ quiet_of self.old }
+        ensures offered { offered_of self.new ≡ with_offer (offered_of self.old) from to bytes.now }
+        ensures before { before_of self.new ≡ before_of self.old }
+        ensures run { run_of self.new ≡ run_of self.old }
+        ensures said { post_said self.new ≡ post_said self.old }
+        ensures loss { let to_whom = address_in to (bound_of self.old) in
+            KeepsFailed to_whom (loss_said self.old) (loss_said self.new) result }
     {
-        let outcome = carried(&mut self.network, &self.bound, from, to, bytes);
-        counted(&mut self.lost, outcome)
+        self.offered = with_offer(self.offered, from, to, bytes);
+        let target = address_in(to, &self.bound);
+        match carried(&mut self.network, &self.bound, from, target, bytes) {
+            Ok(()) => Ok(()),
+            Err(error) => {
+                self.lost = raised(self.lost);
+                self.loss = Some(PostError {
+                    address: target,
+                    error,
+                });
+                Err(PostFault::Failed)
+            }
+        }
     }
 }
-
-#[cfg(test)]
-mod tests;
