@@ -7,9 +7,8 @@
 mod draws;
 mod running;
 mod summary;
-#[cfg(test)]
-mod tests;
 mod text;
 
-pub use running::soak;
+pub use running::{soak, summary_of};
+pub use summary::Summary;
 pub use text::{MAX_TURNS, soak_text};

@@ -1,28 +1,10 @@
-//! Tests of brokers and worlds by their public calls alone, over disks in memory. Nothing but tests stands here, since
-//! a crate with tests is proved twice.
+//! Tests of what no row of a table can show: values that count their drops, adapters, real files and sockets. Nothing
+//! but tests stands here, since a crate with tests is proved twice.
 #![tactic(auto)]
 
 #[cfg(test)]
-mod acknowledging;
+mod adapters;
 #[cfg(test)]
-mod asking;
+mod gap;
 #[cfg(test)]
-mod datagrams;
-#[cfg(test)]
-mod forwarding;
-#[cfg(test)]
-mod lines;
-#[cfg(test)]
-mod run;
-#[cfg(test)]
-mod shown;
-#[cfg(test)]
-mod stage;
-#[cfg(test)]
-mod starting;
-#[cfg(test)]
-mod station;
-#[cfg(test)]
-mod trees;
-#[cfg(test)]
-mod worlds;
+mod sock;
