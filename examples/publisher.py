@@ -1,20 +1,28 @@
 #!/usr/bin/env python3
 """A publisher in a process of its own: submits events to the broker that keeps its log, by the notes of docs/client.md.
 
-    examples/publisher.py HOST:PORT OWN:PORT PUBLISHER < EVENTS
+    examples/publisher.py [--from N] HOST:PORT OWN:PORT PUBLISHER < EVENTS
     examples/publisher.py --selftest
+    examples/publisher.py --help
 
 HOST:PORT is the broker's address, OWN:PORT the one that the scenario has for the publisher under clients, PUBLISHER its
-number, from 0 in the order of the scenario. EVENTS has a JSON object a line. Ends with 0 once all are logged. Where the
-words or a line are wrong, the host has no tick left or waits for more than there is, it says so and ends with 1.
+number, from 0 in the order of the scenario. EVENTS has a JSON object a line, and each line is submitted as it comes, so
+EVENTS may be a stream, as `tail -f` gives it. Its first line is event number N, 1 where N is not given; what is logged
+already is passed over. Begin again with the same events under the same numbers, or with a number up to which all is
+logged.
+
+Ends with 0 once all are logged. Where the words or a line are wrong, the host has no tick left, or waits for more or
+for less than there is, it says so and ends with 1. Where nobody answers for five seconds it says so, and goes on.
 """
 import json
+import signal
 import socket
 import struct
 import sys
 import time
 
 SUBMIT, NEXT, SPENT = 1, 2, 3
+PATIENCE = 5  # seconds
 HEAD, NUMBER, LENGTH = ">2sBBH", "Q", "H"  # the head is letters, version, kind and publisher
 
 
@@ -43,12 +51,13 @@ def event_bytes(line):
     return bytes([len(pairs)]) + spelled
 
 
-def events_in(lines):
-    for number, line in enumerate(lines, 1):
+def events_in(lines, first):
+    """Each event with its number, as its line comes."""
+    for number, line in enumerate(lines, first):
         try:
-            yield event_bytes(line)
+            yield number, event_bytes(line)
         except (ValueError, RecursionError) as fault:
-            sys.exit(f"publisher.py: line {number} is no event: {getattr(fault, 'msg', fault)}")
+            sys.exit(f"publisher.py: line {number - first + 1} is no event: {getattr(fault, 'msg', fault)}")
 
 
 def submit_bytes(publisher, number, event):
@@ -64,34 +73,65 @@ def answer_in(note, publisher):
     return number if is_next else 0
 
 
-def hear(post, publisher, number, milliseconds):
-    """What the host waits for, by the first answer within a time that says more than this number; else the number."""
-    end = time.monotonic() + milliseconds / 1000
-    while (left := end - time.monotonic()) > 0:
-        post.settimeout(left)
-        try:
-            answer = answer_in(post.recv(65535), publisher)
-        except OSError:
-            continue  # nothing came
-        if answer is None or answer > number:
-            return answer
-    return number
+class Client:
+    """A client of a publisher: submits an event until a later one is waited for."""
+
+    def __init__(self, post, host, publisher, first):
+        self.post, self.host, self.publisher = post, host, publisher
+        self.next = first  # the event that the host waits for, as far as this client knows
+        self.least = None  # the greatest number at or before an event that is submitted, of what was answered
+        self.heard = time.monotonic()
+        self.is_silent = False
+
+    def submit(self, number, event):
+        """Submits an event until it is logged."""
+        pause, self.heard = 1, time.monotonic()
+        while number >= self.next:
+            try:
+                self.post.sendto(submit_bytes(self.publisher, number, event), self.host)
+            except OSError:
+                pass  # a loss like any other
+            self.hear(number, pause)
+            pause = min(2 * pause, 50)
+            self.look(number)
+
+    def hear(self, number, milliseconds):
+        """Waits for an answer that says more than this number, for so long."""
+        end = time.monotonic() + milliseconds / 1000
+        while (left := end - time.monotonic()) > 0 and self.next <= number:
+            self.post.settimeout(left)
+            try:
+                answer = answer_in(self.post.recv(65535), self.publisher)
+            except OSError:
+                continue  # nothing came
+            if answer is None:
+                sys.exit(f"publisher.py: the host has no tick left for event {number}")
+            if answer > number:
+                self.next, self.heard, self.is_silent, self.least = answer, time.monotonic(), False, None
+            elif answer:
+                # of an earlier event, which came late, or of a host that has not got so far
+                self.least = max(answer, self.least or 0)
+
+    def look(self, number):
+        """Says so where nothing is answered, or nothing but that an earlier event is waited for."""
+        if self.next > number or time.monotonic() - self.heard < PATIENCE:
+            return
+        if self.least is not None and self.least < number:
+            sys.exit(f"publisher.py: the host waits for event {self.least}, and this is event {number}: see --from")
+        if not self.is_silent and self.least is None:
+            where = "%s:%d" % self.host
+            hint = "does its broker serve a scenario that has this client?"
+            print(f"publisher.py: no answer from {where} for {PATIENCE} seconds; {hint}", file=sys.stderr)
+            self.is_silent = True
 
 
-def publish(post, host, publisher, events):
-    """Submits each event until a later one is waited for."""
-    number, pause = 1, 1
-    while number <= len(events):
-        try:
-            post.sendto(submit_bytes(publisher, number, events[number - 1]), host)
-        except OSError:
-            pass  # a loss like any other
-        answer = hear(post, publisher, number, pause)
-        if answer is None:
-            sys.exit(f"publisher.py: the host has no tick left for event {number}")
-        number, pause = answer, 1 if answer > number else min(2 * pause, 50)
-    if number > len(events) + 1:
-        sys.exit(f"publisher.py: the host waits for event {number}, and there are {len(events)}")
+def publish(post, host, publisher, events, first):
+    """Submits each event in turn."""
+    client, number = Client(post, host, publisher, first), first - 1
+    for number, event in events:
+        client.submit(number, event)
+    if client.next > number + 1:
+        sys.exit(f"publisher.py: the host waits for event {client.next}, and the last one here is {number}")
 
 
 def address(text):
@@ -114,20 +154,28 @@ def selftest():
 def main(words):
     if words == ["--selftest"]:
         return selftest()
+    if words in (["-h"], ["--help"]):
+        signal.signal(signal.SIGPIPE, signal.SIG_DFL)
+        return print(__doc__.strip())
     try:
+        first = 1
+        if words[:1] == ["--from"]:
+            first, words = int(words[1]), words[2:]
         host, own, publisher = words
         host, own, publisher = address(host), address(own), int(publisher)
-        if not 0 <= publisher < 64:
+        if not 0 <= publisher < 64 or not 1 <= first <= 2**62:
             raise ValueError
-    except (ValueError, OSError):
-        sys.exit(__doc__.strip())
-    events = list(events_in(sys.stdin.buffer))
+    except (LookupError, ValueError, OSError):
+        sys.exit("usage: examples/publisher.py [--from N] HOST:PORT OWN:PORT PUBLISHER < EVENTS | --help")
     with socket.socket(socket.AF_INET, socket.SOCK_DGRAM) as post:
         try:
             post.bind(own)
         except OSError as fault:
             sys.exit(f"publisher.py: {words[1]}: {fault.strerror}")
-        publish(post, host, publisher, events)
+        try:
+            publish(post, host, publisher, events_in(sys.stdin.buffer, first), first)
+        except KeyboardInterrupt:
+            sys.exit(130)
 
 
 if __name__ == "__main__":

@@ -23,6 +23,7 @@ import time
 
 from relay import Relay
 
+TOP = os.path.dirname(os.path.dirname(os.path.abspath(__file__)))
 TOPOLOGY = """brokers = ["A", "M", "B"]
 links = [["A", "M"], ["M", "B"]]
 
@@ -155,7 +156,10 @@ def check(told_by_a, told_by_b, events):
 
 
 def built(program):
-    """Where the program is, which is built by then: ./gryphon is built on first use, before any clock may run."""
+    """Where the program is: the one given, or else the one that ./gryphon runs, made before any clock may run."""
+    if program is None:
+        made = subprocess.run([os.path.join(TOP, "tools", "program")], stdout=subprocess.PIPE, text=True)
+        return made.stdout.rstrip("\n") if made.returncode == 0 else sys.exit(made.returncode)
     program = os.path.abspath(program)
     ended = subprocess.run([program, "replay"], stdin=subprocess.DEVNULL, stdout=subprocess.DEVNULL)
     if ended.returncode:
@@ -163,14 +167,15 @@ def built(program):
     return program
 
 
-def options():
+def options(events=2000, kills=10, seconds=110):
     """The words of the command, and the relay that they ask for."""
-    parser = argparse.ArgumentParser()
-    parser.add_argument("program", nargs="?", default=os.path.join(os.path.dirname(__file__), "..", "gryphon"))
-    parser.add_argument("--events", type=int, default=2000)
-    parser.add_argument("--kills", type=int, default=10)
+    about = sys.modules["__main__"].__doc__
+    parser = argparse.ArgumentParser(description=about, formatter_class=argparse.RawDescriptionHelpFormatter)
+    parser.add_argument("program", nargs="?")
+    parser.add_argument("--events", type=int, default=events)
+    parser.add_argument("--kills", type=int, default=kills)
     parser.add_argument("--loss", type=float, default=0.2)
-    parser.add_argument("--seconds", type=float, default=110)
+    parser.add_argument("--seconds", type=float, default=seconds)
     parser.add_argument("--seed", type=int, default=1)
     asked = parser.parse_args()
     asked.program = built(asked.program)
