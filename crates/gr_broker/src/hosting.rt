@@ -505,8 +505,8 @@ fn cut_upto<D: Disk>(
     log.append(disk, &Record::Cut { tick })
 }
 
-/// The end of a host's wake, once the silence is marked: the log is cut where more is consolidated than was cut, and
-/// all is told.
+/// The second half of a host's wake, after the mark: cuts the log if more is consolidated than was cut, and reports
+/// both.
 fn cut<D: Disk>(
     site: &Site<'_>,
     disk: &mut D,

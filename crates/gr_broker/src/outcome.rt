@@ -82,7 +82,7 @@ pub enum Dropped {
 /// What becomes of a datagram.
 #[derive(Drop)]
 pub enum Received {
-    /// The broker took it, and this is what it tells and sends.
+    /// The broker accepted it. This is what it reports and sends.
     Taken(Outcome),
     /// It was dropped.
     Dropped(Dropped),

@@ -1,3 +1,5 @@
+//! When each tick was last asked upstream.
+
 ghost use Rattle.std.specs.Prelude.{if◌then◌else◌, ◌≡◌, ◌≢◌, ◌⊎◌, ℕ, ◌+◌, ◌*◌, ◌<◌, ◌≤◌, IfOk, IsOk, OnOk, OnErr, []};
 ghost use Rattle.std.specs.Prelude.{length, slice_get, Some, false};
 ghost use Rattle.gr_tick.specs.declared.TheConstants.{MAX_TICK};

@@ -1,3 +1,5 @@
+//! The curiosity values: not asked, asked, acknowledged.
+
 ghost use Rattle.std.specs.Prelude.{◌≡◌};
 ghost use Rattle.gr_curio.specs.Values.{is_A, is_C};
 ghost use Rattle.gr_curio.specs.Order.{is_at_most, greater_of};

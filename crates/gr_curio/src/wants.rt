@@ -1,3 +1,5 @@
+//! What the children of a broker ask and have acknowledged.
+
 ghost use Rattle.std.specs.Prelude.{if◌then◌else◌, MatchOption, ◌≡◌, ◌≢◌, ◌↔◌, IsTrue, ℕ, ◌+◌, ◌^◌, ◌<◌, ◌≤◌, ◌&&◌};
 ghost use Rattle.std.specs.Prelude.{nat_le, IfOk, OnOk, OnErr, List, [], length, set, replicate, slice_get, Some};
 ghost use Rattle.std.specs.Prelude.{true, false};

@@ -1,4 +1,7 @@
 //! Events: what publishers publish, as a list of names and values, rising by name.
+//!
+//! `specs/Event.antt` defines the bytes of an event, `specs/Json.antt` its text, `specs/Decode.antt` how bytes are
+//! read, with the first fault and its place, and `specs/Limits.antt` what holds of every event.
 #![tactic(auto)]
 
 mod compact;

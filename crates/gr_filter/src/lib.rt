@@ -1,4 +1,7 @@
 //! Filters: what subscribers ask for, as a small language over the names and values of an event.
+//!
+//! `specs/Productions.antt` has the grammar as one reads it, `specs/Grammar.antt` the tree or the first fault of a
+//! text, and `specs/Truth.antt` the truth of a tree for an event. `specs/Print.antt` defines the printed form.
 #![tactic(auto)]
 
 pub mod evaluate;

@@ -1,4 +1,7 @@
 //! Frames: what brokers send to each other.
+//!
+//! `specs/Bytes.antt` defines the bytes of a frame, `specs/Decode.antt` how bytes are read field by field, with the
+//! first fault and its place, and `specs/Cut.antt` how a long frame is cut into several.
 #![tactic(auto)]
 
 pub mod fault;

@@ -1,5 +1,6 @@
-// Values in order, in blocks of so many places each, which need not be full. An edit moves values within one block, and
-// changes the starts of those behind it.
+//! Values in order, in blocks of so many places each, which need not be full. An edit moves values within one block, and
+//! changes the starts of those behind it.
+
 ghost use Rattle.std.specs.Prelude.{◌≡◌, ◌+◌, ◌*◌, ◌^◌, ◌<◌, ◌≤◌, [], ◌++◌, length, insert, remove, slice_index_or};
 ghost use Rattle.std.specs.Prelude.{slice_set, OnOk, OnErr, min};
 ghost use Rattle.std.specs.List.Sorted.{IsNonDecreasingBy, IsPartitionPoint};

@@ -1,5 +1,8 @@
 //! Memory in the two forms that the crates above need: a list that is edited anywhere, with room kept ready; and a
 //! value with any number of owners. Only this crate has raw pointers.
+//!
+//! `specs/Contents.antt` says what a contract sees of a list, `specs/Ownership.antt` what an owner of a shared value
+//! owns.
 #![tactic(auto)]
 
 mod blocks;

@@ -1,5 +1,6 @@
-// Blocks in a row: a value passed on to a neighbour, and a block put among those in use or taken from them. All values
-// stay as they are, in order.
+//! Blocks in a row: a value passed on to a neighbour, and a block put among those in use or taken from them. All values
+//! stay as they are, in order.
+
 ghost use Rattle.std.specs.Prelude.{◌≡◌, ℕ, [], ◌++◌, ◌+◌, ◌-◌, ◌*◌, ◌^◌, ◌<◌, ◌≤◌, length, insert, remove};
 ghost use Rattle.std.specs.Prelude.{slice_index, vec_capacity};
 ghost use Rattle.std_alloc.specs.VecDeque.{deque_len, deque_capacity};

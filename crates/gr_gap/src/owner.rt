@@ -1,4 +1,5 @@
-// A counted owner, as the pointer to the block of the count and the value. Where the count is full it stands still.
+//! A counted owner, as the pointer to the block of the count and the value. Where the count is full it stands still.
+
 ghost use Rattle.std.specs.Prelude.{◌≡◌, IfSome};
 ghost use Rattle.gr_gap.specs.Ownership.{shared_owns, shared_shares};
 

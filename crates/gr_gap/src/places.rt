@@ -1,6 +1,7 @@
-// Where a value goes: a block that has a place for it. Where the one that it belongs to is full, a free block takes a
-// part of its values. Where none is free, the nearest place is brought there, by a value passed on through each block
-// between.
+//! Where a value goes: a block that has a place for it. Where the one that it belongs to is full, a free block takes a
+//! part of its values. Where none is free, the nearest place is brought there, by a value passed on through each block
+//! between.
+
 ghost use Rattle.std.specs.Prelude.{◌≡◌, ℕ, ◌+◌, ◌-◌, ◌*◌, ◌^◌, ◌<◌, ◌≤◌, length, slice_index, vec_capacity};
 ghost use Rattle.gr_gap.specs.Blocks.{values_of, held, before, IsRow, Rearranged, IsBlockFor, Takes};
 ghost use Rattle.gr_gap.specs.declared.blocks.TheConstants.{BLOCK};

@@ -1,4 +1,5 @@
-// What comes behind the first block: nothing at all where one block holds all values, so that a short list is small.
+//! What comes behind the first block: nothing at all where one block holds all values, so that a short list is small.
+
 ghost use Rattle.std.specs.Prelude.{◌≡◌, ◌+◌, ◌*◌, ◌^◌, ◌<◌, ◌≤◌, [], ◌++◌, length, insert, remove, slice_index_or};
 ghost use Rattle.std.specs.Prelude.{slice_set, OnOk, OnErr, min};
 ghost use Rattle.std.specs.List.Sorted.{IsNonDecreasingBy, IsPartitionPoint};

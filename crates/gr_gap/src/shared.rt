@@ -1,4 +1,5 @@
-// An owner of an immutable value, which can always be shared.
+//! An owner of an immutable value, which can always be shared.
+
 ghost use Rattle.std.specs.Prelude.{◌≡◌, IfOk};
 
 use crate::Memory;

@@ -1,4 +1,5 @@
-// Where each block begins: how many values stand before it.
+//! Where each block begins: how many values stand before it.
+
 ghost use Rattle.std.specs.Prelude.{◌≡◌, ℕ, ◌+◌, ◌-◌, ◌^◌, ◌<◌, ◌≤◌, length, insert, slice_index};
 ghost use Rattle.std.specs.Prelude.{vec_capacity};
 ghost use Rattle.gr_gap.specs.Blocks.{changed_from, IsBlockOf, IsBlockFor};

@@ -1,3 +1,5 @@
+//! The knowledge values: unknown, silence, an event, final.
+
 ghost use Rattle.gr_know.specs.Values.{join_K};
 ghost use Rattle.gr_know.specs.Order.{is_at_most};
 ghost use Rattle.gr_know.specs.OrderLaws.{knowledge_laws};

@@ -1,5 +1,8 @@
 //! Serving: the brokers of a topology that are hosted here, over a post, with their logs on a disk. A run is made of
 //! acts, and each is the machine's.
+//!
+//! `specs/Plan.antt` says what a run is to do, act by act, `specs/Done.antt` what each act leaves, prints and puts into
+//! the journal, and `specs/Served.antt` what a whole run did.
 #![tactic(auto)]
 
 mod arriving;

@@ -16,7 +16,9 @@ use crate::record::LogFault;
 use gr_out::{Disk, Failed};
 use std::alloc::Global;
 
-/// Writes bytes behind a closed gate, and only once they are synced opens the gate.
+/// Writes bytes behind a closed gate, and only once they are synced opens the gate. Two syncs: the first, since a disk
+/// may write the gate before the bytes and a crash between would open it over anything; the second, since what the call
+/// answers for must outlast a crash.
 pub(crate) fn append_behind<D: Disk>(
     disk: &mut D,
     lane: u16,

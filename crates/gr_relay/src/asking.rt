@@ -65,7 +65,7 @@ fn expect_end(site: &Site<'_>, tick: u64) -> u64
     tick
 }
 
-/// Asked for where some child asks, and at each tick above the horizon up to the last one.
+/// C at each tick that some child asks for, and at each from above the horizon up to the last one.
 fn wanted_upto(site: &Site<'_>, held: &Held, last: u64) -> Result<Piece<Q3>, Memory>
     requires { last ≤ MAX_TICK }
     ensures { IfOk result (λ piece. RunsGive N piece

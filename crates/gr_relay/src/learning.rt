@@ -103,7 +103,7 @@ fn horizon_with(site: &Site<'_>, held: &Held, piece: &Piece<K>) -> u64
     held.know.horizon_with(piece, horizon)
 }
 
-/// Tells the subscribers here what they are handed where the horizon moves on.
+/// Reports to each local subscriber the events that the advancing horizon passes.
 fn deliver(
     site: &Site<'_>,
     held: &Held,
@@ -188,8 +188,8 @@ fn passes(filter: Option<&Filter>, event: &Event) -> bool
 }
 
 /// Sends each child what is new of a piece, as far as it passes the edge to it and was not acknowledged, and gives for
-/// each child the ticks that it asked and is sent. Where there is no child, what is new is not looked for; where all of
-/// the piece is, it is not copied.
+/// each child the ticks that it asked and is sent. Without children nothing is searched, and a piece that is new as a
+/// whole is not copied.
 fn forward_news(
     site: &Site<'_>,
     held: &Held,
@@ -458,7 +458,7 @@ fn take_in(know: &mut Know, piece: &Piece<K>, done: &Piece<Q3>)
     finish_each(know, done);
 }
 
-/// Whether all runs of a piece, of which it has some, lie in one run of acknowledged ticks.
+/// Whether a piece is not empty and lies within one run of acknowledged ticks.
 fn is_whole(piece: &Piece<K>, done: &Piece<Q3>) -> bool
     ensures { result ≡ true → (t : ℕ) → is_A (wanted_at done.now t) ≡ false → known_at piece.now t ≡ Q }
 {

@@ -1,3 +1,5 @@
+//! The bytes of frames, one after another in one block.
+
 ghost use Rattle.std.specs.Prelude.{◌≡◌, ◌<◌, ◌++◌, ◌∷◌, [], length};
 ghost use Rattle.std.specs.Prelude.{take, slice_get, slice_index_or, Some, OnOk, OnErr};
 ghost use Rattle.gr_store.specs.Parts.{parts, RiseTo};

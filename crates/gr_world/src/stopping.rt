@@ -193,8 +193,8 @@ impl World {
         }
     }
 
-    /// Publishes an event that would be logged up to the ordered stop. None where the stop broke the append: the log
-    /// is left to be opened again. Otherwise no stop is left.
+    /// Publishes an event that would be logged up to the ordered stop. `None` if the append was stopped: the log must
+    /// then be opened again. Otherwise no stop is left.
     fn publish_to_stop<D: SimDisk>(
         &mut self,
         disk: &mut D,
