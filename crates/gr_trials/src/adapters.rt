@@ -9,8 +9,9 @@ use std::test::Fail;
 fn a_reader_and_a_writer_are_adapted(rt: HostRuntime) -> Result<(), Fail> {
     let mut source = StdSource::new(b"abc".as_slice());
     let mut piece = [0u8; 2];
-    for n in [2, 1, 0] {
-        assert!(rt; source.read(&mut piece).unwrap_or(9) == n);
+    for (answer, bytes) in [(2, *b"ab"), (1, *b"cb"), (0, *b"cb")] {
+        let read = source.read(&mut piece);
+        assert!(rt; read == Ok(answer) && piece == bytes);
     }
     let mut sink = StdSink::new(Vec::new(rt.alloc()));
     assert!(rt; sink.write(b"abc").unwrap_or(9) == 3);

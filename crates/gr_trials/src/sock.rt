@@ -69,10 +69,9 @@ impl Write for Funnel {
     }
 }
 
-/// Each byte comes once, an error is a failure and not the end, and the end comes after the last byte. A short write is
-/// told as short; an error and a write that takes nothing are failures.
+/// Each byte comes once, an error is a failure and not the end, and the end comes after the last byte.
 #[test]
-fn reads_and_writes_what_there_is(rt: HostRuntime) -> Result<(), Fail> {
+fn reads_what_there_is(rt: HostRuntime) -> Result<(), Fail> {
     let mut source = StdSource::new(Stub {
         left: 3,
         calls: 0,
@@ -80,19 +79,20 @@ fn reads_and_writes_what_there_is(rt: HostRuntime) -> Result<(), Fail> {
     });
     let mut piece = [0u8; 2];
     for (answer, byte) in [(1, b'a'), (9, b'a'), (1, b'b'), (1, b'c'), (0, b'c')] {
-        assert_eq!(rt; source.read(&mut piece).unwrap_or(9), answer);
-        assert_eq!(rt; piece[0], byte);
+        let read = source.read(&mut piece).unwrap_or(9);
+        assert!(rt; read == answer && piece[0] == byte);
     }
-    let mut whole = StdSource::new(b"xyz".as_slice());
-    for (answer, bytes) in [(2, *b"xy"), (1, *b"zy"), (0, *b"zy")] {
-        assert_eq!(rt; whole.read(&mut piece), Ok(answer));
-        assert_eq!(rt; piece, bytes);
-    }
+    Ok(())
+}
+
+/// A short write is told as short; an error and a write that takes nothing are failures.
+#[test]
+fn writes_what_is_taken(rt: HostRuntime) -> Result<(), Fail> {
     let mut sink = StdSink::new(Funnel { calls: 0, fails: 2 });
     for answer in [2, 9, 9, 2] {
-        assert_eq!(rt; sink.write(b"abc").unwrap_or(9), answer);
+        assert!(rt; sink.write(b"abc").unwrap_or(9) == answer);
     }
-    assert_eq!(rt; sink.write(b"").unwrap_or(9), 0);
+    assert!(rt; sink.write(b"").unwrap_or(9) == 0);
     Ok(())
 }
 
@@ -217,14 +217,10 @@ fn puts_short_calls_together(rt: HostRuntime) -> Result<(), Fail> {
         let written = disk.write_at(0, 0, b"abcde").is_ok();
         let synced = disk.sync(0).is_ok();
         let read = disk.read(0, 1, &mut piece).is_ok();
-        assert_eq!(rt;
-            (written, synced, read),
-            (fails > 6, fails != 7, fails == 6 || fails == 7 || fails > 9)
-        );
-        assert_eq!(rt; piece == *b"bcd", read);
-        let said = disk.last_error().map(|s| (s.lane, s.error.kind()));
-        assert_eq!(rt; said.is_none(), fails == 10);
-        assert!(rt; said.is_none_or(|s| s.0 == 0));
+        assert!(rt; written == (fails > 6) && synced == (fails != 7));
+        assert!(rt; read == (fails == 6 || fails == 7 || fails > 9));
+        assert!(rt; (piece == *b"bcd") == read);
+        assert!(rt; disk.last_error().is_none() == (fails == 10));
     }
     Ok(())
 }
@@ -234,37 +230,42 @@ fn mode_of(files: &impl Files, path: &str) -> io::Result<u32> {
     Ok(fs::symlink_metadata(files, path)?.mode() & 0o777)
 }
 
+/// Whether a lane is written, cut and synced through a disk.
+fn writes_a_lane<F: Folder>(disk: &mut FileDisk<F>) -> bool {
+    let is_new = disk.size(4) == Ok(0) && disk.reserve(4, 6).is_ok();
+    let is_written = disk.write_at(4, 0, b"abcdef").is_ok() && disk.sync(4).is_ok();
+    let is_as_long = disk.cut(4, 9).is_ok() && disk.size(4) == Ok(6);
+    is_new && is_written && is_as_long && disk.cut(4, 5).is_ok()
+}
+
+/// Whether a lane holds what was written, and no more.
+fn holds_a_lane<F: Folder>(disk: &mut FileDisk<F>) -> bool {
+    let mut room = [0u8; 3];
+    let is_read = disk.read(4, 2, &mut room).is_ok();
+    is_read && room == *b"cde" && disk.read(4, 3, &mut room).is_err()
+}
+
+/// Whether no call of a disk is carried out, since the folder has another owner.
+fn is_kept_out<F: Folder>(disk: &mut FileDisk<F>) -> bool {
+    let is_refused = disk.size(4).is_err() && disk.size(6).is_err();
+    let said = disk.last_error().map(|s| (s.lane, s.error.kind()));
+    is_refused && said == Some((6, ErrorKind::ResourceBusy))
+}
+
 /// A lane in a real file: what is written is read back, also by another disk over the same folder, once no disk has it
 /// any more; while one has it, none of the other's calls is carried out. Nobody but the owner may read it.
 fn keeps_a_lane(rt: &(impl Abort + Alloc + Files<File = File>), alloc: Global) -> Result<(), Fail> {
     let mut disk = FileDisk::new(alloc, LogFolder::new(alloc, rt));
-    assert_eq!(rt; disk.size(4), Ok(0));
-    assert!(rt; disk.reserve(4, 6).is_ok());
-    assert!(rt; disk.write_at(4, 0, b"abcdef").is_ok());
-    assert!(rt; disk.sync(4).is_ok());
-    assert!(rt; disk.cut(4, 9).is_ok());
-    assert_eq!(rt; disk.size(4), Ok(6));
-    assert!(rt; disk.cut(4, 5).is_ok());
+    assert!(rt; writes_a_lane(&mut disk));
     let mut again = FileDisk::new(alloc, LogFolder::new(alloc, rt));
-    assert!(rt; again.size(4).is_err());
-    assert!(rt; again.size(6).is_err());
+    assert!(rt; is_kept_out(&mut again));
     assert!(rt; !fs::exists(rt, "gryphon-log/lane-6")?);
-    let said = again.last_error().map(|s| (s.lane, s.error.kind()));
-    assert_eq!(rt; said, Some((6, ErrorKind::ResourceBusy)));
     drop(disk);
-    let mut room = [0u8; 3];
-    assert!(rt; again.read(4, 2, &mut room).is_ok());
-    assert_eq!(rt; room, *b"cde");
-    assert!(rt; again.read(4, 3, &mut room).is_err());
+    assert!(rt; holds_a_lane(&mut again));
     let bytes = fs::read(rt, "gryphon-log/lane-4")?;
-    assert_eq!(rt; bytes.as_slice(), b"abcde".as_slice());
-    assert_eq!(rt;
-        (
-            mode_of(rt, "gryphon-log")?,
-            mode_of(rt, "gryphon-log/lane-4")?
-        ),
-        (0o700, 0o600)
-    );
+    assert!(rt; bytes.as_slice() == b"abcde".as_slice());
+    assert!(rt; mode_of(rt, "gryphon-log")? == 0o700);
+    assert!(rt; mode_of(rt, "gryphon-log/lane-4")? == 0o600);
     Ok(())
 }
 
@@ -281,7 +282,7 @@ fn follows_no_link(
     assert!(rt; disk.size(10).is_err());
     assert!(rt; !fs::exists(rt, "nowhere")?);
     let bytes = fs::read(rt, "elsewhere")?;
-    assert_eq!(rt; bytes.as_slice(), b"kept".as_slice());
+    assert!(rt; bytes.as_slice() == b"kept".as_slice());
     drop(disk);
     fs::rename(rt, "gryphon-log", "moved")?;
     symlink(rt, "moved", "gryphon-log")?;
@@ -323,7 +324,7 @@ fn keeps_a_long_log(
     drop(log);
     assert!(rt; disk.size(0)? > 1 << 20);
     let again = Log::open(alloc, &mut disk, 0)?;
-    assert_eq!(rt; again.last(), 160);
+    assert!(rt; again.last() == 160);
     Ok(())
 }
 
@@ -459,47 +460,62 @@ fn letter<N: Network, C: Clock>(post: &mut UdpPost<N, C>) -> u8 {
     }
 }
 
+/// Whether the next answers are these, each by its letter.
+fn answers<N: Network, C: Clock>(post: &mut UdpPost<N, C>, letters: &[u8]) -> bool {
+    for &answer in letters {
+        if letter(post) != answer {
+            return false;
+        }
+    }
+    true
+}
+
+/// A post over a network in memory, with brokers 3 and 4 bound.
+fn post_of_two<C: Clock + Drop>(
+    alloc: Global,
+    coming: &[(usize, Result<u8, ErrorKind>)],
+    clock: C,
+) -> Result<UdpPost<FakeNetwork, C>, Fail> {
+    let mut post = UdpPost::new(alloc, FakeNetwork::new(alloc, coming)?, clock);
+    post.bind(3, b"10.0.0.1:7401", true)?;
+    post.bind(4, b"10.0.0.2:7401", true)?;
+    Ok(post)
+}
+
 /// The sockets are looked at in turn; an error of an earlier datagram is passed over, and another is a failure, of
-/// which the address is kept. The first quiet moment comes at once. From each quiet moment on the waits are four
-/// times as long where the offers before it were the same as before the last one, and else half as long; but the
-/// longest wait stays until they were others five times in a row.
+/// which the address is kept. The first quiet moment comes at once.
 #[test]
-fn takes_turns_and_waits(rt: HostRuntime) -> Result<(), Fail> {
-    let refused = Err(ErrorKind::ConnectionRefused);
+fn takes_turns(rt: HostRuntime) -> Result<(), Fail> {
     let coming = [
         (0, Ok(b'a')),
         (0, Ok(b'b')),
-        (1, refused),
+        (1, Err(ErrorKind::ConnectionRefused)),
         (1, Ok(b'x')),
         (0, Err(ErrorKind::Other)),
     ];
-    let clock = FakeClock::new(1_234, 0);
-    let mut post = UdpPost::new(rt.alloc(), FakeNetwork::new(rt.alloc(), &coming)?, clock);
-    for (broker, text) in [
-        (3, b"10.0.0.1:7401".as_slice()),
-        (4, b"10.0.0.2:7401".as_slice()),
-    ] {
-        assert_eq!(rt; post.bind(broker, text, true), Ok(()));
-    }
-    let mut room = [0u8; 4];
-    assert_eq!(rt; post.next(&mut room), Ok(Arrival::Quiet { moment: 1_234 }));
-    for answer in *b"abx!----" {
-        assert_eq!(rt; letter(&mut post), answer);
-    }
+    let mut post = post_of_two(rt.alloc(), &coming, FakeClock::new(1_234, 0))?;
+    let first = post.next(&mut [0u8; 4]);
+    assert!(rt; first == Ok(Arrival::Quiet { moment: 1_234 }));
+    assert!(rt; answers(&mut post, b"abx!-"));
+    let said = post.last_error();
+    let said = said.map(|s| (s.address.map(|a| a.host), s.error.kind()));
+    assert!(rt; said == Some((Some([10, 0, 0, 1]), ErrorKind::Other)));
+    Ok(())
+}
+
+/// From each quiet moment on the waits are four times as long where the offers before it were the same as before the
+/// last one, and else half as long; but the longest wait stays until they were others five times in a row.
+#[test]
+fn waits_for_news(rt: HostRuntime) -> Result<(), Fail> {
+    let mut post = post_of_two(rt.alloc(), &[], FakeClock::new(1_234, 0))?;
+    assert!(rt; answers(&mut post, b"-----"));
     for byte in *b"abcdefgg" {
-        assert_eq!(rt; post.offer(3, 4, &[byte]), Ok(()));
-        assert_eq!(rt; letter(&mut post), b'-');
+        assert!(rt; post.offer(3, 4, &[byte]).is_ok() && letter(&mut post) == b'-');
     }
-    assert_eq!(rt; letter(&mut post), b'-');
-    assert_eq!(rt;
-        post.network().waits.as_slice(),
-        [4, 16, 50, 50, 50, 50, 50, 50, 50, 25, 12, 6, 24].as_slice()
-    );
-    let said = post
-        .last_error()
-        .map(|s| (s.address.map(|a| a.host), s.error.kind()));
-    assert_eq!(rt; said, Some((Some([10, 0, 0, 1]), ErrorKind::Other)));
-    assert_eq!(rt; post.lost(), 0);
+    assert!(rt; letter(&mut post) == b'-');
+    let waits = post.network().waits.as_slice();
+    assert!(rt; waits == [4, 16, 50, 50, 50, 50, 50, 50, 50, 25, 12, 6, 24].as_slice());
+    assert!(rt; post.lost() == 0);
     Ok(())
 }
 
@@ -507,19 +523,12 @@ fn takes_turns_and_waits(rt: HostRuntime) -> Result<(), Fail> {
 /// was set back; no wait is longer than until then.
 #[test]
 fn comes_to_quiet_moments(rt: HostRuntime) -> Result<(), Fail> {
-    let coming = [(0, Ok(b'a')); 13];
     let clock = FakeClock::new(1_000, 10);
-    let mut post = UdpPost::new(rt.alloc(), FakeNetwork::new(rt.alloc(), &coming)?, &clock);
-    assert_eq!(rt; post.bind(3, b"10.0.0.1:7401", true), Ok(()));
-    for answer in *b"-aaaa-aaaa-aaaa-a" {
-        assert_eq!(rt; letter(&mut post), answer);
-    }
+    let mut post = post_of_two(rt.alloc(), &[(0, Ok(b'a')); 13], &clock)?;
+    assert!(rt; answers(&mut post, b"-aaaa-aaaa-aaaa-a"));
     clock.moment.set(900);
-    assert_eq!(rt; letter(&mut post), b'-');
-    for answer in *b"--------" {
-        assert_eq!(rt; letter(&mut post), answer);
-    }
-    assert_eq!(rt; post.network().waits.as_slice(), [40; 8].as_slice());
+    assert!(rt; answers(&mut post, b"---------"));
+    assert!(rt; post.network().waits.as_slice() == [40; 8].as_slice());
     Ok(())
 }
 
