@@ -10,3 +10,4 @@ pub mod Walking
 pub mod Writing
 pub mod Escapes
 pub mod Found
+pub mod Joining

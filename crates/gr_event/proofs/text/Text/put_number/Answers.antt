@@ -1,4 +1,4 @@
-use Rattle.std.proofs.Common.{rules, ◌≡◌, ◌++◌, ◌∷◌, decimal, length, take, drop, slice_set as set, ℕ, ◌+◌, ◌-◌, ◌<◌, ◌≤◌, ap₂, ap, ◌∙◌, arith}
+use Rattle.std.proofs.Common.{rules, ◌≡◌, ◌++◌, decimal, length, take, drop, slice_set as set, ◌+◌, ◌-◌, ◌<◌, ◌≤◌, ap₂, ap, ◌∙◌, arith}
 use Rattle.std.proofs.lemmas.Fmt.{length-decimal-le}
 use Rattle.gr_event.proofs.Digits.{put_number}
 use Rattle.gr_event.proofs.text.Text.put_number.Goals as goal
