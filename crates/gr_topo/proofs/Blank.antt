@@ -1,5 +1,5 @@
 -- The blank topology is sound
-use Rattle.std.proofs.Common.{◌≡◌, ℕ, zero, suc, ◌<◌, true, false, List, [], ◌∷◌, get_or, Option, Some, refl, ⊎_elim, arith}
+use Rattle.std.proofs.Common.{◌≡◌, ℕ, zero, suc, ◌<◌, Bool, true, false, List, [], ◌∷◌, get_or, Option, Some, refl, ⊎_elim, arith}
 use Rattle.std.proofs.lemmas.Bool.{false≢true, or_cases}
 use Rattle.gr_filter.specs.Tree.{Tree}
 use Rattle.gr_tree.specs.declared.link.Link.{Link}
@@ -59,6 +59,7 @@ blank_sound = record {
   hosts = refl;
   homes = refl;
   filters = refl;
+  totals = refl;
   addresses = refl;
   clients = refl;
   host_in = λ p h. host_two p;
@@ -69,7 +70,7 @@ blank_sound = record {
 }
 
 -- a view with the parts of the blank topology is it
-pub is_blank : (bs ps ss : List (List ℕ)) (ls : List Link) (hs ms : List ℕ) (fs : List (Option Tree)) (addresses clients : List (Option (List ℕ)))
-    → bs ≡ blank.brokers → ps ≡ blank.publishers → ss ≡ blank.subscribers → ls ≡ blank.links → hs ≡ blank.hosts → ms ≡ blank.homes → fs ≡ blank.filters → addresses ≡ blank.addresses → clients ≡ blank.clients
-    → IsSound (record { brokers = bs; publishers = ps; subscribers = ss; links = ls; hosts = hs; homes = ms; filters = fs; addresses = addresses; clients = clients; settings = default_values })
-is_blank bs ps ss ls hs ms fs addresses clients a b c d e f g h i = rw (a, b, c, d, e, f, g, h, i) blank_sound
+pub is_blank : (bs ps ss : List (List ℕ)) (ls : List Link) (hs ms : List ℕ) (fs : List (Option Tree)) (ts : List Bool) (addresses clients : List (Option (List ℕ)))
+    → bs ≡ blank.brokers → ps ≡ blank.publishers → ss ≡ blank.subscribers → ls ≡ blank.links → hs ≡ blank.hosts → ms ≡ blank.homes → fs ≡ blank.filters → ts ≡ blank.totals → addresses ≡ blank.addresses → clients ≡ blank.clients
+    → IsSound (record { brokers = bs; publishers = ps; subscribers = ss; links = ls; hosts = hs; homes = ms; filters = fs; totals = ts; addresses = addresses; clients = clients; settings = default_values })
+is_blank bs ps ss ls hs ms fs ts addresses clients a b c d e f g h i j = rw (a, b, c, d, e, f, g, h, i, j) blank_sound

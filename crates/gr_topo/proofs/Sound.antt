@@ -1,8 +1,8 @@
 -- What every topology that is read keeps: columns of one length, numbers of brokers, links between them, settings in range
-use Rattle.std.proofs.Common.{◌≡◌, ◌⊎◌, ℕ, ℤ, pos, negsuc, ◌+◌, ◌<◌, ◌≤◌, Bool, true, false, ◌||◌, ◌&&◌, List, [], ◌∷◌, ◌++◌, length, get_or, Option, Some, None, Result, Ok, Err, refl, sym, ap, ◌∙◌, subst, inl, inr, ⊎_elim, arith, cond}
+use Rattle.std.proofs.Common.{◌≡◌, ◌⊎◌, ℕ, ℤ, pos, negsuc, ◌+◌, ◌<◌, ◌≤◌, Bool, true, false, ◌||◌, ◌&&◌, List, [], ◌∷◌, ◌++◌, length, get_or, replicate, Option, Some, None, Result, Ok, Err, refl, sym, ap, ◌∙◌, subst, inl, inr, ⊎_elim, arith, cond}
 use Rattle.std.specs.Prelude.{nat_le, codes, bytes_eq}
 use Rattle.std.specs.List.{zip}
-use Rattle.std.proofs.lemmas.List.{get_or_append_left, get_or_push, length_push}
+use Rattle.std.proofs.lemmas.List.{get_or_append_left, get_or_push, length_push, length-replicate}
 use Rattle.std.proofs.lemmas.List.Folds.{list_any-append}
 use Rattle.std.proofs.lemmas.List.Quantifiers.{position-Some}
 use Rattle.std.proofs.lemmas.Slice.Zip.{length-zip}
@@ -238,10 +238,10 @@ resolved_facts brokers d r h =
     })
 
 -- the parts that were read fit one another
-pub read_sound : (brokers : List (List ℕ)) (d : DraftLists) (r : ResolvedLists) (s : Settings) (fs : List (Option Tree)) (as_given clients_given : List (Option (List ℕ))) → HasColumns d → resolved_in brokers d ≡ Ok r → settings_of d.settings ≡ Ok s
-    → filters_in (zip d.subscribers.names d.subscribers.filters) ≡ Ok fs → addresses_of d.addresses brokers ≡ Ok as_given → addresses_of d.clients d.publishers.names ≡ Ok clients_given
-    → IsSound (record { brokers = brokers; publishers = d.publishers.names; subscribers = d.subscribers.names; links = r.links; hosts = r.hosts; homes = r.homes; filters = fs; addresses = as_given; clients = clients_given; settings = s })
-read_sound brokers d r s fs as_given clients_given cols found set filters addresses clients =
+pub read_sound : (brokers : List (List ℕ)) (d : DraftLists) (r : ResolvedLists) (s : Settings) (fs : List (Option Tree)) (ts : List Bool) (as_given clients_given : List (Option (List ℕ))) → HasColumns d → resolved_in brokers d ≡ Ok r → settings_of d.settings ≡ Ok s
+    → filters_in (zip d.subscribers.names d.subscribers.filters) ≡ Ok fs → ts ≡ replicate (length d.subscribers.names) false → addresses_of d.addresses brokers ≡ Ok as_given → addresses_of d.clients d.publishers.names ≡ Ok clients_given
+    → IsSound (record { brokers = brokers; publishers = d.publishers.names; subscribers = d.subscribers.names; links = r.links; hosts = r.hosts; homes = r.homes; filters = fs; totals = ts; addresses = as_given; clients = clients_given; settings = s })
+read_sound brokers d r s fs ts as_given clients_given cols found set filters totals addresses clients =
     let f = resolved_facts brokers d r found in
     let host_count : length r.hosts ≡ length d.publishers.names = f.host_count ∙ cols.publishers.brokers in
     let home_count : length r.homes ≡ length d.subscribers.names = f.home_count ∙ cols.subscribers.brokers in
@@ -257,6 +257,7 @@ read_sound brokers d r s fs as_given clients_given cols found set filters addres
       hosts = host_count;
       homes = home_count;
       filters = filter_count;
+      totals = ap length totals ∙ length-replicate (length d.subscribers.names) false;
       addresses = each_length (address_in d.addresses) brokers as_given addresses;
       clients = each_length (address_in d.clients) d.publishers.names clients_given clients;
       host_in = λ p h. f.hosts p (omega (arith, host_count));

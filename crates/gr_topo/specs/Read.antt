@@ -1,5 +1,6 @@
 -- Reading a topology: one function of the bytes, with the first refusal
-use Rattle.std.specs.Prelude.{ℕ, if◌then◌else◌, List, length, Option, Some, None, Result, Ok, Err, codes}
+use Rattle.std.specs.Prelude.{ℕ, false, if◌then◌else◌, List, length, replicate, Option, Some, None, Result, Ok, Err}
+use Rattle.std.specs.Prelude.{codes}
 use Rattle.std.specs.Str.{is_utf8}
 use Rattle.std.specs.List.{zip}
 use Rattle.toml.specs.Data.{Members}
@@ -64,6 +65,7 @@ topology_of brokers d = do
     hosts = found.hosts;
     homes = found.homes;
     filters = filters;
+    totals = replicate (length d.subscribers.names) false;
     addresses = addresses;
     clients = clients;
     settings = settings;

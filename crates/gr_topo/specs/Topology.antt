@@ -13,8 +13,8 @@ use Rattle.gr_topo.specs.declared.settings.TheConstants.{MOST_TIME, MOST_CACHE}
 use Rattle.gr_topo.specs.declared.settings.Settings.{Settings}
 
 -- Brokers, publishers and subscribers by their numbers, from 0: the names of each; the links between brokers; the
--- brokers of publishers and of subscribers; the filters of subscribers, the addresses of brokers and those of the
--- clients of publishers, where there are any; the settings.
+-- brokers of publishers and of subscribers; the filters of subscribers, and which of them get one list over all
+-- publishers; the addresses of brokers and those of the clients of publishers, where there are any; the settings.
 pub record TopologyView : Type 0 where
   pub brokers : List (List ℕ)
   pub publishers : List (List ℕ)
@@ -23,6 +23,7 @@ pub record TopologyView : Type 0 where
   pub hosts : List ℕ
   pub homes : List ℕ
   pub filters : List (Option Tree)
+  pub totals : List Bool
   pub addresses : List (Option (List ℕ))
   pub clients : List (Option (List ℕ))
   pub settings : Settings
@@ -55,6 +56,14 @@ home_of t s = slice_index t.homes s
 
 abbrev pub filter_of : TopologyView → ℕ → Option Tree
 filter_of t s = slice_index_or t.filters s None
+
+-- whether a subscriber gets one list over all publishers
+abbrev pub total_of : TopologyView → ℕ → Bool
+total_of t s = slice_index_or t.totals s false
+
+-- the subscribers that get one, rising
+abbrev pub totals_of : TopologyView → List ℕ
+totals_of t = filter (total_of t) (numbers (length t.subscribers))
 
 abbrev pub address_of : TopologyView → ℕ → Option (List ℕ)
 address_of t b = slice_index_or t.addresses b None
@@ -150,6 +159,7 @@ pub record IsSound (t : TopologyView) : Type 0 where
   pub hosts : length t.hosts ≡ length t.publishers
   pub homes : length t.homes ≡ length t.subscribers
   pub filters : length t.filters ≡ length t.subscribers
+  pub totals : length t.totals ≡ length t.subscribers
   pub addresses : length t.addresses ≡ length t.brokers
   pub clients : length t.clients ≡ length t.publishers
   pub host_in : (p : ℕ) → p < length t.publishers → host_of t p < size t
@@ -179,6 +189,7 @@ blank = record {
   hosts = 0 ∷ [];
   homes = 1 ∷ [];
   filters = None ∷ [];
+  totals = false ∷ [];
   addresses = None ∷ None ∷ [];
   clients = None ∷ [];
   settings = default_values;

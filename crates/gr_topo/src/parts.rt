@@ -22,6 +22,8 @@ pub(crate) struct Parts {
     pub homes: Vec<u16>,
     /// The filters of the subscribers; one without a filter wants every event.
     pub filters: Vec<Option<Filter>>,
+    /// Which subscribers get one list over all publishers.
+    pub totals: Vec<bool>,
     /// The addresses of the brokers.
     pub addresses: Vec<Option<Text>>,
     /// The addresses of the publishers' clients.

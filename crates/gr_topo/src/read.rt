@@ -1,6 +1,6 @@
 //! Reading a topology.
 
-ghost use Rattle.std.specs.Prelude.{◌≡◌, ◌≤◌, ◌<◌, length, true, IfOk, IfErr, OnOk};
+ghost use Rattle.std.specs.Prelude.{◌≡◌, ◌≤◌, ◌<◌, length, replicate, false, true, IfOk, IfErr, OnOk};
 ghost use Rattle.toml.specs.View.{table_view};
 ghost use Rattle.gr_tree.specs.Walks.{IsWithin};
 ghost use Rattle.gr_topo.specs.Gives.{Gives};
@@ -15,7 +15,7 @@ ghost use Rattle.gr_topo.specs.declared.limits.TheConstants.{MAX_BROKERS, MAX_PU
 
 use crate::check::{addresses_of, filters_in, settings_of};
 use crate::draft::Draft;
-use crate::fault::TopoFault;
+use crate::fault::{Memory, TopoFault};
 use crate::limits::{MAX_BROKERS, MAX_PUBLISHERS, MAX_SUBSCRIBERS};
 use crate::names::{apart, few, good_names, links_in, numbers_in};
 use crate::parts::{Parts, Resolved};
@@ -86,6 +86,13 @@ fn resolved_in(alloc: Global, brokers: &[Text], draft: &Draft) -> Result<Resolve
     })
 }
 
+/// No subscriber gets one list over all publishers.
+fn no_totals(alloc: Global, subscribers: &[Text]) -> Result<Vec<bool>, Memory>
+    ensures { IfOk result (λ totals. totals.items ≡ replicate (length subscribers.now) false) }
+{
+    vec![in alloc; false; subscribers.len()]
+}
+
 /// The topology of a draft.
 #[tactic(auto, unfolding(crate::specs::Read::topology_of))]
 fn topology_of(alloc: Global, brokers: Vec<Text>, draft: Draft) -> Result<Topology, TopoFault>
@@ -95,6 +102,7 @@ fn topology_of(alloc: Global, brokers: Vec<Text>, draft: Draft) -> Result<Topolo
     let resolved = resolved_in(alloc, &brokers, &draft)?;
     let settings = settings_of(alloc, draft.settings)?;
     let filters = filters_in(alloc, &draft.subscribers.names, &draft.subscribers.filters)?;
+    let totals = no_totals(alloc, &draft.subscribers.names)?;
     let addresses = addresses_of(alloc, &draft.addresses, &brokers)?;
     let clients = addresses_of(alloc, &draft.clients, &draft.publishers.names)?;
     let Resolved {
@@ -112,6 +120,7 @@ fn topology_of(alloc: Global, brokers: Vec<Text>, draft: Draft) -> Result<Topolo
         hosts,
         homes,
         filters,
+        totals,
         addresses,
         clients,
         settings,

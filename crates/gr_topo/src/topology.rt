@@ -5,7 +5,7 @@ ghost use Rattle.std.specs.Option.{option_map};
 ghost use Rattle.gr_filter.specs.Tree.{tree_of as filter_tree};
 ghost use Rattle.gr_tree.specs.Walks.{IsWithin, IsRooted, HasOnlyPaths, is_tree, places_of};
 ghost use Rattle.gr_topo.specs.Topology.{IsSound, IsTopology, name_at, number_of, blank, host_of, home_of, filter_of};
-ghost use Rattle.gr_topo.specs.Topology.{address_of, client_of, up_at, depth_at, children_of, subscribers_of};
+ghost use Rattle.gr_topo.specs.Topology.{total_of, address_of, client_of, up_at, depth_at, children_of, subscribers_of};
 ghost use Rattle.gr_topo.specs.Topology.{passes_by, below_of, keeps_horizon_at, is_child_at, not_empty};
 
 use crate::fault::Memory;
@@ -101,6 +101,8 @@ impl Topology {
         subscribers.push(Text::from_slice(alloc, b"S")?)?;
         let mut filters = Vec::new(alloc);
         filters.push(None)?;
+        let mut totals = Vec::new(alloc);
+        totals.push(false)?;
         let mut addresses = Vec::new(alloc);
         addresses.push(None)?;
         addresses.push(None)?;
@@ -114,6 +116,7 @@ impl Topology {
             hosts: Vec::from_slice(alloc, &[0])?,
             homes: Vec::from_slice(alloc, &[1])?,
             filters,
+            totals,
             addresses,
             clients,
             settings: Settings {
@@ -224,6 +227,14 @@ impl Topology {
         ensures { option_map (λ f. filter_tree f.now) result ≡ filter_of self.now s }
     {
         self.parts.filters[s as usize].as_ref()
+    }
+
+    /// Whether a subscriber gets one list over all publishers.
+    pub fn total(&self, s: u16) -> bool
+        requires { s < length self.now.subscribers }
+        ensures { result ≡ total_of self.now s }
+    {
+        self.parts.totals[s as usize]
     }
 
     /// The next broker on the path to the host of a publisher, or None exactly for the host. Takes constant time.
