@@ -1,7 +1,7 @@
 //! A list of filters, kept by what an event has to have.
 
-ghost use Rattle.std.specs.Prelude.{◌≡◌, ℕ, ◌<◌, ◌++◌, ◌∷◌, [], length, IfOk, OnOk, OnErr};
-ghost use Rattle.std.specs.List.{filter, flat_map, list_any};
+ghost use Rattle.std.specs.Prelude.{◌≡◌, ℕ, ◌<◌, ◌++◌, ◌∷◌, [], false, length, Some, IfOk, OnOk, OnErr};
+ghost use Rattle.std.specs.List.{filter, flat_map, list_any, slice_get};
 ghost use Rattle.gr_event.specs.Limits.{IsEvent};
 ghost use Rattle.gr_filter.specs.Tree.{tree_of};
 ghost use Rattle.gr_match.specs.Matches.{matches, any};
@@ -84,9 +84,25 @@ impl MatchTree {
         matching(self.alloc, &self.filters, &places, event)
     }
 
+    /// How many filters there are.
+    pub fn len(&self) -> usize
+        ensures { result ≡ length self.now }
+    {
+        self.filters.len()
+    }
+
+    /// The filter at a place, from 0 on.
+    pub fn filter(&self, place: usize) -> &Filter
+        requires { place < length self.now }
+        ensures { slice_get self.now place ≡ Some (tree_of result.now) }
+    {
+        &self.filters[place]
+    }
+
     /// Whether some filter matches the event. Takes no memory.
     pub fn any(&self, event: &Event) -> bool
-        ensures { result ≡ any self.now event.now }
+        ensures answer { result ≡ any self.now event.now }
+        ensures event { result ≡ false → IsEvent event.now }
     {
         any_at(&self.filters, self.rest.as_slice(), event)
             || any_asked(&self.filters, &self.rows, event)

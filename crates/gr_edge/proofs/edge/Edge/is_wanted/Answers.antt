@@ -10,5 +10,5 @@ returns-then-self c =
 
 pub returns-else-self : goal.returns-else-self
 returns-else-self c =
-    wanted_filtered c.self.inside.wishes.items c.self.inside.filters c.args.event.now c.self.inside.is_open c.any.result c.self.invariant.0 c.self.invariant.1 c.if-self.false c.any.ensures
+    wanted_filtered c.self.inside.wishes.items c.self.inside.filters c.args.event.now c.self.inside.is_open c.any.result c.self.invariant.0 c.self.invariant.1 c.if-self.false c.any.ensures.answer
     ∙ ap (λ fs. wanted fs c.args.event.now) c.self.view_is
