@@ -97,3 +97,9 @@ found_from front (f ∷ fs) e =
 pub names_found : (filters : List NamedFilter) (e : Event) (places slice : List ℕ) → slice ≡ places → places ≡ matches (filter_trees filters) e
     → names_text (names_at filters slice) ≡ names_text (matching_names filters e)
 names_found filters e places slice same is = ap (λ ps. names_text (names_at filters ps)) (same ∙ is) ∙ ap names_text (found_from [] filters e)
+
+-- ---- the filter at a place
+
+-- there are as many trees as filters
+pub trees_count : (names : List (List ℕ)) (ts : List Tree) (all : List NamedFilter) → length names ≡ length ts → zip names ts ≡ all → length ts ≡ length all
+trees_count names ts all h view = ap length (sym (trees_are names ts h)) ∙ length-map (zip names ts) (λ f. f.1) ∙ ap length view

@@ -1,7 +1,7 @@
 //! Filters with their names.
 
-ghost use Rattle.std.specs.Prelude.{◌≡◌, ◌<◌, ◌∷◌, ◌++◌, [], false, length, get_or, bytes_eq, IfOk, OnOk, OnErr};
-ghost use Rattle.std.specs.List.{list_any};
+ghost use Rattle.std.specs.Prelude.{◌≡◌, ◌<◌, ◌∷◌, ◌++◌, [], false, length, get_or, Some, bytes_eq, IfOk, OnOk, OnErr};
+ghost use Rattle.std.specs.List.{list_any, slice_get};
 ghost use Rattle.gr_filter.specs.Tree.{tree_of};
 ghost use Rattle.gr_match.specs.Matches.{matches};
 ghost use Rattle.gr_matching.specs.Matching.{NamedFilter, filter_names, filter_trees};
@@ -52,7 +52,7 @@ impl FilterList {
     }
 
     /// How many filters there are.
-    pub(crate) fn len(&self) -> usize
+    pub fn len(&self) -> usize
         ensures { result ≡ length self.now }
     {
         self.names.len()
@@ -85,13 +85,21 @@ impl FilterList {
     }
 
     /// The name of the filter at a place, from 0 on; nothing where there is none.
-    pub(crate) fn name(&self, place: u16) -> &[u8]
+    pub fn name(&self, place: usize) -> &[u8]
         ensures { result.now ≡ get_or (filter_names self.now) place [] }
     {
-        match self.names.get_index(usize::from(place)) {
+        match self.names.get_index(place) {
             Some(name) => name.as_slice(),
             None => &[],
         }
+    }
+
+    /// The filter at a place, from 0 on.
+    pub fn filter(&self, place: usize) -> &Filter
+        requires { place < length self.now }
+        ensures { slice_get (filter_trees self.now) place ≡ Some (tree_of result.now) }
+    {
+        self.tree.filter(place)
     }
 
     /// The places, from 0 on and rising, of exactly the filters that match the event.

@@ -108,7 +108,7 @@ fn hold_names(filters: &FilterList, places: &[u16], page: &mut Page) -> Result<(
     match places {
         [] => hold(b"-", page),
         [first, rest @ ..] => {
-            hold(filters.name(*first), page)?;
+            hold(filters.name(usize::from(*first)), page)?;
             hold_more(filters, rest, page)
         }
     }
@@ -120,7 +120,7 @@ fn hold_more(filters: &FilterList, places: &[u16], page: &mut Page) -> Result<()
 {
     'places: for place in places {
         hold(b" ", page)?;
-        hold(filters.name(*place), page)?;
+        hold(filters.name(usize::from(*place)), page)?;
     }
     Ok(())
 }
