@@ -1,5 +1,5 @@
 -- What a post of sockets keeps of the brokers that were bound, and what its calls do with their sockets.
-use Rattle.std.specs.Prelude.{◌≡◌, ℕ, ◌+◌, ◌-◌, ◌*◌, ◌/◌, ◌==◌, ◌⊎◌, ◌||◌, min, max, nat_lt, nat_le, zero, suc}
+use Rattle.std.specs.Prelude.{◌≡◌, ℕ, ◌+◌, ◌-◌, ◌*◌, ◌/◌, ◌==◌, ◌⊎◌, ◌||◌, ◌&&◌, min, max, nat_lt, nat_le, zero, suc}
 use Rattle.std.specs.Prelude.{if◌then◌else◌, List, Option, None, Some, is_some, Bool, true, false, length, take, ⊤}
 use Rattle.std.specs.List.{find, list_any}
 use Rattle.std.specs.Prelude.{Contains}
@@ -51,6 +51,10 @@ Looked bound old new piece (Some d) = (s : ℕ) × HasSocket bound d.0 s × (new
 abbrev pub longest : ℕ
 longest = 50
 
+-- the first wait, in milliseconds
+abbrev pub first_wait : ℕ
+first_wait = 12
+
 -- a quiet moment is due: so much time has passed since the last one, or the clock was set back behind it
 abbrev pub is_due : ℕ → ℕ → Bool
 is_due last moment = nat_lt moment last || nat_le (last + longest) moment
@@ -87,15 +91,19 @@ run_after run news (Datagram at len moment) = run
 run_after run news (Quiet moment) = run_with run news
 run_after run news Closed = run
 
--- so many in a row make the longest wait shorter
+-- so many in a row make a wait shorter, and so many the longest
+abbrev pub few : ℕ
+few = 2
+
 abbrev pub enough : ℕ
 enough = 5
 
--- the wait after a quiet moment: four times as long where there was no news, and else half as long; but the longest one
--- stays until there was enough of it
+-- the wait after a quiet moment: twice as long where there was no news, and half as long where there was news a few times
+-- in a row, or enough times where it is the longest
 abbrev pub wait_after : ℕ → ℕ → ℕ
-wait_after pause zero = min (pause * 4) longest
-wait_after pause (suc run) = if nat_lt pause longest || nat_le enough (suc run) then max (pause / 2) 1 else pause
+wait_after pause zero = min (pause * 2) longest
+wait_after pause (suc run) =
+    if nat_lt pause longest && nat_le few (suc run) || nat_le enough (suc run) then max (pause / 2) 1 else pause
 
 -- the wait of the next call
 abbrev pub pause_after : ℕ → ℕ → Arrival → ℕ

@@ -9,7 +9,7 @@ ghost use Rattle.gr_sock.specs.Kinds.{passes, fault_for};
 ghost use Rattle.gr_sock.specs.Address.{address_of};
 ghost use Rattle.gr_sock.specs.Bound.{is_bound, address_in, socket_in, IsBinding, BindDid, HasSocket, Looked, NextDid};
 ghost use Rattle.gr_sock.specs.Bound.{CameHosted, OfferDid, datagram_in, pause_after, longest, is_due, wait_from};
-ghost use Rattle.gr_sock.specs.Bound.{IsInTime, quiet_after, offered_after, before_after, run_after};
+ghost use Rattle.gr_sock.specs.Bound.{IsInTime, quiet_after, offered_after, before_after, run_after, first_wait};
 ghost use Rattle.gr_sock.specs.Digest.{nothing, with_offer};
 ghost use Rattle.gr_sock.specs.Network.{with_sent};
 
@@ -29,7 +29,12 @@ use std::time::Duration;
 // The longest wait of one `next`, and the longest time from one quiet moment to the next, in milliseconds.
 const LONGEST: u64 = 50;
 
-// How many quiet moments in a row have to have news before them, so that the longest wait gets shorter.
+// The first wait, in milliseconds.
+const FIRST_WAIT: u64 = 12;
+
+// How many quiet moments in a row have to have news before them, so that a wait gets shorter, and the longest.
+const FEW: u64 = 2;
+
 const ENOUGH: u64 = 5;
 
 /// A post of which each hosted broker has a socket. To `Post` it tells nothing of what came and went; each call says
@@ -38,10 +43,11 @@ const ENOUGH: u64 = 5;
 /// `next` takes a datagram that is there. Where none is, it waits for one, and where none comes it answers `Quiet`.
 ///
 /// The wait is 1 to 50 milliseconds. At each quiet moment the offers since the last one are compared with those between
-/// that and the one before, by a digest of 64 bits. Where they are the same it is four times as long from then on, and
-/// where there is news half as long; but the longest wait stays until there was news five times in a row. So while
-/// brokers go on telling one another what is new quiet moments come fast, and brokers that only repeat themselves, or
-/// have news now and then, are woken 20 times a second, however many of them send to one another.
+/// that and the one before, by a digest of 64 bits. Where they are the same it is twice as long from then on, and where
+/// there is news twice in a row half as long; but the longest wait stays until there was news five times in a row. So
+/// while brokers go on telling one another what is new quiet moments come fast, also where some of it is lost and has to
+/// be told again; and brokers that only repeat themselves, or have news now and then, are woken 20 times a second,
+/// however many of them send to one another.
 ///
 /// Whatever comes, the next quiet moment comes no later than 50 milliseconds after the last one: once they have passed,
 /// by the clock, `next` answers `Quiet` and leaves a datagram that is there to the next call.
@@ -78,7 +84,7 @@ impl<N: Network, C: Clock> UdpPost<N, C> {
     pub fn new(alloc: Global, network: N, clock: C) -> UdpPost<N, C>
         ensures network { network_of result ≡ network }
         ensures bound { bound_of result ≡ [] }
-        ensures pause { pause_of result ≡ 1 }
+        ensures pause { pause_of result ≡ first_wait }
         ensures faults { post_faults result ≡ 0 }
         ensures lost { post_lost result ≡ 0 }
         ensures quiet { quiet_of result ≡ 0 }
@@ -92,7 +98,7 @@ impl<N: Network, C: Clock> UdpPost<N, C> {
             clock,
             bound: Vec::new(alloc),
             turn: 0,
-            pause: 1,
+            pause: FIRST_WAIT,
             quiet: 0,
             offered: NOTHING,
             before: NOTHING,
@@ -214,8 +220,10 @@ fn pause_after(pause: u64, run: u64, arrival: Arrival) -> u64
     ensures brief { result ≤ longest }
 {
     match arrival {
-        Arrival::Quiet { .. } if run == 0 => (pause * 4).min(LONGEST),
-        Arrival::Quiet { .. } if pause < LONGEST || run >= ENOUGH => (pause / 2).max(1),
+        Arrival::Quiet { .. } if run == 0 => (pause * 2).min(LONGEST),
+        Arrival::Quiet { .. } if pause < LONGEST && run >= FEW || run >= ENOUGH => (pause / 2).max(
+            1,
+        ),
         Arrival::Datagram { .. } | Arrival::Quiet { .. } | Arrival::Closed => pause,
     }
 }

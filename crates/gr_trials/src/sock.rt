@@ -503,18 +503,18 @@ fn takes_turns(rt: HostRuntime) -> Result<(), Fail> {
     Ok(())
 }
 
-/// From each quiet moment on the waits are four times as long where the offers before it were the same as before the
-/// last one, and else half as long; but the longest wait stays until they were others five times in a row.
+/// From each quiet moment on the waits are twice as long where the offers before it were the same as before the last
+/// one, and half as long where they were others twice in a row; but the longest wait stays until they were five times.
 #[test]
 fn waits_for_news(rt: HostRuntime) -> Result<(), Fail> {
     let mut post = post_of_two(rt.alloc(), &[], FakeClock::new(1_234, 0))?;
     assert!(rt; answers(&mut post, b"-----"));
-    for byte in *b"abcdefgg" {
+    for byte in *b"abcdefgghi" {
         assert!(rt; post.offer(3, 4, &[byte]).is_ok() && letter(&mut post) == b'-');
     }
     assert!(rt; letter(&mut post) == b'-');
     let waits = post.network().waits.as_slice();
-    assert!(rt; waits == [4, 16, 50, 50, 50, 50, 50, 50, 50, 25, 12, 6, 24].as_slice());
+    assert!(rt; waits == [24, 48, 50, 50, 50, 50, 50, 50, 50, 25, 12, 6, 12, 12, 6].as_slice());
     assert!(rt; post.lost() == 0);
     Ok(())
 }
