@@ -28,9 +28,9 @@ def usage_fault(words):
     """Why the program answers these words with its usage line; an empty text where it does not."""
     words = words[:-1] if words[-1:] == ['--'] else words
     if not words:
-        return 'name a command: replay, serve, publish, match or soak'
+        return 'name a command: replay, serve, publish, match, cover or soak'
     command, *rest = words
-    if command in ('replay', 'match'):
+    if command in ('replay', 'match', 'cover'):
         return rest and '`%s` takes no further words, and reads its text from standard input' % command
     if command == 'soak':
         is_right = len(rest) == 1 and is_number(rest[0], 2000)
@@ -39,7 +39,7 @@ def usage_fault(words):
         return serve_fault(rest)
     if command == 'publish':
         return publish_fault(rest)
-    return 'there is no command `%s`: they are replay, serve, publish, match and soak' % command
+    return 'there is no command `%s`: they are replay, serve, publish, match, cover and soak' % command
 
 
 def serve_fault(rest):

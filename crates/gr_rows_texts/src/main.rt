@@ -4,6 +4,7 @@
 //! are tried, and what they have to answer.
 #![tactic(auto)]
 
+mod cover_texts;
 mod covers;
 mod edges;
 mod events;
@@ -53,6 +54,7 @@ fn call(alloc: Global, row: &str, out: &mut String) -> Result<(), Stop> {
         "schedule" => schedules::answer(alloc, rest, out),
         "scenario" => scenarios::answer(alloc, rest, out),
         "match-text" => match_texts::answer(alloc, rest, out),
+        "cover-text" => cover_texts::answer(alloc, rest, out),
         _ => Err(Stop::NoRow),
     }
 }

@@ -1,6 +1,10 @@
 -- What is answered
 use Rattle.std.specs.Prelude.{ℕ, List, [], ◌∷◌, ◌++◌, Option, Some, None, option_and_then, codes}
 use Rattle.std.specs.Option.{option_map}
+use Rattle.gr_covering.specs.Covers.{covered_text}
+use Rattle.gr_covering.specs.declared.asked.Asked.{Asked as AskedOfCoverText}
+use Rattle.gr_covering.specs.declared.asked.Asked.TheVariants as cover_text
+use Rattle.gr_covering.specs.Reading.{asked_by as cover_text_by}
 use Rattle.gr_matching.specs.declared.asked.Asked.{Asked as AskedOfMatchText}
 use Rattle.gr_matching.specs.declared.asked.Asked.TheVariants as match_text
 use Rattle.gr_matching.specs.Matching.{matched_text}
@@ -11,13 +15,13 @@ use Rattle.gr_scenario.specs.declared.asked.Asked.TheVariants as scenario
 use Rattle.gr_scenario.specs.Scenario.{asked_by as scenario_by}
 use Rattle.gr_soak.specs.Report.{soak_report}
 use Rattle.gr_top.specs.declared.input.Input.{Input}
-use Rattle.gr_top.specs.declared.input.Input.TheVariants.{Scenario, MatchText}
+use Rattle.gr_top.specs.declared.input.Input.TheVariants.{Scenario, MatchText, CoverText}
 use Rattle.gr_top.specs.declared.publishing.Publishing.{Publishing}
 use Rattle.gr_top.specs.declared.publishing.Publishing.TheVariants as publishing
 use Rattle.gr_top.specs.declared.serving.Serving.{Serving}
 use Rattle.gr_top.specs.declared.serving.Serving.TheVariants as serving
 use Rattle.gr_top.specs.declared.words.Task.{Task}
-use Rattle.gr_top.specs.declared.words.Task.TheVariants.{Usage, Replay, Serve, Publish, Match, Soak}
+use Rattle.gr_top.specs.declared.words.Task.TheVariants.{Usage, Replay, Serve, Publish, Match, Cover, Soak}
 use Rattle.gr_top.specs.Publishing.{publishing_of}
 use Rattle.gr_top.specs.Serving.{serving_of}
 
@@ -51,6 +55,12 @@ match_answer match_text.TooManyLines = too_many_lines
 match_answer (match_text.Refused line) = refusal line
 match_answer (match_text.Matching filters events) = record { status = 0; text = matched_text filters events }
 
+abbrev pub cover_answer : AskedOfCoverText → Answer
+cover_answer cover_text.TooManyBytes = too_many_bytes
+cover_answer cover_text.TooManyLines = too_many_lines
+cover_answer (cover_text.Refused line) = refusal line
+cover_answer (cover_text.Covering filters) = record { status = 0; text = covered_text filters }
+
 -- to what `serve` is asked: where there is to be a run, there is no answer before it
 abbrev pub answer_in : Serving → Option Answer
 answer_in serving.TooManyBytes = Some too_many_bytes
@@ -69,6 +79,7 @@ publish_answer (publishing.Run t lines p) = None
 abbrev pub answer_of : Input → List ℕ → Answer
 answer_of Scenario bytes = replay_answer (scenario_by bytes)
 answer_of MatchText bytes = match_answer (match_text_by bytes)
+answer_of CoverText bytes = cover_answer (cover_text_by bytes)
 
 -- To words
 
@@ -76,7 +87,7 @@ answer_of MatchText bytes = match_answer (match_text_by bytes)
 abbrev pub usage_answer : Answer
 usage_answer = record {
   status = 1;
-  text = codes "usage: gryphon replay | serve TURNS BROKER... | publish P TURNS | match | soak N" ++ 10 ∷ [];
+  text = codes "usage: gryphon replay | serve TURNS BROKER... | publish P TURNS | match | cover | soak N" ++ 10 ∷ [];
 }
 
 -- to a task, with these bytes left in the source. Where they are not told, nothing is said of a task that reads them;
@@ -88,4 +99,5 @@ answer_to (Serve turns words) left = option_and_then (λ bytes. answer_in (servi
 answer_to (Publish word turns) left =
     option_and_then (λ bytes. publish_answer (publishing_of word (scenario_by bytes))) left
 answer_to Match left = option_map (answer_of MatchText) left
+answer_to Cover left = option_map (answer_of CoverText) left
 answer_to (Soak count) left = Some (record { status = 0; text = soak_report count })

@@ -12,7 +12,7 @@ use Rattle.clap.specs.declared.parser.matches.ArgMatches.{ArgMatches}
 use Rattle.clap.specs.Words.{App, Rule, Text, Kinds, IsUnsignedIn, new_app, new_rule, with_rule, fault_of, found_of}
 use Rattle.clap.specs.Words.{matches_of, all_of, first_of, one_of, one_text}
 use Rattle.gr_top.specs.declared.words.Task.{Task}
-use Rattle.gr_top.specs.declared.words.Task.TheVariants.{Usage, Replay, Serve, Publish, Match, Soak}
+use Rattle.gr_top.specs.declared.words.Task.TheVariants.{Usage, Replay, Serve, Publish, Match, Cover, Soak}
 
 -- the texts of words
 abbrev pub texts_of : List (Bor Text) → List Text
@@ -50,6 +50,9 @@ publish_app = with_rule (with_rule (new_app (codes "publish")) publisher_rule) t
 
 abbrev pub match_app : App
 match_app = new_app (codes "match")
+
+abbrev pub cover_app : App
+cover_app = new_app (codes "cover")
 
 -- one number, from 1 to 2,000
 abbrev pub count_rule : Rule
@@ -95,7 +98,8 @@ is_known [] = false
 is_known (name ∷ words) =
     bytes_eq name (codes "replay")
     || (bytes_eq name (codes "serve")
-    || (bytes_eq name (codes "publish") || (bytes_eq name (codes "match") || bytes_eq name (codes "soak"))))
+    || (bytes_eq name (codes "publish")
+    || (bytes_eq name (codes "match") || (bytes_eq name (codes "cover") || bytes_eq name (codes "soak")))))
 
 -- What is asked for
 
@@ -118,6 +122,7 @@ task_named name words =
     else if bytes_eq name (codes "serve") then taken (fault_of serve_app words) (serve_by words)
     else if bytes_eq name (codes "publish") then taken (fault_of publish_app words) (publish_by words)
     else if bytes_eq name (codes "match") then taken (fault_of match_app words) Match
+    else if bytes_eq name (codes "cover") then taken (fault_of cover_app words) Cover
     else if bytes_eq name (codes "soak") then taken (fault_of soak_app words) (Soak (unwrap_or (soak_count words) 0))
     else Usage
 
@@ -135,6 +140,7 @@ IsInRange Replay = Unit {0}
 IsInRange (Serve turns brokers) = (1 ≤ turns) × (turns ≤ 1000000)
 IsInRange (Publish publisher turns) = (1 ≤ turns) × (turns ≤ 1000000)
 IsInRange Match = Unit {0}
+IsInRange Cover = Unit {0}
 IsInRange (Soak count) = (1 ≤ count) × (count ≤ 2000)
 
 -- the task is on the bytes of the source
@@ -144,6 +150,7 @@ IsReading Replay = Unit {0}
 IsReading (Serve turns brokers) = Unit {0}
 IsReading (Publish publisher turns) = Unit {0}
 IsReading Match = Unit {0}
+IsReading Cover = Unit {0}
 IsReading (Soak count) = ⊥
 
 -- brokers are to serve: they have a disk
@@ -153,6 +160,7 @@ IsServing Replay = ⊥
 IsServing (Serve turns brokers) = Unit {0}
 IsServing (Publish publisher turns) = ⊥
 IsServing Match = ⊥
+IsServing Cover = ⊥
 IsServing (Soak count) = ⊥
 
 -- brokers are to serve, or a client is to submit: they have a post
@@ -162,4 +170,5 @@ IsPosting Replay = ⊥
 IsPosting (Serve turns brokers) = Unit {0}
 IsPosting (Publish publisher turns) = Unit {0}
 IsPosting Match = ⊥
+IsPosting Cover = ⊥
 IsPosting (Soak count) = ⊥

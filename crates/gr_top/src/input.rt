@@ -7,4 +7,6 @@ pub enum Input {
     Scenario,
     /// A match text, of which the events are matched.
     MatchText,
+    /// A match text of filters alone, which are compared.
+    CoverText,
 }

@@ -15,6 +15,7 @@ ghost use Rattle.gr_top.specs.Answers.{answer_of, answer_to};
 ghost use Rattle.gr_top.specs.Top.{WasReplayed, IsAnswered, IsWhole, IsCut, IsStop};
 
 use crate::broker_words::BrokerWords;
+use crate::covering::cover_bytes;
 use crate::input::Input;
 use crate::matching::match_bytes;
 use crate::printing::print;
@@ -30,7 +31,7 @@ use std::alloc::Global;
 
 /// What is printed for words that are no command.
 const USAGE: &[u8] =
-    b"usage: gryphon replay | serve TURNS BROKER... | publish P TURNS | match | soak N\n";
+    b"usage: gryphon replay | serve TURNS BROKER... | publish P TURNS | match | cover | soak N\n";
 
 /// Carries out the command that the words name, over a source and a sink; brokers that serve have a disk and a post,
 /// and a client that submits has the post. Gives the exit status.
@@ -154,6 +155,7 @@ pub fn gryphon<S: Source, K: Sink, D: Disk, P: Post>(
             publish_source(alloc, &publisher, turns, source, sink, post)
         }
         Ok(Task::Match) => from_source(alloc, Input::MatchText, source, sink),
+        Ok(Task::Cover) => from_source(alloc, Input::CoverText, source, sink),
         Ok(Task::Soak { count }) => print_soak(alloc, count, sink),
         Err(_) => 7,
     }
@@ -313,5 +315,6 @@ fn answer<K: Sink>(alloc: Global, input: Input, bytes: &[u8], sink: &mut K) -> u
     match input {
         Input::Scenario => replay_bytes(alloc, bytes, sink),
         Input::MatchText => match_bytes(alloc, bytes, sink),
+        Input::CoverText => cover_bytes(alloc, bytes, sink),
     }
 }

@@ -39,6 +39,8 @@ pub enum Task<'a> {
     },
     /// A match text is to be read, and its events matched.
     Match,
+    /// A match text is to be read, and its filters compared.
+    Cover,
     /// The scenario of a soak is to be made and replayed.
     Soak {
         /// How many turns it has, 1 to 2,000.
@@ -68,6 +70,9 @@ pub fn task_of<'a>(alloc: Global, words: &'a [&'a str]) -> Result<Task<'a>, Allo
     }
     if name == "match" {
         return bare_task(alloc, "match", words, Task::Match);
+    }
+    if name == "cover" {
+        return bare_task(alloc, "cover", words, Task::Cover);
     }
     if name == "soak" {
         return soak_task(alloc, words);
