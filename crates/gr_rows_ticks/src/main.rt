@@ -1,12 +1,13 @@
-//! What the public calls of streams, pieces, knowledge, curiosity, what subscribers are handed, and lists for edits
-//! anywhere answer, as a table: each row of standard input names a call and its arguments, and is printed again with
-//! the answers below it. The files `stdin` and `stdout` in this crate's folder are the rows that are tried, and what
-//! they have to answer.
+//! What the public calls of streams, pieces, knowledge, curiosity, what subscribers are handed, lists of joins, and
+//! lists for edits anywhere answer, as a table: each row of standard input names a call and its arguments, and is
+//! printed again with the answers below it. The files `stdin` and `stdout` in this crate's folder are the rows that are
+//! tried, and what they have to answer.
 #![tactic(auto)]
 
 mod asks;
 mod curiosity;
 mod gaps;
+mod joins;
 mod knowledge;
 mod knows;
 mod lattices;
@@ -41,6 +42,7 @@ fn call(alloc: Global, row: &str, out: &mut String) -> Result<(), Stop> {
     match family {
         "asks" => asks::answer(alloc, rest, out),
         "gap" => gaps::answer(alloc, rest, out),
+        "joins" => joins::answer(alloc, rest, out),
         "know" => knows::answer(alloc, rest, out),
         "piece" => pieces::answer(alloc, rest, out),
         "stream" => streams::answer(alloc, rest, out),
