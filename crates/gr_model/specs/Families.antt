@@ -24,6 +24,7 @@ IsOfLog _ = ⊥
 abbrev pub IsOfHorizon : Report → Type 0
 IsOfHorizon (line.Got subscriber publisher tick event) = Unit {0}
 IsOfHorizon (line.Horizon subscriber publisher tick) = Unit {0}
+IsOfHorizon (line.Ordered subscriber publisher tick event) = Unit {0}
 IsOfHorizon (line.Doubt broker publisher tick) = Unit {0}
 IsOfHorizon _ = ⊥
 

@@ -13,3 +13,5 @@ pub mod Families
 pub mod NetOf
 pub mod Opening
 pub mod Arrivals
+pub mod Orders
+pub mod Ordered

@@ -20,7 +20,7 @@ use Rattle.gr_model.specs.declared.report.Report.TheVariants.{Cut, Got, Horizon,
 use Rattle.gr_model.specs.declared.report.Report.TheVariants.{Crashed, Swept, RefusedHosts, RefusedFrame, RefusedClock}
 use Rattle.gr_model.specs.declared.report.Report.TheVariants.{DroppedNotFrame, DroppedStray, DroppedClash}
 use Rattle.gr_model.specs.declared.report.Report.TheVariants.{DroppedBadNote, DroppedStrayNote, Damaged, Frames, LogOf}
-use Rattle.gr_model.specs.declared.report.Report.TheVariants.{Doubt, BytesOf}
+use Rattle.gr_model.specs.declared.report.Report.TheVariants.{Doubt, BytesOf, Ordered}
 
 -- The names of brokers, publishers and subscribers by their numbers.
 pub record Labels : Type 0 where
@@ -114,6 +114,8 @@ line_words labels (Got subscriber publisher tick event) =
     codes "got" ∷ labels.subscriber subscriber ∷ labels.publisher publisher ∷ decimal tick ∷ json_text event ∷ []
 line_words labels (Horizon subscriber publisher tick) =
     codes "horizon" ∷ labels.subscriber subscriber ∷ labels.publisher publisher ∷ decimal tick ∷ []
+line_words labels (Ordered subscriber publisher tick event) =
+    codes "ordered" ∷ labels.subscriber subscriber ∷ labels.publisher publisher ∷ decimal tick ∷ json_text event ∷ []
 line_words labels (SentKnow number from to publisher runs) = sent_words labels number from to (codes "know") publisher
     ++ map (run_word know_letter) runs
 line_words labels (SentWant number from to publisher runs) = sent_words labels number from to (codes "want") publisher
@@ -184,6 +186,7 @@ IsNamed t (Mark publisher tick) = publisher < length t.publishers
 IsNamed t (Cut publisher tick) = publisher < length t.publishers
 IsNamed t (Got subscriber publisher tick event) = AreNamed t subscriber publisher
 IsNamed t (Horizon subscriber publisher tick) = AreNamed t subscriber publisher
+IsNamed t (Ordered subscriber publisher tick event) = AreNamed t subscriber publisher
 IsNamed t (SentKnow number from to publisher runs) = IsSentNamed t from to publisher
 IsNamed t (SentWant number from to publisher runs) = IsSentNamed t from to publisher
 IsNamed t (SentExpect number from to publisher tick) = IsSentNamed t from to publisher

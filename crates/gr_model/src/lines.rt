@@ -161,19 +161,23 @@ fn push_gap(
     push_pair(words, b"next", next)
 }
 
-/// The line of an event that a subscriber got.
-fn push_got(
+/// The line of an event that is handed to a subscriber. The first word comes with the blank before it.
+#[inline(always)]
+fn push_handed(
     words: &mut Text,
     topo: &Topology,
+    first: &[u8],
     subscriber: u16,
     publisher: u16,
     tick: u64,
     event: &Event,
 ) -> Result<(), AllocError>
     requires { AreNamed topo.now subscriber publisher }
-    ensures { OnOk result (words.new ≡ words.old ++ row_of topo.now (Report.Got subscriber publisher tick event.now)) }
+    ensures { OnOk result (words.new ≡ words.old ++ (first.now ++ behind_blanks
+        (name_at topo.now.subscribers subscriber ∷ name_at topo.now.publishers publisher ∷ decimal tick ∷
+        json_text event.now ∷ []))) }
 {
-    words.append(b" got")?;
+    words.append(first)?;
     push_subscriber(words, topo, subscriber)?;
     push_publisher(words, topo, publisher)?;
     push_number(words, tick)?;
@@ -637,12 +641,26 @@ fn push_heard(words: &mut Text, report: &Report, topo: &Topology) -> Result<(), 
             publisher,
             tick,
             event,
-        } => push_got(words, topo, *subscriber, *publisher, *tick, event),
+        } => push_handed(words, topo, b" got", *subscriber, *publisher, *tick, event),
         Report::Horizon {
             subscriber,
             publisher,
             tick,
         } => push_horizon(words, topo, *subscriber, *publisher, *tick),
+        Report::Ordered {
+            subscriber,
+            publisher,
+            tick,
+            event,
+        } => push_handed(
+            words,
+            topo,
+            b" ordered",
+            *subscriber,
+            *publisher,
+            *tick,
+            event,
+        ),
         Report::Doubt {
             broker,
             publisher,
@@ -755,9 +773,10 @@ pub(crate) fn push_line(
         | Report::Lost { .. } => push_publish(words, report, topo),
         Report::Opened { .. } | Report::Mark { .. } | Report::Cut { .. } | Report::Damaged { .. } =>
             push_log_change(words, report, topo),
-        Report::Got { .. } | Report::Horizon { .. } | Report::Doubt { .. } => {
-            push_heard(words, report, topo)
-        }
+        Report::Got { .. }
+        | Report::Horizon { .. }
+        | Report::Ordered { .. }
+        | Report::Doubt { .. } => push_heard(words, report, topo),
         Report::SentKnow { .. } | Report::SentWant { .. } | Report::SentExpect { .. } => {
             push_frame(words, report, topo)
         }

@@ -108,6 +108,17 @@ pub enum Report {
         /// Where it stands now.
         tick: u64,
     },
+    /// An event is next in the one list of a subscriber over all publishers.
+    Ordered {
+        /// Which subscriber.
+        subscriber: u16,
+        /// Which publisher.
+        publisher: u16,
+        /// The event's tick.
+        tick: u64,
+        /// The event.
+        event: Event,
+    },
     /// A frame of knowledge was sent.
     SentKnow {
         /// The frame's number among all that were sent, from 1.

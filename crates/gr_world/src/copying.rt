@@ -35,6 +35,7 @@ fn copy_report(alloc: Global, line: &Report) -> Result<Report, Memory>
         Cut { publisher, tick }
         Got { subscriber, publisher, tick; event: event.share() }
         Horizon { subscriber, publisher, tick }
+        Ordered { subscriber, publisher, tick; event: event.share() }
         SentKnow { number, from, to, publisher; runs: runs.copy()? }
         SentWant { number, from, to, publisher; runs: runs.copy()? }
         SentExpect { number, from, to, publisher, tick }
