@@ -1,0 +1,3 @@
+pub mod PlacedLists
+pub mod ReadyLists
+pub mod Taking
