@@ -18,7 +18,8 @@ use Rattle.gr_invariants.specs.Truth.{Facts, TrueF, KnowsTruth, WantsTruth, AllW
 use Rattle.gr_model.specs.Tree.{IsSubscriber}
 use Rattle.gr_invariants.specs.Said.{said_at, TicksRise, due_upto}
 use Rattle.gr_model.specs.declared.report.Report.{Report}
-use Rattle.gr_model.specs.Headline.{History, history, begin, delivered_events, last_horizon, HorizonsRise}
+use Rattle.gr_model.specs.Headline.{History, history, begin, delivered_events, last_horizon}
+use Rattle.gr_invariants.specs.Steady.{Steady}
 
 -- what a log and the horizons of the subscribers say
 abbrev pub facts : Log → (ℕ → ℕ) → Facts
@@ -109,7 +110,9 @@ pub record LinesFit (net : Net) (w : World) (ls : List Report) : Type 0 where
   pub got : (p s : ℕ) → p < net.publishers → IsSubscriber net s → delivered_events s p ls
       ≡ due_upto net p s (reached_in net w p s) (log_of w p).events
   pub horizon : (p s : ℕ) → p < net.publishers → IsSubscriber net s → last_horizon s p 0 ls ≡ reached_in net w p s
-  pub rise : (p s : ℕ) → p < net.publishers → IsSubscriber net s → HorizonsRise s p 0 ls
+  pub steady : (p s : ℕ) → p < net.publishers → IsSubscriber net s → Steady s p 0 0 ls
+  -- from any tick on, so there is no line of a publisher that is not there
+  pub nothing : (p s n : ℕ) → net.publishers ≤ p → Steady s p n n ls
 
 -- the numbers of a step are in range
 abbrev pub StepIn : Net → Step → Type 0

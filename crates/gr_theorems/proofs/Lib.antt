@@ -6,3 +6,4 @@ pub mod cuts
 pub mod sweep
 pub mod headline
 pub mod server
+pub mod order

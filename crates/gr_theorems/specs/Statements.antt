@@ -1,6 +1,7 @@
 -- What the theorems speak of, and what they say of it
-use Rattle.std.specs.Prelude.{◌≡◌, ℕ, ◌≤◌, ◌<◌, ◌^◌, true, false, List, [], map, filter, flat_map, Option, Some, Ok}
-use Rattle.std.specs.List.{AllByRecursion}
+use Rattle.std.specs.Prelude.{◌≡◌, ℕ, ◌≤◌, ◌<◌, ◌^◌, true, false, nat_eq, List, [], map, filter, flat_map, Option, Some}
+use Rattle.std.specs.Prelude.{Ok}
+use Rattle.std.specs.List.{AllByRecursion, list_any}
 use Rattle.gr_frame.specs.declared.Body.TheVariants as body
 use Rattle.gr_frame.specs.declared.Frame.{Frame}
 use Rattle.gr_frame.specs.Bytes.{frame_bytes}
@@ -10,7 +11,7 @@ use Rattle.gr_know.specs.Values.{Known}
 use Rattle.gr_sched.specs.declared.step.Line.{Line}
 use Rattle.gr_model.specs.declared.report.Report.{Report}
 use Rattle.gr_model.specs.Net.{Net, not_empty, numbers}
-use Rattle.gr_model.specs.Tree.{IsNet, IsSubscriber}
+use Rattle.gr_model.specs.Tree.{IsNet, IsSubscriber, IsDistinct}
 use Rattle.gr_model.specs.Broker.{Log, clashes}
 use Rattle.gr_model.specs.World.{World, Transition, view_of, log_of, frame_at, run_all, run_from, start, next}
 use Rattle.gr_model.specs.Opening.{opening, publishers_at, begin_over}
@@ -44,6 +45,11 @@ pub record IsAskedRun (net : Net) (steps : List Line) : Type 0 where
   pub quiet : 1 ≤ net.quiet
   pub retry : 1 ≤ net.retry
   pub steps_in : StepsIn net steps
+
+-- subscribers that are there, each once
+pub record AreTotals (net : Net) (totals : List ℕ) : Type 0 where
+  pub apart : IsDistinct totals
+  pub there : (s : ℕ) → list_any (λ x. nat_eq x s) totals ≡ true → s < net.subscribers
 
 -- a run before a sweep that is not refused
 pub record IsSweptRun (net : Net) (steps : List Line) : Type 0 where

@@ -30,7 +30,10 @@ ghost use Rattle.gr_theorems.specs.Lanes.{AllFollow, IsRunOverLanes, IsServedOve
 ghost use Rattle.gr_theorems.specs.Lanes.{HoldsOverLanes, HoldsServedLanes, CutEventsSilent};
 ghost use Rattle.gr_theorems.specs.Examples.{WorkedExamples};
 ghost use Rattle.gr_theorems.specs.ServedExample.{ServedExamples};
+ghost use Rattle.gr_model.specs.Orders.{orders_over, ordered_steps};
+ghost use Rattle.gr_model.specs.Ordered.{TotallyOrdered};
 ghost use Rattle.gr_theorems.specs.Statements.{IsRun, IsMarkedRun, IsAskedRun, IsSweptRun, IsSpelledRun, IsRunOverLogs};
+ghost use Rattle.gr_theorems.specs.Statements.{AreTotals};
 ghost use Rattle.gr_theorems.specs.Statements.{IsServedRun, world_after, NothingClashes, NothingStrays, AllSpelled};
 ghost use Rattle.gr_theorems.specs.Statements.{AllDecode, AllGetExactly, AllCutsInOrder, HostsMeet, DoubtsStand};
 ghost use Rattle.gr_theorems.specs.Statements.{HoldsOverLogs, OpeningTells, OpeningSendsNothing, RunsOverByRules};
@@ -140,6 +143,15 @@ pub fn replies_stand()
 /// exactly, doubt horizons, horizons rise, discarded only after delivery.
 pub fn headline_always()
     ensures { (net : Net) (steps : List Line) → IsAskedRun net steps → Headline net steps (report_of net steps) }
+{}
+
+/// One order over all publishers: of every schedule, and after each of its steps, each subscriber that gets one list
+/// was told in it exactly the logged events that it wants, of every publisher, up to where it has heard all publishers:
+/// each once, rising by tick and then publisher. What it is told is what `ordered_steps` makes of the lines.
+pub fn ordered_always()
+    ensures { (net : Net) (totals : List ℕ) (steps : List Line) → IsAskedRun net steps → AreTotals net totals →
+        TotallyOrdered net totals steps (report_of net steps)
+        (ordered_steps (orders_over net.publishers totals) (report_of net steps)) }
 {}
 
 /// A sweep settles everything: after every schedule, a sweep that is not refused ends with every kept horizon, what is

@@ -3,7 +3,7 @@
 use Rattle.std.proofs.Common.{◌≡◌, ◌⊎◌, inl, inr, ℕ, suc, ◌+◌, ◌≤◌, ◌<◌, max, Bool, true, false, ◌&&◌, ◌||◌, List, [], ◌∷◌, ◌++◌, map, refl, sym, ap, ap₂, ◌∙◌, subst, Option, Some, None, arith, le_refl, append-nil, append_assoc}
 use Rattle.std.specs.Prelude.{nat_eq, nat_le, nat_lt, if◌then◌else◌, flat_map, filter}
 use Rattle.std.specs.List.{list_any}
-use Rattle.std.proofs.lemmas.Bool.{cases_Bool, cases_lt, cases_eq, false≢true, eq-eqb, ne_eqb, both_ways, leb-true, le-ltb, lt-leb, and_right, or_parts}
+use Rattle.std.proofs.lemmas.Bool.{cases_Bool, cases_lt, cases_eq, false≢true, eq-eqb, ne_eqb, both_ways, leb-true, ltb-true, le-ltb, lt-leb, and_right, or_parts}
 use Rattle.gr_event.specs.declared.event.Event.{Event}
 use Rattle.gr_know.specs.declared.values.K.TheVariants.{Q}
 use Rattle.gr_frame.specs.declared.Frame.{Frame}
@@ -20,11 +20,12 @@ use Rattle.gr_model.specs.World.{sent_line, sent_lines}
 use Rattle.gr_model.specs.Headline.{delivered_events, last_horizon, HorizonsRise}
 use Rattle.gr_invariants.specs.Truth.{KnowsTruth}
 use Rattle.gr_invariants.specs.Said.{said_at, TicksRise, due_upto, due_between}
+use Rattle.gr_invariants.specs.Steady.{Steady}
 use Rattle.gr_invariants.specs.Fits.{facts, LogFits, ViewTrue, BodyTrue}
 use Rattle.gr_model.specs.Tree.{IsNet, IsDistinct}
 use Rattle.gr_invariants.proofs.calls.HostCases.{publish_cases, marking_cases, news_of}
 use Rattle.gr_invariants.proofs.calls.Calls.{learn_horizon, learn_log, trimmed_horizon, silence_true, later_facts, with_event_fits, with_mark_fits, said_more, nothing_true, cutting_same, published_piece}
-use Rattle.gr_invariants.proofs.calls.Told.{told_is_due, Items, said_equal, filter-rises, said_at-filter, kept_by}
+use Rattle.gr_invariants.proofs.calls.Told.{told_is_due, Items, said_equal, filter-rises, said_at-filter, kept_by, TicksUpto, TicksRise-lower}
 use Rattle.gr_invariants.proofs.calls.CallTruth.{joined_true, horizon_after-is, learned_horizon, ViewTrue-later}
 
 -- Lines one after another
@@ -43,29 +44,37 @@ last_horizon-append s p n [] ys = refl
 last_horizon-append s p n (line.Horizon r q t ∷ xs) ys = last_horizon-append s p (if nat_eq r s && nat_eq q p then t else n) xs ys
 last_horizon-append s p n (_ ∷ xs) ys = last_horizon-append s p n xs ys
 
--- horizons that rise in two lists of lines, one from where the other ends, rise in both together
-pub HorizonsRise-append : (s p n : ℕ) (xs ys : List Report) → HorizonsRise s p n xs → HorizonsRise s p (last_horizon s p n xs) ys → HorizonsRise s p n (xs ++ ys)
-HorizonsRise-append s p n [] ys a b = b
-HorizonsRise-append s p n (line.Horizon r q t ∷ xs) ys a b = (a.0, HorizonsRise-append s p (if nat_eq r s && nat_eq q p then t else n) xs ys a.1 b)
-HorizonsRise-append s p n (_ ∷ xs) ys a b = HorizonsRise-append s p n xs ys a b
+-- steady lines, and steady ones from where they end, are steady together
+pub Steady-append : (s p n r : ℕ) (xs ys : List Report) → Steady s p n r xs → Steady s p (last_horizon s p n xs) (last_horizon s p n xs) ys → Steady s p n r (xs ++ ys)
+Steady-append s p n r [] ys a b = subst (λ z. Steady s p n z ys) (sym a) b
+Steady-append s p n r (line.Got q k t e ∷ xs) ys a b = (a.0, Steady-append s p n (if nat_eq q s && nat_eq k p then t else r) xs ys a.1 b)
+Steady-append s p n r (line.Horizon q k t ∷ xs) ys a b = (a.0, Steady-append s p (if nat_eq q s && nat_eq k p then t else n) (if nat_eq q s && nat_eq k p then t else r) xs ys a.1 b)
+Steady-append s p n r (_ ∷ xs) ys a b = Steady-append s p n r xs ys a b
+
+-- the horizons of steady lines rise
+pub steady_rises : (s p n r : ℕ) (ls : List Report) → Steady s p n r ls → HorizonsRise s p n ls
+steady_rises s p n r [] a = tt
+steady_rises s p n r (line.Got q k t e ∷ ls) a = steady_rises s p n (if nat_eq q s && nat_eq k p then t else r) ls a.1
+steady_rises s p n r (line.Horizon q k t ∷ ls) a = (λ x. (a.0 x).0, steady_rises s p (if nat_eq q s && nat_eq k p then t else n) (if nat_eq q s && nat_eq k p then t else r) ls a.1)
+steady_rises s p n r (_ ∷ ls) a = steady_rises s p n r ls a
 
 -- lines that tell s nothing of p
 pub record Neutral (s p : ℕ) (ls : List Report) : Type 0 where
   pub got : delivered_events s p ls ≡ []
   pub horizon : (n : ℕ) → last_horizon s p n ls ≡ n
-  pub rise : (n : ℕ) → HorizonsRise s p n ls
+  pub steady : (n : ℕ) → Steady s p n n ls
 
 -- two lists of lines that tell a subscriber nothing of a publisher tell it nothing together
 pub Neutral-append : (s p : ℕ) (xs ys : List Report) → Neutral s p xs → Neutral s p ys → Neutral s p (xs ++ ys)
 Neutral-append s p xs ys a b = record {
   got = gots-append s p xs ys ∙ ap₂ (λ u v. u ++ v) a.got b.got;
   horizon = λ n. last_horizon-append s p n xs ys ∙ (b.horizon (last_horizon s p n xs) ∙ a.horizon n);
-  rise = λ n. HorizonsRise-append s p n xs ys (a.rise n) (b.rise (last_horizon s p n xs));
+  steady = λ n. Steady-append s p n n xs ys (a.steady n) (b.steady (last_horizon s p n xs));
 }
 
 -- no lines tell nothing
 pub Neutral-nil : (s p : ℕ) → Neutral s p []
-Neutral-nil s p = record { got = refl; horizon = λ n. refl; rise = λ n. tt }
+Neutral-nil s p = record { got = refl; horizon = λ n. refl; steady = λ n. refl }
 
 -- sent lines tell no subscriber anything
 pub sent_lines_neutral : (s p n : ℕ) (fs : List Frame) → Neutral s p (sent_lines n fs)
@@ -74,15 +83,15 @@ sent_lines_neutral s p n [] = Neutral-nil s p
 sent_lines_neutral s p n (f ∷ fs) = Neutral-append s p (sent_line n f ∷ []) (sent_lines (suc n) fs) (one f.body) (sent_lines_neutral s p (suc n) fs)
   where
     one : (y : Body) → Neutral s p ((elim y [ body.Knowledge runs ↦ line.SentKnow n f.head.from f.head.to f.head.publisher runs | body.Curiosity runs ↦ line.SentWant n f.head.from f.head.to f.head.publisher runs | body.Expect tick ↦ line.SentExpect n f.head.from f.head.to f.head.publisher tick ]) ∷ [])
-    one (body.Knowledge runs) = record { got = refl; horizon = λ n. refl; rise = λ n. tt }
-    one (body.Curiosity runs) = record { got = refl; horizon = λ n. refl; rise = λ n. tt }
-    one (body.Expect tick) = record { got = refl; horizon = λ n. refl; rise = λ n. tt }
+    one (body.Knowledge runs) = record { got = refl; horizon = λ n. refl; steady = λ n. refl }
+    one (body.Curiosity runs) = record { got = refl; horizon = λ n. refl; steady = λ n. refl }
+    one (body.Expect tick) = record { got = refl; horizon = λ n. refl; steady = λ n. refl }
 
 -- what a call at b for p, that moves the horizon from h to h', tells
 pub record DeliversUpto (net : Net) (p b h h' : ℕ) (events : Items) (ls : List Report) : Type 0 where
   pub got : (s : ℕ) → list_any (λ x. nat_eq x s) (net.subscribers_at b) ≡ true → delivered_events s p ls ≡ due_between net p s h h' events
   pub horizon : (s : ℕ) → list_any (λ x. nat_eq x s) (net.subscribers_at b) ≡ true → last_horizon s p h ls ≡ h'
-  pub rise : (s : ℕ) → list_any (λ x. nat_eq x s) (net.subscribers_at b) ≡ true → HorizonsRise s p h ls
+  pub steady : (s : ℕ) → list_any (λ x. nat_eq x s) (net.subscribers_at b) ≡ true → Steady s p h h ls
   pub elsewhere : (s q : ℕ) → (q ≡ p → list_any (λ x. nat_eq x s) (net.subscribers_at b) ≡ false) → Neutral s q ls
 
 due_nothing : (net : Net) (p s h : ℕ) (events : Items) → due_between net p s h h events ≡ []
@@ -103,7 +112,7 @@ got_same s p [] = refl
 got_same s p (x ∷ xs) = rw (eq-eqb s s refl, eq-eqb p p refl) (ap (λ zs. x ∷ zs) (got_same s p xs))
 
 got_neutral : (s p r q : ℕ) (xs : Items) → (nat_eq r s && nat_eq q p) ≡ false → Neutral s p (map (got_line r q) xs)
-got_neutral s p r q xs e = record { got = go xs; horizon = λ n. flat xs n; rise = λ n. up xs n }
+got_neutral s p r q xs e = record { got = go xs; horizon = λ n. flat xs n; steady = λ n. up xs n }
   where
     go : (ys : Items) → delivered_events s p (map (got_line r q) ys) ≡ []
     go [] = refl
@@ -113,9 +122,9 @@ got_neutral s p r q xs e = record { got = go xs; horizon = λ n. flat xs n; rise
     flat [] n = refl
     flat (y ∷ ys) n = flat ys n
 
-    up : (ys : Items) (n : ℕ) → HorizonsRise s p n (map (got_line r q) ys)
-    up [] n = tt
-    up (y ∷ ys) n = up ys n
+    up : (ys : Items) (n : ℕ) → Steady s p n n (map (got_line r q) ys)
+    up [] n = refl
+    up (y ∷ ys) n = (λ x. absurd (both_ways (nat_eq r s && nat_eq q p) e x), subst (λ c. Steady s p n (if c then y.0 else n) (map (got_line r q) ys)) (sym e) (up ys n))
 
 got_flat : (s p r q n : ℕ) (xs : Items) → last_horizon s p n (map (got_line r q) xs) ≡ n
 got_flat s p r q n [] = refl
@@ -138,25 +147,49 @@ told_horizon net p h h' s items =
       | inr k ↦ rw (ne_eqb h h' k) (last_horizon-append s p h (map (got_line s p) (filter (λ x. net.wants p s x.0 x.1) items)) (line.Horizon s p h' ∷ []) ∙ rw (eq-eqb s s refl, eq-eqb p p refl) refl)
     ]
 
-told_rise : (net : Net) (p h h' s : ℕ) (items : Items) → h ≤ h' → HorizonsRise s p h (delivery_lines net p h h' items s)
-unfolding delivery_lines
-told_rise net p h h' s items l =
-    elim (cases_eq h h') [
-      | inl k ↦ rw (eq-eqb h h' k) tt
-      | inr k ↦ rw (ne_eqb h h' k) (HorizonsRise-append s p h (map (got_line s p) (filter (λ x. net.wants p s x.0 x.1) items)) (line.Horizon s p h' ∷ []) (up (filter (λ x. net.wants p s x.0 x.1) items) h)
-          (λ _. omega (arith, k, got_flat s p s p h (filter (λ x. net.wants p s x.0 x.1) items)), tt))
-    ]
+own_test : (s p : ℕ) → (nat_eq s s && nat_eq p p) ≡ true
+own_test s p = ap₂ (λ a b. a && b) (eq-eqb s s refl) (eq-eqb p p refl)
+
+-- events that rise past what was got or heard, and then a horizon that is past them all
+gots_then_horizon : (s p n r h : ℕ) (xs : Items) → n < h → r ≤ h → TicksRise r xs → TicksUpto h xs → Steady s p n r (map (got_line s p) xs ++ line.Horizon s p h ∷ [])
+gots_then_horizon s p n r h [] l k a b = (λ x. (l, k), rw (eq-eqb s s refl, eq-eqb p p refl) refl)
+gots_then_horizon s p n r h (x ∷ xs) l k a b =
+    (λ y. a.0, subst (λ c. Steady s p n (if c then x.0 else r) (map (got_line s p) xs ++ line.Horizon s p h ∷ [])) (sym (own_test s p)) (gots_then_horizon s p n x.0 h xs l b.0 a.1 b.1))
+
+-- events that are due between two horizons rise from the first and do not pass the second
+due_rises : (net : Net) (p s lo hi from : ℕ) (events : Items) → TicksRise from events → TicksRise (max from lo) (due_between net p s lo hi events) × TicksUpto hi (due_between net p s lo hi events)
+due_rises net p s lo hi from [] r = (tt, tt)
+due_rises net p s lo hi from (x ∷ xs) r = go (nat_lt lo x.0) (nat_le x.0 hi) (net.wants p s x.0 x.1) refl refl (due_rises net p s lo hi x.0 xs r.1)
   where
-    up : (ys : Items) (n : ℕ) → HorizonsRise s p n (map (got_line s p) ys)
-    up [] n = tt
-    up (y ∷ ys) n = up ys n
+    rest : Items
+    rest = due_between net p s lo hi xs
+
+    lower : TicksRise (max x.0 lo) rest × TicksUpto hi rest → TicksRise (max from lo) rest × TicksUpto hi rest
+    lower a = (let k = r.0 in TicksRise-lower (max from lo) (max x.0 lo) rest (omega (arith, k)) a.0, a.1)
+
+    go : (u v c : Bool) → nat_lt lo x.0 ≡ u → nat_le x.0 hi ≡ v → TicksRise (max x.0 lo) rest × TicksUpto hi rest → TicksRise (max from lo) (if (u && v) && c then x ∷ rest else rest) × TicksUpto hi (if (u && v) && c then x ∷ rest else rest)
+    go true true true y z a =
+        let past = ltb-true lo x.0 y in let upto = leb-true x.0 hi z in let k = r.0 in
+        let same : max x.0 lo ≡ x.0 = omega (arith, past) in
+        ((omega (arith, past, k), subst (λ m. TicksRise m rest) same a.0), (upto, a.1))
+    go true true false y z a = lower a
+    go true false c y z a = lower a
+    go false v c y z a = lower a
+
+told_steady : (net : Net) (p h h' s : ℕ) (items due : Items) → h ≤ h' → filter (λ x. net.wants p s x.0 x.1) items ≡ due → TicksRise h due → TicksUpto h' due → Steady s p h h (delivery_lines net p h h' items s)
+unfolding delivery_lines
+told_steady net p h h' s items due l e a b =
+    elim (cases_eq h h') [
+      | inl k ↦ rw (eq-eqb h h' k) refl
+      | inr k ↦ rw (ne_eqb h h' k) (subst (λ zs. Steady s p h h (map (got_line s p) zs ++ line.Horizon s p h' ∷ [])) (sym e) (gots_then_horizon s p h h h' due (omega (arith, k, l)) l a b))
+    ]
 
 told_neutral : (net : Net) (p h h' r s q : ℕ) (items : Items) → (nat_eq r s && nat_eq p q) ≡ false → Neutral s q (delivery_lines net p h h' items r)
 unfolding delivery_lines
 told_neutral net p h h' r s q items e =
     elim (cases_Bool (nat_eq h h')) [
       | inl k ↦ rw k (Neutral-nil s q)
-      | inr k ↦ rw k (Neutral-append s q (map (got_line r p) (filter (λ x. net.wants p r x.0 x.1) items)) (line.Horizon r p h' ∷ []) (got_neutral s q r p (filter (λ x. net.wants p r x.0 x.1) items) e) (record { got = refl; horizon = λ n. rw e refl; rise = λ n. (λ x. absurd (both_ways (nat_eq r s && nat_eq p q) e x), tt) }))
+      | inr k ↦ rw k (Neutral-append s q (map (got_line r p) (filter (λ x. net.wants p r x.0 x.1) items)) (line.Horizon r p h' ∷ []) (got_neutral s q r p (filter (λ x. net.wants p r x.0 x.1) items) e) (record { got = refl; horizon = λ n. rw e refl; steady = λ n. (λ x. absurd (both_ways (nat_eq r s && nat_eq p q) e x), refl) }))
     ]
 
 -- what all subscribers of a broker are told
@@ -170,23 +203,23 @@ all_neutral net p h h' s q items (x ∷ xs) n =
     ]))
     (all_neutral net p h h' s q items xs (λ e. (or_parts (nat_eq x s) (list_any (λ y. nat_eq y s) xs) (n e)).1))
 
-all_got : (net : Net) (p h h' s : ℕ) (items due : Items) (xs : List ℕ) → IsDistinct xs → list_any (λ x. nat_eq x s) xs ≡ true → h ≤ h' → filter (λ x. net.wants p s x.0 x.1) items ≡ due → (h ≡ h' → due ≡ []) →
-    (delivered_events s p (flat_map (delivery_lines net p h h' items) xs) ≡ due) × (last_horizon s p h (flat_map (delivery_lines net p h h' items) xs) ≡ h') × HorizonsRise s p h (flat_map (delivery_lines net p h h' items) xs)
-all_got net p h h' s items due [] d m l e z = absurd (false≢true m)
-all_got net p h h' s items due (x ∷ xs) d m l e z =
+all_got : (net : Net) (p h h' s : ℕ) (items due : Items) (xs : List ℕ) → IsDistinct xs → list_any (λ x. nat_eq x s) xs ≡ true → h ≤ h' → filter (λ x. net.wants p s x.0 x.1) items ≡ due → (h ≡ h' → due ≡ []) → TicksRise h due → TicksUpto h' due →
+    (delivered_events s p (flat_map (delivery_lines net p h h' items) xs) ≡ due) × (last_horizon s p h (flat_map (delivery_lines net p h h' items) xs) ≡ h') × Steady s p h h (flat_map (delivery_lines net p h h' items) xs)
+all_got net p h h' s items due [] d m l e z a b = absurd (false≢true m)
+all_got net p h h' s items due (x ∷ xs) d m l e z a b =
     elim (cases_eq x s) [
       | inl k ↦
           let rest = all_neutral net p h h' s p items xs (λ _. subst (λ y. list_any (λ a. nat_eq a y) xs ≡ false) k d.0) in (
             gots-append s p (delivery_lines net p h h' items x) (flat_map (delivery_lines net p h h' items) xs) ∙ (ap₂ (λ u v. u ++ v) (subst (λ y. delivered_events s p (delivery_lines net p h h' items y) ≡ due) (sym k) (told_got net p h h' s items due e z)) rest.got ∙ append-nil due),
             last_horizon-append s p h (delivery_lines net p h h' items x) (flat_map (delivery_lines net p h h' items) xs) ∙ (rest.horizon (last_horizon s p h (delivery_lines net p h h' items x)) ∙ subst (λ y. last_horizon s p h (delivery_lines net p h h' items y) ≡ h') (sym k) (told_horizon net p h h' s items)),
-            HorizonsRise-append s p h (delivery_lines net p h h' items x) (flat_map (delivery_lines net p h h' items) xs) (subst (λ y. HorizonsRise s p h (delivery_lines net p h h' items y)) (sym k) (told_rise net p h h' s items l)) (rest.rise (last_horizon s p h (delivery_lines net p h h' items x))),
+            Steady-append s p h h (delivery_lines net p h h' items x) (flat_map (delivery_lines net p h h' items) xs) (subst (λ y. Steady s p h h (delivery_lines net p h h' items y)) (sym k) (told_steady net p h h' s items due l e a b)) (rest.steady (last_horizon s p h (delivery_lines net p h h' items x))),
           )
       | inr k ↦
           let first = told_neutral net p h h' x s p items (ap (λ b. b && nat_eq p p) (ne_eqb x s k)) in
-          let rest = all_got net p h h' s items due xs d.1 (subst (λ b. (b || list_any (λ a. nat_eq a s) xs) ≡ true) (ne_eqb x s k) m) l e z in (
+          let rest = all_got net p h h' s items due xs d.1 (subst (λ b. (b || list_any (λ a. nat_eq a s) xs) ≡ true) (ne_eqb x s k) m) l e z a b in (
             gots-append s p (delivery_lines net p h h' items x) (flat_map (delivery_lines net p h h' items) xs) ∙ (ap (λ u. u ++ delivered_events s p (flat_map (delivery_lines net p h h' items) xs)) first.got ∙ rest.0),
             last_horizon-append s p h (delivery_lines net p h h' items x) (flat_map (delivery_lines net p h h' items) xs) ∙ (ap (λ n. last_horizon s p n (flat_map (delivery_lines net p h h' items) xs)) (first.horizon h) ∙ rest.1),
-            HorizonsRise-append s p h (delivery_lines net p h h' items x) (flat_map (delivery_lines net p h h' items) xs) (first.rise h) (subst (λ n. HorizonsRise s p n (flat_map (delivery_lines net p h h' items) xs)) (sym (first.horizon h)) rest.2),
+            Steady-append s p h h (delivery_lines net p h h' items x) (flat_map (delivery_lines net p h h' items) xs) (first.steady h) (subst (λ n. Steady s p n n (flat_map (delivery_lines net p h h' items) xs)) (sym (first.horizon h)) rest.2),
           )
     ]
 
@@ -203,11 +236,12 @@ learn_tells net p b piece v log reached n i j fit h k exact =
     let here = λ (s : ℕ) (m : list_any (λ x. nat_eq x s) (net.subscribers_at b) ≡ true).
     all_got net p v.horizon h' s items (due_between net p s v.horizon h' log.events) (net.subscribers_at b) (n.distinct b j) m moves.on
     (told_is_due net f p b s v.horizon h' know log.events t moves.known (n.here_below p b s i j m) (exact s m) fit.rise (λ u. refl))
-    (λ e. subst (λ z. due_between net p s v.horizon z log.events ≡ []) e (due_nothing net p s v.horizon log.events)) in
+    (λ e. subst (λ z. due_between net p s v.horizon z log.events ≡ []) e (due_nothing net p s v.horizon log.events))
+    (let zero : max 0 v.horizon ≡ v.horizon = omega arith in subst (λ m. TicksRise m (due_between net p s v.horizon h' log.events)) zero (due_rises net p s v.horizon h' 0 log.events fit.rise).0) (due_rises net p s v.horizon h' 0 log.events fit.rise).1 in
     record {
       got = λ s m. (here s m).0;
       horizon = λ s m. (here s m).1;
-      rise = λ s m. (here s m).2;
+      steady = λ s m. (here s m).2;
       elsewhere = λ s q a. all_neutral net p v.horizon h' s q items (net.subscribers_at b) a;
     }
 
@@ -225,7 +259,7 @@ Tells-silent : (net : Net) (p b h h' : ℕ) (events : Items) (ls : List Report) 
 Tells-silent net p b h h' events ls e n = subst (λ z. DeliversUpto net p b h z events ls) e (record {
   got = λ s m. (n s p).got ∙ sym (due_nothing net p s h events);
   horizon = λ s m. (n s p).horizon h;
-  rise = λ s m. (n s p).rise h;
+  steady = λ s m. (n s p).steady h;
   elsewhere = λ s q a. n s q;
 })
 
@@ -234,7 +268,7 @@ Tells-before : (net : Net) (p b h h' : ℕ) (events : Items) (pre ls : List Repo
 Tells-before net p b h h' events pre ls n t = record {
   got = λ s m. gots-append s p pre ls ∙ (ap (λ z. z ++ delivered_events s p ls) (n s p).got ∙ t.got s m);
   horizon = λ s m. last_horizon-append s p h pre ls ∙ (ap (λ z. last_horizon s p z ls) ((n s p).horizon h) ∙ t.horizon s m);
-  rise = λ s m. HorizonsRise-append s p h pre ls ((n s p).rise h) (subst (λ z. HorizonsRise s p z ls) (sym ((n s p).horizon h)) (t.rise s m));
+  steady = λ s m. Steady-append s p h h pre ls ((n s p).steady h) (subst (λ z. Steady s p z z ls) (sym ((n s p).horizon h)) (t.steady s m));
   elsewhere = λ s q a. Neutral-append s q pre ls (n s q) (t.elsewhere s q a);
 }
 
@@ -305,7 +339,7 @@ wake_host_tells net p b now v log reached n i j host fit h exact =
     let cut : List Report = if nat_lt o.log.cut (cutting net p b o.view o.log).cut then line.Cut p (cutting net p b o.view o.log).cut ∷ [] else [] in
     subst (λ z. DeliversUpto net p b v.horizon o.view.horizon z (wake_host net p b now v log).lines) (sym s.events)
     (Tells-before net p b v.horizon o.view.horizon o.log.events (mark ++ cut) o.lines
-    (λ x q. Neutral-append x q mark cut (if_silent (nat_lt log.settled o.log.settled) (line.Mark p now) (λ x q. record { got = refl; horizon = λ n. refl; rise = λ n. tt }) x q) (if_silent (nat_lt o.log.cut (cutting net p b o.view o.log).cut) (line.Cut p (cutting net p b o.view o.log).cut) (λ x q. record { got = refl; horizon = λ n. refl; rise = λ n. tt }) x q))
+    (λ x q. Neutral-append x q mark cut (if_silent (nat_lt log.settled o.log.settled) (line.Mark p now) (λ x q. record { got = refl; horizon = λ n. refl; steady = λ n. refl }) x q) (if_silent (nat_lt o.log.cut (cutting net p b o.view o.log).cut) (line.Cut p (cutting net p b o.view o.log).cut) (λ x q. record { got = refl; horizon = λ n. refl; steady = λ n. refl }) x q))
     (marking_tells net p b now v log reached n i j host fit h exact))
 
 -- a wake delivers exactly what is due between the horizon before and after
@@ -321,11 +355,11 @@ wake_tells net p b now v log reached n i j fit h exact = go (is_host net p b) re
 pub publish_tells : (net : Net) (p b now number : ℕ) (e : Event) (v : View) (log : Log) (reached : ℕ → ℕ) → IsNet net → p < net.publishers → b < net.brokers → is_host net p b ≡ true → LogFits log → ViewTrue net (facts log reached) p b v → Exact net b v reached → CallTells net p b v (publish net p b now number e v log)
 publish_tells net p b now number e v log reached n i j host fit h exact =
     publish_cases net p b now number e v log (CallTells net p b v)
-    (λ l. still_tells net p b v log _ (λ s q. record { got = refl; horizon = λ n. refl; rise = λ n. tt }))
-    (λ l. still_tells net p b v log _ (λ s q. record { got = refl; horizon = λ n. refl; rise = λ n. tt }))
-    (λ x l. still_tells net p b v log _ (λ s q. record { got = refl; horizon = λ n. refl; rise = λ n. tt }))
+    (λ l. still_tells net p b v log _ (λ s q. record { got = refl; horizon = λ n. refl; steady = λ n. refl }))
+    (λ l. still_tells net p b v log _ (λ s q. record { got = refl; horizon = λ n. refl; steady = λ n. refl }))
+    (λ x l. still_tells net p b v log _ (λ s q. record { got = refl; horizon = λ n. refl; steady = λ n. refl }))
     (λ x l.
-    Tells-before net p b v.horizon o.view.horizon o.log.events (line.Logged p number tick ∷ []) o.lines (λ s q. record { got = refl; horizon = λ n. refl; rise = λ n. tt })
+    Tells-before net p b v.horizon o.view.horizon o.log.events (line.Logged p number tick ∷ []) o.lines (λ s q. record { got = refl; horizon = λ n. refl; steady = λ n. refl })
     (learn_call_tells net p b (news_of log tick e) v new reached n i j (with_event_fits log tick e fit (omega arith))
     (ViewTrue-later net (facts log reached) (facts new reached) p b v (later_facts log new reached reached (omega arith) (λ t x. said_more log.events tick t e (λ q. omega (arith, q))) (λ s. le_refl (reached s))) h)
     (published_piece net p b tick e log reached host fit (omega arith)) exact))

@@ -148,7 +148,8 @@ restarts_lines net w u b ls n f r m = record {
       (λ z h. sym (r.said q z x (le_trans (subst (λ k. z ≤ k) (reached_here net w q s y) h) (f.views q (net.at s) x y.at_in).horizon.settled)))
       ∙ ap (λ h. due_upto net q s h (log_of u q).events) (same q s y));
   horizon = λ q s x y. m.horizon q s x y ∙ same q s y;
-  rise = m.rise;
+  steady = m.steady;
+  nothing = m.nothing;
 }
   where
     not_there : (s : ℕ) → IsSubscriber net s → net.at s ≢ b
@@ -236,7 +237,7 @@ unfolding opened_lines
 opened_silent net logs b s q = go (numbers net.publishers)
   where
     one : (p : ℕ) (c : Bool) → Neutral s q (let log = get_or logs p empty_log in if c then line.Opened p log.last log.settled log.cut ∷ [] else [])
-    one p true = record { got = refl; horizon = λ n. refl; rise = λ n. tt }
+    one p true = record { got = refl; horizon = λ n. refl; steady = λ n. refl }
     one p false = Neutral-nil s q
 
     go : (ps : List ℕ) → Neutral s q (flat_map (λ p. let log = get_or logs p empty_log in if nat_eq (net.host p) b && nat_lt 0 log.settled then line.Opened p log.last log.settled log.cut ∷ [] else []) ps)
@@ -250,7 +251,7 @@ silent_on l ls a b s q = Neutral-append s q (l ∷ []) ls (a s q) (b s q)
 -- the crash of a broker without subscribers keeps the world fitting
 pub crash_kept : (net : Net) (w : World) (b : ℕ) → IsNet net → WorldFits net w → b < net.brokers → not_empty (net.subscribers_at b) ≡ false → Kept net w (crash net w b)
 unfolding crash
-crash_kept net w b n f i no_one = restarts_kept net w (restarted net w b) b (line.Crashed b ∷ opened_lines net w.logs b) n f i (restarted_is net w w.logs b f i no_one f.logs (λ q x. le_refl (log_of w q).settled) (λ q t x y. refl) (λ q x. refl) (λ q x e. refl) f.logs_long) (silent_on (line.Crashed b) (opened_lines net w.logs b) (λ s q. record { got = refl; horizon = λ n. refl; rise = λ n. tt }) (opened_silent net w.logs b))
+crash_kept net w b n f i no_one = restarts_kept net w (restarted net w b) b (line.Crashed b ∷ opened_lines net w.logs b) n f i (restarted_is net w w.logs b f i no_one f.logs (λ q x. le_refl (log_of w q).settled) (λ q t x y. refl) (λ q x. refl) (λ q x e. refl) f.logs_long) (silent_on (line.Crashed b) (opened_lines net w.logs b) (λ s q. record { got = refl; horizon = λ n. refl; steady = λ n. refl }) (opened_silent net w.logs b))
 
 -- the record of a stopped publish stands, and the host starts again
 kept_restart : (net : Net) (w : World) (p tick : ℕ) (e : Event) (more : List Report) → Silent more → IsNet net → WorldFits net w → p < net.publishers → not_empty (net.subscribers_at (net.host p)) ≡ false → (log_of w p).settled < tick →
@@ -313,8 +314,8 @@ publish_stopped_kept net w k p number stop e n f j = host_at (not_empty (net.sub
     told q l = line.Crashed (net.host p) ∷ ((if q then line.Kept p number tick else line.Lost p number tick) ∷ opened_lines net l (net.host p))
 
     word_silent : (q : Bool) (l : List Log) → Silent (told q l)
-    word_silent true l = silent_on (line.Crashed (net.host p)) _ (λ s q. record { got = refl; horizon = λ n. refl; rise = λ n. tt }) (silent_on (line.Kept p number tick) _ (λ s q. record { got = refl; horizon = λ n. refl; rise = λ n. tt }) (opened_silent net l (net.host p)))
-    word_silent false l = silent_on (line.Crashed (net.host p)) _ (λ s q. record { got = refl; horizon = λ n. refl; rise = λ n. tt }) (silent_on (line.Lost p number tick) _ (λ s q. record { got = refl; horizon = λ n. refl; rise = λ n. tt }) (opened_silent net l (net.host p)))
+    word_silent true l = silent_on (line.Crashed (net.host p)) _ (λ s q. record { got = refl; horizon = λ n. refl; steady = λ n. refl }) (silent_on (line.Kept p number tick) _ (λ s q. record { got = refl; horizon = λ n. refl; steady = λ n. refl }) (opened_silent net l (net.host p)))
+    word_silent false l = silent_on (line.Crashed (net.host p)) _ (λ s q. record { got = refl; horizon = λ n. refl; steady = λ n. refl }) (silent_on (line.Lost p number tick) _ (λ s q. record { got = refl; horizon = λ n. refl; steady = λ n. refl }) (opened_silent net l (net.host p)))
 
     restart_at : (q : Bool) → not_empty (net.subscribers_at (net.host p)) ≡ false → (let l : List Log = if q then set w.logs p (with_event log tick e) else w.logs in Kept net w (record { world = restarted net (record { clock = w.clock; most = w.most; frames = w.frames; views = w.views; logs = l }) (net.host p); lines = told q l }))
     restart_at true no_one = kept_restart net w p tick e (told true (set w.logs p (with_event log tick e))) (word_silent true (set w.logs p (with_event log tick e))) n f j no_one (omega arith)
@@ -325,7 +326,7 @@ publish_stopped_kept net w k p number stop e n f j = host_at (not_empty (net.sub
     number_at true no_one = restart_at kept no_one
 
     host_at : (q : Bool) → not_empty (net.subscribers_at (net.host p)) ≡ q → Kept net w (elim q [ true ↦ unchanged w (line.RefusedHosts k (net.host p) ∷ []) | false ↦ elim (nat_eq number (suc log.last) && nat_le tick max_tick) [ false ↦ publish_now net w p number e | true ↦ stopped ] ])
-    host_at true h = Kept-still net w _ f (λ s q. record { got = refl; horizon = λ n. refl; rise = λ n. tt })
+    host_at true h = Kept-still net w _ f (λ s q. record { got = refl; horizon = λ n. refl; steady = λ n. refl })
     host_at false h = number_at (nat_eq number (suc log.last) && nat_le tick max_tick) h
 
 -- a world with another clock
@@ -336,7 +337,7 @@ clocked_fits net w clock most f = record { views_long = f.views_long; rows_long 
     same q = record { settled = le_refl (log_of w q).settled; said = λ t y. refl; reached = λ s. le_refl (reached_in net w q s) }
 
 from_clock : (net : Net) (w : World) (clock most : ℕ) (t : Transition) → Kept net (record { clock = clock; most = most; frames = w.frames; views = w.views; logs = w.logs }) t → Kept net w t
-from_clock net w clock most t k = record { fits = k.fits; later = k.later; lines = λ ls l. k.lines ls (record { got = l.got; horizon = l.horizon; rise = l.rise }) }
+from_clock net w clock most t k = record { fits = k.fits; later = k.later; lines = λ ls l. k.lines ls (record { got = l.got; horizon = l.horizon; steady = l.steady; nothing = l.nothing }) }
 
 -- a sweep keeps the world fitting
 pub sweep_kept : (net : Net) (w : World) (k : ℕ) → IsNet net → WorldFits net w → Kept net w (sweep net w k)
@@ -350,22 +351,22 @@ sweep_kept net w k n f = go (nat_lt max_tick m)
     u = record { clock = m; most = max m w.most; frames = w.frames; views = w.views; logs = w.logs }
 
     go : (q : Bool) → Kept net w (elim q [ true ↦ unchanged w (line.RefusedClock k m ∷ []) | false ↦ followed_by (in_turn (sweep_for net) (numbers net.publishers) u) (λ x. unchanged x (line.Swept m ∷ [])) ])
-    go true = Kept-still net w (line.RefusedClock k m ∷ []) f (λ s q. record { got = refl; horizon = λ n. refl; rise = λ n. tt })
+    go true = Kept-still net w (line.RefusedClock k m ∷ []) f (λ s q. record { got = refl; horizon = λ n. refl; steady = λ n. refl })
     go false =
         let swept = in_turn_kept net (λ x p. p < net.publishers) (sweep_for net) (λ x y p l h. h) (λ x p g h. sweep_for_kept net x p n g h) (numbers net.publishers) u (clocked_fits net w m (max m w.most) f) (numbers_below 0 net.publishers net.publishers (omega arith)) in
         from_clock net w m (max m w.most) (followed_by (in_turn (sweep_for net) (numbers net.publishers) u) (λ x. unchanged x (line.Swept m ∷ [])))
-        (Kept-after net u (in_turn (sweep_for net) (numbers net.publishers) u) (λ x. unchanged x (line.Swept m ∷ [])) swept (Kept-still net (in_turn (sweep_for net) (numbers net.publishers) u).world (line.Swept m ∷ []) swept.fits (λ s q. record { got = refl; horizon = λ n. refl; rise = λ n. tt })))
+        (Kept-after net u (in_turn (sweep_for net) (numbers net.publishers) u) (λ x. unchanged x (line.Swept m ∷ [])) swept (Kept-still net (in_turn (sweep_for net) (numbers net.publishers) u).world (line.Swept m ∷ []) swept.fits (λ s q. record { got = refl; horizon = λ n. refl; steady = λ n. refl })))
 
 show_silent : (net : Net) (w : World) → Silent (show net w)
 unfolding show
-show_silent net w s q = Neutral-append s q (line.Frames (length w.frames) ∷ []) _ (record { got = refl; horizon = λ n. refl; rise = λ n. tt }) (Neutral-append s q _ _ (logs (numbers net.publishers)) (brokers (numbers net.brokers)))
+show_silent net w s q = Neutral-append s q (line.Frames (length w.frames) ∷ []) _ (record { got = refl; horizon = λ n. refl; steady = λ n. refl }) (Neutral-append s q _ _ (logs (numbers net.publishers)) (brokers (numbers net.brokers)))
   where
     logs : (ps : List ℕ) → Neutral s q (map (λ p. let l = log_of w p in line.LogOf p l.last l.settled l.cut (kept_events l)) ps)
     logs [] = Neutral-nil s q
-    logs (p ∷ ps) = Neutral-append s q (line.LogOf p (log_of w p).last (log_of w p).settled (log_of w p).cut (kept_events (log_of w p)) ∷ []) _ (record { got = refl; horizon = λ n. refl; rise = λ n. tt }) (logs ps)
+    logs (p ∷ ps) = Neutral-append s q (line.LogOf p (log_of w p).last (log_of w p).settled (log_of w p).cut (kept_events (log_of w p)) ∷ []) _ (record { got = refl; horizon = λ n. refl; steady = λ n. refl }) (logs ps)
 
     one : (b p : ℕ) (c : Bool) → Neutral s q (if c then line.Doubt b p (view_of w b p).horizon ∷ [] else [])
-    one b p true = record { got = refl; horizon = λ n. refl; rise = λ n. tt }
+    one b p true = record { got = refl; horizon = λ n. refl; steady = λ n. refl }
     one b p false = Neutral-nil s q
 
     row : (b : ℕ) (ps : List ℕ) → Neutral s q (flat_map (λ p. if keeps_horizon net p b then line.Doubt b p (view_of w b p).horizon ∷ [] else []) ps)
@@ -403,15 +404,15 @@ unfolding next_by
 next_kept net w l n f i = go l.step i
   where
     delivered : (k : ℕ) (o : Option Frame) → frame_at w k ≡ o → Kept net w (elim o [ None ↦ unchanged w (line.RefusedFrame l.number k (length w.frames) ∷ []) | Some x ↦ deliver_frame net w x ])
-    delivered k None e = Kept-still net w _ f (λ s q. record { got = refl; horizon = λ n. refl; rise = λ n. tt })
+    delivered k None e = Kept-still net w _ f (λ s q. record { got = refl; horizon = λ n. refl; steady = λ n. refl })
     delivered k (Some x) e = deliver_kept net w x n f (frame_at_true net w k x f e)
 
     bytes_at : (k : ℕ) (o : Option Frame) → Kept net w (elim o [ None ↦ unchanged w (line.RefusedFrame l.number k (length w.frames) ∷ []) | Some x ↦ unchanged w (line.BytesOf k (frame_bytes x) ∷ []) ])
-    bytes_at k None = Kept-still net w _ f (λ s q. record { got = refl; horizon = λ n. refl; rise = λ n. tt })
-    bytes_at k (Some x) = Kept-still net w _ f (λ s q. record { got = refl; horizon = λ n. refl; rise = λ n. tt })
+    bytes_at k None = Kept-still net w _ f (λ s q. record { got = refl; horizon = λ n. refl; steady = λ n. refl })
+    bytes_at k (Some x) = Kept-still net w _ f (λ s q. record { got = refl; horizon = λ n. refl; steady = λ n. refl })
 
     crashed : (b : ℕ) (q : Bool) → b < net.brokers → not_empty (net.subscribers_at b) ≡ q → Kept net w (elim q [ true ↦ unchanged w (line.RefusedHosts l.number b ∷ []) | false ↦ crash net w b ])
-    crashed b true h e = Kept-still net w _ f (λ s q. record { got = refl; horizon = λ n. refl; rise = λ n. tt })
+    crashed b true h e = Kept-still net w _ f (λ s q. record { got = refl; horizon = λ n. refl; steady = λ n. refl })
     crashed b false h e = crash_kept net w b n f h e
 
     published : (p number : ℕ) (stop : Option Stop) (e : Event) → p < net.publishers → Kept net w (elim stop [ None ↦ publish_now net w p number e | Some s ↦ publish_stopped net w l.number p number s e ])
@@ -516,7 +517,8 @@ pub start_lines : (net : Net) → LinesFit net (start net) []
 start_lines net = record {
   got = λ p s j y. sym (ap₂ (λ h l. due_upto net p s h l.events) (start_reached net p s j y) (start_log net p j));
   horizon = λ p s j y. sym (start_reached net p s j y);
-  rise = λ p s j y. tt;
+  steady = λ p s j y. refl;
+  nothing = λ p s n j. refl;
 }
 
 -- over every schedule each subscriber got what is due up to its horizon

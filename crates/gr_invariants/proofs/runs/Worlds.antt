@@ -16,9 +16,10 @@ use Rattle.gr_invariants.specs.Truth.{Facts, IsLater}
 use Rattle.gr_invariants.specs.Said.{said_at, due_upto, due_between}
 use Rattle.gr_invariants.specs.Fits.{facts, reached_in, facts_of, LogFits, ViewTrue, HostKnows, CutTrue, BodyTrue, FrameFits, AllFit, FrameTrue, AllFramesTrue, WorldFits, LinesFit}
 use Rattle.gr_model.specs.Tree.{IsNet, IsSubscriber}
-use Rattle.gr_model.specs.Headline.{delivered_events, last_horizon, HorizonsRise}
+use Rattle.gr_model.specs.Headline.{delivered_events, last_horizon}
+use Rattle.gr_invariants.specs.Steady.{Steady}
 use Rattle.gr_invariants.proofs.calls.Told.{due_more}
-use Rattle.gr_invariants.proofs.calls.Telling.{gots-append, last_horizon-append, HorizonsRise-append, Neutral, Neutral-append, Neutral-nil, sent_lines_neutral, CallTells, Silent, due_upto_same, wake_tells, receive_tells, publish_tells}
+use Rattle.gr_invariants.proofs.calls.Telling.{gots-append, last_horizon-append, Steady-append, Neutral, Neutral-append, Neutral-nil, sent_lines_neutral, CallTells, Silent, due_upto_same, wake_tells, receive_tells, publish_tells}
 use Rattle.gr_invariants.proofs.calls.TruthTicks.{TrueF-later}
 use Rattle.gr_invariants.proofs.calls.CallTruth.{ViewTrue-later, KnowsTruth-later, WantsTruth-later, AllTrue}
 use Rattle.gr_invariants.proofs.calls.Calls.{ComeOn, CallTrue, publish_call, wake_call, receive_call}
@@ -237,15 +238,16 @@ lines_absorbed net w u b p k o fs n f g i j t told c ls l = record {
     ])
     | inr e ↦ last_horizon-append s q 0 ls (o.lines ++ sent_lines k fs) ∙ ((quiet_at q s (λ h. absurd (e h))).horizon (last_horizon s q 0 ls) ∙ (l.horizon q s x y ∙ (reached_here net w q s y ∙ (ap (λ v. v.horizon) (sym (c.other_publisher (net.at s) q e)) ∙ sym (reached_here net u q s y)))))
   ];
-  rise = λ q s x y. elim (cases_eq q p) [
-    | inl e ↦ subst (λ z. HorizonsRise s z 0 (ls ++ (o.lines ++ sent_lines k fs))) (sym e) (HorizonsRise-append s p 0 ls (o.lines ++ sent_lines k fs) (l.rise p s j y) (elim (cases_eq (net.at s) b) [
+  steady = λ q s x y. elim (cases_eq q p) [
+    | inl e ↦ subst (λ z. Steady s z 0 0 (ls ++ (o.lines ++ sent_lines k fs))) (sym e) (Steady-append s p 0 0 ls (o.lines ++ sent_lines k fs) (l.steady p s j y) (elim (cases_eq (net.at s) b) [
       | inl a ↦
           let m : list_any (λ y. nat_eq y s) (net.subscribers_at b) ≡ true = subst (λ z. list_any (λ y. nat_eq y s) (net.subscribers_at z) ≡ true) a y.here in
-          subst (λ z. HorizonsRise s p z (o.lines ++ sent_lines k fs)) (sym (l.horizon p s j y ∙ exact_at net w b p n i s m)) (HorizonsRise-append s p (view_of w b p).horizon o.lines (sent_lines k fs) (told.rise s m) ((sent_lines_neutral s p k fs).rise (last_horizon s p (view_of w b p).horizon o.lines)))
-      | inr a ↦ (quiet_at p s (λ e. not_here s y a)).rise (last_horizon s p 0 ls)
+          subst (λ z. Steady s p z z (o.lines ++ sent_lines k fs)) (sym (l.horizon p s j y ∙ exact_at net w b p n i s m)) (Steady-append s p (view_of w b p).horizon (view_of w b p).horizon o.lines (sent_lines k fs) (told.steady s m) ((sent_lines_neutral s p k fs).steady (last_horizon s p (view_of w b p).horizon o.lines)))
+      | inr a ↦ (quiet_at p s (λ e. not_here s y a)).steady (last_horizon s p 0 ls)
     ]))
-    | inr e ↦ HorizonsRise-append s q 0 ls (o.lines ++ sent_lines k fs) (l.rise q s x y) ((quiet_at q s (λ h. absurd (e h))).rise (last_horizon s q 0 ls))
+    | inr e ↦ Steady-append s q 0 0 ls (o.lines ++ sent_lines k fs) (l.steady q s x y) ((quiet_at q s (λ h. absurd (e h))).steady (last_horizon s q 0 ls))
   ];
+  nothing = λ q s m x. Steady-append s q m m ls (o.lines ++ sent_lines k fs) (l.nothing q s m x) ((quiet_at q s (λ e. absurd (let lt = j in omega (arith, lt, e, x)))).steady (last_horizon s q m ls));
 }
   where
     not_here : (s : ℕ) → IsSubscriber net s → net.at s ≢ b → list_any (λ x. nat_eq x s) (net.subscribers_at b) ≡ false
@@ -263,7 +265,8 @@ pub silent_lines : (net : Net) (w : World) (ls more : List Report) → Silent mo
 silent_lines net w ls more m l = record {
   got = λ q s x y. gots-append s q ls more ∙ (ap (λ z. delivered_events s q ls ++ z) (m s q).got ∙ (append-nil (delivered_events s q ls) ∙ l.got q s x y));
   horizon = λ q s x y. last_horizon-append s q 0 ls more ∙ ((m s q).horizon (last_horizon s q 0 ls) ∙ l.horizon q s x y);
-  rise = λ q s x y. HorizonsRise-append s q 0 ls more (l.rise q s x y) ((m s q).rise (last_horizon s q 0 ls));
+  steady = λ q s x y. Steady-append s q 0 0 ls more (l.steady q s x y) ((m s q).steady (last_horizon s q 0 ls));
+  nothing = λ q s k x. Steady-append s q k k ls more (l.nothing q s k x) ((m s q).steady (last_horizon s q k ls));
 }
 
 -- a call's lines are its own and then those of the frames that it sends

@@ -152,7 +152,7 @@ clocked_later net w clock most q = record { settled = le_refl (log_of w q).settl
 
 clocked_orders : (net : Net) (w : World) (clock most : ℕ) (t : Transition) → Orders net (clocked w clock most) t → Orders net w t
 clocked_orders net w clock most t k found ls l o =
-    k found ls (record { got = l.got; horizon = l.horizon; rise = l.rise })
+    k found ls (record { got = l.got; horizon = l.horizon; steady = l.steady; nothing = l.nothing })
     (record { meets = o.meets; last = o.last; each = λ q j. CutsHave-map (CutFits net found w q) (CutFits net found (clocked w clock most) q) q [] ls (λ t xs c. CutFits-later net found w (clocked w clock most) q t xs (clocked_later net w clock most q) c) (o.each q j) })
 
 -- a sweep keeps the cut lines in order

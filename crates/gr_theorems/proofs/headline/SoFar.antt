@@ -12,6 +12,7 @@ use Rattle.gr_model.specs.World.{sent_lines, World, view_of, log_of, start, next
 use Rattle.gr_model.specs.Headline.{GetsExactly, unlogged_after, InOrder, History, history, reopened_cut, record_of, history_after, begin, last_horizon, may_crash, HorizonsRise, sent_count, is_sent}
 use Rattle.gr_theorems.proofs.records.RecordLines.{sent_lines-append}
 use Rattle.gr_theorems.proofs.records.RecordSteps.{step_sends}
+use Rattle.gr_invariants.proofs.calls.Telling.{steady_rises}
 use Rattle.gr_invariants.specs.Said.{due_upto}
 use Rattle.gr_model.specs.Tree.{IsNet, IsSubscriber}
 use Rattle.gr_invariants.specs.Fits.{WorldFits, LinesFit, StepIn, StepsIn}
@@ -110,7 +111,7 @@ cuts_of net w h p k j =
 -- where all stands, horizons rise, and each event is discarded only after its delivery
 pub in_order : (net : Net) (w : World) (h : History) → IsNet net → Stands net w h → InOrder net h
 in_order net w h n k = record {
-  horizons = λ s p m xs ys e. let y = named_horizon net Any s p m xs ys (subst (Named net Any) e k.named) in rise_at s p m 0 xs ys (subst (λ z. HorizonsRise s p 0 z) e (k.lines.rise p s y.1 y.0));
+  horizons = λ s p m xs ys e. let y = named_horizon net Any s p m xs ys (subst (Named net Any) e k.named) in rise_at s p m 0 xs ys (subst (λ z. HorizonsRise s p 0 z) e (steady_rises s p 0 0 h.lines (k.lines.steady p s y.1 y.0)));
   cuts = λ p t xs ys e. (cuts_of net w h p k (named_cut net Any p t xs ys (subst (Named net Any) e k.named))).cuts t xs ys e;
   cut_settled = λ p t c.
       let s = split_from h.lines (line.Cut p t) c.0 c.1 c.2 in
@@ -122,7 +123,7 @@ in_order net w h n k = record {
 pub gets_now : (net : Net) (w : World) (h : History) (s p : ℕ) → Stands net w h → p < net.publishers → IsSubscriber net s → GetsExactly net h s p
 gets_now net w h s p k j y = record {
   got = k.lines.got p s j y ∙ ap₂ (λ m r. due_upto net p s m r.events) (sym (k.lines.horizon p s j y)) (sym (record_core net w h p k.records));
-  rise = k.lines.rise p s j y;
+  rise = steady_rises s p 0 0 h.lines (k.lines.steady p s j y);
 }
 
 after_found : (net : Net) (h : History) (l : Line) (ls : List Report) → (history_after net h l ls).reopened_cuts ≡ h.reopened_cuts

@@ -17,6 +17,7 @@ use Rattle.gr_model.specs.Broker.{Log, empty_log, publish, with_event, is_kept, 
 use Rattle.gr_model.specs.World as world
 use Rattle.gr_model.specs.World.{World, Transition, view_of, log_of, absorbed, unchanged, in_turn, wake_for, wake_all, deliver_frame, frame_at, publish_now, publish_stopped, crash, restarted, sweep, sweep_for, sweep_moment, next, start, opened_lines, run_all, run_from, next_by, publish_now_by, publish_stopped_by, run_from_by, sweep_by, wake_all_by}
 use Rattle.gr_model.specs.Headline.{Recorded, History, nothing_recorded, record_of, recording, settling, marked, is_next, greatest, sweep_at, is_swept, each_record, records_after, clock_after, most_after, history_after, history, begin, expected, delivered_events, last_horizon, HorizonsRise, GetsExactly, says_kept}
+use Rattle.gr_invariants.proofs.calls.Telling.{steady_rises}
 use Rattle.gr_invariants.specs.Said.{due_upto}
 use Rattle.gr_model.specs.Tree.{IsNet, IsSubscriber}
 use Rattle.gr_invariants.specs.Fits.{WorldFits, StepIn, StepsIn, FrameTrue, history_of}
@@ -481,5 +482,5 @@ gets_exactly net ls s p n z i j y =
     record {
       got = subst (λ k. delivered_events s p k ≡ expected net (history_of net ls) s p (last_horizon s p 0 k)) (sym e)
           (l.got p s j y ∙ ap₂ (λ m r. due_upto net p s m r.events) (sym (l.horizon p s j y)) (sym c));
-      rise = subst (λ k. HorizonsRise s p 0 k) (sym e) (l.rise p s j y);
+      rise = subst (λ k. HorizonsRise s p 0 k) (sym e) (steady_rises s p 0 0 (run_all net (start net) ls).lines (l.steady p s j y));
     }

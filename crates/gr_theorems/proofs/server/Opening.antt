@@ -197,7 +197,7 @@ opening_learns net logs w ls p n j some o =
 
 -- the line of a reopened log delivers nothing, cuts nothing and is no sent line
 pub found_line_says : (c : Bool) (p last settled cut : ℕ) → (let ls : List Report = if c then line.Opened p last settled cut ∷ [] else [] in Silent ls × ((q : ℕ) → CutFree q ls) × (filter is_sent ls ≡ []))
-found_line_says true p last settled cut = (λ s q. record { got = refl; horizon = λ n. refl; rise = λ n. tt }, λ q. tt, refl)
+found_line_says true p last settled cut = (λ s q. record { got = refl; horizon = λ n. refl; steady = λ n. refl }, λ q. tt, refl)
 found_line_says false p last settled cut = (λ s q. Neutral-nil s q, λ q. tt, refl)
 
 found_line_named : (net : Net) (c : Bool) (p last settled cut : ℕ) → (let ls : List Report = if c then line.Opened p last settled cut ∷ [] else [] in Named net Any ls)
@@ -365,7 +365,8 @@ over_lines : (net : Net) (logs : List Log) → AreReopened net logs → LinesFit
 over_lines net logs a = record {
   got = λ p s j y. sym (ap₂ (λ h l. due_upto net p s h l.events) (over_reached net logs p s j y) (over_log net logs p j) ∙ nothing_due net p s 0 (reopened_log logs p).events (a p).fits.rise);
   horizon = λ p s j y. sym (over_reached net logs p s j y);
-  rise = λ p s j y. tt;
+  steady = λ p s j y. refl;
+  nothing = λ p s n j. refl;
 }
 
 logs_are : (net : Net) (logs : List Log) → (over_logs net logs).logs ≡ map (reopened_log logs) (numbers net.publishers)
