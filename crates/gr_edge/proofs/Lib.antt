@@ -1,2 +1,4 @@
-pub mod Weaving
+pub mod Walks
+pub mod Asking
+pub mod Widening
 pub mod Passing

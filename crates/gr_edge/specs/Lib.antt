@@ -1,2 +1,4 @@
 pub mod Pass
-pub mod Woven
+pub mod Listing
+pub mod Asked
+pub mod Following

@@ -2,5 +2,7 @@
 #![tactic(auto)]
 
 pub mod edge;
+mod listed;
+mod wider;
 
 pub use edge::Edge;
