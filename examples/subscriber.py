@@ -27,13 +27,8 @@ payment elsewhere, comes at least once: give publisher and tick along with it, s
 out. To do first the work and then remember, or the other way round, in two steps, repeats an event or loses it when
 this program is killed between them.
 
-What this does not cover:
-
-- a power cut of this machine, since a broker does not sync what it prints, and the loss of FOLDER or TAKEN;
-- a subscriber at the very broker of its publisher, where the events are `publish` lines of the scenario: the broker may
-  log such an event, hand it over and cut it from its log in one turn, and what it prints of a turn is written at the
-  end of it, so that a kill in between loses the line. Publish by a client (examples/publisher.py), or put the
-  subscriber at another broker.
+What this does not cover: a power cut of this machine, since a broker does not sync what it prints, and the loss of
+FOLDER or TAKEN.
 """
 import argparse
 import fcntl

@@ -178,7 +178,7 @@ fn wake_broker<D: Disk, P: Post, K: Sink>(
     Ok(())
 }
 
-/// Each hosted broker is woken, in order.
+/// Each hosted broker is woken, in order. All that was told before is written.
 fn wake_hosted<D: Disk, P: Post, K: Sink>(
     site: &Site<'_>,
     node: &mut Node,
@@ -190,6 +190,7 @@ fn wake_hosted<D: Disk, P: Post, K: Sink>(
     requires hosted { AreHosted site.now.topo.now site.now.hosted.now }
     requires set { IsSet site.now.topo.now site.now.hosted.now (seen node.old) }
     requires stands { D.tells → AllStand (D.lane_of disk.old) (seen node.old) }
+    requires written { page.old.held ≡ [] }
     ensures went { Went site.now.topo.now site.now.hosted.now P.tells
         (map calls (flat_map (wake_calls (length site.now.topo.now.publishers)) site.now.hosted.now))
         (seen node.old) (seen node.new) (outside (K.taken sink.old) page.old.held (P.journal post.old))
@@ -258,8 +259,45 @@ fn publish_next<D: Disk, P: Post, K: Sink>(
     }
 }
 
-/// A quiet moment: the publish at the place `next` of the steps, where there is one, and then each hosted broker is
-/// woken.
+/// The publish at the place `next` of the steps, where there is one. What it tells is written, since a wake may cut the
+/// event, and what is cut is never handed over again.
+fn publish_written<D: Disk, P: Post, K: Sink>(
+    site: &Site<'_>,
+    node: &mut Node,
+    steps: &[Line],
+    next: usize,
+    disk: &mut D,
+    post: &mut P,
+    page: &mut Page,
+    sink: &mut K,
+) -> Result<(), RunFault>
+    requires set { IsSet site.now.topo.now site.now.hosted.now (seen node.old) }
+    requires stands { D.tells → AllStand (D.lane_of disk.old) (seen node.old) }
+    requires steps { AreStepsOf site.now.topo.now steps.now }
+    requires first { IsFirst (net_of site.now.topo.now) site.now.hosted.now (drop next steps.now) }
+    ensures went { Went site.now.topo.now site.now.hosted.now P.tells (map calls (publish_calls
+        (publishes_of (net_of site.now.topo.now) site.now.hosted.now (drop next steps.now))))
+        (seen node.old) (seen node.new) (outside (K.taken sink.old) page.old.held (P.journal post.old))
+        (outside (K.taken sink.new) page.new.held (P.journal post.new)) result }
+    ensures emptied { OnOk result (page.new.held ≡ []) }
+    ensures set { OnOk result (IsSet site.now.topo.now site.now.hosted.now (seen node.new)) }
+    ensures stands { D.tells → OnOk result (AllStand (D.lane_of disk.new) (seen node.new)) }
+    ensures others { D.tells
+        → OthersStay site.now.topo.now site.now.hosted.now (D.lane_of disk.old) (D.lane_of disk.new) }
+    ensures keeps { D.tells → (l : ℕ → Lane) → AllKeep l (D.lane_of disk.old) → AllKeep l (D.lane_of disk.new) }
+    ensures cause { IfErr result IsTurnFault }
+    ensures disk { DiskMoves (D.faults disk.old) (D.stops disk.old) (D.faults disk.new) (D.stops disk.new) result }
+    ensures sink { SinkMoves (K.faults sink.old) (K.faults sink.new) result }
+    ensures post { P.faults post.new ≡ P.faults post.old }
+{
+    match publish_next(site, node, steps, next, disk, post, page, sink) {
+        Ok(()) => page.flush(sink),
+        Err(fault) => Err(fault),
+    }
+}
+
+/// A quiet moment: the publish at the place `next` of the steps, where there is one, whose lines are written, and then
+/// each hosted broker is woken.
 pub(crate) fn be_quiet<D: Disk, P: Post, K: Sink>(
     site: &Site<'_>,
     node: &mut Node,
@@ -290,7 +328,7 @@ pub(crate) fn be_quiet<D: Disk, P: Post, K: Sink>(
     ensures sink { SinkMoves (K.faults sink.old) (K.faults sink.new) result }
     ensures post { P.faults post.new ≡ P.faults post.old }
 {
-    match publish_next(site, node, steps, next, disk, post, page, sink) {
+    match publish_written(site, node, steps, next, disk, post, page, sink) {
         Ok(()) => wake_hosted(site, node, disk, post, page, sink),
         Err(fault) => Err(fault),
     }
