@@ -1,0 +1,9 @@
+pub mod Bytes
+pub mod Reading
+pub mod Events
+pub mod Told
+pub mod Kept
+pub mod Live
+pub mod Walking
+pub mod Rewriting
+pub mod Pairing

@@ -1,0 +1,14 @@
+use Rattle.std.proofs.Common.{◌≤◌, ◌+◌, length, []}
+use Rattle.gr_lanes.specs.State.{held_by}
+use Rattle.gr_lanes.specs.Text.{records_in}
+use Rattle.gr_lanes.proofs.Walking.{IsReading}
+use Rattle.gr_lanes.proofs.read.records_in.Given as goal
+
+abbrev pub invariant-gates : goal.invariant-gates
+invariant-gates l = record {
+  within : length l.rest ≤ l.total;
+  reading : IsReading l.total (held_by l.state l.entries.items) l.rest (records_in (l.total + 1) l.total (held_by l.fn.begun []) l.fn.bytes);
+}
+
+abbrev pub decreases-gates : goal.decreases-gates
+decreases-gates l = length l.rest

@@ -1,0 +1,5 @@
+pub mod State
+pub mod Text
+pub mod Gives
+pub mod Lanes
+pub mod Rewrite

@@ -1,0 +1,241 @@
+-- The text of a lane: what a base and records spell, and what bytes stand for
+use Rattle.std.specs.Prelude.{◌≡◌, ◌≢◌, ℕ, zero, suc, ◌+◌, ◌-◌, ◌<◌, ◌≤◌, Bool, true, false, ◌==◌, ◌&&◌, nat_le, nat_lt, not}
+use Rattle.std.specs.Prelude.{if◌then◌else◌, List, [], ◌∷◌, ◌++◌, length, get_or, take, drop, Result, Ok, Err}
+use Rattle.std.specs.Int.{Width, from_be_bytes, to_be_bytes, w16, w32, w64}
+use Rattle.gr_event.specs.declared.event.Event.{Event as EventPairs}
+use Rattle.gr_event.specs.declared.event.EventFault.{EventFault}
+use Rattle.gr_event.specs.Event.{event_size, event_bytes}
+use Rattle.gr_event.specs.Decode.{event_decoded}
+use Rattle.gr_event.specs.declared.limits.TheConstants.{MAX_BYTES}
+use Rattle.gr_lanes.specs.declared.record.Record.{Record}
+use Rattle.gr_lanes.specs.declared.record.Record.TheVariants.{Event, Mark, Cut}
+use Rattle.gr_lanes.specs.declared.record.Base.{Base}
+use Rattle.gr_lanes.specs.declared.head.Standing.{Standing}
+use Rattle.gr_lanes.specs.declared.head.Standing.TheVariants.{Shut, Old, New}
+use Rattle.gr_lanes.specs.declared.record.State.{State}
+use Rattle.gr_lanes.specs.State.{LogState, empty_state, state_from, after_record, numbers, may_settle, may_cut, Follow}
+use Rattle.gr_lanes.specs.State.{max_tick}
+
+-- Writing
+
+-- a record: its kind, its tick and, of an event, its number, its size and its bytes
+abbrev pub record_bytes : Record → List ℕ
+record_bytes (Event tick number event) = 1 ∷ (to_be_bytes w64 tick
+    ++ (to_be_bytes w64 number ++ (to_be_bytes w32 (event_size event) ++ event_bytes event)))
+record_bytes (Mark tick) = 2 ∷ to_be_bytes w64 tick
+record_bytes (Cut tick) = 3 ∷ to_be_bytes w64 tick
+
+-- how many bytes a record has
+abbrev pub record_size : Record → ℕ
+record_size (Event tick number event) = 21 + event_size event
+record_size (Mark tick) = 9
+record_size (Cut tick) = 9
+
+-- each record behind an open gate
+abbrev pub blocks : List Record → List ℕ
+blocks [] = []
+blocks (r ∷ rs) = 1 ∷ (record_bytes r ++ blocks rs)
+
+-- GLOG
+abbrev pub glog : List ℕ
+glog = 71 ∷ (76 ∷ (79 ∷ (71 ∷ [])))
+
+-- GLOG, and the version 1, behind which the first record gate stands
+abbrev pub old_stamp : List ℕ
+old_stamp = 71 ∷ (76 ∷ (79 ∷ (71 ∷ (1 ∷ []))))
+
+-- GLOG, and the version 2, behind which the lane gate stands
+abbrev pub stamp : List ℕ
+stamp = 71 ∷ (76 ∷ (79 ∷ (71 ∷ (2 ∷ []))))
+
+-- a generation, from 1 to 2^62
+abbrev pub is_generation : ℕ → Bool
+is_generation g = nat_le 1 g && nat_le g max_tick
+
+-- what a lane of the second version begins with, from place 6 on: generation, last, cut and no join
+abbrev pub base_bytes : Base → List ℕ
+base_bytes b = to_be_bytes w64 b.generation
+    ++ (to_be_bytes w64 b.last ++ (to_be_bytes w64 b.cut ++ to_be_bytes w16 0))
+
+-- everything up to the first record gate, with the lane gate open
+abbrev pub front_of : Base → List ℕ
+front_of b = stamp ++ 1 ∷ base_bytes b
+
+-- what a lane holds before its first record
+abbrev pub begun : Base → LogState
+begun b = record { last = b.last; settled = b.cut; cut = b.cut; events = [] }
+
+-- What may stand there.
+pub record IsBase (b : Base) : Type 0 where
+  pub low : 1 ≤ b.generation
+  pub high : b.generation ≤ max_tick
+  pub last : b.last ≤ b.cut
+  pub cut : b.cut ≤ max_tick
+
+-- bytes that are these, a closed gate, and anything behind it
+pub record Closes (bytes front : List ℕ) : Type 0 where
+  pub gate : ℕ
+  pub tail : List ℕ
+  pub closed : gate ≢ 1
+  pub whole : bytes ≡ front ++ gate ∷ tail
+
+-- A text: a front, the records that follow on a state, and a closed gate; anything may stand behind that.
+pub record Spells (front : List ℕ) (start : LogState) (rs : List Record) (bytes : List ℕ) : Type 0 where
+  pub text : Closes bytes (front ++ blocks rs)
+  pub follow : Follow start rs
+
+-- A lane of the second version whose text has this base and these records.
+pub record IsText (bytes : List ℕ) (b : Base) (rs : List Record) : Type 0 where
+  pub spells : Spells (front_of b) (begun b) rs bytes
+  pub base : IsBase b
+
+-- Reading, field by field. What is left is read; a fault carries the place, in a lane of so many bytes, of the field
+
+infixl 10 ◌>>=◌
+abbrev pub ◌>>=◌ : {A B : Type 0} → Result A ℕ → (A → Result B ℕ) → Result B ℕ
+(Ok x) >>= f = f x
+(Err at) >>= f = Err at
+
+-- n bytes, and what is left
+abbrev pub field_in : ℕ → ℕ → List ℕ → Result (List ℕ × List ℕ) ℕ
+field_in total n rest = if nat_le n (length rest) then Ok (take n rest, drop n rest) else Err total
+
+-- a number of n bytes that passes a test
+abbrev pub number_in : ℕ → ℕ → Width → (ℕ → Bool) → List ℕ → Result (ℕ × List ℕ) ℕ
+number_in total n w passes rest = field_in total n rest >>= λ x. if passes (from_be_bytes w x.0)
+    then Ok (from_be_bytes w x.0, x.1) else Err (total - length rest)
+
+-- the event that so many bytes spell
+abbrev pub event_of : ℕ → Result EventPairs EventFault → Result EventPairs ℕ
+event_of at (Ok e) = Ok e
+event_of at (Err f) = Err at
+
+unfoldable pub event_in : ℕ → ℕ → List ℕ → Result (EventPairs × List ℕ) ℕ
+event_in total n rest = do
+  x ← field_in total n rest
+  e ← event_of (total - length rest) (event_decoded x.0)
+  Ok (e, x.1)
+
+-- an Event behind its kind
+unfoldable pub logged_in : ℕ → State → List ℕ → Result (Record × List ℕ) ℕ
+logged_in total n rest = do
+  tick ← number_in total 8 w64 (may_settle n) rest
+  number ← number_in total 8 w64 (λ x. x == n.last + 1) tick.1
+  size ← number_in total 4 w32 (λ x. nat_le x MAX_BYTES) number.1
+  event ← event_in total size.0 size.1
+  Ok (Event tick.0 number.0 event.0, event.1)
+
+unfoldable pub mark_in : ℕ → State → List ℕ → Result (Record × List ℕ) ℕ
+mark_in total n rest = number_in total 8 w64 (may_settle n) rest >>= λ x. Ok (Mark x.0, x.1)
+
+unfoldable pub cut_in : ℕ → State → List ℕ → Result (Record × List ℕ) ℕ
+cut_in total n rest = number_in total 8 w64 (may_cut n) rest >>= λ x. Ok (Cut x.0, x.1)
+
+-- a record
+unfoldable pub record_in : ℕ → State → List ℕ → Result (Record × List ℕ) ℕ
+record_in total n [] = Err total
+record_in total n (kind ∷ rest) =
+    if kind == 1 then logged_in total n rest
+    else (if kind == 2 then mark_in total n rest
+    else (if kind == 3 then cut_in total n rest
+    else Err (total - length (kind ∷ rest))))
+
+-- gates and records in turn, at most n gates: what is held then, and what is left from the closed gate on
+unfoldable pub records_in : ℕ → ℕ → LogState → List ℕ → Result (LogState × List ℕ) ℕ
+records_in zero total s rest = Err total
+records_in (suc n) total s [] = Err total
+records_in (suc n) total s (gate ∷ rest) =
+    elim (gate == 1) [
+      | true ↦ (record_in total (numbers s) rest >>= λ x. records_in n total (after_record s x.0) x.1)
+      | false ↦ Ok (s, gate ∷ rest)
+    ]
+
+abbrev pub based : ℕ → ℕ → ℕ → Base
+based generation last cut = record { generation = generation; last = last; cut = cut }
+
+-- a base, of what stands from place 6 on
+unfoldable pub base_in : ℕ → List ℕ → Result (Base × List ℕ) ℕ
+base_in total rest = do
+  generation ← number_in total 8 w64 is_generation rest
+  last ← number_in total 8 w64 (λ n. nat_le n max_tick) generation.1
+  cut ← number_in total 8 w64 (λ n. nat_le last.0 n && nat_le n max_tick) last.1
+  joins ← number_in total 2 w16 (λ n. n == 0) cut.1
+  Ok (based generation.0 last.0 cut.0, joins.1)
+
+-- The head of a lane
+
+-- the place of the first byte that differs from these, if one does
+abbrev pub header_fault : ℕ → List ℕ → List ℕ → ℕ
+header_fault at (h ∷ hs) (b ∷ bs) = if h == b then header_fault (at + 1) hs bs else at
+header_fault at _ _ = at
+
+-- a lane of so many bytes is read where it has more than 6, and its byte 5 is 1
+abbrev pub is_open : ℕ → List ℕ → Bool
+is_open total bytes = nat_lt 6 total && (get_or bytes 5 0 == 1)
+
+-- the generation behind the lane gate
+abbrev pub generation_in : ℕ → List ℕ → Result Standing ℕ
+generation_in total bytes = if nat_le 14 total
+    then (if is_generation (from_be_bytes w64 (take 8 (drop 6 bytes)))
+    then Ok (New (from_be_bytes w64 (take 8 (drop 6 bytes)))) else Err 6)
+    else Err total
+
+-- how a lane of so many bytes stands, the first one of two or the second: at most its first 14 bytes are looked at
+unfoldable pub head_in : Bool → ℕ → List ℕ → Result Standing ℕ
+head_in first total bytes =
+    if not (is_open total bytes) then Ok Shut
+    else (if nat_lt (header_fault 0 glog bytes) 4 then Err (header_fault 0 glog bytes)
+    else (if get_or bytes 4 0 == 2 then generation_in total bytes
+    else (if first && (get_or bytes 4 0 == 1) then Ok Old else Err 4)))
+
+abbrev pub standing_of : Bool → List ℕ → Result Standing ℕ
+standing_of first bytes = head_in first (length bytes) bytes
+
+-- What a lane stands for that is read: of the first version from the empty state on, else from its base on
+unfoldable pub text_in : Standing → List ℕ → Result (LogState × List ℕ) ℕ
+text_in Shut bytes = Ok (empty_state, [])
+text_in Old bytes = records_in (length bytes + 1) (length bytes) empty_state (drop 5 bytes)
+text_in (New g) bytes = base_in (length bytes) (drop 6 bytes)
+    >>= λ b. records_in (length bytes + 1) (length bytes) (begun b.0) b.1
+
+-- with the place of the closed gate, in a lane of so many bytes
+abbrev pub placed : ℕ → Result (LogState × List ℕ) ℕ → Result (LogState × ℕ) ℕ
+placed total read = read >>= λ r. Ok (r.0, total - length r.1)
+
+abbrev pub placed_in : Standing → List ℕ → Result (LogState × ℕ) ℕ
+placed_in x bytes = placed (length bytes) (text_in x bytes)
+
+-- The laws
+
+-- each is a byte
+abbrev pub AreBytes : List ℕ → Type 0
+AreBytes bytes = (i : ℕ) → get_or bytes i 0 < 256
+
+-- what is left of bytes behind a front
+abbrev pub left_of : {front bytes : List ℕ} → Closes bytes front → List ℕ
+left_of c = c.gate ∷ c.tail
+
+-- what is spelled is read, whatever stands behind the closed gate
+pub record ReadsAsSpelled : Type 0 where
+  pub new : (bytes : List ℕ) (b : Base) (rs : List Record) (first : Bool) → (t : IsText bytes b rs)
+      → (standing_of first bytes ≡ Ok (New b.generation))
+      × (text_in (New b.generation) bytes ≡ Ok (state_from (begun b) rs, left_of t.spells.text))
+  pub old : (bytes : List ℕ) (rs : List Record) → (t : Spells old_stamp empty_state rs bytes) → get_or bytes 5 0 ≡ 1
+      → (standing_of true bytes ≡ Ok Old)
+      × (text_in Old bytes ≡ Ok (state_from empty_state rs, left_of t.text))
+
+-- what was read, as records: they stand behind this front, and a closed gate behind them
+pub record WasRead (front : List ℕ) (start : LogState) (bytes : List ℕ) (s : LogState) (left : List ℕ) : Type 0 where
+  pub records : List Record
+  pub spells : Spells front start records bytes
+  pub state : state_from start records ≡ s
+  pub left_is : left_of spells.text ≡ left
+
+-- what is read is spelled
+pub record SpellsWhatIsRead : Type 0 where
+  pub new : (bytes : List ℕ) (g : ℕ) (first : Bool) (s : LogState) (left : List ℕ) → AreBytes bytes
+      → standing_of first bytes ≡ Ok (New g) → text_in (New g) bytes ≡ Ok (s, left)
+      → (b : Base) × (b.generation ≡ g) × IsBase b × WasRead (front_of b) (begun b) bytes s left
+  pub old : (bytes : List ℕ) (s : LogState) (left : List ℕ) → AreBytes bytes
+      → standing_of true bytes ≡ Ok Old → text_in Old bytes ≡ Ok (s, left)
+      → WasRead old_stamp empty_state bytes s left

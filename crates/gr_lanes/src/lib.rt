@@ -1,0 +1,17 @@
+//! The log of a publisher in two lanes of a disk, which takes back the room of what was cut.
+//!
+//! One of the two lanes is present: it begins with what was held when it was filled, and records follow. The other one
+//! is filled anew, and takes its place once its gate is open. `specs/Text.antt` says what a lane spells, and
+//! `specs/Lanes.antt` which of two is present and what they stand for.
+#![tactic(auto)]
+
+mod entries;
+mod head;
+pub mod law;
+mod numbers;
+mod read;
+pub mod record;
+
+pub use entries::Entries;
+pub use head::{Present, Standing};
+pub use record::{Base, Entry, LogFault, Memory, Record};

@@ -1,0 +1,382 @@
+//! The text of a lane, read.
+
+ghost use Rattle.std.specs.Prelude.{◌≡◌, ◌+◌, ◌-◌, ◌≤◌, ◌<◌, ◌==◌, ◌&&◌, [], length, IfOk, MatchResult, Ok, nat_le, drop};
+ghost use Rattle.std.specs.Int.{w16, w32, w64};
+ghost use Rattle.gr_lanes.specs.State.{max_tick, may_settle, may_cut, held_by, IsState};
+ghost use Rattle.gr_lanes.specs.Text.{field_in, number_in, event_in, logged_in, mark_in, cut_in, record_in};
+ghost use Rattle.gr_lanes.specs.Text.{records_in, is_generation, base_in, placed, placed_in};
+ghost use Rattle.gr_lanes.specs.Gives.{Fails};
+
+use crate::entries::{Entries, note_record};
+use crate::head::Standing;
+use crate::numbers::{are_bytes, eight, four, two};
+use crate::record::{Base, LogFault, MAX_TICK, Record, State};
+use gr_event::{Event, EventFault, MAX_BYTES};
+use std::alloc::Global;
+use std::collections::VecDeque;
+
+/// A field of so many bytes, and what is left behind it.
+fn field_in(total: usize, len: usize, rest: &[u8]) -> Result<(&[u8], &[u8]), LogFault>
+    ensures gives { let read = field_in total len rest.now in
+        MatchResult result (λ x. read ≡ Ok (x.0.now, x.1.now)) (λ e. Fails e read) }
+    ensures len { IfOk result (λ x. length x.0.now ≡ len) }
+    ensures within { IfOk result (λ x. len + length x.1.now ≡ length rest.now) }
+{
+    if len <= rest.len() {
+        Ok(rest.split_at(len))
+    } else {
+        Err(LogFault::Damaged { at: total as u64 })
+    }
+}
+
+/// The place of what is left, in a lane of so many bytes.
+fn place(total: usize, rest: &[u8]) -> u64
+    requires { length rest.now ≤ total }
+    ensures { result ≡ total - length rest.now }
+{
+    (total - rest.len()) as u64
+}
+
+/// The tick of an Event or a Mark.
+fn settling_in<'a>(total: usize, state: &State, rest: &'a [u8]) -> Result<(u64, &'a [u8]), LogFault>
+    requires { length rest.now ≤ total }
+    ensures gives { let read = number_in total 8 w64 (may_settle state.now) rest.now in
+        MatchResult result (λ x. read ≡ Ok (x.0, x.1.now)) (λ e. Fails e read) }
+    ensures within { IfOk result (λ x. 8 + length x.1.now ≡ length rest.now) }
+{
+    let (field, left) = field_in(total, 8, rest)?;
+    let tick = eight(field);
+    if !state.may_settle(tick) {
+        return Err(LogFault::Damaged {
+            at: place(total, rest),
+        });
+    }
+    Ok((tick, left))
+}
+
+/// The tick of a Cut.
+fn cutting_in<'a>(total: usize, state: &State, rest: &'a [u8]) -> Result<(u64, &'a [u8]), LogFault>
+    requires { length rest.now ≤ total }
+    ensures gives { let read = number_in total 8 w64 (may_cut state.now) rest.now in
+        MatchResult result (λ x. read ≡ Ok (x.0, x.1.now)) (λ e. Fails e read) }
+    ensures within { IfOk result (λ x. 8 + length x.1.now ≡ length rest.now) }
+{
+    let (field, left) = field_in(total, 8, rest)?;
+    let tick = eight(field);
+    if !state.may_cut(tick) {
+        return Err(LogFault::Damaged {
+            at: place(total, rest),
+        });
+    }
+    Ok((tick, left))
+}
+
+/// The number of an Event.
+fn next_in<'a>(total: usize, last: u64, rest: &'a [u8]) -> Result<(u64, &'a [u8]), LogFault>
+    requires { length rest.now ≤ total }
+    ensures gives { let read = number_in total 8 w64 (λ x. x == last + 1) rest.now in
+        MatchResult result (λ x. read ≡ Ok (x.0, x.1.now)) (λ e. Fails e read) }
+    ensures within { IfOk result (λ x. 8 + length x.1.now ≡ length rest.now) }
+{
+    let (field, left) = field_in(total, 8, rest)?;
+    let number = eight(field);
+    if number == 0 || number - 1 != last {
+        return Err(LogFault::Damaged {
+            at: place(total, rest),
+        });
+    }
+    Ok((number, left))
+}
+
+/// The size of an event.
+fn size_in(total: usize, rest: &[u8]) -> Result<(usize, &[u8]), LogFault>
+    requires { length rest.now ≤ total }
+    ensures gives { let read = number_in total 4 w32 (λ x. nat_le x MAX_BYTES) rest.now in
+        MatchResult result (λ x. read ≡ Ok (x.0, x.1.now)) (λ e. Fails e read) }
+    ensures within { IfOk result (λ x. 4 + length x.1.now ≡ length rest.now) }
+{
+    let (field, left) = field_in(total, 4, rest)?;
+    let size = four(field) as usize;
+    if size > MAX_BYTES {
+        return Err(LogFault::Damaged {
+            at: place(total, rest),
+        });
+    }
+    Ok((size, left))
+}
+
+/// An event of so many bytes.
+#[tactic(auto, unfolding(crate::specs::Text::event_in))]
+fn event_in<'a>(
+    alloc: Global,
+    total: usize,
+    size: usize,
+    rest: &'a [u8],
+) -> Result<(Event, &'a [u8]), LogFault>
+    requires { length rest.now ≤ total }
+    ensures gives { let read = event_in total size rest.now in
+        MatchResult result (λ x. read ≡ Ok (x.0, x.1.now)) (λ e. Fails e read) }
+    ensures within { IfOk result (λ x. length x.1.now ≤ length rest.now) }
+{
+    let (field, left) = field_in(total, size, rest)?;
+    match Event::decode(alloc, field) {
+        Ok(event) => Ok((event, left)),
+        Err(EventFault::Memory) => Err(LogFault::Memory),
+        Err(_) => Err(LogFault::Damaged {
+            at: place(total, rest),
+        }),
+    }
+}
+
+/// An Event behind its kind.
+#[tactic(auto, unfolding(crate::specs::Text::logged_in))]
+fn logged_in<'a>(
+    alloc: Global,
+    total: usize,
+    state: &State,
+    rest: &'a [u8],
+) -> Result<(Record, &'a [u8]), LogFault>
+    requires { length rest.now ≤ total }
+    ensures gives { let read = logged_in total state.now rest.now in
+        MatchResult result (λ x. read ≡ Ok (x.0, x.1.now)) (λ e. Fails e read) }
+    ensures within { IfOk result (λ x. length x.1.now ≤ length rest.now) }
+{
+    let (tick, behind_tick) = settling_in(total, state, rest)?;
+    let (number, behind_number) = next_in(total, state.last, behind_tick)?;
+    let (size, behind_size) = size_in(total, behind_number)?;
+    let (event, left) = event_in(alloc, total, size, behind_size)?;
+    Ok((
+        Record::Event {
+            tick,
+            number,
+            event,
+        },
+        left,
+    ))
+}
+
+/// A Mark behind its kind.
+#[tactic(auto, unfolding(crate::specs::Text::mark_in))]
+fn mark_in<'a>(total: usize, state: &State, rest: &'a [u8]) -> Result<(Record, &'a [u8]), LogFault>
+    requires { length rest.now ≤ total }
+    ensures gives { let read = mark_in total state.now rest.now in
+        MatchResult result (λ x. read ≡ Ok (x.0, x.1.now)) (λ e. Fails e read) }
+    ensures within { IfOk result (λ x. length x.1.now ≤ length rest.now) }
+{
+    let (tick, left) = settling_in(total, state, rest)?;
+    Ok((Record::Mark { tick }, left))
+}
+
+/// A Cut behind its kind.
+#[tactic(auto, unfolding(crate::specs::Text::cut_in))]
+fn cut_in<'a>(total: usize, state: &State, rest: &'a [u8]) -> Result<(Record, &'a [u8]), LogFault>
+    requires { length rest.now ≤ total }
+    ensures gives { let read = cut_in total state.now rest.now in
+        MatchResult result (λ x. read ≡ Ok (x.0, x.1.now)) (λ e. Fails e read) }
+    ensures within { IfOk result (λ x. length x.1.now ≤ length rest.now) }
+{
+    let (tick, left) = cutting_in(total, state, rest)?;
+    Ok((Record::Cut { tick }, left))
+}
+
+/// A record, and what is left behind it.
+#[tactic(auto, unfolding(crate::specs::Text::record_in))]
+fn record_in<'a>(
+    alloc: Global,
+    total: usize,
+    state: &State,
+    rest: &'a [u8],
+) -> Result<(Record, &'a [u8]), LogFault>
+    requires { length rest.now ≤ total }
+    ensures gives { let read = record_in total state.now rest.now in
+        MatchResult result (λ x. read ≡ Ok (x.0, x.1.now)) (λ e. Fails e read) }
+    ensures within { IfOk result (λ x. length x.1.now < length rest.now) }
+{
+    match rest {
+        [] => Err(LogFault::Damaged { at: total as u64 }),
+        [1, behind @ ..] => logged_in(alloc, total, state, behind),
+        [2, behind @ ..] => mark_in(total, state, behind),
+        [3, behind @ ..] => cut_in(total, state, behind),
+        _ => Err(LogFault::Damaged {
+            at: place(total, rest),
+        }),
+    }
+}
+
+/// The generation of a lane.
+fn generation_in(total: usize, rest: &[u8]) -> Result<(u64, &[u8]), LogFault>
+    requires { length rest.now ≤ total }
+    ensures gives { let read = number_in total 8 w64 is_generation rest.now in
+        MatchResult result (λ x. read ≡ Ok (x.0, x.1.now)) (λ e. Fails e read) }
+    ensures within { IfOk result (λ x. 8 + length x.1.now ≡ length rest.now) }
+{
+    let (field, left) = field_in(total, 8, rest)?;
+    let generation = eight(field);
+    if generation < 1 || generation > MAX_TICK {
+        return Err(LogFault::Damaged {
+            at: place(total, rest),
+        });
+    }
+    Ok((generation, left))
+}
+
+/// The number of the last event before a lane's first record.
+fn base_last_in(total: usize, rest: &[u8]) -> Result<(u64, &[u8]), LogFault>
+    requires { length rest.now ≤ total }
+    ensures gives { let read = number_in total 8 w64 (λ x. nat_le x max_tick) rest.now in
+        MatchResult result (λ x. read ≡ Ok (x.0, x.1.now)) (λ e. Fails e read) }
+    ensures within { IfOk result (λ x. 8 + length x.1.now ≡ length rest.now) }
+{
+    let (field, left) = field_in(total, 8, rest)?;
+    let last = eight(field);
+    if last > MAX_TICK {
+        return Err(LogFault::Damaged {
+            at: place(total, rest),
+        });
+    }
+    Ok((last, left))
+}
+
+/// The cut before a lane's first record.
+fn base_cut_in(total: usize, last: u64, rest: &[u8]) -> Result<(u64, &[u8]), LogFault>
+    requires { length rest.now ≤ total }
+    ensures gives { let read = number_in total 8 w64 (λ x. nat_le last x && nat_le x max_tick) rest.now in
+        MatchResult result (λ x. read ≡ Ok (x.0, x.1.now)) (λ e. Fails e read) }
+    ensures within { IfOk result (λ x. 8 + length x.1.now ≡ length rest.now) }
+{
+    let (field, left) = field_in(total, 8, rest)?;
+    let cut = eight(field);
+    if cut < last || cut > MAX_TICK {
+        return Err(LogFault::Damaged {
+            at: place(total, rest),
+        });
+    }
+    Ok((cut, left))
+}
+
+/// The number of joins before a lane's first record, of which there are none.
+fn no_joins_in(total: usize, rest: &[u8]) -> Result<(u16, &[u8]), LogFault>
+    requires { length rest.now ≤ total }
+    ensures gives { let read = number_in total 2 w16 (λ x. x == 0) rest.now in
+        MatchResult result (λ x. read ≡ Ok (x.0, x.1.now)) (λ e. Fails e read) }
+    ensures within { IfOk result (λ x. 2 + length x.1.now ≡ length rest.now) }
+{
+    let (field, left) = field_in(total, 2, rest)?;
+    let count = two(field);
+    if count != 0 {
+        return Err(LogFault::Damaged {
+            at: place(total, rest),
+        });
+    }
+    Ok((count, left))
+}
+
+/// With what a lane begins, of what stands from place 6 on.
+#[tactic(auto, unfolding(crate::specs::Text::base_in))]
+fn base_in(total: usize, rest: &[u8]) -> Result<(Base, &[u8]), LogFault>
+    requires { length rest.now ≤ total }
+    ensures gives { let read = base_in total rest.now in
+        MatchResult result (λ x. read ≡ Ok (x.0, x.1.now)) (λ e. Fails e read) }
+    ensures within { IfOk result (λ x. length x.1.now ≤ length rest.now) }
+{
+    let (generation, behind_generation) = generation_in(total, rest)?;
+    let (last, behind_last) = base_last_in(total, behind_generation)?;
+    let (cut, behind_cut) = base_cut_in(total, last, behind_last)?;
+    let (_, left) = no_joins_in(total, behind_cut)?;
+    Ok((
+        Base {
+            generation,
+            last,
+            cut,
+        },
+        left,
+    ))
+}
+
+/// What a lane holds.
+#[derive(Drop)]
+pub struct Held {
+    /// Its numbers.
+    pub state: State,
+    /// The events past the cut.
+    pub events: Entries,
+    /// How many bytes stand before the closed gate.
+    pub gate: usize,
+}
+
+/// Gates and records in turn, up to a closed gate, in a lane of so many bytes.
+fn records_in(alloc: Global, total: usize, begun: State, bytes: &[u8]) -> Result<Held, LogFault>
+    requires within { length bytes.now ≤ total }
+    requires state { IsState (held_by begun []) }
+    ensures { let read = placed total (records_in (total + 1) total (held_by begun []) bytes.now) in
+        MatchResult result (λ x. read ≡ Ok (held_by x.state x.events, x.gate)) (λ e. Fails e read) }
+{
+    let mut state = begun;
+    let mut entries = VecDeque::new(alloc);
+    let mut rest = bytes;
+    'gates: loop {
+        if rest.is_empty() {
+            return Err(LogFault::Damaged { at: total as u64 });
+        }
+        if rest[0] != 1 {
+            return Ok(Held {
+                state,
+                events: Entries { entries },
+                gate: total - rest.len(),
+            });
+        }
+        // Proof only: each of them is a byte.
+        are_bytes(&rest[1..]);
+        match record_in(alloc, total, &state, &rest[1..]) {
+            Ok((entry, left)) => {
+                entries.reserve(1)?;
+                note_record(&mut entries, &entry);
+                state.note(&entry);
+                drop(entry);
+                rest = left;
+            }
+            Err(fault) => return Err(fault),
+        }
+    }
+}
+
+/// What a lane of the second version holds.
+#[tactic(auto, unfolding(crate::specs::Text::text_in))]
+fn new_text_in(alloc: Global, generation: u64, bytes: &[u8]) -> Result<Held, LogFault>
+    requires { 6 ≤ length bytes.now }
+    ensures { let read = placed_in (Standing.New generation) bytes.now in
+        MatchResult result (λ x. read ≡ Ok (held_by x.state x.events, x.gate)) (λ e. Fails e read) }
+{
+    // Proof only: each of them is a byte.
+    are_bytes(&bytes[6..]);
+    let (base, left) = base_in(bytes.len(), &bytes[6..])?;
+    records_in(alloc, bytes.len(), base.numbers(), left)
+}
+
+/// What a lane of the first version holds.
+#[tactic(auto, unfolding(crate::specs::Text::text_in))]
+fn old_text_in(alloc: Global, bytes: &[u8]) -> Result<Held, LogFault>
+    requires { 6 ≤ length bytes.now }
+    ensures { let read = placed_in Standing.Old bytes.now in
+        MatchResult result (λ x. read ≡ Ok (held_by x.state x.events, x.gate)) (λ e. Fails e read) }
+{
+    records_in(alloc, bytes.len(), State::new(), &bytes[5..])
+}
+
+/// What a lane holds whose head is one of a lane that stands so. Of one that is shut nothing is read.
+#[tactic(auto, unfolding(crate::specs::Text::text_in))]
+pub(crate) fn text_in(alloc: Global, standing: Standing, bytes: &[u8]) -> Result<Held, LogFault>
+    requires { 6 ≤ length bytes.now }
+    ensures { let read = placed_in standing bytes.now in
+        MatchResult result (λ x. read ≡ Ok (held_by x.state x.events, x.gate)) (λ e. Fails e read) }
+{
+    match standing {
+        Standing::Shut => Ok(Held {
+            state: State::new(),
+            events: Entries::new(alloc),
+            gate: bytes.len(),
+        }),
+        Standing::Old => old_text_in(alloc, bytes),
+        Standing::New(generation) => new_text_in(alloc, generation, bytes),
+    }
+}
