@@ -7,3 +7,14 @@ pub mod Live
 pub mod Walking
 pub mod Rewriting
 pub mod Pairing
+pub mod Filled
+pub mod Moments
+pub mod Onward
+pub mod Putting
+pub mod Appending
+pub mod Stopping
+pub mod Crash
+pub mod Presence
+pub mod Calling
+pub mod Refilling
+pub mod Extending

@@ -3,3 +3,8 @@ pub mod Text
 pub mod Gives
 pub mod Lanes
 pub mod Rewrite
+pub mod Filled
+pub mod Crash
+pub mod Steps
+pub mod Views
+pub mod Calls

@@ -5,6 +5,7 @@ ghost use Rattle.gr_lanes.specs.declared.record.TheConstants.{MAX_TICK};
 ghost use Rattle.gr_lanes.specs.State.{BeginsAsState, StaysState};
 ghost use Rattle.gr_lanes.specs.Text.{ReadsAsSpelled, SpellsWhatIsRead};
 ghost use Rattle.gr_lanes.specs.Lanes.{HoldsWhatIsFound};
+ghost use Rattle.gr_lanes.specs.Filled.{StandsFor};
 ghost use Rattle.gr_lanes.specs.Rewrite.{ThreeOutcomes, FilledSame, ShutIs, FilledIs, TwoAre, LowerIs, Reclaims};
 
 /// What a log holds keeps its order, record by record.
@@ -72,6 +73,11 @@ pub fn reclaims()
     two_are();
     lower_is();
 }
+
+/// What a lane is filled with stands for what a log holds, whatever stood in the lane before.
+pub fn stands_for()
+    ensures { StandsFor }
+{}
 
 /// The last tick of a log, and its last generation.
 pub fn last_tick_of_logs()

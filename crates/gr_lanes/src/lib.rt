@@ -5,12 +5,15 @@
 //! `specs/Lanes.antt` which of two is present and what they stand for.
 #![tactic(auto)]
 
+mod append;
 mod entries;
+mod fill;
 mod head;
 pub mod law;
 mod numbers;
 mod read;
 pub mod record;
+mod steps;
 
 pub use entries::Entries;
 pub use head::{Present, Standing};

@@ -1,0 +1,14 @@
+use Rattle.std.proofs.Common.{◌≡◌, ◌-◌, ◌≤◌, ◌++◌, length, drop}
+use Rattle.gr_lanes.specs.Text.{blocks}
+use Rattle.gr_lanes.specs.Filled.{in_order, last_event}
+use Rattle.gr_lanes.proofs.fill.put_events.Given as goal
+
+abbrev pub invariant-entries : goal.invariant-entries
+invariant-entries l = record {
+  within : l.i ≤ length l.entries.items;
+  text : l.bytes.items ++ blocks (in_order (drop l.i l.entries.items)) ≡ l.fn.bytes.items ++ blocks (in_order (drop l.fn.from l.entries.items));
+  top : last_event l.top (drop l.i l.entries.items) ≡ last_event l.fn.cut (drop l.fn.from l.entries.items);
+}
+
+abbrev pub decreases-entries : goal.decreases-entries
+decreases-entries l = length l.entries.items - l.i
