@@ -18,3 +18,4 @@ pub mod Presence
 pub mod Calling
 pub mod Refilling
 pub mod Extending
+pub mod Numbered

@@ -1,5 +1,5 @@
 -- What a crash leaves while a record is appended, and the counts of a disk
-use Rattle.std.specs.Prelude.{◌≡◌, ◌⊎◌, ℕ, ◌+◌, ◌*◌, ◌%◌, ◌≤◌, Bool, true, ◌&&◌, ◌||◌, nat_eq, nat_lt, nat_le, if◌then◌else◌, List, []}
+use Rattle.std.specs.Prelude.{◌≡◌, ◌⊎◌, ℕ, ◌+◌, ◌*◌, ◌%◌, ◌≤◌, Bool, true, false, ◌&&◌, ◌||◌, nat_eq, nat_lt, nat_le, if◌then◌else◌, List, []}
 use Rattle.std.specs.Prelude.{◌∷◌, length, Result, Ok, Err, IsErrOf}
 use Rattle.gr_out.specs.declared.disk.Stop.TheVariants.{After}
 use Rattle.gr_out.specs.Lane.{Lane, has_stopped, over, Torn}
@@ -61,6 +61,13 @@ IsNoFailure fault.Memory = Unit {0}
 IsNoFailure fault.Disk = ⊥
 IsNoFailure (fault.Damaged at) = Unit {0}
 IsNoFailure fault.Reopen = Unit {0}
+
+-- whether it is that
+abbrev pub is_disk : LogFault → Bool
+is_disk fault.Memory = false
+is_disk fault.Disk = true
+is_disk (fault.Damaged at) = false
+is_disk fault.Reopen = false
 
 abbrev pub NotFailed : {T : Type 0} → Result T LogFault → Type 0
 NotFailed (Ok x) = Unit {0}

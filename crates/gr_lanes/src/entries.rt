@@ -69,7 +69,7 @@ fn is_cut(entries: &VecDeque<Entry>, tick: u64) -> bool
 }
 
 /// Drops the entries up to a tick, which come first. It looks at one more than it drops.
-fn drop_upto(entries: &mut VecDeque<Entry>, tick: u64)
+pub(crate) fn drop_upto(entries: &mut VecDeque<Entry>, tick: u64)
     requires { EntriesRise 0 entries.old.items }
     ensures { entries.new.items ≡ filter (λ e. nat_lt tick e.tick) entries.old.items }
 {

@@ -6,6 +6,7 @@ ghost use Rattle.gr_lanes.specs.State.{BeginsAsState, StaysState};
 ghost use Rattle.gr_lanes.specs.Text.{ReadsAsSpelled, SpellsWhatIsRead};
 ghost use Rattle.gr_lanes.specs.Lanes.{HoldsWhatIsFound};
 ghost use Rattle.gr_lanes.specs.Filled.{StandsFor};
+ghost use Rattle.gr_lanes.specs.Views.{StandsRead};
 ghost use Rattle.gr_lanes.specs.Rewrite.{ThreeOutcomes, FilledSame, ShutIs, FilledIs, TwoAre, LowerIs, Reclaims};
 
 /// What a log holds keeps its order, record by record.
@@ -78,6 +79,15 @@ pub fn reclaims()
 pub fn stands_for()
     ensures { StandsFor }
 {}
+
+/// Each pair of images that a crash may leave of two lanes in which a log stands holds what the log holds.
+pub fn stands_read()
+    ensures { StandsRead }
+{
+    shut_is();
+    two_are();
+    lower_is();
+}
 
 /// The last tick of a log, and its last generation.
 pub fn last_tick_of_logs()

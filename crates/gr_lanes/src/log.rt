@@ -1,0 +1,268 @@
+//! A log in its two lanes.
+
+ghost use Rattle.std.specs.Prelude.{◌≡◌, ◌≢◌, ◌↔◌, ℕ, ◌+◌, ◌^◌, ◌<◌, ◌≤◌, not, true, Some, IfOk, IsErrOf, IsTrue};
+ghost use Rattle.gr_out.specs.Lane.{has_stopped};
+ghost use Rattle.gr_out.specs.Stops.{StaysFaultless};
+ghost use Rattle.gr_lanes.specs.declared.record.TheConstants.{MAX_TICK};
+ghost use Rattle.gr_lanes.specs.State.{held_by, may_follow, IsState};
+ghost use Rattle.gr_lanes.specs.Crash.{is_disk};
+ghost use Rattle.gr_lanes.specs.Views.{LogView, appended, reclaimed, failed, lanes_at, number_of};
+ghost use Rattle.gr_lanes.specs.Views.{AwayFrom, IsReady};
+ghost use Rattle.gr_lanes.specs.Calls.{Appends, Reclaims, Tally, Causes, Leaves};
+
+use crate::append::{append_at, is_sound};
+use crate::entries::{Entries, drop_upto, note_record};
+use crate::fill::{first_past, refill};
+use crate::law::{lower_is, reclaims, shut_is, two_are};
+use crate::record::{LogFault, Record, State};
+use crate::steps::Aside;
+use gr_out::Disk;
+use std::alloc::Global;
+use std::marker::Model;
+
+/// A log, seen as what it holds, whether the disk has failed it, and of its present lane which of the two it is, its
+/// generation and the size of its text; and how the other lane stands. So its memory and the cost of a call do not grow
+/// with what was cut.
+#[derive(Drop)]
+pub struct Log {
+    alloc: Global,
+    lane: u16,
+    second: bool,
+    generation: u64,
+    size: u64,
+    aside: Aside,
+    state: State,
+    events: Entries,
+    broken: bool,
+}
+
+impl Model for Log {
+    ghost Value = { LogView };
+
+    ghost view = { λ l. record {
+      lane = l.lane;
+      state = held_by l.state l.events;
+      broken = l.broken;
+      second = l.second;
+      generation = l.generation;
+      size = l.size;
+      aside = l.aside;
+    } };
+
+    ghost invariant = { λ l. IsState (held_by l.state l.events) × (l.lane + 1 < 2 ^ 16)
+        × (1 ≤ l.generation) × (l.generation ≤ MAX_TICK) × (33 ≤ l.size) };
+}
+
+/// The number of the first of two lanes, or of the second one.
+fn number_of(lane: u16, second: bool) -> u16
+    requires { lane + 1 < 2 ^ 16 }
+    ensures { result ≡ number_of lane second }
+{
+    if second { lane + 1 } else { lane }
+}
+
+/// Whether the disk failed.
+fn is_disk(fault: LogFault) -> bool
+    ensures { result ≡ is_disk fault }
+{
+    match fault {
+        LogFault::Disk => true,
+        LogFault::Memory => false,
+        LogFault::Damaged { .. } => false,
+        LogFault::Reopen => false,
+    }
+}
+
+impl Log {
+    /// Appends a record to the present lane by four calls on the disk. `Ok` comes once it is synced. After `Memory`
+    /// nothing has changed. After `Disk` the log has to be opened again, and answers `Reopen` from then on. It never
+    /// answers `Damaged`.
+    ///
+    /// Where an ordered stop broke one of the four calls, the call's number and the pick tell whether the image that a
+    /// crash leaves has the record.
+    ///
+    /// It costs the record's bytes, and for a Cut the events that it cuts.
+    pub fn append<D: Disk>(&mut self, disk: &mut D, entry: &Record) -> Result<(), LogFault>
+        requires follows { may_follow self.old.state entry.now ≡ true }
+        requires stands { D.tells → IsReady self.old (lanes_at (D.lane_of disk.old) self.old.lane) }
+        ensures log { Leaves self.old (appended entry.now self.old) (failed self.old) self.new result }
+        ensures lanes { let l = self.old in let before = lanes_at (D.lane_of disk.old) l.lane in
+            D.tells → Appends l (Some entry.now) before (lanes_at (D.lane_of disk.new) l.lane) result }
+        ensures reopen { IsErrOf result LogFault.Reopen ↔ (self.old.broken ≡ true) }
+        ensures idle { IsErrOf result LogFault.Reopen → disk.new ≡ disk.old }
+        ensures tally { let f = D.faults disk.old in let s = D.stops disk.old in
+            Tally f s (D.faults disk.new) (D.stops disk.new) result }
+        ensures causes { let l = self.old in let f = D.faults disk.old in let f' = D.faults disk.new in D.tells →
+            Causes (D.faultless disk.old) (has_stopped (D.lane_of disk.new (number_of l.lane l.second)).stop) f f' result }
+        ensures faultless { let f = D.faults disk.old in
+            StaysFaultless (D.faultless disk.old) (D.faultless disk.new) f (D.faults disk.new) }
+        ensures others { D.tells →
+            (n : ℕ) → AwayFrom self.old.lane n → D.lane_of disk.new n ≡ D.lane_of disk.old n }
+    {
+        if self.broken {
+            return Err(LogFault::Reopen);
+        }
+        // Proof only: which lane is present, and that the record is sound.
+        shut_is();
+        two_are();
+        lower_is();
+        is_sound(entry);
+        let events = &mut self.events;
+        match events.entries.reserve(1) {
+            Ok(()) => {}
+            Err(_) => return Err(LogFault::Memory),
+        }
+        let lane = number_of(self.lane, self.second);
+        let size = match append_at(self.alloc, disk, lane, self.size - 1, entry) {
+            Ok(size) => size,
+            Err(fault) => {
+                self.broken = is_disk(fault);
+                return Err(fault);
+            }
+        };
+        self.size = size;
+        self.state.note(entry);
+        note_record(&mut events.entries, entry);
+        Ok(())
+    }
+
+    /// Cuts the log at a tick by writing what it then holds into the other lane, which becomes the present one, and
+    /// answers the new generation. `Ok` comes once that is synced. After `Memory` nothing has changed. After `Disk` the
+    /// log has to be opened again, and answers `Reopen` from then on. It never answers `Damaged`.
+    ///
+    /// It costs the bytes that are written, and the events that are cut. The present lane is not called.
+    pub fn reclaim<D: Disk>(&mut self, disk: &mut D, tick: u64) -> Result<u64, LogFault>
+        requires past { self.old.state.cut < tick }
+        requires upto { tick ≤ self.old.state.settled }
+        requires next { self.old.generation < MAX_TICK }
+        requires stands { D.tells → IsReady self.old (lanes_at (D.lane_of disk.old) self.old.lane) }
+        ensures generation { IfOk result (λ g. g ≡ self.old.generation + 1) }
+        ensures log { Leaves self.old (reclaimed tick self.old) (failed self.old) self.new result }
+        ensures lanes { let l = self.old in let before = lanes_at (D.lane_of disk.old) l.lane in
+            D.tells → Reclaims l tick before (lanes_at (D.lane_of disk.new) l.lane) result }
+        ensures reopen { IsErrOf result LogFault.Reopen ↔ (self.old.broken ≡ true) }
+        ensures idle { IsErrOf result LogFault.Reopen → disk.new ≡ disk.old }
+        ensures tally { let f = D.faults disk.old in let s = D.stops disk.old in
+            Tally f s (D.faults disk.new) (D.stops disk.new) result }
+        ensures causes { let l = self.old in let f = D.faults disk.old in let f' = D.faults disk.new in D.tells →
+            Causes (D.faultless disk.old) (has_stopped (D.lane_of disk.new (number_of l.lane (not l.second))).stop) f f'
+            result }
+        ensures faultless { let f = D.faults disk.old in
+            StaysFaultless (D.faultless disk.old) (D.faultless disk.new) f (D.faults disk.new) }
+        ensures others { D.tells →
+            (n : ℕ) → AwayFrom self.old.lane n → D.lane_of disk.new n ≡ D.lane_of disk.old n }
+    {
+        if self.broken {
+            return Err(LogFault::Reopen);
+        }
+        // Proof only: which lane is present.
+        shut_is();
+        two_are();
+        lower_is();
+        reclaims();
+        let events = &mut self.events;
+        let lane = number_of(self.lane, !self.second);
+        let generation = self.generation + 1;
+        let state = State {
+            last: self.state.last,
+            settled: self.state.settled,
+            cut: tick,
+        };
+        let from = first_past(&events.entries, tick);
+        let size = match refill(
+            self.alloc,
+            disk,
+            lane,
+            self.aside,
+            generation,
+            &state,
+            &events.entries,
+            from,
+        ) {
+            Ok(size) => size,
+            Err(fault) => {
+                self.broken = is_disk(fault);
+                return Err(fault);
+            }
+        };
+        drop_upto(&mut events.entries, tick);
+        self.state = state;
+        self.second = !self.second;
+        self.generation = generation;
+        self.size = size;
+        self.aside = Aside::Opened;
+        Ok(generation)
+    }
+
+    /// Whether a record may follow what the log holds. Takes no memory.
+    pub fn may_follow(&self, entry: &Record) -> bool
+        ensures { result ≡ may_follow self.now.state entry.now }
+    {
+        match entry {
+            Record::Event { tick, number, .. } => {
+                self.state.may_settle(*tick) && *number > 0 && *number - 1 == self.state.last
+            }
+            Record::Mark { tick } => self.state.may_settle(*tick),
+            Record::Cut { tick } => self.state.may_cut(*tick),
+        }
+    }
+
+    /// The logged events past the cut. Takes no memory.
+    pub fn events(&self) -> &Entries
+        ensures { result.now ≡ self.now.state.events }
+    {
+        &self.events
+    }
+
+    /// The number of the last event, 0 where there is none. Takes no memory.
+    pub fn last(&self) -> u64
+        ensures { result ≡ self.now.state.last }
+    {
+        self.state.last
+    }
+
+    /// The greatest tick of an Event or a Mark, 0 where there is none. Takes no memory.
+    pub fn settled(&self) -> u64
+        ensures { result ≡ self.now.state.settled }
+    {
+        self.state.settled
+    }
+
+    /// The tick of the last Cut, 0 where there is none. Takes no memory.
+    pub fn cut(&self) -> u64
+        ensures { result ≡ self.now.state.cut }
+    {
+        self.state.cut
+    }
+
+    /// How many bytes the text of the present lane has, with its closed gate. Takes no memory.
+    pub fn text_size(&self) -> u64
+        ensures { result ≡ self.now.size }
+    {
+        self.size
+    }
+
+    /// The generation of the present lane. Takes no memory.
+    pub fn generation(&self) -> u64
+        ensures value { result ≡ self.now.generation }
+        ensures low { 1 ≤ result }
+        ensures high { result ≤ MAX_TICK }
+    {
+        self.generation
+    }
+
+    /// Whether nothing was ever logged. Takes no memory.
+    pub fn is_empty(&self) -> bool
+        ensures { IsTrue result ↔ ((self.now.state.last ≡ 0) × (self.now.state.settled ≡ 0)) }
+    {
+        self.state.last == 0 && self.state.settled == 0
+    }
+
+    /// Whether the disk failed this log, so that it has to be opened again. What it holds is in order. Takes no memory.
+    pub fn is_broken(&self) -> bool
+        ensures broken { result ≡ self.now.broken }
+        ensures state { IsState self.now.state }
+    {
+        self.broken
+    }
+}
