@@ -19,3 +19,7 @@ pub mod Calling
 pub mod Refilling
 pub mod Extending
 pub mod Numbered
+pub mod Front
+pub mod Surveying
+pub mod Settling
+pub mod Starting

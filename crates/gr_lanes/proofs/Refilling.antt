@@ -53,7 +53,7 @@ flipped false x y = refl
 flipped true x y = refl
 
 -- lanes by which of them is present
-stands_at : (ls : Lanes) (l : LogView) (p o : Lane) (base : Base) (records : List Record) → p ≡ present l ls → o ≡ other l ls → IsText (content p) base records → state_from (begun base) records ≡ l.state
+pub stands_at : (ls : Lanes) (l : LogView) (p o : Lane) (base : Base) (records : List Record) → p ≡ present l ls → o ≡ other l ls → IsText (content p) base records → state_from (begun base) records ≡ l.state
     → base.generation ≡ l.generation → length (front_of base ++ blocks records) + 1 ≡ l.size → IsAside l.aside l.second l.generation (content o) → LeavesOnly p (content p) → LeavesOnly o (content o) → Stands ls l
 stands_at ls l p o base records ep eo text state generation size aside only only_aside = record {
   base = base;
@@ -68,7 +68,7 @@ stands_at ls l p o base records ep eo text state generation size aside only only
 }
 
 -- how long the text is that a lane is filled with
-text_size : (s : LogState) (g : ℕ) → length (front_of (base_of s g) ++ blocks (records_of s)) + 1 ≡ filled_size s
+pub text_size : (s : LogState) (g : ℕ) → length (front_of (base_of s g) ++ blocks (records_of s)) + 1 ≡ filled_size s
 unfolding body_of
 text_size s g =
     omega (arith, size_is s g, length-append (base_bytes (base_of s g)) (blocks (records_of s) ++ 0 ∷ []), length-append (blocks (records_of s)) (0 ∷ []), length-append (front_of (base_of s g)) (blocks (records_of s)))

@@ -326,14 +326,14 @@ pub record IsHead (first : Bool) (total : ℕ) (bytes : List ℕ) (x : Standing)
   pub long : 6 < total
   pub gate : get_or bytes 5 0 ≡ 1
   pub header : header_fault 0 glog bytes ≡ 4
-  pub version : ((get_or bytes 4 0 ≡ 2) × (generation_in total bytes ≡ Ok x)) ⊎ ((get_or bytes 4 0 ≡ 1) × (Old ≡ x))
+  pub version : ((get_or bytes 4 0 ≡ 2) × (generation_in total bytes ≡ Ok x)) ⊎ ((get_or bytes 4 0 ≡ 1) × (first ≡ true) × (Old ≡ x))
 
-pub head_told : (first : Bool) (total : ℕ) (bytes : List ℕ) (x : Standing) → head_in first total bytes ≡ Ok x → (Shut ≡ x) ⊎ IsHead first total bytes x
+pub head_told : (first : Bool) (total : ℕ) (bytes : List ℕ) (x : Standing) → head_in first total bytes ≡ Ok x → ((is_open total bytes ≡ false) × (Shut ≡ x)) ⊎ IsHead first total bytes x
 unfolding head_in
 head_told first total bytes x h =
     let fault : ℕ = header_fault 0 glog bytes in
     elim (not_told (is_open total bytes) Shut x _ h) [
-      | inl e ↦ inl e.1
+      | inl e ↦ inl e
       | inr e ↦ let one = past_told (nat_lt fault 4) fault _ x e.1 in
           let up : fault ≤ 4 = fault_upto 0 glog bytes in
           let opened = both (nat_lt 6 total) (get_or bytes 5 0 == 1) e.0 in
@@ -345,7 +345,7 @@ head_told first total bytes x h =
             version = elim (either_told (get_or bytes 4 0 == 2) (generation_in total bytes) _ x one.1) [
               | inl k ↦ inl (eqb-true (get_or bytes 4 0) 2 k.0, k.1)
               | inr k ↦ let two = then_told (first && (get_or bytes 4 0 == 1)) 4 (Ok Old) x k.1 in
-                  inr (eqb-true (get_or bytes 4 0) 1 (both first (get_or bytes 4 0 == 1) two.0).1, let e2 = two.1 in let i : Old ≡ x = cc in i)
+                  inr (eqb-true (get_or bytes 4 0) 1 (both first (get_or bytes 4 0 == 1) two.0).1, (both first (get_or bytes 4 0 == 1) two.0).0, let e2 = two.1 in let i : Old ≡ x = cc in i)
             ];
           })
     ]
@@ -383,9 +383,9 @@ new_told : (bytes : List ℕ) (g : ℕ) (first : Bool) (s : LogState) (left : Li
 unfolding text_in
 new_told bytes g first s left fits stands h =
     elim (head_told first (length bytes) bytes (New g) stands) [
-      | inl e ↦ shut_not_new g e
+      | inl e ↦ shut_not_new g e.1
       | inr d ↦ elim d.version [
-        | inr k ↦ old_not_new g k.1
+        | inr k ↦ old_not_new g k.2
         | inl k ↦ let five = six_are (length bytes) bytes 2 refl d.long d.header k.0 in
             let sixth : drop 5 bytes ≡ 1 ∷ drop 6 bytes = drop_more bytes 5 0 (omega (arith, d.long)) ∙ ap (λ (y : ℕ). y ∷ drop 6 bytes) d.gate in
             let read : (base_in (length bytes) (drop 6 bytes) >>= λ b. records_in (length bytes + 1) (length bytes) (begun b.0) b.1) ≡ Ok (s, left) = h in
@@ -419,7 +419,7 @@ old_told : (bytes : List ℕ) (s : LogState) (left : List ℕ) → AreBytes byte
 unfolding text_in
 old_told bytes s left fits stands h =
     elim (head_told true (length bytes) bytes Old stands) [
-      | inl e ↦ shut_not_old e
+      | inl e ↦ shut_not_old e.1
       | inr d ↦ elim d.version [
         | inl k ↦ absurd (not_generation (length bytes) bytes k.1)
         | inr k ↦ let five = six_are (length bytes) bytes 1 refl d.long d.header k.0 in

@@ -8,3 +8,4 @@ pub mod Crash
 pub mod Steps
 pub mod Views
 pub mod Calls
+pub mod Opens

@@ -14,6 +14,7 @@ mod head;
 pub mod law;
 pub mod log;
 mod numbers;
+mod opening;
 mod read;
 pub mod record;
 mod steps;
