@@ -23,3 +23,4 @@ pub mod Front
 pub mod Surveying
 pub mod Settling
 pub mod Starting
+pub mod Choosing

@@ -1,11 +1,13 @@
 -- What each way out of an opening does, by the numbers of the lanes
-use Rattle.std.proofs.Common.{◌≡◌, ◌≢◌, ℕ, suc, ◌+◌, Bool, true, false, not, if◌then◌else◌, List, Result, Ok, Err, refl, ap, ap₂, sym, ◌∙◌, subst, arith}
+use Rattle.std.proofs.Common.{◌≡◌, ◌≢◌, ℕ, suc, ◌+◌, ◌<◌, ◌==◌, nat_le, get_or, Bool, true, false, not, if◌then◌else◌, List, [], ◌∷◌, length, take, Result, Ok, Err, refl, ap, ap₂, sym, ◌∙◌, subst, arith}
+use Rattle.std.specs.Prelude.{OnOk, MatchResult}
+use Rattle.std.proofs.lemmas.Bool.{leb-true, leb-false, eqb-true, eqb-false}
 use Rattle.gr_out.specs.Lane.{Lane, content}
 use Rattle.gr_lanes.specs.declared.record.LogFault.{LogFault}
 use Rattle.gr_lanes.specs.declared.record.LogFault.TheVariants as fault
 use Rattle.gr_lanes.specs.declared.opening.Heads.{Heads}
 use Rattle.gr_lanes.specs.declared.steps.Aside.{Aside}
-use Rattle.gr_lanes.specs.declared.steps.Aside.TheVariants.{Opened}
+use Rattle.gr_lanes.specs.declared.steps.Aside.TheVariants.{Short, Opened, Closed}
 use Rattle.gr_lanes.specs.declared.head.Standing.{Standing}
 use Rattle.gr_lanes.specs.declared.head.Standing.TheVariants.{Shut, Old, New}
 use Rattle.gr_lanes.specs.declared.head.Present.{Present}
@@ -17,10 +19,10 @@ use Rattle.gr_lanes.specs.Rewrite.{IsShut, Reclaiming, ShutIs, TwoAre}
 use Rattle.gr_lanes.specs.Filled.{body_of, filled_size}
 use Rattle.gr_lanes.specs.Gives.{Fails, Tells}
 use Rattle.gr_lanes.specs.Crash.{GaveUp}
-use Rattle.gr_lanes.specs.Steps.{Refills}
+use Rattle.gr_lanes.specs.Steps.{Refills, StandsAs}
 use Rattle.gr_lanes.specs.Views.{LogView, Lanes, lanes_at, number_of, IsAside, Stands}
 use Rattle.gr_lanes.specs.Opens.{aside_of, aside_by, AreHeads, AreSole, OpensAs, Settles}
-use Rattle.gr_lanes.proofs.Surveying.{tells_on}
+use Rattle.gr_lanes.proofs.Surveying.{tells_on, fails_tells}
 use Rattle.gr_lanes.proofs.Settling.{shut_told, aside_same, found_at, found_fault, opens_fault, settles_fault, settles_found, settles_begin_err, settles_begin_ok, settles_migrate_err, settles_migrate_ok, old_state, found_stands}
 
 next_apart : (lane k : ℕ) → k ≡ suc lane → lane ≢ k
@@ -29,13 +31,13 @@ next_apart lane k is e = omega (arith, is, e)
 first_apart : (lane : ℕ) → suc lane ≢ lane
 first_apart lane e = omega (arith, e)
 
-gave_up_opens : (X : Type 0) (lane : ℕ) (a b : List ℕ) (e : LogFault) → GaveUp {X = X} (Err e) → OpensAs lane a b (Err e)
+pub gave_up_opens : (X : Type 0) (lane : ℕ) (a b : List ℕ) (e : LogFault) → GaveUp {X = X} (Err e) → OpensAs lane a b (Err e)
 gave_up_opens X lane a b fault.Memory h = tt
 gave_up_opens X lane a b fault.Disk h = tt
 gave_up_opens X lane a b (fault.Damaged at) h = absurd h
 gave_up_opens X lane a b fault.Reopen h = absurd h
 
-lanes_same : (f f' : ℕ → Lane) (lane : ℕ) → ((n : ℕ) → f' n ≡ f n) → lanes_at f' lane ≡ lanes_at f lane
+pub lanes_same : (f f' : ℕ → Lane) (lane : ℕ) → ((n : ℕ) → f' n ≡ f n) → lanes_at f' lane ≡ lanes_at f lane
 lanes_same f f' lane same = ap₂ (λ (x y : Lane). let ls : Lanes = record { first = x; second = y } in ls) (same lane) (same (suc lane))
 
 -- Where a head was refused, or no lane is present
@@ -163,3 +165,53 @@ found_ok lane f f' false g gate s aside l same sole present stands fits placed_i
     settles_found lane (lanes_at f lane) (lanes_at f' lane) sole.0 sole.1 (lanes_same f f' lane same) l k found refl
     (view ∙ ap (λ (x : Aside). let w : LogView = record { lane = lane; state = s; broken = false; second = false; generation = g; size = gate + 1; aside = x } in w) is)
     (subst (Stands (lanes_at f lane)) (sym view) (found_stands (lanes_at f lane) v (f lane) (f (suc lane)) true gate refl refl fits stands placed_is refl beside sole.0 sole.1))
+
+-- Readers of whole lanes
+
+pub whole_is : (n : ℕ) (l : List ℕ) → n ≡ length l → take n l ≡ l
+whole_is n l e = ap (λ (k : ℕ). take k l) e ∙ all l
+  where
+    all : (l : List ℕ) → take (length l) l ≡ l
+    all [] = refl
+    all (x ∷ l) = ap (λ (t : List ℕ). x ∷ t) (all l)
+
+pub tells_by : {X Y : Type 0} (v : X → Y) (r : Result X LogFault) (read read' : Result Y ℕ) → read ≡ read' → MatchResult r (λ x. read ≡ Ok (v x)) (λ f. Fails f read) → MatchResult r (λ x. read' ≡ Ok (v x)) (λ f. Tells f read')
+tells_by v (Ok x) read read' e h = sym e ∙ h
+tells_by v (Err f) read read' e h = fails_tells f read read' e h
+
+pub on_any : {T P : Type 0} (r : Result T LogFault) → P → OnOk r P
+on_any (Ok x) p = p
+on_any (Err e) p = tt
+
+-- the first version is present
+pub old_present : TwoAre → (h : Heads) (a b : List ℕ) → AreHeads h a b → h.first ≡ Old → h.second ≡ Shut → present_of a b ≡ Ok (First Old)
+old_present two h a b r one other = heads_choose two h a b r ∙ ap₂ chosen one other
+
+-- in other words for the lanes before
+pub settles_from : (lane : ℕ) (f f1 f' : ℕ → Lane) (result : Result LogView LogFault) → ((n : ℕ) → f1 n ≡ f n) → Settles lane (lanes_at f1 lane) (lanes_at f' lane) result → Settles lane (lanes_at f lane) (lanes_at f' lane) result
+settles_from lane f f1 f' result same s = subst (λ (ls : Lanes). Settles lane ls (lanes_at f' lane) result) (lanes_same f f1 lane same) s
+
+pub heads_from : (lane : ℕ) (f f1 : ℕ → Lane) (h : Heads) → ((n : ℕ) → f1 n ≡ f n) → AreHeads h (content (f lane)) (content (f (suc lane))) → AreHeads h (content (f1 lane)) (content (f1 (suc lane)))
+heads_from lane f f1 h same r = subst (λ (ls : Lanes). AreHeads h (content ls.first) (content ls.second)) (sym (lanes_same f f1 lane same)) r
+
+pub sole_from : (lane : ℕ) (f f1 : ℕ → Lane) → ((n : ℕ) → f1 n ≡ f n) → AreSole (lanes_at f lane) → AreSole (lanes_at f1 lane)
+sole_from lane f f1 same r = subst AreSole (sym (lanes_same f f1 lane same)) r
+
+-- how a lane stands that is to be filled
+of_stands : (bytes : List ℕ) → StandsAs (aside_of bytes) bytes
+of_stands bytes = by_length (nat_le (length bytes) 6) refl
+  where
+    by_gate : (b : Bool) → (get_or bytes 5 0 == 1) ≡ b → 6 < length bytes → StandsAs (if b then Opened else Closed) bytes
+    by_gate true e long = (long, eqb-true (get_or bytes 5 0) 1 e)
+    by_gate false e long = (long, eqb-false (get_or bytes 5 0) 1 e)
+
+    by_length : (b : Bool) → nat_le (length bytes) 6 ≡ b → StandsAs (if b then Short else (if get_or bytes 5 0 == 1 then Opened else Closed)) bytes
+    by_length true e = leb-true (length bytes) 6 e
+    by_length false e = by_gate (get_or bytes 5 0 == 1) refl (omega (arith, leb-false (length bytes) 6 e))
+
+pub aside_stands : (text text' : ℕ → List ℕ) (n k : ℕ) → n ≡ k → text' k ≡ text k → (first : Bool) (size : ℕ) (x : Standing) (aside : Aside) → aside ≡ aside_by size x → size ≡ length (text n) → standing_of first (text n) ≡ Ok x
+    → StandsAs aside (text' k)
+aside_stands text text' n k is same first size x aside by sized stands =
+    let is_of : aside ≡ aside_of (text n) = by ∙ (ap (λ (m : ℕ). aside_by m x) sized ∙ aside_same first (text n) x stands) in
+    let there : text n ≡ text' k = ap text is ∙ sym same in
+    subst (λ (l : List ℕ). StandsAs aside l) there (subst (λ (a : Aside). StandsAs a (text n)) (sym is_of) (of_stands (text n)))

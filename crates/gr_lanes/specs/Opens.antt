@@ -1,5 +1,5 @@
 -- What an opening does to two lanes
-use Rattle.std.specs.Prelude.{◌≡◌, ◌⊎◌, ℕ, ◌==◌, nat_le, true, false, if◌then◌else◌, List, ◌∷◌, length, get_or, Result, Ok, Err, OnOk}
+use Rattle.std.specs.Prelude.{◌≡◌, ◌⊎◌, ℕ, ◌==◌, nat_le, Bool, true, false, if◌then◌else◌, List, ◌∷◌, length, get_or, Result, Ok, Err, OnOk}
 use Rattle.std.specs.Prelude.{IfOk}
 use Rattle.gr_out.specs.declared.disk.Stop.TheVariants.{Unset}
 use Rattle.gr_out.specs.Lane.{Call, Sync, content, has_stopped, LeavesOnly}
@@ -10,6 +10,8 @@ use Rattle.gr_lanes.specs.declared.steps.Aside.TheVariants.{Short, Opened, Close
 use Rattle.gr_lanes.specs.declared.opening.Heads.{Heads}
 use Rattle.gr_lanes.specs.declared.head.Standing.{Standing}
 use Rattle.gr_lanes.specs.declared.head.Standing.TheVariants.{Shut, Old, New}
+use Rattle.gr_lanes.specs.declared.head.Present.{Present}
+use Rattle.gr_lanes.specs.declared.head.Present.TheVariants.{First, Second}
 use Rattle.gr_lanes.specs.State.{empty_state}
 use Rattle.gr_lanes.specs.Text.{standing_of}
 use Rattle.gr_lanes.specs.Lanes.{Found, lanes_text, state_in}
@@ -33,6 +35,10 @@ pub record AreHeads (h : Heads) (a b : List ℕ) : Type 0 where
   pub second : standing_of false b ≡ Ok h.second
   pub first_size : h.first_size ≡ length a
   pub second_size : h.second_size ≡ length b
+
+-- the first or the second of two lanes is present, and stands so
+abbrev pub present_as : Bool → Standing → Present
+present_as second x = if second then Second x else First x
 
 -- a crash leaves of two lanes what they read, and nothing else
 abbrev pub AreSole : Lanes → Type 0

@@ -188,6 +188,12 @@ head_in first total bytes =
     else (if get_or bytes 4 0 == 2 then generation_in total bytes
     else (if first && (get_or bytes 4 0 == 1) then Ok Old else Err 4)))
 
+-- an open lane has more than 6 bytes, and its generation is one
+abbrev pub IsStanding : ℕ → Standing → Type 0
+IsStanding total Shut = Unit {0}
+IsStanding total Old = 6 < total
+IsStanding total (New g) = (6 < total) × (1 ≤ g) × (g ≤ max_tick)
+
 abbrev pub standing_of : Bool → List ℕ → Result Standing ℕ
 standing_of first bytes = head_in first (length bytes) bytes
 

@@ -35,6 +35,13 @@ impl Entries {
         }
     }
 
+    /// The events with their ticks, the earliest first.
+    pub(crate) fn parts(&self) -> &VecDeque<Entry>
+        ensures { result.now.items ≡ self.now }
+    {
+        &self.entries
+    }
+
     /// How many there are.
     pub fn len(&self) -> usize
         ensures { result ≡ length self.now }

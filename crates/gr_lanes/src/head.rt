@@ -1,7 +1,7 @@
 //! How a lane stands, by its first bytes, and which of two lanes is present.
 
-ghost use Rattle.std.specs.Prelude.{◌≡◌, ◌≤◌, length, min, MatchResult, Ok};
-ghost use Rattle.gr_lanes.specs.Text.{glog, header_fault, generation_in, head_in};
+ghost use Rattle.std.specs.Prelude.{◌≡◌, ◌≤◌, length, min, MatchResult, IfOk, Ok};
+ghost use Rattle.gr_lanes.specs.Text.{glog, header_fault, generation_in, head_in, IsStanding};
 ghost use Rattle.gr_lanes.specs.Lanes.{chosen};
 ghost use Rattle.gr_lanes.specs.Gives.{Fails};
 
@@ -46,8 +46,9 @@ fn glog_fault(bytes: &[u8]) -> u64
 /// The generation in the head of a lane of so many bytes.
 fn generation_in(total: u64, front: &[u8]) -> Result<Standing, LogFault>
     requires { min total 14 ≤ length front.now }
-    ensures { let read = generation_in total front.now in
+    ensures gives { let read = generation_in total front.now in
         MatchResult result (λ x. read ≡ Ok x) (λ e. Fails e read) }
+    ensures sound { IfOk result (λ x. IsStanding total x) }
 {
     if total < 14 {
         return Err(LogFault::Damaged { at: total });
@@ -64,8 +65,9 @@ fn generation_in(total: u64, front: &[u8]) -> Result<Standing, LogFault>
 #[tactic(auto, unfolding(crate::specs::Text::head_in))]
 pub(crate) fn head_in(first: bool, total: u64, front: &[u8]) -> Result<Standing, LogFault>
     requires { min total 14 ≤ length front.now }
-    ensures { let read = head_in first total front.now in
+    ensures gives { let read = head_in first total front.now in
         MatchResult result (λ x. read ≡ Ok x) (λ e. Fails e read) }
+    ensures sound { IfOk result (λ x. IsStanding total x) }
 {
     if total <= 6 || front[5] != 1 {
         return Ok(Standing::Shut);

@@ -1,23 +1,34 @@
 //! A log in its two lanes.
 
 ghost use Rattle.std.specs.Prelude.{◌≡◌, ◌≢◌, ◌↔◌, ℕ, ◌+◌, ◌^◌, ◌<◌, ◌≤◌, not, true, Some, IfOk, IsErrOf, IsTrue};
-ghost use Rattle.gr_out.specs.Lane.{has_stopped};
+ghost use Rattle.std.specs.Prelude.{◌⊎◌, ◌||◌, false, Ok, Err, OnOk, MatchResult, length};
+ghost use Rattle.gr_out.specs.Faults.{Rose};
+ghost use Rattle.gr_out.specs.Lane.{content, has_stopped};
 ghost use Rattle.gr_out.specs.Stops.{StaysFaultless};
 ghost use Rattle.gr_lanes.specs.declared.record.TheConstants.{MAX_TICK};
 ghost use Rattle.gr_lanes.specs.State.{held_by, may_follow, IsState};
-ghost use Rattle.gr_lanes.specs.Crash.{is_disk};
+ghost use Rattle.gr_lanes.specs.Text.{AreBytes, IsStanding, standing_of, placed_in};
+ghost use Rattle.gr_lanes.specs.Lanes.{present_of};
+ghost use Rattle.gr_lanes.specs.Gives.{Tells, IsNoReopen};
+ghost use Rattle.gr_lanes.specs.Crash.{DiskRose, NotFailed, is_disk};
 ghost use Rattle.gr_lanes.specs.Views.{LogView, appended, reclaimed, failed, lanes_at, number_of};
-ghost use Rattle.gr_lanes.specs.Views.{AwayFrom, IsReady};
+ghost use Rattle.gr_lanes.specs.Views.{AwayFrom, IsAside, IsReady};
+ghost use Rattle.gr_lanes.specs.Opens.{AreHeads, AreSole, EitherStopped, Opens, Settles, aside_of, present_as};
 ghost use Rattle.gr_lanes.specs.Calls.{Appends, Reclaims, Tally, Causes, Leaves};
 
 use crate::append::{append_at, is_sound};
 use crate::entries::{Entries, drop_upto, note_record};
 use crate::fill::{first_past, refill};
+use crate::head::{Present, Standing, chosen};
 use crate::law::{lower_is, reclaims, shut_is, two_are};
+use crate::numbers::are_bytes;
+use crate::opening::{Heads, aside_by, bytes_in, heads_of, sync_lanes};
+use crate::read::{Held, text_in};
 use crate::record::{LogFault, Record, State};
 use crate::steps::Aside;
 use gr_out::Disk;
 use std::alloc::Global;
+use std::collections::VecDeque;
 use std::marker::Model;
 
 /// A log, seen as what it holds, whether the disk has failed it, and of its present lane which of the two it is, its
@@ -50,7 +61,7 @@ impl Model for Log {
     } };
 
     ghost invariant = { λ l. IsState (held_by l.state l.events) × (l.lane + 1 < 2 ^ 16)
-        × (1 ≤ l.generation) × (l.generation ≤ MAX_TICK) × (33 ≤ l.size) };
+        × (1 ≤ l.generation) × (l.generation ≤ MAX_TICK) × (1 ≤ l.size) };
 }
 
 /// The number of the first of two lanes, or of the second one.
@@ -73,7 +84,302 @@ fn is_disk(fault: LogFault) -> bool
     }
 }
 
+/// A log whose lanes are synced, of which neither is open: the first lane is filled with the empty state.
+fn begin<D: Disk>(alloc: Global, disk: &mut D, lane: u16, heads: Heads) -> Result<Log, LogFault>
+    requires two { lane + 1 < 2 ^ 16 }
+    requires heads { let ls = lanes_at (D.lane_of disk.old) lane in
+        D.tells → AreHeads heads (content ls.first) (content ls.second) }
+    requires first { heads.first ≡ Standing.Shut }
+    requires second { heads.second ≡ Standing.Shut }
+    requires only { let ls = lanes_at (D.lane_of disk.old) lane in D.tells → AreSole ls }
+    ensures settles { D.tells →
+        Settles lane (lanes_at (D.lane_of disk.old) lane) (lanes_at (D.lane_of disk.new) lane) result }
+    ensures whole { IfOk result (λ l. (l.broken ≡ false) × (l.lane ≡ lane)) }
+    ensures never_reopen { IsNoReopen result }
+    ensures others { D.tells → (n : ℕ) → AwayFrom lane n → D.lane_of disk.new n ≡ D.lane_of disk.old n }
+    ensures faults { D.faults disk.old ≤ D.faults disk.new }
+    ensures stops { D.stops disk.old ≤ D.stops disk.new }
+    ensures same { NotFailed result → (D.faults disk.new ≡ D.faults disk.old) × (D.stops disk.new ≡ D.stops disk.old) }
+    ensures disk { DiskRose result (D.faults disk.old) (D.faults disk.new) (D.stops disk.old) (D.stops disk.new) }
+    ensures why { D.tells → IsErrOf result LogFault.Disk → EitherStopped (lanes_at (D.lane_of disk.new) lane)
+        ⊎ Rose (D.faults disk.old) (D.faults disk.new) }
+    ensures by_stop { D.tells → D.faultless disk.old → IsErrOf result LogFault.Disk →
+        EitherStopped (lanes_at (D.lane_of disk.new) lane) }
+    ensures faultless { let f = D.faults disk.old in
+        StaysFaultless (D.faultless disk.old) (D.faultless disk.new) f (D.faults disk.new) }
+{
+    // Proof only: what images of the two lanes hold.
+    shut_is();
+    two_are();
+    reclaims();
+    let state = State::new();
+    let entries = VecDeque::new(alloc);
+    let aside = aside_by(heads.first_size, heads.first);
+    let beside = aside_by(heads.second_size, heads.second);
+    match refill(alloc, disk, lane, aside, 1, &state, &entries, 0) {
+        Ok(size) => Ok(Log {
+            alloc,
+            lane,
+            second: false,
+            generation: 1,
+            size,
+            aside: beside,
+            state,
+            events: Entries { entries },
+            broken: false,
+        }),
+        Err(fault) => Err(fault),
+    }
+}
+
+/// What stands in a present lane.
+fn held_in<D: Disk>(
+    alloc: Global,
+    disk: &mut D,
+    lane: u16,
+    standing: Standing,
+    size: u64,
+) -> Result<Held, LogFault>
+    requires size { D.tells → size ≡ length (content (D.lane_of disk.old lane)) }
+    requires long { 6 < size }
+    ensures gives { let read = placed_in standing (content (D.lane_of disk.old lane)) in
+        D.tells → MatchResult result (λ x. read ≡ Ok (held_by x.state x.events, x.gate)) (λ e. Tells e read) }
+    ensures state { IfOk result (λ x. IsState (held_by x.state x.events)) }
+    ensures inside { IfOk result (λ x. x.gate + 1 < 2 ^ 64) }
+    ensures bytes { D.tells → OnOk result (AreBytes (content (D.lane_of disk.old lane))) }
+    ensures lanes { D.tells → (n : ℕ) → D.lane_of disk.new n ≡ D.lane_of disk.old n }
+    ensures never_reopen { IsNoReopen result }
+    ensures faults { D.faults disk.old ≤ D.faults disk.new }
+    ensures stops { D.stops disk.old ≤ D.stops disk.new }
+    ensures same { NotFailed result → (D.faults disk.new ≡ D.faults disk.old) × (D.stops disk.new ≡ D.stops disk.old) }
+    ensures disk { DiskRose result (D.faults disk.old) (D.faults disk.new) (D.stops disk.old) (D.stops disk.new) }
+    ensures why { D.tells → IsErrOf result LogFault.Disk →
+        (has_stopped (D.lane_of disk.new lane).stop ≡ true) ⊎ Rose (D.faults disk.old) (D.faults disk.new) }
+    ensures by_stop { D.tells → D.faultless disk.old → IsErrOf result LogFault.Disk →
+        has_stopped (D.lane_of disk.new lane).stop ≡ true }
+    ensures faultless { let f = D.faults disk.old in
+        StaysFaultless (D.faultless disk.old) (D.faultless disk.new) f (D.faults disk.new) }
+{
+    let bytes = match bytes_in(alloc, disk, lane, size) {
+        Ok(bytes) => bytes,
+        Err(fault) => return Err(fault),
+    };
+    // Proof only: each of them is a byte.
+    are_bytes(&bytes);
+    text_in(alloc, standing, &bytes)
+}
+
+/// A log of the first version in the first lane: what it holds is written into the second one.
+fn migrate<D: Disk>(alloc: Global, disk: &mut D, lane: u16, heads: Heads) -> Result<Log, LogFault>
+    requires two { lane + 1 < 2 ^ 16 }
+    requires heads { let ls = lanes_at (D.lane_of disk.old) lane in
+        D.tells → AreHeads heads (content ls.first) (content ls.second) }
+    requires first { heads.first ≡ Standing.Old }
+    requires long { 6 < heads.first_size }
+    requires second { heads.second ≡ Standing.Shut }
+    requires only { let ls = lanes_at (D.lane_of disk.old) lane in D.tells → AreSole ls }
+    ensures settles { D.tells →
+        Settles lane (lanes_at (D.lane_of disk.old) lane) (lanes_at (D.lane_of disk.new) lane) result }
+    ensures whole { IfOk result (λ l. (l.broken ≡ false) × (l.lane ≡ lane)) }
+    ensures never_reopen { IsNoReopen result }
+    ensures others { D.tells → (n : ℕ) → AwayFrom lane n → D.lane_of disk.new n ≡ D.lane_of disk.old n }
+    ensures faults { D.faults disk.old ≤ D.faults disk.new }
+    ensures stops { D.stops disk.old ≤ D.stops disk.new }
+    ensures same { NotFailed result → (D.faults disk.new ≡ D.faults disk.old) × (D.stops disk.new ≡ D.stops disk.old) }
+    ensures disk { DiskRose result (D.faults disk.old) (D.faults disk.new) (D.stops disk.old) (D.stops disk.new) }
+    ensures why { D.tells → IsErrOf result LogFault.Disk → EitherStopped (lanes_at (D.lane_of disk.new) lane)
+        ⊎ Rose (D.faults disk.old) (D.faults disk.new) }
+    ensures by_stop { D.tells → D.faultless disk.old → IsErrOf result LogFault.Disk →
+        EitherStopped (lanes_at (D.lane_of disk.new) lane) }
+    ensures faultless { let f = D.faults disk.old in
+        StaysFaultless (D.faultless disk.old) (D.faultless disk.new) f (D.faults disk.new) }
+{
+    // Proof only: what images of the two lanes hold.
+    shut_is();
+    two_are();
+    reclaims();
+    let held = match held_in(alloc, disk, lane, Standing::Old, heads.first_size) {
+        Ok(held) => held,
+        Err(fault) => return Err(fault),
+    };
+    let aside = aside_by(heads.second_size, heads.second);
+    match refill(
+        alloc,
+        disk,
+        lane + 1,
+        aside,
+        1,
+        &held.state,
+        held.events.parts(),
+        0,
+    ) {
+        Ok(size) => Ok(Log {
+            alloc,
+            lane,
+            second: true,
+            generation: 1,
+            size,
+            aside: Aside::Opened,
+            state: held.state,
+            events: held.events,
+            broken: false,
+        }),
+        Err(fault) => Err(fault),
+    }
+}
+
+/// A log whose present lane is of the second version: nothing is written.
+fn found<D: Disk>(
+    alloc: Global,
+    disk: &mut D,
+    lane: u16,
+    second: bool,
+    generation: u64,
+    size: u64,
+    aside: Aside,
+) -> Result<Log, LogFault>
+    requires two { lane + 1 < 2 ^ 16 }
+    requires present { let ls = lanes_at (D.lane_of disk.old) lane in D.tells →
+        present_of (content ls.first) (content ls.second) ≡ Ok (present_as second (Standing.New generation)) }
+    requires standing { D.tells → standing_of (not second) (content (D.lane_of disk.old (number_of lane second)))
+        ≡ Ok (Standing.New generation) }
+    requires size { D.tells → size ≡ length (content (D.lane_of disk.old (number_of lane second))) }
+    requires sound { IsStanding size (Standing.New generation) }
+    requires aside { D.tells → aside ≡ aside_of (content (D.lane_of disk.old (number_of lane (not second)))) }
+    requires beside { D.tells →
+        IsAside aside second generation (content (D.lane_of disk.old (number_of lane (not second)))) }
+    requires only { let ls = lanes_at (D.lane_of disk.old) lane in D.tells → AreSole ls }
+    ensures settles { D.tells →
+        Settles lane (lanes_at (D.lane_of disk.old) lane) (lanes_at (D.lane_of disk.new) lane) result }
+    ensures whole { IfOk result (λ l. (l.broken ≡ false) × (l.lane ≡ lane)) }
+    ensures never_reopen { IsNoReopen result }
+    ensures others { D.tells → (n : ℕ) → AwayFrom lane n → D.lane_of disk.new n ≡ D.lane_of disk.old n }
+    ensures faults { D.faults disk.old ≤ D.faults disk.new }
+    ensures stops { D.stops disk.old ≤ D.stops disk.new }
+    ensures same { NotFailed result → (D.faults disk.new ≡ D.faults disk.old) × (D.stops disk.new ≡ D.stops disk.old) }
+    ensures disk { DiskRose result (D.faults disk.old) (D.faults disk.new) (D.stops disk.old) (D.stops disk.new) }
+    ensures why { D.tells → IsErrOf result LogFault.Disk → EitherStopped (lanes_at (D.lane_of disk.new) lane)
+        ⊎ Rose (D.faults disk.old) (D.faults disk.new) }
+    ensures by_stop { D.tells → D.faultless disk.old → IsErrOf result LogFault.Disk →
+        EitherStopped (lanes_at (D.lane_of disk.new) lane) }
+    ensures faultless { let f = D.faults disk.old in
+        StaysFaultless (D.faultless disk.old) (D.faultless disk.new) f (D.faults disk.new) }
+{
+    let standing = Standing::New(generation);
+    let held = match held_in(alloc, disk, number_of(lane, second), standing, size) {
+        Ok(held) => held,
+        Err(fault) => return Err(fault),
+    };
+    Ok(Log {
+        alloc,
+        lane,
+        second,
+        generation,
+        size: held.gate as u64 + 1,
+        aside,
+        state: held.state,
+        events: held.events,
+        broken: false,
+    })
+}
+
+/// Opens the log of two lanes that are synced.
+fn open_synced<D: Disk>(alloc: Global, disk: &mut D, lane: u16) -> Result<Log, LogFault>
+    requires two { lane + 1 < 2 ^ 16 }
+    requires only { let ls = lanes_at (D.lane_of disk.old) lane in D.tells → AreSole ls }
+    ensures settles { D.tells →
+        Settles lane (lanes_at (D.lane_of disk.old) lane) (lanes_at (D.lane_of disk.new) lane) result }
+    ensures whole { IfOk result (λ l. (l.broken ≡ false) × (l.lane ≡ lane)) }
+    ensures never_reopen { IsNoReopen result }
+    ensures others { D.tells → (n : ℕ) → AwayFrom lane n → D.lane_of disk.new n ≡ D.lane_of disk.old n }
+    ensures faults { D.faults disk.old ≤ D.faults disk.new }
+    ensures stops { D.stops disk.old ≤ D.stops disk.new }
+    ensures same { NotFailed result → (D.faults disk.new ≡ D.faults disk.old) × (D.stops disk.new ≡ D.stops disk.old) }
+    ensures disk { DiskRose result (D.faults disk.old) (D.faults disk.new) (D.stops disk.old) (D.stops disk.new) }
+    ensures why { D.tells → IsErrOf result LogFault.Disk → EitherStopped (lanes_at (D.lane_of disk.new) lane)
+        ⊎ Rose (D.faults disk.old) (D.faults disk.new) }
+    ensures by_stop { D.tells → D.faultless disk.old → IsErrOf result LogFault.Disk →
+        EitherStopped (lanes_at (D.lane_of disk.new) lane) }
+    ensures faultless { let f = D.faults disk.old in
+        StaysFaultless (D.faultless disk.old) (D.faultless disk.new) f (D.faults disk.new) }
+{
+    // Proof only: which lane is present.
+    two_are();
+    let heads = match heads_of(alloc, disk, lane) {
+        Ok(heads) => heads,
+        Err(fault) => return Err(fault),
+    };
+    let present = match chosen(heads.first, heads.second) {
+        Ok(present) => present,
+        Err(fault) => return Err(fault),
+    };
+    match present {
+        Present::Neither => begin(alloc, disk, lane, heads),
+        Present::First(standing) => match standing {
+            Standing::New(generation) => {
+                let aside = aside_by(heads.second_size, heads.second);
+                found(
+                    alloc,
+                    disk,
+                    lane,
+                    false,
+                    generation,
+                    heads.first_size,
+                    aside,
+                )
+            }
+            Standing::Old => migrate(alloc, disk, lane, heads),
+            // Never: a shut lane is not present.
+            Standing::Shut => Err(LogFault::Damaged { at: 5 }),
+        },
+        Present::Second(other) => match other {
+            Standing::New(generation) => {
+                let beside = aside_by(heads.first_size, heads.first);
+                found(
+                    alloc,
+                    disk,
+                    lane,
+                    true,
+                    generation,
+                    heads.second_size,
+                    beside,
+                )
+            }
+            // Never: the first version stands in the first lane alone, and a shut lane is not present.
+            Standing::Old => Err(LogFault::Damaged { at: 4 }),
+            Standing::Shut => Err(LogFault::Damaged { at: 5 }),
+        },
+    }
+}
+
 impl Log {
+    /// Opens the log of two lanes, the first of which has this number: room, a sync of both, and what they hold. Where
+    /// the present lane is of the first version, what it holds is written into the second lane, and where neither is
+    /// open, the empty state into the first one. `Damaged` comes exactly where the lanes hold no log, and `Disk` only
+    /// where the disk failed in this call.
+    pub fn open<D: Disk>(alloc: Global, disk: &mut D, lane: u16) -> Result<Log, LogFault>
+        requires two { lane + 1 < 2 ^ 16 }
+        ensures opens { D.tells →
+            Opens lane (lanes_at (D.lane_of disk.old) lane) (lanes_at (D.lane_of disk.new) lane) result }
+        ensures lane { IfOk result (λ l. l.lane ≡ lane) }
+        ensures whole { IfOk result (λ l. l.broken ≡ false) }
+        ensures never_reopen { result ≢ Err LogFault.Reopen }
+        ensures tally { let f = D.faults disk.old in let s = D.stops disk.old in
+            Tally f s (D.faults disk.new) (D.stops disk.new) result }
+        ensures causes { let f = D.faults disk.old in let f' = D.faults disk.new in
+            let ls = lanes_at (D.lane_of disk.new) lane in D.tells → Causes (D.faultless disk.old)
+            (has_stopped ls.first.stop || has_stopped ls.second.stop) f f' result }
+        ensures faultless { let f = D.faults disk.old in
+            StaysFaultless (D.faultless disk.old) (D.faultless disk.new) f (D.faults disk.new) }
+        ensures others { D.tells → (n : ℕ) → AwayFrom lane n → D.lane_of disk.new n ≡ D.lane_of disk.old n }
+    {
+        match sync_lanes(disk, lane) {
+            Ok(()) => {}
+            Err(fault) => return Err(fault),
+        }
+        open_synced(alloc, disk, lane)
+    }
+
     /// Appends a record to the present lane by four calls on the disk. `Ok` comes once it is synced. After `Memory`
     /// nothing has changed. After `Disk` the log has to be opened again, and answers `Reopen` from then on. It never
     /// answers `Damaged`.

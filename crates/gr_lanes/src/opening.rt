@@ -7,7 +7,7 @@ ghost use Rattle.gr_out.specs.Faults.{Rose};
 ghost use Rattle.gr_out.specs.Lane.{content, moment, has_stopped, LeavesOnly, LeftSince, MayLeave, Sync};
 ghost use Rattle.gr_out.specs.Stops.{StaysFaultless};
 ghost use Rattle.gr_out.specs.declared.disk.Stop.TheVariants.{Unset};
-ghost use Rattle.gr_lanes.specs.Text.{standing_of};
+ghost use Rattle.gr_lanes.specs.Text.{standing_of, IsStanding};
 ghost use Rattle.gr_lanes.specs.Lanes.{present_of};
 ghost use Rattle.gr_lanes.specs.Gives.{Tells, IsNoReopen};
 ghost use Rattle.gr_lanes.specs.Views.{lanes_at, AwayFrom};
@@ -129,6 +129,7 @@ fn head_of<D: Disk>(
     requires { D.tells → size ≡ length (content (D.lane_of disk.old lane)) }
     ensures gives { let read = standing_of first (content (D.lane_of disk.old lane)) in
         D.tells → MatchResult result (λ x. read ≡ Ok x) (λ e. Tells e read) }
+    ensures sound { IfOk result (λ x. IsStanding size x) }
     ensures lanes { D.tells → (n : ℕ) → D.lane_of disk.new n ≡ D.lane_of disk.old n }
     ensures never_reopen { IsNoReopen result }
     ensures faults { D.faults disk.old ≤ D.faults disk.new }
@@ -200,6 +201,7 @@ pub(crate) fn heads_of<D: Disk>(alloc: Global, disk: &mut D, lane: u16) -> Resul
     ensures gives { let ls = lanes_at (D.lane_of disk.old) lane in D.tells →
         MatchResult result (λ h. AreHeads h (content ls.first) (content ls.second))
         (λ e. Tells e (present_of (content ls.first) (content ls.second))) }
+    ensures sound { IfOk result (λ h. IsStanding h.first_size h.first × IsStanding h.second_size h.second) }
     ensures lanes { D.tells → (n : ℕ) → D.lane_of disk.new n ≡ D.lane_of disk.old n }
     ensures never_reopen { IsNoReopen result }
     ensures faults { D.faults disk.old ≤ D.faults disk.new }

@@ -308,8 +308,10 @@ pub struct Held {
 fn records_in(alloc: Global, total: usize, begun: State, bytes: &[u8]) -> Result<Held, LogFault>
     requires within { length bytes.now ≤ total }
     requires state { IsState (held_by begun []) }
-    ensures { let read = placed total (records_in (total + 1) total (held_by begun []) bytes.now) in
+    ensures gives { let read = placed total (records_in (total + 1) total (held_by begun []) bytes.now) in
         MatchResult result (λ x. read ≡ Ok (held_by x.state x.events, x.gate)) (λ e. Fails e read) }
+    ensures state { IfOk result (λ x. IsState (held_by x.state x.events)) }
+    ensures inside { IfOk result (λ x. x.gate ≤ total) }
 {
     let mut state = begun;
     let mut entries = VecDeque::new(alloc);
@@ -344,8 +346,10 @@ fn records_in(alloc: Global, total: usize, begun: State, bytes: &[u8]) -> Result
 #[tactic(auto, unfolding(crate::specs::Text::text_in))]
 fn new_text_in(alloc: Global, generation: u64, bytes: &[u8]) -> Result<Held, LogFault>
     requires { 6 ≤ length bytes.now }
-    ensures { let read = placed_in (Standing.New generation) bytes.now in
+    ensures gives { let read = placed_in (Standing.New generation) bytes.now in
         MatchResult result (λ x. read ≡ Ok (held_by x.state x.events, x.gate)) (λ e. Fails e read) }
+    ensures state { IfOk result (λ x. IsState (held_by x.state x.events)) }
+    ensures inside { IfOk result (λ x. x.gate ≤ length bytes.now) }
 {
     // Proof only: each of them is a byte.
     are_bytes(&bytes[6..]);
@@ -357,8 +361,10 @@ fn new_text_in(alloc: Global, generation: u64, bytes: &[u8]) -> Result<Held, Log
 #[tactic(auto, unfolding(crate::specs::Text::text_in))]
 fn old_text_in(alloc: Global, bytes: &[u8]) -> Result<Held, LogFault>
     requires { 6 ≤ length bytes.now }
-    ensures { let read = placed_in Standing.Old bytes.now in
+    ensures gives { let read = placed_in Standing.Old bytes.now in
         MatchResult result (λ x. read ≡ Ok (held_by x.state x.events, x.gate)) (λ e. Fails e read) }
+    ensures state { IfOk result (λ x. IsState (held_by x.state x.events)) }
+    ensures inside { IfOk result (λ x. x.gate ≤ length bytes.now) }
 {
     records_in(alloc, bytes.len(), State::new(), &bytes[5..])
 }
@@ -367,8 +373,10 @@ fn old_text_in(alloc: Global, bytes: &[u8]) -> Result<Held, LogFault>
 #[tactic(auto, unfolding(crate::specs::Text::text_in))]
 pub(crate) fn text_in(alloc: Global, standing: Standing, bytes: &[u8]) -> Result<Held, LogFault>
     requires { 6 ≤ length bytes.now }
-    ensures { let read = placed_in standing bytes.now in
+    ensures gives { let read = placed_in standing bytes.now in
         MatchResult result (λ x. read ≡ Ok (held_by x.state x.events, x.gate)) (λ e. Fails e read) }
+    ensures state { IfOk result (λ x. IsState (held_by x.state x.events)) }
+    ensures inside { IfOk result (λ x. x.gate ≤ length bytes.now) }
 {
     match standing {
         Standing::Shut => Ok(Held {

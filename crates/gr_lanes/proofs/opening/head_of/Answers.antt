@@ -16,4 +16,4 @@ returns-clause-gives g c = λ t.
     let front : c.deref.result.now ≡ take c.front_of.result bytes = c.deref.ensures.value ∙ c.in-Ok.ensures.bytes t in
     tells_as c.head_in.result (head_in c.args.first c.args.size c.deref.result.now) (standing_of c.args.first bytes)
     (ap (λ (l : List ℕ). head_in c.args.first c.args.size l) front ∙ (head_front c.args.first c.args.size bytes c.front_of.result long c.front_of.ensures ∙ ap (λ (n : ℕ). head_in c.args.first n bytes) (c.requires t)))
-    c.head_in.ensures
+    c.head_in.ensures.gives

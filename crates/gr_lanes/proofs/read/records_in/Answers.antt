@@ -13,13 +13,13 @@ gates-init c = record {
   reading = rw c.new-entries.ensures.items (starts c.args.total (held_by c.args.begun []) c.args.bytes.now c.requires.within c.requires.state);
 }
 
-pub returns-then-is_empty : goal.returns-then-is_empty
-returns-then-is_empty c =
+pub returns-then-is_empty-clause-gives : goal.returns-then-is_empty-clause-gives
+returns-then-is_empty-clause-gives c =
     let none : length c.gates.rest.now ≡ 0 = search rules in
     reads_out _ _ c.gates.rest.now _ c.gates.invariant.reading (nil_from_length c.gates.rest.now none)
 
-pub returns-then-rest-ne1 : goal.returns-then-rest-ne1
-returns-then-rest-ne1 c =
+pub returns-then-rest-ne1-clause-gives : goal.returns-then-rest-ne1-clause-gives
+returns-then-rest-ne1-clause-gives c =
     let rest = c.gates.rest.now in
     let some : 0 < length rest = search rules in
     let shut : get_or rest 0 0 ≢ 1 = search rules in
@@ -41,11 +41,14 @@ gates-preserved c =
           (c.note_record.ensures ∙ ap (λ (l : List Entry). live_after l c.in-Ok.entry) c.in_ok-reserve-in-Ok.ensures.items);
     }
 
-pub returns-in-Err : goal.returns-in-Err
-returns-in-Err c =
+pub returns-in-Err-clause-gives : goal.returns-in-Err-clause-gives
+returns-in-Err-clause-gives c =
     let rest = c.gates.rest.now in
     let some : 0 < length rest = search rules in
     let opened : get_or rest 0 0 ≡ 1 = search rules in
     let behind = take (length rest - 1) (drop 1 rest) in
     let is : rest ≡ 1 ∷ behind = first_is rest 1 some opened ∙ ap (λ (l : List ℕ). 1 ∷ l) (sym (take_rest rest 1)) in
     reads_fault _ _ rest behind _ c.in-Err.fault c.gates.invariant.reading is c.in-Err.ensures.gives
+
+pub returns-then-rest-ne1-clause-state : goal.returns-then-rest-ne1-clause-state
+returns-then-rest-ne1-clause-state c = c.gates.invariant.reading.state
