@@ -11,7 +11,7 @@ use Rattle.gr_tick.proofs.RunLaws.{runs_equal}
 use Rattle.gr_frame.specs.declared.Frame.{Frame}
 use Rattle.gr_frame.specs.Bytes.{cut_frames}
 use Rattle.gr_pubend.proofs.Knowing.{log_know-is}
-use Rattle.gr_invariants.proofs.calls.CallTruth.{new_ticks-is, forward-is}
+use Rattle.gr_model_calls.proofs.calls.CallTruth.{new_ticks-is, forward-is}
 use Rattle.gr_curio.specs.Values.{Wanted, Asked, wanted_at, is_A}
 use Rattle.gr_know.specs.Values.{Known, known_at, is_Q}
 use Rattle.gr_know.specs.declared.values.K.TheVariants.{Q}
@@ -21,8 +21,8 @@ use Rattle.gr_model.specs.Net.{Net, is_host, keeps_horizon}
 use Rattle.gr_model.specs.NetOf.{net_of}
 use Rattle.gr_model.specs.Broker.{View, Outcome, is_consolidated_by, new_ticks, forward, know_frames, forward_frames, learn, started}
 use Rattle.gr_model.specs.Opening.{reopened_line}
-use Rattle.gr_relay.specs.declared.place.Child.{Child}
-use Rattle.gr_relay.specs.Kept.{IsKept}
+use Rattle.gr_broker_relay.specs.declared.place.Child.{Child}
+use Rattle.gr_broker_relay.specs.Kept.{IsKept}
 use Rattle.gr_broker.specs.Seen.{log_said}
 use Rattle.gr_broker.specs.Opened.{opened_at}
 use Rattle.gr_broker.specs.Starting.{fresh_view, start_lines, IsStarted}

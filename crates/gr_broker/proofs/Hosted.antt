@@ -30,11 +30,11 @@ use Rattle.gr_model.specs.declared.report.Report.{Report}
 use Rattle.gr_model.specs.declared.report.Report.TheVariants as line
 use Rattle.gr_model.specs.Net.{Net, keeps_horizon, is_empty, not_empty}
 use Rattle.gr_model.specs.Broker.{View, Outcome, horizon_if, is_consolidated, is_consolidated_by, consolidated, learn, done_upto, cutting, marking, marking_by, publish, publish_by, says, wake_host, expect_frames}
-use Rattle.gr_relay.specs.declared.outcome.Outcome.{Outcome as Told}
-use Rattle.gr_relay.specs.Told.{Tells, Adds}
+use Rattle.gr_broker_relay.specs.declared.outcome.Outcome.{Outcome as Told}
+use Rattle.gr_broker_relay.specs.Told.{Tells, Adds}
 use Rattle.gr_broker.specs.Hosted.{cut_logs}
 use Rattle.gr_broker.specs.Host.{tick_marked, tick_cut, mark_lines, cut_lines, expected_frames}
-use Rattle.gr_invariants.proofs.calls.Pieces.{consolidated-is}
+use Rattle.gr_model_calls.proofs.calls.Pieces.{consolidated-is}
 
 -- The log with one record more
 

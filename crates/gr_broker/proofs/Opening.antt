@@ -17,11 +17,11 @@ use Rattle.gr_model.specs.Net.{numbers, numbers_from, is_host}
 use Rattle.gr_model.specs.NetOf.{net_of}
 use Rattle.gr_model.specs.Broker.{View}
 use Rattle.gr_model.specs.World.{blank_view}
-use Rattle.gr_relay.specs.declared.held.Held.{Held}
-use Rattle.gr_relay.specs.Held.{held_view}
-use Rattle.gr_relay.specs.declared.outcome.Outcome.{Outcome as BrokerOutcome}
-use Rattle.gr_relay.specs.Branch.{Branch, branch_of}
-use Rattle.gr_relay.proofs.Placing.{numbers_more}
+use Rattle.gr_broker_relay.specs.declared.held.Held.{Held}
+use Rattle.gr_broker_relay.specs.Held.{held_view}
+use Rattle.gr_broker_relay.specs.declared.outcome.Outcome.{Outcome as BrokerOutcome}
+use Rattle.gr_broker_relay.specs.Branch.{Branch, branch_of}
+use Rattle.gr_broker_relay.proofs.Placing.{numbers_more}
 use Rattle.gr_broker.specs.Seen.{BrokerView, log_said}
 use Rattle.gr_broker.specs.Opened.{StartsOver, OpensLanes, LosesNothing, IsDamagedAt}
 use Rattle.gr_broker.proofs.Fresh.{none_some, opened_silent}

@@ -16,9 +16,9 @@ use Rattle.gr_pubend.specs.Answers.{published, event_of, publish_logs}
 use Rattle.gr_model.specs.Net.{Net}
 use Rattle.gr_model.specs.Broker.{View, publish}
 use Rattle.gr_model.specs.World.{blank_view}
-use Rattle.gr_relay.specs.declared.held.Held.{Held}
-use Rattle.gr_relay.specs.declared.place.Position.{Position}
-use Rattle.gr_relay.specs.Held.{held_view, seen_branch}
+use Rattle.gr_broker_relay.specs.declared.held.Held.{Held}
+use Rattle.gr_broker_relay.specs.declared.place.Position.{Position}
+use Rattle.gr_broker_relay.specs.Held.{held_view, seen_branch}
 use Rattle.gr_broker.specs.Seen.{BrokerView, view_in, log_in, log_said, with_view, with_log, with_logged, with_failed, broken_at, logs_of, seen_broker}
 use Rattle.gr_broker.specs.Hosted.{AppendsAt}
 use Rattle.gr_broker.proofs.Hosted.{publish_log_is}

@@ -13,9 +13,9 @@ use Rattle.gr_model.specs.Net.{Net}
 use Rattle.gr_model.specs.Broker.{View}
 use Rattle.gr_model.specs.World.{blank_view}
 use Rattle.gr_model.specs.Arrivals.{fits_broker}
-use Rattle.gr_relay.specs.declared.held.Held.{Held}
-use Rattle.gr_relay.specs.declared.place.Position.{Position}
-use Rattle.gr_relay.specs.Held.{held_view, seen_branch}
+use Rattle.gr_broker_relay.specs.declared.held.Held.{Held}
+use Rattle.gr_broker_relay.specs.declared.place.Position.{Position}
+use Rattle.gr_broker_relay.specs.Held.{held_view, seen_branch}
 use Rattle.gr_broker.specs.Seen.{BrokerView, view_in, seen_broker}
 use Rattle.gr_broker.specs.Receipt.{Receipt, no_frame, stray, clash, taken, receipt, receipt_of_fit, view_after, after_receipt}
 

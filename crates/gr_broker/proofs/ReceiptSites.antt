@@ -8,9 +8,9 @@ use Rattle.gr_frame.specs.declared.Frame.{Frame}
 use Rattle.gr_topo.specs.Topology.{children_of}
 use Rattle.gr_model.specs.NetOf.{net_of}
 use Rattle.gr_model.specs.Broker.{View, empty_log, place_of, curiosity}
-use Rattle.gr_relay.specs.declared.place.Position.{Position}
-use Rattle.gr_relay.specs.declared.site.Site.{Site}
-use Rattle.gr_relay.specs.Held.{IsSite}
+use Rattle.gr_broker_relay.specs.declared.place.Position.{Position}
+use Rattle.gr_broker_relay.specs.declared.site.Site.{Site}
+use Rattle.gr_broker_relay.specs.Held.{IsSite}
 use Rattle.gr_broker.specs.Receipt.{taken, receipt_of_fit}
 use Rattle.gr_broker.proofs.Receipts.{answers_curiosity, place_reads}
 

@@ -24,7 +24,7 @@ use Rattle.gr_model.specs.NetOf.{net_of}
 use Rattle.gr_model.proofs.NetOf.{net_is_orderly}
 use Rattle.gr_model.specs.Broker.{View, Log, Outcome, new_ticks, passed, forward, forward_frames, learn, curiosity, asking, expect, clashes, place_of, receive, empty_log}
 use Rattle.gr_model.specs.Arrivals.{clash_runs, first_of}
-use Rattle.gr_invariants.proofs.runs.LeastClash.{clash_is_least, none_clashes}
+use Rattle.gr_model_calls.proofs.runs.LeastClash.{clash_is_least, none_clashes}
 use Rattle.gr_broker.specs.Receipt.{clash, taken, receipt_of_fit, comes_over}
 
 -- The least tick of a clash

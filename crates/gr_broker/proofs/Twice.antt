@@ -17,9 +17,9 @@ use Rattle.gr_pubend.specs.Log.{Log, log_of}
 use Rattle.gr_pubend.specs.Answers.{quieted, mark_of, quiet_logs}
 use Rattle.gr_model.specs.Net.{Net}
 use Rattle.gr_model.specs.Broker.{View, Outcome, marking, wake_host}
-use Rattle.gr_relay.specs.declared.outcome.Outcome.{Outcome as Told}
-use Rattle.gr_relay.specs.Told.{Tells, Adds, AddsFrames}
-use Rattle.gr_relay.proofs.Sent.{adds_after}
+use Rattle.gr_broker_relay.specs.declared.outcome.Outcome.{Outcome as Told}
+use Rattle.gr_broker_relay.specs.Told.{Tells, Adds, AddsFrames}
+use Rattle.gr_broker_relay.proofs.Sent.{adds_after}
 use Rattle.gr_broker.specs.Hosted.{logged, cut_logs, AppendsTwice, WakeLeaves}
 use Rattle.gr_broker.specs.Host.{host_with, tick_marked, tick_cut, mark_lines, cut_lines, expected_frames}
 use Rattle.gr_broker.proofs.Hosted.{split_moment, marking_is, marking_log_is, cutting_log_is, host_woken}

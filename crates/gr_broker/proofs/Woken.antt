@@ -16,12 +16,12 @@ use Rattle.gr_model.specs.Net.{Net, is_host}
 use Rattle.gr_model.specs.NetOf.{net_of}
 use Rattle.gr_model.specs.Broker.{View, Outcome, marking, wake, wake_host, wake_below, asking}
 use Rattle.gr_model.specs.World.{blank_view}
-use Rattle.gr_relay.specs.declared.outcome.Outcome.{Outcome as Answer}
-use Rattle.gr_relay.specs.declared.held.Held.{Held}
-use Rattle.gr_relay.specs.declared.site.Seat.{Seat}
-use Rattle.gr_relay.specs.Held.{held_view}
-use Rattle.gr_relay.specs.Kept.{IsKept}
-use Rattle.gr_relay.specs.Told.{Tells}
+use Rattle.gr_broker_relay.specs.declared.outcome.Outcome.{Outcome as Answer}
+use Rattle.gr_broker_relay.specs.declared.held.Held.{Held}
+use Rattle.gr_broker_relay.specs.declared.site.Seat.{Seat}
+use Rattle.gr_broker_relay.specs.Held.{held_view}
+use Rattle.gr_broker_relay.specs.Kept.{IsKept}
+use Rattle.gr_broker_relay.specs.Told.{Tells}
 use Rattle.gr_broker.specs.declared.outcome.BrokerFault.{BrokerFault}
 use Rattle.gr_broker.specs.declared.outcome.BrokerFault.TheVariants as refused
 use Rattle.gr_broker.specs.Seen.{broker_at, BrokerView, log_in, log_said, with_logged, with_failed, broken_at, is_broken}

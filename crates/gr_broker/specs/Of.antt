@@ -6,8 +6,8 @@ use Rattle.gr_publog.specs.Crash.{LogView}
 use Rattle.gr_publog.specs.Calls.{IsReady}
 use Rattle.gr_model.specs.Net.{numbers, is_host}
 use Rattle.gr_model.specs.NetOf.{net_of}
-use Rattle.gr_relay.specs.Branch.{branch_of}
-use Rattle.gr_relay.specs.Kept.{IsKept}
+use Rattle.gr_broker_relay.specs.Branch.{branch_of}
+use Rattle.gr_broker_relay.specs.Kept.{IsKept}
 use Rattle.gr_broker.specs.Seen.{BrokerView, view_in, log_in}
 
 -- A broker of a topology

@@ -10,7 +10,7 @@ use Rattle.gr_model.specs.Net.{Net, numbers, is_host, not_empty}
 use Rattle.gr_model.specs.NetOf.{net_of}
 use Rattle.gr_model.specs.Broker.{Log, View, Outcome as MachineOutcome, learn, started}
 use Rattle.gr_model.specs.Opening.{reopened_line}
-use Rattle.gr_relay.specs.declared.outcome.Outcome.{Outcome}
+use Rattle.gr_broker_relay.specs.declared.outcome.Outcome.{Outcome}
 use Rattle.gr_broker.specs.Seen.{BrokerView, view_in, log_in, machine_log}
 use Rattle.gr_broker.specs.Of.{IsBrokerOf}
 

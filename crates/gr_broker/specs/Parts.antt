@@ -6,8 +6,8 @@ use Rattle.gr_pubend.specs.Answers.{quieted, mark_of}
 use Rattle.gr_topo.specs.Topology.{TopologyView}
 use Rattle.gr_model.specs.NetOf.{net_of}
 use Rattle.gr_model.specs.Broker.{View, Outcome as MachineOutcome, marking, wake}
-use Rattle.gr_relay.specs.declared.held.Held.{Held}
-use Rattle.gr_relay.specs.Held.{held_view}
+use Rattle.gr_broker_relay.specs.declared.held.Held.{Held}
+use Rattle.gr_broker_relay.specs.Held.{held_view}
 use Rattle.gr_broker.specs.Seen.{BrokerView, view_in, log_in, log_said, with_view, with_log, with_logged, with_failed}
 use Rattle.gr_broker.specs.Hosted.{cut_logs}
 

@@ -12,8 +12,8 @@ use Rattle.gr_know.specs.Values.{known_at}
 use Rattle.gr_model.specs.Net.{Net}
 use Rattle.gr_model.specs.Broker.{View, Outcome as MachineOutcome, empty_log, receive}
 use Rattle.gr_model.specs.Arrivals.{fits_broker, least_clash}
-use Rattle.gr_relay.specs.declared.outcome.Outcome.{Outcome}
-use Rattle.gr_relay.specs.Told.{Tells}
+use Rattle.gr_broker_relay.specs.declared.outcome.Outcome.{Outcome}
+use Rattle.gr_broker_relay.specs.Told.{Tells}
 use Rattle.gr_broker.specs.declared.outcome.Dropped.{Dropped}
 use Rattle.gr_broker.specs.declared.outcome.Received.{Received}
 use Rattle.gr_broker.specs.declared.outcome.Received.TheVariants as answer

@@ -6,11 +6,11 @@ use Rattle.gr_publog.specs.Crash.{LogView, with_record, failed}
 use Rattle.gr_pubend.specs.Log.{Log, log_of, empty_log}
 use Rattle.gr_model.specs.Broker.{View}
 use Rattle.gr_model.specs.World.{blank_view}
-use Rattle.gr_relay.specs.declared.held.Held.{Held}
-use Rattle.gr_relay.specs.declared.place.Position.{Position}
-use Rattle.gr_relay.specs.declared.site.Seat.{Seat}
-use Rattle.gr_relay.specs.Branch.{Branch}
-use Rattle.gr_relay.specs.Held.{held_view, seen_branch}
+use Rattle.gr_broker_relay.specs.declared.held.Held.{Held}
+use Rattle.gr_broker_relay.specs.declared.place.Position.{Position}
+use Rattle.gr_broker_relay.specs.declared.site.Seat.{Seat}
+use Rattle.gr_broker_relay.specs.Branch.{Branch}
+use Rattle.gr_broker_relay.specs.Held.{held_view, seen_branch}
 
 -- A broker: what it keeps of each publisher is the machine's view, and where the publisher is here, its log
 pub record BrokerView : Type 0 where

@@ -13,10 +13,10 @@ use Rattle.gr_model.specs.Net.{numbers, is_host}
 use Rattle.gr_model.specs.NetOf.{net_of}
 use Rattle.gr_model.specs.Broker.{View}
 use Rattle.gr_model.specs.World.{blank_view}
-use Rattle.gr_relay.specs.declared.held.Held.{Held}
-use Rattle.gr_relay.specs.declared.site.Site.{Site}
-use Rattle.gr_relay.specs.Held.{held_view}
-use Rattle.gr_relay.specs.Kept.{IsKept}
+use Rattle.gr_broker_relay.specs.declared.held.Held.{Held}
+use Rattle.gr_broker_relay.specs.declared.site.Site.{Site}
+use Rattle.gr_broker_relay.specs.Held.{held_view}
+use Rattle.gr_broker_relay.specs.Kept.{IsKept}
 use Rattle.gr_broker.specs.declared.outcome.BrokerFault.{BrokerFault}
 use Rattle.gr_broker.specs.declared.outcome.BrokerFault.TheVariants as refused
 use Rattle.gr_broker.specs.Seen.{log_said}

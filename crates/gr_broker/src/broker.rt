@@ -13,7 +13,7 @@ ghost use Rattle.gr_publog.specs.Calls.{GoesOn, Tally, Causes, Leaves};
 ghost use Rattle.gr_model.specs.Net.{is_host};
 ghost use Rattle.gr_model.specs.NetOf.{net_of};
 ghost use Rattle.gr_model.specs.Broker.{Outcome as MachineOutcome};
-ghost use Rattle.gr_relay.specs.Told.{Tells};
+ghost use Rattle.gr_broker_relay.specs.Told.{Tells};
 ghost use Rattle.gr_broker.specs.Seen.{view_in, log_in, machine_log, is_broken, broken_at, IsHosted};
 ghost use Rattle.gr_broker.specs.Of.{IsBrokerOf, LogsStand};
 ghost use Rattle.gr_broker.specs.Told.{log_answer};
@@ -27,14 +27,14 @@ use crate::publishing::publish_in;
 use crate::receiving::receive;
 use crate::starting::{fault_at, open_publishers};
 use crate::waking::wake;
+use gr_broker_relay::{Held, Memory, Outcome, Position, Seat, positions_at};
 use gr_edge::Edge;
 use gr_event::{Event, Numbers};
 use gr_frame::Frames;
 use gr_model::Reports;
 use gr_out::Disk;
+use gr_outbox::Outbox;
 use gr_publog::Log;
-use gr_relay::{Held, Memory, Outcome, Position, Seat, positions_at};
-use gr_sent::Sent;
 use gr_topo::Topology;
 use std::alloc::{AllocError, Global};
 use std::marker::Model;
@@ -59,7 +59,7 @@ impl Model for Broker {
     ghost use Rattle.gr_topo.specs.TreeCode.{tree_code};
     ghost use Rattle.gr_filter.specs.contracts.node.Operand as operand;
     ghost use Rattle.gr_filter.specs.contracts.node.Sign as sign;
-    ghost use Rattle.gr_relay.specs.Held.{held_view, seen_branch, HasEdges};
+    ghost use Rattle.gr_broker_relay.specs.Held.{held_view, seen_branch, HasEdges};
     ghost use Rattle.gr_broker.specs.Seen.{BrokerView};
 
     ghost Value = { BrokerView };
@@ -154,7 +154,7 @@ impl Broker {
             },
             outcome: Outcome {
                 reports: opened.lines,
-                frames: Sent::new(alloc),
+                frames: Outbox::new(alloc),
             },
         })
     }

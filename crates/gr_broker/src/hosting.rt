@@ -17,12 +17,15 @@ ghost use Rattle.gr_model.specs.Net.{is_host, keeps_horizon};
 ghost use Rattle.gr_model.specs.NetOf.{net_of};
 ghost use Rattle.gr_model.specs.Broker.{Outcome as MachineOutcome, learn, horizon_if, publish, publish_by, marking};
 ghost use Rattle.gr_model.specs.Broker.{marking_by, wake_host};
-ghost use Rattle.gr_relay.specs.Kept.{IsKept};
-ghost use Rattle.gr_relay.specs.Held.{held_view, IsSite};
-ghost use Rattle.gr_relay.specs.Told.{Tells, Adds, AddsFrames, IsBlank};
+ghost use Rattle.gr_broker_relay.specs.Kept.{IsKept};
+ghost use Rattle.gr_broker_relay.specs.Held.{held_view, IsSite};
+ghost use Rattle.gr_broker_relay.specs.Told.{Tells, Adds, AddsFrames, IsBlank};
 ghost use Rattle.gr_broker.specs.Hosted.{logged, cut_logs, AppendsTwice, WakeLeaves};
 ghost use Rattle.gr_broker.specs.Host.{host_with, tick_marked, tick_cut, mark_lines, cut_lines, expected_frames};
 
+use gr_broker_relay::{
+    Held, Memory, Outcome, Site, apply_learning, expect_children, plan_learning, reserve_learning,
+};
 use gr_curio::Wants;
 use gr_event::Event;
 use gr_know::K;
@@ -30,9 +33,6 @@ use gr_model::{Report, Reports};
 use gr_out::Disk;
 use gr_pubend::{Published, Quieted, plan, plan_quiet};
 use gr_publog::{Log, LogFault, Record};
-use gr_relay::{
-    Held, Memory, Outcome, Site, apply_learning, expect_children, plan_learning, reserve_learning,
-};
 use gr_tick::Piece;
 
 /// Logs a record at the host, and only once it is synced learns what is new by it. What that tells and sends is put

@@ -16,6 +16,6 @@ mod starting;
 mod waking;
 
 pub use broker::{Broker, Started};
-pub use gr_relay::{Memory, Outcome};
+pub use gr_broker_relay::{Memory, Outcome};
 pub use law::{clashes_have_a_least_tick, frames_pass_the_log, nothing_new_sends_nothing};
 pub use outcome::{BrokerFault, Dropped, Received};

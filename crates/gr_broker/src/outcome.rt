@@ -2,11 +2,11 @@
 
 ghost use Rattle.std.specs.Prelude.{◌≡◌, []};
 
+use gr_broker_relay::Outcome;
 use gr_frame::{FrameFault, Frames, Head};
 use gr_know::Clash;
 use gr_model::Reports;
-use gr_relay::Outcome;
-use gr_sent::Sent;
+use gr_outbox::Outbox;
 use std::alloc::Global;
 use std::mem;
 
@@ -54,7 +54,7 @@ impl Spare {
         let frames = mem::replace(&mut self.frames, Frames::new(alloc));
         Outcome {
             reports,
-            frames: Sent::within(alloc, frames),
+            frames: Outbox::within(alloc, frames),
         }
     }
 }

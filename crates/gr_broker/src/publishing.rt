@@ -11,18 +11,18 @@ ghost use Rattle.gr_model.specs.Net.{Net, is_host};
 ghost use Rattle.gr_model.specs.NetOf.{net_of};
 ghost use Rattle.gr_model.specs.Broker.{Outcome as MachineOutcome, publish};
 ghost use Rattle.gr_model.specs.World.{blank_view};
-ghost use Rattle.gr_relay.specs.Kept.{IsKept};
-ghost use Rattle.gr_relay.specs.Held.{held_view, IsSeat, IsSite};
-ghost use Rattle.gr_relay.specs.Told.{Tells, IsBlank};
+ghost use Rattle.gr_broker_relay.specs.Kept.{IsKept};
+ghost use Rattle.gr_broker_relay.specs.Held.{held_view, IsSeat, IsSite};
+ghost use Rattle.gr_broker_relay.specs.Told.{Tells, IsBlank};
 ghost use Rattle.gr_broker.specs.Seen.{log_in, log_said, with_logged, with_failed, is_broken, broken_at};
 ghost use Rattle.gr_broker.specs.Seen.{logs_of, broker_at};
 ghost use Rattle.gr_broker.specs.Hosted.{publish_at, publish_logs_at, after_publish, AppendsAt};
 
 use crate::hosting::publish;
+use gr_broker_relay::{Held, Outcome, Seat, Site, site_at};
 use gr_event::Event;
 use gr_out::Disk;
 use gr_publog::LogFault;
-use gr_relay::{Held, Outcome, Seat, Site, site_at};
 
 /// Publishes at one publisher's part, which has its log. Faults are those of `hosting::publish`, and so is what becomes
 /// of the outcome.

@@ -9,17 +9,17 @@ ghost use Rattle.gr_model.specs.NetOf.{net_of};
 ghost use Rattle.gr_model.specs.Broker.{place_of};
 ghost use Rattle.gr_model.specs.World.{blank_view};
 ghost use Rattle.gr_model.specs.Arrivals.{fits_broker};
-ghost use Rattle.gr_relay.specs.Kept.{IsKept};
-ghost use Rattle.gr_relay.specs.Held.{held_view, IsSeat, IsSite};
-ghost use Rattle.gr_relay.specs.Told.{IsBlank};
+ghost use Rattle.gr_broker_relay.specs.Kept.{IsKept};
+ghost use Rattle.gr_broker_relay.specs.Held.{held_view, IsSeat, IsSite};
+ghost use Rattle.gr_broker_relay.specs.Told.{IsBlank};
 ghost use Rattle.gr_broker.specs.Seen.{broker_at};
 ghost use Rattle.gr_broker.specs.Receipt.{comes_over, receipt_of_fit, view_after, receipt, after_receipt, AnswersInto};
 
 use crate::outcome::Dropped;
-use gr_frame::{Body, Frame, FrameFault, FrameKind, decode};
-use gr_relay::{
+use gr_broker_relay::{
     Held, Memory, Outcome, Position, Seat, Site, learn, site_at, take_curiosity, take_expect,
 };
+use gr_frame::{Body, Frame, FrameFault, FrameKind, decode};
 use std::alloc::{AllocError, Global};
 
 /// The place of the child with a number, or None where there is none.

@@ -9,9 +9,9 @@ ghost use Rattle.gr_publog.specs.Calls.{IsReady, GoesOn, Tally, Causes};
 ghost use Rattle.gr_model.specs.Net.{is_host};
 ghost use Rattle.gr_model.specs.NetOf.{net_of};
 ghost use Rattle.gr_model.specs.Broker.{Outcome as MachineOutcome};
-ghost use Rattle.gr_relay.specs.Kept.{IsKept};
-ghost use Rattle.gr_relay.specs.Held.{held_view, IsSeat, IsSite};
-ghost use Rattle.gr_relay.specs.Told.{Tells};
+ghost use Rattle.gr_broker_relay.specs.Kept.{IsKept};
+ghost use Rattle.gr_broker_relay.specs.Held.{held_view, IsSeat, IsSite};
+ghost use Rattle.gr_broker_relay.specs.Told.{Tells};
 ghost use Rattle.gr_broker.specs.Seen.{log_in, log_said, machine_log, is_broken, broken_at, broker_at};
 ghost use Rattle.gr_broker.specs.Of.{IsBrokerOf, LogsStand};
 ghost use Rattle.gr_broker.specs.Told.{log_answer};
@@ -23,9 +23,9 @@ ghost use Rattle.gr_broker.specs.Hosted.{AppendsTwiceAt, WakeLeaves};
 use crate::hosting::wake_host;
 use crate::outcome::BrokerFault;
 use crate::starting::fault_at;
+use gr_broker_relay::{Held, Outcome, Seat, Site, site_at, wake_below};
 use gr_out::Disk;
 use gr_publog::LogFault;
-use gr_relay::{Held, Outcome, Seat, Site, site_at, wake_below};
 
 /// Wakes for a publisher that is here: its log is taken out, and put back.
 fn wake_here<D: Disk>(

@@ -5,7 +5,7 @@ use Rattle.std.specs.Int.{from_be_bytes, cast_signed, w16, w64}
 use Rattle.std.specs.Str.{is_utf8}
 use Rattle.std.specs.Ordering.{nat_cmp, is_lt}
 use Rattle.std.specs.Cmp.Lexicographic.{slice_cmp}
-use Rattle.gr_event.specs.declared.limits.TheConstants.{MAX_PAIRS, MAX_NAME, MAX_TEXT, MAX_BYTES}
+use Rattle.gr_event.specs.declared.limits.TheConstants.{MAX_PAIRS, MAX_NAME, MAX_TEXT, MAX_EVENT_BYTES}
 use Rattle.gr_event.specs.declared.value.Value.{Value}
 use Rattle.gr_event.specs.declared.value.Value.TheVariants.{Int, Text, Bool as Truth}
 use Rattle.gr_event.specs.declared.event.Event.{Event}
@@ -84,5 +84,5 @@ pairs_of_count bytes n = if nat_lt MAX_PAIRS n then Err (fault.BadLength 0) else
 
 -- the event that the bytes spell, or the first fault. No name is below the empty one
 unfoldable pub event_decoded : List ℕ → Result Event EventFault
-event_decoded bytes = if nat_lt MAX_BYTES (length bytes) then Err fault.TooLong
+event_decoded bytes = if nat_lt MAX_EVENT_BYTES (length bytes) then Err fault.TooLong
     else (byte_at bytes 0 >>= pairs_of_count bytes)

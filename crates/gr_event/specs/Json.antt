@@ -10,7 +10,7 @@ use Rattle.serde_json.specs.Read.{read}
 use Rattle.serde_json.specs.Find.{as_i64, of_integer}
 use Rattle.serde_json.specs.Events.{members_len}
 use Rattle.serde_json.specs.Written.{compact_text}
-use Rattle.gr_event.specs.declared.limits.TheConstants.{MAX_PAIRS, MAX_NAME, MAX_TEXT, MAX_BYTES}
+use Rattle.gr_event.specs.declared.limits.TheConstants.{MAX_PAIRS, MAX_NAME, MAX_TEXT, MAX_EVENT_BYTES}
 use Rattle.gr_event.specs.declared.value.Value.{Value}
 use Rattle.gr_event.specs.declared.value.Value.TheVariants.{Int, Text, Bool as Truth}
 use Rattle.gr_event.specs.declared.event.Event.{Event}
@@ -89,7 +89,7 @@ pairs_from (member k d ms) = do
 
 -- the form in bytes has at most 8,192
 abbrev pub short_event : Event → Result Event EventFault
-short_event e = if nat_lt MAX_BYTES (event_size e) then Err fault.TooLong else Ok e
+short_event e = if nat_lt MAX_EVENT_BYTES (event_size e) then Err fault.TooLong else Ok e
 
 -- the event that a JSON value is
 unfoldable pub event_from : Data → Result Event EventFault

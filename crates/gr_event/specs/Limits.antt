@@ -6,7 +6,7 @@ use Rattle.std.specs.List.{AllByRecursion}
 use Rattle.std.specs.List.Sorted.{IsStrictlySortedBy}
 use Rattle.std.specs.Ordering.{nat_cmp}
 use Rattle.std.specs.Cmp.Lexicographic.{slice_cmp}
-use Rattle.gr_event.specs.declared.limits.TheConstants.{MAX_PAIRS, MAX_NAME, MAX_TEXT, MAX_BYTES}
+use Rattle.gr_event.specs.declared.limits.TheConstants.{MAX_PAIRS, MAX_NAME, MAX_TEXT, MAX_EVENT_BYTES}
 use Rattle.gr_event.specs.declared.value.Value.{Value}
 use Rattle.gr_event.specs.declared.value.Value.TheVariants.{Int, Text, Bool as Truth}
 use Rattle.gr_event.specs.declared.event.Event.{Event}
@@ -46,4 +46,4 @@ pub record ArePairs (e : Event) : Type 0 where
 -- what holds of every event
 pub record IsEvent (e : Event) : Type 0 where
   pub pairs : ArePairs e
-  pub short : event_size e ≤ MAX_BYTES
+  pub short : event_size e ≤ MAX_EVENT_BYTES

@@ -8,7 +8,7 @@ ghost use Rattle.gr_event.specs.Json.{event_text};
 
 use crate::encode::{INTEGER, TEXT, TRUTH};
 use crate::event::{Event, Memory};
-use crate::limits::{MAX_BYTES, MAX_NAME, MAX_PAIRS, MAX_TEXT};
+use crate::limits::{MAX_EVENT_BYTES, MAX_NAME, MAX_PAIRS, MAX_TEXT};
 use memchr::memchr;
 use std::alloc::Global;
 
@@ -30,7 +30,7 @@ pub(crate) fn from_compact(alloc: Global, bytes: &[u8]) -> Result<Option<Event>,
         let mut room = [0u8; 2 * SHORT];
         return from_guess(alloc, bytes, &mut room);
     }
-    if bytes.len() > 2 * MAX_BYTES {
+    if bytes.len() > 2 * MAX_EVENT_BYTES {
         return Ok(None);
     }
     let mut room = vec![in alloc; 0u8; bytes.len() + LONGER]?;

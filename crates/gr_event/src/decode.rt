@@ -13,10 +13,10 @@ ghost use Rattle.gr_event.specs.Get.{part_value};
 ghost use Rattle.gr_event.specs.Limits.{IsName, IsValue};
 ghost use Rattle.gr_event.specs.Decode.{byte_at, field_at, name_at, integer_at, text_value_at, truth_at, value_at};
 ghost use Rattle.gr_event.specs.Decode.{pairs_at, event_decoded};
-ghost use Rattle.gr_event.specs.declared.limits.TheConstants.{MAX_BYTES, MAX_PAIRS};
+ghost use Rattle.gr_event.specs.declared.limits.TheConstants.{MAX_EVENT_BYTES, MAX_PAIRS};
 
 use crate::event::{Event, EventFault, Memory};
-use crate::limits::{MAX_BYTES, MAX_NAME, MAX_PAIRS, MAX_TEXT};
+use crate::limits::{MAX_EVENT_BYTES, MAX_NAME, MAX_PAIRS, MAX_TEXT};
 use crate::value::Part;
 use byteorder::{BigEndian, ByteOrder};
 use std::alloc::Global;
@@ -52,7 +52,7 @@ fn fields_of(bytes: &[u8]) -> Result<(), EventFault>
     ensures told { TellsEvent result (event_decoded bytes.now) }
     ensures event { OnOk result (AreOfEvent bytes.now) }
 {
-    if bytes.len() > MAX_BYTES {
+    if bytes.len() > MAX_EVENT_BYTES {
         return Err(EventFault::TooLong);
     }
     let count = byte_at(bytes, 0)?;
@@ -102,7 +102,7 @@ fn is_text(bytes: &[u8]) -> bool
 /// The name behind its length, above the one before.
 #[tactic(auto, unfolding(crate::specs::Decode::name_at, crate::specs::Decode::name_of_length), using(crate::proofs::Decoding::told_text))]
 fn name_at<'a>(bytes: &'a [u8], at: usize, before: &[u8]) -> Result<&'a [u8], EventFault>
-    requires few { length bytes.now ≤ MAX_BYTES }
+    requires few { length bytes.now ≤ MAX_EVENT_BYTES }
     requires inside { at ≤ length bytes.now }
     ensures gives { MatchResult result
         (λ n. name_at bytes.now at before.now ≡ Ok n.now)
@@ -128,7 +128,7 @@ fn name_at<'a>(bytes: &'a [u8], at: usize, before: &[u8]) -> Result<&'a [u8], Ev
 /// The value behind its kind.
 #[tactic(auto, unfolding(crate::specs::Decode::value_at, crate::specs::Decode::value_of_kind))]
 fn value_at(bytes: &[u8], at: usize) -> Result<Part<'_>, EventFault>
-    requires few { length bytes.now ≤ MAX_BYTES }
+    requires few { length bytes.now ≤ MAX_EVENT_BYTES }
     requires inside { at ≤ length bytes.now }
     ensures gives { MatchResult result
         (λ p. value_at bytes.now at ≡ Ok (part_value p))
@@ -198,7 +198,7 @@ fn truth_at(bytes: &[u8], at: usize) -> Result<Part<'_>, EventFault>
 /// Whether so many pairs stand behind their count, and nothing after them.
 fn pairs_at(bytes: &[u8], count: u8) -> Result<(), EventFault>
     requires some { 1 ≤ length bytes.now }
-    requires short { length bytes.now ≤ MAX_BYTES }
+    requires short { length bytes.now ≤ MAX_EVENT_BYTES }
     requires few { count ≤ MAX_PAIRS }
     ensures { TellsEvent result (pairs_at bytes.now count 1 []) }
 {

@@ -9,10 +9,10 @@ ghost use Rattle.gr_event.specs.Limits.{IsEvent, ArePairs, IsPair, IsValue};
 ghost use Rattle.gr_event.specs.Get.{part_value, value_of};
 ghost use Rattle.gr_event.specs.Gives.{Gives};
 ghost use Rattle.gr_event.specs.Json.{short_event};
-ghost use Rattle.gr_event.specs.declared.limits.TheConstants.{MAX_BYTES, MAX_PAIRS};
+ghost use Rattle.gr_event.specs.declared.limits.TheConstants.{MAX_EVENT_BYTES, MAX_PAIRS};
 
 use crate::encode::put_event;
-use crate::limits::MAX_BYTES;
+use crate::limits::MAX_EVENT_BYTES;
 use crate::pairs::Pairs;
 use crate::text::Text;
 use crate::value::{Part, Value};
@@ -77,7 +77,7 @@ impl Event {
         requires { ArePairs pairs.items }
         ensures { Gives result (short_event pairs.items) }
     {
-        if 1 + size_of_pairs(&pairs) > MAX_BYTES {
+        if 1 + size_of_pairs(&pairs) > MAX_EVENT_BYTES {
             return Err(EventFault::TooLong);
         }
         Ok(Event::of_pairs(alloc, pairs)?)
@@ -102,7 +102,7 @@ impl Event {
     /// How many bytes its form in bytes has, at most 8,192. Takes no memory.
     pub fn size(&self) -> usize
         ensures size { result ≡ event_size self.now }
-        ensures short { result ≤ MAX_BYTES }
+        ensures short { result ≤ MAX_EVENT_BYTES }
         ensures event { IsEvent self.now }
     {
         self.bytes().len()

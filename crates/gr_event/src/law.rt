@@ -2,7 +2,7 @@
 
 ghost use Rattle.std.specs.Prelude.{◌≡◌, Ok};
 ghost use Rattle.gr_event.specs.declared.event.Event.{Event};
-ghost use Rattle.gr_event.specs.declared.limits.TheConstants.{MAX_PAIRS, MAX_NAME, MAX_TEXT, MAX_BYTES};
+ghost use Rattle.gr_event.specs.declared.limits.TheConstants.{MAX_PAIRS, MAX_NAME, MAX_TEXT, MAX_EVENT_BYTES};
 ghost use Rattle.gr_event.specs.Json.{json_text, event_text};
 ghost use Rattle.gr_event.specs.Limits.{IsEvent};
 
@@ -16,5 +16,5 @@ pub fn limits_of_events()
     ensures pairs { MAX_PAIRS ≡ 32 }
     ensures name { MAX_NAME ≡ 64 }
     ensures text { MAX_TEXT ≡ 1024 }
-    ensures bytes { MAX_BYTES ≡ 8192 }
+    ensures bytes { MAX_EVENT_BYTES ≡ 8192 }
 {}

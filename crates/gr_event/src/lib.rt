@@ -27,7 +27,7 @@ pub use event::{Event, EventFault, Memory};
 pub use join::{Join, Split};
 pub use joins::Joins;
 pub use law::{limits_of_events, printed_events_read_back};
-pub use limits::{MAX_BYTES, MAX_JOIN_TICK, MAX_JOINS, MAX_NAME, MAX_PAIRS, MAX_TEXT};
+pub use limits::{MAX_EVENT_BYTES, MAX_JOIN_TICK, MAX_JOINS, MAX_NAME, MAX_PAIRS, MAX_TEXT};
 pub use pairs::Pairs;
 pub use text::{Bytes, Numbers, Text};
 pub use value::{Part, Value};

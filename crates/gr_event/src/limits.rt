@@ -10,7 +10,7 @@ pub const MAX_NAME: usize = 64;
 pub const MAX_TEXT: usize = 1_024;
 
 /// How many bytes the form in bytes has at most.
-pub const MAX_BYTES: usize = 8_192;
+pub const MAX_EVENT_BYTES: usize = 8_192;
 
 /// How many joins a list has at most.
 pub const MAX_JOINS: usize = 64;

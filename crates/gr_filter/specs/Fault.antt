@@ -2,7 +2,7 @@
 use Rattle.std.specs.Prelude.{ℕ, List, codes}
 use Rattle.gr_filter.specs.declared.fault.FilterFault.{FilterFault}
 use Rattle.gr_filter.specs.declared.fault.FilterFault.TheVariants as fault
-use Rattle.gr_filter.specs.declared.parser.TheConstants.{MAX_BYTES}
+use Rattle.gr_filter.specs.declared.parser.TheConstants.{MAX_FILTER_BYTES}
 
 -- want of memory has the number 0, and the faults of a text those from 1 to 5
 abbrev pub fault_number : FilterFault → ℕ
@@ -28,5 +28,5 @@ fault_place fault.Memory = 0
 fault_place (fault.BadToken at) = at
 fault_place (fault.Expected at) = at
 fault_place (fault.TooDeep at) = at
-fault_place fault.TooLong = MAX_BYTES
+fault_place fault.TooLong = MAX_FILTER_BYTES
 fault_place (fault.NumberRange at) = at

@@ -4,7 +4,7 @@ use Rattle.std.specs.Prelude.{take, drop, slice_range, Result, Ok, Err}
 use Rattle.gr_filter.specs.declared.fault.FilterFault.{FilterFault}
 use Rattle.gr_filter.specs.declared.fault.FilterFault.TheVariants as fault
 use Rattle.gr_filter.specs.declared.node.Operand.{Operand}
-use Rattle.gr_filter.specs.declared.parser.TheConstants.{LEVELS, MAX_BYTES}
+use Rattle.gr_filter.specs.declared.parser.TheConstants.{LEVELS, MAX_FILTER_BYTES}
 use Rattle.gr_filter.specs.declared.node.Operand.TheVariants as operand
 use Rattle.gr_filter.specs.declared.token.Token.{Token}
 use Rattle.gr_filter.specs.declared.token.Token.TheVariants as token
@@ -235,5 +235,5 @@ ended bytes r = let l = lexeme bytes r.1 in if is_end l.token then Ok r.0 else E
 
 -- the filter that a text is, or the first fault
 unfoldable pub filter_text : List ℕ → Result Tree FilterFault
-filter_text bytes = if nat_lt MAX_BYTES (length bytes) then Err fault.TooLong
+filter_text bytes = if nat_lt MAX_FILTER_BYTES (length bytes) then Err fault.TooLong
     else (or_at bytes (not_at bytes LEVELS) 0 >>= ended bytes)

@@ -2,7 +2,7 @@
 use Rattle.std.specs.Prelude.{◌≡◌, ℕ, suc, ℤ, Bool, true, false, ◌≤◌, List, [], ◌∷◌, ◌++◌, length, flat_map, Option}
 use Rattle.std.specs.Prelude.{Some, None}
 use Rattle.gr_filter.specs.declared.node.Operand.{Operand}
-use Rattle.gr_filter.specs.declared.parser.TheConstants.{LEVELS, MAX_BYTES}
+use Rattle.gr_filter.specs.declared.parser.TheConstants.{LEVELS, MAX_FILTER_BYTES}
 use Rattle.gr_filter.specs.declared.node.Operand.TheVariants as operand
 use Rattle.gr_filter.specs.declared.node.Sign.{Sign}
 use Rattle.gr_filter.specs.declared.token.Token.{Token}
@@ -157,7 +157,7 @@ AreWords bytes at (w ∷ ws) to = (word_at bytes at ≡ Some w) × AreWords byte
 
 -- The text has these words, and they derive the tree, with no more levels than there may be.
 pub record IsFilterText (bytes : List ℕ) (t : Tree) : Type 0 where
-  pub short : length bytes ≤ MAX_BYTES
+  pub short : length bytes ≤ MAX_FILTER_BYTES
   pub words : List Word
   pub upto : ℕ
   pub are_words : AreWords bytes 0 words upto

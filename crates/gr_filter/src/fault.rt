@@ -3,7 +3,7 @@
 ghost use Rattle.std.specs.Prelude.{◌≡◌, ◌≤◌};
 ghost use Rattle.gr_filter.specs.Fault.{fault_number, fault_word, fault_place};
 
-use crate::parser::MAX_BYTES;
+use crate::parser::MAX_FILTER_BYTES;
 use std::alloc::{AllocError, AllocFailed};
 use std::error::Error;
 use std::fmt;
@@ -64,7 +64,7 @@ impl FilterFault {
     {
         match self {
             FilterFault::Memory => 0,
-            FilterFault::TooLong => MAX_BYTES,
+            FilterFault::TooLong => MAX_FILTER_BYTES,
             FilterFault::BadToken { at }
             | FilterFault::Expected { at }
             | FilterFault::TooDeep { at }

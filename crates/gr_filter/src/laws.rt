@@ -5,7 +5,7 @@ ghost use Rattle.std.specs.Prelude.{◌≡◌, ◌↔◌, ℕ, List, Ok};
 ghost use Rattle.gr_filter.specs.Tree.{Tree};
 ghost use Rattle.gr_filter.specs.Grammar.{filter_text};
 ghost use Rattle.gr_filter.specs.Productions.{IsFilterText};
-ghost use Rattle.gr_filter.specs.declared.parser.TheConstants.{MAX_BYTES, LEVELS};
+ghost use Rattle.gr_filter.specs.declared.parser.TheConstants.{MAX_FILTER_BYTES, LEVELS};
 
 /// A text is read as a filter exactly where its words derive the filter's tree by the productions, within 4,096 bytes
 /// and 64 levels. So AND binds closer than OR, both group from the left, keywords have any case, and what stands
@@ -16,6 +16,6 @@ pub fn reads_what_derives()
 
 /// What the limits of filters are.
 pub fn limits_of_filters()
-    ensures bytes { MAX_BYTES ≡ 4096 }
+    ensures bytes { MAX_FILTER_BYTES ≡ 4096 }
     ensures levels { LEVELS ≡ 64 }
 {}

@@ -20,5 +20,5 @@ pub use fault::{FilterFault, Memory};
 pub use filter::Filter;
 pub use kleene::Kleene;
 pub use node::{Node, Operand, Operands, Sign};
-pub use parser::{LEVELS, MAX_BYTES, parse};
+pub use parser::{LEVELS, MAX_FILTER_BYTES, parse};
 pub use print::text;

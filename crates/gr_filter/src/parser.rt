@@ -16,7 +16,7 @@ use gr_event::Text;
 use std::alloc::Global;
 
 /// How many bytes the text of a filter has at most.
-pub const MAX_BYTES: usize = 4096;
+pub const MAX_FILTER_BYTES: usize = 4096;
 
 /// How deep parentheses and NOT nest at most.
 pub const LEVELS: u8 = 64;
@@ -29,7 +29,7 @@ pub const LEVELS: u8 = 64;
 pub fn parse(alloc: Global, text: &[u8]) -> Result<Filter, FilterFault>
     ensures { Gives tree_of result (filter_text text.now) }
 {
-    if text.len() > MAX_BYTES {
+    if text.len() > MAX_FILTER_BYTES {
         return Err(FilterFault::TooLong);
     }
     let (root, behind) = or_at(alloc, text, LEVELS, 0)?;
@@ -76,7 +76,7 @@ fn text_of(alloc: Global, bytes: &[u8], next: Lexeme) -> Result<Text, FilterFaul
 /// The literal at a place, and the place behind it.
 #[tactic(auto, unfolding(crate::specs::Grammar::literal_at))]
 fn literal_at(alloc: Global, bytes: &[u8], at: usize) -> Result<(Operand, usize), FilterFault>
-    requires few { length bytes.now ≤ MAX_BYTES }
+    requires few { length bytes.now ≤ MAX_FILTER_BYTES }
     requires inside { at ≤ length bytes.now }
     ensures gives { Gives as_it_is result (literal_at bytes.now at) }
     ensures within { IfOk result (λ r. r.1 ≤ length bytes.now) }
@@ -94,7 +94,7 @@ fn literal_at(alloc: Global, bytes: &[u8], at: usize) -> Result<(Operand, usize)
 /// The name or literal at a place, and the place behind it.
 #[tactic(auto, unfolding(crate::specs::Grammar::operand_at, crate::specs::Grammar::literal_at))]
 fn operand_at(alloc: Global, bytes: &[u8], at: usize) -> Result<(Operand, usize), FilterFault>
-    requires few { length bytes.now ≤ MAX_BYTES }
+    requires few { length bytes.now ≤ MAX_FILTER_BYTES }
     requires inside { at ≤ length bytes.now }
     ensures gives { Gives as_it_is result (operand_at bytes.now at) }
     ensures within { IfOk result (λ r. r.1 ≤ length bytes.now) }
@@ -109,7 +109,7 @@ fn operand_at(alloc: Global, bytes: &[u8], at: usize) -> Result<(Operand, usize)
 /// The place behind the opening parenthesis at a place.
 #[tactic(auto, unfolding(crate::specs::Grammar::open_at))]
 fn open_at(bytes: &[u8], at: usize) -> Result<usize, FilterFault>
-    requires few { length bytes.now ≤ MAX_BYTES }
+    requires few { length bytes.now ≤ MAX_FILTER_BYTES }
     requires inside { at ≤ length bytes.now }
     ensures gives { result ≡ open_at bytes.now at }
     ensures within { IfOk result (λ r. r ≤ length bytes.now) }
@@ -124,7 +124,7 @@ fn open_at(bytes: &[u8], at: usize) -> Result<usize, FilterFault>
 /// The place behind the closing parenthesis at a place.
 #[tactic(auto, unfolding(crate::specs::Grammar::close_at))]
 fn close_at(bytes: &[u8], at: usize) -> Result<usize, FilterFault>
-    requires few { length bytes.now ≤ MAX_BYTES }
+    requires few { length bytes.now ≤ MAX_FILTER_BYTES }
     requires inside { at ≤ length bytes.now }
     ensures gives { result ≡ close_at bytes.now at }
     ensures within { IfOk result (λ r. r ≤ length bytes.now) }
@@ -139,7 +139,7 @@ fn close_at(bytes: &[u8], at: usize) -> Result<usize, FilterFault>
 /// The place behind the word AND at a place.
 #[tactic(auto, unfolding(crate::specs::Grammar::and_word_at))]
 fn and_word_at(bytes: &[u8], at: usize) -> Result<usize, FilterFault>
-    requires few { length bytes.now ≤ MAX_BYTES }
+    requires few { length bytes.now ≤ MAX_FILTER_BYTES }
     requires inside { at ≤ length bytes.now }
     ensures gives { result ≡ and_word_at bytes.now at }
     ensures within { IfOk result (λ r. r ≤ length bytes.now) }
@@ -154,7 +154,7 @@ fn and_word_at(bytes: &[u8], at: usize) -> Result<usize, FilterFault>
 /// The place behind the word NULL at a place.
 #[tactic(auto, unfolding(crate::specs::Grammar::null_at))]
 fn null_at(bytes: &[u8], at: usize) -> Result<usize, FilterFault>
-    requires few { length bytes.now ≤ MAX_BYTES }
+    requires few { length bytes.now ≤ MAX_FILTER_BYTES }
     requires inside { at ≤ length bytes.now }
     ensures gives { result ≡ null_at bytes.now at }
     ensures within { IfOk result (λ r. r ≤ length bytes.now) }
@@ -169,7 +169,7 @@ fn null_at(bytes: &[u8], at: usize) -> Result<usize, FilterFault>
 /// The text at a place, as a pattern, and the place behind it.
 #[tactic(auto, unfolding(crate::specs::Grammar::pattern_at))]
 fn pattern_at(alloc: Global, bytes: &[u8], at: usize) -> Result<(Text, usize), FilterFault>
-    requires few { length bytes.now ≤ MAX_BYTES }
+    requires few { length bytes.now ≤ MAX_FILTER_BYTES }
     requires inside { at ≤ length bytes.now }
     ensures gives { Gives as_it_is result (pattern_at bytes.now at) }
     ensures within { IfOk result (λ r. r.1 ≤ length bytes.now) }
@@ -190,7 +190,7 @@ fn between_at(
     operand: Operand,
     at: usize,
 ) -> Result<(Node, usize), FilterFault>
-    requires few { length bytes.now ≤ MAX_BYTES }
+    requires few { length bytes.now ≤ MAX_FILTER_BYTES }
     requires inside { at ≤ length bytes.now }
     ensures gives { Gives as_tree result (between_at bytes.now negated operand at) }
     ensures within { IfOk result (λ r. r.1 ≤ length bytes.now) }
@@ -214,7 +214,7 @@ fn literals_at(
     first: Operand,
     at: usize,
 ) -> Result<(Operands, usize), FilterFault>
-    requires few { length bytes.now ≤ MAX_BYTES }
+    requires few { length bytes.now ≤ MAX_FILTER_BYTES }
     requires inside { at ≤ length bytes.now }
     ensures gives { Gives as_it_is result (literals_at bytes.now (length bytes.now) (first ∷ []) at) }
     ensures within { IfOk result (λ r. r.1 ≤ length bytes.now) }
@@ -249,7 +249,7 @@ fn one_of_at(
     name: Text,
     at: usize,
 ) -> Result<(Node, usize), FilterFault>
-    requires few { length bytes.now ≤ MAX_BYTES }
+    requires few { length bytes.now ≤ MAX_FILTER_BYTES }
     requires inside { at ≤ length bytes.now }
     ensures gives { Gives as_tree result (one_of_at bytes.now negated name at) }
     ensures within { IfOk result (λ r. r.1 ≤ length bytes.now) }
@@ -274,7 +274,7 @@ fn like_at(
     name: Text,
     at: usize,
 ) -> Result<(Node, usize), FilterFault>
-    requires few { length bytes.now ≤ MAX_BYTES }
+    requires few { length bytes.now ≤ MAX_FILTER_BYTES }
     requires inside { at ≤ length bytes.now }
     ensures gives { Gives as_tree result (like_at bytes.now negated name at) }
     ensures within { IfOk result (λ r. r.1 ≤ length bytes.now) }
@@ -291,7 +291,7 @@ fn like_at(
 /// IS NULL and IS NOT NULL behind IS.
 #[tactic(auto, unfolding(crate::specs::Grammar::null_test_at))]
 fn null_test_at(bytes: &[u8], name: Text, at: usize) -> Result<(Node, usize), FilterFault>
-    requires few { length bytes.now ≤ MAX_BYTES }
+    requires few { length bytes.now ≤ MAX_FILTER_BYTES }
     requires inside { at ≤ length bytes.now }
     ensures gives { Gives as_tree result (null_test_at bytes.now name at) }
     ensures within { IfOk result (λ r. r.1 ≤ length bytes.now) }
@@ -332,7 +332,7 @@ fn negated_at(
     operand: Operand,
     no: Lexeme,
 ) -> Result<(Node, usize), FilterFault>
-    requires few { length bytes.now ≤ MAX_BYTES }
+    requires few { length bytes.now ≤ MAX_FILTER_BYTES }
     requires inside { no.to ≤ length bytes.now }
     ensures gives { Gives as_tree result (negated_at bytes.now operand no) }
     ensures within { IfOk result (λ r. r.1 ≤ length bytes.now) }
@@ -360,7 +360,7 @@ fn tail_at(
     operand: Operand,
     at: usize,
 ) -> Result<(Node, usize), FilterFault>
-    requires few { length bytes.now ≤ MAX_BYTES }
+    requires few { length bytes.now ≤ MAX_FILTER_BYTES }
     requires inside { at ≤ length bytes.now }
     ensures gives { Gives as_tree result (tail_at bytes.now operand at) }
     ensures within { IfOk result (λ r. r.1 ≤ length bytes.now) }
@@ -393,7 +393,7 @@ fn tail_at(
 /// The test at a place: an operand and what is said of it.
 #[tactic(auto, unfolding(crate::specs::Grammar::test_at))]
 fn test_at(alloc: Global, bytes: &[u8], at: usize) -> Result<(Node, usize), FilterFault>
-    requires few { length bytes.now ≤ MAX_BYTES }
+    requires few { length bytes.now ≤ MAX_FILTER_BYTES }
     requires inside { at ≤ length bytes.now }
     ensures gives { Gives as_tree result (test_at bytes.now at) }
     ensures within { IfOk result (λ r. r.1 ≤ length bytes.now) }
@@ -406,7 +406,7 @@ fn test_at(alloc: Global, bytes: &[u8], at: usize) -> Result<(Node, usize), Filt
 #[cycle(parser)]
 #[tactic(auto, unfolding(crate::specs::Grammar::not_at))]
 fn not_at(alloc: Global, bytes: &[u8], levels: u8, at: usize) -> Result<(Node, usize), FilterFault>
-    requires few { length bytes.now ≤ MAX_BYTES }
+    requires few { length bytes.now ≤ MAX_FILTER_BYTES }
     requires inside { at ≤ length bytes.now }
     ensures gives { Gives as_tree result (not_at bytes.now levels at) }
     ensures within { IfOk result (λ r. r.1 ≤ length bytes.now) }
@@ -436,7 +436,7 @@ fn not_at(alloc: Global, bytes: &[u8], levels: u8, at: usize) -> Result<(Node, u
 #[cycle(parser)]
 #[tactic(auto, unfolding(crate::specs::Grammar::and_at, crate::specs::Grammar::and_more))]
 fn and_at(alloc: Global, bytes: &[u8], levels: u8, at: usize) -> Result<(Node, usize), FilterFault>
-    requires few { length bytes.now ≤ MAX_BYTES }
+    requires few { length bytes.now ≤ MAX_FILTER_BYTES }
     requires inside { at ≤ length bytes.now }
     ensures gives { Gives as_tree result (and_at bytes.now (not_at bytes.now levels) at) }
     ensures within { IfOk result (λ r. r.1 ≤ length bytes.now) }
@@ -461,7 +461,7 @@ fn and_at(alloc: Global, bytes: &[u8], levels: u8, at: usize) -> Result<(Node, u
 #[cycle(parser)]
 #[tactic(auto, unfolding(crate::specs::Grammar::or_at, crate::specs::Grammar::or_more))]
 fn or_at(alloc: Global, bytes: &[u8], levels: u8, at: usize) -> Result<(Node, usize), FilterFault>
-    requires few { length bytes.now ≤ MAX_BYTES }
+    requires few { length bytes.now ≤ MAX_FILTER_BYTES }
     requires inside { at ≤ length bytes.now }
     ensures gives { Gives as_tree result (or_at bytes.now (not_at bytes.now levels) at) }
     ensures within { IfOk result (λ r. r.1 ≤ length bytes.now) }

@@ -4,7 +4,7 @@ ghost use Rattle.std.specs.Prelude.{◌≡◌, ◌++◌, ◌≤◌, Ok, length, 
 ghost use Rattle.gr_filter.specs.Grammar.{filter_text};
 ghost use Rattle.gr_filter.specs.Tree.{tree_of, compare, between, one_of, like, is_null};
 ghost use Rattle.gr_filter.specs.Written.{depth};
-ghost use Rattle.gr_filter.specs.declared.parser.TheConstants.{LEVELS, MAX_BYTES};
+ghost use Rattle.gr_filter.specs.declared.parser.TheConstants.{LEVELS, MAX_FILTER_BYTES};
 ghost use Rattle.gr_filter.specs.Print.{sign_text, doubled, quoted, operand_text, more_text, literals_text, not_text};
 ghost use Rattle.gr_filter.specs.Print.{tree_text};
 
@@ -20,7 +20,7 @@ use std::alloc::Global;
 pub fn text(alloc: Global, filter: &Filter) -> Result<Text, Memory>
     ensures text { IfOk result (λ t. t ≡ tree_text (tree_of filter.now)) }
     ensures reads_back { let tree = tree_of filter.now in
-        IfOk result (λ t. length t ≤ MAX_BYTES → depth tree ≤ LEVELS → filter_text t ≡ Ok tree) }
+        IfOk result (λ t. length t ≤ MAX_FILTER_BYTES → depth tree ≤ LEVELS → filter_text t ≡ Ok tree) }
 {
     let mut out = Text::new(alloc);
     put_node(alloc, &mut out, filter.root())?;

@@ -5,7 +5,7 @@ ghost use Rattle.std.specs.Option.{ForSome};
 ghost use Rattle.std.specs.Str.{is_utf8};
 ghost use Rattle.gr_filter.specs.Token.{is_space, is_digit, begins_name, goes_on, front, capital, is_word, word_token};
 ghost use Rattle.gr_filter.specs.Token.{number_from, integer_token, number_token, text_len, undoubled, text_token};
-ghost use Rattle.gr_filter.specs.declared.parser.TheConstants.{MAX_BYTES};
+ghost use Rattle.gr_filter.specs.declared.parser.TheConstants.{MAX_FILTER_BYTES};
 ghost use Rattle.gr_filter.specs.Token.{sign_token, less_token, greater_token, minus_token, token_of, lexeme};
 
 use crate::fault::Memory;
@@ -70,7 +70,7 @@ pub struct Lexeme {
 
 /// The first token from a place on.
 pub(crate) fn next_token(bytes: &[u8], at: usize) -> Lexeme
-    requires few { length bytes.now ≤ MAX_BYTES }
+    requires few { length bytes.now ≤ MAX_FILTER_BYTES }
     requires inside { at ≤ length bytes.now }
     ensures is { result ≡ lexeme bytes.now at }
     ensures rises { at ≤ result.from }
@@ -340,7 +340,7 @@ fn sign_token(first: u8, rest: &[u8]) -> (Token, usize)
 
 /// The number behind a minus, and how many bytes it has with the minus.
 fn minus_token(rest: &[u8]) -> (Token, usize)
-    requires { length rest.now ≤ MAX_BYTES }
+    requires { length rest.now ≤ MAX_FILTER_BYTES }
     ensures is { result ≡ minus_token rest.now }
     ensures within { result.1 ≤ length rest.now + 1 }
 {
@@ -355,7 +355,7 @@ fn minus_token(rest: &[u8]) -> (Token, usize)
 /// The token at the front of a text that begins with no space, and how many bytes it has.
 #[tactic(auto, unfolding(crate::specs::Token::token_of))]
 fn token_of(text: &[u8]) -> (Token, usize)
-    requires { length text.now ≤ MAX_BYTES }
+    requires { length text.now ≤ MAX_FILTER_BYTES }
     ensures is { result ≡ token_of text.now }
     ensures within { result.1 ≤ length text.now }
 {

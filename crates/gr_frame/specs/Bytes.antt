@@ -7,7 +7,7 @@ use Rattle.gr_know.specs.declared.values.K.{K}
 use Rattle.gr_know.specs.declared.values.K.TheVariants.{Q, S, D, F}
 use Rattle.gr_curio.specs.declared.values.Q3.{Q3}
 use Rattle.gr_curio.specs.declared.values.Q3.TheVariants.{N, C, A}
-use Rattle.gr_frame.specs.declared.TheConstants.{MAX_BYTES, HEAD_BYTES}
+use Rattle.gr_frame.specs.declared.TheConstants.{MAX_FRAME_BYTES, HEAD_BYTES}
 use Rattle.gr_frame.specs.declared.Body.TheVariants as body
 use Rattle.gr_frame.specs.declared.Head.{Head}
 use Rattle.gr_frame.specs.declared.Frame.{Frame}
@@ -60,7 +60,7 @@ wanted_run_size r = 17
 unfoldable pub cut_from : {V : Type 0} → (Run V → ℕ) → ℕ → List (Run V) → List (Run V) → List (List (Run V))
 cut_from size used begun [] = begun ∷ []
 cut_from size used begun (r ∷ rs) =
-    elim (nat_le (used + size r) MAX_BYTES) [
+    elim (nat_le (used + size r) MAX_FRAME_BYTES) [
       | true ↦ cut_from size (used + size r) (begun ++ r ∷ []) rs
       | false ↦ begun ∷ cut_from size (HEAD_BYTES + size r) (r ∷ []) rs
     ]

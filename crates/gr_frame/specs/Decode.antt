@@ -15,7 +15,7 @@ use Rattle.gr_know.specs.Values.{same_K}
 use Rattle.gr_curio.specs.declared.values.Q3.{Q3}
 use Rattle.gr_curio.specs.declared.values.Q3.TheVariants.{C, A}
 use Rattle.gr_curio.specs.Values.{same_Q3}
-use Rattle.gr_frame.specs.declared.TheConstants.{MAX_BYTES, HEAD_BYTES, EXPECT_BYTES}
+use Rattle.gr_frame.specs.declared.TheConstants.{MAX_FRAME_BYTES, HEAD_BYTES, EXPECT_BYTES}
 use Rattle.gr_frame.specs.declared.Body.{Body}
 use Rattle.gr_frame.specs.declared.Body.TheVariants as body
 use Rattle.gr_frame.specs.declared.Head.{Head}
@@ -197,4 +197,4 @@ fields_of bytes = do
 
 -- the frame that the bytes spell, or the first fault
 unfoldable pub frame_decoded : List ℕ → Result Frame FrameFault
-frame_decoded bytes = if nat_lt MAX_BYTES (length bytes) then Err (fault TooLong MAX_BYTES) else fields_of bytes
+frame_decoded bytes = if nat_lt MAX_FRAME_BYTES (length bytes) then Err (fault TooLong MAX_FRAME_BYTES) else fields_of bytes

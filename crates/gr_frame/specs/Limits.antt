@@ -10,7 +10,7 @@ use Rattle.gr_know.specs.declared.values.K.{K}
 use Rattle.gr_know.specs.declared.values.K.TheVariants.{Q, D}
 use Rattle.gr_curio.specs.declared.values.Q3.{Q3}
 use Rattle.gr_curio.specs.declared.values.Q3.TheVariants.{N}
-use Rattle.gr_frame.specs.declared.TheConstants.{MAX_BYTES}
+use Rattle.gr_frame.specs.declared.TheConstants.{MAX_FRAME_BYTES}
 use Rattle.gr_frame.specs.declared.Body.{Body}
 use Rattle.gr_frame.specs.declared.Body.TheVariants as body
 use Rattle.gr_frame.specs.declared.Head.{Head}
@@ -52,4 +52,4 @@ pub record IsWhole (f : Frame) : Type 0 where
 pub record IsFrame (bytes : List ℕ) (f : Frame) : Type 0 where
   pub whole : IsWhole f
   pub spelled : bytes ≡ frame_bytes f
-  pub short : length bytes ≤ MAX_BYTES
+  pub short : length bytes ≤ MAX_FRAME_BYTES

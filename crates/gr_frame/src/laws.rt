@@ -10,7 +10,7 @@ ghost use Rattle.gr_frame.specs.Bytes.{frame_bytes, cut_frames, known_run_size, 
 ghost use Rattle.gr_frame.specs.Cut.{parts_of, joined};
 ghost use Rattle.gr_frame.specs.Decode.{frame_decoded};
 ghost use Rattle.gr_frame.specs.Limits.{IsFrame, IsWhole};
-ghost use Rattle.gr_frame.specs.declared.TheConstants.{MAX_BYTES};
+ghost use Rattle.gr_frame.specs.declared.TheConstants.{MAX_FRAME_BYTES};
 
 /// Reading gives a frame exactly where the bytes spell it.
 pub fn decodes_what_is_spelled(bytes: &[u8])
@@ -45,5 +45,5 @@ pub fn one_frame_is_not_cut()
 
 /// How many bytes a frame has at most.
 pub fn limit_of_frames()
-    ensures { MAX_BYTES ≡ 16384 }
+    ensures { MAX_FRAME_BYTES ≡ 16384 }
 {}

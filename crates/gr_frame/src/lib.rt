@@ -27,7 +27,7 @@ pub use reading::decode;
 pub use writing::{encode, encode_into};
 
 /// How many bytes a frame has at most.
-pub const MAX_BYTES: usize = 16_384;
+pub const MAX_FRAME_BYTES: usize = 16_384;
 
 /// How many bytes stand before the body of a frame.
 pub(crate) const HEAD_BYTES: usize = 12;

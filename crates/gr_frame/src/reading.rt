@@ -5,12 +5,12 @@ ghost use Rattle.gr_tick.specs.Stored.{IsRun, AreTickRuns, EndBefore};
 ghost use Rattle.gr_frame.specs.Decode.{last_run, is_above, goes_on, run_size, run_at, run_with_ticks, runs_at};
 ghost use Rattle.gr_frame.specs.Decode.{kind_at, head_at, count_at, expect_at, body_at, fields_of, frame_decoded};
 ghost use Rattle.gr_frame.specs.Gives.{Gives};
-ghost use Rattle.gr_frame.specs.declared.TheConstants.{MAX_BYTES};
+ghost use Rattle.gr_frame.specs.declared.TheConstants.{MAX_FRAME_BYTES};
 
 use crate::fault::{FrameFault, FrameKind};
 use crate::field::{byte_at, fault, field_at, tick_at, u16_at};
 use crate::value::{BodyKind, FrameValue};
-use crate::{Body, EXPECT_BYTES, Frame, HEAD_BYTES, Head, MAX_BYTES};
+use crate::{Body, EXPECT_BYTES, Frame, HEAD_BYTES, Head, MAX_FRAME_BYTES};
 use gr_tick::{Piece, Run};
 use std::alloc::Global;
 
@@ -24,8 +24,8 @@ use std::alloc::Global;
 pub fn decode(alloc: Global, bytes: &[u8]) -> Result<Frame, FrameFault>
     ensures { Gives result (frame_decoded bytes.now) }
 {
-    if bytes.len() > MAX_BYTES {
-        return Err(fault(FrameKind::TooLong, MAX_BYTES));
+    if bytes.len() > MAX_FRAME_BYTES {
+        return Err(fault(FrameKind::TooLong, MAX_FRAME_BYTES));
     }
     fields_of(alloc, bytes)
 }
@@ -33,7 +33,7 @@ pub fn decode(alloc: Global, bytes: &[u8]) -> Result<Frame, FrameFault>
 /// The fields of a frame in their order.
 #[tactic(auto, unfolding(crate::specs::Decode::fields_of))]
 fn fields_of(alloc: Global, bytes: &[u8]) -> Result<Frame, FrameFault>
-    requires { length bytes.now ≤ MAX_BYTES }
+    requires { length bytes.now ≤ MAX_FRAME_BYTES }
     ensures { Gives result (fields_of bytes.now) }
 {
     let kind = kind_at(bytes)?;
@@ -94,7 +94,7 @@ fn count_at(bytes: &[u8], kind: BodyKind) -> Result<u16, FrameFault>
 /// What stands behind the count.
 #[tactic(auto, unfolding(crate::specs::Decode::body_at))]
 fn body_at(alloc: Global, bytes: &[u8], kind: BodyKind, count: u16) -> Result<Body, FrameFault>
-    requires short { length bytes.now ≤ MAX_BYTES }
+    requires short { length bytes.now ≤ MAX_FRAME_BYTES }
     requires inside { HEAD_BYTES ≤ length bytes.now }
     ensures { Gives result (body_at bytes.now kind count) }
 {
@@ -119,7 +119,7 @@ fn expect_at(bytes: &[u8]) -> Result<Body, FrameFault>
 
 /// So many runs behind the count, and nothing after them.
 fn runs_at<V: FrameValue>(alloc: Global, bytes: &[u8], count: u16) -> Result<Piece<V>, FrameFault>
-    requires short { length bytes.now ≤ MAX_BYTES }
+    requires short { length bytes.now ≤ MAX_FRAME_BYTES }
     requires inside { HEAD_BYTES ≤ length bytes.now }
     ensures { Gives result (runs_at V.form bytes.now count HEAD_BYTES None) }
 {
@@ -144,7 +144,7 @@ fn run_at<V: FrameValue>(
     at: usize,
     found: &Piece<V>,
 ) -> Result<Run<V>, FrameFault>
-    requires short { length bytes.now ≤ MAX_BYTES }
+    requires short { length bytes.now ≤ MAX_FRAME_BYTES }
     requires inside { at ≤ length bytes.now }
     ensures gives { Gives result (run_at V.form bytes.now at (last_run found.now)) }
     ensures alone { IfOk result (λ r. IsRun V.least r) }

@@ -16,7 +16,7 @@ ghost use Rattle.gr_frame.specs.Decode.{run_size, known_form, wanted_form, kind_
 ghost use Rattle.gr_frame.specs.Decode.{event_at, known_value_at, wanted_value_at};
 ghost use Rattle.gr_frame.specs.Limits.{IsKnown, IsWanted};
 ghost use Rattle.gr_frame.specs.Gives.{Gives, Fails};
-ghost use Rattle.gr_frame.specs.declared.TheConstants.{MAX_BYTES};
+ghost use Rattle.gr_frame.specs.declared.TheConstants.{MAX_FRAME_BYTES};
 
 use crate::fault::{FrameFault, FrameKind};
 use crate::field::{byte_at, fault, field_at, put_byte, put_u16, u16_at};
@@ -60,7 +60,7 @@ pub trait FrameValue: Lattice {
 
     /// The value that stands at a place of the bytes.
     fn read(alloc: Global, bytes: &[u8], at: usize) -> Result<Self, FrameFault>
-        requires short { length bytes.now ≤ MAX_BYTES }
+        requires short { length bytes.now ≤ MAX_FRAME_BYTES }
         requires inside { at ≤ length bytes.now }
         ensures gives { Gives result (form.read bytes.now at) }
         ensures some { IfOk result (λ v. v ≢ Self.least) }
@@ -149,7 +149,7 @@ impl FrameValue for Q3 {
 /// The event behind its length of two bytes.
 #[tactic(auto, unfolding(crate::specs::Decode::event_at))]
 fn event_at(alloc: Global, bytes: &[u8], at: usize) -> Result<Event, FrameFault>
-    requires short { length bytes.now ≤ MAX_BYTES }
+    requires short { length bytes.now ≤ MAX_FRAME_BYTES }
     requires inside { at ≤ length bytes.now }
     ensures gives { Gives result (event_at bytes.now at) }
     ensures within { IfOk result (λ e. at + 2 + length (event_bytes e) ≤ length bytes.now) }

@@ -15,7 +15,7 @@ ghost use Rattle.gr_frame.specs.Limits.{IsHead};
 use crate::field::{put_byte, put_u16, put_u64};
 use crate::frames::Frames;
 use crate::value::{BodyKind, FrameValue};
-use crate::{Body, EXPECT_BYTES, Frame, HEAD_BYTES, Head, MAX_BYTES};
+use crate::{Body, EXPECT_BYTES, Frame, HEAD_BYTES, Head, MAX_FRAME_BYTES};
 use gr_event::{Bytes, Memory};
 use gr_tick::{Piece, Run};
 use std::alloc::{AllocError, Global};
@@ -138,7 +138,7 @@ pub(crate) fn part_from<V: FrameValue>(piece: &Piece<V>, start: usize) -> Part
     let mut size = HEAD_BYTES + V::run_size(piece.run(start));
     for end in start + 1..count {
         let more = V::run_size(piece.run(end));
-        if size + more > MAX_BYTES {
+        if size + more > MAX_FRAME_BYTES {
             return Part { end, size };
         }
         size += more;

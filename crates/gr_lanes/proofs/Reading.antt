@@ -10,7 +10,7 @@ use Rattle.gr_event.specs.declared.value.Value.{Value}
 use Rattle.gr_event.specs.declared.value.Value.TheVariants.{Int, Text, Bool as Truth}
 use Rattle.gr_event.specs.Event.{event_size, event_bytes, pairs_size, pairs_bytes, value_size, value_bytes}
 use Rattle.gr_event.specs.Decode.{event_decoded}
-use Rattle.gr_event.specs.declared.limits.TheConstants.{MAX_BYTES}
+use Rattle.gr_event.specs.declared.limits.TheConstants.{MAX_EVENT_BYTES}
 use Rattle.gr_event.proofs.Spelled.{decodes_back}
 use Rattle.gr_lanes.specs.declared.record.Record.{Record}
 use Rattle.gr_lanes.specs.declared.record.Record.TheVariants.{Event, Mark, Cut}
@@ -82,7 +82,7 @@ below_settled s t h = leb-true t s.settled (both (nat_lt s.cut t) (nat_le t s.se
 
 -- fields that read one after another are an Event
 event_reads : (total : ℕ) (s : State) (t n size : ℕ) (e : EventPairs) (bytes rest r1 r2 r3 left : List ℕ) → number_in total 8 w64 (may_settle s) rest ≡ Ok (t, r1)
-    → number_in total 8 w64 (λ x. x == s.last + 1) r1 ≡ Ok (n, r2) → number_in total 4 w32 (λ x. nat_le x MAX_BYTES) r2 ≡ Ok (size, r3) → field_in total size r3 ≡ Ok (bytes, left)
+    → number_in total 8 w64 (λ x. x == s.last + 1) r1 ≡ Ok (n, r2) → number_in total 4 w32 (λ x. nat_le x MAX_EVENT_BYTES) r2 ≡ Ok (size, r3) → field_in total size r3 ≡ Ok (bytes, left)
     → event_decoded bytes ≡ Ok e → logged_in total s rest ≡ Ok (Event t n e, left)
 unfolding logged_in event_in
 event_reads total s t n size e bytes rest r1 r2 r3 left p1 p2 p3 p4 p5 = rw (p1, p2, p3, p4, p5) refl
@@ -98,11 +98,11 @@ read_record total s (Event t n e) rest ok sound top =
     let S = to_be_bytes w32 (event_size e) in
     let E = event_bytes e in
     let low : t ≤ max_tick = below_top s t may.0 in
-    let small : nat_le (event_size e) MAX_BYTES ≡ true = le-leb (event_size e) MAX_BYTES sound.1.short in
-    let short : event_size e ≤ MAX_BYTES = sound.1.short in
+    let small : nat_le (event_size e) MAX_EVENT_BYTES ≡ true = le-leb (event_size e) MAX_EVENT_BYTES sound.1.short in
+    let short : event_size e ≤ MAX_EVENT_BYTES = sound.1.short in
     let a1 = eight_at total (may_settle s) t (N ++ (S ++ (E ++ rest))) (omega (arith, low)) may.0 in
     let a2 = eight_at total (λ x. x == s.last + 1) n (S ++ (E ++ rest)) sound.0 may.1 in
-    let a3 = four_at total (λ x. nat_le x MAX_BYTES) (event_size e) (E ++ rest) (omega (arith, short)) small in
+    let a3 = four_at total (λ x. nat_le x MAX_EVENT_BYTES) (event_size e) (E ++ rest) (omega (arith, short)) small in
     let a4 = field_at total (event_size e) E rest (length-event e) in
     let split : (T ++ (N ++ (S ++ E))) ++ rest ≡ T ++ (N ++ (S ++ (E ++ rest))) =
     append_assoc T (N ++ (S ++ E)) rest ∙ ap (λ (l : List ℕ). T ++ l) (append_assoc N (S ++ E) rest ∙ ap (λ (l : List ℕ). N ++ l) (append_assoc S E rest)) in

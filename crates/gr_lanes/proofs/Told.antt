@@ -9,7 +9,7 @@ use Rattle.gr_event.specs.declared.event.EventFault.{EventFault}
 use Rattle.gr_event.specs.Event.{event_bytes}
 use Rattle.gr_event.specs.Decode.{event_decoded}
 use Rattle.gr_event.specs.Limits.{IsEvent}
-use Rattle.gr_event.specs.declared.limits.TheConstants.{MAX_BYTES}
+use Rattle.gr_event.specs.declared.limits.TheConstants.{MAX_EVENT_BYTES}
 use Rattle.gr_event.proofs.Told.{only_its_bytes}
 use Rattle.gr_lanes.specs.declared.record.Record.{Record}
 use Rattle.gr_lanes.specs.declared.record.Record.TheVariants.{Event, Mark, Cut}
@@ -133,7 +133,7 @@ logged_told : (total : ℕ) (s : State) (rest : List ℕ) (x : Record × List �
 unfolding logged_in
 logged_told total s rest x fits h =
     let next = λ (n : ℕ). n == s.last + 1 in
-    let short = λ (n : ℕ). nat_le n MAX_BYTES in
+    let short = λ (n : ℕ). nat_le n MAX_EVENT_BYTES in
     let one = bind_told (number_in total 8 w64 (may_settle s) rest) _ x h in
     let tick = number_told total 8 w64 (may_settle s) rest one.0 fits one.1 in
     let two = bind_told (number_in total 8 w64 next one.0.1) _ x one.2 in

@@ -6,7 +6,7 @@ use Rattle.gr_event.specs.declared.event.Event.{Event as EventPairs}
 use Rattle.gr_event.specs.declared.event.EventFault.{EventFault}
 use Rattle.gr_event.specs.Event.{event_size, event_bytes}
 use Rattle.gr_event.specs.Decode.{event_decoded}
-use Rattle.gr_event.specs.declared.limits.TheConstants.{MAX_BYTES}
+use Rattle.gr_event.specs.declared.limits.TheConstants.{MAX_EVENT_BYTES}
 use Rattle.gr_lanes.specs.declared.record.Record.{Record}
 use Rattle.gr_lanes.specs.declared.record.Record.TheVariants.{Event, Mark, Cut}
 use Rattle.gr_lanes.specs.declared.record.Base.{Base}
@@ -121,7 +121,7 @@ unfoldable pub logged_in : ℕ → State → List ℕ → Result (Record × List
 logged_in total n rest = do
   tick ← number_in total 8 w64 (may_settle n) rest
   number ← number_in total 8 w64 (λ x. x == n.last + 1) tick.1
-  size ← number_in total 4 w32 (λ x. nat_le x MAX_BYTES) number.1
+  size ← number_in total 4 w32 (λ x. nat_le x MAX_EVENT_BYTES) number.1
   event ← event_in total size.0 size.1
   Ok (Event tick.0 number.0 event.0, event.1)
 

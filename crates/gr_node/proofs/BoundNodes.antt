@@ -15,7 +15,7 @@ use Rattle.gr_out.specs.Journal.{is_among, bind_entries, CountsFailed}
 use Rattle.gr_note.specs.Nodes.{client_node}
 use Rattle.gr_topo.specs.Topology.{TopologyView, address_of, client_of, host_of}
 use Rattle.gr_model.specs.Net.{numbers, numbers_from}
-use Rattle.gr_run.proofs.Along.{numbers_left}
+use Rattle.gr_report.proofs.Along.{numbers_left}
 use Rattle.gr_node.specs.Plan.{client_nodes, address_at, bound_entry}
 use Rattle.gr_node.specs.Went.{PostMoves, Bound, fault_entries}
 

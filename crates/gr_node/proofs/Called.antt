@@ -14,20 +14,20 @@ use Rattle.gr_model.specs.Tree.{IsNet}
 use Rattle.gr_model.specs.NetOf.{net_of, IsOrderly}
 use Rattle.gr_model.specs.Broker.{Outcome as MachineOutcome}
 use Rattle.gr_model.specs.Text.{IsNamed}
-use Rattle.gr_invariants.specs.Edges.{GoesOverEdge}
-use Rattle.gr_invariants.proofs.topology.Strays.{publish_on, wake_on}
-use Rattle.gr_relay.specs.declared.outcome.Outcome.{Outcome}
-use Rattle.gr_relay.specs.Told.{Tells}
+use Rattle.gr_model_calls.specs.Edges.{GoesOverEdge}
+use Rattle.gr_model_calls.proofs.topology.Strays.{publish_on, wake_on}
+use Rattle.gr_broker_relay.specs.declared.outcome.Outcome.{Outcome}
+use Rattle.gr_broker_relay.specs.Told.{Tells}
 use Rattle.gr_broker.specs.declared.outcome.BrokerFault.{BrokerFault}
 use Rattle.gr_broker.specs.declared.outcome.BrokerFault.TheVariants as refused
 use Rattle.gr_broker.specs.Seen.{BrokerView, view_in, log_in, machine_log, with_logged, broken_at}
 use Rattle.gr_broker.specs.Of.{IsBrokerOf, LogsStand}
 use Rattle.gr_broker.specs.Told.{log_answer}
 use Rattle.gr_broker.specs.Hosted.{publish_at, publish_logs_at, after_publish, wake_at, mark_logs_at, cut_logs_at, after_mark, after_wake, WakeLeaves}
-use Rattle.gr_run.specs.Named.{AllNamed}
-use Rattle.gr_run.proofs.Names.{publish_named, wake_named}
-use Rattle.gr_run.proofs.Named.{names_of, all_of}
-use Rattle.gr_run.proofs.Passing.{over_edges}
+use Rattle.gr_report.specs.Named.{AllNamed}
+use Rattle.gr_report.proofs.Names.{publish_named, wake_named}
+use Rattle.gr_report.proofs.Named.{names_of, all_of}
+use Rattle.gr_report.proofs.Passing.{over_edges}
 use Rattle.gr_node.specs.Seen.{NodeView}
 use Rattle.gr_node.specs.Of.{NodeFits, AllStand, OthersStay}
 use Rattle.gr_node.specs.Plan.{publishes, wakes}

@@ -23,7 +23,7 @@ use Rattle.gr_model.specs.NetOf.{net_of}
 use Rattle.gr_model.specs.World.{World, Transition, in_turn, log_of as machine_log_of}
 use Rattle.gr_model.specs.Arrivals.{is_hosted, publishes_of}
 use Rattle.gr_broker.specs.Seen.{log_in, log_said}
-use Rattle.gr_run.proofs.Passing.{PassesLog, PassesRest}
+use Rattle.gr_report.proofs.Passing.{PassesLog, PassesRest}
 use Rattle.gr_node.specs.Seen.{NodeView, broker_in, none_started, text_of}
 use Rattle.gr_node.specs.Of.{AreHosted, IsSet, AllStand, OthersStay}
 use Rattle.gr_node.specs.Lasting.{StoodEachTime, node_upto}

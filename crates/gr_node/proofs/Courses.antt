@@ -23,9 +23,9 @@ use Rattle.gr_model.specs.NetOf.{net_of}
 use Rattle.gr_model.specs.World.{World, Transition, followed_by, in_turn}
 use Rattle.gr_model.specs.Opening.{over_logs}
 use Rattle.gr_model.specs.Arrivals.{Arrival, served}
-use Rattle.gr_theorems.specs.Lanes.{AllFollow, whole_logs}
-use Rattle.gr_theorems.specs.Served.{joined, IsOfBytes}
-use Rattle.gr_invariants.proofs.runs.Schedules.{length_numbers}
+use Rattle.gr_model_theorems.specs.Lanes.{AllFollow, whole_logs}
+use Rattle.gr_model_theorems.specs.Served.{joined, IsOfBytes}
+use Rattle.gr_model_calls.proofs.runs.Schedules.{length_numbers}
 use Rattle.gr_node.specs.Seen.{NodeView, broker_in, none_started, records_in, text_of}
 use Rattle.gr_node.specs.Of.{AreHosted, Hosts, OthersStay}
 use Rattle.gr_node.specs.Plan.{Act, binds, starts, shows, ours, bound_entry, act, run_acts, nodes, plan, all_entries}

@@ -14,7 +14,7 @@ use Rattle.gr_topo.specs.Topology.{TopologyView}
 use Rattle.gr_model.specs.declared.report.Report.{Report}
 use Rattle.gr_model.specs.NetOf.{net_of}
 use Rattle.gr_model.specs.Text.{labels_of, whole_line}
-use Rattle.gr_run.specs.Named.{IsPutFault}
+use Rattle.gr_report.specs.Named.{IsPutFault}
 use Rattle.gr_node.specs.Seen.{NodeView, text_of}
 use Rattle.gr_node.specs.Plan.{Act, shows, run_acts}
 use Rattle.gr_node.specs.Done.{Done, done, all_done, shown}

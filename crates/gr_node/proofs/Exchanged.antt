@@ -17,11 +17,11 @@ use Rattle.gr_model.specs.declared.report.Report.{Report}
 use Rattle.gr_model.specs.NetOf.{net_of}
 use Rattle.gr_model.specs.Broker.{View}
 use Rattle.gr_model.specs.World.{sent_lines}
-use Rattle.gr_invariants.specs.Edges.{GoesOverEdge}
-use Rattle.gr_relay.specs.declared.outcome.Outcome.{Outcome}
+use Rattle.gr_model_calls.specs.Edges.{GoesOverEdge}
+use Rattle.gr_broker_relay.specs.declared.outcome.Outcome.{Outcome}
 use Rattle.gr_broker.specs.Seen.{BrokerView, log_in, with_view, with_log, with_logged, is_broken, IsHosted}
 use Rattle.gr_broker.specs.Of.{IsBrokerOf, LogsStand}
-use Rattle.gr_run.specs.Named.{AllNamed}
+use Rattle.gr_report.specs.Named.{AllNamed}
 use Rattle.gr_node.specs.Seen.{NodeView, broker_in}
 use Rattle.gr_node.specs.Of.{NodeFits, AllStand, OthersStay}
 use Rattle.gr_node.specs.Plan.{Call, offers_of}

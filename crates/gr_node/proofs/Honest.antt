@@ -33,9 +33,9 @@ use Rattle.gr_model.specs.World.{World, Transition, view_of, log_of, unchanged, 
 use Rattle.gr_model.specs.Opening.{over_logs}
 use Rattle.gr_model.specs.Arrivals.{Arrival, datagram, quiet, Publish, publishes_of, left_after, fits_broker, least_clash, clash_line, fault_number, takes, receives, takes_by, receives_by, served, served_from, served_from_by, served_by}
 use Rattle.gr_model.specs.Headline.{is_sent, sent_number}
-use Rattle.gr_theorems.specs.Served.{IsOfBytes, tells_bytes, number_of_bytes, IsHonestAt, IsHonest, IsHonestRun}
-use Rattle.gr_invariants.proofs.rules.Serves.{frames_past_all}
-use Rattle.gr_theorems.proofs.headline.ReplyLines.{frame_told}
+use Rattle.gr_model_theorems.specs.Served.{IsOfBytes, tells_bytes, number_of_bytes, IsHonestAt, IsHonest, IsHonestRun}
+use Rattle.gr_model_calls.proofs.rules.Serves.{frames_past_all}
+use Rattle.gr_model_theorems.proofs.headline.ReplyLines.{frame_told}
 use Rattle.gr_node.specs.Plan.{Call, gets, publishes, wakes, Act, binds, starts, arrives, calls, answers, drops, closes, shows, is_ours, ours, called, arrival_acts, acts_from, closing, nodes, plan, act, entry_of, offers_of, reply_to, reply_entry, entries, all_entries}
 use Rattle.gr_node.specs.Served.{is_offer_to, IsHonestEntry, IsHonestJournal}
 use Rattle.gr_node.proofs.Opening.{all_entries_append}

@@ -1,7 +1,7 @@
 -- What stays of a node when one of its brokers is called: who is hosted, and what holds between two calls
 use Rattle.std.proofs.Common.{◌≡◌, ℕ, zero, suc, List, [], ◌∷◌, get_or, set, Option, Some, None, is_some, Result, Ok, Err, OnOk, refl, sym, ap, ◌∙◌}
 use Rattle.gr_topo.specs.Topology.{TopologyView}
-use Rattle.gr_relay.specs.declared.outcome.Outcome.{Outcome}
+use Rattle.gr_broker_relay.specs.declared.outcome.Outcome.{Outcome}
 use Rattle.gr_broker.specs.Seen.{BrokerView}
 use Rattle.gr_node.specs.Seen.{NodeView, broker_in}
 use Rattle.gr_node.specs.Of.{NodeFits, Hosts, IsSet}

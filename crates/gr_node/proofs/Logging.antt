@@ -20,10 +20,10 @@ use Rattle.gr_model.specs.World.{World, Transition, view_of, log_of, absorbed, u
 use Rattle.gr_model.specs.Headline.{Recorded, publish_line, marked, settling}
 use Rattle.gr_model.specs.Opening.{reopened_line, opened_for, opened_for_by, publishers_at}
 use Rattle.gr_model.specs.Arrivals.{at_moment, fault_number, fits_broker, least_clash, clash_line, takes, takes_by, receives, receives_by, is_hosted, show_hosted}
-use Rattle.gr_invariants.proofs.calls.HostCases.{publish_cases, news_of}
-use Rattle.gr_invariants.proofs.calls.Calls.{learn_log}
-use Rattle.gr_theorems.proofs.records.Records.{core, receive_log, wake_core}
-use Rattle.gr_theorems.proofs.records.RecordLines.{Skips, host_lines, receive_none, publish_some, marking_none}
+use Rattle.gr_model_calls.proofs.calls.HostCases.{publish_cases, news_of}
+use Rattle.gr_model_calls.proofs.calls.Calls.{learn_log}
+use Rattle.gr_model_theorems.proofs.records.Records.{core, receive_log, wake_core}
+use Rattle.gr_model_theorems.proofs.records.RecordLines.{Skips, host_lines, receive_none, publish_some, marking_none}
 use Rattle.gr_node.specs.Plan.{gets, publishes, wakes, Act, binds, starts, arrives, calls, answers, drops, closes, shows, is_ours, moment_of, act}
 use Rattle.gr_node.specs.Submitted.{is_logged, logged_as, Logs}
 

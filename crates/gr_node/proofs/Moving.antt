@@ -24,15 +24,15 @@ use Rattle.gr_model.specs.NetOf.{net_of}
 use Rattle.gr_model.specs.Broker.{View, Log, Outcome as MachineOutcome, empty_log, max_tick, publish, marking, wake, wake_host, wake_below, receive}
 use Rattle.gr_model.specs.World.{World, Transition, view_of, log_of, absorbed, unchanged, in_turn, frames_past, wake_for, wake_for_by, publish_now, publish_now_by, deliver_frame, deliver_frame_by}
 use Rattle.gr_model.specs.Arrivals.{Arrival, at_moment, fault_number, fits_broker, least_clash, clash_line, takes, takes_by, receives, receives_by, is_hosted, show_hosted}
-use Rattle.gr_invariants.proofs.rules.Serves.{frames_past_all}
-use Rattle.gr_theorems.proofs.server.CutEvents.{on_log}
+use Rattle.gr_model_calls.proofs.rules.Serves.{frames_past_all}
+use Rattle.gr_model_theorems.proofs.server.CutEvents.{on_log}
 use Rattle.gr_broker.specs.Seen.{BrokerView, view_in, log_in, log_said, machine_log, with_view, with_logged}
 use Rattle.gr_broker.specs.Hosted.{publish_at, publish_logs_at, after_publish, wake_at, mark_logs_at, cut_logs, cut_logs_at, after_wake, logged}
 use Rattle.gr_broker.specs.Receipt.{Receipt, stray, clash, taken, came_at, receipt, receipt_of_fit, after_receipt}
 use Rattle.gr_broker.proofs.Hosted.{marking_log_is, cutting_log_is}
 use Rattle.gr_broker.proofs.Parts.{said_after}
-use Rattle.gr_run.proofs.Along.{flat_map_same}
-use Rattle.gr_run.proofs.Passing.{PassesLog, PassesRest, wake_passes, receive_passes}
+use Rattle.gr_report.proofs.Along.{flat_map_same}
+use Rattle.gr_report.proofs.Passing.{PassesLog, PassesRest, wake_passes, receive_passes}
 use Rattle.gr_node.specs.Seen.{NodeView, broker_in, records_at, records_in}
 use Rattle.gr_node.specs.Of.{Hosts}
 use Rattle.gr_node.specs.Plan.{Call, gets, publishes, wakes, Act, binds, starts, arrives, calls, answers, drops, closes, shows, is_ours, moment_of, offers_of, reply_entry, called, act, entries, all_entries}

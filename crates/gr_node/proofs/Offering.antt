@@ -21,9 +21,9 @@ use Rattle.gr_model.specs.declared.report.Report.{Report}
 use Rattle.gr_model.specs.declared.report.Report.TheVariants as line
 use Rattle.gr_model.specs.Text.{labels_of, whole_line}
 use Rattle.gr_model.specs.World.{sent_line, sent_lines}
-use Rattle.gr_theorems.proofs.records.RecordLines.{sent_lines-append}
-use Rattle.gr_sent.specs.Said.{frame_said}
-use Rattle.gr_sent.proofs.Telling.{frame_back, as_many}
+use Rattle.gr_model_theorems.proofs.records.RecordLines.{sent_lines-append}
+use Rattle.gr_outbox.specs.Said.{frame_said}
+use Rattle.gr_outbox.proofs.Telling.{frame_back, as_many}
 use Rattle.gr_node.specs.Seen.{text_of}
 use Rattle.gr_node.specs.Plan.{offers_of}
 use Rattle.gr_node.specs.Went.{Begins}

@@ -13,7 +13,7 @@ use Rattle.gr_sched.specs.declared.step.Line.{Line}
 use Rattle.gr_model.specs.NetOf.{net_of}
 use Rattle.gr_model.specs.Broker.{max_tick}
 use Rattle.gr_model.specs.Arrivals.{Arrival, datagram, quiet, Publish, publishes_of, left_after}
-use Rattle.gr_theorems.specs.Served.{IsOfBytes}
+use Rattle.gr_model_theorems.specs.Served.{IsOfBytes}
 use Rattle.gr_node.specs.Seen.{NodeView}
 use Rattle.gr_node.specs.Plan.{Act, arrives, calls, closes, datagram_acts, acts_of, quiet_calls, acts_from, closing, entry_of}
 use Rattle.gr_node.specs.Done.{at_arrival}

@@ -20,13 +20,13 @@ use Rattle.gr_model.specs.NetOf.{net_of, IsRising}
 use Rattle.gr_model.specs.Broker.{View, Log, Outcome as MachineOutcome, empty_log, log_know, learn, started}
 use Rattle.gr_model.specs.World.{World, Transition, blank_view, view_of, log_of, sent_lines, absorbed, unchanged, followed_by, in_turn}
 use Rattle.gr_model.specs.Opening.{reopened_log, over_logs, reopened_line, opened_for, opened_for_by}
-use Rattle.gr_theorems.specs.Lanes.{AllFollow, whole_logs}
-use Rattle.gr_invariants.proofs.runs.Schedules.{get_numbers, length_numbers}
-use Rattle.gr_theorems.proofs.server.Opening.{over_view}
+use Rattle.gr_model_theorems.specs.Lanes.{AllFollow, whole_logs}
+use Rattle.gr_model_calls.proofs.runs.Schedules.{get_numbers, length_numbers}
+use Rattle.gr_model_theorems.proofs.server.Opening.{over_view}
 use Rattle.gr_broker.specs.Seen.{BrokerView, view_in, log_in, machine_log}
 use Rattle.gr_broker.specs.Opened.{opened_at}
 use Rattle.gr_broker.proofs.Fresh.{opened_silent}
-use Rattle.gr_run.proofs.Along.{flat_map_same}
+use Rattle.gr_report.proofs.Along.{flat_map_same}
 use Rattle.gr_node.specs.Seen.{NodeView, broker_in, records_said, records_at, records_in}
 use Rattle.gr_node.specs.Of.{AreHosted}
 use Rattle.gr_node.specs.Plan.{Act, binds, starts, bound_entry, act, entries, all_entries}

@@ -21,7 +21,7 @@ use Rattle.gr_model.specs.Broker.{Log}
 use Rattle.gr_model.specs.World.{World, Transition, unchanged, followed_by, in_turn, publish_now, wake_for, wake_all, wake_all_by}
 use Rattle.gr_model.specs.Opening.{over_logs, opened_for, publishers_at, opening, opening_by}
 use Rattle.gr_model.specs.Arrivals.{Arrival, datagram, quiet, Publish, publishes_of, left_after, at_moment, is_hosted, publisher_of, submitted_in, receives, notes, notes_by, reads, published_first, quieted, quieted_by, comes, comes_by, show_hosted, served_from, served_from_by, arrived, arrived_by, served, served_by}
-use Rattle.gr_theorems.specs.Served.{joined}
+use Rattle.gr_model_theorems.specs.Served.{joined}
 use Rattle.gr_node.specs.Plan.{Act, binds, starts, calls, shows, gets, wakes, is_ours, ours, publish_calls, wake_calls, quiet_calls, submit_acts, note_acts, datagram_acts, arrival_acts, acts_from, closing, run_acts, nodes, plan, act}
 use Rattle.gr_node.proofs.Opening.{in_turn_append, binds_nothing}
 

@@ -28,20 +28,20 @@ use Rattle.gr_model.specs.Tree.{IsNet}
 use Rattle.gr_model.specs.Text.{IsNamed}
 use Rattle.gr_model.specs.Arrivals.{fits_broker, least_clash}
 use Rattle.gr_model.specs.Broker.{View, empty_log, receive}
-use Rattle.gr_invariants.specs.Edges.{GoesOverEdge}
-use Rattle.gr_invariants.specs.Fits.{BodyFits}
-use Rattle.gr_invariants.proofs.topology.Strays.{receive_on}
-use Rattle.gr_relay.specs.declared.outcome.Outcome.{Outcome}
+use Rattle.gr_model_calls.specs.Edges.{GoesOverEdge}
+use Rattle.gr_model_calls.specs.Fits.{BodyFits}
+use Rattle.gr_model_calls.proofs.topology.Strays.{receive_on}
+use Rattle.gr_broker_relay.specs.declared.outcome.Outcome.{Outcome}
 use Rattle.gr_broker.specs.declared.outcome.Received.{Received}
 use Rattle.gr_broker.specs.declared.outcome.Received.TheVariants as answer
 use Rattle.gr_broker.specs.declared.outcome.Dropped.TheVariants as dropped
 use Rattle.gr_broker.specs.Seen.{BrokerView, view_in, log_in, is_broken}
 use Rattle.gr_broker.specs.Of.{IsBrokerOf}
 use Rattle.gr_broker.specs.Receipt.{Receipt, no_frame, stray, clash, taken, came_at, receipt, receipt_of_fit, after_receipt, Answers}
-use Rattle.gr_run.specs.Named.{AllNamed}
-use Rattle.gr_run.proofs.Names.{receive_named}
-use Rattle.gr_run.proofs.Named.{names_of, all_of}
-use Rattle.gr_run.proofs.Passing.{over_edges}
+use Rattle.gr_report.specs.Named.{AllNamed}
+use Rattle.gr_report.proofs.Names.{receive_named}
+use Rattle.gr_report.proofs.Named.{names_of, all_of}
+use Rattle.gr_report.proofs.Passing.{over_edges}
 use Rattle.gr_node.specs.Seen.{NodeView}
 use Rattle.gr_node.specs.Of.{NodeFits, AllStand}
 use Rattle.gr_node.specs.Plan.{gets}

@@ -12,12 +12,12 @@ use Rattle.gr_model.specs.Net.{keeps_horizon, numbers}
 use Rattle.gr_model.specs.NetOf.{net_of}
 use Rattle.gr_model.specs.Text.{IsNamed}
 use Rattle.gr_model.specs.Arrivals.{is_hosted}
-use Rattle.gr_invariants.proofs.asks.AskMoments.{Each-on}
-use Rattle.gr_invariants.proofs.runs.Worlds.{Each, numbers_below}
+use Rattle.gr_model_calls.proofs.asks.AskMoments.{Each-on}
+use Rattle.gr_model_calls.proofs.runs.Worlds.{Each, numbers_below}
 use Rattle.gr_broker.specs.Seen.{BrokerView, view_in, log_in}
-use Rattle.gr_run.specs.Named.{AllNamed}
-use Rattle.gr_run.proofs.Named.{each_of, all_of}
-use Rattle.gr_run.proofs.OpenedNamed.{each_flat}
+use Rattle.gr_report.specs.Named.{AllNamed}
+use Rattle.gr_report.proofs.Named.{each_of, all_of}
+use Rattle.gr_report.proofs.OpenedNamed.{each_flat}
 use Rattle.gr_node.specs.Seen.{NodeView, broker_in, records_in}
 use Rattle.gr_node.specs.Of.{AreHosted, NodeFits}
 use Rattle.gr_node.specs.Done.{log_shown, log_shown_in, logs_shown, doubt_shown, doubts_by, doubts_shown, shown}

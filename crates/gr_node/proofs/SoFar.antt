@@ -9,7 +9,7 @@ use Rattle.gr_sched.specs.declared.step.Line.{Line}
 use Rattle.gr_model.specs.Net.{Net}
 use Rattle.gr_model.specs.NetOf.{net_of}
 use Rattle.gr_model.specs.Arrivals.{Arrival, Publish, publishes_of, left_after}
-use Rattle.gr_theorems.specs.Served.{IsOfBytes}
+use Rattle.gr_model_theorems.specs.Served.{IsOfBytes}
 use Rattle.gr_node.specs.Seen.{NodeView}
 use Rattle.gr_node.specs.Plan.{Act, arrival_acts, acts_from, closing, run_acts}
 use Rattle.gr_node.specs.Went.{Outside, Went, IsExact}

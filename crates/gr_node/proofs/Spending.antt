@@ -10,8 +10,8 @@ use Rattle.gr_model.specs.Net.{Net}
 use Rattle.gr_model.specs.Broker.{View, Log, Outcome, empty_log, max_tick, with_event, publish, published}
 use Rattle.gr_model.specs.World.{World, Transition, view_of, log_of, absorbed, publish_now, publish_now_by}
 use Rattle.gr_model.specs.Arrivals.{Publish}
-use Rattle.gr_invariants.proofs.calls.HostCases.{publish_cases, news_of}
-use Rattle.gr_invariants.proofs.calls.Calls.{learn_log}
+use Rattle.gr_model_calls.proofs.calls.HostCases.{publish_cases, news_of}
+use Rattle.gr_model_calls.proofs.calls.Calls.{learn_log}
 use Rattle.gr_node.specs.Plan.{reply_to}
 
 module _ (x : Publish) where

@@ -10,15 +10,15 @@ use Rattle.gr_model.specs.declared.report.Report.{Report}
 use Rattle.gr_model.specs.Net.{numbers}
 use Rattle.gr_model.specs.NetOf.{net_of, IsOrderly}
 use Rattle.gr_model.specs.Text.{IsNamed}
-use Rattle.gr_invariants.proofs.runs.Worlds.{Each, numbers_below}
+use Rattle.gr_model_calls.proofs.runs.Worlds.{Each, numbers_below}
 use Rattle.gr_broker.specs.declared.outcome.BrokerFault.{BrokerFault}
 use Rattle.gr_broker.specs.declared.outcome.BrokerFault.TheVariants as refused
 use Rattle.gr_broker.specs.Seen.{BrokerView, machine_log}
 use Rattle.gr_broker.specs.Told.{log_fault}
 use Rattle.gr_broker.specs.Opened.{opened_at}
-use Rattle.gr_run.specs.Named.{AllNamed, IsPutFault}
-use Rattle.gr_run.proofs.Named.{names_of, all_of}
-use Rattle.gr_run.proofs.OpenedNamed.{start_named, each_flat}
+use Rattle.gr_report.specs.Named.{AllNamed, IsPutFault}
+use Rattle.gr_report.proofs.Named.{names_of, all_of}
+use Rattle.gr_report.proofs.OpenedNamed.{start_named, each_flat}
 use Rattle.gr_node.specs.Went.{DiskMoves, SinkMoves}
 use Rattle.gr_node.specs.Starting.{lines_of_start}
 use Rattle.gr_node.specs.Begun.{IsStartFault, start_fault}

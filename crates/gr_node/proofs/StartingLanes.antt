@@ -19,7 +19,7 @@ use Rattle.gr_node.specs.Seen.{NodeView, broker_in, records_said, records_at}
 use Rattle.gr_node.specs.Of.{AllStand, OthersStay}
 use Rattle.gr_node.specs.Starting.{Found, IsFirstDamaged}
 use Rattle.gr_node.specs.Begun.{HasBegun}
-use Rattle.gr_run.proofs.Hosts.{host_is, is_host_at, log_hosted, hosted_log, lanes_apart}
+use Rattle.gr_report.proofs.Hosts.{host_is, is_host_at, log_hosted, hosted_log, lanes_apart}
 use Rattle.gr_node.proofs.StartingOrder.{among_front, among_last, among_taken, IsNext}
 use Rattle.gr_node.proofs.StartingNodes.{HaveBegun, with_broker, which_is, begun_broker}
 

@@ -10,7 +10,7 @@ use Rattle.gr_node.specs.Seen.{NodeView, broker_in, none_started}
 use Rattle.gr_node.specs.Of.{Hosts, NodeFits, IsSet}
 use Rattle.gr_node.specs.Starting.{HasStarted}
 use Rattle.gr_node.specs.Begun.{HasBegun}
-use Rattle.gr_run.proofs.Hosts.{some_of}
+use Rattle.gr_report.proofs.Hosts.{some_of}
 use Rattle.gr_node.proofs.StartingOrder.{among_more, among_taken, each_among}
 
 -- a node with a broker in its place

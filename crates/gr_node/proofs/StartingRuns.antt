@@ -12,7 +12,7 @@ use Rattle.gr_model.specs.declared.report.Report.{Report}
 use Rattle.gr_broker.specs.Seen.{BrokerView}
 use Rattle.gr_broker.specs.Of.{LogsStand}
 use Rattle.gr_broker.specs.Opened.{OpensLanes, IsDamagedAt}
-use Rattle.gr_run.specs.Named.{IsPutFault}
+use Rattle.gr_report.specs.Named.{IsPutFault}
 use Rattle.gr_node.specs.Seen.{NodeView, text_of}
 use Rattle.gr_node.specs.Of.{AreHosted}
 use Rattle.gr_node.specs.Went.{outside, IsExact}

@@ -24,9 +24,9 @@ use Rattle.gr_model.specs.Broker.{Log, empty_log}
 use Rattle.gr_model.specs.World.{Transition, log_of}
 use Rattle.gr_model.specs.Opening.{reopened_log, over_logs}
 use Rattle.gr_model.specs.Arrivals.{Arrival, datagram, quiet, Publish, publisher_of, takes_notes, submitted_in, is_hosted, is_scheduled, publishes_of, left_after}
-use Rattle.gr_theorems.specs.Lanes.{whole_logs}
-use Rattle.gr_theorems.proofs.records.Recorded.{get_map}
-use Rattle.gr_invariants.proofs.runs.Schedules.{get_numbers, length_numbers}
+use Rattle.gr_model_theorems.specs.Lanes.{whole_logs}
+use Rattle.gr_model_theorems.proofs.records.Recorded.{get_map}
+use Rattle.gr_model_calls.proofs.runs.Schedules.{get_numbers, length_numbers}
 use Rattle.gr_node.specs.Plan.{Call, gets, wakes, Act, binds, starts, calls, shows, publish_calls, wake_calls, submit_acts, note_acts, datagram_acts, acts_of, acts_from, closing, run_acts, nodes, plan, all_entries}
 use Rattle.gr_node.specs.Served.{Course, world_before}
 use Rattle.gr_node.specs.Submitted.{IsSubmission, AreSubmissions, IsFirstOf, Logs, log_found, after_acts, AreFirst, IsOfClient, offers_next}

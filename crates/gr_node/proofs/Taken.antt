@@ -14,10 +14,10 @@ use Rattle.gr_model.specs.Net.{is_host}
 use Rattle.gr_model.specs.NetOf.{net_of}
 use Rattle.gr_model.specs.Broker.{View, Log, Outcome as MachineOutcome, empty_log}
 use Rattle.gr_model.specs.World.{World, Transition, blank_view, view_of, log_of, with_view as with_view_at, sent_lines, absorbed, sent_since}
-use Rattle.gr_invariants.proofs.rules.Serves.{frames_past_all}
-use Rattle.gr_theorems.proofs.server.CutEvents.{on_log}
+use Rattle.gr_model_calls.proofs.rules.Serves.{frames_past_all}
+use Rattle.gr_model_theorems.proofs.server.CutEvents.{on_log}
 use Rattle.gr_broker.specs.Seen.{BrokerView, view_in, log_in, log_said, machine_log, with_view, with_log, with_logged}
-use Rattle.gr_run.proofs.Passing.{none_some}
+use Rattle.gr_report.proofs.Passing.{none_some}
 use Rattle.gr_node.specs.Seen.{NodeView, broker_in, records_said}
 use Rattle.gr_node.specs.Of.{Hosts}
 use Rattle.gr_node.specs.Plan.{offers_of}

@@ -16,8 +16,8 @@ use Rattle.gr_model.specs.declared.report.Report.{Report}
 use Rattle.gr_model.specs.Text.{labels_of, whole_line}
 use Rattle.gr_model.specs.World.{sent_lines}
 use Rattle.gr_model.specs.Arrivals.{Arrival, Publish}
-use Rattle.gr_relay.specs.declared.outcome.Outcome.{Outcome}
-use Rattle.gr_run.specs.Named.{IsPutFault}
+use Rattle.gr_broker_relay.specs.declared.outcome.Outcome.{Outcome}
+use Rattle.gr_report.specs.Named.{IsPutFault}
 use Rattle.gr_node.specs.Seen.{NodeView, records_in, text_of}
 use Rattle.gr_node.specs.Plan.{Call, Act, arrives, calls, answers, drops, closes, entry_of, offers_of, reply_entry}
 use Rattle.gr_node.specs.Done.{Done, and_then, done, all_done, call_done, at_arrival}

@@ -7,7 +7,7 @@ use Rattle.gr_out.specs.declared.fault.RunFault.{RunFault}
 use Rattle.gr_out.specs.declared.fault.RunFault.TheVariants as run
 use Rattle.gr_topo.specs.Topology.{TopologyView}
 use Rattle.gr_model.specs.Net.{numbers_from}
-use Rattle.gr_run.proofs.Along.{numbers_left}
+use Rattle.gr_report.proofs.Along.{numbers_left}
 use Rattle.gr_node.specs.Seen.{NodeView}
 use Rattle.gr_node.specs.Plan.{Call, Act, calls, wakes, wake_calls}
 use Rattle.gr_node.specs.Went.{Outside, Went}

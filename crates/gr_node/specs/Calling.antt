@@ -6,7 +6,7 @@ use Rattle.gr_out.specs.declared.fault.RunFault.TheVariants as run
 use Rattle.gr_model.specs.declared.report.Report.{Report}
 use Rattle.gr_model.specs.declared.report.Report.TheVariants as line
 use Rattle.gr_model.specs.Arrivals.{fault_number}
-use Rattle.gr_relay.specs.declared.outcome.Outcome.{Outcome}
+use Rattle.gr_broker_relay.specs.declared.outcome.Outcome.{Outcome}
 use Rattle.gr_broker.specs.declared.outcome.BrokerFault.{BrokerFault}
 use Rattle.gr_broker.specs.declared.outcome.BrokerFault.TheVariants as refused
 use Rattle.gr_broker.specs.declared.outcome.Received.{Received}

@@ -11,7 +11,7 @@ use Rattle.gr_sched.specs.declared.step.Line.{Line}
 use Rattle.gr_topo.specs.Topology.{TopologyView}
 use Rattle.gr_model.specs.NetOf.{net_of}
 use Rattle.gr_model.specs.Arrivals.{Arrival}
-use Rattle.gr_theorems.specs.Served.{IsOfBytes}
+use Rattle.gr_model_theorems.specs.Served.{IsOfBytes}
 use Rattle.gr_node.specs.Seen.{NodeView, text_of}
 use Rattle.gr_node.specs.Lasting.{StoodEachTime}
 use Rattle.gr_node.specs.Plan.{Act, shows, run_acts}

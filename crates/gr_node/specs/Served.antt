@@ -20,8 +20,8 @@ use Rattle.gr_model.specs.NetOf.{net_of}
 use Rattle.gr_model.specs.World.{World, Transition, in_turn, log_of as machine_log_of}
 use Rattle.gr_model.specs.Opening.{over_logs}
 use Rattle.gr_model.specs.Arrivals.{Arrival, is_hosted, served, publishes_of}
-use Rattle.gr_theorems.specs.Served.{joined, IsOfBytes}
-use Rattle.gr_theorems.specs.Lanes.{AllFollow, whole_logs}
+use Rattle.gr_model_theorems.specs.Served.{joined, IsOfBytes}
+use Rattle.gr_model_theorems.specs.Lanes.{AllFollow, whole_logs}
 use Rattle.gr_node.specs.Seen.{text_of}
 use Rattle.gr_node.specs.Of.{OthersStay}
 use Rattle.gr_node.specs.Lasting.{Lasts}

@@ -8,7 +8,7 @@ use Rattle.gr_sched.specs.declared.step.Line.{Line}
 use Rattle.gr_model.specs.Net.{Net}
 use Rattle.gr_model.specs.NetOf.{net_of}
 use Rattle.gr_model.specs.Arrivals.{Arrival, Publish, publishes_in, publishes_of, left_after}
-use Rattle.gr_theorems.specs.Served.{IsOfBytes}
+use Rattle.gr_model_theorems.specs.Served.{IsOfBytes}
 use Rattle.gr_node.specs.Seen.{NodeView}
 use Rattle.gr_node.specs.Plan.{acts_from, closing}
 use Rattle.gr_node.specs.Went.{Outside, Went}

@@ -14,9 +14,9 @@ use Rattle.gr_publog.specs.Crash.{EitherRose}
 use Rattle.gr_topo.specs.Topology.{TopologyView}
 use Rattle.gr_model.specs.NetOf.{net_of}
 use Rattle.gr_model.specs.World.{sent_lines}
-use Rattle.gr_invariants.specs.Edges.{GoesOverEdge}
-use Rattle.gr_relay.specs.declared.outcome.Outcome.{Outcome}
-use Rattle.gr_run.specs.Named.{AllNamed}
+use Rattle.gr_model_calls.specs.Edges.{GoesOverEdge}
+use Rattle.gr_broker_relay.specs.declared.outcome.Outcome.{Outcome}
+use Rattle.gr_report.specs.Named.{AllNamed}
 use Rattle.gr_node.specs.Seen.{NodeView, text_of}
 use Rattle.gr_node.specs.Plan.{Call, publishes, wakes, Act, starts, calls, offers_of, bound_entry}
 use Rattle.gr_node.specs.Done.{call_done, all_done}

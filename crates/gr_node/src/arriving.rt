@@ -7,7 +7,7 @@ ghost use Rattle.gr_scenario.specs.Steps.{AreStepsOf};
 ghost use Rattle.gr_model.specs.Broker.{max_tick};
 ghost use Rattle.gr_model.specs.NetOf.{net_of};
 ghost use Rattle.gr_model.specs.Arrivals.{datagram, quiet, Publish, publishes_of};
-ghost use Rattle.gr_theorems.specs.Served.{IsOfBytes};
+ghost use Rattle.gr_model_theorems.specs.Served.{IsOfBytes};
 ghost use Rattle.gr_node.specs.Seen.{seen};
 ghost use Rattle.gr_node.specs.Of.{AreHosted, IsSet, AllStand, OthersStay};
 ghost use Rattle.gr_node.specs.Lasting.{AllKeep};

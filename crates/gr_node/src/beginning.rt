@@ -6,7 +6,7 @@ ghost use Rattle.gr_model.specs.Net.{is_host};
 ghost use Rattle.gr_model.specs.NetOf.{net_of};
 ghost use Rattle.gr_broker.specs.Of.{IsBrokerOf, LogsStand};
 ghost use Rattle.gr_broker.specs.Opened.{OpensLanes, IsDamagedAt};
-ghost use Rattle.gr_run.specs.Named.{AllNamed};
+ghost use Rattle.gr_report.specs.Named.{AllNamed};
 ghost use Rattle.gr_node.specs.Went.{DiskMoves};
 ghost use Rattle.gr_node.specs.Starting.{lines_of_start};
 ghost use Rattle.gr_node.specs.Begun.{HasBegun, IsStartFault, LogsFollow, start_fault};

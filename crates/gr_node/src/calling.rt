@@ -20,7 +20,7 @@ use gr_event::Event;
 use gr_model::topologies::every_topology_is_a_tree;
 use gr_model::{Report, Reports};
 use gr_out::{Disk, Memory, RunFault};
-use gr_sent::Sent;
+use gr_outbox::Outbox;
 use gr_topo::Topology;
 use std::alloc::Global;
 
@@ -100,7 +100,7 @@ fn dropped_outcome(alloc: Global, b: u16, dropped: Dropped) -> Result<Outcome, R
     }
     Ok(Outcome {
         reports,
-        frames: Sent::new(alloc),
+        frames: Outbox::new(alloc),
     })
 }
 

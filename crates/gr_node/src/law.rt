@@ -19,17 +19,17 @@ ghost use Rattle.gr_model.specs.World.{World, Transition, in_turn, publish_now, 
 ghost use Rattle.gr_model.specs.Opening.{over_logs, opening};
 ghost use Rattle.gr_model.specs.Arrivals.{Arrival, Publish, publishes_of, served, arrived};
 ghost use Rattle.gr_scenario.specs.Steps.{AreStepsOf};
-ghost use Rattle.gr_theorems.specs.Served.{joined, IsOfBytes};
-ghost use Rattle.gr_theorems.specs.Lanes.{AllFollow, HoldsServedLanes, found_logs};
-ghost use Rattle.gr_theorems.specs.Statements.{ArrivalsDoSteps};
+ghost use Rattle.gr_model_theorems.specs.Served.{joined, IsOfBytes};
+ghost use Rattle.gr_model_theorems.specs.Lanes.{AllFollow, HoldsServedLanes, found_logs};
+ghost use Rattle.gr_model_theorems.specs.Statements.{ArrivalsDoSteps};
 ghost use Rattle.gr_node.specs.Plan.{Act, ours, act, plan, all_entries, reply_to};
 ghost use Rattle.gr_node.specs.Lasting.{Lasts};
 ghost use Rattle.gr_node.specs.Served.{Course, world_before, acts_upto, world_upto, planned, IsHonestJournal};
 ghost use Rattle.gr_node.specs.Submitted.{IsFirstOf, Logs, log_found, after_acts, AreFirst, IsOfClient, offers_next};
 
 use gr_model::topologies::every_topology_is_a_tree;
-use gr_run::steps_fit_the_theorems;
-use gr_theorems::theorems::{headline_over_lanes, headline_served};
+use gr_model_theorems::theorems::{headline_over_lanes, headline_served};
+use gr_report::steps_fit_the_theorems;
 use gr_topo::Topology;
 
 /// The headline of a run that hosts all brokers, over old logs too: where the journal is honest, every arrival does

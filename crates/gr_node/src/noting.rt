@@ -15,7 +15,7 @@ ghost use Rattle.gr_model.specs.NetOf.{net_of};
 ghost use Rattle.gr_model.specs.Text.{labels_of, whole_line};
 ghost use Rattle.gr_model.specs.Arrivals.{takes_notes};
 ghost use Rattle.gr_pubend.specs.Log.{log_of};
-ghost use Rattle.gr_run.specs.Named.{IsPutFault};
+ghost use Rattle.gr_report.specs.Named.{IsPutFault};
 ghost use Rattle.gr_node.specs.Seen.{seen, broker_in, records_in};
 ghost use Rattle.gr_node.specs.Of.{IsSet, NodeFits, AllStand, OthersStay};
 ghost use Rattle.gr_node.specs.Lasting.{AllKeep};
@@ -30,7 +30,7 @@ use gr_event::Event;
 use gr_model::Report;
 use gr_note::{Note, NoteFault, NoteKind, begins_note, decode, encode};
 use gr_out::{Disk, Page, Post, RunFault, Sink};
-use gr_run::put_line;
+use gr_report::put_line;
 use std::alloc::Global;
 
 /// Whether a broker takes what a publisher submits: the publisher has a client, and is at the broker.

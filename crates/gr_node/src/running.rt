@@ -5,7 +5,7 @@ ghost use Rattle.std.specs.List.{AllByRecursion};
 ghost use Rattle.gr_scenario.specs.Steps.{AreStepsOf};
 ghost use Rattle.gr_model.specs.NetOf.{net_of};
 ghost use Rattle.gr_model.specs.Arrivals.{Arrival};
-ghost use Rattle.gr_theorems.specs.Served.{IsOfBytes};
+ghost use Rattle.gr_model_theorems.specs.Served.{IsOfBytes};
 ghost use Rattle.gr_node.specs.Seen.{seen};
 ghost use Rattle.gr_node.specs.Of.{AreHosted, IsSet, AllStand, OthersStay};
 ghost use Rattle.gr_node.specs.Lasting.{StoodEachTime};

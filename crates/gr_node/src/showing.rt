@@ -3,7 +3,7 @@
 ghost use Rattle.std.specs.Prelude.{◌≡◌, ◌<◌, ◌++◌, length, flat_map, is_some, true, Some, IfOk, OnOk};
 ghost use Rattle.gr_broker.specs.Of.{IsBrokerOf};
 ghost use Rattle.gr_broker.specs.Seen.{log_in, machine_log};
-ghost use Rattle.gr_run.specs.Named.{AllNamed};
+ghost use Rattle.gr_report.specs.Named.{AllNamed};
 ghost use Rattle.gr_node.specs.Seen.{seen};
 ghost use Rattle.gr_node.specs.Of.{AreHosted, IsSet, NodeFits};
 ghost use Rattle.gr_node.specs.Done.{log_shown, log_shown_in, logs_shown, doubt_shown, doubts_by, doubts_shown, shown};

@@ -12,7 +12,7 @@ ghost use Rattle.gr_node.specs.Starting.{Started, Found, IsFirstDamaged};
 use crate::beginning::start_one;
 use crate::node::{Node, Site};
 use gr_out::{Disk, Page, RunFault, Sink};
-use gr_run::put_all;
+use gr_report::put_all;
 
 /// Starts the hosted brokers, in order, and puts what that tells.
 ///

@@ -7,7 +7,7 @@ ghost use Rattle.gr_topo.specs.Topology.{host_of};
 ghost use Rattle.gr_scenario.specs.Steps.{AreStepsOf};
 ghost use Rattle.gr_model.specs.NetOf.{net_of};
 ghost use Rattle.gr_model.specs.Arrivals.{publishes_of};
-ghost use Rattle.gr_run.specs.Named.{IsPutFault};
+ghost use Rattle.gr_report.specs.Named.{IsPutFault};
 ghost use Rattle.gr_node.specs.Seen.{seen, broker_in};
 ghost use Rattle.gr_node.specs.Of.{AreHosted, IsSet, AllStand, OthersStay};
 ghost use Rattle.gr_node.specs.Lasting.{AllKeep};

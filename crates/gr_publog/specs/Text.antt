@@ -6,7 +6,7 @@ use Rattle.gr_event.specs.declared.event.Event.{Event as EventPairs}
 use Rattle.gr_event.specs.declared.event.EventFault.{EventFault}
 use Rattle.gr_event.specs.Event.{event_size, event_bytes}
 use Rattle.gr_event.specs.Decode.{event_decoded}
-use Rattle.gr_event.specs.declared.limits.TheConstants.{MAX_BYTES}
+use Rattle.gr_event.specs.declared.limits.TheConstants.{MAX_EVENT_BYTES}
 use Rattle.gr_publog.specs.declared.record.Record.{Record}
 use Rattle.gr_publog.specs.declared.record.Record.TheVariants.{Event, Mark, Cut}
 use Rattle.gr_publog.specs.declared.record.State.{State}
@@ -84,7 +84,7 @@ unfoldable pub logged_in : ℕ → State → List ℕ → Result (Record × List
 logged_in total s rest = do
   tick ← number_in total 8 w64 (may_settle s) rest
   number ← number_in total 8 w64 (λ n. n == s.last + 1) tick.1
-  size ← number_in total 4 w32 (λ n. nat_le n MAX_BYTES) number.1
+  size ← number_in total 4 w32 (λ n. nat_le n MAX_EVENT_BYTES) number.1
   event ← event_in total size.0 size.1
   Ok (Event tick.0 number.0 event.0, event.1)
 

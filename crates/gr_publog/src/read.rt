@@ -16,7 +16,7 @@ use crate::entries::{Entries, note_record};
 use crate::history::History;
 use crate::record::{LogFault, Record, State};
 use byteorder::{BigEndian, ByteOrder};
-use gr_event::{Event, EventFault, MAX_BYTES};
+use gr_event::{Event, EventFault, MAX_EVENT_BYTES};
 use std::alloc::Global;
 use std::collections::VecDeque;
 
@@ -123,14 +123,14 @@ fn next_in<'a>(total: usize, last: u64, rest: &'a [u8]) -> Result<(u64, &'a [u8]
 /// The size of an event.
 fn size_in(total: usize, rest: &[u8]) -> Result<(usize, &[u8]), LogFault>
     requires { length rest.now ≤ total }
-    ensures gives { let read = number_in total 4 w32 (λ n. nat_le n MAX_BYTES) rest.now in
+    ensures gives { let read = number_in total 4 w32 (λ n. nat_le n MAX_EVENT_BYTES) rest.now in
         MatchResult result (λ x. read ≡ Ok (x.0, x.1.now)) (λ e. Fails e read) }
     ensures spelled { IfOk result (λ x. rest.now ≡ to_be_bytes w32 x.0 ++ x.1.now) }
     ensures within { IfOk result (λ x. 4 + length x.1.now ≡ length rest.now) }
 {
     let (field, left) = field_in(total, 4, rest)?;
     let size = four(field) as usize;
-    if size > MAX_BYTES {
+    if size > MAX_EVENT_BYTES {
         return Err(LogFault::Damaged {
             at: place(total, rest),
         });

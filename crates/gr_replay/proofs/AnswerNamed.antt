@@ -6,8 +6,8 @@ use Rattle.gr_model.specs.NetOf.{IsOrderly}
 use Rattle.gr_model.specs.Tree.{IsNet}
 use Rattle.gr_model.specs.World.{Transition}
 use Rattle.gr_scenario.specs.Steps.{IsStepOf}
-use Rattle.gr_run.specs.Named.{AllNamed}
-use Rattle.gr_run.proofs.Named.{next_named}
+use Rattle.gr_report.specs.Named.{AllNamed}
+use Rattle.gr_report.proofs.Named.{next_named}
 use Rattle.gr_world.specs.declared.fault.WorldFault.{WorldFault}
 use Rattle.gr_world.specs.Seen.{WorldView, net_in, world_of}
 use Rattle.gr_world.specs.Of.{IsWorld}

@@ -8,12 +8,12 @@ use Rattle.gr_model.specs.declared.report.Report.{Report}
 use Rattle.gr_model.specs.Net.{numbers}
 use Rattle.gr_model.specs.NetOf.{net_of, IsOrderly}
 use Rattle.gr_model.specs.Text.{IsNamed}
-use Rattle.gr_invariants.proofs.runs.Worlds.{Each, numbers_below}
+use Rattle.gr_model_calls.proofs.runs.Worlds.{Each, numbers_below}
 use Rattle.gr_broker.specs.Seen.{machine_log}
 use Rattle.gr_broker.specs.Opened.{opened_at, IsDamagedAt}
-use Rattle.gr_run.specs.Named.{AllNamed}
-use Rattle.gr_run.proofs.Named.{names_of, all_of}
-use Rattle.gr_run.proofs.OpenedNamed.{start_named, each_flat}
+use Rattle.gr_report.specs.Named.{AllNamed}
+use Rattle.gr_report.proofs.Named.{names_of, all_of}
+use Rattle.gr_report.proofs.OpenedNamed.{start_named, each_flat}
 use Rattle.gr_world.specs.Seen.{WorldView, broker_in}
 use Rattle.gr_world.specs.Opened.{IsOpened, AreEmpty}
 

@@ -8,8 +8,8 @@ use Rattle.gr_model.specs.Net.{Net}
 use Rattle.gr_model.specs.NetOf.{net_of}
 use Rattle.gr_model.specs.Text.{Labels, labels_of, whole_line, report_text}
 use Rattle.gr_model.specs.World.{World, Transition, followed_by, next, run_all, run_from_by, report_of_by, start}
-use Rattle.gr_invariants.proofs.runs.Schedules.{report_lines}
-use Rattle.gr_theorems.proofs.server.Arriving.{run_append}
+use Rattle.gr_model_calls.proofs.runs.Schedules.{report_lines}
+use Rattle.gr_model_theorems.proofs.server.Arriving.{run_append}
 use Rattle.gr_topo.specs.Topology.{TopologyView}
 use Rattle.gr_world.specs.Seen.{WorldView, net_in, world_of}
 use Rattle.gr_replay.specs.Replayed.{replayed_text}

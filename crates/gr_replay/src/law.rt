@@ -6,9 +6,9 @@ ghost use Rattle.gr_topo.specs.Topology.{TopologyView};
 ghost use Rattle.gr_model.specs.NetOf.{net_of, IsOrderly};
 ghost use Rattle.gr_model.specs.Tree.{IsNet};
 ghost use Rattle.gr_model.specs.World.{World, next};
-ghost use Rattle.gr_invariants.specs.Edges.{GoesOverEdge};
+ghost use Rattle.gr_model_calls.specs.Edges.{GoesOverEdge};
 ghost use Rattle.gr_scenario.specs.Steps.{IsStepOf};
-ghost use Rattle.gr_run.specs.Named.{AllNamed};
+ghost use Rattle.gr_report.specs.Named.{AllNamed};
 
 /// Each line that a step tells names what the topology has, where all frames so far went over edges of its tree.
 pub fn every_line_is_named()

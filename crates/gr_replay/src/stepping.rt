@@ -6,7 +6,7 @@ ghost use Rattle.gr_world.specs.Of.{IsWorld, LanesFit};
 ghost use Rattle.gr_world.specs.Disk.{Counts, StaysSound};
 ghost use Rattle.gr_world.specs.Steps.{Makes, NotMemory, Stays, lines_of_step, frame_of_step};
 ghost use Rattle.gr_scenario.specs.Steps.{IsStepOf};
-ghost use Rattle.gr_run.specs.Named.{AllNamed};
+ghost use Rattle.gr_report.specs.Named.{AllNamed};
 ghost use Rattle.gr_replay.specs.Going.{IsGoing, NotDamaged, IsCause, IsStepFault, DiskCounts, Tells};
 
 use gr_model::topologies::every_topology_is_a_tree;

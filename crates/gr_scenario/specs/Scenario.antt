@@ -1,7 +1,7 @@
 -- The scenario that bytes are, or why they are none
 use Rattle.std.specs.Prelude.{ℕ, nat_lt, if◌then◌else◌, List, length, Result, Ok, Err}
 use Rattle.gr_sched.specs.declared.fault.StepFault.{StepFault}
-use Rattle.gr_sched.specs.declared.step.TheConstants.{MAX_BYTES, MAX_STEPS}
+use Rattle.gr_sched.specs.declared.step.TheConstants.{MAX_INPUT_BYTES, MAX_STEPS}
 use Rattle.gr_sched.specs.declared.step.Line.{Line}
 use Rattle.gr_sched.specs.Text.{pieces_of, before_separator, after_separator, counted_lines}
 use Rattle.gr_sched.specs.Grammar.{steps_of}
@@ -29,7 +29,7 @@ asked_of_parts (Err why) steps = Refused (topology_line why)
 -- topology, and the part behind it the steps
 abbrev pub asked_by : List ℕ → Asked
 asked_by bytes =
-    if nat_lt MAX_BYTES (length bytes) then TooManyBytes
+    if nat_lt MAX_INPUT_BYTES (length bytes) then TooManyBytes
     else if nat_lt MAX_STEPS (length (counted_lines (after_separator (pieces_of bytes)))) then TooManySteps
     else asked_of_parts (topology_text (before_separator (pieces_of bytes))) (after_separator (pieces_of bytes))
 

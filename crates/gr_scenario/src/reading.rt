@@ -1,7 +1,7 @@
 //! Reading what the bytes of a source ask.
 
 ghost use Rattle.std.specs.Prelude.{◌≡◌, ◌≤◌, nat_lt, if◌then◌else◌, length, IfOk, IfErr};
-ghost use Rattle.gr_sched.specs.declared.step.TheConstants.{MAX_BYTES, MAX_STEPS};
+ghost use Rattle.gr_sched.specs.declared.step.TheConstants.{MAX_INPUT_BYTES, MAX_STEPS};
 ghost use Rattle.gr_sched.specs.Text.{counted_lines};
 ghost use Rattle.gr_topo.specs.Read.{topology_text};
 ghost use Rattle.gr_scenario.specs.declared.asked.Asked.TheVariants.{TooManySteps};
@@ -10,7 +10,7 @@ ghost use Rattle.gr_scenario.specs.Scenario.{asked_of_parts, asked_by, IsScenari
 use crate::asked::Asked;
 use crate::law::steps_that_are_read;
 use crate::refusals::{line_of_step, line_of_topology};
-use gr_sched::{MAX_BYTES, MAX_STEPS, count, parse, split};
+use gr_sched::{MAX_INPUT_BYTES, MAX_STEPS, count, parse, split};
 use gr_topo::Topology;
 use std::alloc::{AllocError, Global};
 
@@ -21,7 +21,7 @@ pub fn read(alloc: Global, bytes: &[u8]) -> Result<Asked, AllocError>
     ensures ready { IfOk result IsScenario }
     ensures large_at_once { IfErr result (λ refused. IsTooLarge (asked_by bytes.now) → ⊥) }
 {
-    if bytes.len() > MAX_BYTES {
+    if bytes.len() > MAX_INPUT_BYTES {
         return Ok(Asked::TooManyBytes);
     }
     let (front, back) = split(bytes);
@@ -38,7 +38,7 @@ fn has_too_many_steps(back: &[u8]) -> bool
 
 /// Reads the two parts of a scenario: the topology, and then the steps with its names.
 fn read_parts(alloc: Global, front: &[u8], back: &[u8]) -> Result<Asked, AllocError>
-    requires { length back.now ≤ MAX_BYTES }
+    requires { length back.now ≤ MAX_INPUT_BYTES }
     ensures asked { let many = nat_lt MAX_STEPS (length (counted_lines back.now)) in IfOk result (λ asked.
         asked ≡ if many then TooManySteps else asked_of_parts (topology_text front.now) back.now) }
     ensures ready { IfOk result IsScenario }
@@ -53,7 +53,7 @@ fn read_parts(alloc: Global, front: &[u8], back: &[u8]) -> Result<Asked, AllocEr
 
 /// Reads the steps with the names of a topology.
 fn read_steps(alloc: Global, topology: Topology, back: &[u8]) -> Result<Asked, AllocError>
-    requires { length back.now ≤ MAX_BYTES }
+    requires { length back.now ≤ MAX_INPUT_BYTES }
     ensures asked { let many = nat_lt MAX_STEPS (length (counted_lines back.now)) in IfOk result (λ asked.
         asked ≡ if many then TooManySteps else asked_of_parts (Ok topology) back.now) }
     ensures ready { IfOk result IsScenario }

@@ -6,7 +6,7 @@ use Rattle.serde_json.specs.Find.{as_i64}
 use Rattle.serde_json.specs.Events.{members_len}
 use Rattle.gr_event.specs.declared.event.EventFault.{EventFault}
 use Rattle.gr_event.specs.declared.event.EventFault.TheVariants as fault
-use Rattle.gr_event.specs.declared.limits.TheConstants.{MAX_PAIRS, MAX_NAME, MAX_TEXT, MAX_BYTES}
+use Rattle.gr_event.specs.declared.limits.TheConstants.{MAX_PAIRS, MAX_NAME, MAX_TEXT, MAX_EVENT_BYTES}
 use Rattle.gr_event.specs.Event.{event_size}
 use Rattle.gr_event.specs.Gives.{◌>>=◌}
 use Rattle.gr_event.specs.Json.{integer_from, value_from, name_from, pair_from, pairs_from, short_event, event_from, event_of_read, json_read, event_text}
@@ -63,7 +63,7 @@ events (boolean b) = tt
 events (number n) = tt
 events (string s) = tt
 events (array ds) = tt
-events (object ms) = either (nat_lt MAX_PAIRS (members_len ms)) _ _ tt (both (pairs_from ms) short_event (pairs ms) (λ e. either (nat_lt MAX_BYTES (event_size e)) _ _ tt tt))
+events (object ms) = either (nat_lt MAX_PAIRS (members_len ms)) _ _ tt (both (pairs_from ms) short_event (pairs ms) (λ e. either (nat_lt MAX_EVENT_BYTES (event_size e)) _ _ tt tt))
 
 read_events : (d : Option Data) → NotMemory (event_of_read d)
 read_events None = tt

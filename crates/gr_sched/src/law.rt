@@ -1,7 +1,7 @@
 //! What holds of printed steps, and what the limits are. The functions here do nothing: their contracts are the laws.
 
 ghost use Rattle.std.specs.Prelude.{◌≡◌, ◌^◌, ℕ, List, Option, Ok};
-ghost use Rattle.gr_sched.specs.declared.step.TheConstants.{MAX_BYTES, MAX_NUMBER, MAX_STEPS};
+ghost use Rattle.gr_sched.specs.declared.step.TheConstants.{MAX_INPUT_BYTES, MAX_NUMBER, MAX_STEPS};
 ghost use Rattle.gr_sched.specs.declared.step.Step.{Step};
 ghost use Rattle.gr_sched.specs.Grammar.{step_of};
 ghost use Rattle.gr_sched.specs.Printed.{Writing, step_text, IsWritten};
@@ -16,5 +16,5 @@ pub fn printed_steps_read_back()
 pub fn limits_of_schedules()
     ensures steps { MAX_STEPS ≡ 100000 }
     ensures number { MAX_NUMBER ≡ 2 ^ 62 }
-    ensures bytes { MAX_BYTES ≡ 4194304 }
+    ensures bytes { MAX_INPUT_BYTES ≡ 4194304 }
 {}

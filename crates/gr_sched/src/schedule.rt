@@ -4,7 +4,7 @@ ghost use Rattle.std.specs.Prelude.{◌≡◌, ◌≢◌, Err, ℕ, ◌+◌, ◌
 ghost use Rattle.std.specs.Prelude.{bytes_eq, codes};
 ghost use Rattle.std.specs.List.{All, AllByRecursion, slice_get};
 ghost use Rattle.std.specs.Option.{option_map};
-ghost use Rattle.gr_sched.specs.declared.step.TheConstants.{MAX_BYTES, MAX_STEPS};
+ghost use Rattle.gr_sched.specs.declared.step.TheConstants.{MAX_INPUT_BYTES, MAX_STEPS};
 ghost use Rattle.gr_sched.specs.declared.fault.StepFault.TheVariants.{TooMany};
 ghost use Rattle.gr_sched.specs.Text.{counted_lines};
 ghost use Rattle.gr_sched.specs.Words.{Gives, ended, first_word, known, next_word};
@@ -213,7 +213,7 @@ fn past_limit(steps: &[u8]) -> Option<u64>
 /// The steps of the counted lines. Reading ends at the first line past the limit at the latest.
 #[inline(never)]
 fn read_lines<N: Names>(alloc: Global, steps: &[u8], names: &N) -> Result<Steps, StepFault>
-    requires { length steps.now ≤ MAX_BYTES }
+    requires { length steps.now ≤ MAX_INPUT_BYTES }
     ensures gives { let counted = counted_lines steps.now in length counted ≤ MAX_STEPS
         → Gives (λ s. s) result (lines_of (N.broker_of names.now) (N.publisher_of names.now) counted) }
     ensures few { IfOk result (λ _. length (counted_lines steps.now) ≤ MAX_STEPS) }
@@ -248,7 +248,7 @@ fn read_lines<N: Names>(alloc: Global, steps: &[u8], names: &N) -> Result<Steps,
 /// `TooMany` comes exactly where `count` is above `MAX_STEPS`, before any other fault. That is looked for only where
 /// reading ends with a fault, so that where all is well each line is walked once.
 pub fn parse<N: Names>(alloc: Global, steps: &[u8], names: &N) -> Result<Steps, StepFault>
-    requires { length steps.now ≤ MAX_BYTES }
+    requires { length steps.now ≤ MAX_INPUT_BYTES }
     ensures steps { Gives (λ s. s) result (steps_of (N.broker_of names.now) (N.publisher_of names.now) steps.now) }
     // Every step has its numbers in their ranges, an event within its limits, and names that are known.
     ensures range { let is_step = IsStep (N.broker_of names.now) (N.publisher_of names.now) in

@@ -13,7 +13,7 @@ pub const MAX_NUMBER: u64 = 1 << 62;
 pub const MAX_STEPS: u64 = 100_000;
 
 /// How many bytes a schedule may have.
-pub const MAX_BYTES: usize = 4_194_304;
+pub const MAX_INPUT_BYTES: usize = 4_194_304;
 
 /// Where a publish is stopped inside: at the disk call `call`, counted from 1 to 4, and which image the crash leaves.
 #[derive(Clone, Copy, Debug, PartialEq, Eq)]

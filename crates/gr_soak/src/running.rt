@@ -9,7 +9,7 @@ ghost use Rattle.gr_model.specs.World.{report_of, run_from};
 ghost use Rattle.gr_world.specs.Seen.{net_in, world_of};
 ghost use Rattle.gr_world.specs.Of.{LanesFit};
 ghost use Rattle.gr_scenario.specs.Steps.{AreStepsOf};
-ghost use Rattle.gr_run.specs.Named.{IsPutFault};
+ghost use Rattle.gr_report.specs.Named.{IsPutFault};
 ghost use Rattle.gr_replay.specs.Going.{IsGoing};
 ghost use Rattle.gr_replay.specs.Replayed.{all_lines};
 ghost use Rattle.std.specs.List.{count_by};

@@ -3,7 +3,7 @@ use Rattle.std.proofs.Common.{◌≡◌, ℕ, ◌≤◌, Bool, true, false, nat_
 use Rattle.std.specs.List.{slice_get}
 use Rattle.gr_sched.specs.declared.fault.StepFault.{StepFault}
 use Rattle.gr_sched.specs.declared.fault.StepFault.TheVariants.{TooMany}
-use Rattle.gr_sched.specs.declared.step.TheConstants.{MAX_BYTES, MAX_STEPS}
+use Rattle.gr_sched.specs.declared.step.TheConstants.{MAX_INPUT_BYTES, MAX_STEPS}
 use Rattle.gr_sched.specs.declared.step.Line.{Line}
 use Rattle.gr_sched.specs.Text.{pieces_of, before_separator, after_separator, counted_lines}
 use Rattle.gr_sched.specs.Grammar.{lines_of, limited, steps_of}
@@ -48,4 +48,4 @@ few_asked bytes u lines e =
     let many = nat_lt MAX_STEPS (length (counted_lines (after_separator (pieces_of bytes)))) in
     few_parts (topology_text (before_separator (pieces_of bytes))) (after_separator (pieces_of bytes)) u lines
     (passed many TooManySteps parts u lines
-    (passed (nat_lt MAX_BYTES (length bytes)) TooManyBytes (if many then TooManySteps else parts) u lines e (λ bad. cc)) (λ bad. cc))
+    (passed (nat_lt MAX_INPUT_BYTES (length bytes)) TooManyBytes (if many then TooManySteps else parts) u lines e (λ bad. cc)) (λ bad. cc))

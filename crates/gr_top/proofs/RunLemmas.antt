@@ -16,8 +16,8 @@ use Rattle.gr_topo.specs.Topology.{TopologyView, host_of}
 use Rattle.gr_scenario.specs.Steps.{AreStepsOf}
 use Rattle.gr_model.specs.Net.{numbers}
 use Rattle.gr_model.specs.NetOf.{net_of}
-use Rattle.gr_theorems.specs.Served.{IsOfBytes}
-use Rattle.gr_theorems.specs.Lanes.{AllFollow, HoldsServedLanes}
+use Rattle.gr_model_theorems.specs.Served.{IsOfBytes}
+use Rattle.gr_model_theorems.specs.Lanes.{AllFollow, HoldsServedLanes}
 use Rattle.gr_node.specs.Plan.{Act, binds, starts, shows, ours, nodes, plan, run_acts}
 use Rattle.gr_node.specs.Served.{Course, is_start, planned, IsRunOf, Posts, Prints, KeepsLogs, IsHonestJournal}
 use Rattle.gr_top.specs.Serving.{CanRun, Around, around, RunsTo, StopsBy, EndsBy, AllRead, damaged_line}

@@ -1,14 +1,14 @@
 -- What is answered
 use Rattle.std.specs.Prelude.{ℕ, List, [], ◌∷◌, ◌++◌, Option, Some, None, option_and_then, codes}
 use Rattle.std.specs.Option.{option_map}
-use Rattle.gr_covering.specs.Covers.{covered_text}
-use Rattle.gr_covering.specs.declared.asked.Asked.{Asked as AskedOfCoverText}
-use Rattle.gr_covering.specs.declared.asked.Asked.TheVariants as cover_text
-use Rattle.gr_covering.specs.Reading.{asked_by as cover_text_by}
-use Rattle.gr_matching.specs.declared.asked.Asked.{Asked as AskedOfMatchText}
-use Rattle.gr_matching.specs.declared.asked.Asked.TheVariants as match_text
-use Rattle.gr_matching.specs.Matching.{matched_text}
-use Rattle.gr_matching.specs.Reading.{asked_by as match_text_by}
+use Rattle.gr_cover_text.specs.Covers.{covered_text}
+use Rattle.gr_cover_text.specs.declared.asked.Asked.{Asked as AskedOfCoverText}
+use Rattle.gr_cover_text.specs.declared.asked.Asked.TheVariants as cover_text
+use Rattle.gr_cover_text.specs.Reading.{asked_by as cover_text_by}
+use Rattle.gr_match_text.specs.declared.asked.Asked.{Asked as AskedOfMatchText}
+use Rattle.gr_match_text.specs.declared.asked.Asked.TheVariants as match_text
+use Rattle.gr_match_text.specs.Matching.{matched_text}
+use Rattle.gr_match_text.specs.Reading.{asked_by as match_text_by}
 use Rattle.gr_replay.specs.Replayed.{replayed_text}
 use Rattle.gr_scenario.specs.declared.asked.Asked.{Asked as AskedOfScenario}
 use Rattle.gr_scenario.specs.declared.asked.Asked.TheVariants as scenario

@@ -18,7 +18,7 @@ use Rattle.gr_model.specs.Text.{labels_of, whole_line}
 use Rattle.gr_model.specs.Net.{numbers}
 use Rattle.gr_model.specs.NetOf.{net_of}
 use Rattle.gr_model.specs.Arrivals.{is_hosted}
-use Rattle.gr_theorems.specs.Lanes.{HoldsServedLanes}
+use Rattle.gr_model_theorems.specs.Lanes.{HoldsServedLanes}
 use Rattle.gr_node.specs.Of.{AreHosted, AreAddressed}
 use Rattle.gr_node.specs.Plan.{ours}
 use Rattle.gr_node.specs.Starting.{IsFirstDamaged}

@@ -7,8 +7,8 @@ use Rattle.gr_model.specs.declared.report.Report.{Report}
 use Rattle.gr_model.specs.Headline.{Headline}
 use Rattle.gr_model.specs.NetOf.{net_of}
 use Rattle.gr_model.specs.World.{report_of}
-use Rattle.gr_theorems.specs.ByRules.{ReportByRules}
-use Rattle.gr_theorems.specs.Replies.{Replied}
+use Rattle.gr_model_theorems.specs.ByRules.{ReportByRules}
+use Rattle.gr_model_theorems.specs.Replies.{Replied}
 use Rattle.gr_scenario.specs.declared.asked.Asked.{Asked}
 use Rattle.gr_scenario.specs.declared.asked.Asked.TheVariants.{Scenario}
 use Rattle.gr_replay.specs.Replayed.{replayed_text}

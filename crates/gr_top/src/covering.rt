@@ -4,14 +4,14 @@ ghost use Rattle.std.specs.Prelude.{◌≡◌, ◌≢◌, ◌⊎◌};
 ghost use Rattle.gr_out.specs.Bytes.{with_more};
 ghost use Rattle.gr_out.specs.Faults.{Rose};
 ghost use Rattle.gr_out.specs.Page.{TakesFront};
-ghost use Rattle.gr_covering.specs.Covers.{covered_text};
-ghost use Rattle.gr_covering.specs.Reading.{asked_by, IsTooLarge};
+ghost use Rattle.gr_cover_text.specs.Covers.{covered_text};
+ghost use Rattle.gr_cover_text.specs.Reading.{asked_by, IsTooLarge};
 ghost use Rattle.gr_top.specs.Answers.{cover_answer};
 ghost use Rattle.gr_top.specs.Top.{IsAnswered, IsWhole, IsCut};
 
 use crate::printing::{print, print_line};
-use gr_covering::{Asked, print_covers, read};
-use gr_matching::FilterList;
+use gr_cover_text::{Asked, print_covers, read};
+use gr_match_text::FilterList;
 use gr_out::{RunFault, Sink};
 use std::alloc::Global;
 

@@ -4,8 +4,8 @@ ghost use Rattle.gr_scenario.specs.Steps.{AreStepsOf};
 ghost use Rattle.gr_top.specs.Top.{MeetsHeadline};
 
 use gr_model::topologies::every_topology_is_a_tree;
+use gr_model_theorems::theorems::{headline_always, replies_stand, runs_by_rules};
 use gr_sched::Steps;
-use gr_theorems::theorems::{headline_always, replies_stand, runs_by_rules};
 use gr_topo::Topology;
 
 /// Over every topology that was read, the report of every schedule meets the headline. The function does nothing: its

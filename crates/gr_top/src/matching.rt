@@ -4,14 +4,14 @@ ghost use Rattle.std.specs.Prelude.{◌≡◌, ◌≢◌, ◌⊎◌};
 ghost use Rattle.gr_out.specs.Bytes.{with_more};
 ghost use Rattle.gr_out.specs.Faults.{Rose};
 ghost use Rattle.gr_out.specs.Page.{TakesFront};
-ghost use Rattle.gr_matching.specs.Matching.{matched_text};
-ghost use Rattle.gr_matching.specs.Reading.{asked_by, IsTooLarge};
+ghost use Rattle.gr_match_text.specs.Matching.{matched_text};
+ghost use Rattle.gr_match_text.specs.Reading.{asked_by, IsTooLarge};
 ghost use Rattle.gr_top.specs.Answers.{match_answer};
 ghost use Rattle.gr_top.specs.Top.{IsAnswered, IsWhole, IsCut};
 
 use crate::printing::{print, print_line};
 use gr_event::Event;
-use gr_matching::{Asked, FilterList, print_matches, read};
+use gr_match_text::{Asked, FilterList, print_matches, read};
 use gr_out::{RunFault, Sink};
 use std::alloc::Global;
 

@@ -26,7 +26,7 @@ use crate::soaking::print_soak;
 use crate::word::Word;
 use crate::words::{Task, task_of};
 use gr_out::{Disk, Post, ReadFault, Sink, Source, read_all};
-use gr_sched::MAX_BYTES;
+use gr_sched::MAX_INPUT_BYTES;
 use std::alloc::Global;
 
 /// What is printed for words that are no command.
@@ -211,7 +211,7 @@ fn serve_source<S: Source, K: Sink, D: Disk, P: Post>(
     ensures post_same { result ≡ 0 → P.faults post.new ≡ P.faults post.old }
     ensures complete { (result ≡ 3) ⊎ (IsWhole result ⊎ (IsCut result ⊎ IsStop result)) }
 {
-    let bytes = match read_all(alloc, source, MAX_BYTES + 1) {
+    let bytes = match read_all(alloc, source, MAX_INPUT_BYTES + 1) {
         Ok(bytes) => bytes,
         Err(ReadFault::Failed) => return 3,
         Err(ReadFault::Memory) => return 7,
@@ -266,7 +266,7 @@ fn publish_source<S: Source, K: Sink, P: Post>(
     ensures post_same { result ≡ 0 → P.faults post.new ≡ P.faults post.old }
     ensures complete { (result ≡ 3) ⊎ (IsWhole result ⊎ (IsCut result ⊎ (result ≡ 8))) }
 {
-    let bytes = match read_all(alloc, source, MAX_BYTES + 1) {
+    let bytes = match read_all(alloc, source, MAX_INPUT_BYTES + 1) {
         Ok(bytes) => bytes,
         Err(ReadFault::Failed) => return 3,
         Err(ReadFault::Memory) => return 7,
@@ -291,7 +291,7 @@ fn from_source<S: Source, K: Sink>(alloc: Global, input: Input, source: &mut S, 
     ensures sink_same { result ≢ 4 → K.faults sink.new ≡ K.faults sink.old }
     ensures complete { (result ≡ 3) ⊎ (IsWhole result ⊎ IsCut result) }
 {
-    let bytes = match read_all(alloc, source, MAX_BYTES + 1) {
+    let bytes = match read_all(alloc, source, MAX_INPUT_BYTES + 1) {
         Ok(bytes) => bytes,
         Err(ReadFault::Failed) => return 3,
         Err(ReadFault::Memory) => return 7,

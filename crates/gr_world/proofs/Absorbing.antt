@@ -11,9 +11,9 @@ use Rattle.gr_model.specs.declared.report.Report.{Report}
 use Rattle.gr_model.specs.Net.{numbers}
 use Rattle.gr_model.specs.Broker.{View, Log, Outcome as MachineOutcome, empty_log}
 use Rattle.gr_model.specs.World.{World, blank_view, view_of, log_of, with_view, absorbed, sent_lines}
-use Rattle.gr_invariants.proofs.runs.Schedules.{get_numbers, length_numbers}
+use Rattle.gr_model_calls.proofs.runs.Schedules.{get_numbers, length_numbers}
 use Rattle.gr_broker.specs.Seen.{BrokerView, view_in, log_in, log_said}
-use Rattle.gr_sent.proofs.Telling.{frames_back}
+use Rattle.gr_outbox.proofs.Telling.{frames_back}
 use Rattle.gr_world.specs.declared.fault.WorldFault.{WorldFault}
 use Rattle.gr_world.specs.Seen.{WorldView, no_broker, broker_in, log_at, frame_said, world_of}
 use Rattle.gr_world.specs.Steps.{Does}

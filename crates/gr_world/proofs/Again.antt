@@ -10,12 +10,12 @@ use Rattle.gr_publog.specs.Calls.{Opens}
 use Rattle.gr_topo.specs.Topology.{TopologyView, host_of}
 use Rattle.gr_model.specs.Net.{is_host}
 use Rattle.gr_model.specs.NetOf.{net_of}
-use Rattle.gr_relay.specs.declared.outcome.Outcome.{Outcome as BrokerOutcome}
+use Rattle.gr_broker_relay.specs.declared.outcome.Outcome.{Outcome as BrokerOutcome}
 use Rattle.gr_broker.specs.Seen.{BrokerView, log_in}
 use Rattle.gr_broker.specs.Opened.{StartsOver, OpensLanes, LosesNothing, IsDamagedAt}
 use Rattle.gr_world.specs.Seen.{no_broker}
 use Rattle.gr_world.specs.Starting.{CrashesLanes, IsExchanged, OpensAgain, TouchesLanes, LeavesNoLog}
-use Rattle.gr_run.proofs.Hosts.{host_is, is_host_at, log_hosted}
+use Rattle.gr_report.proofs.Hosts.{host_is, is_host_at, log_hosted}
 use Rattle.gr_world.proofs.Brokers.{has_started}
 
 -- The crash

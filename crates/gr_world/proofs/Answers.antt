@@ -13,8 +13,8 @@ use Rattle.gr_out.specs.Stops.{StaysFaultless}
 use Rattle.gr_publog.specs.Calls.{Leaves, Tally, Causes}
 use Rattle.gr_model.specs.declared.report.Report.{Report}
 use Rattle.gr_model.specs.Broker.{View, Outcome as MachineOutcome}
-use Rattle.gr_relay.specs.declared.outcome.Outcome.{Outcome}
-use Rattle.gr_relay.specs.Told.{Tells}
+use Rattle.gr_broker_relay.specs.declared.outcome.Outcome.{Outcome}
+use Rattle.gr_broker_relay.specs.Told.{Tells}
 use Rattle.gr_broker.specs.declared.outcome.BrokerFault.{BrokerFault}
 use Rattle.gr_broker.specs.declared.outcome.BrokerFault.TheVariants as refused
 use Rattle.gr_broker.specs.Seen.{BrokerView, log_in, with_view, with_log, with_logged, with_failed, is_broken, broken_at}

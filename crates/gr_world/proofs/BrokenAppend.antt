@@ -21,8 +21,8 @@ use Rattle.gr_topo.specs.Topology.{host_of}
 use Rattle.gr_model.specs.declared.report.Report.{Report}
 use Rattle.gr_model.specs.Tree.{IsNet}
 use Rattle.gr_model.specs.Broker.{Outcome as MachineOutcome, max_tick}
-use Rattle.gr_relay.specs.declared.outcome.Outcome.{Outcome}
-use Rattle.gr_relay.specs.Told.{Tells}
+use Rattle.gr_broker_relay.specs.declared.outcome.Outcome.{Outcome}
+use Rattle.gr_broker_relay.specs.Told.{Tells}
 use Rattle.gr_broker.specs.declared.outcome.BrokerFault.{BrokerFault}
 use Rattle.gr_broker.specs.declared.outcome.BrokerFault.TheVariants as refused
 use Rattle.gr_broker.specs.Seen.{BrokerView, log_in, log_said}

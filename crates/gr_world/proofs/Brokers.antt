@@ -12,15 +12,15 @@ use Rattle.gr_topo.specs.Topology.{TopologyView, host_of}
 use Rattle.gr_model.specs.declared.report.Report.{Report}
 use Rattle.gr_model.specs.Net.{numbers, is_host}
 use Rattle.gr_model.specs.NetOf.{net_of}
-use Rattle.gr_relay.specs.declared.outcome.Outcome.{Outcome as BrokerOutcome}
-use Rattle.gr_relay.proofs.Placing.{numbers_more}
+use Rattle.gr_broker_relay.specs.declared.outcome.Outcome.{Outcome as BrokerOutcome}
+use Rattle.gr_broker_relay.proofs.Placing.{numbers_more}
 use Rattle.gr_broker.specs.Seen.{BrokerView, log_in}
 use Rattle.gr_broker.specs.Opened.{StartsOver, OpensLanes, IsDamagedAt}
-use Rattle.gr_run.proofs.Along.{flat_map_same}
+use Rattle.gr_report.proofs.Along.{flat_map_same}
 use Rattle.gr_world.specs.Seen.{no_broker}
 use Rattle.gr_world.specs.Opened.{NoStops}
 use Rattle.gr_world.specs.Starting.{start_lines, HasStarted, HaveStarted, HaveOpened}
-use Rattle.gr_run.proofs.Hosts.{host_is, log_hosted, lanes_apart}
+use Rattle.gr_report.proofs.Hosts.{host_is, log_hosted, lanes_apart}
 
 -- Lists along numbers
 

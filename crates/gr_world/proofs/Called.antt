@@ -11,7 +11,7 @@ use Rattle.gr_model.specs.declared.report.Report.{Report}
 use Rattle.gr_model.specs.Tree.{IsNet}
 use Rattle.gr_model.specs.Broker.{Outcome as MachineOutcome}
 use Rattle.gr_model.specs.World.{absorbed}
-use Rattle.gr_invariants.specs.Edges.{GoesOverEdge}
+use Rattle.gr_model_calls.specs.Edges.{GoesOverEdge}
 use Rattle.gr_broker.specs.Seen.{BrokerView, log_in, log_said, is_broken}
 use Rattle.gr_broker.specs.Of.{IsBrokerOf, LogsStand}
 use Rattle.gr_world.specs.declared.fault.WorldFault.{WorldFault}

@@ -6,7 +6,7 @@ use Rattle.gr_publog.specs.Crash.{EitherRose}
 use Rattle.gr_model.specs.declared.report.Report.{Report}
 use Rattle.gr_model.specs.Net.{numbers_from}
 use Rattle.gr_model.specs.World.{World, Transition, followed_by, in_turn}
-use Rattle.gr_run.proofs.Along.{numbers_left}
+use Rattle.gr_report.proofs.Along.{numbers_left}
 use Rattle.gr_world.specs.declared.fault.WorldFault.{WorldFault}
 use Rattle.gr_world.specs.declared.fault.WorldFault.TheVariants as fault
 use Rattle.gr_world.specs.Seen.{WorldView, world_of}

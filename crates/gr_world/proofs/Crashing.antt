@@ -23,9 +23,9 @@ use Rattle.gr_world.specs.Opened.{IsRead, IsSoundBut, with_logs, restart_over}
 use Rattle.gr_world.specs.Steps.{Makes, Does, IsCarried}
 use Rattle.gr_world.specs.Disk.{NotDisk, StaysSound}
 use Rattle.gr_world.specs.Ran.{noted_in}
-use Rattle.gr_run.proofs.Hosts.{hosted_log}
-use Rattle.gr_run.proofs.Along.{map_same}
-use Rattle.gr_run.proofs.Readable.{reads_same}
+use Rattle.gr_report.proofs.Hosts.{hosted_log}
+use Rattle.gr_report.proofs.Along.{map_same}
+use Rattle.gr_report.proofs.Readable.{reads_same}
 
 -- Where no other broker is down, the lanes of all others fit their logs
 pub others_fit : (w : WorldView) (b : ℕ) (lanes : ℕ → Lane) → LanesFit lanes w → w.spent ≡ false → (w.down ≡ None) ⊎ (w.down ≡ Some b)

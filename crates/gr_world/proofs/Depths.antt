@@ -3,7 +3,7 @@ use Rattle.std.proofs.Common.{◌≡◌, ℕ, zero, suc, ◌+◌, ◌-◌, ◌<�
 use Rattle.std.specs.List.{filter, flat_map, AllByRecursion}
 use Rattle.gr_model.specs.Net.{Net, numbers, numbers_from}
 use Rattle.gr_model.specs.World.{at_depth, numbers_down, inwards}
-use Rattle.gr_run.proofs.Along.{numbers_left}
+use Rattle.gr_report.proofs.Along.{numbers_left}
 
 -- Those that pass a test
 

@@ -14,7 +14,7 @@ use Rattle.gr_model.specs.declared.report.Report.{Report}
 use Rattle.gr_model.specs.Net.{is_host}
 use Rattle.gr_model.specs.NetOf.{net_of}
 use Rattle.gr_model.specs.Broker.{Outcome as MachineOutcome}
-use Rattle.gr_invariants.specs.Edges.{GoesOverEdge}
+use Rattle.gr_model_calls.specs.Edges.{GoesOverEdge}
 use Rattle.gr_broker.specs.Seen.{BrokerView, log_in, is_broken}
 use Rattle.gr_broker.specs.Of.{IsBrokerOf}
 use Rattle.gr_world.specs.declared.fault.WorldFault.{WorldFault}
@@ -22,7 +22,7 @@ use Rattle.gr_world.specs.Seen.{WorldView, broker_in, log_at, frame_said, net_in
 use Rattle.gr_world.specs.Of.{IsWorld, IsSound}
 use Rattle.gr_world.specs.Ran.{Keeps}
 use Rattle.gr_world.specs.Taking.{TakesUp, put_in}
-use Rattle.gr_sent.proofs.Telling.{frames_back}
+use Rattle.gr_outbox.proofs.Telling.{frames_back}
 use Rattle.gr_world.proofs.Absorbing.{Touches, each_broker, log_here, log_stays, log_elsewhere}
 
 -- Frames that are sent

@@ -8,7 +8,7 @@ use Rattle.gr_pubend.proofs.Knowing.{stays_of}
 use Rattle.gr_topo.specs.Topology.{TopologyView, host_of}
 use Rattle.gr_model.specs.Net.{numbers, numbers_from}
 use Rattle.gr_model.specs.World.{greatest_settled, log_of, sweep_moment}
-use Rattle.gr_invariants.proofs.runs.Schedules.{get_numbers}
+use Rattle.gr_model_calls.proofs.runs.Schedules.{get_numbers}
 use Rattle.gr_broker.specs.Seen.{BrokerView, log_in, log_said}
 use Rattle.gr_world.specs.Seen.{WorldView, no_broker, log_at, net_in, world_of}
 

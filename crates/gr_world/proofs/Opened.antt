@@ -14,16 +14,16 @@ use Rattle.gr_model.specs.Net.{numbers}
 use Rattle.gr_model.specs.NetOf.{net_of}
 use Rattle.gr_model.specs.Broker.{View, started}
 use Rattle.gr_model.specs.World.{World, blank_view, start}
-use Rattle.gr_invariants.proofs.runs.Schedules.{get_numbers, length_numbers}
+use Rattle.gr_model_calls.proofs.runs.Schedules.{get_numbers, length_numbers}
 use Rattle.gr_broker.specs.Seen.{BrokerView, log_in, view_in, log_said, machine_log}
 use Rattle.gr_broker.specs.Opened.{opened_at}
 use Rattle.gr_world.specs.Seen.{WorldView, no_broker, broker_in, log_at, world_of}
 use Rattle.gr_world.specs.Of.{IsWorld, LanesFit}
 use Rattle.gr_world.specs.Opened.{NoStops, AreEmpty, IsRead, IsOpened}
 use Rattle.gr_world.specs.Starting.{start_lines, HasStarted, HaveStarted, HaveOpened}
-use Rattle.gr_run.proofs.Hosts.{hosted_log}
-use Rattle.gr_run.proofs.Along.{flat_map_none, map_same}
-use Rattle.gr_run.proofs.Readable.{ok_same, stands_readable}
+use Rattle.gr_report.proofs.Hosts.{hosted_log}
+use Rattle.gr_report.proofs.Along.{flat_map_none, map_same}
+use Rattle.gr_report.proofs.Readable.{ok_same, stands_readable}
 use Rattle.gr_world.proofs.Fresh.{fresh_view, fresh_lines}
 
 reads_nothing : (rs : List Record) → log_text [] ≡ Ok rs → rs ≡ []

@@ -14,10 +14,10 @@ use Rattle.gr_model.specs.declared.report.Report.{Report}
 use Rattle.gr_model.specs.Tree.{IsNet}
 use Rattle.gr_model.specs.Broker.{View, Log, Outcome as MachineOutcome, publish}
 use Rattle.gr_model.specs.World.{World, view_of, log_of, absorbed, publish_now, publish_now_by}
-use Rattle.gr_invariants.specs.Edges.{GoesOverEdge}
-use Rattle.gr_invariants.proofs.topology.Strays.{publish_on}
-use Rattle.gr_relay.specs.declared.outcome.Outcome.{Outcome}
-use Rattle.gr_relay.specs.Told.{Tells}
+use Rattle.gr_model_calls.specs.Edges.{GoesOverEdge}
+use Rattle.gr_model_calls.proofs.topology.Strays.{publish_on}
+use Rattle.gr_broker_relay.specs.declared.outcome.Outcome.{Outcome}
+use Rattle.gr_broker_relay.specs.Told.{Tells}
 use Rattle.gr_broker.specs.declared.outcome.BrokerFault.{BrokerFault}
 use Rattle.gr_broker.specs.declared.outcome.BrokerFault.TheVariants as refused
 use Rattle.gr_broker.specs.Seen.{BrokerView, view_in, log_in, log_said, machine_log, with_logged, is_broken, broken_at}
@@ -35,8 +35,8 @@ use Rattle.gr_world.specs.Stopped.{broken_in}
 use Rattle.gr_world.specs.Taking.{Follows, TakesUp, put_in}
 use Rattle.gr_world.proofs.Absorbing.{Touches, view_is, log_is, log_here}
 use Rattle.gr_world.proofs.Answers.{on_ok, ok_answer, ok_follows, spelled_follow, disk_follows, reopen_follows, reopen_told, not_disk, carried_follows, leaves_on, touched, touched_broken, untouched, whole_logged, whole_with}
-use Rattle.gr_run.proofs.Named.{all_of}
-use Rattle.gr_run.proofs.Passing.{over_edges}
+use Rattle.gr_report.proofs.Named.{all_of}
+use Rattle.gr_report.proofs.Passing.{over_edges}
 use Rattle.gr_world.proofs.Lanes.{LaneMoves, appends_moves, lanes_fit}
 use Rattle.gr_world.proofs.Called.{Called, called_does, Site, site_read, site_fits, site_publisher, site_ran}
 

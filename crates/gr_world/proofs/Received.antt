@@ -22,10 +22,10 @@ use Rattle.gr_model.specs.Tree.{IsNet}
 use Rattle.gr_model.specs.Arrivals.{fits_broker, least_clash}
 use Rattle.gr_model.specs.Broker.{View, Log, Outcome as MachineOutcome, empty_log, receive}
 use Rattle.gr_model.specs.World.{World, blank_view, view_of, log_of, frame_at, deliver_frame, deliver_frame_by}
-use Rattle.gr_invariants.specs.Edges.{GoesOverEdge}
-use Rattle.gr_invariants.proofs.topology.Strays.{receive_on}
-use Rattle.gr_theorems.proofs.server.CutEvents.{on_log}
-use Rattle.gr_relay.specs.Told.{Tells}
+use Rattle.gr_model_calls.specs.Edges.{GoesOverEdge}
+use Rattle.gr_model_calls.proofs.topology.Strays.{receive_on}
+use Rattle.gr_model_theorems.proofs.server.CutEvents.{on_log}
+use Rattle.gr_broker_relay.specs.Told.{Tells}
 use Rattle.gr_broker.specs.declared.outcome.Received.{Received}
 use Rattle.gr_broker.specs.declared.outcome.Received.TheVariants as answer
 use Rattle.gr_broker.specs.declared.outcome.Dropped.{Dropped}
@@ -33,8 +33,8 @@ use Rattle.gr_broker.specs.declared.outcome.Dropped.TheVariants as dropped
 use Rattle.gr_broker.specs.Seen.{BrokerView, view_in, log_in, log_said, is_broken}
 use Rattle.gr_broker.specs.Of.{IsBrokerOf}
 use Rattle.gr_broker.specs.Receipt.{Receipt, stray, clash, taken, came_at, receipt, receipt_of_fit, after_receipt, Answers}
-use Rattle.gr_run.proofs.Named.{all_of}
-use Rattle.gr_run.proofs.Passing.{over_edges, over_fits_broker, body_fits, none_some, PassesLog, PassesRest, HasLeast, receive_passes, clash_drops, receipt_logs, receipt_number}
+use Rattle.gr_report.proofs.Named.{all_of}
+use Rattle.gr_report.proofs.Passing.{over_edges, over_fits_broker, body_fits, none_some, PassesLog, PassesRest, HasLeast, receive_passes, clash_drops, receipt_logs, receipt_number}
 use Rattle.gr_world.specs.declared.fault.WorldFault.{WorldFault}
 use Rattle.gr_world.specs.declared.fault.WorldFault.TheVariants as fault
 use Rattle.gr_world.specs.Seen.{WorldView, broker_in, log_at, frame_said, world_of, net_in}

@@ -18,7 +18,7 @@ use Rattle.gr_model.specs.NetOf.{net_of}
 use Rattle.gr_model.specs.Broker.{View, started}
 use Rattle.gr_model.specs.World.{World, blank_view, restarted, opened_lines}
 use Rattle.gr_model.specs.Opening.{reopened_line}
-use Rattle.gr_invariants.proofs.runs.Schedules.{get_numbers, length_numbers}
+use Rattle.gr_model_calls.proofs.runs.Schedules.{get_numbers, length_numbers}
 use Rattle.gr_broker.specs.Seen.{BrokerView, log_in, view_in, log_said, machine_log}
 use Rattle.gr_broker.specs.Of.{IsBrokerOf}
 use Rattle.gr_broker.specs.Opened.{LosesNothing, opened_at}
@@ -26,8 +26,8 @@ use Rattle.gr_world.specs.Seen.{WorldView, no_broker, broker_in, log_at, world_o
 use Rattle.gr_world.specs.Of.{IsWorld, LaneFits, IsReadable, LanesFit, IsSound}
 use Rattle.gr_world.specs.Opened.{IsRead, IsSoundBut, with_logs}
 use Rattle.gr_world.specs.Starting.{HasStarted, IsExchanged, OpensAgain, TouchesLanes, LeavesNoLog}
-use Rattle.gr_run.proofs.Hosts.{hosted_log, host_is, lanes_apart}
-use Rattle.gr_run.proofs.Along.{flat_map_same}
+use Rattle.gr_report.proofs.Hosts.{hosted_log, host_is, lanes_apart}
+use Rattle.gr_report.proofs.Along.{flat_map_same}
 use Rattle.gr_world.proofs.Fresh.{view_alone, lines_alone, started_below}
 use Rattle.gr_world.proofs.Opened.{is_read}
 

@@ -10,8 +10,8 @@ use Rattle.gr_model.specs.Net.{numbers}
 use Rattle.gr_model.specs.Broker.{Log, empty_log}
 use Rattle.gr_model.specs.World.{log_of, kept_events, show}
 use Rattle.gr_broker.specs.Seen.{BrokerView, log_in, log_said}
-use Rattle.gr_run.proofs.Along.{at_number}
-use Rattle.gr_run.proofs.Shown.{line_of_log}
+use Rattle.gr_report.proofs.Along.{at_number}
+use Rattle.gr_report.proofs.Shown.{line_of_log}
 use Rattle.gr_world.specs.Seen.{WorldView, no_broker, broker_in, log_at, net_in, world_of, frame_said}
 use Rattle.gr_world.specs.Of.{IsWorld}
 use Rattle.gr_world.specs.Shown.{log_shown, horizons_shown}

@@ -23,7 +23,7 @@ use Rattle.gr_model.specs.declared.report.Report.TheVariants as line
 use Rattle.gr_model.specs.Net.{Net, numbers}
 use Rattle.gr_model.specs.Broker.{View, Log, empty_log, with_event, is_kept}
 use Rattle.gr_model.specs.World.{World, Transition, log_of, publish_now, publish_stopped, next_by, unchanged}
-use Rattle.gr_invariants.proofs.runs.Schedules.{get_numbers, length_numbers}
+use Rattle.gr_model_calls.proofs.runs.Schedules.{get_numbers, length_numbers}
 use Rattle.gr_broker.specs.Seen.{BrokerView, log_in, log_said, with_failed, broken_at}
 use Rattle.gr_broker.specs.Of.{IsBrokerOf}
 use Rattle.gr_world.specs.declared.fault.WorldFault.{WorldFault}

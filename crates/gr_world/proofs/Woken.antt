@@ -11,19 +11,19 @@ use Rattle.gr_model.specs.declared.report.Report.{Report}
 use Rattle.gr_model.specs.Tree.{IsNet}
 use Rattle.gr_model.specs.Broker.{View, Log, Outcome as MachineOutcome, wake}
 use Rattle.gr_model.specs.World.{World, view_of, log_of, wake_for, wake_for_by}
-use Rattle.gr_invariants.specs.Edges.{GoesOverEdge}
-use Rattle.gr_invariants.proofs.topology.Strays.{wake_on}
-use Rattle.gr_theorems.proofs.server.CutEvents.{on_log}
-use Rattle.gr_relay.specs.declared.outcome.Outcome.{Outcome}
-use Rattle.gr_relay.specs.Told.{Tells}
+use Rattle.gr_model_calls.specs.Edges.{GoesOverEdge}
+use Rattle.gr_model_calls.proofs.topology.Strays.{wake_on}
+use Rattle.gr_model_theorems.proofs.server.CutEvents.{on_log}
+use Rattle.gr_broker_relay.specs.declared.outcome.Outcome.{Outcome}
+use Rattle.gr_broker_relay.specs.Told.{Tells}
 use Rattle.gr_broker.specs.declared.outcome.BrokerFault.{BrokerFault}
 use Rattle.gr_broker.specs.declared.outcome.BrokerFault.TheVariants as refused
 use Rattle.gr_broker.specs.Seen.{BrokerView, view_in, log_in, log_said, machine_log, with_logged, is_broken, broken_at}
 use Rattle.gr_broker.specs.Of.{IsBrokerOf, LogsStand}
 use Rattle.gr_broker.specs.Told.{log_answer}
 use Rattle.gr_broker.specs.Hosted.{wake_at, mark_at, mark_logs_at, cut_logs_at, after_mark, after_wake, WakeLeaves, AppendsTwice, AppendsTwiceAt}
-use Rattle.gr_run.proofs.Named.{all_of}
-use Rattle.gr_run.proofs.Passing.{wake_passes, tells_on, over_edges}
+use Rattle.gr_report.proofs.Named.{all_of}
+use Rattle.gr_report.proofs.Passing.{wake_passes, tells_on, over_edges}
 use Rattle.gr_world.specs.declared.fault.WorldFault.{WorldFault}
 use Rattle.gr_world.specs.Seen.{WorldView, broker_in, log_at, world_of, net_in}
 use Rattle.gr_world.specs.Of.{IsWorld, LanesFit}

@@ -8,9 +8,9 @@ use Rattle.gr_tick.specs.declared.TheConstants.{MAX_TICK}
 use Rattle.gr_publog.specs.Crash.{LogView}
 use Rattle.gr_publog.specs.Calls.{IsReady}
 use Rattle.gr_topo.specs.Topology.{host_of}
-use Rattle.gr_invariants.specs.Edges.{GoesOverEdge}
+use Rattle.gr_model_calls.specs.Edges.{GoesOverEdge}
 use Rattle.gr_broker.specs.Of.{IsBrokerOf}
-pub use Rattle.gr_run.specs.Readable.{IsReadable}
+pub use Rattle.gr_report.specs.Readable.{IsReadable}
 use Rattle.gr_world.specs.Seen.{WorldView, broker_in, log_at, net_in, frame_said}
 
 -- The brokers of the topology, in order, and frames that went over its edges

@@ -7,7 +7,7 @@ use Rattle.gr_model.specs.Net.{Net, numbers}
 use Rattle.gr_model.specs.NetOf.{net_of}
 use Rattle.gr_model.specs.World.{World}
 use Rattle.gr_broker.specs.Seen.{BrokerView, log_in, log_said}
-pub use Rattle.gr_sent.specs.Said.{frame_said}
+pub use Rattle.gr_outbox.specs.Said.{frame_said}
 
 -- All brokers of a topology, and the bytes of each frame that they sent, in order
 pub record WorldView : Type 0 where

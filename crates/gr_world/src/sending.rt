@@ -4,7 +4,7 @@ ghost use Rattle.std.specs.Prelude.{◌≡◌, suc, ◌++◌, length, map, IfOk,
 ghost use Rattle.gr_frame.specs.Bytes.{frame_bytes};
 ghost use Rattle.gr_model.specs.Broker.{Outcome as MachineOutcome};
 ghost use Rattle.gr_model.specs.World.{sent_lines};
-ghost use Rattle.gr_relay.specs.Told.{Tells};
+ghost use Rattle.gr_broker_relay.specs.Told.{Tells};
 ghost use Rattle.gr_world.specs.Taking.{Follows, FollowsReceipt, IsReceived, TakesUp};
 
 use crate::fault::{Memory, WorldFault, world_fault};

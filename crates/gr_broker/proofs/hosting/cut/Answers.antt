@@ -6,8 +6,8 @@ use Rattle.gr_pubend.specs.Log.{log_of}
 use Rattle.gr_pubend.proofs.Knowing.{stays_of}
 use Rattle.gr_topo.specs.Topology.{children_of}
 use Rattle.gr_model.specs.NetOf.{net_of}
-use Rattle.gr_relay.specs.Held.{held_view}
-use Rattle.gr_relay.specs.Told.{AddsFrames}
+use Rattle.gr_broker_relay.specs.Held.{held_view}
+use Rattle.gr_broker_relay.specs.Told.{AddsFrames}
 use Rattle.gr_broker.specs.Host.{expected_frames}
 use Rattle.gr_broker.proofs.Hosted.{cut_logs_is}
 use Rattle.gr_broker.proofs.hosting.cut.Goals as goal

@@ -5,7 +5,7 @@ use Rattle.std.proofs.lemmas.Bool.{lt-ltb, le-ltb}
 use Rattle.gr_publog.specs.State.{state_of}
 use Rattle.gr_pubend.proofs.Knowing.{stays_of}
 use Rattle.gr_model.specs.NetOf.{net_of}
-use Rattle.gr_relay.specs.Held.{held_view}
+use Rattle.gr_broker_relay.specs.Held.{held_view}
 use Rattle.gr_broker.proofs.Hosted.{due_is}
 use Rattle.gr_broker.proofs.hosting.cut_due.Goals as goal
 

@@ -4,7 +4,7 @@ use Rattle.gr_curio.specs.Wants.{runs_of}
 use Rattle.gr_publog.proofs.Calling.{appends_refused}
 use Rattle.gr_pubend.proofs.Knowing.{stays_of}
 use Rattle.gr_topo.specs.Topology.{children_of}
-use Rattle.gr_relay.specs.Told.{AddsFrames}
+use Rattle.gr_broker_relay.specs.Told.{AddsFrames}
 use Rattle.gr_broker.specs.Host.{expected_frames}
 use Rattle.gr_broker.proofs.Hosted.{on_ok}
 use Rattle.gr_broker.proofs.hosting.cut_upto.Goals as goal

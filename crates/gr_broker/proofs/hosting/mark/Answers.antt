@@ -5,7 +5,7 @@ use Rattle.gr_pubend.specs.Answers.{quieted, mark_of}
 use Rattle.gr_pubend.specs.Log.{log_of}
 use Rattle.gr_topo.specs.declared.settings.Settings.{Settings}
 use Rattle.gr_model.specs.NetOf.{net_of}
-use Rattle.gr_relay.specs.Held.{held_view}
+use Rattle.gr_broker_relay.specs.Held.{held_view}
 use Rattle.gr_broker.proofs.Hosted.{marking_is, adds_nothing}
 use Rattle.gr_broker.proofs.hosting.mark.Goals as goal
 

@@ -5,7 +5,7 @@ use Rattle.gr_pubend.specs.declared.answers.Published.{Published}
 use Rattle.gr_pubend.specs.Answers.{event_of}
 use Rattle.gr_pubend.specs.Log.{log_of}
 use Rattle.gr_model.specs.NetOf.{net_of}
-use Rattle.gr_relay.specs.Held.{held_view}
+use Rattle.gr_broker_relay.specs.Held.{held_view}
 use Rattle.gr_broker.proofs.Hosted.{publish_is, line_told, on_ok, appends_idle}
 use Rattle.gr_broker.proofs.hosting.publish.Goals as goal
 

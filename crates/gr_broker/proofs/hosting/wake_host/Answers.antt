@@ -5,7 +5,7 @@ use Rattle.gr_publog.specs.Crash.{LogView}
 use Rattle.gr_publog.proofs.Onward.{goes_on_then}
 use Rattle.gr_publog.proofs.Calling.{appends_ok_as, appends_err_as, same_fault}
 use Rattle.gr_model.specs.NetOf.{net_of}
-use Rattle.gr_relay.specs.Held.{held_view}
+use Rattle.gr_broker_relay.specs.Held.{held_view}
 use Rattle.gr_broker.proofs.Twice.{twice_stopped, twice_on, second_lane, second_on, second_ok, second_err, second_told, second_reopens, first_reopens}
 use Rattle.gr_broker.proofs.hosting.wake_host.Goals as goal
 

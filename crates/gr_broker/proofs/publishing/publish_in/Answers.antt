@@ -7,8 +7,8 @@ use Rattle.gr_pubend.specs.Answers.{published, event_of}
 use Rattle.gr_model.specs.NetOf.{net_of}
 use Rattle.gr_model.specs.Broker.{View, Outcome as MachineOutcome, publish}
 use Rattle.gr_model.specs.World.{blank_view}
-use Rattle.gr_relay.specs.Kept.{IsKept}
-use Rattle.gr_relay.specs.Held.{held_view}
+use Rattle.gr_broker_relay.specs.Kept.{IsKept}
+use Rattle.gr_broker_relay.specs.Held.{held_view}
 use Rattle.gr_broker.specs.Seen.{BrokerView, log_in, view_in, log_said, with_logged, with_view, with_log, broken_at, logs_of, broker_at}
 use Rattle.gr_broker.specs.Hosted.{publish_logs_at}
 use Rattle.gr_broker.proofs.Reading.{seen_set, each_set, on_ok}

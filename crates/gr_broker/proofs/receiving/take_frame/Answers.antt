@@ -1,7 +1,7 @@
 use Rattle.std.proofs.Common.{Some, None, map, refl, sym, ap, ◌∙◌, subst}
 use Rattle.gr_model.specs.NetOf.{net_of}
 use Rattle.gr_model.specs.Broker.{empty_log}
-use Rattle.gr_relay.specs.Held.{held_view}
+use Rattle.gr_broker_relay.specs.Held.{held_view}
 use Rattle.gr_broker.specs.declared.outcome.Dropped.TheVariants as dropped
 use Rattle.gr_broker.specs.Receipt.{view_after, AnswersInto}
 use Rattle.gr_broker.proofs.Receipts.{answers_clash, answers_knowledge, answers_expect, expects_below}

@@ -1,6 +1,6 @@
 use Rattle.std.proofs.Common.{ap, arith}
 use Rattle.gr_curio.specs.Wants.{runs_of}
-use Rattle.gr_relay.specs.Branch.{Branch}
+use Rattle.gr_broker_relay.specs.Branch.{Branch}
 use Rattle.gr_broker.proofs.Fresh.{fresh_is}
 use Rattle.gr_broker.proofs.starting.fresh_held.Goals as goal
 

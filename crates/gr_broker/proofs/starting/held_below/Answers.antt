@@ -1,4 +1,4 @@
-use Rattle.gr_relay.specs.Held.{held_view}
+use Rattle.gr_broker_relay.specs.Held.{held_view}
 use Rattle.gr_broker.specs.Starting.{fresh_view}
 use Rattle.std.proofs.Common.{◌∙◌, ap}
 use Rattle.gr_broker.proofs.Fresh.{started_elsewhere, lines_elsewhere}

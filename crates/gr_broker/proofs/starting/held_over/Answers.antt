@@ -5,7 +5,7 @@ use Rattle.std.proofs.lemmas.List.{append_assoc}
 use Rattle.gr_pubend.specs.Log.{log_of}
 use Rattle.gr_model.specs.Broker.{Outcome}
 use Rattle.gr_model.specs.Opening.{reopened_line}
-use Rattle.gr_relay.specs.Held.{held_view}
+use Rattle.gr_broker_relay.specs.Held.{held_view}
 use Rattle.gr_broker.proofs.Fresh.{nobody, somebody, fresh_here, fresh_kept, started_alone, lines_alone, learns_nothing, started_with, lines_with}
 use Rattle.gr_broker.proofs.starting.held_over.Goals as goal
 

@@ -1,7 +1,7 @@
 use Rattle.std.proofs.Common.{◌+◌, ◌<◌, ◌∙◌, ap, length, map, arith, Err}
-use Rattle.gr_relay.specs.declared.held.Held.{Held}
-use Rattle.gr_relay.specs.Held.{held_view}
-use Rattle.gr_relay.proofs.Placing.{as_many_places, branch_at, edges_at}
+use Rattle.gr_broker_relay.specs.declared.held.Held.{Held}
+use Rattle.gr_broker_relay.specs.Held.{held_view}
+use Rattle.gr_broker_relay.proofs.Placing.{as_many_places, branch_at, edges_at}
 use Rattle.gr_broker.specs.declared.outcome.BrokerFault.TheVariants as refused
 use Rattle.gr_broker.proofs.Opening.{next_unset, touches_more, touches_all, damaged_at, started_next, opened_next, faultless_on, err_is}
 use Rattle.gr_broker.proofs.starting.open_publishers.Goals as goal

@@ -1,6 +1,6 @@
 use Rattle.std.proofs.Common.{◌≡◌, map}
 use Rattle.gr_out.specs.Stops.{StaysFaultless}
-use Rattle.gr_relay.specs.Held.{held_view}
+use Rattle.gr_broker_relay.specs.Held.{held_view}
 use Rattle.gr_broker.specs.Starting.{AreStarted, AreOpened, TouchesLanes}
 use Rattle.gr_broker.proofs.starting.open_publishers.Given as goal
 

@@ -9,10 +9,10 @@ use Rattle.gr_topo.specs.Topology.{TopologyView}
 use Rattle.gr_model.specs.Net.{is_host}
 use Rattle.gr_model.specs.NetOf.{net_of}
 use Rattle.gr_model.specs.Broker.{Outcome as MachineOutcome}
-use Rattle.gr_relay.specs.declared.outcome.Outcome.{Outcome}
-use Rattle.gr_relay.specs.Kept.{IsKept}
-use Rattle.gr_relay.specs.Held.{held_view}
-use Rattle.gr_relay.specs.Told.{Tells}
+use Rattle.gr_broker_relay.specs.declared.outcome.Outcome.{Outcome}
+use Rattle.gr_broker_relay.specs.Kept.{IsKept}
+use Rattle.gr_broker_relay.specs.Held.{held_view}
+use Rattle.gr_broker_relay.specs.Told.{Tells}
 use Rattle.gr_broker.specs.Seen.{log_said, is_broken, broker_at}
 use Rattle.gr_broker.specs.Of.{IsBrokerOf, LogsStand}
 use Rattle.gr_broker.specs.Told.{log_answer}

@@ -2,7 +2,7 @@
 use Rattle.std.proofs.Common.{◌≡◌, ℕ, ◌*◌, Some, sym, ap, ◌∙◌, subst}
 use Rattle.gr_publog.specs.Crash.{LogView}
 use Rattle.gr_publog.specs.Calls.{IsReady, GoesOn, Causes}
-use Rattle.gr_relay.specs.Held.{held_view}
+use Rattle.gr_broker_relay.specs.Held.{held_view}
 use Rattle.gr_broker.specs.Parts.{part_of, part_with}
 use Rattle.gr_broker.proofs.Woken.{some_is, here_leaves, here_log, here_lane, here_told, here_twice, here_reopen}
 use Rattle.gr_broker.proofs.waking.wake_here.Given.{Over}

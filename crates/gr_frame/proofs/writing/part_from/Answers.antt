@@ -18,8 +18,8 @@ loop-end-preserved g c = record {
       c.run-in-loop-end.ensures.run c.run_size-more.ensures.size (omega arith) (omega arith) c.loop-end.invariant.cut;
 }
 
-pub returns-then-size-more-gt-MAX_BYTES-clause-cut : goal.returns-then-size-more-gt-MAX_BYTES-clause-cut
-returns-then-size-more-gt-MAX_BYTES-clause-cut g c =
+pub returns-then-size-more-gt-MAX_FRAME_BYTES-clause-cut : goal.returns-then-size-more-gt-MAX_FRAME_BYTES-clause-cut
+returns-then-size-more-gt-MAX_FRAME_BYTES-clause-cut g c =
     part_full g.V.FrameValue.form.size c.args.piece.now c.loop-end.size c.run_size-more.result c.args.start c.loop-end.end c.run-in-loop-end.result.now _
     c.run-in-loop-end.ensures.run c.run_size-more.ensures.size (omega arith) c.loop-end.invariant.cut
 

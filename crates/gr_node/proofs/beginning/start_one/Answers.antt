@@ -1,6 +1,6 @@
 use Rattle.std.proofs.Common.{Err, sym, ap, ◌∙◌}
 use Rattle.gr_out.specs.declared.fault.RunFault.TheVariants as run
-use Rattle.gr_run.proofs.Hosts.{host_is}
+use Rattle.gr_report.proofs.Hosts.{host_is}
 use Rattle.gr_node.proofs.StartingFaults.{err_is, damaged_in, lines_named}
 use Rattle.gr_node.proofs.beginning.start_one.Goals as goal
 

@@ -1,6 +1,6 @@
 -- No log is found damaged by a call
 use Rattle.std.proofs.Common.{Result, Err, ap, ◌∙◌}
-use Rattle.gr_relay.specs.declared.outcome.Outcome.{Outcome}
+use Rattle.gr_broker_relay.specs.declared.outcome.Outcome.{Outcome}
 use Rattle.gr_broker.specs.declared.outcome.BrokerFault.{BrokerFault}
 use Rattle.gr_broker.specs.Told.{log_answer}
 use Rattle.gr_node.proofs.calling.answered.Goals as goal

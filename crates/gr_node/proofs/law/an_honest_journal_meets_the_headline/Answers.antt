@@ -1,8 +1,8 @@
 use Rattle.std.proofs.Common.{arith, subst, length}
 use Rattle.gr_model.specs.Net.{numbers}
 use Rattle.gr_model.specs.NetOf.{net_of}
-use Rattle.gr_theorems.specs.Lanes.{whole_logs, found_logs}
-use Rattle.gr_theorems.specs.Served.{IsHonestRun}
+use Rattle.gr_model_theorems.specs.Lanes.{whole_logs, found_logs}
+use Rattle.gr_model_theorems.specs.Served.{IsHonestRun}
 use Rattle.gr_node.specs.Plan.{ours}
 use Rattle.gr_node.proofs.Planned.{plan_lines, plan_world}
 use Rattle.gr_node.proofs.Honest.{honest_run, bytes_ours}

@@ -1,6 +1,6 @@
 use Rattle.std.proofs.Common.{sym, ap, ◌∙◌, length}
 use Rattle.gr_broker.specs.Seen.{log_said}
-use Rattle.gr_run.proofs.Shown.{line_of_log}
+use Rattle.gr_report.proofs.Shown.{line_of_log}
 use Rattle.gr_node.specs.Done.{log_shown}
 use Rattle.gr_node.proofs.showing.log_line.Goals as goal
 

@@ -1,5 +1,5 @@
 use Rattle.std.proofs.Common.{sym, subst}
-use Rattle.gr_run.specs.Named.{AllNamed}
+use Rattle.gr_report.specs.Named.{AllNamed}
 use Rattle.gr_node.specs.Seen.{seen}
 use Rattle.gr_node.proofs.ShownLines.{all_shown, shown_named}
 use Rattle.gr_node.proofs.showing.show.Goals as goal

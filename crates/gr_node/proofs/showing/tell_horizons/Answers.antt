@@ -1,6 +1,6 @@
 use Rattle.std.proofs.Common.{◌-◌, ◌+◌, ◌<◌, ◌++◌, ◌∙◌, ap, flat_map, length, arith}
 use Rattle.gr_model.specs.Net.{numbers_from}
-use Rattle.gr_run.proofs.Shown.{joined_next}
+use Rattle.gr_report.proofs.Shown.{joined_next}
 use Rattle.gr_node.specs.Done.{doubt_shown}
 use Rattle.gr_node.proofs.showing.tell_horizons.Goals as goal
 

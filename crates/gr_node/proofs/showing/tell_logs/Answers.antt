@@ -1,6 +1,6 @@
 use Rattle.std.proofs.Common.{◌-◌, ◌+◌, ◌<◌, ◌++◌, ◌∙◌, ap, flat_map, length, arith}
 use Rattle.gr_model.specs.Net.{numbers_from}
-use Rattle.gr_run.proofs.Shown.{joined_next}
+use Rattle.gr_report.proofs.Shown.{joined_next}
 use Rattle.gr_node.specs.Seen.{seen}
 use Rattle.gr_node.specs.Done.{log_shown_in}
 use Rattle.gr_node.proofs.showing.tell_logs.Goals as goal

@@ -2,7 +2,7 @@ use Rattle.std.proofs.Common.{◌≡◌, ◌+◌, ◌++◌, suc, ap, ◌∙◌, 
 use Rattle.gr_out.specs.Page.{TakesBut}
 use Rattle.gr_model.specs.NetOf.{net_of}
 use Rattle.gr_model.specs.World.{sent_lines}
-use Rattle.gr_invariants.specs.Edges.{GoesOverEdge}
+use Rattle.gr_model_calls.specs.Edges.{GoesOverEdge}
 use Rattle.gr_node.specs.Seen.{text_of}
 use Rattle.gr_node.specs.Plan.{offers_of}
 use Rattle.gr_node.proofs.Offering.{all_said, told_more, told_front, told_part, offered_more, offered_part, all_taken}

@@ -1,7 +1,7 @@
 use Rattle.std.proofs.Common.{sym, subst}
 use Rattle.gr_model.specs.Text.{IsNamed}
-use Rattle.gr_sent.specs.Said.{frame_said}
-use Rattle.gr_run.proofs.Named.{sent_is_named}
+use Rattle.gr_outbox.specs.Said.{frame_said}
+use Rattle.gr_report.proofs.Named.{sent_is_named}
 use Rattle.gr_node.proofs.telling.put_sent.Goals as goal
 
 pub put_line-requires : goal.put_line-requires

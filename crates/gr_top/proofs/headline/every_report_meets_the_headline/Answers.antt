@@ -1,6 +1,6 @@
 use Rattle.gr_model.specs.NetOf.{net_of}
-use Rattle.gr_theorems.specs.Statements.{IsAskedRun, IsMarkedRun, world_after}
-use Rattle.gr_run.proofs.Steps.{steps_in}
+use Rattle.gr_model_theorems.specs.Statements.{IsAskedRun, IsMarkedRun, world_after}
+use Rattle.gr_report.proofs.Steps.{steps_in}
 use Rattle.gr_top.proofs.headline.every_report_meets_the_headline.Goals as goal
 
 pub returns : goal.returns

@@ -5,7 +5,7 @@ use Rattle.gr_publog.specs.declared.record.LogFault.{LogFault}
 use Rattle.gr_publog.specs.declared.record.LogFault.TheVariants as fault
 use Rattle.gr_publog.specs.Crash.{LogView}
 use Rattle.gr_publog.specs.Calls.{Appends}
-use Rattle.gr_relay.specs.declared.outcome.Outcome.{Outcome as Told}
+use Rattle.gr_broker_relay.specs.declared.outcome.Outcome.{Outcome as Told}
 use Rattle.gr_broker.specs.Seen.{BrokerView, log_in}
 use Rattle.gr_broker.specs.Hosted.{AppendsAt, publish_logs_at}
 use Rattle.gr_broker.specs.Told.{log_fault}

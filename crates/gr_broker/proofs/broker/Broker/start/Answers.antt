@@ -1,6 +1,6 @@
 use Rattle.std.proofs.Common.{◌*◌, Err, refl, ap, map}
-use Rattle.gr_relay.specs.declared.held.Held.{Held}
-use Rattle.gr_relay.specs.Held.{held_view, seen_branch}
+use Rattle.gr_broker_relay.specs.declared.held.Held.{Held}
+use Rattle.gr_broker_relay.specs.Held.{held_view, seen_branch}
 use Rattle.gr_broker.specs.declared.outcome.BrokerFault.TheVariants as refused
 use Rattle.gr_broker.proofs.Opening.{loses_nothing, err_is, starts_over, opens_lanes}
 use Rattle.gr_broker.proofs.broker.Broker.start.Goals as goal

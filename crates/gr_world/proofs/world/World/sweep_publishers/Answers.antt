@@ -2,7 +2,7 @@ use Rattle.std.proofs.Common.{◌+◌, ◌-◌, ◌<◌, length, Ok, Err, arith}
 use Rattle.gr_model.specs.Net.{numbers, numbers_from}
 use Rattle.gr_model.specs.World.{sweep_for, in_turn}
 use Rattle.gr_world.specs.Seen.{net_in, world_of}
-use Rattle.gr_run.proofs.Along.{numbers_left}
+use Rattle.gr_report.proofs.Along.{numbers_left}
 use Rattle.gr_world.proofs.Joining.{ran_joined, disk_joined, does_same}
 use Rattle.gr_world.proofs.Onward.{leads_joined}
 use Rattle.gr_world.proofs.world.World.sweep_publishers.Goals as goal

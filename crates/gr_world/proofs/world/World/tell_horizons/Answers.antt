@@ -2,7 +2,7 @@ use Rattle.std.proofs.Common.{◌≡◌, ◌-◌, ◌+◌, ◌<◌, ◌++◌, �
 use Rattle.gr_model.specs.Net.{numbers_from}
 use Rattle.gr_world.specs.Seen.{WorldView, net_in, world_of}
 use Rattle.gr_world.specs.Shown.{horizon_shown}
-use Rattle.gr_run.proofs.Shown.{joined_next}
+use Rattle.gr_report.proofs.Shown.{joined_next}
 use Rattle.gr_world.proofs.world.World.tell_horizons.Goals as goal
 
 pub publishers-preserved : goal.publishers-preserved

@@ -2,7 +2,7 @@ use Rattle.std.proofs.Common.{◌≡◌, ◌-◌, ◌+◌, ◌<◌, ◌++◌, �
 use Rattle.gr_model.specs.Net.{numbers_from}
 use Rattle.gr_world.specs.Seen.{WorldView, world_of}
 use Rattle.gr_world.specs.Shown.{log_shown}
-use Rattle.gr_run.proofs.Shown.{mapped_next}
+use Rattle.gr_report.proofs.Shown.{mapped_next}
 use Rattle.gr_world.proofs.world.World.tell_logs.Goals as goal
 
 pub publishers-preserved : goal.publishers-preserved

@@ -1,0 +1,8 @@
+use Rattle.gr_broker_relay.proofs.Sent.{sends_no_want, sends_want}
+use Rattle.gr_broker_relay.proofs.sending.send_wanted.Goals as goal
+
+pub returns-then-is_empty : goal.returns-then-is_empty
+returns-then-is_empty c = sends_no_want c.args.site.now.broker c.args.to c.args.site.now.publisher c.args.piece c.args.into.now (c.is_empty.ensures.0 c.if-is_empty.true)
+
+pub returns : goal.returns
+returns c = sends_want c.push.result c.args.site.now.broker c.args.to c.args.site.now.publisher c.args.piece c.args.into.now c.push.new.self c.push.ensures.cut c.push.ensures.spelled

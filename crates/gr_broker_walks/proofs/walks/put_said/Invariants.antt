@@ -1,0 +1,19 @@
+use Rattle.std.proofs.Common.{◌≡◌, ℕ, ◌+◌, ◌-◌, ◌≤◌, cond}
+use Rattle.gr_tick.specs.Stored.{EndBefore, between}
+use Rattle.gr_curio.specs.Values.{wanted_at}
+use Rattle.gr_know.specs.Values.{known_at}
+use Rattle.gr_curio.specs.Wants.{wants_of, runs_of}
+use Rattle.gr_broker_walks.specs.Told.{said_at}
+use Rattle.gr_broker_walks.proofs.walks.put_said.Given as goal
+
+-- what is told of the run before the next tick is put, and ends before it
+abbrev pub invariant-loop-next : goal.invariant-loop-next
+invariant-loop-next l = record {
+  forward : l.run.first ≤ l.next;
+  inside : l.next ≤ l.run.last + 1;
+  values : (t : ℕ) → known_at l.piece t ≡ cond (between l.run.first l.next t) (said_at (known_at l.know.runs t) (wanted_at (wants_of (runs_of l.wants) l.child) t) l.run.value) (known_at l.initial.piece t);
+  past : EndBefore l.piece l.next;
+}
+
+abbrev pub decreases-loop-next : goal.decreases-loop-next
+decreases-loop-next l = l.run.last + 1 - l.next

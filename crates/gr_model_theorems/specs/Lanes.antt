@@ -1,0 +1,97 @@
+-- Logs that code opens: the records of each lane make the log with all its events; the events past its cut are found
+use Rattle.std.specs.Prelude.{◌≡◌, ◌≤◌, ◌^◌, nat_lt, List, map, filter}
+use Rattle.std.specs.List.{AllByRecursion}
+use Rattle.gr_publog.specs.declared.record.Record.{Record}
+use Rattle.gr_publog.specs.State.{empty_state, Follow}
+use Rattle.gr_pubend.specs.Found.{found_of}
+use Rattle.gr_pubend.specs.Log.{log_of}
+use Rattle.gr_sched.specs.declared.step.Line.{Line}
+use Rattle.gr_model.specs.declared.report.Report.{Report}
+use Rattle.gr_model.specs.Net.{Net, numbers}
+use Rattle.gr_model.specs.Broker.{Log}
+use Rattle.gr_model.specs.World.{World, Transition}
+use Rattle.gr_model.specs.Opening.{begin_over}
+use Rattle.gr_model.specs.Headline.{Holds_from}
+use Rattle.gr_model.specs.Arrivals.{Arrival, publishes_of, served, arrived}
+use Rattle.gr_model_theorems.specs.Spelled.{NumbersIn}
+use Rattle.gr_model_theorems.specs.Statements.{IsAskedRun, opened_over}
+use Rattle.gr_model_theorems.specs.OverLogs.{world_over, report_over}
+use Rattle.gr_model_theorems.specs.Served.{IsOfBytes, IsHonestRun, HeadlineServed}
+
+-- one list of records for each publisher; in each list every record may follow those before it
+abbrev pub AllFollow : List (List Record) → Type 0
+AllFollow lanes = AllByRecursion (Follow empty_state) lanes
+
+-- the logs that code has of the lanes: all records make them
+abbrev pub whole_logs : List (List Record) → List Log
+whole_logs lanes = map log_of lanes
+
+-- the same without the events that were cut
+abbrev pub found_logs : List (List Record) → List Log
+found_logs lanes = map found_of lanes
+
+-- the log without the events up to its cut
+abbrev pub past_cut : Log → Log
+past_cut log = record {
+  last = log.last;
+  settled = log.settled;
+  cut = log.cut;
+  events = filter (λ x. nat_lt log.cut x.0) log.events;
+  gate = log.gate;
+}
+
+-- what is found is the log of all records without the events up to its cut
+abbrev pub FoundIsPastCut : Type 0
+FoundIsPastCut = (rs : List Record) → Follow empty_state rs → past_cut (log_of rs) ≡ found_of rs
+
+-- two worlds that differ in nothing but events that were cut
+pub record DifferInCut (w u : World) : Type 0 where
+  pub clock : u.clock ≡ w.clock
+  pub most : u.most ≡ w.most
+  pub frames : u.frames ≡ w.frames
+  pub views : u.views ≡ w.views
+  pub logs : map past_cut u.logs ≡ map past_cut w.logs
+
+-- the world after a journal that comes to all brokers over these logs
+abbrev pub served_on : Net → List Log → List Line → List Arrival → World
+served_on net logs steps arrivals =
+    arrived net (numbers net.brokers) (opened_over net logs).world
+    (publishes_of net (numbers net.brokers) steps) arrivals
+
+-- a run over lanes
+pub record IsRunOverLanes (net : Net) (lanes : List (List Record)) (steps : List Line) : Type 0 where
+  pub asked : IsAskedRun net steps
+  pub follow : AllFollow lanes
+
+-- a server's run over lanes, within the limits of frames, whose journal is honest
+pub record IsServedOverLanes (net : Net) (lanes : List (List Record)) (steps : List Line)
+    (arrivals : List Arrival) : Type 0 where
+  pub over : IsRunOverLanes net lanes steps
+  pub brokers : net.brokers ≤ 2 ^ 16
+  pub publishers : net.publishers ≤ 2 ^ 16
+  pub numbers_in : NumbersIn steps
+  pub bytes : AllByRecursion IsOfBytes arrivals
+  pub honest : IsHonestRun arrivals (served net (numbers net.brokers) (whole_logs lanes) steps arrivals)
+
+-- A schedule that begins on the logs of lanes: the headline holds, where the record begins with what was found
+abbrev pub HoldsOverLanes : Net → List (List Record) → List Line → Type 0
+HoldsOverLanes net lanes steps =
+    let o : Transition = opened_over net (whole_logs lanes) in
+    Holds_from net (begin_over net (found_logs lanes) o.lines) steps (report_over net (whole_logs lanes) steps)
+
+-- A server over lanes: so does its headline
+abbrev pub HoldsServedLanes : Net → List (List Record) → List Line → List Arrival → Type 0
+HoldsServedLanes net lanes steps arrivals =
+    HeadlineServed net (found_logs lanes) steps arrivals
+    (served net (numbers net.brokers) (whole_logs lanes) steps arrivals)
+
+-- Whatever comes, events that were cut change nothing: neither the lines, nor the worlds but for these events
+pub record CutEventsSilent (net : Net) (lanes : List (List Record)) : Type 0 where
+  pub stepped : (steps : List Line) →
+      DifferInCut (world_over net (found_logs lanes) steps) (world_over net (whole_logs lanes) steps)
+  pub lines : (steps : List Line) → report_over net (whole_logs lanes) steps ≡ report_over net (found_logs lanes) steps
+  pub served_same : (steps : List Line) (arrivals : List Arrival) →
+      served net (numbers net.brokers) (whole_logs lanes) steps arrivals
+      ≡ served net (numbers net.brokers) (found_logs lanes) steps arrivals
+  pub arrived_same : (steps : List Line) (arrivals : List Arrival) →
+      DifferInCut (served_on net (found_logs lanes) steps arrivals) (served_on net (whole_logs lanes) steps arrivals)

@@ -1,0 +1,172 @@
+-- What the theorems speak of, and what they say of it
+use Rattle.std.specs.Prelude.{◌≡◌, ℕ, ◌≤◌, ◌<◌, ◌^◌, true, false, nat_eq, List, [], map, filter, flat_map, Option, Some}
+use Rattle.std.specs.Prelude.{Ok}
+use Rattle.std.specs.List.{AllByRecursion, list_any}
+use Rattle.gr_frame.specs.declared.Body.TheVariants as body
+use Rattle.gr_frame.specs.declared.Frame.{Frame}
+use Rattle.gr_frame.specs.Bytes.{frame_bytes}
+use Rattle.gr_frame.specs.Decode.{frame_decoded}
+use Rattle.gr_frame.specs.Limits.{IsFrame}
+use Rattle.gr_know.specs.Values.{Known}
+use Rattle.gr_sched.specs.declared.step.Line.{Line}
+use Rattle.gr_model.specs.declared.report.Report.{Report}
+use Rattle.gr_model.specs.Net.{Net, not_empty, numbers}
+use Rattle.gr_model.specs.Tree.{IsNet, IsSubscriber, IsDistinct}
+use Rattle.gr_model.specs.Broker.{Log, clashes}
+use Rattle.gr_model.specs.World.{World, Transition, view_of, log_of, frame_at, run_all, run_from, start, next}
+use Rattle.gr_model.specs.Opening.{opening, publishers_at, begin_over}
+use Rattle.gr_model.specs.Arrivals.{Arrival, publishes_of, served, clash_runs, first_of}
+use Rattle.gr_model.specs.Headline.{History, GetsExactly, Holds_from, is_doubt_line, doubt_place, doubts_shown}
+use Rattle.gr_model_calls.specs.Fits.{StepsIn}
+use Rattle.gr_model_theorems.specs.Order.{CutsInOrder}
+use Rattle.gr_model_calls.specs.Edges.{GoesOverEdge}
+use Rattle.gr_model_theorems.specs.Spelled.{NumbersIn}
+use Rattle.gr_model_theorems.specs.Settles.{is_accepted}
+use Rattle.gr_model_theorems.specs.Found.{AreReopened, told_at_opening}
+use Rattle.gr_model_theorems.specs.ByRules.{RunsOver}
+use Rattle.gr_model_theorems.specs.Served.{IsOfBytes, IsHonestRun, AllDoSteps, HeadlineServed}
+
+-- Runs
+
+-- a topology that is a tree, and a schedule whose publishers and brokers exist
+pub record IsRun (net : Net) (steps : List Line) : Type 0 where
+  pub tree : IsNet net
+  pub steps_in : StepsIn net steps
+
+-- such a run, where a log is not marked before it was silent for some time
+pub record IsMarkedRun (net : Net) (steps : List Line) : Type 0 where
+  pub tree : IsNet net
+  pub quiet : 1 ≤ net.quiet
+  pub steps_in : StepsIn net steps
+
+-- and where an ask is outstanding for some time
+pub record IsAskedRun (net : Net) (steps : List Line) : Type 0 where
+  pub tree : IsNet net
+  pub quiet : 1 ≤ net.quiet
+  pub retry : 1 ≤ net.retry
+  pub steps_in : StepsIn net steps
+
+-- subscribers that are there, each once
+pub record AreTotals (net : Net) (totals : List ℕ) : Type 0 where
+  pub apart : IsDistinct totals
+  pub there : (s : ℕ) → list_any (λ x. nat_eq x s) totals ≡ true → s < net.subscribers
+
+-- a run before a sweep that is not refused
+pub record IsSweptRun (net : Net) (steps : List Line) : Type 0 where
+  pub asked : IsAskedRun net steps
+  pub accepted : is_accepted net (run_all net (start net) steps).world ≡ true
+
+-- a run in which all that is named fits into frames: of brokers, publishers, moments and events
+pub record IsSpelledRun (net : Net) (steps : List Line) : Type 0 where
+  pub run : IsRun net steps
+  pub brokers : net.brokers ≤ 2 ^ 16
+  pub publishers : net.publishers ≤ 2 ^ 16
+  pub numbers_in : NumbersIn steps
+
+-- a run over logs that were found
+pub record IsRunOverLogs (net : Net) (logs : List Log) (steps : List Line) : Type 0 where
+  pub asked : IsAskedRun net steps
+  pub reopened_cuts : AreReopened net logs
+
+-- a server's run over logs that were found, within the limits of frames, whose journal is honest
+pub record IsServedRun (net : Net) (logs : List Log) (steps : List Line) (arrivals : List Arrival) : Type 0 where
+  pub over : IsRunOverLogs net logs steps
+  pub brokers : net.brokers ≤ 2 ^ 16
+  pub publishers : net.publishers ≤ 2 ^ 16
+  pub numbers_in : NumbersIn steps
+  pub bytes : AllByRecursion IsOfBytes arrivals
+  pub honest : IsHonestRun arrivals (served net (numbers net.brokers) logs steps arrivals)
+
+-- the world after all steps
+abbrev pub world_after : Net → List Line → World
+world_after net steps = (run_all net (start net) steps).world
+
+-- Frames that were sent
+
+-- no knowledge clashes with what its receiver knows
+abbrev pub NothingClashes : Net → World → Type 0
+NothingClashes net w =
+    (k : ℕ) (f : Frame) (runs : Known) → frame_at w k ≡ Some f → f.body ≡ body.Knowledge runs →
+    clashes (view_of w f.head.to f.head.publisher).know runs ≡ false
+
+-- no frame is a stray
+abbrev pub NothingStrays : Net → World → Type 0
+NothingStrays net w = (k : ℕ) (f : Frame) → frame_at w k ≡ Some f → GoesOverEdge net f
+
+-- each frame is spelled by its bytes
+abbrev pub AllSpelled : World → Type 0
+AllSpelled w = (k : ℕ) (f : Frame) → frame_at w k ≡ Some f → IsFrame (frame_bytes f) f
+
+-- and they decode to it
+abbrev pub AllDecode : World → Type 0
+AllDecode w = (k : ℕ) (f : Frame) → frame_at w k ≡ Some f → frame_decoded (frame_bytes f) ≡ Ok f
+
+-- Subscribers, cuts and horizons
+
+-- each subscriber gets of each publisher exactly what it is owed
+abbrev pub AllGetExactly : Net → History → Type 0
+AllGetExactly net h = (s p : ℕ) → p < net.publishers → IsSubscriber net s → GetsExactly net h s p
+
+-- each publisher's cuts are in order
+abbrev pub AllCutsInOrder : Net → History → Type 0
+AllCutsInOrder net h = (p : ℕ) → p < net.publishers → CutsInOrder net h p
+
+-- a host with subscribers has its horizon where its log is settled
+abbrev pub HostsMeet : Net → World → Type 0
+HostsMeet net w =
+    (p : ℕ) → p < net.publishers → not_empty (net.subscribers_at (net.host p)) ≡ true →
+    (view_of w (net.host p) p).horizon ≡ (log_of w p).settled
+
+-- the doubt lines of a step stand for the places that a show shows, in order
+abbrev pub DoubtsStand : Net → World → Line → Type 0
+DoubtsStand net w l = map doubt_place (filter is_doubt_line (next net w l).lines) ≡ doubts_shown net l
+
+-- Over old logs, and at a server
+
+-- all brokers start over these logs
+abbrev pub opened_over : Net → List Log → Transition
+opened_over net logs = opening net (numbers net.brokers) logs
+
+-- of a schedule that begins on these logs the headline holds
+abbrev pub HoldsOverLogs : Net → List Log → List Line → Type 0
+HoldsOverLogs net logs steps =
+    let o : Transition = opened_over net logs in
+    Holds_from net (begin_over net logs o.lines) steps (run_from net o.world steps)
+
+-- the opening tells each log that is not empty, and what the subscribers at its host get at once
+abbrev pub OpeningTells : Net → List Log → Type 0
+OpeningTells net logs =
+    let o : Transition = opened_over net logs in
+    o.lines ≡ flat_map (told_at_opening net logs) (publishers_at net (numbers net.brokers))
+
+-- and it sends nothing
+abbrev pub OpeningSendsNothing : Net → List Log → Type 0
+OpeningSendsNothing net logs = let o : Transition = opened_over net logs in o.world.frames ≡ []
+
+-- what the opening and then the steps tell and leave is by the rules
+abbrev pub RunsOverByRules : Net → List Log → List Line → Type 0
+RunsOverByRules net logs steps =
+    let o : Transition = opened_over net logs in
+    RunsOver net logs steps o.lines (run_from net o.world steps) (run_all net o.world steps).world
+
+-- and nothing else is
+abbrev pub RunsOverByNoOther : Net → List Log → List Line → Type 0
+RunsOverByNoOther net logs steps =
+    (told : List Report) (rs : List (List Report)) (w : World) → RunsOver net logs steps told rs w →
+    (let o : Transition = opened_over net logs in
+    (told ≡ o.lines) × (rs ≡ run_from net o.world steps) × (w ≡ (run_all net o.world steps).world))
+
+-- what a server of all brokers reports meets the headline
+abbrev pub MeetsHeadlineServed : Net → List Log → List Line → List Arrival → Type 0
+MeetsHeadlineServed net logs steps arrivals =
+    HeadlineServed net logs steps arrivals (served net (numbers net.brokers) logs steps arrivals)
+
+-- each arrival does its steps
+abbrev pub ArrivalsDoSteps : Net → List Log → List Line → List Arrival → Type 0
+ArrivalsDoSteps net logs steps arrivals =
+    let o : Transition = opened_over net logs in
+    AllDoSteps net o.world o.lines (publishes_of net (numbers net.brokers) steps) arrivals
+
+-- the tick that is named where a datagram clashes with what is known, or none
+abbrev pub FirstClash : Known → Known → Option ℕ → Type 0
+FirstClash know piece tick = first_of (clash_runs know piece) ≡ tick

@@ -1,0 +1,233 @@
+//! What holds of every schedule of the machine, on every topology that is a tree. Each function here does nothing: its
+//! contract is the theorem. The premises, and most of what is said, stand in `specs/Statements.antt`.
+
+ghost use Rattle.std.specs.Prelude.{List, ℕ, false, Some, None, ◌≡◌, ◌<◌};
+ghost use Rattle.gr_tick.specs.Runs.{AreRuns};
+ghost use Rattle.gr_know.specs.declared.values.K.TheVariants.{Q};
+ghost use Rattle.gr_know.specs.Values.{Known, known_at, clash_K};
+ghost use Rattle.gr_know.specs.Clash.{IsLeastClash};
+ghost use Rattle.gr_sched.specs.declared.step.Line.{Line};
+ghost use Rattle.gr_model.specs.Net.{Net};
+ghost use Rattle.gr_model.specs.Tree.{IsNet};
+ghost use Rattle.gr_model.specs.Broker.{Log};
+ghost use Rattle.gr_model.specs.World.{World, report_of};
+ghost use Rattle.gr_model.specs.Arrivals.{Arrival};
+ghost use Rattle.gr_model.specs.Headline.{Headline};
+ghost use Rattle.gr_model.specs.Blank.{net0};
+ghost use Rattle.gr_model.specs.declared.report.Report.{Report};
+ghost use Rattle.gr_model_calls.specs.Fits.{StepIn, WorldFits, history_of};
+ghost use Rattle.gr_model_theorems.specs.Found.{AreReopened};
+ghost use Rattle.gr_model_theorems.specs.Order.{FramesSent};
+ghost use Rattle.gr_model_theorems.specs.Replies.{Replied};
+ghost use Rattle.gr_model_calls.specs.Rules.{RulesDetermine};
+ghost use Rattle.gr_model_theorems.specs.Obeys.{CallsObey};
+ghost use Rattle.gr_model_theorems.specs.ByRules.{ScheduleByRules};
+ghost use Rattle.gr_model_theorems.specs.Settles.{SweepSettles, AllGot};
+ghost use Rattle.gr_model_theorems.specs.Standing.{Fits};
+ghost use Rattle.gr_model_theorems.specs.OverLogs.{StandsOver};
+ghost use Rattle.gr_publog.specs.declared.record.Record.{Record};
+ghost use Rattle.gr_model_theorems.specs.Lanes.{AllFollow, IsRunOverLanes, IsServedOverLanes, found_logs, FoundIsPastCut};
+ghost use Rattle.gr_model_theorems.specs.Lanes.{HoldsOverLanes, HoldsServedLanes, CutEventsSilent};
+ghost use Rattle.gr_model_theorems.specs.Examples.{WorkedExamples};
+ghost use Rattle.gr_model_theorems.specs.ServedExample.{ServedExamples};
+ghost use Rattle.gr_model.specs.Orders.{orders_over, ordered_steps};
+ghost use Rattle.gr_model.specs.Ordered.{TotallyOrdered};
+ghost use Rattle.gr_model_theorems.specs.Statements.{IsRun, IsMarkedRun, IsAskedRun, IsSweptRun, IsSpelledRun, IsRunOverLogs};
+ghost use Rattle.gr_model_theorems.specs.Statements.{AreTotals};
+ghost use Rattle.gr_model_theorems.specs.Statements.{IsServedRun, world_after, NothingClashes, NothingStrays, AllSpelled};
+ghost use Rattle.gr_model_theorems.specs.Statements.{AllDecode, AllGetExactly, AllCutsInOrder, HostsMeet, DoubtsStand};
+ghost use Rattle.gr_model_theorems.specs.Statements.{HoldsOverLogs, OpeningTells, OpeningSendsNothing, RunsOverByRules};
+ghost use Rattle.gr_model_theorems.specs.Statements.{RunsOverByNoOther, MeetsHeadlineServed, ArrivalsDoSteps, FirstClash};
+
+/// The topology of the small examples is a tree, so the theorems speak of something.
+pub fn net0_is_a_tree()
+    ensures { IsNet net0 }
+{}
+
+/// The worked examples: the whole report of each of some twenty small schedules.
+pub fn worked_examples()
+    ensures { WorkedExamples }
+{}
+
+/// After every schedule all that any broker knows, all that any frame says and all that was cut is true, and each
+/// host knows every tick up to where its log is settled.
+pub fn always_true()
+    ensures { (net : Net) (steps : List Line) → IsRun net steps → WorldFits net (world_after net steps) }
+{}
+
+/// No frame of knowledge that was ever sent clashes with what its receiver knows, however late it is delivered.
+pub fn never_clashes()
+    ensures { (net : Net) (steps : List Line) → IsRun net steps → NothingClashes net (world_after net steps) }
+{}
+
+/// No frame that was ever sent is a stray: each is of a publisher of the topology and goes over an edge of the tree,
+/// from a broker to a child with knowledge or a tick to expect, or to the next broker up with curiosity.
+pub fn never_strays()
+    ensures { (net : Net) (steps : List Line) → IsRun net steps → NothingStrays net (world_after net steps) }
+{}
+
+/// Every frame that was ever sent is spelled by its bytes, which fit into one frame; so they decode to it and to no
+/// other. The topology has at most 65,536 brokers and as many publishers. The schedule names no moment past 2^62, and
+/// each event that it publishes is within the limits of events.
+pub fn frames_are_spelled()
+    ensures spelled { (net : Net) (steps : List Line) → IsSpelledRun net steps → AllSpelled (world_after net steps) }
+    ensures decodes { (net : Net) (steps : List Line) → IsSpelledRun net steps → AllDecode (world_after net steps) }
+{}
+
+/// Delivered exactly: over every schedule, what each subscriber got from each publisher is exactly the logged events
+/// that it wants up to its last horizon, once each and in order; and its horizons only rise.
+pub fn gets_exactly()
+    ensures { (net : Net) (steps : List Line) → IsMarkedRun net steps → AllGetExactly net (history_of net steps) }
+{}
+
+/// Discarded only after delivery: over every schedule, a publisher's cuts rise strictly, none is past what is settled,
+/// and each event up to a cut was got, before that cut's line, by each subscriber that wants it.
+pub fn cuts_in_order()
+    ensures { (net : Net) (steps : List Line) → IsMarkedRun net steps → AllCutsInOrder net (history_of net steps) }
+{}
+
+/// After every schedule, a host with subscribers has its horizon where its log is settled.
+pub fn hosts_meet()
+    ensures { (net : Net) (steps : List Line) → IsRun net steps → HostsMeet net (world_after net steps) }
+{}
+
+/// After every schedule, the doubt lines of the next step stand for the places that a show shows, in order, and no
+/// other step has one.
+pub fn doubts_stand()
+    ensures { (net : Net) (steps : List Line) (l : Line) → IsRun net steps → StepIn net l.step →
+        DoubtsStand net (world_after net steps) l }
+{}
+
+/// Frames sent: over every schedule the sent lines are numbered 1, 2, 3 and so on, and say the frames that the calls
+/// of brokers sent, in their order.
+pub fn frames_sent()
+    ensures { (net : Net) (steps : List Line) → IsMarkedRun net steps → FramesSent net steps }
+{}
+
+/// Every call follows the rules: over every schedule, each step's lines are those of its calls of brokers, in order,
+/// and then its own; and what each call keeps, tells and sends, and to whom, is what the rules say tick by tick of the
+/// broker's view and the publisher's log at that moment.
+pub fn calls_obey_rules()
+    ensures { (net : Net) (steps : List Line) → IsMarkedRun net steps → CallsObey net steps (report_of net steps) }
+{}
+
+/// The rules leave nothing open: what a call does is the only outcome by its rule, of one view, one log and one moment.
+pub fn rules_determine()
+    ensures { (net : Net) (p b : ℕ) → IsNet net → p < net.publishers → b < net.brokers → RulesDetermine net p b }
+{}
+
+/// Of every schedule the rules allow exactly one report and leave exactly one world, the machine's. What happens at a
+/// step is said by the rules alone: its calls in their order, each with the outcome of its rule put in its place;
+/// starts and crashes, stopped publishes, sweeps, what is refused and what is shown; and the lines of all this in their
+/// order.
+/// The same of a schedule that begins on logs that were found, and of what the start over them tells.
+pub fn runs_by_rules()
+    ensures allowed { (net : Net) (steps : List Line) → IsMarkedRun net steps →
+        ScheduleByRules net steps (report_of net steps) (world_after net steps) }
+    ensures alone { (net : Net) (steps : List Line) (rs : List (List Report)) (w : World) → IsMarkedRun net steps →
+        ScheduleByRules net steps rs w → (rs ≡ report_of net steps) × (w ≡ world_after net steps) }
+    ensures over_logs { (net : Net) (logs : List Log) (steps : List Line) → IsMarkedRun net steps →
+        AreReopened net logs →
+        RunsOverByRules net logs steps }
+    ensures over_logs_alone { (net : Net) (logs : List Log) (steps : List Line) → IsMarkedRun net steps →
+        AreReopened net logs → RunsOverByNoOther net logs steps }
+{}
+
+/// Every step is replied as the schedule and the frames sent demand: refused where it is to be refused and nowhere
+/// else, the bytes of a frame shown as those of its sent line, and frames numbered on without a gap.
+pub fn replies_stand()
+    ensures { (net : Net) (steps : List Line) → IsMarkedRun net steps → Replied net steps (report_of net steps) }
+{}
+
+/// The headline, whole, over every schedule, sweeps included, and after each of its steps: recorded lines, delivered
+/// exactly, doubt horizons, horizons rise, discarded only after delivery.
+pub fn headline_always()
+    ensures { (net : Net) (steps : List Line) → IsAskedRun net steps → Headline net steps (report_of net steps) }
+{}
+
+/// One order over all publishers: of every schedule, and after each of its steps, each subscriber that gets one list
+/// was told in it exactly the logged events that it wants, of every publisher, up to where it has heard all publishers:
+/// each once, rising by tick and then publisher. What it is told is what `ordered_steps` makes of the lines.
+pub fn ordered_always()
+    ensures { (net : Net) (totals : List ℕ) (steps : List Line) → IsAskedRun net steps → AreTotals net totals →
+        TotallyOrdered net totals steps (report_of net steps)
+        (ordered_steps (orders_over net.publishers totals) (report_of net steps)) }
+{}
+
+/// A sweep settles everything: after every schedule, a sweep that is not refused ends with every kept horizon, what is
+/// settled of every log, and every cut at its moment; each frame that it sends but an Expect is delivered in it exactly
+/// once; and its lines say so.
+pub fn sweep_settles()
+    ensures { (net : Net) (steps : List Line) (k : ℕ) → IsSweptRun net steps →
+        SweepSettles net (world_after net steps) k }
+{}
+
+/// After a sweep that is not refused, each subscriber has got exactly what is recorded that it wants.
+pub fn sweep_hands_over()
+    ensures { (net : Net) (steps : List Line) (k : ℕ) → IsSweptRun net steps →
+        AllGot net (history_of net steps) (world_after net steps) k }
+{}
+
+/// What a layer above may use, after every schedule: all that is known and sent is true, each log is the record, each
+/// subscriber got what it is owed up to its broker's horizon, what is heard and what is known agree above a horizon, a
+/// host knows what its log says, and no ask is of a moment past the greatest.
+pub fn fits_always()
+    ensures { (net : Net) (steps : List Line) → IsAskedRun net steps →
+        Fits net (history_of net steps) (world_after net steps) }
+{}
+
+/// The same of every schedule that begins on logs that were found; and its calls obey their rules, its steps are
+/// replied as they are to be, nothing that was sent clashes, and a sweep settles everything and hands over all that is
+/// recorded.
+pub fn stands_over_logs()
+    ensures { (net : Net) (logs : List Log) (steps : List Line) → IsRunOverLogs net logs steps →
+        StandsOver net logs steps }
+{}
+
+/// The headline over logs that were found, whole, over every schedule that begins on them: what each subscriber gets is
+/// exactly the events past the cut that was found, and those logged since, that it wants. The opening tells each log
+/// that is not empty and what the subscribers at its host get at once, and sends nothing.
+pub fn headline_over_logs()
+    ensures schedules { (net : Net) (logs : List Log) (steps : List Line) → IsRunOverLogs net logs steps →
+        HoldsOverLogs net logs steps }
+    ensures told { (net : Net) (logs : List Log) → IsNet net → AreReopened net logs → OpeningTells net logs }
+    ensures sends { (net : Net) (logs : List Log) → IsNet net → AreReopened net logs → OpeningSendsNothing net logs }
+{}
+
+/// The headline of a server that hosts all brokers, over logs that were found and every honest journal, whatever of the
+/// frames sent arrives, in which order and how often: each arrival leaves what its steps of a schedule leave and tells
+/// their lines, each call of them obeys its rule, and of these steps the whole headline holds. So no datagram is
+/// dropped but one that is no frame.
+pub fn headline_served()
+    ensures headline { (net : Net) (logs : List Log) (steps : List Line) (arrivals : List Arrival) →
+        IsServedRun net logs steps arrivals → MeetsHeadlineServed net logs steps arrivals }
+    ensures calls { (net : Net) (logs : List Log) (steps : List Line) (arrivals : List Arrival) →
+        IsServedRun net logs steps arrivals → ArrivalsDoSteps net logs steps arrivals }
+{}
+
+/// The headline over logs that code opens: each lane has records that may follow one another, and its log all their
+/// events. The record begins with what is found, the events past the cut, of schedules and of a server over an honest
+/// journal. So what was cut changes nothing: no line, and no world but for the events themselves.
+pub fn headline_over_lanes()
+    ensures schedules { (net : Net) (lanes : List (List Record)) (steps : List Line) →
+        IsRunOverLanes net lanes steps → HoldsOverLanes net lanes steps }
+    ensures served { (net : Net) (lanes : List (List Record)) (steps : List Line) (arrivals : List Arrival) →
+        IsServedOverLanes net lanes steps arrivals → HoldsServedLanes net lanes steps arrivals }
+    ensures found { (net : Net) (lanes : List (List Record)) → AllFollow lanes → AreReopened net (found_logs lanes) }
+    ensures past { FoundIsPastCut }
+    ensures silent { (net : Net) (lanes : List (List Record)) → AllFollow lanes → CutEventsSilent net lanes }
+{}
+
+/// Worked examples of a server: a whole run over three arrivals, and a start over an old log.
+pub fn served_examples()
+    ensures { ServedExamples }
+{}
+
+/// The tick that a dropped datagram's line names is the least one at which the datagram clashes with what is known, and
+/// none is named where nothing clashes.
+pub fn clashes_are_least()
+    ensures some { (know piece : Known) (t : ℕ) → AreRuns Q know → AreRuns Q piece → FirstClash know piece (Some t) →
+        IsLeastClash (known_at know) (known_at piece) t (known_at know t) (known_at piece t) }
+    ensures none { (know piece : Known) → AreRuns Q know → AreRuns Q piece → FirstClash know piece None →
+        (t : ℕ) → clash_K (known_at know t) (known_at piece t) ≡ false }
+{}

@@ -1,6 +1,0 @@
-use Rattle.gr_ordering.proofs.ReadyLists.{Going}
-use Rattle.gr_ordering.proofs.orders.put_all.Given as goal
-
--- what is taken out and told so far leads to the whole
-abbrev pub invariant-lists : goal.invariant-lists
-invariant-lists l = Going l.initial.lists.items l.initial.lines l.i l.lists.items l.lines

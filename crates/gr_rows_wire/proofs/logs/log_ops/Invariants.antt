@@ -1,8 +1,0 @@
-use Rattle.std.proofs.Common.{◌≡◌}
-use Rattle.gr_out.specs.Lane.{lane_at}
-use Rattle.gr_publog.specs.Calls.{IsReady}
-use Rattle.gr_rows_wire.proofs.logs.log_ops.Given as goal
-
--- the lane has the records of the log
-abbrev pub invariant-loop-op : goal.invariant-loop-op
-invariant-loop-op l = (l.log.lane ≡ 0) × IsReady l.log (lane_at l.disk.lanes 0)

@@ -1,0 +1,76 @@
+//! What frames say of ticks, as a row has it: `S1-999`, `F7-`, `C4` and `A1-5` for values, `D8={"n":1}` for an event.
+
+use gr_curio::Q3;
+use gr_event::Event;
+use gr_know::K;
+use gr_tests_rows::{Stop, TickRange, range};
+use gr_tick::{Lattice, MAX_TICK, Piece, Stream};
+use std::alloc::Global;
+
+/// The piece of knowledge that words spell.
+pub fn knowledge(alloc: Global, words: &[&str]) -> Result<Piece<K>, Stop> {
+    let mut stream = Stream::new(alloc);
+    for word in words {
+        join_known(alloc, &mut stream, word)?;
+    }
+    Ok(stream.piece(1, MAX_TICK)?)
+}
+
+/// Joins what a word says.
+fn join_known(alloc: Global, stream: &mut Stream<K>, word: &str) -> Result<(), Stop> {
+    let ticks = word.strip_prefix(['S', 'D', 'F']).ok_or(Stop::NoRow)?;
+    let (ticks, _) = ticks.split_once('=').unwrap_or((ticks, ""));
+    let ticks = range(ticks)?;
+    let value = known(alloc, word)?;
+    join(stream, ticks, &value)
+}
+
+/// The value of knowledge that a word begins with; an event stands behind `=`.
+pub fn known(alloc: Global, word: &str) -> Result<K, Stop> {
+    match word.as_bytes() {
+        [b'Q', ..] => Ok(K::Q),
+        [b'S', ..] => Ok(K::S),
+        [b'F', ..] => Ok(K::F),
+        [b'D', ..] => {
+            let (_, text) = word.split_once('=').ok_or(Stop::NoRow)?;
+            Ok(K::D(event(alloc, text)?))
+        }
+        _ => Err(Stop::NoRow),
+    }
+}
+
+/// The event of a JSON text.
+pub fn event(alloc: Global, text: &str) -> Result<Event, Stop> {
+    Event::from_text(alloc, text.as_bytes()).map_err(|_| Stop::NoRow)
+}
+
+/// The piece of curiosity that words spell.
+pub fn curiosity(alloc: Global, words: &[&str]) -> Result<Piece<Q3>, Stop> {
+    let mut stream = Stream::new(alloc);
+    for word in words {
+        join_wanted(&mut stream, word)?;
+    }
+    Ok(stream.piece(1, MAX_TICK)?)
+}
+
+/// Joins what a word says.
+fn join_wanted(stream: &mut Stream<Q3>, word: &str) -> Result<(), Stop> {
+    match word.strip_prefix('C') {
+        Some(ticks) => join(stream, range(ticks)?, &Q3::C),
+        None => {
+            let ticks = word.strip_prefix('A').ok_or(Stop::NoRow)?;
+            join(stream, range(ticks)?, &Q3::A)
+        }
+    }
+}
+
+/// Joins a value on a range.
+fn join<V: Lattice>(stream: &mut Stream<V>, ticks: TickRange, value: &V) -> Result<(), Stop> {
+    let inside = stream.runs_in(ticks.first, ticks.last);
+    let Some(room) = inside.checked_add(1) else {
+        return Err(Stop::Memory);
+    };
+    stream.reserve(room)?;
+    stream.join_range(ticks.first, ticks.last, value.share());
+    Ok(())
+}

@@ -1,0 +1,154 @@
+//! Edges between brokers: what passes them.
+
+ghost use Rattle.std.specs.Prelude.{◌≡◌, length};
+
+use crate::words::{event, filter, first_word};
+use gr_edge::Edge;
+use gr_event::Event;
+use gr_filter::Filter;
+use gr_know::K;
+use gr_tests_rows::{Stop, TickRange, put_text, range};
+use gr_tick::{MAX_TICK, Piece, Run, Stream};
+use std::alloc::{AllocError, Global};
+use std::fmt::Write;
+
+/// An edge, and how many subscribers are behind it.
+struct Counted {
+    edge: Edge,
+    count: u16,
+    ghost counted: { length edge ≡ count },
+}
+
+impl Drop for Counted {
+    fn drop(self) {
+        let Counted {
+            edge: _edge,
+            count: _,
+        } = self;
+    }
+}
+
+impl Counted {
+    /// Puts a subscriber's filter at the end.
+    fn add(&mut self, filter: Option<&Filter>) -> Result<(), Stop> {
+        if self.count == u16::MAX {
+            return Err(Stop::NoRow);
+        }
+        self.edge.add(filter)?;
+        self.count += 1;
+        Ok(())
+    }
+}
+
+/// Answers a row about an edge.
+pub fn answer(alloc: Global, script: &str, out: &mut String) -> Result<(), Stop> {
+    let mut counted = Counted {
+        edge: Edge::new(alloc),
+        count: 0,
+    };
+    for step in script.split(" ; ") {
+        take_step(alloc, &mut counted, step, out)?;
+    }
+    Ok(())
+}
+
+/// Adds a subscriber, or prints what the edge passes.
+fn take_step(
+    alloc: Global,
+    counted: &mut Counted,
+    step: &str,
+    out: &mut String,
+) -> Result<(), Stop> {
+    let (call, rest) = first_word(step);
+    match call {
+        "add" => add(alloc, counted, rest),
+        "add_unfiltered" => counted.add(None),
+        "pass" => pass(alloc, &counted.edge, rest, out),
+        _ => Err(Stop::NoRow),
+    }
+}
+
+/// Adds a subscriber with a filter.
+fn add(alloc: Global, counted: &mut Counted, written: &str) -> Result<(), Stop> {
+    counted.add(Some(&filter(alloc, written)?.filter))
+}
+
+/// Prints what an edge passes of a piece.
+fn pass(alloc: Global, edge: &Edge, words: &str, out: &mut String) -> Result<(), Stop> {
+    let passed = edge.pass(&piece(alloc, words)?)?;
+    Ok(put_piece(alloc, &passed, out)?)
+}
+
+/// The piece that words spell, each a run: a letter, its ticks, and for D behind `=` the event.
+fn piece(alloc: Global, words: &str) -> Result<Piece<K>, Stop> {
+    let mut stream = Stream::new(alloc);
+    for word in words.split_whitespace() {
+        join(alloc, &mut stream, word)?;
+    }
+    Ok(stream.piece(1, MAX_TICK)?)
+}
+
+/// Joins the run of a word.
+fn join(alloc: Global, stream: &mut Stream<K>, word: &str) -> Result<(), Stop> {
+    let (run, json) = word.split_once('=').unwrap_or((word, ""));
+    let (letter, ticks) = run.split_at_checked(1).ok_or(Stop::NoRow)?;
+    join_value(stream, range(ticks)?, value(alloc, letter, json)?)
+}
+
+/// Joins a value on a range of ticks.
+fn join_value(stream: &mut Stream<K>, ticks: TickRange, value: K) -> Result<(), Stop> {
+    let room = stream
+        .runs_in(ticks.first, ticks.last)
+        .checked_add(1)
+        .ok_or(Stop::NoRow)?;
+    stream.reserve(room)?;
+    stream.join_range(ticks.first, ticks.last, value);
+    Ok(())
+}
+
+/// The value that a letter stands for.
+fn value(alloc: Global, letter: &str, json: &str) -> Result<K, Stop> {
+    match letter {
+        "S" => Ok(K::S),
+        "D" => Ok(K::D(event(alloc, json)?)),
+        "F" => Ok(K::F),
+        _ => Err(Stop::NoRow),
+    }
+}
+
+/// Prints the runs of a piece.
+fn put_piece(alloc: Global, piece: &Piece<K>, out: &mut String) -> Result<(), AllocError> {
+    if piece.is_empty() {
+        return out.push_str("  nothing\n");
+    }
+    out.push(' ')?;
+    for i in 0..piece.len() {
+        put_run(alloc, piece.run(i), out)?;
+    }
+    out.push('\n')
+}
+
+/// Prints a run.
+fn put_run(alloc: Global, run: &Run<K>, out: &mut String) -> Result<(), AllocError> {
+    write!(out, " {}{}-{}", letter(&run.value), run.first, run.last)?;
+    match &run.value {
+        K::D(event) => put_event(alloc, event, out),
+        K::Q | K::S | K::F => Ok(()),
+    }
+}
+
+/// The letter of a value.
+fn letter(value: &K) -> char {
+    match value {
+        K::Q => 'Q',
+        K::S => 'S',
+        K::D(_) => 'D',
+        K::F => 'F',
+    }
+}
+
+/// Prints an event behind its run.
+fn put_event(alloc: Global, event: &Event, out: &mut String) -> Result<(), AllocError> {
+    out.push('=')?;
+    put_text(out, event.json(alloc)?.as_slice())
+}

@@ -1,5 +1,0 @@
-use Rattle.gr_theorems.proofs.records.Recorded.{gets_exactly as by_record}
-use Rattle.gr_theorems.proofs.theorems.gets_exactly.Goals as goal
-
-pub returns : goal.returns
-returns c = λ net steps r s p j y. by_record net steps s p r.tree r.quiet r.steps_in j y

@@ -1,5 +1,0 @@
-use Rattle.gr_theorems.proofs.headline.ReplyLines.{replied_always}
-use Rattle.gr_theorems.proofs.theorems.replies_stand.Goals as goal
-
-pub returns : goal.returns
-returns c = λ net steps r. replied_always net steps r.tree r.quiet r.steps_in

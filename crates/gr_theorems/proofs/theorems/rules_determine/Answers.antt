@@ -1,5 +1,0 @@
-use Rattle.gr_invariants.proofs.rules.Determined.{determined}
-use Rattle.gr_theorems.proofs.theorems.rules_determine.Goals as goal
-
-pub returns : goal.returns
-returns c = λ net p b n i j. determined net p b n i j

@@ -1,5 +1,0 @@
-use Rattle.gr_theorems.proofs.server.ServedExample.{served_examples}
-use Rattle.gr_theorems.proofs.theorems.served_examples.Goals as goal
-
-pub returns : goal.returns
-returns c = served_examples

@@ -1,5 +1,0 @@
-use Rattle.gr_theorems.proofs.headline.SettlesAlways.{sweep_settles as by_phases}
-use Rattle.gr_theorems.proofs.theorems.sweep_settles.Goals as goal
-
-pub returns : goal.returns
-returns c = λ net steps k r. by_phases net steps k r.asked.tree r.asked.quiet r.asked.retry r.asked.steps_in r.accepted
