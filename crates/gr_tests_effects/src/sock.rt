@@ -221,6 +221,7 @@ fn puts_short_calls_together(rt: HostRuntime) -> Result<(), Fail> {
         assert!(rt; read == (fails == 6 || fails == 7 || fails > 9));
         assert!(rt; (piece == *b"bcd") == read);
         assert!(rt; disk.last_error().is_none() == (fails == 10));
+        assert!(rt; disk.last_error().is_none_or(|said| said.lane == 0));
     }
     Ok(())
 }
