@@ -5,7 +5,7 @@ import tomllib
 from explain_text import NAME, NAMES, Fault, filter_fault, lines_of, listed, nearest, no_separator, separator
 
 KEYS = {'': ('brokers', 'links', 'publisher', 'subscriber', 'addresses', 'clients', 'settings'),
-        'publisher': ('name', 'at'), 'subscriber': ('name', 'at', 'filter'),
+        'publisher': ('name', 'at'), 'subscriber': ('name', 'at', 'filter', 'late'),
         'settings': ('gap', 'idle', 'retry', 'quiet', 'cache')}
 TYPES = {
     'brokers': 'it is an array of names, as brokers = ["A", "B"]',
@@ -17,12 +17,13 @@ TYPES = {
     'settings': 'it is a table: a line [settings], then lines as retry = 250',
     'name': 'a name is a text in quotes', 'at': 'it is the name of a broker, a text in quotes',
     'filter': "a filter is a text in quotes, as filter = \"sym = 'IBM'\"",
+    'late': 'it is true or false',
 }
 # What a part of nothing but blanks stands for.
 BLANK = {'brokers': ['A', 'B'], 'links': [['A', 'B']], 'publisher': [{'name': 'P', 'at': 'A'}],
          'subscriber': [{'name': 'S', 'at': 'B'}]}
 LIMITS = {'brokers': '64 brokers', 'publisher': '64 publishers', 'subscriber': '1,024 subscribers',
-          'publishers': '64 publishers', 'subscribers': '1,024 subscribers'}
+          'publishers': '64 publishers', 'subscribers': '1,024 subscribers', 'late': '64 late subscribers'}
 ADDRESS = 'it is four numbers of 0 to 255 and a port of 1 to 65535, as "127.0.0.1:7001"'
 HEAD = re.compile(r'\s*\[\[?\s*([A-Za-z0-9_-]+)\s*\]\]?')
 KEY = re.compile(r'\s*(?:"([^"]*)"|\'([^\']*)\'|([A-Za-z0-9_-]+))\s*[=.]')
@@ -128,10 +129,10 @@ def key_hint(name, known):
 
 def bad_type(part, lines, key):
     """A value of another type than its key wants."""
-    wanted = {'name': str, 'at': str, 'filter': str}
+    wanted = {'name': str, 'at': str, 'filter': str, 'late': bool}
     for kind in ('publisher', 'subscriber'):
         for index, table in enumerate(part.tables(kind)):
-            if key in wanted and key in table and not isinstance(table[key], str):
+            if key in wanted and key in table and not isinstance(table[key], wanted[key]):
                 return Fault(*part.key(kind, index, key), 'the value of `%s` has another type' % key, TYPES[key])
     for kind in ('addresses', 'clients', 'settings'):
         if (kind, 0, key) in part.places:
@@ -256,9 +257,15 @@ def too_many(part, lines, what):
     return Fault(*place, 'a topology has at most ' + LIMITS.get(what, 'so many'), '')
 
 
+def not_built(part, lines):
+    """A late subscriber, which no run takes yet."""
+    index = next(at for at, it in enumerate(part.tables('subscriber')) if it.get('late'))
+    return Fault(*part.key('subscriber', index, 'late'), 'no run takes late subscribers yet', '')
+
+
 FAULTS = {'not-toml': not_toml, 'bad-key': bad_key, 'bad-type': bad_type, 'twice': twice, 'unknown': unknown,
           'not-tree': not_tree, 'bad-filter': bad_filter, 'too-many': too_many, 'bad-address': bad_address,
-          'missing': missing, 'bad-name': bad_name, 'bad-range': bad_range}
+          'missing': missing, 'bad-name': bad_name, 'bad-range': bad_range, 'not-built': not_built}
 
 
 def topology_fault(text, word, about):

@@ -32,6 +32,7 @@ few_in p (step.Crash broker) = omega arith
 few_in p step.Sweep = omega arith
 few_in p step.Show = omega arith
 few_in p (step.Bytes frame) = omega arith
+few_in p (step.Join s q) = omega arith
 
 few_events : (p : ℕ) (steps : List Line) → length (events_of p steps) ≤ length steps
 few_events p [] = omega arith

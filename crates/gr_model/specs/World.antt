@@ -318,6 +318,7 @@ next_by see net w l =
             | None ↦ unchanged w (line.RefusedFrame l.number k (length w.frames) ∷ [])
             | Some f ↦ unchanged w (line.BytesOf k (frame_bytes f) ∷ [])
           ]
+      | step.Join q p ↦ unchanged w []
     ]
 
 abbrev pub next : Net → World → Line → Transition

@@ -119,6 +119,7 @@ abbrev pub StepIn : Net → Step → Type 0
 StepIn net (step.Publish p number stop e) = p < net.publishers
 StepIn net (step.Wake b) = b < net.brokers
 StepIn net (step.Crash b) = b < net.brokers
+StepIn net (step.Join s p) = ⊥
 StepIn net _ = Unit {0}
 
 -- the numbers of all steps

@@ -304,6 +304,7 @@ Happens net number (step.Crash b) w t = Crashes net number b w t
 Happens net number step.Sweep w t = Sweeps net number w t
 Happens net number step.Show w t = Tells (shown net w) w t
 Happens net number (step.Bytes k) w t = ShowsBytes number k w t
+Happens net number (step.Join s p) w t = ⊥
 
 -- a step tells its lines, and the rest goes on in the state that it leaves
 pub record Steps (net : Net) (l : Line) (ls : List Report) (Rest : World → Type 0) (w : World) : Type 0 where

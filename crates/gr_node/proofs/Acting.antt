@@ -55,6 +55,7 @@ module _ (t : TopologyView) (hosted : List ℕ) where
   publish_of step.Sweep h = tt
   publish_of step.Show h = tt
   publish_of (step.Bytes frame) h = tt
+  publish_of (step.Join s p) h = tt
 
   publishes_are : (steps : List Line) → AreStepsOf t steps → ArePublishes (publishes_of (net_of t) hosted steps)
   publishes_are [] a = tt

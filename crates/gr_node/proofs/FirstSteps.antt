@@ -58,6 +58,7 @@ left_behind_it net hosted number moment (step.Crash b) ls h = absurd (h refl)
 left_behind_it net hosted number moment step.Sweep ls h = absurd (h refl)
 left_behind_it net hosted number moment step.Show ls h = absurd (h refl)
 left_behind_it net hosted number moment (step.Bytes f) ls h = absurd (h refl)
+left_behind_it net hosted number moment (step.Join s p) ls h = absurd (h refl)
 
 left_of : (net : Net) (hosted : List ℕ) (moment : ℕ) (ls : List Line) → IsFirst net hosted ls → publishes_of net hosted (drop 1 ls) ≡ left_after (publishes_of net hosted ls) (quiet moment)
 left_of net hosted moment [] h = refl

@@ -176,6 +176,7 @@ scheduled_not t hosted p es client (step.Crash b) = tt
 scheduled_not t hosted p es client step.Sweep = tt
 scheduled_not t hosted p es client step.Show = tt
 scheduled_not t hosted p es client (step.Bytes frame) = tt
+scheduled_not t hosted p es client (step.Join s q) = tt
 
 steps_not : (t : TopologyView) (hosted : List ℕ) (p : ℕ) (es : List Event) → IsSome (client_of t p) → (steps : List Line) → ArePublishes p (is_of es) (publishes_of (net_of t) hosted steps)
 steps_not t hosted p es client [] = tt

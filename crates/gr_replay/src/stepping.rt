@@ -61,6 +61,8 @@ fn call<D: SimDisk>(
             Err(_) => Err(WorldFault::Memory),
         },
         Step::Bytes { frame } => world.bytes(*frame),
+        // No step of a topology is a join.
+        Step::Join { .. } => unreachable!(),
     }
 }
 

@@ -80,6 +80,7 @@ step_in t (step.Crash b) h = h
 step_in t step.Sweep h = tt
 step_in t step.Show h = tt
 step_in t (step.Bytes frame) h = tt
+step_in t (step.Join s p) h = h
 
 -- each line of a step is named, where all frames so far went over edges
 pub next_named : (t : TopologyView) (w : World) (l : Line) → IsNet (net_of t) → IsOrderly (net_of t) → AllByRecursion (GoesOverEdge (net_of t)) w.frames → IsStepOf t l.step → AllNamed t (next (net_of t) w l).lines

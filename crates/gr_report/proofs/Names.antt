@@ -357,6 +357,7 @@ named_by net N w k (step.Bytes j) s a i = go (frame_at w j)
     go : (o : Option Frame) → Each N (let t : Transition = elim o [ None ↦ unchanged w (line.RefusedFrame k j (length w.frames) ∷ []) | Some x ↦ unchanged w (line.BytesOf j (frame_bytes x) ∷ []) ] in t.lines)
     go None = (s.names.refused_frame k j (length w.frames), tt)
     go (Some x) = (s.names.bytes j (frame_bytes x), tt)
+named_by net N w k (step.Join q p) s a i = absurd i
 
 -- each line of a step names what the tree has, where all frames so far went over its edges
 pub step_names : (net : Net) (N : Report → Type 0) (w : World) (l : Line) → Stands net N → AllOver net w → StepIn net l.step → Each N (next net w l).lines

@@ -27,6 +27,7 @@ step_in_limits t (step.Crash b) h = tt
 step_in_limits t step.Sweep h = tt
 step_in_limits t step.Show h = tt
 step_in_limits t (step.Bytes frame) h = tt
+step_in_limits t (step.Join s p) h = tt
 
 -- so are all of them
 pub numbers_in : (t : TopologyView) (lines : List Line) → AreStepsOf t lines → NumbersIn lines

@@ -9,7 +9,7 @@ use Rattle.gr_sched.specs.declared.step.Line.{Line}
 use Rattle.gr_sched.specs.Ranges.{IsStop}
 use Rattle.gr_topo.specs.Topology.{TopologyView}
 
--- a step names what the topology has, and its numbers are in their ranges
+-- a step names what the topology has, and its numbers are in their ranges. No run takes a join yet
 abbrev pub IsStepOf : TopologyView → Step → Type 0
 IsStepOf t (step.Clock now) = now ≤ MAX_NUMBER
 IsStepOf t (step.Publish publisher number stop event) =
@@ -20,6 +20,7 @@ IsStepOf t (step.Crash broker) = broker < length t.brokers
 IsStepOf t step.Sweep = Unit {0}
 IsStepOf t step.Show = Unit {0}
 IsStepOf t (step.Bytes frame) = frame ≤ MAX_NUMBER
+IsStepOf t (step.Join s p) = ⊥
 
 abbrev pub AreStepsOf : TopologyView → List Line → Type 0
 AreStepsOf t lines = AllByRecursion (λ l. IsStepOf t l.step) lines

@@ -14,36 +14,38 @@ use Rattle.gr_sched.specs.declared.fault.StepFault.{StepFault}
 use Rattle.gr_sched.specs.declared.fault.StepFault.TheVariants as fault
 use Rattle.gr_sched.specs.declared.step.TheConstants.{MAX_NUMBER, MAX_STEPS}
 use Rattle.gr_sched.specs.declared.step.Step.{Step}
-use Rattle.gr_sched.specs.declared.step.Step.TheVariants.{Clock, Publish, Wake, Deliver, Crash, Sweep, Show, Bytes}
+use Rattle.gr_sched.specs.declared.step.Step.TheVariants.{Clock, Publish, Wake, Deliver, Crash, Sweep, Show, Bytes, Join}
 use Rattle.gr_sched.specs.declared.step.Line.{Line}
 use Rattle.gr_sched.specs.declared.verb.Verb.{Verb}
 use Rattle.gr_sched.specs.declared.verb.Verb.TheVariants as verb
+use Rattle.gr_sched.specs.Naming.{Naming}
 use Rattle.gr_sched.specs.Words.{◌>>=◌, Gives, trimmed, first_word, after_word, next_word, ended, known, is_number, value_after, number_in, next_number}
 use Rattle.gr_sched.specs.Grammar.{verb_of, next_name, after_pick, stop_of, next_stop, event_or_fault, event_of, publish_of, step_by, step_of, lines_of, limited}
 use Rattle.gr_sched.specs.Ranges.{IsNamed, IsStop, IsStep, IsInLimits, IsFault, Holds}
 use Rattle.gr_sched.proofs.EventFaults.{NotMemory, texts}
 
 -- what the grammar alone gives of a step: all but the limits of an event
-abbrev IsNumbered : (List ℕ → Option ℕ) → (List ℕ → Option ℕ) → Step → Type 0
-IsNumbered broker_of publisher_of (Publish publisher number stop e) = IsNamed publisher_of publisher × (1 ≤ number) × (number ≤ MAX_NUMBER) × IfSome stop IsStop
-IsNumbered broker_of publisher_of s = IsStep broker_of publisher_of s
+abbrev IsNumbered : Naming → Step → Type 0
+IsNumbered names (Publish publisher number stop e) = IsNamed names.publisher publisher × (1 ≤ number) × (number ≤ MAX_NUMBER) × IfSome stop IsStop
+IsNumbered names s = IsStep names s
 
-whole_step : (broker_of publisher_of : List ℕ → Option ℕ) (s : Step) → IsNumbered broker_of publisher_of s → IsInLimits s → IsStep broker_of publisher_of s
-whole_step broker_of publisher_of (Clock now) h k = h
-whole_step broker_of publisher_of (Publish publisher number stop e) h k = (h.0, h.1, h.2, h.3, k)
-whole_step broker_of publisher_of (Wake broker) h k = h
-whole_step broker_of publisher_of (Deliver frame) h k = h
-whole_step broker_of publisher_of (Crash broker) h k = h
-whole_step broker_of publisher_of Sweep h k = h
-whole_step broker_of publisher_of Show h k = h
-whole_step broker_of publisher_of (Bytes frame) h k = h
+whole_step : (names : Naming) (s : Step) → IsNumbered names s → IsInLimits s → IsStep names s
+whole_step names (Clock now) h k = h
+whole_step names (Publish publisher number stop e) h k = (h.0, h.1, h.2, h.3, k)
+whole_step names (Wake broker) h k = h
+whole_step names (Deliver frame) h k = h
+whole_step names (Crash broker) h k = h
+whole_step names Sweep h k = h
+whole_step names Show h k = h
+whole_step names (Bytes frame) h k = h
+whole_step names (Join subscriber publisher) h k = h
 
-whole_steps : (broker_of publisher_of : List ℕ → Option ℕ) (lines : List Line) → All (λ line. IsNumbered broker_of publisher_of line.step) lines → AllByRecursion (λ line. IsInLimits line.step) lines
-    → All (λ line. IsStep broker_of publisher_of line.step) lines
-whole_steps broker_of publisher_of [] h k = All-nil _
-whole_steps broker_of publisher_of (l ∷ ls) h k =
-    All-cons (λ line. IsStep broker_of publisher_of line.step) l ls (whole_step broker_of publisher_of l.step (h 0 l (omega arith)) k.0)
-    (whole_steps broker_of publisher_of ls (λ i d lt. h (suc i) d (omega arith)) k.1)
+whole_steps : (names : Naming) (lines : List Line) → All (λ line. IsNumbered names line.step) lines → AllByRecursion (λ line. IsInLimits line.step) lines
+    → All (λ line. IsStep names line.step) lines
+whole_steps names [] h k = All-nil _
+whole_steps names (l ∷ ls) h k =
+    All-cons (λ line. IsStep names line.step) l ls (whole_step names l.step (h 0 l (omega arith)) k.0)
+    (whole_steps names ls (λ i d lt. h (suc i) d (omega arith)) k.1)
 
 -- one part after another
 both : {A B : Type 0} (P : A → Type 0) (Q : B → Type 0) (r : Result A StepFault) (f : A → Result B StepFault) → Holds P r → ((x : A) → P x → Holds Q (f x)) → Holds Q (r >>= f)
@@ -111,37 +113,40 @@ events : (n : ℕ) (text : List ℕ) → Holds (λ _. Unit {0}) (event_of n text
 events n [] = tt
 events n (b ∷ bs) = event_faults n (event_text (b ∷ bs)) (texts (b ∷ bs))
 
-publishes : (broker_of publisher_of : List ℕ → Option ℕ) (n : ℕ) (text : List ℕ) → Holds (IsNumbered broker_of publisher_of) (publish_of publisher_of n text)
-publishes broker_of publisher_of n text =
-    both _ _ (next_name publisher_of n text) _ (named publisher_of n text) (λ publisher a.
+publishes : (names : Naming) (n : ℕ) (text : List ℕ) → Holds (IsNumbered names) (publish_of names n text)
+publishes names n text =
+    both _ _ (next_name names.publisher n text) _ (named names.publisher n text) (λ publisher a.
     both _ _ (next_number n 1 MAX_NUMBER publisher.1) _ (numbers n 1 MAX_NUMBER publisher.1) (λ number b.
     both _ _ (next_stop n number.1) _ (next_stops n number.1) (λ stop c.
     both _ _ (event_of n stop.1) _ (events n stop.1) (λ e _. (a, b.0, b.1, c)))))
 
-steps : (broker_of publisher_of : List ℕ → Option ℕ) (n : ℕ) (v : Verb) (text : List ℕ) → Holds (IsNumbered broker_of publisher_of) (step_by broker_of publisher_of n v text)
-steps broker_of publisher_of n verb.Clock text = both _ _ (next_number n 0 MAX_NUMBER text) _ (numbers n 0 MAX_NUMBER text) (λ now h. ends _ n now.1 (Clock now.0) h.1)
-steps broker_of publisher_of n verb.Publish text = publishes broker_of publisher_of n text
-steps broker_of publisher_of n verb.Wake text = both _ _ (next_name broker_of n text) _ (named broker_of n text) (λ broker h. ends _ n broker.1 (Wake broker.0) h)
-steps broker_of publisher_of n verb.Deliver text = both _ _ (next_number n 0 MAX_NUMBER text) _ (numbers n 0 MAX_NUMBER text) (λ frame h. ends _ n frame.1 (Deliver frame.0) h.1)
-steps broker_of publisher_of n verb.Crash text = both _ _ (next_name broker_of n text) _ (named broker_of n text) (λ broker h. ends _ n broker.1 (Crash broker.0) h)
-steps broker_of publisher_of n verb.Sweep text = ends _ n text Sweep tt
-steps broker_of publisher_of n verb.Show text = ends _ n text Show tt
-steps broker_of publisher_of n verb.Bytes text = both _ _ (next_number n 0 MAX_NUMBER text) _ (numbers n 0 MAX_NUMBER text) (λ frame h. ends _ n frame.1 (Bytes frame.0) h.1)
+steps : (names : Naming) (n : ℕ) (v : Verb) (text : List ℕ) → Holds (IsNumbered names) (step_by names n v text)
+steps names n verb.Clock text = both _ _ (next_number n 0 MAX_NUMBER text) _ (numbers n 0 MAX_NUMBER text) (λ now h. ends _ n now.1 (Clock now.0) h.1)
+steps names n verb.Publish text = publishes names n text
+steps names n verb.Wake text = both _ _ (next_name names.broker n text) _ (named names.broker n text) (λ broker h. ends _ n broker.1 (Wake broker.0) h)
+steps names n verb.Deliver text = both _ _ (next_number n 0 MAX_NUMBER text) _ (numbers n 0 MAX_NUMBER text) (λ frame h. ends _ n frame.1 (Deliver frame.0) h.1)
+steps names n verb.Crash text = both _ _ (next_name names.broker n text) _ (named names.broker n text) (λ broker h. ends _ n broker.1 (Crash broker.0) h)
+steps names n verb.Sweep text = ends _ n text Sweep tt
+steps names n verb.Show text = ends _ n text Show tt
+steps names n verb.Bytes text = both _ _ (next_number n 0 MAX_NUMBER text) _ (numbers n 0 MAX_NUMBER text) (λ frame h. ends _ n frame.1 (Bytes frame.0) h.1)
+steps names n verb.Join text =
+    both _ _ (next_name names.joiner n text) _ (named names.joiner n text) (λ subscriber a.
+    both _ _ (next_name names.publisher n subscriber.1) _ (named names.publisher n subscriber.1) (λ publisher b. ends _ n publisher.1 (Join subscriber.0 publisher.0) (a, b)))
 
-line_steps : (broker_of publisher_of : List ℕ → Option ℕ) (n : ℕ) (line : List ℕ) → Holds (IsNumbered broker_of publisher_of) (step_of broker_of publisher_of n line)
-line_steps broker_of publisher_of n line =
+line_steps : (names : Naming) (n : ℕ) (line : List ℕ) → Holds (IsNumbered names) (step_of names n line)
+line_steps names n line =
     both _ _ (next_word n (trimmed line)) _ (words n (trimmed line)) (λ word _.
-    both _ _ (known n (verb_of word.0)) _ (knows n (verb_of word.0)) (λ v _. steps broker_of publisher_of n v word.1))
+    both _ _ (known n (verb_of word.0)) _ (knows n (verb_of word.0)) (λ v _. steps names n v word.1))
 
 -- as many lines as counted lines, each with such a step
-abbrev AreSteps : (List ℕ → Option ℕ) → (List ℕ → Option ℕ) → ℕ → List Line → Type 0
-AreSteps broker_of publisher_of n lines = All (λ line. IsNumbered broker_of publisher_of line.step) lines × (length lines ≡ n)
+abbrev AreSteps : Naming → ℕ → List Line → Type 0
+AreSteps names n lines = All (λ line. IsNumbered names line.step) lines × (length lines ≡ n)
 
-all_steps : (broker_of publisher_of : List ℕ → Option ℕ) (counted : List (ℕ × List ℕ)) → Holds (AreSteps broker_of publisher_of (length counted)) (lines_of broker_of publisher_of counted)
-all_steps broker_of publisher_of [] = (All-nil _, refl)
-all_steps broker_of publisher_of (c ∷ more) =
-    both _ _ (step_of broker_of publisher_of c.0 c.1) _ (line_steps broker_of publisher_of c.0 c.1) (λ step a.
-    both _ _ (lines_of broker_of publisher_of more) _ (all_steps broker_of publisher_of more) (λ lines b. (All-cons (λ line. IsNumbered broker_of publisher_of line.step) (record { number = c.0; step = step }) lines a b.0, omega (arith, b.1))))
+all_steps : (names : Naming) (counted : List (ℕ × List ℕ)) → Holds (AreSteps names (length counted)) (lines_of names counted)
+all_steps names [] = (All-nil _, refl)
+all_steps names (c ∷ more) =
+    both _ _ (step_of names c.0 c.1) _ (line_steps names c.0 c.1) (λ step a.
+    both _ _ (lines_of names more) _ (all_steps names more) (λ lines b. (All-cons (λ line. IsNumbered names line.step) (record { number = c.0; step = step }) lines a b.0, omega (arith, b.1))))
 
 -- ---- what a reader answered
 
@@ -158,26 +163,26 @@ pub few_counted : (counted : List (ℕ × List ℕ)) (n : ℕ) → None ≡ opti
 few_counted counted n e = elim (slice_get_cases counted n).1 [ inl h ↦ absurd (let k : None ≡ Some h.0.0 = e ∙ ap (option_map (λ c. c.0)) h.2 in cc) | inr h ↦ h.0 ]
 
 -- in a list that is read each step is in range, and there are no more than counted lines
-pub read_range : (broker_of publisher_of : List ℕ → Option ℕ) (counted : List (ℕ × List ℕ)) (r : Result (List Line) StepFault) → Gives (λ s. s) r (lines_of broker_of publisher_of counted)
-    → IfOk r (λ s. AllByRecursion (λ line. IsInLimits line.step) s) → IfOk r (λ s. All (λ line. IsStep broker_of publisher_of line.step) s)
-read_range broker_of publisher_of counted r e limits = part r (gives_holds _ r _ e (all_steps broker_of publisher_of counted)) limits
+pub read_range : (names : Naming) (counted : List (ℕ × List ℕ)) (r : Result (List Line) StepFault) → Gives (λ s. s) r (lines_of names counted)
+    → IfOk r (λ s. AllByRecursion (λ line. IsInLimits line.step) s) → IfOk r (λ s. All (λ line. IsStep names line.step) s)
+read_range names counted r e limits = part r (gives_holds _ r _ e (all_steps names counted)) limits
   where
-    part : (r : Result (List Line) StepFault) → Holds (AreSteps broker_of publisher_of (length counted)) r → IfOk r (λ s. AllByRecursion (λ line. IsInLimits line.step) s)
-        → IfOk r (λ s. All (λ line. IsStep broker_of publisher_of line.step) s)
-    part (Ok x) h k = whole_steps broker_of publisher_of x h.0 k
+    part : (r : Result (List Line) StepFault) → Holds (AreSteps names (length counted)) r → IfOk r (λ s. AllByRecursion (λ line. IsInLimits line.step) s)
+        → IfOk r (λ s. All (λ line. IsStep names line.step) s)
+    part (Ok x) h k = whole_steps names x h.0 k
     part (Err f) h k = tt
 
-pub read_all : (broker_of publisher_of : List ℕ → Option ℕ) (counted : List (ℕ × List ℕ)) (r : Result (List Line) StepFault) → Gives (λ s. s) r (lines_of broker_of publisher_of counted) → IfOk r (λ s. length s ≡ length counted)
-read_all broker_of publisher_of counted r e = part r (gives_holds _ r _ e (all_steps broker_of publisher_of counted))
+pub read_all : (names : Naming) (counted : List (ℕ × List ℕ)) (r : Result (List Line) StepFault) → Gives (λ s. s) r (lines_of names counted) → IfOk r (λ s. length s ≡ length counted)
+read_all names counted r e = part r (gives_holds _ r _ e (all_steps names counted))
   where
-    part : (r : Result (List Line) StepFault) → Holds (AreSteps broker_of publisher_of (length counted)) r → IfOk r (λ s. length s ≡ length counted)
+    part : (r : Result (List Line) StepFault) → Holds (AreSteps names (length counted)) r → IfOk r (λ s. length s ≡ length counted)
     part (Ok x) h = h.1
     part (Err f) h = tt
 
-pub read_few : (broker_of publisher_of : List ℕ → Option ℕ) (counted : List (ℕ × List ℕ)) (n : ℕ) (r : Result (List Line) StepFault) → Gives (λ s. s) r (lines_of broker_of publisher_of counted) → None ≡ option_map (λ c. c.0) (slice_get counted n) → IfOk r (λ s. length s ≤ n)
-read_few broker_of publisher_of counted n r e none = part r (gives_holds _ r _ e (all_steps broker_of publisher_of counted))
+pub read_few : (names : Naming) (counted : List (ℕ × List ℕ)) (n : ℕ) (r : Result (List Line) StepFault) → Gives (λ s. s) r (lines_of names counted) → None ≡ option_map (λ c. c.0) (slice_get counted n) → IfOk r (λ s. length s ≤ n)
+read_few names counted n r e none = part r (gives_holds _ r _ e (all_steps names counted))
   where
-    part : (r : Result (List Line) StepFault) → Holds (AreSteps broker_of publisher_of (length counted)) r → IfOk r (λ s. length s ≤ n)
+    part : (r : Result (List Line) StepFault) → Holds (AreSteps names (length counted)) r → IfOk r (λ s. length s ≤ n)
     part (Ok x) h = omega (arith, h.1, few_counted counted n none)
     part (Err f) h = tt
 
@@ -201,10 +206,10 @@ any_count n (fault.BadEvent line (event.BadText at)) h = tt
 any_count n (fault.BadEvent line (event.BadLength at)) h = tt
 any_count n (fault.TooMany line) h = absurd (omega (arith, h))
 
-pub read_cause : (broker_of publisher_of : List ℕ → Option ℕ) (counted : List (ℕ × List ℕ)) (n : ℕ) (r : Result (List Line) StepFault) → Gives (λ s. s) r (lines_of broker_of publisher_of counted) → IfErr r (IsFault n)
-read_cause broker_of publisher_of counted n r e = part r (gives_holds _ r _ e (all_steps broker_of publisher_of counted))
+pub read_cause : (names : Naming) (counted : List (ℕ × List ℕ)) (n : ℕ) (r : Result (List Line) StepFault) → Gives (λ s. s) r (lines_of names counted) → IfErr r (IsFault n)
+read_cause names counted n r e = part r (gives_holds _ r _ e (all_steps names counted))
   where
-    part : (r : Result (List Line) StepFault) → Holds (AreSteps broker_of publisher_of (length counted)) r → IfErr r (IsFault n)
+    part : (r : Result (List Line) StepFault) → Holds (AreSteps names (length counted)) r → IfErr r (IsFault n)
     part (Ok x) h = tt
     part (Err f) h = any_count n f h
 

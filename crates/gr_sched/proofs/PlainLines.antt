@@ -1,5 +1,5 @@
 -- A plain line is its own line, reads as its step, and adds it
-use Rattle.std.proofs.Common.{◌≡◌, ℕ, zero, suc, ◌+◌, ◌-◌, ◌*◌, ◌^◌, ◌<◌, ◌≤◌, Bool, true, false, not, ◌&&◌, cond, nat_eq, List, [], ◌∷◌, ◌++◌, length, take, drop, get_or, Option, Some, None, Ok, Err, refl, sym, ap, subst, ◌∙◌, arith}
+use Rattle.std.proofs.Common.{◌≡◌, ℕ, zero, suc, ◌+◌, ◌-◌, ◌*◌, ◌^◌, ◌<◌, ◌≤◌, Bool, true, false, not, ◌&&◌, cond, nat_eq, List, [], ◌∷◌, ◌++◌, length, take, drop, get_or, Some, None, Ok, Err, refl, sym, ap, subst, ◌∙◌, arith}
 use Rattle.std.specs.Prelude.{◌==◌, nat_lt, nat_le, slice_index, codes, Result}
 use Rattle.std.specs.List.{list_all, position, position_or_len, AllByRecursion}
 use Rattle.std.specs.Io.BufRead.{ends_with_byte, strip_last}
@@ -16,6 +16,7 @@ use Rattle.gr_sched.specs.declared.step.Step.TheVariants.{Clock, Publish, Delive
 use Rattle.gr_sched.specs.declared.step.Line.{Line}
 use Rattle.gr_sched.specs.declared.verb.Verb.{Verb}
 use Rattle.gr_sched.specs.declared.verb.Verb.TheVariants as verb
+use Rattle.gr_sched.specs.Naming.{Naming}
 use Rattle.gr_sched.specs.Text.{is_gap, without_gaps, pieces_of, longer, line_of, is_counted, counted_after}
 use Rattle.gr_sched.specs.Words.{◌>>=◌, ended, is_digit, is_number, value_after}
 use Rattle.gr_sched.specs.Ranges.{IsInLimits}
@@ -111,19 +112,19 @@ behind_push old l (Ok lines) = ap Ok (sym (append_assoc old (l ∷ []) lines))
 behind_push old l (Err f) = refl
 
 -- a counted line that reads as a step goes behind those that were read
-pub counted_adds : (b p : List ℕ → Option ℕ) (old : List Line) (n : ℕ) (line : List ℕ) (s : Step) (more : List (ℕ × List ℕ)) → step_of b p n line ≡ Ok s
-    → behind old (lines_of b p ((n, line) ∷ more)) ≡ behind (old ++ (record { number = n; step = s }) ∷ []) (lines_of b p more)
-counted_adds b p old n line s more e =
-    ap (λ r. behind old (r >>= λ step. lines_of b p more >>= λ lines. Ok ((record { number = n; step = step }) ∷ lines))) e
-    ∙ behind_push old (record { number = n; step = s }) (lines_of b p more)
+pub counted_adds : (names : Naming) (old : List Line) (n : ℕ) (line : List ℕ) (s : Step) (more : List (ℕ × List ℕ)) → step_of names n line ≡ Ok s
+    → behind old (lines_of names ((n, line) ∷ more)) ≡ behind (old ++ (record { number = n; step = s }) ∷ []) (lines_of names more)
+counted_adds names old n line s more e =
+    ap (λ r. behind old (r >>= λ step. lines_of names more >>= λ lines. Ok ((record { number = n; step = step }) ∷ lines))) e
+    ∙ behind_push old (record { number = n; step = s }) (lines_of names more)
 
-adds_line : (b p : List ℕ → Option ℕ) (before : ℕ) (line rest : List ℕ) (old : List Line) (s : Step) → IsPlain line → ((n : ℕ) → step_of b p n line ≡ Ok s) → IsInLimits s
-    → Adds b p before (line ++ 10 ∷ rest) old 1 rest (old ++ (record { number = before + 1; step = s }) ∷ [])
-adds_line b p before line rest old s plain reads good =
+adds_line : (names : Naming) (before : ℕ) (line rest : List ℕ) (old : List Line) (s : Step) → IsPlain line → ((n : ℕ) → step_of names n line ≡ Ok s) → IsInLimits s
+    → Adds names before (line ++ 10 ∷ rest) old 1 rest (old ++ (record { number = before + 1; step = s }) ∷ [])
+adds_line names before line rest old s plain reads good =
     let l : Line = record { number = before + 1; step = s } in
     let first = counted_plain before line rest plain in
     record {
-      same = ap (λ cs. behind old (lines_of b p cs)) first ∙ counted_adds b p old (before + 1) line s (counted_after (before + 1) (pieces_of rest)) (reads (before + 1));
+      same = ap (λ cs. behind old (lines_of names cs)) first ∙ counted_adds names old (before + 1) line s (counted_after (before + 1) (pieces_of rest)) (reads (before + 1));
       all = omega (arith, ap length first, length_push old l);
       few = omega (arith, length_push old l);
       limits = λ h. all_push (λ x. IsInLimits x.step) old l h good;
@@ -168,9 +169,9 @@ record IsTail (tail : List ℕ) : Type 0 where
   ends : EndsWhole tail
   no_cr : (ends.last == 13) ≡ false
 
-word_adds : (b p : List ℕ → Option ℕ) (before : ℕ) (word tail rest : List ℕ) (old : List Line) (v : Verb) (s : Step) → IsWord word → verb_of word ≡ Some v → list_all (λ c. not (c == 10)) (word ++ 32 ∷ []) ≡ true → is_counted (word ++ 32 ∷ tail) ≡ true
-    → IsTail tail → ((n : ℕ) → step_by b p n v tail ≡ Ok s) → IsInLimits s → Adds b p before (word ++ 32 ∷ (tail ++ 10 ∷ rest)) old 1 rest (old ++ (record { number = before + 1; step = s }) ∷ [])
-word_adds b p before word tail rest old v s is_word known_as one counted t reads good =
+word_adds : (names : Naming) (before : ℕ) (word tail rest : List ℕ) (old : List Line) (v : Verb) (s : Step) → IsWord word → verb_of word ≡ Some v → list_all (λ c. not (c == 10)) (word ++ 32 ∷ []) ≡ true → is_counted (word ++ 32 ∷ tail) ≡ true
+    → IsTail tail → ((n : ℕ) → step_by names n v tail ≡ Ok s) → IsInLimits s → Adds names before (word ++ 32 ∷ (tail ++ 10 ∷ rest)) old 1 rest (old ++ (record { number = before + 1; step = s }) ∷ [])
+word_adds names before word tail rest old v s is_word known_as one counted t reads good =
     let same : (word ++ 32 ∷ []) ++ tail ≡ word ++ 32 ∷ tail = append_assoc word (32 ∷ []) tail in
     let plain : IsPlain (word ++ 32 ∷ tail) = record {
       one_line = ap (λ l. list_all (λ c. not (c == 10)) l) (sym same) ∙ both_all (λ c. not (c == 10)) (word ++ 32 ∷ []) tail one t.one_line;
@@ -178,8 +179,8 @@ word_adds b p before word tail rest old v s is_word known_as one counted t reads
       no_cr = t.no_cr;
       counted = counted;
     } in
-    subst (λ text. Adds b p before text old 1 rest (old ++ (record { number = before + 1; step = s }) ∷ [])) (append_assoc word (32 ∷ tail) (10 ∷ rest))
-    (adds_line b p before (word ++ 32 ∷ tail) rest old s plain (λ n. line_is b p n word tail v is_word known_as t.begins t.ends ∙ reads n) good)
+    subst (λ text. Adds names before text old 1 rest (old ++ (record { number = before + 1; step = s }) ∷ [])) (append_assoc word (32 ∷ tail) (10 ∷ rest))
+    (adds_line names before (word ++ 32 ∷ tail) rest old s plain (λ n. line_is names n word tail v is_word known_as t.begins t.ends ∙ reads n) good)
 
 number_tail : (m : ℕ) (ds : List ℕ) → Spells m ds → IsTail ds
 number_tail m ds h =
@@ -188,20 +189,20 @@ number_tail m ds h =
     let e = ends_past ds word.some past in
     record { one_line = past_one_line ds past; begins = word_rest ds word; ends = whole_end ds e; no_cr = no_cr_past e.last e.past }
 
-pub clock_adds : (b p : List ℕ → Option ℕ) (before : ℕ) (text rest : List ℕ) (old : List Line) (now : ℕ) → IsNumberBefore 10 text now rest
-    → Adds b p before (codes "clock " ++ text) old 1 rest (old ++ (record { number = before + 1; step = Clock now }) ∷ [])
-clock_adds b p before text rest old now h =
+pub clock_adds : (names : Naming) (before : ℕ) (text rest : List ℕ) (old : List Line) (now : ℕ) → IsNumberBefore 10 text now rest
+    → Adds names before (codes "clock " ++ text) old 1 rest (old ++ (record { number = before + 1; step = Clock now }) ∷ [])
+clock_adds names before text rest old now h =
     let spelled = number_spells 10 now text rest h in
-    subst (λ t. Adds b p before (codes "clock " ++ t) old 1 rest (old ++ (record { number = before + 1; step = Clock now }) ∷ [])) (sym h.whole)
-    (word_adds b p before (codes "clock") h.digits rest old verb.Clock (Clock now) (whole_word (codes "clock") refl (omega arith)) refl refl refl (number_tail now h.digits spelled)
+    subst (λ t. Adds names before (codes "clock " ++ t) old 1 rest (old ++ (record { number = before + 1; step = Clock now }) ∷ [])) (sym h.whole)
+    (word_adds names before (codes "clock") h.digits rest old verb.Clock (Clock now) (whole_word (codes "clock") refl (omega arith)) refl refl refl (number_tail now h.digits spelled)
     (λ n. ap (λ r. r >>= λ x. ended n x.1 (Clock x.0)) (digits_last n 0 MAX_NUMBER now h.digits spelled (omega arith) h.most)) h.most)
 
-pub deliver_adds : (b p : List ℕ → Option ℕ) (before : ℕ) (text rest : List ℕ) (old : List Line) (frame : ℕ) → IsNumberBefore 10 text frame rest
-    → Adds b p before (codes "deliver " ++ text) old 1 rest (old ++ (record { number = before + 1; step = Deliver frame }) ∷ [])
-deliver_adds b p before text rest old frame h =
+pub deliver_adds : (names : Naming) (before : ℕ) (text rest : List ℕ) (old : List Line) (frame : ℕ) → IsNumberBefore 10 text frame rest
+    → Adds names before (codes "deliver " ++ text) old 1 rest (old ++ (record { number = before + 1; step = Deliver frame }) ∷ [])
+deliver_adds names before text rest old frame h =
     let spelled = number_spells 10 frame text rest h in
-    subst (λ t. Adds b p before (codes "deliver " ++ t) old 1 rest (old ++ (record { number = before + 1; step = Deliver frame }) ∷ [])) (sym h.whole)
-    (word_adds b p before (codes "deliver") h.digits rest old verb.Deliver (Deliver frame) (whole_word (codes "deliver") refl (omega arith)) refl refl refl (number_tail frame h.digits spelled)
+    subst (λ t. Adds names before (codes "deliver " ++ t) old 1 rest (old ++ (record { number = before + 1; step = Deliver frame }) ∷ [])) (sym h.whole)
+    (word_adds names before (codes "deliver") h.digits rest old verb.Deliver (Deliver frame) (whole_word (codes "deliver") refl (omega arith)) refl refl refl (number_tail frame h.digits spelled)
     (λ n. ap (λ r. r >>= λ x. ended n x.1 (Deliver x.0)) (digits_last n 0 MAX_NUMBER frame h.digits spelled (omega arith) h.most)) tt)
 
 publish_tail : (name ds inside : List ℕ) → list_all (λ b. nat_lt 32 b) name ≡ true → IsWord name → list_all (λ b. nat_lt 32 b) ds ≡ true → list_all (λ b. not (b == 10)) (brace inside) ≡ true → IsTail (name ++ 32 ∷ (ds ++ 32 ∷ brace inside))
@@ -212,10 +213,10 @@ publish_tail name ds inside visible word past one = record {
   no_cr = refl;
 }
 
-pub publish_adds : (b p : List ℕ → Option ℕ) (before : ℕ) (text name second third object rest : List ℕ) (old : List Line) (publisher number : ℕ) (event : Event)
-    → IsNameBefore text name second → p name ≡ Some publisher → IsNumberBefore 32 second number third → 1 ≤ number → IsObjectBefore third object rest → event_text object ≡ Ok event → IsEvent event
-    → Adds b p before (codes "publish " ++ text) old 1 rest (old ++ (record { number = before + 1; step = Publish publisher number None event }) ∷ [])
-publish_adds b p before text name second third object rest old publisher number event named known_as counted least braced reads good =
+pub publish_adds : (names : Naming) (before : ℕ) (text name second third object rest : List ℕ) (old : List Line) (publisher number : ℕ) (event : Event)
+    → IsNameBefore text name second → names.publisher name ≡ Some publisher → IsNumberBefore 32 second number third → 1 ≤ number → IsObjectBefore third object rest → event_text object ≡ Ok event → IsEvent event
+    → Adds names before (codes "publish " ++ text) old 1 rest (old ++ (record { number = before + 1; step = Publish publisher number None event }) ∷ [])
+publish_adds names before text name second third object rest old publisher number event named known_as counted least braced reads good =
     let ds = counted.digits in
     let inside = braced.inside in
     let spelled = number_spells 32 number second third counted in
@@ -224,23 +225,23 @@ publish_adds b p before text name second third object rest old publisher number 
     let one : list_all (λ c. not (c == 10)) (brace inside) ≡ true = ap (λ l. list_all (λ c. not (c == 10)) l) (sym braced.braces) ∙ braced.one_line in
     let line : text ≡ tail ++ 10 ∷ rest =
     named.whole ∙ ap (λ l. name ++ 32 ∷ l) (counted.whole ∙ ap (λ l. ds ++ 32 ∷ l) (braced.whole ∙ ap (λ l. l ++ 10 ∷ rest) braced.braces) ∙ sym (append_assoc ds (32 ∷ brace inside) (10 ∷ rest))) ∙ sym (append_assoc name (32 ∷ (ds ++ 32 ∷ brace inside)) (10 ∷ rest)) in
-    subst (λ t. Adds b p before (codes "publish " ++ t) old 1 rest (old ++ (record { number = before + 1; step = Publish publisher number None event }) ∷ [])) (sym line)
-    (word_adds b p before (codes "publish") tail rest old verb.Publish (Publish publisher number None event) (whole_word (codes "publish") refl (omega arith)) refl refl refl
+    subst (λ t. Adds names before (codes "publish " ++ t) old 1 rest (old ++ (record { number = before + 1; step = Publish publisher number None event }) ∷ [])) (sym line)
+    (word_adds names before (codes "publish") tail rest old verb.Publish (Publish publisher number None event) (whole_word (codes "publish") refl (omega arith)) refl refl refl
     (publish_tail name ds inside named.visible word (digits_past ds counted.reads) one)
-    (λ n. publish_is p n name ds publisher number None event inside (record { is_word = word; known = known_as }) spelled least counted.most tt (ap event_text (sym braced.braces) ∙ reads)) good)
+    (λ n. publish_is names n name ds publisher number None event inside (record { is_word = word; known = known_as }) spelled least counted.most tt (ap event_text (sym braced.braces) ∙ reads)) good)
 
 -- behind lines that were added, a counted line more
-pub next_same : (b p : List ℕ → Option ℕ) (whole : Result (List Line) StepFault) (before n number : ℕ) (text after rest line : List ℕ) (old between new : List Line) (s : Step) → Adds b p before text old n after between
-    → counted_after (before + n) (pieces_of after) ≡ (number, line) ∷ counted_after number (pieces_of rest) → step_of b p number line ≡ Ok s → new ≡ between ++ (record { number = number; step = s }) ∷ []
-    → whole ≡ behind old (lines_of b p (counted_after before (pieces_of text))) → whole ≡ behind new (lines_of b p (counted_after number (pieces_of rest)))
-next_same b p whole before n number text after rest line old between new s adds found reads pushed same =
-    same ∙ adds.same ∙ ap (λ cs. behind between (lines_of b p cs)) found ∙ counted_adds b p between number line s (counted_after number (pieces_of rest)) reads
-    ∙ ap (λ ls. behind ls (lines_of b p (counted_after number (pieces_of rest)))) (sym pushed)
+pub next_same : (names : Naming) (whole : Result (List Line) StepFault) (before n number : ℕ) (text after rest line : List ℕ) (old between new : List Line) (s : Step) → Adds names before text old n after between
+    → counted_after (before + n) (pieces_of after) ≡ (number, line) ∷ counted_after number (pieces_of rest) → step_of names number line ≡ Ok s → new ≡ between ++ (record { number = number; step = s }) ∷ []
+    → whole ≡ behind old (lines_of names (counted_after before (pieces_of text))) → whole ≡ behind new (lines_of names (counted_after number (pieces_of rest)))
+next_same names whole before n number text after rest line old between new s adds found reads pushed same =
+    same ∙ adds.same ∙ ap (λ cs. behind between (lines_of names cs)) found ∙ counted_adds names between number line s (counted_after number (pieces_of rest)) reads
+    ∙ ap (λ ls. behind ls (lines_of names (counted_after number (pieces_of rest)))) (sym pushed)
 
-pub next_all : (b p : List ℕ → Option ℕ) (all before n number : ℕ) (text after rest line : List ℕ) (old between new : List Line) (s : Step) → Adds b p before text old n after between
+pub next_all : (names : Naming) (all before n number : ℕ) (text after rest line : List ℕ) (old between new : List Line) (s : Step) → Adds names before text old n after between
     → counted_after (before + n) (pieces_of after) ≡ (number, line) ∷ counted_after number (pieces_of rest) → new ≡ between ++ (record { number = number; step = s }) ∷ []
     → length old + length (counted_after before (pieces_of text)) ≡ all → length new + length (counted_after number (pieces_of rest)) ≡ all
-next_all b p all before n number text after rest line old between new s adds found pushed same =
+next_all names all before n number text after rest line old between new s adds found pushed same =
     let l : Line = record { number = number; step = s } in
     omega (arith, same, adds.all, ap length found, ap length pushed, length_push between l)
 

@@ -10,8 +10,9 @@ use Rattle.gr_event.specs.declared.event.Event.{Event}
 use Rattle.gr_event.specs.Json.{event_text}
 use Rattle.gr_sched.specs.declared.step.TheConstants.{MAX_NUMBER}
 use Rattle.gr_sched.specs.declared.step.Step.{Step}
-use Rattle.gr_sched.specs.declared.step.Step.TheVariants.{Clock, Publish, Wake, Deliver, Crash, Sweep, Show, Bytes}
+use Rattle.gr_sched.specs.declared.step.Step.TheVariants.{Clock, Publish, Wake, Deliver, Crash, Sweep, Show, Bytes, Join}
 use Rattle.gr_sched.specs.declared.step.Stop.{Stop}
+use Rattle.gr_sched.specs.Naming.{Naming}
 use Rattle.gr_sched.specs.Text.{is_gap, without_gaps}
 use Rattle.gr_sched.specs.Words.{◌>>=◌, trimmed, trimmed_end, first_word, after_word, next_word, ended, known, is_digit, is_number, value_after, number_in, next_number}
 use Rattle.gr_sched.specs.declared.fault.StepFault.TheVariants.{BadWord}
@@ -191,17 +192,17 @@ name_next number_of n w r x h g =
 
 -- ---- a line
 
-pub line_is : (b p : List ℕ → Option ℕ) (n : ℕ) (word rest : List ℕ) (v : Verb) → IsWord word → verb_of word ≡ Some v → without_gaps rest ≡ rest → EndsWhole rest → step_of b p n (word ++ 32 ∷ rest) ≡ step_by b p n v rest
-line_is b p n word rest v h known_as g e =
-    ap (λ t. next_word n t >>= λ w. known n (verb_of w.0) >>= λ u. step_by b p n u w.1) (trimmed_is (word ++ 32 ∷ rest) (word_begins word (32 ∷ rest) h) (ends_behind word (32 ∷ rest) (ends_behind (32 ∷ []) rest e)))
-    ∙ ap (λ r. r >>= λ w. known n (verb_of w.0) >>= λ u. step_by b p n u w.1) (next_is n word rest h g)
-    ∙ ap (λ o. known n o >>= λ u. step_by b p n u rest) known_as
+pub line_is : (names : Naming) (n : ℕ) (word rest : List ℕ) (v : Verb) → IsWord word → verb_of word ≡ Some v → without_gaps rest ≡ rest → EndsWhole rest → step_of names n (word ++ 32 ∷ rest) ≡ step_by names n v rest
+line_is names n word rest v h known_as g e =
+    ap (λ t. next_word n t >>= λ w. known n (verb_of w.0) >>= λ u. step_by names n u w.1) (trimmed_is (word ++ 32 ∷ rest) (word_begins word (32 ∷ rest) h) (ends_behind word (32 ∷ rest) (ends_behind (32 ∷ []) rest e)))
+    ∙ ap (λ r. r >>= λ w. known n (verb_of w.0) >>= λ u. step_by names n u w.1) (next_is n word rest h g)
+    ∙ ap (λ o. known n o >>= λ u. step_by names n u rest) known_as
 
-alone_is : (b p : List ℕ → Option ℕ) (n : ℕ) (word : List ℕ) (v : Verb) → IsWord word → verb_of word ≡ Some v → step_of b p n word ≡ step_by b p n v []
-alone_is b p n word v h known_as =
-    ap (λ t. next_word n t >>= λ w. known n (verb_of w.0) >>= λ u. step_by b p n u w.1) (trimmed_is word (ap without_gaps (sym (append-nil word)) ∙ word_begins word [] h ∙ append-nil word) (word_ends word h))
-    ∙ ap (λ r. r >>= λ w. known n (verb_of w.0) >>= λ u. step_by b p n u w.1) (last_is n word h)
-    ∙ ap (λ o. known n o >>= λ u. step_by b p n u []) known_as
+alone_is : (names : Naming) (n : ℕ) (word : List ℕ) (v : Verb) → IsWord word → verb_of word ≡ Some v → step_of names n word ≡ step_by names n v []
+alone_is names n word v h known_as =
+    ap (λ t. next_word n t >>= λ w. known n (verb_of w.0) >>= λ u. step_by names n u w.1) (trimmed_is word (ap without_gaps (sym (append-nil word)) ∙ word_begins word [] h ∙ append-nil word) (word_ends word h))
+    ∙ ap (λ r. r >>= λ w. known n (verb_of w.0) >>= λ u. step_by names n u w.1) (last_is n word h)
+    ∙ ap (λ o. known n o >>= λ u. step_by names n u []) known_as
 
 pub word_rest : (w : List ℕ) → IsWord w → without_gaps w ≡ w
 word_rest w h = ap without_gaps (sym (append-nil w)) ∙ word_begins w [] h ∙ append-nil w
@@ -256,12 +257,12 @@ stop_is n (Some s) inside h =
     ∙ ap (λ t. stop_of n t >>= λ x. Ok (Some x.0, x.1)) (after_is (codes "stop") rest stop_word (word_begins (decimal s.call) (32 ∷ first) call_in))
     ∙ ap (λ r. r >>= λ x. Ok (Some x.0, x.1)) read
 
-pub publish_is : (p : List ℕ → Option ℕ) (n : ℕ) (name ds : List ℕ) (publisher number : ℕ) (stop : Option Stop) (event : Event) (inside : List ℕ) → Names p name publisher → Spells number ds → 1 ≤ number → number ≤ MAX_NUMBER → IfSome stop IsStop → event_text (brace inside) ≡ Ok event
-    → publish_of p n (name ++ 32 ∷ (ds ++ 32 ∷ stop_text stop (brace inside))) ≡ Ok (Publish publisher number stop event)
-publish_is p n name ds publisher number stop event inside known_as spelled least most good reads =
+pub publish_is : (names : Naming) (n : ℕ) (name ds : List ℕ) (publisher number : ℕ) (stop : Option Stop) (event : Event) (inside : List ℕ) → Names names.publisher name publisher → Spells number ds → 1 ≤ number → number ≤ MAX_NUMBER → IfSome stop IsStop → event_text (brace inside) ≡ Ok event
+    → publish_of names n (name ++ 32 ∷ (ds ++ 32 ∷ stop_text stop (brace inside))) ≡ Ok (Publish publisher number stop event)
+publish_is names n name ds publisher number stop event inside known_as spelled least most good reads =
     let second = stop_text stop (brace inside) in
     let first = ds ++ 32 ∷ second in
-    ap (λ r. r >>= λ q. next_number n 1 MAX_NUMBER q.1 >>= λ m. next_stop n m.1 >>= λ s. event_of n s.1 >>= λ e. Ok (Publish q.0 m.0 s.0 e)) (name_next p n name first publisher known_as (word_begins ds (32 ∷ second) (digits_word number ds spelled)))
+    ap (λ r. r >>= λ q. next_number n 1 MAX_NUMBER q.1 >>= λ m. next_stop n m.1 >>= λ s. event_of n s.1 >>= λ e. Ok (Publish q.0 m.0 s.0 e)) (name_next names.publisher n name first publisher known_as (word_begins ds (32 ∷ second) (digits_word number ds spelled)))
     ∙ ap (λ r. r >>= λ m. next_stop n m.1 >>= λ s. event_of n s.1 >>= λ e. Ok (Publish publisher m.0 s.0 e)) (digits_next n 1 MAX_NUMBER number ds second spelled least most (stop_begins stop inside))
     ∙ ap (λ r. r >>= λ s. event_of n s.1 >>= λ e. Ok (Publish publisher number s.0 e)) (stop_is n stop inside good)
     ∙ ap (λ r. event_or_fault n r >>= λ e. Ok (Publish publisher number stop e)) reads
@@ -271,31 +272,37 @@ publish_is p n name ds publisher number stop event inside known_as spelled least
 pub whole_word : (w : List ℕ) → list_all (λ b. not (is_gap b)) w ≡ true → 0 < length w → IsWord w
 whole_word w h k = record { some = k; whole = h }
 
-pub reads_back : (b p : List ℕ → Option ℕ) (n : ℕ) (w : Writing) (s : Step) → IsWritten b p w s → step_of b p n (step_text w s) ≡ Ok s
-reads_back b p n w (Clock now) h =
+pub reads_back : (names : Naming) (n : ℕ) (w : Writing) (s : Step) → IsWritten names w s → step_of names n (step_text w s) ≡ Ok s
+reads_back names n w (Clock now) h =
     let word = number_word now h in
-    line_is b p n (codes "clock") (decimal now) verb.Clock (whole_word (codes "clock") refl (omega arith)) refl (word_rest (decimal now) word) (word_ends (decimal now) word)
+    line_is names n (codes "clock") (decimal now) verb.Clock (whole_word (codes "clock") refl (omega arith)) refl (word_rest (decimal now) word) (word_ends (decimal now) word)
     ∙ ap (λ r. r >>= λ x. ended n x.1 (Clock x.0)) (number_last n 0 MAX_NUMBER now (omega arith) h h)
-reads_back b p n w (Publish publisher number stop event) h =
+reads_back names n w (Publish publisher number stop event) h =
     let j = h.4 in
     let rest = decimal number ++ 32 ∷ stop_text stop (brace j.inside) in
-    ap (λ t. step_of b p n (codes "publish" ++ 32 ∷ (w.publisher publisher ++ 32 ∷ (decimal number ++ 32 ∷ stop_text stop t)))) j.braces
-    ∙ line_is b p n (codes "publish") (w.publisher publisher ++ 32 ∷ rest) verb.Publish (whole_word (codes "publish") refl (omega arith)) refl (word_begins (w.publisher publisher) (32 ∷ rest) h.0.is_word)
+    ap (λ t. step_of names n (codes "publish" ++ 32 ∷ (w.publisher publisher ++ 32 ∷ (decimal number ++ 32 ∷ stop_text stop t)))) j.braces
+    ∙ line_is names n (codes "publish") (w.publisher publisher ++ 32 ∷ rest) verb.Publish (whole_word (codes "publish") refl (omega arith)) refl (word_begins (w.publisher publisher) (32 ∷ rest) h.0.is_word)
     (ends_behind (w.publisher publisher) _ (ends_behind (32 ∷ []) _ (ends_behind (decimal number) _ (ends_behind (32 ∷ []) _ (stop_ends stop j.inside)))))
-    ∙ publish_is p n (w.publisher publisher) (decimal number) publisher number stop event j.inside h.0 (decimal_spells number h.2) h.1 h.2 h.3 (ap event_text (sym j.braces) ∙ j.reads)
-reads_back b p n w (Wake broker) h =
-    line_is b p n (codes "wake") (w.broker broker) verb.Wake (whole_word (codes "wake") refl (omega arith)) refl (word_rest (w.broker broker) h.is_word) (word_ends (w.broker broker) h.is_word)
-    ∙ ap (λ r. r >>= λ x. ended n x.1 (Wake x.0)) (name_last b n (w.broker broker) broker h)
-reads_back b p n w (Deliver frame) h =
+    ∙ publish_is names n (w.publisher publisher) (decimal number) publisher number stop event j.inside h.0 (decimal_spells number h.2) h.1 h.2 h.3 (ap event_text (sym j.braces) ∙ j.reads)
+reads_back names n w (Wake broker) h =
+    line_is names n (codes "wake") (w.broker broker) verb.Wake (whole_word (codes "wake") refl (omega arith)) refl (word_rest (w.broker broker) h.is_word) (word_ends (w.broker broker) h.is_word)
+    ∙ ap (λ r. r >>= λ x. ended n x.1 (Wake x.0)) (name_last names.broker n (w.broker broker) broker h)
+reads_back names n w (Deliver frame) h =
     let word = number_word frame h in
-    line_is b p n (codes "deliver") (decimal frame) verb.Deliver (whole_word (codes "deliver") refl (omega arith)) refl (word_rest (decimal frame) word) (word_ends (decimal frame) word)
+    line_is names n (codes "deliver") (decimal frame) verb.Deliver (whole_word (codes "deliver") refl (omega arith)) refl (word_rest (decimal frame) word) (word_ends (decimal frame) word)
     ∙ ap (λ r. r >>= λ x. ended n x.1 (Deliver x.0)) (number_last n 0 MAX_NUMBER frame (omega arith) h h)
-reads_back b p n w (Crash broker) h =
-    line_is b p n (codes "crash") (w.broker broker) verb.Crash (whole_word (codes "crash") refl (omega arith)) refl (word_rest (w.broker broker) h.is_word) (word_ends (w.broker broker) h.is_word)
-    ∙ ap (λ r. r >>= λ x. ended n x.1 (Crash x.0)) (name_last b n (w.broker broker) broker h)
-reads_back b p n w Sweep h = alone_is b p n (codes "sweep") verb.Sweep (whole_word (codes "sweep") refl (omega arith)) refl
-reads_back b p n w Show h = alone_is b p n (codes "show") verb.Show (whole_word (codes "show") refl (omega arith)) refl
-reads_back b p n w (Bytes frame) h =
+reads_back names n w (Crash broker) h =
+    line_is names n (codes "crash") (w.broker broker) verb.Crash (whole_word (codes "crash") refl (omega arith)) refl (word_rest (w.broker broker) h.is_word) (word_ends (w.broker broker) h.is_word)
+    ∙ ap (λ r. r >>= λ x. ended n x.1 (Crash x.0)) (name_last names.broker n (w.broker broker) broker h)
+reads_back names n w Sweep h = alone_is names n (codes "sweep") verb.Sweep (whole_word (codes "sweep") refl (omega arith)) refl
+reads_back names n w Show h = alone_is names n (codes "show") verb.Show (whole_word (codes "show") refl (omega arith)) refl
+reads_back names n w (Bytes frame) h =
     let word = number_word frame h in
-    line_is b p n (codes "bytes") (decimal frame) verb.Bytes (whole_word (codes "bytes") refl (omega arith)) refl (word_rest (decimal frame) word) (word_ends (decimal frame) word)
+    line_is names n (codes "bytes") (decimal frame) verb.Bytes (whole_word (codes "bytes") refl (omega arith)) refl (word_rest (decimal frame) word) (word_ends (decimal frame) word)
     ∙ ap (λ r. r >>= λ x. ended n x.1 (Bytes x.0)) (number_last n 0 MAX_NUMBER frame (omega arith) h h)
+reads_back names n w (Join subscriber publisher) h =
+    let last = w.publisher publisher in
+    line_is names n (codes "join") (w.subscriber subscriber ++ 32 ∷ last) verb.Join (whole_word (codes "join") refl (omega arith)) refl (word_begins (w.subscriber subscriber) (32 ∷ last) h.0.is_word)
+    (ends_behind (w.subscriber subscriber) _ (ends_behind (32 ∷ []) _ (word_ends last h.1.is_word)))
+    ∙ ap (λ r. r >>= λ x. next_name names.publisher n x.1 >>= λ y. ended n y.1 (Join x.0 y.0)) (name_next names.joiner n (w.subscriber subscriber) last subscriber h.0 (word_rest last h.1.is_word))
+    ∙ ap (λ r. r >>= λ y. ended n y.1 (Join subscriber y.0)) (name_last names.publisher n last publisher h.1)

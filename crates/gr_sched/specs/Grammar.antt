@@ -9,14 +9,16 @@ use Rattle.gr_sched.specs.declared.fault.StepFault.TheVariants.{BadWord, BadEven
 use Rattle.gr_sched.specs.declared.step.TheConstants.{MAX_NUMBER, MAX_STEPS}
 use Rattle.gr_sched.specs.declared.step.Step.{Step}
 use Rattle.gr_sched.specs.declared.step.Step.TheVariants.{Clock, Publish, Wake, Deliver, Crash, Sweep, Show, Bytes}
+use Rattle.gr_sched.specs.declared.step.Step.TheVariants.{Join}
 use Rattle.gr_sched.specs.declared.step.Stop.{Stop}
 use Rattle.gr_sched.specs.declared.step.Line.{Line}
 use Rattle.gr_sched.specs.declared.verb.Verb.{Verb}
 use Rattle.gr_sched.specs.declared.verb.Verb.TheVariants as verb
+use Rattle.gr_sched.specs.Naming.{Naming}
 use Rattle.gr_sched.specs.Text.{counted_lines}
 use Rattle.gr_sched.specs.Words.{◌>>=◌, trimmed, first_word, after_word, next_word, ended, known, next_number}
 
--- the eight step words
+-- the nine step words
 abbrev pub verb_of : List ℕ → Option Verb
 verb_of word =
     if bytes_eq word (codes "clock") then Some verb.Clock
@@ -27,6 +29,7 @@ verb_of word =
     else if bytes_eq word (codes "sweep") then Some verb.Sweep
     else if bytes_eq word (codes "show") then Some verb.Show
     else if bytes_eq word (codes "bytes") then Some verb.Bytes
+    else if bytes_eq word (codes "join") then Some verb.Join
     else None
 
 -- the next word as a name that is known, with what follows it
@@ -66,43 +69,47 @@ event_of n [] = Err (BadWord n)
 event_of n (b ∷ bs) = event_or_fault n (event_text (b ∷ bs))
 
 -- `P N EVENT` or `P N stop K pick J EVENT`
-abbrev pub publish_of : (List ℕ → Option ℕ) → ℕ → List ℕ → Result Step StepFault
-publish_of publisher_of n text = do
-  publisher ← next_name publisher_of n text
+abbrev pub publish_of : Naming → ℕ → List ℕ → Result Step StepFault
+publish_of names n text = do
+  publisher ← next_name names.publisher n text
   number ← next_number n 1 MAX_NUMBER publisher.1
   stop ← next_stop n number.1
   event ← event_of n stop.1
   Ok (Publish publisher.0 number.0 stop.0 event)
 
 -- what a step word asks for after it
-abbrev pub step_by : (List ℕ → Option ℕ) → (List ℕ → Option ℕ) → ℕ → Verb → List ℕ → Result Step StepFault
-step_by broker_of publisher_of n verb.Clock text = next_number n 0 MAX_NUMBER text >>= λ now.
+abbrev pub step_by : Naming → ℕ → Verb → List ℕ → Result Step StepFault
+step_by names n verb.Clock text = next_number n 0 MAX_NUMBER text >>= λ now.
     ended n now.1 (Clock now.0)
-step_by broker_of publisher_of n verb.Publish text = publish_of publisher_of n text
-step_by broker_of publisher_of n verb.Wake text = next_name broker_of n text >>= λ broker.
+step_by names n verb.Publish text = publish_of names n text
+step_by names n verb.Wake text = next_name names.broker n text >>= λ broker.
     ended n broker.1 (Wake broker.0)
-step_by broker_of publisher_of n verb.Deliver text = next_number n 0 MAX_NUMBER text >>= λ frame.
+step_by names n verb.Deliver text = next_number n 0 MAX_NUMBER text >>= λ frame.
     ended n frame.1 (Deliver frame.0)
-step_by broker_of publisher_of n verb.Crash text = next_name broker_of n text >>= λ broker.
+step_by names n verb.Crash text = next_name names.broker n text >>= λ broker.
     ended n broker.1 (Crash broker.0)
-step_by broker_of publisher_of n verb.Sweep text = ended n text Sweep
-step_by broker_of publisher_of n verb.Show text = ended n text Show
-step_by broker_of publisher_of n verb.Bytes text = next_number n 0 MAX_NUMBER text >>= λ frame.
+step_by names n verb.Sweep text = ended n text Sweep
+step_by names n verb.Show text = ended n text Show
+step_by names n verb.Bytes text = next_number n 0 MAX_NUMBER text >>= λ frame.
     ended n frame.1 (Bytes frame.0)
+step_by names n verb.Join text = do
+  subscriber ← next_name names.joiner n text
+  publisher ← next_name names.publisher n subscriber.1
+  ended n publisher.1 (Join subscriber.0 publisher.0)
 
 -- the step of line n
-abbrev pub step_of : (List ℕ → Option ℕ) → (List ℕ → Option ℕ) → ℕ → List ℕ → Result Step StepFault
-step_of broker_of publisher_of n line = do
+abbrev pub step_of : Naming → ℕ → List ℕ → Result Step StepFault
+step_of names n line = do
   word ← next_word n (trimmed line)
   verb ← known n (verb_of word.0)
-  step_by broker_of publisher_of n verb word.1
+  step_by names n verb word.1
 
 -- these lines, each with its step
-abbrev pub lines_of : (List ℕ → Option ℕ) → (List ℕ → Option ℕ) → List (ℕ × List ℕ) → Result (List Line) StepFault
-lines_of broker_of publisher_of [] = Ok []
-lines_of broker_of publisher_of (counted ∷ more) = do
-  step ← step_of broker_of publisher_of counted.0 counted.1
-  lines ← lines_of broker_of publisher_of more
+abbrev pub lines_of : Naming → List (ℕ × List ℕ) → Result (List Line) StepFault
+lines_of names [] = Ok []
+lines_of names (counted ∷ more) = do
+  step ← step_of names counted.0 counted.1
+  lines ← lines_of names more
   Ok (record { number = counted.0; step = step } ∷ lines)
 
 -- too many lines where there is one past the limit, and otherwise what reading gives
@@ -111,6 +118,6 @@ limited None read = read
 limited (Some counted) read = Err (TooMany counted.0)
 
 -- the steps of a schedule
-abbrev pub steps_of : (List ℕ → Option ℕ) → (List ℕ → Option ℕ) → List ℕ → Result (List Line) StepFault
-steps_of broker_of publisher_of bytes =
-    limited (slice_get (counted_lines bytes) MAX_STEPS) (lines_of broker_of publisher_of (counted_lines bytes))
+abbrev pub steps_of : Naming → List ℕ → Result (List Line) StepFault
+steps_of names bytes =
+    limited (slice_get (counted_lines bytes) MAX_STEPS) (lines_of names (counted_lines bytes))

@@ -1,12 +1,13 @@
 -- Lines as they mostly stand, and what reading lines from the front of a text adds to those that were read before
 use Rattle.std.specs.Prelude.{◌≡◌, ℕ, ◌+◌, ◌==◌, ◌<◌, ◌≤◌, nat_lt, true, not, List, [], ◌∷◌, ◌++◌, length}
-use Rattle.std.specs.Prelude.{Option, Result, Ok, Err}
+use Rattle.std.specs.Prelude.{Result, Ok, Err}
 use Rattle.std.specs.List.{list_all, AllByRecursion}
 use Rattle.gr_sched.specs.declared.fault.StepFault.{StepFault}
 use Rattle.gr_sched.specs.declared.step.TheConstants.{MAX_NUMBER}
 use Rattle.gr_sched.specs.declared.step.Line.{Line}
 use Rattle.gr_sched.specs.Text.{pieces_of, counted_after}
 use Rattle.gr_sched.specs.Words.{is_number, value_after}
+use Rattle.gr_sched.specs.Naming.{Naming}
 use Rattle.gr_sched.specs.Ranges.{IsInLimits}
 use Rattle.gr_sched.specs.Grammar.{lines_of}
 
@@ -37,10 +38,10 @@ behind front (Ok lines) = Ok (front ++ lines)
 behind front (Err f) = Err f
 
 -- with the lines at the front of a text read, old became new, and the rest is what is left behind n lines more
-pub record Adds (broker_of publisher_of : List ℕ → Option ℕ) (before : ℕ) (text : List ℕ) (old : List Line) (n : ℕ)
+pub record Adds (names : Naming) (before : ℕ) (text : List ℕ) (old : List Line) (n : ℕ)
     (rest : List ℕ) (new : List Line) : Type 0 where
-  pub same : behind old (lines_of broker_of publisher_of (counted_after before (pieces_of text)))
-      ≡ behind new (lines_of broker_of publisher_of (counted_after (before + n) (pieces_of rest)))
+  pub same : behind old (lines_of names (counted_after before (pieces_of text)))
+      ≡ behind new (lines_of names (counted_after (before + n) (pieces_of rest)))
   pub all : length old + length (counted_after before (pieces_of text))
       ≡ length new + length (counted_after (before + n) (pieces_of rest))
   pub few : length new ≤ length old + n

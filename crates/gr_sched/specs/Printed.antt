@@ -8,14 +8,17 @@ use Rattle.gr_event.specs.Json.{event_text}
 use Rattle.gr_sched.specs.declared.step.TheConstants.{MAX_NUMBER}
 use Rattle.gr_sched.specs.declared.step.Step.{Step}
 use Rattle.gr_sched.specs.declared.step.Step.TheVariants.{Clock, Publish, Wake, Deliver, Crash, Sweep, Show, Bytes}
+use Rattle.gr_sched.specs.declared.step.Step.TheVariants.{Join}
 use Rattle.gr_sched.specs.declared.step.Stop.{Stop}
+use Rattle.gr_sched.specs.Naming.{Naming}
 use Rattle.gr_sched.specs.Text.{is_gap}
 use Rattle.gr_sched.specs.Ranges.{IsStop}
 
--- how brokers, publishers and events are written
+-- how brokers, publishers, late subscribers and events are written
 pub record Writing : Type 0 where
   pub broker : ℕ → List ℕ
   pub publisher : ℕ → List ℕ
+  pub subscriber : ℕ → List ℕ
   pub event : Event → List ℕ
 
 -- a stop, if there is one, before what follows it
@@ -34,6 +37,8 @@ step_text w (Crash broker) = codes "crash " ++ w.broker broker
 step_text w Sweep = codes "sweep"
 step_text w Show = codes "show"
 step_text w (Bytes frame) = codes "bytes " ++ decimal frame
+step_text w (Join subscriber publisher) = codes "join "
+    ++ (w.subscriber subscriber ++ (codes " " ++ w.publisher publisher))
 
 -- some bytes, and neither a space nor a tab among them
 pub record IsWord (word : List ℕ) : Type 0 where
@@ -52,14 +57,16 @@ pub record IsEventText (text : List ℕ) (event : Event) : Type 0 where
   pub reads : event_text text ≡ Ok event
 
 -- the numbers of a step are in their ranges, and what it names is written so that it is known again
-abbrev pub IsWritten : (List ℕ → Option ℕ) → (List ℕ → Option ℕ) → Writing → Step → Type 0
-IsWritten broker_of publisher_of w (Clock now) = now ≤ MAX_NUMBER
-IsWritten broker_of publisher_of w (Publish publisher number stop event) =
-    Names publisher_of (w.publisher publisher) publisher × (1 ≤ number) × (number ≤ MAX_NUMBER) × IfSome stop IsStop
+abbrev pub IsWritten : Naming → Writing → Step → Type 0
+IsWritten names w (Clock now) = now ≤ MAX_NUMBER
+IsWritten names w (Publish publisher number stop event) =
+    Names names.publisher (w.publisher publisher) publisher × (1 ≤ number) × (number ≤ MAX_NUMBER) × IfSome stop IsStop
     × IsEventText (w.event event) event
-IsWritten broker_of publisher_of w (Wake broker) = Names broker_of (w.broker broker) broker
-IsWritten broker_of publisher_of w (Deliver frame) = frame ≤ MAX_NUMBER
-IsWritten broker_of publisher_of w (Crash broker) = Names broker_of (w.broker broker) broker
-IsWritten broker_of publisher_of w Sweep = Unit {0}
-IsWritten broker_of publisher_of w Show = Unit {0}
-IsWritten broker_of publisher_of w (Bytes frame) = frame ≤ MAX_NUMBER
+IsWritten names w (Wake broker) = Names names.broker (w.broker broker) broker
+IsWritten names w (Deliver frame) = frame ≤ MAX_NUMBER
+IsWritten names w (Crash broker) = Names names.broker (w.broker broker) broker
+IsWritten names w Sweep = Unit {0}
+IsWritten names w Show = Unit {0}
+IsWritten names w (Bytes frame) = frame ≤ MAX_NUMBER
+IsWritten names w (Join subscriber publisher) =
+    Names names.joiner (w.subscriber subscriber) subscriber × Names names.publisher (w.publisher publisher) publisher

@@ -7,7 +7,9 @@ use Rattle.gr_sched.specs.declared.fault.StepFault.TheVariants.{BadEvent, TooMan
 use Rattle.gr_sched.specs.declared.step.TheConstants.{MAX_NUMBER, MAX_STEPS}
 use Rattle.gr_sched.specs.declared.step.Step.{Step}
 use Rattle.gr_sched.specs.declared.step.Step.TheVariants.{Clock, Publish, Wake, Deliver, Crash, Sweep, Show, Bytes}
+use Rattle.gr_sched.specs.declared.step.Step.TheVariants.{Join}
 use Rattle.gr_sched.specs.declared.step.Stop.{Stop}
+use Rattle.gr_sched.specs.Naming.{Naming}
 
 -- the number of a name
 abbrev pub IsNamed : (List ℕ → Option ℕ) → ℕ → Type 0
@@ -18,16 +20,17 @@ abbrev pub IsStop : Stop → Type 0
 IsStop stop = (1 ≤ stop.call) × (stop.call ≤ 4) × (stop.pick ≤ 255)
 
 -- a step whose numbers are in their ranges, whose event is within the limits of events, and whose names are known
-abbrev pub IsStep : (List ℕ → Option ℕ) → (List ℕ → Option ℕ) → Step → Type 0
-IsStep broker_of publisher_of (Clock now) = now ≤ MAX_NUMBER
-IsStep broker_of publisher_of (Publish publisher number stop event) =
-    IsNamed publisher_of publisher × (1 ≤ number) × (number ≤ MAX_NUMBER) × IfSome stop IsStop × IsEvent event
-IsStep broker_of publisher_of (Wake broker) = IsNamed broker_of broker
-IsStep broker_of publisher_of (Deliver frame) = frame ≤ MAX_NUMBER
-IsStep broker_of publisher_of (Crash broker) = IsNamed broker_of broker
-IsStep broker_of publisher_of Sweep = Unit {0}
-IsStep broker_of publisher_of Show = Unit {0}
-IsStep broker_of publisher_of (Bytes frame) = frame ≤ MAX_NUMBER
+abbrev pub IsStep : Naming → Step → Type 0
+IsStep names (Clock now) = now ≤ MAX_NUMBER
+IsStep names (Publish publisher number stop event) =
+    IsNamed names.publisher publisher × (1 ≤ number) × (number ≤ MAX_NUMBER) × IfSome stop IsStop × IsEvent event
+IsStep names (Wake broker) = IsNamed names.broker broker
+IsStep names (Deliver frame) = frame ≤ MAX_NUMBER
+IsStep names (Crash broker) = IsNamed names.broker broker
+IsStep names Sweep = Unit {0}
+IsStep names Show = Unit {0}
+IsStep names (Bytes frame) = frame ≤ MAX_NUMBER
+IsStep names (Join subscriber publisher) = IsNamed names.joiner subscriber × IsNamed names.publisher publisher
 
 -- a moment is not past the greatest, and a published event is within the limits of events
 abbrev pub IsInLimits : Step → Type 0

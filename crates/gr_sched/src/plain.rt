@@ -3,9 +3,10 @@
 //! Such lines are walked once, byte by byte, with no search for their ends before. Nothing is said of other lines: of
 //! those the answer is none, and they are read word by word.
 
-ghost use Rattle.std.specs.Prelude.{◌≡◌, ℕ, ◌+◌, ◌<◌, ◌≤◌, ◌^◌, ◌++◌, List, Option, codes, length};
+ghost use Rattle.std.specs.Prelude.{◌≡◌, ◌+◌, ◌<◌, ◌≤◌, ◌^◌, ◌++◌, codes, length};
 ghost use Rattle.std.specs.Prelude.{IfOk, IfSome, MatchOption};
 ghost use Rattle.gr_sched.specs.declared.step.TheConstants.{MAX_STEPS};
+ghost use Rattle.gr_sched.specs.Naming.{Naming};
 ghost use Rattle.gr_sched.specs.Plain.{IsNumberBefore, IsNameBefore, IsObjectBefore, Adds};
 
 use crate::step::{Line, MAX_STEPS, Names, Step, Steps};
@@ -26,7 +27,7 @@ pub(crate) fn push_lines<'a, N: Names>(
     found: &mut Steps,
 ) -> Result<(u64, &'a [u8]), AllocError>
     requires { before + length text.now < 2 ^ 32 }
-    ensures adds { IfOk result (λ r. Adds (N.broker_of names.now) (N.publisher_of names.now) before text.now found.old
+    ensures adds { IfOk result (λ r. Adds (N.naming names.now) before text.now found.old
         r.0 r.1.now found.new) }
     ensures few { IfOk result (λ r. length found.old ≤ MAX_STEPS → length found.new ≤ MAX_STEPS) }
 {
@@ -53,7 +54,7 @@ fn push_line<'a, N: Names>(
 ) -> Result<Option<&'a [u8]>, AllocError>
     requires { before + 1 < 2 ^ 32 }
     ensures { IfOk result (λ r. MatchOption r (found.new ≡ found.old) (λ rest.
-        Adds (N.broker_of names.now) (N.publisher_of names.now) before text.now found.old 1 rest.now found.new)) }
+        Adds (N.naming names.now) before text.now found.old 1 rest.now found.new)) }
 {
     match text {
         [b'c', b'l', b'o', b'c', b'k', b' ', words @ ..] => push_clock(before, words, found),
@@ -76,8 +77,8 @@ fn push_clock<'a>(
 ) -> Result<Option<&'a [u8]>, AllocError>
     requires { before + 1 < 2 ^ 32 }
     ensures { IfOk result (λ r. MatchOption r (found.new ≡ found.old) (λ rest.
-        (broker_of publisher_of : List ℕ → Option ℕ)
-        → Adds broker_of publisher_of before (codes "clock " ++ text.now) found.old 1 rest.now found.new)) }
+        (naming : Naming)
+        → Adds naming before (codes "clock " ++ text.now) found.old 1 rest.now found.new)) }
 {
     let Some((now, rest)) = number_before(b'\n', text) else {
         return Ok(None);
@@ -98,8 +99,8 @@ fn push_deliver<'a>(
 ) -> Result<Option<&'a [u8]>, AllocError>
     requires { before + 1 < 2 ^ 32 }
     ensures { IfOk result (λ r. MatchOption r (found.new ≡ found.old) (λ rest.
-        (broker_of publisher_of : List ℕ → Option ℕ)
-        → Adds broker_of publisher_of before (codes "deliver " ++ text.now) found.old 1 rest.now found.new)) }
+        (naming : Naming)
+        → Adds naming before (codes "deliver " ++ text.now) found.old 1 rest.now found.new)) }
 {
     let Some((frame, rest)) = number_before(b'\n', text) else {
         return Ok(None);
@@ -121,7 +122,7 @@ fn push_publish<'a, N: Names>(
 ) -> Result<Option<&'a [u8]>, AllocError>
     requires { before + 1 < 2 ^ 32 }
     ensures { IfOk result (λ r. MatchOption r (found.new ≡ found.old) (λ rest.
-        Adds (N.broker_of names.now) (N.publisher_of names.now) before (codes "publish " ++ text.now) found.old 1
+        Adds (N.naming names.now) before (codes "publish " ++ text.now) found.old 1
         rest.now found.new)) }
 {
     let Some((name, behind)) = name_before(text) else {

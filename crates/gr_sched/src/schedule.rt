@@ -6,6 +6,7 @@ ghost use Rattle.std.specs.List.{All, AllByRecursion, slice_get};
 ghost use Rattle.std.specs.Option.{option_map};
 ghost use Rattle.gr_sched.specs.declared.step.TheConstants.{MAX_INPUT_BYTES, MAX_STEPS};
 ghost use Rattle.gr_sched.specs.declared.fault.StepFault.TheVariants.{TooMany};
+ghost use Rattle.gr_sched.specs.declared.verb.Verb.TheVariants as verb;
 ghost use Rattle.gr_sched.specs.Text.{counted_lines};
 ghost use Rattle.gr_sched.specs.Words.{Gives, ended, first_word, known, next_word};
 ghost use Rattle.gr_sched.specs.Ranges.{IsStep, IsInLimits, IsFault};
@@ -39,7 +40,7 @@ fn next_broker<'a, N: Names>(
     text: &'a [u8],
     names: &N,
 ) -> Result<(u16, &'a [u8]), StepFault>
-    ensures { Gives (λ r. (r.0, r.1.now)) result (next_name (N.broker_of names.now) line text.now) }
+    ensures { Gives (λ r. (r.0, r.1.now)) result (next_name (N.naming names.now).broker line text.now) }
 {
     let (word, rest) = next_word(line, text)?;
     match names.broker(word) {
@@ -54,11 +55,26 @@ fn next_publisher<'a, N: Names>(
     text: &'a [u8],
     names: &N,
 ) -> Result<(u16, &'a [u8]), StepFault>
-    ensures { Gives (λ r. (r.0, r.1.now)) result (next_name (N.publisher_of names.now) line text.now) }
+    ensures { Gives (λ r. (r.0, r.1.now)) result (next_name (N.naming names.now).publisher line text.now) }
 {
     let (word, rest) = next_word(line, text)?;
     match names.publisher(word) {
         Some(publisher) => Ok((publisher, rest)),
+        None => Err(StepFault::BadWord { line }),
+    }
+}
+
+/// The next word of line `line` as the name of a late subscriber, and what follows it.
+fn next_subscriber<'a, N: Names>(
+    line: u32,
+    text: &'a [u8],
+    names: &N,
+) -> Result<(u16, &'a [u8]), StepFault>
+    ensures { Gives (λ r. (r.0, r.1.now)) result (next_name (N.naming names.now).joiner line text.now) }
+{
+    let (word, rest) = next_word(line, text)?;
+    match names.subscriber(word) {
+        Some(subscriber) => Ok((subscriber, rest)),
         None => Err(StepFault::BadWord { line }),
     }
 }
@@ -125,7 +141,7 @@ fn event_of(alloc: Global, line: u32, text: &[u8]) -> Result<Event, StepFault>
 
 /// The publish of line `line` behind its word.
 fn publish_of<N: Names>(alloc: Global, line: u32, text: &[u8], names: &N) -> Result<Step, StepFault>
-    ensures gives { Gives (λ s. s) result (publish_of (N.publisher_of names.now) line text.now) }
+    ensures gives { Gives (λ s. s) result (publish_of (N.naming names.now) line text.now) }
     ensures limits { IfOk result IsInLimits }
 {
     let (publisher, rest) = next_publisher(line, text, names)?;
@@ -140,6 +156,23 @@ fn publish_of<N: Names>(alloc: Global, line: u32, text: &[u8], names: &N) -> Res
     })
 }
 
+/// The join of line `line` behind its word.
+fn join_of<N: Names>(line: u32, text: &[u8], names: &N) -> Result<Step, StepFault>
+    ensures gives { Gives (λ s. s) result (step_by (N.naming names.now) line verb.Join text.now) }
+    ensures limits { IfOk result IsInLimits }
+{
+    let (subscriber, rest) = next_subscriber(line, text, names)?;
+    let (publisher, rest) = next_publisher(line, rest, names)?;
+    ended(
+        line,
+        rest,
+        Step::Join {
+            subscriber,
+            publisher,
+        },
+    )
+}
+
 /// The step of line `line` behind its word.
 fn step_by<N: Names>(
     alloc: Global,
@@ -149,7 +182,7 @@ fn step_by<N: Names>(
     names: &N,
 ) -> Result<Step, StepFault>
     ensures gives { Gives (λ s.
-        s) result (step_by (N.broker_of names.now) (N.publisher_of names.now) line verb text.now) }
+        s) result (step_by (N.naming names.now) line verb text.now) }
     ensures limits { IfOk result IsInLimits }
 {
     match verb {
@@ -176,12 +209,13 @@ fn step_by<N: Names>(
             let (frame, rest) = next_number(line, 0, MAX_NUMBER, text)?;
             ended(line, rest, Step::Bytes { frame })
         }
+        Verb::Join => join_of(line, text, names),
     }
 }
 
 /// The step of line `number`.
 fn step_of<N: Names>(alloc: Global, number: u32, line: &[u8], names: &N) -> Result<Step, StepFault>
-    ensures gives { Gives (λ s. s) result (step_of (N.broker_of names.now) (N.publisher_of names.now) number line.now) }
+    ensures gives { Gives (λ s. s) result (step_of (N.naming names.now) number line.now) }
     ensures limits { IfOk result IsInLimits }
 {
     let (word, rest) = next_word(number, trimmed(line))?;
@@ -215,7 +249,7 @@ fn past_limit(steps: &[u8]) -> Option<u64>
 fn read_lines<N: Names>(alloc: Global, steps: &[u8], names: &N) -> Result<Steps, StepFault>
     requires { length steps.now ≤ MAX_INPUT_BYTES }
     ensures gives { let counted = counted_lines steps.now in length counted ≤ MAX_STEPS
-        → Gives (λ s. s) result (lines_of (N.broker_of names.now) (N.publisher_of names.now) counted) }
+        → Gives (λ s. s) result (lines_of (N.naming names.now) counted) }
     ensures few { IfOk result (λ _. length (counted_lines steps.now) ≤ MAX_STEPS) }
     ensures limits { IfOk result (λ s. AllByRecursion (λ line. IsInLimits line.step) s) }
 {
@@ -249,9 +283,9 @@ fn read_lines<N: Names>(alloc: Global, steps: &[u8], names: &N) -> Result<Steps,
 /// reading ends with a fault, so that where all is well each line is walked once.
 pub fn parse<N: Names>(alloc: Global, steps: &[u8], names: &N) -> Result<Steps, StepFault>
     requires { length steps.now ≤ MAX_INPUT_BYTES }
-    ensures steps { Gives (λ s. s) result (steps_of (N.broker_of names.now) (N.publisher_of names.now) steps.now) }
+    ensures steps { Gives (λ s. s) result (steps_of (N.naming names.now) steps.now) }
     // Every step has its numbers in their ranges, an event within its limits, and names that are known.
-    ensures range { let is_step = IsStep (N.broker_of names.now) (N.publisher_of names.now) in
+    ensures range { let is_step = IsStep (N.naming names.now) in
         IfOk result (λ s. All (λ line. is_step line.step) s) }
     ensures limits { IfOk result (λ s. AllByRecursion (λ line. IsInLimits line.step) s) }
     ensures all { IfOk result (λ s. length s ≡ length (counted_lines steps.now)) }

@@ -24,7 +24,7 @@ pub struct Stop {
     pub pick: u8,
 }
 
-/// One step of a schedule. Brokers and publishers are numbers; moments are milliseconds.
+/// One step of a schedule. Brokers, publishers and subscribers are numbers; moments are milliseconds.
 #[derive(Drop)]
 pub enum Step {
     /// The clock is set to a moment.
@@ -66,6 +66,13 @@ pub enum Step {
     Bytes {
         /// The frame's number, at most `MAX_NUMBER`.
         frame: u64,
+    },
+    /// A late subscriber joins a publisher: from then on it wants the publisher's events.
+    Join {
+        /// Which subscriber.
+        subscriber: u16,
+        /// Which publisher.
+        publisher: u16,
     },
 }
 
@@ -130,19 +137,21 @@ impl Steps {
 
 /// The names that a schedule may use.
 pub trait Names {
-    ghost use Rattle.std.specs.Prelude.{◌≡◌, ℕ, List, Option};
+    ghost use Rattle.std.specs.Prelude.{◌≡◌};
+    ghost use Rattle.gr_sched.specs.Naming.{Naming};
 
-    /// The number of a broker by its name.
-    ghost broker_of: { Self → List ℕ → Option ℕ };
-
-    /// The number of a publisher by its name.
-    ghost publisher_of: { Self → List ℕ → Option ℕ };
+    /// The numbers of brokers, of publishers and of late subscribers by their names.
+    ghost naming: { Self → Naming };
 
     /// The broker of this name, or None where there is none.
     fn broker(&self, name: &[u8]) -> Option<u16>
-        ensures { result ≡ broker_of self.now name.now };
+        ensures { result ≡ (naming self.now).broker name.now };
 
     /// The publisher of this name, or None where there is none.
     fn publisher(&self, name: &[u8]) -> Option<u16>
-        ensures { result ≡ publisher_of self.now name.now };
+        ensures { result ≡ (naming self.now).publisher name.now };
+
+    /// The late subscriber of this name, or None where there is none: no other subscriber can join.
+    fn subscriber(&self, name: &[u8]) -> Option<u16>
+        ensures { result ≡ (naming self.now).joiner name.now };
 }

@@ -22,6 +22,8 @@ pub enum Verb {
     Show,
     /// `bytes`
     Bytes,
+    /// `join`
+    Join,
 }
 
 /// The step word that this is, if it is one.
@@ -37,6 +39,7 @@ pub fn verb_of(word: &[u8]) -> Option<Verb>
         b"sweep" => Some(Verb::Sweep),
         b"show" => Some(Verb::Show),
         b"bytes" => Some(Verb::Bytes),
+        b"join" => Some(Verb::Join),
         _ => None,
     }
 }

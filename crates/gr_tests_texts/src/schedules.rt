@@ -12,17 +12,19 @@ use gr_tests_rows::{Stop, number, put_text, spelled};
 use std::alloc::{AllocError, Global};
 use std::fmt::Write;
 
-/// Brokers A and B-2, publishers P and stop.
+/// Brokers A and B-2, publishers P and stop, and a late subscriber T.
 struct Two;
 
 impl Names for Two {
     ghost use Rattle.std.specs.Prelude.{◌≡◌, ℕ, List, Option, Some, None, codes, bytes_eq, if◌then◌else◌};
 
-    ghost broker_of = { λ _ name. if bytes_eq name (codes "A") then Some 0 else if bytes_eq name (codes "B-2")
-        then Some 1 else None };
-
-    ghost publisher_of = { λ _ name. if bytes_eq name (codes "P") then Some 0 else if bytes_eq name (codes "stop")
-        then Some 1 else None };
+    ghost naming = { λ _. record {
+      broker = λ name. if bytes_eq name (codes "A") then Some 0 else if bytes_eq name (codes "B-2")
+          then Some 1 else None;
+      publisher = λ name. if bytes_eq name (codes "P") then Some 0 else if bytes_eq name (codes "stop")
+          then Some 1 else None;
+      joiner = λ name. if bytes_eq name (codes "T") then Some 2 else None;
+    } };
 
     fn broker(&self, name: &[u8]) -> Option<u16> {
         if name == b"A".as_slice() {
@@ -39,6 +41,14 @@ impl Names for Two {
             Some(0)
         } else if name == b"stop".as_slice() {
             Some(1)
+        } else {
+            None
+        }
+    }
+
+    fn subscriber(&self, name: &[u8]) -> Option<u16> {
+        if name == b"T".as_slice() {
+            Some(2)
         } else {
             None
         }
@@ -141,6 +151,10 @@ fn put_step(alloc: Global, step: &Step, out: &mut String) -> Result<(), AllocErr
         Step::Sweep => write!(out, "sweep"),
         Step::Show => write!(out, "show"),
         Step::Bytes { frame } => write!(out, "bytes {frame}"),
+        Step::Join {
+            subscriber,
+            publisher,
+        } => write!(out, "join {subscriber} {publisher}"),
     }
 }
 

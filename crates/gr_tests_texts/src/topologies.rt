@@ -108,12 +108,15 @@ fn put_seen(alloc: Global, topology: &Topology, names: &str, out: &mut String) -
     Ok(())
 }
 
-/// Prints the broker and the publisher that has each name.
+/// Prints the broker, the publisher and the late subscriber that has each name.
 fn put_found(topology: &Topology, names: &str, out: &mut String) -> Result<(), AllocError> {
     for name in names.split(',') {
         write!(out, "  {name}")?;
         put_number(" broker", topology.broker(name.as_bytes()), out)?;
         put_number(" publisher", topology.publisher(name.as_bytes()), out)?;
+        if let Some(subscriber) = topology.subscriber(name.as_bytes()) {
+            write!(out, " late {subscriber}")?;
+        }
         out.push('\n')?;
     }
     Ok(())
@@ -235,7 +238,7 @@ fn put_broker_name(topology: &Topology, b: u16, out: &mut String) -> Result<(), 
     Ok(())
 }
 
-/// Prints a subscriber, with its broker and its filter.
+/// Prints a subscriber, with its broker and its filter, and whether it is late.
 fn put_subscriber(
     alloc: Global,
     topology: &Topology,
@@ -250,6 +253,9 @@ fn put_subscriber(
     put_broker_name(topology, topology.at(s), out)?;
     if let Some(filter) = topology.filter(s) {
         put_filter(alloc, filter, out)?;
+    }
+    if topology.late(s) {
+        out.push_str(" late")?;
     }
     out.push('\n')
 }

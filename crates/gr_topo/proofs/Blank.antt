@@ -55,11 +55,12 @@ blank_sound = record {
   subscriber_names = record { each = (refl, tt); found = other_found };
   addressed = (tt, (tt, tt));
   reachable = (tt, tt);
-  limits = record { brokers = omega arith; publishers = omega arith; subscribers = omega arith };
+  limits = record { brokers = omega arith; publishers = omega arith; subscribers = omega arith; late = omega arith };
   hosts = refl;
   homes = refl;
   filters = refl;
-  totals = refl;
+  late_in = tt;
+  totals_in = tt;
   addresses = refl;
   clients = refl;
   host_in = λ p h. host_two p;
@@ -70,7 +71,7 @@ blank_sound = record {
 }
 
 -- a view with the parts of the blank topology is it
-pub is_blank : (bs ps ss : List (List ℕ)) (ls : List Link) (hs ms : List ℕ) (fs : List (Option Tree)) (ts : List Bool) (addresses clients : List (Option (List ℕ)))
-    → bs ≡ blank.brokers → ps ≡ blank.publishers → ss ≡ blank.subscribers → ls ≡ blank.links → hs ≡ blank.hosts → ms ≡ blank.homes → fs ≡ blank.filters → ts ≡ blank.totals → addresses ≡ blank.addresses → clients ≡ blank.clients
-    → IsSound (record { brokers = bs; publishers = ps; subscribers = ss; links = ls; hosts = hs; homes = ms; filters = fs; totals = ts; addresses = addresses; clients = clients; settings = default_values })
-is_blank bs ps ss ls hs ms fs ts addresses clients a b c d e f g h i j = rw (a, b, c, d, e, f, g, h, i, j) blank_sound
+pub is_blank : (bs ps ss : List (List ℕ)) (ls : List Link) (hs ms : List ℕ) (fs : List (Option Tree)) (late ts : List ℕ) (addresses clients : List (Option (List ℕ)))
+    → bs ≡ blank.brokers → ps ≡ blank.publishers → ss ≡ blank.subscribers → ls ≡ blank.links → hs ≡ blank.hosts → ms ≡ blank.homes → fs ≡ blank.filters → late ≡ blank.late → ts ≡ blank.totals → addresses ≡ blank.addresses → clients ≡ blank.clients
+    → IsSound (record { brokers = bs; publishers = ps; subscribers = ss; links = ls; hosts = hs; homes = ms; filters = fs; late = late; totals = ts; addresses = addresses; clients = clients; settings = default_values })
+is_blank bs ps ss ls hs ms fs late ts addresses clients a b c d e f g h i j k = rw (a, b, c, d, e, f, g, h, i, j, k) blank_sound

@@ -7,7 +7,7 @@ use Rattle.std.proofs.lemmas.List.{length_push}
 use Rattle.std.proofs.lemmas.Slice.Eq.{bytes_eq-Decides}
 use Rattle.gr_topo.specs.declared.fault.TopoFault.{TopoFault}
 use Rattle.gr_topo.specs.declared.fault.TopoFault.TheVariants.{BadName, BadAddress, Twice}
-use Rattle.gr_topo.specs.declared.limits.TheConstants.{MAX_BROKERS, MAX_PUBLISHERS, MAX_SUBSCRIBERS}
+use Rattle.gr_topo.specs.declared.limits.TheConstants.{MAX_BROKERS, MAX_PUBLISHERS, MAX_SUBSCRIBERS, MAX_LATE}
 use Rattle.gr_topo.specs.Draft.{AddressLists}
 use Rattle.gr_topo.specs.Gives.{walk, one_more}
 use Rattle.gr_topo.specs.Names.{is_name, is_address}
@@ -74,13 +74,14 @@ found_back names x h i lt =
     found_from names [] w.0 w.1 i lt ∙ ap Some place
 
 -- names that pass
-pub names_named : (brokers publishers subscribers : List (List ℕ)) (x : Unit {0}) → names_checked brokers publishers subscribers ≡ Ok x → AreNames brokers × AreNames publishers × AreNames subscribers
+pub names_named : (brokers publishers subscribers : List (List ℕ)) (late : ℕ) (x : Unit {0}) → names_checked brokers publishers subscribers late ≡ Ok x → AreNames brokers × AreNames publishers × AreNames subscribers
 unfolding names_checked
-names_named bs ps ss x h =
+names_named bs ps ss late x h =
     let one = first_gave (few MAX_BROKERS (codes "brokers") (length bs)) _ x h in
     let two = first_gave (few MAX_PUBLISHERS (codes "publisher") (length ps)) _ x one.2 in
     let three = first_gave (few MAX_SUBSCRIBERS (codes "subscriber") (length ss)) _ x two.2 in
-    let b = first_gave (good_names bs) _ x three.2 in
+    let four = first_gave (few MAX_LATE (codes "late") late) _ x three.2 in
+    let b = first_gave (good_names bs) _ x four.2 in
     let p = first_gave (good_names ps) _ x b.2 in
     let s = first_gave (good_names ss) _ x p.2 in
     let bb = first_gave (apart bs) _ x s.2 in

@@ -2,7 +2,7 @@
 use Rattle.std.proofs.Common.{ℕ, ℤ, pos, negsuc, Bool, true, false, not, List, [], ◌∷◌, ◌++◌, Option, Some, None, Result, Ok, Err, subst, cond, length}
 use Rattle.std.specs.Prelude.{IfErr, codes, bytes_eq, nat_le, ◌&&◌}
 use Rattle.std.specs.List.{zip, list_any}
-use Rattle.toml.specs.Data.{Data, string, integer, array, table, Members}
+use Rattle.toml.specs.Data.{Data, string, integer, boolean, array, table, Members}
 use Rattle.gr_filter.specs.declared.fault.FilterFault.{FilterFault}
 use Rattle.gr_filter.specs.declared.fault.FilterFault.TheVariants as filter
 use Rattle.gr_filter.specs.Grammar.{filter_text}
@@ -10,7 +10,7 @@ use Rattle.gr_filter.specs.Tree.{Tree}
 use Rattle.gr_tree.specs.Walks.{is_tree}
 use Rattle.gr_topo.specs.declared.fault.TopoFault.{TopoFault}
 use Rattle.gr_topo.specs.declared.fault.TopoFault.TheVariants as fault
-use Rattle.gr_topo.specs.declared.limits.TheConstants.{MAX_BROKERS, MAX_PUBLISHERS, MAX_SUBSCRIBERS}
+use Rattle.gr_topo.specs.declared.limits.TheConstants.{MAX_BROKERS, MAX_PUBLISHERS, MAX_SUBSCRIBERS, MAX_LATE}
 use Rattle.gr_topo.specs.declared.settings.TheConstants.{MOST_TIME, MOST_CACHE}
 use Rattle.gr_topo.specs.declared.settings.WrittenSettings.{WrittenSettings}
 use Rattle.gr_topo.specs.declared.draft.FoundEntry.{FoundEntry}
@@ -19,7 +19,7 @@ use Rattle.gr_topo.specs.Gives.{◌>>=◌, walk, one_more, each, Gives}
 use Rattle.gr_topo.specs.Names.{is_name, is_address}
 use Rattle.gr_topo.specs.Topology.{TopologyView, number_of}
 use Rattle.gr_topo.specs.Checks.{passes, few, good_name, good_names, seen_once, apart, known, number_in, numbers_in, link_in, links_in, tree_of, in_range, settings_of, filter_or_fault, filter_in, filter_beside, filters_in, good_address, address_in, addresses_of}
-use Rattle.gr_topo.specs.Shape.{text_in, integer_in, array_in, table_in, required, texts_in, two_texts, pair_in, pairs_in, no_entry, entry_key, whole_entry, entry_in, one_entry, entries_in, one_address, addresses_in, default_settings, one_setting, settings_in, no_draft, root_key, draft_in, members_list}
+use Rattle.gr_topo.specs.Shape.{text_in, integer_in, truth_in, array_in, table_in, required, texts_in, two_texts, pair_in, pairs_in, no_entry, entry_key, whole_entry, entry_in, one_entry, entries_in, one_address, addresses_in, default_settings, one_setting, settings_in, no_draft, root_key, draft_in, members_list}
 use Rattle.gr_topo.specs.Read.{names_checked, resolved_in, topology_of, draft_topology, table_topology, document_topology}
 use Rattle.gr_topo.specs.Fault.{IsRefusal}
 
@@ -56,6 +56,10 @@ integers : (key : List ℕ) (d : Data) → Safe (integer_in key d)
 integers key (integer z) = tt
 integers key _ = tt
 
+truths : (key : List ℕ) (d : Data) → Safe (truth_in key d)
+truths key (boolean b) = tt
+truths key _ = tt
+
 arrays : (key : List ℕ) (d : Data) → Safe (array_in key d)
 arrays key (array ds) = tt
 arrays key _ = tt
@@ -85,7 +89,8 @@ unfolding entry_key
 entry_keys filters found m =
     either (bytes_eq m.0 (codes "at")) _ _ (both (text_in m.0 m.1) _ (texts m.0 m.1) (λ t. tt))
     (either (bytes_eq m.0 (codes "name")) _ _ (both (text_in m.0 m.1) _ (texts m.0 m.1) (λ t. tt))
-    (either (bytes_eq m.0 (codes "filter") && filters) _ _ (both (text_in m.0 m.1) _ (texts m.0 m.1) (λ t. tt)) tt))
+    (either (bytes_eq m.0 (codes "filter") && filters) _ _ (both (text_in m.0 m.1) _ (texts m.0 m.1) (λ t. tt))
+    (either (bytes_eq m.0 (codes "late") && filters) _ _ (both (truth_in m.0 m.1) _ (truths m.0 m.1) (λ b. tt)) tt)))
 
 entries : (key : List ℕ) (filters : Bool) (d : Data) → Safe (entries_in key filters d)
 entries key filters d =
@@ -133,21 +138,22 @@ once ns =
     (walks seen_once (λ seen n. let new = not (list_any (bytes_eq n) seen) in both (passes new (fault.Twice n)) (λ u. Ok (seen ++ n ∷ [])) (tests new (fault.Twice n) tt) (λ u. tt)) [] ns)
     (λ r. tt)
 
-checked : (bs ps ss : List (List ℕ)) → Safe (names_checked bs ps ss)
+checked : (bs ps ss : List (List ℕ)) (late : ℕ) → Safe (names_checked bs ps ss late)
 unfolding names_checked
-checked bs ps ss =
+checked bs ps ss late =
     both (few MAX_BROKERS (codes "brokers") (length bs)) _ (tests (nat_le (length bs) MAX_BROKERS) (fault.TooMany (codes "brokers")) tt) (λ a.
     both (few MAX_PUBLISHERS (codes "publisher") (length ps)) _ (tests (nat_le (length ps) MAX_PUBLISHERS) (fault.TooMany (codes "publisher")) tt) (λ b.
     both (few MAX_SUBSCRIBERS (codes "subscriber") (length ss)) _ (tests (nat_le (length ss) MAX_SUBSCRIBERS) (fault.TooMany (codes "subscriber")) tt) (λ c.
+    both (few MAX_LATE (codes "late") late) _ (tests (nat_le late MAX_LATE) (fault.TooMany (codes "late")) tt) (λ l.
     both (good_names bs) _ (names bs) (λ d. both (good_names ps) _ (names ps) (λ e. both (good_names ss) _ (names ss) (λ f.
-    both (apart bs) _ (once bs) (λ g. both (apart ps) _ (once ps) (λ h. both (apart ss) _ (once ss) (λ i. tt)))))))))
+    both (apart bs) _ (once bs) (λ g. both (apart ps) _ (once ps) (λ h. both (apart ss) _ (once ss) (λ i. tt))))))))))
 
 resolved : (brokers : List (List ℕ)) (d : DraftLists) → Safe (resolved_in brokers d)
 unfolding resolved_in
 resolved brokers d =
     let one : (n : List ℕ) → Safe (number_in brokers n) = λ n. knows n (number_of brokers n) in
     let publisher : (n : List ℕ) → Safe (number_in d.publishers.names n) = λ n. knows n (number_of d.publishers.names n) in
-    both (names_checked brokers d.publishers.names d.subscribers.names) _ (checked brokers d.publishers.names d.subscribers.names) (λ a.
+    both (names_checked brokers d.publishers.names d.subscribers.names (length d.subscribers.late)) _ (checked brokers d.publishers.names d.subscribers.names (length d.subscribers.late)) (λ a.
     both (links_in brokers d.links) _ (all (link_in brokers) (λ ends. both (number_in brokers ends.0) _ (one ends.0) (λ x. both (number_in brokers ends.1) _ (one ends.1) (λ y. tt))) d.links) (λ links.
     both (numbers_in brokers d.publishers.brokers) _ (all (number_in brokers) one d.publishers.brokers) (λ hosts.
     both (numbers_in brokers d.subscribers.brokers) _ (all (number_in brokers) one d.subscribers.brokers) (λ homes.

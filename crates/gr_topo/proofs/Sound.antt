@@ -1,8 +1,8 @@
 -- What every topology that is read keeps: columns of one length, numbers of brokers, links between them, settings in range
-use Rattle.std.proofs.Common.{◌≡◌, ◌⊎◌, ℕ, ℤ, pos, negsuc, ◌+◌, ◌<◌, ◌≤◌, Bool, true, false, ◌||◌, ◌&&◌, List, [], ◌∷◌, ◌++◌, length, get_or, replicate, Option, Some, None, Result, Ok, Err, refl, sym, ap, ◌∙◌, subst, inl, inr, ⊎_elim, arith, cond}
+use Rattle.std.proofs.Common.{◌≡◌, ◌⊎◌, ℕ, ℤ, pos, negsuc, ◌+◌, ◌<◌, ◌≤◌, Bool, true, false, ◌||◌, ◌&&◌, List, [], ◌∷◌, ◌++◌, length, get_or, Option, Some, None, Result, Ok, Err, refl, sym, ap, ◌∙◌, subst, inl, inr, ⊎_elim, arith, cond}
 use Rattle.std.specs.Prelude.{nat_le, codes, bytes_eq}
-use Rattle.std.specs.List.{zip}
-use Rattle.std.proofs.lemmas.List.{get_or_append_left, get_or_push, length_push, length-replicate}
+use Rattle.std.specs.List.{zip, AllByRecursion}
+use Rattle.std.proofs.lemmas.List.{get_or_append_left, get_or_push, length_push}
 use Rattle.std.proofs.lemmas.List.Folds.{list_any-append}
 use Rattle.std.proofs.lemmas.List.Quantifiers.{position-Some}
 use Rattle.std.proofs.lemmas.Slice.Zip.{length-zip}
@@ -17,7 +17,7 @@ use Rattle.gr_topo.specs.declared.fault.TopoFault.TheVariants.{TooMany, NotTree}
 use Rattle.gr_topo.specs.Read.{names_checked, ResolvedLists, resolved_in}
 use Rattle.gr_topo.specs.declared.settings.Settings.{Settings}
 use Rattle.gr_topo.specs.declared.settings.WrittenSettings.{WrittenSettings}
-use Rattle.gr_topo.specs.Draft.{EntryLists, DraftLists, with_entry, no_entries}
+use Rattle.gr_topo.specs.Draft.{EntryLists, DraftLists, with_late, with_entry, no_entries}
 use Rattle.gr_topo.specs.Gives.{walk, one_more, each}
 use Rattle.gr_topo.specs.Columns.{AreColumns, HasColumns}
 use Rattle.gr_topo.specs.Shape.{entry_in, one_entry, entries_in, array_in, members_list, root_key, no_draft, draft_in, texts_in, pairs_in, addresses_in, settings_in}
@@ -129,7 +129,21 @@ settings_within w s h =
 -- ---- columns
 
 columns_none : AreColumns no_entries
-columns_none = record { brokers = refl; filters = refl }
+columns_none = record { brokers = refl; filters = refl; late = tt }
+
+-- places below the length stay below it, with one name more, whose place may be put behind them
+places_push : (n k : ℕ) (places : List ℕ) → n < k → AllByRecursion (λ place. place < n) places → AllByRecursion (λ place. place < k) (places ++ n ∷ [])
+places_push n k [] lt all = (lt, tt)
+places_push n k (p ∷ places) lt all = (omega (arith, lt, all.0), places_push n k places lt all.1)
+
+places_stay : (n k : ℕ) (places : List ℕ) → n < k → AllByRecursion (λ place. place < n) places → AllByRecursion (λ place. place < k) places
+places_stay n k [] lt all = tt
+places_stay n k (p ∷ places) lt all = (omega (arith, lt, all.0), places_stay n k places lt all.1)
+
+late_push : (places : List ℕ) (names : List (List ℕ)) (name : List ℕ) (late : Bool) → AllByRecursion (λ place. place < length names) places
+    → AllByRecursion (λ place. place < length (names ++ name ∷ [])) (with_late places (length names) late)
+late_push places names name true all = places_push (length names) (length (names ++ name ∷ [])) places (omega (arith, length_push names name)) all
+late_push places names name false all = places_stay (length names) (length (names ++ name ∷ [])) places (omega (arith, length_push names name)) all
 
 columns_push : (key : List ℕ) (filters : Bool) (s : EntryLists) (d : Data) (next : EntryLists) → AreColumns s → one_entry key filters s d ≡ Ok next → AreColumns next
 columns_push key filters s d next p h =
@@ -137,6 +151,7 @@ columns_push key filters s d next p h =
     subst AreColumns (ok_same _ _ w.2) (record {
       brokers = length_push s.brokers w.0.at ∙ ap (λ n. n + 1) p.brokers ∙ sym (length_push s.names w.0.name);
       filters = length_push s.filters w.0.filter ∙ ap (λ n. n + 1) p.filters ∙ sym (length_push s.names w.0.name);
+      late = late_push s.late s.names w.0.name w.0.late p.late;
     })
 
 entries_columns : (key : List ℕ) (filters : Bool) (d : Data) (e : EntryLists) → entries_in key filters d ≡ Ok e → AreColumns e
@@ -185,13 +200,14 @@ few_fits most key n x h = go (nat_le n most) refl h
     go false e k = absurd (err_ok (TooMany key) x k)
 
 -- what names that pass are
-pub names_fit : (brokers publishers subscribers : List (List ℕ)) (x : Unit {0}) → names_checked brokers publishers subscribers ≡ Ok x → (length brokers ≤ 64) × (length publishers ≤ 64) × (length subscribers ≤ 1024)
+pub names_fit : (brokers publishers subscribers : List (List ℕ)) (late : ℕ) (x : Unit {0}) → names_checked brokers publishers subscribers late ≡ Ok x → (length brokers ≤ 64) × (length publishers ≤ 64) × (length subscribers ≤ 1024) × (late ≤ 64)
 unfolding names_checked
-names_fit brokers publishers subscribers x h =
+names_fit brokers publishers subscribers late x h =
     let one = first_gave (few 64 (codes "brokers") (length brokers)) _ x h in
     let two = first_gave (few 64 (codes "publisher") (length publishers)) _ x one.2 in
     let three = first_gave (few 1024 (codes "subscriber") (length subscribers)) _ x two.2 in
-    (few_fits 64 (codes "brokers") (length brokers) one.0 one.1, few_fits 64 (codes "publisher") (length publishers) two.0 two.1, few_fits 1024 (codes "subscriber") (length subscribers) three.0 three.1)
+    let four = first_gave (few 64 (codes "late") late) _ x three.2 in
+    (few_fits 64 (codes "brokers") (length brokers) one.0 one.1, few_fits 64 (codes "publisher") (length publishers) two.0 two.1, few_fits 1024 (codes "subscriber") (length subscribers) three.0 three.1, few_fits 64 (codes "late") late four.0 four.1)
 
 a_tree : (n : ℕ) (links : List Link) (x : Unit {0}) → tree_of n links ≡ Ok x → is_tree n links ≡ true
 a_tree n links x h = go (is_tree n links) refl h
@@ -205,6 +221,7 @@ pub record IsResolved (brokers : List (List ℕ)) (d : DraftLists) (r : Resolved
   pub few_brokers : length brokers ≤ 64
   pub few_publishers : length d.publishers.names ≤ 64
   pub few_subscribers : length d.subscribers.names ≤ 1024
+  pub few_late : length d.subscribers.late ≤ 64
   pub links : IsWithin (length brokers) r.links
   pub tree : is_tree (length brokers) r.links ≡ true
   pub hosts : AllBelow (length brokers) r.hosts
@@ -215,20 +232,21 @@ pub record IsResolved (brokers : List (List ℕ)) (d : DraftLists) (r : Resolved
 pub resolved_facts : (brokers : List (List ℕ)) (d : DraftLists) (r : ResolvedLists) → resolved_in brokers d ≡ Ok r → IsResolved brokers d r
 unfolding resolved_in
 resolved_facts brokers d r h =
-    let names = first_gave (names_checked brokers d.publishers.names d.subscribers.names) _ r h in
+    let names = first_gave (names_checked brokers d.publishers.names d.subscribers.names (length d.subscribers.late)) _ r h in
     let links = first_gave (links_in brokers d.links) _ r names.2 in
     let hosts = first_gave (numbers_in brokers d.publishers.brokers) _ r links.2 in
     let homes = first_gave (numbers_in brokers d.subscribers.brokers) _ r hosts.2 in
     let addresses = first_gave (numbers_in brokers d.addresses.names) _ r homes.2 in
     let clients = first_gave (numbers_in d.publishers.names d.clients.names) _ r addresses.2 in
     let tree = first_gave (tree_of (length brokers) links.0) _ r clients.2 in
-    let fits = names_fit brokers d.publishers.names d.subscribers.names names.0 names.1 in
+    let fits = names_fit brokers d.publishers.names d.subscribers.names (length d.subscribers.late) names.0 names.1 in
     let made : ◌≡◌ {A = ResolvedLists} (record { links = links.0; hosts = hosts.0; homes = homes.0 }) r = ok_same _ _ tree.2 in
     subst (IsResolved brokers d) made (record {
-      named = names_named brokers d.publishers.names d.subscribers.names names.0 names.1;
+      named = names_named brokers d.publishers.names d.subscribers.names (length d.subscribers.late) names.0 names.1;
       few_brokers = fits.0;
       few_publishers = fits.1;
       few_subscribers = fits.2;
+      few_late = fits.3;
       links = links_within brokers d.links links.0 links.1;
       tree = a_tree (length brokers) links.0 tree.0 tree.1;
       hosts = numbers_below brokers d.publishers.brokers hosts.0 hosts.1;
@@ -238,9 +256,9 @@ resolved_facts brokers d r h =
     })
 
 -- the parts that were read fit one another
-pub read_sound : (brokers : List (List ℕ)) (d : DraftLists) (r : ResolvedLists) (s : Settings) (fs : List (Option Tree)) (ts : List Bool) (as_given clients_given : List (Option (List ℕ))) → HasColumns d → resolved_in brokers d ≡ Ok r → settings_of d.settings ≡ Ok s
-    → filters_in (zip d.subscribers.names d.subscribers.filters) ≡ Ok fs → ts ≡ replicate (length d.subscribers.names) false → addresses_of d.addresses brokers ≡ Ok as_given → addresses_of d.clients d.publishers.names ≡ Ok clients_given
-    → IsSound (record { brokers = brokers; publishers = d.publishers.names; subscribers = d.subscribers.names; links = r.links; hosts = r.hosts; homes = r.homes; filters = fs; totals = ts; addresses = as_given; clients = clients_given; settings = s })
+pub read_sound : (brokers : List (List ℕ)) (d : DraftLists) (r : ResolvedLists) (s : Settings) (fs : List (Option Tree)) (ts : List ℕ) (as_given clients_given : List (Option (List ℕ))) → HasColumns d → resolved_in brokers d ≡ Ok r → settings_of d.settings ≡ Ok s
+    → filters_in (zip d.subscribers.names d.subscribers.filters) ≡ Ok fs → ts ≡ [] → addresses_of d.addresses brokers ≡ Ok as_given → addresses_of d.clients d.publishers.names ≡ Ok clients_given
+    → IsSound (record { brokers = brokers; publishers = d.publishers.names; subscribers = d.subscribers.names; links = r.links; hosts = r.hosts; homes = r.homes; filters = fs; late = d.subscribers.late; totals = ts; addresses = as_given; clients = clients_given; settings = s })
 read_sound brokers d r s fs ts as_given clients_given cols found set filters totals addresses clients =
     let f = resolved_facts brokers d r found in
     let host_count : length r.hosts ≡ length d.publishers.names = f.host_count ∙ cols.publishers.brokers in
@@ -248,7 +266,7 @@ read_sound brokers d r s fs ts as_given clients_given cols found set filters tot
     let count = each_length filter_beside (zip d.subscribers.names d.subscribers.filters) fs filters in
     let filter_count : length fs ≡ length d.subscribers.names = omega (arith, count, length-zip d.subscribers.names d.subscribers.filters, cols.subscribers.filters) in
     record {
-      limits = record { brokers = f.few_brokers; publishers = f.few_publishers; subscribers = f.few_subscribers };
+      limits = record { brokers = f.few_brokers; publishers = f.few_publishers; subscribers = f.few_subscribers; late = f.few_late };
       broker_names = f.named.0;
       publisher_names = f.named.1;
       subscriber_names = f.named.2;
@@ -257,7 +275,8 @@ read_sound brokers d r s fs ts as_given clients_given cols found set filters tot
       hosts = host_count;
       homes = home_count;
       filters = filter_count;
-      totals = ap length totals ∙ length-replicate (length d.subscribers.names) false;
+      late_in = cols.subscribers.late;
+      totals_in = subst (AllByRecursion (λ place. place < length d.subscribers.names)) (sym totals) tt;
       addresses = each_length (address_in d.addresses) brokers as_given addresses;
       clients = each_length (address_in d.clients) d.publishers.names clients_given clients;
       host_in = λ p h. f.hosts p (omega (arith, host_count));

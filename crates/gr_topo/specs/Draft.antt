@@ -1,5 +1,5 @@
 -- What a topology part says, before its names are looked up: texts and numbers in lists
-use Rattle.std.specs.Prelude.{ℕ, List, [], ◌∷◌, ◌++◌, Option}
+use Rattle.std.specs.Prelude.{ℕ, Bool, true, false, List, [], ◌∷◌, ◌++◌, length, Option}
 use Rattle.std.specs.Option.{option_map}
 use Rattle.gr_topo.specs.declared.settings.WrittenSettings.{WrittenSettings}
 use Rattle.gr_topo.specs.declared.draft.Entry.{Entry}
@@ -7,11 +7,13 @@ use Rattle.gr_topo.specs.declared.draft.Entries.{Entries}
 use Rattle.gr_topo.specs.declared.draft.Addresses.{Addresses}
 use Rattle.gr_topo.specs.declared.draft.Draft.{Draft}
 
--- publishers or subscribers in order: their names, the names of their brokers, and the texts of their filters
+-- publishers or subscribers in order: their names, the names of their brokers, the texts of their filters, and the
+-- places of the late ones
 pub record EntryLists : Type 0 where
   pub names : List (List ℕ)
   pub brokers : List (List ℕ)
   pub filters : List (Option (List ℕ))
+  pub late : List ℕ
 
 -- addresses: names, of brokers or of publishers with clients, and the text of each
 pub record AddressLists : Type 0 where
@@ -28,10 +30,15 @@ pub record DraftLists : Type 0 where
   pub settings : WrittenSettings
 
 abbrev pub no_entries : EntryLists
-no_entries = record { names = []; brokers = []; filters = [] }
+no_entries = record { names = []; brokers = []; filters = []; late = [] }
 
 abbrev pub no_addresses : AddressLists
 no_addresses = record { names = []; texts = [] }
+
+-- one place more, if what stands there is late
+abbrev pub with_late : List ℕ → ℕ → Bool → List ℕ
+with_late places place true = places ++ place ∷ []
+with_late places place false = places
 
 -- one entry more at the end
 abbrev pub with_entry : EntryLists → Entry → EntryLists
@@ -39,6 +46,7 @@ with_entry lists e = record {
   names = lists.names ++ e.name ∷ [];
   brokers = lists.brokers ++ e.at ∷ [];
   filters = lists.filters ++ e.filter ∷ [];
+  late = with_late lists.late (length lists.names) e.late;
 }
 
 abbrev pub with_address : AddressLists → List ℕ → List ℕ → AddressLists
@@ -47,7 +55,12 @@ with_address lists name text = record { names = lists.names ++ name ∷ []; text
 -- ---- as the code holds them
 
 abbrev pub entry_lists : Entries → EntryLists
-entry_lists e = record { names = e.names.items; brokers = e.brokers.items; filters = e.filters.items }
+entry_lists e = record {
+  names = e.names.items;
+  brokers = e.brokers.items;
+  filters = e.filters.items;
+  late = e.late.items;
+}
 
 abbrev pub address_lists : Addresses → AddressLists
 address_lists a = record { names = a.names.items; texts = a.texts.items }

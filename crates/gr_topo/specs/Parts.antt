@@ -16,6 +16,7 @@ view_of t = record {
   hosts = t.hosts.items;
   homes = t.homes.items;
   filters = map (option_map filter_tree) t.filters.items;
+  late = t.late.items;
   totals = t.totals.items;
   addresses = t.addresses.items;
   clients = t.clients.items;

@@ -1,5 +1,5 @@
 -- Reading a topology: one function of the bytes, with the first refusal
-use Rattle.std.specs.Prelude.{ℕ, false, if◌then◌else◌, List, length, replicate, Option, Some, None, Result, Ok, Err}
+use Rattle.std.specs.Prelude.{ℕ, if◌then◌else◌, List, [], length, Option, Some, None, Result, Ok, Err}
 use Rattle.std.specs.Prelude.{codes}
 use Rattle.std.specs.Str.{is_utf8}
 use Rattle.std.specs.List.{zip}
@@ -7,7 +7,7 @@ use Rattle.toml.specs.Data.{Members}
 use Rattle.toml.specs.Parse.{parse_document}
 use Rattle.gr_sched.specs.Text.{is_blank}
 use Rattle.gr_tree.specs.declared.link.Link.{Link}
-use Rattle.gr_topo.specs.declared.limits.TheConstants.{MAX_BROKERS, MAX_PUBLISHERS, MAX_SUBSCRIBERS}
+use Rattle.gr_topo.specs.declared.limits.TheConstants.{MAX_BROKERS, MAX_PUBLISHERS, MAX_SUBSCRIBERS, MAX_LATE}
 use Rattle.gr_topo.specs.declared.fault.TopoFault.{TopoFault}
 use Rattle.gr_topo.specs.declared.fault.TopoFault.TheVariants.{NotToml}
 use Rattle.gr_topo.specs.Draft.{DraftLists}
@@ -17,12 +17,13 @@ use Rattle.gr_topo.specs.Topology.{TopologyView, blank}
 use Rattle.gr_topo.specs.Checks.{few, good_names, apart, numbers_in, links_in, tree_of, settings_of, filters_in}
 use Rattle.gr_topo.specs.Checks.{addresses_of}
 
--- the three lists of names: not too many, each a name, none twice
-unfoldable pub names_checked : List (List ℕ) → List (List ℕ) → List (List ℕ) → Result (Unit {0}) TopoFault
-names_checked brokers publishers subscribers = do
+-- the three lists of names: not too many, nor too many late ones, each a name, none twice
+unfoldable pub names_checked : List (List ℕ) → List (List ℕ) → List (List ℕ) → ℕ → Result (Unit {0}) TopoFault
+names_checked brokers publishers subscribers late = do
   _ ← few MAX_BROKERS (codes "brokers") (length brokers)
   _ ← few MAX_PUBLISHERS (codes "publisher") (length publishers)
   _ ← few MAX_SUBSCRIBERS (codes "subscriber") (length subscribers)
+  _ ← few MAX_LATE (codes "late") late
   _ ← good_names brokers
   _ ← good_names publishers
   _ ← good_names subscribers
@@ -40,7 +41,7 @@ pub record ResolvedLists : Type 0 where
 -- the names of a draft, tested and looked up: the links are a tree
 unfoldable pub resolved_in : List (List ℕ) → DraftLists → Result ResolvedLists TopoFault
 resolved_in brokers d = do
-  _ ← names_checked brokers d.publishers.names d.subscribers.names
+  _ ← names_checked brokers d.publishers.names d.subscribers.names (length d.subscribers.late)
   links ← links_in brokers d.links
   hosts ← numbers_in brokers d.publishers.brokers
   homes ← numbers_in brokers d.subscribers.brokers
@@ -65,7 +66,8 @@ topology_of brokers d = do
     hosts = found.hosts;
     homes = found.homes;
     filters = filters;
-    totals = replicate (length d.subscribers.names) false;
+    late = d.subscribers.late;
+    totals = [];
     addresses = addresses;
     clients = clients;
     settings = settings;

@@ -2,7 +2,8 @@
 -- another shape
 use Rattle.std.specs.Prelude.{ℕ, ℤ, pos, Bool, true, false, ◌&&◌, if◌then◌else◌, List, [], ◌∷◌, Option, Some, None}
 use Rattle.std.specs.Prelude.{Result, Ok, Err, codes, bytes_eq}
-use Rattle.toml.specs.Data.{Data, string, integer, array, table, Items, no_items, item, Members, no_members, member}
+use Rattle.toml.specs.Data.{Data, string, integer, boolean, array, table, Items, no_items, item, Members}
+use Rattle.toml.specs.Data.{no_members, member}
 use Rattle.gr_topo.specs.declared.fault.TopoFault.{TopoFault}
 use Rattle.gr_topo.specs.declared.fault.TopoFault.TheVariants.{BadKey, BadType, Missing}
 use Rattle.gr_topo.specs.declared.settings.WrittenSettings.{WrittenSettings}
@@ -31,6 +32,10 @@ text_in key _ = Err (BadType key)
 abbrev pub integer_in : List ℕ → Data → Result ℤ TopoFault
 integer_in key (integer z) = Ok z
 integer_in key _ = Err (BadType key)
+
+abbrev pub truth_in : List ℕ → Data → Result Bool TopoFault
+truth_in key (boolean b) = Ok b
+truth_in key _ = Err (BadType key)
 
 abbrev pub array_in : List ℕ → Data → Result (List Data) TopoFault
 array_in key (array ds) = Ok (items_list ds)
@@ -67,23 +72,25 @@ pairs_in key d = array_in key d >>= each (pair_in key)
 
 -- nothing was read of an entry
 abbrev pub no_entry : FoundEntry
-no_entry = record { name = None; at = None; filter = None }
+no_entry = record { name = None; at = None; filter = None; late = false }
 
--- one key of an entry: `name`, `at` and, where it may stand, `filter`
+-- one key of an entry: `name`, `at` and, where they may stand, `filter` and `late`
 unfoldable pub entry_key : Bool → FoundEntry → List ℕ × Data → Result FoundEntry TopoFault
 entry_key filters found m =
     if bytes_eq m.0 (codes "at") then (text_in m.0 m.1 >>= λ t. Ok (record found { at = Some t }))
     else (if bytes_eq m.0 (codes "name") then (text_in m.0 m.1 >>= λ t. Ok (record found { name = Some t }))
     else (if bytes_eq m.0 (codes "filter") && filters
     then (text_in m.0 m.1 >>= λ t. Ok (record found { filter = Some t }))
-    else Err (BadKey m.0)))
+    else (if bytes_eq m.0 (codes "late") && filters
+    then (truth_in m.0 m.1 >>= λ b. Ok (record found { late = b }))
+    else Err (BadKey m.0))))
 
 -- `name` and `at` are required
 abbrev pub whole_entry : FoundEntry → Result Entry TopoFault
 whole_entry found = do
   name ← required (codes "name") found.name
   at ← required (codes "at") found.at
-  Ok (record { name = name; at = at; filter = found.filter })
+  Ok (record { name = name; at = at; filter = found.filter; late = found.late })
 
 abbrev pub entry_in : List ℕ → Bool → Data → Result Entry TopoFault
 entry_in key filters d = do

@@ -1,20 +1,21 @@
 -- A topology as callers see it.
 use Rattle.std.specs.Prelude.{◌≡◌, ℕ, ◌<◌, ◌≤◌, Bool, true, false, not, ◌&&◌, ◌||◌, nat_eq, List, [], ◌∷◌, length}
-use Rattle.std.specs.Prelude.{filter, Option, Some, None, bytes_eq, codes, slice_index, slice_index_or}
+use Rattle.std.specs.Prelude.{filter, Option, Some, None, bytes_eq, codes, slice_index, slice_index_or, if◌then◌else◌}
 use Rattle.std.specs.List.{AllByRecursion, position, list_any}
 use Rattle.gr_event.specs.declared.event.Event.{Event}
 use Rattle.gr_filter.specs.Tree.{Tree}
 use Rattle.gr_filter.specs.Truth.{matches}
+use Rattle.gr_sched.specs.Naming.{Naming}
 use Rattle.gr_tree.specs.declared.link.Link.{Link}
 use Rattle.gr_tree.specs.Walks.{numbers, is_linked, IsWithin, is_tree, distance, up_of, path_of, IsRooted, HasOnlyPaths}
 use Rattle.gr_topo.specs.Names.{is_name, is_address}
-use Rattle.gr_topo.specs.declared.limits.TheConstants.{MAX_BROKERS, MAX_PUBLISHERS, MAX_SUBSCRIBERS}
+use Rattle.gr_topo.specs.declared.limits.TheConstants.{MAX_BROKERS, MAX_PUBLISHERS, MAX_SUBSCRIBERS, MAX_LATE}
 use Rattle.gr_topo.specs.declared.settings.TheConstants.{MOST_TIME, MOST_CACHE}
 use Rattle.gr_topo.specs.declared.settings.Settings.{Settings}
 
 -- Brokers, publishers and subscribers by their numbers, from 0: the names of each; the links between brokers; the
--- brokers of publishers and of subscribers; the filters of subscribers, and which of them get one list over all
--- publishers; the addresses of brokers and those of the clients of publishers, where there are any; the settings.
+-- brokers of publishers and of subscribers; the filters of subscribers, the late ones, in order, and which of them get
+-- one list over all publishers; the addresses of brokers and those of the clients of publishers, where there are any; the settings.
 pub record TopologyView : Type 0 where
   pub brokers : List (List ℕ)
   pub publishers : List (List ℕ)
@@ -23,7 +24,8 @@ pub record TopologyView : Type 0 where
   pub hosts : List ℕ
   pub homes : List ℕ
   pub filters : List (Option Tree)
-  pub totals : List Bool
+  pub late : List ℕ
+  pub totals : List ℕ
   pub addresses : List (Option (List ℕ))
   pub clients : List (Option (List ℕ))
   pub settings : Settings
@@ -33,6 +35,7 @@ pub record IsWithinLimits (t : TopologyView) : Type 0 where
   pub brokers : length t.brokers ≤ MAX_BROKERS
   pub publishers : length t.publishers ≤ MAX_PUBLISHERS
   pub subscribers : length t.subscribers ≤ MAX_SUBSCRIBERS
+  pub late : length t.late ≤ MAX_LATE
 
 -- the name of this number
 abbrev pub name_at : List (List ℕ) → ℕ → List ℕ
@@ -59,7 +62,7 @@ filter_of t s = slice_index_or t.filters s None
 
 -- whether a subscriber gets one list over all publishers
 abbrev pub total_of : TopologyView → ℕ → Bool
-total_of t s = slice_index_or t.totals s false
+total_of t s = list_any (λ x. nat_eq x s) t.totals
 
 -- the subscribers that get one, rising
 abbrev pub totals_of : TopologyView → List ℕ
@@ -79,6 +82,23 @@ passes_filter (Some tree) e = matches tree e
 
 abbrev pub wants : TopologyView → ℕ → Event → Bool
 wants t s e = passes_filter (filter_of t s) e
+
+-- a subscriber that wants nothing of a publisher before it joins it
+abbrev pub late_of : TopologyView → ℕ → Bool
+late_of t s = list_any (λ x. nat_eq x s) t.late
+
+-- the late subscriber of a number
+abbrev pub if_late : TopologyView → Option ℕ → Option ℕ
+if_late t None = None
+if_late t (Some s) = if late_of t s then Some s else None
+
+-- the number of a late subscriber's name
+abbrev pub joiner_of : TopologyView → List ℕ → Option ℕ
+joiner_of t name = if_late t (number_of t.subscribers name)
+
+-- how the names of a schedule are known
+abbrev pub naming_of : TopologyView → Naming
+naming_of t = record { broker = number_of t.brokers; publisher = number_of t.publishers; joiner = joiner_of t }
 
 -- ---- the tree, seen from the host of a publisher
 
@@ -159,7 +179,8 @@ pub record IsSound (t : TopologyView) : Type 0 where
   pub hosts : length t.hosts ≡ length t.publishers
   pub homes : length t.homes ≡ length t.subscribers
   pub filters : length t.filters ≡ length t.subscribers
-  pub totals : length t.totals ≡ length t.subscribers
+  pub late_in : AllByRecursion (λ s. s < length t.subscribers) t.late
+  pub totals_in : AllByRecursion (λ s. s < length t.subscribers) t.totals
   pub addresses : length t.addresses ≡ length t.brokers
   pub clients : length t.clients ≡ length t.publishers
   pub host_in : (p : ℕ) → p < length t.publishers → host_of t p < size t
@@ -189,7 +210,8 @@ blank = record {
   hosts = 0 ∷ [];
   homes = 1 ∷ [];
   filters = None ∷ [];
-  totals = false ∷ [];
+  late = [];
+  totals = [];
   addresses = None ∷ None ∷ [];
   clients = None ∷ [];
   settings = default_values;

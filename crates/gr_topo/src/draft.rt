@@ -13,9 +13,11 @@ pub(crate) struct FoundEntry {
     pub at: Option<Text>,
     /// The text of its filter, once that is read.
     pub filter: Option<Text>,
+    /// Whether it is late; false until that is read.
+    pub late: bool,
 }
 
-/// A publisher or subscriber: its name, the name of its broker, and the text of its filter, if any.
+/// A publisher or subscriber: its name, the name of its broker, the text of its filter, if any, and whether it is late.
 #[derive(Drop)]
 pub(crate) struct Entry {
     /// Its name.
@@ -24,6 +26,8 @@ pub(crate) struct Entry {
     pub at: Text,
     /// The text of its filter. A publisher has none.
     pub filter: Option<Text>,
+    /// Whether it is late. No publisher is.
+    pub late: bool,
 }
 
 /// Publishers or subscribers in order, column by column.
@@ -35,6 +39,8 @@ pub(crate) struct Entries {
     pub brokers: Vec<Text>,
     /// The texts of their filters, if any.
     pub filters: Vec<Option<Text>>,
+    /// The places of the late ones.
+    pub late: Vec<usize>,
 }
 
 /// Addresses in the byte order of the names: of brokers, or of publishers with clients.

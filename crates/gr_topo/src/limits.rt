@@ -1,7 +1,8 @@
 //! The limits of topologies. The function here does nothing: its contract says each number.
 
 ghost use Rattle.std.specs.Prelude.{◌≡◌};
-ghost use Rattle.gr_topo.specs.declared.limits.TheConstants.{MAX_BROKERS, MAX_PUBLISHERS, MAX_SUBSCRIBERS, MAX_NAME};
+ghost use Rattle.gr_topo.specs.declared.limits.TheConstants.{MAX_BROKERS, MAX_PUBLISHERS, MAX_SUBSCRIBERS, MAX_LATE};
+ghost use Rattle.gr_topo.specs.declared.limits.TheConstants.{MAX_NAME};
 ghost use Rattle.gr_topo.specs.declared.settings.TheConstants.{MOST_TIME, MOST_CACHE};
 ghost use Rattle.gr_topo.specs.Topology.{default_values};
 
@@ -14,6 +15,9 @@ pub const MAX_PUBLISHERS: usize = 64;
 /// How many subscribers a topology has at most.
 pub const MAX_SUBSCRIBERS: usize = 1_024;
 
+/// How many late subscribers a topology has at most.
+pub const MAX_LATE: usize = 64;
+
 /// How many bytes a name has at most.
 pub const MAX_NAME: usize = 64;
 
@@ -22,6 +26,7 @@ pub fn limits_of_topologies()
     ensures brokers { MAX_BROKERS ≡ 64 }
     ensures publishers { MAX_PUBLISHERS ≡ 64 }
     ensures subscribers { MAX_SUBSCRIBERS ≡ 1024 }
+    ensures late { MAX_LATE ≡ 64 }
     ensures name { MAX_NAME ≡ 64 }
     ensures time { MOST_TIME ≡ 1000000000 }
     ensures cache { MOST_CACHE ≡ 1000000 }

@@ -6,7 +6,7 @@ ghost use Rattle.gr_topo.specs.Topology.{number_of};
 ghost use Rattle.gr_topo.specs.Gives.{Gives, walk, each};
 ghost use Rattle.gr_topo.specs.Checks.{few, is_name_byte, is_name, good_names, apart, number_in, numbers_in, link_in};
 ghost use Rattle.gr_topo.specs.Checks.{links_in};
-ghost use Rattle.gr_topo.specs.declared.limits.TheConstants.{MAX_BROKERS};
+ghost use Rattle.gr_topo.specs.declared.limits.TheConstants.{MAX_BROKERS, MAX_SUBSCRIBERS};
 
 use crate::fault::TopoFault;
 use crate::limits::MAX_NAME;
@@ -17,7 +17,7 @@ use std::alloc::Global;
 
 /// The number of a name.
 pub(crate) fn position_of(names: &[Text], name: &[u8]) -> Option<u16>
-    requires { length names.now ≤ MAX_BROKERS }
+    requires { length names.now ≤ MAX_SUBSCRIBERS }
     ensures { result ≡ number_of names.now name.now }
 {
     match place_of(names, name) {

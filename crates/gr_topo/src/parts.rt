@@ -22,8 +22,10 @@ pub(crate) struct Parts {
     pub homes: Vec<u16>,
     /// The filters of the subscribers; one without a filter wants every event.
     pub filters: Vec<Option<Filter>>,
-    /// Which subscribers get one list over all publishers.
-    pub totals: Vec<bool>,
+    /// The late subscribers, in order.
+    pub late: Vec<usize>,
+    /// The subscribers that get one list over all publishers, in order.
+    pub totals: Vec<usize>,
     /// The addresses of the brokers.
     pub addresses: Vec<Option<Text>>,
     /// The addresses of the publishers' clients.

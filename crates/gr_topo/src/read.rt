@@ -1,6 +1,6 @@
 //! Reading a topology.
 
-ghost use Rattle.std.specs.Prelude.{◌≡◌, ◌≤◌, ◌<◌, length, replicate, false, true, IfOk, IfErr, OnOk};
+ghost use Rattle.std.specs.Prelude.{◌≡◌, ◌≤◌, ◌<◌, length, true, IfOk, IfErr, OnOk};
 ghost use Rattle.toml.specs.View.{table_view};
 ghost use Rattle.gr_tree.specs.Walks.{IsWithin};
 ghost use Rattle.gr_topo.specs.Gives.{Gives};
@@ -16,7 +16,7 @@ ghost use Rattle.gr_topo.specs.declared.limits.TheConstants.{MAX_BROKERS, MAX_PU
 use crate::check::{addresses_of, filters_in, settings_of};
 use crate::draft::Draft;
 use crate::fault::{Memory, TopoFault};
-use crate::limits::{MAX_BROKERS, MAX_PUBLISHERS, MAX_SUBSCRIBERS};
+use crate::limits::{MAX_BROKERS, MAX_LATE, MAX_PUBLISHERS, MAX_SUBSCRIBERS};
 use crate::names::{apart, few, good_names, links_in, numbers_in};
 use crate::parts::{Parts, Resolved};
 use crate::shape::draft_in;
@@ -27,21 +27,23 @@ use gr_tree::{Link, places};
 use std::alloc::Global;
 use toml::Table;
 
-/// Whether there are not too many names, each is a name, and none stands twice.
+/// Whether there are not too many names, nor too many late subscribers, each is a name, and none stands twice.
 #[tactic(auto, unfolding(crate::specs::Read::names_checked))]
 fn names_checked(
     alloc: Global,
     brokers: &[Text],
     publishers: &[Text],
     subscribers: &[Text],
+    late: usize,
 ) -> Result<(), TopoFault>
-    ensures gives { Gives (λ x. x) result (names_checked brokers.now publishers.now subscribers.now) }
+    ensures gives { Gives (λ x. x) result (names_checked brokers.now publishers.now subscribers.now late) }
     ensures few_brokers { OnOk result (length brokers.now ≤ MAX_BROKERS) }
     ensures few_publishers { OnOk result (length publishers.now ≤ MAX_PUBLISHERS) }
 {
     few(alloc, MAX_BROKERS, "brokers", brokers.len())?;
     few(alloc, MAX_PUBLISHERS, "publisher", publishers.len())?;
     few(alloc, MAX_SUBSCRIBERS, "subscriber", subscribers.len())?;
+    few(alloc, MAX_LATE, "late", late)?;
     good_names(alloc, brokers)?;
     good_names(alloc, publishers)?;
     good_names(alloc, subscribers)?;
@@ -72,7 +74,8 @@ fn resolved_in(alloc: Global, brokers: &[Text], draft: &Draft) -> Result<Resolve
 {
     let publishers = &draft.publishers;
     let subscribers = &draft.subscribers;
-    names_checked(alloc, brokers, &publishers.names, &subscribers.names)?;
+    let late = subscribers.late.as_slice().len();
+    names_checked(alloc, brokers, &publishers.names, &subscribers.names, late)?;
     let links = links_in(alloc, brokers, &draft.links)?;
     let hosts = numbers_in(alloc, brokers, &publishers.brokers)?;
     let homes = numbers_in(alloc, brokers, &subscribers.brokers)?;
@@ -86,13 +89,6 @@ fn resolved_in(alloc: Global, brokers: &[Text], draft: &Draft) -> Result<Resolve
     })
 }
 
-/// No subscriber gets one list over all publishers.
-fn no_totals(alloc: Global, subscribers: &[Text]) -> Result<Vec<bool>, Memory>
-    ensures { IfOk result (λ totals. totals.items ≡ replicate (length subscribers.now) false) }
-{
-    vec![in alloc; false; subscribers.len()]
-}
-
 /// The topology of a draft.
 #[tactic(auto, unfolding(crate::specs::Read::topology_of))]
 fn topology_of(alloc: Global, brokers: Vec<Text>, draft: Draft) -> Result<Topology, TopoFault>
@@ -102,7 +98,6 @@ fn topology_of(alloc: Global, brokers: Vec<Text>, draft: Draft) -> Result<Topolo
     let resolved = resolved_in(alloc, &brokers, &draft)?;
     let settings = settings_of(alloc, draft.settings)?;
     let filters = filters_in(alloc, &draft.subscribers.names, &draft.subscribers.filters)?;
-    let totals = no_totals(alloc, &draft.subscribers.names)?;
     let addresses = addresses_of(alloc, &draft.addresses, &brokers)?;
     let clients = addresses_of(alloc, &draft.clients, &draft.publishers.names)?;
     let Resolved {
@@ -120,7 +115,8 @@ fn topology_of(alloc: Global, brokers: Vec<Text>, draft: Draft) -> Result<Topolo
         hosts,
         homes,
         filters,
-        totals,
+        late: subscribers.late,
+        totals: Vec::new(alloc),
         addresses,
         clients,
         settings,

@@ -1,10 +1,12 @@
 //! Reading the shape of a topology part: the keys and types of its tables.
 
-ghost use Rattle.std.specs.Prelude.{◌≡◌, IfOk};
+ghost use Rattle.std.specs.Prelude.{◌≡◌, IfOk, OnOk};
 ghost use Rattle.toml.specs.View.{view, table_view};
 ghost use Rattle.gr_topo.specs.Gives.{Gives, walk, each, one_more};
 ghost use Rattle.gr_topo.specs.Draft.{entry_lists, address_lists, draft_lists, no_entries, no_addresses};
-ghost use Rattle.gr_topo.specs.Shape.{text_in, integer_in, array_in, table_in, two_texts, pair_in, pairs_in, texts_in};
+ghost use Rattle.gr_topo.specs.Draft.{with_late};
+ghost use Rattle.gr_topo.specs.Shape.{text_in, integer_in, truth_in, array_in, table_in, two_texts, pair_in, pairs_in};
+ghost use Rattle.gr_topo.specs.Shape.{texts_in};
 ghost use Rattle.gr_topo.specs.Shape.{entry_key, no_entry, whole_entry, entry_in, one_entry, entries_in, one_address};
 ghost use Rattle.gr_topo.specs.Shape.{addresses_in, one_setting, default_settings, settings_in, root_key, no_draft};
 ghost use Rattle.gr_topo.specs.Shape.{draft_in};
@@ -15,7 +17,7 @@ use crate::draft::{Addresses, Draft, Entries, Entry, FoundEntry};
 use crate::fault::TopoFault;
 use crate::settings::WrittenSettings;
 use gr_event::Text;
-use std::alloc::Global;
+use std::alloc::{AllocError, Global};
 use toml::{Table, Value};
 
 /// A value that is a text.
@@ -36,6 +38,18 @@ fn integer_in(alloc: Global, key: &str, value: &Value) -> Result<i64, TopoFault>
 {
     match value {
         Value::Integer(number) => Ok(*number),
+        _ => Err(TopoFault::BadType {
+            key: Text::from_slice(alloc, key.as_bytes())?,
+        }),
+    }
+}
+
+/// A value that is a truth value.
+fn truth_in(alloc: Global, key: &str, value: &Value) -> Result<bool, TopoFault>
+    ensures { Gives (λ b. b) result (truth_in key.now (view value.now)) }
+{
+    match value {
+        Value::Boolean(truth) => Ok(*truth),
         _ => Err(TopoFault::BadType {
             key: Text::from_slice(alloc, key.as_bytes())?,
         }),
@@ -159,6 +173,10 @@ fn entry_key(
         let filter = Some(text_in(alloc, key, value)?);
         return Ok(FoundEntry { filter, ..found });
     }
+    if key == "late" && filters {
+        let late = truth_in(alloc, key, value)?;
+        return Ok(FoundEntry { late, ..found });
+    }
     Err(TopoFault::BadKey {
         key: Text::from_slice(alloc, key.as_bytes())?,
     })
@@ -172,6 +190,7 @@ fn entry_keys(alloc: Global, filters: bool, table: &Table) -> Result<FoundEntry,
         name: None,
         at: None,
         filter: None,
+        late: false,
     };
     for (name, value) in table {
         match entry_key(alloc, filters, found, name.as_str(), value) {
@@ -186,7 +205,12 @@ fn entry_keys(alloc: Global, filters: bool, table: &Table) -> Result<FoundEntry,
 fn whole_entry(alloc: Global, found: FoundEntry) -> Result<Entry, TopoFault>
     ensures { Gives (λ e. e) result (whole_entry found) }
 {
-    let FoundEntry { name, at, filter } = found;
+    let FoundEntry {
+        name,
+        at,
+        filter,
+        late,
+    } = found;
     match name {
         None => Err(TopoFault::Missing {
             key: Text::from_slice(alloc, b"name")?,
@@ -195,7 +219,12 @@ fn whole_entry(alloc: Global, found: FoundEntry) -> Result<Entry, TopoFault>
             None => Err(TopoFault::Missing {
                 key: Text::from_slice(alloc, b"at")?,
             }),
-            Some(at) => Ok(Entry { name, at, filter }),
+            Some(at) => Ok(Entry {
+                name,
+                at,
+                filter,
+                late,
+            }),
         },
     }
 }
@@ -207,6 +236,16 @@ fn entry_in(alloc: Global, key: &str, filters: bool, value: &Value) -> Result<En
     let table = table_in(alloc, key, value)?;
     let found = entry_keys(alloc, filters, table)?;
     whole_entry(alloc, found)
+}
+
+/// Puts a place at the end of some, if what stands there is late. At want of memory they are as they were.
+fn push_late(places: &mut Vec<usize>, place: usize, late: bool) -> Result<(), AllocError>
+    ensures { OnOk result (places.new.items ≡ with_late places.old.items place late) }
+{
+    if late {
+        places.push(place)?;
+    }
+    Ok(())
 }
 
 /// Publishers or subscribers in an array.
@@ -221,9 +260,12 @@ fn entries_of(
     let mut names = Vec::new(alloc);
     let mut brokers = Vec::new(alloc);
     let mut texts = Vec::new(alloc);
+    let mut late = Vec::new(alloc);
     for value in values {
         match entry_in(alloc, key, filters, value) {
             Ok(entry) => {
+                let place = names.len();
+                push_late(&mut late, place, entry.late)?;
                 names.push(entry.name)?;
                 brokers.push(entry.at)?;
                 texts.push(entry.filter)?;
@@ -235,6 +277,7 @@ fn entries_of(
         names,
         brokers,
         filters: texts,
+        late,
     })
 }
 
@@ -394,6 +437,7 @@ fn no_entries(alloc: Global) -> Entries
         names: Vec::new(alloc),
         brokers: Vec::new(alloc),
         filters: Vec::new(alloc),
+        late: Vec::new(alloc),
     }
 }
 

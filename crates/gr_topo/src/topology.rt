@@ -1,12 +1,14 @@
 //! Topologies and their readers.
 
 ghost use Rattle.std.specs.Prelude.{◌≡◌, ℕ, ◌<◌, ◌≤◌, List, length, map, true, IfOk, OnOk, IfSome, slice_index};
+ghost use Rattle.std.specs.Prelude.{nat_eq};
+ghost use Rattle.std.specs.List.{list_any};
 ghost use Rattle.std.specs.Option.{option_map};
 ghost use Rattle.gr_filter.specs.Tree.{tree_of as filter_tree};
 ghost use Rattle.gr_tree.specs.Walks.{IsWithin, IsRooted, HasOnlyPaths, is_tree, places_of};
 ghost use Rattle.gr_topo.specs.Topology.{IsSound, IsTopology, name_at, number_of, blank, host_of, home_of, filter_of};
-ghost use Rattle.gr_topo.specs.Topology.{total_of, address_of, client_of, up_at, depth_at, children_of, subscribers_of};
-ghost use Rattle.gr_topo.specs.Topology.{passes_by, below_of, keeps_horizon_at, is_child_at, not_empty};
+ghost use Rattle.gr_topo.specs.Topology.{total_of, address_of, client_of, late_of, naming_of, up_at, depth_at, children_of};
+ghost use Rattle.gr_topo.specs.Topology.{subscribers_of, passes_by, below_of, keeps_horizon_at, is_child_at, not_empty};
 
 use crate::fault::Memory;
 use crate::names::position_of;
@@ -74,6 +76,20 @@ fn rows_of(
     Ok(rows)
 }
 
+/// Whether a subscriber stands in a list of such.
+fn is_among(places: &Vec<usize>, s: u16) -> bool
+    ensures { result ≡ list_any (λ x. nat_eq x s) places.now.items }
+{
+    let mut at = 0;
+    'places: while at < places.len() {
+        if places[at] == usize::from(s) {
+            return true;
+        }
+        at += 1;
+    }
+    false
+}
+
 impl Topology {
     ghost use Rattle.gr_topo.specs.Parts.{view_of};
 
@@ -101,8 +117,6 @@ impl Topology {
         subscribers.push(Text::from_slice(alloc, b"S")?)?;
         let mut filters = Vec::new(alloc);
         filters.push(None)?;
-        let mut totals = Vec::new(alloc);
-        totals.push(false)?;
         let mut addresses = Vec::new(alloc);
         addresses.push(None)?;
         addresses.push(None)?;
@@ -116,7 +130,8 @@ impl Topology {
             hosts: Vec::from_slice(alloc, &[0])?,
             homes: Vec::from_slice(alloc, &[1])?,
             filters,
-            totals,
+            late: Vec::new(alloc),
+            totals: Vec::new(alloc),
             addresses,
             clients,
             settings: Settings {
@@ -234,7 +249,21 @@ impl Topology {
         requires { s < length self.now.subscribers }
         ensures { result ≡ total_of self.now s }
     {
-        self.parts.totals[s as usize]
+        is_among(&self.parts.totals, s)
+    }
+
+    /// Whether a subscriber is late: of a publisher it has nothing up to the tick at which it joins it.
+    pub fn late(&self, s: u16) -> bool
+        ensures { result ≡ late_of self.now s }
+    {
+        is_among(&self.parts.late, s)
+    }
+
+    /// Whether any subscriber is late.
+    pub fn has_late(&self) -> bool
+        ensures { result ≡ not_empty self.now.late }
+    {
+        !self.parts.late.is_empty()
     }
 
     /// The next broker on the path to the host of a publisher, or None exactly for the host. Takes constant time.
@@ -379,9 +408,7 @@ impl Topology {
 }
 
 impl Names for Topology {
-    ghost broker_of = { λ t name. number_of t.brokers name };
-
-    ghost publisher_of = { λ t name. number_of t.publishers name };
+    ghost naming = { λ t. naming_of t };
 
     /// The broker of this name, or None where there is none. Takes no memory.
     fn broker(&self, name: &[u8]) -> Option<u16> {
@@ -391,5 +418,16 @@ impl Names for Topology {
     /// The publisher of this name, or None where there is none. Takes no memory.
     fn publisher(&self, name: &[u8]) -> Option<u16> {
         position_of(&self.parts.publishers, name)
+    }
+
+    /// The late subscriber of this name, or None where there is none. Takes no memory.
+    fn subscriber(&self, name: &[u8]) -> Option<u16> {
+        let Some(s) = position_of(&self.parts.subscribers, name) else {
+            return None;
+        };
+        if self.late(s) {
+            return Some(s);
+        }
+        None
     }
 }

@@ -233,6 +233,7 @@ next_holds net R P w l n c f h i = go l.step i
       | step.Sweep ↦ sweep net w l.number
       | step.Show ↦ unchanged w (show net w)
       | step.Bytes k ↦ elim (frame_at w k) [ None ↦ unchanged w (line.RefusedFrame l.number k (length w.frames) ∷ []) | Some f ↦ unchanged w (line.BytesOf k (frame_bytes f) ∷ []) ]
+      | step.Join q p ↦ unchanged w []
     ] in t.world)
     go (step.Clock now) x = c.at_clock w now f h
     go (step.Publish p number stop e) x = published p number stop e x
@@ -242,6 +243,7 @@ next_holds net R P w l n c f h i = go l.step i
     go step.Sweep x = sweep_holds net R P w l.number n c f h
     go step.Show x = h
     go (step.Bytes k) x = bytes_at k (frame_at w k)
+    go (step.Join q p) x = absurd x
 
 -- what each call, clock and restart keeps is kept by every run of steps
 pub run_holds : (net : Net) (R : Frame → Type 0) (P : World → Type 0) (w : World) (ls : List Line) → IsNet net → IsClosed net R P → WorldFits net w → P w → StepsIn net ls → P (run_all net w ls).world

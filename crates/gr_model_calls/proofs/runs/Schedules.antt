@@ -428,6 +428,7 @@ next_kept net w l n f i = go l.step i
       | step.Sweep ↦ sweep net w l.number
       | step.Show ↦ unchanged w (show net w)
       | step.Bytes k ↦ elim (frame_at w k) [ None ↦ unchanged w (line.RefusedFrame l.number k (length w.frames) ∷ []) | Some f ↦ unchanged w (line.BytesOf k (frame_bytes f) ∷ []) ]
+      | step.Join q p ↦ unchanged w []
     ])
     go (step.Clock now) h = from_clock net w now (max now w.most) (unchanged (record { clock = now; most = max now w.most; frames = w.frames; views = w.views; logs = w.logs }) []) (Kept-refl net (record { clock = now; most = max now w.most; frames = w.frames; views = w.views; logs = w.logs }) (clocked_fits net w now (max now w.most) f))
     go (step.Publish p number stop e) h = published p number stop e h
@@ -437,6 +438,7 @@ next_kept net w l n f i = go l.step i
     go step.Sweep h = sweep_kept net w l.number n f
     go step.Show h = Kept-still net w (show net w) f (show_silent net w)
     go (step.Bytes k) h = bytes_at k (frame_at w k)
+    go (step.Join q p) h = absurd h
 
 -- The start, and every schedule
 

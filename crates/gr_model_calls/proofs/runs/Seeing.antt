@@ -228,6 +228,7 @@ module _ (net : Net) (see : View → Net) (R : Frame → Type 0) (P B : World �
         | step.Sweep ↦ sweep_by v net w l.number
         | step.Show ↦ unchanged w (show net w)
         | step.Bytes k ↦ elim (frame_at w k) [ None ↦ unchanged w (line.RefusedFrame l.number k (length w.frames) ∷ []) | Some f ↦ unchanged w (line.BytesOf k (frame_bytes f) ∷ []) ]
+        | step.Join q p ↦ unchanged w []
       ]
 
       go : (z : Step) → StepIn net z → Runs (Unit {0}) P B w (told see z) (told (λ _. net) z)
@@ -239,6 +240,7 @@ module _ (net : Net) (see : View → Net) (R : Frame → Type 0) (P B : World �
       go step.Sweep x = sweep_runs w l.number f
       go step.Show x = Runs-same (Unit {0}) P B w (show net w)
       go (step.Bytes k) x = bytes_at k (frame_at w k)
+      go (step.Join q p) x = absurd x
 
   pub run_runs : (w : World) (ls : List Line) → WorldFits net w → StepsIn net ls → Runs (Unit {0}) P B w (run_all_by see net w ls) (run_all net w ls)
   run_runs w [] f i = Runs-same (Unit {0}) P B w []

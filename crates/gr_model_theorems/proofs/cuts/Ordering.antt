@@ -232,6 +232,7 @@ next_orders net w l n f i = go l.step i
       | step.Sweep ↦ sweep net w l.number
       | step.Show ↦ unchanged w (show net w)
       | step.Bytes k ↦ elim (frame_at w k) [ None ↦ unchanged w (line.RefusedFrame l.number k (length w.frames) ∷ []) | Some f ↦ unchanged w (line.BytesOf k (frame_bytes f) ∷ []) ]
+      | step.Join q p ↦ unchanged w []
     ])
     go (step.Clock now) h = clocked_orders net w now (max now w.most) (unchanged (clocked w now (max now w.most)) []) (still_orders net (clocked w now (max now w.most)) [] (λ q. tt))
     go (step.Publish p number stop e) h = published p number stop e h
@@ -241,6 +242,7 @@ next_orders net w l n f i = go l.step i
     go step.Sweep h = sweep_orders net w l.number n f
     go step.Show h = still_orders net w (show net w) (show_free net w)
     go (step.Bytes k) h = bytes_at k (frame_at w k)
+    go (step.Join q p) h = absurd h
 
 -- a run of steps keeps the cut lines in order
 pub run_orders : (net : Net) (w : World) (ls : List Line) → IsNet net → WorldFits net w → StepsIn net ls → Orders net w (run_all net w ls)

@@ -247,6 +247,7 @@ step_replies net w h n (step.Bytes j) t k i = go (frame_at w j) ∙ ap (bytes_re
     go : (o : Option Frame) → replying (let u : Transition = elim o [ None ↦ unchanged w (line.RefusedFrame n j (length w.frames) ∷ []) | Some x ↦ unchanged w (line.BytesOf j (frame_bytes x) ∷ []) ] in u.lines) ≡ bytes_reply n j (sent_count h.lines) (line_at j o)
     go None = ap (λ c. line.RefusedFrame n j c ∷ []) (sym (sent_count_is net w h k))
     go (Some x) = ap (λ z. elim z [ Some f ↦ line.BytesOf j (frame_bytes f) ∷ [] | None ↦ [] ]) (sym (frame_told j x))
+step_replies net w h n (step.Join q p) t k i = absurd i
 
 -- Numbers
 

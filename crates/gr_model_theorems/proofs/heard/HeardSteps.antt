@@ -288,3 +288,4 @@ hears_by net w h k (step.Bytes j) ls n f r e i z a = go (frame_at w j)
     go : (o : Option Frame) → Hears net (let t : Transition = elim o [ None ↦ unchanged w (line.RefusedFrame k j (length w.frames) ∷ []) | Some x ↦ unchanged w (line.BytesOf j (frame_bytes x) ∷ []) ] in t.world) h.heard
     go None = record { long = a.long; fits = a.fits }
     go (Some x) = record { long = a.long; fits = a.fits }
+hears_by net w h k (step.Join q p) ls n f r e i z a = absurd i

@@ -443,3 +443,4 @@ bare_by net w h k (step.Bytes j) n z f r x i y a = go (frame_at w j)
     go : (o : Option Frame) → (let t : Transition = elim o [ None ↦ unchanged w (line.RefusedFrame k j (length w.frames) ∷ []) | Some x ↦ unchanged w (line.BytesOf j (frame_bytes x) ∷ []) ] in Unlogged net t.world (each_flag (λ p x. x && not (list_any (is_record_of p) t.lines)) 0 h.unlogged))
     go None = tells_bare net w (unchanged w (line.RefusedFrame k j (length w.frames) ∷ [])) h.unlogged a (λ p m keeps. tells_still net p w (unchanged w (line.RefusedFrame k j (length w.frames) ∷ [])) refl refl refl)
     go (Some x) = tells_bare net w (unchanged w (line.BytesOf j (frame_bytes x) ∷ [])) h.unlogged a (λ p m keeps. tells_still net p w (unchanged w (line.BytesOf j (frame_bytes x) ∷ [])) refl refl refl)
+bare_by net w h k (step.Join q p) n z f r x i y a = absurd i

@@ -226,6 +226,7 @@ next_in net w l n z f i k a = go l.step i k
       | step.Sweep ↦ sweep net w l.number
       | step.Show ↦ unchanged w (show net w)
       | step.Bytes m ↦ elim (frame_at w m) [ None ↦ unchanged w (line.RefusedFrame l.number m (length w.frames) ∷ []) | Some x ↦ unchanged w (line.BytesOf m (frame_bytes x) ∷ []) ]
+      | step.Join q p ↦ unchanged w []
     ] in t.world)
     go (step.Clock now) x y = clocked_in w now (max now w.most) y a
     go (step.Publish p number stop e) x y = published p number stop e x y
@@ -235,6 +236,7 @@ next_in net w l n z f i k a = go l.step i k
     go step.Sweep x y = sweep_in net w l.number n z f a
     go step.Show x y = a
     go (step.Bytes m) x y = bytes_at m (frame_at w m)
+    go (step.Join q p) x y = absurd x
 
 -- and so do all, from any world
 pub run_in : (net : Net) (w : World) (ls : List Line) → IsNet net → IsSmall net → WorldFits net w → StepsIn net ls → NumbersIn ls → WorldIn w → WorldIn (run_all net w ls).world

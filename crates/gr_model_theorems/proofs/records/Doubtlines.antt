@@ -259,6 +259,7 @@ lined_doubts net w k (step.Bytes j) n f i = go (frame_at w j)
     go : (o : Option Frame) → doubts_of (let t : Transition = elim o [ None ↦ unchanged w (line.RefusedFrame k j (length w.frames) ∷ []) | Some x ↦ unchanged w (line.BytesOf j (frame_bytes x) ∷ []) ] in t.lines) ≡ []
     go None = refl
     go (Some x) = refl
+lined_doubts net w k (step.Join q p) n f i = absurd i
 
 -- the doubt lines of a step are those that its show demands, place by place
 pub doubts_stand : (net : Net) (w : World) (l : Line) → IsNet net → WorldFits net w → StepIn net l.step → map doubt_place (filter is_doubt_line (next net w l).lines) ≡ doubts_shown net l

@@ -383,6 +383,7 @@ gates_by net w h k (step.Bytes j) n z f r i g = go (frame_at w j)
     go : (o : Option Frame) → (let t : Transition = elim o [ None ↦ unchanged w (line.RefusedFrame k j (length w.frames) ∷ []) | Some x ↦ unchanged w (line.BytesOf j (frame_bytes x) ∷ []) ] in GatesFit net t.world h.gates)
     go None = g
     go (Some x) = g
+gates_by net w h k (step.Join q p) n z f r i g = absurd i
 
 -- each step keeps the gates of the history those of the logs
 pub next_gates : (net : Net) (w : World) (h : History) (l : Line) → IsNet net → 1 ≤ net.quiet → WorldFits net w → RecordsFit net w h → StepIn net l.step → GatesFit net w h.gates → GatesFit net (next net w l).world (headline.history_after net h l (next net w l).lines).gates

@@ -277,6 +277,7 @@ named_by net w k (step.Bytes j) n f i = go (frame_at w j)
     go : (o : Option Frame) → Named net (IsShown net w) (let t : Transition = elim o [ None ↦ unchanged w (line.RefusedFrame k j (length w.frames) ∷ []) | Some x ↦ unchanged w (line.BytesOf j (frame_bytes x) ∷ []) ] in t.lines)
     go None = tt
     go (Some x) = tt
+named_by net w k (step.Join q p) n f i = absurd i
 
 -- the lines of each step name only what the topology has, and its doubt lines say the horizons
 pub step_named : (net : Net) (w : World) (l : Line) → IsNet net → WorldFits net w → StepIn net l.step → Named net (IsShown net w) (next net w l).lines

@@ -293,6 +293,7 @@ record_by net w h k (step.Bytes j) n z f r s c i a = go (frame_at w j)
     go : (o : Option Frame) → recs (let t : Transition = elim o [ None ↦ unchanged w (line.RefusedFrame k j (length w.frames) ∷ []) | Some x ↦ unchanged w (line.BytesOf j (frame_bytes x) ∷ []) ] in t.lines) ≡ []
     go None = refl
     go (Some x) = refl
+record_by net w h k (step.Join q p) n z f r s c i a = absurd i
 
 after_records : (net : Net) (h : History) (l : Line) (ls : List Report) → (headline.history_after net h l ls).records ≡ records_after net h l ls
 unfolding headline.history_after
@@ -330,6 +331,7 @@ sends_by net w k (step.Bytes j) n f i = go (frame_at w j)
     go : (o : Option Frame) → Sends w (elim o [ None ↦ unchanged w (line.RefusedFrame k j (length w.frames) ∷ []) | Some x ↦ unchanged w (line.BytesOf j (frame_bytes x) ∷ []) ])
     go None = sends_none w (unchanged w (line.RefusedFrame k j (length w.frames) ∷ [])) refl refl
     go (Some x) = sends_none w (unchanged w (line.BytesOf j (frame_bytes x) ∷ [])) refl refl
+sends_by net w k (step.Join q p) n f i = absurd i
 
 -- the sent lines of each step are those of the frames that it sends
 pub step_sends : (net : Net) (w : World) (l : Line) → IsNet net → WorldFits net w → StepIn net l.step → Sends w (next net w l)

@@ -426,6 +426,7 @@ next_recorded net w h k step.Show n z f r i g = record { clock = r.clock; most =
 next_recorded net w h k (step.Bytes j) n z f r i g =
     let x = bytes_still net w (frame_at w j) j k in
     steps_of net w h (with_line k (step.Bytes j)) (next net w (with_line k (step.Bytes j))) refl refl refl (still_step net w h (next net w (with_line k (step.Bytes j))) f g r x.0 x.1 x.2)
+next_recorded net w h k (step.Join q p) n z f r i g = absurd i
 
 -- after each step the records of the history are those of the logs
 pub next_records : (net : Net) (w : World) (h : History) (l : Line) → IsNet net → 1 ≤ net.quiet → WorldFits net w → RecordsFit net w h → StepIn net l.step → RecordsFit net (next net w l).world (history_after net h l (next net w l).lines)

@@ -504,6 +504,7 @@ same_next net l w ls s = go l.step
       | step.Sweep ↦ sweep net u l.number
       | step.Show ↦ unchanged u (show net u)
       | step.Bytes k ↦ elim (frame_at u k) [ None ↦ unchanged u (line.RefusedFrame l.number k (length u.frames) ∷ []) | Some f ↦ unchanged u (line.BytesOf k (frame_bytes f) ∷ []) ]
+      | step.Join q p ↦ unchanged u []
     ]
 
     delivered : (k : ℕ) (o : Option Frame) → (let f : World → Transition = λ u. elim o [ None ↦ unchanged u (line.RefusedFrame l.number k (length u.frames) ∷ []) | Some x ↦ deliver_frame net u x ] in SameTold (f w) (f (with_logs w ls)))
@@ -528,6 +529,7 @@ same_next net l w ls s = go l.step
     go step.Sweep = same_sweep net l.number w ls s
     go step.Show = record { logs = ls; is = ap (unchanged (with_logs w ls)) (same_show net w ls s); same = s }
     go (step.Bytes k) = bytes_shown k (frame_at w k)
+    go (step.Join q p) = record { logs = ls; is = refl; same = s }
 
 -- so the lines of all steps are the same
 pub same_run : (net : Net) (w : World) (ls : List Log) (steps : List Line) → SameLogs w.logs ls → run_from net (with_logs w ls) steps ≡ run_from net w steps

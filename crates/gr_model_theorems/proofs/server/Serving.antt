@@ -151,6 +151,7 @@ line_publishes net hosted k (step.Crash b) i m = tt
 line_publishes net hosted k step.Sweep i m = tt
 line_publishes net hosted k step.Show i m = tt
 line_publishes net hosted k (step.Bytes j) i m = tt
+line_publishes net hosted k (step.Join q p) i m = tt
 
 -- the publishes that are left for a server are within the limits where the steps are
 pub publishes_are_in : (net : Net) (hosted : List ℕ) (steps : List Line) → StepsIn net steps → NumbersIn steps → LeftIn net (publishes_of net hosted steps)

@@ -340,6 +340,7 @@ told_at net w number s =
       | step.Sweep ↦ sweep net w number
       | step.Show ↦ unchanged w (show net w)
       | step.Bytes k ↦ elim (frame_at w k) [ None ↦ unchanged w (line.RefusedFrame number k (length w.frames) ∷ []) | Some f ↦ unchanged w (line.BytesOf k (frame_bytes f) ∷ []) ]
+      | step.Join q p ↦ unchanged w []
     ]
 
 abbrev calls_at : Net → World → Step → List Action
@@ -366,6 +367,7 @@ step_parts net w number (step.Crash b) n quiet f i = crash_step_parts net w numb
 step_parts net w number step.Sweep n quiet f i = sweep_parts net w number n quiet f
 step_parts net w number step.Show n quiet f i = no_calls net w (unchanged w (show net w)) (show_own net w) refl refl refl (show_crash net w)
 step_parts net w number (step.Bytes k) n quiet f i = bytes_parts net w number k
+step_parts net w number (step.Join q p) n quiet f i = absurd i
 
 next_obeys : (net : Net) (w : World) (l : Line) → IsNet net → 1 ≤ net.quiet → WorldFits net w → StepIn net l.step → StepObeys net w l (next net w l).lines
 unfolding next_by calls_of called_in

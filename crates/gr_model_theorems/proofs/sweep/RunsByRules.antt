@@ -454,6 +454,7 @@ step_exactly net w number (step.Crash b) n quiet f i = let x = crash_exactly net
 step_exactly net w number step.Sweep n quiet f i = let x = sweep_exactly net w number n quiet f in record { holds = x.holds; only = x.only }
 step_exactly net w number step.Show n quiet f i = let x = show_exactly net w in record { holds = x.holds; only = x.only }
 step_exactly net w number (step.Bytes k) n quiet f i = let x = bytes_exactly net w number k in record { holds = x.holds; only = x.only }
+step_exactly net w number (step.Join q p) n quiet f i = absurd i
 
 next_exactly : (net : Net) (w : World) (l : Line) → IsNet net → 1 ≤ net.quiet → WorldFits net w → StepIn net l.step → Exactly (Happens net l.number l.step) w (next net w l)
 unfolding next_by

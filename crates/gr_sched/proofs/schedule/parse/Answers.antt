@@ -7,10 +7,10 @@ use Rattle.gr_sched.proofs.InRange.{few_counted, read_range, read_all, read_caus
 use Rattle.gr_sched.proofs.schedule.parse.Goals as goal
 
 pub returns-in-Ok-clause-range : goal.returns-in-Ok-clause-range
-returns-in-Ok-clause-range g c = read_range (g.N.Names.broker_of c.args.names.now) (g.N.Names.publisher_of c.args.names.now) (counted_lines c.args.steps.now) (Ok c.in-Ok.found) (c.in-Ok.ensures.gives c.in-Ok.ensures.few) c.in-Ok.ensures.limits
+returns-in-Ok-clause-range g c = read_range (g.N.Names.naming c.args.names.now) (counted_lines c.args.steps.now) (Ok c.in-Ok.found) (c.in-Ok.ensures.gives c.in-Ok.ensures.few) c.in-Ok.ensures.limits
 
 pub returns-in-Ok-clause-all : goal.returns-in-Ok-clause-all
-returns-in-Ok-clause-all g c = read_all (g.N.Names.broker_of c.args.names.now) (g.N.Names.publisher_of c.args.names.now) (counted_lines c.args.steps.now) (Ok c.in-Ok.found) (c.in-Ok.ensures.gives c.in-Ok.ensures.few)
+returns-in-Ok-clause-all g c = read_all (g.N.Names.naming c.args.names.now) (counted_lines c.args.steps.now) (Ok c.in-Ok.found) (c.in-Ok.ensures.gives c.in-Ok.ensures.few)
 
 pub returns-in-Ok-clause-few : goal.returns-in-Ok-clause-few
 returns-in-Ok-clause-few g c = omega (arith, returns-in-Ok-clause-all g c, c.in-Ok.ensures.few)
@@ -24,11 +24,11 @@ returns-in-Some-clause-not_many g c few n same = omega (arith, few, returns-in-S
 pub returns-in-None-clause-steps : goal.returns-in-None-clause-steps
 returns-in-None-clause-steps g c =
     let few = few_counted (counted_lines c.args.steps.now) MAX_STEPS c.in-None.ensures.number in
-    rw (within_limit (counted_lines c.args.steps.now) MAX_STEPS (lines_of (g.N.Names.broker_of c.args.names.now) (g.N.Names.publisher_of c.args.names.now) (counted_lines c.args.steps.now)) few) (c.in-Err.ensures.gives few)
+    rw (within_limit (counted_lines c.args.steps.now) MAX_STEPS (lines_of (g.N.Names.naming c.args.names.now) (counted_lines c.args.steps.now)) few) (c.in-Err.ensures.gives few)
 
 pub returns-in-None-clause-cause : goal.returns-in-None-clause-cause
 returns-in-None-clause-cause g c =
-    read_cause (g.N.Names.broker_of c.args.names.now) (g.N.Names.publisher_of c.args.names.now) (counted_lines c.args.steps.now) (length (counted_lines c.args.steps.now)) (Err c.in-Err.fault)
+    read_cause (g.N.Names.naming c.args.names.now) (counted_lines c.args.steps.now) (length (counted_lines c.args.steps.now)) (Err c.in-Err.fault)
     (c.in-Err.ensures.gives (few_counted (counted_lines c.args.steps.now) MAX_STEPS c.in-None.ensures.number))
 
 pub returns-in-None-clause-not_many : goal.returns-in-None-clause-not_many

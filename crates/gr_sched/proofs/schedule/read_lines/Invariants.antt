@@ -13,7 +13,7 @@ invariant-lines g l = record {
   all : length l.found + length (counted_after l.before (pieces_of l.rest)) ≡ length (counted_lines l.fn.steps);
   limits : AllByRecursion (λ line. IsInLimits line.step) l.found;
   most : l.before + length l.rest ≤ length l.fn.steps;
-  same : lines_of (g.N.Names.broker_of l.names) (g.N.Names.publisher_of l.names) (counted_lines l.fn.steps) ≡ behind l.found (lines_of (g.N.Names.broker_of l.names) (g.N.Names.publisher_of l.names) (counted_after l.before (pieces_of l.rest)));
+  same : lines_of (g.N.Names.naming l.names) (counted_lines l.fn.steps) ≡ behind l.found (lines_of (g.N.Names.naming l.names) (counted_after l.before (pieces_of l.rest)));
 }
 
 abbrev pub decreases-lines : goal.decreases-lines

@@ -27,3 +27,6 @@ returns-in-show c = rw (spelled c.args.word.now (codes "show") (omega arith) (om
 
 pub returns-in-bytes : goal.returns-in-bytes
 returns-in-bytes c = rw (spelled c.args.word.now (codes "bytes") (omega arith) (omega arith, (omega arith, (omega arith, (omega arith, (omega arith, tt)))))) refl
+
+pub returns-in-join : goal.returns-in-join
+returns-in-join c = rw (spelled c.args.word.now (codes "join") (omega arith) (omega arith, (omega arith, (omega arith, (omega arith, tt))))) refl
