@@ -20,8 +20,9 @@ use Rattle.gr_model.specs.Broker.{View, Outcome, marking, wake_host}
 use Rattle.gr_broker_relay.specs.declared.outcome.Outcome.{Outcome as Told}
 use Rattle.gr_broker_relay.specs.Told.{Tells, Adds, AddsFrames}
 use Rattle.gr_broker_relay.proofs.Sent.{adds_after}
+use Rattle.gr_broker_relay.specs.Cuts.{tick_cut}
 use Rattle.gr_broker.specs.Hosted.{logged, cut_logs, AppendsTwice, WakeLeaves}
-use Rattle.gr_broker.specs.Host.{host_with, tick_marked, tick_cut, mark_lines, cut_lines, expected_frames}
+use Rattle.gr_broker.specs.Host.{host_with, tick_marked, mark_lines, cut_lines, expected_frames}
 use Rattle.gr_broker.proofs.Hosted.{split_moment, marking_is, marking_log_is, cutting_log_is, host_woken}
 
 module _ {T : Type 0} (l : LogView) (first second : Option Record) (before : Lane) where

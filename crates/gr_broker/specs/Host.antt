@@ -1,4 +1,4 @@
--- What a host's wake logs and tells: the ticks of its mark and of its cut, their lines, and what children are to expect
+-- What a host's wake logs and tells: the tick of its mark, the lines of mark and cut, and what children are to expect
 use Rattle.std.specs.Prelude.{ℕ, nat_lt, if◌then◌else◌, List, [], ◌∷◌, Option, Some, None}
 use Rattle.gr_frame.specs.declared.Frame.{Frame}
 use Rattle.gr_curio.specs.Values.{Wanted}
@@ -7,19 +7,12 @@ use Rattle.gr_pubend.specs.declared.answers.Quieted.{Quieted}
 use Rattle.gr_pubend.specs.declared.answers.Quieted.TheVariants.{NotYet, Marked}
 use Rattle.gr_model.specs.declared.report.Report.{Report}
 use Rattle.gr_model.specs.declared.report.Report.TheVariants as line
-use Rattle.gr_model.specs.Net.{Net, keeps_horizon}
-use Rattle.gr_model.specs.Broker.{View, Log, consolidated, done_upto, expect_frames}
+use Rattle.gr_model.specs.Broker.{View, expect_frames}
 
 -- the tick at which a time of silence is marked
 abbrev pub tick_marked : Quieted → Option ℕ
 tick_marked (Marked tick fresh) = Some tick
 tick_marked NotYet = None
-
--- the tick up to which a log is cut: that up to which all is consolidated, where that is past the last cut
-abbrev pub tick_cut : Net → ℕ → ℕ → View → Log → Option ℕ
-tick_cut net p b v log =
-    let tick : ℕ = done_upto (consolidated (keeps_horizon net p b) v.horizon v.wants) log.settled in
-    if nat_lt log.cut tick then Some tick else None
 
 -- the line of a mark, and that of a cut
 abbrev pub mark_lines : ℕ → Option ℕ → List Report

@@ -1,9 +1,8 @@
 //! A publisher's calls at its host: an event is logged and learned, silence is marked, and what all children have is
 //! cut.
 
-ghost use Rattle.std.specs.Prelude.{◌≡◌, ◌≢◌, ◌↔◌, ◌⊎◌, ℕ, ◌+◌, ◌++◌, ◌∷◌, [], ◌<◌, ◌≤◌, true, false, length, Some};
-ghost use Rattle.std.specs.Prelude.{None, Err, IsErr, IsSome, IsErrOf, IfOk, IfSome, OnOk, OnErr};
-ghost use Rattle.std.specs.Option.{ForSome, ForNone};
+ghost use Rattle.std.specs.Prelude.{◌≡◌, ◌≢◌, ◌↔◌, ◌⊎◌, ℕ, ◌+◌, ◌++◌, ◌∷◌, [], ◌<◌, ◌≤◌, true, false, Some};
+ghost use Rattle.std.specs.Prelude.{None, Err, IsErr, IsSome, IsErrOf, IfOk, OnOk, OnErr};
 ghost use Rattle.gr_out.specs.Stops.{StaysFaultless};
 ghost use Rattle.gr_tick.specs.declared.TheConstants.{MAX_TICK};
 ghost use Rattle.gr_curio.specs.Wants.{runs_of};
@@ -13,18 +12,20 @@ ghost use Rattle.gr_publog.specs.Calls.{IsReady, GoesOn, Appends, Tally, Causes,
 ghost use Rattle.gr_pubend.specs.Log.{Log as MachineLog, log_of};
 ghost use Rattle.gr_pubend.specs.Answers.{quieted, publish_logs, quiet_logs, IsPlanned, IsPlannedMark};
 ghost use Rattle.gr_topo.specs.Topology.{children_of};
-ghost use Rattle.gr_model.specs.Net.{is_host, keeps_horizon};
+ghost use Rattle.gr_model.specs.Net.{is_host};
 ghost use Rattle.gr_model.specs.NetOf.{net_of};
-ghost use Rattle.gr_model.specs.Broker.{Outcome as MachineOutcome, learn, horizon_if, publish, publish_by, marking};
+ghost use Rattle.gr_model.specs.Broker.{Outcome as MachineOutcome, learn, publish, publish_by, marking};
 ghost use Rattle.gr_model.specs.Broker.{marking_by, wake_host};
 ghost use Rattle.gr_broker_relay.specs.Kept.{IsKept};
 ghost use Rattle.gr_broker_relay.specs.Held.{held_view, IsSite};
 ghost use Rattle.gr_broker_relay.specs.Told.{Tells, Adds, AddsFrames, IsBlank};
+ghost use Rattle.gr_broker_relay.specs.Cuts.{tick_cut};
 ghost use Rattle.gr_broker.specs.Hosted.{logged, cut_logs, AppendsTwice, WakeLeaves};
-ghost use Rattle.gr_broker.specs.Host.{host_with, tick_marked, tick_cut, mark_lines, cut_lines, expected_frames};
+ghost use Rattle.gr_broker.specs.Host.{host_with, tick_marked, mark_lines, cut_lines, expected_frames};
 
 use gr_broker_relay::{
-    Held, Memory, Outcome, Site, apply_learning, expect_children, plan_learning, reserve_learning,
+    Held, Memory, Outcome, Site, apply_learning, cut_due, expect_children, plan_learning,
+    reserve_learning,
 };
 use gr_curio::Wants;
 use gr_event::Event;
@@ -377,40 +378,6 @@ fn log_mark<D: Disk>(
         Ok(()) => Ok(Some(tick)),
         Err(fault) => Err(fault),
     }
-}
-
-/// The horizon, where one is kept. Takes no memory.
-fn horizon_of(site: &Site<'_>, held: &Held) -> Option<u64>
-    requires site { IsSite site.now }
-    requires kept { IsKept (net_of site.now.topo.now) site.now.publisher site.now.broker (held_view held.now) }
-    ensures value { result ≡ horizon_if (keeps_horizon
-        (net_of site.now.topo.now) site.now.publisher site.now.broker) held.now.horizon }
-    ensures upto { ForSome result (λ h. h ≤ MAX_TICK) }
-    ensures some { ForNone result (0 < length held.now.wants) }
-{
-    if site.position.keeps {
-        return Some(held.horizon.horizon());
-    }
-    None
-}
-
-/// Up to which tick the log is to be cut: where more is consolidated than was cut. Takes no memory.
-fn cut_due(site: &Site<'_>, held: &Held, log: &Log) -> Option<u64>
-    requires site { IsSite site.now }
-    requires kept { IsKept (net_of site.now.topo.now) site.now.publisher site.now.broker (held_view held.now) }
-    ensures tick { result ≡ tick_cut (net_of site.now.topo.now) site.now.publisher site.now.broker
-        (held_view held.now) (log_of log.now.records) }
-    ensures follows { IfSome result (λ tick. may_follow (state_of log.now.records) (Record.Cut tick) ≡ true) }
-{
-    // Proof only: the records follow one another.
-    let _ = log.is_broken();
-    let upto = held
-        .wants
-        .consolidated_upto(horizon_of(site, held), log.settled());
-    if log.cut() < upto {
-        return Some(upto);
-    }
-    None
 }
 
 /// The lines of a mark and of a cut, where there is one.

@@ -16,3 +16,4 @@ pub mod Asked
 pub mod AskedCalls
 pub mod Placing
 pub mod Seats
+pub mod Consolidation

@@ -6,3 +6,4 @@ pub mod Changes
 pub mod Handed
 pub mod Answers
 pub mod Positions
+pub mod Cuts

@@ -1,5 +1,5 @@
 //! What a broker does for one publisher: it learns what comes, hands it over and forwards it to its children, answers
-//! what they ask, and asks upstream for what is unknown.
+//! what they ask, asks upstream for what is unknown, and at the host says how far the log is to be cut.
 //!
 //! A call looks at a `Site`, where the broker stands in the publisher's tree, and edits a `Held`, what it keeps of that
 //! publisher. Each is one equation with a call of the machine in `gr_model/specs/Broker.antt`: `learn`, `curiosity`,
@@ -10,6 +10,7 @@
 
 mod answering;
 mod asking;
+mod cutting;
 mod held;
 mod learning;
 mod outcome;
@@ -19,6 +20,7 @@ mod site;
 
 pub use answering::take_curiosity;
 pub use asking::{expect_children, take_expect, wake_below};
+pub use cutting::cut_due;
 pub use held::Held;
 pub use learning::{Changes, apply_learning, learn, plan_learning, reserve_learning};
 pub use outcome::{Memory, Outcome};
