@@ -1,5 +1,3 @@
-pub mod RunWords
-pub mod Rows
 pub mod Ordering
 pub mod NetOf
 pub mod NetWords

@@ -6,11 +6,7 @@
 //! `specs/Arrivals.antt` a server.
 #![tactic(auto)]
 
-mod lines;
-pub mod print;
 pub mod report;
 pub mod topologies;
-mod words;
 
-pub use print::{Memory, PutFault, put, put_behind};
 pub use report::{Report, Reports};

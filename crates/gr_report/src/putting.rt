@@ -7,8 +7,9 @@ ghost use Rattle.gr_model.specs.Text.{IsNamed, labels_of, whole_line, report_tex
 ghost use Rattle.gr_out.specs.Page.{TakesBut, TakesFront};
 ghost use Rattle.gr_report.specs.Named.{AllNamed, IsPutFault};
 
-use gr_model::{Report, put_behind};
+use gr_model::Report;
 use gr_out::{Page, RunFault, Sink};
+use gr_report_text::put_behind;
 use gr_topo::Topology;
 use std::alloc::Global;
 

@@ -6,8 +6,9 @@ ghost use Rattle.gr_model.specs.Text.{IsNamed};
 
 use crate::known::{curiosity, event, knowledge, known};
 use gr_event::Bytes;
-use gr_model::{PutFault, Report, Reports, put};
+use gr_model::{Report, Reports};
 use gr_out::MemSink;
+use gr_report_text::{PutFault, put};
 use gr_tests_rows::{Stop, bytes, number, put_lines};
 use gr_topo::Topology;
 use std::alloc::Global;

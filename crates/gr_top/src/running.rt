@@ -8,9 +8,10 @@ ghost use Rattle.gr_publog.specs.Crash.{EitherRose};
 ghost use Rattle.gr_top.specs.Serving.{CanRun, around, RunsTo, StopsBy, IsDamaged, AllRead, damaged_line};
 ghost use Rattle.gr_top.specs.Top.{IsCut, IsStop};
 
-use gr_model::{PutFault, Report, put};
+use gr_model::Report;
 use gr_node::{an_honest_journal_meets_the_headline, serve};
 use gr_out::{Disk, Post, RunFault, Sink};
+use gr_report_text::{PutFault, put};
 use gr_sched::Steps;
 use gr_topo::Topology;
 use std::alloc::Global;
