@@ -5,9 +5,11 @@
 #![tactic(auto)]
 
 mod asked;
+mod law;
 mod printing;
 mod reading;
 
 pub use asked::Asked;
+pub use law::limit_of_compared_filters;
 pub use printing::print_covers;
 pub use reading::read;

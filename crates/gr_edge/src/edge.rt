@@ -108,7 +108,7 @@ impl Edge {
             self.listed = self.listed.then(&Wish::Filtered { filter });
             return Ok(());
         }
-        self.reserve()?;
+        self.begin_table()?;
         let place = self.asked.len() as u16;
         self.asked.add(filter)?;
         self.listed = self.listed.then(&Wish::Filtered { filter });
@@ -117,8 +117,8 @@ impl Edge {
         Ok(())
     }
 
-    /// Makes room for wide filters before a second filter is asked, and keeps the first one in mind.
-    fn reserve(&mut self) -> Result<(), Memory>
+    /// Makes the table of wide filters before a second filter is asked, with the first one in it.
+    fn begin_table(&mut self) -> Result<(), Memory>
         ensures { self.new ≡ self.old }
     {
         if self.asked.len() != 1 || !self.widest.is_empty() {
@@ -235,11 +235,16 @@ fn first_mark(node: &Node) -> u64 {
     }
 }
 
+// The two numbers of the hash of Fowler, Noll and Vo, of 64 bits.
+const FNV_OFFSET: u64 = 0xcbf2_9ce4_8422_2325;
+
+const FNV_PRIME: u64 = 0x100_0000_01b3;
+
 /// The mark of a comparison: by the name, and by the text that it is to equal.
 fn mark_of(left: &Operand, sign: Sign, right: &Operand) -> u64 {
     match left {
         Operand::Name(name) => {
-            let name = mixed(0xcbf2_9ce4_8422_2325, name.as_slice());
+            let name = mixed(FNV_OFFSET, name.as_slice());
             match right {
                 Operand::Text(text) if sign == Sign::Equal => mixed(name, text.as_slice()),
                 _ => name,
@@ -253,7 +258,7 @@ fn mark_of(left: &Operand, sign: Sign, right: &Operand) -> u64 {
 fn mixed(from: u64, bytes: &[u8]) -> u64 {
     let mut mark = from;
     'bytes: for byte in bytes {
-        mark = (mark ^ u64::from(*byte)).wrapping_mul(0x100_0000_01b3);
+        mark = (mark ^ u64::from(*byte)).wrapping_mul(FNV_PRIME);
     }
     mark ^ (mark >> 29)
 }

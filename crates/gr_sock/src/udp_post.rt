@@ -32,10 +32,11 @@ const LONGEST: u64 = 50;
 // The first wait, in milliseconds.
 const FIRST_WAIT: u64 = 12;
 
-// How many quiet moments in a row have to have news before them, so that a wait gets shorter, and the longest.
-const FEW: u64 = 2;
+// Before how many quiet moments in a row there has to be news for a wait to get shorter.
+const NEWS_IN_A_ROW: u64 = 2;
 
-const ENOUGH: u64 = 5;
+// The same for the longest wait.
+const NEWS_AT_LONGEST: u64 = 5;
 
 /// A post of which each hosted broker has a socket. To `Post` it tells nothing of what came and went; each call says
 /// what it does with the network, where that tells what passed.
@@ -221,7 +222,8 @@ fn pause_after(pause: u64, run: u64, arrival: Arrival) -> u64
 {
     match arrival {
         Arrival::Quiet { .. } if run == 0 => (pause * 2).min(LONGEST),
-        Arrival::Quiet { .. } if pause < LONGEST && run >= FEW || run >= ENOUGH => (pause / 2).max(
+        Arrival::Quiet { .. }
+            if pause < LONGEST && run >= NEWS_IN_A_ROW || run >= NEWS_AT_LONGEST => (pause / 2).max(
             1,
         ),
         Arrival::Datagram { .. } | Arrival::Quiet { .. } | Arrival::Closed => pause,
