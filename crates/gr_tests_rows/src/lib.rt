@@ -5,33 +5,35 @@
 //! says how long each took.
 #![tactic(auto)]
 
+mod page;
 mod row;
 mod text;
 mod timing;
+mod words;
 
-pub use row::{Stop, TickRange, bytes, number, put_hex, put_text, range, unescaped};
+pub use page::Page;
+pub use row::{Stop, TickRange, bytes, number, range, unescaped};
 use std::alloc::{AllocError, Global};
-use std::fmt::Write;
-pub use text::{put_lines, spelled};
+pub use text::spelled;
 pub use timing::time_of;
+pub use words::{Words, first_word, parted};
 
 /// The row itself, and below it what its call answers; below a row that names no call, the words `no such row`. Want of
 /// memory is the only error.
 pub fn answers_to<C>(alloc: Global, row: &str, call: C) -> Result<String, AllocError>
 where
-    C: FnOnce(&str, &mut String) -> Result<(), Stop>,
+    C: FnOnce(&str, &mut Page) -> Result<(), Stop>,
     requires { C.IsAlwaysCallable call }
 {
-    let mut out = String::new(alloc);
-    out.push_str(row)?;
-    out.push('\n')?;
-    if row.is_empty() || row.starts_with('#') {
-        return Ok(out);
+    let mut page = Page::new(alloc);
+    page.push_str(row);
+    page.push('\n');
+    if !row.is_empty() && !row.starts_with('#') {
+        match call(row, &mut page) {
+            Ok(()) => {}
+            Err(Stop::NoRow) => page.push_str("  no such row\n"),
+            Err(Stop::Memory) => return Err(AllocError),
+        }
     }
-    match call(row, &mut out) {
-        Ok(()) => {}
-        Err(Stop::NoRow) => write!(out, "  no such row\n")?,
-        Err(Stop::Memory) => return Err(AllocError),
-    }
-    Ok(out)
+    page.finish()
 }

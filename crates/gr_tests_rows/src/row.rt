@@ -5,7 +5,6 @@ ghost use Rattle.gr_tick.specs.declared.TheConstants.{MAX_TICK};
 
 use gr_tick::MAX_TICK;
 use std::alloc::{AllocError, AllocFailed, Global};
-use std::fmt::Write;
 
 /// Why a row has no answer.
 #[derive(Clone, Copy, Debug, PartialEq, Eq)]
@@ -137,25 +136,4 @@ pub fn range(word: &str) -> Result<TickRange, Stop> {
         return Err(Stop::NoRow);
     }
     Ok(TickRange { first, last })
-}
-
-/// Prints bytes in hexadecimal.
-pub fn put_hex(out: &mut String, bytes: &[u8]) -> Result<(), AllocError> {
-    for byte in bytes {
-        write!(out, "{byte:02x}")?;
-    }
-    Ok(())
-}
-
-/// Prints a text as a row has it, with escapes.
-pub fn put_text(out: &mut String, bytes: &[u8]) -> Result<(), AllocError> {
-    for byte in bytes {
-        match *byte {
-            b'\n' => out.push_str("\\n")?,
-            b'\\' => out.push_str("\\\\")?,
-            b' '..=b'~' => write!(out, "{}", char::from(*byte))?,
-            _ => write!(out, "\\x{byte:02x}")?,
-        }
-    }
-    Ok(())
 }

@@ -1,6 +1,6 @@
 //! Texts of any length in a row, and texts of many lines in an answer.
 
-use crate::row::{Stop, number, put_text, unescaped};
+use crate::row::{Stop, number, unescaped};
 use std::alloc::{AllocError, Global};
 use std::fmt::Write;
 
@@ -68,24 +68,4 @@ fn put_number(text: &mut String, part: &str, n: u64) -> Result<(), AllocError> {
         Some(("+1", rest)) => write!(text, "{}{rest}", n.wrapping_add(1)),
         _ => text.push_str(part),
     }
-}
-
-/// Prints a text of lines, each indented; behind the last one, where no line feed ends it, the words `(not ended)`.
-pub fn put_lines(out: &mut String, text: &[u8]) -> Result<(), AllocError> {
-    let mut begun = false;
-    for byte in text {
-        if !begun {
-            out.push_str("  ")?;
-        }
-        begun = *byte != b'\n';
-        if begun {
-            put_text(out, &[*byte])?;
-        } else {
-            out.push('\n')?;
-        }
-    }
-    if begun {
-        out.push_str(" (not ended)\n")?;
-    }
-    Ok(())
 }

@@ -1,5 +1,6 @@
 //! How long a call takes.
 
+use crate::page::Page;
 use crate::row::{Stop, number};
 use std::alloc::Global;
 use std::io;
@@ -11,7 +12,7 @@ use std::time::{Clock, Instant};
 pub fn time_of<T, C>(clock: &T, alloc: Global, words: &str, mut call: C) -> io::Result<String>
 where
     T: Clock,
-    C: FnMut(&str, &mut String) -> Result<(), Stop>,
+    C: FnMut(&str, &mut Page) -> Result<(), Stop>,
     requires { C.IsAlwaysCallable call }
 {
     let (count, row) = words.split_once(' ').unwrap_or(("0", ""));
@@ -21,10 +22,11 @@ where
     }
     let start = Instant::now(clock)?;
     for _ in 0..count {
-        let mut out = String::new(alloc);
-        if call(row, &mut out).is_err() {
+        let mut page = Page::new(alloc);
+        if call(row, &mut page).is_err() {
             return Ok(String::from_str(alloc, "  no such row\n")?);
         }
+        page.finish()?;
     }
     let nanos = start.elapsed(clock)?.as_nanos() / u128::from(count);
     Ok(format!(in alloc; "  {nanos} nanoseconds each\n")?)

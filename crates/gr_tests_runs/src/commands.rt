@@ -5,11 +5,11 @@
 //! `room`, how many bytes the sink takes, 10,000 where it is empty; `script`, what comes to the post, cue by cue.
 
 use crate::texts::Texts;
+use crate::words::{put_counted, short_number, size};
 use gr_out::{MemDisk, MemPost, MemSink, MemSource, Memory};
-use gr_tests_rows::{Stop, number, put_hex, unescaped};
+use gr_tests_rows::{Page, Stop, first_word, number, parted, unescaped};
 use gr_top::gryphon;
-use std::alloc::Global;
-use std::fmt::Write;
+use std::alloc::{AllocError, Global};
 use std::str;
 
 /// Each name of a text that a run is given.
@@ -24,22 +24,22 @@ const ROOM: usize = 10_000;
 const OFFERS: u64 = 9;
 
 /// Answers a row about the top call.
-pub fn answer(alloc: Global, texts: &mut Texts, row: &str, out: &mut String) -> Result<(), Stop> {
-    let (call, rest) = row.split_once(' ').unwrap_or((row, ""));
+pub fn answer(alloc: Global, texts: &mut Texts, row: &str, page: &mut Page) -> Result<(), Stop> {
+    let (call, rest) = first_word(row);
     match call {
         "anew" => anew(alloc, texts),
-        "run" => run(alloc, texts, rest, usize::MAX, out),
-        "front" => run(alloc, texts, rest, 2, out),
-        "offers" => run_offers(alloc, texts, rest, out),
-        "lane" => run_lane(alloc, texts, rest, out),
-        "picks" => picks(alloc, texts, rest, out),
+        "run" => run(alloc, texts, rest, usize::MAX, page),
+        "front" => run(alloc, texts, rest, 2, page),
+        "offers" => run_offers(alloc, texts, rest, page),
+        "lane" => run_lane(alloc, texts, rest, page),
+        "picks" => picks(alloc, texts, rest, page),
         _ => Err(Stop::NoRow),
     }
 }
 
 /// The row `anew`: nothing is given.
 fn anew(alloc: Global, texts: &mut Texts) -> Result<(), Stop> {
-    for name in GIVEN {
+    for name in GIVEN.iter() {
         texts.put(alloc, name, Vec::new(alloc))?;
     }
     Ok(())
@@ -47,35 +47,44 @@ fn anew(alloc: Global, texts: &mut Texts) -> Result<(), Stop> {
 
 /// A text of bytes.
 fn text_of(bytes: &[u8]) -> Result<&str, Stop> {
-    str::from_utf8(bytes).map_err(|_| Stop::NoRow)
+    match str::from_utf8(bytes) {
+        Ok(text) => Ok(text),
+        Err(_) => Err(Stop::NoRow),
+    }
 }
 
 /// The numbers in a text.
 fn numbers_of(alloc: Global, text: &[u8]) -> Result<Vec<u64>, Stop> {
+    let text = text_of(text)?;
     let mut numbers = Vec::new(alloc);
-    for word in text_of(text)?.split(' ') {
-        if !word.is_empty() {
-            numbers.push(number(word)?)?;
-        }
+    for word in text.split(' ') {
+        push_number(word, &mut numbers)?;
     }
     Ok(numbers)
 }
 
-/// The sink of a run.
-fn sink_of(alloc: Global, texts: &Texts) -> Result<MemSink, Stop> {
-    let room = texts.of("room");
-    let room = if room.is_empty() {
-        ROOM
-    } else {
-        size(text_of(room)?)?
-    };
-    let fails = numbers_of(alloc, texts.of("writes"))?;
-    Ok(MemSink::new(alloc, room, fails.as_slice())?)
+/// Puts the number of a word at the end, if there is a word.
+fn push_number(word: &str, numbers: &mut Vec<u64>) -> Result<(), Stop> {
+    if word.is_empty() {
+        return Ok(());
+    }
+    Ok(numbers.push(number(word)?)?)
 }
 
-/// The size that a word spells.
-fn size(word: &str) -> Result<usize, Stop> {
-    word.parse::<usize>().map_err(|_| Stop::NoRow)
+/// The room in the sink of a run.
+fn room_of(texts: &Texts) -> Result<usize, Stop> {
+    let room = texts.of("room");
+    if room.is_empty() {
+        return Ok(ROOM);
+    }
+    size(text_of(room)?)
+}
+
+/// The sink of a run.
+fn sink_of(alloc: Global, texts: &Texts) -> Result<MemSink, Stop> {
+    let room = room_of(texts)?;
+    let fails = numbers_of(alloc, texts.of("writes"))?;
+    Ok(MemSink::new(alloc, room, fails.as_slice())?)
 }
 
 /// The source of a run.
@@ -86,66 +95,102 @@ fn source_of(alloc: Global, texts: &Texts) -> Result<MemSource, Stop> {
 
 /// The disk of a run, with what its lane holds at first.
 fn disk_of(alloc: Global, texts: &Texts) -> Result<MemDisk, Stop> {
-    let fails = numbers_of(alloc, texts.of("disk"))?;
-    let mut disk = MemDisk::new(alloc, fails.as_slice())?;
-    let lane = texts.of("lane");
-    if !lane.is_empty() {
-        disk.put(0, lane)?;
-    }
+    let mut disk = bare_disk(alloc, texts)?;
+    put_lane(texts.of("lane"), &mut disk)?;
     Ok(disk)
+}
+
+/// The disk of a run, with nothing in its lanes.
+fn bare_disk(alloc: Global, texts: &Texts) -> Result<MemDisk, Stop> {
+    let fails = numbers_of(alloc, texts.of("disk"))?;
+    Ok(MemDisk::new(alloc, fails.as_slice())?)
+}
+
+/// Puts bytes into lane 0, if there are any.
+fn put_lane(bytes: &[u8], disk: &mut MemDisk) -> Result<(), AllocError> {
+    if bytes.is_empty() {
+        return Ok(());
+    }
+    disk.put(0, bytes)
 }
 
 /// The post of a run, before its script.
 fn bare_post(alloc: Global, texts: &Texts) -> Result<MemPost, Stop> {
     let offers = numbers_of(alloc, texts.of("offers"))?;
-    let bindings = numbers_of(alloc, texts.of("bindings"))?;
-    Ok(MemPost::new(alloc, offers.as_slice(), bindings.as_slice())?)
+    post_with(alloc, offers.as_slice(), texts.of("bindings"))
+}
+
+/// A post of which these offers fail, and the bindings with the numbers in a text.
+fn post_with(alloc: Global, offers: &[u64], bindings: &[u8]) -> Result<MemPost, Stop> {
+    let bindings = numbers_of(alloc, bindings)?;
+    Ok(MemPost::new(alloc, offers, bindings.as_slice())?)
 }
 
 /// The post of a run, with its script.
 fn post_of(alloc: Global, texts: &Texts) -> Result<MemPost, Stop> {
+    let script = text_of(texts.of("script"))?;
     let mut post = bare_post(alloc, texts)?;
-    for line in text_of(texts.of("script"))?.lines() {
-        put_cue(texts, &mut post, line)?;
-    }
+    put_script(texts, &mut post, script)?;
     Ok(post)
+}
+
+/// Puts the cues of a script, a line each, behind the script of a post.
+fn put_script(texts: &Texts, post: &mut MemPost, script: &str) -> Result<(), Stop> {
+    for line in script.lines() {
+        put_cue(texts, post, line)?;
+    }
+    Ok(())
 }
 
 /// Puts a cue behind a script: `quiet MOMENT`, `pass OFFER MOMENT`, `raw NODE NAME MOMENT` or `fail`. A node is a
 /// broker's by its number, or 64 and more for a publisher's client; a name is that of a text.
 fn put_cue(texts: &Texts, post: &mut MemPost, cue: &str) -> Result<(), Stop> {
-    let (kind, rest) = cue.split_once(' ').unwrap_or((cue, ""));
+    let (kind, rest) = first_word(cue);
     match kind {
-        "quiet" => post.quiet(number(rest)?)?,
-        "pass" => put_pass(post, rest)?,
-        "raw" => put_raw(texts, post, rest)?,
-        "fail" => post.fail()?,
-        _ => return Err(Stop::NoRow),
+        "quiet" => Ok(post.quiet(number(rest)?)?),
+        "pass" => put_pass(post, rest),
+        "raw" => put_raw(texts, post, rest),
+        "fail" => Ok(post.fail()?),
+        _ => Err(Stop::NoRow),
     }
-    Ok(())
 }
 
+/// Puts an offer that passes behind a script.
 fn put_pass(post: &mut MemPost, words: &str) -> Result<(), Stop> {
-    let (offer, moment) = words.split_once(' ').ok_or(Stop::NoRow)?;
+    let (offer, moment) = parted(words, " ")?;
     Ok(post.pass(number(offer)?, number(moment)?)?)
 }
 
+/// Puts bytes that come behind a script.
 fn put_raw(texts: &Texts, post: &mut MemPost, words: &str) -> Result<(), Stop> {
-    let (node, rest) = words.split_once(' ').ok_or(Stop::NoRow)?;
-    let (name, moment) = rest.split_once(' ').ok_or(Stop::NoRow)?;
-    let node = node.parse::<u16>().map_err(|_| Stop::NoRow)?;
-    Ok(post.raw(node, texts.of(name), number(moment)?)?)
+    let (node, rest) = parted(words, " ")?;
+    let (name, moment) = parted(rest, " ")?;
+    Ok(post.raw(short_number(node)?, texts.of(name), number(moment)?)?)
 }
 
 /// The words of a run, each with escapes; the word `''` is empty.
 fn words_of(alloc: Global, row: &str) -> Result<Vec<Vec<u8>>, Stop> {
     let mut words = Vec::new(alloc);
     for word in row.split(' ') {
-        if word == "''" {
-            words.push(Vec::new(alloc))?;
-        } else if !word.is_empty() {
-            words.push(unescaped(alloc, word)?)?;
-        }
+        push_word(alloc, word, &mut words)?;
+    }
+    Ok(words)
+}
+
+/// Puts a word at the end, if there is one.
+fn push_word(alloc: Global, word: &str, words: &mut Vec<Vec<u8>>) -> Result<(), Stop> {
+    if word.is_empty() {
+        return Ok(());
+    }
+    let spelled = if word == "''" { "" } else { word };
+    Ok(words.push(unescaped(alloc, spelled)?)?)
+}
+
+/// Words as texts.
+fn as_texts(alloc: Global, spelled: &[Vec<u8>]) -> Result<Vec<&str>, Stop> {
+    let mut words = Vec::new(alloc);
+    for word in spelled {
+        words.push(text_of(word.as_slice())?)?;
     }
     Ok(words)
 }
@@ -159,13 +204,34 @@ fn called(
     disk: &mut MemDisk,
     post: &mut MemPost,
 ) -> Result<u8, Stop> {
-    let mut source = source_of(alloc, texts)?;
     let spelled = words_of(alloc, row)?;
-    let mut words = Vec::new(alloc);
-    for word in &spelled {
-        words.push(text_of(word.as_slice())?)?;
-    }
-    Ok(gryphon(alloc, words.as_slice(), &mut source, sink, disk, post))
+    call_spelled(alloc, texts, spelled.as_slice(), sink, disk, post)
+}
+
+/// Makes the top call with words of bytes.
+fn call_spelled(
+    alloc: Global,
+    texts: &Texts,
+    spelled: &[Vec<u8>],
+    sink: &mut MemSink,
+    disk: &mut MemDisk,
+    post: &mut MemPost,
+) -> Result<u8, Stop> {
+    let words = as_texts(alloc, spelled)?;
+    call_words(alloc, texts, words.as_slice(), sink, disk, post)
+}
+
+/// Makes the top call with words.
+fn call_words(
+    alloc: Global,
+    texts: &Texts,
+    words: &[&str],
+    sink: &mut MemSink,
+    disk: &mut MemDisk,
+    post: &mut MemPost,
+) -> Result<u8, Stop> {
+    let mut source = source_of(alloc, texts)?;
+    Ok(gryphon(alloc, words, &mut source, sink, disk, post))
 }
 
 /// Makes the top call, and prints its status and, up to so many lines, what it printed; two dots where that ends
@@ -177,93 +243,181 @@ fn printed(
     most: usize,
     disk: &mut MemDisk,
     post: &mut MemPost,
-    out: &mut String,
+    page: &mut Page,
 ) -> Result<(), Stop> {
     let mut sink = sink_of(alloc, texts)?;
     let status = called(alloc, texts, row, &mut sink, disk, post)?;
-    write!(out, "  status {status}\n")?;
-    put_lines(text_of(sink.bytes())?, most, out)
+    put_printed(status, sink.bytes(), most, page)
 }
 
-/// Prints the lines of a text, up to so many.
-fn put_lines(text: &str, most: usize, out: &mut String) -> Result<(), Stop> {
+/// Prints a status and, up to so many, the lines of bytes.
+fn put_printed(status: u8, bytes: &[u8], most: usize, page: &mut Page) -> Result<(), Stop> {
+    let text = text_of(bytes)?;
+    put_counted("  status ", u64::from(status), page);
+    page.push('\n');
     for line in text.split_inclusive('\n').take(most) {
-        write!(out, "  {line}")?;
-        if !line.ends_with('\n') {
-            out.push_str(" ..\n")?;
-        }
+        put_line(line, page);
     }
     Ok(())
+}
+
+/// Prints a line, and two dots where it does not end.
+fn put_line(line: &str, page: &mut Page) {
+    page.push_str("  ");
+    page.push_str(line);
+    if !line.ends_with('\n') {
+        page.push_str(" ..\n");
+    }
 }
 
 /// The rows `run WORDS..` and `front WORDS..`: the status, and what was printed, or its first two lines.
-fn run(alloc: Global, texts: &Texts, row: &str, most: usize, out: &mut String) -> Result<(), Stop> {
+fn run(alloc: Global, texts: &Texts, row: &str, most: usize, page: &mut Page) -> Result<(), Stop> {
     let mut disk = disk_of(alloc, texts)?;
+    run_on(alloc, texts, row, most, &mut disk, page)
+}
+
+/// A run on a disk.
+fn run_on(
+    alloc: Global,
+    texts: &Texts,
+    row: &str,
+    most: usize,
+    disk: &mut MemDisk,
+    page: &mut Page,
+) -> Result<(), Stop> {
     let mut post = post_of(alloc, texts)?;
-    printed(alloc, texts, row, most, &mut disk, &mut post, out)
+    printed(alloc, texts, row, most, disk, &mut post, page)
 }
 
 /// The row `offers WORDS..`: the same, and each of the first offers to the post.
-fn run_offers(alloc: Global, texts: &Texts, row: &str, out: &mut String) -> Result<(), Stop> {
-    let mut disk = disk_of(alloc, texts)?;
+fn run_offers(alloc: Global, texts: &Texts, row: &str, page: &mut Page) -> Result<(), Stop> {
     let mut post = post_of(alloc, texts)?;
-    printed(alloc, texts, row, usize::MAX, &mut disk, &mut post, out)?;
-    for n in 1..OFFERS {
-        if let Some(offer) = post.offered(n) {
-            write!(out, "  offer {n} ")?;
-            put_hex(out, offer)?;
-            out.push('\n')?;
-        }
-    }
+    run_with(alloc, texts, row, &mut post, page)?;
+    put_offers(&post, page);
     Ok(())
 }
 
-/// The row `lane WORDS..`: the same as `run`, and what lane 0 holds then, which is what the next run finds there.
-fn run_lane(alloc: Global, texts: &mut Texts, row: &str, out: &mut String) -> Result<(), Stop> {
+/// A run with a post.
+fn run_with(
+    alloc: Global,
+    texts: &Texts,
+    row: &str,
+    post: &mut MemPost,
+    page: &mut Page,
+) -> Result<(), Stop> {
     let mut disk = disk_of(alloc, texts)?;
-    let mut post = post_of(alloc, texts)?;
-    printed(alloc, texts, row, usize::MAX, &mut disk, &mut post, out)?;
-    out.push_str("  lane ")?;
-    put_hex(out, disk.lane(0))?;
-    out.push('\n')?;
-    texts.put(alloc, "lane", Vec::from_slice(alloc, disk.lane(0))?)
+    printed(alloc, texts, row, usize::MAX, &mut disk, post, page)
+}
+
+/// Prints the first offers to a post.
+fn put_offers(post: &MemPost, page: &mut Page) {
+    for n in 1..OFFERS {
+        if let Some(offer) = post.offered(n) {
+            put_offer(n, offer, page);
+        }
+    }
+}
+
+/// Prints an offer.
+fn put_offer(n: u64, offer: &[u8], page: &mut Page) {
+    put_counted("  offer ", n, page);
+    page.push(' ');
+    page.push_hex(offer);
+    page.push('\n');
+}
+
+/// The row `lane WORDS..`: the same as `run`, and what lane 0 holds then, which is what the next run finds there.
+fn run_lane(alloc: Global, texts: &mut Texts, row: &str, page: &mut Page) -> Result<(), Stop> {
+    let mut disk = disk_of(alloc, texts)?;
+    run_on(alloc, texts, row, usize::MAX, &mut disk, page)?;
+    keep_lane(alloc, texts, disk.lane(0), page)
+}
+
+/// Prints what a lane holds, and keeps it for the next run.
+fn keep_lane(alloc: Global, texts: &mut Texts, lane: &[u8], page: &mut Page) -> Result<(), Stop> {
+    page.push_str("  lane ");
+    page.push_hex(lane);
+    page.push('\n');
+    texts.put(alloc, "lane", Vec::from_slice(alloc, lane)?)
 }
 
 /// The row `picks CALL`: a publish that is stopped inside at that call of the disk, and then made again, with each pick
 /// of what the stop leaves. The report is the text `kept` or the text `lost`; prints for which picks it is `kept`, and
 /// how many leave `lost`.
-fn picks(alloc: Global, texts: &Texts, row: &str, out: &mut String) -> Result<(), Stop> {
+fn picks(alloc: Global, texts: &Texts, row: &str, page: &mut Page) -> Result<(), Stop> {
     let mut lost = 0u64;
-    out.push_str("  kept at")?;
+    page.push_str("  kept at");
     for pick in 0..256u64 {
         let report = stopped(alloc, row, pick)?;
-        if report.as_slice() == texts.of("kept") {
-            write!(out, " {pick}")?;
-        } else if report.as_slice() == texts.of("lost") {
+        if put_pick(texts, pick, report.as_slice(), page) {
             lost = lost.wrapping_add(1);
-        } else {
-            write!(out, " else at {pick}")?;
         }
     }
-    Ok(write!(out, ", lost at {lost}\n")?)
+    put_counted(", lost at ", lost, page);
+    page.push('\n');
+    Ok(())
+}
+
+/// Prints a pick, but where the report is the text `lost`; says whether it is that.
+fn put_pick(texts: &Texts, pick: u64, report: &[u8], page: &mut Page) -> bool {
+    if report == texts.of("kept") {
+        put_counted(" ", pick, page);
+        return false;
+    }
+    if report == texts.of("lost") {
+        return true;
+    }
+    put_counted(" else at ", pick, page);
+    false
 }
 
 /// The report of a publish that is stopped, and of one that follows it.
 fn stopped(alloc: Global, call: &str, pick: u64) -> Result<Vec<u8>, Stop> {
-    let text = format!(in alloc;
-        "---\nclock 1000\npublish P 1 stop {call} pick {pick} {{\"n\":1}}\npublish P 1 {{\"n\":1}}\n"
-    )?;
-    let mut source = MemSource::new(alloc, text.as_bytes(), &[])?;
+    let text = stopping(alloc, call, pick)?;
+    report_of(alloc, text.as_bytes())
+}
+
+/// A scenario with a publish that is stopped, and one that follows it.
+fn stopping(alloc: Global, call: &str, pick: u64) -> Result<String, AllocError> {
+    let mut page = Page::new(alloc);
+    page.push_str("---\nclock 1000\npublish P 1 stop ");
+    page.push_str(call);
+    put_counted(" pick ", pick, &mut page);
+    page.push_str(" {\"n\":1}\npublish P 1 {\"n\":1}\n");
+    page.finish()
+}
+
+/// What a replay of a scenario reports.
+fn report_of(alloc: Global, text: &[u8]) -> Result<Vec<u8>, Stop> {
     let mut sink = MemSink::new(alloc, ROOM, &[])?;
-    let mut disk = MemDisk::new(alloc, &[])?;
-    let mut post = MemPost::new(alloc, &[], &[])?;
-    let _ = gryphon(
-        alloc,
-        &["replay"],
-        &mut source,
-        &mut sink,
-        &mut disk,
-        &mut post,
-    );
+    replay_into(alloc, text, &mut sink)?;
     Ok(Vec::from_slice(alloc, sink.bytes())?)
+}
+
+/// Replays a scenario into a sink.
+fn replay_into(alloc: Global, text: &[u8], sink: &mut MemSink) -> Result<(), AllocError> {
+    let mut source = MemSource::new(alloc, text, &[])?;
+    replay_from(alloc, &mut source, sink)
+}
+
+/// Replays a source into a sink.
+fn replay_from(
+    alloc: Global,
+    source: &mut MemSource,
+    sink: &mut MemSink,
+) -> Result<(), AllocError> {
+    let mut disk = MemDisk::new(alloc, &[])?;
+    replay_on(alloc, source, sink, &mut disk)
+}
+
+/// Replays a source into a sink, over a disk.
+fn replay_on(
+    alloc: Global,
+    source: &mut MemSource,
+    sink: &mut MemSink,
+    disk: &mut MemDisk,
+) -> Result<(), AllocError> {
+    let mut post = MemPost::new(alloc, &[], &[])?;
+    let _ = gryphon(alloc, &["replay"], source, sink, disk, &mut post);
+    Ok(())
 }

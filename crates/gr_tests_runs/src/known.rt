@@ -3,14 +3,14 @@
 use gr_curio::Q3;
 use gr_event::Event;
 use gr_know::K;
-use gr_tests_rows::{Stop, TickRange, range};
+use gr_tests_rows::{Stop, TickRange, parted, range};
 use gr_tick::{Lattice, MAX_TICK, Piece, Stream};
 use std::alloc::Global;
 
 /// The piece of knowledge that words spell.
-pub fn knowledge(alloc: Global, words: &[&str]) -> Result<Piece<K>, Stop> {
+pub fn knowledge(alloc: Global, words: &str) -> Result<Piece<K>, Stop> {
     let mut stream = Stream::new(alloc);
-    for word in words {
+    for word in words.split(' ') {
         join_known(alloc, &mut stream, word)?;
     }
     Ok(stream.piece(1, MAX_TICK)?)
@@ -18,11 +18,20 @@ pub fn knowledge(alloc: Global, words: &[&str]) -> Result<Piece<K>, Stop> {
 
 /// Joins what a word says.
 fn join_known(alloc: Global, stream: &mut Stream<K>, word: &str) -> Result<(), Stop> {
-    let ticks = word.strip_prefix(['S', 'D', 'F']).ok_or(Stop::NoRow)?;
-    let (ticks, _) = ticks.split_once('=').unwrap_or((ticks, ""));
-    let ticks = range(ticks)?;
+    let ticks = range(ticks_of(word)?)?;
     let value = known(alloc, word)?;
     join(stream, ticks, &value)
+}
+
+/// The ticks behind the letter of a value.
+fn ticks_of(word: &str) -> Result<&str, Stop> {
+    let Some(rest) = word.strip_prefix(['S', 'D', 'F']) else {
+        return Err(Stop::NoRow);
+    };
+    match rest.split_once('=') {
+        Some((ticks, _)) => Ok(ticks),
+        None => Ok(rest),
+    }
 }
 
 /// The value of knowledge that a word begins with; an event stands behind `=`.
@@ -31,12 +40,15 @@ pub fn known(alloc: Global, word: &str) -> Result<K, Stop> {
         [b'Q', ..] => Ok(K::Q),
         [b'S', ..] => Ok(K::S),
         [b'F', ..] => Ok(K::F),
-        [b'D', ..] => {
-            let (_, text) = word.split_once('=').ok_or(Stop::NoRow)?;
-            Ok(K::D(event(alloc, text)?))
-        }
+        [b'D', ..] => Ok(K::D(event_behind(alloc, word)?)),
         _ => Err(Stop::NoRow),
     }
+}
+
+/// The event that stands behind `=`.
+fn event_behind(alloc: Global, word: &str) -> Result<Event, Stop> {
+    let (_, text) = parted(word, "=")?;
+    event(alloc, text)
 }
 
 /// The event of a JSON text.
@@ -45,9 +57,9 @@ pub fn event(alloc: Global, text: &str) -> Result<Event, Stop> {
 }
 
 /// The piece of curiosity that words spell.
-pub fn curiosity(alloc: Global, words: &[&str]) -> Result<Piece<Q3>, Stop> {
+pub fn curiosity(alloc: Global, words: &str) -> Result<Piece<Q3>, Stop> {
     let mut stream = Stream::new(alloc);
-    for word in words {
+    for word in words.split(' ') {
         join_wanted(&mut stream, word)?;
     }
     Ok(stream.piece(1, MAX_TICK)?)
@@ -55,12 +67,12 @@ pub fn curiosity(alloc: Global, words: &[&str]) -> Result<Piece<Q3>, Stop> {
 
 /// Joins what a word says.
 fn join_wanted(stream: &mut Stream<Q3>, word: &str) -> Result<(), Stop> {
-    match word.strip_prefix('C') {
-        Some(ticks) => join(stream, range(ticks)?, &Q3::C),
-        None => {
-            let ticks = word.strip_prefix('A').ok_or(Stop::NoRow)?;
-            join(stream, range(ticks)?, &Q3::A)
-        }
+    if let Some(ticks) = word.strip_prefix('C') {
+        return join(stream, range(ticks)?, &Q3::C);
+    }
+    match word.strip_prefix('A') {
+        Some(ticks) => join(stream, range(ticks)?, &Q3::A),
+        None => Err(Stop::NoRow),
     }
 }
 

@@ -9,13 +9,15 @@ mod known;
 mod lines;
 mod pages;
 mod replays;
+mod report_lines;
 mod reports;
 mod soaks;
 mod texts;
+mod words;
 mod worlds;
 
 use crate::texts::Texts;
-use gr_tests_rows::{Stop, answers_to, time_of};
+use gr_tests_rows::{Page, Stop, answers_to, parted, time_of};
 use std::alloc::Global;
 use std::io;
 
@@ -29,7 +31,7 @@ fn main(rt: HostRuntime) -> io::Result<()> {
                 &rt,
                 alloc,
                 timed,
-                |row, out| call(alloc, &mut texts, row, out),
+                |row, page| call(alloc, &mut texts, row, page),
             )?;
             print!(rt; "{}\n{answer}", row.as_str())?;
             continue;
@@ -37,7 +39,7 @@ fn main(rt: HostRuntime) -> io::Result<()> {
         let answers = answers_to(
             alloc,
             row.as_str(),
-            |row, out| call(alloc, &mut texts, row, out),
+            |row, page| call(alloc, &mut texts, row, page),
         )?;
         print!(rt; "{answers}")?;
     }
@@ -45,18 +47,18 @@ fn main(rt: HostRuntime) -> io::Result<()> {
 }
 
 /// Makes the call that a row names.
-fn call(alloc: Global, texts: &mut Texts, row: &str, out: &mut String) -> Result<(), Stop> {
-    let (family, rest) = row.split_once(' ').ok_or(Stop::NoRow)?;
+fn call(alloc: Global, texts: &mut Texts, row: &str, page: &mut Page) -> Result<(), Stop> {
+    let (family, rest) = parted(row, " ")?;
     match family {
-        "report" => reports::answer(alloc, rest, out),
-        "page" => pages::answer(alloc, rest, out),
-        "replay" => replays::answer(alloc, rest, out),
-        "soak" => soaks::answer(alloc, rest, out),
+        "report" => reports::answer(alloc, rest, page),
+        "page" => pages::answer(alloc, rest, page),
+        "replay" => replays::answer(alloc, rest, page),
+        "soak" => soaks::answer(alloc, rest, page),
         "text" => texts.append_line(alloc, rest),
         "more" => texts.append_other(alloc, rest),
         "let" => texts.set(alloc, rest),
-        "world" => worlds::answer(alloc, texts, rest, out),
-        "gryphon" => commands::answer(alloc, texts, rest, out),
+        "world" => worlds::answer(alloc, texts, rest, page),
+        "gryphon" => commands::answer(alloc, texts, rest, page),
         _ => Err(Stop::NoRow),
     }
 }

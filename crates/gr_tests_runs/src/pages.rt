@@ -2,13 +2,13 @@
 
 ghost use Rattle.std.specs.Prelude.{None};
 
+use crate::words::put_counted;
 use gr_model::Report;
 use gr_out::{Failed, Page, Sink};
 use gr_report::{put_all, put_line};
-use gr_tests_rows::{Stop, number};
+use gr_tests_rows::{Page as Printed, Stop, number, parted};
 use gr_topo::Topology;
 use std::alloc::Global;
-use std::fmt::Write;
 
 /// A sink that takes all, and counts its calls.
 #[derive(Drop)]
@@ -29,19 +29,25 @@ impl Sink for Counting {
 
 /// Answers the row `all N COUNT` or `line N COUNT`: how many calls of a sink it takes to put the line `frames COUNT` so
 /// many times, then to write what is left, and then to write nothing.
-pub fn answer(alloc: Global, row: &str, out: &mut String) -> Result<(), Stop> {
-    let (call, rest) = row.split_once(' ').ok_or(Stop::NoRow)?;
-    let (times, count) = rest.split_once(' ').ok_or(Stop::NoRow)?;
-    let times = number(times)?;
-    let count = number(count)?;
+pub fn answer(alloc: Global, row: &str, out: &mut Printed) -> Result<(), Stop> {
+    let (call, rest) = parted(row, " ")?;
+    let (times, count) = parted(rest, " ")?;
+    let (times, count) = (number(times)?, number(count)?);
     let mut page = Page::new(alloc)?;
     let mut sink = Counting { calls: 0 };
     fill(alloc, call, times, count, &mut page, &mut sink)?;
-    write!(out, "  lines: calls {}\n", sink.calls)?;
+    put_calls("  lines: calls ", &sink, out);
     flush(&mut page, &mut sink)?;
-    write!(out, "  what is left: calls {}\n", sink.calls)?;
+    put_calls("  what is left: calls ", &sink, out);
     flush(&mut page, &mut sink)?;
-    Ok(write!(out, "  nothing: calls {}\n", sink.calls)?)
+    put_calls("  nothing: calls ", &sink, out);
+    Ok(())
+}
+
+/// Prints how many calls there were.
+fn put_calls(word: &str, sink: &Counting, out: &mut Printed) {
+    put_counted(word, sink.calls, out);
+    out.push('\n');
 }
 
 /// Puts a line so many times, by the call that a row names.
@@ -55,14 +61,26 @@ fn fill(
 ) -> Result<(), Stop> {
     let topology = Topology::blank(alloc)?;
     for _ in 0..times {
-        let line = Report::Frames { count };
-        let put = match call {
-            "line" => put_line(alloc, &topology, &line, page, sink),
-            _ => put_all(alloc, &topology, &[line], page, sink),
-        };
-        put.map_err(|_| Stop::Memory)?;
+        put_frames(alloc, call, &topology, count, page, sink)?;
     }
     Ok(())
+}
+
+/// Puts the line `frames COUNT`, by the call that a row names.
+fn put_frames(
+    alloc: Global,
+    call: &str,
+    topology: &Topology,
+    count: u64,
+    page: &mut Page,
+    sink: &mut Counting,
+) -> Result<(), Stop> {
+    let line = Report::Frames { count };
+    let put = match call {
+        "line" => put_line(alloc, topology, &line, page, sink),
+        _ => put_all(alloc, topology, &[line], page, sink),
+    };
+    put.map_err(|_| Stop::Memory)
 }
 
 /// Writes what a page holds.

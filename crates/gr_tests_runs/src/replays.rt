@@ -2,27 +2,36 @@
 
 ghost use Rattle.gr_scenario.specs.Steps.{AreStepsOf};
 
+use crate::words::{put_counted, size};
 use gr_out::{MemDisk, MemSink, RunFault};
 use gr_replay::replay;
 use gr_scenario::{Asked, read};
 use gr_sched::Steps;
-use gr_tests_rows::{Stop, number, put_lines, spelled};
+use gr_tests_rows::{Page, Stop, number, parted, spelled};
 use gr_topo::Topology;
 use std::alloc::{AllocError, Global};
-use std::fmt::Write;
 
 /// Answers the row `ROOM CALL SCENARIO`: what a replay of a scenario writes into a sink with so much room, where this
 /// call of the disk fails; 0 for none.
-pub fn answer(alloc: Global, row: &str, out: &mut String) -> Result<(), Stop> {
-    let (room, rest) = row.split_once(' ').ok_or(Stop::NoRow)?;
-    let (call, text) = rest.split_once(' ').ok_or(Stop::NoRow)?;
-    let room = usize::try_from(number(room)?).map_err(|_| Stop::NoRow)?;
-    let call = number(call)?;
-    let text = spelled(alloc, text)?;
-    match read(alloc, &text) {
-        Ok(Asked::Scenario { topology, steps }) => put_replay(
-            alloc, topology, &steps, room, call, out,
-        ),
+pub fn answer(alloc: Global, row: &str, page: &mut Page) -> Result<(), Stop> {
+    let (room, rest) = parted(row, " ")?;
+    let (call, text) = parted(rest, " ")?;
+    let (room, call) = (size(room)?, number(call)?);
+    put_read(alloc, &spelled(alloc, text)?, room, call, page)
+}
+
+/// Prints what a replay of a text writes.
+fn put_read(
+    alloc: Global,
+    text: &[u8],
+    room: usize,
+    call: u64,
+    page: &mut Page,
+) -> Result<(), Stop> {
+    match read(alloc, text) {
+        Ok(Asked::Scenario { topology, steps }) => {
+            Ok(put_replay(alloc, topology, &steps, room, call, page)?)
+        }
         Ok(Asked::TooManyBytes | Asked::TooManySteps | Asked::Refused(_)) => Err(Stop::NoRow),
         Err(_) => Err(Stop::Memory),
     }
@@ -35,25 +44,46 @@ fn put_replay(
     steps: &Steps,
     room: usize,
     call: u64,
-    out: &mut String,
-) -> Result<(), Stop>
+    page: &mut Page,
+) -> Result<(), AllocError>
+    requires { AreStepsOf topology steps.now }
+{
+    let mut sink = MemSink::new(alloc, room, &[])?;
+    let ended = replayed(alloc, topology, steps, call, &mut sink)?;
+    page.push_lines(sink.bytes());
+    put_end(ended, page);
+    Ok(())
+}
+
+/// How a replay ended that writes into a sink.
+fn replayed(
+    alloc: Global,
+    topology: Topology,
+    steps: &Steps,
+    call: u64,
+    sink: &mut MemSink,
+) -> Result<Result<(), RunFault>, AllocError>
     requires { AreStepsOf topology steps.now }
 {
     let mut disk = MemDisk::new(alloc, &[call])?;
-    let mut sink = MemSink::new(alloc, room, &[])?;
-    let ended = replay(alloc, topology, steps, &mut disk, &mut sink);
-    put_lines(out, sink.bytes())?;
-    Ok(put_end(ended, out)?)
+    Ok(replay(alloc, topology, steps, &mut disk, sink))
 }
 
 /// Prints how a run ended.
-fn put_end(ended: Result<(), RunFault>, out: &mut String) -> Result<(), AllocError> {
+fn put_end(ended: Result<(), RunFault>, page: &mut Page) {
     match ended {
-        Ok(()) => out.push_str("  done\n"),
-        Err(RunFault::Memory) => Err(AllocError),
-        Err(RunFault::Write) => out.push_str("  the sink failed\n"),
-        Err(RunFault::Disk) => out.push_str("  the disk failed\n"),
-        Err(RunFault::Damaged { publisher, at }) => write!(out, "  damaged {publisher} {at}\n"),
-        Err(RunFault::Post) => out.push_str("  the post failed\n"),
+        Ok(()) => page.push_str("  done\n"),
+        Err(RunFault::Memory) => page.tear(),
+        Err(RunFault::Write) => page.push_str("  the sink failed\n"),
+        Err(RunFault::Disk) => page.push_str("  the disk failed\n"),
+        Err(RunFault::Damaged { publisher, at }) => put_damage(publisher, at, page),
+        Err(RunFault::Post) => page.push_str("  the post failed\n"),
     }
+}
+
+/// Prints whose log is damaged, and where.
+fn put_damage(publisher: u16, at: u64, page: &mut Page) {
+    put_counted("  damaged ", u64::from(publisher), page);
+    put_counted(" ", at, page);
+    page.push('\n');
 }

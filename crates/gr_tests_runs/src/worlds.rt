@@ -1,50 +1,64 @@
 //! Worlds by their public calls: a row has steps, one after the other, over a disk in memory of which some calls fail.
 
-use crate::lines::{put_fault, tell};
+use crate::lines::{put_all, put_fault, tell};
 use crate::texts::Texts;
+use crate::words::{short_number, small_number};
 use gr_event::Event;
 use gr_out::MemDisk;
-use gr_tests_rows::{Stop, number};
+use gr_tests_rows::{Page, Stop, first_word, number, parted};
 use gr_tick::MAX_TICK;
 use gr_topo::Topology;
 use gr_world::World;
-use std::alloc::{AllocError, Global};
-use std::fmt::Write;
+use std::alloc::Global;
 use std::marker::Model;
 
 /// Answers a row about worlds: `run PART FAILS: STEP, STEP ..` with a topology part by the name of its text, and the
 /// number of the call of the disk that fails, 0 for none; `lane PART LANE` with what lane 0 holds, by the name of its
 /// text, for why no world opens there.
-pub fn answer(alloc: Global, texts: &Texts, row: &str, out: &mut String) -> Result<(), Stop> {
-    let (call, rest) = row.split_once(' ').ok_or(Stop::NoRow)?;
+pub fn answer(alloc: Global, texts: &Texts, row: &str, page: &mut Page) -> Result<(), Stop> {
+    let (call, rest) = parted(row, " ")?;
     match call {
-        "run" => run_steps(alloc, texts, rest, out),
-        "lane" => over_lane(alloc, texts, rest, out),
+        "run" => run_steps(alloc, texts, rest, page),
+        "lane" => over_lane(alloc, texts, rest, page),
         _ => Err(Stop::NoRow),
     }
 }
 
 /// Prints a line for each step of a world.
-fn run_steps(alloc: Global, texts: &Texts, row: &str, out: &mut String) -> Result<(), Stop> {
-    let (given, steps) = row.split_once(": ").ok_or(Stop::NoRow)?;
-    let (part, fails) = given.split_once(' ').ok_or(Stop::NoRow)?;
-    opened(alloc, texts.of(part), number(fails)?)?.take_all(steps, out)
+fn run_steps(alloc: Global, texts: &Texts, row: &str, page: &mut Page) -> Result<(), Stop> {
+    let (given, steps) = parted(row, ": ")?;
+    let (part, fails) = parted(given, " ")?;
+    let mut run = opened(alloc, texts.of(part), number(fails)?)?;
+    run.take_all(steps, page)
 }
 
 /// Opens a world where lane 0 has these bytes, and prints why that is refused.
-fn over_lane(alloc: Global, texts: &Texts, row: &str, out: &mut String) -> Result<(), Stop> {
-    let (part, lane) = row.split_once(' ').ok_or(Stop::NoRow)?;
-    let topology = Topology::read(alloc, texts.of(part)).map_err(|_| Stop::NoRow)?;
+fn over_lane(alloc: Global, texts: &Texts, row: &str, page: &mut Page) -> Result<(), Stop> {
+    let (part, lane) = parted(row, " ")?;
     let mut disk = MemDisk::new(alloc, &[])?;
     disk.put(0, texts.of(lane))?;
-    match World::new(alloc, topology, &mut disk) {
-        Ok(_) => out.push_str("  opened")?,
+    put_opening(alloc, texts.of(part), &mut disk, page)
+}
+
+/// Opens a world over a disk, and prints why that is refused.
+fn put_opening(
+    alloc: Global,
+    part: &[u8],
+    disk: &mut MemDisk,
+    page: &mut Page,
+) -> Result<(), Stop> {
+    let Ok(topology) = Topology::read(alloc, part) else {
+        return Err(Stop::NoRow);
+    };
+    match World::new(alloc, topology, disk) {
+        Ok(_) => page.push_str("  opened"),
         Err(fault) => {
-            out.push_str("  refused:")?;
-            put_fault(out, fault)?;
+            page.push_str("  refused:");
+            put_fault(fault, page);
         }
     }
-    Ok(out.push('\n')?)
+    page.push('\n');
+    Ok(())
 }
 
 /// A world with its disk.
@@ -84,28 +98,30 @@ fn opened(alloc: Global, part: &[u8], fails: u64) -> Result<Run, Stop> {
 
 impl Run {
     /// Takes each step, one after the other.
-    fn take_all(&mut self, steps: &str, out: &mut String) -> Result<(), Stop> {
+    fn take_all(&mut self, steps: &str, page: &mut Page) -> Result<(), Stop> {
         for step in steps.split(", ") {
-            write!(out, "  {step}:")?;
-            self.take(step, out)?;
-            out.push('\n')?;
+            page.push_str("  ");
+            page.push_str(step);
+            page.push(':');
+            self.take(step, page)?;
+            page.push('\n');
         }
         Ok(())
     }
 
     /// Takes a step.
-    fn take(&mut self, step: &str, out: &mut String) -> Result<(), Stop> {
-        let (name, rest) = step.split_once(' ').unwrap_or((step, ""));
+    fn take(&mut self, step: &str, page: &mut Page) -> Result<(), Stop> {
+        let (name, rest) = first_word(step);
         match name {
             "clock" => self.clock(number(rest)?),
-            "publish" => self.publish(small(rest)?, out),
-            "stop" => self.stop(rest, out),
-            "wake" => self.wake(broker(rest)?, out),
-            "deliver" => self.deliver(number(rest)?, out),
-            "crash" => self.crash(broker(rest)?, out),
-            "sweep" => self.sweep(out),
-            "show" => self.show(out),
-            "bytes" => self.bytes(number(rest)?, out),
+            "publish" => self.publish(small_number(rest)?, page),
+            "stop" => self.stop(rest, page),
+            "wake" => self.wake(short_number(rest)?, page),
+            "deliver" => self.deliver(number(rest)?, page),
+            "crash" => self.crash(short_number(rest)?, page),
+            "sweep" => self.sweep(page),
+            "show" => self.show(page),
+            "bytes" => self.bytes(number(rest)?, page),
             _ => Err(Stop::NoRow),
         }
     }
@@ -120,7 +136,7 @@ impl Run {
     }
 
     /// Publisher 0 publishes the event {"n":NUMBER} under that number.
-    fn publish(&mut self, number: u8, out: &mut String) -> Result<(), Stop> {
+    fn publish(&mut self, number: u8, page: &mut Page) -> Result<(), Stop> {
         if self.world.topology().publishers() == 0 {
             return Err(Stop::NoRow);
         }
@@ -128,14 +144,20 @@ impl Run {
         let answer = self
             .world
             .publish(&mut self.disk, 0, u64::from(number), &event);
-        Ok(tell(out, &answer)?)
+        tell(&answer, page);
+        Ok(())
     }
 
     /// The step `stop NUMBER CALL PICK`: the same, to stop at a call of the disk, with a pick of what that leaves.
-    fn stop(&mut self, words: &str, out: &mut String) -> Result<(), Stop> {
-        let (published, rest) = words.split_once(' ').ok_or(Stop::NoRow)?;
-        let (call, pick) = rest.split_once(' ').ok_or(Stop::NoRow)?;
-        self.publish_stopped(small(published)?, small(call)?, small(pick)?, out)
+    fn stop(&mut self, words: &str, page: &mut Page) -> Result<(), Stop> {
+        let (published, rest) = parted(words, " ")?;
+        let (call, pick) = parted(rest, " ")?;
+        self.publish_stopped(
+            small_number(published)?,
+            small_number(call)?,
+            small_number(pick)?,
+            page,
+        )
     }
 
     fn publish_stopped(
@@ -143,7 +165,7 @@ impl Run {
         number: u8,
         call: u8,
         pick: u8,
-        out: &mut String,
+        page: &mut Page,
     ) -> Result<(), Stop> {
         if call < 1 || call > 4 || self.world.topology().publishers() == 0 {
             return Err(Stop::NoRow);
@@ -154,54 +176,51 @@ impl Run {
         let answer = self
             .world
             .publish_stopped(&mut self.disk, 0, number, &event, &stop);
-        Ok(tell(out, &answer)?)
+        tell(&answer, page);
+        Ok(())
     }
 
-    fn wake(&mut self, broker: u16, out: &mut String) -> Result<(), Stop> {
+    fn wake(&mut self, broker: u16, page: &mut Page) -> Result<(), Stop> {
         if broker >= self.world.topology().brokers() {
             return Err(Stop::NoRow);
         }
         let answer = self.world.wake(&mut self.disk, broker);
-        Ok(tell(out, &answer)?)
+        tell(&answer, page);
+        Ok(())
     }
 
-    fn deliver(&mut self, frame: u64, out: &mut String) -> Result<(), Stop> {
+    fn deliver(&mut self, frame: u64, page: &mut Page) -> Result<(), Stop> {
         let answer = self.world.deliver(frame);
-        Ok(tell(out, &answer)?)
+        tell(&answer, page);
+        Ok(())
     }
 
-    fn crash(&mut self, broker: u16, out: &mut String) -> Result<(), Stop> {
+    fn crash(&mut self, broker: u16, page: &mut Page) -> Result<(), Stop> {
         if broker >= self.world.topology().brokers() {
             return Err(Stop::NoRow);
         }
         let answer = self.world.crash(&mut self.disk, broker);
-        Ok(tell(out, &answer)?)
+        tell(&answer, page);
+        Ok(())
     }
 
-    fn sweep(&mut self, out: &mut String) -> Result<(), Stop> {
+    fn sweep(&mut self, page: &mut Page) -> Result<(), Stop> {
         let answer = self.world.sweep(&mut self.disk);
-        Ok(tell(out, &answer)?)
+        tell(&answer, page);
+        Ok(())
     }
 
-    fn show(&mut self, out: &mut String) -> Result<(), Stop> {
+    fn show(&mut self, page: &mut Page) -> Result<(), Stop> {
         let lines = self.world.show()?;
-        Ok(tell(out, &Ok(lines))?)
+        put_all(lines.as_slice(), page);
+        Ok(())
     }
 
-    fn bytes(&mut self, frame: u64, out: &mut String) -> Result<(), Stop> {
+    fn bytes(&mut self, frame: u64, page: &mut Page) -> Result<(), Stop> {
         let answer = self.world.bytes(frame);
-        Ok(tell(out, &answer)?)
+        tell(&answer, page);
+        Ok(())
     }
-}
-
-/// The small number that a word spells.
-fn small(word: &str) -> Result<u8, Stop> {
-    word.parse::<u8>().map_err(|_| Stop::NoRow)
-}
-
-/// The number of a broker.
-fn broker(word: &str) -> Result<u16, Stop> {
-    word.parse::<u16>().map_err(|_| Stop::NoRow)
 }
 
 /// The event {"n":NUMBER}, for a small number.

@@ -1,61 +1,63 @@
 //! Match texts of filters alone, which are compared.
 
+use crate::match_texts::put_end;
 use crate::scenarios::put_refused;
+use crate::words::size;
 use gr_cover_text::{Asked, print_covers, read};
 use gr_match_text::FilterList;
-use gr_out::{MemSink, RunFault};
-use gr_tests_rows::{Stop, number, put_lines, spelled};
+use gr_out::MemSink;
+use gr_tests_rows::{Page, Stop, first_word, parted, spelled};
 use std::alloc::{AllocError, Global};
 
 /// Answers a row about filters that are compared.
-pub fn answer(alloc: Global, row: &str, out: &mut String) -> Result<(), Stop> {
-    let (call, rest) = row.split_once(' ').unwrap_or((row, ""));
+pub fn answer(alloc: Global, row: &str, page: &mut Page) -> Result<(), Stop> {
+    let (call, rest) = first_word(row);
     match call {
-        "read" => put_read(alloc, 1_000_000, rest, out),
-        "room" => {
-            let (room, text) = rest.split_once(' ').ok_or(Stop::NoRow)?;
-            let room = usize::try_from(number(room)?).map_err(|_| Stop::NoRow)?;
-            put_read(alloc, room, text, out)
-        }
+        "read" => put_spelled(alloc, 1_000_000, rest, page),
+        "room" => put_with_room(alloc, rest, page),
         _ => Err(Stop::NoRow),
     }
 }
 
+/// Reads a text behind a number, and prints what comes of it where a sink has so much room.
+fn put_with_room(alloc: Global, row: &str, page: &mut Page) -> Result<(), Stop> {
+    let (room, text) = parted(row, " ")?;
+    put_spelled(alloc, size(room)?, text, page)
+}
+
 /// Reads a text, and prints what comes of it where a sink has so much room.
-fn put_read(alloc: Global, room: usize, text: &str, out: &mut String) -> Result<(), Stop> {
-    let text = spelled(alloc, text)?;
-    put_asked(alloc, room, &read(alloc, &text), out)
+fn put_spelled(alloc: Global, room: usize, text: &str, page: &mut Page) -> Result<(), Stop> {
+    put_read(alloc, room, &spelled(alloc, text)?, page);
+    Ok(())
+}
+
+/// Reads bytes, and prints what comes of them where a sink has so much room.
+fn put_read(alloc: Global, room: usize, text: &[u8], page: &mut Page) {
+    put_asked(alloc, room, &read(alloc, text), page);
 }
 
 /// Prints what the bytes of a source ask.
-fn put_asked(
-    alloc: Global,
-    room: usize,
-    answer: &Result<Asked, AllocError>,
-    out: &mut String,
-) -> Result<(), Stop> {
+fn put_asked(alloc: Global, room: usize, answer: &Result<Asked, AllocError>, page: &mut Page) {
     match answer {
-        Ok(Asked::Covering { filters }) => put_covers(alloc, room, filters, out),
-        Ok(Asked::Refused(line)) => Ok(put_refused(line.as_slice(), out)?),
-        Ok(Asked::TooManyBytes) => Ok(out.push_str("  too many bytes\n")?),
-        Ok(Asked::TooManyLines) => Ok(out.push_str("  too many lines\n")?),
-        Err(_) => Err(Stop::Memory),
+        Ok(Asked::Covering { filters }) => put_covers(alloc, room, filters, page),
+        Ok(Asked::Refused(line)) => put_refused(line.as_slice(), page),
+        Ok(Asked::TooManyBytes) => page.push_str("  too many bytes\n"),
+        Ok(Asked::TooManyLines) => page.push_str("  too many lines\n"),
+        Err(_) => page.tear(),
     }
 }
 
 /// Prints what a sink takes of the lines of the filters, and the word `failed` where it then fails.
-fn put_covers(
-    alloc: Global,
-    room: usize,
-    filters: &FilterList,
-    out: &mut String,
-) -> Result<(), Stop> {
-    let mut sink = MemSink::new(alloc, room, &[])?;
-    let ended = print_covers(alloc, filters, &mut sink);
-    put_lines(out, sink.bytes())?;
-    match ended {
-        Ok(()) => Ok(()),
-        Err(RunFault::Write) => Ok(out.push_str("  the sink failed\n")?),
-        Err(_) => Err(Stop::Memory),
+fn put_covers(alloc: Global, room: usize, filters: &FilterList, page: &mut Page) {
+    match MemSink::new(alloc, room, &[]) {
+        Ok(mut sink) => put_sunk(alloc, filters, &mut sink, page),
+        Err(_) => page.tear(),
     }
+}
+
+/// Prints what a sink takes.
+fn put_sunk(alloc: Global, filters: &FilterList, sink: &mut MemSink, page: &mut Page) {
+    let ended = print_covers(alloc, filters, sink);
+    page.push_lines(sink.bytes());
+    put_end(&ended, page);
 }

@@ -1,13 +1,12 @@
 //! Whether one filter covers another.
 
 use crate::filters::judged;
-use crate::words::{filter, first_word, sides};
+use crate::words::{filter, put_counted, put_json};
 use gr_cover::{Cover, covers};
 use gr_event::Event;
 use gr_filter::{Filter, Kleene};
-use gr_tests_rows::{Stop, put_text};
+use gr_tests_rows::{Page, Stop, first_word, parted};
 use std::alloc::{AllocError, Global};
-use std::fmt::Write;
 
 /// The values that a plain search gives to `a` and to `b`; none where the name is absent.
 static VALUES: [(&str, &str); 14] = [
@@ -28,10 +27,10 @@ static VALUES: [(&str, &str); 14] = [
 ];
 
 /// Answers a row about a wide and a narrow filter.
-pub fn answer(alloc: Global, row: &str, out: &mut String) -> Result<(), Stop> {
+pub fn answer(alloc: Global, row: &str, page: &mut Page) -> Result<(), Stop> {
     let (call, rest) = first_word(row);
-    let (wide, narrow) = sides(rest)?;
-    with_wide(alloc, call, &filter(alloc, wide)?.filter, narrow, out)
+    let (wide, narrow) = parted(rest, " | ")?;
+    with_wide(alloc, call, &filter(alloc, wide)?.filter, narrow, page)
 }
 
 /// Reads the narrow filter too.
@@ -40,9 +39,9 @@ fn with_wide(
     call: &str,
     wide: &Filter,
     narrow: &str,
-    out: &mut String,
+    page: &mut Page,
 ) -> Result<(), Stop> {
-    compare(alloc, call, wide, &filter(alloc, narrow)?.filter, out)
+    compare(alloc, call, wide, &filter(alloc, narrow)?.filter, page)
 }
 
 /// Makes a call on two filters.
@@ -51,11 +50,11 @@ fn compare(
     call: &str,
     wide: &Filter,
     narrow: &Filter,
-    out: &mut String,
+    page: &mut Page,
 ) -> Result<(), Stop> {
     match call {
-        "covers" => Ok(put_covers(alloc, wide, narrow, out)?),
-        "search" => put_told_apart(alloc, wide, narrow, out),
+        "covers" => Ok(put_covers(alloc, wide, narrow, page)?),
+        "search" => put_told_apart(alloc, wide, narrow, page),
         _ => Err(Stop::NoRow),
     }
 }
@@ -65,20 +64,26 @@ fn put_covers(
     alloc: Global,
     wide: &Filter,
     narrow: &Filter,
-    out: &mut String,
+    page: &mut Page,
 ) -> Result<(), AllocError> {
-    match covers(alloc, wide, narrow)? {
-        Cover::Yes => out.push_str("  yes\n"),
-        Cover::No { event } => put_no(alloc, &event, out),
-        Cover::Unknown { parts } => write!(out, "  unknown {parts}\n"),
+    put_cover(&covers(alloc, wide, narrow)?, page);
+    Ok(())
+}
+
+/// Prints an answer, with the event that one filter matches and the other does not.
+fn put_cover(cover: &Cover, page: &mut Page) {
+    match cover {
+        Cover::Yes => page.push_str("  yes"),
+        Cover::No { event } => put_no(event, page),
+        Cover::Unknown { parts } => put_counted("  unknown ", *parts as u64, page),
     }
+    page.push('\n');
 }
 
 /// Prints the event that one filter matches and the other does not.
-fn put_no(alloc: Global, event: &Event, out: &mut String) -> Result<(), AllocError> {
-    out.push_str("  no ")?;
-    put_text(out, event.json(alloc)?.as_slice())?;
-    out.push('\n')
+fn put_no(event: &Event, page: &mut Page) {
+    page.push_str("  no ");
+    put_json(event, page);
 }
 
 /// Prints how many events of the table the narrow filter matches and the wide one does not.
@@ -86,7 +91,7 @@ fn put_told_apart(
     alloc: Global,
     wide: &Filter,
     narrow: &Filter,
-    out: &mut String,
+    page: &mut Page,
 ) -> Result<(), Stop> {
     let mut count = 0u64;
     for (a, _) in VALUES.iter() {
@@ -95,7 +100,9 @@ fn put_told_apart(
             count = count.saturating_add(u64::from(apart));
         }
     }
-    Ok(write!(out, "  {count} of 196 events tell them apart\n")?)
+    put_counted("  ", count, page);
+    page.push_str(" of 196 events tell them apart\n");
+    Ok(())
 }
 
 /// Whether the narrow filter matches the event with these two members and the wide one does not.
@@ -106,12 +113,23 @@ fn tells_apart(
     a: &str,
     b: &str,
 ) -> Result<bool, Stop> {
+    let json = object(alloc, a, b)?;
+    let matched = judged(alloc, narrow, json.as_str())? == Kleene::True;
+    Ok(matched && judged(alloc, wide, json.as_str())? != Kleene::True)
+}
+
+/// The JSON of an object with these two members, each of which may be absent.
+fn object(alloc: Global, a: &str, b: &str) -> Result<String, AllocError> {
     let comma = if a.is_empty() || b.is_empty() {
         ""
     } else {
         ","
     };
-    let json = format!(in alloc; "{{{a}{comma}{b}}}")?;
-    let matched = judged(alloc, narrow, json.as_str())? == Kleene::True;
-    Ok(matched && judged(alloc, wide, json.as_str())? != Kleene::True)
+    let mut page = Page::new(alloc);
+    page.push('{');
+    page.push_str(a);
+    page.push_str(comma);
+    page.push_str(b);
+    page.push('}');
+    page.finish()
 }

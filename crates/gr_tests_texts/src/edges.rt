@@ -2,15 +2,13 @@
 
 ghost use Rattle.std.specs.Prelude.{◌≡◌, length};
 
-use crate::words::{event, filter, first_word};
+use crate::words::{event, filter, put_counted, put_json};
 use gr_edge::Edge;
-use gr_event::Event;
 use gr_filter::Filter;
 use gr_know::K;
-use gr_tests_rows::{Stop, TickRange, put_text, range};
+use gr_tests_rows::{Page, Stop, TickRange, first_word, range};
 use gr_tick::{MAX_TICK, Piece, Run, Stream};
-use std::alloc::{AllocError, Global};
-use std::fmt::Write;
+use std::alloc::Global;
 
 /// An edge, and how many subscribers are behind it.
 struct Counted {
@@ -41,13 +39,23 @@ impl Counted {
 }
 
 /// Answers a row about an edge.
-pub fn answer(alloc: Global, script: &str, out: &mut String) -> Result<(), Stop> {
+pub fn answer(alloc: Global, script: &str, page: &mut Page) -> Result<(), Stop> {
     let mut counted = Counted {
         edge: Edge::new(alloc),
         count: 0,
     };
+    take_all(alloc, &mut counted, script, page)
+}
+
+/// Takes each step of a script.
+fn take_all(
+    alloc: Global,
+    counted: &mut Counted,
+    script: &str,
+    page: &mut Page,
+) -> Result<(), Stop> {
     for step in script.split(" ; ") {
-        take_step(alloc, &mut counted, step, out)?;
+        take_step(alloc, counted, step, page)?;
     }
     Ok(())
 }
@@ -57,13 +65,13 @@ fn take_step(
     alloc: Global,
     counted: &mut Counted,
     step: &str,
-    out: &mut String,
+    page: &mut Page,
 ) -> Result<(), Stop> {
     let (call, rest) = first_word(step);
     match call {
         "add" => add(alloc, counted, rest),
         "add_unfiltered" => counted.add(None),
-        "pass" => pass(alloc, &counted.edge, rest, out),
+        "pass" => pass(alloc, &counted.edge, rest, page),
         _ => Err(Stop::NoRow),
     }
 }
@@ -74,9 +82,17 @@ fn add(alloc: Global, counted: &mut Counted, written: &str) -> Result<(), Stop> 
 }
 
 /// Prints what an edge passes of a piece.
-fn pass(alloc: Global, edge: &Edge, words: &str, out: &mut String) -> Result<(), Stop> {
-    let passed = edge.pass(&piece(alloc, words)?)?;
-    Ok(put_piece(alloc, &passed, out)?)
+fn pass(alloc: Global, edge: &Edge, words: &str, page: &mut Page) -> Result<(), Stop> {
+    put_passed(edge, &piece(alloc, words)?, page);
+    Ok(())
+}
+
+/// Prints what an edge passes of a piece.
+fn put_passed(edge: &Edge, piece: &Piece<K>, page: &mut Page) {
+    match edge.pass(piece) {
+        Ok(passed) => put_piece(&passed, page),
+        Err(_) => page.tear(),
+    }
 }
 
 /// The piece that words spell, each a run: a letter, its ticks, and for D behind `=` the event.
@@ -117,38 +133,33 @@ fn value(alloc: Global, letter: &str, json: &str) -> Result<K, Stop> {
 }
 
 /// Prints the runs of a piece.
-fn put_piece(alloc: Global, piece: &Piece<K>, out: &mut String) -> Result<(), AllocError> {
+fn put_piece(piece: &Piece<K>, page: &mut Page) {
     if piece.is_empty() {
-        return out.push_str("  nothing\n");
+        return page.push_str("  nothing\n");
     }
-    out.push(' ')?;
+    page.push(' ');
     for i in 0..piece.len() {
-        put_run(alloc, piece.run(i), out)?;
+        put_run(piece.run(i), page);
     }
-    out.push('\n')
+    page.push('\n');
 }
 
 /// Prints a run.
-fn put_run(alloc: Global, run: &Run<K>, out: &mut String) -> Result<(), AllocError> {
-    write!(out, " {}{}-{}", letter(&run.value), run.first, run.last)?;
-    match &run.value {
-        K::D(event) => put_event(alloc, event, out),
-        K::Q | K::S | K::F => Ok(()),
+fn put_run(run: &Run<K>, page: &mut Page) {
+    put_counted(letter(&run.value), run.first, page);
+    put_counted("-", run.last, page);
+    if let K::D(event) = &run.value {
+        page.push('=');
+        put_json(event, page);
     }
 }
 
-/// The letter of a value.
-fn letter(value: &K) -> char {
+/// The letter of a value, behind a blank.
+fn letter(value: &K) -> &'static str {
     match value {
-        K::Q => 'Q',
-        K::S => 'S',
-        K::D(_) => 'D',
-        K::F => 'F',
+        K::Q => " Q",
+        K::S => " S",
+        K::D(_) => " D",
+        K::F => " F",
     }
-}
-
-/// Prints an event behind its run.
-fn put_event(alloc: Global, event: &Event, out: &mut String) -> Result<(), AllocError> {
-    out.push('=')?;
-    put_text(out, event.json(alloc)?.as_slice())
 }

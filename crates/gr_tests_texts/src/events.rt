@@ -1,29 +1,28 @@
 //! Events: as text, in bytes, and by name.
 
-use crate::words::{event, first_word, repeated, sides, spelled};
+use crate::words::{event, put_counted, put_json, put_line, repeated, spelled};
 use gr_event::{Event, EventFault, MAX_PAIRS, Part, Text};
-use gr_tests_rows::{Stop, bytes, put_hex, put_text};
+use gr_tests_rows::{Page, Stop, bytes, first_word, parted};
 use serde_json::Value as Json;
 use std::alloc::{AllocError, Global};
-use std::fmt::Write;
 
 /// Answers a row about events.
-pub fn answer(alloc: Global, row: &str, out: &mut String) -> Result<(), Stop> {
+pub fn answer(alloc: Global, row: &str, page: &mut Page) -> Result<(), Stop> {
     let (call, rest) = first_word(row);
     match call {
-        "text" | "bytes" | "value" => put_read(alloc, call, rest, out),
-        "fault" => put_number(alloc, rest, out),
-        "get" => get(alloc, rest, out),
-        "share" => share(alloc, rest, out),
-        "same" => same(alloc, rest, out),
-        "append" => append(alloc, rest, out),
-        _ => put_form(alloc, call, rest, out),
+        "text" | "bytes" | "value" => put_read(alloc, call, rest, page),
+        "fault" => put_number(alloc, rest, page),
+        "get" => get(alloc, rest, page),
+        "share" => share(alloc, rest, page),
+        "same" => same(alloc, rest, page),
+        "append" => append(alloc, rest, page),
+        _ => put_form(call, &either(alloc, rest)?, page),
     }
 }
 
 /// Prints the event that is read, or why there is none.
-fn put_read(alloc: Global, call: &str, rest: &str, out: &mut String) -> Result<(), Stop> {
-    put_event(&read(alloc, call, rest)?, out)
+fn put_read(alloc: Global, call: &str, rest: &str, page: &mut Page) -> Result<(), Stop> {
+    put_event(&read(alloc, call, rest)?, page)
 }
 
 /// The event of a JSON text, of bytes in hexadecimal, or of a JSON value that was read before; or why there is none.
@@ -56,97 +55,116 @@ fn of_value(alloc: Global, text: &str) -> Result<Result<Event, EventFault>, Stop
 }
 
 /// Prints an event: its size, its bytes, and each of its pairs; or why it is none.
-fn put_event(answer: &Result<Event, EventFault>, out: &mut String) -> Result<(), Stop> {
+fn put_event(answer: &Result<Event, EventFault>, page: &mut Page) -> Result<(), Stop> {
     match answer {
-        Ok(event) => Ok(put_whole(event, out)?),
-        Err(EventFault::Memory) => Err(Stop::Memory),
-        Err(fault) => Ok(put_fault(fault, out)?),
-    }
-}
-
-/// Prints the size, the bytes and the pairs of an event.
-fn put_whole(event: &Event, out: &mut String) -> Result<(), AllocError> {
-    write!(out, "  {} bytes ", event.size())?;
-    put_hex(out, event.bytes())?;
-    out.push('\n')?;
-    put_pairs(event, out)
-}
-
-/// Prints the pairs of an event, each by its place.
-fn put_pairs(event: &Event, out: &mut String) -> Result<(), AllocError> {
-    if event.is_empty() {
-        return out.push_str("  empty\n");
-    }
-    for i in 0..event.len() {
-        let (name, part) = event.pair(i);
-        put_pair(name, &part, out)?;
+        Ok(event) => put_whole(event, page),
+        Err(EventFault::Memory) => return Err(Stop::Memory),
+        Err(fault) => put_fault(fault, page),
     }
     Ok(())
 }
 
-/// Prints a name and its value.
-fn put_pair(name: &[u8], part: &Part, out: &mut String) -> Result<(), AllocError> {
-    out.push_str("  ")?;
-    put_text(out, name)?;
-    out.push_str(" =")?;
-    put_part(part, out)
+/// Prints the size, the bytes and the pairs of an event.
+fn put_whole(event: &Event, page: &mut Page) {
+    put_counted("  ", event.size() as u64, page);
+    page.push_str(" bytes ");
+    page.push_hex(event.bytes());
+    page.push('\n');
+    put_pairs(event, page);
 }
 
-/// Prints a space, a value and the end of the line.
-pub fn put_part(part: &Part, out: &mut String) -> Result<(), AllocError> {
-    match part {
-        Part::Int(number) => write!(out, " {number}\n"),
-        Part::Bool(truth) => write!(out, " {truth}\n"),
-        Part::Text(text) => {
-            out.push_str(" '")?;
-            put_text(out, text)?;
-            out.push_str("'\n")
-        }
+/// Prints the pairs of an event, each by its place.
+fn put_pairs(event: &Event, page: &mut Page) {
+    if event.is_empty() {
+        page.push_str("  empty\n");
+    }
+    for i in 0..event.len() {
+        let (name, part) = event.pair(i);
+        put_pair(name, &part, page);
     }
 }
 
+/// Prints a name and its value.
+fn put_pair(name: &[u8], part: &Part, page: &mut Page) {
+    page.push_str("  ");
+    page.push_escaped(name);
+    page.push_str(" =");
+    put_part(part, page);
+}
+
+/// Prints a space, a value and the end of the line.
+pub fn put_part(part: &Part, page: &mut Page) {
+    match part {
+        Part::Int(number) => write!(page, " {number}\n"),
+        Part::Bool(truth) => write!(page, " {truth}\n"),
+        Part::Text(text) => put_quoted(text, page),
+    }
+}
+
+/// Prints a space, a text between quotes and the end of the line.
+fn put_quoted(text: &[u8], page: &mut Page) {
+    page.push_str(" '");
+    page.push_escaped(text);
+    page.push_str("'\n");
+}
+
 /// Prints a fault's word, and its place where it has one.
-fn put_fault(fault: &EventFault, out: &mut String) -> Result<(), AllocError> {
+fn put_fault(fault: &EventFault, page: &mut Page) {
+    write!(page, "  {fault}");
     match fault {
         EventFault::Short { at }
         | EventFault::BadKind { at }
         | EventFault::NotSorted { at }
         | EventFault::Trailing { at }
         | EventFault::BadText { at }
-        | EventFault::BadLength { at } => write!(out, "  {fault} at {at}\n"),
-        _ => write!(out, "  {fault}\n"),
+        | EventFault::BadLength { at } => put_counted(" at ", *at as u64, page),
+        _ => {}
+    }
+    page.push('\n');
+}
+
+/// Prints the number and the word of a fault.
+fn put_number(alloc: Global, row: &str, page: &mut Page) -> Result<(), Stop> {
+    let (call, rest) = first_word(row);
+    match read(alloc, call, rest)? {
+        Ok(_) => Err(Stop::NoRow),
+        Err(fault) => {
+            put_number_of(&fault, page);
+            Ok(())
+        }
     }
 }
 
 /// Prints the number and the word of a fault.
-fn put_number(alloc: Global, row: &str, out: &mut String) -> Result<(), Stop> {
-    let (call, rest) = first_word(row);
-    match read(alloc, call, rest)? {
-        Ok(_) => Err(Stop::NoRow),
-        Err(fault) => Ok(write!(out, "  {} {}\n", fault.number(), fault.word())?),
-    }
+fn put_number_of(fault: &EventFault, page: &mut Page) {
+    put_counted("  ", u64::from(fault.number()), page);
+    page.push(' ');
+    page.push_str(fault.word());
+    page.push('\n');
 }
 
 /// Prints what a share of an event has under a name.
-fn get(alloc: Global, row: &str, out: &mut String) -> Result<(), Stop> {
+fn get(alloc: Global, row: &str, page: &mut Page) -> Result<(), Stop> {
     let (name, rest) = first_word(row);
-    Ok(put_value(&shared(alloc, rest)?, name, out)?)
+    put_value(&shared(alloc, rest)?, name, page);
+    Ok(())
 }
 
 /// Prints the value of a name.
-fn put_value(event: &Event, name: &str, out: &mut String) -> Result<(), AllocError> {
+fn put_value(event: &Event, name: &str, page: &mut Page) {
     match event.get(name.as_bytes()) {
         Some(part) => {
-            out.push(' ')?;
-            put_part(&part, out)
+            page.push(' ');
+            put_part(&part, page);
         }
-        None => out.push_str("  none\n"),
+        None => page.push_str("  none\n"),
     }
 }
 
 /// Prints the pairs of a share.
-fn share(alloc: Global, text: &str, out: &mut String) -> Result<(), Stop> {
-    Ok(put_pairs(&shared(alloc, text)?, out)?)
+fn share(alloc: Global, text: &str, page: &mut Page) -> Result<(), Stop> {
+    put_pairs(&shared(alloc, text)?, page);
+    Ok(())
 }
 
 /// A share of an event, which itself is gone.
@@ -163,66 +181,75 @@ fn either(alloc: Global, text: &str) -> Result<Event, Stop> {
 }
 
 /// Prints whether two events are the same.
-fn same(alloc: Global, row: &str, out: &mut String) -> Result<(), Stop> {
-    let (one, other) = sides(row)?;
-    put_same(alloc, &either(alloc, one)?, other, out)
+fn same(alloc: Global, row: &str, page: &mut Page) -> Result<(), Stop> {
+    let (one, other) = parted(row, " | ")?;
+    put_same(alloc, &either(alloc, one)?, other, page)
 }
 
 /// Prints whether an event is the same as another.
-fn put_same(alloc: Global, one: &Event, text: &str, out: &mut String) -> Result<(), Stop> {
-    Ok(write!(out, "  {}\n", either(alloc, text)?.same(one))?)
+fn put_same(alloc: Global, one: &Event, text: &str, page: &mut Page) -> Result<(), Stop> {
+    page.truth_line(either(alloc, text)?.same(one));
+    Ok(())
 }
 
 /// Prints the JSON of an event behind a text.
-fn append(alloc: Global, row: &str, out: &mut String) -> Result<(), Stop> {
+fn append(alloc: Global, row: &str, page: &mut Page) -> Result<(), Stop> {
     let (before, rest) = first_word(row);
     let mut text = Text::from_vec(spelled(alloc, before)?);
     event(alloc, rest)?.json_into(&mut text)?;
-    Ok(put_line(text.as_slice(), out)?)
+    put_line(text.as_slice(), page);
+    Ok(())
 }
 
 /// Prints a form of an event: its size, its bytes, its JSON, or its pairs by a walk.
-fn put_form(alloc: Global, call: &str, rest: &str, out: &mut String) -> Result<(), Stop> {
-    let event = either(alloc, rest)?;
+fn put_form(call: &str, event: &Event, page: &mut Page) -> Result<(), Stop> {
     match call {
-        "size" => write!(out, "  {} bytes\n", event.size())?,
-        "encode" => put_encoded(alloc, &event, out)?,
-        "json" => put_json(alloc, &event, out)?,
-        "walk" => put_walk(&event, out)?,
+        "size" => put_size(event, page),
+        "encode" => put_encoded(event, page),
+        "json" => put_json_line(event, page),
+        "walk" => put_walk(event, page),
         _ => return Err(Stop::NoRow),
     }
     Ok(())
 }
 
-/// Prints the form in bytes that is written into a slice.
-fn put_encoded(alloc: Global, event: &Event, out: &mut String) -> Result<(), AllocError> {
-    let mut bytes = vec![in alloc; 0u8; event.size()]?;
-    event.encode_into(&mut bytes);
-    out.push_str("  ")?;
-    put_hex(out, &bytes)?;
-    out.push('\n')
+/// Prints the size of an event.
+fn put_size(event: &Event, page: &mut Page) {
+    put_counted("  ", event.size() as u64, page);
+    page.push_str(" bytes\n");
 }
 
-/// Prints the JSON of an event.
-fn put_json(alloc: Global, event: &Event, out: &mut String) -> Result<(), AllocError> {
-    put_line(event.json(alloc)?.as_slice(), out)
+/// Prints the form in bytes that is written into a slice.
+fn put_encoded(event: &Event, page: &mut Page) {
+    page.push_str("  ");
+    match encoded(page.allocator(), event) {
+        Ok(bytes) => page.push_hex(&bytes),
+        Err(_) => page.tear(),
+    }
+    page.push('\n');
+}
+
+/// The form in bytes that is written into a slice.
+fn encoded(alloc: Global, event: &Event) -> Result<Vec<u8>, AllocError> {
+    let mut bytes = vec![in alloc; 0u8; event.size()]?;
+    event.encode_into(&mut bytes);
+    Ok(bytes)
+}
+
+/// Prints the JSON of an event on a line of its own.
+fn put_json_line(event: &Event, page: &mut Page) {
+    page.push_str("  ");
+    put_json(event, page);
+    page.push('\n');
 }
 
 /// Prints the pairs of an event, as a walk gives them.
-fn put_walk(event: &Event, out: &mut String) -> Result<(), AllocError> {
+fn put_walk(event: &Event, page: &mut Page) {
     let mut pairs = event.pairs();
     for _ in 0..=MAX_PAIRS {
         match pairs.next() {
-            Some((name, part)) => put_pair(name, &part, out)?,
-            None => return out.push_str("  end\n"),
+            Some((name, part)) => put_pair(name, &part, page),
+            None => return page.push_str("  end\n"),
         }
     }
-    Ok(())
-}
-
-/// Prints a text on a line of its own.
-pub fn put_line(text: &[u8], out: &mut String) -> Result<(), AllocError> {
-    out.push_str("  ")?;
-    put_text(out, text)?;
-    out.push('\n')
 }

@@ -1,103 +1,130 @@
 //! Lists of bytes and numbers, and values.
 
 use crate::events::put_part;
-use crate::words::{first_word, short_number, sides, spelled};
+use crate::words::{put_counted, short_number, spelled};
 use gr_event::{Bytes, Numbers, Text, Value};
-use gr_tests_rows::{Stop, bytes, put_hex, put_text};
+use gr_tests_rows::{Page, Stop, bytes, first_word, parted};
 use std::alloc::{AllocError, Global};
-use std::fmt::Write;
 
 /// Answers a row about lists.
-pub fn answer(alloc: Global, row: &str, out: &mut String) -> Result<(), Stop> {
+pub fn answer(alloc: Global, row: &str, page: &mut Page) -> Result<(), Stop> {
     let (call, rest) = first_word(row);
     match call {
-        "text" => text(alloc, rest, out),
-        "same" => same(alloc, rest, out),
-        "bytes" => byte_list(alloc, rest, out),
-        "numbers" => numbers(alloc, rest, out),
-        "value" => values(alloc, rest, out),
+        "text" => text(alloc, rest, page),
+        "same" => same(alloc, rest, page),
+        "bytes" => byte_list(alloc, rest, page),
+        "numbers" => numbers(alloc, rest, page),
+        "value" => values(alloc, rest, page),
         _ => Err(Stop::NoRow),
     }
 }
 
 /// Prints the text to which the first side was added byte by byte, and the second one at once.
-fn text(alloc: Global, row: &str, out: &mut String) -> Result<(), Stop> {
-    let (one, other) = sides(row).unwrap_or((row, ""));
+fn text(alloc: Global, row: &str, page: &mut Page) -> Result<(), Stop> {
+    let (one, other) = parted(row, " | ").unwrap_or((row, ""));
     let mut text = Text::new(alloc);
-    for byte in spelled(alloc, one)?.as_slice() {
+    push_all(&mut text, spelled(alloc, one)?.as_slice())?;
+    text.append(spelled(alloc, other)?.as_slice())?;
+    put_whole(&text, page);
+    Ok(())
+}
+
+/// Puts bytes behind a text, one by one.
+fn push_all(text: &mut Text, bytes: &[u8]) -> Result<(), AllocError> {
+    for byte in bytes {
         text.push(*byte)?;
     }
-    text.append(spelled(alloc, other)?.as_slice())?;
-    Ok(put_whole(&text, out)?)
+    Ok(())
 }
 
 /// Prints a text and its length.
-fn put_whole(text: &Text, out: &mut String) -> Result<(), AllocError> {
-    out.push_str("  '")?;
-    put_text(out, text.as_slice())?;
-    write!(out, "' {} bytes\n", text.len())
+fn put_whole(text: &Text, page: &mut Page) {
+    page.push_str("  '");
+    page.push_escaped(text.as_slice());
+    put_counted("' ", text.len() as u64, page);
+    page.push_str(" bytes\n");
 }
 
 /// Prints whether a text that is made from bytes is the same as one that is made of a vector.
-fn same(alloc: Global, row: &str, out: &mut String) -> Result<(), Stop> {
-    let (one, other) = sides(row)?;
-    put_same(alloc, &Text::from_vec(spelled(alloc, one)?), other, out)
+fn same(alloc: Global, row: &str, page: &mut Page) -> Result<(), Stop> {
+    let (one, other) = parted(row, " | ")?;
+    put_same(alloc, &Text::from_vec(spelled(alloc, one)?), other, page)
 }
 
 /// Prints whether two texts are the same.
-fn put_same(alloc: Global, one: &Text, other: &str, out: &mut String) -> Result<(), Stop> {
-    let other = Text::from_slice(alloc, spelled(alloc, other)?.as_slice())?;
-    Ok(write!(out, "  {}\n", one.same(&other))?)
+fn put_same(alloc: Global, one: &Text, other: &str, page: &mut Page) -> Result<(), Stop> {
+    page.truth_line(one.same(&copied(alloc, other)?));
+    Ok(())
+}
+
+/// The text that is made from bytes.
+fn copied(alloc: Global, text: &str) -> Result<Text, Stop> {
+    Ok(Text::from_slice(alloc, spelled(alloc, text)?.as_slice())?)
 }
 
 /// Prints the list of bytes to which the first side was added byte by byte, and the second one at once.
-fn byte_list(alloc: Global, row: &str, out: &mut String) -> Result<(), Stop> {
-    let (one, other) = sides(row).unwrap_or((row, ""));
+fn byte_list(alloc: Global, row: &str, page: &mut Page) -> Result<(), Stop> {
+    let (one, other) = parted(row, " | ").unwrap_or((row, ""));
     let mut list = Bytes::new(alloc);
-    for byte in Bytes::from_vec(bytes(alloc, one)?).as_slice() {
+    push_each(&mut list, &Bytes::from_vec(bytes(alloc, one)?))?;
+    list.append(bytes(alloc, other)?.as_slice())?;
+    put_bytes(&Bytes::from_slice(alloc, list.as_slice())?, page);
+    Ok(())
+}
+
+/// Puts the bytes of a list behind another, one by one.
+fn push_each(list: &mut Bytes, bytes: &Bytes) -> Result<(), AllocError> {
+    for byte in bytes.as_slice() {
         list.push(*byte)?;
     }
-    list.append(bytes(alloc, other)?.as_slice())?;
-    Ok(put_bytes(&Bytes::from_slice(alloc, list.as_slice())?, out)?)
+    Ok(())
 }
 
 /// Prints a list of bytes and its length.
-fn put_bytes(list: &Bytes, out: &mut String) -> Result<(), AllocError> {
-    out.push_str("  [")?;
-    put_hex(out, list.as_slice())?;
-    write!(out, "] {} bytes\n", list.len())
+fn put_bytes(list: &Bytes, page: &mut Page) {
+    page.push_str("  [");
+    page.push_hex(list.as_slice());
+    put_counted("] ", list.len() as u64, page);
+    page.push_str(" bytes\n");
 }
 
 /// Prints the list to which numbers were added one by one.
-fn numbers(alloc: Global, words: &str, out: &mut String) -> Result<(), Stop> {
+fn numbers(alloc: Global, words: &str, page: &mut Page) -> Result<(), Stop> {
     let mut list = Numbers::new(alloc);
     for word in words.split_whitespace() {
         list.push(short_number(word)?)?;
     }
-    let copy = Numbers::from_slice(alloc, list.as_slice())?;
-    write!(out, "  {}:", copy.len())?;
-    Ok(put_numbers(&copy, out)?)
+    put_copy(&Numbers::from_slice(alloc, list.as_slice())?, page);
+    Ok(())
+}
+
+/// Prints the copy of a list of numbers.
+fn put_copy(copy: &Numbers, page: &mut Page) {
+    put_counted("  ", copy.len() as u64, page);
+    page.push(':');
+    put_numbers(copy, page);
 }
 
 /// Prints numbers and the end of the line.
-pub fn put_numbers(list: &Numbers, out: &mut String) -> Result<(), AllocError> {
+pub fn put_numbers(list: &Numbers, page: &mut Page) {
     for number in list.as_slice() {
-        write!(out, " {number}")?;
+        put_counted(" ", u64::from(*number), page);
     }
-    out.push('\n')
+    page.push('\n');
 }
 
 /// Prints the first of two values as a reader sees it, and whether the second is the same.
-fn values(alloc: Global, row: &str, out: &mut String) -> Result<(), Stop> {
-    let (one, other) = sides(row)?;
-    put_values(alloc, &value(alloc, one)?, other, out)
+fn values(alloc: Global, row: &str, page: &mut Page) -> Result<(), Stop> {
+    let (one, other) = parted(row, " | ")?;
+    put_values(alloc, &value(alloc, one)?, other, page)
 }
 
 /// Prints a value as a reader sees it, and whether another is the same.
-fn put_values(alloc: Global, one: &Value, other: &str, out: &mut String) -> Result<(), Stop> {
-    out.push(' ')?;
-    put_part(&one.part(), out)?;
-    Ok(write!(out, "  {}\n", value(alloc, other)?.same(one))?)
+fn put_values(alloc: Global, one: &Value, other: &str, page: &mut Page) -> Result<(), Stop> {
+    page.push(' ');
+    put_part(&one.part(), page);
+    page.truth_line(value(alloc, other)?.same(one));
+    Ok(())
 }
 
 /// The value that a word spells: `true`, `false`, an integer, or a text behind `'`.
@@ -107,7 +134,15 @@ fn value(alloc: Global, word: &str) -> Result<Value, Stop> {
         "false" => Ok(Value::Bool(false)),
         _ => match word.strip_prefix('\'') {
             Some(text) => Ok(Value::Text(Text::from_vec(spelled(alloc, text)?))),
-            None => Ok(Value::Int(word.parse::<i64>().map_err(|_| Stop::NoRow)?)),
+            None => Ok(Value::Int(integer(word)?)),
         },
+    }
+}
+
+/// The integer that a word spells.
+fn integer(word: &str) -> Result<i64, Stop> {
+    match word.parse::<i64>() {
+        Ok(number) => Ok(number),
+        Err(_) => Err(Stop::NoRow),
     }
 }

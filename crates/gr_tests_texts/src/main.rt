@@ -19,7 +19,7 @@ mod topologies;
 mod trees;
 mod words;
 
-use gr_tests_rows::{Stop, answers_to, time_of};
+use gr_tests_rows::{Page, Stop, answers_to, parted, time_of};
 use std::alloc::Global;
 use std::io;
 
@@ -28,33 +28,33 @@ fn main(rt: HostRuntime) -> io::Result<()> {
     for line in rt.lines(alloc) {
         let row = line?;
         if let Some(timed) = row.as_str().strip_prefix("time ") {
-            let answer = time_of(&rt, alloc, timed, |row, out| call(alloc, row, out))?;
+            let answer = time_of(&rt, alloc, timed, |row, page| call(alloc, row, page))?;
             print!(rt; "{}\n{answer}", row.as_str())?;
             continue;
         }
-        let answers = answers_to(alloc, row.as_str(), |row, out| call(alloc, row, out))?;
+        let answers = answers_to(alloc, row.as_str(), |row, page| call(alloc, row, page))?;
         print!(rt; "{answers}")?;
     }
     Ok(())
 }
 
 /// Makes the call that a row names.
-fn call(alloc: Global, row: &str, out: &mut String) -> Result<(), Stop> {
-    let (family, rest) = row.split_once(' ').ok_or(Stop::NoRow)?;
+fn call(alloc: Global, row: &str, page: &mut Page) -> Result<(), Stop> {
+    let (family, rest) = parted(row, " ")?;
     match family {
-        "event" => events::answer(alloc, rest, out),
-        "list" => lists::answer(alloc, rest, out),
-        "filter" => filters::answer(alloc, rest, out),
-        "match" => matches::answer(alloc, rest, out),
-        "edge" => edges::answer(alloc, rest, out),
-        "cover" => covers::answer(alloc, rest, out),
-        "order" => orders::answer(alloc, rest, out),
-        "tree" => trees::answer(alloc, rest, out),
-        "topology" => topologies::answer(alloc, rest, out),
-        "schedule" => schedules::answer(alloc, rest, out),
-        "scenario" => scenarios::answer(alloc, rest, out),
-        "match-text" => match_texts::answer(alloc, rest, out),
-        "cover-text" => cover_texts::answer(alloc, rest, out),
+        "event" => events::answer(alloc, rest, page),
+        "list" => lists::answer(alloc, rest, page),
+        "filter" => filters::answer(alloc, rest, page),
+        "match" => matches::answer(alloc, rest, page),
+        "edge" => edges::answer(alloc, rest, page),
+        "cover" => covers::answer(alloc, rest, page),
+        "order" => orders::answer(alloc, rest, page),
+        "tree" => trees::answer(alloc, rest, page),
+        "topology" => topologies::answer(alloc, rest, page),
+        "schedule" => schedules::answer(alloc, rest, page),
+        "scenario" => scenarios::answer(alloc, rest, page),
+        "match-text" => match_texts::answer(alloc, rest, page),
+        "cover-text" => cover_texts::answer(alloc, rest, page),
         _ => Err(Stop::NoRow),
     }
 }

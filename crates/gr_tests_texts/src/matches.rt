@@ -1,99 +1,99 @@
 //! Many filters at once: which of them match an event.
 
-ghost use Rattle.std.specs.Prelude.{◌≡◌, length};
-
 use crate::lists::put_numbers;
-use crate::words::{event, filter, first_word};
+use crate::words::{event, filter, put_counted};
 use gr_event::Event;
 use gr_filter::Filter;
 use gr_match::MatchTree;
-use gr_tests_rows::{Stop, number};
+use gr_tests_rows::{Page, Stop, first_word, number};
 use std::alloc::{AllocError, Global};
-use std::fmt::Write;
 
-/// Filters, and how many they are.
+/// Filters. It is a type of its own for its drop, which is one call to whoever holds it.
 struct Filters {
     tree: MatchTree,
-    count: u16,
-    ghost counted: { length tree ≡ count },
 }
 
 impl Drop for Filters {
     fn drop(self) {
-        let Filters {
-            tree: _tree,
-            count: _,
-        } = self;
-    }
-}
-
-impl Filters {
-    /// Puts a filter at the end.
-    fn add(&mut self, filter: &Filter) -> Result<(), Stop> {
-        if self.count == u16::MAX {
-            return Err(Stop::NoRow);
-        }
-        self.tree.add(filter)?;
-        self.count += 1;
-        Ok(())
+        let Filters { tree: _tree } = self;
     }
 }
 
 /// Answers a row about many filters.
-pub fn answer(alloc: Global, script: &str, out: &mut String) -> Result<(), Stop> {
+pub fn answer(alloc: Global, script: &str, page: &mut Page) -> Result<(), Stop> {
     let mut filters = Filters {
         tree: MatchTree::new(alloc),
-        count: 0,
     };
+    take_all(alloc, &mut filters.tree, script, page)
+}
+
+/// Takes each step of a script.
+fn take_all(
+    alloc: Global,
+    tree: &mut MatchTree,
+    script: &str,
+    page: &mut Page,
+) -> Result<(), Stop> {
     for step in script.split(" ; ") {
-        take_step(alloc, &mut filters, step, out)?;
+        take_step(alloc, tree, step, page)?;
     }
     Ok(())
 }
 
 /// Adds filters, or prints which of them match an event.
-fn take_step(
-    alloc: Global,
-    filters: &mut Filters,
-    step: &str,
-    out: &mut String,
-) -> Result<(), Stop> {
+fn take_step(alloc: Global, tree: &mut MatchTree, step: &str, page: &mut Page) -> Result<(), Stop> {
     let (call, rest) = first_word(step);
     match call {
-        "add" => add(alloc, filters, rest),
-        "fill" => fill(alloc, filters, rest),
-        "ask" => ask(alloc, &filters.tree, rest, out),
+        "add" => add(alloc, tree, rest),
+        "fill" => fill(alloc, tree, rest),
+        "ask" => ask(alloc, tree, rest, page),
         _ => Err(Stop::NoRow),
     }
 }
 
 /// Adds a filter.
-fn add(alloc: Global, filters: &mut Filters, written: &str) -> Result<(), Stop> {
-    filters.add(&filter(alloc, written)?.filter)
+fn add(alloc: Global, tree: &mut MatchTree, written: &str) -> Result<(), Stop> {
+    add_filter(tree, &filter(alloc, written)?.filter)
+}
+
+/// Puts a filter at the end.
+fn add_filter(tree: &mut MatchTree, filter: &Filter) -> Result<(), Stop> {
+    if tree.len() >= 65_535 {
+        return Err(Stop::NoRow);
+    }
+    Ok(tree.add(filter)?)
 }
 
 /// Adds a filter as often as the number before it says, with the count so far behind it.
-fn fill(alloc: Global, filters: &mut Filters, row: &str) -> Result<(), Stop> {
+fn fill(alloc: Global, tree: &mut MatchTree, row: &str) -> Result<(), Stop> {
     let (count, start) = first_word(row);
     for i in 0..number(count)? {
-        add(alloc, filters, format!(in alloc; "{start} {i}")?.as_str())?;
+        add(alloc, tree, numbered(alloc, start, i)?.as_str())?;
     }
     Ok(())
 }
 
+/// A text and a number behind it.
+fn numbered(alloc: Global, start: &str, number: u64) -> Result<String, AllocError> {
+    let mut page = Page::new(alloc);
+    page.push_str(start);
+    put_counted(" ", number, &mut page);
+    page.finish()
+}
+
 /// Prints the places of the filters that match an event.
-fn ask(alloc: Global, tree: &MatchTree, json: &str, out: &mut String) -> Result<(), Stop> {
-    Ok(put_matches(tree, json, &event(alloc, json)?, out)?)
+fn ask(alloc: Global, tree: &MatchTree, json: &str, page: &mut Page) -> Result<(), Stop> {
+    put_matches(tree, json, &event(alloc, json)?, page);
+    Ok(())
 }
 
 /// Prints the places of the filters that match an event, and whether there is one.
-fn put_matches(
-    tree: &MatchTree,
-    json: &str,
-    event: &Event,
-    out: &mut String,
-) -> Result<(), AllocError> {
-    let word = if tree.any(event) { "any" } else { "none" };
-    write!(out, "  {json}: {word}")?;
-    put_numbers(&tree.matches(event)?, out)
+fn put_matches(tree: &MatchTree, json: &str, event: &Event, page: &mut Page) {
+    page.push_str("  ");
+    page.push_str(json);
+    page.push_str(if tree.any(event) { ": any" } else { ": none" });
+    match tree.matches(event) {
+        Ok(places) => put_numbers(&places, page),
+        Err(_) => page.tear(),
+    }
 }

@@ -1,12 +1,11 @@
 //! One order over all publishers.
 
-use crate::words::{event, first_word, short_number};
+use crate::words::{event, put_counted, put_json, short_number};
 use gr_event::Event;
 use gr_order::law::{gives_in_order, gives_one_order, is_one_list};
 use gr_order::{Item, Items, Merge};
-use gr_tests_rows::{Stop, number, put_text, range};
+use gr_tests_rows::{Page, Stop, first_word, number, parted, range};
 use std::alloc::{AllocError, Global};
-use std::fmt::Write;
 use std::marker::Model;
 
 /// A merge, with what its caller knows: how far each publisher was heard, and the latest tick that was taken of it.
@@ -89,26 +88,31 @@ impl Heard {
 }
 
 /// Answers a row about one order.
-pub fn answer(alloc: Global, row: &str, out: &mut String) -> Result<(), Stop> {
+pub fn answer(alloc: Global, row: &str, page: &mut Page) -> Result<(), Stop> {
     gives_in_order();
     gives_one_order();
     is_one_list();
-    let (publishers, script) = row.split_once(" ; ").ok_or(Stop::NoRow)?;
+    let (publishers, script) = parted(row, " ; ")?;
     let mut heard = Heard::new(alloc, short_number(publishers)?)?;
+    take_all(alloc, &mut heard, script, page)
+}
+
+/// Takes each step of a script.
+fn take_all(alloc: Global, heard: &mut Heard, script: &str, page: &mut Page) -> Result<(), Stop> {
     for step in script.split(" ; ") {
-        take_step(alloc, &mut heard, step, out)?;
+        take_step(alloc, heard, step, page)?;
     }
     Ok(())
 }
 
 /// Makes a call.
-fn take_step(alloc: Global, heard: &mut Heard, step: &str, out: &mut String) -> Result<(), Stop> {
+fn take_step(alloc: Global, heard: &mut Heard, step: &str, page: &mut Page) -> Result<(), Stop> {
     let (call, rest) = first_word(step);
     match call {
         "take" => take(alloc, heard, rest),
         "advance" => advance(heard, rest),
-        "ready" => Ok(put_ready(alloc, heard, out)?),
-        "ready_along" => ready_along(heard, rest, out),
+        "ready" => Ok(put_ready(heard, page)?),
+        "ready_along" => ready_along(heard, rest, page),
         _ => Err(Stop::NoRow),
     }
 }
@@ -136,30 +140,32 @@ fn advance(heard: &mut Heard, row: &str) -> Result<(), Stop> {
 }
 
 /// Prints the items that are ready.
-fn put_ready(alloc: Global, heard: &mut Heard, out: &mut String) -> Result<(), AllocError> {
-    put_items(alloc, &heard.ready()?, out)
-}
-
-/// Prints items.
-fn put_items(alloc: Global, items: &Items, out: &mut String) -> Result<(), AllocError> {
-    if items.len() == 0 {
-        return out.push_str("  none\n");
-    }
-    for item in items.as_slice() {
-        put_item(alloc, item, out)?;
-    }
+fn put_ready(heard: &mut Heard, page: &mut Page) -> Result<(), AllocError> {
+    put_items(&heard.ready()?, page);
     Ok(())
 }
 
+/// Prints items.
+fn put_items(items: &Items, page: &mut Page) {
+    if items.len() == 0 {
+        page.push_str("  none\n");
+    }
+    for item in items.as_slice() {
+        put_item(item, page);
+    }
+}
+
 /// Prints an item.
-fn put_item(alloc: Global, item: &Item, out: &mut String) -> Result<(), AllocError> {
-    write!(out, "  {} {} ", item.publisher, item.tick)?;
-    put_text(out, item.event.json(alloc)?.as_slice())?;
-    out.push('\n')
+fn put_item(item: &Item, page: &mut Page) {
+    put_counted("  ", u64::from(item.publisher), page);
+    put_counted(" ", item.tick, page);
+    page.push(' ');
+    put_json(&item.event, page);
+    page.push('\n');
 }
 
 /// Moves a horizon to each tick of a range, and prints how many items are ready each time.
-fn ready_along(heard: &mut Heard, row: &str, out: &mut String) -> Result<(), Stop> {
+fn ready_along(heard: &mut Heard, row: &str, page: &mut Page) -> Result<(), Stop> {
     let (publisher, word) = first_word(row);
     let number = short_number(publisher)?;
     let ticks = range(word)?;
@@ -168,7 +174,10 @@ fn ready_along(heard: &mut Heard, row: &str, out: &mut String) -> Result<(), Sto
         let count = ready_at(heard, number, tick)?;
         (least, most) = (least.min(count), most.max(count));
     }
-    Ok(write!(out, "  {least} to {most} items each time\n")?)
+    put_counted("  ", least as u64, page);
+    put_counted(" to ", most as u64, page);
+    page.push_str(" items each time\n");
+    Ok(())
 }
 
 /// Moves a horizon, and counts the items that are ready.

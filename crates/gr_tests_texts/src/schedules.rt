@@ -3,14 +3,14 @@
 ghost use Rattle.std.specs.Prelude.{◌≤◌, length};
 ghost use Rattle.gr_sched.specs.declared.step.TheConstants.{MAX_INPUT_BYTES};
 
+use crate::words::{put_counted, put_json, size};
 use gr_event::Event;
 use gr_sched::{
-    Line, MAX_INPUT_BYTES, Names, Step, StepFault, Steps, after_word, count, first_word, is_blank,
+    Line, MAX_INPUT_BYTES, Names, Step, StepFault, Steps, after_word, count, is_blank,
     is_number_in, line_count, next_counted, parse, split, trimmed,
 };
-use gr_tests_rows::{Stop, number, put_text, spelled};
+use gr_tests_rows::{Page, Stop, first_word, number, spelled};
 use std::alloc::{AllocError, Global};
-use std::fmt::Write;
 
 /// Brokers A and B-2, publishers P and stop, and a late subscriber T.
 struct Two;
@@ -56,26 +56,27 @@ impl Names for Two {
 }
 
 /// Answers a row about schedules.
-pub fn answer(alloc: Global, row: &str, out: &mut String) -> Result<(), Stop> {
-    let (call, rest) = row.split_once(' ').unwrap_or((row, ""));
+pub fn answer(alloc: Global, row: &str, page: &mut Page) -> Result<(), Stop> {
+    let (call, rest) = first_word(row);
     match call {
-        "is-number" => put_is_number(alloc, rest, out),
-        "push" => put_pushed(alloc, rest, out),
-        _ => put_text_row(alloc, call, &spelled(alloc, rest)?, out),
+        "is-number" => put_is_number(alloc, rest, page),
+        "push" => put_pushed(alloc, rest, page),
+        _ => put_text_row(alloc, call, &spelled(alloc, rest)?, page),
     }
 }
 
 /// Answers a row about a text.
-fn put_text_row(alloc: Global, call: &str, text: &[u8], out: &mut String) -> Result<(), Stop> {
+fn put_text_row(alloc: Global, call: &str, text: &[u8], page: &mut Page) -> Result<(), Stop> {
     match call {
-        "read" => put_read(alloc, text, out),
-        "size" => put_size(alloc, text, out),
-        "split" => Ok(put_split(text, out)?),
-        "is-blank" => Ok(write!(out, "  {}\n", is_blank(text))?),
-        "lines" => put_counted(text, out),
-        "words" => Ok(put_words(text, out)?),
-        _ => Err(Stop::NoRow),
+        "read" => put_read(alloc, text, page)?,
+        "size" => put_size(alloc, text, page)?,
+        "split" => put_split(text, page),
+        "is-blank" => page.truth_line(is_blank(text)),
+        "lines" => put_lines(text, page)?,
+        "words" => put_words(text, page),
+        _ => return Err(Stop::NoRow),
     }
+    Ok(())
 }
 
 /// What a text reads as.
@@ -86,154 +87,211 @@ fn read(alloc: Global, text: &[u8]) -> Result<Steps, StepFault>
 }
 
 /// Prints the steps of a text, or why there are none.
-fn put_read(alloc: Global, text: &[u8], out: &mut String) -> Result<(), Stop> {
+fn put_read(alloc: Global, text: &[u8], page: &mut Page) -> Result<(), Stop> {
     if text.len() > MAX_INPUT_BYTES {
         return Err(Stop::NoRow);
     }
-    match read(alloc, text) {
-        Ok(steps) => Ok(put_steps(alloc, steps.as_slice(), out)?),
-        Err(fault) => put_fault(&fault, out),
+    put_steps_read(&read(alloc, text), page);
+    Ok(())
+}
+
+/// Prints steps, or why there are none.
+fn put_steps_read(answer: &Result<Steps, StepFault>, page: &mut Page) {
+    match answer {
+        Ok(steps) => put_steps(steps.as_slice(), page),
+        Err(fault) => put_fault(fault, page),
     }
 }
 
 /// Prints how many lines of a text are counted, and how many steps they are or why there are none.
-fn put_size(alloc: Global, text: &[u8], out: &mut String) -> Result<(), Stop> {
+fn put_size(alloc: Global, text: &[u8], page: &mut Page) -> Result<(), Stop> {
     if text.len() > MAX_INPUT_BYTES {
         return Err(Stop::NoRow);
     }
-    write!(out, "  counted {}\n", count(text))?;
-    match read(alloc, text) {
-        Ok(steps) => Ok(write!(out, "  steps {}\n", steps.len())?),
-        Err(fault) => put_fault(&fault, out),
+    put_counted("  counted ", count(text), page);
+    page.push('\n');
+    put_size_read(&read(alloc, text), page);
+    Ok(())
+}
+
+/// Prints how many steps there are, or why there are none.
+fn put_size_read(answer: &Result<Steps, StepFault>, page: &mut Page) {
+    match answer {
+        Ok(steps) => put_step_count(steps, page),
+        Err(fault) => put_fault(fault, page),
     }
 }
 
+/// Prints how many steps there are.
+fn put_step_count(steps: &Steps, page: &mut Page) {
+    put_counted("  steps ", steps.len() as u64, page);
+    page.push('\n');
+}
+
 /// Prints the number of a fault, its word and its line.
-fn put_fault(fault: &StepFault, out: &mut String) -> Result<(), Stop> {
+fn put_fault(fault: &StepFault, page: &mut Page) {
     match fault {
-        StepFault::Memory => Err(Stop::Memory),
-        _ => Ok(write!(out, "  refused {} {fault}\n", fault.number())?),
+        StepFault::Memory => page.tear(),
+        _ => {
+            put_counted("  refused ", u64::from(fault.number()), page);
+            write!(page, " {fault}\n");
+        }
     }
 }
 
 /// Prints steps, each behind the number of its line; the word `nothing` where there are none.
-pub fn put_steps(alloc: Global, lines: &[Line], out: &mut String) -> Result<(), AllocError> {
+pub fn put_steps(lines: &[Line], page: &mut Page) {
     if lines.is_empty() {
-        out.push_str("  nothing\n")?;
+        page.push_str("  nothing\n");
     }
     for line in lines {
-        write!(out, "  line {} ", line.number)?;
-        put_step(alloc, &line.step, out)?;
-        out.push('\n')?;
+        put_counted("  line ", u64::from(line.number), page);
+        page.push(' ');
+        put_step(&line.step, page);
+        page.push('\n');
     }
-    Ok(())
 }
 
 /// Prints a step. Brokers and publishers are numbers.
-fn put_step(alloc: Global, step: &Step, out: &mut String) -> Result<(), AllocError> {
+fn put_step(step: &Step, page: &mut Page) {
     match step {
-        Step::Clock { now } => write!(out, "clock {now}"),
+        Step::Clock { now } => put_counted("clock ", *now, page),
         Step::Publish {
             publisher,
             number,
             stop,
             event,
         } => {
-            write!(out, "publish {publisher} {number}")?;
+            put_pair("publish ", *publisher, *number, page);
             if let Some(stop) = stop {
-                write!(out, " stop {} pick {}", stop.call, stop.pick)?;
+                put_stop(stop, page);
             }
-            put_event(alloc, event, out)
+            put_event(event, page);
         }
-        Step::Wake { broker } => write!(out, "wake {broker}"),
-        Step::Deliver { frame } => write!(out, "deliver {frame}"),
-        Step::Crash { broker } => write!(out, "crash {broker}"),
-        Step::Sweep => write!(out, "sweep"),
-        Step::Show => write!(out, "show"),
-        Step::Bytes { frame } => write!(out, "bytes {frame}"),
+        Step::Wake { broker } => put_counted("wake ", u64::from(*broker), page),
+        Step::Deliver { frame } => put_counted("deliver ", *frame, page),
+        Step::Crash { broker } => put_counted("crash ", u64::from(*broker), page),
+        Step::Sweep => page.push_str("sweep"),
+        Step::Show => page.push_str("show"),
+        Step::Bytes { frame } => put_counted("bytes ", *frame, page),
         Step::Join {
             subscriber,
             publisher,
-        } => write!(out, "join {subscriber} {publisher}"),
+        } => put_pair("join ", *subscriber, u64::from(*publisher), page),
     }
 }
 
+/// Prints a number behind a word, and another behind a blank.
+fn put_pair(word: &str, one: u16, other: u64, page: &mut Page) {
+    put_counted(word, u64::from(one), page);
+    put_counted(" ", other, page);
+}
+
+/// Prints where a publish is to stop.
+fn put_stop(stop: &gr_sched::Stop, page: &mut Page) {
+    put_counted(" stop ", u64::from(stop.call), page);
+    put_counted(" pick ", u64::from(stop.pick), page);
+}
+
 /// Prints an event as JSON behind a blank.
-fn put_event(alloc: Global, event: &Event, out: &mut String) -> Result<(), AllocError> {
-    out.push(' ')?;
-    put_text(out, event.json(alloc)?.as_slice())
+fn put_event(event: &Event, page: &mut Page) {
+    page.push(' ');
+    put_json(event, page);
 }
 
 /// Prints the two parts of a scenario.
-fn put_split(text: &[u8], out: &mut String) -> Result<(), AllocError> {
+fn put_split(text: &[u8], page: &mut Page) {
     let (topology, steps) = split(text);
-    put_quoted("  topology ", topology, out)?;
-    put_quoted(" steps ", steps, out)?;
-    out.push('\n')
+    put_quoted("  topology ", topology, page);
+    put_quoted(" steps ", steps, page);
+    page.push('\n');
 }
 
 /// Prints a text between quotes behind a word.
-fn put_quoted(word: &str, text: &[u8], out: &mut String) -> Result<(), AllocError> {
-    out.push_str(word)?;
-    out.push('\'')?;
-    put_text(out, text)?;
-    out.push('\'')
+fn put_quoted(word: &str, text: &[u8], page: &mut Page) {
+    page.push_str(word);
+    page.push('\'');
+    page.push_escaped(text);
+    page.push('\'');
 }
 
 /// Prints the counted lines of a text, each behind its number, and how many lines there are in all.
-fn put_counted(text: &[u8], out: &mut String) -> Result<(), Stop> {
+fn put_lines(text: &[u8], page: &mut Page) -> Result<(), Stop> {
     let mut before = 0;
     let mut rest = text;
     for _ in 0..count(text) {
         if rest.len() > MAX_INPUT_BYTES || before > 100_000 {
             return Err(Stop::NoRow);
         }
-        let counted = next_counted(before, rest).ok_or(Stop::NoRow)?;
-        write!(out, "  line {}", counted.number)?;
-        put_quoted(" ", counted.line, out)?;
-        out.push('\n')?;
+        let Some(counted) = next_counted(before, rest) else {
+            return Err(Stop::NoRow);
+        };
+        put_line(counted.number, counted.line, page);
         before = counted.number;
         rest = counted.rest;
     }
-    Ok(write!(out, "  lines {}\n", line_count(text))?)
+    put_counted("  lines ", line_count(text), page);
+    page.push('\n');
+    Ok(())
+}
+
+/// Prints a line behind its number.
+fn put_line(number: u64, line: &[u8], page: &mut Page) {
+    put_counted("  line ", number, page);
+    put_quoted(" ", line, page);
+    page.push('\n');
 }
 
 /// Prints a line without the blanks at its ends, its first word, and what follows that.
-fn put_words(line: &[u8], out: &mut String) -> Result<(), AllocError> {
+fn put_words(line: &[u8], page: &mut Page) {
     let text = trimmed(line);
-    put_quoted("  trimmed ", text, out)?;
-    put_quoted(" first ", first_word(text), out)?;
-    put_quoted(" behind ", after_word(text), out)?;
-    out.push('\n')
+    put_quoted("  trimmed ", text, page);
+    put_quoted(" first ", gr_sched::first_word(text), page);
+    put_quoted(" behind ", after_word(text), page);
+    page.push('\n');
 }
 
 /// Prints whether a word is a number, as `2 0 64 WORD` for one of at most two digits from 0 to 64.
-fn put_is_number(alloc: Global, row: &str, out: &mut String) -> Result<(), Stop> {
+fn put_is_number(alloc: Global, row: &str, page: &mut Page) -> Result<(), Stop> {
     let words: Vec<&str> = row.split(' ').collect(alloc)?;
-    match words.as_slice() {
+    put_number_words(words.as_slice(), page)
+}
+
+/// Prints whether the last of four words is a number.
+fn put_number_words(words: &[&str], page: &mut Page) -> Result<(), Stop> {
+    match words {
         [digits, low, high, word] => {
-            let digits = usize::try_from(number(digits)?).map_err(|_| Stop::NoRow)?;
-            let truth = is_number_in(digits, number(low)?, number(high)?, word.as_bytes());
-            Ok(write!(out, "  {truth}\n")?)
+            let truth = is_number_in(size(digits)?, number(low)?, number(high)?, word.as_bytes());
+            page.truth_line(truth);
+            Ok(())
         }
         _ => Err(Stop::NoRow),
     }
 }
 
 /// Puts a step `sweep` into a list for each number of a line, and prints the list.
-fn put_pushed(alloc: Global, row: &str, out: &mut String) -> Result<(), Stop> {
+fn put_pushed(alloc: Global, row: &str, page: &mut Page) -> Result<(), Stop> {
     let mut steps = Steps::new(alloc);
-    write!(out, "  steps {}\n", steps.len())?;
+    put_step_count(&steps, page);
     for word in row.split(' ') {
         push_sweep(word, &mut steps)?;
     }
-    write!(out, "  steps {}\n", steps.len())?;
-    Ok(put_steps(alloc, steps.as_slice(), out)?)
+    put_step_count(&steps, page);
+    put_steps(steps.as_slice(), page);
+    Ok(())
 }
 
 /// Puts a step `sweep` at the end, with the number of its line.
 fn push_sweep(word: &str, steps: &mut Steps) -> Result<(), Stop> {
-    let number = u32::try_from(number(word)?).map_err(|_| Stop::NoRow)?;
+    let number = number(word)?;
+    if number > 4_294_967_295 {
+        return Err(Stop::NoRow);
+    }
+    Ok(push_step(number as u32, steps)?)
+}
+
+/// Puts a step `sweep` at the end, with this number of its line.
+fn push_step(number: u32, steps: &mut Steps) -> Result<(), AllocError> {
     let step = Step::Sweep;
-    Ok(steps.push(Line { number, step })?)
+    steps.push(Line { number, step })
 }

@@ -3,26 +3,27 @@
 ghost use Rattle.std.specs.Prelude.{◌≡◌, ◌&&◌, nat_lt};
 ghost use Rattle.std.specs.List.{list_all};
 
-use gr_tests_rows::{Stop, number};
+use crate::words::{put_counted, short_number};
+use gr_tests_rows::{Page, Stop, parted};
 use gr_tree::{Link, Place, places};
-use std::alloc::{AllocError, Global};
-use std::fmt::Write;
+use std::alloc::Global;
 
 /// Answers a row about trees, as `3 nodes from 2 by 0-1 2-1`.
-pub fn answer(alloc: Global, row: &str, out: &mut String) -> Result<(), Stop> {
+pub fn answer(alloc: Global, row: &str, page: &mut Page) -> Result<(), Stop> {
     let words: Vec<&str> = row.split(' ').collect(alloc)?;
-    match words.as_slice() {
+    put_tree(alloc, words.as_slice(), page)
+}
+
+/// Answers the words of a row.
+fn put_tree(alloc: Global, words: &[&str], page: &mut Page) -> Result<(), Stop> {
+    match words {
         [nodes, "nodes", "from", root, "by", words @ ..] => {
-            let links = links(alloc, words)?;
-            put_places(alloc, node(nodes)?, node(root)?, &links, out)
+            let nodes = short_number(nodes)?;
+            let root = short_number(root)?;
+            put_places(alloc, nodes, root, &links(alloc, words)?, page)
         }
         _ => Err(Stop::NoRow),
     }
-}
-
-/// The number of a node.
-fn node(word: &str) -> Result<u16, Stop> {
-    u16::try_from(number(word)?).map_err(|_| Stop::NoRow)
 }
 
 /// The links that words spell, each as `0-1`.
@@ -36,10 +37,10 @@ fn links(alloc: Global, words: &[&str]) -> Result<Vec<Link>, Stop> {
 
 /// The link that a word spells.
 fn link(word: &str) -> Result<Link, Stop> {
-    let (one, other) = word.split_once('-').ok_or(Stop::NoRow)?;
+    let (one, other) = parted(word, "-")?;
     Ok(Link {
-        one: node(one)?,
-        other: node(other)?,
+        one: short_number(one)?,
+        other: short_number(other)?,
     })
 }
 
@@ -58,25 +59,31 @@ fn put_places(
     nodes: u16,
     root: u16,
     links: &[Link],
-    out: &mut String,
+    page: &mut Page,
 ) -> Result<(), Stop> {
     if root >= nodes || !are_within(nodes, links) {
         return Err(Stop::NoRow);
     }
     match places(alloc, nodes, links, root)? {
-        Some(places) => Ok(put_all(&places, out)?),
-        None => Ok(out.push_str("  no tree\n")?),
+        Some(places) => put_all(&places, page),
+        None => page.push_str("  no tree\n"),
     }
+    Ok(())
 }
 
 /// Prints places.
-fn put_all(places: &[Place], out: &mut String) -> Result<(), AllocError> {
+fn put_all(places: &[Place], page: &mut Page) {
     for (node, place) in places.iter().enumerate() {
-        write!(out, "  {node}")?;
-        if let Some(up) = place.up {
-            write!(out, " up {up}")?;
-        }
-        write!(out, " depth {}\n", place.depth)?;
+        put_counted("  ", node as u64, page);
+        put_place(place, page);
     }
-    Ok(())
+}
+
+/// Prints a place.
+fn put_place(place: &Place, page: &mut Page) {
+    if let Some(up) = place.up {
+        put_counted(" up ", u64::from(up), page);
+    }
+    put_counted(" depth ", u64::from(place.depth), page);
+    page.push('\n');
 }

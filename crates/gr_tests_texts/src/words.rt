@@ -1,19 +1,9 @@
-//! The parts of a row: words and steps, texts with repeated parts, events and filters.
+//! The parts of a row: words and steps, texts with repeated parts, events and filters; and what many answers have.
 
 use gr_event::{Event, EventFault};
 use gr_filter::{Filter, FilterFault, parse};
-use gr_tests_rows::{Stop, number, unescaped};
-use std::alloc::Global;
-
-/// The first word of a text and what follows it, which is empty where nothing does.
-pub fn first_word(text: &str) -> (&str, &str) {
-    text.split_once(' ').unwrap_or((text, ""))
-}
-
-/// The two sides of ` | `.
-pub fn sides(text: &str) -> Result<(&str, &str), Stop> {
-    text.split_once(" | ").ok_or(Stop::NoRow)
-}
+use gr_tests_rows::{Page, Stop, first_word, number, unescaped};
+use std::alloc::{AllocError, Global};
 
 /// The text in which each part `~COUNT TEXT~` stands that many times.
 pub fn repeated(alloc: Global, text: &str) -> Result<String, Stop> {
@@ -28,8 +18,16 @@ pub fn repeated(alloc: Global, text: &str) -> Result<String, Stop> {
 
 /// Puts a text, or where a number stands before it, as often as that says.
 fn put_part(whole: &mut String, part: &str, times: bool) -> Result<(), Stop> {
-    let (count, text) = if times { first_word(part) } else { ("1", part) };
-    for _ in 0..number(count)? {
+    if !times {
+        return Ok(whole.push_str(part)?);
+    }
+    let (count, text) = first_word(part);
+    Ok(put_copies(whole, number(count)?, text)?)
+}
+
+/// Puts so many copies of a text.
+fn put_copies(whole: &mut String, count: u64, text: &str) -> Result<(), AllocError> {
+    for _ in 0..count {
         whole.push_str(text)?;
     }
     Ok(())
@@ -42,12 +40,26 @@ pub fn spelled(alloc: Global, text: &str) -> Result<Vec<u8>, Stop> {
 
 /// The number of 16 bits that a word spells.
 pub fn short_number(word: &str) -> Result<u16, Stop> {
-    word.parse::<u16>().map_err(|_| Stop::NoRow)
+    let number = number(word)?;
+    if number > 65_535 {
+        return Err(Stop::NoRow);
+    }
+    Ok(number as u16)
+}
+
+/// The size that a word spells.
+pub fn size(word: &str) -> Result<usize, Stop> {
+    Ok(number(word)? as usize)
 }
 
 /// The event of a JSON text.
 pub fn event(alloc: Global, text: &str) -> Result<Event, Stop> {
-    match Event::from_text(alloc, spelled(alloc, text)?.as_slice()) {
+    event_of(alloc, spelled(alloc, text)?.as_slice())
+}
+
+/// The event of bytes that are JSON.
+fn event_of(alloc: Global, json: &[u8]) -> Result<Event, Stop> {
+    match Event::from_text(alloc, json) {
         Ok(event) => Ok(event),
         Err(EventFault::Memory) => Err(Stop::Memory),
         Err(_) => Err(Stop::NoRow),
@@ -67,9 +79,35 @@ impl Drop for Held {
 
 /// The filter of a text.
 pub fn filter(alloc: Global, text: &str) -> Result<Held, Stop> {
-    match parse(alloc, spelled(alloc, text)?.as_slice()) {
+    filter_of(alloc, spelled(alloc, text)?.as_slice())
+}
+
+/// The filter that bytes spell.
+fn filter_of(alloc: Global, text: &[u8]) -> Result<Held, Stop> {
+    match parse(alloc, text) {
         Ok(filter) => Ok(Held { filter }),
         Err(FilterFault::Memory) => Err(Stop::Memory),
         Err(_) => Err(Stop::NoRow),
+    }
+}
+
+/// Prints a word and a number behind it.
+pub fn put_counted(word: &str, number: u64, page: &mut Page) {
+    page.push_str(word);
+    page.push_number(number);
+}
+
+/// Prints a text on a line of its own.
+pub fn put_line(text: &[u8], page: &mut Page) {
+    page.push_str("  ");
+    page.push_escaped(text);
+    page.push('\n');
+}
+
+/// Prints an event as JSON.
+pub fn put_json(event: &Event, page: &mut Page) {
+    match event.json(page.allocator()) {
+        Ok(json) => page.push_escaped(json.as_slice()),
+        Err(_) => page.tear(),
     }
 }

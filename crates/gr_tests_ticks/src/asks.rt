@@ -2,13 +2,12 @@
 
 use crate::spelled::{piece, put_count, put_piece, put_ticks};
 use gr_curio::{Asks, Moment, Q3};
-use gr_tests_rows::{Stop, number, range};
+use gr_tests_rows::{Page, Stop, number, range};
 use gr_tick::Piece;
-use std::alloc::{AllocError, Global};
-use std::fmt::Write;
+use std::alloc::Global;
 
 /// Answers a script for asks: a line for each step.
-pub fn answer(alloc: Global, script: &str, out: &mut String) -> Result<(), Stop> {
+pub fn answer(alloc: Global, script: &str, out: &mut Page) -> Result<(), Stop> {
     let mut asks = Asks::new(alloc);
     for step in script.split(" ; ") {
         take(alloc, &mut asks, step, out)?;
@@ -17,35 +16,36 @@ pub fn answer(alloc: Global, script: &str, out: &mut String) -> Result<(), Stop>
 }
 
 /// Takes a step: prints what a look answers, or all runs after an edit.
-fn take(alloc: Global, asks: &mut Asks, step: &str, out: &mut String) -> Result<(), Stop> {
+fn take(alloc: Global, asks: &mut Asks, step: &str, out: &mut Page) -> Result<(), Stop> {
     let (call, words) = step.split_once(' ').unwrap_or((step, ""));
     match call {
-        "len" => Ok(put_count(out, asks.len())?),
-        "copy" => Ok(put_asks(out, &asks.copy()?)?),
-        "due" => due(alloc, asks, words, out),
+        "len" => put_count(out, asks.len()),
+        "copy" => put_asks(out, &asks.copy()?),
+        "due" => due(alloc, asks, words, out)?,
         _ => {
             edit(alloc, asks, call, words)?;
-            Ok(put_asks(out, asks)?)
+            put_asks(out, asks);
         }
     }
+    Ok(())
 }
 
 /// Prints the moments of the last asks, each behind its ticks.
-fn put_asks(out: &mut String, asks: &Asks) -> Result<(), AllocError> {
-    out.push(' ')?;
+fn put_asks(out: &mut Page, asks: &Asks) {
+    out.push(' ');
     if asks.len() == 0 {
-        out.push_str(" none")?;
+        out.push_str(" none");
     }
     for i in 0..asks.len() {
         let run = asks.run(i);
-        out.push(' ')?;
-        put_ticks(out, run.first, run.last)?;
-        put_moment(out, run.value)?;
+        out.push(' ');
+        put_ticks(out, run.first, run.last);
+        put_moment(out, run.value);
     }
-    out.push('\n')
+    out.push('\n');
 }
 
-fn put_moment(out: &mut String, moment: Moment) -> Result<(), AllocError> {
+fn put_moment(out: &mut Page, moment: Moment) {
     match moment {
         Moment::Never => out.push_str("@never"),
         Moment::At(moment) => write!(out, "@{moment}"),
@@ -53,7 +53,7 @@ fn put_moment(out: &mut String, moment: Moment) -> Result<(), AllocError> {
 }
 
 /// Prints what of a piece is due at a moment.
-fn due(alloc: Global, asks: &Asks, words: &str, out: &mut String) -> Result<(), Stop> {
+fn due(alloc: Global, asks: &Asks, words: &str, out: &mut Page) -> Result<(), Stop> {
     let (words, times) = words.split_once(" at ").ok_or(Stop::NoRow)?;
     let (now, retry) = times.split_once(" retry ").ok_or(Stop::NoRow)?;
     let now = number(now)?;
@@ -67,10 +67,11 @@ fn put_due(
     wanted: &Piece<Q3>,
     now: u64,
     retry: u64,
-    out: &mut String,
+    out: &mut Page,
 ) -> Result<(), Stop> {
     let due = asks.due(wanted, now, retry)?;
-    Ok(put_piece(out, &due)?)
+    put_piece(out, &due);
+    Ok(())
 }
 
 /// Makes an edit.

@@ -2,8 +2,8 @@
 
 use crate::spelled::Spelled;
 use gr_curio::Q3;
-use gr_tests_rows::Stop;
-use std::alloc::{AllocError, Global};
+use gr_tests_rows::{Page, Stop};
+use std::alloc::Global;
 
 impl Spelled for Q3 {
     fn read(_alloc: Global, letter: char, _text: &str) -> Result<Q3, Stop> {
@@ -23,7 +23,5 @@ impl Spelled for Q3 {
         }
     }
 
-    fn put_rest(&self, _out: &mut String) -> Result<(), AllocError> {
-        Ok(())
-    }
+    fn put_rest(&self, _out: &mut Page) {}
 }

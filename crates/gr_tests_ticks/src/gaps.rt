@@ -2,12 +2,11 @@
 
 use crate::spelled::{put_count, put_number};
 use gr_gap::Gap;
-use gr_tests_rows::{Stop, number};
-use std::alloc::{AllocError, Global};
-use std::fmt::Write;
+use gr_tests_rows::{Page, Stop, number};
+use std::alloc::Global;
 
 /// Answers a script for a list: a line for each step. A number before it says how much room is made for each insert.
-pub fn answer(alloc: Global, row: &str, out: &mut String) -> Result<(), Stop> {
+pub fn answer(alloc: Global, row: &str, out: &mut Page) -> Result<(), Stop> {
     let (room, script) = row.split_once(' ').ok_or(Stop::NoRow)?;
     let room = number(room)? as usize;
     let mut list: Gap<u64> = Gap::new(alloc);
@@ -18,34 +17,35 @@ pub fn answer(alloc: Global, row: &str, out: &mut String) -> Result<(), Stop> {
 }
 
 /// Takes a step: prints what a look answers, or what an edit does.
-fn take(list: &mut Gap<u64>, room: usize, step: &str, out: &mut String) -> Result<(), Stop> {
+fn take(list: &mut Gap<u64>, room: usize, step: &str, out: &mut Page) -> Result<(), Stop> {
     let (call, words) = step.split_once(' ').unwrap_or((step, ""));
     match call {
-        "list" => Ok(put_list(out, list)?),
-        "len" => Ok(put_count(out, list.len())?),
-        "digest" => Ok(put_number(out, digest(list))?),
-        "near" => Ok(put_count(out, list.near())?),
-        "edits" => edits(list, room, words, out),
-        "fill" => Ok(put_count(out, fill(list, room, words)?)?),
-        "drain" => Ok(put_count(out, drain(list, words)?)?),
-        "get" => get(list, words, out),
+        "list" => put_list(out, list),
+        "len" => put_count(out, list.len()),
+        "digest" => put_number(out, digest(list)),
+        "near" => put_count(out, list.near()),
+        "edits" => edits(list, room, words, out)?,
+        "fill" => put_count(out, fill(list, room, words)?),
+        "drain" => put_count(out, drain(list, words)?),
+        "get" => get(list, words, out)?,
         _ => {
             edit(list, call, words)?;
-            Ok(put_list(out, list)?)
+            put_list(out, list);
         }
     }
+    Ok(())
 }
 
 /// Prints the values in order.
-fn put_list(out: &mut String, list: &Gap<u64>) -> Result<(), AllocError> {
-    out.push(' ')?;
+fn put_list(out: &mut Page, list: &Gap<u64>) {
+    out.push(' ');
     if list.len() == 0 {
-        out.push_str(" none")?;
+        out.push_str(" none");
     }
     for i in 0..list.len() {
-        write!(out, " {}", *list.get(i))?;
+        write!(out, " {}", *list.get(i));
     }
-    out.push('\n')
+    out.push('\n');
 }
 
 /// A number for all values in their order: from 0 on, for each value 31 times the one before and the value.
@@ -58,12 +58,13 @@ fn digest(list: &Gap<u64>) -> u64 {
 }
 
 /// Prints the value at a place.
-fn get(list: &Gap<u64>, word: &str, out: &mut String) -> Result<(), Stop> {
+fn get(list: &Gap<u64>, word: &str, out: &mut Page) -> Result<(), Stop> {
     let i = number(word)? as usize;
     if i >= list.len() {
         return Err(Stop::NoRow);
     }
-    Ok(put_number(out, *list.get(i))?)
+    put_number(out, *list.get(i));
+    Ok(())
 }
 
 /// Makes room, or notes a place.
@@ -79,21 +80,22 @@ fn edit(list: &mut Gap<u64>, call: &str, word: &str) -> Result<(), Stop> {
 
 /// Makes edits one after the other, and prints what they answer, and how many values there are then: `+3:17` puts 17 at
 /// place 3, `=3:17` puts it in the place of the value there, and `-3` takes out the value there.
-fn edits(list: &mut Gap<u64>, room: usize, words: &str, out: &mut String) -> Result<(), Stop> {
-    out.push(' ')?;
+fn edits(list: &mut Gap<u64>, room: usize, words: &str, out: &mut Page) -> Result<(), Stop> {
+    out.push(' ');
     for word in words.split(' ') {
         if let Some(word) = word.strip_prefix('+') {
             let (i, value) = place_and_value(word)?;
             insert(list, room, i, value)?;
         } else if let Some(word) = word.strip_prefix('=') {
             let (i, value) = place_and_value(word)?;
-            write!(out, " {}", replace(list, i, value)?)?;
+            write!(out, " {}", replace(list, i, value)?);
         } else {
             let word = word.strip_prefix('-').ok_or(Stop::NoRow)?;
-            write!(out, " {}", remove(list, number(word)? as usize)?)?;
+            write!(out, " {}", remove(list, number(word)? as usize)?);
         }
     }
-    Ok(write!(out, " len {}\n", list.len())?)
+    write!(out, " len {}\n", list.len());
+    Ok(())
 }
 
 /// A place and a value with a colon between.

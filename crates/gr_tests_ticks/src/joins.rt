@@ -4,12 +4,11 @@
 
 use crate::spelled::put_count;
 use gr_event::{Join, Joins};
-use gr_tests_rows::{Stop, number};
+use gr_tests_rows::{Page, Stop, number};
 use std::alloc::{AllocError, Global};
-use std::fmt::Write;
 
 /// Answers a script for a list: a line for each step.
-pub fn answer(alloc: Global, row: &str, out: &mut String) -> Result<(), Stop> {
+pub fn answer(alloc: Global, row: &str, out: &mut Page) -> Result<(), Stop> {
     let mut joins = Joins::new(alloc);
     for step in row.split(" ; ") {
         take(alloc, &mut joins, step, out)?;
@@ -18,19 +17,20 @@ pub fn answer(alloc: Global, row: &str, out: &mut String) -> Result<(), Stop> {
 }
 
 /// Takes a step: prints what a look answers, or the list that an edit leaves.
-fn take(alloc: Global, joins: &mut Joins, step: &str, out: &mut String) -> Result<(), Stop> {
+fn take(alloc: Global, joins: &mut Joins, step: &str, out: &mut Page) -> Result<(), Stop> {
     let (call, words) = step.split_once(' ').unwrap_or((step, ""));
     match call {
-        "len" => Ok(put_count(out, joins.len())?),
-        "allows" => put_allowed(joins, words, out),
-        "tick" => put_tick(joins, words, out),
-        "has" => put_has(joins, words, out),
-        "split" => split(alloc, joins, words, out),
+        "len" => put_count(out, joins.len()),
+        "allows" => put_allowed(joins, words, out)?,
+        "tick" => put_tick(joins, words, out)?,
+        "has" => put_has(joins, words, out)?,
+        "split" => split(alloc, joins, words, out)?,
         _ => {
             edit(alloc, joins, call, words)?;
-            Ok(put_joins(out, joins.as_slice())?)
+            put_joins(out, joins.as_slice());
         }
     }
+    Ok(())
 }
 
 /// Puts joins behind those of the list, each where it may stand there and else not, or makes the list anew of its joins.
@@ -59,6 +59,7 @@ fn add(joins: &mut Joins, join: Join) -> Result<(), AllocError> {
     Ok(())
 }
 
+/// Puts in the joins that words spell, each if it may stand there.
 fn add_all(joins: &mut Joins, words: &str) -> Result<(), Stop> {
     for word in words.split(' ') {
         add(joins, join_of(word)?)?;
@@ -82,64 +83,66 @@ fn copy(alloc: Global, joins: &mut Joins) -> Result<(), Stop> {
 }
 
 /// Prints the joins in order.
-fn put_joins(out: &mut String, joins: &[Join]) -> Result<(), AllocError> {
-    out.push(' ')?;
+fn put_joins(out: &mut Page, joins: &[Join]) {
+    out.push(' ');
     if joins.is_empty() {
-        out.push_str(" none")?;
+        out.push_str(" none");
     }
     for join in joins {
-        put_join(out, *join)?;
+        put_join(out, *join);
     }
-    out.push('\n')
+    out.push('\n');
 }
 
 /// Prints a join behind a blank.
-fn put_join(out: &mut String, join: Join) -> Result<(), AllocError> {
-    write!(out, " {}:{}", join.subscriber, join.tick)
+fn put_join(out: &mut Page, join: Join) {
+    write!(out, " {}:{}", join.subscriber, join.tick);
 }
 
 /// Prints for each join whether it may stand behind those of the list.
-fn put_allowed(joins: &Joins, words: &str, out: &mut String) -> Result<(), Stop> {
-    out.push(' ')?;
+fn put_allowed(joins: &Joins, words: &str, out: &mut Page) -> Result<(), Stop> {
+    out.push(' ');
     for word in words.split(' ') {
         let answer = if joins.allows(join_of(word)?) {
             " yes"
         } else {
             " no"
         };
-        out.push_str(answer)?;
+        out.push_str(answer);
     }
-    Ok(out.push('\n')?)
+    out.push('\n');
+    Ok(())
 }
 
 /// Prints the tick at which a subscriber joined, and `none` where it has not.
-fn put_tick(joins: &Joins, word: &str, out: &mut String) -> Result<(), Stop> {
+fn put_tick(joins: &Joins, word: &str, out: &mut Page) -> Result<(), Stop> {
     let subscriber = word.parse::<u16>().map_err(|_| Stop::NoRow)?;
     match joins.tick_of(subscriber) {
-        Some(tick) => write!(out, "  {tick}\n")?,
-        None => out.push_str("  none\n")?,
+        Some(tick) => write!(out, "  {tick}\n"),
+        None => out.push_str("  none\n"),
     }
     Ok(())
 }
 
 /// Prints whether a subscriber has joined.
-fn put_has(joins: &Joins, word: &str, out: &mut String) -> Result<(), Stop> {
+fn put_has(joins: &Joins, word: &str, out: &mut Page) -> Result<(), Stop> {
     let subscriber = word.parse::<u16>().map_err(|_| Stop::NoRow)?;
-    Ok(write!(out, "  {}\n", joins.has(subscriber))?)
+    write!(out, "  {}\n", joins.has(subscriber));
+    Ok(())
 }
 
 /// Prints where the list splits from the one that words spell: the place, what stands there, and what came.
-fn split(alloc: Global, joins: &Joins, words: &str, out: &mut String) -> Result<(), Stop> {
+fn split(alloc: Global, joins: &Joins, words: &str, out: &mut Page) -> Result<(), Stop> {
     let mut other = Joins::new(alloc);
     add_all(&mut other, words)?;
     match joins.split_from(&other.share()) {
         Some(split) => {
-            write!(out, "  {}", split.at)?;
-            put_join(out, split.kept)?;
-            put_join(out, split.came)?;
-            out.push('\n')?;
+            write!(out, "  {}", split.at);
+            put_join(out, split.kept);
+            put_join(out, split.came);
+            out.push('\n');
         }
-        None => out.push_str("  none\n")?,
+        None => out.push_str("  none\n"),
     }
     Ok(())
 }

@@ -4,8 +4,8 @@
 use crate::spelled::Spelled;
 use gr_event::{Event, EventFault};
 use gr_know::K;
-use gr_tests_rows::{Stop, put_text};
-use std::alloc::{AllocError, Global};
+use gr_tests_rows::{Page, Stop};
+use std::alloc::Global;
 
 impl Spelled for K {
     fn read(alloc: Global, letter: char, text: &str) -> Result<K, Stop> {
@@ -27,13 +27,13 @@ impl Spelled for K {
         }
     }
 
-    fn put_rest(&self, out: &mut String) -> Result<(), AllocError> {
+    fn put_rest(&self, out: &mut Page) {
         match self {
             K::D(event) => {
-                out.push(':')?;
-                put_event(out, event)
+                out.push(':');
+                put_event(out, event);
             }
-            K::Q | K::S | K::F => Ok(()),
+            K::Q | K::S | K::F => {}
         }
     }
 }
@@ -48,7 +48,9 @@ fn event(alloc: Global, text: &str) -> Result<Event, Stop> {
 }
 
 /// Prints an event as JSON.
-pub fn put_event(out: &mut String, event: &Event) -> Result<(), AllocError> {
-    let text = event.json(*out.allocator())?;
-    put_text(out, text.as_slice())
+pub fn put_event(out: &mut Page, event: &Event) {
+    match event.json(out.allocator()) {
+        Ok(text) => out.push_escaped(text.as_slice()),
+        Err(_) => out.tear(),
+    }
 }

@@ -17,7 +17,7 @@ mod streams;
 mod subends;
 mod wants;
 
-use gr_tests_rows::{Stop, answers_to, time_of};
+use gr_tests_rows::{Page, Stop, answers_to, time_of};
 use std::alloc::Global;
 use std::io;
 
@@ -37,7 +37,7 @@ fn main(rt: HostRuntime) -> io::Result<()> {
 }
 
 /// Makes the call that a row names.
-fn call(alloc: Global, row: &str, out: &mut String) -> Result<(), Stop> {
+fn call(alloc: Global, row: &str, out: &mut Page) -> Result<(), Stop> {
     let (family, rest) = row.split_once(' ').ok_or(Stop::NoRow)?;
     match family {
         "asks" => asks::answer(alloc, rest, out),

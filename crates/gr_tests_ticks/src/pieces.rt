@@ -10,12 +10,12 @@ use crate::spelled::{
 };
 use gr_curio::Q3;
 use gr_know::K;
-use gr_tests_rows::{Stop, TickRange, range};
+use gr_tests_rows::{Page, Stop, TickRange, range};
 use gr_tick::{Piece, Run, is_bottom};
-use std::alloc::{AllocError, Global};
+use std::alloc::Global;
 
 /// Answers a script for a piece: a line for each step.
-pub fn answer(alloc: Global, row: &str, out: &mut String) -> Result<(), Stop> {
+pub fn answer(alloc: Global, row: &str, out: &mut Page) -> Result<(), Stop> {
     let (values, script) = row.split_once(' ').ok_or(Stop::NoRow)?;
     match values {
         "Q3" => play::<Q3>(alloc, script, out),
@@ -25,7 +25,7 @@ pub fn answer(alloc: Global, row: &str, out: &mut String) -> Result<(), Stop> {
 }
 
 /// Takes the steps of a script one after the other.
-fn play<V: Spelled>(alloc: Global, script: &str, out: &mut String) -> Result<(), Stop> {
+fn play<V: Spelled>(alloc: Global, script: &str, out: &mut Page) -> Result<(), Stop> {
     let mut piece: Piece<V> = Piece::new(alloc);
     for step in script.split(" ; ") {
         take(alloc, &mut piece, step, out)?;
@@ -38,18 +38,19 @@ fn take<V: Spelled>(
     alloc: Global,
     piece: &mut Piece<V>,
     step: &str,
-    out: &mut String,
+    out: &mut Page,
 ) -> Result<(), Stop> {
     let (call, words) = step.split_once(' ').unwrap_or((step, ""));
     match call {
-        "len" => Ok(put_count(out, piece.len())?),
-        "is_empty" => Ok(put_truth(out, piece.is_empty())?),
+        "len" => put_count(out, piece.len()),
+        "is_empty" => put_truth(out, piece.is_empty()),
         "push" | "push_cut" | "copy" => {
             *piece = made(alloc, piece, call, words)?;
-            Ok(put_piece(out, piece)?)
+            put_piece(out, piece);
         }
-        _ => look_at(piece, call, words, out),
+        _ => look_at(piece, call, words, out)?,
     }
+    Ok(())
 }
 
 /// Prints what is told of ticks.
@@ -57,61 +58,49 @@ fn look_at<V: Spelled>(
     piece: &Piece<V>,
     call: &str,
     words: &str,
-    out: &mut String,
+    out: &mut Page,
 ) -> Result<(), Stop> {
     let ticks = range(words)?;
     match call {
-        "at" => put_values(out, piece, ticks)?,
-        "steady_until" => put_ends(out, piece, ticks)?,
-        "steady_at" => put_steady(out, piece, ticks)?,
-        "seek" => put_count(out, piece.seek(ticks.first))?,
-        "cut" => put_piece(out, &piece.cut(ticks.first, ticks.last)?)?,
+        "at" => put_values(out, piece, ticks),
+        "steady_until" => put_ends(out, piece, ticks),
+        "steady_at" => put_steady(out, piece, ticks),
+        "seek" => put_count(out, piece.seek(ticks.first)),
+        "cut" => put_piece(out, &piece.cut(ticks.first, ticks.last)?),
         _ => return Err(Stop::NoRow),
     }
     Ok(())
 }
 
 /// Prints the value at each of these ticks.
-fn put_values<V: Spelled>(
-    out: &mut String,
-    piece: &Piece<V>,
-    ticks: TickRange,
-) -> Result<(), AllocError> {
-    out.push(' ')?;
+fn put_values<V: Spelled>(out: &mut Page, piece: &Piece<V>, ticks: TickRange) {
+    out.push(' ');
     for tick in ticks.first..=ticks.last {
-        out.push(' ')?;
-        put_value(out, &piece.at(tick))?;
+        out.push(' ');
+        put_value(out, &piece.at(tick));
     }
-    out.push('\n')
+    out.push('\n');
 }
 
 /// Prints for each of these ticks the ticks from there on up to which the value stays.
-fn put_ends<V: Spelled>(
-    out: &mut String,
-    piece: &Piece<V>,
-    ticks: TickRange,
-) -> Result<(), AllocError> {
-    out.push(' ')?;
+fn put_ends<V: Spelled>(out: &mut Page, piece: &Piece<V>, ticks: TickRange) {
+    out.push(' ');
     for tick in ticks.first..=ticks.last {
-        out.push(' ')?;
-        put_ticks(out, tick, piece.steady_until(tick))?;
+        out.push(' ');
+        put_ticks(out, tick, piece.steady_until(tick));
     }
-    out.push('\n')
+    out.push('\n');
 }
 
 /// Prints for each of these ticks the value with the ticks from there on up to which it stays.
-fn put_steady<V: Spelled>(
-    out: &mut String,
-    piece: &Piece<V>,
-    ticks: TickRange,
-) -> Result<(), AllocError> {
-    out.push(' ')?;
+fn put_steady<V: Spelled>(out: &mut Page, piece: &Piece<V>, ticks: TickRange) {
+    out.push(' ');
     for tick in ticks.first..=ticks.last {
         let steady = piece.steady_at(tick);
-        out.push(' ')?;
-        put_on(out, tick, steady.last, &steady.value)?;
+        out.push(' ');
+        put_on(out, tick, steady.last, &steady.value);
     }
-    out.push('\n')
+    out.push('\n');
 }
 
 /// A new piece.

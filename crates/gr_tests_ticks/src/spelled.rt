@@ -5,10 +5,9 @@
 
 ghost use Rattle.std.specs.Prelude.{◌≤◌, IfOk};
 
-use gr_tests_rows::{Stop, TickRange, number, range};
+use gr_tests_rows::{Page, Stop, TickRange, number, range};
 use gr_tick::{Lattice, MAX_TICK, Piece, Stream};
-use std::alloc::{AllocError, Global};
-use std::fmt::Write;
+use std::alloc::Global;
 
 /// A value that rows spell: by its name, of which the first letter is enough, and by a text that may follow it behind a
 /// colon.
@@ -20,7 +19,7 @@ pub trait Spelled: Lattice {
     fn name(&self) -> &'static str;
 
     /// Prints the text that follows, with its colon, if there is one.
-    fn put_rest(&self, out: &mut String) -> Result<(), AllocError>;
+    fn put_rest(&self, out: &mut Page);
 }
 
 /// A word that spells a run.
@@ -92,59 +91,54 @@ pub fn piece<V: Spelled>(alloc: Global, words: &str) -> Result<Piece<V>, Stop> {
 }
 
 /// Prints ticks as a row spells them.
-pub fn put_ticks(out: &mut String, first: u64, last: u64) -> Result<(), AllocError> {
+pub fn put_ticks(out: &mut Page, first: u64, last: u64) {
     if first == last {
-        return write!(out, "{first}");
+        write!(out, "{first}");
+    } else if last == MAX_TICK {
+        write!(out, "{first}-");
+    } else {
+        write!(out, "{first}-{last}");
     }
-    if last == MAX_TICK {
-        return write!(out, "{first}-");
-    }
-    write!(out, "{first}-{last}")
 }
 
 /// Prints a value.
-pub fn put_value<V: Spelled>(out: &mut String, value: &V) -> Result<(), AllocError> {
-    out.push_str(value.name())?;
-    value.put_rest(out)
+pub fn put_value<V: Spelled>(out: &mut Page, value: &V) {
+    out.push_str(value.name());
+    value.put_rest(out);
 }
 
 /// Prints a value on a range of ticks.
-pub fn put_on<V: Spelled>(
-    out: &mut String,
-    first: u64,
-    last: u64,
-    value: &V,
-) -> Result<(), AllocError> {
-    out.push_str(value.name())?;
-    put_ticks(out, first, last)?;
-    value.put_rest(out)
+pub fn put_on<V: Spelled>(out: &mut Page, first: u64, last: u64, value: &V) {
+    out.push_str(value.name());
+    put_ticks(out, first, last);
+    value.put_rest(out);
 }
 
 /// Prints a line of runs, the one after the other, or the word `none`.
-pub fn put_piece<V: Spelled>(out: &mut String, piece: &Piece<V>) -> Result<(), AllocError> {
-    out.push(' ')?;
+pub fn put_piece<V: Spelled>(out: &mut Page, piece: &Piece<V>) {
+    out.push(' ');
     if piece.is_empty() {
-        out.push_str(" none")?;
+        out.push_str(" none");
     }
     for i in 0..piece.len() {
         let run = piece.run(i);
-        out.push(' ')?;
-        put_on(out, run.first, run.last, &run.value)?;
+        out.push(' ');
+        put_on(out, run.first, run.last, &run.value);
     }
-    out.push('\n')
+    out.push('\n');
 }
 
 /// Prints a line with a number.
-pub fn put_number(out: &mut String, number: u64) -> Result<(), AllocError> {
-    write!(out, "  {number}\n")
+pub fn put_number(out: &mut Page, number: u64) {
+    write!(out, "  {number}\n");
 }
 
 /// Prints a line with a place or a count.
-pub fn put_count(out: &mut String, count: usize) -> Result<(), AllocError> {
-    write!(out, "  {count}\n")
+pub fn put_count(out: &mut Page, count: usize) {
+    write!(out, "  {count}\n");
 }
 
 /// Prints a line with a truth value.
-pub fn put_truth(out: &mut String, truth: bool) -> Result<(), AllocError> {
-    write!(out, "  {truth}\n")
+pub fn put_truth(out: &mut Page, truth: bool) {
+    write!(out, "  {truth}\n");
 }

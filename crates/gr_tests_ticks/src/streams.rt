@@ -6,12 +6,12 @@ use crate::spelled::{
 };
 use gr_curio::Q3;
 use gr_know::K;
-use gr_tests_rows::{Stop, TickRange, number, range};
+use gr_tests_rows::{Page, Stop, TickRange, number, range};
 use gr_tick::Stream;
-use std::alloc::{AllocError, Global};
+use std::alloc::Global;
 
 /// Answers a script for a stream: a line for each step.
-pub fn answer(alloc: Global, row: &str, out: &mut String) -> Result<(), Stop> {
+pub fn answer(alloc: Global, row: &str, out: &mut Page) -> Result<(), Stop> {
     let (values, script) = row.split_once(' ').ok_or(Stop::NoRow)?;
     match values {
         "Q3" => play::<Q3>(alloc, script, out),
@@ -21,7 +21,7 @@ pub fn answer(alloc: Global, row: &str, out: &mut String) -> Result<(), Stop> {
 }
 
 /// Takes the steps of a script one after the other.
-fn play<V: Spelled>(alloc: Global, script: &str, out: &mut String) -> Result<(), Stop> {
+fn play<V: Spelled>(alloc: Global, script: &str, out: &mut Page) -> Result<(), Stop> {
     let mut stream: Stream<V> = Stream::new(alloc);
     for step in script.split(" ; ") {
         take(alloc, &mut stream, step, out)?;
@@ -34,7 +34,7 @@ fn take<V: Spelled>(
     alloc: Global,
     stream: &mut Stream<V>,
     step: &str,
-    out: &mut String,
+    out: &mut Page,
 ) -> Result<(), Stop> {
     let (call, words) = step.split_once(' ').unwrap_or((step, ""));
     match call {
@@ -43,7 +43,8 @@ fn take<V: Spelled>(
             look_at(stream, call, words, out),
         _ => {
             edit(alloc, stream, call, words)?;
-            Ok(put_stream(out, stream)?)
+            put_stream(out, stream);
+            Ok(())
         }
     }
 }
@@ -54,13 +55,13 @@ fn look<V: Spelled>(
     stream: &Stream<V>,
     call: &str,
     words: &str,
-    out: &mut String,
+    out: &mut Page,
 ) -> Result<(), Stop> {
     match call {
-        "len" => put_count(out, stream.len())?,
-        "top" => put_number(out, stream.top())?,
-        "copy" => put_stream(out, &stream.copy()?)?,
-        _ => put_count(out, room_for(alloc, stream, words)?)?,
+        "len" => put_count(out, stream.len()),
+        "top" => put_number(out, stream.top()),
+        "copy" => put_stream(out, &stream.copy()?),
+        _ => put_count(out, room_for(alloc, stream, words)?),
     }
     Ok(())
 }
@@ -76,76 +77,64 @@ fn look_at<V: Spelled>(
     stream: &Stream<V>,
     call: &str,
     words: &str,
-    out: &mut String,
+    out: &mut Page,
 ) -> Result<(), Stop> {
     let ticks = range(words)?;
     match call {
-        "at" => put_values(out, stream, ticks)?,
-        "steady_until" => put_ends(out, stream, ticks)?,
-        "steady_at" => put_steady(out, stream, ticks)?,
-        "seek" => put_count(out, stream.seek(ticks.first))?,
-        "runs_in" => put_count(out, stream.runs_in(ticks.first, ticks.last))?,
-        "first_bottom_from" => put_number(out, stream.first_bottom_from(ticks.first))?,
-        _ => put_piece(out, &stream.piece(ticks.first, ticks.last)?)?,
+        "at" => put_values(out, stream, ticks),
+        "steady_until" => put_ends(out, stream, ticks),
+        "steady_at" => put_steady(out, stream, ticks),
+        "seek" => put_count(out, stream.seek(ticks.first)),
+        "runs_in" => put_count(out, stream.runs_in(ticks.first, ticks.last)),
+        "first_bottom_from" => put_number(out, stream.first_bottom_from(ticks.first)),
+        _ => put_piece(out, &stream.piece(ticks.first, ticks.last)?),
     }
     Ok(())
 }
 
 /// Prints the value at each of these ticks.
-fn put_values<V: Spelled>(
-    out: &mut String,
-    stream: &Stream<V>,
-    ticks: TickRange,
-) -> Result<(), AllocError> {
-    out.push(' ')?;
+fn put_values<V: Spelled>(out: &mut Page, stream: &Stream<V>, ticks: TickRange) {
+    out.push(' ');
     for tick in ticks.first..=ticks.last {
-        out.push(' ')?;
-        put_value(out, &stream.at(tick))?;
+        out.push(' ');
+        put_value(out, &stream.at(tick));
     }
-    out.push('\n')
+    out.push('\n');
 }
 
 /// Prints for each of these ticks the ticks from there on up to which the value stays.
-fn put_ends<V: Spelled>(
-    out: &mut String,
-    stream: &Stream<V>,
-    ticks: TickRange,
-) -> Result<(), AllocError> {
-    out.push(' ')?;
+fn put_ends<V: Spelled>(out: &mut Page, stream: &Stream<V>, ticks: TickRange) {
+    out.push(' ');
     for tick in ticks.first..=ticks.last {
-        out.push(' ')?;
-        put_ticks(out, tick, stream.steady_until(tick))?;
+        out.push(' ');
+        put_ticks(out, tick, stream.steady_until(tick));
     }
-    out.push('\n')
+    out.push('\n');
 }
 
 /// Prints for each of these ticks the value with the ticks from there on up to which it stays.
-fn put_steady<V: Spelled>(
-    out: &mut String,
-    stream: &Stream<V>,
-    ticks: TickRange,
-) -> Result<(), AllocError> {
-    out.push(' ')?;
+fn put_steady<V: Spelled>(out: &mut Page, stream: &Stream<V>, ticks: TickRange) {
+    out.push(' ');
     for tick in ticks.first..=ticks.last {
         let steady = stream.steady_at(tick);
-        out.push(' ')?;
-        put_on(out, tick, steady.last, &steady.value)?;
+        out.push(' ');
+        put_on(out, tick, steady.last, &steady.value);
     }
-    out.push('\n')
+    out.push('\n');
 }
 
 /// Prints all runs.
-fn put_stream<V: Spelled>(out: &mut String, stream: &Stream<V>) -> Result<(), AllocError> {
-    out.push(' ')?;
+fn put_stream<V: Spelled>(out: &mut Page, stream: &Stream<V>) {
+    out.push(' ');
     if stream.len() == 0 {
-        out.push_str(" none")?;
+        out.push_str(" none");
     }
     for i in 0..stream.len() {
         let run = stream.run(i);
-        out.push(' ')?;
-        put_on(out, run.first, run.last, &run.value)?;
+        out.push(' ');
+        put_on(out, run.first, run.last, &run.value);
     }
-    out.push('\n')
+    out.push('\n');
 }
 
 /// Makes an edit.

@@ -8,13 +8,12 @@ use crate::knows::bring;
 use crate::spelled::{piece, put_number, tick};
 use gr_know::{K, Know};
 use gr_subend::{Deliveries, Subend};
-use gr_tests_rows::Stop;
+use gr_tests_rows::{Page, Stop};
 use gr_tick::Piece;
 use std::alloc::{AllocError, Global};
-use std::fmt::Write;
 
 /// Answers a script for an endpoint: a line for each step.
-pub fn answer(alloc: Global, script: &str, out: &mut String) -> Result<(), Stop> {
+pub fn answer(alloc: Global, script: &str, out: &mut Page) -> Result<(), Stop> {
     let mut end = Subend::new();
     let mut know = Know::new(alloc);
     for step in script.split(" ; ") {
@@ -29,30 +28,27 @@ fn take(
     end: &mut Subend,
     know: &mut Know,
     step: &str,
-    out: &mut String,
+    out: &mut Page,
 ) -> Result<(), Stop> {
     let (call, words) = step.split_once(' ').unwrap_or((step, ""));
     match call {
-        "learn" => bring(alloc, know, call, words, out),
-        "advance" => Ok(advance(alloc, end, know, out)?),
-        "coming" => coming(alloc, end, know, &piece(alloc, words)?, out),
-        "coming_upto" => coming_upto(alloc, end, know, words, out),
+        "learn" => bring(alloc, know, call, words, out)?,
+        "advance" => advance(alloc, end, know, out)?,
+        "coming" => coming(alloc, end, know, &piece(alloc, words)?, out)?,
+        "coming_upto" => coming_upto(alloc, end, know, words, out)?,
         _ => {
             move_on(end, know, call, words)?;
-            Ok(put_number(out, end.horizon())?)
+            put_number(out, end.horizon());
         }
     }
+    Ok(())
 }
 
 /// Moves the horizon, and prints what is handed over.
-fn advance(
-    alloc: Global,
-    end: &mut Subend,
-    know: &Know,
-    out: &mut String,
-) -> Result<(), AllocError> {
+fn advance(alloc: Global, end: &mut Subend, know: &Know, out: &mut Page) -> Result<(), AllocError> {
     let deliveries = end.advance(alloc, know)?;
-    put_deliveries(out, &deliveries)
+    put_deliveries(out, &deliveries);
+    Ok(())
 }
 
 /// Prints what `advance` will hand over, once a piece is joined.
@@ -61,10 +57,11 @@ fn coming(
     end: &Subend,
     know: &Know,
     came: &Piece<K>,
-    out: &mut String,
+    out: &mut Page,
 ) -> Result<(), Stop> {
     let deliveries = end.coming(alloc, know, came)?;
-    Ok(put_deliveries(out, &deliveries)?)
+    put_deliveries(out, &deliveries);
+    Ok(())
 }
 
 /// Prints what a move of the horizon to a tick will hand over, once a piece is joined.
@@ -73,7 +70,7 @@ fn coming_upto(
     end: &Subend,
     know: &Know,
     words: &str,
-    out: &mut String,
+    out: &mut Page,
 ) -> Result<(), Stop> {
     let (horizon, words) = words.split_once(' ').ok_or(Stop::NoRow)?;
     let came = piece(alloc, words)?;
@@ -87,7 +84,7 @@ fn put_upto(
     know: &Know,
     came: &Piece<K>,
     horizon: u64,
-    out: &mut String,
+    out: &mut Page,
 ) -> Result<(), Stop>
     requires { horizon ≤ MAX_TICK }
 {
@@ -95,7 +92,8 @@ fn put_upto(
         return Err(Stop::NoRow);
     }
     let deliveries = end.coming_upto(alloc, know, came, horizon)?;
-    Ok(put_deliveries(out, &deliveries)?)
+    put_deliveries(out, &deliveries);
+    Ok(())
 }
 
 /// Moves the horizon, or leaves it.
@@ -121,14 +119,14 @@ fn move_to(end: &mut Subend, word: &str) -> Result<(), Stop> {
 }
 
 /// Prints deliveries, each as its tick and its event, or the word `none`.
-fn put_deliveries(out: &mut String, deliveries: &Deliveries) -> Result<(), AllocError> {
-    out.push(' ')?;
+fn put_deliveries(out: &mut Page, deliveries: &Deliveries) {
+    out.push(' ');
     if deliveries.len() == 0 {
-        out.push_str(" none")?;
+        out.push_str(" none");
     }
     for delivery in deliveries.as_slice() {
-        write!(out, " {}:", delivery.tick)?;
-        put_event(out, &delivery.event)?;
+        write!(out, " {}:", delivery.tick);
+        put_event(out, &delivery.event);
     }
-    out.push('\n')
+    out.push('\n');
 }

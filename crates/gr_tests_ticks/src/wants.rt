@@ -7,12 +7,12 @@ use crate::spelled::{
     piece, put_count, put_number, put_on, put_piece, put_ticks, put_truth, put_value, tick,
 };
 use gr_curio::{Q3, Wants};
-use gr_tests_rows::{Stop, TickRange, number, range};
+use gr_tests_rows::{Page, Stop, TickRange, number, range};
 use gr_tick::{MAX_TICK, Piece};
-use std::alloc::{AllocError, Global};
+use std::alloc::Global;
 
 /// Answers a script for the children of a broker, whose number comes first: a line for each step.
-pub fn answer(alloc: Global, row: &str, out: &mut String) -> Result<(), Stop> {
+pub fn answer(alloc: Global, row: &str, out: &mut Page) -> Result<(), Stop> {
     let (children, script) = row.split_once(' ').ok_or(Stop::NoRow)?;
     let mut wants = Wants::new(alloc, number(children)? as usize)?;
     for step in script.split(" ; ") {
@@ -22,19 +22,20 @@ pub fn answer(alloc: Global, row: &str, out: &mut String) -> Result<(), Stop> {
 }
 
 /// Takes a step.
-fn take(alloc: Global, wants: &mut Wants, step: &str, out: &mut String) -> Result<(), Stop> {
+fn take(alloc: Global, wants: &mut Wants, step: &str, out: &mut Page) -> Result<(), Stop> {
     let (call, words) = step.split_once(' ').unwrap_or((step, ""));
     match call {
-        "children" => Ok(put_count(out, wants.children())?),
-        "curious" => Ok(put_piece(out, &wants.curious()?)?),
-        "consolidate" => consolidate(wants, words, out),
-        "consolidated_upto" => consolidated_upto(wants, words, out),
-        "completed" => completed(alloc, wants, words, out),
+        "children" => put_count(out, wants.children()),
+        "curious" => put_piece(out, &wants.curious()?),
+        "consolidate" => consolidate(wants, words, out)?,
+        "consolidated_upto" => consolidated_upto(wants, words, out)?,
+        "completed" => completed(alloc, wants, words, out)?,
         _ => {
             let (child, words) = words.split_once(' ').unwrap_or((words, ""));
-            take_child(alloc, wants, call, number(child)? as usize, words, out)
+            take_child(alloc, wants, call, number(child)? as usize, words, out)?;
         }
     }
+    Ok(())
 }
 
 /// The horizon that words spell, as `horizon 3`, if they do.
@@ -49,21 +50,21 @@ fn horizon(words: &str) -> Result<Option<u64>, Stop>
 }
 
 /// Prints what every child has acknowledged, up to the horizon if one is kept.
-fn consolidate(wants: &Wants, words: &str, out: &mut String) -> Result<(), Stop> {
+fn consolidate(wants: &Wants, words: &str, out: &mut Page) -> Result<(), Stop> {
     match horizon(words)? {
         None => {
             if wants.children() == 0 {
                 return Err(Stop::NoRow);
             }
-            put_piece(out, &wants.consolidate(None)?)?;
+            put_piece(out, &wants.consolidate(None)?);
         }
-        Some(tick) => put_piece(out, &wants.consolidate(Some(tick))?)?,
+        Some(tick) => put_piece(out, &wants.consolidate(Some(tick))?),
     }
     Ok(())
 }
 
 /// Prints up to which tick every child has acknowledged all, at most up to a limit.
-fn consolidated_upto(wants: &Wants, words: &str, out: &mut String) -> Result<(), Stop> {
+fn consolidated_upto(wants: &Wants, words: &str, out: &mut Page) -> Result<(), Stop> {
     let (limit, words) = words.split_once(' ').unwrap_or((words, ""));
     let limit = tick(limit)?;
     match horizon(words)? {
@@ -71,15 +72,15 @@ fn consolidated_upto(wants: &Wants, words: &str, out: &mut String) -> Result<(),
             if wants.children() == 0 {
                 return Err(Stop::NoRow);
             }
-            put_number(out, wants.consolidated_upto(None, limit))?;
+            put_number(out, wants.consolidated_upto(None, limit));
         }
-        Some(tick) => put_number(out, wants.consolidated_upto(Some(tick), limit))?,
+        Some(tick) => put_number(out, wants.consolidated_upto(Some(tick), limit)),
     }
     Ok(())
 }
 
 /// Prints what of a piece every child has acknowledged, but one that may be left out.
-fn completed(alloc: Global, wants: &Wants, words: &str, out: &mut String) -> Result<(), Stop> {
+fn completed(alloc: Global, wants: &Wants, words: &str, out: &mut Page) -> Result<(), Stop> {
     let (words, rest) = words.split_once(" upto ").ok_or(Stop::NoRow)?;
     let (upto, but) = rest.split_once(" but ").unwrap_or((rest, ""));
     let upto = number(upto)?;
@@ -101,10 +102,11 @@ fn put_completed(
     but: Option<usize>,
     news: &Piece<Q3>,
     upto: u64,
-    out: &mut String,
+    out: &mut Page,
 ) -> Result<(), Stop> {
     let done = wants.completed(but, news, upto)?;
-    Ok(put_piece(out, &done)?)
+    put_piece(out, &done);
+    Ok(())
 }
 
 /// Takes a step at one child: prints what a look answers, or the child's runs after an edit.
@@ -114,7 +116,7 @@ fn take_child(
     call: &str,
     child: usize,
     words: &str,
-    out: &mut String,
+    out: &mut Page,
 ) -> Result<(), Stop> {
     match call {
         "len" | "covers" | "room_for" | "copy" => look(alloc, wants, call, child, words, out),
@@ -139,18 +141,19 @@ fn known(wants: &Wants, child: usize) -> Result<usize, Stop>
 }
 
 /// Prints a child's runs.
-fn put_child(out: &mut String, wants: &Wants, child: usize) -> Result<(), Stop> {
+fn put_child(out: &mut Page, wants: &Wants, child: usize) -> Result<(), Stop> {
     let child = known(wants, child)?;
-    out.push(' ')?;
+    out.push(' ');
     if wants.len(child) == 0 {
-        out.push_str(" none")?;
+        out.push_str(" none");
     }
     for i in 0..wants.len(child) {
         let run = wants.run(child, i);
-        out.push(' ')?;
-        put_on(out, run.first, run.last, &run.value)?;
+        out.push(' ');
+        put_on(out, run.first, run.last, &run.value);
     }
-    Ok(out.push('\n')?)
+    out.push('\n');
+    Ok(())
 }
 
 /// Prints what is told of a child's runs.
@@ -160,15 +163,16 @@ fn look(
     call: &str,
     child: usize,
     words: &str,
-    out: &mut String,
+    out: &mut Page,
 ) -> Result<(), Stop> {
     let child = known(wants, child)?;
     match call {
-        "len" => Ok(put_count(out, wants.len(child))?),
-        "covers" => Ok(put_truth(out, wants.covers(child, number(words)?))?),
-        "room_for" => Ok(put_count(out, room_for(alloc, wants, child, words)?)?),
-        _ => put_child(out, &wants.copy()?, child),
+        "len" => put_count(out, wants.len(child)),
+        "covers" => put_truth(out, wants.covers(child, number(words)?)),
+        "room_for" => put_count(out, room_for(alloc, wants, child, words)?),
+        _ => put_child(out, &wants.copy()?, child)?,
     }
+    Ok(())
 }
 
 /// How many runs more of a child a piece may need.
@@ -185,68 +189,53 @@ fn look_at(
     call: &str,
     child: usize,
     ticks: TickRange,
-    out: &mut String,
+    out: &mut Page,
 ) -> Result<(), Stop> {
     let child = known(wants, child)?;
     match call {
-        "at" => put_values(out, wants, child, ticks)?,
-        "steady_until" => put_ends(out, wants, child, ticks)?,
-        "steady_at" => put_steady(out, wants, child, ticks)?,
-        _ => put_piece(out, &wants.piece(child, ticks.first, ticks.last)?)?,
+        "at" => put_values(out, wants, child, ticks),
+        "steady_until" => put_ends(out, wants, child, ticks),
+        "steady_at" => put_steady(out, wants, child, ticks),
+        _ => put_piece(out, &wants.piece(child, ticks.first, ticks.last)?),
     }
     Ok(())
 }
 
 /// Prints a child's value at each of these ticks.
-fn put_values(
-    out: &mut String,
-    wants: &Wants,
-    child: usize,
-    ticks: TickRange,
-) -> Result<(), AllocError>
+fn put_values(out: &mut Page, wants: &Wants, child: usize, ticks: TickRange)
     requires { child < length wants.now }
 {
-    out.push(' ')?;
+    out.push(' ');
     for tick in ticks.first..=ticks.last {
-        out.push(' ')?;
-        put_value(out, &wants.at(child, tick))?;
+        out.push(' ');
+        put_value(out, &wants.at(child, tick));
     }
-    out.push('\n')
+    out.push('\n');
 }
 
 /// Prints for each of these ticks the ticks from there on up to which a child's value stays.
-fn put_ends(
-    out: &mut String,
-    wants: &Wants,
-    child: usize,
-    ticks: TickRange,
-) -> Result<(), AllocError>
+fn put_ends(out: &mut Page, wants: &Wants, child: usize, ticks: TickRange)
     requires { child < length wants.now }
 {
-    out.push(' ')?;
+    out.push(' ');
     for tick in ticks.first..=ticks.last {
-        out.push(' ')?;
-        put_ticks(out, tick, wants.steady_until(child, tick))?;
+        out.push(' ');
+        put_ticks(out, tick, wants.steady_until(child, tick));
     }
-    out.push('\n')
+    out.push('\n');
 }
 
 /// Prints for each of these ticks a child's value with the ticks from there on up to which it stays.
-fn put_steady(
-    out: &mut String,
-    wants: &Wants,
-    child: usize,
-    ticks: TickRange,
-) -> Result<(), AllocError>
+fn put_steady(out: &mut Page, wants: &Wants, child: usize, ticks: TickRange)
     requires { child < length wants.now }
 {
-    out.push(' ')?;
+    out.push(' ');
     for tick in ticks.first..=ticks.last {
         let steady = wants.steady_at(child, tick);
-        out.push(' ')?;
-        put_on(out, tick, steady.last, &steady.value)?;
+        out.push(' ');
+        put_on(out, tick, steady.last, &steady.value);
     }
-    out.push('\n')
+    out.push('\n');
 }
 
 /// Makes an edit of a child's runs.

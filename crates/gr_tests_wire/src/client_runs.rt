@@ -1,14 +1,14 @@
 //! Runs of the client of the first publisher of a topology.
 
-use crate::outside::put_run_fault;
-use crate::script::{NEXT, numbers, put_quoted};
+use crate::outside::{put_run_fault, sink_with};
+use crate::posts::post_failing;
+use crate::script::{NEXT, put_quoted};
 use gr_client::{Note, decode, run};
 use gr_out::{MemPost, MemSink, RunFault};
 use gr_sched::{MAX_INPUT_BYTES, MAX_STEPS, Steps, parse};
-use gr_tests_rows::{Stop, bytes, number, unescaped};
+use gr_tests_rows::{Page, Stop, bytes, number, unescaped};
 use gr_topo::Topology;
 use std::alloc::Global;
-use std::fmt::Write;
 
 /// The node of the client, at which bytes come.
 const CLIENT: u16 = 64;
@@ -16,12 +16,56 @@ const CLIENT: u16 = 64;
 /// How many offers are printed at most.
 const MOST_OFFERS: u64 = 100;
 
+/// What a run is given beside its topology and its steps.
+#[derive(Clone, Copy)]
+struct Given<'a> {
+    turns: u64,
+    room: u64,
+    bindings: &'a str,
+    cues: &'a str,
+}
+
 /// Answers a run: `turns N room N failing BINDINGS ; TOPOLOGY ; STEPS ; quiet ; bytes BYTES ; failure`.
-pub fn answer(alloc: Global, row: &str, out: &mut String) -> Result<(), Stop> {
-    let (made, rest) = row.split_once(NEXT).ok_or(Stop::NoRow)?;
-    let (text, rest) = rest.split_once(NEXT).ok_or(Stop::NoRow)?;
-    let topology = topology_of(alloc, text)?;
-    run_in(alloc, &topology, made, rest, out)
+pub fn answer(alloc: Global, row: &str, page: &mut Page) -> Result<(), Stop> {
+    let Some((made, rest)) = row.split_once(NEXT) else {
+        return Err(Stop::NoRow);
+    };
+    let Some((topology, rest)) = rest.split_once(NEXT) else {
+        return Err(Stop::NoRow);
+    };
+    let (steps, cues) = rest.split_once(NEXT).unwrap_or((rest, ""));
+    let Some(given) = given_of(made, cues) else {
+        return Err(Stop::NoRow);
+    };
+    run_in(alloc, topology, steps, given, page)
+}
+
+/// What a run is given: `turns N room N failing BINDINGS`, and cues.
+fn given_of<'a>(made: &'a str, cues: &'a str) -> Option<Given<'a>> {
+    let (turns, rest) = made.split_once(" room ")?;
+    let (room, bindings) = rest.split_once(" failing ")?;
+    let turns = turns.strip_prefix("turns ")?;
+    match (number(turns), number(room)) {
+        (Ok(turns), Ok(room)) => Some(Given {
+            turns,
+            room,
+            bindings,
+            cues,
+        }),
+        _ => None,
+    }
+}
+
+/// Runs the client in the topology of a text.
+fn run_in(
+    alloc: Global,
+    topology: &str,
+    steps: &str,
+    given: Given,
+    page: &mut Page,
+) -> Result<(), Stop> {
+    let topology = topology_of(alloc, topology)?;
+    run_by(alloc, &topology, steps, given, page)
 }
 
 /// The topology of a text.
@@ -34,16 +78,15 @@ fn topology_of(alloc: Global, text: &str) -> Result<Topology, Stop> {
 }
 
 /// Runs the client by the steps of a text.
-fn run_in(
+fn run_by(
     alloc: Global,
     topology: &Topology,
-    made: &str,
-    rest: &str,
-    out: &mut String,
+    steps: &str,
+    given: Given,
+    page: &mut Page,
 ) -> Result<(), Stop> {
-    let (text, cues) = rest.split_once(NEXT).unwrap_or((rest, ""));
-    let steps = steps_of(alloc, topology, text)?;
-    run_with(alloc, topology, &steps, made, cues, out)
+    let steps = steps_of(alloc, topology, steps)?;
+    run_with(alloc, topology, &steps, given, page)
 }
 
 /// The steps of a text.
@@ -58,81 +101,64 @@ fn steps_of(alloc: Global, topology: &Topology, text: &str) -> Result<Steps, Sto
     }
 }
 
-/// Runs the client over a post at which these cues come.
+/// Runs the client over a post at which its cues come.
 fn run_with(
     alloc: Global,
     topology: &Topology,
     steps: &Steps,
-    made: &str,
-    cues: &str,
-    out: &mut String,
+    given: Given,
+    page: &mut Page,
 ) -> Result<(), Stop> {
-    let (turns, rest) = made.split_once(" room ").ok_or(Stop::NoRow)?;
-    let (room, bindings) = rest.split_once(" failing ").ok_or(Stop::NoRow)?;
-    let turns = number(turns.strip_prefix("turns ").ok_or(Stop::NoRow)?)?;
-    let room = number(room)?;
-    let mut post = post_of(alloc, bindings, cues)?;
-    run_over(alloc, topology, steps, turns, room, &mut post, out)?;
-    put_offers(alloc, &post, out)
+    let mut post = post_failing(alloc, &[], given.bindings)?;
+    put_cues(alloc, &mut post, given.cues)?;
+    run_over(alloc, topology, steps, given, &mut post, page)
 }
 
-/// The post at which these cues come, with the numbers of the bindings that are to fail.
-fn post_of(alloc: Global, bindings: &str, cues: &str) -> Result<MemPost, Stop> {
-    let mut post = new_post(alloc, bindings)?;
+/// Puts cues at the end of a script.
+fn put_cues(alloc: Global, post: &mut MemPost, cues: &str) -> Result<(), Stop> {
     for cue in cues.split(NEXT) {
-        if !cue.is_empty() {
-            put_cue(alloc, &mut post, cue)?;
-        }
+        put_cue(alloc, post, cue)?;
     }
-    Ok(post)
+    Ok(())
 }
 
-/// A post at which nothing comes, with the numbers of the bindings that are to fail.
-fn new_post(alloc: Global, bindings: &str) -> Result<MemPost, Stop> {
-    let bindings = numbers(alloc, bindings)?;
-    Ok(MemPost::new(alloc, &[], &bindings)?)
-}
-
-/// Puts a cue at the end of a script.
+/// Puts a cue at the end of a script, if there is one.
 fn put_cue(alloc: Global, post: &mut MemPost, cue: &str) -> Result<(), Stop> {
     match cue {
+        "" => Ok(()),
         "quiet" => Ok(post.quiet(1000)?),
         "failure" => Ok(post.fail()?),
-        _ => {
-            let digits = cue.strip_prefix("bytes ").ok_or(Stop::NoRow)?;
-            Ok(post.raw(CLIENT, bytes(alloc, digits)?.as_slice(), 1000)?)
-        }
+        _ => put_raw(alloc, post, cue),
     }
 }
 
-/// Runs the client, and prints why it ended and what it printed.
+/// Puts the bytes of `bytes BYTES` at the end of a script.
+fn put_raw(alloc: Global, post: &mut MemPost, cue: &str) -> Result<(), Stop> {
+    let Some(digits) = cue.strip_prefix("bytes ") else {
+        return Err(Stop::NoRow);
+    };
+    let bytes = bytes(alloc, digits)?;
+    Ok(post.raw(CLIENT, &bytes, 1000)?)
+}
+
+/// Runs the client, and prints why it ended, what it printed and what it offered.
 fn run_over(
     alloc: Global,
     topology: &Topology,
     steps: &Steps,
-    turns: u64,
-    room: u64,
+    given: Given,
     post: &mut MemPost,
-    out: &mut String,
+    page: &mut Page,
 ) -> Result<(), Stop> {
-    let mut sink = MemSink::new(alloc, room as usize, &[])?;
-    let fault = run_first(alloc, topology, steps, turns, post, &mut sink)?;
-    put_end(out, fault)?;
-    put_quoted(out, sink.bytes())?;
-    Ok(out.push('\n')?)
+    let mut sink = sink_with(alloc, given.room, &[])?;
+    run_first(alloc, topology, steps, given.turns, post, &mut sink, page)?;
+    page.push_str("\n  printed ");
+    put_quoted(page, sink.bytes());
+    put_offers(alloc, post, page);
+    Ok(())
 }
 
-/// Prints why a run ended.
-fn put_end(out: &mut String, fault: Option<RunFault>) -> Result<(), Stop> {
-    out.push_str("  ")?;
-    match fault {
-        None => out.push_str("ended")?,
-        Some(fault) => put_run_fault(out, fault)?,
-    }
-    Ok(out.push_str("\n  printed ")?)
-}
-
-/// Runs the client of the first publisher, and gives why it ended early.
+/// Runs the client of the first publisher, and prints why it ended.
 fn run_first(
     alloc: Global,
     topology: &Topology,
@@ -140,7 +166,8 @@ fn run_first(
     turns: u64,
     post: &mut MemPost,
     sink: &mut MemSink,
-) -> Result<Option<RunFault>, Stop> {
+    page: &mut Page,
+) -> Result<(), Stop> {
     if topology.publishers() == 0 || steps.len() as u64 > MAX_STEPS {
         return Err(Stop::NoRow);
     }
@@ -150,19 +177,29 @@ fn run_first(
     let Some(_) = topology.address(topology.host(0)) else {
         return Err(Stop::NoRow);
     };
-    Ok(run(alloc, topology, steps, 0, turns, post, sink).err())
+    match run(alloc, topology, steps, 0, turns, post, sink) {
+        Ok(()) => page.push_str("  ended"),
+        Err(fault) => put_early(page, fault),
+    }
+    Ok(())
+}
+
+/// Prints why a run ended early.
+fn put_early(page: &mut Page, fault: RunFault) {
+    page.push_str("  ");
+    put_run_fault(page, fault);
 }
 
 /// Prints the numbers of the events that were offered, in order.
-fn put_offers(alloc: Global, post: &MemPost, out: &mut String) -> Result<(), Stop> {
-    out.push_str("  offered")?;
+fn put_offers(alloc: Global, post: &MemPost, page: &mut Page) {
+    page.push_str("\n  offered");
     for n in 1..MOST_OFFERS {
         let Some(bytes) = post.offered(n) else {
             break;
         };
-        write!(out, " {}", number_of(alloc, bytes))?;
+        write!(page, " {}", number_of(alloc, bytes));
     }
-    Ok(out.push('\n')?)
+    page.push('\n');
 }
 
 /// The number of an event that is offered by these bytes; 0 where none is.

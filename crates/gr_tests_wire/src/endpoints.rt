@@ -5,41 +5,50 @@ ghost use Rattle.gr_out.specs.Lane.{lane_at};
 ghost use Rattle.gr_publog.specs.Calls.{IsReady};
 
 use crate::disks::disk_of;
-use crate::logs::put_fault;
-use crate::piece_text::{event_of, put_known, put_known_run};
-use crate::script::{NEXT, cut_word, first_word, put_bytes, put_op};
+use crate::logs::{fill, put_counts, put_fault, put_runs};
+use crate::piece_text::{cut_numbers, event_of, put_known};
+use crate::script::{NEXT, first_word, put_bytes, put_op, two_numbers};
 use gr_event::Event;
-use gr_know::Know;
 use gr_out::MemDisk;
 use gr_pubend::{Pubend, Published, Quieted, plan, plan_quiet};
 use gr_publog::LogFault;
-use gr_tests_rows::{Stop, bytes, number};
+use gr_tests_rows::{Page, Stop, number};
 use gr_tick::MAX_TICK;
 use std::alloc::Global;
-use std::fmt::Write;
 
 /// Answers a script: `failing CALLS lane BYTES ; publish NUMBER NOW EVENT ; quiet NOW QUIET ; cut TICK ; known ; ..`.
-pub fn calls(alloc: Global, row: &str, out: &mut String) -> Result<(), Stop> {
-    let (made, ops) = row.split_once(NEXT).ok_or(Stop::NoRow)?;
-    let (fails, lane) = made.split_once(" lane").ok_or(Stop::NoRow)?;
+pub fn calls(alloc: Global, row: &str, page: &mut Page) -> Result<(), Stop> {
+    let Some((made, ops)) = row.split_once(NEXT) else {
+        return Err(Stop::NoRow);
+    };
+    let Some((fails, lane)) = made.split_once(" lane") else {
+        return Err(Stop::NoRow);
+    };
     let mut disk = disk_of(alloc, fails)?;
-    fill(alloc, &mut disk, lane)?;
-    open(alloc, &mut disk, ops, out)
+    calls_on(alloc, &mut disk, lane, ops, page)
 }
 
-/// Puts bytes on the lane.
-fn fill(alloc: Global, disk: &mut MemDisk, lane: &str) -> Result<(), Stop> {
-    Ok(disk.put(0, bytes(alloc, lane)?.as_slice())?)
+/// Puts bytes on the lane, opens the endpoint, and carries out ops.
+fn calls_on(
+    alloc: Global,
+    disk: &mut MemDisk,
+    lane: &str,
+    ops: &str,
+    page: &mut Page,
+) -> Result<(), Stop> {
+    fill(alloc, disk, lane)?;
+    open(alloc, disk, ops, page)
 }
 
 /// Opens the endpoint, and carries out ops.
-fn open(alloc: Global, disk: &mut MemDisk, ops: &str, out: &mut String) -> Result<(), Stop> {
+fn open(alloc: Global, disk: &mut MemDisk, ops: &str, page: &mut Page) -> Result<(), Stop> {
     match Pubend::open(alloc, disk, 0) {
-        Ok(mut end) => end_ops(alloc, &mut end, disk, ops, out),
+        Ok(mut end) => end_ops(alloc, &mut end, disk, ops, page),
         Err(fault) => {
-            put_op(out, "open")?;
-            put_fault(out, fault)?;
-            Ok(out.push('\n')?)
+            put_op(page, "open");
+            put_fault(page, fault);
+            page.push('\n');
+            Ok(())
         }
     }
 }
@@ -50,14 +59,14 @@ fn end_ops(
     end: &mut Pubend,
     disk: &mut MemDisk,
     ops: &str,
-    out: &mut String,
+    page: &mut Page,
 ) -> Result<(), Stop>
     requires stands { IsReady end.old.log (lane_at disk.old.lanes end.old.log.lane) }
 {
     for op in ops.split(NEXT) {
-        put_op(out, op)?;
-        end_op(alloc, end, disk, op, out)?;
-        out.push('\n')?;
+        put_op(page, op);
+        end_op(alloc, end, disk, op, page)?;
+        page.push('\n');
     }
     Ok(())
 }
@@ -68,72 +77,40 @@ fn end_op(
     end: &mut Pubend,
     disk: &mut MemDisk,
     op: &str,
-    out: &mut String,
+    page: &mut Page,
 ) -> Result<(), Stop>
     requires stands { IsReady end.old.log (lane_at disk.old.lanes end.old.log.lane) }
     ensures stands { OnOk result (IsReady end.new.log (lane_at disk.new.lanes end.new.log.lane)) }
 {
     let (call, rest) = first_word(op);
     match call {
-        "publish" => publish(alloc, end, disk, rest, out),
-        "log-event" => log_event(alloc, end, disk, rest, out),
-        "quiet" => quiet(alloc, end, disk, rest, out),
-        "log-mark" => log_mark(end, disk, rest, out),
-        "cut" => cut(end, disk, rest, out),
-        "lane" => Ok(put_bytes(out, disk.lane(0))?),
-        _ => put_asked(alloc, end, call, rest, out),
+        "publish" => publish(alloc, end, disk, rest, page),
+        "log-event" => log_event(alloc, end, disk, rest, page),
+        "quiet" => quiet(alloc, end, disk, rest, page),
+        "log-mark" => log_mark(end, disk, rest, page),
+        "cut" => cut(end, disk, rest, page),
+        _ => put_asked(alloc, end, disk, call, rest, page),
     }
 }
 
-/// What an op asks that changes nothing.
+/// Prints what an op asks that changes nothing.
 fn put_asked(
     alloc: Global,
     end: &Pubend,
+    disk: &MemDisk,
     call: &str,
     rest: &str,
-    out: &mut String,
+    page: &mut Page,
 ) -> Result<(), Stop> {
     match call {
-        "plan" => put_plan(alloc, end, rest, out),
-        "plan-quiet" => put_plan_quiet(alloc, end, rest, out),
-        "known" => put_runs(alloc, out, end.know()),
-        "log" => Ok(write!(
-            out,
-            "last {} settled {} cut {}",
-            end.log().last(),
-            end.log().settled(),
-            end.log().cut()
-        )?),
-        _ => Err(Stop::NoRow),
-    }
-}
-
-/// Prints what is known.
-fn put_runs(alloc: Global, out: &mut String, know: &Know) -> Result<(), Stop> {
-    write!(out, "{} runs", know.len())?;
-    for i in 0..know.len() {
-        put_known_run(alloc, out, know.run(i))?;
+        "plan" => return put_plan(alloc, end, rest, page),
+        "plan-quiet" => return put_plan_quiet(alloc, end, rest, page),
+        "known" => put_runs(alloc, page, end.know()),
+        "log" => put_counts(page, end.log()),
+        "lane" => put_bytes(page, disk.lane(0)),
+        _ => return Err(Stop::NoRow),
     }
     Ok(())
-}
-
-/// What a publish names: `NUMBER NOW EVENT`.
-#[derive(Clone, Copy)]
-struct PublishWords<'a> {
-    number: u64,
-    now: u64,
-    event: &'a str,
-}
-
-/// The words of a publish.
-fn publish_of(rest: &str) -> Result<PublishWords<'_>, Stop> {
-    let (first, rest) = cut_word(rest)?;
-    let (now, event) = cut_word(rest)?;
-    Ok(PublishWords {
-        number: number(first)?,
-        now: number(now)?,
-        event,
-    })
 }
 
 /// Publishes an event: `NUMBER NOW EVENT`.
@@ -142,14 +119,16 @@ fn publish(
     end: &mut Pubend,
     disk: &mut MemDisk,
     rest: &str,
-    out: &mut String,
+    page: &mut Page,
 ) -> Result<(), Stop>
     requires stands { IsReady end.old.log (lane_at disk.old.lanes end.old.log.lane) }
     ensures stands { OnOk result (IsReady end.new.log (lane_at disk.new.lanes end.new.log.lane)) }
 {
-    let words = publish_of(rest)?;
-    let event = event_of(alloc, words.event)?;
-    publish_event(alloc, end, disk, words.number, words.now, &event, out)
+    let Some((number, now, text)) = cut_numbers(rest) else {
+        return Err(Stop::NoRow);
+    };
+    let event = event_of(alloc, text)?;
+    publish_event(alloc, end, disk, number, now, &event, page)
 }
 
 /// Publishes an event under a number.
@@ -160,7 +139,7 @@ fn publish_event(
     number: u64,
     now: u64,
     event: &Event,
-    out: &mut String,
+    page: &mut Page,
 ) -> Result<(), Stop>
     requires stands { IsReady end.old.log (lane_at disk.old.lanes end.old.log.lane) }
     ensures stands { OnOk result (IsReady end.new.log (lane_at disk.new.lanes end.new.log.lane)) }
@@ -169,34 +148,34 @@ fn publish_event(
         return Err(Stop::NoRow);
     }
     match end.publish(disk, number, event, now) {
-        Ok(answer) => put_published(alloc, out, &answer),
-        Err(LogFault::Disk) => Ok(out.push_str("the disk failed")?),
-        Err(LogFault::Reopen) => Ok(out.push_str("reopen first")?),
-        Err(LogFault::Memory | LogFault::Damaged { .. }) => Err(Stop::Memory),
+        Ok(answer) => put_published(alloc, page, &answer),
+        Err(LogFault::Disk) => page.push_str("the disk failed"),
+        Err(LogFault::Reopen) => page.push_str("reopen first"),
+        Err(LogFault::Memory | LogFault::Damaged { .. }) => return Err(Stop::Memory),
     }
+    Ok(())
 }
 
 /// Prints what a publish is answered.
-fn put_published(alloc: Global, out: &mut String, answer: &Published) -> Result<(), Stop> {
+fn put_published(alloc: Global, page: &mut Page, answer: &Published) {
     match answer {
         Published::Logged { tick, fresh } => {
-            write!(out, "logged at {tick}, new")?;
-            put_known(alloc, out, fresh)
+            write!(page, "logged at {tick}, new");
+            put_known(alloc, page, fresh);
         }
-        Published::Already => Ok(out.push_str("already")?),
-        Published::Gap { next } => Ok(write!(out, "gap, next is {next}")?),
-        Published::Exhausted => Ok(out.push_str("exhausted")?),
+        Published::Already => page.push_str("already"),
+        Published::Gap { next } => write!(page, "gap, next is {next}"),
+        Published::Exhausted => page.push_str("exhausted"),
     }
 }
 
 /// Prints what a publish would be answered: `NUMBER NOW EVENT`.
-fn put_plan(alloc: Global, end: &Pubend, rest: &str, out: &mut String) -> Result<(), Stop> {
-    let words = publish_of(rest)?;
-    if words.now > MAX_TICK {
+fn put_plan(alloc: Global, end: &Pubend, rest: &str, page: &mut Page) -> Result<(), Stop> {
+    let Some((number, now, text)) = cut_numbers(rest) else {
         return Err(Stop::NoRow);
-    }
-    let event = event_of(alloc, words.event)?;
-    put_planned(alloc, end, words.number, words.now, &event, out)
+    };
+    let event = event_of(alloc, text)?;
+    put_planned(alloc, end, number, now, &event, page)
 }
 
 /// Prints what a publish of an event would be answered.
@@ -206,13 +185,16 @@ fn put_planned(
     number: u64,
     now: u64,
     event: &Event,
-    out: &mut String,
+    page: &mut Page,
 ) -> Result<(), Stop> {
     if now > MAX_TICK {
         return Err(Stop::NoRow);
     }
-    let answer = plan(alloc, end.log(), number, event, now)?;
-    put_published(alloc, out, &answer)
+    match plan(alloc, end.log(), number, event, now) {
+        Ok(answer) => put_published(alloc, page, &answer),
+        Err(_) => page.tear(),
+    }
+    Ok(())
 }
 
 /// Plans a publish, and logs its event: `NUMBER NOW EVENT`.
@@ -221,15 +203,16 @@ fn log_event(
     end: &mut Pubend,
     disk: &mut MemDisk,
     rest: &str,
-    out: &mut String,
+    page: &mut Page,
 ) -> Result<(), Stop>
     requires stands { IsReady end.old.log (lane_at disk.old.lanes end.old.log.lane) }
     ensures stands { OnOk result (IsReady end.new.log (lane_at disk.new.lanes end.new.log.lane)) }
 {
-    let words = publish_of(rest)?;
-    let event = event_of(alloc, words.event)?;
-    let word = log_planned(end, disk, words.number, words.now, &event)?;
-    Ok(out.push_str(word)?)
+    let Some((number, now, text)) = cut_numbers(rest) else {
+        return Err(Stop::NoRow);
+    };
+    let event = event_of(alloc, text)?;
+    log_planned(end, disk, number, now, &event, page)
 }
 
 /// Plans a publish, and logs its event.
@@ -239,7 +222,8 @@ fn log_planned(
     number: u64,
     now: u64,
     event: &Event,
-) -> Result<&'static str, Stop>
+    page: &mut Page,
+) -> Result<(), Stop>
     requires stands { IsReady end.old.log (lane_at disk.old.lanes end.old.log.lane) }
     ensures stands { OnOk result (IsReady end.new.log (lane_at disk.new.lanes end.new.log.lane)) }
 {
@@ -247,20 +231,16 @@ fn log_planned(
         return Err(Stop::NoRow);
     }
     let Published::Logged { tick, fresh } = end.plan(number, event, now)? else {
-        return Ok("not to be logged");
+        page.push_str("not to be logged");
+        return Ok(());
     };
     match end.log_event(disk, number, event, tick, &fresh) {
-        Ok(()) => Ok("logged"),
-        Err(LogFault::Disk) => Ok("the disk failed"),
-        Err(LogFault::Reopen) => Ok("reopen first"),
-        Err(LogFault::Memory | LogFault::Damaged { .. }) => Err(Stop::Memory),
+        Ok(()) => page.push_str("logged"),
+        Err(LogFault::Disk) => page.push_str("the disk failed"),
+        Err(LogFault::Reopen) => page.push_str("reopen first"),
+        Err(LogFault::Memory | LogFault::Damaged { .. }) => return Err(Stop::Memory),
     }
-}
-
-/// A tick of now, and how long a silence is to be: `NOW QUIET`.
-fn silence_of(rest: &str) -> Result<(u64, u64), Stop> {
-    let (now, quiet) = cut_word(rest)?;
-    Ok((number(now)?, number(quiet)?))
+    Ok(())
 }
 
 /// Marks a silence: `NOW QUIET`.
@@ -269,108 +249,101 @@ fn quiet(
     end: &mut Pubend,
     disk: &mut MemDisk,
     rest: &str,
-    out: &mut String,
+    page: &mut Page,
 ) -> Result<(), Stop>
     requires stands { IsReady end.old.log (lane_at disk.old.lanes end.old.log.lane) }
     ensures stands { OnOk result (IsReady end.new.log (lane_at disk.new.lanes end.new.log.lane)) }
 {
-    let (now, quiet) = silence_of(rest)?;
+    let Some((now, quiet)) = two_numbers(rest) else {
+        return Err(Stop::NoRow);
+    };
     if now > MAX_TICK || quiet < 1 {
         return Err(Stop::NoRow);
     }
     match end.quiet(disk, now, quiet) {
-        Ok(answer) => put_quieted(alloc, out, &answer),
-        Err(LogFault::Disk) => Ok(out.push_str("the disk failed")?),
-        Err(LogFault::Reopen) => Ok(out.push_str("reopen first")?),
-        Err(LogFault::Memory | LogFault::Damaged { .. }) => Err(Stop::Memory),
+        Ok(answer) => put_quieted(alloc, page, &answer),
+        Err(LogFault::Disk) => page.push_str("the disk failed"),
+        Err(LogFault::Reopen) => page.push_str("reopen first"),
+        Err(LogFault::Memory | LogFault::Damaged { .. }) => return Err(Stop::Memory),
     }
+    Ok(())
 }
 
 /// Prints what a time of silence is answered.
-fn put_quieted(alloc: Global, out: &mut String, answer: &Quieted) -> Result<(), Stop> {
+fn put_quieted(alloc: Global, page: &mut Page, answer: &Quieted) {
     match answer {
         Quieted::Marked { tick, fresh } => {
-            write!(out, "marked at {tick}, new")?;
-            put_known(alloc, out, fresh)
+            write!(page, "marked at {tick}, new");
+            put_known(alloc, page, fresh);
         }
-        Quieted::NotYet => Ok(out.push_str("not yet")?),
+        Quieted::NotYet => page.push_str("not yet"),
     }
 }
 
 /// Prints what a time of silence would be answered: `NOW QUIET`.
-fn put_plan_quiet(alloc: Global, end: &Pubend, rest: &str, out: &mut String) -> Result<(), Stop> {
-    let (now, quiet) = silence_of(rest)?;
+fn put_plan_quiet(alloc: Global, end: &Pubend, rest: &str, page: &mut Page) -> Result<(), Stop> {
+    let Some((now, quiet)) = two_numbers(rest) else {
+        return Err(Stop::NoRow);
+    };
     if now > MAX_TICK || quiet < 1 {
         return Err(Stop::NoRow);
     }
-    let answer = plan_quiet(alloc, end.log(), now, quiet)?;
-    put_quieted(alloc, out, &answer)
+    match plan_quiet(alloc, end.log(), now, quiet) {
+        Ok(answer) => put_quieted(alloc, page, &answer),
+        Err(_) => page.tear(),
+    }
+    Ok(())
 }
 
 /// Plans a mark, and logs it: `NOW QUIET`.
-fn log_mark(end: &mut Pubend, disk: &mut MemDisk, rest: &str, out: &mut String) -> Result<(), Stop>
+fn log_mark(end: &mut Pubend, disk: &mut MemDisk, rest: &str, page: &mut Page) -> Result<(), Stop>
     requires stands { IsReady end.old.log (lane_at disk.old.lanes end.old.log.lane) }
     ensures stands { OnOk result (IsReady end.new.log (lane_at disk.new.lanes end.new.log.lane)) }
 {
-    let (now, quiet) = silence_of(rest)?;
-    let word = log_planned_mark(end, disk, now, quiet)?;
-    Ok(out.push_str(word)?)
-}
-
-/// Plans a mark, and logs it.
-fn log_planned_mark(
-    end: &mut Pubend,
-    disk: &mut MemDisk,
-    now: u64,
-    quiet: u64,
-) -> Result<&'static str, Stop>
-    requires stands { IsReady end.old.log (lane_at disk.old.lanes end.old.log.lane) }
-    ensures stands { OnOk result (IsReady end.new.log (lane_at disk.new.lanes end.new.log.lane)) }
-{
+    let Some((now, quiet)) = two_numbers(rest) else {
+        return Err(Stop::NoRow);
+    };
     if now > MAX_TICK || quiet < 1 {
         return Err(Stop::NoRow);
     }
     let Quieted::Marked { tick, fresh } = end.plan_quiet(now, quiet)? else {
-        return Ok("not yet");
+        page.push_str("not yet");
+        return Ok(());
     };
     match end.log_mark(disk, tick, &fresh) {
-        Ok(()) => Ok("marked"),
-        Err(LogFault::Disk) => Ok("the disk failed"),
-        Err(LogFault::Reopen) => Ok("reopen first"),
-        Err(LogFault::Memory | LogFault::Damaged { .. }) => Err(Stop::Memory),
+        Ok(()) => page.push_str("marked"),
+        Err(LogFault::Disk) => page.push_str("the disk failed"),
+        Err(LogFault::Reopen) => page.push_str("reopen first"),
+        Err(LogFault::Memory | LogFault::Damaged { .. }) => return Err(Stop::Memory),
     }
-}
-
-/// Cuts up to a tick.
-fn cut(end: &mut Pubend, disk: &mut MemDisk, rest: &str, out: &mut String) -> Result<(), Stop>
-    requires stands { IsReady end.old.log (lane_at disk.old.lanes end.old.log.lane) }
-    ensures stands { OnOk result (IsReady end.new.log (lane_at disk.new.lanes end.new.log.lane)) }
-{
-    let tick = number(rest)?;
-    let word = cut_to(end, disk, tick)?;
-    Ok(out.push_str(word)?)
+    Ok(())
 }
 
 /// Cuts up to a tick, where it may be cut.
-fn cut_to(end: &mut Pubend, disk: &mut MemDisk, tick: u64) -> Result<&'static str, Stop>
+fn cut(end: &mut Pubend, disk: &mut MemDisk, rest: &str, page: &mut Page) -> Result<(), Stop>
     requires stands { IsReady end.old.log (lane_at disk.old.lanes end.old.log.lane) }
     ensures stands { OnOk result (IsReady end.new.log (lane_at disk.new.lanes end.new.log.lane)) }
 {
+    let Ok(tick) = number(rest) else {
+        return Err(Stop::NoRow);
+    };
     if tick <= end.log().cut() || end.log().settled() < tick {
-        return Ok("may not be cut");
+        page.push_str("may not be cut");
+        return Ok(());
     }
     match end.cut_to(disk, tick) {
-        Ok(()) => Ok("cut"),
-        Err(LogFault::Disk) => Ok("the disk failed"),
-        Err(LogFault::Reopen) => Ok("reopen first"),
-        Err(LogFault::Memory | LogFault::Damaged { .. }) => Err(Stop::Memory),
+        Ok(()) => page.push_str("cut"),
+        Err(LogFault::Disk) => page.push_str("the disk failed"),
+        Err(LogFault::Reopen) => page.push_str("reopen first"),
+        Err(LogFault::Memory | LogFault::Damaged { .. }) => return Err(Stop::Memory),
     }
+    Ok(())
 }
 
 /// Calls the laws of endpoints, whose contracts they are.
-pub fn laws(out: &mut String) -> Result<(), Stop> {
+pub fn laws(page: &mut Page) {
     gr_pubend::law::gate_ends_text();
     gr_pubend::law::found_knows_all();
     gr_pubend::law::found_is_settled();
-    Ok(out.push_str("  hold\n")?)
+    page.push_str("  hold\n");
 }

@@ -8,14 +8,14 @@ ghost use Rattle.gr_out.specs.Lane.{lane_at};
 ghost use Rattle.gr_publog.specs.Calls.{IsReady};
 
 use crate::disks::{disk_of, put_stopped, stop};
-use crate::piece_text::{numbered, put_event, put_known_run};
-use crate::script::{NEXT, byte, cut_word, first_word, put_bytes, put_op};
+use crate::piece_text::{cut_numbers, event_of, put_event, put_known_run};
+use crate::script::{NEXT, byte, first_word, put_bytes, put_op, two_bytes};
+use gr_know::Know;
 use gr_out::{Disk, MemDisk, SimDisk};
 use gr_pubend::known_by;
 use gr_publog::{Entry, Log, LogFault, Record};
-use gr_tests_rows::{Stop, bytes, number};
-use std::alloc::{AllocError, Global};
-use std::fmt::Write;
+use gr_tests_rows::{Page, Stop, bytes, number};
+use std::alloc::Global;
 
 /// What stands before a life.
 const OPEN: &str = " ; open";
@@ -24,123 +24,150 @@ const OPEN: &str = " ; open";
 const CRASH: &str = " ; crash";
 
 /// Answers a script: `failing CALLS ; lane BYTES ; stop CALLS PICK ; open ; event NUMBER TICK EVENT ; crash ; open`.
-pub fn lives(alloc: Global, row: &str, out: &mut String) -> Result<(), Stop> {
-    let (made, script) = row.split_once(OPEN).ok_or(Stop::NoRow)?;
+pub fn lives(alloc: Global, row: &str, page: &mut Page) -> Result<(), Stop> {
+    let Some((made, lives)) = row.split_once(OPEN) else {
+        return Err(Stop::NoRow);
+    };
     let (fails, ops) = made.split_once(NEXT).unwrap_or((made, ""));
     let mut disk = disk_of(alloc, fails)?;
-    lane_ops(alloc, &mut disk, ops, out)?;
-    for life in script.split(OPEN) {
-        live(alloc, &mut disk, life, out)?;
+    lives_on(alloc, &mut disk, ops, lives, page)
+}
+
+/// Carries out ops on the lane, and then each life.
+fn lives_on(
+    alloc: Global,
+    disk: &mut MemDisk,
+    ops: &str,
+    lives: &str,
+    page: &mut Page,
+) -> Result<(), Stop> {
+    lane_ops(alloc, disk, ops, page)?;
+    for life in lives.split(OPEN) {
+        live(alloc, disk, life, page)?;
     }
     Ok(())
 }
 
 /// Opens the log, carries out the ops of its life, and then those behind its crash.
-fn live(alloc: Global, disk: &mut MemDisk, life: &str, out: &mut String) -> Result<(), Stop> {
-    let (ops, after) = life.split_once(CRASH).unwrap_or((life, ""));
-    open(alloc, disk, ops, out)?;
-    if ops.len() < life.len() {
-        disk.crash(0);
-        put_lane(out, "crash", disk)?;
+fn live(alloc: Global, disk: &mut MemDisk, life: &str, page: &mut Page) -> Result<(), Stop> {
+    match life.split_once(CRASH) {
+        Some((ops, after)) => {
+            open(alloc, disk, ops, page)?;
+            disk.crash(0);
+            put_lane(page, "crash", disk);
+            lane_ops(alloc, disk, after, page)
+        }
+        None => open(alloc, disk, life, page),
     }
-    lane_ops(alloc, disk, after, out)
 }
 
 /// Opens the log, and carries out the ops of its life. Where it does not open the ops are those of the lane.
-fn open(alloc: Global, disk: &mut MemDisk, ops: &str, out: &mut String) -> Result<(), Stop> {
-    put_op(out, "open")?;
+fn open(alloc: Global, disk: &mut MemDisk, ops: &str, page: &mut Page) -> Result<(), Stop> {
+    put_op(page, "open");
     match Log::open(alloc, disk, 0) {
         Ok(mut log) => {
-            put_state(alloc, out, &log)?;
-            out.push('\n')?;
-            log_ops(alloc, &mut log, disk, ops, out)
+            put_state(alloc, page, &log);
+            page.push('\n');
+            log_ops(alloc, &mut log, disk, ops, page)
         }
         Err(fault) => {
-            put_fault(out, fault)?;
-            out.push('\n')?;
-            lane_ops(alloc, disk, ops, out)
+            put_fault(page, fault);
+            page.push('\n');
+            lane_ops(alloc, disk, ops, page)
         }
     }
 }
 
 /// Prints a fault by its word, with the place.
-pub fn put_fault(out: &mut String, fault: LogFault) -> Result<(), Stop> {
+pub fn put_fault(page: &mut Page, fault: LogFault) {
     match fault {
-        LogFault::Memory => Err(Stop::Memory),
-        LogFault::Disk => Ok(out.push_str("the disk failed")?),
-        LogFault::Damaged { at } => Ok(write!(out, "damaged at {at}")?),
-        LogFault::Reopen => Ok(out.push_str("reopen first")?),
+        LogFault::Memory => page.tear(),
+        LogFault::Disk => page.push_str("the disk failed"),
+        LogFault::Damaged { at } => write!(page, "damaged at {at}"),
+        LogFault::Reopen => page.push_str("reopen first"),
     }
 }
 
 /// Prints what a log says of itself, and its events.
-fn put_state(alloc: Global, out: &mut String, log: &Log) -> Result<(), Stop> {
-    write!(
-        out,
-        "last {} settled {} cut {}",
-        log.last(),
-        log.settled(),
-        log.cut()
-    )?;
+fn put_state(alloc: Global, page: &mut Page, log: &Log) {
+    put_counts(page, log);
     if log.is_empty() {
-        out.push_str(", empty")?;
+        page.push_str(", empty");
     }
     if log.is_broken() {
-        out.push_str(", broken")?;
+        page.push_str(", broken");
     }
     let events = log.events();
     for i in 0..events.len() {
-        put_entry(alloc, out, events.get(i))?;
+        put_entry(alloc, page, events.get(i));
     }
-    Ok(())
+}
+
+/// Prints the last number of a log, and up to which ticks it is settled and cut.
+pub fn put_counts(page: &mut Page, log: &Log) {
+    write!(page, "last {}", log.last());
+    write!(page, " settled {}", log.settled());
+    write!(page, " cut {}", log.cut());
 }
 
 /// Prints a logged event.
-fn put_entry(alloc: Global, out: &mut String, entry: &Entry) -> Result<(), Stop> {
-    write!(out, ", {} at {} ", entry.number, entry.tick)?;
-    put_event(alloc, out, &entry.event)
+fn put_entry(alloc: Global, page: &mut Page, entry: &Entry) {
+    write!(page, ", {} at {} ", entry.number, entry.tick);
+    put_event(alloc, page, &entry.event);
 }
 
 /// Prints what the lane reads.
-fn put_lane(out: &mut String, op: &str, disk: &MemDisk) -> Result<(), AllocError> {
-    put_op(out, op)?;
-    put_bytes(out, disk.lane(0))?;
-    out.push('\n')
+fn put_lane(page: &mut Page, op: &str, disk: &MemDisk) {
+    put_op(page, op);
+    put_bytes(page, disk.lane(0));
+    page.push('\n');
 }
 
 /// Carries out ops on the lane alone.
-fn lane_ops(alloc: Global, disk: &mut MemDisk, ops: &str, out: &mut String) -> Result<(), Stop> {
+fn lane_ops(alloc: Global, disk: &mut MemDisk, ops: &str, page: &mut Page) -> Result<(), Stop> {
     for op in ops.split(NEXT) {
-        if !op.is_empty() {
-            lane_op(alloc, disk, op, out)?;
-        }
+        lane_op(alloc, disk, op, page)?;
     }
     Ok(())
 }
 
-/// Carries out an op on the lane alone.
-fn lane_op(alloc: Global, disk: &mut MemDisk, op: &str, out: &mut String) -> Result<(), Stop> {
-    let (call, rest) = first_word(op);
-    match call {
+/// Carries out an op on the lane alone, if there is one.
+fn lane_op(alloc: Global, disk: &mut MemDisk, op: &str, page: &mut Page) -> Result<(), Stop> {
+    match op {
+        "" => Ok(()),
         "lane" => {
-            if !rest.is_empty() {
-                disk.put(0, bytes(alloc, rest)?.as_slice())?;
-                return Ok(());
-            }
-            Ok(put_lane(out, op, disk)?)
-        }
-        "stop" => {
-            put_op(out, op)?;
-            stop(disk, 0, rest, out)?;
-            Ok(out.push('\n')?)
+            put_lane(page, op, disk);
+            Ok(())
         }
         "stopped" => {
-            put_op(out, op)?;
-            put_stopped(disk, 0, out)?;
-            Ok(out.push('\n')?)
+            put_op(page, op);
+            put_stopped(disk, 0, page);
+            page.push('\n');
+            Ok(())
+        }
+        _ => lane_edit(alloc, disk, op, page),
+    }
+}
+
+/// Puts bytes on the lane, or orders a stop of it.
+fn lane_edit(alloc: Global, disk: &mut MemDisk, op: &str, page: &mut Page) -> Result<(), Stop> {
+    let (call, rest) = first_word(op);
+    match call {
+        "lane" => fill(alloc, disk, rest),
+        "stop" => {
+            put_op(page, op);
+            stop(disk, 0, rest, page)?;
+            page.push('\n');
+            Ok(())
         }
         _ => Err(Stop::NoRow),
     }
+}
+
+/// Puts bytes on the lane.
+pub fn fill(alloc: Global, disk: &mut MemDisk, lane: &str) -> Result<(), Stop> {
+    let bytes = bytes(alloc, lane)?;
+    Ok(disk.put(0, &bytes)?)
 }
 
 /// Carries out the ops of a life.
@@ -149,16 +176,16 @@ fn log_ops(
     log: &mut Log,
     disk: &mut MemDisk,
     ops: &str,
-    out: &mut String,
+    page: &mut Page,
 ) -> Result<(), Stop>
     requires lane { log.old.lane ≡ 0 }
     requires stands { IsReady log.old (lane_at disk.old.lanes 0) }
 {
     for op in ops.split(NEXT) {
         if !op.is_empty() {
-            put_op(out, op)?;
-            log_op(alloc, log, disk, op, out)?;
-            out.push('\n')?;
+            put_op(page, op);
+            log_op(alloc, log, disk, op, page)?;
+            page.push('\n');
         }
     }
     Ok(())
@@ -170,7 +197,7 @@ fn log_op(
     log: &mut Log,
     disk: &mut MemDisk,
     op: &str,
-    out: &mut String,
+    page: &mut Page,
 ) -> Result<(), Stop>
     requires lane { log.old.lane ≡ 0 }
     requires stands { IsReady log.old (lane_at disk.old.lanes 0) }
@@ -179,114 +206,178 @@ fn log_op(
 {
     let (call, rest) = first_word(op);
     match call {
-        "says" => put_state(alloc, out, log),
-        "known" => put_known(alloc, out, log),
-        "lane" => Ok(put_bytes(out, disk.lane(0))?),
-        "stop" => order(log, disk, rest, out),
-        "stopped" => put_stopped(disk, 0, out),
-        "follows" => put_follows(alloc, log, rest, out),
-        _ => {
-            let entry = record_of(alloc, call, rest)?;
-            let word = append(log, disk, &entry)?;
-            Ok(out.push_str(word)?)
-        }
+        "stop" => order(log, disk, rest, page),
+        "event" | "mark" | "cut" => log_record(alloc, log, disk, call, rest, page),
+        _ => put_asked(alloc, log, disk, call, rest, page),
     }
 }
 
+/// Prints what an op asks that changes nothing.
+fn put_asked(
+    alloc: Global,
+    log: &Log,
+    disk: &MemDisk,
+    call: &str,
+    rest: &str,
+    page: &mut Page,
+) -> Result<(), Stop> {
+    match call {
+        "says" => put_state(alloc, page, log),
+        "known" => put_known(alloc, page, log),
+        "lane" => put_bytes(page, disk.lane(0)),
+        "stopped" => put_stopped(disk, 0, page),
+        "follows" => return put_follows(alloc, log, rest, page),
+        _ => return Err(Stop::NoRow),
+    }
+    Ok(())
+}
+
 /// Orders a stop: `CALLS PICK`.
-fn order(log: &Log, disk: &mut MemDisk, rest: &str, out: &mut String) -> Result<(), Stop>
+fn order(log: &Log, disk: &mut MemDisk, rest: &str, page: &mut Page) -> Result<(), Stop>
     requires lane { log.now.lane ≡ 0 }
     requires stands { IsReady log.now (lane_at disk.old.lanes 0) }
     ensures stands { OnOk result (IsReady log.now (lane_at disk.new.lanes 0)) }
 {
     let _ = log.is_broken();
-    let (calls, pick) = cut_word(rest)?;
-    let calls = byte(calls)?;
-    let pick = byte(pick)?;
+    let Some((calls, pick)) = two_bytes(rest) else {
+        return Err(Stop::NoRow);
+    };
     disk.reserve(0, 0)?;
     disk.stop_after(0, calls, pick);
-    Ok(out.push_str("ordered")?)
+    page.push_str("ordered");
+    Ok(())
 }
 
 /// The record of a word: `event NUMBER TICK EVENT`, `mark TICK` or `cut TICK`.
 fn record_of(alloc: Global, kind: &str, rest: &str) -> Result<Record, Stop> {
+    if kind == "event" {
+        return event_record(alloc, rest);
+    }
+    let Ok(tick) = number(rest) else {
+        return Err(Stop::NoRow);
+    };
     match kind {
-        "event" => {
-            let (number, tick, event) = numbered(alloc, rest)?;
-            Ok(Record::Event {
-                tick,
-                number,
-                event,
-            })
-        }
-        "mark" => Ok(Record::Mark {
-            tick: number(rest)?,
-        }),
-        "cut" => Ok(Record::Cut {
-            tick: number(rest)?,
-        }),
+        "mark" => Ok(Record::Mark { tick }),
+        "cut" => Ok(Record::Cut { tick }),
         _ => Err(Stop::NoRow),
     }
 }
 
-/// Whether a record may follow.
-fn put_follows(alloc: Global, log: &Log, rest: &str, out: &mut String) -> Result<(), Stop> {
-    let (kind, rest) = cut_word(rest)?;
+/// The record of an event: `NUMBER TICK EVENT`.
+fn event_record(alloc: Global, rest: &str) -> Result<Record, Stop> {
+    let Some((number, tick, text)) = cut_numbers(rest) else {
+        return Err(Stop::NoRow);
+    };
+    let event = event_of(alloc, text)?;
+    Ok(Record::Event {
+        tick,
+        number,
+        event,
+    })
+}
+
+/// Prints whether a record may follow.
+fn put_follows(alloc: Global, log: &Log, rest: &str, page: &mut Page) -> Result<(), Stop> {
+    let Some((kind, rest)) = rest.split_once(' ') else {
+        return Err(Stop::NoRow);
+    };
     let entry = record_of(alloc, kind, rest)?;
-    Ok(write!(out, "{}", log.may_follow(&entry))?)
+    write!(page, "{}", log.may_follow(&entry));
+    Ok(())
+}
+
+/// Appends the record of a word, where it may follow.
+fn log_record(
+    alloc: Global,
+    log: &mut Log,
+    disk: &mut MemDisk,
+    kind: &str,
+    rest: &str,
+    page: &mut Page,
+) -> Result<(), Stop>
+    requires lane { log.old.lane ≡ 0 }
+    requires stands { IsReady log.old (lane_at disk.old.lanes 0) }
+    ensures lane { OnOk result (log.new.lane ≡ 0) }
+    ensures stands { OnOk result (IsReady log.new (lane_at disk.new.lanes 0)) }
+{
+    let entry = record_of(alloc, kind, rest)?;
+    append(log, disk, &entry, page)
 }
 
 /// Appends a record, where it may follow.
-fn append(log: &mut Log, disk: &mut MemDisk, entry: &Record) -> Result<&'static str, Stop>
+fn append(log: &mut Log, disk: &mut MemDisk, entry: &Record, page: &mut Page) -> Result<(), Stop>
     requires lane { log.old.lane ≡ 0 }
     requires stands { IsReady log.old (lane_at disk.old.lanes 0) }
     ensures lane { OnOk result (log.new.lane ≡ 0) }
     ensures stands { OnOk result (IsReady log.new (lane_at disk.new.lanes 0)) }
 {
     if !log.may_follow(entry) {
-        return Ok("may not follow");
+        page.push_str("may not follow");
+        return Ok(());
     }
     match log.append(disk, entry) {
-        Ok(()) => Ok("logged"),
-        Err(LogFault::Disk) => Ok("the disk failed"),
-        Err(LogFault::Reopen) => Ok("reopen first"),
-        Err(LogFault::Memory | LogFault::Damaged { .. }) => Err(Stop::Memory),
-    }
-}
-
-/// Prints what is known by a log.
-fn put_known(alloc: Global, out: &mut String, log: &Log) -> Result<(), Stop> {
-    let known = known_by(alloc, log)?;
-    write!(out, "{} runs", known.len())?;
-    for i in 0..known.len() {
-        put_known_run(alloc, out, known.run(i))?;
+        Ok(()) => page.push_str("logged"),
+        Err(LogFault::Disk) => page.push_str("the disk failed"),
+        Err(LogFault::Reopen) => page.push_str("reopen first"),
+        Err(LogFault::Memory | LogFault::Damaged { .. }) => return Err(Stop::Memory),
     }
     Ok(())
 }
 
+/// Prints what is known by a log.
+fn put_known(alloc: Global, page: &mut Page, log: &Log) {
+    match known_by(alloc, log) {
+        Ok(know) => put_runs(alloc, page, &know),
+        Err(_) => page.tear(),
+    }
+}
+
+/// Prints how many runs there are, and each.
+pub fn put_runs(alloc: Global, page: &mut Page, know: &Know) {
+    write!(page, "{} runs", know.len());
+    for i in 0..know.len() {
+        put_known_run(alloc, page, know.run(i));
+    }
+}
+
 /// Answers which picks keep a record whose append an ordered stop breaks: `CALL NUMBER TICK EVENT`.
-pub fn picks(alloc: Global, row: &str, out: &mut String) -> Result<(), Stop> {
-    let (call, rest) = cut_word(row)?;
-    let call = byte(call)?;
-    let entry = record_of(alloc, "event", rest)?;
-    out.push_str("  kept by")?;
+pub fn picks(alloc: Global, row: &str, page: &mut Page) -> Result<(), Stop> {
+    let Some((call, rest)) = row.split_once(' ') else {
+        return Err(Stop::NoRow);
+    };
+    let Some(call) = byte(call) else {
+        return Err(Stop::NoRow);
+    };
+    let entry = event_record(alloc, rest)?;
+    put_picks(alloc, call, &entry, page)
+}
+
+/// Prints which picks keep a record whose append an ordered stop breaks.
+fn put_picks(alloc: Global, call: u8, entry: &Record, page: &mut Page) -> Result<(), Stop> {
+    page.push_str("  kept by");
     for pick in 0..=255u8 {
-        if is_kept(alloc, call, pick, &entry)? {
-            write!(out, " {pick}")?;
+        if is_kept(alloc, call, pick, entry)? {
+            write!(page, " {pick}");
         }
     }
-    Ok(out.push('\n')?)
+    page.push('\n');
+    Ok(())
 }
 
 /// Whether a record is in the log after a crash with a pick, where a stop breaks the call of its append.
 fn is_kept(alloc: Global, call: u8, pick: u8, entry: &Record) -> Result<bool, Stop> {
     let mut disk = MemDisk::new(alloc, &[])?;
     append_stopped(alloc, &mut disk, call, pick, entry)?;
+    is_logged(alloc, &mut disk)
+}
+
+/// Whether a record is in the log after a crash, where a stop has broken a call.
+fn is_logged(alloc: Global, disk: &mut MemDisk) -> Result<bool, Stop> {
     if !disk.stopped(0) {
         return Err(Stop::NoRow);
     }
     disk.crash(0);
-    match Log::open(alloc, &mut disk, 0) {
+    match Log::open(alloc, disk, 0) {
         Ok(log) => Ok(log.last() == 1),
         Err(_) => Err(Stop::NoRow),
     }
@@ -314,11 +405,11 @@ fn append_stopped(
 }
 
 /// Calls the laws of logs, whose contracts they are.
-pub fn laws(out: &mut String) -> Result<(), Stop> {
+pub fn laws(page: &mut Page) {
     gr_out::law::may_leave_what_it_reads();
     gr_publog::law::reads_what_is_spelled();
     gr_publog::law::spells_what_is_read();
     gr_publog::law::spells_one_list();
     gr_publog::law::last_tick_of_logs();
-    Ok(out.push_str("  hold\n")?)
+    page.push_str("  hold\n");
 }

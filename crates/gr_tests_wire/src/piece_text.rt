@@ -1,13 +1,12 @@
 //! Pieces of knowledge and of curiosity as text: `S1-999 D1000-1000={"price":82} F1001-2000` and `C1-5 A6-9`.
 
-use crate::script::cut_word;
+use crate::script::cut_number;
 use gr_curio::Q3;
 use gr_event::Event;
 use gr_know::K;
-use gr_tests_rows::{Stop, TickRange, number, range, unescaped};
+use gr_tests_rows::{Page, Stop, TickRange, number, range, unescaped};
 use gr_tick::{Lattice, MAX_TICK, Piece, Run, Stream};
 use std::alloc::Global;
-use std::fmt::Write;
 
 /// From how many bytes on an event is printed as their number alone.
 const LONG_EVENT: usize = 100;
@@ -18,23 +17,49 @@ const MOST_ODD: u64 = 4096;
 /// The piece that words spell, each of them joined to those before.
 pub fn known(alloc: Global, words: &str) -> Result<Piece<K>, Stop> {
     let mut stream = Stream::new(alloc);
-    for word in words.split(' ') {
-        join_known(alloc, &mut stream, word)?;
-    }
+    join_all_known(alloc, &mut stream, words)?;
     Ok(stream.piece(1, MAX_TICK)?)
+}
+
+/// Joins what words say.
+fn join_all_known(alloc: Global, stream: &mut Stream<K>, words: &str) -> Result<(), Stop> {
+    for word in words.split(' ') {
+        join_known(alloc, stream, word)?;
+    }
+    Ok(())
 }
 
 /// Joins what a word says: `S1-999`, `F5`, `D7=EVENT`, or `odd:2000:S` for each of the first 2,000 odd ticks.
 fn join_known(alloc: Global, stream: &mut Stream<K>, word: &str) -> Result<(), Stop> {
-    if let Some(rest) = word.strip_prefix("odd:") {
-        let (count, value) = rest.split_once(':').ok_or(Stop::NoRow)?;
-        let value = known_value(alloc, value)?;
-        return join_odd(stream, number(count)?, &value);
+    match word.strip_prefix("odd:") {
+        Some(rest) => join_odd_known(alloc, stream, rest),
+        None => join_range_known(alloc, stream, word),
     }
-    let ticks = word.strip_prefix(['S', 'D', 'F']).ok_or(Stop::NoRow)?;
+}
+
+/// Joins what `COUNT:VALUE` says of the first odd ticks.
+fn join_odd_known(alloc: Global, stream: &mut Stream<K>, rest: &str) -> Result<(), Stop> {
+    let Some((count, value)) = rest.split_once(':') else {
+        return Err(Stop::NoRow);
+    };
+    let Ok(count) = number(count) else {
+        return Err(Stop::NoRow);
+    };
+    let value = known_value(alloc, value)?;
+    join_odd(stream, count, &value)
+}
+
+/// Joins what a word says of a range.
+fn join_range_known(alloc: Global, stream: &mut Stream<K>, word: &str) -> Result<(), Stop> {
+    let Some(ticks) = word.strip_prefix(['S', 'D', 'F']) else {
+        return Err(Stop::NoRow);
+    };
     let (ticks, _) = ticks.split_once('=').unwrap_or((ticks, ""));
+    let Ok(ticks) = range(ticks) else {
+        return Err(Stop::NoRow);
+    };
     let value = known_value(alloc, word)?;
-    join(stream, range(ticks)?, &value)
+    join(stream, ticks, &value)
 }
 
 /// The value that a word begins or ends with.
@@ -45,71 +70,132 @@ fn known_value(alloc: Global, word: &str) -> Result<K, Stop> {
     if word.starts_with('F') {
         return Ok(K::F);
     }
-    let (_, event) = word.split_once('=').ok_or(Stop::NoRow)?;
-    Ok(K::D(event_of(alloc, event)?))
+    match word.split_once('=') {
+        Some((_, event)) => known_event(alloc, event),
+        None => Err(Stop::NoRow),
+    }
+}
+
+/// The value of an event.
+fn known_event(alloc: Global, text: &str) -> Result<K, Stop> {
+    let event = event_of(alloc, text)?;
+    Ok(K::D(event))
 }
 
 /// The event of a JSON text, or of `texts:3,2`: for each number a text of so many letters `x`, named from `a` on.
 pub fn event_of(alloc: Global, text: &str) -> Result<Event, Stop> {
-    let text = match text.strip_prefix("texts:") {
-        Some(lengths) => long_texts(alloc, lengths)?,
-        None => unescaped(alloc, text)?,
-    };
-    Event::from_text(alloc, &text).map_err(|_| Stop::NoRow)
+    match text.strip_prefix("texts:") {
+        Some(lengths) => event_of_texts(alloc, lengths),
+        None => event_of_json(alloc, text),
+    }
 }
 
-/// The JSON text of an event with texts of these lengths.
-fn long_texts(alloc: Global, lengths: &str) -> Result<Vec<u8>, Stop> {
-    let mut text = Vec::new(alloc);
+/// The event of a JSON text.
+fn event_of_json(alloc: Global, text: &str) -> Result<Event, Stop> {
+    let text = unescaped(alloc, text)?;
+    event_in(alloc, &text)
+}
+
+/// The event of texts of these lengths.
+fn event_of_texts(alloc: Global, lengths: &str) -> Result<Event, Stop> {
+    let mut page = Page::new(alloc);
+    put_long_texts(&mut page, lengths)?;
+    let text = page.finish()?;
+    event_in(alloc, text.as_bytes())
+}
+
+/// The event of a JSON text in bytes.
+fn event_in(alloc: Global, text: &[u8]) -> Result<Event, Stop> {
+    match Event::from_text(alloc, text) {
+        Ok(event) => Ok(event),
+        Err(_) => Err(Stop::NoRow),
+    }
+}
+
+/// Prints the JSON text of an event with texts of these lengths.
+fn put_long_texts(page: &mut Page, lengths: &str) -> Result<(), Stop> {
     let mut name = b'a';
     for length in lengths.split(',') {
-        text.push(if name == b'a' { b'{' } else { b',' })?;
-        put_long_text(&mut text, name, number(length)?)?;
+        let length = number(length)?;
+        put_long_text(page, name, length);
         name = name.saturating_add(1);
     }
-    text.push(b'}')?;
-    Ok(text)
+    page.push('}');
+    Ok(())
 }
 
-/// Puts a name and a text of so many letters `x`.
-fn put_long_text(text: &mut Vec<u8>, name: u8, length: u64) -> Result<(), Stop> {
-    text.push(b'"')?;
-    text.push(name)?;
-    text.extend_from_slice(b"\":\"")?;
+/// Prints what stands before a name, the name, and a text of so many letters `x`.
+fn put_long_text(page: &mut Page, name: u8, length: u64) {
+    page.push(if name == b'a' { '{' } else { ',' });
+    page.push('"');
+    page.push(char::from(name));
+    page.push_str("\":\"");
     for _ in 0..length {
-        text.push(b'x')?;
+        page.push('x');
     }
-    Ok(text.push(b'"')?)
+    page.push('"');
 }
 
 /// The piece that words spell, each of them joined to those before.
 pub fn wanted(alloc: Global, words: &str) -> Result<Piece<Q3>, Stop> {
     let mut stream = Stream::new(alloc);
-    for word in words.split(' ') {
-        join_wanted(&mut stream, word)?;
-    }
+    join_all_wanted(&mut stream, words)?;
     Ok(stream.piece(1, MAX_TICK)?)
+}
+
+/// Joins what words say.
+fn join_all_wanted(stream: &mut Stream<Q3>, words: &str) -> Result<(), Stop> {
+    for word in words.split(' ') {
+        join_wanted(stream, word)?;
+    }
+    Ok(())
 }
 
 /// Joins what a word says: `C1-999`, `A5`, or `odd:2000:A` for each of the first 2,000 odd ticks.
 fn join_wanted(stream: &mut Stream<Q3>, word: &str) -> Result<(), Stop> {
-    if let Some(rest) = word.strip_prefix("odd:") {
-        let (count, value) = rest.split_once(':').ok_or(Stop::NoRow)?;
-        return join_odd(stream, number(count)?, &wanted_value(value)?);
+    match word.strip_prefix("odd:") {
+        Some(rest) => join_odd_wanted(stream, rest),
+        None => join_range_wanted(stream, word),
     }
-    let ticks = word.strip_prefix(['C', 'A']).ok_or(Stop::NoRow)?;
-    join(stream, range(ticks)?, &wanted_value(word)?)
+}
+
+/// Joins what `COUNT:VALUE` says of the first odd ticks.
+fn join_odd_wanted(stream: &mut Stream<Q3>, rest: &str) -> Result<(), Stop> {
+    let Some((count, value)) = rest.split_once(':') else {
+        return Err(Stop::NoRow);
+    };
+    let Ok(count) = number(count) else {
+        return Err(Stop::NoRow);
+    };
+    let Some(value) = wanted_value(value) else {
+        return Err(Stop::NoRow);
+    };
+    join_odd(stream, count, &value)
+}
+
+/// Joins what a word says of a range.
+fn join_range_wanted(stream: &mut Stream<Q3>, word: &str) -> Result<(), Stop> {
+    let Some(ticks) = word.strip_prefix(['C', 'A']) else {
+        return Err(Stop::NoRow);
+    };
+    let Ok(ticks) = range(ticks) else {
+        return Err(Stop::NoRow);
+    };
+    let Some(value) = wanted_value(word) else {
+        return Err(Stop::NoRow);
+    };
+    join(stream, ticks, &value)
 }
 
 /// The value that a word begins with.
-fn wanted_value(word: &str) -> Result<Q3, Stop> {
+fn wanted_value(word: &str) -> Option<Q3> {
     if word.starts_with('C') {
-        return Ok(Q3::C);
+        return Some(Q3::C);
     }
     if word.starts_with('A') {
-        return Ok(Q3::A);
+        return Some(Q3::A);
     }
-    Err(Stop::NoRow)
+    None
 }
 
 /// Joins a value on a range.
@@ -140,60 +226,71 @@ fn join_odd<V: Lattice>(stream: &mut Stream<V>, count: u64, value: &V) -> Result
 }
 
 /// Prints what is known, with a space before each run.
-pub fn put_known(alloc: Global, out: &mut String, piece: &Piece<K>) -> Result<(), Stop> {
+pub fn put_known(alloc: Global, page: &mut Page, piece: &Piece<K>) {
     for i in 0..piece.len() {
-        put_known_run(alloc, out, piece.run(i))?;
+        put_known_run(alloc, page, piece.run(i));
     }
-    Ok(())
 }
 
 /// Prints a run of knowledge behind a space.
-pub fn put_known_run(alloc: Global, out: &mut String, run: &Run<K>) -> Result<(), Stop> {
-    let first = run.first;
-    let last = run.last;
-    match &run.value {
-        K::Q => Ok(write!(out, " Q{first}-{last}")?),
-        K::S => Ok(write!(out, " S{first}-{last}")?),
-        K::F => Ok(write!(out, " F{first}-{last}")?),
-        K::D(event) => {
-            write!(out, " D{first}-{last}=")?;
-            put_event(alloc, out, event)
-        }
+pub fn put_known_run(alloc: Global, page: &mut Page, run: &Run<K>) {
+    let letter = match &run.value {
+        K::Q => 'Q',
+        K::S => 'S',
+        K::F => 'F',
+        K::D(_) => 'D',
+    };
+    put_ticks(page, letter, run.first, run.last);
+    if let K::D(event) = &run.value {
+        page.push('=');
+        put_event(alloc, page, event);
     }
+}
+
+/// Prints a letter and a range of ticks behind a space.
+fn put_ticks(page: &mut Page, letter: char, first: u64, last: u64) {
+    page.push(' ');
+    page.push(letter);
+    write!(page, "{first}-{last}");
 }
 
 /// Prints an event as JSON, a long one by its number of bytes.
-pub fn put_event(alloc: Global, out: &mut String, event: &Event) -> Result<(), Stop> {
+pub fn put_event(alloc: Global, page: &mut Page, event: &Event) {
     let size = event.size();
     if size >= LONG_EVENT {
-        return Ok(write!(out, "{size}-bytes")?);
+        write!(page, "{size}-bytes");
+        return;
     }
-    let text = event.json(alloc)?;
-    Ok(gr_tests_rows::put_text(out, text.as_slice())?)
+    match event.json(alloc) {
+        Ok(text) => page.push_escaped(text.as_slice()),
+        Err(_) => page.tear(),
+    }
 }
 
 /// Prints what is asked for, with a space before each run.
-pub fn put_wanted(out: &mut String, piece: &Piece<Q3>) -> Result<(), Stop> {
+pub fn put_wanted(page: &mut Page, piece: &Piece<Q3>) {
     for i in 0..piece.len() {
-        put_wanted_run(out, piece.run(i))?;
+        put_wanted_run(page, piece.run(i));
     }
-    Ok(())
 }
 
 /// Prints a run of curiosity behind a space.
-fn put_wanted_run(out: &mut String, run: &Run<Q3>) -> Result<(), Stop> {
-    let first = run.first;
-    let last = run.last;
-    match run.value {
-        Q3::N => Ok(write!(out, " N{first}-{last}")?),
-        Q3::C => Ok(write!(out, " C{first}-{last}")?),
-        Q3::A => Ok(write!(out, " A{first}-{last}")?),
-    }
+fn put_wanted_run(page: &mut Page, run: &Run<Q3>) {
+    let letter = match run.value {
+        Q3::N => 'N',
+        Q3::C => 'C',
+        Q3::A => 'A',
+    };
+    put_ticks(page, letter, run.first, run.last);
 }
 
-/// The event of a text behind a number and a tick: `NUMBER TICK EVENT`.
-pub fn numbered(alloc: Global, text: &str) -> Result<(u64, u64, Event), Stop> {
-    let (number_word, rest) = cut_word(text)?;
-    let (tick, text) = cut_word(rest)?;
-    Ok((number(number_word)?, number(tick)?, event_of(alloc, text)?))
+/// A number and a tick, and what stands behind them: `NUMBER TICK EVENT`.
+pub fn cut_numbers(text: &str) -> Option<(u64, u64, &str)> {
+    let Some((number, rest)) = cut_number(text) else {
+        return None;
+    };
+    match cut_number(rest) {
+        Some((tick, event)) => Some((number, tick, event)),
+        None => None,
+    }
 }

@@ -1,112 +1,176 @@
 //! Posts in memory, as scripts.
 
-use crate::script::{NEXT, cut_word, first_word, numbers, put_op, put_quoted, short};
+use crate::script::{
+    NEXT, Script, cut_short, first_word, numbers, perform, put_quoted, two_numbers,
+};
 use gr_out::{Arrival, MemPost, Post, PostFault};
-use gr_tests_rows::{Stop, number};
+use gr_tests_rows::{Page, Stop, number};
 use std::alloc::Global;
-use std::fmt::Write;
 
 /// Answers a script of calls: `failing offers CALLS bindings CALLS ; comes quiet 1 ; bind 0 A here ; next 3 ; ..`.
-pub fn calls(alloc: Global, row: &str, out: &mut String) -> Result<(), Stop> {
-    let (made, ops) = row.split_once(NEXT).ok_or(Stop::NoRow)?;
+pub fn calls(alloc: Global, row: &str, page: &mut Page) -> Result<(), Stop> {
+    let Some((made, ops)) = row.split_once(NEXT) else {
+        return Err(Stop::NoRow);
+    };
     let mut post = post_of(alloc, made)?;
-    for op in ops.split(NEXT) {
-        put_op(out, op)?;
-        post_op(&mut post, op, out)?;
-        out.push('\n')?;
-    }
-    Ok(())
+    perform(alloc, &mut post, ops, page)
 }
 
 /// A post with nothing in its script, with the numbers of the offers and bindings that are to fail.
 fn post_of(alloc: Global, made: &str) -> Result<MemPost, Stop> {
-    let fails = made.strip_prefix("failing offers ").ok_or(Stop::NoRow)?;
-    let (offers, bindings) = fails.split_once(" bindings ").ok_or(Stop::NoRow)?;
+    let Some(fails) = made.strip_prefix("failing offers ") else {
+        return Err(Stop::NoRow);
+    };
+    let Some((offers, bindings)) = fails.split_once(" bindings ") else {
+        return Err(Stop::NoRow);
+    };
     let offers = numbers(alloc, offers)?;
-    let bindings = numbers(alloc, bindings)?;
-    Ok(MemPost::new(alloc, &offers, &bindings)?)
+    post_failing(alloc, &offers, bindings)
 }
 
-/// An op on a post.
-fn post_op(post: &mut MemPost, op: &str, out: &mut String) -> Result<(), Stop> {
-    let (call, rest) = cut_word(op)?;
-    match call {
-        "comes" => {
-            cue(post, rest)?;
-            Ok(out.push_str("in the script")?)
+/// A post with nothing in its script, with the numbers of the offers that are to fail, and a list of the bindings.
+pub fn post_failing(alloc: Global, offers: &[u64], bindings: &str) -> Result<MemPost, Stop> {
+    let bindings = numbers(alloc, bindings)?;
+    post_with(alloc, offers, &bindings)
+}
+
+/// A post with nothing in its script, with the numbers of the offers and bindings that are to fail.
+fn post_with(alloc: Global, offers: &[u64], bindings: &[u64]) -> Result<MemPost, Stop> {
+    Ok(MemPost::new(alloc, offers, bindings)?)
+}
+
+impl Script for MemPost {
+    /// Makes a call of the post.
+    fn op(&mut self, _: Global, op: &str, page: &mut Page) -> Result<(), Stop> {
+        let Some((call, rest)) = op.split_once(' ') else {
+            return Err(Stop::NoRow);
+        };
+        match call {
+            "comes" => comes(self, rest, page),
+            "bind" => bind(self, rest, page),
+            "offer" => offer(self, rest, page),
+            "next" => next(self, rest, page),
+            "offered" => put_offered(self, rest, page),
+            _ => Err(Stop::NoRow),
         }
-        "bind" => bind(post, rest, out),
-        "offer" => offer(post, rest, out),
-        "next" => next(post, number(rest)?, out),
-        "offered" => offered(post, number(rest)?, out),
-        _ => Err(Stop::NoRow),
     }
 }
 
 /// Puts at the end of the script what comes.
-fn cue(post: &mut MemPost, rest: &str) -> Result<(), Stop> {
-    let (kind, rest) = first_word(rest);
+fn comes(post: &mut MemPost, rest: &str, page: &mut Page) -> Result<(), Stop> {
+    cue(post, rest)?;
+    page.push_str("in the script");
+    Ok(())
+}
+
+/// Puts a cue at the end of the script.
+fn cue(post: &mut MemPost, cue: &str) -> Result<(), Stop> {
+    let (kind, rest) = first_word(cue);
     match kind {
-        "quiet" => Ok(post.quiet(number(rest)?)?),
-        "pass" => {
-            let (offer, moment) = cut_word(rest)?;
-            Ok(post.pass(number(offer)?, number(moment)?)?)
-        }
-        "raw" => {
-            let (at, rest) = cut_word(rest)?;
-            let (text, moment) = cut_word(rest)?;
-            Ok(post.raw(short(at)?, text.as_bytes(), number(moment)?)?)
-        }
+        "quiet" => cue_quiet(post, rest),
+        "pass" => cue_pass(post, rest),
+        "raw" => cue_raw(post, rest),
         "failure" => Ok(post.fail()?),
         _ => Err(Stop::NoRow),
     }
 }
 
-/// What a call without a result answers.
-fn put_done(out: &mut String, answer: Result<(), PostFault>) -> Result<(), Stop> {
+/// Puts a silence up to a moment at the end of the script.
+fn cue_quiet(post: &mut MemPost, moment: &str) -> Result<(), Stop> {
+    let Ok(moment) = number(moment) else {
+        return Err(Stop::NoRow);
+    };
+    Ok(post.quiet(moment)?)
+}
+
+/// Puts an offer that passes at the end of the script: `OFFER MOMENT`.
+fn cue_pass(post: &mut MemPost, rest: &str) -> Result<(), Stop> {
+    let Some((offer, moment)) = two_numbers(rest) else {
+        return Err(Stop::NoRow);
+    };
+    Ok(post.pass(offer, moment)?)
+}
+
+/// Puts bytes for a broker at the end of the script: `BROKER TEXT MOMENT`.
+fn cue_raw(post: &mut MemPost, rest: &str) -> Result<(), Stop> {
+    let Some((at, rest)) = cut_short(rest) else {
+        return Err(Stop::NoRow);
+    };
+    let Some((text, moment)) = rest.split_once(' ') else {
+        return Err(Stop::NoRow);
+    };
+    let Ok(moment) = number(moment) else {
+        return Err(Stop::NoRow);
+    };
+    Ok(post.raw(at, text.as_bytes(), moment)?)
+}
+
+/// Prints what a call without a result answers.
+fn put_done(page: &mut Page, answer: Result<(), PostFault>) {
     match answer {
-        Ok(()) => Ok(out.push_str("done")?),
-        Err(PostFault::Failed) => Ok(out.push_str("failed")?),
-        Err(PostFault::Memory) => Err(Stop::Memory),
+        Ok(()) => page.push_str("done"),
+        Err(PostFault::Failed) => page.push_str("failed"),
+        Err(PostFault::Memory) => page.tear(),
     }
 }
 
 /// Binds a broker to an address, `here` or `there`.
-fn bind(post: &mut MemPost, rest: &str, out: &mut String) -> Result<(), Stop> {
-    let (broker, rest) = cut_word(rest)?;
-    let (address, place) = cut_word(rest)?;
-    let answer = post.bind(short(broker)?, address.as_bytes(), place == "here");
-    put_done(out, answer)
+fn bind(post: &mut MemPost, rest: &str, page: &mut Page) -> Result<(), Stop> {
+    let Some((broker, rest)) = cut_short(rest) else {
+        return Err(Stop::NoRow);
+    };
+    let Some((address, place)) = rest.split_once(' ') else {
+        return Err(Stop::NoRow);
+    };
+    put_done(page, post.bind(broker, address.as_bytes(), place == "here"));
+    Ok(())
 }
 
 /// Offers bytes from a broker to another.
-fn offer(post: &mut MemPost, rest: &str, out: &mut String) -> Result<(), Stop> {
-    let (from, rest) = cut_word(rest)?;
-    let (to, text) = cut_word(rest)?;
-    let answer = post.offer(short(from)?, short(to)?, text.as_bytes());
-    put_done(out, answer)
+fn offer(post: &mut MemPost, rest: &str, page: &mut Page) -> Result<(), Stop> {
+    let Some((from, rest)) = cut_short(rest) else {
+        return Err(Stop::NoRow);
+    };
+    let Some((to, text)) = cut_short(rest) else {
+        return Err(Stop::NoRow);
+    };
+    put_done(page, post.offer(from, to, text.as_bytes()));
+    Ok(())
+}
+
+/// Takes what comes next into a piece of so many bytes.
+fn next(post: &mut MemPost, most: &str, page: &mut Page) -> Result<(), Stop> {
+    let Ok(most) = number(most) else {
+        return Err(Stop::NoRow);
+    };
+    put_next(post, most, page);
+    Ok(())
 }
 
 /// Takes what comes next into a piece of so many bytes, at most 64.
-fn next(post: &mut MemPost, most: u64, out: &mut String) -> Result<(), Stop> {
+fn put_next(post: &mut MemPost, most: u64, page: &mut Page) {
     let mut piece = [0u8; 64];
     let room = most.min(64) as usize;
     match post.next(&mut piece[..room]) {
         Ok(Arrival::Datagram { at, len, moment }) => {
-            write!(out, "at {moment} for broker {at} ")?;
-            Ok(put_quoted(out, &piece[..len])?)
+            write!(page, "at {moment} for broker {at} ");
+            put_quoted(page, &piece[..len]);
         }
-        Ok(Arrival::Quiet { moment }) => Ok(write!(out, "quiet until {moment}")?),
-        Ok(Arrival::Closed) => Ok(out.push_str("closed")?),
-        Err(PostFault::Failed) => Ok(out.push_str("failed")?),
-        Err(PostFault::Memory) => Err(Stop::Memory),
+        Ok(Arrival::Quiet { moment }) => write!(page, "quiet until {moment}"),
+        Ok(Arrival::Closed) => page.push_str("closed"),
+        Err(PostFault::Failed) => page.push_str("failed"),
+        Err(PostFault::Memory) => page.tear(),
     }
 }
 
-/// The bytes of an offer that was made, counted from 1.
-fn offered(post: &MemPost, number: u64, out: &mut String) -> Result<(), Stop> {
-    match post.offered(number) {
-        Some(bytes) => Ok(put_quoted(out, bytes)?),
-        None => Ok(out.push_str("none")?),
+/// Prints the bytes of an offer that was made, counted from 1.
+fn put_offered(post: &MemPost, count: &str, page: &mut Page) -> Result<(), Stop> {
+    let Ok(count) = number(count) else {
+        return Err(Stop::NoRow);
+    };
+    match post.offered(count) {
+        Some(bytes) => put_quoted(page, bytes),
+        None => page.push_str("none"),
     }
+    Ok(())
 }

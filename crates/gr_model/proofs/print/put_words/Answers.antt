@@ -1,5 +1,0 @@
-use Rattle.gr_model.proofs.Rows.{line_behind}
-use Rattle.gr_model.proofs.print.put_words.Goals as goal
-
-pub returns : goal.returns
-returns c = line_behind c.args.topo.now c.args.report.now _ _ _ c.in_ok-push_line.ensures c.in_ok-push.ensures.ok
