@@ -4,3 +4,4 @@ pub mod Hearing
 pub mod Merged
 pub mod Steadily
 pub mod Always
+pub mod OneOrder

@@ -31,7 +31,7 @@ ghost use Rattle.gr_model_theorems.specs.Lanes.{HoldsOverLanes, HoldsServedLanes
 ghost use Rattle.gr_model_theorems.specs.Examples.{WorkedExamples};
 ghost use Rattle.gr_model_theorems.specs.ServedExample.{ServedExamples};
 ghost use Rattle.gr_model.specs.Orders.{orders_over, ordered_steps};
-ghost use Rattle.gr_model.specs.Ordered.{TotallyOrdered};
+ghost use Rattle.gr_model.specs.Ordered.{OneOrder, TotallyOrdered};
 ghost use Rattle.gr_model_theorems.specs.Statements.{IsRun, IsMarkedRun, IsAskedRun, IsSweptRun, IsSpelledRun, IsRunOverLogs};
 ghost use Rattle.gr_model_theorems.specs.Statements.{AreTotals};
 ghost use Rattle.gr_model_theorems.specs.Statements.{IsServedRun, world_after, NothingClashes, NothingStrays, AllSpelled};
@@ -152,6 +152,14 @@ pub fn ordered_always()
     ensures { (net : Net) (totals : List ℕ) (steps : List Line) → IsAskedRun net steps → AreTotals net totals →
         TotallyOrdered net totals steps (report_of net steps)
         (ordered_steps (orders_over net.publishers totals) (report_of net steps)) }
+{}
+
+/// One order among subscribers: over every schedule, of two subscribers that get one list over all publishers and want
+/// the same, what one was told in it up to any step begins with what the other was told up to any step, or the other
+/// way round. So no two of them are ever told events in different orders.
+pub fn one_order_always()
+    ensures { (net : Net) (totals : List ℕ) (steps : List Line) → IsAskedRun net steps → AreTotals net totals →
+        OneOrder net totals (ordered_steps (orders_over net.publishers totals) (report_of net steps)) }
 {}
 
 /// A sweep settles everything: after every schedule, a sweep that is not refused ends with every kept horizon, what is

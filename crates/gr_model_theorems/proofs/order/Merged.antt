@@ -18,7 +18,7 @@ use Rattle.gr_model_theorems.proofs.order.Told.{end, heard_in, begun, each_is_me
 use Rattle.gr_model_theorems.proofs.order.Hearing.{NonePassed, joined, got_items, has_head, has_tail, has_none, has_cases, heard_is_got, got_delivered, heard_in_range, least_is}
 
 -- what a filter keeps
-kept : {X : Type 0} (test : X → Bool) (xs : List X) (x : X) → Contains (filter test xs) x ↔ (Contains xs x × (test x ≡ true))
+pub kept : {X : Type 0} (test : X → Bool) (xs : List X) (x : X) → Contains (filter test xs) x ↔ (Contains xs x × (test x ≡ true))
 kept test [] x = (λ h. absurd (has_none x h), λ h. absurd (has_none x h.0))
 kept test (y ∷ xs) x = go (test y) refl (kept test xs x)
   where
@@ -42,7 +42,7 @@ kept test (y ∷ xs) x = go (test y) refl (kept test xs x)
     )
 
 -- what is expected up to a tick is what is expected up to a later one, as far as that tick
-cut_off : (net : Net) (h : History) (s p m n : ℕ) (x : ℕ × Event) → m ≤ n → Contains (expected net h s p m) x ↔ (Contains (expected net h s p n) x × (x.0 ≤ m))
+pub cut_off : (net : Net) (h : History) (s p m n : ℕ) (x : ℕ × Event) → m ≤ n → Contains (expected net h s p m) x ↔ (Contains (expected net h s p n) x × (x.0 ≤ m))
 cut_off net h s p m n x le = (there, back)
   where
     there : Contains (expected net h s p m) x → Contains (expected net h s p n) x × (x.0 ≤ m)
