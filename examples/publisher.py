@@ -1,5 +1,5 @@
 #!/usr/bin/env python3
-"""A publisher in a process of its own: submits events to the broker that keeps its log, by the notes of docs/client.md.
+"""A publisher in a process of its own: submits events to the broker that keeps its log, by notes (docs/use/client.md).
 
     examples/publisher.py [--from N] HOST:PORT OWN:PORT PUBLISHER < EVENTS
     examples/publisher.py --selftest
@@ -37,7 +37,7 @@ def value_bytes(value):
 
 
 def event_bytes(line):
-    """The bytes, by docs/events.md, of the event that a line spells as JSON; ValueError where it spells none."""
+    """The bytes, by docs/use/events.md, of the event that a line spells as JSON; ValueError where it spells none."""
     # -0 is no integer of an event
     event = json.loads(line.decode(), parse_int=lambda text: None if text == "-0" else int(text))
     if not isinstance(event, dict) or len(event) > 32:
@@ -143,7 +143,7 @@ def address(text):
 
 
 def selftest():
-    """The example of docs/client.md: a Submit of 32 bytes, and the 14 bytes of its answer."""
+    """The example of docs/use/client.md: a Submit of 32 bytes, and the 14 bytes of its answer."""
     submit = bytes.fromhex("47500101 0102 0000000000000003 0010 01 05 7072696365 01 0000000000000052")
     answer = bytes.fromhex("47500102 0102 0000000000000004")
     if submit_bytes(258, 3, event_bytes(b'{"price":82}')) != submit or answer_in(answer, 258) != 4:

@@ -1,4 +1,4 @@
-"""What a log's file holds, as docs/log.md has it."""
+"""What a log's file holds, as docs/inside/log.md has it."""
 import os
 import struct
 

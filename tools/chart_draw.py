@@ -6,9 +6,9 @@ from xml.sax.saxutils import escape
 
 LEFT, COLUMN, ROW, LETTER = 280, 270, 22, 6.05
 COLOURS = {'know': '#1f5fa8', 'want': '#9a5800', 'expect': '#6b3fa0', 'lost': '#b3202c', 'again': '#666666',
-           'got': '#1b7a3d', 'crashed': '#b3202c', 'refused': '#b3202c', 'dropped': '#b3202c', 'exhausted': '#b3202c',
-           'gap': '#b3202c', 'damaged': '#b3202c', 'horizon': '#1b7a3d', 'cut': '#6b3fa0', 'kept': '#1b7a3d',
-           'wake': '#666666'}
+           'got': '#1b7a3d', 'ordered': '#00696f', 'crashed': '#b3202c', 'refused': '#b3202c', 'dropped': '#b3202c',
+           'exhausted': '#b3202c', 'gap': '#b3202c', 'damaged': '#b3202c', 'horizon': '#1b7a3d', 'cut': '#6b3fa0',
+           'kept': '#1b7a3d', 'wake': '#666666'}
 LEGEND = (('know', 'know: what is known of ticks; S silence, D an event, F final'),
           ('want', 'want: C ticks that are asked for, A ticks that are acknowledged'),
           ('expect', 'expect: all up to this tick is to be asked for'),
@@ -92,7 +92,8 @@ class Chart:
         said = ['publisher ' + name for name, at in t.hosts.items() if at == broker]
         for name, at in t.places.items():
             if at == broker:
-                said.append('subscriber ' + name + (': ' + t.filters[name] if name in t.filters else ''))
+                one = ', one list' if name in t.totals else ''
+                said.append('subscriber ' + name + one + (': ' + t.filters[name] if name in t.filters else ''))
         return said if len(said) <= 5 else said[:4] + ['and %d more' % (len(said) - 4)]
 
     def y(self, row):

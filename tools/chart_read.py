@@ -4,7 +4,7 @@ import re
 import tomllib
 from collections import namedtuple
 
-Topology = namedtuple('Topology', 'brokers hosts places filters up')
+Topology = namedtuple('Topology', 'brokers hosts places filters totals up')
 Step = namedtuple('Step', 'number file_line word args text')
 Line = namedtuple('Line', 'number word args text')
 
@@ -16,10 +16,10 @@ NUMBER = re.compile(r'[0-9]{1,19}\Z')
 # the rest.
 STEPS = ('clock n', 'publish P n *', 'wake B', 'deliver n', 'crash B', 'sweep', 'show', 'bytes n')
 LINES = ('logged P n n', 'already P n', 'gap P n next n', 'exhausted P n', 'kept P n n', 'lost P n n', 'mark P n',
-         'cut P n', 'opened P last n settled n cut n', 'got S P n *', 'horizon S P n', 'sent n B B know P *',
-         'sent n B B want P *', 'sent n B B expect P n', 'crashed B', 'swept n', 'refused line n hosts-subscriber B',
-         'refused line n no-frame n of n', 'refused line n clock-range n', 'frames n',
-         'log P last n settled n cut n kept n', 'doubt B P n', 'bytes n *', 'dropped B *', 'damaged P n')
+         'cut P n', 'opened P last n settled n cut n', 'got S P n *', 'horizon S P n', 'ordered S P n *',
+         'sent n B B know P *', 'sent n B B want P *', 'sent n B B expect P n', 'crashed B', 'swept n',
+         'refused line n hosts-subscriber B', 'refused line n no-frame n of n', 'refused line n clock-range n',
+         'frames n', 'log P last n settled n cut n kept n', 'doubt B P n', 'bytes n *', 'dropped B *', 'damaged P n')
 
 
 class Refused(Exception):
@@ -90,8 +90,9 @@ def read_topology(path, text):
     hosts = named_at(path, text, checked(path, text, table, 'publisher', list), brokers, 'publisher')
     places = named_at(path, text, subscribers, brokers, 'subscriber')
     filters = {one['name']: str(one['filter']) for one in subscribers if 'filter' in one}
+    totals = [one['name'] for one in subscribers if one.get('total') is True]
     ups = {host: ways_up(path, text, brokers, links, host) for host in [brokers[0], *hosts.values()]}
-    return Topology(brokers, hosts, places, filters, {name: ups[host] for name, host in hosts.items()})
+    return Topology(brokers, hosts, places, filters, totals, {name: ups[host] for name, host in hosts.items()})
 
 
 def fields(shape, text, topology):

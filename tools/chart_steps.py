@@ -37,6 +37,26 @@ def joined(ranges):
     return found
 
 
+class OneList:
+    """The one list of a subscriber over all publishers: the events that wait, and how far each publisher was heard."""
+
+    def __init__(self, publishers):
+        self.publishers, self.heard, self.waiting = list(publishers), dict.fromkeys(publishers, 0), []
+
+    def hear(self, line):
+        """A line that tells the subscriber an event, or that its horizon moved."""
+        _, publisher, tick = line.args[:3]
+        if line.word == 'horizon':
+            self.heard[publisher] = tick
+        else:
+            self.waiting.append((tick, self.publishers.index(publisher), line.args))
+            self.waiting.sort()
+
+    def is_next(self, line):
+        """This is the first event that waits, and every publisher was heard up to it."""
+        return bool(self.waiting) and self.waiting[0][2] == line.args and line.args[2] <= min(self.heard.values())
+
+
 def within(ranges, outer):
     """Each range lies in one of the outer ones."""
     outer = joined(outer)
@@ -49,6 +69,7 @@ class Run:
     def __init__(self, topology, source, report):
         self.topology, self.source, self.report = topology, source, report
         self.rows, self.frames, self.known = [], {}, {}
+        self.lists = {name: OneList(topology.hosts) for name in topology.totals}
         self.step, self.taken, self.before, self.fresh = None, [], {}, {}
         self.rules = {'clock': lambda line: False, 'publish': self.of_publish, 'deliver': self.of_deliver,
                       'wake': self.of_wake, 'crash': self.of_crash, 'sweep': self.of_sweep, 'show': self.of_show,
@@ -90,10 +111,19 @@ class Run:
         self.known[broker, publisher] = joined(self.known.get((broker, publisher), []) + ranges)
 
     def fits(self, line):
-        """The present step can tell this line next."""
+        """The present step can tell this line next. The lines of one order stand behind all its others."""
+        if line.word == 'ordered':
+            return self.of_lists(line)
+        if self.taken and self.taken[-1].word == 'ordered':
+            return False
         if line.word == 'refused':
             return not self.taken and line.args[0] == self.step.number
         return self.rules[self.step.word](line)
+
+    def of_lists(self, line):
+        """The one list of a subscriber goes on, behind a horizon of it that this step has moved."""
+        moved = any(one.word == 'horizon' and one.args[0] == line.args[0] for one in self.taken)
+        return moved and line.args[0] in self.lists and self.lists[line.args[0]].is_next(line)
 
     def rises(self, line):
         """No frame of this step went to the same broker with these ticks or later ones."""
@@ -172,7 +202,7 @@ class Run:
 
     def place(self, line):
         """The broker at which a line stands, if it stands at one."""
-        if line.word in ('got', 'horizon'):
+        if line.word in ('got', 'horizon', 'ordered'):
             return self.topology.places[line.args[0]]
         if line.word in ('crashed', 'doubt', 'dropped'):
             return line.args[0]
@@ -198,6 +228,10 @@ class Run:
             self.known[broker, line.args[0]] = [(1, line.args[2])]
         elif line.word == 'sent':
             self.send(line, row)
+        elif line.word in ('got', 'horizon') and line.args[0] in self.lists:
+            self.lists[line.args[0]].hear(line)
+        elif line.word == 'ordered':
+            del self.lists[line.args[0]].waiting[0]
 
     def send(self, line, row):
         """A frame was sent; what a sweep sends arrives in it, but for what is to be expected."""

@@ -5,7 +5,7 @@ import tomllib
 from explain_text import NAME, NAMES, Fault, filter_fault, lines_of, listed, nearest, no_separator, separator
 
 KEYS = {'': ('brokers', 'links', 'publisher', 'subscriber', 'addresses', 'clients', 'settings'),
-        'publisher': ('name', 'at'), 'subscriber': ('name', 'at', 'filter', 'late'),
+        'publisher': ('name', 'at'), 'subscriber': ('name', 'at', 'filter', 'late', 'total'),
         'settings': ('gap', 'idle', 'retry', 'quiet', 'cache')}
 TYPES = {
     'brokers': 'it is an array of names, as brokers = ["A", "B"]',
@@ -17,7 +17,7 @@ TYPES = {
     'settings': 'it is a table: a line [settings], then lines as retry = 250',
     'name': 'a name is a text in quotes', 'at': 'it is the name of a broker, a text in quotes',
     'filter': "a filter is a text in quotes, as filter = \"sym = 'IBM'\"",
-    'late': 'it is true or false',
+    'late': 'it is true or false', 'total': 'it is true or false',
 }
 # What a part of nothing but blanks stands for.
 BLANK = {'brokers': ['A', 'B'], 'links': [['A', 'B']], 'publisher': [{'name': 'P', 'at': 'A'}],
@@ -129,7 +129,7 @@ def key_hint(name, known):
 
 def bad_type(part, lines, key):
     """A value of another type than its key wants."""
-    wanted = {'name': str, 'at': str, 'filter': str, 'late': bool}
+    wanted = {'name': str, 'at': str, 'filter': str, 'late': bool, 'total': bool}
     for kind in ('publisher', 'subscriber'):
         for index, table in enumerate(part.tables(kind)):
             if key in wanted and key in table and not isinstance(table[key], wanted[key]):

@@ -18,7 +18,7 @@ use Rattle.gr_topo.specs.Topology.{TopologyView, host_of}
 use Rattle.gr_model.specs.Net.{numbers_from}
 use Rattle.gr_model.specs.NetOf.{net_of}
 use Rattle.gr_model.specs.Arrivals.{Arrival, datagram, quiet, Publish, publisher_of, submitted_in, is_hosted, is_scheduled, publishes_of, left_after}
-use Rattle.gr_node.specs.Plan.{Call, gets, publishes, wakes, Act, calls, shows, publish_calls, wake_calls, quiet_calls, submit_acts, note_acts, datagram_acts, acts_of, acts_from, closing, run_acts}
+use Rattle.gr_node.specs.Plan.{Call, gets, publishes, wakes, Act, calls, settles, shows, is_ours, publish_calls, wake_calls, quiet_calls, submit_acts, note_acts, datagram_acts, acts_of, settling, led_to, acts_from, closing, turn_acts, run_acts}
 use Rattle.gr_node.proofs.Moving.{IsCallOf, IsActOf}
 use Rattle.gr_node.proofs.Notes.{submits}
 
@@ -101,14 +101,14 @@ module _ (t : TopologyView) (hosted : List ℕ) where
 
   -- of a note at a hosted broker
   submitted_are : (b p : ℕ) (o : Option Publish) → is_among hosted b ≡ true → ((x : Publish) → o ≡ Some x → (x.0 < length t.publishers) × (host_of t x.0 ≡ b)) → AreActs (submit_acts b p o)
-  submitted_are b p None here is = (tt, tt)
+  submitted_are b p None here is = (refl, tt)
   submitted_are b p (Some x) here is =
       let e = is x refl in
       let k : IsCallOf t hosted (publishes x) = (e.0, ap (is_among hosted) e.1 ∙ here) in
       (k, (k, tt))
 
   note_are : (b : ℕ) (r : Result Note NoteFault) → is_among hosted b ≡ true → AreActs (note_acts (net_of t) b r)
-  note_are b (Err fault) here = (tt, tt)
+  note_are b (Err fault) here = (refl, tt)
   note_are b (Ok n) here = submitted_are b (publisher_of n) (submitted_in (net_of t) b n) here (λ x e. submits (net_of t) b n x e)
 
   datagram_are : (b : ℕ) (bytes : List ℕ) → is_among hosted b ≡ true → AreActs (datagram_acts (net_of t) b bytes)
@@ -126,13 +126,20 @@ module _ (t : TopologyView) (hosted : List ℕ) where
       go false e = tt
   arrival_are left (quiet moment) h = made_of (quiet_calls (net_of t) hosted left) (quiet_are left h)
 
+  settling_is : (a : Arrival) → AreActs (settling hosted a)
+  settling_is a = go (is_ours hosted a)
+    where
+      go : (q : Bool) → AreActs (if q then settles ∷ [] else [])
+      go true = (tt, tt)
+      go false = tt
+
   came_are : (left : List Publish) (came : List Arrival) → ArePublishes left → AreActs (acts_from (net_of t) hosted left came)
   unfolding acts_from
   came_are left [] h = tt
   came_are left (a ∷ came) h = (
     tt,
-    all_append (IsActOf t hosted) (acts_of (net_of t) hosted left a) (acts_from (net_of t) hosted (left_after left a) came)
-        (arrival_are left a h) (came_are (left_after left a) came (left_are left a h)),
+    all_append (IsActOf t hosted) (led_to (net_of t) hosted left a) (acts_from (net_of t) hosted (left_after left a) came)
+        (all_append (IsActOf t hosted) (acts_of (net_of t) hosted left a) (settling hosted a) (arrival_are left a h) (settling_is a)) (came_are (left_after left a) came (left_are left a h)),
   )
 
   closing_is : (closed : Bool) → AreActs (closing closed)
@@ -143,6 +150,8 @@ module _ (t : TopologyView) (hosted : List ℕ) where
   pub acts_are : (steps : List Line) (came : List Arrival) (closed : Bool) → AreStepsOf t steps
       → AllByRecursion (IsActOf t hosted) (run_acts (net_of t) hosted steps came closed ++ shows ∷ [])
   acts_are steps came closed a =
-      all_append (IsActOf t hosted) (run_acts (net_of t) hosted steps came closed) (shows ∷ [])
+      let turns : AreActs (turn_acts (net_of t) hosted steps came closed ++ shows ∷ []) =
+      all_append (IsActOf t hosted) (turn_acts (net_of t) hosted steps came closed) (shows ∷ [])
       (all_append (IsActOf t hosted) (acts_from (net_of t) hosted (publishes_of (net_of t) hosted steps) came) (closing closed)
-      (came_are (publishes_of (net_of t) hosted steps) came (publishes_are steps a)) (closing_is closed)) (tt, tt)
+      (came_are (publishes_of (net_of t) hosted steps) came (publishes_are steps a)) (closing_is closed)) (tt, tt) in
+      (tt, turns)

@@ -15,7 +15,7 @@ use Rattle.gr_model.specs.NetOf.{net_of}
 use Rattle.gr_model.specs.World.{log_of as machine_log_of}
 use Rattle.gr_model.specs.Arrivals.{Publish, publishes_of}
 use Rattle.gr_node.specs.Lasting.{Lasts}
-use Rattle.gr_node.specs.Plan.{Act, binds, starts, shows, acts_from, closing, nodes, plan, all_entries}
+use Rattle.gr_node.specs.Plan.{Act, binds, starts, settles, shows, acts_from, closing, nodes, plan, all_entries}
 use Rattle.gr_node.specs.Turns.{left_behind}
 use Rattle.gr_node.specs.Served.{Course, world_before, acts_upto, world_upto}
 use Rattle.gr_node.specs.Submitted.{AreFirst, offers_next}
@@ -28,10 +28,10 @@ unfolding plan
 upto_are_first t hosted steps c k = record {
   left = behind ++ (closing c.closed ++ shows ∷ []);
   parts =
-      append_assoc bound (started ++ upto) (behind ++ (closing c.closed ++ shows ∷ []))
+      append_assoc bound (started ++ (settles ∷ upto)) (behind ++ (closing c.closed ++ shows ∷ []))
       ∙ ap (λ acts. bound ++ acts)
-      (append_assoc started upto (behind ++ (closing c.closed ++ shows ∷ []))
-      ∙ ap (λ acts. started ++ acts)
+      (append_assoc started (settles ∷ upto) (behind ++ (closing c.closed ++ shows ∷ []))
+      ∙ ap (λ acts. started ++ (settles ∷ acts))
       (sym (append_assoc upto behind (closing c.closed ++ shows ∷ []))
       ∙ (ap (λ acts. acts ++ (closing c.closed ++ shows ∷ [])) (sym all)
       ∙ sym (append_assoc (acts_from net hosted publishes c.came) (closing c.closed) (shows ∷ [])))));

@@ -1,5 +1,5 @@
 -- The course of each way in which a run may end: a binding failed, a start was refused, or it was run. What its parts did at the node
--- is what the machine does
+-- is what the machine does, and what they tell are the machine's lines and those of one order
 use Rattle.std.proofs.Common.{◌≡◌, ◌≢◌, ◌⊎◌, inl, inr, ℕ, ◌+◌, ◌*◌, ◌<◌, true, false, List, [], ◌∷◌, ◌++◌, length, map, take, drop, get_or, Option, Result, Ok, Err, flat_map, refl, sym, ap, ◌∙◌, subst, arith, append_assoc, append-nil, eq-eqb}
 use Rattle.std.specs.Prelude.{IsSome}
 use Rattle.std.specs.List.{AllByRecursion}
@@ -22,20 +22,22 @@ use Rattle.gr_topo.specs.Topology.{TopologyView, host_of}
 use Rattle.gr_model.specs.NetOf.{net_of}
 use Rattle.gr_model.specs.World.{World, Transition, in_turn, log_of as machine_log_of}
 use Rattle.gr_model.specs.Arrivals.{is_hosted, publishes_of}
+use Rattle.gr_model.specs.Orders.{fed, orders_of, without_ordered}
 use Rattle.gr_broker.specs.Seen.{log_in, log_said}
 use Rattle.gr_report.proofs.Passing.{PassesLog, PassesRest}
 use Rattle.gr_node.specs.Seen.{NodeView, broker_in, none_started, text_of}
 use Rattle.gr_node.specs.Of.{AreHosted, IsSet, AllStand, OthersStay}
 use Rattle.gr_node.specs.Lasting.{StoodEachTime, node_upto}
-use Rattle.gr_node.specs.Plan.{Act, binds, starts, shows, bound_entry, act, acts_from, run_acts, nodes, plan, all_entries}
-use Rattle.gr_node.specs.Done.{all_done}
+use Rattle.gr_node.specs.Plan.{Act, binds, starts, settles, shows, bound_entry, act, told_by_acts, acts_from, run_acts, nodes, plan, all_entries}
+use Rattle.gr_node.specs.Done.{all_done, settled}
 use Rattle.gr_node.specs.Went.{Outside, outside, IsExact, IsPostFault, Bound, fault_entries, uses_disk, FirstIs}
 use Rattle.gr_node.specs.Starting.{Started, Found, IsFirstDamaged, start_lines}
 use Rattle.gr_node.specs.Served.{Course, is_start, IsRefused, IsRunOf, Posts, Prints, LogsLast, KeepsLogs}
 use Rattle.gr_node.specs.Ending.{IsEnd, Ran, RanWith, Serves}
 use Rattle.gr_node.proofs.Moving.{IsNode, IsActOf, Moved, moves_all}
-use Rattle.gr_node.proofs.Taken.{broker_here, found_in}
-use Rattle.gr_node.proofs.Opening.{binds_nothing, binds_entries}
+use Rattle.gr_node.proofs.Taken.{node_heard, broker_here, found_in}
+use Rattle.gr_node.proofs.Opening.{binds_nothing, binds_entries, settled_nothing}
+use Rattle.gr_node.proofs.ToldOrders.{lines_told, plain_binds}
 use Rattle.gr_node.proofs.BoundNodes.{made_all}
 use Rattle.gr_node.proofs.Lasting.{lasts}
 use Rattle.gr_node.proofs.Acting.{acts_are, all_front}
@@ -89,7 +91,8 @@ module _ (T : Type 0) (t : TopologyView) (hosted : List ℕ) (are : AreHosted t 
   parts : made ++ left ≡ plan t hosted steps [] false
   parts = plan_behind t hosted are bs rest n o steps [] false [] left refl
 
-  text_made : text_of t (in_turn (act (net_of t) hosted) made (before t hosted are bs rest n o)).lines ≡ text_of t (flat_map (start_lines t n) bs)
+  text_made : text_of t (told_by_acts (net_of t) hosted (before t hosted are bs rest n o) (orders_of t) made) ≡ text_of t (flat_map (start_lines t n) bs)
+  unfolding told_by_acts
   text_made = text_behind t hosted are bs rest n o [] ∙ append-nil (text_of t (flat_map (start_lines t n) bs))
 
   entries_made : all_entries t hosted (before t hosted are bs rest n o) made ≡ bounds t hosted are bs rest n o
@@ -154,15 +157,15 @@ pub serves_memory : (T : Type 0) (t : TopologyView) (hosted : List ℕ) (steps :
     → AreHosted t hosted → (posts → journal' ≡ journal ++ map (bound_entry t hosted) (nodes t hosted))
     → Serves {T = T} t hosted steps turns posts keeps journal journal' taken taken lanes lanes (Err run.Memory)
 serves_memory T t hosted steps turns posts keeps journal journal' taken lanes are sent =
-    let none = none_opened t hosted (none_started (length t.brokers)) refl in
-    serves_failed T t hosted are [] hosted (none_started (length t.brokers)) none steps turns posts keeps journal journal' taken taken lanes lanes run.Memory
+    let none = none_opened t hosted (none_started t) refl in
+    serves_failed T t hosted are [] hosted (none_started t) none steps turns posts keeps journal journal' taken taken lanes lanes run.Memory
     (λ e. cc) (λ exact. absurd exact) (λ exact. absurd exact) (front-nothing taken taken [] refl) sent
     (λ h b some. absurd (false≢true (sym (none.hosts b) ∙ some))) (λ h p at e. cc) (λ h lane here. refl)
 
 -- All have started, and it was run
 module _ (T : Type 0) (t : TopologyView) (hosted : List ℕ) (are : AreHosted t hosted) (n : NodeView) (o : IsOpened t hosted hosted [] n) (steps : List Line) (steps_are : AreStepsOf t steps) (turns : ℕ) (posts keeps : Type 0)
     (journal mid journal' : List Entry) (taken opening taken' : Option (List ℕ)) (lanes lanes' : ℕ → Lane) (r : Result T RunFault) (n' : NodeView)
-    (passes : PassesLog) (passes_rest : PassesRest)
+    (passes : PassesLog) (passes_rest : PassesRest) (first_heard : n.orders ≡ fed (orders_of t) (flat_map (start_lines t n) hosted))
     (told_first : opening ≡ with_more taken (text_of t (flat_map (start_lines t n) hosted))) (sent_first : posts → mid ≡ journal ++ bounds t hosted are hosted [] n o)
     (w : RanWith {T = T} t hosted posts keeps steps turns n n' (outside opening [] mid) (outside taken' [] journal') lanes' r) where
   abbrev tail : List Act
@@ -197,8 +200,10 @@ module _ (T : Type 0) (t : TopologyView) (hosted : List ℕ) (are : AreHosted t 
 
   -- the text of what was done behind the starts
   text_begun : (acts : List Act) → Moved t hosted n opened_world acts
-      → start_text ++ text_of t (all_done t hosted n acts).lines ≡ text_of t (in_turn (act (net_of t) hosted) (begun t hosted are hosted [] n o acts) start_world).lines
-  text_begun acts m = ap (λ ls. start_text ++ text_of t ls) m.lines ∙ sym (text_behind t hosted are hosted [] n o acts)
+      → start_text ++ text_of t (all_done t hosted n acts).lines ≡ text_of t (told_by_acts (net_of t) hosted start_world (orders_of t) (begun t hosted are hosted [] n o acts))
+  text_begun acts m =
+      ap (λ ls. start_text ++ text_of t ls) (m.told ∙ ap (λ os. told_by_acts (net_of t) hosted opened_world os acts) first_heard)
+      ∙ sym (text_behind t hosted are hosted [] n o acts)
 
   entries_begun : (acts : List Act) → Moved t hosted n opened_world acts
       → all_entries t hosted start_world (begun t hosted are hosted [] n o acts) ≡ bounds t hosted are hosted [] n o ++ (all_done t hosted n acts).entries
@@ -230,24 +235,26 @@ module _ (T : Type 0) (t : TopologyView) (hosted : List ℕ) (are : AreHosted t 
       )
 
   -- and each time that another arrival came it stood, and it lasts
-  logs_last : (all_made rest_left : List Act) → StoodEachTime t hosted steps n w.came lanes'
+  logs_last : (all_made rest_left : List Act) → StoodEachTime t hosted steps (settled n) w.came lanes'
       → LogsLast t hosted steps (record { records = records t hosted are hosted [] n o; came = w.came; closed = w.closed; made = all_made; left = rest_left }) lanes'
   logs_last all_made rest_left each k lt p below here =
       let s = each k lt in
-      let x = broker_here hosted (node_upto t hosted steps n w.came k) (host_of t p) s.set.hosts here in
-      let node : IsNode t (node_upto t hosted steps n w.came k) (in_turn (act (net_of t) hosted) acts opened_world).world = (moved acts all).node in
+      let x = broker_here hosted (node_upto t hosted steps (settled n) w.came k) (host_of t p) s.set.hosts here in
+      let node : IsNode t (node_upto t hosted steps (settled n) w.came k) (in_turn (act (net_of t) hosted) acts opened_world).world =
+      (moves_all t hosted (settled n) opened_world acts passes passes_rest (node_heard t n opened_world (without_ordered n.orders) (opened t hosted are hosted [] n o).1) o.hosts all).node in
       let l = found_in (log_in x.0 p) ((node.shaped (host_of t p) x.0 x.1).hosted p below ∙ eq-eqb (host_of t p) (host_of t p) refl) in (
         l.0.records,
         s.between (2 * p),
         lasts l.0.records (s.between (2 * p)) (lanes' (2 * p)) (s.stand (host_of t p) x.0 x.1 p l.0 l.1 (s.set.fits.whole (host_of t p) p x.0 l.0 x.1 l.1)) (s.keep.lane (2 * p)),
-        sym (ap (λ (u : Transition). machine_log_of u.world p) (turn_behind t hosted are hosted [] n o acts) ∙ (node.logs p x.0 x.1 below ∙ ap log_said l.1)),
+        sym (ap (λ (u : Transition). machine_log_of u.world p) (turn_behind t hosted are hosted [] n o (settles ∷ acts))
+            ∙ (ap (λ (u : Transition). machine_log_of u.world p) (settled_nothing (net_of t) hosted acts opened_world) ∙ (node.logs p x.0 x.1 below ∙ ap log_said l.1))),
       )
     where
       acts : List Act
       acts = acts_from (net_of t) hosted (publishes_of (net_of t) hosted steps) (take k w.came)
 
       all : AllByRecursion (IsActOf t hosted) acts
-      all = all_front (IsActOf t hosted) acts [] (all_front (IsActOf t hosted) (acts ++ []) (shows ∷ []) (acts_are t hosted steps (take k w.came) false steps_are))
+      all = all_front (IsActOf t hosted) acts [] (all_front (IsActOf t hosted) (acts ++ []) (shows ∷ []) (acts_are t hosted steps (take k w.came) false steps_are).1)
 
   pub serves_ran : (keeps → (b : ℕ) → IsSome (broker_in n b) → Found t n (b ∷ []) lanes) → (IsEnd r → IsSet t hosted n') → (keeps → IsEnd r → AllStand lanes' n')
       → (keeps → OthersStay t hosted lanes lanes') → ((p at : ℕ) → r ≢ Err (run.Damaged p at))
@@ -307,8 +314,10 @@ module _ (T : Type 0) (t : TopologyView) (hosted : List ℕ) (are : AreHosted t 
   abbrev first_world : World
   first_world = before t hosted are [] hosted n o
 
-  no_lines : text_of t (in_turn (act (net_of t) hosted) bound_so_far first_world).lines ≡ []
-  no_lines = ap (λ (s : Transition). text_of t s.lines) (binds_nothing (net_of t) hosted ks first_world)
+  no_lines : text_of t (told_by_acts (net_of t) hosted first_world (orders_of t) bound_so_far) ≡ []
+  no_lines =
+      ap (text_of t) (lines_told (net_of t) hosted first_world (orders_of t) bound_so_far (plain_binds ks))
+      ∙ ap (λ (s : Transition). text_of t s.lines) (binds_nothing (net_of t) hosted ks first_world)
 
   their_entries : all_entries t hosted first_world bound_so_far ≡ map (bound_entry t hosted) ks
   their_entries = binds_entries t hosted ks first_world
@@ -341,7 +350,7 @@ module _ (T : Type 0) (t : TopologyView) (hosted : List ℕ) (are : AreHosted t 
   serves_unbound run.Memory cause sent =
       cut T t hosted steps turns posts keeps journal journal' taken taken lanes lanes (Err run.Memory) (records t hosted are [] hosted n o) (many t hosted are [] hosted n o) (follows t hosted are [] hosted n o) [] false (omega arith) tt
       bound_so_far unbound bound_parts (λ exact. exact)
-      (record { part = []; rest = text_of t (in_turn (act (net_of t) hosted) bound_so_far first_world).lines; whole = refl; taken = sym (with_more-nil taken) })
+      (record { part = []; rest = text_of t (told_by_acts (net_of t) hosted first_world (orders_of t) bound_so_far); whole = refl; taken = sym (with_more-nil taken) })
       (λ h. record {
         part = map (bound_entry t hosted) ks;
         rest = [];

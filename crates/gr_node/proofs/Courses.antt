@@ -1,5 +1,5 @@
--- The course of a run: where it is known what was done, and where it is not. What was made of the plan tells the machine's first lines,
--- and puts its first entries
+-- The course of a run: where it is known what was done, and where it is not. What was made of the plan tells the first of the machine's
+-- lines and those of one order, and puts its first entries
 use Rattle.std.proofs.Common.{◌≡◌, ◌⊎◌, inl, inr, ℕ, ◌*◌, ◌<◌, ◌≤◌, Bool, true, false, ◌||◌, List, [], ◌∷◌, ◌++◌, length, map, take, drop, get_or, Option, Result, Ok, Err, OnOk, flat_map, refl, sym, ap, ap₂, ◌∙◌, subst, arith, append_assoc, append-nil, take-append-drop, take_all, eq-eqb}
 use Rattle.std.specs.Prelude.{IsSome, nat_eq}
 use Rattle.std.specs.List.{AllByRecursion, list_any}
@@ -18,24 +18,26 @@ use Rattle.gr_publog.specs.declared.record.Record.{Record}
 use Rattle.gr_publog.specs.Text.{log_text}
 use Rattle.gr_sched.specs.declared.step.Line.{Line}
 use Rattle.gr_topo.specs.Topology.{TopologyView, host_of}
+use Rattle.gr_model.specs.declared.report.Report.{Report}
 use Rattle.gr_model.specs.Net.{Net}
 use Rattle.gr_model.specs.NetOf.{net_of}
 use Rattle.gr_model.specs.World.{World, Transition, followed_by, in_turn}
 use Rattle.gr_model.specs.Opening.{over_logs}
 use Rattle.gr_model.specs.Arrivals.{Arrival, served}
+use Rattle.gr_model.specs.Orders.{Order, fed, orders_of, with_orders}
 use Rattle.gr_model_theorems.specs.Lanes.{AllFollow, whole_logs}
 use Rattle.gr_model_theorems.specs.Served.{joined, IsOfBytes}
 use Rattle.gr_model_calls.proofs.runs.Schedules.{length_numbers}
 use Rattle.gr_node.specs.Seen.{NodeView, broker_in, none_started, records_in, text_of}
 use Rattle.gr_node.specs.Of.{AreHosted, Hosts, OthersStay}
-use Rattle.gr_node.specs.Plan.{Act, binds, starts, shows, ours, bound_entry, act, run_acts, nodes, plan, all_entries}
+use Rattle.gr_node.specs.Plan.{Act, binds, starts, shows, ours, bound_entry, act, told_by_acts, run_acts, nodes, plan, all_entries}
 use Rattle.gr_node.specs.Went.{Outside, outside, IsExact, fault_entries, Begins}
 use Rattle.gr_node.specs.Starting.{Started, HasStarted, Found, start_lines}
 use Rattle.gr_node.specs.Served.{Course, is_start, IsRefused, LogsLast, KeepsLogs}
 use Rattle.gr_node.specs.Ending.{Serves}
 use Rattle.gr_node.proofs.Moving.{IsNode}
 use Rattle.gr_node.proofs.Opening.{opened_is, records_found, records_follow, records_read, binds_nothing, binds_entries, starts_entries, in_turn_append, all_entries_append}
-use Rattle.gr_node.proofs.Planned.{plan_lines, lines_front}
+use Rattle.gr_node.proofs.ToldOrders.{plan_told, told_front, begun_told}
 use Rattle.gr_node.proofs.StartingNodes.{none_begun}
 use Rattle.gr_node.proofs.Ended.{text_append, on_err}
 
@@ -65,8 +67,12 @@ module _ (T : Type 0) (t : TopologyView) (hosted : List ℕ) (steps : List Line)
   abbrev ends : List Act → Transition
   ends acts = in_turn (act (net_of t) hosted) acts first
 
+  -- what acts tell
+  abbrev tells : List Act → List Report
+  tells acts = told_by_acts (net_of t) hosted first (orders_of t) acts
+
   abbrev whole_text : List ℕ
-  whole_text = text_of t (joined (served (net_of t) hosted (whole_logs records) steps (ours hosted came)))
+  whole_text = text_of t (joined (with_orders (orders_of t) (served (net_of t) hosted (whole_logs records) steps (ours hosted came))))
 
   abbrev all_acts : List Act
   all_acts = plan t hosted steps came closed
@@ -76,15 +82,15 @@ module _ (T : Type 0) (t : TopologyView) (hosted : List ℕ) (steps : List Line)
 
   module _ (made left : List Act) (parts : made ++ left ≡ all_acts) where
     -- what was made tells a front of what is served
-    text_whole : (rest : List ℕ) × (whole_text ≡ text_of t (ends made).lines ++ rest)
+    text_whole : (rest : List ℕ) × (whole_text ≡ text_of t (tells made) ++ rest)
     text_whole =
-        let front = lines_front t hosted steps came closed (whole_logs records) made left parts in
-        (text_of t front.0, ap (text_of t) front.1 ∙ text_append t (ends made).lines front.0)
+        let front = told_front t hosted steps came closed (whole_logs records) (orders_of t) made left parts in
+        (text_of t front.0, ap (text_of t) front.1 ∙ text_append t (tells made) front.0)
 
-    front_whole : TakesFront taken taken' (text_of t (ends made).lines) → TakesFront taken taken' whole_text
+    front_whole : TakesFront taken taken' (text_of t (tells made)) → TakesFront taken taken' whole_text
     front_whole f =
         let rest = text_whole in
-        subst (TakesFront taken taken') (sym rest.1) (front-more taken taken' (text_of t (ends made).lines) rest.0 f)
+        subst (TakesFront taken taken') (sym rest.1) (front-more taken taken' (text_of t (tells made)) rest.0 f)
 
     -- and puts a front of the plan's entries
     begins_whole : Begins journal journal' (all_entries t hosted first made) → Begins journal journal' (all_entries t hosted first all_acts)
@@ -100,18 +106,18 @@ module _ (T : Type 0) (t : TopologyView) (hosted : List ℕ) (steps : List Line)
         }
 
     -- all was made
-    text_all : left ≡ [] → text_of t (ends made).lines ≡ whole_text
+    text_all : left ≡ [] → text_of t (tells made) ≡ whole_text
     text_all none =
-        ap (λ acts. text_of t (ends acts).lines) (sym (append-nil made) ∙ (ap (λ xs. made ++ xs) (sym none) ∙ parts))
-        ∙ ap (text_of t) (plan_lines t hosted steps came closed (whole_logs records))
+        ap (λ acts. text_of t (tells acts)) (sym (append-nil made) ∙ (ap (λ xs. made ++ xs) (sym none) ∙ parts))
+        ∙ ap (text_of t) (plan_told t hosted steps came closed (whole_logs records) (orders_of t))
 
-    reported : (q : Result T RunFault) → taken' ≡ with_more taken (text_of t (ends made).lines) → OnOk q (left ≡ []) → OnOk q (taken' ≡ with_more taken whole_text)
+    reported : (q : Result T RunFault) → taken' ≡ with_more taken (text_of t (tells made)) → OnOk q (left ≡ []) → OnOk q (taken' ≡ with_more taken whole_text)
     reported (Ok x) told none = told ∙ ap (with_more taken) (text_all none)
     reported (Err e) told none = tt
 
     -- It is known what was done
     pub carried : IsExact r → OnOk r (left ≡ []) → OnOk r ((closed ≡ true) ⊎ (length came ≡ turns)) → ((e : RunFault) → r ≡ Err e → IsRefused t e left)
-        → (posts → journal' ≡ journal ++ (all_entries t hosted first made ++ fault_entries r)) → taken' ≡ with_more taken (text_of t (ends made).lines)
+        → (posts → journal' ≡ journal ++ (all_entries t hosted first made ++ fault_entries r)) → taken' ≡ with_more taken (text_of t (tells made))
         → (keeps → KeepsLogs {T = T} t hosted steps (course made left) lanes lanes' r)
         → Serves {T = T} t hosted steps turns posts keeps journal journal' taken taken' lanes lanes' r
     carried exact whole ended refused sent told kept = record {
@@ -120,14 +126,14 @@ module _ (T : Type 0) (t : TopologyView) (hosted : List ℕ) (steps : List Line)
       posted = λ h. record { exact = λ _. sent h; front = λ unknown. absurd (unknown exact) };
       printed = record {
         report = reported r told whole;
-        front = on_err r (front_whole (record { part = text_of t (ends made).lines; rest = []; whole = sym (append-nil (text_of t (ends made).lines)); taken = told }));
+        front = on_err r (front_whole (record { part = text_of t (tells made); rest = []; whole = sym (append-nil (text_of t (tells made))); taken = told }));
         refused = on_err r (λ _. told);
       };
       kept = kept;
     }
 
     -- It is not: these acts tell and put a front, and no more is said
-    pub cut : (IsExact r → ⊥) → TakesFront taken taken' (text_of t (ends made).lines) → (posts → Begins journal journal' (all_entries t hosted first made))
+    pub cut : (IsExact r → ⊥) → TakesFront taken taken' (text_of t (tells made)) → (posts → Begins journal journal' (all_entries t hosted first made))
         → (keeps → LogsLast t hosted steps (course [] all_acts) lanes') → (keeps → OthersStay t hosted lanes lanes')
         → Serves {T = T} t hosted steps turns posts keeps journal journal' taken taken' lanes lanes' r
     cut unknown front begins since others = record {
@@ -168,7 +174,7 @@ pub record IsOpened (t : TopologyView) (hosted bs rest : List ℕ) (n : NodeView
   pub count : length n.brokers ≡ length t.brokers
 
 -- none yet
-pub none_opened : (t : TopologyView) (hosted : List ℕ) (n : NodeView) → n ≡ none_started (length t.brokers) → IsOpened t hosted [] hosted n
+pub none_opened : (t : TopologyView) (hosted : List ℕ) (n : NodeView) → n ≡ none_started t → IsOpened t hosted [] hosted n
 none_opened t hosted n e =
     let none = none_begun t n e in
     record { parts = refl; hosts = none.hosts; each = tt; offers = none.offers; now = none.now; count = none.count }
@@ -266,12 +272,27 @@ module _ (t : TopologyView) (hosted : List ℕ) (are : AreHosted t hosted) (bs r
       ∙ (ap (λ (s : Transition). followed_by s later) (binds_nothing net hosted (nodes t hosted) before)
       ∙ in_turn_append (act net hosted) (map starts bs) more before)
 
-  pub text_behind : (more : List Act) → text_of t (in_turn (act net hosted) (begun more) before).lines
-      ≡ text_of t (flat_map (start_lines t n) bs) ++ text_of t (in_turn (act net hosted) more started.world).lines
+  -- what was heard in one order, once these have started
+  abbrev pub heard : List Order
+  heard = fed (orders_of t) (flat_map (start_lines t n) bs)
+
+  begun_same : (in_turn (act net hosted) (bindings ++ map starts bs) before) ≡ started
+  begun_same =
+      in_turn_append (act net hosted) bindings (map starts bs) before
+      ∙ ap (λ (s : Transition). followed_by s (in_turn (act net hosted) (map starts bs))) (binds_nothing net hosted (nodes t hosted) before)
+
+  pub told_behind : (more : List Act) → told_by_acts net hosted before (orders_of t) (begun more)
+      ≡ flat_map (start_lines t n) bs ++ told_by_acts net hosted started.world heard more
+  told_behind more =
+      ap (told_by_acts net hosted before (orders_of t)) (sym (append_assoc bindings (map starts bs) more))
+      ∙ (begun_told net hosted (nodes t hosted) bs before (orders_of t) more
+      ∙ (ap (λ (s : Transition). s.lines ++ told_by_acts net hosted s.world (fed (orders_of t) s.lines) more) begun_same
+      ∙ ap (λ (ls : List Report). ls ++ told_by_acts net hosted started.world (fed (orders_of t) ls) more) opened.0))
+
+  pub text_behind : (more : List Act) → text_of t (told_by_acts net hosted before (orders_of t) (begun more))
+      ≡ text_of t (flat_map (start_lines t n) bs) ++ text_of t (told_by_acts net hosted started.world heard more)
   text_behind more =
-      let u : Transition = in_turn (act net hosted) more started.world in
-      ap (λ (s : Transition). text_of t s.lines) (turn_behind more)
-      ∙ (text_append t started.lines u.lines ∙ ap (λ ls. text_of t ls ++ text_of t u.lines) opened.0)
+      ap (text_of t) (told_behind more) ∙ text_append t (flat_map (start_lines t n) bs) (told_by_acts net hosted started.world heard more)
 
   pub entries_behind : (more : List Act) → all_entries t hosted before (begun more) ≡ bounds ++ all_entries t hosted started.world more
   entries_behind more =

@@ -114,6 +114,7 @@ started_wrote {T} t hosted n o taken taken' held held' before result no_post s w
     short = s.short;
     hosts = s.hosts;
     each = s.each;
+    heard = s.heard;
     damaged_next = s.damaged_next;
     told = λ exact. absurd (no_post (unwritten_post before u exact));
     front = same_front before (w.left u).1.0 s.front;
@@ -128,6 +129,7 @@ started_wrote {T} t hosted n o taken taken' held held' before result no_post s w
           short = s.short;
           hosts = s.hosts;
           each = s.each;
+          heard = s.heard;
           damaged_next = s.damaged_next;
           told = λ exact. but-all o.taken taken' text all;
           front = on_err before (front_all all);
@@ -139,6 +141,7 @@ started_wrote {T} t hosted n o taken taken' held held' before result no_post s w
       short = λ exact. absurd exact;
       hosts = s.hosts;
       each = s.each;
+      heard = tt;
       damaged_next = λ p at e. cc;
       told = λ exact. absurd exact;
       front = front-held o.taken taken taken' text held (s.told (written_exact before written)) failed.1;
@@ -301,7 +304,7 @@ ran_wrote {T} t hosted tells keeps lanes steps turns n n' o taken taken' held he
 -- What is shown after a run
 
 -- a fault of putting lines leaves open what was done
-put_unknown : (T : Type 0) (e : RunFault) → IsPutFault e → IsExact {T = T} (Err e) → ⊥
+pub put_unknown : (T : Type 0) (e : RunFault) → IsPutFault e → IsExact {T = T} (Err e) → ⊥
 put_unknown T run.Memory h exact = exact
 put_unknown T run.Write h exact = exact
 put_unknown T run.Disk h exact = h

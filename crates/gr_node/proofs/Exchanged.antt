@@ -17,6 +17,7 @@ use Rattle.gr_model.specs.declared.report.Report.{Report}
 use Rattle.gr_model.specs.NetOf.{net_of}
 use Rattle.gr_model.specs.Broker.{View}
 use Rattle.gr_model.specs.World.{sent_lines}
+use Rattle.gr_model.specs.Orders.{fed}
 use Rattle.gr_model_calls.specs.Edges.{GoesOverEdge}
 use Rattle.gr_broker_relay.specs.declared.outcome.Outcome.{Outcome}
 use Rattle.gr_broker.specs.Seen.{BrokerView, log_in, with_view, with_log, with_logged, is_broken, IsHosted}
@@ -44,7 +45,7 @@ some_within xs b s = go (cases_lt b (length xs))
 
 -- the node with other brokers
 abbrev pub with_brokers : NodeView → List (Option BrokerView) → NodeView
-with_brokers n bs = record { brokers = bs; offers = n.offers; now = n.now }
+with_brokers n bs = record { brokers = bs; offers = n.offers; now = n.now; orders = n.orders }
 
 -- No log of a broker is broken
 
@@ -192,12 +193,13 @@ module _ (t : TopologyView) (n : NodeView) (b : ℕ) (x after : BrokerView) (bs 
     named = subst (AllNamed t) (sym same) named;
     offers = refl;
     now = refl;
+    orders = refl;
     done = done ∙ ap₂ made (sym s.put) (sym same);
   }
     where
       made : List (Option BrokerView) → List Report → Done
       made l ls = record {
-        node = record { brokers = l; offers = n.offers + length frames; now = n.now };
+        node = record { brokers = l; offers = n.offers + length frames; now = n.now; orders = fed n.orders ls };
         lines = ls ++ sent_lines (suc n.offers) frames;
         entries = offers_of frames;
       }

@@ -36,9 +36,9 @@ use Rattle.gr_model.specs.Headline.{is_sent, sent_number}
 use Rattle.gr_model_theorems.specs.Served.{IsOfBytes, tells_bytes, number_of_bytes, IsHonestAt, IsHonest, IsHonestRun}
 use Rattle.gr_model_calls.proofs.rules.Serves.{frames_past_all}
 use Rattle.gr_model_theorems.proofs.headline.ReplyLines.{frame_told}
-use Rattle.gr_node.specs.Plan.{Call, gets, publishes, wakes, Act, binds, starts, arrives, calls, answers, drops, closes, shows, is_ours, ours, called, arrival_acts, acts_from, closing, nodes, plan, act, entry_of, offers_of, reply_to, reply_entry, entries, all_entries}
+use Rattle.gr_node.specs.Plan.{Call, gets, publishes, wakes, Act, binds, starts, arrives, calls, answers, drops, settles, closes, shows, is_ours, ours, called, arrival_acts, acts_from, closing, nodes, plan, act, entry_of, offers_of, reply_to, reply_entry, entries, all_entries}
 use Rattle.gr_node.specs.Served.{is_offer_to, IsHonestEntry, IsHonestJournal}
-use Rattle.gr_node.proofs.Opening.{all_entries_append}
+use Rattle.gr_node.proofs.Opening.{all_entries_append, settled_entries}
 use Rattle.gr_node.proofs.Planned.{arrival_is, passed_over, none_taken, ours_more, ours_same, begun_as}
 
 -- What entries offer, lines tell
@@ -186,6 +186,7 @@ act_told t hosted w (calls c) = (called_tells (net_of t) w c).sent
 act_told t hosted w (answers x) = let l : Log = log_of w x.0 in
     told_one (reply_entry t l.last x) [] (no_reply (host_of t x.0) (client_node x.0) (reply_to l.last x))
 act_told t hosted w (drops l) = told_none (l ∷ [])
+act_told t hosted w settles = told_none []
 act_told t hosted w closes = record { tells = λ c bytes plain e. absurd (true≢false (sym e)) }
 act_told t hosted w shows = told_none _
 
@@ -306,11 +307,12 @@ honest_run t hosted steps came closed logs h =
     let s : Transition = in_turn (act net hosted) begun w in
     let before : List Entry = all_entries t hosted w begun in
     let after : List Entry = all_entries t hosted s.world (acts ++ more) in
-    let is : plan t hosted steps came closed ≡ begun ++ (acts ++ more) =
-    ap (λ (z : List Act). bound ++ (map starts hosted ++ z)) (append_assoc acts (closing closed) (shows ∷ []))
-    ∙ sym (append_assoc bound (map starts hosted) (acts ++ more)) in
+    let is : plan t hosted steps came closed ≡ begun ++ (settles ∷ (acts ++ more)) =
+    ap (λ (z : List Act). bound ++ (map starts hosted ++ (settles ∷ z))) (append_assoc acts (closing closed) (shows ∷ []))
+    ∙ sym (append_assoc bound (map starts hosted) (settles ∷ (acts ++ more))) in
     let parts : IsHonestJournal [] (before ++ after) =
-    subst (IsHonestJournal []) (ap (all_entries t hosted w) is ∙ all_entries_append t hosted w begun (acts ++ more)) h in
+    subst (IsHonestJournal []) (ap (all_entries t hosted w) is ∙ (all_entries_append t hosted w begun (settles ∷ (acts ++ more))
+    ∙ ap (λ (es : List Entry). before ++ es) (settled_entries t hosted s.world (acts ++ more)))) h in
     subst (λ (u : Transition). IsHonest u.lines (ours hosted came) (served_from net hosted u.world left (ours hosted came)))
     (begun_as net hosted (nodes t hosted) logs)
     (arrivals_honest t hosted left came more s.world before s.lines (acts_told t hosted begun w) (honest_past [] before after parts))

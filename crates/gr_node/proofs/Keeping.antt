@@ -1,12 +1,16 @@
 -- What stays of a node when one of its brokers is called: who is hosted, and what holds between two calls
-use Rattle.std.proofs.Common.{◌≡◌, ℕ, zero, suc, List, [], ◌∷◌, get_or, set, Option, Some, None, is_some, Result, Ok, Err, OnOk, refl, sym, ap, ◌∙◌}
+use Rattle.std.proofs.Common.{◌≡◌, ℕ, zero, suc, List, [], ◌∷◌, get_or, set, Option, Some, None, is_some, Result, Ok, Err, OnOk, refl, sym, ap, ◌∙◌, subst}
+use Rattle.gr_out.specs.declared.fault.RunFault.{RunFault}
+use Rattle.gr_out.specs.Lane.{Lane}
 use Rattle.gr_topo.specs.Topology.{TopologyView}
+use Rattle.gr_model.specs.Orders.{Order, AreOrdersOf, fed, without_ordered}
+use Rattle.gr_model.proofs.Ordering.{fed_keeps, rested_keeps}
 use Rattle.gr_broker_relay.specs.declared.outcome.Outcome.{Outcome}
 use Rattle.gr_broker.specs.Seen.{BrokerView}
 use Rattle.gr_node.specs.Seen.{NodeView, broker_in}
-use Rattle.gr_node.specs.Of.{NodeFits, Hosts, IsSet}
+use Rattle.gr_node.specs.Of.{NodeFits, Hosts, IsSet, AllStand}
 use Rattle.gr_node.specs.Plan.{Call, gets, publishes, wakes}
-use Rattle.gr_node.specs.Done.{Done, broker_of, call_done, done_by, done_at}
+use Rattle.gr_node.specs.Done.{Done, settled, broker_of, call_done, done_by, done_at}
 use Rattle.gr_node.specs.Went.{Makes}
 
 -- what holds anyhow holds after Ok
@@ -41,11 +45,30 @@ call_keeps t n c k = by_keeps t n (broker_of t c) (broker_in n (broker_of t c)) 
 pub hosts_on : (t : TopologyView) (hosted : List ℕ) (n n₁ : NodeView) (c : Call) (told : Outcome) → Makes t n c n₁ told → Hosts hosted n → Hosts hosted n₁
 hosts_on t hosted n n₁ c told m h = λ b. sym (ap (λ (d : Done). is_some (broker_in d.node b)) m.done) ∙ call_keeps t n c b ∙ h b
 
--- how many frames were offered is no matter of what fits
-pub fits_counted : (t : TopologyView) (n : NodeView) (offers : ℕ) → NodeFits t n → NodeFits t (record { brokers = n.brokers; offers = offers; now = n.now })
-fits_counted t n offers f = record { count = f.count; now = f.now; fits = f.fits; numbered = f.numbered; whole = f.whole }
+-- how many frames were offered, and what was heard in one order, is no matter of what fits
+pub fits_counted : (t : TopologyView) (n : NodeView) (offers : ℕ) (os : List Order) → NodeFits t n → NodeFits t (record { brokers = n.brokers; offers = offers; now = n.now; orders = os })
+fits_counted t n offers os f = record { count = f.count; now = f.now; fits = f.fits; numbered = f.numbered; whole = f.whole }
 
--- so the node is set after a call, whatever was offered since
-pub set_on : (t : TopologyView) (hosted : List ℕ) (n n₁ : NodeView) (c : Call) (told : Outcome) (offers : ℕ) → Makes t n c n₁ told → NodeFits t n₁ → IsSet t hosted n
-    → IsSet t hosted (record { brokers = n₁.brokers; offers = offers; now = n₁.now })
-set_on t hosted n n₁ c told offers m f s = record { fits = fits_counted t n₁ offers f; hosts = hosts_on t hosted n n₁ c told m s.hosts }
+-- so the node is set after a call, whatever was offered since, once its lines are heard
+pub set_on : {T : Type 0} (t : TopologyView) (hosted : List ℕ) (n n₁ : NodeView) (c : Call) (told : Outcome) (offers : ℕ) (os : List Order) (r : Result T RunFault)
+    → Makes t n c n₁ told → NodeFits t n₁ → OnOk r (os ≡ fed n₁.orders told.reports) → IsSet t hosted n
+    → OnOk r (IsSet t hosted (record { brokers = n₁.brokers; offers = offers; now = n₁.now; orders = os }))
+set_on t hosted n n₁ c told offers os (Ok x) m f heard s = record {
+  fits = fits_counted t n₁ offers os f;
+  hosts = hosts_on t hosted n n₁ c told m s.hosts;
+  orders = subst (AreOrdersOf t) (sym heard) (fed_keeps t n₁.orders told.reports (subst (AreOrdersOf t) (sym m.orders) s.orders));
+}
+set_on t hosted n n₁ c told offers os (Err e) m f heard s = tt
+
+-- and once what is ready in one order was taken out
+pub set_settled : (t : TopologyView) (hosted : List ℕ) (n : NodeView) → IsSet t hosted n → IsSet t hosted (settled n)
+set_settled t hosted n s = record { fits = fits_counted t n n.offers (without_ordered n.orders) s.fits; hosts = s.hosts; orders = rested_keeps t n.orders s.orders }
+
+pub set_then : {T : Type 0} (t : TopologyView) (hosted : List ℕ) (n n' : NodeView) (r : Result T RunFault) → OnOk r (n' ≡ settled n) → IsSet t hosted n → OnOk r (IsSet t hosted n')
+set_then t hosted n n' (Ok x) e s = subst (λ m. IsSet t hosted m) (sym e) (set_settled t hosted n s)
+set_then t hosted n n' (Err x) e s = tt
+
+-- which touches no lane
+pub stand_then : {T : Type 0} (lanes : ℕ → Lane) (n n' : NodeView) (r : Result T RunFault) → OnOk r (n' ≡ settled n) → AllStand lanes n → OnOk r (AllStand lanes n')
+stand_then lanes n n' (Ok x) e s = subst (λ m. AllStand lanes m) (sym e) s
+stand_then lanes n n' (Err x) e s = tt

@@ -19,12 +19,14 @@ pub mod StartingRuns
 pub mod Exchanged
 pub mod Called
 pub mod Receipts
+pub mod OneOrder
 pub mod Planned
 pub mod Honest
 pub mod Taken
 pub mod Moving
 pub mod Opening
 pub mod Acting
+pub mod ToldOrders
 pub mod Ended
 pub mod Courses
 pub mod CourseEnds

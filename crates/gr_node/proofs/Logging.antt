@@ -24,7 +24,7 @@ use Rattle.gr_model_calls.proofs.calls.HostCases.{publish_cases, news_of}
 use Rattle.gr_model_calls.proofs.calls.Calls.{learn_log}
 use Rattle.gr_model_theorems.proofs.records.Records.{core, receive_log, wake_core}
 use Rattle.gr_model_theorems.proofs.records.RecordLines.{Skips, host_lines, receive_none, publish_some, marking_none}
-use Rattle.gr_node.specs.Plan.{gets, publishes, wakes, Act, binds, starts, arrives, calls, answers, drops, closes, shows, is_ours, moment_of, act}
+use Rattle.gr_node.specs.Plan.{gets, publishes, wakes, Act, binds, starts, arrives, calls, answers, drops, settles, closes, shows, is_ours, moment_of, act}
 use Rattle.gr_node.specs.Submitted.{is_logged, logged_as, Logs}
 
 -- What was logged
@@ -401,6 +401,7 @@ act_grows p P net hosted w (calls (wakes b q)) below h =
     absorbed_grows p P w b q (wake net q b w.clock (view_of w b q) (log_of w q)) below (wake_called p P net q b w.clock (view_of w b q) (log_of w q))
 act_grows p P net hosted w (answers x) below h = grows_none p P w (unchanged w []) refl refl
 act_grows p P net hosted w (drops l) below h = grows_none p P w (unchanged w (l ∷ [])) refl (ap (λ (c : Bool). if c then l ∷ [] else []) h)
+act_grows p P net hosted w settles below h = grows_none p P w (unchanged w []) refl refl
 act_grows p P net hosted w closes below h = grows_none p P w (unchanged w []) refl refl
 act_grows p P net hosted w shows below h = grows_none p P w (unchanged w (show_hosted net hosted w)) refl (shown_unlogged p net hosted w)
 

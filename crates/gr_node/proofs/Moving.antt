@@ -1,6 +1,6 @@
 -- What a node does act by act is what the machine does: the broker that is called answers and leaves what the machine's call tells and
 -- leaves, so both tell, number and send the same
-use Rattle.std.proofs.Common.{◌≡◌, ◌≢◌, ◌⊎◌, inl, inr, ℕ, ◌+◌, ◌<◌, Bool, true, false, ◌&&◌, ◌||◌, List, [], ◌∷◌, ◌++◌, length, min, set, Option, Some, None, Result, Ok, Err, refl, sym, ap, ap₂, ◌∙◌, subst, arith, append-nil, flat_map}
+use Rattle.std.proofs.Common.{◌≡◌, ◌≢◌, ◌⊎◌, inl, inr, ℕ, suc, ◌+◌, ◌<◌, Bool, true, false, ◌&&◌, ◌||◌, List, [], ◌∷◌, ◌++◌, length, min, set, Option, Some, None, Result, Ok, Err, refl, sym, ap, ap₂, ◌∙◌, subst, arith, append-nil, flat_map}
 use Rattle.std.specs.Prelude.{is_some, nat_eq, nat_lt, if◌then◌else◌}
 use Rattle.std.specs.List.{AllByRecursion}
 use Rattle.std.proofs.lemmas.Bool.{cases_eq, eq-eqb, ne_eqb, eqb-true, ltb-true, and_parts, or_right, true≢false}
@@ -24,6 +24,7 @@ use Rattle.gr_model.specs.NetOf.{net_of}
 use Rattle.gr_model.specs.Broker.{View, Log, Outcome as MachineOutcome, empty_log, max_tick, publish, marking, wake, wake_host, wake_below, receive}
 use Rattle.gr_model.specs.World.{World, Transition, view_of, log_of, absorbed, unchanged, in_turn, frames_past, wake_for, wake_for_by, publish_now, publish_now_by, deliver_frame, deliver_frame_by}
 use Rattle.gr_model.specs.Arrivals.{Arrival, at_moment, fault_number, fits_broker, least_clash, clash_line, takes, takes_by, receives, receives_by, is_hosted, show_hosted}
+use Rattle.gr_model.specs.Orders.{Order, fed, without_ordered}
 use Rattle.gr_model_calls.proofs.rules.Serves.{frames_past_all}
 use Rattle.gr_model_theorems.proofs.server.CutEvents.{on_log}
 use Rattle.gr_broker.specs.Seen.{BrokerView, view_in, log_in, log_said, machine_log, with_view, with_logged}
@@ -35,10 +36,11 @@ use Rattle.gr_report.proofs.Along.{flat_map_same}
 use Rattle.gr_report.proofs.Passing.{PassesLog, PassesRest, wake_passes, receive_passes}
 use Rattle.gr_node.specs.Seen.{NodeView, broker_in, records_at, records_in}
 use Rattle.gr_node.specs.Of.{Hosts}
-use Rattle.gr_node.specs.Plan.{Call, gets, publishes, wakes, Act, binds, starts, arrives, calls, answers, drops, closes, shows, is_ours, moment_of, offers_of, reply_entry, called, act, entries, all_entries}
-use Rattle.gr_node.specs.Done.{Done, taken_up, receipt_lines, receipt_frames, done_by, done_at, call_done, log_shown, log_shown_in, logs_shown, doubt_shown, doubts_by, doubts_shown, shown, done, all_done}
+use Rattle.gr_node.specs.Plan.{Call, gets, publishes, wakes, Act, binds, starts, arrives, calls, answers, drops, settles, closes, shows, is_ours, moment_of, offers_of, reply_entry, called, act, entries, all_entries, told_by, heard_by, told_by_acts}
+use Rattle.gr_node.specs.Done.{Done, broker_of, taken_up, receipt_lines, receipt_frames, done_by, done_at, call_done, log_shown, log_shown_in, logs_shown, doubt_shown, doubts_by, doubts_shown, shown, done, all_done}
 pub use Rattle.gr_node.proofs.Taken.{IsShaped, IsNode}
-use Rattle.gr_node.proofs.Taken.{Does, offers_since, broker_here, said_by, exchanges_log, exchanges_view, logged_some, taken_is}
+use Rattle.gr_node.proofs.OneOrder.{IsUnheard, fed_nothing, fed_unheard, fed_sent, shown_unheard}
+use Rattle.gr_node.proofs.Taken.{node_heard, Does, offers_since, broker_here, said_by, exchanges_log, exchanges_view, logged_some, taken_is}
 
 -- Acts that a node may do
 
@@ -52,8 +54,9 @@ IsCallOf t hosted (wakes b p) = (is_among hosted b ≡ true) × (p < length t.pu
 abbrev pub IsActOf : TopologyView → List ℕ → Act → Type 0
 IsActOf t hosted (calls c) = IsCallOf t hosted c
 IsActOf t hosted (answers x) = IsCallOf t hosted (publishes x)
-IsActOf t hosted (drops l) = Unit {0}
+IsActOf t hosted (drops l) = IsUnheard l
 IsActOf t hosted (arrives a) = Unit {0}
+IsActOf t hosted settles = Unit {0}
 IsActOf t hosted closes = Unit {0}
 IsActOf t hosted shows = Unit {0}
 IsActOf t hosted (binds b) = ⊥
@@ -250,14 +253,14 @@ module _ (t : TopologyView) (hosted : List ℕ) (n : NodeView) (w : World) (i : 
   dropped_is b x l here = record {
     lines = refl;
     entries = ap offers_of (sym (ap (frames_past (length w.frames)) (sym (append-nil w.frames)) ∙ frames_past_all w.frames []));
-    node = subst (λ (m : NodeView). IsNode t m w) (sym same) i;
+    node = subst (λ (m : NodeView). IsNode t m w) (sym same) (node_heard t n w (fed n.orders (l ∷ [])) i);
     hosts = subst (λ (m : NodeView). Hosts hosted m) (sym same) h;
   }
     where
       made : List (Option BrokerView) → ℕ → NodeView
-      made bs k = record { brokers = bs; offers = k; now = n.now }
+      made bs k = record { brokers = bs; offers = k; now = n.now; orders = fed n.orders (l ∷ []) }
 
-      same : ◌≡◌ {A = NodeView} (record { brokers = set n.brokers b (Some x); offers = n.offers + 0; now = n.now }) n
+      same : made (set n.brokers b (Some x)) (n.offers + 0) ≡ made n.brokers n.offers
       same = ap₂ made (ap (set n.brokers b) (sym here) ∙ set-get_or n.brokers b None) (omega arith)
 
   module _ (passes : PassesLog) (rest : PassesRest) (b : ℕ) (x : BrokerView) (here : broker_in n b ≡ Some x) where
@@ -420,13 +423,37 @@ module _ (t : TopologyView) (hosted : List ℕ) (n : NodeView) (w : World) (i : 
       ∙ ap (λ (ls : List Report). line.Frames (length w.frames) ∷ (flat_map (λ p. log_lines p (log_of w p) (is_hosted net hosted p)) (numbers (length t.publishers)) ++ ls))
       (flat_map_each (doubts_shown t n) doubts_at hosted doubts_is))
 
+-- What is heard in one order
+
+-- of a call all its lines are heard, since those of its frames say nothing of it
+at_orders : (t : TopologyView) (n : NodeView) (b : ℕ) (x : BrokerView) (c : Call) → (done_at t n b x c).node.orders ≡ fed n.orders (done_at t n b x c).lines
+unfolding done_at
+at_orders t n b x (gets k r) =
+    let a : Receipt = receipt (net_of t) n.now x r in sym (fed_sent n.orders (receipt_lines b a) (suc n.offers) (receipt_frames a))
+at_orders t n b x (publishes y) =
+    let o : MachineOutcome = publish_at t x y.0 n.now y.1.0 y.1.1 in sym (fed_sent n.orders o.lines (suc n.offers) o.frames)
+at_orders t n b x (wakes k p) =
+    let o : MachineOutcome = wake_at t x p n.now in sym (fed_sent n.orders o.lines (suc n.offers) o.frames)
+
+by_orders : (t : TopologyView) (n : NodeView) (b : ℕ) (s : Option BrokerView) (c : Call) → (done_by t n b s c).node.orders ≡ fed n.orders (done_by t n b s c).lines
+by_orders t n b None c = sym (fed_nothing n.orders)
+by_orders t n b (Some x) c = at_orders t n b x c
+
+call_orders : (t : TopologyView) (n : NodeView) (c : Call) → (call_done t n c).node.orders ≡ fed n.orders (call_done t n c).lines
+unfolding call_done
+call_orders t n c = by_orders t n (broker_of t c) (broker_in n (broker_of t c)) c
+
 -- The acts
 
 -- an arrival moves both clocks
-arrival_node : (t : TopologyView) (hosted : List ℕ) (n : NodeView) (w : World) (a : Arrival) (q : Bool) → IsNode t n w
-    → IsNode t (if q then record { brokers = n.brokers; offers = n.offers; now = min (moment_of a) max_tick } else n) (if q then at_moment w (moment_of a) else w)
-arrival_node t hosted n w a false i = i
-arrival_node t hosted n w a true i = record {
+abbrev moved_clock : NodeView → Arrival → Bool → NodeView
+moved_clock n a q =
+    if q then record { brokers = n.brokers; offers = n.offers; now = min (moment_of a) max_tick; orders = n.orders } else n
+
+arrival_node : (t : TopologyView) (n : NodeView) (w : World) (a : Arrival) (q : Bool) → IsNode t n w
+    → IsNode t (moved_clock n a q) (if q then at_moment w (moment_of a) else w)
+arrival_node t n w a false i = i
+arrival_node t n w a true i = record {
   clock = refl;
   offers = i.offers;
   views = i.views;
@@ -438,53 +465,81 @@ arrival_node t hosted n w a true i = record {
   world_logs = i.world_logs;
 }
 
-arrival_hosts : (hosted : List ℕ) (n : NodeView) (a : Arrival) (q : Bool) → Hosts hosted n
-    → Hosts hosted (if q then record { brokers = n.brokers; offers = n.offers; now = min (moment_of a) max_tick } else n)
+arrival_hosts : (hosted : List ℕ) (n : NodeView) (a : Arrival) (q : Bool) → Hosts hosted n → Hosts hosted (moved_clock n a q)
 arrival_hosts hosted n a false h = h
 arrival_hosts hosted n a true h = h
 
+arrival_orders : (n : NodeView) (a : Arrival) (q : Bool) → (let m : NodeView = moved_clock n a q in m.orders) ≡ n.orders
+arrival_orders n a false = refl
+arrival_orders n a true = refl
+
+-- What an act does at a node is what it does to the machine, and tells what it tells with the lines of one order
+pub record Goes (t : TopologyView) (hosted : List ℕ) (n : NodeView) (w : World) (a : Act) : Type 0 where
+  pub told : (done t hosted n a).lines ≡ told_by (net_of t) hosted w n.orders a
+  pub heard : (done t hosted n a).node.orders ≡ heard_by (net_of t) hosted w n.orders a
+  pub puts : (done t hosted n a).entries ≡ entries t hosted w a
+  pub node : IsNode t (done t hosted n a).node (act (net_of t) hosted w a).world
+  pub hosts : Hosts hosted (done t hosted n a).node
+
 -- one act
 moved_by : (t : TopologyView) (hosted : List ℕ) (n : NodeView) (w : World) (a : Act) → PassesLog → PassesRest → IsNode t n w → Hosts hosted n → IsActOf t hosted a
-    → Does t hosted (done t hosted n a) (act (net_of t) hosted w a) (entries t hosted w a)
+    → Goes t hosted n w a
 unfolding done act entries
-moved_by t hosted n w (calls c) passes rest i h k = call_does t hosted n w i h passes rest c k
+moved_by t hosted n w (calls c) passes rest i h k =
+    let one = call_does t hosted n w i h passes rest c k in
+    record {
+      told = one.lines;
+      heard = call_orders t n c ∙ ap (fed n.orders) one.lines;
+      puts = one.entries;
+      node = one.node;
+      hosts = one.hosts;
+    }
 moved_by t hosted n w (arrives a) passes rest i h k = record {
-  lines = refl;
-  entries = refl;
-  node = arrival_node t hosted n w a (is_ours hosted a) i;
+  told = refl;
+  heard = arrival_orders n a (is_ours hosted a) ∙ sym (fed_nothing n.orders);
+  puts = refl;
+  node = arrival_node t n w a (is_ours hosted a) i;
   hosts = arrival_hosts hosted n a (is_ours hosted a) h;
 }
 moved_by t hosted n w (answers x) passes rest i h k = record {
-  lines = refl;
-  entries = ap (λ (l : Log). reply_entry t l.last x ∷ []) (hosted_log t hosted n w i h x.0 k.0 k.1);
+  told = refl;
+  heard = sym (fed_nothing n.orders);
+  puts = ap (λ (l : Log). reply_entry t l.last x ∷ []) (hosted_log t hosted n w i h x.0 k.0 k.1);
   node = i;
   hosts = h;
 }
-moved_by t hosted n w (drops l) passes rest i h k = record { lines = refl; entries = refl; node = i; hosts = h }
-moved_by t hosted n w closes passes rest i h k = record { lines = refl; entries = refl; node = i; hosts = h }
-moved_by t hosted n w shows passes rest i h k = record { lines = shown_is t hosted n w i h; entries = refl; node = i; hosts = h }
+moved_by t hosted n w (drops l) passes rest i h k = record { told = refl; heard = sym (fed_unheard n.orders (l ∷ []) (k, tt)); puts = refl; node = i; hosts = h }
+moved_by t hosted n w settles passes rest i h k = record { told = refl; heard = refl; puts = refl; node = node_heard t n w (without_ordered n.orders) i; hosts = h }
+moved_by t hosted n w closes passes rest i h k = record { told = refl; heard = sym (fed_nothing n.orders); puts = refl; node = i; hosts = h }
+moved_by t hosted n w shows passes rest i h k = record {
+  told = shown_is t hosted n w i h;
+  heard = sym (fed_unheard n.orders (show_hosted (net_of t) hosted w) (shown_unheard (net_of t) hosted w));
+  puts = refl;
+  node = i;
+  hosts = h;
+}
 moved_by t hosted n w (binds b) passes rest i h k = absurd k
 moved_by t hosted n w (starts b) passes rest i h k = absurd k
 
 -- Acts, one after another
 pub record Moved (t : TopologyView) (hosted : List ℕ) (n : NodeView) (w : World) (acts : List Act) : Type 0 where
-  pub lines : (all_done t hosted n acts).lines ≡ (in_turn (act (net_of t) hosted) acts w).lines
+  pub told : (all_done t hosted n acts).lines ≡ told_by_acts (net_of t) hosted w n.orders acts
   pub entries : (all_done t hosted n acts).entries ≡ all_entries t hosted w acts
   pub node : IsNode t (all_done t hosted n acts).node (in_turn (act (net_of t) hosted) acts w).world
   pub hosts : Hosts hosted (all_done t hosted n acts).node
 
 pub moves_all : (t : TopologyView) (hosted : List ℕ) (n : NodeView) (w : World) (acts : List Act) → PassesLog → PassesRest → IsNode t n w → Hosts hosted n
     → AllByRecursion (IsActOf t hosted) acts → Moved t hosted n w acts
-unfolding all_done all_entries
-moves_all t hosted n w [] passes rest i h k = record { lines = refl; entries = refl; node = i; hosts = h }
+unfolding all_done all_entries told_by_acts
+moves_all t hosted n w [] passes rest i h k = record { told = refl; entries = refl; node = i; hosts = h }
 moves_all t hosted n w (a ∷ acts) passes rest i h k =
     let d : Done = done t hosted n a in
     let u : Transition = act (net_of t) hosted w a in
     let one = moved_by t hosted n w a passes rest i h k.0 in
     let more = moves_all t hosted d.node u.world acts passes rest one.node one.hosts k.1 in
     record {
-      lines = ap₂ (λ (xs ys : List Report). xs ++ ys) one.lines more.lines;
-      entries = ap₂ (λ (xs ys : List Entry). xs ++ ys) one.entries more.entries;
+      told = ap₂ (λ (xs ys : List Report). xs ++ ys) one.told (more.told ∙ ap (λ (os : List Order). told_by_acts (net_of t) hosted u.world os acts) one.heard);
+      entries = ap₂ (λ (xs ys : List Entry). xs ++ ys) one.puts more.entries;
       node = more.node;
       hosts = more.hosts;
     }

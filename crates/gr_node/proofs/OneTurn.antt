@@ -1,4 +1,4 @@
--- One turn of a run: what came is an act, then come those that it leads to, and then the page is written
+-- One turn of a run: what came is an act, then come those that it leads to, and with the last of them the page is written
 use Rattle.std.proofs.Common.{◌≡◌, ℕ, Bool, true, false, min, List, [], ◌∷◌, ◌++◌, map, drop, Option, Result, Ok, Err, IsOkUnless, OnOk, OnErr, if◌then◌else◌, refl, sym, ap, ◌∙◌, subst, arith, append-nil}
 use Rattle.gr_out.specs.declared.fault.RunFault.{RunFault}
 use Rattle.gr_out.specs.declared.fault.RunFault.TheVariants as run
@@ -15,7 +15,7 @@ use Rattle.gr_model.specs.Broker.{max_tick}
 use Rattle.gr_model.specs.Arrivals.{Arrival, datagram, quiet, Publish, publishes_of, left_after}
 use Rattle.gr_model_theorems.specs.Served.{IsOfBytes}
 use Rattle.gr_node.specs.Seen.{NodeView}
-use Rattle.gr_node.specs.Plan.{Act, arrives, calls, closes, datagram_acts, acts_of, quiet_calls, acts_from, closing, entry_of}
+use Rattle.gr_node.specs.Plan.{Act, arrives, calls, settles, closes, datagram_acts, led_to, quiet_calls, acts_from, closing, entry_of}
 use Rattle.gr_node.specs.Done.{at_arrival}
 use Rattle.gr_node.specs.Went.{Outside, outside, Went}
 use Rattle.gr_node.specs.Turns.{left_behind, Turned}
@@ -37,46 +37,46 @@ went_flushed t hosted tells acts n n' o taken taken' held held' journal (Err e) 
 -- that is for a broker elsewhere is passed over
 pub went_elsewhere : {T : Type 0} (t : TopologyView) (hosted : List ℕ) (tells : Type 0) (b : ℕ) (bytes : List ℕ) (moment : ℕ) (left : List Publish) (n n' : NodeView) (o o' : Outside) (r : Result T RunFault) → is_among hosted b ≡ false
     → Went {T = T} t hosted tells [] n n' o o' r
-    → Went {T = T} t hosted tells (acts_of (net_of t) hosted left (datagram b bytes moment)) (at_arrival hosted n (datagram b bytes moment)) n' o o' r
+    → Went {T = T} t hosted tells (led_to (net_of t) hosted left (datagram b bytes moment)) (at_arrival hosted n (datagram b bytes moment)) n' o o' r
 went_elsewhere {T} t hosted tells b bytes moment left n n' o o' r e w =
-    subst (λ (here : Bool). Went {T = T} t hosted tells (if here then datagram_acts (net_of t) b bytes else [])
-    (if here then record { brokers = n.brokers; offers = n.offers; now = min moment max_tick } else n) n' o o' r)
+    subst (λ (here : Bool). Went {T = T} t hosted tells ((if here then datagram_acts (net_of t) b bytes else []) ++ (if here then settles ∷ [] else []))
+    (if here then record { brokers = n.brokers; offers = n.offers; now = min moment max_tick; orders = n.orders } else n) n' o o' r)
     (sym e) w
 
--- one that is for a hosted broker is taken there, at its moment
+-- one that is for a hosted broker is taken there, at its moment, and then it is told what is ready in one order
 pub went_here : {T : Type 0} (t : TopologyView) (hosted : List ℕ) (tells : Type 0) (b : ℕ) (bytes : List ℕ) (moment now : ℕ) (left : List Publish) (n n' : NodeView) (o o' : Outside) (r : Result T RunFault) → is_among hosted b ≡ true
-    → now ≡ min moment max_tick → Went {T = T} t hosted tells (datagram_acts (net_of t) b bytes) (record { brokers = n.brokers; offers = n.offers; now = now }) n' o o' r
-    → Went {T = T} t hosted tells (acts_of (net_of t) hosted left (datagram b bytes moment)) (at_arrival hosted n (datagram b bytes moment)) n' o o' r
+    → now ≡ min moment max_tick → Went {T = T} t hosted tells (datagram_acts (net_of t) b bytes ++ settles ∷ []) (record { brokers = n.brokers; offers = n.offers; now = now; orders = n.orders }) n' o o' r
+    → Went {T = T} t hosted tells (led_to (net_of t) hosted left (datagram b bytes moment)) (at_arrival hosted n (datagram b bytes moment)) n' o o' r
 went_here {T} t hosted tells b bytes moment now left n n' o o' r e clock w =
-    subst (λ (here : Bool). Went {T = T} t hosted tells (if here then datagram_acts (net_of t) b bytes else [])
-    (if here then record { brokers = n.brokers; offers = n.offers; now = min moment max_tick } else n) n' o o' r)
+    subst (λ (here : Bool). Went {T = T} t hosted tells ((if here then datagram_acts (net_of t) b bytes else []) ++ (if here then settles ∷ [] else []))
+    (if here then record { brokers = n.brokers; offers = n.offers; now = min moment max_tick; orders = n.orders } else n) n' o o' r)
     (sym e)
-    (subst (λ k. Went {T = T} t hosted tells (datagram_acts (net_of t) b bytes) (record { brokers = n.brokers; offers = n.offers; now = k }) n' o o' r) clock w)
+    (subst (λ k. Went {T = T} t hosted tells (datagram_acts (net_of t) b bytes ++ settles ∷ []) (record { brokers = n.brokers; offers = n.offers; now = k; orders = n.orders }) n' o o' r) clock w)
 
--- A quiet moment: the clock moves, and then come its acts
+-- A quiet moment: the clock moves, and then come its acts, and what is ready in one order
 pub went_quiet : {T : Type 0} (t : TopologyView) (hosted : List ℕ) (tells : Type 0) (left : List Publish) (moment now : ℕ) (n n' : NodeView) (o o' : Outside) (r : Result T RunFault) → now ≡ min moment max_tick
-    → Went {T = T} t hosted tells (map calls (quiet_calls (net_of t) hosted left)) (record { brokers = n.brokers; offers = n.offers; now = now }) n' o o' r
-    → Went {T = T} t hosted tells (map calls (quiet_calls (net_of t) hosted left)) (at_arrival hosted n (quiet moment)) n' o o' r
+    → Went {T = T} t hosted tells (map calls (quiet_calls (net_of t) hosted left) ++ settles ∷ []) (record { brokers = n.brokers; offers = n.offers; now = now; orders = n.orders }) n' o o' r
+    → Went {T = T} t hosted tells (map calls (quiet_calls (net_of t) hosted left) ++ settles ∷ []) (at_arrival hosted n (quiet moment)) n' o o' r
 went_quiet {T} t hosted tells left moment now n n' o o' r e w =
-    subst (λ k. Went {T = T} t hosted tells (map calls (quiet_calls (net_of t) hosted left)) (record { brokers = n.brokers; offers = n.offers; now = k }) n' o o' r) e w
+    subst (λ k. Went {T = T} t hosted tells (map calls (quiet_calls (net_of t) hosted left) ++ settles ∷ []) (record { brokers = n.brokers; offers = n.offers; now = k; orders = n.orders }) n' o o' r) e w
 
 -- A turn
 
 -- the acts of an arrival alone
-acts_of_one : (t : TopologyView) (hosted : List ℕ) (left : List Publish) (a : Arrival) → (arrives a ∷ []) ++ acts_of (net_of t) hosted left a ≡ acts_from (net_of t) hosted left (a ∷ []) ++ closing false
+acts_of_one : (t : TopologyView) (hosted : List ℕ) (left : List Publish) (a : Arrival) → (arrives a ∷ []) ++ led_to (net_of t) hosted left a ≡ acts_from (net_of t) hosted left (a ∷ []) ++ closing false
 unfolding acts_from
 acts_of_one t hosted left a =
-    let acts : List Act = arrives a ∷ acts_of (net_of t) hosted left a in
+    let acts : List Act = arrives a ∷ led_to (net_of t) hosted left a in
     sym (append-nil (acts ++ []) ∙ append-nil acts)
 
 -- an arrival and then its acts, as far as code went
 came_on : {T : Type 0} (t : TopologyView) (hosted : List ℕ) (tells : Type 0) (left : List Publish) (a : Arrival) (n n' : NodeView) (taken : Option (List ℕ)) (held : List ℕ) (before came : List Entry) (o' : Outside) (r : Result T RunFault)
     → (tells → came ≡ before ++ entry_of a ∷ [])
-    → Went {T = T} t hosted tells (acts_of (net_of t) hosted left a) (at_arrival hosted n a) n' (outside taken held came) o' r
+    → Went {T = T} t hosted tells (led_to (net_of t) hosted left a) (at_arrival hosted n a) n' (outside taken held came) o' r
     → Went {T = T} t hosted tells (acts_from (net_of t) hosted left (a ∷ []) ++ closing false) n n' (outside taken held before) o' r
 came_on {T} t hosted tells left a n n' taken held before came o' r put w =
     subst (λ acts. Went {T = T} t hosted tells acts n n' (outside taken held before) o' r) (acts_of_one t hosted left a)
-    (went_on t hosted tells (arrives a ∷ []) (acts_of (net_of t) hosted left a) n (at_arrival hosted n a) n' (outside taken held before) (outside taken held came) o' r
+    (went_on t hosted tells (arrives a ∷ []) (led_to (net_of t) hosted left a) n (at_arrival hosted n a) n' (outside taken held before) (outside taken held came) o' r
     (made_arrives t hosted tells a n (at_arrival hosted n a) (outside taken held before) (outside taken held came) refl refl refl put) w)
 
 -- what is left after one arrival
@@ -87,7 +87,7 @@ left_one left a = refl
 -- A turn that took what came
 pub turned_on : (t : TopologyView) (hosted : List ℕ) (tells : Type 0) (steps : List Line) (next next' : ℕ) (a : Arrival) (n n' : NodeView) (taken : Option (List ℕ)) (held : List ℕ) (before came : List Entry) (o' : Outside) (x : Unit {0})
     → IsOfBytes a → (tells → came ≡ before ++ entry_of a ∷ [])
-    → Went {T = Unit {0}} t hosted tells (acts_of (net_of t) hosted (publishes_of (net_of t) hosted (drop next steps)) a) (at_arrival hosted n a) n' (outside taken held came) o' (Ok x)
+    → Went {T = Unit {0}} t hosted tells (led_to (net_of t) hosted (publishes_of (net_of t) hosted (drop next steps)) a) (at_arrival hosted n a) n' (outside taken held came) o' (Ok x)
     → publishes_of (net_of t) hosted (drop next' steps) ≡ left_after (publishes_of (net_of t) hosted (drop next steps)) a
     → Turned t hosted tells steps next next' n n' (outside taken held before) o' (Ok true)
 turned_on t hosted tells steps next next' a n n' taken held before came o' x bytes put w left =
@@ -106,7 +106,7 @@ turned_on t hosted tells steps next next' a n n' taken held before came o' x byt
 -- one that ended within what came
 pub turned_cut : (t : TopologyView) (hosted : List ℕ) (tells : Type 0) (steps : List Line) (next next' : ℕ) (a : Arrival) (n n' : NodeView) (taken : Option (List ℕ)) (held : List ℕ) (before came : List Entry) (o' : Outside) (e : RunFault)
     → IsOfBytes a → (tells → came ≡ before ++ entry_of a ∷ [])
-    → Went {T = Unit {0}} t hosted tells (acts_of (net_of t) hosted (publishes_of (net_of t) hosted (drop next steps)) a) (at_arrival hosted n a) n' (outside taken held came) o' (Err e)
+    → Went {T = Unit {0}} t hosted tells (led_to (net_of t) hosted (publishes_of (net_of t) hosted (drop next steps)) a) (at_arrival hosted n a) n' (outside taken held came) o' (Err e)
     → Turned t hosted tells steps next next' n n' (outside taken held before) o' (Err e)
 turned_cut t hosted tells steps next next' a n n' taken held before came o' e bytes put w =
     let all : List Act = acts_from (net_of t) hosted (publishes_of (net_of t) hosted (drop next steps)) (a ∷ []) ++ closing false in

@@ -29,7 +29,7 @@ use Rattle.gr_broker.proofs.Fresh.{opened_silent}
 use Rattle.gr_report.proofs.Along.{flat_map_same}
 use Rattle.gr_node.specs.Seen.{NodeView, broker_in, records_said, records_at, records_in}
 use Rattle.gr_node.specs.Of.{AreHosted}
-use Rattle.gr_node.specs.Plan.{Act, binds, starts, bound_entry, act, entries, all_entries}
+use Rattle.gr_node.specs.Plan.{Act, binds, starts, settles, bound_entry, act, entries, all_entries}
 use Rattle.gr_node.specs.Starting.{HasStarted, lines_of_start, start_lines}
 use Rattle.gr_node.proofs.Taken.{IsShaped, IsNode, some_is, said_by}
 
@@ -76,6 +76,15 @@ unfolding all_entries entries
 starts_entries t hosted [] w = refl
 starts_entries t hosted (b ∷ bs) w =
     let s : Transition = act (net_of t) hosted w (starts b) in starts_entries t hosted bs s.world
+
+-- to tell what is ready in one order changes nothing of the machine, and puts no entry
+pub settled_nothing : (net : Net) (hosted : List ℕ) (acts : List Act) (w : World) → in_turn (act net hosted) (settles ∷ acts) w ≡ in_turn (act net hosted) acts w
+unfolding act
+settled_nothing net hosted acts w = refl
+
+pub settled_entries : (t : TopologyView) (hosted : List ℕ) (w : World) (acts : List Act) → all_entries t hosted w (settles ∷ acts) ≡ all_entries t hosted w acts
+unfolding all_entries entries act
+settled_entries t hosted w acts = refl
 
 -- Brokers in a list
 

@@ -22,8 +22,8 @@ use Rattle.gr_model.specs.World.{World, Transition, unchanged, followed_by, in_t
 use Rattle.gr_model.specs.Opening.{over_logs, opened_for, publishers_at, opening, opening_by}
 use Rattle.gr_model.specs.Arrivals.{Arrival, datagram, quiet, Publish, publishes_of, left_after, at_moment, is_hosted, publisher_of, submitted_in, receives, notes, notes_by, reads, published_first, quieted, quieted_by, comes, comes_by, show_hosted, served_from, served_from_by, arrived, arrived_by, served, served_by}
 use Rattle.gr_model_theorems.specs.Served.{joined}
-use Rattle.gr_node.specs.Plan.{Act, binds, starts, calls, shows, gets, wakes, is_ours, ours, publish_calls, wake_calls, quiet_calls, submit_acts, note_acts, datagram_acts, arrival_acts, acts_from, closing, run_acts, nodes, plan, act}
-use Rattle.gr_node.proofs.Opening.{in_turn_append, binds_nothing}
+use Rattle.gr_node.specs.Plan.{Act, binds, starts, arrives, calls, settles, shows, gets, wakes, is_ours, ours, publish_calls, wake_calls, quiet_calls, submit_acts, note_acts, datagram_acts, acts_of, settling, arrival_acts, acts_from, closing, turn_acts, run_acts, nodes, plan, act}
+use Rattle.gr_node.proofs.Opening.{in_turn_append, binds_nothing, settled_nothing}
 
 -- One after another
 
@@ -134,23 +134,47 @@ read_as net hosted b bytes u = go (begins_note bytes)
     go false = followed_none (receives net u b (frame_decoded bytes))
 
 -- where it came at a hosted broker, or at a quiet moment, its acts are what the machine does
-pub arrival_is : (net : Net) (hosted : List ℕ) (left : List Publish) (a : Arrival) (w : World)
-    → is_ours hosted a ≡ true → in_turn (act net hosted) (arrival_acts net hosted left a) w ≡ comes net hosted w left a
+pub calls_are : (net : Net) (hosted : List ℕ) (left : List Publish) (a : Arrival) (w : World)
+    → is_ours hosted a ≡ true → in_turn (act net hosted) (arrives a ∷ acts_of net hosted left a) w ≡ comes net hosted w left a
 unfolding act comes_by
-arrival_is net hosted left (datagram b bytes moment) w e =
+calls_are net hosted left (datagram b bytes moment) w e =
     ap (λ (c : Bool). followed_by (unchanged (if c then at_moment w moment else w) [])
     (in_turn (act net hosted) (if c then datagram_acts net b bytes else []))) e
     ∙ read_as net hosted b bytes (at_moment w moment)
-arrival_is net hosted left (quiet moment) w e = quieted_as net hosted left (at_moment w moment)
+calls_are net hosted left (quiet moment) w e = quieted_as net hosted left (at_moment w moment)
 
 -- and where it came at another they do nothing
-pub passed_over : (net : Net) (hosted : List ℕ) (left : List Publish) (a : Arrival) (w : World)
-    → is_ours hosted a ≡ false → in_turn (act net hosted) (arrival_acts net hosted left a) w ≡ unchanged w []
+pub no_calls : (net : Net) (hosted : List ℕ) (left : List Publish) (a : Arrival) (w : World)
+    → is_ours hosted a ≡ false → in_turn (act net hosted) (arrives a ∷ acts_of net hosted left a) w ≡ unchanged w []
 unfolding act
-passed_over net hosted left (datagram b bytes moment) w e =
+no_calls net hosted left (datagram b bytes moment) w e =
     ap (λ (c : Bool). followed_by (unchanged (if c then at_moment w moment else w) [])
     (in_turn (act net hosted) (if c then datagram_acts net b bytes else []))) e
-passed_over net hosted left (quiet moment) w e = absurd (true≢false e)
+no_calls net hosted left (quiet moment) w e = absurd (true≢false e)
+
+-- what is told of one order then is none of the machine's
+settling_nothing : (net : Net) (hosted : List ℕ) (a : Arrival) (w : World) → in_turn (act net hosted) (settling hosted a) w ≡ unchanged w []
+settling_nothing net hosted a w = go (is_ours hosted a)
+  where
+    go : (c : Bool) → in_turn (act net hosted) (if c then settles ∷ [] else []) w ≡ unchanged w []
+    go true = settled_nothing net hosted [] w
+    go false = refl
+
+pub led_is : (net : Net) (hosted : List ℕ) (left : List Publish) (a : Arrival) (w : World)
+    → in_turn (act net hosted) (arrival_acts net hosted left a) w ≡ in_turn (act net hosted) (arrives a ∷ acts_of net hosted left a) w
+led_is net hosted left a w =
+    let first : Transition = in_turn (act net hosted) (arrives a ∷ acts_of net hosted left a) w in
+    let later : World → Transition = in_turn (act net hosted) (settling hosted a) in
+    in_turn_append (act net hosted) (arrives a ∷ acts_of net hosted left a) (settling hosted a) w
+    ∙ (followed_same first later (λ u. unchanged u []) (settling_nothing net hosted a first.world) ∙ followed_none first)
+
+pub arrival_is : (net : Net) (hosted : List ℕ) (left : List Publish) (a : Arrival) (w : World)
+    → is_ours hosted a ≡ true → in_turn (act net hosted) (arrival_acts net hosted left a) w ≡ comes net hosted w left a
+arrival_is net hosted left a w e = led_is net hosted left a w ∙ calls_are net hosted left a w e
+
+pub passed_over : (net : Net) (hosted : List ℕ) (left : List Publish) (a : Arrival) (w : World)
+    → is_ours hosted a ≡ false → in_turn (act net hosted) (arrival_acts net hosted left a) w ≡ unchanged w []
+passed_over net hosted left a w e = led_is net hosted left a w ∙ no_calls net hosted left a w e
 
 -- such an arrival takes no publish
 pub none_taken : (hosted : List ℕ) (left : List Publish) (a : Arrival) → is_ours hosted a ≡ false → left_after left a ≡ left
@@ -237,9 +261,10 @@ came_as net hosted steps came closed w =
     let left = publishes_of net hosted steps in
     let s : Transition = all_come net hosted left (ours hosted came) w in
     let ending : World → Transition = in_turn (act net hosted) (closing closed) in
-    in_turn_append (act net hosted) (acts_from net hosted left came) (closing closed) w
+    settled_nothing net hosted (turn_acts net hosted steps came closed) w
+    ∙ (in_turn_append (act net hosted) (acts_from net hosted left came) (closing closed) w
     ∙ (ap (λ (t : Transition). followed_by t ending) (acts_are_arrived net hosted left came w)
-    ∙ (followed_same s ending (λ v. unchanged v []) (closed_nothing net hosted closed s.world) ∙ followed_none s))
+    ∙ (followed_same s ending (λ v. unchanged v []) (closed_nothing net hosted closed s.world) ∙ followed_none s)))
 
 -- what is shown at last
 shown_at_last : (net : Net) (hosted : List ℕ) (w : World)
@@ -318,18 +343,3 @@ plan_world t hosted steps came closed logs =
     let o : Transition = opening net hosted logs in
     ap (λ (s : Transition). s.world) (plan_is_served t hosted steps came closed logs)
     ∙ arrived_is net hosted (publishes_of net hosted steps) (ours hosted came) o.world
-
--- The acts that were made of a plan tell the first of these lines
-pub lines_front : (t : TopologyView) (hosted : List ℕ) (steps : List Line) (came : List Arrival) (closed : Bool) (logs : List Log)
-    (made left : List Act) → made ++ left ≡ plan t hosted steps came closed
-    → (rest : List Report) × (joined (served (net_of t) hosted logs steps (ours hosted came))
-    ≡ (in_turn (act (net_of t) hosted) made (over_logs (net_of t) logs)).lines ++ rest)
-lines_front t hosted steps came closed logs made left e =
-    let w : World = over_logs (net_of t) logs in
-    let done : World → Act → Transition = act (net_of t) hosted in
-    let s : Transition = in_turn done made w in
-    let r : Transition = in_turn done left s.world in (
-      r.lines,
-      sym (plan_lines t hosted steps came closed logs) ∙ (ap (λ (acts : List Act). (in_turn done acts w).lines) (sym e)
-          ∙ ap (λ (u : Transition). u.lines) (in_turn_append done made left w)),
-    )

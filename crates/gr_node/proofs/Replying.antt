@@ -24,7 +24,7 @@ use Rattle.gr_model.specs.NetOf.{net_of}
 use Rattle.gr_model.specs.Broker.{Log}
 use Rattle.gr_model.specs.World.{World, Transition, log_of, in_turn, sent_since}
 use Rattle.gr_model.specs.Arrivals.{Publish, datagram, quiet}
-use Rattle.gr_node.specs.Plan.{Act, binds, starts, arrives, calls, answers, drops, closes, shows, called, act, offers_of, reply_to, entries, all_entries}
+use Rattle.gr_node.specs.Plan.{Act, binds, starts, arrives, calls, answers, drops, settles, closes, shows, called, act, offers_of, reply_to, entries, all_entries}
 use Rattle.gr_node.specs.Submitted.{offers_next}
 use Rattle.gr_node.proofs.Logging.{IsFine, act_grows, acts_grow}
 
@@ -134,6 +134,7 @@ module _ (t : TopologyView) (hosted : List ℕ) (p n : ℕ) (small : n < 2 ^ 64)
           subst (λ k. let l : Log = log_of w k in n ≤ suc l.last) same (reply_says p n m.last x small bytes)
       go (inr h) = absurd (true≢false (sym h))
   act_says w (drops l) e = absurd (true≢false (sym e))
+  act_says w settles e = absurd (true≢false (sym e))
   act_says w closes e = absurd (true≢false (sym e))
   act_says w shows e = absurd (true≢false (sym e))
 

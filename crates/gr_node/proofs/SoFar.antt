@@ -1,21 +1,25 @@
 -- A run, turn by turn: what came so far was taken, and the next turn takes what comes then
-use Rattle.std.proofs.Common.{◌≡◌, ◌≢◌, ◌⊎◌, inl, inr, ℕ, ◌+◌, ◌<◌, ◌≤◌, Bool, true, false, List, [], ◌∷◌, ◌++◌, length, drop, Result, Ok, Err, OnOk, refl, sym, ap, ap₂, ◌∙◌, subst, arith, append_assoc, append-nil, length-append}
+use Rattle.std.proofs.Common.{◌≡◌, ◌≢◌, ◌⊎◌, inl, inr, ℕ, ◌+◌, ◌<◌, ◌≤◌, Bool, true, false, List, [], ◌∷◌, ◌++◌, length, drop, Option, Result, Ok, Err, OnOk, refl, sym, ap, ap₂, ◌∙◌, subst, arith, append_assoc, append-nil, length-append}
 use Rattle.std.specs.List.{AllByRecursion}
 use Rattle.gr_out.specs.declared.fault.RunFault.{RunFault}
 use Rattle.gr_out.specs.declared.fault.RunFault.TheVariants as run
+use Rattle.gr_out.specs.Entry.{Entry}
+use Rattle.gr_out.specs.Page.{TakesFront}
 use Rattle.gr_out.proofs.Fronts.{front-nothing}
 use Rattle.gr_topo.specs.Topology.{TopologyView}
 use Rattle.gr_sched.specs.declared.step.Line.{Line}
 use Rattle.gr_model.specs.Net.{Net}
 use Rattle.gr_model.specs.NetOf.{net_of}
 use Rattle.gr_model.specs.Arrivals.{Arrival, Publish, publishes_of, left_after}
+use Rattle.gr_model.specs.Orders.{ordered}
 use Rattle.gr_model_theorems.specs.Served.{IsOfBytes}
-use Rattle.gr_node.specs.Seen.{NodeView}
-use Rattle.gr_node.specs.Plan.{Act, arrival_acts, acts_from, closing, run_acts}
-use Rattle.gr_node.specs.Went.{Outside, Went, IsExact}
+use Rattle.gr_report.specs.Named.{IsPutFault}
+use Rattle.gr_node.specs.Seen.{NodeView, text_of}
+use Rattle.gr_node.specs.Plan.{Act, settles, arrival_acts, acts_from, closing, turn_acts, run_acts}
+use Rattle.gr_node.specs.Went.{Outside, outside, Went, IsExact}
 use Rattle.gr_node.specs.Turns.{left_behind, Turned}
 use Rattle.gr_node.proofs.Acting.{all_append}
-use Rattle.gr_node.proofs.Wending.{MadeAll, made_none, all_made, went_ok, went_on, went_as, went_front, begins_nothing}
+use Rattle.gr_node.proofs.Wending.{MadeAll, made_none, all_made, went_ok, went_on, went_cut, went_as, went_front, went_settles, begins_nothing}
 
 -- what is left after more came
 left_later : (left : List Publish) (came more : List Arrival) → left_behind (left_behind left came) more ≡ left_behind left (came ++ more)
@@ -50,7 +54,7 @@ none_came t hosted tells steps next n o P e h = record { came = []; length_is = 
 turn_on : {T : Type 0} (t : TopologyView) (hosted : List ℕ) (tells : Type 0) (steps : List Line) (next count : ℕ) (n m n' : NodeView) (o u o' : Outside) (P : List Arrival → Type 0) (came : List Arrival) (shut : Bool) (r : Result T RunFault)
     → (s : SoFar t hosted tells steps next count n m o u P)
     → Went {T = T} t hosted tells (acts_from (net_of t) hosted (publishes_of (net_of t) hosted (drop next steps)) came ++ closing shut) m n' u o' r
-    → Went {T = T} t hosted tells (run_acts (net_of t) hosted steps (s.came ++ came) shut) n n' o o' r
+    → Went {T = T} t hosted tells (turn_acts (net_of t) hosted steps (s.came ++ came) shut) n n' o o' r
 turn_on {T} t hosted tells steps next count n m n' o u o' P came shut r s w =
     let before : List Act = acts_from (net_of t) hosted (publishes_of (net_of t) hosted steps) s.came in
     let later : List Act = acts_from (net_of t) hosted (left_behind (publishes_of (net_of t) hosted steps) s.came) came in
@@ -64,7 +68,7 @@ pub more_came : (t : TopologyView) (hosted : List ℕ) (tells : Type 0) (steps :
     → Turned t hosted tells steps next next' m n' u o' (Ok goes_on) → ((more : List Arrival) → length more ≤ 1 → Q (s.came ++ more)) → SoFar t hosted tells steps next' (count + 1) n n' o o' Q
 more_came t hosted tells steps next next' count n m n' o u o' P Q goes_on e s turned holds =
     let w : Turned t hosted tells steps next next' m n' u o' (Ok true) = subst (λ (b : Bool). Turned t hosted tells steps next next' m n' u o' (Ok b)) e turned in
-    let went : Went {T = Bool} t hosted tells (run_acts (net_of t) hosted steps (s.came ++ w.came) w.shut) n n' o o' (Ok true) = turn_on t hosted tells steps next count n m n' o u o' P w.came w.shut (Ok true) s w.went in
+    let went : Went {T = Bool} t hosted tells (turn_acts (net_of t) hosted steps (s.came ++ w.came) w.shut) n n' o o' (Ok true) = turn_on t hosted tells steps next count n m n' o u o' P w.came w.shut (Ok true) s w.went in
     let all : List Act = acts_from (net_of t) hosted (publishes_of (net_of t) hosted steps) (s.came ++ w.came) in
     record {
       came = s.came ++ w.came;
@@ -72,7 +76,7 @@ more_came t hosted tells steps next next' count n m n' o u o' P Q goes_on e s tu
       bytes = all_append IsOfBytes s.came w.came s.bytes w.bytes;
       left = w.left ∙ ap (λ left. left_behind left w.came) s.left ∙ left_later (publishes_of (net_of t) hosted steps) s.came w.came;
       goes = subst (λ acts. MadeAll t hosted tells acts n n' o o') (ap (λ shut. all ++ closing shut) w.ends.1 ∙ append-nil all)
-          (all_made t hosted tells (run_acts (net_of t) hosted steps (s.came ++ w.came) w.shut) n n' o o' true went);
+          (all_made t hosted tells (turn_acts (net_of t) hosted steps (s.came ++ w.came) w.shut) n n' o o' true went);
       stood = holds w.came (omega (arith, w.ends.0));
     }
 
@@ -80,7 +84,7 @@ more_came t hosted tells steps next next' count n m n' o u o' P Q goes_on e s tu
 abbrev pub Ran : (t : TopologyView) (hosted : List ℕ) (tells : Type 0) (steps : List Line) (turns : ℕ) (n n' : NodeView) (o o' : Outside) (P : List Arrival → Type 0) (result : Result (Unit {0}) RunFault) → Type 0
 Ran t hosted tells steps turns n n' o o' P result =
     (came : List Arrival) × ((shut : Bool) × ((length came ≤ turns) × (AllByRecursion IsOfBytes came × (OnOk result ((shut ≡ true) ⊎ (length came ≡ turns))
-    × (Went {T = Unit {0}} t hosted tells (run_acts (net_of t) hosted steps came shut) n n' o o' result × P came)))))
+    × (Went {T = Unit {0}} t hosted tells (turn_acts (net_of t) hosted steps came shut) n n' o o' result × P came)))))
 
 -- with as many turns as it may have
 pub ran_all : (t : TopologyView) (hosted : List ℕ) (tells : Type 0) (steps : List Line) (next count turns : ℕ) (n n' : NodeView) (o o' : Outside) (P : List Arrival → Type 0) (x : Unit {0}) → count ≡ turns → SoFar t hosted tells steps next count n n' o o' P
@@ -112,7 +116,7 @@ pub ran_shut : (t : TopologyView) (hosted : List ℕ) (tells : Type 0) (steps : 
     → Turned t hosted tells steps next next' m n' u o' (Ok goes_on) → ((more : List Arrival) → length more ≤ 1 → Q (s.came ++ more)) → Ran t hosted tells steps turns n n' o o' Q (Ok x)
 ran_shut t hosted tells steps next next' count turns n m n' o u o' P Q x goes_on e h s turned holds =
     let w : Turned t hosted tells steps next next' m n' u o' (Ok false) = subst (λ (b : Bool). Turned t hosted tells steps next next' m n' u o' (Ok b)) e turned in
-    let all : List Act = run_acts (net_of t) hosted steps (s.came ++ w.came) w.shut in
+    let all : List Act = turn_acts (net_of t) hosted steps (s.came ++ w.came) w.shut in
     let length_is : length (s.came ++ w.came) ≡ count = ap (λ xs. length (s.came ++ xs)) w.ends.0 ∙ ap length (append-nil s.came) ∙ s.length_is in (
       s.came ++ w.came,
       (
@@ -137,7 +141,7 @@ ran_shut t hosted tells steps next next' count turns n m n' o u o' P Q x goes_on
 pub ran_cut : (t : TopologyView) (hosted : List ℕ) (tells : Type 0) (steps : List Line) (next next' count turns : ℕ) (n m n' : NodeView) (o u o' : Outside) (P Q : List Arrival → Type 0) (e : RunFault) → count < turns → (s : SoFar t hosted tells steps next count n m o u P)
     → Turned t hosted tells steps next next' m n' u o' (Err e) → ((more : List Arrival) → length more ≤ 1 → Q (s.came ++ more)) → Ran t hosted tells steps turns n n' o o' Q (Err e)
 ran_cut t hosted tells steps next next' count turns n m n' o u o' P Q e h s w holds =
-    let all : List Act = run_acts (net_of t) hosted steps (s.came ++ w.came) w.shut in
+    let all : List Act = turn_acts (net_of t) hosted steps (s.came ++ w.came) w.shut in
     let length_is : length (s.came ++ w.came) ≡ count + length w.came = length-append s.came w.came ∙ ap (λ k. k + length w.came) s.length_is in (
       s.came ++ w.came,
       (
@@ -171,8 +175,66 @@ ran_none t hosted tells steps turns n o P h = (
         (
           tt,
           (
-            went_front t hosted tells (run_acts (net_of t) hosted steps [] false) n n o o run.Memory tt
+            went_front t hosted tells (turn_acts (net_of t) hosted steps [] false) n n o o run.Memory tt
                 (front-nothing o.taken o.taken _ refl) (λ h. begins_nothing o.journal o.journal _ refl),
+            h,
+          ),
+        ),
+      ),
+    ),
+  ),
+)
+
+-- Before the first turn it is told what is ready in one order
+abbrev pub RanAll : (t : TopologyView) (hosted : List ℕ) (tells : Type 0) (steps : List Line) (turns : ℕ) (n n' : NodeView) (o o' : Outside) (P : List Arrival → Type 0) (result : Result (Unit {0}) RunFault) → Type 0
+RanAll t hosted tells steps turns n n' o o' P result =
+    (came : List Arrival) × ((shut : Bool) × ((length came ≤ turns) × (AllByRecursion IsOfBytes came × (OnOk result ((shut ≡ true) ⊎ (length came ≡ turns))
+    × (Went {T = Unit {0}} t hosted tells (run_acts (net_of t) hosted steps came shut) n n' o o' result × P came)))))
+
+-- that was told, and then come the turns
+pub ran_settled : (t : TopologyView) (hosted : List ℕ) (tells : Type 0) (steps : List Line) (turns : ℕ) (n m n' : NodeView) (o u o' : Outside) (P Q : List Arrival → Type 0) (r : Result (Unit {0}) RunFault)
+    → MadeAll t hosted tells (settles ∷ []) n m o u → ((came : List Arrival) → P came → Q came) → Ran t hosted tells steps turns m n' u o' P r → RanAll t hosted tells steps turns n n' o o' Q r
+ran_settled t hosted tells steps turns n m n' o u o' P Q r a holds x = (
+  x.0,
+  (
+    x.1.0,
+    (
+      x.1.1.0,
+      (
+        x.1.1.1.0,
+        (
+          x.1.1.1.1.0,
+          (
+            went_on t hosted tells (settles ∷ []) (turn_acts (net_of t) hosted steps x.0 x.1.0) n m n' o u o' r a x.1.1.1.1.1.0,
+            holds x.0 x.1.1.1.1.1.1,
+          ),
+        ),
+      ),
+    ),
+  ),
+)
+
+-- a fault of putting lines is none of the post
+put_not_post : (e : RunFault) → IsPutFault e → e ≢ run.Post
+put_not_post e h is = subst IsPutFault is h
+
+-- it was not told, or only a front of it
+pub ran_unsettled : (t : TopologyView) (hosted : List ℕ) (tells : Type 0) (steps : List Line) (turns : ℕ) (n n' : NodeView) (taken taken' : Option (List ℕ)) (held held' : List ℕ) (journal : List Entry) (P : List Arrival → Type 0) (e : RunFault)
+    → IsPutFault e → TakesFront taken taken' (held ++ text_of t (ordered n.orders)) → P []
+    → RanAll t hosted tells steps turns n n' (outside taken held journal) (outside taken' held' journal) P (Err e)
+ran_unsettled t hosted tells steps turns n n' taken taken' held held' journal P e why front h = (
+  [],
+  (
+    false,
+    (
+      omega arith,
+      (
+        tt,
+        (
+          tt,
+          (
+            went_cut t hosted tells (settles ∷ []) (turn_acts (net_of t) hosted steps [] false) n n' (outside taken held journal) (outside taken' held' journal) e (put_not_post e why)
+                (went_settles t hosted tells n n' taken taken' held held' journal e why front),
             h,
           ),
         ),

@@ -12,6 +12,7 @@ use Rattle.gr_publog.specs.Calls.{IsReady}
 use Rattle.gr_topo.specs.Topology.{TopologyView, host_of}
 use Rattle.gr_model.specs.Net.{is_host}
 use Rattle.gr_model.specs.NetOf.{net_of}
+use Rattle.gr_model.specs.Orders.{Order}
 use Rattle.gr_broker.specs.Seen.{BrokerView, log_in}
 use Rattle.gr_broker.specs.Of.{LogsStand}
 use Rattle.gr_broker.specs.Opened.{OpensLanes, IsDamagedAt}
@@ -76,14 +77,14 @@ module _ (t : TopologyView) (bs : List ℕ) (n : NodeView) (b : ℕ) (before mid
   }
 
   -- one that did has found what its lanes held at first
-  pub found_more : (x : BrokerView) → b < length t.brokers → HasBegun t b x → OpensLanes x mid after → LogsStand after x → HaveFound t (bs ++ b ∷ []) (with_broker n b x) before after
-  found_more x j one opens stand = record {
-    found = which_is t n b x s.count j
+  pub found_more : (x : BrokerView) (os : List Order) → b < length t.brokers → HasBegun t b x → OpensLanes x mid after → LogsStand after x → HaveFound t (bs ++ b ∷ []) (with_broker n b x os) before after
+  found_more x os j one opens stand = record {
+    found = which_is t n b x os s.count j
         (λ a y. (p : ℕ) (l : LogView) → log_in y p ≡ Some l → log_text (content (before (2 * p))) ≡ Ok l.records)
         (λ p l e. let at = log_hosted t b x one.fits one.number p l e in
         subst (λ (lane : Lane). log_text (content lane) ≡ Ok l.records) (lane_first p at.1) (opens.opened p l e).gives)
         (λ a y apart e. sofar.found a y e);
-    stands = which_is t n b x s.count j (λ a y. LogsStand after y) stand (λ a y apart e. stand_still a y apart (s.each a y e) (sofar.stands a y e));
+    stands = which_is t n b x os s.count j (λ a y. LogsStand after y) stand (λ a y apart e. stand_still a y apart (s.each a y e) (sofar.stands a y e));
     others = touched_more;
   }
 

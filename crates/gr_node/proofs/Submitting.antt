@@ -27,7 +27,7 @@ use Rattle.gr_model.specs.Arrivals.{Arrival, datagram, quiet, Publish, publisher
 use Rattle.gr_model_theorems.specs.Lanes.{whole_logs}
 use Rattle.gr_model_theorems.proofs.records.Recorded.{get_map}
 use Rattle.gr_model_calls.proofs.runs.Schedules.{get_numbers, length_numbers}
-use Rattle.gr_node.specs.Plan.{Call, gets, wakes, Act, binds, starts, calls, shows, publish_calls, wake_calls, submit_acts, note_acts, datagram_acts, acts_of, acts_from, closing, run_acts, nodes, plan, all_entries}
+use Rattle.gr_node.specs.Plan.{Call, gets, wakes, Act, binds, starts, calls, settles, shows, is_ours, publish_calls, wake_calls, submit_acts, note_acts, datagram_acts, acts_of, settling, led_to, acts_from, closing, turn_acts, run_acts, nodes, plan, all_entries}
 use Rattle.gr_node.specs.Served.{Course, world_before}
 use Rattle.gr_node.specs.Submitted.{IsSubmission, AreSubmissions, IsFirstOf, Logs, log_found, after_acts, AreFirst, IsOfClient, offers_next}
 use Rattle.gr_node.proofs.Acting.{all_front, all_append}
@@ -98,12 +98,20 @@ module _ (p : ℕ) (P : ℕ → Event → Type 0) where
   arrival_fine net hosted left (quiet moment) h noted =
       map_append (publish_calls left) (flat_map (wake_calls net.publishers) hosted) (first_fine left h) (wakes_fine net.publishers hosted)
 
+  settling_fine : (hosted : List ℕ) (a : Arrival) → AreFine (settling hosted a)
+  settling_fine hosted a = go (is_ours hosted a)
+    where
+      go : (c : Bool) → AreFine (if c then settles ∷ [] else [])
+      go true = (tt, tt)
+      go false = tt
+
   came_fine : (net : Net) (hosted : List ℕ) (left : List Publish) (came : List Arrival) → ArePublishes p P left → AllByRecursion (IsNoted net p P) came → AreFine (acts_from net hosted left came)
   unfolding acts_from
   came_fine net hosted left [] h noted = tt
   came_fine net hosted left (a ∷ came) h noted = (
     tt,
-    fine_append (acts_of net hosted left a) (acts_from net hosted (left_after left a) came) (arrival_fine net hosted left a h noted.0) (came_fine net hosted (left_after left a) came (left_fine left a h) noted.1),
+    fine_append (led_to net hosted left a) (acts_from net hosted (left_after left a) came)
+        (fine_append (acts_of net hosted left a) (settling hosted a) (arrival_fine net hosted left a h noted.0) (settling_fine hosted a)) (came_fine net hosted (left_after left a) came (left_fine left a h) noted.1),
   )
 
   closing_fine : (closed : Bool) → AreFine (closing closed)
@@ -126,10 +134,12 @@ module _ (p : ℕ) (P : ℕ → Event → Type 0) where
       let net : Net = net_of t in
       let left : List Publish = publishes_of net hosted steps in
       let ran : List Act = run_acts net hosted steps came closed in
+      let turns : List Act = turn_acts net hosted steps came closed in
+      let turns_fine : AreFine (turns ++ shows ∷ []) =
+      fine_append turns (shows ∷ [])
+      (fine_append (acts_from net hosted left came) (closing closed) (came_fine net hosted left came h noted) (closing_fine closed)) (tt, tt) in
       fine_append (map binds (nodes t hosted)) (map starts hosted ++ (ran ++ shows ∷ [])) (binds_fine (nodes t hosted))
-      (fine_append (map starts hosted) (ran ++ shows ∷ []) (starts_fine hosted)
-      (fine_append ran (shows ∷ [])
-      (fine_append (acts_from net hosted left came) (closing closed) (came_fine net hosted left came h noted) (closing_fine closed)) (tt, tt)))
+      (fine_append (map starts hosted) (ran ++ shows ∷ []) (starts_fine hosted) (tt, turns_fine))
 
   -- and so are the first of them
   first_are : (t : TopologyView) (hosted : List ℕ) (steps : List Line) (c : Course) (done : List Act) → AreFirst t hosted steps c done → ArePublishes p P (publishes_of (net_of t) hosted steps)

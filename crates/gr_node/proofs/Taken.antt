@@ -14,6 +14,7 @@ use Rattle.gr_model.specs.Net.{is_host}
 use Rattle.gr_model.specs.NetOf.{net_of}
 use Rattle.gr_model.specs.Broker.{View, Log, Outcome as MachineOutcome, empty_log}
 use Rattle.gr_model.specs.World.{World, Transition, blank_view, view_of, log_of, with_view as with_view_at, sent_lines, absorbed, sent_since}
+use Rattle.gr_model.specs.Orders.{Order}
 use Rattle.gr_model_calls.proofs.rules.Serves.{frames_past_all}
 use Rattle.gr_model_theorems.proofs.server.CutEvents.{on_log}
 use Rattle.gr_broker.specs.Seen.{BrokerView, view_in, log_in, log_said, machine_log, with_view, with_log, with_logged}
@@ -45,6 +46,21 @@ pub record IsNode (t : TopologyView) (n : NodeView) (w : World) : Type 0 where
   pub world_views : length w.views ≡ length t.brokers
   pub each_views : (b : ℕ) → b < length t.brokers → length (get_or w.views b []) ≡ length t.publishers
   pub world_logs : length w.logs ≡ length t.publishers
+
+-- what was heard in one order is no part of it
+pub node_heard : (t : TopologyView) (n : NodeView) (w : World) (os : List Order) → IsNode t n w
+    → IsNode t (record { brokers = n.brokers; offers = n.offers; now = n.now; orders = os }) w
+node_heard t n w os i = record {
+  clock = i.clock;
+  offers = i.offers;
+  views = i.views;
+  logs = i.logs;
+  shaped = i.shaped;
+  count = i.count;
+  world_views = i.world_views;
+  each_views = i.each_views;
+  world_logs = i.world_logs;
+}
 
 -- what the node does is what the machine does: the same lines, these entries, and the world that is left is the node's
 pub record Does (t : TopologyView) (hosted : List ℕ) (d : Done) (u : Transition) (es : List Entry) : Type 0 where

@@ -16,11 +16,12 @@ use Rattle.gr_model.specs.declared.report.Report.{Report}
 use Rattle.gr_model.specs.Text.{labels_of, whole_line}
 use Rattle.gr_model.specs.World.{sent_lines}
 use Rattle.gr_model.specs.Arrivals.{Arrival, Publish}
+use Rattle.gr_model.specs.Orders.{Order, fed, ordered}
 use Rattle.gr_broker_relay.specs.declared.outcome.Outcome.{Outcome}
 use Rattle.gr_report.specs.Named.{IsPutFault}
 use Rattle.gr_node.specs.Seen.{NodeView, records_in, text_of}
-use Rattle.gr_node.specs.Plan.{Call, Act, arrives, calls, answers, drops, closes, entry_of, offers_of, reply_entry}
-use Rattle.gr_node.specs.Done.{Done, and_then, done, all_done, call_done, at_arrival}
+use Rattle.gr_node.specs.Plan.{Call, Act, arrives, calls, answers, drops, settles, closes, entry_of, offers_of, reply_entry}
+use Rattle.gr_node.specs.Done.{Done, and_then, done, all_done, call_done, at_arrival, settled}
 use Rattle.gr_node.specs.Went.{Outside, outside, IsCallFault, IsTurnFault, fault_entries, uses_disk, FirstIs, Begins, Went, Makes}
 use Rattle.std.proofs.lemmas.Grind.{flat_map-append}
 
@@ -379,12 +380,13 @@ frames_count [] (f ∷ frames) a = absurd a
 frames_count (b ∷ bytes) [] a = absurd a
 
 -- what telling an outcome leaves outside
-pub record Telling {T : Type 0} (t : TopologyView) (tells : Type 0) (told : Outcome) (offers offers' : ℕ) (o o' : Outside) (r : Result T RunFault) : Type 0 where
+pub record Telling {T : Type 0} (t : TopologyView) (tells : Type 0) (told : Outcome) (offers offers' : ℕ) (orders orders' : List Order) (o o' : Outside) (r : Result T RunFault) : Type 0 where
   pub told_all : (fs : List Frame) → AreFrames told.frames.frames fs → OnOk r (TakesBut o.taken o'.taken (o.held ++ text_of t (told.reports ++ sent_lines (suc offers) fs)) o'.held)
   pub front : (fs : List Frame) → AreFrames told.frames.frames fs → OnErr r (TakesFront o.taken o'.taken (o.held ++ text_of t (told.reports ++ sent_lines (suc offers) fs)))
   pub sent : tells → (fs : List Frame) → AreFrames told.frames.frames fs → OnOk r (o'.journal ≡ o.journal ++ offers_of fs)
   pub sent_front : tells → (fs : List Frame) → AreFrames told.frames.frames fs → OnErr r (Begins o.journal o'.journal (offers_of fs))
   pub count : OnOk r (offers' ≡ offers + length told.frames.frames)
+  pub heard : OnOk r (orders' ≡ fed orders told.reports)
   pub cause : IfErr r IsPutFault
 
 -- the act of a call, by what it does
@@ -393,28 +395,29 @@ unfolding done
 call_is t hosted n c = done_one t hosted n (calls c)
 
 -- A call was made, and its outcome told: the act of the call
-pub went_call : {T : Type 0} (t : TopologyView) (hosted : List ℕ) (tells : Type 0) (c : Call) (n n₁ : NodeView) (told : Outcome) (offers' : ℕ) (o o' : Outside) (r : Result T RunFault)
-    → Makes t n c n₁ told → Telling {T = T} t tells told n₁.offers offers' o o' r
-    → Went {T = T} t hosted tells (calls c ∷ []) n (record { brokers = n₁.brokers; offers = offers'; now = n₁.now }) o o' r
-went_call {T} t hosted tells c n n₁ told offers' o o' (Ok x) m g = went_ok t hosted tells (calls c ∷ []) n _ o o' x (record {
-  node = ap₂ (λ offers now. node_with offers now) (g.count ∙ ap₂ (λ k j. k + j) m.offers (frames_count told.frames.frames m.frames m.spelled)) m.now ∙ sym (ap (λ (d : Done). d.node) is);
+pub went_call : {T : Type 0} (t : TopologyView) (hosted : List ℕ) (tells : Type 0) (c : Call) (n n₁ : NodeView) (told : Outcome) (offers' : ℕ) (orders' : List Order) (o o' : Outside) (r : Result T RunFault)
+    → Makes t n c n₁ told → Telling {T = T} t tells told n₁.offers offers' n₁.orders orders' o o' r
+    → Went {T = T} t hosted tells (calls c ∷ []) n (record { brokers = n₁.brokers; offers = offers'; now = n₁.now; orders = orders' }) o o' r
+went_call {T} t hosted tells c n n₁ told offers' orders' o o' (Ok x) m g = went_ok t hosted tells (calls c ∷ []) n _ o o' x (record {
+  node = ap₂ (λ offers now. node_with offers now orders') (g.count ∙ ap₂ (λ k j. k + j) m.offers (frames_count told.frames.frames m.frames m.spelled)) m.now
+      ∙ ap (node_with (n.offers + length m.frames) n.now) (g.heard ∙ ap (λ os. fed os told.reports) m.orders) ∙ sym (ap (λ (d : Done). d.node) is);
   told = subst (λ lines. TakesBut o.taken o'.taken (o.held ++ text_of t lines) o'.held) (first_lines ∙ sym (ap (λ (d : Done). d.lines) is)) (g.told_all m.frames m.spelled);
   sent = λ h. g.sent h m.frames m.spelled ∙ ap (λ xs. o.journal ++ xs) (sym (ap (λ (d : Done). d.entries) is));
 })
   where
-    node_with : ℕ → ℕ → NodeView
-    node_with offers now = record { brokers = n₁.brokers; offers = offers; now = now }
+    node_with : ℕ → ℕ → List Order → NodeView
+    node_with offers now os = record { brokers = n₁.brokers; offers = offers; now = now; orders = os }
 
-    is : all_done t hosted n (calls c ∷ []) ≡ record { node = record { brokers = n₁.brokers; offers = n.offers + length m.frames; now = n.now }; lines = told.reports ++ sent_lines (suc n.offers) m.frames; entries = offers_of m.frames }
+    is : all_done t hosted n (calls c ∷ []) ≡ record { node = record { brokers = n₁.brokers; offers = n.offers + length m.frames; now = n.now; orders = fed n.orders told.reports }; lines = told.reports ++ sent_lines (suc n.offers) m.frames; entries = offers_of m.frames }
     is = call_is t hosted n c ∙ m.done
 
     first_lines : told.reports ++ sent_lines (suc n₁.offers) m.frames ≡ told.reports ++ sent_lines (suc n.offers) m.frames
     first_lines = ap (λ k. told.reports ++ sent_lines (suc k) m.frames) m.offers
-went_call {T} t hosted tells c n n₁ told offers' o o' (Err e) m g = went_front t hosted tells (calls c ∷ []) n _ o o' e g.cause
+went_call {T} t hosted tells c n n₁ told offers' orders' o o' (Err e) m g = went_front t hosted tells (calls c ∷ []) n _ o o' e g.cause
     (subst (λ lines. TakesFront o.taken o'.taken (o.held ++ text_of t lines)) (first_lines ∙ sym (ap (λ (d : Done). d.lines) is)) (g.front m.frames m.spelled))
     (λ h. subst (Begins o.journal o'.journal) (sym (ap (λ (d : Done). d.entries) is)) (g.sent_front h m.frames m.spelled))
   where
-    is : all_done t hosted n (calls c ∷ []) ≡ record { node = record { brokers = n₁.brokers; offers = n.offers + length m.frames; now = n.now }; lines = told.reports ++ sent_lines (suc n.offers) m.frames; entries = offers_of m.frames }
+    is : all_done t hosted n (calls c ∷ []) ≡ record { node = record { brokers = n₁.brokers; offers = n.offers + length m.frames; now = n.now; orders = fed n.orders told.reports }; lines = told.reports ++ sent_lines (suc n.offers) m.frames; entries = offers_of m.frames }
     is = call_is t hosted n c ∙ m.done
 
     first_lines : told.reports ++ sent_lines (suc n₁.offers) m.frames ≡ told.reports ++ sent_lines (suc n.offers) m.frames
@@ -438,3 +441,43 @@ went_unwritten t hosted tells acts n n' o taken taken' held held' journal m f =
     went_front t hosted tells acts n n' o (outside taken' held' journal) run.Write tt
     (front-held o.taken taken taken' (o.held ++ text_of t (all_done t hosted n acts).lines) held m.told f)
     (λ h. begins_all o.journal journal (all_done t hosted n acts).entries (m.sent h))
+
+-- What is ready in one order is told behind acts that were all made, and the page is written
+
+settles_alone : (t : TopologyView) (hosted : List ℕ) (n : NodeView) → all_done t hosted n (settles ∷ []) ≡ record { node = settled n; lines = ordered n.orders; entries = [] }
+unfolding done
+settles_alone t hosted n = done_one t hosted n settles
+
+-- all of it is taken
+pub made_settles : (t : TopologyView) (hosted : List ℕ) (tells : Type 0) (n n' : NodeView) (taken taken' : Option (List ℕ)) (held held' : List ℕ) (journal : List Entry)
+    → n' ≡ settled n → taken' ≡ with_more taken (held ++ text_of t (ordered n.orders)) → held' ≡ []
+    → MadeAll t hosted tells (settles ∷ []) n n' (outside taken held journal) (outside taken' held' journal)
+made_settles t hosted tells n n' taken taken' held held' journal e all empty = record {
+  node = e ∙ sym (ap (λ (d : Done). d.node) is);
+  told = subst (λ xs. TakesBut taken taken' (held ++ text_of t xs) held') (sym (ap (λ (d : Done). d.lines) is))
+      (subst (λ xs. TakesBut taken taken' (held ++ text_of t (ordered n.orders)) xs) (sym empty) (but-all taken taken' (held ++ text_of t (ordered n.orders)) all));
+  sent = λ h. sym (append-nil journal) ∙ ap (λ xs. journal ++ xs) (sym (ap (λ (d : Done). d.entries) is));
+}
+  where
+    is : all_done t hosted n (settles ∷ []) ≡ record { node = settled n; lines = ordered n.orders; entries = [] }
+    is = settles_alone t hosted n
+
+-- or a front of it
+pub went_settles : {T : Type 0} (t : TopologyView) (hosted : List ℕ) (tells : Type 0) (n n' : NodeView) (taken taken' : Option (List ℕ)) (held held' : List ℕ) (journal : List Entry) (e : RunFault)
+    → IsPutFault e → TakesFront taken taken' (held ++ text_of t (ordered n.orders)) → Went {T = T} t hosted tells (settles ∷ []) n n' (outside taken held journal) (outside taken' held' journal) (Err e)
+went_settles t hosted tells n n' taken taken' held held' journal e why front =
+    went_front t hosted tells (settles ∷ []) n n' (outside taken held journal) (outside taken' held' journal) e why
+    (subst (λ xs. TakesFront taken taken' (held ++ text_of t xs)) (sym (ap (λ (d : Done). d.lines) (settles_alone t hosted n))) front)
+    (λ h. begins_nothing journal journal _ refl)
+
+pub went_settled : {T : Type 0} (t : TopologyView) (hosted : List ℕ) (tells : Type 0) (acts : List Act) (n m n' : NodeView) (o : Outside) (taken taken' : Option (List ℕ)) (held held' : List ℕ) (journal : List Entry) (r : Result T RunFault)
+    → MadeAll t hosted tells acts n m o (outside taken held journal) → OnOk r (n' ≡ settled m) → OnOk r (taken' ≡ with_more taken (held ++ text_of t (ordered m.orders))) → OnOk r (held' ≡ [])
+    → OnErr r (TakesFront taken taken' (held ++ text_of t (ordered m.orders))) → IfErr r IsPutFault
+    → Went {T = T} t hosted tells (acts ++ settles ∷ []) n n' o (outside taken' held' journal) r
+went_settled {T} t hosted tells acts n m n' o taken taken' held held' journal (Ok x) a e all empty front why =
+    went_ok t hosted tells (acts ++ settles ∷ []) n n' o (outside taken' held' journal) x
+    (made_on t hosted tells acts (settles ∷ []) n m n' o (outside taken held journal) (outside taken' held' journal) a
+    (made_settles t hosted tells m n' taken taken' held held' journal e all empty))
+went_settled {T} t hosted tells acts n m n' o taken taken' held held' journal (Err f) a e all empty front why =
+    went_on t hosted tells acts (settles ∷ []) n m n' o (outside taken held journal) (outside taken' held' journal) (Err f) a
+    (went_settles t hosted tells m n' taken taken' held held' journal f why front)

@@ -12,13 +12,14 @@ use Rattle.gr_model.specs.NetOf.{net_of}
 use Rattle.gr_model.specs.Broker.{Outcome as MachineOutcome, Log, max_tick}
 use Rattle.gr_model.specs.World.{sent_lines, kept_events}
 use Rattle.gr_model.specs.Arrivals.{Arrival, fault_number, is_hosted}
+use Rattle.gr_model.specs.Orders.{fed, ordered, without_ordered}
 use Rattle.gr_pubend.specs.Log.{log_of}
 use Rattle.gr_broker.specs.Seen.{BrokerView, view_in}
 use Rattle.gr_broker.specs.Hosted.{publish_at, after_publish, wake_at, after_wake}
 use Rattle.gr_broker.specs.Receipt.{Receipt, no_frame, stray, clash, taken, receipt, after_receipt}
 use Rattle.gr_node.specs.Seen.{NodeView, broker_in, records_in}
 use Rattle.gr_node.specs.Plan.{Call, gets, publishes, wakes, Act, binds, starts, arrives, calls, answers, drops}
-use Rattle.gr_node.specs.Plan.{closes, shows, is_ours, moment_of, entry_of, offers_of, reply_entry}
+use Rattle.gr_node.specs.Plan.{settles, closes, shows, is_ours, moment_of, entry_of, offers_of, reply_entry}
 
 pub record Done : Type 0 where
   pub node : NodeView
@@ -30,10 +31,15 @@ abbrev pub still : NodeView → Done
 still n = record { node = n; lines = []; entries = [] }
 
 -- A broker's call is taken up: what it keeps, its lines and those of its frames, which are numbered on from those
--- offered before, and the offers
+-- offered before, and the offers. The subscribers that get one list over all publishers hear the lines
 abbrev pub taken_up : NodeView → ℕ → BrokerView → List Report → List Frame → Done
 taken_up n b x lines frames = record {
-  node = record { brokers = set n.brokers b (Some x); offers = n.offers + length frames; now = n.now };
+  node = record {
+    brokers = set n.brokers b (Some x);
+    offers = n.offers + length frames;
+    now = n.now;
+    orders = fed n.orders lines;
+  };
   lines = lines ++ sent_lines (suc n.offers) frames;
   entries = offers_of frames;
 }
@@ -104,7 +110,12 @@ shown t hosted n = line.Frames n.offers ∷ (logs_shown t hosted n ++ flat_map (
 -- the clock moves to the moment of what came, at most to the last tick
 abbrev pub at_arrival : List ℕ → NodeView → Arrival → NodeView
 at_arrival hosted n a =
-    if is_ours hosted a then record { brokers = n.brokers; offers = n.offers; now = min (moment_of a) max_tick } else n
+    if is_ours hosted a
+    then record { brokers = n.brokers; offers = n.offers; now = min (moment_of a) max_tick; orders = n.orders } else n
+
+-- what is ready in one order is taken out
+abbrev pub settled : NodeView → NodeView
+settled n = record { brokers = n.brokers; offers = n.offers; now = n.now; orders = without_ordered n.orders }
 
 -- the acts of a run once the hosted brokers have started
 unfoldable pub done : TopologyView → List ℕ → NodeView → Act → Done
@@ -116,6 +127,7 @@ done t hosted n (answers x) =
     let l : Log = log_of (records_in t n x.0) in
     record { node = n; lines = []; entries = reply_entry t l.last x ∷ [] }
 done t hosted n (drops l) = record { node = n; lines = l ∷ []; entries = [] }
+done t hosted n settles = record { node = settled n; lines = ordered n.orders; entries = [] }
 done t hosted n closes = record { node = n; lines = []; entries = entry.closed ∷ [] }
 done t hosted n shows = record { node = n; lines = shown t hosted n; entries = [] }
 

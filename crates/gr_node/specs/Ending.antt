@@ -15,7 +15,7 @@ use Rattle.gr_model_theorems.specs.Served.{IsOfBytes}
 use Rattle.gr_node.specs.Seen.{NodeView, text_of}
 use Rattle.gr_node.specs.Lasting.{StoodEachTime}
 use Rattle.gr_node.specs.Plan.{Act, shows, run_acts}
-use Rattle.gr_node.specs.Done.{all_done}
+use Rattle.gr_node.specs.Done.{all_done, settled}
 use Rattle.gr_node.specs.Went.{Outside, IsExact, fault_entries, Begins}
 use Rattle.gr_node.specs.Served.{Course, IsRefused, IsRunOf, Posts, Prints, KeepsLogs}
 
@@ -58,7 +58,8 @@ pub record Ran {T : Type 0} (t : TopologyView) (hosted : List ℕ) (tells : Type
       → TakesFront before.taken after.taken (before.held ++ text_of t (all_done t hosted n acts).lines)
   pub sent_front : (IsExact result → ⊥) → tells → Begins before.journal after.journal (all_done t hosted n acts).entries
 
--- so it went with what came, which are no more arrivals than were asked for
+-- so it went with what came, which are no more arrivals than were asked for, once it was told what was ready in one
+-- order
 pub record RanWith {T : Type 0} (t : TopologyView) (hosted : List ℕ) (tells keeps : Type 0) (steps : List Line)
     (turns : ℕ) (n n' : NodeView) (before after : Outside) (lanes : ℕ → Lane)
     (result : Result T RunFault) : Type 0 where
@@ -69,7 +70,7 @@ pub record RanWith {T : Type 0} (t : TopologyView) (hosted : List ℕ) (tells ke
   pub ended : OnOk result ((closed ≡ true) ⊎ (length came ≡ turns))
   pub ran : Ran {T = T} t hosted tells
       (run_acts (net_of t) hosted steps came closed ++ shows ∷ []) n n' before after result
-  pub stood : keeps → StoodEachTime t hosted steps n came lanes
+  pub stood : keeps → StoodEachTime t hosted steps (settled n) came lanes
 
 -- What a whole run does, and what it leaves at the post, at the sink and on the disk
 pub record Serves {T : Type 0} (t : TopologyView) (hosted : List ℕ) (steps : List Line) (turns : ℕ)

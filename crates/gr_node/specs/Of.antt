@@ -7,6 +7,7 @@ use Rattle.gr_tick.specs.declared.TheConstants.{MAX_TICK}
 use Rattle.gr_publog.specs.Crash.{LogView}
 use Rattle.gr_topo.specs.Topology.{TopologyView, address_of, host_of}
 use Rattle.gr_model.specs.NetOf.{IsRising}
+use Rattle.gr_model.specs.Orders.{AreOrdersOf}
 use Rattle.gr_broker.specs.Seen.{BrokerView, log_in}
 use Rattle.gr_broker.specs.Of.{IsBrokerOf, LogsStand}
 use Rattle.gr_node.specs.Seen.{NodeView, broker_in}
@@ -45,3 +46,4 @@ OthersStay t bs before after = (n : ℕ)
 pub record IsSet (t : TopologyView) (hosted : List ℕ) (n : NodeView) : Type 0 where
   pub fits : NodeFits t n
   pub hosts : Hosts hosted n
+  pub orders : AreOrdersOf t n.orders

@@ -28,6 +28,7 @@ use Rattle.gr_model.specs.World.{log_of}
 use Rattle.gr_model.specs.Opening.{opened_for, publishers_at}
 use Rattle.gr_model.specs.Arrivals.{Arrival, datagram, quiet, Publish, publishes_of, left_after, at_moment, receives}
 use Rattle.gr_model.specs.Arrivals.{publisher_of, submitted_in, show_hosted}
+use Rattle.gr_model.specs.Orders.{Order, fed, ordered, without_ordered}
 
 -- a call of a broker: it gets a datagram, or publishes, or is woken for a publisher
 pub data Call : Type 0 where
@@ -36,7 +37,8 @@ pub data Call : Type 0 where
   wakes : ℕ → ℕ → Call
 
 -- A run is made of acts: a node's address is bound, a hosted broker starts, something arrives, a broker is called, what
--- was submitted is answered, a note is dropped with its line, nothing comes any more, and at the end all is shown
+-- was submitted is answered, a note is dropped with its line, what is ready in one order is told, nothing comes any
+-- more, and at the end all is shown
 pub data Act : Type 0 where
   binds : ℕ → Act
   starts : ℕ → Act
@@ -44,6 +46,7 @@ pub data Act : Type 0 where
   calls : Call → Act
   answers : Publish → Act
   drops : Report → Act
+  settles : Act
   closes : Act
   shows : Act
 
@@ -97,9 +100,17 @@ abbrev pub acts_of : Net → List ℕ → List Publish → Arrival → List Act
 acts_of net hosted left (datagram b bytes moment) = if is_among hosted b then datagram_acts net b bytes else []
 acts_of net hosted left (quiet moment) = map calls (quiet_calls net hosted left)
 
+-- behind them it is told what is ready in one order, where it came at a hosted broker or at a quiet moment
+abbrev pub settling : List ℕ → Arrival → List Act
+settling hosted a = if is_ours hosted a then settles ∷ [] else []
+
+-- all that an arrival leads to
+abbrev pub led_to : Net → List ℕ → List Publish → Arrival → List Act
+led_to net hosted left a = acts_of net hosted left a ++ settling hosted a
+
 -- an arrival, and its acts
 abbrev pub arrival_acts : Net → List ℕ → List Publish → Arrival → List Act
-arrival_acts net hosted left a = arrives a ∷ acts_of net hosted left a
+arrival_acts net hosted left a = arrives a ∷ led_to net hosted left a
 
 unfoldable pub acts_from : Net → List ℕ → List Publish → List Arrival → List Act
 acts_from net hosted left [] = []
@@ -112,8 +123,12 @@ abbrev pub closing : Bool → List Act
 closing closed = if closed then closes ∷ [] else []
 
 -- what is done of what came
+abbrev pub turn_acts : Net → List ℕ → List Line → List Arrival → Bool → List Act
+turn_acts net hosted steps came closed = acts_from net hosted (publishes_of net hosted steps) came ++ closing closed
+
+-- before the first turn it is told what is ready in one order after the starts
 abbrev pub run_acts : Net → List ℕ → List Line → List Arrival → Bool → List Act
-run_acts net hosted steps came closed = acts_from net hosted (publishes_of net hosted steps) came ++ closing closed
+run_acts net hosted steps came closed = settles ∷ turn_acts net hosted steps came closed
 
 -- the client of a publisher, where it has one and is at a hosted broker
 abbrev pub client_nodes : TopologyView → List ℕ → ℕ → List ℕ
@@ -146,8 +161,28 @@ act net hosted w (arrives a) = unchanged (if is_ours hosted a then at_moment w (
 act net hosted w (calls c) = called net w c
 act net hosted w (answers x) = unchanged w []
 act net hosted w (drops l) = unchanged w (l ∷ [])
+act net hosted w settles = unchanged w []
 act net hosted w closes = unchanged w []
 act net hosted w shows = unchanged w (show_hosted net hosted w)
+
+-- The lines of one order are none of the machine's. They follow from the lines that acts tell
+
+-- what an act tells, over what was heard in one order before it
+abbrev pub told_by : Net → List ℕ → World → List Order → Act → List Report
+told_by net hosted w os settles = ordered os
+told_by net hosted w os a = let u : Transition = act net hosted w a in u.lines
+
+-- and what is heard in one order then
+abbrev pub heard_by : Net → List ℕ → World → List Order → Act → List Order
+heard_by net hosted w os settles = without_ordered os
+heard_by net hosted w os a = let u : Transition = act net hosted w a in fed os u.lines
+
+-- what acts tell, one after another
+unfoldable pub told_by_acts : Net → List ℕ → World → List Order → List Act → List Report
+told_by_acts net hosted w os [] = []
+told_by_acts net hosted w os (a ∷ acts) =
+    let u : Transition = act net hosted w a in
+    told_by net hosted w os a ++ told_by_acts net hosted u.world (heard_by net hosted w os a) acts
 
 -- The journal's entries
 
@@ -183,6 +218,7 @@ entries t hosted w (arrives a) = entry_of a ∷ []
 entries t hosted w (answers x) = let l : Log = log_of w x.0 in reply_entry t l.last x ∷ []
 entries t hosted w (drops l) = []
 entries t hosted w (calls c) = let u : Transition = called (net_of t) w c in offers_of (sent_since w u.world)
+entries t hosted w settles = []
 entries t hosted w closes = entry.closed ∷ []
 entries t hosted w shows = []
 

@@ -1,29 +1,37 @@
 -- What a contract sees of a node
-use Rattle.std.specs.Prelude.{ℕ, List, [], get_or, replicate, Option, Some, None}
+use Rattle.std.specs.Prelude.{ℕ, List, [], length, get_or, replicate, Option, Some, None}
 use Rattle.gr_publog.specs.declared.record.Record.{Record}
 use Rattle.gr_topo.specs.Topology.{TopologyView, host_of}
 use Rattle.gr_model.specs.declared.report.Report.{Report}
 use Rattle.gr_model.specs.Text.{labels_of, report_text}
+use Rattle.gr_model.specs.Orders.{Order, orders_of}
 use Rattle.gr_publog.specs.Crash.{LogView}
 use Rattle.gr_broker.specs.Seen.{BrokerView, log_in}
 use Rattle.gr_node.specs.declared.node.Node.{Node}
 
--- The hosted brokers, how many frames they have offered, and the moment of the last arrival
+-- The hosted brokers, how many frames they have offered, the moment of the last arrival, and what the subscribers that
+-- get one list over all publishers have heard
 pub record NodeView : Type 0 where
   pub brokers : List (Option BrokerView)  -- by number; None where a broker is elsewhere
   pub offers : ℕ
   pub now : ℕ
+  pub orders : List Order
 
 abbrev pub seen : Node → NodeView
-seen n = record { brokers = n.brokers.items; offers = n.offers; now = n.now }
+seen n = record { brokers = n.brokers.items; offers = n.offers; now = n.now; orders = n.orders }
 
 -- the broker of a number, where it is hosted
 abbrev pub broker_in : NodeView → ℕ → Option BrokerView
 broker_in n b = get_or n.brokers b None
 
 -- before any broker has started
-abbrev pub none_started : ℕ → NodeView
-none_started k = record { brokers = replicate k None; offers = 0; now = 0 }
+abbrev pub none_started : TopologyView → NodeView
+none_started t = record {
+  brokers = replicate (length t.brokers) None;
+  offers = 0;
+  now = 0;
+  orders = orders_of t;
+}
 
 -- the records of a log; where there is none, none
 abbrev pub records_said : Option LogView → List Record

@@ -16,16 +16,19 @@ use Rattle.gr_publog.specs.Crash.{Stands}
 use Rattle.gr_pubend.specs.Log.{log_of}
 use Rattle.gr_sched.specs.declared.step.Line.{Line}
 use Rattle.gr_topo.specs.Topology.{TopologyView, host_of}
+use Rattle.gr_model.specs.declared.report.Report.{Report}
 use Rattle.gr_model.specs.NetOf.{net_of}
 use Rattle.gr_model.specs.World.{World, Transition, in_turn, log_of as machine_log_of}
 use Rattle.gr_model.specs.Opening.{over_logs}
 use Rattle.gr_model.specs.Arrivals.{Arrival, is_hosted, served, publishes_of}
+use Rattle.gr_model.specs.Orders.{orders_of, with_orders}
 use Rattle.gr_model_theorems.specs.Served.{joined, IsOfBytes}
 use Rattle.gr_model_theorems.specs.Lanes.{AllFollow, whole_logs}
 use Rattle.gr_node.specs.Seen.{text_of}
 use Rattle.gr_node.specs.Of.{OthersStay}
 use Rattle.gr_node.specs.Lasting.{Lasts}
-use Rattle.gr_node.specs.Plan.{Act, binds, starts, shows, ours, act, acts_from, nodes, plan, all_entries}
+use Rattle.gr_node.specs.Plan.{Act, binds, starts, settles, shows, ours, act, told_by_acts, acts_from, nodes, plan}
+use Rattle.gr_node.specs.Plan.{all_entries}
 use Rattle.gr_node.specs.Went.{IsExact, FirstIs, uses_disk, fault_entries, Begins}
 use Rattle.gr_node.specs.Starting.{IsFirstDamaged}
 
@@ -37,21 +40,27 @@ pub record Course : Type 0 where
   pub made : List Act  -- what was done of the plan
   pub left : List Act  -- what is left of it; a call that was refused is the first of these
 
--- the machine's world before the first act, and what the acts lead to and tell
+-- the machine's world before the first act, and what the acts lead to
 abbrev pub world_before : TopologyView → Course → World
 world_before t c = over_logs (net_of t) (whole_logs c.records)
 
 abbrev pub end_of : TopologyView → List ℕ → Course → Transition
 end_of t hosted c = in_turn (act (net_of t) hosted) c.made (world_before t c)
 
+-- what they tell, the lines of one order among them
+abbrev pub told_of : TopologyView → List ℕ → Course → List Report
+told_of t hosted c = told_by_acts (net_of t) hosted (world_before t c) (orders_of t) c.made
+
 -- what the whole plan puts into the journal
 abbrev pub planned : TopologyView → List ℕ → List Line → Course → List Entry
 planned t hosted steps c = all_entries t hosted (world_before t c) (plan t hosted steps c.came c.closed)
 
--- the text of what the machine serves of what came at the hosted brokers
+-- the text of what the machine serves of what came at the hosted brokers, and behind the lines of each step those of
+-- one order
 abbrev pub served_text : TopologyView → List ℕ → List Line → Course → List ℕ
 served_text t hosted steps c =
-    text_of t (joined (served (net_of t) hosted (whole_logs c.records) steps (ours hosted c.came)))
+    text_of t (joined (with_orders (orders_of t)
+    (served (net_of t) hosted (whole_logs c.records) steps (ours hosted c.came))))
 
 abbrev pub is_bind : Act → Bool
 is_bind (binds b) = true
@@ -96,12 +105,13 @@ pub record Prints {T : Type 0} (t : TopologyView) (hosted : List ℕ) (steps : L
     (before after : Option (List ℕ)) (result : Result T RunFault) : Type 0 where
   pub report : OnOk result (after ≡ with_more before (served_text t hosted steps c))
   pub front : OnErr result (TakesFront before after (served_text t hosted steps c))
-  pub refused : OnErr result (IsExact result → after ≡ with_more before (text_of t (end_of t hosted c).lines))
+  pub refused : OnErr result (IsExact result → after ≡ with_more before (text_of t (told_of t hosted c)))
 
 -- the acts of a run up to those of its first k arrivals, and the machine's world then
 abbrev pub acts_upto : TopologyView → List ℕ → List Line → Course → ℕ → List Act
 acts_upto t hosted steps c k = map binds (nodes t hosted)
-    ++ (map starts hosted ++ acts_from (net_of t) hosted (publishes_of (net_of t) hosted steps) (take k c.came))
+    ++ (map starts hosted
+    ++ (settles ∷ acts_from (net_of t) hosted (publishes_of (net_of t) hosted steps) (take k c.came)))
 
 abbrev pub world_upto : TopologyView → List ℕ → List Line → Course → ℕ → World
 world_upto t hosted steps c k =

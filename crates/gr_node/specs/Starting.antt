@@ -15,6 +15,7 @@ use Rattle.gr_model.specs.declared.report.Report.{Report}
 use Rattle.gr_model.specs.Net.{numbers}
 use Rattle.gr_model.specs.NetOf.{net_of}
 use Rattle.gr_model.specs.Arrivals.{is_hosted}
+use Rattle.gr_model.specs.Orders.{fed, orders_of}
 use Rattle.gr_broker.specs.Seen.{BrokerView, view_in, log_in, machine_log}
 use Rattle.gr_broker.specs.Of.{IsBrokerOf}
 use Rattle.gr_broker.specs.Opened.{opened_at}
@@ -42,8 +43,8 @@ pub record HasStarted (t : TopologyView) (n : NodeView) (b : ℕ) : Type 0 where
   pub whole : (p : ℕ) (l : LogView) → log_in broker p ≡ Some l → l.broken ≡ false
   pub follow : (p : ℕ) (l : LogView) → log_in broker p ≡ Some l → Follow empty_state l.records
 
--- The first so many of the hosted brokers have started, and no others, and what they tell was put; after a fault a
--- front of it
+-- The first so many of the hosted brokers have started, and no others, and what they tell was heard and put; after a
+-- fault a front of it
 pub record Started {T : Type 0} (t : TopologyView) (hosted : List ℕ) (n' : NodeView) (before after : Outside)
     (result : Result T RunFault) : Type 0 where
   pub made : ℕ
@@ -52,6 +53,7 @@ pub record Started {T : Type 0} (t : TopologyView) (hosted : List ℕ) (n' : Nod
   pub short : OnErr result (IsExact result → made < length hosted)
   pub hosts : Hosts (take made hosted) n'
   pub each : AllByRecursion (HasStarted t n') (take made hosted)
+  pub heard : OnOk result (n'.orders ≡ fed (orders_of t) (flat_map (start_lines t n') (take made hosted)))
   pub damaged_next : (p at : ℕ) → result ≡ Err (run.Damaged p at) → get_or hosted made 0 ≡ host_of t p
   pub told : IsExact result → TakesBut before.taken after.taken
       (before.held ++ text_of t (flat_map (start_lines t n') (take made hosted))) after.held

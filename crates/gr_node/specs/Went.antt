@@ -14,6 +14,7 @@ use Rattle.gr_publog.specs.Crash.{EitherRose}
 use Rattle.gr_topo.specs.Topology.{TopologyView}
 use Rattle.gr_model.specs.NetOf.{net_of}
 use Rattle.gr_model.specs.World.{sent_lines}
+use Rattle.gr_model.specs.Orders.{fed}
 use Rattle.gr_model_calls.specs.Edges.{GoesOverEdge}
 use Rattle.gr_broker_relay.specs.declared.outcome.Outcome.{Outcome}
 use Rattle.gr_report.specs.Named.{AllNamed}
@@ -116,8 +117,14 @@ pub record Makes (t : TopologyView) (n : NodeView) (c : Call) (n' : NodeView) (t
   pub named : AllNamed t told.reports
   pub offers : n'.offers ≡ n.offers
   pub now : n'.now ≡ n.now
+  pub orders : n'.orders ≡ n.orders
   pub done : call_done t n c ≡ record {
-    node = record { brokers = n'.brokers; offers = n.offers + length frames; now = n.now };
+    node = record {
+      brokers = n'.brokers;
+      offers = n.offers + length frames;
+      now = n.now;
+      orders = fed n.orders told.reports;
+    };
     lines = told.reports ++ sent_lines (suc n.offers) frames;
     entries = offers_of frames;
   }

@@ -1,6 +1,6 @@
 //! One arrival is taken, with all that it causes.
 
-ghost use Rattle.std.specs.Prelude.{◌≡◌, ◌≢◌, ℕ, ◌≤◌, true, false, min, List, [], length, map, drop, Err};
+ghost use Rattle.std.specs.Prelude.{◌≡◌, ◌≢◌, ℕ, ◌≤◌, true, false, min, List, [], ◌∷◌, ◌++◌, length, map, drop, Err};
 ghost use Rattle.std.specs.Prelude.{IfOk, IfErr, OnOk, IsErrOf};
 ghost use Rattle.gr_out.specs.Lane.{Lane};
 ghost use Rattle.gr_scenario.specs.Steps.{AreStepsOf};
@@ -11,7 +11,7 @@ ghost use Rattle.gr_model_theorems.specs.Served.{IsOfBytes};
 ghost use Rattle.gr_node.specs.Seen.{seen};
 ghost use Rattle.gr_node.specs.Of.{AreHosted, IsSet, AllStand, OthersStay};
 ghost use Rattle.gr_node.specs.Lasting.{AllKeep};
-ghost use Rattle.gr_node.specs.Plan.{calls, acts_of, quiet_calls};
+ghost use Rattle.gr_node.specs.Plan.{calls, settles, led_to, quiet_calls};
 ghost use Rattle.gr_node.specs.Done.{at_arrival};
 ghost use Rattle.gr_node.specs.Went.{outside, Went, SinkMoves, DiskMoves, PostMoves, IsTurnFault};
 ghost use Rattle.gr_node.specs.Turns.{IsFirst, Turned};
@@ -19,6 +19,7 @@ ghost use Rattle.gr_node.specs.Turns.{IsFirst, Turned};
 use crate::bindings::is_among;
 use crate::node::{Node, Site};
 use crate::noting::take_datagram;
+use crate::ordering::settle;
 use crate::schedule::next_after;
 use crate::turning::be_quiet;
 use gr_out::{Arrival, Disk, Page, Post, PostFault, RunFault, Sink};
@@ -31,8 +32,8 @@ fn last_tick(moment: u64) -> u64
     moment.min(MAX_NUMBER)
 }
 
-/// A datagram that has come is taken at its broker; one that is for a broker elsewhere is passed over. Then the page is
-/// flushed.
+/// A datagram that has come is taken at its broker, and then what is ready in one order is told; one that is for a
+/// broker elsewhere is passed over. Then the page is flushed.
 fn datagram_comes<D: Disk, P: Post, K: Sink>(
     site: &Site<'_>,
     node: &mut Node,
@@ -48,7 +49,7 @@ fn datagram_comes<D: Disk, P: Post, K: Sink>(
     requires stands { D.tells → AllStand (D.lane_of disk.old) (seen node.old) }
     ensures bytes { IsOfBytes (datagram b bytes.now moment) }
     ensures went { (left : List Publish) → Went site.now.topo.now site.now.hosted.now P.tells
-        (acts_of (net_of site.now.topo.now) site.now.hosted.now left (datagram b bytes.now moment))
+        (led_to (net_of site.now.topo.now) site.now.hosted.now left (datagram b bytes.now moment))
         (at_arrival site.now.hosted.now (seen node.old) (datagram b bytes.now moment)) (seen node.new)
         (outside (K.taken sink.old) page.old.held (P.journal post.old))
         (outside (K.taken sink.new) page.new.held (P.journal post.new)) result }
@@ -68,12 +69,12 @@ fn datagram_comes<D: Disk, P: Post, K: Sink>(
     }
     node.now = last_tick(moment);
     match take_datagram(site, node, b, bytes, disk, post, page, sink) {
-        Ok(()) => page.flush(sink),
+        Ok(()) => settle(site, node, page, sink),
         Err(fault) => Err(fault),
     }
 }
 
-/// A quiet moment that has come, and then the page is flushed.
+/// A quiet moment that has come. Then what is ready in one order is told, and the page is flushed.
 fn quiet_comes<D: Disk, P: Post, K: Sink>(
     site: &Site<'_>,
     node: &mut Node,
@@ -92,7 +93,7 @@ fn quiet_comes<D: Disk, P: Post, K: Sink>(
     requires first { IsFirst (net_of site.now.topo.now) site.now.hosted.now (drop next steps.now) }
     ensures went { Went site.now.topo.now site.now.hosted.now P.tells
         (map calls (quiet_calls (net_of site.now.topo.now) site.now.hosted.now
-        (publishes_of (net_of site.now.topo.now) site.now.hosted.now (drop next steps.now))))
+        (publishes_of (net_of site.now.topo.now) site.now.hosted.now (drop next steps.now))) ++ settles ∷ [])
         (at_arrival site.now.hosted.now (seen node.old) (quiet moment)) (seen node.new)
         (outside (K.taken sink.old) page.old.held (P.journal post.old))
         (outside (K.taken sink.new) page.new.held (P.journal post.new)) result }
@@ -109,7 +110,7 @@ fn quiet_comes<D: Disk, P: Post, K: Sink>(
 {
     node.now = last_tick(moment);
     match be_quiet(site, node, steps, next, disk, post, page, sink) {
-        Ok(()) => page.flush(sink),
+        Ok(()) => settle(site, node, page, sink),
         Err(fault) => Err(fault),
     }
 }

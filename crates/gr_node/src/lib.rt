@@ -13,6 +13,7 @@ mod finishing;
 mod law;
 mod node;
 mod noting;
+mod ordering;
 mod running;
 mod schedule;
 mod service;

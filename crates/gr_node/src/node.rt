@@ -1,6 +1,6 @@
 //! A node: the brokers that are hosted here.
 
-ghost use Rattle.std.specs.Prelude.{◌≡◌, ◌<◌, ◌≤◌, true, length, is_some, IfOk};
+ghost use Rattle.std.specs.Prelude.{◌≡◌, ◌<◌, ◌≤◌, true, length, replicate, None, is_some, IfOk};
 ghost use Rattle.gr_note.specs.declared.TheConstants.{MAX_NUMBER};
 ghost use Rattle.gr_pubend.specs.Log.{log_of};
 ghost use Rattle.gr_broker.specs.Of.{IsBrokerOf};
@@ -9,6 +9,7 @@ ghost use Rattle.gr_node.specs.Seen.{seen, broker_in, records_in, none_started};
 ghost use Rattle.gr_node.specs.Of.{NodeFits};
 
 use gr_broker::Broker;
+use gr_order_lists::Orders;
 use gr_out::Memory;
 use gr_topo::Topology;
 use std::alloc::Global;
@@ -21,13 +22,14 @@ pub(crate) struct Site<'a> {
     pub hosted: &'a [u16],
 }
 
-/// The hosted brokers by number, with None where a broker is elsewhere; how many frames they have offered; and the
-/// moment of the last arrival, in milliseconds.
+/// The hosted brokers by number, with None where a broker is elsewhere; how many frames they have offered; the moment
+/// of the last arrival, in milliseconds; and the lists of the subscribers that get one over all publishers.
 #[derive(Drop)]
 pub(crate) struct Node {
     pub brokers: Vec<Option<Broker>>,
     pub offers: u64,
     pub now: u64,
+    pub orders: Orders,
 }
 
 /// The number of the last event in the log of a publisher, at its host.
@@ -44,19 +46,29 @@ fn last_in(topo: &Topology, host: &Broker, p: u16) -> u64
     log.last()
 }
 
+/// Places for so many brokers, before any has started.
+fn no_brokers(alloc: Global, brokers: u16) -> Result<Vec<Option<Broker>>, Memory>
+    ensures { IfOk result (λ places. places.items ≡ replicate brokers None) }
+{
+    let mut places = Vec::with_capacity(alloc, brokers as usize)?;
+    'places: for _broker in 0..brokers {
+        places.push(None)?;
+    }
+    Ok(places)
+}
+
 impl Node {
-    /// A node for so many brokers, before any has started.
-    pub(crate) fn new(alloc: Global, brokers: u16) -> Result<Node, Memory>
-        ensures { IfOk result (λ n. seen n ≡ none_started brokers) }
+    /// A node for the brokers of a topology, before any has started.
+    pub(crate) fn new(alloc: Global, topo: &Topology) -> Result<Node, Memory>
+        ensures { IfOk result (λ n. seen n ≡ none_started topo.now) }
     {
-        let mut places = Vec::with_capacity(alloc, brokers as usize)?;
-        'places: for _broker in 0..brokers {
-            places.push(None)?;
-        }
+        let orders = Orders::new(alloc, topo)?;
+        let brokers = no_brokers(alloc, topo.brokers())?;
         Ok(Node {
-            brokers: places,
+            brokers,
             offers: 0,
             now: 0,
+            orders,
         })
     }
 

@@ -1,6 +1,7 @@
 //! A run: what comes is taken, turn by turn.
 
-ghost use Rattle.std.specs.Prelude.{◌≡◌, ◌≢◌, ◌⊎◌, ℕ, ◌≤◌, Bool, true, List, [], length, Err, OnOk, IfOk, IsErrOf, vec_len};
+ghost use Rattle.std.specs.Prelude.{◌≡◌, ◌≢◌, ◌⊎◌, ℕ, ◌≤◌, Bool, true, List, [], length};
+ghost use Rattle.std.specs.Prelude.{Err, OnOk, IfOk, IsErrOf, vec_len};
 ghost use Rattle.std.specs.List.{AllByRecursion};
 ghost use Rattle.gr_scenario.specs.Steps.{AreStepsOf};
 ghost use Rattle.gr_model.specs.NetOf.{net_of};
@@ -9,11 +10,13 @@ ghost use Rattle.gr_model_theorems.specs.Served.{IsOfBytes};
 ghost use Rattle.gr_node.specs.Seen.{seen};
 ghost use Rattle.gr_node.specs.Of.{AreHosted, IsSet, AllStand, OthersStay};
 ghost use Rattle.gr_node.specs.Lasting.{StoodEachTime};
-ghost use Rattle.gr_node.specs.Plan.{run_acts};
+ghost use Rattle.gr_node.specs.Plan.{turn_acts, run_acts};
+ghost use Rattle.gr_node.specs.Done.{settled};
 ghost use Rattle.gr_node.specs.Went.{outside, Went, IsExact, SinkMoves, DiskMoves, PostMoves};
 
 use crate::arriving::turn;
 use crate::node::{Node, Site};
+use crate::ordering::settle;
 use crate::schedule::next_publish;
 use gr_out::{Disk, Memory, Page, Post, RunFault, Sink};
 use gr_sched::Line;
@@ -33,7 +36,7 @@ fn new_piece(alloc: Global) -> Result<Vec<u8>, Memory>
 /// waited for. Of a datagram 65,535 bytes are taken.
 ///
 /// `Memory` where memory is refused, and `Disk`, `Write` and `Post` only where the disk, the sink or the post failed.
-pub(crate) fn run<D: Disk, P: Post, K: Sink>(
+fn run_turns<D: Disk, P: Post, K: Sink>(
     site: &Site<'_>,
     node: &mut Node,
     steps: &[Line],
@@ -51,7 +54,7 @@ pub(crate) fn run<D: Disk, P: Post, K: Sink>(
     ensures ran { (came : List Arrival) × ((shut : Bool) × ((length came ≤ turns) × (AllByRecursion IsOfBytes came
         × (OnOk result ((shut ≡ true) ⊎ (length came ≡ turns))
         × (Went site.now.topo.now site.now.hosted.now P.tells
-        (run_acts (net_of site.now.topo.now) site.now.hosted.now steps.now came shut)
+        (turn_acts (net_of site.now.topo.now) site.now.hosted.now steps.now came shut)
         (seen node.old) (seen node.new) (outside (K.taken sink.old) page.old.held (P.journal post.old))
         (outside (K.taken sink.new) page.new.held (P.journal post.new)) result
         × (D.tells → StoodEachTime site.now.topo.now site.now.hosted.now steps.now (seen node.old) came
@@ -86,4 +89,49 @@ pub(crate) fn run<D: Disk, P: Post, K: Sink>(
         }
     }
     Ok(())
+}
+
+/// Tells what is ready in one order after the starts, and then takes at most so many arrivals, each with all that it
+/// causes; after each the page is flushed, before the next is waited for. Of a datagram 65,535 bytes are taken.
+///
+/// `Memory` where memory is refused, and `Disk`, `Write` and `Post` only where the disk, the sink or the post failed.
+pub(crate) fn run<D: Disk, P: Post, K: Sink>(
+    site: &Site<'_>,
+    node: &mut Node,
+    steps: &[Line],
+    turns: u64,
+    disk: &mut D,
+    post: &mut P,
+    page: &mut Page,
+    sink: &mut K,
+) -> Result<(), RunFault>
+    requires hosted { AreHosted site.now.topo.now site.now.hosted.now }
+    requires set { IsSet site.now.topo.now site.now.hosted.now (seen node.old) }
+    requires stands { D.tells → AllStand (D.lane_of disk.old) (seen node.old) }
+    requires steps { AreStepsOf site.now.topo.now steps.now }
+    requires empty { page.old.held ≡ [] }
+    ensures ran { (came : List Arrival) × ((shut : Bool) × ((length came ≤ turns) × (AllByRecursion IsOfBytes came
+        × (OnOk result ((shut ≡ true) ⊎ (length came ≡ turns))
+        × (Went site.now.topo.now site.now.hosted.now P.tells
+        (run_acts (net_of site.now.topo.now) site.now.hosted.now steps.now came shut)
+        (seen node.old) (seen node.new) (outside (K.taken sink.old) page.old.held (P.journal post.old))
+        (outside (K.taken sink.new) page.new.held (P.journal post.new)) result
+        × (D.tells → StoodEachTime site.now.topo.now site.now.hosted.now steps.now
+        (settled (seen node.old)) came (D.lane_of disk.new))))))) }
+    ensures empty { IsExact result → (result ≢ Err RunFault.Disk) → page.new.held ≡ [] }
+    ensures set { OnOk result (IsSet site.now.topo.now site.now.hosted.now (seen node.new)) }
+    ensures stands { D.tells → OnOk result (AllStand (D.lane_of disk.new) (seen node.new)) }
+    ensures at_post { IsErrOf result RunFault.Post → IsSet site.now.topo.now site.now.hosted.now (seen node.new) }
+    ensures at_post_stands { D.tells → IsErrOf result RunFault.Post → AllStand (D.lane_of disk.new) (seen node.new) }
+    ensures others { D.tells
+        → OthersStay site.now.topo.now site.now.hosted.now (D.lane_of disk.old) (D.lane_of disk.new) }
+    ensures disk { DiskMoves (D.faults disk.old) (D.stops disk.old) (D.faults disk.new) (D.stops disk.new) result }
+    ensures sink { SinkMoves (K.faults sink.old) (K.faults sink.new) result }
+    ensures moves { PostMoves (P.faults post.old) (P.faults post.new) result }
+    ensures never_damaged { (p at : ℕ) → result ≢ Err (RunFault.Damaged p at) }
+{
+    match settle(site, node, page, sink) {
+        Ok(()) => run_turns(site, node, steps, turns, disk, post, page, sink),
+        Err(fault) => Err(fault),
+    }
 }

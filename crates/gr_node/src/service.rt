@@ -39,7 +39,7 @@ fn open_hosted<D: Disk, K: Sink>(
     sink: &mut K,
 ) -> Result<(), RunFault>
     requires hosted { AreHosted site.now.topo.now site.now.hosted.now }
-    requires none { seen node.old ≡ none_started (length site.now.topo.now.brokers) }
+    requires none { seen node.old ≡ none_started site.now.topo.now }
     // all that they tell is written
     ensures started { Started site.now.topo.now site.now.hosted.now (seen node.new)
         (outside (K.taken sink.old) page.old.held []) (outside (K.taken sink.new) [] []) result }
@@ -172,7 +172,7 @@ fn serve_with<D: Disk, P: Post, K: Sink>(
 ) -> Result<(), RunFault>
     requires hosted { AreHosted site.now.topo.now site.now.hosted.now }
     requires steps { AreStepsOf site.now.topo.now steps.now }
-    requires none { seen node.old ≡ none_started (length site.now.topo.now.brokers) }
+    requires none { seen node.old ≡ none_started site.now.topo.now }
     requires empty { page.old.held ≡ [] }
     ensures serves { (journal : List Entry) → (P.tells → P.journal post.old ≡ journal
         ++ map (bound_entry site.now.topo.now site.now.hosted.now) (nodes site.now.topo.now site.now.hosted.now))
@@ -215,7 +215,7 @@ fn serve_bound<D: Disk, P: Post, K: Sink>(
     ensures sink { SinkMoves (K.faults sink.old) (K.faults sink.new) result }
     ensures post { PostMoves (P.faults post.old) (P.faults post.new) result }
 {
-    let mut node = match Node::new(site.alloc, site.topo.brokers()) {
+    let mut node = match Node::new(site.alloc, site.topo) {
         Ok(node) => node,
         Err(_) => return Err(RunFault::Memory),
     };

@@ -11,10 +11,11 @@ ghost use Rattle.gr_node.specs.Starting.{Started, Found, IsFirstDamaged};
 
 use crate::beginning::start_one;
 use crate::node::{Node, Site};
+use crate::ordering::put_heard;
 use gr_out::{Disk, Page, RunFault, Sink};
-use gr_report::put_all;
 
-/// Starts the hosted brokers, in order, and puts what that tells.
+/// Starts the hosted brokers, in order, and puts what that tells, which the subscribers that get one list over all
+/// publishers hear.
 ///
 /// `Damaged` names the first publisher, broker by broker, whose lane holds no log, and `Disk` comes only where the disk
 /// failed in this call; the lines of the brokers before are put then. `Memory` where memory is refused, and `Write`
@@ -27,7 +28,7 @@ pub(crate) fn start_hosted<D: Disk, K: Sink>(
     sink: &mut K,
 ) -> Result<(), RunFault>
     requires hosted { AreHosted site.now.topo.now site.now.hosted.now }
-    requires none { seen node.old ≡ none_started (length site.now.topo.now.brokers) }
+    requires none { seen node.old ≡ none_started site.now.topo.now }
     ensures started { Started site.now.topo.now site.now.hosted.now (seen node.new)
         (outside (K.taken sink.old) page.old.held []) (outside (K.taken sink.new) page.new.held []) result }
     ensures set { OnOk result (IsSet site.now.topo.now site.now.hosted.now (seen node.new)) }
@@ -57,10 +58,11 @@ pub(crate) fn start_hosted<D: Disk, K: Sink>(
             Err(fault) => return Err(fault),
         };
         node.brokers[*b as usize] = Some(started.broker);
-        match put_all(
+        match put_heard(
             site.alloc,
             site.topo,
             started.outcome.reports.as_slice(),
+            &mut node.orders,
             page,
             sink,
         ) {

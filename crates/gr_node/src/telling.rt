@@ -8,6 +8,7 @@ ghost use Rattle.gr_frame.specs.Cut.{AreFrames};
 ghost use Rattle.gr_out.specs.Entry.{offered};
 ghost use Rattle.gr_out.specs.Page.{TakesBut, TakesFront};
 ghost use Rattle.gr_model.specs.NetOf.{net_of};
+ghost use Rattle.gr_model.specs.Orders.{fed};
 ghost use Rattle.gr_model.specs.Text.{labels_of, whole_line};
 ghost use Rattle.gr_model.specs.World.{sent_line, sent_lines};
 ghost use Rattle.gr_model_calls.specs.Edges.{GoesOverEdge};
@@ -17,12 +18,14 @@ ghost use Rattle.gr_node.specs.Seen.{text_of};
 ghost use Rattle.gr_node.specs.Plan.{offers_of};
 ghost use Rattle.gr_node.specs.Went.{Begins, SinkMoves};
 
+use crate::ordering::put_heard;
 use gr_broker::Outcome;
 use gr_frame::Frames;
 use gr_model::Report;
+use gr_order_lists::Orders;
 use gr_out::{Page, Post, PostFault, RunFault, Sink};
 use gr_outbox::sent_report;
-use gr_report::{put_all, put_line};
+use gr_report::put_line;
 use gr_topo::Topology;
 use std::alloc::Global;
 
@@ -150,8 +153,9 @@ fn offer_frames<P: Post, K: Sink>(
     Ok(())
 }
 
-/// Puts the lines of an outcome; then of each frame, in order, its line is put, with the number behind those offered
-/// before, and it is offered. An offer that fails is a loss, and the rest goes on.
+/// Puts the lines of an outcome, which the subscribers that get one list over all publishers hear; then of each frame,
+/// in order, its line is put, with the number behind those offered before, and it is offered. An offer that fails is a
+/// loss, and the rest goes on.
 ///
 /// `Memory` where memory is refused, and `Write` only where the sink failed; a front of the lines is told then, and a
 /// front of the frames offered.
@@ -160,6 +164,7 @@ pub(crate) fn tell<P: Post, K: Sink>(
     topo: &Topology,
     told: Outcome,
     offers: &mut u64,
+    orders: &mut Orders,
     post: &mut P,
     page: &mut Page,
     sink: &mut K,
@@ -178,11 +183,12 @@ pub(crate) fn tell<P: Post, K: Sink>(
     ensures sent_front { P.tells → (fs : List Frame) → AreFrames told.frames.frames fs
         → OnErr result (Begins (P.journal post.old) (P.journal post.new) (offers_of fs)) }
     ensures offers { OnOk result (offers.new ≡ offers.old + length told.frames.frames) }
+    ensures heard { OnOk result (orders.new ≡ fed orders.old told.reports) }
     ensures cause { IfErr result IsPutFault }
     ensures sink { SinkMoves (K.faults sink.old) (K.faults sink.new) result }
     ensures post { P.faults post.new ≡ P.faults post.old }
 {
-    match put_all(alloc, topo, told.reports.as_slice(), page, sink) {
+    match put_heard(alloc, topo, told.reports.as_slice(), orders, page, sink) {
         Ok(()) => offer_frames(alloc, topo, told.frames.bytes(), offers, post, page, sink),
         Err(fault) => Err(fault),
     }

@@ -1,19 +1,20 @@
--- The text of what steps tell, cut behind one of them
-use Rattle.std.proofs.Common.{◌≡◌, ℕ, ◌+◌, ◌<◌, List, [], ◌∷◌, ◌++◌, take, drop, get_or, length, refl, sym, ap, ◌∙◌}
-use Rattle.std.proofs.lemmas.List.{append-nil, take_more, take-append-drop}
-use Rattle.std.proofs.lemmas.Grind.{flat_map-append}
+-- The text of what steps tell over a world and lists, cut behind one of them
+use Rattle.std.proofs.Common.{◌≡◌, ℕ, ◌+◌, ◌<◌, List, [], ◌∷◌, ◌++◌, take, drop, get_or, length, sym, ap, ◌∙◌, subst}
+use Rattle.std.proofs.lemmas.List.{take_more, take-append-drop}
 use Rattle.gr_sched.specs.declared.step.Line.{Line}
+use Rattle.gr_topo.specs.Topology.{TopologyView}
 use Rattle.gr_model.specs.declared.report.Report.{Report}
 use Rattle.gr_model.specs.Net.{Net}
 use Rattle.gr_model.specs.NetOf.{net_of}
-use Rattle.gr_model.specs.Text.{Labels, labels_of, whole_line, report_text}
-use Rattle.gr_model.specs.World.{World, Transition, followed_by, next, run_all, run_from_by, report_of_by, start}
-use Rattle.gr_model_calls.proofs.runs.Schedules.{report_lines}
+use Rattle.gr_model.specs.Orders.{Order, fed, with_orders, orders_of, AreOrdersOf}
+use Rattle.gr_model.specs.Text.{Labels, labels_of, report_text}
+use Rattle.gr_model.specs.World.{World, Transition, followed_by, next, run_all, run_from, start}
+use Rattle.gr_model.proofs.Ordering.{fed_keeps, rested_keeps}
 use Rattle.gr_model_theorems.proofs.server.Arriving.{run_append}
-use Rattle.gr_topo.specs.Topology.{TopologyView}
 use Rattle.gr_world.specs.Seen.{WorldView, net_in, world_of}
-use Rattle.gr_replay.specs.Replayed.{replayed_text}
-use Rattle.gr_replay.specs.Going.{Tells, step_text, text_from}
+use Rattle.gr_replay.specs.Replayed.{all_lines, replayed_text}
+use Rattle.gr_replay.specs.Going.{Tells, with_ready, left_behind, orders_after, step_text, text_from}
+use Rattle.gr_replay.proofs.OrderTexts.{told_append, told_more, after_more, lines_append, lines_more, text_append, replayed_apart}
 
 -- the steps before one, and it
 one_more : (net : Net) (w : World) (steps : List Line) (i : ℕ) (l : Line) → i < length steps → l ≡ get_or steps i l → run_all net w (take (i + 1) steps) ≡ followed_by (run_all net w (take i steps)) (λ u. run_all net u (l ∷ []))
@@ -24,21 +25,25 @@ one_more net w steps i l h e =
 pub leads_more : (net : Net) (w : World) (steps : List Line) (i : ℕ) (l : Line) → i < length steps → l ≡ get_or steps i l → (run_all net w (take (i + 1) steps)).world ≡ (next net (run_all net w (take i steps)).world l).world
 leads_more net w steps i l h e = ap (λ (t : Transition). t.world) (one_more net w steps i l h e)
 
--- what they tell
-tells_more : (net : Net) (w : World) (steps : List Line) (i : ℕ) (l : Line) → i < length steps → l ≡ get_or steps i l → (run_all net w (take (i + 1) steps)).lines ≡ (run_all net w (take i steps)).lines ++ (next net (run_all net w (take i steps)).world l).lines
-tells_more net w steps i l h e =
-    ap (λ (t : Transition). t.lines) (one_more net w steps i l h e) ∙ ap (λ xs. (run_all net w (take i steps)).lines ++ xs) (append-nil (next net (run_all net w (take i steps)).world l).lines)
-
--- the text with one step more, where a world stands between
-pub text_step : (first w : WorldView) (steps : List Line) (i : ℕ) (l : Line) → i < length steps → l ≡ get_or steps i l → w.topo ≡ first.topo → world_of w ≡ (run_all (net_in first) (world_of first) (take i steps)).world → text_from first (take (i + 1) steps) ≡ text_from first (take i steps) ++ step_text w l
-text_step first w steps i l h e t u =
-    ap (report_text labels) (tells_more (net_in first) (world_of first) steps i l h e)
-    ∙ flat_map-append (whole_line labels) (run_all (net_in first) (world_of first) (take i steps)).lines (next (net_in first) (run_all (net_in first) (world_of first) (take i steps)).world l).lines
-    ∙ ap (λ x. text_from first (take i steps) ++ report_text labels (next (net_in first) x l).lines) (sym u)
-    ∙ ap (λ x. text_from first (take i steps) ++ report_text (labels_of x) (next (net_of x) (world_of w) l).lines) (sym t)
+-- the text with one step more, where a world and lists stand between
+pub text_step : (first w : WorldView) (os now : List Order) (steps : List Line) (i : ℕ) (l : Line) → i < length steps → l ≡ get_or steps i l → w.topo ≡ first.topo → world_of w ≡ (run_all (net_in first) (world_of first) (take i steps)).world
+    → now ≡ orders_after os (run_from (net_in first) (world_of first) (take i steps)) → text_from first os (take (i + 1) steps) ≡ text_from first os (take i steps) ++ step_text w now l
+text_step first w os now steps i l h e t u o =
+    ap (λ rs. report_text labels (all_lines (with_orders os rs))) (told_more (net_in first) (world_of first) steps i l h e)
+    ∙ ap (report_text labels) (lines_more os told (next (net_in first) there l).lines)
+    ∙ text_append labels (all_lines (with_orders os told)) (with_ready (orders_after os told) (next (net_in first) there l).lines)
+    ∙ ap (λ x. text_from first os (take i steps) ++ report_text labels (with_ready x (next (net_in first) there l).lines)) (sym o)
+    ∙ ap (λ x. text_from first os (take i steps) ++ report_text labels (with_ready now (next (net_in first) x l).lines)) (sym u)
+    ∙ ap (λ x. text_from first os (take i steps) ++ report_text (labels_of x) (with_ready now (next (net_of x) (world_of w) l).lines)) (sym t)
   where
     labels : Labels
     labels = labels_of first.topo
+
+    told : List (List Report)
+    told = run_from (net_in first) (world_of first) (take i steps)
+
+    there : World
+    there = (run_all (net_in first) (world_of first) (take i steps)).world
 
 -- where the steps lead with one more
 pub leads_step : (first w : WorldView) (steps : List Line) (i : ℕ) (l : Line) (u : World) → i < length steps → l ≡ get_or steps i l → w.topo ≡ first.topo → world_of w ≡ (run_all (net_in first) (world_of first) (take i steps)).world → u ≡ (next (net_in w) (world_of w) l).world → u ≡ (run_all (net_in first) (world_of first) (take (i + 1) steps)).world
@@ -47,35 +52,58 @@ leads_step first w steps i l u h e t x n =
     ∙ ap (λ z. (next (net_in first) z l).world) x
     ∙ sym (leads_more (net_in first) (world_of first) steps i l h e)
 
+-- and which lists they leave
+pub left_step : (first w : WorldView) (os now left : List Order) (steps : List Line) (i : ℕ) (l : Line) → i < length steps → l ≡ get_or steps i l → w.topo ≡ first.topo → world_of w ≡ (run_all (net_in first) (world_of first) (take i steps)).world
+    → now ≡ orders_after os (run_from (net_in first) (world_of first) (take i steps)) → left ≡ left_behind now (next (net_in w) (world_of w) l).lines → left ≡ orders_after os (run_from (net_in first) (world_of first) (take (i + 1) steps))
+left_step first w os now left steps i l h e t x o n =
+    n ∙ ap (λ z. left_behind now (next (net_of z) (world_of w) l).lines) t
+    ∙ ap (λ z. left_behind now (next (net_in first) z l).lines) x
+    ∙ ap (λ z. left_behind z (next (net_in first) there l).lines) o
+    ∙ sym (ap (orders_after os) (told_more (net_in first) (world_of first) steps i l h e) ∙ after_more os told (next (net_in first) there l).lines)
+  where
+    told : List (List Report)
+    told = run_from (net_in first) (world_of first) (take i steps)
+
+    there : World
+    there = (run_all (net_in first) (world_of first) (take i steps)).world
+
+-- the lists that a step leaves are those of the topology
+pub left_are : (t : TopologyView) (os left : List Order) (lines : List Report) → AreOrdersOf t os → left ≡ left_behind os lines → AreOrdersOf t left
+left_are t os left lines a e = subst (AreOrdersOf t) (sym e) (rested_keeps t (fed os lines) (fed_keeps t os lines a))
+
 -- the text of all steps goes on behind that of the first of them
-pub text_rest : (first : WorldView) (steps : List Line) (k : ℕ) → (rest : List ℕ) × (text_from first steps ≡ text_from first (take k steps) ++ rest)
-text_rest first steps k =
+pub text_rest : (first : WorldView) (os : List Order) (steps : List Line) (k : ℕ) → (rest : List ℕ) × (text_from first os steps ≡ text_from first os (take k steps) ++ rest)
+text_rest first os steps k =
     let u = (run_all (net_in first) (world_of first) (take k steps)).world in
-    let rest = (run_all (net_in first) u (drop k steps)).lines in (
-      report_text (labels_of first.topo) rest,
-      ap (text_from first) (sym (take-append-drop k steps))
-          ∙ ap (λ (t : Transition). report_text (labels_of first.topo) t.lines) (run_append (net_in first) (world_of first) (take k steps) (drop k steps))
-          ∙ flat_map-append (whole_line (labels_of first.topo)) (run_all (net_in first) (world_of first) (take k steps)).lines rest,
+    let told = run_from (net_in first) (world_of first) (take k steps) in
+    let rest = run_from (net_in first) u (drop k steps) in (
+      report_text (labels_of first.topo) (all_lines (with_orders (orders_after os told) rest)),
+      ap (text_from first os) (sym (take-append-drop k steps))
+          ∙ ap (λ rs. report_text (labels_of first.topo) (all_lines (with_orders os rs))) (told_append (net_in first) (world_of first) (take k steps) (drop k steps))
+          ∙ ap (report_text (labels_of first.topo)) (lines_append os told rest)
+          ∙ text_append (labels_of first.topo) (all_lines (with_orders os told)) (all_lines (with_orders (orders_after os told) rest)),
     )
 
--- the text of a whole replay is that of its steps from the start
-pub replayed_from : (t : TopologyView) (w : WorldView) (steps : List Line) → w.topo ≡ t → world_of w ≡ start (net_of t) → replayed_text t steps ≡ text_from w steps
-unfolding report_of_by
-replayed_from t w steps e s =
-    ap (report_text (labels_of t)) (report_lines (net_of t) (start (net_of t)) steps)
-    ∙ ap (λ u. report_text (labels_of t) (run_all (net_of t) u steps).lines) (sym s)
-    ∙ ap (λ x. report_text (labels_of x) (run_all (net_of x) (world_of w) steps).lines) (sym e)
+-- the lines that a step tells, and what is ready behind them, are its text
+pub step_lines : (old new : WorldView) (os : List Order) (l : Line) (lines told : List Report) (t : TopologyView) → t ≡ old.topo → told ≡ lines → Tells l old new lines → report_text (labels_of t) (with_ready os told) ≡ step_text old os l
+step_lines old new os l lines told t e s n =
+    ap (λ x. report_text (labels_of x) (with_ready os told)) e ∙ ap (λ xs. report_text (labels_of old.topo) (with_ready os xs)) (s ∙ sym (ap (λ (x : Transition). x.lines) n))
 
--- the lines that a step tells are its text
-pub step_lines : (old new : WorldView) (l : Line) (lines told : List Report) (t : TopologyView) → t ≡ old.topo → told ≡ lines → Tells l old new lines → report_text (labels_of t) told ≡ step_text old l
-step_lines old new l lines told t e s n =
-    ap (λ x. report_text (labels_of x) told) e ∙ ap (report_text (labels_of old.topo)) (s ∙ sym (ap (λ (x : Transition). x.lines) n))
+-- and which lists they leave
+pub step_leaves : (old new : WorldView) (os : List Order) (l : Line) (lines told : List Report) → told ≡ lines → Tells l old new lines → left_behind os told ≡ left_behind os (next (net_in old) (world_of old) l).lines
+step_leaves old new os l lines told s n = ap (left_behind os) (s ∙ sym (ap (λ (x : Transition). x.lines) n))
 
--- no steps tell nothing
-pub replayed_none : (t : TopologyView) → replayed_text t [] ≡ []
-unfolding report_of_by run_from_by
-replayed_none t = refl
-
--- where the opening told nothing, what was told and what steps tell is the text of their replay
-pub whole_text : (t : TopologyView) (w : WorldView) (told : List ℕ) (slice steps : List Line) → told ≡ [] → slice ≡ steps → w.topo ≡ t → world_of w ≡ start (net_of t) → told ++ text_from w slice ≡ replayed_text t steps
-whole_text t w told slice steps z s e x = ap (λ xs. xs ++ text_from w slice) z ∙ ap (text_from w) s ∙ sym (replayed_from t w steps e x)
+-- where the opening told nothing, what it told and what steps tell is the text of their replay
+pub whole_text : (t : TopologyView) (w : WorldView) (os left : List Order) (slice steps : List Line) → os ≡ orders_of t → left ≡ left_behind os w.told → w.told ≡ [] → slice ≡ steps → w.topo ≡ t → world_of w ≡ start (net_of t)
+    → report_text (labels_of w.topo) (with_ready os w.told) ++ text_from w left slice ≡ replayed_text t steps
+whole_text t w os left slice steps o l z s e x =
+    ap (λ y. report_text (labels_of w.topo) (with_ready y w.told) ++ text_from w left slice) o
+    ∙ ap (λ y. report_text (labels_of w.topo) (with_ready (orders_of t) y) ++ text_from w left slice) z
+    ∙ ap (λ y. opened ++ text_from w y slice) (l ∙ ap (λ y. left_behind y w.told) o ∙ ap (left_behind (orders_of t)) z)
+    ∙ ap (λ y. opened ++ text_from w (left_behind (orders_of t) []) y) s
+    ∙ ap (λ y. opened ++ report_text (labels_of w.topo) (all_lines (with_orders (left_behind (orders_of t) []) (run_from (net_in w) y steps)))) x
+    ∙ ap (λ y. report_text (labels_of y) (with_ready (orders_of t) []) ++ report_text (labels_of y) (all_lines (with_orders (left_behind (orders_of t) []) (run_from (net_of y) (start (net_of t)) steps)))) e
+    ∙ replayed_apart t steps
+  where
+    opened : List ℕ
+    opened = report_text (labels_of w.topo) (with_ready (orders_of t) [])

@@ -2,6 +2,7 @@
 #![tactic(auto)]
 
 mod law;
+mod ordering;
 mod replaying;
 mod stepping;
 

@@ -7,6 +7,7 @@ ghost use Rattle.gr_out.specs.Stops.{StaysFaultless};
 ghost use Rattle.gr_publog.specs.Crash.{EitherRose};
 ghost use Rattle.gr_topo.specs.Topology.{host_of};
 ghost use Rattle.gr_model.specs.NetOf.{net_of};
+ghost use Rattle.gr_model.specs.Orders.{AreOrdersOf};
 ghost use Rattle.gr_model.specs.Text.{labels_of, report_text};
 ghost use Rattle.gr_model.specs.World.{next, start};
 ghost use Rattle.gr_broker.specs.Opened.{IsDamagedAt};
@@ -19,12 +20,13 @@ ghost use Rattle.gr_out.specs.Page.{TakesFront};
 ghost use Rattle.gr_report.specs.Named.{AllNamed, IsPutFault};
 ghost use Rattle.gr_replay.specs.Replayed.{replayed_text};
 ghost use Rattle.gr_replay.specs.Going.{IsGoing, IsOpeningFault, IsRunFault, NotDamagedRun, DiskCounts, step_text};
-ghost use Rattle.gr_replay.specs.Going.{text_from};
+ghost use Rattle.gr_replay.specs.Going.{text_from, with_ready, left_behind};
 
+use crate::ordering::put_step;
 use crate::stepping::step;
 use gr_model::topologies::every_topology_is_a_tree;
+use gr_order_lists::Orders;
 use gr_out::{Page, RunFault, SimDisk, Sink};
-use gr_report::put_all;
 use gr_sched::{Line, Steps};
 use gr_topo::Topology;
 use gr_world::{World, WorldFault};
@@ -33,15 +35,16 @@ use std::mem::forget;
 
 /// Carries out the steps of a schedule over a disk, and writes its report to a sink: what the opening of the logs
 /// tells, and the lines of each step in order, many lines in one call of the sink. A step that is refused tells so in
-/// its line.
+/// its line. Behind the lines of the opening, and of each step, stands what each subscriber that gets one list over all
+/// publishers is told in it then.
 ///
 /// `Memory` where memory is refused. `Write` only where the sink failed in this call. `Disk` only where the disk failed
 /// in this call, and no stop that a step orders is such a failure; the lines of all steps before are written then.
 /// `Damaged` where at the start the lane of a publisher holds no log: that publisher, and the place of the first fault.
 /// `Post` never comes. After each fault the sink took a front of the report.
 ///
-/// What the world holds at the end is left to the end of the process, which gives all of it back at once: event by
-/// event that takes three to five parts of a hundred of the whole replay.
+/// What the world and the lists hold at the end is left to the end of the process, which gives all of it back at once:
+/// event by event that takes three to five parts of a hundred of the whole replay.
 pub fn replay<K: Sink, D: SimDisk>(
     alloc: Global,
     topology: Topology,
@@ -76,11 +79,24 @@ pub fn replay<K: Sink, D: SimDisk>(
         Ok(world) => world,
         Err(fault) => return Err(fault),
     };
-    let mut page = match first_page(alloc, &world, sink) {
+    let mut orders = match Orders::new(alloc, world.topology()) {
+        Ok(orders) => orders,
+        Err(_) => return Err(RunFault::Memory),
+    };
+    let mut page = match first_page(alloc, &world, &mut orders, sink) {
         Ok(page) => page,
         Err(fault) => return Err(fault),
     };
-    let done = run(alloc, &mut world, steps.as_slice(), disk, &mut page, sink);
+    let done = run(
+        alloc,
+        &mut world,
+        steps.as_slice(),
+        disk,
+        &mut orders,
+        &mut page,
+        sink,
+    );
+    forget(orders);
     forget(world);
     done
 }
@@ -126,13 +142,20 @@ pub fn opened<D: SimDisk>(
     }
 }
 
-/// A page with what the opening of the logs told.
-fn first_page<K: Sink>(alloc: Global, world: &World, sink: &mut K) -> Result<Page, RunFault>
-    requires { AllNamed world.now.topo world.now.told }
+/// A page with what the opening of the logs told, and behind it what is ready then in the lists.
+fn first_page<K: Sink>(
+    alloc: Global,
+    world: &World,
+    orders: &mut Orders,
+    sink: &mut K,
+) -> Result<Page, RunFault>
+    requires named { AllNamed world.now.topo world.now.told }
+    requires orders { AreOrdersOf world.now.topo orders.old }
     ensures ok { IfOk result (λ page. TakesBut (K.taken sink.old) (K.taken sink.new)
-        (report_text (labels_of world.now.topo) world.now.told) page.held) }
+        (report_text (labels_of world.now.topo) (with_ready orders.old world.now.told)) page.held) }
     ensures front { OnErr result (TakesFront (K.taken sink.old) (K.taken sink.new)
-        (report_text (labels_of world.now.topo) world.now.told)) }
+        (report_text (labels_of world.now.topo) (with_ready orders.old world.now.told))) }
+    ensures left { OnOk result (orders.new ≡ left_behind orders.old world.now.told) }
     ensures only { IfErr result IsPutFault }
     ensures write { IsErrOf result RunFault.Write → Rose (K.faults sink.old) (K.faults sink.new) }
     ensures same { result ≢ Err RunFault.Write → K.faults sink.new ≡ K.faults sink.old }
@@ -145,31 +168,42 @@ fn first_page<K: Sink>(alloc: Global, world: &World, sink: &mut K) -> Result<Pag
         Ok(told) => told,
         Err(_) => return Err(RunFault::Memory),
     };
-    match put_all(alloc, world.topology(), told.as_slice(), &mut page, sink) {
+    match put_step(
+        alloc,
+        world.topology(),
+        told.as_slice(),
+        orders,
+        &mut page,
+        sink,
+    ) {
         Ok(()) => Ok(page),
         Err(fault) => Err(fault),
     }
 }
 
-/// Carries out a step, and puts the lines that it tells. Where the step fails, what the page holds is written before it
-/// is answered.
+/// Carries out a step, and puts the lines that it tells, and behind them what is ready then in the lists. Where the
+/// step fails, what the page holds is written before it is answered.
 fn turn<K: Sink, D: SimDisk>(
     alloc: Global,
     world: &mut World,
     line: &Line,
     disk: &mut D,
+    orders: &mut Orders,
     page: &mut Page,
     sink: &mut K,
 ) -> Result<(), RunFault>
     requires going { IsGoing world.old }
     requires step { IsStepOf world.old.topo line.now.step }
     requires lanes { LanesFit (D.lane_of disk.old) world.old }
+    requires orders { AreOrdersOf world.old.topo orders.old }
     ensures leads { OnOk result (world_of world.new
         ≡ (next (net_in world.old) (world_of world.old) line.now).world) }
     ensures put { OnOk result (TakesBut (K.taken sink.old) (K.taken sink.new)
-        (page.old.held ++ step_text world.old line.now) page.new.held) }
+        (page.old.held ++ step_text world.old orders.old line.now) page.new.held) }
+    ensures left { OnOk result (orders.new
+        ≡ left_behind orders.old (next (net_in world.old) (world_of world.old) line.now).lines) }
     ensures front { OnErr result (TakesFront (K.taken sink.old) (K.taken sink.new)
-        (page.old.held ++ step_text world.old line.now)) }
+        (page.old.held ++ step_text world.old orders.old line.now)) }
     ensures before { IsErrOf result RunFault.Disk → K.taken sink.new ≡ with_more (K.taken sink.old) page.old.held }
     ensures topology { world.new.topo ≡ world.old.topo }
     ensures going { OnOk result (IsGoing world.new) }
@@ -184,7 +218,14 @@ fn turn<K: Sink, D: SimDisk>(
 {
     match step(alloc, world, disk, line) {
         Ok(lines) => {
-            let done = put_all(alloc, world.topology(), lines.as_slice(), page, sink);
+            let done = put_step(
+                alloc,
+                world.topology(),
+                lines.as_slice(),
+                orders,
+                page,
+                sink,
+            );
             world.reuse(lines);
             done
         }
@@ -195,24 +236,27 @@ fn turn<K: Sink, D: SimDisk>(
     }
 }
 
-/// Carries out steps over a world, and puts what they tell behind what the page holds. At the end all is written.
+/// Carries out steps over a world, and puts what they tell, and what the lists tell behind each, behind what the page
+/// holds. At the end all is written.
 fn run<K: Sink, D: SimDisk>(
     alloc: Global,
     world: &mut World,
     steps: &[Line],
     disk: &mut D,
+    orders: &mut Orders,
     page: &mut Page,
     sink: &mut K,
 ) -> Result<(), RunFault>
     requires going { IsGoing world.old }
     requires steps { AreStepsOf world.old.topo steps.now }
     requires lanes { LanesFit (D.lane_of disk.old) world.old }
+    requires orders { AreOrdersOf world.old.topo orders.old }
     ensures report { OnOk result (K.taken sink.new
-        ≡ with_more (K.taken sink.old) (page.old.held ++ text_from world.old steps.now)) }
+        ≡ with_more (K.taken sink.old) (page.old.held ++ text_from world.old orders.old steps.now)) }
     ensures front { OnErr result (TakesFront (K.taken sink.old) (K.taken sink.new)
-        (page.old.held ++ text_from world.old steps.now)) }
+        (page.old.held ++ text_from world.old orders.old steps.now)) }
     ensures before { IsErrOf result RunFault.Disk → (k : ℕ) × (K.taken sink.new
-        ≡ with_more (K.taken sink.old) (page.old.held ++ text_from world.old (take k steps.now))) }
+        ≡ with_more (K.taken sink.old) (page.old.held ++ text_from world.old orders.old (take k steps.now))) }
     ensures cause { IfErr result IsRunFault }
     ensures counts { DiskCounts (D.faults disk.old) (D.stops disk.old) (D.faults disk.new) (D.stops disk.new) result }
     ensures never_fails { D.faultless disk.old → result ≢ Err RunFault.Disk }
@@ -220,7 +264,7 @@ fn run<K: Sink, D: SimDisk>(
     ensures same { result ≢ Err RunFault.Write → K.faults sink.new ≡ K.faults sink.old }
 {
     'steps: for line in steps {
-        match turn(alloc, world, line, disk, page, sink) {
+        match turn(alloc, world, line, disk, orders, page, sink) {
             Ok(()) => {}
             Err(fault) => return Err(fault),
         }

@@ -282,7 +282,7 @@ fn put_broker_name(topology: &Topology, b: u16, page: &mut Page) {
     }
 }
 
-/// Prints a subscriber, with its broker and its filter, and whether it is late.
+/// Prints a subscriber, with its broker and its filter, whether it is late, and whether it gets one list.
 fn put_subscriber(topology: &Topology, s: u16, page: &mut Page)
     requires { s < length topology.now.subscribers }
 {
@@ -295,6 +295,9 @@ fn put_subscriber(topology: &Topology, s: u16, page: &mut Page)
     }
     if topology.late(s) {
         page.push_str(" late");
+    }
+    if topology.total(s) {
+        page.push_str(" total");
     }
     page.push('\n');
 }

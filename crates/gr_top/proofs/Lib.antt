@@ -2,4 +2,5 @@ pub mod WordLemmas
 pub mod TwoRequired
 pub mod HostingLemmas
 pub mod FewSteps
+pub mod OrderLemmas
 pub mod RunLemmas

@@ -1,11 +1,13 @@
 -- What the top call promises
-use Rattle.std.specs.Prelude.{◌≡◌, ℕ, ◌⊎◌, List, Option}
+use Rattle.std.specs.Prelude.{◌≡◌, ℕ, ◌⊎◌, List, [], ◌∷◌, ◌++◌, Option}
 use Rattle.gr_out.specs.Bytes.{with_more}
 use Rattle.gr_sched.specs.declared.step.Line.{Line}
-use Rattle.gr_topo.specs.Topology.{TopologyView}
+use Rattle.gr_topo.specs.Topology.{TopologyView, totals_of}
 use Rattle.gr_model.specs.declared.report.Report.{Report}
 use Rattle.gr_model.specs.Headline.{Headline}
 use Rattle.gr_model.specs.NetOf.{net_of}
+use Rattle.gr_model.specs.Ordered.{OneOrder, TotallyOrdered}
+use Rattle.gr_model.specs.Orders.{orders_of, ordered_steps, with_orders}
 use Rattle.gr_model.specs.World.{report_of}
 use Rattle.gr_model_theorems.specs.ByRules.{ReportByRules}
 use Rattle.gr_model_theorems.specs.Replies.{Replied}
@@ -13,6 +15,12 @@ use Rattle.gr_scenario.specs.declared.asked.Asked.{Asked}
 use Rattle.gr_scenario.specs.declared.asked.Asked.TheVariants.{Scenario}
 use Rattle.gr_replay.specs.Replayed.{replayed_text}
 use Rattle.gr_top.specs.Answers.{Answer}
+
+-- step by step: what is printed are the lines of the step, and behind them more
+abbrev pub AreBehind : List (List Report) → List (List Report) → List (List Report) → Type 0
+AreBehind [] [] [] = Unit {0}
+AreBehind (p ∷ printed) (l ∷ lines) (m ∷ more) = (p ≡ l ++ m) × AreBehind printed lines more
+AreBehind _ _ _ = ⊥
 
 -- the report of a schedule over a topology meets the headline
 pub record MeetsHeadline (t : TopologyView) (lines : List Line) : Type 0 where
@@ -26,6 +34,16 @@ pub record MeetsHeadline (t : TopologyView) (lines : List Line) : Type 0 where
   -- each step is refused, and bytes are shown, exactly where the schedule and the frames sent demand it; sent lines are
   -- numbered 1, 2, 3 and so on
   pub replied : Replied (net_of t) lines (report_of (net_of t) lines)
+  -- what is printed of each step are these lines, and behind them what is ready in the one list of each subscriber that
+  -- gets one
+  pub behind : AreBehind (with_orders (orders_of t) (report_of (net_of t) lines)) (report_of (net_of t) lines)
+      (ordered_steps (orders_of t) (report_of (net_of t) lines))
+  -- that is, after each step each of these was told exactly what all publishers have up to where it has heard them all,
+  -- each event once, rising by tick and then publisher
+  pub ordered : TotallyOrdered (net_of t) (totals_of t) lines (report_of (net_of t) lines)
+      (ordered_steps (orders_of t) (report_of (net_of t) lines))
+  -- and of two of these that want the same, at any two steps, one list begins with the other
+  pub one_order : OneOrder (net_of t) (totals_of t) (ordered_steps (orders_of t) (report_of (net_of t) lines))
 
 -- a schedule over a topology was asked for, its report was taken whole, and it meets the headline
 pub record WasReplayed (old new : Option (List ℕ)) (asked : Asked) : Type 0 where

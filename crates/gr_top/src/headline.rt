@@ -4,7 +4,9 @@ ghost use Rattle.gr_scenario.specs.Steps.{AreStepsOf};
 ghost use Rattle.gr_top.specs.Top.{MeetsHeadline};
 
 use gr_model::topologies::every_topology_is_a_tree;
-use gr_model_theorems::theorems::{headline_always, replies_stand, runs_by_rules};
+use gr_model_theorems::theorems::{
+    headline_always, one_order_always, ordered_always, replies_stand, runs_by_rules,
+};
 use gr_sched::Steps;
 use gr_topo::Topology;
 
@@ -18,5 +20,7 @@ pub fn every_report_meets_the_headline(topology: &Topology, steps: &Steps)
     headline_always();
     runs_by_rules();
     replies_stand();
+    ordered_always();
+    one_order_always();
     let _ = steps;
 }

@@ -90,7 +90,8 @@ entry_keys filters found m =
     either (bytes_eq m.0 (codes "at")) _ _ (both (text_in m.0 m.1) _ (texts m.0 m.1) (λ t. tt))
     (either (bytes_eq m.0 (codes "name")) _ _ (both (text_in m.0 m.1) _ (texts m.0 m.1) (λ t. tt))
     (either (bytes_eq m.0 (codes "filter") && filters) _ _ (both (text_in m.0 m.1) _ (texts m.0 m.1) (λ t. tt))
-    (either (bytes_eq m.0 (codes "late") && filters) _ _ (both (truth_in m.0 m.1) _ (truths m.0 m.1) (λ b. tt)) tt)))
+    (either (bytes_eq m.0 (codes "late") && filters) _ _ (both (truth_in m.0 m.1) _ (truths m.0 m.1) (λ b. tt))
+    (either (bytes_eq m.0 (codes "total") && filters) _ _ (both (truth_in m.0 m.1) _ (truths m.0 m.1) (λ b. tt)) tt))))
 
 entries : (key : List ℕ) (filters : Bool) (d : Data) → Safe (entries_in key filters d)
 entries key filters d =

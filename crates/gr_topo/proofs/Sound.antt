@@ -17,7 +17,7 @@ use Rattle.gr_topo.specs.declared.fault.TopoFault.TheVariants.{TooMany, NotTree}
 use Rattle.gr_topo.specs.Read.{names_checked, ResolvedLists, resolved_in}
 use Rattle.gr_topo.specs.declared.settings.Settings.{Settings}
 use Rattle.gr_topo.specs.declared.settings.WrittenSettings.{WrittenSettings}
-use Rattle.gr_topo.specs.Draft.{EntryLists, DraftLists, with_late, with_entry, no_entries}
+use Rattle.gr_topo.specs.Draft.{EntryLists, DraftLists, with_place, with_entry, no_entries}
 use Rattle.gr_topo.specs.Gives.{walk, one_more, each}
 use Rattle.gr_topo.specs.Columns.{AreColumns, HasColumns}
 use Rattle.gr_topo.specs.Shape.{entry_in, one_entry, entries_in, array_in, members_list, root_key, no_draft, draft_in, texts_in, pairs_in, addresses_in, settings_in}
@@ -129,7 +129,7 @@ settings_within w s h =
 -- ---- columns
 
 columns_none : AreColumns no_entries
-columns_none = record { brokers = refl; filters = refl; late = tt }
+columns_none = record { brokers = refl; filters = refl; late = tt; totals = tt }
 
 -- places below the length stay below it, with one name more, whose place may be put behind them
 places_push : (n k : ℕ) (places : List ℕ) → n < k → AllByRecursion (λ place. place < n) places → AllByRecursion (λ place. place < k) (places ++ n ∷ [])
@@ -140,10 +140,10 @@ places_stay : (n k : ℕ) (places : List ℕ) → n < k → AllByRecursion (λ p
 places_stay n k [] lt all = tt
 places_stay n k (p ∷ places) lt all = (omega (arith, lt, all.0), places_stay n k places lt all.1)
 
-late_push : (places : List ℕ) (names : List (List ℕ)) (name : List ℕ) (late : Bool) → AllByRecursion (λ place. place < length names) places
-    → AllByRecursion (λ place. place < length (names ++ name ∷ [])) (with_late places (length names) late)
-late_push places names name true all = places_push (length names) (length (names ++ name ∷ [])) places (omega (arith, length_push names name)) all
-late_push places names name false all = places_stay (length names) (length (names ++ name ∷ [])) places (omega (arith, length_push names name)) all
+listed_push : (places : List ℕ) (names : List (List ℕ)) (name : List ℕ) (listed : Bool) → AllByRecursion (λ place. place < length names) places
+    → AllByRecursion (λ place. place < length (names ++ name ∷ [])) (with_place places (length names) listed)
+listed_push places names name true all = places_push (length names) (length (names ++ name ∷ [])) places (omega (arith, length_push names name)) all
+listed_push places names name false all = places_stay (length names) (length (names ++ name ∷ [])) places (omega (arith, length_push names name)) all
 
 columns_push : (key : List ℕ) (filters : Bool) (s : EntryLists) (d : Data) (next : EntryLists) → AreColumns s → one_entry key filters s d ≡ Ok next → AreColumns next
 columns_push key filters s d next p h =
@@ -151,7 +151,8 @@ columns_push key filters s d next p h =
     subst AreColumns (ok_same _ _ w.2) (record {
       brokers = length_push s.brokers w.0.at ∙ ap (λ n. n + 1) p.brokers ∙ sym (length_push s.names w.0.name);
       filters = length_push s.filters w.0.filter ∙ ap (λ n. n + 1) p.filters ∙ sym (length_push s.names w.0.name);
-      late = late_push s.late s.names w.0.name w.0.late p.late;
+      late = listed_push s.late s.names w.0.name w.0.late p.late;
+      totals = listed_push s.totals s.names w.0.name w.0.total p.totals;
     })
 
 entries_columns : (key : List ℕ) (filters : Bool) (d : Data) (e : EntryLists) → entries_in key filters d ≡ Ok e → AreColumns e
@@ -256,10 +257,10 @@ resolved_facts brokers d r h =
     })
 
 -- the parts that were read fit one another
-pub read_sound : (brokers : List (List ℕ)) (d : DraftLists) (r : ResolvedLists) (s : Settings) (fs : List (Option Tree)) (ts : List ℕ) (as_given clients_given : List (Option (List ℕ))) → HasColumns d → resolved_in brokers d ≡ Ok r → settings_of d.settings ≡ Ok s
-    → filters_in (zip d.subscribers.names d.subscribers.filters) ≡ Ok fs → ts ≡ [] → addresses_of d.addresses brokers ≡ Ok as_given → addresses_of d.clients d.publishers.names ≡ Ok clients_given
-    → IsSound (record { brokers = brokers; publishers = d.publishers.names; subscribers = d.subscribers.names; links = r.links; hosts = r.hosts; homes = r.homes; filters = fs; late = d.subscribers.late; totals = ts; addresses = as_given; clients = clients_given; settings = s })
-read_sound brokers d r s fs ts as_given clients_given cols found set filters totals addresses clients =
+pub read_sound : (brokers : List (List ℕ)) (d : DraftLists) (r : ResolvedLists) (s : Settings) (fs : List (Option Tree)) (as_given clients_given : List (Option (List ℕ))) → HasColumns d → resolved_in brokers d ≡ Ok r → settings_of d.settings ≡ Ok s
+    → filters_in (zip d.subscribers.names d.subscribers.filters) ≡ Ok fs → addresses_of d.addresses brokers ≡ Ok as_given → addresses_of d.clients d.publishers.names ≡ Ok clients_given
+    → IsSound (record { brokers = brokers; publishers = d.publishers.names; subscribers = d.subscribers.names; links = r.links; hosts = r.hosts; homes = r.homes; filters = fs; late = d.subscribers.late; totals = d.subscribers.totals; addresses = as_given; clients = clients_given; settings = s })
+read_sound brokers d r s fs as_given clients_given cols found set filters addresses clients =
     let f = resolved_facts brokers d r found in
     let host_count : length r.hosts ≡ length d.publishers.names = f.host_count ∙ cols.publishers.brokers in
     let home_count : length r.homes ≡ length d.subscribers.names = f.home_count ∙ cols.subscribers.brokers in
@@ -276,7 +277,7 @@ read_sound brokers d r s fs ts as_given clients_given cols found set filters tot
       homes = home_count;
       filters = filter_count;
       late_in = cols.subscribers.late;
-      totals_in = subst (AllByRecursion (λ place. place < length d.subscribers.names)) (sym totals) tt;
+      totals_in = cols.subscribers.totals;
       addresses = each_length (address_in d.addresses) brokers as_given addresses;
       clients = each_length (address_in d.clients) d.publishers.names clients_given clients;
       host_in = λ p h. f.hosts p (omega (arith, host_count));

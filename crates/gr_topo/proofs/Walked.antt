@@ -10,7 +10,7 @@ use Rattle.gr_topo.specs.Gives.{◌>>=◌, walk, one_more}
 use Rattle.gr_topo.specs.Seen.{seen_items, seen_members}
 use Rattle.gr_topo.specs.declared.fault.TopoFault.TheVariants.{BadType}
 use Rattle.gr_topo.specs.declared.draft.Entry.{Entry}
-use Rattle.gr_topo.specs.Draft.{EntryLists, AddressLists, with_late, with_entry, with_address}
+use Rattle.gr_topo.specs.Draft.{EntryLists, AddressLists, with_place, with_entry, with_address}
 use Rattle.gr_topo.specs.Shape.{text_in, two_texts, entry_in, one_entry, one_address}
 
 -- ---- any list, of which the front is read
@@ -122,17 +122,19 @@ one_address_ok found k d t h = ap (λ r. r >>= λ x. Ok (with_address found k x)
 pub one_address_err : (found : AddressLists) (k : List ℕ) (d : Data) (e : TopoFault) → text_in k d ≡ Err e → one_address found (k, d) ≡ Err e
 one_address_err found k d e h = ap (λ r. r >>= λ x. Ok (with_address found k x)) h
 
-entry_lists_same : (a b : List (List ℕ)) (c : List (Option (List ℕ))) (d : List ℕ) (x y : List (List ℕ)) (z : List (Option (List ℕ))) (w : List ℕ) → a ≡ x → b ≡ y → c ≡ z → d ≡ w
-    → ◌≡◌ {A = EntryLists} (record { names = a; brokers = b; filters = c; late = d }) (record { names = x; brokers = y; filters = z; late = w })
-entry_lists_same a b c d x y z w e f g h =
-    ap (λ n. let r : EntryLists = record { names = n; brokers = b; filters = c; late = d } in r) e ∙ ap (λ n. let r : EntryLists = record { names = x; brokers = n; filters = c; late = d } in r) f
-    ∙ ap (λ n. let r : EntryLists = record { names = x; brokers = y; filters = n; late = d } in r) g ∙ ap (λ n. let r : EntryLists = record { names = x; brokers = y; filters = z; late = n } in r) h
+entry_lists_same : (a b : List (List ℕ)) (c : List (Option (List ℕ))) (d s : List ℕ) (x y : List (List ℕ)) (z : List (Option (List ℕ))) (w t : List ℕ) → a ≡ x → b ≡ y → c ≡ z → d ≡ w → s ≡ t
+    → ◌≡◌ {A = EntryLists} (record { names = a; brokers = b; filters = c; late = d; totals = s }) (record { names = x; brokers = y; filters = z; late = w; totals = t })
+entry_lists_same a b c d s x y z w t e f g h i =
+    ap (λ n. let r : EntryLists = record { names = n; brokers = b; filters = c; late = d; totals = s } in r) e ∙ ap (λ n. let r : EntryLists = record { names = x; brokers = n; filters = c; late = d; totals = s } in r) f
+    ∙ ap (λ n. let r : EntryLists = record { names = x; brokers = y; filters = n; late = d; totals = s } in r) g ∙ ap (λ n. let r : EntryLists = record { names = x; brokers = y; filters = z; late = n; totals = s } in r) h
+    ∙ ap (λ n. let r : EntryLists = record { names = x; brokers = y; filters = z; late = w; totals = n } in r) i
 
 -- an entry was put at the end of each column
-pub entry_pushed : (names brokers : List (List ℕ)) (filters : List (Option (List ℕ))) (late : List ℕ) (e : Entry) (n b : List (List ℕ)) (f : List (Option (List ℕ))) (l : List ℕ) → n ≡ names ++ e.name ∷ [] → b ≡ brokers ++ e.at ∷ [] → f ≡ filters ++ e.filter ∷ []
-    → l ≡ with_late late (length names) e.late → ◌≡◌ {A = EntryLists} (record { names = n; brokers = b; filters = f; late = l }) (with_entry (record { names = names; brokers = brokers; filters = filters; late = late }) e)
-entry_pushed names brokers filters late e n b f l h i k m =
-    entry_lists_same n b f l (names ++ e.name ∷ []) (brokers ++ e.at ∷ []) (filters ++ e.filter ∷ []) (with_late late (length names) e.late) h i k m
+pub entry_pushed : (names brokers : List (List ℕ)) (filters : List (Option (List ℕ))) (late totals : List ℕ) (e : Entry) (n b : List (List ℕ)) (f : List (Option (List ℕ))) (l t : List ℕ) → n ≡ names ++ e.name ∷ [] → b ≡ brokers ++ e.at ∷ [] → f ≡ filters ++ e.filter ∷ []
+    → l ≡ with_place late (length names) e.late → t ≡ with_place totals (length names) e.total
+    → ◌≡◌ {A = EntryLists} (record { names = n; brokers = b; filters = f; late = l; totals = t }) (with_entry (record { names = names; brokers = brokers; filters = filters; late = late; totals = totals }) e)
+entry_pushed names brokers filters late totals e n b f l t h i k m o =
+    entry_lists_same n b f l t (names ++ e.name ∷ []) (brokers ++ e.at ∷ []) (filters ++ e.filter ∷ []) (with_place late (length names) e.late) (with_place totals (length names) e.total) h i k m o
 
 pub address_pushed : (names texts : List (List ℕ)) (name text : List ℕ) (n t : List (List ℕ)) → n ≡ names ++ name ∷ [] → t ≡ texts ++ text ∷ []
     → ◌≡◌ {A = AddressLists} (record { names = n; texts = t }) (with_address (record { names = names; texts = texts }) name text)

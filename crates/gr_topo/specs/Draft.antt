@@ -7,13 +7,14 @@ use Rattle.gr_topo.specs.declared.draft.Entries.{Entries}
 use Rattle.gr_topo.specs.declared.draft.Addresses.{Addresses}
 use Rattle.gr_topo.specs.declared.draft.Draft.{Draft}
 
--- publishers or subscribers in order: their names, the names of their brokers, the texts of their filters, and the
--- places of the late ones
+-- publishers or subscribers in order: their names, the names of their brokers, the texts of their filters, the places
+-- of the late ones, and of those that get one list over all publishers
 pub record EntryLists : Type 0 where
   pub names : List (List ℕ)
   pub brokers : List (List ℕ)
   pub filters : List (Option (List ℕ))
   pub late : List ℕ
+  pub totals : List ℕ
 
 -- addresses: names, of brokers or of publishers with clients, and the text of each
 pub record AddressLists : Type 0 where
@@ -30,15 +31,15 @@ pub record DraftLists : Type 0 where
   pub settings : WrittenSettings
 
 abbrev pub no_entries : EntryLists
-no_entries = record { names = []; brokers = []; filters = []; late = [] }
+no_entries = record { names = []; brokers = []; filters = []; late = []; totals = [] }
 
 abbrev pub no_addresses : AddressLists
 no_addresses = record { names = []; texts = [] }
 
--- one place more, if what stands there is late
-abbrev pub with_late : List ℕ → ℕ → Bool → List ℕ
-with_late places place true = places ++ place ∷ []
-with_late places place false = places
+-- one place more, if what stands there is listed
+abbrev pub with_place : List ℕ → ℕ → Bool → List ℕ
+with_place places place true = places ++ place ∷ []
+with_place places place false = places
 
 -- one entry more at the end
 abbrev pub with_entry : EntryLists → Entry → EntryLists
@@ -46,7 +47,8 @@ with_entry lists e = record {
   names = lists.names ++ e.name ∷ [];
   brokers = lists.brokers ++ e.at ∷ [];
   filters = lists.filters ++ e.filter ∷ [];
-  late = with_late lists.late (length lists.names) e.late;
+  late = with_place lists.late (length lists.names) e.late;
+  totals = with_place lists.totals (length lists.names) e.total;
 }
 
 abbrev pub with_address : AddressLists → List ℕ → List ℕ → AddressLists
@@ -60,6 +62,7 @@ entry_lists e = record {
   brokers = e.brokers.items;
   filters = e.filters.items;
   late = e.late.items;
+  totals = e.totals.items;
 }
 
 abbrev pub address_lists : Addresses → AddressLists

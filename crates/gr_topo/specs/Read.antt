@@ -1,5 +1,5 @@
 -- Reading a topology: one function of the bytes, with the first refusal
-use Rattle.std.specs.Prelude.{ℕ, if◌then◌else◌, List, [], length, Option, Some, None, Result, Ok, Err}
+use Rattle.std.specs.Prelude.{ℕ, if◌then◌else◌, List, length, Option, Some, None, Result, Ok, Err}
 use Rattle.std.specs.Prelude.{codes}
 use Rattle.std.specs.Str.{is_utf8}
 use Rattle.std.specs.List.{zip}
@@ -67,7 +67,7 @@ topology_of brokers d = do
     homes = found.homes;
     filters = filters;
     late = d.subscribers.late;
-    totals = [];
+    totals = d.subscribers.totals;
     addresses = addresses;
     clients = clients;
     settings = settings;

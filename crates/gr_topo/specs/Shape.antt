@@ -72,9 +72,9 @@ pairs_in key d = array_in key d >>= each (pair_in key)
 
 -- nothing was read of an entry
 abbrev pub no_entry : FoundEntry
-no_entry = record { name = None; at = None; filter = None; late = false }
+no_entry = record { name = None; at = None; filter = None; late = false; total = false }
 
--- one key of an entry: `name`, `at` and, where they may stand, `filter` and `late`
+-- one key of an entry: `name`, `at` and, where they may stand, `filter`, `late` and `total`
 unfoldable pub entry_key : Bool → FoundEntry → List ℕ × Data → Result FoundEntry TopoFault
 entry_key filters found m =
     if bytes_eq m.0 (codes "at") then (text_in m.0 m.1 >>= λ t. Ok (record found { at = Some t }))
@@ -83,14 +83,16 @@ entry_key filters found m =
     then (text_in m.0 m.1 >>= λ t. Ok (record found { filter = Some t }))
     else (if bytes_eq m.0 (codes "late") && filters
     then (truth_in m.0 m.1 >>= λ b. Ok (record found { late = b }))
-    else Err (BadKey m.0))))
+    else (if bytes_eq m.0 (codes "total") && filters
+    then (truth_in m.0 m.1 >>= λ b. Ok (record found { total = b }))
+    else Err (BadKey m.0)))))
 
 -- `name` and `at` are required
 abbrev pub whole_entry : FoundEntry → Result Entry TopoFault
 whole_entry found = do
   name ← required (codes "name") found.name
   at ← required (codes "at") found.at
-  Ok (record { name = name; at = at; filter = found.filter; late = found.late })
+  Ok (record { name = name; at = at; filter = found.filter; late = found.late; total = found.total })
 
 abbrev pub entry_in : List ℕ → Bool → Data → Result Entry TopoFault
 entry_in key filters d = do

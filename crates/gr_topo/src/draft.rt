@@ -15,9 +15,12 @@ pub(crate) struct FoundEntry {
     pub filter: Option<Text>,
     /// Whether it is late; false until that is read.
     pub late: bool,
+    /// Whether it gets one list over all publishers; false until that is read.
+    pub total: bool,
 }
 
-/// A publisher or subscriber: its name, the name of its broker, the text of its filter, if any, and whether it is late.
+/// A publisher or subscriber: its name, the name of its broker, the text of its filter, if any, whether it is late, and
+/// whether it gets one list over all publishers.
 #[derive(Drop)]
 pub(crate) struct Entry {
     /// Its name.
@@ -28,6 +31,8 @@ pub(crate) struct Entry {
     pub filter: Option<Text>,
     /// Whether it is late. No publisher is.
     pub late: bool,
+    /// Whether it gets one list over all publishers. No publisher does.
+    pub total: bool,
 }
 
 /// Publishers or subscribers in order, column by column.
@@ -41,6 +46,8 @@ pub(crate) struct Entries {
     pub filters: Vec<Option<Text>>,
     /// The places of the late ones.
     pub late: Vec<usize>,
+    /// The places of those that get one list over all publishers.
+    pub totals: Vec<usize>,
 }
 
 /// Addresses in the byte order of the names: of brokers, or of publishers with clients.

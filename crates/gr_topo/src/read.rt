@@ -116,7 +116,7 @@ fn topology_of(alloc: Global, brokers: Vec<Text>, draft: Draft) -> Result<Topolo
         homes,
         filters,
         late: subscribers.late,
-        totals: Vec::new(alloc),
+        totals: subscribers.totals,
         addresses,
         clients,
         settings,

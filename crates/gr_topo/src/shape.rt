@@ -4,7 +4,7 @@ ghost use Rattle.std.specs.Prelude.{◌≡◌, IfOk, OnOk};
 ghost use Rattle.toml.specs.View.{view, table_view};
 ghost use Rattle.gr_topo.specs.Gives.{Gives, walk, each, one_more};
 ghost use Rattle.gr_topo.specs.Draft.{entry_lists, address_lists, draft_lists, no_entries, no_addresses};
-ghost use Rattle.gr_topo.specs.Draft.{with_late};
+ghost use Rattle.gr_topo.specs.Draft.{with_place};
 ghost use Rattle.gr_topo.specs.Shape.{text_in, integer_in, truth_in, array_in, table_in, two_texts, pair_in, pairs_in};
 ghost use Rattle.gr_topo.specs.Shape.{texts_in};
 ghost use Rattle.gr_topo.specs.Shape.{entry_key, no_entry, whole_entry, entry_in, one_entry, entries_in, one_address};
@@ -177,6 +177,10 @@ fn entry_key(
         let late = truth_in(alloc, key, value)?;
         return Ok(FoundEntry { late, ..found });
     }
+    if key == "total" && filters {
+        let total = truth_in(alloc, key, value)?;
+        return Ok(FoundEntry { total, ..found });
+    }
     Err(TopoFault::BadKey {
         key: Text::from_slice(alloc, key.as_bytes())?,
     })
@@ -191,6 +195,7 @@ fn entry_keys(alloc: Global, filters: bool, table: &Table) -> Result<FoundEntry,
         at: None,
         filter: None,
         late: false,
+        total: false,
     };
     for (name, value) in table {
         match entry_key(alloc, filters, found, name.as_str(), value) {
@@ -210,6 +215,7 @@ fn whole_entry(alloc: Global, found: FoundEntry) -> Result<Entry, TopoFault>
         at,
         filter,
         late,
+        total,
     } = found;
     match name {
         None => Err(TopoFault::Missing {
@@ -224,6 +230,7 @@ fn whole_entry(alloc: Global, found: FoundEntry) -> Result<Entry, TopoFault>
                 at,
                 filter,
                 late,
+                total,
             }),
         },
     }
@@ -238,11 +245,11 @@ fn entry_in(alloc: Global, key: &str, filters: bool, value: &Value) -> Result<En
     whole_entry(alloc, found)
 }
 
-/// Puts a place at the end of some, if what stands there is late. At want of memory they are as they were.
-fn push_late(places: &mut Vec<usize>, place: usize, late: bool) -> Result<(), AllocError>
-    ensures { OnOk result (places.new.items ≡ with_late places.old.items place late) }
+/// Puts a place at the end of some, if what stands there is listed. At want of memory they are as they were.
+fn push_place(places: &mut Vec<usize>, place: usize, is_listed: bool) -> Result<(), AllocError>
+    ensures { OnOk result (places.new.items ≡ with_place places.old.items place is_listed) }
 {
-    if late {
+    if is_listed {
         places.push(place)?;
     }
     Ok(())
@@ -261,11 +268,13 @@ fn entries_of(
     let mut brokers = Vec::new(alloc);
     let mut texts = Vec::new(alloc);
     let mut late = Vec::new(alloc);
+    let mut totals = Vec::new(alloc);
     for value in values {
         match entry_in(alloc, key, filters, value) {
             Ok(entry) => {
                 let place = names.len();
-                push_late(&mut late, place, entry.late)?;
+                push_place(&mut late, place, entry.late)?;
+                push_place(&mut totals, place, entry.total)?;
                 names.push(entry.name)?;
                 brokers.push(entry.at)?;
                 texts.push(entry.filter)?;
@@ -278,6 +287,7 @@ fn entries_of(
         brokers,
         filters: texts,
         late,
+        totals,
     })
 }
 
@@ -438,6 +448,7 @@ fn no_entries(alloc: Global) -> Entries
         brokers: Vec::new(alloc),
         filters: Vec::new(alloc),
         late: Vec::new(alloc),
+        totals: Vec::new(alloc),
     }
 }
 

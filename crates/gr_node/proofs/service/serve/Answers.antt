@@ -1,4 +1,4 @@
-use Rattle.std.proofs.Common.{length, refl, subst}
+use Rattle.std.proofs.Common.{refl, subst}
 use Rattle.gr_node.specs.Seen.{none_started}
 use Rattle.gr_node.specs.Ending.{Serves}
 use Rattle.gr_node.proofs.Courses.{none_opened}
@@ -15,7 +15,7 @@ returns-in-Err-clause-ran g c =
     let taken = g.K.Sink.taken c.args.sink.now in
     let lanes = g.D.Disk.lane_of c.args.disk.now in
     with_course t hosted steps c.args.turns g.P.Post.tells g.D.Disk.tells before after taken taken lanes lanes _
-    (serves_bound t hosted c.requires.hosted (none_started (length t.brokers)) (none_opened t hosted (none_started (length t.brokers)) refl) steps c.args.turns g.P.Post.tells g.D.Disk.tells
+    (serves_bound t hosted c.requires.hosted (none_started t) (none_opened t hosted (none_started t) refl) steps c.args.turns g.P.Post.tells g.D.Disk.tells
     before after taken lanes c.in-Err.fault c.in-Err.ensures.cause c.in-Err.ensures.bound)
 
 pub returns-clause-ran : goal.returns-clause-ran

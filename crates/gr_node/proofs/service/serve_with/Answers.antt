@@ -1,5 +1,6 @@
 use Rattle.std.proofs.Common.{take, drop, ap, ◌∙◌, flat_map}
 use Rattle.gr_out.specs.Bytes.{with_more}
+use Rattle.gr_model.specs.Orders.{fed, orders_of}
 use Rattle.gr_node.specs.Seen.{seen, text_of}
 use Rattle.gr_node.specs.Starting.{start_lines}
 use Rattle.gr_node.proofs.Courses.{some_opened, all_opened, all_of, told_opening, front_opening}
@@ -19,6 +20,7 @@ returns-in-Ok-clause-serves g c = λ journal posted.
     journal (g.P.Post.journal c.args.post.now) (g.P.Post.journal c.carry_out.new.post) taken opening (g.K.Sink.taken c.carry_out.new.sink)
     (g.D.Disk.lane_of c.args.disk.now) (g.D.Disk.lane_of c.carry_out.new.disk) c.carry_out.result (seen c.carry_out.new.node)
     c.frames_pass_the_log.ensures.log c.frames_pass_the_log.ensures.rest
+    (before.started.heard ∙ ap (λ bs. fed (orders_of t) (flat_map (start_lines t n) bs)) (all_of hosted before.started.made before.started.whole))
     (told_opening _ t hosted n taken opening c.args.page.now.held _ before.started c.requires.empty tt
     ∙ ap (λ bs. with_more taken (text_of t (flat_map (start_lines t n) bs))) (all_of hosted before.started.made before.started.whole))
     posted c.carry_out.ensures.ran

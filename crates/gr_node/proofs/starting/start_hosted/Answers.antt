@@ -1,11 +1,14 @@
-use Rattle.std.proofs.Common.{◌+◌, Err, take, refl, sym, ap, ◌∙◌, subst, arith, append-nil}
+use Rattle.std.proofs.Common.{◌+◌, Err, take, flat_map, refl, sym, ap, ◌∙◌, subst, arith, append-nil}
 use Rattle.gr_out.specs.declared.fault.RunFault.TheVariants as run
 use Rattle.gr_out.specs.Page.{TakesBut}
 use Rattle.gr_out.proofs.Fronts.{but-nothing}
-use Rattle.gr_node.specs.Seen.{seen}
+use Rattle.gr_model.specs.Orders.{orders_of}
+use Rattle.gr_node.specs.Seen.{NodeView, seen}
+use Rattle.gr_node.specs.Starting.{start_lines}
+use Rattle.gr_node.proofs.OneOrder.{fed_nothing}
 use Rattle.gr_node.proofs.StartingNodes.{none_begun, begun_set, begun_hosted, with_broker}
 use Rattle.gr_node.proofs.StartingLanes.{none_found, all_found, touched_hosted}
-use Rattle.gr_node.proofs.StartingRuns.{b, begun_next, found_next, left_next, damaged_next, next_hosted, put_next, started_all, started_failed, started_cut}
+use Rattle.gr_node.proofs.StartingRuns.{b, lists_kept, begun_next, heard_next, found_next, left_next, damaged_next, next_hosted, put_next, started_all, started_failed, started_cut}
 use Rattle.gr_node.proofs.StartingFaults.{same_fault, none_moved, still_moved, moved_from, sink_kept, sink_unasked, sink_asked}
 use Rattle.gr_node.proofs.starting.start_hosted.Goals as goal
 
@@ -20,6 +23,7 @@ brokers-init g c =
       begun = none;
       found = λ tells. none_found t n (g.D.Disk.lane_of c.args.disk.now) (g.D.Disk.lane_of c.args.disk.now) none (λ k. refl);
       put = subst (λ text. TakesBut taken taken text held) (sym (append-nil held)) (but-nothing taken taken held refl);
+      heard = ap (λ (m : NodeView). m.orders) c.requires.none ∙ sym (fed_nothing (orders_of t));
       faults = refl;
       stops = refl;
       same = refl;
@@ -33,17 +37,19 @@ brokers-preserved g c =
     let n = seen c.brokers.node in
     let sofar = c.brokers.invariant in
     let x = c.in-Ok.started.broker in
+    let os = c.put_heard.new.orders in
     let before = g.D.Disk.lane_of c.args.disk.now in
     let mid = g.D.Disk.lane_of c.brokers.disk in
     let after = g.D.Disk.lane_of c.start_one.new.disk in
     record {
-      begun = begun_next t hosted i n c.requires.hosted c.brokers-test.true sofar.begun x c.in-Ok.ensures.begun;
-      found = λ tells. found_next t hosted i n c.requires.hosted c.brokers-test.true sofar.begun before mid after (sofar.found tells) (c.in-Ok.ensures.others tells) x c.in-Ok.ensures.begun (c.in-Ok.ensures.opens tells) (c.in-Ok.ensures.stands tells);
-      put = put_next t hosted i n c.requires.hosted c.brokers-test.true sofar.begun (g.K.Sink.taken c.args.sink.now) (g.K.Sink.taken c.brokers.sink) c.args.page.now.held c.brokers.page.held sofar.put (g.K.Sink.taken c.put_all.new.sink)
-          x c.in-Ok.ensures.begun c.as_slice.result.now (c.as_slice.ensures ∙ c.in-Ok.ensures.lines) c.put_all.new.page.held c.in-Ok-put_all.ensures.ok;
+      begun = begun_next t hosted i n c.requires.hosted c.brokers-test.true sofar.begun x os c.in-Ok.ensures.begun;
+      found = λ tells. found_next t hosted i n c.requires.hosted c.brokers-test.true sofar.begun before mid after (sofar.found tells) (c.in-Ok.ensures.others tells) x os c.in-Ok.ensures.begun (c.in-Ok.ensures.opens tells) (c.in-Ok.ensures.stands tells);
+      put = put_next t hosted i n c.requires.hosted c.brokers-test.true sofar.begun (g.K.Sink.taken c.args.sink.now) (g.K.Sink.taken c.brokers.sink) c.args.page.now.held c.brokers.page.held sofar.put (g.K.Sink.taken c.put_heard.new.sink)
+          x os c.in-Ok.ensures.begun c.as_slice.result.now (c.as_slice.ensures ∙ c.in-Ok.ensures.lines) c.put_heard.new.page.held c.in-Ok-put_heard.ensures.ok;
+      heard = heard_next t hosted i n c.requires.hosted c.brokers-test.true sofar.begun x os c.as_slice.result.now (c.as_slice.ensures ∙ c.in-Ok.ensures.lines) sofar.heard c.in-Ok-put_heard.ensures.heard;
       faults = c.in-Ok.ensures.disk.same.0 ∙ sofar.faults;
       stops = c.in-Ok.ensures.disk.same.1 ∙ sofar.stops;
-      same = c.in-Ok-put_all.ensures.same (λ e. cc) ∙ sofar.same;
+      same = c.in-Ok-put_heard.ensures.same (λ e. cc) ∙ sofar.same;
     }
 
 -- The next has not started
@@ -133,82 +139,87 @@ returns-in-Err-clause-sink g c = sink_unasked c.in-Err.fault (g.K.Sink.faults c.
 
 -- Its lines could not be put
 
-pub returns-in-Err-put_all-clause-started : goal.returns-in-Err-put_all-clause-started
-returns-in-Err-put_all-clause-started g c =
+pub returns-in-Err-put_heard-clause-started : goal.returns-in-Err-put_heard-clause-started
+returns-in-Err-put_heard-clause-started g c =
     let t = c.args.site.now.topo.now in
     let hosted = c.args.site.now.hosted.now in
     let i = c.brokers.b-index in
     let n = seen c.brokers.node in
     let sofar = c.brokers.invariant in
     let x = c.in-Ok.started.broker in
-    started_cut t hosted i n c.requires.hosted c.brokers-test.true sofar.begun (g.K.Sink.taken c.args.sink.now) (g.K.Sink.taken c.brokers.sink) c.args.page.now.held c.brokers.page.held sofar.put (g.K.Sink.taken c.put_all.new.sink)
-    x c.in-Ok.ensures.begun c.as_slice.result.now (c.as_slice.ensures ∙ c.in-Ok.ensures.lines) c.put_all.new.page.held c.in-Err-put_all.fault c.in-Err-put_all.ensures.only c.in-Err-put_all.ensures.front
+    let os = c.put_heard.new.orders in
+    started_cut t hosted i n c.requires.hosted c.brokers-test.true sofar.begun (g.K.Sink.taken c.args.sink.now) (g.K.Sink.taken c.brokers.sink) c.args.page.now.held c.brokers.page.held sofar.put (g.K.Sink.taken c.put_heard.new.sink)
+    x os c.in-Ok.ensures.begun c.as_slice.result.now (c.as_slice.ensures ∙ c.in-Ok.ensures.lines) c.put_heard.new.page.held c.in-Err-put_heard.fault c.in-Err-put_heard.ensures.only c.in-Err-put_heard.ensures.front
 
-pub returns-in-Err-put_all-clause-short : goal.returns-in-Err-put_all-clause-short
-returns-in-Err-put_all-clause-short g c =
+pub returns-in-Err-put_heard-clause-short : goal.returns-in-Err-put_heard-clause-short
+returns-in-Err-put_heard-clause-short g c =
     let t = c.args.site.now.topo.now in
     let hosted = c.args.site.now.hosted.now in
     let i = c.brokers.b-index in
     let n = seen c.brokers.node in
     let sofar = c.brokers.invariant in
     let x = c.in-Ok.started.broker in
-    begun_hosted t hosted (with_broker n (b t hosted i n c.requires.hosted c.brokers-test.true sofar.begun) x) (i + 1) (begun_next t hosted i n c.requires.hosted c.brokers-test.true sofar.begun x c.in-Ok.ensures.begun)
+    let os = c.put_heard.new.orders in
+    begun_hosted t hosted (with_broker n (b t hosted i n c.requires.hosted c.brokers-test.true sofar.begun) x os) (i + 1) (begun_next t hosted i n c.requires.hosted c.brokers-test.true sofar.begun x os c.in-Ok.ensures.begun)
 
-pub returns-in-Err-put_all-clause-offers : goal.returns-in-Err-put_all-clause-offers
-returns-in-Err-put_all-clause-offers g c = c.brokers.invariant.begun.offers
+pub returns-in-Err-put_heard-clause-offers : goal.returns-in-Err-put_heard-clause-offers
+returns-in-Err-put_heard-clause-offers g c = c.brokers.invariant.begun.offers
 
-pub returns-in-Err-put_all-clause-now : goal.returns-in-Err-put_all-clause-now
-returns-in-Err-put_all-clause-now g c = c.brokers.invariant.begun.now
+pub returns-in-Err-put_heard-clause-now : goal.returns-in-Err-put_heard-clause-now
+returns-in-Err-put_heard-clause-now g c = c.brokers.invariant.begun.now
 
-pub returns-in-Err-put_all-clause-found : goal.returns-in-Err-put_all-clause-found
-returns-in-Err-put_all-clause-found g c = λ tells.
+pub returns-in-Err-put_heard-clause-found : goal.returns-in-Err-put_heard-clause-found
+returns-in-Err-put_heard-clause-found g c = λ tells.
     let t = c.args.site.now.topo.now in
     let hosted = c.args.site.now.hosted.now in
     let i = c.brokers.b-index in
     let n = seen c.brokers.node in
     let sofar = c.brokers.invariant in
     let x = c.in-Ok.started.broker in
+    let os = c.put_heard.new.orders in
     let before = g.D.Disk.lane_of c.args.disk.now in
     let mid = g.D.Disk.lane_of c.brokers.disk in
     let after = g.D.Disk.lane_of c.start_one.new.disk in
-    all_found t (take (i + 1) hosted) (take (i + 1) hosted) (with_broker n (b t hosted i n c.requires.hosted c.brokers-test.true sofar.begun) x) before after
-    (begun_next t hosted i n c.requires.hosted c.brokers-test.true sofar.begun x c.in-Ok.ensures.begun)
-    (found_next t hosted i n c.requires.hosted c.brokers-test.true sofar.begun before mid after (sofar.found tells) (c.in-Ok.ensures.others tells) x c.in-Ok.ensures.begun (c.in-Ok.ensures.opens tells) (c.in-Ok.ensures.stands tells))
+    all_found t (take (i + 1) hosted) (take (i + 1) hosted) (with_broker n (b t hosted i n c.requires.hosted c.brokers-test.true sofar.begun) x os) before after
+    (begun_next t hosted i n c.requires.hosted c.brokers-test.true sofar.begun x os c.in-Ok.ensures.begun)
+    (found_next t hosted i n c.requires.hosted c.brokers-test.true sofar.begun before mid after (sofar.found tells) (c.in-Ok.ensures.others tells) x os c.in-Ok.ensures.begun (c.in-Ok.ensures.opens tells) (c.in-Ok.ensures.stands tells))
 
-pub returns-in-Err-put_all-clause-stands : goal.returns-in-Err-put_all-clause-stands
-returns-in-Err-put_all-clause-stands g c = λ tells.
+pub returns-in-Err-put_heard-clause-stands : goal.returns-in-Err-put_heard-clause-stands
+returns-in-Err-put_heard-clause-stands g c = λ tells.
     let t = c.args.site.now.topo.now in
     let hosted = c.args.site.now.hosted.now in
     let i = c.brokers.b-index in
     let n = seen c.brokers.node in
     let sofar = c.brokers.invariant in
     let x = c.in-Ok.started.broker in
+    let os = c.put_heard.new.orders in
     let before = g.D.Disk.lane_of c.args.disk.now in
     let mid = g.D.Disk.lane_of c.brokers.disk in
     let after = g.D.Disk.lane_of c.start_one.new.disk in
-    (found_next t hosted i n c.requires.hosted c.brokers-test.true sofar.begun before mid after (sofar.found tells) (c.in-Ok.ensures.others tells) x c.in-Ok.ensures.begun (c.in-Ok.ensures.opens tells) (c.in-Ok.ensures.stands tells)).stands
+    (found_next t hosted i n c.requires.hosted c.brokers-test.true sofar.begun before mid after (sofar.found tells) (c.in-Ok.ensures.others tells) x os c.in-Ok.ensures.begun (c.in-Ok.ensures.opens tells) (c.in-Ok.ensures.stands tells)).stands
 
-pub returns-in-Err-put_all-clause-others : goal.returns-in-Err-put_all-clause-others
-returns-in-Err-put_all-clause-others g c = λ tells.
+pub returns-in-Err-put_heard-clause-others : goal.returns-in-Err-put_heard-clause-others
+returns-in-Err-put_heard-clause-others g c = λ tells.
     let t = c.args.site.now.topo.now in
     let hosted = c.args.site.now.hosted.now in
     let i = c.brokers.b-index in
     let n = seen c.brokers.node in
     let sofar = c.brokers.invariant in
     let x = c.in-Ok.started.broker in
+    let os = c.put_heard.new.orders in
     let before = g.D.Disk.lane_of c.args.disk.now in
     let mid = g.D.Disk.lane_of c.brokers.disk in
     let after = g.D.Disk.lane_of c.start_one.new.disk in
     touched_hosted t hosted (i + 1) before after
-    (found_next t hosted i n c.requires.hosted c.brokers-test.true sofar.begun before mid after (sofar.found tells) (c.in-Ok.ensures.others tells) x c.in-Ok.ensures.begun (c.in-Ok.ensures.opens tells) (c.in-Ok.ensures.stands tells)).others
+    (found_next t hosted i n c.requires.hosted c.brokers-test.true sofar.begun before mid after (sofar.found tells) (c.in-Ok.ensures.others tells) x os c.in-Ok.ensures.begun (c.in-Ok.ensures.opens tells) (c.in-Ok.ensures.stands tells)).others
 
-pub returns-in-Err-put_all-clause-disk : goal.returns-in-Err-put_all-clause-disk
-returns-in-Err-put_all-clause-disk g c =
-    still_moved c.in-Err-put_all.fault (g.D.Disk.faults c.args.disk.now) (g.D.Disk.stops c.args.disk.now) (g.D.Disk.faults c.start_one.new.disk) (g.D.Disk.stops c.start_one.new.disk)
-    c.in-Err-put_all.ensures.only (c.in-Ok.ensures.disk.same.0 ∙ c.brokers.invariant.faults) (c.in-Ok.ensures.disk.same.1 ∙ c.brokers.invariant.stops)
+pub returns-in-Err-put_heard-clause-disk : goal.returns-in-Err-put_heard-clause-disk
+returns-in-Err-put_heard-clause-disk g c =
+    still_moved c.in-Err-put_heard.fault (g.D.Disk.faults c.args.disk.now) (g.D.Disk.stops c.args.disk.now) (g.D.Disk.faults c.start_one.new.disk) (g.D.Disk.stops c.start_one.new.disk)
+    c.in-Err-put_heard.ensures.only (c.in-Ok.ensures.disk.same.0 ∙ c.brokers.invariant.faults) (c.in-Ok.ensures.disk.same.1 ∙ c.brokers.invariant.stops)
 
-pub returns-in-Err-put_all-clause-sink : goal.returns-in-Err-put_all-clause-sink
-returns-in-Err-put_all-clause-sink g c = sink_asked c.in-Err-put_all.fault (g.K.Sink.faults c.args.sink.now) (g.K.Sink.faults c.brokers.sink) (g.K.Sink.faults c.put_all.new.sink) c.brokers.invariant.same c.in-Err-put_all.ensures.write c.in-Err-put_all.ensures.same
+pub returns-in-Err-put_heard-clause-sink : goal.returns-in-Err-put_heard-clause-sink
+returns-in-Err-put_heard-clause-sink g c = sink_asked c.in-Err-put_heard.fault (g.K.Sink.faults c.args.sink.now) (g.K.Sink.faults c.brokers.sink) (g.K.Sink.faults c.put_heard.new.sink) c.brokers.invariant.same c.in-Err-put_heard.ensures.write c.in-Err-put_heard.ensures.same
 
 -- All have started
 
@@ -220,10 +231,11 @@ returns-clause-started g c =
     let n = seen c.brokers.node in
     let sofar = c.brokers.invariant in
     started_all t hosted i n (g.K.Sink.taken c.args.sink.now) (g.K.Sink.taken c.brokers.sink) c.args.page.now.held c.brokers.page.held tt
-    sofar.begun (omega (arith, c.brokers.auto.b-index-end, c.brokers-test.false)) sofar.put
+    sofar.begun sofar.heard (omega (arith, c.brokers.auto.b-index-end, c.brokers-test.false)) sofar.put
 
 pub returns-clause-set : goal.returns-clause-set
 returns-clause-set g c = begun_set c.args.site.now.topo.now c.args.site.now.hosted.now (seen c.brokers.node) c.brokers.b-index c.brokers.invariant.begun (omega (arith, c.brokers-test.false))
+    (lists_kept c.args.site.now.topo.now (seen c.brokers.node).orders (flat_map (start_lines c.args.site.now.topo.now (seen c.brokers.node)) (take c.brokers.b-index c.args.site.now.hosted.now)) c.brokers.invariant.heard)
 
 pub returns-clause-short : goal.returns-clause-short
 returns-clause-short g c = begun_hosted c.args.site.now.topo.now c.args.site.now.hosted.now (seen c.brokers.node) c.brokers.b-index c.brokers.invariant.begun

@@ -2,12 +2,12 @@ use Rattle.std.proofs.Common.{refl}
 use Rattle.gr_node.specs.Seen.{seen}
 use Rattle.gr_node.specs.Plan.{publishes}
 use Rattle.gr_node.specs.Went.{outside}
-use Rattle.gr_node.proofs.Keeping.{if_ok, set_on}
+use Rattle.gr_node.proofs.Keeping.{set_on}
 use Rattle.gr_node.proofs.Wending.{went_call, went_refused}
 use Rattle.gr_node.proofs.turning.publish.Goals as goal
 
 pub returns-in-Ok-clause-went : goal.returns-in-Ok-clause-went
-returns-in-Ok-clause-went g c = went_call c.args.site.now.topo.now c.args.site.now.hosted.now g.P.Post.tells (publishes (c.args.p, (c.args.number, c.args.event.now))) (seen c.args.node.now) (seen c.publish_at.new.self) c.in-Ok.told c.tell.new.offers
+returns-in-Ok-clause-went g c = went_call c.args.site.now.topo.now c.args.site.now.hosted.now g.P.Post.tells (publishes (c.args.p, (c.args.number, c.args.event.now))) (seen c.args.node.now) (seen c.publish_at.new.self) c.in-Ok.told c.tell.new.offers c.tell.new.orders
     (outside (g.K.Sink.taken c.args.sink.now) c.args.page.now.held (g.P.Post.journal c.args.post.now))
     (outside (g.K.Sink.taken c.tell.new.sink) c.tell.new.page.held (g.P.Post.journal c.tell.new.post))
     c.tell.result c.in-Ok.ensures.makes (record {
@@ -16,12 +16,14 @@ returns-in-Ok-clause-went g c = went_call c.args.site.now.topo.now c.args.site.n
       sent = c.tell.ensures.sent;
       sent_front = c.tell.ensures.sent_front;
       count = c.tell.ensures.offers;
+      heard = c.tell.ensures.heard;
       cause = c.tell.ensures.cause;
     })
 
 pub returns-in-Ok-clause-set : goal.returns-in-Ok-clause-set
-returns-in-Ok-clause-set g c = if_ok c.tell.result
-    (set_on c.args.site.now.topo.now c.args.site.now.hosted.now (seen c.args.node.now) (seen c.publish_at.new.self) (publishes (c.args.p, (c.args.number, c.args.event.now))) c.in-Ok.told c.tell.new.offers c.in-Ok.ensures.makes c.in-Ok.ensures.fits c.requires.set)
+returns-in-Ok-clause-set g c =
+    set_on c.args.site.now.topo.now c.args.site.now.hosted.now (seen c.args.node.now) (seen c.publish_at.new.self) (publishes (c.args.p, (c.args.number, c.args.event.now))) c.in-Ok.told c.tell.new.offers c.tell.new.orders c.tell.result
+    c.in-Ok.ensures.makes c.in-Ok.ensures.fits c.tell.ensures.heard c.requires.set
 
 pub returns-in-Err-clause-went : goal.returns-in-Err-clause-went
 returns-in-Err-clause-went g c = went_refused c.args.site.now.topo.now c.args.site.now.hosted.now g.P.Post.tells _ _ (seen c.args.node.now) _

@@ -6,7 +6,7 @@ use Rattle.gr_node.specs.Lasting.{StoodEachTime}
 use Rattle.gr_node.specs.Went.{outside}
 use Rattle.gr_node.specs.Turns.{IsFirst}
 use Rattle.gr_node.proofs.SoFar.{SoFar}
-use Rattle.gr_node.proofs.running.run.Given as goal
+use Rattle.gr_node.proofs.running.run_turns.Given as goal
 
 -- all that came so far was taken
 abbrev pub invariant-turns : goal.invariant-turns
