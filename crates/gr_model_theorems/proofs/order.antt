@@ -5,3 +5,6 @@ pub mod Merged
 pub mod Steadily
 pub mod Always
 pub mod OneOrder
+pub mod Unheard
+pub mod OverLogs
+pub mod Served

@@ -13,3 +13,4 @@ pub mod Found
 pub mod Standing
 pub mod OverLogs
 pub mod Lanes
+pub mod OrderedServed

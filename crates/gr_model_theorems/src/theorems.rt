@@ -28,6 +28,8 @@ ghost use Rattle.gr_model_theorems.specs.OverLogs.{StandsOver};
 ghost use Rattle.gr_publog.specs.declared.record.Record.{Record};
 ghost use Rattle.gr_model_theorems.specs.Lanes.{AllFollow, IsRunOverLanes, IsServedOverLanes, found_logs, FoundIsPastCut};
 ghost use Rattle.gr_model_theorems.specs.Lanes.{HoldsOverLanes, HoldsServedLanes, CutEventsSilent};
+ghost use Rattle.gr_model_theorems.specs.OrderedServed.{told_in_order, opened_report, OrderedOverLanes};
+ghost use Rattle.gr_model_theorems.specs.OrderedServed.{OrderedServedLanes, OneOrderServedLanes};
 ghost use Rattle.gr_model_theorems.specs.Examples.{WorkedExamples};
 ghost use Rattle.gr_model_theorems.specs.ServedExample.{ServedExamples};
 ghost use Rattle.gr_model.specs.Orders.{orders_over, ordered_steps};
@@ -224,6 +226,31 @@ pub fn headline_over_lanes()
     ensures found { (net : Net) (lanes : List (List Record)) → AllFollow lanes → AreReopened net (found_logs lanes) }
     ensures past { FoundIsPastCut }
     ensures silent { (net : Net) (lanes : List (List Record)) → AllFollow lanes → CutEventsSilent net lanes }
+{}
+
+/// One order over all publishers, over logs that code opens: of every schedule that begins on them, and of a server of
+/// all brokers over every honest journal. After the opening, and after each step or arrival, each subscriber that gets
+/// one list was told in it exactly the recorded events that it wants, of every publisher, up to where it has heard all
+/// publishers: each once, rising by tick and then publisher. The record begins with what was found, the events past the
+/// cut: what an earlier run cut is in no list of this one.
+pub fn ordered_over_lanes()
+    ensures schedules { (net : Net) (totals : List ℕ) (lanes : List (List Record)) (steps : List Line) →
+        IsRunOverLanes net lanes steps → AreTotals net totals → OrderedOverLanes net totals lanes steps }
+    ensures served { (net : Net) (totals : List ℕ) (lanes : List (List Record)) (steps : List Line)
+        (arrivals : List Arrival) → IsServedOverLanes net lanes steps arrivals → AreTotals net totals →
+        OrderedServedLanes net totals lanes steps arrivals }
+{}
+
+/// One order among subscribers, over logs that code opens: of two subscribers that get one list over all publishers and
+/// want the same, what one was told in it up to any step or arrival begins with what the other was told up to any, or
+/// the other way round.
+pub fn one_order_over_lanes()
+    ensures schedules { (net : Net) (totals : List ℕ) (lanes : List (List Record)) (steps : List Line) →
+        IsRunOverLanes net lanes steps → AreTotals net totals →
+        OneOrder net totals (told_in_order net totals (opened_report net lanes steps)) }
+    ensures served { (net : Net) (totals : List ℕ) (lanes : List (List Record)) (steps : List Line)
+        (arrivals : List Arrival) → IsServedOverLanes net lanes steps arrivals → AreTotals net totals →
+        OneOrderServedLanes net totals lanes steps arrivals }
 {}
 
 /// Worked examples of a server: a whole run over three arrivals, and a start over an old log.

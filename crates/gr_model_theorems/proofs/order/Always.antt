@@ -68,15 +68,16 @@ told_now net w h s totals rs apart here y k lines = go (nat_eq net.publishers 0)
     go false e = told_is_expected net h s totals rs apart here lines (λ p lt. (gets_now net w h s p k lt y).got) passed
 
 -- how far a run has come: its lines so far, and what was told of them in one order
-record Come (net : Net) (totals : List ℕ) (h : History) (told : List Report) (os : List Order) (rs : List (List Report)) : Type 0 where
-  lines : h.lines ≡ joined rs
-  told_is : told ≡ joined (ordered_steps (orders_over net.publishers totals) rs)
-  orders : os ≡ orders_after (orders_over net.publishers totals) rs
+pub record Come (net : Net) (totals : List ℕ) (h : History) (told : List Report) (os : List Order) (rs : List (List Report)) : Type 0 where
+  pub lines : h.lines ≡ joined rs
+  pub told_is : told ≡ joined (ordered_steps (orders_over net.publishers totals) rs)
+  pub orders : os ≡ orders_after (orders_over net.publishers totals) rs
 
-goes_on : (net : Net) (totals : List ℕ) (h : History) (told : List Report) (os : List Order) (rs : List (List Report)) (l : Line) (ls : List Report) → Come net totals h told os rs
-    → Come net totals (history_after net h l ls) (told ++ ordered (fed os ls)) (without_ordered (fed os ls)) (rs ++ ls ∷ [])
-goes_on net totals h told os rs l ls c = record {
-  lines = after_lines net h l ls ∙ ap (λ xs. xs ++ ls) c.lines ∙ sym (joined_one rs ls);
+-- it goes on by lines, which the next history has
+pub goes_on : (net : Net) (totals : List ℕ) (h g : History) (told : List Report) (os : List Order) (rs : List (List Report)) (ls : List Report) → g.lines ≡ h.lines ++ ls → Come net totals h told os rs
+    → Come net totals g (told ++ ordered (fed os ls)) (without_ordered (fed os ls)) (rs ++ ls ∷ [])
+goes_on net totals h g told os rs ls more c = record {
+  lines = more ∙ ap (λ xs. xs ++ ls) c.lines ∙ sym (joined_one rs ls);
   told_is =
       ap₂ (λ xs ys. xs ++ ordered (fed ys ls)) c.told_is c.orders
       ∙ sym (joined_one (ordered_steps start_orders rs) (ordered (fed (orders_after start_orders rs) ls)))
@@ -88,11 +89,11 @@ goes_on net totals h told os rs l ls c = record {
     start_orders : List Order
     start_orders = orders_over net.publishers totals
 
-is_ordered : (net : Net) (totals : List ℕ) (w : World) (h : History) (told : List Report) (os : List Order) (rs : List (List Report)) → IsDistinct totals → ((s : ℕ) → list_any (λ x. nat_eq x s) totals ≡ true → IsSubscriber net s) → Stands net w h → Come net totals h told os rs → IsOrdered net totals h told
+pub is_ordered : (net : Net) (totals : List ℕ) (w : World) (h : History) (told : List Report) (os : List Order) (rs : List (List Report)) → IsDistinct totals → ((s : ℕ) → list_any (λ x. nat_eq x s) totals ≡ true → IsSubscriber net s) → Stands net w h → Come net totals h told os rs → IsOrdered net totals h told
 is_ordered net totals w h told os rs apart there k c = λ s here.
     subst (λ ls. IsMergedOf net h s (heard_upto net h.lines s) (ordered_items s ls)) (sym c.told_is) (told_now net w h s totals rs apart here (there s here) k c.lines)
 
-from_here : (net : Net) (totals : List ℕ) (w : World) (h : History) (told : List Report) (os : List Order) (rs : List (List Report)) (steps : List Line) → IsNet net → 1 ≤ net.quiet → StepsIn net steps → IsDistinct totals
+pub from_here : (net : Net) (totals : List ℕ) (w : World) (h : History) (told : List Report) (os : List Order) (rs : List (List Report)) (steps : List Line) → IsNet net → 1 ≤ net.quiet → StepsIn net steps → IsDistinct totals
     → ((s : ℕ) → list_any (λ x. nat_eq x s) totals ≡ true → IsSubscriber net s) → Stands net w h → Come net totals h told os rs
     → TotallyOrdered_from net totals h told steps (run_from net w steps) (ordered_steps os (run_from net w steps))
 unfolding ordered_steps run_from_by
@@ -100,7 +101,7 @@ from_here net totals w h told os rs [] n z i apart there k c = is_ordered net to
 from_here net totals w h told os rs (l ∷ ls) n z i apart there k c =
     let t : Transition = next net w l in (
       is_ordered net totals w h told os rs apart there k c,
-      from_here net totals t.world (history_after net h l t.lines) (told ++ ordered (fed os t.lines)) (without_ordered (fed os t.lines)) (rs ++ t.lines ∷ []) ls n z i.1 apart there (next_stands net w h l n z i.0 k) (goes_on net totals h told os rs l t.lines c),
+      from_here net totals t.world (history_after net h l t.lines) (told ++ ordered (fed os t.lines)) (without_ordered (fed os t.lines)) (rs ++ t.lines ∷ []) ls n z i.1 apart there (next_stands net w h l n z i.0 k) (goes_on net totals h (history_after net h l t.lines) told os rs t.lines (after_lines net h l t.lines) c),
     )
 
 -- nothing is told at the start
@@ -115,17 +116,22 @@ start_tells n totals = go (nat_eq n 0)
     go true = refl
     go false = none_at_start n totals
 
-begins : (net : Net) (totals : List ℕ) → Come net totals (begin net) [] (without_ordered (fed (orders_over net.publishers totals) [])) ([] ∷ [])
-begins net totals = record {
-  lines = begin_lines net;
-  told_is = sym (ap joined (one_step (orders_over net.publishers totals) []) ∙ append-nil (ordered (fed (orders_over net.publishers totals) [])) ∙ start_tells net.publishers totals);
+-- behind the lines of a start
+pub begins : (net : Net) (totals : List ℕ) (h : History) (ls : List Report) → h.lines ≡ ls
+    → Come net totals h (ordered (fed (orders_over net.publishers totals) ls)) (without_ordered (fed (orders_over net.publishers totals) ls)) (ls ∷ [])
+begins net totals h ls e = record {
+  lines = e ∙ sym (append-nil ls);
+  told_is = sym (ap joined (one_step (orders_over net.publishers totals) ls) ∙ append-nil (ordered (fed (orders_over net.publishers totals) ls)));
   orders = refl;
 }
+
+begins_empty : (net : Net) (totals : List ℕ) → Come net totals (begin net) [] (without_ordered (fed (orders_over net.publishers totals) [])) ([] ∷ [])
+begins_empty net totals = subst (λ told. Come net totals (begin net) told (without_ordered (fed (orders_over net.publishers totals) [])) ([] ∷ [])) (start_tells net.publishers totals) (begins net totals (begin net) [] (begin_lines net))
 
 pub ordered_always : (net : Net) (totals : List ℕ) (steps : List Line) → IsNet net → 1 ≤ net.quiet → StepsIn net steps → IsDistinct totals → ((s : ℕ) → list_any (λ x. nat_eq x s) totals ≡ true → s < net.subscribers)
     → TotallyOrdered net totals steps (report_of net steps) (ordered_steps (orders_over net.publishers totals) (report_of net steps))
 unfolding report_of_by ordered_steps
 ordered_always net totals steps n z i apart below = (
   start_tells net.publishers totals,
-  from_here net totals (start net) (begin net) [] (without_ordered (fed (orders_over net.publishers totals) [])) ([] ∷ []) steps n z i apart (λ s here. n.subscriber s (below s here)) (start_stands net n) (begins net totals),
+  from_here net totals (start net) (begin net) [] (without_ordered (fed (orders_over net.publishers totals) [])) ([] ∷ []) steps n z i apart (λ s here. n.subscriber s (below s here)) (start_stands net n) (begins_empty net totals),
 )

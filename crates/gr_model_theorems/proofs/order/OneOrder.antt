@@ -91,11 +91,11 @@ either net h s r m n list other same a b = elim (cases_lt m n) [
 -- ---- behind the last step
 
 -- there is a history of which these lines tell what they are to tell
-record AtEnd (net : Net) (totals : List ℕ) (told : List Report) : Type 0 where
-  now : History
-  ordered : IsOrdered net totals now told
+pub record AtEnd (net : Net) (totals : List ℕ) (told : List Report) : Type 0 where
+  pub now : History
+  pub ordered : IsOrdered net totals now told
 
-last_step : (net : Net) (totals : List ℕ) (h : History) (told : List Report) (steps : List Line) (rs os : List (List Report)) → TotallyOrdered_from net totals h told steps rs os → AtEnd net totals (told ++ joined os)
+pub last_step : (net : Net) (totals : List ℕ) (h : History) (told : List Report) (steps : List Line) (rs os : List (List Report)) → TotallyOrdered_from net totals h told steps rs os → AtEnd net totals (told ++ joined os)
 last_step net totals h told [] [] [] k = let a : AtEnd net totals told = record { now = h; ordered = k } in subst (λ (xs : List Report). AtEnd net totals xs) (sym (append-nil told)) a
 last_step net totals h told [] [] (o ∷ os) k = absurd k
 last_step net totals h told [] (r ∷ rs) [] k = absurd k
@@ -112,10 +112,9 @@ at_end net totals steps [] (o ∷ os) k = absurd k
 at_end net totals steps (r ∷ rs) [] k = absurd k
 at_end net totals steps (r ∷ rs) (o ∷ os) k = subst (λ (xs : List Report). AtEnd net totals (xs ++ joined os)) (sym k.0) (last_step net totals (begin net) [] steps rs os k.1)
 
--- where each list is what it is to be after each step, they are in one order
-pub one_order : (net : Net) (totals : List ℕ) (steps : List Line) (rs told : List (List Report)) → TotallyOrdered net totals steps rs told → OneOrder net totals told
-one_order net totals steps rs told k = λ s r i j here there same.
-    let z : AtEnd net totals (joined told) = at_end net totals steps rs told k in
+-- where each list is what it is to be at the end, they are in one order
+pub in_one_order : (net : Net) (totals : List ℕ) (told : List (List Report)) → AtEnd net totals (joined told) → OneOrder net totals told
+in_one_order net totals told z = λ s r i j here there same.
     both_fronts (items_told s (take i told)) (items_told s (drop i told)) (items_told r (take j told)) (items_told r (drop j told))
     (either net z.now s r (heard_upto net z.now.lines s) (heard_upto net z.now.lines r)
     (items_told s (take i told) ++ items_told s (drop i told)) (items_told r (take j told) ++ items_told r (drop j told)) same
@@ -125,4 +124,5 @@ one_order net totals steps rs told k = λ s r i j here there same.
 pub one_order_always : (net : Net) (totals : List ℕ) (steps : List Line) → IsNet net → 1 ≤ net.quiet → StepsIn net steps → IsDistinct totals → ((s : ℕ) → list_any (λ x. nat_eq x s) totals ≡ true → s < net.subscribers)
     → OneOrder net totals (ordered_steps (orders_over net.publishers totals) (report_of net steps))
 one_order_always net totals steps n z i apart below =
-    one_order net totals steps (report_of net steps) (ordered_steps (orders_over net.publishers totals) (report_of net steps)) (ordered_always net totals steps n z i apart below)
+    let told : List (List Report) = ordered_steps (orders_over net.publishers totals) (report_of net steps) in
+    in_one_order net totals told (at_end net totals steps (report_of net steps) told (ordered_always net totals steps n z i apart below))

@@ -123,7 +123,8 @@ all_later n (i ∷ rest) = go (nat_lt n i.tick) refl (all_later n rest)
     go true h more = (ltb-true n i.tick h, more)
     go false h more = more
 
-none_ready : (m : MergeView) → ready_items (without_ready m) ≡ []
+-- behind what was taken out nothing is ready
+pub none_ready : (m : MergeView) → ready_items (without_ready m) ≡ []
 none_ready m = none_up_to (least_horizon m) (past (least_horizon m) m.waiting) (all_later (least_horizon m) m.waiting)
 
 rests : (all out : List Item) (x : Held) → Fed all out x → Fed all (out ++ ready_items x.0) (rested x)

@@ -282,15 +282,15 @@ same_arrived net hosted left (a ∷ arrivals) w ls s =
 
 -- Lanes
 
-opened_same : (net : Net) (lanes : List (List Record)) → AllFollow lanes → SameTold (opened_over net (found_logs lanes)) (opened_over net (whole_logs lanes))
+pub opened_same : (net : Net) (lanes : List (List Record)) → AllFollow lanes → SameTold (opened_over net (found_logs lanes)) (opened_over net (whole_logs lanes))
 opened_same net lanes a = same_opening net (numbers net.brokers) (found_logs lanes) (whole_logs lanes) (λ p. lanes_same lanes p a)
 
-lines_same : (net : Net) (lanes : List (List Record)) (steps : List Line) → AllFollow lanes → run_from net (opened_over net (whole_logs lanes)).world steps ≡ run_from net (opened_over net (found_logs lanes)).world steps
+pub lines_same : (net : Net) (lanes : List (List Record)) (steps : List Line) → AllFollow lanes → run_from net (opened_over net (whole_logs lanes)).world steps ≡ run_from net (opened_over net (found_logs lanes)).world steps
 lines_same net lanes steps a =
     let k = opened_same net lanes a in
     ap (λ (t : Transition). run_from net t.world steps) k.is ∙ same_run net (opened_over net (found_logs lanes)).world k.logs steps k.same
 
-served_lanes : (net : Net) (lanes : List (List Record)) (steps : List Line) (arrivals : List Arrival) → AllFollow lanes → served net (numbers net.brokers) (whole_logs lanes) steps arrivals ≡ served net (numbers net.brokers) (found_logs lanes) steps arrivals
+pub served_lanes : (net : Net) (lanes : List (List Record)) (steps : List Line) (arrivals : List Arrival) → AllFollow lanes → served net (numbers net.brokers) (whole_logs lanes) steps arrivals ≡ served net (numbers net.brokers) (found_logs lanes) steps arrivals
 unfolding served_by
 served_lanes net lanes steps arrivals a =
     let k = opened_same net lanes a in

@@ -55,7 +55,7 @@ opened_in : (net : Net) (logs : List Log) → IsNet net → IsSmall net → AreR
 unfolding opening_by
 opened_in net logs n z a = turns_in net logs (over_logs net logs) [] (publishers_at net (numbers net.brokers)) n z (publishers_below net (numbers net.brokers)) (over_opening net logs n a) (over_in net logs a)
 
-opened_ready : (net : Net) (logs : List Log) → IsNet net → IsSmall net → AreReopened net logs → Ready net WorldIn (all_opened net logs).world (begin_over net logs (all_opened net logs).lines)
+pub opened_ready : (net : Net) (logs : List Log) → IsNet net → IsSmall net → AreReopened net logs → Ready net WorldIn (all_opened net logs).world (begin_over net logs (all_opened net logs).lines)
 opened_ready net logs n z a = record {
   whole = opened_whole net logs n a;
   unknown = (opened net logs n a).unknown;
@@ -63,7 +63,7 @@ opened_ready net logs n z a = record {
   limits = opened_in net logs n z a;
 }
 
-begun_lines : (net : Net) (logs : List Log) (told : List Report) → (begin_over net logs told).lines ≡ told
+pub begun_lines : (net : Net) (logs : List Log) (told : List Report) → (begin_over net logs told).lines ≡ told
 unfolding begin_over
 begun_lines net logs told = refl
 

@@ -29,7 +29,7 @@ use Rattle.gr_model.specs.Broker.{max_tick}
 use Rattle.gr_model.specs.World.{World, Transition, view_of, log_of, unchanged, sent_lines, next, show, run_from, run_all, kept_events, next_by, run_from_by}
 use Rattle.gr_model_calls.specs.Edges.{GoesOverEdge}
 use Rattle.gr_model.specs.Arrivals.{Arrival, datagram, quiet, Publish, fault_number, publisher_of, takes_notes, submitted_in, is_hosted, is_scheduled, publishes_in, publishes_of, left_after, comes, show_hosted, served_from, served_from_by}
-use Rattle.gr_model_theorems.specs.Served.{IsOfBytes, number_of_bytes, IsHonestAt, IsHonest, DoesSteps, AllDoSteps, as_line, publish_step, delivery_step, is_frame, submitted_step, note_step, datagram_step, steps_of_arrival, dropped_as, unsubmitted_as, note_dropped_as, dropped_line, is_dropped, ArrivalTold, ShowHolds, HoldsServed}
+use Rattle.gr_model_theorems.specs.Served.{IsOfBytes, number_of_bytes, IsHonestAt, IsHonest, DoesSteps, AllDoSteps, as_line, publish_step, delivery_step, is_frame, submitted_step, note_step, datagram_step, steps_of_arrival, dropped_as, unsubmitted_as, note_dropped_as, dropped_line, is_dropped, ArrivalTold, ArrivalHolds, ShowHolds, HoldsServed}
 use Rattle.gr_model_theorems.specs.Spelled.{IsInLimits, NumbersIn, IsSpelled}
 use Rattle.gr_model.specs.Headline.{History, history, is_record_line, is_doubt_line, is_sent, sent_number}
 use Rattle.gr_model_theorems.specs.Replies.{is_reply}
@@ -129,7 +129,7 @@ PublishIn net x = (x.0 < net.publishers) × IsEvent x.1.1
 abbrev pub LeftIn : Net → List Publish → Type 0
 LeftIn net left = AllByRecursion (PublishIn net) left
 
-left_in : (net : Net) (left : List Publish) (a : Arrival) → LeftIn net left → LeftIn net (left_after left a)
+pub left_in : (net : Net) (left : List Publish) (a : Arrival) → LeftIn net left → LeftIn net (left_after left a)
 left_in net left (datagram b bytes moment) l = l
 left_in net [] (quiet moment) l = tt
 left_in net (x ∷ left) (quiet moment) l = l.1
@@ -161,9 +161,9 @@ publishes_are_in net hosted (l ∷ ls) i m = both_in net (publishes_in net hoste
 -- Steps of an arrival
 
 -- the numbers of steps are in range
-record AreIn (net : Net) (ls : List Line) : Type 0 where
-  steps : StepsIn net ls
-  numbers : NumbersIn ls
+pub record AreIn (net : Net) (ls : List Line) : Type 0 where
+  pub steps : StepsIn net ls
+  pub numbers : NumbersIn ls
 
 in_front : (net : Net) (l : Line) (ls : List Line) → StepIn net l.step → IsInLimits l.step → AreIn net ls → AreIn net (l ∷ ls)
 in_front net l ls i m a = record { steps = (i, a.steps); numbers = (m, a.numbers) }
@@ -322,13 +322,13 @@ module _ (net : Net) (n : IsNet net) (on : 1 ≤ net.quiet) (retry : 1 ≤ net.r
   ]
 
   -- an arrival, what stands after it, and the frames told on the way
-  record Turn (w : World) (h : History) (left : List Publish) (a : Arrival) : Type 0 where
-    are_in : AreIn net (steps_of_arrival net h.lines left a)
-    does : Does net w left a (steps_of_arrival net h.lines left a)
-    ready : Ready net P (run_all net w (steps_of_arrival net h.lines left a)).world (history net h (steps_of_arrival net h.lines left a) (run_from net w (steps_of_arrival net h.lines left a)))
-    same : (let t : Transition = comes net (numbers net.brokers) w left a in filter is_sent (h.lines ++ t.lines)) ≡ filter is_sent (history net h (steps_of_arrival net h.lines left a) (run_from net w (steps_of_arrival net h.lines left a))).lines
+  pub record Turn (w : World) (h : History) (left : List Publish) (a : Arrival) : Type 0 where
+    pub are_in : AreIn net (steps_of_arrival net h.lines left a)
+    pub does : Does net w left a (steps_of_arrival net h.lines left a)
+    pub ready : Ready net P (run_all net w (steps_of_arrival net h.lines left a)).world (history net h (steps_of_arrival net h.lines left a) (run_from net w (steps_of_arrival net h.lines left a)))
+    pub same : (let t : Transition = comes net (numbers net.brokers) w left a in filter is_sent (h.lines ++ t.lines)) ≡ filter is_sent (history net h (steps_of_arrival net h.lines left a) (run_from net w (steps_of_arrival net h.lines left a))).lines
 
-  turn : (w : World) (h : History) (left : List Publish) (a : Arrival) → Ready net P w h → LeftIn net left → IsOfBytes a → IsHonestAt h.lines a → Turn w h left a
+  pub turn : (w : World) (h : History) (left : List Publish) (a : Arrival) → Ready net P w h → LeftIn net left → IsOfBytes a → IsHonestAt h.lines a → Turn w h left a
   turn w h left a r l f x =
       let steps = steps_of_arrival net h.lines left a in
       let i = arrival_in net h.lines left a l f in
@@ -354,7 +354,7 @@ module _ (net : Net) (n : IsNet net) (on : 1 ≤ net.quiet) (retry : 1 ≤ net.r
       }
 
   -- what is left of the journal is honest after the steps
-  still_honest : (w : World) (h : History) (left : List Publish) (a : Arrival) (arrivals : List Arrival) → Turn w h left a → IsHonest h.lines (a ∷ arrivals) (served_from net (numbers net.brokers) w left (a ∷ arrivals)) →
+  pub still_honest : (w : World) (h : History) (left : List Publish) (a : Arrival) (arrivals : List Arrival) → Turn w h left a → IsHonest h.lines (a ∷ arrivals) (served_from net (numbers net.brokers) w left (a ∷ arrivals)) →
       IsHonest (history net h (steps_of_arrival net h.lines left a) (run_from net w (steps_of_arrival net h.lines left a))).lines arrivals (served_from net (numbers net.brokers) (run_all net w (steps_of_arrival net h.lines left a)).world (left_after left a) arrivals)
   unfolding served_from_by
   still_honest w h left a arrivals y x =
@@ -377,6 +377,19 @@ module _ (net : Net) (n : IsNet net) (on : 1 ≤ net.quiet) (retry : 1 ≤ net.r
         numbered = ap (map sent_number) sent ∙ (numbers_sent (suc (length w.frames)) s.more ∙ ap₂ (λ a k. numbers_from (suc a) k) (sym (sent_count_is net w h r.whole.stands)) (sym (ap length sent ∙ lines_long (suc (length w.frames)) s.more)));
       }
 
+  -- the headline holds of one arrival, and after it what holds of the history then
+  pub arrival_holds : (Rest : History → Type 0) (w : World) (h : History) (left : List Publish) (a : Arrival) → Ready net P w h → Turn w h left a → Rest (history net h (steps_of_arrival net h.lines left a) (run_from net w (steps_of_arrival net h.lines left a)))
+      → (let t : Transition = comes net (numbers net.brokers) w left a in ArrivalHolds net h left a t.lines Rest)
+  arrival_holds Rest w h left a r y rest =
+      let steps = steps_of_arrival net h.lines left a in
+      record {
+        told = arrival_told w h left a r y;
+        parts = run_from net w steps;
+        lines = y.does.lines ∙ ap (λ (z : List Report). z ++ dropped_line net a) (sym (report_lines net w steps));
+        steps = holds_where_sweeps_reach net w h steps n (sweeps_reach net n on retry) on y.are_in.steps r.whole r.unknown;
+        rest = rest;
+      }
+
   -- from where all stands on, the headline holds of what an honest journal leads to
   pub holds : (arrivals : List Arrival) (w : World) (h : History) (left : List Publish) → Ready net P w h → LeftIn net left → AllByRecursion IsOfBytes arrivals → IsHonest h.lines arrivals (served_from net (numbers net.brokers) w left arrivals) → HoldsServed net h left arrivals (served_from net (numbers net.brokers) w left arrivals)
   unfolding served_from_by next_by run_from_by
@@ -387,14 +400,10 @@ module _ (net : Net) (n : IsNet net) (on : 1 ≤ net.quiet) (retry : 1 ≤ net.r
       let steps = steps_of_arrival net h.lines left a in
       let parts = run_from net w steps in
       let y = turn w h left a r l f.0 x.0 in
+      let t = comes net (numbers net.brokers) w left a in
       let g : History = history net h steps parts in
-      record {
-        told = arrival_told w h left a r y;
-        parts = parts;
-        lines = y.does.lines ∙ ap (λ (z : List Report). z ++ dropped_line net a) (sym (report_lines net w steps));
-        steps = holds_where_sweeps_reach net w h steps n (sweeps_reach net n on retry) on y.are_in.steps r.whole r.unknown;
-        rest = subst (λ z. HoldsServed net g (left_after left a) arrivals (served_from net (numbers net.brokers) z (left_after left a) arrivals)) (sym y.does.world) (holds arrivals (run_all net w steps).world g (left_after left a) y.ready (left_in net left a l) f.1 (still_honest w h left a arrivals y x));
-      }
+      arrival_holds (λ k. HoldsServed net k (left_after left a) arrivals (served_from net (numbers net.brokers) t.world (left_after left a) arrivals)) w h left a r y
+      (subst (λ z. HoldsServed net g (left_after left a) arrivals (served_from net (numbers net.brokers) z (left_after left a) arrivals)) (sym y.does.world) (holds arrivals (run_all net w steps).world g (left_after left a) y.ready (left_in net left a l) f.1 (still_honest w h left a arrivals y x)))
 
   -- the steps are the same by the lines of frames alone
   steps_same : (xs ys : List Report) (left : List Publish) (a : Arrival) → filter is_sent xs ≡ filter is_sent ys → steps_of_arrival net xs left a ≡ steps_of_arrival net ys left a

@@ -1,0 +1,64 @@
+-- What each list over all publishers says of a schedule over old logs: the opening's lines are heard like those of a step
+use Rattle.std.proofs.Common.{◌≡◌, ℕ, ◌≤◌, ◌<◌, true, List, [], ◌∷◌, sym, ap, ◌∙◌, subst}
+use Rattle.std.specs.Prelude.{nat_eq}
+use Rattle.std.specs.List.{list_any}
+use Rattle.gr_publog.specs.declared.record.Record.{Record}
+use Rattle.gr_sched.specs.declared.step.Line.{Line}
+use Rattle.gr_model.specs.declared.report.Report.{Report}
+use Rattle.gr_model.specs.Net.{Net}
+use Rattle.gr_model.specs.Broker.{Log}
+use Rattle.gr_model.specs.Tree.{IsNet, IsDistinct}
+use Rattle.gr_model.specs.World.{Transition, run_from}
+use Rattle.gr_model.specs.Opening.{begin_over}
+use Rattle.gr_model.specs.Orders.{Order, fed, ordered, without_ordered, orders_over, ordered_steps}
+use Rattle.gr_model.specs.Ordered.{OneOrder}
+use Rattle.gr_model_calls.specs.Fits.{StepsIn}
+use Rattle.gr_model_theorems.specs.Found.{AreReopened}
+use Rattle.gr_model_theorems.specs.Statements.{opened_over}
+use Rattle.gr_model_theorems.specs.Lanes.{AllFollow, whole_logs, found_logs}
+use Rattle.gr_model_theorems.specs.OrderedServed.{told_in_order, opened_report, TotallyOrderedOver, OrderedOverLanes}
+use Rattle.gr_model_theorems.proofs.server.OverLogs.{opened_whole}
+use Rattle.gr_model_theorems.proofs.server.ServedOver.{begun_lines}
+use Rattle.gr_model_theorems.proofs.server.Lanes.{are_found, opened_same, lines_same}
+use Rattle.gr_model_theorems.proofs.order.Hearing.{joined}
+use Rattle.gr_model_theorems.proofs.order.Always.{from_here, begins}
+use Rattle.gr_model_theorems.proofs.order.OneOrder.{AtEnd, last_step, in_one_order}
+
+-- from an opening over logs that were found
+ordered_over : (net : Net) (totals : List ℕ) (logs : List Log) (steps : List Line) → IsNet net → 1 ≤ net.quiet → AreReopened net logs → StepsIn net steps → IsDistinct totals → ((s : ℕ) → list_any (λ x. nat_eq x s) totals ≡ true → s < net.subscribers)
+    → (let o : Transition = opened_over net logs in
+    let rs : List (List Report) = o.lines ∷ run_from net o.world steps in
+    TotallyOrderedOver net totals logs steps rs (told_in_order net totals rs))
+unfolding ordered_steps
+ordered_over net totals logs steps n z a i apart below =
+    let o : Transition = opened_over net logs in
+    let next : List Order = fed (orders_over net.publishers totals) o.lines in
+    from_here net totals o.world (begin_over net logs o.lines) (ordered next) (without_ordered next) (o.lines ∷ []) steps n z i apart (λ s here. n.subscriber s (below s here)) (opened_whole net logs n a).stands
+    (begins net totals (begin_over net logs o.lines) o.lines (begun_lines net logs o.lines))
+
+-- and over lanes, since what was cut changes no line
+report_same : (net : Net) (lanes : List (List Record)) (steps : List Line) → AllFollow lanes → (let o : Transition = opened_over net (found_logs lanes) in opened_report net lanes steps ≡ o.lines ∷ run_from net o.world steps)
+report_same net lanes steps a =
+    let o : Transition = opened_over net (found_logs lanes) in
+    ap (λ (t : Transition). t.lines ∷ run_from net (opened_over net (whole_logs lanes)).world steps) (opened_same net lanes a).is
+    ∙ ap (λ (rs : List (List Report)). o.lines ∷ rs) (lines_same net lanes steps a)
+
+pub ordered_lanes : (net : Net) (totals : List ℕ) (lanes : List (List Record)) (steps : List Line) → IsNet net → 1 ≤ net.quiet → AllFollow lanes → StepsIn net steps → IsDistinct totals → ((s : ℕ) → list_any (λ x. nat_eq x s) totals ≡ true → s < net.subscribers)
+    → OrderedOverLanes net totals lanes steps
+ordered_lanes net totals lanes steps n z a i apart below =
+    subst (λ (rs : List (List Report)). TotallyOrderedOver net totals (found_logs lanes) steps rs (told_in_order net totals rs)) (sym (report_same net lanes steps a))
+    (ordered_over net totals (found_logs lanes) steps n z (are_found net lanes a) i apart below)
+
+-- ---- one order
+
+at_end : (net : Net) (totals : List ℕ) (logs : List Log) (steps : List Line) (rs told : List (List Report)) → TotallyOrderedOver net totals logs steps rs told → AtEnd net totals (joined told)
+at_end net totals logs steps [] told k = absurd k
+at_end net totals logs steps (r ∷ rs) [] k = absurd k
+at_end net totals logs steps (r ∷ rs) (o ∷ os) k = last_step net totals (begin_over net logs r) o steps rs os k
+
+pub one_order_lanes : (net : Net) (totals : List ℕ) (lanes : List (List Record)) (steps : List Line) → IsNet net → 1 ≤ net.quiet → AllFollow lanes → StepsIn net steps → IsDistinct totals → ((s : ℕ) → list_any (λ x. nat_eq x s) totals ≡ true → s < net.subscribers)
+    → OneOrder net totals (told_in_order net totals (opened_report net lanes steps))
+one_order_lanes net totals lanes steps n z a i apart below =
+    let rs : List (List Report) = opened_report net lanes steps in
+    let told : List (List Report) = told_in_order net totals rs in
+    in_one_order net totals told (at_end net totals (found_logs lanes) steps rs told (ordered_lanes net totals lanes steps n z a i apart below))
