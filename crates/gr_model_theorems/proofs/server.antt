@@ -11,3 +11,4 @@ pub mod ServedOver
 pub mod Lanes
 pub mod CallLines
 pub mod ServedExample
+pub mod Joint

@@ -14,3 +14,4 @@ pub mod Standing
 pub mod OverLogs
 pub mod Lanes
 pub mod OrderedServed
+pub mod Joint

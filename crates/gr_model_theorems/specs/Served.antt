@@ -98,13 +98,16 @@ datagram_step net lines b bytes =
 
 -- The clock moves to the moment of the arrival. A note is the publish that it submits, a datagram with the bytes of a
 -- frame that was sent is the delivery of that frame, and a quiet moment is a publish, where one is left, and then a
--- wake of each broker in order.
-abbrev pub steps_of_arrival : Net → List Report → List Publish → Arrival → List Line
-steps_of_arrival net lines left (datagram b bytes moment) =
+-- wake of each of these brokers in order.
+abbrev pub steps_at : Net → List ℕ → List Report → List Publish → Arrival → List Line
+steps_at net hosted lines left (datagram b bytes moment) =
     as_line (step.Clock (min moment max_tick)) ∷ datagram_step net lines b bytes
-steps_of_arrival net lines left (quiet moment) =
-    as_line (step.Clock (min moment max_tick)) ∷ (publish_step left
-    ++ map (λ b. as_line (step.Wake b)) (numbers net.brokers))
+steps_at net hosted lines left (quiet moment) =
+    as_line (step.Clock (min moment max_tick)) ∷ (publish_step left ++ map (λ b. as_line (step.Wake b)) hosted)
+
+-- where all brokers are hosted
+abbrev pub steps_of_arrival : Net → List Report → List Publish → Arrival → List Line
+steps_of_arrival net lines left a = steps_at net (numbers net.brokers) lines left a
 
 -- the line of a datagram that is no frame; it belongs to none of the steps
 abbrev pub dropped_as : ℕ → Result Frame FrameFault → List Report
@@ -144,13 +147,18 @@ is_dropped (line.DroppedBadNote b fault at) = true
 is_dropped (line.DroppedStrayNote b p) = true
 is_dropped _ = false
 
--- An arrival leaves the world of its steps and tells their lines, and then that of a datagram that is dropped. Each
--- call of the steps obeys its rule, and all that the steps leave and tell is by the rules
-pub record DoesSteps (net : Net) (w : World) (left : List Publish) (a : Arrival) (steps : List Line) : Type 0 where
-  pub world : (comes net (numbers net.brokers) w left a).world ≡ (run_all net w steps).world
-  pub lines : (comes net (numbers net.brokers) w left a).lines ≡ (run_all net w steps).lines ++ dropped_line net a
+-- An arrival at these brokers leaves the world of its steps and tells their lines, and then that of a datagram that is
+-- dropped. Each call of the steps obeys its rule, and all that the steps leave and tell is by the rules
+pub record DoesStepsAt (net : Net) (hosted : List ℕ) (w : World) (left : List Publish) (a : Arrival)
+    (steps : List Line) : Type 0 where
+  pub world : (comes net hosted w left a).world ≡ (run_all net w steps).world
+  pub lines : (comes net hosted w left a).lines ≡ (run_all net w steps).lines ++ dropped_line net a
   pub obey : StepsObey net w steps (run_from net w steps)
   pub by_rules : RunByRules net w steps (run_from net w steps) (run_all net w steps).world
+
+-- where all brokers are hosted
+abbrev pub DoesSteps : Net → World → List Publish → Arrival → List Line → Type 0
+DoesSteps net w left a steps = DoesStepsAt net (numbers net.brokers) w left a steps
 
 -- So does each, in the world that those before it leave and after the lines told so far. The lines of frames tell all
 -- frames of that world, numbered 1, 2, 3 and so on
@@ -169,16 +177,20 @@ pub record ArrivalTold (net : Net) (h : History) (a : Arrival) (ls : List Report
   pub unreplied : filter is_reply ls ≡ []
   pub numbered : map sent_number (filter is_sent ls) ≡ numbers_from (suc (sent_count h.lines)) (sent_count ls)
 
--- Of one arrival, where Rest is to hold of the history after its steps
-pub record ArrivalHolds (net : Net) (h : History) (left : List Publish) (a : Arrival) (r : List Report)
-    (Rest : History → Type 0) : Type 0 where
+-- Of one arrival at these brokers, where Rest is to hold of the history after its steps
+pub record ArrivalHoldsAt (net : Net) (hosted : List ℕ) (h : History) (left : List Publish) (a : Arrival)
+    (r : List Report) (Rest : History → Type 0) : Type 0 where
   pub told : ArrivalTold net h a r
   -- its lines are those of its steps, and then that of a datagram that is dropped
   pub parts : List (List Report)
   pub lines : r ≡ joined parts ++ dropped_line net a
   -- of its steps the headline holds
-  pub steps : Holds_from net h (steps_of_arrival net h.lines left a) parts
-  pub rest : Rest (history net h (steps_of_arrival net h.lines left a) parts)
+  pub steps : Holds_from net h (steps_at net hosted h.lines left a) parts
+  pub rest : Rest (history net h (steps_at net hosted h.lines left a) parts)
+
+-- where all brokers are hosted
+abbrev pub ArrivalHolds : Net → History → List Publish → Arrival → List Report → (History → Type 0) → Type 0
+ArrivalHolds net h left a r Rest = ArrivalHoldsAt net (numbers net.brokers) h left a r Rest
 
 -- At the end all is shown, and nothing else is told
 pub record ShowHolds (net : Net) (h : History) (r : List Report) : Type 0 where

@@ -1,7 +1,7 @@
 //! What holds of every schedule of the machine, on every topology that is a tree. Each function here does nothing: its
 //! contract is the theorem. The premises, and most of what is said, stand in `specs/Statements.antt`.
 
-ghost use Rattle.std.specs.Prelude.{List, ℕ, false, Some, None, ◌≡◌, ◌<◌};
+ghost use Rattle.std.specs.Prelude.{List, [], ℕ, false, Some, None, ◌≡◌, ◌<◌};
 ghost use Rattle.gr_tick.specs.Runs.{AreRuns};
 ghost use Rattle.gr_know.specs.declared.values.K.TheVariants.{Q};
 ghost use Rattle.gr_know.specs.Values.{Known, known_at, clash_K};
@@ -10,9 +10,9 @@ ghost use Rattle.gr_sched.specs.declared.step.Line.{Line};
 ghost use Rattle.gr_model.specs.Net.{Net};
 ghost use Rattle.gr_model.specs.Tree.{IsNet};
 ghost use Rattle.gr_model.specs.Broker.{Log};
-ghost use Rattle.gr_model.specs.World.{World, report_of};
+ghost use Rattle.gr_model.specs.World.{World, report_of, start};
 ghost use Rattle.gr_model.specs.Arrivals.{Arrival};
-ghost use Rattle.gr_model.specs.Headline.{Headline};
+ghost use Rattle.gr_model.specs.Headline.{Headline, begin};
 ghost use Rattle.gr_model.specs.Blank.{net0};
 ghost use Rattle.gr_model.specs.declared.report.Report.{Report};
 ghost use Rattle.gr_model_calls.specs.Fits.{StepIn, WorldFits, history_of};
@@ -30,6 +30,7 @@ ghost use Rattle.gr_model_theorems.specs.Lanes.{AllFollow, IsRunOverLanes, IsSer
 ghost use Rattle.gr_model_theorems.specs.Lanes.{HoldsOverLanes, HoldsServedLanes, CutEventsSilent};
 ghost use Rattle.gr_model_theorems.specs.OrderedServed.{told_in_order, opened_report, OrderedOverLanes};
 ghost use Rattle.gr_model_theorems.specs.OrderedServed.{OrderedServedLanes, OneOrderServedLanes};
+ghost use Rattle.gr_model_theorems.specs.Joint.{IsJointRun, HoldsJoint, AllDoStepsJoint, joint_reports, lefts_at_start};
 ghost use Rattle.gr_model_theorems.specs.Examples.{WorkedExamples};
 ghost use Rattle.gr_model_theorems.specs.ServedExample.{ServedExamples};
 ghost use Rattle.gr_model.specs.Orders.{orders_over, ordered_steps};
@@ -251,6 +252,20 @@ pub fn one_order_over_lanes()
     ensures served { (net : Net) (totals : List ℕ) (lanes : List (List Record)) (steps : List Line)
         (arrivals : List Arrival) → IsServedOverLanes net lanes steps arrivals → AreTotals net totals →
         OneOrderServedLanes net totals lanes steps arrivals }
+{}
+
+/// The headline of processes that run side by side, each with some of the brokers and none with the logs of an earlier
+/// run, over every honest joint journal, in which their arrivals take turns: each arrival leaves what its steps of a
+/// schedule leave and tells their lines, each call of them obeys its rule, and of these steps the whole headline holds.
+/// A datagram is honest where any of the processes sent its frame before.
+pub fn headline_joint()
+    ensures headline { (net : Net) (processes : List (List ℕ)) (steps : List Line) (turns : List (ℕ × Arrival)) →
+        IsJointRun net processes steps turns →
+        HoldsJoint net processes (begin net) (lefts_at_start net processes steps) turns
+        (joint_reports net processes steps turns) }
+    ensures calls { (net : Net) (processes : List (List ℕ)) (steps : List Line) (turns : List (ℕ × Arrival)) →
+        IsJointRun net processes steps turns →
+        AllDoStepsJoint net processes (start net) [] (lefts_at_start net processes steps) turns }
 {}
 
 /// Worked examples of a server: a whole run over three arrivals, and a start over an old log.

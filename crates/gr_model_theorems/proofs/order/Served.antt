@@ -31,7 +31,7 @@ use Rattle.gr_model_theorems.specs.Lanes.{AllFollow, whole_logs, found_logs}
 use Rattle.gr_model_theorems.specs.OrderedServed.{told_in_order, OrderedServed_from, TotallyOrderedServed, OrderedServedLanes, OneOrderServedLanes}
 use Rattle.gr_model_theorems.proofs.limits.Spelled.{IsSmall, next_in}
 use Rattle.gr_model_theorems.proofs.records.Recorded.{runs}
-use Rattle.gr_model_theorems.proofs.server.Serving.{LeftIn, left_in, publishes_are_in, Ready, turn, still_honest, arrival_holds}
+use Rattle.gr_model_theorems.proofs.server.Serving.{LeftIn, left_in, publishes_are_in, all_brokers, Ready, turn, still_honest, arrival_holds}
 use Rattle.gr_model_theorems.proofs.server.ServedOver.{opened_ready, begun_lines}
 use Rattle.gr_model_theorems.proofs.server.Lanes.{are_found, served_lanes}
 use Rattle.gr_model_theorems.proofs.order.Hearing.{joined}
@@ -75,7 +75,7 @@ module _ (net : Net) (n : IsNet net) (on : 1 ≤ net.quiet) (retry : 1 ≤ net.r
       let steps : List Line = steps_of_arrival net h.lines left a in
       let lines : List Report = (run_all net w steps).lines in
       let t : Transition = comes net all w left a in
-      let y = turn net n on retry P keeps spelled decodes w h left a r l f.0 x.0 in
+      let y = turn net n on retry P keeps spelled decodes all w h left a (all_brokers net) r l f.0 x.0 in
       let g : History = history net h steps (run_from net w steps) in
       let next : List Order = fed os t.lines in
       let heard : next ≡ fed os lines = ap (fed os) y.does.lines ∙ (fed_append os lines (dropped_line net a) ∙ fed_unheard (fed os lines) (dropped_line net a) (dropped_unheard net a)) in
@@ -83,7 +83,7 @@ module _ (net : Net) (n : IsNet net) (on : 1 ≤ net.quiet) (retry : 1 ≤ net.r
       let come : Come net totals g (told ++ ordered next) (without_ordered next) (rs ++ lines ∷ []) =
       subst (λ (ns : List Order). Come net totals g (told ++ ordered ns) (without_ordered ns) (rs ++ lines ∷ [])) (sym heard) (goes_on net totals h g told os rs lines more c) in (
         is_ordered net totals w h told os rs apart there r.whole.stands c,
-        arrival_holds net n on retry P keeps spelled decodes
+        arrival_holds net n on retry P keeps spelled decodes all
             (λ k. OrderedServed_from net totals k (told ++ ordered next) (left_after left a) arrivals (served_from net all t.world (left_after left a) arrivals) (ordered_steps (without_ordered next) (served_from net all t.world (left_after left a) arrivals)))
             w h left a r y
             (subst (λ (u : World). OrderedServed_from net totals g (told ++ ordered next) (left_after left a) arrivals (served_from net all u (left_after left a) arrivals) (ordered_steps (without_ordered next) (served_from net all u (left_after left a) arrivals))) (sym y.does.world)

@@ -28,7 +28,7 @@ use Rattle.gr_model_calls.specs.Edges.{GoesBetween, GoesOverEdge}
 use Rattle.gr_model.specs.Headline.{is_sent, sent_number}
 use Rattle.gr_model_theorems.specs.Replies.{frame_of_line}
 use Rattle.gr_model.specs.Arrivals.{Arrival, datagram, quiet, Publish, at_moment, fits_broker, clash_runs, first_of, least_clash, clash_line, fault_number, publisher_of, submitted_in, takes, receives, notes, reads, published_first, quieted, comes, comes_by, quieted_by, receives_by, takes_by, notes_by}
-use Rattle.gr_model_theorems.specs.Served.{tells_bytes, number_of_bytes, as_line, publish_step, delivery_step, is_frame, submitted_step, note_step, datagram_step, steps_of_arrival, dropped_as, unsubmitted_as, note_dropped_as, datagram_dropped, dropped_line}
+use Rattle.gr_model_theorems.specs.Served.{tells_bytes, number_of_bytes, as_line, publish_step, delivery_step, is_frame, submitted_step, note_step, datagram_step, steps_at, dropped_as, unsubmitted_as, note_dropped_as, datagram_dropped, dropped_line}
 use Rattle.gr_model.specs.Tree.{IsNet}
 use Rattle.gr_model_calls.specs.Fits.{WorldFits}
 use Rattle.gr_model_calls.proofs.runs.Clash.{no_frame_clashes}
@@ -206,71 +206,71 @@ dropped_by net b bytes c = elim c [ true ↦ note_dropped_as net b (note_decoded
 -- An arrival and its steps
 
 -- it leaves the world of its steps and tells their lines, but for the line of a datagram that is dropped
-pub record Does (net : Net) (w : World) (left : List Publish) (a : Arrival) (steps : List Line) : Type 0 where
-  pub world : (comes net (numbers net.brokers) w left a).world ≡ (run_all net w steps).world
-  pub lines : (comes net (numbers net.brokers) w left a).lines ≡ (run_all net w steps).lines ++ dropped_line net a
+pub record Does (net : Net) (hosted : List ℕ) (w : World) (left : List Publish) (a : Arrival) (steps : List Line) : Type 0 where
+  pub world : (comes net hosted w left a).world ≡ (run_all net w steps).world
+  pub lines : (comes net hosted w left a).lines ≡ (run_all net w steps).lines ++ dropped_line net a
   pub called : (f : Report → Bool) → IsForeign f → filter f (run_all net w steps).lines ≡ []
 
-does : (net : Net) (w : World) (left : List Publish) (a : Arrival) (steps : List Line) → dropped_line net a ≡ [] → comes net (numbers net.brokers) w left a ≡ run_all net w steps → ((f : Report → Bool) → IsForeign f → filter f (comes net (numbers net.brokers) w left a).lines ≡ []) → Does net w left a steps
-does net w left a steps none e called = record {
+does : (net : Net) (hosted : List ℕ) (w : World) (left : List Publish) (a : Arrival) (steps : List Line) → dropped_line net a ≡ [] → comes net hosted w left a ≡ run_all net w steps → ((f : Report → Bool) → IsForeign f → filter f (comes net hosted w left a).lines ≡ []) → Does net hosted w left a steps
+does net hosted w left a steps none e called = record {
   world = ap (λ (t : Transition). t.world) e;
   lines = ap (λ (t : Transition). t.lines) e ∙ (sym (append-nil (run_all net w steps).lines) ∙ ap (λ (z : List Report). (run_all net w steps).lines ++ z) (sym none));
   called = λ f k. ap (λ (t : Transition). filter f t.lines) (sym e) ∙ called f k;
 }
 
 -- a moment without a datagram does what its steps do
-pub quiet_does : (net : Net) (w : World) (left : List Publish) (moment : ℕ) (lines : List Report) → Does net w left (quiet moment) (steps_of_arrival net lines left (quiet moment))
+pub quiet_does : (net : Net) (hosted : List ℕ) (w : World) (left : List Publish) (moment : ℕ) (lines : List Report) → Does net hosted w left (quiet moment) (steps_at net hosted lines left (quiet moment))
 unfolding comes_by quieted_by
-quiet_does net w left moment lines =
+quiet_does net hosted w left moment lines =
     let u = at_moment w moment in
     let now : ℕ = min moment max_tick in
-    let wakes = map (λ b. as_line (step.Wake b)) (numbers net.brokers) in
-    does net w left (quiet moment) (steps_of_arrival net lines left (quiet moment)) refl (sym (
+    let wakes = map (λ b. as_line (step.Wake b)) hosted in
+    does net hosted w left (quiet moment) (steps_at net hosted lines left (quiet moment)) refl (sym (
     clock_first net w now (publish_step left ++ wakes) ∙ (run_append net u (publish_step left) wakes
     ∙ (ap (λ (s : Transition). followed_by s (λ v. run_all net v wakes)) (published_run net u left)
-    ∙ (let s : Transition = published_first net u left in ap (λ (r : Transition). record { world = r.world; lines = s.lines ++ r.lines }) (wakes_run net (numbers net.brokers) s.world)))))) (λ f k. quieted_none f k net (numbers net.brokers) u left)
+    ∙ (let s : Transition = published_first net u left in ap (λ (r : Transition). record { world = r.world; lines = s.lines ++ r.lines }) (wakes_run net hosted s.world)))))) (λ f k. quieted_none f k net hosted u left)
 
 -- one that is dropped with these lines changes nothing but the clock
-dropped_does : (net : Net) (w : World) (left : List Publish) (a : Arrival) (now : ℕ) (steps : List Line) (told : List Report) → steps ≡ as_line (step.Clock now) ∷ [] → dropped_line net a ≡ told → comes net (numbers net.brokers) w left a ≡ unchanged (moved w now) told → Does net w left a steps
-dropped_does net w left a now steps told is drop e =
+dropped_does : (net : Net) (hosted : List ℕ) (w : World) (left : List Publish) (a : Arrival) (now : ℕ) (steps : List Line) (told : List Report) → steps ≡ as_line (step.Clock now) ∷ [] → dropped_line net a ≡ told → comes net hosted w left a ≡ unchanged (moved w now) told → Does net hosted w left a steps
+dropped_does net hosted w left a now steps told is drop e =
     let r : run_all net w (as_line (step.Clock now) ∷ []) ≡ unchanged (moved w now) [] = clock_first net w now [] in
-    subst (λ (z : List Line). Does net w left a z) (sym is) (record {
+    subst (λ (z : List Line). Does net hosted w left a z) (sym is) (record {
       world = ap (λ (t : Transition). t.world) e ∙ sym (ap (λ (t : Transition). t.world) r);
       lines = ap (λ (t : Transition). t.lines) e ∙ sym (ap₂ (λ (x y : List Report). x ++ y) (ap (λ (t : Transition). t.lines) r) drop);
       called = λ f k. ap (λ (t : Transition). filter f t.lines) r;
     })
 
 -- a datagram with a frame that was sent does what the steps of its delivery do
-pub frame_does : (net : Net) (w : World) (left : List Publish) (b moment k : ℕ) (bytes : List ℕ) (f : Frame) (lines : List Report) → IsNet net → WorldFits net (at_moment w moment) → begins_note bytes ≡ false → frame_decoded bytes ≡ Ok f → frame_at w k ≡ Some f → f.head.to ≡ b → GoesOverEdge net f → number_of_bytes b bytes lines ≡ Some k →
-    Does net w left (datagram b bytes moment) (steps_of_arrival net lines left (datagram b bytes moment))
+pub frame_does : (net : Net) (hosted : List ℕ) (w : World) (left : List Publish) (b moment k : ℕ) (bytes : List ℕ) (f : Frame) (lines : List Report) → IsNet net → WorldFits net (at_moment w moment) → begins_note bytes ≡ false → frame_decoded bytes ≡ Ok f → frame_at w k ≡ Some f → f.head.to ≡ b → GoesOverEdge net f → number_of_bytes b bytes lines ≡ Some k →
+    Does net hosted w left (datagram b bytes moment) (steps_at net hosted lines left (datagram b bytes moment))
 unfolding comes_by
-frame_does net w left b moment k bytes f lines n fit begun d at to over number =
+frame_does net hosted w left b moment k bytes f lines n fit begun d at to over number =
     let u = at_moment w moment in
     let now : ℕ = min moment max_tick in
     let steps : List Line = as_line (step.Clock now) ∷ (as_line (step.Deliver k) ∷ []) in
-    let is : steps_of_arrival net lines left (datagram b bytes moment) ≡ steps =
+    let is : steps_at net hosted lines left (datagram b bytes moment) ≡ steps =
     ap (λ (z : List Line). as_line (step.Clock now) ∷ z) (ap (step_by net lines b bytes) begun ∙ ap₂ (λ (r : Result Frame FrameFault) (o : Option ℕ). if is_frame r then delivery_step o else []) d number) in
-    let came : comes net (numbers net.brokers) w left (datagram b bytes moment) ≡ deliver_frame net u f =
+    let came : comes net hosted w left (datagram b bytes moment) ≡ deliver_frame net u f =
     as_frame net u b bytes begun ∙ (ap (receives net u b) d ∙ received net u k b f n fit at to over) in
-    subst (λ (z : List Line). Does net w left (datagram b bytes moment) z) (sym is) (does net w left (datagram b bytes moment) steps (ap (dropped_by net b bytes) begun ∙ ap (dropped_as b) d)
+    subst (λ (z : List Line). Does net hosted w left (datagram b bytes moment) z) (sym is) (does net hosted w left (datagram b bytes moment) steps (ap (dropped_by net b bytes) begun ∙ ap (dropped_as b) d)
     (came ∙ sym (clock_first net w now (as_line (step.Deliver k) ∷ []) ∙ (ap (λ (s : Transition). followed_by s (λ v. unchanged v [])) (delivered_step net u k f at) ∙ one_step (deliver_frame net u f))))
     (λ g foreign. ap (λ (t : Transition). filter g t.lines) came ∙ deliver_none g foreign net u f))
 
 -- a datagram that is neither a note nor a frame does what its steps do: it changes nothing
-pub fault_does : (net : Net) (w : World) (left : List Publish) (b moment : ℕ) (bytes : List ℕ) (fault : FrameFault) (lines : List Report) → begins_note bytes ≡ false → frame_decoded bytes ≡ Err fault → Does net w left (datagram b bytes moment) (steps_of_arrival net lines left (datagram b bytes moment))
+pub fault_does : (net : Net) (hosted : List ℕ) (w : World) (left : List Publish) (b moment : ℕ) (bytes : List ℕ) (fault : FrameFault) (lines : List Report) → begins_note bytes ≡ false → frame_decoded bytes ≡ Err fault → Does net hosted w left (datagram b bytes moment) (steps_at net hosted lines left (datagram b bytes moment))
 unfolding comes_by receives_by
-fault_does net w left b moment bytes fault lines begun d =
+fault_does net hosted w left b moment bytes fault lines begun d =
     let now : ℕ = min moment max_tick in
     let clock : List Line → List Line = λ z. as_line (step.Clock now) ∷ z in
-    dropped_does net w left (datagram b bytes moment) now (steps_of_arrival net lines left (datagram b bytes moment)) (dropped_as b (Err fault))
+    dropped_does net hosted w left (datagram b bytes moment) now (steps_at net hosted lines left (datagram b bytes moment)) (dropped_as b (Err fault))
     (ap clock (ap (step_by net lines b bytes) begun ∙ ap (λ (r : Result Frame FrameFault). if is_frame r then delivery_step (number_of_bytes b bytes lines) else []) d))
     (ap (dropped_by net b bytes) begun ∙ ap (dropped_as b) d)
     (as_frame net (at_moment w moment) b bytes begun ∙ ap (receives net (at_moment w moment) b) d)
 
 -- a note does what its steps do: it publishes what it submits, or changes nothing
-pub note_does : (net : Net) (w : World) (left : List Publish) (b moment : ℕ) (bytes : List ℕ) (lines : List Report) → begins_note bytes ≡ true → Does net w left (datagram b bytes moment) (steps_of_arrival net lines left (datagram b bytes moment))
+pub note_does : (net : Net) (hosted : List ℕ) (w : World) (left : List Publish) (b moment : ℕ) (bytes : List ℕ) (lines : List Report) → begins_note bytes ≡ true → Does net hosted w left (datagram b bytes moment) (steps_at net hosted lines left (datagram b bytes moment))
 unfolding comes_by notes_by
-note_does net w left b moment bytes lines begun = go (note_decoded bytes) refl
+note_does net hosted w left b moment bytes lines begun = go (note_decoded bytes) refl
   where
     u : World
     u = at_moment w moment
@@ -284,33 +284,33 @@ note_does net w left b moment bytes lines begun = go (note_decoded bytes) refl
     clock : List Line → List Line
     clock z = as_line (step.Clock now) ∷ z
 
-    steps : (r : Result Note NoteFault) → note_decoded bytes ≡ r → steps_of_arrival net lines left a ≡ clock (note_step net b r)
+    steps : (r : Result Note NoteFault) → note_decoded bytes ≡ r → steps_at net hosted lines left a ≡ clock (note_step net b r)
     steps r d = ap clock (ap (step_by net lines b bytes) begun ∙ ap (note_step net b) d)
 
     dropped : (r : Result Note NoteFault) → note_decoded bytes ≡ r → dropped_line net a ≡ note_dropped_as net b r
     dropped r d = ap (dropped_by net b bytes) begun ∙ ap (note_dropped_as net b) d
 
-    came : (r : Result Note NoteFault) → note_decoded bytes ≡ r → comes net (numbers net.brokers) w left a ≡ notes net u b r
+    came : (r : Result Note NoteFault) → note_decoded bytes ≡ r → comes net hosted w left a ≡ notes net u b r
     came r d = as_note net u b bytes begun ∙ ap (notes net u b) d
 
-    submit : (n : Note) (o : Option Publish) → submitted_in net b n ≡ o → note_decoded bytes ≡ Ok n → Does net w left a (steps_of_arrival net lines left a)
+    submit : (n : Note) (o : Option Publish) → submitted_in net b n ≡ o → note_decoded bytes ≡ Ok n → Does net hosted w left a (steps_at net hosted lines left a)
     submit n None e d =
-        dropped_does net w left a now (steps_of_arrival net lines left a) (line.DroppedStrayNote b (publisher_of n) ∷ [])
+        dropped_does net hosted w left a now (steps_at net hosted lines left a) (line.DroppedStrayNote b (publisher_of n) ∷ [])
         (steps (Ok n) d ∙ ap (λ (o : Option Publish). clock (submitted_step o)) e)
         (dropped (Ok n) d ∙ ap (unsubmitted_as b (publisher_of n)) e)
         (came (Ok n) d ∙ ap (λ (o : Option Publish). elim o [ Some x ↦ publish_now net u x.0 x.1.0 x.1.1 | None ↦ unchanged u (line.DroppedStrayNote b (publisher_of n) ∷ []) ]) e)
     submit n (Some x) e d =
         let all : List Line = clock (publish_step (x ∷ [])) in
-        let is : steps_of_arrival net lines left a ≡ all = steps (Ok n) d ∙ ap (λ (o : Option Publish). clock (submitted_step o)) e in
-        let same : comes net (numbers net.brokers) w left a ≡ published_first net u (x ∷ []) =
+        let is : steps_at net hosted lines left a ≡ all = steps (Ok n) d ∙ ap (λ (o : Option Publish). clock (submitted_step o)) e in
+        let same : comes net hosted w left a ≡ published_first net u (x ∷ []) =
         came (Ok n) d ∙ ap (λ (o : Option Publish). elim o [ Some x ↦ publish_now net u x.0 x.1.0 x.1.1 | None ↦ unchanged u (line.DroppedStrayNote b (publisher_of n) ∷ []) ]) e in
-        subst (λ (z : List Line). Does net w left a z) (sym is) (does net w left a all
+        subst (λ (z : List Line). Does net hosted w left a z) (sym is) (does net hosted w left a all
         (dropped (Ok n) d ∙ ap (unsubmitted_as b (publisher_of n)) e)
         (same ∙ sym (clock_first net w now (publish_step (x ∷ [])) ∙ published_run net u (x ∷ [])))
         (λ f k. ap (λ (t : Transition). filter f t.lines) same ∙ published_none f k net u (x ∷ [])))
 
-    go : (r : Result Note NoteFault) → note_decoded bytes ≡ r → Does net w left a (steps_of_arrival net lines left a)
+    go : (r : Result Note NoteFault) → note_decoded bytes ≡ r → Does net hosted w left a (steps_at net hosted lines left a)
     go (Ok n) d = submit n (submitted_in net b n) refl d
     go (Err fault) d =
-        dropped_does net w left a now (steps_of_arrival net lines left a) (line.DroppedBadNote b (note.fault_number fault.kind) fault.at ∷ [])
+        dropped_does net hosted w left a now (steps_at net hosted lines left a) (line.DroppedBadNote b (note.fault_number fault.kind) fault.at ∷ [])
         (steps (Err fault) d) (dropped (Err fault) d) (came (Err fault) d)

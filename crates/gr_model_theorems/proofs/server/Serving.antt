@@ -29,7 +29,7 @@ use Rattle.gr_model.specs.Broker.{max_tick}
 use Rattle.gr_model.specs.World.{World, Transition, view_of, log_of, unchanged, sent_lines, next, show, run_from, run_all, kept_events, next_by, run_from_by}
 use Rattle.gr_model_calls.specs.Edges.{GoesOverEdge}
 use Rattle.gr_model.specs.Arrivals.{Arrival, datagram, quiet, Publish, fault_number, publisher_of, takes_notes, submitted_in, is_hosted, is_scheduled, publishes_in, publishes_of, left_after, comes, show_hosted, served_from, served_from_by}
-use Rattle.gr_model_theorems.specs.Served.{IsOfBytes, number_of_bytes, IsHonestAt, IsHonest, DoesSteps, AllDoSteps, as_line, publish_step, delivery_step, is_frame, submitted_step, note_step, datagram_step, steps_of_arrival, dropped_as, unsubmitted_as, note_dropped_as, dropped_line, is_dropped, ArrivalTold, ArrivalHolds, ShowHolds, HoldsServed}
+use Rattle.gr_model_theorems.specs.Served.{IsOfBytes, number_of_bytes, IsHonestAt, IsHonest, DoesSteps, AllDoSteps, as_line, publish_step, delivery_step, is_frame, submitted_step, note_step, datagram_step, steps_at, steps_of_arrival, dropped_as, unsubmitted_as, note_dropped_as, dropped_line, is_dropped, ArrivalTold, ArrivalHoldsAt, ShowHolds, HoldsServed}
 use Rattle.gr_model_theorems.specs.Spelled.{IsInLimits, NumbersIn, IsSpelled}
 use Rattle.gr_model.specs.Headline.{History, history, is_record_line, is_doubt_line, is_sent, sent_number}
 use Rattle.gr_model_theorems.specs.Replies.{is_reply}
@@ -175,9 +175,21 @@ delivery_in : (net : Net) (o : Option ℕ) → AreIn net (delivery_step o)
 delivery_in net None = none_in net
 delivery_in net (Some k) = in_front net (as_line (step.Deliver k)) [] tt tt (none_in net)
 
-wakes_in : (net : Net) (a k : ℕ) → a + k ≤ net.brokers → AreIn net (map (λ b. as_line (step.Wake b)) (numbers_from a k))
-wakes_in net a zero h = none_in net
-wakes_in net a (suc k) h = in_front net (as_line (step.Wake a)) (map (λ b. as_line (step.Wake b)) (numbers_from (suc a) k)) (omega arith) tt (wakes_in net (suc a) k (omega arith))
+-- each of these is a broker of the topology
+abbrev pub AreBrokers : Net → List ℕ → Type 0
+AreBrokers net hosted = AllByRecursion (λ b. b < net.brokers) hosted
+
+brokers_from : (net : Net) (a k : ℕ) → a + k ≤ net.brokers → AreBrokers net (numbers_from a k)
+brokers_from net a zero h = tt
+brokers_from net a (suc k) h = (omega (arith, h), brokers_from net (suc a) k (omega (arith, h)))
+
+-- as all of them are
+pub all_brokers : (net : Net) → AreBrokers net (numbers net.brokers)
+all_brokers net = brokers_from net 0 net.brokers (omega arith)
+
+wakes_in : (net : Net) (bs : List ℕ) → AreBrokers net bs → AreIn net (map (λ b. as_line (step.Wake b)) bs)
+wakes_in net [] k = none_in net
+wakes_in net (b ∷ bs) k = in_front net (as_line (step.Wake b)) (map (λ c. as_line (step.Wake c)) bs) k.0 tt (wakes_in net bs k.1)
 
 publish_in : (net : Net) (left : List Publish) (ls : List Line) → LeftIn net left → AreIn net ls → AreIn net (publish_step left ++ ls)
 publish_in net [] ls l a = a
@@ -209,8 +221,8 @@ note_in net b bytes fits = go (note_decoded bytes) refl
     go (Err fault) d = none_in net
     go (Ok n) d = submit n (submitted_in net b n) d refl
 
-arrival_in : (net : Net) (lines : List Report) (left : List Publish) (a : Arrival) → LeftIn net left → IsOfBytes a → AreIn net (steps_of_arrival net lines left a)
-arrival_in net lines left (datagram b bytes moment) l fits = in_front net (as_line (step.Clock (min moment max_tick))) (datagram_step net lines b bytes) tt (omega arith) (go (begins_note bytes))
+arrival_in : (net : Net) (hosted : List ℕ) (lines : List Report) (left : List Publish) (a : Arrival) → AreBrokers net hosted → LeftIn net left → IsOfBytes a → AreIn net (steps_at net hosted lines left a)
+arrival_in net hosted lines left (datagram b bytes moment) k l fits = in_front net (as_line (step.Clock (min moment max_tick))) (datagram_step net lines b bytes) tt (omega arith) (go (begins_note bytes))
   where
     delivered : (c : Bool) → AreIn net (if c then delivery_step (number_of_bytes b bytes lines) else [])
     delivered true = delivery_in net (number_of_bytes b bytes lines)
@@ -222,12 +234,12 @@ arrival_in net lines left (datagram b bytes moment) l fits = in_front net (as_li
     ])
     go true = note_in net b bytes fits
     go false = delivered (is_frame (frame_decoded bytes))
-arrival_in net lines left (quiet moment) l fits = in_front net (as_line (step.Clock (min moment max_tick))) (publish_step left ++ map (λ b. as_line (step.Wake b)) (numbers net.brokers)) tt (omega arith) (publish_in net left (map (λ b. as_line (step.Wake b)) (numbers net.brokers)) l (wakes_in net 0 net.brokers (omega arith)))
+arrival_in net hosted lines left (quiet moment) k l fits = in_front net (as_line (step.Clock (min moment max_tick))) (publish_step left ++ map (λ b. as_line (step.Wake b)) hosted) tt (omega arith) (publish_in net left (map (λ b. as_line (step.Wake b)) hosted) l (wakes_in net hosted k))
 
 -- An honest journal
 
 -- it is one by the lines of frames alone
-honest_at : (xs ys : List Report) (a : Arrival) → filter is_sent xs ≡ filter is_sent ys → IsHonestAt xs a → IsHonestAt ys a
+pub honest_at : (xs ys : List Report) (a : Arrival) → filter is_sent xs ≡ filter is_sent ys → IsHonestAt xs a → IsHonestAt ys a
 honest_at xs ys (datagram b bytes moment) e h = ⊎_elim (λ x. inl x) (λ x. inr (x.0, number_sent b bytes ys ∙ (ap (number_of_bytes b bytes) (sym e) ∙ (sym (number_sent b bytes xs) ∙ x.1)))) h
 honest_at xs ys (quiet moment) e h = tt
 
@@ -306,34 +318,34 @@ module _ (net : Net) (n : IsNet net) (on : 1 ≤ net.quiet) (retry : 1 ≤ net.r
   limits_run w [] f i x = x
   limits_run w (l ∷ ls) f i x = limits_run (next net w l).world ls (next_kept net w l n f i.steps.0).fits (record { steps = i.steps.1; numbers = i.numbers.1 }) (keeps w l f i.steps.0 i.numbers.0 x)
 
-  arrival_does : (w : World) (h : History) (left : List Publish) (a : Arrival) → Ready net P w h → IsHonestAt h.lines a → Does net w left a (steps_of_arrival net h.lines left a)
-  arrival_does w h left (quiet moment) r x = quiet_does net w left moment h.lines
-  arrival_does w h left (datagram b bytes moment) r x = elim (cases_Bool (begins_note bytes)) [
-    | inl noted ↦ note_does net w left b moment bytes h.lines noted
+  arrival_does : (hosted : List ℕ) (w : World) (h : History) (left : List Publish) (a : Arrival) → Ready net P w h → IsHonestAt h.lines a → Does net hosted w left a (steps_at net hosted h.lines left a)
+  arrival_does hosted w h left (quiet moment) r x = quiet_does net hosted w left moment h.lines
+  arrival_does hosted w h left (datagram b bytes moment) r x = elim (cases_Bool (begins_note bytes)) [
+    | inl noted ↦ note_does net hosted w left b moment bytes h.lines noted
     | inr plain ↦ ⊎_elim
-        (λ z. fault_does net w left b moment bytes z.0 h.lines plain z.1)
+        (λ z. fault_does net hosted w left b moment bytes z.0 h.lines plain z.1)
         (λ z.
         let k : ℕ = z.0 in
         let s = number_is w k b bytes h.lines r.whole.stands.sent z.1 in
         let whole_frame : IsSpelled s.frame = frame_at_ready IsSpelled w k s.frame (each_of IsSpelled w.frames (spelled w r.limits)) s.there in
-        frame_does net w left b moment k bytes s.frame h.lines n (clocked_fits net w (min moment max_tick) (max (min moment max_tick) w.most) r.whole.stands.fits) plain
+        frame_does net hosted w left b moment k bytes s.frame h.lines n (clocked_fits net w (min moment max_tick) (max (min moment max_tick) w.most) r.whole.stands.fits) plain
         (subst (λ z. frame_decoded z ≡ Ok s.frame) s.same (decodes s.frame whole_frame)) s.there s.to (frame_at_ready (GoesOverEdge net) w k s.frame r.over s.there) z.1)
         x
   ]
 
   -- an arrival, what stands after it, and the frames told on the way
-  pub record Turn (w : World) (h : History) (left : List Publish) (a : Arrival) : Type 0 where
-    pub are_in : AreIn net (steps_of_arrival net h.lines left a)
-    pub does : Does net w left a (steps_of_arrival net h.lines left a)
-    pub ready : Ready net P (run_all net w (steps_of_arrival net h.lines left a)).world (history net h (steps_of_arrival net h.lines left a) (run_from net w (steps_of_arrival net h.lines left a)))
-    pub same : (let t : Transition = comes net (numbers net.brokers) w left a in filter is_sent (h.lines ++ t.lines)) ≡ filter is_sent (history net h (steps_of_arrival net h.lines left a) (run_from net w (steps_of_arrival net h.lines left a))).lines
+  pub record Turn (hosted : List ℕ) (w : World) (h : History) (left : List Publish) (a : Arrival) : Type 0 where
+    pub are_in : AreIn net (steps_at net hosted h.lines left a)
+    pub does : Does net hosted w left a (steps_at net hosted h.lines left a)
+    pub ready : Ready net P (run_all net w (steps_at net hosted h.lines left a)).world (history net h (steps_at net hosted h.lines left a) (run_from net w (steps_at net hosted h.lines left a)))
+    pub same : (let t : Transition = comes net hosted w left a in filter is_sent (h.lines ++ t.lines)) ≡ filter is_sent (history net h (steps_at net hosted h.lines left a) (run_from net w (steps_at net hosted h.lines left a))).lines
 
-  pub turn : (w : World) (h : History) (left : List Publish) (a : Arrival) → Ready net P w h → LeftIn net left → IsOfBytes a → IsHonestAt h.lines a → Turn w h left a
-  turn w h left a r l f x =
-      let steps = steps_of_arrival net h.lines left a in
-      let i = arrival_in net h.lines left a l f in
-      let t = comes net (numbers net.brokers) w left a in
-      let d = arrival_does w h left a r x in
+  pub turn : (hosted : List ℕ) (w : World) (h : History) (left : List Publish) (a : Arrival) → AreBrokers net hosted → Ready net P w h → LeftIn net left → IsOfBytes a → IsHonestAt h.lines a → Turn hosted w h left a
+  turn hosted w h left a k r l f x =
+      let steps = steps_at net hosted h.lines left a in
+      let i = arrival_in net hosted h.lines left a k l f in
+      let t = comes net hosted w left a in
+      let d = arrival_does hosted w h left a r x in
       let g : History = history net h steps (run_from net w steps) in
       let y = stands_where_sweeps_reach net w h steps n (sweeps_reach net n on retry) on i.steps r.whole r.unknown in
       let lines : g.lines ≡ h.lines ++ (run_all net w steps).lines = (runs net w h steps n on r.whole.stands.fits r.whole.stands.records i.steps).lines in
@@ -354,7 +366,7 @@ module _ (net : Net) (n : IsNet net) (on : 1 ≤ net.quiet) (retry : 1 ≤ net.r
       }
 
   -- what is left of the journal is honest after the steps
-  pub still_honest : (w : World) (h : History) (left : List Publish) (a : Arrival) (arrivals : List Arrival) → Turn w h left a → IsHonest h.lines (a ∷ arrivals) (served_from net (numbers net.brokers) w left (a ∷ arrivals)) →
+  pub still_honest : (w : World) (h : History) (left : List Publish) (a : Arrival) (arrivals : List Arrival) → Turn (numbers net.brokers) w h left a → IsHonest h.lines (a ∷ arrivals) (served_from net (numbers net.brokers) w left (a ∷ arrivals)) →
       IsHonest (history net h (steps_of_arrival net h.lines left a) (run_from net w (steps_of_arrival net h.lines left a))).lines arrivals (served_from net (numbers net.brokers) (run_all net w (steps_of_arrival net h.lines left a)).world (left_after left a) arrivals)
   unfolding served_from_by
   still_honest w h left a arrivals y x =
@@ -363,10 +375,10 @@ module _ (net : Net) (n : IsNet net) (on : 1 ≤ net.quiet) (retry : 1 ≤ net.r
       let g : History = history net h steps (run_from net w steps) in
       subst (λ z. IsHonest g.lines arrivals (served_from net (numbers net.brokers) z (left_after left a) arrivals)) y.does.world (honest_same (h.lines ++ t.lines) g.lines arrivals (served_from net (numbers net.brokers) t.world (left_after left a) arrivals) y.same x.1)
 
-  arrival_told : (w : World) (h : History) (left : List Publish) (a : Arrival) → Ready net P w h → Turn w h left a → (let t : Transition = comes net (numbers net.brokers) w left a in ArrivalTold net h a t.lines)
-  arrival_told w h left a r y =
-      let steps = steps_of_arrival net h.lines left a in
-      let t = comes net (numbers net.brokers) w left a in
+  arrival_told : (hosted : List ℕ) (w : World) (h : History) (left : List Publish) (a : Arrival) → Ready net P w h → Turn hosted w h left a → (let t : Transition = comes net hosted w left a in ArrivalTold net h a t.lines)
+  arrival_told hosted w h left a r y =
+      let steps = steps_at net hosted h.lines left a in
+      let t = comes net hosted w left a in
       let lines : List Report = (run_all net w steps).lines in
       let s = run_sends net w steps n r.whole.stands.fits y.are_in.steps in
       let parted : (f : Report → Bool) → filter f t.lines ≡ filter f lines ++ filter f (dropped_line net a) = λ f. ap (filter f) y.does.lines ∙ filter-append f lines (dropped_line net a) in
@@ -378,12 +390,12 @@ module _ (net : Net) (n : IsNet net) (on : 1 ≤ net.quiet) (retry : 1 ≤ net.r
       }
 
   -- the headline holds of one arrival, and after it what holds of the history then
-  pub arrival_holds : (Rest : History → Type 0) (w : World) (h : History) (left : List Publish) (a : Arrival) → Ready net P w h → Turn w h left a → Rest (history net h (steps_of_arrival net h.lines left a) (run_from net w (steps_of_arrival net h.lines left a)))
-      → (let t : Transition = comes net (numbers net.brokers) w left a in ArrivalHolds net h left a t.lines Rest)
-  arrival_holds Rest w h left a r y rest =
-      let steps = steps_of_arrival net h.lines left a in
+  pub arrival_holds : (hosted : List ℕ) (Rest : History → Type 0) (w : World) (h : History) (left : List Publish) (a : Arrival) → Ready net P w h → Turn hosted w h left a → Rest (history net h (steps_at net hosted h.lines left a) (run_from net w (steps_at net hosted h.lines left a)))
+      → (let t : Transition = comes net hosted w left a in ArrivalHoldsAt net hosted h left a t.lines Rest)
+  arrival_holds hosted Rest w h left a r y rest =
+      let steps = steps_at net hosted h.lines left a in
       record {
-        told = arrival_told w h left a r y;
+        told = arrival_told hosted w h left a r y;
         parts = run_from net w steps;
         lines = y.does.lines ∙ ap (λ (z : List Report). z ++ dropped_line net a) (sym (report_lines net w steps));
         steps = holds_where_sweeps_reach net w h steps n (sweeps_reach net n on retry) on y.are_in.steps r.whole r.unknown;
@@ -399,16 +411,16 @@ module _ (net : Net) (n : IsNet net) (on : 1 ≤ net.quiet) (retry : 1 ≤ net.r
   holds (a ∷ arrivals) w h left r l f x =
       let steps = steps_of_arrival net h.lines left a in
       let parts = run_from net w steps in
-      let y = turn w h left a r l f.0 x.0 in
+      let y = turn (numbers net.brokers) w h left a (all_brokers net) r l f.0 x.0 in
       let t = comes net (numbers net.brokers) w left a in
       let g : History = history net h steps parts in
-      arrival_holds (λ k. HoldsServed net k (left_after left a) arrivals (served_from net (numbers net.brokers) t.world (left_after left a) arrivals)) w h left a r y
+      arrival_holds (numbers net.brokers) (λ k. HoldsServed net k (left_after left a) arrivals (served_from net (numbers net.brokers) t.world (left_after left a) arrivals)) w h left a r y
       (subst (λ z. HoldsServed net g (left_after left a) arrivals (served_from net (numbers net.brokers) z (left_after left a) arrivals)) (sym y.does.world) (holds arrivals (run_all net w steps).world g (left_after left a) y.ready (left_in net left a l) f.1 (still_honest w h left a arrivals y x)))
 
   -- the steps are the same by the lines of frames alone
-  steps_same : (xs ys : List Report) (left : List Publish) (a : Arrival) → filter is_sent xs ≡ filter is_sent ys → steps_of_arrival net xs left a ≡ steps_of_arrival net ys left a
-  steps_same xs ys left (quiet moment) e = refl
-  steps_same xs ys left (datagram b bytes moment) e =
+  pub steps_same : (hosted : List ℕ) (xs ys : List Report) (left : List Publish) (a : Arrival) → filter is_sent xs ≡ filter is_sent ys → steps_at net hosted xs left a ≡ steps_at net hosted ys left a
+  steps_same hosted xs ys left (quiet moment) e = refl
+  steps_same hosted xs ys left (datagram b bytes moment) e =
       let same : number_of_bytes b bytes xs ≡ number_of_bytes b bytes ys = number_sent b bytes xs ∙ (ap (number_of_bytes b bytes) e ∙ sym (number_sent b bytes ys)) in
       ap (λ (o : Option ℕ). as_line (step.Clock (min moment max_tick)) ∷ (elim (begins_note bytes) [
         | true ↦ note_step net b (note_decoded bytes)
@@ -422,10 +434,10 @@ module _ (net : Net) (n : IsNet net) (on : 1 ≤ net.quiet) (retry : 1 ≤ net.r
   all_do (a ∷ arrivals) w h left lines r l f e x =
       let steps = steps_of_arrival net h.lines left a in
       let t = comes net (numbers net.brokers) w left a in
-      let y = turn w h left a r l f.0 x.0 in
+      let y = turn (numbers net.brokers) w h left a (all_brokers net) r l f.0 x.0 in
       let g : History = history net h steps (run_from net w steps) in
       let same : filter is_sent g.lines ≡ filter is_sent (lines ++ t.lines) = sym y.same ∙ (filter-append is_sent h.lines t.lines ∙ (ap (λ (z : List Report). z ++ filter is_sent t.lines) e ∙ sym (filter-append is_sent lines t.lines))) in (
         sym e ∙ r.whole.stands.sent,
-        subst (λ (z : List Line). DoesSteps net w left a z) (steps_same h.lines lines left a e) (record { world = y.does.world; lines = y.does.lines; obey = steps_obey net w steps n on r.whole.stands.fits y.are_in.steps; by_rules = run_by_rules net steps w n on r.whole.stands.fits y.are_in.steps }),
+        subst (λ (z : List Line). DoesSteps net w left a z) (steps_same (numbers net.brokers) h.lines lines left a e) (record { world = y.does.world; lines = y.does.lines; obey = steps_obey net w steps n on r.whole.stands.fits y.are_in.steps; by_rules = run_by_rules net steps w n on r.whole.stands.fits y.are_in.steps }),
         subst (λ z. AllDoSteps net z (lines ++ t.lines) (left_after left a) arrivals) (sym y.does.world) (all_do arrivals (run_all net w steps).world g (left_after left a) (lines ++ t.lines) y.ready (left_in net left a l) f.1 same (still_honest w h left a arrivals y x)),
       )

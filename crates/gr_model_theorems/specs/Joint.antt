@@ -1,0 +1,82 @@
+-- The headline of several processes that run side by side, each with some of the brokers: their arrivals take turns
+use Rattle.std.specs.Prelude.{◌≡◌, ℕ, ◌≤◌, ◌<◌, ◌^◌, List, [], ◌∷◌, ◌++◌, map, filter, get_or, set}
+use Rattle.std.specs.List.{AllByRecursion}
+use Rattle.gr_sched.specs.declared.step.Line.{Line}
+use Rattle.gr_model.specs.declared.report.Report.{Report}
+use Rattle.gr_model.specs.Net.{Net}
+use Rattle.gr_model.specs.World.{World, Transition, start, sent_lines}
+use Rattle.gr_model.specs.Headline.{History, Delivered, InOrder, is_sent}
+use Rattle.gr_model.specs.Arrivals.{Arrival, Publish, publishes_of, left_after, comes}
+use Rattle.gr_model_theorems.specs.Spelled.{NumbersIn}
+use Rattle.gr_model_theorems.specs.Statements.{IsAskedRun}
+use Rattle.gr_model_theorems.specs.Served.{IsOfBytes, IsHonestAt, steps_at, DoesStepsAt, ArrivalHoldsAt}
+
+-- Processes are lists of their brokers, and what comes is an arrival with the number of its process
+
+-- the brokers of a process; the publishes that are left to it
+abbrev pub brokers_of : List (List ℕ) → ℕ → List ℕ
+brokers_of processes k = get_or processes k []
+
+abbrev pub left_of : List (List Publish) → ℕ → List Publish
+left_of lefts k = get_or lefts k []
+
+-- what is left to each once an arrival has come to one
+abbrev pub lefts_after : List (List Publish) → ℕ × Arrival → List (List Publish)
+lefts_after lefts x = set lefts x.0 (left_after (left_of lefts x.0) x.1)
+
+-- an arrival at the brokers of its process
+abbrev pub joint_comes : Net → List (List ℕ) → World → List (List Publish) → ℕ × Arrival → Transition
+joint_comes net processes w lefts x = comes net (brokers_of processes x.0) w (left_of lefts x.0) x.1
+
+-- the lines of each arrival
+unfoldable pub joint_from : Net → List (List ℕ) → World → List (List Publish) → List (ℕ × Arrival) → List (List Report)
+joint_from net processes w lefts [] = []
+joint_from net processes w lefts (x ∷ turns) = let t = joint_comes net processes w lefts x in
+    t.lines ∷ joint_from net processes t.world (lefts_after lefts x) turns
+
+-- what each process is to publish
+abbrev pub lefts_at_start : Net → List (List ℕ) → List Line → List (List Publish)
+lefts_at_start net processes steps = map (λ hosted. publishes_of net hosted steps) processes
+
+-- the lines of a run that begins with nothing
+abbrev pub joint_reports : Net → List (List ℕ) → List Line → List (ℕ × Arrival) → List (List Report)
+joint_reports net processes steps turns =
+    joint_from net processes (start net) (lefts_at_start net processes steps) turns
+
+-- each arrival is honest after the lines told so far, by whichever process
+abbrev pub IsHonestJoint : List Report → List (ℕ × Arrival) → List (List Report) → Type 0
+IsHonestJoint lines [] rs = Unit {0}
+IsHonestJoint lines (x ∷ turns) [] = ⊥
+IsHonestJoint lines (x ∷ turns) (r ∷ rs) = IsHonestAt lines x.1 × IsHonestJoint (lines ++ r) turns rs
+
+-- a run of processes within the limits of frames, whose joint journal is honest
+pub record IsJointRun (net : Net) (processes : List (List ℕ)) (steps : List Line) (turns : List (ℕ × Arrival))
+    : Type 0 where
+  pub asked : IsAskedRun net steps
+  pub brokers : net.brokers ≤ 2 ^ 16
+  pub publishers : net.publishers ≤ 2 ^ 16
+  pub numbers_in : NumbersIn steps
+  pub hosted : AllByRecursion (AllByRecursion (λ b. b < net.brokers)) processes
+  pub bytes : AllByRecursion (λ (x : ℕ × Arrival). IsOfBytes x.1) turns
+  pub honest : IsHonestJoint [] turns (joint_reports net processes steps turns)
+
+-- of each arrival the headline holds, as of its steps of a schedule
+abbrev pub HoldsJoint : Net → List (List ℕ) → History → List (List Publish) → List (ℕ × Arrival) → List (List Report)
+    → Type 0
+HoldsJoint net processes h lefts [] [] = Delivered net h × InOrder net h
+HoldsJoint net processes h lefts [] (r ∷ rs) = ⊥
+HoldsJoint net processes h lefts (x ∷ turns) [] = ⊥
+HoldsJoint net processes h lefts (x ∷ turns) (r ∷ rs) =
+    ArrivalHoldsAt net (brokers_of processes x.0) h (left_of lefts x.0) x.1 r
+    (λ g. HoldsJoint net processes g (lefts_after lefts x) turns rs)
+
+-- and each leaves what its steps leave, by the rules; the lines of frames tell all frames, numbered 1, 2, 3 and so on
+abbrev pub AllDoStepsJoint : Net → List (List ℕ) → World → List Report → List (List Publish) → List (ℕ × Arrival)
+    → Type 0
+AllDoStepsJoint net processes w lines lefts [] = filter is_sent lines ≡ sent_lines 1 w.frames
+AllDoStepsJoint net processes w lines lefts (x ∷ turns) =
+    (filter is_sent lines ≡ sent_lines 1 w.frames)
+    × DoesStepsAt net (brokers_of processes x.0) w (left_of lefts x.0) x.1
+    (steps_at net (brokers_of processes x.0) lines (left_of lefts x.0) x.1)
+    × (let t : Transition = joint_comes net processes w lefts x in
+    AllDoStepsJoint net processes t.world (lines ++ t.lines) (lefts_after lefts x) turns)
