@@ -1,7 +1,7 @@
 -- An honest journal makes an honest run: each offer that a plan puts into the journal is of a frame that the lines so far tell, or
 -- of a note, so bytes that were offered to a broker, and are no note, have a number among these lines
-use Rattle.std.proofs.Common.{◌≡◌, ◌⊎◌, inl, inr, ℕ, suc, Bool, true, false, ◌&&◌, ◌||◌, List, [], ◌∷◌, ◌++◌, map, length, drop, refl, sym, ap, ap₂, ◌∙◌, subst, Option, Some, None, append-nil, append_assoc}
-use Rattle.std.specs.Prelude.{nat_eq, nat_lt, bytes_eq, if◌then◌else◌, Result, Ok, Err}
+use Rattle.std.proofs.Common.{◌≡◌, ◌⊎◌, inl, inr, ℕ, suc, ◌≤◌, Bool, true, false, ◌&&◌, ◌||◌, List, [], ◌∷◌, ◌++◌, map, length, drop, refl, sym, ap, ap₂, ◌∙◌, subst, Option, Some, None, append-nil, append_assoc}
+use Rattle.std.specs.Prelude.{◌^◌, nat_eq, nat_lt, bytes_eq, if◌then◌else◌, Result, Ok, Err}
 use Rattle.std.specs.List.{list_any, AllByRecursion}
 use Rattle.std.proofs.lemmas.Bool.{cases_Bool, or_cases, or_left, or_right, true≢false}
 use Rattle.std.proofs.lemmas.List.Folds.{list_any-append}
@@ -26,7 +26,7 @@ use Rattle.gr_sched.specs.declared.step.Line.{Line}
 use Rattle.gr_topo.specs.Topology.{TopologyView, host_of}
 use Rattle.gr_model.specs.declared.report.Report.{Report}
 use Rattle.gr_model.specs.declared.report.Report.TheVariants as line
-use Rattle.gr_model.specs.Net.{Net}
+use Rattle.gr_model.specs.Net.{Net, numbers}
 use Rattle.gr_model.specs.NetOf.{net_of}
 use Rattle.gr_model.specs.Broker.{Log, Outcome, publish, receive, wake}
 use Rattle.gr_model.specs.World.{World, Transition, view_of, log_of, unchanged, absorbed, in_turn, sent_line, sent_lines, sent_since, frames_past, deliver_frame, deliver_frame_by, publish_now_by, wake_for_by}
@@ -34,10 +34,13 @@ use Rattle.gr_model.specs.Opening.{over_logs}
 use Rattle.gr_model.specs.Arrivals.{Arrival, datagram, quiet, Publish, publishes_of, left_after, fits_broker, least_clash, clash_line, fault_number, takes, receives, takes_by, receives_by, served, served_from, served_from_by, served_by}
 use Rattle.gr_model.specs.Headline.{is_sent, sent_number}
 use Rattle.gr_model_theorems.specs.Served.{IsOfBytes, tells_bytes, number_of_bytes, IsHonestAt, IsHonest, IsHonestRun}
+use Rattle.gr_model_theorems.specs.Spelled.{NumbersIn}
+use Rattle.gr_model_theorems.specs.Statements.{IsAskedRun}
+use Rattle.gr_model_theorems.specs.Lanes.{AllFollow, whole_logs, IsServedOverLanes}
 use Rattle.gr_model_calls.proofs.rules.Serves.{frames_past_all}
 use Rattle.gr_model_theorems.proofs.headline.ReplyLines.{frame_told}
 use Rattle.gr_node.specs.Plan.{Call, gets, publishes, wakes, Act, binds, starts, arrives, calls, answers, drops, settles, closes, shows, is_ours, ours, called, arrival_acts, acts_from, closing, nodes, plan, act, entry_of, offers_of, reply_to, reply_entry, entries, all_entries}
-use Rattle.gr_node.specs.Served.{is_offer_to, IsHonestEntry, IsHonestJournal}
+use Rattle.gr_node.specs.Served.{Course, planned, is_offer_to, IsHonestEntry, IsHonestJournal}
 use Rattle.gr_node.proofs.Opening.{all_entries_append, settled_entries}
 use Rattle.gr_node.proofs.Planned.{arrival_is, passed_over, none_taken, ours_more, ours_same, begun_as}
 
@@ -324,3 +327,17 @@ bytes_ours hosted (a ∷ came) h = elim (cases_Bool (is_ours hosted a)) [
   | inl e ↦ subst (AllByRecursion IsOfBytes) (sym (ours_more hosted a came e)) (h.0, bytes_ours hosted came h.1)
   | inr e ↦ subst (AllByRecursion IsOfBytes) (sym (ours_same hosted a came e)) (bytes_ours hosted came h.1)
 ]
+
+-- So a run of all brokers is one that the theorems speak of
+pub is_served : (t : TopologyView) (steps : List Line) (c : Course) → IsAskedRun (net_of t) steps → NumbersIn steps → length t.brokers ≤ 2 ^ 16 → length t.publishers ≤ 2 ^ 16 → AllFollow c.records → AllByRecursion IsOfBytes c.came
+    → IsHonestJournal [] (planned t (numbers (length t.brokers)) steps c) → IsServedOverLanes (net_of t) c.records steps (ours (numbers (length t.brokers)) c.came)
+is_served t steps c asked numbers_in brokers publishers follow bytes honest =
+    let all : List ℕ = numbers (length t.brokers) in
+    record {
+      over = record { asked = asked; follow = follow };
+      brokers = brokers;
+      publishers = publishers;
+      numbers_in = numbers_in;
+      bytes = bytes_ours all c.came bytes;
+      honest = honest_run t all steps c.came c.closed (whole_logs c.records) honest;
+    }

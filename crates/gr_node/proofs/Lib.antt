@@ -19,7 +19,6 @@ pub mod StartingRuns
 pub mod Exchanged
 pub mod Called
 pub mod Receipts
-pub mod OneOrder
 pub mod Planned
 pub mod Honest
 pub mod Taken

@@ -39,7 +39,7 @@ use Rattle.gr_node.specs.Of.{Hosts}
 use Rattle.gr_node.specs.Plan.{Call, gets, publishes, wakes, Act, binds, starts, arrives, calls, answers, drops, settles, closes, shows, is_ours, moment_of, offers_of, reply_entry, called, act, entries, all_entries, told_by, heard_by, told_by_acts}
 use Rattle.gr_node.specs.Done.{Done, broker_of, taken_up, receipt_lines, receipt_frames, done_by, done_at, call_done, log_shown, log_shown_in, logs_shown, doubt_shown, doubts_by, doubts_shown, shown, done, all_done}
 pub use Rattle.gr_node.proofs.Taken.{IsShaped, IsNode}
-use Rattle.gr_node.proofs.OneOrder.{IsUnheard, fed_nothing, fed_unheard, fed_sent, shown_unheard}
+use Rattle.gr_model_theorems.proofs.order.Unheard.{IsUnheard, fed_nothing, fed_unheard, fed_sent, shown_unheard}
 use Rattle.gr_node.proofs.Taken.{node_heard, Does, offers_since, broker_here, said_by, exchanges_log, exchanges_view, logged_some, taken_is}
 
 -- Acts that a node may do

@@ -13,7 +13,7 @@ use Rattle.gr_model.specs.Orders.{Order, fed, orders_of}
 use Rattle.gr_broker.specs.Seen.{BrokerView}
 use Rattle.gr_node.specs.Seen.{NodeView, text_of}
 use Rattle.gr_node.specs.Starting.{lines_of_start, start_lines}
-use Rattle.gr_node.proofs.OneOrder.{fed_append}
+use Rattle.gr_model_theorems.proofs.order.Unheard.{fed_append}
 use Rattle.gr_node.proofs.StartingOrder.{IsNext}
 use Rattle.gr_node.proofs.StartingNodes.{with_broker, in_place, as_before}
 

@@ -22,7 +22,7 @@ use Rattle.gr_model.specs.Arrivals.{Arrival, datagram, quiet, Publish, publishes
 use Rattle.gr_model.specs.Orders.{Order, fed, ordered, without_ordered, with_orders}
 use Rattle.gr_model_theorems.specs.Served.{joined}
 use Rattle.gr_node.specs.Plan.{Call, gets, Act, binds, starts, arrives, calls, answers, drops, settles, closes, shows, is_ours, ours, quiet_calls, submit_acts, note_acts, datagram_acts, acts_of, arrival_acts, acts_from, closing, run_acts, nodes, plan, act, told_by, heard_by, told_by_acts}
-use Rattle.gr_node.proofs.OneOrder.{fed_nothing, fed_unheard, fed_append, shown_unheard, rested_ready}
+use Rattle.gr_model_theorems.proofs.order.Unheard.{fed_nothing, fed_unheard, fed_append, shown_unheard, rested_ready}
 use Rattle.gr_node.proofs.Acting.{all_append}
 use Rattle.gr_node.proofs.Planned.{calls_are, no_calls, arrival_is, passed_over, none_taken, ours_more, ours_same, begun_as}
 

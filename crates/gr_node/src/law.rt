@@ -21,19 +21,24 @@ ghost use Rattle.gr_model.specs.Arrivals.{Arrival, Publish, publishes_of, served
 ghost use Rattle.gr_scenario.specs.Steps.{AreStepsOf};
 ghost use Rattle.gr_model_theorems.specs.Served.{joined, IsOfBytes};
 ghost use Rattle.gr_model_theorems.specs.Lanes.{AllFollow, HoldsServedLanes, found_logs};
-ghost use Rattle.gr_model_theorems.specs.Statements.{ArrivalsDoSteps};
+ghost use Rattle.gr_model_theorems.specs.Statements.{ArrivalsDoSteps, AreTotals};
+ghost use Rattle.gr_model_theorems.specs.OrderedServed.{OrderedServedLanes, OneOrderServedLanes};
 ghost use Rattle.gr_node.specs.Plan.{Act, ours, act, plan, all_entries, reply_to};
 ghost use Rattle.gr_node.specs.Lasting.{Lasts};
 ghost use Rattle.gr_node.specs.Served.{Course, world_before, acts_upto, world_upto, planned, IsHonestJournal};
 ghost use Rattle.gr_node.specs.Submitted.{IsFirstOf, Logs, log_found, after_acts, AreFirst, IsOfClient, offers_next};
 
 use gr_model::topologies::every_topology_is_a_tree;
-use gr_model_theorems::theorems::{headline_over_lanes, headline_served};
+use gr_model_theorems::theorems::{
+    headline_over_lanes, headline_served, one_order_over_lanes, ordered_over_lanes,
+};
 use gr_report::steps_fit_the_theorems;
 use gr_topo::Topology;
 
 /// The headline of a run that hosts all brokers, over old logs too: where the journal is honest, every arrival does
-/// what its steps of a schedule do, and of these the whole headline holds.
+/// what its steps of a schedule do, and of these the whole headline holds. Of the subscribers that get one list over
+/// all publishers, whichever they are, each is told in it exactly what it is to have, behind the opening and behind each
+/// arrival; and of two that want the same one list begins with the other.
 ///
 /// And of any run: the plan's acts, one after another, tell what the machine serves of what came at the hosted brokers,
 /// and leave the world after it.
@@ -47,6 +52,13 @@ pub fn an_honest_journal_meets_the_headline(topo: &Topology)
         → IsHonestJournal [] (planned topo.now (numbers (length topo.now.brokers)) steps c)
         → ArrivalsDoSteps (net_of topo.now) (found_logs c.records) steps
         (ours (numbers (length topo.now.brokers)) c.came) }
+    ensures ordered { (steps : List Line) (c : Course) (totals : List ℕ) → AreStepsOf topo.now steps
+        → AllFollow c.records → AllByRecursion IsOfBytes c.came
+        → IsHonestJournal [] (planned topo.now (numbers (length topo.now.brokers)) steps c)
+        → AreTotals (net_of topo.now) totals
+        → let came : List Arrival = ours (numbers (length topo.now.brokers)) c.came in
+        OrderedServedLanes (net_of topo.now) totals c.records steps came
+        × OneOrderServedLanes (net_of topo.now) totals c.records steps came }
     ensures whole { (hosted : List ℕ) (steps : List Line) (came : List Arrival) (closed : Bool) (logs : List Log)
         → let net : Net = net_of topo.now in
         let end : Transition =
@@ -59,6 +71,8 @@ pub fn an_honest_journal_meets_the_headline(topo: &Topology)
     steps_fit_the_theorems();
     headline_over_lanes();
     headline_served();
+    ordered_over_lanes();
+    one_order_over_lanes();
     let _ = topo.brokers();
 }
 

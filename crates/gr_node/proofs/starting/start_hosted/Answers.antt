@@ -5,7 +5,7 @@ use Rattle.gr_out.proofs.Fronts.{but-nothing}
 use Rattle.gr_model.specs.Orders.{orders_of}
 use Rattle.gr_node.specs.Seen.{NodeView, seen}
 use Rattle.gr_node.specs.Starting.{start_lines}
-use Rattle.gr_node.proofs.OneOrder.{fed_nothing}
+use Rattle.gr_model_theorems.proofs.order.Unheard.{fed_nothing}
 use Rattle.gr_node.proofs.StartingNodes.{none_begun, begun_set, begun_hosted, with_broker}
 use Rattle.gr_node.proofs.StartingLanes.{none_found, all_found, touched_hosted}
 use Rattle.gr_node.proofs.StartingRuns.{b, lists_kept, begun_next, heard_next, found_next, left_next, damaged_next, next_hosted, put_next, started_all, started_failed, started_cut}
