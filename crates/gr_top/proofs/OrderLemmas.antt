@@ -6,7 +6,7 @@ use Rattle.gr_model.specs.NetOf.{net_of}
 use Rattle.gr_model.specs.Orders.{Order, fed, without_ordered, ordered_steps, with_orders}
 use Rattle.gr_model.proofs.NetOf.{among, distinct_from}
 use Rattle.gr_model_theorems.specs.Statements.{AreTotals}
-use Rattle.gr_top.specs.Top.{AreBehind}
+use Rattle.gr_top.specs.Behind.{AreBehind}
 
 -- they are subscribers of its net, each once
 pub are_totals : (t : TopologyView) → AreTotals (net_of t) (totals_of t)

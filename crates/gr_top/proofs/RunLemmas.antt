@@ -12,16 +12,20 @@ use Rattle.gr_out.specs.Lane.{Lane, content}
 use Rattle.gr_out.specs.Page.{TakesFront}
 use Rattle.gr_publog.specs.Text.{log_text}
 use Rattle.gr_sched.specs.declared.step.Line.{Line}
-use Rattle.gr_topo.specs.Topology.{TopologyView, host_of}
+use Rattle.gr_topo.specs.Topology.{TopologyView, host_of, totals_of}
 use Rattle.gr_scenario.specs.Steps.{AreStepsOf}
 use Rattle.gr_model.specs.Net.{numbers}
 use Rattle.gr_model.specs.NetOf.{net_of}
+use Rattle.gr_model.specs.Orders.{orders_of}
 use Rattle.gr_model_theorems.specs.Served.{IsOfBytes}
 use Rattle.gr_model_theorems.specs.Lanes.{AllFollow, HoldsServedLanes}
+use Rattle.gr_model_theorems.specs.OrderedServed.{OrderedServedLanes, OneOrderServedLanes}
+use Rattle.gr_model_theorems.specs.Statements.{AreTotals}
 use Rattle.gr_node.specs.Plan.{Act, binds, starts, shows, ours, nodes, plan, run_acts}
 use Rattle.gr_node.specs.Served.{Course, is_start, planned, IsRunOf, Posts, Prints, KeepsLogs, IsHonestJournal}
-use Rattle.gr_top.specs.Serving.{CanRun, Around, around, RunsTo, StopsBy, EndsBy, AllRead, damaged_line}
+use Rattle.gr_top.specs.Serving.{CanRun, Around, around, served_lines, IsInOrder, RunsTo, StopsBy, EndsBy, AllRead, damaged_line}
 use Rattle.gr_top.specs.Top.{IsCut}
+use Rattle.gr_top.proofs.OrderLemmas.{are_totals, are_behind}
 
 -- what the run itself says of its course
 abbrev pub HasRun : TopologyView → List Line → List ℕ → ℕ → Type 0 → Type 0 → Around → Around → Result ⊤ RunFault → Type 0
@@ -37,11 +41,27 @@ MeetsServed t = (steps : List Line) (c : Course) → AreStepsOf t steps → AllF
     → AllByRecursion IsOfBytes c.came → IsHonestJournal [] (planned t (numbers (length t.brokers)) steps c)
     → HoldsServedLanes (net_of t) c.records steps (ours (numbers (length t.brokers)) c.came)
 
+-- and that its lists over all publishers are what they are to be
+abbrev pub OrdersServed : TopologyView → Type 0
+OrdersServed t = (steps : List Line) (c : Course) (totals : List ℕ) → AreStepsOf t steps → AllFollow c.records
+    → AllByRecursion IsOfBytes c.came → IsHonestJournal [] (planned t (numbers (length t.brokers)) steps c)
+    → AreTotals (net_of t) totals
+    → OrderedServedLanes (net_of t) totals c.records steps (ours (numbers (length t.brokers)) c.came)
+    × OneOrderServedLanes (net_of t) totals c.records steps (ours (numbers (length t.brokers)) c.came)
+
+in_order : (t : TopologyView) (lines : List Line) (hosted : List ℕ) (c : Course) → OrderedServedLanes (net_of t) (totals_of t) c.records lines (ours hosted c.came)
+    × OneOrderServedLanes (net_of t) (totals_of t) c.records lines (ours hosted c.came) → IsInOrder t lines hosted c
+in_order t lines hosted c x = record {
+  behind = are_behind (orders_of t) (served_lines t lines hosted c);
+  ordered = x.0;
+  one_order = x.1;
+}
+
 -- so the run came to its answer
 pub runs_to : (t : TopologyView) (lines : List Line) (hosted : List ℕ) (turns : ℕ) (post_tells disk_tells : Type 0) (before after : Around) (answer : Result ⊤ RunFault)
-    → CanRun t lines hosted → MeetsServed t → HasRun t lines hosted turns post_tells disk_tells before after answer
+    → CanRun t lines hosted → MeetsServed t → OrdersServed t → HasRun t lines hosted turns post_tells disk_tells before after answer
     → RunsTo t lines hosted turns post_tells disk_tells before after answer
-runs_to t lines hosted turns post_tells disk_tells before after answer can meets r = record {
+runs_to t lines hosted turns post_tells disk_tells before after answer can meets orders r = record {
   course = r.0;
   is_run = r.1.0;
   posts = r.1.1.0;
@@ -50,17 +70,21 @@ runs_to t lines hosted turns post_tells disk_tells before after answer can meets
   headline = λ all honest.
       subst (λ h. HoldsServedLanes (net_of t) r.0.records lines (ours h r.0.came)) (sym all)
       (meets lines r.0 can.steps r.1.0.follow r.1.0.bytes (subst (λ h. IsHonestJournal [] (planned t h lines r.0)) all honest));
+  ordered = λ all honest.
+      subst (λ h. IsInOrder t lines h r.0) (sym all)
+      (in_order t lines (numbers (length t.brokers)) r.0
+      (orders lines r.0 (totals_of t) can.steps r.1.0.follow r.1.0.bytes (subst (λ h. IsHonestJournal [] (planned t h lines r.0)) all honest) (are_totals t)));
 }
 
 -- a run that a fault ended, and what its status says
 pub stops_by : (t : TopologyView) (lines : List Line) (hosted : List ℕ) (turns : ℕ) (post_tells disk_tells : Type 0) (before after : Around) (fault : RunFault) (status : ℕ)
-    (taken : Option (List ℕ)) → CanRun t lines hosted → MeetsServed t
+    (taken : Option (List ℕ)) → CanRun t lines hosted → MeetsServed t → OrdersServed t
     → HasRun t lines hosted turns post_tells disk_tells before after (Err fault) → EndsBy t fault status after.taken taken
     → StopsBy t lines hosted turns post_tells disk_tells before (around taken after.journal after.lanes) status
-stops_by t lines hosted turns post_tells disk_tells before after fault status taken can meets r ends = record {
+stops_by t lines hosted turns post_tells disk_tells before after fault status taken can meets orders r ends = record {
   fault = fault;
   taken = after.taken;
-  run = runs_to t lines hosted turns post_tells disk_tells before after (Err fault) can meets r;
+  run = runs_to t lines hosted turns post_tells disk_tells before after (Err fault) can meets orders r;
   ends = ends;
 }
 

@@ -4,4 +4,5 @@ pub mod Serving
 pub mod Submitter
 pub mod Publishing
 pub mod Answers
+pub mod Behind
 pub mod Top

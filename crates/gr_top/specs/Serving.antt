@@ -8,17 +8,20 @@ use Rattle.gr_out.specs.Lane.{Lane, content}
 use Rattle.gr_out.specs.Page.{TakesFront}
 use Rattle.gr_publog.specs.Text.{log_text}
 use Rattle.gr_sched.specs.declared.step.Line.{Line}
-use Rattle.gr_topo.specs.Topology.{TopologyView}
+use Rattle.gr_topo.specs.Topology.{TopologyView, totals_of}
 use Rattle.gr_scenario.specs.declared.asked.Asked.{Asked}
 use Rattle.gr_scenario.specs.declared.asked.Asked.TheVariants as asked
 use Rattle.gr_scenario.specs.Scenario.{asked_by}
 use Rattle.gr_scenario.specs.Steps.{AreStepsOf}
+use Rattle.gr_model.specs.declared.report.Report.{Report}
 use Rattle.gr_model.specs.declared.report.Report.TheVariants as line
 use Rattle.gr_model.specs.Text.{labels_of, whole_line}
 use Rattle.gr_model.specs.Net.{numbers}
 use Rattle.gr_model.specs.NetOf.{net_of}
-use Rattle.gr_model.specs.Arrivals.{is_hosted}
-use Rattle.gr_model_theorems.specs.Lanes.{HoldsServedLanes}
+use Rattle.gr_model.specs.Arrivals.{is_hosted, served}
+use Rattle.gr_model.specs.Orders.{orders_of, ordered_steps, with_orders}
+use Rattle.gr_model_theorems.specs.Lanes.{HoldsServedLanes, whole_logs}
+use Rattle.gr_model_theorems.specs.OrderedServed.{OrderedServedLanes, OneOrderServedLanes}
 use Rattle.gr_node.specs.Of.{AreHosted, AreAddressed}
 use Rattle.gr_node.specs.Plan.{ours}
 use Rattle.gr_node.specs.Starting.{IsFirstDamaged}
@@ -29,6 +32,7 @@ use Rattle.gr_top.specs.declared.serving.Serving.{Serving}
 use Rattle.gr_top.specs.declared.serving.Serving.TheVariants.{TooManyBytes, TooManySteps, Refused, Run}
 use Rattle.gr_top.specs.declared.words.Task.{Task}
 use Rattle.gr_top.specs.declared.words.Task.TheVariants.{Serve}
+use Rattle.gr_top.specs.Behind.{AreBehind}
 use Rattle.gr_top.specs.Hosting.{hosting_of}
 
 -- What is asked
@@ -74,9 +78,25 @@ pub record Around : Type 0 where
 abbrev pub around : Option (List ℕ) → List Entry → (ℕ → Lane) → Around
 around taken journal lanes = record { taken = taken; journal = journal; lanes = lanes }
 
+-- what the machine serves of the arrivals of a run: the lines of the opening, of each arrival, and of the end
+abbrev pub served_lines : TopologyView → List Line → List ℕ → Course → List (List Report)
+served_lines t lines hosted c = served (net_of t) hosted (whole_logs c.records) lines (ours hosted c.came)
+
+-- the lists over all publishers in a run of all brokers
+pub record IsInOrder (t : TopologyView) (lines : List Line) (hosted : List ℕ) (c : Course) : Type 0 where
+  -- what is printed of each step are its lines, and behind them what is ready in the one list of each subscriber that
+  -- gets one
+  pub behind : AreBehind (with_orders (orders_of t) (served_lines t lines hosted c)) (served_lines t lines hosted c)
+      (ordered_steps (orders_of t) (served_lines t lines hosted c))
+  -- that is, after the opening and after each arrival each of these was told exactly what all publishers have past the
+  -- cut that was found, up to where it has heard them all, each event once, rising by tick and then publisher
+  pub ordered : OrderedServedLanes (net_of t) (totals_of t) c.records lines (ours hosted c.came)
+  -- and of two of these that want the same, at any two arrivals, one list begins with the other
+  pub one_order : OneOrderServedLanes (net_of t) (totals_of t) c.records lines (ours hosted c.came)
+
 -- A run came to an answer. What was done of it is told by its course: the post has the journal of that, the sink took
 -- its lines and the lanes hold its logs. Where all brokers served, over old logs too, and the journal is honest, the
--- headline holds
+-- headline holds, and each list over all publishers is what it is to be
 pub record RunsTo (t : TopologyView) (lines : List Line) (hosted : List ℕ) (turns : ℕ) (post_tells disk_tells : Type 0)
     (before after : Around) (answer : Result ⊤ RunFault) : Type 0 where
   pub course : Course
@@ -86,6 +106,8 @@ pub record RunsTo (t : TopologyView) (lines : List Line) (hosted : List ℕ) (tu
   pub keeps : disk_tells → KeepsLogs t hosted lines course before.lanes after.lanes answer
   pub headline : hosted ≡ numbers (length t.brokers) → IsHonestJournal [] (planned t hosted lines course)
       → HoldsServedLanes (net_of t) course.records lines (ours hosted course.came)
+  pub ordered : hosted ≡ numbers (length t.brokers) → IsHonestJournal [] (planned t hosted lines course)
+      → IsInOrder t lines hosted course
 
 -- the line of a log that is none
 abbrev pub damaged_line : TopologyView → ℕ → ℕ → List ℕ

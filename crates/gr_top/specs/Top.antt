@@ -1,5 +1,5 @@
 -- What the top call promises
-use Rattle.std.specs.Prelude.{◌≡◌, ℕ, ◌⊎◌, List, [], ◌∷◌, ◌++◌, Option}
+use Rattle.std.specs.Prelude.{◌≡◌, ℕ, ◌⊎◌, List, Option}
 use Rattle.gr_out.specs.Bytes.{with_more}
 use Rattle.gr_sched.specs.declared.step.Line.{Line}
 use Rattle.gr_topo.specs.Topology.{TopologyView, totals_of}
@@ -15,12 +15,7 @@ use Rattle.gr_scenario.specs.declared.asked.Asked.{Asked}
 use Rattle.gr_scenario.specs.declared.asked.Asked.TheVariants.{Scenario}
 use Rattle.gr_replay.specs.Replayed.{replayed_text}
 use Rattle.gr_top.specs.Answers.{Answer}
-
--- step by step: what is printed are the lines of the step, and behind them more
-abbrev pub AreBehind : List (List Report) → List (List Report) → List (List Report) → Type 0
-AreBehind [] [] [] = Unit {0}
-AreBehind (p ∷ printed) (l ∷ lines) (m ∷ more) = (p ≡ l ++ m) × AreBehind printed lines more
-AreBehind _ _ _ = ⊥
+use Rattle.gr_top.specs.Behind.{AreBehind}
 
 -- the report of a schedule over a topology meets the headline
 pub record MeetsHeadline (t : TopologyView) (lines : List Line) : Type 0 where

@@ -45,7 +45,7 @@ pub(crate) fn run<D: Disk, P: Post, K: Sink>(
     ensures sink_same { result ≢ 4 → K.faults sink.new ≡ K.faults sink.old }
     ensures complete { (result ≡ 0) ⊎ (IsCut result ⊎ IsStop result) }
 {
-    // Proof only: the headline of an honest journal.
+    // Proof only: the headline of an honest journal, and its lists over all publishers.
     an_honest_journal_meets_the_headline(topo);
     match serve(alloc, topo, steps, hosted, turns, disk, post, sink) {
         Ok(()) => 0,
