@@ -51,9 +51,20 @@ Looked bound old new piece (Some d) = (s : ℕ) × HasSocket bound d.0 s × (new
 abbrev pub longest : ℕ
 longest = 50
 
--- the first wait, in milliseconds
+-- the first wait
 abbrev pub first_wait : ℕ
 first_wait = 12
+
+-- how long after a quiet moment a wait ends that begins later than it; and from when on the next one is near, and how
+-- long a wait is then
+abbrev pub early : ℕ
+early = 49
+
+abbrev pub near : ℕ
+near = 40
+
+abbrev pub last_wait : ℕ
+last_wait = 8
 
 -- a quiet moment is due: so much time has passed since the last one, or the clock was set back behind it
 abbrev pub is_due : ℕ → ℕ → Bool
@@ -91,19 +102,21 @@ run_after run news (Datagram at len moment) = run
 run_after run news (Quiet moment) = run_with run news
 run_after run news Closed = run
 
--- so many in a row make a wait shorter, and so many the longest
+-- so many in a row make a wait shorter: few, but enough where it is the longest
 abbrev pub few : ℕ
 few = 2
 
 abbrev pub enough : ℕ
 enough = 5
 
+abbrev pub needed : ℕ → ℕ
+needed pause = if nat_lt pause longest then few else enough
+
 -- the wait after a quiet moment: twice as long where there was no news, and half as long where there was news a few times
 -- in a row, or enough times where it is the longest
 abbrev pub wait_after : ℕ → ℕ → ℕ
 wait_after pause zero = min (pause * 2) longest
-wait_after pause (suc run) =
-    if nat_lt pause longest && nat_le few (suc run) || nat_le enough (suc run) then max (pause / 2) 1 else pause
+wait_after pause (suc run) = if nat_le (needed pause) (suc run) then max (pause / 2) 1 else pause
 
 -- the wait of the next call
 abbrev pub pause_after : ℕ → ℕ → Arrival → ℕ
@@ -111,9 +124,14 @@ pause_after pause run (Datagram at len moment) = pause
 pause_after pause run (Quiet moment) = wait_after pause run
 pause_after pause run Closed = pause
 
--- how long a call waits that began at a moment at which none was due: no longer than until one is
+-- how long a wait is at most that begins so long after a quiet moment: no longer than until the next one is due
+abbrev pub most_after : ℕ → ℕ
+most_after zero = longest
+most_after (suc n) = if nat_lt (suc n) near then early - suc n else min last_wait (longest - suc n)
+
+-- how long a call waits that began at a moment at which none was due
 abbrev pub wait_from : ℕ → ℕ → ℕ → ℕ
-wait_from pause last moment = min pause (last + longest - moment)
+wait_from pause last moment = min pause (most_after (moment - last))
 
 -- what may be answered before any wait: a datagram, or a quiet moment that is due
 abbrev pub is_at_once : ℕ → Arrival → Bool

@@ -29,8 +29,16 @@ use std::time::Duration;
 // The longest wait of one `next`, and the longest time from one quiet moment to the next, in milliseconds.
 const LONGEST: u64 = 50;
 
-// The first wait, in milliseconds.
+// The first wait.
 const FIRST_WAIT: u64 = 12;
+
+// How long after the last quiet moment a wait ends that begins later than that.
+const EARLY: u64 = 49;
+
+// From when on the next quiet moment is near, and how long a wait is then.
+const NEAR: u64 = 40;
+
+const LAST_WAIT: u64 = 8;
 
 // Before how many quiet moments in a row there has to be news for a wait to get shorter.
 const NEWS_IN_A_ROW: u64 = 2;
@@ -51,7 +59,10 @@ const NEWS_AT_LONGEST: u64 = 5;
 /// however many of them send to one another.
 ///
 /// Whatever comes, the next quiet moment comes no later than 50 milliseconds after the last one: once they have passed,
-/// by the clock, `next` answers `Quiet` and leaves a datagram that is there to the next call.
+/// by the clock, `next` answers `Quiet` and leaves a datagram that is there to the next call. Where something
+/// came before that, 49 milliseconds after the last one, or 8 after what came where that was late, from 40 on. So a
+/// broker that is sent the same each 50 milliseconds is soon woken shortly after each, and of brokers in a row each is
+/// woken shortly after the one below it: acknowledgements pass them all in a few milliseconds.
 ///
 /// All sockets are looked at in turn, each first once the one before it gave something. A broker can be bound once.
 #[derive(Drop)]
@@ -220,12 +231,14 @@ fn pause_after(pause: u64, run: u64, arrival: Arrival) -> u64
     ensures after { result ≡ pause_after pause run arrival }
     ensures brief { result ≤ longest }
 {
+    let enough = if pause < LONGEST {
+        NEWS_IN_A_ROW
+    } else {
+        NEWS_AT_LONGEST
+    };
     match arrival {
         Arrival::Quiet { .. } if run == 0 => (pause * 2).min(LONGEST),
-        Arrival::Quiet { .. }
-            if pause < LONGEST && run >= NEWS_IN_A_ROW || run >= NEWS_AT_LONGEST => (pause / 2).max(
-            1,
-        ),
+        Arrival::Quiet { .. } if run >= enough => (pause / 2).max(1),
         Arrival::Datagram { .. } | Arrival::Quiet { .. } | Arrival::Closed => pause,
     }
 }
@@ -242,7 +255,15 @@ fn wait_from(pause: u64, last: u64, moment: u64) -> u64
     requires { is_due last moment ≡ false }
     ensures { result ≡ wait_from pause last moment }
 {
-    pause.min(LONGEST - (moment - last))
+    let passed = moment - last;
+    let most = if passed == 0 {
+        LONGEST
+    } else if passed < NEAR {
+        EARLY - passed
+    } else {
+        LAST_WAIT.min(LONGEST - passed)
+    };
+    pause.min(most)
 }
 
 /// A time since 1970 in milliseconds.

@@ -529,7 +529,19 @@ fn comes_to_quiet_moments(rt: HostRuntime) -> Result<(), Fail> {
     assert!(rt; answers(&mut post, b"-aaaa-aaaa-aaaa-a"));
     clock.moment.set(900);
     assert!(rt; answers(&mut post, b"---------"));
-    assert!(rt; post.network().waits.as_slice() == [40; 8].as_slice());
+    assert!(rt; post.network().waits.as_slice() == [39; 8].as_slice());
+    Ok(())
+}
+
+/// A wait that begins later than the last quiet moment ends 49 milliseconds after it; one that begins from 40 on is 8 at
+/// most, and ends after 50.
+#[test]
+fn waits_little_where_a_quiet_moment_is_near(rt: HostRuntime) -> Result<(), Fail> {
+    for (passed, wait) in [(5, 24), (30, 19), (39, 10), (40, 8), (43, 7), (49, 1)] {
+        let mut post = post_of_two(rt.alloc(), &[], FakeClock::new(1_000, passed))?;
+        assert!(rt; answers(&mut post, b"--"));
+        assert!(rt; post.network().waits.as_slice() == [wait].as_slice());
+    }
     Ok(())
 }
 
