@@ -2,7 +2,7 @@
 use Rattle.std.proofs.Common.{◌≡◌, ℕ, zero, suc, ◌+◌, ◌*◌, ◌<◌, ◌≤◌, ℤ, pos, ◌+ℤ◌, ◌-ℤ◌, ◌<ℤ◌, Bool, true, false, ◌&&◌, ◌||◌, ◌==◌, List, [], ◌∷◌, ◌++◌, length, map, get_or, Option, Some, None, refl, sym, ap, ◌∙◌, subst, inl, inr, arith, cond, append_assoc, append-nil, length-append, FitsSigned, IsUtf8, Less, lit<}
 use Rattle.std.specs.Prelude.{int_lt, nat_le, bytes_eq}
 use Rattle.std.specs.Int.{w64}
-use Rattle.std.specs.List.{flat_map, AllByRecursion, list_any, list_all}
+use Rattle.std.specs.List.{flat_map, AllByRecursion, list_any}
 use Rattle.std.specs.List.Sorted.{IsStrictlySortedBy}
 use Rattle.std.specs.Ordering.{nat_cmp}
 use Rattle.std.specs.Cmp.Lexicographic.{slice_cmp}
@@ -24,11 +24,11 @@ use Rattle.gr_filter.specs.Written as written
 use Rattle.gr_cover.specs.declared.mention.Mention.{Mention}
 use Rattle.gr_cover.specs.declared.attribute.Attribute.{Attribute}
 use Rattle.gr_cover.specs.Mentions.{literal_value, met, literals_met, compared, mentions}
-use Rattle.gr_cover.specs.Candidates.{value_cmp, inserted, least_integer, greatest_integer, near, values_near, values_at, known, is_integer, with_zero, spare_from, spare, with_text, attribute, is_short, short_names, names_of, attributes, parts, events_from, candidates}
+use Rattle.gr_cover.specs.Candidates.{value_cmp, inserted, least_integer, greatest_integer, near, values_near, values_at, known, is_integer, with_zero, spare_from, spare, with_text, attribute, is_short, short_names, names_of, attributes, choices, parts, events_from, candidates}
 use Rattle.gr_cover.proofs.Rising.{all_put, all_with, rise_with, rise_none}
 use Rattle.gr_cover.proofs.Searching.{events_with}
 use Rattle.gr_cover.proofs.Telling.{some_is, spare_is, four_values}
-use Rattle.gr_cover.proofs.Counting.{at_most_five}
+use Rattle.gr_cover.proofs.Counting.{five_choices, at_most_five, all_have_spare}
 
 -- what holds of all of two lists holds of all of both
 pub all_both : {X : Type 0} (P : X → Type 0) (xs ys : List X) → AllByRecursion P xs → AllByRecursion P ys → AllByRecursion P (xs ++ ys)
@@ -293,20 +293,23 @@ names_attributes : (ms : List Mention) (ns : List (List ℕ)) → names_in (map 
 names_attributes ms [] = refl
 names_attributes ms (n ∷ ns) = ap (λ ks. n ∷ ks) (names_attributes ms ns)
 
--- each name has a spare text
-pub all_spared : (ms : List Mention) (ns : List (List ℕ)) → list_all (λ (a : Attribute). a.has_spare) (map (attribute ms) ns) ≡ true → AllByRecursion (λ n. (attribute ms n).has_spare ≡ true) ns
-all_spared ms [] h = tt
-all_spared ms (n ∷ ns) h = let k = and_parts (attribute ms n).has_spare (list_all (λ (a : Attribute). a.has_spare) (map (attribute ms) ns)) h in (k.0, all_spared ms ns k.1)
+-- where there are no more than 4,096 parts, each name has a spare text
+spared_of : (ms : List Mention) (ns : List (List ℕ)) → AllByRecursion (λ (a : Attribute). a.has_spare ≡ true) (map (attribute ms) ns) → AllByRecursion (λ n. (attribute ms n).has_spare ≡ true) ns
+spared_of ms [] h = tt
+spared_of ms (n ∷ ns) h = (h.0, spared_of ms ns h.1)
 
-all_four : (ms : List Mention) (ns : List (List ℕ)) → AllByRecursion (λ n. (attribute ms n).has_spare ≡ true) ns → AllByRecursion (λ (a : Attribute). 4 ≤ length a.values) (map (attribute ms) ns)
-all_four ms [] h = tt
-all_four ms (n ∷ ns) h = (four_values ms n h.0, all_four ms ns h.1)
+pub all_spared : (ms : List Mention) → parts (attributes ms) ≤ 4096 → AllByRecursion (λ n. (attribute ms n).has_spare ≡ true) (names_of ms)
+all_spared ms few = spared_of ms (names_of ms) (all_have_spare (attributes ms) few)
 
--- where each name has a spare text, and there are no more than 4,096 parts, the candidates are events
-pub candidates_valid : (ms : List Mention) → AllByRecursion IsMention ms → list_all (λ (a : Attribute). a.has_spare) (attributes ms) ≡ true → parts (attributes ms) ≤ 4096 → AllByRecursion IsEvent (candidates (attributes ms))
-candidates_valid ms h spared few = all_events [] (attributes ms) (record {
+all_five : (ms : List Mention) (ns : List (List ℕ)) → AllByRecursion (λ a. 5 ≤ choices a) (map (attribute ms) ns)
+all_five ms [] = tt
+all_five ms (n ∷ ns) = (five_choices (attribute ms n) (four_values ms n), all_five ms ns)
+
+-- where there are no more than 4,096 parts, the candidates are events
+pub candidates_valid : (ms : List Mention) → AllByRecursion IsMention ms → parts (attributes ms) ≤ 4096 → AllByRecursion IsEvent (candidates (attributes ms))
+candidates_valid ms h few = all_events [] (attributes ms) (record {
   rise = subst Rise (sym (names_attributes ms (names_of ms))) (rise_with (slice_cmp nat_cmp) [] (short_names ms) nat_list_cmp_total (rise_none (slice_cmp nat_cmp)));
-  few = let k = at_most_five (attributes ms) (all_four ms (names_of ms) (all_spared ms (names_of ms) spared)) few in omega (arith, k);
+  few = let k = at_most_five (attributes ms) (all_five ms (names_of ms)) few in omega (arith, k);
   each = tt;
   later = tried ms (names_of ms) h (names_valid ms h);
 })

@@ -1,7 +1,6 @@
 -- What is answered to whether one filter covers another
 use Rattle.std.specs.Prelude.{◌≡◌, ◌≤◌, ℕ, Bool, true, false, not, ◌&&◌, nat_le, if◌then◌else◌, List, ◌++◌, Option}
 use Rattle.std.specs.Prelude.{Some, None, find}
-use Rattle.std.specs.List.{list_all}
 use Rattle.gr_event.specs.declared.event.Event.{Event}
 use Rattle.gr_event.specs.Limits.{IsEvent}
 use Rattle.gr_filter.specs.Tree.{Tree}
@@ -18,14 +17,9 @@ use Rattle.gr_cover.specs.Candidates.{attributes, parts as parts_of, candidates}
 abbrev pub pair_attributes : Tree → Tree → List Attribute
 pair_attributes wide narrow = attributes (mentions wide ++ mentions narrow)
 
--- each name has a text of letters x that is no literal. No filter that is read from a text lacks one: with 1,024 such
--- literals it would be too long
-abbrev pub is_spared : Tree → Tree → Bool
-is_spared wide narrow = list_all (λ a. a.has_spare) (pair_attributes wide narrow)
-
--- both filters are plain, and each name has such a text
+-- both filters are plain
 abbrev pub is_plain_pair : Tree → Tree → Bool
-is_plain_pair wide narrow = (is_plain wide && is_plain narrow) && is_spared wide narrow
+is_plain_pair wide narrow = is_plain wide && is_plain narrow
 
 -- how many candidates they have, up to 2^64 - 1
 abbrev pub pair_parts : Tree → Tree → ℕ

@@ -114,10 +114,16 @@ attributes ms = map (attribute ms) (names_of ms)
 
 -- The events
 
--- how many events there are: each name is absent or has one of its values
+-- in how many ways a name is tried: it is absent or has one of its values. Without a text that is no literal these do
+-- not tell, and it counts as the greatest number of 64 bits. No filter that is read from a text has such a name: its
+-- 1,024 literals of letters x would be too long
+abbrev pub choices : Attribute → ℕ
+choices a = if a.has_spare then 1 + length a.values else 2 ^ 64 - 1
+
+-- how many events there are: each name is tried in each way
 abbrev pub events_count : List Attribute → ℕ
 events_count [] = 1
-events_count (a ∷ rest) = (1 + length a.values) * events_count rest
+events_count (a ∷ rest) = choices a * events_count rest
 
 -- that number, up to the greatest of 64 bits
 abbrev pub parts : List Attribute → ℕ

@@ -1,11 +1,11 @@
 //! The names of a pair of filters, each with its candidates.
 
 ghost use Rattle.std.specs.Prelude.{◌≡◌, ◌+◌, ◌*◌, min, [], map, filter, length, nat_le, IfOk, OnOk, Some};
-ghost use Rattle.std.specs.List.{flat_map, list_all};
+ghost use Rattle.std.specs.List.{flat_map};
 ghost use Rattle.std.specs.Ordering.{nat_cmp};
 ghost use Rattle.std.specs.Cmp.Lexicographic.{slice_cmp};
 ghost use Rattle.gr_cover.specs.Candidates.{value_cmp, inserted, with_all, near, values_near, values_at, known};
-ghost use Rattle.gr_cover.specs.Candidates.{with_zero, spare, with_text, attribute, names_of, attributes, parts};
+ghost use Rattle.gr_cover.specs.Candidates.{with_zero, spare, with_text, attribute, names_of, attributes, choices, parts};
 
 use crate::mention::Mention;
 use crate::values::{Values, has_integer, has_text};
@@ -37,18 +37,6 @@ pub(crate) fn attributes(alloc: Global, mentions: &[Mention]) -> Result<Vec<Attr
     Ok(found)
 }
 
-/// Whether each name has a text that is no literal.
-pub(crate) fn are_spared(attributes: &[Attribute]) -> bool
-    ensures { result ≡ list_all (λ a. a.has_spare) attributes.now }
-{
-    for attribute in attributes {
-        if !attribute.has_spare {
-            return false;
-        }
-    }
-    true
-}
-
 /// How many candidates there are, up to the greatest number of 64 bits.
 pub(crate) fn parts(attributes: &[Attribute]) -> u64
     ensures { result ≡ parts attributes.now }
@@ -59,11 +47,15 @@ pub(crate) fn parts(attributes: &[Attribute]) -> u64
     }
 }
 
-/// In how many ways a name is tried.
+/// In how many ways a name is tried; more than are ever tried where it has no text that is no literal.
 fn choices(attribute: &Attribute) -> u64
-    ensures { result ≡ 1 + length attribute.now.values }
+    ensures { result ≡ choices attribute.now }
 {
-    1 + attribute.values.as_slice().len() as u64
+    if attribute.has_spare {
+        1 + attribute.values.as_slice().len() as u64
+    } else {
+        u64::MAX
+    }
 }
 
 /// The names that an event can have, rising, each once.

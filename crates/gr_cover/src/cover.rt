@@ -1,12 +1,12 @@
 //! Whether one filter covers another.
 
-ghost use Rattle.std.specs.Prelude.{◌≡◌, ◌↔◌, IfOk};
+ghost use Rattle.std.specs.Prelude.{◌≡◌, ◌↔◌, false, IfOk};
 ghost use Rattle.gr_filter.specs.Tree.{tree_of};
 ghost use Rattle.gr_filter.specs.Written.{IsWritten};
 ghost use Rattle.gr_cover.specs.declared.cover.TheConstants.{MAX_PARTS};
-ghost use Rattle.gr_cover.specs.Answer.{answer, IsCoveredPair, TellsApart};
+ghost use Rattle.gr_cover.specs.Answer.{answer, is_plain_pair, IsCoveredPair, TellsApart};
 
-use crate::attribute::{are_spared, attributes, parts};
+use crate::attribute::{attributes, parts};
 use crate::mention::{is_plain, put_mentions};
 use crate::search::first_from;
 use gr_event::{Event, Memory};
@@ -28,8 +28,8 @@ pub enum Cover {
     Yes,
     /// It does not: the other matches this event, and it does not.
     No { event: Event },
-    /// It was not looked into. `parts` is 0 where a filter has LIKE or compares two names; otherwise it is how many
-    /// candidates there are, up to 2^64 - 1, and more than are tried.
+    /// It was not looked into. `parts` is 0 exactly where a filter has LIKE or compares two names; otherwise it is how
+    /// many candidates there are, up to 2^64 - 1, and more than are tried.
     Unknown { parts: u64 },
 }
 
@@ -42,6 +42,8 @@ pub fn covers(alloc: Global, wide: &Filter, narrow: &Filter) -> Result<Cover, Me
     ensures answer { IfOk result (λ c. c ≡ answer (tree_of wide.now) (tree_of narrow.now)) }
     ensures yes { IfOk result (λ c. (c ≡ Cover.Yes) ↔ IsCoveredPair (tree_of wide.now) (tree_of narrow.now)) }
     ensures no { IfOk result (λ c. TellsApart (tree_of wide.now) (tree_of narrow.now) c) }
+    ensures other { IfOk result (λ c. (c ≡ Cover.Unknown 0) ↔ (is_plain_pair (tree_of wide.now) (tree_of narrow.now)
+        ≡ false)) }
 {
     decide(alloc, wide, narrow)
 }
@@ -59,9 +61,6 @@ fn decide(alloc: Global, wide: &Filter, narrow: &Filter) -> Result<Cover, Memory
     put_mentions(alloc, &mut mentions, wide_root)?;
     put_mentions(alloc, &mut mentions, narrow_root)?;
     let attributes = attributes(alloc, &mentions)?;
-    if !are_spared(&attributes) {
-        return Ok(Cover::Unknown { parts: 0 });
-    }
     let parts = parts(&attributes);
     if parts > MAX_PARTS {
         return Ok(Cover::Unknown { parts });

@@ -13,6 +13,6 @@ first_from-requires c =
     let of_wide = c.in_ok-put_mentions.ensures ∙ ap₂ (λ b t. b ++ mentions (tree_of t)) c.new-mentions.ensures.items c.root-wide_root.ensures.root in
     let of_both = c.in_ok-put_mentions-2.ensures ∙ ap₂ (λ b t. b ++ mentions (tree_of t)) of_wide c.root-narrow_root.ensures.root in
     let found = c.in_ok-attributes.ensures ∙ ap attributes (c.deref.ensures.value ∙ of_both) in
-    valid_at wide narrow c.deref-4.result.now c.deref-2.result.now c.deref-3.result.now c.are_spared.result c.parts-parts.result
-    (c.deref-4.ensures.value ∙ found) (c.deref-2.ensures.value ∙ found) (c.deref-3.ensures.value ∙ found)
-    c.root-wide_root.ensures.written c.root-narrow_root.ensures.written c.are_spared.ensures c.if-not-are_spared.false c.parts-parts.ensures (omega arith)
+    valid_at wide narrow c.deref-3.result.now c.deref-2.result.now c.parts-parts.result
+    (c.deref-3.ensures.value ∙ found) (c.deref-2.ensures.value ∙ found)
+    c.root-wide_root.ensures.written c.root-narrow_root.ensures.written c.parts-parts.ensures (omega arith)
