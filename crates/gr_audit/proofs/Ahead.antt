@@ -1,11 +1,10 @@
 -- No order goes further than the joint order
-use Rattle.std.proofs.Common.{◌≡◌, ◌≢◌, ◌⊎◌, inl, inr, ℕ, zero, suc, ◌+◌, ◌≤◌, ◌<◌, Bool, true, false, ◌||◌, List, [], ◌∷◌, ◌++◌, length, get_or, set, Option, Some, None, option_map, refl, sym, ap, ap₂, ◌∙◌, subst, arith, append_assoc, append-nil, flat_map}
+use Rattle.std.proofs.Common.{◌≡◌, ◌≢◌, ◌⊎◌, inl, inr, ℕ, zero, suc, ◌+◌, ◌≤◌, ◌<◌, Bool, true, false, List, [], ◌∷◌, ◌++◌, length, get_or, set, Option, Some, None, option_map, refl, sym, ap, ap₂, ◌∙◌, subst, arith, append_assoc, append-nil}
 use Rattle.std.specs.Prelude.{nat_eq, if◌then◌else◌, ◌↔◌}
-use Rattle.std.specs.List.{list_any}
-use Rattle.std.proofs.lemmas.Bool.{cases_Bool, cases_eq, cases_lt, or_cases, or_left, or_right, true≢false, eq-eqb, ne_eqb}
+use Rattle.std.proofs.lemmas.Bool.{cases_eq, cases_lt, or_cases, or_left, or_right, true≢false, eq-eqb, ne_eqb}
 use Rattle.std.proofs.lemmas.List.{get_or-set_same, get_or-set_other, get_or_past}
 use Rattle.std.proofs.lemmas.List.Folds.{list_any-append}
-use Rattle.gr_audit.specs.Joint.{Key, same_key, Link, State, has, can_go, head_goes, first_ready, go_by, go_at, joint_end, MayGo, after, total, IsAhead, GoesFurthest, joint_order, AllGone, HasOrder, JointIsExact, begun, lesser_line, next_line, stays, StaysIsExact}
+use Rattle.gr_audit.specs.Joint.{Key, same_key, Link, State, has, can_go, head_goes, first_ready, go_by, go_at, joint_end, MayGo, after, total, GoesFurthest, joint_order, AllGone, HasOrder, JointIsExact, begun, lesser_line, next_line, stays, StaysIsExact}
 
 abbrev gives_of : List Link → List Key
 gives_of [] = []

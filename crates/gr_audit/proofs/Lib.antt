@@ -1,1 +1,5 @@
 pub mod Ahead
+pub mod Noting
+pub mod Numbered
+pub mod Numbers
+pub mod Turns

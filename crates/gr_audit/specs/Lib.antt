@@ -1,1 +1,3 @@
 pub mod Joint
+pub mod Links
+pub mod Noted
