@@ -1,4 +1,5 @@
 pub mod Ahead
+pub mod Cuts
 pub mod Noting
 pub mod Numbered
 pub mod Numbers
