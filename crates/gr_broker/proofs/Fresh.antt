@@ -77,7 +77,7 @@ module _ (net : Net) (p b : ℕ) (log : Log) where
   opened_by here some h s = ap (λ x. opened_if x (not_empty (net.subscribers_at b))) h ∙ ap (opened_if here) s
 
   abbrev started_if : Bool → View
-  started_if here = record { know = if here then log_know log else []; wants = map (λ _. []) (net.children p b); asks = []; horizon = 0 }
+  started_if here = record { know = if here then log_know log else []; wants = map (λ _. []) (net.children p b); asks = []; horizon = 0; joins = [] }
 
   started_by : (here : Bool) → is_host net p b ≡ here → started net p b log ≡ started_if here
   unfolding started
@@ -98,6 +98,7 @@ module _ (t : TopologyView) (p b : ℕ) where
         hosted = ap (λ (x : Option LogView). is_some x) none ∙ sym e;
         lane = λ m h. absurd (none_some m (sym none ∙ h));
         whole = λ m h. absurd (none_some m (sym none ∙ h));
+        late = λ m h. absurd (none_some m (sym none ∙ h));
       }
 
   -- one that is here
@@ -110,19 +111,20 @@ module _ (t : TopologyView) (p b : ℕ) where
     pub fresh_kept : (v : View) → v ≡ started (net_of t) p b (log_of l.records) → IsKept (net_of t) p b v
     fresh_kept v e = subst (λ (x : View). IsKept (net_of t) p b x) (sym e) (kept_at_start (net_of t) p b (log_of l.records))
 
-    started_over : l.lane ≡ 2 * p → l.broken ≡ false → (v : View) → v ≡ (opened_at (net_of t) p b (log_of l.records)).view → IsKept (net_of t) p b v → (o : Option LogView) → o ≡ Some l → IsStarted t p b v o
-    started_over lane whole v same kept o is = subst (λ (x : Option LogView). IsStarted t p b v x) (sym is) (record {
+    started_over : l.lane ≡ 2 * p → l.broken ≡ false → l.late ≡ t.late → (v : View) → v ≡ (opened_at (net_of t) p b (log_of l.records)).view → IsKept (net_of t) p b v → (o : Option LogView) → o ≡ Some l → IsStarted t p b v o
+    started_over lane whole late v same kept o is = subst (λ (x : Option LogView). IsStarted t p b v x) (sym is) (record {
       view = same;
       kept = kept;
       hosted = sym here;
       lane = λ m h. ap (λ (x : LogView). x.lane) (sym (some_same l m h)) ∙ lane;
       whole = λ m h. ap (λ (x : LogView). x.broken) (sym (some_same l m h)) ∙ whole;
+      late = λ m h. ap (λ (x : LogView). x.late) (sym (some_same l m h)) ∙ late;
     })
 
     -- where no subscriber is here, it is left with that, and tells its log
-    pub started_alone : l.lane ≡ 2 * p → l.broken ≡ false → (v : View) → not_empty (subscribers_of t b) ≡ false → v ≡ started (net_of t) p b (log_of l.records) → (o : Option LogView) → o ≡ Some l → IsStarted t p b v o
-    started_alone lane whole v alone same =
-        started_over lane whole v (same ∙ sym (ap (λ (o : Outcome). o.view) (opened_by (net_of t) p b (log_of l.records) true false here alone))) (fresh_kept v same)
+    pub started_alone : l.lane ≡ 2 * p → l.broken ≡ false → l.late ≡ t.late → (v : View) → not_empty (subscribers_of t b) ≡ false → v ≡ started (net_of t) p b (log_of l.records) → (o : Option LogView) → o ≡ Some l → IsStarted t p b v o
+    started_alone lane whole late v alone same =
+        started_over lane whole late v (same ∙ sym (ap (λ (o : Outcome). o.view) (opened_by (net_of t) p b (log_of l.records) true false here alone))) (fresh_kept v same)
 
     -- that is its line
     pub lines_alone : not_empty (subscribers_of t b) ≡ false → (o : Option LogView) → o ≡ Some l → start_lines t b o p ≡ reopened_line (log_of l.records) p
@@ -137,9 +139,9 @@ module _ (t : TopologyView) (p b : ℕ) where
     learns_nothing piece v e same = ap (λ (x : Known). learn (net_of t) p b x v (log_of l.records)) e ∙ ap (λ (x : View). learn (net_of t) p b [] x (log_of l.records)) same
 
     -- and that is left
-    pub started_with : l.lane ≡ 2 * p → l.broken ≡ false → (v : View) → not_empty (subscribers_of t b) ≡ true → v ≡ learned_nothing.view → IsKept (net_of t) p b v → (o : Option LogView) → o ≡ Some l → IsStarted t p b v o
-    started_with lane whole v some same =
-        started_over lane whole v (same ∙ sym (ap (λ (o : Outcome). o.view) (opened_by (net_of t) p b (log_of l.records) true true here some)))
+    pub started_with : l.lane ≡ 2 * p → l.broken ≡ false → l.late ≡ t.late → (v : View) → not_empty (subscribers_of t b) ≡ true → v ≡ learned_nothing.view → IsKept (net_of t) p b v → (o : Option LogView) → o ≡ Some l → IsStarted t p b v o
+    started_with lane whole late v some same =
+        started_over lane whole late v (same ∙ sym (ap (λ (o : Outcome). o.view) (opened_by (net_of t) p b (log_of l.records) true true here some)))
 
     -- those are its lines
     pub lines_with : not_empty (subscribers_of t b) ≡ true → (o : Option LogView) → o ≡ Some l → start_lines t b o p ≡ reopened_line (log_of l.records) p ++ learned_nothing.lines
@@ -157,11 +159,11 @@ nothing_new know r = let n = new_ticks-is know [] r tt in runs_equal Q 1 1 (new_
 nothing_forward : (net : Net) (p c : ℕ) → forward net p c [] [] ≡ []
 nothing_forward net p c = let n = forward-is net p c [] [] tt tt in runs_equal Q 1 1 (forward net p c [] []) [] n.runs tt (λ t. n.same_at t ∙ both_Q (is_A (wanted_at [] t)))
 
-no_frames : (net : Net) (p b : ℕ) (cs : List ℕ) (ds : List ℕ) → forward_frames net p b [] cs (map (λ _. []) ds) ≡ []
+no_frames : (net : Net) (p b : ℕ) (cs : List ℕ) (ds : List ℕ) → forward_frames [] net p b [] cs (map (λ _. []) ds) ≡ []
 unfolding cut_frames
 no_frames net p b [] ds = refl
 no_frames net p b (c ∷ cs) [] = refl
-no_frames net p b (c ∷ cs) (d ∷ ds) = ap₂ (λ (x : Known) (y : List Frame). know_frames b c p x ++ y) (nothing_forward net p c) (no_frames net p b cs ds)
+no_frames net p b (c ∷ cs) (d ∷ ds) = ap₂ (λ (x : Known) (y : List Frame). know_frames [] b c p x ++ y) (nothing_forward net p c) (no_frames net p b cs ds)
 
 known_runs : (log : Log) (here : Bool) → AreRuns Q (if here then log_know log else [])
 known_runs log true = (log_know-is log).runs
@@ -170,7 +172,7 @@ known_runs log false = tt
 silent_if : (net : Net) (p b : ℕ) (log : Log) (here some : Bool) → (opened_if net p b log here some).frames ≡ []
 unfolding learn started
 silent_if net p b log true true =
-    ap (λ (new : Known). forward_frames net p b new (net.children p b) (map (λ _. []) (net.children p b))) (nothing_new (if is_host net p b then log_know log else []) (known_runs log (is_host net p b)))
+    ap (λ (new : Known). forward_frames [] net p b new (net.children p b) (map (λ _. []) (net.children p b))) (nothing_new (if is_host net p b then log_know log else []) (known_runs log (is_host net p b)))
     ∙ no_frames net p b (net.children p b) (net.children p b)
 silent_if net p b log true false = refl
 silent_if net p b log false some = refl
@@ -201,14 +203,14 @@ quiet (c ∷ cs) = ap (λ (ws : List Wanted). [] ∷ ws) (quiet cs)
 
 -- with as many children as the tree has, none of which has asked
 pub fresh_is : (t : TopologyView) (p b n : ℕ) (know : Known) (wants : List Wanted) (asks : Asked) (horizon : ℕ) (cs : List Child) → wants ≡ replicate n [] → n ≡ length cs
-    → map (λ (c : Child). c.number) cs ≡ children_of t p b → asks ≡ [] → horizon ≡ 0 → ◌≡◌ {A = View} (record { know = know; wants = wants; asks = asks; horizon = horizon }) (fresh_view t p b know)
+    → map (λ (c : Child). c.number) cs ≡ children_of t p b → asks ≡ [] → horizon ≡ 0 → ◌≡◌ {A = View} (record { know = know; wants = wants; asks = asks; horizon = horizon; joins = [] }) (fresh_view t p b know)
 fresh_is t p b n know wants asks horizon cs w many children a h =
     let numbers : List ℕ = map (λ (c : Child). c.number) cs in
     let none : wants ≡ map (λ _. []) (children_of t p b) =
     w ∙ ap (λ k. replicate k []) (many ∙ sym (length-map cs (λ (c : Child). c.number))) ∙ quiet numbers ∙ ap (λ (ks : List ℕ). map (λ _. []) ks) children in
-    ap (λ (ws : List Wanted). let v : View = record { know = know; wants = ws; asks = asks; horizon = horizon } in v) none
-    ∙ ap (λ (x : Asked). let v : View = record { know = know; wants = map (λ _. []) (children_of t p b); asks = x; horizon = horizon } in v) a
-    ∙ ap (λ (k : ℕ). let v : View = record { know = know; wants = map (λ _. []) (children_of t p b); asks = []; horizon = k } in v) h
+    ap (λ (ws : List Wanted). let v : View = record { know = know; wants = ws; asks = asks; horizon = horizon; joins = [] } in v) none
+    ∙ ap (λ (x : Asked). let v : View = record { know = know; wants = map (λ _. []) (children_of t p b); asks = x; horizon = horizon; joins = [] } in v) a
+    ∙ ap (λ (k : ℕ). let v : View = record { know = know; wants = map (λ _. []) (children_of t p b); asks = []; horizon = k; joins = [] } in v) h
 
 -- The line of a log
 

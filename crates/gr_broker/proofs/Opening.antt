@@ -74,8 +74,8 @@ module _ (t : TopologyView) (b n : ℕ) (views : List View) (logs : List (Option
 -- Lanes
 
 -- a lane that was not touched has lost nothing
-pub loses_nothing : (before after : Lane) → after ≡ before → LosesNothing before after
-loses_nothing before after e image left = inl (only_now before.start before.calls image (subst (λ (l : Lane). LeftSince l (moment before) image) e left))
+pub loses_nothing : (late : List ℕ) (before after : Lane) → after ≡ before → LosesNothing late before after
+loses_nothing late before after e image left = inl (only_now before.start before.calls image (subst (λ (l : Lane). LeftSince l (moment before) image) e left))
 
 module _ (t : TopologyView) (b n : ℕ) (before mid after : ℕ → Lane) where
   -- the lane of the next publisher is as it was at first
@@ -89,15 +89,15 @@ module _ (t : TopologyView) (b n : ℕ) (before mid after : ℕ → Lane) where
 
   -- one publisher more touches no lane but its own
   pub touches_more : TouchesLanes t b n before mid → ((k : ℕ) → k ≢ 2 * n → after k ≡ mid k) → (is_host (net_of t) n b ≡ false → (k : ℕ) → after k ≡ mid k)
-      → (is_host (net_of t) n b ≡ true → LosesNothing (mid (2 * n)) (after (2 * n))) → TouchesLanes t b (n + 1) before after
+      → (is_host (net_of t) n b ≡ true → LosesNothing t.late (mid (2 * n)) (after (2 * n))) → TouchesLanes t b (n + 1) before after
   touches_more s others below any = record {
     others = λ k h. other k h (is_host (net_of t) n b) refl;
     any_moment = λ p j here. elim (cases_lt p n) [
-      | inl q ↦ subst (λ (l : Lane). LosesNothing (before (2 * p)) l) (sym (others (2 * p) (λ e. omega (arith, q, e)))) (s.any_moment p q here)
+      | inl q ↦ subst (λ (l : Lane). LosesNothing t.late (before (2 * p)) l) (sym (others (2 * p) (λ e. omega (arith, q, e)))) (s.any_moment p q here)
       | inr q ↦
           let e : p ≡ n = omega (arith, q, j) in
-          subst (λ (k : ℕ). LosesNothing (before (2 * k)) (after (2 * k))) (sym e)
-          (subst (λ (l : Lane). LosesNothing l (after (2 * n))) (next_lane s) (any (subst (λ (k : ℕ). is_host (net_of t) k b ≡ true) e here)))
+          subst (λ (k : ℕ). LosesNothing t.late (before (2 * k)) (after (2 * k))) (sym e)
+          (subst (λ (l : Lane). LosesNothing t.late l (after (2 * n))) (next_lane s) (any (subst (λ (k : ℕ). is_host (net_of t) k b ≡ true) e here)))
     ];
   }
     where
@@ -114,21 +114,21 @@ module _ (t : TopologyView) (b n : ℕ) (before mid after : ℕ → Lane) where
     others = λ k h. s.others k (λ p j. h p (omega (arith, j, le)));
     any_moment = λ p j here. elim (cases_lt p n) [
       | inl q ↦ s.any_moment p q here
-      | inr q ↦ loses_nothing (before (2 * p)) (after (2 * p)) (s.others (2 * p) (λ k i there e. omega (arith, q, i, e)))
+      | inr q ↦ loses_nothing t.late (before (2 * p)) (after (2 * p)) (s.others (2 * p) (λ k i there e. omega (arith, q, i, e)))
     ];
   }
 
   -- each lane is opened as it was found: no later publisher touches it
-  opened_more : (logs : List (Option LogView)) (l : Option LogView) → length logs ≡ n → AreOpened logs before mid → TouchesLanes t b n before mid
-      → ((k : ℕ) → k ≢ 2 * n → after k ≡ mid k) → ((m : LogView) → l ≡ Some m → Opens (mid (2 * n)) (after (2 * n)) (Ok m)) → AreOpened (logs ++ l ∷ []) before after
+  opened_more : (logs : List (Option LogView)) (l : Option LogView) → length logs ≡ n → AreOpened t logs before mid → TouchesLanes t b n before mid
+      → ((k : ℕ) → k ≢ 2 * n → after k ≡ mid k) → ((m : LogView) → l ≡ Some m → Opens t.late (mid (2 * n)) (after (2 * n)) (Ok m)) → AreOpened t (logs ++ l ∷ []) before after
   opened_more logs l many opened s others one p m e = elim (cases_lt p n) [
     | inl q ↦
-        subst (λ (x : Lane). Opens (before (2 * p)) x (Ok m)) (sym (others (2 * p) (λ f. omega (arith, q, f))))
+        subst (λ (x : Lane). Opens t.late (before (2 * p)) x (Ok m)) (sym (others (2 * p) (λ f. omega (arith, q, f))))
         (opened p m (sym (get_or_append_left logs (l ∷ []) None p (omega (arith, q, many))) ∙ e))
     | inr q ↦ elim (cases_eq p n) [
       | inl f ↦
-          subst (λ (k : ℕ). Opens (before (2 * k)) (after (2 * k)) (Ok m)) (sym f)
-          (subst (λ (x : Lane). Opens x (after (2 * n)) (Ok m)) (next_lane s)
+          subst (λ (k : ℕ). Opens t.late (before (2 * k)) (after (2 * k)) (Ok m)) (sym f)
+          (subst (λ (x : Lane). Opens t.late x (after (2 * n)) (Ok m)) (next_lane s)
           (one m (sym (get_or_push logs l None n many) ∙ subst (λ (k : ℕ). get_or (logs ++ l ∷ []) k None ≡ Some m) f e)))
       | inr f ↦ absurd (none_some m (sym (get_or_past (logs ++ l ∷ []) p None (omega (arith, q, f, many, length_push logs l))) ∙ e))
     ]
@@ -144,8 +144,8 @@ module _ (t : TopologyView) (b n : ℕ) (old new : List Held) (h : Held) (e : ne
       rw (e, map_push held_view old h, map_push (λ (x : Held). x.log) old h, says) (started_more t b n (map held_view old) (map (λ (x : Held). x.log) old) lines (held_view h) h.log s one)
 
   -- and their lanes
-  pub opened_next : (before mid after : ℕ → Lane) → length (map (λ (x : Held). x.log) old) ≡ n → AreOpened (map (λ (x : Held). x.log) old) before mid → TouchesLanes t b n before mid
-      → ((k : ℕ) → k ≢ 2 * n → after k ≡ mid k) → ((m : LogView) → h.log ≡ Some m → Opens (mid (2 * n)) (after (2 * n)) (Ok m)) → AreOpened (map (λ (x : Held). x.log) new) before after
+  pub opened_next : (before mid after : ℕ → Lane) → length (map (λ (x : Held). x.log) old) ≡ n → AreOpened t (map (λ (x : Held). x.log) old) before mid → TouchesLanes t b n before mid
+      → ((k : ℕ) → k ≢ 2 * n → after k ≡ mid k) → ((m : LogView) → h.log ≡ Some m → Opens t.late (mid (2 * n)) (after (2 * n)) (Ok m)) → AreOpened t (map (λ (x : Held). x.log) new) before after
   opened_next before mid after many opened s others one =
       rw (e, map_push (λ (x : Held). x.log) old h) (opened_more t b n before mid after (map (λ (x : Held). x.log) old) h.log many opened s others one)
 
@@ -168,15 +168,15 @@ some_log (Some m) e = (m, refl)
 
 -- the first lane that holds no log stops the start, so those before it hold one
 pub damaged_at : (t : TopologyView) (b n q at : ℕ) (views : List View) (logs : List (Option LogView)) (lines : List Report) (before mid : ℕ → Lane)
-    → n < length t.publishers → AreStarted t b n views logs lines → AreOpened logs before mid → TouchesLanes t b n before mid
-    → q ≡ n → is_host (net_of t) n b ≡ true → log_text (content (mid (2 * n))) ≡ Err at → IsDamagedAt t b q at before
+    → n < length t.publishers → AreStarted t b n views logs lines → AreOpened t logs before mid → TouchesLanes t b n before mid
+    → q ≡ n → is_host (net_of t) n b ≡ true → log_text t.late (content (mid (2 * n))) ≡ Err at → IsDamagedAt t b q at before
 damaged_at t b n q at views logs lines before mid j s opened touched e here fault =
     subst (λ (p : ℕ). IsDamagedAt t b p at before) (sym e) (record {
       publisher = j;
       hosted = here;
-      fault = subst (λ (l : Lane). log_text (content l) ≡ Err at) (next_lane t b n before mid mid touched) fault;
+      fault = subst (λ (l : Lane). log_text t.late (content l) ≡ Err at) (next_lane t b n before mid mid touched) fault;
       before = λ p k there. let m = some_log (get_or logs p None) ((s.each p k).hosted ∙ there) in
-          is_ok_of (log_text (content (before (2 * p)))) m.0.records (opened p m.0 m.1).gives;
+          is_ok_of (log_text t.late (content (before (2 * p)))) m.0.records (opened p m.0 m.1).gives;
     })
 
 -- The broker that has started
@@ -205,6 +205,7 @@ module _ (t : TopologyView) (b : ℕ) (here : List ℕ) (branches : List Branch)
       kept = λ p k. (s.each p k).kept;
       hosted = λ p k. (s.each p k).hosted;
       lanes = λ p l e. (s.each p (let k : p < length t.publishers = omega (arith, place_of_log logs p l e, s.as_many) in k)).lane l e;
+      late = λ p l e. (s.each p (let k : p < length t.publishers = omega (arith, place_of_log logs p l e, s.as_many) in k)).late l e;
     };
     views = λ p k. (s.each p k).view;
     lines = s.told;
@@ -214,8 +215,8 @@ module _ (t : TopologyView) (b : ℕ) (here : List ℕ) (branches : List Branch)
   }
 
   -- and its lanes were opened
-  pub opens_lanes : (before after : ℕ → Lane) → AreStarted t b (length t.publishers) views logs told.reports → AreOpened logs before after → TouchesLanes t b (length t.publishers) before after
-      → OpensLanes the_broker before after
+  pub opens_lanes : (before after : ℕ → Lane) → AreStarted t b (length t.publishers) views logs told.reports → AreOpened t logs before after → TouchesLanes t b (length t.publishers) before after
+      → OpensLanes t the_broker before after
   opens_lanes before after s opened touched = record {
     opened = opened;
     others = λ n h. touched.others n (λ p j here. h p ((s.each p j).hosted ∙ here));

@@ -139,6 +139,26 @@ stays_on n result l l' r on s = after_leaves (OnLane n) result l l' r on (logged
     failed_on None on m e = cc
     failed_on (Some x) on m e = ap (λ z. z.lane) (sym (some_is e)) ∙ on x refl
 
+-- the subscribers that may join in a log, where there is one
+abbrev pub HasLate : List ℕ → Option LogView → Type 0
+HasLate late o = (l : LogView) → o ≡ Some l → l.late ≡ late
+
+-- and they stay those
+pub stays_late : {T : Type 0} (late : List ℕ) (result : Result T LogFault) (l l' : Option LogView) (r : Option Record) → HasLate late l → Leaves l (with_logged l r) (with_failed l) l' result → HasLate late l'
+stays_late late result l l' r on s = after_leaves (HasLate late) result l l' r on (logged_on l r on) (failed_on l on) s
+  where
+    some_is : {x y : LogView} → Some x ≡ Some y → x ≡ y
+    some_is {x} e = ap (λ o. elim o [ Some z ↦ z | None ↦ x ]) e
+
+    logged_on : (l : Option LogView) (r : Option Record) → HasLate late l → HasLate late (with_logged l r)
+    logged_on None r on m e = cc
+    logged_on (Some x) None on m e = on m e
+    logged_on (Some x) (Some y) on m e = ap (λ z. z.late) (sym (some_is e)) ∙ on x refl
+
+    failed_on : (l : Option LogView) → HasLate late l → HasLate late (with_failed l)
+    failed_on None on m e = cc
+    failed_on (Some x) on m e = ap (λ z. z.late) (sym (some_is e)) ∙ on x refl
+
 -- what an answer gives of its own, by another fact of it
 pub both_ok : {T E : Type 0} {P R S : Type 0} (r : Result T E) → (P → R → S) → OnOk r P → OnOk r R → OnOk r S
 both_ok (Ok x) f a b = f a b

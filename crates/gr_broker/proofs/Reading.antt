@@ -31,6 +31,7 @@ fails_as kind.BadOrder at read n h = h
 fails_as kind.BadEvent at read n h = h
 fails_as kind.Trailing at read n h = h
 fails_as kind.TooLong at read n h = h
+fails_as kind.BadJoins at read n h = h
 
 pub fails : {X : Type 0} (f : FrameFault) (read : Result X FrameFault) → (f.kind ≡ kind.Memory → ⊥) → Fails f read → read ≡ Err f
 fails f read n h = fails_as f.kind f.at read n h

@@ -4,6 +4,7 @@ use Rattle.std.proofs.Common.{◌≡◌, ◌≢◌, ◌⊎◌, inl, inr, ℕ, su
 use Rattle.std.specs.Prelude.{◌↔◌, ◌^◌, nat_eq, if◌then◌else◌, IsSome}
 use Rattle.std.specs.List.{list_any}
 use Rattle.std.proofs.lemmas.Bool.{cases_lt, cases_eq, true≢false, eqb-true, ne_eqb}
+use Rattle.gr_event.specs.Joins.{Joins}
 use Rattle.gr_tick.specs.Runs.{AreRuns, tabulate, tabulate_from, tabulate_sorted, sorted, points}
 use Rattle.gr_know.specs.declared.values.K.{K}
 use Rattle.gr_know.specs.declared.values.K.TheVariants.{Q}
@@ -120,7 +121,7 @@ not_host t p b u is i e = go (cases_eq (host_of t p) b)
 -- What the machine does with a frame, by its body
 
 -- what is known is learned
-pub receive_knowledge : (net : Net) (now : ℕ) (f : Frame) (v : View) (log : Log) (runs : Known) → f.body ≡ body.Knowledge runs → clashes v.know runs ≡ false → receive net now f v log ≡ learn net f.head.publisher f.head.to runs v log
+pub receive_knowledge : {js : Joins} (net : Net) (now : ℕ) (f : Frame) (v : View) (log : Log) (runs : Known) → f.body ≡ body.Knowledge runs js → clashes v.know runs ≡ false → receive net now f v log ≡ learn net f.head.publisher f.head.to runs v log
 unfolding receive
 receive_knowledge net now f v log runs e c = rw (receive, e, c) refl
 
@@ -160,7 +161,7 @@ learned_by net f v log runs q = elim q [ true ↦ record { view = v; log = log; 
 abbrev received_by : Net → ℕ → Frame → View → Log → Body → Outcome
 received_by net now f v log y =
     elim y [
-      | body.Knowledge runs ↦ learned_by net f v log runs (clashes v.know runs)
+      | body.Knowledge runs js ↦ learned_by net f v log runs (clashes v.know runs)
       | body.Curiosity runs ↦ curiosity net f.head.publisher f.head.to now f.head.from (place_of f.head.from (net.children f.head.publisher f.head.to)) runs v log
       | body.Expect tick ↦ expect net f.head.publisher f.head.to now tick v log
     ]
@@ -175,7 +176,7 @@ receive_on_log net now f v log = go f.body
     learned runs false = learn_on_log net f.head.publisher f.head.to runs v log
 
     go : (y : Body) → received_by net now f v log y ≡ on_log (received_by net now f v empty_log y) log
-    go (body.Knowledge runs) = learned runs (clashes v.know runs)
+    go (body.Knowledge runs js) = learned runs (clashes v.know runs)
     go (body.Curiosity runs) = curiosity_on_log net f.head.publisher f.head.to now f.head.from (place_of f.head.from (net.children f.head.publisher f.head.to)) runs v log
     go (body.Expect tick) = expect_on_log net f.head.publisher f.head.to now tick v log
 
@@ -214,7 +215,7 @@ forward_none net p c w = tabulate_none (λ t. if is_A (wanted_at w t) then Q els
     go true = refl
     go false = refl
 
-forward_frames_none : (net : Net) (p b : ℕ) (cs : List ℕ) (ws : List Wanted) → forward_frames net p b [] cs ws ≡ []
+forward_frames_none : (net : Net) (p b : ℕ) (cs : List ℕ) (ws : List Wanted) → forward_frames [] net p b [] cs ws ≡ []
 unfolding cut_frames
 forward_frames_none net p b [] ws = refl
 forward_frames_none net p b (c ∷ cs) [] = refl
@@ -228,16 +229,16 @@ learn_none net p b v log = rw (new_ticks_none v.know) (forward_frames_none net p
 -- What a frame that fits is answered
 
 -- one that clashes
-pub answers_clash : (net : Net) (now t : ℕ) (v : View) (f : Frame) (runs : Known) (k x : K) → f.body ≡ body.Knowledge runs → AreRuns Q v.know → AreRuns Q runs →
+pub answers_clash : {js : Joins} (net : Net) (now t : ℕ) (v : View) (f : Frame) (runs : Known) (k x : K) → f.body ≡ body.Knowledge runs js → AreRuns Q v.know → AreRuns Q runs →
     IsLeastClash (known_at v.know) (known_at runs) t k x → receipt_of_fit net now v f ≡ clash t k x
 unfolding receipt_of_fit
 answers_clash net now t v f runs k x e a b l = rw (receipt_of_fit, e, least_is v.know runs t k x a b l, l.kept_is, l.came_is) (ap (λ y. clash t (known_at v.know t) (said y)) e)
   where
     said : Body → K
-    said y = elim y [ body.Knowledge rs ↦ known_at rs t | _ ↦ Q ]
+    said y = elim y [ body.Knowledge rs js ↦ known_at rs t | _ ↦ Q ]
 
 -- knowledge that does not clash
-pub answers_knowledge : (net : Net) (now p b : ℕ) (v : View) (f : Frame) (runs : Known) → f.head.publisher ≡ p → f.head.to ≡ b → f.body ≡ body.Knowledge runs → AreRuns Q v.know → AreRuns Q runs →
+pub answers_knowledge : {js : Joins} (net : Net) (now p b : ℕ) (v : View) (f : Frame) (runs : Known) → f.head.publisher ≡ p → f.head.to ≡ b → f.body ≡ body.Knowledge runs js → AreRuns Q v.know → AreRuns Q runs →
     ((t : ℕ) → clash_K (known_at v.know t) (known_at runs t) ≡ false) → receipt_of_fit net now v f ≡ taken (learn net p b runs v empty_log)
 unfolding receipt_of_fit
 answers_knowledge net now p b v f runs ep eb e x y none =

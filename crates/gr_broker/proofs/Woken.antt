@@ -117,6 +117,14 @@ module _ (t : TopologyView) (p b now : ℕ) (v v' : View) (l l' : LogView) where
   here_lane (Err fault.Reopen) k = ap (λ (y : HostView). y.log.lane) (k.closed refl)
   here_lane (Err (fault.Damaged at)) k = absurd (k.never_damaged at refl)
 
+  -- and the subscribers that may join stay those
+  pub here_late : {T : Type 0} (r : Result T LogFault) → LeftHere r → l'.late ≡ l.late
+  here_late (Ok told) k = ap (λ (y : HostView). y.log.late) k.ok
+  here_late (Err fault.Memory) k = ⊎_elim (λ e. ap (λ (y : HostView). y.log.late) e) (λ e. ap (λ (y : HostView). y.log.late) e) (k.memory refl)
+  here_late (Err fault.Disk) k = ⊎_elim (λ e. ap (λ (y : HostView). y.log.late) e) (λ e. ap (λ (y : HostView). y.log.late) e) (k.failed refl)
+  here_late (Err fault.Reopen) k = ap (λ (y : HostView). y.log.late) (k.closed refl)
+  here_late (Err (fault.Damaged at)) k = absurd (k.never_damaged at refl)
+
   -- what is told
   pub here_told : (x : PartView) (r : Result Answer LogFault) → x ≡ part_with v (Some l) → is_host (net_of t) p b ≡ true →
       IfOk r (λ told. Tells (wake_host (net_of t) p b now v (log_of l.records)) told) → IfOk r (λ told. Tells (part_wake t p b now x) told)
@@ -216,8 +224,8 @@ module _ (b : BrokerView) (p : ℕ) (within : p < length b.logs) where
 
   -- it is still a broker of its topology
   pub broker_fits : (t : TopologyView) (x : PartView) → IsBrokerOf t b → p < length t.publishers → IsKept (net_of t) p b.number x.view → is_some x.log ≡ is_some (log_in b p) →
-      ((l : LogView) → x.log ≡ Some l → l.lane ≡ 2 * p) → IsBrokerOf t (with_part b p x)
-  broker_fits t x f lt kept hosted lanes = record {
+      ((l : LogView) → x.log ≡ Some l → l.lane ≡ 2 * p) → ((l : LogView) → x.log ≡ Some l → l.late ≡ t.late) → IsBrokerOf t (with_part b p x)
+  broker_fits t x f lt kept hosted lanes late = record {
     number = f.number;
     here = f.here;
     branches = f.branches;
@@ -226,11 +234,16 @@ module _ (b : BrokerView) (p : ℕ) (within : p < length b.logs) where
     kept = each_set (λ q v. IsKept (net_of t) q b.number v) b.views p x.view blank_view (length t.publishers) (omega (arith, lt, f.views)) f.kept kept;
     hosted = each_set (λ q (o : Option LogView). is_some o ≡ is_host (net_of t) q b.number) b.logs p x.log None (length t.publishers) within f.hosted (hosted ∙ f.hosted p lt);
     lanes = λ q l e. at q l e (cases_eq q p);
+    late = λ q l e. of_topology q l e (cases_eq q p);
   }
     where
       at : (q : ℕ) (l : LogView) → log_in (with_part b p x) q ≡ Some l → (q ≡ p) ⊎ (q ≢ p) → l.lane ≡ 2 * q
       at q l e (inl same) = lanes l (sym (log_put x) ∙ ap (log_in (with_part b p x)) (sym same) ∙ e) ∙ ap (λ (n : ℕ). 2 * n) (sym same)
       at q l e (inr other) = f.lanes q l (sym (get_or-set_other b.logs p q x.log None other) ∙ e)
+
+      of_topology : (q : ℕ) (l : LogView) → log_in (with_part b p x) q ≡ Some l → (q ≡ p) ⊎ (q ≢ p) → l.late ≡ t.late
+      of_topology q l e (inl same) = late l (sym (log_put x) ∙ ap (log_in (with_part b p x)) (sym same) ∙ e)
+      of_topology q l e (inr other) = f.late q l (sym (get_or-set_other b.logs p q x.log None other) ∙ e)
 
   -- and each log stands
   pub broker_stands : (before after : ℕ → Lane) (x : PartView) → LogsStand before b → ((l : LogView) → x.log ≡ Some l → IsReady l (after (2 * p))) → ((n : ℕ) → n ≢ 2 * p → after n ≡ before n) → LogsStand after (with_part b p x)

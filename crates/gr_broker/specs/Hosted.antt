@@ -72,7 +72,7 @@ AppendsAt b p logged before after result =
 
 -- a log with a further record, or none
 abbrev pub logged : LogView → Option Record → LogView
-logged l r = record { lane = l.lane; records = records_with l.records r; broken = l.broken }
+logged l r = record { lane = l.lane; records = records_with l.records r; broken = l.broken; late = l.late }
 
 -- What a call does to a lane that logs one record or none, and then another or none.
 pub record AppendsTwice {T : Type 0} (l : LogView) (first second : Option Record) (before after : Lane)
@@ -84,7 +84,7 @@ pub record AppendsTwice {T : Type 0} (l : LogView) (first second : Option Record
   pub two : OnOk answer (Appends (logged l first) second between after result)
   -- at every moment of the call a crash leaves the list before, with the first record, or with both
   pub any_moment : l.broken ≡ false → (image : List ℕ) → LeftSince after (moment before) image
-      → Reads l.records first image ⊎ Reads (records_with l.records first) second image
+      → Reads l.late l.records first image ⊎ Reads l.late (records_with l.records first) second image
 
 abbrev pub AppendsTwiceAt : {T : Type 0} → BrokerView → ℕ → Option Record → Option Record → (ℕ → Lane) → (ℕ → Lane)
     → Result T LogFault → Type 0

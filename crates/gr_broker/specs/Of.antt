@@ -20,6 +20,7 @@ pub record IsBrokerOf (t : TopologyView) (b : BrokerView) : Type 0 where
   pub kept : (p : ℕ) → p < length t.publishers → IsKept (net_of t) p b.number (view_in b p)
   pub hosted : (p : ℕ) → p < length t.publishers → is_some (log_in b p) ≡ is_host (net_of t) p b.number
   pub lanes : (p : ℕ) (l : LogView) → log_in b p ≡ Some l → l.lane ≡ 2 * p
+  pub late : (p : ℕ) (l : LogView) → log_in b p ≡ Some l → l.late ≡ t.late
 
 -- each log that is not broken stands as the last call left it
 abbrev pub LogsStand : (ℕ → Lane) → BrokerView → Type 0

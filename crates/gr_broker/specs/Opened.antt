@@ -37,19 +37,19 @@ pub record StartsOver (t : TopologyView) (n : ℕ) (b : BrokerView) (told : Outc
   pub whole : (p : ℕ) (l : LogView) → log_in b p ≡ Some l → l.broken ≡ false
 
 -- the lane of each publisher that is here was opened as its log, and no other lane was touched
-pub record OpensLanes (b : BrokerView) (before after : ℕ → Lane) : Type 0 where
-  pub opened : (p : ℕ) (l : LogView) → log_in b p ≡ Some l → Opens (before (2 * p)) (after (2 * p)) (Ok l)
+pub record OpensLanes (t : TopologyView) (b : BrokerView) (before after : ℕ → Lane) : Type 0 where
+  pub opened : (p : ℕ) (l : LogView) → log_in b p ≡ Some l → Opens t.late (before (2 * p)) (after (2 * p)) (Ok l)
   pub others : (n : ℕ) → ((p : ℕ) → IsSome (log_in b p) → n ≢ 2 * p) → after n ≡ before n
 
 -- at every moment a crash leaves what it might have left before, or what reads as before
-abbrev pub LosesNothing : Lane → Lane → Type 0
-LosesNothing before after = (image : List ℕ) → LeftSince after (moment before) image
-    → MayLeave before image ⊎ (log_text image ≡ log_text (content before))
+abbrev pub LosesNothing : List ℕ → Lane → Lane → Type 0
+LosesNothing late before after = (image : List ℕ) → LeftSince after (moment before) image
+    → MayLeave before image ⊎ (log_text late image ≡ log_text late (content before))
 
 -- the lane of a publisher at a broker holds no log, with the place of its first fault; those of the publishers before
 -- it hold one
 pub record IsDamagedAt (t : TopologyView) (b p at : ℕ) (lanes : ℕ → Lane) : Type 0 where
   pub publisher : p < length t.publishers
   pub hosted : is_host (net_of t) p b ≡ true
-  pub fault : log_text (content (lanes (2 * p))) ≡ Err at
-  pub before : (q : ℕ) → q < p → is_host (net_of t) q b ≡ true → IsOk (log_text (content (lanes (2 * q))))
+  pub fault : log_text t.late (content (lanes (2 * p))) ≡ Err at
+  pub before : (q : ℕ) → q < p → is_host (net_of t) q b ≡ true → IsOk (log_text t.late (content (lanes (2 * q))))

@@ -36,7 +36,7 @@ comes_over up children f = elim f.body [
 
 -- what a frame says of a tick
 abbrev pub came_at : Frame → ℕ → K
-came_at f t = elim f.body [ body.Knowledge runs ↦ known_at runs t | _ ↦ Q ]
+came_at f t = elim f.body [ body.Knowledge runs js ↦ known_at runs t | _ ↦ Q ]
 
 -- a frame that fits clashes with what is kept, or is taken: the machine's call, by which the log passes untouched
 unfoldable pub receipt_of_fit : Net → ℕ → View → Frame → Receipt

@@ -31,7 +31,13 @@ fault_of p (fault.Damaged at) = refused.Damaged p at
 
 -- what is kept of a publisher before anything was asked or handed over
 abbrev pub fresh_view : TopologyView → ℕ → ℕ → Known → View
-fresh_view t p b know = record { know = know; wants = map (λ _. []) (children_of t p b); asks = []; horizon = 0 }
+fresh_view t p b know = record {
+  know = know;
+  wants = map (λ _. []) (children_of t p b);
+  asks = [];
+  horizon = 0;
+  joins = [];
+}
 
 -- what the start of a publisher tells, over its log
 abbrev pub start_lines : TopologyView → ℕ → Option LogView → ℕ → List Report
@@ -44,6 +50,7 @@ pub record IsStarted (t : TopologyView) (p b : ℕ) (v : View) (l : Option LogVi
   pub hosted : is_some l ≡ is_host (net_of t) p b
   pub lane : (m : LogView) → l ≡ Some m → m.lane ≡ 2 * p
   pub whole : (m : LogView) → l ≡ Some m → m.broken ≡ false
+  pub late : (m : LogView) → l ≡ Some m → m.late ≡ t.late
 
 -- the same of a site: whether its publisher is here, what is kept of it, and what its start tells
 abbrev pub is_here : Site → Bool
@@ -64,11 +71,12 @@ pub record AreStarted (t : TopologyView) (b upto : ℕ) (views : List View) (log
   pub told : lines ≡ flat_map (λ p. start_lines t b (get_or logs p None) p) (numbers upto)
 
 -- the lane of each of these publishers that is here was opened as its log
-abbrev pub AreOpened : List (Option LogView) → (ℕ → Lane) → (ℕ → Lane) → Type 0
-AreOpened logs before after =
-    (p : ℕ) (l : LogView) → get_or logs p None ≡ Some l → Opens (before (2 * p)) (after (2 * p)) (Ok l)
+abbrev pub AreOpened : TopologyView → List (Option LogView) → (ℕ → Lane) → (ℕ → Lane) → Type 0
+AreOpened t logs before after =
+    (p : ℕ) (l : LogView) → get_or logs p None ≡ Some l → Opens t.late (before (2 * p)) (after (2 * p)) (Ok l)
 
 -- no other lane was touched than those of so many publishers that are here, and those have lost nothing
 pub record TouchesLanes (t : TopologyView) (b upto : ℕ) (before after : ℕ → Lane) : Type 0 where
   pub others : (n : ℕ) → ((p : ℕ) → p < upto → is_host (net_of t) p b ≡ true → n ≢ 2 * p) → after n ≡ before n
-  pub any_moment : (p : ℕ) → p < upto → is_host (net_of t) p b ≡ true → LosesNothing (before (2 * p)) (after (2 * p))
+  pub any_moment : (p : ℕ) → p < upto → is_host (net_of t) p b ≡ true
+      → LosesNothing t.late (before (2 * p)) (after (2 * p))

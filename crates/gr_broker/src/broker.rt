@@ -102,7 +102,8 @@ impl Broker {
     ) -> Result<Started, BrokerFault>
         requires { number < length topo.now.brokers }
         ensures starts { IfOk result (λ s. StartsOver topo.now number s.broker s.outcome) }
-        ensures opens { D.tells → IfOk result (λ s. OpensLanes s.broker (D.lane_of disk.old) (D.lane_of disk.new)) }
+        ensures opens { D.tells → IfOk result (λ s.
+            OpensLanes topo.now s.broker (D.lane_of disk.old) (D.lane_of disk.new)) }
         ensures damaged { D.tells → (p at : ℕ) → result ≡ Err (BrokerFault.Damaged p at)
             → IsDamagedAt topo.now number p at (D.lane_of disk.old) }
         ensures damaged_here { (p at : ℕ) → result ≡ Err (BrokerFault.Damaged p at)
@@ -116,7 +117,7 @@ impl Broker {
         // At every moment a crash leaves of a lane what it might have left before, or what reads as before
         ensures any_moment { D.tells → (p : ℕ) → p < length topo.now.publishers
             → is_host (net_of topo.now) p number ≡ true
-            → LosesNothing (D.lane_of disk.old (2 * p)) (D.lane_of disk.new (2 * p)) }
+            → LosesNothing topo.now.late (D.lane_of disk.old (2 * p)) (D.lane_of disk.new (2 * p)) }
         ensures tally { let f = D.faults disk.old in let s = D.stops disk.old in
             Tally f s (D.faults disk.new) (D.stops disk.new) (log_answer result) }
         // On a faultless disk only a lane that was stopped makes it fail
@@ -138,7 +139,12 @@ impl Broker {
             Ok(placed) => placed,
             Err(_) => return Err(BrokerFault::Memory),
         };
-        let opened = match open_publishers(alloc, topo, number, here.as_slice(), &placed, disk) {
+        let late = match topo.lates(alloc) {
+            Ok(late) => late,
+            Err(_) => return Err(BrokerFault::Memory),
+        };
+        let (here_now, late_now) = (here.as_slice(), late.as_slice());
+        let opened = match open_publishers(alloc, topo, number, here_now, late_now, &placed, disk) {
             Ok(opened) => opened,
             Err(fault) => return Err(fault),
         };

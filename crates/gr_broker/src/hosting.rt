@@ -6,7 +6,7 @@ ghost use Rattle.std.specs.Prelude.{None, Err, IsErr, IsSome, IsErrOf, IfOk, OnO
 ghost use Rattle.gr_out.specs.Stops.{StaysFaultless};
 ghost use Rattle.gr_tick.specs.declared.TheConstants.{MAX_TICK};
 ghost use Rattle.gr_curio.specs.Wants.{runs_of};
-ghost use Rattle.gr_publog.specs.State.{state_of, may_follow};
+ghost use Rattle.gr_publog.specs.State.{standing_of, may_follow};
 ghost use Rattle.gr_publog.specs.Crash.{with_record, failed};
 ghost use Rattle.gr_publog.specs.Calls.{IsReady, GoesOn, Appends, Tally, Causes, Leaves};
 ghost use Rattle.gr_pubend.specs.Log.{Log as MachineLog, log_of};
@@ -52,7 +52,7 @@ fn log_and_learn<D: Disk>(
     requires host { is_host (net_of site.now.topo.now) site.now.publisher site.now.broker ≡ true }
     requires kept { IsKept (net_of site.now.topo.now) site.now.publisher site.now.broker (held_view held.old) }
     requires whole { log.old.broken ≡ false }
-    requires follows { may_follow (state_of log.old.records) entry.now ≡ true }
+    requires follows { may_follow (standing_of log.old.late log.old.records) entry.now ≡ true }
     requires stands { D.tells → IsReady log.old (D.lane_of disk.old log.old.lane) }
     ensures adds { OnOk result ((l : MachineLog) →
         let o : MachineOutcome = learn (net_of site.now.topo.now) site.now.publisher site.now.broker fresh.now
@@ -437,7 +437,7 @@ fn cut_upto<D: Disk>(
     requires site { IsSite site.now }
     requires due { tick_cut (net_of site.now.topo.now) site.now.publisher site.now.broker (held_view held.now)
         (log_of log.old.records) ≡ Some tick }
-    requires follows { may_follow (state_of log.old.records) (Record.Cut tick) ≡ true }
+    requires follows { may_follow (standing_of log.old.late log.old.records) (Record.Cut tick) ≡ true }
     requires stands { D.tells → IsReady log.old (D.lane_of disk.old log.old.lane) }
     ensures lines { OnOk result (into.new.reports
         ≡ mark_lines site.now.publisher marked ++ cut_lines site.now.publisher

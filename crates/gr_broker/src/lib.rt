@@ -4,6 +4,23 @@
 //! A call takes the topology, a moment and what came, and answers what is told and sent. It first works out what it
 //! will say by reading, then takes the memory for every edit, then edits in place, which cannot fail. So a call that
 //! wants memory has changed nothing.
+//!
+//! `specs/Seen.antt` says what a contract sees of a broker, `specs/Of.antt` what holds between calls. Each call is one
+//! equation with the machine in `gr_model/specs/Broker.antt`.
+//!
+//! | File | What it does | What its contracts cite |
+//! |---|---|---|
+//! | `broker` | The calls of a broker; they lend a `Seat` to those below. | `Hosted`, `Receipt`, `Opened` |
+//! | `starting` | Starts: opens the logs of the publishers that are here. | `started`; `Opened`, `Starting` |
+//! | `publishing` | For a publish, takes out a publisher's part and its log; puts the log back. | `Hosted` |
+//! | `hosting` | At the host: logs an event and then learns it, marks silence, cuts. | `publish`, `wake_host`; `Host` |
+//! | `waking` | For a wake, takes out a part; wakes the host, or a broker below it. | `Hosted`, `Parts` |
+//! | `receiving` | Takes a datagram: it is decoded, then it must fit, then it must not clash. | `Receipt` |
+//! | `outcome` | Why a call is refused or a datagram dropped; lists to be used again. | none |
+//! | `law` | Laws of the machine's calls. | `learn`, `receive`, `clashes` |
+//!
+//! What these calls do tick by tick is said by the rules `Publishes`, `HostWakes`, `Wakes`, and `Comes` for a frame, in
+//! `gr_model_calls/specs/Rules.antt`. What is learned, asked and answered for one publisher is in `gr_broker_relay`.
 #![tactic(auto)]
 
 mod broker;

@@ -100,6 +100,8 @@ pub(crate) fn publish_in<D: Disk>(
         → IsKept (net_of seat.now.topo.now) q seat.now.number (get_or (map held_view held.old.items) q blank_view) }
     requires here { IsSome (get_or (logs_of held.old.items) p None) }
     requires lanes { (q : ℕ) (l : LogView) → get_or (logs_of held.old.items) q None ≡ Some l → l.lane ≡ 2 * q }
+    requires late { (q : ℕ) (l : LogView) → get_or (logs_of held.old.items) q None ≡ Some l
+        → l.late ≡ seat.now.topo.now.late }
     requires now { now ≤ MAX_TICK }
     requires blank { IsBlank into.old }
     requires stands { D.tells → (q : ℕ) (l : LogView) → get_or (logs_of held.old.items) q None ≡ Some l
@@ -117,6 +119,8 @@ pub(crate) fn publish_in<D: Disk>(
     ensures hosted { (q : ℕ) → is_some (get_or (logs_of held.new.items) q None)
         ≡ is_some (get_or (logs_of held.old.items) q None) }
     ensures lanes { (q : ℕ) (l : LogView) → get_or (logs_of held.new.items) q None ≡ Some l → l.lane ≡ 2 * q }
+    ensures late { (q : ℕ) (l : LogView) → get_or (logs_of held.new.items) q None ≡ Some l
+        → l.late ≡ seat.now.topo.now.late }
     ensures many { length held.new.items ≡ length held.old.items }
     ensures lane { let b = broker_at seat.now held.old.items in D.tells
         → AppendsAt b p (publish_logs_at b p now number event.now) (D.lane_of disk.old) (D.lane_of disk.new) result }

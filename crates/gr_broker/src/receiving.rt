@@ -2,13 +2,14 @@
 
 ghost use Rattle.std.specs.Prelude.{◌≡◌, ◌≢◌, ℕ, ◌<◌, true, false, nat_eq, List, length, map, get_or, MatchOption, Ok};
 ghost use Rattle.std.specs.Prelude.{IfOk, IfErr, OnOk, OnErr};
-ghost use Rattle.std.specs.List.{list_any};
+ghost use Rattle.std.specs.List.{list_any, list_all};
 ghost use Rattle.gr_frame.specs.Decode.{frame_decoded};
 ghost use Rattle.gr_frame.specs.Limits.{IsBody};
 ghost use Rattle.gr_model.specs.NetOf.{net_of};
 ghost use Rattle.gr_model.specs.Broker.{place_of};
 ghost use Rattle.gr_model.specs.World.{blank_view};
-ghost use Rattle.gr_model.specs.Arrivals.{fits_broker};
+ghost use Rattle.gr_model.specs.Net.{is_late};
+ghost use Rattle.gr_model.specs.Arrivals.{fits_broker, joins_fit};
 ghost use Rattle.gr_broker_relay.specs.Kept.{IsKept};
 ghost use Rattle.gr_broker_relay.specs.Held.{held_view, IsSeat, IsSite};
 ghost use Rattle.gr_broker_relay.specs.Told.{IsBlank};
@@ -19,7 +20,9 @@ use crate::outcome::Dropped;
 use gr_broker_relay::{
     Held, Memory, Outcome, Position, Seat, Site, learn, site_at, take_curiosity, take_expect,
 };
+use gr_event::Join;
 use gr_frame::{Body, Frame, FrameFault, FrameKind, decode};
+use gr_topo::Topology;
 use std::alloc::{AllocError, Global};
 
 /// The place of the child with a number, or None where there is none.
@@ -42,11 +45,35 @@ pub(crate) fn comes_over(position: &Position, frame: &Frame) -> bool
 {
     match &frame.body {
         Body::Curiosity(_) => child_at(position, frame.head.from).is_some(),
-        Body::Knowledge(_) | Body::Expect(_) => match position.up {
+        Body::Knowledge { .. } | Body::Expect(_) => match position.up {
             Some(up) => up == frame.head.from,
             None => false,
         },
     }
+}
+
+/// Whether each join that a frame brings is of a late subscriber.
+fn joins_fit(topo: &Topology, frame: &Frame) -> bool
+    ensures { result ≡ joins_fit (net_of topo.now) frame.now }
+{
+    match &frame.body {
+        Body::Knowledge { joins, .. } => are_late(topo, joins.as_slice()),
+        Body::Curiosity(_) | Body::Expect(_) => true,
+    }
+}
+
+/// Whether each of these joins is of a late subscriber.
+fn are_late(topo: &Topology, joins: &[Join]) -> bool
+    ensures { result ≡ list_all (λ j. is_late (net_of topo.now) j.subscriber) joins.now }
+{
+    let mut at = 0;
+    'joins: while at < joins.len() {
+        if !topo.late(joins[at].subscriber) {
+            return false;
+        }
+        at += 1;
+    }
+    true
 }
 
 /// Takes a frame that fits, unless it clashes with what is known: answers why it is dropped, or None where it is taken.
@@ -75,7 +102,7 @@ pub(crate) fn take_frame(
     ensures log { held.new.log ≡ held.old.log }
 {
     match &frame.body {
-        Body::Knowledge(piece) => {
+        Body::Knowledge { piece, .. } => {
             // Proof only: the runs are canonical.
             let _ = held.know.len();
             let _ = piece.len();
@@ -193,7 +220,8 @@ fn take_at(
     )
 }
 
-/// Whether a frame fits the broker: it is addressed to it, of a publisher that there is, and comes over the right edge.
+/// Whether a frame fits the broker: it is addressed to it, of a publisher that there is, comes over the right edge, and
+/// each of its joins is of a late subscriber.
 fn fits(seat: &Seat<'_>, frame: &Frame) -> bool
     requires { IsSeat seat.now }
     ensures { result ≡ fits_broker (net_of seat.now.topo.now) seat.now.number frame.now }
@@ -201,5 +229,5 @@ fn fits(seat: &Seat<'_>, frame: &Frame) -> bool
     if frame.head.to != seat.number || frame.head.publisher >= seat.topo.publishers() {
         return false;
     }
-    comes_over(site_at(seat, frame.head.publisher).position, frame)
+    comes_over(site_at(seat, frame.head.publisher).position, frame) && joins_fit(seat.topo, frame)
 }

@@ -74,6 +74,7 @@ fn held_over(site: &Site<'_>, log: Log, into: &mut Reports) -> Result<Held, Memo
     requires here { is_here site.now ≡ true }
     requires lane { log.lane ≡ 2 * site.now.publisher }
     requires whole { log.broken ≡ false }
+    requires late { log.late ≡ site.now.topo.now.late }
     ensures started { IfOk result (λ held. IsStartedAt site.now held) }
     ensures log { IfOk result (λ held. held.log ≡ Some log) }
     ensures lines { IfOk result (λ held. into.new ≡ into.old ++ lines_at site.now held) }
@@ -117,23 +118,26 @@ pub(crate) fn fault_at(p: u16, fault: LogFault) -> BrokerFault
 /// Starts a publisher: where it is here, its log is opened, and what that tells is put at the end of some lines.
 fn open_publisher<D: Disk>(
     site: &Site<'_>,
+    late: &[u16],
     disk: &mut D,
     into: &mut Reports,
 ) -> Result<Held, BrokerFault>
-    requires { IsSite site.now }
+    requires site { IsSite site.now }
+    requires late { late.now ≡ site.now.topo.now.late }
     ensures started { IfOk result (λ held. IsStartedAt site.now held) }
     ensures lines { IfOk result (λ held. into.new ≡ into.old ++ lines_at site.now held) }
-    ensures opens { let lane = 2 * site.now.publisher in D.tells → IfOk result (λ held.
-        (l : LogView) → held.log ≡ Some l → Opens (D.lane_of disk.old lane) (D.lane_of disk.new lane) (Ok l)) }
-    ensures damaged { D.tells → (p at : ℕ) → result ≡ Err (BrokerFault.Damaged p at) → (p ≡ site.now.publisher)
-        × (is_here site.now ≡ true) × (log_text (content (D.lane_of disk.old (2 * site.now.publisher))) ≡ Err at) }
+    ensures opens { let lane = 2 * site.now.publisher in D.tells → IfOk result (λ held. (l : LogView)
+        → held.log ≡ Some l → Opens late.now (D.lane_of disk.old lane) (D.lane_of disk.new lane) (Ok l)) }
+    ensures damaged { D.tells → (p at : ℕ) → result ≡ Err (BrokerFault.Damaged p at)
+        → (p ≡ site.now.publisher) × (is_here site.now ≡ true)
+        × (log_text late.now (content (D.lane_of disk.old (2 * site.now.publisher))) ≡ Err at) }
     ensures damaged_here { (p at : ℕ) → result ≡ Err (BrokerFault.Damaged p at)
         → (p ≡ site.now.publisher) × (is_here site.now ≡ true) }
     ensures never_reopen { result ≢ Err BrokerFault.Reopen }
     ensures below { is_here site.now ≡ false → disk.new ≡ disk.old }
     ensures others { D.tells → (n : ℕ) → n ≢ 2 * site.now.publisher → D.lane_of disk.new n ≡ D.lane_of disk.old n }
     ensures any_moment { let lane = 2 * site.now.publisher in
-        D.tells → is_here site.now ≡ true → LosesNothing (D.lane_of disk.old lane) (D.lane_of disk.new lane) }
+        D.tells → is_here site.now ≡ true → LosesNothing late.now (D.lane_of disk.old lane) (D.lane_of disk.new lane) }
     ensures tally { let f = D.faults disk.old in let s = D.stops disk.old in
         Tally f s (D.faults disk.new) (D.stops disk.new) (log_answer result) }
     ensures by_stop { D.tells → D.faultless disk.old → IsErrOf result BrokerFault.Disk
@@ -151,7 +155,7 @@ fn open_publisher<D: Disk>(
         };
     }
     let _ = site.topo.publishers();
-    let log = match Log::open(site.alloc, disk, 2 * site.publisher) {
+    let log = match Log::open(site.alloc, disk, 2 * site.publisher, late) {
         Ok(log) => log,
         Err(fault) => return Err(fault_at(site.publisher, fault)),
     };
@@ -174,18 +178,20 @@ pub(crate) fn open_publishers<D: Disk>(
     topo: &Topology,
     b: u16,
     here: &[u16],
+    late: &[u16],
     placed: &Placed,
     disk: &mut D,
 ) -> Result<Opened, BrokerFault>
     requires broker { b < length topo.now.brokers }
     requires here { here.now ≡ subscribers_of topo.now b }
+    requires late { late.now ≡ topo.now.late }
     requires branches { map (seen_branch placed.now.edges.items) placed.now.positions.items
         ≡ map (branch_of topo.now b) (numbers (length topo.now.publishers)) }
     requires edges { AllByRecursion (HasEdges placed.now.edges.items) placed.now.positions.items }
     ensures started { IfOk result (λ opened. AreStarted topo.now b (length topo.now.publishers)
         (map held_view opened.held.items) (map (λ held. held.log) opened.held.items) opened.lines) }
     ensures opens { D.tells → IfOk result (λ opened.
-        AreOpened (map (λ held. held.log) opened.held.items) (D.lane_of disk.old) (D.lane_of disk.new)) }
+        AreOpened topo.now (map (λ held. held.log) opened.held.items) (D.lane_of disk.old) (D.lane_of disk.new)) }
     ensures touches { let upto = length topo.now.publishers in
         D.tells → TouchesLanes topo.now b upto (D.lane_of disk.old) (D.lane_of disk.new) }
     ensures damaged { D.tells → (p at : ℕ) → result ≡ Err (BrokerFault.Damaged p at)
@@ -216,7 +222,7 @@ pub(crate) fn open_publishers<D: Disk>(
             broker: b,
             publisher: p,
         };
-        let opened = match open_publisher(&site, disk, &mut lines) {
+        let opened = match open_publisher(&site, late, disk, &mut lines) {
             Ok(opened) => opened,
             Err(fault) => return Err(fault),
         };

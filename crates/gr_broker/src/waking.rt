@@ -39,6 +39,7 @@ fn wake_here<D: Disk>(
     requires kept { IsKept (net_of site.now.topo.now) site.now.publisher site.now.broker (held_view part.old) }
     requires hosted { is_some part.old.log ≡ is_host (net_of site.now.topo.now) site.now.publisher site.now.broker }
     requires lanes { (l : LogView) → part.old.log ≡ Some l → l.lane ≡ 2 * site.now.publisher }
+    requires late { (l : LogView) → part.old.log ≡ Some l → l.late ≡ site.now.topo.now.late }
     requires now { now ≤ MAX_TICK }
     requires stands { let lane = 2 * site.now.publisher in
         D.tells → (l : LogView) → part.old.log ≡ Some l → IsReady l (D.lane_of disk.old lane) }
@@ -54,6 +55,7 @@ fn wake_here<D: Disk>(
     ensures kept { IsKept (net_of site.now.topo.now) site.now.publisher site.now.broker (held_view part.new) }
     ensures hosted { is_some part.new.log ≡ is_some part.old.log }
     ensures lanes { (l : LogView) → part.new.log ≡ Some l → l.lane ≡ 2 * site.now.publisher }
+    ensures late { (l : LogView) → part.new.log ≡ Some l → l.late ≡ site.now.topo.now.late }
     ensures lane { let x = part_of part.old in let lane = 2 * site.now.publisher in
         D.tells → (l : LogView) → part.old.log ≡ Some l → AppendsTwice l (part_mark_logs site.now.topo.now now x)
         (part_cut_logs site.now.topo.now site.now.publisher site.now.broker now x)
@@ -96,6 +98,7 @@ fn wake_part<D: Disk>(
     requires kept { IsKept (net_of site.now.topo.now) site.now.publisher site.now.broker (held_view part.old) }
     requires hosted { is_some part.old.log ≡ is_host (net_of site.now.topo.now) site.now.publisher site.now.broker }
     requires lanes { (l : LogView) → part.old.log ≡ Some l → l.lane ≡ 2 * site.now.publisher }
+    requires late { (l : LogView) → part.old.log ≡ Some l → l.late ≡ site.now.topo.now.late }
     requires now { now ≤ MAX_TICK }
     requires stands { let lane = 2 * site.now.publisher in
         D.tells → (l : LogView) → part.old.log ≡ Some l → IsReady l (D.lane_of disk.old lane) }
@@ -111,6 +114,7 @@ fn wake_part<D: Disk>(
     ensures kept { IsKept (net_of site.now.topo.now) site.now.publisher site.now.broker (held_view part.new) }
     ensures hosted { is_some part.new.log ≡ is_some part.old.log }
     ensures lanes { (l : LogView) → part.new.log ≡ Some l → l.lane ≡ 2 * site.now.publisher }
+    ensures late { (l : LogView) → part.new.log ≡ Some l → l.late ≡ site.now.topo.now.late }
     ensures lane { let x = part_of part.old in let lane = 2 * site.now.publisher in
         D.tells → (l : LogView) → part.old.log ≡ Some l → AppendsTwice l (part_mark_logs site.now.topo.now now x)
         (part_cut_logs site.now.topo.now site.now.publisher site.now.broker now x)

@@ -285,7 +285,7 @@ pub answered_by : (net : Net) (p b now c i : ℕ) (piece : Wanted) (v : View) (l
     ws ≡ set v.wants i (stored v.know (acknowledged (get_or v.wants i []) piece) piece) →
     finals ≡ finished v.know (consolidated (keeps_horizon net p b) v.horizon ws) →
     asked ≡ asked_by net now piece v reply finals (is_host net p b) →
-    kept_view net p b (record { know = finals; wants = ws; asks = noted now v.asks asked; horizon = v.horizon }) ≡ (curiosity net p b now c i piece v log).view
+    kept_view net p b (record { know = finals; wants = ws; asks = noted now v.asks asked; horizon = v.horizon; joins = v.joins }) ≡ (curiosity net p b now c i piece v log).view
 unfolding curiosity
 answered_by net p b now c i piece v log reply finals ws asked er ew ef eq = rw (eq, ef, ew, er) refl
 
@@ -315,10 +315,10 @@ pub frames_are : (net : Net) (p b now i : ℕ) (piece : Wanted) (v : View) (log 
     RunsGive N left (left_by piece reply) →
     (is_host net p b ≡ true → asked ≡ []) →
     (is_host net p b ≡ false → RunsGive N asked (λ u. due_of (asked_at v.asks u) (wanted_at left u) now net.retry)) →
-    know_frames b (get_or (net.children p b) i 0) p reply ++ up_frames net p b asked ≡ (curiosity net p b now (get_or (net.children p b) i 0) i piece v log).frames
+    know_frames [] b (get_or (net.children p b) i 0) p reply ++ up_frames net p b asked ≡ (curiosity net p b now (get_or (net.children p b) i 0) i piece v log).frames
 unfolding curiosity
 frames_are net p b now i piece v log reply left asked here k a x e l host below =
-    ap₂ (λ r s. know_frames b (get_or (net.children p b) i 0) p r ++ up_frames net p b s) e
+    ap₂ (λ r s. know_frames [] b (get_or (net.children p b) i 0) p r ++ up_frames net p b s) e
     (asked_are net p b now i piece v left asked here k a x (subst (λ r. RunsGive N left (left_by piece r)) e l) host below)
 
 -- no line is told

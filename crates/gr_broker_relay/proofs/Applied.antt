@@ -109,11 +109,11 @@ module _ (net : Net) (p b : ℕ) (piece : Known) (v : View) (c : Changes) (joine
   -- at the host
   module _ (asks : Asked) (host : is_host net p b ≡ true) (same : asks ≡ v.asks) where
     -- the view is the machine's
-    pub host_view : (log : Log) → ◌≡◌ {A = View} (record { know = left; wants = wants; asks = asks; horizon = to }) (learn net p b piece v log).view
+    pub host_view : (log : Log) → ◌≡◌ {A = View} (record { know = left; wants = wants; asks = asks; horizon = to; joins = v.joins }) (learn net p b piece v log).view
     host_view log = learned_host net p b piece v log joined left wants to joined_there e.moves wants_there left_there asks host same
 
     -- and what every call needs of it holds on
-    pub host_kept : IsKept net p b (record { know = left; wants = wants; asks = asks; horizon = to })
+    pub host_kept : IsKept net p b (record { know = left; wants = wants; asks = asks; horizon = to; joins = v.joins })
     host_kept = record {
       wants = e.taken.many ∙ e.kept.wants;
       final = final_there;
@@ -131,13 +131,13 @@ module _ (net : Net) (p b : ℕ) (piece : Known) (v : View) (c : Changes) (joine
     finals_in t = finals t ∙ final_in (keeps_horizon net p b) v.horizon to v.wants wants v.know piece joined c.completed left completes t e.finishes.values (goes t)
 
     -- the view is the machine's
-    pub below_view : (log : Log) → ◌≡◌ {A = View} (record { know = kept; wants = wants; asks = asks; horizon = to }) (learn net p b piece v log).view
+    pub below_view : (log : Log) → ◌≡◌ {A = View} (record { know = kept; wants = wants; asks = asks; horizon = to; joins = v.joins }) (learn net p b piece v log).view
     below_view log =
         learned_below net p b piece v log joined left wants to joined_there e.moves wants_there left_there kept asks below forgets
         (asks_kept v.know piece kept c.completed v.asks asks finals_in (e.kept.dropped below) asks_runs kept_runs (record { canonical = undone.canonical; in_range = undone.in_range; values = asks_at }))
 
     -- and what every call needs of it holds on
-    pub below_kept : IsKept net p b (record { know = kept; wants = wants; asks = asks; horizon = to })
+    pub below_kept : IsKept net p b (record { know = kept; wants = wants; asks = asks; horizon = to; joins = v.joins })
     below_kept = record {
       wants = e.taken.many ∙ e.kept.wants;
       final = λ t h. is_F-only (known_at kept t) (finals t ∙ ap is_F (final_there t h));

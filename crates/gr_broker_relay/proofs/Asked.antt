@@ -211,7 +211,7 @@ noted_dropped now t know asks asked after unknown dropped noted final = noted �
 pub asked_view : (net : Net) (p b now : ℕ) (v : View) (asked : Wanted) (know : Known) (asks : Asked) → is_host net p b ≡ false → AreRuns Q v.know → AreRuns Never v.asks → AreRuns N asked → AreRuns Q know →
     ((t : ℕ) → known_at v.know t ≡ F → asked_at v.asks t ≡ Never) → ((t : ℕ) → is_C (wanted_at asked t) ≡ true → known_at v.know t ≡ Q) →
     know ≡ forgotten net.cache (if keeps_horizon net p b then v.horizon else max_tick) v.know → RunsGive Never asks (λ t. noted_of now (asked_at v.asks t) (wanted_at asked t)) →
-    ◌≡◌ {A = View} (record { know = know; wants = v.wants; asks = asks; horizon = v.horizon }) (kept_view net p b (record { know = v.know; wants = v.wants; asks = noted now v.asks asked; horizon = v.horizon }))
+    ◌≡◌ {A = View} (record { know = know; wants = v.wants; asks = asks; horizon = v.horizon; joins = v.joins }) (kept_view net p b (record { know = v.know; wants = v.wants; asks = noted now v.asks asked; horizon = v.horizon; joins = v.joins }))
 unfolding kept_view
 asked_view net p b now v asked know asks below k a w kn dropped unknown forgot g = ap₂ view_with forgot asks_are ∙ sym (ap by_host below)
   where
@@ -219,13 +219,13 @@ asked_view net p b now v asked know asks below k a w kn dropped unknown forgot g
     upto = if keeps_horizon net p b then v.horizon else max_tick
 
     left : View
-    left = record { know = v.know; wants = v.wants; asks = noted now v.asks asked; horizon = v.horizon }
+    left = record { know = v.know; wants = v.wants; asks = noted now v.asks asked; horizon = v.horizon; joins = v.joins }
 
     by_host : Bool → View
     by_host q = elim q [ true ↦ left | false ↦ kept_view_below net p b left ]
 
     view_with : Known → Asked → View
-    view_with x y = record { know = x; wants = v.wants; asks = y; horizon = v.horizon }
+    view_with x y = record { know = x; wants = v.wants; asks = y; horizon = v.horizon; joins = v.joins }
 
     forgets : Forgets net.cache upto v.know know
     forgets = subst (λ x. Forgets net.cache upto v.know x) (sym forgot) (forgotten-is net.cache upto v.know k)

@@ -24,7 +24,7 @@ use Rattle.gr_broker_relay.proofs.Asked.{wanted_at_expect, wake_wants, wake_stea
 
 -- what is kept once it was asked, before anything is forgotten
 abbrev pub noted_view : ℕ → View → Wanted → View
-noted_view now v asked = record { know = v.know; wants = v.wants; asks = noted now v.asks asked; horizon = v.horizon }
+noted_view now v asked = record { know = v.know; wants = v.wants; asks = noted now v.asks asked; horizon = v.horizon; joins = v.joins }
 
 -- a call of asking, by what is asked
 abbrev pub asked_outcome : Net → ℕ → ℕ → ℕ → View → Log → Wanted → MachineOutcome

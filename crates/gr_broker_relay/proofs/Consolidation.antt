@@ -7,7 +7,7 @@ use Rattle.gr_tick.proofs.RunLaws.{IsFirstBottom, first_bottom_from-is}
 use Rattle.gr_curio.specs.declared.values.Q3.TheVariants.{N, A}
 use Rattle.gr_curio.specs.Values.{Wanted, wanted_at}
 use Rattle.gr_publog.specs.declared.record.Record.{Record}
-use Rattle.gr_publog.specs.State.{empty_state, state_of, Follow}
+use Rattle.gr_publog.specs.State.{first_standing, state_of, Follow}
 use Rattle.gr_pubend.specs.Log.{log_of, Stays}
 use Rattle.gr_pubend.proofs.Knowing.{stays_of}
 use Rattle.gr_model.specs.Net.{Net, keeps_horizon, is_empty, not_empty}
@@ -72,14 +72,14 @@ keeps_or_some net p b ws many = go (keeps_horizon net p b) refl
     go false e = from_length ws (some_want net p b ws many e)
 
 -- so far is cut, by the tick up to which all is consolidated
-pub due_is : (net : Net) (p b upto : ℕ) (v : View) (rs : List Record) (horizon : Option ℕ) → length v.wants ≡ length (net.children p b) → Follow empty_state rs → horizon ≡ horizon_if (keeps_horizon net p b) v.horizon →
+pub due_is : (net : Net) (p b upto : ℕ) (v : View) (late : List ℕ) (rs : List Record) (horizon : Option ℕ) → length v.wants ≡ length (net.children p b) → Follow (first_standing late) rs → horizon ≡ horizon_if (keeps_horizon net p b) v.horizon →
     upto ≤ (state_of rs).settled → ((t : ℕ) → 1 ≤ t → t ≤ upto → is_consolidated horizon v.wants t ≡ true) → (upto < (state_of rs).settled → is_consolidated horizon v.wants (upto + 1) ≡ false) →
     (if nat_lt (state_of rs).cut upto then Some upto else None) ≡ tick_cut net p b v (log_of rs)
-due_is net p b upto v rs horizon many follow is within each stops =
+due_is net p b upto v late rs horizon many follow is within each stops =
     ap₂ (λ cut tick. if nat_lt cut tick then Some tick else None) (sym s.cut)
     (upto_is (keeps_horizon net p b) v.horizon (log_of rs).settled upto v.wants (keeps_or_some net p b v.wants many) (omega (arith, within, s.settled))
     (λ t x y. subst (λ h. is_consolidated h v.wants t ≡ true) is (each t x y))
     (λ x. subst (λ h. is_consolidated h v.wants (upto + 1) ≡ false) is (stops (omega (arith, x, s.settled)))))
   where
     s : Stays (log_of rs) (state_of rs)
-    s = stays_of rs follow
+    s = stays_of late rs follow

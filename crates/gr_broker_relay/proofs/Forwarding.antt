@@ -46,10 +46,10 @@ forwarded_whole s i c w fresh let_by is lt e a b g untouched =
     forwarded s i c w fresh let_by let_by is lt e a b g (sent_whole w let_by (λ t. pass (slice_index_or s.edges.now c.edge []) (known_at fresh t)) g untouched)
 
 -- and so are its frames
-pub sends_forwarded : (s : Site) (i : ℕ) (c : Child) (sent new : Known) (before after : FrameList) → IsSite s → i < length s.position.now.children.items → c ≡ get_or s.position.now.children.items i c → sent ≡ new → AddsFrames (know_frames s.broker c.number s.publisher sent) before after → AddsFrames (know_frames s.broker (get_or (children_of s.topo.now s.publisher s.broker) i 0) s.publisher new) before after
+pub sends_forwarded : (s : Site) (i : ℕ) (c : Child) (sent new : Known) (before after : FrameList) → IsSite s → i < length s.position.now.children.items → c ≡ get_or s.position.now.children.items i c → sent ≡ new → AddsFrames (know_frames [] s.broker c.number s.publisher sent) before after → AddsFrames (know_frames [] s.broker (get_or (children_of s.topo.now s.publisher s.broker) i 0) s.publisher new) before after
 sends_forwarded s i c sent new before after is lt e same adds =
     subst (λ (fs : List Frame). AddsFrames fs before after)
-    (ap₂ (λ n k. know_frames s.broker n s.publisher k) (child_number s.topo.now s.broker s.publisher i s.edges.now s.position.now c is.branch lt e) same) adds
+    (ap₂ (λ n k. know_frames [] s.broker n s.publisher k) (child_number s.topo.now s.broker s.publisher i s.edges.now s.position.now c is.branch lt e) same) adds
 
 -- The runs of what is forwarded are canonical
 

@@ -64,7 +64,7 @@ module _ (net : Net) (p b now i : ℕ) (piece : Wanted) (v : View) (a : Answers)
   asks_by : a.asked ≡ asked_by net now piece v reply finals (is_host net p b)
   asks_by = asked_are net p b now i piece v a.left a.asked here k w x h.left h.asks_nobody h.asked ∙ ap (λ z. asked_by net now piece v reply z (is_host net p b)) (sym finals_are)
 
-  machine_view : (log : Log) → kept_view net p b (record { know = finals; wants = ws; asks = noted now v.asks a.asked; horizon = v.horizon }) ≡ (curiosity net p b now child i piece v log).view
+  machine_view : (log : Log) → kept_view net p b (record { know = finals; wants = ws; asks = noted now v.asks a.asked; horizon = v.horizon; joins = v.joins }) ≡ (curiosity net p b now child i piece v log).view
   machine_view log = answered_by net p b now child i piece v log reply finals ws a.asked refl wants_are finals_by asks_by
 
   some : (keeps_horizon net p b || not_empty ws) ≡ true
@@ -74,9 +74,9 @@ module _ (net : Net) (p b now i : ℕ) (piece : Wanted) (v : View) (a : Answers)
   many = ap length wants_are ∙ length-set v.wants i kept ∙ fits.wants
 
   -- at the host the moments stay, and nothing is forgotten
-  pub applied_host : is_host net p b ≡ true → IsApplied net p b now i piece v (record { know = finals; wants = ws; asks = v.asks; horizon = v.horizon })
+  pub applied_host : is_host net p b ≡ true → IsApplied net p b now i piece v (record { know = finals; wants = ws; asks = v.asks; horizon = v.horizon; joins = v.joins })
   applied_host host = record {
-    view = λ log. sym (kept_host net p b (record { know = finals; wants = ws; asks = v.asks; horizon = v.horizon }) host) ∙ ap (λ z. kept_view net p b (record { know = finals; wants = ws; asks = z; horizon = v.horizon })) (sym still) ∙ machine_view log;
+    view = λ log. sym (kept_host net p b (record { know = finals; wants = ws; asks = v.asks; horizon = v.horizon; joins = v.joins }) host) ∙ ap (λ z. kept_view net p b (record { know = finals; wants = ws; asks = z; horizon = v.horizon; joins = v.joins })) (sym still) ∙ machine_view log;
     kept = record {
       wants = many;
       final = final_by (keeps_horizon net p b) v.horizon ws v.know finals some k (λ u. ap (λ z. is_F (known_at z u)) finals_by);
@@ -95,10 +95,10 @@ module _ (net : Net) (p b now i : ℕ) (piece : Wanted) (v : View) (a : Answers)
       ((u : ℕ) → is_F (known_at left_over u) ≡ is_F (known_at finals u)) →
       RunsGive Never noting (λ u. noted_of now (asked_at v.asks u) (wanted_at a.asked u)) →
       RunsGive Never after (λ u. if is_A (wanted_at a.completed u) then Never else asked_at noting u) →
-      IsApplied net p b now i piece v (record { know = left_over; wants = ws; asks = after; horizon = v.horizon })
+      IsApplied net p b now i piece v (record { know = left_over; wants = ws; asks = after; horizon = v.horizon; joins = v.joins })
   applied_below below left_over noting after m l forgets stays notes drops = record {
-    view = λ log. ap₂ (λ y z. record { know = y; wants = ws; asks = z; horizon = v.horizon }) forgets (moments ∙ ap (λ y. open_asks y (noted now v.asks a.asked)) forgets)
-        ∙ sym (kept_below net p b (record { know = finals; wants = ws; asks = noted now v.asks a.asked; horizon = v.horizon }) below) ∙ machine_view log;
+    view = λ log. ap₂ (λ y z. record { know = y; wants = ws; asks = z; horizon = v.horizon; joins = v.joins }) forgets (moments ∙ ap (λ y. open_asks y (noted now v.asks a.asked)) forgets)
+        ∙ sym (kept_below net p b (record { know = finals; wants = ws; asks = noted now v.asks a.asked; horizon = v.horizon; joins = v.joins }) below) ∙ machine_view log;
     kept = record {
       wants = many;
       final = final_by (keeps_horizon net p b) v.horizon ws v.know left_over some k (λ u. stays u ∙ ap (λ z. is_F (known_at z u)) finals_by);

@@ -11,6 +11,7 @@ use Rattle.gr_tick.proofs.RunLaws.{zip_runs-is}
 use Rattle.gr_tick.proofs.RunsLemmas.{value_at_past}
 use Rattle.gr_event.specs.declared.event.Event.{Event}
 use Rattle.gr_event.specs.Event.{same_event}
+use Rattle.gr_event.specs.Joins.{Joins}
 use Rattle.gr_know.specs.declared.values.K.{K}
 use Rattle.gr_know.specs.declared.values.K.TheVariants.{Q, S, D, F}
 use Rattle.gr_know.specs.Values.{Known, known_at, same_K, is_Q, is_D, join_K, new_K, clash_K}
@@ -118,7 +119,7 @@ forward_wants-at net p new (c ∷ cs) (w ∷ ws) (suc i) e lt = forward_wants-at
 
 -- What each child is sent, in turn
 
-forward_from : (net : Net) (p b : ℕ) (new : Known) (cs : List ℕ) (ws : List Wanted) (i : ℕ) → length ws ≡ length cs → i < length ws → forward_frames net p b new (drop i cs) (drop i ws) ≡ know_frames b (get_or cs i 0) p (forward net p (get_or cs i 0) (wants_of ws i) new) ++ forward_frames net p b new (drop (suc i) cs) (drop (suc i) ws)
+forward_from : (net : Net) (p b : ℕ) (new : Known) (cs : List ℕ) (ws : List Wanted) (i : ℕ) → length ws ≡ length cs → i < length ws → forward_frames [] net p b new (drop i cs) (drop i ws) ≡ know_frames [] b (get_or cs i 0) p (forward net p (get_or cs i 0) (wants_of ws i) new) ++ forward_frames [] net p b new (drop (suc i) cs) (drop (suc i) ws)
 forward_from net p b new [] [] i e lt = absurd (omega (arith, lt))
 forward_from net p b new [] (w ∷ ws) i e lt = absurd (omega (arith, e))
 forward_from net p b new (c ∷ cs) [] i e lt = absurd (omega (arith, lt))
@@ -126,14 +127,14 @@ forward_from net p b new (c ∷ cs) (w ∷ ws) zero e lt = refl
 forward_from net p b new (c ∷ cs) (w ∷ ws) (suc i) e lt = forward_from net p b new cs ws i (omega (arith, e)) (omega (arith, lt))
 
 -- the frames to the children from one on
-pub forward_step : (net : Net) (p b : ℕ) (new : Known) (cs : List ℕ) (ws : List Wanted) (i : ℕ) → length ws ≡ length cs → i < length ws → forward_frames net p b new (drop i cs) (drop i ws) ≡ know_frames b (get_or cs i 0) p (forward net p (get_or cs i 0) (wants_of ws i) new) ++ forward_frames net p b new (drop (i + 1) cs) (drop (i + 1) ws)
+pub forward_step : (net : Net) (p b : ℕ) (new : Known) (cs : List ℕ) (ws : List Wanted) (i : ℕ) → length ws ≡ length cs → i < length ws → forward_frames [] net p b new (drop i cs) (drop i ws) ≡ know_frames [] b (get_or cs i 0) p (forward net p (get_or cs i 0) (wants_of ws i) new) ++ forward_frames [] net p b new (drop (i + 1) cs) (drop (i + 1) ws)
 forward_step net p b new cs ws i e lt =
     forward_from net p b new cs ws i e lt
-    ∙ ap (λ n. know_frames b (get_or cs i 0) p (forward net p (get_or cs i 0) (wants_of ws i) new) ++ forward_frames net p b new (drop n cs) (drop n ws)) (sym (add-one i))
+    ∙ ap (λ n. know_frames [] b (get_or cs i 0) p (forward net p (get_or cs i 0) (wants_of ws i) new) ++ forward_frames [] net p b new (drop n cs) (drop n ws)) (sym (add-one i))
 
 -- and none past the last child
-pub forward_done : (net : Net) (p b : ℕ) (new : Known) (cs : List ℕ) (ws : List Wanted) (i : ℕ) → length cs ≤ i → forward_frames net p b new (drop i cs) (drop i ws) ≡ []
-forward_done net p b new cs ws i le = ap (λ ds. forward_frames net p b new ds (drop i ws)) (drop_all i cs le)
+pub forward_done : (net : Net) (p b : ℕ) (new : Known) (cs : List ℕ) (ws : List Wanted) (i : ℕ) → length cs ≤ i → forward_frames [] net p b new (drop i cs) (drop i ws) ≡ []
+forward_done net p b new cs ws i le = ap (λ ds. forward_frames [] net p b new ds (drop i ws)) (drop_all i cs le)
 
 -- What is final then
 
@@ -259,8 +260,8 @@ module _ (know piece kept : Known) (completed : Wanted) (asks left : Asked) (fin
 
 -- The view
 
-view_path : {k l : Known} {ws us : List Wanted} {m n : Asked} {h i : ℕ} → k ≡ l → ws ≡ us → m ≡ n → h ≡ i → ◌≡◌ {A = View} (record { know = k; wants = ws; asks = m; horizon = h }) (record { know = l; wants = us; asks = n; horizon = i })
-view_path a b c d = λ i. record { know = a i; wants = b i; asks = c i; horizon = d i }
+view_path : {k l : Known} {ws us : List Wanted} {m n : Asked} {h i : ℕ} {js : Joins} → k ≡ l → ws ≡ us → m ≡ n → h ≡ i → ◌≡◌ {A = View} (record { know = k; wants = ws; asks = m; horizon = h; joins = js }) (record { know = l; wants = us; asks = n; horizon = i; joins = js })
+view_path {js = js} a b c d = λ i. record { know = a i; wants = b i; asks = c i; horizon = d i; joins = js }
 
 -- below the host
 trimmed_below : (net : Net) (p b : ℕ) (v : View) → is_host net p b ≡ false → kept_view net p b v ≡ kept_view_below net p b v
@@ -284,12 +285,12 @@ module _ (net : Net) (p b : ℕ) (piece : Known) (v : View) (log : Log) (joined 
       ∙ ap₂ (λ r w. finished (zip_runs Q Q Q same_K join_K v.know piece) (consolidated (keeps_horizon net p b) r w)) reached_there ew
 
   -- the host keeps what it learned
-  pub learned_host : (asks : Asked) → is_host net p b ≡ true → asks ≡ v.asks → ◌≡◌ {A = View} (record { know = left; wants = wants; asks = asks; horizon = reached }) (learn net p b piece v log).view
+  pub learned_host : (asks : Asked) → is_host net p b ≡ true → asks ≡ v.asks → ◌≡◌ {A = View} (record { know = left; wants = wants; asks = asks; horizon = reached; joins = v.joins }) (learn net p b piece v log).view
   unfolding learn
   learned_host asks host ea = view_path left_there ew ea reached_there ∙ sym (trimmed_host net p b _ host)
 
   -- below it some of it is forgotten
-  pub learned_below : (kept : Known) (asks : Asked) → is_host net p b ≡ false → kept ≡ forgotten net.cache (if keeps_horizon net p b then reached else max_tick) left → asks ≡ open_asks kept v.asks → ◌≡◌ {A = View} (record { know = kept; wants = wants; asks = asks; horizon = reached }) (learn net p b piece v log).view
+  pub learned_below : (kept : Known) (asks : Asked) → is_host net p b ≡ false → kept ≡ forgotten net.cache (if keeps_horizon net p b then reached else max_tick) left → asks ≡ open_asks kept v.asks → ◌≡◌ {A = View} (record { know = kept; wants = wants; asks = asks; horizon = reached; joins = v.joins }) (learn net p b piece v log).view
   unfolding learn
   learned_below kept asks below ek ea =
       let known : kept ≡ forgotten net.cache (if keeps_horizon net p b then horizon_after (keeps_horizon net p b) v.horizon (zip_runs Q Q Q same_K join_K v.know piece) else max_tick) (finished (zip_runs Q Q Q same_K join_K v.know piece) (consolidated (keeps_horizon net p b) (horizon_after (keeps_horizon net p b) v.horizon (zip_runs Q Q Q same_K join_K v.know piece)) (forward_wants net p (new_ticks v.know piece) (net.children p b) v.wants))) =

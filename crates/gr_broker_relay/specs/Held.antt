@@ -12,9 +12,15 @@ use Rattle.gr_broker_relay.specs.declared.site.Seat.{Seat}
 use Rattle.gr_broker_relay.specs.declared.site.Site.{Site}
 use Rattle.gr_broker_relay.specs.Branch.{Branch, branch_of}
 
--- what is kept of one publisher
+-- what is kept of one publisher; no joins are
 abbrev pub held_view : Held → View
-held_view h = record { know = h.know.runs; wants = runs_of h.wants; asks = h.asks.runs; horizon = h.horizon }
+held_view h = record {
+  know = h.know.runs;
+  wants = runs_of h.wants;
+  asks = h.asks.runs;
+  horizon = h.horizon;
+  joins = [];
+}
 
 -- a position over the edges that all publishers share
 abbrev pub seen_branch : List (List (Option Tree)) → Position → Branch

@@ -126,7 +126,7 @@ fn send_answers(
     requires child { i < length (children_of site.now.topo.now site.now.publisher site.now.broker) }
     ensures { let net : Net = net_of site.now.topo.now in
         let child : ℕ = get_or (net.children site.now.publisher site.now.broker) i 0 in
-        OnOk result (AddsFrames (know_frames site.now.broker child site.now.publisher reply
+        OnOk result (AddsFrames (know_frames [] site.now.broker child site.now.publisher reply
         ++ up_frames net site.now.publisher site.now.broker asked.now) into.old into.new) }
 {
     send_down(site, site.position.children[i].number, reply, into)?;

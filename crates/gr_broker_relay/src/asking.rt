@@ -154,6 +154,7 @@ fn note_asked(site: &Site<'_>, held: &mut Held, asked: &Piece<Q3>, now: u64)
           wants = runs_of held.old.wants;
           asks = noted now held.old.asks.runs asked.now;
           horizon = held.old.horizon;
+          joins = [];
         }) }
     ensures kept { IsKept (net_of site.now.topo.now) site.now.publisher site.now.broker (held_view held.new) }
     ensures log { held.new.log ≡ held.old.log }

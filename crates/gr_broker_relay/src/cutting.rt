@@ -3,7 +3,7 @@
 ghost use Rattle.std.specs.Prelude.{◌≡◌, ◌<◌, ◌≤◌, true, length, IfSome};
 ghost use Rattle.std.specs.Option.{ForSome, ForNone};
 ghost use Rattle.gr_tick.specs.declared.TheConstants.{MAX_TICK};
-ghost use Rattle.gr_publog.specs.State.{state_of, may_follow};
+ghost use Rattle.gr_publog.specs.State.{standing_of, may_follow};
 ghost use Rattle.gr_pubend.specs.Log.{log_of};
 ghost use Rattle.gr_model.specs.Net.{keeps_horizon};
 ghost use Rattle.gr_model.specs.NetOf.{net_of};
@@ -38,7 +38,8 @@ pub fn cut_due(site: &Site<'_>, held: &Held, log: &Log) -> Option<u64>
     requires kept { IsKept (net_of site.now.topo.now) site.now.publisher site.now.broker (held_view held.now) }
     ensures tick { result ≡ tick_cut (net_of site.now.topo.now) site.now.publisher site.now.broker
         (held_view held.now) (log_of log.now.records) }
-    ensures follows { IfSome result (λ tick. may_follow (state_of log.now.records) (Record.Cut tick) ≡ true) }
+    ensures follows { let stands = standing_of log.now.late log.now.records in
+        IfSome result (λ tick. may_follow stands (Record.Cut tick) ≡ true) }
 {
     // Proof only: the records follow one another.
     let _ = log.is_broken();

@@ -199,7 +199,7 @@ fn forward_news(
     requires site { IsSite site.now }
     requires wants { length held.now.wants ≡ length site.now.position.now.children.items }
     ensures adds { let net : Net = net_of site.now.topo.now in
-        OnOk result (AddsFrames (forward_frames net site.now.publisher site.now.broker
+        OnOk result (AddsFrames (forward_frames [] net site.now.publisher site.now.broker
         (new_ticks held.now.know.runs piece.now) (net.children site.now.publisher site.now.broker)
         (runs_of held.now.wants)) into.old into.new) }
     ensures each { let net : Net = net_of site.now.topo.now in
@@ -245,7 +245,7 @@ fn forward(
     requires site { IsSite site.now }
     requires wants { length wants.now ≡ length site.now.position.now.children.items }
     ensures adds { let net : Net = net_of site.now.topo.now in
-        OnOk result (AddsFrames (forward_frames net site.now.publisher site.now.broker fresh.now
+        OnOk result (AddsFrames (forward_frames [] net site.now.publisher site.now.broker fresh.now
         (net.children site.now.publisher site.now.broker) (runs_of wants.now)) into.old into.new) }
     ensures each { let net : Net = net_of site.now.topo.now in IfOk result (λ quenched. (i : ℕ) → i < length wants.now →
         RunsGive N (slice_index_or quenched.items i []) (λ t. if not (is_Q (known_at (forward net site.now.publisher
@@ -301,7 +301,7 @@ fn forward_to(
     requires wants { i < length wants.now }
     ensures adds { let net : Net = net_of site.now.topo.now in
         let c : ℕ = get_or (net.children site.now.publisher site.now.broker) i 0 in
-        OnOk result (AddsFrames (know_frames site.now.broker c site.now.publisher
+        OnOk result (AddsFrames (know_frames [] site.now.broker c site.now.publisher
         (forward net site.now.publisher c (wants_of (runs_of wants.now) i) fresh.now)) into.old into.new) }
     ensures quenched { let net : Net = net_of site.now.topo.now in
         let c : ℕ = get_or (net.children site.now.publisher site.now.broker) i 0 in

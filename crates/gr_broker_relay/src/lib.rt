@@ -6,6 +6,22 @@
 //! `wake_below`, `expect` and `expect_frames`. `Tells` and `Adds` in `specs/Told.antt` say what is told and sent,
 //! `held_view` in `specs/Held.antt` what is kept, and `IsKept` in `specs/Kept.antt` what each call needs of that and
 //! leaves so. Nothing here calls a disk: of a log a call leaves all as it was.
+//!
+//! | File | What it does | The machine's call: its rule | In `specs` |
+//! |---|---|---|---|
+//! | `learning` | Learns a piece: horizon, deliveries, frames down, final ticks. | `learn`: `NewTicks` | `Changes` |
+//! | | Forgets events and moments of asks. | `kept_view`: `Forgets`, `KeepsMoments` | none |
+//! | `answering` | A child asks and acknowledges: answers it, and asks upward. | `curiosity`: `ChildAsks` | `Answers` |
+//! | `asking` | Woken below the host: asks and acknowledges upward. | `wake_below`: `Wakes`, `Asks` | none |
+//! | | Told what to expect: the same, and tells the children. | `expect`: `Expects`, `SendsExpect` | none |
+//! | `cutting` | Says how far the log is to be cut. | `done_upto`: `HostWakes` | `Cuts` |
+//! | `sending` | Makes the frames to a child, and to the next broker up. | `know_frames`, `up_frames` | `Told` |
+//! | `place` | Works out where the broker stands in each tree, once. | none | `Branch`, `Positions` |
+//! | `site` | What a call reads: `Seat` for all publishers, `Site` for one. | none | `Held` |
+//! | `held` | What is kept of one publisher. | `View` | `Held`, `Kept` |
+//! | `outcome` | What a call tells and sends. | `Outcome` | `Told` |
+//!
+//! The rules say what each call does tick by tick; they are in `gr_model_calls/specs/Rules.antt`.
 #![tactic(auto)]
 
 mod answering;

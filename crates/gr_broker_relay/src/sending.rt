@@ -1,6 +1,6 @@
 //! Pieces are sent to the neighbours in a publisher's tree.
 
-ghost use Rattle.std.specs.Prelude.{◌≡◌, OnOk};
+ghost use Rattle.std.specs.Prelude.{◌≡◌, [], OnOk};
 ghost use Rattle.gr_model.specs.NetOf.{net_of};
 ghost use Rattle.gr_model.specs.Broker.{know_frames, want_frames, up_frames};
 ghost use Rattle.gr_broker_relay.specs.Held.{IsSite};
@@ -9,19 +9,21 @@ ghost use Rattle.gr_broker_relay.specs.Told.{AddsFrames};
 use crate::outcome::Memory;
 use crate::site::Site;
 use gr_curio::Q3;
+use gr_event::Joins;
 use gr_frame::{Body, Frame, Head};
 use gr_know::K;
 use gr_outbox::Outbox;
 use gr_tick::Piece;
 
-/// Puts the frames of a piece for a child at the end of a list. A piece with no run makes no frame.
+/// Puts the frames of a piece for a child at the end of a list, without joins. A piece with no run makes no frame.
 pub(crate) fn send_down(
     site: &Site<'_>,
     child: u16,
     piece: Piece<K>,
     into: &mut Outbox,
 ) -> Result<(), Memory>
-    ensures { OnOk result (AddsFrames (know_frames site.now.broker child site.now.publisher piece) into.old into.new) }
+    ensures { OnOk result (AddsFrames
+        (know_frames [] site.now.broker child site.now.publisher piece) into.old into.new) }
 {
     if piece.is_empty() {
         drop(piece);
@@ -33,7 +35,10 @@ pub(crate) fn send_down(
             to: child,
             publisher: site.publisher,
         },
-        body: Body::Knowledge(piece),
+        body: Body::Knowledge {
+            piece,
+            joins: Joins::new(site.alloc),
+        },
     };
     into.push(site.alloc, frame)
 }

@@ -21,30 +21,32 @@ use Rattle.gr_frame.specs.declared.Body.{Body}
 use Rattle.gr_frame.specs.declared.Body.TheVariants as body
 use Rattle.gr_frame.specs.declared.Head.{Head}
 use Rattle.gr_frame.specs.declared.Frame.{Frame}
-use Rattle.gr_frame.specs.Bytes.{known_bytes, wanted_bytes, runs_bytes, frame_bytes, head_bytes, known_run_size, wanted_run_size, cut_from, cut_frames}
+use Rattle.gr_event.specs.Joins.{Joins, AreJoins}
+use Rattle.gr_frame.specs.Bytes.{known_bytes, wanted_bytes, runs_bytes, frame_bytes, head_bytes, piece_head, head_size, known_run_size, wanted_run_size, cut_from, cut_frames}
 use Rattle.gr_frame.specs.Cut.{parts_of, joined, AreFrames}
 use Rattle.gr_frame.specs.Decode.{run_size, known_form, wanted_form}
 use Rattle.gr_frame.specs.Form.{Form}
 use Rattle.gr_frame.specs.Limits.{IsKnown, IsWanted, IsPiece, IsBody, IsHead, IsWhole, IsFrame}
 use Rattle.gr_frame.proofs.Events.{length-event_bytes}
+use Rattle.gr_frame.proofs.Lists.{head_sized, head_small}
 
 module _ {V : Type 0} where
   -- Nothing is lost
 
-  joined_from : (size : Run V → ℕ) (used : ℕ) (begun rs : List (Run V)) → joined (cut_from size used begun rs) ≡ begun ++ rs
+  joined_from : (room : ℕ) (size : Run V → ℕ) (used : ℕ) (begun rs : List (Run V)) → joined (cut_from room size used begun rs) ≡ begun ++ rs
   unfolding cut_from
-  joined_from size used begun [] = refl
-  joined_from size used begun (r ∷ rs) =
-      elim (nat_le (used + size r) 16384) as (λ b. joined (elim b [ true ↦ cut_from size (used + size r) (begun ++ r ∷ []) rs | false ↦ begun ∷ cut_from size (12 + size r) (r ∷ []) rs ]) ≡ begun ++ r ∷ rs) [
-        | true ↦ joined_from size (used + size r) (begun ++ r ∷ []) rs ∙ append_assoc begun (r ∷ []) rs
-        | false ↦ ap (λ l. begun ++ l) (joined_from size (12 + size r) (r ∷ []) rs)
+  joined_from room size used begun [] = refl
+  joined_from room size used begun (r ∷ rs) =
+      elim (nat_le (used + size r) 16384) as (λ b. joined (elim b [ true ↦ cut_from room size (used + size r) (begun ++ r ∷ []) rs | false ↦ begun ∷ cut_from room size (room + size r) (r ∷ []) rs ]) ≡ begun ++ r ∷ rs) [
+        | true ↦ joined_from room size (used + size r) (begun ++ r ∷ []) rs ∙ append_assoc begun (r ∷ []) rs
+        | false ↦ ap (λ l. begun ++ l) (joined_from room size (room + size r) (r ∷ []) rs)
       ]
 
   -- the parts one after another are the piece
-  pub joined_parts : (size : Run V → ℕ) (rs : List (Run V)) → joined (cut_frames size rs) ≡ rs
+  pub joined_parts : (room : ℕ) (size : Run V → ℕ) (rs : List (Run V)) → joined (cut_frames room size rs) ≡ rs
   unfolding cut_frames
-  joined_parts size [] = refl
-  joined_parts size (r ∷ rs) = joined_from size (12 + size r) (r ∷ []) rs
+  joined_parts room size [] = refl
+  joined_parts room size (r ∷ rs) = joined_from room size (room + size r) (r ∷ []) rs
 
   -- Parts of a piece
 
@@ -133,53 +135,53 @@ module _ {V : Type 0} where
       (k.runs.2, k.each.0)
 
   -- a part is a piece that fits into a frame
-  abbrev pub IsPart : V → (V → Type 0) → Form V → List (Run V) → Type 0
-  IsPart least Fits form part = IsPiece least Fits part × (12 + length (runs_bytes form.bytes part) ≤ 16384)
+  abbrev pub IsPart : ℕ → V → (V → Type 0) → Form V → List (Run V) → Type 0
+  IsPart room least Fits form part = IsPiece least Fits part × (room + length (runs_bytes form.bytes part) ≤ 16384)
 
   -- the run behind a front, given what the runs after it give
-  parts_step : (least : V) (Fits : V → Type 0) (form : Form V) → IsSized least Fits form → (used : ℕ) (begun : List (Run V)) (r : Run V) (rs : List (Run V)) (b : Bool) → nat_le (used + form.size r) 16384 ≡ b
-      → begun ≢ [] → IsPiece least Fits (begun ++ r ∷ rs) → used ≡ 12 + length (runs_bytes form.bytes begun) → used ≤ 16384
-      → (IsPiece least Fits ((begun ++ r ∷ []) ++ rs) → used + form.size r ≡ 12 + length (runs_bytes form.bytes (begun ++ r ∷ [])) → used + form.size r ≤ 16384 → AllByRecursion (IsPart least Fits form) (cut_from form.size (used + form.size r) (begun ++ r ∷ []) rs))
-      → (IsPiece least Fits (r ∷ rs) → 12 + form.size r ≡ 12 + length (runs_bytes form.bytes (r ∷ [])) → 12 + form.size r ≤ 16384 → AllByRecursion (IsPart least Fits form) (cut_from form.size (12 + form.size r) (r ∷ []) rs))
-      → AllByRecursion (IsPart least Fits form) (elim b [ true ↦ cut_from form.size (used + form.size r) (begun ++ r ∷ []) rs | false ↦ begun ∷ cut_from form.size (12 + form.size r) (r ∷ []) rs ])
-  parts_step least Fits form sized used begun r rs true e some h is fits more next =
+  parts_step : (least : V) (Fits : V → Type 0) (form : Form V) → IsSized least Fits form → (room : ℕ) → room ≤ 8173 → (used : ℕ) (begun : List (Run V)) (r : Run V) (rs : List (Run V)) (b : Bool) → nat_le (used + form.size r) 16384 ≡ b
+      → begun ≢ [] → IsPiece least Fits (begun ++ r ∷ rs) → used ≡ room + length (runs_bytes form.bytes begun) → used ≤ 16384
+      → (IsPiece least Fits ((begun ++ r ∷ []) ++ rs) → used + form.size r ≡ room + length (runs_bytes form.bytes (begun ++ r ∷ [])) → used + form.size r ≤ 16384 → AllByRecursion (IsPart room least Fits form) (cut_from room form.size (used + form.size r) (begun ++ r ∷ []) rs))
+      → (IsPiece least Fits (r ∷ rs) → room + form.size r ≡ room + length (runs_bytes form.bytes (r ∷ [])) → room + form.size r ≤ 16384 → AllByRecursion (IsPart room least Fits form) (cut_from room form.size (room + form.size r) (r ∷ []) rs))
+      → AllByRecursion (IsPart room least Fits form) (elim b [ true ↦ cut_from room form.size (used + form.size r) (begun ++ r ∷ []) rs | false ↦ begun ∷ cut_from room form.size (room + form.size r) (r ∷ []) rs ])
+  parts_step least Fits form sized room low used begun r rs true e some h is fits more next =
       let there = known_there least Fits begun r rs h in
       let one = sized.spelled r there.0 in
       more (subst (IsPiece least Fits) (sym (append_assoc begun (r ∷ []) rs)) h) (omega (arith, is, one, last_bytes form begun r)) (grind (arith, rules))
-  parts_step least Fits form sized used begun r rs false e some h is fits more next =
+  parts_step least Fits form sized room low used begun r rs false e some h is fits more next =
       let there = known_there least Fits begun r rs h in
       let one = sized.spelled r there.0 in
       let small = sized.small r there.0 there.1 in (
         (piece_front least Fits begun (r ∷ rs) some h, omega (arith, is)),
-        next (piece_back least Fits begun (r ∷ rs) (λ k. cc) h) (omega (arith, one, last_bytes form [] r)) (omega (arith, small)),
+        next (piece_back least Fits begun (r ∷ rs) (λ k. cc) h) (omega (arith, one, last_bytes form [] r)) (omega (arith, small, low)),
       )
 
-  parts_from : (least : V) (Fits : V → Type 0) (form : Form V) → IsSized least Fits form → (used : ℕ) (begun rs : List (Run V)) → begun ≢ [] → IsPiece least Fits (begun ++ rs)
-      → used ≡ 12 + length (runs_bytes form.bytes begun) → used ≤ 16384 → AllByRecursion (IsPart least Fits form) (cut_from form.size used begun rs)
+  parts_from : (least : V) (Fits : V → Type 0) (form : Form V) → IsSized least Fits form → (room : ℕ) → room ≤ 8173 → (used : ℕ) (begun rs : List (Run V)) → begun ≢ [] → IsPiece least Fits (begun ++ rs)
+      → used ≡ room + length (runs_bytes form.bytes begun) → used ≤ 16384 → AllByRecursion (IsPart room least Fits form) (cut_from room form.size used begun rs)
   unfolding cut_from
-  parts_from least Fits form sized used begun [] some h is fits = ((piece_front least Fits begun [] some h, omega (arith, is)), tt)
-  parts_from least Fits form sized used begun (r ∷ rs) some h is fits =
-      parts_step least Fits form sized used begun r rs (nat_le (used + form.size r) 16384) refl some h is fits
-      (λ p q t. parts_from least Fits form sized (used + form.size r) (begun ++ r ∷ []) rs (not_nothing begun r []) p q t)
-      (λ p q t. parts_from least Fits form sized (12 + form.size r) (r ∷ []) rs (λ k. cc) p q t)
+  parts_from least Fits form sized room low used begun [] some h is fits = ((piece_front least Fits begun [] some h, omega (arith, is)), tt)
+  parts_from least Fits form sized room low used begun (r ∷ rs) some h is fits =
+      parts_step least Fits form sized room low used begun r rs (nat_le (used + form.size r) 16384) refl some h is fits
+      (λ p q t. parts_from least Fits form sized room low (used + form.size r) (begun ++ r ∷ []) rs (not_nothing begun r []) p q t)
+      (λ p q t. parts_from least Fits form sized room low (room + form.size r) (r ∷ []) rs (λ k. cc) p q t)
 
   -- each part of a piece is a piece that fits into a frame
-  pub parts_fit : (least : V) (Fits : V → Type 0) (form : Form V) → IsSized least Fits form → (rs : List (Run V)) → IsPiece least Fits rs → AllByRecursion (IsPart least Fits form) (cut_frames form.size rs)
+  pub parts_fit : (least : V) (Fits : V → Type 0) (form : Form V) → IsSized least Fits form → (room : ℕ) → room ≤ 8173 → (rs : List (Run V)) → IsPiece least Fits rs → AllByRecursion (IsPart room least Fits form) (cut_frames room form.size rs)
   unfolding cut_frames
-  parts_fit least Fits form sized [] h = tt
-  parts_fit least Fits form sized (r ∷ rs) h =
+  parts_fit least Fits form sized room low [] h = tt
+  parts_fit least Fits form sized room low (r ∷ rs) h =
       let there = known_there least Fits [] r rs h in
-      parts_from least Fits form sized (12 + form.size r) (r ∷ []) rs (λ k. cc) h
-      (omega (arith, sized.spelled r there.0, last_bytes form [] r)) (omega (arith, sized.small r there.0 there.1))
+      parts_from least Fits form sized room low (room + form.size r) (r ∷ []) rs (λ k. cc) h
+      (omega (arith, sized.spelled r there.0, last_bytes form [] r)) (omega (arith, sized.small r there.0 there.1, low))
 
   -- What fits is not cut
 
-  whole_step : (least : V) (Fits : V → Type 0) (form : Form V) → IsSized least Fits form → (used : ℕ) (begun : List (Run V)) (r : Run V) (rs : List (Run V)) (b : Bool) → nat_le (used + form.size r) 16384 ≡ b
-      → IsPiece least Fits (begun ++ r ∷ rs) → used ≡ 12 + length (runs_bytes form.bytes begun) → 12 + length (runs_bytes form.bytes (begun ++ r ∷ rs)) ≤ 16384
-      → (IsPiece least Fits ((begun ++ r ∷ []) ++ rs) → used + form.size r ≡ 12 + length (runs_bytes form.bytes (begun ++ r ∷ [])) → 12 + length (runs_bytes form.bytes ((begun ++ r ∷ []) ++ rs)) ≤ 16384
-      → cut_from form.size (used + form.size r) (begun ++ r ∷ []) rs ≡ ((begun ++ r ∷ []) ++ rs) ∷ [])
-      → elim b [ true ↦ cut_from form.size (used + form.size r) (begun ++ r ∷ []) rs | false ↦ begun ∷ cut_from form.size (12 + form.size r) (r ∷ []) rs ] ≡ (begun ++ r ∷ rs) ∷ []
-  whole_step least Fits form sized used begun r rs b e h is fits more =
+  whole_step : (least : V) (Fits : V → Type 0) (form : Form V) → IsSized least Fits form → (room : ℕ) → (used : ℕ) (begun : List (Run V)) (r : Run V) (rs : List (Run V)) (b : Bool) → nat_le (used + form.size r) 16384 ≡ b
+      → IsPiece least Fits (begun ++ r ∷ rs) → used ≡ room + length (runs_bytes form.bytes begun) → room + length (runs_bytes form.bytes (begun ++ r ∷ rs)) ≤ 16384
+      → (IsPiece least Fits ((begun ++ r ∷ []) ++ rs) → used + form.size r ≡ room + length (runs_bytes form.bytes (begun ++ r ∷ [])) → room + length (runs_bytes form.bytes ((begun ++ r ∷ []) ++ rs)) ≤ 16384
+      → cut_from room form.size (used + form.size r) (begun ++ r ∷ []) rs ≡ ((begun ++ r ∷ []) ++ rs) ∷ [])
+      → elim b [ true ↦ cut_from room form.size (used + form.size r) (begun ++ r ∷ []) rs | false ↦ begun ∷ cut_from room form.size (room + form.size r) (r ∷ []) rs ] ≡ (begun ++ r ∷ rs) ∷ []
+  whole_step least Fits form sized room used begun r rs b e h is fits more =
       let regrouped : (begun ++ r ∷ []) ++ rs ≡ begun ++ r ∷ rs = append_assoc begun (r ∷ []) rs in
       let one : form.size r ≡ run_size form r = sized.spelled r (known_there least Fits begun r rs h).0 in
       let last = last_bytes form begun r in
@@ -188,22 +190,22 @@ module _ {V : Type 0} where
       ∙ length-append (runs_bytes form.bytes (begun ++ r ∷ [])) (runs_bytes form.bytes rs) in
       let inside : used + form.size r ≤ 16384 = omega (arith, is, one, last, size, fits) in
       let holds : b ≡ true = sym e ∙ le-leb (used + form.size r) 16384 inside in
-      let rest = more (subst (IsPiece least Fits) (sym regrouped) h) (omega (arith, is, one, last)) (subst (λ l. 12 + length (runs_bytes form.bytes l) ≤ 16384) (sym regrouped) fits) in
+      let rest = more (subst (IsPiece least Fits) (sym regrouped) h) (omega (arith, is, one, last)) (subst (λ l. room + length (runs_bytes form.bytes l) ≤ 16384) (sym regrouped) fits) in
       rw holds (rest ∙ ap (λ l. l ∷ []) regrouped)
 
-  whole_from : (least : V) (Fits : V → Type 0) (form : Form V) → IsSized least Fits form → (used : ℕ) (begun rs : List (Run V)) → IsPiece least Fits (begun ++ rs)
-      → used ≡ 12 + length (runs_bytes form.bytes begun) → 12 + length (runs_bytes form.bytes (begun ++ rs)) ≤ 16384 → cut_from form.size used begun rs ≡ (begun ++ rs) ∷ []
+  whole_from : (least : V) (Fits : V → Type 0) (form : Form V) → IsSized least Fits form → (room : ℕ) → (used : ℕ) (begun rs : List (Run V)) → IsPiece least Fits (begun ++ rs)
+      → used ≡ room + length (runs_bytes form.bytes begun) → room + length (runs_bytes form.bytes (begun ++ rs)) ≤ 16384 → cut_from room form.size used begun rs ≡ (begun ++ rs) ∷ []
   unfolding cut_from
-  whole_from least Fits form sized used begun [] h is fits = ap (λ l. l ∷ []) (sym (append-nil begun))
-  whole_from least Fits form sized used begun (r ∷ rs) h is fits =
-      whole_step least Fits form sized used begun r rs (nat_le (used + form.size r) 16384) refl h is fits
-      (λ p q t. whole_from least Fits form sized (used + form.size r) (begun ++ r ∷ []) rs p q t)
+  whole_from least Fits form sized room used begun [] h is fits = ap (λ l. l ∷ []) (sym (append-nil begun))
+  whole_from least Fits form sized room used begun (r ∷ rs) h is fits =
+      whole_step least Fits form sized room used begun r rs (nat_le (used + form.size r) 16384) refl h is fits
+      (λ p q t. whole_from least Fits form sized room (used + form.size r) (begun ++ r ∷ []) rs p q t)
 
-  pub whole_part : (least : V) (Fits : V → Type 0) (form : Form V) → IsSized least Fits form → (rs : List (Run V)) → IsPiece least Fits rs → 12 + length (runs_bytes form.bytes rs) ≤ 16384 → cut_frames form.size rs ≡ rs ∷ []
+  pub whole_part : (least : V) (Fits : V → Type 0) (form : Form V) → IsSized least Fits form → (room : ℕ) → (rs : List (Run V)) → IsPiece least Fits rs → room + length (runs_bytes form.bytes rs) ≤ 16384 → cut_frames room form.size rs ≡ rs ∷ []
   unfolding cut_frames
-  whole_part least Fits form sized [] h fits = absurd (h.some refl)
-  whole_part least Fits form sized (r ∷ rs) h fits =
-      whole_from least Fits form sized (12 + form.size r) (r ∷ []) rs h (omega (arith, sized.spelled r (known_there least Fits [] r rs h).0, last_bytes form [] r)) fits
+  whole_part least Fits form sized room [] h fits = absurd (h.some refl)
+  whole_part least Fits form sized room (r ∷ rs) h fits =
+      whole_from least Fits form sized room (room + form.size r) (r ∷ []) rs h (omega (arith, sized.spelled r (known_there least Fits [] r rs h).0, last_bytes form [] r)) fits
 
   -- The place where a part ends
 
@@ -212,14 +214,14 @@ module _ {V : Type 0} where
       drop_more rs i r (slice_get_within rs i r h) ∙ ap (λ x. x ∷ drop (i + 1) rs) (get_or_from_slice_get rs i r r h)
 
   -- a part begins with its first run
-  pub part_begun : (size : Run V → ℕ) (rs : List (Run V)) (start n : ℕ) (r : Run V) → slice_get rs start ≡ Some r → n ≡ size r
-      → cut_from size (12 + n) (slice_range rs start (start + 1)) (drop (start + 1) rs) ≡ cut_frames size (drop start rs)
+  pub part_begun : (room : ℕ) (size : Run V → ℕ) (rs : List (Run V)) (start n : ℕ) (r : Run V) → slice_get rs start ≡ Some r → n ≡ size r
+      → cut_from room size (room + n) (slice_range rs start (start + 1)) (drop (start + 1) rs) ≡ cut_frames room size (drop start rs)
   unfolding cut_frames
-  part_begun size rs start n r h is =
+  part_begun room size rs start n r h is =
       let there : drop start rs ≡ r ∷ drop (start + 1) rs = run_there rs start r h in
       let count : start + 1 - start ≡ 1 = omega arith in
       let alone : slice_range rs start (start + 1) ≡ r ∷ [] = ap (λ k. take k (drop start rs)) count ∙ ap (λ l. take 1 l) there in
-      ap₂ (λ k l. cut_from size (12 + k) l (drop (start + 1) rs)) is alone ∙ sym (ap (cut_frames size) there)
+      ap₂ (λ k l. cut_from room size (room + k) l (drop (start + 1) rs)) is alone ∙ sym (ap (cut_frames room size) there)
 
   -- the runs of a part, with the next one
   pub range_more : (rs : List (Run V)) (start i : ℕ) (r : Run V) → slice_get rs i ≡ Some r → start ≤ i → slice_range rs start (i + 1) ≡ slice_range rs start i ++ r ∷ []
@@ -231,46 +233,46 @@ module _ {V : Type 0} where
       let there : get_or (drop start rs) (i - start) r ≡ r = get_or-drop start rs (i - start) r ∙ ap (λ k. get_or rs k r) place ∙ get_or_from_slice_get rs i r r h in
       ap (λ n. take n (drop start rs)) more ∙ take_more (drop start rs) (i - start) r room ∙ ap (λ x. take (i - start) (drop start rs) ++ x ∷ []) there
 
-  cut_more : (size : Run V → ℕ) (used : ℕ) (begun : List (Run V)) (r : Run V) (rs : List (Run V)) → nat_le (used + size r) 16384 ≡ true
-      → cut_from size used begun (r ∷ rs) ≡ cut_from size (used + size r) (begun ++ r ∷ []) rs
+  cut_more : (room : ℕ) (size : Run V → ℕ) (used : ℕ) (begun : List (Run V)) (r : Run V) (rs : List (Run V)) → nat_le (used + size r) 16384 ≡ true
+      → cut_from room size used begun (r ∷ rs) ≡ cut_from room size (used + size r) (begun ++ r ∷ []) rs
   unfolding cut_from
-  cut_more size used begun r rs h = rw (cut_from, h) refl
+  cut_more room size used begun r rs h = rw (cut_from, h) refl
 
-  cut_next : (size : Run V → ℕ) (used : ℕ) (begun : List (Run V)) (r : Run V) (rs : List (Run V)) → nat_le (used + size r) 16384 ≡ false
-      → cut_from size used begun (r ∷ rs) ≡ begun ∷ cut_frames size (r ∷ rs)
+  cut_next : (room : ℕ) (size : Run V → ℕ) (used : ℕ) (begun : List (Run V)) (r : Run V) (rs : List (Run V)) → nat_le (used + size r) 16384 ≡ false
+      → cut_from room size used begun (r ∷ rs) ≡ begun ∷ cut_frames room size (r ∷ rs)
   unfolding cut_from cut_frames
-  cut_next size used begun r rs h = rw (cut_from, h) refl
+  cut_next room size used begun r rs h = rw (cut_from, h) refl
 
   -- a run that fits goes into it
-  pub part_grown : (size : Run V → ℕ) (rs : List (Run V)) (used n start i : ℕ) (r : Run V) (all : List (List (Run V))) → slice_get rs i ≡ Some r → n ≡ size r → start ≤ i → used + n ≤ 16384
-      → cut_from size used (slice_range rs start i) (drop i rs) ≡ all → cut_from size (used + n) (slice_range rs start (i + 1)) (drop (i + 1) rs) ≡ all
-  part_grown size rs used n start i r all h is le fits so_far =
+  pub part_grown : (room : ℕ) (size : Run V → ℕ) (rs : List (Run V)) (used n start i : ℕ) (r : Run V) (all : List (List (Run V))) → slice_get rs i ≡ Some r → n ≡ size r → start ≤ i → used + n ≤ 16384
+      → cut_from room size used (slice_range rs start i) (drop i rs) ≡ all → cut_from room size (used + n) (slice_range rs start (i + 1)) (drop (i + 1) rs) ≡ all
+  part_grown room size rs used n start i r all h is le fits so_far =
       let begun = slice_range rs start i in
-      ap₂ (λ k l. cut_from size (used + k) l (drop (i + 1) rs)) is (range_more rs start i r h le)
-      ∙ sym (cut_more size used begun r (drop (i + 1) rs) (le-leb (used + size r) 16384 (omega (arith, is, fits))))
-      ∙ ap (cut_from size used begun) (sym (run_there rs i r h)) ∙ so_far
+      ap₂ (λ k l. cut_from room size (used + k) l (drop (i + 1) rs)) is (range_more rs start i r h le)
+      ∙ sym (cut_more room size used begun r (drop (i + 1) rs) (le-leb (used + size r) 16384 (omega (arith, is, fits))))
+      ∙ ap (cut_from room size used begun) (sym (run_there rs i r h)) ∙ so_far
 
   -- a run that does not fit begins the next one
-  pub part_full : (size : Run V → ℕ) (rs : List (Run V)) (used n start i : ℕ) (r : Run V) (all : List (List (Run V))) → slice_get rs i ≡ Some r → n ≡ size r → 16384 < used + n
-      → cut_from size used (slice_range rs start i) (drop i rs) ≡ all → all ≡ slice_range rs start i ∷ cut_frames size (drop i rs)
-  part_full size rs used n start i r all h is full so_far =
+  pub part_full : (room : ℕ) (size : Run V → ℕ) (rs : List (Run V)) (used n start i : ℕ) (r : Run V) (all : List (List (Run V))) → slice_get rs i ≡ Some r → n ≡ size r → 16384 < used + n
+      → cut_from room size used (slice_range rs start i) (drop i rs) ≡ all → all ≡ slice_range rs start i ∷ cut_frames room size (drop i rs)
+  part_full room size rs used n start i r all h is full so_far =
       let begun = slice_range rs start i in
       let there = run_there rs i r h in
-      sym so_far ∙ ap (cut_from size used begun) there ∙ cut_next size used begun r (drop (i + 1) rs) (lt-leb (used + size r) 16384 (omega (arith, is, full)))
-      ∙ ap (λ l. begun ∷ cut_frames size l) (sym there)
+      sym so_far ∙ ap (cut_from room size used begun) there ∙ cut_next room size used begun r (drop (i + 1) rs) (lt-leb (used + size r) 16384 (omega (arith, is, full)))
+      ∙ ap (λ l. begun ∷ cut_frames room size l) (sym there)
 
   -- no run is left
-  pub part_last : (size : Run V → ℕ) (rs : List (Run V)) (used start i end : ℕ) (all : List (List (Run V))) → i ≡ end → end ≡ length rs
-      → cut_from size used (slice_range rs start i) (drop i rs) ≡ all → all ≡ slice_range rs start end ∷ cut_frames size (drop end rs)
+  pub part_last : (room : ℕ) (size : Run V → ℕ) (rs : List (Run V)) (used start i end : ℕ) (all : List (List (Run V))) → i ≡ end → end ≡ length rs
+      → cut_from room size used (slice_range rs start i) (drop i rs) ≡ all → all ≡ slice_range rs start end ∷ cut_frames room size (drop end rs)
   unfolding cut_from cut_frames
-  part_last size rs used start i end all same last so_far =
+  part_last room size rs used start i end all same last so_far =
       let none : drop i rs ≡ [] = drop_all i rs (omega arith) in
       let nothing : drop end rs ≡ [] = drop_all end rs (omega arith) in
-      sym so_far ∙ ap (cut_from size used (slice_range rs start i)) none ∙ ap (λ k. slice_range rs start k ∷ []) same ∙ ap (λ l. slice_range rs start end ∷ cut_frames size l) (sym nothing)
+      sym so_far ∙ ap (cut_from room size used (slice_range rs start i)) none ∙ ap (λ k. slice_range rs start k ∷ []) same ∙ ap (λ l. slice_range rs start end ∷ cut_frames room size l) (sym nothing)
 
-  pub none_left : (size : Run V → ℕ) (rs : List (Run V)) (i : ℕ) → length rs ≤ i → cut_frames size (drop i rs) ≡ []
+  pub none_left : (room : ℕ) (size : Run V → ℕ) (rs : List (Run V)) (i : ℕ) → length rs ≤ i → cut_frames room size (drop i rs) ≡ []
   unfolding cut_frames
-  none_left size rs i none = rw (drop_all i rs none) refl
+  none_left room size rs i none = rw (drop_all i rs none) refl
 
   pub length-range : (rs : List (Run V)) (start end : ℕ) → start ≤ end → end ≤ length rs → length (slice_range rs start end) ≡ end - start
   length-range rs start end le within = length-take-le (end - start) (drop start rs) (omega (arith, length-drop start rs))
@@ -360,32 +362,32 @@ module _ {V : Type 0} where
   all_heads h make (p ∷ ps) = (refl, all_heads h make ps)
 
   -- the bytes of the parts are those of their frames
-  pub spelled_parts : (value : V → List ℕ) (k : ℕ) (h : Head) (make : List (Run V) → Body)
-      → ((part : List (Run V)) → frame_bytes (record { head = h; body = make part }) ≡ head_bytes k h (length part) ++ runs_bytes value part)
-      → (parts : List (List (Run V))) → map (λ part. head_bytes k h (length part) ++ runs_bytes value part) parts ≡ map frame_bytes (map (λ part. record { head = h; body = make part }) parts)
-  spelled_parts value k h make spelled [] = refl
-  spelled_parts value k h make spelled (p ∷ ps) = ap₂ (λ b bs. b ∷ bs) (sym (spelled p)) (spelled_parts value k h make spelled ps)
+  pub spelled_parts : (value : V → List ℕ) (k : ℕ) (js : Joins) (h : Head) (make : List (Run V) → Body)
+      → ((part : List (Run V)) → frame_bytes (record { head = h; body = make part }) ≡ piece_head k h (length part) js ++ runs_bytes value part)
+      → (parts : List (List (Run V))) → map (λ part. piece_head k h (length part) js ++ runs_bytes value part) parts ≡ map frame_bytes (map (λ part. record { head = h; body = make part }) parts)
+  spelled_parts value k js h make spelled [] = refl
+  spelled_parts value k js h make spelled (p ∷ ps) = ap₂ (λ b bs. b ∷ bs) (sym (spelled p)) (spelled_parts value k js h make spelled ps)
 
   -- and each spells its part
-  pub frames_of_parts : (least : V) (Fits : V → Type 0) (form : Form V) (k : ℕ) (h : Head) (make : List (Run V) → Body)
-      → ((part : List (Run V)) → frame_bytes (record { head = h; body = make part }) ≡ head_bytes k h (length part) ++ runs_bytes form.bytes part)
+  pub frames_of_parts : (least : V) (Fits : V → Type 0) (form : Form V) (k : ℕ) (js : Joins) (h : Head) (make : List (Run V) → Body)
+      → ((part : List (Run V)) → frame_bytes (record { head = h; body = make part }) ≡ piece_head k h (length part) js ++ runs_bytes form.bytes part)
       → ((part : List (Run V)) → IsPiece least Fits part → IsBody (make part)) → IsHead h
-      → (parts : List (List (Run V))) → AllByRecursion (IsPart least Fits form) parts
-      → AreFrames (map (λ part. head_bytes k h (length part) ++ runs_bytes form.bytes part) parts) (map (λ part. record { head = h; body = make part }) parts)
-  frames_of_parts least Fits form k h make spelled bodies is [] each = tt
-  frames_of_parts least Fits form k h make spelled bodies is (p ∷ ps) each = (
+      → (parts : List (List (Run V))) → AllByRecursion (IsPart (head_size js) least Fits form) parts
+      → AreFrames (map (λ part. piece_head k h (length part) js ++ runs_bytes form.bytes part) parts) (map (λ part. record { head = h; body = make part }) parts)
+  frames_of_parts least Fits form k js h make spelled bodies is [] each = tt
+  frames_of_parts least Fits form k js h make spelled bodies is (p ∷ ps) each = (
     record {
       whole = record { head = is; body = bodies p each.0.0 };
       spelled = sym (spelled p);
-      short = omega (arith, each.0.1, length-append (head_bytes k h (length p)) (runs_bytes form.bytes p));
+      short = omega (arith, each.0.1, head_sized k (length p) h js, length-append (piece_head k h (length p) js) (runs_bytes form.bytes p));
     },
-    frames_of_parts least Fits form k h make spelled bodies is ps each.1,
+    frames_of_parts least Fits form k js h make spelled bodies is ps each.1,
   )
 
 heads_under : (h : Head) (x : Body) → AllByRecursion {X = Frame} (λ p. p.head ≡ h) (parts_of (record { head = h; body = x }))
 unfolding parts_of
-heads_under h (body.Knowledge rs) = all_heads h body.Knowledge (cut_frames known_run_size rs)
-heads_under h (body.Curiosity rs) = all_heads h body.Curiosity (cut_frames wanted_run_size rs)
+heads_under h (body.Knowledge rs js) = all_heads h (λ part. body.Knowledge part js) (cut_frames (head_size js) known_run_size rs)
+heads_under h (body.Curiosity rs) = all_heads h body.Curiosity (cut_frames 12 wanted_run_size rs)
 heads_under h (body.Expect t) = (refl, tt)
 
 -- all parts have the head of the frame
@@ -394,12 +396,13 @@ heads_kept f = heads_under f.head f.body
 
 whole_under : (h : Head) (x : Body) → IsBody x → length (frame_bytes (record { head = h; body = x })) ≤ 16384 → parts_of (record { head = h; body = x }) ≡ record { head = h; body = x } ∷ []
 unfolding parts_of frame_bytes
-whole_under h (body.Knowledge rs) is short =
-    let fits : 12 + length (runs_bytes known_bytes rs) ≤ 16384 = omega (arith, short, length-append (head_bytes 1 h (length rs)) (runs_bytes known_bytes rs)) in
-    ap (map (λ part. record { head = h; body = body.Knowledge part })) (whole_part Q IsKnown known_form known_sized rs is fits)
+whole_under h (body.Knowledge rs js) is short =
+    let front = piece_head 1 h (length rs) js in
+    let fits : head_size js + length (runs_bytes known_bytes rs) ≤ 16384 = omega (arith, short, head_sized 1 (length rs) h js, length-append front (runs_bytes known_bytes rs)) in
+    ap (map (λ part. record { head = h; body = body.Knowledge part js })) (whole_part Q IsKnown known_form known_sized (head_size js) rs is.0 fits)
 whole_under h (body.Curiosity rs) is short =
-    let fits : 12 + length (runs_bytes wanted_bytes rs) ≤ 16384 = omega (arith, short, length-append (head_bytes 2 h (length rs)) (runs_bytes wanted_bytes rs)) in
-    ap (map (λ part. record { head = h; body = body.Curiosity part })) (whole_part N IsWanted wanted_form wanted_sized rs is fits)
+    let fits : 12 + length (runs_bytes wanted_bytes rs) ≤ 16384 = omega (arith, short, length-append (head_bytes 1 2 h (length rs)) (runs_bytes wanted_bytes rs)) in
+    ap (map (λ part. record { head = h; body = body.Curiosity part })) (whole_part N IsWanted wanted_form wanted_sized 12 rs is fits)
 whole_under h (body.Expect t) is short = refl
 
 -- a frame that is not too long is not cut
@@ -408,60 +411,64 @@ not_cut bytes f is = whole_under f.head f.body is.whole.body (omega (arith, is.s
 
 -- Frames of a whole frame
 
-known_spelled : (h : Head) (part : List (Run K)) → frame_bytes (record { head = h; body = body.Knowledge part }) ≡ head_bytes 1 h (length part) ++ runs_bytes known_bytes part
+known_spelled : (h : Head) (js : Joins) (part : List (Run K)) → frame_bytes (record { head = h; body = body.Knowledge part js }) ≡ piece_head 1 h (length part) js ++ runs_bytes known_bytes part
 unfolding frame_bytes
-known_spelled h part = refl
+known_spelled h js part = refl
 
-wanted_spelled : (h : Head) (part : List (Run Q3)) → frame_bytes (record { head = h; body = body.Curiosity part }) ≡ head_bytes 2 h (length part) ++ runs_bytes wanted_bytes part
+wanted_spelled : (h : Head) (part : List (Run Q3)) → frame_bytes (record { head = h; body = body.Curiosity part }) ≡ piece_head 2 h (length part) [] ++ runs_bytes wanted_bytes part
 unfolding frame_bytes
 wanted_spelled h part = refl
 
-pub known_parts : (f : Frame) (rs : List (Run K)) → f.body ≡ body.Knowledge rs → parts_of f ≡ map (λ part. record { head = f.head; body = body.Knowledge part }) (cut_frames known_run_size rs)
+pub known_parts : (f : Frame) (rs : List (Run K)) (js : Joins) → f.body ≡ body.Knowledge rs js → parts_of f ≡ map (λ part. record { head = f.head; body = body.Knowledge part js }) (cut_frames (head_size js) known_run_size rs)
 unfolding parts_of
-known_parts f rs e = rw e refl
+known_parts f rs js e = rw e refl
 
-pub wanted_parts : (f : Frame) (rs : List (Run Q3)) → f.body ≡ body.Curiosity rs → parts_of f ≡ map (λ part. record { head = f.head; body = body.Curiosity part }) (cut_frames wanted_run_size rs)
+pub wanted_parts : (f : Frame) (rs : List (Run Q3)) → f.body ≡ body.Curiosity rs → parts_of f ≡ map (λ part. record { head = f.head; body = body.Curiosity part }) (cut_frames 12 wanted_run_size rs)
 unfolding parts_of
 wanted_parts f rs e = rw e refl
 
 -- what was made of a piece of knowledge is what the cutting rule makes
-pub known_cut : (f : Frame) (rs : List (Run K)) (fs : List (List ℕ)) → f.body ≡ body.Knowledge rs
-    → fs ≡ map (λ part. head_bytes 1 f.head (length part) ++ runs_bytes known_bytes part) (cut_frames known_run_size rs) → fs ≡ map frame_bytes (parts_of f)
-known_cut f rs fs e made =
-    made ∙ spelled_parts known_bytes 1 f.head body.Knowledge (known_spelled f.head) (cut_frames known_run_size rs) ∙ ap (map frame_bytes) (sym (known_parts f rs e))
+pub known_cut : (f : Frame) (rs : List (Run K)) (js : Joins) (fs : List (List ℕ)) → f.body ≡ body.Knowledge rs js
+    → fs ≡ map (λ part. piece_head 1 f.head (length part) js ++ runs_bytes known_bytes part) (cut_frames (head_size js) known_run_size rs) → fs ≡ map frame_bytes (parts_of f)
+known_cut f rs js fs e made =
+    made ∙ spelled_parts known_bytes 1 js f.head (λ part. body.Knowledge part js) (known_spelled f.head js) (cut_frames (head_size js) known_run_size rs)
+    ∙ ap (map frame_bytes) (sym (known_parts f rs js e))
 
-pub known_framed : (f : Frame) (rs : List (Run K)) (fs : List (List ℕ)) → f.body ≡ body.Knowledge rs → IsHead f.head → IsPiece Q IsKnown rs
-    → fs ≡ map (λ part. head_bytes 1 f.head (length part) ++ runs_bytes known_bytes part) (cut_frames known_run_size rs) → AreFrames fs (parts_of f)
-known_framed f rs fs e head piece made =
-    rw (made, known_parts f rs e) (
-    frames_of_parts Q IsKnown known_form 1 f.head body.Knowledge (known_spelled f.head) (λ part p. p) head (cut_frames known_run_size rs) (parts_fit Q IsKnown known_form known_sized rs piece)
+pub known_framed : (f : Frame) (rs : List (Run K)) (js : Joins) (fs : List (List ℕ)) → f.body ≡ body.Knowledge rs js → IsHead f.head → IsPiece Q IsKnown rs → AreJoins js
+    → fs ≡ map (λ part. piece_head 1 f.head (length part) js ++ runs_bytes known_bytes part) (cut_frames (head_size js) known_run_size rs) → AreFrames fs (parts_of f)
+known_framed f rs js fs e head piece are made =
+    rw (made, known_parts f rs js e) (
+    frames_of_parts Q IsKnown known_form 1 js f.head (λ part. body.Knowledge part js) (known_spelled f.head js) (λ part p. (p, are)) head (cut_frames (head_size js) known_run_size rs)
+    (parts_fit Q IsKnown known_form known_sized (head_size js) (omega (arith, head_small js are)) rs piece)
     )
 
-pub wanted_cut : (f : Frame) (rs : List (Run Q3)) (fs : List (List ℕ)) → f.body ≡ body.Curiosity rs
-    → fs ≡ map (λ part. head_bytes 2 f.head (length part) ++ runs_bytes wanted_bytes part) (cut_frames wanted_run_size rs) → fs ≡ map frame_bytes (parts_of f)
-wanted_cut f rs fs e made =
-    made ∙ spelled_parts wanted_bytes 2 f.head body.Curiosity (wanted_spelled f.head) (cut_frames wanted_run_size rs) ∙ ap (map frame_bytes) (sym (wanted_parts f rs e))
+-- the same of curiosity, which has no joins
+pub wanted_cut : (f : Frame) (rs : List (Run Q3)) (js : Joins) (fs : List (List ℕ)) → f.body ≡ body.Curiosity rs → js ≡ []
+    → fs ≡ map (λ part. piece_head 2 f.head (length part) js ++ runs_bytes wanted_bytes part) (cut_frames (head_size js) wanted_run_size rs) → fs ≡ map frame_bytes (parts_of f)
+wanted_cut f rs js fs e none made =
+    made ∙ ap (λ (x : Joins). map (λ part. piece_head 2 f.head (length part) x ++ runs_bytes wanted_bytes part) (cut_frames (head_size x) wanted_run_size rs)) none
+    ∙ spelled_parts wanted_bytes 2 [] f.head body.Curiosity (wanted_spelled f.head) (cut_frames 12 wanted_run_size rs) ∙ ap (map frame_bytes) (sym (wanted_parts f rs e))
 
 pub wanted_framed : (f : Frame) (rs : List (Run Q3)) (fs : List (List ℕ)) → f.body ≡ body.Curiosity rs → IsHead f.head → IsPiece N IsWanted rs
-    → fs ≡ map (λ part. head_bytes 2 f.head (length part) ++ runs_bytes wanted_bytes part) (cut_frames wanted_run_size rs) → AreFrames fs (parts_of f)
+    → fs ≡ map (λ part. piece_head 2 f.head (length part) [] ++ runs_bytes wanted_bytes part) (cut_frames 12 wanted_run_size rs) → AreFrames fs (parts_of f)
 wanted_framed f rs fs e head piece made =
     rw (made, wanted_parts f rs e) (
-    frames_of_parts N IsWanted wanted_form 2 f.head body.Curiosity (wanted_spelled f.head) (λ part p. p) head (cut_frames wanted_run_size rs) (parts_fit N IsWanted wanted_form wanted_sized rs piece)
+    frames_of_parts N IsWanted wanted_form 2 [] f.head body.Curiosity (wanted_spelled f.head) (λ part p. p) head (cut_frames 12 wanted_run_size rs) (parts_fit N IsWanted wanted_form wanted_sized 12 (omega arith) rs piece)
     )
 
 pub expect_parts : (f : Frame) (t : ℕ) → f.body ≡ body.Expect t → parts_of f ≡ f ∷ []
 unfolding parts_of
 expect_parts f t e = rw e refl
 
-expect_bytes : (f : Frame) (t : ℕ) → f.body ≡ body.Expect t → frame_bytes f ≡ head_bytes 3 f.head 1 ++ to_be_bytes w64 t
+expect_bytes : (f : Frame) (t : ℕ) → f.body ≡ body.Expect t → frame_bytes f ≡ head_bytes 1 3 f.head 1 ++ to_be_bytes w64 t
 unfolding frame_bytes
 expect_bytes f t e = rw e refl
 
 -- an Expect is one frame
-pub expect_cut : (f : Frame) (t : ℕ) (bytes : List ℕ) → f.body ≡ body.Expect t → bytes ≡ head_bytes 3 f.head 1 ++ to_be_bytes w64 t → bytes ∷ [] ≡ map frame_bytes (parts_of f)
+pub expect_cut : (f : Frame) (t : ℕ) (bytes : List ℕ) → f.body ≡ body.Expect t → bytes ≡ head_bytes 1 3 f.head 1 ++ to_be_bytes w64 t → bytes ∷ [] ≡ map frame_bytes (parts_of f)
 expect_cut f t bytes e made = ap (λ b. b ∷ []) (made ∙ sym (expect_bytes f t e)) ∙ ap (map frame_bytes) (sym (expect_parts f t e))
 
-pub expect_framed : (f : Frame) (t : ℕ) (bytes : List ℕ) → f.body ≡ body.Expect t → IsHead f.head → 1 ≤ t → t ≤ 2 ^ 62 → bytes ≡ head_bytes 3 f.head 1 ++ to_be_bytes w64 t
+pub expect_framed : (f : Frame) (t : ℕ) (bytes : List ℕ) → f.body ≡ body.Expect t → IsHead f.head → 1 ≤ t → t ≤ 2 ^ 62 → bytes ≡ head_bytes 1 3 f.head 1 ++ to_be_bytes w64 t
     → AreFrames (bytes ∷ []) (parts_of f)
 expect_framed f t bytes e head one upto made =
     let framed : bytes ≡ frame_bytes f = made ∙ sym (expect_bytes f t e) in
@@ -479,13 +486,13 @@ each_not_cut (b ∷ bs) [] h = elim h [ ]
 each_not_cut (b ∷ bs) (p ∷ ps) h = (not_cut b p h.0, each_not_cut bs ps h.1)
 
 parts_under : (h : Head) (x : Body) → IsHead h → IsBody x → AllByRecursion {X = Frame} (λ p. parts_of p ≡ p ∷ []) (parts_of (record { head = h; body = x }))
-parts_under h (body.Knowledge rs) head is =
-    let f : Frame = record { head = h; body = body.Knowledge rs } in
-    let made = map (λ part. head_bytes 1 h (length part) ++ runs_bytes known_bytes part) (cut_frames known_run_size rs) in
-    each_not_cut made (parts_of f) (known_framed f rs made refl head is refl)
+parts_under h (body.Knowledge rs js) head is =
+    let f : Frame = record { head = h; body = body.Knowledge rs js } in
+    let made = map (λ part. piece_head 1 h (length part) js ++ runs_bytes known_bytes part) (cut_frames (head_size js) known_run_size rs) in
+    each_not_cut made (parts_of f) (known_framed f rs js made refl head is.0 is.1 refl)
 parts_under h (body.Curiosity rs) head is =
     let f : Frame = record { head = h; body = body.Curiosity rs } in
-    let made = map (λ part. head_bytes 2 h (length part) ++ runs_bytes wanted_bytes part) (cut_frames wanted_run_size rs) in
+    let made = map (λ part. piece_head 2 h (length part) [] ++ runs_bytes wanted_bytes part) (cut_frames 12 wanted_run_size rs) in
     each_not_cut made (parts_of f) (wanted_framed f rs made refl head is refl)
 parts_under h (body.Expect t) head is =
     let f : Frame = record { head = h; body = body.Expect t } in

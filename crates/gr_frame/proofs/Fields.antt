@@ -81,7 +81,7 @@ u16_told bytes at n fits h =
     let small : from_be_bytes w16 f < 2 ^ 16 = omega (arith, each 0, each 1) in
     (field.0 ∙ ap (λ l. l ++ drop (at + 2) bytes) (sym (be_bytes_2 f n field.1 each (sym is))), omega (arith, small, is))
 
-u64_told : (bytes : List ℕ) (at n : ℕ) → AreBytes bytes → u64_at bytes at ≡ Ok n → drop at bytes ≡ to_be_bytes w64 n ++ drop (at + 8) bytes
+pub u64_told : (bytes : List ℕ) (at n : ℕ) → AreBytes bytes → u64_at bytes at ≡ Ok n → drop at bytes ≡ to_be_bytes w64 n ++ drop (at + 8) bytes
 u64_told bytes at n fits h =
     let one = bind_told (field_at bytes at 8) (λ f. Ok (from_be_bytes w64 f)) n h in
     let f = one.0 in
@@ -112,7 +112,7 @@ is_below n k h = grind (arith, rules)
 pub not_below : (n k : ℕ) → k ≤ n → nat_lt n k ≡ false
 not_below n k h = grind (arith, rules)
 
-is_within : (n k : ℕ) → n ≤ k → nat_le n k ≡ true
+pub is_within : (n k : ℕ) → n ≤ k → nat_le n k ≡ true
 is_within n k h = grind (arith, rules)
 
 pub byte_here : (front rest bytes : List ℕ) (x at : ℕ) → bytes ≡ front ++ x ∷ rest → at ≡ length front → byte_at bytes at ≡ Ok x
@@ -135,7 +135,7 @@ u16_here front rest bytes n at e d small =
     ap (λ r. r >>= λ f. Ok (from_be_bytes w16 f)) (field_here front (to_be_bytes w16 n) rest bytes at 2 e d refl)
     ∙ ap (λ k. Ok k) (from_be_bytes-to_be_bytes_2 n (omega (arith, small)))
 
-u64_here : (front rest bytes : List ℕ) (n at : ℕ) → bytes ≡ front ++ (to_be_bytes w64 n ++ rest) → at ≡ length front → n < 2 ^ 64 → u64_at bytes at ≡ Ok n
+pub u64_here : (front rest bytes : List ℕ) (n at : ℕ) → bytes ≡ front ++ (to_be_bytes w64 n ++ rest) → at ≡ length front → n < 2 ^ 64 → u64_at bytes at ≡ Ok n
 u64_here front rest bytes n at e d small =
     ap (λ r. r >>= λ f. Ok (from_be_bytes w64 f)) (field_here front (to_be_bytes w64 n) rest bytes at 8 e d refl)
     ∙ ap (λ k. Ok k) (from_be_bytes-to_be_bytes_8 n (omega (arith, small)))

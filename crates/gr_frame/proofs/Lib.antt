@@ -2,6 +2,7 @@ pub mod Cutting
 pub mod Events
 pub mod Fields
 pub mod Forms
+pub mod Lists
 pub mod Loop
 pub mod Ranges
 pub mod Spelled

@@ -14,16 +14,18 @@ use Rattle.gr_frame.specs.declared.Body.TheVariants as body
 use Rattle.gr_frame.specs.declared.Head.{Head}
 use Rattle.gr_frame.specs.declared.Frame.{Frame}
 use Rattle.gr_frame.specs.declared.value.BodyKind.{BodyKind}
-use Rattle.gr_frame.specs.declared.value.BodyKind.TheVariants.{Knowledge, Curiosity, Expect}
+use Rattle.gr_frame.specs.declared.value.BodyKind.TheVariants.{Knowledge, JoinedKnowledge, Curiosity, Expect}
 use Rattle.gr_frame.specs.declared.fault.FrameKind.TheVariants.{Trailing}
 use Rattle.gr_frame.specs.declared.fault.FrameFault.{FrameFault}
-use Rattle.gr_frame.specs.Bytes.{known_bytes, wanted_bytes, runs_bytes, frame_bytes, head_bytes}
+use Rattle.gr_event.specs.Joins.{Joins}
+use Rattle.gr_frame.specs.Bytes.{known_bytes, wanted_bytes, runs_bytes, frame_bytes, head_bytes, head_size, list_bytes}
 use Rattle.gr_frame.specs.Form.{Form}
 use Rattle.gr_frame.specs.Gives.{fault, ◌>>=◌}
 use Rattle.gr_frame.specs.Limits.{IsKnown, IsWanted, IsPiece, IsBody, IsHead, IsWhole, IsFrame}
-use Rattle.gr_frame.specs.Decode.{u16_at, tick_at, is_above, goes_on, run_with_ticks, run_at, run_size, runs_at, kind_number, kind_at, head_at, is_Expect, count_at, expect_at, body_at, fields_of, frame_decoded, known_form, wanted_form}
+use Rattle.gr_frame.specs.Decode.{u16_at, tick_at, is_above, goes_on, run_with_ticks, run_at, run_size, runs_at, list_at, version_number, kind_number, kind_at, head_at, is_Expect, count_at, expect_at, knowledge_behind, body_at, fields_of, frame_decoded, known_form, wanted_form}
 use Rattle.gr_frame.proofs.Fields.{byte_here, u16_here, tick_here, field_here, not_below}
 use Rattle.gr_frame.proofs.Forms.{IsForm, known_is, wanted_is}
+use Rattle.gr_frame.proofs.Lists.{head_sized, list_here}
 use Rattle.gr_frame.proofs.Told.{After}
 
 -- what was read, if it ends where the bytes end
@@ -133,10 +135,12 @@ module _ {V : Type 0} where
 
 -- The fields before the body
 
-kind_here : (b : BodyKind) (bytes tail : List ℕ) → bytes ≡ 71 ∷ (75 ∷ (1 ∷ (kind_number b ∷ tail))) → kind_at bytes ≡ Ok b
+kind_here : (b : BodyKind) (bytes tail : List ℕ) → bytes ≡ 71 ∷ (75 ∷ (version_number b ∷ (kind_number b ∷ tail))) → kind_at bytes ≡ Ok b
 unfolding kind_at
 kind_here Knowledge bytes tail e =
     rw (field_here [] (71 ∷ (75 ∷ [])) (1 ∷ (1 ∷ tail)) bytes 0 2 e refl refl, byte_here (71 ∷ (75 ∷ [])) (1 ∷ tail) bytes 1 2 e refl, byte_here (71 ∷ (75 ∷ (1 ∷ []))) tail bytes 1 3 e refl) refl
+kind_here JoinedKnowledge bytes tail e =
+    rw (field_here [] (71 ∷ (75 ∷ [])) (2 ∷ (1 ∷ tail)) bytes 0 2 e refl refl, byte_here (71 ∷ (75 ∷ [])) (1 ∷ tail) bytes 2 2 e refl, byte_here (71 ∷ (75 ∷ (2 ∷ []))) tail bytes 1 3 e refl) refl
 kind_here Curiosity bytes tail e =
     rw (field_here [] (71 ∷ (75 ∷ [])) (1 ∷ (2 ∷ tail)) bytes 0 2 e refl refl, byte_here (71 ∷ (75 ∷ [])) (2 ∷ tail) bytes 1 2 e refl, byte_here (71 ∷ (75 ∷ (1 ∷ []))) tail bytes 2 3 e refl) refl
 kind_here Expect bytes tail e =
@@ -170,7 +174,7 @@ count_here b n front tail bytes e d small some one =
 abbrev framed : Head → Body → Frame
 framed h x = record { head = h; body = x }
 
-fields_here : (b : BodyKind) (h : Head) (n : ℕ) (tail bytes : List ℕ) → bytes ≡ head_bytes (kind_number b) h n ++ tail → IsHead h → n < 2 ^ 16 → (n == 0) ≡ false
+fields_here : (b : BodyKind) (h : Head) (n : ℕ) (tail bytes : List ℕ) → bytes ≡ head_bytes (version_number b) (kind_number b) h n ++ tail → IsHead h → n < 2 ^ 16 → (n == 0) ≡ false
     → (is_Expect b ≡ true → (n == 1) ≡ true) → fields_of bytes ≡ (body_at bytes b n >>= λ x. Ok (framed h x))
 unfolding fields_of
 fields_here b h n tail bytes e is small some one =
@@ -178,7 +182,7 @@ fields_here b h n tail bytes e is small some one =
     let c = to_be_bytes w16 h.to in
     let d = to_be_bytes w16 h.publisher in
     let k = to_be_bytes w16 n in
-    let first = 71 ∷ (75 ∷ (1 ∷ (kind_number b ∷ []))) in
+    let first = 71 ∷ (75 ∷ (version_number b ∷ (kind_number b ∷ []))) in
     let kind_is = kind_here b bytes (a ++ (c ++ (d ++ (k ++ tail)))) e in
     let head_is = head_here h first (k ++ tail) bytes e refl is in
     let count_is = count_here b n (first ++ (a ++ (c ++ d))) tail bytes e refl small some one in
@@ -205,12 +209,12 @@ expect_here : (t : ℕ) (front rest bytes : List ℕ) → bytes ≡ front ++ (to
 unfolding expect_at
 expect_here t front rest bytes e d one upto = rw (tick_here front rest bytes t 1 12 e (sym d) one upto) refl
 
-piece_begins : {V : Type 0} (least : V) (Fits : V → Type 0) (form : Form V) → IsForm least Fits form → ((v : V) → v ≢ least → 1 ≤ length (form.bytes v)) → (front : List ℕ) (rs : List (Run V)) (rest bytes : List ℕ)
-    → bytes ≡ front ++ (runs_bytes form.bytes rs ++ rest) → length front ≡ 12 → length bytes ≤ 16384 → IsPiece least Fits rs
-    → (runs_at form bytes (length rs) 12 None ≡ ended (12 + length (runs_bytes form.bytes rs)) bytes rs) × (length rs < 2 ^ 16) × ((length rs == 0) ≡ false)
-piece_begins least Fits form law some front rs rest bytes e d short is =
+piece_begins : {V : Type 0} (least : V) (Fits : V → Type 0) (form : Form V) → IsForm least Fits form → ((v : V) → v ≢ least → 1 ≤ length (form.bytes v)) → (front : List ℕ) (rs : List (Run V)) (rest bytes : List ℕ) (at : ℕ)
+    → bytes ≡ front ++ (runs_bytes form.bytes rs ++ rest) → length front ≡ at → length bytes ≤ 16384 → IsPiece least Fits rs
+    → (runs_at form bytes (length rs) at None ≡ ended (at + length (runs_bytes form.bytes rs)) bytes rs) × (length rs < 2 ^ 16) × ((length rs == 0) ≡ false)
+piece_begins least Fits form law some front rs rest bytes at e d short is =
     let text = runs_bytes form.bytes rs in (
-      runs_here least Fits form law front rs rest bytes None 12 e (sym d) is.runs is.upto is.each ∙ ap (λ k. ended (k + length text) bytes rs) d,
+      runs_here least Fits form law front rs rest bytes None at e (sym d) is.runs is.upto is.each ∙ ap (λ k. ended (k + length text) bytes rs) d,
       omega (arith, many_bytes least Fits form None rs some is.runs, ap length e, length-append front (text ++ rest), length-append text rest),
       not_none rs is.some,
     )
@@ -219,27 +223,44 @@ abbrev Begins : List ℕ → List ℕ → Head → Body → Type 0
 Begins rest bytes h x = bytes ≡ frame_bytes (framed h x) ++ rest → fields_of bytes ≡ ended (length (frame_bytes (framed h x))) bytes (framed h x)
 
 body_begins : (rest bytes : List ℕ) (h : Head) (x : Body) → length bytes ≤ 16384 → IsHead h → IsBody x → Begins rest bytes h x
-unfolding frame_bytes body_at
-body_begins rest bytes h (body.Knowledge rs) short is ok e =
-    let front = head_bytes 1 h (length rs) in
+unfolding frame_bytes body_at knowledge_behind
+body_begins rest bytes h (body.Knowledge rs []) short is ok e =
+    let front = head_bytes 1 1 h (length rs) in
     let text = runs_bytes known_form.bytes rs in
     let apart : bytes ≡ front ++ (text ++ rest) = e in
-    let read = piece_begins Q IsKnown known_form known_is one_known front rs rest bytes apart refl short ok in
+    let read = piece_begins Q IsKnown known_form known_is one_known front rs rest bytes 12 apart refl short ok.0 in
     fields_here Knowledge h (length rs) (text ++ rest) bytes apart is read.1 read.2 (λ k. absurd (cc))
-    ∙ ap (λ q. (q >>= λ l. Ok (body.Knowledge l)) >>= λ x. Ok (framed h x)) read.0
-    ∙ ended_twice (12 + length text == length bytes) (fault Trailing (12 + length text)) rs (λ l. body.Knowledge l) (λ x. framed h x)
-    ∙ ap (λ k. ended k bytes (framed h (body.Knowledge rs))) (sym (length-append front text))
+    ∙ ap (λ q. (q >>= λ l. Ok (body.Knowledge l [])) >>= λ x. Ok (framed h x)) read.0
+    ∙ ended_twice (12 + length text == length bytes) (fault Trailing (12 + length text)) rs (λ l. body.Knowledge l []) (λ x. framed h x)
+    ∙ ap (λ k. ended k bytes (framed h (body.Knowledge rs []))) (sym (length-append front text))
+body_begins rest bytes h (body.Knowledge rs (j ∷ js)) short is ok e =
+    let all : Joins = j ∷ js in
+    let front = head_bytes 2 1 h (length rs) in
+    let list = list_bytes all in
+    let text = runs_bytes known_form.bytes rs in
+    let apart : bytes ≡ front ++ (list ++ (text ++ rest)) = e ∙ ap (λ l. front ++ l) (append_assoc list text rest) in
+    let whole : bytes ≡ (front ++ list) ++ (text ++ rest) = apart ∙ sym (append_assoc front list (text ++ rest)) in
+    let size : length (front ++ list) ≡ head_size all = head_sized 1 (length rs) h all in
+    let end = head_size all + length text in
+    let place : end ≡ length ((front ++ list) ++ text) = omega (arith, size, length-append (front ++ list) text) in
+    let read = piece_begins Q IsKnown known_form known_is one_known (front ++ list) rs rest bytes (head_size all) whole size short ok.0 in
+    let listed : list_at bytes ≡ Ok all = list_here j js front (text ++ rest) bytes apart refl ok.1 in
+    fields_here JoinedKnowledge h (length rs) (list ++ (text ++ rest)) bytes apart is read.1 read.2 (λ k. absurd (cc))
+    ∙ ap (λ q. (q >>= knowledge_behind bytes (length rs)) >>= λ x. Ok (framed h x)) listed
+    ∙ ap (λ q. (q >>= λ l. Ok (body.Knowledge l all)) >>= λ x. Ok (framed h x)) read.0
+    ∙ ended_twice (end == length bytes) (fault Trailing end) rs (λ l. body.Knowledge l all) (λ x. framed h x)
+    ∙ ap (λ k. ended k bytes (framed h (body.Knowledge rs all))) place
 body_begins rest bytes h (body.Curiosity rs) short is ok e =
-    let front = head_bytes 2 h (length rs) in
+    let front = head_bytes 1 2 h (length rs) in
     let text = runs_bytes wanted_form.bytes rs in
     let apart : bytes ≡ front ++ (text ++ rest) = e in
-    let read = piece_begins N IsWanted wanted_form wanted_is one_wanted front rs rest bytes apart refl short ok in
+    let read = piece_begins N IsWanted wanted_form wanted_is one_wanted front rs rest bytes 12 apart refl short ok in
     fields_here Curiosity h (length rs) (text ++ rest) bytes apart is read.1 read.2 (λ k. absurd (cc))
     ∙ ap (λ q. (q >>= λ l. Ok (body.Curiosity l)) >>= λ x. Ok (framed h x)) read.0
     ∙ ended_twice (12 + length text == length bytes) (fault Trailing (12 + length text)) rs (λ l. body.Curiosity l) (λ x. framed h x)
     ∙ ap (λ k. ended k bytes (framed h (body.Curiosity rs))) (sym (length-append front text))
 body_begins rest bytes h (body.Expect t) short is ok e =
-    let front = head_bytes 3 h 1 in
+    let front = head_bytes 1 3 h 1 in
     let apart : bytes ≡ front ++ (to_be_bytes w64 t ++ rest) = e in
     fields_here Expect h 1 (to_be_bytes w64 t ++ rest) bytes apart is (omega arith) refl (λ k. refl)
     ∙ ap (λ q. q >>= λ x. Ok (framed h x)) (expect_here t front rest bytes apart refl ok.0 ok.1)

@@ -1,5 +1,5 @@
 -- Bytes that decode to a frame spell it
-use Rattle.std.proofs.Common.{◌≡◌, ◌≢◌, ◌≤◌, ◌+◌, ◌^◌, ◌==◌, ◌||◌, ◌&&◌, ℕ, suc, zero, List, [], ◌∷◌, ◌++◌, length, drop, true, false, not, Bool, nat_lt, if◌then◌else◌, Option, Some, None, Ok, Err, ap, refl, sym, subst, ◌∙◌, arith, rules, append_assoc, inl, inr, eqb-true}
+use Rattle.std.proofs.Common.{◌≡◌, ◌≢◌, ◌≤◌, ◌+◌, ◌^◌, ◌==◌, ◌||◌, ◌&&◌, ℕ, suc, zero, List, [], ◌∷◌, ◌++◌, length, drop, true, false, not, Bool, nat_lt, if◌then◌else◌, Option, Some, None, Ok, Err, ap, refl, sym, subst, ◌∙◌, arith, rules, append_assoc, inl, inr, eqb-true, ap₂}
 use Rattle.std.specs.Prelude.{bytes_eq}
 use Rattle.std.specs.Int.{to_be_bytes, w16, w64}
 use Rattle.std.specs.List.{AllByRecursion}
@@ -15,15 +15,16 @@ use Rattle.gr_frame.specs.declared.Body.TheVariants as body
 use Rattle.gr_frame.specs.declared.Head.{Head}
 use Rattle.gr_frame.specs.declared.Frame.{Frame}
 use Rattle.gr_frame.specs.declared.value.BodyKind.{BodyKind}
-use Rattle.gr_frame.specs.declared.value.BodyKind.TheVariants.{Knowledge, Curiosity, Expect}
+use Rattle.gr_frame.specs.declared.value.BodyKind.TheVariants.{Knowledge, JoinedKnowledge, Curiosity, Expect}
 use Rattle.gr_frame.specs.declared.fault.FrameKind.TheVariants.{TooLong, BadMagic, BadVersion, BadKind, BadRange, BadOrder, Trailing}
-use Rattle.gr_frame.specs.Bytes.{runs_bytes, frame_bytes, head_bytes}
+use Rattle.gr_frame.specs.Bytes.{runs_bytes, frame_bytes, head_bytes, head_size, list_bytes}
 use Rattle.gr_frame.specs.Form.{Form}
-use Rattle.gr_frame.specs.Gives.{fault}
+use Rattle.gr_frame.specs.Gives.{fault, ◌>>=◌}
 use Rattle.gr_frame.specs.Limits.{IsKnown, IsWanted, IsPiece, IsBody, IsHead, IsFrame}
-use Rattle.gr_frame.specs.Decode.{byte_at, field_at, u16_at, tick_at, is_above, goes_on, run_with_ticks, run_at, run_size, runs_at, kind_number, kind_of, kind_at, head_at, is_Expect, count_at, expect_at, body_at, fields_of, frame_decoded, known_form, wanted_form}
+use Rattle.gr_frame.specs.Decode.{byte_at, field_at, u16_at, tick_at, is_above, goes_on, run_with_ticks, run_at, run_size, runs_at, list_at, version_number, kind_number, kind_of, joined_kind_of, kind_in, kind_at, head_at, is_Expect, count_at, expect_at, knowledge_behind, body_at, fields_of, frame_decoded, known_form, wanted_form}
 use Rattle.gr_frame.proofs.Fields.{AreBytes, bind_told, else_told, then_told, either_told, byte_told, field_told, u16_told, tick_told}
 use Rattle.gr_frame.proofs.Forms.{IsForm, known_is, wanted_is}
+use Rattle.gr_frame.proofs.Lists.{none_are, list_told}
 
 module _ {V : Type 0} where
   -- runs that may stand behind the one before
@@ -140,40 +141,65 @@ module _ {V : Type 0} where
   is_some : (rs : List (Run V)) (n : ℕ) → length rs ≡ n → (n == 0) ≡ false → rs ≢ []
   is_some rs n l h e = let none : n ≡ 0 = sym l ∙ ap length e in absurd (grind (arith, rules))
 
-  piece_told : (least : V) (Fits : V → Type 0) (form : Form V) → IsForm least Fits form → (bytes : List ℕ) (n : ℕ) (rs : List (Run V)) → AreBytes bytes → (n == 0) ≡ false
-      → runs_at form bytes n 12 None ≡ Ok rs → (drop 12 bytes ≡ runs_bytes form.bytes rs) × IsPiece least Fits rs × (n ≡ length rs)
-  piece_told least Fits form law bytes n rs fits some h =
-      let t : RunsTold least Fits form bytes 12 n None rs = runs_told least Fits form law bytes n 12 None rs fits h in
+  piece_told : (least : V) (Fits : V → Type 0) (form : Form V) → IsForm least Fits form → (bytes : List ℕ) (n at : ℕ) (rs : List (Run V)) → AreBytes bytes → (n == 0) ≡ false
+      → runs_at form bytes n at None ≡ Ok rs → (drop at bytes ≡ runs_bytes form.bytes rs) × IsPiece least Fits rs × (n ≡ length rs)
+  piece_told least Fits form law bytes n at rs fits some h =
+      let t : RunsTold least Fits form bytes at n None rs = runs_told least Fits form law bytes n at None rs fits h in
       (t.spelled, record { some = is_some rs n t.many some; runs = t.after; upto = t.upto; each = t.each }, sym t.many)
 
 -- The fields before the body
 
-number_told : (k : ℕ) (b : BodyKind) → kind_of k ≡ Ok b → k ≡ kind_number b
+-- the number and the version of a kind
+abbrev IsNumbered : ℕ → ℕ → BodyKind → Type 0
+IsNumbered v k b = (v ≡ version_number b) × (k ≡ kind_number b)
+
+number_told : (k : ℕ) (b : BodyKind) → kind_of k ≡ Ok b → IsNumbered 1 k b
 number_told k b h =
     elim (either_told (k == 1) (Ok Knowledge) _ b h) [
-      | inl j ↦ eqb-true k 1 j.0 ∙ ap kind_number (let is : Knowledge ≡ b = let e = j.1 in cc in is)
+      | inl j ↦ let is : Knowledge ≡ b = let e = j.1 in cc in (ap version_number is, eqb-true k 1 j.0 ∙ ap kind_number is)
       | inr j ↦ elim (either_told (k == 2) (Ok Curiosity) _ b j.1) [
-        | inl i ↦ eqb-true k 2 i.0 ∙ ap kind_number (let is : Curiosity ≡ b = let e = i.1 in cc in is)
+        | inl i ↦ let is : Curiosity ≡ b = let e = i.1 in cc in (ap version_number is, eqb-true k 2 i.0 ∙ ap kind_number is)
         | inr i ↦ elim (either_told (k == 3) (Ok Expect) (Err (fault BadKind 3)) b i.1) [
-          | inl g ↦ eqb-true k 3 g.0 ∙ ap kind_number (let is : Expect ≡ b = let e = g.1 in cc in is)
+          | inl g ↦ let is : Expect ≡ b = let e = g.1 in cc in (ap version_number is, eqb-true k 3 g.0 ∙ ap kind_number is)
           | inr g ↦ absurd (let e = g.1 in cc)
         ]
       ]
     ]
 
-kind_told : (bytes : List ℕ) (b : BodyKind) → kind_at bytes ≡ Ok b → bytes ≡ 71 ∷ (75 ∷ (1 ∷ (kind_number b ∷ drop 4 bytes)))
+joined_told : (k : ℕ) (b : BodyKind) → joined_kind_of k ≡ Ok b → IsNumbered 2 k b
+joined_told k b h =
+    let one = then_told (k == 1) (fault BadKind 3) (Ok JoinedKnowledge) b h in
+    let is : JoinedKnowledge ≡ b = let e = one.1 in cc in
+    (ap version_number is, eqb-true k 1 one.0 ∙ ap kind_number is)
+
+-- the kind behind a version
+version_told : (bytes : List ℕ) (v : ℕ) (b : BodyKind) → kind_in bytes v ≡ Ok b → (k : ℕ) × (byte_at bytes 3 ≡ Ok k) × (v ≡ version_number b) × (k ≡ kind_number b)
+version_told bytes v b h =
+    elim (either_told (v == 1) (byte_at bytes 3 >>= kind_of) _ b h) [
+      | inl j ↦ let one = bind_told (byte_at bytes 3) kind_of b j.1 in
+          let n = number_told one.0 b one.2 in
+          (one.0, one.1, eqb-true v 1 j.0 ∙ n.0, n.1)
+      | inr j ↦ elim (either_told (v == 2) (byte_at bytes 3 >>= joined_kind_of) (Err (fault BadVersion 2)) b j.1) [
+        | inl i ↦ let one = bind_told (byte_at bytes 3) joined_kind_of b i.1 in
+            let n = joined_told one.0 b one.2 in
+            (one.0, one.1, eqb-true v 2 i.0 ∙ n.0, n.1)
+        | inr i ↦ absurd (let e = i.1 in cc)
+      ]
+    ]
+
+kind_told : (bytes : List ℕ) (b : BodyKind) → kind_at bytes ≡ Ok b → bytes ≡ 71 ∷ (75 ∷ (version_number b ∷ (kind_number b ∷ drop 4 bytes)))
 unfolding kind_at
 kind_told bytes b h =
     let one = bind_told (field_at bytes 0 2) _ b h in
     let letters = one.0 in
     let two = bind_told (if bytes_eq letters (71 ∷ (75 ∷ [])) then byte_at bytes 2 else Err (fault BadMagic 0)) _ b one.2 in
     let three = then_told (bytes_eq letters (71 ∷ (75 ∷ []))) (fault BadMagic 0) (byte_at bytes 2) two.0 two.1 in
-    let four = bind_told (if two.0 == 1 then byte_at bytes 3 else Err (fault BadVersion 2)) kind_of b two.2 in
-    let five = then_told (two.0 == 1) (fault BadVersion 2) (byte_at bytes 3) four.0 four.1 in
+    let behind = version_told bytes two.0 b two.2 in
+    let k = behind.0 in
     let spelled : letters ≡ 71 ∷ (75 ∷ []) = (bytes_eq-Decides letters (71 ∷ (75 ∷ []))).0 three.0 in
     (field_told bytes 0 2 letters one.1).0 ∙ ap (λ l. l ++ drop 2 bytes) spelled
-    ∙ ap (λ l. 71 ∷ (75 ∷ l)) (byte_told bytes 2 two.0 three.1 ∙ ap (λ n. n ∷ drop 3 bytes) (eqb-true two.0 1 five.0))
-    ∙ ap (λ l. 71 ∷ (75 ∷ (1 ∷ l))) (byte_told bytes 3 four.0 five.1 ∙ ap (λ n. n ∷ drop 4 bytes) (number_told four.0 b four.2))
+    ∙ ap (λ l. 71 ∷ (75 ∷ l)) (byte_told bytes 2 two.0 three.1 ∙ ap (λ n. n ∷ drop 3 bytes) behind.2)
+    ∙ ap (λ l. 71 ∷ (75 ∷ (version_number b ∷ l))) (byte_told bytes 3 k behind.1 ∙ ap (λ n. n ∷ drop 4 bytes) behind.3)
 
 head_told : (bytes : List ℕ) (h : Head) → AreBytes bytes → head_at bytes ≡ Ok h
     → (drop 4 bytes ≡ to_be_bytes w16 h.from ++ (to_be_bytes w16 h.to ++ (to_be_bytes w16 h.publisher ++ drop 10 bytes))) × IsHead h
@@ -227,36 +253,49 @@ expect_told bytes x fits h =
 -- Frames
 
 -- what stands before the body
-headed : (bytes rest : List ℕ) (k n : ℕ) (h : Head) → bytes ≡ 71 ∷ (75 ∷ (1 ∷ (k ∷ drop 4 bytes)))
+headed : (bytes rest : List ℕ) (v k n : ℕ) (h : Head) → bytes ≡ 71 ∷ (75 ∷ (v ∷ (k ∷ drop 4 bytes)))
     → drop 4 bytes ≡ to_be_bytes w16 h.from ++ (to_be_bytes w16 h.to ++ (to_be_bytes w16 h.publisher ++ drop 10 bytes))
-    → drop 10 bytes ≡ to_be_bytes w16 n ++ drop 12 bytes → drop 12 bytes ≡ rest → bytes ≡ head_bytes k h n ++ rest
-headed bytes rest k n h a b c d =
+    → drop 10 bytes ≡ to_be_bytes w16 n ++ drop 12 bytes → drop 12 bytes ≡ rest → bytes ≡ head_bytes v k h n ++ rest
+headed bytes rest v k n h a b c d =
     let counted : drop 10 bytes ≡ to_be_bytes w16 n ++ rest = c ∙ ap (λ l. to_be_bytes w16 n ++ l) d in
     let named = b ∙ ap (λ l. to_be_bytes w16 h.from ++ (to_be_bytes w16 h.to ++ (to_be_bytes w16 h.publisher ++ l))) counted in
-    a ∙ ap (λ l. 71 ∷ (75 ∷ (1 ∷ (k ∷ l)))) named
+    a ∙ ap (λ l. 71 ∷ (75 ∷ (v ∷ (k ∷ l)))) named
 
 -- the body behind its head
 abbrev BodyTold : List ℕ → BodyKind → Head → ℕ → Body → Type 0
-BodyTold bytes b h n x = ((drop 12 bytes ≡ drop 12 (frame_bytes (record { head = h; body = x }))) × (frame_bytes (record { head = h; body = x }) ≡ head_bytes (kind_number b) h n ++ drop 12 (frame_bytes (record { head = h; body = x })))) × IsBody x
+BodyTold bytes b h n x = ((drop 12 bytes ≡ drop 12 (frame_bytes (record { head = h; body = x }))) × (frame_bytes (record { head = h; body = x }) ≡ head_bytes (version_number b) (kind_number b) h n ++ drop 12 (frame_bytes (record { head = h; body = x })))) × IsBody x
 
 body_told : (bytes : List ℕ) (b : BodyKind) (h : Head) (n : ℕ) (x : Body) → AreBytes bytes → (n == 0) ≡ false → (is_Expect b ≡ true → n ≡ 1)
     → body_at bytes b n ≡ Ok x → BodyTold bytes b h n x
-unfolding body_at frame_bytes
+unfolding body_at knowledge_behind frame_bytes
 body_told bytes Knowledge h n x fits some one e =
-    let read = bind_told (runs_at known_form bytes n 12 None) (λ rs. Ok (body.Knowledge rs)) x e in
+    let read = bind_told (runs_at known_form bytes n 12 None) (λ rs. Ok (body.Knowledge rs [])) x e in
     let rs = read.0 in
-    let piece = piece_told Q IsKnown known_form known_is bytes n rs fits some read.1 in
-    let is : body.Knowledge rs ≡ x = let k = read.2 in cc in
-    subst (BodyTold bytes Knowledge h n) is ((piece.0, ap (λ k. head_bytes 1 h k ++ runs_bytes known_form.bytes rs) (sym piece.2)), piece.1)
+    let piece = piece_told Q IsKnown known_form known_is bytes n 12 rs fits some read.1 in
+    let is : body.Knowledge rs [] ≡ x = let k = read.2 in cc in
+    subst (BodyTold bytes Knowledge h n) is ((piece.0, ap (λ k. head_bytes 1 1 h k ++ runs_bytes known_form.bytes rs) (sym piece.2)), (piece.1, none_are))
+body_told bytes JoinedKnowledge h n x fits some one e =
+    let list = bind_told (list_at bytes) (knowledge_behind bytes n) x e in
+    let js = list.0 in
+    let read = bind_told (runs_at known_form bytes n (head_size js) None) (λ rs. Ok (body.Knowledge rs js)) x list.2 in
+    let rs = read.0 in
+    let told = list_told bytes js fits list.1 in
+    let piece = piece_told Q IsKnown known_form known_is bytes n (head_size js) rs fits some read.1 in
+    let text = list_bytes js ++ runs_bytes known_form.bytes rs in
+    let is : body.Knowledge rs js ≡ x = let k = read.2 in cc in
+    subst (BodyTold bytes JoinedKnowledge h n) is (
+      (told.0 ∙ ap (λ l. list_bytes js ++ l) piece.0, ap₂ (λ v k. head_bytes v 1 h k ++ text) told.1 (sym piece.2)),
+      (piece.1, told.2),
+    )
 body_told bytes Curiosity h n x fits some one e =
     let read = bind_told (runs_at wanted_form bytes n 12 None) (λ rs. Ok (body.Curiosity rs)) x e in
     let rs = read.0 in
-    let piece = piece_told N IsWanted wanted_form wanted_is bytes n rs fits some read.1 in
+    let piece = piece_told N IsWanted wanted_form wanted_is bytes n 12 rs fits some read.1 in
     let is : body.Curiosity rs ≡ x = let k = read.2 in cc in
-    subst (BodyTold bytes Curiosity h n) is ((piece.0, ap (λ k. head_bytes 2 h k ++ runs_bytes wanted_form.bytes rs) (sym piece.2)), piece.1)
+    subst (BodyTold bytes Curiosity h n) is ((piece.0, ap (λ k. head_bytes 1 2 h k ++ runs_bytes wanted_form.bytes rs) (sym piece.2)), piece.1)
 body_told bytes Expect h n x fits some one e =
     let read = expect_told bytes x fits e in
-    subst (BodyTold bytes Expect h n) (sym read.1) ((read.2, ap (λ k. head_bytes 3 h k ++ to_be_bytes w64 read.0) (sym (one refl))), (read.3, read.4))
+    subst (BodyTold bytes Expect h n) (sym read.1) ((read.2, ap (λ k. head_bytes 1 3 h k ++ to_be_bytes w64 read.0) (sym (one refl))), (read.3, read.4))
 
 at_most : (n k : ℕ) → nat_lt k n ≡ false → n ≤ k
 at_most n k h = grind (arith, rules)
@@ -279,6 +318,6 @@ decoded_spells bytes f fits h =
     let body = body_told bytes b two.0 n four.0 fits count.1 count.2 four.1 in
     subst (IsFrame bytes) is (record {
       whole = record { head = head.1; body = body.1 };
-      spelled = headed bytes (drop 12 (frame_bytes made)) (kind_number b) n two.0 (kind_told bytes b one.1) head.0 count.0 body.0.0 ∙ sym body.0.1;
+      spelled = headed bytes (drop 12 (frame_bytes made)) (version_number b) (kind_number b) n two.0 (kind_told bytes b one.1) head.0 count.0 body.0.0 ∙ sym body.0.1;
       short = at_most (length bytes) 16384 short.0;
     })

@@ -5,12 +5,13 @@ use Rattle.gr_frame.specs.declared.Body.{Body}
 use Rattle.gr_frame.specs.declared.Body.TheVariants as body
 use Rattle.gr_frame.specs.declared.Frame.{Frame}
 use Rattle.gr_frame.specs.declared.Head.{Head}
-use Rattle.gr_frame.specs.Bytes.{known_run_size, wanted_run_size, cut_frames}
+use Rattle.gr_frame.specs.declared.TheConstants.{HEAD_BYTES}
+use Rattle.gr_frame.specs.Bytes.{known_run_size, wanted_run_size, head_size, cut_frames}
 use Rattle.gr_frame.specs.Limits.{IsFrame}
 
 -- a body that is sent: a piece that is not empty, or a tick
 abbrev pub IsSent : Body → Type 0
-IsSent (body.Knowledge rs) = rs ≢ []
+IsSent (body.Knowledge rs js) = rs ≢ []
 IsSent (body.Curiosity rs) = rs ≢ []
 IsSent (body.Expect tick) = (1 ≤ tick) × (tick ≤ MAX_TICK)
 
@@ -18,18 +19,18 @@ IsSent (body.Expect tick) = (1 ≤ tick) × (tick ≤ MAX_TICK)
 abbrev pub with_head : Head → Body → Frame
 with_head h b = record { head = h; body = b }
 
--- the frames that are sent for a frame: its piece in parts, each with its head
+-- the frames that are sent for a frame: its piece in parts, each with its head and its joins
 unfoldable pub parts_of : Frame → List Frame
 parts_of f =
     elim f.body [
-      | body.Knowledge rs ↦ map (λ part. record {
+      | body.Knowledge rs js ↦ map (λ part. record {
         head = f.head;
-        body = body.Knowledge part;
-      }) (cut_frames known_run_size rs)
+        body = body.Knowledge part js;
+      }) (cut_frames (head_size js) known_run_size rs)
       | body.Curiosity rs ↦ map (λ part. record {
         head = f.head;
         body = body.Curiosity part;
-      }) (cut_frames wanted_run_size rs)
+      }) (cut_frames HEAD_BYTES wanted_run_size rs)
       | body.Expect tick ↦ f ∷ []
     ]
 

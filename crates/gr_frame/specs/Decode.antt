@@ -1,12 +1,15 @@
 -- Reading a frame field by field, with the place of the first fault
-use Rattle.std.specs.Prelude.{ℕ, zero, suc, ◌+◌, ◌==◌, ◌||◌, ◌&&◌, Bool, true, false, not, nat_lt, nat_le, bytes_eq}
-use Rattle.std.specs.Prelude.{if◌then◌else◌, List, [], ◌∷◌, length, slice_index, slice_range, Option, Some, None}
+use Rattle.std.specs.Prelude.{ℕ, zero, suc, ◌+◌, ◌++◌, ◌==◌, ◌||◌, ◌&&◌, Bool, true, false, not, nat_lt, nat_le}
+use Rattle.std.specs.Prelude.{bytes_eq, if◌then◌else◌, List, [], ◌∷◌, length, slice_index, slice_range, Option, Some, None}
 use Rattle.std.specs.Prelude.{Result, Ok, Err}
 use Rattle.std.specs.Int.{from_be_bytes, w16, w64}
 use Rattle.gr_event.specs.declared.event.Event.{Event}
 use Rattle.gr_event.specs.declared.event.EventFault.{EventFault}
 use Rattle.gr_event.specs.declared.event.EventFault.TheVariants as event_fault
 use Rattle.gr_event.specs.Decode.{event_decoded}
+use Rattle.gr_event.specs.declared.limits.TheConstants.{MAX_JOINS}
+use Rattle.gr_event.specs.declared.join.Join.{Join}
+use Rattle.gr_event.specs.Joins.{Joins, has_joined, last_join_tick}
 use Rattle.gr_tick.specs.declared.TheConstants.{MAX_TICK}
 use Rattle.gr_tick.specs.declared.run.Run.{Run}
 use Rattle.gr_know.specs.declared.values.K.{K}
@@ -21,11 +24,11 @@ use Rattle.gr_frame.specs.declared.Body.TheVariants as body
 use Rattle.gr_frame.specs.declared.Head.{Head}
 use Rattle.gr_frame.specs.declared.Frame.{Frame}
 use Rattle.gr_frame.specs.declared.value.BodyKind.{BodyKind}
-use Rattle.gr_frame.specs.declared.value.BodyKind.TheVariants.{Knowledge, Curiosity, Expect}
+use Rattle.gr_frame.specs.declared.value.BodyKind.TheVariants.{Knowledge, JoinedKnowledge, Curiosity, Expect}
 use Rattle.gr_frame.specs.declared.fault.FrameKind.TheVariants.{TooLong, Short, BadMagic, BadVersion, BadKind, BadRange}
-use Rattle.gr_frame.specs.declared.fault.FrameKind.TheVariants.{BadOrder, BadEvent, Trailing}
+use Rattle.gr_frame.specs.declared.fault.FrameKind.TheVariants.{BadOrder, BadEvent, Trailing, BadJoins}
 use Rattle.gr_frame.specs.declared.fault.FrameFault.{FrameFault}
-use Rattle.gr_frame.specs.Bytes.{known_bytes, wanted_bytes, known_run_size, wanted_run_size}
+use Rattle.gr_frame.specs.Bytes.{known_bytes, wanted_bytes, known_run_size, wanted_run_size, head_size}
 use Rattle.gr_frame.specs.Form.{Form}
 use Rattle.gr_frame.specs.Gives.{fault, out_of_memory, ◌>>=◌}
 
@@ -140,24 +143,63 @@ runs_at form bytes (suc n) at before = do
   rest ← runs_at form bytes n (at + run_size form run) (Some run)
   Ok (run ∷ rest)
 
+-- Joins
+
+-- the join of a subscriber whose tick stands behind its number, past the ticks of those before it
+unfoldable pub join_of : List ℕ → ℕ → Joins → ℕ → Result Join FrameFault
+join_of bytes at before subscriber = u64_at bytes (at + 2) >>= λ tick.
+    if nat_le tick (last_join_tick before) || nat_lt MAX_TICK tick then Err (fault BadJoins (at + 2))
+    else Ok (record { subscriber = subscriber; tick = tick })
+
+-- a join, of a subscriber that has none before it
+unfoldable pub join_at : List ℕ → ℕ → Joins → Result Join FrameFault
+join_at bytes at before = u16_at bytes at >>= λ subscriber.
+    if has_joined before subscriber then Err (fault BadJoins at) else join_of bytes at before subscriber
+
+-- so many joins from a place on, each behind those before it
+unfoldable pub joins_at : List ℕ → ℕ → ℕ → Joins → Result Joins FrameFault
+joins_at bytes zero at before = Ok before
+joins_at bytes (suc n) at before = do
+  join ← join_at bytes at before
+  joins_at bytes n (at + 10) (before ++ join ∷ [])
+
+-- the list of a frame of version 2, behind its number
+unfoldable pub list_at : List ℕ → Result Joins FrameFault
+list_at bytes = u16_at bytes HEAD_BYTES >>= λ n. if n == 0 || nat_lt MAX_JOINS n then Err (fault BadJoins HEAD_BYTES)
+    else joins_at bytes n (HEAD_BYTES + 2) []
+
 -- Frames
+
+-- what is known has version 2 where joins stand before it, and all else version 1
+abbrev pub version_number : BodyKind → ℕ
+version_number JoinedKnowledge = 2
+version_number _ = 1
 
 abbrev pub kind_number : BodyKind → ℕ
 kind_number Knowledge = 1
+kind_number JoinedKnowledge = 1
 kind_number Curiosity = 2
 kind_number Expect = 3
 
+-- the kinds of version 1, and that of version 2
 abbrev pub kind_of : ℕ → Result BodyKind FrameFault
 kind_of k = if k == 1 then Ok Knowledge else (if k == 2 then Ok Curiosity
     else (if k == 3 then Ok Expect else Err (fault BadKind 3)))
 
--- the letters GK, the version 1 and the kind
+abbrev pub joined_kind_of : ℕ → Result BodyKind FrameFault
+joined_kind_of k = if k == 1 then Ok JoinedKnowledge else Err (fault BadKind 3)
+
+-- the kind that a version has
+abbrev pub kind_in : List ℕ → ℕ → Result BodyKind FrameFault
+kind_in bytes version = if version == 1 then (byte_at bytes 3 >>= kind_of)
+    else (if version == 2 then (byte_at bytes 3 >>= joined_kind_of) else Err (fault BadVersion 2))
+
+-- the letters GK, the version and the kind
 unfoldable pub kind_at : List ℕ → Result BodyKind FrameFault
 kind_at bytes = do
   letters ← field_at bytes 0 2
   version ← if bytes_eq letters (71 ∷ (75 ∷ [])) then byte_at bytes 2 else Err (fault BadMagic 0)
-  k ← if version == 1 then byte_at bytes 3 else Err (fault BadVersion 2)
-  kind_of k
+  kind_in bytes version
 
 -- who sends to whom, of which publisher
 unfoldable pub head_at : List ℕ → Result Head FrameFault
@@ -181,8 +223,13 @@ unfoldable pub expect_at : List ℕ → Result Body FrameFault
 expect_at bytes = tick_at bytes HEAD_BYTES 1 >>= λ t.
     if EXPECT_BYTES == length bytes then Ok (body.Expect t) else Err (fault Trailing EXPECT_BYTES)
 
+-- what is known, behind its joins
+unfoldable pub knowledge_behind : List ℕ → ℕ → Joins → Result Body FrameFault
+knowledge_behind bytes n js = runs_at known_form bytes n (head_size js) None >>= λ rs. Ok (body.Knowledge rs js)
+
 unfoldable pub body_at : List ℕ → BodyKind → ℕ → Result Body FrameFault
-body_at bytes Knowledge n = runs_at known_form bytes n HEAD_BYTES None >>= λ rs. Ok (body.Knowledge rs)
+body_at bytes Knowledge n = runs_at known_form bytes n HEAD_BYTES None >>= λ rs. Ok (body.Knowledge rs [])
+body_at bytes JoinedKnowledge n = list_at bytes >>= knowledge_behind bytes n
 body_at bytes Curiosity n = runs_at wanted_form bytes n HEAD_BYTES None >>= λ rs. Ok (body.Curiosity rs)
 body_at bytes Expect n = expect_at bytes
 

@@ -2,6 +2,7 @@
 use Rattle.std.specs.Prelude.{◌≡◌, ◌≢◌, ℕ, ◌+◌, ◌^◌, ◌<◌, ◌≤◌, List, [], length}
 use Rattle.std.specs.List.{AllByRecursion}
 use Rattle.gr_event.specs.Limits.{IsEvent}
+use Rattle.gr_event.specs.Joins.{AreJoins}
 use Rattle.gr_tick.specs.declared.TheConstants.{MAX_TICK}
 use Rattle.gr_tick.specs.declared.run.Run.{Run}
 use Rattle.gr_tick.specs.Runs.{AreRuns}
@@ -33,7 +34,7 @@ pub record IsPiece {V : Type 0} (least : V) (Fits : V → Type 0) (rs : List (Ru
   pub each : AllByRecursion (λ r. Fits r.value) rs
 
 abbrev pub IsBody : Body → Type 0
-IsBody (body.Knowledge rs) = IsPiece Q IsKnown rs
+IsBody (body.Knowledge rs js) = IsPiece Q IsKnown rs × AreJoins js
 IsBody (body.Curiosity rs) = IsPiece N IsWanted rs
 IsBody (body.Expect tick) = (1 ≤ tick) × (tick ≤ MAX_TICK)
 

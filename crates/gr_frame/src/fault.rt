@@ -25,9 +25,9 @@ pub enum FrameKind {
     Short,
     /// The first two bytes are not `GK`.
     BadMagic,
-    /// The version is not 1.
+    /// The version is neither 1 nor 2.
     BadVersion,
-    /// The kind of the frame, or of a run's value, is none of the table.
+    /// The kind of the frame, or of a run's value, is none of the table; of version 2 there is one kind of frame.
     BadKind,
     /// A count or a tick is outside its limits.
     BadRange,
@@ -39,13 +39,15 @@ pub enum FrameKind {
     Trailing,
     /// There are more than 16,384 bytes; the place is 16,384.
     TooLong,
+    /// The number of joins, or one of them, breaks the rules of their list; the place is the field's.
+    BadJoins,
 }
 
 impl FrameKind {
-    /// Its number: 0 for `Memory`, and from 1 to 9 for the others.
+    /// Its number: 0 for `Memory`, and from 1 to 10 for the others.
     pub fn number(self) -> u8
         ensures number { result ≡ fault_number self }
-        ensures most { result ≤ 9 }
+        ensures most { result ≤ 10 }
     {
         match self {
             FrameKind::Memory => 0,
@@ -58,10 +60,11 @@ impl FrameKind {
             FrameKind::BadEvent => 7,
             FrameKind::Trailing => 8,
             FrameKind::TooLong => 9,
+            FrameKind::BadJoins => 10,
         }
     }
 
-    /// The fault with a number, or None above 9.
+    /// The fault with a number, or None above 10.
     pub fn from_number(number: u8) -> Option<FrameKind>
         ensures kind { result ≡ slice_get fault_kinds number }
         ensures number { IfSome result (λ k. fault_number k ≡ number) }
@@ -77,6 +80,7 @@ impl FrameKind {
             7 => Some(FrameKind::BadEvent),
             8 => Some(FrameKind::Trailing),
             9 => Some(FrameKind::TooLong),
+            10 => Some(FrameKind::BadJoins),
             _ => None,
         }
     }
@@ -96,6 +100,7 @@ impl FrameKind {
             FrameKind::BadEvent => "bad-event",
             FrameKind::Trailing => "trailing",
             FrameKind::TooLong => "too-long",
+            FrameKind::BadJoins => "bad-joins",
         }
     }
 }

@@ -54,7 +54,7 @@ pub fn u16_at(bytes: &[u8], at: usize) -> Result<u16, FrameFault>
 }
 
 /// The number of eight bytes at a place, the high byte first.
-fn u64_at(bytes: &[u8], at: usize) -> Result<u64, FrameFault>
+pub fn u64_at(bytes: &[u8], at: usize) -> Result<u64, FrameFault>
     requires { at + 8 < 2 ^ 64 }
     ensures gives { result ≡ u64_at bytes.now at }
     ensures within { IfOk result (λ n. at + 8 ≤ length bytes.now) }

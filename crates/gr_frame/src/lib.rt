@@ -8,6 +8,7 @@ pub mod fault;
 mod field;
 mod frames;
 mod laws;
+mod list;
 mod part;
 mod reading;
 mod value;
@@ -16,11 +17,12 @@ mod writing;
 pub use fault::{FrameFault, FrameKind};
 pub use frames::Frames;
 use gr_curio::Q3;
+use gr_event::Joins;
 use gr_know::K;
 use gr_tick::Piece;
 pub use laws::{
     bytes_spell_one_frame, cut_loses_nothing, decodes_what_is_spelled, limit_of_frames,
-    one_frame_is_not_cut, spells_no_prefix,
+    no_joins_no_list, one_frame_is_not_cut, spells_no_prefix,
 };
 pub use part::parts;
 pub use reading::decode;
@@ -29,7 +31,7 @@ pub use writing::{encode, encode_into};
 /// How many bytes a frame has at most.
 pub const MAX_FRAME_BYTES: usize = 16_384;
 
-/// How many bytes stand before the body of a frame.
+/// How many bytes stand before the body of a frame, and before its list of joins, if it has one.
 pub(crate) const HEAD_BYTES: usize = 12;
 
 /// How many bytes a frame with an Expect has.
@@ -50,7 +52,12 @@ pub struct Head {
 #[derive(Drop)]
 pub enum Body {
     /// What is known, downwards.
-    Knowledge(Piece<K>),
+    Knowledge {
+        /// The runs.
+        piece: Piece<K>,
+        /// The joins of late subscribers to the publisher that the sender holds, in each frame of the piece.
+        joins: Joins,
+    },
     /// What is asked for or acknowledged, upwards.
     Curiosity(Piece<Q3>),
     /// The tick up to which all is to be asked for, from 1 to 2^62, downwards.

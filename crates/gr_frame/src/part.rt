@@ -2,42 +2,53 @@
 
 ghost use Rattle.std.specs.Prelude.{◌≡◌, ◌<◌, ◌≤◌, [], ◌∷◌, length, drop, map, slice_range, IfOk};
 ghost use Rattle.gr_frame.specs.declared.Body.TheVariants.{Knowledge, Curiosity, Expect};
-ghost use Rattle.gr_frame.specs.Bytes.{cut_frames, known_run_size, wanted_run_size};
+ghost use Rattle.gr_frame.specs.Bytes.{head_size, cut_frames, known_run_size, wanted_run_size};
 ghost use Rattle.gr_frame.specs.Cut.{parts_of, with_head};
+ghost use Rattle.gr_frame.specs.declared.TheConstants.{HEAD_BYTES};
 
+use crate::list::head_size;
 use crate::value::FrameValue;
 use crate::writing::part_from;
-use crate::{Body, Frame, Head};
+use crate::{Body, Frame, HEAD_BYTES, Head};
 use gr_curio::Q3;
-use gr_event::Memory;
+use gr_event::{Joins, Memory};
 use gr_know::K;
 use gr_tick::{Piece, Run};
 use std::alloc::Global;
 
-/// The frames whose bytes `encode` gives: the piece in parts, each with the head of the frame.
+/// The frames whose bytes `encode` gives: the piece in parts, each with the head and the joins of the frame.
 ///
-/// No event is copied: the parts are further owners of those of the piece.
+/// No event is copied, and no list of joins: the parts are further owners.
 pub fn parts(alloc: Global, frame: &Frame) -> Result<Vec<Frame>, Memory>
     ensures { IfOk result (λ fs. fs.items ≡ parts_of frame.now) }
 {
     let head = frame.head;
     match &frame.body {
-        Body::Knowledge(piece) => known_parts(alloc, head, piece),
+        Body::Knowledge { piece, joins } => known_parts(alloc, head, piece, joins),
         Body::Curiosity(piece) => wanted_parts(alloc, head, piece),
         Body::Expect(tick) => expect_part(alloc, head, *tick),
     }
 }
 
 /// The parts of what is known, each in a frame.
-fn known_parts(alloc: Global, head: Head, piece: &Piece<K>) -> Result<Vec<Frame>, Memory>
-    ensures { IfOk result (λ fs. fs.items
-        ≡ map (λ part. with_head head (Knowledge part)) (cut_frames known_run_size piece.now)) }
+fn known_parts(
+    alloc: Global,
+    head: Head,
+    piece: &Piece<K>,
+    joins: &Joins,
+) -> Result<Vec<Frame>, Memory>
+    ensures { IfOk result (λ fs. fs.items ≡ map (λ part. with_head head (Knowledge part joins.now))
+        (cut_frames (head_size joins.now) known_run_size piece.now)) }
 {
+    let room = head_size(joins);
     let mut frames = Vec::new(alloc);
     let mut at = 0;
     'parts: while at < piece.len() {
-        let part = next_part(alloc, piece, &mut at)?;
-        let body = Body::Knowledge(part);
+        let part = next_part(alloc, piece, room, &mut at)?;
+        let body = Body::Knowledge {
+            piece: part,
+            joins: joins.share(),
+        };
         frames.push(Frame { head, body })?;
     }
     Ok(frames)
@@ -46,12 +57,12 @@ fn known_parts(alloc: Global, head: Head, piece: &Piece<K>) -> Result<Vec<Frame>
 /// The parts of what is asked for, each in a frame.
 fn wanted_parts(alloc: Global, head: Head, piece: &Piece<Q3>) -> Result<Vec<Frame>, Memory>
     ensures { IfOk result (λ fs. fs.items
-        ≡ map (λ part. with_head head (Curiosity part)) (cut_frames wanted_run_size piece.now)) }
+        ≡ map (λ part. with_head head (Curiosity part)) (cut_frames HEAD_BYTES wanted_run_size piece.now)) }
 {
     let mut frames = Vec::new(alloc);
     let mut at = 0;
     'parts: while at < piece.len() {
-        let part = next_part(alloc, piece, &mut at)?;
+        let part = next_part(alloc, piece, HEAD_BYTES, &mut at)?;
         let body = Body::Curiosity(part);
         frames.push(Frame { head, body })?;
     }
@@ -68,20 +79,22 @@ fn expect_part(alloc: Global, head: Head, tick: u64) -> Result<Vec<Frame>, Memor
     Ok(frames)
 }
 
-/// The part of a piece that begins at a place, which moves behind it.
+/// The part of a piece that begins at a place, which moves behind it, where so many bytes stand before the runs.
 fn next_part<V: FrameValue>(
     alloc: Global,
     piece: &Piece<V>,
+    room: usize,
     at: &mut usize,
 ) -> Result<Piece<V>, Memory>
-    requires { at.old < length piece.now }
+    requires room { room ≤ 654 }
+    requires within { at.old < length piece.now }
     ensures later { at.old < at.new }
     ensures within { at.new ≤ length piece.now }
-    ensures cut { IfOk result (λ part. cut_frames V.form.size (drop at.old piece.now)
-        ≡ part ∷ cut_frames V.form.size (drop at.new piece.now)) }
+    ensures cut { IfOk result (λ part. cut_frames room V.form.size (drop at.old piece.now)
+        ≡ part ∷ cut_frames room V.form.size (drop at.new piece.now)) }
 {
     let start = *at;
-    let end = part_from(piece, start).end;
+    let end = part_from(piece, room, start).end;
     *at = end;
     runs_between(alloc, piece, start, end)
 }

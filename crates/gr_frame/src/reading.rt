@@ -1,16 +1,19 @@
 //! Frames, read.
 
-ghost use Rattle.std.specs.Prelude.{◌≡◌, ◌+◌, ◌≤◌, ◌<◌, ◌++◌, ◌∷◌, [], None, true, false, length, IfOk, Ok};
+ghost use Rattle.std.specs.Prelude.{◌≡◌, ◌+◌, ◌*◌, ◌≤◌, ◌<◌, ◌++◌, ◌∷◌, [], None, true, false, length, IfOk, Ok};
 ghost use Rattle.gr_tick.specs.Stored.{IsRun, AreTickRuns, EndBefore};
 ghost use Rattle.gr_frame.specs.Decode.{last_run, is_above, goes_on, run_size, run_at, run_with_ticks, runs_at};
-ghost use Rattle.gr_frame.specs.Decode.{kind_at, head_at, count_at, expect_at, body_at, fields_of, frame_decoded};
+ghost use Rattle.gr_frame.specs.Decode.{kind_of, joined_kind_of, kind_at, head_at, count_at, expect_at, body_at};
+ghost use Rattle.gr_frame.specs.Decode.{knowledge_behind, fields_of, frame_decoded};
 ghost use Rattle.gr_frame.specs.Gives.{Gives};
-ghost use Rattle.gr_frame.specs.declared.TheConstants.{MAX_FRAME_BYTES};
+ghost use Rattle.gr_frame.specs.declared.TheConstants.{HEAD_BYTES, MAX_FRAME_BYTES};
 
 use crate::fault::{FrameFault, FrameKind};
 use crate::field::{byte_at, fault, field_at, tick_at, u16_at};
+use crate::list::{head_size, list_at};
 use crate::value::{BodyKind, FrameValue};
 use crate::{Body, EXPECT_BYTES, Frame, HEAD_BYTES, Head, MAX_FRAME_BYTES};
+use gr_event::Joins;
 use gr_tick::{Piece, Run};
 use std::alloc::Global;
 
@@ -52,13 +55,31 @@ fn kind_at(bytes: &[u8]) -> Result<BodyKind, FrameFault>
     if letters != b"GK".as_slice() {
         return Err(fault(FrameKind::BadMagic, 0));
     }
-    if byte_at(bytes, 2)? != 1 {
-        return Err(fault(FrameKind::BadVersion, 2));
+    match byte_at(bytes, 2)? {
+        1 => kind_of(byte_at(bytes, 3)?),
+        2 => joined_kind_of(byte_at(bytes, 3)?),
+        _ => Err(fault(FrameKind::BadVersion, 2)),
     }
-    match byte_at(bytes, 3)? {
+}
+
+/// The kind of a number in version 1.
+fn kind_of(number: u8) -> Result<BodyKind, FrameFault>
+    ensures { Gives result (kind_of number) }
+{
+    match number {
         1 => Ok(BodyKind::Knowledge),
         2 => Ok(BodyKind::Curiosity),
         3 => Ok(BodyKind::Expect),
+        _ => Err(fault(FrameKind::BadKind, 3)),
+    }
+}
+
+/// The kind of a number in version 2, which has one.
+fn joined_kind_of(number: u8) -> Result<BodyKind, FrameFault>
+    ensures { Gives result (joined_kind_of number) }
+{
+    match number {
+        1 => Ok(BodyKind::JoinedKnowledge),
         _ => Err(fault(FrameKind::BadKind, 3)),
     }
 }
@@ -99,10 +120,33 @@ fn body_at(alloc: Global, bytes: &[u8], kind: BodyKind, count: u16) -> Result<Bo
     ensures { Gives result (body_at bytes.now kind count) }
 {
     match kind {
-        BodyKind::Knowledge => Ok(Body::Knowledge(runs_at(alloc, bytes, count)?)),
-        BodyKind::Curiosity => Ok(Body::Curiosity(runs_at(alloc, bytes, count)?)),
+        BodyKind::Knowledge => Ok(Body::Knowledge {
+            piece: runs_at(alloc, bytes, HEAD_BYTES, count)?,
+            joins: Joins::new(alloc),
+        }),
+        BodyKind::JoinedKnowledge => {
+            let joins = list_at(alloc, bytes)?;
+            knowledge_behind(alloc, bytes, count, joins)
+        }
+        BodyKind::Curiosity => Ok(Body::Curiosity(runs_at(alloc, bytes, HEAD_BYTES, count)?)),
         BodyKind::Expect => expect_at(bytes),
     }
+}
+
+/// What is known behind these joins.
+#[tactic(auto, unfolding(crate::specs::Decode::knowledge_behind))]
+fn knowledge_behind(
+    alloc: Global,
+    bytes: &[u8],
+    count: u16,
+    joins: Joins,
+) -> Result<Body, FrameFault>
+    requires short { length bytes.now ≤ MAX_FRAME_BYTES }
+    requires inside { HEAD_BYTES + 2 + 10 * length joins ≤ length bytes.now }
+    ensures { Gives result (knowledge_behind bytes.now count joins) }
+{
+    let piece = runs_at(alloc, bytes, head_size(&joins), count)?;
+    Ok(Body::Knowledge { piece, joins })
 }
 
 /// The tick of an Expect, and nothing after it.
@@ -117,14 +161,19 @@ fn expect_at(bytes: &[u8]) -> Result<Body, FrameFault>
     Ok(Body::Expect(tick))
 }
 
-/// So many runs behind the count, and nothing after them.
-fn runs_at<V: FrameValue>(alloc: Global, bytes: &[u8], count: u16) -> Result<Piece<V>, FrameFault>
+/// So many runs from a place on, and nothing after them.
+fn runs_at<V: FrameValue>(
+    alloc: Global,
+    bytes: &[u8],
+    start: usize,
+    count: u16,
+) -> Result<Piece<V>, FrameFault>
     requires short { length bytes.now ≤ MAX_FRAME_BYTES }
-    requires inside { HEAD_BYTES ≤ length bytes.now }
-    ensures { Gives result (runs_at V.form bytes.now count HEAD_BYTES None) }
+    requires inside { start ≤ length bytes.now }
+    ensures { Gives result (runs_at V.form bytes.now count start None) }
 {
     let mut found = Piece::new(alloc);
-    let mut at = HEAD_BYTES;
+    let mut at = start;
     for _ in 0..count {
         let run = run_at(alloc, bytes, at, &found)?;
         at += V::run_size(&run);

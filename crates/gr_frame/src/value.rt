@@ -31,6 +31,8 @@ use std::alloc::{AllocError, Global};
 pub enum BodyKind {
     /// What is known.
     Knowledge,
+    /// What is known, behind a list of joins.
+    JoinedKnowledge,
     /// What is asked for or acknowledged.
     Curiosity,
     /// A tick up to which all is to be asked for.
@@ -43,7 +45,7 @@ impl BodyKind {
         ensures { result ≡ kind_number self }
     {
         match self {
-            BodyKind::Knowledge => 1,
+            BodyKind::Knowledge | BodyKind::JoinedKnowledge => 1,
             BodyKind::Curiosity => 2,
             BodyKind::Expect => 3,
         }

@@ -7,16 +7,18 @@ ghost use Rattle.std.specs.List.{AllByRecursion};
 ghost use Rattle.gr_tick.specs.declared.TheConstants.{MAX_TICK};
 ghost use Rattle.gr_tick.specs.Runs.{AreRuns};
 ghost use Rattle.gr_tick.specs.Stored.{EndBefore};
-ghost use Rattle.gr_frame.specs.Bytes.{frame_bytes, head_bytes, runs_bytes, cut_frames};
+ghost use Rattle.gr_event.specs.Joins.{AreJoins};
+ghost use Rattle.gr_frame.specs.Bytes.{frame_bytes, head_bytes, head_size, piece_head, runs_bytes, cut_frames};
 ghost use Rattle.gr_frame.specs.Cut.{IsSent, AreFrames, parts_of};
 ghost use Rattle.gr_frame.specs.Decode.{kind_number};
 ghost use Rattle.gr_frame.specs.Limits.{IsHead};
 
 use crate::field::{put_byte, put_u16, put_u64};
 use crate::frames::Frames;
+use crate::list::{head_size, put_list, version_of};
 use crate::value::{BodyKind, FrameValue};
-use crate::{Body, EXPECT_BYTES, Frame, HEAD_BYTES, Head, MAX_FRAME_BYTES};
-use gr_event::{Bytes, Memory};
+use crate::{Body, EXPECT_BYTES, Frame, Head, MAX_FRAME_BYTES};
+use gr_event::{Bytes, Joins, Memory};
 use gr_tick::{Piece, Run};
 use std::alloc::{AllocError, Global};
 
@@ -32,8 +34,8 @@ pub(crate) struct Part {
 /// The bytes of a frame, or of several with its head where its piece does not fit into one.
 ///
 /// Each has at most 16,384 bytes. Runs go into frames in their order; a run that would make a frame longer begins the
-/// next one. The piece may not be empty, and the tick of an Expect is in 1 to `MAX_TICK`. The memory of each frame is
-/// taken once.
+/// next one. The joins stand in each of them. The piece may not be empty, and the tick of an Expect is in 1 to
+/// `MAX_TICK`. The memory of each frame is taken once.
 pub fn encode(alloc: Global, frame: &Frame) -> Result<Frames, Memory>
     requires { IsSent frame.now.body }
     // The frames that the cutting rule makes.
@@ -74,8 +76,13 @@ fn put_frame(alloc: Global, frame: &Frame, into: &mut Frames) -> Result<(), Memo
 {
     let head = frame.head;
     match &frame.body {
-        Body::Knowledge(piece) => put_parts(alloc, head, BodyKind::Knowledge, piece, into),
-        Body::Curiosity(piece) => put_parts(alloc, head, BodyKind::Curiosity, piece, into),
+        Body::Knowledge { piece, joins } => {
+            put_parts(alloc, head, BodyKind::Knowledge, joins, piece, into)
+        }
+        Body::Curiosity(piece) => {
+            let none = Joins::new(alloc);
+            put_parts(alloc, head, BodyKind::Curiosity, &none, piece, into)
+        }
         Body::Expect(tick) => {
             let bytes = expect_bytes(alloc, head, *tick)?;
             into.push(bytes)
@@ -85,11 +92,11 @@ fn put_frame(alloc: Global, frame: &Frame, into: &mut Frames) -> Result<(), Memo
 
 /// The frame of an Expect.
 fn expect_bytes(alloc: Global, head: Head, tick: u64) -> Result<Bytes, AllocError>
-    ensures bytes { IfOk result (λ b. b ≡ head_bytes 3 head 1 ++ to_be_bytes w64 tick) }
+    ensures bytes { IfOk result (λ b. b ≡ head_bytes 1 3 head 1 ++ to_be_bytes w64 tick) }
     ensures head { IsHead head }
 {
     let mut bytes = Vec::with_capacity(alloc, EXPECT_BYTES)?;
-    put_head(&mut bytes, head, BodyKind::Expect, 1)?;
+    put_head(&mut bytes, 1, BodyKind::Expect, head, 1)?;
     put_u64(&mut bytes, tick)?;
     Ok(Bytes::from_vec(bytes))
 }
@@ -99,24 +106,27 @@ fn put_parts<V: FrameValue>(
     alloc: Global,
     head: Head,
     kind: BodyKind,
+    joins: &Joins,
     piece: &Piece<V>,
     into: &mut Frames,
 ) -> Result<(), Memory>
     ensures cut { OnOk result (into.new.frames
         ≡ into.old.frames
-        ++ map (λ part. head_bytes (kind_number kind) head (length part) ++ runs_bytes V.form.bytes part)
-        (cut_frames V.form.size piece.now)) }
+        ++ map (λ part. piece_head (kind_number kind) head (length part) joins.now ++ runs_bytes V.form.bytes part)
+        (cut_frames (head_size joins.now) V.form.size piece.now)) }
     ensures kept { OnErr result (take (length into.old.frames) into.new.frames ≡ into.old.frames) }
     ensures head { IsHead head }
+    ensures joins { AreJoins joins.now }
     ensures runs { AreRuns V.least piece.now }
     ensures upto { EndBefore piece.now (MAX_TICK + 1) }
     ensures each { OnOk result (AllByRecursion (λ r. V.fits r.value) piece.now) }
 {
+    let room = head_size(joins);
     let mut start = 0;
     let count = piece.len();
     'parts: while start < count {
-        let part = part_from(piece, start);
-        match part_bytes(alloc, head, kind, piece, start, part) {
+        let part = part_from(piece, room, start);
+        match part_bytes(alloc, head, kind, joins, piece, start, part) {
             Ok(bytes) => into.push(bytes)?,
             Err(refused) => return Err(refused),
         }
@@ -125,17 +135,19 @@ fn put_parts<V: FrameValue>(
     Ok(())
 }
 
-/// The runs that go into a frame with the run at `start`, and how many bytes that frame has.
-pub(crate) fn part_from<V: FrameValue>(piece: &Piece<V>, start: usize) -> Part
-    requires { start < length piece.now }
+/// The runs that go into a frame with the run at `start`, and how many bytes that frame has, where so many stand before
+/// its runs.
+pub(crate) fn part_from<V: FrameValue>(piece: &Piece<V>, room: usize, start: usize) -> Part
+    requires room { room ≤ 654 }
+    requires within { start < length piece.now }
     ensures later { start < result.end }
     ensures within { result.end ≤ length piece.now }
-    ensures few { 17 * (result.end - start) ≤ 16372 }
-    ensures cut { cut_frames V.form.size (drop start piece.now)
-        ≡ slice_range piece.now start result.end ∷ cut_frames V.form.size (drop result.end piece.now) }
+    ensures few { 17 * (result.end - start) ≤ 16384 }
+    ensures cut { cut_frames room V.form.size (drop start piece.now)
+        ≡ slice_range piece.now start result.end ∷ cut_frames room V.form.size (drop result.end piece.now) }
 {
     let count = piece.len();
-    let mut size = HEAD_BYTES + V::run_size(piece.run(start));
+    let mut size = room + V::run_size(piece.run(start));
     for end in start + 1..count {
         let more = V::run_size(piece.run(end));
         if size + more > MAX_FRAME_BYTES {
@@ -151,6 +163,7 @@ fn part_bytes<V: FrameValue>(
     alloc: Global,
     head: Head,
     kind: BodyKind,
+    joins: &Joins,
     piece: &Piece<V>,
     start: usize,
     part: Part,
@@ -158,13 +171,20 @@ fn part_bytes<V: FrameValue>(
     requires ordered { start ≤ part.end }
     requires within { part.end ≤ length piece.now }
     requires few { part.end - start < 2 ^ 16 }
-    ensures bytes { let runs = slice_range piece.now start part.end in
-        IfOk result (λ b. b ≡ head_bytes (kind_number kind) head (part.end - start) ++ runs_bytes V.form.bytes runs) }
+    ensures bytes { let runs = slice_range piece.now start part.end in IfOk result (λ b.
+        b ≡ piece_head (kind_number kind) head (part.end - start) joins.now ++ runs_bytes V.form.bytes runs) }
     ensures each { IfOk result (λ b. AllByRecursion (λ r. V.fits r.value) (slice_range piece.now start part.end)) }
 {
     let end = part.end;
     let mut bytes = Vec::with_capacity(alloc, part.size)?;
-    put_head(&mut bytes, head, kind, (end - start) as u16)?;
+    put_head(
+        &mut bytes,
+        version_of(joins),
+        kind,
+        head,
+        (end - start) as u16,
+    )?;
+    put_list(joins, &mut bytes)?;
     for i in start..end {
         put_run(piece.run(i), &mut bytes)?;
     }
@@ -182,9 +202,16 @@ fn put_run<V: FrameValue>(run: &Run<V>, bytes: &mut Vec<u8>) -> Result<(), Alloc
     run.value.put(bytes)
 }
 
-/// Puts what stands before the body of a frame at the end.
-fn put_head(bytes: &mut Vec<u8>, head: Head, kind: BodyKind, count: u16) -> Result<(), AllocError>
-    ensures bytes { OnOk result (bytes.new.items ≡ bytes.old.items ++ head_bytes (kind_number kind) head count) }
+/// Puts what stands before the body of a frame at the end, up to the list of its joins.
+fn put_head(
+    bytes: &mut Vec<u8>,
+    version: u8,
+    kind: BodyKind,
+    head: Head,
+    count: u16,
+) -> Result<(), AllocError>
+    ensures bytes { OnOk result (bytes.new.items
+        ≡ bytes.old.items ++ head_bytes version (kind_number kind) head count) }
     ensures head { IsHead head }
 {
     let [from, from_low] = head.from.to_be_bytes();
@@ -194,7 +221,7 @@ fn put_head(bytes: &mut Vec<u8>, head: Head, kind: BodyKind, count: u16) -> Resu
     bytes.extend_from_slice(&[
         b'G',
         b'K',
-        1,
+        version,
         kind.number(),
         from,
         from_low,

@@ -122,6 +122,7 @@ net_by host client home up children here below depth wanted = record {
   children = children;
   subscribers_at = here;
   below = below;
+  late = [];
   depth = depth;
   wants = wanted;
   gap = 200;

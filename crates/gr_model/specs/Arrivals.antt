@@ -1,8 +1,9 @@
 -- A server: what comes to its brokers from outside, and what they do
 use Rattle.std.specs.Prelude.{ℕ, ◌&&◌, ◌++◌, min, max, not, Bool, true, false, nat_eq, nat_lt, if◌then◌else◌, List, []}
 use Rattle.std.specs.Prelude.{◌∷◌, length, Option, Some, None, Result, Ok, Err, flat_map}
-use Rattle.std.specs.List.{list_any}
+use Rattle.std.specs.List.{list_any, list_all}
 use Rattle.gr_event.specs.declared.event.Event.{Event}
+use Rattle.gr_event.specs.Joins.{Joins}
 use Rattle.gr_frame.specs.declared.Body.TheVariants as body
 use Rattle.gr_frame.specs.declared.Frame.{Frame}
 pub use Rattle.gr_frame.specs.Fault.{fault_number}
@@ -23,7 +24,7 @@ use Rattle.gr_sched.specs.declared.step.Line.{Line}
 use Rattle.gr_sched.specs.declared.step.Step.TheVariants as step
 use Rattle.gr_model.specs.declared.report.Report.{Report}
 use Rattle.gr_model.specs.declared.report.Report.TheVariants as line
-use Rattle.gr_model.specs.Net.{Net, keeps_horizon, numbers}
+use Rattle.gr_model.specs.Net.{Net, is_late, keeps_horizon, numbers}
 use Rattle.gr_model.specs.Broker.{View, Log, max_tick}
 use Rattle.gr_model.specs.World.{World, Transition, view_of, log_of, unchanged, followed_by, in_turn, deliver_frame}
 use Rattle.gr_model.specs.World.{publish_now, wake_all, kept_events, deliver_frame_by, publish_now_by, wake_all_by}
@@ -73,15 +74,23 @@ abbrev pub at_moment : World → ℕ → World
 at_moment w moment = let now : ℕ = min moment max_tick in
     record { clock = now; most = max now w.most; frames = w.frames; views = w.views; logs = w.logs }
 
--- The frame fits the broker: it is addressed to it, of a publisher that there is, and curiosity comes from a child, all
--- else from the next broker towards the host
+-- the joins that a frame brings; each is of a late subscriber
+abbrev pub joins_in : Frame → Joins
+joins_in f = elim f.body [ body.Knowledge runs js ↦ js | _ ↦ [] ]
+
+abbrev pub joins_fit : Net → Frame → Bool
+joins_fit net f = list_all (λ j. is_late net j.subscriber) (joins_in f)
+
+-- The frame fits the broker: it is addressed to it, of a publisher that there is, curiosity comes from a child and all
+-- else from the next broker towards the host, and each join is of a late subscriber
 abbrev pub fits_broker : Net → ℕ → Frame → Bool
 fits_broker net b f =
-    (nat_eq f.head.to b && nat_lt f.head.publisher net.publishers)
+    ((nat_eq f.head.to b && nat_lt f.head.publisher net.publishers)
     && elim f.body [
       | body.Curiosity runs ↦ list_any (λ x. nat_eq x f.head.from) (net.children f.head.publisher b)
       | _ ↦ elim (net.up f.head.publisher b) [ Some u ↦ nat_eq u f.head.from | None ↦ false ]
-    ]
+    ])
+    && joins_fit net f
 
 -- the ticks at which a piece clashes with what is known, as runs; the least of them
 abbrev pub clash_runs : Known → Known → Wanted
@@ -93,12 +102,12 @@ first_of (r ∷ rs) = Some r.first
 
 -- the least tick at which knowledge clashes, if there is one
 abbrev pub least_clash : Known → Frame → Option ℕ
-least_clash know f = elim f.body [ body.Knowledge runs ↦ first_of (clash_runs know runs) | _ ↦ None ]
+least_clash know f = elim f.body [ body.Knowledge runs js ↦ first_of (clash_runs know runs) | _ ↦ None ]
 
 -- the line of a clash at a tick
 abbrev pub clash_line : ℕ → Known → Frame → ℕ → Report
 clash_line b know f t = line.DroppedClash b t (known_at know t) (elim f.body [
-  | body.Knowledge runs ↦ known_at runs t
+  | body.Knowledge runs js ↦ known_at runs t
   | _ ↦ Q
 ])
 

@@ -15,6 +15,7 @@ net0 = record {
   children = λ p b. if nat_eq b 0 then 1 ∷ [] else [];
   subscribers_at = λ b. if nat_eq b 1 then 0 ∷ [] else [];
   below = λ p b. if nat_lt b 2 then 0 ∷ [] else [];
+  late = [];
   depth = λ p b. if nat_lt b 2 then b else 2;
   wants = λ p s t e. true;
   gap = 200;

@@ -4,6 +4,7 @@ use Rattle.std.specs.Prelude.{if◌then◌else◌, List, [], ◌∷◌, ◌++◌
 use Rattle.std.specs.Prelude.{Option}
 use Rattle.std.specs.List.{list_all}
 use Rattle.gr_event.specs.declared.event.Event.{Event}
+use Rattle.gr_event.specs.Joins.{Joins}
 use Rattle.gr_know.specs.declared.values.K.{K}
 use Rattle.gr_know.specs.declared.values.K.TheVariants.{Q, D, F}
 use Rattle.gr_curio.specs.declared.values.Q3.{Q3}
@@ -11,7 +12,7 @@ use Rattle.gr_curio.specs.declared.values.Q3.TheVariants.{N, C, A}
 use Rattle.gr_frame.specs.declared.Body.TheVariants as body
 use Rattle.gr_frame.specs.declared.Head.{Head}
 use Rattle.gr_frame.specs.declared.Frame.{Frame}
-use Rattle.gr_frame.specs.Bytes.{known_run_size, wanted_run_size, cut_frames}
+use Rattle.gr_frame.specs.Bytes.{head_size, known_run_size, wanted_run_size, cut_frames}
 use Rattle.gr_curio.specs.declared.asks.Moment.TheVariants.{Never}
 use Rattle.gr_model.specs.declared.report.Report.{Report}
 use Rattle.gr_model.specs.declared.report.Report.TheVariants as line
@@ -42,6 +43,7 @@ pub record View : Type 0 where
   pub wants : List Wanted  -- one for each child, in order
   pub asks : Asked
   pub horizon : ℕ
+  pub joins : Joins  -- of late subscribers, as far as they are held
 
 -- what a call leaves, tells and sends
 pub record Outcome : Type 0 where
@@ -56,18 +58,18 @@ pub record Outcome : Type 0 where
 abbrev pub head : ℕ → ℕ → ℕ → Head
 head from to p = record { from = from; to = to; publisher = p }
 
--- what is known, wanted or to be expected as frames; nothing makes no frame
-abbrev pub know_frames : ℕ → ℕ → ℕ → Known → List Frame
-know_frames from to p runs = map (λ part. record {
+-- what is known, with these joins, wanted or to be expected as frames; nothing makes no frame
+abbrev pub know_frames : Joins → ℕ → ℕ → ℕ → Known → List Frame
+know_frames js from to p runs = map (λ part. record {
   head = head from to p;
-  body = body.Knowledge part;
-}) (cut_frames known_run_size runs)
+  body = body.Knowledge part js;
+}) (cut_frames (head_size js) known_run_size runs)
 
 abbrev pub want_frames : ℕ → ℕ → ℕ → Wanted → List Frame
 want_frames from to p runs = map (λ part. record {
   head = head from to p;
   body = body.Curiosity part;
-}) (cut_frames wanted_run_size runs)
+}) (cut_frames (head_size []) wanted_run_size runs)
 
 abbrev pub expect_frame : ℕ → ℕ → ℕ → ℕ → Frame
 expect_frame from to p tick = record { head = head from to p; body = body.Expect tick }
@@ -110,7 +112,7 @@ open_asks know asks = zip_runs Never Q Never same_moment (λ moment k. if is_F k
 abbrev pub kept_view_below : Net → ℕ → ℕ → View → View
 kept_view_below net p b v =
     let know = forgotten net.cache (if keeps_horizon net p b then v.horizon else max_tick) v.know in
-    record { know = know; wants = v.wants; asks = open_asks know v.asks; horizon = v.horizon }
+    record { know = know; wants = v.wants; asks = open_asks know v.asks; horizon = v.horizon; joins = v.joins }
 
 -- what is kept after a call; the host keeps all
 unfoldable pub kept_view : Net → ℕ → ℕ → View → View
@@ -155,12 +157,12 @@ forward net p c w new = zip_runs Q N Q same_K (λ v a. if is_A a then Q else v) 
 unfoldable pub still_wanted : Wanted → Known → Wanted
 still_wanted w sent = zip_runs N Q N same_Q3 (λ a v. answered_of (not (is_Q v)) a) w sent
 
--- the new ticks as frames to each child
-abbrev pub forward_frames : Net → ℕ → ℕ → Known → List ℕ → List Wanted → List Frame
-forward_frames net p b new [] ws = []
-forward_frames net p b new (c ∷ cs) [] = []
-forward_frames net p b new (c ∷ cs) (w ∷ ws) = know_frames b c p (forward net p c w new)
-    ++ forward_frames net p b new cs ws
+-- the new ticks as frames to each child, with these joins
+abbrev pub forward_frames : Joins → Net → ℕ → ℕ → Known → List ℕ → List Wanted → List Frame
+forward_frames js net p b new [] ws = []
+forward_frames js net p b new (c ∷ cs) [] = []
+forward_frames js net p b new (c ∷ cs) (w ∷ ws) = know_frames js b c p (forward net p c w new)
+    ++ forward_frames js net p b new cs ws
 
 -- each child's curiosity after that
 abbrev pub forward_wants : Net → ℕ → Known → List ℕ → List Wanted → List Wanted
@@ -183,10 +185,11 @@ learn net p b piece v log =
         wants = ws;
         asks = v.asks;
         horizon = h;
+        joins = v.joins;
       });
       log = log;
       lines = flat_map (delivery_lines net p v.horizon h items) (net.subscribers_at b);
-      frames = forward_frames net p b new (net.children p b) v.wants;
+      frames = forward_frames [] net p b new (net.children p b) v.wants;
     }
 
 -- Asking
@@ -253,10 +256,16 @@ curiosity net p b now c i piece v log =
           ++ points reply)
     ] in
     record {
-      view = kept_view net p b (record { know = know; wants = ws; asks = noted now v.asks asked; horizon = v.horizon });
+      view = kept_view net p b (record {
+        know = know;
+        wants = ws;
+        asks = noted now v.asks asked;
+        horizon = v.horizon;
+        joins = v.joins;
+      });
       log = log;
       lines = [];
-      frames = know_frames b c p reply ++ up_frames net p b asked;
+      frames = know_frames [] b c p reply ++ up_frames net p b asked;
     }
 
 -- A broker that is not the host asks for a wanted set, and tells what is consolidated
@@ -270,6 +279,7 @@ asking net p b now wanted ps v log =
         wants = v.wants;
         asks = noted now v.asks asked;
         horizon = v.horizon;
+        joins = v.joins;
       });
       log = log;
       lines = [];
@@ -380,13 +390,14 @@ wake net p b now v log = elim (is_host net p b) [
 
 -- Start, and start again
 
--- what a broker knows when it starts: at the host, what the log says
+-- what a broker knows when it starts: at the host, what the log says. It holds no joins
 unfoldable pub started : Net → ℕ → ℕ → Log → View
 started net p b log = record {
   know = if is_host net p b then log_know log else [];
   wants = map (λ _. []) (net.children p b);
   asks = [];
   horizon = 0;
+  joins = [];
 }
 
 -- A frame comes
@@ -400,11 +411,11 @@ abbrev pub place_of : ℕ → List ℕ → ℕ
 place_of c [] = 0
 place_of c (x ∷ xs) = if nat_eq x c then 0 else suc (place_of c xs)
 
--- a frame comes; one that clashes is dropped
+-- a frame comes; one that clashes is dropped. No joins are taken up
 unfoldable pub receive : Net → ℕ → Frame → View → Log → Outcome
 receive net now f v log =
     elim f.body [
-      | body.Knowledge runs ↦
+      | body.Knowledge runs js ↦
           elim (clashes v.know runs) [
             | true ↦ record { view = v; log = log; lines = []; frames = [] }
             | false ↦ learn net f.head.publisher f.head.to runs v log

@@ -176,19 +176,19 @@ gates_after net h l ls =
 
 -- the Knowledge of a sent line: to, publisher, runs
 abbrev pub know_of_line : Report → Option (ℕ × ℕ × Known)
-know_of_line (line.SentKnow n from to p runs) = Some (to, p, runs)
+know_of_line (line.SentKnow n from to p runs js) = Some (to, p, runs)
 know_of_line _ = None
 
 -- the number of a sent line's frame; 0 for other lines
 abbrev pub sent_number : Report → ℕ
-sent_number (line.SentKnow n from to p runs) = n
+sent_number (line.SentKnow n from to p runs js) = n
 sent_number (line.SentWant n from to p runs) = n
 sent_number (line.SentExpect n from to p tick) = n
 sent_number _ = 0
 
 -- the line is of a frame that was sent, whatever its number
 abbrev pub is_sent : Report → Bool
-is_sent (line.SentKnow n from to p runs) = true
+is_sent (line.SentKnow n from to p runs js) = true
 is_sent (line.SentWant n from to p runs) = true
 is_sent (line.SentExpect n from to p tick) = true
 is_sent _ = false

@@ -18,6 +18,7 @@ pub record Net : Type 0 where
   pub children : ℕ → ℕ → List ℕ  -- for a publisher, the next brokers away from the host, in rising order
   pub subscribers_at : ℕ → List ℕ  -- the subscribers at a broker, in rising order
   pub below : ℕ → ℕ → List ℕ  -- for a publisher, the subscribers at a broker and beyond it
+  pub late : List ℕ  -- the late subscribers, in order
   pub depth : ℕ → ℕ → ℕ  -- for a publisher, how many edges a broker is from the host
   pub wants : ℕ → ℕ → ℕ → Event → Bool  -- for a publisher, a subscriber is to have an event of a tick
   pub gap : ℕ  -- the age at which a tick is asked where something later is known, in milliseconds
@@ -37,6 +38,10 @@ keeps_horizon net p b = not_empty (net.subscribers_at b) || is_empty (net.childr
 -- the publisher is at the broker
 abbrev pub is_host : Net → ℕ → ℕ → Bool
 is_host net p b = nat_eq (net.host p) b
+
+-- the subscriber is late
+abbrev pub is_late : Net → ℕ → Bool
+is_late net s = list_any (λ x. nat_eq x s) net.late
 
 -- some subscriber at the broker or beyond it wants the event of the tick
 abbrev pub wanted_below : Net → ℕ → ℕ → ℕ → Event → Bool

@@ -19,6 +19,7 @@ net_of t = record {
   children = children_of t;
   subscribers_at = subscribers_of t;
   below = below_of t;
+  late = t.late;
   depth = depth_at t;
   wants = λ p s u e. wants t s e;
   gap = t.settings.gap;

@@ -8,6 +8,7 @@ use Rattle.gr_know.specs.declared.values.K.{K}
 use Rattle.gr_know.specs.declared.values.K.TheVariants.{Q, S, D, F}
 use Rattle.gr_curio.specs.declared.values.Q3.{Q3}
 use Rattle.gr_curio.specs.declared.values.Q3.TheVariants.{N, C, A}
+use Rattle.gr_event.specs.Joins.{Joins}
 use Rattle.gr_event.specs.Json.{json_text}
 use Rattle.gr_frame.specs.declared.fault.FrameKind.{FrameKind}
 use Rattle.gr_frame.specs.Fault.{fault_word, fault_kinds}
@@ -61,7 +62,7 @@ want_letter A = codes "A"
 abbrev pub run_word : {V : Type 0} → (V → List ℕ) → Run V → List ℕ
 run_word letter run = letter run.value ++ (decimal run.first ++ (codes "-" ++ decimal run.last))
 
--- why bytes are no frame, by its number from 1 to 9
+-- why bytes are no frame, by its number from 1 to 10
 abbrev pub kind_word : Option FrameKind → List ℕ
 kind_word None = []
 kind_word (Some kind) = fault_word kind
@@ -97,6 +98,11 @@ abbrev pub sent_words : Labels → ℕ → ℕ → ℕ → List ℕ → ℕ → 
 sent_words labels number from to kind publisher =
     codes "sent" ∷ decimal number ∷ labels.broker from ∷ labels.broker to ∷ kind ∷ labels.publisher publisher ∷ []
 
+-- how many joins a frame has, where it has any
+abbrev pub joins_words : Joins → List (List ℕ)
+joins_words [] = []
+joins_words (j ∷ js) = codes "joins" ∷ decimal (length (j ∷ js)) ∷ []
+
 -- the words of a line
 abbrev pub line_words : Labels → Report → List (List ℕ)
 line_words labels (Opened publisher last settled cut) = log_words labels (codes "opened") publisher last settled cut
@@ -116,8 +122,8 @@ line_words labels (Horizon subscriber publisher tick) =
     codes "horizon" ∷ labels.subscriber subscriber ∷ labels.publisher publisher ∷ decimal tick ∷ []
 line_words labels (Ordered subscriber publisher tick event) =
     codes "ordered" ∷ labels.subscriber subscriber ∷ labels.publisher publisher ∷ decimal tick ∷ json_text event ∷ []
-line_words labels (SentKnow number from to publisher runs) = sent_words labels number from to (codes "know") publisher
-    ++ map (run_word know_letter) runs
+line_words labels (SentKnow number from to publisher runs js) =
+    sent_words labels number from to (codes "know") publisher ++ (joins_words js ++ map (run_word know_letter) runs)
 line_words labels (SentWant number from to publisher runs) = sent_words labels number from to (codes "want") publisher
     ++ map (run_word want_letter) runs
 line_words labels (SentExpect number from to publisher tick) =
@@ -187,7 +193,7 @@ IsNamed t (Cut publisher tick) = publisher < length t.publishers
 IsNamed t (Got subscriber publisher tick event) = AreNamed t subscriber publisher
 IsNamed t (Horizon subscriber publisher tick) = AreNamed t subscriber publisher
 IsNamed t (Ordered subscriber publisher tick event) = AreNamed t subscriber publisher
-IsNamed t (SentKnow number from to publisher runs) = IsSentNamed t from to publisher
+IsNamed t (SentKnow number from to publisher runs js) = IsSentNamed t from to publisher
 IsNamed t (SentWant number from to publisher runs) = IsSentNamed t from to publisher
 IsNamed t (SentExpect number from to publisher tick) = IsSentNamed t from to publisher
 IsNamed t (Crashed broker) = broker < length t.brokers
@@ -195,7 +201,7 @@ IsNamed t (Swept moment) = Unit {0}
 IsNamed t (RefusedHosts line broker) = broker < length t.brokers
 IsNamed t (RefusedFrame line frame sent) = Unit {0}
 IsNamed t (RefusedClock line moment) = Unit {0}
-IsNamed t (DroppedNotFrame broker fault at) = (broker < length t.brokers) × (1 ≤ fault) × (fault ≤ 9)
+IsNamed t (DroppedNotFrame broker fault at) = (broker < length t.brokers) × (1 ≤ fault) × (fault ≤ 10)
 IsNamed t (DroppedStray broker from to publisher) = broker < length t.brokers
 IsNamed t (DroppedClash broker tick kept came) = broker < length t.brokers
 IsNamed t (DroppedBadNote broker fault at) = (broker < length t.brokers) × (1 ≤ fault) × (fault ≤ 7)

@@ -29,7 +29,7 @@ pub record Transition : Type 0 where
 
 -- a view in which nothing is known or asked
 abbrev pub blank_view : View
-blank_view = record { know = []; wants = []; asks = []; horizon = 0 }
+blank_view = record { know = []; wants = []; asks = []; horizon = 0; joins = [] }
 
 -- what a broker keeps for a publisher; the log of a publisher
 abbrev pub view_of : World → ℕ → ℕ → View
@@ -46,7 +46,7 @@ with_view views b p v = set views b (set (get_or views b []) p v)
 unfoldable pub sent_line : ℕ → Frame → Report
 sent_line n f =
     elim f.body [
-      | body.Knowledge runs ↦ line.SentKnow n f.head.from f.head.to f.head.publisher runs
+      | body.Knowledge runs js ↦ line.SentKnow n f.head.from f.head.to f.head.publisher runs js
       | body.Curiosity runs ↦ line.SentWant n f.head.from f.head.to f.head.publisher runs
       | body.Expect tick ↦ line.SentExpect n f.head.from f.head.to f.head.publisher tick
     ]
@@ -203,7 +203,10 @@ is_want f = elim f.body [ body.Curiosity runs ↦ true | _ ↦ false ]
 
 -- the frame brings knowledge of p to b
 abbrev pub is_know_to : ℕ → ℕ → Frame → Bool
-is_know_to p b f = elim f.body [ body.Knowledge runs ↦ nat_eq f.head.publisher p && nat_eq f.head.to b | _ ↦ false ]
+is_know_to p b f = elim f.body [
+  | body.Knowledge runs js ↦ nat_eq f.head.publisher p && nat_eq f.head.to b
+  | _ ↦ false
+]
 
 -- the frames of a world past the first so many
 abbrev pub frames_past : ℕ → List Frame → List Frame

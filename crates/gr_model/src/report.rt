@@ -3,7 +3,7 @@
 ghost use Rattle.std.specs.Prelude.{◌≡◌, ◌++◌, ◌∷◌, [], length, OnOk, OnErr};
 
 use gr_curio::Q3;
-use gr_event::{Bytes, Event};
+use gr_event::{Bytes, Event, Joins};
 use gr_know::K;
 use gr_tick::Piece;
 use std::alloc::{AllocError, Global};
@@ -131,6 +131,8 @@ pub enum Report {
         publisher: u16,
         /// What it says, tick by tick.
         runs: Piece<K>,
+        /// The joins of late subscribers that its sender holds.
+        joins: Joins,
     },
     /// A frame of curiosity was sent.
     SentWant {
@@ -195,7 +197,7 @@ pub enum Report {
     DroppedNotFrame {
         /// The broker that dropped it.
         broker: u16,
-        /// The fault's number, from 1 to 9.
+        /// The fault's number, from 1 to 10.
         fault: u8,
         /// The place of the fault, counted from 0 in bytes.
         at: u64,

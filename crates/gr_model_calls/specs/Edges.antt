@@ -5,6 +5,7 @@ use Rattle.gr_frame.specs.declared.Body.{Body}
 use Rattle.gr_frame.specs.declared.Body.TheVariants as body
 use Rattle.gr_frame.specs.declared.Frame.{Frame}
 use Rattle.gr_model.specs.Net.{Net}
+use Rattle.gr_model.specs.Arrivals.{joins_fit}
 
 -- curiosity comes from a child; knowledge, and the tick to expect, from the next broker towards the host
 abbrev pub GoesBetween : Net → ℕ → ℕ → ℕ → Body → Type 0
@@ -17,3 +18,4 @@ pub record GoesOverEdge (net : Net) (f : Frame) : Type 0 where
   pub from : f.head.from < net.brokers
   pub to : f.head.to < net.brokers
   pub between : GoesBetween net f.head.publisher f.head.from f.head.to f.body
+  pub joins : joins_fit net f ≡ true  -- each is of a late subscriber

@@ -62,7 +62,7 @@ CutTrue net f p b cut = (t : ℕ) → 1 ≤ t → t ≤ cut → TrueF net f p b 
 
 -- what a frame says is true at its receiver; an A is true of its sender
 abbrev pub BodyTrue : Net → Facts → ℕ → ℕ → ℕ → Body → Type 0
-BodyTrue net f p from to (body.Knowledge runs) = KnowsTruth net f p to runs
+BodyTrue net f p from to (body.Knowledge runs js) = KnowsTruth net f p to runs
 BodyTrue net f p from to (body.Curiosity runs) = WantsTruth net f p from runs
 BodyTrue net f p from to (body.Expect tick) = tick ≤ f.settled
 

@@ -108,7 +108,7 @@ pub record DeliversOn (net : Net) (p b h k : ℕ) (at : ℕ → K) (ls : List Re
 -- To each child, in order, what it is sent as frames. A piece makes the frames that the cutting rule gives
 -- (`cut_frames`).
 abbrev pub frames_down : Net → ℕ → ℕ → (ℕ → Known) → List Frame
-frames_down net p b sent = flat_map (λ c. know_frames b c p (sent c)) (net.children p b)
+frames_down net p b sent = flat_map (λ c. know_frames [] b c p (sent c)) (net.children p b)
 
 -- A piece of knowledge comes to b
 pub record NewTicks (net : Net) (p b : ℕ) (piece : Known) (v : View) (log : Log) (o : Outcome) : Type 0 where
@@ -118,7 +118,7 @@ pub record NewTicks (net : Net) (p b : ℕ) (piece : Known) (v : View) (log : Lo
       else pass net p c t (new_K (known_at v.know t) (known_at piece t))) (sent c)
   pub frames : o.frames ≡ frames_down net p b sent
   -- A child that is sent nothing gets no frame.
-  pub none : (c : ℕ) → IsChild net p b c → ((t : ℕ) → known_at (sent c) t ≡ Q) → know_frames b c p (sent c) ≡ []
+  pub none : (c : ℕ) → IsChild net p b c → ((t : ℕ) → known_at (sent c) t ≡ Q) → know_frames [] b c p (sent c) ≡ []
   -- What a child asked is done where it was sent something.
   pub wants : (c : ℕ) → IsChild net p b c → HasWanted (λ t. if is_C (want_at net p b v c t)
       && not (is_Q (known_at (sent c) t)) then N else want_at net p b v c t) (wants_from net p b o.view c)
@@ -130,6 +130,7 @@ pub record NewTicks (net : Net) (p b : ℕ) (piece : Known) (v : View) (log : Lo
   pub lines : DeliversOn net p b v.horizon o.view.horizon (λ t. join_K (known_at v.know t) (known_at piece t)) o.lines
   pub know : Knows net p b (λ t. join_K (known_at v.know t) (known_at piece t)) o.view
   pub log_same : o.log ≡ log
+  pub joins_same : o.view.joins ≡ v.joins
 
 -- Curiosity
 
@@ -146,7 +147,7 @@ pub record ChildAsks (net : Net) (p b now c : ℕ) (piece : Wanted) (v : View) (
       && not (is_A (want_at net p b v c t)) && is_Q (known_at v.know t)
       && not (is_outstanding (asked_at v.asks t) now net.retry) then C else N) asked
   -- All answers go to c as one piece, and then all asks upward as one.
-  pub frames : o.frames ≡ know_frames b c p reply ++ up_frames net p b asked
+  pub frames : o.frames ≡ know_frames [] b c p reply ++ up_frames net p b asked
   -- Of c is kept: an acknowledgement, old or new; an ask that is not answered; and what it did not speak of.
   pub wants : HasWanted (λ t. if is_A (wanted_at piece t) || is_A (want_at net p b v c t) then A
       else (if is_C (wanted_at piece t) then (if is_Q (known_at v.know t) then C else N)
@@ -159,6 +160,7 @@ pub record ChildAsks (net : Net) (p b now c : ℕ) (piece : Wanted) (v : View) (
   pub know : Knows net p b (λ t. known_at v.know t) o.view
   pub lines : o.lines ≡ []
   pub log_same : o.log ≡ log
+  pub joins_same : o.view.joins ≡ v.joins
 
 -- Asking
 
@@ -181,6 +183,7 @@ pub record Asks (net : Net) (p b now : ℕ) (wanted : ℕ
   pub know : Forgets net p b v.horizon v.know o.view.know
   pub lines : o.lines ≡ []
   pub log_same : o.log ≡ log
+  pub joins_same : o.view.joins ≡ v.joins
 
 -- At a wake are wanted: what some child asks; and past a kept horizon the ticks as old as `idle`, and those as old as
 -- `gap` below the greatest tick that is known.
@@ -276,7 +279,7 @@ pub record Publishes (net : Net) (p b now number : ℕ) (e : Event) (v : View) (
 
 -- A frame comes: knowledge is new ticks, curiosity is of the child that sent it
 abbrev pub Comes : Net → ℕ → ℕ → ℕ → ℕ → Body → View → Log → Outcome → Type 0
-Comes net p from to now (body.Knowledge runs) v log o = NewTicks net p to runs v log o
+Comes net p from to now (body.Knowledge runs js) v log o = NewTicks net p to runs v log o
 Comes net p from to now (body.Curiosity runs) v log o = ChildAsks net p to now from runs v log o
 Comes net p from to now (body.Expect tick) v log o = Expects net p to now tick v log o
 

@@ -53,10 +53,11 @@ pub record Starts (net : Net) (p b : ℕ) (log : Log) (v : View) : Type 0 where
   -- the host knows what the log says of each tick, and any other broker nothing
   pub at_host : is_host net p b ≡ true → HasKnown (log_at log) v.know
   pub below : is_host net p b ≡ false → v.know ≡ []
-  -- no child has asked or acknowledged, nothing was asked, and the horizon is 0
+  -- no child has asked or acknowledged, nothing was asked, the horizon is 0, and no joins are held
   pub wants : v.wants ≡ map (λ _. []) (net.children p b)
   pub asks : v.asks ≡ []
   pub horizon : v.horizon ≡ 0
+  pub joins : v.joins ≡ []
 
 -- what it keeps when it starts over these logs: one view for each publisher, in order
 pub record StartsAll (net : Net) (b : ℕ) (logs : List Log) (views : List View) : Type 0 where

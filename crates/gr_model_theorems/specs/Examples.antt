@@ -59,6 +59,9 @@ event e first last = run (D e) first last
 abbrev pub final : ℕ → ℕ → Run K
 final first last = run F first last
 
+abbrev pub sent_know : ℕ → ℕ → ℕ → ℕ → Known → Report
+sent_know n from to p runs = line.SentKnow n from to p runs []
+
 abbrev pub asked : ℕ → ℕ → Run Q3
 asked first last = run C first last
 
@@ -92,7 +95,7 @@ stopped_then_again call pick = clock 1000 ∷ step.Publish 0 1 (Some (record {
 unfoldable pub lost_lines : List Report
 lost_lines =
     line.Crashed 0 ∷ line.Lost 0 1 1000 ∷ line.Logged 0 1 1000 ∷
-    line.SentKnow 1 0 1 0 (silent 1 999 ∷ event (n_is 1) 1000 1000 ∷ []) ∷ []
+    sent_know 1 0 1 0 (silent 1 999 ∷ event (n_is 1) 1000 1000 ∷ []) ∷ []
 
 unfoldable pub kept_lines : List Report
 kept_lines = line.Crashed 0 ∷ line.Kept 0 1 1000 ∷ line.Opened 0 1 1000 0 ∷ line.Already 0 1 ∷ []
@@ -132,7 +135,7 @@ pub record WorkedExamples : Type 0 where
   -- A published event and the silence before it reach the subscriber in one frame
   pub published_is_got : report net0 (clock 1000 ∷ publishing 1 (n_is 82) ∷ deliver 1 ∷ []) ≡
       line.Logged 0 1 1000 ∷
-      line.SentKnow 1 0 1 0 (silent 1 999 ∷ event (n_is 82) 1000 1000 ∷ []) ∷
+      sent_know 1 0 1 0 (silent 1 999 ∷ event (n_is 82) 1000 1000 ∷ []) ∷
       line.Got 0 0 1000 (n_is 82) ∷
       line.Horizon 0 0 1000 ∷ []
   -- A schedule without steps tells nothing
@@ -140,9 +143,9 @@ pub record WorkedExamples : Type 0 where
   -- Two publishes at one moment get two ticks
   pub each_tick_once : report net0 (clock 1000 ∷ publishing 1 (n_is 1) ∷ publishing 2 (n_is 2) ∷ []) ≡
       line.Logged 0 1 1000 ∷
-      line.SentKnow 1 0 1 0 (silent 1 999 ∷ event (n_is 1) 1000 1000 ∷ []) ∷
+      sent_know 1 0 1 0 (silent 1 999 ∷ event (n_is 1) 1000 1000 ∷ []) ∷
       line.Logged 0 2 1001 ∷
-      line.SentKnow 2 0 1 0 (event (n_is 2) 1001 1001 ∷ []) ∷ []
+      sent_know 2 0 1 0 (event (n_is 2) 1001 1001 ∷ []) ∷ []
   -- The clock may go back: ticks still rise
   pub clock_may_go_back : report net0 (clock 1000 ∷ publishing 1 (n_is 1) ∷ clock 10 ∷ publishing 2 (n_is 2) ∷ [])
       ≡ report net0 (clock 1000 ∷ publishing 1 (n_is 1) ∷ publishing 2 (n_is 2) ∷ [])
@@ -150,11 +153,11 @@ pub record WorkedExamples : Type 0 where
   pub lost_is_asked : report net0 (clock 1000 ∷ publishing 1 (n_is 1) ∷ clock 2000 ∷ publishing 2 (n_is 2) ∷ deliver 2 ∷
       waking 1 ∷ waking 1 ∷ deliver 3 ∷ deliver 4 ∷ []) ≡
       line.Logged 0 1 1000 ∷
-      line.SentKnow 1 0 1 0 (silent 1 999 ∷ event (n_is 1) 1000 1000 ∷ []) ∷
+      sent_know 1 0 1 0 (silent 1 999 ∷ event (n_is 1) 1000 1000 ∷ []) ∷
       line.Logged 0 2 2000 ∷
-      line.SentKnow 2 0 1 0 (silent 1001 1999 ∷ event (n_is 2) 2000 2000 ∷ []) ∷
+      sent_know 2 0 1 0 (silent 1001 1999 ∷ event (n_is 2) 2000 2000 ∷ []) ∷
       line.SentWant 3 1 0 0 (asked 1 1000 ∷ []) ∷
-      line.SentKnow 4 0 1 0 (silent 1 999 ∷ event (n_is 1) 1000 1000 ∷ []) ∷
+      sent_know 4 0 1 0 (silent 1 999 ∷ event (n_is 1) 1000 1000 ∷ []) ∷
       line.Got 0 0 1000 (n_is 1) ∷
       line.Got 0 0 2000 (n_is 2) ∷
       line.Horizon 0 0 2000 ∷ []
@@ -162,9 +165,9 @@ pub record WorkedExamples : Type 0 where
   pub repeats_are_got_once : report net0 (clock 1000 ∷ publishing 1 (n_is 1) ∷ clock 2000 ∷ publishing 2 (n_is 2) ∷
       deliver 2 ∷ deliver 1 ∷ deliver 2 ∷ deliver 1 ∷ []) ≡
       line.Logged 0 1 1000 ∷
-      line.SentKnow 1 0 1 0 (silent 1 999 ∷ event (n_is 1) 1000 1000 ∷ []) ∷
+      sent_know 1 0 1 0 (silent 1 999 ∷ event (n_is 1) 1000 1000 ∷ []) ∷
       line.Logged 0 2 2000 ∷
-      line.SentKnow 2 0 1 0 (silent 1001 1999 ∷ event (n_is 2) 2000 2000 ∷ []) ∷
+      sent_know 2 0 1 0 (silent 1001 1999 ∷ event (n_is 2) 2000 2000 ∷ []) ∷
       line.Got 0 0 1000 (n_is 1) ∷
       line.Got 0 0 2000 (n_is 2) ∷
       line.Horizon 0 0 2000 ∷ []
@@ -172,65 +175,65 @@ pub record WorkedExamples : Type 0 where
   pub each_is_got_once : report inner_net (clock 1000 ∷ publishing 1 (n_is 1) ∷ deliver 1 ∷ publishing 2 (n_is 2) ∷
       deliver 4 ∷ []) ≡
       line.Logged 0 1 1000 ∷
-      line.SentKnow 1 0 1 0 (silent 1 999 ∷ event (n_is 1) 1000 1000 ∷ []) ∷
+      sent_know 1 0 1 0 (silent 1 999 ∷ event (n_is 1) 1000 1000 ∷ []) ∷
       line.Got 0 0 1000 (n_is 1) ∷
       line.Horizon 0 0 1000 ∷
-      line.SentKnow 2 1 2 0 (silent 1 999 ∷ event (n_is 1) 1000 1000 ∷ []) ∷
-      line.SentKnow 3 1 3 0 (silent 1 1000 ∷ []) ∷
+      sent_know 2 1 2 0 (silent 1 999 ∷ event (n_is 1) 1000 1000 ∷ []) ∷
+      sent_know 3 1 3 0 (silent 1 1000 ∷ []) ∷
       line.Logged 0 2 1001 ∷
-      line.SentKnow 4 0 1 0 (event (n_is 2) 1001 1001 ∷ []) ∷
+      sent_know 4 0 1 0 (event (n_is 2) 1001 1001 ∷ []) ∷
       line.Got 0 0 1001 (n_is 2) ∷
       line.Horizon 0 0 1001 ∷
-      line.SentKnow 5 1 2 0 (event (n_is 2) 1001 1001 ∷ []) ∷
-      line.SentKnow 6 1 3 0 (silent 1001 1001 ∷ []) ∷ []
+      sent_know 5 1 2 0 (event (n_is 2) 1001 1001 ∷ []) ∷
+      sent_know 6 1 3 0 (silent 1001 1001 ∷ []) ∷ []
   -- An event that no subscriber beyond an edge wants passes it as silence
   pub unwanted_is_silence : report net1 (clock 1000 ∷ publishing 1 (int_event price 70) ∷ deliver 1 ∷ []) ≡
       line.Logged 0 1 1000 ∷
-      line.SentKnow 1 0 1 0 (silent 1 1000 ∷ []) ∷
+      sent_know 1 0 1 0 (silent 1 1000 ∷ []) ∷
       line.Horizon 0 0 1000 ∷ []
   -- Neither a filter nor its negation is true of an event without the name
   pub no_filter_on_missing : report net1_both (clock 1000 ∷ publishing 1 (int_event (113 ∷ 116 ∷ 121 ∷ []) 5) ∷
       deliver 1 ∷ []) ≡
       line.Logged 0 1 1000 ∷
-      line.SentKnow 1 0 1 0 (silent 1 1000 ∷ []) ∷
+      sent_know 1 0 1 0 (silent 1 1000 ∷ []) ∷
       line.Horizon 0 0 1000 ∷
       line.Horizon 1 0 1000 ∷ []
   -- A crashed broker has forgotten all, and passes the ask and the answer on
   pub crashed_broker_asks_on : report net2 (clock 1000 ∷ publishing 1 (n_is 1) ∷ deliver 1 ∷ step.Crash 1 ∷ clock 2100 ∷
       waking 2 ∷ deliver 3 ∷ deliver 4 ∷ deliver 5 ∷ deliver 6 ∷ deliver 2 ∷ []) ≡
       line.Logged 0 1 1000 ∷
-      line.SentKnow 1 0 1 0 (silent 1 999 ∷ event (n_is 1) 1000 1000 ∷ []) ∷
-      line.SentKnow 2 1 2 0 (silent 1 999 ∷ event (n_is 1) 1000 1000 ∷ []) ∷
+      sent_know 1 0 1 0 (silent 1 999 ∷ event (n_is 1) 1000 1000 ∷ []) ∷
+      sent_know 2 1 2 0 (silent 1 999 ∷ event (n_is 1) 1000 1000 ∷ []) ∷
       line.Crashed 1 ∷
       line.SentWant 3 2 1 0 (asked 1 1100 ∷ []) ∷
       line.SentWant 4 1 0 0 (asked 1 1100 ∷ []) ∷
-      line.SentKnow 5 0 1 0 (silent 1 999 ∷ event (n_is 1) 1000 1000 ∷ []) ∷
-      line.SentKnow 6 1 2 0 (silent 1 999 ∷ event (n_is 1) 1000 1000 ∷ []) ∷
+      sent_know 5 0 1 0 (silent 1 999 ∷ event (n_is 1) 1000 1000 ∷ []) ∷
+      sent_know 6 1 2 0 (silent 1 999 ∷ event (n_is 1) 1000 1000 ∷ []) ∷
       line.Got 0 0 1000 (n_is 1) ∷
       line.Horizon 0 0 1000 ∷ []
   -- After a crash the host remembers how far it told silence, although the clock went back
   pub mark_outlives_crash : report net0 (clock 5000 ∷ waking 0 ∷ step.Crash 0 ∷ clock 3000 ∷ publishing 1 (n_is 1) ∷
       deliver 3 ∷ deliver 1 ∷ []) ≡
       line.Mark 0 5000 ∷
-      line.SentKnow 1 0 1 0 (silent 1 5000 ∷ []) ∷
+      sent_know 1 0 1 0 (silent 1 5000 ∷ []) ∷
       line.SentExpect 2 0 1 0 5000 ∷
       line.Crashed 0 ∷
       line.Opened 0 0 5000 0 ∷
       line.Logged 0 1 5001 ∷
-      line.SentKnow 3 0 1 0 (event (n_is 1) 5001 5001 ∷ []) ∷
+      sent_know 3 0 1 0 (event (n_is 1) 5001 5001 ∷ []) ∷
       line.Got 0 0 5001 (n_is 1) ∷
       line.Horizon 0 0 5001 ∷ []
   -- Two children ask for the same ticks: the broker between asks once and answers both
   pub two_asks_go_up_once : report net3 (clock 1000 ∷ publishing 1 (n_is 1) ∷ clock 2100 ∷ waking 2 ∷ waking 3 ∷
       deliver 2 ∷ deliver 3 ∷ deliver 4 ∷ deliver 5 ∷ deliver 6 ∷ deliver 7 ∷ []) ≡
       line.Logged 0 1 1000 ∷
-      line.SentKnow 1 0 1 0 (silent 1 999 ∷ event (n_is 1) 1000 1000 ∷ []) ∷
+      sent_know 1 0 1 0 (silent 1 999 ∷ event (n_is 1) 1000 1000 ∷ []) ∷
       line.SentWant 2 2 1 0 (asked 1 1100 ∷ []) ∷
       line.SentWant 3 3 1 0 (asked 1 1100 ∷ []) ∷
       line.SentWant 4 1 0 0 (asked 1 1100 ∷ []) ∷
-      line.SentKnow 5 0 1 0 (silent 1 999 ∷ event (n_is 1) 1000 1000 ∷ []) ∷
-      line.SentKnow 6 1 2 0 (silent 1 999 ∷ event (n_is 1) 1000 1000 ∷ []) ∷
-      line.SentKnow 7 1 3 0 (silent 1 999 ∷ event (n_is 1) 1000 1000 ∷ []) ∷
+      sent_know 5 0 1 0 (silent 1 999 ∷ event (n_is 1) 1000 1000 ∷ []) ∷
+      sent_know 6 1 2 0 (silent 1 999 ∷ event (n_is 1) 1000 1000 ∷ []) ∷
+      sent_know 7 1 3 0 (silent 1 999 ∷ event (n_is 1) 1000 1000 ∷ []) ∷
       line.Got 0 0 1000 (n_is 1) ∷
       line.Horizon 0 0 1000 ∷
       line.Got 1 0 1000 (n_is 1) ∷
@@ -239,8 +242,8 @@ pub record WorkedExamples : Type 0 where
   pub cut_when_all_have_acknowledged : report net4 (clock 1000 ∷ publishing 1 (n_is 1) ∷ deliver 1 ∷ deliver 2 ∷
       waking 1 ∷ deliver 3 ∷ waking 0 ∷ waking 2 ∷ deliver 5 ∷ waking 0 ∷ step.Show ∷ step.Bytes 4 ∷ []) ≡
       line.Logged 0 1 1000 ∷
-      line.SentKnow 1 0 1 0 (silent 1 999 ∷ event (n_is 1) 1000 1000 ∷ []) ∷
-      line.SentKnow 2 0 2 0 (silent 1 999 ∷ event (n_is 1) 1000 1000 ∷ []) ∷
+      sent_know 1 0 1 0 (silent 1 999 ∷ event (n_is 1) 1000 1000 ∷ []) ∷
+      sent_know 2 0 2 0 (silent 1 999 ∷ event (n_is 1) 1000 1000 ∷ []) ∷
       line.Got 0 0 1000 (n_is 1) ∷
       line.Horizon 0 0 1000 ∷
       line.Got 1 0 1000 (n_is 1) ∷
@@ -260,22 +263,22 @@ pub record WorkedExamples : Type 0 where
       step.Crash 2 ∷ step.Crash 1 ∷ deliver 3 ∷ clock 2100 ∷ waking 2 ∷ deliver 4 ∷ deliver 5 ∷ step.Sweep ∷ step.Show ∷
       []) ≡
       line.Logged 0 1 1000 ∷
-      line.SentKnow 1 0 1 0 (silent 1 1000 ∷ []) ∷
-      line.SentKnow 2 1 2 0 (silent 1 1000 ∷ []) ∷
+      sent_know 1 0 1 0 (silent 1 1000 ∷ []) ∷
+      sent_know 2 1 2 0 (silent 1 1000 ∷ []) ∷
       line.SentWant 3 2 1 0 (acknowledging 1 1000 ∷ []) ∷
       line.Crashed 2 ∷
       line.Crashed 1 ∷
       line.SentWant 4 2 1 0 (asked 1 1100 ∷ []) ∷
-      line.SentKnow 5 1 2 0 (final 1 1000 ∷ []) ∷
+      sent_know 5 1 2 0 (final 1 1000 ∷ []) ∷
       line.SentWant 6 1 0 0 (asked 1001 1100 ∷ []) ∷
       line.SentWant 7 2 1 0 (acknowledging 1 1000 ∷ asked 1001 3801 ∷ []) ∷
       line.SentWant 8 1 0 0 (asked 1001 3801 ∷ []) ∷
       line.SentWant 9 1 0 0 (acknowledging 1 1000 ∷ []) ∷
       line.Mark 0 4801 ∷
       line.Cut 0 1000 ∷
-      line.SentKnow 10 0 1 0 (silent 1001 4801 ∷ []) ∷
+      sent_know 10 0 1 0 (silent 1001 4801 ∷ []) ∷
       line.SentExpect 11 0 1 0 4801 ∷
-      line.SentKnow 12 1 2 0 (silent 1001 4801 ∷ []) ∷
+      sent_know 12 1 2 0 (silent 1001 4801 ∷ []) ∷
       line.SentWant 13 2 1 0 (acknowledging 1 4801 ∷ []) ∷
       line.SentWant 14 1 0 0 (acknowledging 1 4801 ∷ []) ∷
       line.Cut 0 4801 ∷
@@ -287,7 +290,7 @@ pub record WorkedExamples : Type 0 where
   pub numbers_stand_once : report net0 (clock 1000 ∷ publishing 1 (n_is 1) ∷ publishing 1 (n_is 1) ∷
       publishing 5 (n_is 5) ∷ []) ≡
       line.Logged 0 1 1000 ∷
-      line.SentKnow 1 0 1 0 (silent 1 999 ∷ event (n_is 1) 1000 1000 ∷ []) ∷
+      sent_know 1 0 1 0 (silent 1 999 ∷ event (n_is 1) 1000 1000 ∷ []) ∷
       line.Already 0 1 ∷
       line.Gap 0 5 2 ∷ []
   -- A publish that stops within is kept exactly where the log has its record, whatever image of the disk is left
@@ -299,10 +302,10 @@ pub record WorkedExamples : Type 0 where
   pub expected_is_asked : report net0 (clock 1000 ∷ publishing 1 (n_is 1) ∷ waking 0 ∷ deliver 2 ∷ deliver 3 ∷
       deliver 4 ∷ []) ≡
       line.Logged 0 1 1000 ∷
-      line.SentKnow 1 0 1 0 (silent 1 999 ∷ event (n_is 1) 1000 1000 ∷ []) ∷
+      sent_know 1 0 1 0 (silent 1 999 ∷ event (n_is 1) 1000 1000 ∷ []) ∷
       line.SentExpect 2 0 1 0 1000 ∷
       line.SentWant 3 1 0 0 (asked 1 1000 ∷ []) ∷
-      line.SentKnow 4 0 1 0 (silent 1 999 ∷ event (n_is 1) 1000 1000 ∷ []) ∷
+      sent_know 4 0 1 0 (silent 1 999 ∷ event (n_is 1) 1000 1000 ∷ []) ∷
       line.Got 0 0 1000 (n_is 1) ∷
       line.Horizon 0 0 1000 ∷ []
   -- A broker that keeps one event asks upstream for the one that it has forgotten
@@ -310,16 +313,16 @@ pub record WorkedExamples : Type 0 where
       publishing 2 (n_is 2) ∷ deliver 1 ∷ deliver 2 ∷ clock 3100 ∷ waking 2 ∷ deliver 5 ∷ deliver 7 ∷ deliver 8 ∷
       deliver 6 ∷ deliver 9 ∷ []) ≡
       line.Logged 0 1 1000 ∷
-      line.SentKnow 1 0 1 0 (silent 1 999 ∷ event (n_is 1) 1000 1000 ∷ []) ∷
+      sent_know 1 0 1 0 (silent 1 999 ∷ event (n_is 1) 1000 1000 ∷ []) ∷
       line.Logged 0 2 2000 ∷
-      line.SentKnow 2 0 1 0 (silent 1001 1999 ∷ event (n_is 2) 2000 2000 ∷ []) ∷
-      line.SentKnow 3 1 2 0 (silent 1 999 ∷ event (n_is 1) 1000 1000 ∷ []) ∷
-      line.SentKnow 4 1 2 0 (silent 1001 1999 ∷ event (n_is 2) 2000 2000 ∷ []) ∷
+      sent_know 2 0 1 0 (silent 1001 1999 ∷ event (n_is 2) 2000 2000 ∷ []) ∷
+      sent_know 3 1 2 0 (silent 1 999 ∷ event (n_is 1) 1000 1000 ∷ []) ∷
+      sent_know 4 1 2 0 (silent 1001 1999 ∷ event (n_is 2) 2000 2000 ∷ []) ∷
       line.SentWant 5 2 1 0 (asked 1 2100 ∷ []) ∷
-      line.SentKnow 6 1 2 0 (silent 1 999 ∷ silent 1001 1999 ∷ event (n_is 2) 2000 2000 ∷ []) ∷
+      sent_know 6 1 2 0 (silent 1 999 ∷ silent 1001 1999 ∷ event (n_is 2) 2000 2000 ∷ []) ∷
       line.SentWant 7 1 0 0 (asked 1000 1000 ∷ asked 2001 2100 ∷ []) ∷
-      line.SentKnow 8 0 1 0 (event (n_is 1) 1000 1000 ∷ []) ∷
-      line.SentKnow 9 1 2 0 (event (n_is 1) 1000 1000 ∷ []) ∷
+      sent_know 8 0 1 0 (event (n_is 1) 1000 1000 ∷ []) ∷
+      sent_know 9 1 2 0 (event (n_is 1) 1000 1000 ∷ []) ∷
       line.Horizon 0 0 999 ∷
       line.Got 0 0 1000 (n_is 1) ∷
       line.Got 0 0 2000 (n_is 2) ∷
@@ -328,7 +331,7 @@ pub record WorkedExamples : Type 0 where
   pub last_tick : report net0 (clock 4611686018427387904 ∷ publishing 1 (n_is 1) ∷ publishing 2 (n_is 2) ∷ step.Sweep ∷
       []) ≡
       line.Logged 0 1 4611686018427387904 ∷
-      line.SentKnow 1 0 1 0 (silent 1 4611686018427387903 ∷ event (n_is 1) 4611686018427387904 4611686018427387904 ∷
+      sent_know 1 0 1 0 (silent 1 4611686018427387903 ∷ event (n_is 1) 4611686018427387904 4611686018427387904 ∷
       []) ∷
       line.Exhausted 0 2 ∷
       line.RefusedClock 4 4611686018427390605 ∷ []
@@ -346,11 +349,11 @@ pub record WorkedExamples : Type 0 where
   pub equal_events_are_one_run : report net0 (clock 1000 ∷ publishing 1 (n_is 7) ∷ publishing 2 (n_is 7) ∷ clock 2100 ∷
       waking 1 ∷ deliver 3 ∷ deliver 4 ∷ []) ≡
       line.Logged 0 1 1000 ∷
-      line.SentKnow 1 0 1 0 (silent 1 999 ∷ event (n_is 7) 1000 1000 ∷ []) ∷
+      sent_know 1 0 1 0 (silent 1 999 ∷ event (n_is 7) 1000 1000 ∷ []) ∷
       line.Logged 0 2 1001 ∷
-      line.SentKnow 2 0 1 0 (event (n_is 7) 1001 1001 ∷ []) ∷
+      sent_know 2 0 1 0 (event (n_is 7) 1001 1001 ∷ []) ∷
       line.SentWant 3 1 0 0 (asked 1 1100 ∷ []) ∷
-      line.SentKnow 4 0 1 0 (silent 1 999 ∷ event (n_is 7) 1000 1001 ∷ []) ∷
+      sent_know 4 0 1 0 (silent 1 999 ∷ event (n_is 7) 1000 1001 ∷ []) ∷
       line.Got 0 0 1000 (n_is 7) ∷
       line.Got 0 0 1001 (n_is 7) ∷
       line.Horizon 0 0 1001 ∷ []

@@ -1,8 +1,8 @@
 -- Logs that code opens: the records of each lane make the log with all its events; the events past its cut are found
-use Rattle.std.specs.Prelude.{◌≡◌, ◌≤◌, ◌^◌, nat_lt, List, map, filter}
+use Rattle.std.specs.Prelude.{◌≡◌, ℕ, ◌≤◌, ◌^◌, nat_lt, List, map, filter}
 use Rattle.std.specs.List.{AllByRecursion}
 use Rattle.gr_publog.specs.declared.record.Record.{Record}
-use Rattle.gr_publog.specs.State.{empty_state, Follow}
+use Rattle.gr_publog.specs.State.{first_standing, Follow}
 use Rattle.gr_pubend.specs.Found.{found_of}
 use Rattle.gr_pubend.specs.Log.{log_of}
 use Rattle.gr_sched.specs.declared.step.Line.{Line}
@@ -18,9 +18,10 @@ use Rattle.gr_model_theorems.specs.Statements.{IsAskedRun, opened_over}
 use Rattle.gr_model_theorems.specs.OverLogs.{world_over, report_over}
 use Rattle.gr_model_theorems.specs.Served.{IsOfBytes, IsHonestRun, HeadlineServed}
 
--- one list of records for each publisher; in each list every record may follow those before it
-abbrev pub AllFollow : List (List Record) → Type 0
-AllFollow lanes = AllByRecursion (Follow empty_state) lanes
+-- one list of records for each publisher; in each list every record may follow those before it, where these
+-- subscribers may join
+abbrev pub AllFollow : List ℕ → List (List Record) → Type 0
+AllFollow late lanes = AllByRecursion (Follow (first_standing late)) lanes
 
 -- the logs that code has of the lanes: all records make them
 abbrev pub whole_logs : List (List Record) → List Log
@@ -37,12 +38,14 @@ past_cut log = record {
   settled = log.settled;
   cut = log.cut;
   events = filter (λ x. nat_lt log.cut x.0) log.events;
+  joins = log.joins;
   gate = log.gate;
 }
 
 -- what is found is the log of all records without the events up to its cut
 abbrev pub FoundIsPastCut : Type 0
-FoundIsPastCut = (rs : List Record) → Follow empty_state rs → past_cut (log_of rs) ≡ found_of rs
+FoundIsPastCut = (late : List ℕ) (rs : List Record) → Follow (first_standing late) rs
+    → past_cut (log_of rs) ≡ found_of rs
 
 -- two worlds that differ in nothing but events that were cut
 pub record DifferInCut (w u : World) : Type 0 where
@@ -58,15 +61,15 @@ served_on net logs steps arrivals =
     arrived net (numbers net.brokers) (opened_over net logs).world
     (publishes_of net (numbers net.brokers) steps) arrivals
 
--- a run over lanes
-pub record IsRunOverLanes (net : Net) (lanes : List (List Record)) (steps : List Line) : Type 0 where
+-- a run over lanes, where these subscribers may join
+pub record IsRunOverLanes (net : Net) (late : List ℕ) (lanes : List (List Record)) (steps : List Line) : Type 0 where
   pub asked : IsAskedRun net steps
-  pub follow : AllFollow lanes
+  pub follow : AllFollow late lanes
 
 -- a server's run over lanes, within the limits of frames, whose journal is honest
-pub record IsServedOverLanes (net : Net) (lanes : List (List Record)) (steps : List Line)
+pub record IsServedOverLanes (net : Net) (late : List ℕ) (lanes : List (List Record)) (steps : List Line)
     (arrivals : List Arrival) : Type 0 where
-  pub over : IsRunOverLanes net lanes steps
+  pub over : IsRunOverLanes net late lanes steps
   pub brokers : net.brokers ≤ 2 ^ 16
   pub publishers : net.publishers ≤ 2 ^ 16
   pub numbers_in : NumbersIn steps

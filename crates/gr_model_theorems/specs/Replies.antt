@@ -23,8 +23,8 @@ is_reply _ = false
 
 -- the frame that a sent line tells
 abbrev pub frame_of_line : Report → Option Frame
-frame_of_line (line.SentKnow n from to p runs) =
-    Some (record { head = record { from = from; to = to; publisher = p }; body = body.Knowledge runs })
+frame_of_line (line.SentKnow n from to p runs js) =
+    Some (record { head = record { from = from; to = to; publisher = p }; body = body.Knowledge runs js })
 frame_of_line (line.SentWant n from to p runs) =
     Some (record { head = record { from = from; to = to; publisher = p }; body = body.Curiosity runs })
 frame_of_line (line.SentExpect n from to p tick) =

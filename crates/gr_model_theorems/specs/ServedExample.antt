@@ -9,7 +9,7 @@ use Rattle.gr_model.specs.declared.report.Report.TheVariants as line
 use Rattle.gr_model.specs.Net.{Net}
 use Rattle.gr_model.specs.Broker.{Log, head}
 use Rattle.gr_model.specs.Arrivals.{Arrival, datagram, quiet, served}
-use Rattle.gr_model_theorems.specs.Examples.{event, int_event, n_is, silent}
+use Rattle.gr_model_theorems.specs.Examples.{event, int_event, n_is, sent_know, silent}
 use Rattle.gr_model_theorems.specs.SmallNets.{net1, price, tree, all_events}
 use Rattle.gr_model.specs.Opening.{opening}
 use Rattle.gr_model_theorems.specs.Served.{IsHonestRun}
@@ -22,7 +22,7 @@ publishes_price = record { number = 1; step = step.Publish 0 1 None (int_event p
 -- the frame with silence up to 999 and the event at 1000
 unfoldable pub first_frame : Frame
 first_frame =
-    record { head = head 0 1 0; body = body.Knowledge (silent 1 999 ∷ event (int_event price 82) 1000 1000 ∷ []) }
+    record { head = head 0 1 0; body = body.Knowledge (silent 1 999 ∷ event (int_event price 82) 1000 1000 ∷ []) [] }
 
 -- a quiet moment; then the first frame arrives; then a byte that is no frame
 unfoldable pub three_arrivals : List Arrival
@@ -30,7 +30,7 @@ three_arrivals = quiet 1000 ∷ datagram 1 (frame_bytes first_frame) 1000 ∷ da
 
 -- a log of two events, at ticks 10 and 20, that is cut at 10 and settled up to 30
 unfoldable pub old_log : Log
-old_log = record { last = 2; settled = 30; cut = 10; events = (20, n_is 2) ∷ []; gate = 93 }
+old_log = record { last = 2; settled = 30; cut = 10; events = (20, n_is 2) ∷ []; joins = []; gate = 93 }
 
 -- one broker, with the publisher and a subscriber
 abbrev pub one_broker : Net
@@ -47,16 +47,16 @@ false_datagrams =
     datagram 1 (frame_bytes (record { head = head 0 1 7; body = body.Expect 5 })) 1000 ∷
     datagram 1 (frame_bytes (record {
       head = head 0 1 0;
-      body = body.Knowledge (event (int_event price 82) 2000 2000 ∷ []);
+      body = body.Knowledge (event (int_event price 82) 2000 2000 ∷ []) [];
     })) 1000 ∷
-    datagram 1 (frame_bytes (record { head = head 0 1 0; body = body.Knowledge (silent 2000 2000 ∷ []) })) 1000 ∷ []
+    datagram 1 (frame_bytes (record { head = head 0 1 0; body = body.Knowledge (silent 2000 2000 ∷ []) [] })) 1000 ∷ []
 
 pub record ServedExamples : Type 0 where
   -- The event is published at the quiet moment, which also wakes the brokers; the datagram brings it to the subscriber;
   -- the last datagram is dropped
   pub a_run : served net1 (0 ∷ 1 ∷ []) [] publishes_price three_arrivals ≡
       [] ∷
-      (line.Logged 0 1 1000 ∷ line.SentKnow 1 0 1 0 (silent 1 999 ∷ event (int_event price 82) 1000 1000 ∷ []) ∷
+      (line.Logged 0 1 1000 ∷ sent_know 1 0 1 0 (silent 1 999 ∷ event (int_event price 82) 1000 1000 ∷ []) ∷
       line.SentExpect 2 0 1 0 1000 ∷ []) ∷
       (line.Got 0 0 1000 (int_event price 82) ∷ line.Horizon 0 0 1000 ∷ []) ∷
       (line.DroppedNotFrame 1 1 1 ∷ []) ∷
@@ -80,7 +80,7 @@ pub record ServedExamples : Type 0 where
   -- A moment past the last tick is taken as the last tick
   pub past_the_last_tick : served net1 (0 ∷ []) [] publishes_price (quiet (2 ^ 63) ∷ []) ≡
       [] ∷
-      (line.Logged 0 1 (2 ^ 62) ∷ line.SentKnow 1 0 1 0 (silent 1 (2 ^ 62 - 1) ∷
+      (line.Logged 0 1 (2 ^ 62) ∷ sent_know 1 0 1 0 (silent 1 (2 ^ 62 - 1) ∷
       event (int_event price 82) (2 ^ 62) (2 ^ 62) ∷ []) ∷ line.SentExpect 2 0 1 0 (2 ^ 62) ∷ []) ∷
       (line.Frames 2 ∷ line.LogOf 0 1 (2 ^ 62) 0 1 ∷ []) ∷ []
   -- Where all is at one broker, the subscriber gets what the log has past its cut, at once

@@ -35,6 +35,7 @@ tree next ats wants cache =
       children = λ p b. filter (is_child next b) (numbers n);
       subscribers_at = λ b. filter (λ s. nat_eq (get_or ats s 0) b) (numbers (length ats));
       below = λ p b. filter (λ s. is_above next n b (get_or ats s 0)) (numbers (length ats));
+      late = [];
       depth = λ p b. depth_of next n b;
       wants = λ p s t e. wants s e;
       gap = 200;

@@ -2,6 +2,7 @@
 use Rattle.std.specs.Prelude.{◌≡◌, ℕ, ◌≤◌, ◌<◌, ◌^◌, true, false, nat_eq, List, [], map, filter, flat_map, Option, Some}
 use Rattle.std.specs.Prelude.{Ok}
 use Rattle.std.specs.List.{AllByRecursion, list_any}
+use Rattle.gr_event.specs.Joins.{Joins}
 use Rattle.gr_frame.specs.declared.Body.TheVariants as body
 use Rattle.gr_frame.specs.declared.Frame.{Frame}
 use Rattle.gr_frame.specs.Bytes.{frame_bytes}
@@ -86,7 +87,7 @@ world_after net steps = (run_all net (start net) steps).world
 -- no knowledge clashes with what its receiver knows
 abbrev pub NothingClashes : Net → World → Type 0
 NothingClashes net w =
-    (k : ℕ) (f : Frame) (runs : Known) → frame_at w k ≡ Some f → f.body ≡ body.Knowledge runs →
+    (k : ℕ) (f : Frame) (runs : Known) (js : Joins) → frame_at w k ≡ Some f → f.body ≡ body.Knowledge runs js →
     clashes (view_of w f.head.to f.head.publisher).know runs ≡ false
 
 -- no frame is a stray

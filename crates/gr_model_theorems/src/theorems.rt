@@ -220,13 +220,16 @@ pub fn headline_served()
 /// events. The record begins with what is found, the events past the cut, of schedules and of a server over an honest
 /// journal. So what was cut changes nothing: no line, and no world but for the events themselves.
 pub fn headline_over_lanes()
-    ensures schedules { (net : Net) (lanes : List (List Record)) (steps : List Line) →
-        IsRunOverLanes net lanes steps → HoldsOverLanes net lanes steps }
-    ensures served { (net : Net) (lanes : List (List Record)) (steps : List Line) (arrivals : List Arrival) →
-        IsServedOverLanes net lanes steps arrivals → HoldsServedLanes net lanes steps arrivals }
-    ensures found { (net : Net) (lanes : List (List Record)) → AllFollow lanes → AreReopened net (found_logs lanes) }
+    ensures schedules { (net : Net) (late : List ℕ) (lanes : List (List Record)) (steps : List Line) →
+        IsRunOverLanes net late lanes steps → HoldsOverLanes net lanes steps }
+    ensures served { (net : Net) (late : List ℕ) (lanes : List (List Record)) (steps : List Line)
+        (arrivals : List Arrival) →
+        IsServedOverLanes net late lanes steps arrivals → HoldsServedLanes net lanes steps arrivals }
+    ensures found { (net : Net) (late : List ℕ) (lanes : List (List Record)) →
+        AllFollow late lanes → AreReopened net (found_logs lanes) }
     ensures past { FoundIsPastCut }
-    ensures silent { (net : Net) (lanes : List (List Record)) → AllFollow lanes → CutEventsSilent net lanes }
+    ensures silent { (net : Net) (late : List ℕ) (lanes : List (List Record)) →
+        AllFollow late lanes → CutEventsSilent net lanes }
 {}
 
 /// One order over all publishers, over logs that code opens: of every schedule that begins on them, and of a server of
@@ -235,10 +238,10 @@ pub fn headline_over_lanes()
 /// publishers: each once, rising by tick and then publisher. The record begins with what was found, the events past the
 /// cut: what an earlier run cut is in no list of this one.
 pub fn ordered_over_lanes()
-    ensures schedules { (net : Net) (totals : List ℕ) (lanes : List (List Record)) (steps : List Line) →
-        IsRunOverLanes net lanes steps → AreTotals net totals → OrderedOverLanes net totals lanes steps }
-    ensures served { (net : Net) (totals : List ℕ) (lanes : List (List Record)) (steps : List Line)
-        (arrivals : List Arrival) → IsServedOverLanes net lanes steps arrivals → AreTotals net totals →
+    ensures schedules { (net : Net) (totals late : List ℕ) (lanes : List (List Record)) (steps : List Line) →
+        IsRunOverLanes net late lanes steps → AreTotals net totals → OrderedOverLanes net totals lanes steps }
+    ensures served { (net : Net) (totals late : List ℕ) (lanes : List (List Record)) (steps : List Line)
+        (arrivals : List Arrival) → IsServedOverLanes net late lanes steps arrivals → AreTotals net totals →
         OrderedServedLanes net totals lanes steps arrivals }
 {}
 
@@ -246,11 +249,11 @@ pub fn ordered_over_lanes()
 /// want the same, what one was told in it up to any step or arrival begins with what the other was told up to any, or
 /// the other way round.
 pub fn one_order_over_lanes()
-    ensures schedules { (net : Net) (totals : List ℕ) (lanes : List (List Record)) (steps : List Line) →
-        IsRunOverLanes net lanes steps → AreTotals net totals →
+    ensures schedules { (net : Net) (totals late : List ℕ) (lanes : List (List Record)) (steps : List Line) →
+        IsRunOverLanes net late lanes steps → AreTotals net totals →
         OneOrder net totals (told_in_order net totals (opened_report net lanes steps)) }
-    ensures served { (net : Net) (totals : List ℕ) (lanes : List (List Record)) (steps : List Line)
-        (arrivals : List Arrival) → IsServedOverLanes net lanes steps arrivals → AreTotals net totals →
+    ensures served { (net : Net) (totals late : List ℕ) (lanes : List (List Record)) (steps : List Line)
+        (arrivals : List Arrival) → IsServedOverLanes net late lanes steps arrivals → AreTotals net totals →
         OneOrderServedLanes net totals lanes steps arrivals }
 {}
 

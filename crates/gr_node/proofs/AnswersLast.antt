@@ -63,6 +63,7 @@ last_after : (log : Log) (r : Record) → log.last ≤ (with_entry log r).last
 last_after log (entry.Event tick number e) = omega arith
 last_after log (entry.Mark tick) = le_refl log.last
 last_after log (entry.Cut tick) = le_refl log.last
+last_after log (entry.Join tick s) = le_refl log.last
 
 last_grows : (log : Log) (more : List Record) → log.last ≤ (log_from log more).last
 last_grows log [] = le_refl log.last
@@ -74,8 +75,8 @@ from_both log (r ∷ rs) more = from_both (with_entry log r) rs more
 
 pub answer_lasts : (t : TopologyView) (hosted : List ℕ) (steps : List Line) (c : Course) (k p n : ℕ) (rs : List Record) (mid after : Lane) → p < length t.publishers → n < 2 ^ 64
     → list_any (offers_next p n) (all_entries t hosted (world_before t c) (acts_upto t hosted steps c k)) ≡ true
-    → Lasts rs mid after → log_of rs ≡ machine_log_of (world_upto t hosted steps c k) p
-    → (image : List ℕ) → LeftSince after (moment mid) image → (left : List Record) × (log_text image ≡ Ok left) × (n ≤ suc (log_of left).last)
+    → Lasts t.late rs mid after → log_of rs ≡ machine_log_of (world_upto t hosted steps c k) p
+    → (image : List ℕ) → LeftSince after (moment mid) image → (left : List Record) × (log_text t.late image ≡ Ok left) × (n ≤ suc (log_of left).last)
 answer_lasts t hosted steps c k p n rs mid after below small offered l is image since =
     let b = l.images image since in
     let logged : n ≤ suc (machine_log_of (world_upto t hosted steps c k) p).last = next_answered t hosted steps c (acts_upto t hosted steps c k) (upto_are_first t hosted steps c k) p n below small offered in

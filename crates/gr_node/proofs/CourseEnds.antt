@@ -222,7 +222,7 @@ module _ (T : Type 0) (t : TopologyView) (hosted : List ℕ) (are : AreHosted t 
 
   -- the log of a publisher at a hosted broker stands then, as the machine has it
   log_stands : IsEnd r → IsSet t hosted n' → AllStand lanes' n' → (p : ℕ) → p < length t.publishers → is_hosted (net_of t) hosted p ≡ true
-      → (rs : List Record) × Stands (lanes' (2 * p)) rs
+      → (rs : List Record) × Stands (lanes' (2 * p)) t.late rs
       × (log_made rs ≡ machine_log_of (in_turn (act (net_of t) hosted) (begun t hosted are hosted [] n o ran.made) start_world).world p)
   log_stands end set stand p below here =
       let x = broker_here hosted n' (host_of t p) set.hosts here in
@@ -230,7 +230,7 @@ module _ (T : Type 0) (t : TopologyView) (hosted : List ℕ) (are : AreHosted t 
       subst (λ m. IsNode t m (in_turn (act (net_of t) hosted) ran.made opened_world).world) (sym (ran.node end)) made_moved.node in
       let l = found_in (log_in x.0 p) ((node.shaped (host_of t p) x.0 x.1).hosted p below ∙ eq-eqb (host_of t p) (host_of t p) refl) in (
         l.0.records,
-        stand (host_of t p) x.0 x.1 p l.0 l.1 (set.fits.whole (host_of t p) p x.0 l.0 x.1 l.1),
+        subst (λ (late : List ℕ). Stands (lanes' (2 * p)) late l.0.records) ((set.fits.fits (host_of t p) x.0 x.1).late p l.0 l.1) (stand (host_of t p) x.0 x.1 p l.0 l.1 (set.fits.whole (host_of t p) p x.0 l.0 x.1 l.1)),
         sym (ap (λ (u : Transition). machine_log_of u.world p) (turn_behind t hosted are hosted [] n o ran.made) ∙ (node.logs p x.0 x.1 below ∙ ap log_said l.1)),
       )
 
@@ -245,7 +245,9 @@ module _ (T : Type 0) (t : TopologyView) (hosted : List ℕ) (are : AreHosted t 
       let l = found_in (log_in x.0 p) ((node.shaped (host_of t p) x.0 x.1).hosted p below ∙ eq-eqb (host_of t p) (host_of t p) refl) in (
         l.0.records,
         s.between (2 * p),
-        lasts l.0.records (s.between (2 * p)) (lanes' (2 * p)) (s.stand (host_of t p) x.0 x.1 p l.0 l.1 (s.set.fits.whole (host_of t p) p x.0 l.0 x.1 l.1)) (s.keep.lane (2 * p)),
+        lasts t.late l.0.records (s.between (2 * p)) (lanes' (2 * p))
+            (subst (λ (late : List ℕ). Stands (s.between (2 * p)) late l.0.records) ((s.set.fits.fits (host_of t p) x.0 x.1).late p l.0 l.1) (s.stand (host_of t p) x.0 x.1 p l.0 l.1 (s.set.fits.whole (host_of t p) p x.0 l.0 x.1 l.1)))
+            (s.keep.lane (2 * p)),
         sym (ap (λ (u : Transition). machine_log_of u.world p) (turn_behind t hosted are hosted [] n o (settles ∷ acts))
             ∙ (ap (λ (u : Transition). machine_log_of u.world p) (settled_nothing (net_of t) hosted acts opened_world) ∙ (node.logs p x.0 x.1 below ∙ ap log_said l.1))),
       )

@@ -60,7 +60,7 @@ but_all_taken old new text b = b.taken ∙ ap (with_more old) (sym (append-nil b
 -- The course of a run over these records, with what came
 
 module _ (T : Type 0) (t : TopologyView) (hosted : List ℕ) (steps : List Line) (turns : ℕ) (posts keeps : Type 0) (journal journal' : List Entry) (taken taken' : Option (List ℕ)) (lanes lanes' : ℕ → Lane)
-    (r : Result T RunFault) (records : List (List Record)) (count : length records ≡ length t.publishers) (follow : AllFollow records) (came : List Arrival) (closed : Bool) (within : length came ≤ turns) (bytes : AllByRecursion IsOfBytes came) where
+    (r : Result T RunFault) (records : List (List Record)) (count : length records ≡ length t.publishers) (follow : AllFollow t.late records) (came : List Arrival) (closed : Bool) (within : length came ≤ turns) (bytes : AllByRecursion IsOfBytes came) where
   abbrev first : World
   first = over_logs (net_of t) (whole_logs records)
 
@@ -262,7 +262,7 @@ module _ (t : TopologyView) (hosted : List ℕ) (are : AreHosted t hosted) (bs r
   pub many : length records ≡ length t.publishers
   many = length_numbers (records_in t n) 0 (length t.publishers)
 
-  pub follows : AllFollow records
+  pub follows : AllFollow t.late records
   follows = records_follow t bs n o.each o.hosts
 
   pub turn_behind : (more : List Act) → in_turn (act net hosted) (begun more) before ≡ followed_by started (in_turn (act net hosted) more)
@@ -326,7 +326,7 @@ module _ (t : TopologyView) (hosted : List ℕ) (are : AreHosted t hosted) (bs r
 
   -- what was found on the lanes of one that has
   pub found_here : (lanes : ℕ → Lane) → ((b : ℕ) → IsSome (broker_in n b) → Found t n (b ∷ []) lanes) → (p : ℕ) → p < length t.publishers → is_among bs (host_of t p) ≡ true
-      → log_text (content (lanes (2 * p))) ≡ Ok (get_or records p [])
+      → log_text t.late (content (lanes (2 * p))) ≡ Ok (get_or records p [])
   found_here lanes found p below here =
       found (host_of t p) (o.hosts (host_of t p) ∙ here) p below (or_left (nat_eq (host_of t p) (host_of t p)) false (eq-eqb (host_of t p) (host_of t p) refl))
       ∙ ap (λ rs. Ok rs) (sym (records_read t n p below))

@@ -77,8 +77,8 @@ line_sent : (n : ℕ) (f : Frame) → is_sent (sent_line n f) ≡ true
 unfolding sent_line
 line_sent n f = go f.body
   where
-    go : (y : Body) → is_sent (elim y [ body.Knowledge runs ↦ line.SentKnow n f.head.from f.head.to f.head.publisher runs | body.Curiosity runs ↦ line.SentWant n f.head.from f.head.to f.head.publisher runs | body.Expect tick ↦ line.SentExpect n f.head.from f.head.to f.head.publisher tick ]) ≡ true
-    go (body.Knowledge runs) = refl
+    go : (y : Body) → is_sent (elim y [ body.Knowledge runs js ↦ line.SentKnow n f.head.from f.head.to f.head.publisher runs js | body.Curiosity runs ↦ line.SentWant n f.head.from f.head.to f.head.publisher runs | body.Expect tick ↦ line.SentExpect n f.head.from f.head.to f.head.publisher tick ]) ≡ true
+    go (body.Knowledge runs js) = refl
     go (body.Curiosity runs) = refl
     go (body.Expect tick) = refl
 
@@ -329,8 +329,8 @@ bytes_ours hosted (a ∷ came) h = elim (cases_Bool (is_ours hosted a)) [
 ]
 
 -- So a run of all brokers is one that the theorems speak of
-pub is_served : (t : TopologyView) (steps : List Line) (c : Course) → IsAskedRun (net_of t) steps → NumbersIn steps → length t.brokers ≤ 2 ^ 16 → length t.publishers ≤ 2 ^ 16 → AllFollow c.records → AllByRecursion IsOfBytes c.came
-    → IsHonestJournal [] (planned t (numbers (length t.brokers)) steps c) → IsServedOverLanes (net_of t) c.records steps (ours (numbers (length t.brokers)) c.came)
+pub is_served : (t : TopologyView) (steps : List Line) (c : Course) → IsAskedRun (net_of t) steps → NumbersIn steps → length t.brokers ≤ 2 ^ 16 → length t.publishers ≤ 2 ^ 16 → AllFollow t.late c.records → AllByRecursion IsOfBytes c.came
+    → IsHonestJournal [] (planned t (numbers (length t.brokers)) steps c) → IsServedOverLanes (net_of t) t.late c.records steps (ours (numbers (length t.brokers)) c.came)
 is_served t steps c asked numbers_in brokers publishers follow bytes honest =
     let all : List ℕ = numbers (length t.brokers) in
     record {

@@ -39,15 +39,15 @@ left_now : (l : Lane) → MayLeave l (content l)
 left_now l = picked_left 1 l.start l.calls
 
 -- a lane that is not called loses nothing
-pub keeps_same : (l : Lane) → Keeps l l
-keeps_same l = record {
+pub keeps_same : (late : List ℕ) (l : Lane) → Keeps late l l
+keeps_same late l = record {
   on = record { start = refl; more = []; calls = refl };
   images = λ rs all image left. all image (only_now l.start l.calls image left);
 }
 
 -- what goes on from a lane that lost nothing loses nothing of it
-pub keeps_on : (a b c : Lane) → Keeps a b → Keeps b c → Keeps a c
-keeps_on a b c x y = record {
+pub keeps_on : (late : List ℕ) (a b c : Lane) → Keeps late a b → Keeps late b c → Keeps late a c
+keeps_on late a b c x y = record {
   on = goes_on_then a b c x.on y.on;
   images = λ rs all image left.
       ⊎_elim (λ later. y.images rs (λ k now. x.images rs all k (still_left b.start b.calls (moment a) k now)) image later)
@@ -56,11 +56,11 @@ keeps_on a b c x y = record {
 }
 
 -- what stood with some records begins with them since
-pub lasts : (rs : List Record) (before after : Lane) → Stands before rs → Keeps before after → Lasts rs before after
-lasts rs before after s k = record {
+pub lasts : (late : List ℕ) (rs : List Record) (before after : Lane) → Stands before late rs → Keeps late before after → Lasts late rs before after
+lasts late rs before after s k = record {
   stood = s;
   on = k.on;
-  images = k.images rs (λ image now. ([], ap log_text (s.only image now) ∙ (reads_spelled (content before) rs s.text ∙ ap (λ (l : List Record). Ok l) (sym (append-nil rs)))));
+  images = k.images rs (λ image now. ([], ap (log_text late) (s.only image now) ∙ (reads_spelled late (content before) rs s.text ∙ ap (λ (l : List Record). Ok l) (sym (append-nil rs)))));
 }
 
 -- Calls that append
@@ -73,54 +73,54 @@ records_grow : (rs base more : List Record) (logged : Option Record) → base �
 records_grow rs base more None e = (more, e)
 records_grow rs base more (Some r) e = (more ++ r ∷ [], ap (λ l. l ++ r ∷ []) e ∙ append_assoc rs more (r ∷ []))
 
-begins_still : (rs base more : List Record) (logged : Option Record) (image : List ℕ) → base ≡ rs ++ more → Reads base logged image → BeginsWith rs image
-begins_still rs base more None image e h = (more, h ∙ ap (λ (l : List Record). Ok l) e)
-begins_still rs base more (Some r) image e h =
+begins_still : (late : List ℕ) (rs base more : List Record) (logged : Option Record) (image : List ℕ) → base ≡ rs ++ more → Reads late base logged image → BeginsWith late rs image
+begins_still late rs base more None image e h = (more, h ∙ ap (λ (l : List Record). Ok l) e)
+begins_still late rs base more (Some r) image e h =
     ⊎_elim (λ x. (more, x ∙ ap (λ (l : List Record). Ok l) e))
     (λ x. (more ++ r ∷ [], x ∙ ap (λ (l : List Record). Ok l) (ap (λ l. l ++ r ∷ []) e ∙ append_assoc rs more (r ∷ []))))
     h
 
-module _ (l : LogView) (before after : Lane) (s : Stands before l.records) (on : GoesOn before after) where
+module _ (l : LogView) (before after : Lane) (s : Stands before l.late l.records) (on : GoesOn before after) where
   -- records with which every image begins are the first of the log
-  are_first : (rs : List Record) → ((image : List ℕ) → MayLeave before image → BeginsWith rs image) → (more : List Record) × (l.records ≡ rs ++ more)
+  are_first : (rs : List Record) → ((image : List ℕ) → MayLeave before image → BeginsWith l.late rs image) → (more : List Record) × (l.records ≡ rs ++ more)
   are_first rs all =
       let b = all (content before) (left_now before) in
-      (b.0, same_records l.records (rs ++ b.0) (sym (reads_spelled (content before) l.records s.text) ∙ b.1))
+      (b.0, same_records l.records (rs ++ b.0) (sym (reads_spelled l.late (content before) l.records s.text) ∙ b.1))
 
-  keeps_logged : (logged : Option Record) → ((image : List ℕ) → LeftSince after (moment before) image → Reads l.records logged image) → Keeps before after
+  keeps_logged : (logged : Option Record) → ((image : List ℕ) → LeftSince after (moment before) image → Reads l.late l.records logged image) → Keeps l.late before after
   keeps_logged logged reads = record {
     on = on;
-    images = λ rs all image left. let b = are_first rs all in begins_still rs l.records b.0 logged image b.1 (reads image left);
+    images = λ rs all image left. let b = are_first rs all in begins_still l.late rs l.records b.0 logged image b.1 (reads image left);
   }
 
   keeps_twice : (one two : Option Record)
-      → ((image : List ℕ) → LeftSince after (moment before) image → Reads l.records one image ⊎ Reads (records_with l.records one) two image) → Keeps before after
+      → ((image : List ℕ) → LeftSince after (moment before) image → Reads l.late l.records one image ⊎ Reads l.late (records_with l.records one) two image) → Keeps l.late before after
   keeps_twice one two reads = record {
     on = on;
     images = λ rs all image left.
         let b = are_first rs all in
         let m = records_grow rs l.records b.0 one b.1 in
-        ⊎_elim (λ x. begins_still rs l.records b.0 one image b.1 x) (λ x. begins_still rs (records_with l.records one) m.0 two image m.1 x) (reads image left);
+        ⊎_elim (λ x. begins_still l.late rs l.records b.0 one image b.1 x) (λ x. begins_still l.late rs (records_with l.records one) m.0 two image m.1 x) (reads image left);
   }
 
 -- All lanes
 
-pub all_same : (l : ℕ → Lane) → AllKeep l l
-all_same l = record { lane = λ n. keeps_same (l n) }
+pub all_same : (late : List ℕ) (l : ℕ → Lane) → AllKeep late l l
+all_same late l = record { lane = λ n. keeps_same late (l n) }
 
-pub all_on : (a b c : ℕ → Lane) → AllKeep a b → AllKeep b c → AllKeep a c
-all_on a b c x y = record { lane = λ n. keeps_on (a n) (b n) (c n) (x.lane n) (y.lane n) }
+pub all_on : (late : List ℕ) (a b c : ℕ → Lane) → AllKeep late a b → AllKeep late b c → AllKeep late a c
+all_on late a b c x y = record { lane = λ n. keeps_on late (a n) (b n) (c n) (x.lane n) (y.lane n) }
 
 -- none was called, or that of one publisher
-none_called : (lanes lanes' : ℕ → Lane) → ((n : ℕ) → lanes' n ≡ lanes n) → AllKeep lanes lanes'
-none_called lanes lanes' same = record { lane = λ n. subst (λ l. Keeps (lanes n) l) (sym (same n)) (keeps_same (lanes n)) }
+none_called : (late : List ℕ) (lanes lanes' : ℕ → Lane) → ((n : ℕ) → lanes' n ≡ lanes n) → AllKeep late lanes lanes'
+none_called late lanes lanes' same = record { lane = λ n. subst (λ l. Keeps late (lanes n) l) (sym (same n)) (keeps_same late (lanes n)) }
 
-one_called : (p : ℕ) (lanes lanes' : ℕ → Lane) → Keeps (lanes (2 * p)) (lanes' (2 * p)) → ((n : ℕ) → n ≢ 2 * p → lanes' n ≡ lanes n) → AllKeep lanes lanes'
-one_called p lanes lanes' here others = record { lane = λ n. go n (cases_eq n (2 * p)) }
+one_called : (late : List ℕ) (p : ℕ) (lanes lanes' : ℕ → Lane) → Keeps late (lanes (2 * p)) (lanes' (2 * p)) → ((n : ℕ) → n ≢ 2 * p → lanes' n ≡ lanes n) → AllKeep late lanes lanes'
+one_called late p lanes lanes' here others = record { lane = λ n. go n (cases_eq n (2 * p)) }
   where
-    go : (n : ℕ) → (n ≡ 2 * p) ⊎ (n ≢ 2 * p) → Keeps (lanes n) (lanes' n)
-    go n (inl e) = subst (λ k. Keeps (lanes k) (lanes' k)) (sym e) here
-    go n (inr ne) = subst (λ l. Keeps (lanes n) l) (sym (others n ne)) (keeps_same (lanes n))
+    go : (n : ℕ) → (n ≡ 2 * p) ⊎ (n ≢ 2 * p) → Keeps late (lanes n) (lanes' n)
+    go n (inl e) = subst (λ k. Keeps late (lanes k) (lanes' k)) (sym e) here
+    go n (inr ne) = subst (λ l. Keeps late (lanes n) l) (sym (others n ne)) (keeps_same late (lanes n))
 
 -- A broker's calls, where it has the log and where it has none
 
@@ -130,22 +130,23 @@ AppendsTo o logged before after answer = elim o [ Some l ↦ Appends l logged be
 abbrev AppendsTwiceTo : {T : Type 0} → Option LogView → Option Record → Option Record → Lane → Lane → Result T LogFault → Type 0
 AppendsTwiceTo o one two before after answer = elim o [ Some l ↦ AppendsTwice l one two before after answer | None ↦ Unit {0} ]
 
-module _ {T : Type 0} (x : BrokerView) (p : ℕ) (lanes lanes' : ℕ → Lane) (answer : Result T LogFault) (whole : (l : LogView) → log_in x p ≡ Some l → l.broken ≡ false) (stand : LogsStand lanes x)
+module _ {T : Type 0} (late : List ℕ) (x : BrokerView) (p : ℕ) (lanes lanes' : ℕ → Lane) (answer : Result T LogFault) (theirs : (l : LogView) → log_in x p ≡ Some l → l.late ≡ late) (whole : (l : LogView) → log_in x p ≡ Some l → l.broken ≡ false) (stand : LogsStand lanes x)
     (on : GoesOn (lanes (2 * p)) (lanes' (2 * p))) (others : (n : ℕ) → n ≢ 2 * p → lanes' n ≡ lanes n) where
-  pub keep_publish : (logged : Option Record) → IsSome (log_in x p) → AppendsAt x p logged lanes lanes' answer → AllKeep lanes lanes'
-  keep_publish logged some appends = one_called p lanes lanes' (go (log_in x p) refl some appends) others
+  pub keep_publish : (logged : Option Record) → IsSome (log_in x p) → AppendsAt x p logged lanes lanes' answer → AllKeep late lanes lanes'
+  keep_publish logged some appends = one_called late p lanes lanes' (go (log_in x p) refl some appends) others
     where
-      go : (o : Option LogView) → log_in x p ≡ o → IsSome o → AppendsTo o logged (lanes (2 * p)) (lanes' (2 * p)) answer → Keeps (lanes (2 * p)) (lanes' (2 * p))
+      go : (o : Option LogView) → log_in x p ≡ o → IsSome o → AppendsTo o logged (lanes (2 * p)) (lanes' (2 * p)) answer → Keeps late (lanes (2 * p)) (lanes' (2 * p))
       go None e none a = absurd (false≢true none)
-      go (Some l) e some a = keeps_logged l (lanes (2 * p)) (lanes' (2 * p)) (stand p l e (whole l e)) on logged (a.any_moment (whole l e))
+      go (Some l) e some a =
+          subst (λ (z : List ℕ). Keeps z (lanes (2 * p)) (lanes' (2 * p))) (theirs l e) (keeps_logged l (lanes (2 * p)) (lanes' (2 * p)) (stand p l e (whole l e)) on logged (a.any_moment (whole l e)))
 
-  pub keep_wake : (one two : Option Record) → (log_in x p ≡ None → (n : ℕ) → lanes' n ≡ lanes n) → AppendsTwiceAt x p one two lanes lanes' answer → AllKeep lanes lanes'
+  pub keep_wake : (one two : Option Record) → (log_in x p ≡ None → (n : ℕ) → lanes' n ≡ lanes n) → AppendsTwiceAt x p one two lanes lanes' answer → AllKeep late lanes lanes'
   keep_wake one two elsewhere appends = go (log_in x p) refl appends
     where
-      go : (o : Option LogView) → log_in x p ≡ o → AppendsTwiceTo o one two (lanes (2 * p)) (lanes' (2 * p)) answer → AllKeep lanes lanes'
-      go None e a = none_called lanes lanes' (elsewhere e)
+      go : (o : Option LogView) → log_in x p ≡ o → AppendsTwiceTo o one two (lanes (2 * p)) (lanes' (2 * p)) answer → AllKeep late lanes lanes'
+      go None e a = none_called late lanes lanes' (elsewhere e)
       go (Some l) e a =
-          one_called p lanes lanes' (keeps_twice l (lanes (2 * p)) (lanes' (2 * p)) (stand p l e (whole l e)) on one two (a.any_moment (whole l e))) others
+          one_called late p lanes lanes' (subst (λ (z : List ℕ). Keeps z (lanes (2 * p)) (lanes' (2 * p))) (theirs l e) (keeps_twice l (lanes (2 * p)) (lanes' (2 * p)) (stand p l e (whole l e)) on one two (a.any_moment (whole l e)))) others
 
 -- A run, turn by turn
 
@@ -155,7 +156,7 @@ stood_none t hosted steps n lanes k lt = absurd (omega (arith, lt))
 -- the node stood before a turn, and each time before that
 pub stood_on : (t : TopologyView) (hosted : List ℕ) (steps : List Line) (n m : NodeView) (came more : List Arrival) (lanes lanes' : ℕ → Lane) → length more ≤ 1
     → StoodEachTime t hosted steps n came lanes → m ≡ (all_done t hosted n (acts_from (net_of t) hosted (publishes_of (net_of t) hosted steps) came)).node
-    → IsSet t hosted m → AllStand lanes m → ((l : ℕ → Lane) → AllKeep l lanes → AllKeep l lanes') → StoodEachTime t hosted steps n (came ++ more) lanes'
+    → IsSet t hosted m → AllStand lanes m → ((l : ℕ → Lane) → AllKeep t.late l lanes → AllKeep t.late l lanes') → StoodEachTime t hosted steps n (came ++ more) lanes'
 stood_on t hosted steps n m came more lanes lanes' one each is set stand keeps k lt = go (cases_lt k (length came))
   where
     node : List Arrival → NodeView
@@ -178,12 +179,12 @@ stood_on t hosted steps n m came more lanes lanes' one each is set stand keeps k
           between = lanes;
           set = subst (λ x. IsSet t hosted x) same set;
           stand = subst (λ x. AllStand lanes x) same stand;
-          keep = keeps lanes (all_same lanes);
+          keep = keeps lanes (all_same t.late lanes);
         }
 
 pub turn_stood : (tells : Type 0) (t : TopologyView) (hosted : List ℕ) (steps : List Line) (n m : NodeView) (came : List Arrival) (lanes lanes' : ℕ → Lane) → (tells → StoodEachTime t hosted steps n came lanes)
     → m ≡ (all_done t hosted n (acts_from (net_of t) hosted (publishes_of (net_of t) hosted steps) came)).node
-    → IsSet t hosted m → (tells → AllStand lanes m) → (tells → (l : ℕ → Lane) → AllKeep l lanes → AllKeep l lanes')
+    → IsSet t hosted m → (tells → AllStand lanes m) → (tells → (l : ℕ → Lane) → AllKeep t.late l lanes → AllKeep t.late l lanes')
     → (more : List Arrival) → length more ≤ 1 → tells → StoodEachTime t hosted steps n (came ++ more) lanes'
 turn_stood tells t hosted steps n m came lanes lanes' each is set stand keeps more one h =
     stood_on t hosted steps n m came more lanes lanes' one (each h) is set (stand h) (keeps h)

@@ -140,8 +140,8 @@ unfolding sent_line
 sent_unlogged p n [] = refl
 sent_unlogged p n (f ∷ fs) = filter-append (is_logged p) (sent_line n f ∷ []) (sent_lines (suc n) fs) ∙ ap₂ (λ (x y : List Report). x ++ y) (one f.body) (sent_unlogged p (suc n) fs)
   where
-    one : (y : Body) → filter (is_logged p) ((elim y [ body.Knowledge runs ↦ line.SentKnow n f.head.from f.head.to f.head.publisher runs | body.Curiosity runs ↦ line.SentWant n f.head.from f.head.to f.head.publisher runs | body.Expect tick ↦ line.SentExpect n f.head.from f.head.to f.head.publisher tick ]) ∷ []) ≡ []
-    one (body.Knowledge runs) = refl
+    one : (y : Body) → filter (is_logged p) ((elim y [ body.Knowledge runs js ↦ line.SentKnow n f.head.from f.head.to f.head.publisher runs js | body.Curiosity runs ↦ line.SentWant n f.head.from f.head.to f.head.publisher runs | body.Expect tick ↦ line.SentExpect n f.head.from f.head.to f.head.publisher tick ]) ∷ []) ≡ []
+    one (body.Knowledge runs js) = refl
     one (body.Curiosity runs) = refl
     one (body.Expect tick) = refl
 

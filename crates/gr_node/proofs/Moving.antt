@@ -23,7 +23,7 @@ use Rattle.gr_model.specs.Net.{Net, is_host, keeps_horizon, numbers}
 use Rattle.gr_model.specs.NetOf.{net_of}
 use Rattle.gr_model.specs.Broker.{View, Log, Outcome as MachineOutcome, empty_log, max_tick, publish, marking, wake, wake_host, wake_below, receive}
 use Rattle.gr_model.specs.World.{World, Transition, view_of, log_of, absorbed, unchanged, in_turn, frames_past, wake_for, wake_for_by, publish_now, publish_now_by, deliver_frame, deliver_frame_by}
-use Rattle.gr_model.specs.Arrivals.{Arrival, at_moment, fault_number, fits_broker, least_clash, clash_line, takes, takes_by, receives, receives_by, is_hosted, show_hosted}
+use Rattle.gr_model.specs.Arrivals.{Arrival, at_moment, fault_number, fits_broker, joins_fit, least_clash, clash_line, takes, takes_by, receives, receives_by, is_hosted, show_hosted}
 use Rattle.gr_model.specs.Orders.{Order, fed, without_ordered}
 use Rattle.gr_model_calls.proofs.rules.Serves.{frames_past_all}
 use Rattle.gr_model_theorems.proofs.server.CutEvents.{on_log}
@@ -343,7 +343,8 @@ module _ (t : TopologyView) (hosted : List ℕ) (n : NodeView) (w : World) (i : 
       by_fit : (q : Bool) → fits_broker net b f ≡ q → Does t hosted (done_with (Ok f) (broker_fits q)) (machine_fits q) (offers_since w (machine_fits q))
       by_fit false e = dropped_is b x (line.DroppedStray b f.head.from f.head.to f.head.publisher) here
       by_fit true e =
-          let both = and_parts (nat_eq f.head.to b && nat_lt f.head.publisher net.publishers) _ e in
+          let fits = and_parts _ (joins_fit net f) e in
+          let both = and_parts (nat_eq f.head.to b && nat_lt f.head.publisher net.publishers) _ fits.0 in
           let parts = and_parts (nat_eq f.head.to b) (nat_lt f.head.publisher net.publishers) both.0 in
           fit_does f (ltb-true f.head.publisher net.publishers parts.1) (eqb-true f.head.to b parts.0)
 

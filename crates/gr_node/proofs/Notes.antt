@@ -20,7 +20,7 @@ use Rattle.gr_out.specs.Entry as out
 use Rattle.gr_publog.specs.declared.record.Record.{Record}
 use Rattle.gr_publog.specs.declared.record.Record.TheVariants as entry
 use Rattle.gr_publog.specs.declared.record.State.{State}
-use Rattle.gr_publog.specs.State.{max_tick, empty_state, after_record, state_from, state_of, may_settle, Follow}
+use Rattle.gr_publog.specs.State.{Standing, first_standing, stands_after, max_tick, state_from, state_of, may_settle, may_enter, Follow}
 use Rattle.gr_pubend.specs.Log.{Log, log_of}
 use Rattle.gr_pubend.proofs.Knowing.{stays_of}
 use Rattle.gr_topo.specs.Topology.{TopologyView, host_of, client_of}
@@ -112,30 +112,35 @@ here_at n b c e here = ap (λ k. is_some (broker_in n k)) e ∙ here
 -- The last event
 
 -- an event's number is at most its tick
-last_from : (s : State) (rs : List Record) → s.last ≤ s.settled → Follow s rs → (let e : State = state_from s rs in e.last ≤ e.settled)
+last_from : (s : Standing) (rs : List Record) → s.state.last ≤ s.state.settled → Follow s rs → (let e : State = state_from s.state rs in e.last ≤ e.settled)
 last_from s [] h f = h
 last_from s (entry.Event tick number e ∷ rs) h f =
-    let both = and_parts (may_settle s tick) (number == s.last + 1) f.0 in
-    let settles = and_parts (nat_lt s.settled tick) (nat_le tick max_tick) both.0 in
-    let later : s.settled < tick = ltb-true s.settled tick settles.0 in
-    let next : number ≡ s.last + 1 = eqb-true number (s.last + 1) both.1 in
-    last_from (after_record s (entry.Event tick number e)) rs (omega (arith, h, later, next)) f.2
+    let both = and_parts (may_settle s.state tick) (number == s.state.last + 1) f.0 in
+    let settles = and_parts (nat_lt s.state.settled tick) (nat_le tick max_tick) both.0 in
+    let later : s.state.settled < tick = ltb-true s.state.settled tick settles.0 in
+    let next : number ≡ s.state.last + 1 = eqb-true number (s.state.last + 1) both.1 in
+    last_from (stands_after s (entry.Event tick number e)) rs (omega (arith, h, later, next)) f.2
 last_from s (entry.Mark tick ∷ rs) h f =
-    let settles = and_parts (nat_lt s.settled tick) (nat_le tick max_tick) f.0 in
-    let later : s.settled < tick = ltb-true s.settled tick settles.0 in
-    last_from (after_record s (entry.Mark tick)) rs (omega (arith, h, later)) f.2
-last_from s (entry.Cut tick ∷ rs) h f = last_from (after_record s (entry.Cut tick)) rs h f.2
+    let settles = and_parts (nat_lt s.state.settled tick) (nat_le tick max_tick) f.0 in
+    let later : s.state.settled < tick = ltb-true s.state.settled tick settles.0 in
+    last_from (stands_after s (entry.Mark tick)) rs (omega (arith, h, later)) f.2
+last_from s (entry.Cut tick ∷ rs) h f = last_from (stands_after s (entry.Cut tick)) rs h f.2
+last_from s (entry.Join tick x ∷ rs) h f =
+    let both = and_parts (may_settle s.state tick) (may_enter s x) f.0 in
+    let settles = and_parts (nat_lt s.state.settled tick) (nat_le tick max_tick) both.0 in
+    let later : s.state.settled < tick = ltb-true s.state.settled tick settles.0 in
+    last_from (stands_after s (entry.Join tick x)) rs (omega (arith, h, later)) f.2
 
 -- so there are no more than there are ticks
-pub last_upto : (rs : List Record) → Follow empty_state rs → (let s : State = state_of rs in s.last ≤ max_tick)
-last_upto rs f =
-    let stays = stays_of rs f in
-    let within = last_from empty_state rs (omega arith) f in
+pub last_upto : (late : List ℕ) (rs : List Record) → Follow (first_standing late) rs → (let s : State = state_of rs in s.last ≤ max_tick)
+last_upto late rs f =
+    let stays = stays_of late rs f in
+    let within = last_from (first_standing late) rs (omega arith) f in
     omega (arith, within, stays.settled, stays.upto)
 
 -- a log's last number is that of its records
-pub last_is : (rs : List Record) → Follow empty_state rs → (let s : State = state_of rs in s.last) ≡ (let l : Log = log_of rs in l.last)
-last_is rs f = sym (stays_of rs f).last
+pub last_is : (late : List ℕ) (rs : List Record) → Follow (first_standing late) rs → (let s : State = state_of rs in s.last) ≡ (let l : Log = log_of rs in l.last)
+last_is late rs f = sym (stays_of late rs f).last
 
 -- Where a place was read
 

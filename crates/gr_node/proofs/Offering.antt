@@ -4,6 +4,7 @@ use Rattle.std.specs.Prelude.{slice_get}
 use Rattle.std.specs.List.{AllByRecursion}
 use Rattle.std.proofs.lemmas.List.{append-nil, map_push, map-append, take-append-drop, take_all}
 use Rattle.std.proofs.lemmas.Grind.{flat_map-append}
+use Rattle.gr_event.specs.Joins.{Joins}
 use Rattle.gr_know.specs.Values.{Known}
 use Rattle.gr_curio.specs.Values.{Wanted}
 use Rattle.gr_frame.specs.declared.Body.{Body}
@@ -73,7 +74,7 @@ all_said P (b ∷ bs) (f ∷ fs) (suc k) bytes a all e = all_said P bs fs k byte
 -- The sender and the receiver stand in the line of a frame
 
 abbrev pub ends_in : Report → ℕ × ℕ
-ends_in (line.SentKnow number from to p runs) = (from, to)
+ends_in (line.SentKnow number from to p runs js) = (from, to)
 ends_in (line.SentWant number from to p runs) = (from, to)
 ends_in (line.SentExpect number from to p tick) = (from, to)
 ends_in _ = (0, 0)
@@ -83,26 +84,26 @@ unfolding sent_line
 ends_said n f = go f.body
   where
     go : (y : Body) → ends_in (elim y [
-      | body.Knowledge runs ↦ line.SentKnow n f.head.from f.head.to f.head.publisher runs
+      | body.Knowledge runs js ↦ line.SentKnow n f.head.from f.head.to f.head.publisher runs js
       | body.Curiosity runs ↦ line.SentWant n f.head.from f.head.to f.head.publisher runs
       | body.Expect tick ↦ line.SentExpect n f.head.from f.head.to f.head.publisher tick
     ]) ≡ (f.head.from, f.head.to)
-    go (body.Knowledge runs) = refl
+    go (body.Knowledge runs js) = refl
     go (body.Curiosity runs) = refl
     go (body.Expect tick) = refl
 
 -- and a frame has no other line
-pub no_other : (l : Report) (n : ℕ) (f : Frame) → l ≡ sent_line n f → ((a b c d : ℕ) (runs : Known) → l ≡ line.SentKnow a b c d runs → ⊥) → ((a b c d : ℕ) (runs : Wanted) → l ≡ line.SentWant a b c d runs → ⊥)
+pub no_other : (l : Report) (n : ℕ) (f : Frame) → l ≡ sent_line n f → ((a b c d : ℕ) (runs : Known) (js : Joins) → l ≡ line.SentKnow a b c d runs js → ⊥) → ((a b c d : ℕ) (runs : Wanted) → l ≡ line.SentWant a b c d runs → ⊥)
     → ((a b c d tick : ℕ) → l ≡ line.SentExpect a b c d tick → ⊥) → ⊥
 unfolding sent_line
 no_other l n f e know want expect = go f.body e
   where
     go : (y : Body) → l ≡ (elim y [
-      | body.Knowledge runs ↦ line.SentKnow n f.head.from f.head.to f.head.publisher runs
+      | body.Knowledge runs js ↦ line.SentKnow n f.head.from f.head.to f.head.publisher runs js
       | body.Curiosity runs ↦ line.SentWant n f.head.from f.head.to f.head.publisher runs
       | body.Expect tick ↦ line.SentExpect n f.head.from f.head.to f.head.publisher tick
     ]) → ⊥
-    go (body.Knowledge runs) h = know n f.head.from f.head.to f.head.publisher runs h
+    go (body.Knowledge runs js) h = know n f.head.from f.head.to f.head.publisher runs js h
     go (body.Curiosity runs) h = want n f.head.from f.head.to f.head.publisher runs h
     go (body.Expect tick) h = expect n f.head.from f.head.to f.head.publisher tick h
 

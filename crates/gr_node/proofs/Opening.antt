@@ -10,7 +10,7 @@ use Rattle.gr_out.specs.Entry.{Entry}
 use Rattle.gr_out.specs.Journal.{is_among}
 use Rattle.gr_know.specs.Values.{Known}
 use Rattle.gr_publog.specs.declared.record.Record.{Record}
-use Rattle.gr_publog.specs.State.{empty_state, Follow}
+use Rattle.gr_publog.specs.State.{first_standing, Follow}
 use Rattle.gr_publog.specs.Crash.{LogView}
 use Rattle.gr_pubend.specs.Log.{log_of as log_made}
 use Rattle.gr_topo.specs.Topology.{TopologyView, host_of}
@@ -135,7 +135,7 @@ module _ (net : Net) (p b : ℕ) (log : Log) where
 started_elsewhere : (net : Net) (p b : ℕ) (log other : Log) → is_host net p b ≡ false → started net p b log ≡ started net p b other
 unfolding started
 started_elsewhere net p b log other e =
-    let made : Bool → Log → View = λ here l. record { know = if here then log_know l else []; wants = map (λ _. []) (net.children p b); asks = []; horizon = 0 } in
+    let made : Bool → Log → View = λ here l. record { know = if here then log_know l else []; wants = map (λ _. []) (net.children p b); asks = []; horizon = 0; joins = [] } in
     ap (λ here. made here log) e ∙ sym (ap (λ here. made here other) e)
 
 learned_log : (net : Net) (p b : ℕ) (piece : Known) (v : View) (l : Log) → (learn net p b piece v l).log ≡ l
@@ -470,23 +470,24 @@ module _ (t : TopologyView) (bs : List ℕ) (n : NodeView) (each : AllByRecursio
   same_broker b x e = some_is (sym (started_at b x e).here ∙ e)
 
   -- Each log that is here may follow
-  follow_said : (s : Option LogView) → ((l : LogView) → s ≡ Some l → Follow empty_state l.records) → Follow empty_state (records_said s)
+  follow_said : (s : Option LogView) → ((l : LogView) → s ≡ Some l → Follow (first_standing t.late) l.records) → Follow (first_standing t.late) (records_said s)
   follow_said None h = tt
   follow_said (Some l) h = h l refl
 
-  follow_at : (s : Option BrokerView) (p : ℕ) → ((x : BrokerView) → s ≡ Some x → Follow empty_state (records_said (log_in x p))) → Follow empty_state (records_at s p)
+  follow_at : (s : Option BrokerView) (p : ℕ) → ((x : BrokerView) → s ≡ Some x → Follow (first_standing t.late) (records_said (log_in x p))) → Follow (first_standing t.late) (records_at s p)
   follow_at None p h = tt
   follow_at (Some x) p h = h x refl
 
-  follow_in : (p : ℕ) → Follow empty_state (records_in t n p)
+  follow_in : (p : ℕ) → Follow (first_standing t.late) (records_in t n p)
   follow_in p = follow_at (broker_in n (host_of t p)) p (λ x e.
       let s = started_at (host_of t p) x e in
-      subst (λ (z : BrokerView). Follow empty_state (records_said (log_in z p))) (same_broker (host_of t p) x e) (follow_said (log_in s.broker p) (s.follow p)))
+      subst (λ (z : BrokerView). Follow (first_standing t.late) (records_said (log_in z p))) (same_broker (host_of t p) x e)
+      (follow_said (log_in s.broker p) (λ l h. subst (λ (late : List ℕ). Follow (first_standing late) l.records) (s.fits.late p l h) (s.follow p l h))))
 
-  pub records_follow : AllFollow (records_found t n)
+  pub records_follow : AllFollow t.late (records_found t n)
   records_follow = go 0 (length t.publishers)
     where
-      go : (a k : ℕ) → AllFollow (map (records_in t n) (numbers_from a k))
+      go : (a k : ℕ) → AllFollow t.late (map (records_in t n) (numbers_from a k))
       go a zero = tt
       go a (suc k) = (follow_in a, go (suc a) k)
 

@@ -26,7 +26,7 @@ use Rattle.gr_model.specs.Net.{Net}
 use Rattle.gr_model.specs.NetOf.{net_of, IsOrderly}
 use Rattle.gr_model.specs.Tree.{IsNet}
 use Rattle.gr_model.specs.Text.{IsNamed}
-use Rattle.gr_model.specs.Arrivals.{fits_broker, least_clash}
+use Rattle.gr_model.specs.Arrivals.{fits_broker, joins_fit, least_clash}
 use Rattle.gr_model.specs.Broker.{View, empty_log, receive}
 use Rattle.gr_model_calls.specs.Edges.{GoesOverEdge}
 use Rattle.gr_model_calls.specs.Fits.{BodyFits}
@@ -98,18 +98,19 @@ fitting net b f e = record {
     ]
 
     parts : ((nat_eq f.head.to b && nat_lt f.head.publisher net.publishers) ≡ true) × (over f.body ≡ true)
-    parts = and_parts (nat_eq f.head.to b && nat_lt f.head.publisher net.publishers) (over f.body) e
+    parts = and_parts (nat_eq f.head.to b && nat_lt f.head.publisher net.publishers) (over f.body)
+        (and_parts ((nat_eq f.head.to b && nat_lt f.head.publisher net.publishers) && over f.body) (joins_fit net f) e).0
 
     to : f.head.to ≡ b
     to = eqb-true f.head.to b (and_parts (nat_eq f.head.to b) (nat_lt f.head.publisher net.publishers) parts.0).0
 
     go : (y : Body) → over y ≡ true → BodyFits net f.head.publisher f.head.from f.head.to y
     go (body.Curiosity runs) h = subst (λ c. list_any (λ x. nat_eq x f.head.from) (net.children f.head.publisher c) ≡ true) (sym to) h
-    go (body.Knowledge runs) h = tt
+    go (body.Knowledge runs js) h = tt
     go (body.Expect tick) h = tt
 
 -- the number of a fault that is none of memory
-fault_named : (k : FrameKind) → k ≢ kind.Memory → (1 ≤ fault_number k) × (fault_number k ≤ 9)
+fault_named : (k : FrameKind) → k ≢ kind.Memory → (1 ≤ fault_number k) × (fault_number k ≤ 10)
 fault_named kind.Memory n = absurd (n refl)
 fault_named kind.Short n = (omega arith, omega arith)
 fault_named kind.BadMagic n = (omega arith, omega arith)
@@ -120,6 +121,7 @@ fault_named kind.BadOrder n = (omega arith, omega arith)
 fault_named kind.BadEvent n = (omega arith, omega arith)
 fault_named kind.Trailing n = (omega arith, omega arith)
 fault_named kind.TooLong n = (omega arith, omega arith)
+fault_named kind.BadJoins n = (omega arith, omega arith)
 
 module _ (t : TopologyView) (now b : ℕ) (x : BrokerView) (lt : b < length t.brokers) (number : x.number ≡ b) (tree : IsNet (net_of t)) (orderly : IsOrderly (net_of t)) where
   -- what is sent goes over edges

@@ -36,7 +36,7 @@ unfolding frame_bytes
 frame_is f = go f.body
   where
     go : (y : Body) → (let l : List ℕ = frame_bytes (record { head = f.head; body = y }) in l ≡ 71 ∷ (75 ∷ drop 2 l))
-    go (body.Knowledge runs) = refl
+    go (body.Knowledge runs js) = refl
     go (body.Curiosity runs) = refl
     go (body.Expect tick) = refl
 

@@ -31,7 +31,7 @@ OnlyAt t b before after = (n : ℕ) → ((p : ℕ) → p < length t.publishers �
 -- What these brokers have found is what the lanes held at first; they stand as they were left; and none was touched but theirs
 pub record HaveFound (t : TopologyView) (bs : List ℕ) (n : NodeView) (before after : ℕ → Lane) : Type 0 where
   pub found : (b : ℕ) (x : BrokerView) → broker_in n b ≡ Some x
-      → (p : ℕ) (l : LogView) → log_in x p ≡ Some l → log_text (content (before (2 * p))) ≡ Ok l.records
+      → (p : ℕ) (l : LogView) → log_in x p ≡ Some l → log_text t.late (content (before (2 * p))) ≡ Ok l.records
   pub stands : AllStand after n
   pub others : OthersStay t bs before after
 
@@ -77,12 +77,12 @@ module _ (t : TopologyView) (bs : List ℕ) (n : NodeView) (b : ℕ) (before mid
   }
 
   -- one that did has found what its lanes held at first
-  pub found_more : (x : BrokerView) (os : List Order) → b < length t.brokers → HasBegun t b x → OpensLanes x mid after → LogsStand after x → HaveFound t (bs ++ b ∷ []) (with_broker n b x os) before after
+  pub found_more : (x : BrokerView) (os : List Order) → b < length t.brokers → HasBegun t b x → OpensLanes t x mid after → LogsStand after x → HaveFound t (bs ++ b ∷ []) (with_broker n b x os) before after
   found_more x os j one opens stand = record {
     found = which_is t n b x os s.count j
-        (λ a y. (p : ℕ) (l : LogView) → log_in y p ≡ Some l → log_text (content (before (2 * p))) ≡ Ok l.records)
+        (λ a y. (p : ℕ) (l : LogView) → log_in y p ≡ Some l → log_text t.late (content (before (2 * p))) ≡ Ok l.records)
         (λ p l e. let at = log_hosted t b x one.fits one.number p l e in
-        subst (λ (lane : Lane). log_text (content lane) ≡ Ok l.records) (lane_first p at.1) (opens.opened p l e).gives)
+        subst (λ (lane : Lane). log_text t.late (content lane) ≡ Ok l.records) (lane_first p at.1) (opens.opened p l e).gives)
         (λ a y apart e. sofar.found a y e);
     stands = which_is t n b x os s.count j (λ a y. LogsStand after y) stand (λ a y apart e. stand_still a y apart (s.each a y e) (sofar.stands a y e));
     others = touched_more;
@@ -92,7 +92,7 @@ module _ (t : TopologyView) (bs : List ℕ) (n : NodeView) (b : ℕ) (before mid
 
 module _ (t : TopologyView) (bs cs : List ℕ) (n : NodeView) (before after : ℕ → Lane) (s : HaveBegun t bs n) (f : HaveFound t cs n before after) where
   -- the lane of a publisher held the records of its log
-  found_at : (p b : ℕ) (x : BrokerView) → p < length t.publishers → host_of t p ≡ b → broker_in n b ≡ Some x → log_text (content (before (2 * p))) ≡ Ok (records_said (log_in x p))
+  found_at : (p b : ℕ) (x : BrokerView) → p < length t.publishers → host_of t p ≡ b → broker_in n b ≡ Some x → log_text t.late (content (before (2 * p))) ≡ Ok (records_said (log_in x p))
   found_at p b x j there e =
       let one = s.each b x e in
       let l = hosted_log t b x one.fits one.number p j there in
@@ -108,10 +108,10 @@ module _ (t : TopologyView) (bs cs : List ℕ) (n : NodeView) (before after : �
       one_of m = elim (or_cases (nat_eq b (host_of t p)) false m) [ inl e ↦ e | inr e ↦ absurd (false≢true e) ]
 
   -- and so it reads
-  reads : (p : ℕ) → p < length t.publishers → is_among bs (host_of t p) ≡ true → IsOk (log_text (content (before (2 * p))))
+  reads : (p : ℕ) → p < length t.publishers → is_among bs (host_of t p) ≡ true → IsOk (log_text t.late (content (before (2 * p))))
   reads p j m =
       let x = begun_broker t bs n s (host_of t p) m in
-      is_ok_of (log_text (content (before (2 * p)))) (records_said (log_in x.0 p)) (found_at p (host_of t p) x.0 j refl x.1)
+      is_ok_of (log_text t.late (content (before (2 * p)))) (records_said (log_in x.0 p)) (found_at p (host_of t p) x.0 j refl x.1)
     where
       is_ok_of : (r : Result (List Record) ℕ) (rs : List Record) → r ≡ Ok rs → IsOk r
       is_ok_of r rs e = ap (λ (o : Result (List Record) ℕ). is_ok o) e
@@ -124,7 +124,7 @@ pub first_damaged : (t : TopologyView) (hosted : List ℕ) (i b : ℕ) (n : Node
 first_damaged t hosted i b n before mid after s next f others p at d = record {
   publisher = d.publisher;
   here = ap (is_among hosted) there ∙ next.here;
-  fault = subst (λ (lane : Lane). log_text (content lane) ≡ Err at) (first p there) d.fault;
+  fault = subst (λ (lane : Lane). log_text t.late (content lane) ≡ Err at) (first p there) d.fault;
   before = λ q j h order. go q j h order;
 }
   where
@@ -134,9 +134,9 @@ first_damaged t hosted i b n before mid after s next f others p at d = record {
     first : (q : ℕ) → host_of t q ≡ b → mid (2 * q) ≡ before (2 * q)
     first = lane_first t (take i hosted) n b before mid after s next.new f others
 
-    go : (q : ℕ) → q < length t.publishers → is_among hosted (host_of t q) ≡ true → (host_of t q < host_of t p) ⊎ ((host_of t q ≡ host_of t p) × (q < p)) → IsOk (log_text (content (before (2 * q))))
+    go : (q : ℕ) → q < length t.publishers → is_among hosted (host_of t q) ≡ true → (host_of t q < host_of t p) ⊎ ((host_of t q ≡ host_of t p) × (q < p)) → IsOk (log_text t.late (content (before (2 * q))))
     go q j h (inl less) = reads t (take i hosted) (take i hosted) n before mid s f q j (next.before (host_of t q) h (omega (arith, less, there)))
-    go q j h (inr same) = subst (λ (lane : Lane). IsOk (log_text (content lane))) (first q (same.0 ∙ there)) (d.before q same.1 (is_host_at t q b (same.0 ∙ there)))
+    go q j h (inr same) = subst (λ (lane : Lane). IsOk (log_text t.late (content lane))) (first q (same.0 ∙ there)) (d.before q same.1 (is_host_at t q b (same.0 ∙ there)))
 
 -- the lanes that were touched are those of hosted brokers
 pub touched_hosted : (t : TopologyView) (hosted : List ℕ) (k : ℕ) (before after : ℕ → Lane) → OthersStay t (take k hosted) before after → OthersStay t hosted before after

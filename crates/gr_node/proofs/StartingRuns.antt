@@ -80,7 +80,7 @@ module _ (t : TopologyView) (hosted : List ℕ) (i : ℕ) (n : NodeView) (are : 
 
   module _ (before mid after : ℕ → Lane) (f : HaveFound t (take i hosted) n before mid) (others : OnlyAt t b mid after) where
     -- it has found what its lanes held at first
-    pub found_next : (x : BrokerView) (os : List Order) → HasBegun t b x → OpensLanes x mid after → LogsStand after x → HaveFound t (take (i + 1) hosted) (with_broker n b x os) before after
+    pub found_next : (x : BrokerView) (os : List Order) → HasBegun t b x → OpensLanes t x mid after → LogsStand after x → HaveFound t (take (i + 1) hosted) (with_broker n b x os) before after
     found_next x os one opens stand =
         subst (λ (bs : List ℕ). HaveFound t bs (with_broker n b x os) before after) (sym next.more)
         (found_more t (take i hosted) n b before mid after s next.new f others x os known one opens stand)

@@ -2,7 +2,7 @@
 use Rattle.std.specs.Prelude.{◌≡◌, ℕ, ◌<◌, false, length, Some}
 use Rattle.gr_out.specs.declared.fault.RunFault.{RunFault}
 use Rattle.gr_out.specs.declared.fault.RunFault.TheVariants as run
-use Rattle.gr_publog.specs.State.{empty_state, Follow}
+use Rattle.gr_publog.specs.State.{first_standing, Follow}
 use Rattle.gr_publog.specs.Crash.{LogView}
 use Rattle.gr_topo.specs.Topology.{TopologyView}
 use Rattle.gr_model.specs.NetOf.{net_of}
@@ -14,7 +14,7 @@ use Rattle.gr_broker.specs.Opened.{opened_at}
 
 -- the records of each log follow one another
 abbrev pub LogsFollow : BrokerView → Type 0
-LogsFollow x = (p : ℕ) (l : LogView) → log_in x p ≡ Some l → Follow empty_state l.records
+LogsFollow x = (p : ℕ) (l : LogView) → log_in x p ≡ Some l → Follow (first_standing l.late) l.records
 
 -- over the logs that it has
 pub record HasBegun (t : TopologyView) (b : ℕ) (x : BrokerView) : Type 0 where

@@ -14,27 +14,27 @@ use Rattle.gr_node.specs.Of.{IsSet, AllStand}
 use Rattle.gr_node.specs.Plan.{acts_from}
 use Rattle.gr_node.specs.Done.{Done, all_done}
 
--- bytes that read as a log which begins with these records
-abbrev pub BeginsWith : List Record → List ℕ → Type 0
-BeginsWith rs image = (more : List Record) × (log_text image ≡ Ok (rs ++ more))
+-- bytes that read, where these subscribers may join, as a log which begins with these records
+abbrev pub BeginsWith : List ℕ → List Record → List ℕ → Type 0
+BeginsWith late rs image = (more : List Record) × (log_text late image ≡ Ok (rs ++ more))
 
 -- A lane stood with these records at an earlier time and goes on from there: whatever a crash may have left at any
 -- moment since then begins with them
-pub record Lasts (rs : List Record) (before after : Lane) : Type 0 where
-  pub stood : Stands before rs
+pub record Lasts (late : List ℕ) (rs : List Record) (before after : Lane) : Type 0 where
+  pub stood : Stands before late rs
   pub on : GoesOn before after
-  pub images : (image : List ℕ) → LeftSince after (moment before) image → BeginsWith rs image
+  pub images : (image : List ℕ) → LeftSince after (moment before) image → BeginsWith late rs image
 
 -- A lane goes on from an earlier time, and lost nothing since: records with which all begins that a crash might have
 -- left then are those with which all begins that a crash may have left at any moment since
-pub record Keeps (before after : Lane) : Type 0 where
+pub record Keeps (late : List ℕ) (before after : Lane) : Type 0 where
   pub on : GoesOn before after
-  pub images : (rs : List Record) → ((image : List ℕ) → MayLeave before image → BeginsWith rs image)
-      → (image : List ℕ) → LeftSince after (moment before) image → BeginsWith rs image
+  pub images : (rs : List Record) → ((image : List ℕ) → MayLeave before image → BeginsWith late rs image)
+      → (image : List ℕ) → LeftSince after (moment before) image → BeginsWith late rs image
 
 -- and so does each lane
-pub record AllKeep (before after : ℕ → Lane) : Type 0 where
-  pub lane : (n : ℕ) → Keeps (before n) (after n)
+pub record AllKeep (late : List ℕ) (before after : ℕ → Lane) : Type 0 where
+  pub lane : (n : ℕ) → Keeps late (before n) (after n)
 
 -- the brokers after the acts of so many arrivals
 abbrev pub node_upto : TopologyView → List ℕ → List Line → NodeView → List Arrival → ℕ → NodeView
@@ -49,7 +49,7 @@ pub record StoodAfter (t : TopologyView) (hosted : List ℕ) (steps : List Line)
   pub between : ℕ → Lane
   pub set : IsSet t hosted (node_upto t hosted steps n came k)
   pub stand : AllStand between (node_upto t hosted steps n came k)
-  pub keep : AllKeep between lanes
+  pub keep : AllKeep t.late between lanes
 
 -- so it was each time that one more came
 abbrev pub StoodEachTime : TopologyView → List ℕ → List Line → NodeView → List Arrival → (ℕ → Lane) → Type 0

@@ -84,7 +84,7 @@ pub record IsRunOf {T : Type 0} (t : TopologyView) (hosted : List ℕ) (steps : 
     (result : Result T RunFault) : Type 0 where
   pub acts : c.made ++ c.left ≡ plan t hosted steps c.came c.closed
   pub count : length c.records ≡ length t.publishers
-  pub follow : AllFollow c.records
+  pub follow : AllFollow t.late c.records
   pub within : length c.came ≤ turns
   pub bytes : AllByRecursion IsOfBytes c.came
   pub whole : OnOk result (c.left ≡ [])
@@ -123,7 +123,7 @@ world_upto t hosted steps c k =
 abbrev pub LogsLast : TopologyView → List ℕ → List Line → Course → (ℕ → Lane) → Type 0
 LogsLast t hosted steps c after = (k : ℕ) → k < length c.came → (p : ℕ) → p < length t.publishers
     → is_hosted (net_of t) hosted p ≡ true
-    → (rs : List Record) × (mid : Lane) × Lasts rs mid (after (2 * p))
+    → (rs : List Record) × (mid : Lane) × Lasts t.late rs mid (after (2 * p))
     × (log_of rs ≡ machine_log_of (world_upto t hosted steps c k) p)
 
 -- Of a disk that tells what it holds: the records are what the lanes of the started brokers held, after a run whose
@@ -132,10 +132,10 @@ pub record KeepsLogs {T : Type 0} (t : TopologyView) (hosted : List ℕ) (steps 
     (before after : ℕ → Lane) (result : Result T RunFault) : Type 0 where
   pub found : (p : ℕ) → p < length t.publishers → is_hosted (net_of t) hosted p ≡ true
       → list_any (is_start (host_of t p)) c.made ≡ true
-      → log_text (content (before (2 * p))) ≡ Ok (get_or c.records p [])
+      → log_text t.late (content (before (2 * p))) ≡ Ok (get_or c.records p [])
   pub kept : IsExact result → (c.left ≡ []) ⊎ (c.left ≡ shows ∷ []) → (p : ℕ) → p < length t.publishers
       → is_hosted (net_of t) hosted p ≡ true
-      → (rs : List Record) × Stands (after (2 * p)) rs × (log_of rs ≡ machine_log_of (end_of t hosted c).world p)
+      → (rs : List Record) × Stands (after (2 * p)) t.late rs × (log_of rs ≡ machine_log_of (end_of t hosted c).world p)
   pub since : LogsLast t hosted steps c after
   pub damaged : (p at : ℕ) → result ≡ Err (run.Damaged p at) → IsFirstDamaged t hosted p at before
   pub others : OthersStay t hosted before after

@@ -7,7 +7,7 @@ use Rattle.gr_out.specs.declared.fault.RunFault.TheVariants as run
 use Rattle.gr_out.specs.Journal.{is_among}
 use Rattle.gr_out.specs.Lane.{Lane, content}
 use Rattle.gr_out.specs.Page.{TakesBut, TakesFront}
-use Rattle.gr_publog.specs.State.{empty_state, Follow}
+use Rattle.gr_publog.specs.State.{first_standing, Follow}
 use Rattle.gr_publog.specs.Text.{log_text}
 use Rattle.gr_publog.specs.Crash.{LogView}
 use Rattle.gr_topo.specs.Topology.{TopologyView, host_of}
@@ -41,7 +41,7 @@ pub record HasStarted (t : TopologyView) (n : NodeView) (b : ℕ) : Type 0 where
   pub views : (p : ℕ) → p < length t.publishers
       → view_in broker p ≡ (opened_at (net_of t) p b (machine_log broker p)).view
   pub whole : (p : ℕ) (l : LogView) → log_in broker p ≡ Some l → l.broken ≡ false
-  pub follow : (p : ℕ) (l : LogView) → log_in broker p ≡ Some l → Follow empty_state l.records
+  pub follow : (p : ℕ) (l : LogView) → log_in broker p ≡ Some l → Follow (first_standing l.late) l.records
 
 -- The first so many of the hosted brokers have started, and no others, and what they tell was heard and put; after a
 -- fault a front of it
@@ -63,14 +63,14 @@ pub record Started {T : Type 0} (t : TopologyView) (hosted : List ℕ) (n' : Nod
 -- the lanes of the publishers at these brokers read as their logs
 abbrev pub Found : TopologyView → NodeView → List ℕ → (ℕ → Lane) → Type 0
 Found t n' bs lanes = (p : ℕ) → p < length t.publishers → is_among bs (host_of t p) ≡ true
-    → log_text (content (lanes (2 * p))) ≡ Ok (records_in t n' p)
+    → log_text t.late (content (lanes (2 * p))) ≡ Ok (records_in t n' p)
 
 -- The lane of a publisher holds no log, with the place of its first fault; those that are opened before it hold one:
 -- broker by broker, and at each its publishers in order
 pub record IsFirstDamaged (t : TopologyView) (hosted : List ℕ) (p at : ℕ) (lanes : ℕ → Lane) : Type 0 where
   pub publisher : p < length t.publishers
   pub here : is_hosted (net_of t) hosted p ≡ true
-  pub fault : log_text (content (lanes (2 * p))) ≡ Err at
+  pub fault : log_text t.late (content (lanes (2 * p))) ≡ Err at
   pub before : (q : ℕ) → q < length t.publishers → is_hosted (net_of t) hosted q ≡ true
       → (host_of t q < host_of t p) ⊎ ((host_of t q ≡ host_of t p) × (q < p))
-      → IsOk (log_text (content (lanes (2 * q))))
+      → IsOk (log_text t.late (content (lanes (2 * q))))

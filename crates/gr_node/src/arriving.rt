@@ -58,7 +58,8 @@ fn datagram_comes<D: Disk, P: Post, K: Sink>(
     ensures stands { D.tells → OnOk result (AllStand (D.lane_of disk.new) (seen node.new)) }
     ensures others { D.tells
         → OthersStay site.now.topo.now site.now.hosted.now (D.lane_of disk.old) (D.lane_of disk.new) }
-    ensures keeps { D.tells → (l : ℕ → Lane) → AllKeep l (D.lane_of disk.old) → AllKeep l (D.lane_of disk.new) }
+    ensures keeps { let late = site.now.topo.now.late in D.tells → (l : ℕ → Lane)
+        → AllKeep late l (D.lane_of disk.old) → AllKeep late l (D.lane_of disk.new) }
     ensures cause { IfErr result IsTurnFault }
     ensures disk { DiskMoves (D.faults disk.old) (D.stops disk.old) (D.faults disk.new) (D.stops disk.new) result }
     ensures sink { SinkMoves (K.faults sink.old) (K.faults sink.new) result }
@@ -102,7 +103,8 @@ fn quiet_comes<D: Disk, P: Post, K: Sink>(
     ensures stands { D.tells → OnOk result (AllStand (D.lane_of disk.new) (seen node.new)) }
     ensures others { D.tells
         → OthersStay site.now.topo.now site.now.hosted.now (D.lane_of disk.old) (D.lane_of disk.new) }
-    ensures keeps { D.tells → (l : ℕ → Lane) → AllKeep l (D.lane_of disk.old) → AllKeep l (D.lane_of disk.new) }
+    ensures keeps { let late = site.now.topo.now.late in D.tells → (l : ℕ → Lane)
+        → AllKeep late l (D.lane_of disk.old) → AllKeep late l (D.lane_of disk.new) }
     ensures cause { IfErr result IsTurnFault }
     ensures disk { DiskMoves (D.faults disk.old) (D.stops disk.old) (D.faults disk.new) (D.stops disk.new) result }
     ensures sink { SinkMoves (K.faults sink.old) (K.faults sink.new) result }
@@ -150,7 +152,8 @@ pub(crate) fn turn<D: Disk, P: Post, K: Sink>(
     ensures stands { D.tells → OnOk result (AllStand (D.lane_of disk.new) (seen node.new)) }
     ensures others { D.tells
         → OthersStay site.now.topo.now site.now.hosted.now (D.lane_of disk.old) (D.lane_of disk.new) }
-    ensures keeps { D.tells → (l : ℕ → Lane) → AllKeep l (D.lane_of disk.old) → AllKeep l (D.lane_of disk.new) }
+    ensures keeps { let late = site.now.topo.now.late in D.tells → (l : ℕ → Lane)
+        → AllKeep late l (D.lane_of disk.old) → AllKeep late l (D.lane_of disk.new) }
     ensures undamaged { (p at : ℕ) → result ≢ Err (RunFault.Damaged p at) }
     ensures disk { DiskMoves (D.faults disk.old) (D.stops disk.old) (D.faults disk.new) (D.stops disk.new) result }
     ensures sink { SinkMoves (K.faults sink.old) (K.faults sink.new) result }

@@ -52,7 +52,8 @@ pub(crate) fn start_one<D: Disk>(site: &Site<'_>, b: u16, disk: &mut D) -> Resul
     ensures begun { IfOk result (λ s. HasBegun site.now.topo.now b s.broker) }
     ensures lines { IfOk result (λ s. s.outcome.reports ≡ lines_of_start site.now.topo.now b (Some s.broker)) }
     ensures named { IfOk result (λ s. AllNamed site.now.topo.now s.outcome.reports) }
-    ensures opens { D.tells → IfOk result (λ s. OpensLanes s.broker (D.lane_of disk.old) (D.lane_of disk.new)) }
+    ensures opens { let t = site.now.topo.now in
+        D.tells → IfOk result (λ s. OpensLanes t s.broker (D.lane_of disk.old) (D.lane_of disk.new)) }
     ensures stands { D.tells → IfOk result (λ s. LogsStand (D.lane_of disk.new) s.broker) }
     // The lanes of publishers that are elsewhere stay as they are
     ensures others { D.tells → (n : ℕ) → ((p : ℕ) → p < length site.now.topo.now.publishers

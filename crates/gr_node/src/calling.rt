@@ -164,7 +164,8 @@ impl Node {
         ensures stands { D.tells → OnOk result (AllStand (D.lane_of disk.new) (seen self.new)) }
         ensures others { D.tells
             → OthersStay topo.now (host_of topo.now p ∷ []) (D.lane_of disk.old) (D.lane_of disk.new) }
-        ensures keeps { D.tells → (l : ℕ → Lane) → AllKeep l (D.lane_of disk.old) → AllKeep l (D.lane_of disk.new) }
+        ensures keeps { let late = topo.now.late in D.tells → (l : ℕ → Lane)
+            → AllKeep late l (D.lane_of disk.old) → AllKeep late l (D.lane_of disk.new) }
     {
         // Proof only: what is sent goes over edges, and each line has its names.
         every_topology_is_a_tree(topo);
@@ -194,7 +195,8 @@ impl Node {
         ensures disk { DiskMoves (D.faults disk.old) (D.stops disk.old) (D.faults disk.new) (D.stops disk.new) result }
         ensures stands { D.tells → OnOk result (AllStand (D.lane_of disk.new) (seen self.new)) }
         ensures others { D.tells → OthersStay topo.now (b ∷ []) (D.lane_of disk.old) (D.lane_of disk.new) }
-        ensures keeps { D.tells → (l : ℕ → Lane) → AllKeep l (D.lane_of disk.old) → AllKeep l (D.lane_of disk.new) }
+        ensures keeps { let late = topo.now.late in D.tells → (l : ℕ → Lane)
+            → AllKeep late l (D.lane_of disk.old) → AllKeep late l (D.lane_of disk.new) }
     {
         // Proof only: what is sent goes over edges, and each line has its names.
         every_topology_is_a_tree(topo);

@@ -43,17 +43,17 @@ use gr_topo::Topology;
 /// And of any run: the plan's acts, one after another, tell what the machine serves of what came at the hosted brokers,
 /// and leave the world after it.
 pub fn an_honest_journal_meets_the_headline(topo: &Topology)
-    ensures headline { (steps : List Line) (c : Course) → AreStepsOf topo.now steps → AllFollow c.records
+    ensures headline { (steps : List Line) (c : Course) → AreStepsOf topo.now steps → AllFollow topo.now.late c.records
         → AllByRecursion IsOfBytes c.came
         → IsHonestJournal [] (planned topo.now (numbers (length topo.now.brokers)) steps c)
         → HoldsServedLanes (net_of topo.now) c.records steps (ours (numbers (length topo.now.brokers)) c.came) }
-    ensures calls { (steps : List Line) (c : Course) → AreStepsOf topo.now steps → AllFollow c.records
+    ensures calls { (steps : List Line) (c : Course) → AreStepsOf topo.now steps → AllFollow topo.now.late c.records
         → AllByRecursion IsOfBytes c.came
         → IsHonestJournal [] (planned topo.now (numbers (length topo.now.brokers)) steps c)
         → ArrivalsDoSteps (net_of topo.now) (found_logs c.records) steps
         (ours (numbers (length topo.now.brokers)) c.came) }
     ensures ordered { (steps : List Line) (c : Course) (totals : List ℕ) → AreStepsOf topo.now steps
-        → AllFollow c.records → AllByRecursion IsOfBytes c.came
+        → AllFollow topo.now.late c.records → AllByRecursion IsOfBytes c.came
         → IsHonestJournal [] (planned topo.now (numbers (length topo.now.brokers)) steps c)
         → AreTotals (net_of topo.now) totals
         → let came : List Arrival = ours (numbers (length topo.now.brokers)) c.came in
@@ -120,9 +120,10 @@ pub fn what_was_answered_lasts(topo: &Topology)
         → p < length topo.now.publishers → n < 2 ^ 64
         → list_any (offers_next p n) (all_entries topo.now hosted (world_before topo.now c)
         (acts_upto topo.now hosted steps c k)) ≡ true
-        → Lasts rs mid after → log_made rs ≡ log_of (world_upto topo.now hosted steps c k) p
+        → Lasts topo.now.late rs mid after → log_made rs ≡ log_of (world_upto topo.now hosted steps c k) p
         → (image : List ℕ) → LeftSince after (moment mid) image
-        → (left : List Record) × (log_text image ≡ Ok left) × (let l : Log = log_made left in n ≤ suc l.last) }
+        → (left : List Record) × (log_text topo.now.late image ≡ Ok left)
+        × (let l : Log = log_made left in n ≤ suc l.last) }
     ensures first { (hosted : List ℕ) (steps : List Line) (c : Course) (k : ℕ)
         → AreFirst topo.now hosted steps c (acts_upto topo.now hosted steps c k) }
 {

@@ -113,7 +113,8 @@ fn submit<D: Disk, P: Post, K: Sink>(
     ensures stands { D.tells → OnOk result (AllStand (D.lane_of disk.new) (seen node.new)) }
     ensures others { D.tells
         → OthersStay site.now.topo.now site.now.hosted.now (D.lane_of disk.old) (D.lane_of disk.new) }
-    ensures keeps { D.tells → (l : ℕ → Lane) → AllKeep l (D.lane_of disk.old) → AllKeep l (D.lane_of disk.new) }
+    ensures keeps { let late = site.now.topo.now.late in D.tells → (l : ℕ → Lane)
+        → AllKeep late l (D.lane_of disk.old) → AllKeep late l (D.lane_of disk.new) }
     ensures cause { IfErr result IsTurnFault }
     ensures disk { DiskMoves (D.faults disk.old) (D.stops disk.old) (D.faults disk.new) (D.stops disk.new) result }
     ensures sink { SinkMoves (K.faults sink.old) (K.faults sink.new) result }
@@ -196,7 +197,8 @@ fn take_read<D: Disk, P: Post, K: Sink>(
     ensures stands { D.tells → OnOk result (AllStand (D.lane_of disk.new) (seen node.new)) }
     ensures others { D.tells
         → OthersStay site.now.topo.now site.now.hosted.now (D.lane_of disk.old) (D.lane_of disk.new) }
-    ensures keeps { D.tells → (l : ℕ → Lane) → AllKeep l (D.lane_of disk.old) → AllKeep l (D.lane_of disk.new) }
+    ensures keeps { let late = site.now.topo.now.late in D.tells → (l : ℕ → Lane)
+        → AllKeep late l (D.lane_of disk.old) → AllKeep late l (D.lane_of disk.new) }
     ensures cause { IfErr result IsTurnFault }
     ensures disk { DiskMoves (D.faults disk.old) (D.stops disk.old) (D.faults disk.new) (D.stops disk.new) result }
     ensures sink { SinkMoves (K.faults sink.old) (K.faults sink.new) result }
@@ -242,7 +244,8 @@ fn take_note<D: Disk, P: Post, K: Sink>(
     ensures stands { D.tells → OnOk result (AllStand (D.lane_of disk.new) (seen node.new)) }
     ensures others { D.tells
         → OthersStay site.now.topo.now site.now.hosted.now (D.lane_of disk.old) (D.lane_of disk.new) }
-    ensures keeps { D.tells → (l : ℕ → Lane) → AllKeep l (D.lane_of disk.old) → AllKeep l (D.lane_of disk.new) }
+    ensures keeps { let late = site.now.topo.now.late in D.tells → (l : ℕ → Lane)
+        → AllKeep late l (D.lane_of disk.old) → AllKeep late l (D.lane_of disk.new) }
     ensures cause { IfErr result IsTurnFault }
     ensures disk { DiskMoves (D.faults disk.old) (D.stops disk.old) (D.faults disk.new) (D.stops disk.new) result }
     ensures sink { SinkMoves (K.faults sink.old) (K.faults sink.new) result }
@@ -280,7 +283,8 @@ pub(crate) fn take_datagram<D: Disk, P: Post, K: Sink>(
     ensures stands { D.tells → OnOk result (AllStand (D.lane_of disk.new) (seen node.new)) }
     ensures others { D.tells
         → OthersStay site.now.topo.now site.now.hosted.now (D.lane_of disk.old) (D.lane_of disk.new) }
-    ensures keeps { D.tells → (l : ℕ → Lane) → AllKeep l (D.lane_of disk.old) → AllKeep l (D.lane_of disk.new) }
+    ensures keeps { let late = site.now.topo.now.late in D.tells → (l : ℕ → Lane)
+        → AllKeep late l (D.lane_of disk.old) → AllKeep late l (D.lane_of disk.new) }
     ensures cause { IfErr result IsTurnFault }
     ensures disk { DiskMoves (D.faults disk.old) (D.stops disk.old) (D.faults disk.new) (D.stops disk.new) result }
     ensures sink { SinkMoves (K.faults sink.old) (K.faults sink.new) result }

@@ -7,7 +7,7 @@ use Rattle.gr_frame.specs.declared.Body.TheVariants as body
 use Rattle.gr_frame.specs.declared.Frame.{Frame}
 use Rattle.gr_frame.specs.declared.Head.{Head}
 use Rattle.gr_frame.specs.declared.fault.FrameFault.{FrameFault}
-use Rattle.gr_frame.specs.Bytes.{frame_bytes, cut_frames, known_run_size, wanted_run_size}
+use Rattle.gr_frame.specs.Bytes.{frame_bytes, head_size, cut_frames, known_run_size, wanted_run_size}
 use Rattle.gr_frame.specs.Cut.{AreFrames, parts_of, joined}
 use Rattle.gr_frame.specs.Decode.{frame_decoded}
 use Rattle.gr_frame.specs.Limits.{IsFrame}
@@ -57,10 +57,10 @@ one_of g (part ∷ (next ∷ cs)) rs p whole e = absurd (more e)
 
 part_under : (h : Head) (x : Body) (p : Frame) → parts_of (record { head = h; body = x }) ≡ p ∷ [] → p ≡ record { head = h; body = x }
 unfolding parts_of
-part_under h (body.Knowledge rs) p e =
-    one_of (λ part. record { head = h; body = body.Knowledge part }) (cut_frames known_run_size rs) rs p (joined_parts known_run_size rs) e
+part_under h (body.Knowledge rs js) p e =
+    one_of (λ part. record { head = h; body = body.Knowledge part js }) (cut_frames (head_size js) known_run_size rs) rs p (joined_parts (head_size js) known_run_size rs) e
 part_under h (body.Curiosity rs) p e =
-    one_of (λ part. record { head = h; body = body.Curiosity part }) (cut_frames wanted_run_size rs) rs p (joined_parts wanted_run_size rs) e
+    one_of (λ part. record { head = h; body = body.Curiosity part }) (cut_frames 12 wanted_run_size rs) rs p (joined_parts 12 wanted_run_size rs) e
 part_under h (body.Expect tick) p e = sym (same e)
   where
     same : {f g : Frame} → f ∷ [] ≡ g ∷ [] → f ≡ g

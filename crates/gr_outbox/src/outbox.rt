@@ -41,12 +41,13 @@ fn line_of(number: u64, frame: Frame) -> Report
 {
     let Frame { head, body } = frame;
     match body {
-        Body::Knowledge(runs) => Report::SentKnow {
+        Body::Knowledge { piece, joins } => Report::SentKnow {
             number,
             from: head.from,
             to: head.to,
             publisher: head.publisher,
-            runs,
+            runs: piece,
+            joins,
         },
         Body::Curiosity(runs) => Report::SentWant {
             number,

@@ -9,8 +9,7 @@ use Rattle.gr_know.specs.declared.values.K.TheVariants.{Q}
 use Rattle.gr_publog.specs.declared.record.Record.{Record}
 use Rattle.gr_publog.specs.declared.record.Record.TheVariants as entry
 use Rattle.gr_publog.specs.declared.record.Entry.{Entry}
-use Rattle.gr_publog.specs.declared.record.State.{State}
-use Rattle.gr_publog.specs.State.{empty_state, after_record, state_from, state_of, events_past, live_events, Follow}
+use Rattle.gr_publog.specs.State.{Standing, first_standing, stands_after, state_from, state_of, events_past, live_events, Follow}
 use Rattle.gr_publog.specs.Text.{record_bytes, blocks, front_text}
 use Rattle.gr_publog.proofs.Reading.{length-record}
 use Rattle.gr_publog.proofs.Live.{settles_later}
@@ -26,6 +25,7 @@ gate_more : (log : Log) (r : Record) → (with_entry log r).gate ≡ log.gate + 
 gate_more log (entry.Event tick number e) = omega (arith, length-record (entry.Event tick number e))
 gate_more log (entry.Mark tick) = omega (arith, length-record (entry.Mark tick))
 gate_more log (entry.Cut tick) = omega (arith, length-record (entry.Cut tick))
+gate_more log (entry.Join tick s) = omega (arith, length-record (entry.Join tick s))
 
 gate_from : (log : Log) (rs : List Record) → (log_from log rs).gate ≡ log.gate + length (blocks rs)
 gate_from log [] = omega arith
@@ -41,31 +41,32 @@ pairs_rise : (from : ℕ) (es : List Entry) → EntriesRise from es → PairsRis
 pairs_rise from [] r = tt
 pairs_rise from (e ∷ es) r = (r.0, pairs_rise e.tick es r.1)
 
-settled_up : (s : State) (rs : List Record) → Follow s rs → s.settled ≤ (state_from s rs).settled
-settled_up s [] f = le_refl s.settled
-settled_up s (r ∷ rs) f = omega (arith, settles_later s r f.0, settled_up (after_record s r) rs f.2)
+settled_up : (s : Standing) (rs : List Record) → Follow s rs → s.state.settled ≤ (state_from s.state rs).settled
+settled_up s [] f = le_refl s.state.settled
+settled_up s (r ∷ rs) f = omega (arith, settles_later s r f.0, settled_up (stands_after s r) rs f.2)
 
-live_all : (cut n : ℕ) (s : State) (rs : List Record) → (state_from s rs).settled ≤ n → Follow s rs → AllByRecursion (IsLive cut n) (pairs (events_past cut rs))
+live_all : (cut n : ℕ) (s : Standing) (rs : List Record) → (state_from s.state rs).settled ≤ n → Follow s rs → AllByRecursion (IsLive cut n) (pairs (events_past cut rs))
 live_all cut n s [] le f = tt
-live_all cut n s (entry.Event tick number e ∷ rs) le f = by_test (live_all cut n (after_record s (entry.Event tick number e)) rs le f.2) (nat_lt cut tick) refl
+live_all cut n s (entry.Event tick number e ∷ rs) le f = by_test (live_all cut n (stands_after s (entry.Event tick number e)) rs le f.2) (nat_lt cut tick) refl
   where
     upto : tick ≤ n
-    upto = omega (arith, le, settled_up (after_record s (entry.Event tick number e)) rs f.2)
+    upto = omega (arith, le, settled_up (stands_after s (entry.Event tick number e)) rs f.2)
 
     by_test : AllByRecursion (IsLive cut n) (pairs (events_past cut rs)) → (b : Bool) → nat_lt cut tick ≡ b
         → AllByRecursion (IsLive cut n) (pairs (if b then record { tick = tick; number = number; event = e } ∷ events_past cut rs else events_past cut rs))
     by_test i true q = (record { past = ltb-true cut tick q; upto = upto; event = f.1.1 }, i)
     by_test i false q = i
-live_all cut n s (entry.Mark tick ∷ rs) le f = live_all cut n (after_record s (entry.Mark tick)) rs le f.2
-live_all cut n s (entry.Cut tick ∷ rs) le f = live_all cut n (after_record s (entry.Cut tick)) rs le f.2
+live_all cut n s (entry.Mark tick ∷ rs) le f = live_all cut n (stands_after s (entry.Mark tick)) rs le f.2
+live_all cut n s (entry.Cut tick ∷ rs) le f = live_all cut n (stands_after s (entry.Cut tick)) rs le f.2
+live_all cut n s (entry.Join tick x ∷ rs) le f = live_all cut n (stands_after s (entry.Join tick x)) rs le f.2
 
 -- what is found of records that follow one another
-pub found_settled : (rs : List Record) → Follow empty_state rs → IsSettled (found_of rs)
-found_settled rs f =
-    let o = opened rs f in
+pub found_settled : (late : List ℕ) (rs : List Record) → Follow (first_standing late) rs → IsSettled (found_of rs)
+found_settled late rs f =
+    let o = opened late rs f in
     record {
       rise = pairs_rise (state_of rs).cut (live_events rs) o.rise;
-      live = live_all (state_of rs).cut (state_of rs).settled empty_state rs (le_refl (state_of rs).settled) f;
+      live = live_all (state_of rs).cut (state_of rs).settled (first_standing late) rs (le_refl (state_of rs).settled) f;
       cut = omega (arith, o.stays.within, o.stays.settled, o.stays.cut);
       settled = o.settled_upto;
     }
@@ -73,8 +74,8 @@ found_settled rs f =
 -- What is known
 
 -- the events at or before the cut add nothing to what is known
-pub found_knows : (rs : List Record) → Follow empty_state rs → log_know (found_of rs) ≡ log_know (log_of rs)
-found_knows rs f =
+pub found_knows : (late : List ℕ) (rs : List Record) → Follow (first_standing late) rs → log_know (found_of rs) ≡ log_know (log_of rs)
+found_knows late rs f =
     let a = log_know-is (found_of rs) in
     let b = log_know-is (log_of rs) in
-    runs_equal Q 1 1 (log_know (found_of rs)) (log_know (log_of rs)) a.runs b.runs (λ t. a.same_at t ∙ whole_says rs t (opened rs f).stays ∙ sym (b.same_at t))
+    runs_equal Q 1 1 (log_know (found_of rs)) (log_know (log_of rs)) a.runs b.runs (λ t. a.same_at t ∙ whole_says rs t (opened late rs f).stays ∙ sym (b.same_at t))

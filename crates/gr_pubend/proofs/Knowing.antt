@@ -15,9 +15,9 @@ use Rattle.gr_know.proofs.ValueLaws.{K_decides}
 use Rattle.gr_publog.specs.declared.record.Record.{Record}
 use Rattle.gr_publog.specs.declared.record.Record.TheVariants as entry
 use Rattle.gr_publog.specs.declared.record.State.{State}
-use Rattle.gr_publog.specs.State.{empty_state, after_record, state_from, state_of, may_settle, may_follow, Follow}
+use Rattle.gr_publog.specs.State.{Standing, first_standing, stands_after, after_record, joins_after, joins_from, joins_of, state_from, state_of, may_settle, may_enter, may_follow, Follow}
 use Rattle.gr_publog.proofs.Live.{settles}
-use Rattle.gr_pubend.specs.Log.{Log, empty_log, with_event, with_mark, with_cut, with_entry, log_from, log_of, event_at, log_at, event_points, log_know, silence, Stays}
+use Rattle.gr_pubend.specs.Log.{Log, empty_log, with_event, with_mark, with_cut, with_join, with_entry, log_from, log_of, event_at, log_at, event_points, log_know, silence, Stays}
 
 -- The list of the log's knowledge
 
@@ -76,6 +76,24 @@ log_with_mark rs tick = log_grows rs (entry.Mark tick)
 pub log_with_cut : (rs : List Record) (tick : ℕ) → log_of (rs ++ entry.Cut tick ∷ []) ≡ with_cut (log_of rs) tick
 log_with_cut rs tick = log_grows rs (entry.Cut tick)
 
+-- behind a join, the log with that join
+pub log_with_join : (rs : List Record) (tick s : ℕ) → log_of (rs ++ entry.Join tick s ∷ []) ≡ with_join (log_of rs) tick s
+log_with_join rs tick s = log_grows rs (entry.Join tick s)
+
+entry_joins : (log : Log) (r : Record) → (with_entry log r).joins ≡ joins_after log.joins r
+entry_joins log (entry.Event tick number e) = refl
+entry_joins log (entry.Mark tick) = refl
+entry_joins log (entry.Cut tick) = refl
+entry_joins log (entry.Join tick s) = refl
+
+joins_go_on : (log : Log) (rs : List Record) → (log_from log rs).joins ≡ joins_from log.joins rs
+joins_go_on log [] = refl
+joins_go_on log (r ∷ rs) = joins_go_on (with_entry log r) rs ∙ ap (λ js. joins_from js rs) (entry_joins log r)
+
+-- the log has the joins of its records
+pub log_joins : (rs : List Record) → (log_of rs).joins ≡ joins_of rs
+log_joins rs = joins_go_on empty_log rs
+
 pub event_at-more : (events : List (ℕ × Event)) (tick t : ℕ) (e : Event) → tick ≢ t → event_at (events ++ (tick, e) ∷ []) t ≡ event_at events t
 event_at-more [] tick t e n = rw (ne_eqb tick t n) refl
 event_at-more (x ∷ xs) tick t e n = ap (λ v. if nat_eq x.0 t then D x.1 else v) (event_at-more xs tick t e n)
@@ -92,12 +110,12 @@ event_at-new (x ∷ xs) t e h = by_test (nat_eq x.0 t) h (λ g. event_at-new xs 
     by_test false s i = i refl
 
 -- the log goes on as its records do
-pub stays_more : (log : Log) (s : State) (r : Record) → Stays log s → may_follow s r ≡ true → Stays (with_entry log r) (after_record s r)
+pub stays_more : (log : Log) (s : Standing) (r : Record) → Stays log s.state → may_follow s r ≡ true → Stays (with_entry log r) (after_record s.state r)
 stays_more log s (entry.Event tick number e) h m =
-    let k = and_parts (may_settle s tick) (nat_eq number (s.last + 1)) m in
-    let p = settles s tick k.0 in
+    let k = and_parts (may_settle s.state tick) (nat_eq number (s.state.last + 1)) m in
+    let p = settles s.state tick k.0 in
     record {
-      last = omega (arith, h.last, eqb-true number (s.last + 1) k.1);
+      last = omega (arith, h.last, eqb-true number (s.state.last + 1) k.1);
       settled = refl;
       cut = h.cut;
       within = omega (arith, h.within, h.settled, p.0);
@@ -105,7 +123,7 @@ stays_more log s (entry.Event tick number e) h m =
       none_past = λ t past. event_at-more log.events tick t e (λ q. omega (arith, past, q)) ∙ h.none_past t (omega (arith, h.settled, p.0, past));
     }
 stays_more log s (entry.Mark tick) h m =
-    let p = settles s tick m in
+    let p = settles s.state tick m in
     record {
       last = h.last;
       settled = refl;
@@ -115,22 +133,33 @@ stays_more log s (entry.Mark tick) h m =
       none_past = λ t past. h.none_past t (omega (arith, h.settled, p.0, past));
     }
 stays_more log s (entry.Cut tick) h m =
-    let k = and_parts (nat_lt s.cut tick) (nat_le tick s.settled) m in
+    let k = and_parts (nat_lt s.state.cut tick) (nat_le tick s.state.settled) m in
     record {
       last = h.last;
       settled = h.settled;
       cut = refl;
-      within = omega (arith, h.settled, leb-true tick s.settled k.1);
+      within = omega (arith, h.settled, leb-true tick s.state.settled k.1);
       upto = h.upto;
       none_past = h.none_past;
     }
+stays_more log s (entry.Join tick x) h m =
+    let k = and_parts (may_settle s.state tick) (may_enter s x) m in
+    let p = settles s.state tick k.0 in
+    record {
+      last = h.last;
+      settled = refl;
+      cut = h.cut;
+      within = omega (arith, h.within, h.settled, p.0);
+      upto = p.1;
+      none_past = λ t past. h.none_past t (omega (arith, h.settled, p.0, past));
+    }
 
-stays_from : (log : Log) (s : State) (rs : List Record) → Stays log s → Follow s rs → Stays (log_from log rs) (state_from s rs)
+stays_from : (log : Log) (s : Standing) (rs : List Record) → Stays log s.state → Follow s rs → Stays (log_from log rs) (state_from s.state rs)
 stays_from log s [] h f = h
-stays_from log s (r ∷ rs) h f = stays_from (with_entry log r) (after_record s r) rs (stays_more log s r h f.0) f.2
+stays_from log s (r ∷ rs) h f = stays_from (with_entry log r) (stands_after s r) rs (stays_more log s r h f.0) f.2
 
-pub stays_of : (rs : List Record) → Follow empty_state rs → Stays (log_of rs) (state_of rs)
-stays_of rs f = stays_from empty_log empty_state rs (record { last = refl; settled = refl; cut = refl; within = omega arith; upto = omega arith; none_past = λ t h. refl }) f
+pub stays_of : (late : List ℕ) (rs : List Record) → Follow (first_standing late) rs → Stays (log_of rs) (state_of rs)
+stays_of late rs f = stays_from empty_log (first_standing late) rs (record { last = refl; settled = refl; cut = refl; within = omega arith; upto = omega arith; none_past = λ t h. refl }) f
 
 -- What the log says tick by tick
 

@@ -12,14 +12,14 @@ use Rattle.gr_know.specs.Values.{Known, known_at, join_K}
 use Rattle.gr_publog.specs.declared.record.Record.{Record}
 use Rattle.gr_publog.specs.declared.record.Record.TheVariants as entry
 use Rattle.gr_publog.specs.declared.record.State.{State}
-use Rattle.gr_publog.specs.State.{state_of, may_settle, may_follow}
+use Rattle.gr_publog.specs.State.{standing_of, state_of, may_settle, may_enter, may_follow}
 use Rattle.gr_pubend.specs.Log.{Log, with_entry, log_of, log_at, log_know, silence, Stays}
 use Rattle.gr_publog.specs.Crash.{LogView, with_record}
 use Rattle.gr_publog.proofs.Reading.{state_more}
 use Rattle.gr_publog.proofs.Live.{settles}
 use Rattle.gr_pubend.specs.Answers.{IsNews}
 use Rattle.gr_pubend.specs.End.{EndView, grown}
-use Rattle.gr_pubend.proofs.Knowing.{log_know-is, known_by, log_grows, log_with_event, log_with_mark, log_with_cut, stays_more, within_above, silence_at, at_tick, up_to_event, at_event, at_mark, at_cut}
+use Rattle.gr_pubend.proofs.Knowing.{log_know-is, known_by, log_grows, log_with_event, log_with_mark, log_with_cut, log_with_join, stays_more, within_above, silence_at, at_tick, up_to_event, at_event, at_mark, at_cut}
 
 S≢Q : S ≢ Q
 S≢Q = λ e. cc
@@ -87,10 +87,11 @@ joined_with p q old room new s e g = record {
 -- What is known with one more record
 
 -- a record that brings what is new may follow
-pub news_follow : (rs : List Record) (r : Record) (fresh : Known) → IsNews rs r fresh → may_follow (state_of rs) r ≡ true
-news_follow rs (entry.Event tick number v) fresh news = news.0
-news_follow rs (entry.Mark tick) fresh news = news.0
-news_follow rs (entry.Cut tick) fresh news = absurd news
+pub news_follow : (late : List ℕ) (rs : List Record) (r : Record) (fresh : Known) → IsNews late rs r fresh → may_follow (standing_of late rs) r ≡ true
+news_follow late rs (entry.Event tick number v) fresh news = news.0
+news_follow late rs (entry.Mark tick) fresh news = news.0
+news_follow late rs (entry.Cut tick) fresh news = absurd news
+news_follow late rs (entry.Join tick s) fresh news = news.0
 
 -- runs that a piece was joined to have what the join is said to have, and those with final ticks what these are said to have
 pub joined_says : (mine old fresh new : Known) (g : ℕ → K) → old ≡ mine → RunsGive Q new (λ t. join_K (known_at old t) (known_at fresh t)) → ((t : ℕ) → join_K (known_at mine t) (known_at fresh t) ≡ g t) → RunsGive Q new g
@@ -107,12 +108,12 @@ finished_says mine old new upto g e given says = record {
   values = λ t. given.values t ∙ ap (λ k. if within 1 upto t then F else known_at k t) e ∙ says t;
 }
 
-module _ (rs : List Record) (know : Known) (e : know ≡ log_know (log_of rs)) (h : Stays (log_of rs) (state_of rs)) where
+module _ (late : List ℕ) (rs : List Record) (know : Known) (e : know ≡ log_know (log_of rs)) (h : Stays (log_of rs) (state_of rs)) where
   before : (t : ℕ) → known_at know t ≡ log_at (log_of rs) t
   before t = ap (λ k. known_at k t) e ∙ (log_know-is (log_of rs)).same_at t
 
   -- with what is new of a record it is what the log with the record says
-  pub says_news : (r : Record) (fresh : Known) → IsNews rs r fresh → (t : ℕ) → join_K (known_at know t) (known_at fresh t) ≡ log_at (log_of (rs ++ r ∷ [])) t
+  pub says_news : (r : Record) (fresh : Known) → IsNews late rs r fresh → (t : ℕ) → join_K (known_at know t) (known_at fresh t) ≡ log_at (log_of (rs ++ r ∷ [])) t
   says_news (entry.Event tick number v) fresh news t =
       let s = state_of rs in
       let past : s.settled < tick = (settles s tick (and_parts (may_settle s tick) (nat_eq number (s.last + 1)) news.0).0).0 in
@@ -126,6 +127,12 @@ module _ (rs : List Record) (know : Known) (e : know ≡ log_know (log_of rs)) (
       ∙ at_mark (log_of rs) s h tick t (omega (arith, h.settled, past))
       ∙ sym (ap (λ (l : Log). log_at l t) (log_with_mark rs tick))
   says_news (entry.Cut tick) fresh news t = absurd news
+  says_news (entry.Join tick x) fresh news t =
+      let s = state_of rs in
+      let past : s.settled < tick = (settles s tick (and_parts (may_settle s tick) (may_enter (standing_of late rs) x) news.0).0).0 in
+      ap₂ (λ k f. join_K k (known_at f t)) (before t) news.1
+      ∙ at_mark (log_of rs) s h tick t (omega (arith, h.settled, past))
+      ∙ sym (ap (λ (l : Log). log_at l t) (log_with_join rs tick x))
 
   -- with all up to a tick final it is what the log with the cut says
   pub says_cut : (tick : ℕ) → (state_of rs).cut < tick → tick ≤ (state_of rs).settled → (t : ℕ)
@@ -136,10 +143,10 @@ module _ (rs : List Record) (know : Known) (e : know ≡ log_know (log_of rs)) (
       ∙ sym (ap (λ (l : Log). log_at l t) (log_with_cut rs tick))
 
 -- the invariant with one more record
-pub grows : (rs : List Record) (r : Record) (new : Known) → Stays (log_of rs) (state_of rs) → may_follow (state_of rs) r ≡ true → RunsGive Q new (log_at (log_of (rs ++ r ∷ []))) → (new ≡ log_know (log_of (rs ++ r ∷ []))) × Stays (log_of (rs ++ r ∷ [])) (state_of (rs ++ r ∷ []))
-grows rs r new h m g = (
+pub grows : (late : List ℕ) (rs : List Record) (r : Record) (new : Known) → Stays (log_of rs) (state_of rs) → may_follow (standing_of late rs) r ≡ true → RunsGive Q new (log_at (log_of (rs ++ r ∷ []))) → (new ≡ log_know (log_of (rs ++ r ∷ []))) × Stays (log_of (rs ++ r ∷ [])) (state_of (rs ++ r ∷ []))
+grows late rs r new h m g = (
   known_by (log_of (rs ++ r ∷ [])) new g,
-  subst (λ (l : Log). Stays l (state_of (rs ++ r ∷ []))) (sym (log_grows rs r)) (subst (λ (s : State). Stays (with_entry (log_of rs) r) s) (sym (state_more rs r)) (stays_more (log_of rs) (state_of rs) r h m)),
+  subst (λ (l : Log). Stays l (state_of (rs ++ r ∷ []))) (sym (log_grows rs r)) (subst (λ (s : State). Stays (with_entry (log_of rs) r) s) (sym (state_more rs r)) (stays_more (log_of rs) (standing_of late rs) r h m)),
 )
 
 -- silence ends before a later tick
@@ -153,10 +160,10 @@ silence_ends first last t h = by_test (nat_le first last)
 
 -- The endpoint with one more record
 
-pub grown_holds : (log log' : LogView) (r : Record) (new : Known) → Stays (log_of log.records) (state_of log.records) → may_follow (state_of log.records) r ≡ true → RunsGive Q new (log_at (log_of (log.records ++ r ∷ []))) → log' ≡ with_record r log
+pub grown_holds : (log log' : LogView) (r : Record) (new : Known) → Stays (log_of log.records) (state_of log.records) → may_follow (standing_of log.late log.records) r ≡ true → RunsGive Q new (log_at (log_of (log.records ++ r ∷ []))) → log' ≡ with_record r log
     → (new ≡ log_know (log_of log'.records)) × Stays (log_of log'.records) (state_of log'.records)
 grown_holds log log' r new h m g e =
-    subst (λ (l : LogView). (new ≡ log_know (log_of l.records)) × Stays (log_of l.records) (state_of l.records)) (sym e) (grows log.records r new h m g)
+    subst (λ (l : LogView). (new ≡ log_know (log_of l.records)) × Stays (log_of l.records) (state_of l.records)) (sym e) (grows log.late log.records r new h m g)
 
 pub grown_is : (log log' : LogView) (r : Record) (mine new : Known) → RunsGive Q new (log_at (log_of (log.records ++ r ∷ []))) → log' ≡ with_record r log → ◌≡◌ {A = EndView} (record { log = log'; know = new }) (grown r (record { log = log; know = mine }))
 grown_is log log' r mine new g e =

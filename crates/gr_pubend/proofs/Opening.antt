@@ -14,7 +14,7 @@ use Rattle.gr_publog.specs.declared.record.Record.{Record}
 use Rattle.gr_publog.specs.declared.record.Record.TheVariants as entry
 use Rattle.gr_publog.specs.declared.record.Entry.{Entry}
 use Rattle.gr_publog.specs.declared.record.State.{State}
-use Rattle.gr_publog.specs.State.{empty_state, after_record, state_from, state_of, events_past, live_events, Follow}
+use Rattle.gr_publog.specs.State.{Standing, first_standing, stands_after, state_from, state_of, events_past, live_events, Follow}
 use Rattle.gr_publog.proofs.Live.{from_below, live_rise}
 use Rattle.gr_pubend.specs.Log.{Log, empty_log, with_event, with_mark, with_entry, log_from, log_of, event_at, log_at, silence, Stays}
 use Rattle.gr_pubend.specs.Opening.{pairs, last_tick, EntriesRise, seen}
@@ -170,12 +170,14 @@ all_events [] = []
 all_events (entry.Event tick number e ∷ rs) = (tick, e) ∷ all_events rs
 all_events (entry.Mark tick ∷ rs) = all_events rs
 all_events (entry.Cut tick ∷ rs) = all_events rs
+all_events (entry.Join tick s ∷ rs) = all_events rs
 
 logged_events : (log : Log) (rs : List Record) → (log_from log rs).events ≡ log.events ++ all_events rs
 logged_events log [] = sym (append-nil log.events)
 logged_events log (entry.Event tick number e ∷ rs) = logged_events (with_event log tick e) rs ∙ append_assoc log.events ((tick, e) ∷ []) (all_events rs)
 logged_events log (entry.Mark tick ∷ rs) = logged_events (with_mark log tick) rs
 logged_events log (entry.Cut tick ∷ rs) = logged_events (with_entry log (entry.Cut tick)) rs
+logged_events log (entry.Join tick s ∷ rs) = logged_events (with_entry log (entry.Join tick s)) rs
 
 live_at : (cut t : ℕ) (rs : List Record) → cut < t → event_at (pairs (events_past cut rs)) t ≡ event_at (all_events rs) t
 live_at cut t [] h = refl
@@ -186,20 +188,22 @@ live_at cut t (entry.Event tick number e ∷ rs) h = by_test (live_at cut t rs h
     by_test i false q = i ∙ sym (ap (λ b. if b then D e else event_at (all_events rs) t) (ne_eqb tick t (λ z. omega (arith, z, ltb-false cut tick q))))
 live_at cut t (entry.Mark tick ∷ rs) h = live_at cut t rs h
 live_at cut t (entry.Cut tick ∷ rs) h = live_at cut t rs h
+live_at cut t (entry.Join tick s ∷ rs) h = live_at cut t rs h
 
 -- none of them is past what is settled
-pub live_within : (c from : ℕ) (s : State) (rs : List Record) → (from ≤ s.settled) ⊎ (from ≡ c) → c ≤ (state_from s rs).settled → Follow s rs → last_tick from (events_past c rs) ≤ (state_from s rs).settled
+pub live_within : (c from : ℕ) (s : Standing) (rs : List Record) → (from ≤ s.state.settled) ⊎ (from ≡ c) → c ≤ (state_from s.state rs).settled → Follow s rs → last_tick from (events_past c rs) ≤ (state_from s.state rs).settled
 live_within c from s [] (inl h) le f = h
 live_within c from s [] (inr h) le f = omega (arith, h, le)
 live_within c from s (entry.Event tick number e ∷ rs) h le f =
-    by_test (live_within c tick (after_record s (entry.Event tick number e)) rs (inl (le_refl tick)) le f.2) (live_within c from (after_record s (entry.Event tick number e)) rs (from_below c from s (entry.Event tick number e) h f.0) le f.2) (nat_lt c tick)
+    by_test (live_within c tick (stands_after s (entry.Event tick number e)) rs (inl (le_refl tick)) le f.2) (live_within c from (stands_after s (entry.Event tick number e)) rs (from_below c from s (entry.Event tick number e) h f.0) le f.2) (nat_lt c tick)
   where
-    by_test : last_tick tick (events_past c rs) ≤ (state_from (after_record s (entry.Event tick number e)) rs).settled → last_tick from (events_past c rs) ≤ (state_from (after_record s (entry.Event tick number e)) rs).settled
-        → (b : Bool) → last_tick from (if b then record { tick = tick; number = number; event = e } ∷ events_past c rs else events_past c rs) ≤ (state_from (after_record s (entry.Event tick number e)) rs).settled
+    by_test : last_tick tick (events_past c rs) ≤ (state_from (stands_after s (entry.Event tick number e)).state rs).settled → last_tick from (events_past c rs) ≤ (state_from (stands_after s (entry.Event tick number e)).state rs).settled
+        → (b : Bool) → last_tick from (if b then record { tick = tick; number = number; event = e } ∷ events_past c rs else events_past c rs) ≤ (state_from (stands_after s (entry.Event tick number e)).state rs).settled
     by_test i k true = i
     by_test i k false = k
-live_within c from s (entry.Mark tick ∷ rs) h le f = live_within c from (after_record s (entry.Mark tick)) rs (from_below c from s (entry.Mark tick) h f.0) le f.2
-live_within c from s (entry.Cut tick ∷ rs) h le f = live_within c from (after_record s (entry.Cut tick)) rs (from_below c from s (entry.Cut tick) h f.0) le f.2
+live_within c from s (entry.Mark tick ∷ rs) h le f = live_within c from (stands_after s (entry.Mark tick)) rs (from_below c from s (entry.Mark tick) h f.0) le f.2
+live_within c from s (entry.Cut tick ∷ rs) h le f = live_within c from (stands_after s (entry.Cut tick)) rs (from_below c from s (entry.Cut tick) h f.0) le f.2
+live_within c from s (entry.Join tick x ∷ rs) h le f = live_within c from (stands_after s (entry.Join tick x)) rs (from_below c from s (entry.Join tick x) h f.0) le f.2
 
 -- what is needed of an opened log
 pub record IsOpened (rs : List Record) : Type 0 where
@@ -209,16 +213,16 @@ pub record IsOpened (rs : List Record) : Type 0 where
   pub settled_upto : (state_of rs).settled ≤ 2 ^ 62
   pub last_within : last_tick (state_of rs).cut (live_events rs) ≤ (state_of rs).settled
 
-pub opened : (rs : List Record) → Follow empty_state rs → IsOpened rs
-opened rs f =
-    let h = stays_of rs f in
+pub opened : (late : List ℕ) (rs : List Record) → Follow (first_standing late) rs → IsOpened rs
+opened late rs f =
+    let h = stays_of late rs f in
     let cut_in : (state_of rs).cut ≤ (state_of rs).settled = omega (arith, h.within, h.settled, h.cut) in
     record {
       stays = h;
-      rise = live_rise (state_of rs).cut (state_of rs).cut empty_state rs (inr refl) f;
+      rise = live_rise (state_of rs).cut (state_of rs).cut (first_standing late) rs (inr refl) f;
       cut_upto = omega (arith, h.within, h.upto, h.cut);
       settled_upto = omega (arith, h.upto, h.settled);
-      last_within = live_within (state_of rs).cut (state_of rs).cut empty_state rs (inr refl) cut_in f;
+      last_within = live_within (state_of rs).cut (state_of rs).cut (first_standing late) rs (inr refl) cut_in f;
     }
 
 -- the log as it is read again
@@ -268,9 +272,9 @@ pub record AreRead (cut settled : ℕ) (es : List Entry) : Type 0 where
   pub last_upto : last_tick cut es ≤ 2 ^ 62
   pub settled_upto : settled ≤ 2 ^ 62
 
-pub are_read : (rs : List Record) (cut settled : ℕ) (es : List Entry) → Follow empty_state rs → cut ≡ (state_of rs).cut → settled ≡ (state_of rs).settled → es ≡ live_events rs → AreRead cut settled es
-are_read rs cut settled es f ec es_is ee =
-    let w = opened rs f in
+pub are_read : (late : List ℕ) (rs : List Record) (cut settled : ℕ) (es : List Entry) → Follow (first_standing late) rs → cut ≡ (state_of rs).cut → settled ≡ (state_of rs).settled → es ≡ live_events rs → AreRead cut settled es
+are_read late rs cut settled es f ec es_is ee =
+    let w = opened late rs f in
     let at : last_tick cut es ≡ last_tick (state_of rs).cut (live_events rs) = ap₂ last_tick ec ee in
     record {
       rise = subst (λ n. EntriesRise n es) (sym ec) (subst (EntriesRise (state_of rs).cut) (sym ee) w.rise);

@@ -1,17 +1,20 @@
 -- The answers by the numbers of a log, and the records that may follow
 use Rattle.std.proofs.Common.{◌≡◌, ℕ, suc, ◌+◌, ◌-◌, ◌≤◌, ◌<◌, max, true, [], Option, Some, Ok, refl, sym, ap, ◌∙◌, subst, arith, eq-eqb}
-use Rattle.std.specs.Prelude.{nat_eq, nat_le, nat_lt, IsSome}
+use Rattle.std.specs.Prelude.{false, not, nat_eq, nat_le, nat_lt, IsSome}
+use Rattle.std.specs.List.{list_any}
 use Rattle.std.proofs.lemmas.Bool.{and_from, le-leb, lt-leb, lt-ltb, le-ltb}
 use Rattle.gr_event.specs.declared.event.Event.{Event}
 use Rattle.gr_publog.specs.declared.record.Record.{Record}
 use Rattle.gr_publog.specs.declared.record.Record.TheVariants as entry
 use Rattle.gr_publog.specs.declared.record.State.{State}
-use Rattle.gr_publog.specs.State.{max_tick, may_settle, may_follow}
+use Rattle.gr_event.specs.Joins.{has_joined}
+use Rattle.gr_publog.specs.State.{Standing, max_tick, may_settle, may_enter, may_follow}
 use Rattle.gr_publog.specs.Calls.{Leaves}
 use Rattle.gr_pubend.specs.declared.answers.Published.TheVariants.{Logged, Already, Gap, Exhausted}
 use Rattle.gr_pubend.specs.declared.answers.Quieted.TheVariants.{NotYet, Marked}
+use Rattle.gr_pubend.specs.declared.answers.Joined.TheVariants as joins
 use Rattle.gr_pubend.specs.Log.{Log, silence, Stays}
-use Rattle.gr_pubend.specs.Answers.{published, quieted}
+use Rattle.gr_pubend.specs.Answers.{published, quieted, joined_at}
 use Rattle.gr_pubend.proofs.Knowing.{up_to_event}
 
 -- what was logged is left
@@ -23,15 +26,22 @@ pub is_logged : (logged : Option Record) (r : Record) → logged ≡ Some r → 
 is_logged logged r e = subst (λ (x : Option Record). IsSome x) (sym e) refl
 
 -- a record that may follow
-pub may_event : (s : State) (tick number : ℕ) (e : Event) → s.settled < tick → tick ≤ max_tick → number ≡ s.last + 1 → may_follow s (entry.Event tick number e) ≡ true
+settling : (s : State) (tick : ℕ) → s.settled < tick → tick ≤ max_tick → may_settle s tick ≡ true
+settling s tick past upto = and_from (nat_lt s.settled tick) (nat_le tick max_tick) (lt-ltb s.settled tick past) (le-leb tick max_tick upto)
+
+pub may_event : (s : Standing) (tick number : ℕ) (e : Event) → s.state.settled < tick → tick ≤ max_tick → number ≡ s.state.last + 1 → may_follow s (entry.Event tick number e) ≡ true
 may_event s tick number e past upto next =
-    and_from (may_settle s tick) (nat_eq number (s.last + 1)) (and_from (nat_lt s.settled tick) (nat_le tick max_tick) (lt-ltb s.settled tick past) (le-leb tick max_tick upto)) (eq-eqb number (s.last + 1) next)
+    and_from (may_settle s.state tick) (nat_eq number (s.state.last + 1)) (settling s.state tick past upto) (eq-eqb number (s.state.last + 1) next)
 
-pub may_mark : (s : State) (tick : ℕ) → s.settled < tick → tick ≤ max_tick → may_follow s (entry.Mark tick) ≡ true
-may_mark s tick past upto = and_from (nat_lt s.settled tick) (nat_le tick max_tick) (lt-ltb s.settled tick past) (le-leb tick max_tick upto)
+pub may_mark : (s : Standing) (tick : ℕ) → s.state.settled < tick → tick ≤ max_tick → may_follow s (entry.Mark tick) ≡ true
+may_mark s tick past upto = settling s.state tick past upto
 
-pub may_cut : (s : State) (tick : ℕ) → s.cut < tick → tick ≤ s.settled → may_follow s (entry.Cut tick) ≡ true
-may_cut s tick past upto = and_from (nat_lt s.cut tick) (nat_le tick s.settled) (lt-ltb s.cut tick past) (le-leb tick s.settled upto)
+pub may_cut : (s : Standing) (tick : ℕ) → s.state.cut < tick → tick ≤ s.state.settled → may_follow s (entry.Cut tick) ≡ true
+may_cut s tick past upto = and_from (nat_lt s.state.cut tick) (nat_le tick s.state.settled) (lt-ltb s.state.cut tick past) (le-leb tick s.state.settled upto)
+
+pub may_join : (s : Standing) (tick x : ℕ) → s.state.settled < tick → tick ≤ max_tick → list_any (λ y. nat_eq y x) s.late ≡ true → has_joined s.joins x ≡ false → may_follow s (entry.Join tick x) ≡ true
+may_join s tick x past upto late fresh =
+    and_from (may_settle s.state tick) (may_enter s x) (settling s.state tick past upto) (and_from (list_any (λ y. nat_eq y x) s.late) (not (has_joined s.joins x)) late (ap not fresh))
 
 -- The answers
 
@@ -73,3 +83,21 @@ module _ (log : Log) (s : State) (h : Stays log s) (now quiet : ℕ) where
   pub says_marked : 1 ≤ quiet → quiet ≤ now - s.settled → quieted log now quiet ≡ Marked now (silence (suc log.settled) now [])
   unfolding quieted
   says_marked one le = rw (le-leb (log.settled + quiet) now (omega (arith, h.settled, one, le)), quieted) refl
+
+module _ (log : Log) (s : State) (h : Stays log s) (x now : ℕ) where
+  pub says_joined : has_joined log.joins x ≡ true → joined_at log x now ≡ joins.Already
+  unfolding joined_at
+  says_joined has = rw (has, joined_at) refl
+
+  pub says_no_tick : (tick : ℕ) → has_joined log.joins x ≡ false → tick ≡ max now (s.settled + 1) → max_tick < tick → joined_at log x now ≡ joins.Exhausted
+  unfolding joined_at
+  says_no_tick tick has t past =
+      let c = lt-ltb max_tick (max (suc log.settled) now) (omega (arith, h.settled, t, past)) in
+      rw (has, c, joined_at) refl
+
+  pub says_joins : (tick : ℕ) → has_joined log.joins x ≡ false → tick ≡ max now (s.settled + 1) → tick ≤ max_tick → joined_at log x now ≡ joins.Logged tick (silence (suc log.settled) tick [])
+  unfolding joined_at
+  says_joins tick has t upto =
+      let m : max (suc log.settled) now ≡ tick = omega (arith, h.settled, t) in
+      let c = le-ltb max_tick (max (suc log.settled) now) (omega (arith, m, upto)) in
+      (rw (has, c, joined_at) refl) ∙ ap (λ n. joins.Logged n (silence (suc log.settled) n [])) m

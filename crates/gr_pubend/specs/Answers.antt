@@ -1,16 +1,19 @@
--- What a publish and a time of silence are answered, the record that each logs, and what was planned
+-- What a publish, a time of silence and a join are answered, the record that each logs, and what was planned
 use Rattle.std.specs.Prelude.{◌≡◌, ℕ, suc, ◌+◌, ◌-◌, max, true, false, nat_le, nat_lt, List, [], ◌∷◌, Option, Some}
 use Rattle.std.specs.Prelude.{None}
 use Rattle.gr_event.specs.declared.event.Event.{Event}
+use Rattle.gr_event.specs.Joins.{has_joined}
 use Rattle.gr_know.specs.declared.values.K.TheVariants.{D}
 use Rattle.gr_know.specs.Values.{Known}
 use Rattle.gr_publog.specs.declared.record.Record.{Record}
 use Rattle.gr_publog.specs.declared.record.Record.TheVariants as entry
-use Rattle.gr_publog.specs.State.{max_tick, state_of, may_follow}
+use Rattle.gr_publog.specs.State.{max_tick, standing_of, may_follow}
 use Rattle.gr_pubend.specs.declared.answers.Published.{Published}
 use Rattle.gr_pubend.specs.declared.answers.Published.TheVariants.{Logged, Already, Gap, Exhausted}
 use Rattle.gr_pubend.specs.declared.answers.Quieted.{Quieted}
 use Rattle.gr_pubend.specs.declared.answers.Quieted.TheVariants.{NotYet, Marked}
+use Rattle.gr_pubend.specs.declared.answers.Joined.{Joined}
+use Rattle.gr_pubend.specs.declared.answers.Joined.TheVariants as joins
 use Rattle.gr_pubend.specs.Log.{Log, log_of, silence}
 
 -- a publish: said already, out of turn, past the last tick, or logged at its tick, with the silence before it
@@ -40,6 +43,18 @@ quieted log now quiet =
       | false ↦ NotYet
     ]
 
+-- a join: said already, past the last tick, or logged at its tick with the silence up to it
+unfoldable pub joined_at : Log → ℕ → ℕ → Joined
+joined_at log s now =
+    let tick = max (suc log.settled) now in
+    elim (has_joined log.joins s) [
+      | true ↦ joins.Already
+      | false ↦ elim (nat_lt max_tick tick) [
+        | true ↦ joins.Exhausted
+        | false ↦ joins.Logged tick (silence (suc log.settled) tick [])
+      ]
+    ]
+
 -- the record that is logged with an answer
 abbrev pub event_of : Published → ℕ → Event → Option Record
 event_of (Logged tick fresh) number e = Some (entry.Event tick number e)
@@ -49,29 +64,43 @@ abbrev pub mark_of : Quieted → Option Record
 mark_of (Marked tick fresh) = Some (entry.Mark tick)
 mark_of _ = None
 
--- the record that a publish logs behind these, and the one that a time of silence logs
+abbrev pub join_of : Joined → ℕ → Option Record
+join_of (joins.Logged tick fresh) s = Some (entry.Join tick s)
+join_of _ s = None
+
+-- the record that a publish logs behind these, the one that a time of silence logs, and the one that a join logs
 abbrev pub publish_logs : List Record → ℕ → Event → ℕ → Option Record
 publish_logs rs number e now = event_of (published (log_of rs) number e now) number e
 
 abbrev pub quiet_logs : List Record → ℕ → ℕ → Option Record
 quiet_logs rs now quiet = mark_of (quieted (log_of rs) now quiet)
 
--- What is new with a record that may follow these: of an event the silence before it and itself, of a mark the silence
--- up to it. A cut brings nothing new.
-abbrev pub IsNews : List Record → Record → Known → Type 0
-IsNews rs (entry.Event tick number e) fresh =
-    (may_follow (state_of rs) (entry.Event tick number e) ≡ true)
-    × (fresh ≡ silence (suc (log_of rs).settled) (tick - 1) (record { first = tick; last = tick; value = D e } ∷ []))
-IsNews rs (entry.Mark tick) fresh =
-    (may_follow (state_of rs) (entry.Mark tick) ≡ true) × (fresh ≡ silence (suc (log_of rs).settled) tick [])
-IsNews rs (entry.Cut tick) fresh = ⊥
+abbrev pub join_logs : List Record → ℕ → ℕ → Option Record
+join_logs rs s now = join_of (joined_at (log_of rs) s now) s
 
--- An answer that was planned on these records: the event may follow them, and what is new is so
+-- What is new with a record that may follow these, where these subscribers may join: of an event the silence before it
+-- and itself, of a mark and of a join the silence up to it. A cut brings nothing new.
+abbrev pub IsNews : List ℕ → List Record → Record → Known → Type 0
+IsNews late rs (entry.Event tick number e) fresh =
+    (may_follow (standing_of late rs) (entry.Event tick number e) ≡ true)
+    × (fresh ≡ silence (suc (log_of rs).settled) (tick - 1) (record { first = tick; last = tick; value = D e } ∷ []))
+IsNews late rs (entry.Mark tick) fresh =
+    (may_follow (standing_of late rs) (entry.Mark tick) ≡ true) × (fresh ≡ silence (suc (log_of rs).settled) tick [])
+IsNews late rs (entry.Cut tick) fresh = ⊥
+IsNews late rs (entry.Join tick s) fresh =
+    (may_follow (standing_of late rs) (entry.Join tick s) ≡ true) × (fresh ≡ silence (suc (log_of rs).settled) tick [])
+
+-- An answer that was planned on these records: the event may follow them, whoever may join, and what is new is so
 abbrev pub IsPlanned : List Record → ℕ → Event → Published → Type 0
-IsPlanned rs number e (Logged tick fresh) = IsNews rs (entry.Event tick number e) fresh
+IsPlanned rs number e (Logged tick fresh) = IsNews [] rs (entry.Event tick number e) fresh
 IsPlanned rs number e _ = Unit {0}
 
 -- the same of a mark
 abbrev pub IsPlannedMark : List Record → Quieted → Type 0
-IsPlannedMark rs (Marked tick fresh) = IsNews rs (entry.Mark tick) fresh
+IsPlannedMark rs (Marked tick fresh) = IsNews [] rs (entry.Mark tick) fresh
 IsPlannedMark rs _ = Unit {0}
+
+-- the same of the join of a subscriber, where these may join
+abbrev pub IsPlannedJoin : List ℕ → List Record → ℕ → Joined → Type 0
+IsPlannedJoin late rs s (joins.Logged tick fresh) = IsNews late rs (entry.Join tick s) fresh
+IsPlannedJoin late rs s _ = Unit {0}

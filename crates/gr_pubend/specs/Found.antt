@@ -1,10 +1,10 @@
--- A log as it is found on its lane: its numbers, the events past its cut, and the place of its closed gate
+-- A log as it is found on its lane: its numbers, the events past its cut, its joins, and the place of its closed gate
 use Rattle.std.specs.Prelude.{◌≡◌, ℕ, ◌≤◌, ◌<◌, List, [], ◌∷◌, length}
 use Rattle.std.specs.List.{AllByRecursion}
 use Rattle.gr_event.specs.declared.event.Event.{Event}
 use Rattle.gr_event.specs.Limits.{IsEvent}
 use Rattle.gr_publog.specs.declared.record.Record.{Record}
-use Rattle.gr_publog.specs.State.{empty_state, state_of, live_events, Follow, max_tick}
+use Rattle.gr_publog.specs.State.{first_standing, state_of, joins_of, live_events, Follow, max_tick}
 use Rattle.gr_publog.specs.Text.{front_text}
 use Rattle.gr_pubend.specs.Log.{Log, log_of, log_know}
 use Rattle.gr_pubend.specs.Opening.{pairs}
@@ -16,6 +16,7 @@ found_of rs = record {
   settled = (state_of rs).settled;
   cut = (state_of rs).cut;
   events = pairs (live_events rs);
+  joins = joins_of rs;
   gate = length (front_text rs);
 }
 
@@ -37,7 +38,7 @@ pub record IsSettled (log : Log) : Type 0 where
   pub cut : log.cut ≤ log.settled
   pub settled : log.settled ≤ max_tick
 
--- The laws, for all records
+-- The laws, for all records, whoever may join
 
 -- the closed gate stands behind the text of the records, as the log that they make has it
 abbrev pub GateEndsText : Type 0
@@ -45,8 +46,9 @@ GateEndsText = (rs : List Record) → (log_of rs).gate ≡ length (front_text rs
 
 -- what is known by the events past the cut is what is known by all records
 abbrev pub FoundKnows : Type 0
-FoundKnows = (rs : List Record) → Follow empty_state rs → log_know (found_of rs) ≡ log_know (log_of rs)
+FoundKnows = (late : List ℕ) (rs : List Record) → Follow (first_standing late) rs
+    → log_know (found_of rs) ≡ log_know (log_of rs)
 
 -- records that may follow one another are found as a settled log
 abbrev pub FoundIsSettled : Type 0
-FoundIsSettled = (rs : List Record) → Follow empty_state rs → IsSettled (found_of rs)
+FoundIsSettled = (late : List ℕ) (rs : List Record) → Follow (first_standing late) rs → IsSettled (found_of rs)

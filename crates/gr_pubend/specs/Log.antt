@@ -1,7 +1,8 @@
--- What a publisher's log says: the numbers that it stands at, its events, and its knowledge
+-- What a publisher's log says: the numbers that it stands at, its events, its joins, and its knowledge
 use Rattle.std.specs.Prelude.{◌≡◌, ℕ, suc, ◌+◌, ◌≤◌, ◌<◌, ◌&&◌, nat_eq, nat_le, if◌then◌else◌, List, [], ◌∷◌, ◌++◌}
 use Rattle.gr_event.specs.declared.event.Event.{Event}
 use Rattle.gr_event.specs.Event.{event_size}
+use Rattle.gr_event.specs.Joins.{Joins}
 use Rattle.gr_know.specs.declared.values.K.{K}
 use Rattle.gr_know.specs.declared.values.K.TheVariants.{Q, S, D, F}
 use Rattle.gr_know.specs.Values.{Known, knowns}
@@ -16,19 +17,21 @@ pub record Log : Type 0 where
   pub settled : ℕ
   pub cut : ℕ
   pub events : List (ℕ × Event)  -- all that were logged, by rising tick
+  pub joins : Joins  -- of late subscribers, by rising tick
   pub gate : ℕ  -- the place of the closed gate in the lane
 
 -- a log in which nothing was logged
 abbrev pub empty_log : Log
-empty_log = record { last = 0; settled = 0; cut = 0; events = []; gate = 5 }
+empty_log = record { last = 0; settled = 0; cut = 0; events = []; joins = []; gate = 5 }
 
--- the log with a further event; with a mark; with a cut
+-- the log with a further event; with a mark; with a cut; with a join
 abbrev pub with_event : Log → ℕ → Event → Log
 with_event log tick e = record {
   last = suc log.last;
   settled = tick;
   cut = log.cut;
   events = log.events ++ (tick, e) ∷ [];
+  joins = log.joins;
   gate = log.gate + 22 + event_size e;
 }
 
@@ -38,6 +41,7 @@ with_mark log tick = record {
   settled = tick;
   cut = log.cut;
   events = log.events;
+  joins = log.joins;
   gate = log.gate + 10;
 }
 
@@ -47,7 +51,18 @@ with_cut log tick = record {
   settled = log.settled;
   cut = tick;
   events = log.events;
+  joins = log.joins;
   gate = log.gate + 10;
+}
+
+abbrev pub with_join : Log → ℕ → ℕ → Log
+with_join log tick s = record {
+  last = log.last;
+  settled = tick;
+  cut = log.cut;
+  events = log.events;
+  joins = log.joins ++ record { subscriber = s; tick = tick } ∷ [];
+  gate = log.gate + 12;
 }
 
 -- the log with a further record
@@ -55,6 +70,7 @@ abbrev pub with_entry : Log → Record → Log
 with_entry log (entry.Event tick number e) = with_event log tick e
 with_entry log (entry.Mark tick) = with_mark log tick
 with_entry log (entry.Cut tick) = with_cut log tick
+with_entry log (entry.Join tick s) = with_join log tick s
 
 -- the log with further records, the first one first
 abbrev pub log_from : Log → List Record → Log

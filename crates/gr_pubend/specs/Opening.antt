@@ -16,4 +16,4 @@ last_tick from (e ∷ es) = last_tick e.tick es
 
 -- the log with this cut and these entries behind it
 abbrev pub seen : ℕ → List Entry → Log
-seen cut es = record { last = 0; settled = last_tick cut es; cut = cut; events = pairs es; gate = 0 }
+seen cut es = record { last = 0; settled = last_tick cut es; cut = cut; events = pairs es; joins = []; gate = 0 }

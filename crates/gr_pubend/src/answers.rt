@@ -24,3 +24,14 @@ pub enum Quieted {
     /// A mark is logged at this tick. The silence up to it is new.
     Marked { tick: u64, fresh: Piece<K> },
 }
+
+/// What a join is answered.
+#[derive(Drop)]
+pub enum Joined {
+    /// It is logged at this tick. The silence up to it is new.
+    Logged { tick: u64, fresh: Piece<K> },
+    /// The subscriber has joined before.
+    Already,
+    /// No tick is left.
+    Exhausted,
+}

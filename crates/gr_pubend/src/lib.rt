@@ -7,7 +7,7 @@ mod learning;
 mod planning;
 mod pubend;
 
-pub use answers::{Published, Quieted};
+pub use answers::{Joined, Published, Quieted};
 pub use learning::known_by;
-pub use planning::{plan, plan_quiet};
+pub use planning::{plan, plan_join, plan_quiet};
 pub use pubend::Pubend;

@@ -1,10 +1,12 @@
 //! What a log would be made to say next: nothing changes, and no disk is called.
 
-ghost use Rattle.std.specs.Prelude.{◌≡◌, ◌≤◌, IsErr, IsSome, IfOk};
+ghost use Rattle.std.specs.Prelude.{◌≡◌, ◌≤◌, true, nat_eq, IsErr, IsSome, IfOk};
+ghost use Rattle.std.specs.List.{list_any};
 ghost use Rattle.gr_pubend.specs.Log.{log_of};
-ghost use Rattle.gr_pubend.specs.Answers.{published, quieted, publish_logs, quiet_logs, IsPlanned, IsPlannedMark};
+ghost use Rattle.gr_pubend.specs.Answers.{published, quieted, joined_at, publish_logs, quiet_logs, join_logs};
+ghost use Rattle.gr_pubend.specs.Answers.{IsPlanned, IsPlannedMark, IsPlannedJoin};
 
-use crate::answers::{Published, Quieted};
+use crate::answers::{Joined, Published, Quieted};
 use crate::learning::{fresh_event, fresh_silence};
 use gr_event::Event;
 use gr_publog::{Log, Memory};
@@ -65,6 +67,35 @@ pub fn plan_quiet(alloc: Global, log: &Log, now: u64, quiet: u64) -> Result<Quie
     }
     match fresh_silence(alloc, settled + 1, now) {
         Ok(fresh) => Ok(Quieted::Marked { tick: now, fresh }),
+        Err(refused) => Err(refused),
+    }
+}
+
+/// What a join of a late subscriber would be answered by a log, with the silence that would become known. It wants
+/// memory only where the join would be logged.
+///
+/// A join gets the next tick, or `now` where that is later. A subscriber that has joined is `Already` there; with no
+/// tick left the publisher is `Exhausted`.
+pub fn plan_join(alloc: Global, log: &Log, s: u16, now: u64) -> Result<Joined, Memory>
+    requires now { now ≤ MAX_TICK }
+    requires late { list_any (λ x. nat_eq x s) log.now.late ≡ true }
+    ensures answer { IfOk result (λ answer. answer ≡ joined_at (log_of log.now.records) s now) }
+    ensures planned { IfOk result (λ answer. IsPlannedJoin log.now.late log.now.records s answer) }
+    ensures wants { IsErr result → IsSome (join_logs log.now.records s now) }
+{
+    // Proof only: the records follow one another.
+    let _ = log.is_broken();
+    let joined = log.joins().has(s);
+    if joined {
+        return Ok(Joined::Already);
+    }
+    let first = log.settled() + 1;
+    let tick = now.max(first);
+    if tick > MAX_TICK {
+        return Ok(Joined::Exhausted);
+    }
+    match fresh_silence(alloc, first, tick) {
+        Ok(fresh) => Ok(Joined::Logged { tick, fresh }),
         Err(refused) => Err(refused),
     }
 }

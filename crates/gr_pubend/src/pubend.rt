@@ -1,7 +1,9 @@
 //! A log, and what is known by it.
 
 ghost use Rattle.std.specs.Prelude.{◌≡◌, ◌≢◌, ◌↔◌, ℕ, ◌≤◌, ◌<◌, true, false, Some, None, Err, IsErr, IsSome, IfOk};
-ghost use Rattle.std.specs.Prelude.{OnOk, IsErrOf};
+ghost use Rattle.std.specs.Prelude.{OnOk, IsErrOf, nat_eq, length};
+ghost use Rattle.std.specs.List.{list_any};
+ghost use Rattle.gr_event.specs.declared.limits.TheConstants.{MAX_JOINS};
 ghost use Rattle.gr_out.specs.Stops.{StaysFaultless};
 ghost use Rattle.gr_tick.specs.declared.TheConstants.{MAX_TICK};
 ghost use Rattle.gr_tick.specs.Stored.{RunsGive};
@@ -11,13 +13,13 @@ ghost use Rattle.gr_publog.specs.Calls.{IsReady, Appends, Opens, Tally, Causes, 
 ghost use Rattle.gr_publog.specs.declared.record.LogFault.TheVariants.{Memory as WantOfMemory, Disk as DiskFailed};
 ghost use Rattle.gr_publog.specs.declared.record.LogFault.TheVariants.{Reopen as MustReopen};
 ghost use Rattle.gr_pubend.specs.Log.{log_of, log_at, log_know};
-ghost use Rattle.gr_pubend.specs.Answers.{published, quieted, publish_logs, quiet_logs, IsNews, IsPlanned};
-ghost use Rattle.gr_pubend.specs.Answers.{IsPlannedMark};
+ghost use Rattle.gr_pubend.specs.Answers.{published, quieted, joined_at, publish_logs, quiet_logs, join_logs, IsNews};
+ghost use Rattle.gr_pubend.specs.Answers.{IsPlanned, IsPlannedMark, IsPlannedJoin};
 ghost use Rattle.gr_pubend.specs.End.{grown, after_call, broken_end, log_result};
 
-use crate::answers::{Published, Quieted};
+use crate::answers::{Joined, Published, Quieted};
 use crate::learning::{known_by, make_room};
-use crate::planning::{plan, plan_quiet};
+use crate::planning::{plan, plan_join, plan_quiet};
 use gr_event::Event;
 use gr_know::{K, Know};
 use gr_out::Disk;
@@ -50,10 +52,19 @@ impl Model for Pubend {
 }
 
 impl Pubend {
-    /// Opens the endpoint of a lane: its log, and what is known by it. `Damaged` comes exactly where the lane holds no
-    /// log, and `Disk` only where the disk failed in this call. It never answers `Reopen`.
-    pub fn open<D: Disk>(alloc: Global, disk: &mut D, lane: u16) -> Result<Pubend, LogFault>
-        ensures opens { D.tells → Opens (D.lane_of disk.old lane) (D.lane_of disk.new lane) (log_result result) }
+    /// Opens the endpoint of a lane, in whose log these subscribers may join: the log, and what is known by it.
+    /// `Damaged` comes exactly where the lane holds no log of theirs, and `Disk` only where the disk failed in this
+    /// call. It never answers `Reopen`.
+    pub fn open<D: Disk>(
+        alloc: Global,
+        disk: &mut D,
+        lane: u16,
+        late: &[u16],
+    ) -> Result<Pubend, LogFault>
+        requires late { length late.now ≤ MAX_JOINS }
+        ensures opens { let l = D.lane_of disk.old lane in
+            D.tells → Opens late.now l (D.lane_of disk.new lane) (log_result result) }
+        ensures late { IfOk result (λ p. p.log.late ≡ late.now) }
         ensures lane { IfOk result (λ p. p.log.lane ≡ lane) }
         ensures whole { IfOk result (λ p. p.log.broken ≡ false) }
         ensures known { IfOk result (λ p. p.know ≡ log_know (log_of p.log.records)) }
@@ -66,7 +77,7 @@ impl Pubend {
             StaysFaultless (D.faultless disk.old) (D.faultless disk.new) f (D.faults disk.new) }
         ensures others { D.tells → (n : ℕ) → n ≢ lane → D.lane_of disk.new n ≡ D.lane_of disk.old n }
     {
-        let log = match Log::open(alloc, disk, lane) {
+        let log = match Log::open(alloc, disk, lane, late) {
             Ok(log) => log,
             Err(fault) => return Err(fault),
         };
@@ -101,6 +112,21 @@ impl Pubend {
         ensures wants { IsErr result → IsSome (quiet_logs self.now.log.records now quiet) }
     {
         plan_quiet(self.alloc, &self.log, now, quiet)
+    }
+
+    /// What a join of a late subscriber would be answered, with the silence that would become known. Nothing changes,
+    /// and the disk is not called. It wants memory only where the join would be logged.
+    ///
+    /// A join gets the next tick, or `now` where that is later. A subscriber that has joined is `Already` there; with
+    /// no tick left the publisher is `Exhausted`.
+    pub fn plan_join(&self, s: u16, now: u64) -> Result<Joined, Memory>
+        requires now { now ≤ MAX_TICK }
+        requires late { list_any (λ x. nat_eq x s) self.now.log.late ≡ true }
+        ensures answer { IfOk result (λ answer. answer ≡ joined_at (log_of self.now.log.records) s now) }
+        ensures planned { IfOk result (λ answer. IsPlannedJoin self.now.log.late self.now.log.records s answer) }
+        ensures wants { IsErr result → IsSome (join_logs self.now.log.records s now) }
+    {
+        plan_join(self.alloc, &self.log, s, now)
     }
 
     /// Publishes an event under a number: `plan`, and then `log_event` where it is to be logged. Only once the event is
@@ -220,6 +246,57 @@ impl Pubend {
         }
     }
 
+    /// Joins a late subscriber: `plan_join`, and then `log_join` where the join is to be logged. Only once it is synced
+    /// the silence up to it is known, which is answered. Faults are those of `publish`.
+    pub fn join<D: Disk>(&mut self, disk: &mut D, s: u16, now: u64) -> Result<Joined, LogFault>
+        requires now { now ≤ MAX_TICK }
+        requires late { list_any (λ x. nat_eq x s) self.old.log.late ≡ true }
+        requires stands { D.tells → IsReady self.old.log (D.lane_of disk.old self.old.log.lane) }
+        ensures answer { IfOk result (λ answer. answer ≡ joined_at (log_of self.old.log.records) s now) }
+        ensures end { let logged = join_logs self.old.log.records s now in
+            Leaves self.old (after_call logged self.old) (broken_end self.old) self.new result }
+        ensures goes_on { OnOk result
+            ((self.new.log.lane ≡ self.old.log.lane) × (self.new.log.broken ≡ self.old.log.broken)) }
+        ensures lane { let l = self.old.log in let before = D.lane_of disk.old l.lane in
+            let logged = join_logs self.old.log.records s now in
+            D.tells → Appends l logged before (D.lane_of disk.new l.lane) result }
+        ensures reopen { let logged = join_logs self.old.log.records s now in
+            IsErrOf result LogFault.Reopen ↔ ((self.old.log.broken ≡ true) × IsSome logged) }
+        ensures idle { IsErrOf result LogFault.Reopen → disk.new ≡ disk.old }
+        ensures untouched { let logged = join_logs self.old.log.records s now in
+            logged ≡ None → disk.new ≡ disk.old }
+        ensures tally { let f = D.faults disk.old in let s = D.stops disk.old in
+            Tally f s (D.faults disk.new) (D.stops disk.new) result }
+        ensures causes { let f = D.faults disk.old in let f' = D.faults disk.new in
+            D.tells → Causes (D.faultless disk.old) (D.lane_of disk.new self.old.log.lane) f f' result }
+        ensures faultless { let f = D.faults disk.old in
+            StaysFaultless (D.faultless disk.old) (D.faultless disk.new) f (D.faults disk.new) }
+        ensures others { let lane = self.old.log.lane in
+            D.tells → (n : ℕ) → n ≢ lane → D.lane_of disk.new n ≡ D.lane_of disk.old n }
+    {
+        let answer = match self.plan_join(s, now) {
+            Ok(answer) => answer,
+            Err(_) => {
+                // A log that is broken has to be opened again, whatever else is wanting.
+                if self.log.is_broken() {
+                    return Err(LogFault::Reopen);
+                }
+                return Err(LogFault::Memory);
+            }
+        };
+        match answer {
+            Joined::Logged { tick, fresh } => match self.log_join(disk, s, tick, &fresh) {
+                Ok(()) => Ok(Joined::Logged { tick, fresh }),
+                Err(fault) => {
+                    drop(fresh);
+                    Err(fault)
+                }
+            },
+            Joined::Already => Ok(Joined::Already),
+            Joined::Exhausted => Ok(Joined::Exhausted),
+        }
+    }
+
     /// Logs an event as it was planned: `fresh` is what `plan` answered with this tick, and nothing was logged since.
     /// It takes all its memory before the disk is called. Faults are those of `publish`.
     pub fn log_event<D: Disk>(
@@ -284,6 +361,40 @@ impl Pubend {
             D.tells → (n : ℕ) → n ≢ lane → D.lane_of disk.new n ≡ D.lane_of disk.old n }
     {
         self.log_and_join(disk, &Record::Mark { tick }, fresh)
+    }
+
+    /// Logs a join as it was planned: `fresh` is what `plan_join` answered with this tick, and nothing was logged
+    /// since. It takes all its memory before the disk is called. Faults are those of `publish`.
+    pub fn log_join<D: Disk>(
+        &mut self,
+        disk: &mut D,
+        s: u16,
+        tick: u64,
+        fresh: &Piece<K>,
+    ) -> Result<(), LogFault>
+        requires planned { let l = self.old.log in IsPlannedJoin l.late l.records s (Joined.Logged tick fresh.now) }
+        requires stands { D.tells → IsReady self.old.log (D.lane_of disk.old self.old.log.lane) }
+        ensures end { Leaves self.old (grown (Record.Join tick s) self.old) (broken_end self.old) self.new result }
+        ensures goes_on { OnOk result
+            ((self.new.log.lane ≡ self.old.log.lane) × (self.new.log.broken ≡ self.old.log.broken)) }
+        ensures lane { let l = self.old.log in let before = D.lane_of disk.old l.lane in
+            D.tells → Appends l (Some (Record.Join tick s)) before (D.lane_of disk.new l.lane) result }
+        ensures reopen { IsErrOf result LogFault.Reopen ↔ (self.old.log.broken ≡ true) }
+        ensures idle { IsErrOf result LogFault.Reopen → disk.new ≡ disk.old }
+        ensures tally { let f = D.faults disk.old in let s = D.stops disk.old in
+            Tally f s (D.faults disk.new) (D.stops disk.new) result }
+        ensures causes { let f = D.faults disk.old in let f' = D.faults disk.new in
+            D.tells → Causes (D.faultless disk.old) (D.lane_of disk.new self.old.log.lane) f f' result }
+        ensures faultless { let f = D.faults disk.old in
+            StaysFaultless (D.faultless disk.old) (D.faultless disk.new) f (D.faults disk.new) }
+        ensures others { let lane = self.old.log.lane in
+            D.tells → (n : ℕ) → n ≢ lane → D.lane_of disk.new n ≡ D.lane_of disk.old n }
+    {
+        let entry = Record::Join {
+            tick,
+            subscriber: s,
+        };
+        self.log_and_join(disk, &entry, fresh)
     }
 
     /// Logs that nothing up to a tick is asked for again, and makes all up to it final. Faults are those of `publish`.
@@ -351,7 +462,7 @@ impl Pubend {
         entry: &Record,
         fresh: &Piece<K>,
     ) -> Result<(), LogFault>
-        requires news { IsNews self.old.log.records entry.now fresh.now }
+        requires news { IsNews self.old.log.late self.old.log.records entry.now fresh.now }
         requires stands { D.tells → IsReady self.old.log (D.lane_of disk.old self.old.log.lane) }
         ensures end { Leaves self.old (grown entry.now self.old) (broken_end self.old) self.new result }
         ensures goes_on { OnOk result

@@ -5,6 +5,7 @@ pub mod Told
 pub mod Moments
 pub mod Onward
 pub mod Live
+pub mod Joins
 pub mod Appending
 pub mod Stopping
 pub mod Crash

@@ -35,33 +35,33 @@ fails_opens (fault.Damaged at) read h = h
 fails_opens fault.Reopen read h = absurd h
 
 -- two short lanes read alike
-pub both_short : (a b : List ℕ) → length a ≤ 6 → length b ≤ 6 → log_text a ≡ log_text b
-both_short a b h k = reads_short a h ∙ sym (reads_short b k)
+pub both_short : (late a b : List ℕ) → length a ≤ 6 → length b ≤ 6 → log_text late a ≡ log_text late b
+both_short late a b h k = reads_short late a h ∙ sym (reads_short late b k)
 
 -- the text of an empty log
-pub empty_spelled : (bytes : List ℕ) → bytes ≡ header ++ 0 ∷ [] → IsSpelled bytes []
-empty_spelled bytes is = record { text = record { gate = 0; tail = []; closed = λ e. cc e; whole = is }; follow = tt }
+pub empty_spelled : (late bytes : List ℕ) → bytes ≡ header ++ 0 ∷ [] → IsSpelled late bytes []
+empty_spelled late bytes is = record { text = record { gate = 0; tail = []; closed = λ e. cc e; whole = is }; follow = tt }
 
 -- What an opening of a short lane has done
 
-module _ (before mid after : Lane) (short : length (content before) ≤ 6) (calls : mid.calls ≡ Sync ∷ before.calls) (reserved : mid.reserved ≡ true) (unset : before.stop ≡ Unset → mid.stop ≡ Unset)
+module _ (late : List ℕ) (before mid after : Lane) (short : length (content before) ≤ 6) (calls : mid.calls ≡ Sync ∷ before.calls) (reserved : mid.reserved ≡ true) (unset : before.stop ≡ Unset → mid.stop ≡ Unset)
     (ready : (image : List ℕ) → LeftSince mid (moment before) image → MayLeave before image ⊎ (image ≡ content before)) (unset' : mid.stop ≡ Unset → after.stop ≡ Unset)
     (begun : (n : ℕ) (image : List ℕ) → LeftSince after n image → LeftSince mid n image ⊎ (length image ≤ 6)) where
   at_most_six : nat_le (length (content before)) 6 ≡ true
   at_most_six = le-leb (length (content before)) 6 short
 
-  at_each : (image : List ℕ) → LeftSince after (moment before) image → MayLeave before image ⊎ (log_text image ≡ log_text (content before))
+  at_each : (image : List ℕ) → LeftSince after (moment before) image → MayLeave before image ⊎ (log_text late image ≡ log_text late (content before))
   at_each image left =
-      ⊎_elim (λ first. ⊎_elim (λ m. inl m) (λ e. inr (ap log_text e)) (ready image first)) (λ low. inr (both_short image (content before) low short)) (begun (moment before) image left)
+      ⊎_elim (λ first. ⊎_elim (λ m. inl m) (λ e. inr (ap (log_text late) e)) (ready image first)) (λ low. inr (both_short late image (content before) low short)) (begun (moment before) image left)
 
-  pub opens_failed : Opens before after (Err fault.Disk)
+  pub opens_failed : Opens late before after (Err fault.Disk)
   opens_failed = record { gives = tt; stands = tt; reads = tt; calls = tt; reserved = tt; any_moment = at_each; unset = λ h. unset' (unset h) }
 
   pub opens_empty : (l : LogView) → l.records ≡ [] → content after ≡ header ++ 0 ∷ [] → LeavesOnly after (content after) → after.calls ≡ Sync ∷ (Write 0 (header ++ 0 ∷ []) ∷ (Cut 0 ∷ mid.calls))
-      → after.reserved ≡ mid.reserved → Opens before after (Ok l)
+      → after.reserved ≡ mid.reserved → Opens late before after (Ok l)
   opens_empty l none written only made kept = record {
-    gives = reads_short (content before) short ∙ ap Ok (sym none);
-    stands = subst (Stands after) (sym none) (record { text = empty_spelled (content after) written; only = only });
+    gives = reads_short late (content before) short ∙ ap Ok (sym none);
+    stands = subst (Stands after late) (sym none) (record { text = empty_spelled late (content after) written; only = only });
     reads = written ∙ ap (λ (b : Bool). if b then header ++ 0 ∷ [] else content before) (sym at_most_six);
     calls = made ∙ ap (λ (cs : List Call). Sync ∷ (Write 0 (header ++ 0 ∷ []) ∷ (Cut 0 ∷ cs))) calls
         ∙ ap (λ (b : Bool). if b then Sync ∷ (Write 0 (header ++ 0 ∷ []) ∷ (Cut 0 ∷ (Sync ∷ before.calls))) else Sync ∷ before.calls) (sym at_most_six);

@@ -3,8 +3,8 @@ use Rattle.std.proofs.Common.{◌≡◌, ◌≢◌, ℕ, zero, suc, ◌+◌, ◌
 use Rattle.std.proofs.lemmas.List.{take_at, drop_at}
 use Rattle.std.proofs.lemmas.Bool.{leb-true}
 use Rattle.std.proofs.lemmas.Bool.Decides.{nat_tests}
-use Rattle.std.proofs.lemmas.Nat.{from_be_bytes-to_be_bytes_4, from_be_bytes-to_be_bytes_8}
-use Rattle.std.specs.Int.{Width, from_be_bytes, to_be_bytes, w32, w64}
+use Rattle.std.proofs.lemmas.Nat.{from_be_bytes-to_be_bytes_2, from_be_bytes-to_be_bytes_4, from_be_bytes-to_be_bytes_8}
+use Rattle.std.specs.Int.{Width, from_be_bytes, to_be_bytes, w16, w32, w64}
 use Rattle.gr_event.specs.declared.event.Event.{Event as EventPairs}
 use Rattle.gr_event.specs.declared.value.Value.{Value}
 use Rattle.gr_event.specs.declared.value.Value.TheVariants.{Int, Text, Bool as Truth}
@@ -13,13 +13,14 @@ use Rattle.gr_event.specs.Decode.{event_decoded}
 use Rattle.gr_event.specs.declared.limits.TheConstants.{MAX_EVENT_BYTES}
 use Rattle.gr_event.proofs.Spelled.{decodes_back}
 use Rattle.gr_publog.specs.declared.record.Record.{Record}
-use Rattle.gr_publog.specs.declared.record.Record.TheVariants.{Event, Mark, Cut}
+use Rattle.gr_publog.specs.declared.record.Record.TheVariants.{Event, Mark, Cut, Join}
 use Rattle.gr_publog.specs.declared.record.State.{State}
 use Rattle.gr_publog.specs.declared.record.LogFault.{LogFault}
 use Rattle.gr_publog.specs.declared.record.LogFault.TheVariants as fault
 use Rattle.gr_publog.specs.Gives.{Fails}
-use Rattle.gr_publog.specs.State.{empty_state, after_record, state_from, may_settle, may_cut, may_follow, IsSound, Follow, max_tick}
-use Rattle.gr_publog.specs.Text.{◌>>=◌, IsSpelled, record_bytes, record_size, blocks, front_text, field_in, number_in, event_in, logged_in, mark_in, cut_in, record_in, records_in, log_text}
+use Rattle.gr_event.specs.Joins.{Joins}
+use Rattle.gr_publog.specs.State.{Standing, empty_state, first_standing, after_record, joins_after, stands_after, state_from, state_of, joins_from, standing_from, standing_of, may_settle, may_cut, may_enter, may_follow, IsSound, Follow, max_tick}
+use Rattle.gr_publog.specs.Text.{◌>>=◌, IsSpelled, record_bytes, record_size, blocks, front_text, field_in, number_in, event_in, logged_in, mark_in, cut_in, join_in, record_in, records_in, log_text}
 
 -- Fields
 
@@ -38,6 +39,9 @@ length-eight x = refl
 length-four : (x : ℕ) → length (to_be_bytes w32 x) ≡ 4
 length-four x = refl
 
+length-two : (x : ℕ) → length (to_be_bytes w16 x) ≡ 2
+length-two x = refl
+
 eight_at : (total : ℕ) (passes : ℕ → Bool) (x : ℕ) (rest : List ℕ) → x < 2 ^ 64 → passes x ≡ true
     → number_in total 8 w64 passes (to_be_bytes w64 x ++ rest) ≡ Ok (x, rest)
 eight_at total passes x rest fits ok = number_at total 8 w64 passes (to_be_bytes w64 x) rest x (length-eight x) (from_be_bytes-to_be_bytes_8 x fits) ok
@@ -45,6 +49,10 @@ eight_at total passes x rest fits ok = number_at total 8 w64 passes (to_be_bytes
 four_at : (total : ℕ) (passes : ℕ → Bool) (x : ℕ) (rest : List ℕ) → x < 2 ^ 32 → passes x ≡ true
     → number_in total 4 w32 passes (to_be_bytes w32 x ++ rest) ≡ Ok (x, rest)
 four_at total passes x rest fits ok = number_at total 4 w32 passes (to_be_bytes w32 x) rest x (length-four x) (from_be_bytes-to_be_bytes_4 x fits) ok
+
+two_at : (total : ℕ) (passes : ℕ → Bool) (x : ℕ) (rest : List ℕ) → x < 2 ^ 16 → passes x ≡ true
+    → number_in total 2 w16 passes (to_be_bytes w16 x ++ rest) ≡ Ok (x, rest)
+two_at total passes x rest fits ok = number_at total 2 w16 passes (to_be_bytes w16 x) rest x (length-two x) (from_be_bytes-to_be_bytes_2 x fits) ok
 
 -- Sizes
 
@@ -68,6 +76,7 @@ length-record (Event t n e) =
     omega (arith, length-append (to_be_bytes w64 t) (to_be_bytes w64 n ++ (s ++ event_bytes e)), length-append (to_be_bytes w64 n) (s ++ event_bytes e), length-append s (event_bytes e), length-eight t, length-eight n, length-four (event_size e), length-event e)
 length-record (Mark t) = omega (arith, length-eight t)
 length-record (Cut t) = omega (arith, length-eight t)
+length-record (Join t x) = omega (arith, length-append (to_be_bytes w64 t) (to_be_bytes w16 x), length-eight t, length-two x)
 
 -- Records
 
@@ -88,44 +97,59 @@ event_reads : (total : ℕ) (s : State) (t n size : ℕ) (e : EventPairs) (bytes
 unfolding logged_in event_in
 event_reads total s t n size e bytes rest r1 r2 r3 left p1 p2 p3 p4 p5 = rw (p1, p2, p3, p4, p5) refl
 
+-- those of a Join
+join_reads : (total : ℕ) (s : Standing) (t x : ℕ) (rest behind left : List ℕ) → number_in total 8 w64 (may_settle s.state) rest ≡ Ok (t, behind) → number_in total 2 w16 (may_enter s) behind ≡ Ok (x, left)
+    → join_in total s rest ≡ Ok (Join t x, left)
+unfolding join_in
+join_reads total s t x rest behind left p1 p2 = rw (p1, p2) refl
+
 -- a record that may follow reads as itself
-pub read_record : (total : ℕ) (s : State) (r : Record) (rest : List ℕ) → may_follow s r ≡ true → IsSound r → s.settled ≤ max_tick
+pub read_record : (total : ℕ) (s : Standing) (r : Record) (rest : List ℕ) → may_follow s r ≡ true → IsSound r → s.state.settled ≤ max_tick
     → record_in total s (record_bytes r ++ rest) ≡ Ok (r, rest)
 unfolding record_in logged_in event_in mark_in cut_in
 read_record total s (Event t n e) rest ok sound top =
-    let may = both (may_settle s t) (n == s.last + 1) ok in
+    let may = both (may_settle s.state t) (n == s.state.last + 1) ok in
     let T = to_be_bytes w64 t in
     let N = to_be_bytes w64 n in
     let S = to_be_bytes w32 (event_size e) in
     let E = event_bytes e in
-    let low : t ≤ max_tick = below_top s t may.0 in
+    let low : t ≤ max_tick = below_top s.state t may.0 in
     let small : nat_le (event_size e) MAX_EVENT_BYTES ≡ true = le-leb (event_size e) MAX_EVENT_BYTES sound.1.short in
     let short : event_size e ≤ MAX_EVENT_BYTES = sound.1.short in
-    let a1 = eight_at total (may_settle s) t (N ++ (S ++ (E ++ rest))) (omega (arith, low)) may.0 in
-    let a2 = eight_at total (λ x. x == s.last + 1) n (S ++ (E ++ rest)) sound.0 may.1 in
+    let a1 = eight_at total (may_settle s.state) t (N ++ (S ++ (E ++ rest))) (omega (arith, low)) may.0 in
+    let a2 = eight_at total (λ x. x == s.state.last + 1) n (S ++ (E ++ rest)) sound.0 may.1 in
     let a3 = four_at total (λ x. nat_le x MAX_EVENT_BYTES) (event_size e) (E ++ rest) (omega (arith, short)) small in
     let a4 = field_at total (event_size e) E rest (length-event e) in
     let split : (T ++ (N ++ (S ++ E))) ++ rest ≡ T ++ (N ++ (S ++ (E ++ rest))) =
     append_assoc T (N ++ (S ++ E)) rest ∙ ap (λ (l : List ℕ). T ++ l) (append_assoc N (S ++ E) rest ∙ ap (λ (l : List ℕ). N ++ l) (append_assoc S E rest)) in
-    ap (logged_in total s) split
-    ∙ event_reads total s t n (event_size e) e E (T ++ (N ++ (S ++ (E ++ rest)))) (N ++ (S ++ (E ++ rest))) (S ++ (E ++ rest)) (E ++ rest) rest a1 a2 a3 a4 (decodes_back e sound.1)
+    ap (logged_in total s.state) split
+    ∙ event_reads total s.state t n (event_size e) e E (T ++ (N ++ (S ++ (E ++ rest)))) (N ++ (S ++ (E ++ rest))) (S ++ (E ++ rest)) (E ++ rest) rest a1 a2 a3 a4 (decodes_back e sound.1)
 read_record total s (Mark t) rest ok sound top =
-    let low : t ≤ max_tick = below_top s t ok in
-    rw (eight_at total (may_settle s) t rest (omega (arith, low)) ok) refl
+    let low : t ≤ max_tick = below_top s.state t ok in
+    rw (eight_at total (may_settle s.state) t rest (omega (arith, low)) ok) refl
 read_record total s (Cut t) rest ok sound top =
-    let low : t ≤ s.settled = below_settled s t ok in
-    rw (eight_at total (may_cut s) t rest (omega (arith, low, top)) ok) refl
+    let low : t ≤ s.state.settled = below_settled s.state t ok in
+    rw (eight_at total (may_cut s.state) t rest (omega (arith, low, top)) ok) refl
+read_record total s (Join t x) rest ok sound top =
+    let may = both (may_settle s.state t) (may_enter s x) ok in
+    let T = to_be_bytes w64 t in
+    let S = to_be_bytes w16 x in
+    let low : t ≤ max_tick = below_top s.state t may.0 in
+    let a1 = eight_at total (may_settle s.state) t (S ++ rest) (omega (arith, low)) may.0 in
+    let a2 = two_at total (may_enter s) x rest sound may.1 in
+    ap (join_in total s) (append_assoc T S rest) ∙ join_reads total s t x (T ++ (S ++ rest)) (S ++ rest) rest a1 a2
 
-pub stays_below : (s : State) (r : Record) → may_follow s r ≡ true → s.settled ≤ max_tick → (after_record s r).settled ≤ max_tick
-stays_below s (Event t n e) ok top = below_top s t (both (may_settle s t) (n == s.last + 1) ok).0
-stays_below s (Mark t) ok top = below_top s t ok
+pub stays_below : (s : Standing) (r : Record) → may_follow s r ≡ true → s.state.settled ≤ max_tick → (after_record s.state r).settled ≤ max_tick
+stays_below s (Event t n e) ok top = below_top s.state t (both (may_settle s.state t) (n == s.state.last + 1) ok).0
+stays_below s (Mark t) ok top = below_top s.state t ok
 stays_below s (Cut t) ok top = top
+stays_below s (Join t x) ok top = below_top s.state t (both (may_settle s.state t) (may_enter s x) ok).0
 
 closed_gate : (gate : ℕ) → gate ≢ 1 → (gate == 1) ≡ false
 closed_gate gate h = grind (arith, nat_tests)
 
 -- records and then a closed gate
-read_all : (n total : ℕ) (s : State) (rs : List Record) (gate : ℕ) (tail : List ℕ) → Follow s rs → s.settled ≤ max_tick → gate ≢ 1 → length rs < n
+read_all : (n total : ℕ) (s : Standing) (rs : List Record) (gate : ℕ) (tail : List ℕ) → Follow s rs → s.state.settled ≤ max_tick → gate ≢ 1 → length rs < n
     → records_in n total s (blocks rs ++ gate ∷ tail) ≡ Ok rs
 unfolding records_in
 read_all zero total s rs gate tail f top shut few = absurd (omega (arith, few))
@@ -133,7 +157,7 @@ read_all (suc n) total s [] gate tail f top shut few = rw (records_in, closed_ga
 read_all (suc n) total s (r ∷ rs) gate tail f top shut few =
     let less : length rs < n = omega (arith, few) in
     let first = read_record total s r (blocks rs ++ gate ∷ tail) f.0 f.1 top in
-    let others = read_all n total (after_record s r) rs gate tail f.2 (stays_below s r f.0 top) shut less in
+    let others = read_all n total (stands_after s r) rs gate tail f.2 (stays_below s r f.0 top) shut less in
     rw (append_assoc (record_bytes r) (blocks rs) (gate ∷ tail), records_in, first, others) refl
 
 long_blocks : (rs : List Record) → length rs ≤ length (blocks rs)
@@ -144,40 +168,41 @@ at_least_nine : (r : Record) → 9 ≤ length (record_bytes r)
 at_least_nine (Event t n e) = omega (arith, length-record (Event t n e))
 at_least_nine (Mark t) = omega (arith, length-record (Mark t))
 at_least_nine (Cut t) = omega (arith, length-record (Cut t))
+at_least_nine (Join t x) = omega (arith, length-record (Join t x))
 
-module _ (rs : List Record) (gate : ℕ) (tail : List ℕ) (f : Follow empty_state rs) (shut : gate ≢ 1) where
+module _ (late : List ℕ) (rs : List Record) (gate : ℕ) (tail : List ℕ) (f : Follow (first_standing late) rs) (shut : gate ≢ 1) where
   abbrev whole : List ℕ
   whole = front_text rs ++ gate ∷ tail
 
   size : length whole ≡ 6 + length (blocks rs) + length tail
   size = omega (arith, length-append (blocks rs) (gate ∷ tail))
 
-  long : nat_le (length whole) 6 ≡ false → log_text whole ≡ Ok rs
+  long : nat_le (length whole) 6 ≡ false → log_text late whole ≡ Ok rs
   unfolding log_text
-  long h = rw (h, read_all (length whole + 1) (length whole) empty_state rs gate tail f (omega arith) shut (omega (arith, size, long_blocks rs))) refl
+  long h = rw (h, read_all (length whole + 1) (length whole) (first_standing late) rs gate tail f (omega arith) shut (omega (arith, size, long_blocks rs))) refl
 
 few_blocks : (rs : List Record) (n : ℕ) → 6 + length (blocks rs) + n ≤ 6 → rs ≡ []
 few_blocks [] n h = refl
 few_blocks (r ∷ rs) n h = absurd (omega (arith, h, at_least_nine r, length-append (record_bytes r) (blocks rs)))
 
-short_text : (bytes : List ℕ) → nat_le (length bytes) 6 ≡ true → log_text bytes ≡ Ok []
+short_text : (late bytes : List ℕ) → nat_le (length bytes) 6 ≡ true → log_text late bytes ≡ Ok []
 unfolding log_text
-short_text bytes h = rw h refl
+short_text late bytes h = rw h refl
 
 -- what is spelled is read
-pub reads : (rs : List Record) (gate : ℕ) (tail : List ℕ) → Follow empty_state rs → gate ≢ 1 → log_text (front_text rs ++ gate ∷ tail) ≡ Ok rs
-reads rs gate tail f shut = by_length (nat_le (length (front_text rs ++ gate ∷ tail)) 6) refl
+pub reads : (late : List ℕ) (rs : List Record) (gate : ℕ) (tail : List ℕ) → Follow (first_standing late) rs → gate ≢ 1 → log_text late (front_text rs ++ gate ∷ tail) ≡ Ok rs
+reads late rs gate tail f shut = by_length (nat_le (length (front_text rs ++ gate ∷ tail)) 6) refl
   where
-    by_length : (b : Bool) → nat_le (length (front_text rs ++ gate ∷ tail)) 6 ≡ b → log_text (front_text rs ++ gate ∷ tail) ≡ Ok rs
-    by_length false e = long rs gate tail f shut e
+    by_length : (b : Bool) → nat_le (length (front_text rs ++ gate ∷ tail)) 6 ≡ b → log_text late (front_text rs ++ gate ∷ tail) ≡ Ok rs
+    by_length false e = long late rs gate tail f shut e
     by_length true e =
         let low : length (front_text rs ++ gate ∷ tail) ≤ 6 = leb-true (length (front_text rs ++ gate ∷ tail)) 6 e in
         let none : rs ≡ [] = few_blocks rs (length tail) (omega (arith, low, length-append (blocks rs) (gate ∷ tail))) in
-        short_text (front_text rs ++ gate ∷ tail) e ∙ ap Ok (sym none)
+        short_text late (front_text rs ++ gate ∷ tail) e ∙ ap Ok (sym none)
 
 -- at most six bytes are an empty log
-pub reads_short : (bytes : List ℕ) → length bytes ≤ 6 → log_text bytes ≡ Ok []
-reads_short bytes h = short_text bytes (le-leb (length bytes) 6 h)
+pub reads_short : (late bytes : List ℕ) → length bytes ≤ 6 → log_text late bytes ≡ Ok []
+reads_short late bytes h = short_text late bytes (le-leb (length bytes) 6 h)
 
 -- the fields of an Event, one behind another, are its bytes
 pub spelled_event : (t n size : ℕ) (e : EventPairs) (rest r1 r2 r3 left : List ℕ) → rest ≡ to_be_bytes w64 t ++ r1 → r1 ≡ to_be_bytes w64 n ++ r2
@@ -209,21 +234,32 @@ after front r (Ok rs) = ap Ok (sym (append_assoc front (r ∷ []) rs))
 after front r (Err e) = refl
 
 -- What is known while records are read: some gates may still be read, and what is read then completes what was read.
-pub record IsReading (total : ℕ) (all : List ℕ) (front : List Record) (s : State) (rest : List ℕ) (answer : Result (List Record) ℕ) : Type 0 where
+pub record IsReading (total : ℕ) (late all : List ℕ) (front : List Record) (s : Standing) (rest : List ℕ) (answer : Result (List Record) ℕ) : Type 0 where
   pub gates : ℕ
   pub enough : length rest < gates
   pub answers : with_front front (records_in gates total s rest) ≡ answer
-  pub state : s ≡ state_from empty_state front
-  pub follow : Follow empty_state front
+  pub stands : s ≡ standing_of late front
+  pub follow : Follow (first_standing late) front
   pub spelled : all ≡ blocks front ++ rest
 
 state-append : (s : State) (rs : List Record) (r : Record) → state_from s (rs ++ r ∷ []) ≡ after_record (state_from s rs) r
 state-append s [] r = refl
 state-append s (x ∷ rs) r = state-append (after_record s x) rs r
 
-follow-append : (s : State) (rs : List Record) (r : Record) → Follow s rs → may_follow (state_from s rs) r ≡ true → IsSound r → Follow s (rs ++ r ∷ [])
-follow-append s [] r f ok sound = (ok, sound, tt)
-follow-append s (x ∷ rs) r f ok sound = (f.0, f.1, follow-append (after_record s x) rs r f.2 ok sound)
+joins-append : (js : Joins) (rs : List Record) (r : Record) → joins_from js (rs ++ r ∷ []) ≡ joins_after (joins_from js rs) r
+joins-append js [] r = refl
+joins-append js (x ∷ rs) r = joins-append (joins_after js x) rs r
+
+-- a record may follow where no record stands behind, as it may there
+still_may : (s : Standing) (r : Record) → may_follow (standing_from s []) r ≡ may_follow s r
+still_may s (Event t n e) = refl
+still_may s (Mark t) = refl
+still_may s (Cut t) = refl
+still_may s (Join t x) = refl
+
+follow-append : (s : Standing) (rs : List Record) (r : Record) → Follow s rs → may_follow (standing_from s rs) r ≡ true → IsSound r → Follow s (rs ++ r ∷ [])
+follow-append s [] r f ok sound = (sym (still_may s r) ∙ ok, sound, tt)
+follow-append s (x ∷ rs) r f ok sound = (f.0, f.1, follow-append (stands_after s x) rs r f.2 ok sound)
 
 pub blocks-append : (rs : List Record) (r : Record) (rest : List ℕ) → blocks (rs ++ r ∷ []) ++ rest ≡ blocks rs ++ 1 ∷ (record_bytes r ++ rest)
 blocks-append [] r rest = ap (λ (l : List ℕ). 1 ∷ (l ++ rest)) (append-nil (record_bytes r))
@@ -231,66 +267,71 @@ blocks-append (x ∷ rs) r rest =
     ap (λ (l : List ℕ). 1 ∷ l) (append_assoc (record_bytes x) (blocks (rs ++ r ∷ [])) rest ∙ ap (λ (l : List ℕ). record_bytes x ++ l) (blocks-append rs r rest)
     ∙ sym (append_assoc (record_bytes x) (blocks rs) (1 ∷ (record_bytes r ++ rest))))
 
-pub follow_more : (rs : List Record) (r : Record) → Follow empty_state rs → may_follow (state_from empty_state rs) r ≡ true → IsSound r → Follow empty_state (rs ++ r ∷ [])
-follow_more rs r f ok sound = follow-append empty_state rs r f ok sound
+pub follow_more : (late : List ℕ) (rs : List Record) (r : Record) → Follow (first_standing late) rs → may_follow (standing_of late rs) r ≡ true → IsSound r → Follow (first_standing late) (rs ++ r ∷ [])
+follow_more late rs r f ok sound = follow-append (first_standing late) rs r f ok sound
 
-pub state_more : (rs : List Record) (r : Record) → state_from empty_state (rs ++ r ∷ []) ≡ after_record (state_from empty_state rs) r
+pub state_more : (rs : List Record) (r : Record) → state_of (rs ++ r ∷ []) ≡ after_record (state_of rs) r
 state_more rs r = state-append empty_state rs r
 
+pub stands_more : (late : List ℕ) (rs : List Record) (r : Record) → standing_of late (rs ++ r ∷ []) ≡ stands_after (standing_of late rs) r
+stands_more late rs r =
+    ap (λ (s : State). record { state = s; joins = joins_from [] (rs ++ r ∷ []); late = late }) (state-append empty_state rs r)
+    ∙ ap (λ (js : Joins). record { state = after_record (state_of rs) r; joins = js; late = late }) (joins-append [] rs r)
+
 -- before the first gate
-pub starts : (total n : ℕ) (rest : List ℕ) → length rest < n → IsReading total rest [] empty_state rest (records_in n total empty_state rest)
-starts total n rest few = record { gates = n; enough = few; answers = no_front (records_in n total empty_state rest); state = refl; follow = tt; spelled = refl }
+pub starts : (total n : ℕ) (late rest : List ℕ) → length rest < n → IsReading total late rest [] (first_standing late) rest (records_in n total (first_standing late) rest)
+starts total n late rest few = record { gates = n; enough = few; answers = no_front (records_in n total (first_standing late) rest); stands = refl; follow = tt; spelled = refl }
 
 -- after an open gate and a record
-pub reads_on : (total : ℕ) (all : List ℕ) (front front' : List Record) (s s' : State) (r : Record) (rest behind left : List ℕ) (answer : Result (List Record) ℕ)
-    → IsReading total all front s rest answer → rest ≡ 1 ∷ behind → record_in total s behind ≡ Ok (r, left) → behind ≡ record_bytes r ++ left
-    → may_follow s r ≡ true → IsSound r → s' ≡ after_record s r → front' ≡ front ++ r ∷ [] → IsReading total all front' s' left answer
+pub reads_on : (total : ℕ) (late all : List ℕ) (front front' : List Record) (s s' : Standing) (r : Record) (rest behind left : List ℕ) (answer : Result (List Record) ℕ)
+    → IsReading total late all front s rest answer → rest ≡ 1 ∷ behind → record_in total s behind ≡ Ok (r, left) → behind ≡ record_bytes r ++ left
+    → may_follow s r ≡ true → IsSound r → s' ≡ stands_after s r → front' ≡ front ++ r ∷ [] → IsReading total late all front' s' left answer
 unfolding records_in
-reads_on total all front front' s s' r rest behind left answer h is read spells ok sound later more = go h.gates h.enough h.answers
+reads_on total late all front front' s s' r rest behind left answer h is read spells ok sound later more = go h.gates h.enough h.answers
   where
     split : length rest ≡ suc (length (record_bytes r) + length left)
     split = omega (arith, ap length is, ap length spells, length-append (record_bytes r) left)
 
-    go : (n : ℕ) → length rest < n → with_front front (records_in n total s rest) ≡ answer → IsReading total all front' s' left answer
+    go : (n : ℕ) → length rest < n → with_front front (records_in n total s rest) ≡ answer → IsReading total late all front' s' left answer
     go zero few a = absurd (omega (arith, few))
     go (suc n) few a = record {
       gates = n;
       enough = omega (arith, few, split);
-      answers = ap (λ (f : List Record). with_front f (records_in n total s' left)) more ∙ ap (λ (t : State). with_front (front ++ r ∷ []) (records_in n total t left)) later
-          ∙ sym (after front r (records_in n total (after_record s r) left)) ∙ (rw (is, records_in, read) at a);
-      state = later ∙ ap (λ (t : State). after_record t r) h.state ∙ sym (state-append empty_state front r) ∙ ap (state_from empty_state) (sym more);
-      follow = subst (Follow empty_state) (sym more) (follow-append empty_state front r h.follow (ap (λ (t : State). may_follow t r) (sym h.state) ∙ ok) sound);
+      answers = ap (λ (f : List Record). with_front f (records_in n total s' left)) more ∙ ap (λ (t : Standing). with_front (front ++ r ∷ []) (records_in n total t left)) later
+          ∙ sym (after front r (records_in n total (stands_after s r) left)) ∙ (rw (is, records_in, read) at a);
+      stands = later ∙ ap (λ (t : Standing). stands_after t r) h.stands ∙ sym (stands_more late front r) ∙ ap (standing_of late) (sym more);
+      follow = subst (Follow (first_standing late)) (sym more) (follow_more late front r h.follow (ap (λ (t : Standing). may_follow t r) (sym h.stands) ∙ ok) sound);
       spelled = h.spelled ∙ ap (λ (l : List ℕ). blocks front ++ l) (is ∙ ap (λ (l : List ℕ). 1 ∷ l) spells) ∙ sym (blocks-append front r left) ∙ ap (λ (f : List Record). blocks f ++ left) (sym more);
     }
 
 -- at a closed gate
-pub reads_end : (total : ℕ) (all : List ℕ) (front : List Record) (s : State) (gate : ℕ) (rest behind : List ℕ) (answer : Result (List Record) ℕ)
-    → IsReading total all front s rest answer → rest ≡ gate ∷ behind → gate ≢ 1 → answer ≡ Ok front
+pub reads_end : (total : ℕ) (late all : List ℕ) (front : List Record) (s : Standing) (gate : ℕ) (rest behind : List ℕ) (answer : Result (List Record) ℕ)
+    → IsReading total late all front s rest answer → rest ≡ gate ∷ behind → gate ≢ 1 → answer ≡ Ok front
 unfolding records_in
-reads_end total all front s gate rest behind answer h is shut = go h.gates h.enough h.answers
+reads_end total late all front s gate rest behind answer h is shut = go h.gates h.enough h.answers
   where
     go : (n : ℕ) → length rest < n → with_front front (records_in n total s rest) ≡ answer → answer ≡ Ok front
     go zero few a = absurd (omega (arith, few))
     go (suc n) few a = sym (rw (is, records_in, closed_gate gate shut) at a) ∙ ap Ok (append-nil front)
 
 -- where the gate is missing
-pub reads_out : (total : ℕ) (all : List ℕ) (front : List Record) (s : State) (rest : List ℕ) (answer : Result (List Record) ℕ)
-    → IsReading total all front s rest answer → rest ≡ [] → answer ≡ Err total
+pub reads_out : (total : ℕ) (late all : List ℕ) (front : List Record) (s : Standing) (rest : List ℕ) (answer : Result (List Record) ℕ)
+    → IsReading total late all front s rest answer → rest ≡ [] → answer ≡ Err total
 unfolding records_in
-reads_out total all front s rest answer h is = go h.gates h.answers
+reads_out total late all front s rest answer h is = go h.gates h.answers
   where
     go : (n : ℕ) → with_front front (records_in n total s rest) ≡ answer → answer ≡ Err total
     go zero a = sym a
     go (suc n) a = sym a ∙ ap (λ (l : List ℕ). with_front front (records_in (suc n) total s l)) is
 
 -- where a record is refused
-pub reads_fault : (total : ℕ) (all : List ℕ) (front : List Record) (s : State) (rest behind : List ℕ) (answer : Result (List Record) ℕ) (e : LogFault)
-    → IsReading total all front s rest answer → rest ≡ 1 ∷ behind → Fails e (record_in total s behind) → Fails e answer
+pub reads_fault : (total : ℕ) (late all : List ℕ) (front : List Record) (s : Standing) (rest behind : List ℕ) (answer : Result (List Record) ℕ) (e : LogFault)
+    → IsReading total late all front s rest answer → rest ≡ 1 ∷ behind → Fails e (record_in total s behind) → Fails e answer
 unfolding records_in
-reads_fault total all front s rest behind answer fault.Memory h is refused = tt
-reads_fault total all front s rest behind answer fault.Disk h is refused = refused
-reads_fault total all front s rest behind answer fault.Reopen h is refused = refused
-reads_fault total all front s rest behind answer (fault.Damaged at) h is refused = go h.gates h.enough h.answers
+reads_fault total late all front s rest behind answer fault.Memory h is refused = tt
+reads_fault total late all front s rest behind answer fault.Disk h is refused = refused
+reads_fault total late all front s rest behind answer fault.Reopen h is refused = refused
+reads_fault total late all front s rest behind answer (fault.Damaged at) h is refused = go h.gates h.enough h.answers
   where
     go : (n : ℕ) → length rest < n → with_front front (records_in n total s rest) ≡ answer → answer ≡ Err at
     go zero few a = absurd (omega (arith, few))
@@ -304,12 +345,12 @@ first_is (y ∷ ys) x h e = ap (λ (z : ℕ). z ∷ ys) e
 -- The laws
 
 -- a lane that spells records reads as them
-pub reads_spelled : (bytes : List ℕ) (rs : List Record) → IsSpelled bytes rs → log_text bytes ≡ Ok rs
-reads_spelled bytes rs s = ap log_text s.text.whole ∙ reads rs s.text.gate s.text.tail s.follow s.text.closed
+pub reads_spelled : (late bytes : List ℕ) (rs : List Record) → IsSpelled late bytes rs → log_text late bytes ≡ Ok rs
+reads_spelled late bytes rs s = ap (log_text late) s.text.whole ∙ reads late rs s.text.gate s.text.tail s.follow s.text.closed
 
 ok_same : (x y : List Record) → ◌≡◌ {A = Result (List Record) ℕ} (Ok x) (Ok y) → x ≡ y
 ok_same x y e = cc
 
 -- and as nothing else
-pub spelled_once : (bytes : List ℕ) (rs rs' : List Record) → IsSpelled bytes rs → IsSpelled bytes rs' → rs ≡ rs'
-spelled_once bytes rs rs' s s' = ok_same rs rs' (sym (reads_spelled bytes rs s) ∙ reads_spelled bytes rs' s')
+pub spelled_once : (late bytes : List ℕ) (rs rs' : List Record) → IsSpelled late bytes rs → IsSpelled late bytes rs' → rs ≡ rs'
+spelled_once late bytes rs rs' s s' = ok_same rs rs' (sym (reads_spelled late bytes rs s) ∙ reads_spelled late bytes rs' s')

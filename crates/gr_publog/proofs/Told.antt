@@ -2,7 +2,7 @@
 use Rattle.std.proofs.Common.{◌≡◌, ◌≢◌, ◌<◌, ◌≤◌, ◌+◌, ◌-◌, ◌^◌, ◌⊎◌, inl, inr, ℕ, zero, suc, Bool, true, false, ◌==◌, nat_le, if◌then◌else◌, List, [], ◌∷◌, ◌++◌, length, take, drop, Result, Ok, Err, refl, ap, sym, ◌∙◌, subst, arith, append_assoc, length-take, eqb-true}
 use Rattle.std.proofs.lemmas.Bool.{leb-true}
 use Rattle.std.proofs.lemmas.List.{take-append-drop}
-use Rattle.std.specs.Int.{Width, from_be_bytes, to_be_bytes, w32, w64}
+use Rattle.std.specs.Int.{Width, from_be_bytes, to_be_bytes, w16, w32, w64}
 use Rattle.gr_event.specs.declared.event.Event.{Event as EventPairs}
 use Rattle.gr_event.specs.declared.event.EventFault.{EventFault}
 use Rattle.gr_event.specs.Event.{event_bytes}
@@ -11,11 +11,10 @@ use Rattle.gr_event.specs.Limits.{IsEvent}
 use Rattle.gr_event.specs.declared.limits.TheConstants.{MAX_EVENT_BYTES}
 use Rattle.gr_event.proofs.Told.{only_its_bytes}
 use Rattle.gr_publog.specs.declared.record.Record.{Record}
-use Rattle.gr_publog.specs.declared.record.Record.TheVariants.{Event, Mark, Cut}
-use Rattle.gr_publog.specs.declared.record.State.{State}
-use Rattle.gr_publog.specs.State.{empty_state, after_record, may_settle, may_cut, may_follow, IsSound, Follow}
-use Rattle.gr_publog.specs.Text.{◌>>=◌, AreBytes, Closes, IsSpelled, record_bytes, blocks, header, header_fault, field_in, number_in, event_of, event_in, logged_in, mark_in, cut_in, record_in, records_in, log_text}
-use Rattle.gr_publog.proofs.Numbers.{bytes_before, bytes_behind, bytes_from, eight_fits, spells_eight, spells_four}
+use Rattle.gr_publog.specs.declared.record.Record.TheVariants.{Event, Mark, Cut, Join}
+use Rattle.gr_publog.specs.State.{Standing, first_standing, stands_after, may_settle, may_cut, may_enter, may_follow, IsSound, Follow}
+use Rattle.gr_publog.specs.Text.{◌>>=◌, AreBytes, Closes, IsSpelled, record_bytes, blocks, header, header_fault, field_in, number_in, event_of, event_in, logged_in, mark_in, cut_in, join_in, record_in, records_in, log_text}
+use Rattle.gr_publog.proofs.Numbers.{bytes_before, bytes_behind, bytes_from, two_fits, eight_fits, spells_two, spells_eight, spells_four}
 use Rattle.gr_publog.proofs.Events.{event_limits}
 use Rattle.gr_publog.proofs.Reading.{spelled_event}
 
@@ -85,6 +84,13 @@ four_spelled : (passes : ℕ → Bool) (rest : List ℕ) (x : ℕ) (left : List 
 four_spelled passes rest x left n =
     n.stands.whole ∙ ap (λ (l : List ℕ). l ++ left) (sym (spells_four x n.field n.value n.stands.len n.stands.each))
 
+two_spelled : (passes : ℕ → Bool) (rest : List ℕ) (x : ℕ) (left : List ℕ) → IsNumber 2 w16 passes rest x left → rest ≡ to_be_bytes w16 x ++ left
+two_spelled passes rest x left n =
+    n.stands.whole ∙ ap (λ (l : List ℕ). l ++ left) (sym (spells_two x n.field n.value n.stands.len n.stands.each))
+
+subscriber_fits : (passes : ℕ → Bool) (rest : List ℕ) (x : ℕ) (left : List ℕ) → IsNumber 2 w16 passes rest x left → x < 2 ^ 16
+subscriber_fits passes rest x left n = rw n.value (two_fits n.field n.stands.each)
+
 number_fits : (passes : ℕ → Bool) (rest : List ℕ) (x : ℕ) (left : List ℕ) → IsNumber 8 w64 passes rest x left → x < 2 ^ 64
 number_fits passes rest x left n = rw n.value (eight_fits n.field n.stands.each)
 
@@ -116,22 +122,22 @@ event_told total n rest x fits h =
 -- Records
 
 -- A record that may follow stands in front of what is left.
-record IsRead (s : State) (rest : List ℕ) (r : Record) (left : List ℕ) : Type 0 where
+record IsRead (s : Standing) (rest : List ℕ) (r : Record) (left : List ℕ) : Type 0 where
   spelled : rest ≡ record_bytes r ++ left
   may : may_follow s r ≡ true
   sound : IsSound r
   behind : AreBytes left
 
-abbrev Read : State → List ℕ → Record × List ℕ → Type 0
+abbrev Read : Standing → List ℕ → Record × List ℕ → Type 0
 Read s rest x = IsRead s rest x.0 x.1
 
-logged_told : (total : ℕ) (s : State) (rest : List ℕ) (x : Record × List ℕ) → AreBytes rest → logged_in total s rest ≡ Ok x → Read s (1 ∷ rest) x
+logged_told : (total : ℕ) (s : Standing) (rest : List ℕ) (x : Record × List ℕ) → AreBytes rest → logged_in total s.state rest ≡ Ok x → Read s (1 ∷ rest) x
 unfolding logged_in
 logged_told total s rest x fits h =
-    let next = λ (n : ℕ). n == s.last + 1 in
+    let next = λ (n : ℕ). n == s.state.last + 1 in
     let short = λ (n : ℕ). nat_le n MAX_EVENT_BYTES in
-    let one = bind_told (number_in total 8 w64 (may_settle s) rest) _ x h in
-    let tick = number_told total 8 w64 (may_settle s) rest one.0 fits one.1 in
+    let one = bind_told (number_in total 8 w64 (may_settle s.state) rest) _ x h in
+    let tick = number_told total 8 w64 (may_settle s.state) rest one.0 fits one.1 in
     let two = bind_told (number_in total 8 w64 next one.0.1) _ x one.2 in
     let number = number_told total 8 w64 next one.0.1 two.0 tick.stands.behind two.1 in
     let three = bind_told (number_in total 4 w32 short two.0.1) _ x two.2 in
@@ -147,37 +153,56 @@ logged_told total s rest x fits h =
       behind = event.stands.behind;
     })
 
-mark_told : (total : ℕ) (s : State) (rest : List ℕ) (x : Record × List ℕ) → AreBytes rest → mark_in total s rest ≡ Ok x → Read s (2 ∷ rest) x
+mark_told : (total : ℕ) (s : Standing) (rest : List ℕ) (x : Record × List ℕ) → AreBytes rest → mark_in total s.state rest ≡ Ok x → Read s (2 ∷ rest) x
 unfolding mark_in
 mark_told total s rest x fits h =
-    let one = bind_told (number_in total 8 w64 (may_settle s) rest) _ x h in
-    let tick = number_told total 8 w64 (may_settle s) rest one.0 fits one.1 in
+    let one = bind_told (number_in total 8 w64 (may_settle s.state) rest) _ x h in
+    let tick = number_told total 8 w64 (may_settle s.state) rest one.0 fits one.1 in
     let is : (Mark one.0.0, one.0.1) ≡ x = let e = one.2 in cc in
     subst (Read s (2 ∷ rest)) is
     (record { spelled = ap (λ (l : List ℕ). 2 ∷ l) (eight_spelled _ _ _ _ tick); may = tick.passed; sound = tt; behind = tick.stands.behind })
 
-cut_told : (total : ℕ) (s : State) (rest : List ℕ) (x : Record × List ℕ) → AreBytes rest → cut_in total s rest ≡ Ok x → Read s (3 ∷ rest) x
+cut_told : (total : ℕ) (s : Standing) (rest : List ℕ) (x : Record × List ℕ) → AreBytes rest → cut_in total s.state rest ≡ Ok x → Read s (3 ∷ rest) x
 unfolding cut_in
 cut_told total s rest x fits h =
-    let one = bind_told (number_in total 8 w64 (may_cut s) rest) _ x h in
-    let tick = number_told total 8 w64 (may_cut s) rest one.0 fits one.1 in
+    let one = bind_told (number_in total 8 w64 (may_cut s.state) rest) _ x h in
+    let tick = number_told total 8 w64 (may_cut s.state) rest one.0 fits one.1 in
     let is : (Cut one.0.0, one.0.1) ≡ x = let e = one.2 in cc in
     subst (Read s (3 ∷ rest)) is
     (record { spelled = ap (λ (l : List ℕ). 3 ∷ l) (eight_spelled _ _ _ _ tick); may = tick.passed; sound = tt; behind = tick.stands.behind })
 
-record_told : (total : ℕ) (s : State) (rest : List ℕ) (x : Record × List ℕ) → AreBytes rest → record_in total s rest ≡ Ok x → Read s rest x
+join_told : (total : ℕ) (s : Standing) (rest : List ℕ) (x : Record × List ℕ) → AreBytes rest → join_in total s rest ≡ Ok x → Read s (4 ∷ rest) x
+unfolding join_in
+join_told total s rest x fits h =
+    let one = bind_told (number_in total 8 w64 (may_settle s.state) rest) _ x h in
+    let tick = number_told total 8 w64 (may_settle s.state) rest one.0 fits one.1 in
+    let two = bind_told (number_in total 2 w16 (may_enter s) one.0.1) _ x one.2 in
+    let subscriber = number_told total 2 w16 (may_enter s) one.0.1 two.0 tick.stands.behind two.1 in
+    let T = to_be_bytes w64 one.0.0 in
+    let is : (Join one.0.0 two.0.0, two.0.1) ≡ x = let e = two.2 in cc in
+    subst (Read s (4 ∷ rest)) is (record {
+      spelled = ap (λ (l : List ℕ). 4 ∷ l) (eight_spelled _ _ _ _ tick ∙ ap (λ (l : List ℕ). T ++ l) (two_spelled _ _ _ _ subscriber) ∙ sym (append_assoc T (to_be_bytes w16 two.0.0) two.0.1));
+      may = rw (tick.passed, subscriber.passed) refl;
+      sound = subscriber_fits _ _ _ _ subscriber;
+      behind = subscriber.stands.behind;
+    })
+
+record_told : (total : ℕ) (s : Standing) (rest : List ℕ) (x : Record × List ℕ) → AreBytes rest → record_in total s rest ≡ Ok x → Read s rest x
 unfolding record_in
 record_told total s [] x fits h = absurd (cc)
 record_told total s (kind ∷ rest) x fits h =
     let behind = bytes_behind (kind ∷ rest) (kind ∷ []) rest fits refl in
     let as_kind = λ (k : ℕ) (b : (kind == k) ≡ true) (r : Read s (k ∷ rest) x). subst (λ (j : ℕ). Read s (j ∷ rest) x) (sym (eqb-true kind k b)) r in
-    elim (either_told (kind == 1) (logged_in total s rest) _ x h) [
+    elim (either_told (kind == 1) (logged_in total s.state rest) _ x h) [
       | inl e ↦ as_kind 1 e.0 (logged_told total s rest x behind e.1)
-      | inr e ↦ elim (either_told (kind == 2) (mark_in total s rest) _ x e.1) [
+      | inr e ↦ elim (either_told (kind == 2) (mark_in total s.state rest) _ x e.1) [
         | inl m ↦ as_kind 2 m.0 (mark_told total s rest x behind m.1)
-        | inr m ↦ elim (either_told (kind == 3) (cut_in total s rest) _ x m.1) [
+        | inr m ↦ elim (either_told (kind == 3) (cut_in total s.state rest) _ x m.1) [
           | inl c ↦ as_kind 3 c.0 (cut_told total s rest x behind c.1)
-          | inr c ↦ absurd (let k = c.1 in cc)
+          | inr c ↦ elim (either_told (kind == 4) (join_in total s rest) _ x c.1) [
+            | inl j ↦ as_kind 4 j.0 (join_told total s rest x behind j.1)
+            | inr j ↦ absurd (let k = j.1 in cc)
+          ]
         ]
       ]
     ]
@@ -189,11 +214,11 @@ not_open : (gate : ℕ) → (gate == 1) ≡ false → gate ≢ 1
 not_open gate h = λ e. let k : (gate == 1) ≡ true = ap (λ (g : ℕ). g == 1) e in cc
 
 -- the records that bytes hold, and that these may follow one another
-abbrev Hold : State → List ℕ → List Record → Type 0
+abbrev Hold : Standing → List ℕ → List Record → Type 0
 Hold s rest rs = Closes rest (blocks rs) × Follow s rs
 
 -- one more in front
-held_more : (s : State) (gate : ℕ) (rest left : List ℕ) (r : Record) (rs : List Record) → gate ≡ 1 → IsRead s rest r left → Hold (after_record s r) left rs → Hold s (gate ∷ rest) (r ∷ rs)
+held_more : (s : Standing) (gate : ℕ) (rest left : List ℕ) (r : Record) (rs : List Record) → gate ≡ 1 → IsRead s rest r left → Hold (stands_after s r) left rs → Hold s (gate ∷ rest) (r ∷ rs)
 held_more s gate rest left r rs opened one others =
     let c = others.0 in (
       record {
@@ -205,17 +230,17 @@ held_more s gate rest left r rs opened one others =
       (one.may, one.sound, others.1),
     )
 
-records_told : (n total : ℕ) (s : State) (rest : List ℕ) (rs : List Record) → AreBytes rest → records_in n total s rest ≡ Ok rs → Hold s rest rs
+records_told : (n total : ℕ) (s : Standing) (rest : List ℕ) (rs : List Record) → AreBytes rest → records_in n total s rest ≡ Ok rs → Hold s rest rs
 unfolding records_in
 records_told zero total s rest rs fits h = absurd (cc)
 records_told (suc n) total s [] rs fits h = absurd (cc)
 records_told (suc n) total s (gate ∷ rest) rs fits h =
     elim (gate == 1) as (λ b. (gate == 1) ≡ b → Hold s (gate ∷ rest) rs) [
-      | true ↦ λ e. let read : (record_in total s rest >>= λ x. records_in n total (after_record s x.0) x.1 >>= λ more. Ok (x.0 ∷ more)) ≡ Ok rs = rw (records_in, e) at h in
+      | true ↦ λ e. let read : (record_in total s rest >>= λ x. records_in n total (stands_after s x.0) x.1 >>= λ more. Ok (x.0 ∷ more)) ≡ Ok rs = rw (records_in, e) at h in
           let one = bind_told (record_in total s rest) _ rs read in
           let first = record_told total s rest one.0 (bytes_behind (gate ∷ rest) (gate ∷ []) rest fits refl) one.1 in
-          let two = bind_told (records_in n total (after_record s one.0.0) one.0.1) _ rs one.2 in
-          let others = records_told n total (after_record s one.0.0) one.0.1 two.0 first.behind two.1 in
+          let two = bind_told (records_in n total (stands_after s one.0.0) one.0.1) _ rs one.2 in
+          let others = records_told n total (stands_after s one.0.0) one.0.1 two.0 first.behind two.1 in
           let is : one.0.0 ∷ two.0 ≡ rs = let k = two.2 in cc in
           subst (Hold s (gate ∷ rest)) is (held_more s gate rest one.0.1 one.0.0 two.0 (eqb-true gate 1 e) first others)
       | false ↦ λ e. let none : ◌≡◌ {A = Result (List Record) ℕ} (Ok []) (Ok rs) = rw (records_in, e) at h in
@@ -241,8 +266,8 @@ begins_with at (x ∷ xs) [] h = absurd (omega (arith, h))
 begins_with at (x ∷ xs) (b ∷ bs) h = begins_more at x b xs bs (begins_with (at + 1) xs bs) h
 
 -- the header, and records behind it up to a closed gate
-spelled_behind : (bytes : List ℕ) (rs : List Record) → bytes ≡ header ++ drop 5 bytes → Hold empty_state (drop 5 bytes) rs → IsSpelled bytes rs
-spelled_behind bytes rs front held =
+spelled_behind : (late bytes : List ℕ) (rs : List Record) → bytes ≡ header ++ drop 5 bytes → Hold (first_standing late) (drop 5 bytes) rs → IsSpelled late bytes rs
+spelled_behind late bytes rs front held =
     let c = held.0 in
     record {
       text = record { gate = c.gate; tail = c.tail; closed = c.closed; whole = front ∙ ap (λ (l : List ℕ). header ++ l) c.whole };
@@ -250,12 +275,12 @@ spelled_behind bytes rs front held =
     }
 
 -- what more than six bytes read as is what they spell
-pub spells_told : (bytes : List ℕ) (rs : List Record) → AreBytes bytes → 6 < length bytes → log_text bytes ≡ Ok rs → IsSpelled bytes rs
+pub spells_told : (late bytes : List ℕ) (rs : List Record) → AreBytes bytes → 6 < length bytes → log_text late bytes ≡ Ok rs → IsSpelled late bytes rs
 unfolding log_text
-spells_told bytes rs fits long h =
+spells_told late bytes rs fits long h =
     elim (either_told (nat_le (length bytes) 6) (Ok []) _ rs h) [
       | inl k ↦ let short : length bytes ≤ 6 = leb-true (length bytes) 6 k.0 in absurd (omega (arith, short, long))
       | inr k ↦ let one = then_told (header_fault 0 header bytes == 5) (header_fault 0 header bytes) _ rs k.1 in
           let front = begins_with 0 header bytes (eqb-true (header_fault 0 header bytes) 5 one.0) in
-          spelled_behind bytes rs front (records_told (length bytes + 1) (length bytes) empty_state (drop 5 bytes) rs (bytes_from 5 bytes fits) one.1)
+          spelled_behind late bytes rs front (records_told (length bytes + 1) (length bytes) (first_standing late) (drop 5 bytes) rs (bytes_from 5 bytes fits) one.1)
     ]

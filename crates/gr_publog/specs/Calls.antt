@@ -20,9 +20,9 @@ records_with rs None = rs
 records_with rs (Some r) = rs ++ r ∷ []
 
 -- bytes read as these records, or as these and the one that a call logs
-abbrev pub Reads : List Record → Option Record → List ℕ → Type 0
-Reads rs None image = log_text image ≡ Ok rs
-Reads rs (Some r) image = BeforeOrAfter rs r image
+abbrev pub Reads : List ℕ → List Record → Option Record → List ℕ → Type 0
+Reads late rs None image = log_text late image ≡ Ok rs
+Reads late rs (Some r) image = BeforeOrAfter late rs r image
 
 -- the records that are left where a stop broke a call that logs one: without it or with it, as the log keeps it
 abbrev pub records_left : List Record → Option Record → ℕ → ℕ → List Record
@@ -59,41 +59,41 @@ pub record GoesOn (before after : Lane) : Type 0 where
 
 -- a log that is not broken has its records in its lane
 abbrev pub IsReady : LogView → Lane → Type 0
-IsReady l lane = l.broken ≡ false → Stands lane l.records
+IsReady l lane = l.broken ≡ false → Stands lane l.late l.records
 
 -- What a call that logs a record, or none, does to the lane of a log.
 pub record Appends {T : Type 0} (l : LogView) (logged : Option Record) (before after : Lane)
     (result : Result T LogFault) : Type 0 where
   -- after `Ok` a crash leaves the list with the record, and no call was made but those of the format
-  pub stands : l.broken ≡ false → OnOk result (Stands after (records_with l.records logged))
+  pub stands : l.broken ≡ false → OnOk result (Stands after l.late (records_with l.records logged))
   pub calls : OnOk result (after.calls ≡ logging_calls l.records logged before.calls)
   -- at every moment of the call a crash leaves the list before, or the list with the record
   pub any_moment : l.broken ≡ false → (image : List ℕ) → LeftSince after (moment before) image
-      → Reads l.records logged image
+      → Reads l.late l.records logged image
   -- an ordered stop at one of its calls lets no `Ok` through, and the call and the pick tell which of the two is left
   pub breaks : IsSome logged → (call pick : ℕ) → before.stop ≡ After call pick → call ≤ 4 → IsErr result
   pub kept : (call pick : ℕ) → Broke before after call pick
-      → log_text (crash_image after) ≡ Ok (records_left l.records logged call pick)
+      → log_text l.late (crash_image after) ≡ Ok (records_left l.records logged call pick)
   -- want of memory comes before the first call, and the disk fails at one of the four
   pub untouched : IsErrOf result fault.Memory → after ≡ before
-  pub still : IsErrOf result fault.Memory → l.broken ≡ false → Stands after l.records
+  pub still : IsErrOf result fault.Memory → l.broken ≡ false → Stands after l.late l.records
   pub few : IsErrOf result fault.Disk → 12 ≤ after.left
   pub reserved : before.reserved ≡ true → after.reserved ≡ true
   pub unset : before.stop ≡ Unset → after.stop ≡ Unset
 
--- What an opening does to its lane.
-pub record Opens (before after : Lane) (result : Result LogView LogFault) : Type 0 where
+-- What an opening does to its lane, where these subscribers may join.
+pub record Opens (late : List ℕ) (before after : Lane) (result : Result LogView LogFault) : Type 0 where
   -- it answers what the lane reads: the records, or the place of the first fault
-  pub gives : OpensAs result (log_text (content before))
+  pub gives : OpensAs result (log_text late (content before))
   -- then a crash leaves these records; the lane reads as before, or as the text of an empty log, by the calls of the
   -- format
-  pub stands : IfOk result (λ l. Stands after l.records)
+  pub stands : IfOk result (λ l. Stands after late l.records)
   pub reads : OnOk result (content after ≡ opened_text (content before))
   pub calls : OnOk result (after.calls ≡ opening_calls (content before) before.calls)
   pub reserved : OnOk result (after.reserved ≡ true)
   -- at every moment of the call a crash leaves what it might have left before, or what reads as before
   pub any_moment : (image : List ℕ) → LeftSince after (moment before) image
-      → MayLeave before image ⊎ (log_text image ≡ log_text (content before))
+      → MayLeave before image ⊎ (log_text late image ≡ log_text late (content before))
   pub unset : before.stop ≡ Unset → after.stop ≡ Unset
 
 -- an answer other than that the disk failed

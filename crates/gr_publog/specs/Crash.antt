@@ -23,28 +23,29 @@ IsBetween gate bytes old image = Torn (gate + 1) (length bytes) old image
 abbrev pub EitherRose : ℕ → ℕ → ℕ → ℕ → Type 0
 EitherRose faults faults' stops stops' = Rose faults faults' ⊎ Rose stops stops'
 
--- a lane has the text of these records, and a crash leaves nothing else
-pub record Stands (l : Lane) (rs : List Record) : Type 0 where
-  pub text : IsSpelled (content l) rs
+-- a lane has the text of these records, where these subscribers may join, and a crash leaves nothing else
+pub record Stands (l : Lane) (late : List ℕ) (rs : List Record) : Type 0 where
+  pub text : IsSpelled late (content l) rs
   pub only : LeavesOnly l (content l)
 
 -- the list before, or with the record
-abbrev pub BeforeOrAfter : List Record → Record → List ℕ → Type 0
-BeforeOrAfter rs r image = (log_text image ≡ Ok rs) ⊎ (log_text image ≡ Ok (rs ++ r ∷ []))
+abbrev pub BeforeOrAfter : List ℕ → List Record → Record → List ℕ → Type 0
+BeforeOrAfter late rs r image = (log_text late image ≡ Ok rs) ⊎ (log_text late image ≡ Ok (rs ++ r ∷ []))
 
--- What a log is seen as: its lane, its records, and whether the disk has failed it.
+-- What a log is seen as: its lane, its records, whether the disk has failed it, and the subscribers that may join.
 pub record LogView : Type 0 where
   pub lane : ℕ
   pub records : List Record
   pub broken : Bool
+  pub late : List ℕ
 
 -- with one more record
 abbrev pub with_record : Record → LogView → LogView
-with_record r l = record { lane = l.lane; records = l.records ++ r ∷ []; broken = l.broken }
+with_record r l = record { lane = l.lane; records = l.records ++ r ∷ []; broken = l.broken; late = l.late }
 
 -- no more to be used
 abbrev pub failed : LogView → LogView
-failed l = record { lane = l.lane; records = l.records; broken = true }
+failed l = record { lane = l.lane; records = l.records; broken = true; late = l.late }
 
 -- a log is opened as what its lane reads: its records, or the place of the first fault
 abbrev pub OpensAs : Result LogView LogFault → Result (List Record) ℕ → Type 0

@@ -1,31 +1,33 @@
 -- The text of a log in its lane: what records spell, and what bytes stand for
 use Rattle.std.specs.Prelude.{◌≡◌, ◌≢◌, ℕ, zero, suc, ◌+◌, ◌-◌, ◌<◌, ◌≤◌, Bool, true, false, ◌==◌, nat_le}
 use Rattle.std.specs.Prelude.{if◌then◌else◌, List, [], ◌∷◌, ◌++◌, length, get_or, take, drop, Result, Ok, Err}
-use Rattle.std.specs.Int.{Width, from_be_bytes, to_be_bytes, w32, w64}
+use Rattle.std.specs.Int.{Width, from_be_bytes, to_be_bytes, w16, w32, w64}
 use Rattle.gr_event.specs.declared.event.Event.{Event as EventPairs}
 use Rattle.gr_event.specs.declared.event.EventFault.{EventFault}
 use Rattle.gr_event.specs.Event.{event_size, event_bytes}
 use Rattle.gr_event.specs.Decode.{event_decoded}
 use Rattle.gr_event.specs.declared.limits.TheConstants.{MAX_EVENT_BYTES}
 use Rattle.gr_publog.specs.declared.record.Record.{Record}
-use Rattle.gr_publog.specs.declared.record.Record.TheVariants.{Event, Mark, Cut}
+use Rattle.gr_publog.specs.declared.record.Record.TheVariants.{Event, Mark, Cut, Join}
 use Rattle.gr_publog.specs.declared.record.State.{State}
-use Rattle.gr_publog.specs.State.{empty_state, after_record, may_settle, may_cut, Follow}
+use Rattle.gr_publog.specs.State.{Standing, first_standing, stands_after, may_settle, may_cut, may_enter, Follow}
 
 -- Writing
 
--- a record: its kind, its tick and, of an event, its number, its size and its bytes
+-- a record: its kind, its tick and, of an event, its number, its size and its bytes; of a join, its subscriber
 abbrev pub record_bytes : Record → List ℕ
 record_bytes (Event tick number event) = 1 ∷ (to_be_bytes w64 tick
     ++ (to_be_bytes w64 number ++ (to_be_bytes w32 (event_size event) ++ event_bytes event)))
 record_bytes (Mark tick) = 2 ∷ to_be_bytes w64 tick
 record_bytes (Cut tick) = 3 ∷ to_be_bytes w64 tick
+record_bytes (Join tick subscriber) = 4 ∷ (to_be_bytes w64 tick ++ to_be_bytes w16 subscriber)
 
 -- how many bytes a record has
 abbrev pub record_size : Record → ℕ
 record_size (Event tick number event) = 21 + event_size event
 record_size (Mark tick) = 9
 record_size (Cut tick) = 9
+record_size (Join tick subscriber) = 11
 
 -- each record behind an open gate
 abbrev pub blocks : List Record → List ℕ
@@ -47,10 +49,11 @@ pub record Closes (bytes front : List ℕ) : Type 0 where
   pub closed : gate ≢ 1
   pub whole : bytes ≡ front ++ gate ∷ tail
 
--- A lane whose text has these records: a closed gate stands behind them, and anything behind that.
-pub record IsSpelled (bytes : List ℕ) (rs : List Record) : Type 0 where
+-- A lane whose text has these records, where these subscribers may join: a closed gate stands behind them, and anything
+-- behind that.
+pub record IsSpelled (late bytes : List ℕ) (rs : List Record) : Type 0 where
   pub text : Closes bytes (front_text rs)
-  pub follow : Follow empty_state rs
+  pub follow : Follow (first_standing late) rs
 
 -- Reading, field by field. What is left is read; a fault carries the place, in a lane of so many bytes, of the field
 
@@ -94,22 +97,29 @@ mark_in total s rest = number_in total 8 w64 (may_settle s) rest >>= λ x. Ok (M
 unfoldable pub cut_in : ℕ → State → List ℕ → Result (Record × List ℕ) ℕ
 cut_in total s rest = number_in total 8 w64 (may_cut s) rest >>= λ x. Ok (Cut x.0, x.1)
 
+unfoldable pub join_in : ℕ → Standing → List ℕ → Result (Record × List ℕ) ℕ
+join_in total s rest = do
+  tick ← number_in total 8 w64 (may_settle s.state) rest
+  subscriber ← number_in total 2 w16 (may_enter s) tick.1
+  Ok (Join tick.0 subscriber.0, subscriber.1)
+
 -- a record
-unfoldable pub record_in : ℕ → State → List ℕ → Result (Record × List ℕ) ℕ
+unfoldable pub record_in : ℕ → Standing → List ℕ → Result (Record × List ℕ) ℕ
 record_in total s [] = Err total
 record_in total s (kind ∷ rest) =
-    if kind == 1 then logged_in total s rest
-    else (if kind == 2 then mark_in total s rest
-    else (if kind == 3 then cut_in total s rest
-    else Err (total - length (kind ∷ rest))))
+    if kind == 1 then logged_in total s.state rest
+    else (if kind == 2 then mark_in total s.state rest
+    else (if kind == 3 then cut_in total s.state rest
+    else (if kind == 4 then join_in total s rest
+    else Err (total - length (kind ∷ rest)))))
 
 -- gates and records in turn up to a closed gate, at most n gates
-unfoldable pub records_in : ℕ → ℕ → State → List ℕ → Result (List Record) ℕ
+unfoldable pub records_in : ℕ → ℕ → Standing → List ℕ → Result (List Record) ℕ
 records_in zero total s rest = Err total
 records_in (suc n) total s [] = Err total
 records_in (suc n) total s (gate ∷ rest) =
     elim (gate == 1) [
-      | true ↦ (record_in total s rest >>= λ x. records_in n total (after_record s x.0) x.1 >>= λ rs. Ok (x.0 ∷ rs))
+      | true ↦ (record_in total s rest >>= λ x. records_in n total (stands_after s x.0) x.1 >>= λ rs. Ok (x.0 ∷ rs))
       | false ↦ Ok []
     ]
 
@@ -118,19 +128,20 @@ abbrev pub header_fault : ℕ → List ℕ → List ℕ → ℕ
 header_fault at (h ∷ hs) (b ∷ bs) = if h == b then header_fault (at + 1) hs bs else at
 header_fault at _ _ = at
 
--- the records of a lane, or the place of the first field that breaks the text. At most 6 bytes are an empty log
-unfoldable pub log_text : List ℕ → Result (List Record) ℕ
-log_text bytes =
+-- the records of a lane, where these subscribers may join, or the place of the first field that breaks the text. At
+-- most 6 bytes are an empty log
+unfoldable pub log_text : List ℕ → List ℕ → Result (List Record) ℕ
+log_text late bytes =
     if nat_le (length bytes) 6 then Ok []
     else (if header_fault 0 header bytes == 5
-    then records_in (length bytes + 1) (length bytes) empty_state (drop 5 bytes)
+    then records_in (length bytes + 1) (length bytes) (first_standing late) (drop 5 bytes)
     else Err (header_fault 0 header bytes))
 
--- The laws
+-- The laws, of each list of subscribers that may join
 
 -- what is spelled is read
 abbrev pub ReadsAsSpelled : Type 0
-ReadsAsSpelled = (bytes : List ℕ) (rs : List Record) → IsSpelled bytes rs → log_text bytes ≡ Ok rs
+ReadsAsSpelled = (late bytes : List ℕ) (rs : List Record) → IsSpelled late bytes rs → log_text late bytes ≡ Ok rs
 
 -- each is a byte
 abbrev pub AreBytes : List ℕ → Type 0
@@ -138,13 +149,14 @@ AreBytes bytes = (i : ℕ) → get_or bytes i 0 < 256
 
 -- what is read is spelled, where there are more than six bytes
 abbrev pub SpellsWhatIsRead : Type 0
-SpellsWhatIsRead = (bytes : List ℕ) (rs : List Record) → AreBytes bytes → 6 < length bytes → log_text bytes ≡ Ok rs
-    → IsSpelled bytes rs
+SpellsWhatIsRead = (late bytes : List ℕ) (rs : List Record) → AreBytes bytes → 6 < length bytes
+    → log_text late bytes ≡ Ok rs → IsSpelled late bytes rs
 
 -- at most six bytes are an empty log, whatever they are
 abbrev pub ReadsShortAsEmpty : Type 0
-ReadsShortAsEmpty = (bytes : List ℕ) → length bytes ≤ 6 → log_text bytes ≡ Ok []
+ReadsShortAsEmpty = (late bytes : List ℕ) → length bytes ≤ 6 → log_text late bytes ≡ Ok []
 
 -- nothing else is spelled by these bytes
 abbrev pub SpellsOneList : Type 0
-SpellsOneList = (bytes : List ℕ) (rs rs' : List Record) → IsSpelled bytes rs → IsSpelled bytes rs' → rs ≡ rs'
+SpellsOneList = (late bytes : List ℕ) (rs rs' : List Record) → IsSpelled late bytes rs → IsSpelled late bytes rs'
+    → rs ≡ rs'

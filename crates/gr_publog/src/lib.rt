@@ -11,6 +11,7 @@ pub mod law;
 pub mod log;
 mod read;
 pub mod record;
+mod standing;
 mod steps;
 
 pub use entries::Entries;

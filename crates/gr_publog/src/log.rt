@@ -2,9 +2,11 @@
 
 ghost use Rattle.std.specs.Prelude.{◌≡◌, ◌≢◌, ◌↔◌, ℕ, ◌+◌, ◌≤◌, ◌++◌, ◌∷◌, [], true, false, length, Some};
 ghost use Rattle.std.specs.Prelude.{Err, OnOk, OnErr, IsTrue, IfOk, IsErrOf};
+ghost use Rattle.gr_event.specs.declared.limits.TheConstants.{MAX_JOINS};
 ghost use Rattle.gr_out.specs.Lane.{with_room};
 ghost use Rattle.gr_out.specs.Stops.{StaysFaultless};
-ghost use Rattle.gr_publog.specs.State.{empty_state, state_of, live_events, may_follow, Follow, IsSound};
+ghost use Rattle.gr_publog.specs.State.{first_standing, standing_of, state_of, joins_of, live_events, may_follow};
+ghost use Rattle.gr_publog.specs.State.{Follow, IsSound};
 ghost use Rattle.gr_publog.specs.Text.{front_text, record_bytes};
 ghost use Rattle.gr_publog.specs.Crash.{LogView, with_record, failed};
 ghost use Rattle.gr_publog.specs.Calls.{IsReady, GoesOn, Appends, Opens, Tally, Causes, Leaves};
@@ -12,9 +14,10 @@ ghost use Rattle.gr_publog.specs.Calls.{IsReady, GoesOn, Appends, Opens, Tally, 
 use crate::entries::{Entries, note_record};
 use crate::history::History;
 use crate::read::{Found, log_in};
-use crate::record::{LogFault, Memory, Record, State};
+use crate::record::{LogFault, Memory, Record};
+use crate::standing::Standing;
 use crate::steps::{append_behind, bytes_in, ready_lane, write_empty};
-use gr_event::Event;
+use gr_event::{Event, Joins};
 use gr_out::Disk;
 use smallvec::SmallVec;
 use std::alloc::{AllocError, Global};
@@ -27,16 +30,16 @@ pub(crate) const LAST_GATE: u64 = 1 << 62;
 /// How many bytes an event's record has beside the event, with the gate behind it.
 const EVENT_ROOM: usize = 22;
 
-/// A log, seen as its lane, its records, and whether the disk has failed it. What it keeps is what the records stand
-/// for: the events past the cut, three numbers, and the place of the closed gate behind the text. So its memory and the
-/// cost of a call do not grow with what was cut.
+/// A log, seen as its lane, its records, whether the disk has failed it, and the subscribers that may join. What it
+/// keeps is what the records stand for: the events past the cut, three numbers, the joins, and the place of the closed
+/// gate behind the text. So its memory and the cost of a call do not grow with what was cut.
 #[derive(Drop)]
 pub struct Log {
     alloc: Global,
     lane: u16,
     gate: u64,
     history: History,
-    state: State,
+    standing: Standing,
     events: Entries,
     broken: bool,
 }
@@ -44,10 +47,16 @@ pub struct Log {
 impl Model for Log {
     ghost Value = { LogView };
 
-    ghost view = { λ l. record { lane = l.lane; records = l.history.records; broken = l.broken } };
+    ghost view = { λ l. record {
+      lane = l.lane;
+      records = l.history.records;
+      broken = l.broken;
+      late = l.standing.late;
+    } };
 
-    ghost invariant = { λ l. (l.gate ≡ length (front_text l.history.records)) × (l.state ≡ state_of l.history.records)
-        × Follow empty_state l.history.records × (l.events ≡ live_events l.history.records) };
+    ghost invariant = { λ l. (l.gate ≡ length (front_text l.history.records))
+        × (l.standing ≡ standing_of l.standing.late l.history.records)
+        × Follow (first_standing l.standing.late) l.history.records × (l.events ≡ live_events l.history.records) };
 }
 
 /// The bytes of a record, and a closed gate behind them. Those of a short one take no memory.
@@ -82,6 +91,11 @@ fn record_text(alloc: Global, entry: &Record) -> Result<RecordText, Memory>
         Record::Cut { tick } => {
             bytes.push(3)?;
             bytes.extend_from_slice(&tick.to_be_bytes())?;
+        }
+        Record::Join { tick, subscriber } => {
+            bytes.push(4)?;
+            bytes.extend_from_slice(&tick.to_be_bytes())?;
+            bytes.extend_from_slice(&subscriber.to_be_bytes())?;
         }
     }
     bytes.push(0)?;
@@ -118,11 +132,18 @@ fn prepare<D: Disk>(
 }
 
 impl Log {
-    /// Opens the log of a lane: room, a sync, and what the lane holds. A lane of at most 6 bytes is an empty log, and
-    /// gets the text of one. `Damaged` comes exactly where the lane holds no log, and `Disk` only where the disk
-    /// failed in this call.
-    pub fn open<D: Disk>(alloc: Global, disk: &mut D, lane: u16) -> Result<Log, LogFault>
-        ensures opens { D.tells → Opens (D.lane_of disk.old lane) (D.lane_of disk.new lane) result }
+    /// Opens the log of a lane, in which these subscribers may join: room, a sync, and what the lane holds. A lane of
+    /// at most 6 bytes is an empty log, and gets the text of one. `Damaged` comes exactly where the lane holds no log
+    /// of theirs, and `Disk` only where the disk failed in this call.
+    pub fn open<D: Disk>(
+        alloc: Global,
+        disk: &mut D,
+        lane: u16,
+        late: &[u16],
+    ) -> Result<Log, LogFault>
+        requires late { length late.now ≤ MAX_JOINS }
+        ensures opens { D.tells → Opens late.now (D.lane_of disk.old lane) (D.lane_of disk.new lane) result }
+        ensures late { IfOk result (λ l. l.late ≡ late.now) }
         ensures lane { IfOk result (λ l. l.lane ≡ lane) }
         ensures whole { IfOk result (λ l. l.broken ≡ false) }
         ensures never_reopen { result ≢ Err LogFault.Reopen }
@@ -139,8 +160,12 @@ impl Log {
             Err(fault) => return Err(fault),
         };
         if size <= 6 {
+            let standing = match Standing::new(alloc, late) {
+                Ok(standing) => standing,
+                Err(_) => return Err(LogFault::Memory),
+            };
             return match write_empty(disk, lane) {
-                Ok(()) => Ok(Log::empty(alloc, lane)),
+                Ok(()) => Ok(Log::empty(alloc, lane, late, standing)),
                 Err(_) => Err(LogFault::Disk),
             };
         }
@@ -148,41 +173,47 @@ impl Log {
             Ok(bytes) => bytes,
             Err(fault) => return Err(fault),
         };
-        match log_in(alloc, &bytes) {
-            Ok(found) => Ok(Log::of(alloc, lane, found)),
+        match log_in(alloc, late, &bytes) {
+            Ok(found) => Ok(Log::of(alloc, lane, late, found)),
             Err(fault) => Err(fault),
         }
     }
 
-    /// An empty log.
-    fn empty(alloc: Global, lane: u16) -> Log
-        ensures { result ≡ record { lane = lane; records = []; broken = false } }
+    /// An empty log, which stands so before the first record where these subscribers may join.
+    fn empty(alloc: Global, lane: u16, late: &[u16], standing: Standing) -> Log
+        requires { standing ≡ first_standing late.now }
+        ensures { result ≡ record { lane = lane; records = []; broken = false; late = late.now } }
     {
+        let _ = late.len();
+        let history = History::new();
+        let events = Entries::new(alloc);
         Log {
             alloc,
             lane,
             gate: 5,
-            history: History::new(),
-            state: State::new(),
-            events: Entries::new(alloc),
+            history,
+            standing,
+            events,
             broken: false,
         }
     }
 
-    /// The log of a lane in which this was found.
-    fn of(alloc: Global, lane: u16, found: Found) -> Log
+    /// The log of a lane in which this was found, where these subscribers may join.
+    fn of(alloc: Global, lane: u16, late: &[u16], found: Found) -> Log
         requires gate { found.gate ≡ length (front_text found.history.records) }
-        requires state { found.state ≡ state_of found.history.records }
-        requires follow { Follow empty_state found.history.records }
+        requires standing { found.standing ≡ standing_of late.now found.history.records }
+        requires follow { Follow (first_standing late.now) found.history.records }
         requires events { found.events ≡ live_events found.history.records }
-        ensures { result ≡ record { lane = lane; records = found.history.records; broken = false } }
+        ensures { let records = found.history.records in
+            result ≡ record { lane = lane; records = records; broken = false; late = late.now } }
     {
+        let _ = late.len();
         Log {
             alloc,
             lane,
             gate: found.gate as u64,
             history: found.history,
-            state: found.state,
+            standing: found.standing,
             events: found.events,
             broken: false,
         }
@@ -196,7 +227,7 @@ impl Log {
     ///
     /// It costs the record's bytes, and for a Cut the events that it cuts.
     pub fn append<D: Disk>(&mut self, disk: &mut D, entry: &Record) -> Result<(), LogFault>
-        requires follows { may_follow (state_of self.old.records) entry.now ≡ true }
+        requires follows { may_follow (standing_of self.old.late self.old.records) entry.now ≡ true }
         requires stands { D.tells → IsReady self.old (D.lane_of disk.old self.old.lane) }
         ensures log { Leaves self.old (with_record entry.now self.old) (failed self.old) self.new result }
         ensures lane { let l = self.old in let before = D.lane_of disk.old l.lane in
@@ -221,6 +252,10 @@ impl Log {
             Ok(()) => {}
             Err(_) => return Err(LogFault::Memory),
         }
+        let joins = match self.standing.joins_with(entry) {
+            Ok(joins) => joins,
+            Err(_) => return Err(LogFault::Memory),
+        };
         let bytes = match prepare(self.alloc, disk, self.lane, self.gate, entry) {
             Ok(bytes) => bytes,
             Err(_) => return Err(LogFault::Memory),
@@ -233,7 +268,7 @@ impl Log {
             }
         }
         self.gate += bytes.len() as u64;
-        self.state.note(entry);
+        self.standing.note(entry, joins);
         note_record(&mut events.entries, entry);
         self.history = self.history.then(entry);
         Ok(())
@@ -241,15 +276,16 @@ impl Log {
 
     /// Whether a record may follow those of the log. Takes no memory.
     pub fn may_follow(&self, entry: &Record) -> bool
-        ensures { result ≡ may_follow (state_of self.now.records) entry.now }
+        ensures { result ≡ may_follow (standing_of self.now.late self.now.records) entry.now }
     {
-        match entry {
-            Record::Event { tick, number, .. } => {
-                self.state.may_settle(*tick) && *number > 0 && *number - 1 == self.state.last
-            }
-            Record::Mark { tick } => self.state.may_settle(*tick),
-            Record::Cut { tick } => self.state.may_cut(*tick),
-        }
+        self.standing.may_follow(entry)
+    }
+
+    /// The joins of the log, in order. Takes no memory.
+    pub fn joins(&self) -> &Joins
+        ensures { result.now ≡ joins_of self.now.records }
+    {
+        self.standing.joins()
     }
 
     /// The logged events past the cut. Takes no memory.
@@ -263,21 +299,21 @@ impl Log {
     pub fn last(&self) -> u64
         ensures { result ≡ (state_of self.now.records).last }
     {
-        self.state.last
+        self.standing.state().last
     }
 
-    /// The greatest tick of an Event or a Mark, 0 where there is none. Takes no memory.
+    /// The greatest tick of an Event, a Mark or a Join, 0 where there is none. Takes no memory.
     pub fn settled(&self) -> u64
         ensures { result ≡ (state_of self.now.records).settled }
     {
-        self.state.settled
+        self.standing.state().settled
     }
 
     /// The tick of the last Cut, 0 where there is none. Takes no memory.
     pub fn cut(&self) -> u64
         ensures { result ≡ (state_of self.now.records).cut }
     {
-        self.state.cut
+        self.standing.state().cut
     }
 
     /// Whether there is no record. Takes no memory.
@@ -291,7 +327,7 @@ impl Log {
     /// memory.
     pub fn is_broken(&self) -> bool
         ensures broken { result ≡ self.now.broken }
-        ensures follow { Follow empty_state self.now.records }
+        ensures follow { Follow (first_standing self.now.late) self.now.records }
     {
         self.broken
     }

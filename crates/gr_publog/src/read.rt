@@ -2,19 +2,21 @@
 
 ghost use Rattle.std.specs.Prelude.{◌≡◌, ◌+◌, ◌-◌, ◌≤◌, ◌<◌, ◌^◌, ◌==◌, ◌∷◌, ◌++◌, [], length, IfOk, MatchResult, Ok};
 ghost use Rattle.std.specs.Prelude.{Err, nat_le, true, drop};
-ghost use Rattle.std.specs.Int.{from_be_bytes, to_be_bytes, w32, w64};
+ghost use Rattle.std.specs.Int.{from_be_bytes, to_be_bytes, w16, w32, w64};
 ghost use Rattle.gr_event.specs.Event.{event_bytes};
 ghost use Rattle.gr_event.specs.Limits.{IsEvent};
-ghost use Rattle.gr_publog.specs.State.{may_settle, may_cut, may_follow, IsSound, Follow, empty_state, state_of};
-ghost use Rattle.gr_publog.specs.State.{live_events};
-ghost use Rattle.gr_publog.specs.Text.{field_in, number_in, event_in, logged_in, mark_in, cut_in, record_in};
+ghost use Rattle.gr_event.specs.declared.limits.TheConstants.{MAX_JOINS};
+ghost use Rattle.gr_publog.specs.State.{may_settle, may_cut, may_enter, may_follow, IsSound, Follow, first_standing};
+ghost use Rattle.gr_publog.specs.State.{standing_of, live_events};
+ghost use Rattle.gr_publog.specs.Text.{field_in, number_in, event_in, logged_in, mark_in, cut_in, join_in, record_in};
 ghost use Rattle.gr_publog.specs.Text.{records_in, record_bytes, blocks, front_text, header, header_fault, Closes};
 ghost use Rattle.gr_publog.specs.Text.{IsSpelled, log_text};
 ghost use Rattle.gr_publog.specs.Gives.{Fails};
 
 use crate::entries::{Entries, note_record};
 use crate::history::History;
-use crate::record::{LogFault, Record, State};
+use crate::record::{LogFault, Record};
+use crate::standing::Standing;
 use byteorder::{BigEndian, ByteOrder};
 use gr_event::{Event, EventFault, MAX_EVENT_BYTES};
 use std::alloc::Global;
@@ -63,18 +65,32 @@ fn four(field: &[u8]) -> u32
     BigEndian::read_u32(field)
 }
 
-/// The tick of an Event or a Mark.
-fn settling_in<'a>(total: usize, state: &State, rest: &'a [u8]) -> Result<(u64, &'a [u8]), LogFault>
+/// The number that two bytes spell.
+#[tactic(auto, using(crate::proofs::Numbers::spells_two))]
+fn two(field: &[u8]) -> u16
+    requires { length field.now ≡ 2 }
+    ensures value { result ≡ from_be_bytes w16 field.now }
+    ensures spelled { to_be_bytes w16 result ≡ field.now }
+{
+    BigEndian::read_u16(field)
+}
+
+/// The tick of an Event, a Mark or a Join.
+fn settling_in<'a>(
+    total: usize,
+    standing: &Standing,
+    rest: &'a [u8],
+) -> Result<(u64, &'a [u8]), LogFault>
     requires { length rest.now ≤ total }
-    ensures gives { let read = number_in total 8 w64 (may_settle state.now) rest.now in
+    ensures gives { let read = number_in total 8 w64 (may_settle standing.now.state) rest.now in
         MatchResult result (λ x. read ≡ Ok (x.0, x.1.now)) (λ e. Fails e read) }
-    ensures may { IfOk result (λ x. may_settle state.now x.0 ≡ true) }
+    ensures may { IfOk result (λ x. may_settle standing.now.state x.0 ≡ true) }
     ensures spelled { IfOk result (λ x. rest.now ≡ to_be_bytes w64 x.0 ++ x.1.now) }
     ensures within { IfOk result (λ x. 8 + length x.1.now ≡ length rest.now) }
 {
     let (field, left) = field_in(total, 8, rest)?;
     let tick = eight(field);
-    if !state.may_settle(tick) {
+    if !standing.may_settle(tick) {
         return Err(LogFault::Damaged {
             at: place(total, rest),
         });
@@ -83,17 +99,21 @@ fn settling_in<'a>(total: usize, state: &State, rest: &'a [u8]) -> Result<(u64, 
 }
 
 /// The tick of a Cut.
-fn cutting_in<'a>(total: usize, state: &State, rest: &'a [u8]) -> Result<(u64, &'a [u8]), LogFault>
+fn cutting_in<'a>(
+    total: usize,
+    standing: &Standing,
+    rest: &'a [u8],
+) -> Result<(u64, &'a [u8]), LogFault>
     requires { length rest.now ≤ total }
-    ensures gives { let read = number_in total 8 w64 (may_cut state.now) rest.now in
+    ensures gives { let read = number_in total 8 w64 (may_cut standing.now.state) rest.now in
         MatchResult result (λ x. read ≡ Ok (x.0, x.1.now)) (λ e. Fails e read) }
-    ensures may { IfOk result (λ x. may_cut state.now x.0 ≡ true) }
+    ensures may { IfOk result (λ x. may_cut standing.now.state x.0 ≡ true) }
     ensures spelled { IfOk result (λ x. rest.now ≡ to_be_bytes w64 x.0 ++ x.1.now) }
     ensures within { IfOk result (λ x. 8 + length x.1.now ≡ length rest.now) }
 {
     let (field, left) = field_in(total, 8, rest)?;
     let tick = eight(field);
-    if !state.may_cut(tick) {
+    if !standing.may_cut(tick) {
         return Err(LogFault::Damaged {
             at: place(total, rest),
         });
@@ -102,22 +122,49 @@ fn cutting_in<'a>(total: usize, state: &State, rest: &'a [u8]) -> Result<(u64, &
 }
 
 /// The number of an Event.
-fn next_in<'a>(total: usize, last: u64, rest: &'a [u8]) -> Result<(u64, &'a [u8]), LogFault>
+fn next_in<'a>(
+    total: usize,
+    standing: &Standing,
+    rest: &'a [u8],
+) -> Result<(u64, &'a [u8]), LogFault>
     requires { length rest.now ≤ total }
-    ensures gives { let read = number_in total 8 w64 (λ n. n == last + 1) rest.now in
+    ensures gives { let read = number_in total 8 w64 (λ n. n == standing.now.state.last + 1) rest.now in
         MatchResult result (λ x. read ≡ Ok (x.0, x.1.now)) (λ e. Fails e read) }
-    ensures next { IfOk result (λ x. x.0 ≡ last + 1) }
+    ensures next { IfOk result (λ x. (x.0 == standing.now.state.last + 1) ≡ true) }
     ensures spelled { IfOk result (λ x. rest.now ≡ to_be_bytes w64 x.0 ++ x.1.now) }
     ensures within { IfOk result (λ x. 8 + length x.1.now ≡ length rest.now) }
 {
     let (field, left) = field_in(total, 8, rest)?;
     let number = eight(field);
-    if number == 0 || number - 1 != last {
+    if !standing.is_next(number) {
         return Err(LogFault::Damaged {
             at: place(total, rest),
         });
     }
     Ok((number, left))
+}
+
+/// The subscriber of a Join.
+fn entering_in<'a>(
+    total: usize,
+    standing: &Standing,
+    rest: &'a [u8],
+) -> Result<(u16, &'a [u8]), LogFault>
+    requires { length rest.now ≤ total }
+    ensures gives { let read = number_in total 2 w16 (may_enter standing.now) rest.now in
+        MatchResult result (λ x. read ≡ Ok (x.0, x.1.now)) (λ e. Fails e read) }
+    ensures may { IfOk result (λ x. may_enter standing.now x.0 ≡ true) }
+    ensures spelled { IfOk result (λ x. rest.now ≡ to_be_bytes w16 x.0 ++ x.1.now) }
+    ensures within { IfOk result (λ x. 2 + length x.1.now ≡ length rest.now) }
+{
+    let (field, left) = field_in(total, 2, rest)?;
+    let subscriber = two(field);
+    if !standing.may_enter(subscriber) {
+        return Err(LogFault::Damaged {
+            at: place(total, rest),
+        });
+    }
+    Ok((subscriber, left))
 }
 
 /// The size of an event.
@@ -172,19 +219,19 @@ fn event_in<'a>(
 fn logged_in<'a>(
     alloc: Global,
     total: usize,
-    state: &State,
+    standing: &Standing,
     rest: &'a [u8],
 ) -> Result<(Record, &'a [u8]), LogFault>
     requires { length rest.now ≤ total }
-    ensures gives { let read = logged_in total state.now rest.now in
+    ensures gives { let read = logged_in total standing.now.state rest.now in
         MatchResult result (λ x. read ≡ Ok (x.0, x.1.now)) (λ e. Fails e read) }
-    ensures may { IfOk result (λ x. may_follow state.now x.0 ≡ true) }
+    ensures may { IfOk result (λ x. may_follow standing.now x.0 ≡ true) }
     ensures sound { IfOk result (λ x. IsSound x.0) }
     ensures spelled { IfOk result (λ x. 1 ∷ rest.now ≡ record_bytes x.0 ++ x.1.now) }
     ensures within { IfOk result (λ x. length x.1.now ≤ length rest.now) }
 {
-    let (tick, behind_tick) = settling_in(total, state, rest)?;
-    let (number, behind_number) = next_in(total, state.last, behind_tick)?;
+    let (tick, behind_tick) = settling_in(total, standing, rest)?;
+    let (number, behind_number) = next_in(total, standing, behind_tick)?;
     let (size, behind_size) = size_in(total, behind_number)?;
     let (event, left) = event_in(alloc, total, size, behind_size)?;
     Ok((
@@ -199,32 +246,60 @@ fn logged_in<'a>(
 
 /// A Mark behind its kind.
 #[tactic(auto, unfolding(crate::specs::Text::mark_in))]
-fn mark_in<'a>(total: usize, state: &State, rest: &'a [u8]) -> Result<(Record, &'a [u8]), LogFault>
+fn mark_in<'a>(
+    total: usize,
+    standing: &Standing,
+    rest: &'a [u8],
+) -> Result<(Record, &'a [u8]), LogFault>
     requires { length rest.now ≤ total }
-    ensures gives { let read = mark_in total state.now rest.now in
+    ensures gives { let read = mark_in total standing.now.state rest.now in
         MatchResult result (λ x. read ≡ Ok (x.0, x.1.now)) (λ e. Fails e read) }
-    ensures may { IfOk result (λ x. may_follow state.now x.0 ≡ true) }
+    ensures may { IfOk result (λ x. may_follow standing.now x.0 ≡ true) }
     ensures sound { IfOk result (λ x. IsSound x.0) }
     ensures spelled { IfOk result (λ x. 2 ∷ rest.now ≡ record_bytes x.0 ++ x.1.now) }
     ensures within { IfOk result (λ x. length x.1.now ≤ length rest.now) }
 {
-    let (tick, left) = settling_in(total, state, rest)?;
+    let (tick, left) = settling_in(total, standing, rest)?;
     Ok((Record::Mark { tick }, left))
 }
 
 /// A Cut behind its kind.
 #[tactic(auto, unfolding(crate::specs::Text::cut_in))]
-fn cut_in<'a>(total: usize, state: &State, rest: &'a [u8]) -> Result<(Record, &'a [u8]), LogFault>
+fn cut_in<'a>(
+    total: usize,
+    standing: &Standing,
+    rest: &'a [u8],
+) -> Result<(Record, &'a [u8]), LogFault>
     requires { length rest.now ≤ total }
-    ensures gives { let read = cut_in total state.now rest.now in
+    ensures gives { let read = cut_in total standing.now.state rest.now in
         MatchResult result (λ x. read ≡ Ok (x.0, x.1.now)) (λ e. Fails e read) }
-    ensures may { IfOk result (λ x. may_follow state.now x.0 ≡ true) }
+    ensures may { IfOk result (λ x. may_follow standing.now x.0 ≡ true) }
     ensures sound { IfOk result (λ x. IsSound x.0) }
     ensures spelled { IfOk result (λ x. 3 ∷ rest.now ≡ record_bytes x.0 ++ x.1.now) }
     ensures within { IfOk result (λ x. length x.1.now ≤ length rest.now) }
 {
-    let (tick, left) = cutting_in(total, state, rest)?;
+    let (tick, left) = cutting_in(total, standing, rest)?;
     Ok((Record::Cut { tick }, left))
+}
+
+/// A Join behind its kind.
+#[tactic(auto, unfolding(crate::specs::Text::join_in))]
+fn join_in<'a>(
+    total: usize,
+    standing: &Standing,
+    rest: &'a [u8],
+) -> Result<(Record, &'a [u8]), LogFault>
+    requires { length rest.now ≤ total }
+    ensures gives { let read = join_in total standing.now rest.now in
+        MatchResult result (λ x. read ≡ Ok (x.0, x.1.now)) (λ e. Fails e read) }
+    ensures may { IfOk result (λ x. may_follow standing.now x.0 ≡ true) }
+    ensures sound { IfOk result (λ x. IsSound x.0) }
+    ensures spelled { IfOk result (λ x. 4 ∷ rest.now ≡ record_bytes x.0 ++ x.1.now) }
+    ensures within { IfOk result (λ x. length x.1.now ≤ length rest.now) }
+{
+    let (tick, behind_tick) = settling_in(total, standing, rest)?;
+    let (subscriber, left) = entering_in(total, standing, behind_tick)?;
+    Ok((Record::Join { tick, subscriber }, left))
 }
 
 /// A record, and what is left behind it.
@@ -232,22 +307,23 @@ fn cut_in<'a>(total: usize, state: &State, rest: &'a [u8]) -> Result<(Record, &'
 fn record_in<'a>(
     alloc: Global,
     total: usize,
-    state: &State,
+    standing: &Standing,
     rest: &'a [u8],
 ) -> Result<(Record, &'a [u8]), LogFault>
     requires { length rest.now ≤ total }
-    ensures gives { let read = record_in total state.now rest.now in
+    ensures gives { let read = record_in total standing.now rest.now in
         MatchResult result (λ x. read ≡ Ok (x.0, x.1.now)) (λ e. Fails e read) }
-    ensures may { IfOk result (λ x. may_follow state.now x.0 ≡ true) }
+    ensures may { IfOk result (λ x. may_follow standing.now x.0 ≡ true) }
     ensures sound { IfOk result (λ x. IsSound x.0) }
     ensures spelled { IfOk result (λ x. rest.now ≡ record_bytes x.0 ++ x.1.now) }
     ensures within { IfOk result (λ x. length x.1.now < length rest.now) }
 {
     match rest {
         [] => Err(LogFault::Damaged { at: total as u64 }),
-        [1, behind @ ..] => logged_in(alloc, total, state, behind),
-        [2, behind @ ..] => mark_in(total, state, behind),
-        [3, behind @ ..] => cut_in(total, state, behind),
+        [1, behind @ ..] => logged_in(alloc, total, standing, behind),
+        [2, behind @ ..] => mark_in(total, standing, behind),
+        [3, behind @ ..] => cut_in(total, standing, behind),
+        [4, behind @ ..] => join_in(total, standing, behind),
         _ => Err(LogFault::Damaged {
             at: place(total, rest),
         }),
@@ -274,8 +350,8 @@ fn header_fault(bytes: &[u8]) -> u64
 pub struct Found {
     /// The records that it spells, for the proofs alone.
     pub history: History,
-    /// What they stand for.
-    pub state: State,
+    /// Where they make the log stand.
+    pub standing: Standing,
     /// The events past their cut.
     pub events: Entries,
     /// How many bytes stand before the closed gate.
@@ -283,18 +359,19 @@ pub struct Found {
 }
 
 /// What stands behind the header of a lane of so many bytes, up to a closed gate.
-fn records_in(alloc: Global, total: usize, bytes: &[u8]) -> Result<Found, LogFault>
+fn records_in(alloc: Global, total: usize, late: &[u16], bytes: &[u8]) -> Result<Found, LogFault>
     requires within { length bytes.now ≤ total }
-    ensures gives { let read = records_in (total + 1) total empty_state bytes.now in
+    requires late { length late.now ≤ MAX_JOINS }
+    ensures gives { let read = records_in (total + 1) total (first_standing late.now) bytes.now in
         MatchResult result (λ x. read ≡ Ok x.history.records) (λ e. Fails e read) }
-    ensures state { IfOk result (λ x. x.state ≡ state_of x.history.records) }
-    ensures follow { IfOk result (λ x. Follow empty_state x.history.records) }
+    ensures standing { IfOk result (λ x. x.standing ≡ standing_of late.now x.history.records) }
+    ensures follow { IfOk result (λ x. Follow (first_standing late.now) x.history.records) }
     ensures events { IfOk result (λ x. x.events ≡ live_events x.history.records) }
     ensures spelled { IfOk result (λ x. Closes bytes.now (blocks x.history.records)) }
     ensures gate { IfOk result (λ x. x.gate ≡ length (blocks x.history.records)) }
 {
     let mut history = History::new();
-    let mut state = State::new();
+    let mut standing = Standing::new(alloc, late)?;
     let mut entries = VecDeque::new(alloc);
     let mut rest = bytes;
     'gates: loop {
@@ -304,16 +381,17 @@ fn records_in(alloc: Global, total: usize, bytes: &[u8]) -> Result<Found, LogFau
         if rest[0] != 1 {
             return Ok(Found {
                 history,
-                state,
+                standing,
                 events: Entries { entries },
                 gate: bytes.len() - rest.len(),
             });
         }
-        match record_in(alloc, total, &state, &rest[1..]) {
+        match record_in(alloc, total, &standing, &rest[1..]) {
             Ok((entry, left)) => {
                 entries.reserve(1)?;
+                let joins = standing.joins_with(&entry)?;
                 note_record(&mut entries, &entry);
-                state.note(&entry);
+                standing.note(&entry, joins);
                 history = history.then(&entry);
                 drop(entry);
                 rest = left;
@@ -325,13 +403,14 @@ fn records_in(alloc: Global, total: usize, bytes: &[u8]) -> Result<Found, LogFau
 
 /// What a lane of more than 6 bytes holds.
 #[tactic(auto, unfolding(crate::specs::Text::log_text))]
-pub fn log_in(alloc: Global, bytes: &[u8]) -> Result<Found, LogFault>
-    requires { 6 < length bytes.now }
-    ensures gives { let read = log_text bytes.now in
+pub fn log_in(alloc: Global, late: &[u16], bytes: &[u8]) -> Result<Found, LogFault>
+    requires long { 6 < length bytes.now }
+    requires late { length late.now ≤ MAX_JOINS }
+    ensures gives { let read = log_text late.now bytes.now in
         MatchResult result (λ x. read ≡ Ok x.history.records) (λ e. Fails e read) }
-    ensures state { IfOk result (λ x. x.state ≡ state_of x.history.records) }
+    ensures standing { IfOk result (λ x. x.standing ≡ standing_of late.now x.history.records) }
     ensures events { IfOk result (λ x. x.events ≡ live_events x.history.records) }
-    ensures spelled { IfOk result (λ x. IsSpelled bytes.now x.history.records) }
+    ensures spelled { IfOk result (λ x. IsSpelled late.now bytes.now x.history.records) }
     ensures gate { IfOk result (λ x. x.gate ≡ length (front_text x.history.records)) }
     ensures inside { IfOk result (λ x. x.gate < length bytes.now) }
 {
@@ -339,10 +418,10 @@ pub fn log_in(alloc: Global, bytes: &[u8]) -> Result<Found, LogFault>
     if fault != 5 {
         return Err(LogFault::Damaged { at: fault });
     }
-    let found = records_in(alloc, bytes.len(), &bytes[5..])?;
+    let found = records_in(alloc, bytes.len(), late, &bytes[5..])?;
     Ok(Found {
         history: found.history,
-        state: found.state,
+        standing: found.standing,
         events: found.events,
         gate: 5 + found.gate,
     })

@@ -18,7 +18,7 @@ pub const MAX_TICK: u64 = 1 << 62;
 pub enum Record {
     /// An event was published at a tick. Numbers rise by one from 1.
     Event {
-        /// The tick, past every Event and Mark before.
+        /// The tick, past every Event, Mark and Join before.
         tick: u64,
         /// Its number among the events of the publisher.
         number: u64,
@@ -27,13 +27,20 @@ pub enum Record {
     },
     /// Nothing more is published up to a tick.
     Mark {
-        /// The tick, past every Event and Mark before.
+        /// The tick, past every Event, Mark and Join before.
         tick: u64,
     },
     /// Nothing up to a tick is asked for again.
     Cut {
-        /// The tick, past every Cut before and not past the last Event or Mark.
+        /// The tick, past every Cut before and not past the last Event, Mark or Join.
         tick: u64,
+    },
+    /// A late subscriber joins, and nothing more is published up to a tick.
+    Join {
+        /// The tick, past every Event, Mark and Join before.
+        tick: u64,
+        /// The number of the subscriber in its topology. It has not joined before.
+        subscriber: u16,
     },
 }
 
@@ -80,12 +87,12 @@ impl<T: Drop> From<AllocFailed<T>> for LogFault {
     }
 }
 
-/// What a list of records stands for.
+/// The numbers that a list of records stands for.
 #[derive(Clone, Copy, Debug, PartialEq, Eq)]
 pub struct State {
     /// The number of the last event, or 0.
     pub last: u64,
-    /// The greatest tick of an Event or a Mark, or 0.
+    /// The greatest tick of an Event, a Mark or a Join, or 0.
     pub settled: u64,
     /// The tick of the last Cut, or 0.
     pub cut: u64,
@@ -114,10 +121,11 @@ impl State {
             }
             Record::Mark { tick } => self.settled = *tick,
             Record::Cut { tick } => self.cut = *tick,
+            Record::Join { tick, .. } => self.settled = *tick,
         }
     }
 
-    /// Whether an Event or a Mark may have this tick.
+    /// Whether an Event, a Mark or a Join may have this tick.
     pub fn may_settle(&self, tick: u64) -> bool
         ensures { result ≡ may_settle self.now tick }
     {

@@ -41,14 +41,14 @@ opened_named t w o h = all_of (IsNamed t) w.told (subst (Each (IsNamed t)) (sym 
 pub named_here : (t : TopologyView) (w : WorldView) → IsOrderly (net_of t) → IsOpened t w → AllNamed w.topo w.told
 named_here t w o h = subst (λ x. AllNamed x w.told) (sym h.topo) (opened_named t w o h)
 
-nothing_read : log_text [] ≡ Ok []
+nothing_read : (late : List ℕ) → log_text late [] ≡ Ok []
 unfolding log_text
-nothing_read = refl
+nothing_read late = refl
 
 -- a lane that reads nothing is not damaged
 pub empty_is_whole : (t : TopologyView) (lanes : ℕ → Lane) (b p at : ℕ) → AreEmpty t lanes → IsDamagedAt t b p at lanes → ⊥
 empty_is_whole t lanes b p at e d =
     let nothing : content (lanes (2 * p)) ≡ [] = e p d.publisher in
-    let read : log_text [] ≡ Err at = subst (λ xs. log_text xs ≡ Err at) nothing d.fault in
-    let differ : Ok [] ≡ Err at = sym nothing_read ∙ read in
+    let read : log_text t.late [] ≡ Err at = subst (λ xs. log_text t.late xs ≡ Err at) nothing d.fault in
+    let differ : Ok [] ≡ Err at = sym (nothing_read t.late) ∙ read in
     cc

@@ -36,11 +36,11 @@ unfolding sent_line
 sent_is_named t n f g = one f.body
   where
     one : (y : Body) → IsNamed t (elim y [
-      | body.Knowledge runs ↦ line.SentKnow n f.head.from f.head.to f.head.publisher runs
+      | body.Knowledge runs js ↦ line.SentKnow n f.head.from f.head.to f.head.publisher runs js
       | body.Curiosity runs ↦ line.SentWant n f.head.from f.head.to f.head.publisher runs
       | body.Expect tick ↦ line.SentExpect n f.head.from f.head.to f.head.publisher tick
     ])
-    one (body.Knowledge runs) = (g.from, g.to, g.publisher)
+    one (body.Knowledge runs js) = (g.from, g.to, g.publisher)
     one (body.Curiosity runs) = (g.from, g.to, g.publisher)
     one (body.Expect tick) = (g.from, g.to, g.publisher)
 

@@ -46,9 +46,9 @@ tells_on o l (Err e) t = tt
 -- each frame that a broker sends for a publisher goes over an edge
 pub over_edges : (net : Net) (p b : ℕ) → IsNet net → p < net.publishers → b < net.brokers → SentOn net p b (GoesOverEdge net)
 over_edges net p b n j i = record {
-  know = λ c part m. record { publisher = j; from = i; to = n.child_in p b c j i m; between = n.child_up p b c j i m };
-  want = λ u part e. let x = n.up_in p b u j i e in record { publisher = j; from = i; to = x.0; between = x.1 };
-  expect = λ c tick m. record { publisher = j; from = i; to = n.child_in p b c j i m; between = n.child_up p b c j i m };
+  know = λ c part m. record { publisher = j; from = i; to = n.child_in p b c j i m; between = n.child_up p b c j i m; joins = refl };
+  want = λ u part e. let x = n.up_in p b u j i e in record { publisher = j; from = i; to = x.0; between = x.1; joins = refl };
+  expect = λ c tick m. record { publisher = j; from = i; to = n.child_in p b c j i m; between = n.child_up p b c j i m; joins = refl };
 }
 
 -- A frame that goes over an edge
@@ -56,7 +56,7 @@ over_edges net p b n j i = record {
 -- it fits its receiver
 pub over_fits_broker : (net : Net) (f : Frame) (b : ℕ) → f.head.to ≡ b → GoesOverEdge net f → fits_broker net b f ≡ true
 over_fits_broker net f b e g =
-    ap₂ (λ x y. x && y) (ap₂ (λ x y. x && y) (eq-eqb f.head.to b e) (lt-ltb f.head.publisher net.publishers g.publisher)) (go f.body g.between)
+    ap₂ (λ x y. x && y) (ap₂ (λ x y. x && y) (ap₂ (λ x y. x && y) (eq-eqb f.head.to b e) (lt-ltb f.head.publisher net.publishers g.publisher)) (go f.body g.between)) g.joins
   where
     over : (o : Option ℕ) → o ≡ Some f.head.from → (elim o [ Some u ↦ nat_eq u f.head.from | None ↦ false ]) ≡ true
     over o h = ap (λ (z : Option ℕ). elim z [ Some u ↦ nat_eq u f.head.from | None ↦ false ]) h ∙ eq-eqb f.head.from f.head.from refl
@@ -66,13 +66,13 @@ over_fits_broker net f b e g =
       | _ ↦ elim (net.up f.head.publisher b) [ Some u ↦ nat_eq u f.head.from | None ↦ false ]
     ]) ≡ true
     go (body.Curiosity runs) h = subst (λ z. list_any (λ x. nat_eq x f.head.from) (net.children f.head.publisher z) ≡ true) e h
-    go (body.Knowledge runs) h = over (net.up f.head.publisher b) (subst (λ z. net.up f.head.publisher z ≡ Some f.head.from) e h)
+    go (body.Knowledge runs js) h = over (net.up f.head.publisher b) (subst (λ z. net.up f.head.publisher z ≡ Some f.head.from) e h)
     go (body.Expect tick) h = over (net.up f.head.publisher b) (subst (λ z. net.up f.head.publisher z ≡ Some f.head.from) e h)
 
 -- and its body comes from where it should
 pub body_fits : (net : Net) (p from to : ℕ) (y : Body) → GoesBetween net p from to y → BodyFits net p from to y
 body_fits net p from to (body.Curiosity runs) h = h
-body_fits net p from to (body.Knowledge runs) h = tt
+body_fits net p from to (body.Knowledge runs js) h = tt
 body_fits net p from to (body.Expect tick) h = tt
 
 -- there is no value in none
@@ -117,12 +117,12 @@ clash_drops law net now f v l t e = go f.body e
     known runs true h = refl
     known runs false h = absurd (true≢false (sym h))
 
-    go : (y : Body) → (let o : Option ℕ = elim y [ body.Knowledge runs ↦ first_of (clash_runs v.know runs) | _ ↦ None ] in o) ≡ Some t → (let o : MachineOutcome = elim y [
-      | body.Knowledge runs ↦ elim (clashes v.know runs) [ true ↦ record { view = v; log = l; lines = []; frames = [] } | false ↦ learn net f.head.publisher f.head.to runs v l ]
+    go : (y : Body) → (let o : Option ℕ = elim y [ body.Knowledge runs js ↦ first_of (clash_runs v.know runs) | _ ↦ None ] in o) ≡ Some t → (let o : MachineOutcome = elim y [
+      | body.Knowledge runs js ↦ elim (clashes v.know runs) [ true ↦ record { view = v; log = l; lines = []; frames = [] } | false ↦ learn net f.head.publisher f.head.to runs v l ]
       | body.Curiosity runs ↦ curiosity net f.head.publisher f.head.to now f.head.from (place_of f.head.from (net.children f.head.publisher f.head.to)) runs v l
       | body.Expect tick ↦ expect net f.head.publisher f.head.to now tick v l
     ] in o) ≡ nothing
-    go (body.Knowledge runs) h = known runs (clashes v.know runs) ((law v.know runs).1 (subst IsSome (sym h) refl))
+    go (body.Knowledge runs js) h = known runs (clashes v.know runs) ((law v.know runs).1 (subst IsSome (sym h) refl))
     go (body.Curiosity runs) h = absurd (none_some h)
     go (body.Expect tick) h = absurd (none_some h)
 

@@ -16,10 +16,10 @@ pub ok_same : {X : Type 0} (x y : X) → ◌≡◌ {A = Result X ℕ} (Ok x) (Ok
 ok_same x y e = cc
 
 -- a lane that stands reads as a log, whatever a crash leaves of it
-pub stands_readable : (lane : Lane) (rs : List Record) → Stands lane rs → IsReadable lane
-stands_readable lane rs s image left =
-    is_ok_of (log_text image) rs (ap log_text (s.only image left) ∙ reads_spelled (content lane) rs s.text)
+pub stands_readable : (lane : Lane) (late : List ℕ) (rs : List Record) → Stands lane late rs → IsReadable late lane
+stands_readable lane late rs s image left =
+    is_ok_of (log_text late image) rs (ap (log_text late) (s.only image left) ∙ reads_spelled late (content lane) rs s.text)
 
 -- bytes that read as two lists read as one
-pub reads_same : (bytes : List ℕ) (rs rs' : List Record) → log_text bytes ≡ Ok rs → log_text bytes ≡ Ok rs' → rs ≡ rs'
-reads_same bytes rs rs' e e' = ok_same rs rs' (sym e ∙ e')
+pub reads_same : (late bytes : List ℕ) (rs rs' : List Record) → log_text late bytes ≡ Ok rs → log_text late bytes ≡ Ok rs' → rs ≡ rs'
+reads_same late bytes rs rs' e e' = ok_same rs rs' (sym e ∙ e')

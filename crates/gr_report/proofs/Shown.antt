@@ -1,7 +1,7 @@
 -- What is shown, line by line: a publisher's log by the four numbers that its records stand for, and a line or some lines more for each number in turn
 use Rattle.std.proofs.Common.{◌≡◌, ℕ, ◌+◌, ◌-◌, ◌<◌, List, [], ◌∷◌, ◌++◌, length, map, flat_map, sym, ap, ◌∙◌, append_assoc}
 use Rattle.std.proofs.lemmas.List.{length-map}
-use Rattle.gr_publog.specs.State.{empty_state, state_of, live_events, Follow}
+use Rattle.gr_publog.specs.State.{first_standing, state_of, live_events, Follow}
 use Rattle.gr_publog.specs.Crash.{LogView}
 use Rattle.gr_publog.specs.declared.record.Entry.{Entry}
 use Rattle.gr_pubend.specs.Log.{log_of}
@@ -21,11 +21,11 @@ pub same_line : (p : ℕ) {a b c d a' b' c' d' : ℕ} → a ≡ a' → b ≡ b' 
 same_line p e1 e2 e3 e4 = cc
 
 -- the line with the numbers of a log's records, and how many of its events are past the cut, is that of the log they make
-pub line_of_log : (p last settled cut kept : ℕ) (l : LogView) → Follow empty_state l.records
+pub line_of_log : (p last settled cut kept : ℕ) (l : LogView) → Follow (first_standing l.late) l.records
     → last ≡ (state_of l.records).last → settled ≡ (state_of l.records).settled → cut ≡ (state_of l.records).cut → kept ≡ length (live_events l.records)
     → line.LogOf p last settled cut kept ≡ (let m : Log = log_of l.records in line.LogOf p m.last m.settled m.cut (kept_events m))
 line_of_log p last settled cut kept l f e1 e2 e3 e4 =
-    let found = ap (λ (m : Log). line.LogOf p m.last m.settled m.cut (length m.events)) (found_is_past l.records f) in
+    let found = ap (λ (m : Log). line.LogOf p m.last m.settled m.cut (length m.events)) (found_is_past l.late l.records f) in
     let many : length (pairs (live_events l.records)) ≡ length (live_events l.records) = length-map (live_events l.records) (λ (e : Entry). (e.tick, e.event)) in
     same_line p e1 e2 e3 (e4 ∙ sym many) ∙ sym found
 

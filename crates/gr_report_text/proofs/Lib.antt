@@ -1,2 +1,3 @@
+pub mod JoinsWords
 pub mod RunWords
 pub mod Rows

@@ -30,7 +30,7 @@ IsOfHorizon _ = ⊥
 
 -- of a frame that was sent
 abbrev pub IsOfFrame : Report → Type 0
-IsOfFrame (line.SentKnow number from to publisher runs) = Unit {0}
+IsOfFrame (line.SentKnow number from to publisher runs js) = Unit {0}
 IsOfFrame (line.SentWant number from to publisher runs) = Unit {0}
 IsOfFrame (line.SentExpect number from to publisher tick) = Unit {0}
 IsOfFrame _ = ⊥

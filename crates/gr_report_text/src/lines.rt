@@ -6,13 +6,13 @@ ghost use Rattle.std.specs.List.{flat_map};
 ghost use Rattle.gr_topo.specs.Topology.{name_at};
 ghost use Rattle.gr_event.specs.Json.{json_text};
 ghost use Rattle.gr_model.specs.Text.{labels_of, know_letter, want_letter, run_word, frame_fault_word, note_fault_word};
-ghost use Rattle.gr_model.specs.Text.{hex_pair, log_words, sent_words, behind_blanks, row_of};
+ghost use Rattle.gr_model.specs.Text.{hex_pair, log_words, sent_words, joins_words, behind_blanks, row_of};
 ghost use Rattle.gr_model.specs.Text.{AreNamed, IsSentNamed, IsNamed};
 ghost use Rattle.gr_report_text.specs.Families.{IsOfPublish, IsOfLog, IsOfHorizon, IsOfFrame, IsOfDrop};
 
 use crate::words::{push_event, push_hex, push_name, push_number, push_word};
 use gr_curio::Q3;
-use gr_event::{Bytes, Event, Text};
+use gr_event::{Bytes, Event, Joins, Text};
 use gr_frame::FrameKind;
 use gr_know::K;
 use gr_model::Report;
@@ -297,21 +297,23 @@ fn push_want_runs(words: &mut Text, runs: &Piece<Q3>) -> Result<(), AllocError>
     Ok(())
 }
 
-/// The line of a frame of knowledge.
-fn push_sent_know(
-    words: &mut Text,
-    topo: &Topology,
-    number: u64,
-    from: u16,
-    to: u16,
-    publisher: u16,
-    runs: &Piece<K>,
-) -> Result<(), AllocError>
-    requires { IsSentNamed topo.now from to publisher }
-    ensures { OnOk result
-        (words.new ≡ words.old ++ row_of topo.now (Report.SentKnow number from to publisher runs.now)) }
+/// How many joins a frame has, where it has any.
+fn push_joins(words: &mut Text, joins: &Joins) -> Result<(), AllocError>
+    ensures { OnOk result (words.new ≡ words.old ++ behind_blanks (joins_words joins.now)) }
 {
-    push_sent(words, topo, number, from, to, b"know", publisher)?;
+    let count = joins.len();
+    if count == 0 {
+        return Ok(());
+    }
+    push_pair(words, b"joins", count as u64)
+}
+
+/// The words of what a frame of knowledge says.
+fn push_known(words: &mut Text, joins: &Joins, runs: &Piece<K>) -> Result<(), AllocError>
+    ensures { OnOk result
+        (words.new ≡ words.old ++ behind_blanks (joins_words joins.now ++ map (run_word know_letter) runs.now)) }
+{
+    push_joins(words, joins)?;
     push_know_runs(words, runs)
 }
 
@@ -429,7 +431,7 @@ fn push_dropped(
 /// The word of why bytes are no frame.
 fn word_of_fault(fault: u8) -> &'static [u8]
     requires from_one { 1 ≤ fault }
-    requires to_nine { fault ≤ 9 }
+    requires to_ten { fault ≤ 10 }
     ensures { result.now ≡ frame_fault_word fault }
 {
     match FrameKind::from_number(fault) {
@@ -441,7 +443,7 @@ fn word_of_fault(fault: u8) -> &'static [u8]
 /// The word of why bytes are no frame, and where.
 fn push_fault(words: &mut Text, fault: u8, at: u64) -> Result<(), AllocError>
     requires from_one { 1 ≤ fault }
-    requires to_nine { fault ≤ 9 }
+    requires to_ten { fault ≤ 10 }
     ensures { OnOk result (words.new ≡ words.old ++ behind_blanks (frame_fault_word fault ∷ decimal at ∷ [])) }
 {
     push_pair(words, word_of_fault(fault), at)
@@ -683,7 +685,11 @@ fn push_frame(words: &mut Text, report: &Report, topo: &Topology) -> Result<(), 
             to,
             publisher,
             runs,
-        } => push_sent_know(words, topo, *number, *from, *to, *publisher, runs),
+            joins,
+        } => {
+            push_sent(words, topo, *number, *from, *to, b"know", *publisher)?;
+            push_known(words, joins, runs)
+        }
         Report::SentWant {
             number,
             from,

@@ -312,7 +312,7 @@ fn keeps_a_long_log(
 ) -> Result<(), Fail> {
     let mut disk = FileDisk::new(alloc, LogFolder::new(alloc, rt));
     let event = long_event(alloc)?;
-    let mut log = Log::open(alloc, &mut disk, 0)?;
+    let mut log = Log::open(alloc, &mut disk, 0, &[])?;
     for number in 1..161 {
         let record = Record::Event {
             tick: number,
@@ -324,7 +324,7 @@ fn keeps_a_long_log(
     }
     drop(log);
     assert!(rt; disk.size(0)? > 1 << 20);
-    let again = Log::open(alloc, &mut disk, 0)?;
+    let again = Log::open(alloc, &mut disk, 0, &[])?;
     assert!(rt; again.last() == 160);
     Ok(())
 }

@@ -1,9 +1,10 @@
 //! What frames say of ticks, as a row has it: `S1-999`, `F7-`, `C4` and `A1-5` for values, `D8={"n":1}` for an event.
 
+use crate::words::short_number;
 use gr_curio::Q3;
-use gr_event::Event;
+use gr_event::{Event, Join, Joins};
 use gr_know::K;
-use gr_tests_rows::{Stop, TickRange, parted, range};
+use gr_tests_rows::{Stop, TickRange, first_word, number, parted, range};
 use gr_tick::{Lattice, MAX_TICK, Piece, Stream};
 use std::alloc::Global;
 
@@ -14,6 +15,34 @@ pub fn knowledge(alloc: Global, words: &str) -> Result<Piece<K>, Stop> {
         join_known(alloc, &mut stream, word)?;
     }
     Ok(stream.piece(1, MAX_TICK)?)
+}
+
+/// The joins that stand before the runs of a frame, as `joins 1:2000,2:2001`, if any do.
+pub fn joins(alloc: Global, words: &str) -> Result<Joins, Stop> {
+    let mut joins = Joins::new(alloc);
+    let (word, rest) = first_word(words);
+    if word == "joins" {
+        let (list, _) = first_word(rest);
+        for part in list.split(',') {
+            let join = join_of(part)?;
+            if !joins.allows(join) {
+                return Err(Stop::NoRow);
+            }
+            joins = joins.with(join)?;
+        }
+    }
+    Ok(joins)
+}
+
+/// The join that a word spells, by its subscriber and its tick.
+fn join_of(word: &str) -> Result<Join, Stop> {
+    let Some((subscriber, tick)) = word.split_once(':') else {
+        return Err(Stop::NoRow);
+    };
+    Ok(Join {
+        subscriber: short_number(subscriber)?,
+        tick: number(tick)?,
+    })
 }
 
 /// Joins what a word says.

@@ -4,7 +4,7 @@ ghost use Rattle.std.specs.Prelude.{◌≤◌, ◌<◌, IfOk};
 ghost use Rattle.gr_topo.specs.Topology.{blank};
 ghost use Rattle.gr_model.specs.Text.{IsNamed};
 
-use crate::known::{curiosity, event, knowledge, known};
+use crate::known::{curiosity, event, joins, knowledge, known};
 use crate::words::{line_number, short_number, small_number};
 use gr_event::Bytes;
 use gr_know::K;
@@ -232,6 +232,17 @@ fn sent_frame(words: &str) -> Result<Sent<'_>, Stop> {
     })
 }
 
+/// The runs of a frame of knowledge, behind the joins that stand before them, if any do.
+fn behind_joins(words: &str) -> &str {
+    let (word, rest) = first_word(words);
+    if word == "joins" {
+        let (_, runs) = first_word(rest);
+        runs
+    } else {
+        words
+    }
+}
+
 /// A frame that was sent.
 fn sent_line(alloc: Global, word: &str, sent: Sent<'_>) -> Result<Report, Stop>
     ensures { IfOk result (λ r. IsNamed blank r) }
@@ -249,7 +260,8 @@ fn sent_line(alloc: Global, word: &str, sent: Sent<'_>) -> Result<Report, Stop>
             from,
             to,
             publisher: 0,
-            runs: knowledge(alloc, rest)?,
+            runs: knowledge(alloc, behind_joins(rest))?,
+            joins: joins(alloc, rest)?,
         }),
         "sent-want" => Ok(Report::SentWant {
             number: n,
@@ -420,7 +432,7 @@ fn not_frame(broker: u16, words: &str) -> Result<Report, Stop>
     let (n, at) = first_word(words);
     Ok(Report::DroppedNotFrame {
         broker,
-        fault: fault(9, n)?,
+        fault: fault(10, n)?,
         at: number(at)?,
     })
 }

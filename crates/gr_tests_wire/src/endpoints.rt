@@ -42,7 +42,7 @@ fn calls_on(
 
 /// Opens the endpoint, and carries out ops.
 fn open(alloc: Global, disk: &mut MemDisk, ops: &str, page: &mut Page) -> Result<(), Stop> {
-    match Pubend::open(alloc, disk, 0) {
+    match Pubend::open(alloc, disk, 0, &[]) {
         Ok(mut end) => end_ops(alloc, &mut end, disk, ops, page),
         Err(fault) => {
             put_op(page, "open");

@@ -1,8 +1,8 @@
 //! Frames in bytes, both ways.
 
 use crate::piece_text::{known, put_known, put_wanted, wanted};
-use crate::script::{Script, byte, cut_short, first_word, perform};
-use gr_event::Bytes;
+use crate::script::{Script, byte, cut_short, first_word, perform, short};
+use gr_event::{Bytes, Join, Joins};
 use gr_frame::{Body, Frame, FrameFault, FrameKind, Frames, Head, decode, encode_into, parts};
 use gr_tests_rows::{Page, Stop, bytes, number};
 use gr_tick::MAX_TICK;
@@ -34,8 +34,8 @@ pub fn answer(alloc: Global, row: &str, page: &mut Page) -> Result<(), Stop> {
     }
 }
 
-/// The frame of a text: `know FROM TO PUBLISHER RUNS`, `want FROM TO PUBLISHER RUNS` or `expect FROM TO PUBLISHER
-/// TICK`.
+/// The frame of a text: `know FROM TO PUBLISHER RUNS`, `know FROM TO PUBLISHER joins 1:2000,2:2001 RUNS`, `want FROM TO
+/// PUBLISHER RUNS` or `expect FROM TO PUBLISHER TICK`.
 fn frame_of(alloc: Global, text: &str) -> Result<Frame, Stop> {
     let Some((kind, rest)) = text.split_once(' ') else {
         return Err(Stop::NoRow);
@@ -76,10 +76,47 @@ fn body_of(alloc: Global, kind: &str, rest: &str) -> Result<Body, Stop> {
     }
 }
 
-/// The body of what is known.
-fn knowledge_of(alloc: Global, runs: &str) -> Result<Body, Stop> {
+/// The body of what is known, behind the joins that stand before it, if any do.
+fn knowledge_of(alloc: Global, text: &str) -> Result<Body, Stop> {
+    let (word, behind) = first_word(text);
+    if word == "joins" {
+        let (words, runs) = first_word(behind);
+        let joins = joins_of(alloc, words)?;
+        known_with(alloc, runs, joins)
+    } else {
+        known_with(alloc, text, Joins::new(alloc))
+    }
+}
+
+/// The body of what is known with these joins.
+fn known_with(alloc: Global, runs: &str, joins: Joins) -> Result<Body, Stop> {
     let piece = known(alloc, runs)?;
-    Ok(Body::Knowledge(piece))
+    Ok(Body::Knowledge { piece, joins })
+}
+
+/// The joins that words spell, with a comma between each two.
+fn joins_of(alloc: Global, words: &str) -> Result<Joins, Stop> {
+    let mut joins = Joins::new(alloc);
+    for word in words.split(',') {
+        let join = join_of(word)?;
+        if !joins.allows(join) {
+            return Err(Stop::NoRow);
+        }
+        joins = joins.with(join)?;
+    }
+    Ok(joins)
+}
+
+/// The join that a word spells, by its subscriber and its tick: `1:2000`.
+fn join_of(word: &str) -> Result<Join, Stop> {
+    let Some((subscriber, tick)) = word.split_once(':') else {
+        return Err(Stop::NoRow);
+    };
+    let Some(subscriber) = short(subscriber) else {
+        return Err(Stop::NoRow);
+    };
+    let tick = number(tick)?;
+    Ok(Join { subscriber, tick })
 }
 
 /// The body of what is wanted.
@@ -106,7 +143,7 @@ fn spelled(alloc: Global, frame: &Frame) -> Result<Frames, Stop> {
 /// Puts the bytes of a frame behind others. A piece without a run and a tick out of range have none.
 fn spell_into(alloc: Global, frame: &Frame, frames: &mut Frames) -> Result<(), Stop> {
     match &frame.body {
-        Body::Knowledge(piece) => {
+        Body::Knowledge { piece, .. } => {
             if piece.is_empty() {
                 return Err(Stop::NoRow);
             }
@@ -225,7 +262,7 @@ fn put_each_part(
 /// Prints how many runs a part has, or its tick, and whether it is written as these bytes.
 fn put_part(alloc: Global, part: &Frame, bytes: &[u8], page: &mut Page) -> Result<(), Stop> {
     match &part.body {
-        Body::Knowledge(piece) => write!(page, "  {} runs", piece.len()),
+        Body::Knowledge { piece, .. } => write!(page, "  {} runs", piece.len()),
         Body::Curiosity(piece) => write!(page, "  {} runs", piece.len()),
         Body::Expect(tick) => write!(page, "  tick {tick}"),
     }
@@ -285,9 +322,20 @@ fn put_head(page: &mut Page, head: Head) {
 /// Prints the body of a frame.
 fn put_body(alloc: Global, page: &mut Page, body: &Body) {
     match body {
-        Body::Knowledge(piece) => put_known(alloc, page, piece),
+        Body::Knowledge { piece, joins } => {
+            put_joins(page, joins.as_slice());
+            put_known(alloc, page, piece)
+        }
         Body::Curiosity(piece) => put_wanted(page, piece),
         Body::Expect(tick) => write!(page, " expect {tick}"),
+    }
+}
+
+/// Prints joins, if there are any.
+pub fn put_joins(page: &mut Page, joins: &[Join]) {
+    for (i, join) in joins.iter().enumerate() {
+        page.push_str(if i == 0 { " joins " } else { "," });
+        write!(page, "{}:{}", join.subscriber, join.tick);
     }
 }
 
@@ -466,6 +514,7 @@ fn laws(page: &mut Page) {
     gr_frame::bytes_spell_one_frame();
     gr_frame::spells_no_prefix();
     gr_frame::cut_loses_nothing();
+    gr_frame::no_joins_no_list();
     gr_frame::one_frame_is_not_cut();
     gr_frame::limit_of_frames();
     page.push_str("  hold\n");

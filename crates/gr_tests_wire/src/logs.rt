@@ -8,8 +8,10 @@ ghost use Rattle.gr_out.specs.Lane.{lane_at};
 ghost use Rattle.gr_publog.specs.Calls.{IsReady};
 
 use crate::disks::{disk_of, put_stopped, stop};
+use crate::frames::put_joins;
 use crate::piece_text::{cut_numbers, event_of, put_event, put_known_run};
-use crate::script::{NEXT, byte, first_word, put_bytes, put_op, two_bytes};
+use crate::script::{NEXT, byte, cut_number, first_word, put_bytes, put_op, short, two_bytes};
+use gr_event::MAX_JOINS;
 use gr_know::Know;
 use gr_out::{Disk, MemDisk, SimDisk};
 use gr_pubend::known_by;
@@ -24,47 +26,105 @@ const OPEN: &str = " ; open";
 const CRASH: &str = " ; crash";
 
 /// Answers a script: `failing CALLS ; lane BYTES ; stop CALLS PICK ; open ; event NUMBER TICK EVENT ; crash ; open`.
+/// The subscribers that may join stand before it, as in `late 1,2 failing CALLS ; ..`, if any may.
 pub fn lives(alloc: Global, row: &str, page: &mut Page) -> Result<(), Stop> {
-    let Some((made, lives)) = row.split_once(OPEN) else {
+    let (list, script) = cut_late(row);
+    let late = late_of(alloc, list)?;
+    let Some((made, lives)) = script.split_once(OPEN) else {
         return Err(Stop::NoRow);
     };
+    lives_of(alloc, made, &late, lives, page)
+}
+
+/// The list of late subscribers that stands before a script, and the script: `late 1,2 SCRIPT`.
+pub fn cut_late(row: &str) -> (&str, &str) {
+    match row.strip_prefix("late ") {
+        Some(rest) => first_word(rest),
+        None => ("", row),
+    }
+}
+
+/// The numbers of subscribers that a word lists, as `1,2`, or none.
+pub fn late_of(alloc: Global, list: &str) -> Result<Vec<u16>, Stop> {
+    let mut late = Vec::new(alloc);
+    if !list.is_empty() {
+        push_late(&mut late, list)?;
+    }
+    Ok(late)
+}
+
+/// Puts the numbers of subscribers that a word lists behind others.
+fn push_late(late: &mut Vec<u16>, list: &str) -> Result<(), Stop> {
+    for word in list.split(',') {
+        let Some(subscriber) = short(word) else {
+            return Err(Stop::NoRow);
+        };
+        late.push(subscriber)?;
+    }
+    Ok(())
+}
+
+/// Carries out what stands before the first life on a new disk, and then each life.
+fn lives_of(
+    alloc: Global,
+    made: &str,
+    late: &[u16],
+    lives: &str,
+    page: &mut Page,
+) -> Result<(), Stop> {
     let (fails, ops) = made.split_once(NEXT).unwrap_or((made, ""));
     let mut disk = disk_of(alloc, fails)?;
-    lives_on(alloc, &mut disk, ops, lives, page)
+    lives_on(alloc, &mut disk, late, ops, lives, page)
 }
 
 /// Carries out ops on the lane, and then each life.
 fn lives_on(
     alloc: Global,
     disk: &mut MemDisk,
+    late: &[u16],
     ops: &str,
     lives: &str,
     page: &mut Page,
 ) -> Result<(), Stop> {
     lane_ops(alloc, disk, ops, page)?;
     for life in lives.split(OPEN) {
-        live(alloc, disk, life, page)?;
+        live(alloc, disk, late, life, page)?;
     }
     Ok(())
 }
 
 /// Opens the log, carries out the ops of its life, and then those behind its crash.
-fn live(alloc: Global, disk: &mut MemDisk, life: &str, page: &mut Page) -> Result<(), Stop> {
+fn live(
+    alloc: Global,
+    disk: &mut MemDisk,
+    late: &[u16],
+    life: &str,
+    page: &mut Page,
+) -> Result<(), Stop> {
     match life.split_once(CRASH) {
         Some((ops, after)) => {
-            open(alloc, disk, ops, page)?;
+            open(alloc, disk, late, ops, page)?;
             disk.crash(0);
             put_lane(page, "crash", disk);
             lane_ops(alloc, disk, after, page)
         }
-        None => open(alloc, disk, life, page),
+        None => open(alloc, disk, late, life, page),
     }
 }
 
 /// Opens the log, and carries out the ops of its life. Where it does not open the ops are those of the lane.
-fn open(alloc: Global, disk: &mut MemDisk, ops: &str, page: &mut Page) -> Result<(), Stop> {
+fn open(
+    alloc: Global,
+    disk: &mut MemDisk,
+    late: &[u16],
+    ops: &str,
+    page: &mut Page,
+) -> Result<(), Stop> {
+    if late.len() > MAX_JOINS {
+        return Err(Stop::NoRow);
+    }
     put_op(page, "open");
-    match Log::open(alloc, disk, 0) {
+    match Log::open(alloc, disk, 0, late) {
         Ok(mut log) => {
             put_state(alloc, page, &log);
             page.push('\n');
@@ -103,11 +163,12 @@ fn put_state(alloc: Global, page: &mut Page, log: &Log) {
     }
 }
 
-/// Prints the last number of a log, and up to which ticks it is settled and cut.
+/// Prints the last number of a log, up to which ticks it is settled and cut, and its joins, if it has any.
 pub fn put_counts(page: &mut Page, log: &Log) {
     write!(page, "last {}", log.last());
     write!(page, " settled {}", log.settled());
     write!(page, " cut {}", log.cut());
+    put_joins(page, log.joins().as_slice());
 }
 
 /// Prints a logged event.
@@ -207,7 +268,7 @@ fn log_op(
     let (call, rest) = first_word(op);
     match call {
         "stop" => order(log, disk, rest, page),
-        "event" | "mark" | "cut" => log_record(alloc, log, disk, call, rest, page),
+        "event" | "mark" | "cut" | "join" => log_record(alloc, log, disk, call, rest, page),
         _ => put_asked(alloc, log, disk, call, rest, page),
     }
 }
@@ -248,11 +309,17 @@ fn order(log: &Log, disk: &mut MemDisk, rest: &str, page: &mut Page) -> Result<(
     Ok(())
 }
 
-/// The record of a word: `event NUMBER TICK EVENT`, `mark TICK` or `cut TICK`.
+/// The record of a word: `event NUMBER TICK EVENT`, `mark TICK`, `cut TICK` or `join TICK SUBSCRIBER`.
 fn record_of(alloc: Global, kind: &str, rest: &str) -> Result<Record, Stop> {
-    if kind == "event" {
-        return event_record(alloc, rest);
+    match kind {
+        "event" => event_record(alloc, rest),
+        "join" => join_record(rest),
+        _ => tick_record(kind, rest),
     }
+}
+
+/// The record of a tick alone.
+fn tick_record(kind: &str, rest: &str) -> Result<Record, Stop> {
     let Ok(tick) = number(rest) else {
         return Err(Stop::NoRow);
     };
@@ -274,6 +341,17 @@ fn event_record(alloc: Global, rest: &str) -> Result<Record, Stop> {
         number,
         event,
     })
+}
+
+/// The record of a join: `TICK SUBSCRIBER`.
+fn join_record(rest: &str) -> Result<Record, Stop> {
+    let Some((tick, word)) = cut_number(rest) else {
+        return Err(Stop::NoRow);
+    };
+    let Some(subscriber) = short(word) else {
+        return Err(Stop::NoRow);
+    };
+    Ok(Record::Join { tick, subscriber })
 }
 
 /// Prints whether a record may follow.
@@ -377,7 +455,7 @@ fn is_logged(alloc: Global, disk: &mut MemDisk) -> Result<bool, Stop> {
         return Err(Stop::NoRow);
     }
     disk.crash(0);
-    match Log::open(alloc, disk, 0) {
+    match Log::open(alloc, disk, 0, &[]) {
         Ok(log) => Ok(log.last() == 1),
         Err(_) => Err(Stop::NoRow),
     }
@@ -391,7 +469,7 @@ fn append_stopped(
     pick: u8,
     entry: &Record,
 ) -> Result<(), Stop> {
-    let Ok(mut log) = Log::open(alloc, disk, 0) else {
+    let Ok(mut log) = Log::open(alloc, disk, 0, &[]) else {
         return Err(Stop::NoRow);
     };
     disk.stop_after(0, call, pick);

@@ -9,6 +9,7 @@ mod disks;
 mod endpoints;
 mod frame_stores;
 mod frames;
+mod joining;
 mod logs;
 mod notes;
 mod outside;
@@ -58,6 +59,7 @@ fn call(alloc: Global, row: &str, page: &mut Page) -> Result<(), Stop> {
         "log" => logs::lives(alloc, rest, page),
         "log-picks" => logs::picks(alloc, rest, page),
         "endpoint" => endpoints::calls(alloc, rest, page),
+        "endpoint-joins" => joining::calls(alloc, rest, page),
         _ => call_above(alloc, family, rest, page),
     }
 }

@@ -37,13 +37,13 @@ HasRun t lines hosted turns post_tells disk_tells before after answer =
 
 -- that an honest journal of all brokers meets the headline
 abbrev pub MeetsServed : TopologyView → Type 0
-MeetsServed t = (steps : List Line) (c : Course) → AreStepsOf t steps → AllFollow c.records
+MeetsServed t = (steps : List Line) (c : Course) → AreStepsOf t steps → AllFollow t.late c.records
     → AllByRecursion IsOfBytes c.came → IsHonestJournal [] (planned t (numbers (length t.brokers)) steps c)
     → HoldsServedLanes (net_of t) c.records steps (ours (numbers (length t.brokers)) c.came)
 
 -- and that its lists over all publishers are what they are to be
 abbrev pub OrdersServed : TopologyView → Type 0
-OrdersServed t = (steps : List Line) (c : Course) (totals : List ℕ) → AreStepsOf t steps → AllFollow c.records
+OrdersServed t = (steps : List Line) (c : Course) (totals : List ℕ) → AreStepsOf t steps → AllFollow t.late c.records
     → AllByRecursion IsOfBytes c.came → IsHonestJournal [] (planned t (numbers (length t.brokers)) steps c)
     → AreTotals (net_of t) totals
     → OrderedServedLanes (net_of t) totals c.records steps (ours (numbers (length t.brokers)) c.came)
@@ -144,4 +144,4 @@ all_read t lines hosted turns c before after is_run keeps = λ p lt here.
     sym (append-nil c.made) ∙ (ap (λ l. c.made ++ l) (sym is_run.whole) ∙ is_run.acts) in
     let started : list_any (is_start (host_of t p)) c.made ≡ true =
     ap (list_any (is_start (host_of t p))) made ∙ plan_starts t lines hosted c (host_of t p) here in
-    ok_by (log_text (content (before (2 * p)))) _ (keeps.found p lt here started)
+    ok_by (log_text t.late (content (before (2 * p)))) _ (keeps.found p lt here started)

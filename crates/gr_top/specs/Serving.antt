@@ -147,4 +147,4 @@ pub record IsDamaged (t : TopologyView) (hosted : List ℕ) (lanes : ℕ → Lan
 -- the lane of each publisher at these brokers holds a log
 abbrev pub AllRead : TopologyView → List ℕ → (ℕ → Lane) → Type 0
 AllRead t hosted lanes = (p : ℕ) → p < length t.publishers → is_hosted (net_of t) hosted p ≡ true
-    → IsOk (log_text (content (lanes (2 * p))))
+    → IsOk (log_text t.late (content (lanes (2 * p))))

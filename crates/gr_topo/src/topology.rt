@@ -266,6 +266,20 @@ impl Topology {
         !self.parts.late.is_empty()
     }
 
+    /// The late subscribers, in order, at most 64. Takes no memory where there is none.
+    pub fn lates(&self, alloc: Global) -> Result<Numbers, Memory>
+        ensures { IfOk result (λ n. n ≡ self.now.late) }
+    {
+        let late = &self.parts.late;
+        let mut found = Numbers::new(alloc);
+        let mut at = 0;
+        'late: while at < late.len() {
+            found.push(late[at] as u16)?;
+            at += 1;
+        }
+        Ok(found)
+    }
+
     /// The next broker on the path to the host of a publisher, or None exactly for the host. Takes constant time.
     pub fn up(&self, p: u16, b: u16) -> Option<u16>
         requires publisher { p < length self.now.publishers }

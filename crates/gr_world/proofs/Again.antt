@@ -52,10 +52,10 @@ none_crashed t b before = record { here = λ p j. absurd (omega (arith, j)); oth
 module _ (t : TopologyView) (b : ℕ) (before mid after : ℕ → Lane) (c : CrashesLanes t b (length t.publishers) before mid) where
   -- only its own lanes are touched
   pub touches_lanes : ((k : ℕ) → ((p : ℕ) → p < length t.publishers → is_host (net_of t) p b ≡ true → k ≢ 2 * p) → after k ≡ mid k)
-      → ((p : ℕ) → p < length t.publishers → is_host (net_of t) p b ≡ true → LosesNothing (mid (2 * p)) (after (2 * p))) → TouchesLanes t b before after
+      → ((p : ℕ) → p < length t.publishers → is_host (net_of t) p b ≡ true → LosesNothing t.late (mid (2 * p)) (after (2 * p))) → TouchesLanes t b before after
   touches_lanes others any = record {
     others = λ k h. others k (λ p j here. h p j (host_is t p b here)) ∙ c.others k h;
-    any_moment = λ p j at. subst (λ (lane : Lane). LosesNothing lane (after (2 * p))) (c.here p j at) (any p j (is_host_at t p b at));
+    any_moment = λ p j at. subst (λ (lane : Lane). LosesNothing t.late lane (after (2 * p))) (c.here p j at) (any p j (is_host_at t p b at));
   }
 
   -- no stop is left on them
@@ -63,12 +63,12 @@ module _ (t : TopologyView) (b : ℕ) (before mid after : ℕ → Lane) (c : Cra
   unset_crashed p j here = ap (λ (lane : Lane). lane.stop) (c.here p j (host_is t p b here))
 
   -- each is opened as the crash left it
-  pub opens_again : (old new : List BrokerView) (v : BrokerView) (told : BrokerOutcome) → new ≡ set old b v → b < length old → StartsOver t b v told → OpensLanes v mid after → OpensAgain b new before after
+  pub opens_again : (old new : List BrokerView) (v : BrokerView) (told : BrokerOutcome) → new ≡ set old b v → b < length old → StartsOver t b v told → OpensLanes t v mid after → OpensAgain t b new before after
   opens_again old new v told place j s opens p l e =
       let same : get_or new b no_broker ≡ v = ap (λ bs. get_or bs b no_broker) place ∙ get_or-set_same old b v no_broker j in
       let e' : log_in v p ≡ Some l = subst (λ (x : BrokerView). log_in x p ≡ Some l) same e in
       let at = log_hosted t b v s.fits s.number p l e' in
-      subst (λ (lane : Lane). Opens lane (after (2 * p)) (Ok l)) (c.here p at.0 at.1) (opens.opened p l e')
+      subst (λ (lane : Lane). Opens t.late lane (after (2 * p)) (Ok l)) (c.here p at.0 at.1) (opens.opened p l e')
 
   -- a lane that holds no log is one that the crash left without
   pub damaged_again : (p at : ℕ) → IsDamagedAt t b p at mid → LeavesNoLog t b p at (before (2 * p))
@@ -77,7 +77,7 @@ module _ (t : TopologyView) (b : ℕ) (before mid after : ℕ → Lane) (c : Cra
       record {
         publisher = d.publisher;
         hosted = there;
-        fault = subst (λ (lane : Lane). log_text (content lane) ≡ Err at) (c.here p d.publisher there) d.fault;
+        fault = subst (λ (lane : Lane). log_text t.late (content lane) ≡ Err at) (c.here p d.publisher there) d.fault;
       }
 
 -- the new broker stands in the place of the old

@@ -13,6 +13,7 @@ use Rattle.gr_publog.specs.declared.record.State.{State}
 use Rattle.gr_publog.specs.declared.record.LogFault.TheVariants as log_fault
 use Rattle.gr_publog.specs.Text.{IsSpelled, log_text}
 use Rattle.gr_publog.specs.Crash.{LogView, Stands}
+use Rattle.gr_publog.specs.Kept.{records_kept}
 use Rattle.gr_publog.specs.Calls.{Appends, IsReady, records_left}
 use Rattle.gr_publog.proofs.Reading.{reads}
 use Rattle.gr_pubend.specs.Log.{Log, Stays}
@@ -81,12 +82,12 @@ logs_tick log number now tick e some =
 -- What is left of a lane
 
 -- bytes that spell records read as these
-spells : (bytes : List ℕ) (rs : List Record) → IsSpelled bytes rs → log_text bytes ≡ Ok rs
-spells bytes rs s = ap log_text s.text.whole ∙ reads rs s.text.gate s.text.tail s.follow s.text.closed
+spells : (late bytes : List ℕ) (rs : List Record) → IsSpelled late bytes rs → log_text late bytes ≡ Ok rs
+spells late bytes rs s = ap (log_text late) s.text.whole ∙ reads late rs s.text.gate s.text.tail s.follow s.text.closed
 
 -- what stands reads as its records
-pub stands_reads : (lane : Lane) (rs : List Record) → Stands lane rs → log_text (content lane) ≡ Ok rs
-stands_reads lane rs s = spells (content lane) rs s.text
+pub stands_reads : (lane : Lane) (late : List ℕ) (rs : List Record) → Stands lane late rs → log_text late (content lane) ≡ Ok rs
+stands_reads lane late rs s = spells late (content lane) rs s.text
 
 -- a stop that broke a publish
 pub broken_by : {T : Type 0} (answer : Result T BrokerFault) (stopped : Bool) → is_broken_by answer stopped ≡ true
@@ -105,7 +106,7 @@ took_none (Err x) result lines f is h = cc (f, is)
 -- A stop is ordered, or ended
 
 ready_with : (l : LogView) (stop : LaneStop) (lane : Lane) → IsReady l lane → IsReady l (with_stop stop lane)
-ready_with l stop lane ready whole = let s : Stands lane l.records = ready whole in record { text = s.text; only = s.only }
+ready_with l stop lane ready whole = let s : Stands lane l.late l.records = ready whole in record { text = s.text; only = s.only }
 
 -- the lanes stand as before
 pub stand_with : (x : BrokerView) (p : ℕ) (stop : LaneStop) (lanes lanes' : ℕ → Lane) → lanes' (2 * p) ≡ with_stop stop (lanes (2 * p)) → ((n : ℕ) → n ≢ 2 * p → lanes' n ≡ lanes n)
@@ -115,15 +116,15 @@ stand_with x p stop lanes lanes' at others stands q l e = elim (cases_eq q p) [
   | inr n ↦ subst (IsReady l) (sym (others (2 * q) (λ h. n (omega (arith, h))))) (stands q l e)
 ]
 
-readable_with : (stop : LaneStop) (lane : Lane) → IsReadable lane → IsReadable (with_stop stop lane)
-readable_with stop lane r image left = r image left
+readable_with : (late : List ℕ) (stop : LaneStop) (lane : Lane) → IsReadable late lane → IsReadable late (with_stop stop lane)
+readable_with late stop lane r image left = r image left
 
 -- a call between a stop that is ordered and its end is one without
-ended_moves : (before mid left ended : Lane) (stop : LaneStop) → mid ≡ with_stop stop before → LaneMoves mid left → ended ≡ with_stop Unset left → LaneMoves before ended
-ended_moves before mid left ended stop ordered m is = record {
+ended_moves : (late : List ℕ) (before mid left ended : Lane) (stop : LaneStop) → mid ≡ with_stop stop before → LaneMoves late mid left → ended ≡ with_stop Unset left → LaneMoves late before ended
+ended_moves late before mid left ended stop ordered m is = record {
   reserved = λ r. ap (λ (x : Lane). x.reserved) is ∙ m.reserved (ap (λ (x : Lane). x.reserved) ordered ∙ r);
   unset = λ u. ap (λ (x : Lane). x.stop) is;
-  readable = λ r. subst IsReadable (sym is) (readable_with Unset left (m.readable (subst IsReadable (sym ordered) (readable_with stop before r))));
+  readable = λ r. subst (IsReadable late) (sym is) (readable_with late Unset left (m.readable (subst (IsReadable late) (sym ordered) (readable_with late stop before r))));
 }
 
 -- The publish while a stop is ordered, in the words of a world
@@ -144,6 +145,12 @@ module _ (v w : WorldView) (b p number : ℕ) (e : Event) (x after : BrokerView)
   there : log_at w p ≡ log_in x p
   there = ap (λ (u : WorldView). log_at u p) (sym s.same) ∙ (ap (λ c. log_in (broker_in v c) p) host ∙ ap (λ (y : BrokerView). log_in y p) (sym (site_read v w b p x s)))
 
+  -- the subscribers that may join in it are those of the topology
+  late_is : (l : LogView) → log_at w p ≡ Some l → l.late ≡ w.topo.late
+  late_is l h =
+      let fits = (let i = site_fits v w b p x s in i.brokers b s.broker) in
+      fits.late p l (ap (λ (y : BrokerView). log_in y p) (sym (site_read v w b p x s)) ∙ (sym there ∙ h)) ∙ ap (λ (u : WorldView). u.topo.late) s.same
+
   -- its record
   logs_is : (tick : ℕ) → tick_in (log_said (log_at w p)) number w.clock ≡ Some tick → publish_logs_at x p v.clock number e ≡ Some (entry.Event tick number e)
   logs_is tick some =
@@ -160,7 +167,7 @@ module _ (v w : WorldView) (b p number : ℕ) (e : Event) (x after : BrokerView)
   ordered_at : (call pick : ℕ) (before mid : Lane) → 1 ≤ call → mid ≡ with_stop (stop_at call pick) before → mid.stop ≡ After call pick
   ordered_at call pick before mid first ordered = ap (λ (y : Lane). y.stop) ordered ∙ rw (ne_eqb call 0 (λ z. absurd (omega arith))) refl
 
-  moved : (mid left : ℕ → Lane) → PublishesOn x p v.clock number e after mid left answer → LaneMoves (mid (2 * p)) (left (2 * p))
+  moved : (mid left : ℕ → Lane) → PublishesOn x p v.clock number e after mid left answer → LaneMoves v.topo.late (mid (2 * p)) (left (2 * p))
   moved mid left on =
       let i = site_fits v w b p x s in
       let below = site_publisher v w b p x s in
@@ -180,15 +187,17 @@ module _ (v w : WorldView) (b p number : ℕ) (e : Event) (x after : BrokerView)
           a.breaks (ap is_some (logs_is tick some)) call pick (ordered_at call pick (before (2 * p)) (mid (2 * p)) first ordered) last
 
   -- where it broke the append, the call and the pick tell what it left
-  pub stopped_at : (before mid left : ℕ → Lane) (call pick tick : ℕ) → mid (2 * p) ≡ with_stop (stop_at call pick) (before (2 * p)) → 1 ≤ call → IsReadable (before (2 * p))
+  pub stopped_at : (before mid left : ℕ → Lane) (call pick tick : ℕ) → mid (2 * p) ≡ with_stop (stop_at call pick) (before (2 * p)) → 1 ≤ call → IsReadable w.topo.late (before (2 * p))
       → has_stopped (left (2 * p)).stop ≡ true → tick_in (log_said (log_at w p)) number w.clock ≡ Some tick → PublishesOn x p v.clock number e after mid left answer
       → IsStoppedAt w p tick number e call pick (left (2 * p))
   stopped_at before mid left call pick tick ordered first readable stopped some on = record {
     image = λ l h.
         let a = appends_there mid left l h on.lane in
-        subst (λ (r : Option Record). log_text (crash_image (left (2 * p))) ≡ Ok (records_left l.records r call pick)) (logs_is tick some)
-        (a.kept call pick (record { ordered = ordered_at call pick (before (2 * p)) (mid (2 * p)) first ordered; stopped = stopped }));
-    readable = let m = moved mid left on in m.readable (subst IsReadable (sym ordered) (readable_with (stop_at call pick) (before (2 * p)) readable));
+        subst (λ (late : List ℕ). log_text late (crash_image (left (2 * p))) ≡ Ok (records_kept l.records (entry.Event tick number e) call pick)) (late_is l h)
+        (subst (λ (r : Option Record). log_text l.late (crash_image (left (2 * p))) ≡ Ok (records_left l.records r call pick)) (logs_is tick some)
+        (a.kept call pick (record { ordered = ordered_at call pick (before (2 * p)) (mid (2 * p)) first ordered; stopped = stopped })));
+    readable = let m = subst (λ (u : WorldView). LaneMoves u.topo.late (mid (2 * p)) (left (2 * p))) s.same (moved mid left on) in
+        m.readable (subst (IsReadable w.topo.late) (sym ordered) (readable_with w.topo.late (stop_at call pick) (before (2 * p)) readable));
   }
 
   -- the lane keeps its room
@@ -207,5 +216,5 @@ module _ (v w : WorldView) (b p number : ℕ) (e : Event) (x after : BrokerView)
       let c : Called v b p (publish_in v b p number e) after frames result =
       publish_called v b p number e i s.broker below host after frames answer result n (subst (λ (z : BrokerView). Publishes v.topo z p v.clock number e after answer) read k) f takes in
       lanes_fit v b p after frames before ended i s.broker below c.touches (subst IsOpen (sym s.same) s.is_open) (subst (LanesFit before) (sym s.same) fit) all
-      (λ h. ended_moves (before (2 * p)) (mid (2 * p)) (left (2 * p)) (ended (2 * p)) stop ordered (moved mid left on) is) (λ away. absurd (away host))
+      (λ h. ended_moves v.topo.late (before (2 * p)) (mid (2 * p)) (left (2 * p)) (ended (2 * p)) stop ordered (moved mid left on) is) (λ away. absurd (away host))
       (stand_with after p Unset left ended is others on.stands)

@@ -73,19 +73,19 @@ module _ (t : TopologyView) (n : ℕ) (brokers : List BrokerView) (v : BrokerVie
     stays : (p b : ℕ) → host_of t p ≡ b → b ≢ n → after (2 * p) ≡ mid (2 * p)
     stays p b at apart = others (2 * p) (λ q j here. lanes_apart t p q b n at (host_is t q n here) apart)
 
-    opened_more : (told : List Report) → HaveStarted t n brokers told → HasStarted t n v → HaveOpened t n brokers before mid → OpensLanes v mid after → HaveOpened t (n + 1) more before after
+    opened_more : (told : List Report) → HaveStarted t n brokers told → HasStarted t n v → HaveOpened t n brokers before mid → OpensLanes t v mid after → HaveOpened t (n + 1) more before after
     opened_more told s one sofar new = record {
       opened = λ b p l j e. elim (cases_lt b n) [
         | inl k ↦
             let h = s.each b k in
             let e' : log_in (get_or brokers b no_broker) p ≡ Some l = subst (λ (x : BrokerView). log_in x p ≡ Some l) (at_old s.count b k) e in
             let at = log_hosted t b (get_or brokers b no_broker) h.fits h.number p l e' in
-            subst (λ (x : Lane). Opens (before (2 * p)) x (Ok l)) (sym (stays p b at.1 (λ same. omega (arith, k, same)))) (sofar.opened b p l k e')
+            subst (λ (x : Lane). Opens t.late (before (2 * p)) x (Ok l)) (sym (stays p b at.1 (λ same. omega (arith, k, same)))) (sofar.opened b p l k e')
         | inr k ↦
             let same : b ≡ n = omega (arith, k, j) in
             let e' : log_in v p ≡ Some l = subst (λ (x : BrokerView). log_in x p ≡ Some l) (ap (λ m. get_or more m no_broker) same ∙ at_new s.count) e in
             let at = log_hosted t n v one.fits one.number p l e' in
-            subst (λ (x : Lane). Opens x (after (2 * p)) (Ok l)) (untouched p at.1) (new.opened p l e')
+            subst (λ (x : Lane). Opens t.late x (after (2 * p)) (Ok l)) (untouched p at.1) (new.opened p l e')
       ];
       others = λ k h. others k (λ p j here. h p j (let e = host_is t p n here in omega (arith, e))) ∙ sofar.others k (λ p j below. h p j (omega (arith, below)));
     }
@@ -101,7 +101,7 @@ started_next t n old new v told told' outcome e says s one =
 
 -- and of their lanes
 pub opened_next : (t : TopologyView) (n : ℕ) (old new : List BrokerView) (v : BrokerView) (told : List Report) (outcome : BrokerOutcome) (before mid after : ℕ → Lane)
-    → new ≡ old ++ v ∷ [] → HaveStarted t n old told → StartsOver t n v outcome → HaveOpened t n old before mid → OpensLanes v mid after
+    → new ≡ old ++ v ∷ [] → HaveStarted t n old told → StartsOver t n v outcome → HaveOpened t n old before mid → OpensLanes t v mid after
     → ((k : ℕ) → ((p : ℕ) → p < length t.publishers → is_host (net_of t) p n ≡ true → k ≢ 2 * p) → after k ≡ mid k) → HaveOpened t (n + 1) new before after
 opened_next t n old new v told outcome before mid after e s one sofar opens others =
     rw e (opened_more t n old v before mid after others told s (has_started t n v outcome one) sofar opens)
@@ -127,8 +127,8 @@ module _ (t : TopologyView) (n : ℕ) (brokers : List BrokerView) (before mid : 
       subst (λ (b : ℕ). IsDamagedAt t b p at before) (sym there) (record {
         publisher = d.publisher;
         hosted = d.hosted;
-        fault = subst (λ (l : Lane). log_text (content l) ≡ Err at) (lane_first p there) d.fault;
-        before = λ q j here. subst (λ (l : Lane). IsOk (log_text (content l))) (lane_first q (host_is t q n here)) (d.before q j here);
+        fault = subst (λ (l : Lane). log_text t.late (content l) ≡ Err at) (lane_first p there) d.fault;
+        before = λ q j here. subst (λ (l : Lane). IsOk (log_text t.late (content l))) (lane_first q (host_is t q n here)) (d.before q j here);
       })
 
   -- and without a stop there is none

@@ -4,7 +4,7 @@ use Rattle.std.proofs.lemmas.Bool.{cases_eq, false≢true}
 use Rattle.gr_out.specs.declared.disk.Stop.{Stop}
 use Rattle.gr_out.specs.declared.disk.Stop.TheVariants.{Unset, Stopped}
 use Rattle.gr_out.specs.Lane.{Lane, content, crash_image, picked_after}
-use Rattle.gr_publog.specs.Text.{log_text}
+use Rattle.gr_publog.specs.Text.{IsSpelled, log_text}
 use Rattle.gr_publog.specs.Crash.{LogView}
 use Rattle.gr_publog.proofs.Reading.{reads_spelled}
 use Rattle.gr_pubend.specs.Log.{Log, log_of}
@@ -52,21 +52,22 @@ image_read lane unset = ap picked unset
     picked s = elim s [ Stopped pick ↦ picked_after pick lane.start lane.calls | _ ↦ content lane ]
 
 -- a log that reads the same says the same
-said_same : (o : Option LogView) (l : LogView) (bytes : List ℕ) → IsRead o bytes → log_text bytes ≡ Ok l.records → log_said o ≡ log_of l.records
-said_same None l bytes read e = absurd read
-said_same (Some m) l bytes read e = ap log_of (reads_same bytes m.records l.records read e)
+said_same : (late : List ℕ) (o : Option LogView) (l : LogView) (bytes : List ℕ) → IsRead late o bytes → log_text late bytes ≡ Ok l.records → log_said o ≡ log_of l.records
+said_same late None l bytes read e = absurd read
+said_same late (Some m) l bytes read e = ap log_of (reads_same late bytes m.records l.records read e)
 
 module _ (old new : WorldView) (b : ℕ) (lanes : ℕ → Lane) (fits : IsWorld old) (sound : IsSound old) (unspent : old.spent ≡ false) (l : LanesFit lanes old) (j : b < length old.topo.brokers)
     (elsewhere : (p : ℕ) → p < length old.topo.publishers → host_of old.topo p ≢ b → log_at new p ≡ log_at old p)
-    (found : (p : ℕ) → p < length old.topo.publishers → host_of old.topo p ≡ b → IsRead (log_at new p) (crash_image (lanes (2 * p)))) where
+    (found : (p : ℕ) → p < length old.topo.publishers → host_of old.topo p ≡ b → IsRead old.topo.late (log_at new p) (crash_image (lanes (2 * p)))) where
   log_found : (p : ℕ) → p < length old.topo.publishers → host_of old.topo p ≡ b → log_said (log_at new p) ≡ log_said (log_at old p)
   log_found p i at =
       let m = hosted_log old.topo b (broker_in old b) (fits.brokers b j) (fits.numbered b j) p i at in
       let e : log_at old p ≡ Some m.0 = subst (λ (c : ℕ). log_in (broker_in old c) p ≡ Some m.0) (sym at) m.1 in
       let fit = l.logs unspent p m.0 i (λ down. absurd (not_down (host_of old.topo p) (sym sound.up ∙ down))) e in
       let stands = fit.ready (sound.logs p m.0 i e) in
-      said_same (log_at new p) m.0 (crash_image (lanes (2 * p))) (found p i at)
-      (ap log_text (image_read (lanes (2 * p)) fit.unset) ∙ reads_spelled (content (lanes (2 * p))) m.0.records stands.text)
+      let text : IsSpelled old.topo.late (content (lanes (2 * p))) m.0.records = subst (λ (x : List ℕ). IsSpelled x (content (lanes (2 * p))) m.0.records) ((fits.brokers b j).late p m.0 m.1) stands.text in
+      said_same old.topo.late (log_at new p) m.0 (crash_image (lanes (2 * p))) (found p i at)
+      (ap (log_text old.topo.late) (image_read (lanes (2 * p)) fit.unset) ∙ reads_spelled old.topo.late (content (lanes (2 * p))) m.0.records text)
       ∙ sym (ap log_said e)
     where
       not_down : (c : ℕ) → None ≡ Some c → ⊥

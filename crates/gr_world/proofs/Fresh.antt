@@ -48,7 +48,7 @@ module _ (net : Net) (p b : ℕ) (log : Log) where
 pub started_below : (net : Net) (p b : ℕ) (log other : Log) → is_host net p b ≡ false → started net p b log ≡ started net p b other
 unfolding started
 started_below net p b log other below =
-    let made : Bool → Log → View = λ here l. record { know = if here then log_know l else []; wants = map (λ _. []) (net.children p b); asks = []; horizon = 0 } in
+    let made : Bool → Log → View = λ here l. record { know = if here then log_know l else []; wants = map (λ _. []) (net.children p b); asks = []; horizon = 0; joins = [] } in
     ap (λ here. made here log) below ∙ sym (ap (λ here. made here other) below)
 
 -- Over an empty log
@@ -59,14 +59,14 @@ module _ (net : Net) (p b : ℕ) where
   nobody = map (λ _. []) (net.children p b)
 
   abbrev blank : View
-  blank = record { know = []; wants = nobody; asks = []; horizon = 0 }
+  blank = record { know = []; wants = nobody; asks = []; horizon = 0; joins = [] }
 
   -- nothing is known
   starts_blank : started net p b empty_log ≡ blank
   unfolding started log_know
   starts_blank = go (is_host net p b)
     where
-      go : (here : Bool) → ◌≡◌ {A = View} (record { know = if here then log_know empty_log else []; wants = nobody; asks = []; horizon = 0 }) blank
+      go : (here : Bool) → ◌≡◌ {A = View} (record { know = if here then log_know empty_log else []; wants = nobody; asks = []; horizon = 0; joins = [] }) blank
       go true = refl
       go false = refl
 
@@ -95,14 +95,14 @@ module _ (net : Net) (p b : ℕ) where
   stays_zero false = refl
 
   abbrev learned : Bool → ℕ → List Wanted → View
-  learned keeps h ws = kept_view net p b (record { know = finished [] (consolidated keeps h ws); wants = ws; asks = []; horizon = h })
+  learned keeps h ws = kept_view net p b (record { know = finished [] (consolidated keeps h ws); wants = ws; asks = []; horizon = h; joins = [] })
 
   learned_blank : (keeps : Bool) (h : ℕ) (ws : List Wanted) → is_host net p b ≡ true → h ≡ 0 → ws ≡ nobody → learned keeps h ws ≡ blank
   unfolding kept_view finished
   learned_blank keeps h ws here still none =
       ap (λ (n : ℕ). learned keeps n ws) still
       ∙ ap (λ (xs : List Wanted). learned keeps 0 xs) none
-      ∙ ap (λ (done : Wanted). kept_view net p b (record { know = finished [] done; wants = nobody; asks = []; horizon = 0 })) (none_done keeps)
+      ∙ ap (λ (done : Wanted). kept_view net p b (record { know = finished [] done; wants = nobody; asks = []; horizon = 0; joins = [] })) (none_done keeps)
       ∙ rw (kept_view, here) refl
 
   nothing_told : (h : ℕ) (items : List (ℕ × Event)) (ss : List ℕ) → h ≡ 0 → flat_map (delivery_lines net p 0 h items) ss ≡ []

@@ -28,36 +28,36 @@ left_now start [] since image m = m
 left_now start (call ∷ calls) since image m = inl m
 
 -- what reads as records, or as these and one more, is a log
-pub reads_log : (rs : List Record) (r : Option Record) (image : List ℕ) → Reads rs r image → IsOk (log_text image)
-reads_log rs None image h = subst IsOk (sym h) refl
-reads_log rs (Some r) image h = elim h [ inl e ↦ subst IsOk (sym e) refl | inr e ↦ subst IsOk (sym e) refl ]
+pub reads_log : (late : List ℕ) (rs : List Record) (r : Option Record) (image : List ℕ) → Reads late rs r image → IsOk (log_text late image)
+reads_log late rs None image h = subst IsOk (sym h) refl
+reads_log late rs (Some r) image h = elim h [ inl e ↦ subst IsOk (sym e) refl | inr e ↦ subst IsOk (sym e) refl ]
 
--- What a call does to the lane of a log, as far as the world's own words go
-pub record LaneMoves (before after : Lane) : Type 0 where
+-- What a call does to the lane of a log, as far as the world's own words go, where these subscribers may join
+pub record LaneMoves (late : List ℕ) (before after : Lane) : Type 0 where
   pub reserved : before.reserved ≡ true → after.reserved ≡ true
   pub unset : before.stop ≡ Unset → after.stop ≡ Unset
-  pub readable : IsReadable before → IsReadable after
+  pub readable : IsReadable late before → IsReadable late after
 
 -- a log that the disk has failed is called no more; any other is left with its records, or with those that the call logs
-readable_by : (l : LogView) (before after : Lane) → (l.broken ≡ true → after ≡ before) → (l.broken ≡ false → IsReadable after) → IsReadable before → IsReadable after
-readable_by l before after still moved r = elim (cases_Bool l.broken) [ inl e ↦ subst IsReadable (sym (still e)) r | inr e ↦ moved e ]
+readable_by : (l : LogView) (before after : Lane) → (l.broken ≡ true → after ≡ before) → (l.broken ≡ false → IsReadable l.late after) → IsReadable l.late before → IsReadable l.late after
+readable_by l before after still moved r = elim (cases_Bool l.broken) [ inl e ↦ subst (IsReadable l.late) (sym (still e)) r | inr e ↦ moved e ]
 
 -- so a call that logs one record or none
-pub appends_moves : {T : Type 0} (l : LogView) (r : Option Record) (before after : Lane) (result : Result T LogFault) → Appends l r before after result → (l.broken ≡ true → after ≡ before) → LaneMoves before after
+pub appends_moves : {T : Type 0} (l : LogView) (r : Option Record) (before after : Lane) (result : Result T LogFault) → Appends l r before after result → (l.broken ≡ true → after ≡ before) → LaneMoves l.late before after
 appends_moves l r before after result a still = record {
   reserved = a.reserved;
   unset = a.unset;
-  readable = readable_by l before after still (λ whole image m. reads_log l.records r image (a.any_moment whole image (left_now after.start after.calls _ image m)));
+  readable = readable_by l before after still (λ whole image m. reads_log l.late l.records r image (a.any_moment whole image (left_now after.start after.calls _ image m)));
 }
 
 -- and one that logs another after it
-pub twice_moves : {T : Type 0} (l : LogView) (first second : Option Record) (before after : Lane) (result : Result T LogFault) → AppendsTwice l first second before after result → (l.broken ≡ true → after ≡ before) → LaneMoves before after
+pub twice_moves : {T : Type 0} (l : LogView) (first second : Option Record) (before after : Lane) (result : Result T LogFault) → AppendsTwice l first second before after result → (l.broken ≡ true → after ≡ before) → LaneMoves l.late before after
 twice_moves {T} l first second before after result t still = record {
   reserved = λ h. then_on (λ x. x.reserved ≡ true) (λ r a. a.reserved) (t.one.reserved h);
   unset = λ h. then_on (λ x. x.stop ≡ Unset) (λ r a. a.unset) (t.one.unset h);
   readable = readable_by l before after still (λ whole image m. elim (t.any_moment whole image (left_now after.start after.calls _ image m)) [
-    | inl h ↦ reads_log l.records first image h
-    | inr h ↦ reads_log (records_with l.records first) second image h
+    | inl h ↦ reads_log l.late l.records first image h
+    | inr h ↦ reads_log l.late (records_with l.records first) second image h
   ]);
 }
   where
@@ -78,7 +78,7 @@ module _ (w : WorldView) (b p : ℕ) (after : BrokerView) (frames : List (List �
   Other = (n : ℕ) → n ≢ 2 * p → lanes' n ≡ lanes n
 
   -- each lane fits its log still, and reads as a log
-  pub lanes_fit : Touches p (broker_in w b) after → IsOpen w → LanesFit lanes w → Other → (host_of w.topo p ≡ b → LaneMoves (lanes (2 * p)) (lanes' (2 * p)))
+  pub lanes_fit : Touches p (broker_in w b) after → IsOpen w → LanesFit lanes w → Other → (host_of w.topo p ≡ b → LaneMoves w.topo.late (lanes (2 * p)) (lanes' (2 * p)))
       → (host_of w.topo p ≢ b → lanes' (2 * p) ≡ lanes (2 * p)) → LogsStand lanes' after → LanesFit lanes' (put_in w b after frames)
   lanes_fit t is_open f other moves still stands = record {
     logs = λ unspent q l lt_q up e. logs_of q l lt_q e (cases_eq q p) (cases_eq (host_of w.topo p) b);
@@ -110,10 +110,10 @@ module _ (w : WorldView) (b p : ℕ) (after : BrokerView) (frames : List (List �
           (subst (LaneFits l) (sym (still n)) (old p l below (sym (log_elsewhere w b p after frames within p n) ∙ (ap (λ k. log_at (put_in w b after frames) k) (sym s) ∙ e))))
       logs_of q l lt_q e (inr n) at = subst (LaneFits l) (sym (other (2 * q) (λ x. n (omega (arith, x))))) (old q l lt_q (sym (log_stays w b p after frames within t q n) ∙ e))
 
-      readable_of : (q : ℕ) → q < length w.topo.publishers → (q ≡ p) ⊎ (q ≢ p) → (host_of w.topo p ≡ b) ⊎ (host_of w.topo p ≢ b) → IsReadable (lanes' (2 * q))
-      readable_of q lt_q (inl s) (inl at) = subst (λ k. IsReadable (lanes' (2 * k))) (sym s) ((moves at).readable (f.readable is_open.unspent p below))
-      readable_of q lt_q (inl s) (inr n) = subst (λ k. IsReadable (lanes' (2 * k))) (sym s) (subst IsReadable (sym (still n)) (f.readable is_open.unspent p below))
-      readable_of q lt_q (inr n) at = subst IsReadable (sym (other (2 * q) (λ x. n (omega (arith, x))))) (f.readable is_open.unspent q lt_q)
+      readable_of : (q : ℕ) → q < length w.topo.publishers → (q ≡ p) ⊎ (q ≢ p) → (host_of w.topo p ≡ b) ⊎ (host_of w.topo p ≢ b) → IsReadable w.topo.late (lanes' (2 * q))
+      readable_of q lt_q (inl s) (inl at) = subst (λ k. IsReadable w.topo.late (lanes' (2 * k))) (sym s) ((moves at).readable (f.readable is_open.unspent p below))
+      readable_of q lt_q (inl s) (inr n) = subst (λ k. IsReadable w.topo.late (lanes' (2 * k))) (sym s) (subst (IsReadable w.topo.late) (sym (still n)) (f.readable is_open.unspent p below))
+      readable_of q lt_q (inr n) at = subst (IsReadable w.topo.late) (sym (other (2 * q) (λ x. n (omega (arith, x))))) (f.readable is_open.unspent q lt_q)
 
 -- no stop is ordered on the lane of a publisher, so none can have broken a call on it
 pub never_stopped : (w : WorldView) (lanes : ℕ → Lane) (p : ℕ) → IsWorld w → IsOpen w → LanesFit lanes w → p < length w.topo.publishers → host_of w.topo p < length w.topo.brokers → has_stopped (lanes (2 * p)).stop ≡ true → ⊥

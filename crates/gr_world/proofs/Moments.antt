@@ -2,7 +2,7 @@
 use Rattle.std.proofs.Common.{◌≡◌, ℕ, suc, ◌+◌, ◌-◌, ◌^◌, ◌<◌, ◌≤◌, max, List, ◌∷◌, length, map, get_or, Some, sym, ap, ap₂, ◌∙◌, arith, add-one}
 use Rattle.std.proofs.lemmas.List.{get_or_read}
 use Rattle.gr_publog.specs.Crash.{LogView}
-use Rattle.gr_publog.specs.State.{state_of, empty_state, Follow}
+use Rattle.gr_publog.specs.State.{state_of, first_standing, Follow}
 use Rattle.gr_pubend.specs.Log.{Log, empty_log, log_of as log_of_records}
 use Rattle.gr_pubend.proofs.Knowing.{stays_of}
 use Rattle.gr_topo.specs.Topology.{TopologyView, host_of}
@@ -32,9 +32,9 @@ pub log_is : (w : WorldView) (p : ℕ) (l : LogView) → p < length w.topo.publi
 log_is w p l i e = log_here w p i ∙ ap (λ o. log_said o) e
 
 -- what it has settled is what its records have settled
-pub settled_is : (w : WorldView) (p n : ℕ) (l : LogView) → p < length w.topo.publishers → log_at w p ≡ Some l → Follow empty_state l.records → n ≡ (state_of l.records).settled → (n ≡ (log_of (world_of w) p).settled) × (n ≤ 2 ^ 62)
+pub settled_is : (w : WorldView) (p n : ℕ) (l : LogView) → p < length w.topo.publishers → log_at w p ≡ Some l → Follow (first_standing l.late) l.records → n ≡ (state_of l.records).settled → (n ≡ (log_of (world_of w) p).settled) × (n ≤ 2 ^ 62)
 settled_is w p n l i e follow is =
-    let s = stays_of l.records follow in
+    let s = stays_of l.late l.records follow in
     let same : n ≡ (log_of_records l.records).settled = is ∙ sym s.settled in
     (same ∙ sym (ap (λ (k : Log). k.settled) (log_is w p l i e)), omega (arith, same, s.upto))
 

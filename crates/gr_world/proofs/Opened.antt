@@ -5,7 +5,7 @@ use Rattle.std.proofs.lemmas.List.{length-map, get_or-map, ext_get_or}
 use Rattle.gr_out.specs.Lane.{Lane, content}
 use Rattle.gr_publog.specs.declared.record.Record.{Record}
 use Rattle.gr_publog.specs.Text.{log_text}
-use Rattle.gr_publog.specs.Crash.{LogView}
+use Rattle.gr_publog.specs.Crash.{LogView, Stands}
 use Rattle.gr_publog.specs.Calls.{Opens}
 use Rattle.gr_pubend.specs.Log.{Log, empty_log, log_of}
 use Rattle.gr_topo.specs.Topology.{TopologyView, IsTopology, host_of}
@@ -26,13 +26,13 @@ use Rattle.gr_report.proofs.Along.{flat_map_none, map_same}
 use Rattle.gr_report.proofs.Readable.{ok_same, stands_readable}
 use Rattle.gr_world.proofs.Fresh.{fresh_view, fresh_lines}
 
-reads_nothing : (rs : List Record) → log_text [] ≡ Ok rs → rs ≡ []
+reads_nothing : (late : List ℕ) (rs : List Record) → log_text late [] ≡ Ok rs → rs ≡ []
 unfolding log_text
-reads_nothing rs e = ok_same rs [] (sym e)
+reads_nothing late rs e = ok_same rs [] (sym e)
 
 -- a log is what its lane held
-pub is_read : (o : Option LogView) (l : LogView) (bytes : List ℕ) → o ≡ Some l → log_text bytes ≡ Ok l.records → IsRead o bytes
-is_read o l bytes e read = subst (λ (x : Option LogView). IsRead x bytes) (sym e) read
+pub is_read : (late : List ℕ) (o : Option LogView) (l : LogView) (bytes : List ℕ) → o ≡ Some l → log_text late bytes ≡ Ok l.records → IsRead late o bytes
+is_read late o l bytes e read = subst (λ (x : Option LogView). IsRead late x bytes) (sym e) read
 
 -- a world at its first moment
 abbrev pub world_at : TopologyView → List BrokerView → List Report → List (List ℕ) → WorldView
@@ -82,27 +82,27 @@ module _ (t : TopologyView) (brokers : List BrokerView) (told : List Report) (so
   has_log p j = let h = broker_at p j in hosted_log t (host_of t p) (broker_in opened_world (host_of t p)) h.fits h.number p j refl
 
   module _ (before after : ℕ → Lane) (o : HaveOpened t (length t.brokers) brokers before after) where
-    lane_opened : (p : ℕ) (l : LogView) → p < length t.publishers → log_at opened_world p ≡ Some l → Opens (before (2 * p)) (after (2 * p)) (Ok l)
+    lane_opened : (p : ℕ) (l : LogView) → p < length t.publishers → log_at opened_world p ≡ Some l → Opens t.late (before (2 * p)) (after (2 * p)) (Ok l)
     lane_opened p l j e = o.opened (host_of t p) p l (sound.sound.host_in p j) e
 
     -- the logs are those that the lanes hold
-    pub opened_found : (p : ℕ) → p < length t.publishers → IsRead (log_at opened_world p) (content (before (2 * p)))
+    pub opened_found : (p : ℕ) → p < length t.publishers → IsRead t.late (log_at opened_world p) (content (before (2 * p)))
     opened_found p j =
         let l = has_log p j in
-        is_read (log_at opened_world p) l.0 (content (before (2 * p))) l.1 (lane_opened p l.0 j l.1).gives
+        is_read t.late (log_at opened_world p) l.0 (content (before (2 * p))) l.1 (lane_opened p l.0 j l.1).gives
 
     -- and the lanes fit them
     pub opened_lanes : NoStops before → LanesFit after opened_world
     opened_lanes none = record {
-      logs = λ unspent p l j up e. let x = lane_opened p l j e in record { ready = λ whole. x.stands; reserved = x.reserved; unset = x.unset (none (2 * p)) };
-      readable = λ unspent p j. let l = has_log p j in stands_readable (after (2 * p)) l.0.records (lane_opened p l.0 j l.1).stands;
+      logs = λ unspent p l j up e. let x = lane_opened p l j e in record { ready = λ whole. subst (λ (late : List ℕ). Stands (after (2 * p)) late l.records) (sym ((broker_at p j).fits.late p l e)) x.stands; reserved = x.reserved; unset = x.unset (none (2 * p)) };
+      readable = λ unspent p j. let l = has_log p j in stands_readable (after (2 * p)) t.late l.0.records (lane_opened p l.0 j l.1).stands;
     }
 
     -- Over empty lanes
 
     module _ (empty : AreEmpty t before) where
-      empty_records : (l : LogView) (bytes : List ℕ) → bytes ≡ [] → log_text bytes ≡ Ok l.records → log_of l.records ≡ empty_log
-      empty_records l bytes none read = ap log_of (reads_nothing l.records (sym (ap log_text none) ∙ read))
+      empty_records : (l : LogView) (bytes : List ℕ) → bytes ≡ [] → log_text t.late bytes ≡ Ok l.records → log_of l.records ≡ empty_log
+      empty_records l bytes none read = ap log_of (reads_nothing t.late l.records (sym (ap (log_text t.late) none) ∙ read))
 
       log_empty : (b p : ℕ) → b < length t.brokers → p < length t.publishers → machine_log (broker_in opened_world b) p ≡ empty_log
       log_empty b p i j = go (log_in (broker_in opened_world b) p) refl

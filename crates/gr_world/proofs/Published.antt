@@ -139,12 +139,13 @@ module _ (w : WorldView) (b p number : ℕ) (e : Event) (i : IsWorld w) (lt : b 
   Logs o lanes lanes' answer = elim o [ Some l ↦ Appends l (publish_logs_at broker p w.clock number e) (lanes (2 * p)) (lanes' (2 * p)) (log_answer answer) | None ↦ Unit {0} ]
 
   pub moves : (after : BrokerView) (lanes lanes' : ℕ → Lane) (answer : Result Outcome BrokerFault) → Publishes w.topo broker p w.clock number e after answer → PublishesOn broker p w.clock number e after lanes lanes' answer
-      → LaneMoves (lanes (2 * p)) (lanes' (2 * p))
-  moves after lanes lanes' answer k on = go (log_in broker p) on.lane hosted (still after lanes lanes' answer k on)
+      → LaneMoves w.topo.late (lanes (2 * p)) (lanes' (2 * p))
+  moves after lanes lanes' answer k on = go (log_in broker p) refl on.lane hosted (still after lanes lanes' answer k on)
     where
-      go : (o : Option LogView) → Logs o lanes lanes' answer → is_some o ≡ true → (is_broken o ≡ true → lanes' (2 * p) ≡ lanes (2 * p)) → LaneMoves (lanes (2 * p)) (lanes' (2 * p))
-      go (Some l) a s quiet = appends_moves l (publish_logs_at broker p w.clock number e) (lanes (2 * p)) (lanes' (2 * p)) (log_answer answer) a quiet
-      go None a s quiet = absurd (false≢true s)
+      go : (o : Option LogView) → log_in broker p ≡ o → Logs o lanes lanes' answer → is_some o ≡ true → (is_broken o ≡ true → lanes' (2 * p) ≡ lanes (2 * p)) → LaneMoves w.topo.late (lanes (2 * p)) (lanes' (2 * p))
+      go (Some l) is a s quiet =
+          subst (λ (late : List ℕ). LaneMoves late (lanes (2 * p)) (lanes' (2 * p))) ((i.brokers b lt).late p l is) (appends_moves l (publish_logs_at broker p w.clock number e) (lanes (2 * p)) (lanes' (2 * p)) (log_answer answer) a quiet)
+      go None is a s quiet = absurd (false≢true s)
 
   pub publish_lanes : (after : BrokerView) (frames : List (List ℕ)) (lanes lanes' : ℕ → Lane) (answer : Result Outcome BrokerFault) (result : Result (List Report) WorldFault) → IsOpen w → LanesFit lanes w
       → Publishes w.topo broker p w.clock number e after answer → PublishesOn broker p w.clock number e after lanes lanes' answer → Called w b p (publish_in w b p number e) after frames result

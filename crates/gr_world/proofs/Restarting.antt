@@ -7,7 +7,7 @@ use Rattle.std.proofs.lemmas.List.{length-set, get_or-set_same, get_or-set_other
 use Rattle.gr_out.specs.Lane.{Lane, Call, content, moment, crash_image, crashed, LeftAfter, MayLeave, LeftFrom}
 use Rattle.gr_out.proofs.Images.{image_left}
 use Rattle.gr_publog.specs.Text.{log_text}
-use Rattle.gr_publog.specs.Crash.{LogView}
+use Rattle.gr_publog.specs.Crash.{LogView, Stands}
 use Rattle.gr_publog.specs.Calls.{Opens}
 use Rattle.gr_pubend.specs.Log.{Log, empty_log}
 use Rattle.gr_topo.specs.Topology.{TopologyView, host_of, subscribers_of, not_empty}
@@ -39,18 +39,18 @@ now_since start [] n image left = left
 now_since start (c ∷ calls) n image left = inl left
 
 -- a crashed lane that has lost nothing reads as a log
-pub still_readable : (before after : Lane) → IsReadable before → LosesNothing (crashed before) after → IsReadable after
-still_readable before after reads loses image left = go (loses image (now_since after.start after.calls (moment (crashed before)) image left))
+pub still_readable : (late : List ℕ) (before after : Lane) → IsReadable late before → LosesNothing late (crashed before) after → IsReadable late after
+still_readable late before after reads loses image left = go (loses image (now_since after.start after.calls (moment (crashed before)) image left))
   where
-    picked : IsOk (log_text (crash_image before))
+    picked : IsOk (log_text late (crash_image before))
     picked = reads (crash_image before) (image_left before)
 
-    go : MayLeave (crashed before) image ⊎ (log_text image ≡ log_text (content (crashed before))) → IsOk (log_text image)
-    go (inl same) = subst (λ (bytes : List ℕ). IsOk (log_text bytes)) (sym same) picked
+    go : MayLeave (crashed before) image ⊎ (log_text late image ≡ log_text late (content (crashed before))) → IsOk (log_text late image)
+    go (inl same) = subst (λ (bytes : List ℕ). IsOk (log_text late bytes)) (sym same) picked
     go (inr same) = subst (λ r. IsOk r) (sym same) picked
 
 -- so no crash leaves a lane without a log
-pub no_log_left : (t : TopologyView) (b p at : ℕ) (lane : Lane) → LeavesNoLog t b p at lane → IsReadable lane → ⊥
+pub no_log_left : (t : TopologyView) (b p at : ℕ) (lane : Lane) → LeavesNoLog t b p at lane → IsReadable t.late lane → ⊥
 no_log_left t b p at lane none reads = absurd (false≢true (subst (λ r. is_ok r ≡ true) none.fault (reads (crash_image lane) (image_left lane))))
 
 -- The world with other brokers, and another word on which is down
@@ -74,14 +74,14 @@ module _ (t : TopologyView) (b : ℕ) (before after : ℕ → Lane) (touches : T
   lane_stays p n = touches.others (2 * p) (λ q i at. lanes_apart t p q (host_of t p) b refl at n)
 
   -- and all read as logs still
-  pub all_readable : ((p : ℕ) → p < length t.publishers → IsReadable (before (2 * p))) → (p : ℕ) → p < length t.publishers → IsReadable (after (2 * p))
+  pub all_readable : ((p : ℕ) → p < length t.publishers → IsReadable t.late (before (2 * p))) → (p : ℕ) → p < length t.publishers → IsReadable t.late (after (2 * p))
   all_readable readable p i = elim (cases_eq (host_of t p) b) [
-    | inl at ↦ still_readable (before (2 * p)) (after (2 * p)) (readable p i) (touches.any_moment p i at)
-    | inr n ↦ subst (λ (lane : Lane). IsReadable lane) (sym (lane_stays p n)) (readable p i)
+    | inl at ↦ still_readable t.late (before (2 * p)) (after (2 * p)) (readable p i) (touches.any_moment p i at)
+    | inr n ↦ subst (λ (lane : Lane). IsReadable t.late lane) (sym (lane_stays p n)) (readable p i)
   ]
 
 -- where it has not started it is down, and the lanes of the others fit
-down_lanes : (w : WorldView) (b : ℕ) (before after : ℕ → Lane) → TouchesLanes w.topo b before after → ((p : ℕ) → p < length w.topo.publishers → IsReadable (before (2 * p)))
+down_lanes : (w : WorldView) (b : ℕ) (before after : ℕ → Lane) → TouchesLanes w.topo b before after → ((p : ℕ) → p < length w.topo.publishers → IsReadable w.topo.late (before (2 * p)))
     → ((p : ℕ) (l : LogView) → p < length w.topo.publishers → host_of w.topo p ≢ b → log_at w p ≡ Some l → LaneFits l (before (2 * p)))
     → LanesFit after (with_brokers w w.brokers (Some b))
 down_lanes w b before after touches readable others = record {
@@ -93,7 +93,7 @@ down_lanes w b before after touches readable others = record {
 
 -- the same of a world by what it is
 pub failed_lanes : (w : WorldView) (b : ℕ) (brokers : List BrokerView) (down : Option ℕ) (before after : ℕ → Lane) → brokers ≡ w.brokers → down ≡ Some b → TouchesLanes w.topo b before after
-    → ((p : ℕ) → p < length w.topo.publishers → IsReadable (before (2 * p)))
+    → ((p : ℕ) → p < length w.topo.publishers → IsReadable w.topo.late (before (2 * p)))
     → ((p : ℕ) (l : LogView) → p < length w.topo.publishers → host_of w.topo p ≢ b → log_at w p ≡ Some l → LaneFits l (before (2 * p)))
     → LanesFit after (with_brokers w brokers down)
 failed_lanes w b brokers down before after same is touches readable others =
@@ -223,24 +223,24 @@ module _ (w : WorldView) (b : ℕ) (brokers : List BrokerView) (told : List Repo
 
   -- Its lanes
 
-  module _ (before after : ℕ → Lane) (opens : OpensAgain b brokers before after) where
-    lane_opened : (p : ℕ) (l : LogView) → host_of w.topo p ≡ b → log_at again p ≡ Some l → Opens (crashed (before (2 * p))) (after (2 * p)) (Ok l)
+  module _ (before after : ℕ → Lane) (opens : OpensAgain w.topo b brokers before after) where
+    lane_opened : (p : ℕ) (l : LogView) → host_of w.topo p ≡ b → log_at again p ≡ Some l → Opens w.topo.late (crashed (before (2 * p))) (after (2 * p)) (Ok l)
     lane_opened p l at e = opens p l (sym (ap (λ (c : ℕ). log_in (broker_in again c) p) at) ∙ e)
 
     -- the logs are those that the crash left
-    pub again_found : (p : ℕ) → p < length w.topo.publishers → host_of w.topo p ≡ b → IsRead (log_at again p) (crash_image (before (2 * p)))
+    pub again_found : (p : ℕ) → p < length w.topo.publishers → host_of w.topo p ≡ b → IsRead w.topo.late (log_at again p) (crash_image (before (2 * p)))
     again_found p i at =
         let l = hosted_log w.topo b the_broker x.started.fits x.started.number p i at in
         let e = log_here p at ∙ l.1 in
-        is_read (log_at again p) l.0 (crash_image (before (2 * p))) e (lane_opened p l.0 at e).gives
+        is_read w.topo.late (log_at again p) l.0 (crash_image (before (2 * p))) e (lane_opened p l.0 at e).gives
 
     -- and the lanes fit them
-    pub again_lanes : TouchesLanes w.topo b before after → ((p : ℕ) → p < length w.topo.publishers → IsReadable (before (2 * p)))
+    pub again_lanes : TouchesLanes w.topo b before after → ((p : ℕ) → p < length w.topo.publishers → IsReadable w.topo.late (before (2 * p)))
         → ((p : ℕ) (l : LogView) → p < length w.topo.publishers → host_of w.topo p ≢ b → log_at w p ≡ Some l → LaneFits l (before (2 * p)))
         → LanesFit after again
     again_lanes touches readable others = record {
       logs = λ unspent p l i up e. elim (cases_eq (host_of w.topo p) b) [
-        | inl at ↦ let o = lane_opened p l at e in record { ready = λ whole. o.stands; reserved = o.reserved; unset = o.unset refl }
+        | inl at ↦ let o = lane_opened p l at e in record { ready = λ whole. subst (λ (late : List ℕ). Stands (after (2 * p)) late l.records) (sym (x.started.fits.late p l (sym (log_here p at) ∙ e))) o.stands; reserved = o.reserved; unset = o.unset refl }
         | inr n ↦ subst (λ (lane : Lane). LaneFits l lane) (sym (lane_stays w.topo b before after touches p n)) (others p l i n (sym (log_there p n) ∙ e))
       ];
       readable = λ unspent p i. all_readable w.topo b before after touches readable p i;

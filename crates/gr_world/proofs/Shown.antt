@@ -1,7 +1,7 @@
 -- What is shown, line by line: a publisher's log by the four numbers that its records stand for, and a broker's horizon as it is kept
 use Rattle.std.proofs.Common.{◌≡◌, ℕ, ◌+◌, ◌<◌, List, [], ◌∷◌, ◌++◌, length, map, get_or, flat_map, Option, Some, sym, ap, ◌∙◌, subst, arith}
 use Rattle.std.proofs.lemmas.List.{get_or_read, length-map}
-use Rattle.gr_publog.specs.State.{empty_state, state_of, live_events, Follow}
+use Rattle.gr_publog.specs.State.{first_standing, state_of, live_events, Follow}
 use Rattle.gr_publog.specs.Crash.{LogView}
 use Rattle.gr_topo.specs.Topology.{host_of}
 use Rattle.gr_model.specs.declared.report.Report.{Report}
@@ -25,7 +25,7 @@ log_found w p h =
     at_number (λ q. log_said (log_at w q)) 0 (length w.topo.publishers) p empty_log h ∙ ap (λ q. log_said (log_at w q)) e
 
 -- its line says the numbers of its records, and how many of its events are past the cut
-pub log_line : (w : WorldView) (p last settled cut kept : ℕ) (l : LogView) → p < length w.topo.publishers → log_at w p ≡ Some l → Follow empty_state l.records
+pub log_line : (w : WorldView) (p last settled cut kept : ℕ) (l : LogView) → p < length w.topo.publishers → log_at w p ≡ Some l → Follow (first_standing l.late) l.records
     → last ≡ (state_of l.records).last → settled ≡ (state_of l.records).settled → cut ≡ (state_of l.records).cut → kept ≡ length (live_events l.records)
     → line.LogOf p last settled cut kept ≡ log_shown (world_of w) p
 log_line w p last settled cut kept l h at f e1 e2 e3 e4 =

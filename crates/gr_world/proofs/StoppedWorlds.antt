@@ -168,12 +168,12 @@ is_here w lanes p fits o f j i =
     record { log = l.0; there = l.1; lane = f.logs o.unspent p l.0 j (λ e. cc (o.up, e)) l.1 }
 
 -- Only one lane was touched
-module _ (w : WorldView) (lanes lanes' : ℕ → Lane) (b p : ℕ) (o : IsOpen w) (f : LanesFit lanes w) (host : b ≡ host_of w.topo p) (readable : IsReadable (lanes' (2 * p)))
+module _ (w : WorldView) (lanes lanes' : ℕ → Lane) (b p : ℕ) (o : IsOpen w) (f : LanesFit lanes w) (host : b ≡ host_of w.topo p) (readable : IsReadable w.topo.late (lanes' (2 * p)))
     (others : (n : ℕ) → n ≢ 2 * p → lanes' n ≡ lanes n) where
-  pub readable_after : (q : ℕ) → q < length w.topo.publishers → IsReadable (lanes' (2 * q))
+  pub readable_after : (q : ℕ) → q < length w.topo.publishers → IsReadable w.topo.late (lanes' (2 * q))
   readable_after q j = elim (cases_eq q p) [
-    | inl e ↦ subst (λ k. IsReadable (lanes' (2 * k))) (sym e) readable
-    | inr ne ↦ subst IsReadable (sym (others (2 * q) (λ s. ne (omega arith)))) (f.readable o.unspent q j)
+    | inl e ↦ subst (λ k. IsReadable w.topo.late (lanes' (2 * k))) (sym e) readable
+    | inr ne ↦ subst (IsReadable w.topo.late) (sym (others (2 * q) (λ s. ne (omega arith)))) (f.readable o.unspent q j)
   ]
 
   pub fits_after : (q : ℕ) (l : LogView) → q < length w.topo.publishers → host_of w.topo q ≢ b → log_at w q ≡ Some l → LaneFits l (lanes' (2 * q))
@@ -182,9 +182,9 @@ module _ (w : WorldView) (lanes lanes' : ℕ → Lane) (b p : ℕ) (o : IsOpen w
 
 -- The logs that are left
 
-read_as : (o : Option LogView) (bytes : List ℕ) (rs : List Record) → IsRead o bytes → log_text bytes ≡ Ok rs → log_said o ≡ log_from_records rs
-read_as None bytes rs r t = absurd r
-read_as (Some l) bytes rs r t = ap log_from_records (let same : l.records ≡ rs = cc (r, t) in same)
+read_as : (late : List ℕ) (o : Option LogView) (bytes : List ℕ) (rs : List Record) → IsRead late o bytes → log_text late bytes ≡ Ok rs → log_said o ≡ log_from_records rs
+read_as late None bytes rs r t = absurd r
+read_as late (Some l) bytes rs r t = ap log_from_records (let same : l.records ≡ rs = cc (r, t) in same)
 
 -- a lane with no stop is found as it reads
 not_stopped_image : (l : Lane) → l.stop ≡ Unset → crash_image l ≡ content l
@@ -204,9 +204,9 @@ kept_as rs tick number call pick e = go (is_kept (length (front_text rs)) call p
 
 module _ (old new : WorldView) (lanes lanes' : ℕ → Lane) (b p tick number call pick : ℕ) (e : Event) (h : IsHere old lanes p) (fits : IsWorld old) (o : IsOpen old) (f : LanesFit lanes old) (sound : IsSound old)
     (host : b ≡ host_of old.topo p) (broker : b < length old.topo.brokers) (j : p < length old.topo.publishers)
-    (stopped : (let l : LogView = h.log in log_text (crash_image (lanes' (2 * p))) ≡ Ok (records_kept l.records (entry.Event tick number e) call pick)))
+    (stopped : (let l : LogView = h.log in log_text old.topo.late (crash_image (lanes' (2 * p))) ≡ Ok (records_kept l.records (entry.Event tick number e) call pick)))
     (others : (n : ℕ) → n ≢ 2 * p → lanes' n ≡ lanes n)
-    (found : (q : ℕ) → q < length old.topo.publishers → host_of old.topo q ≡ b → IsRead (log_at new q) (crash_image (lanes' (2 * q))))
+    (found : (q : ℕ) → q < length old.topo.publishers → host_of old.topo q ≡ b → IsRead old.topo.late (log_at new q) (crash_image (lanes' (2 * q))))
     (elsewhere : (q : ℕ) → q < length old.topo.publishers → host_of old.topo q ≢ b → log_at new q ≡ log_at old q)
     (topo : new.topo ≡ old.topo) where
   abbrev here : World
@@ -220,15 +220,18 @@ module _ (old new : WorldView) (lanes lanes' : ℕ → Lane) (b p tick number ca
         let same : lanes' (2 * q) ≡ lanes (2 * q) = others (2 * q) (λ s. ne (omega arith)) in
         let image : crash_image (lanes' (2 * q)) ≡ content (lanes (2 * q)) = ap crash_image same ∙ not_stopped_image (lanes (2 * q)) x.lane.unset in
         let rs : List Record = (let l : LogView = x.log in l.records) in
-        let reads : log_text (content (lanes (2 * q))) ≡ Ok rs = stands_reads (lanes (2 * q)) rs (x.lane.ready (sound.logs q x.log i x.there)) in
-        read_as (log_at new q) (crash_image (lanes' (2 * q))) rs (found q i at) (ap log_text image ∙ reads) ∙ sym (ap log_said x.there)
+        let own : List ℕ = (let l : LogView = x.log in l.late) in
+        let late : own ≡ old.topo.late = (fits.brokers (host_of old.topo q) (subst (λ k. k < length old.topo.brokers) (sym at) broker)).late q x.log x.there in
+        let reads : log_text old.topo.late (content (lanes (2 * q))) ≡ Ok rs =
+        subst (λ (z : List ℕ). log_text z (content (lanes (2 * q))) ≡ Ok rs) late (stands_reads (lanes (2 * q)) own rs (x.lane.ready (sound.logs q x.log i x.there))) in
+        read_as old.topo.late (log_at new q) (crash_image (lanes' (2 * q))) rs (found q i at) (ap (log_text old.topo.late) image ∙ reads) ∙ sym (ap log_said x.there)
   ]
 
   own_log : log_said (log_at new p) ≡ (let log : Log = log_of here p in if is_kept log.gate call pick then with_event log tick e else log)
   own_log =
       let rs : List Record = (let l : LogView = h.log in l.records) in
       let is : log_from_records rs ≡ log_of here p = sym (log_there old p j ∙ ap log_said h.there) in
-      read_as (log_at new p) (crash_image (lanes' (2 * p))) (records_kept rs (entry.Event tick number e) call pick) (found p j (sym host)) stopped
+      read_as old.topo.late (log_at new p) (crash_image (lanes' (2 * p))) (records_kept rs (entry.Event tick number e) call pick) (found p j (sym host)) stopped
       ∙ kept_as rs tick number call pick e
       ∙ ap (λ (log : Log). if is_kept log.gate call pick then with_event log tick e else log) is
 
@@ -292,7 +295,7 @@ pub stopped_true : (old new : WorldView) (lanes lanes' : ℕ → Lane) (n b p nu
     → (host : b ≡ host_of old.topo p) (broker : b < length old.topo.brokers) (j : p < length old.topo.publishers) → not_empty (subscribers_of old.topo b) ≡ false → tick_in (log_said (log_at old p)) number old.clock ≡ Some tick
     → ((m : ℕ) → m ≢ 2 * p → lanes' m ≡ lanes m) → new.topo ≡ old.topo
     → Does (let u : World = world_of new in stopped_over (net_in old) (world_of (broken_in old b p)) b p number tick u.logs) new result
-    → OnOk result ((q : ℕ) → q < length old.topo.publishers → host_of old.topo q ≡ b → IsRead (log_at new q) (crash_image (lanes' (2 * q))))
+    → OnOk result ((q : ℕ) → q < length old.topo.publishers → host_of old.topo q ≡ b → IsRead old.topo.late (log_at new q) (crash_image (lanes' (2 * q))))
     → OnOk result ((q : ℕ) → q < length old.topo.publishers → host_of old.topo q ≢ b → log_at new q ≡ log_at (broken_in old b p) q)
     → Does (publish_stopped (net_in old) (world_of old) n p number stop e) new result
 stopped_true old new lanes lanes' n b p number tick stop e result left fits o f sound host broker j alone next others topo d found elsewhere =
@@ -309,29 +312,29 @@ pub stopped_mid : (old mid new : WorldView) (lanes lanes' : ℕ → Lane) (n b p
     → b ≡ host_of old.topo p → b < length old.topo.brokers → p < length old.topo.publishers → not_empty (subscribers_of old.topo b) ≡ false → tick_in (log_said (log_at old p)) number old.clock ≡ Some tick
     → ((m : ℕ) → m ≢ 2 * p → lanes' m ≡ lanes m) → mid ≡ broken_in old b p → StopRestarts b mid new result
     → Does (let u : World = world_of new in stopped_over (net_in mid) (world_of mid) b p number tick u.logs) new result
-    → OnOk result ((q : ℕ) → q < length mid.topo.publishers → host_of mid.topo q ≡ b → IsRead (log_at new q) (crash_image (lanes' (2 * q))))
+    → OnOk result ((q : ℕ) → q < length mid.topo.publishers → host_of mid.topo q ≡ b → IsRead mid.topo.late (log_at new q) (crash_image (lanes' (2 * q))))
     → OnOk result ((q : ℕ) → q < length mid.topo.publishers → host_of mid.topo q ≢ b → log_at new q ≡ log_at mid q)
     → Does (publish_stopped (net_in old) (world_of old) n p number stop e) new result
 stopped_mid old mid new lanes lanes' n b p number tick stop e result left fits o f sound host broker j alone next others is =
     subst (λ (m : WorldView). StopRestarts b m new result → Does (let u : World = world_of new in stopped_over (net_in m) (world_of m) b p number tick u.logs) new result
-    → OnOk result ((q : ℕ) → q < length m.topo.publishers → host_of m.topo q ≡ b → IsRead (log_at new q) (crash_image (lanes' (2 * q))))
+    → OnOk result ((q : ℕ) → q < length m.topo.publishers → host_of m.topo q ≡ b → IsRead m.topo.late (log_at new q) (crash_image (lanes' (2 * q))))
     → OnOk result ((q : ℕ) → q < length m.topo.publishers → host_of m.topo q ≢ b → log_at new q ≡ log_at m q)
     → Does (publish_stopped (net_in old) (world_of old) n p number stop e) new result) (sym is)
     (λ r d x y. stopped_true old new lanes lanes' n b p number tick stop e result left fits o f sound host broker j alone next others r.stays.topo d x y)
 
 -- the lanes of the other brokers fit it still
 pub fits_mid : (old mid : WorldView) (lanes lanes' : ℕ → Lane) (b p : ℕ) → IsWorld old → IsOpen old → LanesFit lanes old → b ≡ host_of old.topo p → b < length old.topo.brokers → p < length old.topo.publishers
-    → IsReadable (lanes' (2 * p)) → ((m : ℕ) → m ≢ 2 * p → lanes' m ≡ lanes m) → mid ≡ broken_in old b p
+    → IsReadable old.topo.late (lanes' (2 * p)) → ((m : ℕ) → m ≢ 2 * p → lanes' m ≡ lanes m) → mid ≡ broken_in old b p
     → (q : ℕ) (l : LogView) → q < length mid.topo.publishers → host_of mid.topo q ≢ b → log_at mid q ≡ Some l → LaneFits l (lanes' (2 * q))
 fits_mid old mid lanes lanes' b p fits o f host broker j readable others is =
     subst (λ (m : WorldView). (q : ℕ) (l : LogView) → q < length m.topo.publishers → host_of m.topo q ≢ b → log_at m q ≡ Some l → LaneFits l (lanes' (2 * q))) (sym is)
     (λ q l i away h. fits_after old lanes lanes' b p o f host readable others q l i away (sym (broken_elsewhere old b p fits broker host j q away) ∙ h))
 
 -- and all of them read as logs
-pub readable_mid : (old mid : WorldView) (lanes lanes' : ℕ → Lane) (b p : ℕ) → IsOpen old → LanesFit lanes old → b ≡ host_of old.topo p → IsReadable (lanes' (2 * p)) → ((m : ℕ) → m ≢ 2 * p → lanes' m ≡ lanes m)
-    → mid ≡ broken_in old b p → (q : ℕ) → q < length mid.topo.publishers → IsReadable (lanes' (2 * q))
+pub readable_mid : (old mid : WorldView) (lanes lanes' : ℕ → Lane) (b p : ℕ) → IsOpen old → LanesFit lanes old → b ≡ host_of old.topo p → IsReadable old.topo.late (lanes' (2 * p)) → ((m : ℕ) → m ≢ 2 * p → lanes' m ≡ lanes m)
+    → mid ≡ broken_in old b p → (q : ℕ) → q < length mid.topo.publishers → IsReadable mid.topo.late (lanes' (2 * q))
 readable_mid old mid lanes lanes' b p o f host readable others is =
-    subst (λ (m : WorldView). (q : ℕ) → q < length m.topo.publishers → IsReadable (lanes' (2 * q))) (sym is) (λ q i. readable_after old lanes lanes' b p o f host readable others q i)
+    subst (λ (m : WorldView). (q : ℕ) → q < length m.topo.publishers → IsReadable m.topo.late (lanes' (2 * q))) (sym is) (λ q i. readable_after old lanes lanes' b p o f host readable others q i)
 
 -- Want of memory is noted
 

@@ -175,9 +175,10 @@ module _ (w : WorldView) (b p : ℕ) (i : IsWorld w) (lt : b < length w.topo.bro
   ]
 
   -- the lane of the log is left with its records, or with those and the mark, or with both records
-  moves : (o : Option LogView) (lanes lanes' : ℕ → Lane) (answer : Result Outcome BrokerFault) → Logs o lanes lanes' answer → is_some o ≡ true → (is_broken o ≡ true → lanes' (2 * p) ≡ lanes (2 * p)) → LaneMoves (lanes (2 * p)) (lanes' (2 * p))
-  moves (Some l) lanes lanes' answer a s quiet = twice_moves l _ _ (lanes (2 * p)) (lanes' (2 * p)) (log_answer answer) a quiet
-  moves None lanes lanes' answer a s quiet = absurd (true≢false (sym s))
+  moves : (o : Option LogView) → log_in broker p ≡ o → (lanes lanes' : ℕ → Lane) (answer : Result Outcome BrokerFault) → Logs o lanes lanes' answer → is_some o ≡ true → (is_broken o ≡ true → lanes' (2 * p) ≡ lanes (2 * p)) → LaneMoves w.topo.late (lanes (2 * p)) (lanes' (2 * p))
+  moves (Some l) is lanes lanes' answer a s quiet =
+      subst (λ (late : List ℕ). LaneMoves late (lanes (2 * p)) (lanes' (2 * p))) ((i.brokers b lt).late p l is) (twice_moves l _ _ (lanes (2 * p)) (lanes' (2 * p)) (log_answer answer) a quiet)
+  moves None is lanes lanes' answer a s quiet = absurd (true≢false (sym s))
 
   hosted : host_of w.topo p ≡ b → is_some (log_in broker p) ≡ true
   hosted at = (i.brokers b lt).hosted p below ∙ eq-eqb (host_of w.topo p) broker.number (at ∙ sym (i.numbered b lt))
@@ -186,7 +187,7 @@ module _ (w : WorldView) (b p : ℕ) (i : IsWorld w) (lt : b < length w.topo.bro
       → WakesOn w.topo broker p w.clock after lanes lanes' answer → Called w b p (wake_in w b p) after frames result → LanesFit lanes' (put_in w b after frames)
   wake_lanes after frames lanes lanes' answer result is_open fit on c =
       lanes_fit w b p after frames lanes lanes' i lt below c.touches is_open fit on.others
-      (λ at. moves (log_in broker p) lanes lanes' answer on.lane (hosted at) (λ h. on.broken h (2 * p))) (λ n. on.below (no_log n) (2 * p)) on.stands
+      (λ at. moves (log_in broker p) refl lanes lanes' answer on.lane (hosted at) (λ h. on.broken h (2 * p))) (λ n. on.below (no_log n) (2 * p)) on.stands
 
 -- The call in code, where the world is seen by its parts
 

@@ -37,7 +37,7 @@ pub record LanesFit (lanes : ℕ → Lane) (w : WorldView) : Type 0 where
   -- each lane fits its log, but for those of a broker whose opening failed
   pub logs : w.spent ≡ false → (p : ℕ) (l : LogView) → p < length w.topo.publishers
       → w.down ≢ Some (host_of w.topo p) → log_at w p ≡ Some l → LaneFits l (lanes (2 * p))
-  pub readable : w.spent ≡ false → (p : ℕ) → p < length w.topo.publishers → IsReadable (lanes (2 * p))
+  pub readable : w.spent ≡ false → (p : ℕ) → p < length w.topo.publishers → IsReadable w.topo.late (lanes (2 * p))
 
 -- the disk has failed no log, and no broker is down
 pub record IsSound (w : WorldView) : Type 0 where

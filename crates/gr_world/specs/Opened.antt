@@ -26,10 +26,10 @@ NoStops lanes = (n : ℕ) → (lanes n).stop ≡ Unset
 abbrev pub AreEmpty : TopologyView → (ℕ → Lane) → Type 0
 AreEmpty t lanes = (p : ℕ) → p < length t.publishers → content (lanes (2 * p)) ≡ []
 
--- the log is the one that these bytes say
-abbrev pub IsRead : Option LogView → List ℕ → Type 0
-IsRead (Some l) bytes = log_text bytes ≡ Ok l.records
-IsRead None bytes = ⊥
+-- the log is the one that these bytes say, where these subscribers may join
+abbrev pub IsRead : List ℕ → Option LogView → List ℕ → Type 0
+IsRead late (Some l) bytes = log_text late bytes ≡ Ok l.records
+IsRead late None bytes = ⊥
 
 -- A world that was opened: each broker has started over the logs that it has, in order
 pub record IsOpened (t : TopologyView) (w : WorldView) : Type 0 where

@@ -33,7 +33,7 @@ pub record HaveStarted (t : TopologyView) (upto : ℕ) (brokers : List BrokerVie
 -- the lanes of the publishers at these brokers were opened as their logs, and no other lane was touched
 pub record HaveOpened (t : TopologyView) (upto : ℕ) (brokers : List BrokerView) (before after : ℕ → Lane) : Type 0 where
   pub opened : (b p : ℕ) (l : LogView) → b < upto → log_in (get_or brokers b no_broker) p ≡ Some l
-      → Opens (before (2 * p)) (after (2 * p)) (Ok l)
+      → Opens t.late (before (2 * p)) (after (2 * p)) (Ok l)
   pub others : (n : ℕ) → ((p : ℕ) → p < length t.publishers → host_of t p < upto → n ≢ 2 * p) → after n ≡ before n
 
 -- the lanes of so many publishers were crashed, of those that are at a broker
@@ -49,18 +49,18 @@ pub record IsExchanged (t : TopologyView) (b : ℕ) (old new : List BrokerView) 
   pub lines : told ≡ start_lines t b broker
 
 -- the lanes of a broker's publishers were crashed, and opened as its logs
-abbrev pub OpensAgain : ℕ → List BrokerView → (ℕ → Lane) → (ℕ → Lane) → Type 0
-OpensAgain b brokers before after = (p : ℕ) (l : LogView) → log_in (get_or brokers b no_broker) p ≡ Some l
-    → Opens (crashed (before (2 * p))) (after (2 * p)) (Ok l)
+abbrev pub OpensAgain : TopologyView → ℕ → List BrokerView → (ℕ → Lane) → (ℕ → Lane) → Type 0
+OpensAgain t b brokers before after = (p : ℕ) (l : LogView) → log_in (get_or brokers b no_broker) p ≡ Some l
+    → Opens t.late (crashed (before (2 * p))) (after (2 * p)) (Ok l)
 
 -- no other lane was touched, and those have lost nothing since the crash, whether the broker has started or not
 pub record TouchesLanes (t : TopologyView) (b : ℕ) (before after : ℕ → Lane) : Type 0 where
   pub others : (n : ℕ) → ((p : ℕ) → p < length t.publishers → host_of t p ≡ b → n ≢ 2 * p) → after n ≡ before n
   pub any_moment : (p : ℕ) → p < length t.publishers → host_of t p ≡ b
-      → LosesNothing (crashed (before (2 * p))) (after (2 * p))
+      → LosesNothing t.late (crashed (before (2 * p))) (after (2 * p))
 
 -- what a crash leaves of the lane of a publisher at a broker holds no log
 pub record LeavesNoLog (t : TopologyView) (b p at : ℕ) (lane : Lane) : Type 0 where
   pub publisher : p < length t.publishers
   pub hosted : host_of t p ≡ b
-  pub fault : log_text (crash_image lane) ≡ Err at
+  pub fault : log_text t.late (crash_image lane) ≡ Err at

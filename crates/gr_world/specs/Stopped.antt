@@ -55,8 +55,8 @@ BreaksStopped b p old new = (new ≡ broken_in old b p) ⊎ (new ≡ with_down (
 -- whether the image that a crash leaves has its record
 pub record IsStoppedAt (w : WorldView) (p tick number : ℕ) (e : Event) (call pick : ℕ) (lane : Lane) : Type 0 where
   pub image : (l : LogView) → log_at w p ≡ Some l
-      → log_text (crash_image lane) ≡ Ok (records_kept l.records (entry.Event tick number e) call pick)
-  pub readable : IsReadable lane
+      → log_text w.topo.late (crash_image lane) ≡ Ok (records_kept l.records (entry.Event tick number e) call pick)
+  pub readable : IsReadable w.topo.late lane
 
 -- The host's start
 

@@ -36,7 +36,7 @@ fn copy_report(alloc: Global, line: &Report) -> Result<Report, Memory>
         Got { subscriber, publisher, tick; event: event.share() }
         Horizon { subscriber, publisher, tick }
         Ordered { subscriber, publisher, tick; event: event.share() }
-        SentKnow { number, from, to, publisher; runs: runs.copy()? }
+        SentKnow { number, from, to, publisher; runs: runs.copy()?, joins: joins.share() }
         SentWant { number, from, to, publisher; runs: runs.copy()? }
         SentExpect { number, from, to, publisher, tick }
         Crashed { broker }

@@ -3,6 +3,26 @@
 //!
 //! `specs/Seen.antt` says what a contract sees of a world, `specs/Steps.antt` when a call is a step of the machine or
 //! is refused, `specs/Of.antt` what holds between calls.
+//!
+//! | File | What it does | What its contracts cite |
+//! |---|---|---|
+//! | `world` | The world, its clock, and what its opening told. | `Seen`, `Of` |
+//! | `opening` | Makes a world over a disk; crashes a broker. | `start`, `crash`; `Opened` |
+//! | `starting` | Starts all brokers over their lanes, or one again after its lanes have crashed. | `Starting` |
+//! | `steps` | The steps `publish`, `wake` and `deliver`. | `Makes` and `Refuses` in `Steps`, `Disk` |
+//! | `calls` | One broker's call within a step. | `publish_now`, `wake_for`, `deliver_frame`; `Ran` |
+//! | `sending` | Takes up what a call tells and sends: frames are numbered and kept. | `sent_lines`; `Taking` |
+//! | `stopping` | A publish that stops inside: its host crashes and starts again. | `publish_stopped`; `Stopped` |
+//! | `sweeping` | A sweep: three phases for each publisher. | `sweep_moment`, `sweep_for`; `Sweeps` |
+//! | `delivering` | Delivers what is sent in a sweep, upward and down. | `deliver_up`, `hand_down`; `Sweeps` |
+//! | `order` | Brokers by their depth below a host. | `inwards`, `outwards` |
+//! | `heads` | Kind, receiver and publisher of a frame, by its first bytes. | `is_want`, `is_know_to`; `Seen` |
+//! | `showing` | What is shown, and the bytes of a frame. | `show`; `Shown` |
+//! | `copying` | Copies of report lines. | none |
+//! | `fault` | Why a call is refused. | `fault_in` in `Ran` |
+//!
+//! Of these, a name in small letters is the machine's, in `gr_model/specs/World.antt`, if no file is named with it; one
+//! with a capital is a file of `specs`, if none is.
 #![tactic(auto)]
 
 mod calls;

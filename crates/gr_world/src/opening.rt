@@ -76,7 +76,7 @@ impl World {
         ensures fits { IfOk result IsWorld }
         // The logs are those that the lanes hold
         ensures found { IfOk result (λ w. (p : ℕ) → p < length topology.publishers
-            → IsRead (log_at w p) (content (D.lane_of disk.old (2 * p)))) }
+            → IsRead topology.late (log_at w p) (content (D.lane_of disk.old (2 * p)))) }
         // Over empty lanes it is the machine's world before the first step, and nothing is told
         ensures fresh { AreEmpty topology (D.lane_of disk.old)
             → IfOk result (λ w. (world_of w ≡ start (net_of topology)) × (w.told ≡ [])) }
@@ -123,15 +123,16 @@ impl World {
         requires unspent { self.old.spent ≡ false }
         requires down { (self.old.down ≡ None) ⊎ (self.old.down ≡ Some b) }
         requires readable { (p : ℕ) → p < length self.old.topo.publishers
-            → IsReadable (D.lane_of disk.old (2 * p)) }
+            → IsReadable self.old.topo.late (D.lane_of disk.old (2 * p)) }
         requires others { (p : ℕ) (l : LogView) → p < length self.old.topo.publishers
             → host_of self.old.topo p ≢ b → log_at self.old p ≡ Some l → LaneFits l (D.lane_of disk.old (2 * p)) }
         ensures does { Does (let w : MachineWorld = world_of self.new in
             restart_over (net_in self.old) (world_of self.old) b w.logs) self.new result }
         ensures restarts { Restarts b self.old self.new result }
         // The logs of the broker are those that the crash left
-        ensures found { OnOk result ((p : ℕ) → p < length self.old.topo.publishers
-            → host_of self.old.topo p ≡ b → IsRead (log_at self.new p) (crash_image (D.lane_of disk.old (2 * p)))) }
+        ensures found { let late = self.old.topo.late in OnOk result ((p : ℕ) → p < length self.old.topo.publishers
+            → host_of self.old.topo p ≡ b
+            → IsRead late (log_at self.new p) (crash_image (D.lane_of disk.old (2 * p)))) }
         ensures fits { IsWorld self.new }
         ensures faults { (e : WorldFault) → result ≡ Err e → (e ≡ WorldFault.Memory) ⊎ (e ≡ WorldFault.Disk) }
         ensures counts { Counts (D.faults disk.old) (D.stops disk.old) (D.faults disk.new) (D.stops disk.new) result }

@@ -110,7 +110,8 @@ pub(crate) fn start_again<D: SimDisk>(
     requires count { length brokers.old.items ≡ length topology.now.brokers }
     ensures exchanged { IfOk result (λ lines. IsExchanged topology.now b brokers.old.items brokers.new.items lines) }
     ensures kept { OnErr result (brokers.new.items ≡ brokers.old.items) }
-    ensures opened { OnOk result (OpensAgain b brokers.new.items (D.lane_of disk.old) (D.lane_of disk.new)) }
+    ensures opened { OnOk result
+        (OpensAgain topology.now b brokers.new.items (D.lane_of disk.old) (D.lane_of disk.new)) }
     ensures touches { TouchesLanes topology.now b (D.lane_of disk.old) (D.lane_of disk.new) }
     ensures damaged { (p at : ℕ) → result ≡ Err (BrokerFault.Damaged p at)
         → LeavesNoLog topology.now b p at (D.lane_of disk.old (2 * p)) }

@@ -5,7 +5,7 @@ ghost use Rattle.std.specs.Prelude.{Ok, Err, IsErrOf, IsSome, IfOk, OnOk};
 ghost use Rattle.gr_out.specs.Lane.{crash_image};
 ghost use Rattle.gr_out.specs.Stops.{StaysFaultless};
 ghost use Rattle.gr_sched.specs.declared.step.Step.TheVariants as step;
-ghost use Rattle.gr_publog.specs.State.{empty_state, Follow};
+ghost use Rattle.gr_publog.specs.State.{first_standing, Follow};
 ghost use Rattle.gr_publog.specs.Crash.{LogView};
 ghost use Rattle.gr_pubend.specs.Log.{log_of};
 ghost use Rattle.gr_topo.specs.Topology.{host_of, subscribers_of, not_empty};
@@ -38,7 +38,7 @@ use std::alloc::Global;
 
 /// The tick at which an event of this number would be logged behind a log, at a moment. None where none would be.
 fn tick_logged(log: &Log, number: u64, now: u64) -> Option<u64>
-    requires { Follow empty_state log.now.records }
+    requires { Follow (first_standing log.now.late) log.now.records }
     ensures { result ≡ tick_in (log_of log.now.records) number now }
 {
     let last = log.last();
@@ -76,7 +76,7 @@ fn lines_of_stop(alloc: Global, host: u16, kept: Report, opened: Reports) -> Res
 
 /// The line that tells whether the event of a stopped publish is kept: its number is then the last one of the log.
 fn line_of_stop(log: &Log, p: u16, number: u64, tick: u64) -> Report
-    requires { Follow empty_state log.now.records }
+    requires { Follow (first_standing log.now.late) log.now.records }
     ensures { let last = (log_of log.now.records).last in result ≡ kept_line (nat_eq last number) p number tick }
 {
     if log.last() == number {
@@ -264,14 +264,15 @@ impl World {
         requires no_subscriber { not_empty (subscribers_of self.old.topo host) ≡ false }
         requires open { IsOpen self.old }
         requires readable { (q : ℕ) → q < length self.old.topo.publishers
-            → IsReadable (D.lane_of disk.old (2 * q)) }
+            → IsReadable self.old.topo.late (D.lane_of disk.old (2 * q)) }
         requires others { (q : ℕ) (l : LogView) → q < length self.old.topo.publishers
             → host_of self.old.topo q ≢ host → log_at self.old q ≡ Some l → LaneFits l (D.lane_of disk.old (2 * q)) }
         ensures does { let w : MachineWorld = world_of self.new in
             Does (stopped_over (net_in self.old) (world_of self.old) host p number tick w.logs) self.new result }
         ensures ran { StopRestarts host self.old self.new result }
-        ensures found { OnOk result ((q : ℕ) → q < length self.old.topo.publishers
-            → host_of self.old.topo q ≡ host → IsRead (log_at self.new q) (crash_image (D.lane_of disk.old (2 * q)))) }
+        ensures found { let late = self.old.topo.late in OnOk result ((q : ℕ) → q < length self.old.topo.publishers
+            → host_of self.old.topo q ≡ host
+            → IsRead late (log_at self.new q) (crash_image (D.lane_of disk.old (2 * q)))) }
         ensures elsewhere { OnOk result ((q : ℕ) → q < length self.old.topo.publishers
             → host_of self.old.topo q ≢ host → log_at self.new q ≡ log_at self.old q) }
         ensures faults { D.faults disk.old ≤ D.faults disk.new }
@@ -319,7 +320,7 @@ impl World {
         requires host { host ≡ host_of self.now.topo p }
         requires broker { host < length self.now.topo.brokers }
         ensures log { log_at self.now p ≡ Some result.now }
-        ensures follow { Follow empty_state result.now.records }
+        ensures follow { Follow (first_standing result.now.late) result.now.records }
     {
         let log = self.brokers[host as usize].log(p);
         let _ = log.is_broken();

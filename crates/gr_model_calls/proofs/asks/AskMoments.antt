@@ -210,11 +210,11 @@ receive_asks net now f v log = go f.body
     learned runs false = learn_asks net f.head.publisher f.head.to now runs v log
 
     go : (y : Body) → ExpectBody net f.head.publisher f.head.to y → KeepsAsks net f.head.publisher f.head.to now v (elim y [
-      | body.Knowledge runs ↦ elim (clashes v.know runs) [ true ↦ record { view = v; log = log; lines = []; frames = [] } | false ↦ learn net f.head.publisher f.head.to runs v log ]
+      | body.Knowledge runs js ↦ elim (clashes v.know runs) [ true ↦ record { view = v; log = log; lines = []; frames = [] } | false ↦ learn net f.head.publisher f.head.to runs v log ]
       | body.Curiosity runs ↦ curiosity net f.head.publisher f.head.to now f.head.from (place_of f.head.from (net.children f.head.publisher f.head.to)) runs v log
       | body.Expect tick ↦ expect net f.head.publisher f.head.to now tick v log
     ])
-    go (body.Knowledge runs) h = learned runs (clashes v.know runs)
+    go (body.Knowledge runs js) h = learned runs (clashes v.know runs)
     go (body.Curiosity runs) h = curiosity_asks net f.head.publisher f.head.to now f.head.from (place_of f.head.from (net.children f.head.publisher f.head.to)) runs v log
     go (body.Expect tick) h = record { all = λ P z x a. expect_all net f.head.publisher f.head.to now tick v log P z x a; host = λ e x. absurd (false≢true (sym h ∙ e)) }
 
@@ -231,10 +231,10 @@ pub Each-on : {X : Type 0} (P : X → Type 0) (xs ys : List X) → Each P xs →
 Each-on P [] ys a b = b
 Each-on P (x ∷ xs) ys a b = (a.0, Each-on P xs ys a.1 b)
 
-know_frames_fit : (net : Net) (from to p : ℕ) (runs : Known) → is_host net p to ≡ false → Each (ExpectFits net) (know_frames from to p runs)
-know_frames_fit net from to p runs h = go (cut_frames known_run_size runs)
+know_frames_fit : (net : Net) (from to p : ℕ) (runs : Known) → is_host net p to ≡ false → Each (ExpectFits net) (know_frames [] from to p runs)
+know_frames_fit net from to p runs h = go (cut_frames 12 known_run_size runs)
   where
-    go : (parts : List Known) → Each (ExpectFits net) (map (λ part. record { head = head from to p; body = body.Knowledge part }) parts)
+    go : (parts : List Known) → Each (ExpectFits net) (map (λ part. record { head = head from to p; body = body.Knowledge part [] }) parts)
     go [] = tt
     go (x ∷ xs) = (h, go xs)
 
@@ -247,12 +247,12 @@ up_frames_fit net p b runs = at (net.up p b)
 
     at : (u : Option ℕ) → Each (ExpectFits net) (elim u [ Some u ↦ want_frames b u p runs | None ↦ [] ])
     at None = tt
-    at (Some u) = go u (cut_frames wanted_run_size runs)
+    at (Some u) = go u (cut_frames 12 wanted_run_size runs)
 
-forward_frames_fit : (net : Net) (p b : ℕ) (new : Known) (cs : List ℕ) (ws : List Wanted) → ((c : ℕ) → list_any (λ x. nat_eq x c) cs ≡ true → is_host net p c ≡ false) → Each (ExpectFits net) (forward_frames net p b new cs ws)
+forward_frames_fit : (net : Net) (p b : ℕ) (new : Known) (cs : List ℕ) (ws : List Wanted) → ((c : ℕ) → list_any (λ x. nat_eq x c) cs ≡ true → is_host net p c ≡ false) → Each (ExpectFits net) (forward_frames [] net p b new cs ws)
 forward_frames_fit net p b new [] ws h = tt
 forward_frames_fit net p b new (c ∷ cs) [] h = tt
-forward_frames_fit net p b new (c ∷ cs) (w ∷ ws) h = Each-on (ExpectFits net) (know_frames b c p (forward net p c w new)) (forward_frames net p b new cs ws) (know_frames_fit net b c p (forward net p c w new) (h c (or_left (nat_eq c c) (list_any (λ x. nat_eq x c) cs) (eq-eqb c c refl)))) (forward_frames_fit net p b new cs ws (λ d m. h d (or_right (nat_eq c d) (list_any (λ x. nat_eq x d) cs) m)))
+forward_frames_fit net p b new (c ∷ cs) (w ∷ ws) h = Each-on (ExpectFits net) (know_frames [] b c p (forward net p c w new)) (forward_frames [] net p b new cs ws) (know_frames_fit net b c p (forward net p c w new) (h c (or_left (nat_eq c c) (list_any (λ x. nat_eq x c) cs) (eq-eqb c c refl)))) (forward_frames_fit net p b new cs ws (λ d m. h d (or_right (nat_eq c d) (list_any (λ x. nat_eq x d) cs) m)))
 
 expect_frames_fit : (net : Net) (p b tick : ℕ) (cs : List ℕ) (ws : List Wanted) → ((c : ℕ) → list_any (λ x. nat_eq x c) cs ≡ true → is_host net p c ≡ false) → Each (ExpectFits net) (expect_frames p b tick cs ws)
 expect_frames_fit net p b tick [] ws h = tt
@@ -308,11 +308,11 @@ receive_frames_fit net now f v log h fits = go f.body fits
     learned runs false = learn_frames_fit net f.head.publisher f.head.to runs v log h
 
     go : (y : Body) → BodyFits net f.head.publisher f.head.from f.head.to y → Each (ExpectFits net) (let o : Outcome = elim y [
-      | body.Knowledge runs ↦ elim (clashes v.know runs) [ true ↦ record { view = v; log = log; lines = []; frames = [] } | false ↦ learn net f.head.publisher f.head.to runs v log ]
+      | body.Knowledge runs js ↦ elim (clashes v.know runs) [ true ↦ record { view = v; log = log; lines = []; frames = [] } | false ↦ learn net f.head.publisher f.head.to runs v log ]
       | body.Curiosity runs ↦ curiosity net f.head.publisher f.head.to now f.head.from (place_of f.head.from (net.children f.head.publisher f.head.to)) runs v log
       | body.Expect tick ↦ expect net f.head.publisher f.head.to now tick v log
     ] in o.frames)
-    go (body.Knowledge runs) m = learned runs (clashes v.know runs)
+    go (body.Knowledge runs js) m = learned runs (clashes v.know runs)
     go (body.Curiosity runs) m = curiosity_frames_fit net f.head.publisher f.head.to now f.head.from (place_of f.head.from (net.children f.head.publisher f.head.to)) runs v log (h f.head.from m)
     go (body.Expect tick) m = expect_call_frames_fit net f.head.publisher f.head.to now tick v log h
 

@@ -34,6 +34,7 @@ pub record IsTrimmed (net : Net) (p b : ℕ) (v u : View) : Type 0 where
   pub wants : u.wants ≡ v.wants
   pub asks : AreRuns Never v.asks → AreRunsOf Never (λ t. if is_F (known_at u.know t) && not (is_host net p b) then Never else asked_at v.asks t) u.asks
   pub horizon : u.horizon ≡ v.horizon
+  pub joins : u.joins ≡ v.joins
   pub each : (t : ℕ) → (known_at u.know t ≡ known_at v.know t) ⊎ ((known_at u.know t ≡ Q) × (is_host net p b ≡ false) × (keeps_horizon net p b ≡ true → t ≤ v.horizon))
 
 -- what is kept of a view is the view, but for ticks that may be forgotten and asks at final ticks
@@ -63,8 +64,8 @@ trimmed-is net p b v a = go (is_host net p b) refl
     bound t h e = subst (λ q. t ≤ (if q then v.horizon else max_tick)) e h
 
     go : (q : Bool) → is_host net p b ≡ q → IsTrimmed net p b v (elim q [ true ↦ v | false ↦ less ])
-    go true e = record { wants = refl; asks = λ r. record { runs = r; same_at = at_host e }; horizon = refl; each = λ t. inl refl }
-    go false e = record { wants = refl; asks = below e; horizon = refl; each = λ t. ⊎_elim (λ x. inl x) (λ x. inr (x.0, e, bound t x.1)) (lowered.each t) }
+    go true e = record { wants = refl; asks = λ r. record { runs = r; same_at = at_host e }; horizon = refl; joins = refl; each = λ t. inl refl }
+    go false e = record { wants = refl; asks = below e; horizon = refl; joins = refl; each = λ t. ⊎_elim (λ x. inl x) (λ x. inr (x.0, e, bound t x.1)) (lowered.each t) }
 
 -- the moment stays where the tick is unknown afterwards
 pub moment_kept : (net : Net) (p b : ℕ) (v u : View) → IsTrimmed net p b v u → AreRuns Never v.asks → (t : ℕ) → known_at u.know t ≡ Q → asked_at u.asks t ≡ asked_at v.asks t
@@ -142,7 +143,7 @@ wake_ticks net f p b now v log h =
     let done = consolidated (keeps_horizon net p b) v.horizon v.wants in
     let dr = done_runs net f p b v.horizon v.wants h.wants in
     let u = upward-at done (wake_asked net p b now v) dr d.runs in
-    let left : View = record { know = v.know; wants = v.wants; asks = noted now v.asks (wake_asked net p b now v); horizon = v.horizon } in
+    let left : View = record { know = v.know; wants = v.wants; asks = noted now v.asks (wake_asked net p b now v); horizon = v.horizon; joins = v.joins } in
     let i = trimmed-is net p b left h.know.runs in
     let n = noted-at now v.asks (wake_asked net p b now v) h.asks d.runs in
     record {

@@ -171,15 +171,15 @@ AllTrue-append net f p [] ys a b = b
 AllTrue-append net f p (x ∷ xs) ys a b = (a.0, AllTrue-append net f p xs ys a.1 b)
 
 -- the frames of a true piece are true
-pub know_frames_true : (net : Net) (f : Facts) (p from to : ℕ) (runs : Known) → KnowsTruth net f p to runs → AllTrue net f p (know_frames from to p runs)
-know_frames_true net f p from to runs k = go (cut_frames known_run_size runs) (cut_frames-parts Q known_run_size runs k.runs)
+pub know_frames_true : (net : Net) (f : Facts) (p from to : ℕ) (runs : Known) → KnowsTruth net f p to runs → AllTrue net f p (know_frames [] from to p runs)
+know_frames_true net f p from to runs k = go (cut_frames 12 known_run_size runs) (cut_frames-parts Q 12 known_run_size runs k.runs)
   where
-    go : (parts : List Known) → AllParts Q parts runs → AllTrue net f p (map (λ part. record { head = head from to p; body = body.Knowledge part }) parts)
+    go : (parts : List Known) → AllParts Q parts runs → AllTrue net f p (map (λ part. record { head = head from to p; body = body.Knowledge part [] }) parts)
     go [] a = tt
     go (x ∷ xs) a = (record { runs = a.0.0; each = λ t. ⊎_elim (λ e. subst (λ y. IsTrueAt net f p to t y) (sym e) (k.each t)) (λ e. subst (λ y. IsTrueAt net f p to t y) (sym e) tt) (a.0.1 t) }, go xs a.1)
 
 pub want_frames_true : (net : Net) (f : Facts) (p from to : ℕ) (runs : Wanted) → WantsTruth net f p from runs → AllTrue net f p (want_frames from to p runs)
-want_frames_true net f p from to runs k = go (cut_frames wanted_run_size runs) (cut_frames-parts N wanted_run_size runs k.runs)
+want_frames_true net f p from to runs k = go (cut_frames 12 wanted_run_size runs) (cut_frames-parts N 12 wanted_run_size runs k.runs)
   where
     none_A : N ≡ A → ⊥
     none_A e = cc
@@ -218,12 +218,12 @@ forward_wants_true net f p b new (c ∷ cs) (w ∷ ws) place k m a = (
   forward_wants_true net f p b new cs ws place k (λ d e. m d (or_right (nat_eq c d) (list_any (λ x. nat_eq x d) cs) e)) a.1,
 )
 
-forward_frames_true : (net : Net) (f : Facts) (p b : ℕ) (new : Known) (cs : List ℕ) (ws : List Wanted) → IsPlace net p b → KnowsTruth net f p b new → ((c : ℕ) → list_any (λ x. nat_eq x c) cs ≡ true → list_any (λ x. nat_eq x c) (net.children p b) ≡ true) → AllWantTruth net f p cs ws → AllTrue net f p (forward_frames net p b new cs ws)
+forward_frames_true : (net : Net) (f : Facts) (p b : ℕ) (new : Known) (cs : List ℕ) (ws : List Wanted) → IsPlace net p b → KnowsTruth net f p b new → ((c : ℕ) → list_any (λ x. nat_eq x c) cs ≡ true → list_any (λ x. nat_eq x c) (net.children p b) ≡ true) → AllWantTruth net f p cs ws → AllTrue net f p (forward_frames [] net p b new cs ws)
 forward_frames_true net f p b new [] [] place k m a = tt
 forward_frames_true net f p b new [] (w ∷ ws) place k m a = absurd a
 forward_frames_true net f p b new (c ∷ cs) [] place k m a = absurd a
 forward_frames_true net f p b new (c ∷ cs) (w ∷ ws) place k m a =
-    AllTrue-append net f p (know_frames b c p (forward net p c w new)) (forward_frames net p b new cs ws)
+    AllTrue-append net f p (know_frames [] b c p (forward net p c w new)) (forward_frames [] net p b new cs ws)
     (know_frames_true net f p b c (forward net p c w new) (forward_true net f p b c w new place (m c (or_left (nat_eq c c) (list_any (λ x. nat_eq x c) cs) (eq-eqb c c refl))) a.0.runs k))
     (forward_frames_true net f p b new cs ws place k (λ d e. m d (or_right (nat_eq c d) (list_any (λ x. nat_eq x d) cs) e)) a.1)
 
@@ -270,7 +270,7 @@ AllTrue-later net f g p [] l a = tt
 AllTrue-later net f g p (x ∷ xs) l a = (body_later x.body a.0, AllTrue-later net f g p xs l a.1)
   where
     body_later : (y : Body) → BodyTrue net f p x.head.from x.head.to y → BodyTrue net g p x.head.from x.head.to y
-    body_later (body.Knowledge runs) h = KnowsTruth-later net f g p x.head.to runs l h
+    body_later (body.Knowledge runs js) h = KnowsTruth-later net f g p x.head.to runs l h
     body_later (body.Curiosity runs) h = WantsTruth-later net f g p x.head.from runs l h
     body_later (body.Expect tick) h = le_trans h l.settled
 
@@ -288,7 +288,7 @@ learn_true net f g p b piece v log place h i l hor =
     let h' = learned_horizon net p b piece v in
     let done = consolidated (keeps_horizon net p b) h' ws in
     record {
-      view = trimmed_true net g p b (record { know = finished know done; wants = ws; asks = v.asks; horizon = h' }) (record {
+      view = trimmed_true net g p b (record { know = finished know done; wants = ws; asks = v.asks; horizon = h'; joins = v.joins }) (record {
         know = finished_true net g p b know done k (done_true net g p b h' ws place w hor);
         wants = w;
         asks = h.asks;
@@ -367,7 +367,7 @@ asking_true net f p b now wanted ps v log place h w =
     let d = done_true net f p b v.horizon v.wants place h.wants h.horizon in
     let a = due_true net f p b now v.know v.asks wanted ps h.know.runs h.asks w in
     record {
-      view = trimmed_true net f p b (record { know = v.know; wants = v.wants; asks = noted now v.asks asked; horizon = v.horizon }) (record {
+      view = trimmed_true net f p b (record { know = v.know; wants = v.wants; asks = noted now v.asks asked; horizon = v.horizon; joins = v.joins }) (record {
         know = h.know;
         wants = h.wants;
         asks = (noted-at now v.asks asked h.asks a.runs).runs;
@@ -617,13 +617,13 @@ curiosity_true net f p b now c piece v log place child h i =
     ] in
     let x = d (is_host net p b) in
     record {
-      view = trimmed_true net f p b (record { know = know; wants = ws; asks = noted now v.asks (asked (is_host net p b)); horizon = v.horizon }) (record {
+      view = trimmed_true net f p b (record { know = know; wants = ws; asks = noted now v.asks (asked (is_host net p b)); horizon = v.horizon; joins = v.joins }) (record {
         know = k;
         wants = s;
         asks = (noted-at now v.asks (asked (is_host net p b)) h.asks x.runs).runs;
         horizon = h.horizon;
       });
-      frames = AllTrue-append net f p (know_frames b c p reply) (up_frames net p b (asked (is_host net p b))) (know_frames_true net f p b c reply r) (up_frames_true net f p b (asked (is_host net p b)) x);
+      frames = AllTrue-append net f p (know_frames [] b c p reply) (up_frames net p b (asked (is_host net p b))) (know_frames_true net f p b c reply r) (up_frames_true net f p b (asked (is_host net p b)) x);
     }
 
 -- a view that is true stays true as more is logged and subscribers come on

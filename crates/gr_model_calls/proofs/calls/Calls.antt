@@ -55,15 +55,15 @@ AllFit-append : (net : Net) (p : ℕ) (xs ys : List Frame) → AllFit net p xs �
 AllFit-append net p [] ys a b = b
 AllFit-append net p (x ∷ xs) ys a b = (a.0, AllFit-append net p xs ys a.1 b)
 
-know_frames_fit : (net : Net) (p from to : ℕ) (runs : Known) → to < net.brokers → AllFit net p (know_frames from to p runs)
-know_frames_fit net p from to runs h = go (cut_frames known_run_size runs)
+know_frames_fit : (net : Net) (p from to : ℕ) (runs : Known) → to < net.brokers → AllFit net p (know_frames [] from to p runs)
+know_frames_fit net p from to runs h = go (cut_frames 12 known_run_size runs)
   where
-    go : (parts : List Known) → AllFit net p (map (λ part. record { head = head from to p; body = body.Knowledge part }) parts)
+    go : (parts : List Known) → AllFit net p (map (λ part. record { head = head from to p; body = body.Knowledge part [] }) parts)
     go [] = tt
     go (x ∷ xs) = (record { publisher = refl; to_in = h; body = tt }, go xs)
 
 want_frames_fit : (net : Net) (p from to : ℕ) (runs : Wanted) → to < net.brokers → list_any (λ x. nat_eq x from) (net.children p to) ≡ true → AllFit net p (want_frames from to p runs)
-want_frames_fit net p from to runs h m = go (cut_frames wanted_run_size runs)
+want_frames_fit net p from to runs h m = go (cut_frames 12 wanted_run_size runs)
   where
     go : (parts : List Wanted) → AllFit net p (map (λ part. record { head = head from to p; body = body.Curiosity part }) parts)
     go [] = tt
@@ -85,10 +85,10 @@ all_in : (net : Net) (cs : List ℕ) → ((c : ℕ) → list_any (λ x. nat_eq x
 all_in net [] h = tt
 all_in net (c ∷ cs) h = (h c (or_left (nat_eq c c) (list_any (λ x. nat_eq x c) cs) (eq-eqb c c refl)), all_in net cs (λ d m. h d (or_right (nat_eq c d) (list_any (λ x. nat_eq x d) cs) m)))
 
-forward_frames_fit : (net : Net) (p b : ℕ) (new : Known) (cs : List ℕ) (ws : List Wanted) → AllIn net cs → AllFit net p (forward_frames net p b new cs ws)
+forward_frames_fit : (net : Net) (p b : ℕ) (new : Known) (cs : List ℕ) (ws : List Wanted) → AllIn net cs → AllFit net p (forward_frames [] net p b new cs ws)
 forward_frames_fit net p b new [] ws a = tt
 forward_frames_fit net p b new (c ∷ cs) [] a = tt
-forward_frames_fit net p b new (c ∷ cs) (w ∷ ws) a = AllFit-append net p (know_frames b c p (forward net p c w new)) (forward_frames net p b new cs ws) (know_frames_fit net p b c (forward net p c w new) a.0) (forward_frames_fit net p b new cs ws a.1)
+forward_frames_fit net p b new (c ∷ cs) (w ∷ ws) a = AllFit-append net p (know_frames [] b c p (forward net p c w new)) (forward_frames [] net p b new cs ws) (know_frames_fit net p b c (forward net p c w new) a.0) (forward_frames_fit net p b new cs ws a.1)
 
 expect_frames_fit : (net : Net) (p b tick : ℕ) (cs : List ℕ) (ws : List Wanted) → AllIn net cs → AllFit net p (expect_frames p b tick cs ws)
 expect_frames_fit net p b tick [] ws a = tt
@@ -189,7 +189,7 @@ curiosity_call net p b now c piece v log reached n i j child fit h w =
     let t = curiosity_true net (facts log reached) p b now c piece v log (n.place p b i j) child h w in
     quiet_call net p b v log reached (curiosity net p b now c (place_of c (net.children p b)) piece v log) fit refl (trimmed_horizon net p b _) t
     (λ q k. trimmed_known net p b log.settled _ q (λ u x y. finished_known v.know _ u h.know.runs (done_runs net (facts log reached) p b v.horizon _ (curiosity_wants net (facts log reached) p b c piece v h child w)) (k u x y)))
-    (AllFit-append net p (know_frames b c p _) (up_frames net p b _) (know_frames_fit net p b c _ (n.child_in p b c i j child)) (up_frames_fit net p b _ n i j))
+    (AllFit-append net p (know_frames [] b c p _) (up_frames net p b _) (know_frames_fit net p b c _ (n.child_in p b c i j child)) (up_frames_fit net p b _ n i j))
 
 -- Learning
 
@@ -566,10 +566,10 @@ receive_call net now f v log reached n i fits told fit h = go f.body told fits.b
 
     go : (y : Body) → BodyTrue net (facts log reached) f.head.publisher f.head.from f.head.to y → BodyFits net f.head.publisher f.head.from f.head.to y → CallTrue net f.head.publisher f.head.to v log reached
         (elim y [
-          | body.Knowledge runs ↦ elim (clashes v.know runs) [ true ↦ record { view = v; log = log; lines = []; frames = [] } | false ↦ learn net f.head.publisher f.head.to runs v log ]
+          | body.Knowledge runs js ↦ elim (clashes v.know runs) [ true ↦ record { view = v; log = log; lines = []; frames = [] } | false ↦ learn net f.head.publisher f.head.to runs v log ]
           | body.Curiosity runs ↦ curiosity net f.head.publisher f.head.to now f.head.from (place_of f.head.from (net.children f.head.publisher f.head.to)) runs v log
           | body.Expect tick ↦ expect net f.head.publisher f.head.to now tick v log
         ])
-    go (body.Knowledge runs) t b = learned runs t (clashes v.know runs)
+    go (body.Knowledge runs js) t b = learned runs t (clashes v.know runs)
     go (body.Curiosity runs) t b = curiosity_call net f.head.publisher f.head.to now f.head.from runs v log reached n i fits.to_in b fit h t
     go (body.Expect tick) t b = expect_call net f.head.publisher f.head.to now tick v log reached n i fits.to_in fit h t

@@ -99,10 +99,10 @@ forward_agree : (net : Net) (f g : Wants) (p c : ℕ) (w : Wanted) (new : Known)
 unfolding forward
 forward_agree net f g p c w new h = ap (λ k. zip_runs Q N Q same_K (λ v a. if is_A a then Q else v) k w) (passed_agree net f g p c new h)
 
-frames_agree : (net : Net) (f g : Wants) (p b : ℕ) (new : Known) (cs : List ℕ) (ws : List Wanted) → Agree p f g new → forward_frames (with_wants net f) p b new cs ws ≡ forward_frames (with_wants net g) p b new cs ws
+frames_agree : (net : Net) (f g : Wants) (p b : ℕ) (new : Known) (cs : List ℕ) (ws : List Wanted) → Agree p f g new → forward_frames [] (with_wants net f) p b new cs ws ≡ forward_frames [] (with_wants net g) p b new cs ws
 frames_agree net f g p b new [] ws h = refl
 frames_agree net f g p b new (c ∷ cs) [] h = refl
-frames_agree net f g p b new (c ∷ cs) (w ∷ ws) h = ap₂ (λ (k : Known) (x : List Frame). know_frames b c p k ++ x) (forward_agree net f g p c w new h) (frames_agree net f g p b new cs ws h)
+frames_agree net f g p b new (c ∷ cs) (w ∷ ws) h = ap₂ (λ (k : Known) (x : List Frame). know_frames [] b c p k ++ x) (forward_agree net f g p c w new h) (frames_agree net f g p b new cs ws h)
 
 wants_agree : (net : Net) (f g : Wants) (p : ℕ) (new : Known) (cs : List ℕ) (ws : List Wanted) → Agree p f g new → forward_wants (with_wants net f) p new cs ws ≡ forward_wants (with_wants net g) p new cs ws
 wants_agree net f g p new [] ws h = refl
@@ -213,11 +213,11 @@ learn_agree net f g p b piece v log r i h k =
     lines q = flat_map (delivery_lines (with_wants net q) p v.horizon to (data_ticks v.horizon to know)) (net.subscribers_at b)
 
     frames : Wants → List Frame
-    frames q = forward_frames (with_wants net q) p b new (net.children p b) v.wants
+    frames q = forward_frames [] (with_wants net q) p b new (net.children p b) v.wants
 
     build : List Wanted → List Report → List Frame → Outcome
     build ws ls fs = record {
-      view = kept_view (with_wants net g) p b (record { know = finished know (consolidated keeps to ws); wants = ws; asks = v.asks; horizon = to });
+      view = kept_view (with_wants net g) p b (record { know = finished know (consolidated keeps to ws); wants = ws; asks = v.asks; horizon = to; joins = v.joins });
       log = log;
       lines = ls;
       frames = fs;
@@ -244,10 +244,10 @@ curiosity_agree net f g p b now c i piece v log h = ap build (reply_agree net f 
     build reply =
         let asked = asked_of (with_wants net g) p b now i piece reply v in
         record {
-          view = kept_view (with_wants net g) p b (record { know = know; wants = ws; asks = noted now v.asks asked; horizon = v.horizon });
+          view = kept_view (with_wants net g) p b (record { know = know; wants = ws; asks = noted now v.asks asked; horizon = v.horizon; joins = v.joins });
           log = log;
           lines = [];
-          frames = know_frames b c p reply ++ up_frames (with_wants net g) p b asked;
+          frames = know_frames [] b c p reply ++ up_frames (with_wants net g) p b asked;
         }
 
 -- Calls that ask do not look at what is wanted

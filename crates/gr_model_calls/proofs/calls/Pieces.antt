@@ -65,20 +65,20 @@ AllParts-trans : {V : Type 0} (bottom : V) (ps : List (List (Run V))) (b c : Lis
 AllParts-trans bottom [] b c p q = tt
 AllParts-trans bottom (a ∷ ps) b c p q = (IsPart-trans bottom a b c p.0 q, AllParts-trans bottom ps b c p.1 q)
 
-cut_from-parts : {V : Type 0} (bottom : V) (size : Run V → ℕ) (used : ℕ) (begun rs : List (Run V)) → AreRuns bottom (begun ++ rs) → AllParts bottom (cut_from size used begun rs) (begun ++ rs)
+cut_from-parts : {V : Type 0} (bottom : V) (room : ℕ) (size : Run V → ℕ) (used : ℕ) (begun rs : List (Run V)) → AreRuns bottom (begun ++ rs) → AllParts bottom (cut_from room size used begun rs) (begun ++ rs)
 unfolding cut_from
-cut_from-parts bottom size used begun [] a = ((AreRunsFrom-front bottom 1 begun [] a, λ t. value_at-front bottom 1 begun [] t a), tt)
-cut_from-parts bottom size used begun (r ∷ rs) a =
-    elim (nat_le (used + size r) 16384) as (λ b. AllParts bottom (elim b [ true ↦ cut_from size (used + size r) (begun ++ r ∷ []) rs | false ↦ begun ∷ cut_from size (12 + size r) (r ∷ []) rs ]) (begun ++ r ∷ rs)) [
-      | true ↦ subst (λ x. AllParts bottom (cut_from size (used + size r) (begun ++ r ∷ []) rs) x) (append_assoc begun (r ∷ []) rs) (cut_from-parts bottom size (used + size r) (begun ++ r ∷ []) rs (subst (λ x. AreRuns bottom x) (sym (append_assoc begun (r ∷ []) rs)) a))
-      | false ↦ ((AreRunsFrom-front bottom 1 begun (r ∷ rs) a, λ t. value_at-front bottom 1 begun (r ∷ rs) t a), AllParts-trans bottom (cut_from size (12 + size r) (r ∷ []) rs) (r ∷ rs) (begun ++ r ∷ rs) (cut_from-parts bottom size (12 + size r) (r ∷ []) rs (AreRunsFrom-back bottom 1 begun (r ∷ rs) a)) (λ t. value_at-back bottom 1 begun (r ∷ rs) t a))
+cut_from-parts bottom room size used begun [] a = ((AreRunsFrom-front bottom 1 begun [] a, λ t. value_at-front bottom 1 begun [] t a), tt)
+cut_from-parts bottom room size used begun (r ∷ rs) a =
+    elim (nat_le (used + size r) 16384) as (λ b. AllParts bottom (elim b [ true ↦ cut_from room size (used + size r) (begun ++ r ∷ []) rs | false ↦ begun ∷ cut_from room size (room + size r) (r ∷ []) rs ]) (begun ++ r ∷ rs)) [
+      | true ↦ subst (λ x. AllParts bottom (cut_from room size (used + size r) (begun ++ r ∷ []) rs) x) (append_assoc begun (r ∷ []) rs) (cut_from-parts bottom room size (used + size r) (begun ++ r ∷ []) rs (subst (λ x. AreRuns bottom x) (sym (append_assoc begun (r ∷ []) rs)) a))
+      | false ↦ ((AreRunsFrom-front bottom 1 begun (r ∷ rs) a, λ t. value_at-front bottom 1 begun (r ∷ rs) t a), AllParts-trans bottom (cut_from room size (room + size r) (r ∷ []) rs) (r ∷ rs) (begun ++ r ∷ rs) (cut_from-parts bottom room size (room + size r) (r ∷ []) rs (AreRunsFrom-back bottom 1 begun (r ∷ rs) a)) (λ t. value_at-back bottom 1 begun (r ∷ rs) t a))
     ]
 
 -- each frame of a cut piece has the value of the piece at a tick, or none
-pub cut_frames-parts : {V : Type 0} (bottom : V) (size : Run V → ℕ) (rs : List (Run V)) → AreRuns bottom rs → AllParts bottom (cut_frames size rs) rs
+pub cut_frames-parts : {V : Type 0} (bottom : V) (room : ℕ) (size : Run V → ℕ) (rs : List (Run V)) → AreRuns bottom rs → AllParts bottom (cut_frames room size rs) rs
 unfolding cut_frames
-cut_frames-parts bottom size [] a = tt
-cut_frames-parts bottom size (r ∷ rs) a = cut_from-parts bottom size (12 + size r) (r ∷ []) rs a
+cut_frames-parts bottom room size [] a = tt
+cut_frames-parts bottom room size (r ∷ rs) a = cut_from-parts bottom room size (room + size r) (r ∷ []) rs a
 
 -- Consolidated ticks
 

@@ -82,8 +82,8 @@ unfolding sent_line
 sent_lines_neutral s p n [] = Neutral-nil s p
 sent_lines_neutral s p n (f ∷ fs) = Neutral-append s p (sent_line n f ∷ []) (sent_lines (suc n) fs) (one f.body) (sent_lines_neutral s p (suc n) fs)
   where
-    one : (y : Body) → Neutral s p ((elim y [ body.Knowledge runs ↦ line.SentKnow n f.head.from f.head.to f.head.publisher runs | body.Curiosity runs ↦ line.SentWant n f.head.from f.head.to f.head.publisher runs | body.Expect tick ↦ line.SentExpect n f.head.from f.head.to f.head.publisher tick ]) ∷ [])
-    one (body.Knowledge runs) = record { got = refl; horizon = λ n. refl; steady = λ n. refl }
+    one : (y : Body) → Neutral s p ((elim y [ body.Knowledge runs js ↦ line.SentKnow n f.head.from f.head.to f.head.publisher runs js | body.Curiosity runs ↦ line.SentWant n f.head.from f.head.to f.head.publisher runs | body.Expect tick ↦ line.SentExpect n f.head.from f.head.to f.head.publisher tick ]) ∷ [])
+    one (body.Knowledge runs js) = record { got = refl; horizon = λ n. refl; steady = λ n. refl }
     one (body.Curiosity runs) = record { got = refl; horizon = λ n. refl; steady = λ n. refl }
     one (body.Expect tick) = record { got = refl; horizon = λ n. refl; steady = λ n. refl }
 
@@ -308,11 +308,11 @@ receive_tells net now f v log reached n i j delivery_lines fit h exact = go f.bo
     learned runs k false = learn_call_tells net f.head.publisher f.head.to runs v log reached n i j fit h k exact
 
     go : (y : Body) → BodyTrue net (facts log reached) f.head.publisher f.head.from f.head.to y → (let o : Outcome = elim y [
-      | body.Knowledge runs ↦ elim (clashes v.know runs) [ true ↦ record { view = v; log = log; lines = []; frames = [] } | false ↦ learn net f.head.publisher f.head.to runs v log ]
+      | body.Knowledge runs js ↦ elim (clashes v.know runs) [ true ↦ record { view = v; log = log; lines = []; frames = [] } | false ↦ learn net f.head.publisher f.head.to runs v log ]
       | body.Curiosity runs ↦ curiosity net f.head.publisher f.head.to now f.head.from (place_of f.head.from (net.children f.head.publisher f.head.to)) runs v log
       | body.Expect tick ↦ expect net f.head.publisher f.head.to now tick v log
     ] in CallTells net f.head.publisher f.head.to v o)
-    go (body.Knowledge runs) t = learned runs t (clashes v.know runs)
+    go (body.Knowledge runs js) t = learned runs t (clashes v.know runs)
     go (body.Curiosity runs) t = curiosity_tells net f.head.publisher f.head.to now f.head.from (place_of f.head.from (net.children f.head.publisher f.head.to)) runs v log
     go (body.Expect tick) t = expect_tells net f.head.publisher f.head.to now tick v log
 

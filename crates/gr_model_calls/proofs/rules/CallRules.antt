@@ -56,10 +56,10 @@ turns_by_child g (c ∷ cs) (w ∷ ws) l d =
     (turns_by_child g cs ws l d.1 ∙ flat_map_same (λ x. g x (get_or ws (place_of x cs) [])) (λ x. g x (get_or (w ∷ ws) (place_of x (c ∷ cs)) [])) cs
     (λ x m. ap (λ q. g x (get_or (w ∷ ws) (if q then 0 else suc (place_of x cs)) [])) (sym (apart c x cs d.0 m))))
 
-forwarded_by_turn : (net : Net) (p b : ℕ) (new : Known) (cs : List ℕ) (ws : List Wanted) → forward_frames net p b new cs ws ≡ by_turn (λ c w. know_frames b c p (forward net p c w new)) cs ws
+forwarded_by_turn : (net : Net) (p b : ℕ) (new : Known) (cs : List ℕ) (ws : List Wanted) → forward_frames [] net p b new cs ws ≡ by_turn (λ c w. know_frames [] b c p (forward net p c w new)) cs ws
 forwarded_by_turn net p b new [] ws = refl
 forwarded_by_turn net p b new (c ∷ cs) [] = refl
-forwarded_by_turn net p b new (c ∷ cs) (w ∷ ws) = ap (λ x. know_frames b c p (forward net p c w new) ++ x) (forwarded_by_turn net p b new cs ws)
+forwarded_by_turn net p b new (c ∷ cs) (w ∷ ws) = ap (λ x. know_frames [] b c p (forward net p c w new) ++ x) (forwarded_by_turn net p b new cs ws)
 
 expected_by_turn : (p b tick : ℕ) (cs : List ℕ) (ws : List Wanted) → expect_frames p b tick cs ws ≡ by_turn (λ c w. if covers w tick then [] else expect_frame b c p tick ∷ []) cs ws
 expected_by_turn p b tick [] ws = refl
@@ -138,9 +138,9 @@ knows_by net f p b at know u r a e =
 -- New ticks
 
 -- where nothing stands no frame is made
-nothing_sent : (b c p : ℕ) (x : Known) → AreRuns Q x → ((t : ℕ) → known_at x t ≡ Q) → know_frames b c p x ≡ []
+nothing_sent : (b c p : ℕ) (x : Known) → AreRuns Q x → ((t : ℕ) → known_at x t ≡ Q) → know_frames [] b c p x ≡ []
 unfolding cut_frames
-nothing_sent b c p x r h = ap (know_frames b c p) (runs_equal Q 1 1 x [] r tt h)
+nothing_sent b c p x r h = ap (know_frames [] b c p) (runs_equal Q 1 1 x [] r tt h)
 
 -- learning a piece obeys the rule of new ticks
 pub new_ticks_rule : (net : Net) (f : Facts) (p b : ℕ) (piece : Known) (v : View) (log : Log) → IsPlace net p b → IsDistinct (net.children p b) → ViewTrue net f p b v → KnowsTruth net f p b piece → NewTicks net p b piece v log (learn net p b piece v log)
@@ -155,7 +155,7 @@ new_ticks_rule net f p b piece v log place distinct h k =
     let ws = forward_wants net p new (net.children p b) v.wants in
     let all = learn_wants net f p b piece v place h k in
     let fin = finished-is joined (consolidated keeps hz ws) j.runs (done_runs net f p b hz ws all) in
-    let u : View = record { know = finished joined (consolidated keeps hz ws); wants = ws; asks = v.asks; horizon = hz } in
+    let u : View = record { know = finished joined (consolidated keeps hz ws); wants = ws; asks = v.asks; horizon = hz; joins = v.joins } in
     let i = trimmed-is net p b u fin.runs in
     let long = same_length net f p (net.children p b) v.wants h.wants in
     let sends : (c : ℕ) → IsChild net p b c → AreRunsOf Q (λ t. if is_A (want_at net p b v c t) then Q else pass net p c t (known_at new t)) (forward net p c (wants_from net p b v c) new) =
@@ -163,7 +163,7 @@ new_ticks_rule net f p b piece v log place distinct h k =
     record {
       sent = λ c. forward net p c (wants_from net p b v c) new;
       sent_is = λ c m. record { runs = (sends c m).runs; each = λ t. (sends c m).same_at t ∙ ap (λ x. if is_A (want_at net p b v c t) then Q else pass net p c t x) (n.same_at t) };
-      frames = forwarded_by_turn net p b new (net.children p b) v.wants ∙ turns_by_child (λ c w. know_frames b c p (forward net p c w new)) (net.children p b) v.wants long distinct;
+      frames = forwarded_by_turn net p b new (net.children p b) v.wants ∙ turns_by_child (λ c w. know_frames [] b c p (forward net p c w new)) (net.children p b) v.wants long distinct;
       none = λ c m h. nothing_sent b c p (forward net p c (wants_from net p b v c) new) (sends c m).runs h;
       wants = λ c m.
           let q = quenched-is (wants_from net p b v c) (forward net p c (wants_from net p b v c) new) (wants_true_at net f p (net.children p b) v.wants c h.wants m).runs (sends c m).runs in
@@ -176,6 +176,7 @@ new_ticks_rule net f p b piece v log place distinct h k =
           (told_on net p b v.horizon hz joined (λ t. join_K (known_at v.know t) (known_at piece t)) j);
       know = knows_by net f p b (λ t. join_K (known_at v.know t) (known_at piece t)) joined u j all refl;
       log_same = refl;
+      joins_same = i.joins;
     }
 
 -- Asking
@@ -187,7 +188,7 @@ asks_rule net f p b now wanted ps more fs v log h w same =
     let d = due-at now net.retry v.know v.asks wanted ps w in
     let done = consolidated (keeps_horizon net p b) v.horizon v.wants in
     let up = upward-at done asked (done_runs net f p b v.horizon v.wants h.wants) d.runs in
-    let u : View = record { know = v.know; wants = v.wants; asks = noted now v.asks asked; horizon = v.horizon } in
+    let u : View = record { know = v.know; wants = v.wants; asks = noted now v.asks asked; horizon = v.horizon; joins = v.joins } in
     let i = trimmed-is net p b u h.know.runs in
     let n = noted-at now v.asks asked h.asks d.runs in
     record {
@@ -202,6 +203,7 @@ asks_rule net f p b now wanted ps more fs v log h w same =
       know = forgets_by net p b u h.know.runs;
       lines = refl;
       log_same = refl;
+      joins_same = i.joins;
     }
   where
     A_if : (c : Bool) (x : Q3) → (if is_A (if c then A else N) then A else x) ≡ (if c then A else x)
@@ -359,6 +361,7 @@ child_asks_rule net f p b now c piece v log h child wt = record {
   know = knows_by net f p b (λ t. known_at v.know t) v.know u (record { runs = h.know.runs; same_at = λ t. refl }) all refl;
   lines = refl;
   log_same = refl;
+  joins_same = i.joins;
 }
   where
     keeps : Bool
@@ -437,7 +440,7 @@ child_asks_rule net f p b now c piece v log h child wt = record {
     ni = noted-at now v.asks (asked (is_host net p b)) h.asks (asked_runs (is_host net p b))
 
     u : View
-    u = record { know = know; wants = ws; asks = noted now v.asks (asked (is_host net p b)); horizon = v.horizon }
+    u = record { know = know; wants = ws; asks = noted now v.asks (asked (is_host net p b)); horizon = v.horizon; joins = v.joins }
 
     i : IsTrimmed net p b u (curiosity net p b now c at piece v log).view
     i = trimmed-is net p b u fi.runs

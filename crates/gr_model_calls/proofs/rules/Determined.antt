@@ -233,17 +233,17 @@ knows_same net p b at v u a c eh ew =
 
 -- Views and outcomes
 
-view_same : (v u : View) → v.know ≡ u.know → v.wants ≡ u.wants → v.asks ≡ u.asks → v.horizon ≡ u.horizon → v ≡ u
-view_same v u a b c d = λ i. record { know = a i; wants = b i; asks = c i; horizon = d i }
+view_same : (v u : View) → v.know ≡ u.know → v.wants ≡ u.wants → v.asks ≡ u.asks → v.horizon ≡ u.horizon → v.joins ≡ u.joins → v ≡ u
+view_same v u a b c d e = λ i. record { know = a i; wants = b i; asks = c i; horizon = d i; joins = e i }
 
 outcome_same : (o u : Outcome) → o.view ≡ u.view → o.log ≡ u.log → o.lines ≡ u.lines → o.frames ≡ u.frames → o ≡ u
 outcome_same o u a b c d = λ i. record { view = a i; log = b i; lines = c i; frames = d i }
 
 new_ticks_same : (net : Net) (p b : ℕ) (piece : Known) (v : View) (log : Log) (o u : Outcome) → IsDistinct (net.children p b) → NewTicks net p b piece v log o → NewTicks net p b piece v log u → o ≡ u
 new_ticks_same net p b piece v log o u distinct a c =
-    outcome_same o u (view_same o.view u.view know ws (asked_same _ _ o.view.asks u.view.asks a.asks c.asks (λ t. ap (λ k. kept_moment net p b (known_at k t) (asked_at v.asks t)) know)) hz) (a.log_same ∙ sym c.log_same)
+    outcome_same o u (view_same o.view u.view know ws (asked_same _ _ o.view.asks u.view.asks a.asks c.asks (λ t. ap (λ k. kept_moment net p b (known_at k t) (asked_at v.asks t)) know)) hz (a.joins_same ∙ sym c.joins_same)) (a.log_same ∙ sym c.log_same)
     (tells_same net p b v.horizon o.view.horizon joined o.lines u.lines a.lines (subst (λ x. DeliversOn net p b v.horizon x joined u.lines) (sym hz) c.lines))
-    (a.frames ∙ (flat_map_same (λ d. know_frames b d p (a.sent d)) (λ d. know_frames b d p (c.sent d)) (net.children p b) (λ d m. ap (know_frames b d p) (sents d m)) ∙ sym c.frames))
+    (a.frames ∙ (flat_map_same (λ d. know_frames [] b d p (a.sent d)) (λ d. know_frames [] b d p (c.sent d)) (net.children p b) (λ d m. ap (know_frames [] b d p) (sents d m)) ∙ sym c.frames))
   where
     joined : ℕ → K
     joined t = join_K (known_at v.know t) (known_at piece t)
@@ -263,8 +263,8 @@ new_ticks_same net p b piece v log o u distinct a c =
 
 child_asks_same : (net : Net) (p b now e : ℕ) (piece : Wanted) (v : View) (log : Log) (o u : Outcome) → IsDistinct (net.children p b) → ChildAsks net p b now e piece v log o → ChildAsks net p b now e piece v log u → o ≡ u
 child_asks_same net p b now e piece v log o u distinct a c =
-    outcome_same o u (view_same o.view u.view know ws asks hz) (a.log_same ∙ sym c.log_same) (a.lines ∙ sym c.lines)
-    (a.frames ∙ (ap₂ (λ x y. know_frames b e p x ++ up_frames net p b y) replies asked ∙ sym c.frames))
+    outcome_same o u (view_same o.view u.view know ws asks hz (a.joins_same ∙ sym c.joins_same)) (a.log_same ∙ sym c.log_same) (a.lines ∙ sym c.lines)
+    (a.frames ∙ (ap₂ (λ x y. know_frames [] b e p x ++ up_frames net p b y) replies asked ∙ sym c.frames))
   where
     replies : a.reply ≡ c.reply
     replies = known_same _ _ a.reply c.reply a.reply_is c.reply_is (λ t. refl)
@@ -293,7 +293,7 @@ child_asks_same net p b now e piece v log o u distinct a c =
 
 asks_same : (net : Net) (p b now : ℕ) (wanted : ℕ → Bool) (xs ys : List Frame) (v : View) (log : Log) (o u : Outcome) → Asks net p b now wanted xs v log o → Asks net p b now wanted ys v log u → xs ≡ ys → o ≡ u
 asks_same net p b now wanted xs ys v log o u a c more =
-    outcome_same o u (view_same o.view u.view know (a.wants ∙ sym c.wants) asks (a.horizon ∙ sym c.horizon)) (a.log_same ∙ sym c.log_same) (a.lines ∙ sym c.lines)
+    outcome_same o u (view_same o.view u.view know (a.wants ∙ sym c.wants) asks (a.horizon ∙ sym c.horizon) (a.joins_same ∙ sym c.joins_same)) (a.log_same ∙ sym c.log_same) (a.lines ∙ sym c.lines)
     (a.frames ∙ (ap₂ (λ x y. up_frames net p b x ++ y) sents more ∙ sym c.frames))
   where
     asked : a.asked ≡ c.asked

@@ -64,6 +64,7 @@ new_ticks_on net f g p b piece v log o a k x = record {
   lines = tells_on net f g p b v.horizon o.view.horizon (λ t. join_K (known_at v.know t) (known_at piece t)) o.lines joined x.lines;
   know = knows_on net f g p b (λ t. join_K (known_at v.know t) (known_at piece t)) o.view x.know;
   log_same = x.log_same;
+  joins_same = x.joins_same;
 }
   where
     joined : (t : ℕ) (e : Event) → join_K (known_at v.know t) (known_at piece t) ≡ D e → (s : ℕ) → f p s t e ≡ g p s t e
@@ -88,4 +89,5 @@ child_asks_on net f g p b now c piece v log o a x = record {
   know = knows_on net f g p b (λ t. known_at v.know t) o.view x.know;
   lines = x.lines;
   log_same = x.log_same;
+  joins_same = x.joins_same;
 }

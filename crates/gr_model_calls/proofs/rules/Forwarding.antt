@@ -61,24 +61,24 @@ value_at-split bottom (r ∷ xs) ys t =
 abbrev pub IsThere : {V : Type 0} → V → ℕ → List (Run V) → List (Run V) → Type 0
 IsThere bottom t whole part = value_at bottom part t ≡ value_at bottom whole t
 
-cut_from_has : {V : Type 0} (bottom : V) (size : Run V → ℕ) (used t : ℕ) (begun rs : List (Run V)) → Has (IsThere bottom t (begun ++ rs)) (cut_from size used begun rs)
+cut_from_has : {V : Type 0} (bottom : V) (room : ℕ) (size : Run V → ℕ) (used t : ℕ) (begun rs : List (Run V)) → Has (IsThere bottom t (begun ++ rs)) (cut_from room size used begun rs)
 unfolding cut_from
-cut_from_has bottom size used t begun [] = inl (ap (λ x. value_at bottom x t) (sym (append-nil begun)))
-cut_from_has bottom size used t begun (r ∷ rs) =
-    elim (nat_le (used + size r) 16384) as (λ b. Has (IsThere bottom t (begun ++ r ∷ rs)) (elim b [ true ↦ cut_from size (used + size r) (begun ++ r ∷ []) rs | false ↦ begun ∷ cut_from size (12 + size r) (r ∷ []) rs ])) [
-      | true ↦ subst (λ x. Has (IsThere bottom t x) (cut_from size (used + size r) (begun ++ r ∷ []) rs)) (append_assoc begun (r ∷ []) rs) (cut_from_has bottom size (used + size r) t (begun ++ r ∷ []) rs)
-      | false ↦ ⊎_elim (λ e. inl e) (λ e. inr (Has-on (IsThere bottom t (r ∷ rs)) (IsThere bottom t (begun ++ r ∷ rs)) (cut_from size (12 + size r) (r ∷ []) rs) (λ x y. y ∙ e) (cut_from_has bottom size (12 + size r) t (r ∷ []) rs))) (value_at-split bottom begun (r ∷ rs) t)
+cut_from_has bottom room size used t begun [] = inl (ap (λ x. value_at bottom x t) (sym (append-nil begun)))
+cut_from_has bottom room size used t begun (r ∷ rs) =
+    elim (nat_le (used + size r) 16384) as (λ b. Has (IsThere bottom t (begun ++ r ∷ rs)) (elim b [ true ↦ cut_from room size (used + size r) (begun ++ r ∷ []) rs | false ↦ begun ∷ cut_from room size (room + size r) (r ∷ []) rs ])) [
+      | true ↦ subst (λ x. Has (IsThere bottom t x) (cut_from room size (used + size r) (begun ++ r ∷ []) rs)) (append_assoc begun (r ∷ []) rs) (cut_from_has bottom room size (used + size r) t (begun ++ r ∷ []) rs)
+      | false ↦ ⊎_elim (λ e. inl e) (λ e. inr (Has-on (IsThere bottom t (r ∷ rs)) (IsThere bottom t (begun ++ r ∷ rs)) (cut_from room size (room + size r) (r ∷ []) rs) (λ x y. y ∙ e) (cut_from_has bottom room size (room + size r) t (r ∷ []) rs))) (value_at-split bottom begun (r ∷ rs) t)
     ]
 
 -- a tick that is not the least is in one of the frames as it is in the whole
-pub cut_frames_has : {V : Type 0} (bottom : V) (size : Run V → ℕ) (t : ℕ) (rs : List (Run V)) → value_at bottom rs t ≢ bottom → Has (IsThere bottom t rs) (cut_frames size rs)
+pub cut_frames_has : {V : Type 0} (bottom : V) (room : ℕ) (size : Run V → ℕ) (t : ℕ) (rs : List (Run V)) → value_at bottom rs t ≢ bottom → Has (IsThere bottom t rs) (cut_frames room size rs)
 unfolding cut_frames
-cut_frames_has bottom size t [] n = absurd (n refl)
-cut_frames_has bottom size t (r ∷ rs) n = cut_from_has bottom size (12 + size r) t (r ∷ []) rs
+cut_frames_has bottom room size t [] n = absurd (n refl)
+cut_frames_has bottom room size t (r ∷ rs) n = cut_from_has bottom room size (room + size r) t (r ∷ []) rs
 
 -- the body is knowledge with this value at the tick
 abbrev pub TellsBody : ℕ → K → Body → Type 0
-TellsBody t k (body.Knowledge runs) = known_at runs t ≡ k
+TellsBody t k (body.Knowledge runs js) = known_at runs t ≡ k
 TellsBody t k _ = ⊥
 
 -- the body is curiosity with this value at the tick
@@ -101,15 +101,15 @@ pub record WantsTick (p from to t : ℕ) (q : Q3) (f : Frame) : Type 0 where
   pub body : WantsBody t q f.body
 
 -- each known tick of a piece is in one of the frames that it is cut into
-pub know_frames_tell : (p from to t : ℕ) (runs : Known) → known_at runs t ≢ Q → Has (TellsTick p from to t (known_at runs t)) (know_frames from to p runs)
+pub know_frames_tell : (p from to t : ℕ) (runs : Known) → known_at runs t ≢ Q → Has (TellsTick p from to t (known_at runs t)) (know_frames [] from to p runs)
 know_frames_tell p from to t runs n =
-    Has-map (IsThere Q t runs) (TellsTick p from to t (known_at runs t)) (λ part. record { head = head from to p; body = body.Knowledge part }) (cut_frames known_run_size runs)
-    (λ part e. record { from_is = refl; to_is = refl; publisher = refl; body = e }) (cut_frames_has Q known_run_size t runs n)
+    Has-map (IsThere Q t runs) (TellsTick p from to t (known_at runs t)) (λ part. record { head = head from to p; body = body.Knowledge part [] }) (cut_frames 12 known_run_size runs)
+    (λ part e. record { from_is = refl; to_is = refl; publisher = refl; body = e }) (cut_frames_has Q 12 known_run_size t runs n)
 
 pub want_frames_want : (p from to t : ℕ) (runs : Wanted) → wanted_at runs t ≢ N → Has (WantsTick p from to t (wanted_at runs t)) (want_frames from to p runs)
 want_frames_want p from to t runs n =
-    Has-map (IsThere N t runs) (WantsTick p from to t (wanted_at runs t)) (λ part. record { head = head from to p; body = body.Curiosity part }) (cut_frames wanted_run_size runs)
-    (λ part e. record { from_is = refl; to_is = refl; publisher = refl; body = e }) (cut_frames_has N wanted_run_size t runs n)
+    Has-map (IsThere N t runs) (WantsTick p from to t (wanted_at runs t)) (λ part. record { head = head from to p; body = body.Curiosity part }) (cut_frames 12 wanted_run_size runs)
+    (λ part e. record { from_is = refl; to_is = refl; publisher = refl; body = e }) (cut_frames_has N 12 wanted_run_size t runs n)
 
 -- each tick that a piece asks or acknowledges is in one of the frames that go up
 pub up_frames_want : (net : Net) (p b u t : ℕ) (runs : Wanted) → net.up p b ≡ Some u → wanted_at runs t ≢ N → Has (WantsTick p b u t (wanted_at runs t)) (up_frames net p b runs)
@@ -148,7 +148,7 @@ not_Q_of F h = refl
 abbrev pub wants_of : Net → ℕ → ℕ → View → ℕ → Wanted
 wants_of net p b v c = get_or v.wants (place_of c (net.children p b)) []
 
-forward_tells : (net : Net) (f : Facts) (p b c t : ℕ) (new : Known) (cs : List ℕ) (ws : List Wanted) → AllWantTruth net f p cs ws → AreRuns Q new → list_any (λ x. nat_eq x c) cs ≡ true → known_at new t ≢ Q → wanted_at (get_or ws (place_of c cs) []) t ≢ A → Has (TellsTick p b c t (pass net p c t (known_at new t))) (forward_frames net p b new cs ws)
+forward_tells : (net : Net) (f : Facts) (p b c t : ℕ) (new : Known) (cs : List ℕ) (ws : List Wanted) → AllWantTruth net f p cs ws → AreRuns Q new → list_any (λ x. nat_eq x c) cs ≡ true → known_at new t ≢ Q → wanted_at (get_or ws (place_of c cs) []) t ≢ A → Has (TellsTick p b c t (pass net p c t (known_at new t))) (forward_frames [] net p b new cs ws)
 forward_tells net f p b c t new [] ws a r m n k = absurd (false≢true m)
 forward_tells net f p b c t new (d ∷ cs) [] a r m n k = absurd a
 forward_tells net f p b c t new (d ∷ cs) (w ∷ ws) a r m n k =
@@ -156,12 +156,12 @@ forward_tells net f p b c t new (d ∷ cs) (w ∷ ws) a r m n k =
       | inl e ↦
           let k1 : wanted_at w t ≢ A = subst (λ q. wanted_at (get_or (w ∷ ws) (if q then 0 else suc (place_of c cs)) []) t ≢ A) e k in
           let v : known_at (forward net p d w new) t ≡ pass net p d t (known_at new t) = (forward-is net p d w new a.0.runs r).same_at t ∙ ap (λ q. if q then Q else pass net p d t (known_at new t)) (not_A (wanted_at w t) k1) in
-          Has-front (TellsTick p b c t (pass net p c t (known_at new t))) (know_frames b d p (forward net p d w new)) (forward_frames net p b new cs ws)
-          (subst (λ x. Has (TellsTick p b x t (pass net p x t (known_at new t))) (know_frames b d p (forward net p d w new))) (eqb-true d c e)
-          (subst (λ x. Has (TellsTick p b d t x) (know_frames b d p (forward net p d w new))) v (know_frames_tell p b d t (forward net p d w new) (λ x. pass_not_Q net p d t (known_at new t) n (sym v ∙ x)))))
+          Has-front (TellsTick p b c t (pass net p c t (known_at new t))) (know_frames [] b d p (forward net p d w new)) (forward_frames [] net p b new cs ws)
+          (subst (λ x. Has (TellsTick p b x t (pass net p x t (known_at new t))) (know_frames [] b d p (forward net p d w new))) (eqb-true d c e)
+          (subst (λ x. Has (TellsTick p b d t x) (know_frames [] b d p (forward net p d w new))) v (know_frames_tell p b d t (forward net p d w new) (λ x. pass_not_Q net p d t (known_at new t) n (sym v ∙ x)))))
       | inr e ↦
           let k1 : wanted_at (get_or ws (place_of c cs) []) t ≢ A = subst (λ q. wanted_at (get_or (w ∷ ws) (if q then 0 else suc (place_of c cs)) []) t ≢ A) e k in
-          Has-back (TellsTick p b c t (pass net p c t (known_at new t))) (know_frames b d p (forward net p d w new)) (forward_frames net p b new cs ws)
+          Has-back (TellsTick p b c t (pass net p c t (known_at new t))) (know_frames [] b d p (forward net p d w new)) (forward_frames [] net p b new cs ws)
           (forward_tells net f p b c t new cs ws a.1 r (subst (λ q. (q || list_any (λ x. nat_eq x c) cs) ≡ true) e m) n k1)
     ]
 
@@ -209,12 +209,12 @@ learn_ticks net f p b piece v log place h k =
     let all = learn_wants net f p b piece v place h k in
     let done = consolidated keeps hz ws in
     let fin = finished-is joined done j.runs (done_runs net f p b hz ws all) in
-    let u : View = record { know = finished joined done; wants = ws; asks = v.asks; horizon = hz } in
+    let u : View = record { know = finished joined done; wants = ws; asks = v.asks; horizon = hz; joins = v.joins } in
     let i = trimmed-is net p b u fin.runs in
     record {
       forwarded = λ c t m q x a.
           let e : known_at new t ≡ known_at piece t = n.same_at t ∙ ap (λ z. if z then known_at piece t else Q) (is_Q_of (known_at v.know t) q) in
-          subst (λ z. Has (TellsTick p b c t (pass net p c t z)) (forward_frames net p b new (net.children p b) v.wants)) e (forward_tells net f p b c t new (net.children p b) v.wants h.wants n.runs m (λ z. x (sym e ∙ z)) a);
+          subst (λ z. Has (TellsTick p b c t (pass net p c t z)) (forward_frames [] net p b new (net.children p b) v.wants)) e (forward_tells net f p b c t new (net.children p b) v.wants h.wants n.runs m (λ z. x (sym e ∙ z)) a);
       wants = λ c t m. ap (λ z. wanted_at (get_or z (place_of c (net.children p b)) []) t) i.wants ∙ (forward_quenches net f p c t new (net.children p b) v.wants h.wants n.runs m ∙ ap (λ z. quenched_at net p c t z (wanted_at (wants_of net p b v c) t)) (n.same_at t));
       horizon = i.horizon;
       asks = λ t e. moment_kept net p b u (learn net p b piece v log).view i h.asks t e;

@@ -246,10 +246,10 @@ comes_rule net now f v log reached n i fits told h = go f.body told fits.body
 
     go : (y : Body) → BodyTrue net (facts log reached) p f.head.from b y → BodyFits net p f.head.from b y → Comes net p f.head.from b now y v log
         (let o : Outcome = elim y [
-          | body.Knowledge runs ↦ elim (clashes v.know runs) [ true ↦ record { view = v; log = log; lines = []; frames = [] } | false ↦ learn net f.head.publisher f.head.to runs v log ]
+          | body.Knowledge runs js ↦ elim (clashes v.know runs) [ true ↦ record { view = v; log = log; lines = []; frames = [] } | false ↦ learn net f.head.publisher f.head.to runs v log ]
           | body.Curiosity runs ↦ curiosity net f.head.publisher f.head.to now f.head.from (place_of f.head.from (net.children f.head.publisher f.head.to)) runs v log
           | body.Expect tick ↦ expect net f.head.publisher f.head.to now tick v log
         ] in o)
-    go (body.Knowledge runs) t c = learned runs t (clashes v.know runs) (true_pieces net (facts log reached) p b v.know runs h.know t)
+    go (body.Knowledge runs js) t c = learned runs t (clashes v.know runs) (true_pieces net (facts log reached) p b v.know runs h.know t)
     go (body.Curiosity runs) t c = child_asks_rule net (facts log reached) p b now f.head.from runs v log h c t
     go (body.Expect tick) t c = expects_rule net (facts log reached) p b now tick v log (n.children_once p b i fits.to_in) h

@@ -36,7 +36,7 @@ abbrev pub IsCuriosity : Body → ℕ → Q3 → Type 0
 IsCuriosity y t q = (runs : Wanted) × (y ≡ body.Curiosity runs) × (wanted_at runs t ≡ q)
 
 pub want_body : (t : ℕ) (q : Q3) (y : Body) → WantsBody t q y → IsCuriosity y t q
-want_body t q (body.Knowledge runs) h = absurd h
+want_body t q (body.Knowledge runs js) h = absurd h
 want_body t q (body.Curiosity runs) h = (runs, refl, h)
 want_body t q (body.Expect tick) h = absurd h
 

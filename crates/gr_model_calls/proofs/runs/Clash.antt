@@ -1,6 +1,7 @@
 -- Nothing that is sent clashes with what is known
 use Rattle.std.proofs.Common.{◌≡◌, Some, subst, ℕ, false, [], refl, ap, ◌∙◌}
 use Rattle.std.specs.Prelude.{if◌then◌else◌}
+use Rattle.gr_event.specs.Joins.{Joins}
 use Rattle.gr_know.specs.declared.values.K.{K}
 use Rattle.gr_know.specs.declared.values.K.TheVariants.{Q}
 use Rattle.gr_curio.specs.declared.values.Q3.TheVariants.{N, A}
@@ -32,7 +33,7 @@ true_pieces net f p b know piece h i =
     (λ t. z.same_at t ∙ clash_none (known_at know t) (known_at piece t) (no_clash net f p b t (known_at know t) (known_at piece t) (h.each t) (i.each t))))
 
 -- no frame of knowledge that was ever sent clashes, wherever the schedule delivers it
-pub no_frame_clashes : (net : Net) (w : World) (k : ℕ) (f : Frame) (runs : Known) → IsNet net → WorldFits net w → frame_at w k ≡ Some f → f.body ≡ body.Knowledge runs → clashes (view_of w f.head.to f.head.publisher).know runs ≡ false
+pub no_frame_clashes : {js : Joins} (net : Net) (w : World) (k : ℕ) (f : Frame) (runs : Known) → IsNet net → WorldFits net w → frame_at w k ≡ Some f → f.body ≡ body.Knowledge runs js → clashes (view_of w f.head.to f.head.publisher).know runs ≡ false
 no_frame_clashes net w k f runs n fit at is =
     let t = frame_at_true net w k f fit at in
     let told : KnowsTruth net (facts_of net w f.head.publisher) f.head.publisher f.head.to runs = subst (BodyTrue net (facts_of net w f.head.publisher) f.head.publisher f.head.from f.head.to) is t.told in

@@ -45,7 +45,7 @@ row_length views b p c v h =
 -- Frames at later facts
 
 BodyTrue-later : (net : Net) (f g : Facts) (p from to : ℕ) (y : Body) → IsLater f g → BodyTrue net f p from to y → BodyTrue net g p from to y
-BodyTrue-later net f g p from to (body.Knowledge runs) l h = KnowsTruth-later net f g p to runs l h
+BodyTrue-later net f g p from to (body.Knowledge runs js) l h = KnowsTruth-later net f g p to runs l h
 BodyTrue-later net f g p from to (body.Curiosity runs) l h = WantsTruth-later net f g p from runs l h
 BodyTrue-later net f g p from to (body.Expect tick) l h = le_trans h l.settled
 

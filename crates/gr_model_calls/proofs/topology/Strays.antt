@@ -28,14 +28,14 @@ IsChildOf net p b c = list_any (λ x. nat_eq x c) (net.children p b) ≡ true
 
 -- a property of each kind of frame that a broker may send for a publisher
 pub record SentOn (net : Net) (p b : ℕ) (R : Frame → Type 0) : Type 0 where
-  pub know : (c : ℕ) (part : Known) → IsChildOf net p b c → R (record { head = head b c p; body = body.Knowledge part })
+  pub know : (c : ℕ) (part : Known) → IsChildOf net p b c → R (record { head = head b c p; body = body.Knowledge part [] })
   pub want : (u : ℕ) (part : Wanted) → net.up p b ≡ Some u → R (record { head = head b u p; body = body.Curiosity part })
   pub expect : (c tick : ℕ) → IsChildOf net p b c → R (expect_frame b c p tick)
 
-know_on : (net : Net) (p b c : ℕ) (R : Frame → Type 0) (runs : Known) → SentOn net p b R → IsChildOf net p b c → Each R (know_frames b c p runs)
-know_on net p b c R runs s m = go (cut_frames known_run_size runs)
+know_on : (net : Net) (p b c : ℕ) (R : Frame → Type 0) (runs : Known) → SentOn net p b R → IsChildOf net p b c → Each R (know_frames [] b c p runs)
+know_on net p b c R runs s m = go (cut_frames 12 known_run_size runs)
   where
-    go : (parts : List Known) → Each R (map (λ part. record { head = head b c p; body = body.Knowledge part }) parts)
+    go : (parts : List Known) → Each R (map (λ part. record { head = head b c p; body = body.Knowledge part [] }) parts)
     go [] = tt
     go (x ∷ xs) = (s.know c x m, go xs)
 
@@ -48,7 +48,7 @@ up_on net p b R runs s = at (net.up p b) refl
 
     at : (u : Option ℕ) → net.up p b ≡ u → Each R (elim u [ Some u ↦ want_frames b u p runs | None ↦ [] ])
     at None e = tt
-    at (Some u) e = go u (cut_frames wanted_run_size runs) e
+    at (Some u) e = go u (cut_frames 12 wanted_run_size runs) e
 
 -- some of the children
 abbrev AreAmong : Net → ℕ → ℕ → List ℕ → Type 0
@@ -60,10 +60,10 @@ first_among net p b c cs h = h c (or_left (nat_eq c c) (list_any (λ x. nat_eq x
 rest_among : (net : Net) (p b c : ℕ) (cs : List ℕ) → AreAmong net p b (c ∷ cs) → AreAmong net p b cs
 rest_among net p b c cs h = λ d m. h d (or_right (nat_eq c d) (list_any (λ x. nat_eq x d) cs) m)
 
-forward_on : (net : Net) (p b : ℕ) (R : Frame → Type 0) (new : Known) (cs : List ℕ) (ws : List Wanted) → SentOn net p b R → AreAmong net p b cs → Each R (forward_frames net p b new cs ws)
+forward_on : (net : Net) (p b : ℕ) (R : Frame → Type 0) (new : Known) (cs : List ℕ) (ws : List Wanted) → SentOn net p b R → AreAmong net p b cs → Each R (forward_frames [] net p b new cs ws)
 forward_on net p b R new [] ws s h = tt
 forward_on net p b R new (c ∷ cs) [] s h = tt
-forward_on net p b R new (c ∷ cs) (w ∷ ws) s h = Each-on R (know_frames b c p (forward net p c w new)) (forward_frames net p b new cs ws) (know_on net p b c R (forward net p c w new) s (first_among net p b c cs h)) (forward_on net p b R new cs ws s (rest_among net p b c cs h))
+forward_on net p b R new (c ∷ cs) (w ∷ ws) s h = Each-on R (know_frames [] b c p (forward net p c w new)) (forward_frames [] net p b new cs ws) (know_on net p b c R (forward net p c w new) s (first_among net p b c cs h)) (forward_on net p b R new cs ws s (rest_among net p b c cs h))
 
 expects_on : (net : Net) (p b tick : ℕ) (R : Frame → Type 0) (cs : List ℕ) (ws : List Wanted) → SentOn net p b R → AreAmong net p b cs → Each R (expect_frames p b tick cs ws)
 expects_on net p b tick R [] ws s h = tt
@@ -119,11 +119,11 @@ receive_on net now R f v log s fits = go f.body fits
     learned runs false = learn_on net f.head.publisher f.head.to R runs v log s
 
     go : (y : Body) → BodyFits net f.head.publisher f.head.from f.head.to y → Each R (let o : Outcome = elim y [
-      | body.Knowledge runs ↦ elim (clashes v.know runs) [ true ↦ record { view = v; log = log; lines = []; frames = [] } | false ↦ learn net f.head.publisher f.head.to runs v log ]
+      | body.Knowledge runs js ↦ elim (clashes v.know runs) [ true ↦ record { view = v; log = log; lines = []; frames = [] } | false ↦ learn net f.head.publisher f.head.to runs v log ]
       | body.Curiosity runs ↦ curiosity net f.head.publisher f.head.to now f.head.from (place_of f.head.from (net.children f.head.publisher f.head.to)) runs v log
       | body.Expect tick ↦ expect net f.head.publisher f.head.to now tick v log
     ] in o.frames)
-    go (body.Knowledge runs) m = learned runs (clashes v.know runs)
+    go (body.Knowledge runs js) m = learned runs (clashes v.know runs)
     go (body.Curiosity runs) m = curiosity_on net f.head.publisher f.head.to now f.head.from (place_of f.head.from (net.children f.head.publisher f.head.to)) R runs v log s m
     go (body.Expect tick) m = expect_on net f.head.publisher f.head.to now tick R v log s
 
@@ -135,9 +135,9 @@ publish_on net p b now number R e v log s = publish_cases net p b now number e v
 
 over_edges : (net : Net) (p b : ℕ) → IsNet net → p < net.publishers → b < net.brokers → SentOn net p b (GoesOverEdge net)
 over_edges net p b n j i = record {
-  know = λ c part m. record { publisher = j; from = i; to = n.child_in p b c j i m; between = n.child_up p b c j i m };
-  want = λ u part e. let x = n.up_in p b u j i e in record { publisher = j; from = i; to = x.0; between = x.1 };
-  expect = λ c tick m. record { publisher = j; from = i; to = n.child_in p b c j i m; between = n.child_up p b c j i m };
+  know = λ c part m. record { publisher = j; from = i; to = n.child_in p b c j i m; between = n.child_up p b c j i m; joins = refl };
+  want = λ u part e. let x = n.up_in p b u j i e in record { publisher = j; from = i; to = x.0; between = x.1; joins = refl };
+  expect = λ c tick m. record { publisher = j; from = i; to = n.child_in p b c j i m; between = n.child_up p b c j i m; joins = refl };
 }
 
 -- each frame sent so far goes over an edge of the tree

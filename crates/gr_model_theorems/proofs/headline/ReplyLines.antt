@@ -45,8 +45,8 @@ unfolding sent_line
 sent_silent n [] = refl
 sent_silent n (f ∷ fs) = filter-append is_reply (sent_line n f ∷ []) (sent_lines (suc n) fs) ∙ ap₂ (λ x y. x ++ y) (one f.body) (sent_silent (suc n) fs)
   where
-    one : (y : Body) → replying ((elim y [ body.Knowledge runs ↦ line.SentKnow n f.head.from f.head.to f.head.publisher runs | body.Curiosity runs ↦ line.SentWant n f.head.from f.head.to f.head.publisher runs | body.Expect tick ↦ line.SentExpect n f.head.from f.head.to f.head.publisher tick ]) ∷ []) ≡ []
-    one (body.Knowledge runs) = refl
+    one : (y : Body) → replying ((elim y [ body.Knowledge runs js ↦ line.SentKnow n f.head.from f.head.to f.head.publisher runs js | body.Curiosity runs ↦ line.SentWant n f.head.from f.head.to f.head.publisher runs | body.Expect tick ↦ line.SentExpect n f.head.from f.head.to f.head.publisher tick ]) ∷ []) ≡ []
+    one (body.Knowledge runs js) = refl
     one (body.Curiosity runs) = refl
     one (body.Expect tick) = refl
 
@@ -213,8 +213,8 @@ pub frame_told : (k : ℕ) (f : Frame) → frame_of_line (sent_line k f) ≡ Som
 unfolding sent_line
 frame_told k f = go f.body refl
   where
-    go : (y : Body) → f.body ≡ y → frame_of_line (elim y [ body.Knowledge runs ↦ line.SentKnow k f.head.from f.head.to f.head.publisher runs | body.Curiosity runs ↦ line.SentWant k f.head.from f.head.to f.head.publisher runs | body.Expect tick ↦ line.SentExpect k f.head.from f.head.to f.head.publisher tick ]) ≡ Some f
-    go (body.Knowledge runs) e = ap (λ z. Some (record { head = f.head; body = z })) (sym e)
+    go : (y : Body) → f.body ≡ y → frame_of_line (elim y [ body.Knowledge runs js ↦ line.SentKnow k f.head.from f.head.to f.head.publisher runs js | body.Curiosity runs ↦ line.SentWant k f.head.from f.head.to f.head.publisher runs | body.Expect tick ↦ line.SentExpect k f.head.from f.head.to f.head.publisher tick ]) ≡ Some f
+    go (body.Knowledge runs js) e = ap (λ z. Some (record { head = f.head; body = z })) (sym e)
     go (body.Curiosity runs) e = ap (λ z. Some (record { head = f.head; body = z })) (sym e)
     go (body.Expect tick) e = ap (λ z. Some (record { head = f.head; body = z })) (sym e)
 

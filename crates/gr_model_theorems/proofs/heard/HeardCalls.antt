@@ -49,7 +49,7 @@ trimmed_heard net p b v u H keeps i h = same_heard v u H i.horizon (λ t l. trim
 asking_heard : (net : Net) (p b now : ℕ) (wanted : ℕ → Bool) (ps : List ℕ) (v : View) (log : Log) (H : ℕ → Bool) → keeps_horizon net p b ≡ true → AreRuns Q v.know → HeardFits v H → HeardFits (asking net p b now wanted ps v log).view H
 unfolding asking
 asking_heard net p b now wanted ps v log H keeps r h =
-    let w : View = record { know = v.know; wants = v.wants; asks = noted now v.asks (due now net.retry v.know v.asks wanted ps); horizon = v.horizon } in
+    let w : View = record { know = v.know; wants = v.wants; asks = noted now v.asks (due now net.retry v.know v.asks wanted ps); horizon = v.horizon; joins = v.joins } in
     trimmed_heard net p b w _ H keeps (trimmed-is net p b w r) (record { below = h.below; stops = h.stops; known = h.known; kept = h.kept })
 
 wake_heard : (net : Net) (p b now : ℕ) (v : View) (log : Log) (H : ℕ → Bool) → is_host net p b ≡ false → keeps_horizon net p b ≡ true → AreRuns Q v.know → HeardFits v H → HeardFits (wake net p b now v log).view H
@@ -72,7 +72,7 @@ curiosity_heard net f p b now c piece v log H keeps h ws k =
 
 -- what a frame adds to what its receiver has heard
 abbrev pub hears_body : (ℕ → Bool) → Body → ℕ → Bool
-hears_body H (body.Knowledge runs) t = hears H runs t
+hears_body H (body.Knowledge runs js) t = hears H runs t
 hears_body H _ t = H t
 
 receive_heard : (net : Net) (f : Facts) (now : ℕ) (x : Frame) (v : View) (log : Log) (H : ℕ → Bool) → IsPlace net x.head.publisher x.head.to → keeps_horizon net x.head.publisher x.head.to ≡ true → ViewTrue net f x.head.publisher x.head.to v → BodyTrue net f x.head.publisher x.head.from x.head.to x.body → BodyFits net x.head.publisher x.head.from x.head.to x.body →
@@ -86,16 +86,16 @@ receive_heard net f now x v log H place keeps h tr fits k = go x.body tr fits
     b : ℕ
     b = x.head.to
 
-    learned : (runs : Known) (q : Bool) → clashes v.know runs ≡ q → BodyTrue net f p x.head.from b (body.Knowledge runs) → HeardFits (let o : Outcome = elim q [ true ↦ record { view = v; log = log; lines = []; frames = [] } | false ↦ learn net p b runs v log ] in o.view) (hears H runs)
+    learned : (runs : Known) (q : Bool) → clashes v.know runs ≡ q → BodyTrue net f p x.head.from b (body.Knowledge runs []) → HeardFits (let o : Outcome = elim q [ true ↦ record { view = v; log = log; lines = []; frames = [] } | false ↦ learn net p b runs v log ] in o.view) (hears H runs)
     learned runs true e i = absurd (false≢true (sym (true_pieces net f p b v.know runs h.know i) ∙ e))
     learned runs false e i = learn_heard net f p b runs v log H place keeps h i k
 
     go : (y : Body) → BodyTrue net f p x.head.from b y → BodyFits net p x.head.from b y → HeardFits (let o : Outcome = elim y [
-      | body.Knowledge runs ↦ elim (clashes v.know runs) [ true ↦ record { view = v; log = log; lines = []; frames = [] } | false ↦ learn net x.head.publisher x.head.to runs v log ]
+      | body.Knowledge runs js ↦ elim (clashes v.know runs) [ true ↦ record { view = v; log = log; lines = []; frames = [] } | false ↦ learn net x.head.publisher x.head.to runs v log ]
       | body.Curiosity runs ↦ curiosity net x.head.publisher x.head.to now x.head.from (place_of x.head.from (net.children x.head.publisher x.head.to)) runs v log
       | body.Expect tick ↦ expect net x.head.publisher x.head.to now tick v log
     ] in o.view) (hears_body H y)
-    go (body.Knowledge runs) i j = learned runs (clashes v.know runs) refl i
+    go (body.Knowledge runs js) i j = learned runs (clashes v.know runs) refl i
     go (body.Curiosity runs) i j = curiosity_heard net f p b now x.head.from runs v log H keeps h (curiosity_wants net f p b x.head.from runs v h j i) k
     go (body.Expect tick) i j = expect_heard net p b now tick v log H keeps h.know.runs k
 

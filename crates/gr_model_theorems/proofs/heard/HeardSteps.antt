@@ -124,7 +124,7 @@ line_none (l ∷ ls) = line_none ls
 
 -- a line of no frame has no number
 unsent_number : (l : Report) → is_sent l ≡ false → sent_number l ≡ 0
-unsent_number (line.SentKnow n from to p runs) e = absurd (true≢false e)
+unsent_number (line.SentKnow n from to p runs js) e = absurd (true≢false e)
 unsent_number (line.SentWant n from to p runs) e = absurd (true≢false e)
 unsent_number (line.SentExpect n from to p tick) e = absurd (true≢false e)
 unsent_number _ e = refl
@@ -148,8 +148,8 @@ pub sent_line_number : (n : ℕ) (x : Frame) → sent_number (sent_line n x) ≡
 unfolding sent_line
 sent_line_number n x = go x.body
   where
-    go : (y : Body) → sent_number (elim y [ body.Knowledge runs ↦ line.SentKnow n x.head.from x.head.to x.head.publisher runs | body.Curiosity runs ↦ line.SentWant n x.head.from x.head.to x.head.publisher runs | body.Expect tick ↦ line.SentExpect n x.head.from x.head.to x.head.publisher tick ]) ≡ n
-    go (body.Knowledge runs) = refl
+    go : (y : Body) → sent_number (elim y [ body.Knowledge runs js ↦ line.SentKnow n x.head.from x.head.to x.head.publisher runs js | body.Curiosity runs ↦ line.SentWant n x.head.from x.head.to x.head.publisher runs | body.Expect tick ↦ line.SentExpect n x.head.from x.head.to x.head.publisher tick ]) ≡ n
+    go (body.Knowledge runs js) = refl
     go (body.Curiosity runs) = refl
     go (body.Expect tick) = refl
 
@@ -177,7 +177,7 @@ line_is w (suc k) ls e = line_sent k ls ∙ (ap (line_of_frame (suc k)) e ∙ su
 
 -- the knowledge of a frame, with its receiver and publisher
 abbrev pub know_of_body : Head → Body → Option (ℕ × ℕ × Known)
-know_of_body h (body.Knowledge runs) = Some (h.to, h.publisher, runs)
+know_of_body h (body.Knowledge runs js) = Some (h.to, h.publisher, runs)
 know_of_body h _ = None
 
 -- the line of a sent frame says its knowledge
@@ -185,8 +185,8 @@ pub know_of_sent : (k : ℕ) (x : Frame) → know_of_line (sent_line k x) ≡ kn
 unfolding sent_line
 know_of_sent k x = go x.body
   where
-    go : (y : Body) → know_of_line (elim y [ body.Knowledge runs ↦ line.SentKnow k x.head.from x.head.to x.head.publisher runs | body.Curiosity runs ↦ line.SentWant k x.head.from x.head.to x.head.publisher runs | body.Expect tick ↦ line.SentExpect k x.head.from x.head.to x.head.publisher tick ]) ≡ know_of_body x.head y
-    go (body.Knowledge runs) = refl
+    go : (y : Body) → know_of_line (elim y [ body.Knowledge runs js ↦ line.SentKnow k x.head.from x.head.to x.head.publisher runs js | body.Curiosity runs ↦ line.SentWant k x.head.from x.head.to x.head.publisher runs | body.Expect tick ↦ line.SentExpect k x.head.from x.head.to x.head.publisher tick ]) ≡ know_of_body x.head y
+    go (body.Knowledge runs js) = refl
     go (body.Curiosity runs) = refl
     go (body.Expect tick) = refl
 
@@ -198,7 +198,7 @@ pub record AddsHeard (net : Net) (heard more : Pieces) (h : Head) (y : Body) : T
 
 -- a delivered frame adds its known ticks to what its receiver has heard of its publisher, and nothing else
 pub body_adds : (net : Net) (w : World) (heard : Pieces) (h : Head) (y : Body) → HeardLong net heard → h.to < net.brokers → h.publisher < net.publishers → BodyTrue net (facts_of net w h.publisher) h.publisher h.from h.to y → AddsHeard net heard (hearing heard (know_of_body h y)) h y
-body_adds net w heard h (body.Knowledge runs) l i j tr = record {
+body_adds net w heard h (body.Knowledge runs js) l i j tr = record {
   long = hearing_long net heard h.to h.publisher runs l i;
   here = λ t. ap (λ pieces. is_heard pieces t) (hearing_here net heard h.to h.publisher runs l i j) ∙ heard_more (get_or (get_or heard h.to []) h.publisher []) runs t tr.runs;
   same = λ c q t n. ap (λ pieces. is_heard pieces t) (hearing_other net heard h.to h.publisher c q runs l i n);

@@ -179,11 +179,11 @@ unfolding receive curiosity
 receive_horizon net now x v log fits host = go x.body fits
   where
     go : (y : Body) → ExpectBody net x.head.publisher x.head.to y → (let o : Outcome = elim y [
-      | body.Knowledge runs ↦ elim (clashes v.know runs) [ true ↦ record { view = v; log = log; lines = []; frames = [] } | false ↦ learn net x.head.publisher x.head.to runs v log ]
+      | body.Knowledge runs js ↦ elim (clashes v.know runs) [ true ↦ record { view = v; log = log; lines = []; frames = [] } | false ↦ learn net x.head.publisher x.head.to runs v log ]
       | body.Curiosity runs ↦ curiosity net x.head.publisher x.head.to now x.head.from (place_of x.head.from (net.children x.head.publisher x.head.to)) runs v log
       | body.Expect tick ↦ expect net x.head.publisher x.head.to now tick v log
     ] in o.view.horizon) ≡ v.horizon
-    go (body.Knowledge runs) h = absurd (true≢false (sym host ∙ h))
+    go (body.Knowledge runs js) h = absurd (true≢false (sym host ∙ h))
     go (body.Curiosity runs) h = trimmed_horizon net x.head.publisher x.head.to _
     go (body.Expect tick) h = absurd (true≢false (sym host ∙ h))
 

@@ -79,7 +79,7 @@ publish_final net p b now number e v log o r h =
     ]
 
 comes_final : (net : Net) (p from to now : ℕ) (y : Body) (v : View) (log : Log) (o : Outcome) → Comes net p from to now y v log o → FinalTicks net p to v → FinalTicks net p to o.view
-comes_final net p from to now (body.Knowledge runs) v log o c h = knows_final net p to _ o.view c.know
+comes_final net p from to now (body.Knowledge runs js) v log o c h = knows_final net p to _ o.view c.know
 comes_final net p from to now (body.Curiosity runs) v log o c h = knows_final net p to _ o.view c.know
 comes_final net p from to now (body.Expect tick) v log o c h = asks_final net p to now _ _ v log o c.asks h
 

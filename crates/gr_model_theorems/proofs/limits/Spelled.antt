@@ -1,10 +1,11 @@
 -- Every tick and event of every world is within the limits of frames, so each frame that is sent has a spelling that fits into one
-use Rattle.std.proofs.Common.{◌≡◌, ℕ, suc, ◌≤◌, ◌<◌, ◌^◌, max, Bool, true, false, ◌&&◌, List, [], ◌∷◌, ◌++◌, map, length, set, get_or, refl, Option, Some, None, Ok, arith, length-append}
+use Rattle.std.proofs.Common.{◌≡◌, ℕ, suc, ◌≤◌, ◌<◌, ◌^◌, max, Bool, true, false, ◌&&◌, List, [], ◌∷◌, ◌++◌, map, length, set, get_or, refl, sym, subst, Option, Some, None, Ok, arith, length-append}
 use Rattle.std.specs.Prelude.{nat_eq, nat_le, nat_lt, if◌then◌else◌}
 use Rattle.std.specs.List.{AllByRecursion}
 use Rattle.std.proofs.lemmas.Bool.{and_parts, leb-true, ltb-false}
 use Rattle.gr_event.specs.declared.event.Event.{Event}
 use Rattle.gr_event.specs.Limits.{IsEvent}
+use Rattle.gr_event.specs.Joins.{Joins}
 use Rattle.gr_know.specs.declared.values.K.TheVariants.{Q}
 use Rattle.gr_curio.specs.declared.values.Q3.TheVariants.{N}
 use Rattle.gr_frame.specs.declared.Body.{Body}
@@ -15,6 +16,7 @@ use Rattle.gr_frame.specs.Bytes.{frame_bytes, head_bytes, runs_bytes, known_byte
 use Rattle.gr_frame.specs.Decode.{known_form, wanted_form, frame_decoded}
 use Rattle.gr_frame.specs.Limits.{IsKnown, IsWanted, IsBody}
 use Rattle.gr_frame.proofs.Cutting.{known_sized, wanted_sized}
+use Rattle.gr_frame.proofs.Lists.{none_are}
 use Rattle.gr_frame.proofs.Spelled.{spelled_decodes}
 use Rattle.gr_sched.specs.declared.step.Stop.{Stop}
 use Rattle.gr_sched.specs.declared.step.Step.{Step}
@@ -39,15 +41,17 @@ use Rattle.gr_model_theorems.proofs.limits.SpelledCalls.{BodyCut, FrameCut, AllC
 -- what is true is canonical, and what was cut is short
 body_spelled : (net : Net) (g : Facts) (p from to : ℕ) (h : Head) (y : Body) → BodyTrue net g p from to y → BodyCut y → IsBody y × (length (frame_bytes (record { head = h; body = y })) ≤ 16384)
 unfolding frame_bytes
-body_spelled net g p from to h (body.Knowledge rs) t c =
+body_spelled net g p from to h (body.Knowledge rs js) t c =
     let size : length (runs_bytes known_bytes rs) ≡ total known_run_size rs = total_is Q known_form 1 rs known_sized.spelled t.runs in (
-      record { some = c.some; runs = t.runs; upto = ends_in IsKnown rs c.runs; each = values_in IsKnown rs c.runs },
-      omega (arith, c.short, size, length-append (head_bytes 1 h (length rs)) (runs_bytes known_bytes rs)),
+    subst (λ (x : Joins). IsBody (body.Knowledge rs x) × (length (frame_bytes (record { head = h; body = body.Knowledge rs x })) ≤ 16384)) (sym c.1) (
+      (record { some = c.0.some; runs = t.runs; upto = ends_in IsKnown rs c.0.runs; each = values_in IsKnown rs c.0.runs }, none_are),
+      omega (arith, c.0.short, size, length-append (head_bytes 1 1 h (length rs)) (runs_bytes known_bytes rs)),
+    )
     )
 body_spelled net g p from to h (body.Curiosity rs) t c =
     let size : length (runs_bytes wanted_bytes rs) ≡ total wanted_run_size rs = total_is N wanted_form 1 rs wanted_sized.spelled t.runs in (
       record { some = c.some; runs = t.runs; upto = ends_in IsWanted rs c.runs; each = values_in IsWanted rs c.runs },
-      omega (arith, c.short, size, length-append (head_bytes 2 h (length rs)) (runs_bytes wanted_bytes rs)),
+      omega (arith, c.short, size, length-append (head_bytes 1 2 h (length rs)) (runs_bytes wanted_bytes rs)),
     )
 body_spelled net g p from to h (body.Expect tick) t c = (c, omega arith)
 
@@ -75,7 +79,7 @@ frames_back net w (x ∷ xs) ys a = frames_back net w xs ys a.1
 
 -- what a spelled frame brings is within the limits
 body_in : (y : Body) → IsBody y → BodyIn y
-body_in (body.Knowledge rs) h = runs_in Q IsKnown 1 rs h.runs h.upto h.each
+body_in (body.Knowledge rs js) h = runs_in Q IsKnown 1 rs h.0.runs h.0.upto h.0.each
 body_in (body.Curiosity rs) h = runs_in N IsWanted 1 rs h.runs h.upto h.each
 body_in (body.Expect tick) h = h
 

@@ -12,6 +12,7 @@ use Rattle.gr_know.specs.declared.values.K.{K}
 use Rattle.gr_know.specs.declared.values.K.TheVariants.{Q, S, D, F}
 use Rattle.gr_know.specs.Values.{Known, known_at, same_K, join_K, new_K, is_Q}
 use Rattle.gr_event.specs.Event.{same_event}
+use Rattle.gr_event.specs.Joins.{Joins}
 use Rattle.gr_curio.specs.declared.values.Q3.{Q3}
 use Rattle.gr_curio.specs.declared.values.Q3.TheVariants.{N, C, A}
 use Rattle.gr_curio.specs.declared.asks.Moment.{Moment}
@@ -34,7 +35,7 @@ use Rattle.gr_model_theorems.proofs.limits.SpelledRuns.{all_on, all_set, all_get
 
 -- a body that is not empty, not too long, and within the limits
 abbrev pub BodyCut : Body → Type 0
-BodyCut (body.Knowledge rs) = IsPartIn known_run_size IsKnown rs
+BodyCut (body.Knowledge rs js) = IsPartIn known_run_size IsKnown rs × (js ≡ [])
 BodyCut (body.Curiosity rs) = IsPartIn wanted_run_size IsWanted rs
 BodyCut (body.Expect tick) = (1 ≤ tick) × (tick ≤ max_tick)
 
@@ -56,15 +57,15 @@ known_small r fits = go r.value fits
     go F h = omega arith
     go (D e) h = omega (arith, h.short)
 
-know_cut : (from to p : ℕ) (runs : Known) → RunsIn IsKnown runs → AllCut from (know_frames from to p runs)
-know_cut from to p runs a = go (cut_frames known_run_size runs) (parts_in known_run_size IsKnown runs known_small a)
+know_cut : (from to p : ℕ) (runs : Known) → RunsIn IsKnown runs → AllCut from (know_frames [] from to p runs)
+know_cut from to p runs a = go (cut_frames 12 known_run_size runs) (parts_in known_run_size IsKnown runs known_small a)
   where
-    go : (parts : List Known) → AllByRecursion (IsPartIn known_run_size IsKnown) parts → AllCut from (map (λ part. record { head = head from to p; body = body.Knowledge part }) parts)
+    go : (parts : List Known) → AllByRecursion (IsPartIn known_run_size IsKnown) parts → AllCut from (map (λ part. record { head = head from to p; body = body.Knowledge part [] }) parts)
     go [] h = tt
-    go (x ∷ xs) h = (record { from = refl; body = h.0 }, go xs h.1)
+    go (x ∷ xs) h = (record { from = refl; body = (h.0, refl) }, go xs h.1)
 
 want_cut : (from to p : ℕ) (runs : Wanted) → RunsIn IsWanted runs → AllCut from (want_frames from to p runs)
-want_cut from to p runs a = go (cut_frames wanted_run_size runs) (parts_in wanted_run_size IsWanted runs (λ r h. omega arith) a)
+want_cut from to p runs a = go (cut_frames 12 wanted_run_size runs) (parts_in wanted_run_size IsWanted runs (λ r h. omega arith) a)
   where
     go : (parts : List Wanted) → AllByRecursion (IsPartIn wanted_run_size IsWanted) parts → AllCut from (map (λ part. record { head = head from to p; body = body.Curiosity part }) parts)
     go [] h = tt
@@ -193,10 +194,10 @@ quenched_in : (w : Wanted) (sent : Known) → RunsIn IsWanted w → RunsIn IsKno
 unfolding still_wanted
 quenched_in w sent a b = zip_in IsWanted IsKnown IsWanted N Q N same_Q3 (λ a v. answered_of (not (is_Q v)) a) w sent a b tt tt (λ x y h g. tt)
 
-forward_frames_cut : (net : Net) (p b : ℕ) (new : Known) (cs : List ℕ) (ws : List Wanted) → RunsIn IsKnown new → AllByRecursion (RunsIn IsWanted) ws → AllCut b (forward_frames net p b new cs ws)
+forward_frames_cut : (net : Net) (p b : ℕ) (new : Known) (cs : List ℕ) (ws : List Wanted) → RunsIn IsKnown new → AllByRecursion (RunsIn IsWanted) ws → AllCut b (forward_frames [] net p b new cs ws)
 forward_frames_cut net p b new [] ws h a = tt
 forward_frames_cut net p b new (c ∷ cs) [] h a = tt
-forward_frames_cut net p b new (c ∷ cs) (w ∷ ws) h a = all_on (FrameCut b) (know_frames b c p (forward net p c w new)) (forward_frames net p b new cs ws) (know_cut b c p (forward net p c w new) (forward_in net p c w new a.0 h)) (forward_frames_cut net p b new cs ws h a.1)
+forward_frames_cut net p b new (c ∷ cs) (w ∷ ws) h a = all_on (FrameCut b) (know_frames [] b c p (forward net p c w new)) (forward_frames [] net p b new cs ws) (know_cut b c p (forward net p c w new) (forward_in net p c w new a.0 h)) (forward_frames_cut net p b new cs ws h a.1)
 
 forward_wants_in : (net : Net) (p : ℕ) (new : Known) (cs : List ℕ) (ws : List Wanted) → RunsIn IsKnown new → AllByRecursion (RunsIn IsWanted) ws → AllByRecursion (RunsIn IsWanted) (forward_wants net p new cs ws)
 forward_wants_in net p new [] ws h a = tt
@@ -224,7 +225,7 @@ learn_in net p b piece v log h a l =
     let horizon_is = horizon_in keeps v.horizon know a.horizon know_is in
     let ws_is = forward_wants_in net p new (net.children p b) v.wants new_is a.wants in
     record {
-      view = trimmed_in net p b (record { know = finished know (consolidated keeps horizon ws); wants = ws; asks = v.asks; horizon = horizon }) (record {
+      view = trimmed_in net p b (record { know = finished know (consolidated keeps horizon ws); wants = ws; asks = v.asks; horizon = horizon; joins = v.joins }) (record {
         know = finished_in know (consolidated keeps horizon ws) know_is (consolidated_in keeps horizon ws horizon_is ws_is);
         wants = ws_is;
         asks = a.asks;
@@ -256,7 +257,7 @@ asking_in net p b now wanted ps v log h a l =
     let done_is = consolidated_in (keeps_horizon net p b) v.horizon v.wants a.horizon a.wants in
     let asked_is = due_in now net.retry v.know v.asks wanted ps a.know a.asks h in
     record {
-      view = trimmed_in net p b (record { know = v.know; wants = v.wants; asks = noted now v.asks asked; horizon = v.horizon }) (record { know = a.know; wants = a.wants; asks = noted_in now v.asks asked a.asks asked_is; horizon = a.horizon });
+      view = trimmed_in net p b (record { know = v.know; wants = v.wants; asks = noted now v.asks asked; horizon = v.horizon; joins = v.joins }) (record { know = a.know; wants = a.wants; asks = noted_in now v.asks asked a.asks asked_is; horizon = a.horizon });
       log = l;
       frames = up_cut net p b (upward done asked) (upward_in done asked done_is asked_is);
     }
@@ -285,14 +286,14 @@ unfolding curiosity
 curiosity_in net p b now c i piece v log h a l =
     let asked_is = asks (is_host net p b) in
     record {
-      view = trimmed_in net p b (record { know = know; wants = ws; asks = noted now v.asks (asked (is_host net p b)); horizon = v.horizon }) (record {
+      view = trimmed_in net p b (record { know = know; wants = ws; asks = noted now v.asks (asked (is_host net p b)); horizon = v.horizon; joins = v.joins }) (record {
         know = know_is;
         wants = ws_is;
         asks = noted_in now v.asks (asked (is_host net p b)) a.asks asked_is;
         horizon = a.horizon;
       });
       log = l;
-      frames = all_on (FrameCut b) (know_frames b c p reply) (up_frames net p b (asked (is_host net p b))) (know_cut b c p reply reply_is) (up_cut net p b (asked (is_host net p b)) asked_is);
+      frames = all_on (FrameCut b) (know_frames [] b c p reply) (up_frames net p b (asked (is_host net p b))) (know_cut b c p reply reply_is) (up_cut net p b (asked (is_host net p b)) asked_is);
     }
   where
     w : Wanted
@@ -416,7 +417,7 @@ wake_in net p b now v log h a l = go (is_host net p b)
 
 -- what comes is within the limits
 abbrev pub BodyIn : Body → Type 0
-BodyIn (body.Knowledge rs) = RunsIn IsKnown rs
+BodyIn (body.Knowledge rs js) = RunsIn IsKnown rs
 BodyIn (body.Curiosity rs) = RunsIn IsWanted rs
 BodyIn (body.Expect tick) = (1 ≤ tick) × (tick ≤ max_tick)
 
@@ -430,11 +431,11 @@ receive_in net now f v log h a l = go f.body h
     learned runs false k = learn_in net f.head.publisher f.head.to runs v log k a l
 
     go : (y : Body) → BodyIn y → CallIn f.head.to (elim y [
-      | body.Knowledge runs ↦ elim (clashes v.know runs) [ true ↦ record { view = v; log = log; lines = []; frames = [] } | false ↦ learn net f.head.publisher f.head.to runs v log ]
+      | body.Knowledge runs js ↦ elim (clashes v.know runs) [ true ↦ record { view = v; log = log; lines = []; frames = [] } | false ↦ learn net f.head.publisher f.head.to runs v log ]
       | body.Curiosity runs ↦ curiosity net f.head.publisher f.head.to now f.head.from (place_of f.head.from (net.children f.head.publisher f.head.to)) runs v log
       | body.Expect tick ↦ expect net f.head.publisher f.head.to now tick v log
     ])
-    go (body.Knowledge runs) k = learned runs (clashes v.know runs) k
+    go (body.Knowledge runs js) k = learned runs (clashes v.know runs) k
     go (body.Curiosity runs) k = curiosity_in net f.head.publisher f.head.to now f.head.from (place_of f.head.from (net.children f.head.publisher f.head.to)) runs v log k a l
     go (body.Expect tick) k = expect_in net f.head.publisher f.head.to now tick v log k.0 k.1 a l
 

@@ -181,7 +181,7 @@ more_some [] r = λ e. cc
 more_some (x ∷ xs) r = λ e. cc
 
 from_parts : {V : Type 0} (size : Run V → ℕ) (Fits : V → Type 0) (used : ℕ) (begun rs : List (Run V)) → ((r : Run V) → Fits r.value → size r ≤ 8211) → begun ≢ [] → used ≡ 12 + total size begun → used ≤ 16384 → RunsIn Fits begun → RunsIn Fits rs
-    → AllByRecursion (IsPartIn size Fits) (cut_from size used begun rs)
+    → AllByRecursion (IsPartIn size Fits) (cut_from 12 size used begun rs)
 unfolding cut_from
 from_parts size Fits used begun [] small some is fits a b = (record { some = some; short = omega (arith, is, fits); runs = a }, tt)
 from_parts {V} size Fits used begun (r ∷ rs) small some is fits a b =
@@ -189,13 +189,13 @@ from_parts {V} size Fits used begun (r ∷ rs) small some is fits a b =
     (λ k. from_parts size Fits (used + size r) (begun ++ r ∷ []) rs small (more_some begun r) (omega (arith, is, total-append size begun (r ∷ []))) k (all_on (IsRunIn Fits) begun (r ∷ []) a (b.0, tt)) b.1)
     (from_parts size Fits (12 + size r) (r ∷ []) rs small (λ e. cc) (omega arith) (omega (arith, small r b.0.value)) (b.0, tt) b.1)
   where
-    go : (q : Bool) → nat_le (used + size r) 16384 ≡ q → (used + size r ≤ 16384 → AllByRecursion (IsPartIn size Fits) (cut_from size (used + size r) (begun ++ r ∷ []) rs)) → AllByRecursion (IsPartIn size Fits) (cut_from size (12 + size r) (r ∷ []) rs)
-        → AllByRecursion (IsPartIn size Fits) (elim q [ true ↦ cut_from size (used + size r) (begun ++ r ∷ []) rs | false ↦ begun ∷ cut_from size (12 + size r) (r ∷ []) rs ])
+    go : (q : Bool) → nat_le (used + size r) 16384 ≡ q → (used + size r ≤ 16384 → AllByRecursion (IsPartIn size Fits) (cut_from 12 size (used + size r) (begun ++ r ∷ []) rs)) → AllByRecursion (IsPartIn size Fits) (cut_from 12 size (12 + size r) (r ∷ []) rs)
+        → AllByRecursion (IsPartIn size Fits) (elim q [ true ↦ cut_from 12 size (used + size r) (begun ++ r ∷ []) rs | false ↦ begun ∷ cut_from 12 size (12 + size r) (r ∷ []) rs ])
     go true e x y = x (leb-true (used + size r) 16384 e)
     go false e x y = (record { some = some; short = omega (arith, is, fits); runs = a }, y)
 
 -- each part of a piece that is cut into frames fits into one frame, and is within the limits
-pub parts_in : {V : Type 0} (size : Run V → ℕ) (Fits : V → Type 0) (rs : List (Run V)) → ((r : Run V) → Fits r.value → size r ≤ 8211) → RunsIn Fits rs → AllByRecursion (IsPartIn size Fits) (cut_frames size rs)
+pub parts_in : {V : Type 0} (size : Run V → ℕ) (Fits : V → Type 0) (rs : List (Run V)) → ((r : Run V) → Fits r.value → size r ≤ 8211) → RunsIn Fits rs → AllByRecursion (IsPartIn size Fits) (cut_frames 12 size rs)
 unfolding cut_frames
 parts_in size Fits [] small a = tt
 parts_in size Fits (r ∷ rs) small a = from_parts size Fits (12 + size r) (r ∷ []) rs small (λ e. cc) (omega arith) (omega (arith, small r a.0.value)) (a.0, tt) a.1

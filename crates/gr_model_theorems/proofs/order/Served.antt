@@ -105,12 +105,12 @@ ordered_served net totals logs steps arrivals n z on retry a i m fits apart belo
     (begins net totals h o.lines (begun_lines net logs o.lines)) (rested_ready next)
 
 -- and over lanes, since what was cut changes no line
-pub ordered_served_lanes : (net : Net) (totals : List ℕ) (lanes : List (List Record)) (steps : List Line) (arrivals : List Arrival) → IsNet net → IsSmall net → 1 ≤ net.quiet → 1 ≤ net.retry → AllFollow lanes → StepsIn net steps → NumbersIn steps
+pub ordered_served_lanes : (net : Net) (totals : List ℕ) (late : List ℕ) (lanes : List (List Record)) (steps : List Line) (arrivals : List Arrival) → IsNet net → IsSmall net → 1 ≤ net.quiet → 1 ≤ net.retry → AllFollow late lanes → StepsIn net steps → NumbersIn steps
     → AllByRecursion IsOfBytes arrivals → IsDistinct totals → ((s : ℕ) → list_any (λ x. nat_eq x s) totals ≡ true → s < net.subscribers) → IsHonestRun arrivals (served net (numbers net.brokers) (whole_logs lanes) steps arrivals)
     → OrderedServedLanes net totals lanes steps arrivals
-ordered_served_lanes net totals lanes steps arrivals n z on retry a i m fits apart below =
-    subst (λ (rs : List (List Report)). IsHonestRun arrivals rs → TotallyOrderedServed net totals (found_logs lanes) steps arrivals rs (told_in_order net totals rs)) (sym (served_lanes net lanes steps arrivals a))
-    (λ honest. ordered_served net totals (found_logs lanes) steps arrivals n z on retry (are_found net lanes a) i m fits apart below honest)
+ordered_served_lanes net totals late lanes steps arrivals n z on retry a i m fits apart below =
+    subst (λ (rs : List (List Report)). IsHonestRun arrivals rs → TotallyOrderedServed net totals (found_logs lanes) steps arrivals rs (told_in_order net totals rs)) (sym (served_lanes net late lanes steps arrivals a))
+    (λ honest. ordered_served net totals (found_logs lanes) steps arrivals n z on retry (are_found net late lanes a) i m fits apart below honest)
 
 -- ---- one order
 

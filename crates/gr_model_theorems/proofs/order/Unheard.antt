@@ -54,11 +54,11 @@ unfolding sent_line
 sent_unheard n f = one f.body
   where
     one : (y : Body) → IsUnheard (elim y [
-      | body.Knowledge runs ↦ line.SentKnow n f.head.from f.head.to f.head.publisher runs
+      | body.Knowledge runs js ↦ line.SentKnow n f.head.from f.head.to f.head.publisher runs js
       | body.Curiosity runs ↦ line.SentWant n f.head.from f.head.to f.head.publisher runs
       | body.Expect tick ↦ line.SentExpect n f.head.from f.head.to f.head.publisher tick
     ])
-    one (body.Knowledge runs) = refl
+    one (body.Knowledge runs js) = refl
     one (body.Curiosity runs) = refl
     one (body.Expect tick) = refl
 

@@ -44,8 +44,8 @@ unfolding sent_line
 sent_plain n [] = tt
 sent_plain n (f ∷ fs) = Plain-append (sent_line n f ∷ []) (sent_lines (suc n) fs) (one f.body) (sent_plain (suc n) fs)
   where
-    one : (y : Body) → Plain ((elim y [ body.Knowledge runs ↦ line.SentKnow n f.head.from f.head.to f.head.publisher runs | body.Curiosity runs ↦ line.SentWant n f.head.from f.head.to f.head.publisher runs | body.Expect tick ↦ line.SentExpect n f.head.from f.head.to f.head.publisher tick ]) ∷ [])
-    one (body.Knowledge runs) = tt
+    one : (y : Body) → Plain ((elim y [ body.Knowledge runs js ↦ line.SentKnow n f.head.from f.head.to f.head.publisher runs js | body.Curiosity runs ↦ line.SentWant n f.head.from f.head.to f.head.publisher runs | body.Expect tick ↦ line.SentExpect n f.head.from f.head.to f.head.publisher tick ]) ∷ [])
+    one (body.Knowledge runs js) = tt
     one (body.Curiosity runs) = tt
     one (body.Expect tick) = tt
 
@@ -78,11 +78,11 @@ receive_plain net now f v log = go f.body
     learned runs false = learn_plain net f.head.publisher f.head.to runs v log
 
     go : (y : Body) → Plain (let o : Outcome = elim y [
-      | body.Knowledge runs ↦ elim (clashes v.know runs) [ true ↦ record { view = v; log = log; lines = []; frames = [] } | false ↦ learn net f.head.publisher f.head.to runs v log ]
+      | body.Knowledge runs js ↦ elim (clashes v.know runs) [ true ↦ record { view = v; log = log; lines = []; frames = [] } | false ↦ learn net f.head.publisher f.head.to runs v log ]
       | body.Curiosity runs ↦ curiosity net f.head.publisher f.head.to now f.head.from (place_of f.head.from (net.children f.head.publisher f.head.to)) runs v log
       | body.Expect tick ↦ expect net f.head.publisher f.head.to now tick v log
     ] in o.lines)
-    go (body.Knowledge runs) = learned runs (clashes v.know runs)
+    go (body.Knowledge runs js) = learned runs (clashes v.know runs)
     go (body.Curiosity runs) = tt
     go (body.Expect tick) = tt
 

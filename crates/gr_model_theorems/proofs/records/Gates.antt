@@ -52,8 +52,8 @@ unfolding sent_line
 marks_unsent q n [] = refl
 marks_unsent q n (f ∷ fs) = one f.body ∙ marks_unsent q (suc n) fs
   where
-    one : (y : Body) → marks q ((elim y [ body.Knowledge runs ↦ line.SentKnow n f.head.from f.head.to f.head.publisher runs | body.Curiosity runs ↦ line.SentWant n f.head.from f.head.to f.head.publisher runs | body.Expect tick ↦ line.SentExpect n f.head.from f.head.to f.head.publisher tick ]) ∷ sent_lines (suc n) fs) ≡ marks q (sent_lines (suc n) fs)
-    one (body.Knowledge runs) = refl
+    one : (y : Body) → marks q ((elim y [ body.Knowledge runs js ↦ line.SentKnow n f.head.from f.head.to f.head.publisher runs js | body.Curiosity runs ↦ line.SentWant n f.head.from f.head.to f.head.publisher runs | body.Expect tick ↦ line.SentExpect n f.head.from f.head.to f.head.publisher tick ]) ∷ sent_lines (suc n) fs) ≡ marks q (sent_lines (suc n) fs)
+    one (body.Knowledge runs js) = refl
     one (body.Curiosity runs) = refl
     one (body.Expect tick) = refl
 

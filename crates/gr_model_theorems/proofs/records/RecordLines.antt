@@ -71,11 +71,11 @@ receive_none f net now x v log k = go x.body
     learned runs false = learn_none f net x.head.publisher x.head.to runs v log k
 
     go : (y : Body) → filter f (let o : Outcome = elim y [
-      | body.Knowledge runs ↦ elim (clashes v.know runs) [ true ↦ record { view = v; log = log; lines = []; frames = [] } | false ↦ learn net x.head.publisher x.head.to runs v log ]
+      | body.Knowledge runs js ↦ elim (clashes v.know runs) [ true ↦ record { view = v; log = log; lines = []; frames = [] } | false ↦ learn net x.head.publisher x.head.to runs v log ]
       | body.Curiosity runs ↦ curiosity net x.head.publisher x.head.to now x.head.from (place_of x.head.from (net.children x.head.publisher x.head.to)) runs v log
       | body.Expect tick ↦ expect net x.head.publisher x.head.to now tick v log
     ] in o.lines) ≡ []
-    go (body.Knowledge runs) = learned runs (clashes v.know runs)
+    go (body.Knowledge runs js) = learned runs (clashes v.know runs)
     go (body.Curiosity runs) = refl
     go (body.Expect tick) = refl
 
@@ -187,8 +187,8 @@ unfolding sent_line
 sent_recs n [] = refl
 sent_recs n (f ∷ fs) = filter-append is_record_line (sent_line n f ∷ []) (sent_lines (suc n) fs) ∙ ap₂ (λ x y. x ++ y) (one f.body) (sent_recs (suc n) fs)
   where
-    one : (y : Body) → recs ((elim y [ body.Knowledge runs ↦ line.SentKnow n f.head.from f.head.to f.head.publisher runs | body.Curiosity runs ↦ line.SentWant n f.head.from f.head.to f.head.publisher runs | body.Expect tick ↦ line.SentExpect n f.head.from f.head.to f.head.publisher tick ]) ∷ []) ≡ []
-    one (body.Knowledge runs) = refl
+    one : (y : Body) → recs ((elim y [ body.Knowledge runs js ↦ line.SentKnow n f.head.from f.head.to f.head.publisher runs js | body.Curiosity runs ↦ line.SentWant n f.head.from f.head.to f.head.publisher runs | body.Expect tick ↦ line.SentExpect n f.head.from f.head.to f.head.publisher tick ]) ∷ []) ≡ []
+    one (body.Knowledge runs js) = refl
     one (body.Curiosity runs) = refl
     one (body.Expect tick) = refl
 
@@ -198,8 +198,8 @@ unfolding sent_line
 sent_itself n [] = refl
 sent_itself n (f ∷ fs) = filter-append is_sent (sent_line (suc n) f ∷ []) (sent_lines (suc (suc n)) fs) ∙ ap₂ (λ (x y : List Report). x ++ y) (one f.body) (sent_itself (suc n) fs)
   where
-    one : (y : Body) → (let x : Report = elim y [ body.Knowledge runs ↦ line.SentKnow (suc n) f.head.from f.head.to f.head.publisher runs | body.Curiosity runs ↦ line.SentWant (suc n) f.head.from f.head.to f.head.publisher runs | body.Expect tick ↦ line.SentExpect (suc n) f.head.from f.head.to f.head.publisher tick ] in filter is_sent (x ∷ []) ≡ x ∷ [])
-    one (body.Knowledge runs) = refl
+    one : (y : Body) → (let x : Report = elim y [ body.Knowledge runs js ↦ line.SentKnow (suc n) f.head.from f.head.to f.head.publisher runs js | body.Curiosity runs ↦ line.SentWant (suc n) f.head.from f.head.to f.head.publisher runs | body.Expect tick ↦ line.SentExpect (suc n) f.head.from f.head.to f.head.publisher tick ] in filter is_sent (x ∷ []) ≡ x ∷ [])
+    one (body.Knowledge runs js) = refl
     one (body.Curiosity runs) = refl
     one (body.Expect tick) = refl
 

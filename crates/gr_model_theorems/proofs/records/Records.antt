@@ -35,11 +35,11 @@ receive_log net now f v log = go f.body
     learned runs false = learn_log net f.head.publisher f.head.to runs v log
 
     go : (y : Body) → (let o : Outcome = elim y [
-      | body.Knowledge runs ↦ elim (clashes v.know runs) [ true ↦ record { view = v; log = log; lines = []; frames = [] } | false ↦ learn net f.head.publisher f.head.to runs v log ]
+      | body.Knowledge runs js ↦ elim (clashes v.know runs) [ true ↦ record { view = v; log = log; lines = []; frames = [] } | false ↦ learn net f.head.publisher f.head.to runs v log ]
       | body.Curiosity runs ↦ curiosity net f.head.publisher f.head.to now f.head.from (place_of f.head.from (net.children f.head.publisher f.head.to)) runs v log
       | body.Expect tick ↦ expect net f.head.publisher f.head.to now tick v log
     ] in o.log) ≡ log
-    go (body.Knowledge runs) = learned runs (clashes v.know runs)
+    go (body.Knowledge runs js) = learned runs (clashes v.know runs)
     go (body.Curiosity runs) = refl
     go (body.Expect tick) = refl
 

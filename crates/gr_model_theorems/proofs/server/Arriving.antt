@@ -104,7 +104,7 @@ moved w now = record { clock = now; most = max now w.most; frames = w.frames; vi
 
 over_fits_broker : (net : Net) (f : Frame) (b : ℕ) → f.head.to ≡ b → GoesOverEdge net f → fits_broker net b f ≡ true
 over_fits_broker net f b e g =
-    ap₂ (λ x y. x && y) (ap₂ (λ x y. x && y) (eq-eqb f.head.to b e) (lt-ltb f.head.publisher net.publishers g.publisher)) (go f.body g.between)
+    ap₂ (λ x y. x && y) (ap₂ (λ x y. x && y) (ap₂ (λ x y. x && y) (eq-eqb f.head.to b e) (lt-ltb f.head.publisher net.publishers g.publisher)) (go f.body g.between)) g.joins
   where
     over : (o : Option ℕ) → o ≡ Some f.head.from → (elim o [ Some u ↦ nat_eq u f.head.from | None ↦ false ]) ≡ true
     over o h = ap (λ (z : Option ℕ). elim z [ Some u ↦ nat_eq u f.head.from | None ↦ false ]) h ∙ eq-eqb f.head.from f.head.from refl
@@ -114,7 +114,7 @@ over_fits_broker net f b e g =
       | _ ↦ elim (net.up f.head.publisher b) [ Some u ↦ nat_eq u f.head.from | None ↦ false ]
     ]) ≡ true
     go (body.Curiosity runs) h = subst (λ z. list_any (λ x. nat_eq x f.head.from) (net.children f.head.publisher z) ≡ true) e h
-    go (body.Knowledge runs) h = over (net.up f.head.publisher b) (subst (λ z. net.up f.head.publisher z ≡ Some f.head.from) e h)
+    go (body.Knowledge runs js) h = over (net.up f.head.publisher b) (subst (λ z. net.up f.head.publisher z ≡ Some f.head.from) e h)
     go (body.Expect tick) h = over (net.up f.head.publisher b) (subst (λ z. net.up f.head.publisher z ≡ Some f.head.from) e h)
 
 empty_first : (xs : Wanted) → not_empty xs ≡ false → first_of xs ≡ None
@@ -131,8 +131,8 @@ no_clash_here net w k f n fit at = go f.body refl
     know : Known
     know = (view_of w f.head.to f.head.publisher).know
 
-    go : (y : Body) → f.body ≡ y → (let o : Option ℕ = elim y [ body.Knowledge runs ↦ first_of (clash_runs know runs) | _ ↦ None ] in o) ≡ None
-    go (body.Knowledge runs) e = empty_first (clash_runs know runs) (plain know runs (no_frame_clashes net w k f runs n fit at e))
+    go : (y : Body) → f.body ≡ y → (let o : Option ℕ = elim y [ body.Knowledge runs js ↦ first_of (clash_runs know runs) | _ ↦ None ] in o) ≡ None
+    go (body.Knowledge runs js) e = empty_first (clash_runs know runs) (plain know runs (no_frame_clashes net w k f runs n fit at e))
     go (body.Curiosity runs) e = refl
     go (body.Expect tick) e = refl
 

@@ -4,6 +4,7 @@ use Rattle.std.proofs.lemmas.Bool.{cond-false}
 use Rattle.std.proofs.Common.{◌≡◌, ℕ, suc, max, Bool, true, false, List, [], ◌∷◌, ◌++◌, length, refl, ap₂, ◌∙◌}
 use Rattle.std.specs.Prelude.{nat_le, nat_lt, if◌then◌else◌, filter}
 use Rattle.gr_event.specs.declared.event.Event.{Event}
+use Rattle.gr_event.specs.Joins.{Joins}
 use Rattle.gr_frame.specs.declared.Body.{Body}
 use Rattle.gr_frame.specs.declared.Body.TheVariants as body
 use Rattle.gr_frame.specs.declared.Frame.{Frame}
@@ -25,7 +26,7 @@ use Rattle.gr_model_theorems.proofs.records.RecordLines.{Skips, host_lines, rece
 pub record IsForeign (f : Report → Bool) : Type 0 where
   pub got : (s p t : ℕ) (e : Event) → f (line.Got s p t e) ≡ false
   pub horizon : (s p t : ℕ) → f (line.Horizon s p t) ≡ false
-  pub know : (n from to p : ℕ) (runs : Known) → f (line.SentKnow n from to p runs) ≡ false
+  pub know : (n from to p : ℕ) (runs : Known) (js : Joins) → f (line.SentKnow n from to p runs js) ≡ false
   pub want : (n from to p : ℕ) (runs : Wanted) → f (line.SentWant n from to p runs) ≡ false
   pub expect : (n from to p t : ℕ) → f (line.SentExpect n from to p t) ≡ false
   pub mark : (p t : ℕ) → f (line.Mark p t) ≡ false
@@ -37,11 +38,11 @@ pub record IsForeign (f : Report → Bool) : Type 0 where
 
 -- no call writes a line of a dropped datagram
 pub drops_foreign : IsForeign is_dropped
-drops_foreign = record { got = λ s p t e. refl; horizon = λ s p t. refl; know = λ n a b p r. refl; want = λ n a b p r. refl; expect = λ n a b p t. refl; mark = λ p t. refl; cut = λ p t. refl; logged = λ p n t. refl; already = λ p n. refl; gap = λ p n m. refl; exhausted = λ p n. refl }
+drops_foreign = record { got = λ s p t e. refl; horizon = λ s p t. refl; know = λ n a b p r js. refl; want = λ n a b p r. refl; expect = λ n a b p t. refl; mark = λ p t. refl; cut = λ p t. refl; logged = λ p n t. refl; already = λ p n. refl; gap = λ p n m. refl; exhausted = λ p n. refl }
 
 -- no call writes a line of a refused step or of bytes
 pub replies_foreign : IsForeign is_reply
-replies_foreign = record { got = λ s p t e. refl; horizon = λ s p t. refl; know = λ n a b p r. refl; want = λ n a b p r. refl; expect = λ n a b p t. refl; mark = λ p t. refl; cut = λ p t. refl; logged = λ p n t. refl; already = λ p n. refl; gap = λ p n m. refl; exhausted = λ p n. refl }
+replies_foreign = record { got = λ s p t e. refl; horizon = λ s p t. refl; know = λ n a b p r js. refl; want = λ n a b p r. refl; expect = λ n a b p t. refl; mark = λ p t. refl; cut = λ p t. refl; logged = λ p n t. refl; already = λ p n. refl; gap = λ p n m. refl; exhausted = λ p n. refl }
 
 module _ (f : Report → Bool) (k : IsForeign f) where
   skips : Skips f
@@ -58,8 +59,8 @@ module _ (f : Report → Bool) (k : IsForeign f) where
   sent_none n [] = refl
   sent_none n (x ∷ fs) = none_of_both (sent_line n x ∷ []) (sent_lines (suc n) fs) (go x.body) (sent_none (suc n) fs)
     where
-      go : (y : Body) → filter f ((elim y [ body.Knowledge runs ↦ line.SentKnow n x.head.from x.head.to x.head.publisher runs | body.Curiosity runs ↦ line.SentWant n x.head.from x.head.to x.head.publisher runs | body.Expect tick ↦ line.SentExpect n x.head.from x.head.to x.head.publisher tick ]) ∷ []) ≡ []
-      go (body.Knowledge runs) = one (line.SentKnow n x.head.from x.head.to x.head.publisher runs) (k.know n x.head.from x.head.to x.head.publisher runs)
+      go : (y : Body) → filter f ((elim y [ body.Knowledge runs js ↦ line.SentKnow n x.head.from x.head.to x.head.publisher runs js | body.Curiosity runs ↦ line.SentWant n x.head.from x.head.to x.head.publisher runs | body.Expect tick ↦ line.SentExpect n x.head.from x.head.to x.head.publisher tick ]) ∷ []) ≡ []
+      go (body.Knowledge runs js) = one (line.SentKnow n x.head.from x.head.to x.head.publisher runs js) (k.know n x.head.from x.head.to x.head.publisher runs js)
       go (body.Curiosity runs) = one (line.SentWant n x.head.from x.head.to x.head.publisher runs) (k.want n x.head.from x.head.to x.head.publisher runs)
       go (body.Expect tick) = one (line.SentExpect n x.head.from x.head.to x.head.publisher tick) (k.expect n x.head.from x.head.to x.head.publisher tick)
 

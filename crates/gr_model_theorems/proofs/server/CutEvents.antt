@@ -31,7 +31,7 @@ use Rattle.gr_tick.proofs.RunLaws.{runs_equal}
 
 -- a log with other events
 abbrev pub with_events : Log → List (ℕ × Event) → Log
-with_events l events = record { last = l.last; settled = l.settled; cut = l.cut; events = events; gate = l.gate }
+with_events l events = record { last = l.last; settled = l.settled; cut = l.cut; events = events; joins = l.joins; gate = l.gate }
 
 -- the events past a tick
 abbrev pub past : ℕ → List (ℕ × Event) → List (ℕ × Event)
@@ -109,7 +109,7 @@ same_know l m s =
 -- a broker starts the same over both
 pub same_started : (net : Net) (p b : ℕ) (l m : Log) → SameLog l m → started net p b m ≡ started net p b l
 unfolding started
-same_started net p b l m s = ap (λ (k : Known). let v : View = record { know = if is_host net p b then k else []; wants = map (λ _. []) (net.children p b); asks = []; horizon = 0 } in v) (same_know l m s)
+same_started net p b l m s = ap (λ (k : Known). let v : View = record { know = if is_host net p b then k else []; wants = map (λ _. []) (net.children p b); asks = []; horizon = 0; joins = [] } in v) (same_know l m s)
 
 -- both with a further event
 same_longer : (l m : Log) (tick : ℕ) (e : Event) → SameLog l m → SameLog (with_event l tick e) (with_event m tick e)
@@ -142,7 +142,7 @@ same_receive net now x v l m s = go x.body
   where
     told : Body → Log → Outcome
     told y log = elim y [
-      | body.Knowledge runs ↦ elim (clashes v.know runs) [ true ↦ record { view = v; log = log; lines = []; frames = [] } | false ↦ learn net x.head.publisher x.head.to runs v log ]
+      | body.Knowledge runs js ↦ elim (clashes v.know runs) [ true ↦ record { view = v; log = log; lines = []; frames = [] } | false ↦ learn net x.head.publisher x.head.to runs v log ]
       | body.Curiosity runs ↦ curiosity net x.head.publisher x.head.to now x.head.from (place_of x.head.from (net.children x.head.publisher x.head.to)) runs v log
       | body.Expect tick ↦ expect net x.head.publisher x.head.to now tick v log
     ]
@@ -152,7 +152,7 @@ same_receive net now x v l m s = go x.body
     learned runs false = same_learn net x.head.publisher x.head.to runs v l m s
 
     go : (y : Body) → SameOut (told y l) (told y m)
-    go (body.Knowledge runs) = learned runs (clashes v.know runs)
+    go (body.Knowledge runs js) = learned runs (clashes v.know runs)
     go (body.Curiosity runs) = record { log = m; is = refl; same = s }
     go (body.Expect tick) = record { log = m; is = refl; same = s }
 

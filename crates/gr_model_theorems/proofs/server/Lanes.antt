@@ -17,11 +17,12 @@ use Rattle.gr_note.specs.Bytes.{begins_note}
 use Rattle.gr_note.specs.Decode.{note_decoded}
 use Rattle.gr_publog.specs.declared.record.Record.{Record}
 use Rattle.gr_publog.specs.declared.record.Record.TheVariants as entry
-use Rattle.gr_publog.specs.State.{empty_state, state_of, events_past, live_events, Follow}
+use Rattle.gr_publog.specs.State.{first_standing, state_of, events_past, live_events, Follow}
 use Rattle.gr_pubend.specs.Log.{with_entry, log_from}
 use Rattle.gr_pubend.specs.Log as lane
 use Rattle.gr_pubend.specs.Opening.{pairs}
 use Rattle.gr_pubend.specs.Found.{found_of, PairsRise, IsLive, IsSettled}
+use Rattle.gr_pubend.proofs.Knowing.{log_joins}
 use Rattle.gr_pubend.proofs.Found.{gate_of, found_settled}
 use Rattle.gr_pubend.proofs.Opening.{opened}
 use Rattle.gr_sched.specs.declared.step.Line.{Line}
@@ -74,10 +75,10 @@ found_by log s = record {
   within = record { settled = s.settled; cut = omega (arith, s.cut, s.settled); events = events_in log.cut log.settled log.events s.settled s.live };
 }
 
-follow_at : (lanes : List (List Record)) (p : ℕ) → AllFollow lanes → Follow empty_state (get_or lanes p [])
-follow_at [] p a = tt
-follow_at (rs ∷ lanes) zero a = a.0
-follow_at (rs ∷ lanes) (suc p) a = follow_at lanes p a.1
+follow_at : (late : List ℕ) (lanes : List (List Record)) (p : ℕ) → AllFollow late lanes → Follow (first_standing late) (get_or lanes p [])
+follow_at late [] p a = tt
+follow_at late (rs ∷ lanes) zero a = a.0
+follow_at late (rs ∷ lanes) (suc p) a = follow_at late lanes p a.1
 
 found_at : (lanes : List (List Record)) (p : ℕ) → reopened_log (found_logs lanes) p ≡ found_of (get_or lanes p [])
 found_at lanes p = get_map found_of lanes p []
@@ -86,8 +87,8 @@ whole_at : (lanes : List (List Record)) (p : ℕ) → reopened_log (whole_logs l
 whole_at lanes p = get_map lane.log_of lanes p []
 
 -- so the logs that are found of lanes are old logs
-pub are_found : (net : Net) (lanes : List (List Record)) → AllFollow lanes → AreReopened net (found_logs lanes)
-are_found net lanes a p = subst IsReopened (sym (found_at lanes p)) (found_by (found_of (get_or lanes p [])) (found_settled (get_or lanes p []) (follow_at lanes p a)))
+pub are_found : (net : Net) (late : List ℕ) (lanes : List (List Record)) → AllFollow late lanes → AreReopened net (found_logs lanes)
+are_found net late lanes a p = subst IsReopened (sym (found_at lanes p)) (found_by (found_of (get_or lanes p [])) (found_settled late (get_or lanes p []) (follow_at late lanes p a)))
 
 -- The log of all records has the same events past its cut
 
@@ -101,25 +102,26 @@ past_of cut log (entry.Event tick number e ∷ rs) =
     go false = ap (λ (z : List (ℕ × Event)). z ++ pairs (events_past cut rs)) (append-nil (past cut log.events))
 past_of cut log (entry.Mark tick ∷ rs) = past_of cut (with_entry log (entry.Mark tick)) rs
 past_of cut log (entry.Cut tick ∷ rs) = past_of cut (with_entry log (entry.Cut tick)) rs
+past_of cut log (entry.Join tick s ∷ rs) = past_of cut (with_entry log (entry.Join tick s)) rs
 
 past_live : (cut settled : ℕ) (xs : List (ℕ × Event)) → AllByRecursion (IsLive cut settled) xs → past cut xs ≡ xs
 past_live cut settled [] a = refl
 past_live cut settled (x ∷ xs) a = rw (lt-ltb cut x.0 a.0.past) (ap (λ (z : List (ℕ × Event)). x ∷ z) (past_live cut settled xs a.1))
 
-found_whole : (rs : List Record) → Follow empty_state rs → SameLog (found_of rs) (lane.log_of rs)
-found_whole rs f =
-    let s = (opened rs f).stays in
+found_whole : (late : List ℕ) (rs : List Record) → Follow (first_standing late) rs → SameLog (found_of rs) (lane.log_of rs)
+found_whole late rs f =
+    let s = (opened late rs f).stays in
     let whole : Log = lane.log_of rs in
     record {
       events = whole.events;
-      is = λ i. record { last = s.last i; settled = s.settled i; cut = s.cut i; events = whole.events; gate = gate_of rs i };
-      past_same = past_of (state_of rs).cut empty_log rs ∙ sym (past_live (state_of rs).cut (state_of rs).settled (pairs (live_events rs)) (found_settled rs f).live);
+      is = λ i. record { last = s.last i; settled = s.settled i; cut = s.cut i; events = whole.events; joins = log_joins rs i; gate = gate_of rs i };
+      past_same = past_of (state_of rs).cut empty_log rs ∙ sym (past_live (state_of rs).cut (state_of rs).settled (pairs (live_events rs)) (found_settled late rs f).live);
     }
 
-lanes_same : (lanes : List (List Record)) (p : ℕ) → AllFollow lanes → SameLog (reopened_log (found_logs lanes) p) (reopened_log (whole_logs lanes) p)
-lanes_same lanes p a =
+lanes_same : (late : List ℕ) (lanes : List (List Record)) (p : ℕ) → AllFollow late lanes → SameLog (reopened_log (found_logs lanes) p) (reopened_log (whole_logs lanes) p)
+lanes_same late lanes p a =
     subst (λ (l : Log). SameLog l (reopened_log (whole_logs lanes) p)) (sym (found_at lanes p))
-    (subst (λ (m : Log). SameLog (found_of (get_or lanes p [])) m) (sym (whole_at lanes p)) (found_whole (get_or lanes p []) (follow_at lanes p a)))
+    (subst (λ (m : Log). SameLog (found_of (get_or lanes p [])) m) (sym (whole_at lanes p)) (found_whole late (get_or lanes p []) (follow_at late lanes p a)))
 
 -- The opening
 
@@ -254,8 +256,8 @@ past_cut_same : (l m : Log) → SameLog l m → past_cut m ≡ past_cut l
 past_cut_same l m s = ap past_cut s.is ∙ ap (with_events l) s.past_same
 
 -- what is found is the log of all records without the events up to the cut
-pub found_is_past : (rs : List Record) → Follow empty_state rs → past_cut (lane.log_of rs) ≡ found_of rs
-found_is_past rs f = past_cut_same (found_of rs) (lane.log_of rs) (found_whole rs f) ∙ ap (with_events (found_of rs)) (past_live (state_of rs).cut (state_of rs).settled (pairs (live_events rs)) (found_settled rs f).live)
+pub found_is_past : (late : List ℕ) (rs : List Record) → Follow (first_standing late) rs → past_cut (lane.log_of rs) ≡ found_of rs
+found_is_past late rs f = past_cut_same (found_of rs) (lane.log_of rs) (found_whole late rs f) ∙ ap (with_events (found_of rs)) (past_live (state_of rs).cut (state_of rs).settled (pairs (live_events rs)) (found_settled late rs f).live)
 
 same_past : (ls ms : List Log) → SameLogs ls ms → map past_cut ms ≡ map past_cut ls
 same_past [] [] s = refl
@@ -282,32 +284,32 @@ same_arrived net hosted left (a ∷ arrivals) w ls s =
 
 -- Lanes
 
-pub opened_same : (net : Net) (lanes : List (List Record)) → AllFollow lanes → SameTold (opened_over net (found_logs lanes)) (opened_over net (whole_logs lanes))
-opened_same net lanes a = same_opening net (numbers net.brokers) (found_logs lanes) (whole_logs lanes) (λ p. lanes_same lanes p a)
+pub opened_same : (net : Net) (late : List ℕ) (lanes : List (List Record)) → AllFollow late lanes → SameTold (opened_over net (found_logs lanes)) (opened_over net (whole_logs lanes))
+opened_same net late lanes a = same_opening net (numbers net.brokers) (found_logs lanes) (whole_logs lanes) (λ p. lanes_same late lanes p a)
 
-pub lines_same : (net : Net) (lanes : List (List Record)) (steps : List Line) → AllFollow lanes → run_from net (opened_over net (whole_logs lanes)).world steps ≡ run_from net (opened_over net (found_logs lanes)).world steps
-lines_same net lanes steps a =
-    let k = opened_same net lanes a in
+pub lines_same : (net : Net) (late : List ℕ) (lanes : List (List Record)) (steps : List Line) → AllFollow late lanes → run_from net (opened_over net (whole_logs lanes)).world steps ≡ run_from net (opened_over net (found_logs lanes)).world steps
+lines_same net late lanes steps a =
+    let k = opened_same net late lanes a in
     ap (λ (t : Transition). run_from net t.world steps) k.is ∙ same_run net (opened_over net (found_logs lanes)).world k.logs steps k.same
 
-pub served_lanes : (net : Net) (lanes : List (List Record)) (steps : List Line) (arrivals : List Arrival) → AllFollow lanes → served net (numbers net.brokers) (whole_logs lanes) steps arrivals ≡ served net (numbers net.brokers) (found_logs lanes) steps arrivals
+pub served_lanes : (net : Net) (late : List ℕ) (lanes : List (List Record)) (steps : List Line) (arrivals : List Arrival) → AllFollow late lanes → served net (numbers net.brokers) (whole_logs lanes) steps arrivals ≡ served net (numbers net.brokers) (found_logs lanes) steps arrivals
 unfolding served_by
-served_lanes net lanes steps arrivals a =
-    let k = opened_same net lanes a in
+served_lanes net late lanes steps arrivals a =
+    let k = opened_same net late lanes a in
     let all : List ℕ = numbers net.brokers in
     let o : Transition = opened_over net (found_logs lanes) in
     ap (λ (t : Transition). t.lines ∷ served_from net all t.world (publishes_of net all steps) arrivals) k.is
     ∙ ap (λ (rs : List (List Report)). o.lines ∷ rs) (same_served_from net all (publishes_of net all steps) arrivals o.world k.logs k.same)
 
 -- a run over reopened logs is the same whether the events that were cut are kept or not
-pub cut_events_silent : (net : Net) (lanes : List (List Record)) → AllFollow lanes → CutEventsSilent net lanes
-cut_events_silent net lanes a =
-    let k = opened_same net lanes a in
+pub cut_events_silent : (net : Net) (late : List ℕ) (lanes : List (List Record)) → AllFollow late lanes → CutEventsSilent net lanes
+cut_events_silent net late lanes a =
+    let k = opened_same net late lanes a in
     let o : Transition = opened_over net (found_logs lanes) in
     record {
       stepped = λ steps. subst (λ (t : Transition). DifferInCut (run_all net o.world steps).world (run_all net t.world steps).world) (sym k.is) (same_stepped net steps o.world k.logs k.same);
-      lines = λ steps. lines_same net lanes steps a;
-      served_same = λ steps arrivals. served_lanes net lanes steps arrivals a;
+      lines = λ steps. lines_same net late lanes steps a;
+      served_same = λ steps arrivals. served_lanes net late lanes steps arrivals a;
       arrived_same = λ steps arrivals.
           let all : List ℕ = numbers net.brokers in
           let left : List Publish = publishes_of net all steps in
@@ -315,16 +317,16 @@ cut_events_silent net lanes a =
     }
 
 -- the headline holds of every schedule over logs that are read from records in order
-pub holds_over_lanes : (net : Net) (lanes : List (List Record)) (steps : List Line) → IsNet net → 1 ≤ net.quiet → 1 ≤ net.retry → AllFollow lanes → StepsIn net steps → HoldsOverLanes net lanes steps
-holds_over_lanes net lanes steps n z r a i =
-    let k = opened_same net lanes a in
+pub holds_over_lanes : (net : Net) (late : List ℕ) (lanes : List (List Record)) (steps : List Line) → IsNet net → 1 ≤ net.quiet → 1 ≤ net.retry → AllFollow late lanes → StepsIn net steps → HoldsOverLanes net lanes steps
+holds_over_lanes net late lanes steps n z r a i =
+    let k = opened_same net late lanes a in
     let founds = found_logs lanes in
     subst (λ (ls : List Report). Holds_from net (begin_over net founds ls) steps (run_from net (opened_over net (whole_logs lanes)).world steps)) (sym (ap (λ (t : Transition). t.lines) k.is))
-    (subst (λ (rs : List (List Report)). Holds_from net (begin_over net founds (opened_over net founds).lines) steps rs) (sym (lines_same net lanes steps a)) (headline_over_logs net founds steps n z r (are_found net lanes a) i))
+    (subst (λ (rs : List (List Report)). Holds_from net (begin_over net founds (opened_over net founds).lines) steps rs) (sym (lines_same net late lanes steps a)) (headline_over_logs net founds steps n z r (are_found net late lanes a) i))
 
 -- the headline holds of every honest run of a server over logs that are read from records in order
-pub holds_served_lanes : (net : Net) (lanes : List (List Record)) (steps : List Line) (arrivals : List Arrival) → IsNet net → IsSmall net → 1 ≤ net.quiet → 1 ≤ net.retry → AllFollow lanes → StepsIn net steps → NumbersIn steps → AllByRecursion IsOfBytes arrivals →
+pub holds_served_lanes : (net : Net) (late : List ℕ) (lanes : List (List Record)) (steps : List Line) (arrivals : List Arrival) → IsNet net → IsSmall net → 1 ≤ net.quiet → 1 ≤ net.retry → AllFollow late lanes → StepsIn net steps → NumbersIn steps → AllByRecursion IsOfBytes arrivals →
     IsHonestRun arrivals (served net (numbers net.brokers) (whole_logs lanes) steps arrivals) → HoldsServedLanes net lanes steps arrivals
-holds_served_lanes net lanes steps arrivals n small z r a i m fits =
-    subst (λ (rs : List (List Report)). IsHonestRun arrivals rs → HeadlineServed net (found_logs lanes) steps arrivals rs) (sym (served_lanes net lanes steps arrivals a))
-    (λ honest. headline_served net (found_logs lanes) steps arrivals n small z r (are_found net lanes a) i m fits honest)
+holds_served_lanes net late lanes steps arrivals n small z r a i m fits =
+    subst (λ (rs : List (List Report)). IsHonestRun arrivals rs → HeadlineServed net (found_logs lanes) steps arrivals rs) (sym (served_lanes net late lanes steps arrivals a))
+    (λ honest. headline_served net (found_logs lanes) steps arrivals n small z r (are_found net late lanes a) i m fits honest)

@@ -57,7 +57,7 @@ stands_over_logs net logs steps n z r a i =
       fits = fits_over_logs net logs steps n z r a i;
       calls = steps_obey net w steps n z x.stands.fits i;
       replies = replied_from net w h steps n z i x.stands;
-      never_clashes = λ k f runs at is. no_frame_clashes net (world_over net logs steps) k f runs n y.0.stands.fits at is;
+      never_clashes = λ k f runs js at is. no_frame_clashes net (world_over net logs steps) k f runs n y.0.stands.fits at is;
       sweep_settles = λ k ok. settles_at net (world_over net logs steps) (history_over net logs steps) k n z r y.0 y.1 ok;
       sweep_hands_over = λ k ok. hands_over_at net (world_over net logs steps) (history_over net logs steps) k n z r y.0 y.1 ok;
     }

@@ -49,7 +49,7 @@ use Rattle.gr_model_theorems.proofs.hosts.HostHorizon.{learn_reaches}
 
 -- a frame without runs
 abbrev pub nothing : Net → ℕ → Frame
-nothing net p = record { head = head (net.host p) (net.host p) p; body = body.Knowledge [] }
+nothing net p = record { head = head (net.host p) (net.host p) p; body = body.Knowledge [] [] }
 
 no_runs_true : (net : Net) (f : Facts) (p b : ℕ) → KnowsTruth net f p b []
 no_runs_true net f p b = record { runs = tt; each = λ t. tt }
@@ -87,11 +87,11 @@ nothing_new know r = let n = new_ticks-is know [] r tt in runs_equal Q 1 1 (new_
 nothing_forward : (net : Net) (p c : ℕ) (w : Wanted) → AreRuns N w → forward net p c w [] ≡ []
 nothing_forward net p c w r = let n = forward-is net p c w [] r tt in runs_equal Q 1 1 (forward net p c w []) [] n.runs tt (λ t. n.same_at t ∙ both_Q (is_A (wanted_at w t)))
 
-no_frames : (net : Net) (f : Facts) (p b : ℕ) (cs : List ℕ) (ws : List Wanted) → AllWantTruth net f p cs ws → forward_frames net p b [] cs ws ≡ []
+no_frames : (net : Net) (f : Facts) (p b : ℕ) (cs : List ℕ) (ws : List Wanted) → AllWantTruth net f p cs ws → forward_frames [] net p b [] cs ws ≡ []
 unfolding cut_frames
 no_frames net f p b [] ws a = refl
 no_frames net f p b (c ∷ cs) [] a = refl
-no_frames net f p b (c ∷ cs) (w ∷ ws) a = ap₂ (λ (x : Known) (y : List Frame). know_frames b c p x ++ y) (nothing_forward net p c w a.0.runs) (no_frames net f p b cs ws a.1)
+no_frames net f p b (c ∷ cs) (w ∷ ws) a = ap₂ (λ (x : Known) (y : List Frame). know_frames [] b c p x ++ y) (nothing_forward net p c w a.0.runs) (no_frames net f p b cs ws a.1)
 
 -- a host that learns nothing new sends nothing
 pub learns_silently : (net : Net) (w : World) (p : ℕ) → IsNet net → WorldFits net w → p < net.publishers → (learns net w p).frames ≡ []
@@ -99,7 +99,7 @@ unfolding learn
 learns_silently net w p n f j =
     let v = view_of w (net.host p) p in
     let t = f.views p (net.host p) j (n.host_in p j) in
-    ap (λ (x : Known). forward_frames net p (net.host p) x (net.children p (net.host p)) v.wants) (nothing_new v.know t.know.runs) ∙ no_frames net (facts_of net w p) p (net.host p) (net.children p (net.host p)) v.wants t.wants
+    ap (λ (x : Known). forward_frames [] net p (net.host p) x (net.children p (net.host p)) v.wants) (nothing_new v.know t.know.runs) ∙ no_frames net (facts_of net w p) p (net.host p) (net.children p (net.host p)) v.wants t.wants
 
 learns_log : (net : Net) (w : World) (p : ℕ) → (learns net w p).log ≡ log_of w p
 unfolding learn

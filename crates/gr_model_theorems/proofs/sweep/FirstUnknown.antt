@@ -128,7 +128,7 @@ learn_unknown net f p b piece v log place h k u t e =
 asking_unknown : (net : Net) (p b now : ℕ) (wanted : ℕ → Bool) (ps : List ℕ) (v : View) (log : Log) → AreRuns Q v.know → UnknownIn v → UnknownIn (asking net p b now wanted ps v log).view
 unfolding asking
 asking_unknown net p b now wanted ps v log r u t e =
-    let i = trimmed-is net p b (record { know = v.know; wants = v.wants; asks = noted now v.asks (due now net.retry v.know v.asks wanted ps); horizon = v.horizon }) r in
+    let i = trimmed-is net p b (record { know = v.know; wants = v.wants; asks = noted now v.asks (due now net.retry v.know v.asks wanted ps); horizon = v.horizon; joins = v.joins }) r in
     ⊎_elim (λ z. z ∙ u t (sym (ap (λ ws. any_C ws t) i.wants) ∙ e)) (λ z. z.0) (i.each t)
 
 expect_unknown : (net : Net) (p b now tick : ℕ) (v : View) (log : Log) → AreRuns Q v.know → UnknownIn v → UnknownIn (expect net p b now tick v log).view
@@ -231,11 +231,11 @@ receive_unknown net f now x v log place h told fits u = go x.body told fits
     learned runs false k = learn_unknown net f p b runs v log place h k u
 
     go : (y : Body) → BodyTrue net f p x.head.from b y → BodyFits net p x.head.from b y → (let o : Outcome = elim y [
-      | body.Knowledge runs ↦ elim (clashes v.know runs) [ true ↦ record { view = v; log = log; lines = []; frames = [] } | false ↦ learn net p b runs v log ]
+      | body.Knowledge runs js ↦ elim (clashes v.know runs) [ true ↦ record { view = v; log = log; lines = []; frames = [] } | false ↦ learn net p b runs v log ]
       | body.Curiosity runs ↦ curiosity net p b now x.head.from (place_of x.head.from (net.children p b)) runs v log
       | body.Expect tick ↦ expect net p b now tick v log
     ] in UnknownIn o.view)
-    go (body.Knowledge runs) t m = learned runs (clashes v.know runs) t
+    go (body.Knowledge runs js) t m = learned runs (clashes v.know runs) t
     go (body.Curiosity runs) t m = curiosity_unknown net f p b now x.head.from runs v log h m t u
     go (body.Expect tick) t m = expect_unknown net p b now tick v log h.know.runs u
 

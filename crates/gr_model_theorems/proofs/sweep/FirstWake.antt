@@ -126,7 +126,7 @@ module _ (net : Net) (p t m first d0 : ℕ) (woken : List ℕ) (w : World) (b : 
   still_open c (inr (inr g)) = inr (inr (record { child = g.child; is_child = g.is_child; stored = ap (λ ws. wanted_at (wants_in ws g.child) t) (same_wants c) ∙ g.stored; asked = stays g.child g.asked }))
     where
       wants_in : List Wanted → ℕ → Wanted
-      wants_in ws e = wants_of net p c (record { know = []; wants = ws; asks = []; horizon = 0 }) e
+      wants_in ws e = wants_of net p c (record { know = []; wants = ws; asks = []; horizon = 0; joins = [] }) e
 
   newly_open : wanted_at asked_piece t ≡ C → OpenBy net p t m d y b
   newly_open e =

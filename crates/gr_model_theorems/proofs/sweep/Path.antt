@@ -45,7 +45,7 @@ want_is : (p c u t : ℕ) (f : Frame) → WantsTick p c u t C f → is_want f �
 want_is p c u t f h = go f.body h.body
   where
     go : (y : Body) → WantsBody t C y → (elim y as (λ q. Bool) [ body.Curiosity runs ↦ true | _ ↦ false ]) ≡ true
-    go (body.Knowledge runs) k = absurd k
+    go (body.Knowledge runs js) k = absurd k
     go (body.Curiosity runs) k = refl
     go (body.Expect tick) k = absurd k
 

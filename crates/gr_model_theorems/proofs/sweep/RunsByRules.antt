@@ -43,8 +43,8 @@ told_same t u a b = λ i. record { world = a i; lines = b i }
 world_same : (w u : World) → w.clock ≡ u.clock → w.most ≡ u.most → w.frames ≡ u.frames → w.views ≡ u.views → w.logs ≡ u.logs → w ≡ u
 world_same w u a b c d e = λ i. record { clock = a i; most = b i; frames = c i; views = d i; logs = e i }
 
-view_equal : (v u : View) → v.know ≡ u.know → v.wants ≡ u.wants → v.asks ≡ u.asks → v.horizon ≡ u.horizon → v ≡ u
-view_equal v u a b c d = λ i. record { know = a i; wants = b i; asks = c i; horizon = d i }
+view_equal : (v u : View) → v.know ≡ u.know → v.wants ≡ u.wants → v.asks ≡ u.asks → v.horizon ≡ u.horizon → v.joins ≡ u.joins → v ≡ u
+view_equal v u a b c d e = λ i. record { know = a i; wants = b i; asks = c i; horizon = d i; joins = e i }
 
 -- this may happen, and nothing else
 pub record Exactly (R : World → Transition → Type 0) (w : World) (t : Transition) : Type 0 where
@@ -114,7 +114,7 @@ wake_exactly net w b p n quiet f i j =
     record { holds = x.holds; only = x.only }
 
 comes_once : (net : Net) (p from to now : ℕ) (y : Body) (v : View) (log : Log) (o u : Outcome) → RulesDetermine net p to → Comes net p from to now y v log o → Comes net p from to now y v log u → o ≡ u
-comes_once net p from to now (body.Knowledge runs) v log o u d a c = d.new_ticks runs v log o u a c
+comes_once net p from to now (body.Knowledge runs js) v log o u d a c = d.new_ticks runs v log o u a c
 comes_once net p from to now (body.Curiosity runs) v log o u d a c = d.child_asks now from runs v log o u a c
 comes_once net p from to now (body.Expect tick) v log o u d a c = d.expects now tick v log o u a c
 
@@ -306,6 +306,7 @@ starts_holds net p b log = record {
   wants = refl;
   asks = refl;
   horizon = refl;
+  joins = refl;
 }
 
 starts_once : (net : Net) (p b : ℕ) (log : Log) (v u : View) → Starts net p b log v → Starts net p b log u → v ≡ u
@@ -313,7 +314,7 @@ starts_once net p b log v u a c =
     view_equal v u (elim (cases_Bool (is_host net p b)) [
       | inl e ↦ let x = a.at_host e in let y = c.at_host e in runs_equal Q 1 1 v.know u.know x.runs y.runs (λ t. x.each t ∙ sym (y.each t))
       | inr e ↦ a.below e ∙ sym (c.below e)
-    ]) (a.wants ∙ sym c.wants) (a.asks ∙ sym c.asks) (a.horizon ∙ sym c.horizon)
+    ]) (a.wants ∙ sym c.wants) (a.asks ∙ sym c.asks) (a.horizon ∙ sym c.horizon) (a.joins ∙ sym c.joins)
 
 -- lists of one length with the same at each place
 lists_same : {X : Type 0} (d : X) (xs ys : List X) → length xs ≡ length ys → ((i : ℕ) → i < length xs → get_or xs i d ≡ get_or ys i d) → xs ≡ ys

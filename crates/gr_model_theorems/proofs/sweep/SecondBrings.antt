@@ -63,7 +63,7 @@ sweep_same_for net p q w n f k j =
       woken = λ u b g i h. wake_same net p q w u b k g i j h;
       asked = λ u x g t e is h. deliver_same net p w u x (λ z. k (z ∙ e)) g t h;
     })
-    (λ u x b g t e h. deliver_same net p w u x (λ z. k (z ∙ e.2)) g t h)
+    (λ u x b g t e h. deliver_same net p w u x (λ z. k (z ∙ e.3)) g t h)
     f (record { views = λ b. refl; log = refl }) j).holds
 
 -- What only grows
@@ -158,7 +158,7 @@ want_runs : (x : Frame) → is_want x ≡ true → (runs : Wanted) × (x.body �
 want_runs x e = go x.body e
   where
     go : (y : Body) → (elim y as (λ q. Bool) [ body.Curiosity runs ↦ true | _ ↦ false ]) ≡ true → (runs : Wanted) × (y ≡ body.Curiosity runs)
-    go (body.Knowledge runs) e = absurd (false≢true e)
+    go (body.Knowledge runs js) e = absurd (false≢true e)
     go (body.Curiosity runs) e = (runs, refl)
     go (body.Expect tick) e = absurd (false≢true e)
 
@@ -217,7 +217,7 @@ told_any p u b t (f ∷ fs) (inl h) = or_left (tells_to b p t f) (list_any (tell
     (ap₂ (λ x y. x && y) (ap₂ (λ x y. x && y) (eq-eqb f.head.to b h.tells.to_is) (eq-eqb f.head.publisher p h.tells.publisher)) (go f.body h.value h.known h.tells.body))
   where
     go : (y : Body) (k : K) → k ≢ Q → TellsBody t k y → tells_body t y ≡ true
-    go (body.Knowledge runs) k n e = is_Q_at (known_at runs t) (λ q. n (sym e ∙ q))
+    go (body.Knowledge runs js) k n e = is_Q_at (known_at runs t) (λ q. n (sym e ∙ q))
     go (body.Curiosity runs) k n e = absurd e
     go (body.Expect tick) k n e = absurd e
 

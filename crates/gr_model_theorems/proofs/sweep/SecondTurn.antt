@@ -4,6 +4,7 @@ use Rattle.std.specs.Prelude.{nat_eq, filter, if◌then◌else◌}
 use Rattle.std.specs.List.{list_any}
 use Rattle.std.proofs.lemmas.List.{length-append}
 use Rattle.std.proofs.lemmas.Bool.{cases_Bool, cases_lt, false≢true, or_cases, or_left, or_right, and_parts, eqb-true, eq-eqb}
+use Rattle.gr_event.specs.Joins.{Joins}
 use Rattle.gr_know.specs.declared.values.K.{K}
 use Rattle.gr_know.specs.declared.values.K.TheVariants.{Q, F}
 use Rattle.gr_curio.specs.declared.values.Q3.{Q3}
@@ -65,7 +66,7 @@ learn_old net f p b t piece v log place h k e =
     let ws = forward_wants net p new (net.children p b) v.wants in
     let done = consolidated (keeps_horizon net p b) hz ws in
     let fin = finished-is joined done j.runs (done_runs net f p b hz ws (learn_wants net f p b piece v place h k)) in
-    let i = trimmed-is net p b (record { know = finished joined done; wants = ws; asks = v.asks; horizon = hz }) fin.runs in
+    let i = trimmed-is net p b (record { know = finished joined done; wants = ws; asks = v.asks; horizon = hz; joins = v.joins }) fin.runs in
     forward_old net f p t new (net.children p b) v.wants h.wants n.runs (subst (λ z. any_C z t ≡ true) i.wants e)
 
 -- just past a kept horizon nothing is known once something was learned
@@ -78,7 +79,7 @@ learn_edge net f p b piece v log place keeps h k =
     let u : suc (learned_horizon net p b piece v) ≡ first_bottom_from know (suc v.horizon) = omega (arith, g, i.reached) in
     learn_above net f p b piece v log (suc (learned_horizon net p b piece v)) place keeps h k (omega arith) ∙ (sym (j.same_at (suc (learned_horizon net p b piece v))) ∙ subst (λ z. known_at know z ≡ Q) (sym u) i.stops)
 
-receive_know : (net : Net) (now : ℕ) (f : Frame) (runs : Known) (v : View) (log : Log) → f.body ≡ body.Knowledge runs → clashes v.know runs ≡ false → receive net now f v log ≡ learn net f.head.publisher f.head.to runs v log
+receive_know : {js : Joins} (net : Net) (now : ℕ) (f : Frame) (runs : Known) (v : View) (log : Log) → f.body ≡ body.Knowledge runs js → clashes v.know runs ≡ false → receive net now f v log ≡ learn net f.head.publisher f.head.to runs v log
 unfolding receive
 receive_know net now f runs v log e c = rw (e, receive, c) refl
 
@@ -101,7 +102,7 @@ learn_log : (net : Net) (p b : ℕ) (piece : Known) (v : View) (log : Log) → (
 unfolding learn
 learn_log net p b piece v log = refl
 
-pub delivered_know : (net : Net) (w : World) (x : Frame) (runs : Known) → IsNet net → WorldFits net w → FrameTrue net w x → x.body ≡ body.Knowledge runs → DeliveredKnow net w (deliver_frame net w x).world x runs (learned net w x runs)
+pub delivered_know : {js : Joins} (net : Net) (w : World) (x : Frame) (runs : Known) → IsNet net → WorldFits net w → FrameTrue net w x → x.body ≡ body.Knowledge runs js → DeliveredKnow net w (deliver_frame net w x).world x runs (learned net w x runs)
 unfolding deliver_frame_by
 delivered_know net w x runs n f tr e =
     let p = x.head.publisher in
@@ -128,13 +129,13 @@ delivered_know net w x runs n f tr e =
 
 -- a frame that brings knowledge of p to b
 abbrev pub IsKnowTo : ℕ → ℕ → Frame → Type 0
-IsKnowTo p b f = (runs : Known) × (f.body ≡ body.Knowledge runs) × (f.head.publisher ≡ p) × (f.head.to ≡ b)
+IsKnowTo p b f = (runs : Known) × (js : Joins) × (f.body ≡ body.Knowledge runs js) × (f.head.publisher ≡ p) × (f.head.to ≡ b)
 
 pub know_to : (p b : ℕ) (f : Frame) → is_know_to p b f ≡ true → IsKnowTo p b f
 know_to p b f e = go f.body e
   where
-    go : (y : Body) → (elim y as (λ q. Bool) [ body.Knowledge runs ↦ nat_eq f.head.publisher p && nat_eq f.head.to b | _ ↦ false ]) ≡ true → (runs : Known) × (y ≡ body.Knowledge runs) × (f.head.publisher ≡ p) × (f.head.to ≡ b)
-    go (body.Knowledge runs) e = let x = and_parts (nat_eq f.head.publisher p) (nat_eq f.head.to b) e in (runs, refl, eqb-true f.head.publisher p x.0, eqb-true f.head.to b x.1)
+    go : (y : Body) → (elim y as (λ q. Bool) [ body.Knowledge runs js ↦ nat_eq f.head.publisher p && nat_eq f.head.to b | _ ↦ false ]) ≡ true → (runs : Known) × (js : Joins) × (y ≡ body.Knowledge runs js) × (f.head.publisher ≡ p) × (f.head.to ≡ b)
+    go (body.Knowledge runs js) e = let x = and_parts (nat_eq f.head.publisher p) (nat_eq f.head.to b) e in (runs, js, refl, eqb-true f.head.publisher p x.0, eqb-true f.head.to b x.1)
     go (body.Curiosity runs) e = absurd (false≢true e)
     go (body.Expect tick) e = absurd (false≢true e)
 
@@ -149,16 +150,16 @@ all_know_to p b (f ∷ fs) =
 
 -- one delivery keeps it, for the frame's own publisher and receiver
 abbrev pub TurnKeeps : Net → (ℕ → ℕ → World → List Frame → Type 0) → Type 0
-TurnKeeps net I = (w : World) (x : Frame) (runs : Known) (fs : List Frame) → WorldFits net w → FrameTrue net w x → x.body ≡ body.Knowledge runs → I x.head.publisher x.head.to w (x ∷ fs) → I x.head.publisher x.head.to (deliver_frame net w x).world fs
+TurnKeeps net I = (w : World) (x : Frame) (runs : Known) (js : Joins) (fs : List Frame) → WorldFits net w → FrameTrue net w x → x.body ≡ body.Knowledge runs js → I x.head.publisher x.head.to w (x ∷ fs) → I x.head.publisher x.head.to (deliver_frame net w x).world fs
 
 pub turn_keeps : (net : Net) (I : ℕ → ℕ → World → List Frame → Type 0) → IsNet net → TurnKeeps net I → (p b : ℕ) (fs : List Frame) (w : World) → WorldFits net w → Each (FrameTrue net w) fs → Each (IsKnowTo p b) fs → I p b w fs → I p b (in_turn (deliver_frame net) fs w).world []
 turn_keeps net I n step p b [] w f a k h = h
 turn_keeps net I n step p b (x ∷ xs) w f a k h =
     let y = (deliver_frame net w x).world in
     let c = deliver_kept net w x n f a.0 in
-    let h1 : I x.head.publisher x.head.to w (x ∷ xs) = subst (λ q. I q x.head.to w (x ∷ xs)) (sym k.0.2) (subst (λ d. I p d w (x ∷ xs)) (sym k.0.3) h) in
-    let i : I x.head.publisher x.head.to y xs = step w x k.0.0 xs f a.0 k.0.1 h1 in
-    turn_keeps net I n step p b xs y c.fits (all_later xs a.1 c.later) k.1 (subst (λ d. I p d y xs) k.0.3 (subst (λ q. I q x.head.to y xs) k.0.2 i))
+    let h1 : I x.head.publisher x.head.to w (x ∷ xs) = subst (λ q. I q x.head.to w (x ∷ xs)) (sym k.0.3) (subst (λ d. I p d w (x ∷ xs)) (sym k.0.4) h) in
+    let i : I x.head.publisher x.head.to y xs = step w x k.0.0 k.0.1 xs f a.0 k.0.2 h1 in
+    turn_keeps net I n step p b xs y c.fits (all_later xs a.1 c.later) k.1 (subst (λ d. I p d y xs) k.0.4 (subst (λ q. I q x.head.to y xs) k.0.3 i))
   where
     all_later : (ys : List Frame) → Each (FrameTrue net w) ys → IsLaterWorld net w (deliver_frame net w x).world → Each (FrameTrue net (deliver_frame net w x).world) ys
     all_later [] b l = tt
@@ -168,7 +169,7 @@ turn_keeps net I n step p b (x ∷ xs) w f a k h =
 
 -- a Knowledge frame knows the tick
 abbrev pub KnowsBody : ℕ → Body → Type 0
-KnowsBody t (body.Knowledge runs) = known_at runs t ≢ Q
+KnowsBody t (body.Knowledge runs js) = known_at runs t ≢ Q
 KnowsBody t _ = ⊥
 
 -- a frame that brings knowledge of the tick
@@ -187,7 +188,7 @@ still_wants net p c t A = refl
 still_wants net p c t C = refl
 
 waits_step : (net : Net) (c t first : ℕ) → IsNet net → TurnKeeps net (WaitsFor net c t first)
-waits_step net c t first n w x runs fs f tr e h = record {
+waits_step net c t first n w x runs js fs f tr e h = record {
   first_in = subst (λ z. first ≤ length z) (sym d.taken.frames) (longer first w.frames o.frames h.first_in);
   child = h.child;
   state = ⊎_elim (λ z. inl (subst (λ q. Has (TellsKnown p b c t) (frames_past first q)) (sym d.taken.frames) (Has-past (TellsKnown p b c t) first w.frames o.frames z))) waiting h.state;
@@ -249,7 +250,7 @@ pub record Rising (net : Net) (m p b : ℕ) (w : World) (rest : List Frame) : Ty
   pub edge : (m ≤ (view_of w b p).horizon) ⊎ ((known_at (view_of w b p).know (suc (view_of w b p).horizon) ≡ Q) ⊎ Has (BringsTick m) rest)
 
 rising_step : (net : Net) (m : ℕ) → IsNet net → TurnKeeps net (Rising net m)
-rising_step net m n w x runs fs f tr e h = record {
+rising_step net m n w x runs js fs f tr e h = record {
   keeps = h.keeps;
   each = λ t a c. ⊎_elim
       (λ z. inl (omega (arith, z, rises)))
@@ -312,7 +313,7 @@ pub record Leaves (net : Net) (old : World) (p b : ℕ) (w : World) (rest : List
   pub wants : (t : ℕ) → any_C (view_of w b p).wants t ≡ true → any_C (view_of old b p).wants t ≡ true
 
 leaves_step : (net : Net) (old : World) → IsNet net → TurnKeeps net (Leaves net old)
-leaves_step net old n w x runs fs f tr e h =
+leaves_step net old n w x runs js fs f tr e h =
     let p = x.head.publisher in
     let b = x.head.to in
     let y = (deliver_frame net w x).world in
@@ -363,8 +364,8 @@ turn_rises net m p first b w n f h =
 tells_is_know : (p u b t : ℕ) (f : Frame) → TellsKnown p u b t f → (is_know_to p b f ≡ true) × BringsTick t f
 tells_is_know p u b t f h = go f.body h.value h.known h.tells.body
   where
-    go : (y : Body) (k : K) → k ≢ Q → TellsBody t k y → ((elim y as (λ q. Bool) [ body.Knowledge runs ↦ nat_eq f.head.publisher p && nat_eq f.head.to b | _ ↦ false ]) ≡ true) × KnowsBody t y
-    go (body.Knowledge runs) k n e = (ap₂ (λ x y. x && y) (eq-eqb f.head.publisher p h.tells.publisher) (eq-eqb f.head.to b h.tells.to_is), λ q. n (sym e ∙ q))
+    go : (y : Body) (k : K) → k ≢ Q → TellsBody t k y → ((elim y as (λ q. Bool) [ body.Knowledge runs js ↦ nat_eq f.head.publisher p && nat_eq f.head.to b | _ ↦ false ]) ≡ true) × KnowsBody t y
+    go (body.Knowledge runs js) k n e = (ap₂ (λ x y. x && y) (eq-eqb f.head.publisher p h.tells.publisher) (eq-eqb f.head.to b h.tells.to_is), λ q. n (sym e ∙ q))
     go (body.Curiosity runs) k n e = absurd e
     go (body.Expect tick) k n e = absurd e
 

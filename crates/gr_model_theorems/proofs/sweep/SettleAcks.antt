@@ -39,7 +39,7 @@ up_none net p b = go (net.up p b)
     go None = refl
     go (Some u) = refl
 
-know_none : (b c p : ℕ) → know_frames b c p [] ≡ []
+know_none : (b c p : ℕ) → know_frames [] b c p [] ≡ []
 unfolding cut_frames
 know_none b c p = refl
 
@@ -58,7 +58,7 @@ pub quiet_frames : (net : Net) (f : Facts) (p b now c : ℕ) (piece : Wanted) (v
     (curiosity net p b now c (place_of c (net.children p b)) piece v log).frames ≡ []
 unfolding curiosity
 quiet_frames net f p b now c piece v log h child wt quiet =
-    ap₂ (λ x y. know_frames b c p x ++ up_frames net p b y) reply_none (asked_none (is_host net p b)) ∙ (ap (λ x. x ++ up_frames net p b []) (know_none b c p) ∙ up_none net p b)
+    ap₂ (λ x y. know_frames [] b c p x ++ up_frames net p b y) reply_none (asked_none (is_host net p b)) ∙ (ap (λ x. x ++ up_frames net p b []) (know_none b c p) ∙ up_none net p b)
   where
     w : Wanted
     w = acknowledged (wants_of net p b v c) piece

@@ -3,6 +3,7 @@ use Rattle.std.proofs.Common.{◌≡◌, ◌≢◌, ◌⊎◌, inl, inr, ⊎_eli
 use Rattle.std.specs.Prelude.{nat_eq, nat_le, nat_lt, if◌then◌else◌, filter}
 use Rattle.std.specs.List.{list_any}
 use Rattle.std.proofs.lemmas.Bool.{cases_eq, cases_lt, false≢true, true≢false, both_ways, eq-eqb, ne_eqb, le-leb, lt-leb, ltb-true, ltb-false}
+use Rattle.gr_event.specs.Joins.{Joins}
 use Rattle.gr_curio.specs.declared.values.Q3.{Q3}
 use Rattle.gr_curio.specs.declared.values.Q3.TheVariants.{N, C, A}
 use Rattle.gr_frame.specs.declared.Body.{Body}
@@ -47,7 +48,7 @@ pub record Acks (p : ℕ) (f : Frame) : Type 0 where
 
 -- the frame brings no knowledge
 abbrev pub NoKnow : Frame → Type 0
-NoKnow f = (runs : Known) → f.body ≢ body.Knowledge runs
+NoKnow f = (runs : Known) (js : Joins) → f.body ≢ body.Knowledge runs js
 
 -- in the third phase, with the brokers that are still to be woken and the upward frames that wait; base are the frames sent before the phase
 pub record Settling (net : Net) (p m : ℕ) (base : List Frame) (rest : List ℕ) (w : World) (pending : List Frame) : Type 0 where
@@ -184,7 +185,7 @@ up_acks net p b runs a quiet = at (net.up p b)
 
     at : (u : Option ℕ) → Each (Acks p) (let fs : List Frame = elim u [ Some u ↦ want_frames b u p runs | None ↦ [] ] in fs)
     at None = tt
-    at (Some u) = go u (cut_frames wanted_run_size runs) (cut_frames-parts N wanted_run_size runs a)
+    at (Some u) = go u (cut_frames 12 wanted_run_size runs) (cut_frames-parts N 12 wanted_run_size runs a)
 
 acks_up : (p : ℕ) (fs : List Frame) → Each (Acks p) fs → filter is_want fs ≡ fs
 acks_up p [] a = refl
@@ -195,10 +196,10 @@ acks_up p (f ∷ fs) a = rw (want_is f.body a.0.body) (ap (λ z. f ∷ z) (acks_
 
 acks_silent : (p : ℕ) (fs : List Frame) → Each (Acks p) fs → Each NoKnow fs
 acks_silent p [] a = tt
-acks_silent p (f ∷ fs) a = (λ runs e. differ a.0.runs runs (sym a.0.body ∙ e), acks_silent p fs a.1)
+acks_silent p (f ∷ fs) a = (λ runs js e. differ a.0.runs runs js (sym a.0.body ∙ e), acks_silent p fs a.1)
   where
-    differ : (x : Wanted) (y : Known) → body.Curiosity x ≡ body.Knowledge y → ⊥
-    differ x y e = cc
+    differ : (x : Wanted) (y : Known) (js : Joins) → body.Curiosity x ≡ body.Knowledge y js → ⊥
+    differ x y js e = cc
 
 wake_below_log : (net : Net) (p b now : ℕ) (v : View) (log : Log) → is_host net p b ≡ false → (wake net p b now v log).log ≡ log
 unfolding wake wake_below asking
@@ -372,10 +373,10 @@ expects_not_up (f ∷ fs) a = rw (not_want f.body a.0.1) (expects_not_up fs a.1)
 expects_silent : (fs : List Frame) → Each IsExpect fs → Each NoKnow fs
 unfolding IsExpect
 expects_silent [] a = tt
-expects_silent (f ∷ fs) a = (λ runs e. differ a.0.0 runs (sym a.0.1 ∙ e), expects_silent fs a.1)
+expects_silent (f ∷ fs) a = (λ runs js e. differ a.0.0 runs js (sym a.0.1 ∙ e), expects_silent fs a.1)
   where
-    differ : (x : ℕ) (y : Known) → body.Expect x ≡ body.Knowledge y → ⊥
-    differ x y e = cc
+    differ : (x : ℕ) (y : Known) (js : Joins) → body.Expect x ≡ body.Knowledge y js → ⊥
+    differ x y js e = cc
 
 record HostWoken (v : View) (log : Log) (o : Outcome) : Type 0 where
   view : o.view ≡ v

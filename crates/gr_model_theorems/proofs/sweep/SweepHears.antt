@@ -39,14 +39,14 @@ hearing_append heard (x ∷ xs) ys = hearing_append (hearing heard (know_of_line
 
 -- the line is of a Knowledge frame
 abbrev is_know : Report → Bool
-is_know (line.SentKnow n from to p runs) = true
+is_know (line.SentKnow n from to p runs js) = true
 is_know _ = false
 
 know_skips : Skips is_know
 know_skips = record { got = λ s p t e. refl; horizon = λ s p t. refl }
 
 not_know : (l : Report) → is_know l ≡ false → know_of_line l ≡ None
-not_know (line.SentKnow n from to p runs) e = absurd (true≢false e)
+not_know (line.SentKnow n from to p runs js) e = absurd (true≢false e)
 not_know _ e = refl
 
 -- lines without one add nothing
@@ -152,7 +152,7 @@ sweep_adds net w k n f = let a = go (nat_lt max_tick m) in record { more = a.mor
 
 -- whether a body brings knowledge of a tick
 abbrev pub tells_body : ℕ → Body → Bool
-tells_body t (body.Knowledge runs) = not (is_Q (known_at runs t))
+tells_body t (body.Knowledge runs js) = not (is_Q (known_at runs t))
 tells_body t _ = false
 
 -- the frame brings b knowledge of a tick of p
@@ -182,7 +182,7 @@ heard_of_frames net w heard (f ∷ fs) b p t l a =
     adds = body_adds net w heard f.head f.body l a.0.fits.to_in a.0.publisher_in a.0.told
 
     brings : (y : Body) → hears_body (heard_in heard f.head.to f.head.publisher) y t ≡ (heard_in heard f.head.to f.head.publisher t || tells_body t y)
-    brings (body.Knowledge runs) = refl
+    brings (body.Knowledge runs js) = refl
     brings (body.Curiosity runs) = sym (or_false (heard_in heard f.head.to f.head.publisher t))
     brings (body.Expect tick) = sym (or_false (heard_in heard f.head.to f.head.publisher t))
 

@@ -125,8 +125,8 @@ know_off p bs f = (is_know f && nat_eq f.head.publisher p) && not (stands bs f.h
 know_to_parts : (p b : ℕ) (f : Frame) → is_know_to p b f ≡ ((is_know f && nat_eq f.head.publisher p) && nat_eq f.head.to b)
 know_to_parts p b f = go f.body
   where
-    go : (y : Body) → (let q : Bool = elim y [ body.Knowledge runs ↦ nat_eq f.head.publisher p && nat_eq f.head.to b | _ ↦ false ] in q) ≡ (((let q : Bool = elim y [ body.Knowledge runs ↦ true | _ ↦ false ] in q) && nat_eq f.head.publisher p) && nat_eq f.head.to b)
-    go (body.Knowledge runs) = refl
+    go : (y : Body) → (let q : Bool = elim y [ body.Knowledge runs js ↦ nat_eq f.head.publisher p && nat_eq f.head.to b | _ ↦ false ] in q) ≡ (((let q : Bool = elim y [ body.Knowledge runs js ↦ true | _ ↦ false ] in q) && nat_eq f.head.publisher p) && nat_eq f.head.to b)
+    go (body.Knowledge runs js) = refl
     go (body.Curiosity runs) = refl
     go (body.Expect tick) = refl
 
@@ -182,24 +182,24 @@ is_due f = not (is_expect f)
 due_parts : (p : ℕ) (f : Frame) → Of p f → one (is_due f) ≡ one (is_want f) + one (know_off p [] f)
 due_parts p f e = go f.body ∙ ap (λ q. one (is_want f) + one ((is_know f && q) && true)) (sym (eq-eqb f.head.publisher p e))
   where
-    go : (y : Body) → one (not (let q : Bool = elim y [ body.Expect tick ↦ true | _ ↦ false ] in q)) ≡ one (let q : Bool = elim y [ body.Curiosity runs ↦ true | _ ↦ false ] in q) + one (((let q : Bool = elim y [ body.Knowledge runs ↦ true | _ ↦ false ] in q) && true) && true)
-    go (body.Knowledge runs) = refl
+    go : (y : Body) → one (not (let q : Bool = elim y [ body.Expect tick ↦ true | _ ↦ false ] in q)) ≡ one (let q : Bool = elim y [ body.Curiosity runs ↦ true | _ ↦ false ] in q) + one (((let q : Bool = elim y [ body.Knowledge runs js ↦ true | _ ↦ false ] in q) && true) && true)
+    go (body.Knowledge runs js) = refl
     go (body.Curiosity runs) = refl
     go (body.Expect tick) = refl
 
 know_not_want : (f : Frame) → is_know f ≡ true → is_want f ≡ false
 know_not_want f e = go f.body e
   where
-    go : (y : Body) → (let q : Bool = elim y [ body.Knowledge runs ↦ true | _ ↦ false ] in q) ≡ true → (let q : Bool = elim y [ body.Curiosity runs ↦ true | _ ↦ false ] in q) ≡ false
-    go (body.Knowledge runs) h = refl
+    go : (y : Body) → (let q : Bool = elim y [ body.Knowledge runs js ↦ true | _ ↦ false ] in q) ≡ true → (let q : Bool = elim y [ body.Curiosity runs ↦ true | _ ↦ false ] in q) ≡ false
+    go (body.Knowledge runs js) h = refl
     go (body.Curiosity runs) h = absurd (false≢true h)
     go (body.Expect tick) h = refl
 
 no_know_is : (f : Frame) → NoKnow f → is_know f ≡ false
 no_know_is f h = go f.body refl
   where
-    go : (y : Body) → f.body ≡ y → (let q : Bool = elim y [ body.Knowledge runs ↦ true | _ ↦ false ] in q) ≡ false
-    go (body.Knowledge runs) e = absurd (h runs e)
+    go : (y : Body) → f.body ≡ y → (let q : Bool = elim y [ body.Knowledge runs js ↦ true | _ ↦ false ] in q) ≡ false
+    go (body.Knowledge runs js) e = absurd (h runs js e)
     go (body.Curiosity runs) e = refl
     go (body.Expect tick) e = refl
 

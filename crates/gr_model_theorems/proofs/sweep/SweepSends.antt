@@ -3,6 +3,7 @@
 use Rattle.std.proofs.Common.{◌≡◌, ℕ, suc, zero, Bool, true, false, ◌&&◌, List, [], ◌∷◌, ◌++◌, map, length, refl, sym, ap, ◌∙◌, subst, append-nil, append_assoc}
 use Rattle.std.specs.Prelude.{nat_eq, nat_lt, filter, if◌then◌else◌}
 use Rattle.std.proofs.lemmas.Bool.{false≢true, and_parts, eqb-true, eq-eqb, or_left, or_right}
+use Rattle.gr_event.specs.Joins.{Joins}
 use Rattle.gr_know.specs.Values.{Known}
 use Rattle.gr_curio.specs.Values.{Wanted}
 use Rattle.gr_frame.specs.Bytes.{cut_frames, known_run_size}
@@ -113,7 +114,7 @@ wake_turns_of net p bs w = in_turn_adds (Of p) (λ b. Unit {0}) (wake_up net p) 
 
 -- whether a frame is a Knowledge frame
 abbrev pub is_know : Frame → Bool
-is_know f = elim f.body [ body.Knowledge runs ↦ true | _ ↦ false ]
+is_know f = elim f.body [ body.Knowledge runs js ↦ true | _ ↦ false ]
 
 -- a frame of knowledge from a broker to one of its children
 pub record Down (net : Net) (p b : ℕ) (f : Frame) : Type 0 where
@@ -121,26 +122,26 @@ pub record Down (net : Net) (p b : ℕ) (f : Frame) : Type 0 where
   pub publisher : f.head.publisher ≡ p
   pub child : stands (net.children p b) f.head.to ≡ true
 
-know_down : (net : Net) (p b c : ℕ) (runs : Known) → stands (net.children p b) c ≡ true → Each (Down net p b) (know_frames b c p runs)
-know_down net p b c runs m = go (cut_frames known_run_size runs)
+know_down : (net : Net) (p b c : ℕ) (runs : Known) → stands (net.children p b) c ≡ true → Each (Down net p b) (know_frames [] b c p runs)
+know_down net p b c runs m = go (cut_frames 12 known_run_size runs)
   where
-    go : (parts : List Known) → Each (Down net p b) (map (λ part. record { head = head b c p; body = body.Knowledge part }) parts)
+    go : (parts : List Known) → Each (Down net p b) (map (λ part. record { head = head b c p; body = body.Knowledge part [] }) parts)
     go [] = tt
     go (x ∷ xs) = (record { know = refl; publisher = refl; child = m }, go xs)
 
-forward_down : (net : Net) (p b : ℕ) (new : Known) (cs : List ℕ) (ws : List Wanted) → ((c : ℕ) → stands cs c ≡ true → stands (net.children p b) c ≡ true) → Each (Down net p b) (forward_frames net p b new cs ws)
+forward_down : (net : Net) (p b : ℕ) (new : Known) (cs : List ℕ) (ws : List Wanted) → ((c : ℕ) → stands cs c ≡ true → stands (net.children p b) c ≡ true) → Each (Down net p b) (forward_frames [] net p b new cs ws)
 forward_down net p b new [] ws m = tt
 forward_down net p b new (c ∷ cs) [] m = tt
-forward_down net p b new (c ∷ cs) (w ∷ ws) m = Each-on (Down net p b) (know_frames b c p (forward net p c w new)) (forward_frames net p b new cs ws) (know_down net p b c (forward net p c w new) (m c (or_left (nat_eq c c) (stands cs c) (eq-eqb c c refl)))) (forward_down net p b new cs ws (λ d h. m d (or_right (nat_eq c d) (stands cs d) h)))
+forward_down net p b new (c ∷ cs) (w ∷ ws) m = Each-on (Down net p b) (know_frames [] b c p (forward net p c w new)) (forward_frames [] net p b new cs ws) (know_down net p b c (forward net p c w new) (m c (or_left (nat_eq c c) (stands cs c) (eq-eqb c c refl)))) (forward_down net p b new cs ws (λ d h. m d (or_right (nat_eq c d) (stands cs d) h)))
 
 learn_down : (net : Net) (p b : ℕ) (piece : Known) (v : View) (log : Log) → Each (Down net p b) (learn net p b piece v log).frames
 unfolding learn
 learn_down net p b piece v log = forward_down net p b (new_ticks v.know piece) (net.children p b) v.wants (λ c h. h)
 
-receive_down : (net : Net) (now : ℕ) (f : Frame) (runs : Known) (v : View) (log : Log) → f.body ≡ body.Knowledge runs → Each (Down net f.head.publisher f.head.to) (receive net now f v log).frames
+receive_down : {js : Joins} (net : Net) (now : ℕ) (f : Frame) (runs : Known) (v : View) (log : Log) → f.body ≡ body.Knowledge runs js → Each (Down net f.head.publisher f.head.to) (receive net now f v log).frames
 unfolding receive
 receive_down net now f runs v log e = subst (λ y. Each (Down net f.head.publisher f.head.to) (let o : Outcome = elim y [
-  | body.Knowledge runs ↦ elim (clashes v.know runs) [ true ↦ record { view = v; log = log; lines = []; frames = [] } | false ↦ learn net f.head.publisher f.head.to runs v log ]
+  | body.Knowledge runs js ↦ elim (clashes v.know runs) [ true ↦ record { view = v; log = log; lines = []; frames = [] } | false ↦ learn net f.head.publisher f.head.to runs v log ]
   | body.Curiosity runs ↦ curiosity net f.head.publisher f.head.to now f.head.from (place_of f.head.from (net.children f.head.publisher f.head.to)) runs v log
   | body.Expect tick ↦ expect net f.head.publisher f.head.to now tick v log
 ] in o.frames)) (sym e) (learned (clashes v.know runs))
@@ -152,15 +153,16 @@ receive_down net now f runs v log e = subst (λ y. Each (Down net f.head.publish
 -- a frame that brings b knowledge of p
 pub record KnowTo (p b : ℕ) (f : Frame) : Type 0 where
   pub runs : Known
-  pub body : f.body ≡ body.Knowledge runs
+  pub joins : Joins
+  pub body : f.body ≡ body.Knowledge runs joins
   pub publisher : f.head.publisher ≡ p
   pub to : f.head.to ≡ b
 
 pub know_to_is : (p b : ℕ) (f : Frame) → is_know_to p b f ≡ true → KnowTo p b f
 know_to_is p b f e = go f.body refl e
   where
-    go : (y : Body) → f.body ≡ y → (let q : Bool = elim y [ body.Knowledge runs ↦ nat_eq f.head.publisher p && nat_eq f.head.to b | _ ↦ false ] in q) ≡ true → KnowTo p b f
-    go (body.Knowledge runs) g h = let x = and_parts (nat_eq f.head.publisher p) (nat_eq f.head.to b) h in record { runs = runs; body = g; publisher = eqb-true f.head.publisher p x.0; to = eqb-true f.head.to b x.1 }
+    go : (y : Body) → f.body ≡ y → (let q : Bool = elim y [ body.Knowledge runs js ↦ nat_eq f.head.publisher p && nat_eq f.head.to b | _ ↦ false ] in q) ≡ true → KnowTo p b f
+    go (body.Knowledge runs js) g h = let x = and_parts (nat_eq f.head.publisher p) (nat_eq f.head.to b) h in record { runs = runs; joins = js; body = g; publisher = eqb-true f.head.publisher p x.0; to = eqb-true f.head.to b x.1 }
     go (body.Curiosity runs) g h = absurd (false≢true h)
     go (body.Expect tick) g h = absurd (false≢true h)
 

@@ -20,14 +20,14 @@ use Rattle.gr_model_theorems.proofs.sweep.Pending.{sent_up}
 
 -- a property of each kind of frame that a broker sends for a publisher
 pub record SentBy (net : Net) (p b : ℕ) (R : Frame → Type 0) : Type 0 where
-  pub know : (c : ℕ) (part : Known) → R (record { head = head b c p; body = body.Knowledge part })
+  pub know : (c : ℕ) (part : Known) → R (record { head = head b c p; body = body.Knowledge part [] })
   pub want : (u : ℕ) (part : Wanted) → net.up p b ≡ Some u → R (record { head = head b u p; body = body.Curiosity part })
   pub expect : (c tick : ℕ) → R (expect_frame b c p tick)
 
-pub know_each : (net : Net) (p b c : ℕ) (R : Frame → Type 0) (runs : Known) → SentBy net p b R → Each R (know_frames b c p runs)
-know_each net p b c R runs s = go (cut_frames known_run_size runs)
+pub know_each : (net : Net) (p b c : ℕ) (R : Frame → Type 0) (runs : Known) → SentBy net p b R → Each R (know_frames [] b c p runs)
+know_each net p b c R runs s = go (cut_frames 12 known_run_size runs)
   where
-    go : (parts : List Known) → Each R (map (λ part. record { head = head b c p; body = body.Knowledge part }) parts)
+    go : (parts : List Known) → Each R (map (λ part. record { head = head b c p; body = body.Knowledge part [] }) parts)
     go [] = tt
     go (x ∷ xs) = (s.know c x, go xs)
 
@@ -40,12 +40,12 @@ up_each net p b R runs s = at (net.up p b) refl
 
     at : (u : Option ℕ) → net.up p b ≡ u → Each R (elim u [ Some u ↦ want_frames b u p runs | None ↦ [] ])
     at None e = tt
-    at (Some u) e = go u (cut_frames wanted_run_size runs) e
+    at (Some u) e = go u (cut_frames 12 wanted_run_size runs) e
 
-forward_each : (net : Net) (p b : ℕ) (R : Frame → Type 0) (new : Known) (cs : List ℕ) (ws : List Wanted) → SentBy net p b R → Each R (forward_frames net p b new cs ws)
+forward_each : (net : Net) (p b : ℕ) (R : Frame → Type 0) (new : Known) (cs : List ℕ) (ws : List Wanted) → SentBy net p b R → Each R (forward_frames [] net p b new cs ws)
 forward_each net p b R new [] ws s = tt
 forward_each net p b R new (c ∷ cs) [] s = tt
-forward_each net p b R new (c ∷ cs) (w ∷ ws) s = Each-on R (know_frames b c p (forward net p c w new)) (forward_frames net p b new cs ws) (know_each net p b c R (forward net p c w new) s) (forward_each net p b R new cs ws s)
+forward_each net p b R new (c ∷ cs) (w ∷ ws) s = Each-on R (know_frames [] b c p (forward net p c w new)) (forward_frames [] net p b new cs ws) (know_each net p b c R (forward net p c w new) s) (forward_each net p b R new cs ws s)
 
 -- what holds of each frame that a broker may send holds of the expectations that it hands on
 pub expects_each : (net : Net) (p b tick : ℕ) (R : Frame → Type 0) (cs : List ℕ) (ws : List Wanted) → SentBy net p b R → Each R (expect_frames p b tick cs ws)
@@ -85,11 +85,11 @@ receive_each net now R f v log s = go f.body
     learned runs false = learn_each net f.head.publisher f.head.to R runs v log s
 
     go : (y : Body) → Each R (let o : Outcome = elim y [
-      | body.Knowledge runs ↦ elim (clashes v.know runs) [ true ↦ record { view = v; log = log; lines = []; frames = [] } | false ↦ learn net f.head.publisher f.head.to runs v log ]
+      | body.Knowledge runs js ↦ elim (clashes v.know runs) [ true ↦ record { view = v; log = log; lines = []; frames = [] } | false ↦ learn net f.head.publisher f.head.to runs v log ]
       | body.Curiosity runs ↦ curiosity net f.head.publisher f.head.to now f.head.from (place_of f.head.from (net.children f.head.publisher f.head.to)) runs v log
       | body.Expect tick ↦ expect net f.head.publisher f.head.to now tick v log
     ] in o.frames)
-    go (body.Knowledge runs) = learned runs (clashes v.know runs)
+    go (body.Knowledge runs js) = learned runs (clashes v.know runs)
     go (body.Curiosity runs) = curiosity_each net f.head.publisher f.head.to now f.head.from (place_of f.head.from (net.children f.head.publisher f.head.to)) R runs v log s
     go (body.Expect tick) = expect_each net f.head.publisher f.head.to now tick R v log s
 

@@ -14,12 +14,12 @@ use Rattle.gr_broker.proofs.hosting.cut.Goals as goal
 
 pub tell_wake-requires-clause-upto : goal.tell_wake-requires-clause-upto
 tell_wake-requires-clause-upto g c =
-    let s = stays_of c.args.log.now.records c.is_broken.ensures.follow in
+    let s = stays_of c.args.log.now.late c.args.log.now.records c.is_broken.ensures.follow in
     omega (arith, s.upto, s.settled, c.settled.ensures)
 
 pub returns-in-Ok-clause-frames : goal.returns-in-Ok-clause-frames
 returns-in-Ok-clause-frames g c =
-    let s = stays_of c.args.log.now.records c.is_broken.ensures.follow in
+    let s = stays_of c.args.log.now.late c.args.log.now.records c.is_broken.ensures.follow in
     let site = c.args.site.now in
     subst
     (λ (n : ℕ). AddsFrames (expected_frames site.publisher site.broker n (children_of site.topo.now site.publisher site.broker) (runs_of c.args.held.now.wants)) c.args.into.now.frames c.tell_wake.new.into.frames)

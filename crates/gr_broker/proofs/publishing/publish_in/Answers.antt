@@ -12,7 +12,7 @@ use Rattle.gr_broker_relay.specs.Held.{held_view}
 use Rattle.gr_broker.specs.Seen.{BrokerView, log_in, view_in, log_said, with_logged, with_view, with_log, broken_at, logs_of, broker_at}
 use Rattle.gr_broker.specs.Hosted.{publish_logs_at}
 use Rattle.gr_broker.proofs.Reading.{seen_set, each_set, on_ok}
-use Rattle.gr_broker.proofs.Parts.{part_view, part_log, leaves_exchanged, log_here, each_log, stays_some, stays_on, there, said_after, appends_at}
+use Rattle.gr_broker.proofs.Parts.{part_view, part_log, leaves_exchanged, log_here, each_log, stays_some, stays_on, stays_late, there, said_after, appends_at}
 use Rattle.gr_broker.proofs.publishing.publish_in.Given.{Over}
 use Rattle.gr_broker.proofs.publishing.publish_in.Goals as goal
 
@@ -85,6 +85,11 @@ pub returns-clause-lanes : goal.returns-clause-lanes
 returns-clause-lanes g c =
     each_log c.args.seat.now.number c.args.seat.now.here.now c.args.seat.now.edges.now c.args.seat.now.positions.now c.args.held.now.items c.args.p c.index_mut.result.now (below g c) c.index_mut.ensures.value (λ q o. (l : LogView) → o ≡ Some l → l.lane ≡ 2 * q) c.publish_part.new.part (λ q n. c.requires.lanes q)
     (stays_on (2 * c.args.p) c.publish_part.result c.index_mut.result.now.log c.publish_part.new.part.log (event_of (published (log_said c.index_mut.result.now.log) c.args.number c.args.event.now c.args.now) c.args.number c.args.event.now) (on_lane g c) c.publish_part.ensures.log)
+
+pub returns-clause-late : goal.returns-clause-late
+returns-clause-late g c =
+    each_log c.args.seat.now.number c.args.seat.now.here.now c.args.seat.now.edges.now c.args.seat.now.positions.now c.args.held.now.items c.args.p c.index_mut.result.now (below g c) c.index_mut.ensures.value (λ q o. (l : LogView) → o ≡ Some l → l.late ≡ c.args.seat.now.topo.now.late) c.publish_part.new.part (λ q n. c.requires.late q)
+    (stays_late c.args.seat.now.topo.now.late c.publish_part.result c.index_mut.result.now.log c.publish_part.new.part.log (event_of (published (log_said c.index_mut.result.now.log) c.args.number c.args.event.now c.args.now) c.args.number c.args.event.now) (λ l e. c.requires.late c.args.p l (sym (log_is g c) ∙ e)) c.publish_part.ensures.log)
 
 pub returns-clause-causes : goal.returns-clause-causes
 returns-clause-causes g c t =

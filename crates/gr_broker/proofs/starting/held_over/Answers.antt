@@ -15,7 +15,7 @@ returns-then-is_empty-clause-started c =
     let held = held_view c.in_ok-held.held in
     let alone = nobody s.here.now _ c.requires.site.here ((Decides-eqb (length s.here.now) 0).0 (sym c.is_empty.ensures ∙ c.if-is_empty.true)) in
     let fresh = fresh_here s.topo.now s.publisher s.broker c.requires.here c.args.log c.in_ok-know.know.runs held c.in_ok-held.ensures.view c.in_ok-know.ensures.known in
-    started_alone s.topo.now s.publisher s.broker c.requires.here c.args.log c.requires.lane c.requires.whole held alone fresh c.in_ok-held.held.log c.in_ok-held.ensures.log
+    started_alone s.topo.now s.publisher s.broker c.requires.here c.args.log c.requires.lane c.requires.whole c.requires.late held alone fresh c.in_ok-held.held.log c.in_ok-held.ensures.log
 
 pub returns-then-is_empty-clause-lines : goal.returns-then-is_empty-clause-lines
 returns-then-is_empty-clause-lines c =
@@ -38,7 +38,7 @@ returns-clause-started c =
     let some = somebody s.here.now _ c.requires.site.here (λ e. false≢true (sym c.if-is_empty.false ∙ c.is_empty.ensures ∙ (Decides-eqb (length s.here.now) 0).1 e)) in
     let fresh = fresh_here s.topo.now s.publisher s.broker c.requires.here c.args.log c.in_ok-know.know.runs held c.in_ok-held.ensures.view c.in_ok-know.ensures.known in
     let same = learns_nothing s.topo.now s.publisher s.broker c.requires.here c.args.log c.new.result held c.new.ensures fresh in
-    started_with s.topo.now s.publisher s.broker c.requires.here c.args.log c.requires.lane c.requires.whole (held_view c.learn-2.new.held) some
+    started_with s.topo.now s.publisher s.broker c.requires.here c.args.log c.requires.lane c.requires.whole c.requires.late (held_view c.learn-2.new.held) some
     (c.in_ok-learn.ensures.view (log_of c.args.log.records) ∙ ap (λ (o : Outcome). o.view) same) c.in_ok-learn.ensures.kept c.learn-2.new.held.log (c.in_ok-learn.ensures.log ∙ c.in_ok-held.ensures.log)
 
 pub returns-clause-lines : goal.returns-clause-lines

@@ -1,8 +1,12 @@
-use Rattle.std.proofs.Common.{◌+◌, ◌<◌, ◌∙◌, ap, length, map, arith, Err}
+use Rattle.std.proofs.Common.{◌≡◌, ℕ, ◌+◌, ◌*◌, ◌<◌, List, ◌∙◌, ap, subst, length, map, arith, Ok, Err}
+use Rattle.gr_out.specs.Lane.{content}
+use Rattle.gr_publog.specs.Text.{log_text}
+use Rattle.gr_publog.specs.Calls.{Opens}
 use Rattle.gr_broker_relay.specs.declared.held.Held.{Held}
 use Rattle.gr_broker_relay.specs.Held.{held_view}
 use Rattle.gr_broker_relay.proofs.Placing.{as_many_places, branch_at, edges_at}
 use Rattle.gr_broker.specs.declared.outcome.BrokerFault.TheVariants as refused
+use Rattle.gr_broker.specs.Opened.{LosesNothing}
 use Rattle.gr_broker.proofs.Opening.{next_unset, touches_more, touches_all, damaged_at, started_next, opened_next, faultless_on, err_is}
 use Rattle.gr_broker.proofs.starting.open_publishers.Goals as goal
 
@@ -11,8 +15,8 @@ index-requires g c =
     let many = as_many_places c.args.topo.now c.args.b (length c.args.topo.now.publishers) c.args.placed.now.edges.items c.args.placed.now.positions.items c.requires.branches in
     omega (arith, many, c.publishers-test.true, c.publishers-p-end.ensures.count)
 
-pub open_publisher-requires : goal.open_publisher-requires
-open_publisher-requires g c =
+pub open_publisher-requires-clause-site : goal.open_publisher-requires-clause-site
+open_publisher-requires-clause-site g c =
     let t = c.args.topo.now in
     let n = length t.publishers in
     let j : c.publishers.p < n = omega (arith, c.publishers-test.true, c.publishers-p-end.ensures.count) in
@@ -32,7 +36,7 @@ returns-in-Err-clause-touches g c = λ tells.
     let after = g.D.Disk.lane_of c.open_publisher.new.disk in
     let one = c.in-Err.ensures in
     touches_all t c.args.b (c.publishers.p + 1) before mid after (length t.publishers) (omega (arith, c.publishers-test.true, c.publishers-p-end.ensures.count))
-    (touches_more t c.args.b c.publishers.p before mid after (c.publishers.invariant.touches tells) (one.others tells) (λ below k. ap (λ d. g.D.Disk.lane_of d k) (one.below below)) (one.any_moment tells))
+    (touches_more t c.args.b c.publishers.p before mid after (c.publishers.invariant.touches tells) (one.others tells) (λ below k. ap (λ d. g.D.Disk.lane_of d k) (one.below below)) (λ here. subst (λ (x : List ℕ). LosesNothing x (mid (2 * c.publishers.p)) (after (2 * c.publishers.p))) c.requires.late (one.any_moment tells here)))
 
 pub returns-in-Err-clause-damaged : goal.returns-in-Err-clause-damaged
 returns-in-Err-clause-damaged g c = λ tells p at e.
@@ -40,7 +44,8 @@ returns-in-Err-clause-damaged g c = λ tells p at e.
     let one = c.in-Err.ensures.damaged tells p at (ap (λ f. Err f) (err_is c.in-Err.fault (refused.Damaged p at) e)) in
     let sofar = c.publishers.invariant in
     damaged_at t c.args.b c.publishers.p p at (map held_view c.publishers.held.items) (map (λ (held : Held). held.log) c.publishers.held.items) c.publishers.lines
-    (g.D.Disk.lane_of c.args.disk.now) (g.D.Disk.lane_of c.publishers.disk) (omega (arith, c.publishers-test.true, c.publishers-p-end.ensures.count)) sofar.started (sofar.opens tells) (sofar.touches tells) one.0 one.1 one.2
+    (g.D.Disk.lane_of c.args.disk.now) (g.D.Disk.lane_of c.publishers.disk) (omega (arith, c.publishers-test.true, c.publishers-p-end.ensures.count)) sofar.started (sofar.opens tells) (sofar.touches tells) one.0 one.1
+    (subst (λ (x : List ℕ). log_text x (content (g.D.Disk.lane_of c.publishers.disk (2 * c.publishers.p))) ≡ Err at) c.requires.late one.2)
 
 pub returns-in-Err-clause-damaged_here : goal.returns-in-Err-clause-damaged_here
 returns-in-Err-clause-damaged_here g c = λ p at e.
@@ -77,7 +82,7 @@ returns-in-Err-push-clause-touches g c = λ tells.
     let after = g.D.Disk.lane_of c.open_publisher.new.disk in
     let one = c.in-Ok.ensures in
     touches_all t c.args.b (c.publishers.p + 1) before mid after (length t.publishers) (omega (arith, c.publishers-test.true, c.publishers-p-end.ensures.count))
-    (touches_more t c.args.b c.publishers.p before mid after (c.publishers.invariant.touches tells) (one.others tells) (λ below k. ap (λ d. g.D.Disk.lane_of d k) (one.below below)) (one.any_moment tells))
+    (touches_more t c.args.b c.publishers.p before mid after (c.publishers.invariant.touches tells) (one.others tells) (λ below k. ap (λ d. g.D.Disk.lane_of d k) (one.below below)) (λ here. subst (λ (x : List ℕ). LosesNothing x (mid (2 * c.publishers.p)) (after (2 * c.publishers.p))) c.requires.late (one.any_moment tells here)))
 
 pub publishers-preserved : goal.publishers-preserved
 publishers-preserved g c =
@@ -92,8 +97,9 @@ publishers-preserved g c =
     let new = c.push.new.self.items in
     record {
       started = started_next t c.args.b p old new c.in-Ok.opened c.in-Ok-push.ensures.items c.publishers.lines c.open_publisher.new.into one.lines sofar.started one.started;
-      opens = λ tells. opened_next t c.args.b p old new c.in-Ok.opened c.in-Ok-push.ensures.items before mid after sofar.started.as_many (sofar.opens tells) (sofar.touches tells) (one.others tells) (one.opens tells);
-      touches = λ tells. touches_more t c.args.b p before mid after (sofar.touches tells) (one.others tells) (λ below k. ap (λ d. g.D.Disk.lane_of d k) (one.below below)) (one.any_moment tells);
+      opens = λ tells. opened_next t c.args.b p old new c.in-Ok.opened c.in-Ok-push.ensures.items before mid after sofar.started.as_many (sofar.opens tells) (sofar.touches tells) (one.others tells)
+          (λ m e. subst (λ (x : List ℕ). Opens x (mid (2 * p)) (after (2 * p)) (Ok m)) c.requires.late (one.opens tells m e));
+      touches = λ tells. touches_more t c.args.b p before mid after (sofar.touches tells) (one.others tells) (λ below k. ap (λ d. g.D.Disk.lane_of d k) (one.below below)) (λ here. subst (λ (x : List ℕ). LosesNothing x (mid (2 * p)) (after (2 * p))) c.requires.late (one.any_moment tells here));
       faults = (one.tally.same tt).0 ∙ sofar.faults;
       stops = (one.tally.same tt).1 ∙ sofar.stops;
       faultless = faultless_on (g.D.Disk.faultless c.args.disk.now) (g.D.Disk.faultless c.publishers.disk) (g.D.Disk.faultless c.open_publisher.new.disk)

@@ -8,7 +8,7 @@ use Rattle.gr_broker.proofs.starting.open_publishers.Given as goal
 abbrev pub invariant-publishers : goal.invariant-publishers
 invariant-publishers g l = record {
   started : AreStarted l.topo l.b l.p (map held_view l.held.items) (map (λ held. held.log) l.held.items) l.lines;
-  opens : g.D.Disk.tells → AreOpened (map (λ held. held.log) l.held.items) (g.D.Disk.lane_of l.initial.disk) (g.D.Disk.lane_of l.disk);
+  opens : g.D.Disk.tells → AreOpened l.topo (map (λ held. held.log) l.held.items) (g.D.Disk.lane_of l.initial.disk) (g.D.Disk.lane_of l.disk);
   touches : g.D.Disk.tells → TouchesLanes l.topo l.b l.p (g.D.Disk.lane_of l.initial.disk) (g.D.Disk.lane_of l.disk);
   faults : g.D.Disk.faults l.disk ≡ g.D.Disk.faults l.initial.disk;
   stops : g.D.Disk.stops l.disk ≡ g.D.Disk.stops l.initial.disk;

@@ -43,6 +43,9 @@ wake_part-answer-requires-clause-hosted g c =
 pub wake_part-answer-requires-clause-lanes : goal.wake_part-answer-requires-clause-lanes
 wake_part-answer-requires-clause-lanes g c = back g c (λ t q n y. (l : LogView) → y.log ≡ Some l → l.lane ≡ 2 * q) (c.requires.fits.lanes c.args.p)
 
+pub wake_part-answer-requires-clause-late : goal.wake_part-answer-requires-clause-late
+wake_part-answer-requires-clause-late g c = back g c (λ t q n y. (l : LogView) → y.log ≡ Some l → l.late ≡ t.late) (c.requires.fits.late c.args.p)
+
 pub wake_part-answer-requires-clause-stands : goal.wake_part-answer-requires-clause-stands
 wake_part-answer-requires-clause-stands g c = λ tells.
     back g c (λ t q n y. (l : LogView) → y.log ≡ Some l → IsReady l (g.D.Disk.lane_of c.args.disk.now (2 * q))) (c.requires.stands tells c.args.p)
@@ -86,7 +89,8 @@ returns-clause-fits g c =
     (omega (arith, c.requires.publisher, c.requires.fits.views))
     (there g c (λ t q n y a. IsKept (net_of t) q n (held_view c.wake_part-answer.new.part)) c.wake_part-answer.ensures.kept)
     (there g c (λ t q n y a. is_some c.wake_part-answer.new.part.log ≡ is_some y.log) c.wake_part-answer.ensures.hosted)
-    (there g c (λ t q n y a. (l : LogView) → c.wake_part-answer.new.part.log ≡ Some l → l.lane ≡ 2 * q) c.wake_part-answer.ensures.lanes))
+    (there g c (λ t q n y a. (l : LogView) → c.wake_part-answer.new.part.log ≡ Some l → l.lane ≡ 2 * q) c.wake_part-answer.ensures.lanes)
+    (there g c (λ t q n y a. (l : LogView) → c.wake_part-answer.new.part.log ≡ Some l → l.late ≡ t.late) c.wake_part-answer.ensures.late))
 
 pub returns-clause-lane : goal.returns-clause-lane
 returns-clause-lane g c = λ tells.

@@ -4,7 +4,7 @@ use Rattle.gr_publog.specs.Crash.{LogView}
 use Rattle.gr_publog.specs.Calls.{IsReady, GoesOn, Causes}
 use Rattle.gr_broker_relay.specs.Held.{held_view}
 use Rattle.gr_broker.specs.Parts.{part_of, part_with}
-use Rattle.gr_broker.proofs.Woken.{some_is, here_leaves, here_log, here_lane, here_told, here_twice, here_reopen}
+use Rattle.gr_broker.proofs.Woken.{some_is, here_leaves, here_log, here_lane, here_late, here_told, here_twice, here_reopen}
 use Rattle.gr_broker.proofs.waking.wake_here.Given.{Over}
 use Rattle.gr_broker.proofs.waking.wake_here.Goals as goal
 
@@ -44,6 +44,14 @@ returns-clause-log g c =
 
 pub returns-clause-lanes : goal.returns-clause-lanes
 returns-clause-lanes g c = λ l e. ap (λ (y : LogView). y.lane) (sym (some_is e)) ∙ new_lane g c
+
+pub returns-clause-late : goal.returns-clause-late
+returns-clause-late g c = λ l e.
+    let s = c.args.site.now in
+    ap (λ (y : LogView). y.late) (sym (some_is e))
+    ∙ here_late s.topo.now s.publisher s.broker c.args.now (held_view c.args.part.now) (held_view c.wake_host-answer.new.held) c.in-Some.log c.wake_host-answer.new.log
+    c.wake_host-answer.result c.wake_host-answer.ensures.leaves
+    ∙ c.requires.late c.in-Some.log (log_is g c)
 
 pub returns-clause-lane : goal.returns-clause-lane
 returns-clause-lane g c = λ tells l e.

@@ -11,7 +11,7 @@ use Rattle.gr_broker_relay.proofs.cutting.cut_due.Goals as goal
 
 pub consolidated_upto-upto-requires-clause-limit : goal.consolidated_upto-upto-requires-clause-limit
 consolidated_upto-upto-requires-clause-limit c =
-    let s = stays_of c.args.log.now.records c.is_broken.ensures.follow in
+    let s = stays_of c.args.log.now.late c.args.log.now.records c.is_broken.ensures.follow in
     omega (arith, s.upto, s.settled, c.settled.ensures)
 
 pub returns-then-cut-upto-clause-tick : goal.returns-then-cut-upto-clause-tick
@@ -21,7 +21,7 @@ returns-then-cut-upto-clause-tick c =
     let past : nat_lt (state_of rs).cut upto ≡ true = lt-ltb _ _ (omega (arith, c.if-cut-upto.true, c.cut.ensures)) in
     let e = c.consolidated_upto-upto.ensures in
     ap (λ (q : Bool). if q then Some upto else None) (sym past)
-    ∙ due_is (net_of c.args.site.now.topo.now) c.args.site.now.publisher c.args.site.now.broker upto (held_view c.args.held.now) rs c.horizon_of.result
+    ∙ due_is (net_of c.args.site.now.topo.now) c.args.site.now.publisher c.args.site.now.broker upto (held_view c.args.held.now) c.args.log.now.late rs c.horizon_of.result
     c.requires.kept.wants c.is_broken.ensures.follow c.horizon_of.ensures.value (omega (arith, e.within, c.settled.ensures)) e.each (λ x. e.stops (omega (arith, x, c.settled.ensures)))
 
 pub returns-clause-tick : goal.returns-clause-tick
@@ -31,5 +31,5 @@ returns-clause-tick c =
     let past : nat_lt (state_of rs).cut upto ≡ false = le-ltb _ _ (omega (arith, c.if-cut-upto.false, c.cut.ensures)) in
     let e = c.consolidated_upto-upto.ensures in
     ap (λ (q : Bool). if q then Some upto else None) (sym past)
-    ∙ due_is (net_of c.args.site.now.topo.now) c.args.site.now.publisher c.args.site.now.broker upto (held_view c.args.held.now) rs c.horizon_of.result
+    ∙ due_is (net_of c.args.site.now.topo.now) c.args.site.now.publisher c.args.site.now.broker upto (held_view c.args.held.now) c.args.log.now.late rs c.horizon_of.result
     c.requires.kept.wants c.is_broken.ensures.follow c.horizon_of.ensures.value (omega (arith, e.within, c.settled.ensures)) e.each (λ x. e.stops (omega (arith, x, c.settled.ensures)))

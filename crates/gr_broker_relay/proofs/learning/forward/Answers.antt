@@ -32,7 +32,7 @@ loop-i-preserved c =
     record {
       adds = λ last h. c.loop-i.invariant.adds last
           (subst (λ (fs : List Frame). AddsFrames fs c.loop-i.into last) (sym (forward_step net p b c.args.fresh.now cs ws c.loop-i.i many inside))
-          (adds_after (know_frames b (get_or cs c.loop-i.i 0) p (forward net p (get_or cs c.loop-i.i 0) (wants_of ws c.loop-i.i) c.args.fresh.now)) (forward_frames net p b c.args.fresh.now (drop (c.loop-i.i + 1) cs) (drop (c.loop-i.i + 1) ws)) c.loop-i.into c.forward_to.new.into last c.in_ok-quenched.ensures.adds h));
+          (adds_after (know_frames [] b (get_or cs c.loop-i.i 0) p (forward net p (get_or cs c.loop-i.i 0) (wants_of ws c.loop-i.i) c.args.fresh.now)) (forward_frames [] net p b c.args.fresh.now (drop (c.loop-i.i + 1) cs) (drop (c.loop-i.i + 1) ws)) c.loop-i.into c.forward_to.new.into last c.in_ok-quenched.ensures.adds h));
       many = c.in_ok-put_at.ensures.many;
       each = each_more (λ k (q : Wanted). RunsGive N q (λ t. if not (is_Q (known_at (forward net p (get_or cs k 0) (wants_of ws k) c.args.fresh.now) t)) && is_C (wanted_at (wants_of ws k) t) then C else N))
           c.loop-i.all.items c.put_at.new.pieces.items c.in_ok-quenched.quenched [] c.loop-i.i c.in_ok-put_at.ensures.each c.loop-i.invariant.each c.in_ok-quenched.ensures.quenched;

@@ -15,8 +15,8 @@ use Rattle.gr_broker_relay.proofs.learning.forward.Given as goal
 -- with the frames to the children that are left all are sent, and each child so far has its piece
 abbrev pub invariant-loop-i : goal.invariant-loop-i
 invariant-loop-i l = record {
-  adds : (last : FrameList) → AddsFrames (forward_frames (net_of l.site.topo.now) l.site.publisher l.site.broker l.fresh (drop l.i (children_of l.site.topo.now l.site.publisher l.site.broker)) (drop l.i (runs_of l.wants))) l.into last
-      → AddsFrames (forward_frames (net_of l.site.topo.now) l.site.publisher l.site.broker l.fresh (children_of l.site.topo.now l.site.publisher l.site.broker) (runs_of l.wants)) l.fn.into last;
+  adds : (last : FrameList) → AddsFrames (forward_frames [] (net_of l.site.topo.now) l.site.publisher l.site.broker l.fresh (drop l.i (children_of l.site.topo.now l.site.publisher l.site.broker)) (drop l.i (runs_of l.wants))) l.into last
+      → AddsFrames (forward_frames [] (net_of l.site.topo.now) l.site.publisher l.site.broker l.fresh (children_of l.site.topo.now l.site.publisher l.site.broker) (runs_of l.wants)) l.fn.into last;
   many : length l.all.items ≤ l.i;
   each : (i : ℕ) → i < l.i → RunsGive N (slice_index_or l.all.items i []) (λ t.
       if not (is_Q (known_at (forward (net_of l.site.topo.now) l.site.publisher (get_or (children_of l.site.topo.now l.site.publisher l.site.broker) i 0) (wants_of (runs_of l.wants) i) l.fresh) t)) && is_C (wanted_at (wants_of (runs_of l.wants) i) t) then C else N);

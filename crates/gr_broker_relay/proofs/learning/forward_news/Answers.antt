@@ -41,7 +41,7 @@ whole c =
 
 pub returns-then-is_past-clause-adds : goal.returns-then-is_past-clause-adds
 returns-then-is_past-clause-adds c =
-    subst (λ (k : Known). OnOk c.forward.result (AddsFrames (forward_frames (net_of c.args.site.now.topo.now) c.args.site.now.publisher c.args.site.now.broker k (children_of c.args.site.now.topo.now c.args.site.now.publisher c.args.site.now.broker) (runs_of c.args.held.now.wants)) c.args.into.now c.forward.new.into))
+    subst (λ (k : Known). OnOk c.forward.result (AddsFrames (forward_frames [] (net_of c.args.site.now.topo.now) c.args.site.now.publisher c.args.site.now.broker k (children_of c.args.site.now.topo.now c.args.site.now.publisher c.args.site.now.broker) (runs_of c.args.held.now.wants)) c.args.into.now c.forward.new.into))
     (whole c) c.forward.ensures.adds
 
 pub returns-then-is_past-clause-each : goal.returns-then-is_past-clause-each
@@ -57,7 +57,7 @@ returns-then-is_past-clause-each c =
 
 pub returns-clause-adds : goal.returns-clause-adds
 returns-clause-adds c =
-    subst (λ (k : Known). OnOk c.forward-2.result (AddsFrames (forward_frames (net_of c.args.site.now.topo.now) c.args.site.now.publisher c.args.site.now.broker k (children_of c.args.site.now.topo.now c.args.site.now.publisher c.args.site.now.broker) (runs_of c.args.held.now.wants)) c.args.into.now c.forward-2.new.into))
+    subst (λ (k : Known). OnOk c.forward-2.result (AddsFrames (forward_frames [] (net_of c.args.site.now.topo.now) c.args.site.now.publisher c.args.site.now.broker k (children_of c.args.site.now.topo.now c.args.site.now.publisher c.args.site.now.broker) (runs_of c.args.held.now.wants)) c.args.into.now c.forward-2.new.into))
     (new_is c.args.held.now.know.runs c.args.piece.now c.in_ok-fresh.fresh c.len.ensures.canonical c.len-2.ensures.canonical c.in_ok-fresh.ensures) c.forward-2.ensures.adds
 
 pub returns-clause-each : goal.returns-clause-each

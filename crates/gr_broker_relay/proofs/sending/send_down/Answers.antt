@@ -5,4 +5,4 @@ pub returns-then-is_empty : goal.returns-then-is_empty
 returns-then-is_empty c = sends_no_know c.args.site.now.broker c.args.child c.args.site.now.publisher c.args.piece c.args.into.now (c.is_empty.ensures.0 c.if-is_empty.true)
 
 pub returns : goal.returns
-returns c = sends_know c.push.result c.args.site.now.broker c.args.child c.args.site.now.publisher c.args.piece c.args.into.now c.push.new.self c.push.ensures.cut c.push.ensures.spelled
+returns c = sends_know c.push.result c.args.site.now.broker c.args.child c.args.site.now.publisher c.args.piece c.new.result c.args.into.now c.push.new.self c.new.ensures c.push.ensures.cut c.push.ensures.spelled

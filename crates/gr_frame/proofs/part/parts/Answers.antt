@@ -10,7 +10,7 @@ use Rattle.gr_frame.proofs.part.parts.Goals as goal
 
 pub returns-in-Knowledge : goal.returns-in-Knowledge
 returns-in-Knowledge c =
-    subst (λ (l : List Frame). IfOk c.known_parts.result (λ fs. fs.items ≡ l)) (sym (known_parts c.args.frame.now c.in-Knowledge.piece c.in-Knowledge.is)) c.known_parts.ensures
+    subst (λ (l : List Frame). IfOk c.known_parts.result (λ fs. fs.items ≡ l)) (sym (known_parts c.args.frame.now c.in-Knowledge.piece c.in-Knowledge.joins c.in-Knowledge.is)) c.known_parts.ensures
 
 pub returns-in-Curiosity : goal.returns-in-Curiosity
 returns-in-Curiosity c =

@@ -8,4 +8,4 @@ use Rattle.gr_frame.proofs.part.wanted_parts.Goals as goal
 
 pub returns : goal.returns
 returns c =
-    all_made (λ part. with_head c.args.head (Curiosity part)) c.parts.frames.items _ _ (none_left wanted_run_size c.args.piece.now c.parts.at (omega (arith, c.len.ensures.len))) c.parts.invariant.made
+    all_made (λ part. with_head c.args.head (Curiosity part)) c.parts.frames.items _ _ (none_left 12 wanted_run_size c.args.piece.now c.parts.at (omega (arith, c.len.ensures.len))) c.parts.invariant.made

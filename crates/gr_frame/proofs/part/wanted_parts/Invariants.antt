@@ -8,7 +8,7 @@ use Rattle.gr_frame.proofs.part.wanted_parts.Given as goal
 abbrev pub invariant-parts : goal.invariant-parts
 invariant-parts l = record {
   within : l.at ≤ length l.piece;
-  made : l.frames.items ++ map (λ part. with_head l.head (Curiosity part)) (cut_frames wanted_run_size (drop l.at l.piece)) ≡ map (λ part. with_head l.head (Curiosity part)) (cut_frames wanted_run_size l.piece);
+  made : l.frames.items ++ map (λ part. with_head l.head (Curiosity part)) (cut_frames 12 wanted_run_size (drop l.at l.piece)) ≡ map (λ part. with_head l.head (Curiosity part)) (cut_frames 12 wanted_run_size l.piece);
 }
 
 abbrev pub decreases-parts : goal.decreases-parts

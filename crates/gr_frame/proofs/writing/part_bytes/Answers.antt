@@ -3,7 +3,7 @@ use Rattle.std.proofs.Common.{◌-◌, ◌++◌, ◌∷◌, [], subst, sym, ap, 
 use Rattle.std.specs.Prelude.{slice_range}
 use Rattle.std.specs.Int.{to_be_bytes, w64}
 use Rattle.std.specs.List.{AllByRecursion}
-use Rattle.gr_frame.specs.Bytes.{head_bytes, runs_bytes}
+use Rattle.gr_frame.specs.Bytes.{piece_head, runs_bytes}
 use Rattle.gr_frame.specs.Decode.{kind_number}
 use Rattle.gr_frame.proofs.Cutting.{range_more, runs_more, each_joined}
 use Rattle.gr_frame.proofs.writing.part_bytes.Goals as goal
@@ -13,7 +13,7 @@ loop-i-preserved g c =
     let value = g.V.FrameValue.form.bytes in
     let piece = c.args.piece.now in
     let run = c.run.result.now in
-    let head = head_bytes (kind_number c.args.kind) c.args.head (c.args.part.end - c.args.start) in
+    let head = piece_head (kind_number c.args.kind) c.args.head (c.args.part.end - c.args.start) c.args.joins.now in
     let runs = runs_bytes value (slice_range piece c.args.start c.loop-i.i) in
     let text = (to_be_bytes w64 run.first ++ to_be_bytes w64 run.last) ++ value run.value in
     record {

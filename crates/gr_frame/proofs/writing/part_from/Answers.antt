@@ -5,24 +5,24 @@ use Rattle.gr_frame.proofs.writing.part_from.Goals as goal
 
 pub loop-end-init : goal.loop-end-init
 loop-end-init g c = record {
-  low = omega (arith, c.run_size-size.ensures.least);
-  high = omega (arith, c.run_size-size.ensures.most);
-  cut = part_begun g.V.FrameValue.form.size c.args.piece.now c.args.start c.run_size-size.result c.run.result.now c.run.ensures.run c.run_size-size.ensures.size;
+  low = omega (arith, c.run_size.ensures.least);
+  high = omega (arith, c.run_size.ensures.most, c.requires.room);
+  cut = part_begun c.args.room g.V.FrameValue.form.size c.args.piece.now c.args.start c.run_size.result c.run.result.now c.run.ensures.run c.run_size.ensures.size;
 }
 
 pub loop-end-preserved : goal.loop-end-preserved
 loop-end-preserved g c = record {
   low = omega (arith, c.loop-end.invariant.low, c.run_size-more.ensures.least);
   high = omega arith;
-  cut = part_grown g.V.FrameValue.form.size c.args.piece.now c.loop-end.size c.run_size-more.result c.args.start c.loop-end.end c.run-in-loop-end.result.now _
+  cut = part_grown c.args.room g.V.FrameValue.form.size c.args.piece.now c.loop-end.size c.run_size-more.result c.args.start c.loop-end.end c.run-in-loop-end.result.now _
       c.run-in-loop-end.ensures.run c.run_size-more.ensures.size (omega arith) (omega arith) c.loop-end.invariant.cut;
 }
 
 pub returns-then-size-more-gt-MAX_FRAME_BYTES-clause-cut : goal.returns-then-size-more-gt-MAX_FRAME_BYTES-clause-cut
 returns-then-size-more-gt-MAX_FRAME_BYTES-clause-cut g c =
-    part_full g.V.FrameValue.form.size c.args.piece.now c.loop-end.size c.run_size-more.result c.args.start c.loop-end.end c.run-in-loop-end.result.now _
+    part_full c.args.room g.V.FrameValue.form.size c.args.piece.now c.loop-end.size c.run_size-more.result c.args.start c.loop-end.end c.run-in-loop-end.result.now _
     c.run-in-loop-end.ensures.run c.run_size-more.ensures.size (omega arith) c.loop-end.invariant.cut
 
 pub returns-clause-cut : goal.returns-clause-cut
 returns-clause-cut g c =
-    part_last g.V.FrameValue.form.size c.args.piece.now c.loop-end.size c.args.start c.loop-end.end c.len-count.result _ (omega (arith, c.requires)) c.len-count.ensures.len c.loop-end.invariant.cut
+    part_last c.args.room g.V.FrameValue.form.size c.args.piece.now c.loop-end.size c.args.start c.loop-end.end c.len-count.result _ (omega (arith, c.requires.within)) c.len-count.ensures.len c.loop-end.invariant.cut

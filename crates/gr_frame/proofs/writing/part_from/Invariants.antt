@@ -5,7 +5,7 @@ use Rattle.gr_frame.proofs.writing.part_from.Given as goal
 
 abbrev pub invariant-loop-end : goal.invariant-loop-end
 invariant-loop-end g l = record {
-  low : 17 * (l.end - l.start) + 12 ≤ l.size;
+  low : 17 * (l.end - l.start) ≤ l.size;
   high : l.size ≤ 16384;
-  cut : cut_from g.V.FrameValue.form.size l.size (slice_range l.piece l.start l.end) (drop l.end l.piece) ≡ cut_frames g.V.FrameValue.form.size (drop l.start l.piece);
+  cut : cut_from l.room g.V.FrameValue.form.size l.size (slice_range l.piece l.start l.end) (drop l.end l.piece) ≡ cut_frames l.room g.V.FrameValue.form.size (drop l.start l.piece);
 }

@@ -14,7 +14,7 @@ returns-clause-headline c = λ steps run steps_of follow bytes honest.
     let tree = c.every_topology_is_a_tree.ensures in
     let fit = c.steps_fit_the_theorems.ensures t steps steps_of in
     let limits = c.brokers.ensures.topology.sound.limits in
-    c.headline_over_lanes.ensures.served (net_of t) run.records steps (ours (numbers (length t.brokers)) run.came)
+    c.headline_over_lanes.ensures.served (net_of t) t.late run.records steps (ours (numbers (length t.brokers)) run.came)
     (is_served t steps run (record { tree = tree.tree; quiet = tree.orderly.quiet; retry = tree.orderly.retry; steps_in = fit.0 }) fit.1 (omega (arith, limits.brokers)) (omega (arith, limits.publishers)) follow bytes honest)
 
 pub returns-clause-calls : goal.returns-clause-calls
@@ -24,10 +24,10 @@ returns-clause-calls c = λ steps run steps_of follow bytes honest.
     let fit = c.steps_fit_the_theorems.ensures t steps steps_of in
     let limits = c.brokers.ensures.topology.sound.limits in
     let came = ours (numbers (length t.brokers)) run.came in
-    let silent = c.headline_over_lanes.ensures.silent (net_of t) run.records follow in
+    let silent = c.headline_over_lanes.ensures.silent (net_of t) t.late run.records follow in
     let s = is_served t steps run (record { tree = tree.tree; quiet = tree.orderly.quiet; retry = tree.orderly.retry; steps_in = fit.0 }) fit.1 (omega (arith, limits.brokers)) (omega (arith, limits.publishers)) follow bytes honest in
     c.headline_served.ensures.calls (net_of t) (found_logs run.records) steps came (record {
-      over = record { asked = s.over.asked; reopened_cuts = c.headline_over_lanes.ensures.found (net_of t) run.records follow };
+      over = record { asked = s.over.asked; reopened_cuts = c.headline_over_lanes.ensures.found (net_of t) t.late run.records follow };
       brokers = s.brokers;
       publishers = s.publishers;
       numbers_in = s.numbers_in;
@@ -43,7 +43,7 @@ returns-clause-ordered c = λ steps run totals steps_of follow bytes honest are.
     let limits = c.brokers.ensures.topology.sound.limits in
     let came = ours (numbers (length t.brokers)) run.came in
     let s = is_served t steps run (record { tree = tree.tree; quiet = tree.orderly.quiet; retry = tree.orderly.retry; steps_in = fit.0 }) fit.1 (omega (arith, limits.brokers)) (omega (arith, limits.publishers)) follow bytes honest in
-    (c.ordered_over_lanes.ensures.served (net_of t) totals run.records steps came s are, c.one_order_over_lanes.ensures.served (net_of t) totals run.records steps came s are)
+    (c.ordered_over_lanes.ensures.served (net_of t) totals t.late run.records steps came s are, c.one_order_over_lanes.ensures.served (net_of t) totals t.late run.records steps came s are)
 
 pub returns-clause-whole : goal.returns-clause-whole
 returns-clause-whole c = λ hosted steps came closed logs.

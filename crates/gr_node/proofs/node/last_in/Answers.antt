@@ -9,10 +9,10 @@ use Rattle.gr_node.proofs.node.last_in.Goals as goal
 pub returns-clause-last : goal.returns-clause-last
 returns-clause-last c =
     c.last.ensures
-    ∙ (last_is _ c.is_broken.ensures.follow ∙ sym (ap (λ (o : Option LogView). let l : Log = log_said o in l.last) c.log-log.ensures))
+    ∙ (last_is _ _ c.is_broken.ensures.follow ∙ sym (ap (λ (o : Option LogView). let l : Log = log_said o in l.last) c.log-log.ensures))
 
 pub returns-clause-most : goal.returns-clause-most
 returns-clause-most c =
-    let upto = last_upto _ c.is_broken.ensures.follow in
+    let upto = last_upto _ _ c.is_broken.ensures.follow in
     let is = c.last.ensures in
     omega (arith, upto, is)

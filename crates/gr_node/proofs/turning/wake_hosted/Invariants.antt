@@ -20,7 +20,7 @@ invariant-brokers g l = record {
   set : IsSet l.site.topo.now l.site.hosted.now (seen l.node);
   stands : g.D.Disk.tells → AllStand (g.D.Disk.lane_of l.disk) (seen l.node);
   others : g.D.Disk.tells → OthersStay l.site.topo.now l.site.hosted.now (g.D.Disk.lane_of l.initial.disk) (g.D.Disk.lane_of l.disk);
-  keeps : g.D.Disk.tells → (lanes : ℕ → Lane) → AllKeep lanes (g.D.Disk.lane_of l.initial.disk) → AllKeep lanes (g.D.Disk.lane_of l.disk);
+  keeps : g.D.Disk.tells → (lanes : ℕ → Lane) → AllKeep l.site.topo.now.late lanes (g.D.Disk.lane_of l.initial.disk) → AllKeep l.site.topo.now.late lanes (g.D.Disk.lane_of l.disk);
   faults : g.D.Disk.faults l.disk ≡ g.D.Disk.faults l.initial.disk;
   stops : g.D.Disk.stops l.disk ≡ g.D.Disk.stops l.initial.disk;
   sink : g.K.Sink.faults l.sink ≡ g.K.Sink.faults l.initial.sink;

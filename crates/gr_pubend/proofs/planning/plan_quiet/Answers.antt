@@ -1,7 +1,7 @@
 -- The test is that of the rule
 use Rattle.std.proofs.Common.{◌≡◌, ◌+◌, [], suc, sym, ap, ◌∙◌, arith}
 use Rattle.gr_publog.specs.declared.record.Record.TheVariants as entry
-use Rattle.gr_publog.specs.State.{state_of}
+use Rattle.gr_publog.specs.State.{state_of, standing_of}
 use Rattle.gr_know.specs.Values.{Known}
 use Rattle.gr_pubend.specs.declared.answers.Quieted.TheVariants.{Marked}
 use Rattle.gr_pubend.specs.Log.{log_of, silence}
@@ -13,18 +13,18 @@ use Rattle.gr_pubend.proofs.planning.plan_quiet.Goals as goal
 pub returns-then-saturating_sub-quiet-clause-answer : goal.returns-then-saturating_sub-quiet-clause-answer
 returns-then-saturating_sub-quiet-clause-answer c =
     let rs = c.args.log.now.records in
-    let h = stays_of rs c.is_broken.ensures.follow in
+    let h = stays_of c.args.log.now.late rs c.is_broken.ensures.follow in
     sym (says_not_yet (log_of rs) (state_of rs) h c.args.now c.args.quiet (omega (arith, c.settled-settled.ensures, c.saturating_sub.ensures, c.if-saturating_sub-quiet.true)))
 
 pub overflow_add-settled : goal.overflow_add-settled
 overflow_add-settled c =
-    let h = stays_of c.args.log.now.records c.is_broken.ensures.follow in
+    let h = stays_of c.args.log.now.late c.args.log.now.records c.is_broken.ensures.follow in
     omega (arith, c.settled-settled.ensures, h.settled, h.upto)
 
 pub returns-in-Ok-clause-answer : goal.returns-in-Ok-clause-answer
 returns-in-Ok-clause-answer c =
     let rs = c.args.log.now.records in
-    let h = stays_of rs c.is_broken.ensures.follow in
+    let h = stays_of c.args.log.now.late rs c.is_broken.ensures.follow in
     let says = says_marked (log_of rs) (state_of rs) h c.args.now c.args.quiet c.requires.some (omega (arith, c.settled-settled.ensures, c.saturating_sub.ensures, c.if-saturating_sub-quiet.false)) in
     let begins : c.settled-settled.result + 1 ≡ suc (log_of rs).settled = omega (arith, c.settled-settled.ensures, h.settled) in
     ap (λ (x : Known). Marked c.args.now x) (c.in-Ok.ensures ∙ ap (λ n. silence n c.args.now []) begins) ∙ sym says
@@ -32,15 +32,15 @@ returns-in-Ok-clause-answer c =
 pub returns-in-Ok-clause-planned : goal.returns-in-Ok-clause-planned
 returns-in-Ok-clause-planned c =
     let rs = c.args.log.now.records in
-    let h = stays_of rs c.is_broken.ensures.follow in
+    let h = stays_of c.args.log.now.late rs c.is_broken.ensures.follow in
     let begins : c.settled-settled.result + 1 ≡ suc (log_of rs).settled = omega (arith, c.settled-settled.ensures, h.settled) in (
-      may_mark (state_of rs) c.args.now (omega (arith, c.settled-settled.ensures, c.saturating_sub.ensures, c.if-saturating_sub-quiet.false, c.requires.some)) c.requires.now,
+      may_mark (standing_of [] rs) c.args.now (omega (arith, c.settled-settled.ensures, c.saturating_sub.ensures, c.if-saturating_sub-quiet.false, c.requires.some)) c.requires.now,
       c.in-Ok.ensures ∙ ap (λ n. silence n c.args.now []) begins,
     )
 
 pub returns-in-Err-clause-wants : goal.returns-in-Err-clause-wants
 returns-in-Err-clause-wants c = λ _.
     let rs = c.args.log.now.records in
-    let h = stays_of rs c.is_broken.ensures.follow in
+    let h = stays_of c.args.log.now.late rs c.is_broken.ensures.follow in
     let says = says_marked (log_of rs) (state_of rs) h c.args.now c.args.quiet c.requires.some (omega (arith, c.settled-settled.ensures, c.saturating_sub.ensures, c.if-saturating_sub-quiet.false)) in
     is_logged _ (entry.Mark c.args.now) (ap mark_of says)

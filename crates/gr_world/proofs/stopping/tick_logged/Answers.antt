@@ -9,7 +9,7 @@ use Rattle.gr_world.proofs.stopping.tick_logged.Goals as goal
 pub returns-then-number-last : goal.returns-then-number-last
 returns-then-number-last c =
     let rs = c.args.log.now.records in
-    sym (no_tick_out_of_turn (log_of rs) (state_of rs) (stays_of rs c.requires) c.args.number c.args.now (λ e.
+    sym (no_tick_out_of_turn (log_of rs) (state_of rs) (stays_of c.args.log.now.late rs c.requires) c.args.number c.args.now (λ e.
     elim c.then-number-last.branch [
       | then-number-last-via-then-number-last w ↦ absurd (omega arith)
       | then-number-last-via-else-number-last+then-number-last-gt1 w ↦ absurd (omega arith)
@@ -18,7 +18,7 @@ returns-then-number-last c =
 pub returns-then-settled-ge-MAX_TICK : goal.returns-then-settled-ge-MAX_TICK
 returns-then-settled-ge-MAX_TICK c =
     let rs = c.args.log.now.records in
-    sym (no_tick_left (log_of rs) (state_of rs) (stays_of rs c.requires) c.args.number c.args.now
+    sym (no_tick_left (log_of rs) (state_of rs) (stays_of c.args.log.now.late rs c.requires) c.args.number c.args.now
     (elim c.then-settled-ge-MAX_TICK.branch [
       | then-settled-ge-MAX_TICK-via-then-settled-ge-MAX_TICK w ↦ omega arith
       | then-settled-ge-MAX_TICK-via-else-settled-ge-MAX_TICK+then-now-gt-MAX_TICK w ↦ omega arith
@@ -27,4 +27,4 @@ returns-then-settled-ge-MAX_TICK c =
 pub returns : goal.returns
 returns c =
     let rs = c.args.log.now.records in
-    sym (tick_is (log_of rs) (state_of rs) (stays_of rs c.requires) c.args.number c.args.now c.max.result (omega arith) (omega arith) (omega arith))
+    sym (tick_is (log_of rs) (state_of rs) (stays_of c.args.log.now.late rs c.requires) c.args.number c.args.now c.max.result (omega arith) (omega arith) (omega arith))

@@ -53,6 +53,6 @@ returns-clause-keeps g c = λ tells lanes kept.
     let before = g.D.Disk.lane_of c.args.disk.now in
     let after = g.D.Disk.lane_of c.publish-answer.new.disk in
     let here = hosts_here c.args.topo.now (seen c.args.self.now) c.host-host.result c.args.p x c.requires.fits was c.requires.publisher (sym c.host-host.ensures.host) in
-    all_on lanes before after kept
-    (keep_publish x c.args.p before after (log_answer c.publish-answer.result) (λ l h. c.requires.fits.whole c.host-host.result c.args.p x l was h) (c.requires.stands tells c.host-host.result x was) (e.goes_on tells) (e.others tells)
+    all_on c.args.topo.now.late lanes before after kept
+    (keep_publish c.args.topo.now.late x c.args.p before after (log_answer c.publish-answer.result) (λ l h. (c.requires.fits.fits c.host-host.result x was).late c.args.p l h) (λ l h. c.requires.fits.whole c.host-host.result c.args.p x l was h) (c.requires.stands tells c.host-host.result x was) (e.goes_on tells) (e.others tells)
     (publish_logs_at x c.args.p c.args.self.now.now c.args.number c.args.event.now) here.1 (e.lane tells))

@@ -59,6 +59,6 @@ returns-clause-keeps g c = λ tells lanes kept.
     let e = c.wake-answer.ensures in
     let before = g.D.Disk.lane_of c.args.disk.now in
     let after = g.D.Disk.lane_of c.wake-answer.new.disk in
-    all_on lanes before after kept
-    (keep_wake x c.args.p before after (log_answer c.wake-answer.result) (λ l h. c.requires.fits.whole c.args.b c.args.p x l was h) (c.requires.stands tells c.args.b x was) (e.goes_on tells) (e.others tells)
+    all_on c.args.topo.now.late lanes before after kept
+    (keep_wake c.args.topo.now.late x c.args.p before after (log_answer c.wake-answer.result) (λ l h. (c.requires.fits.fits c.args.b x was).late c.args.p l h) (λ l h. c.requires.fits.whole c.args.b c.args.p x l was h) (c.requires.stands tells c.args.b x was) (e.goes_on tells) (e.others tells)
     (mark_logs_at c.args.topo.now x c.args.p c.args.self.now.now) (cut_logs_at c.args.topo.now x c.args.p c.args.self.now.now) (λ none m. ap (λ d. g.D.Disk.lane_of d m) (e.below none)) (e.lane tells))

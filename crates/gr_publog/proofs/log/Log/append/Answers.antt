@@ -3,6 +3,7 @@ use Rattle.std.proofs.Common.{List, Some, refl, ap, ◌∙◌, arith}
 use Rattle.gr_publog.specs.declared.record.Entry.{Entry}
 use Rattle.gr_publog.specs.State.{live_after}
 use Rattle.gr_publog.proofs.Live.{live_is}
+use Rattle.gr_publog.proofs.Joins.{may_there}
 use Rattle.gr_publog.proofs.Crash.{log_more}
 use Rattle.gr_publog.proofs.Calling.{appends_refused, appends_failed, appends_ok}
 use Rattle.gr_publog.proofs.Onward.{goes_on_same}
@@ -10,6 +11,9 @@ use Rattle.gr_publog.proofs.log.Log.append.Goals as goal
 
 pub returns-in-Err-clause-lane : goal.returns-in-Err-clause-lane
 returns-in-Err-clause-lane g c = λ t. appends_refused c.args.self.now (Some c.args.entry.now) _ _ (c.requires.stands t) refl
+
+pub returns-in-Err-joins_with-clause-lane : goal.returns-in-Err-joins_with-clause-lane
+returns-in-Err-joins_with-clause-lane g c = λ t. appends_refused c.args.self.now (Some c.args.entry.now) _ _ (c.requires.stands t) refl
 
 pub returns-in-Err-prepare-clause-lane : goal.returns-in-Err-prepare-clause-lane
 returns-in-Err-prepare-clause-lane g c = λ t.
@@ -62,9 +66,19 @@ returns-in-Err-prepare-clause-goes_on g c = λ t.
 
 -- What is kept
 
+pub joins_with-requires : goal.joins_with-requires
+joins_with-requires g c =
+    let f = rw (← c.self.view_is) at c.requires.follows in
+    may_there c.self.inside.standing c.self.inside.history.records c.args.entry.now c.self.invariant.1 f
+
+pub note-requires-clause-follows : goal.note-requires-clause-follows
+note-requires-clause-follows g c =
+    let f = rw (← c.self.view_is) at c.requires.follows in
+    may_there c.self.inside.standing c.self.inside.history.records c.args.entry.now c.self.invariant.1 f
+
 pub note_record-requires-clause-rise : goal.note_record-requires-clause-rise
 note_record-requires-clause-rise g c =
-    live_is c.self.inside.history.records c.reserve.new.self.items c.self.invariant.2 (c.reserve.ensures.items ∙ c.events.view_is ∙ c.self.invariant.3)
+    live_is c.self.inside.standing.late c.self.inside.history.records c.reserve.new.self.items c.self.invariant.2 (c.reserve.ensures.items ∙ c.events.view_is ∙ c.self.invariant.3)
 
 pub invariant_of-self-2 : goal.invariant_of-self-2
 invariant_of-self-2 g c =

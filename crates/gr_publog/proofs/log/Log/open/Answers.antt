@@ -13,7 +13,7 @@ returns-in-Ok-write_empty-clause-opens g c = λ t.
     let short : length (content before) ≤ 6 = omega (arith, c.in-Ok.ensures.size t, c.if-size-le6.true) in
     let e = c.in-Ok.ensures in
     let w = c.in-Ok-write_empty.ensures in
-    opens_empty before mid after short (e.calls t) (e.reserved t) (e.unset t) (e.any_moment t) (w.unset t) (w.any_moment t) c.empty.result (ap (λ (v : LogView). v.records) c.empty.ensures) (w.written t) (w.only t) (w.calls t) (w.reserved t)
+    opens_empty c.args.late.now before mid after short (e.calls t) (e.reserved t) (e.unset t) (e.any_moment t) (w.unset t) (w.any_moment t) c.empty.result (ap (λ (v : LogView). v.records) c.empty.ensures) (w.written t) (w.only t) (w.calls t) (w.reserved t)
 
 pub returns-in-Err-write_empty-clause-opens : goal.returns-in-Err-write_empty-clause-opens
 returns-in-Err-write_empty-clause-opens g c = λ t.
@@ -23,4 +23,4 @@ returns-in-Err-write_empty-clause-opens g c = λ t.
     let short : length (content before) ≤ 6 = omega (arith, c.in-Ok.ensures.size t, c.if-size-le6.true) in
     let e = c.in-Ok.ensures in
     let w = c.in-Err-write_empty.ensures in
-    opens_failed before mid after short (e.calls t) (e.reserved t) (e.unset t) (e.any_moment t) (w.unset t) (w.any_moment t)
+    opens_failed c.args.late.now before mid after short (e.calls t) (e.reserved t) (e.unset t) (e.any_moment t) (w.unset t) (w.any_moment t)

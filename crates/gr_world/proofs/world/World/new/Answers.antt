@@ -29,7 +29,7 @@ returns-clause-found g c =
     let told = c.in-Ok.opened.told in
     let one = c.in-Ok.ensures in
     let before = g.D.Disk.lane_of c.args.disk.now in
-    subst (λ (fs : List (List ℕ)). (p : ℕ) → p < length t.publishers → IsRead (log_at (world_at t brokers told fs) p) (content (before (2 * p)))) (sym c.new.ensures)
+    subst (λ (fs : List (List ℕ)). (p : ℕ) → p < length t.publishers → IsRead t.late (log_at (world_at t brokers told fs) p) (content (before (2 * p)))) (sym c.new.ensures)
     (opened_found t brokers told one.topology one.started before (g.D.Disk.lane_of c.start_brokers.new.disk) one.opened)
 
 pub returns-clause-fresh : goal.returns-clause-fresh

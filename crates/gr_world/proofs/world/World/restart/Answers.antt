@@ -33,7 +33,7 @@ returns-in-Ok-clause-found g c =
     let fits = subst (λ (x : WorldView). IsWorld x) (sym c.self.view_is) c.requires.fits in
     let j = subst (λ (x : WorldView). b < length x.topo.brokers) (sym c.self.view_is) c.requires.broker in
     let before = g.D.Disk.lane_of c.args.disk.now in
-    subst (λ (old : WorldView). (p : ℕ) → p < length old.topo.publishers → host_of old.topo p ≡ b → IsRead (log_at (with_brokers w brokers None) p) (crash_image (before (2 * p)))) c.self.view_is
+    subst (λ (old : WorldView). (p : ℕ) → p < length old.topo.publishers → host_of old.topo p ≡ b → IsRead old.topo.late (log_at (with_brokers w brokers None) p) (crash_image (before (2 * p)))) c.self.view_is
     (again_found w b brokers c.in-Ok.lines fits j c.in-Ok.ensures.exchanged before (g.D.Disk.lane_of c.start_again.new.disk) c.in-Ok.ensures.opened)
 
 pub returns-in-Ok-clause-fits : goal.returns-in-Ok-clause-fits
@@ -48,7 +48,7 @@ returns-in-Ok-clause-lanes g c = λ some.
     let before = g.D.Disk.lane_of c.args.disk.now in
     let fits = subst (λ (x : WorldView). IsWorld x) (sym c.self.view_is) c.requires.fits in
     let j = subst (λ (x : WorldView). b < length x.topo.brokers) (sym c.self.view_is) c.requires.broker in
-    let readable = subst (λ (x : WorldView). (p : ℕ) → p < length x.topo.publishers → IsReadable (before (2 * p))) (sym c.self.view_is) c.requires.readable in
+    let readable = subst (λ (x : WorldView). (p : ℕ) → p < length x.topo.publishers → IsReadable x.topo.late (before (2 * p))) (sym c.self.view_is) c.requires.readable in
     let others = subst (λ (x : WorldView). (p : ℕ) (l : LogView) → p < length x.topo.publishers → host_of x.topo p ≢ b → log_at x p ≡ Some l → LaneFits l (before (2 * p))) (sym c.self.view_is) c.requires.others in
     again_lanes (the_view c.self.inside) b c.start_again.new.brokers.items c.in-Ok.lines fits j c.in-Ok.ensures.exchanged before (g.D.Disk.lane_of c.start_again.new.disk) c.in-Ok.ensures.opened
     c.in-Ok.ensures.touches readable others
@@ -59,7 +59,7 @@ returns-in-Err-clause-faults g c = λ e is.
     let f = c.in-Err.fault in
     let before = g.D.Disk.lane_of c.args.disk.now in
     let t = c.self.inside.topology in
-    let readable = subst (λ (x : WorldView). (p : ℕ) → p < length x.topo.publishers → IsReadable (before (2 * p))) (sym c.self.view_is) c.requires.readable in
+    let readable = subst (λ (x : WorldView). (p : ℕ) → p < length x.topo.publishers → IsReadable x.topo.late (before (2 * p))) (sym c.self.view_is) c.requires.readable in
     start_faults f e (λ h. c.in-Err.ensures.never_reopen (ap (λ x. Err x) h))
     (λ p at h. let none = c.in-Err.ensures.damaged p at (ap (λ x. Err x) h) in no_log_left t b p at (before (2 * p)) none (readable p none.publisher))
     (sym (err_is c.world_fault.result e is) ∙ c.world_fault.ensures)
@@ -70,7 +70,7 @@ returns-in-Err-clause-lanes g c = λ some.
     let f = c.in-Err.fault in
     let before = g.D.Disk.lane_of c.args.disk.now in
     let t = c.self.inside.topology in
-    let readable = subst (λ (x : WorldView). (p : ℕ) → p < length x.topo.publishers → IsReadable (before (2 * p))) (sym c.self.view_is) c.requires.readable in
+    let readable = subst (λ (x : WorldView). (p : ℕ) → p < length x.topo.publishers → IsReadable x.topo.late (before (2 * p))) (sym c.self.view_is) c.requires.readable in
     let others = subst (λ (x : WorldView). (p : ℕ) (l : LogView) → p < length x.topo.publishers → host_of x.topo p ≢ b → log_at x p ≡ Some l → LaneFits l (before (2 * p))) (sym c.self.view_is) c.requires.others in
     let down = start_failed f c.world_fault.result b c.down_after-self-inside.result (λ h. c.in-Err.ensures.never_reopen (ap (λ x. Err x) h))
     (λ p at h. let none = c.in-Err.ensures.damaged p at (ap (λ x. Err x) h) in no_log_left t b p at (before (2 * p)) none (readable p none.publisher))
