@@ -1,6 +1,7 @@
 //! Brokers: one broker of a topology, with what it knows and asks of each publisher and the logs of the publishers that
 //! are here.
-//!
+#![tactic(auto)]
+
 //! A call takes the topology, a moment and what came, and answers what is told and sent. It first works out what it
 //! will say by reading, then takes the memory for every edit, then edits in place, which cannot fail. So a call that
 //! wants memory has changed nothing.
@@ -21,7 +22,6 @@
 //!
 //! What these calls do tick by tick is said by the rules `Publishes`, `HostWakes`, `Wakes`, and `Comes` for a frame, in
 //! `gr_model_calls/specs/Rules.antt`. What is learned, asked and answered for one publisher is in `gr_broker_relay`.
-#![tactic(auto)]
 
 mod broker;
 mod hosting;

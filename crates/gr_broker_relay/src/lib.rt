@@ -1,6 +1,7 @@
 //! What a broker does for one publisher: it learns what comes, hands it over and forwards it to its children, answers
 //! what they ask, asks upstream for what is unknown, and at the host says how far the log is to be cut.
-//!
+#![tactic(auto)]
+
 //! A call looks at a `Site`, where the broker stands in the publisher's tree, and edits a `Held`, what it keeps of that
 //! publisher. Each is one equation with a call of the machine in `gr_model/specs/Broker.antt`: `learn`, `curiosity`,
 //! `wake_below`, `expect` and `expect_frames`. `Tells` and `Adds` in `specs/Told.antt` say what is told and sent,
@@ -22,7 +23,6 @@
 //! | `outcome` | What a call tells and sends. | `Outcome` | `Told` |
 //!
 //! The rules say what each call does tick by tick; they are in `gr_model_calls/specs/Rules.antt`.
-#![tactic(auto)]
 
 mod answering;
 mod asking;

@@ -1,6 +1,7 @@
 //! The world of a schedule: all brokers of a topology, and the frames between them in their bytes. Each call carries
 //! out one step of the schedule, and is that step of the machine of definitions.
-//!
+#![tactic(auto)]
+
 //! `specs/Seen.antt` says what a contract sees of a world, `specs/Steps.antt` when a call is a step of the machine or
 //! is refused, `specs/Of.antt` what holds between calls.
 //!
@@ -23,7 +24,6 @@
 //!
 //! Of these, a name in small letters is the machine's, in `gr_model/specs/World.antt`, if no file is named with it; one
 //! with a capital is a file of `specs`, if none is.
-#![tactic(auto)]
 
 mod calls;
 mod copying;
