@@ -6,7 +6,7 @@ from explain_text import NAME, NAMES, Fault, filter_fault, lines_of, listed, nea
 
 KEYS = {'': ('brokers', 'links', 'publisher', 'subscriber', 'addresses', 'clients', 'settings'),
         'publisher': ('name', 'at'), 'subscriber': ('name', 'at', 'filter', 'late', 'total'),
-        'settings': ('gap', 'idle', 'retry', 'quiet', 'cache')}
+        'settings': ('gap', 'idle', 'retry', 'quiet', 'cache', 'reclaim')}
 TYPES = {
     'brokers': 'it is an array of names, as brokers = ["A", "B"]',
     'links': 'it is an array of links, each of two names of brokers, as links = [["A", "B"]]',
@@ -247,8 +247,9 @@ def bad_name(part, lines, name):
 
 def bad_range(part, lines, key):
     """A setting that is out of its range."""
-    most = '1,000,000' if key == 'cache' else '1,000,000,000 milliseconds'
-    return Fault(*part.key('settings', 0, key), 'the setting `%s` is out of range' % key, 'it is 1 to ' + most)
+    ranges = {'cache': '1 to 1,000,000', 'reclaim': '64 to 1,000,000,000 bytes'}
+    among = ranges.get(key, '1 to 1,000,000,000 milliseconds')
+    return Fault(*part.key('settings', 0, key), 'the setting `%s` is out of range' % key, 'it is ' + among)
 
 
 def too_many(part, lines, what):

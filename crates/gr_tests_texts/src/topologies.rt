@@ -318,6 +318,7 @@ fn put_settings(settings: &Settings, page: &mut Page) {
     put_counted(" retry ", settings.retry, page);
     put_counted(" quiet ", settings.quiet, page);
     put_counted(" cache ", u64::from(settings.cache), page);
+    put_counted(" reclaim ", u64::from(settings.reclaim), page);
     page.push('\n');
 }
 

@@ -67,7 +67,7 @@ blank_sound = record {
   home_in = λ s h. home_two s;
   links = two_within;
   tree = one_tree;
-  settings = record { gap = (omega arith, omega arith); idle = (omega arith, omega arith); retry = (omega arith, omega arith); quiet = (omega arith, omega arith); cache = (omega arith, omega arith) };
+  settings = record { gap = (omega arith, omega arith); idle = (omega arith, omega arith); retry = (omega arith, omega arith); quiet = (omega arith, omega arith); cache = (omega arith, omega arith); reclaim = (omega arith, omega arith) };
 }
 
 -- a view with the parts of the blank topology is it

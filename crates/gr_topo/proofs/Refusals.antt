@@ -11,7 +11,7 @@ use Rattle.gr_tree.specs.Walks.{is_tree}
 use Rattle.gr_topo.specs.declared.fault.TopoFault.{TopoFault}
 use Rattle.gr_topo.specs.declared.fault.TopoFault.TheVariants as fault
 use Rattle.gr_topo.specs.declared.limits.TheConstants.{MAX_BROKERS, MAX_PUBLISHERS, MAX_SUBSCRIBERS, MAX_LATE}
-use Rattle.gr_topo.specs.declared.settings.TheConstants.{MOST_TIME, MOST_CACHE}
+use Rattle.gr_topo.specs.declared.settings.TheConstants.{MOST_TIME, MOST_CACHE, LEAST_RECLAIM, MOST_RECLAIM}
 use Rattle.gr_topo.specs.declared.settings.WrittenSettings.{WrittenSettings}
 use Rattle.gr_topo.specs.declared.draft.FoundEntry.{FoundEntry}
 use Rattle.gr_topo.specs.Draft.{DraftLists, no_addresses, no_entries}
@@ -111,7 +111,8 @@ setting found m =
     (either (bytes_eq m.0 (codes "gap")) _ _ (both (integer_in m.0 m.1) _ (integers m.0 m.1) (λ z. tt))
     (either (bytes_eq m.0 (codes "idle")) _ _ (both (integer_in m.0 m.1) _ (integers m.0 m.1) (λ z. tt))
     (either (bytes_eq m.0 (codes "quiet")) _ _ (both (integer_in m.0 m.1) _ (integers m.0 m.1) (λ z. tt))
-    (either (bytes_eq m.0 (codes "retry")) _ _ (both (integer_in m.0 m.1) _ (integers m.0 m.1) (λ z. tt)) tt))))
+    (either (bytes_eq m.0 (codes "reclaim")) _ _ (both (integer_in m.0 m.1) _ (integers m.0 m.1) (λ z. tt))
+    (either (bytes_eq m.0 (codes "retry")) _ _ (both (integer_in m.0 m.1) _ (integers m.0 m.1) (λ z. tt)) tt)))))
 
 root : (found : DraftLists) (m : List ℕ × Data) → Safe (root_key found m)
 unfolding root_key
@@ -162,18 +163,19 @@ resolved brokers d =
     both (numbers_in d.publishers.names d.clients.names) _ (all (number_in d.publishers.names) publisher d.clients.names) (λ c.
     both (tree_of (length brokers) links) _ (tests (is_tree (length brokers) links) fault.NotTree tt) (λ t. tt)))))))
 
-ranges : (key : List ℕ) (most : ℕ) (z : ℤ) → Safe (in_range key most z)
-ranges key most (pos n) = either (nat_le 1 n && nat_le n most) _ _ tt tt
-ranges key most (negsuc n) = tt
+ranges : (key : List ℕ) (least most : ℕ) (z : ℤ) → Safe (in_range key least most z)
+ranges key least most (pos n) = either (nat_le least n && nat_le n most) _ _ tt tt
+ranges key least most (negsuc n) = tt
 
 settings : (w : WrittenSettings) → Safe (settings_of w)
 unfolding settings_of
 settings w =
-    both (in_range (codes "gap") MOST_TIME w.gap) _ (ranges (codes "gap") MOST_TIME w.gap) (λ a.
-    both (in_range (codes "idle") MOST_TIME w.idle) _ (ranges (codes "idle") MOST_TIME w.idle) (λ b.
-    both (in_range (codes "retry") MOST_TIME w.retry) _ (ranges (codes "retry") MOST_TIME w.retry) (λ c.
-    both (in_range (codes "quiet") MOST_TIME w.quiet) _ (ranges (codes "quiet") MOST_TIME w.quiet) (λ d.
-    both (in_range (codes "cache") MOST_CACHE w.cache) _ (ranges (codes "cache") MOST_CACHE w.cache) (λ e. tt)))))
+    both (in_range (codes "gap") 1 MOST_TIME w.gap) _ (ranges (codes "gap") 1 MOST_TIME w.gap) (λ a.
+    both (in_range (codes "idle") 1 MOST_TIME w.idle) _ (ranges (codes "idle") 1 MOST_TIME w.idle) (λ b.
+    both (in_range (codes "retry") 1 MOST_TIME w.retry) _ (ranges (codes "retry") 1 MOST_TIME w.retry) (λ c.
+    both (in_range (codes "quiet") 1 MOST_TIME w.quiet) _ (ranges (codes "quiet") 1 MOST_TIME w.quiet) (λ d.
+    both (in_range (codes "cache") 1 MOST_CACHE w.cache) _ (ranges (codes "cache") 1 MOST_CACHE w.cache) (λ e.
+    both (in_range (codes "reclaim") LEAST_RECLAIM MOST_RECLAIM w.reclaim) _ (ranges (codes "reclaim") LEAST_RECLAIM MOST_RECLAIM w.reclaim) (λ f. tt))))))
 
 -- want of memory of a filter is that of the whole
 read_filter : (name : List ℕ) (r : Result Tree FilterFault) → Safe (filter_or_fault name r)

@@ -96,34 +96,36 @@ links_within brokers pairs links h =
 
 -- ---- settings
 
-range_of : (key : List ℕ) (most : ℕ) (z : ℤ) (n : ℕ) → in_range key most z ≡ Ok n → (1 ≤ n) × (n ≤ most)
-range_of key most (pos k) n h = elim (cases_Bool (nat_le 1 k && nat_le k most)) [
+range_of : (key : List ℕ) (least most : ℕ) (z : ℤ) (n : ℕ) → in_range key least most z ≡ Ok n → (least ≤ n) × (n ≤ most)
+range_of key least most (pos k) n h = elim (cases_Bool (nat_le least k && nat_le k most)) [
   | inl e ↦
-      let same : k ≡ n = ok_same k n (sym (cond-true (nat_le 1 k && nat_le k most) (Ok k) _ e) ∙ h) in
-      let parts = and_parts (nat_le 1 k) (nat_le k most) e in
-      (omega (arith, leb-true 1 k parts.0, same), omega (arith, leb-true k most parts.1, same))
-  | inr e ↦ absurd (err_ok (sym (cond-false (nat_le 1 k && nat_le k most) (Ok k) _ e) ∙ h))
+      let same : k ≡ n = ok_same k n (sym (cond-true (nat_le least k && nat_le k most) (Ok k) _ e) ∙ h) in
+      let parts = and_parts (nat_le least k) (nat_le k most) e in
+      (omega (arith, leb-true least k parts.0, same), omega (arith, leb-true k most parts.1, same))
+  | inr e ↦ absurd (err_ok (sym (cond-false (nat_le least k && nat_le k most) (Ok k) _ e) ∙ h))
 ]
   where
     err_ok : {f : TopoFault} → Err f ≡ Ok n → ⊥
     err_ok h = cc
-range_of key most (negsuc k) n h = cc
+range_of key least most (negsuc k) n h = cc
 
 pub settings_within : (w : WrittenSettings) (s : Settings) → settings_of w ≡ Ok s → IsInRange s
 unfolding settings_of
 settings_within w s h =
-    let gap = first_gave (in_range (codes "gap") 1000000000 w.gap) _ s h in
-    let idle = first_gave (in_range (codes "idle") 1000000000 w.idle) _ s gap.2 in
-    let retry = first_gave (in_range (codes "retry") 1000000000 w.retry) _ s idle.2 in
-    let quiet = first_gave (in_range (codes "quiet") 1000000000 w.quiet) _ s retry.2 in
-    let cache = first_gave (in_range (codes "cache") 1000000 w.cache) _ s quiet.2 in
-    let made : ◌≡◌ {A = Settings} (record { gap = gap.0; idle = idle.0; retry = retry.0; quiet = quiet.0; cache = cache.0 }) s = ok_same _ _ cache.2 in
+    let gap = first_gave (in_range (codes "gap") 1 1000000000 w.gap) _ s h in
+    let idle = first_gave (in_range (codes "idle") 1 1000000000 w.idle) _ s gap.2 in
+    let retry = first_gave (in_range (codes "retry") 1 1000000000 w.retry) _ s idle.2 in
+    let quiet = first_gave (in_range (codes "quiet") 1 1000000000 w.quiet) _ s retry.2 in
+    let cache = first_gave (in_range (codes "cache") 1 1000000 w.cache) _ s quiet.2 in
+    let reclaim = first_gave (in_range (codes "reclaim") 64 1000000000 w.reclaim) _ s cache.2 in
+    let made : ◌≡◌ {A = Settings} (record { gap = gap.0; idle = idle.0; retry = retry.0; quiet = quiet.0; cache = cache.0; reclaim = reclaim.0 }) s = ok_same _ _ reclaim.2 in
     subst IsInRange made (record {
-      gap = range_of (codes "gap") 1000000000 w.gap gap.0 gap.1;
-      idle = range_of (codes "idle") 1000000000 w.idle idle.0 idle.1;
-      retry = range_of (codes "retry") 1000000000 w.retry retry.0 retry.1;
-      quiet = range_of (codes "quiet") 1000000000 w.quiet quiet.0 quiet.1;
-      cache = range_of (codes "cache") 1000000 w.cache cache.0 cache.1;
+      gap = range_of (codes "gap") 1 1000000000 w.gap gap.0 gap.1;
+      idle = range_of (codes "idle") 1 1000000000 w.idle idle.0 idle.1;
+      retry = range_of (codes "retry") 1 1000000000 w.retry retry.0 retry.1;
+      quiet = range_of (codes "quiet") 1 1000000000 w.quiet quiet.0 quiet.1;
+      cache = range_of (codes "cache") 1 1000000 w.cache cache.0 cache.1;
+      reclaim = range_of (codes "reclaim") 64 1000000000 w.reclaim reclaim.0 reclaim.1;
     })
 
 -- ---- columns

@@ -12,7 +12,7 @@ use Rattle.gr_tree.specs.Walks.{is_tree}
 use Rattle.gr_topo.specs.declared.fault.TopoFault.{TopoFault}
 use Rattle.gr_topo.specs.declared.fault.TopoFault.TheVariants.{Memory, Twice, Unknown, NotTree, BadFilter, TooMany}
 use Rattle.gr_topo.specs.declared.fault.TopoFault.TheVariants.{BadAddress, BadName, BadRange}
-use Rattle.gr_topo.specs.declared.settings.TheConstants.{MOST_TIME, MOST_CACHE}
+use Rattle.gr_topo.specs.declared.settings.TheConstants.{MOST_TIME, MOST_CACHE, LEAST_RECLAIM, MOST_RECLAIM}
 use Rattle.gr_topo.specs.declared.settings.Settings.{Settings}
 use Rattle.gr_topo.specs.declared.settings.WrittenSettings.{WrittenSettings}
 use Rattle.gr_topo.specs.Draft.{AddressLists}
@@ -71,19 +71,20 @@ tree_of brokers links = passes (is_tree brokers links) NotTree
 
 -- ---- settings
 
--- an integer from 1 to the most
-abbrev pub in_range : List ℕ → ℕ → ℤ → Result ℕ TopoFault
-in_range key most (pos n) = if nat_le 1 n && nat_le n most then Ok n else Err (BadRange key)
-in_range key most (negsuc n) = Err (BadRange key)
+-- an integer from the least to the most
+abbrev pub in_range : List ℕ → ℕ → ℕ → ℤ → Result ℕ TopoFault
+in_range key least most (pos n) = if nat_le least n && nat_le n most then Ok n else Err (BadRange key)
+in_range key least most (negsuc n) = Err (BadRange key)
 
 unfoldable pub settings_of : WrittenSettings → Result Settings TopoFault
 settings_of w = do
-  gap ← in_range (codes "gap") MOST_TIME w.gap
-  idle ← in_range (codes "idle") MOST_TIME w.idle
-  retry ← in_range (codes "retry") MOST_TIME w.retry
-  quiet ← in_range (codes "quiet") MOST_TIME w.quiet
-  cache ← in_range (codes "cache") MOST_CACHE w.cache
-  Ok (record { gap = gap; idle = idle; retry = retry; quiet = quiet; cache = cache })
+  gap ← in_range (codes "gap") 1 MOST_TIME w.gap
+  idle ← in_range (codes "idle") 1 MOST_TIME w.idle
+  retry ← in_range (codes "retry") 1 MOST_TIME w.retry
+  quiet ← in_range (codes "quiet") 1 MOST_TIME w.quiet
+  cache ← in_range (codes "cache") 1 MOST_CACHE w.cache
+  reclaim ← in_range (codes "reclaim") LEAST_RECLAIM MOST_RECLAIM w.reclaim
+  Ok (record { gap = gap; idle = idle; retry = retry; quiet = quiet; cache = cache; reclaim = reclaim })
 
 -- ---- filters
 

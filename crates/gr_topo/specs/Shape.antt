@@ -116,7 +116,14 @@ addresses_in key d = table_in key d >>= walk one_address no_addresses
 
 -- what a setting is that is not written
 abbrev pub default_settings : WrittenSettings
-default_settings = record { gap = pos 200; idle = pos 1000; retry = pos 500; quiet = pos 1000; cache = pos 1024 }
+default_settings = record {
+  gap = pos 200;
+  idle = pos 1000;
+  retry = pos 500;
+  quiet = pos 1000;
+  cache = pos 1024;
+  reclaim = pos 65536;
+}
 
 unfoldable pub one_setting : WrittenSettings → List ℕ × Data → Result WrittenSettings TopoFault
 one_setting found m =
@@ -124,8 +131,9 @@ one_setting found m =
     else (if bytes_eq m.0 (codes "gap") then (integer_in m.0 m.1 >>= λ z. Ok (record found { gap = z }))
     else (if bytes_eq m.0 (codes "idle") then (integer_in m.0 m.1 >>= λ z. Ok (record found { idle = z }))
     else (if bytes_eq m.0 (codes "quiet") then (integer_in m.0 m.1 >>= λ z. Ok (record found { quiet = z }))
+    else (if bytes_eq m.0 (codes "reclaim") then (integer_in m.0 m.1 >>= λ z. Ok (record found { reclaim = z }))
     else (if bytes_eq m.0 (codes "retry") then (integer_in m.0 m.1 >>= λ z. Ok (record found { retry = z }))
-    else Err (BadKey m.0)))))
+    else Err (BadKey m.0))))))
 
 abbrev pub settings_in : List ℕ → Data → Result WrittenSettings TopoFault
 settings_in key d = table_in key d >>= walk one_setting default_settings

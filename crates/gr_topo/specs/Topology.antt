@@ -10,7 +10,7 @@ use Rattle.gr_tree.specs.declared.link.Link.{Link}
 use Rattle.gr_tree.specs.Walks.{numbers, is_linked, IsWithin, is_tree, distance, up_of, path_of, IsRooted, HasOnlyPaths}
 use Rattle.gr_topo.specs.Names.{is_name, is_address}
 use Rattle.gr_topo.specs.declared.limits.TheConstants.{MAX_BROKERS, MAX_PUBLISHERS, MAX_SUBSCRIBERS, MAX_LATE}
-use Rattle.gr_topo.specs.declared.settings.TheConstants.{MOST_TIME, MOST_CACHE}
+use Rattle.gr_topo.specs.declared.settings.TheConstants.{MOST_TIME, MOST_CACHE, LEAST_RECLAIM, MOST_RECLAIM}
 use Rattle.gr_topo.specs.declared.settings.Settings.{Settings}
 
 -- Brokers, publishers and subscribers by their numbers, from 0: the names of each; the links between brokers; the
@@ -157,6 +157,7 @@ pub record IsInRange (s : Settings) : Type 0 where
   pub retry : (1 ≤ s.retry) × (s.retry ≤ MOST_TIME)
   pub quiet : (1 ≤ s.quiet) × (s.quiet ≤ MOST_TIME)
   pub cache : (1 ≤ s.cache) × (s.cache ≤ MOST_CACHE)
+  pub reclaim : (LEAST_RECLAIM ≤ s.reclaim) × (s.reclaim ≤ MOST_RECLAIM)
 
 -- each is a name, and is found back under its number, so no two are the same
 pub record AreNames (names : List (List ℕ)) : Type 0 where
@@ -198,7 +199,7 @@ pub record IsTopology (t : TopologyView) : Type 0 where
 -- ---- what stands for an empty topology part
 
 abbrev pub default_values : Settings
-default_values = record { gap = 200; idle = 1000; retry = 500; quiet = 1000; cache = 1024 }
+default_values = record { gap = 200; idle = 1000; retry = 500; quiet = 1000; cache = 1024; reclaim = 65536 }
 
 -- brokers A and B, linked; publisher P at A; subscriber S at B, who wants every event
 abbrev pub blank : TopologyView

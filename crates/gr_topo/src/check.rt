@@ -12,18 +12,20 @@ ghost use Rattle.gr_topo.specs.Checks.{is_address, good_address, address_in, add
 use crate::draft::Addresses;
 use crate::fault::TopoFault;
 use crate::names::place_of;
-use crate::settings::{MOST_CACHE, MOST_TIME, Settings, WrittenSettings};
+use crate::settings::{
+    LEAST_RECLAIM, MOST_CACHE, MOST_RECLAIM, MOST_TIME, Settings, WrittenSettings,
+};
 use gr_event::Text;
 use gr_filter::{Filter, FilterFault};
 use gr_sched::is_number_in;
 use std::alloc::Global;
 
-/// A setting from 1 to the most.
-fn in_range(alloc: Global, key: &str, most: u64, written: i64) -> Result<u64, TopoFault>
-    requires { most < 9223372036854775808 }
-    ensures { Gives (λ n. n) result (in_range key.now most written) }
+/// A setting from the least to the most.
+fn in_range(alloc: Global, key: &str, least: u64, most: u64, written: i64) -> Result<u64, TopoFault>
+    requires { (least < 9223372036854775808) × (most < 9223372036854775808) }
+    ensures { Gives (λ n. n) result (in_range key.now least most written) }
 {
-    if 1 <= written && written <= most as i64 {
+    if least as i64 <= written && written <= most as i64 {
         return Ok(written as u64);
     }
     Err(TopoFault::BadRange {
@@ -36,17 +38,25 @@ fn in_range(alloc: Global, key: &str, most: u64, written: i64) -> Result<u64, To
 pub(crate) fn settings_of(alloc: Global, written: WrittenSettings) -> Result<Settings, TopoFault>
     ensures { Gives (λ s. s) result (settings_of written) }
 {
-    let gap = in_range(alloc, "gap", MOST_TIME, written.gap)?;
-    let idle = in_range(alloc, "idle", MOST_TIME, written.idle)?;
-    let retry = in_range(alloc, "retry", MOST_TIME, written.retry)?;
-    let quiet = in_range(alloc, "quiet", MOST_TIME, written.quiet)?;
-    let cache = in_range(alloc, "cache", MOST_CACHE, written.cache)?;
+    let gap = in_range(alloc, "gap", 1, MOST_TIME, written.gap)?;
+    let idle = in_range(alloc, "idle", 1, MOST_TIME, written.idle)?;
+    let retry = in_range(alloc, "retry", 1, MOST_TIME, written.retry)?;
+    let quiet = in_range(alloc, "quiet", 1, MOST_TIME, written.quiet)?;
+    let cache = in_range(alloc, "cache", 1, MOST_CACHE, written.cache)?;
+    let reclaim = in_range(
+        alloc,
+        "reclaim",
+        LEAST_RECLAIM,
+        MOST_RECLAIM,
+        written.reclaim,
+    )?;
     Ok(Settings {
         gap,
         idle,
         retry,
         quiet,
         cache: cache as u32,
+        reclaim: reclaim as u32,
     })
 }
 

@@ -3,7 +3,7 @@
 ghost use Rattle.std.specs.Prelude.{◌≡◌};
 ghost use Rattle.gr_topo.specs.declared.limits.TheConstants.{MAX_BROKERS, MAX_PUBLISHERS, MAX_SUBSCRIBERS, MAX_LATE};
 ghost use Rattle.gr_topo.specs.declared.limits.TheConstants.{MAX_NAME};
-ghost use Rattle.gr_topo.specs.declared.settings.TheConstants.{MOST_TIME, MOST_CACHE};
+ghost use Rattle.gr_topo.specs.declared.settings.TheConstants.{MOST_TIME, MOST_CACHE, LEAST_RECLAIM, MOST_RECLAIM};
 ghost use Rattle.gr_topo.specs.Topology.{default_values};
 
 /// How many brokers a topology has at most.
@@ -30,5 +30,13 @@ pub fn limits_of_topologies()
     ensures name { MAX_NAME ≡ 64 }
     ensures time { MOST_TIME ≡ 1000000000 }
     ensures cache { MOST_CACHE ≡ 1000000 }
-    ensures defaults { default_values ≡ record { gap = 200; idle = 1000; retry = 500; quiet = 1000; cache = 1024 } }
+    ensures reclaim { (LEAST_RECLAIM ≡ 64) × (MOST_RECLAIM ≡ 1000000000) }
+    ensures defaults { default_values ≡ record {
+      gap = 200;
+      idle = 1000;
+      retry = 500;
+      quiet = 1000;
+      cache = 1024;
+      reclaim = 65536;
+    } }
 {}

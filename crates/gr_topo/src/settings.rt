@@ -6,8 +6,14 @@ pub const MOST_TIME: u64 = 1_000_000_000;
 /// The greatest value of `cache`.
 pub const MOST_CACHE: u64 = 1_000_000;
 
+/// The least value of `reclaim`.
+pub const LEAST_RECLAIM: u64 = 64;
+
+/// The greatest value of `reclaim`.
+pub const MOST_RECLAIM: u64 = 1_000_000_000;
+
 /// The settings of a run. The first four are milliseconds, from 1 to 1,000,000,000; `cache` is a count of ticks,
-/// from 1 to 1,000,000.
+/// from 1 to 1,000,000; `reclaim` is a count of bytes, from 64 to 1,000,000,000.
 #[derive(Clone, Copy, Debug, PartialEq, Eq)]
 pub struct Settings {
     /// The age at which a tick is asked for where something later is known. Default 200.
@@ -20,6 +26,8 @@ pub struct Settings {
     pub quiet: u64,
     /// How many event ticks a broker below the host keeps for a publisher. Default 1,024.
     pub cache: u32,
+    /// The length of a log's text from which a cut writes the log anew. Default 65,536. No call reads it yet.
+    pub reclaim: u32,
 }
 
 /// The settings as they are written, before their ranges are tested.
@@ -35,4 +43,6 @@ pub struct WrittenSettings {
     pub quiet: i64,
     /// How many event ticks a broker below the host keeps for a publisher.
     pub cache: i64,
+    /// The length of a log's text, in bytes, from which a cut writes the log anew.
+    pub reclaim: i64,
 }

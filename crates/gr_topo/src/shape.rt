@@ -351,6 +351,10 @@ fn one_setting(
         let quiet = integer_in(alloc, key, value)?;
         return Ok(WrittenSettings { quiet, ..found });
     }
+    if key == "reclaim" {
+        let reclaim = integer_in(alloc, key, value)?;
+        return Ok(WrittenSettings { reclaim, ..found });
+    }
     if key == "retry" {
         let retry = integer_in(alloc, key, value)?;
         return Ok(WrittenSettings { retry, ..found });
@@ -370,6 +374,7 @@ fn default_settings() -> WrittenSettings
         retry: 500,
         quiet: 1000,
         cache: 1024,
+        reclaim: 65536,
     }
 }
 

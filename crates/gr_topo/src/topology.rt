@@ -140,6 +140,7 @@ impl Topology {
                 retry: 500,
                 quiet: 1000,
                 cache: 1024,
+                reclaim: 65536,
             },
         };
         Topology::new(alloc, parts)
