@@ -1,87 +1,139 @@
 -- What is asked stays sound and whole, whichever way one more goes in
-use Rattle.std.proofs.Common.{◌≡◌, ◌≤◌, ◌⊎◌, inl, inr, ℕ, zero, suc, Bool, true, false, ◌||◌, List, [], ◌∷◌, ◌++◌, length, Option, Some, None, refl, sym, ap, ap₂, ◌∙◌, arith, length-append}
+use Rattle.std.proofs.Common.{◌≡◌, ◌≤◌, ◌⊎◌, inl, inr, ℕ, zero, suc, Bool, true, false, ◌&&◌, ◌||◌, List, [], ◌∷◌, ◌++◌, length, Option, Some, None, refl, sym, ap, ap₂, ◌∙◌, arith, length-append}
 use Rattle.std.specs.List.{list_any, slice_get}
-use Rattle.std.proofs.lemmas.Bool.{or_cases, or_left, or_right, true≢false}
+use Rattle.std.proofs.lemmas.Bool.{and_parts, and_from, or_cases, or_left, or_right, true≢false}
 use Rattle.std.proofs.lemmas.List.Folds.{list_any-append}
 use Rattle.gr_event.specs.declared.event.Event.{Event}
+use Rattle.gr_event.specs.Joins.{Joins}
 use Rattle.gr_event.specs.Limits.{IsEvent}
 use Rattle.gr_filter.specs.Tree.{Tree}
 use Rattle.gr_filter.specs.Truth.{matches}
 use Rattle.gr_match.specs.Matches.{any}
-use Rattle.gr_edge.specs.Pass.{wants, wanted}
-use Rattle.gr_edge.specs.Asked.{is_missing, IsAsked}
+use Rattle.gr_edge.specs.Pass.{Wanting, wants, is_in_time, wanted}
+use Rattle.gr_edge.specs.Asked.{is_missing, is_open, IsAsked}
 
-more : (all : List (Option Tree)) (f : Option Tree) (e : Event) → wanted (all ++ f ∷ []) e ≡ (wanted all e || (wants f e || false))
-more all f e = list_any-append (λ x. wants x e) all (f ∷ [])
+-- what one subscriber wants
+abbrev pub wants_at : Wanting → Joins → ℕ → Event → Bool
+wants_at w js t e = wants w.filter e && is_in_time w.late js t
 
-wanted_then : (all : List (Option Tree)) (f : Option Tree) (e : Event) → wanted (all ++ f ∷ []) e ≡ true → (wanted all e ≡ true) ⊎ (wants f e ≡ true)
-wanted_then all f e h = elim (or_cases (wanted all e) (wants f e || false) (sym (more all f e) ∙ h)) [
+-- ---- one subscriber more
+
+more : (all : List Wanting) (w : Wanting) (js : Joins) (t : ℕ) (e : Event) → wanted (all ++ w ∷ []) js t e ≡ (wanted all js t e || (wants_at w js t e || false))
+more all w js t e = list_any-append (λ x. wants_at x js t e) all (w ∷ [])
+
+wanted_then : (all : List Wanting) (w : Wanting) (js : Joins) (t : ℕ) (e : Event) → wanted (all ++ w ∷ []) js t e ≡ true → (wanted all js t e ≡ true) ⊎ (wants_at w js t e ≡ true)
+wanted_then all w js t e h = elim (or_cases (wanted all js t e) (wants_at w js t e || false) (sym (more all w js t e) ∙ h)) [
   | inl x ↦ inl x
-  | inr x ↦ elim (or_cases (wants f e) false x) [ inl y ↦ inr y | inr y ↦ absurd (true≢false (sym y)) ]
+  | inr x ↦ elim (or_cases (wants_at w js t e) false x) [ inl y ↦ inr y | inr y ↦ absurd (true≢false (sym y)) ]
 ]
 
-was_wanted : (all : List (Option Tree)) (f : Option Tree) (e : Event) → wanted all e ≡ true → wanted (all ++ f ∷ []) e ≡ true
-was_wanted all f e h = more all f e ∙ or_left (wanted all e) (wants f e || false) h
+was_wanted : (all : List Wanting) (w : Wanting) (js : Joins) (t : ℕ) (e : Event) → wanted all js t e ≡ true → wanted (all ++ w ∷ []) js t e ≡ true
+was_wanted all w js t e h = more all w js t e ∙ or_left (wanted all js t e) (wants_at w js t e || false) h
 
-is_wanted : (all : List (Option Tree)) (f : Option Tree) (e : Event) → wants f e ≡ true → wanted (all ++ f ∷ []) e ≡ true
-is_wanted all f e h = more all f e ∙ or_right (wanted all e) (wants f e || false) (or_left (wants f e) false h)
+is_wanted : (all : List Wanting) (w : Wanting) (js : Joins) (t : ℕ) (e : Event) → wants_at w js t e ≡ true → wanted (all ++ w ∷ []) js t e ≡ true
+is_wanted all w js t e h = more all w js t e ∙ or_right (wanted all js t e) (wants_at w js t e || false) (or_left (wants_at w js t e) false h)
 
-longer : (all : List (Option Tree)) (f : Option Tree) (n : ℕ) → n ≤ length all → n ≤ length (all ++ f ∷ [])
-longer all f n h = omega (arith, length-append all (f ∷ []), h)
+longer : (all : List Wanting) (w : Wanting) (n : ℕ) → n ≤ length all → n ≤ length (all ++ w ∷ [])
+longer all w n h = omega (arith, length-append all (w ∷ []), h)
 
-opens : (all : List (Option Tree)) (f : Option Tree) → list_any is_missing (all ++ f ∷ []) ≡ (list_any is_missing all || (is_missing f || false))
-opens all f = list_any-append is_missing all (f ∷ [])
+opens : (all : List Wanting) (w : Wanting) → list_any is_open (all ++ w ∷ []) ≡ (list_any is_open all || (is_open w || false))
+opens all w = list_any-append is_open all (w ∷ [])
 
--- no filters
-pub asks_nothing : IsAsked [] false []
-asks_nothing = record { open_is = refl; few = omega arith; sound = λ e h. h; whole = λ e r h. h }
-
--- a subscriber without a filter
-pub asks_none : (all : List (Option Tree)) (o : Bool) (asked : List Tree) → IsAsked all o asked → IsAsked (all ++ None ∷ []) true asked
-asks_none all o asked is = record {
-  open_is = sym (opens all None ∙ or_right (list_any is_missing all) true refl);
-  few = longer all None (length asked) is.few;
-  sound = λ e h. was_wanted all None e (is.sound e h);
-  whole = λ e r h. refl;
-}
-
-still : (all : List (Option Tree)) (o : Bool) (f : Tree) → o ≡ list_any is_missing all → o ≡ list_any is_missing (all ++ Some f ∷ [])
-still all o f h = go (list_any is_missing all) (opens all (Some f)) h
+-- an edge is as open as before where the subscriber does not want everything
+still : (all : List Wanting) (o : Bool) (w : Wanting) → is_open w ≡ false → o ≡ list_any is_open all → o ≡ list_any is_open (all ++ w ∷ [])
+still all o w n h = go (list_any is_open all) (opens all w ∙ ap (λ b. list_any is_open all || (b || false)) n) h
   where
-    go : (b : Bool) → list_any is_missing (all ++ Some f ∷ []) ≡ (b || false) → o ≡ b → o ≡ list_any is_missing (all ++ Some f ∷ [])
+    go : (b : Bool) → list_any is_open (all ++ w ∷ []) ≡ (b || false) → o ≡ b → o ≡ list_any is_open (all ++ w ∷ [])
     go true x y = y ∙ sym x
     go false x y = y ∙ sym x
 
+-- ---- ways in
+
+-- nobody
+pub asks_nothing : IsAsked [] false [] []
+asks_nothing = record { open_is = refl; few = omega arith; sound = λ js t e h. h; whole = λ js t e r h. h }
+
+-- a subscriber that wants everything
+pub asks_none : (all : List Wanting) (o : Bool) (asked : List Tree) (lates : List Wanting) → IsAsked all o asked lates → IsAsked (all ++ record { filter = None; late = None } ∷ []) true asked lates
+asks_none all o asked lates is = record {
+  open_is = sym (opens all everything ∙ or_right (list_any is_open all) true refl);
+  few = longer all everything (length asked) is.few;
+  sound = λ js t e h. was_wanted all everything js t e (is.sound js t e h);
+  whole = λ js t e r h. refl;
+}
+  where
+    everything : Wanting
+    everything = record { filter = None; late = None }
+
 -- a filter that is not asked: the edge is open, or what it matches is asked already
-pub left_out : (all : List (Option Tree)) (o : Bool) (asked : List Tree) (f : Tree) → IsAsked all o asked
-    → ((e : Event) → IsEvent e → matches f e ≡ true → (o || any asked e) ≡ true) → IsAsked (all ++ Some f ∷ []) o asked
-left_out all o asked f is has = record {
-  open_is = still all o f is.open_is;
-  few = longer all (Some f) (length asked) is.few;
-  sound = λ e h. was_wanted all (Some f) e (is.sound e h);
-  whole = λ e r h. elim (wanted_then all (Some f) e h) [ inl x ↦ is.whole e r x | inr x ↦ has e r x ];
+pub left_out : (all : List Wanting) (o : Bool) (asked : List Tree) (lates : List Wanting) (w : Wanting) → IsAsked all o asked lates → is_open w ≡ false
+    → ((e : Event) → IsEvent e → wants w.filter e ≡ true → (o || any asked e) ≡ true) → IsAsked (all ++ w ∷ []) o asked lates
+left_out all o asked lates w is n has = record {
+  open_is = still all o w n is.open_is;
+  few = longer all w (length asked) is.few;
+  sound = λ js t e h. was_wanted all w js t e (is.sound js t e h);
+  whole = λ js t e r h. elim (wanted_then all w js t e h) [
+    | inl x ↦ is.whole js t e r x
+    | inr x ↦ or_left (o || any asked e) (wanted lates js t e) (has e r (and_parts (wants w.filter e) (is_in_time w.late js t) x).0)
+  ];
 }
 
--- a filter that is asked
-pub asks_more : (all : List (Option Tree)) (o : Bool) (asked : List Tree) (f : Tree) → IsAsked all o asked → IsAsked (all ++ Some f ∷ []) o (asked ++ f ∷ [])
-asks_more all o asked f is = record {
-  open_is = still all o f is.open_is;
-  few = omega (arith, is.few, length-append asked (f ∷ []), length-append all (Some f ∷ []));
-  sound = λ e h. elim (or_cases (any asked e) (matches f e || false) (sym (asked_more e) ∙ h)) [
-    | inl x ↦ was_wanted all (Some f) e (is.sound e x)
-    | inr x ↦ elim (or_cases (matches f e) false x) [ inl y ↦ is_wanted all (Some f) e y | inr y ↦ absurd (true≢false (sym y)) ]
-  ];
-  whole = λ e r h. elim (wanted_then all (Some f) e h) [
-    | inl x ↦ elim (or_cases o (any asked e) (is.whole e r x)) [
-      | inl y ↦ or_left o (any (asked ++ f ∷ []) e) y
-      | inr y ↦ or_right o (any (asked ++ f ∷ []) e) (asked_more e ∙ or_left (any asked e) (matches f e || false) y)
+-- the filter of a subscriber in time that is asked
+pub asks_more : (all : List Wanting) (o : Bool) (asked : List Tree) (lates : List Wanting) (f : Tree) → IsAsked all o asked lates → IsAsked (all ++ record { filter = Some f; late = None } ∷ []) o (asked ++ f ∷ []) lates
+asks_more all o asked lates f is = record {
+  open_is = still all o w refl is.open_is;
+  few = omega (arith, is.few, length-append asked (f ∷ []), length-append all (w ∷ []));
+  sound = λ js t e h. elim (or_cases (any (asked ++ f ∷ []) e) (wanted lates js t e) h) [
+    | inl x ↦ elim (or_cases (any asked e) (matches f e || false) (sym (asked_more e) ∙ x)) [
+      | inl y ↦ was_wanted all w js t e (is.sound js t e (or_left (any asked e) (wanted lates js t e) y))
+      | inr y ↦ elim (or_cases (matches f e) false y) [
+        | inl z ↦ is_wanted all w js t e (and_from (matches f e) true z refl)
+        | inr z ↦ absurd (true≢false (sym z))
+      ]
     ]
-    | inr x ↦ or_right o (any (asked ++ f ∷ []) e) (asked_more e ∙ or_right (any asked e) (matches f e || false) (or_left (matches f e) false x))
+    | inr x ↦ was_wanted all w js t e (is.sound js t e (or_right (any asked e) (wanted lates js t e) x))
+  ];
+  whole = λ js t e r h. elim (wanted_then all w js t e h) [
+    | inl x ↦ elim (or_cases (o || any asked e) (wanted lates js t e) (is.whole js t e r x)) [
+      | inl y ↦ or_left (o || any (asked ++ f ∷ []) e) (wanted lates js t e) (elim (or_cases o (any asked e) y) [
+        | inl z ↦ or_left o (any (asked ++ f ∷ []) e) z
+        | inr z ↦ or_right o (any (asked ++ f ∷ []) e) (asked_more e ∙ or_left (any asked e) (matches f e || false) z)
+      ])
+      | inr y ↦ or_right (o || any (asked ++ f ∷ []) e) (wanted lates js t e) y
+    ]
+    | inr x ↦ or_left (o || any (asked ++ f ∷ []) e) (wanted lates js t e) (or_right o (any (asked ++ f ∷ []) e)
+        (asked_more e ∙ or_right (any asked e) (matches f e || false) (or_left (matches f e) false (and_parts (matches f e) true x).0)))
   ];
 }
   where
+    w : Wanting
+    w = record { filter = Some f; late = None }
+
     asked_more : (e : Event) → any (asked ++ f ∷ []) e ≡ (any asked e || (matches f e || false))
     asked_more e = list_any-append (λ g. matches g e) asked (f ∷ [])
+
+-- a late subscriber that is asked
+pub asks_late : (all : List Wanting) (o : Bool) (asked : List Tree) (lates : List Wanting) (w : Wanting) → IsAsked all o asked lates → is_open w ≡ false → IsAsked (all ++ w ∷ []) o asked (lates ++ w ∷ [])
+asks_late all o asked lates w is n = record {
+  open_is = still all o w n is.open_is;
+  few = longer all w (length asked) is.few;
+  sound = λ js t e h. elim (or_cases (any asked e) (wanted (lates ++ w ∷ []) js t e) h) [
+    | inl x ↦ was_wanted all w js t e (is.sound js t e (or_left (any asked e) (wanted lates js t e) x))
+    | inr x ↦ elim (wanted_then lates w js t e x) [
+      | inl y ↦ was_wanted all w js t e (is.sound js t e (or_right (any asked e) (wanted lates js t e) y))
+      | inr y ↦ is_wanted all w js t e y
+    ]
+  ];
+  whole = λ js t e r h. elim (wanted_then all w js t e h) [
+    | inl x ↦ elim (or_cases (o || any asked e) (wanted lates js t e) (is.whole js t e r x)) [
+      | inl y ↦ or_left (o || any asked e) (wanted (lates ++ w ∷ []) js t e) y
+      | inr y ↦ or_right (o || any asked e) (wanted (lates ++ w ∷ []) js t e) (was_wanted lates w js t e y)
+    ]
+    | inr x ↦ or_right (o || any asked e) (wanted (lates ++ w ∷ []) js t e) (is_wanted lates w js t e x)
+  ];
+}
+
+-- ---- what is asked tells what is wanted
 
 -- what the filter at a place matches is asked
 pub asked_at : (asked : List Tree) (i : ℕ) (g : Tree) (e : Event) → slice_get asked i ≡ Some g → matches g e ≡ true → any asked e ≡ true
@@ -89,18 +141,32 @@ asked_at [] i g e h m = absurd (cc)
 asked_at (f ∷ fs) zero g e h m = let same : f ≡ g = cc in or_left (matches f e) (any fs e) (ap (λ x. matches x e) same ∙ m)
 asked_at (f ∷ fs) (suc i) g e h m = or_right (matches f e) (any fs e) (asked_at fs i g e h m)
 
-pub open_wants : (all : List (Option Tree)) (e : Event) → list_any is_missing all ≡ true → wanted all e ≡ true
-open_wants [] e h = absurd (true≢false (sym h))
-open_wants (None ∷ fs) e h = refl
-open_wants (Some f ∷ fs) e h = or_right (matches f e) (wanted fs e) (open_wants fs e h)
+open_one : (f : Option Tree) (l : Option ℕ) (js : Joins) (t : ℕ) (e : Event) → (is_missing l && is_missing f) ≡ true → (wants f e && is_in_time l js t) ≡ true
+open_one None None js t e h = refl
+open_one (Some f) None js t e h = absurd (true≢false (sym h))
+open_one f (Some s) js t e h = absurd (true≢false (sym h))
 
--- what the code asks is what is wanted, of all that is an event where it says no
-pub tells : (all : List (Option Tree)) (o : Bool) (asked : List Tree) (e : Event) → IsAsked all o asked → (any asked e ≡ false → IsEvent e)
-    → (o || any asked e) ≡ wanted all e
-tells all o asked e is event = go o (any asked e) (wanted all e) refl refl refl
+open_wants : (all : List Wanting) (js : Joins) (t : ℕ) (e : Event) → list_any is_open all ≡ true → wanted all js t e ≡ true
+open_wants [] js t e h = absurd (true≢false (sym h))
+open_wants (w ∷ ws) js t e h = elim (or_cases (is_open w) (list_any is_open ws) h) [
+  | inl x ↦ or_left (wants_at w js t e) (wanted ws js t e) (open_one w.filter w.late js t e x)
+  | inr x ↦ or_right (wants_at w js t e) (wanted ws js t e) (open_wants ws js t e x)
+]
+
+-- an event is wanted at each tick where the edge is open
+pub wanted_open : (all : List Wanting) (o : Bool) (asked : List Tree) (lates : List Wanting) (js : Joins) (t : ℕ) (e : Event) → IsAsked all o asked lates → o ≡ true → wanted all js t e ≡ true
+wanted_open all o asked lates js t e is h = open_wants all js t e (sym is.open_is ∙ h)
+
+-- and where a filter of a subscriber in time matches it
+pub wanted_asked : (all : List Wanting) (o : Bool) (asked : List Tree) (lates : List Wanting) (js : Joins) (t : ℕ) (e : Event) → IsAsked all o asked lates → any asked e ≡ true → wanted all js t e ≡ true
+wanted_asked all o asked lates js t e is h = is.sound js t e (or_left (any asked e) (wanted lates js t e) h)
+
+-- else late subscribers alone want it
+pub wanted_late : (all : List Wanting) (o : Bool) (asked : List Tree) (lates : List Wanting) (js : Joins) (t : ℕ) (e : Event) → IsAsked all o asked lates → o ≡ false → any asked e ≡ false → IsEvent e → wanted all js t e ≡ wanted lates js t e
+wanted_late all o asked lates js t e is no_one none event = go (wanted all js t e) (wanted lates js t e) refl refl
   where
-    go : (c a w : Bool) → c ≡ o → a ≡ any asked e → w ≡ wanted all e → (c || a) ≡ w
-    go true a w x y z = sym (z ∙ open_wants all e (sym is.open_is ∙ sym x))
-    go false true w x y z = sym (z ∙ is.sound e (sym y))
-    go false false true x y z = ap₂ (λ u v. u || v) x y ∙ is.whole e (event (sym y)) (sym z)
-    go false false false x y z = refl
+    go : (a l : Bool) → a ≡ wanted all js t e → l ≡ wanted lates js t e → a ≡ l
+    go true true x y = refl
+    go false false x y = refl
+    go true false x y = sym (is.whole js t e event (sym x)) ∙ ap₂ (λ u v. (u || v) || wanted lates js t e) no_one none ∙ sym y
+    go false true x y = x ∙ is.sound js t e (or_right (any asked e) (wanted lates js t e) (sym y))

@@ -1,4 +1,5 @@
 pub mod Walks
 pub mod Asking
+pub mod Joined
 pub mod Widening
 pub mod Passing

@@ -1,5 +1,5 @@
 -- What makes one filter wider than another: each of its parts follows from a part of the other
-use Rattle.std.proofs.Common.{◌≡◌, Bool, true, false, ℤ, ◌≤ℤ◌, ◌<ℤ◌, List, ℕ, Some, None, refl, sym, ap, ◌∙◌, arith}
+use Rattle.std.proofs.Common.{◌≡◌, Bool, true, ℤ, ◌≤ℤ◌, ◌<ℤ◌, List, ℕ, Some, None, refl, sym, ap, ◌∙◌, arith}
 use Rattle.std.specs.Ordering.{int_cmp, MatchOrdering}
 use Rattle.std.specs.declared.cmp.Ordering.{Ordering}
 use Rattle.std.specs.declared.cmp.Ordering.TheVariants as ordering
@@ -13,7 +13,7 @@ use Rattle.gr_filter.specs.declared.kleene.Kleene.TheVariants.{False, Unknown, T
 use Rattle.gr_filter.specs.declared.node.Operand.{Operand}
 use Rattle.gr_filter.specs.declared.node.Operand.TheVariants as operand
 use Rattle.gr_filter.specs.declared.node.Sign.{Sign}
-use Rattle.gr_filter.specs.declared.node.Sign.TheVariants.{Equal, Less, AtMost, Greater, AtLeast}
+use Rattle.gr_filter.specs.declared.node.Sign.TheVariants.{Less, AtMost, Greater, AtLeast}
 use Rattle.gr_filter.specs.Kleene.{known, least}
 use Rattle.gr_filter.specs.Tree.{Tree, compare, both}
 use Rattle.gr_filter.specs.Truth.{holds, is_true, compare_both, operand_value, truth}

@@ -2,6 +2,7 @@
 #![tactic(auto)]
 
 pub mod edge;
+mod late;
 mod listed;
 mod wider;
 

@@ -1,17 +1,16 @@
-//! The list of an edge's filters. It exists only in proofs, and takes no memory and no time.
+//! The list of what the subscribers behind an edge want. It exists only in proofs, and takes no memory and no time.
 
-ghost use Rattle.std.specs.Prelude.{◌≡◌, List, [], Option};
+ghost use Rattle.std.specs.Prelude.{◌≡◌, List, []};
 ghost use base.Fml.{ftrue};
-ghost use Rattle.gr_filter.specs.Tree.{Tree};
-ghost use Rattle.gr_edge.specs.Pass.{filters_code};
+ghost use Rattle.gr_edge.specs.Pass.{Wanting, wantings_code};
 
 use gr_filter::Filter;
 use std::marker::Model;
 
-/// The filters of the subscribers behind an edge, in order.
+/// What the subscribers behind an edge want, in order.
 #[derive(Drop)]
 pub(crate) struct Listed {
-    ghost filters: { List (Option Tree) } by { filters_code },
+    ghost wantings: { List Wanting } by { wantings_code },
 }
 
 impl Model for Listed {
@@ -20,27 +19,27 @@ impl Model for Listed {
 
 /// What a subscriber wants that is put behind an edge.
 #[derive(Clone, Copy, Drop)]
-pub(crate) enum Wish<'a> {
-    /// It has no filter, and wants every event.
-    Everything,
-    /// It wants the events that its filter matches.
-    Filtered { filter: &'a Filter },
+pub(crate) struct Wish<'a> {
+    /// Its filter; one without a filter wants every event.
+    pub(crate) filter: Option<&'a Filter>,
+    /// Its number, where it is late.
+    pub(crate) late: Option<u16>,
 }
 
 impl Listed {
     ghost use Rattle.gr_edge.specs.Listing.{with_wish};
 
-    /// No filters.
+    /// Nobody.
     pub(crate) fn new() -> Listed
-        ensures { result.filters ≡ [] }
+        ensures { result.wantings ≡ [] }
     {
         Listed {}
     }
 
-    /// The list with one more at its end.
+    /// The list with one subscriber more at its end.
     #[inline(always)]
     pub(crate) fn then(&self, _wish: &Wish<'_>) -> Listed
-        ensures { result.filters ≡ with_wish self.now.filters _wish.now }
+        ensures { result.wantings ≡ with_wish self.now.wantings _wish.now }
     {
         Listed {}
     }

@@ -11,6 +11,6 @@ use Rattle.gr_edge.proofs.edge.Edge.pass.Given as goal
 abbrev pub invariant-loop-i : goal.invariant-loop-i
 invariant-loop-i l = record {
   upto : l.i ≤ length l.piece;
-  values : (t : ℕ) → value_at Q l.passed t ≡ pass l.self (value_at Q (take l.i l.piece) t);
+  values : (t : ℕ) → value_at Q l.passed t ≡ pass l.self l.joins t (value_at Q (take l.i l.piece) t);
   past : (s : Run K) (rest : List (Run K)) → drop l.i l.piece ≡ s ∷ rest → EndBefore l.passed s.first;
 }
