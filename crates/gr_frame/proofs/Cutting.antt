@@ -110,7 +110,7 @@ module _ {V : Type 0} where
     pub spelled : (r : Run V) → r.value ≢ least → form.size r ≡ run_size form r
     pub small : (r : Run V) → r.value ≢ least → Fits r.value → form.size r ≤ 8211
 
-  last_bytes : (form : Form V) (begun : List (Run V)) (r : Run V) → length (runs_bytes form.bytes (begun ++ r ∷ [])) ≡ length (runs_bytes form.bytes begun) + run_size form r
+  pub last_bytes : (form : Form V) (begun : List (Run V)) (r : Run V) → length (runs_bytes form.bytes (begun ++ r ∷ [])) ≡ length (runs_bytes form.bytes begun) + run_size form r
   last_bytes form begun r =
       let a = to_be_bytes w64 r.first in
       let b = to_be_bytes w64 r.last in
@@ -209,7 +209,7 @@ module _ {V : Type 0} where
 
   -- The place where a part ends
 
-  run_there : (rs : List (Run V)) (i : ℕ) (r : Run V) → slice_get rs i ≡ Some r → drop i rs ≡ r ∷ drop (i + 1) rs
+  pub run_there : (rs : List (Run V)) (i : ℕ) (r : Run V) → slice_get rs i ≡ Some r → drop i rs ≡ r ∷ drop (i + 1) rs
   run_there rs i r h =
       drop_more rs i r (slice_get_within rs i r h) ∙ ap (λ x. x ∷ drop (i + 1) rs) (get_or_from_slice_get rs i r r h)
 

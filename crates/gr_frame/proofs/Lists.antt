@@ -33,6 +33,13 @@ head_sized kind n h (j ∷ js) =
     let number = to_be_bytes w16 (length all) in
     omega (arith, length-append (head_bytes 2 kind h n) (number ++ joins_bytes all), length-append number (joins_bytes all), length-joins all)
 
+-- and so what stands behind the head
+pub list_sized : (js : Joins) → head_size js ≡ 12 + length (list_bytes js)
+list_sized [] = refl
+list_sized (j ∷ js) =
+    let all : Joins = j ∷ js in
+    omega (arith, length-append (to_be_bytes w16 (length all)) (joins_bytes all), length-joins all)
+
 pub head_small : (js : Joins) → AreJoins js → head_size js ≤ 654
 head_small [] are = omega arith
 head_small (j ∷ js) are = omega (arith, are.few)

@@ -1,5 +1,5 @@
 -- The parts of a frame: run by run a part is a range of the piece, and its frame has the head
-use Rattle.std.proofs.Common.{◌≡◌, ◌≤◌, ◌+◌, ◌-◌, ℕ, List, [], ◌∷◌, ◌++◌, take, drop, Some, if◌then◌else◌, ap, sym, subst, ◌∙◌, take-append-drop}
+use Rattle.std.proofs.Common.{◌≡◌, ◌≤◌, ◌+◌, ◌-◌, ℕ, List, [], ◌∷◌, ◌++◌, take, drop, Some, if◌then◌else◌, sym, subst, ◌∙◌, take-append-drop}
 use Rattle.std.specs.Prelude.{slice_get, slice_range}
 use Rattle.gr_tick.specs.declared.run.Run.{Run}
 use Rattle.gr_tick.specs.Runs.{value_at, is_in}

@@ -27,7 +27,8 @@ pub enum FrameKind {
     BadMagic,
     /// The version is neither 1 nor 2.
     BadVersion,
-    /// The kind of the frame, or of a run's value, is none of the table; of version 2 there is one kind of frame.
+    /// The kind of the frame, or of a run's value, is none that there is; in version 2 the only kind of frame is
+    /// knowledge.
     BadKind,
     /// A count or a tick is outside its limits.
     BadRange,

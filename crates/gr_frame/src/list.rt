@@ -1,6 +1,6 @@
 //! The list of joins that stands between the head of a frame and its runs.
 
-ghost use Rattle.std.specs.Prelude.{◌≡◌, ◌+◌, ◌*◌, ◌≤◌, ◌<◌, ◌^◌, ◌++◌, [], length, IfOk, OnOk};
+ghost use Rattle.std.specs.Prelude.{◌≡◌, ◌+◌, ◌*◌, ◌≤◌, ◌<◌, ◌^◌, ◌++◌, [], length, IfOk};
 ghost use Rattle.std.specs.Int.{to_be_bytes, w16, w64};
 ghost use Rattle.gr_event.specs.declared.limits.TheConstants.{MAX_JOINS};
 ghost use Rattle.gr_event.specs.Joins.{AreJoins, has_joined, last_join_tick};
@@ -8,6 +8,7 @@ ghost use Rattle.gr_frame.specs.Bytes.{head_size, joins_bytes, list_bytes, versi
 ghost use Rattle.gr_frame.specs.Decode.{join_at, joins_at, list_at};
 ghost use Rattle.gr_frame.specs.Gives.{Gives};
 ghost use Rattle.gr_frame.specs.declared.TheConstants.{HEAD_BYTES, MAX_FRAME_BYTES};
+ghost use Rattle.gr_frame.specs.declared.list.TheConstants.{JOIN_BYTES};
 
 use crate::HEAD_BYTES;
 use crate::fault::{FrameFault, FrameKind};
@@ -15,7 +16,7 @@ use crate::field::{fault, put_u16, put_u64, u16_at, u64_at};
 use gr_event::{Join, Joins, MAX_JOINS};
 use gr_tick::MAX_TICK;
 use smallvec::SmallVec;
-use std::alloc::{AllocError, Global};
+use std::alloc::Global;
 
 /// How many bytes a join takes: the number of its subscriber, and its tick.
 const JOIN_BYTES: usize = 10;
@@ -49,43 +50,48 @@ pub fn version_of(joins: &Joins) -> u8
     2
 }
 
-/// Puts the number of joins at the end, and then each of them; nothing where there is none.
-pub fn put_list(joins: &Joins, bytes: &mut Vec<u8>) -> Result<(), AllocError>
-    ensures { OnOk result (bytes.new.items ≡ bytes.old.items ++ list_bytes joins.now) }
+/// Writes the number of joins, and behind it each of them, into a slice of exactly their size: an empty one where there
+/// is no join.
+pub fn put_list(joins: &Joins, into: &mut [u8])
+    requires { length into.old ≡ length (list_bytes joins.now) }
+    ensures { into.new ≡ list_bytes joins.now }
 {
     let count = joins.len();
-    if count == 0 {
-        return Ok(());
+    if count > 0 {
+        put_counted(count as u16, joins.as_slice(), into);
     }
-    put_counted(count as u16, joins.as_slice(), bytes)
 }
 
-/// Puts a number at the end, and then each of these joins.
-fn put_counted(count: u16, joins: &[Join], bytes: &mut Vec<u8>) -> Result<(), AllocError>
-    ensures { OnOk result (bytes.new.items
-        ≡ bytes.old.items ++ (to_be_bytes w16 count ++ joins_bytes joins.now)) }
+/// Writes a number, and behind it each of these joins, into a slice of exactly their size.
+fn put_counted(count: u16, joins: &[Join], into: &mut [u8])
+    requires { length into.old ≡ 2 + length (joins_bytes joins.now) }
+    ensures { into.new ≡ to_be_bytes w16 count ++ joins_bytes joins.now }
 {
-    put_u16(bytes, count)?;
-    put_joins(joins, bytes)
+    let (number, rest) = into.split_at_mut(2);
+    put_u16(count, number);
+    put_joins(joins, rest);
 }
 
-/// Puts joins at the end.
-fn put_joins(joins: &[Join], bytes: &mut Vec<u8>) -> Result<(), AllocError>
-    ensures { OnOk result (bytes.new.items ≡ bytes.old.items ++ joins_bytes joins.now) }
+/// Writes joins into a slice of exactly their size.
+fn put_joins(joins: &[Join], into: &mut [u8])
+    requires { length into.old ≡ length (joins_bytes joins.now) }
+    ensures { into.new ≡ joins_bytes joins.now }
 {
-    'joins: for join in joins {
-        put_join(*join, bytes)?;
+    if let [first, others @ ..] = joins {
+        let (here, rest) = into.split_at_mut(JOIN_BYTES);
+        put_join(*first, here);
+        put_joins(others, rest);
     }
-    Ok(())
 }
 
-/// Puts a join at the end: its subscriber and its tick.
-fn put_join(join: Join, bytes: &mut Vec<u8>) -> Result<(), AllocError>
-    ensures { OnOk result (bytes.new.items
-        ≡ bytes.old.items ++ (to_be_bytes w16 join.subscriber ++ to_be_bytes w64 join.tick)) }
+/// Writes a join into a slice of exactly its size: its subscriber and its tick.
+fn put_join(join: Join, into: &mut [u8])
+    requires { length into.old ≡ JOIN_BYTES }
+    ensures { into.new ≡ to_be_bytes w16 join.subscriber ++ to_be_bytes w64 join.tick }
 {
-    put_u16(bytes, join.subscriber)?;
-    put_u64(bytes, join.tick)
+    let (subscriber, tick) = into.split_at_mut(2);
+    put_u16(join.subscriber, subscriber);
+    put_u64(join.tick, tick);
 }
 
 /// The list of joins behind the head of a frame of version 2.

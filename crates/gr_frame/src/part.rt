@@ -79,7 +79,8 @@ fn expect_part(alloc: Global, head: Head, tick: u64) -> Result<Vec<Frame>, Memor
     Ok(frames)
 }
 
-/// The part of a piece that begins at a place, which moves behind it, where so many bytes stand before the runs.
+/// The part of a piece that begins at place `at`, where `room` bytes stand before the runs of a frame. `at` moves behind
+/// the last of its runs, also if memory runs out.
 fn next_part<V: FrameValue>(
     alloc: Global,
     piece: &Piece<V>,

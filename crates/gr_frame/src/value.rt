@@ -1,6 +1,6 @@
 //! The values that the runs of a frame carry.
 
-ghost use Rattle.std.specs.Prelude.{◌≡◌, ◌≢◌, ◌+◌, ◌≤◌, ◌<◌, ◌^◌, ◌++◌, ℕ, length, IfOk, OnOk, MatchResult, Ok, Err};
+ghost use Rattle.std.specs.Prelude.{◌≡◌, ◌≢◌, ◌+◌, ◌≤◌, ◌<◌, ◌^◌, ℕ, length, IfOk, MatchResult, Ok, Err};
 ghost use Rattle.gr_event.specs.Event.{event_size, event_bytes};
 ghost use Rattle.gr_event.specs.Limits.{IsEvent};
 ghost use Rattle.gr_event.specs.Decode.{event_decoded};
@@ -19,12 +19,12 @@ ghost use Rattle.gr_frame.specs.Gives.{Gives, Fails};
 ghost use Rattle.gr_frame.specs.declared.TheConstants.{MAX_FRAME_BYTES};
 
 use crate::fault::{FrameFault, FrameKind};
-use crate::field::{byte_at, fault, field_at, put_byte, put_u16, u16_at};
+use crate::field::{byte_at, fault, field_at, put_u16, u16_at};
 use gr_curio::Q3;
 use gr_event::{Event, EventFault};
 use gr_know::K;
 use gr_tick::{Lattice, Run};
-use std::alloc::{AllocError, Global};
+use std::alloc::Global;
 
 /// Which body a frame has.
 #[derive(Clone, Copy, Debug, PartialEq, Eq)]
@@ -76,9 +76,10 @@ pub trait FrameValue: Lattice {
         ensures most { result ≤ 8211 }
         ensures fits { fits run.now.value };
 
-    /// Puts the bytes of the value at the end.
-    fn put(&self, bytes: &mut Vec<u8>) -> Result<(), AllocError>
-        ensures bytes { OnOk result (bytes.new.items ≡ bytes.old.items ++ form.bytes self.now) }
+    /// Writes the bytes of the value into a slice of exactly their size.
+    fn put(&self, into: &mut [u8])
+        requires { length into.old ≡ length (form.bytes self.now) }
+        ensures bytes { into.new ≡ form.bytes self.now }
         ensures fits { fits self.now };
 
     /// The test of the form says exactly when two values are the same.
@@ -109,12 +110,12 @@ impl FrameValue for K {
         }
     }
 
-    fn put(&self, bytes: &mut Vec<u8>) -> Result<(), AllocError> {
+    fn put(&self, into: &mut [u8]) {
         match self {
-            K::Q => Ok(()),
-            K::S => put_byte(bytes, 1),
-            K::D(event) => put_event(event, bytes),
-            K::F => put_byte(bytes, 3),
+            K::Q => {}
+            K::S => into[0] = 1,
+            K::D(event) => put_event(event, into),
+            K::F => into[0] = 3,
         }
     }
 }
@@ -139,11 +140,11 @@ impl FrameValue for Q3 {
         17
     }
 
-    fn put(&self, bytes: &mut Vec<u8>) -> Result<(), AllocError> {
+    fn put(&self, into: &mut [u8]) {
         match self {
-            Q3::N => Ok(()),
-            Q3::C => put_byte(bytes, 1),
-            Q3::A => put_byte(bytes, 2),
+            Q3::N => {}
+            Q3::C => into[0] = 1,
+            Q3::A => into[0] = 2,
         }
     }
 }
@@ -174,13 +175,15 @@ fn event_refused(refused: EventFault, at: usize) -> FrameFault
     }
 }
 
-/// Puts the kind, the length and the bytes of an event at the end.
-fn put_event(event: &Event, bytes: &mut Vec<u8>) -> Result<(), AllocError>
-    ensures bytes { OnOk result (bytes.new.items ≡ bytes.old.items ++ known_bytes (D event.now)) }
+/// Writes the kind, the length and the bytes of an event into a slice of exactly their size.
+fn put_event(event: &Event, into: &mut [u8])
+    requires { length into.old ≡ 3 + event_size event.now }
+    ensures bytes { into.new ≡ known_bytes (D event.now) }
     ensures event { IsEvent event.now }
 {
-    let size = event.size();
-    put_byte(bytes, 2)?;
-    put_u16(bytes, size as u16)?;
-    bytes.extend_from_slice(event.bytes())
+    let (kind, behind) = into.split_at_mut(1);
+    kind[0] = 2;
+    let (size, form) = behind.split_at_mut(2);
+    put_u16(event.size() as u16, size);
+    event.encode_into(form);
 }

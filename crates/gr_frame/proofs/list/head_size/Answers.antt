@@ -1,4 +1,3 @@
-use Rattle.std.proofs.Common.{arith}
 use Rattle.gr_frame.proofs.Lists.{head_of_none, head_of_some}
 use Rattle.gr_frame.proofs.list.head_size.Goals as goal
 

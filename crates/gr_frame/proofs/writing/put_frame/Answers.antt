@@ -32,14 +32,14 @@ returns-in-Curiosity-clause-spelled c =
 pub returns-in_ok-bytes-in-Expect-clause-cut : goal.returns-in_ok-bytes-in-Expect-clause-cut
 returns-in_ok-bytes-in-Expect-clause-cut c =
     on_ok_weaker c.push.result _ _
-    (λ e. e ∙ ap (λ l. c.args.into.now.frames ++ l) (expect_cut c.args.frame.now c.in-Expect.tick c.in_ok-bytes-in-Expect.bytes c.in-Expect.is c.in_ok-bytes-in-Expect.ensures.bytes))
+    (λ e. e ∙ ap (λ l. c.args.into.now.frames ++ l) (expect_cut c.args.frame.now c.in-Expect.tick c.from_vec.result c.in-Expect.is (c.from_vec.ensures ∙ c.in_ok-bytes-in-Expect.ensures.bytes)))
     c.push.ensures.ok
 
 pub returns-in_ok-bytes-in-Expect-clause-spelled : goal.returns-in_ok-bytes-in-Expect-clause-spelled
 returns-in_ok-bytes-in-Expect-clause-spelled c =
     let sent = subst IsSent c.in-Expect.is c.requires in
-    let bytes = c.in_ok-bytes-in-Expect.bytes in
-    let made = c.in_ok-bytes-in-Expect.ensures.bytes in
+    let bytes = c.from_vec.result in
+    let made = c.from_vec.ensures ∙ c.in_ok-bytes-in-Expect.ensures.bytes in
     on_ok_weaker c.push.result _ _
     (λ e. subst (λ l. AreFrames l (parts_of c.args.frame.now)) (expect_cut c.args.frame.now c.in-Expect.tick bytes c.in-Expect.is made)
     (expect_framed c.args.frame.now c.in-Expect.tick bytes c.in-Expect.is c.in_ok-bytes-in-Expect.ensures.head sent.0 sent.1 made))

@@ -23,7 +23,7 @@ parts-preserved g c =
       within = c.part_from-part.ensures.within;
       made = part_made (λ p. piece_head (kind_number c.args.kind) c.args.head (length p) js ++ runs_bytes value p) frames c.push.new.self.frames part
           (cut_frames (head_size js) form.size (drop start piece)) (cut_frames (head_size js) form.size (drop end piece)) _
-          (c.in_ok-push-in-Ok.ensures.ok ∙ ap (λ b. frames ++ b ∷ []) (c.in-Ok.ensures.bytes ∙ ap (λ n. piece_head (kind_number c.args.kind) c.args.head n js ++ runs_bytes value part) (sym size)))
+          (c.in_ok-push-in-Ok.ensures.ok ∙ ap (λ b. frames ++ b ∷ []) (c.from_vec.ensures ∙ c.in-Ok.ensures.bytes ∙ ap (λ n. piece_head (kind_number c.args.kind) c.args.head n js ++ runs_bytes value part) (sym size)))
           cut c.parts.invariant.made;
       front = front_stays c.args.into.now.frames frames _ c.push.new.self.frames c.in_ok-push-in-Ok.ensures.ok c.parts.invariant.front;
       each = subst (AllByRecursion (λ r. g.V.FrameValue.fits r.value)) (sym (take_parts piece start end (omega (arith, c.part_from-part.ensures.later))))
