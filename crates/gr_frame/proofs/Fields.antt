@@ -41,7 +41,7 @@ either_told false r s y h = inr (refl, h)
 below : (n k : ℕ) → nat_lt n k ≡ true → n < k
 below n k h = grind (arith, rules)
 
-within : (n k : ℕ) → nat_le n k ≡ true → n ≤ k
+pub within : (n k : ℕ) → nat_le n k ≡ true → n ≤ k
 within n k h = grind (arith, rules)
 
 pub byte_told : (bytes : List ℕ) (at x : ℕ) → byte_at bytes at ≡ Ok x → drop at bytes ≡ x ∷ drop (at + 1) bytes

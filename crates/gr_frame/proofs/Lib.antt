@@ -4,6 +4,7 @@ pub mod Fields
 pub mod Forms
 pub mod Lists
 pub mod Loop
+pub mod Peeking
 pub mod Putting
 pub mod Ranges
 pub mod Spelled

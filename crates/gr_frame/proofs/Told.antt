@@ -173,7 +173,7 @@ joined_told k b h =
     (ap version_number is, eqb-true k 1 one.0 ∙ ap kind_number is)
 
 -- the kind behind a version
-version_told : (bytes : List ℕ) (v : ℕ) (b : BodyKind) → kind_in bytes v ≡ Ok b → (k : ℕ) × (byte_at bytes 3 ≡ Ok k) × (v ≡ version_number b) × (k ≡ kind_number b)
+pub version_told : (bytes : List ℕ) (v : ℕ) (b : BodyKind) → kind_in bytes v ≡ Ok b → (k : ℕ) × (byte_at bytes 3 ≡ Ok k) × (v ≡ version_number b) × (k ≡ kind_number b)
 version_told bytes v b h =
     elim (either_told (v == 1) (byte_at bytes 3 >>= kind_of) _ b h) [
       | inl j ↦ let one = bind_told (byte_at bytes 3) kind_of b j.1 in

@@ -79,7 +79,7 @@ pub fn tick_at(bytes: &[u8], at: usize, least: u64) -> Result<u64, FrameFault>
 }
 
 /// The number that two bytes spell.
-fn number_of_two(field: &[u8]) -> u16
+pub fn number_of_two(field: &[u8]) -> u16
     requires { length field.now ≡ 2 }
     ensures { result ≡ from_be_bytes w16 field.now }
 {

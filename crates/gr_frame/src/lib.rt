@@ -10,6 +10,7 @@ mod frames;
 mod laws;
 mod list;
 mod part;
+mod peek;
 mod reading;
 mod value;
 mod writing;
@@ -25,6 +26,7 @@ pub use laws::{
     no_joins_no_list, one_frame_is_not_cut, spells_no_prefix,
 };
 pub use part::parts;
+pub use peek::{Kind, Peek};
 pub use reading::decode;
 pub use writing::{encode, encode_into};
 

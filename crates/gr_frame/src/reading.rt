@@ -11,6 +11,7 @@ ghost use Rattle.gr_frame.specs.declared.TheConstants.{HEAD_BYTES, MAX_FRAME_BYT
 use crate::fault::{FrameFault, FrameKind};
 use crate::field::{byte_at, fault, field_at, tick_at, u16_at};
 use crate::list::{head_size, list_at};
+use crate::peek::{KIND_AT, PUBLISHER_AT, TO_AT};
 use crate::value::{BodyKind, FrameValue};
 use crate::{Body, EXPECT_BYTES, Frame, HEAD_BYTES, Head, MAX_FRAME_BYTES};
 use gr_event::Joins;
@@ -56,8 +57,8 @@ fn kind_at(bytes: &[u8]) -> Result<BodyKind, FrameFault>
         return Err(fault(FrameKind::BadMagic, 0));
     }
     match byte_at(bytes, 2)? {
-        1 => kind_of(byte_at(bytes, 3)?),
-        2 => joined_kind_of(byte_at(bytes, 3)?),
+        1 => kind_of(byte_at(bytes, KIND_AT)?),
+        2 => joined_kind_of(byte_at(bytes, KIND_AT)?),
         _ => Err(fault(FrameKind::BadVersion, 2)),
     }
 }
@@ -70,7 +71,7 @@ fn kind_of(number: u8) -> Result<BodyKind, FrameFault>
         1 => Ok(BodyKind::Knowledge),
         2 => Ok(BodyKind::Curiosity),
         3 => Ok(BodyKind::Expect),
-        _ => Err(fault(FrameKind::BadKind, 3)),
+        _ => Err(fault(FrameKind::BadKind, KIND_AT)),
     }
 }
 
@@ -80,7 +81,7 @@ fn joined_kind_of(number: u8) -> Result<BodyKind, FrameFault>
 {
     match number {
         1 => Ok(BodyKind::JoinedKnowledge),
-        _ => Err(fault(FrameKind::BadKind, 3)),
+        _ => Err(fault(FrameKind::BadKind, KIND_AT)),
     }
 }
 
@@ -90,8 +91,8 @@ fn head_at(bytes: &[u8]) -> Result<Head, FrameFault>
     ensures { Gives result (head_at bytes.now) }
 {
     let from = u16_at(bytes, 4)?;
-    let to = u16_at(bytes, 6)?;
-    let publisher = u16_at(bytes, 8)?;
+    let to = u16_at(bytes, TO_AT)?;
+    let publisher = u16_at(bytes, PUBLISHER_AT)?;
     Ok(Head {
         from,
         to,
