@@ -1,8 +1,7 @@
 -- The event of a Submit stands in its bytes
-use Rattle.std.proofs.Common.{◌≡◌, ◌+◌, ◌^◌, ◌==◌, inl, inr, ℕ, List, if◌then◌else◌, Result, Ok, Err, ap, sym, ◌∙◌, subst, drop}
+use Rattle.std.proofs.Common.{◌≡◌, ◌+◌, ◌^◌, ◌==◌, inl, inr, ℕ, List, Ok, Err, subst, drop}
 use Rattle.gr_event.specs.declared.event.Event.{Event}
 use Rattle.gr_event.specs.Decode.{event_decoded}
-use Rattle.gr_note.specs.declared.note.Note.{Note}
 use Rattle.gr_note.specs.declared.note.Note.TheVariants.{Submit, Next, Spent}
 use Rattle.gr_note.specs.declared.fault.NoteKind.TheVariants.{BadKind}
 use Rattle.gr_note.specs.Gives.{fault}

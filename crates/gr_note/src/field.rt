@@ -1,13 +1,12 @@
-//! The fields of a note, read and put.
+//! The fields of a note, read and written.
 
-ghost use Rattle.std.specs.Prelude.{◌≡◌, ◌+◌, ◌≤◌, ◌<◌, ◌^◌, ◌++◌, ◌∷◌, [], length, IfOk, OnOk, MatchResult, Ok, Err};
+ghost use Rattle.std.specs.Prelude.{◌≡◌, ◌+◌, ◌≤◌, ◌<◌, ◌^◌, length, IfOk, MatchResult, Ok, Err};
 ghost use Rattle.std.specs.Int.{from_be_bytes, to_be_bytes, w16, w64};
 ghost use Rattle.gr_note.specs.Decode.{byte_at, field_at, u16_at, u64_at, number_at};
 ghost use Rattle.gr_note.specs.Gives.{Gives};
 
 use crate::fault::{NoteFault, NoteKind};
 use byteorder::{BigEndian, ByteOrder};
-use std::alloc::AllocError;
 
 /// A fault of a kind at a place.
 pub fn fault(kind: NoteKind, at: usize) -> NoteFault
@@ -94,28 +93,18 @@ fn number_of_eight(field: &[u8]) -> u64
     BigEndian::read_u64(field)
 }
 
-/// Puts a byte at the end.
-pub fn put_byte(bytes: &mut Vec<u8>, byte: u8) -> Result<(), AllocError>
-    ensures { OnOk result (bytes.new.items ≡ bytes.old.items ++ byte ∷ []) }
+/// Writes the two bytes of a number, the high byte first, into a slice of exactly their size.
+pub fn put_u16(number: u16, into: &mut [u8])
+    requires { length into.old ≡ 2 }
+    ensures { into.new ≡ to_be_bytes w16 number }
 {
-    bytes.push(byte)?;
-    Ok(())
+    into.copy_from_slice(&number.to_be_bytes());
 }
 
-/// Puts the two bytes of a number at the end, the high byte first.
-pub fn put_u16(bytes: &mut Vec<u8>, number: u16) -> Result<(), AllocError>
-    ensures { OnOk result (bytes.new.items ≡ bytes.old.items ++ to_be_bytes w16 number) }
+/// Writes the eight bytes of a number, the high byte first, into a slice of exactly their size.
+pub fn put_u64(number: u64, into: &mut [u8])
+    requires { length into.old ≡ 8 }
+    ensures { into.new ≡ to_be_bytes w64 number }
 {
-    let mut field = [0; 2];
-    BigEndian::write_u16(&mut field, number);
-    bytes.extend_from_slice(&field)
-}
-
-/// Puts the eight bytes of a number at the end, the high byte first.
-pub fn put_u64(bytes: &mut Vec<u8>, number: u64) -> Result<(), AllocError>
-    ensures { OnOk result (bytes.new.items ≡ bytes.old.items ++ to_be_bytes w64 number) }
-{
-    let mut field = [0; 8];
-    BigEndian::write_u64(&mut field, number);
-    bytes.extend_from_slice(&field)
+    into.copy_from_slice(&number.to_be_bytes());
 }
