@@ -1,9 +1,8 @@
 -- What a child's curiosity leaves is worked out tick by tick: each list that the code makes is the machine's, since both have
 -- the same value at every tick.
 use Rattle.std.proofs.Common.{◌≡◌, ℕ, zero, suc, ◌<◌, Bool, true, false, not, ◌&&◌, ◌||◌, List, [], ◌∷◌, ◌++◌, length, set, get_or, refl, sym, ap, ap₂, ◌∙◌, subst, arith}
-use Rattle.std.specs.Prelude.{nat_le, if◌then◌else◌, Option, Some}
+use Rattle.std.specs.Prelude.{nat_le, if◌then◌else◌, Some}
 use Rattle.std.proofs.lemmas.Bool.{and_right, or_right, true_from_ne_false, false_from_ne_true}
-use Rattle.gr_filter.specs.Tree.{Tree}
 use Rattle.gr_know.specs.declared.values.K.TheVariants.{Q, F}
 use Rattle.gr_curio.specs.declared.values.Q3.{Q3}
 use Rattle.gr_curio.specs.declared.values.Q3.TheVariants.{N, C, A}
@@ -15,10 +14,11 @@ use Rattle.gr_curio.specs.Values.{Wanted, Asked, wanted_at, asked_at, is_C, is_A
 use Rattle.gr_curio.specs.Order.{greater_of}
 use Rattle.gr_curio.specs.Due.{due_of, noted_of}
 use Rattle.gr_curio.specs.Wants.{all_A_but}
+use Rattle.gr_event.specs.Joins.{Joins}
 use Rattle.gr_edge.specs.Pass as edge
 use Rattle.gr_topo.specs.Topology.{TopologyView}
 use Rattle.gr_model.specs.Net.{Net, is_host, keeps_horizon, pass, not_empty}
-use Rattle.gr_model.specs.NetOf.{net_of, filters_below}
+use Rattle.gr_model.specs.NetOf.{net_of, wantings_below}
 use Rattle.gr_model.specs.Broker.{View, Log, all_A, max_tick, is_consolidated_by, consolidated, finished, is_F, open_asks, kept_view, kept_view_below, due, noted, acknowledged, answer, answers, curious, stored, curiosity, know_frames, up_frames}
 use Rattle.gr_broker_walks.specs.Told.{left_at, said_by, left_by}
 use Rattle.gr_broker_relay.specs.Answers.{reply_to}
@@ -50,26 +50,26 @@ told_where w t false a e = false_from_ne_true (is_told w t) (λ y. (told_by_valu
 -- what is said of a piece before the edge, passed by the edge, is the machine's reply
 pub reply_is : (t : TopologyView) (p c : ℕ) (know said reply : Known) (w piece : Wanted) → AreRuns Q know → AreRuns N w → AreRuns N piece →
     RunsGive Q said (said_by know w piece) →
-    RunsGive Q reply (λ u. edge.pass (filters_below t p c) (known_at said u)) →
+    RunsGive Q reply (λ u. edge.pass (wantings_below t p c) [] u (known_at said u)) →
     reply ≡ answers (net_of t) p c know (acknowledged w piece) piece
-reply_is t p c know said reply w piece k a x s r = given_runs Q reply (answers (net_of t) p c know (acknowledged w piece) piece) (λ u. edge.pass fs (known_at said u)) r i.runs same
+reply_is t p c know said reply w piece k a x s r = given_runs Q reply (answers (net_of t) p c know (acknowledged w piece) piece) (λ u. edge.pass ws [] u (known_at said u)) r i.runs same
   where
-    fs : List (Option Tree)
-    fs = filters_below t p c
+    ws : List edge.Wanting
+    ws = wantings_below t p c
 
     i : AreRunsOf Q (λ u. answer (pass (net_of t) p c u (known_at know u)) (wanted_at (acknowledged w piece) u) (wanted_at piece u)) (answers (net_of t) p c know (acknowledged w piece) piece)
     i = answers-is (net_of t) p c know (acknowledged w piece) piece k x
 
-    same : (u : ℕ) → known_at (answers (net_of t) p c know (acknowledged w piece) piece) u ≡ edge.pass fs (known_at said u)
+    same : (u : ℕ) → known_at (answers (net_of t) p c know (acknowledged w piece) piece) u ≡ edge.pass ws [] u (known_at said u)
     same u =
         i.same_at u
-        ∙ ap₂ (λ y z. answer y z (wanted_at piece u)) (pass_of t p c u (known_at know u)) ((acknowledged-is w piece a x).same_at u)
-        ∙ sym (answer_passes fs (known_at know u) (wanted_at w u) (wanted_at piece u))
-        ∙ ap (edge.pass fs) (sym (s.values u))
+        ∙ ap₂ (λ y z. answer y z (wanted_at piece u)) (pass_of t p c u [] (known_at know u)) ((acknowledged-is w piece a x).same_at u)
+        ∙ sym (answer_passes ws [] u (known_at know u) (wanted_at w u) (wanted_at piece u))
+        ∙ ap (edge.pass ws [] u) (sym (s.values u))
 
--- what passes an edge is said of its filters
-pub passed_by : (said passed : Known) (fs gs : List (Option Tree)) → fs ≡ gs → RunsGive Q passed (λ u. edge.pass fs (known_at said u)) → RunsGive Q passed (λ u. edge.pass gs (known_at said u))
-passed_by said passed fs gs e g = record { canonical = g.canonical; in_range = g.in_range; values = λ u. g.values u ∙ ap (λ x. edge.pass x (known_at said u)) e }
+-- what passes an edge is said of what is wanted behind it, where there are no joins
+pub passed_by : (said passed : Known) (vs ws : List edge.Wanting) (js : Joins) → vs ≡ ws → js ≡ [] → RunsGive Q passed (λ u. edge.pass vs js u (known_at said u)) → RunsGive Q passed (λ u. edge.pass ws [] u (known_at said u))
+passed_by said passed vs ws js e f g = record { canonical = g.canonical; in_range = g.in_range; values = λ u. g.values u ∙ ap₂ (λ x y. edge.pass x y u (known_at said u)) e f }
 
 -- the reply says nothing exactly where nothing is known of an asked tick, and where none was asked
 pub reply_silent : (net : Net) (p c : ℕ) (know : Known) (w piece : Wanted) → AreRuns Q know → AreRuns N w → AreRuns N piece → (u : ℕ) →

@@ -1,8 +1,7 @@
 -- One tick of a child's curiosity: what it is told, what is left of it, what is stored, asked on and completed, case by case.
 use Rattle.std.proofs.Common.{◌≡◌, ℕ, ◌^◌, Bool, true, false, not, ◌&&◌, ◌||◌, List, refl, sym, ap, ◌∙◌}
-use Rattle.std.specs.Prelude.{nat_le, if◌then◌else◌, Option}
+use Rattle.std.specs.Prelude.{nat_le, if◌then◌else◌}
 use Rattle.std.proofs.lemmas.Bool.{false≢true, and_parts, true_from_ne_false}
-use Rattle.gr_filter.specs.Tree.{Tree}
 use Rattle.gr_know.specs.declared.values.K.{K}
 use Rattle.gr_know.specs.declared.values.K.TheVariants.{Q, S, D, F}
 use Rattle.gr_curio.specs.declared.values.Q3.{Q3}
@@ -14,6 +13,7 @@ use Rattle.gr_know.specs.Values.{is_Q}
 use Rattle.gr_curio.specs.Values.{is_C, is_A}
 use Rattle.gr_curio.specs.Order.{greater_of}
 use Rattle.gr_curio.specs.Due.{due_of, noted_of}
+use Rattle.gr_event.specs.Joins.{Joins}
 use Rattle.gr_edge.specs.Pass as edge
 use Rattle.gr_model.specs.Net.{Net, pass, wanted_below}
 use Rattle.gr_model.specs.Broker.{max_tick, horizon_if, is_reached, is_F, answer, curious}
@@ -27,12 +27,12 @@ silent_passed net p c t F = refl
 silent_passed net p c t (D e) = elim (wanted_below net p c t e) as (λ b. is_Q (elim b [ true ↦ D e | false ↦ S ]) ≡ false) [ true ↦ refl | false ↦ refl ]
 
 -- an answer that is worked out before the edge passes as the machine's answer
-pub answer_passes : (fs : List (Option Tree)) (k : K) (a q : Q3) → edge.pass fs (said_at k a q) ≡ answer (edge.pass fs k) (if is_A q then A else a) q
-answer_passes fs k a N = refl
-answer_passes fs k a A = refl
-answer_passes fs k N C = refl
-answer_passes fs k C C = refl
-answer_passes fs k A C = refl
+pub answer_passes : (ws : List edge.Wanting) (js : Joins) (t : ℕ) (k : K) (a q : Q3) → edge.pass ws js t (said_at k a q) ≡ answer (edge.pass ws js t k) (if is_A q then A else a) q
+answer_passes ws js t k a N = refl
+answer_passes ws js t k a A = refl
+answer_passes ws js t k N C = refl
+answer_passes ws js t k C C = refl
+answer_passes ws js t k A C = refl
 
 -- and it says nothing exactly where nothing was said before the edge
 pub silent_answer : (k r : K) (a q : Q3) → is_Q r ≡ is_Q k → is_Q (answer r (if is_A q then A else a) q) ≡ is_Q (said_at k a q)

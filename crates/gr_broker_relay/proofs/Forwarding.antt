@@ -17,7 +17,7 @@ use Rattle.gr_frame.specs.declared.Frame.{Frame}
 use Rattle.gr_frame.specs.Frames.{FrameList}
 use Rattle.gr_topo.specs.Topology.{children_of}
 use Rattle.gr_model.specs.Net.{Net}
-use Rattle.gr_model.specs.NetOf.{net_of, filters_below}
+use Rattle.gr_model.specs.NetOf.{net_of, wantings_below}
 use Rattle.gr_model.specs.Broker.{new_ticks, passed, forward, know_frames, forward_wants}
 use Rattle.gr_model_calls.proofs.calls.Passed.{passed-is}
 use Rattle.gr_broker_relay.specs.declared.place.Child.{Child}
@@ -29,21 +29,21 @@ use Rattle.gr_broker_relay.proofs.Sited.{child_number, child_has_edge, child_edg
 use Rattle.gr_broker_walks.proofs.Untouched.{sent_whole}
 use Rattle.gr_broker_relay.proofs.Learned.{sent_is, quenched_is, quenched_stays, forward_wants-length, forward_wants-at}
 
--- The edge to a child, which is read by its place, has the filters behind it
-pub edge_at : (s : Site) (i : ℕ) (c : Child) → IsSite s → i < length s.position.now.children.items → c ≡ get_or s.position.now.children.items i c → get_or s.edges.now c.edge [] ≡ filters_below s.topo.now s.publisher (get_or (children_of s.topo.now s.publisher s.broker) i 0)
+-- The edge to a child, which is read by its place, has what is wanted behind it
+pub edge_at : (s : Site) (i : ℕ) (c : Child) → IsSite s → i < length s.position.now.children.items → c ≡ get_or s.position.now.children.items i c → get_or s.edges.now c.edge [] ≡ wantings_below s.topo.now s.publisher (get_or (children_of s.topo.now s.publisher s.broker) i 0)
 edge_at s i c is lt e =
     let inside = child_has_edge i s.edges.now s.position.now c is.edges lt e in
     child_edge s.topo.now s.broker s.publisher i s.edges.now s.position.now c (get_or s.edges.now c.edge []) is.branch is.edges lt e (get_or_default s.edges.now c.edge [] (get_or s.edges.now c.edge []) inside)
 
 -- so what passes it and was not acknowledged is what the machine forwards
-pub forwarded : (s : Site) (i : ℕ) (c : Child) (w : Wanted) (fresh let_by sent : Known) → IsSite s → i < length s.position.now.children.items → c ≡ get_or s.position.now.children.items i c → AreRuns Q fresh → AreRuns N w → RunsGive Q let_by (λ t. pass (slice_index_or s.edges.now c.edge []) (known_at fresh t)) → RunsGive Q sent (λ t. if is_A (wanted_at w t) then Q else known_at let_by t) → sent ≡ forward (net_of s.topo.now) s.publisher (get_or (children_of s.topo.now s.publisher s.broker) i 0) w fresh
+pub forwarded : (s : Site) (i : ℕ) (c : Child) (w : Wanted) (fresh let_by sent : Known) → IsSite s → i < length s.position.now.children.items → c ≡ get_or s.position.now.children.items i c → AreRuns Q fresh → AreRuns N w → RunsGive Q let_by (λ t. pass (slice_index_or s.edges.now c.edge []) [] t (known_at fresh t)) → RunsGive Q sent (λ t. if is_A (wanted_at w t) then Q else known_at let_by t) → sent ≡ forward (net_of s.topo.now) s.publisher (get_or (children_of s.topo.now s.publisher s.broker) i 0) w fresh
 forwarded s i c w fresh let_by sent is lt e a b g h =
     sent_is s.topo.now s.publisher (get_or (children_of s.topo.now s.publisher s.broker) i 0) (get_or s.edges.now c.edge []) w fresh let_by sent (edge_at s i c is lt e) a b g h
 
 -- and where the child wants none of what passes it, that is all of it
-pub forwarded_whole : (s : Site) (i : ℕ) (c : Child) (w : Wanted) (fresh let_by : Known) → IsSite s → i < length s.position.now.children.items → c ≡ get_or s.position.now.children.items i c → AreRuns Q fresh → AreRuns N w → RunsGive Q let_by (λ t. pass (slice_index_or s.edges.now c.edge []) (known_at fresh t)) → ((t : ℕ) → (known_at let_by t ≡ Q) ⊎ (wanted_at w t ≡ N)) → let_by ≡ forward (net_of s.topo.now) s.publisher (get_or (children_of s.topo.now s.publisher s.broker) i 0) w fresh
+pub forwarded_whole : (s : Site) (i : ℕ) (c : Child) (w : Wanted) (fresh let_by : Known) → IsSite s → i < length s.position.now.children.items → c ≡ get_or s.position.now.children.items i c → AreRuns Q fresh → AreRuns N w → RunsGive Q let_by (λ t. pass (slice_index_or s.edges.now c.edge []) [] t (known_at fresh t)) → ((t : ℕ) → (known_at let_by t ≡ Q) ⊎ (wanted_at w t ≡ N)) → let_by ≡ forward (net_of s.topo.now) s.publisher (get_or (children_of s.topo.now s.publisher s.broker) i 0) w fresh
 forwarded_whole s i c w fresh let_by is lt e a b g untouched =
-    forwarded s i c w fresh let_by let_by is lt e a b g (sent_whole w let_by (λ t. pass (slice_index_or s.edges.now c.edge []) (known_at fresh t)) g untouched)
+    forwarded s i c w fresh let_by let_by is lt e a b g (sent_whole w let_by (λ t. pass (slice_index_or s.edges.now c.edge []) [] t (known_at fresh t)) g untouched)
 
 -- and so are its frames
 pub sends_forwarded : (s : Site) (i : ℕ) (c : Child) (sent new : Known) (before after : FrameList) → IsSite s → i < length s.position.now.children.items → c ≡ get_or s.position.now.children.items i c → sent ≡ new → AddsFrames (know_frames [] s.broker c.number s.publisher sent) before after → AddsFrames (know_frames [] s.broker (get_or (children_of s.topo.now s.publisher s.broker) i 0) s.publisher new) before after

@@ -24,12 +24,10 @@ use Rattle.gr_curio.specs.declared.asks.Moment.TheVariants.{Never}
 use Rattle.gr_curio.specs.Values.{Wanted, Asked, wanted_at, asked_at, same_Q3, same_moment, is_C, is_A}
 use Rattle.gr_curio.specs.Wants.{wants_of, all_A, answered_of}
 use Rattle.gr_curio.proofs.ValueLaws.{Q3_decides, moment_decides}
-use Rattle.gr_filter.specs.Tree.{Tree}
-use Rattle.std.specs.Prelude.{Option}
 use Rattle.gr_edge.specs.Pass as edge
 use Rattle.gr_topo.specs.Topology.{TopologyView}
 use Rattle.gr_model.specs.Net.{Net, keeps_horizon, is_host, not_empty}
-use Rattle.gr_model.specs.NetOf.{net_of, filters_below}
+use Rattle.gr_model.specs.NetOf.{net_of, wantings_below}
 use Rattle.gr_model.specs.Broker.{View, Log, is_F, is_consolidated_by, consolidated, finished, forgotten, open_asks, max_tick, horizon_after, new_ticks, passed, forward, still_wanted, know_frames, forward_frames, forward_wants, kept_view, kept_view_below, learn}
 use Rattle.gr_model.proofs.NetWords.{pass_of}
 use Rattle.gr_model_calls.proofs.calls.Passed.{passed-is}
@@ -62,18 +60,18 @@ joined_gives know piece a u b v =
 -- What a child is sent
 
 -- what its edge passes
-pub passed_is_of : (t : TopologyView) (p c : ℕ) (fs : List (Option Tree)) (new let_by : Known) → fs ≡ filters_below t p c → AreRuns Q new → RunsGive Q let_by (λ u. edge.pass fs (known_at new u)) → let_by ≡ passed (net_of t) p c new
-passed_is_of t p c fs new let_by e a g =
+pub passed_is_of : (t : TopologyView) (p c : ℕ) (ws : List edge.Wanting) (new let_by : Known) → ws ≡ wantings_below t p c → AreRuns Q new → RunsGive Q let_by (λ u. edge.pass ws [] u (known_at new u)) → let_by ≡ passed (net_of t) p c new
+passed_is_of t p c ws new let_by e a g =
     let k = passed-is (net_of t) p c new a in
-    given_runs Q let_by (passed (net_of t) p c new) (λ u. edge.pass fs (known_at new u)) g k.runs
-    (λ u. k.same_at u ∙ pass_of t p c u (known_at new u) ∙ ap (λ f. edge.pass f (known_at new u)) (sym e))
+    given_runs Q let_by (passed (net_of t) p c new) (λ u. edge.pass ws [] u (known_at new u)) g k.runs
+    (λ u. k.same_at u ∙ pass_of t p c u [] (known_at new u) ∙ ap (λ x. edge.pass x [] u (known_at new u)) (sym e))
 
 -- and what it has not acknowledged of that
-pub sent_is : (t : TopologyView) (p c : ℕ) (fs : List (Option Tree)) (w : Wanted) (new let_by sent : Known) → fs ≡ filters_below t p c → AreRuns Q new → AreRuns N w → RunsGive Q let_by (λ u. edge.pass fs (known_at new u)) → RunsGive Q sent (λ u. if is_A (wanted_at w u) then Q else known_at let_by u) → sent ≡ forward (net_of t) p c w new
+pub sent_is : (t : TopologyView) (p c : ℕ) (ws : List edge.Wanting) (w : Wanted) (new let_by sent : Known) → ws ≡ wantings_below t p c → AreRuns Q new → AreRuns N w → RunsGive Q let_by (λ u. edge.pass ws [] u (known_at new u)) → RunsGive Q sent (λ u. if is_A (wanted_at w u) then Q else known_at let_by u) → sent ≡ forward (net_of t) p c w new
 unfolding forward
-sent_is t p c fs w new let_by sent e a b g h =
+sent_is t p c ws w new let_by sent e a b g h =
     given_zip Q N Q same_K K_decides (λ v x. if is_A x then Q else v) let_by w sent refl g.canonical b h
-    ∙ ap (λ z. zip_runs Q N Q same_K (λ v x. if is_A x then Q else v) z w) (passed_is_of t p c fs new let_by e a g)
+    ∙ ap (λ z. zip_runs Q N Q same_K (λ v x. if is_A x then Q else v) z w) (passed_is_of t p c ws new let_by e a g)
 
 -- What the children want then
 

@@ -1,12 +1,12 @@
 -- Where a broker stands does not change while edges are put at the end of those that it has.
-use Rattle.std.proofs.Common.{◌≡◌, ℕ, zero, suc, ◌+◌, ◌<◌, ◌≤◌, Bool, true, false, List, [], ◌∷◌, ◌++◌, length, cond, get_or, map, take, Option, refl, sym, ap, ap₂, ◌∙◌, subst, arith}
+use Rattle.std.proofs.Common.{◌≡◌, ℕ, zero, suc, ◌+◌, ◌<◌, ◌≤◌, Bool, true, false, List, [], ◌∷◌, ◌++◌, length, cond, get_or, map, take, refl, sym, ap, ap₂, ◌∙◌, subst, arith}
 use Rattle.std.specs.List.{AllByRecursion, filter}
 use Rattle.std.proofs.lemmas.List.{map_push, get_or-map, length-map, take_more}
-use Rattle.gr_filter.specs.Tree.{Tree}
+use Rattle.gr_edge.specs.Pass.{Wanting}
 use Rattle.gr_tree.specs.Walks.{numbers_from}
 use Rattle.gr_model.specs.Net.{numbers, numbers_from as count_from}
-use Rattle.gr_model.specs.NetOf.{filters_below}
-use Rattle.gr_topo.specs.Topology.{TopologyView, filter_of, children_of, below_of, size, is_child_at, passes_by, home_of}
+use Rattle.gr_model.specs.NetOf.{wanting_of, wantings_below}
+use Rattle.gr_topo.specs.Topology.{TopologyView, children_of, below_of, size, is_child_at, passes_by, home_of}
 use Rattle.gr_broker_relay.specs.Branch.{branch_of, Branch}
 use Rattle.gr_broker_relay.specs.declared.place.Child.{Child}
 use Rattle.gr_broker_relay.specs.declared.place.Position.{Position}
@@ -42,7 +42,7 @@ filtered_below test a (suc n) i j = go (test a) (filter test (numbers_from (suc 
 
 -- Edges
 
-module _ (before after : List (List (Option Tree))) (k : Keeps before after) where
+module _ (before after : List (List Wanting)) (k : Keeps before after) where
   -- each child still has its edge
   pub bounds_stay : (cs : List Child) → AllByRecursion (λ c. c.edge < length before) cs → AllByRecursion (λ c. c.edge < length after) cs
   bounds_stay [] all = tt
@@ -55,7 +55,7 @@ module _ (before after : List (List (Option Tree))) (k : Keeps before after) whe
 
   branch_stays : (place : Position) → HasEdges before place → seen_branch after place ≡ seen_branch before place
   branch_stays place has =
-      ap (λ (es : List (List (Option Tree))). let b : Branch = record { host = place.host; up = place.up; keeps = place.keeps; children = map (λ c. c.number) place.children.items; edges = es } in b)
+      ap (λ (es : List (List Wanting)). let b : Branch = record { host = place.host; up = place.up; keeps = place.keeps; children = map (λ c. c.number) place.children.items; edges = es } in b)
       (edges_stay place.children.items has)
 
   -- so each publisher's place stays
@@ -68,7 +68,7 @@ module _ (before after : List (List (Option Tree))) (k : Keeps before after) whe
   branches_stay (place ∷ places) all = ap₂ (λ x xs. x ∷ xs) (branch_stays place all.0) (branches_stay places all.1)
 
 -- edges that are there still are so once more are put at the end
-pub keeps_on : (xs ys zs : List (List (Option Tree))) → Keeps xs ys → Keeps ys zs → Keeps xs zs
+pub keeps_on : (xs ys zs : List (List Wanting)) → Keeps xs ys → Keeps ys zs → Keeps xs zs
 keeps_on xs ys zs a b = record { no_fewer = omega (arith, a.no_fewer, b.no_fewer); same = λ i j. b.same i (omega (arith, j, a.no_fewer)) ∙ a.same i j }
 
 numbers_on : (a n : ℕ) → count_from a (suc n) ≡ count_from a n ++ (a + n) ∷ []
@@ -80,7 +80,7 @@ pub numbers_more : (n : ℕ) → numbers (n + 1) ≡ numbers n ++ n ∷ []
 numbers_more n = ap numbers (let e : n + 1 ≡ suc n = omega arith in e) ∙ numbers_on 0 n ∙ ap (λ m. numbers n ++ m ∷ []) (let z : 0 + n ≡ n = omega arith in z)
 
 -- one publisher more
-pub placed_more : (t : TopologyView) (b n : ℕ) (before after : List (List (Option Tree))) → Keeps before after → (places : List Position) (place : Position)
+pub placed_more : (t : TopologyView) (b n : ℕ) (before after : List (List Wanting)) → Keeps before after → (places : List Position) (place : Position)
     → map (seen_branch before) places ≡ map (branch_of t b) (numbers n) → AllByRecursion (HasEdges before) places → seen_branch after place ≡ branch_of t b n
     → map (seen_branch after) (places ++ place ∷ []) ≡ map (branch_of t b) (numbers (n + 1))
 placed_more t b n before after k places place sofar has one =
@@ -111,24 +111,24 @@ few_below t p c found e =
     omega (arith, k, same)
 
 -- the edge that has the same subscribers behind it
-pub edge_there : (t : TopologyView) (edges : List (List (Option Tree))) (behind : List (List ℕ)) (i : ℕ) (found wanted : List ℕ) → edges ≡ map (map (filter_of t)) behind → i < length behind
-    → found ≡ get_or behind i found → found ≡ wanted → get_or edges i [] ≡ map (filter_of t) wanted
+pub edge_there : (t : TopologyView) (edges : List (List Wanting)) (behind : List (List ℕ)) (i : ℕ) (found wanted : List ℕ) → edges ≡ map (map (wanting_of t)) behind → i < length behind
+    → found ≡ get_or behind i found → found ≡ wanted → get_or edges i [] ≡ map (wanting_of t) wanted
 edge_there t edges behind i found wanted e j read same =
-    ap (λ es. get_or es i []) e ∙ get_or-map (map (filter_of t)) behind i found [] j ∙ ap (map (filter_of t)) (sym read ∙ same)
+    ap (λ es. get_or es i []) e ∙ get_or-map (map (wanting_of t)) behind i found [] j ∙ ap (map (wanting_of t)) (sym read ∙ same)
 
 -- one child more
-module _ (t : TopologyView) (p b i : ℕ) (before after : List (List (Option Tree))) (k : Keeps before after) (cs : List Child) (c : Child) (numbers : List ℕ) where
+module _ (t : TopologyView) (p b i : ℕ) (before after : List (List Wanting)) (k : Keeps before after) (cs : List Child) (c : Child) (numbers : List ℕ) where
   -- its number
   pub numbers_more_of : i < length numbers → map (λ (x : Child). x.number) cs ≡ take i numbers → c.number ≡ get_or numbers i 0 → map (λ (x : Child). x.number) (cs ++ c ∷ []) ≡ take (i + 1) numbers
   numbers_more_of j sofar one = map_push (λ (x : Child). x.number) cs c ∙ ap₂ (λ xs x. xs ++ x ∷ []) sofar one ∙ sym (take_more numbers i 0 j)
 
-  -- the filters behind it
-  pub behind_more : i < length numbers → AllByRecursion (λ (x : Child). x.edge < length before) cs → map (λ (x : Child). get_or before x.edge []) cs ≡ map (filters_below t p) (take i numbers)
-      → get_or after c.edge [] ≡ filters_below t p (get_or numbers i 0) → map (λ (x : Child). get_or after x.edge []) (cs ++ c ∷ []) ≡ map (filters_below t p) (take (i + 1) numbers)
+  -- what is wanted behind it
+  pub behind_more : i < length numbers → AllByRecursion (λ (x : Child). x.edge < length before) cs → map (λ (x : Child). get_or before x.edge []) cs ≡ map (wantings_below t p) (take i numbers)
+      → get_or after c.edge [] ≡ wantings_below t p (get_or numbers i 0) → map (λ (x : Child). get_or after x.edge []) (cs ++ c ∷ []) ≡ map (wantings_below t p) (take (i + 1) numbers)
   behind_more j has sofar one =
       map_push (λ (x : Child). get_or after x.edge []) cs c
       ∙ ap₂ (λ xs x. xs ++ x ∷ []) (edges_stay before after k cs has ∙ sofar) one
-      ∙ sym (ap (map (filters_below t p)) (take_more numbers i 0 j) ∙ map_push (filters_below t p) (take i numbers) (get_or numbers i 0))
+      ∙ sym (ap (map (wantings_below t p)) (take_more numbers i 0 j) ∙ map_push (wantings_below t p) (take i numbers) (get_or numbers i 0))
 
 -- The place of one publisher
 
@@ -137,7 +137,7 @@ all_at P [] i x all j e = absurd (omega (arith, j))
 all_at P (y ∷ ys) zero x all j e = subst P (sym e) all.0
 all_at P (y ∷ ys) (suc i) x all j e = all_at P ys i x all.1 (omega (arith, j)) e
 
-module _ (t : TopologyView) (b n : ℕ) (edges : List (List (Option Tree))) (places : List Position) (branches : map (seen_branch edges) places ≡ map (branch_of t b) (numbers n)) where
+module _ (t : TopologyView) (b n : ℕ) (edges : List (List Wanting)) (places : List Position) (branches : map (seen_branch edges) places ≡ map (branch_of t b) (numbers n)) where
   -- there are as many places as publishers
   pub as_many_places : length places ≡ n
   as_many_places = sym (length-map places (seen_branch edges)) ∙ ap length branches ∙ length_numbers (branch_of t b) 0 n

@@ -1,8 +1,8 @@
 -- Where a broker stands in a publisher's tree
 use Rattle.std.specs.Prelude.{ℕ, Bool, nat_eq, List, map, Option}
-use Rattle.gr_filter.specs.Tree.{Tree}
+use Rattle.gr_edge.specs.Pass.{Wanting}
 use Rattle.gr_topo.specs.Topology.{TopologyView, host_of, up_at, children_of, keeps_horizon_at}
-use Rattle.gr_model.specs.NetOf.{filters_below}
+use Rattle.gr_model.specs.NetOf.{wantings_below}
 
 -- where a broker stands in a publisher's tree
 pub record Branch : Type 0 where
@@ -10,7 +10,7 @@ pub record Branch : Type 0 where
   pub up : Option ℕ  -- the next broker towards the host; the host has none
   pub keeps : Bool  -- whether a horizon is kept
   pub children : List ℕ  -- the next brokers away from the host, in order
-  pub edges : List (List (Option Tree))  -- for each child the filters of the subscribers at it and beyond
+  pub edges : List (List Wanting)  -- for each child what the subscribers at it and beyond want
 
 -- where a broker stands in the tree of a publisher
 abbrev pub branch_of : TopologyView → ℕ → ℕ → Branch
@@ -19,5 +19,5 @@ branch_of t b p = record {
   up = up_at t p b;
   keeps = keeps_horizon_at t p b;
   children = children_of t p b;
-  edges = map (filters_below t p) (children_of t p b);
+  edges = map (wantings_below t p) (children_of t p b);
 }

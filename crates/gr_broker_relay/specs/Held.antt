@@ -1,8 +1,8 @@
 -- What a broker keeps in memory, as the machine sees it
-use Rattle.std.specs.Prelude.{◌≡◌, ℕ, ◌<◌, List, [], length, map, get_or, Option}
+use Rattle.std.specs.Prelude.{◌≡◌, ℕ, ◌<◌, List, [], length, map, get_or}
 use Rattle.std.specs.List.{AllByRecursion}
-use Rattle.gr_filter.specs.Tree.{Tree}
 use Rattle.gr_curio.specs.Wants.{runs_of}
+use Rattle.gr_edge.specs.Pass.{Wanting}
 use Rattle.gr_topo.specs.Topology.{subscribers_of}
 use Rattle.gr_model.specs.Net.{numbers}
 use Rattle.gr_model.specs.Broker.{View}
@@ -23,7 +23,7 @@ held_view h = record {
 }
 
 -- a position over the edges that all publishers share
-abbrev pub seen_branch : List (List (Option Tree)) → Position → Branch
+abbrev pub seen_branch : List (List Wanting) → Position → Branch
 seen_branch edges place = record {
   host = place.host;
   up = place.up;
@@ -33,7 +33,7 @@ seen_branch edges place = record {
 }
 
 -- each child has its edge
-abbrev pub HasEdges : List (List (Option Tree)) → Position → Type 0
+abbrev pub HasEdges : List (List Wanting) → Position → Type 0
 HasEdges edges place = AllByRecursion (λ c. c.edge < length edges) place.children.items
 
 -- A seat is a broker of a topology, with where it stands in each publisher's tree

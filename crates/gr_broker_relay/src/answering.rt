@@ -10,7 +10,7 @@ ghost use Rattle.gr_curio.specs.declared.values.Q3.TheVariants.{N};
 ghost use Rattle.gr_pubend.specs.Log.{Log};
 ghost use Rattle.gr_topo.specs.Topology.{TopologyView, children_of};
 ghost use Rattle.gr_model.specs.Net.{Net, is_host};
-ghost use Rattle.gr_model.specs.NetOf.{net_of, filters_below};
+ghost use Rattle.gr_model.specs.NetOf.{net_of, wantings_below};
 ghost use Rattle.gr_model.specs.Broker.{Outcome as MachineOutcome, curiosity, know_frames, up_frames};
 ghost use Rattle.gr_broker_relay.specs.Kept.{IsKept};
 ghost use Rattle.gr_broker_relay.specs.Held.{held_view, IsSite};
@@ -25,6 +25,7 @@ use crate::site::Site;
 use gr_broker_walks::{left_of, quenched, said_of};
 use gr_curio::{Q3, Wants};
 use gr_edge::Edge;
+use gr_event::Joins;
 use gr_know::K;
 use gr_outbox::Outbox;
 use gr_tick::{MAX_TICK, Piece};
@@ -147,7 +148,7 @@ fn reply_of(site: &Site<'_>, held: &Held, i: usize, piece: &Piece<Q3>) -> Result
     let _ = held.wants.len(i);
     let _ = piece.len();
     let said = said_of(site.alloc, piece, &held.know, &held.wants, i)?;
-    edge_to(site, i).pass(&said)
+    edge_to(site, i).pass(&said, &Joins::new(site.alloc))
 }
 
 /// The edge to the child at place `i`.
@@ -156,7 +157,7 @@ fn edge_to<'a>(site: &Site<'a>, i: usize) -> &'a Edge
     requires child { i < length (children_of site.now.topo.now site.now.publisher site.now.broker) }
     ensures { let t : TopologyView = site.now.topo.now in
         let child : ℕ = get_or (children_of t site.now.publisher site.now.broker) i 0 in
-        result.now ≡ filters_below t site.now.publisher child }
+        result.now ≡ wantings_below t site.now.publisher child }
 {
     &site.edges[site.position.children[i].edge]
 }

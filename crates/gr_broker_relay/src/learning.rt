@@ -36,7 +36,7 @@ use crate::site::Site;
 use gr_broker_walks::{is_acknowledged, is_untouched, quenched, unacknowledged};
 use gr_curio::{Asks, Q3, Wants};
 use gr_edge::Edge;
-use gr_event::Event;
+use gr_event::{Event, Joins};
 use gr_filter::{Filter, Kleene, truth};
 use gr_know::{K, Know};
 use gr_model::{Report, Reports};
@@ -313,7 +313,7 @@ fn forward_to(
     let _ = fresh.len();
     let _ = wants.len(i);
     let child = site.position.children[i];
-    let passed = pass_edge(site.edges, child.edge, fresh)?;
+    let passed = pass_edge(site.alloc, site.edges, child.edge, fresh)?;
     if is_untouched(&passed, wants, i) {
         send_down(site, child.number, passed, into)?;
         return Ok(Piece::new(site.alloc));
@@ -324,14 +324,14 @@ fn forward_to(
     Ok(answered)
 }
 
-/// What an edge passes of a piece.
-fn pass_edge(edges: &[Edge], i: usize, piece: &Piece<K>) -> Result<Piece<K>, Memory>
+/// What an edge passes of a piece, where nobody has joined.
+fn pass_edge(alloc: Global, edges: &[Edge], i: usize, piece: &Piece<K>) -> Result<Piece<K>, Memory>
     requires { i < length edges.now }
     ensures { IfOk result (λ passed. RunsGive Q passed
-        (λ t. pass (slice_index_or edges.now i []) (known_at piece.now t))) }
+        (λ t. pass (slice_index_or edges.now i []) [] t (known_at piece.now t))) }
 {
     let edge = &edges[i];
-    edge.pass(piece)
+    edge.pass(piece, &Joins::new(alloc))
 }
 
 /// The ticks that a horizon passes and all children have acknowledged, with `A`: all that it passes where there is no

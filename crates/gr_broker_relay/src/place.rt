@@ -2,9 +2,9 @@
 
 ghost use Rattle.std.specs.Prelude.{◌≡◌, ℕ, ◌<◌, ◌≤◌, [], length, map, get_or, OnOk, IfOk};
 ghost use Rattle.std.specs.List.{AllByRecursion};
-ghost use Rattle.gr_topo.specs.Topology.{filter_of, children_of};
+ghost use Rattle.gr_topo.specs.Topology.{children_of};
 ghost use Rattle.gr_model.specs.Net.{numbers};
-ghost use Rattle.gr_model.specs.NetOf.{filters_below};
+ghost use Rattle.gr_model.specs.NetOf.{wanting_of, wantings_below};
 ghost use Rattle.gr_broker_relay.specs.Branch.{branch_of};
 ghost use Rattle.gr_broker_relay.specs.Held.{seen_branch, HasEdges};
 ghost use Rattle.gr_broker_relay.specs.Positions.{AreEdges, Keeps};
@@ -43,16 +43,16 @@ pub(crate) struct EdgeTable {
     pub behind: Vec<Numbers>,
 }
 
-/// The edge that has the filters of these subscribers.
+/// The edge that has these subscribers behind it. None is late yet.
 fn edge_of(alloc: Global, topo: &Topology, behind: &[u16]) -> Result<Edge, Memory>
     requires known { (i : ℕ) → i < length behind.now → get_or behind.now i 0 < length topo.now.subscribers }
     requires few { length behind.now ≤ length topo.now.subscribers }
-    ensures { IfOk result (λ edge. edge ≡ map (filter_of topo.now) behind.now) }
+    ensures { IfOk result (λ edge. edge ≡ map (wanting_of topo.now) behind.now) }
 {
     let _ = topo.subscribers();
     let mut edge = Edge::new(alloc);
     'subscribers: for s in behind {
-        edge.add(topo.filter(*s))?;
+        edge.add(topo.filter(*s), None)?;
     }
     Ok(edge)
 }
@@ -69,7 +69,7 @@ impl EdgeTable {
         }
     }
 
-    /// The place of the edge that has the filters of these subscribers: one that is there, or a new one.
+    /// The place of the edge that has these subscribers behind it: one that is there, or a new one.
     fn edge_for(&mut self, alloc: Global, topo: &Topology, behind: Numbers) -> Result<usize, Memory>
         requires known { (i : ℕ) → i < length behind → get_or behind i 0 < length topo.now.subscribers }
         requires few { length behind ≤ length topo.now.subscribers }
@@ -77,7 +77,7 @@ impl EdgeTable {
         ensures edges { OnOk result (AreEdges topo.now self.new) }
         ensures keeps { OnOk result (Keeps self.old.edges.items self.new.edges.items) }
         ensures place { IfOk result (λ i. i < length self.new.edges.items) }
-        ensures edge { IfOk result (λ i. get_or self.new.edges.items i [] ≡ map (filter_of topo.now) behind) }
+        ensures edge { IfOk result (λ i. get_or self.new.edges.items i [] ≡ map (wanting_of topo.now) behind) }
     {
         'entries: for i in 0..self.behind.len() {
             if self.behind[i].as_slice() == behind.as_slice() {
@@ -107,7 +107,7 @@ fn children_at(
     ensures keeps { OnOk result (Keeps table.old.edges.items table.new.edges.items) }
     ensures numbers { IfOk result (λ cs. map (λ c. c.number) cs.items ≡ children_of topo.now p b) }
     ensures behind { IfOk result (λ cs. map (λ c. get_or table.new.edges.items c.edge []) cs.items
-        ≡ map (filters_below topo.now p) (children_of topo.now p b)) }
+        ≡ map (wantings_below topo.now p) (children_of topo.now p b)) }
     ensures each { IfOk result (λ cs. AllByRecursion (λ c. c.edge < length table.new.edges.items) cs.items) }
 {
     let mut children = Vec::new(alloc);

@@ -1,5 +1,5 @@
 use Rattle.std.proofs.Common.{◌≡◌, ◌<◌, ◌++◌, ◌∷◌, [], length, map, get_or, refl, ap, ◌∙◌}
-use Rattle.gr_topo.specs.Topology.{filter_of}
+use Rattle.gr_model.specs.NetOf.{wanting_of}
 use Rattle.gr_broker_relay.specs.declared.place.Child.{Child}
 use Rattle.gr_broker_relay.proofs.Placing.{child_in, known_below, few_below, numbers_more_of, behind_more, bounds_stay, all_push, keeps_on}
 use Rattle.gr_broker_relay.proofs.place.children_at.Goals as goal
@@ -30,6 +30,6 @@ children-preserved c =
       numbers = ap (map (λ (x : Child). x.number)) more ∙ numbers_more_of t c.args.p c.args.b i before after keeps cs child numbers c.children-test.true c.children.invariant.numbers refl;
       behind = ap (map (λ (x : Child). get_or after x.edge [])) more
           ∙ behind_more t c.args.p c.args.b i before after keeps cs child numbers c.children-test.true c.children.invariant.each c.children.invariant.behind
-          (c.in_ok-edge.ensures.edge ∙ ap (map (filter_of t)) c.in_ok-behind.ensures);
+          (c.in_ok-edge.ensures.edge ∙ ap (map (wanting_of t)) c.in_ok-behind.ensures);
       each = rw more (all_push (λ (x : Child). x.edge < length after) cs child (bounds_stay before after keeps cs c.children.invariant.each) c.in_ok-edge.ensures.place);
     }

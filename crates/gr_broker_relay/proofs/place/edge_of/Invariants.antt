@@ -1,10 +1,10 @@
 use Rattle.std.proofs.Common.{◌≡◌, length, map, take}
-use Rattle.gr_topo.specs.Topology.{filter_of}
+use Rattle.gr_model.specs.NetOf.{wanting_of}
 use Rattle.gr_broker_relay.proofs.place.edge_of.Given as goal
 
--- the filters so far
+-- the subscribers so far
 abbrev pub invariant-subscribers : goal.invariant-subscribers
 invariant-subscribers l = record {
-  filters : l.edge ≡ map (filter_of l.topo) (take l.s-index l.behind);
+  filters : l.edge ≡ map (wanting_of l.topo) (take l.s-index l.behind);
   count : length l.edge ≡ l.s-index;
 }
