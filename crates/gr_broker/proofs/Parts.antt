@@ -3,8 +3,8 @@ use Rattle.std.proofs.Common.{◌≡◌, ◌≢◌, ◌⊎◌, inl, inr, ℕ, �
 use Rattle.std.specs.Prelude.{is_some, IsSome, ◌*◌}
 use Rattle.std.proofs.lemmas.List.{map-set, set-get_or, get_or-map, length-map, get_or-set_same, get_or-set_other}
 use Rattle.std.proofs.lemmas.Bool.{cases_eq, false≢true}
-use Rattle.gr_filter.specs.Tree.{Tree}
 use Rattle.gr_event.specs.declared.event.Event.{Event}
+use Rattle.gr_edge.specs.Pass.{Wanting}
 use Rattle.gr_publog.specs.declared.record.Record.{Record}
 use Rattle.gr_publog.specs.declared.record.LogFault.{LogFault}
 use Rattle.gr_publog.specs.declared.record.LogFault.TheVariants as fault
@@ -23,7 +23,7 @@ use Rattle.gr_broker.specs.Seen.{BrokerView, view_in, log_in, log_said, with_vie
 use Rattle.gr_broker.specs.Hosted.{AppendsAt}
 use Rattle.gr_broker.proofs.Hosted.{publish_log_is}
 
-module _ (number : ℕ) (here : List ℕ) (edges : List (List (Option Tree))) (places : List Position) (held : List Held) (p : ℕ) (h : Held) (lt : p < length held) (e : h ≡ get_or held p h) where
+module _ (number : ℕ) (here : List ℕ) (edges : List (List Wanting)) (places : List Position) (held : List Held) (p : ℕ) (h : Held) (lt : p < length held) (e : h ≡ get_or held p h) where
   -- the broker with these parts
   abbrev pub broker_of : List Held → BrokerView
   broker_of parts = seen_broker number here edges places parts

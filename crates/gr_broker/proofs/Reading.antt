@@ -7,7 +7,7 @@ use Rattle.gr_frame.specs.declared.fault.FrameKind.TheVariants as kind
 use Rattle.gr_frame.specs.declared.fault.FrameFault.{FrameFault}
 use Rattle.gr_frame.specs.Gives.{Fails, FailsAs, fault}
 use Rattle.gr_frame.specs.declared.Frame.{Frame}
-use Rattle.gr_filter.specs.Tree.{Tree}
+use Rattle.gr_edge.specs.Pass.{Wanting}
 use Rattle.gr_publog.specs.Crash.{LogView}
 use Rattle.gr_model.specs.Net.{Net}
 use Rattle.gr_model.specs.Broker.{View}
@@ -76,12 +76,12 @@ unfolding receipt
 fit_answer net now b f v e h = rw (receipt, e, h) refl
 
 -- what is kept of a publisher is that of its part
-pub part_is : (number : ℕ) (here : List ℕ) (edges : List (List (Option Tree))) (places : List Position) (held : List Held) (p : ℕ) (h : Held) → p < length held → h ≡ get_or held p h →
+pub part_is : (number : ℕ) (here : List ℕ) (edges : List (List Wanting)) (places : List Position) (held : List Held) (p : ℕ) (h : Held) → p < length held → h ≡ get_or held p h →
     held_view h ≡ view_in (seen_broker number here edges places held) p
 part_is number here edges places held p h lt e = ap held_view e ∙ sym (get_or-map held_view held p h blank_view lt)
 
 -- a broker whose part of one publisher was put back is the broker after the receipt
-pub put_back : (number : ℕ) (here : List ℕ) (edges : List (List (Option Tree))) (places : List Position) (held : List Held) (p : ℕ) (h h' : Held) (f : Frame) (r : Receipt) → f.head.publisher ≡ p → p < length held → h ≡ get_or held p h →
+pub put_back : (number : ℕ) (here : List ℕ) (edges : List (List Wanting)) (places : List Position) (held : List Held) (p : ℕ) (h h' : Held) (f : Frame) (r : Receipt) → f.head.publisher ≡ p → p < length held → h ≡ get_or held p h →
     h'.log ≡ h.log → held_view h' ≡ view_after r (held_view h) → seen_broker number here edges places (set held p h') ≡ after_receipt (Ok f) r (seen_broker number here edges places held)
 put_back number here edges places held p h h' f r ep lt e el ev = go r ev
   where

@@ -1,6 +1,6 @@
 -- What a contract sees of a broker
 use Rattle.std.specs.Prelude.{ℕ, ◌<◌, Bool, false, List, length, map, get_or, set, Option, Some, None, IsSome}
-use Rattle.gr_filter.specs.Tree.{Tree}
+use Rattle.gr_edge.specs.Pass.{Wanting}
 use Rattle.gr_publog.specs.declared.record.Record.{Record}
 use Rattle.gr_publog.specs.Crash.{LogView, with_record, failed}
 use Rattle.gr_pubend.specs.Log.{Log, log_of, empty_log}
@@ -83,7 +83,7 @@ abbrev pub IsHosted : BrokerView → ℕ → Type 0
 IsHosted b p = (p < length b.logs) × IsSome (log_in b p)
 
 -- a broker, by its parts
-abbrev pub seen_broker : ℕ → List ℕ → List (List (Option Tree)) → List Position → List Held → BrokerView
+abbrev pub seen_broker : ℕ → List ℕ → List (List Wanting) → List Position → List Held → BrokerView
 seen_broker number here edges positions held = record {
   number = number;
   here = here;
