@@ -1,5 +1,6 @@
 -- How a run over the outside leaves its counts and its journal
 use Rattle.std.specs.Prelude.{◌≡◌, ◌≢◌, ℕ, ◌≤◌, List, [], ◌∷◌, ◌++◌, Result, Err, IsErrOf, OnOk}
+use Rattle.std.specs.Prelude.{OnErr, IsOkUnless}
 use Rattle.gr_out.specs.declared.fault.RunFault.{RunFault}
 use Rattle.gr_out.specs.declared.fault.RunFault.TheVariants as run
 use Rattle.gr_out.specs.Entry.{Entry}
@@ -34,3 +35,11 @@ pub record PostMoves {T : Type 0} (faults faults' : ℕ) (result : Result T RunF
   pub never_falls : faults ≤ faults'
   pub same : OnOk result (faults' ≡ faults)
   pub rose : IsErrOf result run.Post → Rose faults faults'
+
+-- What a call that offers a note keeps: it ends early for want of memory alone, and has offered nothing then; an offer
+-- that fails is a loss, and none that the post counts
+pub record OfferKeeps {T : Type 0} (tells : Type 0) (journal journal' : List Entry) (faults faults' : ℕ)
+    (result : Result T RunFault) : Type 0 where
+  pub unsent : tells → OnErr result (journal' ≡ journal)
+  pub cause : IsOkUnless result run.Memory
+  pub same : faults' ≡ faults

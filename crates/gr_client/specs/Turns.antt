@@ -1,6 +1,8 @@
 -- The turns of a client's run: what one arrival leads to, what several do, and what stands behind the last of them
-use Rattle.std.specs.Prelude.{◌≡◌, ◌⊎◌, ℕ, ◌≤◌, Bool, true, false, List, [], ◌++◌, length, Option, Result, Ok, Err}
+use Rattle.std.specs.Prelude.{◌≡◌, ◌⊎◌, ℕ, ◌+◌, ◌^◌, ◌<◌, ◌≤◌, Bool, true, false, List, [], ◌++◌, length, Option, Result}
+use Rattle.std.specs.Prelude.{Ok, Err}
 use Rattle.std.specs.Prelude.{IsErrOf, OnOk, OnErr}
+use Rattle.gr_note.specs.declared.node.TheConstants.{FIRST_CLIENT}
 use Rattle.gr_out.specs.declared.fault.RunFault.{RunFault}
 use Rattle.gr_out.specs.declared.fault.RunFault.TheVariants as run
 use Rattle.gr_out.specs.Bytes.{with_more}
@@ -12,6 +14,11 @@ use Rattle.gr_client.specs.Moves.{IsExact, fault_entries, Begins}
 use Rattle.gr_client.specs.Client.{ClientView}
 use Rattle.gr_client.specs.Run.{after_all, turns_text, turns_entries, closing, last_line}
 use Rattle.gr_client.specs.Ran.{IsRunning, HasEnded, RunsThrough}
+
+-- the client of a publisher of a topology, whose node has a number
+pub record IsClientOf (t : TopologyView) (p : ℕ) (c : ClientView) : Type 0 where
+  pub publisher : p < length t.publishers
+  pub node : FIRST_CLIENT + c.publisher < 2 ^ 16
 
 -- what came in a turn that ended so: one arrival, or that nothing comes any more. Where a turn failed it may be that
 -- nothing came

@@ -1,11 +1,12 @@
 //! What a client offers to its host.
 
-ghost use Rattle.std.specs.Prelude.{◌≡◌, ◌+◌, ◌<◌, ◌^◌, ◌++◌, [], ◌∷◌, OnOk, OnErr, IsOkUnless};
+ghost use Rattle.std.specs.Prelude.{◌≡◌, ◌+◌, ◌<◌, ◌^◌, ◌++◌, [], ◌∷◌, OnOk};
 ghost use Rattle.gr_out.specs.Entry.{offered as offered_entry};
 ghost use Rattle.gr_note.specs.declared.node.TheConstants.{FIRST_CLIENT};
 ghost use Rattle.gr_note.specs.Bytes.{note_bytes};
 ghost use Rattle.gr_note.specs.Limits.{IsInRange};
 ghost use Rattle.gr_note.specs.Nodes.{client_node};
+ghost use Rattle.gr_client.specs.Moves.{OfferKeeps};
 ghost use Rattle.gr_client.specs.Run.{offer_entries, told_offers};
 
 use crate::client::Client;
@@ -24,9 +25,8 @@ fn offer_note<P: Post>(
     requires { IsInRange note.now }
     ensures sent { P.tells → OnOk result (P.journal post.new
         ≡ P.journal post.old ++ offered_entry from to (note_bytes note.now) ∷ []) }
-    ensures unsent { P.tells → OnErr result (P.journal post.new ≡ P.journal post.old) }
-    ensures cause { IsOkUnless result RunFault.Memory }
-    ensures post { P.faults post.new ≡ P.faults post.old }
+    ensures keeps { OfferKeeps P.tells (P.journal post.old) (P.journal post.new)
+        (P.faults post.old) (P.faults post.new) result }
 {
     let bytes = encode(alloc, note)?;
     match post.offer(from, to, bytes.as_slice()) {
@@ -48,9 +48,8 @@ pub(crate) fn offer<P: Post>(
     requires { FIRST_CLIENT + client.now.publisher < 2 ^ 16 }
     ensures sent { P.tells → OnOk result (P.journal post.new
         ≡ P.journal post.old ++ offer_entries host client.now) }
-    ensures unsent { P.tells → OnErr result (P.journal post.new ≡ P.journal post.old) }
-    ensures cause { IsOkUnless result RunFault.Memory }
-    ensures post { P.faults post.new ≡ P.faults post.old }
+    ensures keeps { OfferKeeps P.tells (P.journal post.old) (P.journal post.new)
+        (P.faults post.old) (P.faults post.new) result }
 {
     match client.offer()? {
         Some(note) => {
@@ -72,9 +71,8 @@ pub(crate) fn offer_told<P: Post>(
     requires { FIRST_CLIENT + client.now.publisher < 2 ^ 16 }
     ensures sent { P.tells → OnOk result (P.journal post.new
         ≡ P.journal post.old ++ told_offers host client.now told) }
-    ensures unsent { P.tells → OnErr result (P.journal post.new ≡ P.journal post.old) }
-    ensures cause { IsOkUnless result RunFault.Memory }
-    ensures post { P.faults post.new ≡ P.faults post.old }
+    ensures keeps { OfferKeeps P.tells (P.journal post.old) (P.journal post.new)
+        (P.faults post.old) (P.faults post.new) result }
 {
     match told {
         Some(_) => offer(alloc, client, host, post),

@@ -8,7 +8,7 @@ ghost use Rattle.gr_topo.specs.Topology.{client_of, host_of, address_of};
 ghost use Rattle.gr_client.specs.Moves.{SinkMoves, PostMoves};
 ghost use Rattle.gr_client.specs.Run.{begun};
 ghost use Rattle.gr_client.specs.Ran.{Course, IsRunOf, Posts, Prints, IsRunning, HasEnded, IsClientFault};
-ghost use Rattle.gr_client.specs.Turns.{WentOn, Finished};
+ghost use Rattle.gr_client.specs.Turns.{IsClientOf, WentOn, Finished};
 
 use crate::binding::bind_nodes;
 use crate::client::{Client, Progress};
@@ -55,8 +55,7 @@ fn go_on<P: Post, K: Sink>(
     post: &mut P,
     sink: &mut K,
 ) -> Result<(), RunFault>
-    requires publisher { p < length topo.now.publishers }
-    requires node { FIRST_CLIENT + client.old.publisher < 2 ^ 16 }
+    requires at { IsClientOf topo.now p client.old }
     requires piece { length piece.old ≡ 65535 }
     ensures went { WentOn topo.now p P.tells turns client.old client.new (K.taken sink.old) (K.taken sink.new)
         (P.journal post.old) (P.journal post.new) result }
@@ -90,8 +89,7 @@ fn finish<P: Post, K: Sink>(
     post: &mut P,
     sink: &mut K,
 ) -> Result<(), RunFault>
-    requires publisher { p < length topo.now.publishers }
-    requires node { FIRST_CLIENT + client.old.publisher < 2 ^ 16 }
+    requires at { IsClientOf topo.now p client.old }
     ensures finished { Finished topo.now p P.tells turns client.old (K.taken sink.old) (K.taken sink.new)
         (P.journal post.old) (P.journal post.new) result }
     ensures cause { IfErr result IsClientFault }

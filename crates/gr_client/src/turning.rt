@@ -1,7 +1,6 @@
 //! One arrival is taken, with what it causes.
 
-ghost use Rattle.std.specs.Prelude.{◌≡◌, ◌+◌, ◌<◌, ◌^◌, ◌++◌, length, IfErr, OnOk, OnErr};
-ghost use Rattle.gr_note.specs.declared.node.TheConstants.{FIRST_CLIENT};
+ghost use Rattle.std.specs.Prelude.{◌≡◌, ◌+◌, ◌<◌, ◌++◌, length, IfErr, OnOk, OnErr};
 ghost use Rattle.gr_note.specs.Decode.{note_decoded};
 ghost use Rattle.gr_out.specs.Bytes.{with_more};
 ghost use Rattle.gr_out.specs.Page.{TakesFront};
@@ -9,7 +8,7 @@ ghost use Rattle.gr_topo.specs.Topology.{host_of};
 ghost use Rattle.gr_client.specs.Moves.{SinkMoves, PostMoves};
 ghost use Rattle.gr_client.specs.Ran.{IsPutFault, IsClientFault};
 ghost use Rattle.gr_client.specs.Run.{heard_of, next_in, told_from, told_by, told_line, offers_by};
-ghost use Rattle.gr_client.specs.Turns.{Turned};
+ghost use Rattle.gr_client.specs.Turns.{IsClientOf, Turned};
 
 use crate::client::{Client, Progress};
 use crate::hearing::hear;
@@ -52,8 +51,7 @@ fn datagram_comes<P: Post, K: Sink>(
     post: &mut P,
     sink: &mut K,
 ) -> Result<(), RunFault>
-    requires publisher { p < length topo.now.publishers }
-    requires node { FIRST_CLIENT + client.old.publisher < 2 ^ 16 }
+    requires at { IsClientOf topo.now p client.old }
     ensures heard { OnOk result (client.new ≡ heard_of client.old (note_decoded bytes.now)) }
     ensures taken { OnOk result (K.taken sink.new ≡ with_more (K.taken sink.old)
         (told_line topo.now p (told_by client.old (heard_of client.old (note_decoded bytes.now))))) }
@@ -84,8 +82,7 @@ pub(crate) fn turn<P: Post, K: Sink>(
     post: &mut P,
     sink: &mut K,
 ) -> Result<bool, RunFault>
-    requires publisher { p < length topo.now.publishers }
-    requires node { FIRST_CLIENT + client.old.publisher < 2 ^ 16 }
+    requires at { IsClientOf topo.now p client.old }
     requires piece { length piece.old ≡ 65535 }
     ensures piece { length piece.new ≡ 65535 }
     ensures turned { Turned topo.now p P.tells client.old client.new (K.taken sink.old) (K.taken sink.new)

@@ -5,10 +5,10 @@ use Rattle.gr_client.proofs.running.go_on.Goals as goal
 pub turns-init : goal.turns-init
 turns-init g c = record { goes = none_came c.args.topo.now c.args.p g.P.Post.tells c.args.client.now _ _; sink = refl; post = refl; piece = c.requires.piece }
 
-pub turn-requires-clause-node : goal.turn-requires-clause-node
-turn-requires-clause-node g c =
+pub turn-requires-clause-at : goal.turn-requires-clause-at
+turn-requires-clause-at g c =
     let same : c.turns.client.publisher ≡ c.args.client.now.publisher = publisher_so_far _ _ _ _ _ _ _ _ _ _ c.turns.invariant.goes in
-    omega (arith, same, c.requires.node)
+    record { publisher = c.requires.at.publisher; node = omega (arith, same, c.requires.at.node) }
 
 pub turns-preserved : goal.turns-preserved
 turns-preserved g c =

@@ -12,8 +12,8 @@ use Rattle.gr_client.proofs.running.run_client.Goals as goal
 pub offer-requires : goal.offer-requires
 offer-requires g c = omega (arith, c.requires.own, c.requires.node)
 
-pub finish-requires-clause-node : goal.finish-requires-clause-node
-finish-requires-clause-node g c = omega (arith, c.requires.own, c.requires.node)
+pub finish-requires : goal.finish-requires
+finish-requires g c = record { at = record { publisher = c.requires.publisher; node = omega (arith, c.requires.own, c.requires.node) } }
 
 pub returns-in_err-bind_nodes-clause-ran : goal.returns-in_err-bind_nodes-clause-ran
 returns-in_err-bind_nodes-clause-ran g c = λ steps begins.
@@ -38,24 +38,24 @@ returns-in_err-offer-clause-ran g c = λ steps begins.
     let fault = err_from_is_err_and c.from_residual-in_err-offer.result c.from_residual-in_err-offer.ensures.1 in
     let bound = c.in_ok-bind_nodes.ensures.bound in
     rw (fault.1, fault.2)
-    (ran_unoffered t p g.P.Post.tells steps c.args.turns (g.K.Sink.taken c.args.sink.now) (g.P.Post.journal c.args.post.now) (g.P.Post.journal c.bind_nodes.new.post) (g.P.Post.journal c.offer.new.post) c.in_err-offer.field-0.0 c.in_err-offer.ensures.cause
-    (λ tells. bound_two t p (g.P.Post.journal c.args.post.now) (g.P.Post.journal c.bind_nodes.new.post) bound.0 bound.1.1.0 (bound.1.1.1.1 tells)) c.in_err-offer.ensures.unsent)
+    (ran_unoffered t p g.P.Post.tells steps c.args.turns (g.K.Sink.taken c.args.sink.now) (g.P.Post.journal c.args.post.now) (g.P.Post.journal c.bind_nodes.new.post) (g.P.Post.journal c.offer.new.post) c.in_err-offer.field-0.0 c.in_err-offer.ensures.keeps.cause
+    (λ tells. bound_two t p (g.P.Post.journal c.args.post.now) (g.P.Post.journal c.bind_nodes.new.post) bound.0 bound.1.1.0 (bound.1.1.1.1 tells)) c.in_err-offer.ensures.keeps.unsent)
 
 pub returns-in_err-offer-clause-cause : goal.returns-in_err-offer-clause-cause
 returns-in_err-offer-clause-cause g c =
     let fault = err_from_is_err_and c.from_residual-in_err-offer.result c.from_residual-in_err-offer.ensures.1 in
-    rw (fault.1, fault.2) (put_client {T = Unit {0}} (Err c.in_err-offer.field-0.0) (memory_put {T = Unit {0}} (Err c.in_err-offer.field-0.0) c.in_err-offer.ensures.cause))
+    rw (fault.1, fault.2) (put_client {T = Unit {0}} (Err c.in_err-offer.field-0.0) (memory_put {T = Unit {0}} (Err c.in_err-offer.field-0.0) c.in_err-offer.ensures.keeps.cause))
 
 pub returns-in_err-offer-clause-sink : goal.returns-in_err-offer-clause-sink
 returns-in_err-offer-clause-sink g c =
     let fault = err_from_is_err_and c.from_residual-in_err-offer.result c.from_residual-in_err-offer.ensures.1 in
-    rw (fault.1, fault.2) (memory_stays {T = Unit {0}} (g.K.Sink.faults c.args.sink.now) (g.K.Sink.faults c.args.sink.now) (Err c.in_err-offer.field-0.0) refl c.in_err-offer.ensures.cause)
+    rw (fault.1, fault.2) (memory_stays {T = Unit {0}} (g.K.Sink.faults c.args.sink.now) (g.K.Sink.faults c.args.sink.now) (Err c.in_err-offer.field-0.0) refl c.in_err-offer.ensures.keeps.cause)
 
 pub returns-in_err-offer-clause-post : goal.returns-in_err-offer-clause-post
 returns-in_err-offer-clause-post g c =
     let fault = err_from_is_err_and c.from_residual-in_err-offer.result c.from_residual-in_err-offer.ensures.1 in
     rw (fault.1, fault.2)
-    (put_moves {T = Unit {0}} (g.P.Post.faults c.args.post.now) (g.P.Post.faults c.offer.new.post) (Err c.in_err-offer.field-0.0) (c.offer.ensures.post ∙ c.in_ok-bind_nodes.ensures.moves.same) (memory_put {T = Unit {0}} (Err c.in_err-offer.field-0.0) c.in_err-offer.ensures.cause))
+    (put_moves {T = Unit {0}} (g.P.Post.faults c.args.post.now) (g.P.Post.faults c.offer.new.post) (Err c.in_err-offer.field-0.0) (c.offer.ensures.keeps.same ∙ c.in_ok-bind_nodes.ensures.moves.same) (memory_put {T = Unit {0}} (Err c.in_err-offer.field-0.0) c.in_err-offer.ensures.keeps.cause))
 
 pub returns-clause-ran : goal.returns-clause-ran
 returns-clause-ran g c = λ steps begins.
@@ -70,4 +70,4 @@ returns-clause-ran g c = λ steps begins.
 
 pub returns-clause-post : goal.returns-clause-post
 returns-clause-post g c =
-    moves_later (g.P.Post.faults c.args.post.now) (g.P.Post.faults c.offer.new.post) (g.P.Post.faults c.finish.new.post) c.finish.result (c.offer.ensures.post ∙ c.in_ok-bind_nodes.ensures.moves.same) c.finish.ensures.moves
+    moves_later (g.P.Post.faults c.args.post.now) (g.P.Post.faults c.offer.new.post) (g.P.Post.faults c.finish.new.post) c.finish.result (c.offer.ensures.keeps.same ∙ c.in_ok-bind_nodes.ensures.moves.same) c.finish.ensures.moves

@@ -16,7 +16,7 @@ returns-in_err-hear-clause-front g c =
 pub offer_told-requires : goal.offer_told-requires
 offer_told-requires g c =
     let same : c.hear.new.client.publisher ≡ c.args.client.now.publisher = ap (λ (x : ClientView). x.publisher) c.in_ok-hear.ensures.heard ∙ heard_publisher c.args.client.now (note_decoded c.args.bytes.now) in
-    omega (arith, same, c.requires.node)
+    omega (arith, same, c.requires.at.node)
 
 pub returns-in_err-tell-clause-front : goal.returns-in_err-tell-clause-front
 returns-in_err-tell-clause-front g c =
@@ -56,8 +56,8 @@ returns-clause-sent g c = λ tells.
     c.host.ensures.host c.in_ok-hear.ensures.heard told (c.offer_told.ensures.sent tells)
 
 pub returns-clause-cause : goal.returns-clause-cause
-returns-clause-cause g c = memory_put c.offer_told.result c.offer_told.ensures.cause
+returns-clause-cause g c = memory_put c.offer_told.result c.offer_told.ensures.keeps.cause
 
 pub returns-clause-sink : goal.returns-clause-sink
 returns-clause-sink g c =
-    memory_stays (g.K.Sink.faults c.args.sink.now) (g.K.Sink.faults c.tell.new.sink) c.offer_told.result (c.in_ok-tell.ensures.sink.same (λ e. cc)) c.offer_told.ensures.cause
+    memory_stays (g.K.Sink.faults c.args.sink.now) (g.K.Sink.faults c.tell.new.sink) c.offer_told.result (c.in_ok-tell.ensures.sink.same (λ e. cc)) c.offer_told.ensures.keeps.cause

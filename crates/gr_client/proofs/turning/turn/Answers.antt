@@ -34,9 +34,9 @@ returns-in-Ok-offer-clause-turned g c =
 pub returns-in-Err-offer-clause-turned : goal.returns-in-Err-offer-clause-turned
 returns-in-Err-offer-clause-turned g c =
     turned_cut c.args.topo.now c.args.p g.P.Post.tells (quiet c.in-Quiet.moment) c.args.client.now c.args.client.now
-    (g.K.Sink.taken c.args.sink.now) (g.K.Sink.taken c.args.sink.now) (g.P.Post.journal c.args.post.now) (g.P.Post.journal c.next.new.self) (g.P.Post.journal c.offer.new.post) c.in-Err-offer.fault (memory_put {T = Unit {0}} (Err c.in-Err-offer.fault) c.in-Err-offer.ensures.cause)
+    (g.K.Sink.taken c.args.sink.now) (g.K.Sink.taken c.args.sink.now) (g.P.Post.journal c.args.post.now) (g.P.Post.journal c.next.new.self) (g.P.Post.journal c.offer.new.post) c.in-Err-offer.fault (memory_put {T = Unit {0}} (Err c.in-Err-offer.fault) c.in-Err-offer.ensures.keeps.cause)
     (λ tells. c.in-Ok.ensures.journal tells ∙ ap (λ (a : PostArrival). g.P.Post.journal c.args.post.now ++ next_entries c.next.new.into (Ok a)) c.in-Quiet.is)
-    (front-nothing (g.K.Sink.taken c.args.sink.now) (g.K.Sink.taken c.args.sink.now) _ refl) c.in-Err-offer.ensures.unsent
+    (front-nothing (g.K.Sink.taken c.args.sink.now) (g.K.Sink.taken c.args.sink.now) _ refl) c.in-Err-offer.ensures.keeps.unsent
 
 pub returns-in-Closed-clause-turned : goal.returns-in-Closed-clause-turned
 returns-in-Closed-clause-turned g c =
