@@ -6,4 +6,5 @@ pub mod Parts
 pub mod Reading
 pub mod Receipts
 pub mod ReceiptSites
+pub mod Using
 pub mod Woken

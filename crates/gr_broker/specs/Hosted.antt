@@ -1,5 +1,5 @@
 -- A publisher's calls at its host: what is logged, told and kept
-use Rattle.std.specs.Prelude.{◌≡◌, ◌≢◌, ◌⊎◌, ℕ, ◌*◌, false, nat_lt, if◌then◌else◌, List, Option, Some, None, Result}
+use Rattle.std.specs.Prelude.{◌≡◌, ◌≢◌, ◌⊎◌, ℕ, false, nat_lt, if◌then◌else◌, List, Option, Some, None, Result}
 use Rattle.std.specs.Prelude.{Err, IsErrOf, OnOk}
 use Rattle.gr_event.specs.declared.event.Event.{Event}
 use Rattle.gr_out.specs.Lane.{Lane, moment, LeftSince}
@@ -14,6 +14,7 @@ use Rattle.gr_topo.specs.Topology.{TopologyView}
 use Rattle.gr_model.specs.Net.{Net, keeps_horizon}
 use Rattle.gr_model.specs.NetOf.{net_of}
 use Rattle.gr_model.specs.Broker.{View, Log, Outcome as MachineOutcome, publish, marking, wake, consolidated, done_upto}
+use Rattle.gr_broker.specs.Lanes.{log_lane}
 use Rattle.gr_broker.specs.Seen.{BrokerView, view_in, log_in, machine_log, with_view, with_log, with_logged, logged_at}
 
 -- A publish
@@ -68,7 +69,7 @@ after_wake t b p now =
 abbrev pub AppendsAt : {T : Type 0} → BrokerView → ℕ → Option Record → (ℕ → Lane) → (ℕ → Lane) → Result T LogFault
     → Type 0
 AppendsAt b p logged before after result =
-    elim (log_in b p) [ Some l ↦ Appends l logged (before (2 * p)) (after (2 * p)) result | None ↦ Unit {0} ]
+    elim (log_in b p) [ Some l ↦ Appends l logged (before (log_lane p)) (after (log_lane p)) result | None ↦ Unit {0} ]
 
 -- a log with a further record, or none
 abbrev pub logged : LogView → Option Record → LogView
@@ -89,7 +90,10 @@ pub record AppendsTwice {T : Type 0} (l : LogView) (first second : Option Record
 abbrev pub AppendsTwiceAt : {T : Type 0} → BrokerView → ℕ → Option Record → Option Record → (ℕ → Lane) → (ℕ → Lane)
     → Result T LogFault → Type 0
 AppendsTwiceAt b p first second before after result =
-    elim (log_in b p) [ Some l ↦ AppendsTwice l first second (before (2 * p)) (after (2 * p)) result | None ↦ Unit {0} ]
+    elim (log_in b p) [
+      | Some l ↦ AppendsTwice l first second (before (log_lane p)) (after (log_lane p)) result
+      | None ↦ Unit {0}
+    ]
 
 -- What stands after a wake, by its answer: after a fault all is as before, or as after the mark; where the disk failed,
 -- that log has to be opened again

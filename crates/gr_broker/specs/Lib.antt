@@ -1,8 +1,10 @@
 pub mod Seen
+pub mod Lanes
 pub mod Of
 pub mod Told
 pub mod Hosted
 pub mod Host
+pub mod Keeps
 pub mod Parts
 pub mod Receipt
 pub mod Opened

@@ -1,5 +1,5 @@
 -- The broker of a topology
-use Rattle.std.specs.Prelude.{◌≡◌, ℕ, ◌*◌, ◌<◌, length, map, Some, is_some}
+use Rattle.std.specs.Prelude.{◌≡◌, ℕ, ◌<◌, length, map, Some, is_some}
 use Rattle.gr_topo.specs.Topology.{TopologyView, subscribers_of}
 use Rattle.gr_out.specs.Lane.{Lane}
 use Rattle.gr_publog.specs.Crash.{LogView}
@@ -8,6 +8,7 @@ use Rattle.gr_model.specs.Net.{numbers, is_host}
 use Rattle.gr_model.specs.NetOf.{net_of}
 use Rattle.gr_broker_relay.specs.Branch.{branch_of}
 use Rattle.gr_broker_relay.specs.Kept.{IsKept}
+use Rattle.gr_broker.specs.Lanes.{log_lane}
 use Rattle.gr_broker.specs.Seen.{BrokerView, view_in, log_in}
 
 -- A broker of a topology
@@ -19,9 +20,9 @@ pub record IsBrokerOf (t : TopologyView) (b : BrokerView) : Type 0 where
   pub logs : length b.logs ≡ length t.publishers
   pub kept : (p : ℕ) → p < length t.publishers → IsKept (net_of t) p b.number (view_in b p)
   pub hosted : (p : ℕ) → p < length t.publishers → is_some (log_in b p) ≡ is_host (net_of t) p b.number
-  pub lanes : (p : ℕ) (l : LogView) → log_in b p ≡ Some l → l.lane ≡ 2 * p
+  pub lanes : (p : ℕ) (l : LogView) → log_in b p ≡ Some l → l.lane ≡ log_lane p
   pub late : (p : ℕ) (l : LogView) → log_in b p ≡ Some l → l.late ≡ t.late
 
 -- each log that is not broken stands as the last call left it
 abbrev pub LogsStand : (ℕ → Lane) → BrokerView → Type 0
-LogsStand lanes b = (p : ℕ) (l : LogView) → log_in b p ≡ Some l → IsReady l (lanes (2 * p))
+LogsStand lanes b = (p : ℕ) (l : LogView) → log_in b p ≡ Some l → IsReady l (lanes (log_lane p))

@@ -1,5 +1,5 @@
 -- A broker starts over the logs that its lanes hold
-use Rattle.std.specs.Prelude.{◌≡◌, ◌≢◌, ◌⊎◌, ℕ, ◌*◌, ◌<◌, true, false, ◌&&◌, if◌then◌else◌, List, [], ◌++◌, length}
+use Rattle.std.specs.Prelude.{◌≡◌, ◌≢◌, ◌⊎◌, ℕ, ◌<◌, true, false, ◌&&◌, if◌then◌else◌, List, [], ◌++◌, length}
 use Rattle.std.specs.Prelude.{Some, Ok, Err, IsOk, IsSome, flat_map}
 use Rattle.gr_topo.specs.Topology.{TopologyView}
 use Rattle.gr_out.specs.Lane.{Lane, content, moment, MayLeave, LeftSince}
@@ -11,6 +11,7 @@ use Rattle.gr_model.specs.NetOf.{net_of}
 use Rattle.gr_model.specs.Broker.{Log, View, Outcome as MachineOutcome, learn, started}
 use Rattle.gr_model.specs.Opening.{reopened_line}
 use Rattle.gr_broker_relay.specs.declared.outcome.Outcome.{Outcome}
+use Rattle.gr_broker.specs.Lanes.{log_lane}
 use Rattle.gr_broker.specs.Seen.{BrokerView, view_in, log_in, machine_log}
 use Rattle.gr_broker.specs.Of.{IsBrokerOf}
 
@@ -38,8 +39,9 @@ pub record StartsOver (t : TopologyView) (n : ℕ) (b : BrokerView) (told : Outc
 
 -- the lane of each publisher that is here was opened as its log, and no other lane was touched
 pub record OpensLanes (t : TopologyView) (b : BrokerView) (before after : ℕ → Lane) : Type 0 where
-  pub opened : (p : ℕ) (l : LogView) → log_in b p ≡ Some l → Opens t.late (before (2 * p)) (after (2 * p)) (Ok l)
-  pub others : (n : ℕ) → ((p : ℕ) → IsSome (log_in b p) → n ≢ 2 * p) → after n ≡ before n
+  pub opened : (p : ℕ) (l : LogView) → log_in b p ≡ Some l
+      → Opens t.late (before (log_lane p)) (after (log_lane p)) (Ok l)
+  pub others : (n : ℕ) → ((p : ℕ) → IsSome (log_in b p) → n ≢ log_lane p) → after n ≡ before n
 
 -- at every moment a crash leaves what it might have left before, or what reads as before
 abbrev pub LosesNothing : List ℕ → Lane → Lane → Type 0
@@ -51,5 +53,5 @@ LosesNothing late before after = (image : List ℕ) → LeftSince after (moment 
 pub record IsDamagedAt (t : TopologyView) (b p at : ℕ) (lanes : ℕ → Lane) : Type 0 where
   pub publisher : p < length t.publishers
   pub hosted : is_host (net_of t) p b ≡ true
-  pub fault : log_text t.late (content (lanes (2 * p))) ≡ Err at
-  pub before : (q : ℕ) → q < p → is_host (net_of t) q b ≡ true → IsOk (log_text t.late (content (lanes (2 * q))))
+  pub fault : log_text t.late (content (lanes (log_lane p))) ≡ Err at
+  pub before : (q : ℕ) → q < p → is_host (net_of t) q b ≡ true → IsOk (log_text t.late (content (lanes (log_lane q))))

@@ -1,5 +1,5 @@
 -- A broker's start, publisher by publisher: what is kept of those so far, and what was done to their lanes
-use Rattle.std.specs.Prelude.{◌≡◌, ◌≢◌, ℕ, ◌*◌, ◌<◌, Bool, true, false, List, [], length, map, get_or, Option, Some}
+use Rattle.std.specs.Prelude.{◌≡◌, ◌≢◌, ℕ, ◌<◌, Bool, true, false, List, [], length, map, get_or, Option, Some}
 use Rattle.std.specs.Prelude.{None, Ok, is_some, flat_map}
 use Rattle.gr_topo.specs.Topology.{TopologyView, children_of}
 use Rattle.gr_out.specs.Lane.{Lane}
@@ -17,6 +17,7 @@ use Rattle.gr_broker_relay.specs.declared.held.Held.{Held}
 use Rattle.gr_broker_relay.specs.declared.site.Site.{Site}
 use Rattle.gr_broker_relay.specs.Held.{held_view}
 use Rattle.gr_broker_relay.specs.Kept.{IsKept}
+use Rattle.gr_broker.specs.Lanes.{log_lane}
 use Rattle.gr_broker.specs.declared.outcome.BrokerFault.{BrokerFault}
 use Rattle.gr_broker.specs.declared.outcome.BrokerFault.TheVariants as refused
 use Rattle.gr_broker.specs.Seen.{log_said}
@@ -48,7 +49,7 @@ pub record IsStarted (t : TopologyView) (p b : ℕ) (v : View) (l : Option LogVi
   pub view : v ≡ (opened_at (net_of t) p b (log_said l)).view
   pub kept : IsKept (net_of t) p b v
   pub hosted : is_some l ≡ is_host (net_of t) p b
-  pub lane : (m : LogView) → l ≡ Some m → m.lane ≡ 2 * p
+  pub lane : (m : LogView) → l ≡ Some m → m.lane ≡ log_lane p
   pub whole : (m : LogView) → l ≡ Some m → m.broken ≡ false
   pub late : (m : LogView) → l ≡ Some m → m.late ≡ t.late
 
@@ -73,10 +74,10 @@ pub record AreStarted (t : TopologyView) (b upto : ℕ) (views : List View) (log
 -- the lane of each of these publishers that is here was opened as its log
 abbrev pub AreOpened : TopologyView → List (Option LogView) → (ℕ → Lane) → (ℕ → Lane) → Type 0
 AreOpened t logs before after =
-    (p : ℕ) (l : LogView) → get_or logs p None ≡ Some l → Opens t.late (before (2 * p)) (after (2 * p)) (Ok l)
+    (p : ℕ) (l : LogView) → get_or logs p None ≡ Some l → Opens t.late (before (log_lane p)) (after (log_lane p)) (Ok l)
 
 -- no other lane was touched than those of so many publishers that are here, and those have lost nothing
 pub record TouchesLanes (t : TopologyView) (b upto : ℕ) (before after : ℕ → Lane) : Type 0 where
-  pub others : (n : ℕ) → ((p : ℕ) → p < upto → is_host (net_of t) p b ≡ true → n ≢ 2 * p) → after n ≡ before n
+  pub others : (n : ℕ) → ((p : ℕ) → p < upto → is_host (net_of t) p b ≡ true → n ≢ log_lane p) → after n ≡ before n
   pub any_moment : (p : ℕ) → p < upto → is_host (net_of t) p b ≡ true
-      → LosesNothing t.late (before (2 * p)) (after (2 * p))
+      → LosesNothing t.late (before (log_lane p)) (after (log_lane p))

@@ -1,25 +1,25 @@
 //! One broker of a topology.
 
-ghost use Rattle.std.specs.Prelude.{◌≡◌, ◌≢◌, ◌↔◌, ◌⊎◌, ℕ, ◌*◌, ◌<◌, ◌≤◌, true, List, length, Option, Some, None};
+ghost use Rattle.std.specs.Prelude.{◌≡◌, ◌≢◌, ◌↔◌, ◌⊎◌, ℕ, ◌<◌, ◌≤◌, true, length, Some, None};
 ghost use Rattle.std.specs.Prelude.{Result, Err, IsSome, IfOk, OnOk, OnErr, IsErrOf};
 ghost use Rattle.gr_frame.specs.Decode.{frame_decoded};
 ghost use Rattle.gr_out.specs.declared.disk.Stop.TheVariants.{Unset};
-ghost use Rattle.gr_out.specs.Lane.{content, moment, has_stopped, MayLeave, LeftSince};
+ghost use Rattle.gr_out.specs.Lane.{has_stopped};
 ghost use Rattle.gr_out.specs.Stops.{StaysFaultless};
 ghost use Rattle.gr_tick.specs.declared.TheConstants.{MAX_TICK};
-ghost use Rattle.gr_publog.specs.Text.{log_text};
-ghost use Rattle.gr_publog.specs.Crash.{LogView, EitherRose};
-ghost use Rattle.gr_publog.specs.Calls.{GoesOn, Tally, Causes, Leaves};
+ghost use Rattle.gr_publog.specs.Calls.{Tally, Leaves};
 ghost use Rattle.gr_model.specs.Net.{is_host};
 ghost use Rattle.gr_model.specs.NetOf.{net_of};
 ghost use Rattle.gr_model.specs.Broker.{Outcome as MachineOutcome};
 ghost use Rattle.gr_broker_relay.specs.Told.{Tells};
+ghost use Rattle.gr_broker.specs.Lanes.{log_lane};
 ghost use Rattle.gr_broker.specs.Seen.{view_in, log_in, machine_log, is_broken, broken_at, IsHosted};
 ghost use Rattle.gr_broker.specs.Of.{IsBrokerOf, LogsStand};
 ghost use Rattle.gr_broker.specs.Told.{log_answer};
 ghost use Rattle.gr_broker.specs.Hosted.{publish_at, publish_logs_at, after_publish, wake_at, mark_logs_at};
 ghost use Rattle.gr_broker.specs.Hosted.{cut_logs_at, after_mark, after_wake, AppendsAt, AppendsTwiceAt, WakeLeaves};
 ghost use Rattle.gr_broker.specs.Receipt.{receipt, after_receipt, Answers};
+ghost use Rattle.gr_broker.specs.Keeps.{UsesLane};
 ghost use Rattle.gr_broker.specs.Opened.{StartsOver, OpensLanes, LosesNothing, IsDamagedAt};
 
 use crate::outcome::{BrokerFault, Received, Spare};
@@ -112,21 +112,21 @@ impl Broker {
         ensures stands { D.tells → IfOk result (λ s. LogsStand (D.lane_of disk.new) s.broker) }
         // The lanes of publishers that are elsewhere stay as they are
         ensures others { D.tells → (n : ℕ)
-            → ((p : ℕ) → p < length topo.now.publishers → is_host (net_of topo.now) p number ≡ true → n ≢ 2 * p)
+            → ((p : ℕ) → p < length topo.now.publishers → is_host (net_of topo.now) p number ≡ true → n ≢ log_lane p)
             → D.lane_of disk.new n ≡ D.lane_of disk.old n }
         // At every moment a crash leaves of a lane what it might have left before, or what reads as before
         ensures any_moment { D.tells → (p : ℕ) → p < length topo.now.publishers
             → is_host (net_of topo.now) p number ≡ true
-            → LosesNothing topo.now.late (D.lane_of disk.old (2 * p)) (D.lane_of disk.new (2 * p)) }
+            → LosesNothing topo.now.late (D.lane_of disk.old (log_lane p)) (D.lane_of disk.new (log_lane p)) }
         ensures tally { let f = D.faults disk.old in let s = D.stops disk.old in
             Tally f s (D.faults disk.new) (D.stops disk.new) (log_answer result) }
         // On a faultless disk only a lane that was stopped makes it fail
         ensures by_stop { D.tells → D.faultless disk.old → IsErrOf result BrokerFault.Disk
-            → (p : ℕ) × (has_stopped (D.lane_of disk.new (2 * p)).stop ≡ true) }
+            → (p : ℕ) × (has_stopped (D.lane_of disk.new (log_lane p)).stop ≡ true) }
         // and where no stop was ordered on the lanes of the publishers that are here, nothing does
         ensures never_fails { D.tells → D.faultless disk.old
             → ((p : ℕ) → p < length topo.now.publishers → is_host (net_of topo.now) p number ≡ true
-            → (D.lane_of disk.old (2 * p)).stop ≡ Unset)
+            → (D.lane_of disk.old (log_lane p)).stop ≡ Unset)
             → result ≢ Err BrokerFault.Disk }
         ensures faultless { let f = D.faults disk.old in
             StaysFaultless (D.faultless disk.old) (D.faultless disk.new) f (D.faults disk.new) }
@@ -194,18 +194,11 @@ impl Broker {
         // The disk: one record, or none
         ensures lane { D.tells → AppendsAt self.old p (publish_logs_at self.old p now number event.now)
             (D.lane_of disk.old) (D.lane_of disk.new) (log_answer result) }
-        ensures goes_on { D.tells → GoesOn (D.lane_of disk.old (2 * p)) (D.lane_of disk.new (2 * p)) }
         ensures reopen { IsErrOf result BrokerFault.Reopen
             ↔ ((is_broken (log_in self.old p) ≡ true) × IsSome (publish_logs_at self.old p now number event.now)) }
-        ensures idle { IsErrOf result BrokerFault.Reopen → disk.new ≡ disk.old }
         ensures untouched { publish_logs_at self.old p now number event.now ≡ None → disk.new ≡ disk.old }
-        ensures tally { let f = D.faults disk.old in let s = D.stops disk.old in
-            Tally f s (D.faults disk.new) (D.stops disk.new) (log_answer result) }
-        ensures causes { let f = D.faults disk.old in let f' = D.faults disk.new in
-            D.tells → Causes (D.faultless disk.old) (D.lane_of disk.new (2 * p)) f f' (log_answer result) }
-        ensures faultless { let f = D.faults disk.old in
-            StaysFaultless (D.faultless disk.old) (D.faultless disk.new) f (D.faults disk.new) }
-        ensures others { D.tells → (n : ℕ) → n ≢ 2 * p → D.lane_of disk.new n ≡ D.lane_of disk.old n }
+        ensures uses { let answer = log_answer result in
+            UsesLane D.tells D.faultless D.lane_of D.faults D.stops (log_lane p) disk.old disk.new answer }
         // so that the next call may be made
         ensures stands { D.tells → LogsStand (D.lane_of disk.new) self.new }
     {
@@ -293,20 +286,13 @@ impl Broker {
         ensures lane { let mark = mark_logs_at topo.now self.old p now in
             let cut = cut_logs_at topo.now self.old p now in
             D.tells → AppendsTwiceAt self.old p mark cut (D.lane_of disk.old) (D.lane_of disk.new) (log_answer result) }
-        ensures goes_on { D.tells → GoesOn (D.lane_of disk.old (2 * p)) (D.lane_of disk.new (2 * p)) }
         ensures reopen { IsErrOf result BrokerFault.Reopen ↔ ((is_broken (log_in self.old p) ≡ true)
             × (IsSome (mark_logs_at topo.now self.old p now) ⊎ IsSome (cut_logs_at topo.now self.old p now))) }
-        ensures idle { IsErrOf result BrokerFault.Reopen → disk.new ≡ disk.old }
         ensures below { log_in self.old p ≡ None → disk.new ≡ disk.old }
         // A log that the disk has failed is not written to any more
         ensures closed { is_broken (log_in self.old p) ≡ true → disk.new ≡ disk.old }
-        ensures tally { let f = D.faults disk.old in let s = D.stops disk.old in
-            Tally f s (D.faults disk.new) (D.stops disk.new) (log_answer result) }
-        ensures causes { let f = D.faults disk.old in let f' = D.faults disk.new in
-            D.tells → Causes (D.faultless disk.old) (D.lane_of disk.new (2 * p)) f f' (log_answer result) }
-        ensures faultless { let f = D.faults disk.old in
-            StaysFaultless (D.faultless disk.old) (D.faultless disk.new) f (D.faults disk.new) }
-        ensures others { D.tells → (n : ℕ) → n ≢ 2 * p → D.lane_of disk.new n ≡ D.lane_of disk.old n }
+        ensures uses { let answer = log_answer result in
+            UsesLane D.tells D.faultless D.lane_of D.faults D.stops (log_lane p) disk.old disk.new answer }
         ensures stands { D.tells → LogsStand (D.lane_of disk.new) self.new }
     {
         let seat = Seat {

@@ -1,18 +1,16 @@
 //! A publisher's calls at its host: an event is logged and learned, silence is marked, and what all children have is
 //! cut.
 
-ghost use Rattle.std.specs.Prelude.{◌≡◌, ◌≢◌, ◌↔◌, ◌⊎◌, ℕ, ◌+◌, ◌++◌, ◌∷◌, [], ◌<◌, ◌≤◌, true, false, Some};
-ghost use Rattle.std.specs.Prelude.{None, Err, IsErr, IsSome, IsErrOf, IfOk, OnOk, OnErr};
-ghost use Rattle.gr_out.specs.Stops.{StaysFaultless};
+ghost use Rattle.std.specs.Prelude.{◌≡◌, ◌≢◌, ◌↔◌, ◌⊎◌, ◌+◌, ◌++◌, ◌∷◌, [], ◌<◌, ◌≤◌, true, false, Some};
+ghost use Rattle.std.specs.Prelude.{None, Err, IsErr, IsSome, IsErrOf, IfOk, OnOk};
 ghost use Rattle.gr_tick.specs.declared.TheConstants.{MAX_TICK};
 ghost use Rattle.gr_curio.specs.Wants.{runs_of};
 ghost use Rattle.gr_publog.specs.State.{standing_of, may_follow};
 ghost use Rattle.gr_publog.specs.Crash.{with_record, failed};
-ghost use Rattle.gr_publog.specs.Calls.{IsReady, GoesOn, Appends, Tally, Causes, Leaves};
+ghost use Rattle.gr_publog.specs.Calls.{Appends, Leaves};
 ghost use Rattle.gr_pubend.specs.Log.{Log as MachineLog, log_of};
 ghost use Rattle.gr_pubend.specs.Answers.{quieted, publish_logs, quiet_logs, IsPlanned, IsPlannedMark};
 ghost use Rattle.gr_topo.specs.Topology.{children_of};
-ghost use Rattle.gr_model.specs.Net.{is_host};
 ghost use Rattle.gr_model.specs.NetOf.{net_of};
 ghost use Rattle.gr_model.specs.Broker.{Outcome as MachineOutcome, learn, publish, publish_by, marking};
 ghost use Rattle.gr_model.specs.Broker.{marking_by, wake_host};
@@ -22,6 +20,7 @@ ghost use Rattle.gr_broker_relay.specs.Told.{Tells, Adds, AddsFrames, IsBlank};
 ghost use Rattle.gr_broker_relay.specs.Cuts.{tick_cut};
 ghost use Rattle.gr_broker.specs.Hosted.{logged, cut_logs, AppendsTwice, WakeLeaves};
 ghost use Rattle.gr_broker.specs.Host.{host_with, tick_marked, mark_lines, cut_lines, expected_frames};
+ghost use Rattle.gr_broker.specs.Keeps.{IsAtHost, KeepsPart, IsReadyOn, UsesLog};
 
 use gr_broker_relay::{
     Held, Memory, Outcome, Site, apply_learning, cut_due, expect_children, plan_learning,
@@ -48,12 +47,10 @@ fn log_and_learn<D: Disk>(
     fresh: &Piece<K>,
     into: &mut Outcome,
 ) -> Result<(), LogFault>
-    requires site { IsSite site.now }
-    requires host { is_host (net_of site.now.topo.now) site.now.publisher site.now.broker ≡ true }
-    requires kept { IsKept (net_of site.now.topo.now) site.now.publisher site.now.broker (held_view held.old) }
+    requires at { IsAtHost site.now held.old }
     requires whole { log.old.broken ≡ false }
     requires follows { may_follow (standing_of log.old.late log.old.records) entry.now ≡ true }
-    requires stands { D.tells → IsReady log.old (D.lane_of disk.old log.old.lane) }
+    requires stands { IsReadyOn D.tells (D.lane_of disk.old) log.old }
     ensures adds { OnOk result ((l : MachineLog) →
         let o : MachineOutcome = learn (net_of site.now.topo.now) site.now.publisher site.now.broker fresh.now
         (held_view held.old) l in
@@ -62,22 +59,12 @@ fn log_and_learn<D: Disk>(
         let o : MachineOutcome = learn (net_of site.now.topo.now) site.now.publisher site.now.broker fresh.now
         (held_view held.old) l in
         held_view held.new ≡ o.view) }
-    ensures err { OnErr result (held_view held.new ≡ held_view held.old) }
-    ensures kept { IsKept (net_of site.now.topo.now) site.now.publisher site.now.broker (held_view held.new) }
-    ensures elsewhere { held.new.log ≡ held.old.log }
+    ensures part { KeepsPart site.now held.old held.new result }
     ensures log { Leaves log.old (with_record entry.now log.old) (failed log.old) log.new result }
     ensures lane { let l = log.old in let before = D.lane_of disk.old l.lane in
         D.tells → Appends l (Some entry.now) before (D.lane_of disk.new l.lane) result }
     ensures never_reopen { result ≢ Err LogFault.Reopen }
-    ensures stands { D.tells → IsReady log.new (D.lane_of disk.new log.new.lane) }
-    ensures goes_on { let lane = log.old.lane in D.tells → GoesOn (D.lane_of disk.old lane) (D.lane_of disk.new lane) }
-    ensures tally { let f = D.faults disk.old in let s = D.stops disk.old in
-        Tally f s (D.faults disk.new) (D.stops disk.new) result }
-    ensures causes { let f = D.faults disk.old in let f' = D.faults disk.new in
-        D.tells → Causes (D.faultless disk.old) (D.lane_of disk.new log.old.lane) f f' result }
-    ensures faultless { let f = D.faults disk.old in
-        StaysFaultless (D.faultless disk.old) (D.faultless disk.new) f (D.faults disk.new) }
-    ensures others { D.tells → (n : ℕ) → n ≢ log.old.lane → D.lane_of disk.new n ≡ D.lane_of disk.old n }
+    ensures uses { UsesLog D.tells D.faultless D.lane_of D.faults D.stops disk.old disk.new log.old log.new result }
 {
     let changes = match plan_learning(site, held, fresh, into) {
         Ok(changes) => changes,
@@ -116,11 +103,9 @@ fn log_event<D: Disk>(
     fresh: &Piece<K>,
     into: &mut Outcome,
 ) -> Result<(), LogFault>
-    requires site { IsSite site.now }
-    requires host { is_host (net_of site.now.topo.now) site.now.publisher site.now.broker ≡ true }
-    requires kept { IsKept (net_of site.now.topo.now) site.now.publisher site.now.broker (held_view held.old) }
+    requires at { IsAtHost site.now held.old }
     requires planned { IsPlanned log.old.records number event.now (Published.Logged tick fresh.now) }
-    requires stands { D.tells → IsReady log.old (D.lane_of disk.old log.old.lane) }
+    requires stands { IsReadyOn D.tells (D.lane_of disk.old) log.old }
     requires blank { IsBlank into.old }
     ensures told { OnOk result (Tells (publish_by
         (net_of site.now.topo.now) site.now.publisher site.now.broker number event.now
@@ -129,24 +114,13 @@ fn log_event<D: Disk>(
         (net_of site.now.topo.now) site.now.publisher site.now.broker number event.now
         (held_view held.old) (log_of log.old.records) (Published.Logged tick fresh.now) in held_view held.new ≡
         o.view) }
-    ensures err { OnErr result (held_view held.new ≡ held_view held.old) }
-    ensures kept { IsKept (net_of site.now.topo.now) site.now.publisher site.now.broker (held_view held.new) }
-    ensures elsewhere { held.new.log ≡ held.old.log }
+    ensures part { KeepsPart site.now held.old held.new result }
     ensures log { Leaves log.old (with_record (Record.Event tick number event.now) log.old)
         (failed log.old) log.new result }
     ensures lane { let l = log.old in let before = D.lane_of disk.old l.lane in
         D.tells → Appends l (Some (Record.Event tick number event.now)) before (D.lane_of disk.new l.lane) result }
-    ensures goes_on { let lane = log.old.lane in D.tells → GoesOn (D.lane_of disk.old lane) (D.lane_of disk.new lane) }
     ensures reopen { IsErrOf result LogFault.Reopen ↔ (log.old.broken ≡ true) }
-    ensures idle { IsErrOf result LogFault.Reopen → disk.new ≡ disk.old }
-    ensures stands { D.tells → IsReady log.new (D.lane_of disk.new log.new.lane) }
-    ensures tally { let f = D.faults disk.old in let s = D.stops disk.old in
-        Tally f s (D.faults disk.new) (D.stops disk.new) result }
-    ensures causes { let f = D.faults disk.old in let f' = D.faults disk.new in
-        D.tells → Causes (D.faultless disk.old) (D.lane_of disk.new log.old.lane) f f' result }
-    ensures faultless { let f = D.faults disk.old in
-        StaysFaultless (D.faultless disk.old) (D.faultless disk.new) f (D.faults disk.new) }
-    ensures others { D.tells → (n : ℕ) → n ≢ log.old.lane → D.lane_of disk.new n ≡ D.lane_of disk.old n }
+    ensures uses { UsesLog D.tells D.faultless D.lane_of D.faults D.stops disk.old disk.new log.old log.new result }
 {
     if log.is_broken() {
         return Err(LogFault::Reopen);
@@ -187,7 +161,8 @@ fn tell(line: Report, into: &mut Outcome) -> Result<(), LogFault>
 }
 
 /// Publishes an event under a number at the host, at the moment `now`: the machine's publish. Only once the event is
-/// synced in the log it is learned, told and sent. What is told and sent is put into an outcome that told nothing before.
+/// synced in the log it is learned, told and sent. What is told and sent is put into an outcome that told nothing
+/// before.
 ///
 /// After `Memory` nothing has changed. After `Disk` the log is broken and all else is as before. `Reopen` comes where
 /// a broken log would be appended to, whatever else is wanting.
@@ -201,11 +176,9 @@ pub(crate) fn publish<D: Disk>(
     now: u64,
     into: &mut Outcome,
 ) -> Result<(), LogFault>
-    requires site { IsSite site.now }
-    requires host { is_host (net_of site.now.topo.now) site.now.publisher site.now.broker ≡ true }
-    requires kept { IsKept (net_of site.now.topo.now) site.now.publisher site.now.broker (held_view held.old) }
+    requires at { IsAtHost site.now held.old }
     requires now { now ≤ MAX_TICK }
-    requires stands { D.tells → IsReady log.old (D.lane_of disk.old log.old.lane) }
+    requires stands { IsReadyOn D.tells (D.lane_of disk.old) log.old }
     requires blank { IsBlank into.old }
     ensures told { OnOk result (Tells (publish
         (net_of site.now.topo.now) site.now.publisher site.now.broker now number event.now
@@ -213,27 +186,16 @@ pub(crate) fn publish<D: Disk>(
     ensures view { OnOk result (let o : MachineOutcome = publish
         (net_of site.now.topo.now) site.now.publisher site.now.broker now number event.now
         (held_view held.old) (log_of log.old.records) in held_view held.new ≡ o.view) }
-    ensures err { OnErr result (held_view held.new ≡ held_view held.old) }
-    ensures kept { IsKept (net_of site.now.topo.now) site.now.publisher site.now.broker (held_view held.new) }
-    ensures elsewhere { held.new.log ≡ held.old.log }
+    ensures part { KeepsPart site.now held.old held.new result }
     ensures log { let r = publish_logs log.old.records number event.now now in
         Leaves log.old (logged log.old r) (failed log.old) log.new result }
     ensures lane { let l = log.old in let before = D.lane_of disk.old l.lane in let r =
         publish_logs l.records number event.now now in
         D.tells → Appends l r before (D.lane_of disk.new l.lane) result }
-    ensures goes_on { let lane = log.old.lane in D.tells → GoesOn (D.lane_of disk.old lane) (D.lane_of disk.new lane) }
     ensures reopen { IsErrOf result LogFault.Reopen
         ↔ ((log.old.broken ≡ true) × IsSome (publish_logs log.old.records number event.now now)) }
-    ensures idle { IsErrOf result LogFault.Reopen → disk.new ≡ disk.old }
     ensures untouched { publish_logs log.old.records number event.now now ≡ None → disk.new ≡ disk.old }
-    ensures stands { D.tells → IsReady log.new (D.lane_of disk.new log.new.lane) }
-    ensures tally { let f = D.faults disk.old in let s = D.stops disk.old in
-        Tally f s (D.faults disk.new) (D.stops disk.new) result }
-    ensures causes { let f = D.faults disk.old in let f' = D.faults disk.new in
-        D.tells → Causes (D.faultless disk.old) (D.lane_of disk.new log.old.lane) f f' result }
-    ensures faultless { let f = D.faults disk.old in
-        StaysFaultless (D.faultless disk.old) (D.faultless disk.new) f (D.faults disk.new) }
-    ensures others { D.tells → (n : ℕ) → n ≢ log.old.lane → D.lane_of disk.new n ≡ D.lane_of disk.old n }
+    ensures uses { UsesLog D.tells D.faultless D.lane_of D.faults D.stops disk.old disk.new log.old log.new result }
 {
     let answer = match plan(site.alloc, log, number, event, now) {
         Ok(answer) => answer,
@@ -274,11 +236,9 @@ fn mark<D: Disk>(
     now: u64,
     into: &mut Outcome,
 ) -> Result<Option<u64>, LogFault>
-    requires site { IsSite site.now }
-    requires host { is_host (net_of site.now.topo.now) site.now.publisher site.now.broker ≡ true }
-    requires kept { IsKept (net_of site.now.topo.now) site.now.publisher site.now.broker (held_view held.old) }
+    requires at { IsAtHost site.now held.old }
     requires now { now ≤ MAX_TICK }
-    requires stands { D.tells → IsReady log.old (D.lane_of disk.old log.old.lane) }
+    requires stands { IsReadyOn D.tells (D.lane_of disk.old) log.old }
     ensures tick { IfOk result (λ tick. tick
         ≡ tick_marked (quieted (log_of log.old.records) now site.now.topo.now.settings.quiet)) }
     ensures wants { IsErr result → IsSome (quiet_logs log.old.records now site.now.topo.now.settings.quiet) }
@@ -288,28 +248,17 @@ fn mark<D: Disk>(
     ensures view { OnOk result (let o : MachineOutcome = marking
         (net_of site.now.topo.now) site.now.publisher site.now.broker now
         (held_view held.old) (log_of log.old.records) in held_view held.new ≡ o.view) }
-    ensures err { OnErr result (held_view held.new ≡ held_view held.old) }
-    ensures kept { IsKept (net_of site.now.topo.now) site.now.publisher site.now.broker (held_view held.new) }
-    ensures elsewhere { held.new.log ≡ held.old.log }
+    ensures part { KeepsPart site.now held.old held.new result }
     ensures log { let r = quiet_logs log.old.records now site.now.topo.now.settings.quiet in
         Leaves log.old (logged log.old r) (failed log.old) log.new result }
     ensures lane { let l = log.old in let before = D.lane_of disk.old l.lane in
         let r = quiet_logs l.records now site.now.topo.now.settings.quiet in
         D.tells → Appends l r before (D.lane_of disk.new l.lane) result }
-    ensures goes_on { let lane = log.old.lane in D.tells → GoesOn (D.lane_of disk.old lane) (D.lane_of disk.new lane) }
     ensures reopen { IsErrOf result LogFault.Reopen
         ↔ ((log.old.broken ≡ true) × IsSome (quiet_logs log.old.records now site.now.topo.now.settings.quiet)) }
-    ensures idle { IsErrOf result LogFault.Reopen → disk.new ≡ disk.old }
     ensures closed { log.old.broken ≡ true → disk.new ≡ disk.old }
     ensures untouched { quiet_logs log.old.records now site.now.topo.now.settings.quiet ≡ None → disk.new ≡ disk.old }
-    ensures stands { D.tells → IsReady log.new (D.lane_of disk.new log.new.lane) }
-    ensures tally { let f = D.faults disk.old in let s = D.stops disk.old in
-        Tally f s (D.faults disk.new) (D.stops disk.new) result }
-    ensures causes { let f = D.faults disk.old in let f' = D.faults disk.new in
-        D.tells → Causes (D.faultless disk.old) (D.lane_of disk.new log.old.lane) f f' result }
-    ensures faultless { let f = D.faults disk.old in
-        StaysFaultless (D.faultless disk.old) (D.faultless disk.new) f (D.faults disk.new) }
-    ensures others { D.tells → (n : ℕ) → n ≢ log.old.lane → D.lane_of disk.new n ≡ D.lane_of disk.old n }
+    ensures uses { UsesLog D.tells D.faultless D.lane_of D.faults D.stops disk.old disk.new log.old log.new result }
 {
     let answer = match plan_quiet(site.alloc, log, now, site.topo.settings().quiet) {
         Ok(answer) => answer,
@@ -340,11 +289,9 @@ fn log_mark<D: Disk>(
     fresh: &Piece<K>,
     into: &mut Outcome,
 ) -> Result<Option<u64>, LogFault>
-    requires site { IsSite site.now }
-    requires host { is_host (net_of site.now.topo.now) site.now.publisher site.now.broker ≡ true }
-    requires kept { IsKept (net_of site.now.topo.now) site.now.publisher site.now.broker (held_view held.old) }
+    requires at { IsAtHost site.now held.old }
     requires planned { IsPlannedMark log.old.records (Quieted.Marked tick fresh.now) }
-    requires stands { D.tells → IsReady log.old (D.lane_of disk.old log.old.lane) }
+    requires stands { IsReadyOn D.tells (D.lane_of disk.old) log.old }
     ensures tick { IfOk result (λ t. t ≡ Some tick) }
     ensures adds { OnOk result (let o : MachineOutcome = marking_by
         (net_of site.now.topo.now) site.now.publisher site.now.broker
@@ -353,23 +300,12 @@ fn log_mark<D: Disk>(
     ensures view { OnOk result (let o : MachineOutcome = marking_by
         (net_of site.now.topo.now) site.now.publisher site.now.broker
         (held_view held.old) (log_of log.old.records) (Quieted.Marked tick fresh.now) in held_view held.new ≡ o.view) }
-    ensures err { OnErr result (held_view held.new ≡ held_view held.old) }
-    ensures kept { IsKept (net_of site.now.topo.now) site.now.publisher site.now.broker (held_view held.new) }
-    ensures elsewhere { held.new.log ≡ held.old.log }
+    ensures part { KeepsPart site.now held.old held.new result }
     ensures log { Leaves log.old (with_record (Record.Mark tick) log.old) (failed log.old) log.new result }
     ensures lane { let l = log.old in let before = D.lane_of disk.old l.lane in
         D.tells → Appends l (Some (Record.Mark tick)) before (D.lane_of disk.new l.lane) result }
-    ensures goes_on { let lane = log.old.lane in D.tells → GoesOn (D.lane_of disk.old lane) (D.lane_of disk.new lane) }
     ensures reopen { IsErrOf result LogFault.Reopen ↔ (log.old.broken ≡ true) }
-    ensures idle { IsErrOf result LogFault.Reopen → disk.new ≡ disk.old }
-    ensures stands { D.tells → IsReady log.new (D.lane_of disk.new log.new.lane) }
-    ensures tally { let f = D.faults disk.old in let s = D.stops disk.old in
-        Tally f s (D.faults disk.new) (D.stops disk.new) result }
-    ensures causes { let f = D.faults disk.old in let f' = D.faults disk.new in
-        D.tells → Causes (D.faultless disk.old) (D.lane_of disk.new log.old.lane) f f' result }
-    ensures faultless { let f = D.faults disk.old in
-        StaysFaultless (D.faultless disk.old) (D.faultless disk.new) f (D.faults disk.new) }
-    ensures others { D.tells → (n : ℕ) → n ≢ log.old.lane → D.lane_of disk.new n ≡ D.lane_of disk.old n }
+    ensures uses { UsesLog D.tells D.faultless D.lane_of D.faults D.stops disk.old disk.new log.old log.new result }
 {
     if log.is_broken() {
         return Err(LogFault::Reopen);
@@ -438,7 +374,7 @@ fn cut_upto<D: Disk>(
     requires due { tick_cut (net_of site.now.topo.now) site.now.publisher site.now.broker (held_view held.now)
         (log_of log.old.records) ≡ Some tick }
     requires follows { may_follow (standing_of log.old.late log.old.records) (Record.Cut tick) ≡ true }
-    requires stands { D.tells → IsReady log.old (D.lane_of disk.old log.old.lane) }
+    requires stands { IsReadyOn D.tells (D.lane_of disk.old) log.old }
     ensures lines { OnOk result (into.new.reports
         ≡ mark_lines site.now.publisher marked ++ cut_lines site.now.publisher
         (tick_cut (net_of site.now.topo.now) site.now.publisher site.now.broker (held_view held.now)
@@ -450,17 +386,8 @@ fn cut_upto<D: Disk>(
     ensures log { Leaves log.old (with_record (Record.Cut tick) log.old) (failed log.old) log.new result }
     ensures lane { let l = log.old in let before = D.lane_of disk.old l.lane in
         D.tells → Appends l (Some (Record.Cut tick)) before (D.lane_of disk.new l.lane) result }
-    ensures goes_on { let lane = log.old.lane in D.tells → GoesOn (D.lane_of disk.old lane) (D.lane_of disk.new lane) }
     ensures reopen { IsErrOf result LogFault.Reopen ↔ (log.old.broken ≡ true) }
-    ensures idle { IsErrOf result LogFault.Reopen → disk.new ≡ disk.old }
-    ensures stands { D.tells → IsReady log.new (D.lane_of disk.new log.new.lane) }
-    ensures tally { let f = D.faults disk.old in let s = D.stops disk.old in
-        Tally f s (D.faults disk.new) (D.stops disk.new) result }
-    ensures causes { let f = D.faults disk.old in let f' = D.faults disk.new in
-        D.tells → Causes (D.faultless disk.old) (D.lane_of disk.new log.old.lane) f f' result }
-    ensures faultless { let f = D.faults disk.old in
-        StaysFaultless (D.faultless disk.old) (D.faultless disk.new) f (D.faults disk.new) }
-    ensures others { D.tells → (n : ℕ) → n ≢ log.old.lane → D.lane_of disk.new n ≡ D.lane_of disk.old n }
+    ensures uses { UsesLog D.tells D.faultless D.lane_of D.faults D.stops disk.old disk.new log.old log.new result }
 {
     if log.is_broken() {
         return Err(LogFault::Reopen);
@@ -484,7 +411,7 @@ fn cut<D: Disk>(
 ) -> Result<(), LogFault>
     requires site { IsSite site.now }
     requires kept { IsKept (net_of site.now.topo.now) site.now.publisher site.now.broker (held_view held.now) }
-    requires stands { D.tells → IsReady log.old (D.lane_of disk.old log.old.lane) }
+    requires stands { IsReadyOn D.tells (D.lane_of disk.old) log.old }
     ensures lines { OnOk result (into.new.reports
         ≡ mark_lines site.now.publisher marked ++ cut_lines site.now.publisher
         (tick_cut (net_of site.now.topo.now) site.now.publisher site.now.broker (held_view held.now)
@@ -500,20 +427,11 @@ fn cut<D: Disk>(
         let r = cut_logs (net_of site.now.topo.now) site.now.publisher site.now.broker (held_view held.now)
         (log_of log.old.records) in
         D.tells → Appends l r before (D.lane_of disk.new l.lane) result }
-    ensures goes_on { let lane = log.old.lane in D.tells → GoesOn (D.lane_of disk.old lane) (D.lane_of disk.new lane) }
     ensures reopen { IsErrOf result LogFault.Reopen ↔ ((log.old.broken ≡ true)
         × IsSome (cut_logs (net_of site.now.topo.now) site.now.publisher site.now.broker (held_view held.now)
         (log_of log.old.records))) }
-    ensures idle { IsErrOf result LogFault.Reopen → disk.new ≡ disk.old }
     ensures closed { log.old.broken ≡ true → disk.new ≡ disk.old }
-    ensures stands { D.tells → IsReady log.new (D.lane_of disk.new log.new.lane) }
-    ensures tally { let f = D.faults disk.old in let s = D.stops disk.old in
-        Tally f s (D.faults disk.new) (D.stops disk.new) result }
-    ensures causes { let f = D.faults disk.old in let f' = D.faults disk.new in
-        D.tells → Causes (D.faultless disk.old) (D.lane_of disk.new log.old.lane) f f' result }
-    ensures faultless { let f = D.faults disk.old in
-        StaysFaultless (D.faultless disk.old) (D.faultless disk.new) f (D.faults disk.new) }
-    ensures others { D.tells → (n : ℕ) → n ≢ log.old.lane → D.lane_of disk.new n ≡ D.lane_of disk.old n }
+    ensures uses { UsesLog D.tells D.faultless D.lane_of D.faults D.stops disk.old disk.new log.old log.new result }
 {
     // Proof only: the records follow one another.
     let _ = log.is_broken();
@@ -538,11 +456,9 @@ pub(crate) fn wake_host<D: Disk>(
     held: &mut Held,
     now: u64,
 ) -> Result<Outcome, LogFault>
-    requires site { IsSite site.now }
-    requires host { is_host (net_of site.now.topo.now) site.now.publisher site.now.broker ≡ true }
-    requires kept { IsKept (net_of site.now.topo.now) site.now.publisher site.now.broker (held_view held.old) }
+    requires at { IsAtHost site.now held.old }
     requires now { now ≤ MAX_TICK }
-    requires stands { D.tells → IsReady log.old (D.lane_of disk.old log.old.lane) }
+    requires stands { IsReadyOn D.tells (D.lane_of disk.old) log.old }
     ensures told { IfOk result (λ told.
         Tells (wake_host (net_of site.now.topo.now) site.now.publisher site.now.broker now
         (held_view held.old) (log_of log.old.records)) told) }
@@ -562,22 +478,13 @@ pub(crate) fn wake_host<D: Disk>(
         let cut = cut_logs (net_of site.now.topo.now) site.now.publisher site.now.broker m.view m.log in
         let l = log.old in let before = D.lane_of disk.old l.lane in
         D.tells → AppendsTwice l marked cut before (D.lane_of disk.new l.lane) result }
-    ensures goes_on { let lane = log.old.lane in D.tells → GoesOn (D.lane_of disk.old lane) (D.lane_of disk.new lane) }
     ensures reopen { let m : MachineOutcome = marking (net_of site.now.topo.now) site.now.publisher site.now.broker now
         (held_view held.old) (log_of log.old.records) in
         let marked = quiet_logs log.old.records now site.now.topo.now.settings.quiet in
         let cut = cut_logs (net_of site.now.topo.now) site.now.publisher site.now.broker m.view m.log in
         IsErrOf result LogFault.Reopen ↔ ((log.old.broken ≡ true) × (IsSome marked ⊎ IsSome cut)) }
-    ensures idle { IsErrOf result LogFault.Reopen → disk.new ≡ disk.old }
     ensures closed { log.old.broken ≡ true → disk.new ≡ disk.old }
-    ensures stands { D.tells → IsReady log.new (D.lane_of disk.new log.new.lane) }
-    ensures tally { let f = D.faults disk.old in let s = D.stops disk.old in
-        Tally f s (D.faults disk.new) (D.stops disk.new) result }
-    ensures causes { let f = D.faults disk.old in let f' = D.faults disk.new in
-        D.tells → Causes (D.faultless disk.old) (D.lane_of disk.new log.old.lane) f f' result }
-    ensures faultless { let f = D.faults disk.old in
-        StaysFaultless (D.faultless disk.old) (D.faultless disk.new) f (D.faults disk.new) }
-    ensures others { D.tells → (n : ℕ) → n ≢ log.old.lane → D.lane_of disk.new n ≡ D.lane_of disk.old n }
+    ensures uses { UsesLog D.tells D.faultless D.lane_of D.faults D.stops disk.old disk.new log.old log.new result }
 {
     // Proof only: a time of silence is at least 1.
     let _ = site.topo.settings();

@@ -6,8 +6,9 @@
 //! will say by reading, then takes the memory for every edit, then edits in place, which cannot fail. So a call that
 //! wants memory has changed nothing.
 //!
-//! `specs/Seen.antt` says what a contract sees of a broker, `specs/Of.antt` what holds between calls. Each call is one
-//! equation with the machine in `gr_model/specs/Broker.antt`.
+//! `specs/Seen.antt` says what a contract sees of a broker, `specs/Of.antt` what holds between calls, and
+//! `specs/Keeps.antt` what every call on a log keeps. Each call is one equation with the machine in
+//! `gr_model/specs/Broker.antt`.
 //!
 //! | File | What it does | What its contracts cite |
 //! |---|---|---|
@@ -17,6 +18,7 @@
 //! | `hosting` | At the host: logs an event and then learns it, marks silence, cuts. | `publish`, `wake_host`; `Host` |
 //! | `waking` | For a wake, takes out a part; wakes the host, or a broker below it. | `Hosted`, `Parts` |
 //! | `receiving` | Takes a datagram: it is decoded, then it must fit, then it must not clash. | `Receipt` |
+//! | `lane` | Which lane of a disk has a publisher's log. | `Lanes` |
 //! | `outcome` | Why a call is refused or a datagram dropped; lists to be used again. | none |
 //! | `law` | Laws of the machine's calls. | `learn`, `receive`, `clashes` |
 //!
@@ -25,6 +27,7 @@
 
 mod broker;
 mod hosting;
+mod lane;
 mod law;
 mod outcome;
 mod publishing;

@@ -1,22 +1,23 @@
 //! A publish for a publisher that is here, among all that a broker keeps.
 
-ghost use Rattle.std.specs.Prelude.{◌≡◌, ◌≢◌, ◌↔◌, ℕ, ◌*◌, ◌<◌, ◌≤◌, true, length, map, get_or, Some, None, IsSome};
-ghost use Rattle.std.specs.Prelude.{is_some, IfOk, OnOk, OnErr, IsErrOf};
-ghost use Rattle.gr_out.specs.Stops.{StaysFaultless};
+ghost use Rattle.std.specs.Prelude.{◌≡◌, ◌↔◌, ℕ, ◌<◌, ◌≤◌, true, length, map, get_or, Some, None, IsSome};
+ghost use Rattle.std.specs.Prelude.{is_some, OnOk, OnErr, IsErrOf};
 ghost use Rattle.gr_tick.specs.declared.TheConstants.{MAX_TICK};
 ghost use Rattle.gr_publog.specs.Crash.{LogView};
-ghost use Rattle.gr_publog.specs.Calls.{IsReady, GoesOn, Appends, Tally, Causes, Leaves};
+ghost use Rattle.gr_publog.specs.Calls.{IsReady, Appends, Leaves};
 ghost use Rattle.gr_pubend.specs.Answers.{published, event_of};
-ghost use Rattle.gr_model.specs.Net.{Net, is_host};
+ghost use Rattle.gr_model.specs.Net.{is_host};
 ghost use Rattle.gr_model.specs.NetOf.{net_of};
 ghost use Rattle.gr_model.specs.Broker.{Outcome as MachineOutcome, publish};
 ghost use Rattle.gr_model.specs.World.{blank_view};
 ghost use Rattle.gr_broker_relay.specs.Kept.{IsKept};
-ghost use Rattle.gr_broker_relay.specs.Held.{held_view, IsSeat, IsSite};
+ghost use Rattle.gr_broker_relay.specs.Held.{held_view, IsSeat};
 ghost use Rattle.gr_broker_relay.specs.Told.{Tells, IsBlank};
+ghost use Rattle.gr_broker.specs.Lanes.{log_lane};
 ghost use Rattle.gr_broker.specs.Seen.{log_in, log_said, with_logged, with_failed, is_broken, broken_at};
 ghost use Rattle.gr_broker.specs.Seen.{logs_of, broker_at};
 ghost use Rattle.gr_broker.specs.Hosted.{publish_at, publish_logs_at, after_publish, AppendsAt};
+ghost use Rattle.gr_broker.specs.Keeps.{IsAtHost, UsesLane};
 
 use crate::hosting::publish;
 use gr_broker_relay::{Held, Outcome, Seat, Site, site_at};
@@ -35,9 +36,7 @@ fn publish_part<D: Disk>(
     now: u64,
     into: &mut Outcome,
 ) -> Result<(), LogFault>
-    requires site { IsSite site.now }
-    requires host { is_host (net_of site.now.topo.now) site.now.publisher site.now.broker ≡ true }
-    requires kept { IsKept (net_of site.now.topo.now) site.now.publisher site.now.broker (held_view part.old) }
+    requires at { IsAtHost site.now part.old }
     requires now { now ≤ MAX_TICK }
     requires here { IsSome part.old.log }
     requires blank { IsBlank into.old }
@@ -54,23 +53,13 @@ fn publish_part<D: Disk>(
     ensures lane { let r = event_of (published (log_said part.old.log) number event.now now) number event.now in
         D.tells → (l : LogView) → part.old.log ≡ Some l
         → Appends l r (D.lane_of disk.old l.lane) (D.lane_of disk.new l.lane) result }
-    ensures goes_on { D.tells → (l : LogView) → part.old.log ≡ Some l
-        → GoesOn (D.lane_of disk.old l.lane) (D.lane_of disk.new l.lane) }
     ensures reopen { let r = event_of (published (log_said part.old.log) number event.now now) number event.now in
         IsErrOf result LogFault.Reopen ↔ ((is_broken part.old.log ≡ true) × IsSome r) }
-    ensures idle { IsErrOf result LogFault.Reopen → disk.new ≡ disk.old }
     ensures untouched { let r = event_of (published (log_said part.old.log) number event.now now) number event.now in
         r ≡ None → disk.new ≡ disk.old }
     ensures stands { D.tells → (l : LogView) → part.new.log ≡ Some l → IsReady l (D.lane_of disk.new l.lane) }
-    ensures tally { let f = D.faults disk.old in let s = D.stops disk.old in
-        Tally f s (D.faults disk.new) (D.stops disk.new) result }
-    ensures causes { let f = D.faults disk.old in let f' = D.faults disk.new in
-        D.tells → (l : LogView) → part.old.log ≡ Some l
-        → Causes (D.faultless disk.old) (D.lane_of disk.new l.lane) f f' result }
-    ensures faultless { let f = D.faults disk.old in
-        StaysFaultless (D.faultless disk.old) (D.faultless disk.new) f (D.faults disk.new) }
-    ensures others { D.tells → (l : LogView) → part.old.log ≡ Some l → (n : ℕ) → n ≢ l.lane
-        → D.lane_of disk.new n ≡ D.lane_of disk.old n }
+    ensures uses { (l : LogView) → part.old.log ≡ Some l
+        → UsesLane D.tells D.faultless D.lane_of D.faults D.stops l.lane disk.old disk.new result }
 {
     let Some(mut log) = part.log.take() else {
         unreachable!()
@@ -99,13 +88,13 @@ pub(crate) fn publish_in<D: Disk>(
     requires kept { (q : ℕ) → q < length seat.now.topo.now.publishers
         → IsKept (net_of seat.now.topo.now) q seat.now.number (get_or (map held_view held.old.items) q blank_view) }
     requires here { IsSome (get_or (logs_of held.old.items) p None) }
-    requires lanes { (q : ℕ) (l : LogView) → get_or (logs_of held.old.items) q None ≡ Some l → l.lane ≡ 2 * q }
+    requires lanes { (q : ℕ) (l : LogView) → get_or (logs_of held.old.items) q None ≡ Some l → l.lane ≡ log_lane q }
     requires late { (q : ℕ) (l : LogView) → get_or (logs_of held.old.items) q None ≡ Some l
         → l.late ≡ seat.now.topo.now.late }
     requires now { now ≤ MAX_TICK }
     requires blank { IsBlank into.old }
     requires stands { D.tells → (q : ℕ) (l : LogView) → get_or (logs_of held.old.items) q None ≡ Some l
-        → IsReady l (D.lane_of disk.old (2 * q)) }
+        → IsReady l (D.lane_of disk.old (log_lane q)) }
     ensures told { let b = broker_at seat.now held.old.items in
         OnOk result (Tells (publish_at seat.now.topo.now b p now number event.now) into.new) }
     ensures leaves { let b = broker_at seat.now held.old.items in
@@ -118,27 +107,19 @@ pub(crate) fn publish_in<D: Disk>(
         → IsKept (net_of seat.now.topo.now) q seat.now.number (get_or (map held_view held.new.items) q blank_view) }
     ensures hosted { (q : ℕ) → is_some (get_or (logs_of held.new.items) q None)
         ≡ is_some (get_or (logs_of held.old.items) q None) }
-    ensures lanes { (q : ℕ) (l : LogView) → get_or (logs_of held.new.items) q None ≡ Some l → l.lane ≡ 2 * q }
+    ensures lanes { (q : ℕ) (l : LogView) → get_or (logs_of held.new.items) q None ≡ Some l → l.lane ≡ log_lane q }
     ensures late { (q : ℕ) (l : LogView) → get_or (logs_of held.new.items) q None ≡ Some l
         → l.late ≡ seat.now.topo.now.late }
     ensures many { length held.new.items ≡ length held.old.items }
     ensures lane { let b = broker_at seat.now held.old.items in D.tells
         → AppendsAt b p (publish_logs_at b p now number event.now) (D.lane_of disk.old) (D.lane_of disk.new) result }
-    ensures goes_on { D.tells → GoesOn (D.lane_of disk.old (2 * p)) (D.lane_of disk.new (2 * p)) }
     ensures reopen { let b = broker_at seat.now held.old.items in IsErrOf result LogFault.Reopen
         ↔ ((is_broken (log_in b p) ≡ true) × IsSome (publish_logs_at b p now number event.now)) }
-    ensures idle { IsErrOf result LogFault.Reopen → disk.new ≡ disk.old }
     ensures untouched { let b = broker_at seat.now held.old.items in
         publish_logs_at b p now number event.now ≡ None → disk.new ≡ disk.old }
-    ensures tally { let f = D.faults disk.old in let s = D.stops disk.old in
-        Tally f s (D.faults disk.new) (D.stops disk.new) result }
-    ensures causes { let f = D.faults disk.old in let f' = D.faults disk.new in
-        D.tells → Causes (D.faultless disk.old) (D.lane_of disk.new (2 * p)) f f' result }
-    ensures faultless { let f = D.faults disk.old in
-        StaysFaultless (D.faultless disk.old) (D.faultless disk.new) f (D.faults disk.new) }
-    ensures others { D.tells → (n : ℕ) → n ≢ 2 * p → D.lane_of disk.new n ≡ D.lane_of disk.old n }
+    ensures uses { UsesLane D.tells D.faultless D.lane_of D.faults D.stops (log_lane p) disk.old disk.new result }
     ensures stands { D.tells → (q : ℕ) (l : LogView) → get_or (logs_of held.new.items) q None ≡ Some l
-        → IsReady l (D.lane_of disk.new (2 * q)) }
+        → IsReady l (D.lane_of disk.new (log_lane q)) }
 {
     let site = site_at(seat, p);
     publish_part(&site, disk, &mut held[p as usize], number, event, now, into)

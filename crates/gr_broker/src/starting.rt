@@ -16,11 +16,13 @@ ghost use Rattle.gr_model.specs.NetOf.{net_of};
 ghost use Rattle.gr_model.specs.Opening.{reopened_line};
 ghost use Rattle.gr_broker_relay.specs.Branch.{branch_of};
 ghost use Rattle.gr_broker_relay.specs.Held.{held_view, seen_branch, HasEdges, IsSite};
+ghost use Rattle.gr_broker.specs.Lanes.{log_lane};
 ghost use Rattle.gr_broker.specs.Told.{log_answer};
 ghost use Rattle.gr_broker.specs.Opened.{LosesNothing, IsDamagedAt};
 ghost use Rattle.gr_broker.specs.Starting.{fault_of, fresh_view, is_here, IsStartedAt, lines_at, AreStarted, AreOpened};
 ghost use Rattle.gr_broker.specs.Starting.{TouchesLanes};
 
+use crate::lane::log_lane;
 use crate::outcome::BrokerFault;
 use gr_broker_relay::{Held, Memory, Outcome, Placed, Site, learn};
 use gr_curio::{Asks, Wants};
@@ -72,7 +74,7 @@ fn tell_opened(log: &Log, p: u16, into: &mut Reports) -> Result<(), Memory>
 fn held_over(site: &Site<'_>, log: Log, into: &mut Reports) -> Result<Held, Memory>
     requires site { IsSite site.now }
     requires here { is_here site.now ≡ true }
-    requires lane { log.lane ≡ 2 * site.now.publisher }
+    requires lane { log.lane ≡ log_lane site.now.publisher }
     requires whole { log.broken ≡ false }
     requires late { log.late ≡ site.now.topo.now.late }
     ensures started { IfOk result (λ held. IsStartedAt site.now held) }
@@ -126,24 +128,24 @@ fn open_publisher<D: Disk>(
     requires late { late.now ≡ site.now.topo.now.late }
     ensures started { IfOk result (λ held. IsStartedAt site.now held) }
     ensures lines { IfOk result (λ held. into.new ≡ into.old ++ lines_at site.now held) }
-    ensures opens { let lane = 2 * site.now.publisher in D.tells → IfOk result (λ held. (l : LogView)
+    ensures opens { let lane = log_lane site.now.publisher in D.tells → IfOk result (λ held. (l : LogView)
         → held.log ≡ Some l → Opens late.now (D.lane_of disk.old lane) (D.lane_of disk.new lane) (Ok l)) }
     ensures damaged { D.tells → (p at : ℕ) → result ≡ Err (BrokerFault.Damaged p at)
         → (p ≡ site.now.publisher) × (is_here site.now ≡ true)
-        × (log_text late.now (content (D.lane_of disk.old (2 * site.now.publisher))) ≡ Err at) }
+        × (log_text late.now (content (D.lane_of disk.old (log_lane site.now.publisher))) ≡ Err at) }
     ensures damaged_here { (p at : ℕ) → result ≡ Err (BrokerFault.Damaged p at)
         → (p ≡ site.now.publisher) × (is_here site.now ≡ true) }
     ensures never_reopen { result ≢ Err BrokerFault.Reopen }
     ensures below { is_here site.now ≡ false → disk.new ≡ disk.old }
-    ensures others { D.tells → (n : ℕ) → n ≢ 2 * site.now.publisher → D.lane_of disk.new n ≡ D.lane_of disk.old n }
-    ensures any_moment { let lane = 2 * site.now.publisher in
+    ensures others { D.tells → (n : ℕ) → n ≢ log_lane site.now.publisher → D.lane_of disk.new n ≡ D.lane_of disk.old n }
+    ensures any_moment { let lane = log_lane site.now.publisher in
         D.tells → is_here site.now ≡ true → LosesNothing late.now (D.lane_of disk.old lane) (D.lane_of disk.new lane) }
     ensures tally { let f = D.faults disk.old in let s = D.stops disk.old in
         Tally f s (D.faults disk.new) (D.stops disk.new) (log_answer result) }
     ensures by_stop { D.tells → D.faultless disk.old → IsErrOf result BrokerFault.Disk
-        → has_stopped (D.lane_of disk.new (2 * site.now.publisher)).stop ≡ true }
+        → has_stopped (D.lane_of disk.new (log_lane site.now.publisher)).stop ≡ true }
     ensures never_fails { D.tells → D.faultless disk.old
-        → (is_here site.now ≡ true → (D.lane_of disk.old (2 * site.now.publisher)).stop ≡ Unset)
+        → (is_here site.now ≡ true → (D.lane_of disk.old (log_lane site.now.publisher)).stop ≡ Unset)
         → result ≢ Err BrokerFault.Disk }
     ensures faultless { let f = D.faults disk.old in
         StaysFaultless (D.faultless disk.old) (D.faultless disk.new) f (D.faults disk.new) }
@@ -155,7 +157,7 @@ fn open_publisher<D: Disk>(
         };
     }
     let _ = site.topo.publishers();
-    let log = match Log::open(site.alloc, disk, 2 * site.publisher, late) {
+    let log = match Log::open(site.alloc, disk, log_lane(site.publisher), late) {
         Ok(log) => log,
         Err(fault) => return Err(fault_at(site.publisher, fault)),
     };
@@ -202,10 +204,10 @@ pub(crate) fn open_publishers<D: Disk>(
     ensures tally { let f = D.faults disk.old in let s = D.stops disk.old in
         Tally f s (D.faults disk.new) (D.stops disk.new) (log_answer result) }
     ensures by_stop { D.tells → D.faultless disk.old → IsErrOf result BrokerFault.Disk
-        → (p : ℕ) × (has_stopped (D.lane_of disk.new (2 * p)).stop ≡ true) }
+        → (p : ℕ) × (has_stopped (D.lane_of disk.new (log_lane p)).stop ≡ true) }
     ensures never_fails { D.tells → D.faultless disk.old
         → ((p : ℕ) → p < length topo.now.publishers → is_host (net_of topo.now) p b ≡ true
-        → (D.lane_of disk.old (2 * p)).stop ≡ Unset)
+        → (D.lane_of disk.old (log_lane p)).stop ≡ Unset)
         → result ≢ Err BrokerFault.Disk }
     ensures faultless { let f = D.faults disk.old in
         StaysFaultless (D.faultless disk.old) (D.faultless disk.new) f (D.faults disk.new) }

@@ -1,17 +1,17 @@
 //! A broker is woken for a publisher: one part is woken, with its log where the publisher is here, and put back.
 
-ghost use Rattle.std.specs.Prelude.{◌≡◌, ◌≢◌, ◌↔◌, ◌⊎◌, ℕ, ◌*◌, ◌<◌, ◌≤◌, true, length, is_some, None, Some, IsSome};
+ghost use Rattle.std.specs.Prelude.{◌≡◌, ◌↔◌, ◌⊎◌, ◌<◌, ◌≤◌, true, length, is_some, None, Some, IsSome};
 ghost use Rattle.std.specs.Prelude.{IfOk, OnOk, IsErrOf};
-ghost use Rattle.gr_out.specs.Stops.{StaysFaultless};
 ghost use Rattle.gr_tick.specs.declared.TheConstants.{MAX_TICK};
 ghost use Rattle.gr_publog.specs.Crash.{LogView};
-ghost use Rattle.gr_publog.specs.Calls.{IsReady, GoesOn, Tally, Causes};
+ghost use Rattle.gr_publog.specs.Calls.{IsReady};
 ghost use Rattle.gr_model.specs.Net.{is_host};
 ghost use Rattle.gr_model.specs.NetOf.{net_of};
 ghost use Rattle.gr_model.specs.Broker.{Outcome as MachineOutcome};
 ghost use Rattle.gr_broker_relay.specs.Kept.{IsKept};
 ghost use Rattle.gr_broker_relay.specs.Held.{held_view, IsSeat, IsSite};
 ghost use Rattle.gr_broker_relay.specs.Told.{Tells};
+ghost use Rattle.gr_broker.specs.Lanes.{log_lane};
 ghost use Rattle.gr_broker.specs.Seen.{log_in, log_said, machine_log, is_broken, broken_at, broker_at};
 ghost use Rattle.gr_broker.specs.Of.{IsBrokerOf, LogsStand};
 ghost use Rattle.gr_broker.specs.Told.{log_answer};
@@ -19,6 +19,7 @@ ghost use Rattle.gr_broker.specs.Parts.{part_of, part_wake, part_mark_logs, part
 ghost use Rattle.gr_broker.specs.Parts.{part_failed};
 ghost use Rattle.gr_broker.specs.Hosted.{wake_at, mark_logs_at, cut_logs_at, after_mark, after_wake, AppendsTwice};
 ghost use Rattle.gr_broker.specs.Hosted.{AppendsTwiceAt, WakeLeaves};
+ghost use Rattle.gr_broker.specs.Keeps.{IsAtHost, UsesLane};
 
 use crate::hosting::wake_host;
 use crate::outcome::BrokerFault;
@@ -34,14 +35,12 @@ fn wake_here<D: Disk>(
     part: &mut Held,
     now: u64,
 ) -> Result<Outcome, LogFault>
-    requires site { IsSite site.now }
-    requires host { is_host (net_of site.now.topo.now) site.now.publisher site.now.broker ≡ true }
-    requires kept { IsKept (net_of site.now.topo.now) site.now.publisher site.now.broker (held_view part.old) }
+    requires at { IsAtHost site.now part.old }
     requires hosted { is_some part.old.log ≡ is_host (net_of site.now.topo.now) site.now.publisher site.now.broker }
-    requires lanes { (l : LogView) → part.old.log ≡ Some l → l.lane ≡ 2 * site.now.publisher }
+    requires lanes { (l : LogView) → part.old.log ≡ Some l → l.lane ≡ log_lane site.now.publisher }
     requires late { (l : LogView) → part.old.log ≡ Some l → l.late ≡ site.now.topo.now.late }
     requires now { now ≤ MAX_TICK }
-    requires stands { let lane = 2 * site.now.publisher in
+    requires stands { let lane = log_lane site.now.publisher in
         D.tells → (l : LogView) → part.old.log ≡ Some l → IsReady l (D.lane_of disk.old lane) }
     ensures told { let x = part_of part.old in
         IfOk result (λ told. Tells (part_wake site.now.topo.now site.now.publisher site.now.broker now x) told) }
@@ -54,27 +53,19 @@ fn wake_here<D: Disk>(
         log_said part.new.log ≡ o.log) }
     ensures kept { IsKept (net_of site.now.topo.now) site.now.publisher site.now.broker (held_view part.new) }
     ensures hosted { is_some part.new.log ≡ is_some part.old.log }
-    ensures lanes { (l : LogView) → part.new.log ≡ Some l → l.lane ≡ 2 * site.now.publisher }
+    ensures lanes { (l : LogView) → part.new.log ≡ Some l → l.lane ≡ log_lane site.now.publisher }
     ensures late { (l : LogView) → part.new.log ≡ Some l → l.late ≡ site.now.topo.now.late }
-    ensures lane { let x = part_of part.old in let lane = 2 * site.now.publisher in
+    ensures lane { let x = part_of part.old in let lane = log_lane site.now.publisher in
         D.tells → (l : LogView) → part.old.log ≡ Some l → AppendsTwice l (part_mark_logs site.now.topo.now now x)
         (part_cut_logs site.now.topo.now site.now.publisher site.now.broker now x)
         (D.lane_of disk.old lane) (D.lane_of disk.new lane) result }
-    ensures goes_on { let lane = 2 * site.now.publisher in
-        D.tells → GoesOn (D.lane_of disk.old lane) (D.lane_of disk.new lane) }
     ensures reopen { let x = part_of part.old in IsErrOf result LogFault.Reopen ↔ ((is_broken part.old.log ≡ true)
         × (IsSome (part_mark_logs site.now.topo.now now x)
         ⊎ IsSome (part_cut_logs site.now.topo.now site.now.publisher site.now.broker now x))) }
-    ensures idle { IsErrOf result LogFault.Reopen → disk.new ≡ disk.old }
     ensures closed { is_broken part.old.log ≡ true → disk.new ≡ disk.old }
-    ensures tally { let f = D.faults disk.old in let s = D.stops disk.old in
-        Tally f s (D.faults disk.new) (D.stops disk.new) result }
-    ensures causes { let f = D.faults disk.old in let f' = D.faults disk.new in
-        D.tells → Causes (D.faultless disk.old) (D.lane_of disk.new (2 * site.now.publisher)) f f' result }
-    ensures faultless { let f = D.faults disk.old in
-        StaysFaultless (D.faultless disk.old) (D.faultless disk.new) f (D.faults disk.new) }
-    ensures others { D.tells → (n : ℕ) → n ≢ 2 * site.now.publisher → D.lane_of disk.new n ≡ D.lane_of disk.old n }
-    ensures stands { let lane = 2 * site.now.publisher in
+    ensures uses { let lane = log_lane site.now.publisher in
+        UsesLane D.tells D.faultless D.lane_of D.faults D.stops lane disk.old disk.new result }
+    ensures stands { let lane = log_lane site.now.publisher in
         D.tells → (l : LogView) → part.new.log ≡ Some l → IsReady l (D.lane_of disk.new lane) }
 {
     // Proof only: a time of silence is at least 1.
@@ -97,10 +88,10 @@ fn wake_part<D: Disk>(
     requires site { IsSite site.now }
     requires kept { IsKept (net_of site.now.topo.now) site.now.publisher site.now.broker (held_view part.old) }
     requires hosted { is_some part.old.log ≡ is_host (net_of site.now.topo.now) site.now.publisher site.now.broker }
-    requires lanes { (l : LogView) → part.old.log ≡ Some l → l.lane ≡ 2 * site.now.publisher }
+    requires lanes { (l : LogView) → part.old.log ≡ Some l → l.lane ≡ log_lane site.now.publisher }
     requires late { (l : LogView) → part.old.log ≡ Some l → l.late ≡ site.now.topo.now.late }
     requires now { now ≤ MAX_TICK }
-    requires stands { let lane = 2 * site.now.publisher in
+    requires stands { let lane = log_lane site.now.publisher in
         D.tells → (l : LogView) → part.old.log ≡ Some l → IsReady l (D.lane_of disk.old lane) }
     ensures told { let x = part_of part.old in
         IfOk result (λ told. Tells (part_wake site.now.topo.now site.now.publisher site.now.broker now x) told) }
@@ -113,28 +104,20 @@ fn wake_part<D: Disk>(
         log_said part.new.log ≡ o.log) }
     ensures kept { IsKept (net_of site.now.topo.now) site.now.publisher site.now.broker (held_view part.new) }
     ensures hosted { is_some part.new.log ≡ is_some part.old.log }
-    ensures lanes { (l : LogView) → part.new.log ≡ Some l → l.lane ≡ 2 * site.now.publisher }
+    ensures lanes { (l : LogView) → part.new.log ≡ Some l → l.lane ≡ log_lane site.now.publisher }
     ensures late { (l : LogView) → part.new.log ≡ Some l → l.late ≡ site.now.topo.now.late }
-    ensures lane { let x = part_of part.old in let lane = 2 * site.now.publisher in
+    ensures lane { let x = part_of part.old in let lane = log_lane site.now.publisher in
         D.tells → (l : LogView) → part.old.log ≡ Some l → AppendsTwice l (part_mark_logs site.now.topo.now now x)
         (part_cut_logs site.now.topo.now site.now.publisher site.now.broker now x)
         (D.lane_of disk.old lane) (D.lane_of disk.new lane) result }
-    ensures goes_on { let lane = 2 * site.now.publisher in
-        D.tells → GoesOn (D.lane_of disk.old lane) (D.lane_of disk.new lane) }
     ensures reopen { let x = part_of part.old in IsErrOf result LogFault.Reopen ↔ ((is_broken part.old.log ≡ true)
         × (IsSome (part_mark_logs site.now.topo.now now x)
         ⊎ IsSome (part_cut_logs site.now.topo.now site.now.publisher site.now.broker now x))) }
-    ensures idle { IsErrOf result LogFault.Reopen → disk.new ≡ disk.old }
     ensures below { part.old.log ≡ None → disk.new ≡ disk.old }
     ensures closed { is_broken part.old.log ≡ true → disk.new ≡ disk.old }
-    ensures tally { let f = D.faults disk.old in let s = D.stops disk.old in
-        Tally f s (D.faults disk.new) (D.stops disk.new) result }
-    ensures causes { let f = D.faults disk.old in let f' = D.faults disk.new in
-        D.tells → Causes (D.faultless disk.old) (D.lane_of disk.new (2 * site.now.publisher)) f f' result }
-    ensures faultless { let f = D.faults disk.old in
-        StaysFaultless (D.faultless disk.old) (D.faultless disk.new) f (D.faults disk.new) }
-    ensures others { D.tells → (n : ℕ) → n ≢ 2 * site.now.publisher → D.lane_of disk.new n ≡ D.lane_of disk.old n }
-    ensures stands { let lane = 2 * site.now.publisher in
+    ensures uses { let lane = log_lane site.now.publisher in
+        UsesLane D.tells D.faultless D.lane_of D.faults D.stops lane disk.old disk.new result }
+    ensures stands { let lane = log_lane site.now.publisher in
         D.tells → (l : LogView) → part.new.log ≡ Some l → IsReady l (D.lane_of disk.new lane) }
 {
     if site.position.host {
@@ -182,20 +165,13 @@ pub(crate) fn wake<D: Disk>(
     ensures lane { let b = broker_at seat.now held.old.items in
         D.tells → AppendsTwiceAt b p (mark_logs_at seat.now.topo.now b p now) (cut_logs_at seat.now.topo.now b p now)
         (D.lane_of disk.old) (D.lane_of disk.new) (log_answer result) }
-    ensures goes_on { D.tells → GoesOn (D.lane_of disk.old (2 * p)) (D.lane_of disk.new (2 * p)) }
     ensures reopen { let b = broker_at seat.now held.old.items in
         IsErrOf result BrokerFault.Reopen ↔ ((is_broken (log_in b p) ≡ true)
         × (IsSome (mark_logs_at seat.now.topo.now b p now) ⊎ IsSome (cut_logs_at seat.now.topo.now b p now))) }
-    ensures idle { IsErrOf result BrokerFault.Reopen → disk.new ≡ disk.old }
     ensures below { let b = broker_at seat.now held.old.items in log_in b p ≡ None → disk.new ≡ disk.old }
     ensures closed { let b = broker_at seat.now held.old.items in is_broken (log_in b p) ≡ true → disk.new ≡ disk.old }
-    ensures tally { let f = D.faults disk.old in let s = D.stops disk.old in
-        Tally f s (D.faults disk.new) (D.stops disk.new) (log_answer result) }
-    ensures causes { let f = D.faults disk.old in let f' = D.faults disk.new in
-        D.tells → Causes (D.faultless disk.old) (D.lane_of disk.new (2 * p)) f f' (log_answer result) }
-    ensures faultless { let f = D.faults disk.old in
-        StaysFaultless (D.faultless disk.old) (D.faultless disk.new) f (D.faults disk.new) }
-    ensures others { D.tells → (n : ℕ) → n ≢ 2 * p → D.lane_of disk.new n ≡ D.lane_of disk.old n }
+    ensures uses { let answer = log_answer result in
+        UsesLane D.tells D.faultless D.lane_of D.faults D.stops (log_lane p) disk.old disk.new answer }
     ensures stands { D.tells → LogsStand (D.lane_of disk.new) (broker_at seat.now held.new.items) }
 {
     let site = site_at(seat, p);

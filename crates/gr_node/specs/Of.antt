@@ -1,5 +1,5 @@
 -- What holds of a node between its calls, and of what a run is asked
-use Rattle.std.specs.Prelude.{◌≡◌, ◌≢◌, ℕ, ◌*◌, ◌<◌, ◌≤◌, true, false, List, length, Some, is_some, IsSome}
+use Rattle.std.specs.Prelude.{◌≡◌, ◌≢◌, ℕ, ◌<◌, ◌≤◌, true, false, List, length, Some, is_some, IsSome}
 use Rattle.std.specs.List.{AllByRecursion}
 use Rattle.gr_out.specs.Journal.{is_among}
 use Rattle.gr_out.specs.Lane.{Lane}
@@ -8,6 +8,7 @@ use Rattle.gr_publog.specs.Crash.{LogView}
 use Rattle.gr_topo.specs.Topology.{TopologyView, address_of, host_of}
 use Rattle.gr_model.specs.NetOf.{IsRising}
 use Rattle.gr_model.specs.Orders.{AreOrdersOf}
+use Rattle.gr_broker.specs.Lanes.{log_lane}
 use Rattle.gr_broker.specs.Seen.{BrokerView, log_in}
 use Rattle.gr_broker.specs.Of.{IsBrokerOf, LogsStand}
 use Rattle.gr_node.specs.Seen.{NodeView, broker_in}
@@ -40,7 +41,7 @@ AllStand lanes n = (b : ℕ) (x : BrokerView) → broker_in n b ≡ Some x → L
 -- no lane was touched but those of publishers at these brokers
 abbrev pub OthersStay : TopologyView → List ℕ → (ℕ → Lane) → (ℕ → Lane) → Type 0
 OthersStay t bs before after = (n : ℕ)
-    → ((p : ℕ) → p < length t.publishers → is_among bs (host_of t p) ≡ true → n ≢ 2 * p) → after n ≡ before n
+    → ((p : ℕ) → p < length t.publishers → is_among bs (host_of t p) ≡ true → n ≢ log_lane p) → after n ≡ before n
 
 -- a node that hosts these brokers, between two calls
 pub record IsSet (t : TopologyView) (hosted : List ℕ) (n : NodeView) : Type 0 where

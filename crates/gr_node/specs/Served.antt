@@ -1,5 +1,5 @@
 -- What a run did, from its first binding to what is shown at the end, and what it left outside
-use Rattle.std.specs.Prelude.{◌≡◌, ◌⊎◌, ℕ, ◌*◌, ◌<◌, ◌≤◌, Bool, true, false, ◌&&◌, nat_eq, bytes_eq, List, [], ◌∷◌}
+use Rattle.std.specs.Prelude.{◌≡◌, ◌⊎◌, ℕ, ◌<◌, ◌≤◌, Bool, true, false, ◌&&◌, nat_eq, bytes_eq, List, [], ◌∷◌}
 use Rattle.std.specs.Prelude.{◌++◌, length, map, take, get_or, Option, Result, Ok, Err, OnOk, OnErr}
 use Rattle.std.specs.List.{list_any, AllByRecursion}
 use Rattle.gr_frame.specs.declared.fault.FrameFault.{FrameFault}
@@ -24,6 +24,7 @@ use Rattle.gr_model.specs.Arrivals.{Arrival, is_hosted, served, publishes_of}
 use Rattle.gr_model.specs.Orders.{orders_of, with_orders}
 use Rattle.gr_model_theorems.specs.Served.{joined, IsOfBytes}
 use Rattle.gr_model_theorems.specs.Lanes.{AllFollow, whole_logs}
+use Rattle.gr_broker.specs.Lanes.{log_lane}
 use Rattle.gr_node.specs.Seen.{text_of}
 use Rattle.gr_node.specs.Of.{OthersStay}
 use Rattle.gr_node.specs.Lasting.{Lasts}
@@ -123,7 +124,7 @@ world_upto t hosted steps c k =
 abbrev pub LogsLast : TopologyView → List ℕ → List Line → Course → (ℕ → Lane) → Type 0
 LogsLast t hosted steps c after = (k : ℕ) → k < length c.came → (p : ℕ) → p < length t.publishers
     → is_hosted (net_of t) hosted p ≡ true
-    → (rs : List Record) × (mid : Lane) × Lasts t.late rs mid (after (2 * p))
+    → (rs : List Record) × (mid : Lane) × Lasts t.late rs mid (after (log_lane p))
     × (log_of rs ≡ machine_log_of (world_upto t hosted steps c k) p)
 
 -- Of a disk that tells what it holds: the records are what the lanes of the started brokers held, after a run whose
@@ -132,10 +133,11 @@ pub record KeepsLogs {T : Type 0} (t : TopologyView) (hosted : List ℕ) (steps 
     (before after : ℕ → Lane) (result : Result T RunFault) : Type 0 where
   pub found : (p : ℕ) → p < length t.publishers → is_hosted (net_of t) hosted p ≡ true
       → list_any (is_start (host_of t p)) c.made ≡ true
-      → log_text t.late (content (before (2 * p))) ≡ Ok (get_or c.records p [])
+      → log_text t.late (content (before (log_lane p))) ≡ Ok (get_or c.records p [])
   pub kept : IsExact result → (c.left ≡ []) ⊎ (c.left ≡ shows ∷ []) → (p : ℕ) → p < length t.publishers
       → is_hosted (net_of t) hosted p ≡ true
-      → (rs : List Record) × Stands (after (2 * p)) t.late rs × (log_of rs ≡ machine_log_of (end_of t hosted c).world p)
+      → (rs : List Record) × Stands (after (log_lane p)) t.late rs
+      × (log_of rs ≡ machine_log_of (end_of t hosted c).world p)
   pub since : LogsLast t hosted steps c after
   pub damaged : (p at : ℕ) → result ≡ Err (run.Damaged p at) → IsFirstDamaged t hosted p at before
   pub others : OthersStay t hosted before after

@@ -1,5 +1,5 @@
 -- The hosted brokers start: what each keeps and tells, and what was found on the lanes
-use Rattle.std.specs.Prelude.{◌≡◌, ◌⊎◌, ℕ, ◌*◌, ◌<◌, ◌≤◌, true, false, List, [], ◌++◌, length, take, get_or, Option}
+use Rattle.std.specs.Prelude.{◌≡◌, ◌⊎◌, ℕ, ◌<◌, ◌≤◌, true, false, List, [], ◌++◌, length, take, get_or, Option}
 use Rattle.std.specs.Prelude.{Some, None, Result, Ok, Err, IsOk, OnOk, OnErr, flat_map}
 use Rattle.std.specs.List.{AllByRecursion}
 use Rattle.gr_out.specs.declared.fault.RunFault.{RunFault}
@@ -16,6 +16,7 @@ use Rattle.gr_model.specs.Net.{numbers}
 use Rattle.gr_model.specs.NetOf.{net_of}
 use Rattle.gr_model.specs.Arrivals.{is_hosted}
 use Rattle.gr_model.specs.Orders.{fed, orders_of}
+use Rattle.gr_broker.specs.Lanes.{log_lane}
 use Rattle.gr_broker.specs.Seen.{BrokerView, view_in, log_in, machine_log}
 use Rattle.gr_broker.specs.Of.{IsBrokerOf}
 use Rattle.gr_broker.specs.Opened.{opened_at}
@@ -63,14 +64,14 @@ pub record Started {T : Type 0} (t : TopologyView) (hosted : List ℕ) (n' : Nod
 -- the lanes of the publishers at these brokers read as their logs
 abbrev pub Found : TopologyView → NodeView → List ℕ → (ℕ → Lane) → Type 0
 Found t n' bs lanes = (p : ℕ) → p < length t.publishers → is_among bs (host_of t p) ≡ true
-    → log_text t.late (content (lanes (2 * p))) ≡ Ok (records_in t n' p)
+    → log_text t.late (content (lanes (log_lane p))) ≡ Ok (records_in t n' p)
 
 -- The lane of a publisher holds no log, with the place of its first fault; those that are opened before it hold one:
 -- broker by broker, and at each its publishers in order
 pub record IsFirstDamaged (t : TopologyView) (hosted : List ℕ) (p at : ℕ) (lanes : ℕ → Lane) : Type 0 where
   pub publisher : p < length t.publishers
   pub here : is_hosted (net_of t) hosted p ≡ true
-  pub fault : log_text t.late (content (lanes (2 * p))) ≡ Err at
+  pub fault : log_text t.late (content (lanes (log_lane p))) ≡ Err at
   pub before : (q : ℕ) → q < length t.publishers → is_hosted (net_of t) hosted q ≡ true
       → (host_of t q < host_of t p) ⊎ ((host_of t q ≡ host_of t p) × (q < p))
-      → IsOk (log_text t.late (content (lanes (2 * q))))
+      → IsOk (log_text t.late (content (lanes (log_lane q))))

@@ -1,9 +1,10 @@
 //! One broker starts over the logs that its lanes hold.
 
-ghost use Rattle.std.specs.Prelude.{◌≡◌, ◌≢◌, ℕ, ◌*◌, ◌<◌, true, length, Some, Err, IfOk, IfErr};
+ghost use Rattle.std.specs.Prelude.{◌≡◌, ◌≢◌, ℕ, ◌<◌, true, length, Some, Err, IfOk, IfErr};
 ghost use Rattle.gr_topo.specs.Topology.{host_of};
 ghost use Rattle.gr_model.specs.Net.{is_host};
 ghost use Rattle.gr_model.specs.NetOf.{net_of};
+ghost use Rattle.gr_broker.specs.Lanes.{log_lane};
 ghost use Rattle.gr_broker.specs.Of.{IsBrokerOf, LogsStand};
 ghost use Rattle.gr_broker.specs.Opened.{OpensLanes, IsDamagedAt};
 ghost use Rattle.gr_report.specs.Named.{AllNamed};
@@ -57,7 +58,8 @@ pub(crate) fn start_one<D: Disk>(site: &Site<'_>, b: u16, disk: &mut D) -> Resul
     ensures stands { D.tells → IfOk result (λ s. LogsStand (D.lane_of disk.new) s.broker) }
     // The lanes of publishers that are elsewhere stay as they are
     ensures others { D.tells → (n : ℕ) → ((p : ℕ) → p < length site.now.topo.now.publishers
-        → is_host (net_of site.now.topo.now) p b ≡ true → n ≢ 2 * p) → D.lane_of disk.new n ≡ D.lane_of disk.old n }
+        → is_host (net_of site.now.topo.now) p b ≡ true → n ≢ log_lane p)
+        → D.lane_of disk.new n ≡ D.lane_of disk.old n }
     ensures damaged { D.tells → (p at : ℕ) → result ≡ Err (RunFault.Damaged p at)
         → IsDamagedAt site.now.topo.now b p at (D.lane_of disk.old) }
     ensures damaged_here { (p at : ℕ) → result ≡ Err (RunFault.Damaged p at)

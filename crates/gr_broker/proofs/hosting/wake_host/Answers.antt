@@ -1,12 +1,13 @@
 -- A wake is its mark, and then its cut
-use Rattle.std.proofs.Common.{◌≡◌, true, Ok, Err, refl, sym, ap, ◌∙◌}
+use Rattle.std.proofs.Common.{◌≡◌, ℕ, true, Ok, Err, refl, sym, ap, ◌∙◌, subst}
 use Rattle.gr_publog.specs.declared.record.LogFault.TheVariants as fault
 use Rattle.gr_publog.specs.Crash.{LogView}
-use Rattle.gr_publog.proofs.Onward.{goes_on_then}
 use Rattle.gr_publog.proofs.Calling.{appends_ok_as, appends_err_as, same_fault}
 use Rattle.gr_model.specs.NetOf.{net_of}
 use Rattle.gr_broker_relay.specs.Held.{held_view}
+use Rattle.gr_broker.specs.Keeps.{UsesLane}
 use Rattle.gr_broker.proofs.Twice.{twice_stopped, twice_on, second_lane, second_on, second_ok, second_err, second_told, second_reopens, first_reopens}
+use Rattle.gr_broker.proofs.Using.{uses_ok_as, uses_err_as, uses_then}
 use Rattle.gr_broker.proofs.hosting.wake_host.Goals as goal
 
 -- Where the mark did not come through
@@ -40,19 +41,21 @@ returns-in-Ok-cut-clause-lane g c = λ t.
     let m = c.in-Ok.ensures in
     let before = g.D.Disk.lane_of c.mark.new.disk in
     let after = g.D.Disk.lane_of c.cut.new.disk in
-    let on = second_on (net_of site.topo.now) site.publisher site.broker c.args.now (held_view c.args.held.now) (held_view c.mark.new.held) c.args.log.now c.mark.new.log m.log.ok m.view before after (c.in-Ok-cut.ensures.goes_on t) in
+    let on = second_on (net_of site.topo.now) site.publisher site.broker c.args.now (held_view c.args.held.now) (held_view c.mark.new.held) c.args.log.now c.mark.new.log m.log.ok m.view before after (c.in-Ok-cut.ensures.uses.lane.goes_on t) in
     twice_on c.args.log.now _ _ _ _ _ _ on.more on.start on.calls (appends_ok_as c.args.log.now _ _ _ c.in-Ok.marked tt (m.lane t))
     (appends_ok_as _ _ _ _ tt c.cut.new.into
     (second_lane (net_of site.topo.now) site.publisher site.broker c.args.now (held_view c.args.held.now) (held_view c.mark.new.held) c.args.log.now c.mark.new.log m.log.ok m.view before after _ (c.in-Ok-cut.ensures.lane t)))
 
-pub returns-in-Ok-cut-clause-goes_on : goal.returns-in-Ok-cut-clause-goes_on
-returns-in-Ok-cut-clause-goes_on g c = λ t.
-    let site = c.args.site.now in
+pub returns-in-Ok-cut-clause-uses : goal.returns-in-Ok-cut-clause-uses
+returns-in-Ok-cut-clause-uses g c =
     let m = c.in-Ok.ensures in
-    let before = g.D.Disk.lane_of c.mark.new.disk in
-    let after = g.D.Disk.lane_of c.cut.new.disk in
-    goes_on_then _ _ _ (m.goes_on t)
-    (second_on (net_of site.topo.now) site.publisher site.broker c.args.now (held_view c.args.held.now) (held_view c.mark.new.held) c.args.log.now c.mark.new.log m.log.ok m.view before after (c.in-Ok-cut.ensures.goes_on t))
+    let k = c.in-Ok-cut.ensures in
+    record {
+      lane = uses_then c.in-Ok.marked (Ok c.cut.new.into) m.uses.lane
+          (uses_ok_as tt c.cut.new.into (subst (λ (n : ℕ). UsesLane {T = Unit {0}} g.D.Disk.tells g.D.Disk.faultless g.D.Disk.lane_of g.D.Disk.faults g.D.Disk.stops n c.mark.new.disk c.cut.new.disk (Ok tt)) (ap (λ (x : LogView). x.lane) m.log.ok) k.uses.lane))
+          (λ h. absurd (cc h));
+      stands = k.uses.stands;
+    }
 
 pub returns-in-Ok-cut-clause-reopen : goal.returns-in-Ok-cut-clause-reopen
 returns-in-Ok-cut-clause-reopen g c =
@@ -81,19 +84,23 @@ returns-in-Err-cut-clause-lane g c = λ t.
     let m = c.in-Ok.ensures in
     let before = g.D.Disk.lane_of c.mark.new.disk in
     let after = g.D.Disk.lane_of c.cut.new.disk in
-    let on = second_on (net_of site.topo.now) site.publisher site.broker c.args.now (held_view c.args.held.now) (held_view c.mark.new.held) c.args.log.now c.mark.new.log m.log.ok m.view before after (c.in-Err-cut.ensures.goes_on t) in
+    let on = second_on (net_of site.topo.now) site.publisher site.broker c.args.now (held_view c.args.held.now) (held_view c.mark.new.held) c.args.log.now c.mark.new.log m.log.ok m.view before after (c.in-Err-cut.ensures.uses.lane.goes_on t) in
     twice_on c.args.log.now _ _ _ _ _ _ on.more on.start on.calls (appends_ok_as c.args.log.now _ _ _ c.in-Ok.marked tt (m.lane t))
     (appends_err_as _ _ _ _ c.in-Err-cut.fault
     (second_lane (net_of site.topo.now) site.publisher site.broker c.args.now (held_view c.args.held.now) (held_view c.mark.new.held) c.args.log.now c.mark.new.log m.log.ok m.view before after _ (c.in-Err-cut.ensures.lane t)))
 
-pub returns-in-Err-cut-clause-goes_on : goal.returns-in-Err-cut-clause-goes_on
-returns-in-Err-cut-clause-goes_on g c = λ t.
-    let site = c.args.site.now in
+pub returns-in-Err-cut-clause-uses : goal.returns-in-Err-cut-clause-uses
+returns-in-Err-cut-clause-uses g c =
     let m = c.in-Ok.ensures in
-    let before = g.D.Disk.lane_of c.mark.new.disk in
-    let after = g.D.Disk.lane_of c.cut.new.disk in
-    goes_on_then _ _ _ (m.goes_on t)
-    (second_on (net_of site.topo.now) site.publisher site.broker c.args.now (held_view c.args.held.now) (held_view c.mark.new.held) c.args.log.now c.mark.new.log m.log.ok m.view before after (c.in-Err-cut.ensures.goes_on t))
+    let k = c.in-Err-cut.ensures in
+    record {
+      lane = uses_then c.in-Ok.marked (Err c.in-Err-cut.fault) m.uses.lane
+          (uses_err_as c.in-Err-cut.fault (subst (λ (n : ℕ). UsesLane {T = Unit {0}} g.D.Disk.tells g.D.Disk.faultless g.D.Disk.lane_of g.D.Disk.faults g.D.Disk.stops n c.mark.new.disk c.cut.new.disk (Err c.in-Err-cut.fault)) (ap (λ (x : LogView). x.lane) m.log.ok) k.uses.lane))
+          (λ h.
+          let again = same_fault {U = Unit {0}} c.in-Err-cut.fault fault.Reopen h in
+          k.uses.lane.idle again ∙ m.closed (sym (ap (λ (x : LogView). x.broken) m.log.ok) ∙ (k.reopen.0 again).0));
+      stands = k.uses.stands;
+    }
 
 pub returns-in-Err-cut-clause-reopen : goal.returns-in-Err-cut-clause-reopen
 returns-in-Err-cut-clause-reopen g c =

@@ -2,7 +2,7 @@ use Rattle.std.proofs.Common.{◌≡◌, ℕ, ◌*◌, ◌<◌, length, map, get
 use Rattle.std.specs.Prelude.{is_some, IsSome}
 use Rattle.std.proofs.lemmas.List.{length-map}
 use Rattle.gr_publog.specs.Crash.{LogView}
-use Rattle.gr_publog.specs.Calls.{IsReady, GoesOn, Appends, Causes, Leaves}
+use Rattle.gr_publog.specs.Calls.{IsReady, Appends, Leaves}
 use Rattle.gr_pubend.specs.Answers.{published, event_of}
 use Rattle.gr_model.specs.NetOf.{net_of}
 use Rattle.gr_model.specs.Broker.{View, Outcome as MachineOutcome, publish}
@@ -11,6 +11,7 @@ use Rattle.gr_broker_relay.specs.Kept.{IsKept}
 use Rattle.gr_broker_relay.specs.Held.{held_view}
 use Rattle.gr_broker.specs.Seen.{BrokerView, log_in, view_in, log_said, with_logged, with_view, with_log, broken_at, logs_of, broker_at}
 use Rattle.gr_broker.specs.Hosted.{publish_logs_at}
+use Rattle.gr_broker.specs.Keeps.{UsesLane}
 use Rattle.gr_broker.proofs.Reading.{seen_set, each_set, on_ok}
 use Rattle.gr_broker.proofs.Parts.{part_view, part_log, leaves_exchanged, log_here, each_log, stays_some, stays_on, stays_late, there, said_after, appends_at}
 use Rattle.gr_broker.proofs.publishing.publish_in.Given.{Over}
@@ -91,24 +92,15 @@ returns-clause-late g c =
     each_log c.args.seat.now.number c.args.seat.now.here.now c.args.seat.now.edges.now c.args.seat.now.positions.now c.args.held.now.items c.args.p c.index_mut.result.now (below g c) c.index_mut.ensures.value (λ q o. (l : LogView) → o ≡ Some l → l.late ≡ c.args.seat.now.topo.now.late) c.publish_part.new.part (λ q n. c.requires.late q)
     (stays_late c.args.seat.now.topo.now.late c.publish_part.result c.index_mut.result.now.log c.publish_part.new.part.log (event_of (published (log_said c.index_mut.result.now.log) c.args.number c.args.event.now c.args.now) c.args.number c.args.event.now) (λ l e. c.requires.late c.args.p l (sym (log_is g c) ∙ e)) c.publish_part.ensures.log)
 
-pub returns-clause-causes : goal.returns-clause-causes
-returns-clause-causes g c t =
-    there c.index_mut.result.now.log (has_log g c) (λ l e. subst (λ (n : ℕ). Causes (g.D.Disk.faultless c.args.disk.now) (g.D.Disk.lane_of c.publish_part.new.disk n) (g.D.Disk.faults c.args.disk.now) (g.D.Disk.faults c.publish_part.new.disk) c.publish_part.result)
-    (on_lane g c l e) (c.publish_part.ensures.causes t l e))
-
-pub returns-clause-goes_on : goal.returns-clause-goes_on
-returns-clause-goes_on g c t =
-    there c.index_mut.result.now.log (has_log g c) (λ l e. subst (λ (n : ℕ). GoesOn (g.D.Disk.lane_of c.args.disk.now n) (g.D.Disk.lane_of c.publish_part.new.disk n))
-    (on_lane g c l e) (c.publish_part.ensures.goes_on t l e))
-
-pub returns-clause-others : goal.returns-clause-others
-returns-clause-others g c t n ne =
-    there c.index_mut.result.now.log (has_log g c) (λ l e. c.publish_part.ensures.others t l e n (λ s. ne (s ∙ on_lane g c l e)))
+pub returns-clause-uses : goal.returns-clause-uses
+returns-clause-uses g c =
+    there c.index_mut.result.now.log (has_log g c) (λ l e. subst (λ (n : ℕ). UsesLane g.D.Disk.tells g.D.Disk.faultless g.D.Disk.lane_of g.D.Disk.faults g.D.Disk.stops n c.args.disk.now c.publish_part.new.disk c.publish_part.result)
+    (on_lane g c l e) (c.publish_part.ensures.uses l e))
 
 pub returns-clause-stands : goal.returns-clause-stands
 returns-clause-stands g c t =
     each_log c.args.seat.now.number c.args.seat.now.here.now c.args.seat.now.edges.now c.args.seat.now.positions.now c.args.held.now.items c.args.p c.index_mut.result.now (below g c) c.index_mut.ensures.value (λ q o. (l : LogView) → o ≡ Some l → IsReady l (g.D.Disk.lane_of c.publish_part.new.disk (2 * q))) c.publish_part.new.part
-    (λ q n l e. subst (IsReady l) (sym (there c.index_mut.result.now.log (has_log g c) (λ m em. c.publish_part.ensures.others t m em (2 * q) (λ s. n (let s' = s ∙ on_lane g c m em in omega (arith, s')))))) (c.requires.stands t q l e))
+    (λ q n l e. subst (IsReady l) (sym (there c.index_mut.result.now.log (has_log g c) (λ m em. let k = c.publish_part.ensures.uses m em in k.others t (2 * q) (λ s. n (let s' = s ∙ on_lane g c m em in omega (arith, s')))))) (c.requires.stands t q l e))
     (λ l e. subst (λ (n : ℕ). IsReady l (g.D.Disk.lane_of c.publish_part.new.disk n)) (stays_on (2 * c.args.p) c.publish_part.result c.index_mut.result.now.log c.publish_part.new.part.log (event_of (published (log_said c.index_mut.result.now.log) c.args.number c.args.event.now c.args.now) c.args.number c.args.event.now) (on_lane g c) c.publish_part.ensures.log l e) (c.publish_part.ensures.stands t l e))
 
 pub returns-clause-lane : goal.returns-clause-lane

@@ -4,7 +4,7 @@ use Rattle.std.specs.Prelude.{◌↔◌, is_some, IsSome, IfOk, OnOk, IsErrOf}
 use Rattle.gr_publog.specs.declared.record.LogFault.{LogFault}
 use Rattle.gr_publog.specs.declared.record.LogFault.TheVariants as fault
 use Rattle.gr_publog.specs.Crash.{LogView}
-use Rattle.gr_publog.specs.Calls.{GoesOn, IsReady, Tally, Causes}
+use Rattle.gr_publog.specs.Calls.{IsReady}
 use Rattle.gr_topo.specs.Topology.{TopologyView}
 use Rattle.gr_model.specs.Net.{is_host}
 use Rattle.gr_model.specs.NetOf.{net_of}
@@ -17,6 +17,7 @@ use Rattle.gr_broker.specs.Seen.{log_said, is_broken, broker_at}
 use Rattle.gr_broker.specs.Of.{IsBrokerOf, LogsStand}
 use Rattle.gr_broker.specs.Told.{log_answer}
 use Rattle.gr_broker.specs.Hosted.{wake_at, AppendsTwice, WakeLeaves}
+use Rattle.gr_broker.specs.Keeps.{UsesLane}
 use Rattle.gr_broker.specs.Parts.{PartView, part_of, part_in, part_wake, part_mark_logs, part_cut_logs, part_marked, part_woken, part_failed}
 use Rattle.gr_broker.proofs.Woken.{moved, seen_part, seen_put, log_seen, broker_leaves, broker_fits, broker_stands, ok_of, on_ok_of, reopen_of, twice_at}
 use Rattle.gr_broker.proofs.waking.wake.Given.{Over}
@@ -104,36 +105,16 @@ returns-clause-reopen g c =
     let k = there g c (λ t q n y a. IsErrOf a fault.Reopen ↔ ((is_broken y.log ≡ true) × (IsSome (part_mark_logs t c.args.now y) ⊎ IsSome (part_cut_logs t q n c.args.now y)))) c.wake_part-answer.ensures.reopen in
     (λ h. k.0 (same.0 h), λ h. same.1 (k.1 h))
 
-pub returns-clause-idle : goal.returns-clause-idle
-returns-clause-idle g c = λ h.
-    there g c (λ t q n y a. IsErrOf a fault.Reopen → c.wake_part-answer.new.disk ≡ c.args.disk.now) c.wake_part-answer.ensures.idle ((reopen_of c.answer_at.result).0 h)
-
 pub returns-clause-below : goal.returns-clause-below
 returns-clause-below g c = there g c (λ t q n y a. y.log ≡ None → c.wake_part-answer.new.disk ≡ c.args.disk.now) c.wake_part-answer.ensures.below
 
-pub returns-clause-tally : goal.returns-clause-tally
-returns-clause-tally g c =
-    there g c (λ t q n y a. Tally (g.D.Disk.faults c.args.disk.now) (g.D.Disk.stops c.args.disk.now) (g.D.Disk.faults c.wake_part-answer.new.disk) (g.D.Disk.stops c.wake_part-answer.new.disk) a) c.wake_part-answer.ensures.tally
-
-pub returns-clause-causes : goal.returns-clause-causes
-returns-clause-causes g c = λ tells.
-    there g c (λ t q n y a. Causes (g.D.Disk.faultless c.args.disk.now) (g.D.Disk.lane_of c.wake_part-answer.new.disk (2 * q)) (g.D.Disk.faults c.args.disk.now) (g.D.Disk.faults c.wake_part-answer.new.disk) a)
-    (c.wake_part-answer.ensures.causes tells)
-
-pub returns-clause-faultless : goal.returns-clause-faultless
-returns-clause-faultless g c = c.wake_part-answer.ensures.faultless
-
-pub returns-clause-goes_on : goal.returns-clause-goes_on
-returns-clause-goes_on g c = λ tells.
-    there g c (λ t q n y a. GoesOn (g.D.Disk.lane_of c.args.disk.now (2 * q)) (g.D.Disk.lane_of c.wake_part-answer.new.disk (2 * q))) (c.wake_part-answer.ensures.goes_on tells)
-
-pub returns-clause-others : goal.returns-clause-others
-returns-clause-others g c = λ tells.
-    there g c (λ t q n y a. (k : ℕ) → k ≢ 2 * q → g.D.Disk.lane_of c.wake_part-answer.new.disk k ≡ g.D.Disk.lane_of c.args.disk.now k) (c.wake_part-answer.ensures.others tells)
+pub returns-clause-uses : goal.returns-clause-uses
+returns-clause-uses g c =
+    there g c (λ t q n y a. UsesLane g.D.Disk.tells g.D.Disk.faultless g.D.Disk.lane_of g.D.Disk.faults g.D.Disk.stops (2 * q) c.args.disk.now c.wake_part-answer.new.disk a) c.wake_part-answer.ensures.uses
 
 pub returns-clause-stands : goal.returns-clause-stands
 returns-clause-stands g c = λ tells.
     subst (LogsStand (g.D.Disk.lane_of c.wake_part-answer.new.disk)) (seen_put c.args.seat.now c.args.held.now.items c.args.p c.wake_part-answer.new.part)
     (broker_stands (broker_at c.args.seat.now c.args.held.now.items) c.args.p (within g c) (g.D.Disk.lane_of c.args.disk.now) (g.D.Disk.lane_of c.wake_part-answer.new.disk) (part_of c.wake_part-answer.new.part) (c.requires.stands tells)
     (there g c (λ t q n y a. (l : LogView) → c.wake_part-answer.new.part.log ≡ Some l → IsReady l (g.D.Disk.lane_of c.wake_part-answer.new.disk (2 * q))) (c.wake_part-answer.ensures.stands tells))
-    (there g c (λ t q n y a. (k : ℕ) → k ≢ 2 * q → g.D.Disk.lane_of c.wake_part-answer.new.disk k ≡ g.D.Disk.lane_of c.args.disk.now k) (c.wake_part-answer.ensures.others tells)))
+    (there g c (λ t q n y a. (k : ℕ) → k ≢ 2 * q → g.D.Disk.lane_of c.wake_part-answer.new.disk k ≡ g.D.Disk.lane_of c.args.disk.now k) (c.wake_part-answer.ensures.uses.others tells)))

@@ -1,8 +1,9 @@
 -- The log is taken out and put back
 use Rattle.std.proofs.Common.{◌≡◌, ℕ, ◌*◌, Some, sym, ap, ◌∙◌, subst}
 use Rattle.gr_publog.specs.Crash.{LogView}
-use Rattle.gr_publog.specs.Calls.{IsReady, GoesOn, Causes}
+use Rattle.gr_publog.specs.Calls.{IsReady}
 use Rattle.gr_broker_relay.specs.Held.{held_view}
+use Rattle.gr_broker.specs.Keeps.{UsesLane}
 use Rattle.gr_broker.specs.Parts.{part_of, part_with}
 use Rattle.gr_broker.proofs.Woken.{some_is, here_leaves, here_log, here_lane, here_late, here_told, here_twice, here_reopen}
 use Rattle.gr_broker.proofs.waking.wake_here.Given.{Over}
@@ -28,19 +29,19 @@ pub returns-clause-told : goal.returns-clause-told
 returns-clause-told g c =
     let s = c.args.site.now in
     here_told s.topo.now s.publisher s.broker c.args.now (held_view c.args.part.now) (held_view c.wake_host-answer.new.held) c.in-Some.log c.wake_host-answer.new.log
-    (part_of c.args.part.now) c.wake_host-answer.result (part_is g c) c.requires.host c.wake_host-answer.ensures.told
+    (part_of c.args.part.now) c.wake_host-answer.result (part_is g c) c.requires.at.host c.wake_host-answer.ensures.told
 
 pub returns-clause-leaves : goal.returns-clause-leaves
 returns-clause-leaves g c =
     let s = c.args.site.now in
     here_leaves s.topo.now s.publisher s.broker c.args.now (held_view c.args.part.now) (held_view c.wake_host-answer.new.held) c.in-Some.log c.wake_host-answer.new.log
-    (part_of c.args.part.now) c.wake_host-answer.result (part_is g c) c.requires.host c.wake_host-answer.ensures.leaves
+    (part_of c.args.part.now) c.wake_host-answer.result (part_is g c) c.requires.at.host c.wake_host-answer.ensures.leaves
 
 pub returns-clause-log : goal.returns-clause-log
 returns-clause-log g c =
     let s = c.args.site.now in
     here_log s.topo.now s.publisher s.broker c.args.now (held_view c.args.part.now) (held_view c.wake_host-answer.new.held) c.in-Some.log c.wake_host-answer.new.log
-    (part_of c.args.part.now) c.wake_host-answer.result (part_is g c) c.requires.host c.settings.ensures.topology.sound.settings.quiet.0 c.wake_host-answer.ensures.leaves
+    (part_of c.args.part.now) c.wake_host-answer.result (part_is g c) c.requires.at.host c.settings.ensures.topology.sound.settings.quiet.0 c.wake_host-answer.ensures.leaves
 
 pub returns-clause-lanes : goal.returns-clause-lanes
 returns-clause-lanes g c = λ l e. ap (λ (y : LogView). y.lane) (sym (some_is e)) ∙ new_lane g c
@@ -66,19 +67,12 @@ returns-clause-reopen g c =
     here_reopen s.topo.now s.publisher s.broker c.args.now (held_view c.args.part.now) (held_view c.wake_host-answer.new.held) c.in-Some.log c.wake_host-answer.new.log
     (part_of c.args.part.now) c.wake_host-answer.result (part_is g c) c.wake_host-answer.ensures.reopen
 
-pub returns-clause-causes : goal.returns-clause-causes
-returns-clause-causes g c = λ tells.
-    subst (λ (n : ℕ). Causes (g.D.Disk.faultless c.args.disk.now) (g.D.Disk.lane_of c.wake_host-answer.new.disk n) (g.D.Disk.faults c.args.disk.now) (g.D.Disk.faults c.wake_host-answer.new.disk) c.wake_host-answer.result)
-    (old_lane g c) (c.wake_host-answer.ensures.causes tells)
-
-pub returns-clause-goes_on : goal.returns-clause-goes_on
-returns-clause-goes_on g c = λ tells.
-    subst (λ (n : ℕ). GoesOn (g.D.Disk.lane_of c.args.disk.now n) (g.D.Disk.lane_of c.wake_host-answer.new.disk n)) (old_lane g c) (c.wake_host-answer.ensures.goes_on tells)
-
-pub returns-clause-others : goal.returns-clause-others
-returns-clause-others g c = λ tells n other. c.wake_host-answer.ensures.others tells n (λ e. other (e ∙ old_lane g c))
+pub returns-clause-uses : goal.returns-clause-uses
+returns-clause-uses g c =
+    subst (λ (n : ℕ). UsesLane g.D.Disk.tells g.D.Disk.faultless g.D.Disk.lane_of g.D.Disk.faults g.D.Disk.stops n c.args.disk.now c.wake_host-answer.new.disk c.wake_host-answer.result)
+    (old_lane g c) c.wake_host-answer.ensures.uses.lane
 
 pub returns-clause-stands : goal.returns-clause-stands
 returns-clause-stands g c = λ tells l e.
     subst (λ (m : LogView). IsReady m (g.D.Disk.lane_of c.wake_host-answer.new.disk (2 * c.args.site.now.publisher))) (some_is e)
-    (subst (λ (n : ℕ). IsReady c.wake_host-answer.new.log (g.D.Disk.lane_of c.wake_host-answer.new.disk n)) (new_lane g c) (c.wake_host-answer.ensures.stands tells))
+    (subst (λ (n : ℕ). IsReady c.wake_host-answer.new.log (g.D.Disk.lane_of c.wake_host-answer.new.disk n)) (new_lane g c) (c.wake_host-answer.ensures.uses.stands tells))

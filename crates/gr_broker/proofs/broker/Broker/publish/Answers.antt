@@ -8,9 +8,11 @@ use Rattle.gr_publog.specs.Calls.{Appends}
 use Rattle.gr_broker_relay.specs.declared.outcome.Outcome.{Outcome as Told}
 use Rattle.gr_broker.specs.Seen.{BrokerView, log_in}
 use Rattle.gr_broker.specs.Hosted.{AppendsAt, publish_logs_at}
+use Rattle.gr_broker.specs.Keeps.{UsesLane}
 use Rattle.gr_broker.specs.Told.{log_fault}
 use Rattle.gr_broker.specs.Starting.{fault_of}
 use Rattle.gr_broker.proofs.Hosted.{appends_done, appends_stopped}
+use Rattle.gr_broker.proofs.Using.{uses_ok_as, uses_err_as}
 use Rattle.gr_broker.proofs.broker.Broker.publish.Goals as goal
 
 pub publish_in-requires-clause-stands : goal.publish_in-requires-clause-stands
@@ -27,6 +29,15 @@ said_again p fault.Memory = refl
 said_again p fault.Disk = refl
 said_again p fault.Reopen = refl
 said_again p (fault.Damaged at) = refl
+
+pub returns-in-Err-clause-uses : goal.returns-in-Err-clause-uses
+returns-in-Err-clause-uses g c =
+    let same : log_fault c.fault_at.result ≡ c.in-Err.fault = ap log_fault c.fault_at.ensures ∙ said_again c.args.p c.in-Err.fault in
+    subst (λ (f : LogFault). UsesLane {T = Told} g.D.Disk.tells g.D.Disk.faultless g.D.Disk.lane_of g.D.Disk.faults g.D.Disk.stops (2 * c.args.p) c.args.disk.now c.publish_in.new.disk (Err f)) (sym same)
+    (uses_err_as c.in-Err.fault c.in-Err.ensures.uses)
+
+pub returns-clause-uses : goal.returns-clause-uses
+returns-clause-uses g c = uses_ok_as c.in-Ok.field-0 c.publish_in.new.into c.in-Ok.ensures.uses
 
 pub returns-in-Err-clause-lane : goal.returns-in-Err-clause-lane
 returns-in-Err-clause-lane g c = λ t.

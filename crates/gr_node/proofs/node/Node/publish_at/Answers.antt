@@ -43,7 +43,7 @@ pub returns-clause-stands : goal.returns-clause-stands
 returns-clause-stands g c = λ tells.
     stands_publish c.args.topo.now (seen c.args.self.now) c.args.p c.args.number c.args.event.now c.take_out-broker.result c.publish-answer.new.self c.put_back.new.brokers.items
     (place g c) c.requires.publisher c.publish-answer.result c.answered.result c.answered.ensures (gives g c)
-    (g.D.Disk.lane_of c.args.disk.now) (g.D.Disk.lane_of c.publish-answer.new.disk) (c.publish-answer.ensures.others tells) (c.requires.stands tells) (c.publish-answer.ensures.stands tells)
+    (g.D.Disk.lane_of c.args.disk.now) (g.D.Disk.lane_of c.publish-answer.new.disk) (c.publish-answer.ensures.uses.others tells) (c.requires.stands tells) (c.publish-answer.ensures.stands tells)
 
 pub returns-clause-keeps : goal.returns-clause-keeps
 returns-clause-keeps g c = λ tells lanes kept.
@@ -54,5 +54,5 @@ returns-clause-keeps g c = λ tells lanes kept.
     let after = g.D.Disk.lane_of c.publish-answer.new.disk in
     let here = hosts_here c.args.topo.now (seen c.args.self.now) c.host-host.result c.args.p x c.requires.fits was c.requires.publisher (sym c.host-host.ensures.host) in
     all_on c.args.topo.now.late lanes before after kept
-    (keep_publish c.args.topo.now.late x c.args.p before after (log_answer c.publish-answer.result) (λ l h. (c.requires.fits.fits c.host-host.result x was).late c.args.p l h) (λ l h. c.requires.fits.whole c.host-host.result c.args.p x l was h) (c.requires.stands tells c.host-host.result x was) (e.goes_on tells) (e.others tells)
+    (keep_publish c.args.topo.now.late x c.args.p before after (log_answer c.publish-answer.result) (λ l h. (c.requires.fits.fits c.host-host.result x was).late c.args.p l h) (λ l h. c.requires.fits.whole c.host-host.result c.args.p x l was h) (c.requires.stands tells c.host-host.result x was) (e.uses.goes_on tells) (e.uses.others tells)
     (publish_logs_at x c.args.p c.args.self.now.now c.args.number c.args.event.now) here.1 (e.lane tells))

@@ -43,14 +43,14 @@ returns-clause-stands g c = λ tells.
     let e = c.wake-answer.ensures in
     stands_wake c.args.topo.now (seen c.args.self.now) c.args.b c.args.p c.take_out-broker.result c.wake-answer.new.self c.put_back.new.brokers.items
     (place g c) c.requires.publisher c.wake-answer.result c.answered.result c.answered.ensures (gives g c)
-    (g.D.Disk.lane_of c.args.disk.now) (g.D.Disk.lane_of c.wake-answer.new.disk) (λ none m. ap (λ d. g.D.Disk.lane_of d m) (e.below none)) (e.others tells) (c.requires.stands tells) (e.stands tells)
+    (g.D.Disk.lane_of c.args.disk.now) (g.D.Disk.lane_of c.wake-answer.new.disk) (λ none m. ap (λ d. g.D.Disk.lane_of d m) (e.below none)) (e.uses.others tells) (c.requires.stands tells) (e.stands tells)
 
 pub returns-clause-others : goal.returns-clause-others
 returns-clause-others g c = λ tells.
     let e = c.wake-answer.ensures in
     others_wake c.args.topo.now (seen c.args.self.now) c.args.b c.args.p c.take_out-broker.result c.wake-answer.new.self c.put_back.new.brokers.items
     (place g c) c.requires.publisher c.wake-answer.result c.answered.result c.answered.ensures (gives g c)
-    (g.D.Disk.lane_of c.args.disk.now) (g.D.Disk.lane_of c.wake-answer.new.disk) (λ none m. ap (λ d. g.D.Disk.lane_of d m) (e.below none)) (e.others tells)
+    (g.D.Disk.lane_of c.args.disk.now) (g.D.Disk.lane_of c.wake-answer.new.disk) (λ none m. ap (λ d. g.D.Disk.lane_of d m) (e.below none)) (e.uses.others tells)
 
 pub returns-clause-keeps : goal.returns-clause-keeps
 returns-clause-keeps g c = λ tells lanes kept.
@@ -60,5 +60,5 @@ returns-clause-keeps g c = λ tells lanes kept.
     let before = g.D.Disk.lane_of c.args.disk.now in
     let after = g.D.Disk.lane_of c.wake-answer.new.disk in
     all_on c.args.topo.now.late lanes before after kept
-    (keep_wake c.args.topo.now.late x c.args.p before after (log_answer c.wake-answer.result) (λ l h. (c.requires.fits.fits c.args.b x was).late c.args.p l h) (λ l h. c.requires.fits.whole c.args.b c.args.p x l was h) (c.requires.stands tells c.args.b x was) (e.goes_on tells) (e.others tells)
+    (keep_wake c.args.topo.now.late x c.args.p before after (log_answer c.wake-answer.result) (λ l h. (c.requires.fits.fits c.args.b x was).late c.args.p l h) (λ l h. c.requires.fits.whole c.args.b c.args.p x l was h) (c.requires.stands tells c.args.b x was) (e.uses.goes_on tells) (e.uses.others tells)
     (mark_logs_at c.args.topo.now x c.args.p c.args.self.now.now) (cut_logs_at c.args.topo.now x c.args.p c.args.self.now.now) (λ none m. ap (λ d. g.D.Disk.lane_of d m) (e.below none)) (e.lane tells))

@@ -1,5 +1,6 @@
 -- The call is one of the host, taken up by the world
 use Rattle.std.proofs.Common.{◌*◌, sym, ap}
+use Rattle.gr_broker.specs.Told.{log_answer}
 use Rattle.gr_world.specs.contracts.world.World.{the_view}
 use Rattle.gr_world.specs.Of.{LanesFit}
 use Rattle.gr_world.specs.Ran.{Ran}
@@ -48,9 +49,9 @@ lanes g c =
     c.publish-answer.result c.take_answer.result (site g c) (sym c.host-host.ensures.host) c.every_topology_is_a_tree.ensures.tree (gives g c) c.take_answer.ensures.follows c.take_answer.ensures.takes
     (g.D.Disk.lane_of c.args.disk.now) (g.D.Disk.lane_of c.publish-answer.new.disk) c.requires.lanes (record {
       lane = e.lane g.met.D.SimDisk.told;
-      idle = λ h n. ap (λ d. g.D.Disk.lane_of d n) (e.idle h);
+      idle = λ h n. ap (λ d. g.D.Disk.lane_of d n) (e.uses.idle (ap log_answer h));
       untouched = λ h n. ap (λ d. g.D.Disk.lane_of d n) (e.untouched h);
-      others = e.others g.met.D.SimDisk.told;
+      others = e.uses.others g.met.D.SimDisk.told;
       stands = e.stands g.met.D.SimDisk.told;
     })
 
@@ -73,7 +74,7 @@ pub returns-clause-unchanged : goal.returns-clause-unchanged
 returns-clause-unchanged g c = λ h. (
   unchanged_publish (the_view c.self.inside) c.args.self.now c.host-host.result c.args.p c.args.number c.args.event.now c.index_mut-broker.result.now c.publish-answer.new.self c.take_answer.new.frames
       c.publish-answer.result c.take_answer.result (site g c) (sym c.host-host.ensures.host) c.every_topology_is_a_tree.ensures.tree (gives g c) c.take_answer.ensures.follows c.take_answer.ensures.takes h,
-  c.publish-answer.ensures.idle (reopen_follows c.publish-answer.result c.take_answer.result c.take_answer.ensures.follows h),
+  c.publish-answer.ensures.uses.idle (ap log_answer (reopen_follows c.publish-answer.result c.take_answer.result c.take_answer.ensures.follows h)),
 )
 
 pub returns-clause-failed : goal.returns-clause-failed
@@ -86,7 +87,7 @@ returns-clause-disk g c =
     let e = c.publish-answer.ensures in
     ran_on (g.D.Disk.faultless c.args.disk.now) (g.D.Disk.faultless c.publish-answer.new.disk) (g.D.Disk.faults c.args.disk.now) (g.D.Disk.stops c.args.disk.now)
     (g.D.Disk.faults c.publish-answer.new.disk) (g.D.Disk.stops c.publish-answer.new.disk) (g.D.Disk.lane_of c.publish-answer.new.disk (2 * c.args.p)) c.publish-answer.result c.take_answer.result
-    c.take_answer.ensures.follows e.tally (e.causes g.met.D.SimDisk.told) e.faultless
+    c.take_answer.ensures.follows e.uses.tally (e.uses.causes g.met.D.SimDisk.told) e.uses.faultless_stays
     (site_unstopped (the_view c.self.inside) c.args.self.now c.host-host.result c.args.p c.index_mut-broker.result.now (site g c) c.publish-answer.new.self c.take_answer.new.frames c.take_answer.result
     (g.D.Disk.lane_of c.publish-answer.new.disk) c.every_topology_is_a_tree.ensures.tree (ran g c) (lanes g c))
 

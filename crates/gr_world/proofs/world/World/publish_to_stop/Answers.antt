@@ -4,6 +4,7 @@ use Rattle.std.specs.Prelude.{◌↔◌, IsErrOf}
 use Rattle.gr_out.specs.Lane.{stop_at}
 use Rattle.gr_topo.specs.Topology.{host_of}
 use Rattle.gr_model.specs.declared.report.Report.{Report}
+use Rattle.gr_broker.specs.Told.{log_answer}
 use Rattle.gr_world.specs.contracts.world.World.{the_view}
 use Rattle.gr_world.specs.declared.fault.WorldFault.{WorldFault}
 use Rattle.gr_world.specs.declared.fault.WorldFault.TheVariants as fault
@@ -68,9 +69,9 @@ returns-then-is_broken_by-clause-stopped g c = λ is tick some.
     let on : PublishesOn c.index_mut-broker.result.now c.args.p c.self.inside.clock c.args.number c.args.event.now c.publish-answer.new.self (g.D.Disk.lane_of c.stop_after.new.self) (g.D.Disk.lane_of c.publish-answer.new.disk) c.publish-answer.result =
     record {
       lane = e.lane g.met.D.SimDisk.told;
-      idle = λ h n. ap (λ d. g.D.Disk.lane_of d n) (e.idle h);
+      idle = λ h n. ap (λ d. g.D.Disk.lane_of d n) (e.uses.idle (ap log_answer h));
       untouched = λ h n. ap (λ d. g.D.Disk.lane_of d n) (e.untouched h);
-      others = e.others g.met.D.SimDisk.told;
+      others = e.uses.others g.met.D.SimDisk.told;
       stands = e.stands g.met.D.SimDisk.told;
     } in
     stopped_at (the_view c.self.inside) c.args.self.now c.args.host c.args.p c.args.number c.args.event.now c.index_mut-broker.result.now c.publish-answer.new.self c.publish-answer.result s host c.every_topology_is_a_tree.ensures.tree k (g.D.Disk.lane_of c.args.disk.now) (g.D.Disk.lane_of c.stop_after.new.self) (g.D.Disk.lane_of c.publish-answer.new.disk) c.args.stop.now.call c.args.stop.now.pick tick (c.stop_after.ensures.stop g.met.D.SimDisk.told) c.requires.first
@@ -98,9 +99,9 @@ stop_after-requires-2 g c = record {
       let on : PublishesOn c.index_mut-broker.result.now c.args.p c.self.inside.clock c.args.number c.args.event.now c.publish-answer.new.self (g.D.Disk.lane_of c.stop_after.new.self) (g.D.Disk.lane_of c.publish-answer.new.disk) c.publish-answer.result =
       record {
         lane = e.lane g.met.D.SimDisk.told;
-        idle = λ h n. ap (λ d. g.D.Disk.lane_of d n) (e.idle h);
+        idle = λ h n. ap (λ d. g.D.Disk.lane_of d n) (e.uses.idle (ap log_answer h));
         untouched = λ h n. ap (λ d. g.D.Disk.lane_of d n) (e.untouched h);
-        others = e.others g.met.D.SimDisk.told;
+        others = e.uses.others g.met.D.SimDisk.told;
         stands = e.stands g.met.D.SimDisk.told;
       } in
       reserved_left (the_view c.self.inside) c.args.self.now c.args.host c.args.p c.args.number c.args.event.now c.index_mut-broker.result.now c.publish-answer.new.self c.publish-answer.result s host c.every_topology_is_a_tree.ensures.tree k (g.D.Disk.lane_of c.args.disk.now) (g.D.Disk.lane_of c.stop_after.new.self) (g.D.Disk.lane_of c.publish-answer.new.disk) (stop_at c.args.stop.now.call c.args.stop.now.pick) (c.stop_after.ensures.stop g.met.D.SimDisk.told) h.lane.reserved on;
@@ -147,9 +148,9 @@ returns-clause-never_through g c = λ lines is.
     let on : PublishesOn c.index_mut-broker.result.now c.args.p c.self.inside.clock c.args.number c.args.event.now c.publish-answer.new.self (g.D.Disk.lane_of c.stop_after.new.self) (g.D.Disk.lane_of c.publish-answer.new.disk) c.publish-answer.result =
     record {
       lane = e.lane g.met.D.SimDisk.told;
-      idle = λ h n. ap (λ d. g.D.Disk.lane_of d n) (e.idle h);
+      idle = λ h n. ap (λ d. g.D.Disk.lane_of d n) (e.uses.idle (ap log_answer h));
       untouched = λ h n. ap (λ d. g.D.Disk.lane_of d n) (e.untouched h);
-      others = e.others g.met.D.SimDisk.told;
+      others = e.uses.others g.met.D.SimDisk.told;
       stands = e.stands g.met.D.SimDisk.told;
     } in
     let lines_is : lines_in c.match-take_answer.result ≡ c.take_answer.result = elim c.match-take_answer.branch [
@@ -176,14 +177,14 @@ returns-clause-lanes g c = λ ne.
     let on : PublishesOn c.index_mut-broker.result.now c.args.p c.self.inside.clock c.args.number c.args.event.now c.publish-answer.new.self (g.D.Disk.lane_of c.stop_after.new.self) (g.D.Disk.lane_of c.publish-answer.new.disk) c.publish-answer.result =
     record {
       lane = e.lane g.met.D.SimDisk.told;
-      idle = λ h n. ap (λ d. g.D.Disk.lane_of d n) (e.idle h);
+      idle = λ h n. ap (λ d. g.D.Disk.lane_of d n) (e.uses.idle (ap log_answer h));
       untouched = λ h n. ap (λ d. g.D.Disk.lane_of d n) (e.untouched h);
-      others = e.others g.met.D.SimDisk.told;
+      others = e.uses.others g.met.D.SimDisk.told;
       stands = e.stands g.met.D.SimDisk.told;
     } in
     ended_fit (the_view c.self.inside) c.args.self.now c.args.host c.args.p c.args.number c.args.event.now c.index_mut-broker.result.now c.publish-answer.new.self c.publish-answer.result s host c.every_topology_is_a_tree.ensures.tree k c.take_answer.new.frames c.take_answer.result (g.D.Disk.lane_of c.args.disk.now) (g.D.Disk.lane_of c.stop_after.new.self) (g.D.Disk.lane_of c.publish-answer.new.disk) (g.D.Disk.lane_of c.stop_after-2.new.self) (stop_at c.args.stop.now.call c.args.stop.now.pick)
     c.take_answer.ensures.follows c.take_answer.ensures.takes c.requires.lanes (c.stop_after.ensures.stop g.met.D.SimDisk.told) (c.stop_after-2.ensures.stop g.met.D.SimDisk.told) (c.stop_after-2.ensures.others g.met.D.SimDisk.told)
-    (λ m away. c.stop_after-2.ensures.others g.met.D.SimDisk.told m away ∙ (e.others g.met.D.SimDisk.told m away ∙ c.stop_after.ensures.others g.met.D.SimDisk.told m away)) on
+    (λ m away. c.stop_after-2.ensures.others g.met.D.SimDisk.told m away ∙ (e.uses.others g.met.D.SimDisk.told m away ∙ c.stop_after.ensures.others g.met.D.SimDisk.told m away)) on
 
 pub returns-then-is_broken_by-clause-reopen : goal.returns-then-is_broken_by-clause-reopen
 returns-then-is_broken_by-clause-reopen g c =
