@@ -1,6 +1,6 @@
 -- Numbers and the bytes that spell them, and parts of bytes.
 use Rattle.std.proofs.Common.{◌≡◌, ◌<◌, ◌+◌, ◌^◌, ℕ, List, ◌++◌, length, drop, get_or, inl, inr, ap, sym, ◌∙◌, refl, arith, lit<}
-use Rattle.std.specs.Int.{from_be_bytes, to_be_bytes, w32, w64}
+use Rattle.std.specs.Int.{from_be_bytes, to_be_bytes, w16, w32, w64}
 use Rattle.std.proofs.lemmas.Bool.{cases_lt}
 use Rattle.std.proofs.lemmas.List.{drop_at, get_or-drop, get_or_append_left, get_or_past}
 use Rattle.std.proofs.lemmas.Nat.{be_bytes_4, be_bytes_8}
@@ -35,3 +35,7 @@ bytes_behind bytes front rest fits e = λ i.
 -- eight bytes are a number of 64 bits
 pub eight_fits : (bytes : List ℕ) → AreBytes bytes → from_be_bytes w64 bytes < 2 ^ 64
 eight_fits bytes each = omega (arith, each 0, each 1, each 2, each 3, each 4, each 5, each 6, each 7)
+
+-- two bytes are a number of 16 bits
+pub two_fits : (bytes : List ℕ) → AreBytes bytes → from_be_bytes w16 bytes < 2 ^ 16
+two_fits bytes each = omega (arith, each 0, each 1)

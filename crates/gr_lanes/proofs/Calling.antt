@@ -98,7 +98,7 @@ module _ {T : Type 0} (l : LogView) (r : Record) (before after : Lanes) (gate : 
   aside = content (other l before)
 
   abbrev read : List ℕ → Result LogState ℕ
-  read x = in_turn l.second x aside
+  read x = in_turn l.state.late l.second x aside
 
   abbrev text : List ℕ
   text = record_bytes r ++ 0 ∷ []
@@ -109,30 +109,30 @@ module _ {T : Type 0} (l : LogView) (r : Record) (before after : Lanes) (gate : 
   is_beside : IsBeside l.second s.base.generation aside
   is_beside = subst (λ (g : ℕ). IsBeside l.second g aside) (sym s.generation) (beside_is l.aside l.second l.generation aside s.aside)
 
-  follows : may_follow (state_from (begun s.base) s.records) r ≡ true
+  follows : may_follow (state_from (begun l.state.late s.base) s.records) r ≡ true
   follows = ap (λ (x : LogState). may_follow x r) s.state ∙ a.ok
 
   more : List Record
   more = s.records ++ r ∷ []
 
-  text_more : (bytes tail : List ℕ) → bytes ≡ front ++ 1 ∷ (text ++ tail) → IsText bytes s.base (s.records ++ r ∷ [])
+  text_more : (bytes tail : List ℕ) → bytes ≡ front ++ 1 ∷ (text ++ tail) → IsText l.state.late bytes s.base (s.records ++ r ∷ [])
   text_more bytes tail is = record {
     spells = record {
       text = record { gate = 0; tail = tail; closed = λ e. cc e; whole = is ∙ front_more s.base s.records r tail };
-      follow = follow-append (begun s.base) s.records r s.text.spells.follow follows a.sound;
+      follow = follow-append (begun l.state.late s.base) s.records r s.text.spells.follow follows a.sound;
     };
     base = s.text.base;
   }
 
-  state_more : state_from (begun s.base) (s.records ++ r ∷ []) ≡ after_record l.state r
-  state_more = state-append (begun s.base) s.records r ∙ ap (λ (x : LogState). after_record x r) s.state
+  state_more : state_from (begun l.state.late s.base) (s.records ++ r ∷ []) ≡ after_record l.state r
+  state_more = state-append (begun l.state.late s.base) s.records r ∙ ap (λ (x : LogState). after_record x r) s.state
 
   reads : Reads read front text (Ok l.state) (Ok (after_record l.state r))
   reads = record {
     closed = λ g tail shut.
-        let t : IsText (front ++ g ∷ tail) s.base s.records = record { spells = record { text = record { gate = g; tail = tail; closed = shut; whole = refl }; follow = s.text.spells.follow }; base = s.text.base } in
-        reads_beside a.shut_is a.two a.lower l.second (front ++ g ∷ tail) aside s.base s.records t is_beside ∙ ap (λ (x : LogState). Ok x) s.state;
-    opened = λ tail. reads_beside a.shut_is a.two a.lower l.second (front ++ 1 ∷ (text ++ tail)) aside s.base (s.records ++ r ∷ []) (text_more (front ++ 1 ∷ (text ++ tail)) tail refl) is_beside ∙ ap (λ (x : LogState). Ok x) state_more;
+        let t : IsText l.state.late (front ++ g ∷ tail) s.base s.records = record { spells = record { text = record { gate = g; tail = tail; closed = shut; whole = refl }; follow = s.text.spells.follow }; base = s.text.base } in
+        reads_beside a.shut_is a.two a.lower l.state.late l.second (front ++ g ∷ tail) aside s.base s.records t is_beside ∙ ap (λ (x : LogState). Ok x) s.state;
+    opened = λ tail. reads_beside a.shut_is a.two a.lower l.state.late l.second (front ++ 1 ∷ (text ++ tail)) aside s.base (s.records ++ r ∷ []) (text_more (front ++ 1 ∷ (text ++ tail)) tail refl) is_beside ∙ ap (λ (x : LogState). Ok x) state_more;
   }
 
   closes : Closes (content (present l before)) front
@@ -147,7 +147,7 @@ module _ {T : Type 0} (l : LogView) (r : Record) (before after : Lanes) (gate : 
       each_left (λ (x y : List ℕ). ReadsAs l.state x y ⊎ ReadsAs (after_record l.state r) x y) l.second before after x y
       (λ image beside left other_left.
       let at : beside ≡ aside = s.only_aside beside (same_left (other l before) (other l after) beside a.beside other_left) in
-      let turned = ap (λ (z : List ℕ). in_turn l.second image z) at in
+      let turned = ap (λ (z : List ℕ). in_turn l.state.late l.second image z) at in
       elim (a.extends.any_moment image left) [
         | inl e ↦ inl (turned ∙ (ap read e ∙ stands_in_turn a.shut_is a.two a.lower before l s))
         | inr b ↦ ⊎_elim (λ e. inl (turned ∙ e)) (λ e. inr (turned ∙ e))
@@ -158,14 +158,20 @@ module _ {T : Type 0} (l : LogView) (r : Record) (before after : Lanes) (gate : 
   ok_choice true x y = refl
   ok_choice false x y = refl
 
+  -- either way the same subscribers may join
+  late_choice : (b : Bool) → (let s : LogState = if b then after_record l.state r else l.state in s.late) ≡ l.state.late
+  late_choice true = refl
+  late_choice false = refl
+
   kept_of : (call pick : ℕ) → Broke (present l before) (present l after) call pick → (beside : List ℕ) → MayLeave (other l before) beside
-      → in_turn l.second (crash_image (present l after)) beside ≡ Ok (if is_kept (l.size - 1) call pick then after_record l.state r else l.state)
+      → (let s : LogState = if is_kept (l.size - 1) call pick then after_record l.state r else l.state in in_turn s.late l.second (crash_image (present l after)) beside ≡ Ok s)
   kept_of call pick broke beside left =
       let image : List ℕ = crash_image (present l after) in
       let at : beside ≡ aside = s.only_aside beside left in
       let three : StoppedImage (length front) text (content (present l before)) call pick image = subst (λ (g : ℕ). StoppedImage g text (content (present l before)) call pick image) at_gate (a.extends.picked call pick broke) in
       let place : length front ≡ l.size - 1 = omega (arith, s.size) in
-      ap (λ (z : List ℕ). in_turn l.second image z) at
+      ap (λ (x : List ℕ). in_turn x l.second image beside) (late_choice (is_kept (l.size - 1) call pick))
+      ∙ ap (λ (z : List ℕ). in_turn l.state.late l.second image z) at
       ∙ (stopped_reads read front text (content (present l before)) (Ok l.state) (Ok (after_record l.state r)) closes reads call pick image three
       ∙ (ap (λ (g : ℕ). if is_kept g call pick then Ok (after_record l.state r) else Ok l.state) place
       ∙ ok_choice (is_kept (l.size - 1) call pick) (after_record l.state r) l.state))

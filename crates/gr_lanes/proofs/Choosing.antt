@@ -146,9 +146,9 @@ standing_as total x y e s = subst (IsStanding total) e s
 fault_is : {T : Type 0} (x y : LogFault) → ◌≡◌ {A = Result T LogFault} (Err x) (Err y) → x ≡ y
 fault_is x y h = cc
 
-pub opens_failed : (lane : ℕ) (before after : Lanes) (e : LogFault) → Surveys {T = Unit {0}} before after (Err e) → GaveUp {X = Unit {0}} (Err e) → Opens lane before after (Err e)
-opens_failed lane before after e s gave = record {
-  gives = gave_up_opens (Unit {0}) lane (content before.first) (content before.second) e gave;
+pub opens_failed : (late : List ℕ) (lane : ℕ) (before after : Lanes) (e : LogFault) → Surveys {T = Unit {0}} before after (Err e) → GaveUp {X = Unit {0}} (Err e) → Opens late lane before after (Err e)
+opens_failed late lane before after e s gave = record {
+  gives = gave_up_opens (Unit {0}) late lane (content before.first) (content before.second) e gave;
   stands = tt;
   synced = after;
   answer = Err e;
@@ -157,9 +157,9 @@ opens_failed lane before after e s gave = record {
   settles = tt;
 }
 
-pub opens_of : (lane : ℕ) (before synced after : Lanes) (u : Unit {0}) (result : Result LogView LogFault) → Surveys before synced (Ok u) → Settles lane synced after result → Opens lane before after result
-opens_of lane before synced after u result s r = record {
-  gives = subst (λ (b : List ℕ). OpensAs lane (content before.first) b result) s.second (subst (λ (a : List ℕ). OpensAs lane a (content synced.second) result) s.first r.gives);
+pub opens_of : (late : List ℕ) (lane : ℕ) (before synced after : Lanes) (u : Unit {0}) (result : Result LogView LogFault) → Surveys before synced (Ok u) → Settles late lane synced after result → Opens late lane before after result
+opens_of late lane before synced after u result s r = record {
+  gives = subst (λ (b : List ℕ). OpensAs late lane (content before.first) b result) s.second (subst (λ (a : List ℕ). OpensAs late lane a (content synced.second) result) s.first r.gives);
   stands = r.stands;
   synced = synced;
   answer = Ok u;

@@ -4,11 +4,14 @@ use Rattle.std.proofs.lemmas.Bool.{ltb-true, ltb-false, leb-true, eqb-true}
 use Rattle.std.specs.List.{AllByRecursion}
 use Rattle.gr_event.specs.Limits.{IsEvent}
 use Rattle.gr_lanes.specs.declared.record.Record.{Record}
-use Rattle.gr_lanes.specs.declared.record.Record.TheVariants.{Event, Mark, Cut}
+use Rattle.gr_lanes.specs.declared.record.Record.TheVariants.{Event, Mark, Cut, Join as JoinAt}
 use Rattle.gr_lanes.specs.declared.record.Entry.{Entry}
 use Rattle.gr_lanes.specs.declared.record.Base.{Base}
-use Rattle.gr_lanes.specs.State.{LogState, empty_state, after_record, may_follow, IsSound, EventsRise, EventsUpto, IsState, EntriesRise, max_tick}
+use Rattle.gr_lanes.specs.State.{LogState, empty_state, footing, after_record, may_follow, may_enter, IsSound, EventsRise, EventsUpto, IsState, EntriesRise, max_tick}
+use Rattle.gr_event.specs.declared.limits.TheConstants.{MAX_JOINS}
+use Rattle.gr_event.specs.declared.join.Join.{Join}
 use Rattle.gr_lanes.specs.Text.{IsBase, begun}
+use Rattle.gr_lanes.proofs.Entering.{may_stand, held_first, held_up, held_more, apart_event, apart_join, left_apart}
 
 and_first : (x y : Bool) → (x && y) ≡ true → x ≡ true
 and_first true y e = refl
@@ -121,6 +124,8 @@ kept s (Event t n x) i h sound =
       settled = settled_in s.settled t both;
       low = omega (arith, count, next, i.low);
       events = sound_more s.events e i.events sound.1;
+      apart = apart_event s.events e s.joins s.settled i.apart i.held.upto past;
+      held = held_up s.late s.joins s.settled t (omega (arith, past)) i.held;
     }
 kept s (Mark t) i h sound =
     let past = settled_past s.settled t h in
@@ -132,6 +137,8 @@ kept s (Mark t) i h sound =
       settled = settled_in s.settled t h;
       low = i.low;
       events = i.events;
+      apart = i.apart;
+      held = held_up s.late s.joins s.settled t (omega (arith, past)) i.held;
     }
 kept s (Cut t) i h sound =
     let past : s.cut < t = ltb-true s.cut t (and_first (nat_lt s.cut t) (nat_le t s.settled) h) in
@@ -146,14 +153,53 @@ kept s (Cut t) i h sound =
       settled = i.settled;
       low = omega (arith, less, i.low);
       events = left_sound t s.events i.events;
+      apart = left_apart t s.events s.joins i.apart;
+      held = i.held;
+    }
+kept s (JoinAt t x) i h sound =
+    let j : Join = record { subscriber = x; tick = t } in
+    let both = and_first (nat_lt s.settled t && nat_le t max_tick) (may_enter (footing s) x) h in
+    let enters = and_second (nat_lt s.settled t && nat_le t max_tick) (may_enter (footing s) x) h in
+    let past = settled_past s.settled t both in
+    let may = may_stand s.late s.joins j s.settled i.held enters past (settled_in s.settled t both) in
+    record {
+      rise = i.rise;
+      count = i.count;
+      upto = events_up s.settled t s.events (omega (arith, past)) i.upto;
+      cut = omega (arith, past, i.cut);
+      settled = settled_in s.settled t both;
+      low = i.low;
+      events = i.events;
+      apart = apart_join s.settled s.events s.joins j i.apart i.upto past;
+      held = held_more s.late s.joins j s.settled t i.held enters may sound (omega (arith, past)) (omega arith);
     }
 
-pub begins : IsState empty_state
-begins = record { rise = tt; count = omega arith; upto = tt; cut = omega arith; settled = omega arith; low = omega arith; events = tt }
+pub begins : (late : List ℕ) → length late ≤ MAX_JOINS → IsState (empty_state late)
+begins late few = record {
+  rise = tt;
+  count = omega arith;
+  upto = tt;
+  cut = omega arith;
+  settled = omega arith;
+  low = omega arith;
+  events = tt;
+  apart = tt;
+  held = held_first late 0 few;
+}
 
 -- so it is before the first record of a lane
-pub begun_is : (b : Base) → IsBase b → IsState (begun b)
-begun_is b i = record { rise = tt; count = omega arith; upto = tt; cut = omega arith; settled = i.cut; low = omega (arith, i.last); events = tt }
+pub begun_is : (late : List ℕ) (b : Base) → IsBase late b → IsState (begun late b)
+begun_is late b i = record {
+  rise = tt;
+  count = omega arith;
+  upto = tt;
+  cut = omega arith;
+  settled = i.cut;
+  low = omega (arith, i.last);
+  events = tt;
+  apart = tt;
+  held = i.held;
+}
 
 -- the ticks of what is held rise
 rise_from : (tick n : ℕ) (es : List Entry) → EventsRise tick n es → EntriesRise tick es

@@ -1,10 +1,13 @@
 pub mod Bytes
 pub mod Reading
+pub mod Entering
+pub mod Merging
 pub mod Events
 pub mod Told
 pub mod Kept
 pub mod Live
 pub mod Walking
+pub mod Beginning
 pub mod Rewriting
 pub mod Pairing
 pub mod Filled

@@ -74,7 +74,7 @@ gate_within l f k gate is place s = subst (λ (x : Lane). gate < length (content
 -- A reclaiming into the other one
 
 module _ {T : Type 0} (l : LogView) (tick : ℕ) (f f' : ℕ → Lane) (k : ℕ) (result : Result T LogFault) (is : k ≡ number_of l.lane (not l.second)) (others : (n : ℕ) → n ≢ k → f' n ≡ f n) where
-  pub reclaims_at : ShutIs → TwoAre → LowerIs → Reclaiming empty_state state_text → Stands (lanes_at f l.lane) l → 1 ≤ l.generation → suc l.generation ≤ max_tick → IsState (after_record l.state (Cut tick))
+  pub reclaims_at : ShutIs → TwoAre → LowerIs → Reclaiming (empty_state l.state.late) (state_text l.state.late) → Stands (lanes_at f l.lane) l → 1 ≤ l.generation → suc l.generation ≤ max_tick → IsState (after_record l.state (Cut tick))
       → Refills l.aside (body_of (after_record l.state (Cut tick)) (suc l.generation)) (f k) (f' k) result → Reclaims l tick (lanes_at f l.lane) (lanes_at f' l.lane) result
   reclaims_at shut_is two lower reclaims stands low high state refills =
       let body : List ℕ = body_of (after_record l.state (Cut tick)) (suc l.generation) in

@@ -17,12 +17,12 @@ use Rattle.gr_lanes.specs.Views.{LogView, Lanes, present, other, MayLeavePair, R
 use Rattle.gr_lanes.proofs.Reading.{new_stands, new_reads}
 
 -- a pair by which of its images is of the present lane
-abbrev pub in_turn : Bool → List ℕ → List ℕ → Result LogState ℕ
-in_turn second image beside = state_in (if second then beside else image) (if second then image else beside)
+abbrev pub in_turn : List ℕ → Bool → List ℕ → List ℕ → Result LogState ℕ
+in_turn late second image beside = state_in late (if second then beside else image) (if second then image else beside)
 
 -- a text stands for its state
-pub text_is : (bytes : List ℕ) (b : Base) (rs : List Record) (g : ℕ) → IsText bytes b rs → state_text (New g) bytes ≡ Ok (state_from (begun b) rs)
-text_is bytes b rs g t = ap (λ (r : Result (LogState × List ℕ) ℕ). r >>= λ x. Ok x.0) (new_reads bytes b rs t g)
+pub text_is : (late bytes : List ℕ) (b : Base) (rs : List Record) (g : ℕ) → IsText late bytes b rs → state_text late (New g) bytes ≡ Ok (state_from (begun late b) rs)
+text_is late bytes b rs g t = ap (λ (r : Result (LogState × List ℕ) ℕ). r >>= λ x. Ok x.0) (new_reads late bytes b rs t g)
 
 -- how the other lane stands
 pub beside_is : (aside : Aside) (first : Bool) (g : ℕ) (bytes : List ℕ) → IsAside aside first g bytes → IsBeside first g bytes
@@ -36,9 +36,9 @@ stands_as Opened first g bytes h = (h.0, h.1)
 stands_as Closed first g bytes h = h
 
 module _ (shut_is : ShutIs) (two : TwoAre) (lower : LowerIs) where
-  at : (a b : List ℕ) (p : Present) → present_of a b ≡ Ok p → state_in a b ≡ read_by empty_state state_text a b p
+  at : (late a b : List ℕ) (p : Present) → present_of a b ≡ Ok p → state_in late a b ≡ read_by (empty_state late) (state_text late) a b p
   unfolding pair_in
-  at a b p e = ap (λ (r : Result Present ℕ). r >>= read_by empty_state state_text a b) e
+  at late a b p e = ap (λ (r : Result Present ℕ). r >>= read_by (empty_state late) (state_text late) a b) e
 
   beside_first : (g : ℕ) (a b : List ℕ) → standing_of true a ≡ Ok (New g) → IsBeside false g b → present_of a b ≡ Ok (First (New g))
   beside_first g a b s (inl h) = two a b (New g) Shut s (shut_is false b h)
@@ -51,24 +51,24 @@ module _ (shut_is : ShutIs) (two : TwoAre) (lower : LowerIs) where
   beside_second g a b s (inr (inr h)) = two a b (New h.0) (New g) h.2 s ∙ (lower g h.0 h.1).1
 
   -- a text beside a lane that is shut, old or of a lower generation is what the two hold
-  pub reads_beside : (second : Bool) (image beside : List ℕ) (b : Base) (rs : List Record) → IsText image b rs → IsBeside second b.generation beside → in_turn second image beside ≡ Ok (state_from (begun b) rs)
-  reads_beside false image beside b rs t h = at image beside (First (New b.generation)) (beside_first b.generation image beside (new_stands image b rs t true) h) ∙ text_is image b rs b.generation t
-  reads_beside true image beside b rs t h = at beside image (Second (New b.generation)) (beside_second b.generation beside image (new_stands image b rs t false) h) ∙ text_is image b rs b.generation t
+  pub reads_beside : (late : List ℕ) (second : Bool) (image beside : List ℕ) (b : Base) (rs : List Record) → IsText late image b rs → IsBeside second b.generation beside → in_turn late second image beside ≡ Ok (state_from (begun late b) rs)
+  reads_beside late false image beside b rs t h = at late image beside (First (New b.generation)) (beside_first b.generation image beside (new_stands late image b rs t true) h) ∙ text_is late image b rs b.generation t
+  reads_beside late true image beside b rs t h = at late beside image (Second (New b.generation)) (beside_second b.generation beside image (new_stands late image b rs t false) h) ∙ text_is late image b rs b.generation t
 
   -- what stands reads as what is held
-  pub stands_in_turn : (ls : Lanes) (l : LogView) → Stands ls l → in_turn l.second (content (present l ls)) (content (other l ls)) ≡ Ok l.state
+  pub stands_in_turn : (ls : Lanes) (l : LogView) → Stands ls l → in_turn l.state.late l.second (content (present l ls)) (content (other l ls)) ≡ Ok l.state
   stands_in_turn ls l s =
-      reads_beside l.second (content (present l ls)) (content (other l ls)) s.base s.records s.text
+      reads_beside l.state.late l.second (content (present l ls)) (content (other l ls)) s.base s.records s.text
       (subst (λ (g : ℕ). IsBeside l.second g (content (other l ls))) (sym s.generation) (beside_is l.aside l.second l.generation (content (other l ls)) s.aside))
       ∙ ap (λ (x : LogState). Ok x) s.state
 
   -- and so does each pair that a crash may leave
-  pub pair_reads : (ls : Lanes) (l : LogView) (image beside : List ℕ) → Stands ls l → MayLeave (present l ls) image → MayLeave (other l ls) beside → in_turn l.second image beside ≡ Ok l.state
+  pub pair_reads : (ls : Lanes) (l : LogView) (image beside : List ℕ) → Stands ls l → MayLeave (present l ls) image → MayLeave (other l ls) beside → in_turn l.state.late l.second image beside ≡ Ok l.state
   pair_reads ls l image beside s p o =
-      ap (λ (x : List ℕ). in_turn l.second x beside) (s.only image p) ∙ (ap (λ (x : List ℕ). in_turn l.second (content (present l ls)) x) (s.only_aside beside o) ∙ stands_in_turn ls l s)
+      ap (λ (x : List ℕ). in_turn l.state.late l.second x beside) (s.only image p) ∙ (ap (λ (x : List ℕ). in_turn l.state.late l.second (content (present l ls)) x) (s.only_aside beside o) ∙ stands_in_turn ls l s)
 
-  by_second : (second : Bool) (s : LogState) (x y : Lane) (a b : List ℕ) → ((image beside : List ℕ) → MayLeave (if second then y else x) image → MayLeave (if second then x else y) beside → in_turn second image beside ≡ Ok s)
-      → MayLeave x a → MayLeave y b → state_in a b ≡ Ok s
+  by_second : (second : Bool) (s : LogState) (x y : Lane) (a b : List ℕ) → ((image beside : List ℕ) → MayLeave (if second then y else x) image → MayLeave (if second then x else y) beside → in_turn s.late second image beside ≡ Ok s)
+      → MayLeave x a → MayLeave y b → state_in s.late a b ≡ Ok s
   by_second false s x y a b h p o = h a b p o
   by_second true s x y a b h p o = h b a o p
 

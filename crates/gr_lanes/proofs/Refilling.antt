@@ -11,7 +11,7 @@ use Rattle.gr_lanes.specs.declared.record.LogFault.TheVariants as fault
 use Rattle.gr_lanes.specs.declared.steps.Aside.TheVariants.{Opened}
 use Rattle.gr_lanes.specs.declared.head.Standing.TheVariants.{New}
 use Rattle.gr_lanes.specs.State.{LogState, empty_state, after_record, state_from, IsState, max_tick}
-use Rattle.gr_lanes.specs.Text.{base_bytes, blocks, front_of, begun, IsText, standing_of}
+use Rattle.gr_lanes.specs.Text.{joins_bytes, base_bytes, blocks, front_of, begun, IsText, standing_of}
 use Rattle.gr_lanes.specs.Lanes.{state_text}
 use Rattle.gr_lanes.specs.Rewrite.{IsBeside, Outcome, filled, Reclaiming, ShutIs, TwoAre, LowerIs}
 use Rattle.gr_lanes.specs.Filled.{base_of, records_of, body_of, filled_size}
@@ -28,24 +28,24 @@ use Rattle.gr_lanes.proofs.Calling.{each_left, same_left, both_ok, both_same}
 abbrev pub rest_of : LogState → ℕ → List ℕ
 rest_of s g =
     let b : Base = base_of s g in
-    (to_be_bytes w64 b.last ++ (to_be_bytes w64 b.cut ++ to_be_bytes w16 0)) ++ (blocks (records_of s) ++ 0 ∷ [])
+    (to_be_bytes w64 b.last ++ (to_be_bytes w64 b.cut ++ (to_be_bytes w16 (length b.joins) ++ joins_bytes b.joins))) ++ (blocks (records_of s) ++ 0 ∷ [])
 
 pub body_begins : (s : LogState) (g : ℕ) → body_of s g ≡ to_be_bytes w64 g ++ rest_of s g
 unfolding body_of
 body_begins s g =
     let b : Base = base_of s g in
-    append_assoc (to_be_bytes w64 g) (to_be_bytes w64 b.last ++ (to_be_bytes w64 b.cut ++ to_be_bytes w16 0)) (blocks (records_of s) ++ 0 ∷ [])
+    append_assoc (to_be_bytes w64 g) (to_be_bytes w64 b.last ++ (to_be_bytes w64 b.cut ++ (to_be_bytes w16 (length b.joins) ++ joins_bytes b.joins))) (blocks (records_of s) ++ 0 ∷ [])
 
 -- what it was filled with is what a filled lane holds
-pub filled_reads : (s : LogState) (g : ℕ) (before : List ℕ) → IsState s → 1 ≤ g → g ≤ max_tick → state_text (New g) (filled (body_of s g) before) ≡ Ok s
+pub filled_reads : (s : LogState) (g : ℕ) (before : List ℕ) → IsState s → 1 ≤ g → g ≤ max_tick → state_text s.late (New g) (filled (body_of s g) before) ≡ Ok s
 filled_reads s g before i low high =
-    text_is (filled (body_of s g) before) (base_of s g) (records_of s) g (filled_text s g before i low high) ∙ ap (λ (x : LogState). Ok x) (stands_for s g i)
+    text_is s.late (filled (body_of s g) before) (base_of s g) (records_of s) g (filled_text s g before i low high) ∙ ap (λ (x : LogState). Ok x) (stands_for s g i)
 
 -- the images of a lane that is rewritten, beside a present one
-rewritten : (r : Reclaiming empty_state state_text) (second : Bool) (g : ℕ) (p o rest image : List ℕ) → 1 ≤ g → suc g ≤ max_tick → standing_of (not second) p ≡ Ok (New g) → IsBeside second g o
-    → Outcome (suc g) rest o image → (in_turn second p image ≡ state_text (New g) p) ⊎ (in_turn second p image ≡ state_text (New (suc g)) (filled (to_be_bytes w64 (suc g) ++ rest) o))
-rewritten r false g p o rest image low high stands beside out = r.second_lane g p o rest image low high stands beside out
-rewritten r true g p o rest image low high stands beside out = r.first_lane g o p rest image low high stands beside out
+rewritten : (late : List ℕ) (r : Reclaiming (empty_state late) (state_text late)) (second : Bool) (g : ℕ) (p o rest image : List ℕ) → 1 ≤ g → suc g ≤ max_tick → standing_of (not second) p ≡ Ok (New g) → IsBeside second g o
+    → Outcome (suc g) rest o image → (in_turn late second p image ≡ state_text late (New g) p) ⊎ (in_turn late second p image ≡ state_text late (New (suc g)) (filled (to_be_bytes w64 (suc g) ++ rest) o))
+rewritten late r false g p o rest image low high stands beside out = r.second_lane g p o rest image low high stands beside out
+rewritten late r true g p o rest image low high stands beside out = r.first_lane g o p rest image low high stands beside out
 
 -- the lane that was not present is present
 flipped : (second : Bool) (x y : Lane) → (if second then x else y) ≡ (if not second then y else x)
@@ -53,12 +53,12 @@ flipped false x y = refl
 flipped true x y = refl
 
 -- lanes by which of them is present
-pub stands_at : (ls : Lanes) (l : LogView) (p o : Lane) (base : Base) (records : List Record) → p ≡ present l ls → o ≡ other l ls → IsText (content p) base records → state_from (begun base) records ≡ l.state
+pub stands_at : (ls : Lanes) (l : LogView) (p o : Lane) (base : Base) (records : List Record) → p ≡ present l ls → o ≡ other l ls → IsText l.state.late (content p) base records → state_from (begun l.state.late base) records ≡ l.state
     → base.generation ≡ l.generation → length (front_of base ++ blocks records) + 1 ≡ l.size → IsAside l.aside l.second l.generation (content o) → LeavesOnly p (content p) → LeavesOnly o (content o) → Stands ls l
 stands_at ls l p o base records ep eo text state generation size aside only only_aside = record {
   base = base;
   records = records;
-  text = subst (λ (x : Lane). IsText (content x) base records) ep text;
+  text = subst (λ (x : Lane). IsText l.state.late (content x) base records) ep text;
   state = state;
   generation = generation;
   size = size;
@@ -78,7 +78,7 @@ pub record IsRefilled {T : Type 0} (l : LogView) (tick : ℕ) (before after : La
   pub shut_is : ShutIs
   pub two : TwoAre
   pub lower : LowerIs
-  pub reclaims : Reclaiming empty_state state_text
+  pub reclaims : Reclaiming (empty_state l.state.late) (state_text l.state.late)
   pub stands : Stands before l
   pub kept : present l after ≡ present l before
   pub low : 1 ≤ l.generation
@@ -102,14 +102,14 @@ module _ {T : Type 0} (l : LogView) (tick : ℕ) (before after : Lanes) (result 
   abbrev o : List ℕ
   o = content (other l before)
 
-  new_text : IsText (filled body o) (base_of state (suc l.generation)) (records_of state)
+  new_text : IsText l.state.late (filled body o) (base_of state (suc l.generation)) (records_of state)
   new_text = filled_text state (suc l.generation) o a.state (omega arith) a.high
 
   stands_new : (first : Bool) → standing_of first p ≡ Ok (New l.generation)
-  stands_new first = new_stands p s.base s.records s.text first ∙ ap (λ (g : ℕ). Ok (New g)) s.generation
+  stands_new first = new_stands l.state.late p s.base s.records s.text first ∙ ap (λ (g : ℕ). Ok (New g)) s.generation
 
-  present_reads : state_text (New l.generation) p ≡ Ok l.state
-  present_reads = text_is p s.base s.records l.generation s.text ∙ ap (λ (x : LogState). Ok x) s.state
+  present_reads : state_text l.state.late (New l.generation) p ≡ Ok l.state
+  present_reads = text_is l.state.late p s.base s.records l.generation s.text ∙ ap (λ (x : LogState). Ok x) s.state
 
   -- an image of the other lane
   outcome : (image : List ℕ) → LeftSince (other l after) (moment (other l before)) image → Outcome (suc l.generation) (rest_of state (suc l.generation)) o image
@@ -124,19 +124,19 @@ module _ {T : Type 0} (l : LogView) (tick : ℕ) (before after : Lanes) (result 
       each_left (λ (x y : List ℕ). ReadsAs l.state x y ⊎ ReadsAs state x y) l.second before after x y
       (λ image beside left other_left.
       let at : image ≡ p = s.only image (same_left (present l before) (present l after) image a.kept left) in
-      let turned = ap (λ (z : List ℕ). in_turn l.second z beside) at in
+      let turned = ap (λ (z : List ℕ). in_turn l.state.late l.second z beside) at in
       ⊎_elim
       (λ e. inl (turned ∙ (e ∙ present_reads)))
-      (λ e. inr (turned ∙ (e ∙ (ap (λ (c : List ℕ). state_text (New (suc l.generation)) (filled c o)) (sym (body_begins state (suc l.generation))) ∙ filled_reads state (suc l.generation) o a.state (omega arith) a.high))))
-      (rewritten a.reclaims l.second l.generation p o (rest_of state (suc l.generation)) beside a.low a.high (stands_new (not l.second)) (beside_is l.aside l.second l.generation o s.aside) (outcome beside other_left)))
+      (λ e. inr (turned ∙ (e ∙ (ap (λ (c : List ℕ). state_text l.state.late (New (suc l.generation)) (filled c o)) (sym (body_begins state (suc l.generation))) ∙ filled_reads state (suc l.generation) o a.state (omega arith) a.high))))
+      (rewritten l.state.late a.reclaims l.second l.generation p o (rest_of state (suc l.generation)) beside a.low a.high (stands_new (not l.second)) (beside_is l.aside l.second l.generation o s.aside) (outcome beside other_left)))
 
   stands_filled : content (other l after) ≡ filled body o → LeavesOnly (other l after) (content (other l after)) → Stands after (reclaimed tick l)
   stands_filled written only =
       let old : IsAside Opened (not l.second) (suc l.generation) (content (present l after)) =
-      subst (λ (x : Lane). IsAside Opened (not l.second) (suc l.generation) (content x)) (sym a.kept) (new_long p s.base s.records s.text, new_open p s.base s.records s.text, inr (l.generation, omega arith, stands_new (not l.second))) in
+      subst (λ (x : Lane). IsAside Opened (not l.second) (suc l.generation) (content x)) (sym a.kept) (new_long l.state.late p s.base s.records s.text, new_open l.state.late p s.base s.records s.text, inr (l.generation, omega arith, stands_new (not l.second))) in
       stands_at after (reclaimed tick l) (other l after) (present l after) (base_of state (suc l.generation)) (records_of state)
       (flipped l.second after.first after.second) (flipped l.second after.second after.first)
-      (subst (λ (c : List ℕ). IsText c (base_of state (suc l.generation)) (records_of state)) (sym written) new_text) (stands_for state (suc l.generation) a.state) refl (text_size state (suc l.generation)) old only
+      (subst (λ (c : List ℕ). IsText l.state.late c (base_of state (suc l.generation)) (records_of state)) (sym written) new_text) (stands_for state (suc l.generation) a.state) refl (text_size state (suc l.generation)) old only
       (subst (λ (x : Lane). LeavesOnly x (content x)) (sym a.kept) s.only)
 
   pub reclaims_of : Reclaims l tick before after result

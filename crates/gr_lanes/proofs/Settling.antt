@@ -23,6 +23,8 @@ use Rattle.gr_lanes.specs.Steps.{Refills}
 use Rattle.gr_lanes.specs.Views.{LogView, Lanes, LeftPair, present, other, IsAside, Stands}
 use Rattle.gr_lanes.specs.Opens.{aside_of, aside_by, view_of, OpensAs, Settles, first_calls, second_calls}
 use Rattle.gr_lanes.proofs.Kept.{begins, begun_is, kept}
+use Rattle.gr_event.specs.declared.limits.TheConstants.{MAX_JOINS}
+use Rattle.gr_lanes.proofs.Reading.{base_least}
 use Rattle.gr_lanes.proofs.Told.{head_told, spells_told}
 use Rattle.gr_lanes.proofs.Filled.{filled_text, stands_for}
 use Rattle.gr_lanes.proofs.Surveying.{tells_on}
@@ -99,36 +101,36 @@ aside_same first bytes (New g) e =
 
 -- What two lanes stand for
 
-pub found_at : (a b : List ℕ) (p : Present) → present_of a b ≡ Ok p → lanes_text a b ≡ found_by a b p
+pub found_at : (late a b : List ℕ) (p : Present) → present_of a b ≡ Ok p → lanes_text late a b ≡ found_by late a b p
 unfolding lanes_text
-found_at a b p e = ap (λ (r : Result Present ℕ). r >>= found_by a b) e
+found_at late a b p e = ap (λ (r : Result Present ℕ). r >>= found_by late a b) e
 
-pub state_at : (a b : List ℕ) (p : Present) → present_of a b ≡ Ok p → state_in a b ≡ read_by empty_state state_text a b p
+pub state_at : (late a b : List ℕ) (p : Present) → present_of a b ≡ Ok p → state_in late a b ≡ read_by (empty_state late) (state_text late) a b p
 unfolding pair_in
-state_at a b p e = ap (λ (r : Result Present ℕ). r >>= read_by empty_state state_text a b) e
+state_at late a b p e = ap (λ (r : Result Present ℕ). r >>= read_by (empty_state late) (state_text late) a b) e
 
-pub found_fault : (a b : List ℕ) (e : LogFault) → Tells e (present_of a b) → Tells e (lanes_text a b)
+pub found_fault : (late a b : List ℕ) (e : LogFault) → Tells e (present_of a b) → Tells e (lanes_text late a b)
 unfolding lanes_text
-found_fault a b e h = tells_on e (present_of a b) (found_by a b) h
+found_fault late a b e h = tells_on e (present_of a b) (found_by late a b) h
 
-pub opens_fault : (lane : ℕ) (a b : List ℕ) (e : LogFault) → Tells e (lanes_text a b) → OpensAs lane a b (Err e)
-opens_fault lane a b fault.Memory h = tt
-opens_fault lane a b fault.Disk h = tt
-opens_fault lane a b (fault.Damaged at) h = h
-opens_fault lane a b fault.Reopen h = absurd h
+pub opens_fault : (late : List ℕ) (lane : ℕ) (a b : List ℕ) (e : LogFault) → Tells e (lanes_text late a b) → OpensAs late lane a b (Err e)
+opens_fault late lane a b fault.Memory h = tt
+opens_fault late lane a b fault.Disk h = tt
+opens_fault late lane a b (fault.Damaged at) h = h
+opens_fault late lane a b fault.Reopen h = absurd h
 
 same_found : (x y : Found) → ◌≡◌ {A = Result Found ℕ} (Ok x) (Ok y) → x ≡ y
 same_found x y e = cc
 
 -- Where nothing was called
 
-module _ (lane : ℕ) (before after : Lanes) (one : LeavesOnly before.first (content before.first)) (two : LeavesOnly before.second (content before.second)) (same : after ≡ before) where
-  still : (x y : List ℕ) → LeftPair before after x y → state_in x y ≡ state_in (content before.first) (content before.second)
+module _ (late : List ℕ) (lane : ℕ) (before after : Lanes) (one : LeavesOnly before.first (content before.first)) (two : LeavesOnly before.second (content before.second)) (same : after ≡ before) where
+  still : (x y : List ℕ) → LeftPair before after x y → state_in late x y ≡ state_in late (content before.first) (content before.second)
   still x y left =
-      ap₂ (λ (u v : List ℕ). state_in u v) (one x (same_left before.first after.first x (ap (λ (l : Lanes). l.first) same) left.0))
+      ap₂ (λ (u v : List ℕ). state_in late u v) (one x (same_left before.first after.first x (ap (λ (l : Lanes). l.first) same) left.0))
       (two y (same_left before.second after.second y (ap (λ (l : Lanes). l.second) same) left.1))
 
-  pub settles_fault : (e : LogFault) → OpensAs lane (content before.first) (content before.second) (Err e) → Settles lane before after (Err e)
+  pub settles_fault : (e : LogFault) → OpensAs late lane (content before.first) (content before.second) (Err e) → Settles late lane before after (Err e)
   settles_fault e gives = record {
     gives = gives;
     stands = tt;
@@ -140,8 +142,8 @@ module _ (lane : ℕ) (before after : Lanes) (one : LeavesOnly before.first (con
     unset_second = λ h. ap (λ (l : Lanes). l.second.stop) same ∙ h;
   }
 
-  pub settles_found : (l : LogView) (f : Found) → lanes_text (content before.first) (content before.second) ≡ Ok f → f.version ≡ 2 → l ≡ view_of lane (content before.first) (content before.second) f → Stands before l
-      → Settles lane before after (Ok l)
+  pub settles_found : (l : LogView) (f : Found) → lanes_text late (content before.first) (content before.second) ≡ Ok f → f.version ≡ 2 → l ≡ view_of lane (content before.first) (content before.second) f → Stands before l
+      → Settles late lane before after (Ok l)
   settles_found l f found version is stands = record {
     gives = (f, found, is);
     stands = subst (λ (x : Lanes). Stands x l) (sym same) stands;
@@ -157,7 +159,7 @@ module _ (lane : ℕ) (before after : Lanes) (one : LeavesOnly before.first (con
 
 -- The first opening: the first lane is filled with the empty state
 
-module _ (shut_is : ShutIs) (two : TwoAre) (r : Reclaiming empty_state state_text) (lane : ℕ) (before after : Lanes) (sa : IsShut (content before.first)) (sb : IsShut (content before.second))
+module _ (late : List ℕ) (few : length late ≤ MAX_JOINS) (shut_is : ShutIs) (two : TwoAre) (r : Reclaiming (empty_state late) (state_text late)) (lane : ℕ) (before after : Lanes) (sa : IsShut (content before.first)) (sb : IsShut (content before.second))
     (sole : LeavesOnly before.second (content before.second)) (same : after.second ≡ before.second) where
   abbrev a : List ℕ
   a = content before.first
@@ -168,19 +170,19 @@ module _ (shut_is : ShutIs) (two : TwoAre) (r : Reclaiming empty_state state_tex
   none : present_of a b ≡ Ok Neither
   none = two a b Shut Shut (shut_is true a sa) (shut_is false b sb)
 
-  begin_moments : {T : Type 0} (result : Result T LogFault) → Refills (aside_of a) (body_of empty_state 1) before.first after.first result → (x y : List ℕ) → LeftPair before after x y → state_in x y ≡ state_in a b
+  begin_moments : {T : Type 0} (result : Result T LogFault) → Refills (aside_of a) (body_of (empty_state late) 1) before.first after.first result → (x y : List ℕ) → LeftPair before after x y → state_in late x y ≡ state_in late a b
   begin_moments result refills x y left =
       let at : y ≡ b = sole y (same_left before.second after.second y same left.1) in
-      let out : Outcome 1 (rest_of empty_state 1) a x = elim (refills.any_moment x left.0) [
+      let out : Outcome 1 (rest_of (empty_state late) 1) a x = elim (refills.any_moment x left.0) [
         | inl e ↦ inl e
         | inr (inl h) ↦ inr (inl h)
-        | inr (inr e) ↦ inr (inr (e ∙ ap (λ (c : List ℕ). filled c a) (body_begins empty_state 1)))
+        | inr (inr e) ↦ inr (inr (e ∙ ap (λ (c : List ℕ). filled c a) (body_begins (empty_state late) 1)))
       ] in
-      ap (λ (z : List ℕ). state_in x z) at
-      ∙ (⊎_elim (λ e. e) (λ e. e ∙ (ap (λ (c : List ℕ). state_text (New 1) (filled c a)) (sym (body_begins empty_state 1)) ∙ filled_reads empty_state 1 a begins (omega arith) (omega arith)))
-      (r.beginning a b (rest_of empty_state 1) x sa sb out) ∙ sym (state_at a b Neither none))
+      ap (λ (z : List ℕ). state_in late x z) at
+      ∙ (⊎_elim (λ e. e) (λ e. e ∙ (ap (λ (c : List ℕ). state_text late (New 1) (filled c a)) (sym (body_begins (empty_state late) 1)) ∙ filled_reads (empty_state late) 1 a (begins late few) (omega arith) (omega arith)))
+      (r.beginning a b (rest_of (empty_state late) 1) x sa sb out) ∙ sym (state_at late a b Neither none))
 
-  pub settles_begin_err : (e : LogFault) → OpensAs lane a b (Err e) → Refills {T = ℕ} (aside_of a) (body_of empty_state 1) before.first after.first (Err e) → Settles lane before after (Err e)
+  pub settles_begin_err : (e : LogFault) → OpensAs late lane a b (Err e) → Refills {T = ℕ} (aside_of a) (body_of (empty_state late) 1) before.first after.first (Err e) → Settles late lane before after (Err e)
   settles_begin_err e gives refills = record {
     gives = gives;
     stands = tt;
@@ -193,27 +195,27 @@ module _ (shut_is : ShutIs) (two : TwoAre) (r : Reclaiming empty_state state_tex
   }
 
   abbrev begun_view : LogView
-  begun_view = record { lane = lane; state = empty_state; broken = false; second = false; generation = 1; size = filled_size empty_state; aside = aside_of b }
+  begun_view = record { lane = lane; state = empty_state late; broken = false; second = false; generation = 1; size = filled_size (empty_state late); aside = aside_of b }
 
-  pub settles_begin_ok : (n : ℕ) (l : LogView) → l ≡ begun_view → Refills {T = ℕ} (aside_of a) (body_of empty_state 1) before.first after.first (Ok n) → Settles lane before after (Ok l)
+  pub settles_begin_ok : (n : ℕ) (l : LogView) → l ≡ begun_view → Refills {T = ℕ} (aside_of a) (body_of (empty_state late) 1) before.first after.first (Ok n) → Settles late lane before after (Ok l)
   settles_begin_ok n l is refills =
-      let found : lanes_text a b ≡ Ok found_none = found_at a b Neither none in
+      let found : lanes_text late a b ≡ Ok (found_none late) = found_at late a b Neither none in
       let stands : Stands after begun_view = record {
-        base = base_of empty_state 1;
-        records = records_of empty_state;
-        text = subst (λ (c : List ℕ). IsText c (base_of empty_state 1) (records_of empty_state)) (sym refills.written) (filled_text empty_state 1 a begins (omega arith) (omega arith));
-        state = stands_for empty_state 1 begins;
+        base = base_of (empty_state late) 1;
+        records = records_of (empty_state late);
+        text = subst (λ (c : List ℕ). IsText late c (base_of (empty_state late) 1) (records_of (empty_state late))) (sym refills.written) (filled_text (empty_state late) 1 a (begins late few) (omega arith) (omega arith));
+        state = stands_for (empty_state late) 1 (begins late few);
         generation = refl;
-        size = text_size empty_state 1;
+        size = text_size (empty_state late) 1;
         aside = subst (λ (x : Lane). IsAside (aside_of b) false 1 (content x)) (sym same) (aside_shut false 1 b sb);
         only = refills.only;
         only_aside = subst (λ (x : Lane). LeavesOnly x (content x)) (sym same) sole;
       } in
       record {
-        gives = (found_none, found, is);
+        gives = (found_none late, found, is);
         stands = subst (Stands after) (sym is) stands;
         any_moment = begin_moments {T = ℕ} (Ok n) refills;
-        calls = λ f h. subst (λ (k : Found). (after.first.calls ≡ first_calls a k before.first.calls) × (after.second.calls ≡ second_calls b k before.second.calls)) (same_found found_none f (sym found ∙ h))
+        calls = λ f h. subst (λ (k : Found). (after.first.calls ≡ first_calls a k before.first.calls) × (after.second.calls ≡ second_calls b k before.second.calls)) (same_found (found_none late) f (sym found ∙ h))
             (refills.calls, ap (λ (x : Lane). x.calls) same);
         reserved_first = refills.reserved;
         reserved_second = λ h. ap (λ (l : Lane). l.reserved) same ∙ h;
@@ -223,9 +225,9 @@ module _ (shut_is : ShutIs) (two : TwoAre) (r : Reclaiming empty_state state_tex
 
 -- A log of the first version: what it holds is written into the second lane
 
-module _ (shut_is : ShutIs) (two : TwoAre) (r : Reclaiming empty_state state_text) (lane : ℕ) (before after : Lanes) (oa : standing_of true (content before.first) ≡ Ok Old) (sb : IsShut (content before.second))
-    (sole : LeavesOnly before.first (content before.first)) (same : after.first ≡ before.first) (s : LogState) (gate : ℕ) (i : IsState s) (placed_is : placed_in Old (content before.first) ≡ Ok (s, gate))
-    (text_is : state_text Old (content before.first) ≡ Ok s) where
+module _ (late : List ℕ) (shut_is : ShutIs) (two : TwoAre) (r : Reclaiming (empty_state late) (state_text late)) (lane : ℕ) (before after : Lanes) (oa : standing_of true (content before.first) ≡ Ok Old) (sb : IsShut (content before.second))
+    (sole : LeavesOnly before.first (content before.first)) (same : after.first ≡ before.first) (s : LogState) (gate : ℕ) (i : IsState s) (placed_is : placed_in late Old (content before.first) ≡ Ok (s, gate))
+    (text_is : state_text late Old (content before.first) ≡ Ok s) (late_is : s.late ≡ late) where
   abbrev oldest : List ℕ
   oldest = content before.first
 
@@ -238,10 +240,10 @@ module _ (shut_is : ShutIs) (two : TwoAre) (r : Reclaiming empty_state state_tex
   abbrev found_old : Found
   found_old = found_as Old false (s, gate)
 
-  old_is_found : lanes_text oldest beside ≡ Ok found_old
-  old_is_found = found_at oldest beside (First Old) first_old ∙ ap (λ (k : Result (LogState × ℕ) ℕ). k >>= λ x. Ok (found_as Old false x)) placed_is
+  old_is_found : lanes_text late oldest beside ≡ Ok found_old
+  old_is_found = found_at late oldest beside (First Old) first_old ∙ ap (λ (k : Result (LogState × ℕ) ℕ). k >>= λ x. Ok (found_as Old false x)) placed_is
 
-  migrate_moments : {T : Type 0} (result : Result T LogFault) → Refills (aside_of beside) (body_of s 1) before.second after.second result → (x y : List ℕ) → LeftPair before after x y → state_in x y ≡ state_in oldest beside
+  migrate_moments : {T : Type 0} (result : Result T LogFault) → Refills (aside_of beside) (body_of s 1) before.second after.second result → (x y : List ℕ) → LeftPair before after x y → state_in late x y ≡ state_in late oldest beside
   migrate_moments result refills x y left =
       let at : x ≡ oldest = sole x (same_left before.first after.first x same left.0) in
       let out : Outcome 1 (rest_of s 1) beside y = elim (refills.any_moment y left.1) [
@@ -249,11 +251,11 @@ module _ (shut_is : ShutIs) (two : TwoAre) (r : Reclaiming empty_state state_tex
         | inr (inl h) ↦ inr (inl h)
         | inr (inr e) ↦ inr (inr (e ∙ ap (λ (c : List ℕ). filled c beside) (body_begins s 1)))
       ] in
-      ap (λ (z : List ℕ). state_in z y) at
-      ∙ (⊎_elim (λ e. e ∙ text_is) (λ e. e ∙ (ap (λ (c : List ℕ). state_text (New 1) (filled c beside)) (sym (body_begins s 1)) ∙ filled_reads s 1 beside i (omega arith) (omega arith)))
-      (r.migrating oldest beside (rest_of s 1) y oa sb out) ∙ sym (state_at oldest beside (First Old) first_old ∙ text_is))
+      ap (λ (z : List ℕ). state_in late z y) at
+      ∙ (⊎_elim (λ e. e ∙ text_is) (λ e. e ∙ (ap (λ (c : List ℕ). state_text late (New 1) (filled c beside)) (sym (body_begins s 1)) ∙ (ap (λ (l : List ℕ). state_text l (New 1) (filled (body_of s 1) beside)) (sym late_is) ∙ filled_reads s 1 beside i (omega arith) (omega arith))))
+      (r.migrating oldest beside (rest_of s 1) y oa sb out) ∙ sym (state_at late oldest beside (First Old) first_old ∙ text_is))
 
-  pub settles_migrate_err : (e : LogFault) → OpensAs lane oldest beside (Err e) → Refills {T = ℕ} (aside_of beside) (body_of s 1) before.second after.second (Err e) → Settles lane before after (Err e)
+  pub settles_migrate_err : (e : LogFault) → OpensAs late lane oldest beside (Err e) → Refills {T = ℕ} (aside_of beside) (body_of s 1) before.second after.second (Err e) → Settles late lane before after (Err e)
   settles_migrate_err e gives refills = record {
     gives = gives;
     stands = tt;
@@ -268,13 +270,13 @@ module _ (shut_is : ShutIs) (two : TwoAre) (r : Reclaiming empty_state state_tex
   abbrev migrated_view : LogView
   migrated_view = record { lane = lane; state = s; broken = false; second = true; generation = 1; size = filled_size s; aside = Opened }
 
-  pub settles_migrate_ok : (n : ℕ) (l : LogView) → l ≡ migrated_view → Refills {T = ℕ} (aside_of beside) (body_of s 1) before.second after.second (Ok n) → Settles lane before after (Ok l)
+  pub settles_migrate_ok : (n : ℕ) (l : LogView) → l ≡ migrated_view → Refills {T = ℕ} (aside_of beside) (body_of s 1) before.second after.second (Ok n) → Settles late lane before after (Ok l)
   settles_migrate_ok n l is refills =
       let opened = open_told true oldest Old (λ h. cc h) oa in
       let stands : Stands after migrated_view = record {
         base = base_of s 1;
         records = records_of s;
-        text = subst (λ (c : List ℕ). IsText c (base_of s 1) (records_of s)) (sym refills.written) (filled_text s 1 beside i (omega arith) (omega arith));
+        text = subst (λ (c : List ℕ). IsText s.late c (base_of s 1) (records_of s)) (sym refills.written) (filled_text s 1 beside i (omega arith) (omega arith));
         state = stands_for s 1 i;
         generation = refl;
         size = text_size s 1;
@@ -304,43 +306,52 @@ was_state : (front bytes left : List ℕ) (start s : LogState) → IsState start
 was_state front bytes left start s i w = subst IsState w.state (state_kept start w.records i w.spells.follow)
 
 -- a text and the place of its closed gate
-record IsPlaced (x : Standing) (bytes : List ℕ) (s : LogState) (gate : ℕ) : Type 0 where
+record IsPlaced (late : List ℕ) (x : Standing) (bytes : List ℕ) (s : LogState) (gate : ℕ) : Type 0 where
   left : List ℕ
-  text : text_in x bytes ≡ Ok (s, left)
+  text : text_in late x bytes ≡ Ok (s, left)
   place : gate ≡ length bytes - length left
 
-placed_told : (x : Standing) (bytes : List ℕ) (s : LogState) (gate : ℕ) → placed_in x bytes ≡ Ok (s, gate) → IsPlaced x bytes s gate
-placed_told x bytes s gate e = go (text_in x bytes) refl e
+placed_told : (late : List ℕ) (x : Standing) (bytes : List ℕ) (s : LogState) (gate : ℕ) → placed_in late x bytes ≡ Ok (s, gate) → IsPlaced late x bytes s gate
+placed_told late x bytes s gate e = go (text_in late x bytes) refl e
   where
-    go : (r : Result (LogState × List ℕ) ℕ) → text_in x bytes ≡ r → placed (length bytes) r ≡ Ok (s, gate) → IsPlaced x bytes s gate
+    go : (r : Result (LogState × List ℕ) ℕ) → text_in late x bytes ≡ r → placed (length bytes) r ≡ Ok (s, gate) → IsPlaced late x bytes s gate
     go (Ok y) is h =
         let both : (y.0, length bytes - length y.1) ≡ (s, gate) = cc in
         let first : y.0 ≡ s = ap (λ (z : LogState × ℕ). z.0) both in
         record { left = y.1; text = is ∙ ap (λ (t : LogState). Ok (t, y.1)) first; place = sym (ap (λ (z : LogState × ℕ). z.1) both) }
     go (Err at) is h = absurd (cc h)
 
-pub old_state : (bytes : List ℕ) (s : LogState) (gate : ℕ) → AreBytes bytes → standing_of true bytes ≡ Ok Old → placed_in Old bytes ≡ Ok (s, gate) → IsState s × (state_text Old bytes ≡ Ok s)
-old_state bytes s gate fits stands e =
-    let p = placed_told Old bytes s gate e in
-    (was_state old_stamp bytes p.left empty_state s begins (spells_told.old bytes s p.left fits stands p.text), ap (λ (r : Result (LogState × List ℕ) ℕ). r >>= λ x. Ok x.0) p.text)
+late_on : (s : LogState) (rs : List Record) → (state_from s rs).late ≡ s.late
+late_on s [] = refl
+late_on s (r ∷ rs) = late_on (after_record s r) rs
 
-pub new_state : (first : Bool) (g : ℕ) (bytes : List ℕ) (s : LogState) (gate : ℕ) → AreBytes bytes → standing_of first bytes ≡ Ok (New g) → placed_in (New g) bytes ≡ Ok (s, gate)
+pub old_state : (late bytes : List ℕ) (s : LogState) (gate : ℕ) → length late ≤ MAX_JOINS → AreBytes bytes → standing_of true bytes ≡ Ok Old → placed_in late Old bytes ≡ Ok (s, gate)
+    → IsState s × (state_text late Old bytes ≡ Ok s) × (s.late ≡ late)
+old_state late bytes s gate few fits stands e =
+    let p = placed_told late Old bytes s gate e in
+    let w = spells_told.old late bytes s p.left fits stands p.text in (
+      was_state old_stamp bytes p.left (empty_state late) s (begins late few) w,
+      ap (λ (r : Result (LogState × List ℕ) ℕ). r >>= λ x. Ok x.0) p.text,
+      ap (λ (x : LogState). x.late) (sym w.state) ∙ late_on (empty_state late) w.records,
+    )
+
+pub new_state : (late : List ℕ) (first : Bool) (g : ℕ) (bytes : List ℕ) (s : LogState) (gate : ℕ) → length late ≤ MAX_JOINS → AreBytes bytes → standing_of first bytes ≡ Ok (New g) → placed_in late (New g) bytes ≡ Ok (s, gate)
     → IsState s × (1 ≤ g) × (g ≤ max_tick) × (32 ≤ gate)
-new_state first g bytes s gate fits stands e =
-    let p = placed_told (New g) bytes s gate e in
-    let w = spells_told.new bytes g first s p.left fits stands p.text in
+new_state late first g bytes s gate few fits stands e =
+    let p = placed_told late (New g) bytes s gate e in
+    let w = spells_told.new late bytes g first s p.left few fits stands p.text in
     let t = w.3 in
-    (was_state (front_of w.0) bytes p.left (begun w.0) s (begun_is w.0 w.2) t, omega (arith, w.1, w.2.low), omega (arith, w.1, w.2.high), long w.0 p.left p.place t)
+    (was_state (front_of w.0) bytes p.left (begun late w.0) s (begun_is late w.0 w.2) t, omega (arith, w.1, w.2.low), omega (arith, w.1, w.2.high), long w.0 p.left p.place t)
   where
-    long : (b : Base) (left : List ℕ) → gate ≡ length bytes - length left → WasRead (front_of b) (begun b) bytes s left → 32 ≤ gate
+    long : (b : Base) (left : List ℕ) → gate ≡ length bytes - length left → WasRead (front_of b) (begun late b) bytes s left → 32 ≤ gate
     long b left place t =
-        omega (arith, place, ap length t.spells.text.whole, ap length t.left_is, length-append (front_of b ++ blocks t.records) (t.spells.text.gate ∷ t.spells.text.tail), length-append (front_of b) (blocks t.records))
+        omega (arith, place, ap length t.spells.text.whole, ap length t.left_is, length-append (front_of b ++ blocks t.records) (t.spells.text.gate ∷ t.spells.text.tail), length-append (front_of b) (blocks t.records), base_least b)
 
-pub found_stands : (ls : Lanes) (l : LogView) (p o : Lane) (first : Bool) (gate : ℕ) → p ≡ present l ls → o ≡ other l ls → AreBytes (content p) → standing_of first (content p) ≡ Ok (New l.generation)
-    → placed_in (New l.generation) (content p) ≡ Ok (l.state, gate) → l.size ≡ gate + 1 → IsAside l.aside l.second l.generation (content o) → LeavesOnly p (content p) → LeavesOnly o (content o) → Stands ls l
-found_stands ls l p o first gate ep eo fits stands e size aside only only_aside =
-    let q = placed_told (New l.generation) (content p) l.state gate e in
-    let w = spells_told.new (content p) l.generation first l.state q.left fits stands q.text in
+pub found_stands : (ls : Lanes) (l : LogView) (p o : Lane) (first : Bool) (gate : ℕ) → length l.state.late ≤ MAX_JOINS → p ≡ present l ls → o ≡ other l ls → AreBytes (content p) → standing_of first (content p) ≡ Ok (New l.generation)
+    → placed_in l.state.late (New l.generation) (content p) ≡ Ok (l.state, gate) → l.size ≡ gate + 1 → IsAside l.aside l.second l.generation (content o) → LeavesOnly p (content p) → LeavesOnly o (content o) → Stands ls l
+found_stands ls l p o first gate few ep eo fits stands e size aside only only_aside =
+    let q = placed_told l.state.late (New l.generation) (content p) l.state gate e in
+    let w = spells_told.new l.state.late (content p) l.generation first l.state q.left few fits stands q.text in
     let t = w.3 in
     let c = t.spells.text in
     let whole : length (front_of w.0 ++ blocks t.records) + 1 ≡ l.size =

@@ -1,8 +1,9 @@
 -- What each way out of an opening does, by the numbers of the lanes
-use Rattle.std.proofs.Common.{◌≡◌, ◌≢◌, ℕ, suc, ◌+◌, ◌<◌, ◌==◌, nat_le, get_or, Bool, true, false, not, if◌then◌else◌, List, [], ◌∷◌, length, take, Result, Ok, Err, refl, ap, ap₂, sym, ◌∙◌, subst, arith}
+use Rattle.std.proofs.Common.{◌≡◌, ◌≢◌, ℕ, suc, ◌+◌, ◌<◌, ◌≤◌, ◌==◌, nat_le, get_or, Bool, true, false, not, if◌then◌else◌, List, [], ◌∷◌, length, take, Result, Ok, Err, refl, ap, ap₂, sym, ◌∙◌, subst, arith}
 use Rattle.std.specs.Prelude.{OnOk, MatchResult}
 use Rattle.std.proofs.lemmas.Bool.{leb-true, leb-false, eqb-true, eqb-false}
 use Rattle.gr_out.specs.Lane.{Lane, content}
+use Rattle.gr_event.specs.declared.limits.TheConstants.{MAX_JOINS}
 use Rattle.gr_lanes.specs.declared.record.LogFault.{LogFault}
 use Rattle.gr_lanes.specs.declared.record.LogFault.TheVariants as fault
 use Rattle.gr_lanes.specs.declared.opening.Heads.{Heads}
@@ -31,23 +32,23 @@ next_apart lane k is e = omega (arith, is, e)
 first_apart : (lane : ℕ) → suc lane ≢ lane
 first_apart lane e = omega (arith, e)
 
-pub gave_up_opens : (X : Type 0) (lane : ℕ) (a b : List ℕ) (e : LogFault) → GaveUp {X = X} (Err e) → OpensAs lane a b (Err e)
-gave_up_opens X lane a b fault.Memory h = tt
-gave_up_opens X lane a b fault.Disk h = tt
-gave_up_opens X lane a b (fault.Damaged at) h = absurd h
-gave_up_opens X lane a b fault.Reopen h = absurd h
+pub gave_up_opens : (X : Type 0) (late : List ℕ) (lane : ℕ) (a b : List ℕ) (e : LogFault) → GaveUp {X = X} (Err e) → OpensAs late lane a b (Err e)
+gave_up_opens X late lane a b fault.Memory h = tt
+gave_up_opens X late lane a b fault.Disk h = tt
+gave_up_opens X late lane a b (fault.Damaged at) h = absurd h
+gave_up_opens X late lane a b fault.Reopen h = absurd h
 
 pub lanes_same : (f f' : ℕ → Lane) (lane : ℕ) → ((n : ℕ) → f' n ≡ f n) → lanes_at f' lane ≡ lanes_at f lane
 lanes_same f f' lane same = ap₂ (λ (x y : Lane). let ls : Lanes = record { first = x; second = y } in ls) (same lane) (same (suc lane))
 
 -- Where a head was refused, or no lane is present
 
-pub settles_heads : (lane : ℕ) (f f' : ℕ → Lane) (e : LogFault) → ((n : ℕ) → f' n ≡ f n) → AreSole (lanes_at f lane) → Tells e (present_of (content (f lane)) (content (f (suc lane))))
-    → Settles lane (lanes_at f lane) (lanes_at f' lane) (Err e)
-settles_heads lane f f' e same sole tells =
+pub settles_heads : (late : List ℕ) (lane : ℕ) (f f' : ℕ → Lane) (e : LogFault) → ((n : ℕ) → f' n ≡ f n) → AreSole (lanes_at f lane) → Tells e (present_of (content (f lane)) (content (f (suc lane))))
+    → Settles late lane (lanes_at f lane) (lanes_at f' lane) (Err e)
+settles_heads late lane f f' e same sole tells =
     let a : List ℕ = content (f lane) in
     let b : List ℕ = content (f (suc lane)) in
-    settles_fault lane (lanes_at f lane) (lanes_at f' lane) sole.0 sole.1 (lanes_same f f' lane same) e (opens_fault lane a b e (found_fault a b e tells))
+    settles_fault late lane (lanes_at f lane) (lanes_at f' lane) sole.0 sole.1 (lanes_same f f' lane same) e (opens_fault late lane a b e (found_fault late a b e tells))
 
 -- which lane is present is told by the heads
 pub heads_choose : TwoAre → (h : Heads) (a b : List ℕ) → AreHeads h a b → present_of a b ≡ chosen h.first h.second
@@ -61,7 +62,7 @@ fails_present two h a b fault.Reopen r k = absurd k
 
 -- Neither is open
 
-module _ (shut_is : ShutIs) (two : TwoAre) (r : Reclaiming empty_state state_text) (lane : ℕ) (f f' : ℕ → Lane) (h : Heads) (heads : AreHeads h (content (f lane)) (content (f (suc lane)))) (one : h.first ≡ Shut) (other : h.second ≡ Shut)
+module _ (late : List ℕ) (few : length late ≤ MAX_JOINS) (shut_is : ShutIs) (two : TwoAre) (r : Reclaiming (empty_state late) (state_text late)) (lane : ℕ) (f f' : ℕ → Lane) (h : Heads) (heads : AreHeads h (content (f lane)) (content (f (suc lane)))) (one : h.first ≡ Shut) (other : h.second ≡ Shut)
     (sole : AreSole (lanes_at f lane)) (others : (n : ℕ) → n ≢ lane → f' n ≡ f n) where
   first_shut : standing_of true (content (f lane)) ≡ Ok Shut
   first_shut = heads.first ∙ ap (λ (x : Standing). Ok x) one
@@ -72,26 +73,26 @@ module _ (shut_is : ShutIs) (two : TwoAre) (r : Reclaiming empty_state state_tex
   filled_aside : aside_by h.first_size h.first ≡ aside_of (content (f lane))
   filled_aside = ap (λ (n : ℕ). aside_by n h.first) heads.first_size ∙ aside_same true (content (f lane)) h.first heads.first
 
-  pub begin_err : (e : LogFault) (aside : Aside) → aside ≡ aside_by h.first_size h.first → GaveUp {X = ℕ} (Err e) → Refills {T = ℕ} aside (body_of empty_state 1) (f lane) (f' lane) (Err e)
-      → Settles lane (lanes_at f lane) (lanes_at f' lane) (Err e)
+  pub begin_err : (e : LogFault) (aside : Aside) → aside ≡ aside_by h.first_size h.first → GaveUp {X = ℕ} (Err e) → Refills {T = ℕ} aside (body_of (empty_state late) 1) (f lane) (f' lane) (Err e)
+      → Settles late lane (lanes_at f lane) (lanes_at f' lane) (Err e)
   begin_err e aside is gave refills =
-      settles_begin_err shut_is two r lane (lanes_at f lane) (lanes_at f' lane) (shut_told true (content (f lane)) first_shut) (shut_told false (content (f (suc lane))) second_shut) sole.1 (others (suc lane) (first_apart lane)) e
-      (gave_up_opens ℕ lane (content (f lane)) (content (f (suc lane))) e gave) (subst (λ (x : Aside). Refills {T = ℕ} x (body_of empty_state 1) (f lane) (f' lane) (Err e)) (is ∙ filled_aside) refills)
+      settles_begin_err late few shut_is two r lane (lanes_at f lane) (lanes_at f' lane) (shut_told true (content (f lane)) first_shut) (shut_told false (content (f (suc lane))) second_shut) sole.1 (others (suc lane) (first_apart lane)) e
+      (gave_up_opens ℕ late lane (content (f lane)) (content (f (suc lane))) e gave) (subst (λ (x : Aside). Refills {T = ℕ} x (body_of (empty_state late) 1) (f lane) (f' lane) (Err e)) (is ∙ filled_aside) refills)
 
-  pub begin_ok : (n : ℕ) (aside beside : Aside) (l : LogView) → aside ≡ aside_by h.first_size h.first → beside ≡ aside_by h.second_size h.second → n ≡ filled_size empty_state
-      → l ≡ record { lane = lane; state = empty_state; broken = false; second = false; generation = 1; size = n; aside = beside } → Refills {T = ℕ} aside (body_of empty_state 1) (f lane) (f' lane) (Ok n)
-      → Settles lane (lanes_at f lane) (lanes_at f' lane) (Ok l)
+  pub begin_ok : (n : ℕ) (aside beside : Aside) (l : LogView) → aside ≡ aside_by h.first_size h.first → beside ≡ aside_by h.second_size h.second → n ≡ filled_size (empty_state late)
+      → l ≡ record { lane = lane; state = empty_state late; broken = false; second = false; generation = 1; size = n; aside = beside } → Refills {T = ℕ} aside (body_of (empty_state late) 1) (f lane) (f' lane) (Ok n)
+      → Settles late lane (lanes_at f lane) (lanes_at f' lane) (Ok l)
   begin_ok n aside beside l is by size view refills =
       let b : List ℕ = content (f (suc lane)) in
       let kept : beside ≡ aside_of b = by ∙ (ap (λ (n : ℕ). aside_by n h.second) heads.second_size ∙ aside_same false b h.second heads.second) in
-      settles_begin_ok shut_is two r lane (lanes_at f lane) (lanes_at f' lane) (shut_told true (content (f lane)) first_shut) (shut_told false b second_shut) sole.1 (others (suc lane) (first_apart lane)) n l
-      (view ∙ ap₂ (λ (k : ℕ) (x : Aside). let v : LogView = record { lane = lane; state = empty_state; broken = false; second = false; generation = 1; size = k; aside = x } in v) size kept)
-      (subst (λ (x : Aside). Refills {T = ℕ} x (body_of empty_state 1) (f lane) (f' lane) (Ok n)) (is ∙ filled_aside) refills)
+      settles_begin_ok late few shut_is two r lane (lanes_at f lane) (lanes_at f' lane) (shut_told true (content (f lane)) first_shut) (shut_told false b second_shut) sole.1 (others (suc lane) (first_apart lane)) n l
+      (view ∙ ap₂ (λ (k : ℕ) (x : Aside). let v : LogView = record { lane = lane; state = empty_state late; broken = false; second = false; generation = 1; size = k; aside = x } in v) size kept)
+      (subst (λ (x : Aside). Refills {T = ℕ} x (body_of (empty_state late) 1) (f lane) (f' lane) (Ok n)) (is ∙ filled_aside) refills)
 
 -- The first version
 
-module _ (shut_is : ShutIs) (two : TwoAre) (r : Reclaiming empty_state state_text) (lane k : ℕ) (next : k ≡ suc lane) (f f' : ℕ → Lane) (h : Heads) (heads : AreHeads h (content (f lane)) (content (f (suc lane)))) (one : h.first ≡ Old)
-    (other : h.second ≡ Shut) (sole : AreSole (lanes_at f lane)) (others : (n : ℕ) → n ≢ k → f' n ≡ f n) (s : LogState) (gate : ℕ) (fits : AreBytes (content (f lane))) (placed_is : placed_in Old (content (f lane)) ≡ Ok (s, gate)) where
+module _ (late : List ℕ) (few : length late ≤ MAX_JOINS) (shut_is : ShutIs) (two : TwoAre) (r : Reclaiming (empty_state late) (state_text late)) (lane k : ℕ) (next : k ≡ suc lane) (f f' : ℕ → Lane) (h : Heads) (heads : AreHeads h (content (f lane)) (content (f (suc lane)))) (one : h.first ≡ Old)
+    (other : h.second ≡ Shut) (sole : AreSole (lanes_at f lane)) (others : (n : ℕ) → n ≢ k → f' n ≡ f n) (s : LogState) (gate : ℕ) (fits : AreBytes (content (f lane))) (placed_is : placed_in late Old (content (f lane)) ≡ Ok (s, gate)) where
   abbrev a : List ℕ
   a = content (f lane)
 
@@ -104,8 +105,8 @@ module _ (shut_is : ShutIs) (two : TwoAre) (r : Reclaiming empty_state state_tex
   shut_second : IsShut b
   shut_second = shut_told false b (heads.second ∙ ap (λ (x : Standing). Ok x) other)
 
-  held : IsState s × (state_text Old a ≡ Ok s)
-  held = old_state a s gate fits old_first placed_is
+  held : IsState s × (state_text late Old a ≡ Ok s) × (s.late ≡ late)
+  held = old_state late a s gate few fits old_first placed_is
 
   next_aside : aside_by h.second_size h.second ≡ aside_of b
   next_aside = ap (λ (n : ℕ). aside_by n h.second) heads.second_size ∙ aside_same false b h.second heads.second
@@ -115,56 +116,62 @@ module _ (shut_is : ShutIs) (two : TwoAre) (r : Reclaiming empty_state state_tex
       subst (λ (n : ℕ). Refills (aside_of b) (body_of s 1) (f n) (f' n) result) next (subst (λ (x : Aside). Refills x (body_of s 1) (f k) (f' k) result) (is ∙ next_aside) refills)
 
   pub migrate_err : (e : LogFault) (aside : Aside) → aside ≡ aside_by h.second_size h.second → GaveUp {X = ℕ} (Err e) → Refills {T = ℕ} aside (body_of s 1) (f k) (f' k) (Err e)
-      → Settles lane (lanes_at f lane) (lanes_at f' lane) (Err e)
+      → Settles late lane (lanes_at f lane) (lanes_at f' lane) (Err e)
   migrate_err e aside is gave refills =
-      settles_migrate_err shut_is two r lane (lanes_at f lane) (lanes_at f' lane) old_first shut_second sole.0 (others lane (next_apart lane k next)) s gate held.0 placed_is held.1 e (gave_up_opens ℕ lane a b e gave)
+      settles_migrate_err late shut_is two r lane (lanes_at f lane) (lanes_at f' lane) old_first shut_second sole.0 (others lane (next_apart lane k next)) s gate held.0 placed_is held.1 held.2 e (gave_up_opens ℕ late lane a b e gave)
       (at_next aside (Err e) is refills)
 
   pub migrate_ok : (n : ℕ) (aside : Aside) (l : LogView) → aside ≡ aside_by h.second_size h.second → n ≡ filled_size s
-      → l ≡ record { lane = lane; state = s; broken = false; second = true; generation = 1; size = n; aside = Opened } → Refills {T = ℕ} aside (body_of s 1) (f k) (f' k) (Ok n) → Settles lane (lanes_at f lane) (lanes_at f' lane) (Ok l)
+      → l ≡ record { lane = lane; state = s; broken = false; second = true; generation = 1; size = n; aside = Opened } → Refills {T = ℕ} aside (body_of s 1) (f k) (f' k) (Ok n) → Settles late lane (lanes_at f lane) (lanes_at f' lane) (Ok l)
   migrate_ok n aside l is size view refills =
-      settles_migrate_ok shut_is two r lane (lanes_at f lane) (lanes_at f' lane) old_first shut_second sole.0 (others lane (next_apart lane k next)) s gate held.0 placed_is held.1 n l
+      settles_migrate_ok late shut_is two r lane (lanes_at f lane) (lanes_at f' lane) old_first shut_second sole.0 (others lane (next_apart lane k next)) s gate held.0 placed_is held.1 held.2 n l
       (view ∙ ap (λ (k : ℕ). let v : LogView = record { lane = lane; state = s; broken = false; second = true; generation = 1; size = k; aside = Opened } in v) size) (at_next aside (Ok n) is refills)
 
 -- where the text of a present lane was refused
-pub settles_text : (lane : ℕ) (f f' : ℕ → Lane) (p : Present) (x : Standing) (second : Bool) (e : LogFault) → ((n : ℕ) → f' n ≡ f n) → AreSole (lanes_at f lane)
-    → present_of (content (f lane)) (content (f (suc lane))) ≡ Ok (if second then Second x else First x) → Tells e (placed_in x (content (f (number_of lane second)))) → Settles lane (lanes_at f lane) (lanes_at f' lane) (Err e)
-settles_text lane f f' p x true e same sole present tells =
+pub settles_text : (late : List ℕ) (lane : ℕ) (f f' : ℕ → Lane) (p : Present) (x : Standing) (second : Bool) (e : LogFault) → ((n : ℕ) → f' n ≡ f n) → AreSole (lanes_at f lane)
+    → present_of (content (f lane)) (content (f (suc lane))) ≡ Ok (if second then Second x else First x) → Tells e (placed_in late x (content (f (number_of lane second)))) → Settles late lane (lanes_at f lane) (lanes_at f' lane) (Err e)
+settles_text late lane f f' p x true e same sole present tells =
     let a : List ℕ = content (f lane) in
     let b : List ℕ = content (f (suc lane)) in
-    settles_fault lane (lanes_at f lane) (lanes_at f' lane) sole.0 sole.1 (lanes_same f f' lane same) e
-    (opens_fault lane a b e (subst (λ (k : Result Found ℕ). Tells e k) (sym (found_at a b (Second x) present)) (tells_on e (placed_in x b) (λ r. Ok (found_as x true r)) tells)))
-settles_text lane f f' p x false e same sole present tells =
+    settles_fault late lane (lanes_at f lane) (lanes_at f' lane) sole.0 sole.1 (lanes_same f f' lane same) e
+    (opens_fault late lane a b e (subst (λ (k : Result Found ℕ). Tells e k) (sym (found_at late a b (Second x) present)) (tells_on e (placed_in late x b) (λ r. Ok (found_as x true r)) tells)))
+settles_text late lane f f' p x false e same sole present tells =
     let a : List ℕ = content (f lane) in
     let b : List ℕ = content (f (suc lane)) in
-    settles_fault lane (lanes_at f lane) (lanes_at f' lane) sole.0 sole.1 (lanes_same f f' lane same) e
-    (opens_fault lane a b e (subst (λ (k : Result Found ℕ). Tells e k) (sym (found_at a b (First x) present)) (tells_on e (placed_in x a) (λ r. Ok (found_as x false r)) tells)))
+    settles_fault late lane (lanes_at f lane) (lanes_at f' lane) sole.0 sole.1 (lanes_same f f' lane same) e
+    (opens_fault late lane a b e (subst (λ (k : Result Found ℕ). Tells e k) (sym (found_at late a b (First x) present)) (tells_on e (placed_in late x a) (λ r. Ok (found_as x false r)) tells)))
 
 -- The second version
 
-pub found_ok : (lane : ℕ) (f f' : ℕ → Lane) (second : Bool) (g gate : ℕ) (s : LogState) (aside : Aside) (l : LogView) → ((n : ℕ) → f' n ≡ f n) → AreSole (lanes_at f lane)
+few_of : (late : List ℕ) (s : LogState) → length late ≤ MAX_JOINS → s.late ≡ late → length s.late ≤ MAX_JOINS
+few_of late s few is = subst (λ (l : List ℕ). length l ≤ MAX_JOINS) (sym is) few
+
+placed_as : (late : List ℕ) (s : LogState) (gate : ℕ) (x : Standing) (bytes : List ℕ) → s.late ≡ late → placed_in late x bytes ≡ Ok (s, gate) → placed_in s.late x bytes ≡ Ok (s, gate)
+placed_as late s gate x bytes is e = ap (λ (l : List ℕ). placed_in l x bytes) is ∙ e
+
+pub found_ok : (late : List ℕ) (lane : ℕ) (f f' : ℕ → Lane) (second : Bool) (g gate : ℕ) (s : LogState) (aside : Aside) (l : LogView) → length late ≤ MAX_JOINS → s.late ≡ late → ((n : ℕ) → f' n ≡ f n) → AreSole (lanes_at f lane)
     → present_of (content (f lane)) (content (f (suc lane))) ≡ Ok (if second then Second (New g) else First (New g)) → standing_of (not second) (content (f (number_of lane second))) ≡ Ok (New g)
-    → AreBytes (content (f (number_of lane second))) → placed_in (New g) (content (f (number_of lane second))) ≡ Ok (s, gate)
+    → AreBytes (content (f (number_of lane second))) → placed_in late (New g) (content (f (number_of lane second))) ≡ Ok (s, gate)
     → aside ≡ aside_of (content (f (number_of lane (not second)))) → IsAside aside second g (content (f (number_of lane (not second))))
-    → l ≡ record { lane = lane; state = s; broken = false; second = second; generation = g; size = gate + 1; aside = aside } → Settles lane (lanes_at f lane) (lanes_at f' lane) (Ok l)
-found_ok lane f f' true g gate s aside l same sole present stands fits placed_is is beside view =
+    → l ≡ record { lane = lane; state = s; broken = false; second = second; generation = g; size = gate + 1; aside = aside } → Settles late lane (lanes_at f lane) (lanes_at f' lane) (Ok l)
+found_ok late lane f f' true g gate s aside l few late_is same sole present stands fits placed_is is beside view =
     let a : List ℕ = content (f lane) in
     let b : List ℕ = content (f (suc lane)) in
     let v : LogView = record { lane = lane; state = s; broken = false; second = true; generation = g; size = gate + 1; aside = aside } in
     let k : Found = found_as (New g) true (s, gate) in
-    let found : lanes_text a b ≡ Ok k = found_at a b (Second (New g)) present ∙ ap (λ (r : Result (LogState × ℕ) ℕ). r >>= λ x. Ok (found_as (New g) true x)) placed_is in
-    settles_found lane (lanes_at f lane) (lanes_at f' lane) sole.0 sole.1 (lanes_same f f' lane same) l k found refl
+    let found : lanes_text late a b ≡ Ok k = found_at late a b (Second (New g)) present ∙ ap (λ (r : Result (LogState × ℕ) ℕ). r >>= λ x. Ok (found_as (New g) true x)) placed_is in
+    settles_found late lane (lanes_at f lane) (lanes_at f' lane) sole.0 sole.1 (lanes_same f f' lane same) l k found refl
     (view ∙ ap (λ (x : Aside). let w : LogView = record { lane = lane; state = s; broken = false; second = true; generation = g; size = gate + 1; aside = x } in w) is)
-    (subst (Stands (lanes_at f lane)) (sym view) (found_stands (lanes_at f lane) v (f (suc lane)) (f lane) false gate refl refl fits stands placed_is refl beside sole.1 sole.0))
-found_ok lane f f' false g gate s aside l same sole present stands fits placed_is is beside view =
+    (subst (Stands (lanes_at f lane)) (sym view) (found_stands (lanes_at f lane) v (f (suc lane)) (f lane) false gate (few_of late s few late_is) refl refl fits stands (placed_as late s gate (New g) b late_is placed_is) refl beside sole.1 sole.0))
+found_ok late lane f f' false g gate s aside l few late_is same sole present stands fits placed_is is beside view =
     let a : List ℕ = content (f lane) in
     let b : List ℕ = content (f (suc lane)) in
     let v : LogView = record { lane = lane; state = s; broken = false; second = false; generation = g; size = gate + 1; aside = aside } in
     let k : Found = found_as (New g) false (s, gate) in
-    let found : lanes_text a b ≡ Ok k = found_at a b (First (New g)) present ∙ ap (λ (r : Result (LogState × ℕ) ℕ). r >>= λ x. Ok (found_as (New g) false x)) placed_is in
-    settles_found lane (lanes_at f lane) (lanes_at f' lane) sole.0 sole.1 (lanes_same f f' lane same) l k found refl
+    let found : lanes_text late a b ≡ Ok k = found_at late a b (First (New g)) present ∙ ap (λ (r : Result (LogState × ℕ) ℕ). r >>= λ x. Ok (found_as (New g) false x)) placed_is in
+    settles_found late lane (lanes_at f lane) (lanes_at f' lane) sole.0 sole.1 (lanes_same f f' lane same) l k found refl
     (view ∙ ap (λ (x : Aside). let w : LogView = record { lane = lane; state = s; broken = false; second = false; generation = g; size = gate + 1; aside = x } in w) is)
-    (subst (Stands (lanes_at f lane)) (sym view) (found_stands (lanes_at f lane) v (f lane) (f (suc lane)) true gate refl refl fits stands placed_is refl beside sole.0 sole.1))
+    (subst (Stands (lanes_at f lane)) (sym view) (found_stands (lanes_at f lane) v (f lane) (f (suc lane)) true gate (few_of late s few late_is) refl refl fits stands (placed_as late s gate (New g) a late_is placed_is) refl beside sole.0 sole.1))
 
 -- Readers of whole lanes
 
@@ -188,8 +195,8 @@ pub old_present : TwoAre → (h : Heads) (a b : List ℕ) → AreHeads h a b →
 old_present two h a b r one other = heads_choose two h a b r ∙ ap₂ chosen one other
 
 -- in other words for the lanes before
-pub settles_from : (lane : ℕ) (f f1 f' : ℕ → Lane) (result : Result LogView LogFault) → ((n : ℕ) → f1 n ≡ f n) → Settles lane (lanes_at f1 lane) (lanes_at f' lane) result → Settles lane (lanes_at f lane) (lanes_at f' lane) result
-settles_from lane f f1 f' result same s = subst (λ (ls : Lanes). Settles lane ls (lanes_at f' lane) result) (lanes_same f f1 lane same) s
+pub settles_from : (late : List ℕ) (lane : ℕ) (f f1 f' : ℕ → Lane) (result : Result LogView LogFault) → ((n : ℕ) → f1 n ≡ f n) → Settles late lane (lanes_at f1 lane) (lanes_at f' lane) result → Settles late lane (lanes_at f lane) (lanes_at f' lane) result
+settles_from late lane f f1 f' result same s = subst (λ (ls : Lanes). Settles late lane ls (lanes_at f' lane) result) (lanes_same f f1 lane same) s
 
 pub heads_from : (lane : ℕ) (f f1 : ℕ → Lane) (h : Heads) → ((n : ℕ) → f1 n ≡ f n) → AreHeads h (content (f lane)) (content (f (suc lane))) → AreHeads h (content (f1 lane)) (content (f1 (suc lane)))
 heads_from lane f f1 h same r = subst (λ (ls : Lanes). AreHeads h (content ls.first) (content ls.second)) (sym (lanes_same f f1 lane same)) r

@@ -1,13 +1,14 @@
 -- Records are read one by one: what the rest reads as is what all reads as
-use Rattle.std.proofs.Common.{◌≡◌, ◌≢◌, ℕ, zero, suc, ◌+◌, ◌-◌, ◌<◌, ◌≤◌, List, [], ◌∷◌, length, drop, get_or, Result, Ok, Err, refl, ap, ap₂, sym, ◌∙◌, subst, arith}
+use Rattle.std.proofs.Common.{◌≡◌, ◌≢◌, ℕ, zero, suc, ◌+◌, ◌-◌, ◌<◌, ◌≤◌, List, [], ◌∷◌, ◌++◌, length, drop, get_or, Result, Ok, Err, refl, ap, ap₂, sym, ◌∙◌, subst, arith}
+use Rattle.std.specs.Int.{w16, w64}
+use Rattle.gr_event.specs.Joins.{Joins}
 use Rattle.gr_lanes.specs.declared.record.Record.{Record}
 use Rattle.gr_lanes.specs.declared.record.Entry.{Entry}
-use Rattle.gr_lanes.specs.declared.record.State.{State}
 use Rattle.gr_lanes.specs.declared.record.LogFault.{LogFault}
 use Rattle.gr_lanes.specs.declared.record.LogFault.TheVariants as fault
 use Rattle.gr_lanes.specs.Gives.{Fails}
-use Rattle.gr_lanes.specs.State.{LogState, numbers, held_by, noted, live_after, after_record, IsState}
-use Rattle.gr_lanes.specs.Text.{AreBytes, record_in, records_in, placed}
+use Rattle.gr_lanes.specs.State.{is_new, LogState, Footing, footing, held_by, stands_after, live_after, after_record, IsState}
+use Rattle.gr_lanes.specs.Text.{AreBytes, number_in, may_begin, joins_in, record_in, records_in, placed}
 use Rattle.gr_lanes.proofs.Reading.{closed_gate}
 use Rattle.gr_lanes.proofs.Told.{record_told, IsRead}
 use Rattle.gr_lanes.proofs.Kept.{kept}
@@ -24,8 +25,8 @@ pub starts : (total : ℕ) (s : LogState) (rest : List ℕ) → length rest ≤ 
 starts total s rest few i = record { gates = total + 1; enough = omega (arith, few); answers = refl; state = i }
 
 -- after an open gate and a record
-pub reads_on : (total : ℕ) (n n' : State) (es es' : List Entry) (r : Record) (rest behind left : List ℕ) (answer : Result (LogState × List ℕ) ℕ)
-    → IsReading total (held_by n es) rest answer → rest ≡ 1 ∷ behind → AreBytes behind → record_in total n behind ≡ Ok (r, left) → length left < length behind → n' ≡ noted n r → es' ≡ live_after es r
+pub reads_on : (total : ℕ) (n n' : Footing) (es es' : List Entry) (r : Record) (rest behind left : List ℕ) (answer : Result (LogState × List ℕ) ℕ)
+    → IsReading total (held_by n es) rest answer → rest ≡ 1 ∷ behind → AreBytes behind → record_in total n behind ≡ Ok (r, left) → length left < length behind → n' ≡ stands_after n r → es' ≡ live_after es r
     → IsReading total (held_by n' es') left answer
 unfolding records_in
 reads_on total n n' es es' r rest behind left answer h is fits read shorter later more =
@@ -68,7 +69,7 @@ reads_out total s rest answer h is = ap (placed total) (go h.gates h.answers)
 
 -- where a record is refused
 pub reads_fault : (total : ℕ) (s : LogState) (rest behind : List ℕ) (answer : Result (LogState × List ℕ) ℕ) (e : LogFault) → IsReading total s rest answer → rest ≡ 1 ∷ behind
-    → Fails e (record_in total (numbers s) behind) → Fails e (placed total answer)
+    → Fails e (record_in total (footing s) behind) → Fails e (placed total answer)
 unfolding records_in
 reads_fault total s rest behind answer fault.Memory h is refused = tt
 reads_fault total s rest behind answer fault.Disk h is refused = refused
@@ -83,3 +84,36 @@ reads_fault total s rest behind answer (fault.Damaged at) h is refused = ap (pla
 pub first_is : (rest : List ℕ) (x : ℕ) → 0 < length rest → get_or rest 0 0 ≡ x → rest ≡ x ∷ drop 1 rest
 first_is [] x h e = absurd (omega (arith, h))
 first_is (y ∷ ys) x h e = ap (λ (z : ℕ). z ∷ ys) e
+
+-- Joins before the first record, one by one
+
+pub joins_on : (more n total : ℕ) (late : List ℕ) (cut : ℕ) (js ks : Joins) (x t : ℕ) (rest behind left : List ℕ) (answer : Result (Joins × List ℕ) ℕ) → more ≡ suc n → number_in total 2 w16 (is_new late js) rest ≡ Ok (x, behind)
+    → number_in total 8 w64 (may_begin js cut) behind ≡ Ok (t, left) → ks ≡ js ++ record { subscriber = x; tick = t } ∷ [] → joins_in more total late cut js rest ≡ answer → joins_in n total late cut ks left ≡ answer
+unfolding joins_in
+joins_on more n total late cut js ks x t rest behind left answer is p1 p2 next h =
+    let h1 : joins_in (suc n) total late cut js rest ≡ answer = ap (λ (k : ℕ). joins_in k total late cut js rest) (sym is) ∙ h in
+    ap (λ (l : Joins). joins_in n total late cut l left) next ∙ rw (joins_in, p1, p2) at h1
+
+pub entrant_fault : (more n total : ℕ) (late : List ℕ) (cut : ℕ) (js : Joins) (rest : List ℕ) (answer : Result (Joins × List ℕ) ℕ) (e : LogFault) → more ≡ suc n → joins_in more total late cut js rest ≡ answer
+    → Fails e (number_in total 2 w16 (is_new late js) rest) → Fails e answer
+unfolding joins_in
+entrant_fault more n total late cut js rest answer fault.Memory is h refused = tt
+entrant_fault more n total late cut js rest answer fault.Disk is h refused = refused
+entrant_fault more n total late cut js rest answer fault.Reopen is h refused = refused
+entrant_fault more n total late cut js rest answer (fault.Damaged at) is h refused =
+    let h1 : joins_in (suc n) total late cut js rest ≡ answer = ap (λ (k : ℕ). joins_in k total late cut js rest) (sym is) ∙ h in
+    sym (rw (joins_in, refused) at h1)
+
+pub beginning_fault : (more n total : ℕ) (late : List ℕ) (cut : ℕ) (js : Joins) (x : ℕ) (rest behind : List ℕ) (answer : Result (Joins × List ℕ) ℕ) (e : LogFault) → more ≡ suc n → joins_in more total late cut js rest ≡ answer
+    → number_in total 2 w16 (is_new late js) rest ≡ Ok (x, behind) → Fails e (number_in total 8 w64 (may_begin js cut) behind) → Fails e answer
+unfolding joins_in
+beginning_fault more n total late cut js x rest behind answer fault.Memory is h p refused = tt
+beginning_fault more n total late cut js x rest behind answer fault.Disk is h p refused = refused
+beginning_fault more n total late cut js x rest behind answer fault.Reopen is h p refused = refused
+beginning_fault more n total late cut js x rest behind answer (fault.Damaged at) is h p refused =
+    let h1 : joins_in (suc n) total late cut js rest ≡ answer = ap (λ (k : ℕ). joins_in k total late cut js rest) (sym is) ∙ h in
+    sym (rw (joins_in, p, refused) at h1)
+
+pub joins_end : (more total : ℕ) (late : List ℕ) (cut : ℕ) (js : Joins) (rest : List ℕ) (answer : Result (Joins × List ℕ) ℕ) → more ≡ 0 → joins_in more total late cut js rest ≡ answer → answer ≡ Ok (js, rest)
+unfolding joins_in
+joins_end more total late cut js rest answer is h = sym (ap (λ (k : ℕ). joins_in k total late cut js rest) (sym is) ∙ h)

@@ -32,13 +32,13 @@ read_by empty text a b (Second y) = text y b
 unfoldable pub pair_in : {X : Type 0} → X → (Standing → List ℕ → Result X ℕ) → List ℕ → List ℕ → Result X ℕ
 pair_in empty text a b = present_of a b >>= read_by empty text a b
 
--- what a lane that is read holds
-abbrev pub state_text : Standing → List ℕ → Result LogState ℕ
-state_text x bytes = text_in x bytes >>= λ r. Ok r.0
+-- what a lane that is read holds, where these subscribers may join
+abbrev pub state_text : List ℕ → Standing → List ℕ → Result LogState ℕ
+state_text late x bytes = text_in late x bytes >>= λ r. Ok r.0
 
 -- what two lanes hold
-abbrev pub state_in : List ℕ → List ℕ → Result LogState ℕ
-state_in a b = pair_in empty_state state_text a b
+abbrev pub state_in : List ℕ → List ℕ → List ℕ → Result LogState ℕ
+state_in late a b = pair_in (empty_state late) (state_text late) a b
 
 -- What two lanes stand for.
 pub record Found : Type 0 where
@@ -67,20 +67,20 @@ found_as x second r = record {
   state = r.0;
 }
 
-abbrev pub found_none : Found
-found_none = record { version = 0; second = false; generation = 0; size = 0; state = empty_state }
+abbrev pub found_none : List ℕ → Found
+found_none late = record { version = 0; second = false; generation = 0; size = 0; state = empty_state late }
 
-abbrev pub found_by : List ℕ → List ℕ → Present → Result Found ℕ
-found_by a b Neither = Ok found_none
-found_by a b (First x) = placed_in x a >>= λ r. Ok (found_as x false r)
-found_by a b (Second y) = placed_in y b >>= λ r. Ok (found_as y true r)
+abbrev pub found_by : List ℕ → List ℕ → List ℕ → Present → Result Found ℕ
+found_by late a b Neither = Ok (found_none late)
+found_by late a b (First x) = placed_in late x a >>= λ r. Ok (found_as x false r)
+found_by late a b (Second y) = placed_in late y b >>= λ r. Ok (found_as y true r)
 
--- what two lanes stand for, or the place of the first field that breaks it: of the heads, that of the first lane before
--- that of the second one, and then of the rest of the present lane
-unfoldable pub lanes_text : List ℕ → List ℕ → Result Found ℕ
-lanes_text a b = present_of a b >>= found_by a b
+-- what two lanes stand for, where these subscribers may join, or the place of the first field that breaks it: of the
+-- heads, that of the first lane before that of the second one, and then of the rest of the present lane
+unfoldable pub lanes_text : List ℕ → List ℕ → List ℕ → Result Found ℕ
+lanes_text late a b = present_of a b >>= found_by late a b
 
 -- The law: what two lanes hold is what they stand for
 
 abbrev pub HoldsWhatIsFound : Type 0
-HoldsWhatIsFound = (a b : List ℕ) → state_in a b ≡ (lanes_text a b >>= λ f. Ok f.state)
+HoldsWhatIsFound = (late a b : List ℕ) → state_in late a b ≡ (lanes_text late a b >>= λ f. Ok f.state)

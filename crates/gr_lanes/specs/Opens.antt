@@ -12,7 +12,6 @@ use Rattle.gr_lanes.specs.declared.head.Standing.{Standing}
 use Rattle.gr_lanes.specs.declared.head.Standing.TheVariants.{Shut, Old, New}
 use Rattle.gr_lanes.specs.declared.head.Present.{Present}
 use Rattle.gr_lanes.specs.declared.head.Present.TheVariants.{First, Second}
-use Rattle.gr_lanes.specs.State.{empty_state}
 use Rattle.gr_lanes.specs.Text.{standing_of}
 use Rattle.gr_lanes.specs.Lanes.{Found, lanes_text, state_in}
 use Rattle.gr_lanes.specs.Filled.{filled_size, body_of}
@@ -69,13 +68,14 @@ view_of lane a b f =
       aside = if f.version == 1 then Opened else aside_of b;
     }
 
--- a log is opened as what its lanes stand for, or the place of the first fault is told
-abbrev pub OpensAs : ℕ → List ℕ → List ℕ → Result LogView LogFault → Type 0
-OpensAs lane a b (Ok l) = (f : Found) × (lanes_text a b ≡ Ok f) × (l ≡ view_of lane a b f)
-OpensAs lane a b (Err fault.Memory) = Unit {0}
-OpensAs lane a b (Err fault.Disk) = Unit {0}
-OpensAs lane a b (Err (fault.Damaged at)) = lanes_text a b ≡ Err at
-OpensAs lane a b (Err fault.Reopen) = ⊥
+-- a log in which these subscribers may join is opened as what its lanes stand for, or the place of the first fault is
+-- told
+abbrev pub OpensAs : List ℕ → ℕ → List ℕ → List ℕ → Result LogView LogFault → Type 0
+OpensAs late lane a b (Ok l) = (f : Found) × (lanes_text late a b ≡ Ok f) × (l ≡ view_of lane a b f)
+OpensAs late lane a b (Err fault.Memory) = Unit {0}
+OpensAs late lane a b (Err fault.Disk) = Unit {0}
+OpensAs late lane a b (Err (fault.Damaged at)) = lanes_text late a b ≡ Err at
+OpensAs late lane a b (Err fault.Reopen) = ⊥
 
 -- What the syncs of both lanes do, whatever comes of them.
 pub record Surveys {T : Type 0} (before after : Lanes) (result : Result T LogFault) : Type 0 where
@@ -93,19 +93,20 @@ pub record Surveys {T : Type 0} (before after : Lanes) (result : Result T LogFau
 -- the calls on each lane behind the sync: the empty state is written into the first lane, and what a first lane of the
 -- first version holds into the second one
 abbrev pub first_calls : List ℕ → Found → List Call → List Call
-first_calls a f calls = if f.version == 0 then rewriting_calls (aside_of a) (body_of empty_state 1) calls else calls
+first_calls a f calls = if f.version == 0 then rewriting_calls (aside_of a) (body_of f.state 1) calls else calls
 
 abbrev pub second_calls : List ℕ → Found → List Call → List Call
 second_calls b f calls = if f.version == 1 then rewriting_calls (aside_of b) (body_of f.state 1) calls else calls
 
 -- What an opening does behind these syncs.
-pub record Settles (lane : ℕ) (before after : Lanes) (result : Result LogView LogFault) : Type 0 where
-  pub gives : OpensAs lane (content before.first) (content before.second) result
+pub record Settles (late : List ℕ) (lane : ℕ) (before after : Lanes) (result : Result LogView LogFault)
+    : Type 0 where
+  pub gives : OpensAs late lane (content before.first) (content before.second) result
   pub stands : IfOk result (λ l. Stands after l)
   -- at every moment each pair of images holds what the two held
   pub any_moment : (a b : List ℕ) → LeftPair before after a b
-      → state_in a b ≡ state_in (content before.first) (content before.second)
-  pub calls : (f : Found) → lanes_text (content before.first) (content before.second) ≡ Ok f
+      → state_in late a b ≡ state_in late (content before.first) (content before.second)
+  pub calls : (f : Found) → lanes_text late (content before.first) (content before.second) ≡ Ok f
       → OnOk result ((after.first.calls ≡ first_calls (content before.first) f before.first.calls)
       × (after.second.calls ≡ second_calls (content before.second) f before.second.calls))
   pub reserved_first : before.first.reserved ≡ true → after.first.reserved ≡ true
@@ -114,13 +115,14 @@ pub record Settles (lane : ℕ) (before after : Lanes) (result : Result LogView 
   pub unset_second : before.second.stop ≡ Unset → after.second.stop ≡ Unset
 
 -- What an opening does: both syncs, and the rest where these came through.
-pub record Opens (lane : ℕ) (before after : Lanes) (result : Result LogView LogFault) : Type 0 where
+pub record Opens (late : List ℕ) (lane : ℕ) (before after : Lanes) (result : Result LogView LogFault)
+    : Type 0 where
   -- it answers what the lanes stand for, or the place of the first fault; then a crash leaves nothing else
-  pub gives : OpensAs lane (content before.first) (content before.second) result
+  pub gives : OpensAs late lane (content before.first) (content before.second) result
   pub stands : IfOk result (λ l. Stands after l)
   -- once both are synced they read as before, and at every moment from then on each pair of images holds what they held
   pub synced : Lanes
   pub answer : Result (Unit {0}) LogFault
   pub syncs : Surveys before synced answer
   pub stops : (e : LogFault) → answer ≡ Err e → (after ≡ synced) × (result ≡ Err e)
-  pub settles : OnOk answer (Settles lane synced after result)
+  pub settles : OnOk answer (Settles late lane synced after result)

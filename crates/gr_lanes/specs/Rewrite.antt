@@ -98,6 +98,6 @@ pub record Reclaiming {X : Type 0} (empty : X) (text : Standing → List ℕ →
       → (pair_in empty text image b ≡ Ok empty)
       ⊎ (pair_in empty text image b ≡ text (New 1) (filled (to_be_bytes w64 1 ++ rest) a))
 
--- so does each pair as a state
+-- so does each pair as a state, whoever may join
 abbrev pub Reclaims : Type 0
-Reclaims = Reclaiming empty_state state_text
+Reclaims = (late : List ℕ) → Reclaiming (empty_state late) (state_text late)

@@ -92,9 +92,9 @@ abbrev pub LeftPair : Lanes → Lanes → List ℕ → List ℕ → Type 0
 LeftPair before after a b = LeftSince after.first (moment before.first) a
     × LeftSince after.second (moment before.second) b
 
--- a pair of images holds this
+-- a pair of images holds this, where the same subscribers may join
 abbrev pub ReadsAs : LogState → List ℕ → List ℕ → Type 0
-ReadsAs s a b = state_in a b ≡ Ok s
+ReadsAs s a b = state_in s.late a b ≡ Ok s
 
 -- how the lane stands that is not present, the first one of the two or the second, beside one of a generation
 abbrev pub IsAside : Aside → Bool → ℕ → List ℕ → Type 0
@@ -107,8 +107,8 @@ IsAside Closed first g bytes = (6 < length bytes) × (get_or bytes 5 0 ≢ 1)
 pub record Stands (ls : Lanes) (l : LogView) : Type 0 where
   pub base : Base
   pub records : List Record
-  pub text : IsText (content (present l ls)) base records
-  pub state : state_from (begun base) records ≡ l.state
+  pub text : IsText l.state.late (content (present l ls)) base records
+  pub state : state_from (begun l.state.late base) records ≡ l.state
   pub generation : base.generation ≡ l.generation
   pub size : length (front_of base ++ blocks records) + 1 ≡ l.size
   pub aside : IsAside l.aside l.second l.generation (content (other l ls))

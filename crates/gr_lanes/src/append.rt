@@ -55,6 +55,11 @@ fn record_text(alloc: Global, entry: &Record) -> Result<RecordText, Memory>
             bytes.push(3)?;
             bytes.extend_from_slice(&tick.to_be_bytes())?;
         }
+        Record::Join { tick, subscriber } => {
+            bytes.push(4)?;
+            bytes.extend_from_slice(&tick.to_be_bytes())?;
+            bytes.extend_from_slice(&subscriber.to_be_bytes())?;
+        }
     }
     bytes.push(0)?;
     Ok(bytes)
@@ -70,6 +75,9 @@ pub(crate) fn is_sound(entry: &Record)
         }
         Record::Mark { .. } => {}
         Record::Cut { .. } => {}
+        Record::Join { tick, subscriber } => {
+            let _ = (*tick, *subscriber);
+        }
     }
 }
 

@@ -101,7 +101,7 @@ pub(crate) fn note_record(entries: &mut VecDeque<Entry>, entry: &Record)
             number: *number,
             event: event.share(),
         }),
-        Record::Mark { .. } => {}
+        Record::Mark { .. } | Record::Join { .. } => {}
         Record::Cut { tick } => drop_upto(entries, *tick),
     }
 }

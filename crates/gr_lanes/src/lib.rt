@@ -1,4 +1,5 @@
-//! The log of a publisher in two lanes of a disk, which takes back the room of what was cut.
+//! The log of a publisher in two lanes of a disk, which takes back the room of what was cut. It keeps the events past the
+//! cut and all joins of late subscribers.
 //!
 //! One of the two lanes is present: it begins with what was held when it was filled, and records follow. The other one
 //! is filled anew, and takes its place once its gate is open. `specs/Text.antt` says what a lane spells, and
@@ -10,6 +11,7 @@
 mod append;
 mod entries;
 mod fill;
+mod footing;
 mod head;
 pub mod law;
 pub mod log;

@@ -2,6 +2,7 @@
 
 ghost use Rattle.std.specs.Prelude.{◌≡◌, ◌≢◌, ◌↔◌, ℕ, ◌+◌, ◌^◌, ◌<◌, ◌≤◌, not, true, Some, IfOk, IsErrOf, IsTrue};
 ghost use Rattle.std.specs.Prelude.{◌⊎◌, ◌||◌, false, Ok, Err, OnOk, MatchResult, length};
+ghost use Rattle.gr_event.specs.declared.limits.TheConstants.{MAX_JOINS};
 ghost use Rattle.gr_out.specs.Faults.{Rose};
 ghost use Rattle.gr_out.specs.Lane.{content, has_stopped};
 ghost use Rattle.gr_out.specs.Stops.{StaysFaultless};
@@ -19,13 +20,15 @@ ghost use Rattle.gr_lanes.specs.Calls.{Appends, Reclaims, Tally, Causes, Leaves}
 use crate::append::{append_at, is_sound};
 use crate::entries::{Entries, drop_upto, note_record};
 use crate::fill::{first_past, refill};
+use crate::footing::Footing;
 use crate::head::{Present, Standing, chosen};
 use crate::law::{lower_is, reclaims, shut_is, two_are};
 use crate::numbers::are_bytes;
 use crate::opening::{Heads, aside_by, bytes_in, heads_of, sync_lanes};
 use crate::read::{Held, text_in};
-use crate::record::{LogFault, Record, State};
+use crate::record::{LogFault, Record};
 use crate::steps::Aside;
+use gr_event::Joins;
 use gr_out::Disk;
 use std::alloc::Global;
 use std::collections::VecDeque;
@@ -42,7 +45,7 @@ pub struct Log {
     generation: u64,
     size: u64,
     aside: Aside,
-    state: State,
+    footing: Footing,
     events: Entries,
     broken: bool,
 }
@@ -52,7 +55,7 @@ impl Model for Log {
 
     ghost view = { λ l. record {
       lane = l.lane;
-      state = held_by l.state l.events;
+      state = held_by l.footing l.events;
       broken = l.broken;
       second = l.second;
       generation = l.generation;
@@ -60,7 +63,7 @@ impl Model for Log {
       aside = l.aside;
     } };
 
-    ghost invariant = { λ l. IsState (held_by l.state l.events) × (l.lane + 1 < 2 ^ 16)
+    ghost invariant = { λ l. IsState (held_by l.footing l.events) × (l.lane + 1 < 2 ^ 16)
         × (1 ≤ l.generation) × (l.generation ≤ MAX_TICK) × (1 ≤ l.size) };
 }
 
@@ -85,16 +88,23 @@ fn is_disk(fault: LogFault) -> bool
 }
 
 /// A log whose lanes are synced, of which neither is open: the first lane is filled with the empty state.
-fn begin<D: Disk>(alloc: Global, disk: &mut D, lane: u16, heads: Heads) -> Result<Log, LogFault>
+fn begin<D: Disk>(
+    alloc: Global,
+    disk: &mut D,
+    lane: u16,
+    late: &[u16],
+    heads: Heads,
+) -> Result<Log, LogFault>
     requires two { lane + 1 < 2 ^ 16 }
+    requires late { length late.now ≤ MAX_JOINS }
     requires heads { let ls = lanes_at (D.lane_of disk.old) lane in
         D.tells → AreHeads heads (content ls.first) (content ls.second) }
     requires first { heads.first ≡ Standing.Shut }
     requires second { heads.second ≡ Standing.Shut }
     requires only { let ls = lanes_at (D.lane_of disk.old) lane in D.tells → AreSole ls }
     ensures settles { D.tells →
-        Settles lane (lanes_at (D.lane_of disk.old) lane) (lanes_at (D.lane_of disk.new) lane) result }
-    ensures whole { IfOk result (λ l. (l.broken ≡ false) × (l.lane ≡ lane)) }
+        Settles late.now lane (lanes_at (D.lane_of disk.old) lane) (lanes_at (D.lane_of disk.new) lane) result }
+    ensures whole { IfOk result (λ l. (l.broken ≡ false) × (l.lane ≡ lane) × (l.state.late ≡ late.now)) }
     ensures never_reopen { IsNoReopen result }
     ensures others { D.tells → (n : ℕ) → AwayFrom lane n → D.lane_of disk.new n ≡ D.lane_of disk.old n }
     ensures faults { D.faults disk.old ≤ D.faults disk.new }
@@ -112,11 +122,14 @@ fn begin<D: Disk>(alloc: Global, disk: &mut D, lane: u16, heads: Heads) -> Resul
     shut_is();
     two_are();
     reclaims();
-    let state = State::new();
+    let footing = match Footing::first(alloc, late) {
+        Ok(footing) => footing,
+        Err(_) => return Err(LogFault::Memory),
+    };
     let entries = VecDeque::new(alloc);
     let aside = aside_by(heads.first_size, heads.first);
     let beside = aside_by(heads.second_size, heads.second);
-    match refill(alloc, disk, lane, aside, 1, &state, &entries, 0) {
+    match refill(alloc, disk, lane, aside, 1, &footing, 0, &entries, 0) {
         Ok(size) => Ok(Log {
             alloc,
             lane,
@@ -124,7 +137,7 @@ fn begin<D: Disk>(alloc: Global, disk: &mut D, lane: u16, heads: Heads) -> Resul
             generation: 1,
             size,
             aside: beside,
-            state,
+            footing,
             events: Entries { entries },
             broken: false,
         }),
@@ -137,14 +150,17 @@ fn held_in<D: Disk>(
     alloc: Global,
     disk: &mut D,
     lane: u16,
+    late: &[u16],
     standing: Standing,
     size: u64,
 ) -> Result<Held, LogFault>
+    requires late { length late.now ≤ MAX_JOINS }
     requires size { D.tells → size ≡ length (content (D.lane_of disk.old lane)) }
     requires long { 6 < size }
-    ensures gives { let read = placed_in standing (content (D.lane_of disk.old lane)) in
-        D.tells → MatchResult result (λ x. read ≡ Ok (held_by x.state x.events, x.gate)) (λ e. Tells e read) }
-    ensures state { IfOk result (λ x. IsState (held_by x.state x.events)) }
+    ensures gives { let read = placed_in late.now standing (content (D.lane_of disk.old lane)) in
+        D.tells → MatchResult result (λ x. read ≡ Ok (held_by x.footing x.events, x.gate)) (λ e. Tells e read) }
+    ensures state { IfOk result (λ x. IsState (held_by x.footing x.events)) }
+    ensures late { IfOk result (λ x. x.footing.late ≡ late.now) }
     ensures inside { IfOk result (λ x. x.gate + 1 < 2 ^ 64) }
     ensures bytes { D.tells → OnOk result (AreBytes (content (D.lane_of disk.old lane))) }
     ensures lanes { D.tells → (n : ℕ) → D.lane_of disk.new n ≡ D.lane_of disk.old n }
@@ -166,12 +182,19 @@ fn held_in<D: Disk>(
     };
     // Proof only: each of them is a byte.
     are_bytes(&bytes);
-    text_in(alloc, standing, &bytes)
+    text_in(alloc, late, standing, &bytes)
 }
 
 /// A log of the first version in the first lane: what it holds is written into the second one.
-fn migrate<D: Disk>(alloc: Global, disk: &mut D, lane: u16, heads: Heads) -> Result<Log, LogFault>
+fn migrate<D: Disk>(
+    alloc: Global,
+    disk: &mut D,
+    lane: u16,
+    late: &[u16],
+    heads: Heads,
+) -> Result<Log, LogFault>
     requires two { lane + 1 < 2 ^ 16 }
+    requires late { length late.now ≤ MAX_JOINS }
     requires heads { let ls = lanes_at (D.lane_of disk.old) lane in
         D.tells → AreHeads heads (content ls.first) (content ls.second) }
     requires first { heads.first ≡ Standing.Old }
@@ -179,8 +202,8 @@ fn migrate<D: Disk>(alloc: Global, disk: &mut D, lane: u16, heads: Heads) -> Res
     requires second { heads.second ≡ Standing.Shut }
     requires only { let ls = lanes_at (D.lane_of disk.old) lane in D.tells → AreSole ls }
     ensures settles { D.tells →
-        Settles lane (lanes_at (D.lane_of disk.old) lane) (lanes_at (D.lane_of disk.new) lane) result }
-    ensures whole { IfOk result (λ l. (l.broken ≡ false) × (l.lane ≡ lane)) }
+        Settles late.now lane (lanes_at (D.lane_of disk.old) lane) (lanes_at (D.lane_of disk.new) lane) result }
+    ensures whole { IfOk result (λ l. (l.broken ≡ false) × (l.lane ≡ lane) × (l.state.late ≡ late.now)) }
     ensures never_reopen { IsNoReopen result }
     ensures others { D.tells → (n : ℕ) → AwayFrom lane n → D.lane_of disk.new n ≡ D.lane_of disk.old n }
     ensures faults { D.faults disk.old ≤ D.faults disk.new }
@@ -198,7 +221,7 @@ fn migrate<D: Disk>(alloc: Global, disk: &mut D, lane: u16, heads: Heads) -> Res
     shut_is();
     two_are();
     reclaims();
-    let held = match held_in(alloc, disk, lane, Standing::Old, heads.first_size) {
+    let held = match held_in(alloc, disk, lane, late, Standing::Old, heads.first_size) {
         Ok(held) => held,
         Err(fault) => return Err(fault),
     };
@@ -209,7 +232,8 @@ fn migrate<D: Disk>(alloc: Global, disk: &mut D, lane: u16, heads: Heads) -> Res
         lane + 1,
         aside,
         1,
-        &held.state,
+        &held.footing,
+        held.footing.state().cut,
         held.events.parts(),
         0,
     ) {
@@ -220,7 +244,7 @@ fn migrate<D: Disk>(alloc: Global, disk: &mut D, lane: u16, heads: Heads) -> Res
             generation: 1,
             size,
             aside: Aside::Opened,
-            state: held.state,
+            footing: held.footing,
             events: held.events,
             broken: false,
         }),
@@ -233,12 +257,14 @@ fn found<D: Disk>(
     alloc: Global,
     disk: &mut D,
     lane: u16,
+    late: &[u16],
     second: bool,
     generation: u64,
     size: u64,
     aside: Aside,
 ) -> Result<Log, LogFault>
     requires two { lane + 1 < 2 ^ 16 }
+    requires late { length late.now ≤ MAX_JOINS }
     requires present { let ls = lanes_at (D.lane_of disk.old) lane in D.tells →
         present_of (content ls.first) (content ls.second) ≡ Ok (present_as second (Standing.New generation)) }
     requires standing { D.tells → standing_of (not second) (content (D.lane_of disk.old (number_of lane second)))
@@ -250,8 +276,8 @@ fn found<D: Disk>(
         IsAside aside second generation (content (D.lane_of disk.old (number_of lane (not second)))) }
     requires only { let ls = lanes_at (D.lane_of disk.old) lane in D.tells → AreSole ls }
     ensures settles { D.tells →
-        Settles lane (lanes_at (D.lane_of disk.old) lane) (lanes_at (D.lane_of disk.new) lane) result }
-    ensures whole { IfOk result (λ l. (l.broken ≡ false) × (l.lane ≡ lane)) }
+        Settles late.now lane (lanes_at (D.lane_of disk.old) lane) (lanes_at (D.lane_of disk.new) lane) result }
+    ensures whole { IfOk result (λ l. (l.broken ≡ false) × (l.lane ≡ lane) × (l.state.late ≡ late.now)) }
     ensures never_reopen { IsNoReopen result }
     ensures others { D.tells → (n : ℕ) → AwayFrom lane n → D.lane_of disk.new n ≡ D.lane_of disk.old n }
     ensures faults { D.faults disk.old ≤ D.faults disk.new }
@@ -266,7 +292,7 @@ fn found<D: Disk>(
         StaysFaultless (D.faultless disk.old) (D.faultless disk.new) f (D.faults disk.new) }
 {
     let standing = Standing::New(generation);
-    let held = match held_in(alloc, disk, number_of(lane, second), standing, size) {
+    let held = match held_in(alloc, disk, number_of(lane, second), late, standing, size) {
         Ok(held) => held,
         Err(fault) => return Err(fault),
     };
@@ -277,19 +303,25 @@ fn found<D: Disk>(
         generation,
         size: held.gate as u64 + 1,
         aside,
-        state: held.state,
+        footing: held.footing,
         events: held.events,
         broken: false,
     })
 }
 
 /// Opens the log of two lanes that are synced.
-fn open_synced<D: Disk>(alloc: Global, disk: &mut D, lane: u16) -> Result<Log, LogFault>
+fn open_synced<D: Disk>(
+    alloc: Global,
+    disk: &mut D,
+    lane: u16,
+    late: &[u16],
+) -> Result<Log, LogFault>
     requires two { lane + 1 < 2 ^ 16 }
+    requires late { length late.now ≤ MAX_JOINS }
     requires only { let ls = lanes_at (D.lane_of disk.old) lane in D.tells → AreSole ls }
     ensures settles { D.tells →
-        Settles lane (lanes_at (D.lane_of disk.old) lane) (lanes_at (D.lane_of disk.new) lane) result }
-    ensures whole { IfOk result (λ l. (l.broken ≡ false) × (l.lane ≡ lane)) }
+        Settles late.now lane (lanes_at (D.lane_of disk.old) lane) (lanes_at (D.lane_of disk.new) lane) result }
+    ensures whole { IfOk result (λ l. (l.broken ≡ false) × (l.lane ≡ lane) × (l.state.late ≡ late.now)) }
     ensures never_reopen { IsNoReopen result }
     ensures others { D.tells → (n : ℕ) → AwayFrom lane n → D.lane_of disk.new n ≡ D.lane_of disk.old n }
     ensures faults { D.faults disk.old ≤ D.faults disk.new }
@@ -314,7 +346,7 @@ fn open_synced<D: Disk>(alloc: Global, disk: &mut D, lane: u16) -> Result<Log, L
         Err(fault) => return Err(fault),
     };
     match present {
-        Present::Neither => begin(alloc, disk, lane, heads),
+        Present::Neither => begin(alloc, disk, lane, late, heads),
         Present::First(standing) => match standing {
             Standing::New(generation) => {
                 let aside = aside_by(heads.second_size, heads.second);
@@ -322,13 +354,14 @@ fn open_synced<D: Disk>(alloc: Global, disk: &mut D, lane: u16) -> Result<Log, L
                     alloc,
                     disk,
                     lane,
+                    late,
                     false,
                     generation,
                     heads.first_size,
                     aside,
                 )
             }
-            Standing::Old => migrate(alloc, disk, lane, heads),
+            Standing::Old => migrate(alloc, disk, lane, late, heads),
             // Never: a shut lane is not present.
             Standing::Shut => Err(LogFault::Damaged { at: 5 }),
         },
@@ -339,6 +372,7 @@ fn open_synced<D: Disk>(alloc: Global, disk: &mut D, lane: u16) -> Result<Log, L
                     alloc,
                     disk,
                     lane,
+                    late,
                     true,
                     generation,
                     heads.second_size,
@@ -353,14 +387,21 @@ fn open_synced<D: Disk>(alloc: Global, disk: &mut D, lane: u16) -> Result<Log, L
 }
 
 impl Log {
-    /// Opens the log of two lanes, the first of which has this number: room, a sync of both, and what they hold. Where
-    /// the present lane is of the first version, what it holds is written into the second lane, and where neither is
-    /// open, the empty state into the first one. `Damaged` comes exactly where the lanes hold no log, and `Disk` only
-    /// where the disk failed in this call.
-    pub fn open<D: Disk>(alloc: Global, disk: &mut D, lane: u16) -> Result<Log, LogFault>
+    /// Opens the log of two lanes, the first of which has this number, in which these subscribers may join: room, a
+    /// sync of both, and what they hold. Where the present lane is of the first version, what it holds is written into
+    /// the second lane, and where neither is open, the empty state into the first one. `Damaged` comes exactly where
+    /// the lanes hold no log of theirs, and `Disk` only where the disk failed in this call.
+    pub fn open<D: Disk>(
+        alloc: Global,
+        disk: &mut D,
+        lane: u16,
+        late: &[u16],
+    ) -> Result<Log, LogFault>
         requires two { lane + 1 < 2 ^ 16 }
+        requires late { length late.now ≤ MAX_JOINS }
         ensures opens { D.tells →
-            Opens lane (lanes_at (D.lane_of disk.old) lane) (lanes_at (D.lane_of disk.new) lane) result }
+            Opens late.now lane (lanes_at (D.lane_of disk.old) lane) (lanes_at (D.lane_of disk.new) lane) result }
+        ensures late { IfOk result (λ l. l.state.late ≡ late.now) }
         ensures lane { IfOk result (λ l. l.lane ≡ lane) }
         ensures whole { IfOk result (λ l. l.broken ≡ false) }
         ensures never_reopen { result ≢ Err LogFault.Reopen }
@@ -377,7 +418,7 @@ impl Log {
             Ok(()) => {}
             Err(fault) => return Err(fault),
         }
-        open_synced(alloc, disk, lane)
+        open_synced(alloc, disk, lane, late)
     }
 
     /// Appends a record to the present lane by four calls on the disk. `Ok` comes once it is synced. After `Memory`
@@ -418,6 +459,10 @@ impl Log {
             Ok(()) => {}
             Err(_) => return Err(LogFault::Memory),
         }
+        let joins = match self.footing.joins_with(entry) {
+            Ok(joins) => joins,
+            Err(_) => return Err(LogFault::Memory),
+        };
         let lane = number_of(self.lane, self.second);
         let size = match append_at(self.alloc, disk, lane, self.size - 1, entry) {
             Ok(size) => size,
@@ -427,7 +472,7 @@ impl Log {
             }
         };
         self.size = size;
-        self.state.note(entry);
+        self.footing.note(entry, joins);
         note_record(&mut events.entries, entry);
         Ok(())
     }
@@ -469,11 +514,6 @@ impl Log {
         let events = &mut self.events;
         let lane = number_of(self.lane, !self.second);
         let generation = self.generation + 1;
-        let state = State {
-            last: self.state.last,
-            settled: self.state.settled,
-            cut: tick,
-        };
         let from = first_past(&events.entries, tick);
         let size = match refill(
             self.alloc,
@@ -481,7 +521,8 @@ impl Log {
             lane,
             self.aside,
             generation,
-            &state,
+            &self.footing,
+            tick,
             &events.entries,
             from,
         ) {
@@ -492,7 +533,7 @@ impl Log {
             }
         };
         drop_upto(&mut events.entries, tick);
-        self.state = state;
+        self.footing.cut_at(tick);
         self.second = !self.second;
         self.generation = generation;
         self.size = size;
@@ -504,13 +545,14 @@ impl Log {
     pub fn may_follow(&self, entry: &Record) -> bool
         ensures { result ≡ may_follow self.now.state entry.now }
     {
-        match entry {
-            Record::Event { tick, number, .. } => {
-                self.state.may_settle(*tick) && *number > 0 && *number - 1 == self.state.last
-            }
-            Record::Mark { tick } => self.state.may_settle(*tick),
-            Record::Cut { tick } => self.state.may_cut(*tick),
-        }
+        self.footing.may_follow(entry)
+    }
+
+    /// The joins of the log, in order. Takes no memory.
+    pub fn joins(&self) -> &Joins
+        ensures { result.now ≡ self.now.state.joins }
+    {
+        self.footing.joins()
     }
 
     /// The logged events past the cut. Takes no memory.
@@ -524,21 +566,21 @@ impl Log {
     pub fn last(&self) -> u64
         ensures { result ≡ self.now.state.last }
     {
-        self.state.last
+        self.footing.state().last
     }
 
-    /// The greatest tick of an Event or a Mark, 0 where there is none. Takes no memory.
+    /// The greatest tick of an Event, a Mark or a Join, 0 where there is none. Takes no memory.
     pub fn settled(&self) -> u64
         ensures { result ≡ self.now.state.settled }
     {
-        self.state.settled
+        self.footing.state().settled
     }
 
     /// The tick of the last Cut, 0 where there is none. Takes no memory.
     pub fn cut(&self) -> u64
         ensures { result ≡ self.now.state.cut }
     {
-        self.state.cut
+        self.footing.state().cut
     }
 
     /// How many bytes the text of the present lane has, with its closed gate. Takes no memory.
@@ -561,7 +603,8 @@ impl Log {
     pub fn is_empty(&self) -> bool
         ensures { IsTrue result ↔ ((self.now.state.last ≡ 0) × (self.now.state.settled ≡ 0)) }
     {
-        self.state.last == 0 && self.state.settled == 0
+        let state = self.footing.state();
+        state.last == 0 && state.settled == 0
     }
 
     /// Whether the disk failed this log, so that it has to be opened again. What it holds is in order. Takes no memory.

@@ -1,12 +1,12 @@
 //! Records, what they stand for, what a lane begins with, and the faults of a log.
 
-ghost use Rattle.std.specs.Prelude.{◌≡◌};
+ghost use Rattle.std.specs.Prelude.{◌≡◌, []};
 ghost use Rattle.gr_lanes.specs.State.{no_numbers, noted, may_settle, may_cut};
 ghost use Rattle.gr_lanes.specs.State.{numbers};
 ghost use Rattle.gr_lanes.specs.Text.{begun};
 ghost use Rattle.gr_lanes.specs.declared.record.LogFault.TheVariants.{Memory as WantOfMemory};
 
-use gr_event::Event;
+use gr_event::{Event, Joins};
 use std::alloc::{AllocError, AllocFailed};
 
 /// Want of memory.
@@ -20,7 +20,7 @@ pub const MAX_TICK: u64 = 1 << 62;
 pub enum Record {
     /// An event was published at a tick. Numbers rise by one from 1.
     Event {
-        /// The tick, past every Event and Mark before.
+        /// The tick, past every Event, Mark and Join before.
         tick: u64,
         /// Its number among the events of the publisher.
         number: u64,
@@ -29,13 +29,20 @@ pub enum Record {
     },
     /// Nothing more is published up to a tick.
     Mark {
-        /// The tick, past every Event and Mark before.
+        /// The tick, past every Event, Mark and Join before.
         tick: u64,
     },
     /// Nothing up to a tick is asked for again.
     Cut {
-        /// The tick, past every Cut before and not past the last Event or Mark.
+        /// The tick, past every Cut before and not past the last Event, Mark or Join.
         tick: u64,
+    },
+    /// A late subscriber joins, and nothing more is published up to a tick.
+    Join {
+        /// The tick, past every Event, Mark and Join before.
+        tick: u64,
+        /// The number of the subscriber in its topology. It has not joined before.
+        subscriber: u16,
     },
 }
 
@@ -51,7 +58,7 @@ pub struct Entry {
 }
 
 /// With what a lane of the second version begins.
-#[derive(Clone, Copy, Debug, PartialEq, Eq)]
+#[derive(Drop)]
 pub struct Base {
     /// The generation, from 1 to 2^62. Of two lanes the one with the greater generation is present.
     pub generation: u64,
@@ -59,12 +66,14 @@ pub struct Base {
     pub last: u64,
     /// What is settled and cut before the first record, from 0 to 2^62.
     pub cut: u64,
+    /// The joins up to the cut.
+    pub joins: Joins,
 }
 
 impl Base {
-    /// What it stands for, but for events: there are none.
+    /// The numbers that it stands for.
     pub fn numbers(&self) -> State
-        ensures { result ≡ numbers (begun self.now) }
+        ensures { result ≡ numbers (begun [] self.now) }
     {
         State {
             last: self.last,
@@ -106,12 +115,12 @@ impl<T: Drop> From<AllocFailed<T>> for LogFault {
     }
 }
 
-/// What records stand for, but for their events.
+/// The numbers that records stand for.
 #[derive(Clone, Copy, Debug, PartialEq, Eq)]
 pub struct State {
     /// The number of the last event, or 0.
     pub last: u64,
-    /// The greatest tick of an Event or a Mark, or 0.
+    /// The greatest tick of an Event, a Mark or a Join, or 0.
     pub settled: u64,
     /// The tick of the last Cut, or 0.
     pub cut: u64,
@@ -140,10 +149,11 @@ impl State {
             }
             Record::Mark { tick } => self.settled = *tick,
             Record::Cut { tick } => self.cut = *tick,
+            Record::Join { tick, .. } => self.settled = *tick,
         }
     }
 
-    /// Whether an Event or a Mark may have this tick.
+    /// Whether an Event, a Mark or a Join may have this tick.
     pub fn may_settle(&self, tick: u64) -> bool
         ensures { result ≡ may_settle self.now tick }
     {

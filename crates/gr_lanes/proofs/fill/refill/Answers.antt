@@ -1,6 +1,7 @@
 -- Where no call was made, and where they were
 use Rattle.std.proofs.Common.{ℕ, List, length, drop, refl, ap, ◌∙◌, arith}
-use Rattle.gr_lanes.specs.State.{held_by}
+use Rattle.gr_lanes.specs.declared.record.Record.TheVariants.{Cut}
+use Rattle.gr_lanes.specs.State.{held_by, stands_after}
 use Rattle.gr_lanes.proofs.Filled.{size_is}
 use Rattle.gr_lanes.proofs.Extending.{refills_refused, refills_failed, refills_ok}
 use Rattle.gr_lanes.proofs.fill.refill.Goals as goal
@@ -39,4 +40,4 @@ returns-in-Ok-rewrite-clause-refills g c = λ t.
     }) _ c.args.aside (e.written t) (e.only t) (e.calls t)
 
 pub returns-in-Ok-rewrite-clause-size : goal.returns-in-Ok-rewrite-clause-size
-returns-in-Ok-rewrite-clause-size g c = omega (arith, c.len.ensures, ap (λ (l : List ℕ). length l) c.in-Ok.ensures, size_is (held_by c.args.state.now (drop c.args.from c.args.entries.now.items)) c.args.generation)
+returns-in-Ok-rewrite-clause-size g c = omega (arith, c.len.ensures, ap (λ (l : List ℕ). length l) c.in-Ok.ensures, size_is (held_by (stands_after c.args.footing.now (Cut c.args.cut)) (drop c.args.from c.args.entries.now.items)) c.args.generation)

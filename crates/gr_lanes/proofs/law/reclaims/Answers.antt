@@ -5,4 +5,4 @@ use Rattle.gr_lanes.proofs.Pairing.{reclaiming}
 use Rattle.gr_lanes.proofs.law.reclaims.Goals as goal
 
 pub returns : goal.returns
-returns c = reclaiming c.shut_is.ensures c.filled_is.ensures c.two_are.ensures c.lower_is.ensures empty_state state_text
+returns c = λ late. reclaiming c.shut_is.ensures c.filled_is.ensures c.two_are.ensures c.lower_is.ensures (empty_state late) (state_text late)

@@ -11,7 +11,7 @@ pub returns-clause-gives : goal.returns-clause-gives
 returns-clause-gives g c = λ t.
     let bytes : List ℕ = content (g.D.Disk.lane_of c.args.disk.now c.args.lane) in
     let whole : c.deref-2.result.now ≡ bytes = c.deref-2.ensures.value ∙ (c.in-Ok.ensures.bytes t ∙ whole_is c.args.size bytes (c.requires.size t)) in
-    tells_by (λ (x : Held). (held_by x.state x.events, x.gate)) c.text_in.result (placed_in c.args.standing c.deref-2.result.now) (placed_in c.args.standing bytes) (ap (placed_in c.args.standing) whole) c.text_in.ensures.gives
+    tells_by (λ (x : Held). (held_by x.footing x.events, x.gate)) c.text_in.result (placed_in c.args.late.now c.args.standing c.deref-2.result.now) (placed_in c.args.late.now c.args.standing bytes) (ap (placed_in c.args.late.now c.args.standing) whole) c.text_in.ensures.gives
 
 pub returns-clause-bytes : goal.returns-clause-bytes
 returns-clause-bytes g c = λ t.

@@ -13,12 +13,12 @@ use Rattle.gr_lanes.proofs.log.open_synced.Goals as goal
 
 pub returns-in-Err-clause-settles : goal.returns-in-Err-clause-settles
 returns-in-Err-clause-settles g c = λ t.
-    settles_heads c.args.lane (g.D.Disk.lane_of c.args.disk.now) (g.D.Disk.lane_of c.heads_of.new.disk) c.in-Err.fault (c.in-Err.ensures.lanes t) (c.requires.only t) (c.in-Err.ensures.gives t)
+    settles_heads c.args.late.now c.args.lane (g.D.Disk.lane_of c.args.disk.now) (g.D.Disk.lane_of c.heads_of.new.disk) c.in-Err.fault (c.in-Err.ensures.lanes t) (c.requires.only t) (c.in-Err.ensures.gives t)
 
 pub returns-in-Err-chosen-clause-settles : goal.returns-in-Err-chosen-clause-settles
 returns-in-Err-chosen-clause-settles g c = λ t.
     let f : ℕ → Lane = g.D.Disk.lane_of c.args.disk.now in
-    settles_heads c.args.lane f (g.D.Disk.lane_of c.heads_of.new.disk) c.in-Err-chosen.fault (c.in-Ok.ensures.lanes t) (c.requires.only t)
+    settles_heads c.args.late.now c.args.lane f (g.D.Disk.lane_of c.heads_of.new.disk) c.in-Err-chosen.fault (c.in-Ok.ensures.lanes t) (c.requires.only t)
     (fails_present c.two_are.ensures c.in-Ok.heads (content (f c.args.lane)) (content (f (suc c.args.lane))) c.in-Err-chosen.fault (c.in-Ok.ensures.gives t) c.in-Err-chosen.ensures)
 
 pub begin-requires-clause-heads : goal.begin-requires-clause-heads
@@ -35,7 +35,7 @@ begin-requires-clause-only g c = λ t. sole_from c.args.lane (g.D.Disk.lane_of c
 
 pub returns-in-Neither-clause-settles : goal.returns-in-Neither-clause-settles
 returns-in-Neither-clause-settles g c = λ t.
-    settles_from c.args.lane (g.D.Disk.lane_of c.args.disk.now) (g.D.Disk.lane_of c.heads_of.new.disk) (g.D.Disk.lane_of c.begin.new.disk) c.begin.result (c.in-Ok.ensures.lanes t) (c.begin.ensures.settles t)
+    settles_from c.args.late.now c.args.lane (g.D.Disk.lane_of c.args.disk.now) (g.D.Disk.lane_of c.heads_of.new.disk) (g.D.Disk.lane_of c.begin.new.disk) c.begin.result (c.in-Ok.ensures.lanes t) (c.begin.ensures.settles t)
 
 pub found-requires-clause-aside : goal.found-requires-clause-aside
 found-requires-clause-aside g c = λ t.

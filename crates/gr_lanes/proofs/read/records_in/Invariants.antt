@@ -1,4 +1,4 @@
-use Rattle.std.proofs.Common.{◌≤◌, ◌+◌, length, []}
+use Rattle.std.proofs.Common.{◌≡◌, ◌≤◌, ◌+◌, length, []}
 use Rattle.gr_lanes.specs.State.{held_by}
 use Rattle.gr_lanes.specs.Text.{records_in}
 use Rattle.gr_lanes.proofs.Walking.{IsReading}
@@ -7,7 +7,8 @@ use Rattle.gr_lanes.proofs.read.records_in.Given as goal
 abbrev pub invariant-gates : goal.invariant-gates
 invariant-gates l = record {
   within : length l.rest ≤ l.total;
-  reading : IsReading l.total (held_by l.state l.entries.items) l.rest (records_in (l.total + 1) l.total (held_by l.fn.begun []) l.fn.bytes);
+  late : l.footing.late ≡ l.fn.begun.late;
+  reading : IsReading l.total (held_by l.footing l.entries.items) l.rest (records_in (l.total + 1) l.total (held_by l.fn.begun []) l.fn.bytes);
 }
 
 abbrev pub decreases-gates : goal.decreases-gates

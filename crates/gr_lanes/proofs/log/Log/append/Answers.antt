@@ -12,6 +12,9 @@ use Rattle.gr_lanes.proofs.log.Log.append.Goals as goal
 pub returns-in-Err-clause-lanes : goal.returns-in-Err-clause-lanes
 returns-in-Err-clause-lanes g c = λ t. appends_refused c.args.self.now (Some c.args.entry.now) _ _ refl c.shut_is.ensures c.two_are.ensures c.lower_is.ensures (c.requires.stands t)
 
+pub returns-in-Err-joins_with-clause-lanes : goal.returns-in-Err-joins_with-clause-lanes
+returns-in-Err-joins_with-clause-lanes g c = λ t. appends_refused c.args.self.now (Some c.args.entry.now) _ _ refl c.shut_is.ensures c.two_are.ensures c.lower_is.ensures (c.requires.stands t)
+
 pub append_at-requires-clause-within : goal.append_at-requires-clause-within
 append_at-requires-clause-within g c = λ t.
     let s = rw (← c.self.view_is) at c.requires.stands in
@@ -32,7 +35,7 @@ returns-in-Err-append_at-clause-lanes g c = rw (← c.self.view_is) (λ t.
 pub returns-in-Err-append_at-clause-log : goal.returns-in-Err-append_at-clause-log
 returns-in-Err-append_at-clause-log g c = rw (← c.self.view_is)
     (leaves_fault ℕ c.in-Err-append_at.fault _ _ _ c.in-Err-append_at.ensures.gave_up c.if-self.false
-    (ap₂ (λ (es : List Entry) (b : Bool). let v : LogView = record { lane = c.self.inside.lane; state = held_by c.self.inside.state es; broken = b; second = c.self.inside.second; generation = c.self.inside.generation; size = c.self.inside.size; aside = c.self.inside.aside } in v)
+    (ap₂ (λ (es : List Entry) (b : Bool). let v : LogView = record { lane = c.self.inside.lane; state = held_by c.self.inside.footing es; broken = b; second = c.self.inside.second; generation = c.self.inside.generation; size = c.self.inside.size; aside = c.self.inside.aside } in v)
     (c.reserve.ensures.items ∙ c.events.view_is) c.is_disk-self-inside.ensures))
 
 pub returns-clause-lanes : goal.returns-clause-lanes
@@ -46,7 +49,7 @@ pub returns-clause-log : goal.returns-clause-log
 returns-clause-log g c = rw (← c.self.view_is)
     (let r = c.args.entry.now in
     let items : c.note_record.new.entries.items ≡ live_after c.self.inside.events r = c.note_record.ensures ∙ ap (λ (l : List Entry). live_after l r) (c.reserve.ensures.items ∙ c.events.view_is) in
-    let state : held_by c.note.new.self c.note_record.new.entries.items ≡ after_record (held_by c.self.inside.state c.self.inside.events) r = ap₂ held_by c.note.ensures items in
+    let state : held_by c.note.new.self c.note_record.new.entries.items ≡ after_record (held_by c.self.inside.footing c.self.inside.events) r = ap₂ held_by c.note.ensures items in
     let size : c.in-Ok-append_at.size ≡ c.self.inside.size + 1 + record_size r = omega (arith, c.in-Ok-append_at.ensures.size, c.self.invariant.4) in
     leaves_ok _ _ _ _ _
     (ap₂ (λ (s : LogState) (n : ℕ). let v : LogView = record { lane = c.self.inside.lane; state = s; broken = c.self.inside.broken; second = c.self.inside.second; generation = c.self.inside.generation; size = n; aside = c.self.inside.aside } in v) state size))
@@ -59,8 +62,8 @@ invariant_of-self-2 g c =
     let f = rw (← c.self.view_is) at c.requires.follows in
     let r = c.args.entry.now in
     let items : c.note_record.new.entries.items ≡ live_after c.self.inside.events r = c.note_record.ensures ∙ ap (λ (l : List Entry). live_after l r) (c.reserve.ensures.items ∙ c.events.view_is) in
-    let state : held_by c.note.new.self c.note_record.new.entries.items ≡ after_record (held_by c.self.inside.state c.self.inside.events) r = ap₂ held_by c.note.ensures items in (
-      subst IsState (sym state) (kept (held_by c.self.inside.state c.self.inside.events) r c.self.invariant.0 f c.is_sound.ensures),
+    let state : held_by c.note.new.self c.note_record.new.entries.items ≡ after_record (held_by c.self.inside.footing c.self.inside.events) r = ap₂ held_by c.note.ensures items in (
+      subst IsState (sym state) (kept (held_by c.self.inside.footing c.self.inside.events) r c.self.invariant.0 f c.is_sound.ensures),
       c.self.invariant.1,
       c.self.invariant.2,
       c.self.invariant.3,

@@ -8,14 +8,14 @@ use Rattle.gr_lanes.proofs.Choosing.{opens_failed, opens_of, causes_of, causes_e
 use Rattle.gr_lanes.proofs.log.Log.open.Goals as goal
 
 pub returns-in-Err-clause-opens : goal.returns-in-Err-clause-opens
-returns-in-Err-clause-opens g c = λ t. opens_failed c.args.lane _ _ c.in-Err.fault (c.in-Err.ensures.surveys t) c.in-Err.ensures.gave_up
+returns-in-Err-clause-opens g c = λ t. opens_failed c.args.late.now c.args.lane _ _ c.in-Err.fault (c.in-Err.ensures.surveys t) c.in-Err.ensures.gave_up
 
 pub returns-in-Err-clause-causes : goal.returns-in-Err-clause-causes
 returns-in-Err-clause-causes g c = λ t.
     causes_err (g.D.Disk.faultless c.args.disk.now) (lanes_at (g.D.Disk.lane_of c.sync_lanes.new.disk) c.args.lane) (g.D.Disk.faults c.args.disk.now) (g.D.Disk.faults c.sync_lanes.new.disk) c.in-Err.fault (c.in-Err.ensures.why t) (c.in-Err.ensures.by_stop t)
 
 pub returns-clause-opens : goal.returns-clause-opens
-returns-clause-opens g c = λ t. opens_of c.args.lane _ _ _ _ c.open_synced.result (c.in-Ok.ensures.surveys t) (c.open_synced.ensures.settles t)
+returns-clause-opens g c = λ t. opens_of c.args.late.now c.args.lane _ _ _ _ c.open_synced.result (c.in-Ok.ensures.surveys t) (c.open_synced.ensures.settles t)
 
 pub returns-clause-causes : goal.returns-clause-causes
 returns-clause-causes g c = λ t.
