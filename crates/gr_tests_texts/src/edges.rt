@@ -2,18 +2,20 @@
 
 ghost use Rattle.std.specs.Prelude.{◌≡◌, length};
 
-use crate::words::{event, filter, put_counted, put_json};
+use crate::words::{event, filter, put_counted, put_json, short_number};
 use gr_edge::Edge;
+use gr_event::{Join, Joins};
 use gr_filter::Filter;
 use gr_know::K;
-use gr_tests_rows::{Page, Stop, TickRange, first_word, range};
+use gr_tests_rows::{Page, Stop, TickRange, first_word, number, parted, range};
 use gr_tick::{MAX_TICK, Piece, Run, Stream};
 use std::alloc::Global;
 
-/// An edge, and how many subscribers are behind it.
+/// An edge, how many subscribers are behind it, and the joins that are held.
 struct Counted {
     edge: Edge,
     count: u16,
+    joins: Joins,
     ghost counted: { length edge ≡ count },
 }
 
@@ -22,18 +24,28 @@ impl Drop for Counted {
         let Counted {
             edge: _edge,
             count: _,
+            joins: _joins,
         } = self;
     }
 }
 
 impl Counted {
-    /// Puts a subscriber's filter at the end.
-    fn add(&mut self, filter: Option<&Filter>) -> Result<(), Stop> {
+    /// Puts a subscriber at the end.
+    fn add(&mut self, filter: Option<&Filter>, late: Option<u16>) -> Result<(), Stop> {
         if self.count == u16::MAX {
             return Err(Stop::NoRow);
         }
-        self.edge.add(filter)?;
+        self.edge.add(filter, late)?;
         self.count += 1;
+        Ok(())
+    }
+
+    /// Puts a join behind those that are held.
+    fn join(&mut self, join: Join) -> Result<(), Stop> {
+        if !self.joins.allows(join) {
+            return Err(Stop::NoRow);
+        }
+        self.joins = self.joins.with(join)?;
         Ok(())
     }
 }
@@ -43,6 +55,7 @@ pub fn answer(alloc: Global, script: &str, page: &mut Page) -> Result<(), Stop> 
     let mut counted = Counted {
         edge: Edge::new(alloc),
         count: 0,
+        joins: Joins::new(alloc),
     };
     take_all(alloc, &mut counted, script, page)
 }
@@ -60,7 +73,7 @@ fn take_all(
     Ok(())
 }
 
-/// Adds a subscriber, or prints what the edge passes.
+/// Adds a subscriber or a join, or prints what the edge passes.
 fn take_step(
     alloc: Global,
     counted: &mut Counted,
@@ -69,27 +82,46 @@ fn take_step(
 ) -> Result<(), Stop> {
     let (call, rest) = first_word(step);
     match call {
-        "add" => add(alloc, counted, rest),
-        "add_unfiltered" => counted.add(None),
-        "pass" => pass(alloc, &counted.edge, rest, page),
+        "add" => add(alloc, counted, rest, None),
+        "add_unfiltered" => counted.add(None, None),
+        "add_late" => add_late(alloc, counted, rest),
+        "add_late_unfiltered" => counted.add(None, Some(short_number(rest)?)),
+        "join" => counted.join(join_of(rest)?),
+        "pass" => pass(alloc, counted, rest, page),
         _ => Err(Stop::NoRow),
     }
 }
 
 /// Adds a subscriber with a filter.
-fn add(alloc: Global, counted: &mut Counted, written: &str) -> Result<(), Stop> {
-    counted.add(Some(&filter(alloc, written)?.filter))
+fn add(alloc: Global, counted: &mut Counted, written: &str, late: Option<u16>) -> Result<(), Stop> {
+    counted.add(Some(&filter(alloc, written)?.filter), late)
+}
+
+/// Adds a late subscriber, of which the number comes before the filter.
+fn add_late(alloc: Global, counted: &mut Counted, words: &str) -> Result<(), Stop> {
+    let (subscriber, written) = first_word(words);
+    let late = Some(short_number(subscriber)?);
+    add(alloc, counted, written, late)
+}
+
+/// The join that a word spells: a subscriber, a colon and a tick.
+fn join_of(word: &str) -> Result<Join, Stop> {
+    let (subscriber, tick) = parted(word, ":")?;
+    Ok(Join {
+        subscriber: short_number(subscriber)?,
+        tick: number(tick)?,
+    })
 }
 
 /// Prints what an edge passes of a piece.
-fn pass(alloc: Global, edge: &Edge, words: &str, page: &mut Page) -> Result<(), Stop> {
-    put_passed(edge, &piece(alloc, words)?, page);
+fn pass(alloc: Global, counted: &Counted, words: &str, page: &mut Page) -> Result<(), Stop> {
+    put_passed(counted, &piece(alloc, words)?, page);
     Ok(())
 }
 
 /// Prints what an edge passes of a piece.
-fn put_passed(edge: &Edge, piece: &Piece<K>, page: &mut Page) {
-    match edge.pass(piece) {
+fn put_passed(counted: &Counted, piece: &Piece<K>, page: &mut Page) {
+    match counted.edge.pass(piece, &counted.joins) {
         Ok(passed) => put_piece(&passed, page),
         Err(_) => page.tear(),
     }
