@@ -3,7 +3,9 @@
 use crate::piece_text::{known, put_known, put_wanted, wanted};
 use crate::script::{Script, byte, cut_short, first_word, perform, short};
 use gr_event::{Bytes, Join, Joins};
-use gr_frame::{Body, Frame, FrameFault, FrameKind, Frames, Head, decode, encode_into, parts};
+use gr_frame::{
+    Body, Frame, FrameFault, FrameKind, Frames, Head, Kind, Peek, decode, encode_into, parts,
+};
 use gr_tests_rows::{Page, Stop, bytes, number};
 use gr_tick::MAX_TICK;
 use std::alloc::Global;
@@ -21,6 +23,7 @@ pub fn answer(alloc: Global, row: &str, page: &mut Page) -> Result<(), Stop> {
         "write" => write_frame(alloc, rest, page),
         "parts" => put_parts(alloc, rest, page),
         "read" => read_frame(alloc, rest, page),
+        "peek" => peek_frame(alloc, rest, page),
         "padded" => read_padded(alloc, rest, page),
         "changed" => read_changed(alloc, rest, page),
         "fronts" => read_fronts(alloc, rest, page),
@@ -290,6 +293,27 @@ fn put_read(alloc: Global, bytes: &[u8], page: &mut Page) -> Result<(), Stop> {
             Ok(())
         }
     }
+}
+
+/// Prints what is seen of a frame in hexadecimal without reading it.
+fn peek_frame(alloc: Global, digits: &str, page: &mut Page) -> Result<(), Stop> {
+    let bytes = bytes(alloc, digits)?;
+    match decode(alloc, &bytes) {
+        Ok(_frame) => put_peek(page, Peek::of(&bytes)),
+        Err(fault) => put_fault(page, fault),
+    }
+    Ok(())
+}
+
+/// Prints what is seen of a frame.
+fn put_peek(page: &mut Page, seen: Peek) {
+    let kind = match seen.kind {
+        Kind::Knowledge => "know",
+        Kind::Curiosity => "want",
+        Kind::Expect => "expect",
+    };
+    write!(page, "  {kind} to {}", seen.to);
+    write!(page, " publisher {}\n", seen.publisher);
 }
 
 /// Prints a frame that bytes are read as, and whether they are the spelling of it.
