@@ -1,6 +1,11 @@
 pub mod Ahead
-pub mod Cuts
+pub mod Clients
+pub mod Comparing
+pub mod Differing
+pub mod Journals
 pub mod Noting
 pub mod Numbered
 pub mod Numbers
+pub mod Sound
 pub mod Turns
+pub mod Wrong

@@ -1,13 +1,13 @@
 -- A datagram that is numbered changes no group before it; an arrival adds a group, and an offer belongs to the last one
-use Rattle.std.proofs.Common.{◌≡◌, ℕ, zero, suc, ◌+◌, ◌≤◌, ◌<◌, ◌||◌, Bool, true, false, not, List, [], ◌∷◌, ◌++◌, length, get_or, map, Option, Some, None, refl, sym, ap, ap₂, ◌∙◌, subst, arith, cond}
+use Rattle.std.proofs.Common.{◌≡◌, ℕ, zero, suc, ◌+◌, ◌≤◌, ◌<◌, ◌||◌, Bool, true, false, not, List, [], ◌∷◌, ◌++◌, length, map, Option, Some, None, refl, sym, ap, ap₂, ◌∙◌, subst, arith, cond}
 use Rattle.std.specs.Prelude.{if◌then◌else◌, OnOk, OnErr, Result, Ok, Err}
 use Rattle.std.specs.List.{AllByRecursion}
 use Rattle.std.proofs.lemmas.List.{length_push}
 use Rattle.gr_audit.specs.declared.mark.Mark.{Mark}
 use Rattle.gr_audit.specs.declared.mark.Mark.TheVariants.{Arrives, Offers}
-use Rattle.gr_audit.specs.Joint.{Key, same_key, has, Link, stays}
+use Rattle.gr_audit.specs.Joint.{Key, same_key, has, Link}
 use Rattle.gr_audit.specs.Links.{with_key, key_number, key_at, offers_of, links_in, IsBelow}
-use Rattle.gr_audit.specs.Noted.{Noted, noted_in, all_of, with_journal, with_arrival, last_gives, with_offer}
+use Rattle.gr_audit.specs.Noted.{Noted, noted_in, with_journal, with_arrival, last_gives, with_offer}
 use Rattle.gr_audit.proofs.Numbered.{same_is}
 
 -- Datagrams
@@ -218,12 +218,6 @@ ended_below n before more now next h e none =
 
 pub ended : (keys : List Key) (before more : List (List Mark)) (now next : List Mark) → more ≡ before ++ now ∷ [] → next ≡ [] → noted_in keys more next ≡ with_journal (noted_in keys before now)
 ended keys before more now next e none = ap₂ noted (ap (map (links_in keys)) e ∙ before_end keys before now) (ap (links_in keys) none)
-
-pub all_below : (n : ℕ) (before more : List (List Mark)) (now : List Mark) → AreBelow n before now → more ≡ before ++ now ∷ [] → AllByRecursion (AllByRecursion (IsBelow n)) more
-all_below n before more now h e = subst (λ z. AllByRecursion (AllByRecursion (IsBelow n)) z) (sym e) (below_before n before now h)
-
-pub all_noted : (keys : List Key) (before more : List (List Mark)) (now : List Mark) (n : Noted) → noted_in keys before now ≡ n → more ≡ before ++ now ∷ [] → stays (map (links_in keys) more) ≡ stays (all_of n)
-all_noted keys before more now n view e = ap stays (ap (map (links_in keys)) e ∙ before_end keys before now) ∙ ap (λ z. stays (all_of z)) view
 
 -- whether memory was refused or not
 pub by_result : {T E A B C : Type 0} (r : Result T E) → OnOk r A → OnErr r B → (A → C) → (B → C) → C

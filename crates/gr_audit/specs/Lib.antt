@@ -1,5 +1,10 @@
+pub mod Asked
+pub mod Audited
+pub mod Coming
+pub mod Compared
 pub mod Joint
 pub mod Links
 pub mod Noted
-pub mod Parts
-pub mod Words
+pub mod Ran
+pub mod Taken
+pub mod Verdict

@@ -13,10 +13,7 @@ pub record Noted : Type 0 where
 abbrev pub noted_in : List Key → List (List Mark) → List Mark → Noted
 noted_in keys before now = record { before = map (links_in keys) before; now = links_in keys now }
 
--- of all journals
-abbrev pub all_of : Noted → List (List Link)
-all_of n = n.before ++ n.now ∷ []
-
+-- the journal that went on has ended
 abbrev pub with_journal : Noted → Noted
 with_journal n = record { before = n.before ++ n.now ∷ []; now = [] }
 
@@ -33,3 +30,11 @@ last_gives (l ∷ next ∷ ls) k = l ∷ last_gives (next ∷ ls) k
 
 abbrev pub with_offer : Key → Noted → Noted
 with_offer k n = record { before = n.before; now = last_gives n.now k }
+
+-- with groups more of the journal that goes on
+abbrev pub with_links : Noted → List Link → Noted
+with_links n ls = record { before = n.before; now = n.now ++ ls }
+
+-- with journals more
+abbrev pub with_journals : Noted → List (List Link) → Noted
+with_journals n journals = record { before = n.before ++ journals; now = n.now }

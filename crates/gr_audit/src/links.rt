@@ -2,7 +2,7 @@
 
 ghost use Rattle.std.specs.Prelude.{◌≡◌, [], Some, None, IfOk, OnOk};
 ghost use Rattle.gr_audit.specs.Joint.{stays};
-ghost use Rattle.gr_audit.specs.Noted.{all_of, with_journal, with_arrival, with_offer};
+ghost use Rattle.gr_audit.specs.Noted.{with_journal, with_arrival, with_offer};
 
 use crate::joint::line_that_stays;
 use crate::keys::Keys;
@@ -11,7 +11,7 @@ use std::alloc::{AllocError, Global};
 use std::marker::Model;
 use std::mem;
 
-/// The groups of journals, noted one after another: those of the journals before, and of the one that goes on.
+/// The groups of journals, noted one after another: those of the journals that have ended, and of the one that goes on.
 #[derive(Drop)]
 pub struct Links {
     keys: Keys,
@@ -46,7 +46,7 @@ impl Links {
     }
 
     /// The journal that went on has ended, and the next one begins.
-    pub fn next_journal(&mut self, alloc: Global) -> Result<(), AllocError>
+    pub fn end_journal(&mut self, alloc: Global) -> Result<(), AllocError>
         ensures { OnOk result (self.new ≡ with_journal self.old) }
     {
         self.before.reserve(1)?;
@@ -84,16 +84,11 @@ impl Links {
         self.now.offers(key)
     }
 
-    /// The least line of an arrival that stays where every group that can go has gone; None where all have gone.
-    pub fn line_that_stays(self, alloc: Global) -> Result<Option<u32>, AllocError>
-        ensures { IfOk result (λ line. line ≡ stays (all_of self)) }
+    /// The least line of an arrival that stays where every group that can go has gone, of the journals that have ended;
+    /// None where all have gone.
+    pub fn line_that_stays(&self, alloc: Global) -> Result<Option<u32>, AllocError>
+        ensures { IfOk result (λ line. line ≡ stays self.entry.now.before) }
     {
-        let Links {
-            keys,
-            mut before,
-            now,
-        } = self;
-        before.push(now)?;
-        line_that_stays(alloc, &keys, &before)
+        line_that_stays(alloc, &self.keys, &self.before)
     }
 }

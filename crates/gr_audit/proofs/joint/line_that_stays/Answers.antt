@@ -1,5 +1,5 @@
 -- Each turn is one of the joint order; where no group can go, it has ended.
-use Rattle.std.proofs.Common.{◌≡◌, false, Some, None, length, get_or, replicate, ap, sym, subst, ◌∙◌, arith}
+use Rattle.std.proofs.Common.{◌≡◌, false, Some, None, length, get_or, ap, sym, subst, ◌∙◌, arith}
 use Rattle.std.specs.List.{AllByRecursion}
 use Rattle.std.proofs.lemmas.List.{get_or-replicate}
 use Rattle.gr_audit.specs.Links.{IsBelow, ready_from, next_line_of, rests_of}
