@@ -8,6 +8,7 @@ use Rattle.gr_model.proofs.Ordering.{fed_keeps, rested_keeps}
 use Rattle.gr_broker_relay.specs.declared.outcome.Outcome.{Outcome}
 use Rattle.gr_broker.specs.Seen.{BrokerView}
 use Rattle.gr_node.specs.Seen.{NodeView, broker_in}
+use Rattle.gr_node.specs.Keeps.{IsServing}
 use Rattle.gr_node.specs.Of.{NodeFits, Hosts, IsSet, AllStand}
 use Rattle.gr_node.specs.Plan.{Call, gets, publishes, wakes}
 use Rattle.gr_node.specs.Done.{Done, settled, broker_of, call_done, done_by, done_at}
@@ -64,11 +65,11 @@ set_on t hosted n n₁ c told offers os (Err e) m f heard s = tt
 pub set_settled : (t : TopologyView) (hosted : List ℕ) (n : NodeView) → IsSet t hosted n → IsSet t hosted (settled n)
 set_settled t hosted n s = record { fits = fits_counted t n n.offers (without_ordered n.orders) s.fits; hosts = s.hosts; orders = rested_keeps t n.orders s.orders }
 
-pub set_then : {T : Type 0} (t : TopologyView) (hosted : List ℕ) (n n' : NodeView) (r : Result T RunFault) → OnOk r (n' ≡ settled n) → IsSet t hosted n → OnOk r (IsSet t hosted n')
-set_then t hosted n n' (Ok x) e s = subst (λ m. IsSet t hosted m) (sym e) (set_settled t hosted n s)
-set_then t hosted n n' (Err x) e s = tt
+-- so it serves on, over the lanes that a call left
+pub serving_of : {T : Type 0} (t : TopologyView) (hosted : List ℕ) (tells : Type 0) (lanes : ℕ → Lane) (n : NodeView) (r : Result T RunFault) → OnOk r (IsSet t hosted n) → (tells → OnOk r (AllStand lanes n)) → OnOk r (IsServing t hosted tells lanes n)
+serving_of t hosted tells lanes n (Ok x) s stand = record { set = s; stands = stand }
+serving_of t hosted tells lanes n (Err e) s stand = tt
 
--- which touches no lane
-pub stand_then : {T : Type 0} (lanes : ℕ → Lane) (n n' : NodeView) (r : Result T RunFault) → OnOk r (n' ≡ settled n) → AllStand lanes n → OnOk r (AllStand lanes n')
-stand_then lanes n n' (Ok x) e s = subst (λ m. AllStand lanes m) (sym e) s
-stand_then lanes n n' (Err x) e s = tt
+pub serving_then : {T : Type 0} (t : TopologyView) (hosted : List ℕ) (tells : Type 0) (lanes : ℕ → Lane) (n n' : NodeView) (r : Result T RunFault) → OnOk r (n' ≡ settled n) → IsServing t hosted tells lanes n → OnOk r (IsServing t hosted tells lanes n')
+serving_then t hosted tells lanes n n' (Ok x) e s = subst (IsServing t hosted tells lanes) (sym e) (record { set = set_settled t hosted n s.set; stands = s.stands })
+serving_then t hosted tells lanes n n' (Err x) e s = tt

@@ -1,11 +1,10 @@
 -- What is shown, line by line: the log of a publisher that is here, by the numbers of its records, and the horizons of each broker. All
 -- these lines name what the topology has
 use Rattle.std.proofs.Common.{◌≡◌, ℕ, ◌<◌, Bool, true, false, List, [], ◌∷◌, ◌++◌, length, flat_map, get_or, Option, Some, None, sym, ap, ◌∙◌, arith}
-use Rattle.std.specs.Prelude.{is_some, if◌then◌else◌}
-use Rattle.std.proofs.lemmas.Bool.{eq-eqb}
+use Rattle.std.specs.Prelude.{if◌then◌else◌}
 use Rattle.std.proofs.lemmas.List.{get_or_read}
 use Rattle.gr_pubend.specs.Log.{log_of}
-use Rattle.gr_topo.specs.Topology.{TopologyView, host_of}
+use Rattle.gr_topo.specs.Topology.{TopologyView}
 use Rattle.gr_model.specs.declared.report.Report.{Report}
 use Rattle.gr_model.specs.declared.report.Report.TheVariants as line
 use Rattle.gr_model.specs.Net.{keeps_horizon, numbers}
@@ -14,7 +13,7 @@ use Rattle.gr_model.specs.Text.{IsNamed}
 use Rattle.gr_model.specs.Arrivals.{is_hosted}
 use Rattle.gr_model_calls.proofs.asks.AskMoments.{Each-on}
 use Rattle.gr_model_calls.proofs.runs.Worlds.{Each, numbers_below}
-use Rattle.gr_broker.specs.Seen.{BrokerView, view_in, log_in}
+use Rattle.gr_broker.specs.Seen.{BrokerView, view_in}
 use Rattle.gr_report.specs.Named.{AllNamed}
 use Rattle.gr_report.proofs.Named.{each_of, all_of}
 use Rattle.gr_report.proofs.OpenedNamed.{each_flat}
@@ -27,12 +26,6 @@ use Rattle.gr_node.specs.Done.{log_shown, log_shown_in, logs_shown, doubt_shown,
 -- it is the one at its place
 pub broker_found : (t : TopologyView) (n : NodeView) (b : ℕ) (o : Option BrokerView) (x : BrokerView) → NodeFits t n → b < length t.brokers → o ≡ get_or n.brokers b o → o ≡ Some x → broker_in n b ≡ Some x
 broker_found t n b o x f h read is = sym (get_or_read n.brokers b o (omega (arith, h, f.count)) read None) ∙ is
-
--- Logs
-
--- a publisher's log is at its host
-pub log_here : (t : TopologyView) (n : NodeView) (p : ℕ) (x : BrokerView) → NodeFits t n → p < length t.publishers → broker_in n (host_of t p) ≡ Some x → is_some (log_in x p) ≡ true
-log_here t n p x f j e = (f.fits (host_of t p) x e).hosted p j ∙ eq-eqb (host_of t p) x.number (sym (f.numbered (host_of t p) x e))
 
 -- All lines are named
 

@@ -7,6 +7,7 @@ pub mod Starting
 pub mod Served
 pub mod Turns
 pub mod Lasting
+pub mod Keeps
 pub mod Begun
 pub mod Calling
 pub mod Ending

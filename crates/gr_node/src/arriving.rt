@@ -1,19 +1,18 @@
 //! One arrival is taken, with all that it causes.
 
-ghost use Rattle.std.specs.Prelude.{◌≡◌, ◌≢◌, ℕ, ◌≤◌, true, false, min, List, [], ◌∷◌, ◌++◌, length, map, drop, Err};
+ghost use Rattle.std.specs.Prelude.{◌≡◌, ℕ, ◌≤◌, true, false, min, List, [], ◌∷◌, ◌++◌, length, map, drop, Err};
 ghost use Rattle.std.specs.Prelude.{IfOk, IfErr, OnOk, IsErrOf};
 ghost use Rattle.gr_out.specs.Lane.{Lane};
-ghost use Rattle.gr_scenario.specs.Steps.{AreStepsOf};
 ghost use Rattle.gr_model.specs.Broker.{max_tick};
 ghost use Rattle.gr_model.specs.NetOf.{net_of};
 ghost use Rattle.gr_model.specs.Arrivals.{datagram, quiet, Publish, publishes_of};
 ghost use Rattle.gr_model_theorems.specs.Served.{IsOfBytes};
 ghost use Rattle.gr_node.specs.Seen.{seen};
-ghost use Rattle.gr_node.specs.Of.{AreHosted, IsSet, AllStand, OthersStay};
 ghost use Rattle.gr_node.specs.Lasting.{AllKeep};
+ghost use Rattle.gr_node.specs.Keeps.{IsServing, IsAsked, TurnKeeps, RunKeeps, LeavesEmpty};
 ghost use Rattle.gr_node.specs.Plan.{calls, settles, led_to, quiet_calls};
 ghost use Rattle.gr_node.specs.Done.{at_arrival};
-ghost use Rattle.gr_node.specs.Went.{outside, Went, SinkMoves, DiskMoves, PostMoves, IsTurnFault};
+ghost use Rattle.gr_node.specs.Went.{outside, Went, IsTurnFault};
 ghost use Rattle.gr_node.specs.Turns.{IsFirst, Turned};
 
 use crate::bindings::is_among;
@@ -23,13 +22,14 @@ use crate::ordering::settle;
 use crate::schedule::next_after;
 use crate::turning::be_quiet;
 use gr_out::{Arrival, Disk, Page, Post, PostFault, RunFault, Sink};
-use gr_sched::{Line, MAX_NUMBER};
+use gr_sched::Line;
+use gr_tick::MAX_TICK;
 
 /// A moment past the last tick is taken as the last tick.
 fn last_tick(moment: u64) -> u64
     ensures { result ≡ min moment max_tick }
 {
-    moment.min(MAX_NUMBER)
+    moment.min(MAX_TICK)
 }
 
 /// A datagram that has come is taken at its broker, and then what is ready in one order is told; one that is for a
@@ -45,25 +45,19 @@ fn datagram_comes<D: Disk, P: Post, K: Sink>(
     page: &mut Page,
     sink: &mut K,
 ) -> Result<(), RunFault>
-    requires set { IsSet site.now.topo.now site.now.hosted.now (seen node.old) }
-    requires stands { D.tells → AllStand (D.lane_of disk.old) (seen node.old) }
+    requires serving { IsServing site.now.topo.now site.now.hosted.now D.tells (D.lane_of disk.old) (seen node.old) }
     ensures bytes { IsOfBytes (datagram b bytes.now moment) }
     ensures went { (left : List Publish) → Went site.now.topo.now site.now.hosted.now P.tells
         (led_to (net_of site.now.topo.now) site.now.hosted.now left (datagram b bytes.now moment))
         (at_arrival site.now.hosted.now (seen node.old) (datagram b bytes.now moment)) (seen node.new)
         (outside (K.taken sink.old) page.old.held (P.journal post.old))
         (outside (K.taken sink.new) page.new.held (P.journal post.new)) result }
-    ensures emptied { OnOk result (page.new.held ≡ []) }
-    ensures set { OnOk result (IsSet site.now.topo.now site.now.hosted.now (seen node.new)) }
-    ensures stands { D.tells → OnOk result (AllStand (D.lane_of disk.new) (seen node.new)) }
-    ensures others { D.tells
-        → OthersStay site.now.topo.now site.now.hosted.now (D.lane_of disk.old) (D.lane_of disk.new) }
-    ensures keeps { let late = site.now.topo.now.late in D.tells → (l : ℕ → Lane)
-        → AllKeep late l (D.lane_of disk.old) → AllKeep late l (D.lane_of disk.new) }
+    ensures emptied { LeavesEmpty page.new.held result }
+    ensures serving { OnOk result
+        (IsServing site.now.topo.now site.now.hosted.now D.tells (D.lane_of disk.new) (seen node.new)) }
+    ensures keeps { TurnKeeps site.now.topo.now site.now.hosted.now D.tells D.lane_of D.faults D.stops disk.old disk.new
+        (K.faults sink.old) (K.faults sink.new) (P.faults post.old) (P.faults post.new) result }
     ensures cause { IfErr result IsTurnFault }
-    ensures disk { DiskMoves (D.faults disk.old) (D.stops disk.old) (D.faults disk.new) (D.stops disk.new) result }
-    ensures sink { SinkMoves (K.faults sink.old) (K.faults sink.new) result }
-    ensures post { P.faults post.new ≡ P.faults post.old }
 {
     if !is_among(site.hosted, b) {
         return page.flush(sink);
@@ -87,10 +81,8 @@ fn quiet_comes<D: Disk, P: Post, K: Sink>(
     page: &mut Page,
     sink: &mut K,
 ) -> Result<(), RunFault>
-    requires hosted { AreHosted site.now.topo.now site.now.hosted.now }
-    requires set { IsSet site.now.topo.now site.now.hosted.now (seen node.old) }
-    requires stands { D.tells → AllStand (D.lane_of disk.old) (seen node.old) }
-    requires steps { AreStepsOf site.now.topo.now steps.now }
+    requires asked { IsAsked site.now.topo.now site.now.hosted.now steps.now }
+    requires serving { IsServing site.now.topo.now site.now.hosted.now D.tells (D.lane_of disk.old) (seen node.old) }
     requires first { IsFirst (net_of site.now.topo.now) site.now.hosted.now (drop next steps.now) }
     ensures went { Went site.now.topo.now site.now.hosted.now P.tells
         (map calls (quiet_calls (net_of site.now.topo.now) site.now.hosted.now
@@ -98,17 +90,12 @@ fn quiet_comes<D: Disk, P: Post, K: Sink>(
         (at_arrival site.now.hosted.now (seen node.old) (quiet moment)) (seen node.new)
         (outside (K.taken sink.old) page.old.held (P.journal post.old))
         (outside (K.taken sink.new) page.new.held (P.journal post.new)) result }
-    ensures emptied { OnOk result (page.new.held ≡ []) }
-    ensures set { OnOk result (IsSet site.now.topo.now site.now.hosted.now (seen node.new)) }
-    ensures stands { D.tells → OnOk result (AllStand (D.lane_of disk.new) (seen node.new)) }
-    ensures others { D.tells
-        → OthersStay site.now.topo.now site.now.hosted.now (D.lane_of disk.old) (D.lane_of disk.new) }
-    ensures keeps { let late = site.now.topo.now.late in D.tells → (l : ℕ → Lane)
-        → AllKeep late l (D.lane_of disk.old) → AllKeep late l (D.lane_of disk.new) }
+    ensures emptied { LeavesEmpty page.new.held result }
+    ensures serving { OnOk result
+        (IsServing site.now.topo.now site.now.hosted.now D.tells (D.lane_of disk.new) (seen node.new)) }
+    ensures keeps { TurnKeeps site.now.topo.now site.now.hosted.now D.tells D.lane_of D.faults D.stops disk.old disk.new
+        (K.faults sink.old) (K.faults sink.new) (P.faults post.old) (P.faults post.new) result }
     ensures cause { IfErr result IsTurnFault }
-    ensures disk { DiskMoves (D.faults disk.old) (D.stops disk.old) (D.faults disk.new) (D.stops disk.new) result }
-    ensures sink { SinkMoves (K.faults sink.old) (K.faults sink.new) result }
-    ensures post { P.faults post.new ≡ P.faults post.old }
 {
     node.now = last_tick(moment);
     match be_quiet(site, node, steps, next, disk, post, page, sink) {
@@ -130,10 +117,8 @@ pub(crate) fn turn<D: Disk, P: Post, K: Sink>(
     page: &mut Page,
     sink: &mut K,
 ) -> Result<bool, RunFault>
-    requires hosted { AreHosted site.now.topo.now site.now.hosted.now }
-    requires set { IsSet site.now.topo.now site.now.hosted.now (seen node.old) }
-    requires stands { D.tells → AllStand (D.lane_of disk.old) (seen node.old) }
-    requires steps { AreStepsOf site.now.topo.now steps.now }
+    requires asked { IsAsked site.now.topo.now site.now.hosted.now steps.now }
+    requires serving { IsServing site.now.topo.now site.now.hosted.now D.tells (D.lane_of disk.old) (seen node.old) }
     requires within { next.old ≤ length steps.now }
     requires first { IsFirst (net_of site.now.topo.now) site.now.hosted.now (drop next.old steps.now) }
     requires piece { length piece.old ≡ 65535 }
@@ -146,18 +131,14 @@ pub(crate) fn turn<D: Disk, P: Post, K: Sink>(
     ensures emptied { IfOk result (λ goes_on. goes_on ≡ true → page.new.held ≡ []) }
     ensures closed { IfOk result (λ goes_on. goes_on ≡ false → page.new.held ≡ page.old.held) }
     ensures at_post { IsErrOf result RunFault.Post → page.new.held ≡ page.old.held }
-    ensures set_at_post { IsErrOf result RunFault.Post → IsSet site.now.topo.now site.now.hosted.now (seen node.new) }
-    ensures stands_at_post { D.tells → IsErrOf result RunFault.Post → AllStand (D.lane_of disk.new) (seen node.new) }
-    ensures set { OnOk result (IsSet site.now.topo.now site.now.hosted.now (seen node.new)) }
-    ensures stands { D.tells → OnOk result (AllStand (D.lane_of disk.new) (seen node.new)) }
-    ensures others { D.tells
-        → OthersStay site.now.topo.now site.now.hosted.now (D.lane_of disk.old) (D.lane_of disk.new) }
-    ensures keeps { let late = site.now.topo.now.late in D.tells → (l : ℕ → Lane)
+    ensures serving_at_post { IsErrOf result RunFault.Post
+        → IsServing site.now.topo.now site.now.hosted.now D.tells (D.lane_of disk.new) (seen node.new) }
+    ensures serving { OnOk result
+        (IsServing site.now.topo.now site.now.hosted.now D.tells (D.lane_of disk.new) (seen node.new)) }
+    ensures lanes_keep { let late = site.now.topo.now.late in D.tells → (l : ℕ → Lane)
         → AllKeep late l (D.lane_of disk.old) → AllKeep late l (D.lane_of disk.new) }
-    ensures undamaged { (p at : ℕ) → result ≢ Err (RunFault.Damaged p at) }
-    ensures disk { DiskMoves (D.faults disk.old) (D.stops disk.old) (D.faults disk.new) (D.stops disk.new) result }
-    ensures sink { SinkMoves (K.faults sink.old) (K.faults sink.new) result }
-    ensures moves { PostMoves (P.faults post.old) (P.faults post.new) result }
+    ensures keeps { RunKeeps site.now.topo.now site.now.hosted.now D.tells D.lane_of D.faults D.stops disk.old disk.new
+        (K.faults sink.old) (K.faults sink.new) (P.faults post.old) (P.faults post.new) result }
 {
     match post.next(piece) {
         Ok(arrival) => match arrival {

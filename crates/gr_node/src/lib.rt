@@ -2,7 +2,7 @@
 //! acts, and each is the machine's.
 //!
 //! `specs/Plan.antt` says what a run is to do, act by act, `specs/Done.antt` what each act leaves, prints and puts into
-//! the journal, and `specs/Served.antt` what a whole run did.
+//! the journal, `specs/Served.antt` what a whole run did, and `specs/Keeps.antt` what each call needs and keeps beside.
 #![tactic(auto)]
 
 mod arriving;

@@ -3,8 +3,7 @@
 ghost use Rattle.std.specs.Prelude.{◌≡◌, ◌<◌, ◌≤◌, true, length, replicate, None, is_some, IfOk};
 ghost use Rattle.gr_note.specs.declared.TheConstants.{MAX_NUMBER};
 ghost use Rattle.gr_pubend.specs.Log.{log_of};
-ghost use Rattle.gr_broker.specs.Of.{IsBrokerOf};
-ghost use Rattle.gr_broker.specs.Seen.{log_in, machine_log};
+ghost use Rattle.gr_broker.specs.Seen.{machine_log, IsHosted};
 ghost use Rattle.gr_node.specs.Seen.{seen, broker_in, records_in, none_started};
 ghost use Rattle.gr_node.specs.Of.{NodeFits};
 
@@ -33,10 +32,8 @@ pub(crate) struct Node {
 }
 
 /// The number of the last event in the log of a publisher, at its host.
-fn last_in(topo: &Topology, host: &Broker, p: u16) -> u64
-    requires fits { IsBrokerOf topo.now host.now }
-    requires publisher { p < length topo.now.publishers }
-    requires here { is_some (log_in host.now p) ≡ true }
+fn last_in(host: &Broker, p: u16) -> u64
+    requires { IsHosted host.now p }
     ensures last { result ≡ (machine_log host.now p).last }
     ensures most { result ≤ MAX_NUMBER }
 {
@@ -95,7 +92,7 @@ impl Node {
     {
         let host = topo.host(p);
         match &self.brokers[host as usize] {
-            Some(broker) => last_in(topo, broker, p),
+            Some(broker) => last_in(broker, p),
             None => 0,
         }
     }

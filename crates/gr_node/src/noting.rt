@@ -5,7 +5,6 @@ ghost use Rattle.std.specs.Prelude.{◌≡◌, ◌≢◌, ℕ, ◌<◌, ◌≤�
 ghost use Rattle.std.specs.Prelude.{IsSome, IfOk, IfErr, OnOk, OnErr, IsOkUnless};
 ghost use Rattle.gr_event.specs.declared.event.Event.{Event as Said};
 ghost use Rattle.gr_out.specs.Page.{TakesBut, TakesFront};
-ghost use Rattle.gr_out.specs.Lane.{Lane};
 ghost use Rattle.gr_note.specs.declared.TheConstants.{MAX_NUMBER};
 ghost use Rattle.gr_note.specs.Fault.{fault_number};
 ghost use Rattle.gr_note.specs.Decode.{note_decoded};
@@ -15,12 +14,11 @@ ghost use Rattle.gr_model.specs.NetOf.{net_of};
 ghost use Rattle.gr_model.specs.Text.{labels_of, whole_line};
 ghost use Rattle.gr_model.specs.Arrivals.{takes_notes};
 ghost use Rattle.gr_pubend.specs.Log.{log_of};
-ghost use Rattle.gr_report.specs.Named.{IsPutFault};
 ghost use Rattle.gr_node.specs.Seen.{seen, broker_in, records_in};
-ghost use Rattle.gr_node.specs.Of.{IsSet, NodeFits, AllStand, OthersStay};
-ghost use Rattle.gr_node.specs.Lasting.{AllKeep};
+ghost use Rattle.gr_node.specs.Of.{NodeFits};
+ghost use Rattle.gr_node.specs.Keeps.{IsServing, PutKeeps, TurnKeeps};
 ghost use Rattle.gr_node.specs.Plan.{publishes, calls, answers, note_acts, datagram_acts, reply_to, reply_entry};
-ghost use Rattle.gr_node.specs.Went.{outside, Went, SinkMoves, DiskMoves, IsTurnFault};
+ghost use Rattle.gr_node.specs.Went.{outside, Went, IsTurnFault};
 
 use crate::bindings::node_of_client;
 use crate::node::{Node, Site};
@@ -101,24 +99,18 @@ fn submit<D: Disk, P: Post, K: Sink>(
     page: &mut Page,
     sink: &mut K,
 ) -> Result<(), RunFault>
-    requires set { IsSet site.now.topo.now site.now.hosted.now (seen node.old) }
-    requires stands { D.tells → AllStand (D.lane_of disk.old) (seen node.old) }
+    requires serving { IsServing site.now.topo.now site.now.hosted.now D.tells (D.lane_of disk.old) (seen node.old) }
     requires publisher { p < length site.now.topo.now.publishers }
     requires here { IsSome (broker_in (seen node.old) (host_of site.now.topo.now p)) }
     ensures went { Went site.now.topo.now site.now.hosted.now P.tells
         (calls (publishes (p, (number, event.now))) ∷ (answers (p, (number, event.now)) ∷ []))
         (seen node.old) (seen node.new) (outside (K.taken sink.old) page.old.held (P.journal post.old))
         (outside (K.taken sink.new) page.new.held (P.journal post.new)) result }
-    ensures set { OnOk result (IsSet site.now.topo.now site.now.hosted.now (seen node.new)) }
-    ensures stands { D.tells → OnOk result (AllStand (D.lane_of disk.new) (seen node.new)) }
-    ensures others { D.tells
-        → OthersStay site.now.topo.now site.now.hosted.now (D.lane_of disk.old) (D.lane_of disk.new) }
-    ensures keeps { let late = site.now.topo.now.late in D.tells → (l : ℕ → Lane)
-        → AllKeep late l (D.lane_of disk.old) → AllKeep late l (D.lane_of disk.new) }
+    ensures serving { OnOk result
+        (IsServing site.now.topo.now site.now.hosted.now D.tells (D.lane_of disk.new) (seen node.new)) }
+    ensures keeps { TurnKeeps site.now.topo.now site.now.hosted.now D.tells D.lane_of D.faults D.stops disk.old disk.new
+        (K.faults sink.old) (K.faults sink.new) (P.faults post.old) (P.faults post.new) result }
     ensures cause { IfErr result IsTurnFault }
-    ensures disk { DiskMoves (D.faults disk.old) (D.stops disk.old) (D.faults disk.new) (D.stops disk.new) result }
-    ensures sink { SinkMoves (K.faults sink.old) (K.faults sink.new) result }
-    ensures post { P.faults post.new ≡ P.faults post.old }
 {
     match publish(site, node, p, number, event, disk, post, page, sink) {
         Ok(()) => answer(site, node, p, number, post),
@@ -165,14 +157,13 @@ fn put_stray<K: Sink>(
         ++ whole_line (labels_of site.now.topo.now) (Report.DroppedStrayNote b p)) page.new.held) }
     ensures front { OnErr result (TakesFront (K.taken sink.old) (K.taken sink.new) (page.old.held
         ++ whole_line (labels_of site.now.topo.now) (Report.DroppedStrayNote b p))) }
-    ensures cause { IfErr result IsPutFault }
-    ensures sink { SinkMoves (K.faults sink.old) (K.faults sink.new) result }
+    ensures puts { PutKeeps (K.faults sink.old) (K.faults sink.new) result }
 {
     let line = Report::DroppedStrayNote {
         broker: b,
         publisher: p,
     };
-    put_line(site.alloc, site.topo, &line, page, sink)
+    put_line(site.topo, &line, page, sink)
 }
 
 /// Takes a note at a hosted broker: what it submits there is published and answered, and any other is dropped.
@@ -186,23 +177,17 @@ fn take_read<D: Disk, P: Post, K: Sink>(
     page: &mut Page,
     sink: &mut K,
 ) -> Result<(), RunFault>
-    requires set { IsSet site.now.topo.now site.now.hosted.now (seen node.old) }
-    requires stands { D.tells → AllStand (D.lane_of disk.old) (seen node.old) }
+    requires serving { IsServing site.now.topo.now site.now.hosted.now D.tells (D.lane_of disk.old) (seen node.old) }
     requires here { IsSome (broker_in (seen node.old) b) }
     ensures went { Went site.now.topo.now site.now.hosted.now P.tells
         (note_acts (net_of site.now.topo.now) b (Ok note.now))
         (seen node.old) (seen node.new) (outside (K.taken sink.old) page.old.held (P.journal post.old))
         (outside (K.taken sink.new) page.new.held (P.journal post.new)) result }
-    ensures set { OnOk result (IsSet site.now.topo.now site.now.hosted.now (seen node.new)) }
-    ensures stands { D.tells → OnOk result (AllStand (D.lane_of disk.new) (seen node.new)) }
-    ensures others { D.tells
-        → OthersStay site.now.topo.now site.now.hosted.now (D.lane_of disk.old) (D.lane_of disk.new) }
-    ensures keeps { let late = site.now.topo.now.late in D.tells → (l : ℕ → Lane)
-        → AllKeep late l (D.lane_of disk.old) → AllKeep late l (D.lane_of disk.new) }
+    ensures serving { OnOk result
+        (IsServing site.now.topo.now site.now.hosted.now D.tells (D.lane_of disk.new) (seen node.new)) }
+    ensures keeps { TurnKeeps site.now.topo.now site.now.hosted.now D.tells D.lane_of D.faults D.stops disk.old disk.new
+        (K.faults sink.old) (K.faults sink.new) (P.faults post.old) (P.faults post.new) result }
     ensures cause { IfErr result IsTurnFault }
-    ensures disk { DiskMoves (D.faults disk.old) (D.stops disk.old) (D.faults disk.new) (D.stops disk.new) result }
-    ensures sink { SinkMoves (K.faults sink.old) (K.faults sink.new) result }
-    ensures post { P.faults post.new ≡ P.faults post.old }
 {
     match note {
         Note::Submit {
@@ -233,23 +218,17 @@ fn take_note<D: Disk, P: Post, K: Sink>(
     page: &mut Page,
     sink: &mut K,
 ) -> Result<(), RunFault>
-    requires set { IsSet site.now.topo.now site.now.hosted.now (seen node.old) }
-    requires stands { D.tells → AllStand (D.lane_of disk.old) (seen node.old) }
+    requires serving { IsServing site.now.topo.now site.now.hosted.now D.tells (D.lane_of disk.old) (seen node.old) }
     requires here { IsSome (broker_in (seen node.old) b) }
     ensures went { Went site.now.topo.now site.now.hosted.now P.tells
         (note_acts (net_of site.now.topo.now) b (note_decoded bytes.now))
         (seen node.old) (seen node.new) (outside (K.taken sink.old) page.old.held (P.journal post.old))
         (outside (K.taken sink.new) page.new.held (P.journal post.new)) result }
-    ensures set { OnOk result (IsSet site.now.topo.now site.now.hosted.now (seen node.new)) }
-    ensures stands { D.tells → OnOk result (AllStand (D.lane_of disk.new) (seen node.new)) }
-    ensures others { D.tells
-        → OthersStay site.now.topo.now site.now.hosted.now (D.lane_of disk.old) (D.lane_of disk.new) }
-    ensures keeps { let late = site.now.topo.now.late in D.tells → (l : ℕ → Lane)
-        → AllKeep late l (D.lane_of disk.old) → AllKeep late l (D.lane_of disk.new) }
+    ensures serving { OnOk result
+        (IsServing site.now.topo.now site.now.hosted.now D.tells (D.lane_of disk.new) (seen node.new)) }
+    ensures keeps { TurnKeeps site.now.topo.now site.now.hosted.now D.tells D.lane_of D.faults D.stops disk.old disk.new
+        (K.faults sink.old) (K.faults sink.new) (P.faults post.old) (P.faults post.new) result }
     ensures cause { IfErr result IsTurnFault }
-    ensures disk { DiskMoves (D.faults disk.old) (D.stops disk.old) (D.faults disk.new) (D.stops disk.new) result }
-    ensures sink { SinkMoves (K.faults sink.old) (K.faults sink.new) result }
-    ensures post { P.faults post.new ≡ P.faults post.old }
 {
     let read = match read_note(site.alloc, bytes) {
         Ok(read) => read,
@@ -257,7 +236,7 @@ fn take_note<D: Disk, P: Post, K: Sink>(
     };
     match &read {
         Ok(note) => take_read(site, node, b, note, disk, post, page, sink),
-        Err(fault) => put_line(site.alloc, site.topo, &bad_note(b, *fault), page, sink),
+        Err(fault) => put_line(site.topo, &bad_note(b, *fault), page, sink),
     }
 }
 
@@ -272,23 +251,17 @@ pub(crate) fn take_datagram<D: Disk, P: Post, K: Sink>(
     page: &mut Page,
     sink: &mut K,
 ) -> Result<(), RunFault>
-    requires set { IsSet site.now.topo.now site.now.hosted.now (seen node.old) }
-    requires stands { D.tells → AllStand (D.lane_of disk.old) (seen node.old) }
+    requires serving { IsServing site.now.topo.now site.now.hosted.now D.tells (D.lane_of disk.old) (seen node.old) }
     requires here { IsSome (broker_in (seen node.old) b) }
     ensures went { Went site.now.topo.now site.now.hosted.now P.tells
         (datagram_acts (net_of site.now.topo.now) b bytes.now)
         (seen node.old) (seen node.new) (outside (K.taken sink.old) page.old.held (P.journal post.old))
         (outside (K.taken sink.new) page.new.held (P.journal post.new)) result }
-    ensures set { OnOk result (IsSet site.now.topo.now site.now.hosted.now (seen node.new)) }
-    ensures stands { D.tells → OnOk result (AllStand (D.lane_of disk.new) (seen node.new)) }
-    ensures others { D.tells
-        → OthersStay site.now.topo.now site.now.hosted.now (D.lane_of disk.old) (D.lane_of disk.new) }
-    ensures keeps { let late = site.now.topo.now.late in D.tells → (l : ℕ → Lane)
-        → AllKeep late l (D.lane_of disk.old) → AllKeep late l (D.lane_of disk.new) }
+    ensures serving { OnOk result
+        (IsServing site.now.topo.now site.now.hosted.now D.tells (D.lane_of disk.new) (seen node.new)) }
+    ensures keeps { TurnKeeps site.now.topo.now site.now.hosted.now D.tells D.lane_of D.faults D.stops disk.old disk.new
+        (K.faults sink.old) (K.faults sink.new) (P.faults post.old) (P.faults post.new) result }
     ensures cause { IfErr result IsTurnFault }
-    ensures disk { DiskMoves (D.faults disk.old) (D.stops disk.old) (D.faults disk.new) (D.stops disk.new) result }
-    ensures sink { SinkMoves (K.faults sink.old) (K.faults sink.new) result }
-    ensures post { P.faults post.new ≡ P.faults post.old }
 {
     if begins_note(bytes) {
         return take_note(site, node, b, bytes, disk, post, page, sink);

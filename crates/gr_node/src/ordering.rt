@@ -1,14 +1,13 @@
 //! Subscribers that get one list over all publishers: what they hear of the lines of a run, and what they are told.
 
-ghost use Rattle.std.specs.Prelude.{◌≡◌, ◌≢◌, ◌++◌, [], Err, IfErr, OnOk, OnErr, IsErrOf};
+ghost use Rattle.std.specs.Prelude.{◌≡◌, ◌++◌, Err, OnOk, OnErr};
 ghost use Rattle.gr_out.specs.Bytes.{with_more};
-ghost use Rattle.gr_out.specs.Faults.{Rose};
 ghost use Rattle.gr_out.specs.Page.{TakesBut, TakesFront};
 ghost use Rattle.gr_model.specs.Orders.{AreOrdersOf, fed, ordered, without_ordered};
-ghost use Rattle.gr_report.specs.Named.{AllNamed, IsPutFault};
+ghost use Rattle.gr_report.specs.Named.{AllNamed};
 ghost use Rattle.gr_node.specs.Seen.{seen, text_of};
+ghost use Rattle.gr_node.specs.Keeps.{PutKeeps, LeavesEmpty};
 ghost use Rattle.gr_node.specs.Done.{settled};
-ghost use Rattle.gr_node.specs.Went.{SinkMoves};
 
 use crate::node::{Node, Site};
 use gr_model::Report;
@@ -16,13 +15,11 @@ use gr_order_lists::Orders;
 use gr_out::{Page, RunFault, Sink};
 use gr_report::put_all;
 use gr_topo::Topology;
-use std::alloc::Global;
 
 /// Puts lines, once the subscribers that get one list over all publishers have heard them.
 ///
 /// `Memory` where memory is refused, and `Write` only where the sink failed; a front of the lines is put then.
 pub(crate) fn put_heard<K: Sink>(
-    alloc: Global,
     topo: &Topology,
     lines: &[Report],
     orders: &mut Orders,
@@ -35,12 +32,10 @@ pub(crate) fn put_heard<K: Sink>(
     ensures front { OnErr result (TakesFront (K.taken sink.old) (K.taken sink.new)
         (page.old.held ++ text_of topo.now lines.now)) }
     ensures heard { OnOk result (orders.new ≡ fed orders.old lines.now) }
-    ensures only { IfErr result IsPutFault }
-    ensures write { IsErrOf result RunFault.Write → Rose (K.faults sink.old) (K.faults sink.new) }
-    ensures same { result ≢ Err RunFault.Write → K.faults sink.new ≡ K.faults sink.old }
+    ensures puts { PutKeeps (K.faults sink.old) (K.faults sink.new) result }
 {
     match orders.hear(lines) {
-        Ok(()) => put_all(alloc, topo, lines, page, sink),
+        Ok(()) => put_all(topo, lines, page, sink),
         Err(_) => Err(RunFault::Memory),
     }
 }
@@ -58,11 +53,10 @@ fn put_ordered<K: Sink>(
     ensures front { OnErr result (TakesFront (K.taken sink.old) (K.taken sink.new)
         (page.old.held ++ text_of site.now.topo.now (ordered orders.old))) }
     ensures left { OnOk result (orders.new ≡ without_ordered orders.old) }
-    ensures cause { IfErr result IsPutFault }
-    ensures sink { SinkMoves (K.faults sink.old) (K.faults sink.new) result }
+    ensures puts { PutKeeps (K.faults sink.old) (K.faults sink.new) result }
 {
     match orders.ready() {
-        Ok(lines) => put_all(site.alloc, site.topo, lines.as_slice(), page, sink),
+        Ok(lines) => put_all(site.topo, lines.as_slice(), page, sink),
         Err(_) => Err(RunFault::Memory),
     }
 }
@@ -81,10 +75,9 @@ pub(crate) fn settle<K: Sink>(
         (page.old.held ++ text_of site.now.topo.now (ordered (seen node.old).orders))) }
     ensures front { OnErr result (TakesFront (K.taken sink.old) (K.taken sink.new)
         (page.old.held ++ text_of site.now.topo.now (ordered (seen node.old).orders))) }
-    ensures emptied { OnOk result (page.new.held ≡ []) }
+    ensures emptied { LeavesEmpty page.new.held result }
     ensures node { OnOk result (seen node.new ≡ settled (seen node.old)) }
-    ensures cause { IfErr result IsPutFault }
-    ensures sink { SinkMoves (K.faults sink.old) (K.faults sink.new) result }
+    ensures puts { PutKeeps (K.faults sink.old) (K.faults sink.new) result }
 {
     match put_ordered(site, &mut node.orders, page, sink) {
         Ok(()) => page.flush(sink),

@@ -1,18 +1,17 @@
 //! A run: what comes is taken, turn by turn.
 
-ghost use Rattle.std.specs.Prelude.{◌≡◌, ◌≢◌, ◌⊎◌, ℕ, ◌≤◌, Bool, true, List, [], length};
+ghost use Rattle.std.specs.Prelude.{◌≡◌, ◌≢◌, ◌⊎◌, ◌≤◌, Bool, true, List, [], length};
 ghost use Rattle.std.specs.Prelude.{Err, OnOk, IfOk, IsErrOf, vec_len};
 ghost use Rattle.std.specs.List.{AllByRecursion};
-ghost use Rattle.gr_scenario.specs.Steps.{AreStepsOf};
 ghost use Rattle.gr_model.specs.NetOf.{net_of};
 ghost use Rattle.gr_model.specs.Arrivals.{Arrival};
 ghost use Rattle.gr_model_theorems.specs.Served.{IsOfBytes};
 ghost use Rattle.gr_node.specs.Seen.{seen};
-ghost use Rattle.gr_node.specs.Of.{AreHosted, IsSet, AllStand, OthersStay};
 ghost use Rattle.gr_node.specs.Lasting.{StoodEachTime};
+ghost use Rattle.gr_node.specs.Keeps.{IsServing, CanRun, RunKeeps};
 ghost use Rattle.gr_node.specs.Plan.{turn_acts, run_acts};
 ghost use Rattle.gr_node.specs.Done.{settled};
-ghost use Rattle.gr_node.specs.Went.{outside, Went, IsExact, SinkMoves, DiskMoves, PostMoves};
+ghost use Rattle.gr_node.specs.Went.{outside, Went, IsExact};
 
 use crate::arriving::turn;
 use crate::node::{Node, Site};
@@ -46,11 +45,8 @@ fn run_turns<D: Disk, P: Post, K: Sink>(
     page: &mut Page,
     sink: &mut K,
 ) -> Result<(), RunFault>
-    requires hosted { AreHosted site.now.topo.now site.now.hosted.now }
-    requires set { IsSet site.now.topo.now site.now.hosted.now (seen node.old) }
-    requires stands { D.tells → AllStand (D.lane_of disk.old) (seen node.old) }
-    requires steps { AreStepsOf site.now.topo.now steps.now }
-    requires empty { page.old.held ≡ [] }
+    requires can { CanRun site.now.topo.now site.now.hosted.now D.tells (D.lane_of disk.old) steps.now (seen node.old)
+        page.old.held }
     ensures ran { (came : List Arrival) × ((shut : Bool) × ((length came ≤ turns) × (AllByRecursion IsOfBytes came
         × (OnOk result ((shut ≡ true) ⊎ (length came ≡ turns))
         × (Went site.now.topo.now site.now.hosted.now P.tells
@@ -60,16 +56,12 @@ fn run_turns<D: Disk, P: Post, K: Sink>(
         × (D.tells → StoodEachTime site.now.topo.now site.now.hosted.now steps.now (seen node.old) came
         (D.lane_of disk.new))))))) }
     ensures empty { IsExact result → (result ≢ Err RunFault.Disk) → page.new.held ≡ [] }
-    ensures set { OnOk result (IsSet site.now.topo.now site.now.hosted.now (seen node.new)) }
-    ensures stands { D.tells → OnOk result (AllStand (D.lane_of disk.new) (seen node.new)) }
-    ensures at_post { IsErrOf result RunFault.Post → IsSet site.now.topo.now site.now.hosted.now (seen node.new) }
-    ensures at_post_stands { D.tells → IsErrOf result RunFault.Post → AllStand (D.lane_of disk.new) (seen node.new) }
-    ensures others { D.tells
-        → OthersStay site.now.topo.now site.now.hosted.now (D.lane_of disk.old) (D.lane_of disk.new) }
-    ensures disk { DiskMoves (D.faults disk.old) (D.stops disk.old) (D.faults disk.new) (D.stops disk.new) result }
-    ensures sink { SinkMoves (K.faults sink.old) (K.faults sink.new) result }
-    ensures moves { PostMoves (P.faults post.old) (P.faults post.new) result }
-    ensures never_damaged { (p at : ℕ) → result ≢ Err (RunFault.Damaged p at) }
+    ensures serving { OnOk result
+        (IsServing site.now.topo.now site.now.hosted.now D.tells (D.lane_of disk.new) (seen node.new)) }
+    ensures serving_at_post { IsErrOf result RunFault.Post
+        → IsServing site.now.topo.now site.now.hosted.now D.tells (D.lane_of disk.new) (seen node.new) }
+    ensures keeps { RunKeeps site.now.topo.now site.now.hosted.now D.tells D.lane_of D.faults D.stops disk.old disk.new
+        (K.faults sink.old) (K.faults sink.new) (P.faults post.old) (P.faults post.new) result }
 {
     let mut piece = match new_piece(site.alloc) {
         Ok(piece) => piece,
@@ -105,11 +97,8 @@ pub(crate) fn run<D: Disk, P: Post, K: Sink>(
     page: &mut Page,
     sink: &mut K,
 ) -> Result<(), RunFault>
-    requires hosted { AreHosted site.now.topo.now site.now.hosted.now }
-    requires set { IsSet site.now.topo.now site.now.hosted.now (seen node.old) }
-    requires stands { D.tells → AllStand (D.lane_of disk.old) (seen node.old) }
-    requires steps { AreStepsOf site.now.topo.now steps.now }
-    requires empty { page.old.held ≡ [] }
+    requires can { CanRun site.now.topo.now site.now.hosted.now D.tells (D.lane_of disk.old) steps.now (seen node.old)
+        page.old.held }
     ensures ran { (came : List Arrival) × ((shut : Bool) × ((length came ≤ turns) × (AllByRecursion IsOfBytes came
         × (OnOk result ((shut ≡ true) ⊎ (length came ≡ turns))
         × (Went site.now.topo.now site.now.hosted.now P.tells
@@ -119,16 +108,12 @@ pub(crate) fn run<D: Disk, P: Post, K: Sink>(
         × (D.tells → StoodEachTime site.now.topo.now site.now.hosted.now steps.now
         (settled (seen node.old)) came (D.lane_of disk.new))))))) }
     ensures empty { IsExact result → (result ≢ Err RunFault.Disk) → page.new.held ≡ [] }
-    ensures set { OnOk result (IsSet site.now.topo.now site.now.hosted.now (seen node.new)) }
-    ensures stands { D.tells → OnOk result (AllStand (D.lane_of disk.new) (seen node.new)) }
-    ensures at_post { IsErrOf result RunFault.Post → IsSet site.now.topo.now site.now.hosted.now (seen node.new) }
-    ensures at_post_stands { D.tells → IsErrOf result RunFault.Post → AllStand (D.lane_of disk.new) (seen node.new) }
-    ensures others { D.tells
-        → OthersStay site.now.topo.now site.now.hosted.now (D.lane_of disk.old) (D.lane_of disk.new) }
-    ensures disk { DiskMoves (D.faults disk.old) (D.stops disk.old) (D.faults disk.new) (D.stops disk.new) result }
-    ensures sink { SinkMoves (K.faults sink.old) (K.faults sink.new) result }
-    ensures moves { PostMoves (P.faults post.old) (P.faults post.new) result }
-    ensures never_damaged { (p at : ℕ) → result ≢ Err (RunFault.Damaged p at) }
+    ensures serving { OnOk result
+        (IsServing site.now.topo.now site.now.hosted.now D.tells (D.lane_of disk.new) (seen node.new)) }
+    ensures serving_at_post { IsErrOf result RunFault.Post
+        → IsServing site.now.topo.now site.now.hosted.now D.tells (D.lane_of disk.new) (seen node.new) }
+    ensures keeps { RunKeeps site.now.topo.now site.now.hosted.now D.tells D.lane_of D.faults D.stops disk.old disk.new
+        (K.faults sink.old) (K.faults sink.new) (P.faults post.old) (P.faults post.new) result }
 {
     match settle(site, node, page, sink) {
         Ok(()) => run_turns(site, node, steps, turns, disk, post, page, sink),

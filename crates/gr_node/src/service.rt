@@ -1,15 +1,13 @@
 //! A whole run: the nodes are bound, the hosted ones start, what comes is taken, and at the end all is shown.
 
-ghost use Rattle.std.specs.Prelude.{◌≡◌, ◌≢◌, ℕ, ◌<◌, ◌++◌, ◌∷◌, true, List, [], length, map, Err, IsSome, IsErrOf};
-ghost use Rattle.std.specs.Prelude.{IfErr, OnOk, OnErr};
+ghost use Rattle.std.specs.Prelude.{◌≡◌, ◌≢◌, ℕ, ◌<◌, ◌++◌, ◌∷◌, List, [], length, map, Err, IsSome, IsErrOf};
+ghost use Rattle.std.specs.Prelude.{OnOk, OnErr};
 ghost use Rattle.gr_out.specs.Entry.{Entry};
 ghost use Rattle.gr_out.specs.Page.{TakesBut, TakesFront};
 ghost use Rattle.gr_scenario.specs.Steps.{AreStepsOf};
-ghost use Rattle.gr_model.specs.NetOf.{net_of};
-ghost use Rattle.gr_model.specs.Arrivals.{is_hosted};
-ghost use Rattle.gr_report.specs.Named.{IsPutFault};
 ghost use Rattle.gr_node.specs.Seen.{seen, broker_in, none_started, text_of};
 ghost use Rattle.gr_node.specs.Of.{AreHosted, AreAddressed, IsSet, AllStand, OthersStay};
+ghost use Rattle.gr_node.specs.Keeps.{IsServing, IsAsked, CanRun, PutKeeps, RunKeeps, LeavesEmpty, IsDamagedHere};
 ghost use Rattle.gr_node.specs.Plan.{bound_entry, nodes};
 ghost use Rattle.gr_node.specs.Done.{shown};
 ghost use Rattle.gr_node.specs.Went.{outside, SinkMoves, DiskMoves, PostMoves};
@@ -43,7 +41,7 @@ fn open_hosted<D: Disk, K: Sink>(
     // all that they tell is written
     ensures started { Started site.now.topo.now site.now.hosted.now (seen node.new)
         (outside (K.taken sink.old) page.old.held []) (outside (K.taken sink.new) [] []) result }
-    ensures empty { OnOk result (page.new.held ≡ []) }
+    ensures empty { LeavesEmpty page.new.held result }
     ensures set { OnOk result (IsSet site.now.topo.now site.now.hosted.now (seen node.new)) }
     ensures count { length (seen node.new).brokers ≡ length site.now.topo.now.brokers }
     ensures offers { (seen node.new).offers ≡ 0 }
@@ -55,9 +53,7 @@ fn open_hosted<D: Disk, K: Sink>(
         → OthersStay site.now.topo.now site.now.hosted.now (D.lane_of disk.old) (D.lane_of disk.new) }
     ensures damaged { D.tells → (p at : ℕ) → result ≡ Err (RunFault.Damaged p at)
         → IsFirstDamaged site.now.topo.now site.now.hosted.now p at (D.lane_of disk.old) }
-    ensures damaged_here { (p at : ℕ) → result ≡ Err (RunFault.Damaged p at)
-        → (p < length site.now.topo.now.publishers)
-        × (is_hosted (net_of site.now.topo.now) site.now.hosted.now p ≡ true) }
+    ensures damaged_here { IsDamagedHere site.now.topo.now site.now.hosted.now result }
     ensures never_post { result ≢ Err RunFault.Post }
     ensures disk { DiskMoves (D.faults disk.old) (D.stops disk.old) (D.faults disk.new) (D.stops disk.new) result }
     ensures sink { SinkMoves (K.faults sink.old) (K.faults sink.new) result }
@@ -81,11 +77,10 @@ fn put_shown<K: Sink>(
     ensures front { OnErr result (TakesFront (K.taken sink.old) (K.taken sink.new)
         (page.old.held ++ text_of site.now.topo.now
         (shown site.now.topo.now site.now.hosted.now (seen node.entry.now)))) }
-    ensures cause { IfErr result IsPutFault }
-    ensures sink { SinkMoves (K.faults sink.old) (K.faults sink.new) result }
+    ensures puts { PutKeeps (K.faults sink.old) (K.faults sink.new) result }
 {
     match show(site, node) {
-        Ok(lines) => put_all(site.alloc, site.topo, lines.as_slice(), page, sink),
+        Ok(lines) => put_all(site.topo, lines.as_slice(), page, sink),
         Err(_) => Err(RunFault::Memory),
     }
 }
@@ -101,24 +96,17 @@ fn run_and_show<D: Disk, P: Post, K: Sink>(
     page: &mut Page,
     sink: &mut K,
 ) -> Result<(), RunFault>
-    requires hosted { AreHosted site.now.topo.now site.now.hosted.now }
-    requires steps { AreStepsOf site.now.topo.now steps.now }
-    requires set { IsSet site.now.topo.now site.now.hosted.now (seen node.old) }
-    requires stands { D.tells → AllStand (D.lane_of disk.old) (seen node.old) }
-    requires empty { page.old.held ≡ [] }
+    requires can { CanRun site.now.topo.now site.now.hosted.now D.tells (D.lane_of disk.old) steps.now (seen node.old)
+        page.old.held }
     ensures ran { RanWith site.now.topo.now site.now.hosted.now P.tells D.tells steps.now turns
         (seen node.old) (seen node.new)
         (outside (K.taken sink.old) page.old.held (P.journal post.old))
         (outside (K.taken sink.new) page.new.held (P.journal post.new)) (D.lane_of disk.new) result }
     ensures at_post { IsErrOf result RunFault.Post → page.new.held ≡ [] }
-    ensures set { IsEnd result → IsSet site.now.topo.now site.now.hosted.now (seen node.new) }
-    ensures stands { D.tells → IsEnd result → AllStand (D.lane_of disk.new) (seen node.new) }
-    ensures others { D.tells
-        → OthersStay site.now.topo.now site.now.hosted.now (D.lane_of disk.old) (D.lane_of disk.new) }
-    ensures disk { DiskMoves (D.faults disk.old) (D.stops disk.old) (D.faults disk.new) (D.stops disk.new) result }
-    ensures sink { SinkMoves (K.faults sink.old) (K.faults sink.new) result }
-    ensures post { PostMoves (P.faults post.old) (P.faults post.new) result }
-    ensures never_damaged { (p at : ℕ) → result ≢ Err (RunFault.Damaged p at) }
+    ensures serving { IsEnd result
+        → IsServing site.now.topo.now site.now.hosted.now D.tells (D.lane_of disk.new) (seen node.new) }
+    ensures keeps { RunKeeps site.now.topo.now site.now.hosted.now D.tells D.lane_of D.faults D.stops disk.old disk.new
+        (K.faults sink.old) (K.faults sink.new) (P.faults post.old) (P.faults post.new) result }
 {
     match run(site, node, steps, turns, disk, post, page, sink) {
         Ok(()) => put_shown(site, node, page, sink),
@@ -137,23 +125,16 @@ fn carry_out<D: Disk, P: Post, K: Sink>(
     page: &mut Page,
     sink: &mut K,
 ) -> Result<(), RunFault>
-    requires hosted { AreHosted site.now.topo.now site.now.hosted.now }
-    requires steps { AreStepsOf site.now.topo.now steps.now }
-    requires set { IsSet site.now.topo.now site.now.hosted.now (seen node.old) }
-    requires stands { D.tells → AllStand (D.lane_of disk.old) (seen node.old) }
-    requires empty { page.old.held ≡ [] }
+    requires can { CanRun site.now.topo.now site.now.hosted.now D.tells (D.lane_of disk.old) steps.now (seen node.old)
+        page.old.held }
     ensures ran { RanWith site.now.topo.now site.now.hosted.now P.tells D.tells steps.now turns
         (seen node.old) (seen node.new)
         (outside (K.taken sink.old) [] (P.journal post.old)) (outside (K.taken sink.new) [] (P.journal post.new))
         (D.lane_of disk.new) result }
-    ensures set { IsEnd result → IsSet site.now.topo.now site.now.hosted.now (seen node.new) }
-    ensures stands { D.tells → IsEnd result → AllStand (D.lane_of disk.new) (seen node.new) }
-    ensures others { D.tells
-        → OthersStay site.now.topo.now site.now.hosted.now (D.lane_of disk.old) (D.lane_of disk.new) }
-    ensures disk { DiskMoves (D.faults disk.old) (D.stops disk.old) (D.faults disk.new) (D.stops disk.new) result }
-    ensures sink { SinkMoves (K.faults sink.old) (K.faults sink.new) result }
-    ensures post { PostMoves (P.faults post.old) (P.faults post.new) result }
-    ensures never_damaged { (p at : ℕ) → result ≢ Err (RunFault.Damaged p at) }
+    ensures serving { IsEnd result
+        → IsServing site.now.topo.now site.now.hosted.now D.tells (D.lane_of disk.new) (seen node.new) }
+    ensures keeps { RunKeeps site.now.topo.now site.now.hosted.now D.tells D.lane_of D.faults D.stops disk.old disk.new
+        (K.faults sink.old) (K.faults sink.new) (P.faults post.old) (P.faults post.new) result }
 {
     let done = run_and_show(site, node, steps, turns, disk, post, page, sink);
     finish(done, page, sink)
@@ -170,17 +151,14 @@ fn serve_with<D: Disk, P: Post, K: Sink>(
     post: &mut P,
     sink: &mut K,
 ) -> Result<(), RunFault>
-    requires hosted { AreHosted site.now.topo.now site.now.hosted.now }
-    requires steps { AreStepsOf site.now.topo.now steps.now }
+    requires asked { IsAsked site.now.topo.now site.now.hosted.now steps.now }
     requires none { seen node.old ≡ none_started site.now.topo.now }
     requires empty { page.old.held ≡ [] }
     ensures serves { (journal : List Entry) → (P.tells → P.journal post.old ≡ journal
         ++ map (bound_entry site.now.topo.now site.now.hosted.now) (nodes site.now.topo.now site.now.hosted.now))
         → Serves site.now.topo.now site.now.hosted.now steps.now turns P.tells D.tells journal (P.journal post.new)
         (K.taken sink.old) (K.taken sink.new) (D.lane_of disk.old) (D.lane_of disk.new) result }
-    ensures damaged_here { (p at : ℕ) → result ≡ Err (RunFault.Damaged p at)
-        → (p < length site.now.topo.now.publishers)
-        × (is_hosted (net_of site.now.topo.now) site.now.hosted.now p ≡ true) }
+    ensures damaged_here { IsDamagedHere site.now.topo.now site.now.hosted.now result }
     ensures disk { DiskMoves (D.faults disk.old) (D.stops disk.old) (D.faults disk.new) (D.stops disk.new) result }
     ensures sink { SinkMoves (K.faults sink.old) (K.faults sink.new) result }
     ensures post { PostMoves (P.faults post.old) (P.faults post.new) result }
@@ -202,15 +180,12 @@ fn serve_bound<D: Disk, P: Post, K: Sink>(
     post: &mut P,
     sink: &mut K,
 ) -> Result<(), RunFault>
-    requires hosted { AreHosted site.now.topo.now site.now.hosted.now }
-    requires steps { AreStepsOf site.now.topo.now steps.now }
+    requires asked { IsAsked site.now.topo.now site.now.hosted.now steps.now }
     ensures serves { (journal : List Entry) → (P.tells → P.journal post.old ≡ journal
         ++ map (bound_entry site.now.topo.now site.now.hosted.now) (nodes site.now.topo.now site.now.hosted.now))
         → Serves site.now.topo.now site.now.hosted.now steps.now turns P.tells D.tells journal (P.journal post.new)
         (K.taken sink.old) (K.taken sink.new) (D.lane_of disk.old) (D.lane_of disk.new) result }
-    ensures damaged_here { (p at : ℕ) → result ≡ Err (RunFault.Damaged p at)
-        → (p < length site.now.topo.now.publishers)
-        × (is_hosted (net_of site.now.topo.now) site.now.hosted.now p ≡ true) }
+    ensures damaged_here { IsDamagedHere site.now.topo.now site.now.hosted.now result }
     ensures disk { DiskMoves (D.faults disk.old) (D.stops disk.old) (D.faults disk.new) (D.stops disk.new) result }
     ensures sink { SinkMoves (K.faults sink.old) (K.faults sink.new) result }
     ensures post { PostMoves (P.faults post.old) (P.faults post.new) result }
@@ -260,8 +235,7 @@ pub fn serve<D: Disk, P: Post, K: Sink>(
         × ((P.tells → Posts topo.now hosted.now steps.now c (P.journal post.old) (P.journal post.new) result)
         × (Prints topo.now hosted.now steps.now c (K.taken sink.old) (K.taken sink.new) result
         × (D.tells → KeepsLogs topo.now hosted.now steps.now c (D.lane_of disk.old) (D.lane_of disk.new) result)))) }
-    ensures damaged_here { (p at : ℕ) → result ≡ Err (RunFault.Damaged p at)
-        → (p < length topo.now.publishers) × (is_hosted (net_of topo.now) hosted.now p ≡ true) }
+    ensures damaged_here { IsDamagedHere topo.now hosted.now result }
     ensures disk { DiskMoves (D.faults disk.old) (D.stops disk.old) (D.faults disk.new) (D.stops disk.new) result }
     ensures sink { SinkMoves (K.faults sink.old) (K.faults sink.new) result }
     ensures post { PostMoves (P.faults post.old) (P.faults post.new) result }

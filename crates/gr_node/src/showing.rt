@@ -1,8 +1,8 @@
 //! What is shown at the end, of the hosted brokers and the publishers at them.
 
-ghost use Rattle.std.specs.Prelude.{◌≡◌, ◌<◌, ◌++◌, length, flat_map, is_some, true, Some, IfOk, OnOk};
+ghost use Rattle.std.specs.Prelude.{◌≡◌, ◌<◌, ◌++◌, length, flat_map, Some, IfOk, OnOk};
 ghost use Rattle.gr_broker.specs.Of.{IsBrokerOf};
-ghost use Rattle.gr_broker.specs.Seen.{log_in, machine_log};
+ghost use Rattle.gr_broker.specs.Seen.{machine_log, IsHosted};
 ghost use Rattle.gr_report.specs.Named.{AllNamed};
 ghost use Rattle.gr_node.specs.Seen.{seen};
 ghost use Rattle.gr_node.specs.Of.{AreHosted, IsSet, NodeFits};
@@ -15,10 +15,8 @@ use gr_out::Memory;
 use gr_topo::Topology;
 
 /// The line of the log of a publisher at its host.
-fn log_line(topo: &Topology, host: &Broker, p: u16) -> Report
-    requires fits { IsBrokerOf topo.now host.now }
-    requires publisher { p < length topo.now.publishers }
-    requires here { is_some (log_in host.now p) ≡ true }
+fn log_line(host: &Broker, p: u16) -> Report
+    requires { IsHosted host.now p }
     ensures { result ≡ log_shown p (machine_log host.now p) }
 {
     let log = host.log(p);
@@ -42,7 +40,7 @@ fn tell_log(site: &Site<'_>, node: &Node, p: u16, into: &mut Reports) -> Result<
 {
     let host = site.topo.host(p);
     match &node.brokers[host as usize] {
-        Some(broker) => into.push(log_line(site.topo, broker, p)),
+        Some(broker) => into.push(log_line(broker, p)),
         None => Ok(()),
     }
 }

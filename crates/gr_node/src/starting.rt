@@ -1,11 +1,10 @@
 //! The hosted brokers start, in order, over the logs that their lanes hold.
 
 ghost use Rattle.std.specs.Prelude.{◌≡◌, ◌≢◌, ℕ, ◌<◌, [], ◌∷◌, true, length, Err, IsSome, OnOk};
-ghost use Rattle.gr_model.specs.NetOf.{net_of};
-ghost use Rattle.gr_model.specs.Arrivals.{is_hosted};
 ghost use Rattle.gr_out.specs.Journal.{is_among};
 ghost use Rattle.gr_node.specs.Seen.{seen, broker_in, none_started};
 ghost use Rattle.gr_node.specs.Of.{AreHosted, IsSet, AllStand, OthersStay};
+ghost use Rattle.gr_node.specs.Keeps.{IsDamagedHere};
 ghost use Rattle.gr_node.specs.Went.{outside, SinkMoves, DiskMoves};
 ghost use Rattle.gr_node.specs.Starting.{Started, Found, IsFirstDamaged};
 
@@ -45,9 +44,7 @@ pub(crate) fn start_hosted<D: Disk, K: Sink>(
         → OthersStay site.now.topo.now site.now.hosted.now (D.lane_of disk.old) (D.lane_of disk.new) }
     ensures damaged { D.tells → (p at : ℕ) → result ≡ Err (RunFault.Damaged p at)
         → IsFirstDamaged site.now.topo.now site.now.hosted.now p at (D.lane_of disk.old) }
-    ensures damaged_here { (p at : ℕ) → result ≡ Err (RunFault.Damaged p at)
-        → (p < length site.now.topo.now.publishers)
-        × (is_hosted (net_of site.now.topo.now) site.now.hosted.now p ≡ true) }
+    ensures damaged_here { IsDamagedHere site.now.topo.now site.now.hosted.now result }
     ensures never_post { result ≢ Err RunFault.Post }
     ensures disk { DiskMoves (D.faults disk.old) (D.stops disk.old) (D.faults disk.new) (D.stops disk.new) result }
     ensures sink { SinkMoves (K.faults sink.old) (K.faults sink.new) result }
@@ -59,7 +56,6 @@ pub(crate) fn start_hosted<D: Disk, K: Sink>(
         };
         node.brokers[*b as usize] = Some(started.broker);
         match put_heard(
-            site.alloc,
             site.topo,
             started.outcome.reports.as_slice(),
             &mut node.orders,

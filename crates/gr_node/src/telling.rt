@@ -1,7 +1,7 @@
 //! What a broker's call tells is put, and what it sends is offered.
 
 ghost use Rattle.std.specs.Prelude.{◌≡◌, ℕ, suc, ◌+◌, ◌∷◌, [], ◌++◌, List, length};
-ghost use Rattle.std.specs.Prelude.{IfOk, IfErr, OnOk, OnErr, IsOkUnless};
+ghost use Rattle.std.specs.Prelude.{IfOk, OnOk, OnErr, IsOkUnless};
 ghost use Rattle.std.specs.List.{AllByRecursion};
 ghost use Rattle.gr_frame.specs.declared.Frame.{Frame};
 ghost use Rattle.gr_frame.specs.Cut.{AreFrames};
@@ -12,11 +12,12 @@ ghost use Rattle.gr_model.specs.Orders.{fed};
 ghost use Rattle.gr_model.specs.Text.{labels_of, whole_line};
 ghost use Rattle.gr_model.specs.World.{sent_line, sent_lines};
 ghost use Rattle.gr_model_calls.specs.Edges.{GoesOverEdge};
-ghost use Rattle.gr_report.specs.Named.{AllNamed, IsPutFault};
+ghost use Rattle.gr_report.specs.Named.{AllNamed};
 ghost use Rattle.gr_outbox.specs.Said.{frame_said};
 ghost use Rattle.gr_node.specs.Seen.{text_of};
+ghost use Rattle.gr_node.specs.Keeps.{PutKeeps, TellKeeps};
 ghost use Rattle.gr_node.specs.Plan.{offers_of};
-ghost use Rattle.gr_node.specs.Went.{Begins, SinkMoves};
+ghost use Rattle.gr_node.specs.Went.{Begins};
 
 use crate::ordering::put_heard;
 use gr_broker::Outcome;
@@ -57,14 +58,13 @@ fn put_sent<K: Sink>(
     ensures front { OnErr result (TakesFront (K.taken sink.old) (K.taken sink.new)
         (page.old.held ++ whole_line (labels_of topo.now) (sent_line number (frame_said bytes.now)))) }
     ensures ends { let head = (frame_said bytes.now).head in IfOk result (λ ends. ends ≡ (head.from, head.to)) }
-    ensures cause { IfErr result IsPutFault }
-    ensures sink { SinkMoves (K.faults sink.old) (K.faults sink.new) result }
+    ensures puts { PutKeeps (K.faults sink.old) (K.faults sink.new) result }
 {
     let line = match sent_report(alloc, number, bytes) {
         Ok(line) => line,
         Err(_) => return Err(RunFault::Memory),
     };
-    match put_line(alloc, topo, &line, page, sink) {
+    match put_line(topo, &line, page, sink) {
         Ok(()) => Ok(ends(&line)),
         Err(fault) => Err(fault),
     }
@@ -104,9 +104,7 @@ fn offer_frame<P: Post, K: Sink>(
     ensures sent { let head = (frame_said bytes.now).head in P.tells → OnOk result (P.journal post.new
         ≡ P.journal post.old ++ offered head.from head.to bytes.now ∷ []) }
     ensures unsent { P.tells → OnErr result (P.journal post.new ≡ P.journal post.old) }
-    ensures cause { IfErr result IsPutFault }
-    ensures sink { SinkMoves (K.faults sink.old) (K.faults sink.new) result }
-    ensures post { P.faults post.new ≡ P.faults post.old }
+    ensures keeps { TellKeeps (K.faults sink.old) (K.faults sink.new) (P.faults post.old) (P.faults post.new) result }
 {
     match put_sent(alloc, topo, number, bytes, page, sink) {
         Ok((from, to)) => offer(from, to, bytes, post),
@@ -137,9 +135,7 @@ fn offer_frames<P: Post, K: Sink>(
     ensures sent_front { P.tells → (fs : List Frame) → AreFrames sent.now.frames fs
         → OnErr result (Begins (P.journal post.old) (P.journal post.new) (offers_of fs)) }
     ensures offers { OnOk result (offers.new ≡ offers.old + length sent.now.frames) }
-    ensures cause { IfErr result IsPutFault }
-    ensures sink { SinkMoves (K.faults sink.old) (K.faults sink.new) result }
-    ensures post { P.faults post.new ≡ P.faults post.old }
+    ensures keeps { TellKeeps (K.faults sink.old) (K.faults sink.new) (P.faults post.old) (P.faults post.new) result }
 {
     'frames: for i in 0..sent.len() {
         let Some(number) = offers.checked_add(1) else {
@@ -184,11 +180,9 @@ pub(crate) fn tell<P: Post, K: Sink>(
         → OnErr result (Begins (P.journal post.old) (P.journal post.new) (offers_of fs)) }
     ensures offers { OnOk result (offers.new ≡ offers.old + length told.frames.frames) }
     ensures heard { OnOk result (orders.new ≡ fed orders.old told.reports) }
-    ensures cause { IfErr result IsPutFault }
-    ensures sink { SinkMoves (K.faults sink.old) (K.faults sink.new) result }
-    ensures post { P.faults post.new ≡ P.faults post.old }
+    ensures keeps { TellKeeps (K.faults sink.old) (K.faults sink.new) (P.faults post.old) (P.faults post.new) result }
 {
-    match put_heard(alloc, topo, told.reports.as_slice(), orders, page, sink) {
+    match put_heard(topo, told.reports.as_slice(), orders, page, sink) {
         Ok(()) => offer_frames(alloc, topo, told.frames.bytes(), offers, post, page, sink),
         Err(fault) => Err(fault),
     }

@@ -7,12 +7,11 @@ ghost use Rattle.gr_topo.specs.Topology.{host_of};
 ghost use Rattle.gr_scenario.specs.Steps.{AreStepsOf};
 ghost use Rattle.gr_model.specs.NetOf.{net_of};
 ghost use Rattle.gr_model.specs.Arrivals.{publishes_of};
-ghost use Rattle.gr_report.specs.Named.{IsPutFault};
 ghost use Rattle.gr_node.specs.Seen.{seen, broker_in};
-ghost use Rattle.gr_node.specs.Of.{AreHosted, IsSet, AllStand, OthersStay};
-ghost use Rattle.gr_node.specs.Lasting.{AllKeep};
+ghost use Rattle.gr_node.specs.Of.{AreHosted, IsSet, AllStand};
+ghost use Rattle.gr_node.specs.Keeps.{IsServing, IsAsked, TellKeeps, TurnKeeps, LeavesEmpty};
 ghost use Rattle.gr_node.specs.Plan.{gets, publishes, wakes, calls, publish_calls, wake_calls, quiet_calls};
-ghost use Rattle.gr_node.specs.Went.{outside, Went, SinkMoves, DiskMoves, IsTurnFault};
+ghost use Rattle.gr_node.specs.Went.{outside, Went, IsTurnFault};
 ghost use Rattle.gr_node.specs.Turns.{IsFirst};
 
 use crate::node::{Node, Site};
@@ -39,9 +38,7 @@ pub(crate) fn receive<P: Post, K: Sink>(
     ensures set { OnOk result (IsSet site.now.topo.now site.now.hosted.now (seen node.new)) }
     ensures stands { (lanes : ℕ → Lane) → AllStand lanes (seen node.old)
         → OnOk result (AllStand lanes (seen node.new)) }
-    ensures cause { IfErr result IsPutFault }
-    ensures sink { SinkMoves (K.faults sink.old) (K.faults sink.new) result }
-    ensures post { P.faults post.new ≡ P.faults post.old }
+    ensures keeps { TellKeeps (K.faults sink.old) (K.faults sink.new) (P.faults post.old) (P.faults post.new) result }
 {
     match node.receive_at(site.alloc, site.topo, b, bytes) {
         Ok(told) => tell(
@@ -70,23 +67,17 @@ pub(crate) fn publish<D: Disk, P: Post, K: Sink>(
     page: &mut Page,
     sink: &mut K,
 ) -> Result<(), RunFault>
-    requires set { IsSet site.now.topo.now site.now.hosted.now (seen node.old) }
-    requires stands { D.tells → AllStand (D.lane_of disk.old) (seen node.old) }
+    requires serving { IsServing site.now.topo.now site.now.hosted.now D.tells (D.lane_of disk.old) (seen node.old) }
     requires publisher { p < length site.now.topo.now.publishers }
     requires here { IsSome (broker_in (seen node.old) (host_of site.now.topo.now p)) }
     ensures went { Went site.now.topo.now site.now.hosted.now P.tells (calls (publishes (p, (number, event.now))) ∷ [])
         (seen node.old) (seen node.new) (outside (K.taken sink.old) page.old.held (P.journal post.old))
         (outside (K.taken sink.new) page.new.held (P.journal post.new)) result }
-    ensures set { OnOk result (IsSet site.now.topo.now site.now.hosted.now (seen node.new)) }
-    ensures stands { D.tells → OnOk result (AllStand (D.lane_of disk.new) (seen node.new)) }
-    ensures others { D.tells
-        → OthersStay site.now.topo.now site.now.hosted.now (D.lane_of disk.old) (D.lane_of disk.new) }
-    ensures keeps { let late = site.now.topo.now.late in D.tells → (l : ℕ → Lane)
-        → AllKeep late l (D.lane_of disk.old) → AllKeep late l (D.lane_of disk.new) }
+    ensures serving { OnOk result
+        (IsServing site.now.topo.now site.now.hosted.now D.tells (D.lane_of disk.new) (seen node.new)) }
+    ensures keeps { TurnKeeps site.now.topo.now site.now.hosted.now D.tells D.lane_of D.faults D.stops disk.old disk.new
+        (K.faults sink.old) (K.faults sink.new) (P.faults post.old) (P.faults post.new) result }
     ensures cause { IfErr result IsTurnFault }
-    ensures disk { DiskMoves (D.faults disk.old) (D.stops disk.old) (D.faults disk.new) (D.stops disk.new) result }
-    ensures sink { SinkMoves (K.faults sink.old) (K.faults sink.new) result }
-    ensures post { P.faults post.new ≡ P.faults post.old }
 {
     match node.publish_at(site.topo, disk, p, number, event) {
         Ok(told) => tell(
@@ -114,23 +105,17 @@ fn wake<D: Disk, P: Post, K: Sink>(
     page: &mut Page,
     sink: &mut K,
 ) -> Result<(), RunFault>
-    requires set { IsSet site.now.topo.now site.now.hosted.now (seen node.old) }
-    requires stands { D.tells → AllStand (D.lane_of disk.old) (seen node.old) }
+    requires serving { IsServing site.now.topo.now site.now.hosted.now D.tells (D.lane_of disk.old) (seen node.old) }
     requires publisher { p < length site.now.topo.now.publishers }
     requires here { IsSome (broker_in (seen node.old) b) }
     ensures went { Went site.now.topo.now site.now.hosted.now P.tells (calls (wakes b p) ∷ [])
         (seen node.old) (seen node.new) (outside (K.taken sink.old) page.old.held (P.journal post.old))
         (outside (K.taken sink.new) page.new.held (P.journal post.new)) result }
-    ensures set { OnOk result (IsSet site.now.topo.now site.now.hosted.now (seen node.new)) }
-    ensures stands { D.tells → OnOk result (AllStand (D.lane_of disk.new) (seen node.new)) }
-    ensures others { D.tells
-        → OthersStay site.now.topo.now site.now.hosted.now (D.lane_of disk.old) (D.lane_of disk.new) }
-    ensures keeps { let late = site.now.topo.now.late in D.tells → (l : ℕ → Lane)
-        → AllKeep late l (D.lane_of disk.old) → AllKeep late l (D.lane_of disk.new) }
+    ensures serving { OnOk result
+        (IsServing site.now.topo.now site.now.hosted.now D.tells (D.lane_of disk.new) (seen node.new)) }
+    ensures keeps { TurnKeeps site.now.topo.now site.now.hosted.now D.tells D.lane_of D.faults D.stops disk.old disk.new
+        (K.faults sink.old) (K.faults sink.new) (P.faults post.old) (P.faults post.new) result }
     ensures cause { IfErr result IsTurnFault }
-    ensures disk { DiskMoves (D.faults disk.old) (D.stops disk.old) (D.faults disk.new) (D.stops disk.new) result }
-    ensures sink { SinkMoves (K.faults sink.old) (K.faults sink.new) result }
-    ensures post { P.faults post.new ≡ P.faults post.old }
 {
     match node.wake_at(site.topo, disk, b, p) {
         Ok(told) => tell(
@@ -157,23 +142,17 @@ fn wake_broker<D: Disk, P: Post, K: Sink>(
     page: &mut Page,
     sink: &mut K,
 ) -> Result<(), RunFault>
-    requires set { IsSet site.now.topo.now site.now.hosted.now (seen node.old) }
-    requires stands { D.tells → AllStand (D.lane_of disk.old) (seen node.old) }
+    requires serving { IsServing site.now.topo.now site.now.hosted.now D.tells (D.lane_of disk.old) (seen node.old) }
     requires here { IsSome (broker_in (seen node.old) b) }
     ensures went { Went site.now.topo.now site.now.hosted.now P.tells
         (map calls (wake_calls (length site.now.topo.now.publishers) b))
         (seen node.old) (seen node.new) (outside (K.taken sink.old) page.old.held (P.journal post.old))
         (outside (K.taken sink.new) page.new.held (P.journal post.new)) result }
-    ensures set { OnOk result (IsSet site.now.topo.now site.now.hosted.now (seen node.new)) }
-    ensures stands { D.tells → OnOk result (AllStand (D.lane_of disk.new) (seen node.new)) }
-    ensures others { D.tells
-        → OthersStay site.now.topo.now site.now.hosted.now (D.lane_of disk.old) (D.lane_of disk.new) }
-    ensures keeps { let late = site.now.topo.now.late in D.tells → (l : ℕ → Lane)
-        → AllKeep late l (D.lane_of disk.old) → AllKeep late l (D.lane_of disk.new) }
+    ensures serving { OnOk result
+        (IsServing site.now.topo.now site.now.hosted.now D.tells (D.lane_of disk.new) (seen node.new)) }
+    ensures keeps { TurnKeeps site.now.topo.now site.now.hosted.now D.tells D.lane_of D.faults D.stops disk.old disk.new
+        (K.faults sink.old) (K.faults sink.new) (P.faults post.old) (P.faults post.new) result }
     ensures cause { IfErr result IsTurnFault }
-    ensures disk { DiskMoves (D.faults disk.old) (D.stops disk.old) (D.faults disk.new) (D.stops disk.new) result }
-    ensures sink { SinkMoves (K.faults sink.old) (K.faults sink.new) result }
-    ensures post { P.faults post.new ≡ P.faults post.old }
 {
     'publishers: for p in 0..site.topo.publishers() {
         match wake(site, node, b, p, disk, post, page, sink) {
@@ -194,23 +173,17 @@ fn wake_hosted<D: Disk, P: Post, K: Sink>(
     sink: &mut K,
 ) -> Result<(), RunFault>
     requires hosted { AreHosted site.now.topo.now site.now.hosted.now }
-    requires set { IsSet site.now.topo.now site.now.hosted.now (seen node.old) }
-    requires stands { D.tells → AllStand (D.lane_of disk.old) (seen node.old) }
+    requires serving { IsServing site.now.topo.now site.now.hosted.now D.tells (D.lane_of disk.old) (seen node.old) }
     requires written { page.old.held ≡ [] }
     ensures went { Went site.now.topo.now site.now.hosted.now P.tells
         (map calls (flat_map (wake_calls (length site.now.topo.now.publishers)) site.now.hosted.now))
         (seen node.old) (seen node.new) (outside (K.taken sink.old) page.old.held (P.journal post.old))
         (outside (K.taken sink.new) page.new.held (P.journal post.new)) result }
-    ensures set { OnOk result (IsSet site.now.topo.now site.now.hosted.now (seen node.new)) }
-    ensures stands { D.tells → OnOk result (AllStand (D.lane_of disk.new) (seen node.new)) }
-    ensures others { D.tells
-        → OthersStay site.now.topo.now site.now.hosted.now (D.lane_of disk.old) (D.lane_of disk.new) }
-    ensures keeps { let late = site.now.topo.now.late in D.tells → (l : ℕ → Lane)
-        → AllKeep late l (D.lane_of disk.old) → AllKeep late l (D.lane_of disk.new) }
+    ensures serving { OnOk result
+        (IsServing site.now.topo.now site.now.hosted.now D.tells (D.lane_of disk.new) (seen node.new)) }
+    ensures keeps { TurnKeeps site.now.topo.now site.now.hosted.now D.tells D.lane_of D.faults D.stops disk.old disk.new
+        (K.faults sink.old) (K.faults sink.new) (P.faults post.old) (P.faults post.new) result }
     ensures cause { IfErr result IsTurnFault }
-    ensures disk { DiskMoves (D.faults disk.old) (D.stops disk.old) (D.faults disk.new) (D.stops disk.new) result }
-    ensures sink { SinkMoves (K.faults sink.old) (K.faults sink.new) result }
-    ensures post { P.faults post.new ≡ P.faults post.old }
 {
     'brokers: for b in site.hosted {
         match wake_broker(site, node, *b, disk, post, page, sink) {
@@ -232,24 +205,18 @@ fn publish_next<D: Disk, P: Post, K: Sink>(
     page: &mut Page,
     sink: &mut K,
 ) -> Result<(), RunFault>
-    requires set { IsSet site.now.topo.now site.now.hosted.now (seen node.old) }
-    requires stands { D.tells → AllStand (D.lane_of disk.old) (seen node.old) }
+    requires serving { IsServing site.now.topo.now site.now.hosted.now D.tells (D.lane_of disk.old) (seen node.old) }
     requires steps { AreStepsOf site.now.topo.now steps.now }
     requires first { IsFirst (net_of site.now.topo.now) site.now.hosted.now (drop next steps.now) }
     ensures went { Went site.now.topo.now site.now.hosted.now P.tells (map calls (publish_calls
         (publishes_of (net_of site.now.topo.now) site.now.hosted.now (drop next steps.now))))
         (seen node.old) (seen node.new) (outside (K.taken sink.old) page.old.held (P.journal post.old))
         (outside (K.taken sink.new) page.new.held (P.journal post.new)) result }
-    ensures set { OnOk result (IsSet site.now.topo.now site.now.hosted.now (seen node.new)) }
-    ensures stands { D.tells → OnOk result (AllStand (D.lane_of disk.new) (seen node.new)) }
-    ensures others { D.tells
-        → OthersStay site.now.topo.now site.now.hosted.now (D.lane_of disk.old) (D.lane_of disk.new) }
-    ensures keeps { let late = site.now.topo.now.late in D.tells → (l : ℕ → Lane)
-        → AllKeep late l (D.lane_of disk.old) → AllKeep late l (D.lane_of disk.new) }
+    ensures serving { OnOk result
+        (IsServing site.now.topo.now site.now.hosted.now D.tells (D.lane_of disk.new) (seen node.new)) }
+    ensures keeps { TurnKeeps site.now.topo.now site.now.hosted.now D.tells D.lane_of D.faults D.stops disk.old disk.new
+        (K.faults sink.old) (K.faults sink.new) (P.faults post.old) (P.faults post.new) result }
     ensures cause { IfErr result IsTurnFault }
-    ensures disk { DiskMoves (D.faults disk.old) (D.stops disk.old) (D.faults disk.new) (D.stops disk.new) result }
-    ensures sink { SinkMoves (K.faults sink.old) (K.faults sink.new) result }
-    ensures post { P.faults post.new ≡ P.faults post.old }
 {
     if next >= steps.len() {
         return Ok(());
@@ -279,25 +246,19 @@ fn publish_written<D: Disk, P: Post, K: Sink>(
     page: &mut Page,
     sink: &mut K,
 ) -> Result<(), RunFault>
-    requires set { IsSet site.now.topo.now site.now.hosted.now (seen node.old) }
-    requires stands { D.tells → AllStand (D.lane_of disk.old) (seen node.old) }
+    requires serving { IsServing site.now.topo.now site.now.hosted.now D.tells (D.lane_of disk.old) (seen node.old) }
     requires steps { AreStepsOf site.now.topo.now steps.now }
     requires first { IsFirst (net_of site.now.topo.now) site.now.hosted.now (drop next steps.now) }
     ensures went { Went site.now.topo.now site.now.hosted.now P.tells (map calls (publish_calls
         (publishes_of (net_of site.now.topo.now) site.now.hosted.now (drop next steps.now))))
         (seen node.old) (seen node.new) (outside (K.taken sink.old) page.old.held (P.journal post.old))
         (outside (K.taken sink.new) page.new.held (P.journal post.new)) result }
-    ensures emptied { OnOk result (page.new.held ≡ []) }
-    ensures set { OnOk result (IsSet site.now.topo.now site.now.hosted.now (seen node.new)) }
-    ensures stands { D.tells → OnOk result (AllStand (D.lane_of disk.new) (seen node.new)) }
-    ensures others { D.tells
-        → OthersStay site.now.topo.now site.now.hosted.now (D.lane_of disk.old) (D.lane_of disk.new) }
-    ensures keeps { let late = site.now.topo.now.late in D.tells → (l : ℕ → Lane)
-        → AllKeep late l (D.lane_of disk.old) → AllKeep late l (D.lane_of disk.new) }
+    ensures emptied { LeavesEmpty page.new.held result }
+    ensures serving { OnOk result
+        (IsServing site.now.topo.now site.now.hosted.now D.tells (D.lane_of disk.new) (seen node.new)) }
+    ensures keeps { TurnKeeps site.now.topo.now site.now.hosted.now D.tells D.lane_of D.faults D.stops disk.old disk.new
+        (K.faults sink.old) (K.faults sink.new) (P.faults post.old) (P.faults post.new) result }
     ensures cause { IfErr result IsTurnFault }
-    ensures disk { DiskMoves (D.faults disk.old) (D.stops disk.old) (D.faults disk.new) (D.stops disk.new) result }
-    ensures sink { SinkMoves (K.faults sink.old) (K.faults sink.new) result }
-    ensures post { P.faults post.new ≡ P.faults post.old }
 {
     match publish_next(site, node, steps, next, disk, post, page, sink) {
         Ok(()) => page.flush(sink),
@@ -317,26 +278,19 @@ pub(crate) fn be_quiet<D: Disk, P: Post, K: Sink>(
     page: &mut Page,
     sink: &mut K,
 ) -> Result<(), RunFault>
-    requires hosted { AreHosted site.now.topo.now site.now.hosted.now }
-    requires set { IsSet site.now.topo.now site.now.hosted.now (seen node.old) }
-    requires stands { D.tells → AllStand (D.lane_of disk.old) (seen node.old) }
-    requires steps { AreStepsOf site.now.topo.now steps.now }
+    requires asked { IsAsked site.now.topo.now site.now.hosted.now steps.now }
+    requires serving { IsServing site.now.topo.now site.now.hosted.now D.tells (D.lane_of disk.old) (seen node.old) }
     requires first { IsFirst (net_of site.now.topo.now) site.now.hosted.now (drop next steps.now) }
     ensures went { Went site.now.topo.now site.now.hosted.now P.tells
         (map calls (quiet_calls (net_of site.now.topo.now) site.now.hosted.now
         (publishes_of (net_of site.now.topo.now) site.now.hosted.now (drop next steps.now))))
         (seen node.old) (seen node.new) (outside (K.taken sink.old) page.old.held (P.journal post.old))
         (outside (K.taken sink.new) page.new.held (P.journal post.new)) result }
-    ensures set { OnOk result (IsSet site.now.topo.now site.now.hosted.now (seen node.new)) }
-    ensures stands { D.tells → OnOk result (AllStand (D.lane_of disk.new) (seen node.new)) }
-    ensures others { D.tells
-        → OthersStay site.now.topo.now site.now.hosted.now (D.lane_of disk.old) (D.lane_of disk.new) }
-    ensures keeps { let late = site.now.topo.now.late in D.tells → (l : ℕ → Lane)
-        → AllKeep late l (D.lane_of disk.old) → AllKeep late l (D.lane_of disk.new) }
+    ensures serving { OnOk result
+        (IsServing site.now.topo.now site.now.hosted.now D.tells (D.lane_of disk.new) (seen node.new)) }
+    ensures keeps { TurnKeeps site.now.topo.now site.now.hosted.now D.tells D.lane_of D.faults D.stops disk.old disk.new
+        (K.faults sink.old) (K.faults sink.new) (P.faults post.old) (P.faults post.new) result }
     ensures cause { IfErr result IsTurnFault }
-    ensures disk { DiskMoves (D.faults disk.old) (D.stops disk.old) (D.faults disk.new) (D.stops disk.new) result }
-    ensures sink { SinkMoves (K.faults sink.old) (K.faults sink.new) result }
-    ensures post { P.faults post.new ≡ P.faults post.old }
 {
     match publish_written(site, node, steps, next, disk, post, page, sink) {
         Ok(()) => wake_hosted(site, node, disk, post, page, sink),

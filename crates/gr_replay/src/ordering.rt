@@ -13,11 +13,9 @@ use gr_order_lists::Orders;
 use gr_out::{Page, RunFault, Sink};
 use gr_report::put_all;
 use gr_topo::Topology;
-use std::alloc::Global;
 
 /// Puts a line for each event that is ready, subscriber by subscriber, and forgets these events.
 fn put_ready<K: Sink>(
-    alloc: Global,
     topology: &Topology,
     orders: &mut Orders,
     page: &mut Page,
@@ -37,13 +35,12 @@ fn put_ready<K: Sink>(
         Ok(ready) => ready,
         Err(_) => return Err(RunFault::Memory),
     };
-    put_all(alloc, topology, ready.as_slice(), page, sink)
+    put_all(topology, ready.as_slice(), page, sink)
 }
 
 /// Puts the lines that a step tells, has the lists hear them, and puts what is ready then behind them. Where no
 /// subscriber gets one list over all publishers, it takes no memory but the page's.
 pub(crate) fn put_step<K: Sink>(
-    alloc: Global,
     topology: &Topology,
     lines: &[Report],
     orders: &mut Orders,
@@ -61,7 +58,7 @@ pub(crate) fn put_step<K: Sink>(
     ensures write { IsErrOf result RunFault.Write → Rose (K.faults sink.old) (K.faults sink.new) }
     ensures same { result ≢ Err RunFault.Write → K.faults sink.new ≡ K.faults sink.old }
 {
-    match put_all(alloc, topology, lines, page, sink) {
+    match put_all(topology, lines, page, sink) {
         Ok(()) => {}
         Err(fault) => return Err(fault),
     }
@@ -69,5 +66,5 @@ pub(crate) fn put_step<K: Sink>(
         Ok(()) => {}
         Err(_) => return Err(RunFault::Memory),
     }
-    put_ready(alloc, topology, orders, page, sink)
+    put_ready(topology, orders, page, sink)
 }

@@ -168,14 +168,7 @@ fn first_page<K: Sink>(
         Ok(told) => told,
         Err(_) => return Err(RunFault::Memory),
     };
-    match put_step(
-        alloc,
-        world.topology(),
-        told.as_slice(),
-        orders,
-        &mut page,
-        sink,
-    ) {
+    match put_step(world.topology(), told.as_slice(), orders, &mut page, sink) {
         Ok(()) => Ok(page),
         Err(fault) => Err(fault),
     }
@@ -218,14 +211,7 @@ fn turn<K: Sink, D: SimDisk>(
 {
     match step(alloc, world, disk, line) {
         Ok(lines) => {
-            let done = put_step(
-                alloc,
-                world.topology(),
-                lines.as_slice(),
-                orders,
-                page,
-                sink,
-            );
+            let done = put_step(world.topology(), lines.as_slice(), orders, page, sink);
             world.reuse(lines);
             done
         }

@@ -11,12 +11,10 @@ use gr_model::Report;
 use gr_out::{Page, RunFault, Sink};
 use gr_report_text::put_behind;
 use gr_topo::Topology;
-use std::alloc::Global;
 
 /// Puts a line, and writes the page where it is full. `Memory` where memory is refused, and `Write` only where the sink
 /// failed; the sink took a front then.
 pub fn put_line<K: Sink>(
-    alloc: Global,
     topology: &Topology,
     line: &Report,
     page: &mut Page,
@@ -43,7 +41,6 @@ pub fn put_line<K: Sink>(
 
 /// Puts lines in order. After `Memory` the page may end within a line.
 pub fn put_all<K: Sink>(
-    alloc: Global,
     topology: &Topology,
     lines: &[Report],
     page: &mut Page,
@@ -59,7 +56,7 @@ pub fn put_all<K: Sink>(
     ensures same { result ≢ Err RunFault.Write → K.faults sink.new ≡ K.faults sink.old }
 {
     'lines: for line in lines {
-        match put_line(alloc, topology, line, page, sink) {
+        match put_line(topology, line, page, sink) {
             Ok(()) => {}
             Err(fault) => return Err(fault),
         }

@@ -61,14 +61,13 @@ fn fill(
 ) -> Result<(), Stop> {
     let topology = Topology::blank(alloc)?;
     for _ in 0..times {
-        put_frames(alloc, call, &topology, count, page, sink)?;
+        put_frames(call, &topology, count, page, sink)?;
     }
     Ok(())
 }
 
 /// Puts the line `frames COUNT`, by the call that a row names.
 fn put_frames(
-    alloc: Global,
     call: &str,
     topology: &Topology,
     count: u64,
@@ -77,8 +76,8 @@ fn put_frames(
 ) -> Result<(), Stop> {
     let line = Report::Frames { count };
     let put = match call {
-        "line" => put_line(alloc, topology, &line, page, sink),
-        _ => put_all(alloc, topology, &[line], page, sink),
+        "line" => put_line(topology, &line, page, sink),
+        _ => put_all(topology, &[line], page, sink),
     };
     put.map_err(|_| Stop::Memory)
 }

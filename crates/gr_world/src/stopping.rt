@@ -32,8 +32,8 @@ use gr_model::topologies::every_topology_is_a_tree;
 use gr_model::{Report, Reports};
 use gr_out::SimDisk;
 use gr_publog::Log;
-use gr_publog::record::MAX_TICK;
 use gr_sched::Stop;
+use gr_tick::MAX_TICK;
 use std::alloc::Global;
 
 /// The tick at which an event of this number would be logged behind a log, at a moment. None where none would be.

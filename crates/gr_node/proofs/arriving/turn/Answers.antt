@@ -61,5 +61,5 @@ returns-in-Memory-clause-turned g c =
     turned_refused t hosted g.P.Post.tells c.args.steps.now c.args.next.now c.args.next.now (seen c.args.node.now) (seen c.args.node.now) (g.K.Sink.taken c.args.sink.now) c.args.page.now.held (g.P.Post.journal c.args.post.now) (g.P.Post.journal c.next.new.self)
     (λ tells. c.in-Err.ensures.journal tells ∙ ap (λ (f : PostFault). g.P.Post.journal c.args.post.now ++ next_entries c.next.new.into (Err f)) c.in-Memory.is)
 
-pub returns-in-Failed-clause-stands_at_post : goal.returns-in-Failed-clause-stands_at_post
-returns-in-Failed-clause-stands_at_post g c = λ tells e. c.requires.stands tells
+pub returns-in-Failed-clause-serving_at_post : goal.returns-in-Failed-clause-serving_at_post
+returns-in-Failed-clause-serving_at_post g c = λ e. c.requires.serving

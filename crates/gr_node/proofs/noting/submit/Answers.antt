@@ -16,11 +16,8 @@ returns-in-Ok-clause-went g c =
     (all_made t hosted g.P.Post.tells (calls (publishes x) ∷ []) (seen c.args.node.now) n _ _ _ c.in-Ok.ensures.went)
     (went_answers t hosted g.P.Post.tells x n _ _ _ _ c.answer.result (c.answer.ensures.sent c.args.event.now) c.answer.ensures.unsent c.answer.ensures.cause)
 
-pub returns-in-Ok-clause-set : goal.returns-in-Ok-clause-set
-returns-in-Ok-clause-set g c = if_ok c.answer.result c.in-Ok.ensures.set
-
-pub returns-in-Ok-clause-stands : goal.returns-in-Ok-clause-stands
-returns-in-Ok-clause-stands g c = λ tells. if_ok c.answer.result (c.in-Ok.ensures.stands tells)
+pub returns-in-Ok-clause-serving : goal.returns-in-Ok-clause-serving
+returns-in-Ok-clause-serving g c = if_ok c.answer.result c.in-Ok.ensures.serving
 
 pub returns-in-Ok-clause-cause : goal.returns-in-Ok-clause-cause
 returns-in-Ok-clause-cause g c = answer_fault c.answer.result c.answer.ensures.cause

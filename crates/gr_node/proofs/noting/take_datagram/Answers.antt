@@ -2,6 +2,7 @@ use Rattle.std.proofs.Common.{sym, ◌∙◌, subst}
 use Rattle.gr_model.specs.NetOf.{net_of}
 use Rattle.gr_node.specs.Seen.{seen}
 use Rattle.gr_node.specs.Went.{outside, Went}
+use Rattle.gr_node.proofs.Keeping.{serving_of}
 use Rattle.gr_node.proofs.Notes.{read_as_note, read_as_frame}
 use Rattle.gr_node.proofs.Wending.{put_fault}
 use Rattle.gr_node.proofs.noting.take_datagram.Goals as goal
@@ -20,8 +21,8 @@ returns-clause-went g c =
     (outside (g.K.Sink.taken c.receive.new.sink) c.receive.new.page.held (g.P.Post.journal c.receive.new.post)) c.receive.result)
     (sym (read_as_frame (net_of t) c.args.b c.args.bytes.now (sym c.begins_note.ensures ∙ c.if-begins_note.false))) c.receive.ensures.went
 
-pub returns-clause-stands : goal.returns-clause-stands
-returns-clause-stands g c = λ tells. c.receive.ensures.stands (g.D.Disk.lane_of c.args.disk.now) (c.requires.stands tells)
+pub returns-clause-serving : goal.returns-clause-serving
+returns-clause-serving g c = serving_of _ _ _ _ _ c.receive.result c.receive.ensures.set (λ tells. c.receive.ensures.stands (g.D.Disk.lane_of c.args.disk.now) (c.requires.serving.stands tells))
 
 pub returns-clause-cause : goal.returns-clause-cause
-returns-clause-cause g c = put_fault c.receive.result c.receive.ensures.cause
+returns-clause-cause g c = put_fault c.receive.result c.receive.ensures.keeps.puts.cause

@@ -25,5 +25,5 @@ returns-clause-went g c =
     (ap (λ (l : Report). drops l ∷ []) c.bad_note.ensures ∙ ap (note_acts (net_of t) c.args.b) (sym c.in-Err-read.is ∙ c.in-Ok.ensures.read))
     (went_dropped t hosted g.P.Post.tells c.bad_note.result n taken taken' c.args.page.now.held c.put_line.new.page.held journal c.put_line.result c.put_line.ensures.ok c.put_line.ensures.front c.put_line.ensures.only)
 
-pub returns-clause-stands : goal.returns-clause-stands
-returns-clause-stands g c = λ tells. if_ok c.put_line.result (c.requires.stands tells)
+pub returns-clause-serving : goal.returns-clause-serving
+returns-clause-serving g c = if_ok c.put_line.result c.requires.serving

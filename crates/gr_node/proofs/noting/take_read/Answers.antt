@@ -17,7 +17,7 @@ submit-requires-clause-here g c =
     here_at (seen c.args.node.now) _ c.args.b (taken_by (net_of c.args.site.now.topo.now) c.args.b c.in-Submit.publisher (sym c.takes_notes.ensures ∙ c.if-takes_notes.true)).1 c.requires.here
 
 pub put_stray-requires : goal.put_stray-requires
-put_stray-requires g c = here_below c.args.site.now.topo.now (seen c.args.node.now) c.args.b c.requires.set.fits c.requires.here
+put_stray-requires g c = here_below c.args.site.now.topo.now (seen c.args.node.now) c.args.b c.requires.serving.set.fits c.requires.here
 
 pub returns-then-takes_notes-clause-went : goal.returns-then-takes_notes-clause-went
 returns-then-takes_notes-clause-went g c =
@@ -37,16 +37,13 @@ returns-else-takes_notes-clause-went g c =
     let taken' = g.K.Sink.taken c.put_stray.new.sink in
     subst (λ acts. Went t hosted g.P.Post.tells acts n n (outside taken c.args.page.now.held journal) (outside taken' c.put_stray.new.page.held journal) c.put_stray.result)
     (sym (not_taken (net_of t) c.args.b c.in-Submit.publisher _ _ c.args.note.now c.in-Submit.is (sym c.takes_notes.ensures ∙ c.if-takes_notes.false)))
-    (went_dropped t hosted g.P.Post.tells (line.DroppedStrayNote c.args.b c.in-Submit.publisher) n taken taken' c.args.page.now.held c.put_stray.new.page.held journal c.put_stray.result c.put_stray.ensures.told c.put_stray.ensures.front c.put_stray.ensures.cause)
+    (went_dropped t hosted g.P.Post.tells (line.DroppedStrayNote c.args.b c.in-Submit.publisher) n taken taken' c.args.page.now.held c.put_stray.new.page.held journal c.put_stray.result c.put_stray.ensures.told c.put_stray.ensures.front c.put_stray.ensures.puts.cause)
 
-pub returns-else-takes_notes-clause-set : goal.returns-else-takes_notes-clause-set
-returns-else-takes_notes-clause-set g c = if_ok c.put_stray.result c.requires.set
-
-pub returns-else-takes_notes-clause-stands : goal.returns-else-takes_notes-clause-stands
-returns-else-takes_notes-clause-stands g c = λ tells. if_ok c.put_stray.result (c.requires.stands tells)
+pub returns-else-takes_notes-clause-serving : goal.returns-else-takes_notes-clause-serving
+returns-else-takes_notes-clause-serving g c = if_ok c.put_stray.result c.requires.serving
 
 pub returns-else-takes_notes-clause-cause : goal.returns-else-takes_notes-clause-cause
-returns-else-takes_notes-clause-cause g c = put_fault c.put_stray.result c.put_stray.ensures.cause
+returns-else-takes_notes-clause-cause g c = put_fault c.put_stray.result c.put_stray.ensures.puts.cause
 
 pub returns-in-Next-clause-went : goal.returns-in-Next-clause-went
 returns-in-Next-clause-went g c =
@@ -58,16 +55,13 @@ returns-in-Next-clause-went g c =
     let taken' = g.K.Sink.taken c.put_stray-in-Next.new.sink in
     subst (λ acts. Went t hosted g.P.Post.tells acts n n (outside taken c.args.page.now.held journal) (outside taken' c.put_stray-in-Next.new.page.held journal) c.put_stray-in-Next.result)
     (sym (next_dropped (net_of t) c.args.b c.in-Next.publisher _ c.args.note.now c.in-Next.is))
-    (went_dropped t hosted g.P.Post.tells (line.DroppedStrayNote c.args.b c.in-Next.publisher) n taken taken' c.args.page.now.held c.put_stray-in-Next.new.page.held journal c.put_stray-in-Next.result c.put_stray-in-Next.ensures.told c.put_stray-in-Next.ensures.front c.put_stray-in-Next.ensures.cause)
+    (went_dropped t hosted g.P.Post.tells (line.DroppedStrayNote c.args.b c.in-Next.publisher) n taken taken' c.args.page.now.held c.put_stray-in-Next.new.page.held journal c.put_stray-in-Next.result c.put_stray-in-Next.ensures.told c.put_stray-in-Next.ensures.front c.put_stray-in-Next.ensures.puts.cause)
 
-pub returns-in-Next-clause-set : goal.returns-in-Next-clause-set
-returns-in-Next-clause-set g c = if_ok c.put_stray-in-Next.result c.requires.set
-
-pub returns-in-Next-clause-stands : goal.returns-in-Next-clause-stands
-returns-in-Next-clause-stands g c = λ tells. if_ok c.put_stray-in-Next.result (c.requires.stands tells)
+pub returns-in-Next-clause-serving : goal.returns-in-Next-clause-serving
+returns-in-Next-clause-serving g c = if_ok c.put_stray-in-Next.result c.requires.serving
 
 pub returns-in-Next-clause-cause : goal.returns-in-Next-clause-cause
-returns-in-Next-clause-cause g c = put_fault c.put_stray-in-Next.result c.put_stray-in-Next.ensures.cause
+returns-in-Next-clause-cause g c = put_fault c.put_stray-in-Next.result c.put_stray-in-Next.ensures.puts.cause
 
 pub returns-in-Spent-clause-went : goal.returns-in-Spent-clause-went
 returns-in-Spent-clause-went g c =
@@ -79,13 +73,10 @@ returns-in-Spent-clause-went g c =
     let taken' = g.K.Sink.taken c.put_stray-in-Spent.new.sink in
     subst (λ acts. Went t hosted g.P.Post.tells acts n n (outside taken c.args.page.now.held journal) (outside taken' c.put_stray-in-Spent.new.page.held journal) c.put_stray-in-Spent.result)
     (sym (spent_dropped (net_of t) c.args.b c.in-Spent.publisher c.args.note.now c.in-Spent.is))
-    (went_dropped t hosted g.P.Post.tells (line.DroppedStrayNote c.args.b c.in-Spent.publisher) n taken taken' c.args.page.now.held c.put_stray-in-Spent.new.page.held journal c.put_stray-in-Spent.result c.put_stray-in-Spent.ensures.told c.put_stray-in-Spent.ensures.front c.put_stray-in-Spent.ensures.cause)
+    (went_dropped t hosted g.P.Post.tells (line.DroppedStrayNote c.args.b c.in-Spent.publisher) n taken taken' c.args.page.now.held c.put_stray-in-Spent.new.page.held journal c.put_stray-in-Spent.result c.put_stray-in-Spent.ensures.told c.put_stray-in-Spent.ensures.front c.put_stray-in-Spent.ensures.puts.cause)
 
-pub returns-in-Spent-clause-set : goal.returns-in-Spent-clause-set
-returns-in-Spent-clause-set g c = if_ok c.put_stray-in-Spent.result c.requires.set
-
-pub returns-in-Spent-clause-stands : goal.returns-in-Spent-clause-stands
-returns-in-Spent-clause-stands g c = λ tells. if_ok c.put_stray-in-Spent.result (c.requires.stands tells)
+pub returns-in-Spent-clause-serving : goal.returns-in-Spent-clause-serving
+returns-in-Spent-clause-serving g c = if_ok c.put_stray-in-Spent.result c.requires.serving
 
 pub returns-in-Spent-clause-cause : goal.returns-in-Spent-clause-cause
-returns-in-Spent-clause-cause g c = put_fault c.put_stray-in-Spent.result c.put_stray-in-Spent.ensures.cause
+returns-in-Spent-clause-cause g c = put_fault c.put_stray-in-Spent.result c.put_stray-in-Spent.ensures.puts.cause

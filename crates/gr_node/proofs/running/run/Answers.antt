@@ -1,9 +1,8 @@
-use Rattle.std.proofs.Common.{sym, subst}
+use Rattle.std.proofs.Common.{Ok, subst}
 use Rattle.gr_node.specs.Seen.{seen}
 use Rattle.gr_node.specs.Done.{settled}
-use Rattle.gr_node.specs.Of.{IsSet, AllStand}
 use Rattle.gr_node.specs.Lasting.{StoodEachTime}
-use Rattle.gr_node.proofs.Keeping.{set_settled}
+use Rattle.gr_node.proofs.Keeping.{serving_then}
 use Rattle.gr_node.proofs.Lasting.{stood_none}
 use Rattle.gr_node.proofs.Wending.{made_settles}
 use Rattle.gr_node.proofs.Ended.{put_unknown}
@@ -11,17 +10,19 @@ use Rattle.gr_node.proofs.SoFar.{ran_settled, ran_unsettled}
 use Rattle.gr_node.proofs.running.run.Goals as goal
 
 pub settle-requires : goal.settle-requires
-settle-requires g c = c.requires.set.orders
+settle-requires g c = c.requires.can.serving.set.orders
 
-pub run_turns-requires-clause-set : goal.run_turns-requires-clause-set
-run_turns-requires-clause-set g c =
+pub run_turns-requires : goal.run_turns-requires
+run_turns-requires g c =
     let t = c.args.site.now.topo.now in
     let hosted = c.args.site.now.hosted.now in
-    subst (λ m. IsSet t hosted m) (sym c.in-Ok.ensures.node) (set_settled t hosted (seen c.args.node.now) c.requires.set)
-
-pub run_turns-requires-clause-stands : goal.run_turns-requires-clause-stands
-run_turns-requires-clause-stands g c = λ tells.
-    subst (λ m. AllStand (g.D.Disk.lane_of c.args.disk.now) m) (sym c.in-Ok.ensures.node) (c.requires.stands tells)
+    record {
+      can = record {
+        asked = c.requires.can.asked;
+        serving = serving_then {T = Unit {0}} t hosted g.D.Disk.tells (g.D.Disk.lane_of c.args.disk.now) (seen c.args.node.now) (seen c.settle.new.node) (Ok tt) c.in-Ok.ensures.node c.requires.can.serving;
+        written = c.in-Ok.ensures.emptied;
+      };
+    }
 
 pub returns-in-Ok-clause-ran : goal.returns-in-Ok-clause-ran
 returns-in-Ok-clause-ran g c =
@@ -44,7 +45,7 @@ returns-in-Err-clause-ran g c =
     let lanes = g.D.Disk.lane_of c.args.disk.now in
     ran_unsettled t hosted g.P.Post.tells c.args.steps.now c.args.turns n (seen c.settle.new.node) (g.K.Sink.taken c.args.sink.now) (g.K.Sink.taken c.settle.new.sink)
     c.args.page.now.held c.settle.new.page.held (g.P.Post.journal c.args.post.now) (λ came. g.D.Disk.tells → StoodEachTime t hosted c.args.steps.now (settled n) came lanes)
-    c.in-Err.fault c.in-Err.ensures.cause c.in-Err.ensures.front (λ tells. stood_none t hosted c.args.steps.now (settled n) lanes)
+    c.in-Err.fault c.in-Err.ensures.puts.cause c.in-Err.ensures.front (λ tells. stood_none t hosted c.args.steps.now (settled n) lanes)
 
 pub returns-in-Err-clause-empty : goal.returns-in-Err-clause-empty
-returns-in-Err-clause-empty g c = λ exact other. absurd (put_unknown (Unit {0}) c.in-Err.fault c.in-Err.ensures.cause exact)
+returns-in-Err-clause-empty g c = λ exact other. absurd (put_unknown (Unit {0}) c.in-Err.fault c.in-Err.ensures.puts.cause exact)

@@ -18,9 +18,8 @@ turns-init g c = record {
       c.next_publish-next.ensures.same (λ tells. stood_none c.args.site.now.topo.now c.args.site.now.hosted.now c.args.steps.now (seen c.args.node.now) _);
   within = c.next_publish-next.ensures.within.1;
   first = c.next_publish-next.ensures.first;
-  empty = c.requires.empty;
-  set = c.requires.set;
-  stands = c.requires.stands;
+  empty = c.requires.can.written;
+  serving = c.requires.can.serving;
   others = λ tells lane here. refl;
   faults = refl;
   stops = refl;
@@ -32,20 +31,20 @@ turns-init g c = record {
 pub turns-preserved : goal.turns-preserved
 turns-preserved g c =
     let i = c.turns.invariant in
+    let k = c.in-Ok-turn.ensures.keeps in
     record {
       goes = more_came c.args.site.now.topo.now c.args.site.now.hosted.now g.P.Post.tells c.args.steps.now _ _ c.turns.counter _ (seen c.turns.node) _ _ _ _ _ _ c.in-Ok-turn.goes_on c.if-not-goes_on.false i.goes c.in-Ok-turn.ensures.turned
           (turn_stood g.D.Disk.tells c.args.site.now.topo.now c.args.site.now.hosted.now c.args.steps.now (seen c.args.node.now) (seen c.turns.node) c.turns.invariant.goes.came (g.D.Disk.lane_of c.turns.disk) (g.D.Disk.lane_of c.turn.new.disk)
-          c.turns.invariant.goes.stood c.turns.invariant.goes.goes.node c.turns.invariant.set c.turns.invariant.stands c.turn.ensures.keeps);
+          c.turns.invariant.goes.stood c.turns.invariant.goes.goes.node c.turns.invariant.serving.set c.turns.invariant.serving.stands c.turn.ensures.lanes_keep);
       within = c.in-Ok-turn.ensures.within;
       first = c.in-Ok-turn.ensures.first;
       empty = c.in-Ok-turn.ensures.emptied c.if-not-goes_on.false;
-      set = c.in-Ok-turn.ensures.set;
-      stands = c.in-Ok-turn.ensures.stands;
-      others = λ tells lane here. c.turn.ensures.others tells lane here ∙ i.others tells lane here;
-      faults = c.in-Ok-turn.ensures.disk.same.0 ∙ i.faults;
-      stops = c.in-Ok-turn.ensures.disk.same.1 ∙ i.stops;
-      sink = c.in-Ok-turn.ensures.sink.same (λ e. cc) ∙ i.sink;
-      post = c.in-Ok-turn.ensures.moves.same ∙ i.post;
+      serving = c.in-Ok-turn.ensures.serving;
+      others = λ tells lane here. k.others tells lane here ∙ i.others tells lane here;
+      faults = k.disk_moves.same.0 ∙ i.faults;
+      stops = k.disk_moves.same.1 ∙ i.stops;
+      sink = k.sink_moves.same (λ e. cc) ∙ i.sink;
+      post = k.post_moves.same ∙ i.post;
       piece = i.piece;
     }
 
@@ -56,7 +55,7 @@ returns-then-not-goes_on-clause-ran g c =
     tt c.in-Ok-turn.goes_on c.if-not-goes_on.true c.turns-test.true
     c.turns.invariant.goes c.in-Ok-turn.ensures.turned
     (turn_stood g.D.Disk.tells c.args.site.now.topo.now c.args.site.now.hosted.now c.args.steps.now (seen c.args.node.now) (seen c.turns.node) c.turns.invariant.goes.came (g.D.Disk.lane_of c.turns.disk) (g.D.Disk.lane_of c.turn.new.disk)
-    c.turns.invariant.goes.stood c.turns.invariant.goes.goes.node c.turns.invariant.set c.turns.invariant.stands c.turn.ensures.keeps)
+    c.turns.invariant.goes.stood c.turns.invariant.goes.goes.node c.turns.invariant.serving.set c.turns.invariant.serving.stands c.turn.ensures.lanes_keep)
 
 pub returns-in-Err-turn-clause-ran : goal.returns-in-Err-turn-clause-ran
 returns-in-Err-turn-clause-ran g c =
@@ -64,18 +63,18 @@ returns-in-Err-turn-clause-ran g c =
     (λ came. g.D.Disk.tells → StoodEachTime c.args.site.now.topo.now c.args.site.now.hosted.now c.args.steps.now (seen c.args.node.now) came (g.D.Disk.lane_of c.turn.new.disk))
     c.in-Err-turn.fault c.turns-test.true c.turns.invariant.goes c.in-Err-turn.ensures.turned
     (turn_stood g.D.Disk.tells c.args.site.now.topo.now c.args.site.now.hosted.now c.args.steps.now (seen c.args.node.now) (seen c.turns.node) c.turns.invariant.goes.came (g.D.Disk.lane_of c.turns.disk) (g.D.Disk.lane_of c.turn.new.disk)
-    c.turns.invariant.goes.stood c.turns.invariant.goes.goes.node c.turns.invariant.set c.turns.invariant.stands c.turn.ensures.keeps)
+    c.turns.invariant.goes.stood c.turns.invariant.goes.goes.node c.turns.invariant.serving.set c.turns.invariant.serving.stands c.turn.ensures.lanes_keep)
 
 pub returns-in-Err-turn-clause-empty : goal.returns-in-Err-turn-clause-empty
 returns-in-Err-turn-clause-empty g c = λ exact other.
-    empty_then c.in-Err-turn.fault c.turns.page.held _ c.in-Err-turn.ensures.undamaged c.in-Err-turn.ensures.at_post c.turns.invariant.empty exact other
+    empty_then c.in-Err-turn.fault c.turns.page.held _ c.in-Err-turn.ensures.keeps.never_damaged c.in-Err-turn.ensures.at_post c.turns.invariant.empty exact other
 
 pub returns-clause-ran : goal.returns-clause-ran
 returns-clause-ran g c =
     ran_all c.args.site.now.topo.now c.args.site.now.hosted.now g.P.Post.tells c.args.steps.now _ c.turns.counter c.args.turns _ _ _ _
     (λ came. g.D.Disk.tells → StoodEachTime c.args.site.now.topo.now c.args.site.now.hosted.now c.args.steps.now (seen c.args.node.now) came (g.D.Disk.lane_of c.turns.disk)) _ (omega arith) c.turns.invariant.goes
 
-pub returns-in-Err-turn-clause-at_post_stands : goal.returns-in-Err-turn-clause-at_post_stands
-returns-in-Err-turn-clause-at_post_stands g c = λ tells e.
+pub returns-in-Err-turn-clause-serving_at_post : goal.returns-in-Err-turn-clause-serving_at_post
+returns-in-Err-turn-clause-serving_at_post g c = λ e.
     let same : c.in-Err-turn.fault ≡ run.Post = cc in
-    c.in-Err-turn.ensures.stands_at_post tells (ap (λ f. Err f) same)
+    c.in-Err-turn.ensures.serving_at_post (ap (λ f. Err f) same)

@@ -1,7 +1,8 @@
 use Rattle.std.proofs.Common.{◌≡◌, ◌≤◌, [], length, drop, vec_len}
 use Rattle.gr_model.specs.NetOf.{net_of}
 use Rattle.gr_node.specs.Seen.{seen}
-use Rattle.gr_node.specs.Of.{IsSet, AllStand, OthersStay}
+use Rattle.gr_node.specs.Of.{OthersStay}
+use Rattle.gr_node.specs.Keeps.{IsServing}
 use Rattle.gr_node.specs.Lasting.{StoodEachTime}
 use Rattle.gr_node.specs.Went.{outside}
 use Rattle.gr_node.specs.Turns.{IsFirst}
@@ -18,8 +19,7 @@ invariant-turns g l = record {
   within : l.next ≤ length l.steps;
   first : IsFirst (net_of l.site.topo.now) l.site.hosted.now (drop l.next l.steps);
   empty : l.page.held ≡ [];
-  set : IsSet l.site.topo.now l.site.hosted.now (seen l.node);
-  stands : g.D.Disk.tells → AllStand (g.D.Disk.lane_of l.disk) (seen l.node);
+  serving : IsServing l.site.topo.now l.site.hosted.now g.D.Disk.tells (g.D.Disk.lane_of l.disk) (seen l.node);
   others : g.D.Disk.tells → OthersStay l.site.topo.now l.site.hosted.now (g.D.Disk.lane_of l.fn.disk) (g.D.Disk.lane_of l.disk);
   faults : g.D.Disk.faults l.disk ≡ g.D.Disk.faults l.fn.disk;
   stops : g.D.Disk.stops l.disk ≡ g.D.Disk.stops l.fn.disk;

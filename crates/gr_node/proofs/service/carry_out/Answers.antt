@@ -12,10 +12,10 @@ returns-clause-ran g c =
     let before = c.run_and_show-done in
     subst (λ held. RanWith t hosted g.P.Post.tells g.D.Disk.tells c.args.steps.now c.args.turns (seen c.args.node.now) (seen before.new.node)
     (outside (g.K.Sink.taken c.args.sink.now) held (g.P.Post.journal c.args.post.now)) (outside (g.K.Sink.taken c.finish.new.sink) [] (g.P.Post.journal before.new.post)) (g.D.Disk.lane_of before.new.disk) c.finish.result)
-    c.requires.empty
+    c.requires.can.written
     (ran_wrote t hosted g.P.Post.tells g.D.Disk.tells (g.D.Disk.lane_of before.new.disk) c.args.steps.now c.args.turns (seen c.args.node.now) (seen before.new.node) (outside (g.K.Sink.taken c.args.sink.now) c.args.page.now.held (g.P.Post.journal c.args.post.now))
     (g.K.Sink.taken before.new.sink) (g.K.Sink.taken c.finish.new.sink) before.new.page.held c.finish.new.page.held (g.P.Post.journal before.new.post) before.result c.finish.result
     before.ensures.at_post before.ensures.ran c.finish.ensures.wrote)
 
-pub returns-clause-stands : goal.returns-clause-stands
-returns-clause-stands g c = λ tells end. c.run_and_show-done.ensures.stands tells (end_before _ _ _ _ _ _ _ c.finish.ensures.wrote end)
+pub returns-clause-serving : goal.returns-clause-serving
+returns-clause-serving g c = λ end. c.run_and_show-done.ensures.serving (end_before _ _ _ _ _ _ _ c.finish.ensures.wrote end)

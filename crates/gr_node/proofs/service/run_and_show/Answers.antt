@@ -20,12 +20,12 @@ returns-in-Ok-clause-ran g c =
           (outside (g.K.Sink.taken c.args.sink.now) c.args.page.now.held (g.P.Post.journal c.args.post.now))
           (outside (g.K.Sink.taken c.run.new.sink) c.run.new.page.held (g.P.Post.journal c.run.new.post))
           _ went.1.1.1.1.1.0 (g.K.Sink.taken c.put_shown.new.sink) c.put_shown.new.page.held c.put_shown.result
-          c.put_shown.ensures.told c.put_shown.ensures.front c.put_shown.ensures.cause;
+          c.put_shown.ensures.told c.put_shown.ensures.front c.put_shown.ensures.puts.cause;
       stood = went.1.1.1.1.1.1;
     }
 
-pub returns-in-Ok-clause-stands : goal.returns-in-Ok-clause-stands
-returns-in-Ok-clause-stands g c = λ tells end. c.in-Ok.ensures.stands tells
+pub returns-in-Ok-clause-serving : goal.returns-in-Ok-clause-serving
+returns-in-Ok-clause-serving g c = λ end. c.in-Ok.ensures.serving
 
 pub returns-in-Err-clause-ran : goal.returns-in-Err-clause-ran
 returns-in-Err-clause-ran g c =
@@ -41,9 +41,9 @@ returns-in-Err-clause-ran g c =
       ran = ran_failed t hosted g.P.Post.tells (run_acts (net_of t) hosted c.args.steps.now went.0 went.1.0) (seen c.args.node.now) (seen c.run.new.node)
           (outside (g.K.Sink.taken c.args.sink.now) c.args.page.now.held (g.P.Post.journal c.args.post.now))
           (outside (g.K.Sink.taken c.run.new.sink) c.run.new.page.held (g.P.Post.journal c.run.new.post))
-          c.in-Err.fault c.in-Err.ensures.never_damaged went.1.1.1.1.1.0;
+          c.in-Err.fault c.in-Err.ensures.keeps.never_damaged went.1.1.1.1.1.0;
       stood = went.1.1.1.1.1.1;
     }
 
-pub returns-in-Err-clause-stands : goal.returns-in-Err-clause-stands
-returns-in-Err-clause-stands g c = λ tells end. c.in-Err.ensures.at_post_stands tells (end_is_post _ c.in-Err.fault end)
+pub returns-in-Err-clause-serving : goal.returns-in-Err-clause-serving
+returns-in-Err-clause-serving g c = λ end. c.in-Err.ensures.serving_at_post (end_is_post _ c.in-Err.fault end)

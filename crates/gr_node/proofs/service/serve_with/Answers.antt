@@ -16,7 +16,7 @@ returns-in-Ok-clause-serves g c = λ journal posted.
     let taken = g.K.Sink.taken c.args.sink.now in
     let opening = g.K.Sink.taken c.open_hosted.new.sink in
     let all = all_opened _ t hosted n _ _ _ before.started before.offers before.now before.count before.started.whole in
-    serves_ran _ t hosted c.requires.hosted n all c.args.steps.now c.requires.steps c.args.turns g.P.Post.tells g.D.Disk.tells
+    serves_ran _ t hosted c.requires.asked.brokers n all c.args.steps.now c.requires.asked.lines c.args.turns g.P.Post.tells g.D.Disk.tells
     journal (g.P.Post.journal c.args.post.now) (g.P.Post.journal c.carry_out.new.post) taken opening (g.K.Sink.taken c.carry_out.new.sink)
     (g.D.Disk.lane_of c.args.disk.now) (g.D.Disk.lane_of c.carry_out.new.disk) c.carry_out.result (seen c.carry_out.new.node)
     c.frames_pass_the_log.ensures.log c.frames_pass_the_log.ensures.rest
@@ -24,7 +24,7 @@ returns-in-Ok-clause-serves g c = λ journal posted.
     (told_opening _ t hosted n taken opening c.args.page.now.held _ before.started c.requires.empty tt
     ∙ ap (λ bs. with_more taken (text_of t (flat_map (start_lines t n) bs))) (all_of hosted before.started.made before.started.whole))
     posted c.carry_out.ensures.ran
-    before.found c.carry_out.ensures.set c.carry_out.ensures.stands (λ h lane here. c.carry_out.ensures.others h lane here ∙ before.others h lane here) c.carry_out.ensures.never_damaged
+    before.found (λ end. (c.carry_out.ensures.serving end).set) (λ h end. (c.carry_out.ensures.serving end).stands h) (λ h lane here. c.carry_out.ensures.keeps.others h lane here ∙ before.others h lane here) c.carry_out.ensures.keeps.never_damaged
 
 pub returns-in-Err-clause-serves : goal.returns-in-Err-clause-serves
 returns-in-Err-clause-serves g c = λ journal posted.
@@ -35,7 +35,7 @@ returns-in-Err-clause-serves g c = λ journal posted.
     let s = before.started in
     let taken = g.K.Sink.taken c.args.sink.now in
     let opening = g.K.Sink.taken c.open_hosted.new.sink in
-    serves_failed _ t hosted c.requires.hosted (take s.made hosted) (drop s.made hosted) n (some_opened _ t hosted n _ _ _ s before.offers before.now before.count) c.args.steps.now c.args.turns g.P.Post.tells g.D.Disk.tells
+    serves_failed _ t hosted c.requires.asked.brokers (take s.made hosted) (drop s.made hosted) n (some_opened _ t hosted n _ _ _ s before.offers before.now before.count) c.args.steps.now c.args.turns g.P.Post.tells g.D.Disk.tells
     journal (g.P.Post.journal c.args.post.now) taken opening (g.D.Disk.lane_of c.args.disk.now) (g.D.Disk.lane_of c.open_hosted.new.disk) c.in-Err.fault
     before.never_post (next_of t hosted n _ _ c.in-Err.fault s)
     (told_opening _ t hosted n taken opening c.args.page.now.held _ s c.requires.empty)

@@ -40,8 +40,8 @@ frames-preserved g c =
           told_more c.args.topo.now _ _ _ c.args.page.now.held c.frames.page.held c.offer_frame.new.page.held (suc c.args.offers.now) c.in-Some.number c.frames.i c.args.sent.now.frames fs c.frame.result.now a c.frame.ensures number
           (i.told fs a) c.in-Ok.ensures.told;
       sent = λ t fs a. offered_more _ _ _ c.frames.i c.args.sent.now.frames fs c.frame.result.now a c.frame.ensures (i.sent t fs a) (c.in-Ok.ensures.sent t);
-      sink = c.in-Ok.ensures.sink.same (λ e. cc) ∙ i.sink;
-      post = c.offer_frame.ensures.post ∙ i.post;
+      sink = c.in-Ok.ensures.keeps.puts.sink_moves.same (λ e. cc) ∙ i.sink;
+      post = c.offer_frame.ensures.keeps.post_same ∙ i.post;
     }
 
 pub returns-clause-told : goal.returns-clause-told

@@ -2,7 +2,7 @@ use Rattle.std.proofs.Common.{refl}
 use Rattle.gr_node.specs.Seen.{seen}
 use Rattle.gr_node.specs.Plan.{publishes}
 use Rattle.gr_node.specs.Went.{outside}
-use Rattle.gr_node.proofs.Keeping.{set_on}
+use Rattle.gr_node.proofs.Keeping.{if_ok, set_on, serving_of}
 use Rattle.gr_node.proofs.Wending.{went_call, went_refused}
 use Rattle.gr_node.proofs.turning.publish.Goals as goal
 
@@ -17,13 +17,15 @@ returns-in-Ok-clause-went g c = went_call c.args.site.now.topo.now c.args.site.n
       sent_front = c.tell.ensures.sent_front;
       count = c.tell.ensures.offers;
       heard = c.tell.ensures.heard;
-      cause = c.tell.ensures.cause;
+      cause = c.tell.ensures.keeps.puts.cause;
     })
 
-pub returns-in-Ok-clause-set : goal.returns-in-Ok-clause-set
-returns-in-Ok-clause-set g c =
-    set_on c.args.site.now.topo.now c.args.site.now.hosted.now (seen c.args.node.now) (seen c.publish_at.new.self) (publishes (c.args.p, (c.args.number, c.args.event.now))) c.in-Ok.told c.tell.new.offers c.tell.new.orders c.tell.result
-    c.in-Ok.ensures.makes c.in-Ok.ensures.fits c.tell.ensures.heard c.requires.set
+pub returns-in-Ok-clause-serving : goal.returns-in-Ok-clause-serving
+returns-in-Ok-clause-serving g c =
+    serving_of _ _ _ _ _ c.tell.result
+    (set_on c.args.site.now.topo.now c.args.site.now.hosted.now (seen c.args.node.now) (seen c.publish_at.new.self) (publishes (c.args.p, (c.args.number, c.args.event.now))) c.in-Ok.told c.tell.new.offers c.tell.new.orders c.tell.result
+    c.in-Ok.ensures.makes c.in-Ok.ensures.fits c.tell.ensures.heard c.requires.serving.set)
+    (λ tells. if_ok c.tell.result (c.in-Ok.ensures.stands tells))
 
 pub returns-in-Err-clause-went : goal.returns-in-Err-clause-went
 returns-in-Err-clause-went g c = went_refused c.args.site.now.topo.now c.args.site.now.hosted.now g.P.Post.tells _ _ (seen c.args.node.now) _

@@ -19,7 +19,7 @@ returns-in-Ok-clause-went g c = went_call c.args.site.now.topo.now c.args.site.n
       sent_front = c.tell.ensures.sent_front;
       count = c.tell.ensures.offers;
       heard = c.tell.ensures.heard;
-      cause = c.tell.ensures.cause;
+      cause = c.tell.ensures.keeps.puts.cause;
     })
 
 pub returns-in-Ok-clause-set : goal.returns-in-Ok-clause-set

@@ -8,8 +8,7 @@ use Rattle.gr_node.proofs.turning.wake_broker.Goals as goal
 pub publishers-init : goal.publishers-init
 publishers-init g c = record {
   goes = within_none c.args.site.now.topo.now c.args.site.now.hosted.now g.P.Post.tells _ _ (seen c.args.node.now) _ (wakes_all c.args.b (length c.args.site.now.topo.now.publishers));
-  set = c.requires.set;
-  stands = c.requires.stands;
+  serving = c.requires.serving;
   others = λ tells lane here. refl;
   keeps = λ tells lanes kept. kept;
   faults = refl;
@@ -27,17 +26,17 @@ returns-in-Err-clause-went g c =
 pub publishers-preserved : goal.publishers-preserved
 publishers-preserved g c =
     let i = c.publishers.invariant in
+    let k = c.in-Ok.ensures.keeps in
     let more = wakes_more c.args.b c.publishers.p (length c.args.site.now.topo.now.publishers) (omega arith) in
     record {
       goes = within_more c.args.site.now.topo.now c.args.site.now.hosted.now g.P.Post.tells _ _ (calls (wakes c.args.b c.publishers.p) ∷ []) _ _ _ _ _ _ _ _ more i.goes c.in-Ok.ensures.went;
-      set = c.in-Ok.ensures.set;
-      stands = c.in-Ok.ensures.stands;
-      others = λ tells lane here. c.in-Ok.ensures.others tells lane here ∙ i.others tells lane here;
-      keeps = λ tells lanes kept. c.in-Ok.ensures.keeps tells lanes (i.keeps tells lanes kept);
-      faults = c.in-Ok.ensures.disk.same.0 ∙ i.faults;
-      stops = c.in-Ok.ensures.disk.same.1 ∙ i.stops;
-      sink = c.in-Ok.ensures.sink.same (λ e. cc) ∙ i.sink;
-      post = c.in-Ok.ensures.post ∙ i.post;
+      serving = c.in-Ok.ensures.serving;
+      others = λ tells lane here. k.others tells lane here ∙ i.others tells lane here;
+      keeps = λ tells lanes kept. k.lanes_keep tells lanes (i.keeps tells lanes kept);
+      faults = k.disk_moves.same.0 ∙ i.faults;
+      stops = k.disk_moves.same.1 ∙ i.stops;
+      sink = k.sink_moves.same (λ e. cc) ∙ i.sink;
+      post = k.post_same ∙ i.post;
     }
 
 pub returns-clause-went : goal.returns-clause-went

@@ -1,7 +1,8 @@
 use Rattle.std.proofs.Common.{◌≡◌, ℕ, length, map}
 use Rattle.gr_out.specs.Lane.{Lane}
 use Rattle.gr_node.specs.Seen.{seen}
-use Rattle.gr_node.specs.Of.{IsSet, AllStand, OthersStay}
+use Rattle.gr_node.specs.Of.{OthersStay}
+use Rattle.gr_node.specs.Keeps.{IsServing}
 use Rattle.gr_node.specs.Lasting.{AllKeep}
 use Rattle.gr_node.specs.Plan.{calls, wake_calls}
 use Rattle.gr_node.specs.Went.{outside}
@@ -15,8 +16,7 @@ invariant-publishers g l = record {
       (seen l.initial.node) (seen l.node)
       (outside (g.K.Sink.taken l.initial.sink) l.initial.page.held (g.P.Post.journal l.initial.post))
       (outside (g.K.Sink.taken l.sink) l.page.held (g.P.Post.journal l.post));
-  set : IsSet l.site.topo.now l.site.hosted.now (seen l.node);
-  stands : g.D.Disk.tells → AllStand (g.D.Disk.lane_of l.disk) (seen l.node);
+  serving : IsServing l.site.topo.now l.site.hosted.now g.D.Disk.tells (g.D.Disk.lane_of l.disk) (seen l.node);
   others : g.D.Disk.tells → OthersStay l.site.topo.now l.site.hosted.now (g.D.Disk.lane_of l.initial.disk) (g.D.Disk.lane_of l.disk);
   keeps : g.D.Disk.tells → (lanes : ℕ → Lane) → AllKeep l.site.topo.now.late lanes (g.D.Disk.lane_of l.initial.disk) → AllKeep l.site.topo.now.late lanes (g.D.Disk.lane_of l.disk);
   faults : g.D.Disk.faults l.disk ≡ g.D.Disk.faults l.initial.disk;
