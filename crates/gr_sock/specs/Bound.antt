@@ -55,8 +55,8 @@ longest = 50
 abbrev pub first_wait : ℕ
 first_wait = 12
 
--- how long after a quiet moment a wait ends that begins later than it; and from when on the next one is near, and how
--- long a wait is then
+-- how long after a quiet moment a wait ends at the latest that begins later than it; and from when on the next one is
+-- near, and how long a wait is at most then
 abbrev pub early : ℕ
 early = 49
 
@@ -93,6 +93,23 @@ before_after offered before (Datagram at len moment) = before
 before_after offered before (Quiet moment) = offered
 before_after offered before Closed = before
 
+-- how much was heard lately, after a call: the datagrams, by a count that is halved at each quiet moment
+abbrev pub heard_after : ℕ → Arrival → ℕ
+heard_after heard (Datagram at len moment) = counted heard
+heard_after heard (Quiet moment) = heard / 2
+heard_after heard Closed = heard
+
+-- so much has to be heard lately for other offers to be news where the caller has no more to do
+abbrev pub enough_heard : ℕ
+enough_heard = 4
+
+-- there is news, where the caller has said whether it has more to do or nothing, the offers are others or the same, and
+-- so much was heard lately
+abbrev pub is_news : Option Bool → Bool → ℕ → Bool
+is_news None differ heard = differ
+is_news (Some true) differ heard = true
+is_news (Some false) differ heard = differ && nat_le enough_heard heard
+
 -- before how many quiet moments in a row there was news, after one more and after a call
 abbrev pub run_with : ℕ → Bool → ℕ
 run_with run news = if news then counted run else 0
@@ -102,7 +119,8 @@ run_after run news (Datagram at len moment) = run
 run_after run news (Quiet moment) = run_with run news
 run_after run news Closed = run
 
--- so many in a row make a wait shorter: few, but enough where it is the longest
+-- before so many quiet moments in a row there has to be news for the wait to get shorter: few, but enough where it is
+-- the longest
 abbrev pub few : ℕ
 few = 2
 

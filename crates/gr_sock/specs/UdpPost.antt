@@ -1,5 +1,6 @@
 -- What is inside of a post of sockets.
 use Rattle.std.specs.Prelude.{ℕ, List, Option, Bool, not, ◌==◌}
+use Rattle.gr_sock.specs.Bound.{is_news}
 use Rattle.gr_sock.specs.declared.bound.Bound.{Bound}
 use Rattle.gr_sock.specs.declared.network.Network.{Ghosts}
 use Rattle.gr_sock.specs.declared.trouble.PostError.{PostError}
@@ -28,9 +29,17 @@ offered_of p = p.offered
 abbrev pub before_of : {N C : Type 0} {g : Ghosts N} → UdpPost N C g → ℕ
 before_of p = p.before
 
--- there is news: other offers than those before
+-- how much was heard lately
+abbrev pub heard_of : {N C : Type 0} {g : Ghosts N} → UdpPost N C g → ℕ
+heard_of p = p.heard
+
+-- whether the caller has more to do, where it has said so
+abbrev pub more_of : {N C : Type 0} {g : Ghosts N} → UdpPost N C g → Option Bool
+more_of p = p.more
+
+-- there is news
 abbrev pub has_news : {N C : Type 0} {g : Ghosts N} → UdpPost N C g → Bool
-has_news p = not (p.offered == p.before)
+has_news p = is_news p.more (not (p.offered == p.before)) p.heard
 
 -- before how many quiet moments in a row there was news
 abbrev pub run_of : {N C : Type 0} {g : Ghosts N} → UdpPost N C g → ℕ

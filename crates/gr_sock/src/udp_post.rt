@@ -10,6 +10,7 @@ ghost use Rattle.gr_sock.specs.Address.{address_of};
 ghost use Rattle.gr_sock.specs.Bound.{is_bound, address_in, socket_in, IsBinding, BindDid, HasSocket, Looked, NextDid};
 ghost use Rattle.gr_sock.specs.Bound.{CameHosted, OfferDid, datagram_in, pause_after, longest, is_due, wait_from};
 ghost use Rattle.gr_sock.specs.Bound.{IsInTime, quiet_after, offered_after, before_after, run_after, first_wait};
+ghost use Rattle.gr_sock.specs.Bound.{is_news, heard_after};
 ghost use Rattle.gr_sock.specs.Digest.{nothing, with_offer};
 ghost use Rattle.gr_sock.specs.Network.{with_sent};
 
@@ -20,6 +21,7 @@ use crate::digest::{NOTHING, with_offer};
 use crate::network::Network;
 use crate::trouble::PostError;
 use gr_out::{Arrival, Post, PostFault};
+use gr_pace::Paced;
 use std::alloc::Global;
 use std::io;
 use std::io::ErrorKind;
@@ -32,10 +34,10 @@ const LONGEST: u64 = 50;
 // The first wait.
 const FIRST_WAIT: u64 = 12;
 
-// How long after the last quiet moment a wait ends that begins later than that.
+// At the latest so long after the last quiet moment a wait ends that begins later than that.
 const EARLY: u64 = 49;
 
-// From when on the next quiet moment is near, and how long a wait is then.
+// From when on the next quiet moment is near, and how long a wait is at most then.
 const NEAR: u64 = 40;
 
 const LAST_WAIT: u64 = 8;
@@ -46,23 +48,31 @@ const NEWS_IN_A_ROW: u64 = 2;
 // The same for the longest wait.
 const NEWS_AT_LONGEST: u64 = 5;
 
+// How much has to be heard lately for other offers to be news where the caller has no more to do.
+const ENOUGH_HEARD: u64 = 4;
+
 /// A post of which each hosted broker has a socket. To `Post` it tells nothing of what came and went; each call says
 /// what it does with the network, where that tells what passed.
 ///
 /// `next` takes a datagram that is there. Where none is, it waits for one, and where none comes it answers `Quiet`.
 ///
-/// The wait is 1 to 50 milliseconds. At each quiet moment the offers since the last one are compared with those between
-/// that and the one before, by a digest of 64 bits. Where they are the same it is twice as long from then on, and where
-/// there is news twice in a row half as long; but the longest wait stays until there was news five times in a row. So
-/// while brokers go on telling one another what is new quiet moments come fast, also where some of it is lost and has to
-/// be told again; and brokers that only repeat themselves, or have news now and then, are woken 20 times a second,
-/// however many of them send to one another.
+/// The wait is 1 to 50 milliseconds. From each quiet moment on it is twice as long where there is no news, and where
+/// there is news twice in a row half as long; but the longest wait stays until there was news five times in a row.
+/// There is news where the offers since the last quiet moment are others than those between that and the one before, by
+/// a digest of 64 bits. A caller may say more (`pace`): where it has more to do there is always news, and where it has
+/// not, other offers are news only where enough was heard lately: four datagrams, by a count that is halved at each
+/// quiet moment.
+///
+/// So while brokers go on telling one another what is new quiet moments come fast, also where some of it is lost and has
+/// to be told again; and brokers that only repeat themselves, or have news now and then, or ask for more and more and
+/// are not answered, are woken 20 times a second, however many of them send to one another.
 ///
 /// Whatever comes, the next quiet moment comes no later than 50 milliseconds after the last one: once they have passed,
-/// by the clock, `next` answers `Quiet` and leaves a datagram that is there to the next call. Where something
-/// came before that, 49 milliseconds after the last one, or 8 after what came where that was late, from 40 on. So a
-/// broker that is sent the same each 50 milliseconds is soon woken shortly after each, and of brokers in a row each is
-/// woken shortly after the one below it: acknowledgements pass them all in a few milliseconds.
+/// by the clock, `next` answers `Quiet` and leaves a datagram that is there to the next call. A wait that begins later
+/// than the last one, as behind a datagram, ends at the latest 49 milliseconds after it; one that begins from 40 on
+/// takes 8 at most, and ends at the latest after 50. So a broker that is sent the same each 50 milliseconds is soon
+/// woken shortly after each, and of brokers in a row each is woken shortly after the one below it: acknowledgements pass
+/// them all in a few milliseconds.
 ///
 /// All sockets are looked at in turn, each first once the one before it gave something. A broker can be bound once.
 #[derive(Drop)]
@@ -79,7 +89,11 @@ pub struct UdpPost<N: Network, C: Clock> {
     // The digests of the offers since the last quiet moment, and of those between that and the one before.
     offered: u64,
     before: u64,
-    // Before how many quiet moments in a row these were not the same.
+    // How much was heard lately: the datagrams, by a count that is halved at each quiet moment.
+    heard: u64,
+    // Whether the caller has more to do, where it has said so.
+    more: Option<bool>,
+    // Before how many quiet moments in a row there was news.
     run: u64,
     faults: u64,
     lost: u64,
@@ -90,7 +104,8 @@ pub struct UdpPost<N: Network, C: Clock> {
 
 impl<N: Network, C: Clock> UdpPost<N, C> {
     ghost use Rattle.gr_sock.specs.UdpPost.{network_of, bound_of, pause_of, quiet_of, post_faults, post_lost};
-    ghost use Rattle.gr_sock.specs.UdpPost.{offered_of, before_of, has_news, run_of, post_said, loss_said};
+    ghost use Rattle.gr_sock.specs.UdpPost.{offered_of, before_of, heard_of, more_of, has_news, run_of};
+    ghost use Rattle.gr_sock.specs.UdpPost.{post_said, loss_said};
 
     /// A post over a network, with no broker bound and no fault so far. The clock gives the moments.
     pub fn new(alloc: Global, network: N, clock: C) -> UdpPost<N, C>
@@ -101,6 +116,8 @@ impl<N: Network, C: Clock> UdpPost<N, C> {
         ensures lost { post_lost result ≡ 0 }
         ensures quiet { quiet_of result ≡ 0 }
         ensures offered { (offered_of result ≡ nothing) × (before_of result ≡ nothing) }
+        ensures heard { heard_of result ≡ 0 }
+        ensures more { more_of result ≡ None }
         ensures run { run_of result ≡ 0 }
         ensures said { post_said result ≡ None }
         ensures loss { loss_said result ≡ None }
@@ -114,6 +131,8 @@ impl<N: Network, C: Clock> UdpPost<N, C> {
             quiet: 0,
             offered: NOTHING,
             before: NOTHING,
+            heard: 0,
+            more: None,
             run: 0,
             faults: 0,
             lost: 0,
@@ -224,6 +243,28 @@ fn look<N: Network>(
     Ok(None)
 }
 
+/// Whether there is news, where the caller has said this, the offers are others or the same, and so much was heard.
+fn is_news(more: Option<bool>, differ: bool, heard: u64) -> bool
+    ensures { result ≡ is_news more differ heard }
+{
+    match more {
+        None => differ,
+        Some(true) => true,
+        Some(false) => differ && heard >= ENOUGH_HEARD,
+    }
+}
+
+/// Before how many quiet moments in a row there was news, after what came.
+fn run_after(run: u64, news: bool, arrival: Arrival) -> u64
+    ensures { result ≡ run_after run news arrival }
+{
+    match arrival {
+        Arrival::Quiet { .. } if news => raised(run),
+        Arrival::Quiet { .. } => 0,
+        Arrival::Datagram { .. } | Arrival::Closed => run,
+    }
+}
+
 /// How long the next wait is, after this one and what it brought, where there was news before so many quiet moments in
 /// a row.
 fn pause_after(pause: u64, run: u64, arrival: Arrival) -> u64
@@ -240,6 +281,17 @@ fn pause_after(pause: u64, run: u64, arrival: Arrival) -> u64
         Arrival::Quiet { .. } if run == 0 => (pause * 2).min(LONGEST),
         Arrival::Quiet { .. } if run >= enough => (pause / 2).max(1),
         Arrival::Datagram { .. } | Arrival::Quiet { .. } | Arrival::Closed => pause,
+    }
+}
+
+/// How much was heard lately, after what came.
+fn heard_after(heard: u64, arrival: Arrival) -> u64
+    ensures { result ≡ heard_after heard arrival }
+{
+    match arrival {
+        Arrival::Datagram { .. } => raised(heard),
+        Arrival::Quiet { .. } => heard / 2,
+        Arrival::Closed => heard,
     }
 }
 
@@ -434,7 +486,8 @@ fn carried<N: Network>(
 
 impl<N: Network, C: Clock> Post for UdpPost<N, C> {
     ghost use Rattle.gr_sock.specs.UdpPost.{network_of, bound_of, pause_of, quiet_of, post_faults, post_lost};
-    ghost use Rattle.gr_sock.specs.UdpPost.{offered_of, before_of, has_news, run_of, post_said, loss_said};
+    ghost use Rattle.gr_sock.specs.UdpPost.{offered_of, before_of, heard_of, more_of, has_news, run_of};
+    ghost use Rattle.gr_sock.specs.UdpPost.{post_said, loss_said};
 
     ghost tells = { ⊥ };
 
@@ -462,6 +515,8 @@ impl<N: Network, C: Clock> Post for UdpPost<N, C> {
         ensures quiet { quiet_of self.new ≡ quiet_of self.old }
         ensures offered { offered_of self.new ≡ offered_of self.old }
         ensures before { before_of self.new ≡ before_of self.old }
+        ensures heard { heard_of self.new ≡ heard_of self.old }
+        ensures more { more_of self.new ≡ more_of self.old }
         ensures run { run_of self.new ≡ run_of self.old }
         ensures said { KeepsFailed (address_of address.now) (post_said self.old) (post_said self.new) result }
         ensures loss { loss_said self.new ≡ loss_said self.old }
@@ -500,8 +555,11 @@ impl<N: Network, C: Clock> Post for UdpPost<N, C> {
         ensures offered { IfOk result (λ a. offered_of self.new ≡ offered_after (offered_of self.old) a) }
         ensures before { IfOk result (λ a.
             before_of self.new ≡ before_after (offered_of self.old) (before_of self.old) a) }
+        ensures heard { IfOk result (λ a. heard_of self.new ≡ heard_after (heard_of self.old) a) }
+        ensures more { more_of self.new ≡ more_of self.old }
         ensures kept { OnErr result ((offered_of self.new ≡ offered_of self.old)
             × (before_of self.new ≡ before_of self.old) × (run_of self.new ≡ run_of self.old)) }
+        ensures unheard { OnErr result (heard_of self.new ≡ heard_of self.old) }
         ensures quiet { IfOk result (λ a. quiet_of self.new ≡ quiet_after (quiet_of self.old) a) }
         ensures err { OnErr result (pause_of self.new ≡ pause_of self.old) }
         ensures still { OnErr result (quiet_of self.new ≡ quiet_of self.old) }
@@ -524,13 +582,11 @@ impl<N: Network, C: Clock> Post for UdpPost<N, C> {
         );
         match outcome {
             Ok(arrival) => {
+                let news = is_news(self.more, self.offered != self.before, self.heard);
+                self.run = run_after(self.run, news, arrival);
+                self.heard = heard_after(self.heard, arrival);
                 if let Arrival::Quiet { moment } = arrival {
                     self.quiet = moment;
-                    self.run = if self.offered == self.before {
-                        0
-                    } else {
-                        raised(self.run)
-                    };
                     self.before = self.offered;
                     self.offered = NOTHING;
                 }
@@ -560,6 +616,8 @@ impl<N: Network, C: Clock> Post for UdpPost<N, C> {
         ensures quiet { quiet_of self.new ≡ quiet_of self.old }
         ensures offered { offered_of self.new ≡ with_offer (offered_of self.old) from to bytes.now }
         ensures before { before_of self.new ≡ before_of self.old }
+        ensures heard { heard_of self.new ≡ heard_of self.old }
+        ensures more { more_of self.new ≡ more_of self.old }
         ensures run { run_of self.new ≡ run_of self.old }
         ensures said { post_said self.new ≡ post_said self.old }
         ensures loss { let to_whom = address_in to (bound_of self.old) in
@@ -578,5 +636,29 @@ impl<N: Network, C: Clock> Post for UdpPost<N, C> {
                 Err(PostFault::Failed)
             }
         }
+    }
+}
+
+impl<N: Network, C: Clock> Paced for UdpPost<N, C> {
+    ghost use Rattle.gr_sock.specs.UdpPost.{network_of, bound_of, pause_of, quiet_of, post_faults, post_lost};
+    ghost use Rattle.gr_sock.specs.UdpPost.{offered_of, before_of, heard_of, more_of, run_of, post_said, loss_said};
+
+    /// With more to do there is news at each quiet moment; without, only where enough was heard.
+    fn pace(&mut self, has_more: bool)
+        ensures more { more_of self.new ≡ Some has_more }
+        ensures network { network_of self.new ≡ network_of self.old }
+        ensures bound { bound_of self.new ≡ bound_of self.old }
+        ensures pause { pause_of self.new ≡ pause_of self.old }
+        ensures quiet { quiet_of self.new ≡ quiet_of self.old }
+        ensures offered { offered_of self.new ≡ offered_of self.old }
+        ensures before { before_of self.new ≡ before_of self.old }
+        ensures heard { heard_of self.new ≡ heard_of self.old }
+        ensures run { run_of self.new ≡ run_of self.old }
+        ensures faults { post_faults self.new ≡ post_faults self.old }
+        ensures lost { post_lost self.new ≡ post_lost self.old }
+        ensures said { post_said self.new ≡ post_said self.old }
+        ensures loss { loss_said self.new ≡ loss_said self.old }
+    {
+        self.more = Some(has_more);
     }
 }
