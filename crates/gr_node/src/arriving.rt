@@ -2,6 +2,7 @@
 
 ghost use Rattle.std.specs.Prelude.{◌≡◌, ℕ, ◌≤◌, true, false, min, List, [], ◌∷◌, ◌++◌, length, map, drop, Err};
 ghost use Rattle.std.specs.Prelude.{IfOk, IfErr, OnOk, IsErrOf};
+ghost use Rattle.gr_out.specs.Journal.{next_entries, Fits, CountsFailed};
 ghost use Rattle.gr_out.specs.Lane.{Lane};
 ghost use Rattle.gr_model.specs.Broker.{max_tick};
 ghost use Rattle.gr_model.specs.NetOf.{net_of};
@@ -22,6 +23,7 @@ use crate::ordering::settle;
 use crate::schedule::next_after;
 use crate::turning::be_quiet;
 use gr_out::{Arrival, Disk, Page, Post, PostFault, RunFault, Sink};
+use gr_pace::Paced;
 use gr_sched::Line;
 use gr_tick::MAX_TICK;
 
@@ -104,9 +106,24 @@ fn quiet_comes<D: Disk, P: Post, K: Sink>(
     }
 }
 
-/// Takes one arrival, with all that it causes; the page is flushed then. False where nothing comes any more. The piece
-/// has room for every datagram.
-pub(crate) fn turn<D: Disk, P: Post, K: Sink>(
+/// What comes next. The post learns whether there is more to do at a quiet moment.
+fn await_next<P: Paced>(
+    post: &mut P,
+    has_more: bool,
+    piece: &mut [u8],
+) -> Result<Arrival, PostFault>
+    ensures journal { P.tells → P.journal post.new ≡ P.journal post.old ++ next_entries piece.new result }
+    ensures fits { IfOk result (λ a. Fits (length piece.old) a) }
+    ensures len { length piece.new ≡ length piece.old }
+    ensures cause { CountsFailed (P.faults post.old) (P.faults post.new) result }
+{
+    post.pace(has_more);
+    post.next(piece)
+}
+
+/// Takes one arrival, with all that it causes; the page is flushed then. A quiet moment comes sooner where a publish is
+/// left. False where nothing comes any more. The piece has room for every datagram.
+pub(crate) fn turn<D: Disk, P: Paced, K: Sink>(
     site: &Site<'_>,
     node: &mut Node,
     steps: &[Line],
@@ -140,7 +157,7 @@ pub(crate) fn turn<D: Disk, P: Post, K: Sink>(
     ensures keeps { RunKeeps site.now.topo.now site.now.hosted.now D.tells D.lane_of D.faults D.stops disk.old disk.new
         (K.faults sink.old) (K.faults sink.new) (P.faults post.old) (P.faults post.new) result }
 {
-    match post.next(piece) {
+    match await_next(post, *next < steps.len(), piece) {
         Ok(arrival) => match arrival {
             Arrival::Datagram { at, len, moment } => {
                 match datagram_comes(

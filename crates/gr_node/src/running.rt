@@ -17,7 +17,8 @@ use crate::arriving::turn;
 use crate::node::{Node, Site};
 use crate::ordering::settle;
 use crate::schedule::next_publish;
-use gr_out::{Disk, Memory, Page, Post, RunFault, Sink};
+use gr_out::{Disk, Memory, Page, RunFault, Sink};
+use gr_pace::Paced;
 use gr_sched::Line;
 use std::alloc::Global;
 
@@ -35,7 +36,7 @@ fn new_piece(alloc: Global) -> Result<Vec<u8>, Memory>
 /// waited for. Of a datagram 65,535 bytes are taken.
 ///
 /// `Memory` where memory is refused, and `Disk`, `Write` and `Post` only where the disk, the sink or the post failed.
-fn run_turns<D: Disk, P: Post, K: Sink>(
+fn run_turns<D: Disk, P: Paced, K: Sink>(
     site: &Site<'_>,
     node: &mut Node,
     steps: &[Line],
@@ -87,7 +88,7 @@ fn run_turns<D: Disk, P: Post, K: Sink>(
 /// causes; after each the page is flushed, before the next is waited for. Of a datagram 65,535 bytes are taken.
 ///
 /// `Memory` where memory is refused, and `Disk`, `Write` and `Post` only where the disk, the sink or the post failed.
-pub(crate) fn run<D: Disk, P: Post, K: Sink>(
+pub(crate) fn run<D: Disk, P: Paced, K: Sink>(
     site: &Site<'_>,
     node: &mut Node,
     steps: &[Line],

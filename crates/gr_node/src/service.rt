@@ -22,7 +22,8 @@ use crate::running::run;
 use crate::showing::show;
 use crate::starting::start_hosted;
 use gr_broker::frames_pass_the_log;
-use gr_out::{Disk, Page, Post, RunFault, Sink};
+use gr_out::{Disk, Page, RunFault, Sink};
+use gr_pace::Paced;
 use gr_report::put_all;
 use gr_sched::{Line, Steps};
 use gr_topo::Topology;
@@ -86,7 +87,7 @@ fn put_shown<K: Sink>(
 }
 
 /// Takes what comes, and then puts what is shown.
-fn run_and_show<D: Disk, P: Post, K: Sink>(
+fn run_and_show<D: Disk, P: Paced, K: Sink>(
     site: &Site<'_>,
     node: &mut Node,
     steps: &[Line],
@@ -115,7 +116,7 @@ fn run_and_show<D: Disk, P: Post, K: Sink>(
 }
 
 /// The same, and what the page holds is written.
-fn carry_out<D: Disk, P: Post, K: Sink>(
+fn carry_out<D: Disk, P: Paced, K: Sink>(
     site: &Site<'_>,
     node: &mut Node,
     steps: &[Line],
@@ -141,7 +142,7 @@ fn carry_out<D: Disk, P: Post, K: Sink>(
 }
 
 /// Serves with a node and a page that are new, once all nodes are bound.
-fn serve_with<D: Disk, P: Post, K: Sink>(
+fn serve_with<D: Disk, P: Paced, K: Sink>(
     site: &Site<'_>,
     node: &mut Node,
     page: &mut Page,
@@ -172,7 +173,7 @@ fn serve_with<D: Disk, P: Post, K: Sink>(
 }
 
 /// Serves, once all nodes are bound.
-fn serve_bound<D: Disk, P: Post, K: Sink>(
+fn serve_bound<D: Disk, P: Paced, K: Sink>(
     site: &Site<'_>,
     steps: &[Line],
     turns: u64,
@@ -218,7 +219,7 @@ fn serve_bound<D: Disk, P: Post, K: Sink>(
 /// memory is refused, and `Write` only where the sink failed, in place of `Disk` or `Damaged` too: the sink took a
 /// front of the report, and of what was to be offered a front was. A frame that the post could not send is lost, and
 /// the run goes on.
-pub fn serve<D: Disk, P: Post, K: Sink>(
+pub fn serve<D: Disk, P: Paced, K: Sink>(
     alloc: Global,
     topo: &Topology,
     steps: &Steps,

@@ -5,6 +5,7 @@ ghost use Rattle.std.specs.Prelude.{◌≡◌, ◌==◌, ◌∷◌, false, [], i
 
 use gr_event::Event;
 use gr_out::{Arrival, Disk, Memory, Post, PostFault, Sink, Source};
+use gr_pace::Paced;
 use gr_publog::{Log, Record};
 use gr_sock::{
     Address, FileDisk, Folder, LogFolder, Network, StdSink, StdSource, UdpNetwork, UdpPost,
@@ -517,6 +518,29 @@ fn waits_for_news(rt: HostRuntime) -> Result<(), Fail> {
     let waits = post.network().waits.as_slice();
     assert!(rt; waits == [24, 48, 50, 50, 50, 50, 50, 50, 50, 25, 12, 6, 12, 12, 6].as_slice());
     assert!(rt; post.lost() == 0);
+    Ok(())
+}
+
+/// Where the caller has no more to do, other offers are news only behind four datagrams, by a count that is halved at
+/// each quiet moment. Where it has more to do, there is news each time.
+#[test]
+fn waits_for_more(rt: HostRuntime) -> Result<(), Fail> {
+    let none = (0, Err(ErrorKind::WouldBlock));
+    let byte = (0, Ok(b'x'));
+    let coming = [none, none, none, none, byte, byte, byte, byte];
+    let mut post = post_of_two(rt.alloc(), &coming, FakeClock::new(1_234, 0))?;
+    post.pace(false);
+    assert!(rt; answers(&mut post, b"-"));
+    for byte in *b"ab" {
+        assert!(rt; post.offer(3, 4, &[byte]).is_ok() && letter(&mut post) == b'-');
+    }
+    assert!(rt; post.offer(3, 4, b"c").is_ok() && answers(&mut post, b"xxxx-"));
+    post.pace(true);
+    assert!(rt; answers(&mut post, b"----"));
+    post.pace(false);
+    assert!(rt; post.offer(3, 4, b"d").is_ok() && answers(&mut post, b"--"));
+    let waits = post.network().waits.as_slice();
+    assert!(rt; waits == [24, 48, 50, 50, 50, 50, 50, 25, 50].as_slice());
     Ok(())
 }
 

@@ -10,14 +10,15 @@ ghost use Rattle.gr_top.specs.Top.{IsCut, IsStop};
 
 use gr_model::Report;
 use gr_node::{an_honest_journal_meets_the_headline, serve};
-use gr_out::{Disk, Post, RunFault, Sink};
+use gr_out::{Disk, RunFault, Sink};
+use gr_pace::Paced;
 use gr_report_text::{PutFault, put};
 use gr_sched::Steps;
 use gr_topo::Topology;
 use std::alloc::Global;
 
 /// Runs brokers of a topology over a post, with their logs on a disk. Gives the status.
-pub(crate) fn run<D: Disk, P: Post, K: Sink>(
+pub(crate) fn run<D: Disk, P: Paced, K: Sink>(
     alloc: Global,
     topo: &Topology,
     steps: &Steps,

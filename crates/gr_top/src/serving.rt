@@ -17,7 +17,8 @@ use crate::hosting::{Hosting, hosted_in};
 use crate::printing::{print, print_line};
 use crate::running::run;
 use gr_event::{Numbers, Text};
-use gr_out::{Disk, Post, Sink};
+use gr_out::{Disk, Sink};
+use gr_pace::Paced;
 use gr_scenario::{Asked, read};
 use gr_sched::Steps;
 use gr_topo::Topology;
@@ -44,7 +45,7 @@ pub enum Serving {
 }
 
 /// Answers the bytes of a scenario: the brokers that words name serve for so many turns. Gives the status.
-pub(crate) fn serve_bytes<D: Disk, P: Post, K: Sink>(
+pub(crate) fn serve_bytes<D: Disk, P: Paced, K: Sink>(
     alloc: Global,
     bytes: &[u8],
     words: &[&str],
@@ -95,7 +96,7 @@ pub(crate) fn serve_bytes<D: Disk, P: Post, K: Sink>(
 }
 
 /// Answers what is asked: brokers serve for so many turns, or the line that says why not is printed. Gives the status.
-fn serve_asked<D: Disk, P: Post, K: Sink>(
+fn serve_asked<D: Disk, P: Paced, K: Sink>(
     alloc: Global,
     serving: Serving,
     turns: u64,

@@ -26,6 +26,7 @@ use crate::soaking::print_soak;
 use crate::word::Word;
 use crate::words::{Task, task_of};
 use gr_out::{Disk, Post, ReadFault, Sink, Source, read_all};
+use gr_pace::Paced;
 use gr_sched::MAX_INPUT_BYTES;
 use std::alloc::Global;
 
@@ -48,7 +49,7 @@ const USAGE: &[u8] =
 /// - 7: want of memory; the sink took a front of what was to be printed.
 /// - 8: the post failed while brokers served, or a client submitted; the sink took the lines of all calls before.
 /// - 9: the source has too many bytes or lines; the sink took the line that says which.
-pub fn gryphon<S: Source, K: Sink, D: Disk, P: Post>(
+pub fn gryphon<S: Source, K: Sink, D: Disk, P: Paced>(
     alloc: Global,
     words: &[&str],
     source: &mut S,
@@ -163,7 +164,7 @@ pub fn gryphon<S: Source, K: Sink, D: Disk, P: Post>(
 
 /// Reads the bytes of a source, and has the named brokers of the scenario that they are serve for so many turns. Gives
 /// the status.
-fn serve_source<S: Source, K: Sink, D: Disk, P: Post>(
+fn serve_source<S: Source, K: Sink, D: Disk, P: Paced>(
     alloc: Global,
     words: &BrokerWords<'_>,
     turns: u64,

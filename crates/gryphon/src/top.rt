@@ -15,7 +15,8 @@ ghost use Rattle.gr_top.specs.Publishing.{NotPublished};
 ghost use Rattle.gr_top.specs.Answers.{answer_of, answer_to};
 ghost use Rattle.gr_top.specs.Top.{WasReplayed, IsAnswered, IsWhole, IsCut, IsStop};
 
-use gr_out::{Disk, Post, Sink, Source};
+use gr_out::{Disk, Sink, Source};
+use gr_pace::Paced;
 use std::alloc::Global;
 
 /// Carries out the command that the words name, over a source and a sink; brokers that serve have a disk and a post,
@@ -33,7 +34,7 @@ use std::alloc::Global;
 /// - 7: want of memory; the sink took a front of what was to be printed.
 /// - 8: the post failed while brokers served, or a client submitted; the sink took the lines of all calls before.
 /// - 9: the source has too many bytes or lines; the sink took the line that says which.
-pub fn gryphon<S: Source, K: Sink, D: Disk, P: Post>(
+pub fn gryphon<S: Source, K: Sink, D: Disk, P: Paced>(
     alloc: Global,
     words: &[&str],
     source: &mut S,
