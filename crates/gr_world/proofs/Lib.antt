@@ -12,7 +12,6 @@ pub mod Lanes
 pub mod Called
 pub mod Woken
 pub mod Received
-pub mod FirstBytes
 pub mod Published
 pub mod Brokers
 pub mod Fresh

@@ -17,13 +17,13 @@
 //! | `sweeping` | A sweep: three phases for each publisher. | `sweep_moment`, `sweep_for`; `Sweeps` |
 //! | `delivering` | Delivers what is sent in a sweep, upward and down. | `deliver_up`, `hand_down`; `Sweeps` |
 //! | `order` | Brokers by their depth below a host. | `inwards`, `outwards` |
-//! | `heads` | Kind, receiver and publisher of a frame, by its first bytes. | `is_want`, `is_know_to`; `Seen` |
+//! | `heads` | Kind, receiver and publisher of a frame that is not read. | `is_want`, `is_know_to`; `Seen` |
 //! | `showing` | What is shown, and the bytes of a frame. | `show`; `Shown` |
 //! | `copying` | Copies of report lines. | none |
 //! | `fault` | Why a call is refused. | `fault_in` in `Ran` |
 //!
-//! Of these, a name in small letters is the machine's, in `gr_model/specs/World.antt`, if no file is named with it; one
-//! with a capital is a file of `specs`, if none is.
+//! Where no file stands beside it, a name in small letters is a definition of the machine, in
+//! `gr_model/specs/World.antt`, and one with a capital is a file of this crate's `specs`.
 
 mod calls;
 mod copying;
