@@ -1,5 +1,5 @@
 -- What a broker answers and leaves, in the words of a world: whose log is exchanged, which fault comes, how the disk's counts move
-use Rattle.std.proofs.Common.{◌≡◌, ◌≢◌, ℕ, ◌<◌, true, false, List, length, map, inl, inr, Option, Some, None, Result, Ok, Err, OnOk, refl, sym, ap, ◌∙◌, subst}
+use Rattle.std.proofs.Common.{◌≡◌, ◌≢◌, ℕ, ◌<◌, Bool, true, false, List, length, map, inl, inr, Option, Some, None, Result, Ok, Err, OnOk, refl, sym, ap, ◌∙◌, subst}
 use Rattle.std.specs.Prelude.{IfOk, IsErrOf}
 use Rattle.std.proofs.lemmas.List.{get_or-set_same, get_or-set_other}
 use Rattle.gr_frame.specs.Bytes.{frame_bytes}
@@ -142,6 +142,27 @@ whole_logged (Some l) (Some r) = refl
 -- so is one that is exchanged for it
 pub whole_with : (p : ℕ) (b : BrokerView) (l : Option LogView) (v : View) → p < length b.logs → is_broken l ≡ is_broken (log_in b p) → is_broken (log_in b p) ≡ false → is_broken (log_in (with_view (with_log b p l) p v) p) ≡ false
 whole_with p b l v lt same whole = ap is_broken (get_or-set_same b.logs p l None lt) ∙ (same ∙ whole)
+
+-- a broker that is to open a log again answers so in the words of a log
+pub closes : (answer : Result Outcome BrokerFault) → IsErrOf answer refused.Reopen → IsErrOf (log_answer answer) log_fault.Reopen
+closes answer e = ap log_answer e
+
+-- with no record a log is as it was
+pub logged_none : (l : Option LogView) → with_logged l None ≡ l
+logged_none None = refl
+logged_none (Some l) = refl
+
+-- so is one that is exchanged for itself
+pub log_same : (p : ℕ) (b : BrokerView) (l : Option LogView) (v : View) → p < length b.logs → l ≡ log_in b p → log_in (with_view (with_log b p l) p v) p ≡ log_in b p
+log_same p b l v lt same = get_or-set_same b.logs p l None lt ∙ same
+
+-- and one that the disk had failed before
+pub failed_same : (p : ℕ) (b : BrokerView) → p < length b.logs → is_broken (log_in b p) ≡ true → log_in (broken_at b p) p ≡ log_in b p
+failed_same p b lt broken = get_or-set_same b.logs p (with_failed (log_in b p)) None lt ∙ go (log_in b p) broken
+  where
+    go : (o : Option LogView) → is_broken o ≡ true → with_failed o ≡ o
+    go None k = refl
+    go (Some l) k = ap (λ (q : Bool). Some (record { lane = l.lane; records = l.records; broken = q; late = l.late })) (sym k)
 
 -- What a call does to the disk, by what the broker says of it: where no stop is ordered on the lane none has broken it
 pub ran_on : (faultless faultless' : Type 0) (faults stops faults' stops' : ℕ) (lane : Lane) (answer : Result Outcome BrokerFault) (result : Result (List Report) WorldFault)

@@ -1,11 +1,11 @@
 -- Brokers start one after another: what is kept and told of one more is put behind that of the others, and each lane is opened as it
 -- was found, since no later broker touches it.
-use Rattle.std.proofs.Common.{◌≡◌, ◌≢◌, inl, inr, ℕ, ◌+◌, ◌*◌, ◌<◌, true, List, [], ◌∷◌, ◌++◌, length, get_or, Some, Ok, Err, refl, sym, ap, ◌∙◌, subst, arith}
-use Rattle.std.specs.Prelude.{flat_map, IsOk}
+use Rattle.std.proofs.Common.{◌≡◌, ◌≢◌, ◌⊎◌, inl, inr, ℕ, ◌+◌, ◌*◌, ◌<◌, ◌≤◌, true, List, [], ◌∷◌, ◌++◌, length, get_or, Some, Ok, Err, refl, sym, ap, ◌∙◌, subst, arith}
+use Rattle.std.specs.Prelude.{flat_map, is_ok, IsOk}
 use Rattle.std.proofs.lemmas.Bool.{cases_lt}
 use Rattle.std.proofs.lemmas.List.{append-nil, append_assoc, length_push, get_or_push, get_or_append_left}
 use Rattle.gr_out.specs.declared.disk.Stop.TheVariants.{Unset}
-use Rattle.gr_out.specs.Lane.{Lane, content}
+use Rattle.gr_out.specs.Lane.{Lane, Call, content, moment, LeftAfter, LeftFrom, LeftSince}
 use Rattle.gr_publog.specs.Text.{log_text}
 use Rattle.gr_publog.specs.Calls.{Opens}
 use Rattle.gr_topo.specs.Topology.{TopologyView, host_of}
@@ -15,12 +15,13 @@ use Rattle.gr_model.specs.NetOf.{net_of}
 use Rattle.gr_broker_relay.specs.declared.outcome.Outcome.{Outcome as BrokerOutcome}
 use Rattle.gr_broker_relay.proofs.Placing.{numbers_more}
 use Rattle.gr_broker.specs.Seen.{BrokerView, log_in}
-use Rattle.gr_broker.specs.Opened.{StartsOver, OpensLanes, IsDamagedAt}
+use Rattle.gr_broker.specs.Opened.{StartsOver, OpensLanes, LosesNothing, IsDamagedAt}
 use Rattle.gr_report.proofs.Along.{flat_map_same}
 use Rattle.gr_world.specs.Seen.{no_broker}
-use Rattle.gr_world.specs.Opened.{NoStops}
+use Rattle.gr_world.specs.Disk.{LeavesOthers}
+use Rattle.gr_world.specs.Opened.{NoStops, IsFirstDamaged}
 use Rattle.gr_world.specs.Starting.{start_lines, HasStarted, HaveStarted, HaveOpened}
-use Rattle.gr_report.proofs.Hosts.{host_is, log_hosted, lanes_apart}
+use Rattle.gr_report.proofs.Hosts.{host_is, is_host_at, hosted_log, log_hosted, lanes_apart}
 
 -- Lists along numbers
 
@@ -114,6 +115,15 @@ none_started t brokers told none nothing = rw (none, nothing) (record { count = 
 pub none_opened : (t : TopologyView) (brokers : List BrokerView) (before after : ℕ → Lane) → ((n : ℕ) → after n ≡ before n) → HaveOpened t 0 brokers before after
 none_opened t brokers before after same = record { opened = λ b p l j e. absurd (omega (arith, j)); others = λ n h. same n }
 
+-- The lanes of the brokers that have started were read as logs
+pub read_before : (t : TopologyView) (n : ℕ) (brokers : List BrokerView) (told : List Report) (before mid : ℕ → Lane) → HaveStarted t n brokers told → HaveOpened t n brokers before mid → (q : ℕ) → q < length t.publishers → host_of t q < n → IsOk (log_text t.late (content (before (2 * q))))
+read_before t n brokers told before mid s o q j below =
+    let b = host_of t q in
+    let h = s.each b below in
+    let l = hosted_log t b (get_or brokers b no_broker) h.fits h.number q j refl in
+    let x = (o.opened b q l.0 below l.1).gives in
+    ap is_ok x
+
 -- The lanes of a broker that is still to start are as they were at first
 
 module _ (t : TopologyView) (n : ℕ) (brokers : List BrokerView) (before mid : ℕ → Lane) (sofar : HaveOpened t n brokers before mid) where
@@ -131,6 +141,61 @@ module _ (t : TopologyView) (n : ℕ) (brokers : List BrokerView) (before mid : 
         before = λ q j here. subst (λ (l : Lane). IsOk (log_text t.late (content l))) (lane_first q (host_is t q n here)) (d.before q j here);
       })
 
+  -- and it is the first of all
+  pub damaged_of_all : (told : List Report) → HaveStarted t n brokers told → (p at : ℕ) → IsDamagedAt t n p at mid → IsFirstDamaged t p at before
+  damaged_of_all told s p at d =
+      let there = host_is t p n d.hosted in
+      record { here = damaged_first p at d; before = λ q j below. read_before t n brokers told before mid s sofar q j (subst (λ b. host_of t q < b) there below) }
+
   -- and without a stop there is none
   pub unset_first : NoStops before → (p : ℕ) → p < length t.publishers → is_host (net_of t) p n ≡ true → (mid (2 * p)).stop ≡ Unset
   unset_first none p j here = ap (λ (l : Lane). l.stop) (lane_first p (host_is t p n here)) ∙ none (2 * p)
+
+-- What a lane has lost
+
+-- a crash may leave of a lane that was not called only what it leaves now
+since_now : (start : List ℕ) (calls : List Call) (image : List ℕ) → LeftFrom start calls (length calls) image → LeftAfter start calls image
+since_now start [] image h = h
+since_now start (c ∷ cs) image (inl h) = h
+since_now start (c ∷ cs) image (inr h) = absurd (omega (arith, h.0))
+
+-- so one that was not called has lost nothing
+pub loses_none : (late : List ℕ) (before after : Lane) → after ≡ before → LosesNothing late before after
+loses_none late before after e image h = inl (since_now before.start before.calls image (subst (λ (l : Lane). LeftSince l (moment before) image) e h))
+
+-- those of the brokers that have started have lost nothing, and no other lane was touched
+pub record Untouched (t : TopologyView) (upto : ℕ) (before after : ℕ → Lane) : Type 0 where
+  pub loses : (p : ℕ) → p < length t.publishers → host_of t p < upto → LosesNothing t.late (before (2 * p)) (after (2 * p))
+  pub others : (n : ℕ) → ((p : ℕ) → p < length t.publishers → host_of t p < upto → n ≢ 2 * p) → after n ≡ before n
+
+pub untouched_none : (t : TopologyView) (before : ℕ → Lane) → Untouched t 0 before before
+untouched_none t before = record { loses = λ p j h. absurd (omega (arith, h)); others = λ n h. refl }
+
+-- after one broker more, which started or not
+pub untouched_next : (t : TopologyView) (b : ℕ) (before mid after : ℕ → Lane) → Untouched t b before mid
+    → ((k : ℕ) → ((p : ℕ) → p < length t.publishers → is_host (net_of t) p b ≡ true → k ≢ 2 * p) → after k ≡ mid k)
+    → ((p : ℕ) → p < length t.publishers → is_host (net_of t) p b ≡ true → LosesNothing t.late (mid (2 * p)) (after (2 * p))) → Untouched t (b + 1) before after
+untouched_next t b before mid after u others any = record {
+  loses = λ p j below. go p j below (cases_lt (host_of t p) b);
+  others = λ k h. others k (λ p j here. h p j (let e = host_is t p b here in omega (arith, e))) ∙ u.others k (λ p j below. h p j (omega (arith, below)));
+}
+  where
+    here : (p : ℕ) → p < length t.publishers → host_of t p ≡ b → LosesNothing t.late (before (2 * p)) (after (2 * p))
+    here p j at =
+        subst (λ (l : Lane). LosesNothing t.late l (after (2 * p))) (u.others (2 * p) (λ q i below. lanes_apart t p q b (host_of t q) at refl (λ e. omega (arith, e, below))))
+        (any p j (is_host_at t p b at))
+
+    go : (p : ℕ) → p < length t.publishers → host_of t p < b + 1 → (host_of t p < b) ⊎ (b ≤ host_of t p) → LosesNothing t.late (before (2 * p)) (after (2 * p))
+    go p j below (inl k) =
+        subst (λ (l : Lane). LosesNothing t.late (before (2 * p)) l) (sym (others (2 * p) (λ q i at. lanes_apart t p q (host_of t p) b refl (host_is t q b at) (λ e. omega (arith, k, e))))) (u.loses p j k)
+    go p j below (inr k) = here p j (omega (arith, below, k))
+
+-- all have lost nothing then
+pub untouched_all : (t : TopologyView) (upto : ℕ) (before after : ℕ → Lane) → Untouched t upto before after → (p : ℕ) → p < length t.publishers → LosesNothing t.late (before (2 * p)) (after (2 * p))
+untouched_all t upto before after u p j = elim (cases_lt (host_of t p) upto) [
+  | inl k ↦ u.loses p j k
+  | inr k ↦ loses_none t.late (before (2 * p)) (after (2 * p)) (u.others (2 * p) (λ q i below. lanes_apart t p q (host_of t p) (host_of t q) refl refl (λ e. omega (arith, k, e, below))))
+]
+
+pub untouched_others : (t : TopologyView) (upto : ℕ) (before after : ℕ → Lane) → Untouched t upto before after → LeavesOthers t before after
+untouched_others t upto before after u n h = u.others n (λ p j below. h p j)

@@ -24,7 +24,7 @@ use Rattle.gr_world.specs.Ran.{IsOpen, Ran}
 use Rattle.gr_world.specs.Taking.{TakesUp, put_in}
 use Rattle.gr_world.proofs.Absorbing.{Touches, does_absorb}
 use Rattle.gr_world.proofs.Lanes.{never_stopped}
-use Rattle.gr_world.proofs.Fitting.{sends_of, world_fits, keeps, stays_sound, sound_here, at_host}
+use Rattle.gr_world.proofs.Fitting.{sends_of, world_fits, keeps, stays_sound, sound_here, at_host, broken_here, logs_closed, logs_whole}
 
 -- What a call has done, in the words of a world: the broker for which it was made, the machine's outcome, and the answer
 pub record Called (w : WorldView) (b p : ℕ) (o : MachineOutcome) (after : BrokerView) (frames : List (List ℕ)) (result : Result (List Report) WorldFault) : Type 0 where
@@ -37,6 +37,7 @@ pub record Called (w : WorldView) (b p : ℕ) (o : MachineOutcome) (after : Brok
   pub fits : IsBrokerOf w.topo after
   pub carried : IsCarried result
   pub whole : NotDisk result → is_broken (log_in (broker_in w b) p) ≡ false → is_broken (log_in after p) ≡ false
+  pub closed : is_broken (log_in (broker_in w b) p) ≡ true → log_in after p ≡ log_in (broker_in w b) p
   pub reopen : result ≡ Err fault.Reopen → is_broken (log_in (broker_in w b) p) ≡ true
 
 module _ (w : WorldView) (b p : ℕ) (o : MachineOutcome) (after : BrokerView) (frames : List (List ℕ)) (result : Result (List Report) WorldFault) (i : IsWorld w) (lt : b < length w.topo.brokers) (below : p < length w.topo.publishers) where
@@ -63,6 +64,9 @@ module _ (w : WorldView) (b p : ℕ) (o : MachineOutcome) (after : BrokerView) (
           sound = λ sound n. stays_sound w b p after frames i lt below c.touches (c.whole n) sound;
           opened = λ sound e. true≢false (sym (c.reopen e) ∙ sound_here w b p i sound lt below);
         };
+        closed = λ q j. logs_closed w b p after frames i lt c.touches c.closed q;
+        whole = λ n q j. logs_whole w b p after frames i lt c.touches (c.whole n) q;
+        reopen = λ e. broken_here w b p i lt below (c.reopen e);
       }
 
 -- Before a call

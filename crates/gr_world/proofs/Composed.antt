@@ -1,6 +1,7 @@
 -- Brokers' calls one after another, where each but the last answered Ok, are one run: of the machine, of the world, and of the disk. And what is done for each of a list in turn is what was done for those so far, and then what is left
-use Rattle.std.proofs.Common.{◌≡◌, ℕ, ◌+◌, ◌-◌, ◌<◌, ◌≤◌, List, [], ◌∷◌, ◌++◌, length, get_or, drop, Result, Ok, Err, refl, sym, ap, ap₂, ◌∙◌, subst, inl, inr, arith, append-nil, append_assoc, add-one, drop_of_length-le}
+use Rattle.std.proofs.Common.{◌≡◌, ◌⊎◌, true, false, ℕ, ◌+◌, ◌-◌, ◌<◌, ◌≤◌, List, [], ◌∷◌, ◌++◌, length, get_or, drop, Result, Ok, Err, refl, sym, ap, ap₂, ◌∙◌, subst, inl, inr, arith, append-nil, append_assoc, add-one, drop_of_length-le}
 use Rattle.std.proofs.Math.Seq.{drop-cons}
+use Rattle.std.proofs.lemmas.Bool.{cases_Bool, false≢true}
 use Rattle.gr_out.specs.Faults.{Rose}
 use Rattle.gr_publog.specs.Crash.{EitherRose}
 use Rattle.gr_model.specs.declared.report.Report.{Report}
@@ -9,10 +10,12 @@ use Rattle.gr_model.specs.World.{World, Transition, followed_by, in_turn}
 use Rattle.gr_report.proofs.Along.{numbers_left}
 use Rattle.gr_world.specs.declared.fault.WorldFault.{WorldFault}
 use Rattle.gr_world.specs.declared.fault.WorldFault.TheVariants as fault
-use Rattle.gr_world.specs.Seen.{WorldView, world_of}
+use Rattle.gr_topo.specs.Topology.{TopologyView}
+use Rattle.gr_broker.specs.Seen.{is_broken}
+use Rattle.gr_world.specs.Seen.{WorldView, log_at, world_of}
 use Rattle.gr_world.specs.Of.{IsWorld}
 use Rattle.gr_world.specs.Steps.{Does}
-use Rattle.gr_world.specs.Disk.{StaysSound, UsesDisk}
+use Rattle.gr_world.specs.Disk.{StaysSound, HasBroken, UsesDisk}
 use Rattle.gr_world.specs.Ran.{IsOpen, Keeps, Ran}
 
 -- an answer, with lines that were told before it
@@ -49,19 +52,61 @@ sound_on s t = record { sound = λ h n. t.sound (s.sound h tt) n; opened = λ h.
 
 -- Nothing was done yet
 pub ran_none : {w : WorldView} (ls : List Report) → IsWorld w → Ran w w (Ok ls)
-ran_none {w} ls f = record { fits = f; keeps = keeps_none w; carried = tt; sound = record { sound = λ h _. h; opened = λ _ e. cc } }
+ran_none {w} ls f = record {
+  fits = f;
+  keeps = keeps_none w;
+  carried = tt;
+  sound = record { sound = λ h _. h; opened = λ _ e. cc };
+  closed = λ p j k. refl;
+  whole = λ _ p j k. k;
+  reopen = λ e. absurd (cc e);
+}
 
 -- Two runs one after the other are one
 pub ran_on : {a b c : WorldView} {ls : List Report} {r : Result (List Report) WorldFault} → Ran a b (Ok ls) → Ran b c r → Ran a c r
-ran_on x y = record { fits = y.fits; keeps = keeps_on x.keeps y.keeps; carried = y.carried; sound = sound_on x.sound y.sound }
+ran_on {a} {b} {c} {ls} {r} x y = record {
+  fits = y.fits;
+  keeps = keeps_on x.keeps y.keeps;
+  carried = y.carried;
+  sound = sound_on x.sound y.sound;
+  closed = λ p j k. let e = x.closed p j k in y.closed p (there p j) (ap is_broken e ∙ k) ∙ e;
+  whole = λ n p j k. y.whole n p (there p j) (x.whole tt p j k);
+  reopen = λ e. let z = y.reopen e in broken_before z (back z.publisher z.below) (cases_Bool (is_broken (log_at a z.publisher)));
+}
+  where
+    there : (p : ℕ) → p < length a.topo.publishers → p < length b.topo.publishers
+    there p j = subst (λ (t : TopologyView). p < length t.publishers) (sym x.keeps.topo) j
+
+    back : (p : ℕ) → p < length b.topo.publishers → p < length a.topo.publishers
+    back p j = subst (λ (t : TopologyView). p < length t.publishers) x.keeps.topo j
+
+    broken_before : (z : HasBroken b) → z.publisher < length a.topo.publishers → (is_broken (log_at a z.publisher) ≡ true) ⊎ (is_broken (log_at a z.publisher) ≡ false) → HasBroken a
+    broken_before z j (inl k) = record { publisher = z.publisher; below = j; broken = k }
+    broken_before z j (inr k) = absurd (false≢true (sym (x.whole tt z.publisher j k) ∙ z.broken))
 
 -- A run that answered Ok is one with any lines
 pub ran_lines : {a b : WorldView} {ls : List Report} (more : List Report) → Ran a b (Ok ls) → Ran a b (Ok more)
-ran_lines more x = record { fits = x.fits; keeps = x.keeps; carried = tt; sound = record { sound = λ h _. x.sound.sound h tt; opened = λ _ e. cc } }
+ran_lines more x = record {
+  fits = x.fits;
+  keeps = x.keeps;
+  carried = tt;
+  sound = record { sound = λ h _. x.sound.sound h tt; opened = λ _ e. cc };
+  closed = x.closed;
+  whole = λ _. x.whole tt;
+  reopen = λ e. absurd (cc e);
+}
 
 -- and one after which memory was refused
 pub ran_memory : {a b : WorldView} {ls : List Report} → Ran a b (Ok ls) → Ran a b (Err fault.Memory)
-ran_memory x = record { fits = x.fits; keeps = x.keeps; carried = tt; sound = record { sound = λ h _. x.sound.sound h tt; opened = λ _ e. cc } }
+ran_memory x = record {
+  fits = x.fits;
+  keeps = x.keeps;
+  carried = tt;
+  sound = record { sound = λ h _. x.sound.sound h tt; opened = λ _ e. cc };
+  closed = x.closed;
+  whole = λ _. x.whole tt;
+  reopen = λ e. absurd (cc e);
+}
 
 -- The disk
 
@@ -73,6 +118,14 @@ rose_later a b c h r = omega arith
 pub either_later : (a b c a' b' c' : ℕ) → a ≤ b → a' ≤ b' → EitherRose b c b' c' → EitherRose a c a' c'
 either_later a b c a' b' c' h h' (inl r) = inl (rose_later a b c h r)
 either_later a b c a' b' c' h h' (inr r) = inr (rose_later a' b' c' h' r)
+
+-- and a count that rose does not fall
+rose_sooner : (a b c : ℕ) → b ≤ c → Rose a b → Rose a c
+rose_sooner a b c h r = omega arith
+
+pub either_sooner : (a b c a' b' c' : ℕ) → b ≤ c → b' ≤ c' → EitherRose a b a' b' → EitherRose a c a' c'
+either_sooner a b c a' b' c' h h' (inl r) = inl (rose_sooner a b c h r)
+either_sooner a b c a' b' c' h h' (inr r) = inr (rose_sooner a' b' c' h' r)
 
 -- Nothing was done to the disk
 pub disk_none : {fl : Type 0} {f s : ℕ} (ls : List Report) → UsesDisk fl fl f s f s (Ok ls)

@@ -1,5 +1,6 @@
 -- A crash over lanes that fit finds each log as it was, so it is the machine's; one that is refused has changed nothing.
 use Rattle.std.proofs.Common.{◌≡◌, ◌≢◌, ◌⊎◌, inl, inr, ℕ, ◌*◌, ◌<◌, Bool, true, false, List, [], ◌∷◌, length, map, Option, Some, None, Result, Ok, Err, sym, ap, ap₂, ◌∙◌, subst, arith}
+use Rattle.std.specs.Prelude.{IfOk}
 use Rattle.std.proofs.lemmas.Bool.{cases_eq, false≢true}
 use Rattle.gr_out.specs.declared.disk.Stop.{Stop}
 use Rattle.gr_out.specs.declared.disk.Stop.TheVariants.{Unset, Stopped}
@@ -19,7 +20,7 @@ use Rattle.gr_world.specs.declared.fault.WorldFault.{WorldFault}
 use Rattle.gr_world.specs.declared.fault.WorldFault.TheVariants as fault
 use Rattle.gr_world.specs.Seen.{WorldView, broker_in, log_at, world_of, net_in}
 use Rattle.gr_world.specs.Of.{IsWorld, LaneFits, LanesFit, IsSound}
-use Rattle.gr_world.specs.Opened.{IsRead, IsSoundBut, with_logs, restart_over}
+use Rattle.gr_world.specs.Opened.{IsRead, IsSoundBut, Crashes, with_logs, restart_over}
 use Rattle.gr_world.specs.Steps.{Makes, Does, IsCarried}
 use Rattle.gr_world.specs.Disk.{NotDisk, StaysSound}
 use Rattle.gr_world.specs.Ran.{noted_in}
@@ -154,3 +155,18 @@ noted_sound old mid new r r' same e s never = record {
   sound = λ h n. subst IsSound (sym e) (sound_noted mid r (s h (subst (λ (x : Result (List Report) WorldFault). NotDisk x) same n)));
   opened = λ h is. never (sym same ∙ is);
 }
+
+-- Over the logs that it leaves it is the machine's, whether the disk had failed one or not
+pub crashes_over : (old new : WorldView) (b : ℕ) (lanes : ℕ → Lane) (opened lines : List Report) → (let w : World = world_of new in Does (restart_over (net_in old) (world_of old) b w.logs) new (Ok opened))
+    → ((p : ℕ) → p < length old.topo.publishers → host_of old.topo p ≢ b → log_at new p ≡ log_at old p) → ((p : ℕ) → p < length old.topo.publishers → host_of old.topo p ≡ b → IsRead old.topo.late (log_at new p) (crash_image (lanes (2 * p))))
+    → lines ≡ line.Crashed b ∷ opened → Crashes b lanes old new lines
+crashes_over old new b lanes opened lines does elsewhere found e = record {
+  found = found;
+  elsewhere = elsewhere;
+  over = ap₂ (λ (w : World) (ls : List Report). let t : Transition = record { world = w; lines = ls } in t) (sym does.world) (ap (λ (ls : List Report). line.Crashed b ∷ ls) (sym does.lines) ∙ sym e);
+}
+
+-- and so it is where it is noted that memory was refused
+pub noted_lines : (P : WorldView → List Report → Type 0) (mid new : WorldView) (r result : Result (List Report) WorldFault) → result ≡ r → new ≡ noted_in mid r → IfOk r (P mid) → IfOk result (P new)
+noted_lines P mid new (Ok ls) result same e h = subst (λ (q : Result (List Report) WorldFault). IfOk q (P new)) (sym same) (subst (λ (v : WorldView). P v ls) (sym e) h)
+noted_lines P mid new (Err x) result same e h = subst (λ (q : Result (List Report) WorldFault). IfOk q (P new)) (sym same) tt

@@ -4,7 +4,7 @@ use Rattle.std.proofs.Common.{◌≡◌, ◌≢◌, ◌⊎◌, inl, inr, ℕ, �
 use Rattle.std.specs.Prelude.{is_some}
 use Rattle.std.specs.List.{AllByRecursion}
 use Rattle.std.proofs.lemmas.List.{map-append, length-set}
-use Rattle.std.proofs.lemmas.Bool.{cases_eq, eqb-true}
+use Rattle.std.proofs.lemmas.Bool.{cases_eq, eqb-true, false≢true}
 use Rattle.gr_frame.specs.declared.Frame.{Frame}
 use Rattle.gr_frame.specs.Bytes.{frame_bytes}
 use Rattle.gr_frame.specs.Cut.{AreFrames}
@@ -20,6 +20,7 @@ use Rattle.gr_broker.specs.Of.{IsBrokerOf}
 use Rattle.gr_world.specs.declared.fault.WorldFault.{WorldFault}
 use Rattle.gr_world.specs.Seen.{WorldView, broker_in, log_at, frame_said, net_in}
 use Rattle.gr_world.specs.Of.{IsWorld, IsSound}
+use Rattle.gr_world.specs.Disk.{HasBroken}
 use Rattle.gr_world.specs.Ran.{Keeps}
 use Rattle.gr_world.specs.Taking.{TakesUp, put_in}
 use Rattle.gr_outbox.proofs.Telling.{frames_back}
@@ -67,6 +68,14 @@ sound_here w b p i s lt below = go (log_in (broker_in w b) p) refl
     go : (o : Option LogView) → log_in (broker_in w b) p ≡ o → is_broken o ≡ false
     go (Some l) e = s.logs p l below (at_host w b p l i lt below e)
     go None e = refl
+
+-- one that is broken there is one of the world
+pub broken_here : (w : WorldView) (b p : ℕ) → IsWorld w → b < length w.topo.brokers → p < length w.topo.publishers → is_broken (log_in (broker_in w b) p) ≡ true → HasBroken w
+broken_here w b p i lt below broken = go (log_in (broker_in w b) p) refl broken
+  where
+    go : (o : Option LogView) → log_in (broker_in w b) p ≡ o → is_broken o ≡ true → HasBroken w
+    go (Some l) e k = record { publisher = p; below = below; broken = ap is_broken (at_host w b p l i lt below e) ∙ k }
+    go None e k = absurd (false≢true k)
 
 module _ (w : WorldView) (b p : ℕ) (after : BrokerView) (frames : List (List ℕ)) (i : IsWorld w) (lt : b < length w.topo.brokers) where
   within : b < length w.brokers
@@ -119,3 +128,28 @@ module _ (w : WorldView) (b p : ℕ) (after : BrokerView) (frames : List (List �
       go : (q : ℕ) (l : LogView) → q < length w.topo.publishers → log_at (put_in w b after frames) q ≡ Some l → (q ≡ p) ⊎ (q ≢ p) → l.broken ≡ false
       go q l lt_q e (inl same) = here l (ap (λ k. log_at (put_in w b after frames) k) (sym same) ∙ e) (cases_eq (host_of w.topo p) b)
       go q l lt_q e (inr n) = s.logs q l lt_q (sym (log_stays w b p after frames within t q n) ∙ e)
+
+  abbrev log_then : ℕ → Option LogView
+  log_then q = log_at (put_in w b after frames) q
+
+  -- what holds of the log of the publisher, at this broker or not, and of all others that stay, holds of each
+  each_log : (P : Option LogView → Option LogView → Type 0) → ((o : Option LogView) → P o o) → P (log_in (broker_in w b) p) (log_in after p) → Touches p (broker_in w b) after → (q : ℕ) → P (log_at w q) (log_then q)
+  each_log P same here t q = go (cases_eq q p) (cases_eq (host_of w.topo p) b)
+    where
+      go : (q ≡ p) ⊎ (q ≢ p) → (host_of w.topo p ≡ b) ⊎ (host_of w.topo p ≢ b) → P (log_at w q) (log_then q)
+      go (inr n) h = subst (P (log_at w q)) (sym (log_stays w b p after frames within t q n)) (same (log_at w q))
+      go (inl e) (inl at) =
+          subst (λ k. P (log_at w k) (log_then k)) (sym e)
+          (subst (P (log_at w p)) (sym (log_here w b p after frames within p at))
+          (subst (λ (o : Option LogView). P o (log_in after p)) (sym (ap (λ c. log_in (broker_in w c) p) at)) here))
+      go (inl e) (inr n) =
+          subst (λ k. P (log_at w k) (log_then k)) (sym e)
+          (subst (P (log_at w p)) (sym (log_elsewhere w b p after frames within p n)) (same (log_at w p)))
+
+  -- a log that the disk has failed stays, where that of the publisher does
+  pub logs_closed : Touches p (broker_in w b) after → (is_broken (log_in (broker_in w b) p) ≡ true → log_in after p ≡ log_in (broker_in w b) p) → (q : ℕ) → is_broken (log_at w q) ≡ true → log_then q ≡ log_at w q
+  logs_closed t closed q = each_log (λ old new. is_broken old ≡ true → new ≡ old) (λ o h. refl) closed t q
+
+  -- and each log is as whole as it was, where that of the publisher is
+  pub logs_whole : Touches p (broker_in w b) after → (is_broken (log_in (broker_in w b) p) ≡ false → is_broken (log_in after p) ≡ false) → (q : ℕ) → is_broken (log_at w q) ≡ false → is_broken (log_then q) ≡ false
+  logs_whole t whole q = each_log (λ old new. is_broken old ≡ false → is_broken new ≡ false) (λ o h. h) whole t q

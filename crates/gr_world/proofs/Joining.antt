@@ -12,7 +12,7 @@ use Rattle.gr_world.specs.declared.fault.WorldFault.TheVariants as fault
 use Rattle.gr_world.specs.Seen.{WorldView, log_at, net_in, world_of}
 use Rattle.gr_world.specs.Of.{IsReadable, LanesFit}
 use Rattle.gr_world.specs.Steps.{Does}
-use Rattle.gr_world.specs.Disk.{UsesDisk}
+use Rattle.gr_world.specs.Disk.{UsesDisk, LeavesOthers}
 use Rattle.gr_world.specs.Ran.{Keeps, Ran}
 use Rattle.gr_world.specs.Sweeps.{Joins, Delivers, AreBrokers}
 use Rattle.gr_world.proofs.Composed.{ran_on, ran_lines, ran_memory, disk_on, disk_lines, disk_memory, does_err, does_on}
@@ -79,3 +79,13 @@ lanes_kept lanes a b k same x = record {
       x.logs (sym k.spent ∙ u) p l j (λ h. d (k.down ∙ h ∙ ap (λ t. Some (host_of t p)) (sym k.topo))) (sym (same p j) ∙ e);
   readable = λ u p i. subst (λ (t : TopologyView). IsReadable t.late (lanes (2 * p))) (sym k.topo) (x.readable (sym k.spent ∙ u) p (subst (λ t. p < length t.publishers) k.topo i));
 }
+
+-- Lanes that are nobody's
+
+-- a call on a disk that is left as it is touches none
+pub others_none : (t : TopologyView) (a : ℕ → Lane) → LeavesOthers t a a
+others_none t a n h = refl
+
+-- nor do two calls one after the other that touch none
+pub others_on : (t t' : TopologyView) (a b c : ℕ → Lane) → t' ≡ t → LeavesOthers t a b → LeavesOthers t' b c → LeavesOthers t a c
+others_on t t' a b c e x y n h = y n (λ p i. h p (subst (λ (s : TopologyView). p < length s.publishers) e i)) ∙ x n h

@@ -25,4 +25,8 @@ pub mod Onward
 pub mod Moments
 pub mod Swept
 pub mod Depths
+pub mod Barring
+pub mod Ending
 pub mod Spelled
+pub mod Fitted
+pub mod Lasting

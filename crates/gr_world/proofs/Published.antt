@@ -34,7 +34,7 @@ use Rattle.gr_world.specs.Ran.{IsOpen, Ran}
 use Rattle.gr_world.specs.Stopped.{broken_in}
 use Rattle.gr_world.specs.Taking.{Follows, TakesUp, put_in}
 use Rattle.gr_world.proofs.Absorbing.{Touches, view_is, log_is, log_here}
-use Rattle.gr_world.proofs.Answers.{on_ok, ok_answer, ok_follows, spelled_follow, disk_follows, reopen_follows, reopen_told, not_disk, carried_follows, leaves_on, touched, touched_broken, untouched, whole_logged, whole_with}
+use Rattle.gr_world.proofs.Answers.{on_ok, ok_answer, ok_follows, spelled_follow, disk_follows, reopen_follows, reopen_told, not_disk, carried_follows, leaves_on, touched, touched_broken, untouched, whole_logged, whole_with, closes, logged_none, log_same, failed_same}
 use Rattle.gr_report.proofs.Named.{all_of}
 use Rattle.gr_report.proofs.Passing.{over_edges}
 use Rattle.gr_world.proofs.Lanes.{LaneMoves, appends_moves, lanes_fit}
@@ -97,6 +97,7 @@ module _ (w : WorldView) (b p number : ℕ) (e : Event) (i : IsWorld w) (lt : b 
     carried = carried_follows answer result f k.leaves.never_damaged;
     whole = λ not whole. on (λ (x : BrokerView). is_broken (log_in x p) ≡ false) whole
         (whole_with p broker log view short (whole_logged (log_in broker p) (publish_logs_at broker p w.clock number e)) whole) (λ h. absurd (not_disk answer result f not h));
+    closed = λ broken. stays broken (publish_logs_at broker p w.clock number e) refl;
     reopen = λ h. (k.reopen.0 (reopen_follows answer result f h)).0;
   }
     where
@@ -114,6 +115,13 @@ module _ (w : WorldView) (b p number : ℕ) (e : Event) (i : IsWorld w) (lt : b 
 
       on : (P : BrokerView → Type 0) → P broker → P (after_publish w.topo broker p w.clock number e) → (IsErrOf (log_answer answer) log_fault.Disk → P (broken_at broker p)) → P after
       on P a m c = leaves_on P broker (after_publish w.topo broker p w.clock number e) (broken_at broker p) after (log_answer answer) k.leaves a m c
+
+      -- a log that the disk has failed stays
+      stays : is_broken (log_in broker p) ≡ true → (r : Option Record) → publish_logs_at broker p w.clock number e ≡ r → log_in after p ≡ log_in broker p
+      stays broken (Some r) is = ap (λ (x : BrokerView). log_in x p) (k.leaves.closed (closes answer (k.reopen.1 (broken, ap is_some is))))
+      stays broken None is =
+          on (λ (x : BrokerView). log_in x p ≡ log_in broker p) refl
+          (log_same p broker log view short (ap (λ (r : Option Record). with_logged (log_in broker p) r) is ∙ logged_none (log_in broker p))) (λ h. failed_same p broker short broken)
 
   -- so it does what the machine's publish does
   pub publish_does : (after : BrokerView) (frames : List (List ℕ)) (result : Result (List Report) WorldFault) → Called w b p (publish_in w b p number e) after frames result

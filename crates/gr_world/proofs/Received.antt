@@ -214,6 +214,7 @@ module _ (w : WorldView) (f : Frame) (bytes : List ℕ) (i : IsWorld w) (spelled
     fits = is;
     carried = carries reply result by;
     whole = λ d h. ap (λ (ls : List (Option LogView)). is_broken (get_or ls f.head.publisher None)) (same_logs reply after leaves err) ∙ h;
+    closed = λ h. ap (λ (ls : List (Option LogView)). get_or ls f.head.publisher None) (same_logs reply after leaves err);
     reopen = λ e. absurd (not_reopen reply result by e);
   }
     where

@@ -34,7 +34,7 @@ use Rattle.gr_world.specs.Opened.{IsRead, IsSoundBut, Restarts, restart_over}
 use Rattle.gr_world.specs.Disk.{NotDisk}
 use Rattle.gr_world.specs.Ran.{IsOpen, noted_in}
 use Rattle.gr_world.specs.Steps.{Does, IsCarried, NotMemory, Makes}
-use Rattle.gr_world.specs.Stopped.{tick_in, kept_line, stopped_over, broken_in, IsStoppedAt, StopRan, StopRestarts}
+use Rattle.gr_world.specs.Stopped.{tick_in, kept_line, stopped_over, broken_in, IsStoppedAt, StopsOver, StopRan, StopRestarts}
 use Rattle.gr_world.proofs.StoppedOver.{same_all, set_one, logs_left, is_refused, not_stopped, stopped_is}
 use Rattle.gr_world.proofs.BrokenAppend.{stands_reads}
 use Rattle.gr_world.proofs.Absorbing.{log_here, log_stays, log_elsewhere}
@@ -386,3 +386,49 @@ stopped_makes old new p number stop e (Err (fault.Damaged q at)) does carried n 
 stopped_makes old new p number stop e (Err (fault.HostsSubscriber b)) does carried n lines told = absurd carried
 stopped_makes old new p number stop e (Err (fault.NoFrame sent)) does carried n lines told = absurd carried
 stopped_makes old new p number stop e (Err (fault.ClockRange at)) does carried n lines told = absurd carried
+
+-- Over the logs that are left, whether the disk had failed one or not
+
+read_records : (late : List ℕ) (m : LogView) (o : Option LogView) (bytes : List ℕ) (rs : List Record) → o ≡ Some m → IsRead late o bytes → log_text late bytes ≡ Ok rs → m.records ≡ rs
+read_records late m o bytes rs e r t = let read : IsRead late (Some m) bytes = subst (λ (x : Option LogView). IsRead late x bytes) e r in cc (read, t)
+
+stops_over : (old new : WorldView) (lanes lanes' : ℕ → Lane) (b p number tick call pick : ℕ) (e : Event) (ls : List Report) → IsStoppedAt old p tick number e call pick (lanes' (2 * p)) → IsWorld old
+    → b ≡ host_of old.topo p → b < length old.topo.brokers → p < length old.topo.publishers → ((m : ℕ) → m ≢ 2 * p → lanes' m ≡ lanes m)
+    → Does (let u : World = world_of new in stopped_over (net_in old) (world_of (broken_in old b p)) b p number tick u.logs) new (Ok ls)
+    → ((q : ℕ) → q < length old.topo.publishers → host_of old.topo q ≡ b → IsRead old.topo.late (log_at new q) (crash_image (lanes' (2 * q))))
+    → ((q : ℕ) → q < length old.topo.publishers → host_of old.topo q ≢ b → log_at new q ≡ log_at (broken_in old b p) q)
+    → StopsOver p tick number e call pick lanes old new ls
+stops_over old new lanes lanes' b p number tick call pick e ls left fits host broker j others d found elsewhere = record {
+  own = λ l m there now. read_records old.topo.late m (log_at new p) (crash_image (lanes' (2 * p))) (records_kept l.records (entry.Event tick number e) call pick) now (found p j (sym host)) (left.image l there);
+  found = λ q i ne at. subst (λ (lane : Lane). IsRead old.topo.late (log_at new q) (crash_image lane)) (others (2 * q) (λ s. ne (omega arith))) (found q i (at ∙ sym host));
+  elsewhere = λ q i away. let n : host_of old.topo q ≢ b = λ h. away (h ∙ host) in elsewhere q i n ∙ broken_elsewhere old b p fits broker host j q n;
+  over = ap (λ k. let u : World = world_of new in stopped_over (net_in old) (world_of old) k p number tick u.logs) (sym host)
+      ∙ (ap (λ (m : World). let u : World = world_of new in stopped_over (net_in old) m b p number tick u.logs) (sym (broken_same old b p fits broker host j))
+      ∙ ap₂ (λ (w : World) (rs : List Report). let t : Transition = record { world = w; lines = rs } in t) (sym d.world) (sym d.lines));
+}
+
+pub stops_mid : (old mid new : WorldView) (lanes lanes' : ℕ → Lane) (b p number tick call pick : ℕ) (e : Event) (result : Result (List Report) WorldFault) → IsStoppedAt old p tick number e call pick (lanes' (2 * p)) → IsWorld old
+    → b ≡ host_of old.topo p → b < length old.topo.brokers → p < length old.topo.publishers → ((m : ℕ) → m ≢ 2 * p → lanes' m ≡ lanes m) → mid ≡ broken_in old b p
+    → Does (let u : World = world_of new in stopped_over (net_in mid) (world_of mid) b p number tick u.logs) new result
+    → OnOk result ((q : ℕ) → q < length mid.topo.publishers → host_of mid.topo q ≡ b → IsRead mid.topo.late (log_at new q) (crash_image (lanes' (2 * q))))
+    → OnOk result ((q : ℕ) → q < length mid.topo.publishers → host_of mid.topo q ≢ b → log_at new q ≡ log_at mid q)
+    → IfOk result (StopsOver p tick number e call pick lanes old new)
+stops_mid old mid new lanes lanes' b p number tick call pick e (Err x) left fits host broker j others is = λ d y z. tt
+stops_mid old mid new lanes lanes' b p number tick call pick e (Ok ls) left fits host broker j others is =
+    subst (λ (m : WorldView). Does (let u : World = world_of new in stopped_over (net_in m) (world_of m) b p number tick u.logs) new (Ok ls)
+    → ((q : ℕ) → q < length m.topo.publishers → host_of m.topo q ≡ b → IsRead m.topo.late (log_at new q) (crash_image (lanes' (2 * q))))
+    → ((q : ℕ) → q < length m.topo.publishers → host_of m.topo q ≢ b → log_at new q ≡ log_at m q)
+    → StopsOver p tick number e call pick lanes old new ls) (sym is)
+    (λ d x y. stops_over old new lanes lanes' b p number tick call pick e ls left fits host broker j others d x y)
+
+-- one tick at the most is worked out
+pub one_tick : (o : Option ℕ) (a b : ℕ) → o ≡ Some a → o ≡ Some b → a ≡ b
+one_tick o a b e f = cc
+
+pub no_tick : (o : Option ℕ) (a : ℕ) → o ≡ None → o ≡ Some a → ⊥
+no_tick o a e f = cc
+
+-- also where it is noted that memory was refused
+pub noted_does : (t : Transition) (mid new : WorldView) (r result : Result (List Report) WorldFault) → result ≡ r → new ≡ noted_in mid r → Does t mid r → Does t new result
+noted_does t mid new (Ok ls) result same e d = subst (λ (q : Result (List Report) WorldFault). Does t new q) (sym same) (subst (λ (v : WorldView). Does t v (Ok ls)) (sym e) d)
+noted_does t mid new (Err x) result same e d = subst (λ (q : Result (List Report) WorldFault). Does t new q) (sym same) (record { world = tt; lines = tt })

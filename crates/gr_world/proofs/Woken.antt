@@ -1,8 +1,10 @@
 -- A wake within a step: at the publisher's host it is the machine's over the log there; elsewhere the broker has no log, and the
 -- machine's wake looks at none
-use Rattle.std.proofs.Common.{◌≡◌, ◌≢◌, ◌⊎◌, inl, inr, ℕ, ◌*◌, ◌<◌, true, false, List, length, set, Option, Some, None, Result, Ok, Err, OnOk, refl, sym, ap, ◌∙◌, subst}
+use Rattle.std.proofs.Common.{◌≡◌, ◌≢◌, ◌⊎◌, inl, inr, ℕ, ◌*◌, ◌<◌, true, false, List, length, set, Option, Some, None, Result, Ok, Err, OnOk, refl, sym, ap, ◌∙◌, subst, OnErr, ap₂}
 use Rattle.std.specs.Prelude.{◌↔◌, IsSome, is_some, IfOk, IsErrOf}
 use Rattle.std.proofs.lemmas.Bool.{cases_eq, eq-eqb, ne_eqb, true≢false}
+use Rattle.std.proofs.lemmas.List.{length-set, get_or-set_other}
+use Rattle.gr_publog.specs.declared.record.Record.{Record}
 use Rattle.gr_publog.specs.declared.record.LogFault.TheVariants as log_fault
 use Rattle.gr_publog.specs.Crash.{LogView}
 use Rattle.gr_out.specs.Lane.{Lane}
@@ -10,7 +12,7 @@ use Rattle.gr_topo.specs.Topology.{TopologyView, host_of}
 use Rattle.gr_model.specs.declared.report.Report.{Report}
 use Rattle.gr_model.specs.Tree.{IsNet}
 use Rattle.gr_model.specs.Broker.{View, Log, Outcome as MachineOutcome, wake}
-use Rattle.gr_model.specs.World.{World, view_of, log_of, wake_for, wake_for_by}
+use Rattle.gr_model.specs.World.{World, blank_view, view_of, log_of, wake_for, wake_for_by}
 use Rattle.gr_model_calls.specs.Edges.{GoesOverEdge}
 use Rattle.gr_model_calls.proofs.topology.Strays.{wake_on}
 use Rattle.gr_model_theorems.proofs.server.CutEvents.{on_log}
@@ -25,15 +27,18 @@ use Rattle.gr_broker.specs.Hosted.{wake_at, mark_at, mark_logs_at, cut_logs_at, 
 use Rattle.gr_report.proofs.Named.{all_of}
 use Rattle.gr_report.proofs.Passing.{wake_passes, tells_on, over_edges}
 use Rattle.gr_world.specs.declared.fault.WorldFault.{WorldFault}
+use Rattle.gr_world.specs.declared.fault.WorldFault.TheVariants as fault
 use Rattle.gr_world.specs.Seen.{WorldView, broker_in, log_at, world_of, net_in}
 use Rattle.gr_world.specs.Of.{IsWorld, LanesFit}
 use Rattle.gr_world.specs.Steps.{Does}
-use Rattle.gr_world.specs.Ran.{IsOpen, Ran}
+use Rattle.gr_world.specs.Disk.{IsWakeBarred}
+use Rattle.gr_world.specs.Ended.{WakeEnds, marked_broken_in}
+use Rattle.gr_world.specs.Ran.{IsOpen, Ran, TouchesOne}
 use Rattle.gr_world.specs.Taking.{Follows, TakesUp, put_in}
-use Rattle.gr_world.proofs.Absorbing.{Touches, view_is, log_is, log_here, log_elsewhere}
-use Rattle.gr_world.proofs.Answers.{on_ok, ok_answer, ok_follows, spelled_follow, reopen_follows, not_disk, carried_follows, wake_leaves_on, touched, touched_broken, touched_twice, untouched, whole_logged, whole_with}
+use Rattle.gr_world.proofs.Absorbing.{Touches, view_is, log_is, log_here, log_elsewhere, broker_here, broker_there}
+use Rattle.gr_world.proofs.Answers.{on_ok, ok_answer, ok_follows, spelled_follow, reopen_follows, not_disk, carried_follows, wake_leaves_on, touched, touched_broken, touched_twice, untouched, whole_logged, whole_with, closes, logged_none, log_same, failed_same, reopen_told, disk_follows}
 use Rattle.gr_world.proofs.Lanes.{LaneMoves, twice_moves, lanes_fit}
-use Rattle.gr_world.proofs.Called.{Called, called_does, Site, site_read, site_fits, site_publisher, site_ran}
+use Rattle.gr_world.proofs.Called.{Called, called_does, Site, site_read, site_fits, site_publisher, site_ran, put_back}
 
 -- What the broker's call gives
 pub record Wakes (t : TopologyView) (x : BrokerView) (p now : ℕ) (after : BrokerView) (answer : Result Outcome BrokerFault) : Type 0 where
@@ -133,6 +138,7 @@ module _ (w : WorldView) (b p : ℕ) (i : IsWorld w) (lt : b < length w.topo.bro
         (whole_logged (with_logged (log_in broker p) (mark_logs_at w.topo broker p w.clock)) (cut_logs_at w.topo broker p w.clock)
         ∙ whole_logged (log_in broker p) (mark_logs_at w.topo broker p w.clock)) whole)
         (λ h. absurd (not_disk answer result f not h));
+    closed = λ broken. stays broken (mark_logs_at w.topo broker p w.clock) refl (cut_logs_at w.topo broker p w.clock) refl;
     reopen = λ h. (k.reopen.0 (reopen_follows answer result f h)).0;
   }
     where
@@ -160,11 +166,31 @@ module _ (w : WorldView) (b p : ℕ) (i : IsWorld w) (lt : b < length w.topo.bro
       on : (P : BrokerView → Type 0) → P broker → P marked → P (after_wake w.topo broker p w.clock) → (IsErrOf (log_answer answer) log_fault.Disk → P (broken_at broker p) × P (broken_at marked p)) → P after
       on P a m b c = wake_leaves_on P broker marked (after_wake w.topo broker p w.clock) (broken_at broker p) (broken_at marked p) after (log_answer answer) k.leaves a m b c
 
+      -- a log that the disk has failed stays
+      stays : is_broken (log_in broker p) ≡ true → (mark : Option Record) → mark_logs_at w.topo broker p w.clock ≡ mark → (cut : Option Record) → cut_logs_at w.topo broker p w.clock ≡ cut → log_in after p ≡ log_in broker p
+      stays broken (Some r) is cut at = ap (λ (x : BrokerView). log_in x p) (k.leaves.closed (closes answer (k.reopen.1 (broken, inl (ap is_some is)))))
+      stays broken None is (Some r) at = ap (λ (x : BrokerView). log_in x p) (k.leaves.closed (closes answer (k.reopen.1 (broken, inr (ap is_some at)))))
+      stays broken None is None at =
+          let m : log_marked ≡ log_in broker p = ap (λ (r : Option Record). with_logged (log_in broker p) r) is ∙ logged_none (log_in broker p) in
+          let u : log_woken ≡ log_in broker p = ap (λ (r : Option Record). with_logged log_marked r) at ∙ (logged_none log_marked ∙ m) in
+          let here : log_in marked p ≡ log_in broker p = log_same p broker log_marked view_marked short m in
+          on (λ (x : BrokerView). log_in x p ≡ log_in broker p) refl here (log_same p broker log_woken view_woken short u)
+          (λ h. (failed_same p broker short broken, failed_same p marked (subst (λ n. p < n) (sym (length-set broker.logs p log_marked)) short) (ap is_broken here ∙ broken) ∙ here))
+
   -- so it does what the machine's wake does
   pub wake_does : (after : BrokerView) (frames : List (List ℕ)) (result : Result (List Report) WorldFault) → Called w b p (wake_in w b p) after frames result
       → Does (wake_for (net_in w) (world_of w) b p) (put_in w b after frames) result
   unfolding wake_for_by
   wake_does after frames result c = called_does w b p (wake_in w b p) after frames result i lt below c
+
+  -- what is known of other publishers stays
+  pub wake_views : (after : BrokerView) (answer : Result Outcome BrokerFault) → Wakes w.topo broker p w.clock after answer → (q : ℕ) → q ≢ p → view_in after q ≡ view_in broker q
+  wake_views after answer k q n =
+      wake_leaves_on (λ (x : BrokerView). view_in x q ≡ view_in broker q) broker (after_mark w.topo broker p w.clock) (after_wake w.topo broker p w.clock) (broken_at broker p) (broken_at (after_mark w.topo broker p w.clock) p) after (log_answer answer) k.leaves
+      refl marked (get_or-set_other broker.views p q _ blank_view n) (λ h. (refl, marked))
+    where
+      marked : view_in (after_mark w.topo broker p w.clock) q ≡ view_in broker q
+      marked = get_or-set_other broker.views p q _ blank_view n
 
   -- The lanes
 
@@ -209,3 +235,59 @@ module _ (v w : WorldView) (b p : ℕ) (x after : BrokerView) (frames : List (Li
   lanes_wake lanes lanes' fit on =
       wake_lanes v b p (site_fits v w b p x s) s.broker (site_publisher v w b p x s) after frames lanes lanes' answer result
       (subst IsOpen (sym s.same) s.is_open) (subst (LanesFit lanes) (sym s.same) fit) (subst (λ (z : BrokerView). WakesOn v.topo z p v.clock after lanes lanes' answer) (site_read v w b p x s) on) called
+
+  -- It is answered `Reopen` exactly where it would append to a broken log, and then nothing has changed
+
+  abbrev Barred : BrokerView → Type 0
+  Barred y = (is_broken (log_in y p) ≡ true) × (IsSome (mark_logs_at v.topo y p v.clock) ⊎ IsSome (cut_logs_at v.topo y p v.clock))
+
+  pub reopens_wake : IsErrOf result fault.Reopen ↔ IsWakeBarred w b p
+  reopens_wake = (
+    λ h. subst (λ (u : WorldView). IsWakeBarred u b p) s.same (subst Barred (site_read v w b p x s) (k.reopen.0 (reopen_follows answer result f h))),
+    λ h. reopen_told answer result f (k.reopen.1 (subst Barred (sym (site_read v w b p x s)) (subst (λ (u : WorldView). IsWakeBarred u b p) (sym s.same) h))),
+  )
+
+  frames_kept : (z : WorldFault) → result ≡ Err z → frames ≡ v.frames
+  frames_kept z h = kept result h (takes (wake_at v.topo x p v.clock) k.told).kept
+    where
+      kept : (r : Result (List Report) WorldFault) → r ≡ Err z → OnErr r (frames ≡ v.frames) → frames ≡ v.frames
+      kept (Ok ls) h o = absurd (cc h)
+      kept (Err y) h o = o
+
+  -- where it is refused nothing has changed, and where the disk fails it the log is broken
+  pub ends_wake : WakeEnds b p result w (put_in v b after frames)
+  ends_wake = record {
+    closed = λ h. put_back v w b x after frames s.same s.read (k.leaves.closed (closes answer (reopen_follows answer result f h))) (frames_kept fault.Reopen h);
+    barred = reopens_wake.0;
+    failed = λ h. elim (k.leaves.failed (disk_follows answer result f h)) [
+      | inl e ↦ inl (left (λ y. broken_at y p) (frames_kept fault.Disk h) e)
+      | inr e ↦ inr (left (λ y. broken_at (after_mark v.topo y p v.clock) p) (frames_kept fault.Disk h) e ∙ moved)
+    ];
+  }
+    where
+      left : (g : BrokerView → BrokerView) → frames ≡ v.frames → after ≡ g x → put_in v b after frames ≡ put_in w b (g (broker_in w b)) w.frames
+      left g fs e =
+          ap₂ (λ (y : BrokerView) zs. put_in v b y zs) (e ∙ ap g (site_read v w b p x s)) fs
+          ∙ ap (λ (u : WorldView). put_in u b (g (broker_in u b)) u.frames) s.same
+
+      moved : put_in w b (broken_at (after_mark v.topo (broker_in w b) p v.clock) p) w.frames ≡ marked_broken_in w b p
+      moved = ap (λ (u : WorldView). put_in w b (broken_at (after_mark u.topo (broker_in w b) p u.clock) p) w.frames) s.same
+
+  -- all other brokers and publishers are left as they were
+  pub apart_wake : TouchesOne b p w (put_in v b after frames)
+  apart_wake = record {
+    brokers = λ c n. broker_there v b p after frames within_list c n ∙ ap (λ (u : WorldView). broker_in u c) s.same;
+    views = λ q n.
+        ap (λ (y : BrokerView). view_in y q) (broker_here v b p after frames within_list)
+        ∙ (wake_views v b p (site_fits v w b p x s) s.broker (site_publisher v w b p x s) after answer here q n
+        ∙ ap (λ (u : WorldView). view_in (broker_in u b) q) s.same);
+    logs = λ q n.
+        ap (λ (y : BrokerView). log_in y q) (broker_here v b p after frames within_list)
+        ∙ (called.touches.others q n ∙ ap (λ (u : WorldView). log_in (broker_in u b) q) s.same);
+  }
+    where
+      here : Wakes v.topo (broker_in v b) p v.clock after answer
+      here = subst (λ (z : BrokerView). Wakes v.topo z p v.clock after answer) (site_read v w b p x s) k
+
+      within_list : b < length v.brokers
+      within_list = subst (λ m. b < m) (sym (let i = site_fits v w b p x s in i.count)) s.broker

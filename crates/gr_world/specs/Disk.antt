@@ -1,19 +1,20 @@
 -- What a call that takes the disk does to it
-use Rattle.std.specs.Prelude.{◌≡◌, ◌≢◌, ◌⊎◌, ℕ, ◌≤◌, true, List, None, Result, Err, IsErrOf}
+use Rattle.std.specs.Prelude.{◌≡◌, ◌≢◌, ◌⊎◌, ◌↔◌, ℕ, ◌*◌, ◌≤◌, ◌<◌, true, List, length, None, Result, Err, IsErrOf}
 use Rattle.std.specs.Prelude.{IsSome}
 use Rattle.gr_event.specs.declared.event.Event.{Event}
+use Rattle.gr_out.specs.Lane.{Lane}
 use Rattle.gr_out.specs.Stops.{StaysFaultless}
 use Rattle.gr_publog.specs.Crash.{EitherRose}
 use Rattle.gr_sched.specs.declared.step.Step.{Step}
-use Rattle.gr_topo.specs.Topology.{host_of}
+use Rattle.gr_topo.specs.Topology.{TopologyView, host_of}
 use Rattle.gr_model.specs.declared.report.Report.{Report}
-use Rattle.gr_broker.specs.Seen.{is_broken}
-use Rattle.gr_broker.specs.Hosted.{publish_logs_at}
+use Rattle.gr_broker.specs.Seen.{log_in, is_broken}
+use Rattle.gr_broker.specs.Hosted.{publish_logs_at, mark_logs_at, cut_logs_at}
 use Rattle.gr_world.specs.declared.fault.WorldFault.{WorldFault}
 use Rattle.gr_world.specs.declared.fault.WorldFault.TheVariants as fault
 use Rattle.gr_world.specs.Seen.{WorldView, broker_in, log_at}
 use Rattle.gr_world.specs.Of.{IsSound}
-use Rattle.gr_world.specs.Steps.{refused_at}
+use Rattle.gr_world.specs.Steps.{NotMemory, refused_at}
 
 -- an answer other than that the disk failed
 abbrev pub NotDisk : {T : Type 0} → Result T WorldFault → Type 0
@@ -35,6 +36,11 @@ pub record UsesDisk (faultless faultless' : Type 0) (faults stops faults' stops'
   pub faultless_stays : StaysFaultless faultless faultless' faults faults'
   pub never_fails : faultless → result ≢ Err fault.Disk
 
+-- no lane is touched but those of the publishers
+abbrev pub LeavesOthers : TopologyView → (ℕ → Lane) → (ℕ → Lane) → Type 0
+LeavesOthers t before after =
+    (n : ℕ) → ((p : ℕ) → p < length t.publishers → n ≢ 2 * p) → after n ≡ before n
+
 -- Only an answer that the disk failed leaves a log broken or a broker down; while there is none, nothing has to be
 -- opened again
 pub record StaysSound {T : Type 0} (old new : WorldView) (result : Result T WorldFault) : Type 0 where
@@ -49,6 +55,29 @@ IsClosed old new result = IsSome old.down → (result ≡ Err fault.Reopen) × (
 abbrev pub IsBarred : WorldView → ℕ → ℕ → Event → Type 0
 IsBarred w p number e = (is_broken (log_at w p) ≡ true)
     × IsSome (publish_logs_at (broker_in w (host_of w.topo p)) p w.clock number e)
+
+-- a wake of a broker for a publisher that would append a mark or a cut to a log that the disk has failed
+abbrev pub IsWakeBarred : WorldView → ℕ → ℕ → Type 0
+IsWakeBarred w b p =
+    let x = broker_in w b in
+    (is_broken (log_in x p) ≡ true)
+    × (IsSome (mark_logs_at w.topo x p w.clock) ⊎ IsSome (cut_logs_at w.topo x p w.clock))
+
+-- a wake for all publishers that would do so for one of them
+pub record BarsWake (w : WorldView) (b : ℕ) : Type 0 where
+  pub publisher : ℕ
+  pub below : publisher < length w.topo.publishers
+  pub barred : IsWakeBarred w b publisher
+
+-- the disk has failed a log
+pub record HasBroken (w : WorldView) : Type 0 where
+  pub publisher : ℕ
+  pub below : publisher < length w.topo.publishers
+  pub broken : is_broken (log_at w publisher) ≡ true
+
+-- Where neither memory was refused nor the disk failed on the way, `Reopen` is answered exactly where this holds
+abbrev pub ReopensWhere : Type 0 → Result (List Report) WorldFault → Type 0
+ReopensWhere barred result = NotMemory result → NotDisk result → (IsErrOf result fault.Reopen ↔ barred)
 
 -- memory was refused before, the step may not be made, or a broker is down: then the disk is not called
 abbrev pub IsIdle : WorldView → Step → Type 0

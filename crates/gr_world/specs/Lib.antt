@@ -9,3 +9,6 @@ pub mod Stopped
 pub mod Taking
 pub mod Starting
 pub mod Sweeps
+pub mod Ended
+pub mod Fits
+pub mod Lasting

@@ -1,21 +1,22 @@
 -- A world's opening, and a broker's start again, over what the lanes hold
-use Rattle.std.specs.Prelude.{◌≡◌, ◌≢◌, ◌⊎◌, ℕ, ◌*◌, ◌<◌, false, List, [], length, flat_map, Option, Some, None}
-use Rattle.std.specs.Prelude.{Result, Ok, IsErrOf, OnOk}
+use Rattle.std.specs.Prelude.{◌≡◌, ◌≢◌, ◌⊎◌, ℕ, ◌*◌, ◌<◌, false, List, [], ◌∷◌, length, flat_map, Option, Some, None}
+use Rattle.std.specs.Prelude.{Result, Ok, IsOk, IsErrOf, OnOk}
 use Rattle.gr_out.specs.declared.disk.Stop.TheVariants.{Unset}
-use Rattle.gr_out.specs.Lane.{Lane, content}
+use Rattle.gr_out.specs.Lane.{Lane, content, crash_image}
 use Rattle.gr_publog.specs.Crash.{LogView}
 use Rattle.gr_publog.specs.Text.{log_text}
 use Rattle.gr_topo.specs.Topology.{TopologyView, host_of}
 use Rattle.gr_model.specs.declared.report.Report.{Report}
+use Rattle.gr_model.specs.declared.report.Report.TheVariants as line
 use Rattle.gr_model.specs.Net.{Net, numbers}
 use Rattle.gr_model.specs.NetOf.{net_of}
 use Rattle.gr_model.specs.Broker.{Log}
 use Rattle.gr_model.specs.World.{World, Transition, restarted, opened_lines}
 use Rattle.gr_broker.specs.Seen.{view_in, machine_log}
-use Rattle.gr_broker.specs.Opened.{opened_at}
+use Rattle.gr_broker.specs.Opened.{opened_at, IsDamagedAt}
 use Rattle.gr_world.specs.declared.fault.WorldFault.{WorldFault}
 use Rattle.gr_world.specs.declared.fault.WorldFault.TheVariants as fault
-use Rattle.gr_world.specs.Seen.{WorldView, broker_in, log_at}
+use Rattle.gr_world.specs.Seen.{WorldView, broker_in, log_at, net_in, world_of}
 use Rattle.gr_world.specs.Of.{IsSound}
 
 -- no stop is ordered on any lane
@@ -50,6 +51,26 @@ with_logs w logs = record { clock = w.clock; most = w.most; frames = w.frames; v
 
 abbrev pub restart_over : Net → World → ℕ → List Log → Transition
 restart_over net w b logs = record { world = restarted net (with_logs w logs) b; lines = opened_lines net logs b }
+
+-- its crash and start again over them
+abbrev pub crash_over : Net → World → ℕ → List Log → Transition
+crash_over net w b logs = record { world = restarted net (with_logs w logs) b; lines = line.Crashed b ∷ opened_lines net logs b }
+
+-- A broker has crashed and started again. The logs of its publishers are those that the crash left on their lanes, all
+-- other logs are as they were; over these it is the machine's crash, whether the disk had failed a log or not
+pub record Crashes (b : ℕ) (lanes : ℕ → Lane) (old new : WorldView) (lines : List Report) : Type 0 where
+  pub found : (p : ℕ) → p < length old.topo.publishers → host_of old.topo p ≡ b
+      → IsRead old.topo.late (log_at new p) (crash_image (lanes (2 * p)))
+  pub elsewhere : (p : ℕ) → p < length old.topo.publishers → host_of old.topo p ≢ b → log_at new p ≡ log_at old p
+  pub over : (let w : World = world_of new in crash_over (net_in old) (world_of old) b w.logs)
+      ≡ record { world = world_of new; lines = lines }
+
+-- The lane of a publisher holds no log, with the place of its first fault, and it is the first such publisher: by its
+-- host, and at one host by its number
+pub record IsFirstDamaged (t : TopologyView) (p at : ℕ) (lanes : ℕ → Lane) : Type 0 where
+  pub here : IsDamagedAt t (host_of t p) p at lanes
+  pub before : (q : ℕ) → q < length t.publishers → host_of t q < host_of t p
+      → IsOk (log_text t.late (content (lanes (2 * q))))
 
 -- no log is broken but those of one broker, and no other broker is down
 pub record IsSoundBut (b : ℕ) (w : WorldView) : Type 0 where

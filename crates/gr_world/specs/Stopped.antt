@@ -1,6 +1,6 @@
 -- A publish that stops within: the append that is broken, and the host's start over what is left
-use Rattle.std.specs.Prelude.{◌≡◌, ◌≢◌, ◌⊎◌, ℕ, suc, max, Bool, false, ◌&&◌, nat_eq, nat_le, if◌then◌else◌, List, ◌∷◌}
-use Rattle.std.specs.Prelude.{get_or, Option, Some, None, Result, Ok, Err, IsErrOf, OnOk}
+use Rattle.std.specs.Prelude.{◌≡◌, ◌≢◌, ◌⊎◌, ℕ, ◌*◌, ◌<◌, suc, max, Bool, false, ◌&&◌, nat_eq, nat_le, if◌then◌else◌, List, ◌∷◌}
+use Rattle.std.specs.Prelude.{length, get_or, Option, Some, None, Result, Ok, Err, IsErrOf, OnOk}
 use Rattle.gr_event.specs.declared.event.Event.{Event}
 use Rattle.gr_out.specs.Lane.{Lane, crash_image}
 use Rattle.gr_publog.specs.declared.record.Record.TheVariants as entry
@@ -17,9 +17,10 @@ use Rattle.gr_broker.specs.declared.outcome.BrokerFault.TheVariants as refused
 use Rattle.gr_broker.specs.Seen.{broken_at}
 use Rattle.gr_world.specs.declared.fault.WorldFault.{WorldFault}
 use Rattle.gr_world.specs.declared.fault.WorldFault.TheVariants as fault
-use Rattle.gr_world.specs.Seen.{WorldView, broker_in, log_at}
+use Rattle.gr_topo.specs.Topology.{host_of}
+use Rattle.gr_world.specs.Seen.{WorldView, broker_in, log_at, net_in, world_of}
 use Rattle.gr_world.specs.Of.{IsWorld, IsReadable, IsSound}
-use Rattle.gr_world.specs.Opened.{with_logs, with_down, IsSoundBut}
+use Rattle.gr_world.specs.Opened.{IsRead, with_logs, with_down, IsSoundBut}
 use Rattle.gr_world.specs.Steps.{Stays, IsCarried, NotMemory}
 use Rattle.gr_world.specs.Disk.{StaysSound}
 use Rattle.gr_world.specs.Taking.{put_in}
@@ -72,6 +73,20 @@ stopped_over net w b p number tick logs =
       world = restarted net (with_logs w logs) b;
       lines = line.Crashed b ∷ (kept_line (nat_eq log.last number) p number tick ∷ opened_lines net logs b);
     }
+
+-- A publish that was stopped, and its host's start again. The log has the event where the call and the pick keep it; the
+-- other logs of the host are those that the crash left on their lanes, and all others are as they were. Over these it is
+-- the machine's, whether the disk had failed a log or not
+pub record StopsOver (p tick number : ℕ) (e : Event) (call pick : ℕ) (lanes : ℕ → Lane) (old new : WorldView)
+    (lines : List Report) : Type 0 where
+  pub own : (l m : LogView) → log_at old p ≡ Some l → log_at new p ≡ Some m
+      → m.records ≡ records_kept l.records (entry.Event tick number e) call pick
+  pub found : (q : ℕ) → q < length old.topo.publishers → q ≢ p → host_of old.topo q ≡ host_of old.topo p
+      → IsRead old.topo.late (log_at new q) (crash_image (lanes (2 * q)))
+  pub elsewhere : (q : ℕ) → q < length old.topo.publishers → host_of old.topo q ≢ host_of old.topo p
+      → log_at new q ≡ log_at old q
+  pub over : (let w : World = world_of new in let b = host_of old.topo p in
+      stopped_over (net_in old) (world_of old) b p number tick w.logs) ≡ record { world = world_of new; lines = lines }
 
 -- what a publish that may stop leaves beside the machine's equation. After want of memory no call uses the world
 pub record StopRan (old new : WorldView) (result : Result (List Report) WorldFault) : Type 0 where

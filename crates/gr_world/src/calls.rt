@@ -7,8 +7,9 @@ ghost use Rattle.gr_model.specs.World.{wake_for, deliver_frame, publish_now, fra
 ghost use Rattle.gr_world.specs.Seen.{net_in, world_of, log_at};
 ghost use Rattle.gr_world.specs.Of.{IsWorld, LanesFit};
 ghost use Rattle.gr_world.specs.Steps.{Does};
-ghost use Rattle.gr_world.specs.Ran.{IsOpen, Ran};
-ghost use Rattle.gr_world.specs.Disk.{UsesDisk, IsBarred};
+ghost use Rattle.gr_world.specs.Ran.{IsOpen, Ran, TouchesOne};
+ghost use Rattle.gr_world.specs.Disk.{UsesDisk, LeavesOthers, IsBarred, IsWakeBarred};
+ghost use Rattle.gr_world.specs.Ended.{WakeEnds};
 ghost use Rattle.gr_world.specs.Stopped.{broken_in};
 
 use crate::fault::WorldFault;
@@ -41,6 +42,7 @@ impl World {
         ensures failed { IsErrOf result WorldFault.Disk → self.new ≡ broken_in self.old (host_of self.old.topo p) p }
         ensures disk { UsesDisk (D.faultless disk.old) (D.faultless disk.new) (D.faults disk.old)
             (D.stops disk.old) (D.faults disk.new) (D.stops disk.new) result }
+        ensures others { LeavesOthers self.old.topo (D.lane_of disk.old) (D.lane_of disk.new) }
         ensures lanes { LanesFit (D.lane_of disk.new) self.new }
     {
         // Proof only: what is sent goes over edges.
@@ -89,8 +91,12 @@ impl World {
         requires lanes { LanesFit (D.lane_of disk.old) self.old }
         ensures does { Does (wake_for (net_in self.old) (world_of self.old) b p) self.new result }
         ensures ran { Ran self.old self.new result }
+        ensures reopen { IsErrOf result WorldFault.Reopen ↔ IsWakeBarred self.old b p }
+        ensures ends { WakeEnds b p result self.old self.new }
+        ensures apart { TouchesOne b p self.old self.new }
         ensures disk { UsesDisk (D.faultless disk.old) (D.faultless disk.new) (D.faults disk.old)
             (D.stops disk.old) (D.faults disk.new) (D.stops disk.new) result }
+        ensures others { LeavesOthers self.old.topo (D.lane_of disk.old) (D.lane_of disk.new) }
         ensures lanes { LanesFit (D.lane_of disk.new) self.new }
     {
         // Proof only: what is sent goes over edges.

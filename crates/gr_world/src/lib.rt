@@ -20,6 +20,7 @@
 //! | `heads` | Kind, receiver and publisher of a frame that is not read. | `is_want`, `is_know_to`; `Seen` |
 //! | `showing` | What is shown, and the bytes of a frame. | `show`; `Shown` |
 //! | `copying` | Copies of report lines. | none |
+//! | `law` | What stands of every world that a run led to. | `Fits`, `Lasting` |
 //! | `fault` | Why a call is refused. | `fault_in` in `Ran` |
 //!
 //! Where no file stands beside it, a name in small letters is a definition of the machine, in
@@ -30,6 +31,7 @@ mod copying;
 mod delivering;
 mod fault;
 mod heads;
+pub mod law;
 mod opening;
 mod order;
 mod sending;

@@ -9,20 +9,22 @@ ghost use Rattle.gr_topo.specs.Topology.{host_of, subscribers_of, not_empty};
 ghost use Rattle.gr_model.specs.NetOf.{net_of};
 ghost use Rattle.gr_model.specs.declared.report.Report.TheVariants as line;
 ghost use Rattle.gr_model.specs.World.{World as MachineWorld, start, crash};
-ghost use Rattle.gr_broker.specs.Opened.{IsDamagedAt};
+ghost use Rattle.gr_broker.specs.Opened.{LosesNothing};
 ghost use Rattle.gr_world.specs.Seen.{net_in, world_of, log_at};
 ghost use Rattle.gr_publog.specs.Crash.{LogView};
 ghost use Rattle.gr_world.specs.Of.{IsWorld, LaneFits, IsReadable, LanesFit, IsSound};
 ghost use Rattle.gr_world.specs.Opened.{NoStops, AreEmpty, IsRead, IsOpened, IsSoundBut, Restarts, restart_over};
-ghost use Rattle.gr_world.specs.Opened.{with_down};
+ghost use Rattle.gr_world.specs.Opened.{with_down, Crashes, IsFirstDamaged};
 ghost use Rattle.gr_world.specs.Steps.{Makes, Refuses, Spends, Stays, Does, IsCarried, refused_at};
-ghost use Rattle.gr_world.specs.Disk.{Counts, StaysSound, NotDisk, UsesDisk};
+ghost use Rattle.gr_world.specs.Disk.{Counts, StaysSound, NotDisk, UsesDisk, LeavesOthers};
+ghost use Rattle.gr_world.specs.Fits.{Fits, GoesOn};
 
 use crate::fault::{Memory, WorldFault, world_fault};
 use crate::order::hosts_subscriber;
 use crate::starting::{start_again, start_brokers};
 use crate::world::World;
 use gr_broker::BrokerFault;
+use gr_model::topologies::every_topology_is_a_tree;
 use gr_model::{Report, Reports};
 use gr_out::SimDisk;
 use gr_store::FrameStore;
@@ -66,7 +68,7 @@ impl World {
     /// Opens a world over a disk: each broker starts, in order, over the logs that its lanes hold. The clock is 0.
     ///
     /// `Damaged` names the first publisher, broker by broker, whose lane holds no log. `Disk` only where the disk
-    /// failed in this call. No other fault but `Memory` comes.
+    /// failed in this call. No other fault but `Memory` comes. After each fault the lanes hold what they held.
     pub fn new<D: SimDisk>(
         alloc: Global,
         topology: Topology,
@@ -80,8 +82,15 @@ impl World {
         // Over empty lanes it is the machine's world before the first step, and nothing is told
         ensures fresh { AreEmpty topology (D.lane_of disk.old)
             → IfOk result (λ w. (world_of w ≡ start (net_of topology)) × (w.told ≡ [])) }
+        // so that it fits a run of no steps
+        ensures fits_nothing { NoStops (D.lane_of disk.old) → AreEmpty topology (D.lane_of disk.old)
+            → IfOk result (λ w. Fits w (D.lane_of disk.new) [] ([] ∷ [])) }
         ensures damaged { (p at : ℕ) → result ≡ Err (WorldFault.Damaged p at)
-            → IsDamagedAt topology (host_of topology p) p at (D.lane_of disk.old) }
+            → IsFirstDamaged topology p at (D.lane_of disk.old) }
+        // After a fault too no lane is touched but those of the publishers, and these have lost nothing at any moment
+        ensures others { LeavesOthers topology (D.lane_of disk.old) (D.lane_of disk.new) }
+        ensures any_moment { (p : ℕ) → p < length topology.publishers
+            → LosesNothing topology.late (D.lane_of disk.old (2 * p)) (D.lane_of disk.new (2 * p)) }
         ensures never_reopen { result ≢ Err WorldFault.Reopen }
         ensures carried { (b s at : ℕ) → (result ≢ Err (WorldFault.HostsSubscriber b))
             × ((result ≢ Err (WorldFault.NoFrame s)) × (result ≢ Err (WorldFault.ClockRange at))) }
@@ -92,6 +101,8 @@ impl World {
             → result ≢ Err WorldFault.Disk }
         ensures lanes { NoStops (D.lane_of disk.old) → IfOk result (λ w. LanesFit (D.lane_of disk.new) w) }
     {
+        // Proof only: the topology is a tree.
+        every_topology_is_a_tree(&topology);
         let opened = match start_brokers(alloc, &topology, disk) {
             Ok(opened) => opened,
             Err(fault) => return Err(world_fault(fault)),
@@ -139,6 +150,7 @@ impl World {
         ensures faultless { StaysFaultless (D.faultless disk.old) (D.faultless disk.new)
             (D.faults disk.old) (D.faults disk.new) }
         ensures never_fails { D.faultless disk.old → result ≢ Err WorldFault.Disk }
+        ensures others { LeavesOthers self.old.topo (D.lane_of disk.old) (D.lane_of disk.new) }
         // but after want of memory, when no call uses the lanes any more
         ensures lanes { (result ≢ Err WorldFault.Memory) → LanesFit (D.lane_of disk.new) self.new }
     {
@@ -164,6 +176,7 @@ impl World {
         requires lanes { LanesFit (D.lane_of disk.old) self.old }
         ensures does { IsSound self.old
             → Does (crash (net_in self.old) (world_of self.old) b) self.new result }
+        ensures crashes { IfOk result (Crashes b (D.lane_of disk.old) self.old self.new) }
         ensures stays { Stays self.old self.new }
         ensures unspent { self.new.spent ≡ false }
         ensures up { OnOk result (self.new.down ≡ None) }
@@ -177,6 +190,7 @@ impl World {
         ensures faultless { StaysFaultless (D.faultless disk.old) (D.faultless disk.new)
             (D.faults disk.old) (D.faults disk.new) }
         ensures never_fails { D.faultless disk.old → result ≢ Err WorldFault.Disk }
+        ensures others { LeavesOthers self.old.topo (D.lane_of disk.old) (D.lane_of disk.new) }
         ensures lanes { (result ≢ Err WorldFault.Memory) → LanesFit (D.lane_of disk.new) self.new }
     {
         let opened = match self.restart(disk, b) {
@@ -201,6 +215,11 @@ impl World {
         requires lanes { LanesFit (D.lane_of disk.old) self.old }
         // Where the disk has failed no log, it is the machine's crash
         ensures makes { IsSound self.old → Makes (step.Crash b) self.old self.new result }
+        // and where it has failed some, it is so over the logs that the crash leaves
+        ensures crashes { IfOk result (Crashes b (D.lane_of disk.old) self.old self.new) }
+        // With its step and lines it goes on with the run that led here
+        ensures goes_on { GoesOn (step.Crash b) (D.lane_of disk.old) (D.lane_of disk.new)
+            self.old self.new result }
         ensures refused { Refuses (step.Crash b) self.old self.new result }
         ensures memory { Spends self.old self.new result }
         ensures closed { self.old.spent ≡ false → refused_at self.old (step.Crash b) ≡ None
@@ -217,6 +236,7 @@ impl World {
         ensures sound { StaysSound self.old self.new result }
         ensures disk { UsesDisk (D.faultless disk.old) (D.faultless disk.new) (D.faults disk.old)
             (D.stops disk.old) (D.faults disk.new) (D.stops disk.new) result }
+        ensures others { LeavesOthers self.old.topo (D.lane_of disk.old) (D.lane_of disk.new) }
         ensures idle { (self.old.spent ≡ true) ⊎ IsSome (refused_at self.old (step.Crash b)) → disk.new ≡ disk.old }
         ensures lanes { LanesFit (D.lane_of disk.new) self.new }
     {

@@ -1,7 +1,8 @@
 //! The steps that only tell: what is shown, and the bytes of a frame.
 
-ghost use Rattle.std.specs.Prelude.{◌≡◌, ◌<◌, ◌++◌, ◌∷◌, [], length, map, get_or, flat_map, Some, None, Err};
+ghost use Rattle.std.specs.Prelude.{◌≡◌, ℕ, ◌<◌, ◌++◌, ◌∷◌, [], length, map, get_or, flat_map, Some, None, Ok, Err};
 ghost use Rattle.std.specs.Prelude.{IfOk, OnOk};
+ghost use Rattle.gr_out.specs.Lane.{Lane};
 ghost use Rattle.gr_model.specs.declared.report.Report.TheVariants as line;
 ghost use Rattle.gr_model.specs.Net.{numbers};
 ghost use Rattle.gr_model.specs.World.{show};
@@ -10,6 +11,7 @@ ghost use Rattle.gr_world.specs.Seen.{net_in, world_of};
 ghost use Rattle.gr_world.specs.Of.{IsWorld};
 ghost use Rattle.gr_world.specs.Shown.{log_shown, horizon_shown, horizons_shown};
 ghost use Rattle.gr_world.specs.Steps.{Makes, refused_at};
+ghost use Rattle.gr_world.specs.Fits.{GoesOn};
 
 use crate::fault::{Memory, WorldFault};
 use crate::world::World;
@@ -93,6 +95,8 @@ impl World {
     pub fn show(&self) -> Result<Reports, Memory>
         requires fits { IsWorld self.now }
         ensures shows { IfOk result (λ lines. lines ≡ show (net_in self.now) (world_of self.now)) }
+        ensures goes_on { (lanes : ℕ → Lane) → IfOk result (λ lines.
+            GoesOn step.Show lanes lanes self.now self.now (Ok lines)) }
     {
         let mut lines = Reports::new(self.alloc);
         lines.push(Report::Frames {
@@ -119,6 +123,7 @@ impl World {
     pub fn bytes(&self, frame: u64) -> Result<Reports, WorldFault>
         requires fits { IsWorld self.now }
         ensures makes { Makes (step.Bytes frame) self.now self.now result }
+        ensures goes_on { (lanes : ℕ → Lane) → GoesOn (step.Bytes frame) lanes lanes self.now self.now result }
         ensures refused { (e : WorldFault) → refused_at self.now (step.Bytes frame) ≡ Some e → result ≡ Err e }
         ensures carried { refused_at self.now (step.Bytes frame) ≡ None
             → (e : WorldFault) → result ≡ Err e → e ≡ WorldFault.Memory }

@@ -6,8 +6,9 @@ ghost use Rattle.gr_out.specs.Stops.{StaysFaultless};
 ghost use Rattle.gr_publog.specs.Calls.{Tally};
 ghost use Rattle.gr_topo.specs.Topology.{IsTopology, host_of};
 ghost use Rattle.gr_broker.specs.Told.{log_answer};
-ghost use Rattle.gr_broker.specs.Opened.{IsDamagedAt};
-ghost use Rattle.gr_world.specs.Opened.{NoStops};
+ghost use Rattle.gr_broker.specs.Opened.{LosesNothing};
+ghost use Rattle.gr_world.specs.Disk.{LeavesOthers};
+ghost use Rattle.gr_world.specs.Opened.{NoStops, IsFirstDamaged};
 ghost use Rattle.gr_world.specs.Starting.{HaveStarted, HaveOpened, CrashesLanes, IsExchanged, OpensAgain, TouchesLanes};
 ghost use Rattle.gr_world.specs.Starting.{LeavesNoLog};
 
@@ -37,7 +38,10 @@ pub(crate) fn start_brokers<D: SimDisk>(
         (D.lane_of disk.old) (D.lane_of disk.new)) }
     ensures topology { IsTopology topology.now }
     ensures damaged { (p at : ℕ) → result ≡ Err (BrokerFault.Damaged p at)
-        → IsDamagedAt topology.now (host_of topology.now p) p at (D.lane_of disk.old) }
+        → IsFirstDamaged topology.now p at (D.lane_of disk.old) }
+    ensures others { LeavesOthers topology.now (D.lane_of disk.old) (D.lane_of disk.new) }
+    ensures any_moment { (p : ℕ) → p < length topology.now.publishers
+        → LosesNothing topology.now.late (D.lane_of disk.old (2 * p)) (D.lane_of disk.new (2 * p)) }
     ensures never_reopen { result ≢ Err BrokerFault.Reopen }
     ensures tally { let f = D.faults disk.old in let s = D.stops disk.old in
         Tally f s (D.faults disk.new) (D.stops disk.new) (log_answer result) }

@@ -5,13 +5,16 @@ ghost use Rattle.std.specs.Prelude.{IfSome, IfNone};
 ghost use Rattle.gr_out.specs.Lane.{Lane};
 ghost use Rattle.gr_sched.specs.declared.step.Step.TheVariants as step;
 ghost use Rattle.gr_topo.specs.Topology.{host_of};
-ghost use Rattle.gr_model.specs.World.{wake_all, frame_at};
+ghost use Rattle.gr_model.specs.Net.{numbers};
+ghost use Rattle.gr_model.specs.World.{wake_for, wake_all, frame_at};
 ghost use Rattle.gr_world.specs.Seen.{net_in, world_of};
 ghost use Rattle.gr_world.specs.Of.{IsWorld, LanesFit};
 ghost use Rattle.gr_world.specs.Ran.{IsOpen, Ran};
 ghost use Rattle.gr_world.specs.Steps.{Makes, Does, Refuses, Spends, Stays, refused_at};
 ghost use Rattle.gr_world.specs.Stopped.{broken_in};
-ghost use Rattle.gr_world.specs.Disk.{StaysSound, IsClosed, IsBarred, IsIdle, UsesDisk};
+ghost use Rattle.gr_world.specs.Disk.{StaysSound, IsClosed, IsBarred, BarsWake, ReopensWhere, IsIdle, UsesDisk, LeavesOthers};
+ghost use Rattle.gr_world.specs.Ended.{IsEnd, WakeEnds, EndsAt};
+ghost use Rattle.gr_world.specs.Fits.{GoesOn};
 
 use crate::fault::WorldFault;
 use crate::world::World;
@@ -35,6 +38,9 @@ impl World {
         requires publisher { p < length self.old.topo.publishers }
         requires lanes { LanesFit (D.lane_of disk.old) self.old }
         ensures makes { Makes (step.Publish p number None event.now) self.old self.new result }
+        // With its step and lines it goes on with the run that led here
+        ensures goes_on { GoesOn (step.Publish p number None event.now) (D.lane_of disk.old) (D.lane_of disk.new)
+            self.old self.new result }
         ensures refused { Refuses (step.Publish p number None event.now) self.old self.new result }
         ensures memory { Spends self.old self.new result }
         ensures closed { self.old.spent ≡ false → IsClosed self.old self.new result }
@@ -49,6 +55,7 @@ impl World {
         ensures sound { StaysSound self.old self.new result }
         ensures disk { UsesDisk (D.faultless disk.old) (D.faultless disk.new) (D.faults disk.old)
             (D.stops disk.old) (D.faults disk.new) (D.stops disk.new) result }
+        ensures others { LeavesOthers self.old.topo (D.lane_of disk.old) (D.lane_of disk.new) }
         ensures idle { IsIdle self.old (step.Publish p number None event.now) → disk.new ≡ disk.old }
         ensures lanes { LanesFit (D.lane_of disk.new) self.new }
     {
@@ -65,20 +72,33 @@ impl World {
     /// Wakes a broker for each publisher, in order.
     ///
     /// `Reopen` where a broker is down, or the call would append to a log that the disk has failed. `Disk` only where
-    /// the disk failed in this call. What was done for the publishers before stands then, and nothing of it is told.
+    /// the disk failed in this call; that log is broken then. What was done for the publishers before stands after
+    /// either, and nothing of it is told.
     pub fn wake<D: SimDisk>(&mut self, disk: &mut D, b: u16) -> Result<Reports, WorldFault>
         requires fits { IsWorld self.old }
         requires broker { b < length self.old.topo.brokers }
         requires lanes { LanesFit (D.lane_of disk.old) self.old }
         ensures makes { Makes (step.Wake b) self.old self.new result }
+        // With its step and lines it goes on with the run that led here
+        ensures goes_on { GoesOn (step.Wake b) (D.lane_of disk.old) (D.lane_of disk.new)
+            self.old self.new result }
         ensures refused { Refuses (step.Wake b) self.old self.new result }
         ensures memory { Spends self.old self.new result }
         ensures closed { self.old.spent ≡ false → IsClosed self.old self.new result }
+        // Unless a call for an earlier publisher failed, `Reopen` comes exactly where a broker is down, or a publisher's
+        // log is to be appended to that the disk has failed
+        ensures reopen { self.old.spent ≡ false
+            → ReopensWhere (IsSome self.old.down ⊎ BarsWake self.old b) result }
+        // Where it ends at a log, the publishers before were woken, and that one's wake has ended
+        ensures ends { self.old.down ≡ None → IsEnd result
+            → EndsAt (λ u p. wake_for (net_in self.old) u b p) (λ p. WakeEnds b p result)
+            (numbers (length self.old.topo.publishers)) self.old self.new }
         ensures stays { Stays self.old self.new }
         ensures fits { IsWorld self.new }
         ensures sound { StaysSound self.old self.new result }
         ensures disk { UsesDisk (D.faultless disk.old) (D.faultless disk.new) (D.faults disk.old)
             (D.stops disk.old) (D.faults disk.new) (D.stops disk.new) result }
+        ensures others { LeavesOthers self.old.topo (D.lane_of disk.old) (D.lane_of disk.new) }
         ensures idle { IsIdle self.old (step.Wake b) → disk.new ≡ disk.old }
         ensures lanes { LanesFit (D.lane_of disk.new) self.new }
     {
@@ -100,8 +120,13 @@ impl World {
         requires lanes { LanesFit (D.lane_of disk.old) self.old }
         ensures does { Does (wake_all (net_in self.old) (world_of self.old) b) self.new result }
         ensures ran { Ran self.old self.new result }
+        ensures reopen { ReopensWhere (BarsWake self.old b) result }
+        ensures ends { IsEnd result
+            → EndsAt (λ u p. wake_for (net_in self.old) u b p) (λ p. WakeEnds b p result)
+            (numbers (length self.old.topo.publishers)) self.old self.new }
         ensures disk { UsesDisk (D.faultless disk.old) (D.faultless disk.new)
             (D.faults disk.old) (D.stops disk.old) (D.faults disk.new) (D.stops disk.new) result }
+        ensures others { LeavesOthers self.old.topo (D.lane_of disk.old) (D.lane_of disk.new) }
         ensures lanes { LanesFit (D.lane_of disk.new) self.new }
     {
         let mut lines = Reports::new(self.alloc);
@@ -135,6 +160,7 @@ impl World {
     pub fn deliver(&mut self, frame: u64) -> Result<Reports, WorldFault>
         requires fits { IsWorld self.old }
         ensures makes { Makes (step.Deliver frame) self.old self.new result }
+        ensures goes_on { (lanes : ℕ → Lane) → GoesOn (step.Deliver frame) lanes lanes self.old self.new result }
         ensures refused { Refuses (step.Deliver frame) self.old self.new result }
         ensures memory { Spends self.old self.new result }
         ensures closed { self.old.spent ≡ false → refused_at self.old (step.Deliver frame) ≡ None

@@ -11,16 +11,17 @@ ghost use Rattle.gr_pubend.specs.Log.{log_of};
 ghost use Rattle.gr_topo.specs.Topology.{host_of, subscribers_of, not_empty};
 ghost use Rattle.gr_model.specs.declared.report.Report.{Report};
 ghost use Rattle.gr_model.specs.declared.report.Report.TheVariants.{Crashed};
-ghost use Rattle.gr_model.specs.World.{World as MachineWorld, publish_stopped};
+ghost use Rattle.gr_model.specs.World.{World as MachineWorld, publish_now, publish_stopped};
 ghost use Rattle.gr_broker.specs.Seen.{log_said};
 ghost use Rattle.gr_world.specs.Seen.{net_in, world_of, log_at};
 ghost use Rattle.gr_world.specs.Of.{IsWorld, LaneFits, IsReadable, LanesFit, IsSound};
 ghost use Rattle.gr_world.specs.Opened.{IsRead};
 ghost use Rattle.gr_world.specs.Ran.{IsOpen, Ran};
 ghost use Rattle.gr_world.specs.Steps.{Makes, Refuses, Spends, Stays, Does, IsCarried, NotMemory, refused_at};
-ghost use Rattle.gr_world.specs.Disk.{Counts, StaysSound, IsClosed, IsBarred, IsIdle, UsesDisk};
+ghost use Rattle.gr_world.specs.Disk.{Counts, StaysSound, IsClosed, IsBarred, IsIdle, UsesDisk, LeavesOthers};
+ghost use Rattle.gr_world.specs.Fits.{GoesOn};
 ghost use Rattle.gr_world.specs.Stopped.{tick_in, is_broken_by, lines_in, broken_in, BreaksStopped, IsStoppedAt};
-ghost use Rattle.gr_world.specs.Stopped.{kept_line, stopped_over, StopRan, StopRestarts};
+ghost use Rattle.gr_world.specs.Stopped.{kept_line, stopped_over, StopsOver, StopRan, StopRestarts};
 
 use crate::fault::{Memory, WorldFault};
 use crate::order::hosts_subscriber;
@@ -116,6 +117,16 @@ impl World {
         requires lanes { LanesFit (D.lane_of disk.old) self.old }
         ensures makes { IsSound self.old
             → Makes (step.Publish p number (Some stop.now) event.now) self.old self.new result }
+        // Where it was stopped it is so over the logs that are left, also where the disk had failed some; and where it
+        // logs nothing it is the machine's publish
+        ensures stops { (tick : ℕ) → tick_in (log_said (log_at self.old p)) number self.old.clock ≡ Some tick
+            → IfOk result (StopsOver p tick number event.now stop.now.call stop.now.pick (D.lane_of disk.old)
+            self.old self.new) }
+        ensures passes { tick_in (log_said (log_at self.old p)) number self.old.clock ≡ None
+            → Does (publish_now (net_in self.old) (world_of self.old) p number event.now) self.new result }
+        // With its step and lines it goes on with the run that led here
+        ensures goes_on { GoesOn (step.Publish p number (Some stop.now) event.now) (D.lane_of disk.old) (D.lane_of disk.new)
+            self.old self.new result }
         ensures refused { Refuses (step.Publish p number (Some stop.now) event.now) self.old self.new result }
         ensures memory { Spends self.old self.new result }
         ensures closed { self.old.spent ≡ false
@@ -134,6 +145,7 @@ impl World {
         ensures sound { NotMemory result → StaysSound self.old self.new result }
         ensures disk { UsesDisk (D.faultless disk.old) (D.faultless disk.new) (D.faults disk.old)
             (D.stops disk.old) (D.faults disk.new) (D.stops disk.new) result }
+        ensures others { LeavesOthers self.old.topo (D.lane_of disk.old) (D.lane_of disk.new) }
         ensures idle { IsIdle self.old (step.Publish p number (Some stop.now) event.now) → disk.new ≡ disk.old }
         ensures lanes { LanesFit (D.lane_of disk.new) self.new }
     {
@@ -173,6 +185,11 @@ impl World {
         ensures does { IsSound self.old → (n : ℕ)
             → Does (publish_stopped (net_in self.old) (world_of self.old) n p number stop.now event.now)
             self.new result }
+        ensures stops { (tick : ℕ) → tick_in (log_said (log_at self.old p)) number self.old.clock ≡ Some tick
+            → IfOk result (StopsOver p tick number event.now stop.now.call stop.now.pick (D.lane_of disk.old)
+            self.old self.new) }
+        ensures passes { tick_in (log_said (log_at self.old p)) number self.old.clock ≡ None
+            → Does (publish_now (net_in self.old) (world_of self.old) p number event.now) self.new result }
         ensures ran { StopRan self.old self.new result }
         ensures reopen { IsErrOf result WorldFault.Reopen ↔ IsBarred self.old p number event.now }
         ensures unchanged { IsErrOf result WorldFault.Reopen → self.new ≡ self.old }
@@ -180,6 +197,7 @@ impl World {
         ensures carried { IsCarried result }
         ensures disk { UsesDisk (D.faultless disk.old) (D.faultless disk.new) (D.faults disk.old)
             (D.stops disk.old) (D.faults disk.new) (D.stops disk.new) result }
+        ensures others { LeavesOthers self.old.topo (D.lane_of disk.old) (D.lane_of disk.new) }
         ensures lanes { result ≢ Err WorldFault.Memory → LanesFit (D.lane_of disk.new) self.new }
     {
         let log = self.log_here(host, p);
@@ -280,6 +298,7 @@ impl World {
         ensures faultless { StaysFaultless (D.faultless disk.old) (D.faultless disk.new)
             (D.faults disk.old) (D.faults disk.new) }
         ensures never_fails { D.faultless disk.old → result ≢ Err WorldFault.Disk }
+        ensures others { LeavesOthers self.old.topo (D.lane_of disk.old) (D.lane_of disk.new) }
         ensures lanes { result ≢ Err WorldFault.Memory → LanesFit (D.lane_of disk.new) self.new }
     {
         match self.restart(disk, host) {

@@ -1,21 +1,27 @@
 //! A sweep: the clock moves far ahead, and everything settles.
 
-ghost use Rattle.std.specs.Prelude.{◌≡◌, ◌<◌, ◌≤◌, false, length, None, Err, IfOk};
+ghost use Rattle.std.specs.Prelude.{◌≡◌, ◌⊎◌, ℕ, ◌<◌, ◌≤◌, false, List, length, None, Err, IsErr, IsErrOf, IsSome, IfOk};
+ghost use Rattle.gr_sched.specs.declared.step.Line.{Line};
 ghost use Rattle.gr_sched.specs.declared.step.Step.TheVariants as step;
+ghost use Rattle.gr_model.specs.declared.report.Report.{Report as MachineReport};
 ghost use Rattle.gr_model.specs.Net.{numbers};
 ghost use Rattle.gr_model.specs.World.{inwards, outwards, wake_up, hand_down, in_turn, sweep_for, sweep_moment, log_of};
 ghost use Rattle.gr_world.specs.Seen.{net_in, world_of};
 ghost use Rattle.gr_world.specs.Of.{IsWorld, LanesFit};
 ghost use Rattle.gr_world.specs.Steps.{Makes, Refuses, Spends, Stays, Does, refused_at};
 ghost use Rattle.gr_world.specs.Ran.{IsOpen, Ran};
-ghost use Rattle.gr_world.specs.Disk.{StaysSound, IsClosed, IsIdle, UsesDisk};
-ghost use Rattle.gr_world.specs.Sweeps.{AreBrokers, Delivers, at_moment, phases, swept};
+ghost use Rattle.gr_world.specs.Disk.{StaysSound, IsClosed, IsWakeBarred, HasBroken, ReopensWhere, IsIdle, UsesDisk};
+ghost use Rattle.gr_world.specs.Disk.{LeavesOthers};
+ghost use Rattle.gr_world.specs.Ended.{IsEnd, WakeEnds, EndsAt, WakesEnd, PhasesEnd, SweepEnds};
+ghost use Rattle.gr_world.specs.Fits.{Fits, GoesOn, SettlesAll};
+ghost use Rattle.gr_world.specs.Sweeps.{AreBrokers, Delivers, HasHost, IsDue, at_moment, phases, swept};
 
 use crate::delivering::joined;
 use crate::fault::{Memory, WorldFault};
 use crate::order::{deepest_first, host_first};
 use crate::world::World;
 use gr_event::Numbers;
+use gr_model::topologies::every_topology_is_a_tree;
 use gr_model::{Report, Reports};
 use gr_out::SimDisk;
 use gr_tick::MAX_TICK;
@@ -95,8 +101,11 @@ impl World {
         requires lanes { LanesFit (D.lane_of disk.old) self.old }
         ensures does { Does (wake_up (net_in self.old) p (world_of self.old) b) self.new result }
         ensures ran { Ran self.old self.new result }
+        ensures bars { IsWakeBarred self.old b p → IsErrOf result WorldFault.Reopen }
+        ensures ends { IsEnd result → WakeEnds b p result self.old self.new }
         ensures disk { UsesDisk (D.faultless disk.old) (D.faultless disk.new) (D.faults disk.old)
             (D.stops disk.old) (D.faults disk.new) (D.stops disk.new) result }
+        ensures others { LeavesOthers self.old.topo (D.lane_of disk.old) (D.lane_of disk.new) }
         ensures lanes { LanesFit (D.lane_of disk.new) self.new }
     {
         let before = self.sent();
@@ -122,8 +131,11 @@ impl World {
         requires lanes { LanesFit (D.lane_of disk.old) self.old }
         ensures does { Does (in_turn (wake_up (net_in self.old) p) brokers.now (world_of self.old)) self.new result }
         ensures ran { Ran self.old self.new result }
+        ensures bars { IsDue self.old p → HasHost self.old p brokers.now → IsErr result }
+        ensures ends { IsEnd result → WakesEnd (net_in self.old) p brokers.now result self.old self.new }
         ensures disk { UsesDisk (D.faultless disk.old) (D.faultless disk.new) (D.faults disk.old)
             (D.stops disk.old) (D.faults disk.new) (D.stops disk.new) result }
+        ensures others { LeavesOthers self.old.topo (D.lane_of disk.old) (D.lane_of disk.new) }
         ensures lanes { LanesFit (D.lane_of disk.new) self.new }
     {
         let mut lines = self.no_lines();
@@ -174,8 +186,11 @@ impl World {
         requires lanes { LanesFit (D.lane_of disk.old) self.old }
         ensures does { Does (phases (net_in self.old) p inwards.now outwards.now (world_of self.old)) self.new result }
         ensures ran { Ran self.old self.new result }
+        ensures bars { IsDue self.old p → HasHost self.old p inwards.now → IsErr result }
+        ensures ends { IsEnd result → PhasesEnd (net_in self.old) p inwards.now outwards.now result self.old self.new }
         ensures disk { UsesDisk (D.faultless disk.old) (D.faultless disk.new) (D.faults disk.old)
             (D.stops disk.old) (D.faults disk.new) (D.stops disk.new) result }
+        ensures others { LeavesOthers self.old.topo (D.lane_of disk.old) (D.lane_of disk.new) }
         ensures lanes { LanesFit (D.lane_of disk.new) self.new }
     {
         let first = self.sent();
@@ -200,10 +215,15 @@ impl World {
         requires lanes { LanesFit (D.lane_of disk.old) self.old }
         ensures does { Does (sweep_for (net_in self.old) (world_of self.old) p) self.new result }
         ensures ran { Ran self.old self.new result }
+        ensures bars { IsDue self.old p → IsErr result }
+        ensures ends { IsEnd result → SweepEnds (net_in self.old) result p self.old self.new }
         ensures disk { UsesDisk (D.faultless disk.old) (D.faultless disk.new) (D.faults disk.old)
             (D.stops disk.old) (D.faults disk.new) (D.stops disk.new) result }
+        ensures others { LeavesOthers self.old.topo (D.lane_of disk.old) (D.lane_of disk.new) }
         ensures lanes { LanesFit (D.lane_of disk.new) self.new }
     {
+        // Proof only: each broker is one of these.
+        every_topology_is_a_tree(&self.topology);
         let inwards = match self.inwards(p) {
             Ok(inwards) => inwards,
             Err(_) => return Err(WorldFault::Memory),
@@ -223,8 +243,12 @@ impl World {
         ensures does { let net = net_in self.old in
             Does (in_turn (sweep_for net) (numbers net.publishers) (world_of self.old)) self.new result }
         ensures ran { Ran self.old self.new result }
+        ensures bars { (p : ℕ) → p < length self.old.topo.publishers → IsDue self.old p → IsErr result }
+        ensures ends { let net = net_in self.old in IsEnd result
+            → EndsAt (sweep_for net) (SweepEnds net result) (numbers net.publishers) self.old self.new }
         ensures disk { UsesDisk (D.faultless disk.old) (D.faultless disk.new) (D.faults disk.old)
             (D.stops disk.old) (D.faults disk.new) (D.stops disk.new) result }
+        ensures others { LeavesOthers self.old.topo (D.lane_of disk.old) (D.lane_of disk.new) }
         ensures lanes { LanesFit (D.lane_of disk.new) self.new }
     {
         let mut lines = self.no_lines();
@@ -245,8 +269,12 @@ impl World {
         requires lanes { LanesFit (D.lane_of disk.old) self.old }
         ensures does { Does (swept (net_in self.old) (world_of self.old) moment) self.new result }
         ensures ran { Ran self.old self.new result }
+        ensures bars { (p : ℕ) → p < length self.old.topo.publishers → IsDue self.old p → IsErr result }
+        ensures ends { let net = net_in self.old in IsEnd result
+            → EndsAt (sweep_for net) (SweepEnds net result) (numbers net.publishers) self.old self.new }
         ensures disk { UsesDisk (D.faultless disk.old) (D.faultless disk.new) (D.faults disk.old)
             (D.stops disk.old) (D.faults disk.new) (D.stops disk.new) result }
+        ensures others { LeavesOthers self.old.topo (D.lane_of disk.old) (D.lane_of disk.new) }
         ensures lanes { LanesFit (D.lane_of disk.new) self.new }
     {
         let mut lines = match self.sweep_publishers(disk) {
@@ -264,21 +292,39 @@ impl World {
     /// afterwards each subscriber has all that was logged for it.
     ///
     /// `ClockRange` exactly where the clock would pass the last tick, with that moment; then nothing has changed.
-    /// `Disk` and `Reopen` as in `wake`. What was done before stands then, and nothing of it is told.
+    /// `Reopen` where a broker is down, or the disk has failed a log. `Disk` only where the disk failed in this call;
+    /// that log is broken then. What was done before stands after either, at the sweep's moment, and nothing of it is
+    /// told.
     pub fn sweep<D: SimDisk>(&mut self, disk: &mut D) -> Result<Reports, WorldFault>
         requires fits { IsWorld self.old }
         requires lanes { LanesFit (D.lane_of disk.old) self.old }
         ensures makes { Makes step.Sweep self.old self.new result }
+        // With its step and lines it goes on with the run that led here
+        ensures goes_on { GoesOn (step.Sweep) (D.lane_of disk.old) (D.lane_of disk.new)
+            self.old self.new result }
+        // and after the steps of a run it reaches all that is recorded
+        ensures settles { (steps : List Line) (told : List (List MachineReport))
+            → Fits self.old (D.lane_of disk.old) steps told → IfOk result (SettlesAll steps self.old self.new) }
         ensures refused { Refuses step.Sweep self.old self.new result }
         ensures memory { Spends self.old self.new result }
         ensures closed { self.old.spent ≡ false → refused_at self.old step.Sweep ≡ None
             → IsClosed self.old self.new result }
+        // Unless a call before failed, `Reopen` comes exactly where a broker is down, or the disk has failed a log: a
+        // sweep marks each
+        ensures reopen { self.old.spent ≡ false → refused_at self.old step.Sweep ≡ None
+            → ReopensWhere (IsSome self.old.down ⊎ HasBroken self.old) result }
+        // Where it ends at a log, the clock stands at its moment, the publishers before were swept, and the sweep of that
+        // one has ended at a wake
+        ensures ends { let net = net_in self.old in self.old.down ≡ None → IsEnd result
+            → EndsAt (sweep_for net) (SweepEnds net result) (numbers net.publishers)
+            (at_moment self.old (sweep_moment net (world_of self.old))) self.new }
         ensures stays { Stays self.old self.new }
         ensures fits { IsWorld self.new }
         ensures sound { StaysSound self.old self.new result }
         ensures disk { UsesDisk (D.faultless disk.old) (D.faultless disk.new) (D.faults disk.old)
             (D.stops disk.old) (D.faults disk.new) (D.stops disk.new) result }
         ensures idle { IsIdle self.old step.Sweep → disk.new ≡ disk.old }
+        ensures others { LeavesOthers self.old.topo (D.lane_of disk.old) (D.lane_of disk.new) }
         ensures lanes { LanesFit (D.lane_of disk.new) self.new }
     {
         if self.spent {

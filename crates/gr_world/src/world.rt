@@ -7,6 +7,7 @@ ghost use Rattle.gr_sched.specs.declared.step.Step.TheVariants.{Clock};
 ghost use Rattle.gr_world.specs.Of.{IsWorld, LanesFit, IsSound};
 ghost use Rattle.gr_world.specs.Ran.{noted_in};
 ghost use Rattle.gr_world.specs.Steps.{Makes, Stays};
+ghost use Rattle.gr_world.specs.Fits.{GoesOn};
 
 use crate::copying::copy_reports;
 use crate::fault::{Memory, WorldFault};
@@ -87,6 +88,7 @@ impl World {
         requires fits { IsWorld self.old }
         requires now { now ≤ MAX_TICK }
         ensures makes { Makes (Clock now) self.old self.new (Ok []) }
+        ensures goes_on { (lanes : ℕ → Lane) → GoesOn (Clock now) lanes lanes self.old self.new (Ok []) }
         ensures stays { Stays self.old self.new }
         ensures fits { IsWorld self.new }
         ensures spent { self.new.spent ≡ self.old.spent }

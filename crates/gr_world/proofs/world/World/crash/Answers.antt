@@ -1,10 +1,13 @@
-use Rattle.std.proofs.Common.{◌≡◌, true, false, sym, ◌∙◌, subst}
+use Rattle.std.proofs.Common.{◌≡◌, true, false, Err, sym, ◌∙◌, subst}
 use Rattle.gr_sched.specs.declared.step.Step.TheVariants as step
 use Rattle.gr_topo.specs.Topology.{subscribers_of, not_empty}
+use Rattle.gr_world.specs.declared.fault.WorldFault.TheVariants as fault
 use Rattle.gr_world.specs.Seen.{WorldView}
 use Rattle.gr_world.specs.Of.{LanesFit}
+use Rattle.gr_world.specs.Opened.{Crashes}
 use Rattle.gr_world.specs.Steps.{Makes}
-use Rattle.gr_world.proofs.Crashing.{makes_refusal, makes_crash, noted_lanes, noted_sound}
+use Rattle.gr_world.proofs.Crashing.{makes_refusal, makes_crash, noted_lanes, noted_sound, noted_lines}
+use Rattle.gr_world.proofs.Fitted.{goes_on_noted, goes_on_same, not_memory}
 use Rattle.gr_world.proofs.world.World.crash.Goals as goal
 
 pub returns-then-hosts_subscriber-clause-makes : goal.returns-then-hosts_subscriber-clause-makes
@@ -30,3 +33,18 @@ pub returns-clause-sound : goal.returns-clause-sound
 returns-clause-sound g c =
     let one = c.crash_at-answer in
     noted_sound c.args.self.now one.new.self c.noted.new.self one.result c.noted.result c.noted.ensures.answer c.noted.ensures.view one.ensures.sound one.ensures.never_reopen
+
+pub returns-then-hosts_subscriber-clause-goes_on : goal.returns-then-hosts_subscriber-clause-goes_on
+returns-then-hosts_subscriber-clause-goes_on g c = λ number lines steps told at f.
+    goes_on_same (step.Crash c.args.b) (g.D.Disk.lane_of c.args.disk.now) c.args.self.now (Err (fault.HostsSubscriber c.args.b)) c.requires.broker (returns-then-hosts_subscriber-clause-makes g c f.sound) number lines steps told at f
+
+pub returns-clause-goes_on : goal.returns-clause-goes_on
+returns-clause-goes_on g c =
+    let one = c.crash_at-answer in
+    goes_on_noted (step.Crash c.args.b) (g.D.Disk.lane_of c.args.disk.now) (g.D.Disk.lane_of one.new.disk) c.args.self.now one.new.self c.noted.new.self one.result c.noted.result c.noted.ensures.answer c.noted.ensures.view
+    c.requires.broker (returns-clause-makes g c) one.ensures.stays.topo (λ h. one.ensures.unspent) one.ensures.fits (λ m d h. one.ensures.sound h d) (λ m. one.ensures.lanes (not_memory one.result m))
+
+pub returns-clause-crashes : goal.returns-clause-crashes
+returns-clause-crashes g c =
+    let one = c.crash_at-answer in
+    noted_lines (Crashes c.args.b (g.D.Disk.lane_of c.args.disk.now) c.args.self.now) one.new.self c.noted.new.self one.result c.noted.result c.noted.ensures.answer c.noted.ensures.view one.ensures.crashes

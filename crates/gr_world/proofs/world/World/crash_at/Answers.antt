@@ -1,8 +1,12 @@
-use Rattle.std.proofs.Common.{sym, subst}
+use Rattle.std.proofs.Common.{List, Result, sym, subst}
+use Rattle.std.specs.Prelude.{IfOk}
+use Rattle.gr_model.specs.declared.report.Report.{Report}
+use Rattle.gr_world.specs.declared.fault.WorldFault.{WorldFault}
+use Rattle.gr_world.specs.Opened.{Crashes}
 use Rattle.gr_model.specs.World.{crash}
 use Rattle.gr_world.specs.Seen.{net_in, world_of}
 use Rattle.gr_world.specs.Steps.{Does}
-use Rattle.gr_world.proofs.Crashing.{others_fit, logs_found, crash_made, sound_but}
+use Rattle.gr_world.proofs.Crashing.{others_fit, logs_found, crash_made, crashes_over, sound_but}
 use Rattle.gr_world.proofs.world.World.crash_at.Goals as goal
 use Rattle.gr_world.proofs.world.World.crash_at.Goals.{in-Ok-crash_lines, in-Err-crash_lines}
 
@@ -26,3 +30,17 @@ returns-clause-does g c = λ sound.
 
 pub returns-clause-sound : goal.returns-clause-sound
 returns-clause-sound g c = λ sound some. c.in-Ok.ensures.restarts.sound (sound_but c.args.self.now c.args.b sound)
+
+pub returns-clause-crashes : goal.returns-clause-crashes
+returns-clause-crashes g c =
+    let old = c.args.self.now in
+    let new = c.restart.new.self in
+    let b = c.args.b in
+    let lanes = g.D.Disk.lane_of c.args.disk.now in
+    let one = c.in-Ok.ensures in
+    elim c.match-crash_lines.branch [
+      | in-Ok-crash_lines w ↦
+          subst (λ (r : Result (List Report) WorldFault). IfOk r (Crashes b lanes old new)) (sym w.result-is)
+          (crashes_over old new b lanes c.in-Ok.opened w.in-Ok-crash_lines.lines one.does one.restarts.elsewhere one.found w.in-Ok-crash_lines.ensures)
+      | in-Err-crash_lines w ↦ subst (λ (r : Result (List Report) WorldFault). IfOk r (Crashes b lanes old new)) (sym w.result-is) tt
+    ]

@@ -5,6 +5,7 @@ use Rattle.gr_world.specs.declared.fault.WorldFault.TheVariants as fault
 use Rattle.gr_world.specs.Seen.{WorldView, net_in, world_of, frame_said}
 use Rattle.gr_world.proofs.Leaving.{makes_of, fits_noted, refuses_none, lanes_kept, lanes_noted}
 use Rattle.gr_world.proofs.Stepping.{next_deliver, frame_found, no_frame_makes, frame_not_refused}
+use Rattle.gr_world.proofs.Fitted.{goes_on_noted, goes_on_same}
 use Rattle.gr_world.proofs.world.World.deliver.Goals as goal
 
 pub returns-in_default-clause-makes : goal.returns-in_default-clause-makes
@@ -46,3 +47,14 @@ pub returns-clause-fits : goal.returns-clause-fits
 returns-clause-fits c =
     let one = c.deliver_at-answer in
     fits_noted one.new.self c.noted.new.self one.result c.noted.ensures.view one.ensures.ran.fits
+
+pub returns-in_default-clause-goes_on : goal.returns-in_default-clause-goes_on
+returns-in_default-clause-goes_on c = λ lanes.
+    goes_on_same (step.Deliver c.args.frame) lanes c.args.self.now (Err (fault.NoFrame c.len.result)) tt (returns-in_default-clause-makes c)
+
+pub returns-clause-goes_on : goal.returns-clause-goes_on
+returns-clause-goes_on c = λ lanes number lines steps told at f.
+    let one = c.deliver_at-answer in
+    goes_on_noted (step.Deliver c.args.frame) lanes lanes c.args.self.now one.new.self c.noted.new.self one.result c.noted.result c.noted.ensures.answer c.noted.ensures.view
+    tt (λ h. returns-clause-makes c) one.ensures.ran.keeps.topo (λ h. one.ensures.ran.keeps.spent ∙ h) one.ensures.ran.fits (λ m d h. one.ensures.ran.sound.sound h d)
+    (λ m. lanes_kept one.ensures.ran.keeps one.ensures.logs f.lanes_fit) number lines steps told at f

@@ -4,10 +4,11 @@ use Rattle.gr_model.specs.NetOf.{net_of}
 use Rattle.gr_model.specs.World.{start}
 use Rattle.gr_world.specs.declared.fault.WorldFault.TheVariants as fault
 use Rattle.gr_world.specs.Seen.{world_of, log_at}
-use Rattle.gr_world.specs.Of.{LanesFit}
+use Rattle.gr_world.specs.Of.{IsWorld, LanesFit}
 use Rattle.gr_world.specs.Opened.{IsOpened, IsRead}
 use Rattle.gr_world.proofs.Answering.{damaged_in, err_is}
-use Rattle.gr_world.proofs.Opened.{world_at, is_opened, opened_found, opened_lanes, fresh_world, fresh_told}
+use Rattle.gr_world.proofs.Opened.{world_at, opened_fits, is_opened, opened_found, opened_lanes, fresh_world, fresh_told}
+use Rattle.gr_world.proofs.Fitted.{fits_start}
 use Rattle.gr_world.proofs.world.World.new.Goals as goal
 
 pub returns-in-Err-clause-damaged : goal.returns-in-Err-clause-damaged
@@ -53,3 +54,14 @@ returns-clause-lanes g c = λ none.
     let after = g.D.Disk.lane_of c.start_brokers.new.disk in
     subst (λ (fs : List (List ℕ)). LanesFit after (world_at t brokers told fs)) (sym c.new.ensures)
     (opened_lanes t brokers told one.topology one.started (g.D.Disk.lane_of c.args.disk.now) after one.opened none)
+
+pub returns-clause-fits_nothing : goal.returns-clause-fits_nothing
+returns-clause-fits_nothing g c = λ none empty.
+    let t = c.args.topology in
+    let brokers = c.in-Ok.opened.brokers.items in
+    let told = c.in-Ok.opened.told in
+    let tree = c.every_topology_is_a_tree.ensures in
+    let one = c.in-Ok.ensures in
+    let opened = returns-clause-opened g c in
+    let fits = subst (λ (fs : List (List ℕ)). IsWorld (world_at t brokers told fs)) (sym c.new.ensures) (opened_fits t brokers told one.topology one.started) in
+    fits_start _ (g.D.Disk.lane_of c.start_brokers.new.disk) fits (returns-clause-lanes g c none) opened.sound opened.unspent tree.tree tree.orderly (returns-clause-fresh g c empty).0

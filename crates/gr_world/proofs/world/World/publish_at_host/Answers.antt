@@ -93,3 +93,6 @@ returns-clause-disk g c =
 
 pub returns-clause-lanes : goal.returns-clause-lanes
 returns-clause-lanes g c = lanes g c
+
+pub returns-clause-others : goal.returns-clause-others
+returns-clause-others g c = λ n h. c.publish-answer.ensures.uses.others g.met.D.SimDisk.told n (h c.args.p c.requires.publisher)

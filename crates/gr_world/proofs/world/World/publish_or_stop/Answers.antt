@@ -1,11 +1,15 @@
-use Rattle.std.proofs.Common.{◌≡◌, inl, inr, List, Result, Ok, Err, None, sym, ap, ◌∙◌, subst}
+use Rattle.std.proofs.Common.{◌≡◌, ◌<◌, inl, inr, List, length, Result, Ok, Err, None, refl, sym, ap, ◌∙◌, subst, arith}
 use Rattle.gr_model.specs.declared.report.Report.{Report}
 use Rattle.gr_world.specs.declared.fault.WorldFault.{WorldFault}
 use Rattle.gr_world.specs.declared.fault.WorldFault.TheVariants as fault
 use Rattle.gr_world.specs.Seen.{WorldView, net_in, world_of}
 use Rattle.gr_world.specs.Opened.{with_down}
-use Rattle.gr_world.specs.Stopped.{StopRestarts, lines_in, broken_in}
-use Rattle.gr_world.proofs.StoppedWorlds.{idle_does, none_at, some_at, fits_mid, readable_mid, stopped_mid, ran_started}
+use Rattle.std.specs.Prelude.{IfOk}
+use Rattle.gr_model.specs.Broker.{Log}
+use Rattle.gr_world.specs.Stopped.{StopRestarts, StopsOver, tick_in, lines_in, broken_in}
+use Rattle.std.specs.Prelude.{IsErrOf}
+use Rattle.gr_world.proofs.Composed.{either_sooner}
+use Rattle.gr_world.proofs.StoppedWorlds.{log_there, idle_does, none_at, some_at, fits_mid, readable_mid, stopped_mid, stops_mid, one_tick, no_tick, ran_started}
 use Rattle.gr_world.proofs.world.World.publish_or_stop.Goals as goal
 
 pub returns-in_default-clause-does : goal.returns-in_default-clause-does
@@ -72,3 +76,69 @@ pub returns-in-Ok-None-clause-failed : goal.returns-in-Ok-None-clause-failed
 returns-in-Ok-None-clause-failed g c = λ e.
     let none : c.publish_to_stop.result ≡ Ok None = c.in-Ok-None.is ∙ ap (λ o. Ok o) c.in-Ok-None.field-0-is in
     inr (c.start_stopped.ensures.ran.failed e ∙ ap (λ (m : WorldView). with_down m c.args.host) (c.publish_to_stop.ensures.broken none))
+
+-- no lane is touched but those of the publishers
+
+pub returns-in-Ok-None-clause-others : goal.returns-in-Ok-None-clause-others
+returns-in-Ok-None-clause-others g c = λ n h.
+    let none : c.publish_to_stop.result ≡ Ok None = c.in-Ok-None.is ∙ ap (λ o. Ok o) c.in-Ok-None.field-0-is in
+    let is = c.publish_to_stop.ensures.broken none in
+    c.start_stopped.ensures.others n (λ q j. h q (subst (λ (m : WorldView). q < length m.topo.publishers) is j)) ∙ c.publish_to_stop.ensures.others n (h c.args.p c.requires.publisher)
+
+pub returns-in-Ok-Some-clause-others : goal.returns-in-Ok-Some-clause-others
+returns-in-Ok-Some-clause-others g c = λ n h. c.publish_to_stop.ensures.others n (h c.args.p c.requires.publisher)
+
+pub returns-in-Err-clause-others : goal.returns-in-Err-clause-others
+returns-in-Err-clause-others g c = λ n h. c.publish_to_stop.ensures.others n (h c.args.p c.requires.publisher)
+
+-- what was stopped, and what was not
+
+pub returns-in_default-clause-stops : goal.returns-in_default-clause-stops
+returns-in_default-clause-stops g c = λ tick some.
+    let w = c.args.self.now in
+    let none = none_at w c.args.p c.args.number c.self.inside.clock c.log_here-log.result.now c.tick_logged.result c.requires.publisher c.log_here-log.ensures.log (ap (λ (v : WorldView). v.clock) c.self.view_is)
+    c.tick_logged.ensures c.in_default.is in
+    absurd (no_tick _ tick (ap (λ (log : Log). tick_in log c.args.number w.clock) (sym (log_there w c.args.p c.requires.publisher)) ∙ none) some)
+
+pub returns-in-Ok-None-clause-stops : goal.returns-in-Ok-None-clause-stops
+returns-in-Ok-None-clause-stops g c = λ tick some.
+    let w = c.args.self.now in
+    let none : c.publish_to_stop.result ≡ Ok None = c.in-Ok-None.is ∙ ap (λ o. Ok o) c.in-Ok-None.field-0-is in
+    let is = c.publish_to_stop.ensures.broken none in
+    let next = some_at w c.args.p c.args.number c.self.inside.clock c.in-Some.tick c.log_here-log.result.now c.tick_logged.result c.log_here-log.ensures.log (ap (λ (v : WorldView). v.clock) c.self.view_is)
+    c.tick_logged.ensures c.in-Some.is in
+    let lanes = g.D.Disk.lane_of c.args.disk.now in
+    subst (λ k. IfOk c.start_stopped.result (StopsOver c.args.p k c.args.number c.args.event.now c.args.stop.now.call c.args.stop.now.pick lanes w c.start_stopped.new.self)) (one_tick _ c.in-Some.tick tick next some)
+    (stops_mid w c.publish_to_stop.new.self c.start_stopped.new.self lanes (g.D.Disk.lane_of c.publish_to_stop.new.disk) c.args.host c.args.p c.args.number c.in-Some.tick c.args.stop.now.call c.args.stop.now.pick c.args.event.now
+    c.start_stopped.result (c.publish_to_stop.ensures.stopped none c.in-Some.tick next) c.requires.fits c.requires.host c.requires.broker c.requires.publisher c.publish_to_stop.ensures.others is c.start_stopped.ensures.does
+    c.start_stopped.ensures.found c.start_stopped.ensures.elsewhere)
+
+pub returns-in-Ok-None-clause-passes : goal.returns-in-Ok-None-clause-passes
+returns-in-Ok-None-clause-passes g c = λ nothing.
+    let w = c.args.self.now in
+    let next = some_at w c.args.p c.args.number c.self.inside.clock c.in-Some.tick c.log_here-log.result.now c.tick_logged.result c.log_here-log.ensures.log (ap (λ (v : WorldView). v.clock) c.self.view_is)
+    c.tick_logged.ensures c.in-Some.is in
+    absurd (no_tick _ c.in-Some.tick nothing next)
+
+-- what both do on the disk
+
+pub returns-in-Ok-None-clause-disk : goal.returns-in-Ok-None-clause-disk
+returns-in-Ok-None-clause-disk g c =
+    let first = c.publish_to_stop.ensures in
+    let second = c.start_stopped.ensures in
+    record {
+      counts = record {
+        faults_never_fall = omega (arith, first.counts.faults_never_fall, second.faults);
+        stops_never_fall = omega (arith, first.counts.stops_never_fall, second.stops);
+        rose = λ e. either_sooner (g.D.Disk.faults c.args.disk.now) (g.D.Disk.faults c.publish_to_stop.new.disk) (g.D.Disk.faults c.start_stopped.new.disk) (g.D.Disk.stops c.args.disk.now) (g.D.Disk.stops c.publish_to_stop.new.disk)
+            (g.D.Disk.stops c.start_stopped.new.disk) second.faults second.stops (first.counts.rose broke);
+      };
+      faultless_stays = record {
+        stays = λ h. second.faultless.stays (first.faultless.stays h);
+        same_faults = λ h. second.faultless.same_faults (first.faultless.stays h) ∙ first.faultless.same_faults h;
+      };
+      never_fails = λ h. second.never_fails (first.faultless.stays h);
+    }
+  where
+    broke : IsErrOf (lines_in c.publish_to_stop.result) fault.Disk
+    broke = subst (λ r. IsErrOf (lines_in r) fault.Disk) (sym (c.in-Ok-None.is ∙ ap (λ o. Ok o) c.in-Ok-None.field-0-is)) refl

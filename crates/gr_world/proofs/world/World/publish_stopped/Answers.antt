@@ -1,14 +1,18 @@
-use Rattle.std.proofs.Common.{◌≡◌, List, Some, Result, sym, ap, ◌∙◌, subst}
+use Rattle.std.proofs.Common.{◌≡◌, List, Some, Result, Err, sym, ap, ◌∙◌, subst}
 use Rattle.gr_sched.specs.declared.step.Step.TheVariants as step
 use Rattle.gr_topo.specs.Topology.{host_of, subscribers_of, not_empty}
 use Rattle.gr_model.specs.declared.report.Report.{Report}
 use Rattle.gr_world.specs.declared.fault.WorldFault.{WorldFault}
-use Rattle.gr_world.specs.Seen.{WorldView}
+use Rattle.gr_world.specs.declared.fault.WorldFault.TheVariants as fault
+use Rattle.gr_world.specs.Seen.{WorldView, net_in, world_of}
 use Rattle.gr_world.specs.Of.{IsWorld, LanesFit}
 use Rattle.gr_world.specs.Steps.{Makes}
-use Rattle.gr_world.specs.Stopped.{BreaksStopped}
+use Rattle.gr_world.specs.Stopped.{BreaksStopped, StopsOver}
 use Rattle.gr_world.proofs.Leaving.{noted_failed, noted_closed}
-use Rattle.gr_world.proofs.StoppedWorlds.{noted_fits, noted_lanes, refused_makes, stopped_makes}
+use Rattle.gr_world.proofs.StoppedWorlds.{noted_fits, noted_lanes, noted_does, refused_makes, stopped_makes}
+use Rattle.gr_world.proofs.Crashing.{noted_lines}
+use Rattle.gr_model.specs.World.{publish_now}
+use Rattle.gr_world.proofs.Fitted.{goes_on_noted, goes_on_same, not_memory}
 use Rattle.gr_world.proofs.world.World.publish_stopped.Goals as goal
 
 pub returns-then-hosts_subscriber-clause-makes : goal.returns-then-hosts_subscriber-clause-makes
@@ -46,3 +50,26 @@ returns-clause-failed g c = λ h.
     let host : c.host-host.result ≡ host_of c.args.self.now.topo c.args.p = c.host-host.ensures.host ∙ ap (λ (v : WorldView). host_of v.topo c.args.p) c.self.view_is in
     subst (λ b. BreaksStopped b c.args.p c.args.self.now c.noted.new.self) host
     (subst (BreaksStopped c.host-host.result c.args.p c.args.self.now) (sym at.1) (one.ensures.failed at.0))
+
+pub returns-then-hosts_subscriber-clause-goes_on : goal.returns-then-hosts_subscriber-clause-goes_on
+returns-then-hosts_subscriber-clause-goes_on g c = λ number lines steps told at f.
+    goes_on_same (step.Publish c.args.p c.args.number (Some c.args.stop.now) c.args.event.now) (g.D.Disk.lane_of c.args.disk.now) c.args.self.now (Err (fault.HostsSubscriber c.host-host.result)) c.requires.publisher (returns-then-hosts_subscriber-clause-makes g c f.sound) number lines steps told at f
+
+pub returns-clause-goes_on : goal.returns-clause-goes_on
+returns-clause-goes_on g c =
+    let one = c.publish_or_stop-answer in
+    goes_on_noted (step.Publish c.args.p c.args.number (Some c.args.stop.now) c.args.event.now) (g.D.Disk.lane_of c.args.disk.now) (g.D.Disk.lane_of one.new.disk) c.args.self.now one.new.self c.noted.new.self one.result c.noted.result
+    c.noted.ensures.answer c.noted.ensures.view c.requires.publisher (returns-clause-makes g c) one.ensures.ran.stays.topo (λ h. one.ensures.ran.spent ∙ h) one.ensures.ran.fits
+    (λ m d h. let s = one.ensures.ran.sound m in s.sound h d) (λ m. one.ensures.lanes (not_memory one.result m))
+
+pub returns-clause-stops : goal.returns-clause-stops
+returns-clause-stops g c = λ tick some.
+    let one = c.publish_or_stop-answer in
+    noted_lines (StopsOver c.args.p tick c.args.number c.args.event.now c.args.stop.now.call c.args.stop.now.pick (g.D.Disk.lane_of c.args.disk.now) c.args.self.now) one.new.self c.noted.new.self one.result c.noted.result
+    c.noted.ensures.answer c.noted.ensures.view (one.ensures.stops tick some)
+
+pub returns-clause-passes : goal.returns-clause-passes
+returns-clause-passes g c = λ none.
+    let one = c.publish_or_stop-answer in
+    let w = c.args.self.now in
+    noted_does (publish_now (net_in w) (world_of w) c.args.p c.args.number c.args.event.now) one.new.self c.noted.new.self one.result c.noted.result c.noted.ensures.answer c.noted.ensures.view (one.ensures.passes none)

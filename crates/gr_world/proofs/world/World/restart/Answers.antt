@@ -76,3 +76,9 @@ returns-in-Err-clause-lanes g c = λ some.
     (λ p at h. let none = c.in-Err.ensures.damaged p at (ap (λ x. Err x) h) in no_log_left t b p at (before (2 * p)) none (readable p none.publisher))
     c.world_fault.ensures (λ h. some (ap (λ x. Err x) h)) c.down_after-self-inside.ensures.failed in
     failed_lanes (the_view c.self.inside) b c.start_again.new.brokers.items c.down_after-self-inside.result before (g.D.Disk.lane_of c.start_again.new.disk) c.in-Err.ensures.kept down c.in-Err.ensures.touches readable others
+
+pub returns-in-Ok-clause-others : goal.returns-in-Ok-clause-others
+returns-in-Ok-clause-others g c = λ n h. c.in-Ok.ensures.touches.others n (λ p j at. h p (subst (λ (x : WorldView). p < length x.topo.publishers) c.self.view_is j))
+
+pub returns-in-Err-clause-others : goal.returns-in-Err-clause-others
+returns-in-Err-clause-others g c = λ n h. c.in-Err.ensures.touches.others n (λ p j at. h p (subst (λ (x : WorldView). p < length x.topo.publishers) c.self.view_is j))

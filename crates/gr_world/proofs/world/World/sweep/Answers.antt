@@ -1,5 +1,21 @@
-use Rattle.std.proofs.Common.{arith}
+use Rattle.std.proofs.Common.{◌≡◌, ◌<◌, List, length, Result, Err, sym, ap, ◌∙◌, subst, arith}
+use Rattle.std.specs.Prelude.{is_some}
+use Rattle.gr_model.specs.declared.report.Report.{Report}
+use Rattle.gr_model.specs.Net.{numbers}
+use Rattle.gr_model.specs.World.{sweep_for, sweep_moment}
+use Rattle.gr_model_calls.proofs.runs.Schedules.{length_numbers}
+use Rattle.gr_broker.specs.Seen.{log_said}
+use Rattle.gr_world.specs.declared.fault.WorldFault.{WorldFault}
+use Rattle.gr_world.specs.declared.fault.WorldFault.TheVariants as fault
+use Rattle.gr_world.specs.Seen.{WorldView, log_at, net_in, world_of}
+use Rattle.gr_world.specs.Sweeps.{at_moment}
+use Rattle.gr_world.specs.Ended.{EndsAt, SweepEnds}
+use Rattle.gr_world.proofs.Barring.{sweep_reopens, none_there}
+use Rattle.gr_world.proofs.Ending.{noted_end}
 use Rattle.gr_world.proofs.Swept.{noted_fits, noted_lanes, noted_sound, moved_lanes, past_makes, swept_makes}
+use Rattle.gr_sched.specs.declared.step.Step.TheVariants as step
+use Rattle.gr_world.specs.Of.{IsSound}
+use Rattle.gr_world.proofs.Fitted.{goes_on_noted, goes_on_same, settles_within}
 use Rattle.gr_world.proofs.world.World.sweep.Goals as goal
 
 pub returns-then-moment-gt-MAX_TICK-clause-makes :
@@ -26,3 +42,39 @@ returns-clause-lanes g c =
 
 pub returns-clause-fits : goal.returns-clause-fits
 returns-clause-fits g c = noted_fits c.sweep_all-answer.new.self c.noted.new.self c.sweep_all-answer.result c.noted.ensures.view c.sweep_all-answer.ensures.ran.fits
+
+pub returns-clause-reopen : goal.returns-clause-reopen
+returns-clause-reopen g c = λ unspent none.
+    let a = c.args.self.now in
+    sweep_reopens a c.move_clock.new.self c.sweep_moment-moment.result c.sweep_all-answer.result c.noted.result c.sweep_moment-moment.ensures (length_numbers (λ p. log_said (log_at a p)) 0 (length a.topo.publishers))
+    c.move_clock.ensures c.noted.ensures.answer c.sweep_all-answer.ensures.ran.carried c.sweep_all-answer.ensures.ran.reopen c.sweep_all-answer.ensures.bars (none_there c.args.self.now.down (sym (ap (λ (w : WorldView). is_some w.down) c.self.view_is) ∙ sym c.is_some.ensures ∙ c.if-is_some.false))
+
+pub returns-clause-ends : goal.returns-clause-ends
+returns-clause-ends g c = λ up e.
+    let a = c.args.self.now in
+    let m = c.sweep_moment-moment in
+    let moved : c.move_clock.new.self ≡ at_moment a (sweep_moment (net_in a) (world_of a)) = c.move_clock.ensures ∙ ap (at_moment a) m.ensures in
+    noted_end (λ (r : Result (List Report) WorldFault) (v : WorldView). EndsAt (sweep_for (net_in a)) (SweepEnds (net_in a) r) (numbers (length a.topo.publishers)) (at_moment a (sweep_moment (net_in a) (world_of a))) v)
+    c.sweep_all-answer.new.self c.noted.new.self c.sweep_all-answer.result c.noted.result c.noted.ensures.answer c.noted.ensures.view
+    (λ h. subst (λ (u : WorldView). EndsAt (sweep_for (net_in u)) (SweepEnds (net_in u) c.sweep_all-answer.result) (numbers (length u.topo.publishers)) u c.sweep_all-answer.new.self) moved (c.sweep_all-answer.ensures.ends h)) e
+
+pub returns-then-moment-gt-MAX_TICK-clause-goes_on : goal.returns-then-moment-gt-MAX_TICK-clause-goes_on
+returns-then-moment-gt-MAX_TICK-clause-goes_on g c =
+    goes_on_same step.Sweep (g.D.Disk.lane_of c.args.disk.now) c.args.self.now (Err (fault.ClockRange c.sweep_moment-moment.result)) tt (returns-then-moment-gt-MAX_TICK-clause-makes g c)
+
+pub returns-clause-goes_on : goal.returns-clause-goes_on
+returns-clause-goes_on g c =
+    let a = c.args.self.now in
+    let one = c.sweep_all-answer in
+    let moved = c.move_clock.ensures in
+    goes_on_noted step.Sweep (g.D.Disk.lane_of c.args.disk.now) (g.D.Disk.lane_of one.new.disk) a one.new.self c.noted.new.self one.result c.noted.result c.noted.ensures.answer c.noted.ensures.view
+    tt (λ h. returns-clause-makes g c) (one.ensures.ran.keeps.topo ∙ ap (λ (w : WorldView). w.topo) moved) (λ h. one.ensures.ran.keeps.spent ∙ (ap (λ (w : WorldView). w.spent) moved ∙ h)) one.ensures.ran.fits
+    (λ m d h. one.ensures.ran.sound.sound (subst IsSound (sym moved) (record { logs = h.logs; up = h.up })) d) (λ m. one.ensures.lanes)
+
+pub returns-clause-settles : goal.returns-clause-settles
+returns-clause-settles g c =
+    settles_within c.args.self.now c.noted.new.self (g.D.Disk.lane_of c.args.disk.now) c.noted.result c.sweep_moment-moment.result c.sweep_moment-moment.ensures (omega (arith, c.if-moment-gt-MAX_TICK.false)) (returns-clause-makes g c)
+
+pub returns-clause-others : goal.returns-clause-others
+returns-clause-others g c = λ n h.
+    c.sweep_all-answer.ensures.others n (λ p i. h p (subst (λ (w : WorldView). p < length w.topo.publishers) c.move_clock.ensures i))

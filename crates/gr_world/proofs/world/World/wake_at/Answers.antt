@@ -8,7 +8,7 @@ use Rattle.gr_world.specs.Ran.{Ran}
 use Rattle.gr_world.specs.Taking.{put_in}
 use Rattle.gr_world.proofs.Answers.{ran_on}
 use Rattle.gr_world.proofs.Called.{Site, read_stands, site_unstopped}
-use Rattle.gr_world.proofs.Woken.{Wakes, does_wake, ran_wake, lanes_wake}
+use Rattle.gr_world.proofs.Woken.{Wakes, does_wake, ran_wake, lanes_wake, reopens_wake, ends_wake, apart_wake}
 use Rattle.gr_world.proofs.world.World.wake_at.Given.{Over}
 use Rattle.gr_world.proofs.world.World.wake_at.Goals as goal
 
@@ -77,3 +77,21 @@ returns-clause-disk g c =
 
 pub returns-clause-lanes : goal.returns-clause-lanes
 returns-clause-lanes g c = lanes g c
+
+pub returns-clause-reopen : goal.returns-clause-reopen
+returns-clause-reopen g c =
+    reopens_wake (the_view c.self.inside) c.args.self.now c.args.b c.args.p c.index_mut-broker.result.now c.wake-answer.new.self c.take_answer.new.frames
+    c.wake-answer.result c.take_answer.result (site g c) c.every_topology_is_a_tree.ensures.tree (gives g c) c.take_answer.ensures.follows c.take_answer.ensures.takes
+
+pub returns-clause-ends : goal.returns-clause-ends
+returns-clause-ends g c =
+    ends_wake (the_view c.self.inside) c.args.self.now c.args.b c.args.p c.index_mut-broker.result.now c.wake-answer.new.self c.take_answer.new.frames
+    c.wake-answer.result c.take_answer.result (site g c) c.every_topology_is_a_tree.ensures.tree (gives g c) c.take_answer.ensures.follows c.take_answer.ensures.takes
+
+pub returns-clause-apart : goal.returns-clause-apart
+returns-clause-apart g c =
+    apart_wake (the_view c.self.inside) c.args.self.now c.args.b c.args.p c.index_mut-broker.result.now c.wake-answer.new.self c.take_answer.new.frames
+    c.wake-answer.result c.take_answer.result (site g c) c.every_topology_is_a_tree.ensures.tree (gives g c) c.take_answer.ensures.follows c.take_answer.ensures.takes
+
+pub returns-clause-others : goal.returns-clause-others
+returns-clause-others g c = λ n h. c.wake-answer.ensures.uses.others g.met.D.SimDisk.told n (h c.args.p c.requires.publisher)
