@@ -14,6 +14,7 @@ use Rattle.gr_model_theorems.proofs.server.Arriving.{run_append}
 use Rattle.gr_world.specs.Seen.{WorldView, net_in, world_of}
 use Rattle.gr_replay.specs.Replayed.{all_lines, replayed_text}
 use Rattle.gr_replay.specs.Going.{Tells, with_ready, left_behind, orders_after, step_text, text_from}
+use Rattle.gr_replay.specs.Over.{opened_text}
 use Rattle.gr_replay.proofs.OrderTexts.{told_append, told_more, after_more, lines_append, lines_more, text_append, replayed_apart}
 
 -- the steps before one, and it
@@ -107,3 +108,11 @@ whole_text t w os left slice steps o l z s e x =
   where
     opened : List ℕ
     opened = report_text (labels_of w.topo) (with_ready (orders_of t) [])
+
+-- whatever it told, that is the text from the world that was opened
+pub over_text : (w : WorldView) (os left : List Order) (slice steps : List Line) → os ≡ orders_of w.topo → left ≡ left_behind os w.told → slice ≡ steps
+    → report_text (labels_of w.topo) (with_ready os w.told) ++ text_from w left slice ≡ opened_text w steps
+over_text w os left slice steps o l s =
+    ap (λ y. report_text (labels_of w.topo) (with_ready os w.told) ++ text_from w y slice) l
+    ∙ ap (λ y. report_text (labels_of w.topo) (with_ready y w.told) ++ text_from w (left_behind y w.told) slice) o
+    ∙ ap (λ y. report_text (labels_of w.topo) (with_ready (orders_of w.topo) w.told) ++ text_from w (left_behind (orders_of w.topo) w.told) y) s

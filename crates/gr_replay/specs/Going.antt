@@ -12,6 +12,7 @@ use Rattle.gr_world.specs.declared.fault.WorldFault.{WorldFault}
 use Rattle.gr_world.specs.declared.fault.WorldFault.TheVariants as fault
 use Rattle.gr_world.specs.Seen.{WorldView, net_in, world_of}
 use Rattle.gr_world.specs.Of.{IsWorld, IsSound}
+use Rattle.gr_world.specs.Disk.{NotDisk}
 use Rattle.gr_replay.specs.Replayed.{all_lines}
 
 -- no call on the world failed
@@ -55,9 +56,9 @@ abbrev pub NotDamaged : {T : Type 0} → Result T WorldFault → Type 0
 NotDamaged (Err (fault.Damaged p at)) = ⊥
 NotDamaged _ = Unit {0}
 
--- why a step ends a replay, by the answer of its call
+-- why a step ends a replay, by the answer of its call: a disk that failed is never told as want of memory
 abbrev pub IsCause : {T : Type 0} → RunFault → Result T WorldFault → Type 0
-IsCause run.Memory answer = Unit {0}
+IsCause run.Memory answer = NotDisk answer
 IsCause run.Disk answer = answer ≡ Err fault.Disk
 IsCause _ answer = ⊥
 

@@ -5,15 +5,13 @@ ghost use Rattle.gr_out.specs.Bytes.{with_more};
 ghost use Rattle.gr_out.specs.Faults.{Rose};
 ghost use Rattle.gr_out.specs.Stops.{StaysFaultless};
 ghost use Rattle.gr_publog.specs.Crash.{EitherRose};
-ghost use Rattle.gr_topo.specs.Topology.{host_of};
 ghost use Rattle.gr_model.specs.NetOf.{net_of};
 ghost use Rattle.gr_model.specs.Orders.{AreOrdersOf};
 ghost use Rattle.gr_model.specs.Text.{labels_of, report_text};
 ghost use Rattle.gr_model.specs.World.{next, start};
-ghost use Rattle.gr_broker.specs.Opened.{IsDamagedAt};
 ghost use Rattle.gr_world.specs.Seen.{net_in, world_of};
 ghost use Rattle.gr_world.specs.Of.{LanesFit};
-ghost use Rattle.gr_world.specs.Opened.{NoStops, AreEmpty};
+ghost use Rattle.gr_world.specs.Opened.{NoStops, AreEmpty, IsFirstDamaged};
 ghost use Rattle.gr_out.specs.Page.{TakesBut};
 ghost use Rattle.gr_scenario.specs.Steps.{AreStepsOf, IsStepOf};
 ghost use Rattle.gr_out.specs.Page.{TakesFront};
@@ -21,6 +19,7 @@ ghost use Rattle.gr_report.specs.Named.{AllNamed, IsPutFault};
 ghost use Rattle.gr_replay.specs.Replayed.{replayed_text};
 ghost use Rattle.gr_replay.specs.Going.{IsGoing, IsOpeningFault, IsRunFault, NotDamagedRun, DiskCounts, step_text};
 ghost use Rattle.gr_replay.specs.Going.{text_from, with_ready, left_behind};
+ghost use Rattle.gr_replay.specs.Over.{IsOver, ReplaysOver, AtMostCut};
 
 use crate::ordering::put_step;
 use crate::stepping::step;
@@ -40,7 +39,8 @@ use std::mem::forget;
 ///
 /// `Memory` where memory is refused. `Write` only where the sink failed in this call. `Disk` only where the disk failed
 /// in this call, and no stop that a step orders is such a failure; the lines of all steps before are written then.
-/// `Damaged` where at the start the lane of a publisher holds no log: that publisher, and the place of the first fault.
+/// `Damaged` where at the start the lane of a publisher holds no log: the first such publisher, broker by broker, and
+/// the place of the first fault.
 /// `Post` never comes. After each fault the sink took a front of the report.
 ///
 /// What the world and the lists hold at the end is left to the end of the process, which gives all of it back at once:
@@ -54,7 +54,13 @@ pub fn replay<K: Sink, D: SimDisk>(
 ) -> Result<(), RunFault>
     requires steps { AreStepsOf topology steps.now }
     requires stops { NoStops (D.lane_of disk.old) }
-    // Over empty lanes the sink took the report of the machine, and nothing else
+    // The sink took what the opening of the logs that the lanes hold tells, and what the machine's steps tell from the
+    // world that was opened; after a fault nothing, or a front of it
+    ensures over { OnOk result
+        (ReplaysOver topology steps.now (D.lane_of disk.old) (K.taken sink.old) (K.taken sink.new)) }
+    ensures over_front { OnErr result
+        (AtMostCut topology steps.now (D.lane_of disk.old) (K.taken sink.old) (K.taken sink.new)) }
+    // Over empty lanes that is the report of the machine, and nothing else
     ensures report { AreEmpty topology (D.lane_of disk.old)
         → OnOk result (K.taken sink.new ≡ with_more (K.taken sink.old) (replayed_text topology steps.now)) }
     // after a fault a front of it
@@ -70,7 +76,7 @@ pub fn replay<K: Sink, D: SimDisk>(
         → EitherRose (D.faults disk.old) (D.faults disk.new) (D.stops disk.old) (D.stops disk.new) }
     ensures never_fails { D.faultless disk.old → result ≢ Err RunFault.Disk }
     ensures damaged { (p at : ℕ) → result ≡ Err (RunFault.Damaged p at)
-        → IsDamagedAt topology (host_of topology p) p at (D.lane_of disk.old) }
+        → IsFirstDamaged topology p at (D.lane_of disk.old) }
     ensures never_damaged { AreEmpty topology (D.lane_of disk.old)
         → (p at : ℕ) → result ≢ Err (RunFault.Damaged p at) }
     ensures never_post { result ≢ Err RunFault.Post }
@@ -105,7 +111,8 @@ pub fn replay<K: Sink, D: SimDisk>(
 /// its lanes hold. The world stands ready for `step`.
 ///
 /// `Memory` where memory is refused, `Disk` only where the disk failed in this call, `Damaged` where the lane of a
-/// publisher holds no log: that publisher, and the place of the first fault. No other fault comes.
+/// publisher holds no log: the first such publisher, broker by broker, and the place of the first fault. No other fault
+/// comes.
 pub fn opened<D: SimDisk>(
     alloc: Global,
     topology: Topology,
@@ -113,13 +120,14 @@ pub fn opened<D: SimDisk>(
 ) -> Result<World, RunFault>
     requires stops { NoStops (D.lane_of disk.old) }
     ensures topology { IfOk result (λ w. w.topo ≡ topology) }
+    ensures over { IfOk result (IsOver topology (D.lane_of disk.old)) }
     ensures going { IfOk result IsGoing }
     ensures named { IfOk result (λ w. AllNamed w.topo w.told) }
     ensures fresh { AreEmpty topology (D.lane_of disk.old)
         → IfOk result (λ w. (world_of w ≡ start (net_of topology)) × (w.told ≡ [])) }
     ensures cause { IfErr result IsOpeningFault }
     ensures damaged { (p at : ℕ) → result ≡ Err (RunFault.Damaged p at)
-        → IsDamagedAt topology (host_of topology p) p at (D.lane_of disk.old) }
+        → IsFirstDamaged topology p at (D.lane_of disk.old) }
     ensures undamaged { AreEmpty topology (D.lane_of disk.old) → NotDamagedRun result }
     ensures counts { DiskCounts (D.faults disk.old) (D.stops disk.old) (D.faults disk.new) (D.stops disk.new) result }
     ensures faultless { StaysFaultless (D.faultless disk.old) (D.faultless disk.new)

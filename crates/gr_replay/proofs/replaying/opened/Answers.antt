@@ -23,7 +23,7 @@ pub returns-in-Damaged-clause-undamaged : goal.returns-in-Damaged-clause-undamag
 returns-in-Damaged-clause-undamaged g c = λ e.
     let fault : c.new.result ≡ Err (Damaged c.in-Damaged.publisher c.in-Damaged.at) = cc in
     empty_is_whole c.args.topology (g.D.Disk.lane_of c.args.disk.now) (host_of c.args.topology c.in-Damaged.publisher) c.in-Damaged.publisher c.in-Damaged.at e
-    (c.new.ensures.damaged c.in-Damaged.publisher c.in-Damaged.at fault)
+    (let first = c.new.ensures.damaged c.in-Damaged.publisher c.in-Damaged.at fault in first.here)
 
 pub returns-in-Damaged-clause-damaged : goal.returns-in-Damaged-clause-damaged
 returns-in-Damaged-clause-damaged g c = λ p at e.
@@ -31,3 +31,6 @@ returns-in-Damaged-clause-damaged g c = λ p at e.
     let publisher : c.in-Damaged.publisher ≡ p = cc in
     let place : c.in-Damaged.at ≡ at = cc in
     c.new.ensures.damaged p at (fault ∙ ap₂ (λ q from. Err (Damaged q from)) publisher place)
+
+pub returns-in-Ok-clause-over : goal.returns-in-Ok-clause-over
+returns-in-Ok-clause-over g c = record { opened = c.in-Ok.ensures.opened; found = c.in-Ok.ensures.found }

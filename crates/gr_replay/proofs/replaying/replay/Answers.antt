@@ -1,4 +1,4 @@
-use Rattle.std.proofs.Common.{◌≡◌, Err, take, sym, ap, ◌∙◌, subst, refl}
+use Rattle.std.proofs.Common.{◌≡◌, inr, Err, take, sym, ap, ◌∙◌, subst, refl}
 use Rattle.gr_out.specs.declared.fault.RunFault.TheVariants as run
 use Rattle.gr_out.specs.Bytes.{with_more}
 use Rattle.gr_model.specs.Orders.{AreOrdersOf, orders_of}
@@ -8,7 +8,8 @@ use Rattle.gr_out.specs.Page.{TakesFront}
 use Rattle.gr_replay.specs.Going.{with_ready, left_behind, text_from}
 use Rattle.gr_out.proofs.Fronts.{with_more-nil, front-more, front-later, taken-later, on_fault, on_success}
 use Rattle.gr_replay.proofs.OrderTexts.{replayed_none}
-use Rattle.gr_replay.proofs.RunTexts.{whole_text, left_are}
+use Rattle.gr_replay.specs.Over.{ReplaysOver, AtMostCut}
+use Rattle.gr_replay.proofs.RunTexts.{whole_text, over_text, left_are}
 use Rattle.gr_replay.proofs.replaying.replay.Goals as goal
 
 pub first_page-requires-clause-orders : goal.first_page-requires-clause-orders
@@ -83,3 +84,47 @@ returns-in-Err-clause-damaged g c = λ p at e.
 pub returns-in-Err-first_page-clause-sink_same : goal.returns-in-Err-first_page-clause-sink_same
 returns-in-Err-first_page-clause-sink_same g c = λ other.
     c.in-Err-first_page.ensures.same (λ e. let same : c.in-Err-first_page.fault ≡ run.Write = cc in other (ap (λ f. Err f) same))
+
+pub returns-clause-over : goal.returns-clause-over
+returns-clause-over g c =
+    let w = c.in-Ok.world in
+    let os = c.in-Ok-new.orders in
+    let left = c.first_page.new.orders in
+    let told = report_text (labels_of w.topo) (with_ready os w.told) in
+    let text = over_text w os left c.as_slice.result.now c.args.steps.now (c.in-Ok-new.ensures ∙ ap orders_of c.topology.ensures) c.in-Ok-first_page.ensures.left c.as_slice.ensures in
+    on_success c.run-done.result
+    (λ e. let over : ReplaysOver c.args.topology c.args.steps.now (g.D.Disk.lane_of c.args.disk.now) (g.K.Sink.taken c.args.sink.now) (g.K.Sink.taken c.run-done.new.sink) = record {
+      world = w;
+      over = c.in-Ok.ensures.over;
+      taken = taken-later _ _ _ told (text_from w left c.as_slice.result.now) c.in-Ok-first_page.page.held c.in-Ok-first_page.ensures.ok e ∙ ap (with_more (g.K.Sink.taken c.args.sink.now)) text;
+    } in over)
+    c.run-done.ensures.report
+
+pub returns-in-Err-first_page-clause-over_front : goal.returns-in-Err-first_page-clause-over_front
+returns-in-Err-first_page-clause-over_front g c =
+    let w = c.in-Ok.world in
+    let os = c.in-Ok-new.orders in
+    let told = report_text (labels_of w.topo) (with_ready os w.told) in
+    let text = over_text w os (left_behind os w.told) c.args.steps.now c.args.steps.now (c.in-Ok-new.ensures ∙ ap orders_of c.topology.ensures) refl refl in
+    inr (record {
+      world = w;
+      over = c.in-Ok.ensures.over;
+      front = subst (TakesFront (g.K.Sink.taken c.args.sink.now) (g.K.Sink.taken c.first_page.new.sink)) text
+          (front-more _ _ told (text_from w (left_behind os w.told) c.args.steps.now) c.in-Err-first_page.ensures.front);
+    })
+
+pub returns-clause-over_front : goal.returns-clause-over_front
+returns-clause-over_front g c =
+    let w = c.in-Ok.world in
+    let os = c.in-Ok-new.orders in
+    let left = c.first_page.new.orders in
+    let told = report_text (labels_of w.topo) (with_ready os w.told) in
+    let text = over_text w os left c.as_slice.result.now c.args.steps.now (c.in-Ok-new.ensures ∙ ap orders_of c.topology.ensures) c.in-Ok-first_page.ensures.left c.as_slice.ensures in
+    on_fault c.run-done.result
+    (λ h. let cut : AtMostCut c.args.topology c.args.steps.now (g.D.Disk.lane_of c.args.disk.now) (g.K.Sink.taken c.args.sink.now) (g.K.Sink.taken c.run-done.new.sink) = inr (record {
+      world = w;
+      over = c.in-Ok.ensures.over;
+      front = subst (TakesFront (g.K.Sink.taken c.args.sink.now) (g.K.Sink.taken c.run-done.new.sink)) text
+          (front-later _ _ _ told (text_from w left c.as_slice.result.now) c.in-Ok-first_page.page.held c.in-Ok-first_page.ensures.ok h);
+    }) in cut)
+    c.run-done.ensures.front
