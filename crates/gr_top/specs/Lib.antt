@@ -5,4 +5,5 @@ pub mod Submitter
 pub mod Publishing
 pub mod Answers
 pub mod Behind
+pub mod Swept
 pub mod Top

@@ -4,11 +4,13 @@ ghost use Rattle.std.specs.Prelude.{◌≡◌, ◌≢◌, ◌⊎◌};
 ghost use Rattle.gr_out.specs.Bytes.{with_more};
 ghost use Rattle.gr_out.specs.Faults.{Rose};
 ghost use Rattle.gr_out.specs.Page.{TakesFront};
+ghost use Rattle.gr_model.specs.NetOf.{net_of};
+ghost use Rattle.gr_model.specs.World.{report_of};
 ghost use Rattle.gr_scenario.specs.Scenario.{asked_by, IsTooLarge};
 ghost use Rattle.gr_scenario.specs.Steps.{AreStepsOf};
 ghost use Rattle.gr_replay.specs.Replayed.{replayed_text};
 ghost use Rattle.gr_top.specs.Answers.{replay_answer};
-ghost use Rattle.gr_top.specs.Top.{MeetsHeadline, WasReplayed, IsAnswered, IsWhole, IsCut};
+ghost use Rattle.gr_top.specs.Top.{MeetsHeadline, WasReplayed, AtMostCut, IsAnswered, IsWhole, IsCut};
 
 use crate::headline::every_report_meets_the_headline;
 use crate::printing::{print, print_line};
@@ -23,6 +25,7 @@ use std::mem::forget;
 /// Answers the bytes of a scenario: its steps are carried out. Gives the status.
 pub(crate) fn replay_bytes<K: Sink>(alloc: Global, bytes: &[u8], sink: &mut K) -> u8
     ensures replayed { result ≡ 0 → WasReplayed (K.taken sink.old) (K.taken sink.new) (asked_by bytes.now) }
+    ensures cut { IsCut result → AtMostCut (K.taken sink.old) (K.taken sink.new) (asked_by bytes.now) }
     ensures answered { IsWhole result →
         IsAnswered result (K.taken sink.old) (K.taken sink.new) (replay_answer (asked_by bytes.now)) }
     ensures front { IsCut result →
@@ -52,7 +55,7 @@ fn carry_out<K: Sink>(alloc: Global, topology: Topology, steps: &Steps, sink: &m
     requires { AreStepsOf topology steps.now }
     ensures printed { result ≡ 0 → K.taken sink.new ≡ with_more (K.taken sink.old) (replayed_text topology steps.now) }
     ensures front { IsCut result → TakesFront (K.taken sink.old) (K.taken sink.new) (replayed_text topology steps.now) }
-    ensures meets { MeetsHeadline topology steps.now }
+    ensures meets { MeetsHeadline topology steps.now (report_of (net_of topology) steps.now) }
     ensures write_failed { result ≡ 4 → Rose (K.faults sink.old) (K.faults sink.new) }
     ensures sink_same { result ≢ 4 → K.faults sink.new ≡ K.faults sink.old }
     ensures complete { (result ≡ 0) ⊎ IsCut result }

@@ -12,7 +12,7 @@ ghost use Rattle.gr_top.specs.Serving.{AllRead};
 ghost use Rattle.gr_top.specs.Publishing.{IfPublish, outside, PublishesTo, StopsPublishing};
 ghost use Rattle.gr_top.specs.Publishing.{NotPublished};
 ghost use Rattle.gr_top.specs.Answers.{answer_of, answer_to};
-ghost use Rattle.gr_top.specs.Top.{WasReplayed, IsAnswered, IsWhole, IsCut, IsStop};
+ghost use Rattle.gr_top.specs.Top.{WasReplayed, AtMostCut, IsAnswered, IsWhole, IsCut, IsStop};
 
 use crate::broker_words::BrokerWords;
 use crate::covering::cover_bytes;
@@ -60,6 +60,9 @@ pub fn gryphon<S: Source, K: Sink, D: Disk, P: Paced>(
     // The headline, of every schedule that was replayed.
     ensures headline { result ≡ 0 → task_by (texts_of words.now) ≡ Task.Replay →
         IfSome (S.left source.old) (λ bytes. WasReplayed (K.taken sink.old) (K.taken sink.new) (asked_by bytes)) }
+    // The same of what was printed where the sink failed or memory was wanting: it is a front of such a report.
+    ensures cut { IsCut result → task_by (texts_of words.now) ≡ Task.Replay →
+        IfSome (S.left source.old) (λ bytes. AtMostCut (K.taken sink.old) (K.taken sink.new) (asked_by bytes)) }
     ensures read_to_its_end { IsReading (task_by (texts_of words.now)) → (result ≡ 0) ⊎ (result ≡ 2) →
         IsAtEnd (S.left source.new) }
 
@@ -279,6 +282,8 @@ fn publish_source<S: Source, K: Sink, P: Post>(
 fn from_source<S: Source, K: Sink>(alloc: Global, input: Input, source: &mut S, sink: &mut K) -> u8
     ensures replayed { result ≡ 0 → input ≡ Input.Scenario →
         IfSome (S.left source.old) (λ bytes. WasReplayed (K.taken sink.old) (K.taken sink.new) (asked_by bytes)) }
+    ensures cut { IsCut result → input ≡ Input.Scenario →
+        IfSome (S.left source.old) (λ bytes. AtMostCut (K.taken sink.old) (K.taken sink.new) (asked_by bytes)) }
     ensures read_to_its_end { (result ≡ 0) ⊎ (result ≡ 2) → IsAtEnd (S.left source.new) }
     ensures answered { IsWhole result → IfSome (S.left source.old)
         (λ bytes. IsAnswered result (K.taken sink.old) (K.taken sink.new) (answer_of input bytes)) }
@@ -304,6 +309,8 @@ fn from_source<S: Source, K: Sink>(alloc: Global, input: Input, source: &mut S, 
 fn answer<K: Sink>(alloc: Global, input: Input, bytes: &[u8], sink: &mut K) -> u8
     ensures replayed { result ≡ 0 → input ≡ Input.Scenario →
         WasReplayed (K.taken sink.old) (K.taken sink.new) (asked_by bytes.now) }
+    ensures cut { IsCut result → input ≡ Input.Scenario →
+        AtMostCut (K.taken sink.old) (K.taken sink.new) (asked_by bytes.now) }
     ensures answered { IsWhole result →
         IsAnswered result (K.taken sink.old) (K.taken sink.new) (answer_of input bytes.now) }
     ensures front { IsCut result →

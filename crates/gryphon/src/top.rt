@@ -13,7 +13,7 @@ ghost use Rattle.gr_top.specs.Serving.{AllRead};
 ghost use Rattle.gr_top.specs.Publishing.{IfPublish, outside, PublishesTo, StopsPublishing};
 ghost use Rattle.gr_top.specs.Publishing.{NotPublished};
 ghost use Rattle.gr_top.specs.Answers.{answer_of, answer_to};
-ghost use Rattle.gr_top.specs.Top.{WasReplayed, IsAnswered, IsWhole, IsCut, IsStop};
+ghost use Rattle.gr_top.specs.Top.{WasReplayed, AtMostCut, IsAnswered, IsWhole, IsCut, IsStop};
 
 use gr_out::{Disk, Sink, Source};
 use gr_pace::Paced;
@@ -45,6 +45,9 @@ pub fn gryphon<S: Source, K: Sink, D: Disk, P: Paced>(
     // The headline, of every schedule that was replayed.
     ensures headline { result ≡ 0 → task_by (texts_of words.now) ≡ Task.Replay →
         IfSome (S.left source.old) (λ bytes. WasReplayed (K.taken sink.old) (K.taken sink.new) (asked_by bytes)) }
+    // The same of what was printed where the sink failed or memory was wanting: it is a front of such a report.
+    ensures cut { IsCut result → task_by (texts_of words.now) ≡ Task.Replay →
+        IfSome (S.left source.old) (λ bytes. AtMostCut (K.taken sink.old) (K.taken sink.new) (asked_by bytes)) }
     ensures read_to_its_end { IsReading (task_by (texts_of words.now)) → (result ≡ 0) ⊎ (result ≡ 2) →
         IsAtEnd (S.left source.new) }
 

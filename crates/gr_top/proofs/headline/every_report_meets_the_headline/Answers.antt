@@ -5,6 +5,7 @@ use Rattle.gr_model.specs.World.{report_of}
 use Rattle.gr_model_theorems.specs.Statements.{IsAskedRun, IsMarkedRun, world_after}
 use Rattle.gr_report.proofs.Steps.{steps_in}
 use Rattle.gr_top.proofs.OrderLemmas.{are_totals, are_behind}
+use Rattle.gr_top.proofs.SweptLemmas.{sweeps_settle}
 use Rattle.gr_top.proofs.headline.every_report_meets_the_headline.Goals as goal
 
 pub returns : goal.returns
@@ -20,6 +21,7 @@ returns c =
       by_rules = record { left = world_after (net_of t) lines; schedule = c.runs_by_rules.ensures.allowed (net_of t) lines marked };
       alone = λ rs r. (c.runs_by_rules.ensures.alone (net_of t) lines rs r.left marked r.schedule).0;
       replied = c.replies_stand.ensures (net_of t) lines marked;
+      settled = sweeps_settle (net_of t) lines asked (c.sweep_settles.ensures (net_of t)) (c.sweep_hands_over.ensures (net_of t));
       behind = are_behind (orders_of t) (report_of (net_of t) lines);
       ordered = c.ordered_always.ensures (net_of t) (totals_of t) lines asked (are_totals t);
       one_order = c.one_order_always.ensures (net_of t) (totals_of t) lines asked (are_totals t);
