@@ -29,7 +29,7 @@ other_with (k ∷ js) j s h e =
 turned : (a b : ℕ) → nat_eq a b ≡ false → nat_eq b a ≡ false
 turned a b h = ne_eqb b a (λ e. eqb-false a b h (sym e))
 
-once_with : (js : Joins) (j : Join) → JoinOnce js → has_joined js j.subscriber ≡ false → JoinOnce (js ++ j ∷ [])
+pub once_with : (js : Joins) (j : Join) → JoinOnce js → has_joined js j.subscriber ≡ false → JoinOnce (js ++ j ∷ [])
 once_with [] j h e = (refl, tt)
 once_with (k ∷ js) j h e =
     let parts = or_parts (nat_eq k.subscriber j.subscriber) (has_joined js j.subscriber) e in
