@@ -1,9 +1,9 @@
 -- A server: what comes to its brokers from outside, and what they do
 use Rattle.std.specs.Prelude.{ℕ, ◌&&◌, ◌++◌, min, max, not, Bool, true, false, nat_eq, nat_lt, if◌then◌else◌, List, []}
 use Rattle.std.specs.Prelude.{◌∷◌, length, Option, Some, None, Result, Ok, Err, flat_map}
-use Rattle.std.specs.List.{list_any, list_all}
+use Rattle.std.specs.List.{list_any}
 use Rattle.gr_event.specs.declared.event.Event.{Event}
-use Rattle.gr_event.specs.Joins.{Joins}
+use Rattle.gr_event.specs.Joins.{Joins, Split, first_split}
 use Rattle.gr_frame.specs.declared.Body.TheVariants as body
 use Rattle.gr_frame.specs.declared.Frame.{Frame}
 pub use Rattle.gr_frame.specs.Fault.{fault_number}
@@ -24,7 +24,7 @@ use Rattle.gr_sched.specs.declared.step.Line.{Line}
 use Rattle.gr_sched.specs.declared.step.Step.TheVariants as step
 use Rattle.gr_model.specs.declared.report.Report.{Report}
 use Rattle.gr_model.specs.declared.report.Report.TheVariants as line
-use Rattle.gr_model.specs.Net.{Net, is_late, keeps_horizon, numbers}
+use Rattle.gr_model.specs.Net.{Net, all_late, keeps_horizon, numbers}
 use Rattle.gr_model.specs.Broker.{View, Log, max_tick}
 use Rattle.gr_model.specs.World.{World, Transition, view_of, log_of, unchanged, followed_by, in_turn, deliver_frame}
 use Rattle.gr_model.specs.World.{publish_now, wake_all, kept_events, deliver_frame_by, publish_now_by, wake_all_by}
@@ -79,7 +79,7 @@ abbrev pub joins_in : Frame → Joins
 joins_in f = elim f.body [ body.Knowledge runs js ↦ js | _ ↦ [] ]
 
 abbrev pub joins_fit : Net → Frame → Bool
-joins_fit net f = list_all (λ j. is_late net j.subscriber) (joins_in f)
+joins_fit net f = all_late net (joins_in f)
 
 -- The frame fits the broker: it is addressed to it, of a publisher that there is, curiosity comes from a child and all
 -- else from the next broker towards the host, and each join is of a late subscriber
@@ -111,18 +111,27 @@ clash_line b know f t = line.DroppedClash b t (known_at know t) (elim f.body [
   | _ ↦ Q
 ])
 
--- a frame that fits is received, unless it clashes
+-- the line of a split
+abbrev pub split_line : ℕ → Split → Report
+split_line b x = line.DroppedSplit b x.at x.kept x.came
+
+-- a frame that fits is received, unless its joins split from those that are held, or it clashes
 unfoldable pub takes_by : (View → Net) → Net → World → ℕ → Frame → Transition
 takes_by see net w b f =
-    elim (least_clash (view_of w b f.head.publisher).know f) [
-      | Some t ↦ unchanged w (clash_line b (view_of w b f.head.publisher).know f t ∷ [])
-      | None ↦ deliver_frame_by see net w f
+    elim (first_split 0 (view_of w b f.head.publisher).joins (joins_in f)) [
+      | Some x ↦ unchanged w (split_line b x ∷ [])
+      | None ↦
+          elim (least_clash (view_of w b f.head.publisher).know f) [
+            | Some t ↦ unchanged w (clash_line b (view_of w b f.head.publisher).know f t ∷ [])
+            | None ↦ deliver_frame_by see net w f
+          ]
     ]
 
 abbrev pub takes : Net → World → ℕ → Frame → Transition
 takes net = takes_by (λ _. net) net
 
--- a datagram is decoded, then it must fit, then it must not clash; one that fails changes nothing
+-- A datagram is decoded, then it must fit, then its joins must not split from those that are held, then it must not
+-- clash; one that fails changes nothing
 unfoldable pub receives_by : (View → Net) → Net → World → ℕ → Result Frame FrameFault → Transition
 receives_by see net w b (Err fault) = unchanged w (line.DroppedNotFrame b (fault_number fault.kind) fault.at ∷ [])
 receives_by see net w b (Ok f) =

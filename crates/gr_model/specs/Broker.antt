@@ -1,5 +1,5 @@
 -- One broker's calls for one publisher
-use Rattle.std.specs.Prelude.{ℕ, suc, ◌+◌, ◌-◌, min, Bool, true, false, not, ◌&&◌, ◌||◌, nat_eq, nat_le, nat_lt}
+use Rattle.std.specs.Prelude.{ℕ, suc, ◌+◌, ◌-◌, min, max, Bool, true, false, not, ◌&&◌, ◌||◌, nat_eq, nat_le, nat_lt}
 use Rattle.std.specs.Prelude.{if◌then◌else◌, List, [], ◌∷◌, ◌++◌, map, filter, get_or, set, Some, None, flat_map}
 use Rattle.std.specs.Prelude.{Option}
 use Rattle.std.specs.List.{list_all}
@@ -13,6 +13,9 @@ use Rattle.gr_frame.specs.declared.Body.TheVariants as body
 use Rattle.gr_frame.specs.declared.Head.{Head}
 use Rattle.gr_frame.specs.declared.Frame.{Frame}
 use Rattle.gr_frame.specs.Bytes.{head_size, known_run_size, wanted_run_size, cut_frames}
+use Rattle.gr_event.specs.Joins.{Join, longer, splits}
+use Rattle.gr_pubend.specs.declared.answers.Joined.{Joined}
+use Rattle.gr_pubend.specs.declared.answers.Joined.TheVariants as joins
 use Rattle.gr_curio.specs.declared.asks.Moment.TheVariants.{Never}
 use Rattle.gr_model.specs.declared.report.Report.{Report}
 use Rattle.gr_model.specs.declared.report.Report.TheVariants as line
@@ -20,13 +23,14 @@ use Rattle.gr_tick.specs.Runs.{points, zip_runs, first_bottom_from, top_of}
 use Rattle.gr_know.specs.Values.{Known, known_at, knowns, same_K, is_Q, join_K, new_K, clash_K}
 pub use Rattle.gr_publog.specs.Kept.{is_kept}
 pub use Rattle.gr_publog.specs.State.{max_tick}
-pub use Rattle.gr_pubend.specs.Log.{Log, empty_log, with_event, with_mark, with_cut, event_at, log_at, event_points}
+pub use Rattle.gr_pubend.specs.Log.{Log, empty_log, with_event, with_mark, with_cut, with_join}
+pub use Rattle.gr_pubend.specs.Log.{event_at, log_at, event_points}
 unfoldable pub use Rattle.gr_pubend.specs.Log.{log_know, silence}
 use Rattle.gr_pubend.specs.declared.answers.Published.{Published}
 use Rattle.gr_pubend.specs.declared.answers.Published.TheVariants as publishes
 use Rattle.gr_pubend.specs.declared.answers.Quieted.{Quieted}
 use Rattle.gr_pubend.specs.declared.answers.Quieted.TheVariants as quiets
-unfoldable pub use Rattle.gr_pubend.specs.Answers.{published, quieted}
+unfoldable pub use Rattle.gr_pubend.specs.Answers.{published, quieted, joined_at}
 pub use Rattle.gr_subend.specs.Horizon.{data_of_run}
 unfoldable pub use Rattle.gr_subend.specs.Horizon.{horizon_after, data_ticks}
 pub use Rattle.gr_know.specs.Forget.{data_count, without_front}
@@ -35,7 +39,7 @@ pub use Rattle.gr_curio.specs.Wants.{all_A, any_C, is_reached, is_consolidated}
 use Rattle.gr_curio.specs.Wants.{answered_of}
 use Rattle.gr_curio.specs.Due.{due_of, noted_of}
 use Rattle.gr_curio.specs.Values.{Wanted, Asked, wanted_at, asked_at, wanteds, same_Q3, same_moment, is_C, is_A}
-use Rattle.gr_model.specs.Net.{Net, keeps_horizon, is_host, pass, not_empty, numbers_from}
+use Rattle.gr_model.specs.Net.{Net, keeps_horizon, is_host, pass, not_empty, numbers_from, with_wants, wants_with}
 
 -- what a broker keeps for one publisher
 pub record View : Type 0 where
@@ -189,7 +193,7 @@ learn net p b piece v log =
       });
       log = log;
       lines = flat_map (delivery_lines net p v.horizon h items) (net.subscribers_at b);
-      frames = forward_frames [] net p b new (net.children p b) v.wants;
+      frames = forward_frames v.joins net p b new (net.children p b) v.wants;
     }
 
 -- Asking
@@ -265,7 +269,7 @@ curiosity net p b now c i piece v log =
       });
       log = log;
       lines = [];
-      frames = know_frames [] b c p reply ++ up_frames net p b asked;
+      frames = know_frames v.joins b c p reply ++ up_frames net p b asked;
     }
 
 -- A broker that is not the host asks for a wanted set, and tells what is consolidated
@@ -397,7 +401,7 @@ started net p b log = record {
   wants = map (λ _. []) (net.children p b);
   asks = [];
   horizon = 0;
-  joins = [];
+  joins = if is_host net p b then log.joins else [];
 }
 
 -- A frame comes
@@ -405,6 +409,40 @@ started net p b log = record {
 -- some tick clashes
 unfoldable pub clashes : Known → Known → Bool
 clashes know piece = not_empty (zip_runs Q Q N same_Q3 (λ k x. if clash_K k x then A else N) know piece)
+
+-- a view with other joins
+abbrev pub with_joins : View → Joins → View
+with_joins v js = record v { joins = js }
+
+-- the net that a view shows
+abbrev pub seen : Net → View → Net
+seen net v = with_wants net (wants_with net v.joins)
+
+-- a view that has taken up the joins of a frame, where there are more of them
+abbrev pub taking : View → Frame → View
+taking v f = elim f.body [ body.Knowledge runs js ↦ with_joins v (longer v.joins js) | _ ↦ v ]
+
+-- a frame of knowledge is dropped where its joins split from those that are held, or it clashes
+unfoldable pub drops : View → Known → Joins → Bool
+drops v runs js = splits v.joins js || clashes v.know runs
+
+-- a join, by its answer: a line alone, or it is logged and held, and the silence up to it learned
+abbrev pub joining_by : Net → ℕ → ℕ → ℕ → View → Log → Joined → Outcome
+joining_by net p b s v log (joins.Logged tick fresh) =
+    let next = with_join log tick s in
+    let o = learn net p b fresh (with_joins v next.joins) next in
+    record { view = o.view; log = o.log; lines = line.Joined s p tick ∷ o.lines; frames = o.frames }
+joining_by net p b s v log joins.Already = says v log (line.AlreadyJoined s p)
+joining_by net p b s v log joins.Exhausted = says v log (line.ExhaustedJoin s p)
+
+-- a join at the host
+unfoldable pub joining : Net → ℕ → ℕ → ℕ → ℕ → View → Log → Outcome
+joining net p b now s v log = joining_by net p b s v log (joined_at log s now)
+
+-- what the host holds once a join is logged
+abbrev pub view_joined : Log → ℕ → ℕ → View → View
+view_joined log s now v =
+    with_joins v (log.joins ++ record { subscriber = s; tick = max (suc log.settled) now } ∷ [])
 
 -- the place of a number in a list
 abbrev pub place_of : ℕ → List ℕ → ℕ
@@ -416,9 +454,9 @@ unfoldable pub receive : Net → ℕ → Frame → View → Log → Outcome
 receive net now f v log =
     elim f.body [
       | body.Knowledge runs js ↦
-          elim (clashes v.know runs) [
+          elim (drops v runs js) [
             | true ↦ record { view = v; log = log; lines = []; frames = [] }
-            | false ↦ learn net f.head.publisher f.head.to runs v log
+            | false ↦ learn net f.head.publisher f.head.to runs (with_joins v (longer v.joins js)) log
           ]
       | body.Curiosity runs ↦
           curiosity net f.head.publisher f.head.to now f.head.from

@@ -12,7 +12,8 @@ use Rattle.gr_model.specs.declared.report.Report.{Report}
 use Rattle.gr_model.specs.declared.report.Report.TheVariants as line
 use Rattle.gr_tick.specs.Runs.{is_in}
 use Rattle.gr_know.specs.Values.{Known}
-use Rattle.gr_model.specs.Net.{Net, keeps_horizon, is_host, not_empty, numbers}
+use Rattle.gr_event.specs.Joins.{Joins, has_joined}
+use Rattle.gr_model.specs.Net.{Net, with_wants, wants_with, keeps_horizon, is_host, not_empty, numbers}
 use Rattle.gr_model.specs.Broker.{max_tick, is_kept}
 
 -- what was recorded of one publisher: the last number, the tick up to which all is settled, and the events by tick
@@ -20,9 +21,10 @@ pub record Recorded : Type 0 where
   pub last : ℕ
   pub settled : ℕ
   pub events : List (ℕ × Event)
+  pub joined : Joins
 
 abbrev pub nothing_recorded : Recorded
-nothing_recorded = record { last = 0; settled = 0; events = [] }
+nothing_recorded = record { last = 0; settled = 0; events = []; joined = [] }
 
 -- what the steps and lines so far say
 pub record History : Type 0 where
@@ -61,11 +63,25 @@ recording clock r e = record {
   last = suc r.last;
   settled = tick_of clock r;
   events = r.events ++ (tick_of clock r, e) ∷ [];
+  joined = r.joined;
 }
 
 -- the record settled up to a tick
 abbrev pub settling : ℕ → Recorded → Recorded
-settling tick r = record { last = r.last; settled = tick; events = r.events }
+settling tick r = record { last = r.last; settled = tick; events = r.events; joined = r.joined }
+
+-- s may join: it has not, and its tick does not pass the last one
+abbrev pub may_enter : ℕ → Recorded → ℕ → Bool
+may_enter clock r s = not (has_joined r.joined s) && nat_le (tick_of clock r) max_tick
+
+-- the record with a further join
+abbrev pub with_joined : ℕ → Recorded → ℕ → Recorded
+with_joined clock r s = record {
+  last = r.last;
+  settled = tick_of clock r;
+  events = r.events;
+  joined = r.joined ++ record { subscriber = s; tick = tick_of clock r } ∷ [];
+}
 
 -- a stopped publish was kept
 abbrev pub is_kept_line : Report → Bool
@@ -112,6 +128,9 @@ records_after net h l ls =
           then set h.records p (recording h.clock r e) else h.records
       | step.Wake b ↦ each_record (λ p r. if is_host net p b then marked net h.clock r else r) 0 h.records
       | step.Sweep ↦ if is_swept net h then map (settling (sweep_at net h)) h.records else h.records
+      | step.Join s p ↦
+          let r = record_of h p in
+          if may_enter h.clock r s then set h.records p (with_joined h.clock r s) else h.records
       | _ ↦ h.records
     ]
 
@@ -138,12 +157,15 @@ most_after net h l =
 abbrev pub first_gate : ℕ
 first_gate = 5
 
--- the bytes that a record and its gate take in the lane: of an event, and of a mark or a cut
+-- the bytes that a record and its gate take in the lane: of an event, of a mark or a cut, and of a join
 abbrev pub event_room : Event → ℕ
 event_room e = 22 + event_size e
 
 abbrev pub mark_room : ℕ
 mark_room = 10
+
+abbrev pub join_room : ℕ
+join_room = 12
 
 -- the place of the gate in the lane of a publisher's log
 abbrev pub gate_of : History → ℕ → ℕ
@@ -169,6 +191,8 @@ gates_after net h l ls =
           if recorded then set h.gates p (gate_of h p + event_room e) else h.gates
       | step.Wake b ↦ gates_told 0 h.gates ls
       | step.Sweep ↦ gates_told 0 h.gates ls
+      | step.Join s p ↦
+          if may_enter h.clock (record_of h p) s then set h.gates p (gate_of h p + join_room) else h.gates
       | _ ↦ h.gates
     ]
 
@@ -242,6 +266,7 @@ heard_after net h l ls =
 abbrev pub is_record_of : ℕ → Report → Bool
 is_record_of p (line.Logged q n t) = nat_eq q p
 is_record_of p (line.Mark q t) = nat_eq q p
+is_record_of p (line.Joined s q t) = nat_eq q p
 is_record_of p _ = false
 
 -- the flags of the publishers from p on, each changed
@@ -340,6 +365,9 @@ is_record_line (line.Exhausted p n) = true
 is_record_line (line.Kept p n t) = true
 is_record_line (line.Lost p n t) = true
 is_record_line (line.Mark p t) = true
+is_record_line (line.Joined s p t) = true
+is_record_line (line.AlreadyJoined s p) = true
+is_record_line (line.ExhaustedJoin s p) = true
 is_record_line (line.Crashed b) = true
 is_record_line (line.Swept m) = true
 is_record_line (line.Frames n) = true
@@ -359,6 +387,11 @@ publish_line p clock number r =
     else (if nat_lt (suc r.last) number then line.Gap p number (suc r.last)
     else (if nat_lt max_tick (tick_of clock r) then line.Exhausted p number
     else line.Logged p number (tick_of clock r)))
+
+-- the line that a join gets
+abbrev pub join_line : ℕ → ℕ → ℕ → Recorded → Report
+join_line s p clock r = if has_joined r.joined s then line.AlreadyJoined s p
+    else (if nat_lt max_tick (tick_of clock r) then line.ExhaustedJoin s p else line.Joined s p (tick_of clock r))
 
 -- how many events are past a tick
 abbrev pub count_past : ℕ → List (ℕ × Event) → ℕ
@@ -390,6 +423,7 @@ record_lines net h l ls =
           then line.Mark p h.clock ∷ [] else []) (numbers net.publishers)
       | step.Sweep ↦ if is_swept net h then map (λ p. line.Mark p (sweep_at net h)) (numbers net.publishers)
           ++ line.Swept (sweep_at net h) ∷ [] else []
+      | step.Join s p ↦ join_line s p h.clock (record_of h p) ∷ []
       | step.Crash b ↦ if may_crash net b then line.Crashed b ∷ opened_of net h.reopened_cuts h.records h.lines b
           else []
       | step.Show ↦
@@ -444,13 +478,20 @@ pub record InOrder (net : Net) (h : History) : Type 0 where
       (s u : ℕ) (e : Event) → Contains (record_of h p).events (u, e) → u ≤ t → s < net.subscribers
       → IsTrue (net.wants p s u e) → Contains xs (line.Got s p u e)
 
--- what the headline says, step by step
+-- the net as the record of a history shows it
+abbrev pub recorded_net : Net → History → Net
+recorded_net net h = with_wants net (λ p s t e. wants_with net (record_of h p).joined p s t e)
+
+-- what the headline says, step by step; whom an event concerns is asked of a net that the history shows
+abbrev pub Holds_from_by : (History → Net) → Net → History → List Line → List (List Report) → Type 0
+Holds_from_by at net h [] [] = Delivered (at h) h × InOrder (at h) h
+Holds_from_by at net h (l ∷ ls) (r ∷ rs) = Delivered (at h) h × InOrder (at h) h × StepReports net h l r
+    × Holds_from_by at net (history_after net h l r) ls rs
+Holds_from_by at net h [] (r ∷ rs) = ⊥
+Holds_from_by at net h (l ∷ ls) [] = ⊥
+
 abbrev pub Holds_from : Net → History → List Line → List (List Report) → Type 0
-Holds_from net h [] [] = Delivered net h × InOrder net h
-Holds_from net h (l ∷ ls) (r ∷ rs) = Delivered net h × InOrder net h × StepReports net h l r
-    × Holds_from net (history_after net h l r) ls rs
-Holds_from net h [] (r ∷ rs) = ⊥
-Holds_from net h (l ∷ ls) [] = ⊥
+Holds_from net = Holds_from_by (λ _. net) net
 
 -- the headline: every step of a report says what the record, the frames heard and the topology demand
 abbrev pub Headline : Net → List Line → List (List Report) → Type 0

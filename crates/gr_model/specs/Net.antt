@@ -1,7 +1,8 @@
 -- A topology as the machine sees it: brokers, publishers and subscribers are numbers from 0
-use Rattle.std.specs.Prelude.{ℕ, Bool, true, false, ◌||◌, nat_eq, List, [], ◌∷◌, Option}
-use Rattle.std.specs.List.{list_any}
+use Rattle.std.specs.Prelude.{ℕ, Bool, true, false, ◌&&◌, ◌||◌, nat_eq, List, [], ◌∷◌, Option}
+use Rattle.std.specs.List.{list_any, list_all}
 use Rattle.gr_event.specs.declared.event.Event.{Event}
+use Rattle.gr_event.specs.Joins.{Joins, joined_below}
 use Rattle.gr_know.specs.declared.values.K.{K}
 use Rattle.gr_know.specs.declared.values.K.TheVariants.{Q, S, D, F}
 pub use Rattle.gr_subend.specs.Horizon.{numbers_from}
@@ -39,9 +40,24 @@ keeps_horizon net p b = not_empty (net.subscribers_at b) || is_empty (net.childr
 abbrev pub is_host : Net → ℕ → ℕ → Bool
 is_host net p b = nat_eq (net.host p) b
 
+-- a net whose subscribers want something else
+abbrev pub with_wants : Net → (ℕ → ℕ → ℕ → Event → Bool) → Net
+with_wants net f = record net { wants = f }
+
 -- the subscriber is late
 abbrev pub is_late : Net → ℕ → Bool
 is_late net s = list_any (λ x. nat_eq x s) net.late
+
+-- each join is of a late subscriber
+abbrev pub all_late : Net → Joins → Bool
+all_late net js = list_all (λ j. is_late net j.subscriber) js
+
+-- who wants an event of a tick where these are the joins
+abbrev pub wants_with : Net → Joins → ℕ → ℕ → ℕ → Event → Bool
+wants_with net js p s t e = elim (is_late net s) [
+  | true ↦ net.wants p s t e && joined_below js s t
+  | false ↦ net.wants p s t e
+]
 
 -- some subscriber at the broker or beyond it wants the event of the tick
 abbrev pub wanted_below : Net → ℕ → ℕ → ℕ → Event → Bool

@@ -53,7 +53,7 @@ opening net = opening_by (λ _. net) net
 -- The history where logs were found: the record begins with what they say
 
 abbrev pub recorded_of : Log → Recorded
-recorded_of log = record { last = log.last; settled = log.settled; events = log.events }
+recorded_of log = record { last = log.last; settled = log.settled; events = log.events; joined = log.joins }
 
 unfoldable pub begin_over : Net → List Log → List Report → History
 begin_over net logs told = record {

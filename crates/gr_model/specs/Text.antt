@@ -19,9 +19,10 @@ use Rattle.gr_model.specs.declared.report.Report.{Report}
 use Rattle.gr_model.specs.declared.report.Report.TheVariants.{Opened, Logged, Already, Gap, Exhausted, Kept, Lost, Mark}
 use Rattle.gr_model.specs.declared.report.Report.TheVariants.{Cut, Got, Horizon, SentKnow, SentWant, SentExpect}
 use Rattle.gr_model.specs.declared.report.Report.TheVariants.{Crashed, Swept, RefusedHosts, RefusedFrame, RefusedClock}
-use Rattle.gr_model.specs.declared.report.Report.TheVariants.{DroppedNotFrame, DroppedStray, DroppedClash}
+use Rattle.gr_model.specs.declared.report.Report.TheVariants.{DroppedNotFrame, DroppedStray, DroppedSplit, DroppedClash}
 use Rattle.gr_model.specs.declared.report.Report.TheVariants.{DroppedBadNote, DroppedStrayNote, Damaged, Frames, LogOf}
 use Rattle.gr_model.specs.declared.report.Report.TheVariants.{Doubt, BytesOf, Ordered}
+use Rattle.gr_model.specs.declared.report.Report.TheVariants.{Joined, AlreadyJoined, ExhaustedJoin}
 
 -- The names of brokers, publishers and subscribers by their numbers.
 pub record Labels : Type 0 where
@@ -112,6 +113,12 @@ line_words labels (Already publisher number) = publisher_words labels (codes "al
 line_words labels (Gap publisher number next) =
     codes "gap" ∷ labels.publisher publisher ∷ decimal number ∷ codes "next" ∷ decimal next ∷ []
 line_words labels (Exhausted publisher number) = publisher_words labels (codes "exhausted") publisher (number ∷ [])
+line_words labels (Joined subscriber publisher tick) =
+    codes "joined" ∷ labels.subscriber subscriber ∷ labels.publisher publisher ∷ decimal tick ∷ []
+line_words labels (AlreadyJoined subscriber publisher) =
+    codes "already-joined" ∷ labels.subscriber subscriber ∷ labels.publisher publisher ∷ []
+line_words labels (ExhaustedJoin subscriber publisher) =
+    codes "exhausted-join" ∷ labels.subscriber subscriber ∷ labels.publisher publisher ∷ []
 line_words labels (Kept publisher number tick) = publisher_words labels (codes "kept") publisher (number ∷ tick ∷ [])
 line_words labels (Lost publisher number tick) = publisher_words labels (codes "lost") publisher (number ∷ tick ∷ [])
 line_words labels (Mark publisher tick) = publisher_words labels (codes "mark") publisher (tick ∷ [])
@@ -140,6 +147,9 @@ line_words labels (DroppedNotFrame broker fault at) =
     codes "dropped" ∷ labels.broker broker ∷ codes "not-frame" ∷ frame_fault_word fault ∷ decimal at ∷ []
 line_words labels (DroppedStray broker from to publisher) =
     codes "dropped" ∷ labels.broker broker ∷ codes "stray" ∷ decimal from ∷ decimal to ∷ decimal publisher ∷ []
+line_words labels (DroppedSplit broker at kept came) =
+    codes "dropped" ∷ labels.broker broker ∷ codes "split" ∷ decimal at ∷ decimal kept.subscriber ∷
+    decimal kept.tick ∷ decimal came.subscriber ∷ decimal came.tick ∷ []
 line_words labels (DroppedClash broker tick kept came) =
     codes "dropped" ∷ labels.broker broker ∷ codes "clash" ∷ decimal tick ∷ know_letter kept ∷ know_letter came ∷ []
 line_words labels (DroppedBadNote broker fault at) =
@@ -186,6 +196,9 @@ IsNamed t (Logged publisher number tick) = publisher < length t.publishers
 IsNamed t (Already publisher number) = publisher < length t.publishers
 IsNamed t (Gap publisher number next) = publisher < length t.publishers
 IsNamed t (Exhausted publisher number) = publisher < length t.publishers
+IsNamed t (Joined subscriber publisher tick) = AreNamed t subscriber publisher
+IsNamed t (AlreadyJoined subscriber publisher) = AreNamed t subscriber publisher
+IsNamed t (ExhaustedJoin subscriber publisher) = AreNamed t subscriber publisher
 IsNamed t (Kept publisher number tick) = publisher < length t.publishers
 IsNamed t (Lost publisher number tick) = publisher < length t.publishers
 IsNamed t (Mark publisher tick) = publisher < length t.publishers
@@ -203,6 +216,7 @@ IsNamed t (RefusedFrame line frame sent) = Unit {0}
 IsNamed t (RefusedClock line moment) = Unit {0}
 IsNamed t (DroppedNotFrame broker fault at) = (broker < length t.brokers) × (1 ≤ fault) × (fault ≤ 10)
 IsNamed t (DroppedStray broker from to publisher) = broker < length t.brokers
+IsNamed t (DroppedSplit broker at kept came) = broker < length t.brokers
 IsNamed t (DroppedClash broker tick kept came) = broker < length t.brokers
 IsNamed t (DroppedBadNote broker fault at) = (broker < length t.brokers) × (1 ≤ fault) × (fault ≤ 7)
 IsNamed t (DroppedStrayNote broker publisher) = broker < length t.brokers

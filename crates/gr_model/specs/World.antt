@@ -13,6 +13,7 @@ use Rattle.gr_model.specs.declared.report.Report.{Report}
 use Rattle.gr_model.specs.declared.report.Report.TheVariants as line
 use Rattle.gr_model.specs.Net.{Net, keeps_horizon, not_empty, numbers}
 use Rattle.gr_model.specs.Broker.{max_tick, View, Log, Outcome, empty_log, with_event, publish, wake, receive, started}
+use Rattle.gr_model.specs.Broker.{taking, joining, view_joined}
 use Rattle.gr_model.specs.Broker.{is_kept}
 
 pub record World : Type 0 where
@@ -98,7 +99,7 @@ wake_all net = wake_all_by (λ _. net) net
 -- a frame reaches its receiver
 unfoldable pub deliver_frame_by : (View → Net) → Net → World → Frame → Transition
 deliver_frame_by see net w f =
-    absorbed w f.head.to f.head.publisher (receive (see (view_of w f.head.to f.head.publisher)) w.clock f
+    absorbed w f.head.to f.head.publisher (receive (see (taking (view_of w f.head.to f.head.publisher) f)) w.clock f
     (view_of w f.head.to f.head.publisher) (log_of w f.head.publisher))
 
 abbrev pub deliver_frame : Net → World → Frame → Transition
@@ -117,6 +118,15 @@ publish_now_by see net w p number e =
 
 abbrev pub publish_now : Net → World → ℕ → ℕ → Event → Transition
 publish_now net = publish_now_by (λ _. net) net
+
+-- a join at the host
+unfoldable pub join_now_by : (View → Net) → Net → World → ℕ → ℕ → Transition
+join_now_by see net w s p =
+    absorbed w (net.host p) p (joining (see (view_joined (log_of w p) s w.clock (view_of w (net.host p) p))) p
+    (net.host p) w.clock s (view_of w (net.host p) p) (log_of w p))
+
+abbrev pub join_now : Net → World → ℕ → ℕ → Transition
+join_now net = join_now_by (λ _. net) net
 
 -- the opened lines of a broker's publishers
 unfoldable pub opened_lines : Net → List Log → ℕ → List Report
@@ -315,13 +325,13 @@ next_by see net w l =
         | false ↦ crash net w b
       ]
       | step.Sweep ↦ sweep_by see net w l.number
+      | step.Join s p ↦ join_now_by see net w s p
       | step.Show ↦ unchanged w (show net w)
       | step.Bytes k ↦
           elim (frame_at w k) [
             | None ↦ unchanged w (line.RefusedFrame l.number k (length w.frames) ∷ [])
             | Some f ↦ unchanged w (line.BytesOf k (frame_bytes f) ∷ [])
           ]
-      | step.Join q p ↦ unchanged w []
     ]
 
 abbrev pub next : Net → World → Line → Transition

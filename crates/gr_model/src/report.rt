@@ -3,7 +3,7 @@
 ghost use Rattle.std.specs.Prelude.{◌≡◌, ◌++◌, ◌∷◌, [], length, OnOk, OnErr};
 
 use gr_curio::Q3;
-use gr_event::{Bytes, Event, Joins};
+use gr_event::{Bytes, Event, Join, Joins};
 use gr_know::K;
 use gr_tick::Piece;
 use std::alloc::{AllocError, Global};
@@ -55,6 +55,29 @@ pub enum Report {
         publisher: u16,
         /// The event's number among those of its publisher, from 1.
         number: u64,
+    },
+    /// A late subscriber joined a publisher.
+    Joined {
+        /// Which subscriber.
+        subscriber: u16,
+        /// Which publisher.
+        publisher: u16,
+        /// The publisher's tick past which the subscriber gets its events.
+        tick: u64,
+    },
+    /// A late subscriber had joined already.
+    AlreadyJoined {
+        /// Which subscriber.
+        subscriber: u16,
+        /// Which publisher.
+        publisher: u16,
+    },
+    /// A join's tick would pass the last tick.
+    ExhaustedJoin {
+        /// Which subscriber.
+        subscriber: u16,
+        /// Which publisher.
+        publisher: u16,
     },
     /// After a stopped publish the log has it.
     Kept {
@@ -212,6 +235,17 @@ pub enum Report {
         to: u16,
         /// The publisher of which it speaks.
         publisher: u16,
+    },
+    /// A datagram's joins split from those that are held.
+    DroppedSplit {
+        /// The broker that dropped it.
+        broker: u16,
+        /// The first place, counted from 0, at which the two lists have different joins.
+        at: u16,
+        /// The join that is held there.
+        kept: Join,
+        /// The join that came.
+        came: Join,
     },
     /// A datagram clashes with what is known.
     DroppedClash {

@@ -3,3 +3,4 @@ pub mod runs
 pub mod asks
 pub mod rules
 pub mod topology
+pub mod joins

@@ -8,3 +8,4 @@ pub mod Calls
 pub mod Told
 pub mod Telling
 pub mod Erased
+pub mod Held

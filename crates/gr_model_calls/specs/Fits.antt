@@ -8,13 +8,13 @@ use Rattle.gr_frame.specs.declared.Body.TheVariants as body
 use Rattle.gr_frame.specs.declared.Frame.{Frame}
 use Rattle.gr_tick.specs.Runs.{AreRuns}
 use Rattle.gr_know.specs.Values.{known_at}
-use Rattle.gr_model.specs.Net.{Net}
+use Rattle.gr_model.specs.Net.{Net, is_late, all_late}
 use Rattle.gr_model.specs.Broker.{View, Log}
 use Rattle.gr_model.specs.World.{World, view_of, log_of, start, run_from}
 use Rattle.gr_sched.specs.declared.step.Step.{Step}
 use Rattle.gr_sched.specs.declared.step.Step.TheVariants as step
 use Rattle.gr_sched.specs.declared.step.Line.{Line}
-use Rattle.gr_model_calls.specs.Truth.{Facts, TrueF, KnowsTruth, WantsTruth, AllWantTruth}
+use Rattle.gr_model_calls.specs.Truth.{Holds, HasEvent, Facts, TrueF, KnowsTruth, WantsTruth, AllWantTruth}
 use Rattle.gr_model.specs.Tree.{IsSubscriber}
 use Rattle.gr_model_calls.specs.Said.{said_at, TicksRise, due_upto}
 use Rattle.gr_model.specs.declared.report.Report.{Report}
@@ -23,7 +23,7 @@ use Rattle.gr_model_calls.specs.Steady.{Steady}
 
 -- what a log and the horizons of the subscribers say
 abbrev pub facts : Log → (ℕ → ℕ) → Facts
-facts log reached = record { settled = log.settled; said = said_at log.events; reached = reached }
+facts log reached = record { settled = log.settled; said = said_at log.events; reached = reached; joined = log.joins }
 
 -- how far a subscriber has come; for a number that is no subscriber, 0
 abbrev pub reached_in : Net → World → ℕ → ℕ → ℕ
@@ -51,6 +51,7 @@ pub record ViewTrue (net : Net) (f : Facts) (p b : ℕ) (v : View) : Type 0 wher
   pub wants : AllWantTruth net f p (net.children p b) v.wants
   pub asks : AreRuns Never v.asks
   pub horizon : IsHorizon net f b v.horizon
+  pub held : Holds f.joined v.joins (HasEvent v.know)
 
 -- the host knows each tick up to what is settled
 abbrev pub HostKnows : View → ℕ → Type 0
@@ -62,7 +63,7 @@ CutTrue net f p b cut = (t : ℕ) → 1 ≤ t → t ≤ cut → TrueF net f p b 
 
 -- what a frame says is true at its receiver; an A is true of its sender
 abbrev pub BodyTrue : Net → Facts → ℕ → ℕ → ℕ → Body → Type 0
-BodyTrue net f p from to (body.Knowledge runs js) = KnowsTruth net f p to runs
+BodyTrue net f p from to (body.Knowledge runs js) = KnowsTruth net f p to runs × Holds f.joined js (HasEvent runs)
 BodyTrue net f p from to (body.Curiosity runs) = WantsTruth net f p from runs
 BodyTrue net f p from to (body.Expect tick) = tick ≤ f.settled
 
@@ -101,6 +102,8 @@ pub record WorldFits (net : Net) (w : World) : Type 0 where
   pub logs_long : length w.logs ≡ net.publishers
   pub views : (p b : ℕ) → p < net.publishers → b < net.brokers → ViewTrue net (facts_of net w p) p b (view_of w b p)
   pub logs : (p : ℕ) → p < net.publishers → LogFits (log_of w p)
+  pub late : (p : ℕ) → p < net.publishers → all_late net (log_of w p).joins ≡ true
+  pub hosts : (p : ℕ) → p < net.publishers → (view_of w (net.host p) p).joins ≡ (log_of w p).joins
   pub known : (p : ℕ) → p < net.publishers → HostKnows (view_of w (net.host p) p) (log_of w p).settled
   pub cuts : (p : ℕ) → p < net.publishers → CutTrue net (facts_of net w p) p (net.host p) (log_of w p).cut
   pub frames : AllFramesTrue net w w.frames
@@ -119,7 +122,7 @@ abbrev pub StepIn : Net → Step → Type 0
 StepIn net (step.Publish p number stop e) = p < net.publishers
 StepIn net (step.Wake b) = b < net.brokers
 StepIn net (step.Crash b) = b < net.brokers
-StepIn net (step.Join s p) = ⊥
+StepIn net (step.Join s p) = (is_late net s ≡ true) × (p < net.publishers)
 StepIn net _ = Unit {0}
 
 -- the numbers of all steps

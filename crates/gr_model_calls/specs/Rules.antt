@@ -18,7 +18,9 @@ use Rattle.gr_tick.specs.Runs.{AreRuns, top_of}
 use Rattle.gr_know.specs.Values.{Known, known_at, is_Q, is_D, join_K, new_K}
 use Rattle.gr_curio.specs.Values.{Wanted, Asked, wanted_at, asked_at, is_C, is_A, is_outstanding}
 use Rattle.gr_model.specs.Net.{Net, keeps_horizon, is_host, pass}
+use Rattle.gr_event.specs.Joins.{Joins, longer, has_joined}
 use Rattle.gr_model.specs.Broker.{View, Log, Outcome, max_tick, is_F, know_frames, expect_frame, up_frames}
+use Rattle.gr_model.specs.Broker.{with_joins, view_joined, with_join}
 use Rattle.gr_model.specs.Broker.{is_consolidated_by, any_C, data_count, place_of, delivery_lines, with_event}
 use Rattle.gr_model.specs.Broker.{with_mark, with_cut}
 pub use Rattle.gr_model.specs.Broker.{unmoved, says}
@@ -107,8 +109,8 @@ pub record DeliversOn (net : Net) (p b h k : ℕ) (at : ℕ → K) (ls : List Re
 
 -- To each child, in order, what it is sent as frames. A piece makes the frames that the cutting rule gives
 -- (`cut_frames`).
-abbrev pub frames_down : Net → ℕ → ℕ → (ℕ → Known) → List Frame
-frames_down net p b sent = flat_map (λ c. know_frames [] b c p (sent c)) (net.children p b)
+abbrev pub frames_down : Joins → Net → ℕ → ℕ → (ℕ → Known) → List Frame
+frames_down js net p b sent = flat_map (λ c. know_frames js b c p (sent c)) (net.children p b)
 
 -- A piece of knowledge comes to b
 pub record NewTicks (net : Net) (p b : ℕ) (piece : Known) (v : View) (log : Log) (o : Outcome) : Type 0 where
@@ -116,9 +118,9 @@ pub record NewTicks (net : Net) (p b : ℕ) (piece : Known) (v : View) (log : Lo
   pub sent : ℕ → Known
   pub sent_is : (c : ℕ) → IsChild net p b c → HasKnown (λ t. if is_A (want_at net p b v c t) then Q
       else pass net p c t (new_K (known_at v.know t) (known_at piece t))) (sent c)
-  pub frames : o.frames ≡ frames_down net p b sent
+  pub frames : o.frames ≡ frames_down v.joins net p b sent
   -- A child that is sent nothing gets no frame.
-  pub none : (c : ℕ) → IsChild net p b c → ((t : ℕ) → known_at (sent c) t ≡ Q) → know_frames [] b c p (sent c) ≡ []
+  pub none : (c : ℕ) → IsChild net p b c → ((t : ℕ) → known_at (sent c) t ≡ Q) → know_frames v.joins b c p (sent c) ≡ []
   -- What a child asked is done where it was sent something.
   pub wants : (c : ℕ) → IsChild net p b c → HasWanted (λ t. if is_C (want_at net p b v c t)
       && not (is_Q (known_at (sent c) t)) then N else want_at net p b v c t) (wants_from net p b o.view c)
@@ -147,7 +149,7 @@ pub record ChildAsks (net : Net) (p b now c : ℕ) (piece : Wanted) (v : View) (
       && not (is_A (want_at net p b v c t)) && is_Q (known_at v.know t)
       && not (is_outstanding (asked_at v.asks t) now net.retry) then C else N) asked
   -- All answers go to c as one piece, and then all asks upward as one.
-  pub frames : o.frames ≡ know_frames [] b c p reply ++ up_frames net p b asked
+  pub frames : o.frames ≡ know_frames v.joins b c p reply ++ up_frames net p b asked
   -- Of c is kept: an acknowledgement, old or new; an ask that is not answered; and what it did not speak of.
   pub wants : HasWanted (λ t. if is_A (wanted_at piece t) || is_A (want_at net p b v c t) then A
       else (if is_C (wanted_at piece t) then (if is_Q (known_at v.know t) then C else N)
@@ -277,9 +279,28 @@ pub record Publishes (net : Net) (p b now number : ℕ) (e : Event) (v : View) (
         frames = learned.frames;
       })
 
+-- A join at the host: said already, past the last tick, or logged, held, and the silence up to its tick new
+pub record TakesJoin (net : Net) (p b now s : ℕ) (v : View) (log : Log) (o : Outcome) : Type 0 where
+  pub already : has_joined log.joins s ≡ true → o ≡ says v log (line.AlreadyJoined s p)
+  pub exhausted : has_joined log.joins s ≡ false → max_tick < max (suc log.settled) now
+      → o ≡ says v log (line.ExhaustedJoin s p)
+  pub silent : Known
+  pub silent_is : HasKnown (silence_upto log.settled (max (suc log.settled) now)) silent
+  pub learned : Outcome
+  pub learns : has_joined log.joins s ≡ false → max (suc log.settled) now ≤ max_tick
+      → NewTicks net p b silent (view_joined log s now v) (with_join log (max (suc log.settled) now) s) learned
+  pub logged : has_joined log.joins s ≡ false → max (suc log.settled) now ≤ max_tick →
+      o ≡ (record {
+        view = learned.view;
+        log = learned.log;
+        lines = line.Joined s p (max (suc log.settled) now) ∷ learned.lines;
+        frames = learned.frames;
+      })
+
 -- A frame comes: knowledge is new ticks, curiosity is of the child that sent it
 abbrev pub Comes : Net → ℕ → ℕ → ℕ → ℕ → Body → View → Log → Outcome → Type 0
-Comes net p from to now (body.Knowledge runs js) v log o = NewTicks net p to runs v log o
+Comes net p from to now (body.Knowledge runs js) v log o =
+    NewTicks net p to runs (with_joins v (longer v.joins js)) log o
 Comes net p from to now (body.Curiosity runs) v log o = ChildAsks net p to now from runs v log o
 Comes net p from to now (body.Expect tick) v log o = Expects net p to now tick v log o
 
@@ -295,3 +316,5 @@ pub record RulesDetermine (net : Net) (p b : ℕ) : Type 0 where
       → o ≡ u
   pub publishes : (now number : ℕ) (e : Event) (v : View) (log : Log) (o u : Outcome)
       → Publishes net p b now number e v log o → Publishes net p b now number e v log u → o ≡ u
+  pub joins : (now s : ℕ) (v : View) (log : Log) (o u : Outcome) → TakesJoin net p b now s v log o
+      → TakesJoin net p b now s v log u → o ≡ u

@@ -1,6 +1,7 @@
 -- What is true of a tick at a broker, or at the edge to it
-use Rattle.std.specs.Prelude.{◌≡◌, ℕ, ◌≤◌, Bool, true, false, List, [], ◌∷◌, Option, Some, None}
+use Rattle.std.specs.Prelude.{◌≡◌, ℕ, ◌≤◌, Bool, true, false, List, [], ◌∷◌, ◌++◌, Option, Some, None}
 use Rattle.gr_event.specs.declared.event.Event.{Event}
+use Rattle.gr_event.specs.Joins.{Joins, NoneBelow}
 use Rattle.gr_know.specs.declared.values.K.{K}
 use Rattle.gr_know.specs.declared.values.K.TheVariants.{Q, S, D, F}
 use Rattle.gr_curio.specs.declared.values.Q3.TheVariants.{N, A}
@@ -15,6 +16,7 @@ pub record Facts : Type 0 where
   pub settled : ℕ
   pub said : ℕ → Option Event
   pub reached : ℕ → ℕ
+  pub joined : Joins  -- of late subscribers, as they were logged
 
 -- an event was logged at the tick that the subscriber wants
 abbrev pub concerns : Net → Facts → ℕ → ℕ → ℕ → Bool
@@ -61,8 +63,23 @@ AllWantTruth net f p (c ∷ cs) (w ∷ ws) = WantsTruth net f p c w × AllWantTr
 AllWantTruth net f p [] (w ∷ ws) = ⊥
 AllWantTruth net f p (c ∷ cs) [] = ⊥
 
+-- an event is known at a tick
+abbrev pub HasEvent : Known → ℕ → Type 0
+HasEvent know t = (e : Event) × (known_at know t ≡ D e)
+
+-- what is held is a front of the joins that were logged, and none below the tick of a known event is missing
+pub record Holds (now js : Joins) (Event : ℕ → Type 0) : Type 0 where
+  pub rest : Joins
+  pub front : now ≡ js ++ rest
+  pub above : (t : ℕ) → Event t → NoneBelow t rest
+
+-- more joins were logged, past what was settled
+abbrev pub Grows : Joins → Joins → ℕ → Type 0
+Grows old new settled = (more : Joins) × (new ≡ old ++ more) × NoneBelow settled more
+
 -- later facts: more was logged past what was settled, and the subscribers came further
 pub record IsLater (f g : Facts) : Type 0 where
   pub settled : f.settled ≤ g.settled
   pub said : (t : ℕ) → t ≤ f.settled → g.said t ≡ f.said t
   pub reached : (s : ℕ) → f.reached s ≤ g.reached s
+  pub joined : Grows f.joined g.joined f.settled

@@ -7,3 +7,4 @@ pub mod sweep
 pub mod headline
 pub mod server
 pub mod order
+pub mod joins

@@ -17,7 +17,7 @@ use Rattle.gr_model.specs.World.{World, Transition, blank_view, view_of, log_of,
 use Rattle.gr_model.specs.World.{frames_past, sent_since, is_want, is_know_to, inwards, outwards, sweep_moment}
 use Rattle.gr_model.specs.World.{kept_events}
 use Rattle.gr_model.specs.Opening.{reopened_log, reopened_line, publishers_at}
-use Rattle.gr_model_calls.specs.Rules.{HasKnown, NewTicks, Publishes, Wakes, Comes}
+use Rattle.gr_model_calls.specs.Rules.{TakesJoin, HasKnown, NewTicks, Publishes, Wakes, Comes}
 use Rattle.gr_model_theorems.specs.Settles.{is_accepted}
 use Rattle.gr_model_theorems.specs.Obeys.{is_next_of}
 
@@ -53,11 +53,13 @@ pub record Starts (net : Net) (p b : ℕ) (log : Log) (v : View) : Type 0 where
   -- the host knows what the log says of each tick, and any other broker nothing
   pub at_host : is_host net p b ≡ true → HasKnown (log_at log) v.know
   pub below : is_host net p b ≡ false → v.know ≡ []
-  -- no child has asked or acknowledged, nothing was asked, the horizon is 0, and no joins are held
+  -- no child has asked or acknowledged, nothing was asked, and the horizon is 0
   pub wants : v.wants ≡ map (λ _. []) (net.children p b)
   pub asks : v.asks ≡ []
   pub horizon : v.horizon ≡ 0
-  pub joins : v.joins ≡ []
+  -- the host holds the joins of the log, and any other broker none
+  pub joins_at_host : is_host net p b ≡ true → v.joins ≡ log.joins
+  pub joins_below : is_host net p b ≡ false → v.joins ≡ []
 
 -- what it keeps when it starts over these logs: one view for each publisher, in order
 pub record StartsAll (net : Net) (b : ℕ) (logs : List Log) (views : List View) : Type 0 where
@@ -123,6 +125,10 @@ pub record Calls (b p : ℕ) (Rule : View → Log → Outcome → Type 0) (w : W
 -- an event is published at its host
 abbrev pub IsPublished : Net → ℕ → ℕ → Event → World → Transition → Type 0
 IsPublished net p number e w t = Calls (net.host p) p (Publishes net p (net.host p) w.clock number e) w t
+
+-- a subscriber joins at the host
+abbrev pub IsJoined : Net → ℕ → ℕ → World → Transition → Type 0
+IsJoined net s p w t = Calls (net.host p) p (TakesJoin net p (net.host p) w.clock s) w t
 
 -- broker b is woken for publisher p
 abbrev pub IsWoken : Net → ℕ → ℕ → World → Transition → Type 0
@@ -305,7 +311,7 @@ Happens net number (step.Crash b) w t = Crashes net number b w t
 Happens net number step.Sweep w t = Sweeps net number w t
 Happens net number step.Show w t = Tells (shown net w) w t
 Happens net number (step.Bytes k) w t = ShowsBytes number k w t
-Happens net number (step.Join s p) w t = ⊥
+Happens net number (step.Join s p) w t = IsJoined net s p w t
 
 -- a step tells its lines, and the rest goes on in the state that it leaves
 pub record Steps (net : Net) (l : Line) (ls : List Report) (Rest : World → Type 0) (w : World) : Type 0 where

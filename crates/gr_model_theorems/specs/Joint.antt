@@ -7,7 +7,7 @@ use Rattle.gr_model.specs.Net.{Net}
 use Rattle.gr_model.specs.World.{World, Transition, start, sent_lines}
 use Rattle.gr_model.specs.Headline.{History, Delivered, InOrder, is_sent}
 use Rattle.gr_model.specs.Arrivals.{Arrival, Publish, publishes_of, left_after, comes}
-use Rattle.gr_model_theorems.specs.Spelled.{NumbersIn}
+use Rattle.gr_model_theorems.specs.Spelled.{LateIn, NumbersIn}
 use Rattle.gr_model_theorems.specs.Statements.{IsAskedRun}
 use Rattle.gr_model_theorems.specs.Served.{IsOfBytes, IsHonestAt, steps_at, DoesStepsAt, ArrivalHoldsAt}
 
@@ -55,6 +55,7 @@ pub record IsJointRun (net : Net) (processes : List (List ℕ)) (steps : List Li
   pub asked : IsAskedRun net steps
   pub brokers : net.brokers ≤ 2 ^ 16
   pub publishers : net.publishers ≤ 2 ^ 16
+  pub late : LateIn net
   pub numbers_in : NumbersIn steps
   pub hosted : AllByRecursion (AllByRecursion (λ b. b < net.brokers)) processes
   pub bytes : AllByRecursion (λ (x : ℕ × Arrival). IsOfBytes x.1) turns

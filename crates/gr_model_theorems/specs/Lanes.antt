@@ -1,5 +1,5 @@
 -- Logs that code opens: the records of each lane make the log with all its events; the events past its cut are found
-use Rattle.std.specs.Prelude.{◌≡◌, ℕ, ◌≤◌, ◌^◌, nat_lt, List, map, filter}
+use Rattle.std.specs.Prelude.{length, ◌≡◌, ℕ, ◌≤◌, ◌^◌, nat_lt, List, map, filter}
 use Rattle.std.specs.List.{AllByRecursion}
 use Rattle.gr_publog.specs.declared.record.Record.{Record}
 use Rattle.gr_publog.specs.State.{first_standing, Follow}
@@ -13,9 +13,10 @@ use Rattle.gr_model.specs.World.{World, Transition}
 use Rattle.gr_model.specs.Opening.{begin_over}
 use Rattle.gr_model.specs.Headline.{Holds_from}
 use Rattle.gr_model.specs.Arrivals.{Arrival, publishes_of, served, arrived}
-use Rattle.gr_model_theorems.specs.Spelled.{NumbersIn}
+use Rattle.gr_model_theorems.specs.Spelled.{LateIn, NumbersIn}
 use Rattle.gr_model_theorems.specs.Statements.{IsAskedRun, opened_over}
 use Rattle.gr_model_theorems.specs.OverLogs.{world_over, report_over}
+use Rattle.gr_event.specs.declared.limits.TheConstants.{MAX_JOINS}
 use Rattle.gr_model_theorems.specs.Served.{IsOfBytes, IsHonestRun, HeadlineServed}
 
 -- one list of records for each publisher; in each list every record may follow those before it, where these
@@ -61,17 +62,19 @@ served_on net logs steps arrivals =
     arrived net (numbers net.brokers) (opened_over net logs).world
     (publishes_of net (numbers net.brokers) steps) arrivals
 
--- a run over lanes, where these subscribers may join
-pub record IsRunOverLanes (net : Net) (late : List ℕ) (lanes : List (List Record)) (steps : List Line) : Type 0 where
+-- a run over lanes, in which the late subscribers may have joined
+pub record IsRunOverLanes (net : Net) (lanes : List (List Record)) (steps : List Line) : Type 0 where
   pub asked : IsAskedRun net steps
-  pub follow : AllFollow late lanes
+  pub few : length net.late ≤ MAX_JOINS
+  pub follow : AllFollow net.late lanes
 
 -- a server's run over lanes, within the limits of frames, whose journal is honest
-pub record IsServedOverLanes (net : Net) (late : List ℕ) (lanes : List (List Record)) (steps : List Line)
+pub record IsServedOverLanes (net : Net) (lanes : List (List Record)) (steps : List Line)
     (arrivals : List Arrival) : Type 0 where
-  pub over : IsRunOverLanes net late lanes steps
+  pub over : IsRunOverLanes net lanes steps
   pub brokers : net.brokers ≤ 2 ^ 16
   pub publishers : net.publishers ≤ 2 ^ 16
+  pub late : LateIn net
   pub numbers_in : NumbersIn steps
   pub bytes : AllByRecursion IsOfBytes arrivals
   pub honest : IsHonestRun arrivals (served net (numbers net.brokers) (whole_logs lanes) steps arrivals)

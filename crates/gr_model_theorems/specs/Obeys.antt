@@ -10,19 +10,22 @@ use Rattle.gr_model.specs.declared.report.Report.TheVariants as line
 use Rattle.gr_model.specs.Net.{Net, not_empty, numbers}
 use Rattle.gr_model.specs.Broker.{View, Log, Outcome, max_tick, started}
 use Rattle.gr_model.specs.World.{World, Transition, view_of, log_of, with_view, sent_lines, in_turn, publish_now}
+use Rattle.gr_model.specs.World.{join_now}
 use Rattle.gr_model.specs.World.{frame_at, next, start}
 use Rattle.gr_model.specs.Headline.{says_kept}
 use Rattle.gr_model_theorems.specs.Settles.{Call, wakes, delivers, made, at_sweep, sweep_calls, is_accepted}
-use Rattle.gr_model_calls.specs.Rules.{Publishes, Wakes, Comes}
+use Rattle.gr_model_calls.specs.Rules.{TakesJoin, Publishes, Wakes, Comes}
 
 -- a call of a broker: a publish at its host, a wake, or the frame of a number that reaches its receiver
 pub data Action : Type 0 where
   publishes : ℕ → ℕ → Event → Action
+  joins : ℕ → ℕ → Action  -- the subscriber, the publisher
   makes : Call → Action
 
 -- what it does
 abbrev pub done : Net → World → Action → Transition
 done net w (publishes p number e) = publish_now net w p number e
+done net w (joins s p) = join_now net w s p
 done net w (makes c) = made net w c
 
 -- one after another
@@ -46,6 +49,8 @@ pub record Obeys (net : Net) (w : World) (a : Action) (b p : ℕ) (Rule : View �
 abbrev pub CallObeys : Net → World → Action → Type 0
 CallObeys net w (publishes p number e) =
     Obeys net w (publishes p number e) (net.host p) p (Publishes net p (net.host p) w.clock number e)
+CallObeys net w (joins s p) =
+    Obeys net w (joins s p) (net.host p) p (TakesJoin net p (net.host p) w.clock s)
 CallObeys net w (makes (wakes b p)) = Obeys net w (makes (wakes b p)) b p (Wakes net p b w.clock)
 CallObeys net w (makes (delivers k)) = (f : Frame) × (frame_at w k ≡ Some f)
     × Obeys net w (makes (delivers k)) f.head.to f.head.publisher
@@ -62,8 +67,9 @@ is_next_of w p number = nat_eq number (suc (log_of w p).last)
     && nat_le (max (suc (log_of w p).settled) w.clock) max_tick
 
 -- The calls of a step. A publish is one call; but where it is stopped, none if its host has a subscriber, and none if
--- it would be logged, since then the host crashes within. A wake is one call for each publisher. A frame that was sent
--- is delivered by one call. A sweep that is not refused has those of `sweep_calls`. The other steps have none.
+-- it would be logged, since then the host crashes within. A join is one call. A wake is one call for each publisher. A
+-- frame that was sent is delivered by one call. A sweep that is not refused has those of `sweep_calls`. The other steps
+-- have none.
 unfoldable pub calls_of : Net → World → Line → List Action
 calls_of net w l =
     elim l.step [
@@ -73,6 +79,7 @@ calls_of net w l =
             if not_empty (net.subscribers_at (net.host p)) || is_next_of w p number then []
             else publishes p number e ∷ []
       ]
+      | step.Join s p ↦ joins s p ∷ []
       | step.Wake b ↦ map (λ p. makes (wakes b p)) (numbers net.publishers)
       | step.Deliver k ↦ elim (frame_at w k) [ None ↦ [] | Some f ↦ makes (delivers k) ∷ [] ]
       | step.Sweep ↦ if is_accepted net w then map makes (sweep_calls net w) else []

@@ -142,6 +142,7 @@ joined parts = flat_map (λ r. r) parts
 abbrev pub is_dropped : Report → Bool
 is_dropped (line.DroppedNotFrame b fault at) = true
 is_dropped (line.DroppedStray b from to p) = true
+is_dropped (line.DroppedSplit b at kept came) = true
 is_dropped (line.DroppedClash b t kept came) = true
 is_dropped (line.DroppedBadNote b fault at) = true
 is_dropped (line.DroppedStrayNote b p) = true

@@ -1,7 +1,10 @@
 -- What a schedule may name, and what holds of a world in which every tick and event is within the limits of frames
-use Rattle.std.specs.Prelude.{suc, ◌≤◌, List, [], ◌∷◌}
+use Rattle.std.specs.Prelude.{◌≡◌, ℕ, suc, ◌≤◌, ◌<◌, ◌^◌, true, List, [], ◌∷◌, length}
 use Rattle.std.specs.List.{AllByRecursion}
 use Rattle.gr_event.specs.Limits.{IsEvent}
+use Rattle.gr_event.specs.declared.limits.TheConstants.{MAX_JOINS}
+use Rattle.gr_event.specs.Joins.{Joins, AreJoins}
+use Rattle.gr_publog.specs.State.{Standing, HasRoom}
 use Rattle.gr_tick.specs.declared.run.Run.{Run}
 use Rattle.gr_curio.specs.declared.asks.Moment.{Moment}
 use Rattle.gr_frame.specs.declared.Frame.{Frame}
@@ -9,6 +12,7 @@ use Rattle.gr_frame.specs.Bytes.{frame_bytes}
 use Rattle.gr_frame.specs.Limits.{IsKnown, IsWanted, IsFrame}
 pub use Rattle.gr_sched.specs.Ranges.{IsInLimits}
 use Rattle.gr_sched.specs.declared.step.Line.{Line}
+use Rattle.gr_model.specs.Net.{Net, is_late}
 use Rattle.gr_model.specs.Broker.{View, Log, max_tick}
 use Rattle.gr_model.specs.World.{World}
 
@@ -34,22 +38,38 @@ RunsIn Fits rs = AllByRecursion (IsRunIn Fits) rs
 abbrev pub IsMoment : Moment → Type 0
 IsMoment m = Unit {0}
 
+-- few subscribers are late, and their numbers have 16 bits
+pub record LateIn (net : Net) : Type 0 where
+  pub few : length net.late ≤ MAX_JOINS
+  pub numbers : (s : ℕ) → is_late net s ≡ true → s < 2 ^ 16
+
 -- what a broker keeps for a publisher
 pub record ViewIn (v : View) : Type 0 where
   pub know : RunsIn IsKnown v.know
   pub wants : AllByRecursion (RunsIn IsWanted) v.wants
   pub asks : RunsIn IsMoment v.asks
   pub horizon : v.horizon ≤ max_tick
+  pub joins : length v.joins ≤ MAX_JOINS
 
--- a publisher's log
-pub record LogIn (log : Log) : Type 0 where
+-- where a log stands, if these subscribers may join
+abbrev pub standing_in : List ℕ → Log → Standing
+standing_in late log = record {
+  state = record { last = log.last; settled = log.settled; cut = log.cut };
+  joins = log.joins;
+  late = late;
+}
+
+-- a publisher's log, where these subscribers may join: there is room for each that has not
+pub record LogIn (late : List ℕ) (log : Log) : Type 0 where
   pub settled : log.settled ≤ max_tick
   pub cut : log.cut ≤ max_tick
   pub events : AllByRecursion (λ x. (x.0 ≤ max_tick) × IsEvent x.1) log.events
+  pub joins : AreJoins log.joins
+  pub room : HasRoom (standing_in late log)
 
--- the clock, and all that is kept and sent
-pub record WorldIn (w : World) : Type 0 where
+-- the clock, and all that is kept and sent, where these subscribers may join
+pub record WorldIn (late : List ℕ) (w : World) : Type 0 where
   pub clock : w.clock ≤ max_tick
   pub views : AllByRecursion (AllByRecursion ViewIn) w.views
-  pub logs : AllByRecursion LogIn w.logs
+  pub logs : AllByRecursion (LogIn late) w.logs
   pub frames : AllByRecursion IsSpelled w.frames

@@ -2,7 +2,7 @@
 use Rattle.std.specs.Prelude.{◌≡◌, ℕ, ◌≤◌, ◌<◌, ◌^◌, true, false, nat_eq, List, [], map, filter, flat_map, Option, Some}
 use Rattle.std.specs.Prelude.{Ok}
 use Rattle.std.specs.List.{AllByRecursion, list_any}
-use Rattle.gr_event.specs.Joins.{Joins}
+use Rattle.gr_event.specs.Joins.{splits, Joins}
 use Rattle.gr_frame.specs.declared.Body.TheVariants as body
 use Rattle.gr_frame.specs.declared.Frame.{Frame}
 use Rattle.gr_frame.specs.Bytes.{frame_bytes}
@@ -21,7 +21,7 @@ use Rattle.gr_model.specs.Headline.{History, GetsExactly, Holds_from, is_doubt_l
 use Rattle.gr_model_calls.specs.Fits.{StepsIn}
 use Rattle.gr_model_theorems.specs.Order.{CutsInOrder}
 use Rattle.gr_model_calls.specs.Edges.{GoesOverEdge}
-use Rattle.gr_model_theorems.specs.Spelled.{NumbersIn}
+use Rattle.gr_model_theorems.specs.Spelled.{LateIn, NumbersIn}
 use Rattle.gr_model_theorems.specs.Settles.{is_accepted}
 use Rattle.gr_model_theorems.specs.Found.{AreReopened, told_at_opening}
 use Rattle.gr_model_theorems.specs.ByRules.{RunsOver}
@@ -57,11 +57,13 @@ pub record IsSweptRun (net : Net) (steps : List Line) : Type 0 where
   pub asked : IsAskedRun net steps
   pub accepted : is_accepted net (run_all net (start net) steps).world ≡ true
 
--- a run in which all that is named fits into frames: of brokers, publishers, moments and events
+-- a run in which all that is named fits into frames: of brokers, publishers, late subscribers, moments
+-- and events
 pub record IsSpelledRun (net : Net) (steps : List Line) : Type 0 where
   pub run : IsRun net steps
   pub brokers : net.brokers ≤ 2 ^ 16
   pub publishers : net.publishers ≤ 2 ^ 16
+  pub late : LateIn net
   pub numbers_in : NumbersIn steps
 
 -- a run over logs that were found
@@ -74,6 +76,7 @@ pub record IsServedRun (net : Net) (logs : List Log) (steps : List Line) (arriva
   pub over : IsRunOverLogs net logs steps
   pub brokers : net.brokers ≤ 2 ^ 16
   pub publishers : net.publishers ≤ 2 ^ 16
+  pub late : LateIn net
   pub numbers_in : NumbersIn steps
   pub bytes : AllByRecursion IsOfBytes arrivals
   pub honest : IsHonestRun arrivals (served net (numbers net.brokers) logs steps arrivals)
@@ -89,6 +92,12 @@ abbrev pub NothingClashes : Net → World → Type 0
 NothingClashes net w =
     (k : ℕ) (f : Frame) (runs : Known) (js : Joins) → frame_at w k ≡ Some f → f.body ≡ body.Knowledge runs js →
     clashes (view_of w f.head.to f.head.publisher).know runs ≡ false
+
+-- no joins that came with knowledge split from those that its receiver holds
+abbrev pub NothingSplits : Net → World → Type 0
+NothingSplits net w =
+    (k : ℕ) (f : Frame) (runs : Known) (js : Joins) → frame_at w k ≡ Some f → f.body ≡ body.Knowledge runs js →
+    splits (view_of w f.head.to f.head.publisher).joins js ≡ false
 
 -- no frame is a stray
 abbrev pub NothingStrays : Net → World → Type 0

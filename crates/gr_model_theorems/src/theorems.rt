@@ -1,7 +1,8 @@
 //! What holds of every schedule of the machine, on every topology that is a tree. Each function here does nothing: its
 //! contract is the theorem. The premises, and most of what is said, stand in `specs/Statements.antt`.
 
-ghost use Rattle.std.specs.Prelude.{List, [], ℕ, false, Some, None, ◌≡◌, ◌<◌};
+ghost use Rattle.std.specs.Prelude.{List, [], ℕ, false, Some, None, ◌≡◌, ◌<◌, ◌≤◌, length};
+ghost use Rattle.gr_event.specs.declared.limits.TheConstants.{MAX_JOINS};
 ghost use Rattle.gr_tick.specs.Runs.{AreRuns};
 ghost use Rattle.gr_know.specs.declared.values.K.TheVariants.{Q};
 ghost use Rattle.gr_know.specs.Values.{Known, known_at, clash_K};
@@ -37,7 +38,8 @@ ghost use Rattle.gr_model.specs.Orders.{orders_over, ordered_steps};
 ghost use Rattle.gr_model.specs.Ordered.{OneOrder, TotallyOrdered};
 ghost use Rattle.gr_model_theorems.specs.Statements.{IsRun, IsMarkedRun, IsAskedRun, IsSweptRun, IsSpelledRun, IsRunOverLogs};
 ghost use Rattle.gr_model_theorems.specs.Statements.{AreTotals};
-ghost use Rattle.gr_model_theorems.specs.Statements.{IsServedRun, world_after, NothingClashes, NothingStrays, AllSpelled};
+ghost use Rattle.gr_model_theorems.specs.Statements.{IsServedRun, world_after, NothingClashes, NothingStrays};
+ghost use Rattle.gr_model_theorems.specs.Statements.{NothingSplits, AllSpelled};
 ghost use Rattle.gr_model_theorems.specs.Statements.{AllDecode, AllGetExactly, AllCutsInOrder, HostsMeet, DoubtsStand};
 ghost use Rattle.gr_model_theorems.specs.Statements.{HoldsOverLogs, OpeningTells, OpeningSendsNothing, RunsOverByRules};
 ghost use Rattle.gr_model_theorems.specs.Statements.{RunsOverByNoOther, MeetsHeadlineServed, ArrivalsDoSteps, FirstClash};
@@ -58,9 +60,11 @@ pub fn always_true()
     ensures { (net : Net) (steps : List Line) → IsRun net steps → WorldFits net (world_after net steps) }
 {}
 
-/// No frame of knowledge that was ever sent clashes with what its receiver knows, however late it is delivered.
+/// No frame of knowledge that was ever sent clashes with what its receiver knows, nor do its joins split from those
+/// that the receiver holds, however late it is delivered.
 pub fn never_clashes()
-    ensures { (net : Net) (steps : List Line) → IsRun net steps → NothingClashes net (world_after net steps) }
+    ensures clashes { (net : Net) (steps : List Line) → IsRun net steps → NothingClashes net (world_after net steps) }
+    ensures splits { (net : Net) (steps : List Line) → IsRun net steps → NothingSplits net (world_after net steps) }
 {}
 
 /// No frame that was ever sent is a stray: each is of a publisher of the topology and goes over an edge of the tree,
@@ -220,13 +224,12 @@ pub fn headline_served()
 /// events. The record begins with what is found, the events past the cut, of schedules and of a server over an honest
 /// journal. So what was cut changes nothing: no line, and no world but for the events themselves.
 pub fn headline_over_lanes()
-    ensures schedules { (net : Net) (late : List ℕ) (lanes : List (List Record)) (steps : List Line) →
-        IsRunOverLanes net late lanes steps → HoldsOverLanes net lanes steps }
-    ensures served { (net : Net) (late : List ℕ) (lanes : List (List Record)) (steps : List Line)
-        (arrivals : List Arrival) →
-        IsServedOverLanes net late lanes steps arrivals → HoldsServedLanes net lanes steps arrivals }
-    ensures found { (net : Net) (late : List ℕ) (lanes : List (List Record)) →
-        AllFollow late lanes → AreReopened net (found_logs lanes) }
+    ensures schedules { (net : Net) (lanes : List (List Record)) (steps : List Line) →
+        IsRunOverLanes net lanes steps → HoldsOverLanes net lanes steps }
+    ensures served { (net : Net) (lanes : List (List Record)) (steps : List Line) (arrivals : List Arrival) →
+        IsServedOverLanes net lanes steps arrivals → HoldsServedLanes net lanes steps arrivals }
+    ensures found { (net : Net) (lanes : List (List Record)) → length net.late ≤ MAX_JOINS →
+        AllFollow net.late lanes → AreReopened net (found_logs lanes) }
     ensures past { FoundIsPastCut }
     ensures silent { (net : Net) (late : List ℕ) (lanes : List (List Record)) →
         AllFollow late lanes → CutEventsSilent net lanes }
@@ -238,10 +241,10 @@ pub fn headline_over_lanes()
 /// publishers: each once, rising by tick and then publisher. The record begins with what was found, the events past the
 /// cut: what an earlier run cut is in no list of this one.
 pub fn ordered_over_lanes()
-    ensures schedules { (net : Net) (totals late : List ℕ) (lanes : List (List Record)) (steps : List Line) →
-        IsRunOverLanes net late lanes steps → AreTotals net totals → OrderedOverLanes net totals lanes steps }
-    ensures served { (net : Net) (totals late : List ℕ) (lanes : List (List Record)) (steps : List Line)
-        (arrivals : List Arrival) → IsServedOverLanes net late lanes steps arrivals → AreTotals net totals →
+    ensures schedules { (net : Net) (totals : List ℕ) (lanes : List (List Record)) (steps : List Line) →
+        IsRunOverLanes net lanes steps → AreTotals net totals → OrderedOverLanes net totals lanes steps }
+    ensures served { (net : Net) (totals : List ℕ) (lanes : List (List Record)) (steps : List Line)
+        (arrivals : List Arrival) → IsServedOverLanes net lanes steps arrivals → AreTotals net totals →
         OrderedServedLanes net totals lanes steps arrivals }
 {}
 
@@ -249,11 +252,11 @@ pub fn ordered_over_lanes()
 /// want the same, what one was told in it up to any step or arrival begins with what the other was told up to any, or
 /// the other way round.
 pub fn one_order_over_lanes()
-    ensures schedules { (net : Net) (totals late : List ℕ) (lanes : List (List Record)) (steps : List Line) →
-        IsRunOverLanes net late lanes steps → AreTotals net totals →
+    ensures schedules { (net : Net) (totals : List ℕ) (lanes : List (List Record)) (steps : List Line) →
+        IsRunOverLanes net lanes steps → AreTotals net totals →
         OneOrder net totals (told_in_order net totals (opened_report net lanes steps)) }
-    ensures served { (net : Net) (totals late : List ℕ) (lanes : List (List Record)) (steps : List Line)
-        (arrivals : List Arrival) → IsServedOverLanes net late lanes steps arrivals → AreTotals net totals →
+    ensures served { (net : Net) (totals : List ℕ) (lanes : List (List Record)) (steps : List Line)
+        (arrivals : List Arrival) → IsServedOverLanes net lanes steps arrivals → AreTotals net totals →
         OneOrderServedLanes net totals lanes steps arrivals }
 {}
 

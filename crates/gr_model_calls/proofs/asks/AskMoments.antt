@@ -13,13 +13,14 @@ use Rattle.gr_sched.specs.declared.step.Line.{Line}
 use Rattle.gr_tick.specs.Runs.{value_at, put_on, put, tabulate_from, tabulate_sorted, tabulate, sorted, points}
 use Rattle.gr_know.specs.Values.{Known, known_at, is_Q}
 use Rattle.gr_curio.specs.Values.{Wanted, Asked, wanted_at, asked_at, is_C, same_moment}
+use Rattle.gr_event.specs.Joins.{Joins, longer}
 use Rattle.gr_model.specs.Net.{Net, is_host, keeps_horizon, numbers}
-use Rattle.gr_model.specs.Broker.{View, Log, Outcome, know_frames, want_frames, expect_frame, all_points, any_C, consolidated, finished, is_F, open_asks, kept_view, kept_view_below, forward, new_ticks, forward_frames, learn, due, noted, up_frames, asking, answers, stored, acknowledged, curiosity, wake_below, wanted_at_wake, expect, expect_frames, covers, place_of, publish, silence, with_mark, marking, cutting, wake_host, wake, receive, clashes, empty_log, started, head}
-use Rattle.gr_frame.specs.Bytes.{known_run_size, wanted_run_size, cut_frames}
-use Rattle.gr_model.specs.World.{World, blank_view, view_of, log_of, with_view, absorbed, wake_for, deliver_frame, publish_now, restarted, start, run_all, deliver_frame_by, publish_now_by, wake_for_by}
+use Rattle.gr_model.specs.Broker.{with_joins, drops, joining, View, Log, Outcome, know_frames, want_frames, expect_frame, all_points, any_C, consolidated, finished, is_F, open_asks, kept_view, kept_view_below, forward, new_ticks, forward_frames, learn, due, noted, up_frames, asking, answers, stored, acknowledged, curiosity, wake_below, wanted_at_wake, expect, expect_frames, covers, place_of, publish, silence, with_mark, marking, cutting, wake_host, wake, receive, clashes, empty_log, started, head}
+use Rattle.gr_frame.specs.Bytes.{head_size, known_run_size, wanted_run_size, cut_frames}
+use Rattle.gr_model.specs.World.{join_now, join_now_by, World, blank_view, view_of, log_of, with_view, absorbed, wake_for, deliver_frame, publish_now, restarted, start, run_all, deliver_frame_by, publish_now_by, wake_for_by}
 use Rattle.gr_model.specs.Tree.{IsNet}
 use Rattle.gr_model_calls.specs.Fits.{BodyFits, WorldFits, FrameTrue, StepsIn}
-use Rattle.gr_model_calls.proofs.calls.HostCases.{publish_cases, marking_cases}
+use Rattle.gr_model_calls.proofs.calls.HostCases.{joining_cases, publish_cases, marking_cases}
 use Rattle.gr_model_calls.proofs.calls.Calls.{trimmed_host}
 use Rattle.gr_model_calls.proofs.runs.Worlds.{Each}
 use Rattle.gr_model_calls.proofs.runs.Schedules.{get_numbers}
@@ -205,16 +206,16 @@ pub receive_asks : (net : Net) (now : ℕ) (f : Frame) (v : View) (log : Log) �
 unfolding receive
 receive_asks net now f v log = go f.body
   where
-    learned : (runs : Known) (q : Bool) → KeepsAsks net f.head.publisher f.head.to now v (elim q [ true ↦ record { view = v; log = log; lines = []; frames = [] } | false ↦ learn net f.head.publisher f.head.to runs v log ])
-    learned runs true = same_asks net f.head.publisher f.head.to now v (record { view = v; log = log; lines = []; frames = [] }) refl
-    learned runs false = learn_asks net f.head.publisher f.head.to now runs v log
+    learned : (runs : Known) (js : Joins) (q : Bool) → KeepsAsks net f.head.publisher f.head.to now v (elim q [ true ↦ record { view = v; log = log; lines = []; frames = [] } | false ↦ learn net f.head.publisher f.head.to runs (with_joins v (longer v.joins js)) log ])
+    learned runs js true = same_asks net f.head.publisher f.head.to now v (record { view = v; log = log; lines = []; frames = [] }) refl
+    learned runs js false = let x = learn_asks net f.head.publisher f.head.to now runs (with_joins v (longer v.joins js)) log in record { all = x.all; host = x.host }
 
     go : (y : Body) → ExpectBody net f.head.publisher f.head.to y → KeepsAsks net f.head.publisher f.head.to now v (elim y [
-      | body.Knowledge runs js ↦ elim (clashes v.know runs) [ true ↦ record { view = v; log = log; lines = []; frames = [] } | false ↦ learn net f.head.publisher f.head.to runs v log ]
+      | body.Knowledge runs js ↦ elim (drops v runs js) [ true ↦ record { view = v; log = log; lines = []; frames = [] } | false ↦ learn net f.head.publisher f.head.to runs (with_joins v (longer v.joins js)) log ]
       | body.Curiosity runs ↦ curiosity net f.head.publisher f.head.to now f.head.from (place_of f.head.from (net.children f.head.publisher f.head.to)) runs v log
       | body.Expect tick ↦ expect net f.head.publisher f.head.to now tick v log
     ])
-    go (body.Knowledge runs js) h = learned runs (clashes v.know runs)
+    go (body.Knowledge runs js) h = learned runs js (drops v runs js)
     go (body.Curiosity runs) h = curiosity_asks net f.head.publisher f.head.to now f.head.from (place_of f.head.from (net.children f.head.publisher f.head.to)) runs v log
     go (body.Expect tick) h = record { all = λ P z x a. expect_all net f.head.publisher f.head.to now tick v log P z x a; host = λ e x. absurd (false≢true (sym h ∙ e)) }
 
@@ -224,6 +225,12 @@ publish_asks net p b now number e v log = record {
   host = λ h x. publish_cases net p b now number e v log (λ o. o.view.asks ≡ []) (λ l. x) (λ l. x) (λ y l. x) (λ y l. (learn_asks net p b now _ v _).host h x);
 }
 
+joining_asks : (net : Net) (p b now s : ℕ) (v : View) (log : Log) → KeepsAsks net p b now v (joining net p b now s v log)
+joining_asks net p b now s v log = record {
+  all = λ P z h a. joining_cases net p b now s v log (λ o. AllValues P o.view.asks) (λ e. a) (λ e l. a) (λ e l. (learn_asks net p b now _ _ _).all P z h a);
+  host = λ h x. joining_cases net p b now s v log (λ o. o.view.asks ≡ []) (λ e. x) (λ e l. x) (λ e l. (learn_asks net p b now _ _ _).host h x);
+}
+
 -- Frames of a call
 
 -- what holds of each of two lists holds of each of the joined list
@@ -231,10 +238,10 @@ pub Each-on : {X : Type 0} (P : X → Type 0) (xs ys : List X) → Each P xs →
 Each-on P [] ys a b = b
 Each-on P (x ∷ xs) ys a b = (a.0, Each-on P xs ys a.1 b)
 
-know_frames_fit : (net : Net) (from to p : ℕ) (runs : Known) → is_host net p to ≡ false → Each (ExpectFits net) (know_frames [] from to p runs)
-know_frames_fit net from to p runs h = go (cut_frames 12 known_run_size runs)
+know_frames_fit : (js : Joins) (net : Net) (from to p : ℕ) (runs : Known) → is_host net p to ≡ false → Each (ExpectFits net) (know_frames js from to p runs)
+know_frames_fit js net from to p runs h = go (cut_frames (head_size js) known_run_size runs)
   where
-    go : (parts : List Known) → Each (ExpectFits net) (map (λ part. record { head = head from to p; body = body.Knowledge part [] }) parts)
+    go : (parts : List Known) → Each (ExpectFits net) (map (λ part. record { head = head from to p; body = body.Knowledge part js }) parts)
     go [] = tt
     go (x ∷ xs) = (h, go xs)
 
@@ -249,10 +256,10 @@ up_frames_fit net p b runs = at (net.up p b)
     at None = tt
     at (Some u) = go u (cut_frames 12 wanted_run_size runs)
 
-forward_frames_fit : (net : Net) (p b : ℕ) (new : Known) (cs : List ℕ) (ws : List Wanted) → ((c : ℕ) → list_any (λ x. nat_eq x c) cs ≡ true → is_host net p c ≡ false) → Each (ExpectFits net) (forward_frames [] net p b new cs ws)
-forward_frames_fit net p b new [] ws h = tt
-forward_frames_fit net p b new (c ∷ cs) [] h = tt
-forward_frames_fit net p b new (c ∷ cs) (w ∷ ws) h = Each-on (ExpectFits net) (know_frames [] b c p (forward net p c w new)) (forward_frames [] net p b new cs ws) (know_frames_fit net b c p (forward net p c w new) (h c (or_left (nat_eq c c) (list_any (λ x. nat_eq x c) cs) (eq-eqb c c refl)))) (forward_frames_fit net p b new cs ws (λ d m. h d (or_right (nat_eq c d) (list_any (λ x. nat_eq x d) cs) m)))
+forward_frames_fit : (js : Joins) (net : Net) (p b : ℕ) (new : Known) (cs : List ℕ) (ws : List Wanted) → ((c : ℕ) → list_any (λ x. nat_eq x c) cs ≡ true → is_host net p c ≡ false) → Each (ExpectFits net) (forward_frames js net p b new cs ws)
+forward_frames_fit js net p b new [] ws h = tt
+forward_frames_fit js net p b new (c ∷ cs) [] h = tt
+forward_frames_fit js net p b new (c ∷ cs) (w ∷ ws) h = Each-on (ExpectFits net) (know_frames js b c p (forward net p c w new)) (forward_frames js net p b new cs ws) (know_frames_fit js net b c p (forward net p c w new) (h c (or_left (nat_eq c c) (list_any (λ x. nat_eq x c) cs) (eq-eqb c c refl)))) (forward_frames_fit js net p b new cs ws (λ d m. h d (or_right (nat_eq c d) (list_any (λ x. nat_eq x d) cs) m)))
 
 expect_frames_fit : (net : Net) (p b tick : ℕ) (cs : List ℕ) (ws : List Wanted) → ((c : ℕ) → list_any (λ x. nat_eq x c) cs ≡ true → is_host net p c ≡ false) → Each (ExpectFits net) (expect_frames p b tick cs ws)
 expect_frames_fit net p b tick [] ws h = tt
@@ -265,7 +272,7 @@ expect_frames_fit net p b tick (c ∷ cs) (w ∷ ws) h = Each-on (ExpectFits net
 
 learn_frames_fit : (net : Net) (p b : ℕ) (piece : Known) (v : View) (log : Log) → ((c : ℕ) → list_any (λ x. nat_eq x c) (net.children p b) ≡ true → is_host net p c ≡ false) → Each (ExpectFits net) (learn net p b piece v log).frames
 unfolding learn
-learn_frames_fit net p b piece v log h = forward_frames_fit net p b (new_ticks v.know piece) (net.children p b) v.wants h
+learn_frames_fit net p b piece v log h = forward_frames_fit v.joins net p b (new_ticks v.know piece) (net.children p b) v.wants h
 
 asking_frames_fit : (net : Net) (p b now : ℕ) (wanted : ℕ → Bool) (ps : List ℕ) (v : View) (log : Log) → Each (ExpectFits net) (asking net p b now wanted ps v log).frames
 unfolding asking
@@ -273,7 +280,7 @@ asking_frames_fit net p b now wanted ps v log = up_frames_fit net p b _
 
 curiosity_frames_fit : (net : Net) (p b now c i : ℕ) (piece : Wanted) (v : View) (log : Log) → is_host net p c ≡ false → Each (ExpectFits net) (curiosity net p b now c i piece v log).frames
 unfolding curiosity
-curiosity_frames_fit net p b now c i piece v log h = Each-on (ExpectFits net) _ _ (know_frames_fit net b c p _ h) (up_frames_fit net p b _)
+curiosity_frames_fit net p b now c i piece v log h = Each-on (ExpectFits net) _ _ (know_frames_fit v.joins net b c p _ h) (up_frames_fit net p b _)
 
 expect_call_frames_fit : (net : Net) (p b now tick : ℕ) (v : View) (log : Log) → ((c : ℕ) → list_any (λ x. nat_eq x c) (net.children p b) ≡ true → is_host net p c ≡ false) → Each (ExpectFits net) (expect net p b now tick v log).frames
 unfolding expect
@@ -303,21 +310,24 @@ pub receive_frames_fit : (net : Net) (now : ℕ) (f : Frame) (v : View) (log : L
 unfolding receive
 receive_frames_fit net now f v log h fits = go f.body fits
   where
-    learned : (runs : Known) (q : Bool) → Each (ExpectFits net) (let o : Outcome = elim q [ true ↦ record { view = v; log = log; lines = []; frames = [] } | false ↦ learn net f.head.publisher f.head.to runs v log ] in o.frames)
-    learned runs true = tt
-    learned runs false = learn_frames_fit net f.head.publisher f.head.to runs v log h
+    learned : (runs : Known) (js : Joins) (q : Bool) → Each (ExpectFits net) (let o : Outcome = elim q [ true ↦ record { view = v; log = log; lines = []; frames = [] } | false ↦ learn net f.head.publisher f.head.to runs (with_joins v (longer v.joins js)) log ] in o.frames)
+    learned runs js true = tt
+    learned runs js false = learn_frames_fit net f.head.publisher f.head.to runs (with_joins v (longer v.joins js)) log h
 
     go : (y : Body) → BodyFits net f.head.publisher f.head.from f.head.to y → Each (ExpectFits net) (let o : Outcome = elim y [
-      | body.Knowledge runs js ↦ elim (clashes v.know runs) [ true ↦ record { view = v; log = log; lines = []; frames = [] } | false ↦ learn net f.head.publisher f.head.to runs v log ]
+      | body.Knowledge runs js ↦ elim (drops v runs js) [ true ↦ record { view = v; log = log; lines = []; frames = [] } | false ↦ learn net f.head.publisher f.head.to runs (with_joins v (longer v.joins js)) log ]
       | body.Curiosity runs ↦ curiosity net f.head.publisher f.head.to now f.head.from (place_of f.head.from (net.children f.head.publisher f.head.to)) runs v log
       | body.Expect tick ↦ expect net f.head.publisher f.head.to now tick v log
     ] in o.frames)
-    go (body.Knowledge runs js) m = learned runs (clashes v.know runs)
+    go (body.Knowledge runs js) m = learned runs js (drops v runs js)
     go (body.Curiosity runs) m = curiosity_frames_fit net f.head.publisher f.head.to now f.head.from (place_of f.head.from (net.children f.head.publisher f.head.to)) runs v log (h f.head.from m)
     go (body.Expect tick) m = expect_call_frames_fit net f.head.publisher f.head.to now tick v log h
 
 publish_frames_fit : (net : Net) (p b now number : ℕ) (e : Event) (v : View) (log : Log) → ((c : ℕ) → list_any (λ x. nat_eq x c) (net.children p b) ≡ true → is_host net p c ≡ false) → Each (ExpectFits net) (publish net p b now number e v log).frames
 publish_frames_fit net p b now number e v log h = publish_cases net p b now number e v log (λ o. Each (ExpectFits net) o.frames) (λ l. tt) (λ l. tt) (λ x l. tt) (λ x l. learn_frames_fit net p b _ v _ h)
+
+joining_frames_fit : (net : Net) (p b now s : ℕ) (v : View) (log : Log) → ((c : ℕ) → list_any (λ x. nat_eq x c) (net.children p b) ≡ true → is_host net p c ≡ false) → Each (ExpectFits net) (joining net p b now s v log).frames
+joining_frames_fit net p b now s v log h = joining_cases net p b now s v log (λ o. Each (ExpectFits net) o.frames) (λ e. tt) (λ e l. tt) (λ e l. learn_frames_fit net p b _ _ _ h)
 
 -- Worlds
 
@@ -401,6 +411,13 @@ publish_now_asks net n w p number e f j a =
     let o = publish net p b w.clock number e (view_of w b p) (log_of w p) in
     taken_asks net w (absorbed w b p o).world b p o (n.host_in p j) j (absorbed_taken net w b p o f (n.host_in p j) j) (publish_asks net p b w.clock number e (view_of w b p) (log_of w p)) (publish_frames_fit net p b w.clock number e (view_of w b p) (log_of w p) (λ c m. (n.place p b j (n.host_in p j)).child_not_host c m)) a
 
+join_now_asks : (net : Net) → IsNet net → (w : World) (s p : ℕ) → WorldFits net w → p < net.publishers → AsksFit net w → AsksFit net (join_now net w s p).world
+unfolding join_now_by
+join_now_asks net n w s p f j a =
+    let b = net.host p in
+    let o = joining net p b w.clock s (view_of w b p) (log_of w p) in
+    taken_asks net w (absorbed w b p o).world b p o (n.host_in p j) j (absorbed_taken net w b p o f (n.host_in p j) j) (joining_asks net p b w.clock s (view_of w b p) (log_of w p)) (joining_frames_fit net p b w.clock s (view_of w b p) (log_of w p) (λ c m. (n.place p b j (n.host_in p j)).child_not_host c m)) a
+
 -- a broker that starts has asked nothing
 pub started_asks : (net : Net) (p b : ℕ) (log : Log) → (started net p b log).asks ≡ []
 unfolding started
@@ -443,6 +460,7 @@ asks_closed net n = record {
     delivered = λ w x f t r a. deliver_asks net n w x f t r a;
   };
   published = λ w p number e f j a. publish_now_asks net n w p number e f j a;
+  joined = λ w s p f late j a. join_now_asks net n w s p f j a;
   at_clock = λ w now f a. clocked_asks net w now a;
   restarts = λ w logs b f i a. restarted_asks net n w logs b f i a;
 }

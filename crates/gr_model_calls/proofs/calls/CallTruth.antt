@@ -1,5 +1,5 @@
 -- Each call of a broker keeps what it knows, wants and sends true
-use Rattle.std.proofs.Common.{◌≡◌, ◌≢◌, inl, inr, ⊎_elim, ℕ, suc, ◌+◌, ◌-◌, ◌≤◌, ◌<◌, Bool, true, false, not, ◌&&◌, ◌||◌, List, [], ◌∷◌, ◌++◌, map, set, get_or, refl, sym, ap, ap₂, ◌∙◌, subst, Option, Some, None, arith, le_trans, le_refl}
+use Rattle.std.proofs.Common.{◌≡◌, ◌≢◌, inl, inr, ◌⊎◌, ⊎_elim, ℕ, suc, ◌+◌, ◌-◌, ◌≤◌, ◌<◌, Bool, true, false, not, ◌&&◌, ◌||◌, List, [], ◌∷◌, ◌++◌, map, set, get_or, refl, sym, ap, ap₂, ◌∙◌, subst, Option, Some, None, arith, le_trans, le_refl}
 use Rattle.std.specs.Prelude.{nat_eq, nat_le, nat_lt, if◌then◌else◌}
 use Rattle.std.specs.List.{list_any}
 use Rattle.std.proofs.lemmas.Bool.{cases_Bool, cases_lt, false≢true, true≢false, eqb-true, eq-eqb, or_left, or_right, leb-true, ltb-true, le-leb, lt-leb, lt-ltb, le-ltb}
@@ -14,9 +14,13 @@ use Rattle.gr_tick.specs.Runs.{AreRuns, points, zip_runs, IsSteady, IsNone, IsPa
 use Rattle.gr_know.specs.Values.{Known, known_at, is_Q, join_K, same_K}
 use Rattle.gr_curio.specs.Values.{Wanted, Asked, wanted_at, asked_at, is_C, is_A, same_Q3, same_moment, is_outstanding}
 use Rattle.gr_model.specs.Net.{Net, is_host, keeps_horizon, pass, not_empty, is_empty}
-use Rattle.gr_model.specs.Broker.{View, Log, Outcome, know_frames, passed, want_frames, expect_frame, all_points, is_consolidated_by, consolidated, finished, is_F, open_asks, kept_view, kept_view_below, horizon_after, new_ticks, forward, still_wanted, forward_frames, forward_wants, learn, max_tick, due, noted, upward, up_frames, asking, answers, answer, curious, stored, acknowledged, curiosity, wake_below, wanted_at_wake, any_C, expect, expect_frames, covers, place_of, head}
-use Rattle.gr_frame.specs.Bytes.{known_run_size, wanted_run_size, cut_frames}
-use Rattle.gr_model_calls.specs.Truth.{Facts, TrueF, IsTrueAt, KnowsTruth, WantsTruth, AllWantTruth, IsLater}
+use Rattle.gr_model.specs.Broker.{with_joins, View, Log, Outcome, know_frames, passed, want_frames, expect_frame, all_points, is_consolidated_by, consolidated, finished, is_F, open_asks, kept_view, kept_view_below, horizon_after, new_ticks, forward, still_wanted, forward_frames, forward_wants, learn, max_tick, due, noted, upward, up_frames, asking, answers, answer, curious, stored, acknowledged, curiosity, wake_below, wanted_at_wake, any_C, expect, expect_frames, covers, place_of, head}
+use Rattle.gr_frame.specs.Bytes.{known_run_size, wanted_run_size, head_size, cut_frames}
+use Rattle.gr_event.specs.declared.event.Event.{Event}
+use Rattle.gr_event.specs.Event.{same_event}
+use Rattle.gr_event.specs.Joins.{Joins, longer}
+use Rattle.gr_model_calls.proofs.calls.Held.{fewer, either, both, holds_later}
+use Rattle.gr_model_calls.specs.Truth.{Holds, HasEvent, Facts, TrueF, IsTrueAt, KnowsTruth, WantsTruth, AllWantTruth, IsLater}
 use Rattle.gr_model.specs.Tree.{IsPlace}
 use Rattle.gr_model_calls.specs.Fits.{IsHorizon, ViewTrue, BodyTrue}
 use Rattle.gr_tick.proofs.RunLaws.{AreRunsOf, tabulate-is, zip_runs-is, first_bottom_from-is, IsNone-append, IsPast-append, value_at-step, value_at-past, value_at-start}
@@ -160,6 +164,64 @@ lowered_true net f p b upto old new l k = record {
   each = λ t. ⊎_elim (λ e. subst (λ x. IsTrueAt net f p b t x) (sym e) (k.each t)) (λ e. subst (λ x. IsTrueAt net f p b t x) (sym e.0) tt) (l.each t);
 }
 
+-- No call makes an event
+
+Q_no_event : (e : Event) → Q ≡ D e → ⊥
+Q_no_event e h = cc
+
+lowered_event : (upto : ℕ) (old new : Known) → IsLowered 1 upto old new → (t : ℕ) → HasEvent new t → HasEvent old t
+lowered_event upto old new l t x = ⊎_elim (λ e. (x.0, sym e ∙ x.1)) (λ e. absurd (Q_no_event x.0 (sym e.0 ∙ x.1))) (l.each t)
+
+finished_event : (know : Known) (done : Wanted) → AreRuns Q know → AreRuns N done → (t : ℕ) → HasEvent (finished know done) t → HasEvent know t
+finished_event know done k d t x = (x.0, go (is_A (wanted_at done t)) (sym ((finished-is know done k d).same_at t) ∙ x.1))
+  where
+    go : (q : Bool) → (if q then F else known_at know t) ≡ D x.0 → known_at know t ≡ D x.0
+    go true e = cc
+    go false e = e
+
+joined_event : (know piece : Known) → AreRuns Q know → AreRuns Q piece → (t : ℕ) → HasEvent (zip_runs Q Q Q same_K join_K know piece) t → HasEvent know t ⊎ HasEvent piece t
+joined_event know piece k i t x = ⊎_elim (λ e. inl (x.0, e)) (λ e. inr (x.0, e)) (join_event (known_at know t) (known_at piece t) x.0 (sym ((zip_runs-is Q Q Q same_K K_decides join_K know piece refl k i).same_at t) ∙ x.1))
+  where
+    join_event : (k x : K) (e : Event) → join_K k x ≡ D e → (k ≡ D e) ⊎ (x ≡ D e)
+    join_event Q x e h = inr h
+    join_event F x e h = cc
+    join_event S Q e h = cc
+    join_event S S e h = cc
+    join_event S (D b) e h = cc
+    join_event S F e h = cc
+    join_event (D a) Q e h = inl h
+    join_event (D a) S e h = cc
+    join_event (D a) (D b) e h = inl (pick (same_event a b) h)
+      where
+        pick : (q : Bool) → (if q then D a else F) ≡ D e → D a ≡ D e
+        pick true z = z
+        pick false z = cc
+    join_event (D a) F e h = cc
+
+new_event : (know piece : Known) → AreRuns Q know → AreRuns Q piece → (t : ℕ) → HasEvent (new_ticks know piece) t → HasEvent piece t
+new_event know piece k i t x = (x.0, go (is_Q (known_at know t)) (sym ((new_ticks-is know piece k i).same_at t) ∙ x.1))
+  where
+    go : (q : Bool) → (if q then known_at piece t else Q) ≡ D x.0 → known_at piece t ≡ D x.0
+    go true e = e
+    go false e = cc
+
+pass_event : (net : Net) (p c t : ℕ) (k : K) (e : Event) → pass net p c t k ≡ D e → k ≡ D e
+pass_event net p c t Q e x = x
+pass_event net p c t S e x = x
+pass_event net p c t F e x = x
+pass_event net p c t (D a) e x = go (list_any (λ s. net.wants p s t a) (net.below p c)) x
+  where
+    go : (q : Bool) → (elim q as (λ z. K) [ true ↦ D a | false ↦ S ]) ≡ D e → D a ≡ D e
+    go true z = z
+    go false z = cc
+
+forward_event : (net : Net) (p c : ℕ) (w : Wanted) (new : Known) → AreRuns N w → AreRuns Q new → (t : ℕ) → HasEvent (forward net p c w new) t → HasEvent new t
+forward_event net p c w new a n t x = (x.0, pass_event net p c t (known_at new t) x.0 (go (is_A (wanted_at w t)) (sym ((forward-is net p c w new a n).same_at t) ∙ x.1)))
+  where
+    go : (q : Bool) → (if q then Q else pass net p c t (known_at new t)) ≡ D x.0 → pass net p c t (known_at new t) ≡ D x.0
+    go true e = cc
+    go false e = e
+
 -- what each of the frames says is true at its receiver
 abbrev pub AllTrue : Net → Facts → ℕ → List Frame → Type 0
 AllTrue net f p [] = Unit {0}
@@ -171,12 +233,12 @@ AllTrue-append net f p [] ys a b = b
 AllTrue-append net f p (x ∷ xs) ys a b = (a.0, AllTrue-append net f p xs ys a.1 b)
 
 -- the frames of a true piece are true
-pub know_frames_true : (net : Net) (f : Facts) (p from to : ℕ) (runs : Known) → KnowsTruth net f p to runs → AllTrue net f p (know_frames [] from to p runs)
-know_frames_true net f p from to runs k = go (cut_frames 12 known_run_size runs) (cut_frames-parts Q 12 known_run_size runs k.runs)
+pub know_frames_true : (net : Net) (f : Facts) (js : Joins) (p from to : ℕ) (runs : Known) → KnowsTruth net f p to runs → Holds f.joined js (HasEvent runs) → AllTrue net f p (know_frames js from to p runs)
+know_frames_true net f js p from to runs k held = go (cut_frames (head_size js) known_run_size runs) (cut_frames-parts Q (head_size js) known_run_size runs k.runs)
   where
-    go : (parts : List Known) → AllParts Q parts runs → AllTrue net f p (map (λ part. record { head = head from to p; body = body.Knowledge part [] }) parts)
+    go : (parts : List Known) → AllParts Q parts runs → AllTrue net f p (map (λ part. record { head = head from to p; body = body.Knowledge part js }) parts)
     go [] a = tt
-    go (x ∷ xs) a = (record { runs = a.0.0; each = λ t. ⊎_elim (λ e. subst (λ y. IsTrueAt net f p to t y) (sym e) (k.each t)) (λ e. subst (λ y. IsTrueAt net f p to t y) (sym e) tt) (a.0.1 t) }, go xs a.1)
+    go (x ∷ xs) a = ((record { runs = a.0.0; each = λ t. ⊎_elim (λ e. subst (λ y. IsTrueAt net f p to t y) (sym e) (k.each t)) (λ e. subst (λ y. IsTrueAt net f p to t y) (sym e) tt) (a.0.1 t) }, fewer f.joined js (HasEvent runs) (HasEvent x) (λ t y. ⊎_elim (λ e. (y.0, sym e ∙ y.1)) (λ e. absurd (Q_no_event y.0 (sym e ∙ y.1))) (a.0.1 t)) held), go xs a.1)
 
 pub want_frames_true : (net : Net) (f : Facts) (p from to : ℕ) (runs : Wanted) → WantsTruth net f p from runs → AllTrue net f p (want_frames from to p runs)
 want_frames_true net f p from to runs k = go (cut_frames 12 wanted_run_size runs) (cut_frames-parts N 12 wanted_run_size runs k.runs)
@@ -206,6 +268,7 @@ trimmed_true net f p b v h = go (is_host net p b)
       wants = h.wants;
       asks = open_asks-is less.know v.asks (forgotten-is net.cache (if keeps_horizon net p b then v.horizon else max_tick) v.know h.know.runs).runs h.asks;
       horizon = h.horizon;
+      held = fewer f.joined v.joins (HasEvent v.know) (HasEvent less.know) (lowered_event (if keeps_horizon net p b then v.horizon else max_tick) v.know less.know (forgotten-is net.cache (if keeps_horizon net p b then v.horizon else max_tick) v.know h.know.runs)) h.held;
     }
 
 -- forwarding over all children
@@ -218,14 +281,14 @@ forward_wants_true net f p b new (c ∷ cs) (w ∷ ws) place k m a = (
   forward_wants_true net f p b new cs ws place k (λ d e. m d (or_right (nat_eq c d) (list_any (λ x. nat_eq x d) cs) e)) a.1,
 )
 
-forward_frames_true : (net : Net) (f : Facts) (p b : ℕ) (new : Known) (cs : List ℕ) (ws : List Wanted) → IsPlace net p b → KnowsTruth net f p b new → ((c : ℕ) → list_any (λ x. nat_eq x c) cs ≡ true → list_any (λ x. nat_eq x c) (net.children p b) ≡ true) → AllWantTruth net f p cs ws → AllTrue net f p (forward_frames [] net p b new cs ws)
-forward_frames_true net f p b new [] [] place k m a = tt
-forward_frames_true net f p b new [] (w ∷ ws) place k m a = absurd a
-forward_frames_true net f p b new (c ∷ cs) [] place k m a = absurd a
-forward_frames_true net f p b new (c ∷ cs) (w ∷ ws) place k m a =
-    AllTrue-append net f p (know_frames [] b c p (forward net p c w new)) (forward_frames [] net p b new cs ws)
-    (know_frames_true net f p b c (forward net p c w new) (forward_true net f p b c w new place (m c (or_left (nat_eq c c) (list_any (λ x. nat_eq x c) cs) (eq-eqb c c refl))) a.0.runs k))
-    (forward_frames_true net f p b new cs ws place k (λ d e. m d (or_right (nat_eq c d) (list_any (λ x. nat_eq x d) cs) e)) a.1)
+forward_frames_true : (net : Net) (f : Facts) (js : Joins) (p b : ℕ) (new : Known) (cs : List ℕ) (ws : List Wanted) → IsPlace net p b → KnowsTruth net f p b new → Holds f.joined js (HasEvent new) → ((c : ℕ) → list_any (λ x. nat_eq x c) cs ≡ true → list_any (λ x. nat_eq x c) (net.children p b) ≡ true) → AllWantTruth net f p cs ws → AllTrue net f p (forward_frames js net p b new cs ws)
+forward_frames_true net f js p b new [] [] place k held m a = tt
+forward_frames_true net f js p b new [] (w ∷ ws) place k held m a = absurd a
+forward_frames_true net f js p b new (c ∷ cs) [] place k held m a = absurd a
+forward_frames_true net f js p b new (c ∷ cs) (w ∷ ws) place k held m a =
+    AllTrue-append net f p (know_frames js b c p (forward net p c w new)) (forward_frames js net p b new cs ws)
+    (know_frames_true net f js p b c (forward net p c w new) (forward_true net f p b c w new place (m c (or_left (nat_eq c c) (list_any (λ x. nat_eq x c) cs) (eq-eqb c c refl))) a.0.runs k) (fewer f.joined js (HasEvent new) (HasEvent (forward net p c w new)) (forward_event net p c w new a.0.runs k.runs) held))
+    (forward_frames_true net f js p b new cs ws place k held (λ d e. m d (or_right (nat_eq c d) (list_any (λ x. nat_eq x d) cs) e)) a.1)
 
 -- a tick with a true value that is not Q is settled
 pub true_settled : (net : Net) (f : Facts) (p b t : ℕ) (k : K) → IsTrueAt net f p b t k → k ≢ Q → t ≤ f.settled
@@ -265,23 +328,34 @@ pub record OutcomeTrue (net : Net) (f : Facts) (p b : ℕ) (o : Outcome) : Type 
   pub view : ViewTrue net f p b o.view
   pub frames : AllTrue net f p o.frames
 
+-- each event that is known truly is of a settled tick
+pub events_settled : (net : Net) (f : Facts) (p b : ℕ) (know : Known) → KnowsTruth net f p b know → (t : ℕ) → HasEvent know t → t ≤ f.settled
+events_settled net f p b know k t x = go (known_at know t) (k.each t) x.1
+  where
+    go : (v : K) → IsTrueAt net f p b t v → v ≡ D x.0 → t ≤ f.settled
+    go Q h e = absurd (Q_no_event x.0 e)
+    go S h e = h.settled
+    go (D a) h e = h.settled
+    go F h e = h.settled
+
 pub AllTrue-later : (net : Net) (f g : Facts) (p : ℕ) (xs : List Frame) → IsLater f g → AllTrue net f p xs → AllTrue net g p xs
 AllTrue-later net f g p [] l a = tt
 AllTrue-later net f g p (x ∷ xs) l a = (body_later x.body a.0, AllTrue-later net f g p xs l a.1)
   where
     body_later : (y : Body) → BodyTrue net f p x.head.from x.head.to y → BodyTrue net g p x.head.from x.head.to y
-    body_later (body.Knowledge runs js) h = KnowsTruth-later net f g p x.head.to runs l h
+    body_later (body.Knowledge runs js) h = (KnowsTruth-later net f g p x.head.to runs l h.0, holds_later f.joined g.joined js f.settled (HasEvent runs) l.joined (events_settled net f p x.head.to runs h.0) h.1)
     body_later (body.Curiosity runs) h = WantsTruth-later net f g p x.head.from runs l h
     body_later (body.Expect tick) h = le_trans h l.settled
 
 -- learning a true piece leaves and sends what is true, once the subscribers here have come to the new horizon
-pub learn_true : (net : Net) (f g : Facts) (p b : ℕ) (piece : Known) (v : View) (log : Log) → IsPlace net p b → ViewTrue net f p b v → KnowsTruth net f p b piece → IsLater f g → IsHorizon net g b (learned_horizon net p b piece v) → OutcomeTrue net g p b (learn net p b piece v log)
+pub learn_true : (net : Net) (f g : Facts) (p b : ℕ) (piece : Known) (v : View) (log : Log) → IsPlace net p b → ViewTrue net f p b v → KnowsTruth net f p b piece → Holds f.joined v.joins (HasEvent piece) → IsLater f g → IsHorizon net g b (learned_horizon net p b piece v) → OutcomeTrue net g p b (learn net p b piece v log)
 unfolding learn
-learn_true net f g p b piece v log place h i l hor =
+learn_true net f g p b piece v log place h i hp l hor =
     let know = zip_runs Q Q Q same_K join_K v.know piece in
     let new = new_ticks v.know piece in
     let k = KnowsTruth-later net f g p b know l (joined_true net f p b v.know piece h.know i) in
     let n = KnowsTruth-later net f g p b new l (new_true net f p b v.know piece h.know i) in
+    let held = holds_later f.joined g.joined v.joins f.settled (λ t. HasEvent v.know t ⊎ HasEvent piece t) l.joined (λ t x. ⊎_elim (λ y. events_settled net f p b v.know h.know t y) (λ y. events_settled net f p b piece i t y) x) (either f.joined v.joins (HasEvent v.know) (HasEvent piece) h.held hp) in
     let a = AllWantTruth-later net f g p (net.children p b) v.wants l h.wants in
     let ws = forward_wants net p new (net.children p b) v.wants in
     let w = forward_wants_true net g p b new (net.children p b) v.wants place n (λ c e. e) a in
@@ -293,8 +367,9 @@ learn_true net f g p b piece v log place h i l hor =
         wants = w;
         asks = h.asks;
         horizon = hor;
+        held = fewer g.joined v.joins (λ t. HasEvent v.know t ⊎ HasEvent piece t) (HasEvent (finished know done)) (λ t x. joined_event v.know piece h.know.runs i.runs t (finished_event know done k.runs (done_true net g p b h' ws place w hor).runs t x)) held;
       });
-      frames = forward_frames_true net g p b new (net.children p b) v.wants place n (λ c e. e) a;
+      frames = forward_frames_true net g v.joins p b new (net.children p b) v.wants place n (fewer g.joined v.joins (λ t. HasEvent v.know t ⊎ HasEvent piece t) (HasEvent new) (λ t x. inr (new_event v.know piece h.know.runs i.runs t x)) held) (λ c e. e) a;
     }
 
 -- Asking
@@ -372,6 +447,7 @@ asking_true net f p b now wanted ps v log place h w =
         wants = h.wants;
         asks = (noted-at now v.asks asked h.asks a.runs).runs;
         horizon = h.horizon;
+        held = h.held;
       });
       frames = up_frames_true net f p b (upward done asked) (upward_true net f p b done asked d a);
     }
@@ -596,6 +672,18 @@ curiosity_wanted reply piece r = record {
 N_not_A : N ≡ A → ⊥
 N_not_A e = cc
 
+answers_event : (net : Net) (p c : ℕ) (know : Known) (w piece : Wanted) → AreRuns Q know → AreRuns N piece → (t : ℕ) → HasEvent (answers net p c know w piece) t → HasEvent know t
+answers_event net p c know w piece k i t x = (x.0, pass_event net p c t (known_at know t) x.0 (go (wanted_at piece t) (sym ((answers-is net p c know w piece k i).same_at t) ∙ x.1)))
+  where
+    pick : (b : Bool) → (if b then F else pass net p c t (known_at know t)) ≡ D x.0 → pass net p c t (known_at know t) ≡ D x.0
+    pick true e = cc
+    pick false e = e
+
+    go : (q : Q3) → answer (pass net p c t (known_at know t)) (wanted_at w t) q ≡ D x.0 → pass net p c t (known_at know t) ≡ D x.0
+    go N e = cc
+    go A e = cc
+    go C e = pick (is_A (wanted_at w t)) e
+
 -- a child's true curiosity keeps the view true, and it is answered and handed up truly
 pub curiosity_true : (net : Net) (f : Facts) (p b now c : ℕ) (piece : Wanted) (v : View) (log : Log) → IsPlace net p b → list_any (λ x. nat_eq x c) (net.children p b) ≡ true → ViewTrue net f p b v → WantsTruth net f p c piece → OutcomeTrue net f p b (curiosity net p b now c (place_of c (net.children p b)) piece v log)
 unfolding curiosity
@@ -622,8 +710,9 @@ curiosity_true net f p b now c piece v log place child h i =
         wants = s;
         asks = (noted-at now v.asks (asked (is_host net p b)) h.asks x.runs).runs;
         horizon = h.horizon;
+        held = fewer f.joined v.joins (HasEvent v.know) (HasEvent know) (finished_event v.know done h.know.runs (done_true net f p b v.horizon ws place s h.horizon).runs) h.held;
       });
-      frames = AllTrue-append net f p (know_frames [] b c p reply) (up_frames net p b (asked (is_host net p b))) (know_frames_true net f p b c reply r) (up_frames_true net f p b (asked (is_host net p b)) x);
+      frames = AllTrue-append net f p (know_frames v.joins b c p reply) (up_frames net p b (asked (is_host net p b))) (know_frames_true net f v.joins p b c reply r (fewer f.joined v.joins (HasEvent v.know) (HasEvent reply) (answers_event net p c v.know w piece h.know.runs i.runs) h.held)) (up_frames_true net f p b (asked (is_host net p b)) x);
     }
 
 -- a view that is true stays true as more is logged and subscribers come on
@@ -633,7 +722,16 @@ ViewTrue-later net f g p b v l h = record {
   wants = AllWantTruth-later net f g p (net.children p b) v.wants l h.wants;
   asks = h.asks;
   horizon = record { settled = le_trans h.horizon.settled l.settled; here = λ s m. le_trans (h.horizon.here s m) (l.reached s) };
+  held = holds_later f.joined g.joined v.joins f.settled (HasEvent v.know) l.joined (events_settled net f p b v.know h.know) h.held;
 }
+
+-- a view may take up other joins that are held
+pub ViewTrue-joins : (net : Net) (f : Facts) (p b : ℕ) (v : View) (js : Joins) → ViewTrue net f p b v → Holds f.joined js (HasEvent v.know) → ViewTrue net f p b (with_joins v js)
+ViewTrue-joins net f p b v js h held = record { know = h.know; wants = h.wants; asks = h.asks; horizon = record { settled = h.horizon.settled; here = h.horizon.here }; held = held }
+
+-- and those that come with a piece, where they are more
+pub ViewTrue-taken : (net : Net) (f : Facts) (p b : ℕ) (v : View) (js : Joins) (Came : ℕ → Type 0) → ViewTrue net f p b v → Holds f.joined js Came → ViewTrue net f p b (with_joins v (longer v.joins js))
+ViewTrue-taken net f p b v js Came h held = ViewTrue-joins net f p b v (longer v.joins js) h (fewer f.joined (longer v.joins js) (λ t. HasEvent v.know t ⊎ Came t) (HasEvent v.know) (λ t x. inl x) (both f.joined v.joins js (HasEvent v.know) Came h.held held))
 
 -- an outcome that is true stays true as more is logged and subscribers come on
 pub OutcomeTrue-later : (net : Net) (f g : Facts) (p b : ℕ) (o : Outcome) → IsLater f g → OutcomeTrue net f p b o → OutcomeTrue net g p b o

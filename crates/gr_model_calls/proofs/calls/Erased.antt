@@ -3,7 +3,7 @@ use Rattle.std.proofs.Common.{◌≡◌, ◌≢◌, ◌⊎◌, inl, inr, ⊎_eli
 use Rattle.std.specs.Prelude.{nat_eq, nat_lt, nat_le, if◌then◌else◌, filter, flat_map}
 use Rattle.std.specs.List.{list_any}
 use Rattle.std.proofs.Math.Path.{fun_ext}
-use Rattle.std.proofs.lemmas.Bool.{cases_lt}
+use Rattle.std.proofs.lemmas.Bool.{cases_lt, true≢false}
 use Rattle.gr_event.specs.declared.event.Event.{Event}
 use Rattle.gr_event.specs.Event.{same_event}
 use Rattle.gr_know.specs.declared.values.K.{K}
@@ -18,8 +18,12 @@ use Rattle.gr_subend.proofs.Saying.{said_at-here, said_at-past, said_at-below, s
 use Rattle.gr_model.specs.declared.report.Report.{Report}
 use Rattle.gr_model.specs.declared.report.Report.TheVariants as line
 use Rattle.gr_model_calls.specs.Said.{said_at, TicksRise}
-use Rattle.gr_model.specs.Net.{Net, is_host, keeps_horizon, pass}
-use Rattle.gr_model.specs.Broker.{View, Log, Outcome, head, know_frames, up_frames, got_line, delivery_lines, data_ticks, horizon_after, new_ticks, pass_points, passed, forward, still_wanted, forward_frames, forward_wants, learn, consolidated, finished, kept_view, due, noted, acknowledged, answers_of, answers, stored, curiosity, max_tick, silence, with_mark, with_event, expect_frames, asking, expect, wake_below, published, quieted, publish_by, marking_by, publish, cutting, marking, wake_host, wake}
+use Rattle.gr_model.specs.Net.{Net, with_wants, is_host, keeps_horizon, pass}
+use Rattle.gr_event.specs.Joins.{Joins, longer, has_joined}
+use Rattle.gr_frame.specs.declared.Body.{Body}
+use Rattle.gr_frame.specs.declared.Body.TheVariants as body
+use Rattle.gr_pubend.specs.declared.answers.Joined.TheVariants as joins
+use Rattle.gr_model.specs.Broker.{with_joins, with_join, drops, receive, place_of, joining, joining_by, joined_at, View, Log, Outcome, head, know_frames, up_frames, got_line, delivery_lines, data_ticks, horizon_after, new_ticks, pass_points, passed, forward, still_wanted, forward_frames, forward_wants, learn, consolidated, finished, kept_view, due, noted, acknowledged, answers_of, answers, stored, curiosity, max_tick, silence, with_mark, with_event, expect_frames, asking, expect, wake_below, published, quieted, publish_by, marking_by, publish, cutting, marking, wake_host, wake}
 use Rattle.gr_pubend.specs.declared.answers.Published.{Published}
 use Rattle.gr_pubend.specs.declared.answers.Published.TheVariants.{Logged, Already, Gap, Exhausted}
 use Rattle.gr_pubend.specs.declared.answers.Quieted.{Quieted}
@@ -29,10 +33,6 @@ use Rattle.gr_frame.specs.declared.Head.{Head}
 use Rattle.gr_model_calls.proofs.calls.CallTruth.{new_ticks-is, joined-is}
 use Rattle.gr_subend.specs.Said.{event_of}
 use Rattle.gr_model_calls.proofs.calls.Told.{data_ticks_rise, data_ticks_in, data_ticks_out}
-
--- a net whose subscribers want something else
-abbrev pub with_wants : Net → (ℕ → ℕ → ℕ → Event → Bool) → Net
-with_wants net f = record net { wants = f }
 
 -- a piece of knowledge that is sent, before it is cut into frames
 pub record Sent : Type 0 where
@@ -99,10 +99,10 @@ forward_agree : (net : Net) (f g : Wants) (p c : ℕ) (w : Wanted) (new : Known)
 unfolding forward
 forward_agree net f g p c w new h = ap (λ k. zip_runs Q N Q same_K (λ v a. if is_A a then Q else v) k w) (passed_agree net f g p c new h)
 
-frames_agree : (net : Net) (f g : Wants) (p b : ℕ) (new : Known) (cs : List ℕ) (ws : List Wanted) → Agree p f g new → forward_frames [] (with_wants net f) p b new cs ws ≡ forward_frames [] (with_wants net g) p b new cs ws
-frames_agree net f g p b new [] ws h = refl
-frames_agree net f g p b new (c ∷ cs) [] h = refl
-frames_agree net f g p b new (c ∷ cs) (w ∷ ws) h = ap₂ (λ (k : Known) (x : List Frame). know_frames [] b c p k ++ x) (forward_agree net f g p c w new h) (frames_agree net f g p b new cs ws h)
+frames_agree : (net : Net) (f g : Wants) (js : Joins) (p b : ℕ) (new : Known) (cs : List ℕ) (ws : List Wanted) → Agree p f g new → forward_frames js (with_wants net f) p b new cs ws ≡ forward_frames js (with_wants net g) p b new cs ws
+frames_agree net f g js p b new [] ws h = refl
+frames_agree net f g js p b new (c ∷ cs) [] h = refl
+frames_agree net f g js p b new (c ∷ cs) (w ∷ ws) h = ap₂ (λ (k : Known) (x : List Frame). know_frames js b c p k ++ x) (forward_agree net f g p c w new h) (frames_agree net f g js p b new cs ws h)
 
 wants_agree : (net : Net) (f g : Wants) (p : ℕ) (new : Known) (cs : List ℕ) (ws : List Wanted) → Agree p f g new → forward_wants (with_wants net f) p new cs ws ≡ forward_wants (with_wants net g) p new cs ws
 wants_agree net f g p new [] ws h = refl
@@ -186,7 +186,7 @@ unfolding learn kept_view
 learn_agree net f g p b piece v log r i h k =
     ap (λ ws. build ws (lines f) (frames f)) (wants_agree net f g p new (net.children p b) v.wants n)
     ∙ (ap (λ ls. build (forward_wants (with_wants net g) p new (net.children p b) v.wants) ls (frames f)) (ap (λ (q : ℕ → List Report). flat_map q (net.subscribers_at b)) (fun_ext (λ s. told_agree net f g p v.horizon to s know j.runs both)))
-    ∙ ap (build (forward_wants (with_wants net g) p new (net.children p b) v.wants) (lines g)) (frames_agree net f g p b new (net.children p b) v.wants n))
+    ∙ ap (build (forward_wants (with_wants net g) p new (net.children p b) v.wants) (lines g)) (frames_agree net f g v.joins p b new (net.children p b) v.wants n))
   where
     keeps : Bool
     keeps = keeps_horizon net p b
@@ -213,7 +213,7 @@ learn_agree net f g p b piece v log r i h k =
     lines q = flat_map (delivery_lines (with_wants net q) p v.horizon to (data_ticks v.horizon to know)) (net.subscribers_at b)
 
     frames : Wants → List Frame
-    frames q = forward_frames [] (with_wants net q) p b new (net.children p b) v.wants
+    frames q = forward_frames v.joins (with_wants net q) p b new (net.children p b) v.wants
 
     build : List Wanted → List Report → List Frame → Outcome
     build ws ls fs = record {
@@ -247,7 +247,7 @@ curiosity_agree net f g p b now c i piece v log h = ap build (reply_agree net f 
           view = kept_view (with_wants net g) p b (record { know = know; wants = ws; asks = noted now v.asks asked; horizon = v.horizon; joins = v.joins });
           log = log;
           lines = [];
-          frames = know_frames [] b c p reply ++ up_frames (with_wants net g) p b asked;
+          frames = know_frames v.joins b c p reply ++ up_frames (with_wants net g) p b asked;
         }
 
 -- Calls that ask do not look at what is wanted
@@ -261,7 +261,7 @@ below_agree net f g p b now v log = refl
 
 -- The host
 
-silent_agree : (p first last : ℕ) (f g : Wants) → Agree p f g (silence first last [])
+pub silent_agree : (p first last : ℕ) (f g : Wants) → Agree p f g (silence first last [])
 unfolding silence
 silent_agree p first last f g t e x s = absurd (go (nat_le first last) x)
   where
@@ -305,9 +305,10 @@ wake_agree net f g p b now v log r i h = go (is_host net p b)
     go false = below_agree net f g p b now v log
 
 pub publish_agree : (net : Net) (f g : Wants) (p b now number : ℕ) (e : Event) (v : View) (log : Log) → AreRuns Q v.know → Agree p f g v.know →
-    (let tick = max (suc log.settled) now in let piece = silence (suc log.settled) (tick - 1) (record { first = tick; last = tick; value = D e } ∷ []) in AreRuns Q piece → Agree p f g piece → publish (with_wants net f) p b now number e v log ≡ publish (with_wants net g) p b now number e v log)
+    (let tick = max (suc log.settled) now in let piece = silence (suc log.settled) (tick - 1) (record { first = tick; last = tick; value = D e } ∷ []) in AreRuns Q piece →
+    (nat_le number log.last ≡ false → nat_lt (suc log.last) number ≡ false → nat_lt max_tick tick ≡ false → Agree p f g piece) → publish (with_wants net f) p b now number e v log ≡ publish (with_wants net g) p b now number e v log)
 unfolding publish published
-publish_agree net f g p b now number e v log r h i k = at (nat_le number log.last) (nat_lt (suc log.last) number) (nat_lt max_tick tick)
+publish_agree net f g p b now number e v log r h i k = at (nat_le number log.last) (nat_lt (suc log.last) number) (nat_lt max_tick tick) refl refl refl
   where
     tick : ℕ
     tick = max (suc log.settled) now
@@ -318,8 +319,63 @@ publish_agree net f g p b now number e v log r h i k = at (nat_le number log.las
     said : Outcome → Outcome
     said o = record { view = o.view; log = o.log; lines = line.Logged p number tick ∷ o.lines; frames = o.frames }
 
-    at : (x y z : Bool) → publish_by (with_wants net f) p b number e v log (answer x y z) ≡ publish_by (with_wants net g) p b number e v log (answer x y z)
-    at true y z = refl
-    at false true z = refl
-    at false false true = refl
-    at false false false = ap said (learn_agree net f g p b (news_of log tick e) v (with_event log tick e) r i h k)
+    at : (x y z : Bool) → nat_le number log.last ≡ x → nat_lt (suc log.last) number ≡ y → nat_lt max_tick tick ≡ z → publish_by (with_wants net f) p b number e v log (answer x y z) ≡ publish_by (with_wants net g) p b number e v log (answer x y z)
+    at true y z a c d = refl
+    at false true z a c d = refl
+    at false false true a c d = refl
+    at false false false a c d = ap said (learn_agree net f g p b (news_of log tick e) v (with_event log tick e) r i h (k a c d))
+
+-- what a publish logs, where it does
+pub publish_logs : (net : Net) (p b now number : ℕ) (e : Event) (v : View) (log : Log) → (let tick = max (suc log.settled) now in
+    nat_le number log.last ≡ false → nat_lt (suc log.last) number ≡ false → nat_lt max_tick tick ≡ false → (publish net p b now number e v log).log ≡ with_event log tick e)
+unfolding publish published learn
+publish_logs net p b now number e v log a c d = at (nat_le number log.last) (nat_lt (suc log.last) number) (nat_lt max_tick tick) a c d
+  where
+    tick : ℕ
+    tick = max (suc log.settled) now
+
+    at : (x y z : Bool) → x ≡ false → y ≡ false → z ≡ false →
+        (let o : Outcome = publish_by net p b number e v log (elim x [ true ↦ Already | false ↦ elim y [ true ↦ Gap (suc log.last) | false ↦ elim z [ true ↦ Exhausted | false ↦ Logged tick (news_of log tick e) ] ] ]) in o.log ≡ with_event log tick e)
+    at true y z a c d = absurd (true≢false a)
+    at false true z a c d = absurd (true≢false c)
+    at false false true a c d = absurd (true≢false d)
+    at false false false a c d = refl
+
+-- a join
+pub joining_agree : (net : Net) (f g : Wants) (p b now s : ℕ) (v : View) (log : Log) → AreRuns Q v.know → (let tick = max (suc log.settled) now in AreRuns Q (silence (suc log.settled) tick []) →
+    (has_joined log.joins s ≡ false → nat_lt max_tick tick ≡ false → Agree p f g v.know) → joining (with_wants net f) p b now s v log ≡ joining (with_wants net g) p b now s v log)
+unfolding joining joined_at
+joining_agree net f g p b now s v log r i h = at (has_joined log.joins s) (nat_lt max_tick tick) refl refl
+  where
+    tick : ℕ
+    tick = max (suc log.settled) now
+
+    said : Outcome → Outcome
+    said o = record { view = o.view; log = o.log; lines = line.Joined s p tick ∷ o.lines; frames = o.frames }
+
+    at : (x y : Bool) → has_joined log.joins s ≡ x → nat_lt max_tick tick ≡ y →
+        joining_by (with_wants net f) p b s v log (elim x [ true ↦ joins.Already | false ↦ elim y [ true ↦ joins.Exhausted | false ↦ joins.Logged tick (silence (suc log.settled) tick []) ] ])
+        ≡ joining_by (with_wants net g) p b s v log (elim x [ true ↦ joins.Already | false ↦ elim y [ true ↦ joins.Exhausted | false ↦ joins.Logged tick (silence (suc log.settled) tick []) ] ])
+    at true y a c = refl
+    at false true a c = refl
+    at false false a c = ap said (learn_agree net f g p b (silence (suc log.settled) tick []) (with_joins v (with_join log tick s).joins) (with_join log tick s) r i (h a c) (silent_agree p (suc log.settled) tick f g))
+
+-- what a join logs, where it does
+pub joining_logs : (net : Net) (p b now s : ℕ) (v : View) (log : Log) → (let tick = max (suc log.settled) now in has_joined log.joins s ≡ false → nat_lt max_tick tick ≡ false → (joining net p b now s v log).log ≡ with_join log tick s)
+unfolding joining joined_at learn
+joining_logs net p b now s v log a c = at (has_joined log.joins s) (nat_lt max_tick tick) a c
+  where
+    tick : ℕ
+    tick = max (suc log.settled) now
+
+    at : (x y : Bool) → x ≡ false → y ≡ false → (let o : Outcome = joining_by net p b s v log (elim x [ true ↦ joins.Already | false ↦ elim y [ true ↦ joins.Exhausted | false ↦ joins.Logged tick (silence (suc log.settled) tick []) ] ]) in o.log ≡ with_join log tick s)
+    at true y a c = absurd (true≢false a)
+    at false true a c = absurd (true≢false c)
+    at false false a c = refl
+
+-- a frame
+pub knowledge_agree : (net : Net) (f g : Wants) (p b : ℕ) (runs : Known) (js : Joins) (v : View) (log : Log) → AreRuns Q v.know → AreRuns Q runs → Agree p f g v.know → Agree p f g runs → (q : Bool) →
+    (elim q as (λ x. Outcome) [ true ↦ record { view = v; log = log; lines = []; frames = [] } | false ↦ learn (with_wants net f) p b runs (with_joins v (longer v.joins js)) log ])
+    ≡ (elim q as (λ x. Outcome) [ true ↦ record { view = v; log = log; lines = []; frames = [] } | false ↦ learn (with_wants net g) p b runs (with_joins v (longer v.joins js)) log ])
+knowledge_agree net f g p b runs js v log r i h k true = refl
+knowledge_agree net f g p b runs js v log r i h k false = learn_agree net f g p b runs (with_joins v (longer v.joins js)) log r i h k

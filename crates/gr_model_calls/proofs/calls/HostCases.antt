@@ -7,9 +7,11 @@ use Rattle.gr_know.specs.declared.values.K.TheVariants.{D}
 use Rattle.gr_know.specs.Values.{Known}
 use Rattle.gr_pubend.specs.declared.answers.Published.TheVariants.{Logged, Already, Gap, Exhausted}
 use Rattle.gr_pubend.specs.declared.answers.Quieted.TheVariants.{NotYet, Marked}
+use Rattle.gr_pubend.specs.declared.answers.Joined.TheVariants as joins
+use Rattle.gr_event.specs.Joins.{has_joined}
 use Rattle.gr_model.specs.declared.report.Report.TheVariants as line
 use Rattle.gr_model.specs.Net.{Net}
-use Rattle.gr_model.specs.Broker.{View, Log, Outcome, max_tick, learn, silence, published, quieted, unmoved, says, with_mark, publish_by, publish, marking_by, marking}
+use Rattle.gr_model.specs.Broker.{View, Log, Outcome, max_tick, learn, silence, published, quieted, unmoved, says, with_mark, publish_by, publish, marking_by, marking, joining, joining_by, joined_at}
 
 -- the event at its tick, with the silence before it
 abbrev pub news_of : Log → ℕ → Event → Known
@@ -45,3 +47,20 @@ marking_cases net p b now v log P marked still = at (nat_le (log.settled + net.q
     at : (q : Bool) → nat_le (log.settled + net.quiet) now ≡ q → P (marking_by net p b v log (elim q [ true ↦ Marked now (silence (suc log.settled) now []) | false ↦ NotYet ]))
     at true e = marked e
     at false e = still e
+
+-- and of a join
+pub joining_cases : (net : Net) (p b now s : ℕ) (v : View) (log : Log) (P : Outcome → Type 0) →
+    (has_joined log.joins s ≡ true → P (says v log (line.AlreadyJoined s p))) →
+    (has_joined log.joins s ≡ false → max_tick < max (suc log.settled) now → P (says v log (line.ExhaustedJoin s p))) →
+    (has_joined log.joins s ≡ false → max (suc log.settled) now ≤ max_tick → P (joining_by net p b s v log (joins.Logged (max (suc log.settled) now) (silence (suc log.settled) (max (suc log.settled) now) [])))) →
+    P (joining net p b now s v log)
+unfolding joining joined_at
+joining_cases net p b now s v log P already exhausted logged = at (has_joined log.joins s) (nat_lt max_tick tick) refl refl
+  where
+    tick : ℕ
+    tick = max (suc log.settled) now
+
+    at : (x y : Bool) → has_joined log.joins s ≡ x → nat_lt max_tick tick ≡ y → P (joining_by net p b s v log (elim x [ true ↦ joins.Already | false ↦ elim y [ true ↦ joins.Exhausted | false ↦ joins.Logged tick (silence (suc log.settled) tick []) ] ]))
+    at true y a e = already a
+    at false true a e = exhausted a (ltb-true max_tick tick e)
+    at false false a e = logged a (ltb-false max_tick tick e)

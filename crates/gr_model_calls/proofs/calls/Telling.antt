@@ -15,18 +15,21 @@ use Rattle.gr_tick.specs.Runs.{zip_runs}
 use Rattle.gr_know.specs.Values.{Known, join_K, same_K}
 use Rattle.gr_curio.specs.Values.{Wanted}
 use Rattle.gr_model.specs.Net.{Net, keeps_horizon, is_host}
-use Rattle.gr_model.specs.Broker.{View, Log, Outcome, data_ticks, got_line, delivery_lines, learn, wake_below, asking, expect, curiosity, receive, clashes, place_of, marking, cutting, wake_host, wake, publish, silence, with_event, with_mark}
+use Rattle.gr_event.specs.Joins.{Joins, longer}
+use Rattle.gr_pubend.specs.declared.answers.Joined.TheVariants as joins
+use Rattle.gr_model_calls.proofs.calls.Held.{own, both, fewer, grows_not}
+use Rattle.gr_model.specs.Broker.{with_joins, with_join, drops, max_tick, joining, joining_by, View, Log, Outcome, data_ticks, got_line, delivery_lines, learn, wake_below, asking, expect, curiosity, receive, clashes, place_of, marking, cutting, wake_host, wake, publish, silence, with_event, with_mark}
 use Rattle.gr_model.specs.World.{sent_line, sent_lines}
 use Rattle.gr_model.specs.Headline.{delivered_events, last_horizon, HorizonsRise}
-use Rattle.gr_model_calls.specs.Truth.{KnowsTruth}
+use Rattle.gr_model_calls.specs.Truth.{Holds, HasEvent, Grows, KnowsTruth}
 use Rattle.gr_model_calls.specs.Said.{said_at, TicksRise, due_upto, due_between}
 use Rattle.gr_model_calls.specs.Steady.{Steady}
 use Rattle.gr_model_calls.specs.Fits.{facts, LogFits, ViewTrue, BodyTrue}
 use Rattle.gr_model.specs.Tree.{IsNet, IsDistinct}
-use Rattle.gr_model_calls.proofs.calls.HostCases.{publish_cases, marking_cases, news_of}
+use Rattle.gr_model_calls.proofs.calls.HostCases.{publish_cases, marking_cases, joining_cases, news_of}
 use Rattle.gr_model_calls.proofs.calls.Calls.{learn_horizon, learn_log, trimmed_horizon, silence_true, later_facts, with_event_fits, with_mark_fits, said_more, nothing_true, cutting_same, published_piece}
 use Rattle.gr_model_calls.proofs.calls.Told.{told_is_due, Items, said_equal, filter-rises, said_at-filter, kept_by, TicksUpto, TicksRise-lower}
-use Rattle.gr_model_calls.proofs.calls.CallTruth.{joined_true, horizon_after-is, learned_horizon, ViewTrue-later}
+use Rattle.gr_model_calls.proofs.calls.CallTruth.{joined_true, horizon_after-is, learned_horizon, ViewTrue-later, ViewTrue-joins}
 
 -- Lines one after another
 
@@ -303,16 +306,17 @@ pub receive_tells : (net : Net) (now : ℕ) (f : Frame) (v : View) (log : Log) (
 unfolding receive
 receive_tells net now f v log reached n i j delivery_lines fit h exact = go f.body delivery_lines
   where
-    learned : (runs : Known) → KnowsTruth net (facts log reached) f.head.publisher f.head.to runs → (q : Bool) → (let o : Outcome = elim q [ true ↦ record { view = v; log = log; lines = []; frames = [] } | false ↦ learn net f.head.publisher f.head.to runs v log ] in CallTells net f.head.publisher f.head.to v o)
-    learned runs k true = still_tells net f.head.publisher f.head.to v log [] nil_silent
-    learned runs k false = learn_call_tells net f.head.publisher f.head.to runs v log reached n i j fit h k exact
+    learned : (runs : Known) (js : Joins) → KnowsTruth net (facts log reached) f.head.publisher f.head.to runs × Holds log.joins js (HasEvent runs) → (q : Bool) → (let o : Outcome = elim q [ true ↦ record { view = v; log = log; lines = []; frames = [] } | false ↦ learn net f.head.publisher f.head.to runs (with_joins v (longer v.joins js)) log ] in CallTells net f.head.publisher f.head.to v o)
+    learned runs js k true = still_tells net f.head.publisher f.head.to v log [] nil_silent
+    learned runs js k false = learn_call_tells net f.head.publisher f.head.to runs (with_joins v (longer v.joins js)) log reached n i j fit
+        (ViewTrue-joins net (facts log reached) f.head.publisher f.head.to v (longer v.joins js) h (fewer log.joins (longer v.joins js) (λ t. HasEvent v.know t ⊎ HasEvent runs t) (HasEvent v.know) (λ t x. inl x) (both log.joins v.joins js (HasEvent v.know) (HasEvent runs) h.held k.1))) k.0 exact
 
     go : (y : Body) → BodyTrue net (facts log reached) f.head.publisher f.head.from f.head.to y → (let o : Outcome = elim y [
-      | body.Knowledge runs js ↦ elim (clashes v.know runs) [ true ↦ record { view = v; log = log; lines = []; frames = [] } | false ↦ learn net f.head.publisher f.head.to runs v log ]
+      | body.Knowledge runs js ↦ elim (drops v runs js) [ true ↦ record { view = v; log = log; lines = []; frames = [] } | false ↦ learn net f.head.publisher f.head.to runs (with_joins v (longer v.joins js)) log ]
       | body.Curiosity runs ↦ curiosity net f.head.publisher f.head.to now f.head.from (place_of f.head.from (net.children f.head.publisher f.head.to)) runs v log
       | body.Expect tick ↦ expect net f.head.publisher f.head.to now tick v log
     ] in CallTells net f.head.publisher f.head.to v o)
-    go (body.Knowledge runs js) t = learned runs t (clashes v.know runs)
+    go (body.Knowledge runs js) t = learned runs js t (drops v runs js)
     go (body.Curiosity runs) t = curiosity_tells net f.head.publisher f.head.to now f.head.from (place_of f.head.from (net.children f.head.publisher f.head.to)) runs v log
     go (body.Expect tick) t = expect_tells net f.head.publisher f.head.to now tick v log
 
@@ -322,7 +326,7 @@ marking_tells net p b now v log reached n i j host fit h exact =
     (λ e.
     let l : log.settled ≤ now = omega (arith, leb-true (log.settled + net.quiet) now e) in
     learn_call_tells net p b (silence (suc log.settled) now []) v (with_mark log now) reached n i j (with_mark_fits log now fit l)
-    (ViewTrue-later net (facts log reached) (facts (with_mark log now) reached) p b v (later_facts log (with_mark log now) reached reached l (λ t x. refl) (λ s. le_refl (reached s))) h)
+    (ViewTrue-later net (facts log reached) (facts (with_mark log now) reached) p b v (later_facts log (with_mark log now) reached reached l (λ t x. refl) (λ s. le_refl (reached s)) (grows_not log.joins log.settled)) h)
     (silence_true net (facts (with_mark log now) reached) p b (suc log.settled) now [] (omega arith) (le_refl now) (λ t x y. fit.past t x) (nothing_true net (facts (with_mark log now) reached) p b) tt tt) exact)
     (λ e. still_tells net p b v log [] nil_silent)
 
@@ -361,7 +365,7 @@ publish_tells net p b now number e v log reached n i j host fit h exact =
     (λ x l.
     Tells-before net p b v.horizon o.view.horizon o.log.events (line.Logged p number tick ∷ []) o.lines (λ s q. record { got = refl; horizon = λ n. refl; steady = λ n. refl })
     (learn_call_tells net p b (news_of log tick e) v new reached n i j (with_event_fits log tick e fit (omega arith))
-    (ViewTrue-later net (facts log reached) (facts new reached) p b v (later_facts log new reached reached (omega arith) (λ t x. said_more log.events tick t e (λ q. omega (arith, q))) (λ s. le_refl (reached s))) h)
+    (ViewTrue-later net (facts log reached) (facts new reached) p b v (later_facts log new reached reached (omega arith) (λ t x. said_more log.events tick t e (λ q. omega (arith, q))) (λ s. le_refl (reached s)) (grows_not log.joins log.settled)) h)
     (published_piece net p b tick e log reached host fit (omega arith)) exact))
   where
     tick : ℕ
@@ -372,6 +376,28 @@ publish_tells net p b now number e v log reached n i j host fit h exact =
 
     o : Outcome
     o = learn net p b (news_of log tick e) v new
+
+-- a join delivers exactly what is due between the horizon before and after
+pub joining_tells : (net : Net) (p b now s : ℕ) (v : View) (log : Log) (reached : ℕ → ℕ) → IsNet net → p < net.publishers → b < net.brokers → LogFits log → ViewTrue net (facts log reached) p b v → Exact net b v reached → CallTells net p b v (joining net p b now s v log)
+joining_tells net p b now s v log reached n i j fit h exact =
+    joining_cases net p b now s v log (CallTells net p b v)
+    (λ e. still_tells net p b v log _ (λ x q. record { got = refl; horizon = λ n. refl; steady = λ n. refl }))
+    (λ e l. still_tells net p b v log _ (λ x q. record { got = refl; horizon = λ n. refl; steady = λ n. refl }))
+    (λ e l.
+    let grows : Grows log.joins new.joins log.settled = (record { subscriber = s; tick = tick } ∷ [], refl, (omega arith, tt)) in
+    Tells-before net p b v.horizon o.view.horizon o.log.events (line.Joined s p tick ∷ []) o.lines (λ x q. record { got = refl; horizon = λ n. refl; steady = λ n. refl })
+    (learn_call_tells net p b (silence (suc log.settled) tick []) (with_joins v new.joins) new reached n i j (record { rise = fit.rise; past = λ t x. fit.past t (omega arith); cut = omega (arith, fit.cut) })
+    (ViewTrue-joins net (facts new reached) p b v new.joins (ViewTrue-later net (facts log reached) (facts new reached) p b v (later_facts log new reached reached (omega arith) (λ t x. refl) (λ s. le_refl (reached s)) grows) h) (own new.joins (HasEvent v.know)))
+    (silence_true net (facts new reached) p b (suc log.settled) tick [] (omega arith) (le_refl tick) (λ t x y. fit.past t x) (nothing_true net (facts new reached) p b) tt tt) exact))
+  where
+    tick : ℕ
+    tick = max (suc log.settled) now
+
+    new : Log
+    new = with_join log tick s
+
+    o : Outcome
+    o = learn net p b (silence (suc log.settled) tick []) (with_joins v new.joins) new
 
 -- what is due up to a settled tick does not change
 pub due_upto_same : (net : Net) (p s h : ℕ) (xs ys : Items) → TicksRise 0 xs → TicksRise 0 ys → ((t : ℕ) → t ≤ h → said_at xs t ≡ said_at ys t) → due_upto net p s h xs ≡ due_upto net p s h ys

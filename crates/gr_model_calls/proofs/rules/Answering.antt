@@ -12,9 +12,10 @@ use Rattle.gr_frame.specs.declared.Frame.{Frame}
 use Rattle.gr_tick.specs.Runs.{AreRuns, points, IsSteady, IsPast}
 use Rattle.gr_know.specs.Values.{Known, known_at, is_Q, same_K}
 use Rattle.gr_curio.specs.Values.{Wanted, wanted_at, asked_at, is_C, is_A, same_Q3, is_outstanding}
+use Rattle.gr_event.specs.Joins.{Joins, longer}
 use Rattle.gr_model.specs.Net.{Net, is_host, keeps_horizon, pass}
 use Rattle.gr_model.specs.Broker.{View, Log, Outcome, want_frames, know_frames, all_A, consolidated, horizon_if, is_reached, is_consolidated_by, finished, due, noted, up_frames, place_of, passed, answer, answers, curious, stored, acknowledged, curiosity, head}
-use Rattle.gr_frame.specs.Bytes.{cut_frames, known_run_size, wanted_run_size}
+use Rattle.gr_frame.specs.Bytes.{head_size, cut_frames, known_run_size, wanted_run_size}
 use Rattle.gr_model.specs.World.{is_want}
 use Rattle.gr_model_calls.specs.Truth.{Facts, WantsTruth, AllWantTruth}
 use Rattle.gr_model_calls.specs.Fits.{ViewTrue}
@@ -163,10 +164,10 @@ NoABody t _ = Unit {0}
 abbrev pub NoA : ℕ → Frame → Type 0
 NoA t f = NoABody t f.body
 
-no_A_know : (t from to p : ℕ) (runs : Known) → Each (NoA t) (know_frames [] from to p runs)
-no_A_know t from to p runs = go (cut_frames 12 known_run_size runs)
+no_A_know : (js : Joins) (t from to p : ℕ) (runs : Known) → Each (NoA t) (know_frames js from to p runs)
+no_A_know js t from to p runs = go (cut_frames (head_size js) known_run_size runs)
   where
-    go : (parts : List Known) → Each (NoA t) (map (λ part. record { head = head from to p; body = body.Knowledge part [] }) parts)
+    go : (parts : List Known) → Each (NoA t) (map (λ part. record { head = head from to p; body = body.Knowledge part js }) parts)
     go [] = tt
     go (x ∷ xs) = (tt, go xs)
 
@@ -220,10 +221,10 @@ pub record AsksUp (net : Net) (p b t now : ℕ) (v : View) (f : Frame) : Type 0 
 abbrev pub UpAsks : Net → ℕ → ℕ → ℕ → ℕ → View → Frame → Type 0
 UpAsks net p b t now v f = is_want f ≡ true → AsksUp net p b t now v f
 
-up_asks_know : (net : Net) (p b t now c : ℕ) (v : View) (runs : Known) → Each (UpAsks net p b t now v) (know_frames [] b c p runs)
-up_asks_know net p b t now c v runs = go (cut_frames 12 known_run_size runs)
+up_asks_know : (js : Joins) (net : Net) (p b t now c : ℕ) (v : View) (runs : Known) → Each (UpAsks net p b t now v) (know_frames js b c p runs)
+up_asks_know js net p b t now c v runs = go (cut_frames (head_size js) known_run_size runs)
   where
-    go : (parts : List Known) → Each (UpAsks net p b t now v) (map (λ part. record { head = head b c p; body = body.Knowledge part [] }) parts)
+    go : (parts : List Known) → Each (UpAsks net p b t now v) (map (λ part. record { head = head b c p; body = body.Knowledge part js }) parts)
     go [] = tt
     go (x ∷ xs) = (λ e. absurd (false≢true e), go xs)
 
@@ -293,26 +294,26 @@ pub curiosity_ticks : (net : Net) (f : Facts) (p b now c : ℕ) (piece : Wanted)
 unfolding curiosity
 curiosity_ticks net f p b now c piece v log h child wt =
     record {
-      answered = λ t e n k. Has-front (TellsTick p b c t (pass net p c t (known_at v.know t))) (know_frames [] b c p reply) (up_frames net p b (asked (is_host net p b))) (
+      answered = λ t e n k. Has-front (TellsTick p b c t (pass net p c t (known_at v.know t))) (know_frames v.joins b c p reply) (up_frames net p b (asked (is_host net p b))) (
           let x = reply_C t e n in
-          subst (λ z. Has (TellsTick p b c t z) (know_frames [] b c p reply)) x (know_frames_tell p b c t reply (λ z. pass_not_Q net p c t (known_at v.know t) k (sym x ∙ z))));
-      told_F = λ t e n. Has-front (TellsTick p b c t F) (know_frames [] b c p reply) (up_frames net p b (asked (is_host net p b))) (
+          subst (λ z. Has (TellsTick p b c t z) (know_frames v.joins b c p reply)) x (know_frames_tell v.joins p b c t reply (λ z. pass_not_Q net p c t (known_at v.know t) k (sym x ∙ z))));
+      told_F = λ t e n. Has-front (TellsTick p b c t F) (know_frames v.joins b c p reply) (up_frames net p b (asked (is_host net p b))) (
           let x : known_at reply t ≡ F = ri.same_at t ∙ ap₂ (answer (pass net p c t (known_at v.know t))) (w_C t e ∙ n) e in
-          subst (λ z. Has (TellsTick p b c t z) (know_frames [] b c p reply)) x (know_frames_tell p b c t reply (λ z. F_not_Q (sym x ∙ z))));
+          subst (λ z. Has (TellsTick p b c t z) (know_frames v.joins b c p reply)) x (know_frames_tell v.joins p b c t reply (λ z. F_not_Q (sym x ∙ z))));
       wants = λ t. ap (λ z. wanted_at (get_or z at []) t) i.wants ∙ (stored_at t ∙ ap (λ z. curious (known_at v.know t) z (wanted_at piece t)) (ai.same_at t));
       stored = λ t e n k. ap (λ z. wanted_at (get_or z at []) t) i.wants ∙ stored_C t e n k;
       other = λ d m n. ap (λ z. get_or z (place_of d (net.children p b)) []) i.wants ∙ get_or-set_other v.wants at (place_of d (net.children p b)) (stored v.know w piece) [] (place_apart (net.children p b) c d child m n);
       asked = λ t host e n k out.
           let d = due_C t e n k out in
           let z : wanted_at (asked (is_host net p b)) t ≡ C = ap (λ q. wanted_at (asked q) t) host ∙ d in (
-            λ u up. Has-back (WantsTick p b u t C) (know_frames [] b c p reply) (up_frames net p b (asked (is_host net p b)))
+            λ u up. Has-back (WantsTick p b u t C) (know_frames v.joins b c p reply) (up_frames net p b (asked (is_host net p b)))
                 (subst (λ y. Has (WantsTick p b u t y) (up_frames net p b (asked (is_host net p b)))) z (up_frames_want net p b u t (asked (is_host net p b)) up (λ y. C_not_N (sym z ∙ y)))),
             moment t (gone t (know_Q t e n k)) ∙ ap (λ q. if is_C q then At now else asked_at v.asks t) z,
           );
       asks = λ t g. now_or (is_C (wanted_at (asked (is_host net p b)) t)) t (moment t g);
       asks_new = λ t g. elim (cases_Bool (is_C (wanted_at (asked (is_host net p b)) t))) [
         | inl e ↦ inr (λ u up. let z = C_of (wanted_at (asked (is_host net p b)) t) e in
-            Has-back (WantsTick p b u t C) (know_frames [] b c p reply) (up_frames net p b (asked (is_host net p b)))
+            Has-back (WantsTick p b u t C) (know_frames v.joins b c p reply) (up_frames net p b (asked (is_host net p b)))
             (subst (λ y. Has (WantsTick p b u t y) (up_frames net p b (asked (is_host net p b)))) z (up_frames_want net p b u t (asked (is_host net p b)) up (λ y. C_not_N (sym z ∙ y)))))
         | inr e ↦ inl (sym (ap (λ q. if q then At now else asked_at v.asks t) e) ∙ was t g)
       ];
@@ -320,9 +321,9 @@ curiosity_ticks net f p b now c piece v log h child wt =
         | inl e ↦ let z = asked_parts (is_host net p b) t (C_of (wanted_at (asked (is_host net p b)) t) e) in inr (z.0, ap (λ y. wanted_at (get_or y at []) t) i.wants ∙ stored_C t z.0 z.1 z.2)
         | inr e ↦ inl (sym (ap (λ q. if q then At now else asked_at v.asks t) e) ∙ was t g)
       ];
-      sends = λ t. Each-on (UpAsks net p b t now (curiosity net p b now c at piece v log).view) (know_frames [] b c p reply) (up_frames net p b (asked (is_host net p b))) (up_asks_know net p b t now c (curiosity net p b now c at piece v log).view reply)
+      sends = λ t. Each-on (UpAsks net p b t now (curiosity net p b now c at piece v log).view) (know_frames v.joins b c p reply) (up_frames net p b (asked (is_host net p b))) (up_asks_know v.joins net p b t now c (curiosity net p b now c at piece v log).view reply)
           (up_asks_up net p b t now (curiosity net p b now c at piece v log).view (asked (is_host net p b)) (asked_not_A (is_host net p b) t) (λ e. let z = asked_parts (is_host net p b) t e in moment t (gone t (know_Q t z.0 z.1 z.2)) ∙ ap (λ q. if is_C q then At now else asked_at v.asks t) e) (up_frames net p b (asked (is_host net p b))) (up_frames_sent net t p b (asked (is_host net p b)) (asked_runs (is_host net p b))));
-      no_A = λ t. Each-on (NoA t) (know_frames [] b c p reply) (up_frames net p b (asked (is_host net p b))) (no_A_know t b c p reply) (no_A_up net t p b (asked (is_host net p b)) (asked_runs (is_host net p b)) (asked_not_A (is_host net p b) t));
+      no_A = λ t. Each-on (NoA t) (know_frames v.joins b c p reply) (up_frames net p b (asked (is_host net p b))) (no_A_know v.joins t b c p reply) (no_A_up net t p b (asked (is_host net p b)) (asked_runs (is_host net p b)) (asked_not_A (is_host net p b) t));
       horizon = i.horizon;
       know = λ t. ⊎_elim (λ x. inl (x ∙ (fin t ∙ ap (λ z. if is_consolidated_by keeps v.horizon z t then F else known_at v.know t) (sym i.wants)))) (λ x. inr x) (i.each t);
     }

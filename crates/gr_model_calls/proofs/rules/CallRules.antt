@@ -14,6 +14,7 @@ use Rattle.gr_frame.specs.Bytes.{cut_frames}
 use Rattle.gr_tick.specs.Runs.{AreRuns, IsNone, first_bottom_from, zip_runs, points}
 use Rattle.gr_know.specs.Values.{Known, known_at, is_Q, join_K, same_K}
 use Rattle.gr_curio.specs.Values.{Wanted, wanted_at, asked_at, is_C, is_A, is_outstanding}
+use Rattle.gr_event.specs.Joins.{Joins, longer}
 use Rattle.gr_model.specs.Net.{Net, is_host, keeps_horizon, pass, wanted_below}
 use Rattle.gr_model.specs.Broker.{View, Log, know_frames, expect_frame, is_consolidated_by, any_C, all_points, consolidated, finished, is_F, kept_view, horizon_after, data_ticks, delivery_lines, new_ticks, forward, still_wanted, forward_frames, forward_wants, learn, due, noted, upward, acknowledged, answer, answers, curious, stored, curiosity, asking, covers, expect_frames, expect, wake_below, wanted_at_wake, place_of}
 use Rattle.gr_model.specs.Tree.{IsDistinct, IsPlace}
@@ -56,10 +57,10 @@ turns_by_child g (c ∷ cs) (w ∷ ws) l d =
     (turns_by_child g cs ws l d.1 ∙ flat_map_same (λ x. g x (get_or ws (place_of x cs) [])) (λ x. g x (get_or (w ∷ ws) (place_of x (c ∷ cs)) [])) cs
     (λ x m. ap (λ q. g x (get_or (w ∷ ws) (if q then 0 else suc (place_of x cs)) [])) (sym (apart c x cs d.0 m))))
 
-forwarded_by_turn : (net : Net) (p b : ℕ) (new : Known) (cs : List ℕ) (ws : List Wanted) → forward_frames [] net p b new cs ws ≡ by_turn (λ c w. know_frames [] b c p (forward net p c w new)) cs ws
-forwarded_by_turn net p b new [] ws = refl
-forwarded_by_turn net p b new (c ∷ cs) [] = refl
-forwarded_by_turn net p b new (c ∷ cs) (w ∷ ws) = ap (λ x. know_frames [] b c p (forward net p c w new) ++ x) (forwarded_by_turn net p b new cs ws)
+forwarded_by_turn : (js : Joins) (net : Net) (p b : ℕ) (new : Known) (cs : List ℕ) (ws : List Wanted) → forward_frames js net p b new cs ws ≡ by_turn (λ c w. know_frames js b c p (forward net p c w new)) cs ws
+forwarded_by_turn js net p b new [] ws = refl
+forwarded_by_turn js net p b new (c ∷ cs) [] = refl
+forwarded_by_turn js net p b new (c ∷ cs) (w ∷ ws) = ap (λ x. know_frames js b c p (forward net p c w new) ++ x) (forwarded_by_turn js net p b new cs ws)
 
 expected_by_turn : (p b tick : ℕ) (cs : List ℕ) (ws : List Wanted) → expect_frames p b tick cs ws ≡ by_turn (λ c w. if covers w tick then [] else expect_frame b c p tick ∷ []) cs ws
 expected_by_turn p b tick [] ws = refl
@@ -138,9 +139,9 @@ knows_by net f p b at know u r a e =
 -- New ticks
 
 -- where nothing stands no frame is made
-nothing_sent : (b c p : ℕ) (x : Known) → AreRuns Q x → ((t : ℕ) → known_at x t ≡ Q) → know_frames [] b c p x ≡ []
+nothing_sent : (js : Joins) (b c p : ℕ) (x : Known) → AreRuns Q x → ((t : ℕ) → known_at x t ≡ Q) → know_frames js b c p x ≡ []
 unfolding cut_frames
-nothing_sent b c p x r h = ap (know_frames [] b c p) (runs_equal Q 1 1 x [] r tt h)
+nothing_sent js b c p x r h = ap (know_frames js b c p) (runs_equal Q 1 1 x [] r tt h)
 
 -- learning a piece obeys the rule of new ticks
 pub new_ticks_rule : (net : Net) (f : Facts) (p b : ℕ) (piece : Known) (v : View) (log : Log) → IsPlace net p b → IsDistinct (net.children p b) → ViewTrue net f p b v → KnowsTruth net f p b piece → NewTicks net p b piece v log (learn net p b piece v log)
@@ -163,8 +164,8 @@ new_ticks_rule net f p b piece v log place distinct h k =
     record {
       sent = λ c. forward net p c (wants_from net p b v c) new;
       sent_is = λ c m. record { runs = (sends c m).runs; each = λ t. (sends c m).same_at t ∙ ap (λ x. if is_A (want_at net p b v c t) then Q else pass net p c t x) (n.same_at t) };
-      frames = forwarded_by_turn net p b new (net.children p b) v.wants ∙ turns_by_child (λ c w. know_frames [] b c p (forward net p c w new)) (net.children p b) v.wants long distinct;
-      none = λ c m h. nothing_sent b c p (forward net p c (wants_from net p b v c) new) (sends c m).runs h;
+      frames = forwarded_by_turn v.joins net p b new (net.children p b) v.wants ∙ turns_by_child (λ c w. know_frames v.joins b c p (forward net p c w new)) (net.children p b) v.wants long distinct;
+      none = λ c m h. nothing_sent v.joins b c p (forward net p c (wants_from net p b v c) new) (sends c m).runs h;
       wants = λ c m.
           let q = quenched-is (wants_from net p b v c) (forward net p c (wants_from net p b v c) new) (wants_true_at net f p (net.children p b) v.wants c h.wants m).runs (sends c m).runs in
           let e : get_or (kept_view net p b u).wants (place_of c (net.children p b)) [] ≡ still_wanted (wants_from net p b v c) (forward net p c (wants_from net p b v c) new) = ap (λ z. get_or z (place_of c (net.children p b)) []) i.wants ∙ quenched_by_child net p c new (net.children p b) v.wants long m in

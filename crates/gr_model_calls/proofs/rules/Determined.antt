@@ -11,6 +11,7 @@ use Rattle.gr_curio.specs.declared.values.Q3.TheVariants.{N, A}
 use Rattle.gr_curio.specs.declared.asks.Moment.{Moment}
 use Rattle.gr_curio.specs.declared.asks.Moment.TheVariants.{Never, At}
 use Rattle.gr_frame.specs.declared.Frame.{Frame}
+use Rattle.gr_event.specs.Joins.{has_joined}
 use Rattle.gr_model.specs.declared.report.Report.{Report}
 use Rattle.gr_model.specs.declared.report.Report.TheVariants as line
 use Rattle.gr_tick.specs.declared.run.Run.{Run}
@@ -18,9 +19,9 @@ use Rattle.gr_tick.specs.Runs.{AreRunsFrom}
 use Rattle.gr_know.specs.Values.{Known, known_at, is_Q, is_D, join_K}
 use Rattle.gr_curio.specs.Values.{Wanted, Asked, wanted_at, asked_at, is_C}
 use Rattle.gr_model.specs.Net.{Net, keeps_horizon, is_host}
-use Rattle.gr_model.specs.Broker.{View, Log, Outcome, max_tick, is_F, know_frames, expect_frame, up_frames, is_consolidated_by, data_count, place_of, delivery_lines, with_event, with_mark, with_cut}
+use Rattle.gr_model.specs.Broker.{with_join, view_joined, View, Log, Outcome, max_tick, is_F, know_frames, expect_frame, up_frames, is_consolidated_by, data_count, place_of, delivery_lines, with_event, with_mark, with_cut}
 use Rattle.gr_model.specs.Tree.{IsNet, IsDistinct}
-use Rattle.gr_model_calls.specs.Rules.{HasKnown, HasWanted, HasAsked, IsChild, wants_from, Moves, Forgets, Knows, DeliversOn, NewTicks, ChildAsks, Asks, wanted_by_age, wanted_upto, SendsExpect, Expects, IsConsolidatedUpto, HostWakes, Wakes, Publishes, RulesDetermine}
+use Rattle.gr_model_calls.specs.Rules.{TakesJoin, HasKnown, HasWanted, HasAsked, IsChild, wants_from, Moves, Forgets, Knows, DeliversOn, NewTicks, ChildAsks, Asks, wanted_by_age, wanted_upto, SendsExpect, Expects, IsConsolidatedUpto, HostWakes, Wakes, Publishes, RulesDetermine}
 use Rattle.gr_tick.proofs.RunLaws.{runs_equal, value_at-in, value_at-below, value_at-above, value_at-start}
 use Rattle.gr_model_calls.proofs.calls.Told.{said_equal}
 use Rattle.gr_model_calls.proofs.rules.CallRules.{flat_map_same, apart}
@@ -243,7 +244,7 @@ new_ticks_same : (net : Net) (p b : ℕ) (piece : Known) (v : View) (log : Log) 
 new_ticks_same net p b piece v log o u distinct a c =
     outcome_same o u (view_same o.view u.view know ws (asked_same _ _ o.view.asks u.view.asks a.asks c.asks (λ t. ap (λ k. kept_moment net p b (known_at k t) (asked_at v.asks t)) know)) hz (a.joins_same ∙ sym c.joins_same)) (a.log_same ∙ sym c.log_same)
     (tells_same net p b v.horizon o.view.horizon joined o.lines u.lines a.lines (subst (λ x. DeliversOn net p b v.horizon x joined u.lines) (sym hz) c.lines))
-    (a.frames ∙ (flat_map_same (λ d. know_frames [] b d p (a.sent d)) (λ d. know_frames [] b d p (c.sent d)) (net.children p b) (λ d m. ap (know_frames [] b d p) (sents d m)) ∙ sym c.frames))
+    (a.frames ∙ (flat_map_same (λ d. know_frames v.joins b d p (a.sent d)) (λ d. know_frames v.joins b d p (c.sent d)) (net.children p b) (λ d m. ap (know_frames v.joins b d p) (sents d m)) ∙ sym c.frames))
   where
     joined : ℕ → K
     joined t = join_K (known_at v.know t) (known_at piece t)
@@ -264,7 +265,7 @@ new_ticks_same net p b piece v log o u distinct a c =
 child_asks_same : (net : Net) (p b now e : ℕ) (piece : Wanted) (v : View) (log : Log) (o u : Outcome) → IsDistinct (net.children p b) → ChildAsks net p b now e piece v log o → ChildAsks net p b now e piece v log u → o ≡ u
 child_asks_same net p b now e piece v log o u distinct a c =
     outcome_same o u (view_same o.view u.view know ws asks hz (a.joins_same ∙ sym c.joins_same)) (a.log_same ∙ sym c.log_same) (a.lines ∙ sym c.lines)
-    (a.frames ∙ (ap₂ (λ x y. know_frames [] b e p x ++ up_frames net p b y) replies asked ∙ sym c.frames))
+    (a.frames ∙ (ap₂ (λ x y. know_frames v.joins b e p x ++ up_frames net p b y) replies asked ∙ sym c.frames))
   where
     replies : a.reply ≡ c.reply
     replies = known_same _ _ a.reply c.reply a.reply_is c.reply_is (λ t. refl)
@@ -412,6 +413,24 @@ publishes_same net p b now number e v log o u distinct a c =
               a.logged x l ∙ (ap (λ (z : Outcome). let w : Outcome = record { view = z.view; log = z.log; lines = line.Logged p number tick ∷ z.lines; frames = z.frames } in w) same ∙ sym (c.logged x l))
         ]
 
+joins_same : (net : Net) (p b now s : ℕ) (v : View) (log : Log) (o u : Outcome) → IsDistinct (net.children p b) → TakesJoin net p b now s v log o → TakesJoin net p b now s v log u → o ≡ u
+joins_same net p b now s v log o u distinct a c =
+    elim (cases_Bool (has_joined log.joins s)) [
+      | inl e ↦ a.already e ∙ sym (c.already e)
+      | inr e ↦ elim (cases_lt max_tick tick) [
+        | inl l ↦ a.exhausted e l ∙ sym (c.exhausted e l)
+        | inr l ↦
+            let same : a.learned ≡ c.learned = new_ticks_same net p b a.silent (view_joined log s now v) (with_join log tick s) a.learned c.learned distinct (a.learns e l) (subst (λ z. NewTicks net p b z (view_joined log s now v) (with_join log tick s) c.learned) (sym silent) (c.learns e l)) in
+            a.logged e l ∙ (ap (λ (z : Outcome). let w : Outcome = record { view = z.view; log = z.log; lines = line.Joined s p tick ∷ z.lines; frames = z.frames } in w) same ∙ sym (c.logged e l))
+      ]
+    ]
+  where
+    tick : ℕ
+    tick = max (suc log.settled) now
+
+    silent : a.silent ≡ c.silent
+    silent = known_same _ _ a.silent c.silent a.silent_is c.silent_is (λ t. refl)
+
 -- nothing is left open, in every tree
 pub determined : (net : Net) (p b : ℕ) → IsNet net → p < net.publishers → b < net.brokers → RulesDetermine net p b
 determined net p b n i j = let d = n.children_once p b i j in record {
@@ -420,4 +439,5 @@ determined net p b n i j = let d = n.children_once p b i j in record {
   expects = λ now tick v log o u a c. expects_same net p b now tick v log o u a c;
   wakes = λ now v log o u a c. wakes_same net p b now v log o u d a c;
   publishes = λ now number e v log o u a c. publishes_same net p b now number e v log o u d a c;
+  joins = λ now s v log o u a c. joins_same net p b now s v log o u d a c;
 }

@@ -11,10 +11,10 @@ use Rattle.gr_curio.specs.Values.{Wanted, wanted_at, is_A, is_C}
 use Rattle.gr_model.specs.declared.report.Report.{Report}
 use Rattle.gr_model.specs.declared.report.Report.TheVariants as line
 use Rattle.gr_model_calls.specs.Said.{said_at, TicksRise}
-use Rattle.gr_model.specs.Net.{Net, pass}
+use Rattle.gr_model.specs.Net.{Net, with_wants, pass}
 use Rattle.gr_model.specs.Broker.{View, Log, Outcome, delivery_lines, got_line}
 use Rattle.gr_model_calls.specs.Rules.{HasKnown, Forgets, Knows, DeliversOn, NewTicks, ChildAsks, want_at, event_of}
-use Rattle.gr_model_calls.proofs.calls.Erased.{Wants, with_wants, Agree, pass_agree, filter_agree, new_event, join_event}
+use Rattle.gr_model_calls.proofs.calls.Erased.{Wants, Agree, pass_agree, filter_agree, new_event, join_event}
 
 forgets_on : (net : Net) (f g : Wants) (p b h : ℕ) (full kept : Known) → Forgets (with_wants net f) p b h full kept → Forgets (with_wants net g) p b h full kept
 forgets_on net f g p b h full kept x = record { last = x.last; at_host = x.at_host; within = x.within; kept_is = x.kept_is; needed = x.needed; enough = x.enough }

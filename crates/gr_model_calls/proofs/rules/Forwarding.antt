@@ -14,9 +14,10 @@ use Rattle.gr_frame.specs.declared.Frame.{Frame}
 use Rattle.gr_tick.specs.Runs.{AreRuns, value_at, zip_runs, is_in}
 use Rattle.gr_know.specs.Values.{Known, known_at, is_Q, join_K, same_K}
 use Rattle.gr_curio.specs.Values.{Wanted, wanted_at, asked_at, is_C, is_A}
+use Rattle.gr_event.specs.Joins.{Joins, longer}
 use Rattle.gr_model.specs.Net.{Net, is_host, keeps_horizon, pass, wanted_below}
 use Rattle.gr_model.specs.Broker.{View, Log, Outcome, know_frames, want_frames, consolidated, is_consolidated_by, finished, forward, new_ticks, forward_frames, forward_wants, learn, up_frames, place_of, head}
-use Rattle.gr_frame.specs.Bytes.{cut_from, cut_frames, known_run_size, wanted_run_size}
+use Rattle.gr_frame.specs.Bytes.{head_size, cut_from, cut_frames, known_run_size, wanted_run_size}
 use Rattle.gr_model_calls.specs.Truth.{Facts, KnowsTruth, AllWantTruth}
 use Rattle.gr_model.specs.Tree.{IsPlace}
 use Rattle.gr_model_calls.specs.Fits.{ViewTrue}
@@ -101,10 +102,10 @@ pub record WantsTick (p from to t : ℕ) (q : Q3) (f : Frame) : Type 0 where
   pub body : WantsBody t q f.body
 
 -- each known tick of a piece is in one of the frames that it is cut into
-pub know_frames_tell : (p from to t : ℕ) (runs : Known) → known_at runs t ≢ Q → Has (TellsTick p from to t (known_at runs t)) (know_frames [] from to p runs)
-know_frames_tell p from to t runs n =
-    Has-map (IsThere Q t runs) (TellsTick p from to t (known_at runs t)) (λ part. record { head = head from to p; body = body.Knowledge part [] }) (cut_frames 12 known_run_size runs)
-    (λ part e. record { from_is = refl; to_is = refl; publisher = refl; body = e }) (cut_frames_has Q 12 known_run_size t runs n)
+pub know_frames_tell : (js : Joins) (p from to t : ℕ) (runs : Known) → known_at runs t ≢ Q → Has (TellsTick p from to t (known_at runs t)) (know_frames js from to p runs)
+know_frames_tell js p from to t runs n =
+    Has-map (IsThere Q t runs) (TellsTick p from to t (known_at runs t)) (λ part. record { head = head from to p; body = body.Knowledge part js }) (cut_frames (head_size js) known_run_size runs)
+    (λ part e. record { from_is = refl; to_is = refl; publisher = refl; body = e }) (cut_frames_has Q (head_size js) known_run_size t runs n)
 
 pub want_frames_want : (p from to t : ℕ) (runs : Wanted) → wanted_at runs t ≢ N → Has (WantsTick p from to t (wanted_at runs t)) (want_frames from to p runs)
 want_frames_want p from to t runs n =
@@ -148,21 +149,21 @@ not_Q_of F h = refl
 abbrev pub wants_of : Net → ℕ → ℕ → View → ℕ → Wanted
 wants_of net p b v c = get_or v.wants (place_of c (net.children p b)) []
 
-forward_tells : (net : Net) (f : Facts) (p b c t : ℕ) (new : Known) (cs : List ℕ) (ws : List Wanted) → AllWantTruth net f p cs ws → AreRuns Q new → list_any (λ x. nat_eq x c) cs ≡ true → known_at new t ≢ Q → wanted_at (get_or ws (place_of c cs) []) t ≢ A → Has (TellsTick p b c t (pass net p c t (known_at new t))) (forward_frames [] net p b new cs ws)
-forward_tells net f p b c t new [] ws a r m n k = absurd (false≢true m)
-forward_tells net f p b c t new (d ∷ cs) [] a r m n k = absurd a
-forward_tells net f p b c t new (d ∷ cs) (w ∷ ws) a r m n k =
+forward_tells : (js : Joins) (net : Net) (f : Facts) (p b c t : ℕ) (new : Known) (cs : List ℕ) (ws : List Wanted) → AllWantTruth net f p cs ws → AreRuns Q new → list_any (λ x. nat_eq x c) cs ≡ true → known_at new t ≢ Q → wanted_at (get_or ws (place_of c cs) []) t ≢ A → Has (TellsTick p b c t (pass net p c t (known_at new t))) (forward_frames js net p b new cs ws)
+forward_tells js net f p b c t new [] ws a r m n k = absurd (false≢true m)
+forward_tells js net f p b c t new (d ∷ cs) [] a r m n k = absurd a
+forward_tells js net f p b c t new (d ∷ cs) (w ∷ ws) a r m n k =
     elim (cases_Bool (nat_eq d c)) [
       | inl e ↦
           let k1 : wanted_at w t ≢ A = subst (λ q. wanted_at (get_or (w ∷ ws) (if q then 0 else suc (place_of c cs)) []) t ≢ A) e k in
           let v : known_at (forward net p d w new) t ≡ pass net p d t (known_at new t) = (forward-is net p d w new a.0.runs r).same_at t ∙ ap (λ q. if q then Q else pass net p d t (known_at new t)) (not_A (wanted_at w t) k1) in
-          Has-front (TellsTick p b c t (pass net p c t (known_at new t))) (know_frames [] b d p (forward net p d w new)) (forward_frames [] net p b new cs ws)
-          (subst (λ x. Has (TellsTick p b x t (pass net p x t (known_at new t))) (know_frames [] b d p (forward net p d w new))) (eqb-true d c e)
-          (subst (λ x. Has (TellsTick p b d t x) (know_frames [] b d p (forward net p d w new))) v (know_frames_tell p b d t (forward net p d w new) (λ x. pass_not_Q net p d t (known_at new t) n (sym v ∙ x)))))
+          Has-front (TellsTick p b c t (pass net p c t (known_at new t))) (know_frames js b d p (forward net p d w new)) (forward_frames js net p b new cs ws)
+          (subst (λ x. Has (TellsTick p b x t (pass net p x t (known_at new t))) (know_frames js b d p (forward net p d w new))) (eqb-true d c e)
+          (subst (λ x. Has (TellsTick p b d t x) (know_frames js b d p (forward net p d w new))) v (know_frames_tell js p b d t (forward net p d w new) (λ x. pass_not_Q net p d t (known_at new t) n (sym v ∙ x)))))
       | inr e ↦
           let k1 : wanted_at (get_or ws (place_of c cs) []) t ≢ A = subst (λ q. wanted_at (get_or (w ∷ ws) (if q then 0 else suc (place_of c cs)) []) t ≢ A) e k in
-          Has-back (TellsTick p b c t (pass net p c t (known_at new t))) (know_frames [] b d p (forward net p d w new)) (forward_frames [] net p b new cs ws)
-          (forward_tells net f p b c t new cs ws a.1 r (subst (λ q. (q || list_any (λ x. nat_eq x c) cs) ≡ true) e m) n k1)
+          Has-back (TellsTick p b c t (pass net p c t (known_at new t))) (know_frames js b d p (forward net p d w new)) (forward_frames js net p b new cs ws)
+          (forward_tells js net f p b c t new cs ws a.1 r (subst (λ q. (q || list_any (λ x. nat_eq x c) cs) ≡ true) e m) n k1)
     ]
 
 -- what a child's curiosity is at a tick where something new was learned of it, or nothing
@@ -214,7 +215,7 @@ learn_ticks net f p b piece v log place h k =
     record {
       forwarded = λ c t m q x a.
           let e : known_at new t ≡ known_at piece t = n.same_at t ∙ ap (λ z. if z then known_at piece t else Q) (is_Q_of (known_at v.know t) q) in
-          subst (λ z. Has (TellsTick p b c t (pass net p c t z)) (forward_frames [] net p b new (net.children p b) v.wants)) e (forward_tells net f p b c t new (net.children p b) v.wants h.wants n.runs m (λ z. x (sym e ∙ z)) a);
+          subst (λ z. Has (TellsTick p b c t (pass net p c t z)) (forward_frames v.joins net p b new (net.children p b) v.wants)) e (forward_tells v.joins net f p b c t new (net.children p b) v.wants h.wants n.runs m (λ z. x (sym e ∙ z)) a);
       wants = λ c t m. ap (λ z. wanted_at (get_or z (place_of c (net.children p b)) []) t) i.wants ∙ (forward_quenches net f p c t new (net.children p b) v.wants h.wants n.runs m ∙ ap (λ z. quenched_at net p c t z (wanted_at (wants_of net p b v c) t)) (n.same_at t));
       horizon = i.horizon;
       asks = λ t e. moment_kept net p b u (learn net p b piece v log).view i h.asks t e;

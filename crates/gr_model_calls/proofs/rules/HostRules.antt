@@ -1,5 +1,5 @@
 -- The host's calls and the receipt of a frame obey their rules
-use Rattle.std.proofs.Common.{◌≡◌, ◌≢◌, inl, inr, ℕ, suc, ◌+◌, ◌-◌, ◌≤◌, ◌<◌, min, max, Bool, true, false, [], ◌∷◌, ◌++◌, refl, sym, ap, ap₂, ◌∙◌, subst, arith, le_refl}
+use Rattle.std.proofs.Common.{◌≡◌, ◌≢◌, ◌⊎◌, inl, inr, ℕ, suc, ◌+◌, ◌-◌, ◌≤◌, ◌<◌, min, max, Bool, true, false, [], ◌∷◌, ◌++◌, refl, sym, ap, ap₂, ◌∙◌, subst, arith, le_refl}
 use Rattle.std.specs.Prelude.{nat_le, nat_lt, if◌then◌else◌}
 use Rattle.std.proofs.lemmas.Bool.{cases_Bool, cases_lt, cases_eq, true≢false, eq-eqb, ne_eqb, leb-true, le-leb, lt-leb, lt-ltb, le-ltb, both_ways}
 use Rattle.gr_event.specs.declared.event.Event.{Event}
@@ -8,20 +8,24 @@ use Rattle.gr_curio.specs.declared.values.Q3.TheVariants.{N, A}
 use Rattle.gr_frame.specs.declared.Body.{Body}
 use Rattle.gr_frame.specs.declared.Body.TheVariants as body
 use Rattle.gr_frame.specs.declared.Frame.{Frame}
+use Rattle.gr_event.specs.Joins.{Joins, longer}
+use Rattle.gr_model_calls.proofs.calls.Held.{grows_not, fewer, both, own}
+use Rattle.gr_event.specs.Joins.{has_joined}
+use Rattle.gr_model_calls.specs.Truth.{Holds, HasEvent, Grows}
 use Rattle.gr_model.specs.declared.report.Report.TheVariants as line
 use Rattle.gr_tick.specs.Runs.{AreRuns, first_bottom_from}
 use Rattle.gr_know.specs.Values.{Known, known_at}
 use Rattle.gr_model.specs.Net.{Net, is_host, keeps_horizon}
-use Rattle.gr_model.specs.Broker.{View, Log, Outcome, is_consolidated_by, consolidated, learn, max_tick, expect_frames, place_of, publish, silence, with_event, with_mark, with_cut, marking, cutting, done_upto, wake_host, wake_below, wake, receive, clashes, curiosity, expect, published}
+use Rattle.gr_model.specs.Broker.{joined_at, with_joins, with_join, view_joined, joining, drops, View, Log, Outcome, is_consolidated_by, consolidated, learn, max_tick, expect_frames, place_of, publish, silence, with_event, with_mark, with_cut, marking, cutting, done_upto, wake_host, wake_below, wake, receive, clashes, curiosity, expect, published}
 use Rattle.gr_model.specs.Tree.{IsNet}
 use Rattle.gr_model_calls.specs.Truth.{Facts, KnowsTruth, AllWantTruth}
 use Rattle.gr_model_calls.specs.Fits.{facts, LogFits, ViewTrue, BodyTrue, BodyFits, FrameFits}
-use Rattle.gr_model_calls.specs.Rules.{HasKnown, NewTicks, Asks, wanted_by_age, SendsExpect, unmoved, silence_upto, IsConsolidatedUpto, HostWakes, Wakes, event_upto, Publishes, Comes}
+use Rattle.gr_model_calls.specs.Rules.{TakesJoin, HasKnown, NewTicks, Asks, wanted_by_age, SendsExpect, unmoved, silence_upto, IsConsolidatedUpto, HostWakes, Wakes, event_upto, Publishes, Comes}
 use Rattle.gr_model_calls.proofs.calls.HostCases.{marking_cases}
 use Rattle.gr_tick.proofs.RunLaws.{first_bottom_from-is, value_at-in, value_at-below, value_at-above}
-use Rattle.gr_model_calls.proofs.calls.CallTruth.{ViewTrue-later, done_runs, done_values}
+use Rattle.gr_model_calls.proofs.calls.CallTruth.{ViewTrue-joins, ViewTrue-later, done_runs, done_values}
 use Rattle.gr_model_calls.proofs.calls.Calls.{ComeOn, run_at, said_more, silence_true, silence_in, silence_above, nothing_true, published_piece, later_facts, marking_call}
-use Rattle.gr_model_calls.proofs.runs.Clash.{true_pieces}
+use Rattle.gr_model_calls.proofs.runs.Clash.{nothing_drops}
 use Rattle.gr_model_calls.proofs.rules.CallRules.{new_ticks_rule, wake_below_rule, expects_on, expects_rule, child_asks_rule}
 
 -- Pieces of the host
@@ -88,7 +92,7 @@ marked_rule net p b now v log reached n i j fit h l =
     piece = silence (suc log.settled) now []
 
     view_true : ViewTrue net f p b v
-    view_true = ViewTrue-later net (facts log reached) f p b v (later_facts log new reached reached (omega (arith, l)) (λ t x. refl) (λ s. le_refl (reached s))) h
+    view_true = ViewTrue-later net (facts log reached) f p b v (later_facts log new reached reached (omega (arith, l)) (λ t x. refl) (λ s. le_refl (reached s)) (grows_not log.joins log.settled)) h
 
     piece_true : KnowsTruth net f p b piece
     piece_true = silence_true net f p b (suc log.settled) now [] (omega arith) (le_refl now) (λ t x y. fit.past t x) (nothing_true net f p b) tt tt
@@ -158,23 +162,23 @@ cut_told net p b v log = go (nat_lt log.cut (cut_at net p b v log)) refl
     go false e = ap (λ q. if q then line.Cut p log.cut ∷ [] else []) (le-ltb log.cut log.cut (le_refl log.cut))
 
 -- what the children have is true after the mark too
-marked_wants : (net : Net) (p b now : ℕ) (v : View) (log : Log) (reached : ℕ → ℕ) → IsNet net → p < net.publishers → b < net.brokers → is_host net p b ≡ true → LogFits log → ViewTrue net (facts log reached) p b v →
+marked_wants : (net : Net) (p b now : ℕ) (v : View) (log : Log) (reached : ℕ → ℕ) → IsNet net → p < net.publishers → b < net.brokers → is_host net p b ≡ true → LogFits log → ViewTrue net (facts log reached) p b v → v.joins ≡ log.joins →
     (f : Facts) × AllWantTruth net f p (net.children p b) (marking net p b now v log).view.wants
-marked_wants net p b now v log reached n i j host fit h =
+marked_wants net p b now v log reached n i j host fit h js =
     let m = marking net p b now v log in
-    let c = marking_call net p b now v log reached n i j host fit h in
+    let c = marking_call net p b now v log reached n i j host fit h js in
     let later : ℕ → ℕ = λ s. max (reached s) m.view.horizon in
     let on : ComeOn net b m.view.horizon reached later = record { on = λ s. omega arith; here = λ s x. omega arith } in
     (facts m.log later, (c.told later on).view.wants)
 
-host_wakes_rule : (net : Net) (p b now : ℕ) (v : View) (log : Log) (reached : ℕ → ℕ) → IsNet net → 1 ≤ net.quiet → p < net.publishers → b < net.brokers → is_host net p b ≡ true → LogFits log → ViewTrue net (facts log reached) p b v → HostWakes net p b now v log (wake_host net p b now v log)
+host_wakes_rule : (net : Net) (p b now : ℕ) (v : View) (log : Log) (reached : ℕ → ℕ) → IsNet net → 1 ≤ net.quiet → p < net.publishers → b < net.brokers → is_host net p b ≡ true → LogFits log → ViewTrue net (facts log reached) p b v → v.joins ≡ log.joins → HostWakes net p b now v log (wake_host net p b now v log)
 unfolding wake_host
-host_wakes_rule net p b now v log reached n quiet i j host fit h =
+host_wakes_rule net p b now v log reached n quiet i j host fit h js =
     let m = marking net p b now v log in
     let a = cut_at net p b m.view m.log in
     let new = cutting net p b m.view m.log in
     let same = marked_cut net p b now v log in
-    let w = marked_wants net p b now v log reached n i j host fit h in
+    let w = marked_wants net p b now v log reached n i j host fit h js in
     let fs = expect_frames p b new.settled (net.children p b) m.view.wants in
     record {
       silent = silence (suc log.settled) now [];
@@ -196,10 +200,10 @@ host_wakes_rule net p b now v log reached n quiet i j host fit h =
     }
 
 -- each wake obeys its rule
-pub wakes_rule : (net : Net) (p b now : ℕ) (v : View) (log : Log) (reached : ℕ → ℕ) → IsNet net → 1 ≤ net.quiet → p < net.publishers → b < net.brokers → LogFits log → ViewTrue net (facts log reached) p b v → Wakes net p b now v log (wake net p b now v log)
+pub wakes_rule : (net : Net) (p b now : ℕ) (v : View) (log : Log) (reached : ℕ → ℕ) → IsNet net → 1 ≤ net.quiet → p < net.publishers → b < net.brokers → LogFits log → ViewTrue net (facts log reached) p b v → (is_host net p b ≡ true → v.joins ≡ log.joins) → Wakes net p b now v log (wake net p b now v log)
 unfolding wake
-wakes_rule net p b now v log reached n quiet i j fit h = record {
-  host = λ e. subst (λ q. HostWakes net p b now v log (elim q [ true ↦ wake_host net p b now v log | false ↦ wake_below net p b now v log ])) (sym e) (host_wakes_rule net p b now v log reached n quiet i j e fit h);
+wakes_rule net p b now v log reached n quiet i j fit h js = record {
+  host = λ e. subst (λ q. HostWakes net p b now v log (elim q [ true ↦ wake_host net p b now v log | false ↦ wake_below net p b now v log ])) (sym e) (host_wakes_rule net p b now v log reached n quiet i j e fit h (js e));
   below = λ e. subst (λ q. Asks net p b now (wanted_by_age net p b now v) [] v log (elim q [ true ↦ wake_host net p b now v log | false ↦ wake_below net p b now v log ])) (sym e) (wake_below_rule net (facts log reached) p b now v log h);
 }
 
@@ -214,7 +218,7 @@ publishes_rule net p b now number e v log reached n i j host fit h =
     let f : Facts = facts new reached in
     let piece = silence (suc log.settled) (tick - 1) (run_at tick tick (D e) ∷ []) in
     let piece_true : KnowsTruth net f p b piece = published_piece net p b tick e log reached host fit (omega arith) in
-    let view_true : ViewTrue net f p b v = ViewTrue-later net (facts log reached) f p b v (later_facts log new reached reached (omega arith) (λ t x. said_more log.events tick t e (λ q. omega (arith, q, x))) (λ s. le_refl (reached s))) h in
+    let view_true : ViewTrue net f p b v = ViewTrue-later net (facts log reached) f p b v (later_facts log new reached reached (omega arith) (λ t x. said_more log.events tick t e (λ q. omega (arith, q, x))) (λ s. le_refl (reached s)) (grows_not log.joins log.settled)) h in
     record {
       already = λ l. rw (publish, published, le-leb number log.last l) refl;
       gap = λ l. rw (publish, published, lt-leb number log.last (omega (arith, l)), lt-ltb (suc log.last) number l) refl;
@@ -224,6 +228,29 @@ publishes_rule net p b now number e v log reached n i j host fit h =
       learned = learn net p b piece v new;
       learns = λ x l. new_ticks_rule net f p b piece v new (n.place p b i j) (n.children_once p b i j) view_true piece_true;
       logged = λ x l. rw (publish, published, lt-leb number log.last (omega (arith, x)), le-ltb (suc log.last) number (omega (arith, x)), le-ltb max_tick tick l) refl;
+    }
+
+-- A join
+
+-- each join at its host obeys its rule
+pub joins_rule : (net : Net) (p b now s : ℕ) (v : View) (log : Log) (reached : ℕ → ℕ) → IsNet net → p < net.publishers → b < net.brokers → LogFits log → ViewTrue net (facts log reached) p b v → TakesJoin net p b now s v log (joining net p b now s v log)
+unfolding joining joined_at
+joins_rule net p b now s v log reached n i j fit h =
+    let tick = max (suc log.settled) now in
+    let new = with_join log tick s in
+    let f : Facts = facts new reached in
+    let piece = silence (suc log.settled) tick [] in
+    let grows : Grows log.joins new.joins log.settled = (record { subscriber = s; tick = tick } ∷ [], refl, (omega arith, tt)) in
+    let piece_true : KnowsTruth net f p b piece = silence_true net f p b (suc log.settled) tick [] (omega arith) (le_refl tick) (λ t x y. fit.past t x) (nothing_true net f p b) tt tt in
+    let view_true : ViewTrue net f p b (with_joins v new.joins) = ViewTrue-joins net f p b v new.joins (ViewTrue-later net (facts log reached) f p b v (later_facts log new reached reached (omega arith) (λ t x. refl) (λ s. le_refl (reached s)) grows) h) (own new.joins (HasEvent v.know)) in
+    record {
+      already = λ e. rw (joining, joined_at, e) refl;
+      exhausted = λ e l. rw (joining, joined_at, e, lt-ltb max_tick tick l) refl;
+      silent = piece;
+      silent_is = silent_is log.settled tick;
+      learned = learn net p b piece (with_joins v new.joins) new;
+      learns = λ e l. new_ticks_rule net f p b piece (with_joins v new.joins) new (n.place p b i j) (n.children_once p b i j) view_true piece_true;
+      logged = λ e l. rw (joining, joined_at, e, le-ltb max_tick tick l) refl;
     }
 
 -- A frame
@@ -240,16 +267,17 @@ comes_rule net now f v log reached n i fits told h = go f.body told fits.body
     b : ℕ
     b = f.head.to
 
-    learned : (runs : Known) → KnowsTruth net (facts log reached) p b runs → (q : Bool) → q ≡ false → NewTicks net p b runs v log (elim q [ true ↦ record { view = v; log = log; lines = []; frames = [] } | false ↦ learn net p b runs v log ])
-    learned runs k true e = absurd (true≢false e)
-    learned runs k false e = new_ticks_rule net (facts log reached) p b runs v log (n.place p b i fits.to_in) (n.children_once p b i fits.to_in) h k
+    learned : (runs : Known) (js : Joins) → KnowsTruth net (facts log reached) p b runs × Holds log.joins js (HasEvent runs) → (q : Bool) → q ≡ false → NewTicks net p b runs (with_joins v (longer v.joins js)) log (elim q [ true ↦ record { view = v; log = log; lines = []; frames = [] } | false ↦ learn net p b runs (with_joins v (longer v.joins js)) log ])
+    learned runs js k true e = absurd (true≢false e)
+    learned runs js k false e = new_ticks_rule net (facts log reached) p b runs (with_joins v (longer v.joins js)) log (n.place p b i fits.to_in) (n.children_once p b i fits.to_in)
+        (ViewTrue-joins net (facts log reached) p b v (longer v.joins js) h (fewer log.joins (longer v.joins js) (λ t. HasEvent v.know t ⊎ HasEvent runs t) (HasEvent v.know) (λ t x. inl x) (both log.joins v.joins js (HasEvent v.know) (HasEvent runs) h.held k.1))) k.0
 
     go : (y : Body) → BodyTrue net (facts log reached) p f.head.from b y → BodyFits net p f.head.from b y → Comes net p f.head.from b now y v log
         (let o : Outcome = elim y [
-          | body.Knowledge runs js ↦ elim (clashes v.know runs) [ true ↦ record { view = v; log = log; lines = []; frames = [] } | false ↦ learn net f.head.publisher f.head.to runs v log ]
+          | body.Knowledge runs js ↦ elim (drops v runs js) [ true ↦ record { view = v; log = log; lines = []; frames = [] } | false ↦ learn net f.head.publisher f.head.to runs (with_joins v (longer v.joins js)) log ]
           | body.Curiosity runs ↦ curiosity net f.head.publisher f.head.to now f.head.from (place_of f.head.from (net.children f.head.publisher f.head.to)) runs v log
           | body.Expect tick ↦ expect net f.head.publisher f.head.to now tick v log
         ] in o)
-    go (body.Knowledge runs js) t c = learned runs t (clashes v.know runs) (true_pieces net (facts log reached) p b v.know runs h.know t)
+    go (body.Knowledge runs js) t c = learned runs js t (drops v runs js) (nothing_drops net (facts log reached) p b v runs js h.know h.held t.0 t.1)
     go (body.Curiosity runs) t c = child_asks_rule net (facts log reached) p b now f.head.from runs v log h c t
     go (body.Expect tick) t c = expects_rule net (facts log reached) p b now tick v log (n.children_once p b i fits.to_in) h

@@ -9,9 +9,9 @@ use Rattle.gr_sched.specs.declared.step.Step.{Step}
 use Rattle.gr_sched.specs.declared.step.Step.TheVariants as step
 use Rattle.gr_sched.specs.declared.step.Line.{Line}
 use Rattle.gr_model.specs.declared.report.Report.TheVariants as line
-use Rattle.gr_model.specs.Net.{Net, not_empty, numbers}
+use Rattle.gr_model.specs.Net.{Net, is_late, not_empty, numbers}
 use Rattle.gr_model.specs.Broker.{Log, with_event, is_kept, max_tick}
-use Rattle.gr_model.specs.World.{World, Transition, log_of, unchanged, followed_by, in_turn, wake_for, wake_all, deliver_frame, publish_now, deliver_up, wake_up, hand_down, sweep_for, sweep, sweep_moment, frames_past, sent_since, is_want, is_know_to, outwards, inwards, numbers_down, frame_at, restarted, crash, publish_stopped, next, start, show, run_all, opened_lines, deliver_up_by, hand_down_by, next_by, publish_stopped_by, sweep_by, sweep_for_by, wake_all_by, wake_up_by}
+use Rattle.gr_model.specs.World.{World, Transition, log_of, unchanged, followed_by, in_turn, wake_for, wake_all, deliver_frame, publish_now, join_now, deliver_up, wake_up, hand_down, sweep_for, sweep, sweep_moment, frames_past, sent_since, is_want, is_know_to, outwards, inwards, numbers_down, frame_at, restarted, crash, publish_stopped, next, start, show, run_all, opened_lines, deliver_up_by, hand_down_by, next_by, publish_stopped_by, sweep_by, sweep_for_by, wake_all_by, wake_up_by}
 use Rattle.gr_frame.specs.Bytes.{frame_bytes}
 use Rattle.gr_model.specs.Tree.{IsNet}
 use Rattle.gr_model_calls.specs.Fits.{WorldFits, FrameTrue, StepIn, StepsIn}
@@ -36,6 +36,7 @@ pub record IsCallClosed (net : Net) (R : Frame → Type 0) (P : World → Type 0
 pub record IsClosed (net : Net) (R : Frame → Type 0) (P : World → Type 0) : Type 0 where
   pub calls : IsCallClosed net R P
   pub published : (w : World) (p number : ℕ) (e : Event) → WorldFits net w → p < net.publishers → P w → P (publish_now net w p number e).world
+  pub joined : (w : World) (s p : ℕ) → WorldFits net w → is_late net s ≡ true → p < net.publishers → P w → P (join_now net w s p).world
   pub at_clock : (w : World) (now : ℕ) → WorldFits net w → P w → P (clocked w now (max now w.most))
   pub restarts : (w : World) (logs : List Log) (b : ℕ) → WorldFits net w → b < net.brokers → P w → P (restarted net (with_logs w logs) b)
 
@@ -231,9 +232,9 @@ next_holds net R P w l n c f h i = go l.step i
       | step.Deliver k ↦ elim (frame_at w k) [ None ↦ unchanged w (line.RefusedFrame l.number k (length w.frames) ∷ []) | Some f ↦ deliver_frame net w f ]
       | step.Crash b ↦ elim (not_empty (net.subscribers_at b)) [ true ↦ unchanged w (line.RefusedHosts l.number b ∷ []) | false ↦ crash net w b ]
       | step.Sweep ↦ sweep net w l.number
+      | step.Join s p ↦ join_now net w s p
       | step.Show ↦ unchanged w (show net w)
       | step.Bytes k ↦ elim (frame_at w k) [ None ↦ unchanged w (line.RefusedFrame l.number k (length w.frames) ∷ []) | Some f ↦ unchanged w (line.BytesOf k (frame_bytes f) ∷ []) ]
-      | step.Join q p ↦ unchanged w []
     ] in t.world)
     go (step.Clock now) x = c.at_clock w now f h
     go (step.Publish p number stop e) x = published p number stop e x
@@ -241,9 +242,9 @@ next_holds net R P w l n c f h i = go l.step i
     go (step.Deliver k) x = delivered k (frame_at w k) refl
     go (step.Crash b) x = crashed b (not_empty (net.subscribers_at b)) x
     go step.Sweep x = sweep_holds net R P w l.number n c f h
+    go (step.Join s p) x = c.joined w s p f x.0 x.1 h
     go step.Show x = h
     go (step.Bytes k) x = bytes_at k (frame_at w k)
-    go (step.Join q p) x = absurd x
 
 -- what each call, clock and restart keeps is kept by every run of steps
 pub run_holds : (net : Net) (R : Frame → Type 0) (P : World → Type 0) (w : World) (ls : List Line) → IsNet net → IsClosed net R P → WorldFits net w → P w → StepsIn net ls → P (run_all net w ls).world

@@ -17,11 +17,11 @@ use Rattle.gr_model.specs.declared.report.Report.{Report}
 use Rattle.gr_model.specs.declared.report.Report.TheVariants as line
 use Rattle.gr_tick.specs.Runs.{IsNone}
 use Rattle.gr_know.specs.Values.{same_K}
-use Rattle.gr_model.specs.Net.{Net, is_host, not_empty, numbers, numbers_from, keeps_horizon}
+use Rattle.gr_model.specs.Net.{Net, is_late, all_late, is_host, not_empty, numbers, numbers_from, keeps_horizon}
 use Rattle.gr_model.specs.Broker.{View, Log, empty_log, with_event, event_at, log_at, event_points, log_know, started, is_kept, max_tick}
-use Rattle.gr_model.specs.World.{World, Transition, blank_view, view_of, log_of, unchanged, followed_by, in_turn, deliver_frame, frame_at, publish_now, restarted, crash, publish_stopped, wake_all, sweep_for, sweep, sweep_moment, next, start, show, opened_lines, run_from, kept_events, run_all, next_by, publish_stopped_by, run_from_by, sweep_by}
+use Rattle.gr_model.specs.World.{World, Transition, blank_view, view_of, log_of, unchanged, followed_by, in_turn, deliver_frame, frame_at, publish_now, join_now, restarted, crash, publish_stopped, wake_all, sweep_for, sweep, sweep_moment, next, start, show, opened_lines, run_from, kept_events, run_all, next_by, publish_stopped_by, run_from_by, sweep_by}
 use Rattle.gr_frame.specs.Bytes.{frame_bytes}
-use Rattle.gr_model_calls.specs.Truth.{Facts, IsTrueAt, KnowsTruth, AllWantTruth, IsLater}
+use Rattle.gr_model_calls.specs.Truth.{Holds, HasEvent, Grows, Facts, IsTrueAt, KnowsTruth, AllWantTruth, IsLater}
 use Rattle.gr_model_calls.specs.Said.{said_at, due_upto}
 use Rattle.gr_model_calls.proofs.calls.Telling.{Neutral, Neutral-append, Neutral-nil, Silent, due_upto_same}
 use Rattle.gr_model_calls.specs.Fits.{facts, reached_in, facts_of, LogFits, ViewTrue, HostKnows, CutTrue, FrameTrue, AllFramesTrue, WorldFits, LinesFit, StepIn, StepsIn}
@@ -32,7 +32,9 @@ use Rattle.gr_model_calls.proofs.calls.Pieces.{one_step, le_step}
 use Rattle.gr_model_calls.proofs.calls.TruthTicks.{TrueF-later}
 use Rattle.gr_model_calls.proofs.calls.CallTruth.{KnowsTruth-by, ViewTrue-later}
 use Rattle.gr_model_calls.proofs.calls.Calls.{silent_true, with_event_fits, said_more}
-use Rattle.gr_model_calls.proofs.runs.Worlds.{Kept, Kept-after, Kept-still, Kept-refl, if_le, frames_later, reached_here, silent_lines, in_turn_kept, numbers_below, wake_all_kept, deliver_kept, publish_kept, sweep_for_kept}
+use Rattle.gr_event.specs.Joins.{Joins}
+use Rattle.gr_model_calls.proofs.calls.Held.{own, grows_not}
+use Rattle.gr_model_calls.proofs.runs.Worlds.{join_kept, Kept, Kept-after, Kept-still, Kept-refl, if_le, frames_later, reached_here, silent_lines, in_turn_kept, numbers_below, wake_all_kept, deliver_kept, publish_kept, sweep_for_kept}
 
 -- What a log says
 
@@ -110,16 +112,29 @@ started_true net log reached p b c = record {
   wants = no_wants net (facts log reached) p (net.children p b);
   asks = tt;
   horizon = record { settled = omega arith; here = λ s m. omega arith };
+  held = held_at (is_host net p b);
 }
   where
     know_at : (q : Bool) → is_host net p b ≡ q → KnowsTruth net (facts log reached) p b (if q then log_know log else [])
     know_at true e = KnowsTruth-by net (facts log reached) p b (log_at log) (log_know log) (log_know-is log) (λ t. log_true net log reached p b t e (c e))
     know_at false e = record { runs = tt; each = λ t. tt }
 
+    Q_not_D : (e : Event) → Q ≡ D e → ⊥
+    Q_not_D e q = cc
+
+    held_at : (q : Bool) → Holds log.joins (if q then log.joins else []) (HasEvent (if q then log_know log else []))
+    held_at true = own log.joins (HasEvent (log_know log))
+    held_at false = record { rest = log.joins; front = refl; above = λ t x. absurd (Q_not_D x.0 x.1) }
+
 -- a host that starts from its log knows each tick that is settled
 pub started_known : (net : Net) (log : Log) (p b : ℕ) → is_host net p b ≡ true → HostKnows (started net p b log) log.settled
 unfolding started
 started_known net log p b host = λ t x y. rw host (λ e. log_knows log t x y (sym ((log_know-is log).same_at t) ∙ e))
+
+-- and holds what its log does
+pub started_holds : (net : Net) (log : Log) (p b : ℕ) → is_host net p b ≡ true → (started net p b log).joins ≡ log.joins
+unfolding started
+started_holds net log p b host = rw host refl
 
 -- Brokers start again
 
@@ -135,6 +150,8 @@ pub record Restarts (net : Net) (w u : World) (b : ℕ) : Type 0 where
   pub settled : (q : ℕ) → q < net.publishers → (log_of w q).settled ≤ (log_of u q).settled
   pub said : (q t : ℕ) → q < net.publishers → t ≤ (log_of w q).settled → said_at (log_of u q).events t ≡ said_at (log_of w q).events t
   pub cut : (q : ℕ) → q < net.publishers → (log_of u q).cut ≡ (log_of w q).cut
+  pub joined : (q : ℕ) → q < net.publishers → Grows (log_of w q).joins (log_of u q).joins (log_of w q).settled
+  pub late : (q : ℕ) → q < net.publishers → all_late net (log_of u q).joins ≡ true
   pub elsewhere : (q : ℕ) → q < net.publishers → net.host q ≢ b → log_of u q ≡ log_of w q
   pub views_long : length u.views ≡ net.brokers
   pub rows_long : (c : ℕ) → c < net.brokers → length (get_or u.views c []) ≡ net.publishers
@@ -167,6 +184,7 @@ restarts_kept net w u b more n f i r silent =
         | inl e ↦ subst (λ z. (if list_any (λ y. nat_eq y s) (net.subscribers_at z) then (view_of w z q).horizon else 0) ≤ (if list_any (λ y. nat_eq y s) (net.subscribers_at z) then (view_of u z q).horizon else 0)) (sym e) (rw (no_one_here (net.subscribers_at b) s r.no_one) (le_refl 0))
         | inr e ↦ if_le (list_any (λ y. nat_eq y s) (net.subscribers_at (net.at s))) (view_of w (net.at s) q).horizon (view_of u (net.at s) q).horizon (subst (λ v. (view_of w (net.at s) q).horizon ≤ v.horizon) (sym (r.other (net.at s) q e)) (le_refl (view_of w (net.at s) q).horizon))
       ];
+      joined = r.joined q x;
     } in
     let cuts : (q : ℕ) → q < net.publishers → CutTrue net (facts_of net u q) q (net.host q) (log_of u q).cut = λ q x a y z. TrueF-later net (facts_of net w q) (facts_of net u q) q (net.host q) a (l q x) (f.cuts q x a y (subst (λ m. a ≤ m) (r.cut q x) z)) in
     record {
@@ -179,6 +197,11 @@ restarts_kept net w u b more n f i r silent =
           | inr e ↦ subst (λ v. ViewTrue net (facts_of net u q) q c v) (sym (r.other c q e)) (ViewTrue-later net (facts_of net w q) (facts_of net u q) q c (view_of w c q) (l q x) (f.views q c x y))
         ];
         logs = r.log_fits;
+        late = r.late;
+        hosts = λ q x. elim (cases_eq (net.host q) b) [
+          | inl e ↦ subst (λ z. (view_of u z q).joins ≡ (log_of u q).joins) (sym e) (ap (λ v. v.joins) (r.here q x) ∙ started_holds net (log_of u q) q b (eq-eqb (net.host q) b e))
+          | inr e ↦ ap (λ v. v.joins) (r.other (net.host q) q e) ∙ (f.hosts q x ∙ sym (ap (λ l. l.joins) (r.elsewhere q x e)))
+        ];
         known = λ q x. elim (cases_eq (net.host q) b) [
           | inl e ↦ subst (λ z. HostKnows (view_of u z q) (log_of u q).settled) (sym e) (subst (λ v. HostKnows v (log_of u q).settled) (sym (r.here q x)) (started_known net (log_of u q) q b (eq-eqb (net.host q) b e)))
           | inr e ↦ subst (λ v. HostKnows v (log_of u q).settled) (sym (r.other (net.host q) q e)) (subst (λ m. HostKnows (view_of w (net.host q) q) m.settled) (sym (r.elsewhere q x e)) (f.known q x))
@@ -207,11 +230,12 @@ pub restarted_is : (net : Net) (w : World) (logs : List Log) (b : ℕ) → World
     ((q : ℕ) → q < net.publishers → (log_of w q).settled ≤ (get_or logs q empty_log).settled) →
     ((q t : ℕ) → q < net.publishers → t ≤ (log_of w q).settled → said_at (get_or logs q empty_log).events t ≡ said_at (log_of w q).events t) →
     ((q : ℕ) → q < net.publishers → (get_or logs q empty_log).cut ≡ (log_of w q).cut) →
+    ((q : ℕ) → q < net.publishers → (get_or logs q empty_log).joins ≡ (log_of w q).joins) →
     ((q : ℕ) → q < net.publishers → net.host q ≢ b → get_or logs q empty_log ≡ log_of w q) →
     length logs ≡ net.publishers →
     Restarts net w (restarted net (record { clock = w.clock; most = w.most; frames = w.frames; views = w.views; logs = logs }) b) b
 unfolding restarted
-restarted_is net w logs b f i no_one fits settled said cut elsewhere long =
+restarted_is net w logs b f i no_one fits settled said cut joined elsewhere long =
     let h : b < length w.views = omega (arith, f.views_long) in
     let g : ℕ → View = λ p. started net p b (get_or logs p empty_log) in
     record {
@@ -222,6 +246,8 @@ restarted_is net w logs b f i no_one fits settled said cut elsewhere long =
       settled = settled;
       said = said;
       cut = cut;
+      joined = λ q x. subst (λ z. Grows (log_of w q).joins z (log_of w q).settled) (sym (joined q x)) (grows_not (log_of w q).joins (log_of w q).settled);
+      late = λ q x. ap (all_late net) (joined q x) ∙ f.late q x;
       elsewhere = elsewhere;
       views_long = length-set w.views b (map g (numbers net.publishers)) ∙ f.views_long;
       rows_long = λ c x. elim (cases_eq c b) [
@@ -251,7 +277,7 @@ silent_on l ls a b s q = Neutral-append s q (l ∷ []) ls (a s q) (b s q)
 -- the crash of a broker without subscribers keeps the world fitting
 pub crash_kept : (net : Net) (w : World) (b : ℕ) → IsNet net → WorldFits net w → b < net.brokers → not_empty (net.subscribers_at b) ≡ false → Kept net w (crash net w b)
 unfolding crash
-crash_kept net w b n f i no_one = restarts_kept net w (restarted net w b) b (line.Crashed b ∷ opened_lines net w.logs b) n f i (restarted_is net w w.logs b f i no_one f.logs (λ q x. le_refl (log_of w q).settled) (λ q t x y. refl) (λ q x. refl) (λ q x e. refl) f.logs_long) (silent_on (line.Crashed b) (opened_lines net w.logs b) (λ s q. record { got = refl; horizon = λ n. refl; steady = λ n. refl }) (opened_silent net w.logs b))
+crash_kept net w b n f i no_one = restarts_kept net w (restarted net w b) b (line.Crashed b ∷ opened_lines net w.logs b) n f i (restarted_is net w w.logs b f i no_one f.logs (λ q x. le_refl (log_of w q).settled) (λ q t x y. refl) (λ q x. refl) (λ q x. refl) (λ q x e. refl) f.logs_long) (silent_on (line.Crashed b) (opened_lines net w.logs b) (λ s q. record { got = refl; horizon = λ n. refl; steady = λ n. refl }) (opened_silent net w.logs b))
 
 -- the record of a stopped publish stands, and the host starts again
 kept_restart : (net : Net) (w : World) (p tick : ℕ) (e : Event) (more : List Report) → Silent more → IsNet net → WorldFits net w → p < net.publishers → not_empty (net.subscribers_at (net.host p)) ≡ false → (log_of w p).settled < tick →
@@ -277,6 +303,10 @@ kept_restart net w p tick e more silent n f j no_one l =
     (λ q x. elim (cases_eq q p) [
       | inl g ↦ subst (λ z. (get_or (set w.logs p new) z empty_log).cut ≡ (log_of w z).cut) (sym g) (ap (λ m. m.cut) here)
       | inr g ↦ ap (λ m. m.cut) (there q g)
+    ])
+    (λ q x. elim (cases_eq q p) [
+      | inl g ↦ subst (λ z. (get_or (set w.logs p new) z empty_log).joins ≡ (log_of w z).joins) (sym g) (ap (λ m. m.joins) here)
+      | inr g ↦ ap (λ m. m.joins) (there q g)
     ])
     (λ q x g. there q (λ h. g (ap net.host h)))
     (length-set w.logs p new ∙ f.logs_long)) silent
@@ -319,7 +349,7 @@ publish_stopped_kept net w k p number stop e n f j = host_at (not_empty (net.sub
 
     restart_at : (q : Bool) → not_empty (net.subscribers_at (net.host p)) ≡ false → (let l : List Log = if q then set w.logs p (with_event log tick e) else w.logs in Kept net w (record { world = restarted net (record { clock = w.clock; most = w.most; frames = w.frames; views = w.views; logs = l }) (net.host p); lines = told q l }))
     restart_at true no_one = kept_restart net w p tick e (told true (set w.logs p (with_event log tick e))) (word_silent true (set w.logs p (with_event log tick e))) n f j no_one (omega arith)
-    restart_at false no_one = restarts_kept net w (restarted net w (net.host p)) (net.host p) (told false w.logs) n f (n.host_in p j) (restarted_is net w w.logs (net.host p) f (n.host_in p j) no_one f.logs (λ q x. le_refl (log_of w q).settled) (λ q t x y. refl) (λ q x. refl) (λ q x g. refl) f.logs_long) (word_silent false w.logs)
+    restart_at false no_one = restarts_kept net w (restarted net w (net.host p)) (net.host p) (told false w.logs) n f (n.host_in p j) (restarted_is net w w.logs (net.host p) f (n.host_in p j) no_one f.logs (λ q x. le_refl (log_of w q).settled) (λ q t x y. refl) (λ q x. refl) (λ q x. refl) (λ q x g. refl) f.logs_long) (word_silent false w.logs)
 
     number_at : (q : Bool) → not_empty (net.subscribers_at (net.host p)) ≡ false → Kept net w (elim q [ false ↦ publish_now net w p number e | true ↦ stopped ])
     number_at false no_one = publish_kept net w p number e n f j
@@ -331,10 +361,10 @@ publish_stopped_kept net w k p number stop e n f j = host_at (not_empty (net.sub
 
 -- a world with another clock
 pub clocked_fits : (net : Net) (w : World) (clock most : ℕ) → WorldFits net w → WorldFits net (record { clock = clock; most = most; frames = w.frames; views = w.views; logs = w.logs })
-clocked_fits net w clock most f = record { views_long = f.views_long; rows_long = f.rows_long; logs_long = f.logs_long; views = f.views; logs = f.logs; known = f.known; cuts = f.cuts; frames = frames_later net w (record { clock = clock; most = most; frames = w.frames; views = w.views; logs = w.logs }) w.frames (λ q x. same q) f.frames }
+clocked_fits net w clock most f = record { views_long = f.views_long; rows_long = f.rows_long; logs_long = f.logs_long; views = f.views; logs = f.logs; late = f.late; hosts = f.hosts; known = f.known; cuts = f.cuts; frames = frames_later net w (record { clock = clock; most = most; frames = w.frames; views = w.views; logs = w.logs }) w.frames (λ q x. same q) f.frames }
   where
     same : (q : ℕ) → IsLater (facts_of net w q) (facts_of net (record { clock = clock; most = most; frames = w.frames; views = w.views; logs = w.logs }) q)
-    same q = record { settled = le_refl (log_of w q).settled; said = λ t y. refl; reached = λ s. le_refl (reached_in net w q s) }
+    same q = record { settled = le_refl (log_of w q).settled; said = λ t y. refl; reached = λ s. le_refl (reached_in net w q s); joined = grows_not (log_of w q).joins (log_of w q).settled }
 
 from_clock : (net : Net) (w : World) (clock most : ℕ) (t : Transition) → Kept net (record { clock = clock; most = most; frames = w.frames; views = w.views; logs = w.logs }) t → Kept net w t
 from_clock net w clock most t k = record { fits = k.fits; later = k.later; lines = λ ls l. k.lines ls (record { got = l.got; horizon = l.horizon; steady = l.steady; nothing = l.nothing }) }
@@ -426,9 +456,9 @@ next_kept net w l n f i = go l.step i
       | step.Deliver k ↦ elim (frame_at w k) [ None ↦ unchanged w (line.RefusedFrame l.number k (length w.frames) ∷ []) | Some f ↦ deliver_frame net w f ]
       | step.Crash b ↦ elim (not_empty (net.subscribers_at b)) [ true ↦ unchanged w (line.RefusedHosts l.number b ∷ []) | false ↦ crash net w b ]
       | step.Sweep ↦ sweep net w l.number
+      | step.Join s p ↦ join_now net w s p
       | step.Show ↦ unchanged w (show net w)
       | step.Bytes k ↦ elim (frame_at w k) [ None ↦ unchanged w (line.RefusedFrame l.number k (length w.frames) ∷ []) | Some f ↦ unchanged w (line.BytesOf k (frame_bytes f) ∷ []) ]
-      | step.Join q p ↦ unchanged w []
     ])
     go (step.Clock now) h = from_clock net w now (max now w.most) (unchanged (record { clock = now; most = max now w.most; frames = w.frames; views = w.views; logs = w.logs }) []) (Kept-refl net (record { clock = now; most = max now w.most; frames = w.frames; views = w.views; logs = w.logs }) (clocked_fits net w now (max now w.most) f))
     go (step.Publish p number stop e) h = published p number stop e h
@@ -436,9 +466,9 @@ next_kept net w l n f i = go l.step i
     go (step.Deliver k) h = delivered k (frame_at w k) refl
     go (step.Crash b) h = crashed b (not_empty (net.subscribers_at b)) h refl
     go step.Sweep h = sweep_kept net w l.number n f
+    go (step.Join s p) h = join_kept net w s p n f h.0 h.1
     go step.Show h = Kept-still net w (show net w) f (show_silent net w)
     go (step.Bytes k) h = bytes_at k (frame_at w k)
-    go (step.Join q p) h = absurd h
 
 -- The start, and every schedule
 
@@ -486,6 +516,8 @@ start_fits net n =
       logs_long = s.logs_long;
       views = λ q b x y. subst (λ v. ViewTrue net (facts_of net (start net) q) q b v) (sym (start_is net b q y x ∙ ap (started net q b) (sym (start_log net q x)))) (started_true net (log_of (start net) q) (reached_in net (start net) q) q b (λ h. cut_at q b x));
       logs = λ q x. subst LogFits (sym (start_log net q x)) empty_fits;
+      late = λ q x. ap (λ m. all_late net m.joins) (start_log net q x);
+      hosts = λ q x. ap (λ v. v.joins) (start_is net (net.host q) q (n.host_in q x) x) ∙ (started_holds net empty_log q (net.host q) (eq-eqb (net.host q) (net.host q) refl) ∙ sym (ap (λ m. m.joins) (start_log net q x)));
       known = λ q x. subst (λ m. HostKnows (view_of (start net) (net.host q) q) m.settled) (sym (start_log net q x)) (λ t y z. absurd (omega (arith, y, z)));
       cuts = λ q x. cut_at q (net.host q) x;
       frames = subst (λ z. AllFramesTrue net (start net) z) (sym s.frames) tt;

@@ -2,27 +2,28 @@
 use Rattle.std.proofs.Common.{◌≡◌, ◌≢◌, inl, inr, ℕ, suc, zero, ◌+◌, ◌≤◌, ◌<◌, Bool, true, false, List, [], ◌∷◌, ◌++◌, length, set, get_or, refl, sym, ap, ap₂, ◌∙◌, subst, arith, le_trans, le_refl, append-nil, append_assoc}
 use Rattle.std.specs.Prelude.{nat_eq, if◌then◌else◌, flat_map, filter}
 use Rattle.std.specs.List.{list_any}
-use Rattle.std.proofs.lemmas.Bool.{cases_Bool, cases_eq, eq-eqb, ne_eqb}
+use Rattle.std.proofs.lemmas.Bool.{cases_Bool, cases_eq, eq-eqb, eqb-true, ne_eqb}
 use Rattle.std.proofs.lemmas.List.{get_or-set_other, get_or-set_same, length-set}
 use Rattle.gr_event.specs.declared.event.Event.{Event}
 use Rattle.gr_frame.specs.declared.Body.{Body}
 use Rattle.gr_frame.specs.declared.Body.TheVariants as body
 use Rattle.gr_frame.specs.declared.Frame.{Frame}
 use Rattle.gr_model.specs.declared.report.Report.{Report}
-use Rattle.gr_model.specs.Net.{Net, numbers, numbers_from}
-use Rattle.gr_model.specs.Broker.{View, Outcome, empty_log, publish, wake, receive}
-use Rattle.gr_model.specs.World.{World, Transition, blank_view, view_of, log_of, with_view, absorbed, unchanged, followed_by, in_turn, wake_for, wake_all, deliver_frame, publish_now, deliver_up, wake_up, hand_down, sweep_for, frames_past, sent_lines, sent_since, is_want, is_know_to, at_depth, outwards, inwards, numbers_down, deliver_frame_by, deliver_up_by, hand_down_by, publish_now_by, sweep_for_by, wake_all_by, wake_for_by, wake_up_by}
-use Rattle.gr_model_calls.specs.Truth.{Facts, IsLater}
+use Rattle.gr_model.specs.Net.{Net, is_late, all_late, is_host, numbers, numbers_from}
+use Rattle.gr_model.specs.Broker.{View, Outcome, empty_log, publish, wake, receive, joining}
+use Rattle.gr_model.specs.World.{World, Transition, blank_view, view_of, log_of, with_view, absorbed, unchanged, followed_by, in_turn, wake_for, wake_all, deliver_frame, publish_now, join_now, join_now_by, deliver_up, wake_up, hand_down, sweep_for, frames_past, sent_lines, sent_since, is_want, is_know_to, at_depth, outwards, inwards, numbers_down, deliver_frame_by, deliver_up_by, hand_down_by, publish_now_by, sweep_for_by, wake_all_by, wake_for_by, wake_up_by}
+use Rattle.gr_model_calls.specs.Truth.{HasEvent, Grows, Facts, IsLater}
+use Rattle.gr_model_calls.proofs.calls.Held.{holds_later, grows_not, grows_on}
 use Rattle.gr_model_calls.specs.Said.{said_at, due_upto, due_between}
 use Rattle.gr_model_calls.specs.Fits.{facts, reached_in, facts_of, LogFits, ViewTrue, HostKnows, CutTrue, BodyTrue, FrameFits, AllFit, FrameTrue, AllFramesTrue, WorldFits, LinesFit}
 use Rattle.gr_model.specs.Tree.{IsNet, IsSubscriber}
 use Rattle.gr_model.specs.Headline.{delivered_events, last_horizon}
 use Rattle.gr_model_calls.specs.Steady.{Steady}
 use Rattle.gr_model_calls.proofs.calls.Told.{due_more}
-use Rattle.gr_model_calls.proofs.calls.Telling.{gots-append, last_horizon-append, Steady-append, Neutral, Neutral-append, Neutral-nil, sent_lines_neutral, CallTells, Silent, due_upto_same, wake_tells, receive_tells, publish_tells}
+use Rattle.gr_model_calls.proofs.calls.Telling.{gots-append, last_horizon-append, Steady-append, Neutral, Neutral-append, Neutral-nil, sent_lines_neutral, CallTells, Silent, due_upto_same, wake_tells, receive_tells, publish_tells, joining_tells}
 use Rattle.gr_model_calls.proofs.calls.TruthTicks.{TrueF-later}
-use Rattle.gr_model_calls.proofs.calls.CallTruth.{ViewTrue-later, KnowsTruth-later, WantsTruth-later, AllTrue}
-use Rattle.gr_model_calls.proofs.calls.Calls.{ComeOn, CallTrue, publish_call, wake_call, receive_call}
+use Rattle.gr_model_calls.proofs.calls.CallTruth.{events_settled, ViewTrue-later, KnowsTruth-later, WantsTruth-later, AllTrue}
+use Rattle.gr_model_calls.proofs.calls.Calls.{ComeOn, CallTrue, publish_call, wake_call, receive_call, joining_call}
 
 -- Views in a list of lists
 
@@ -45,7 +46,7 @@ row_length views b p c v h =
 -- Frames at later facts
 
 BodyTrue-later : (net : Net) (f g : Facts) (p from to : ℕ) (y : Body) → IsLater f g → BodyTrue net f p from to y → BodyTrue net g p from to y
-BodyTrue-later net f g p from to (body.Knowledge runs js) l h = KnowsTruth-later net f g p to runs l h
+BodyTrue-later net f g p from to (body.Knowledge runs js) l h = (KnowsTruth-later net f g p to runs l h.0, holds_later f.joined g.joined js f.settled (HasEvent runs) l.joined (events_settled net f p to runs h.0) h.1)
 BodyTrue-later net f g p from to (body.Curiosity runs) l h = WantsTruth-later net f g p from runs l h
 BodyTrue-later net f g p from to (body.Expect tick) l h = le_trans h l.settled
 
@@ -119,11 +120,13 @@ later_at net w u b p o n i c t q =
         settled = subst (λ l. (log_of w p).settled ≤ l.settled) (sym c.log) t.settled;
         said = λ x h. ap (λ l. said_at l.events x) c.log ∙ t.said x h;
         reached = (comes_on net w u b p o n i c t.horizon).on;
+        joined = subst (λ l. Grows (log_of w p).joins l.joins (log_of w p).settled) (sym c.log) t.joined;
       })
       | inr e ↦ record {
         settled = subst (λ l. (log_of w q).settled ≤ l.settled) (sym (c.other_log q e)) (le_refl (log_of w q).settled);
         said = λ x h. ap (λ l. said_at l.events x) (c.other_log q e);
         reached = λ s. if_le (list_any (λ x. nat_eq x s) (net.subscribers_at (net.at s))) (view_of w (net.at s) q).horizon (view_of u (net.at s) q).horizon (subst (λ v. (view_of w (net.at s) q).horizon ≤ v.horizon) (sym (c.other_publisher (net.at s) q e)) (le_refl (view_of w (net.at s) q).horizon));
+        joined = subst (λ l. Grows (log_of w q).joins l.joins (log_of w q).settled) (sym (c.other_log q e)) (grows_not (log_of w q).joins (log_of w q).settled);
       }
     ]
 
@@ -163,6 +166,16 @@ fitted net w u b p o n f i j t c s =
       logs = λ q x. elim (cases_eq q p) [
         | inl e ↦ subst (λ z. LogFits (log_of u z)) (sym e) (subst LogFits (sym c.log) t.log_fits)
         | inr e ↦ subst LogFits (sym (c.other_log q e)) (f.logs q x)
+      ];
+      late = λ q x. elim (cases_eq q p) [
+        | inl e ↦ subst (λ z. all_late net (log_of u z).joins ≡ true) (sym e) (subst (λ m. all_late net m.joins ≡ true) (sym c.log) (t.late (f.late p j)))
+        | inr e ↦ subst (λ m. all_late net m.joins ≡ true) (sym (c.other_log q e)) (f.late q x)
+      ];
+      hosts = λ q x. elim (cases_eq q p) [
+        | inl e ↦ subst (λ z. (view_of u (net.host z) z).joins ≡ (log_of u z).joins) (sym e) (host_case (λ h. (view_of u h p).joins ≡ (log_of u p).joins)
+            (λ g. ap (λ v. v.joins) c.view ∙ (t.host_joins (eq-eqb (net.host p) b g) (subst (λ h. (view_of w h p).joins ≡ (log_of w p).joins) g (f.hosts p j)) ∙ sym (ap (λ l. l.joins) c.log)))
+            (λ g. ap (λ v. v.joins) (c.other_broker (net.host p) p g) ∙ (f.hosts p j ∙ sym (ap (λ l. l.joins) (c.log ∙ t.same_log (ne_eqb (net.host p) b g))))))
+        | inr e ↦ ap (λ v. v.joins) (c.other_publisher (net.host q) q e) ∙ (f.hosts q x ∙ sym (ap (λ l. l.joins) (c.other_log q e)))
       ];
       known = λ q x. elim (cases_eq q p) [
         | inl e ↦ subst (λ z. HostKnows (view_of u (net.host z) z) (log_of u z).settled) (sym e) (host_case (λ h. HostKnows (view_of u h p) (log_of u p).settled)
@@ -289,11 +302,12 @@ Later-trans f g h a b = record {
   settled = le_trans a.settled b.settled;
   said = λ t x. b.said t (le_trans x a.settled) ∙ a.said t x;
   reached = λ s. le_trans (a.reached s) (b.reached s);
+  joined = grows_on f.joined g.joined h.joined f.settled g.settled a.settled a.joined b.joined;
 }
 
 -- facts are at least as late as themselves
 pub Later-refl : (f : Facts) → IsLater f f
-Later-refl f = record { settled = le_refl f.settled; said = λ t x. refl; reached = λ s. le_refl (f.reached s) }
+Later-refl f = record { settled = le_refl f.settled; said = λ t x. refl; reached = λ s. le_refl (f.reached s); joined = grows_not f.joined f.settled }
 
 -- one step after another
 pub Kept-after : (net : Net) (w : World) (t : Transition) (f : World → Transition) → Kept net w t → Kept net t.world (f t.world) → Kept net w (followed_by t f)
@@ -317,10 +331,14 @@ FrameTrue-later net w u f l t = record { publisher_in = t.publisher_in; fits = t
 
 -- Steps of broker calls
 
+-- a host holds what its log does
+pub held_by_host : (net : Net) (w : World) (b p : ℕ) → WorldFits net w → p < net.publishers → is_host net p b ≡ true → (view_of w b p).joins ≡ (log_of w p).joins
+held_by_host net w b p f j e = subst (λ h. (view_of w h p).joins ≡ (log_of w p).joins) (eqb-true (net.host p) b e) (f.hosts p j)
+
 -- a wake keeps the world fitting
 pub wake_for_kept : (net : Net) (w : World) (b p : ℕ) → IsNet net → WorldFits net w → b < net.brokers → p < net.publishers → Kept net w (wake_for net w b p)
 unfolding wake_for_by
-wake_for_kept net w b p n f i j = absorbed_fits net w b p (wake net p b w.clock (view_of w b p) (log_of w p)) n f i j (wake_call net p b w.clock (view_of w b p) (log_of w p) (reached_in net w p) n j i (f.logs p j) (f.views p b j i)) (wake_tells net p b w.clock (view_of w b p) (log_of w p) (reached_in net w p) n j i (f.logs p j) (f.views p b j i) (exact_at net w b p n i))
+wake_for_kept net w b p n f i j = absorbed_fits net w b p (wake net p b w.clock (view_of w b p) (log_of w p)) n f i j (wake_call net p b w.clock (view_of w b p) (log_of w p) (reached_in net w p) n j i (f.logs p j) (f.views p b j i) (held_by_host net w b p f j)) (wake_tells net p b w.clock (view_of w b p) (log_of w p) (reached_in net w p) n j i (f.logs p j) (f.views p b j i) (exact_at net w b p n i))
 
 -- the delivery of a true frame keeps the world fitting
 pub deliver_kept : (net : Net) (w : World) (x : Frame) → IsNet net → WorldFits net w → FrameTrue net w x → Kept net w (deliver_frame net w x)
@@ -336,8 +354,17 @@ unfolding publish_now_by
 publish_kept net w p number e n f j =
     let i = n.host_in p j in
     absorbed_fits net w (net.host p) p (publish net p (net.host p) w.clock number e (view_of w (net.host p) p) (log_of w p)) n f i j
-    (publish_call net p (net.host p) w.clock number e (view_of w (net.host p) p) (log_of w p) (reached_in net w p) n j i (eq-eqb (net.host p) (net.host p) refl) (f.logs p j) (f.views p (net.host p) j i))
+    (publish_call net p (net.host p) w.clock number e (view_of w (net.host p) p) (log_of w p) (reached_in net w p) n j i (eq-eqb (net.host p) (net.host p) refl) (f.logs p j) (f.views p (net.host p) j i) (f.hosts p j))
     (publish_tells net p (net.host p) w.clock number e (view_of w (net.host p) p) (log_of w p) (reached_in net w p) n j i (eq-eqb (net.host p) (net.host p) refl) (f.logs p j) (f.views p (net.host p) j i) (exact_at net w (net.host p) p n i))
+
+-- a join keeps the world fitting
+pub join_kept : (net : Net) (w : World) (s p : ℕ) → IsNet net → WorldFits net w → is_late net s ≡ true → p < net.publishers → Kept net w (join_now net w s p)
+unfolding join_now_by
+join_kept net w s p n f late j =
+    let i = n.host_in p j in
+    absorbed_fits net w (net.host p) p (joining net p (net.host p) w.clock s (view_of w (net.host p) p) (log_of w p)) n f i j
+    (joining_call net p (net.host p) w.clock s (view_of w (net.host p) p) (log_of w p) (reached_in net w p) n late j i (eq-eqb (net.host p) (net.host p) refl) (f.logs p j) (f.views p (net.host p) j i))
+    (joining_tells net p (net.host p) w.clock s (view_of w (net.host p) p) (log_of w p) (reached_in net w p) n j i (f.logs p j) (f.views p (net.host p) j i) (exact_at net w (net.host p) p n i))
 
 -- a property of each
 abbrev pub Each : {X : Type 0} → (X → Type 0) → List X → Type 0

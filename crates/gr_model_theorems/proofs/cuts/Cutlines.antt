@@ -2,6 +2,7 @@
 use Rattle.std.proofs.Common.{◌≡◌, ◌≢◌, ◌⊎◌, inl, inr, ℕ, suc, ◌<◌, max, Bool, true, false, List, [], ◌∷◌, ◌++◌, map, refl, sym, ap, ◌∙◌, subst, append-nil, append_assoc}
 use Rattle.std.specs.Prelude.{nat_eq, nat_lt, if◌then◌else◌, flat_map, filter, IsTrue}
 use Rattle.std.proofs.lemmas.Bool.{both_ways, ltb-true, eq-eqb, ne_eqb}
+use Rattle.gr_event.specs.Joins.{Joins, longer}
 use Rattle.gr_event.specs.declared.event.Event.{Event}
 use Rattle.gr_frame.specs.declared.Body.{Body}
 use Rattle.gr_frame.specs.declared.Body.TheVariants as body
@@ -9,12 +10,13 @@ use Rattle.gr_frame.specs.declared.Frame.{Frame}
 use Rattle.gr_model.specs.declared.report.Report.{Report}
 use Rattle.gr_model.specs.declared.report.Report.TheVariants as line
 use Rattle.gr_know.specs.Values.{Known}
+use Rattle.gr_pubend.specs.declared.answers.Joined.TheVariants as joins
 use Rattle.gr_model.specs.Net.{Net, is_host, keeps_horizon}
-use Rattle.gr_model.specs.Broker.{View, Log, Outcome, delivery_lines, got_line, learn, publish, marking, cutting, wake, wake_host, wake_below, asking, curiosity, expect, receive, clashes, place_of, silence, with_event, with_mark, with_cut, done_upto, consolidated, publish_by}
+use Rattle.gr_model.specs.Broker.{joining, joining_by, with_join, with_joins, drops, View, Log, Outcome, delivery_lines, got_line, learn, publish, marking, cutting, wake, wake_host, wake_below, asking, curiosity, expect, receive, clashes, place_of, silence, with_event, with_mark, with_cut, done_upto, consolidated, publish_by}
 use Rattle.gr_model.specs.World.{sent_line, sent_lines}
 use Rattle.gr_model.specs.Headline.{last_cut}
 use Rattle.gr_pubend.specs.declared.answers.Published.TheVariants.{Logged}
-use Rattle.gr_model_calls.proofs.calls.HostCases.{publish_cases, marking_cases, news_of}
+use Rattle.gr_model_calls.proofs.calls.HostCases.{joining_cases, publish_cases, marking_cases, news_of}
 use Rattle.gr_model_calls.proofs.calls.Calls.{cutting_same, learn_log}
 use Rattle.gr_model_theorems.proofs.records.Records.{receive_log}
 
@@ -135,22 +137,31 @@ receive_free : (net : Net) (now : ℕ) (f : Frame) (v : View) (log : Log) (q : �
 unfolding receive expect curiosity asking
 receive_free net now f v log q = go f.body
   where
-    learned : (runs : Known) (c : Bool) → CutFree q (let o : Outcome = elim c [ true ↦ record { view = v; log = log; lines = []; frames = [] } | false ↦ learn net f.head.publisher f.head.to runs v log ] in o.lines)
-    learned runs true = tt
-    learned runs false = learn_free net f.head.publisher f.head.to q runs v log
+    learned : (runs : Known) (js : Joins) (c : Bool) → CutFree q (let o : Outcome = elim c [ true ↦ record { view = v; log = log; lines = []; frames = [] } | false ↦ learn net f.head.publisher f.head.to runs (with_joins v (longer v.joins js)) log ] in o.lines)
+    learned runs js true = tt
+    learned runs js false = learn_free net f.head.publisher f.head.to q runs (with_joins v (longer v.joins js)) log
 
     go : (y : Body) → CutFree q (let o : Outcome = elim y [
-      | body.Knowledge runs js ↦ elim (clashes v.know runs) [ true ↦ record { view = v; log = log; lines = []; frames = [] } | false ↦ learn net f.head.publisher f.head.to runs v log ]
+      | body.Knowledge runs js ↦ elim (drops v runs js) [ true ↦ record { view = v; log = log; lines = []; frames = [] } | false ↦ learn net f.head.publisher f.head.to runs (with_joins v (longer v.joins js)) log ]
       | body.Curiosity runs ↦ curiosity net f.head.publisher f.head.to now f.head.from (place_of f.head.from (net.children f.head.publisher f.head.to)) runs v log
       | body.Expect tick ↦ expect net f.head.publisher f.head.to now tick v log
     ] in o.lines)
-    go (body.Knowledge runs js) = learned runs (clashes v.know runs)
+    go (body.Knowledge runs js) = learned runs js (drops v runs js)
     go (body.Curiosity runs) = tt
     go (body.Expect tick) = tt
 
 -- receiving a frame cuts at most the log of its publisher, with one line
 pub receive_cuts : (net : Net) (now : ℕ) (f : Frame) (v : View) (log : Log) → CallCuts net f.head.publisher f.head.to log (receive net now f v log)
 receive_cuts net now f v log = uncut net f.head.publisher f.head.to log (receive net now f v log) (receive_free net now f v log) (ap (λ l. l.cut) (receive_log net now f v log))
+
+-- joining
+pub joining_cuts : (net : Net) (p b now s : ℕ) (v : View) (log : Log) → CallCuts net p b log (joining net p b now s v log)
+joining_cuts net p b now s v log =
+    joining_cases net p b now s v log (CallCuts net p b log) (λ e. uncut net p b log _ (λ q. tt) refl) (λ e l. uncut net p b log _ (λ q. tt) refl)
+    (λ e l. uncut net p b log (joining_by net p b s v log (joins.Logged tick (silence (suc log.settled) tick []))) (λ q. learn_free net p b q _ _ _) (ap (λ m. m.cut) (learn_log net p b _ _ (with_join log tick s))))
+  where
+    tick : ℕ
+    tick = max (suc log.settled) now
 
 -- publishing
 pub publish_cuts : (net : Net) (p b now number : ℕ) (e : Event) (v : View) (log : Log) → CallCuts net p b log (publish net p b now number e v log)

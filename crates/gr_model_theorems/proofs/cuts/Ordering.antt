@@ -11,18 +11,19 @@ use Rattle.gr_sched.specs.declared.step.Step.TheVariants as step
 use Rattle.gr_sched.specs.declared.step.Line.{Line}
 use Rattle.gr_model.specs.declared.report.Report.{Report}
 use Rattle.gr_model.specs.declared.report.Report.TheVariants as line
-use Rattle.gr_model.specs.Net.{Net, not_empty, numbers, keeps_horizon}
-use Rattle.gr_model.specs.Broker.{Log, empty_log, with_event, is_kept, max_tick, wake, receive, publish}
-use Rattle.gr_model.specs.World.{World, Transition, blank_view, view_of, log_of, unchanged, followed_by, in_turn, wake_for, wake_all, deliver_frame, frame_at, publish_now, restarted, crash, publish_stopped, sweep_for, sweep, sweep_moment, next, show, opened_lines, kept_events, run_all, deliver_frame_by, next_by, publish_now_by, publish_stopped_by, sweep_by, wake_for_by}
+use Rattle.gr_model.specs.Net.{is_late, Net, not_empty, numbers, keeps_horizon}
+use Rattle.gr_model.specs.Broker.{joining, Log, empty_log, with_event, is_kept, max_tick, wake, receive, publish}
+use Rattle.gr_model.specs.World.{join_now, join_now_by, World, Transition, blank_view, view_of, log_of, unchanged, followed_by, in_turn, wake_for, wake_all, deliver_frame, frame_at, publish_now, restarted, crash, publish_stopped, sweep_for, sweep, sweep_moment, next, show, opened_lines, kept_events, run_all, deliver_frame_by, next_by, publish_now_by, publish_stopped_by, sweep_by, wake_for_by}
 use Rattle.gr_frame.specs.Bytes.{frame_bytes}
 use Rattle.gr_model_calls.specs.Truth.{IsLater}
 use Rattle.gr_model_calls.specs.Fits.{facts_of, reached_in, WorldFits, LinesFit, FrameTrue, StepIn, StepsIn}
 use Rattle.gr_model.specs.Tree.{IsNet}
-use Rattle.gr_model_calls.proofs.runs.Worlds.{Kept, Later-refl, wake_for_kept, deliver_kept, publish_kept}
+use Rattle.gr_model_calls.proofs.runs.Worlds.{join_kept, Kept, Later-refl, wake_for_kept, deliver_kept, publish_kept}
 use Rattle.gr_model_calls.proofs.runs.Schedules.{next_kept, crash_kept, publish_stopped_kept, frame_at_true, clocked_fits}
-use Rattle.gr_model_theorems.proofs.hosts.HostHorizon.{HostsMeet, wake_for_meets, deliver_meets, publish_now_meets}
-use Rattle.gr_model_theorems.proofs.cuts.Cutlines.{CutFree, CutFree-append, CutsHave-map, wake_cuts, receive_cuts, publish_cuts}
+use Rattle.gr_model_theorems.proofs.hosts.HostHorizon.{join_now_meets, HostsMeet, wake_for_meets, deliver_meets, publish_now_meets}
+use Rattle.gr_model_theorems.proofs.cuts.Cutlines.{joining_cuts, CutFree, CutFree-append, CutsHave-map, wake_cuts, receive_cuts, publish_cuts}
 use Rattle.gr_model_theorems.proofs.cuts.Orders.{CutFits, CutFits-later, Ordered, ordered_free, absorbed_ordered}
+use Rattle.gr_model_calls.proofs.calls.Held.{grows_not}
 use Rattle.gr_model_calls.proofs.runs.Chains.{Chains, wake_all_chain, sweeps_chain}
 
 -- what a step does to the order
@@ -49,6 +50,13 @@ publish_orders net w p number e n f j k m found ls l o = absorbed_ordered net fo
 
 publishing_orders : (net : Net) (w : World) (p number : ℕ) (e : Event) → IsNet net → WorldFits net w → p < net.publishers → Orders net w (publish_now net w p number e)
 publishing_orders net w p number e n f j = publish_orders net w p number e n f j (publish_kept net w p number e n f j) (publish_now_meets net w p number e n f j)
+
+join_orders : (net : Net) (w : World) (s p : ℕ) → IsNet net → WorldFits net w → p < net.publishers → Kept net w (join_now net w s p) → (HostsMeet net w → HostsMeet net (join_now net w s p).world) → Orders net w (join_now net w s p)
+unfolding join_now_by
+join_orders net w s p n f j k m found ls l o = absorbed_ordered net found w (net.host p) p (joining net p (net.host p) w.clock s (view_of w (net.host p) p) (log_of w p)) ls n f (n.host_in p j) j (joining_cuts net p (net.host p) w.clock s (view_of w (net.host p) p) (log_of w p)) k (m o.meets) l o
+
+joining_orders : (net : Net) (w : World) (s p : ℕ) → IsNet net → WorldFits net w → is_late net s ≡ true → p < net.publishers → Orders net w (join_now net w s p)
+joining_orders net w s p n f late j = join_orders net w s p n f j (join_kept net w s p n f late j) (join_now_meets net w s p n f late j)
 
 delivering_orders : (net : Net) (w : World) (x : Frame) → IsNet net → WorldFits net w → FrameTrue net w x → Orders net w (deliver_frame net w x)
 delivering_orders net w x n f t = deliver_orders net w x n f t (deliver_kept net w x n f t) (deliver_meets net w x n f t)
@@ -148,7 +156,7 @@ abbrev clocked : World → ℕ → ℕ → World
 clocked w clock most = record { clock = clock; most = most; frames = w.frames; views = w.views; logs = w.logs }
 
 clocked_later : (net : Net) (w : World) (clock most q : ℕ) → IsLater (facts_of net w q) (facts_of net (clocked w clock most) q)
-clocked_later net w clock most q = record { settled = le_refl (log_of w q).settled; said = λ t y. refl; reached = λ s. le_refl (reached_in net w q s) }
+clocked_later net w clock most q = record { settled = le_refl (log_of w q).settled; said = λ t y. refl; reached = λ s. le_refl (reached_in net w q s); joined = grows_not (log_of w q).joins (log_of w q).settled }
 
 clocked_orders : (net : Net) (w : World) (clock most : ℕ) (t : Transition) → Orders net (clocked w clock most) t → Orders net w t
 clocked_orders net w clock most t k found ls l o =
@@ -232,7 +240,7 @@ next_orders net w l n f i = go l.step i
       | step.Sweep ↦ sweep net w l.number
       | step.Show ↦ unchanged w (show net w)
       | step.Bytes k ↦ elim (frame_at w k) [ None ↦ unchanged w (line.RefusedFrame l.number k (length w.frames) ∷ []) | Some f ↦ unchanged w (line.BytesOf k (frame_bytes f) ∷ []) ]
-      | step.Join q p ↦ unchanged w []
+      | step.Join s p ↦ join_now net w s p
     ])
     go (step.Clock now) h = clocked_orders net w now (max now w.most) (unchanged (clocked w now (max now w.most)) []) (still_orders net (clocked w now (max now w.most)) [] (λ q. tt))
     go (step.Publish p number stop e) h = published p number stop e h
@@ -242,7 +250,7 @@ next_orders net w l n f i = go l.step i
     go step.Sweep h = sweep_orders net w l.number n f
     go step.Show h = still_orders net w (show net w) (show_free net w)
     go (step.Bytes k) h = bytes_at k (frame_at w k)
-    go (step.Join q p) h = absurd h
+    go (step.Join s p) h = joining_orders net w s p n f h.0 h.1
 
 -- a run of steps keeps the cut lines in order
 pub run_orders : (net : Net) (w : World) (ls : List Line) → IsNet net → WorldFits net w → StepsIn net ls → Orders net w (run_all net w ls)

@@ -62,7 +62,7 @@ brought_settled net w (f ∷ fs) b p t a e =
     (or_cases (tells_to b p t f) (list_any (tells_to b p t) fs) e)
   where
     told : (y : Body) → tells_body t y ≡ true → BodyTrue net (facts_of net w f.head.publisher) f.head.publisher f.head.from f.head.to y → t ≤ (log_of w f.head.publisher).settled
-    told (body.Knowledge runs js) g h = at_settled net (facts_of net w f.head.publisher) f.head.publisher f.head.to t (known_at runs t) (not_Q_at (known_at runs t) g) (h.each t)
+    told (body.Knowledge runs js) g h = at_settled net (facts_of net w f.head.publisher) f.head.publisher f.head.to t (known_at runs t) (not_Q_at (known_at runs t) g) (h.0.each t)
     told (body.Curiosity runs) g h = absurd (false≢true g)
     told (body.Expect tick) g h = absurd (false≢true g)
 

@@ -19,7 +19,7 @@ use Rattle.gr_model_theorems.specs.Examples.{branch_crashes, calls_after, heard_
 
 -- with this one open the whole machine computes
 unfoldable machine : Net → List Step → List Report
-unfolding report world.report_of_by world.run_from_by world.next_by world.start frames.frame_bytes world.show world.sweep_by world.sweep_for_by world.hand_down_by world.wake_up_by world.deliver_up_by world.sweep_moment world.publish_stopped_by world.crash world.restarted world.opened_lines world.publish_now_by world.deliver_frame_by world.wake_all_by world.wake_for_by world.absorbed world.sent_line broker.receive broker.clashes broker.started broker.wake broker.wake_host broker.marking broker.quieted broker.cutting broker.done_upto broker.publish broker.published broker.silence broker.log_know broker.expect broker.wake_below broker.asking broker.curiosity broker.stored broker.answers broker.acknowledged broker.upward broker.noted broker.due broker.learn broker.still_wanted broker.passed broker.forward broker.new_ticks broker.delivery_lines broker.data_ticks broker.horizon_after broker.kept_view broker.open_asks broker.forgotten broker.lower_data broker.finished broker.consolidated frames.cut_frames frames.cut_from
+unfolding report world.report_of_by world.run_from_by world.next_by world.start frames.frame_bytes world.show world.sweep_by world.sweep_for_by world.hand_down_by world.wake_up_by world.deliver_up_by world.sweep_moment world.publish_stopped_by world.crash world.restarted world.opened_lines world.publish_now_by world.deliver_frame_by world.wake_all_by world.wake_for_by world.absorbed world.sent_line broker.receive broker.drops broker.clashes broker.started broker.wake broker.wake_host broker.marking broker.quieted broker.cutting broker.done_upto broker.publish broker.published broker.silence broker.log_know broker.expect broker.wake_below broker.asking broker.curiosity broker.stored broker.answers broker.acknowledged broker.upward broker.noted broker.due broker.learn broker.still_wanted broker.passed broker.forward broker.new_ticks broker.delivery_lines broker.data_ticks broker.horizon_after broker.kept_view broker.open_asks broker.forgotten broker.lower_data broker.finished broker.consolidated frames.cut_frames frames.cut_from
 machine net steps = report net steps
 
 -- Example of the stopped publish: the step with the answer of the disk as a parameter

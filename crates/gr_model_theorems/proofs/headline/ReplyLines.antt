@@ -15,20 +15,21 @@ use Rattle.gr_sched.specs.declared.step.Line.{Line}
 use Rattle.gr_model.specs.declared.report.Report.{Report}
 use Rattle.gr_model.specs.declared.report.Report.TheVariants as line
 use Rattle.gr_model.specs.Net.{Net, is_host, keeps_horizon, numbers, numbers_from, not_empty}
-use Rattle.gr_model.specs.Broker.{View, Log, Outcome, empty_log, is_kept, marking, cutting, wake, wake_host, wake_below, asking, publish, receive, with_event, max_tick}
-use Rattle.gr_model.specs.World.{World, Transition, view_of, log_of, absorbed, unchanged, in_turn, sent_line, sent_lines, wake_for, wake_all, deliver_frame, frame_at, publish_now, restarted, crash, publish_stopped, sweep_for, sweep, sweep_moment, next, show, start, opened_lines, kept_events, run_from, report_of, deliver_frame_by, next_by, publish_now_by, publish_stopped_by, report_of_by, run_from_by, sweep_by, wake_for_by}
+use Rattle.gr_model.specs.Broker.{joining, View, Log, Outcome, empty_log, is_kept, marking, cutting, wake, wake_host, wake_below, asking, publish, receive, with_event, max_tick}
+use Rattle.gr_model.specs.World.{join_now, join_now_by, World, Transition, view_of, log_of, absorbed, unchanged, in_turn, sent_line, sent_lines, wake_for, wake_all, deliver_frame, frame_at, publish_now, restarted, crash, publish_stopped, sweep_for, sweep, sweep_moment, next, show, start, opened_lines, kept_events, run_from, report_of, deliver_frame_by, next_by, publish_now_by, publish_stopped_by, report_of_by, run_from_by, sweep_by, wake_for_by}
 use Rattle.gr_model.specs.World as world
-use Rattle.gr_model.specs.Headline.{Recorded, History, begin, history_after, publish_line, may_crash, sent_number, sent_count}
+use Rattle.gr_model.specs.Headline.{join_line, Recorded, History, begin, history_after, publish_line, may_crash, sent_number, sent_count}
 use Rattle.gr_model_theorems.specs.Replies.{is_reply, frame_of_line, shown_bytes, replies, StepReplied, Replied_from, Replied}
 use Rattle.gr_model.specs.Tree.{IsNet}
 use Rattle.gr_model_calls.specs.Fits.{WorldFits, StepIn, StepsIn}
 use Rattle.gr_model_theorems.proofs.records.Records.{core}
-use Rattle.gr_model_theorems.proofs.records.RecordLines.{Skips, host_lines, receive_none, marking_none, publish_some, Sends}
+use Rattle.gr_model_theorems.proofs.records.RecordLines.{join_some, Skips, host_lines, receive_none, marking_none, publish_some, Sends}
 use Rattle.gr_model_theorems.proofs.records.RecordSteps.{step_sends}
 use Rattle.gr_model_theorems.proofs.records.Recorded.{sweep_same}
 use Rattle.gr_model_calls.proofs.runs.Chains.{Chains, wake_all_chain, sweeps_chain}
 use Rattle.gr_model_calls.proofs.runs.Schedules.{clocked_fits}
 use Rattle.gr_model_theorems.proofs.heard.HeardSteps.{line_is, line_at, sent_line_number}
+use Rattle.gr_event.specs.Joins.{has_joined}
 use Rattle.gr_model_theorems.proofs.headline.SoFar.{Stands, next_stands, start_stands, sent_count_is}
 
 -- the replies among some lines
@@ -102,6 +103,21 @@ publish_now_silent net w p number e =
     let v = view_of w (net.host p) p in
     absorbed_silent w (net.host p) p (publish net p (net.host p) w.clock number e v (log_of w p))
     (publish_some is_reply net p (net.host p) w.clock number e v (log_of w p) replies_skip ∙ publish_line_silent p w.clock number (core (log_of w p)))
+
+join_line_silent : (s p now : ℕ) (r : Recorded) → replying (join_line s p now r ∷ []) ≡ []
+join_line_silent s p now r = go (has_joined r.joined s) (nat_lt max_tick (max (suc r.settled) now))
+  where
+    go : (x y : Bool) → replying ((if x then line.AlreadyJoined s p else (if y then line.ExhaustedJoin s p else line.Joined s p (max (suc r.settled) now))) ∷ []) ≡ []
+    go true y = refl
+    go false true = refl
+    go false false = refl
+
+join_now_silent : (net : Net) (w : World) (s p : ℕ) → replying (join_now net w s p).lines ≡ []
+unfolding join_now_by
+join_now_silent net w s p =
+    let v = view_of w (net.host p) p in
+    absorbed_silent w (net.host p) p (joining net p (net.host p) w.clock s v (log_of w p))
+    (join_some is_reply net p (net.host p) w.clock s v (log_of w p) replies_skip ∙ join_line_silent s p w.clock (core (log_of w p)))
 
 silent_chain : (net : Net) → Chains net (λ w t. replying t.lines ≡ [])
 silent_chain net = record {
@@ -247,7 +263,7 @@ step_replies net w h n (step.Bytes j) t k i = go (frame_at w j) ∙ ap (bytes_re
     go : (o : Option Frame) → replying (let u : Transition = elim o [ None ↦ unchanged w (line.RefusedFrame n j (length w.frames) ∷ []) | Some x ↦ unchanged w (line.BytesOf j (frame_bytes x) ∷ []) ] in u.lines) ≡ bytes_reply n j (sent_count h.lines) (line_at j o)
     go None = ap (λ c. line.RefusedFrame n j c ∷ []) (sym (sent_count_is net w h k))
     go (Some x) = ap (λ z. elim z [ Some f ↦ line.BytesOf j (frame_bytes f) ∷ [] | None ↦ [] ]) (sym (frame_told j x))
-step_replies net w h n (step.Join q p) t k i = absurd i
+step_replies net w h n (step.Join s p) t k i = join_now_silent net w s p
 
 -- Numbers
 

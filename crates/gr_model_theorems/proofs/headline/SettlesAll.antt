@@ -19,7 +19,7 @@ use Rattle.gr_model_calls.proofs.calls.Telling.{last_horizon-append}
 use Rattle.gr_model_theorems.proofs.records.Records.{core_of}
 use Rattle.gr_model_theorems.proofs.records.Recorded.{Sweeps, sweeps_from, marked_now, settled_below}
 use Rattle.gr_model_theorems.proofs.records.RecordLines.{sweeps_recs}
-use Rattle.gr_model_calls.proofs.runs.Worlds.{Each, Kept, absorbed_changed, sweep_for_kept, reached_here, numbers_below}
+use Rattle.gr_model_calls.proofs.runs.Worlds.{held_by_host, Each, Kept, absorbed_changed, sweep_for_kept, reached_here, numbers_below}
 use Rattle.gr_model_calls.proofs.runs.Chains.{Chains, in_turn_both, sweep_for_chain}
 use Rattle.gr_model_calls.proofs.runs.Schedules.{clocked_fits, sweep_kept}
 use Rattle.gr_model_theorems.proofs.cuts.Orders.{Ordered, has_one}
@@ -66,7 +66,7 @@ unfolding wake_for_by deliver_frame_by
 rises_chain net p n = record {
   nil = λ w f. record { horizon = λ b i. le_refl (view_of w b p).horizon; cut = le_refl (log_of w p).cut };
   seq = λ w t f g k a x b. record { horizon = λ c i. le_trans (a.horizon c i) (b.horizon c i); cut = le_trans a.cut b.cut };
-  wake = λ w b q f i j. call_rises net p w b q (wake net q b w.clock (view_of w b q) (log_of w q)) f i j (wake_call net q b w.clock (view_of w b q) (log_of w q) (reached_in net w q) n j i (f.logs q j) (f.views q b j i)).horizon (wake_cuts net q b w.clock (view_of w b q) (log_of w q));
+  wake = λ w b q f i j. call_rises net p w b q (wake net q b w.clock (view_of w b q) (log_of w q)) f i j (wake_call net q b w.clock (view_of w b q) (log_of w q) (reached_in net w q) n j i (f.logs q j) (f.views q b j i) (held_by_host net w b q f j)).horizon (wake_cuts net q b w.clock (view_of w b q) (log_of w q));
   deliver = λ w x f t. call_rises net p w x.head.to x.head.publisher (receive net w.clock x (view_of w x.head.to x.head.publisher) (log_of w x.head.publisher)) f t.fits.to_in t.publisher_in
       (receive_call net w.clock x (view_of w x.head.to x.head.publisher) (log_of w x.head.publisher) (reached_in net w x.head.publisher) n t.publisher_in t.fits t.told (f.logs x.head.publisher t.publisher_in) (f.views x.head.publisher x.head.to t.publisher_in t.fits.to_in)).horizon
       (receive_cuts net w.clock x (view_of w x.head.to x.head.publisher) (log_of w x.head.publisher));

@@ -2,6 +2,7 @@
 use Rattle.std.proofs.Common.{◌≡◌, ◌≢◌, ◌⊎◌, inl, inr, ℕ, suc, ◌+◌, ◌<◌, Bool, true, false, List, [], map, set, get_or, refl, sym, ap, ◌∙◌, subst, arith}
 use Rattle.std.proofs.lemmas.Bool.{cases_eq, eq-eqb, false≢true, both_ways}
 use Rattle.std.proofs.lemmas.List.{get_or-set_other, get_or-set_same}
+use Rattle.gr_event.specs.Joins.{Joins, longer}
 use Rattle.gr_event.specs.declared.event.Event.{Event}
 use Rattle.gr_frame.specs.declared.Body.{Body}
 use Rattle.gr_frame.specs.declared.Body.TheVariants as body
@@ -11,15 +12,15 @@ use Rattle.gr_tick.specs.Runs.{AreRuns}
 use Rattle.gr_know.specs.Values.{Known, known_at}
 use Rattle.gr_curio.specs.Values.{Wanted}
 use Rattle.gr_model.specs.Net.{Net, is_host, keeps_horizon, numbers}
-use Rattle.gr_model.specs.Broker.{View, Log, Outcome, empty_log, learn, asking, expect, curiosity, wake, wake_host, wake_below, receive, clashes, stored, acknowledged, place_of, due, noted, publish, started}
-use Rattle.gr_model.specs.World.{World, blank_view, view_of, log_of, absorbed, wake_for, deliver_frame, publish_now, restarted, deliver_frame_by, publish_now_by, wake_for_by}
-use Rattle.gr_model_calls.specs.Truth.{Facts, AllWantTruth}
+use Rattle.gr_model.specs.Broker.{joining, with_joins, drops, View, Log, Outcome, empty_log, learn, asking, expect, curiosity, wake, wake_host, wake_below, receive, clashes, stored, acknowledged, place_of, due, noted, publish, started}
+use Rattle.gr_model.specs.World.{join_now, join_now_by, World, blank_view, view_of, log_of, absorbed, wake_for, deliver_frame, publish_now, restarted, deliver_frame_by, publish_now_by, wake_for_by}
+use Rattle.gr_model_calls.specs.Truth.{HasEvent, Facts, AllWantTruth}
 use Rattle.gr_model.specs.Tree.{IsNet, IsPlace}
 use Rattle.gr_model_calls.specs.Fits.{WorldFits, ViewTrue, FrameTrue, BodyTrue, BodyFits, facts_of}
-use Rattle.gr_model_calls.proofs.calls.CallTruth.{curiosity_wants}
+use Rattle.gr_model_calls.proofs.calls.CallTruth.{ViewTrue-taken, curiosity_wants}
 use Rattle.gr_model_calls.proofs.asks.CallTicks.{IsTrimmed, trimmed-is, trimmed_above}
 use Rattle.gr_model_theorems.proofs.heard.Heard.{HeardFits, hears, learn_heard, kept_above}
-use Rattle.gr_model_calls.proofs.runs.Clash.{true_pieces}
+use Rattle.gr_model_calls.proofs.runs.Clash.{nothing_drops, true_pieces}
 use Rattle.gr_model_calls.proofs.runs.Closed.{with_logs}
 use Rattle.gr_model_calls.proofs.runs.Schedules.{get_numbers}
 use Rattle.gr_model_calls.proofs.runs.Worlds.{absorbed_changed}
@@ -86,16 +87,16 @@ receive_heard net f now x v log H place keeps h tr fits k = go x.body tr fits
     b : ℕ
     b = x.head.to
 
-    learned : (runs : Known) (q : Bool) → clashes v.know runs ≡ q → BodyTrue net f p x.head.from b (body.Knowledge runs []) → HeardFits (let o : Outcome = elim q [ true ↦ record { view = v; log = log; lines = []; frames = [] } | false ↦ learn net p b runs v log ] in o.view) (hears H runs)
-    learned runs true e i = absurd (false≢true (sym (true_pieces net f p b v.know runs h.know i) ∙ e))
-    learned runs false e i = learn_heard net f p b runs v log H place keeps h i k
+    learned : (runs : Known) (js : Joins) (q : Bool) → drops v runs js ≡ q → BodyTrue net f p x.head.from b (body.Knowledge runs js) → HeardFits (let o : Outcome = elim q [ true ↦ record { view = v; log = log; lines = []; frames = [] } | false ↦ learn net p b runs (with_joins v (longer v.joins js)) log ] in o.view) (hears H runs)
+    learned runs js true e i = absurd (false≢true (sym (nothing_drops net f p b v runs js h.know h.held i.0 i.1) ∙ e))
+    learned runs js false e i = learn_heard net f p b runs (with_joins v (longer v.joins js)) log H place keeps (ViewTrue-taken net f p b v js (HasEvent runs) h i.1) i.0 (record { below = k.below; stops = k.stops; known = k.known; kept = k.kept })
 
     go : (y : Body) → BodyTrue net f p x.head.from b y → BodyFits net p x.head.from b y → HeardFits (let o : Outcome = elim y [
-      | body.Knowledge runs js ↦ elim (clashes v.know runs) [ true ↦ record { view = v; log = log; lines = []; frames = [] } | false ↦ learn net x.head.publisher x.head.to runs v log ]
+      | body.Knowledge runs js ↦ elim (drops v runs js) [ true ↦ record { view = v; log = log; lines = []; frames = [] } | false ↦ learn net x.head.publisher x.head.to runs (with_joins v (longer v.joins js)) log ]
       | body.Curiosity runs ↦ curiosity net x.head.publisher x.head.to now x.head.from (place_of x.head.from (net.children x.head.publisher x.head.to)) runs v log
       | body.Expect tick ↦ expect net x.head.publisher x.head.to now tick v log
     ] in o.view) (hears_body H y)
-    go (body.Knowledge runs js) i j = learned runs (clashes v.know runs) refl i
+    go (body.Knowledge runs js) i j = learned runs js (drops v runs js) refl i
     go (body.Curiosity runs) i j = curiosity_heard net f p b now x.head.from runs v log H keeps h (curiosity_wants net f p b x.head.from runs v h j i) k
     go (body.Expect tick) i j = expect_heard net p b now tick v log H keeps h.know.runs k
 
@@ -144,6 +145,13 @@ pub publish_now_heard : (net : Net) (w : World) (p number : ℕ) (e : Event) (H 
 unfolding publish_now_by
 publish_now_heard net w p number e H n f j h =
     absorbed_heard net w (net.host p) p (publish net p (net.host p) w.clock number e (view_of w (net.host p) p) (log_of w p)) H H f (n.host_in p j) j
+    (λ host keeps k. absurd (both_ways (is_host net p (net.host p)) host (eq-eqb (net.host p) (net.host p) refl))) (λ c q t x. refl) h
+
+-- so does a join
+pub join_now_heard : (net : Net) (w : World) (s p : ℕ) (H : ℕ → ℕ → ℕ → Bool) → IsNet net → WorldFits net w → p < net.publishers → HeardsFit net w H → HeardsFit net (join_now net w s p).world H
+unfolding join_now_by
+join_now_heard net w s p H n f j h =
+    absorbed_heard net w (net.host p) p (joining net p (net.host p) w.clock s (view_of w (net.host p) p) (log_of w p)) H H f (n.host_in p j) j
     (λ host keeps k. absurd (both_ways (is_host net p (net.host p)) host (eq-eqb (net.host p) (net.host p) refl))) (λ c q t x. refl) h
 
 -- a started broker has heard nothing

@@ -28,7 +28,7 @@ use Rattle.gr_model_theorems.specs.Order.{is_sweep}
 use Rattle.gr_model_theorems.proofs.records.Records.{core_of}
 use Rattle.gr_model_theorems.proofs.records.Recorded.{RecordsFit, record_core}
 use Rattle.gr_model_theorems.proofs.heard.Heard.{hears, is_Q_at}
-use Rattle.gr_model_theorems.proofs.heard.HeardCalls.{HeardsFit, SameBut, hears_body, wake_for_heard, deliver_heard, publish_now_heard, restarted_heard}
+use Rattle.gr_model_theorems.proofs.heard.HeardCalls.{join_now_heard, HeardsFit, SameBut, hears_body, wake_for_heard, deliver_heard, publish_now_heard, restarted_heard}
 use Rattle.gr_model_calls.proofs.runs.Closed.{in_turn_goes, with_logs}
 use Rattle.gr_model_calls.proofs.runs.Worlds.{wake_for_kept, numbers_below}
 use Rattle.gr_model_calls.proofs.runs.Schedules.{frame_at_true}
@@ -200,7 +200,7 @@ pub record AddsHeard (net : Net) (heard more : Pieces) (h : Head) (y : Body) : T
 pub body_adds : (net : Net) (w : World) (heard : Pieces) (h : Head) (y : Body) → HeardLong net heard → h.to < net.brokers → h.publisher < net.publishers → BodyTrue net (facts_of net w h.publisher) h.publisher h.from h.to y → AddsHeard net heard (hearing heard (know_of_body h y)) h y
 body_adds net w heard h (body.Knowledge runs js) l i j tr = record {
   long = hearing_long net heard h.to h.publisher runs l i;
-  here = λ t. ap (λ pieces. is_heard pieces t) (hearing_here net heard h.to h.publisher runs l i j) ∙ heard_more (get_or (get_or heard h.to []) h.publisher []) runs t tr.runs;
+  here = λ t. ap (λ pieces. is_heard pieces t) (hearing_here net heard h.to h.publisher runs l i j) ∙ heard_more (get_or (get_or heard h.to []) h.publisher []) runs t tr.0.runs;
   same = λ c q t n. ap (λ pieces. is_heard pieces t) (hearing_other net heard h.to h.publisher c q runs l i n);
 }
 body_adds net w heard h (body.Curiosity runs) l i j tr = record { long = l; here = λ t. refl; same = λ c q t n. refl }
@@ -288,4 +288,4 @@ hears_by net w h k (step.Bytes j) ls n f r e i z a = go (frame_at w j)
     go : (o : Option Frame) → Hears net (let t : Transition = elim o [ None ↦ unchanged w (line.RefusedFrame k j (length w.frames) ∷ []) | Some x ↦ unchanged w (line.BytesOf j (frame_bytes x) ∷ []) ] in t.world) h.heard
     go None = record { long = a.long; fits = a.fits }
     go (Some x) = record { long = a.long; fits = a.fits }
-hears_by net w h k (step.Join q p) ls n f r e i z a = absurd i
+hears_by net w h k (step.Join s p) ls n f r e i z a = record { long = a.long; fits = join_now_heard net w s p (heard_in h.heard) n f i.1 a.fits }

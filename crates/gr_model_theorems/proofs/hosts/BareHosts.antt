@@ -4,6 +4,7 @@ use Rattle.std.specs.Prelude.{nat_eq, nat_le, nat_lt, if◌then◌else◌, flat_
 use Rattle.std.specs.List.{list_any}
 use Rattle.std.proofs.lemmas.Bool.{cases_Bool, cases_eq, eq-eqb, ne_eqb, false≢true, true≢false, both_ways, lt-leb, le-ltb}
 use Rattle.std.proofs.lemmas.List.{get_or-set_other, get_or-set_same}
+use Rattle.gr_event.specs.Joins.{has_joined, Joins, longer}
 use Rattle.gr_event.specs.declared.event.Event.{Event}
 use Rattle.gr_frame.specs.declared.Body.{Body}
 use Rattle.gr_frame.specs.declared.Body.TheVariants as body
@@ -14,22 +15,22 @@ use Rattle.gr_sched.specs.declared.step.Step.{Step}
 use Rattle.gr_sched.specs.declared.step.Step.TheVariants as step
 use Rattle.gr_model.specs.declared.report.Report.{Report}
 use Rattle.gr_model.specs.declared.report.Report.TheVariants as line
-use Rattle.gr_model.specs.Net.{Net, is_host, keeps_horizon, numbers, numbers_from, not_empty}
-use Rattle.gr_model.specs.Broker.{View, Log, Outcome, empty_log, learn, publish, wake, wake_host, wake_below, curiosity, receive, clashes, expect, place_of, with_event, is_kept, max_tick, started}
-use Rattle.gr_model.specs.World.{World, Transition, blank_view, view_of, log_of, absorbed, unchanged, followed_by, in_turn, wake_for, deliver_frame, frame_at, publish_now, publish_stopped, restarted, crash, next, show, opened_lines, kept_events, deliver_frame_by, next_by, publish_now_by, publish_stopped_by, wake_all_by, wake_for_by}
-use Rattle.gr_model.specs.Headline.{Recorded, History, is_record_line, is_record_of, publish_line, unlogged_after, each_flag, may_crash, is_next}
+use Rattle.gr_model.specs.Net.{is_late, Net, is_host, keeps_horizon, numbers, numbers_from, not_empty}
+use Rattle.gr_model.specs.Broker.{joining, with_joins, drops, View, Log, Outcome, empty_log, learn, publish, wake, wake_host, wake_below, curiosity, receive, clashes, expect, place_of, with_event, is_kept, max_tick, started}
+use Rattle.gr_model.specs.World.{join_now, join_now_by, World, Transition, blank_view, view_of, log_of, absorbed, unchanged, followed_by, in_turn, wake_for, deliver_frame, frame_at, publish_now, publish_stopped, restarted, crash, next, show, opened_lines, kept_events, deliver_frame_by, next_by, publish_now_by, publish_stopped_by, wake_all_by, wake_for_by}
+use Rattle.gr_model.specs.Headline.{join_line, Recorded, History, is_record_line, is_record_of, publish_line, unlogged_after, each_flag, may_crash, is_next}
 use Rattle.gr_model.specs.Tree.{IsNet}
 use Rattle.gr_model_calls.specs.Fits.{WorldFits, FrameTrue, HostKnows, StepIn, reached_in}
 use Rattle.gr_model_theorems.specs.Order.{is_sweep}
-use Rattle.gr_model_calls.proofs.calls.HostCases.{publish_cases, marking_cases}
+use Rattle.gr_model_calls.proofs.calls.HostCases.{joining_cases, publish_cases, marking_cases}
 use Rattle.gr_model_calls.proofs.calls.Calls.{trimmed_horizon}
 use Rattle.gr_model_theorems.proofs.records.Records.{core, core_of, receive_log, wake_core}
 use Rattle.gr_model_theorems.proofs.records.Recorded.{RecordsFit, record_core}
-use Rattle.gr_model_theorems.proofs.records.RecordLines.{recs, wake_for_recs, deliver_recs, publish_now_recs}
-use Rattle.gr_model_theorems.proofs.hosts.HostHorizon.{wake_meets, publish_meets}
+use Rattle.gr_model_theorems.proofs.records.RecordLines.{join_now_recs, recs, wake_for_recs, deliver_recs, publish_now_recs}
+use Rattle.gr_model_theorems.proofs.hosts.HostHorizon.{joining_meets, wake_meets, publish_meets}
 use Rattle.gr_model_calls.proofs.asks.AskMoments.{ExpectFits, ExpectBody}
 use Rattle.gr_model_calls.proofs.runs.Closed.{with_logs, frame_at_ready}
-use Rattle.gr_model_calls.proofs.runs.Worlds.{Each, absorbed_changed, wake_for_kept}
+use Rattle.gr_model_calls.proofs.runs.Worlds.{held_by_host, Each, absorbed_changed, wake_for_kept}
 use Rattle.gr_model_calls.proofs.runs.Schedules.{frame_at_true, get_numbers}
 
 -- some line says that something was logged or marked for p
@@ -39,6 +40,7 @@ told_of p ls = list_any (is_record_of p) ls
 not_record : (p : ℕ) (l : Report) → is_record_line l ≡ false → is_record_of p l ≡ false
 not_record p (line.Logged q n t) e = absurd (true≢false e)
 not_record p (line.Mark q t) e = absurd (true≢false e)
+not_record p (line.Joined s q t) e = absurd (true≢false e)
 not_record p _ e = refl
 
 -- whether something was logged or marked is said by the recorded lines alone
@@ -139,7 +141,7 @@ wake_bare net p w b q n z f i j keeps =
       | inl e ↦ subst (λ a. a < net.publishers → RecordsFirst net p w (wake_for net w b a)) (sym e) here j
     ]
   where
-    settled_now : p < net.publishers → (wake net p b w.clock (view_of w b p) (log_of w p)).log.settled ≡ (let r : Recorded = if is_host net p b then (if nat_le (host_settled p w + net.quiet) w.clock then record { last = (log_of w p).last; settled = w.clock; events = (log_of w p).events } else core_of w p) else core_of w p in r.settled)
+    settled_now : p < net.publishers → (wake net p b w.clock (view_of w b p) (log_of w p)).log.settled ≡ (let r : Recorded = if is_host net p b then (if nat_le (host_settled p w + net.quiet) w.clock then record { last = (log_of w p).last; settled = w.clock; events = (log_of w p).events; joined = (log_of w p).joins } else core_of w p) else core_of w p in r.settled)
     settled_now k = ap (λ r. r.settled) (wake_core net p b w.clock (view_of w b p) (log_of w p))
 
     here : p < net.publishers → RecordsFirst net p w (wake_for net w b p)
@@ -156,7 +158,7 @@ wake_bare net p w b q n z f i j keeps =
               let yes : is_host net p b ≡ true = eq-eqb (net.host p) b g in
               elim (cases_Bool (nat_le (host_settled p w + net.quiet) w.clock)) [
                 | inl y ↦
-                    let m : o.view.horizon ≡ o.log.settled = wake_meets net p b w.clock (view_of w b p) (log_of w p) (reached_in net w p) n k i yes (keeps_here net p b g keeps) (f.logs p k) (f.views p b k i) (subst (λ a. HostKnows (view_of w a p) (log_of w p).settled) g (f.known p k)) (λ x. absurd (both_ways (nat_le (host_settled p w + net.quiet) w.clock) x y)) in
+                    let m : o.view.horizon ≡ o.log.settled = wake_meets net p b w.clock (view_of w b p) (log_of w p) (reached_in net w p) n k i yes (keeps_here net p b g keeps) (f.logs p k) (f.views p b k i) (held_by_host net w b p f k yes) (subst (λ a. HostKnows (view_of w a p) (log_of w p).settled) g (f.known p k)) (λ x. absurd (both_ways (nat_le (host_settled p w + net.quiet) w.clock) x y)) in
                     record {
                       told = λ x. ap (λ a. (view_of u a p).horizon) g ∙ (ap (λ v. v.horizon) c.view ∙ (m ∙ ap (λ l. l.settled) (sym c.log)));
                       still = λ x. absurd (true≢false (sym (t ∙ ap₂ (λ a d. a && d) (ap₂ (λ a d. a && d) yes y) (eq-eqb p p refl)) ∙ x));
@@ -179,7 +181,7 @@ unfolding receive curiosity
 receive_horizon net now x v log fits host = go x.body fits
   where
     go : (y : Body) → ExpectBody net x.head.publisher x.head.to y → (let o : Outcome = elim y [
-      | body.Knowledge runs js ↦ elim (clashes v.know runs) [ true ↦ record { view = v; log = log; lines = []; frames = [] } | false ↦ learn net x.head.publisher x.head.to runs v log ]
+      | body.Knowledge runs js ↦ elim (drops v runs js) [ true ↦ record { view = v; log = log; lines = []; frames = [] } | false ↦ learn net x.head.publisher x.head.to runs (with_joins v (longer v.joins js)) log ]
       | body.Curiosity runs ↦ curiosity net x.head.publisher x.head.to now x.head.from (place_of x.head.from (net.children x.head.publisher x.head.to)) runs v log
       | body.Expect tick ↦ expect net x.head.publisher x.head.to now tick v log
     ] in o.view.horizon) ≡ v.horizon
@@ -245,7 +247,7 @@ publish_bare net p w q number v n f j keeps =
         let c = absorbed_changed net w b p o f (n.host_in p k) k in
         elim (cases_Bool (is_record_of p (publish_line p w.clock number (core_of w p)))) [
           | inl y ↦
-              let m : o.view.horizon ≡ o.log.settled = publish_meets net p b w.clock number v (view_of w b p) (log_of w p) (reached_in net w p) n k (n.host_in p k) (eq-eqb b b refl) keeps (f.logs p k) (f.views p b k (n.host_in p k)) (f.known p k) (λ x. absurd (both_ways (is_record_of p (publish_line p w.clock number (core_of w p))) x y)) in
+              let m : o.view.horizon ≡ o.log.settled = publish_meets net p b w.clock number v (view_of w b p) (log_of w p) (reached_in net w p) n k (n.host_in p k) (eq-eqb b b refl) keeps (f.logs p k) (f.views p b k (n.host_in p k)) (f.hosts p k) (f.known p k) (λ x. absurd (both_ways (is_record_of p (publish_line p w.clock number (core_of w p))) x y)) in
               record {
                 told = λ x. ap (λ a. a.horizon) c.view ∙ (m ∙ ap (λ l. l.settled) (sym c.log));
                 still = λ x. absurd (true≢false (sym (told p ∙ y) ∙ x));
@@ -253,6 +255,49 @@ publish_bare net p w q number v n f j keeps =
           | inr y ↦
               let s = publish_still net p b w.clock number v (view_of w b p) (log_of w p) y in
               tells_still net p w (absorbed w b p o) (told p ∙ y) (ap (λ a. a.horizon) (c.view ∙ s.0)) (ap (λ l. l.settled) (c.log ∙ s.1))
+        ]
+
+joining_still : (net : Net) (p b now s : ℕ) (v : View) (log : Log) → is_record_of p (join_line s p now (core log)) ≡ false → ((joining net p b now s v log).view ≡ v) × ((joining net p b now s v log).log ≡ log)
+joining_still net p b now s v log h =
+    joining_cases net p b now s v log (λ o. (o.view ≡ v) × (o.log ≡ log)) (λ e. (refl, refl)) (λ e l. (refl, refl)) (λ e l. absurd (true≢false (sym (recorded e l) ∙ h)))
+  where
+    recorded : has_joined log.joins s ≡ false → max (suc log.settled) now ≤ max_tick → is_record_of p (join_line s p now (core log)) ≡ true
+    recorded e l = rw (e, le-ltb max_tick (max (suc log.settled) now) l) (eq-eqb p p refl)
+
+join_other : (s p q now : ℕ) (r : Recorded) → q ≢ p → is_record_of p (join_line s q now r) ≡ false
+join_other s p q now r n = go (has_joined r.joined s) (nat_lt max_tick (max (suc r.settled) now))
+  where
+    go : (x y : Bool) → is_record_of p (if x then line.AlreadyJoined s q else (if y then line.ExhaustedJoin s q else line.Joined s q (max (suc r.settled) now))) ≡ false
+    go true y = refl
+    go false true = refl
+    go false false = ne_eqb q p n
+
+join_bare : (net : Net) (p : ℕ) (w : World) (s q : ℕ) → IsNet net → WorldFits net w → is_late net s ≡ true → q < net.publishers → keeps_horizon net p (net.host p) ≡ true → RecordsFirst net p w (join_now net w s q)
+unfolding join_now_by
+join_bare net p w s q n f late j keeps =
+    elim (cases_eq q p) [
+      | inr e ↦ other_tells net p w (net.host q) q (joining net q (net.host q) w.clock s (view_of w (net.host q) q) (log_of w q)) (join_now net w s q).lines f (n.host_in q j) j (told q ∙ join_other s p q w.clock (core_of w q) e) refl (inl e)
+      | inl e ↦ subst (λ a. a < net.publishers → RecordsFirst net p w (join_now net w s a)) (sym e) here j
+    ]
+  where
+    told : (a : ℕ) → told_of p (join_now net w s a).lines ≡ is_record_of p (join_line s a w.clock (core_of w a))
+    told a = told_recs p (join_now net w s a).lines ∙ (ap (told_of p) (join_now_recs net w s a) ∙ or_false (is_record_of p (join_line s a w.clock (core_of w a))))
+
+    here : p < net.publishers → RecordsFirst net p w (join_now net w s p)
+    here k =
+        let b = net.host p in
+        let o = joining net p b w.clock s (view_of w b p) (log_of w p) in
+        let c = absorbed_changed net w b p o f (n.host_in p k) k in
+        elim (cases_Bool (is_record_of p (join_line s p w.clock (core_of w p)))) [
+          | inl y ↦
+              let m : o.view.horizon ≡ o.log.settled = joining_meets net p b w.clock s (view_of w b p) (log_of w p) (reached_in net w p) n late k (n.host_in p k) (eq-eqb b b refl) keeps (f.logs p k) (f.views p b k (n.host_in p k)) (f.known p k) (λ x. absurd (both_ways (is_record_of p (join_line s p w.clock (core_of w p))) x y)) in
+              record {
+                told = λ x. ap (λ a. a.horizon) c.view ∙ (m ∙ ap (λ l. l.settled) (sym c.log));
+                still = λ x. absurd (true≢false (sym (told p ∙ y) ∙ x));
+              }
+          | inr y ↦
+              let t = joining_still net p b w.clock s (view_of w b p) (log_of w p) y in
+              tells_still net p w (absorbed w b p o) (told p ∙ y) (ap (λ a. a.horizon) (c.view ∙ t.0)) (ap (λ l. l.settled) (c.log ∙ t.1))
         ]
 
 -- Starting again
@@ -443,4 +488,4 @@ bare_by net w h k (step.Bytes j) n z f r x i y a = go (frame_at w j)
     go : (o : Option Frame) → (let t : Transition = elim o [ None ↦ unchanged w (line.RefusedFrame k j (length w.frames) ∷ []) | Some x ↦ unchanged w (line.BytesOf j (frame_bytes x) ∷ []) ] in Unlogged net t.world (each_flag (λ p x. x && not (list_any (is_record_of p) t.lines)) 0 h.unlogged))
     go None = tells_bare net w (unchanged w (line.RefusedFrame k j (length w.frames) ∷ [])) h.unlogged a (λ p m keeps. tells_still net p w (unchanged w (line.RefusedFrame k j (length w.frames) ∷ [])) refl refl refl)
     go (Some x) = tells_bare net w (unchanged w (line.BytesOf j (frame_bytes x) ∷ [])) h.unlogged a (λ p m keeps. tells_still net p w (unchanged w (line.BytesOf j (frame_bytes x) ∷ [])) refl refl refl)
-bare_by net w h k (step.Join q p) n z f r x i y a = absurd i
+bare_by net w h k (step.Join s q) n z f r x i y a = tells_bare net w (join_now net w s q) h.unlogged a (λ p j keeps. join_bare net p w s q n f i.0 i.1 keeps)

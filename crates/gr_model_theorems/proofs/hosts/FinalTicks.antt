@@ -11,14 +11,15 @@ use Rattle.gr_know.specs.declared.values.K.{K}
 use Rattle.gr_know.specs.declared.values.K.TheVariants.{Q, F}
 use Rattle.gr_know.specs.Values.{Known, known_at, is_D}
 use Rattle.gr_model.specs.Net.{Net, is_host, is_empty, keeps_horizon, not_empty, numbers}
-use Rattle.gr_model.specs.Broker.{View, Log, Outcome, empty_log, is_consolidated_by, all_A, publish, wake, receive, started, max_tick}
-use Rattle.gr_model.specs.World.{World, blank_view, view_of, log_of, absorbed, wake_for, deliver_frame, publish_now, restarted, start, wake_for_by, deliver_frame_by, publish_now_by}
+use Rattle.gr_model.specs.Broker.{joining, View, Log, Outcome, empty_log, is_consolidated_by, all_A, publish, wake, receive, started, max_tick}
+use Rattle.gr_model.specs.World.{join_now, join_now_by, World, blank_view, view_of, log_of, absorbed, wake_for, deliver_frame, publish_now, restarted, start, wake_for_by, deliver_frame_by, publish_now_by}
 use Rattle.gr_model.specs.Tree.{IsNet}
-use Rattle.gr_model_calls.specs.Rules.{Forgets, Knows, Asks, HostWakes, Wakes, Publishes, Comes}
+use Rattle.gr_model_calls.specs.Rules.{TakesJoin, Forgets, Knows, Asks, HostWakes, Wakes, Publishes, Comes}
 use Rattle.gr_model_calls.specs.Fits.{WorldFits, FrameTrue, reached_in}
-use Rattle.gr_model_calls.proofs.rules.HostRules.{wakes_rule, publishes_rule, comes_rule}
-use Rattle.gr_model_calls.proofs.runs.Worlds.{Each, Changed, absorbed_changed}
+use Rattle.gr_model_calls.proofs.rules.HostRules.{joins_rule, wakes_rule, publishes_rule, comes_rule}
+use Rattle.gr_model_calls.proofs.runs.Worlds.{held_by_host, Each, Changed, absorbed_changed}
 use Rattle.gr_model_calls.proofs.runs.Schedules.{get_numbers, start_is}
+use Rattle.gr_event.specs.Joins.{has_joined}
 use Rattle.gr_model_calls.proofs.runs.Closed.{with_logs, IsClosed}
 
 -- the consolidated ticks of a view are final
@@ -76,6 +77,16 @@ publish_final net p b now number e v log o r h =
     above a b l n = elim (cases_lt b a) [
       | inl x ↦ x
       | inr x ↦ absurd (n (omega (arith, l, x)))
+    ]
+
+join_final : (net : Net) (p b now s : ℕ) (v : View) (log : Log) (o : Outcome) → TakesJoin net p b now s v log o → FinalTicks net p b v → FinalTicks net p b o.view
+join_final net p b now s v log o r h =
+    elim (cases_Bool (has_joined log.joins s)) [
+      | inl e ↦ subst (λ (u : Outcome). FinalTicks net p b u.view) (sym (r.already e)) h
+      | inr e ↦ elim (cases_lt max_tick (max (suc log.settled) now)) [
+        | inl m ↦ subst (λ (u : Outcome). FinalTicks net p b u.view) (sym (r.exhausted e m)) h
+        | inr m ↦ subst (λ (u : Outcome). FinalTicks net p b u.view) (sym (r.logged e m)) (knows_final net p b _ r.learned.view (r.learns e m).know)
+      ]
     ]
 
 comes_final : (net : Net) (p from to now : ℕ) (y : Body) (v : View) (log : Log) (o : Outcome) → Comes net p from to now y v log o → FinalTicks net p to v → FinalTicks net p to o.view
@@ -136,7 +147,7 @@ wake_for_final : (net : Net) → IsNet net → 1 ≤ net.quiet → (w : World) (
 unfolding wake_for_by
 wake_for_final net n z w b p f i j a =
     let o = wake net p b w.clock (view_of w b p) (log_of w p) in
-    absorbed_final net w b p o f i j (wake_final net p b w.clock (view_of w b p) (log_of w p) o (wakes_rule net p b w.clock (view_of w b p) (log_of w p) (reached_in net w p) n z j i (f.logs p j) (f.views p b j i))) a
+    absorbed_final net w b p o f i j (wake_final net p b w.clock (view_of w b p) (log_of w p) o (wakes_rule net p b w.clock (view_of w b p) (log_of w p) (reached_in net w p) n z j i (f.logs p j) (f.views p b j i) (held_by_host net w b p f j))) a
 
 deliver_final : (net : Net) → IsNet net → (w : World) (x : Frame) → WorldFits net w → FrameTrue net w x → AllFinal net w → AllFinal net (deliver_frame net w x).world
 unfolding deliver_frame_by
@@ -154,6 +165,14 @@ publish_now_final net n w p number e f j a =
     let i = n.host_in p j in
     let o = publish net p b w.clock number e (view_of w b p) (log_of w p) in
     absorbed_final net w b p o f i j (publish_final net p b w.clock number e (view_of w b p) (log_of w p) o (publishes_rule net p b w.clock number e (view_of w b p) (log_of w p) (reached_in net w p) n j i (eq-eqb b b refl) (f.logs p j) (f.views p b j i))) a
+
+join_now_final : (net : Net) → IsNet net → (w : World) (s p : ℕ) → WorldFits net w → p < net.publishers → AllFinal net w → AllFinal net (join_now net w s p).world
+unfolding join_now_by
+join_now_final net n w s p f j a =
+    let b = net.host p in
+    let i = n.host_in p j in
+    let o = joining net p b w.clock s (view_of w b p) (log_of w p) in
+    absorbed_final net w b p o f i j (join_final net p b w.clock s (view_of w b p) (log_of w p) o (joins_rule net p b w.clock s (view_of w b p) (log_of w p) (reached_in net w p) n j i (f.logs p j) (f.views p b j i))) a
 
 restarted_final : (net : Net) (w : World) (logs : List Log) (b : ℕ) → WorldFits net w → b < net.brokers → AllFinal net w → AllFinal net (restarted net (with_logs w logs) b)
 unfolding restarted
@@ -175,6 +194,7 @@ final_closed net n z = record {
     delivered = λ w x f t r a. deliver_final net n w x f t a;
   };
   published = λ w p number e f j a. publish_now_final net n w p number e f j a;
+  joined = λ w s p f late j a. join_now_final net n w s p f j a;
   at_clock = λ w now f a. a;
   restarts = λ w logs b f i a. restarted_final net w logs b f i a;
 }

@@ -1,26 +1,27 @@
 -- A host with subscribers has its horizon where its log is settled
-use Rattle.std.proofs.Common.{◌≡◌, inl, inr, ℕ, suc, ◌+◌, ◌-◌, ◌≤◌, ◌<◌, max, Bool, true, false, [], refl, sym, ap, ◌∙◌, subst, arith, le_refl, le_antisymm}
+use Rattle.std.proofs.Common.{◌≡◌, inl, inr, ℕ, suc, ◌+◌, ◌-◌, ◌≤◌, ◌<◌, max, Bool, true, false, [], ◌∷◌, refl, sym, ap, ◌∙◌, subst, arith, le_refl, le_antisymm}
 use Rattle.std.specs.Prelude.{nat_le}
-use Rattle.gr_model.specs.Headline.{is_record_of, publish_line}
+use Rattle.gr_model.specs.Headline.{join_line, is_record_of, publish_line}
 use Rattle.std.proofs.lemmas.Bool.{cases_lt, cases_eq, eq-eqb, ne_eqb, or_left, leb-true, false≢true, le-leb, lt-leb, lt-ltb, le-ltb}
 use Rattle.gr_event.specs.declared.event.Event.{Event}
 use Rattle.gr_know.specs.declared.values.K.TheVariants.{Q}
 use Rattle.gr_frame.specs.declared.Frame.{Frame}
 use Rattle.gr_tick.specs.Runs.{zip_runs, first_bottom_from}
 use Rattle.gr_know.specs.Values.{Known, known_at, join_K, same_K}
-use Rattle.gr_model.specs.Net.{Net, is_host, keeps_horizon, not_empty, is_empty}
-use Rattle.gr_model.specs.Broker.{View, Log, Outcome, learn, publish, marking, wake, wake_host, wake_below, receive, silence, with_event, with_mark, max_tick}
-use Rattle.gr_model.specs.World.{World, view_of, log_of, absorbed, wake_for, deliver_frame, publish_now, deliver_frame_by, publish_now_by, wake_for_by}
-use Rattle.gr_model_calls.specs.Truth.{KnowsTruth}
+use Rattle.gr_model.specs.Net.{is_late, Net, is_host, keeps_horizon, not_empty, is_empty}
+use Rattle.gr_model.specs.Broker.{joining, with_join, with_joins, View, Log, Outcome, learn, publish, marking, wake, wake_host, wake_below, receive, silence, with_event, with_mark, max_tick}
+use Rattle.gr_model.specs.World.{join_now, join_now_by, World, view_of, log_of, absorbed, wake_for, deliver_frame, publish_now, deliver_frame_by, publish_now_by, wake_for_by}
+use Rattle.gr_model_calls.specs.Truth.{Grows, HasEvent, KnowsTruth}
 use Rattle.gr_model_calls.specs.Fits.{facts, reached_in, LogFits, ViewTrue, HostKnows, FrameTrue, WorldFits}
 use Rattle.gr_model.specs.Tree.{IsNet}
-use Rattle.gr_model_calls.proofs.calls.HostCases.{publish_cases, marking_cases, news_of}
+use Rattle.gr_model_calls.proofs.calls.HostCases.{joining_cases, publish_cases, marking_cases, news_of}
 use Rattle.gr_tick.proofs.RunLaws.{first_bottom_from-is}
-use Rattle.gr_model_calls.proofs.calls.CallTruth.{joined-is, learned_horizon, ViewTrue-later}
-use Rattle.gr_model_calls.proofs.calls.Calls.{CallTrue, learn_horizon, cutting_same, marking_call, wake_call, publish_call, receive_call, later_facts, silence_true, nothing_true, said_more, published_piece}
+use Rattle.gr_model_calls.proofs.calls.CallTruth.{ViewTrue-joins, joined-is, learned_horizon, ViewTrue-later}
+use Rattle.gr_model_calls.proofs.calls.Calls.{joining_call, CallTrue, learn_horizon, cutting_same, marking_call, wake_call, publish_call, receive_call, later_facts, silence_true, nothing_true, said_more, published_piece}
 use Rattle.gr_model_theorems.proofs.heard.Heard.{learn_above, horizon_keeps}
 use Rattle.gr_model_theorems.proofs.records.Records.{core, receive_log}
-use Rattle.gr_model_calls.proofs.runs.Worlds.{absorbed_changed}
+use Rattle.gr_model_calls.proofs.calls.Held.{own, grows_not}
+use Rattle.gr_model_calls.proofs.runs.Worlds.{held_by_host, absorbed_changed}
 
 -- a call leaves the horizon within what is settled
 pub call_within : (net : Net) (p b : ℕ) (v : View) (log : Log) (reached : ℕ → ℕ) (o : Outcome) → CallTrue net p b v log reached o → o.view.horizon ≤ o.log.settled
@@ -51,9 +52,9 @@ Meets v log = v.horizon ≡ log.settled
 settled_meets : (net : Net) (p b : ℕ) (v : View) (log : Log) (reached : ℕ → ℕ) (o : Outcome) → CallTrue net p b v log reached o → o.log.settled ≡ log.settled → Meets v log → Meets o.view o.log
 settled_meets net p b v log reached o c s m = let w = call_within net p b v log reached o c in le_antisymm w (omega (arith, c.horizon, m, s))
 
-marking_meets : (net : Net) (p b now : ℕ) (v : View) (log : Log) (reached : ℕ → ℕ) → IsNet net → p < net.publishers → b < net.brokers → is_host net p b ≡ true → keeps_horizon net p b ≡ true → LogFits log → ViewTrue net (facts log reached) p b v → HostKnows v log.settled → (nat_le (log.settled + net.quiet) now ≡ false → Meets v log) → Meets (marking net p b now v log).view (marking net p b now v log).log
-marking_meets net p b now v log reached n i j host keeps fit h known m =
-    marking_cases net p b now v log (λ o. CallTrue net p b v log reached o → Meets o.view o.log) marked (λ e c. m e) (marking_call net p b now v log reached n i j host fit h)
+marking_meets : (net : Net) (p b now : ℕ) (v : View) (log : Log) (reached : ℕ → ℕ) → IsNet net → p < net.publishers → b < net.brokers → is_host net p b ≡ true → keeps_horizon net p b ≡ true → LogFits log → ViewTrue net (facts log reached) p b v → v.joins ≡ log.joins → HostKnows v log.settled → (nat_le (log.settled + net.quiet) now ≡ false → Meets v log) → Meets (marking net p b now v log).view (marking net p b now v log).log
+marking_meets net p b now v log reached n i j host keeps fit h js known m =
+    marking_cases net p b now v log (λ o. CallTrue net p b v log reached o → Meets o.view o.log) marked (λ e c. m e) (marking_call net p b now v log reached n i j host fit h js)
   where
     new : Log
     new = with_mark log now
@@ -69,25 +70,25 @@ marking_meets net p b now v log reached n i j host keeps fit h known m =
         let l : log.settled ≤ now = omega (arith, leb-true (log.settled + net.quiet) now e) in
         le_antisymm (call_within net p b v log reached _ c)
         (learn_reaches net p b o.log.settled piece v new new reached n i j keeps
-        (ViewTrue-later net (facts log reached) (facts new reached) p b v (later_facts log new reached reached l (λ t x. refl) (λ s. le_refl (reached s))) h)
+        (ViewTrue-later net (facts log reached) (facts new reached) p b v (later_facts log new reached reached l (λ t x. refl) (λ s. le_refl (reached s)) (grows_not log.joins log.settled)) h)
         (silence_true net (facts new reached) p b (suc log.settled) now [] (omega arith) (le_refl now) (λ t x y. fit.past t x) (nothing_true net (facts new reached) p b) tt tt)
         (c.known host known))
 
 -- a wake that marks brings the host's horizon to where its log is settled, and each other wake leaves it there
-pub wake_meets : (net : Net) (p b now : ℕ) (v : View) (log : Log) (reached : ℕ → ℕ) → IsNet net → p < net.publishers → b < net.brokers → is_host net p b ≡ true → keeps_horizon net p b ≡ true → LogFits log → ViewTrue net (facts log reached) p b v → HostKnows v log.settled → (nat_le (log.settled + net.quiet) now ≡ false → Meets v log) → Meets (wake net p b now v log).view (wake net p b now v log).log
+pub wake_meets : (net : Net) (p b now : ℕ) (v : View) (log : Log) (reached : ℕ → ℕ) → IsNet net → p < net.publishers → b < net.brokers → is_host net p b ≡ true → keeps_horizon net p b ≡ true → LogFits log → ViewTrue net (facts log reached) p b v → v.joins ≡ log.joins → HostKnows v log.settled → (nat_le (log.settled + net.quiet) now ≡ false → Meets v log) → Meets (wake net p b now v log).view (wake net p b now v log).log
 unfolding wake wake_host
-wake_meets net p b now v log reached n i j host keeps fit h known m = go (is_host net p b) host
+wake_meets net p b now v log reached n i j host keeps fit h js known m = go (is_host net p b) host
   where
     o : Outcome
     o = marking net p b now v log
 
     go : (q : Bool) → q ≡ true → (let u : Outcome = elim q [ true ↦ wake_host net p b now v log | false ↦ wake_below net p b now v log ] in Meets u.view u.log)
     go false e = absurd (false≢true e)
-    go true e = marking_meets net p b now v log reached n i j host keeps fit h known m ∙ sym (cutting_same net p b o.view o.log).settled
+    go true e = marking_meets net p b now v log reached n i j host keeps fit h js known m ∙ sym (cutting_same net p b o.view o.log).settled
 
 -- a publish that is recorded brings the host's horizon to where its log is settled, and each other leaves it there
-pub publish_meets : (net : Net) (p b now number : ℕ) (e : Event) (v : View) (log : Log) (reached : ℕ → ℕ) → IsNet net → p < net.publishers → b < net.brokers → is_host net p b ≡ true → keeps_horizon net p b ≡ true → LogFits log → ViewTrue net (facts log reached) p b v → HostKnows v log.settled → (is_record_of p (publish_line p now number (core log)) ≡ false → Meets v log) → Meets (publish net p b now number e v log).view (publish net p b now number e v log).log
-publish_meets net p b now number e v log reached n i j host keeps fit h known m =
+pub publish_meets : (net : Net) (p b now number : ℕ) (e : Event) (v : View) (log : Log) (reached : ℕ → ℕ) → IsNet net → p < net.publishers → b < net.brokers → is_host net p b ≡ true → keeps_horizon net p b ≡ true → LogFits log → ViewTrue net (facts log reached) p b v → v.joins ≡ log.joins → HostKnows v log.settled → (is_record_of p (publish_line p now number (core log)) ≡ false → Meets v log) → Meets (publish net p b now number e v log).view (publish net p b now number e v log).log
+publish_meets net p b now number e v log reached n i j host keeps fit h js known m =
     publish_cases net p b now number e v log (λ o. CallTrue net p b v log reached o → Meets o.view o.log)
     (λ l c. m (rw (le-leb number log.last l) refl))
     (λ l c. m (rw (lt-leb number log.last (omega (arith, l)), lt-ltb (suc log.last) number l) refl))
@@ -95,10 +96,10 @@ publish_meets net p b now number e v log reached n i j host keeps fit h known m 
     (λ x l c.
     le_antisymm (call_within net p b v log reached _ c)
     (learn_reaches net p b o.log.settled (news_of log tick e) v new new reached n i j keeps
-    (ViewTrue-later net (facts log reached) (facts new reached) p b v (later_facts log new reached reached (omega arith) (λ t x. said_more log.events tick t e (λ q. omega (arith, q))) (λ s. le_refl (reached s))) h)
+    (ViewTrue-later net (facts log reached) (facts new reached) p b v (later_facts log new reached reached (omega arith) (λ t x. said_more log.events tick t e (λ q. omega (arith, q))) (λ s. le_refl (reached s)) (grows_not log.joins log.settled)) h)
     (published_piece net p b tick e log reached host fit (omega arith))
     (c.known host known)))
-    (publish_call net p b now number e v log reached n i j host fit h)
+    (publish_call net p b now number e v log reached n i j host fit h js)
   where
     tick : ℕ
     tick = max (suc log.settled) now
@@ -108,6 +109,38 @@ publish_meets net p b now number e v log reached n i j host keeps fit h known m 
 
     o : Outcome
     o = learn net p b (news_of log tick e) v new
+
+-- a join that is recorded brings the host's horizon to where its log is settled, and each other leaves it there
+pub joining_meets : (net : Net) (p b now s : ℕ) (v : View) (log : Log) (reached : ℕ → ℕ) → IsNet net → is_late net s ≡ true → p < net.publishers → b < net.brokers → is_host net p b ≡ true → keeps_horizon net p b ≡ true → LogFits log → ViewTrue net (facts log reached) p b v → HostKnows v log.settled → (is_record_of p (join_line s p now (core log)) ≡ false → Meets v log) → Meets (joining net p b now s v log).view (joining net p b now s v log).log
+joining_meets net p b now s v log reached n late i j host keeps fit h known m =
+    joining_cases net p b now s v log (λ o. CallTrue net p b v log reached o → Meets o.view o.log)
+    (λ e c. m (rw e refl))
+    (λ e l c. m (rw (e, lt-ltb max_tick tick l) refl))
+    (λ e l c.
+    le_antisymm (call_within net p b v log reached _ c)
+    (learn_reaches net p b o.log.settled piece u new new reached n i j keeps
+    (ViewTrue-joins net (facts new reached) p b v new.joins (ViewTrue-later net (facts log reached) (facts new reached) p b v (later_facts log new reached reached (omega arith) (λ t x. refl) (λ s. le_refl (reached s)) grows) h) (own new.joins (HasEvent v.know)))
+    (silence_true net (facts new reached) p b (suc log.settled) tick [] (omega arith) (le_refl tick) (λ t x y. fit.past t x) (nothing_true net (facts new reached) p b) tt tt)
+    (c.known host known)))
+    (joining_call net p b now s v log reached n late i j host fit h)
+  where
+    tick : ℕ
+    tick = max (suc log.settled) now
+
+    new : Log
+    new = with_join log tick s
+
+    grows : Grows log.joins new.joins log.settled
+    grows = (record { subscriber = s; tick = tick } ∷ [], refl, (omega arith, tt))
+
+    piece : Known
+    piece = silence (suc log.settled) tick []
+
+    u : View
+    u = with_joins v new.joins
+
+    o : Outcome
+    o = learn net p b piece u new
 
 -- Worlds
 
@@ -134,8 +167,8 @@ absorbed_meets net w b p o f i j t call m q x y =
 pub wake_for_meets : (net : Net) (w : World) (b p : ℕ) → IsNet net → WorldFits net w → b < net.brokers → p < net.publishers → HostsMeet net w → HostsMeet net (wake_for net w b p).world
 unfolding wake_for_by
 wake_for_meets net w b p n f i j m = absorbed_meets net w b p (wake net p b w.clock (view_of w b p) (log_of w p)) f i j
-    (wake_call net p b w.clock (view_of w b p) (log_of w p) (reached_in net w p) n j i (f.logs p j) (f.views p b j i))
-    (λ host keeps known x. wake_meets net p b w.clock (view_of w b p) (log_of w p) (reached_in net w p) n j i host keeps (f.logs p j) (f.views p b j i) known (λ e. x)) m
+    (wake_call net p b w.clock (view_of w b p) (log_of w p) (reached_in net w p) n j i (f.logs p j) (f.views p b j i) (held_by_host net w b p f j))
+    (λ host keeps known x. wake_meets net p b w.clock (view_of w b p) (log_of w p) (reached_in net w p) n j i host keeps (f.logs p j) (f.views p b j i) (held_by_host net w b p f j host) known (λ e. x)) m
 
 -- a delivery keeps each host with subscribers at where its log is settled
 pub deliver_meets : (net : Net) (w : World) (x : Frame) → IsNet net → WorldFits net w → FrameTrue net w x → HostsMeet net w → HostsMeet net (deliver_frame net w x).world
@@ -153,5 +186,15 @@ publish_now_meets net w p number e n f j m =
     let b = net.host p in
     let i = n.host_in p j in
     absorbed_meets net w b p (publish net p b w.clock number e (view_of w b p) (log_of w p)) f i j
-    (publish_call net p b w.clock number e (view_of w b p) (log_of w p) (reached_in net w p) n j i (eq-eqb b b refl) (f.logs p j) (f.views p b j i))
-    (λ host keeps known x. publish_meets net p b w.clock number e (view_of w b p) (log_of w p) (reached_in net w p) n j i host keeps (f.logs p j) (f.views p b j i) known (λ z. x)) m
+    (publish_call net p b w.clock number e (view_of w b p) (log_of w p) (reached_in net w p) n j i (eq-eqb b b refl) (f.logs p j) (f.views p b j i) (f.hosts p j))
+    (λ host keeps known x. publish_meets net p b w.clock number e (view_of w b p) (log_of w p) (reached_in net w p) n j i host keeps (f.logs p j) (f.views p b j i) (f.hosts p j) known (λ z. x)) m
+
+-- a join keeps each host with subscribers at where its log is settled
+pub join_now_meets : (net : Net) (w : World) (s p : ℕ) → IsNet net → WorldFits net w → is_late net s ≡ true → p < net.publishers → HostsMeet net w → HostsMeet net (join_now net w s p).world
+unfolding join_now_by
+join_now_meets net w s p n f late j m =
+    let b = net.host p in
+    let i = n.host_in p j in
+    absorbed_meets net w b p (joining net p b w.clock s (view_of w b p) (log_of w p)) f i j
+    (joining_call net p b w.clock s (view_of w b p) (log_of w p) (reached_in net w p) n late j i (eq-eqb b b refl) (f.logs p j) (f.views p b j i))
+    (λ host keeps known x. joining_meets net p b w.clock s (view_of w b p) (log_of w p) (reached_in net w p) n late j i host keeps (f.logs p j) (f.views p b j i) known (λ z. x)) m

@@ -1,8 +1,8 @@
 -- A broker's call keeps every tick and event within the limits, and what it sends is cut into frames that are short enough
-use Rattle.std.proofs.Common.{◌≡◌, ℕ, zero, suc, ◌+◌, ◌-◌, ◌≤◌, min, max, Bool, true, false, ◌&&◌, ◌||◌, List, [], ◌∷◌, ◌++◌, map, set, get_or, refl, Option, Some, None, arith, le_trans}
+use Rattle.std.proofs.Common.{◌≡◌, ℕ, zero, suc, ◌+◌, ◌-◌, ◌≤◌, ◌<◌, ◌^◌, length, ap, sym, subst, min, max, Bool, true, false, ◌&&◌, ◌||◌, List, [], ◌∷◌, ◌++◌, map, set, get_or, refl, Option, Some, None, arith, le_refl, le_trans}
 use Rattle.std.specs.Prelude.{not, nat_eq, nat_le, nat_lt, if◌then◌else◌}
-use Rattle.std.specs.List.{AllByRecursion}
-use Rattle.std.proofs.lemmas.Bool.{leb-true, ltb-true}
+use Rattle.std.specs.List.{AllByRecursion, list_any, filter}
+use Rattle.std.proofs.lemmas.Bool.{and_from, leb-true, ltb-true, lt-ltb, le-leb}
 use Rattle.gr_event.specs.declared.event.Event.{Event}
 use Rattle.gr_event.specs.Event.{event_size}
 use Rattle.gr_event.specs.Limits.{IsEvent}
@@ -12,7 +12,12 @@ use Rattle.gr_know.specs.declared.values.K.{K}
 use Rattle.gr_know.specs.declared.values.K.TheVariants.{Q, S, D, F}
 use Rattle.gr_know.specs.Values.{Known, known_at, same_K, join_K, new_K, is_Q}
 use Rattle.gr_event.specs.Event.{same_event}
-use Rattle.gr_event.specs.Joins.{Joins}
+use Rattle.gr_event.specs.declared.limits.TheConstants.{MAX_JOINS}
+use Rattle.gr_event.specs.Joins.{longer, Joins, has_joined, last_join_tick}
+use Rattle.gr_event.proofs.Joining.{joins_with}
+use Rattle.gr_publog.specs.declared.record.Record.TheVariants as entry
+use Rattle.gr_publog.specs.State.{Standing, stands_after, may_settle, may_enter, may_follow, HasRoom}
+use Rattle.gr_publog.proofs.Joins.{room_after, may_stand}
 use Rattle.gr_curio.specs.declared.values.Q3.{Q3}
 use Rattle.gr_curio.specs.declared.values.Q3.TheVariants.{N, C, A}
 use Rattle.gr_curio.specs.declared.asks.Moment.{Moment}
@@ -23,20 +28,20 @@ use Rattle.gr_curio.specs.Wants.{answered_of}
 use Rattle.gr_frame.specs.declared.Body.{Body}
 use Rattle.gr_frame.specs.declared.Body.TheVariants as body
 use Rattle.gr_frame.specs.declared.Frame.{Frame}
-use Rattle.gr_frame.specs.Bytes.{known_run_size, wanted_run_size, cut_frames}
+use Rattle.gr_frame.specs.Bytes.{head_size, known_run_size, wanted_run_size, cut_frames}
 use Rattle.gr_frame.specs.Limits.{IsKnown, IsWanted}
 use Rattle.gr_model.specs.Net.{Net, is_host, keeps_horizon, wanted_below, pass, numbers_from}
-use Rattle.gr_model.specs.Broker.{View, Log, Outcome, max_tick, head, know_frames, want_frames, expect_frame, up_frames, all_points, is_consolidated_by, consolidated, finished, forgotten, is_F, open_asks, kept_view_below, kept_view, horizon_after, new_ticks, event_ticks, pass_points, passed, forward, still_wanted, forward_frames, forward_wants, learn, due, noted, upward, acknowledged, answer, answers, curious, stored, curiosity, asking, wanted_at_wake, wake_below, covers, expect_frames, expect, any_C, with_event, with_mark, with_cut, event_at, event_points, log_at, log_know, silence, publish, done_upto, cutting, marking, wake_host, wake, started, place_of, clashes, receive}
-use Rattle.gr_model_theorems.specs.Spelled.{RunsIn, IsMoment, ViewIn, LogIn}
-use Rattle.gr_model_calls.proofs.calls.HostCases.{publish_cases, marking_cases, news_of}
+use Rattle.gr_model.specs.Broker.{with_joins, with_join, joining, drops, View, Log, Outcome, max_tick, head, know_frames, want_frames, expect_frame, up_frames, all_points, is_consolidated_by, consolidated, finished, forgotten, is_F, open_asks, kept_view_below, kept_view, horizon_after, new_ticks, event_ticks, pass_points, passed, forward, still_wanted, forward_frames, forward_wants, learn, due, noted, upward, acknowledged, answer, answers, curious, stored, curiosity, asking, wanted_at_wake, wake_below, covers, expect_frames, expect, any_C, with_event, with_mark, with_cut, event_at, event_points, log_at, log_know, silence, publish, done_upto, cutting, marking, wake_host, wake, started, place_of, clashes, receive}
+use Rattle.gr_model_theorems.specs.Spelled.{RunsIn, IsMoment, ViewIn, standing_in, LogIn}
+use Rattle.gr_model_calls.proofs.calls.HostCases.{publish_cases, marking_cases, joining_cases, news_of}
 use Rattle.gr_model_theorems.proofs.limits.SpelledRuns.{all_on, all_set, all_get, all_tabulated, AreUpto, points_upto, all_points_upto, value_fits, tabulate_in, both_upto, zip_in, first_bottom_upto, top_upto, forgotten_in, IsPartIn, parts_in}
 
 -- Frames that a broker sends
 
 -- a body that is not empty, not too long, and within the limits
 abbrev pub BodyCut : Body → Type 0
-BodyCut (body.Knowledge rs js) = IsPartIn known_run_size IsKnown rs × (js ≡ [])
-BodyCut (body.Curiosity rs) = IsPartIn wanted_run_size IsWanted rs
+BodyCut (body.Knowledge rs js) = IsPartIn (head_size js) known_run_size IsKnown rs
+BodyCut (body.Curiosity rs) = IsPartIn 12 wanted_run_size IsWanted rs
 BodyCut (body.Expect tick) = (1 ≤ tick) × (tick ≤ max_tick)
 
 -- a frame of this broker
@@ -57,17 +62,22 @@ known_small r fits = go r.value fits
     go F h = omega arith
     go (D e) h = omega (arith, h.short)
 
-know_cut : (from to p : ℕ) (runs : Known) → RunsIn IsKnown runs → AllCut from (know_frames [] from to p runs)
-know_cut from to p runs a = go (cut_frames 12 known_run_size runs) (parts_in known_run_size IsKnown runs known_small a)
+-- what stands before the runs of a frame with few joins is short
+head_low : (js : Joins) → length js ≤ MAX_JOINS → head_size js ≤ 8173
+head_low [] h = omega arith
+head_low (j ∷ js) h = omega (arith, h)
+
+know_cut : (js : Joins) (from to p : ℕ) (runs : Known) → length js ≤ MAX_JOINS → RunsIn IsKnown runs → AllCut from (know_frames js from to p runs)
+know_cut js from to p runs few a = go (cut_frames (head_size js) known_run_size runs) (parts_in (head_size js) known_run_size IsKnown runs (head_low js few) known_small a)
   where
-    go : (parts : List Known) → AllByRecursion (IsPartIn known_run_size IsKnown) parts → AllCut from (map (λ part. record { head = head from to p; body = body.Knowledge part [] }) parts)
+    go : (parts : List Known) → AllByRecursion (IsPartIn (head_size js) known_run_size IsKnown) parts → AllCut from (map (λ part. record { head = head from to p; body = body.Knowledge part js }) parts)
     go [] h = tt
-    go (x ∷ xs) h = (record { from = refl; body = (h.0, refl) }, go xs h.1)
+    go (x ∷ xs) h = (record { from = refl; body = h.0 }, go xs h.1)
 
 want_cut : (from to p : ℕ) (runs : Wanted) → RunsIn IsWanted runs → AllCut from (want_frames from to p runs)
-want_cut from to p runs a = go (cut_frames 12 wanted_run_size runs) (parts_in wanted_run_size IsWanted runs (λ r h. omega arith) a)
+want_cut from to p runs a = go (cut_frames 12 wanted_run_size runs) (parts_in 12 wanted_run_size IsWanted runs (omega arith) (λ r h. omega arith) a)
   where
-    go : (parts : List Wanted) → AllByRecursion (IsPartIn wanted_run_size IsWanted) parts → AllCut from (map (λ part. record { head = head from to p; body = body.Curiosity part }) parts)
+    go : (parts : List Wanted) → AllByRecursion (IsPartIn 12 wanted_run_size IsWanted) parts → AllCut from (map (λ part. record { head = head from to p; body = body.Curiosity part }) parts)
     go [] h = tt
     go (x ∷ xs) h = (record { from = refl; body = h.0 }, go xs h.1)
 
@@ -153,7 +163,7 @@ trimmed_in net p b v a = go (is_host net p b)
     go true = a
     go false =
         let known = forgotten_in IsKnown net.cache upto v.know a.know in
-        record { know = known; wants = a.wants; asks = open_asks_in (forgotten net.cache upto v.know) v.asks known a.asks; horizon = a.horizon }
+        record { know = known; wants = a.wants; asks = open_asks_in (forgotten net.cache upto v.know) v.asks known a.asks; horizon = a.horizon; joins = a.joins }
 
 horizon_in : (keeps : Bool) (h : ℕ) (know : Known) → h ≤ max_tick → RunsIn IsKnown know → horizon_after keeps h know ≤ max_tick
 unfolding horizon_after
@@ -194,10 +204,10 @@ quenched_in : (w : Wanted) (sent : Known) → RunsIn IsWanted w → RunsIn IsKno
 unfolding still_wanted
 quenched_in w sent a b = zip_in IsWanted IsKnown IsWanted N Q N same_Q3 (λ a v. answered_of (not (is_Q v)) a) w sent a b tt tt (λ x y h g. tt)
 
-forward_frames_cut : (net : Net) (p b : ℕ) (new : Known) (cs : List ℕ) (ws : List Wanted) → RunsIn IsKnown new → AllByRecursion (RunsIn IsWanted) ws → AllCut b (forward_frames [] net p b new cs ws)
-forward_frames_cut net p b new [] ws h a = tt
-forward_frames_cut net p b new (c ∷ cs) [] h a = tt
-forward_frames_cut net p b new (c ∷ cs) (w ∷ ws) h a = all_on (FrameCut b) (know_frames [] b c p (forward net p c w new)) (forward_frames [] net p b new cs ws) (know_cut b c p (forward net p c w new) (forward_in net p c w new a.0 h)) (forward_frames_cut net p b new cs ws h a.1)
+forward_frames_cut : (js : Joins) (net : Net) (p b : ℕ) (new : Known) (cs : List ℕ) (ws : List Wanted) → length js ≤ MAX_JOINS → RunsIn IsKnown new → AllByRecursion (RunsIn IsWanted) ws → AllCut b (forward_frames js net p b new cs ws)
+forward_frames_cut js net p b new [] ws few h a = tt
+forward_frames_cut js net p b new (c ∷ cs) [] few h a = tt
+forward_frames_cut js net p b new (c ∷ cs) (w ∷ ws) few h a = all_on (FrameCut b) (know_frames js b c p (forward net p c w new)) (forward_frames js net p b new cs ws) (know_cut js b c p (forward net p c w new) few (forward_in net p c w new a.0 h)) (forward_frames_cut js net p b new cs ws few h a.1)
 
 forward_wants_in : (net : Net) (p : ℕ) (new : Known) (cs : List ℕ) (ws : List Wanted) → RunsIn IsKnown new → AllByRecursion (RunsIn IsWanted) ws → AllByRecursion (RunsIn IsWanted) (forward_wants net p new cs ws)
 forward_wants_in net p new [] ws h a = tt
@@ -207,12 +217,12 @@ forward_wants_in net p new (c ∷ cs) (w ∷ ws) h a = (quenched_in w (forward n
 -- Calls
 
 -- what a call leaves is within the limits, and so are its frames
-pub record CallIn (b : ℕ) (o : Outcome) : Type 0 where
+pub record CallIn (late : List ℕ) (b : ℕ) (o : Outcome) : Type 0 where
   pub view : ViewIn o.view
-  pub log : LogIn o.log
+  pub log : LogIn late o.log
   pub frames : AllCut b o.frames
 
-learn_in : (net : Net) (p b : ℕ) (piece : Known) (v : View) (log : Log) → RunsIn IsKnown piece → ViewIn v → LogIn log → CallIn b (learn net p b piece v log)
+learn_in : {late : List ℕ} (net : Net) (p b : ℕ) (piece : Known) (v : View) (log : Log) → RunsIn IsKnown piece → ViewIn v → LogIn late log → CallIn late b (learn net p b piece v log)
 unfolding learn
 learn_in net p b piece v log h a l =
     let keeps = keeps_horizon net p b in
@@ -230,9 +240,10 @@ learn_in net p b piece v log h a l =
         wants = ws_is;
         asks = a.asks;
         horizon = horizon_is;
+        joins = a.joins;
       });
       log = l;
-      frames = forward_frames_cut net p b new (net.children p b) v.wants new_is a.wants;
+      frames = forward_frames_cut v.joins net p b new (net.children p b) v.wants a.joins new_is a.wants;
     }
 
 due_in : (now retry : ℕ) (know : Known) (asks : Asked) (wanted : ℕ → Bool) (ps : List ℕ) → RunsIn IsKnown know → RunsIn IsMoment asks → AreUpto ps → RunsIn IsWanted (due now retry know asks wanted ps)
@@ -249,7 +260,7 @@ upward_in : (done asked : Wanted) → RunsIn IsWanted done → RunsIn IsWanted a
 unfolding upward
 upward_in done asked a b = zip_in IsWanted IsWanted IsWanted N N N same_Q3 (λ c a. if is_A c then A else a) done asked a b tt tt (λ x y h g. tt)
 
-asking_in : (net : Net) (p b now : ℕ) (wanted : ℕ → Bool) (ps : List ℕ) (v : View) (log : Log) → AreUpto ps → ViewIn v → LogIn log → CallIn b (asking net p b now wanted ps v log)
+asking_in : {late : List ℕ} (net : Net) (p b now : ℕ) (wanted : ℕ → Bool) (ps : List ℕ) (v : View) (log : Log) → AreUpto ps → ViewIn v → LogIn late log → CallIn late b (asking net p b now wanted ps v log)
 unfolding asking
 asking_in net p b now wanted ps v log h a l =
     let done = consolidated (keeps_horizon net p b) v.horizon v.wants in
@@ -257,7 +268,7 @@ asking_in net p b now wanted ps v log h a l =
     let done_is = consolidated_in (keeps_horizon net p b) v.horizon v.wants a.horizon a.wants in
     let asked_is = due_in now net.retry v.know v.asks wanted ps a.know a.asks h in
     record {
-      view = trimmed_in net p b (record { know = v.know; wants = v.wants; asks = noted now v.asks asked; horizon = v.horizon; joins = v.joins }) (record { know = a.know; wants = a.wants; asks = noted_in now v.asks asked a.asks asked_is; horizon = a.horizon });
+      view = trimmed_in net p b (record { know = v.know; wants = v.wants; asks = noted now v.asks asked; horizon = v.horizon; joins = v.joins }) (record { know = a.know; wants = a.wants; asks = noted_in now v.asks asked a.asks asked_is; horizon = a.horizon; joins = a.joins });
       log = l;
       frames = up_cut net p b (upward done asked) (upward_in done asked done_is asked_is);
     }
@@ -281,7 +292,7 @@ stored_in : (know : Known) (w piece : Wanted) → RunsIn IsKnown know → RunsIn
 unfolding stored
 stored_in know w piece h a b = tabulate_in IsWanted N same_Q3 (λ t. curious (known_at know t) (wanted_at w t) (wanted_at piece t)) (points know ++ points w ++ points piece) (three_upto know w piece h a b) (λ t. tt)
 
-curiosity_in : (net : Net) (p b now c i : ℕ) (piece : Wanted) (v : View) (log : Log) → RunsIn IsWanted piece → ViewIn v → LogIn log → CallIn b (curiosity net p b now c i piece v log)
+curiosity_in : {late : List ℕ} (net : Net) (p b now c i : ℕ) (piece : Wanted) (v : View) (log : Log) → RunsIn IsWanted piece → ViewIn v → LogIn late log → CallIn late b (curiosity net p b now c i piece v log)
 unfolding curiosity
 curiosity_in net p b now c i piece v log h a l =
     let asked_is = asks (is_host net p b) in
@@ -291,9 +302,10 @@ curiosity_in net p b now c i piece v log h a l =
         wants = ws_is;
         asks = noted_in now v.asks (asked (is_host net p b)) a.asks asked_is;
         horizon = a.horizon;
+        joins = a.joins;
       });
       log = l;
-      frames = all_on (FrameCut b) (know_frames [] b c p reply) (up_frames net p b (asked (is_host net p b))) (know_cut b c p reply reply_is) (up_cut net p b (asked (is_host net p b)) asked_is);
+      frames = all_on (FrameCut b) (know_frames v.joins b c p reply) (up_frames net p b (asked (is_host net p b))) (know_cut v.joins b c p reply a.joins reply_is) (up_cut net p b (asked (is_host net p b)) asked_is);
     }
   where
     w : Wanted
@@ -327,14 +339,14 @@ curiosity_in net p b now c i piece v log h a l =
     asks true = tt
     asks false = due_in now net.retry know v.asks (λ t. is_C (wanted_at piece t) && is_Q (known_at reply t)) (points piece ++ points reply) know_is a.asks (both_upto IsWanted IsKnown piece reply h reply_is)
 
-wake_below_in : (net : Net) (p b now : ℕ) (v : View) (log : Log) → now ≤ max_tick → ViewIn v → LogIn log → CallIn b (wake_below net p b now v log)
+wake_below_in : {late : List ℕ} (net : Net) (p b now : ℕ) (v : View) (log : Log) → now ≤ max_tick → ViewIn v → LogIn late log → CallIn late b (wake_below net p b now v log)
 unfolding wake_below
 wake_below_in net p b now v log h a l =
     asking_in net p b now (wanted_at_wake net (keeps_horizon net p b) now v) (all_points v.wants ++ (suc v.horizon ∷ (suc (now - net.idle) ∷ (suc (now - net.gap) ∷ (top_of v.know ∷ []))))) v log
     (all_on (λ p. p ≤ suc max_tick) (all_points v.wants) (suc v.horizon ∷ (suc (now - net.idle) ∷ (suc (now - net.gap) ∷ (top_of v.know ∷ [])))) (all_points_upto IsWanted v.wants a.wants)
     (omega (arith, a.horizon), (omega (arith, h), (omega (arith, h), (omega (arith, top_upto IsKnown v.know a.know), tt))))) a l
 
-expect_in : (net : Net) (p b now tick : ℕ) (v : View) (log : Log) → 1 ≤ tick → tick ≤ max_tick → ViewIn v → LogIn log → CallIn b (expect net p b now tick v log)
+expect_in : {late : List ℕ} (net : Net) (p b now tick : ℕ) (v : View) (log : Log) → 1 ≤ tick → tick ≤ max_tick → ViewIn v → LogIn late log → CallIn late b (expect net p b now tick v log)
 unfolding expect
 expect_in net p b now tick v log h k a l =
     let wanted = λ (t : ℕ). any_C v.wants t || (keeps_horizon net p b && nat_lt v.horizon t && nat_le t tick) in
@@ -354,34 +366,73 @@ silence_in first last rest h a = go (nat_le first last) refl
     go true e = (record { first = omega (arith, leb-true first last e, h); last = h; value = tt }, a)
     go false e = a
 
+-- what is settled later leaves as much room
+settled_room : {late : List ℕ} (log new : Log) → log.settled ≤ new.settled → new.joins ≡ log.joins → HasRoom (standing_in late log) → HasRoom (standing_in late new)
+settled_room {late} log new more same h = record {
+  few = h.few;
+  room = subst (λ (js : Joins). length js + length (filter (λ x. not (has_joined js x)) late) ≤ length late) (sym same) h.room;
+  last = le_trans (subst (λ (js : Joins). last_join_tick js ≤ log.settled) (sym same) h.last) more;
+}
+
 -- a log with a further event
-pub with_event_in : (log : Log) (tick : ℕ) (e : Event) → tick ≤ max_tick → IsEvent e → LogIn log → LogIn (with_event log tick e)
-with_event_in log tick e h k l = record { settled = h; cut = l.cut; events = all_on (λ x. (x.0 ≤ max_tick) × IsEvent x.1) log.events ((tick, e) ∷ []) l.events ((h, k), tt) }
+pub with_event_in : {late : List ℕ} (log : Log) (tick : ℕ) (e : Event) → log.settled ≤ tick → tick ≤ max_tick → IsEvent e → LogIn late log → LogIn late (with_event log tick e)
+with_event_in log tick e past h k l = record { settled = h; cut = l.cut; events = all_on (λ x. (x.0 ≤ max_tick) × IsEvent x.1) log.events ((tick, e) ∷ []) l.events ((h, k), tt); joins = l.joins; room = settled_room log (with_event log tick e) past refl l.room }
 
 -- a publish of an event within the limits leaves and sends only what is within them
-pub publish_in : (net : Net) (p b now number : ℕ) (e : Event) (v : View) (log : Log) → IsEvent e → ViewIn v → LogIn log → CallIn b (publish net p b now number e v log)
-publish_in net p b now number e v log k a l =
-    publish_cases net p b now number e v log (CallIn b) (λ x. record { view = a; log = l; frames = tt }) (λ x. record { view = a; log = l; frames = tt }) (λ x y. record { view = a; log = l; frames = tt })
+pub publish_in : {late : List ℕ} (net : Net) (p b now number : ℕ) (e : Event) (v : View) (log : Log) → IsEvent e → ViewIn v → LogIn late log → CallIn late b (publish net p b now number e v log)
+publish_in {late} net p b now number e v log k a l =
+    publish_cases net p b now number e v log (CallIn late b) (λ x. record { view = a; log = l; frames = tt }) (λ x. record { view = a; log = l; frames = tt }) (λ x y. record { view = a; log = l; frames = tt })
     (λ x h. let c = learned h in record { view = c.view; log = c.log; frames = c.frames })
   where
     tick : ℕ
     tick = max (suc log.settled) now
 
-    learned : tick ≤ max_tick → CallIn b (learn net p b (news_of log tick e) v (with_event log tick e))
-    learned h = learn_in net p b (news_of log tick e) v (with_event log tick e) (silence_in (suc log.settled) (tick - 1) (record { first = tick; last = tick; value = D e } ∷ []) (omega (arith, h)) (record { first = omega (arith, h); last = h; value = k }, tt)) a (with_event_in log tick e h k l)
+    learned : tick ≤ max_tick → CallIn late b (learn net p b (news_of log tick e) v (with_event log tick e))
+    learned h = learn_in net p b (news_of log tick e) v (with_event log tick e) (silence_in (suc log.settled) (tick - 1) (record { first = tick; last = tick; value = D e } ∷ []) (omega (arith, h)) (record { first = omega (arith, h); last = h; value = k }, tt)) a (with_event_in log tick e (omega arith) h k l)
 
-marking_in : (net : Net) (p b now : ℕ) (v : View) (log : Log) → now ≤ max_tick → ViewIn v → LogIn log → CallIn b (marking net p b now v log)
-marking_in net p b now v log h a l =
-    marking_cases net p b now v log (CallIn b)
-    (λ e. learn_in net p b (silence (suc log.settled) now []) v (with_mark log now) (silence_in (suc log.settled) now [] h tt) a (record { settled = h; cut = l.cut; events = l.events }))
+marking_in : {late : List ℕ} (net : Net) (p b now : ℕ) (v : View) (log : Log) → now ≤ max_tick → ViewIn v → LogIn late log → CallIn late b (marking net p b now v log)
+marking_in {late} net p b now v log h a l =
+    marking_cases net p b now v log (CallIn late b)
+    (λ e. learn_in net p b (silence (suc log.settled) now []) v (with_mark log now) (silence_in (suc log.settled) now [] h tt) a (record { settled = h; cut = l.cut; events = l.events; joins = l.joins; room = settled_room log (with_mark log now) (omega (arith, leb-true (log.settled + net.quiet) now e)) refl l.room }))
     (λ e. record { view = a; log = l; frames = tt })
+
+-- a log with a further join, of a subscriber that may join
+pub with_join_in : {late : List ℕ} (log : Log) (tick s : ℕ) → has_joined log.joins s ≡ false → list_any (λ x. nat_eq x s) late ≡ true → s < 2 ^ 16 → log.settled < tick → tick ≤ max_tick → LogIn late log → LogIn late (with_join log tick s)
+with_join_in {late} log tick s fresh among small past upto l =
+    let here : Standing = standing_in late log in
+    let settles : may_settle here.state tick ≡ true = and_from (nat_lt log.settled tick) (nat_le tick max_tick) (lt-ltb log.settled tick past) (le-leb tick max_tick upto) in
+    let enters : may_enter here s ≡ true = and_from (list_any (λ x. nat_eq x s) late) (not (has_joined log.joins s)) among (ap not fresh) in
+    let follows : may_follow here (entry.Join tick s) ≡ true = and_from (may_settle here.state tick) (may_enter here s) settles enters in
+    let after : HasRoom (stands_after here (entry.Join tick s)) = room_after here (entry.Join tick s) l.room follows in
+    record {
+      settled = upto;
+      cut = l.cut;
+      events = l.events;
+      joins = joins_with log.joins (record { subscriber = s; tick = tick }) l.joins (may_stand here tick s l.room follows) small;
+      room = record { few = after.few; room = after.room; last = after.last };
+    }
+
+-- a join of a subscriber that may join leaves and sends only what is within the limits
+pub joining_in : {late : List ℕ} (net : Net) (p b now s : ℕ) (v : View) (log : Log) → list_any (λ x. nat_eq x s) late ≡ true → s < 2 ^ 16 → ViewIn v → LogIn late log → CallIn late b (joining net p b now s v log)
+joining_in {late} net p b now s v log among small a l =
+    joining_cases net p b now s v log (CallIn late b) (λ e. record { view = a; log = l; frames = tt }) (λ e x. record { view = a; log = l; frames = tt })
+    (λ e x. let c = learned e x in record { view = c.view; log = c.log; frames = c.frames })
+  where
+    tick : ℕ
+    tick = max (suc log.settled) now
+
+    learned : has_joined log.joins s ≡ false → tick ≤ max_tick → CallIn late b (learn net p b (silence (suc log.settled) tick []) (with_joins v (with_join log tick s).joins) (with_join log tick s))
+    learned e x =
+        let k = with_join_in log tick s e among small (omega arith) x l in
+        learn_in net p b (silence (suc log.settled) tick []) (with_joins v (with_join log tick s).joins) (with_join log tick s) (silence_in (suc log.settled) tick [] x tt)
+        (record { know = a.know; wants = a.wants; asks = a.asks; horizon = a.horizon; joins = k.joins.few }) k
 
 least_upto : (a b : ℕ) → min a b ≤ a
 least_upto a b = omega arith
 
-cutting_in : (net : Net) (p b : ℕ) (v : View) (log : Log) → LogIn log → LogIn (cutting net p b v log)
+cutting_in : {late : List ℕ} (net : Net) (p b : ℕ) (v : View) (log : Log) → LogIn late log → LogIn late (cutting net p b v log)
 unfolding cutting done_upto
-cutting_in net p b v log l = go (nat_lt log.cut upto)
+cutting_in {late} net p b v log l = go (nat_lt log.cut upto)
   where
     done : Wanted
     done = consolidated (keeps_horizon net p b) v.horizon v.wants
@@ -389,11 +440,11 @@ cutting_in net p b v log l = go (nat_lt log.cut upto)
     upto : ℕ
     upto = done_upto done log.settled
 
-    go : (q : Bool) → LogIn (if q then with_cut log upto else log)
-    go true = record { settled = l.settled; cut = le_trans (least_upto log.settled (first_bottom_from done 1 - 1)) l.settled; events = l.events }
+    go : (q : Bool) → LogIn late (if q then with_cut log upto else log)
+    go true = record { settled = l.settled; cut = le_trans (least_upto log.settled (first_bottom_from done 1 - 1)) l.settled; events = l.events; joins = l.joins; room = settled_room log (with_cut log upto) (le_refl log.settled) refl l.room }
     go false = l
 
-wake_host_in : (net : Net) (p b now : ℕ) (v : View) (log : Log) → now ≤ max_tick → ViewIn v → LogIn log → CallIn b (wake_host net p b now v log)
+wake_host_in : {late : List ℕ} (net : Net) (p b now : ℕ) (v : View) (log : Log) → now ≤ max_tick → ViewIn v → LogIn late log → CallIn late b (wake_host net p b now v log)
 unfolding wake_host
 wake_host_in net p b now v log h a l =
     let o : Outcome = marking net p b now v log in
@@ -407,35 +458,43 @@ wake_host_in net p b now v log h a l =
     told u tick k false e = tt
 
 -- a wake up to the last tick leaves and sends only what is within the limits
-pub wake_in : (net : Net) (p b now : ℕ) (v : View) (log : Log) → now ≤ max_tick → ViewIn v → LogIn log → CallIn b (wake net p b now v log)
+pub wake_in : {late : List ℕ} (net : Net) (p b now : ℕ) (v : View) (log : Log) → now ≤ max_tick → ViewIn v → LogIn late log → CallIn late b (wake net p b now v log)
 unfolding wake
-wake_in net p b now v log h a l = go (is_host net p b)
+wake_in {late} net p b now v log h a l = go (is_host net p b)
   where
-    go : (q : Bool) → CallIn b (elim q [ true ↦ wake_host net p b now v log | false ↦ wake_below net p b now v log ])
+    go : (q : Bool) → CallIn late b (elim q [ true ↦ wake_host net p b now v log | false ↦ wake_below net p b now v log ])
     go true = wake_host_in net p b now v log h a l
     go false = wake_below_in net p b now v log h a l
 
 -- what comes is within the limits
 abbrev pub BodyIn : Body → Type 0
-BodyIn (body.Knowledge rs js) = RunsIn IsKnown rs
+BodyIn (body.Knowledge rs js) = RunsIn IsKnown rs × (length js ≤ MAX_JOINS)
 BodyIn (body.Curiosity rs) = RunsIn IsWanted rs
 BodyIn (body.Expect tick) = (1 ≤ tick) × (tick ≤ max_tick)
 
--- receiving a frame within the limits leaves and sends only what is within them
-pub receive_in : (net : Net) (now : ℕ) (f : Frame) (v : View) (log : Log) → BodyIn f.body → ViewIn v → LogIn log → CallIn f.head.to (receive net now f v log)
-unfolding receive
-receive_in net now f v log h a l = go f.body h
+-- a view that takes up few joins
+taken_in : (v : View) (js : Joins) → ViewIn v → length js ≤ MAX_JOINS → ViewIn (with_joins v (longer v.joins js))
+taken_in v js a few = record { know = a.know; wants = a.wants; asks = a.asks; horizon = a.horizon; joins = go (nat_lt (length v.joins) (length js)) }
   where
-    learned : (runs : Known) (q : Bool) → RunsIn IsKnown runs → CallIn f.head.to (elim q [ true ↦ record { view = v; log = log; lines = []; frames = [] } | false ↦ learn net f.head.publisher f.head.to runs v log ])
-    learned runs true k = record { view = a; log = l; frames = tt }
-    learned runs false k = learn_in net f.head.publisher f.head.to runs v log k a l
+    go : (q : Bool) → length (if q then js else v.joins) ≤ MAX_JOINS
+    go true = few
+    go false = a.joins
 
-    go : (y : Body) → BodyIn y → CallIn f.head.to (elim y [
-      | body.Knowledge runs js ↦ elim (clashes v.know runs) [ true ↦ record { view = v; log = log; lines = []; frames = [] } | false ↦ learn net f.head.publisher f.head.to runs v log ]
+-- receiving a frame within the limits leaves and sends only what is within them
+pub receive_in : {late : List ℕ} (net : Net) (now : ℕ) (f : Frame) (v : View) (log : Log) → BodyIn f.body → ViewIn v → LogIn late log → CallIn late f.head.to (receive net now f v log)
+unfolding receive
+receive_in {late} net now f v log h a l = go f.body h
+  where
+    learned : (runs : Known) (js : Joins) (q : Bool) → RunsIn IsKnown runs × (length js ≤ MAX_JOINS) → CallIn late f.head.to (elim q [ true ↦ record { view = v; log = log; lines = []; frames = [] } | false ↦ learn net f.head.publisher f.head.to runs (with_joins v (longer v.joins js)) log ])
+    learned runs js true k = record { view = a; log = l; frames = tt }
+    learned runs js false k = learn_in net f.head.publisher f.head.to runs (with_joins v (longer v.joins js)) log k.0 (taken_in v js a k.1) l
+
+    go : (y : Body) → BodyIn y → CallIn late f.head.to (elim y [
+      | body.Knowledge runs js ↦ elim (drops v runs js) [ true ↦ record { view = v; log = log; lines = []; frames = [] } | false ↦ learn net f.head.publisher f.head.to runs (with_joins v (longer v.joins js)) log ]
       | body.Curiosity runs ↦ curiosity net f.head.publisher f.head.to now f.head.from (place_of f.head.from (net.children f.head.publisher f.head.to)) runs v log
       | body.Expect tick ↦ expect net f.head.publisher f.head.to now tick v log
     ])
-    go (body.Knowledge runs js) k = learned runs (clashes v.know runs) k
+    go (body.Knowledge runs js) k = learned runs js (drops v runs js) k
     go (body.Curiosity runs) k = curiosity_in net f.head.publisher f.head.to now f.head.from (place_of f.head.from (net.children f.head.publisher f.head.to)) runs v log k a l
     go (body.Expect tick) k = expect_in net f.head.publisher f.head.to now tick v log k.0 k.1 a l
 
@@ -449,7 +508,7 @@ events_upto : (events : List (ℕ × Event)) → AllByRecursion (λ x. (x.0 ≤ 
 events_upto [] a = tt
 events_upto (x ∷ xs) a = (omega (arith, a.0.0), (omega (arith, a.0.0), events_upto xs a.1))
 
-log_know_in : (log : Log) → LogIn log → RunsIn IsKnown (log_know log)
+log_know_in : {late : List ℕ} (log : Log) → LogIn late log → RunsIn IsKnown (log_know log)
 unfolding log_know
 log_know_in log l = tabulate_in IsKnown Q same_K (log_at log) (1 ∷ (suc log.cut ∷ (suc log.settled ∷ event_points log.events))) (omega arith, (omega (arith, l.cut), (omega (arith, l.settled), events_upto log.events l.events))) (λ t. go t (nat_le 1 t && nat_le t log.settled) (nat_le t log.cut))
   where
@@ -459,10 +518,14 @@ log_know_in log l = tabulate_in IsKnown Q same_K (log_at log) (1 ∷ (suc log.cu
     go t false y = tt
 
 -- a broker that starts from a log within the limits is within them
-pub started_in : (net : Net) (p b : ℕ) (log : Log) → LogIn log → ViewIn (started net p b log)
+pub started_in : {late : List ℕ} (net : Net) (p b : ℕ) (log : Log) → LogIn late log → ViewIn (started net p b log)
 unfolding started
-started_in net p b log l = record { know = go (is_host net p b); wants = all_tabulated (RunsIn IsWanted) (λ _. []) (net.children p b) (λ c. tt); asks = tt; horizon = omega arith }
+started_in net p b log l = record { know = go (is_host net p b); wants = all_tabulated (RunsIn IsWanted) (λ _. []) (net.children p b) (λ c. tt); asks = tt; horizon = omega arith; joins = few (is_host net p b) }
   where
+    few : (q : Bool) → length (if q then log.joins else []) ≤ MAX_JOINS
+    few true = l.joins.few
+    few false = omega arith
+
     go : (q : Bool) → RunsIn IsKnown (if q then log_know log else [])
     go true = log_know_in log l
     go false = tt

@@ -170,35 +170,35 @@ total-append : {V : Type 0} (size : Run V → ℕ) (xs ys : List (Run V)) → to
 total-append size [] ys = omega arith
 total-append size (x ∷ xs) ys = omega (arith, total-append size xs ys)
 
--- some runs that fit into a frame
-pub record IsPartIn {V : Type 0} (size : Run V → ℕ) (Fits : V → Type 0) (part : List (Run V)) : Type 0 where
+-- some runs that fit into a frame behind what stands before them
+pub record IsPartIn {V : Type 0} (room : ℕ) (size : Run V → ℕ) (Fits : V → Type 0) (part : List (Run V)) : Type 0 where
   pub some : part ≢ []
-  pub short : 12 + total size part ≤ 16384
+  pub short : room + total size part ≤ 16384
   pub runs : RunsIn Fits part
 
 more_some : {V : Type 0} (xs : List (Run V)) (r : Run V) → (xs ++ r ∷ []) ≢ []
 more_some [] r = λ e. cc
 more_some (x ∷ xs) r = λ e. cc
 
-from_parts : {V : Type 0} (size : Run V → ℕ) (Fits : V → Type 0) (used : ℕ) (begun rs : List (Run V)) → ((r : Run V) → Fits r.value → size r ≤ 8211) → begun ≢ [] → used ≡ 12 + total size begun → used ≤ 16384 → RunsIn Fits begun → RunsIn Fits rs
-    → AllByRecursion (IsPartIn size Fits) (cut_from 12 size used begun rs)
+from_parts : {V : Type 0} (room : ℕ) (size : Run V → ℕ) (Fits : V → Type 0) (used : ℕ) (begun rs : List (Run V)) → room ≤ 8173 → ((r : Run V) → Fits r.value → size r ≤ 8211) → begun ≢ [] → used ≡ room + total size begun → used ≤ 16384 → RunsIn Fits begun → RunsIn Fits rs
+    → AllByRecursion (IsPartIn room size Fits) (cut_from room size used begun rs)
 unfolding cut_from
-from_parts size Fits used begun [] small some is fits a b = (record { some = some; short = omega (arith, is, fits); runs = a }, tt)
-from_parts {V} size Fits used begun (r ∷ rs) small some is fits a b =
+from_parts room size Fits used begun [] low small some is fits a b = (record { some = some; short = omega (arith, is, fits); runs = a }, tt)
+from_parts {V} room size Fits used begun (r ∷ rs) low small some is fits a b =
     go (nat_le (used + size r) 16384) refl
-    (λ k. from_parts size Fits (used + size r) (begun ++ r ∷ []) rs small (more_some begun r) (omega (arith, is, total-append size begun (r ∷ []))) k (all_on (IsRunIn Fits) begun (r ∷ []) a (b.0, tt)) b.1)
-    (from_parts size Fits (12 + size r) (r ∷ []) rs small (λ e. cc) (omega arith) (omega (arith, small r b.0.value)) (b.0, tt) b.1)
+    (λ k. from_parts room size Fits (used + size r) (begun ++ r ∷ []) rs low small (more_some begun r) (omega (arith, is, total-append size begun (r ∷ []))) k (all_on (IsRunIn Fits) begun (r ∷ []) a (b.0, tt)) b.1)
+    (from_parts room size Fits (room + size r) (r ∷ []) rs low small (λ e. cc) (omega arith) (omega (arith, low, small r b.0.value)) (b.0, tt) b.1)
   where
-    go : (q : Bool) → nat_le (used + size r) 16384 ≡ q → (used + size r ≤ 16384 → AllByRecursion (IsPartIn size Fits) (cut_from 12 size (used + size r) (begun ++ r ∷ []) rs)) → AllByRecursion (IsPartIn size Fits) (cut_from 12 size (12 + size r) (r ∷ []) rs)
-        → AllByRecursion (IsPartIn size Fits) (elim q [ true ↦ cut_from 12 size (used + size r) (begun ++ r ∷ []) rs | false ↦ begun ∷ cut_from 12 size (12 + size r) (r ∷ []) rs ])
+    go : (q : Bool) → nat_le (used + size r) 16384 ≡ q → (used + size r ≤ 16384 → AllByRecursion (IsPartIn room size Fits) (cut_from room size (used + size r) (begun ++ r ∷ []) rs)) → AllByRecursion (IsPartIn room size Fits) (cut_from room size (room + size r) (r ∷ []) rs)
+        → AllByRecursion (IsPartIn room size Fits) (elim q [ true ↦ cut_from room size (used + size r) (begun ++ r ∷ []) rs | false ↦ begun ∷ cut_from room size (room + size r) (r ∷ []) rs ])
     go true e x y = x (leb-true (used + size r) 16384 e)
     go false e x y = (record { some = some; short = omega (arith, is, fits); runs = a }, y)
 
 -- each part of a piece that is cut into frames fits into one frame, and is within the limits
-pub parts_in : {V : Type 0} (size : Run V → ℕ) (Fits : V → Type 0) (rs : List (Run V)) → ((r : Run V) → Fits r.value → size r ≤ 8211) → RunsIn Fits rs → AllByRecursion (IsPartIn size Fits) (cut_frames 12 size rs)
+pub parts_in : {V : Type 0} (room : ℕ) (size : Run V → ℕ) (Fits : V → Type 0) (rs : List (Run V)) → room ≤ 8173 → ((r : Run V) → Fits r.value → size r ≤ 8211) → RunsIn Fits rs → AllByRecursion (IsPartIn room size Fits) (cut_frames room size rs)
 unfolding cut_frames
-parts_in size Fits [] small a = tt
-parts_in size Fits (r ∷ rs) small a = from_parts size Fits (12 + size r) (r ∷ []) rs small (λ e. cc) (omega arith) (omega (arith, small r a.0.value)) (a.0, tt) a.1
+parts_in room size Fits [] low small a = tt
+parts_in room size Fits (r ∷ rs) low small a = from_parts room size Fits (room + size r) (r ∷ []) rs low small (λ e. cc) (omega arith) (omega (arith, low, small r a.0.value)) (a.0, tt) a.1
 
 -- Runs of a frame
 

@@ -1,5 +1,5 @@
 -- What each list over all publishers says of a schedule over old logs: the opening's lines are heard like those of a step
-use Rattle.std.proofs.Common.{◌≡◌, ℕ, ◌≤◌, ◌<◌, true, List, [], ◌∷◌, sym, ap, ◌∙◌, subst}
+use Rattle.std.proofs.Common.{length, ◌≡◌, ℕ, ◌≤◌, ◌<◌, true, List, [], ◌∷◌, sym, ap, ◌∙◌, subst}
 use Rattle.std.specs.Prelude.{nat_eq}
 use Rattle.std.specs.List.{list_any}
 use Rattle.gr_publog.specs.declared.record.Record.{Record}
@@ -22,6 +22,7 @@ use Rattle.gr_model_theorems.proofs.server.ServedOver.{begun_lines}
 use Rattle.gr_model_theorems.proofs.server.Lanes.{are_found, opened_same, lines_same}
 use Rattle.gr_model_theorems.proofs.order.Hearing.{joined}
 use Rattle.gr_model_theorems.proofs.order.Always.{from_here, begins}
+use Rattle.gr_event.specs.declared.limits.TheConstants.{MAX_JOINS}
 use Rattle.gr_model_theorems.proofs.order.OneOrder.{AtEnd, last_step, in_one_order}
 
 -- from an opening over logs that were found
@@ -43,11 +44,11 @@ report_same net late lanes steps a =
     ap (λ (t : Transition). t.lines ∷ run_from net (opened_over net (whole_logs lanes)).world steps) (opened_same net late lanes a).is
     ∙ ap (λ (rs : List (List Report)). o.lines ∷ rs) (lines_same net late lanes steps a)
 
-pub ordered_lanes : (net : Net) (totals : List ℕ) (late : List ℕ) (lanes : List (List Record)) (steps : List Line) → IsNet net → 1 ≤ net.quiet → AllFollow late lanes → StepsIn net steps → IsDistinct totals → ((s : ℕ) → list_any (λ x. nat_eq x s) totals ≡ true → s < net.subscribers)
+pub ordered_lanes : (net : Net) (totals : List ℕ) (lanes : List (List Record)) (steps : List Line) → IsNet net → 1 ≤ net.quiet → length net.late ≤ MAX_JOINS → AllFollow net.late lanes → StepsIn net steps → IsDistinct totals → ((s : ℕ) → list_any (λ x. nat_eq x s) totals ≡ true → s < net.subscribers)
     → OrderedOverLanes net totals lanes steps
-ordered_lanes net totals late lanes steps n z a i apart below =
-    subst (λ (rs : List (List Report)). TotallyOrderedOver net totals (found_logs lanes) steps rs (told_in_order net totals rs)) (sym (report_same net late lanes steps a))
-    (ordered_over net totals (found_logs lanes) steps n z (are_found net late lanes a) i apart below)
+ordered_lanes net totals lanes steps n z few a i apart below =
+    subst (λ (rs : List (List Report)). TotallyOrderedOver net totals (found_logs lanes) steps rs (told_in_order net totals rs)) (sym (report_same net net.late lanes steps a))
+    (ordered_over net totals (found_logs lanes) steps n z (are_found net lanes few a) i apart below)
 
 -- ---- one order
 
@@ -56,9 +57,9 @@ at_end net totals logs steps [] told k = absurd k
 at_end net totals logs steps (r ∷ rs) [] k = absurd k
 at_end net totals logs steps (r ∷ rs) (o ∷ os) k = last_step net totals (begin_over net logs r) o steps rs os k
 
-pub one_order_lanes : (net : Net) (totals : List ℕ) (late : List ℕ) (lanes : List (List Record)) (steps : List Line) → IsNet net → 1 ≤ net.quiet → AllFollow late lanes → StepsIn net steps → IsDistinct totals → ((s : ℕ) → list_any (λ x. nat_eq x s) totals ≡ true → s < net.subscribers)
+pub one_order_lanes : (net : Net) (totals : List ℕ) (lanes : List (List Record)) (steps : List Line) → IsNet net → 1 ≤ net.quiet → length net.late ≤ MAX_JOINS → AllFollow net.late lanes → StepsIn net steps → IsDistinct totals → ((s : ℕ) → list_any (λ x. nat_eq x s) totals ≡ true → s < net.subscribers)
     → OneOrder net totals (told_in_order net totals (opened_report net lanes steps))
-one_order_lanes net totals late lanes steps n z a i apart below =
+one_order_lanes net totals lanes steps n z few a i apart below =
     let rs : List (List Report) = opened_report net lanes steps in
     let told : List (List Report) = told_in_order net totals rs in
-    in_one_order net totals told (at_end net totals (found_logs lanes) steps rs told (ordered_lanes net totals late lanes steps n z a i apart below))
+    in_one_order net totals told (at_end net totals (found_logs lanes) steps rs told (ordered_lanes net totals lanes steps n z few a i apart below))

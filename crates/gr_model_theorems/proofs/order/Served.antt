@@ -100,17 +100,17 @@ ordered_served net totals logs steps arrivals n z on retry a i m fits apart belo
     let o : Transition = opened_over net logs in
     let h : History = begin_over net logs o.lines in
     let next : List Order = fed (orders_over net.publishers totals) o.lines in
-    ordered_from net n on retry WorldIn (λ u l f j k x. next_in net u l n z f j k x) (λ u x. x.frames) (λ f x. spelled_decodes (frame_bytes f) f x) totals apart (λ s here. n.subscriber s (below s here))
+    ordered_from net n on retry (WorldIn net.late) (λ u l f j k x. next_in net u l n z f j k x) (λ u x. x.frames) (λ f x. spelled_decodes (frame_bytes f) f x) totals apart (λ s here. n.subscriber s (below s here))
     arrivals o.world h (publishes_of net (numbers net.brokers) steps) (ordered next) (without_ordered next) (o.lines ∷ []) (opened_ready net logs n z a) (publishes_are_in net (numbers net.brokers) steps i m) fits honest
     (begins net totals h o.lines (begun_lines net logs o.lines)) (rested_ready next)
 
 -- and over lanes, since what was cut changes no line
-pub ordered_served_lanes : (net : Net) (totals : List ℕ) (late : List ℕ) (lanes : List (List Record)) (steps : List Line) (arrivals : List Arrival) → IsNet net → IsSmall net → 1 ≤ net.quiet → 1 ≤ net.retry → AllFollow late lanes → StepsIn net steps → NumbersIn steps
+pub ordered_served_lanes : (net : Net) (totals : List ℕ) (lanes : List (List Record)) (steps : List Line) (arrivals : List Arrival) → IsNet net → IsSmall net → 1 ≤ net.quiet → 1 ≤ net.retry → AllFollow net.late lanes → StepsIn net steps → NumbersIn steps
     → AllByRecursion IsOfBytes arrivals → IsDistinct totals → ((s : ℕ) → list_any (λ x. nat_eq x s) totals ≡ true → s < net.subscribers) → IsHonestRun arrivals (served net (numbers net.brokers) (whole_logs lanes) steps arrivals)
     → OrderedServedLanes net totals lanes steps arrivals
-ordered_served_lanes net totals late lanes steps arrivals n z on retry a i m fits apart below =
-    subst (λ (rs : List (List Report)). IsHonestRun arrivals rs → TotallyOrderedServed net totals (found_logs lanes) steps arrivals rs (told_in_order net totals rs)) (sym (served_lanes net late lanes steps arrivals a))
-    (λ honest. ordered_served net totals (found_logs lanes) steps arrivals n z on retry (are_found net late lanes a) i m fits apart below honest)
+ordered_served_lanes net totals lanes steps arrivals n z on retry a i m fits apart below =
+    subst (λ (rs : List (List Report)). IsHonestRun arrivals rs → TotallyOrderedServed net totals (found_logs lanes) steps arrivals rs (told_in_order net totals rs)) (sym (served_lanes net net.late lanes steps arrivals a))
+    (λ honest. ordered_served net totals (found_logs lanes) steps arrivals n z on retry (are_found net lanes z.late.few a) i m fits apart below honest)
 
 -- ---- one order
 

@@ -1,6 +1,7 @@
 -- The doubt lines of each step are those of a show, place by place
 use Rattle.std.proofs.Common.{◌≡◌, ℕ, suc, max, Bool, true, false, ◌&&◌, List, [], ◌∷◌, ◌++◌, map, length, set, refl, ap, ap₂, ◌∙◌, Option, Some, None}
 use Rattle.std.specs.Prelude.{nat_eq, nat_le, nat_lt, if◌then◌else◌, flat_map, filter, get_or}
+use Rattle.gr_event.specs.Joins.{Joins, longer}
 use Rattle.gr_event.specs.declared.event.Event.{Event}
 use Rattle.gr_frame.specs.declared.Body.{Body}
 use Rattle.gr_frame.specs.declared.Body.TheVariants as body
@@ -13,13 +14,13 @@ use Rattle.gr_model.specs.declared.report.Report.{Report}
 use Rattle.gr_model.specs.declared.report.Report.TheVariants as line
 use Rattle.gr_know.specs.Values.{Known}
 use Rattle.gr_model.specs.Net.{Net, is_host, keeps_horizon, numbers, not_empty}
-use Rattle.gr_model.specs.Broker.{View, Log, Outcome, empty_log, is_kept, delivery_lines, got_line, learn, publish, marking, cutting, wake, wake_host, wake_below, asking, curiosity, expect, receive, clashes, place_of, with_event, max_tick}
-use Rattle.gr_model.specs.World.{World, Transition, view_of, log_of, absorbed, unchanged, followed_by, in_turn, sent_line, sent_lines, wake_for, wake_all, deliver_frame, frame_at, publish_now, restarted, crash, publish_stopped, sweep_for, sweep, sweep_moment, next, show, opened_lines, kept_events, deliver_frame_by, next_by, publish_now_by, publish_stopped_by, sweep_by, wake_for_by}
+use Rattle.gr_model.specs.Broker.{joining, with_joins, drops, View, Log, Outcome, empty_log, is_kept, delivery_lines, got_line, learn, publish, marking, cutting, wake, wake_host, wake_below, asking, curiosity, expect, receive, clashes, place_of, with_event, max_tick}
+use Rattle.gr_model.specs.World.{join_now, join_now_by, World, Transition, view_of, log_of, absorbed, unchanged, followed_by, in_turn, sent_line, sent_lines, wake_for, wake_all, deliver_frame, frame_at, publish_now, restarted, crash, publish_stopped, sweep_for, sweep, sweep_moment, next, show, opened_lines, kept_events, deliver_frame_by, next_by, publish_now_by, publish_stopped_by, sweep_by, wake_for_by}
 use Rattle.gr_frame.specs.Bytes.{frame_bytes}
 use Rattle.gr_model.specs.Headline.{is_doubt_line, doubt_place, doubts_shown}
 use Rattle.gr_model.specs.Tree.{IsNet}
 use Rattle.gr_model_calls.specs.Fits.{WorldFits, StepIn}
-use Rattle.gr_model_calls.proofs.calls.HostCases.{publish_cases, marking_cases}
+use Rattle.gr_model_calls.proofs.calls.HostCases.{joining_cases, publish_cases, marking_cases}
 use Rattle.gr_model_calls.proofs.runs.Schedules.{clocked_fits}
 use Rattle.gr_model_calls.proofs.runs.Chains.{Chains, wake_all_chain, sweeps_chain}
 
@@ -73,21 +74,24 @@ receive_plain : (net : Net) (now : ℕ) (f : Frame) (v : View) (log : Log) → P
 unfolding receive expect curiosity asking
 receive_plain net now f v log = go f.body
   where
-    learned : (runs : Known) (c : Bool) → Plain (let o : Outcome = elim c [ true ↦ record { view = v; log = log; lines = []; frames = [] } | false ↦ learn net f.head.publisher f.head.to runs v log ] in o.lines)
-    learned runs true = tt
-    learned runs false = learn_plain net f.head.publisher f.head.to runs v log
+    learned : (runs : Known) (js : Joins) (c : Bool) → Plain (let o : Outcome = elim c [ true ↦ record { view = v; log = log; lines = []; frames = [] } | false ↦ learn net f.head.publisher f.head.to runs (with_joins v (longer v.joins js)) log ] in o.lines)
+    learned runs js true = tt
+    learned runs js false = learn_plain net f.head.publisher f.head.to runs (with_joins v (longer v.joins js)) log
 
     go : (y : Body) → Plain (let o : Outcome = elim y [
-      | body.Knowledge runs js ↦ elim (clashes v.know runs) [ true ↦ record { view = v; log = log; lines = []; frames = [] } | false ↦ learn net f.head.publisher f.head.to runs v log ]
+      | body.Knowledge runs js ↦ elim (drops v runs js) [ true ↦ record { view = v; log = log; lines = []; frames = [] } | false ↦ learn net f.head.publisher f.head.to runs (with_joins v (longer v.joins js)) log ]
       | body.Curiosity runs ↦ curiosity net f.head.publisher f.head.to now f.head.from (place_of f.head.from (net.children f.head.publisher f.head.to)) runs v log
       | body.Expect tick ↦ expect net f.head.publisher f.head.to now tick v log
     ] in o.lines)
-    go (body.Knowledge runs js) = learned runs (clashes v.know runs)
+    go (body.Knowledge runs js) = learned runs js (drops v runs js)
     go (body.Curiosity runs) = tt
     go (body.Expect tick) = tt
 
 publish_plain : (net : Net) (p b now number : ℕ) (e : Event) (v : View) (log : Log) → Plain (publish net p b now number e v log).lines
 publish_plain net p b now number e v log = publish_cases net p b now number e v log (λ o. Plain o.lines) (λ l. tt) (λ l. tt) (λ x l. tt) (λ x l. learn_plain net p b _ v _)
+
+joining_plain : (net : Net) (p b now s : ℕ) (v : View) (log : Log) → Plain (joining net p b now s v log).lines
+joining_plain net p b now s v log = joining_cases net p b now s v log (λ o. Plain o.lines) (λ e. tt) (λ e l. tt) (λ e l. learn_plain net p b _ _ _)
 
 marking_plain : (net : Net) (p b now : ℕ) (v : View) (log : Log) → Plain (marking net p b now v log).lines
 marking_plain net p b now v log = marking_cases net p b now v log (λ o. Plain o.lines) (λ e. learn_plain net p b _ v _) (λ e. tt)
@@ -119,6 +123,10 @@ absorbed_plain w b p o a = Plain-append o.lines (sent_lines (suc (length w.frame
 wake_for_plain : (net : Net) (w : World) (b p : ℕ) → Plain (wake_for net w b p).lines
 unfolding wake_for_by
 wake_for_plain net w b p = absorbed_plain w b p (wake net p b w.clock (view_of w b p) (log_of w p)) (wake_plain net p b w.clock (view_of w b p) (log_of w p))
+
+join_now_plain : (net : Net) (w : World) (s p : ℕ) → Plain (join_now net w s p).lines
+unfolding join_now_by
+join_now_plain net w s p = absorbed_plain w (net.host p) p (joining net p (net.host p) w.clock s (view_of w (net.host p) p) (log_of w p)) (joining_plain net p (net.host p) w.clock s (view_of w (net.host p) p) (log_of w p))
 
 deliver_plain : (net : Net) (w : World) (x : Frame) → Plain (deliver_frame net w x).lines
 unfolding deliver_frame_by
@@ -259,7 +267,7 @@ lined_doubts net w k (step.Bytes j) n f i = go (frame_at w j)
     go : (o : Option Frame) → doubts_of (let t : Transition = elim o [ None ↦ unchanged w (line.RefusedFrame k j (length w.frames) ∷ []) | Some x ↦ unchanged w (line.BytesOf j (frame_bytes x) ∷ []) ] in t.lines) ≡ []
     go None = refl
     go (Some x) = refl
-lined_doubts net w k (step.Join q p) n f i = absurd i
+lined_doubts net w k (step.Join s p) n f i = plain_none (join_now net w s p).lines (join_now_plain net w s p)
 
 -- the doubt lines of a step are those that its show demands, place by place
 pub doubts_stand : (net : Net) (w : World) (l : Line) → IsNet net → WorldFits net w → StepIn net l.step → map doubt_place (filter is_doubt_line (next net w l).lines) ≡ doubts_shown net l

@@ -17,15 +17,15 @@ use Rattle.gr_sched.specs.declared.step.Line.{Line}
 use Rattle.gr_model.specs.declared.report.Report.{Report}
 use Rattle.gr_model.specs.declared.report.Report.TheVariants as line
 use Rattle.gr_model.specs.Net.{Net, is_host, keeps_horizon, not_empty, numbers, numbers_from}
-use Rattle.gr_model.specs.Broker.{View, Log, Outcome, empty_log, learn, publish, marking, cutting, wake, wake_host, wake_below, asking, receive, done_upto, consolidated, silence, with_event, with_mark, with_cut, is_kept, max_tick}
-use Rattle.gr_model.specs.World.{World, Transition, view_of, log_of, absorbed, unchanged, followed_by, in_turn, sent_line, sent_lines, wake_for, wake_all, deliver_frame, frame_at, publish_now, publish_stopped, crash, restarted, opened_lines, sweep, sweep_for, sweep_moment, next, start, next_by, publish_now_by, publish_stopped_by, deliver_frame_by, sweep_by, wake_for_by}
-use Rattle.gr_model.specs.Headline.{History, record_of, is_next, is_mark_of, first_gate, event_room, mark_room, gates_told, gates_after, says_kept, may_crash, begin}
+use Rattle.gr_model.specs.Broker.{joining, with_join, View, Log, Outcome, empty_log, learn, publish, marking, cutting, wake, wake_host, wake_below, asking, receive, done_upto, consolidated, silence, with_event, with_mark, with_cut, is_kept, max_tick}
+use Rattle.gr_model.specs.World.{join_now, join_now_by, World, Transition, view_of, log_of, absorbed, unchanged, followed_by, in_turn, sent_line, sent_lines, wake_for, wake_all, deliver_frame, frame_at, publish_now, publish_stopped, crash, restarted, opened_lines, sweep, sweep_for, sweep_moment, next, start, next_by, publish_now_by, publish_stopped_by, deliver_frame_by, sweep_by, wake_for_by}
+use Rattle.gr_model.specs.Headline.{may_enter, join_room, History, record_of, is_next, is_mark_of, first_gate, event_room, mark_room, gates_told, gates_after, says_kept, may_crash, begin}
 use Rattle.gr_model.specs.Headline as headline
 use Rattle.gr_model.specs.Opening.{reopened_log, begin_over}
 use Rattle.gr_model.specs.Tree.{IsNet}
 use Rattle.gr_model_calls.specs.Fits.{WorldFits, FrameTrue, StepIn}
 use Rattle.gr_model_calls.proofs.calls.Calls.{learn_log}
-use Rattle.gr_model_calls.proofs.calls.HostCases.{publish_cases, marking_cases}
+use Rattle.gr_model_calls.proofs.calls.HostCases.{joining_cases, publish_cases, marking_cases}
 use Rattle.gr_model_calls.proofs.runs.Chains.{Chains, wake_all_chain, sweeps_chain}
 use Rattle.gr_model_calls.proofs.runs.Schedules.{clocked_fits, frame_at_true, get_numbers, start_log}
 use Rattle.gr_model_theorems.proofs.records.Records.{core, core_of, receive_log}
@@ -218,18 +218,18 @@ gates_move net w t gs k m = record {
   each = λ q j. told_each 0 gs t.lines q (omega (arith, k.long)) ∙ (ap₂ (λ g (r : ℕ). g + mark_room * marks r t.lines) (k.each q j) (let e : 0 + q ≡ q = omega arith in e) ∙ sym (m q));
 }
 
--- by an event, where one is logged
-gates_log : (net : Net) (w u : World) (gs : List ℕ) (p : ℕ) (e : Event) (c : Bool) → p < net.publishers → GatesFit net w gs → ((q : ℕ) → (log_of u q).gate ≡ (if nat_eq q p && c then (log_of w q).gate + event_room e else (log_of w q).gate)) → GatesFit net u (if c then set gs p (get_or gs p first_gate + event_room e) else gs)
-gates_log net w u gs p e true j k m = record {
-  long = length-set gs p (get_or gs p first_gate + event_room e) ∙ k.long;
+-- by the room of a record, where one is logged
+gates_log : (net : Net) (w u : World) (gs : List ℕ) (p room : ℕ) (c : Bool) → p < net.publishers → GatesFit net w gs → ((q : ℕ) → (log_of u q).gate ≡ (if nat_eq q p && c then (log_of w q).gate + room else (log_of w q).gate)) → GatesFit net u (if c then set gs p (get_or gs p first_gate + room) else gs)
+gates_log net w u gs p room true j k m = record {
+  long = length-set gs p (get_or gs p first_gate + room) ∙ k.long;
   each = λ q i. elim (cases_eq q p) [
     | inl x ↦
-        subst (λ r. get_or (set gs p (get_or gs p first_gate + event_room e)) r first_gate ≡ (log_of u r).gate) (sym x)
-        (get_or-set_same gs p (get_or gs p first_gate + event_room e) first_gate (omega (arith, k.long, j)) ∙ (ap (λ g. g + event_room e) (k.each p j) ∙ sym (m p ∙ rw (eq-eqb p p refl) refl)))
-    | inr x ↦ get_or-set_other gs p q (get_or gs p first_gate + event_room e) first_gate x ∙ (k.each q i ∙ sym (m q ∙ rw (ne_eqb q p x) refl))
+        subst (λ r. get_or (set gs p (get_or gs p first_gate + room)) r first_gate ≡ (log_of u r).gate) (sym x)
+        (get_or-set_same gs p (get_or gs p first_gate + room) first_gate (omega (arith, k.long, j)) ∙ (ap (λ g. g + room) (k.each p j) ∙ sym (m p ∙ rw (eq-eqb p p refl) refl)))
+    | inr x ↦ get_or-set_other gs p q (get_or gs p first_gate + room) first_gate x ∙ (k.each q i ∙ sym (m q ∙ rw (ne_eqb q p x) refl))
   ];
 }
-gates_log net w u gs p e false j k m = record {
+gates_log net w u gs p room false j k m = record {
   long = k.long;
   each = λ q i. k.each q i ∙ sym (m q ∙ rw (and_right (nat_eq q p) false refl) refl);
 }
@@ -249,6 +249,30 @@ publish_moves net w p number e q f j =
   where
     go : (c : Bool) → (let l : Log = if c then with_event (log_of w p) (max (suc (log_of w p).settled) w.clock) e else log_of w p in l.gate) ≡ (if c then (log_of w p).gate + event_room e else (log_of w p).gate)
     go true = with_event_gate (log_of w p) (max (suc (log_of w p).settled) w.clock) e
+    go false = refl
+
+-- a join is logged exactly where its subscriber may join
+join_log : (net : Net) (p b now s : ℕ) (v : View) (log : Log) → (joining net p b now s v log).log ≡ (if may_enter now (core log) s then with_join log (max (suc log.settled) now) s else log)
+join_log net p b now s v log =
+    joining_cases net p b now s v log (λ o. o.log ≡ (if may_enter now (core log) s then with_join log tick s else log))
+    (λ e. rw e refl)
+    (λ e l. rw (e, lt-leb tick max_tick l) refl)
+    (λ e l. rw (e, le-leb tick max_tick l) (learn_log net p b _ _ (with_join log tick s)))
+  where
+    tick : ℕ
+    tick = max (suc log.settled) now
+
+join_moves : (net : Net) (w : World) (s p q : ℕ) → WorldFits net w → p < net.publishers → (log_of (join_now net w s p).world q).gate ≡ (if nat_eq q p && may_enter w.clock (core_of w p) s then (log_of w q).gate + join_room else (log_of w q).gate)
+unfolding join_now_by
+join_moves net w s p q f j =
+    let o : Outcome = joining net p (net.host p) w.clock s (view_of w (net.host p) p) (log_of w p) in
+    ap (λ (l : Log). l.gate) (absorbed_log net w (net.host p) p q o f j) ∙ elim (cases_eq q p) [
+      | inl x ↦ rw (eq-eqb q p x) (subst (λ r. o.log.gate ≡ (if may_enter w.clock (core_of w p) s then (log_of w r).gate + join_room else (log_of w r).gate)) (sym x) (ap (λ (l : Log). l.gate) (join_log net p (net.host p) w.clock s (view_of w (net.host p) p) (log_of w p)) ∙ go (may_enter w.clock (core_of w p) s)))
+      | inr x ↦ rw (ne_eqb q p x) refl
+    ]
+  where
+    go : (c : Bool) → (let l : Log = if c then with_join (log_of w p) (max (suc (log_of w p).settled) w.clock) s else log_of w p in l.gate) ≡ (if c then (log_of w p).gate + join_room else (log_of w p).gate)
+    go true = refl
     go false = refl
 
 restarted_log : (net : Net) (w : World) (b q : ℕ) → log_of (restarted net w b) q ≡ log_of w q
@@ -355,7 +379,7 @@ gates_by : (net : Net) (w : World) (h : History) (k : ℕ) (s : Step) → IsNet 
 unfolding next_by gates_after
 gates_by net w h k (step.Clock now) n z f r i g = record { long = g.long; each = g.each }
 gates_by net w h k (step.Publish p number None e) n z f r i g =
-    gates_log net w (publish_now net w p number e).world h.gates p e (is_next h.clock (record_of h p) number && true) i g
+    gates_log net w (publish_now net w p number e).world h.gates p (event_room e) (is_next h.clock (record_of h p) number && true) i g
     (λ q. publish_moves net w p number e q f i ∙ ap (λ c. if nat_eq q p && c then (log_of w q).gate + event_room e else (log_of w q).gate) (sym (and_true (is_next h.clock (record_of h p) number) ∙ next_same net w h p number r)))
   where
     and_true : (x : Bool) → (x && true) ≡ x
@@ -363,7 +387,7 @@ gates_by net w h k (step.Publish p number None e) n z f r i g =
     and_true false = refl
 gates_by net w h k (step.Publish p number (Some stop) e) n z f r i g =
     let t = publish_stopped net w k p number stop e in
-    gates_log net w t.world h.gates p e (is_next h.clock (record_of h p) number && says_kept t.lines) i g
+    gates_log net w t.world h.gates p (event_room e) (is_next h.clock (record_of h p) number && says_kept t.lines) i g
     (λ q. (stopped_is net w k p number stop e f i).gates q ∙ ap (λ c. if nat_eq q p && (c && says_kept t.lines) then (log_of w q).gate + event_room e else (log_of w q).gate) (sym (next_same net w h p number r)))
 gates_by net w h k (step.Wake b) n z f r i g = gates_move net w (wake_all net w b) h.gates g (λ q. (wake_all_chain net (GateMoves q) w b (moves_chain net q z) n f i).holds)
 gates_by net w h k (step.Deliver j) n z f r i g = go (frame_at w j) (λ x e. frame_true x e)
@@ -383,7 +407,9 @@ gates_by net w h k (step.Bytes j) n z f r i g = go (frame_at w j)
     go : (o : Option Frame) → (let t : Transition = elim o [ None ↦ unchanged w (line.RefusedFrame k j (length w.frames) ∷ []) | Some x ↦ unchanged w (line.BytesOf j (frame_bytes x) ∷ []) ] in GatesFit net t.world h.gates)
     go None = g
     go (Some x) = g
-gates_by net w h k (step.Join q p) n z f r i g = absurd i
+gates_by net w h k (step.Join s p) n z f r i g =
+    gates_log net w (join_now net w s p).world h.gates p join_room (may_enter h.clock (record_of h p) s) i.1 g
+    (λ q. join_moves net w s p q f i.1 ∙ ap (λ c. if nat_eq q p && c then (log_of w q).gate + join_room else (log_of w q).gate) (sym (ap₂ (λ m x. may_enter m x s) r.clock (record_core net w h p r))))
 
 -- each step keeps the gates of the history those of the logs
 pub next_gates : (net : Net) (w : World) (h : History) (l : Line) → IsNet net → 1 ≤ net.quiet → WorldFits net w → RecordsFit net w h → StepIn net l.step → GatesFit net w h.gates → GatesFit net (next net w l).world (headline.history_after net h l (next net w l).lines).gates

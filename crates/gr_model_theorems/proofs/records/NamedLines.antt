@@ -1,6 +1,7 @@
 -- The cut and horizon lines of each step name publishers and subscribers of the topology, and its doubt lines say the horizons
 use Rattle.std.proofs.Common.{◌≡◌, ◌<◌, subst, sym, arith, ℕ, suc, max, Bool, true, false, ◌&&◌, List, [], ◌∷◌, ◌++◌, map, length, set, refl, Option, Some, None}
 use Rattle.std.specs.Prelude.{nat_eq, nat_le, nat_lt, if◌then◌else◌, flat_map, filter, get_or}
+use Rattle.gr_event.specs.Joins.{Joins, longer}
 use Rattle.gr_event.specs.declared.event.Event.{Event}
 use Rattle.gr_frame.specs.declared.Body.{Body}
 use Rattle.gr_frame.specs.declared.Body.TheVariants as body
@@ -13,12 +14,12 @@ use Rattle.gr_model.specs.declared.report.Report.{Report}
 use Rattle.gr_model.specs.declared.report.Report.TheVariants as line
 use Rattle.gr_know.specs.Values.{Known}
 use Rattle.gr_model.specs.Net.{Net, is_host, keeps_horizon, numbers, not_empty}
-use Rattle.gr_model.specs.Broker.{View, Log, Outcome, empty_log, is_kept, delivery_lines, got_line, learn, publish, marking, cutting, wake, wake_host, wake_below, asking, curiosity, expect, receive, clashes, place_of, with_event, max_tick}
-use Rattle.gr_model.specs.World.{World, Transition, view_of, log_of, absorbed, unchanged, followed_by, in_turn, sent_line, sent_lines, wake_for, wake_all, deliver_frame, frame_at, publish_now, restarted, crash, publish_stopped, sweep_for, sweep, sweep_moment, next, show, opened_lines, kept_events, deliver_frame_by, next_by, publish_now_by, publish_stopped_by, sweep_by, wake_for_by}
+use Rattle.gr_model.specs.Broker.{joining, with_joins, drops, View, Log, Outcome, empty_log, is_kept, delivery_lines, got_line, learn, publish, marking, cutting, wake, wake_host, wake_below, asking, curiosity, expect, receive, clashes, place_of, with_event, max_tick}
+use Rattle.gr_model.specs.World.{join_now, join_now_by, World, Transition, view_of, log_of, absorbed, unchanged, followed_by, in_turn, sent_line, sent_lines, wake_for, wake_all, deliver_frame, frame_at, publish_now, restarted, crash, publish_stopped, sweep_for, sweep, sweep_moment, next, show, opened_lines, kept_events, deliver_frame_by, next_by, publish_now_by, publish_stopped_by, sweep_by, wake_for_by}
 use Rattle.gr_frame.specs.Bytes.{frame_bytes}
 use Rattle.gr_model.specs.Tree.{IsNet, IsSubscriber}
 use Rattle.gr_model_calls.specs.Fits.{WorldFits, StepIn}
-use Rattle.gr_model_calls.proofs.calls.HostCases.{publish_cases, marking_cases}
+use Rattle.gr_model_calls.proofs.calls.HostCases.{joining_cases, publish_cases, marking_cases}
 use Rattle.gr_model_calls.proofs.runs.Schedules.{clocked_fits, frame_at_true}
 use Rattle.std.specs.List.{list_any}
 use Rattle.std.proofs.lemmas.Bool.{eq-eqb, or_left, or_right}
@@ -90,21 +91,24 @@ receive_named : (net : Net) (now : ℕ) (f : Frame) (v : View) (log : Log) → I
 unfolding receive expect curiosity asking
 receive_named net now f v log n i j = go f.body
   where
-    learned : (runs : Known) (c : Bool) → Named net Never (let o : Outcome = elim c [ true ↦ record { view = v; log = log; lines = []; frames = [] } | false ↦ learn net f.head.publisher f.head.to runs v log ] in o.lines)
-    learned runs true = tt
-    learned runs false = learn_named net f.head.publisher f.head.to runs v log n i j
+    learned : (runs : Known) (js : Joins) (c : Bool) → Named net Never (let o : Outcome = elim c [ true ↦ record { view = v; log = log; lines = []; frames = [] } | false ↦ learn net f.head.publisher f.head.to runs (with_joins v (longer v.joins js)) log ] in o.lines)
+    learned runs js true = tt
+    learned runs js false = learn_named net f.head.publisher f.head.to runs (with_joins v (longer v.joins js)) log n i j
 
     go : (y : Body) → Named net Never (let o : Outcome = elim y [
-      | body.Knowledge runs js ↦ elim (clashes v.know runs) [ true ↦ record { view = v; log = log; lines = []; frames = [] } | false ↦ learn net f.head.publisher f.head.to runs v log ]
+      | body.Knowledge runs js ↦ elim (drops v runs js) [ true ↦ record { view = v; log = log; lines = []; frames = [] } | false ↦ learn net f.head.publisher f.head.to runs (with_joins v (longer v.joins js)) log ]
       | body.Curiosity runs ↦ curiosity net f.head.publisher f.head.to now f.head.from (place_of f.head.from (net.children f.head.publisher f.head.to)) runs v log
       | body.Expect tick ↦ expect net f.head.publisher f.head.to now tick v log
     ] in o.lines)
-    go (body.Knowledge runs js) = learned runs (clashes v.know runs)
+    go (body.Knowledge runs js) = learned runs js (drops v runs js)
     go (body.Curiosity runs) = tt
     go (body.Expect tick) = tt
 
 publish_named : (net : Net) (p b now number : ℕ) (e : Event) (v : View) (log : Log) → IsNet net → b < net.brokers → p < net.publishers → Named net Never (publish net p b now number e v log).lines
 publish_named net p b now number e v log n i j = publish_cases net p b now number e v log (λ o. Named net Never o.lines) (λ l. tt) (λ l. tt) (λ x l. tt) (λ x l. learn_named net p b _ v _ n i j)
+
+joining_named : (net : Net) (p b now s : ℕ) (v : View) (log : Log) → IsNet net → b < net.brokers → p < net.publishers → Named net Never (joining net p b now s v log).lines
+joining_named net p b now s v log n i j = joining_cases net p b now s v log (λ o. Named net Never o.lines) (λ e. tt) (λ e l. tt) (λ e l. learn_named net p b _ _ _ n i j)
 
 marking_named : (net : Net) (p b now : ℕ) (v : View) (log : Log) → IsNet net → b < net.brokers → p < net.publishers → Named net Never (marking net p b now v log).lines
 marking_named net p b now v log n i j = marking_cases net p b now v log (λ o. Named net Never o.lines) (λ e. learn_named net p b _ v _ n i j) (λ e. tt)
@@ -145,6 +149,10 @@ deliver_named net w x n i j = absorbed_named net w x.head.to x.head.publisher (r
 publish_now_named : (net : Net) (w : World) (p number : ℕ) (e : Event) → IsNet net → p < net.publishers → Named net Never (publish_now net w p number e).lines
 unfolding publish_now_by
 publish_now_named net w p number e n j = absorbed_named net w (net.host p) p (publish net p (net.host p) w.clock number e (view_of w (net.host p) p) (log_of w p)) (publish_named net p (net.host p) w.clock number e (view_of w (net.host p) p) (log_of w p) n (n.host_in p j) j)
+
+join_now_named : (net : Net) (w : World) (s p : ℕ) → IsNet net → p < net.publishers → Named net Never (join_now net w s p).lines
+unfolding join_now_by
+join_now_named net w s p n j = absorbed_named net w (net.host p) p (joining net p (net.host p) w.clock s (view_of w (net.host p) p) (log_of w p)) (joining_named net p (net.host p) w.clock s (view_of w (net.host p) p) (log_of w p) n (n.host_in p j) j)
 
 named_chain : (net : Net) → IsNet net → Chains net (λ w t. Named net Never t.lines)
 named_chain net n = record {
@@ -277,7 +285,7 @@ named_by net w k (step.Bytes j) n f i = go (frame_at w j)
     go : (o : Option Frame) → Named net (IsShown net w) (let t : Transition = elim o [ None ↦ unchanged w (line.RefusedFrame k j (length w.frames) ∷ []) | Some x ↦ unchanged w (line.BytesOf j (frame_bytes x) ∷ []) ] in t.lines)
     go None = tt
     go (Some x) = tt
-named_by net w k (step.Join q p) n f i = absurd i
+named_by net w k (step.Join s p) n f i = never net w (join_now net w s p).lines (join_now_named net w s p n i.1)
 
 -- the lines of each step name only what the topology has, and its doubt lines say the horizons
 pub step_named : (net : Net) (w : World) (l : Line) → IsNet net → WorldFits net w → StepIn net l.step → Named net (IsShown net w) (next net w l).lines

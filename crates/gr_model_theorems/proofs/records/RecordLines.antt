@@ -3,6 +3,7 @@ use Rattle.std.proofs.Common.{◌≡◌, ◌≢◌, ◌⊎◌, inl, inr, ⊎_eli
 use Rattle.std.specs.Prelude.{nat_eq, nat_le, nat_lt, if◌then◌else◌, flat_map, filter, cond}
 use Rattle.std.proofs.lemmas.Bool.{cases_Bool, cases_eq, eq-eqb, ne_eqb, lt-ltb, le-ltb, leb-true, le-leb, and_parts, lt-leb}
 use Rattle.std.proofs.lemmas.List.Elements.{filter-append}
+use Rattle.gr_event.specs.Joins.{has_joined, Joins, longer}
 use Rattle.gr_event.specs.declared.event.Event.{Event}
 use Rattle.gr_frame.specs.declared.Body.{Body}
 use Rattle.gr_frame.specs.declared.Body.TheVariants as body
@@ -11,12 +12,12 @@ use Rattle.gr_know.specs.Values.{Known}
 use Rattle.gr_model.specs.declared.report.Report.{Report}
 use Rattle.gr_model.specs.declared.report.Report.TheVariants as line
 use Rattle.gr_model.specs.Net.{Net, is_host, numbers_from}
-use Rattle.gr_model.specs.Broker.{View, Log, Outcome, delivery_lines, got_line, learn, publish, marking, cutting, wake, wake_host, wake_below, asking, curiosity, expect, receive, clashes, place_of, max_tick}
-use Rattle.gr_model.specs.World.{World, Transition, view_of, log_of, absorbed, unchanged, followed_by, in_turn, sent_line, sent_lines, wake_for, deliver_frame, publish_now, sweep_for, deliver_frame_by, publish_now_by, wake_for_by}
-use Rattle.gr_model.specs.Headline.{Recorded, is_record_line, is_sent, publish_line, marked, settling}
+use Rattle.gr_model.specs.Broker.{joining, with_joins, drops, View, Log, Outcome, delivery_lines, got_line, learn, publish, marking, cutting, wake, wake_host, wake_below, asking, curiosity, expect, receive, clashes, place_of, max_tick}
+use Rattle.gr_model.specs.World.{join_now, join_now_by, World, Transition, view_of, log_of, absorbed, unchanged, followed_by, in_turn, sent_line, sent_lines, wake_for, deliver_frame, publish_now, sweep_for, deliver_frame_by, publish_now_by, wake_for_by}
+use Rattle.gr_model.specs.Headline.{join_line, Recorded, is_record_line, is_sent, publish_line, marked, settling}
 use Rattle.gr_model.specs.Tree.{IsNet}
 use Rattle.gr_model_calls.specs.Fits.{WorldFits, FrameTrue}
-use Rattle.gr_model_calls.proofs.calls.HostCases.{publish_cases, marking_cases}
+use Rattle.gr_model_calls.proofs.calls.HostCases.{joining_cases, publish_cases, marking_cases}
 use Rattle.gr_model_theorems.proofs.records.Records.{core, core_of, marking_core, wake_for_core, wake_for_clock, deliver_core, deliver_clock, sweep_for_marks, sweep_for_marked}
 use Rattle.gr_model_calls.proofs.runs.Worlds.{wake_for_kept}
 use Rattle.gr_model_calls.proofs.runs.Chains.{Chains, sweep_for_chain}
@@ -66,16 +67,16 @@ pub receive_none : (f : Report → Bool) (net : Net) (now : ℕ) (x : Frame) (v 
 unfolding receive expect curiosity asking
 receive_none f net now x v log k = go x.body
   where
-    learned : (runs : Known) (c : Bool) → filter f (let o : Outcome = elim c [ true ↦ record { view = v; log = log; lines = []; frames = [] } | false ↦ learn net x.head.publisher x.head.to runs v log ] in o.lines) ≡ []
-    learned runs true = refl
-    learned runs false = learn_none f net x.head.publisher x.head.to runs v log k
+    learned : (runs : Known) (js : Joins) (c : Bool) → filter f (let o : Outcome = elim c [ true ↦ record { view = v; log = log; lines = []; frames = [] } | false ↦ learn net x.head.publisher x.head.to runs (with_joins v (longer v.joins js)) log ] in o.lines) ≡ []
+    learned runs js true = refl
+    learned runs js false = learn_none f net x.head.publisher x.head.to runs (with_joins v (longer v.joins js)) log k
 
     go : (y : Body) → filter f (let o : Outcome = elim y [
-      | body.Knowledge runs js ↦ elim (clashes v.know runs) [ true ↦ record { view = v; log = log; lines = []; frames = [] } | false ↦ learn net x.head.publisher x.head.to runs v log ]
+      | body.Knowledge runs js ↦ elim (drops v runs js) [ true ↦ record { view = v; log = log; lines = []; frames = [] } | false ↦ learn net x.head.publisher x.head.to runs (with_joins v (longer v.joins js)) log ]
       | body.Curiosity runs ↦ curiosity net x.head.publisher x.head.to now x.head.from (place_of x.head.from (net.children x.head.publisher x.head.to)) runs v log
       | body.Expect tick ↦ expect net x.head.publisher x.head.to now tick v log
     ] in o.lines) ≡ []
-    go (body.Knowledge runs js) = learned runs (clashes v.know runs)
+    go (body.Knowledge runs js) = learned runs js (drops v runs js)
     go (body.Curiosity runs) = refl
     go (body.Expect tick) = refl
 
@@ -112,6 +113,33 @@ publish_line_unsent p now number r = go (nat_le number r.last) (nat_lt (suc r.la
     go false true z = refl
     go false false true = refl
     go false false false = refl
+
+-- of a join the test passes at most its own line
+pub join_some : (f : Report → Bool) (net : Net) (p b now s : ℕ) (v : View) (log : Log) → Skips f → filter f (joining net p b now s v log).lines ≡ filter f (join_line s p now (core log) ∷ [])
+join_some f net p b now s v log k =
+    joining_cases net p b now s v log (λ o. filter f o.lines ≡ filter f (join_line s p now (core log) ∷ []))
+    (λ e. rw e refl)
+    (λ e l. rw (e, lt-ltb max_tick tick l) refl)
+    (λ e l. rw (e, le-ltb max_tick tick l) (one_of f (line.Joined s p tick) _ (learn_none f net p b _ _ _ k)))
+  where
+    tick : ℕ
+    tick = max (suc log.settled) now
+
+join_line_recorded : (s p now : ℕ) (r : Recorded) → recs (join_line s p now r ∷ []) ≡ join_line s p now r ∷ []
+join_line_recorded s p now r = go (has_joined r.joined s) (nat_lt max_tick (max (suc r.settled) now))
+  where
+    go : (x y : Bool) → recs ((if x then line.AlreadyJoined s p else (if y then line.ExhaustedJoin s p else line.Joined s p (max (suc r.settled) now))) ∷ []) ≡ (if x then line.AlreadyJoined s p else (if y then line.ExhaustedJoin s p else line.Joined s p (max (suc r.settled) now))) ∷ []
+    go true y = refl
+    go false true = refl
+    go false false = refl
+
+join_line_unsent : (s p now : ℕ) (r : Recorded) → filter is_sent (join_line s p now r ∷ []) ≡ []
+join_line_unsent s p now r = go (has_joined r.joined s) (nat_lt max_tick (max (suc r.settled) now))
+  where
+    go : (x y : Bool) → filter is_sent ((if x then line.AlreadyJoined s p else (if y then line.ExhaustedJoin s p else line.Joined s p (max (suc r.settled) now))) ∷ []) ≡ []
+    go true y = refl
+    go false true = refl
+    go false false = refl
 
 -- marking writes no line but delivery lines
 pub marking_none : (f : Report → Bool) (net : Net) (p b now : ℕ) (v : View) (log : Log) → Skips f → filter f (marking net p b now v log).lines ≡ []
@@ -284,6 +312,22 @@ publish_now_sends net w p number e =
     let v = view_of w (net.host p) p in
     absorbed_sends w (net.host p) p (publish net p (net.host p) w.clock number e v (log_of w p))
     (publish_some is_sent net p (net.host p) w.clock number e v (log_of w p) sents_skip ∙ publish_line_unsent p w.clock number (core_of w p))
+
+-- a join's one recorded line says what became of it
+pub join_now_recs : (net : Net) (w : World) (s p : ℕ) → recs (join_now net w s p).lines ≡ join_line s p w.clock (core_of w p) ∷ []
+unfolding join_now_by
+join_now_recs net w s p =
+    let v = view_of w (net.host p) p in
+    absorbed_recs w (net.host p) p (joining net p (net.host p) w.clock s v (log_of w p))
+    ∙ (join_some is_record_line net p (net.host p) w.clock s v (log_of w p) records_skip ∙ join_line_recorded s p w.clock (core_of w p))
+
+-- the sent lines of a join are those of the frames that it sends
+pub join_now_sends : (net : Net) (w : World) (s p : ℕ) → Sends w (join_now net w s p)
+unfolding join_now_by
+join_now_sends net w s p =
+    let v = view_of w (net.host p) p in
+    absorbed_sends w (net.host p) p (joining net p (net.host p) w.clock s v (log_of w p))
+    (join_some is_sent net p (net.host p) w.clock s v (log_of w p) sents_skip ∙ join_line_unsent s p w.clock (core_of w p))
 
 -- chains of calls keep that the sent lines are those of the frames that are sent
 pub sends_chain : (net : Net) → Chains net Sends

@@ -16,7 +16,7 @@ use Rattle.gr_model.specs.declared.report.Report.TheVariants as line
 use Rattle.gr_model.specs.Net.{Net, keeps_horizon, numbers, numbers_from, not_empty}
 use Rattle.gr_model.specs.Broker.{Log, empty_log, with_event, is_kept, max_tick}
 use Rattle.gr_model.specs.World.{World, Transition, view_of, log_of, unchanged, followed_by, in_turn, wake_all, deliver_frame, frame_at, publish_now, publish_stopped, crash, restarted, opened_lines, sweep, sweep_for, sweep_moment, next, show, kept_events, next_by, publish_stopped_by, sweep_by, wake_all_by}
-use Rattle.gr_model.specs.Headline.{Recorded, History, nothing_recorded, reopened_cut, record_of, is_record_line, is_sent, sent_count, record_lines, records_after, publish_line, opened_of, last_cut, count_past, is_next, tick_of, says_kept, may_crash, is_swept, sweep_at}
+use Rattle.gr_model.specs.Headline.{join_line, Recorded, History, nothing_recorded, reopened_cut, record_of, is_record_line, is_sent, sent_count, record_lines, records_after, publish_line, opened_of, last_cut, count_past, is_next, tick_of, says_kept, may_crash, is_swept, sweep_at}
 use Rattle.gr_model.specs.Headline as headline
 use Rattle.gr_model.specs.Tree.{IsNet}
 use Rattle.gr_model_calls.specs.Fits.{WorldFits, StepIn}
@@ -24,7 +24,7 @@ use Rattle.gr_model_theorems.proofs.records.Records.{core, core_of}
 use Rattle.gr_model_theorems.proofs.records.Recorded.{RecordsFit, record_core, next_records, get_map, opened_no_kept, sweep_same, settled_below}
 use Rattle.gr_model_calls.proofs.runs.Schedules.{clocked_fits}
 use Rattle.gr_model_calls.proofs.runs.Chains.{wake_all_chain, sweeps_chain}
-use Rattle.gr_model_theorems.proofs.records.RecordLines.{recs, Sends, sends_chain, sends_none, sends_seq, deliver_recs, deliver_sends, publish_now_recs, publish_now_sends, wakes_recs, sweeps_recs, mark_line}
+use Rattle.gr_model_theorems.proofs.records.RecordLines.{join_now_recs, join_now_sends, recs, Sends, sends_chain, sends_none, sends_seq, deliver_recs, deliver_sends, publish_now_recs, publish_now_sends, wakes_recs, sweeps_recs, mark_line}
 
 -- What is opened
 
@@ -293,7 +293,8 @@ record_by net w h k (step.Bytes j) n z f r s c i a = go (frame_at w j)
     go : (o : Option Frame) → recs (let t : Transition = elim o [ None ↦ unchanged w (line.RefusedFrame k j (length w.frames) ∷ []) | Some x ↦ unchanged w (line.BytesOf j (frame_bytes x) ∷ []) ] in t.lines) ≡ []
     go None = refl
     go (Some x) = refl
-record_by net w h k (step.Join q p) n z f r s c i a = absurd i
+record_by net w h k (step.Join q p) n z f r s c i a =
+    join_now_recs net w q p ∙ ap₂ (λ m x. join_line q p m x ∷ []) (sym r.clock) (sym (record_core net w h p r))
 
 after_records : (net : Net) (h : History) (l : Line) (ls : List Report) → (headline.history_after net h l ls).records ≡ records_after net h l ls
 unfolding headline.history_after
@@ -331,7 +332,7 @@ sends_by net w k (step.Bytes j) n f i = go (frame_at w j)
     go : (o : Option Frame) → Sends w (elim o [ None ↦ unchanged w (line.RefusedFrame k j (length w.frames) ∷ []) | Some x ↦ unchanged w (line.BytesOf j (frame_bytes x) ∷ []) ])
     go None = sends_none w (unchanged w (line.RefusedFrame k j (length w.frames) ∷ [])) refl refl
     go (Some x) = sends_none w (unchanged w (line.BytesOf j (frame_bytes x) ∷ [])) refl refl
-sends_by net w k (step.Join q p) n f i = absurd i
+sends_by net w k (step.Join q p) n f i = join_now_sends net w q p
 
 -- the sent lines of each step are those of the frames that it sends
 pub step_sends : (net : Net) (w : World) (l : Line) → IsNet net → WorldFits net w → StepIn net l.step → Sends w (next net w l)

@@ -13,17 +13,17 @@ use Rattle.gr_sched.specs.declared.step.Line.{Line}
 use Rattle.gr_model.specs.declared.report.Report.{Report}
 use Rattle.gr_model.specs.declared.report.Report.TheVariants as line
 use Rattle.gr_model.specs.Net.{Net, is_host, not_empty, numbers, numbers_from}
-use Rattle.gr_model.specs.Broker.{Log, empty_log, publish, with_event, is_kept, max_tick}
+use Rattle.gr_model.specs.Broker.{joining, Log, empty_log, publish, with_event, is_kept, max_tick}
 use Rattle.gr_model.specs.World as world
-use Rattle.gr_model.specs.World.{World, Transition, view_of, log_of, absorbed, unchanged, in_turn, wake_for, wake_all, deliver_frame, frame_at, publish_now, publish_stopped, crash, restarted, sweep, sweep_for, sweep_moment, next, start, opened_lines, run_all, run_from, next_by, publish_now_by, publish_stopped_by, run_from_by, sweep_by, wake_all_by}
-use Rattle.gr_model.specs.Headline.{Recorded, History, nothing_recorded, record_of, recording, settling, marked, is_next, greatest, sweep_at, is_swept, each_record, records_after, clock_after, most_after, history_after, history, begin, expected, delivered_events, last_horizon, HorizonsRise, GetsExactly, says_kept}
+use Rattle.gr_model.specs.World.{join_now, join_now_by, World, Transition, view_of, log_of, absorbed, unchanged, in_turn, wake_for, wake_all, deliver_frame, frame_at, publish_now, publish_stopped, crash, restarted, sweep, sweep_for, sweep_moment, next, start, opened_lines, run_all, run_from, next_by, publish_now_by, publish_stopped_by, run_from_by, sweep_by, wake_all_by}
+use Rattle.gr_model.specs.Headline.{may_enter, with_joined, Recorded, History, nothing_recorded, record_of, recording, settling, marked, is_next, greatest, sweep_at, is_swept, each_record, records_after, clock_after, most_after, history_after, history, begin, expected, delivered_events, last_horizon, HorizonsRise, GetsExactly, says_kept}
 use Rattle.gr_model_calls.proofs.calls.Telling.{steady_rises}
 use Rattle.gr_model_calls.specs.Said.{due_upto}
 use Rattle.gr_model.specs.Tree.{IsNet, IsSubscriber}
 use Rattle.gr_model_calls.specs.Fits.{WorldFits, StepIn, StepsIn, FrameTrue, history_of}
 use Rattle.gr_model_calls.proofs.runs.Worlds.{wake_for_kept}
 use Rattle.gr_model_calls.proofs.runs.Schedules.{next_kept, start_fits, lines_always, frame_at_true, clocked_fits}
-use Rattle.gr_model_theorems.proofs.records.Records.{core, core_of, absorbed_cores, publish_core, wake_for_core, wake_for_clock, wake_for_most, deliver_core, deliver_clock, deliver_most, sweep_for_marks, sweep_for_marked}
+use Rattle.gr_model_theorems.proofs.records.Records.{joining_core, core, core_of, absorbed_cores, publish_core, wake_for_core, wake_for_clock, wake_for_most, deliver_core, deliver_clock, deliver_most, sweep_for_marks, sweep_for_marked}
 
 -- the history's records are the cores of the logs
 pub record RecordsFit (net : Net) (w : World) (h : History) : Type 0 where
@@ -83,6 +83,34 @@ publish_records net w u h p number e f g r j c =
   where
     same_terms : (a b : ℕ) (x y : Recorded) (rs ss : List Recorded) → a ≡ b → x ≡ y → rs ≡ ss → (if is_next a x number then set rs p (recording a x e) else rs) ≡ (if is_next b y number then set ss p (recording b y e) else ss)
     same_terms a b x y rs ss s t z = λ i. if is_next (s i) (t i) number then set (z i) p (recording (s i) (t i) e) else z i
+
+-- Joining
+
+join_cores : (net : Net) (w : World) (s p q : ℕ) → WorldFits net w → p < net.publishers → core_of (join_now net w s p).world q ≡ (if nat_eq q p then (if may_enter w.clock (core_of w p) s then with_joined w.clock (core_of w p) s else core_of w p) else core_of w q)
+unfolding join_now_by
+join_cores net w s p q f j =
+    absorbed_cores net w (net.host p) p q (joining net p (net.host p) w.clock s (view_of w (net.host p) p) (log_of w p)) f j
+    ∙ ap (λ z. if nat_eq q p then z else core_of w q) (joining_core net p (net.host p) w.clock s (view_of w (net.host p) p) (log_of w p))
+
+join_clock : (net : Net) (w : World) (s p : ℕ) → (join_now net w s p).world.clock ≡ w.clock
+unfolding join_now_by absorbed
+join_clock net w s p = refl
+
+join_most : (net : Net) (w : World) (s p : ℕ) → (join_now net w s p).world.most ≡ w.most
+unfolding join_now_by absorbed
+join_most net w s p = refl
+
+join_records : (net : Net) (w u : World) (h : History) (s p : ℕ) → WorldFits net w → WorldFits net u → RecordsFit net w h → p < net.publishers →
+    ((q : ℕ) → core_of u q ≡ (if nat_eq q p then (if may_enter w.clock (core_of w p) s then with_joined w.clock (core_of w p) s else core_of w p) else core_of w q)) →
+    map core u.logs ≡ (if may_enter h.clock (record_of h p) s then set h.records p (with_joined h.clock (record_of h p) s) else h.records)
+join_records net w u h s p f g r j c =
+    let k = record_core net w h p r in
+    set_records net w u p (if may_enter w.clock (core_of w p) s then with_joined w.clock (core_of w p) s else core_of w p) f g j (c p ∙ rw (eq-eqb p p refl) refl) (λ q n. c q ∙ rw (ne_eqb q p n) refl)
+    ∙ (if_set (may_enter w.clock (core_of w p) s) (map core w.logs) p (with_joined w.clock (core_of w p) s) (core_of w p) (get_map core w.logs p empty_log)
+    ∙ sym (same_terms h.clock w.clock (record_of h p) (core_of w p) h.records (map core w.logs) r.clock k r.records))
+  where
+    same_terms : (a b : ℕ) (x y : Recorded) (rs ss : List Recorded) → a ≡ b → x ≡ y → rs ≡ ss → (if may_enter a x s then set rs p (with_joined a x s) else rs) ≡ (if may_enter b y s then set ss p (with_joined b y s) else ss)
+    same_terms a b x y rs ss d t z = λ i. if may_enter (d i) (t i) s then set (z i) p (with_joined (d i) (t i) s) else z i
 
 -- Waking
 
@@ -422,11 +450,15 @@ next_recorded net w h k (step.Crash b) n z f r i g =
 next_recorded net w h k step.Sweep n z f r i g =
     let x = sweep_step net w h k n z f r in
     record { clock = x.0; most = x.1; records = x.2 }
+next_recorded net w h k (step.Join s p) n z f r i g = record {
+  clock = r.clock ∙ sym (join_clock net w s p);
+  most = r.most ∙ sym (join_most net w s p);
+  records = sym (join_records net w (join_now net w s p).world h s p f g r i.1 (λ q. join_cores net w s p q f i.1));
+}
 next_recorded net w h k step.Show n z f r i g = record { clock = r.clock; most = r.most; records = r.records }
 next_recorded net w h k (step.Bytes j) n z f r i g =
     let x = bytes_still net w (frame_at w j) j k in
     steps_of net w h (with_line k (step.Bytes j)) (next net w (with_line k (step.Bytes j))) refl refl refl (still_step net w h (next net w (with_line k (step.Bytes j))) f g r x.0 x.1 x.2)
-next_recorded net w h k (step.Join q p) n z f r i g = absurd i
 
 -- after each step the records of the history are those of the logs
 pub next_records : (net : Net) (w : World) (h : History) (l : Line) → IsNet net → 1 ≤ net.quiet → WorldFits net w → RecordsFit net w h → StepIn net l.step → RecordsFit net (next net w l).world (history_after net h l (next net w l).lines)

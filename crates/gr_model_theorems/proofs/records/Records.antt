@@ -9,19 +9,20 @@ use Rattle.gr_frame.specs.declared.Body.{Body}
 use Rattle.gr_frame.specs.declared.Body.TheVariants as body
 use Rattle.gr_frame.specs.declared.Frame.{Frame}
 use Rattle.gr_know.specs.Values.{Known}
+use Rattle.gr_event.specs.Joins.{Joins, longer, has_joined}
 use Rattle.gr_model.specs.Net.{Net, is_host, keeps_horizon, numbers, numbers_from}
-use Rattle.gr_model.specs.Broker.{View, Log, Outcome, empty_log, publish, wake, wake_host, wake_below, asking, marking, cutting, receive, clashes, learn, curiosity, expect, place_of, with_event, with_mark, with_cut, silence, max_tick, done_upto, consolidated}
+use Rattle.gr_model.specs.Broker.{with_joins, with_join, drops, joining, View, Log, Outcome, empty_log, publish, wake, wake_host, wake_below, asking, marking, cutting, receive, clashes, learn, curiosity, expect, place_of, with_event, with_mark, with_cut, silence, max_tick, done_upto, consolidated}
 use Rattle.gr_model.specs.World.{World, Transition, view_of, log_of, absorbed, unchanged, followed_by, in_turn, wake_for, deliver_frame, deliver_up, wake_up, hand_down, sweep_for, frames_past, sent_since, is_want, is_know_to, at_depth, outwards, inwards, numbers_down, deliver_frame_by, deliver_up_by, hand_down_by, sweep_for_by, wake_for_by, wake_up_by}
-use Rattle.gr_model.specs.Headline.{Recorded, recording, settling, marked, is_next}
+use Rattle.gr_model.specs.Headline.{may_enter, with_joined, Recorded, recording, settling, marked, is_next}
 use Rattle.gr_model.specs.Tree.{IsNet}
 use Rattle.gr_model_calls.specs.Fits.{WorldFits, FrameTrue}
-use Rattle.gr_model_calls.proofs.calls.HostCases.{publish_cases, marking_cases}
+use Rattle.gr_model_calls.proofs.calls.HostCases.{publish_cases, marking_cases, joining_cases}
 use Rattle.gr_model_calls.proofs.calls.Calls.{learn_log}
 use Rattle.gr_model_calls.proofs.runs.Worlds.{Kept, Kept-refl, Kept-after, wake_for_kept, deliver_kept, Each, IsLaterWorld, FrameTrue-later, frames_past_true, filter_frames, depths_in}
 
 -- what a log has of the record
 abbrev pub core : Log → Recorded
-core l = record { last = l.last; settled = l.settled; events = l.events }
+core l = record { last = l.last; settled = l.settled; events = l.events; joined = l.joins }
 
 -- A call's log
 
@@ -30,16 +31,16 @@ pub receive_log : (net : Net) (now : ℕ) (f : Frame) (v : View) (log : Log) →
 unfolding receive expect curiosity asking
 receive_log net now f v log = go f.body
   where
-    learned : (runs : Known) (q : Bool) → (let o : Outcome = elim q [ true ↦ record { view = v; log = log; lines = []; frames = [] } | false ↦ learn net f.head.publisher f.head.to runs v log ] in o.log) ≡ log
-    learned runs true = refl
-    learned runs false = learn_log net f.head.publisher f.head.to runs v log
+    learned : (runs : Known) (js : Joins) (q : Bool) → (let o : Outcome = elim q [ true ↦ record { view = v; log = log; lines = []; frames = [] } | false ↦ learn net f.head.publisher f.head.to runs (with_joins v (longer v.joins js)) log ] in o.log) ≡ log
+    learned runs js true = refl
+    learned runs js false = learn_log net f.head.publisher f.head.to runs (with_joins v (longer v.joins js)) log
 
     go : (y : Body) → (let o : Outcome = elim y [
-      | body.Knowledge runs js ↦ elim (clashes v.know runs) [ true ↦ record { view = v; log = log; lines = []; frames = [] } | false ↦ learn net f.head.publisher f.head.to runs v log ]
+      | body.Knowledge runs js ↦ elim (drops v runs js) [ true ↦ record { view = v; log = log; lines = []; frames = [] } | false ↦ learn net f.head.publisher f.head.to runs (with_joins v (longer v.joins js)) log ]
       | body.Curiosity runs ↦ curiosity net f.head.publisher f.head.to now f.head.from (place_of f.head.from (net.children f.head.publisher f.head.to)) runs v log
       | body.Expect tick ↦ expect net f.head.publisher f.head.to now tick v log
     ] in o.log) ≡ log
-    go (body.Knowledge runs js) = learned runs (clashes v.know runs)
+    go (body.Knowledge runs js) = learned runs js (drops v runs js)
     go (body.Curiosity runs) = refl
     go (body.Expect tick) = refl
 
@@ -75,6 +76,17 @@ publish_core net p b now number e v log =
     (λ l. rw (ne_eqb number (suc log.last) (λ h. omega (arith, h, l))) refl)
     (λ x l. rw (lt-leb tick max_tick l, and_right (nat_eq number (suc log.last)) false refl) refl)
     (λ x l. rw (eq-eqb number (suc log.last) x, le-leb tick max_tick l) (ap core (learn_log net p b _ v (with_event log tick e))))
+  where
+    tick : ℕ
+    tick = max (suc log.settled) now
+
+-- a join leaves of a log what the record says: the join, where the subscriber may enter
+pub joining_core : (net : Net) (p b now s : ℕ) (v : View) (log : Log) → core (joining net p b now s v log).log ≡ (if may_enter now (core log) s then with_joined now (core log) s else core log)
+joining_core net p b now s v log =
+    joining_cases net p b now s v log (λ o. core o.log ≡ (if may_enter now (core log) s then with_joined now (core log) s else core log))
+    (λ e. rw e refl)
+    (λ e l. rw (e, lt-leb tick max_tick l) refl)
+    (λ e l. rw (e, le-leb tick max_tick l) (ap core (learn_log net p b _ _ (with_join log tick s))))
   where
     tick : ℕ
     tick = max (suc log.settled) now

@@ -1,6 +1,6 @@
 -- An arrival does what its steps of a schedule do
 use Rattle.std.proofs.Common.{◌≡◌, inl, inr, ℕ, suc, ◌+◌, min, max, Bool, true, false, ◌&&◌, List, [], ◌∷◌, ◌++◌, map, length, refl, sym, ap, ap₂, ◌∙◌, subst, Option, Some, None, arith, append-nil, append_assoc}
-use Rattle.std.specs.Prelude.{nat_eq, bytes_eq, if◌then◌else◌, filter, slice_get, Result, Ok, Err}
+use Rattle.std.specs.Prelude.{is_some, nat_eq, bytes_eq, if◌then◌else◌, filter, slice_get, Result, Ok, Err}
 use Rattle.std.specs.List.{list_any}
 use Rattle.std.proofs.lemmas.Bool.{cases_Bool, cond-true, cond-false, and_parts, eq-eqb, eqb-true, lt-ltb, true≢false}
 use Rattle.std.proofs.lemmas.Slice.Eq.{bytes_eq-Decides}
@@ -27,13 +27,14 @@ use Rattle.gr_model.specs.World.{World, Transition, view_of, unchanged, followed
 use Rattle.gr_model_calls.specs.Edges.{GoesBetween, GoesOverEdge}
 use Rattle.gr_model.specs.Headline.{is_sent, sent_number}
 use Rattle.gr_model_theorems.specs.Replies.{frame_of_line}
-use Rattle.gr_model.specs.Arrivals.{Arrival, datagram, quiet, Publish, at_moment, fits_broker, clash_runs, first_of, least_clash, clash_line, fault_number, publisher_of, submitted_in, takes, receives, notes, reads, published_first, quieted, comes, comes_by, quieted_by, receives_by, takes_by, notes_by}
+use Rattle.gr_model.specs.Arrivals.{joins_in, split_line, Arrival, datagram, quiet, Publish, at_moment, fits_broker, clash_runs, first_of, least_clash, clash_line, fault_number, publisher_of, submitted_in, takes, receives, notes, reads, published_first, quieted, comes, comes_by, quieted_by, receives_by, takes_by, notes_by}
 use Rattle.gr_model_theorems.specs.Served.{tells_bytes, number_of_bytes, as_line, publish_step, delivery_step, is_frame, submitted_step, note_step, datagram_step, steps_at, dropped_as, unsubmitted_as, note_dropped_as, datagram_dropped, dropped_line}
 use Rattle.gr_model.specs.Tree.{IsNet}
 use Rattle.gr_model_calls.specs.Fits.{WorldFits}
-use Rattle.gr_model_calls.proofs.runs.Clash.{no_frame_clashes}
+use Rattle.gr_model_calls.proofs.runs.Clash.{no_frame_splits, no_frame_clashes}
 use Rattle.gr_model_theorems.proofs.heard.HeardSteps.{sent_line_number}
 use Rattle.gr_model_theorems.proofs.headline.ReplyLines.{frame_told}
+use Rattle.gr_event.specs.Joins.{Joins, Split, first_split}
 use Rattle.gr_model_theorems.proofs.server.CallLines.{IsForeign, published_none, quieted_none, deliver_none}
 
 -- Lines of frames by their bytes
@@ -136,12 +137,34 @@ no_clash_here net w k f n fit at = go f.body refl
     go (body.Curiosity runs) e = refl
     go (body.Expect tick) e = refl
 
+no_split_here : (net : Net) (w : World) (k : ℕ) (f : Frame) → IsNet net → WorldFits net w → frame_at w k ≡ Some f → first_split 0 (view_of w f.head.to f.head.publisher).joins (joins_in f) ≡ None
+no_split_here net w k f n fit at = go f.body refl
+  where
+    held : Joins
+    held = (view_of w f.head.to f.head.publisher).joins
+
+    none : (o : Option Split) → is_some o ≡ false → o ≡ None
+    none None e = refl
+    none (Some x) e = absurd (true≢false e)
+
+    with_none : (js : Joins) → first_split 0 js [] ≡ None
+    with_none [] = refl
+    with_none (j ∷ js) = refl
+
+    go : (y : Body) → f.body ≡ y → (let js : Joins = elim y [ body.Knowledge runs js ↦ js | _ ↦ [] ] in first_split 0 held js) ≡ None
+    go (body.Knowledge runs js) e = none (first_split 0 held js) (no_frame_splits net w k f runs js n fit at e)
+    go (body.Curiosity runs) e = with_none held
+    go (body.Expect tick) e = with_none held
+
 pub received : (net : Net) (w : World) (k b : ℕ) (f : Frame) → IsNet net → WorldFits net w → frame_at w k ≡ Some f → f.head.to ≡ b → GoesOverEdge net f → receives net w b (Ok f) ≡ deliver_frame net w f
 unfolding receives_by takes_by
 received net w k b f n fit at e g =
     let none : least_clash (view_of w b f.head.publisher).know f ≡ None = subst (λ z. least_clash (view_of w z f.head.publisher).know f ≡ None) e (no_clash_here net w k f n fit at) in
+    let whole : first_split 0 (view_of w b f.head.publisher).joins (joins_in f) ≡ None = subst (λ z. first_split 0 (view_of w z f.head.publisher).joins (joins_in f) ≡ None) e (no_split_here net w k f n fit at) in
     let know : Known = (view_of w b f.head.publisher).know in
-    ap (λ c. elim c [ false ↦ unchanged w (line.DroppedStray b f.head.from f.head.to f.head.publisher ∷ []) | true ↦ elim (least_clash know f) [ Some t ↦ unchanged w (clash_line b know f t ∷ []) | None ↦ deliver_frame net w f ] ]) (over_fits_broker net f b e g)
+    let taken : Option Split → Transition = λ s. elim s [ Some x ↦ unchanged w (split_line b x ∷ []) | None ↦ elim (least_clash know f) [ Some t ↦ unchanged w (clash_line b know f t ∷ []) | None ↦ deliver_frame net w f ] ] in
+    ap (λ c. elim c [ false ↦ unchanged w (line.DroppedStray b f.head.from f.head.to f.head.publisher ∷ []) | true ↦ taken (first_split 0 (view_of w b f.head.publisher).joins (joins_in f)) ]) (over_fits_broker net f b e g)
+    ∙ ap taken whole
     ∙ ap (λ (o : Option ℕ). elim o [ Some t ↦ unchanged w (clash_line b know f t ∷ []) | None ↦ deliver_frame net w f ]) none
 
 -- Steps

@@ -3,6 +3,7 @@ use Rattle.std.proofs.Common.{◌≡◌, ℕ, suc, zero, ◌+◌, ◌-◌, ◌�
 use Rattle.std.specs.Prelude.{nat_eq, nat_le, nat_lt, if◌then◌else◌, flat_map, filter}
 use Rattle.std.proofs.lemmas.Bool.{ne_eqb, ltb-true, ltb-false, leb-false}
 use Rattle.std.proofs.lemmas.List.Elements.{filter-append}
+use Rattle.gr_event.specs.Joins.{has_joined, Joins, longer}
 use Rattle.gr_event.specs.declared.event.Event.{Event}
 use Rattle.gr_frame.specs.declared.Body.{Body}
 use Rattle.gr_frame.specs.declared.Body.TheVariants as body
@@ -17,9 +18,10 @@ use Rattle.gr_sched.specs.declared.step.Step.TheVariants as step
 use Rattle.gr_sched.specs.declared.step.Line.{Line}
 use Rattle.gr_model.specs.declared.report.Report.{Report}
 use Rattle.gr_model.specs.declared.report.Report.TheVariants as line
+use Rattle.gr_pubend.specs.declared.answers.Joined.TheVariants as joins
 use Rattle.gr_model.specs.Net.{Net, is_host, keeps_horizon, not_empty, numbers}
-use Rattle.gr_model.specs.Broker.{View, Log, Outcome, empty_log, event_at, log_at, log_know, with_event, with_mark, with_cut, silence, learn, receive, clashes, curiosity, expect, asking, place_of, published, quieted, publish, publish_by, marking, marking_by, cutting, wake, wake_host, wake_below, expect_frames, started, done_upto, consolidated, is_kept, max_tick}
-use Rattle.gr_model.specs.World.{World, Transition, view_of, log_of, absorbed, unchanged, followed_by, in_turn, wake_for, wake_all, deliver_frame, frame_at, publish_now, publish_stopped, opened_lines, restarted, crash, greatest_settled, sweep_moment, sweep, sweep_for, deliver_up, wake_up, hand_down, is_want, is_know_to, inwards, outwards, frames_past, sent_since, kept_events, show, next, run_from, wake_for_by, wake_all_by, deliver_frame_by, publish_now_by, publish_stopped_by, deliver_up_by, wake_up_by, hand_down_by, sweep_for_by, sweep_by, next_by, run_from_by}
+use Rattle.gr_model.specs.Broker.{joining, joining_by, joined_at, with_join, with_joins, drops, View, Log, Outcome, empty_log, event_at, log_at, log_know, with_event, with_mark, with_cut, silence, learn, receive, clashes, curiosity, expect, asking, place_of, published, quieted, publish, publish_by, marking, marking_by, cutting, wake, wake_host, wake_below, expect_frames, started, done_upto, consolidated, is_kept, max_tick}
+use Rattle.gr_model.specs.World.{join_now, join_now_by, World, Transition, view_of, log_of, absorbed, unchanged, followed_by, in_turn, wake_for, wake_all, deliver_frame, frame_at, publish_now, publish_stopped, opened_lines, restarted, crash, greatest_settled, sweep_moment, sweep, sweep_for, deliver_up, wake_up, hand_down, is_want, is_know_to, inwards, outwards, frames_past, sent_since, kept_events, show, next, run_from, wake_for_by, wake_all_by, deliver_frame_by, publish_now_by, publish_stopped_by, deliver_up_by, wake_up_by, hand_down_by, sweep_for_by, sweep_by, next_by, run_from_by}
 use Rattle.gr_pubend.specs.declared.answers.Published.TheVariants.{Logged, Already, Gap, Exhausted}
 use Rattle.gr_pubend.specs.declared.answers.Quieted.TheVariants.{NotYet, Marked}
 use Rattle.gr_model_calls.proofs.calls.HostCases.{news_of}
@@ -109,7 +111,7 @@ same_know l m s =
 -- a broker starts the same over both
 pub same_started : (net : Net) (p b : ℕ) (l m : Log) → SameLog l m → started net p b m ≡ started net p b l
 unfolding started
-same_started net p b l m s = ap (λ (k : Known). let v : View = record { know = if is_host net p b then k else []; wants = map (λ _. []) (net.children p b); asks = []; horizon = 0; joins = [] } in v) (same_know l m s)
+same_started net p b l m s = ap₂ (λ (k : Known) (js : Joins). let v : View = record { know = if is_host net p b then k else []; wants = map (λ _. []) (net.children p b); asks = []; horizon = 0; joins = if is_host net p b then js else [] } in v) (same_know l m s) (ap (λ (x : Log). x.joins) s.is)
 
 -- both with a further event
 same_longer : (l m : Log) (tick : ℕ) (e : Event) → SameLog l m → SameLog (with_event l tick e) (with_event m tick e)
@@ -142,17 +144,17 @@ same_receive net now x v l m s = go x.body
   where
     told : Body → Log → Outcome
     told y log = elim y [
-      | body.Knowledge runs js ↦ elim (clashes v.know runs) [ true ↦ record { view = v; log = log; lines = []; frames = [] } | false ↦ learn net x.head.publisher x.head.to runs v log ]
+      | body.Knowledge runs js ↦ elim (drops v runs js) [ true ↦ record { view = v; log = log; lines = []; frames = [] } | false ↦ learn net x.head.publisher x.head.to runs (with_joins v (longer v.joins js)) log ]
       | body.Curiosity runs ↦ curiosity net x.head.publisher x.head.to now x.head.from (place_of x.head.from (net.children x.head.publisher x.head.to)) runs v log
       | body.Expect tick ↦ expect net x.head.publisher x.head.to now tick v log
     ]
 
-    learned : (runs : Known) (c : Bool) → (let f : Log → Outcome = λ log. elim c [ true ↦ record { view = v; log = log; lines = []; frames = [] } | false ↦ learn net x.head.publisher x.head.to runs v log ] in SameOut (f l) (f m))
-    learned runs true = record { log = m; is = refl; same = s }
-    learned runs false = same_learn net x.head.publisher x.head.to runs v l m s
+    learned : (runs : Known) (js : Joins) (c : Bool) → (let f : Log → Outcome = λ log. elim c [ true ↦ record { view = v; log = log; lines = []; frames = [] } | false ↦ learn net x.head.publisher x.head.to runs (with_joins v (longer v.joins js)) log ] in SameOut (f l) (f m))
+    learned runs js true = record { log = m; is = refl; same = s }
+    learned runs js false = same_learn net x.head.publisher x.head.to runs (with_joins v (longer v.joins js)) l m s
 
     go : (y : Body) → SameOut (told y l) (told y m)
-    go (body.Knowledge runs js) = learned runs (clashes v.know runs)
+    go (body.Knowledge runs js) = learned runs js (drops v runs js)
     go (body.Curiosity runs) = record { log = m; is = refl; same = s }
     go (body.Expect tick) = record { log = m; is = refl; same = s }
 
@@ -250,6 +252,36 @@ same_publish net p b now number e v l m s = subst (λ (x : Log). SameOut (publis
     go false false true = record { log = n; is = refl; same = still }
     go false false false = record { log = learned.log; is = ap (λ (o : Outcome). let q : Outcome = record { view = o.view; log = o.log; lines = line.Logged p number tick ∷ o.lines; frames = o.frames } in q) learned.is; same = learned.same }
 
+same_joining : (net : Net) (p b now q : ℕ) (v : View) (l m : Log) → SameLog l m → SameOut (joining net p b now q v l) (joining net p b now q v m)
+unfolding joining joined_at
+same_joining net p b now q v l m s = subst (λ (x : Log). SameOut (joining net p b now q v l) (joining net p b now q v x)) (sym s.is) (go (has_joined l.joins q) (nat_lt max_tick tick))
+  where
+    tick : ℕ
+    tick = max (suc l.settled) now
+
+    n : Log
+    n = with_events l s.events
+
+    piece : Known
+    piece = silence (suc l.settled) tick []
+
+    told : Log → Bool → Bool → Outcome
+    told log x y = joining_by net p b q v log (elim x [ true ↦ joins.Already | false ↦ elim y [ true ↦ joins.Exhausted | false ↦ joins.Logged tick piece ] ])
+
+    still : SameLog l n
+    still = record { events = s.events; is = refl; past_same = s.past_same }
+
+    u : View
+    u = with_joins v (with_join l tick q).joins
+
+    learned : SameOut (learn net p b piece u (with_join l tick q)) (learn net p b piece u (with_join n tick q))
+    learned = same_learn net p b piece u (with_join l tick q) (with_join n tick q) (record { events = s.events; is = refl; past_same = s.past_same })
+
+    go : (x y : Bool) → SameOut (told l x y) (told n x y)
+    go true y = record { log = n; is = refl; same = still }
+    go false true = record { log = n; is = refl; same = still }
+    go false false = record { log = learned.log; is = ap (λ (o : Outcome). let z : Outcome = record { view = o.view; log = o.log; lines = line.Joined q p tick ∷ o.lines; frames = o.frames } in z) learned.is; same = learned.same }
+
 -- Worlds
 
 -- the second is the first with other logs, and has told the same lines
@@ -309,6 +341,14 @@ same_publish_now net p number e w ls s =
     let b = net.host p in
     same_absorbed w ls b p (publish net p b w.clock number e (view_of w b p) (log_of w p)) (publish net p b w.clock number e (view_of w b p) (get_or ls p empty_log)) s
     (same_publish net p b w.clock number e (view_of w b p) (log_of w p) (get_or ls p empty_log) (same_get w.logs ls p s))
+
+-- so does a join
+pub same_join_now : (net : Net) (q p : ℕ) → Follows (λ w. join_now net w q p)
+unfolding join_now_by
+same_join_now net q p w ls s =
+    let b = net.host p in
+    same_absorbed w ls b p (joining net p b w.clock q (view_of w b p) (log_of w p)) (joining net p b w.clock q (view_of w b p) (get_or ls p empty_log)) s
+    (same_joining net p b w.clock q (view_of w b p) (log_of w p) (get_or ls p empty_log) (same_get w.logs ls p s))
 
 -- waking a broker for all publishers does the same over both
 pub same_wake_all : (net : Net) (b : ℕ) → Follows (λ w. wake_all net w b)
@@ -504,7 +544,7 @@ same_next net l w ls s = go l.step
       | step.Sweep ↦ sweep net u l.number
       | step.Show ↦ unchanged u (show net u)
       | step.Bytes k ↦ elim (frame_at u k) [ None ↦ unchanged u (line.RefusedFrame l.number k (length u.frames) ∷ []) | Some f ↦ unchanged u (line.BytesOf k (frame_bytes f) ∷ []) ]
-      | step.Join q p ↦ unchanged u []
+      | step.Join q p ↦ join_now net u q p
     ]
 
     delivered : (k : ℕ) (o : Option Frame) → (let f : World → Transition = λ u. elim o [ None ↦ unchanged u (line.RefusedFrame l.number k (length u.frames) ∷ []) | Some x ↦ deliver_frame net u x ] in SameTold (f w) (f (with_logs w ls)))
@@ -529,7 +569,7 @@ same_next net l w ls s = go l.step
     go step.Sweep = same_sweep net l.number w ls s
     go step.Show = record { logs = ls; is = ap (unchanged (with_logs w ls)) (same_show net w ls s); same = s }
     go (step.Bytes k) = bytes_shown k (frame_at w k)
-    go (step.Join q p) = record { logs = ls; is = refl; same = s }
+    go (step.Join q p) = same_join_now net q p w ls s
 
 -- so the lines of all steps are the same
 pub same_run : (net : Net) (w : World) (ls : List Log) (steps : List Line) → SameLogs w.logs ls → run_from net (with_logs w ls) steps ≡ run_from net w steps

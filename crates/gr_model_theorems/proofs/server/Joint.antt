@@ -96,12 +96,12 @@ module _ (net : Net) (n : IsNet net) (on : 1 ≤ net.quiet) (retry : 1 ≤ net.r
 
 -- ---- from a start with nothing
 
-start_ready : (net : Net) → IsNet net → Ready net WorldIn (start net) (begin net)
-start_ready net n = record {
+start_ready : (net : Net) → IsNet net → IsSmall net → Ready net (WorldIn net.late) (start net) (begin net)
+start_ready net n z = record {
   whole = start_whole net n;
   unknown = unknowns_always net [] n tt;
   over = start_over net;
-  limits = start_in net;
+  limits = start_in net z.late.few;
 }
 
 honest_begun : (net : Net) (turns : List (ℕ × Arrival)) (rs : List (List Report)) → IsHonestJoint [] turns rs → IsHonestJoint (begin net).lines turns rs
@@ -111,12 +111,12 @@ pub headline_joint : (net : Net) (processes : List (List ℕ)) (steps : List Lin
     → AllByRecursion (λ (x : ℕ × Arrival). IsOfBytes x.1) turns → IsHonestJoint [] turns (joint_reports net processes steps turns)
     → HoldsJoint net processes (begin net) (lefts_at_start net processes steps) turns (joint_reports net processes steps turns)
 headline_joint net processes steps turns n z on retry i m are fits honest =
-    holds_joint net n on retry WorldIn (λ u l f j k x. next_in net u l n z f j k x) (λ u x. x.frames) (λ f x. spelled_decodes (frame_bytes f) f x) processes are
-    turns (start net) (begin net) (lefts_at_start net processes steps) (start_ready net n) (lefts_in net processes steps i m) fits (honest_begun net turns (joint_reports net processes steps turns) honest)
+    holds_joint net n on retry (WorldIn net.late) (λ u l f j k x. next_in net u l n z f j k x) (λ u x. x.frames) (λ f x. spelled_decodes (frame_bytes f) f x) processes are
+    turns (start net) (begin net) (lefts_at_start net processes steps) (start_ready net n z) (lefts_in net processes steps i m) fits (honest_begun net turns (joint_reports net processes steps turns) honest)
 
 pub joint_does : (net : Net) (processes : List (List ℕ)) (steps : List Line) (turns : List (ℕ × Arrival)) → IsNet net → IsSmall net → 1 ≤ net.quiet → 1 ≤ net.retry → StepsIn net steps → NumbersIn steps → AllByRecursion (AreBrokers net) processes
     → AllByRecursion (λ (x : ℕ × Arrival). IsOfBytes x.1) turns → IsHonestJoint [] turns (joint_reports net processes steps turns)
     → AllDoStepsJoint net processes (start net) [] (lefts_at_start net processes steps) turns
 joint_does net processes steps turns n z on retry i m are fits honest =
-    all_do_joint net n on retry WorldIn (λ u l f j k x. next_in net u l n z f j k x) (λ u x. x.frames) (λ f x. spelled_decodes (frame_bytes f) f x) processes are
-    turns (start net) (begin net) (lefts_at_start net processes steps) [] (start_ready net n) (lefts_in net processes steps i m) fits (ap (filter is_sent) (begin_lines net)) (honest_begun net turns (joint_reports net processes steps turns) honest)
+    all_do_joint net n on retry (WorldIn net.late) (λ u l f j k x. next_in net u l n z f j k x) (λ u x. x.frames) (λ f x. spelled_decodes (frame_bytes f) f x) processes are
+    turns (start net) (begin net) (lefts_at_start net processes steps) [] (start_ready net n z) (lefts_in net processes steps i m) fits (ap (filter is_sent) (begin_lines net)) (honest_begun net turns (joint_reports net processes steps turns) honest)

@@ -1,9 +1,9 @@
 -- The headline holds over logs that code opens, since what is read from records that
 -- follow one another is an old log, and the events that were cut change nothing
 use Rattle.std.proofs.Common.{◌≡◌, ℕ, suc, zero, ◌≤◌, Bool, true, false, List, [], ◌∷◌, ◌++◌, map, length, get_or, refl, sym, ap, ap₂, ◌∙◌, subst, Option, Some, None, Result, Ok, Err, append-nil, append_assoc, arith}
-use Rattle.std.specs.Prelude.{nat_eq, nat_lt, if◌then◌else◌, flat_map}
-use Rattle.std.specs.List.{AllByRecursion}
-use Rattle.std.proofs.lemmas.Bool.{ne_eqb, lt-ltb}
+use Rattle.std.specs.Prelude.{not, nat_eq, nat_lt, if◌then◌else◌, flat_map}
+use Rattle.std.specs.List.{list_any, list_all, AllByRecursion}
+use Rattle.std.proofs.lemmas.Bool.{and_from, and_parts, ne_eqb, lt-ltb}
 use Rattle.std.proofs.lemmas.List.Elements.{filter-append}
 use Rattle.gr_event.specs.declared.event.Event.{Event}
 use Rattle.gr_event.specs.Limits.{IsEvent}
@@ -17,7 +17,7 @@ use Rattle.gr_note.specs.Bytes.{begins_note}
 use Rattle.gr_note.specs.Decode.{note_decoded}
 use Rattle.gr_publog.specs.declared.record.Record.{Record}
 use Rattle.gr_publog.specs.declared.record.Record.TheVariants as entry
-use Rattle.gr_publog.specs.State.{first_standing, state_of, events_past, live_events, Follow}
+use Rattle.gr_publog.specs.State.{Standing, stands_after, standing_from, standing_of, may_settle, may_enter, may_follow, IsSound, HasRoom, first_standing, state_of, events_past, live_events, Follow}
 use Rattle.gr_pubend.specs.Log.{with_entry, log_from}
 use Rattle.gr_pubend.specs.Log as lane
 use Rattle.gr_pubend.specs.Opening.{pairs}
@@ -33,7 +33,7 @@ use Rattle.gr_model.specs.Broker.{View, Log, empty_log, with_event, max_tick, le
 use Rattle.gr_model.specs.World.{World, Transition, view_of, log_of, unchanged, in_turn, absorbed, wake_all, deliver_frame, publish_now, kept_events, next, run_all, run_from}
 use Rattle.gr_model.specs.Opening.{reopened_log, over_logs, reopened_line, opened_for, publishers_at, opening, begin_over, opened_for_by, opening_by}
 use Rattle.gr_model.specs.Headline.{Holds_from}
-use Rattle.gr_model.specs.Arrivals.{Arrival, datagram, quiet, Publish, publishes_of, left_after, at_moment, fits_broker, least_clash, clash_line, fault_number, publisher_of, submitted_in, takes, receives, notes, reads, published_first, quieted, comes, is_hosted, show_hosted, served_from, served, arrived, takes_by, receives_by, notes_by, quieted_by, comes_by, served_from_by, arrived_by, served_by}
+use Rattle.gr_model.specs.Arrivals.{joins_in, split_line, Arrival, datagram, quiet, Publish, publishes_of, left_after, at_moment, fits_broker, least_clash, clash_line, fault_number, publisher_of, submitted_in, takes, receives, notes, reads, published_first, quieted, comes, is_hosted, show_hosted, served_from, served, arrived, takes_by, receives_by, notes_by, quieted_by, comes_by, served_from_by, arrived_by, served_by}
 use Rattle.gr_model.specs.Tree.{IsNet}
 use Rattle.gr_model_calls.specs.Said.{said_at, TicksRise}
 use Rattle.gr_model_calls.specs.Fits.{StepsIn}
@@ -47,6 +47,11 @@ use Rattle.gr_model_theorems.proofs.records.Recorded.{get_map}
 use Rattle.gr_model_calls.proofs.runs.Closed.{with_logs}
 use Rattle.gr_model_theorems.proofs.server.CutEvents.{with_events, past, SameLog, SameLogs, same_get, same_started, same_learn, SameTold, Follows, same_absorbed, same_unchanged, same_after, same_in_turn, same_wake_all, same_deliver, same_publish_now, same_next, same_run}
 use Rattle.gr_model_theorems.proofs.server.OverLogs.{headline_over_logs}
+use Rattle.gr_event.specs.declared.limits.TheConstants.{MAX_JOINS}
+use Rattle.gr_event.specs.Joins.{Split, first_split, Join, Joins, has_joined, AreJoins}
+use Rattle.gr_publog.proofs.Joins.{room_first, room_after, may_stand}
+use Rattle.gr_event.proofs.Joining.{joins_with}
+use Rattle.gr_frame.proofs.Lists.{none_are}
 use Rattle.gr_model_theorems.proofs.server.ServedOver.{headline_served}
 
 -- What is found is an old log
@@ -63,16 +68,49 @@ events_in : (cut settled : ℕ) (xs : List (ℕ × Event)) → settled ≤ max_t
 events_in cut settled [] l a = tt
 events_in cut settled (x ∷ xs) l a = ((omega (arith, l, a.0.upto), a.0.event), events_in cut settled xs l a.1)
 
--- a settled log is an old log
-found_by : (log : Log) → IsSettled log → IsReopened log
-found_by log s = record {
+-- Joins of records that follow one another: they are a list of late subscribers, and leave room for each that has not joined
+record JoinsStand (s : Standing) : Type 0 where
+  are : AreJoins s.joins
+  room : HasRoom s
+  among : list_all (λ j. list_any (λ x. nat_eq x j.subscriber) s.late) s.joins ≡ true
+
+among_more : (late : List ℕ) (js : Joins) (j : Join) → list_all (λ k. list_any (λ x. nat_eq x k.subscriber) late) js ≡ true → list_any (λ x. nat_eq x j.subscriber) late ≡ true → list_all (λ k. list_any (λ x. nat_eq x k.subscriber) late) (js ++ j ∷ []) ≡ true
+among_more late [] j a b = and_from (list_any (λ x. nat_eq x j.subscriber) late) true b refl
+among_more late (k ∷ js) j a b =
+    let test : Join → Bool = λ i. list_any (λ x. nat_eq x i.subscriber) late in
+    let parts = and_parts (test k) (list_all test js) a in
+    and_from (test k) (list_all test (js ++ j ∷ [])) parts.0 (among_more late js j parts.1 b)
+
+stand_after : (s : Standing) (r : Record) → may_follow s r ≡ true → IsSound r → JoinsStand s → JoinsStand (stands_after s r)
+stand_after s (entry.Event tick number e) may sound h = record { are = h.are; room = room_after s (entry.Event tick number e) h.room may; among = h.among }
+stand_after s (entry.Mark tick) may sound h = record { are = h.are; room = room_after s (entry.Mark tick) h.room may; among = h.among }
+stand_after s (entry.Cut tick) may sound h = record { are = h.are; room = room_after s (entry.Cut tick) h.room may; among = h.among }
+stand_after s (entry.Join tick x) may sound h =
+    let enters = and_parts (list_any (λ y. nat_eq y x) s.late) (not (has_joined s.joins x)) (and_parts (may_settle s.state tick) (may_enter s x) may).1 in
+    record {
+      are = joins_with s.joins (record { subscriber = x; tick = tick }) h.are (may_stand s tick x h.room may) sound;
+      room = room_after s (entry.Join tick x) h.room may;
+      among = among_more s.late s.joins (record { subscriber = x; tick = tick }) h.among enters.0;
+    }
+
+stand_all : (s : Standing) (rs : List Record) → Follow s rs → JoinsStand s → JoinsStand (standing_from s rs)
+stand_all s [] f h = record { are = h.are; room = record { few = h.room.few; room = h.room.room; last = h.room.last }; among = h.among }
+stand_all s (r ∷ rs) f h = stand_all (stands_after s r) rs f.2 (stand_after s r f.0 f.1 h)
+
+joins_found : (late : List ℕ) (rs : List Record) → length late ≤ MAX_JOINS → Follow (first_standing late) rs → JoinsStand (standing_of late rs)
+joins_found late rs few f = stand_all (first_standing late) rs f (record { are = none_are; room = room_first late few; among = refl })
+
+-- the log that is found of them is an old log
+found_by : (net : Net) (rs : List Record) → length net.late ≤ MAX_JOINS → Follow (first_standing net.late) rs → IsSettled (found_of rs) → IsReopened net (found_of rs)
+found_by net rs few f s = let log : Log = found_of rs in let j = joins_found net.late rs few f in record {
   fits = record {
     rise = rise_low log.cut 0 log.events (omega arith) s.rise;
     past = λ t l. said_none log.cut log.settled t log.events s.live (λ x a. ne_eqb x.0 t (λ e. omega (arith, l, e, a.upto)));
     cut = s.cut;
   };
   past_cut = λ t l. said_none log.cut log.settled t log.events s.live (λ x a. ne_eqb x.0 t (λ e. omega (arith, l, e, a.past)));
-  within = record { settled = s.settled; cut = omega (arith, s.cut, s.settled); events = events_in log.cut log.settled log.events s.settled s.live };
+  within = record { settled = s.settled; cut = omega (arith, s.cut, s.settled); events = events_in log.cut log.settled log.events s.settled s.live; joins = j.are; room = record { few = j.room.few; room = j.room.room; last = j.room.last } };
+  late = j.among;
 }
 
 follow_at : (late : List ℕ) (lanes : List (List Record)) (p : ℕ) → AllFollow late lanes → Follow (first_standing late) (get_or lanes p [])
@@ -87,8 +125,11 @@ whole_at : (lanes : List (List Record)) (p : ℕ) → reopened_log (whole_logs l
 whole_at lanes p = get_map lane.log_of lanes p []
 
 -- so the logs that are found of lanes are old logs
-pub are_found : (net : Net) (late : List ℕ) (lanes : List (List Record)) → AllFollow late lanes → AreReopened net (found_logs lanes)
-are_found net late lanes a p = subst IsReopened (sym (found_at lanes p)) (found_by (found_of (get_or lanes p [])) (found_settled late (get_or lanes p []) (follow_at late lanes p a)))
+pub are_found : (net : Net) (lanes : List (List Record)) → length net.late ≤ MAX_JOINS → AllFollow net.late lanes → AreReopened net (found_logs lanes)
+are_found net lanes few a p =
+    let rs = get_or lanes p [] in
+    let f = follow_at net.late lanes p a in
+    subst (IsReopened net) (sym (found_at lanes p)) (found_by net rs few f (found_settled net.late rs f))
 
 -- The log of all records has the same events past its cut
 
@@ -178,11 +219,18 @@ same_opening net hosted ls ms h =
 
 same_takes : (net : Net) (b : ℕ) (f : Frame) → Follows (λ w. takes net w b f)
 unfolding takes_by
-same_takes net b f w ls s = go (least_clash (view_of w b f.head.publisher).know f)
+same_takes net b f w ls s = split_at (first_split 0 (view_of w b f.head.publisher).joins (joins_in f))
   where
     go : (o : Option ℕ) → (let t : World → Transition = λ u. elim o [ Some t ↦ unchanged u (clash_line b (view_of w b f.head.publisher).know f t ∷ []) | None ↦ deliver_frame net u f ] in SameTold (t w) (t (with_logs w ls)))
     go None = same_deliver net f w ls s
     go (Some t) = same_unchanged w ls (clash_line b (view_of w b f.head.publisher).know f t ∷ []) s
+
+    split_at : (o : Option Split) → (let t : World → Transition = λ u. elim o [
+      | Some x ↦ unchanged u (split_line b x ∷ [])
+      | None ↦ elim (least_clash (view_of w b f.head.publisher).know f) [ Some t ↦ unchanged u (clash_line b (view_of w b f.head.publisher).know f t ∷ []) | None ↦ deliver_frame net u f ]
+    ] in SameTold (t w) (t (with_logs w ls)))
+    split_at (Some x) = same_unchanged w ls (split_line b x ∷ []) s
+    split_at None = go (least_clash (view_of w b f.head.publisher).know f)
 
 same_receives : (net : Net) (b : ℕ) (r : Result Frame FrameFault) → Follows (λ w. receives net w b r)
 unfolding receives_by
@@ -317,16 +365,16 @@ cut_events_silent net late lanes a =
     }
 
 -- the headline holds of every schedule over logs that are read from records in order
-pub holds_over_lanes : (net : Net) (late : List ℕ) (lanes : List (List Record)) (steps : List Line) → IsNet net → 1 ≤ net.quiet → 1 ≤ net.retry → AllFollow late lanes → StepsIn net steps → HoldsOverLanes net lanes steps
-holds_over_lanes net late lanes steps n z r a i =
-    let k = opened_same net late lanes a in
+pub holds_over_lanes : (net : Net) (lanes : List (List Record)) (steps : List Line) → IsNet net → 1 ≤ net.quiet → 1 ≤ net.retry → length net.late ≤ MAX_JOINS → AllFollow net.late lanes → StepsIn net steps → HoldsOverLanes net lanes steps
+holds_over_lanes net lanes steps n z r few a i =
+    let k = opened_same net net.late lanes a in
     let founds = found_logs lanes in
     subst (λ (ls : List Report). Holds_from net (begin_over net founds ls) steps (run_from net (opened_over net (whole_logs lanes)).world steps)) (sym (ap (λ (t : Transition). t.lines) k.is))
-    (subst (λ (rs : List (List Report)). Holds_from net (begin_over net founds (opened_over net founds).lines) steps rs) (sym (lines_same net late lanes steps a)) (headline_over_logs net founds steps n z r (are_found net late lanes a) i))
+    (subst (λ (rs : List (List Report)). Holds_from net (begin_over net founds (opened_over net founds).lines) steps rs) (sym (lines_same net net.late lanes steps a)) (headline_over_logs net founds steps n z r (are_found net lanes few a) i))
 
 -- the headline holds of every honest run of a server over logs that are read from records in order
-pub holds_served_lanes : (net : Net) (late : List ℕ) (lanes : List (List Record)) (steps : List Line) (arrivals : List Arrival) → IsNet net → IsSmall net → 1 ≤ net.quiet → 1 ≤ net.retry → AllFollow late lanes → StepsIn net steps → NumbersIn steps → AllByRecursion IsOfBytes arrivals →
+pub holds_served_lanes : (net : Net) (lanes : List (List Record)) (steps : List Line) (arrivals : List Arrival) → IsNet net → IsSmall net → 1 ≤ net.quiet → 1 ≤ net.retry → AllFollow net.late lanes → StepsIn net steps → NumbersIn steps → AllByRecursion IsOfBytes arrivals →
     IsHonestRun arrivals (served net (numbers net.brokers) (whole_logs lanes) steps arrivals) → HoldsServedLanes net lanes steps arrivals
-holds_served_lanes net late lanes steps arrivals n small z r a i m fits =
-    subst (λ (rs : List (List Report)). IsHonestRun arrivals rs → HeadlineServed net (found_logs lanes) steps arrivals rs) (sym (served_lanes net late lanes steps arrivals a))
-    (λ honest. headline_served net (found_logs lanes) steps arrivals n small z r (are_found net late lanes a) i m fits honest)
+holds_served_lanes net lanes steps arrivals n small z r a i m fits =
+    subst (λ (rs : List (List Report)). IsHonestRun arrivals rs → HeadlineServed net (found_logs lanes) steps arrivals rs) (sym (served_lanes net net.late lanes steps arrivals a))
+    (λ honest. headline_served net (found_logs lanes) steps arrivals n small z r (are_found net lanes small.late.few a) i m fits honest)

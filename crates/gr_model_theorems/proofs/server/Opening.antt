@@ -2,7 +2,7 @@
 use Rattle.std.proofs.Common.{◌≡◌, ◌≢◌, inl, inr, ℕ, suc, ◌+◌, ◌≤◌, ◌<◌, Bool, true, false, ◌&&◌, List, [], ◌∷◌, ◌++◌, map, length, set, get_or, refl, sym, ap, ap₂, ◌∙◌, subst, None, Some, Option, arith, le_trans, le_antisymm, append_assoc, append-nil}
 use Rattle.std.specs.Prelude.{nat_eq, nat_lt, ◌||◌, if◌then◌else◌, filter}
 use Rattle.std.specs.List.{list_any}
-use Rattle.std.proofs.lemmas.Bool.{cases_eq, eq-eqb, ne_eqb, lt-leb, false≢true, both_ways}
+use Rattle.std.proofs.lemmas.Bool.{le-ltb, cases_eq, eq-eqb, ne_eqb, lt-leb, false≢true, both_ways}
 use Rattle.std.proofs.lemmas.List.{set-get_or}
 use Rattle.std.proofs.lemmas.List.Elements.{filter-append}
 use Rattle.gr_event.specs.declared.event.Event.{Event}
@@ -17,20 +17,20 @@ use Rattle.gr_know.specs.Values.{Known, known_at, is_Q}
 use Rattle.gr_curio.specs.Values.{Wanted, wanted_at, is_A}
 use Rattle.gr_model.specs.declared.report.Report.{Report}
 use Rattle.gr_model.specs.declared.report.Report.TheVariants as line
-use Rattle.gr_model.specs.Net.{Net, keeps_horizon, not_empty, is_empty, numbers}
-use Rattle.gr_model.specs.Broker.{View, Log, Outcome, empty_log, head, learn, receive, clashes, new_ticks, forward, forward_frames, know_frames, started}
+use Rattle.gr_model.specs.Net.{all_late, Net, keeps_horizon, not_empty, is_empty, numbers}
+use Rattle.gr_model.specs.Broker.{with_joins, drops, View, Log, Outcome, empty_log, head, learn, receive, clashes, new_ticks, forward, forward_frames, know_frames, started}
 use Rattle.gr_model.specs.World.{World, Transition, blank_view, view_of, log_of, absorbed, unchanged, in_turn, deliver_frame, sent_lines, deliver_frame_by}
 use Rattle.gr_model.specs.Opening.{reopened_log, over_logs, reopened_line, opened_for, opened_for_by}
 use Rattle.gr_model_theorems.specs.Found.{IsReopened, AreReopened}
-use Rattle.gr_model_calls.specs.Truth.{Facts, KnowsTruth, AllWantTruth}
+use Rattle.gr_model_calls.specs.Truth.{Holds, HasEvent, Facts, KnowsTruth, AllWantTruth}
 use Rattle.gr_model_calls.specs.Said.{TicksRise, due_upto}
 use Rattle.gr_model.specs.Tree.{IsNet, IsSubscriber}
 use Rattle.gr_model_calls.specs.Fits.{facts, facts_of, reached_in, LogFits, ViewTrue, CutTrue, HostKnows, FrameTrue, AllFramesTrue, WorldFits, LinesFit}
 use Rattle.gr_model.specs.Headline.{is_sent}
 use Rattle.gr_model_calls.proofs.calls.CallTruth.{new_ticks-is, forward-is}
-use Rattle.gr_model_calls.proofs.runs.Clash.{true_pieces}
+use Rattle.gr_model_calls.proofs.runs.Clash.{nothing_drops, true_pieces}
 use Rattle.gr_model_calls.proofs.runs.Worlds.{Each, absorbed_changed, deliver_kept, silent_lines, reached_here}
-use Rattle.gr_model_calls.proofs.runs.Schedules.{get_numbers, length_numbers, started_true, started_known}
+use Rattle.gr_model_calls.proofs.runs.Schedules.{started_holds, get_numbers, length_numbers, started_true, started_known}
 use Rattle.gr_model_calls.proofs.calls.Telling.{Neutral-nil, Silent}
 use Rattle.gr_model_theorems.proofs.cuts.Cutlines.{CutFree, CutFree-append, learn_free, sent_free}
 use Rattle.gr_model_calls.proofs.asks.AskMoments.{learn_asks, started_asks}
@@ -43,6 +43,7 @@ use Rattle.gr_model_theorems.proofs.records.Records.{deliver_clock, deliver_most
 use Rattle.gr_model_theorems.proofs.records.RecordLines.{deliver_sends}
 use Rattle.gr_model_theorems.proofs.records.NamedLines.{Named, Named-append, Named-map, deliver_named}
 use Rattle.gr_model_theorems.proofs.headline.SoFar.{Any}
+use Rattle.gr_event.specs.Joins.{Joins, longer}
 use Rattle.gr_model_theorems.proofs.hosts.HostHorizon.{learn_reaches}
 
 -- A host learns nothing new
@@ -54,18 +55,26 @@ nothing net p = record { head = head (net.host p) (net.host p) p; body = body.Kn
 no_runs_true : (net : Net) (f : Facts) (p b : ℕ) → KnowsTruth net f p b []
 no_runs_true net f p b = record { runs = tt; each = λ t. tt }
 
+-- no runs have an event, so they need no joins
+nothing_held : (now : Joins) → Holds now [] (HasEvent [])
+nothing_held now = record { rest = now; front = refl; above = λ t x. cc x.1 }
+
 -- a frame without runs is true wherever it comes
 pub nothing_is_true : (net : Net) (w : World) (p : ℕ) → IsNet net → p < net.publishers → FrameTrue net w (nothing net p)
-nothing_is_true net w p n j = record { publisher_in = j; fits = record { publisher = refl; to_in = n.host_in p j; body = tt }; told = no_runs_true net (facts_of net w p) p (net.host p) }
+nothing_is_true net w p n j = record { publisher_in = j; fits = record { publisher = refl; to_in = n.host_in p j; body = tt }; told = (no_runs_true net (facts_of net w p) p (net.host p), nothing_held (log_of w p).joins) }
 
 -- what the host leaves and tells where it learns nothing new
 abbrev pub learns : Net → World → ℕ → Outcome
 learns net w p = learn net p (net.host p) [] (view_of w (net.host p) p) (log_of w p)
 
+-- no list is shorter than none
+pub longer_none : (js : Joins) → longer js [] ≡ js
+longer_none js = ap (λ q. if q then [] else js) (le-ltb (length js) 0 (omega arith))
+
 -- delivering a frame without runs to the host makes it learn nothing new, and nothing else
 pub delivered_nothing : (net : Net) (w : World) (p : ℕ) → IsNet net → WorldFits net w → p < net.publishers → deliver_frame net w (nothing net p) ≡ absorbed w (net.host p) p (learns net w p)
 unfolding deliver_frame_by receive
-delivered_nothing net w p n f j = go (clashes v.know []) refl
+delivered_nothing net w p n f j = go (drops v [] []) refl ∙ ap (λ (js : Joins). absorbed w b p (learn net p b [] (with_joins v js) (log_of w p))) (longer_none v.joins)
   where
     b : ℕ
     b = net.host p
@@ -73,8 +82,11 @@ delivered_nothing net w p n f j = go (clashes v.know []) refl
     v : View
     v = view_of w b p
 
-    go : (q : Bool) → clashes v.know [] ≡ q → absorbed w b p (elim q [ true ↦ record { view = v; log = log_of w p; lines = []; frames = [] } | false ↦ learn net p b [] v (log_of w p) ]) ≡ absorbed w b p (learns net w p)
-    go true e = absurd (false≢true (sym (true_pieces net (facts_of net w p) p b v.know [] (f.views p b j (n.host_in p j)).know (no_runs_true net (facts_of net w p) p b)) ∙ e))
+    u : View
+    u = with_joins v (longer v.joins [])
+
+    go : (q : Bool) → drops v [] [] ≡ q → absorbed w b p (elim q [ true ↦ record { view = v; log = log_of w p; lines = []; frames = [] } | false ↦ learn net p b [] u (log_of w p) ]) ≡ absorbed w b p (learn net p b [] u (log_of w p))
+    go true e = let h = f.views p b j (n.host_in p j) in absurd (false≢true (sym (nothing_drops net (facts_of net w p) p b v [] [] h.know h.held (no_runs_true net (facts_of net w p) p b) (nothing_held (log_of w p).joins)) ∙ e))
     go false e = refl
 
 both_Q : (c : Bool) → (if c then Q else Q) ≡ Q
@@ -87,11 +99,11 @@ nothing_new know r = let n = new_ticks-is know [] r tt in runs_equal Q 1 1 (new_
 nothing_forward : (net : Net) (p c : ℕ) (w : Wanted) → AreRuns N w → forward net p c w [] ≡ []
 nothing_forward net p c w r = let n = forward-is net p c w [] r tt in runs_equal Q 1 1 (forward net p c w []) [] n.runs tt (λ t. n.same_at t ∙ both_Q (is_A (wanted_at w t)))
 
-no_frames : (net : Net) (f : Facts) (p b : ℕ) (cs : List ℕ) (ws : List Wanted) → AllWantTruth net f p cs ws → forward_frames [] net p b [] cs ws ≡ []
+no_frames : (js : Joins) (net : Net) (f : Facts) (p b : ℕ) (cs : List ℕ) (ws : List Wanted) → AllWantTruth net f p cs ws → forward_frames js net p b [] cs ws ≡ []
 unfolding cut_frames
-no_frames net f p b [] ws a = refl
-no_frames net f p b (c ∷ cs) [] a = refl
-no_frames net f p b (c ∷ cs) (w ∷ ws) a = ap₂ (λ (x : Known) (y : List Frame). know_frames [] b c p x ++ y) (nothing_forward net p c w a.0.runs) (no_frames net f p b cs ws a.1)
+no_frames js net f p b [] ws a = refl
+no_frames js net f p b (c ∷ cs) [] a = refl
+no_frames js net f p b (c ∷ cs) (w ∷ ws) a = ap₂ (λ (x : Known) (y : List Frame). know_frames js b c p x ++ y) (nothing_forward net p c w a.0.runs) (no_frames js net f p b cs ws a.1)
 
 -- a host that learns nothing new sends nothing
 pub learns_silently : (net : Net) (w : World) (p : ℕ) → IsNet net → WorldFits net w → p < net.publishers → (learns net w p).frames ≡ []
@@ -99,7 +111,7 @@ unfolding learn
 learns_silently net w p n f j =
     let v = view_of w (net.host p) p in
     let t = f.views p (net.host p) j (n.host_in p j) in
-    ap (λ (x : Known). forward_frames [] net p (net.host p) x (net.children p (net.host p)) v.wants) (nothing_new v.know t.know.runs) ∙ no_frames net (facts_of net w p) p (net.host p) (net.children p (net.host p)) v.wants t.wants
+    ap (λ (x : Known). forward_frames v.joins net p (net.host p) x (net.children p (net.host p)) v.wants) (nothing_new v.know t.know.runs) ∙ no_frames v.joins net (facts_of net w p) p (net.host p) (net.children p (net.host p)) v.wants t.wants
 
 learns_log : (net : Net) (w : World) (p : ℕ) → (learns net w p).log ≡ log_of w p
 unfolding learn
@@ -331,7 +343,7 @@ over_shape net logs =
     }
 
 -- up to the cut no event is there, so all of it is final
-found_cut : (net : Net) (log : Log) (reached : ℕ → ℕ) (p b : ℕ) → IsReopened log → CutTrue net (facts log reached) p b log.cut
+found_cut : (net : Net) (log : Log) (reached : ℕ → ℕ) (p b : ℕ) → IsReopened net log → CutTrue net (facts log reached) p b log.cut
 found_cut net log reached p b f t y z = record {
   settled = le_trans z f.fits.cut;
   told = λ s m c. absurd (false≢true (sym (ap (λ (o : Option Event). elim o [ None ↦ false | Some e ↦ net.wants p s t e ]) (f.past_cut t z)) ∙ c));
@@ -348,6 +360,8 @@ over_fits net logs n a =
       logs_long = s.logs_long;
       views = λ q b x y. subst (λ v. ViewTrue net (facts_of net w q) q b v) (sym (over_view net logs b q y x ∙ ap (started net q b) (sym (over_log net logs q x)))) (started_true net (log_of w q) (reached_in net w q) q b (λ h. cut_at q b x));
       logs = λ q x. subst LogFits (sym (over_log net logs q x)) (a q).fits;
+      late = λ q x. subst (λ l. all_late net l.joins ≡ true) (sym (over_log net logs q x)) (a q).late;
+      hosts = λ q x. ap (λ v. v.joins) (over_view net logs (net.host q) q (n.host_in q x) x) ∙ (started_holds net (reopened_log logs q) q (net.host q) (eq-eqb (net.host q) (net.host q) refl) ∙ ap (λ l. l.joins) (sym (over_log net logs q x)));
       known = λ q x. subst (λ m. HostKnows (view_of w (net.host q) q) m.settled) (sym (over_log net logs q x)) (subst (λ v. HostKnows v (reopened_log logs q).settled) (sym (over_view net logs (net.host q) q (n.host_in q x) x)) (started_known net (reopened_log logs q) q (net.host q) (eq-eqb (net.host q) (net.host q) refl)));
       cuts = λ q x. cut_at q (net.host q) x;
       frames = subst (λ z. AllFramesTrue net w z) (sym s.frames) tt;

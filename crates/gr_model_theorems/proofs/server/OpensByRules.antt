@@ -6,20 +6,47 @@ use Rattle.std.proofs.lemmas.Bool.{true≢false}
 use Rattle.gr_sched.specs.declared.step.Line.{Line}
 use Rattle.gr_model.specs.declared.report.Report.{Report}
 use Rattle.gr_model.specs.Net.{Net, not_empty, numbers}
-use Rattle.gr_model.specs.Broker.{Log}
-use Rattle.gr_model.specs.World.{World, Transition, log_of, absorbed, unchanged, run_from, run_all}
+use Rattle.gr_model.specs.Broker.{with_joins, Log}
+use Rattle.gr_model.specs.World.{view_of, World, Transition, log_of, absorbed, unchanged, run_from, run_all}
 use Rattle.gr_model.specs.Opening.{over_logs, reopened_line, opened_for, opened_for_by, publishers_at, opening, opening_by}
 use Rattle.gr_model.specs.Tree.{IsNet}
 use Rattle.gr_model_calls.specs.Fits.{WorldFits, StepsIn}
 use Rattle.gr_model_theorems.specs.Found.{AreReopened}
-use Rattle.gr_model_theorems.specs.ByRules.{Tells, EachInTurn, Arrives, HostReaches, OpensLog, Opens, RunByRules, RunsOver}
+use Rattle.gr_model_theorems.specs.ByRules.{Calls, Tells, EachInTurn, Arrives, HostReaches, OpensLog, Opens, RunByRules, RunsOver}
 use Rattle.gr_model_calls.proofs.runs.Worlds.{Kept, Kept-after, Kept-still, Kept-refl, deliver_kept}
 use Rattle.gr_model_theorems.proofs.sweep.RunsByRules.{told_same, Exactly, tells_exactly, then_exactly, turns_exactly, arrival_exactly, begins_over, begins_once, run_by_rules, run_once}
-use Rattle.gr_model_theorems.proofs.server.Opening.{nothing, nothing_is_true, learns, delivered_nothing, found_line_says, over_opening}
+use Rattle.gr_model_theorems.proofs.server.Opening.{longer_none, nothing, nothing_is_true, learns, delivered_nothing, found_line_says, over_opening}
+use Rattle.gr_event.specs.Joins.{Joins}
+use Rattle.gr_model_calls.specs.Rules.{NewTicks}
 use Rattle.gr_model_theorems.proofs.server.OverLogs.{opened_whole, publishers_below}
 
 abbrev reaches : Net → ℕ → World → Transition
 reaches net p w = elim (not_empty (net.subscribers_at (net.host p))) [ true ↦ absorbed w (net.host p) p (learns net w p) | false ↦ unchanged w [] ]
+
+-- a frame without runs or joins brings what the host learns: nothing new, of the view that it has
+brings_nothing : (net : Net) (p : ℕ) (w : World) (t : Transition) → Arrives net (nothing net p) w t → Calls (net.host p) p (NewTicks net p (net.host p) []) w t
+brings_nothing net p w t x = record {
+  outcome = x.outcome;
+  rule = subst (λ (js : Joins). NewTicks net p (net.host p) [] (with_joins (view_of w (net.host p) p) js) (log_of w p) x.outcome) (longer_none (view_of w (net.host p) p).joins) x.rule;
+  lines = x.lines;
+  frames = x.frames;
+  views = x.views;
+  logs = x.logs;
+  clock = x.clock;
+  most = x.most;
+}
+
+nothing_brought : (net : Net) (p : ℕ) (w : World) (t : Transition) → Calls (net.host p) p (NewTicks net p (net.host p) []) w t → Arrives net (nothing net p) w t
+nothing_brought net p w t x = record {
+  outcome = x.outcome;
+  rule = subst (λ (js : Joins). NewTicks net p (net.host p) [] (with_joins (view_of w (net.host p) p) js) (log_of w p) x.outcome) (sym (longer_none (view_of w (net.host p) p).joins)) x.rule;
+  lines = x.lines;
+  frames = x.frames;
+  views = x.views;
+  logs = x.logs;
+  clock = x.clock;
+  most = x.most;
+}
 
 reaches_exactly : (net : Net) (p : ℕ) (w : World) → IsNet net → WorldFits net w → p < net.publishers → Exactly (HostReaches net p) w (reaches net p w)
 reaches_exactly net p w n f j = go (not_empty (net.subscribers_at (net.host p))) refl
@@ -29,8 +56,8 @@ reaches_exactly net p w n f j = go (not_empty (net.subscribers_at (net.host p)))
 
     go : (q : Bool) → not_empty (net.subscribers_at (net.host p)) ≡ q → (let t : Transition = elim q [ true ↦ absorbed w (net.host p) p (learns net w p) | false ↦ unchanged w [] ] in Exactly (HostReaches net p) w t)
     go true e = record {
-      holds = record { here = λ x. z.holds; none = λ x. absurd (true≢false (sym e ∙ x)) };
-      only = λ u r. z.only u (r.here e);
+      holds = record { here = λ x. brings_nothing net p w (absorbed w (net.host p) p (learns net w p)) z.holds; none = λ x. absurd (true≢false (sym e ∙ x)) };
+      only = λ u r. z.only u (nothing_brought net p w u (r.here e));
     }
     go false e = record {
       holds = record { here = λ x. absurd (true≢false (sym x ∙ e)); none = λ x. record { world = refl; lines = refl } };

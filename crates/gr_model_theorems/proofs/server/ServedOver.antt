@@ -28,34 +28,34 @@ use Rattle.gr_model_theorems.proofs.server.Serving.{Ready, publishes_are_in, hol
 
 -- The opening is within the limits
 
-over_in : (net : Net) (logs : List Log) → AreReopened net logs → WorldIn (over_logs net logs)
+over_in : (net : Net) (logs : List Log) → AreReopened net logs → WorldIn net.late (over_logs net logs)
 unfolding over_logs
 over_in net logs a = record {
   clock = omega arith;
   views = all_tabulated (AllByRecursion ViewIn) (λ b. map (λ p. started net p b (reopened_log logs p)) (numbers net.publishers)) (numbers net.brokers) (λ b. all_tabulated ViewIn (λ p. started net p b (reopened_log logs p)) (numbers net.publishers) (λ p. started_in net p b (reopened_log logs p) (a p).within));
-  logs = all_tabulated LogIn (reopened_log logs) (numbers net.publishers) (λ p. (a p).within);
+  logs = all_tabulated (LogIn net.late) (reopened_log logs) (numbers net.publishers) (λ p. (a p).within);
   frames = tt;
 }
 
-turn_in : (net : Net) (logs : List Log) (w : World) (ls : List Report) (p : ℕ) → IsNet net → IsSmall net → p < net.publishers → Opening net logs w ls → WorldIn w → WorldIn (opened_for net w p).world
+turn_in : (net : Net) (logs : List Log) (w : World) (ls : List Report) (p : ℕ) → IsNet net → IsSmall net → p < net.publishers → Opening net logs w ls → WorldIn net.late w → WorldIn net.late (opened_for net w p).world
 unfolding opened_for_by
 turn_in net logs w ls p n z j o i = go (not_empty (net.subscribers_at (net.host p)))
   where
-    go : (q : Bool) → WorldIn (let t : Transition = elim q [ true ↦ absorbed w (net.host p) p (learn net p (net.host p) [] (view_of w (net.host p) p) (log_of w p)) | false ↦ unchanged w [] ] in t.world)
-    go true = subst (λ (t : Transition). WorldIn t.world) (delivered_nothing net w p n o.fits j) (deliver_in net w (nothing net p) n z o.fits (nothing_is_true net w p n j) tt i)
+    go : (q : Bool) → WorldIn net.late (let t : Transition = elim q [ true ↦ absorbed w (net.host p) p (learn net p (net.host p) [] (view_of w (net.host p) p) (log_of w p)) | false ↦ unchanged w [] ] in t.world)
+    go true = subst (λ (t : Transition). WorldIn net.late t.world) (delivered_nothing net w p n o.fits j) (deliver_in net w (nothing net p) n z o.fits (nothing_is_true net w p n j) (tt, omega arith) i)
     go false = i
 
-turns_in : (net : Net) (logs : List Log) (w : World) (ls : List Report) (ps : List ℕ) → IsNet net → IsSmall net → Each (λ p. p < net.publishers) ps → Opening net logs w ls → WorldIn w → WorldIn (in_turn (opened_for net) ps w).world
+turns_in : (net : Net) (logs : List Log) (w : World) (ls : List Report) (ps : List ℕ) → IsNet net → IsSmall net → Each (λ p. p < net.publishers) ps → Opening net logs w ls → WorldIn net.late w → WorldIn net.late (in_turn (opened_for net) ps w).world
 turns_in net logs w ls [] n z a o i = i
 turns_in net logs w ls (p ∷ ps) n z a o i =
     let t = opened_for net w p in
     turns_in net logs t.world (ls ++ t.lines) ps n z a.1 (opening_turn net logs w ls p n a.0 o) (turn_in net logs w ls p n z a.0 o i)
 
-opened_in : (net : Net) (logs : List Log) → IsNet net → IsSmall net → AreReopened net logs → WorldIn (all_opened net logs).world
+opened_in : (net : Net) (logs : List Log) → IsNet net → IsSmall net → AreReopened net logs → WorldIn net.late (all_opened net logs).world
 unfolding opening_by
 opened_in net logs n z a = turns_in net logs (over_logs net logs) [] (publishers_at net (numbers net.brokers)) n z (publishers_below net (numbers net.brokers)) (over_opening net logs n a) (over_in net logs a)
 
-pub opened_ready : (net : Net) (logs : List Log) → IsNet net → IsSmall net → AreReopened net logs → Ready net WorldIn (all_opened net logs).world (begin_over net logs (all_opened net logs).lines)
+pub opened_ready : (net : Net) (logs : List Log) → IsNet net → IsSmall net → AreReopened net logs → Ready net (WorldIn net.late) (all_opened net logs).world (begin_over net logs (all_opened net logs).lines)
 opened_ready net logs n z a = record {
   whole = opened_whole net logs n a;
   unknown = (opened net logs n a).unknown;
@@ -74,11 +74,11 @@ pub headline_served : (net : Net) (logs : List Log) (steps : List Line) (arrival
 unfolding served_by begin_over
 headline_served net logs steps arrivals n z on retry a i m fits honest = (
   opened_tells net logs n a,
-  holds net n on retry WorldIn (λ u l f j k x. next_in net u l n z f j k x) (λ u x. x.frames) (λ f x. spelled_decodes (frame_bytes f) f x) arrivals (all_opened net logs).world (begin_over net logs (all_opened net logs).lines) (publishes_of net (numbers net.brokers) steps) (opened_ready net logs n z a) (publishes_are_in net (numbers net.brokers) steps i m) fits honest,
+  holds net n on retry (WorldIn net.late) (λ u l f j k x. next_in net u l n z f j k x) (λ u x. x.frames) (λ f x. spelled_decodes (frame_bytes f) f x) arrivals (all_opened net logs).world (begin_over net logs (all_opened net logs).lines) (publishes_of net (numbers net.brokers) steps) (opened_ready net logs n z a) (publishes_are_in net (numbers net.brokers) steps i m) fits honest,
 )
 
 -- each arrival at such a server does what its steps of a schedule do
 pub served_does : (net : Net) (logs : List Log) (steps : List Line) (arrivals : List Arrival) → IsNet net → IsSmall net → 1 ≤ net.quiet → 1 ≤ net.retry → AreReopened net logs → StepsIn net steps → NumbersIn steps → AllByRecursion IsOfBytes arrivals → IsHonestRun arrivals (served net (numbers net.brokers) logs steps arrivals) → AllDoSteps net (all_opened net logs).world (all_opened net logs).lines (publishes_of net (numbers net.brokers) steps) arrivals
 unfolding served_by begin_over
 served_does net logs steps arrivals n z on retry a i m fits honest =
-    all_do net n on retry WorldIn (λ u l f j k x. next_in net u l n z f j k x) (λ u x. x.frames) (λ f x. spelled_decodes (frame_bytes f) f x) arrivals (all_opened net logs).world (begin_over net logs (all_opened net logs).lines) (publishes_of net (numbers net.brokers) steps) (all_opened net logs).lines (opened_ready net logs n z a) (publishes_are_in net (numbers net.brokers) steps i m) fits refl honest
+    all_do net n on retry (WorldIn net.late) (λ u l f j k x. next_in net u l n z f j k x) (λ u x. x.frames) (λ f x. spelled_decodes (frame_bytes f) f x) arrivals (all_opened net logs).world (begin_over net logs (all_opened net logs).lines) (publishes_of net (numbers net.brokers) steps) (all_opened net logs).lines (opened_ready net logs n z a) (publishes_are_in net (numbers net.brokers) steps i m) fits refl honest

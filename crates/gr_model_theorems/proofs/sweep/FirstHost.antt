@@ -21,6 +21,7 @@ use Rattle.gr_model_calls.proofs.asks.AskMoments.{Each-on, Taken, absorbed_taken
 use Rattle.gr_model_calls.proofs.rules.Forwarding.{Has, Has-front, TellsTick, LearnTicks, learn_ticks, wants_of}
 use Rattle.gr_model_calls.proofs.rules.Serves.{frames_past_all}
 use Rattle.gr_model_theorems.proofs.sweep.Upward.{SentBy, learn_each, expects_each}
+use Rattle.gr_model_calls.proofs.calls.Held.{grows_not}
 use Rattle.gr_model_theorems.proofs.sweep.SweepStates.{IsChild}
 
 -- No curiosity goes up from the host
@@ -35,7 +36,7 @@ NotUp f = is_want f ≡ false
 
 not_up : (net : Net) (p : ℕ) → IsNet net → p < net.publishers → SentBy net p (net.host p) NotUp
 not_up net p n j = record {
-  know = λ c part. refl;
+  know = λ c part js. refl;
   want = λ u part e. absurd (no_up net p u n j e);
   expect = λ c tick. refl;
 }
@@ -114,7 +115,7 @@ marking_tells net p b now v log reached place fit h long = marking_cases net p b
 
     k : LearnTicks net p b piece v o
     k = learn_ticks net (facts new reached) p b piece v new place
-        (ViewTrue-later net (facts log reached) (facts new reached) p b v (later_facts log new reached reached upto (λ t x. refl) (λ s. le_refl (reached s))) h)
+        (ViewTrue-later net (facts log reached) (facts new reached) p b v (later_facts log new reached reached upto (λ t x. refl) (λ s. le_refl (reached s)) (grows_not log.joins log.settled)) h)
         (silence_true net (facts new reached) p b (suc log.settled) now [] (omega arith) (le_refl now) (λ t x y. fit.past t x) (nothing_true net (facts new reached) p b) tt tt)
 
     marked : TellsMark net p b now v log o

@@ -152,7 +152,7 @@ module _ (net : Net) (p m : ℕ) (w : World) (n : IsNet net) (begun : Begins net
   horizon_now : keeps_horizon net p host ≡ true → (view_of y host p).horizon ≡ m
   horizon_now k =
       ap (λ x. x.horizon) taken.view
-      ∙ (wake_meets net p host u.clock v (log_of u p) (reached_in net u p) n j host_in is_it k (keeps.fits.logs p j) (keeps.fits.views p host j host_in) (keeps.fits.known p j) (λ x. absurd (both_ways (nat_le ((log_of u p).settled + net.quiet) u.clock) x (le-leb ((log_of u p).settled + net.quiet) u.clock long)))
+      ∙ (wake_meets net p host u.clock v (log_of u p) (reached_in net u p) n j host_in is_it k (keeps.fits.logs p j) (keeps.fits.views p host j host_in) (keeps.fits.hosts p j) (keeps.fits.known p j) (λ x. absurd (both_ways (nat_le ((log_of u p).settled + net.quiet) u.clock) x (le-leb ((log_of u p).settled + net.quiet) u.clock long)))
       ∙ (ap (λ l. l.settled) (sym taken.log) ∙ settled_now))
 
   not_host : (b : ℕ) → is_host net p b ≡ false → b ≢ host

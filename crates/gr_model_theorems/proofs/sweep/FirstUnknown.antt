@@ -4,6 +4,7 @@ use Rattle.std.specs.Prelude.{nat_eq, nat_le, if◌then◌else◌}
 use Rattle.std.specs.List.{list_any}
 use Rattle.std.proofs.lemmas.Bool.{cases_eq, false≢true, or_left, or_right, or_cases, and_right, eq-eqb, leb-true}
 use Rattle.std.proofs.lemmas.List.{get_or-set_other, get_or-set_same}
+use Rattle.gr_event.specs.Joins.{Joins, longer}
 use Rattle.gr_event.specs.declared.event.Event.{Event}
 use Rattle.gr_know.specs.declared.values.K.{K}
 use Rattle.gr_know.specs.declared.values.K.TheVariants.{Q, S, D, F}
@@ -17,13 +18,13 @@ use Rattle.gr_sched.specs.declared.step.Line.{Line}
 use Rattle.gr_know.specs.Values.{Known, known_at, is_Q, join_K}
 use Rattle.gr_curio.specs.Values.{Wanted, wanted_at, is_C, is_A}
 use Rattle.gr_model.specs.Net.{Net, is_host, keeps_horizon, numbers}
-use Rattle.gr_model.specs.Broker.{View, Log, Outcome, empty_log, all_A, any_C, horizon_if, is_reached, is_consolidated_by, new_ticks, forward, still_wanted, forward_wants, learn, asking, expect, curiosity, curious, stored, acknowledged, place_of, publish, silence, with_event, with_mark, marking, wake, wake_host, wake_below, receive, clashes, noted, due, started}
-use Rattle.gr_model.specs.World.{World, blank_view, view_of, log_of, absorbed, wake_for, deliver_frame, publish_now, restarted, start, run_all, deliver_frame_by, publish_now_by, wake_for_by}
-use Rattle.gr_model_calls.specs.Truth.{Facts, KnowsTruth, WantsTruth, AllWantTruth}
+use Rattle.gr_model.specs.Broker.{joining, with_join, with_joins, drops, View, Log, Outcome, empty_log, all_A, any_C, horizon_if, is_reached, is_consolidated_by, new_ticks, forward, still_wanted, forward_wants, learn, asking, expect, curiosity, curious, stored, acknowledged, place_of, publish, silence, with_event, with_mark, marking, wake, wake_host, wake_below, receive, clashes, noted, due, started}
+use Rattle.gr_model.specs.World.{join_now, join_now_by, World, blank_view, view_of, log_of, absorbed, wake_for, deliver_frame, publish_now, restarted, start, run_all, deliver_frame_by, publish_now_by, wake_for_by}
+use Rattle.gr_model_calls.specs.Truth.{Grows, HasEvent, Facts, KnowsTruth, WantsTruth, AllWantTruth}
 use Rattle.gr_model.specs.Tree.{IsNet, IsPlace}
 use Rattle.gr_model_calls.specs.Fits.{WorldFits, FrameTrue, ViewTrue, LogFits, BodyTrue, BodyFits, StepsIn, facts, facts_of, reached_in}
-use Rattle.gr_model_calls.proofs.calls.HostCases.{publish_cases, marking_cases, news_of}
-use Rattle.gr_model_calls.proofs.calls.CallTruth.{ViewTrue-later, new_ticks-is, forward-is, quenched-is}
+use Rattle.gr_model_calls.proofs.calls.HostCases.{joining_cases, publish_cases, marking_cases, news_of}
+use Rattle.gr_model_calls.proofs.calls.CallTruth.{ViewTrue-joins, ViewTrue-taken, ViewTrue-later, new_ticks-is, forward-is, quenched-is}
 use Rattle.gr_model_calls.proofs.calls.Calls.{later_facts, silence_true, nothing_true, published_piece, said_more, trimmed_wants}
 use Rattle.gr_model_calls.proofs.asks.CallTicks.{trimmed-is}
 use Rattle.gr_model_calls.proofs.rules.Forwarding.{learn_ticks, quenched_at, quench_not_C, wants_of}
@@ -32,6 +33,7 @@ use Rattle.gr_model_calls.proofs.asks.AskMoments.{Taken, absorbed_taken}
 use Rattle.gr_model_calls.proofs.runs.Worlds.{Each}
 use Rattle.gr_model_calls.proofs.runs.Schedules.{get_numbers}
 use Rattle.gr_model_calls.proofs.runs.Closed.{clocked, with_logs, IsClosed, IsCallClosed, holds_always}
+use Rattle.gr_model_calls.proofs.calls.Held.{own, grows_not}
 use Rattle.gr_model_theorems.proofs.sweep.SweepStates.{Unknowns}
 
 -- Lists of what children want
@@ -191,7 +193,7 @@ marking_unknown net p b now v log reached place fit h u = marking_cases net p b 
     marked e =
         let l : log.settled ≤ now = omega (arith, leb-true (log.settled + net.quiet) now e) in
         learn_unknown net (facts new reached) p b piece v new place
-        (ViewTrue-later net (facts log reached) (facts new reached) p b v (later_facts log new reached reached l (λ t x. refl) (λ s. le_refl (reached s))) h)
+        (ViewTrue-later net (facts log reached) (facts new reached) p b v (later_facts log new reached reached l (λ t x. refl) (λ s. le_refl (reached s)) (grows_not log.joins log.settled)) h)
         (silence_true net (facts new reached) p b (suc log.settled) now [] (omega arith) (le_refl now) (λ t x y. fit.past t x) (nothing_true net (facts new reached) p b) tt tt) u
 
 wake_unknown : (net : Net) (p b now : ℕ) (v : View) (log : Log) (reached : ℕ → ℕ) → IsPlace net p b → LogFits log → ViewTrue net (facts log reached) p b v → UnknownIn v → UnknownIn (wake net p b now v log).view
@@ -207,7 +209,7 @@ publish_unknown net p b now number e v log reached place host fit h u =
     publish_cases net p b now number e v log (λ o. UnknownIn o.view) (λ l. u) (λ l. u) (λ x l. u)
     (λ x l.
     learn_unknown net (facts new reached) p b (news_of log tick e) v new place
-    (ViewTrue-later net (facts log reached) (facts new reached) p b v (later_facts log new reached reached (omega arith) (λ t x. said_more log.events tick t e (λ q. omega (arith, q))) (λ s. le_refl (reached s))) h)
+    (ViewTrue-later net (facts log reached) (facts new reached) p b v (later_facts log new reached reached (omega arith) (λ t x. said_more log.events tick t e (λ q. omega (arith, q))) (λ s. le_refl (reached s)) (grows_not log.joins log.settled)) h)
     (published_piece net p b tick e log reached host fit (omega arith)) u)
   where
     tick : ℕ
@@ -226,16 +228,16 @@ receive_unknown net f now x v log place h told fits u = go x.body told fits
     b : ℕ
     b = x.head.to
 
-    learned : (runs : Known) (q : Bool) → KnowsTruth net f p b runs → (let o : Outcome = elim q [ true ↦ record { view = v; log = log; lines = []; frames = [] } | false ↦ learn net p b runs v log ] in UnknownIn o.view)
-    learned runs true k = u
-    learned runs false k = learn_unknown net f p b runs v log place h k u
+    learned : (runs : Known) (js : Joins) (q : Bool) → BodyTrue net f p x.head.from b (body.Knowledge runs js) → (let o : Outcome = elim q [ true ↦ record { view = v; log = log; lines = []; frames = [] } | false ↦ learn net p b runs (with_joins v (longer v.joins js)) log ] in UnknownIn o.view)
+    learned runs js true k = u
+    learned runs js false k = learn_unknown net f p b runs (with_joins v (longer v.joins js)) log place (ViewTrue-taken net f p b v js (HasEvent runs) h k.1) k.0 u
 
     go : (y : Body) → BodyTrue net f p x.head.from b y → BodyFits net p x.head.from b y → (let o : Outcome = elim y [
-      | body.Knowledge runs js ↦ elim (clashes v.know runs) [ true ↦ record { view = v; log = log; lines = []; frames = [] } | false ↦ learn net p b runs v log ]
+      | body.Knowledge runs js ↦ elim (drops v runs js) [ true ↦ record { view = v; log = log; lines = []; frames = [] } | false ↦ learn net p b runs (with_joins v (longer v.joins js)) log ]
       | body.Curiosity runs ↦ curiosity net p b now x.head.from (place_of x.head.from (net.children p b)) runs v log
       | body.Expect tick ↦ expect net p b now tick v log
     ] in UnknownIn o.view)
-    go (body.Knowledge runs js) t m = learned runs (clashes v.know runs) t
+    go (body.Knowledge runs js) t m = learned runs js (drops v runs js) t
     go (body.Curiosity runs) t m = curiosity_unknown net f p b now x.head.from runs v log h m t u
     go (body.Expect tick) t m = expect_unknown net p b now tick v log h.know.runs u
 
@@ -291,6 +293,31 @@ publish_now_unknown net n w p number e f j a =
     let o = publish net p b w.clock number e (view_of w b p) (log_of w p) in
     taken_unknown net w (absorbed w b p o).world b p o i j (absorbed_taken net w b p o f i j) (λ u. publish_unknown net p b w.clock number e (view_of w b p) (log_of w p) (reached_in net w p) (n.place p b j i) (eq-eqb b b refl) (f.logs p j) (f.views p b j i) u) a
 
+joining_unknown : (net : Net) (p b now s : ℕ) (v : View) (log : Log) (reached : ℕ → ℕ) → IsPlace net p b → LogFits log → ViewTrue net (facts log reached) p b v → UnknownIn v → UnknownIn (joining net p b now s v log).view
+joining_unknown net p b now s v log reached place fit h u =
+    joining_cases net p b now s v log (λ o. UnknownIn o.view) (λ e. u) (λ e l. u)
+    (λ e l.
+    learn_unknown net (facts new reached) p b (silence (suc log.settled) tick []) (with_joins v new.joins) new place
+    (ViewTrue-joins net (facts new reached) p b v new.joins (ViewTrue-later net (facts log reached) (facts new reached) p b v (later_facts log new reached reached (omega arith) (λ t x. refl) (λ s. le_refl (reached s)) grows) h) (own new.joins (HasEvent v.know)))
+    (silence_true net (facts new reached) p b (suc log.settled) tick [] (omega arith) (le_refl tick) (λ t x y. fit.past t x) (nothing_true net (facts new reached) p b) tt tt) u)
+  where
+    tick : ℕ
+    tick = max (suc log.settled) now
+
+    new : Log
+    new = with_join log tick s
+
+    grows : Grows log.joins new.joins log.settled
+    grows = (record { subscriber = s; tick = tick } ∷ [], refl, (omega arith, tt))
+
+join_now_unknown : (net : Net) → IsNet net → (w : World) (s p : ℕ) → WorldFits net w → p < net.publishers → Unknowns net w → Unknowns net (join_now net w s p).world
+unfolding join_now_by
+join_now_unknown net n w s p f j a =
+    let b = net.host p in
+    let i = n.host_in p j in
+    let o = joining net p b w.clock s (view_of w b p) (log_of w p) in
+    taken_unknown net w (absorbed w b p o).world b p o i j (absorbed_taken net w b p o f i j) (λ u. joining_unknown net p b w.clock s (view_of w b p) (log_of w p) (reached_in net w p) (n.place p b j i) (f.logs p j) (f.views p b j i) u) a
+
 restarted_unknown : (net : Net) (w : World) (logs : List Log) (b : ℕ) → WorldFits net w → b < net.brokers → Unknowns net w → Unknowns net (restarted net (with_logs w logs) b)
 unfolding restarted
 restarted_unknown net w logs b f i a =
@@ -325,6 +352,7 @@ pub unknown_closed : (net : Net) → IsNet net → IsClosed net (λ x. Unit {0})
 unknown_closed net n = record {
   calls = unknown_calls net n;
   published = λ w p number e f j a. publish_now_unknown net n w p number e f j a;
+  joined = λ w s p f late j a. join_now_unknown net n w s p f j a;
   at_clock = λ w now f a. by_any net (clocked w now (max now w.most)) (λ p b j i t e. a.any p b t j i e);
   restarts = λ w logs b f i a. restarted_unknown net w logs b f i a;
 }

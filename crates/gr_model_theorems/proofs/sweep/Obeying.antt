@@ -13,19 +13,19 @@ use Rattle.gr_model.specs.declared.report.Report.{Report}
 use Rattle.gr_model.specs.declared.report.Report.TheVariants as line
 use Rattle.gr_frame.specs.Bytes.{frame_bytes}
 use Rattle.gr_model.specs.Net.{Net, keeps_horizon, not_empty, numbers}
-use Rattle.gr_model_calls.specs.Rules.{Publishes, Wakes, Comes}
-use Rattle.gr_model.specs.Broker.{View, Log, Outcome, started, with_event, is_kept, max_tick, publish, wake, receive}
-use Rattle.gr_model.specs.World.{absorbed, World, Transition, is_want, inwards, outwards, view_of, log_of, unchanged, in_turn, wake_for, wake_all, deliver_frame, frame_at, publish_now, opened_lines, restarted, crash, publish_stopped, sweep, sweep_moment, kept_events, show, next, start, run_from, report_of, deliver_frame_by, next_by, publish_now_by, publish_stopped_by, report_of_by, run_from_by, sweep_by, wake_all_by, wake_for_by}
+use Rattle.gr_model_calls.specs.Rules.{TakesJoin, Publishes, Wakes, Comes}
+use Rattle.gr_model.specs.Broker.{joining, View, Log, Outcome, started, with_event, is_kept, max_tick, publish, wake, receive}
+use Rattle.gr_model.specs.World.{join_now, join_now_by, absorbed, World, Transition, is_want, inwards, outwards, view_of, log_of, unchanged, in_turn, wake_for, wake_all, deliver_frame, frame_at, publish_now, opened_lines, restarted, crash, publish_stopped, sweep, sweep_moment, kept_events, show, next, start, run_from, report_of, deliver_frame_by, next_by, publish_now_by, publish_stopped_by, report_of_by, run_from_by, sweep_by, wake_all_by, wake_for_by}
 use Rattle.gr_model.specs.Tree.{IsNet}
 use Rattle.gr_model_calls.specs.Fits.{WorldFits, StepIn, StepsIn, reached_in}
 use Rattle.gr_model.specs.Headline.{says_kept}
 use Rattle.gr_model_theorems.specs.Settles.{sent_past, Call, wakes, delivers, made, all_made, WasSent, EachSent, at_sweep, sweep_calls, is_accepted, calls_in_turn, up_calls, wake_calls, down_calls, sweep_calls_for}
-use Rattle.gr_model_theorems.specs.Obeys.{Action, publishes, makes, done, all_done, CallObeys, AllObey, is_next_of, calls_of, called_in, is_own, crashed_in, Obeys, StepObeys, StepsObey, CallsObey}
-use Rattle.gr_model_calls.proofs.runs.Worlds.{depths_in, Each, wake_for_kept, deliver_kept, numbers_below}
+use Rattle.gr_model_theorems.specs.Obeys.{joins, Action, publishes, makes, done, all_done, CallObeys, AllObey, is_next_of, calls_of, called_in, is_own, crashed_in, Obeys, StepObeys, StepsObey, CallsObey}
+use Rattle.gr_model_calls.proofs.runs.Worlds.{held_by_host, depths_in, Each, wake_for_kept, deliver_kept, numbers_below}
 use Rattle.gr_model_calls.proofs.runs.Schedules.{start_fits, next_kept, clocked_fits, frame_at_true}
 use Rattle.gr_model_theorems.proofs.sweep.SweepCalls.{made_is, sweep_is_calls, sweep_sent}
 use Rattle.gr_model_theorems.proofs.sweep.Rounds.{Each-join}
-use Rattle.gr_model_calls.proofs.rules.HostRules.{wakes_rule, publishes_rule, comes_rule}
+use Rattle.gr_model_calls.proofs.rules.HostRules.{joins_rule, wakes_rule, publishes_rule, comes_rule}
 
 -- One call
 
@@ -47,7 +47,7 @@ wake_obeys : (net : Net) (w : World) (b p : ℕ) → IsNet net → 1 ≤ net.qui
 unfolding wake_for_by
 wake_obeys net w b p n quiet f i j =
     put_in net w (makes (wakes b p)) b p (Wakes net p b w.clock) (wake net p b w.clock (view_of w b p) (log_of w p))
-    (wakes_rule net p b w.clock (view_of w b p) (log_of w p) (reached_in net w p) n quiet j i (f.logs p j) (f.views p b j i)) refl
+    (wakes_rule net p b w.clock (view_of w b p) (log_of w p) (reached_in net w p) n quiet j i (f.logs p j) (f.views p b j i) (held_by_host net w b p f j)) refl
 
 delivery_obeys : (net : Net) (w : World) (k : ℕ) (x : Frame) → IsNet net → WorldFits net w → frame_at w k ≡ Some x → CallObeys net w (makes (delivers k))
 unfolding deliver_frame_by
@@ -66,6 +66,13 @@ publish_obeys net w p number e n f j =
     let i = n.host_in p j in
     put_in net w (publishes p number e) (net.host p) p (Publishes net p (net.host p) w.clock number e) (publish net p (net.host p) w.clock number e (view_of w (net.host p) p) (log_of w p))
     (publishes_rule net p (net.host p) w.clock number e (view_of w (net.host p) p) (log_of w p) (reached_in net w p) n j i (eq-eqb (net.host p) (net.host p) refl) (f.logs p j) (f.views p (net.host p) j i)) refl
+
+join_obeys : (net : Net) (w : World) (s p : ℕ) → IsNet net → WorldFits net w → p < net.publishers → CallObeys net w (joins s p)
+unfolding join_now_by
+join_obeys net w s p n f j =
+    let i = n.host_in p j in
+    put_in net w (joins s p) (net.host p) p (TakesJoin net p (net.host p) w.clock s) (joining net p (net.host p) w.clock s (view_of w (net.host p) p) (log_of w p))
+    (joins_rule net p (net.host p) w.clock s (view_of w (net.host p) p) (log_of w p) (reached_in net w p) n j i (f.logs p j) (f.views p (net.host p) j i)) refl
 
 -- The calls of a sweep
 
@@ -222,6 +229,9 @@ one_done net w c = let s = done net w c in ap (λ ls. let t : Transition = recor
 publish_parts : (net : Net) (w : World) (p number : ℕ) (e : Event) → IsNet net → WorldFits net w → p < net.publishers → Parts net w (publish_now net w p number e) (publishes p number e ∷ []) w
 publish_parts net w p number e n f j = calls_alone net (publish_now net w p number e) (publishes p number e ∷ []) w (publish_obeys net w p number e n f j, tt) (one_done net w (publishes p number e))
 
+join_parts : (net : Net) (w : World) (s p : ℕ) → IsNet net → WorldFits net w → p < net.publishers → Parts net w (join_now net w s p) (joins s p ∷ []) w
+join_parts net w s p n f j = calls_alone net (join_now net w s p) (joins s p ∷ []) w (join_obeys net w s p n f j, tt) (one_done net w (joins s p))
+
 -- a broker that crashes
 crash_parts : (net : Net) (w u : World) (b : ℕ) (ls : List Report) → u.frames ≡ w.frames → u.views ≡ w.views → (says_kept (line.Crashed b ∷ ls) ≡ false → u.logs ≡ w.logs) → filter is_own ls ≡ ls → Parts net w (record { world = restarted net u b; lines = line.Crashed b ∷ ls }) [] w
 unfolding restarted
@@ -340,13 +350,14 @@ told_at net w number s =
       | step.Sweep ↦ sweep net w number
       | step.Show ↦ unchanged w (show net w)
       | step.Bytes k ↦ elim (frame_at w k) [ None ↦ unchanged w (line.RefusedFrame number k (length w.frames) ∷ []) | Some f ↦ unchanged w (line.BytesOf k (frame_bytes f) ∷ []) ]
-      | step.Join q p ↦ unchanged w []
+      | step.Join s p ↦ join_now net w s p
     ]
 
 abbrev calls_at : Net → World → Step → List Action
 calls_at net w s =
     elim s [
       | step.Publish p number stop e ↦ elim stop [ None ↦ publishes p number e ∷ [] | Some s ↦ if not_empty (net.subscribers_at (net.host p)) || is_next_of w p number then [] else publishes p number e ∷ [] ]
+      | step.Join s p ↦ joins s p ∷ []
       | step.Wake b ↦ map (λ p. makes (wakes b p)) (numbers net.publishers)
       | step.Deliver k ↦ elim (frame_at w k) [ None ↦ [] | Some f ↦ makes (delivers k) ∷ [] ]
       | step.Sweep ↦ if is_accepted net w then map makes (sweep_calls net w) else []
@@ -367,7 +378,7 @@ step_parts net w number (step.Crash b) n quiet f i = crash_step_parts net w numb
 step_parts net w number step.Sweep n quiet f i = sweep_parts net w number n quiet f
 step_parts net w number step.Show n quiet f i = no_calls net w (unchanged w (show net w)) (show_own net w) refl refl refl (show_crash net w)
 step_parts net w number (step.Bytes k) n quiet f i = bytes_parts net w number k
-step_parts net w number (step.Join q p) n quiet f i = absurd i
+step_parts net w number (step.Join s p) n quiet f i = join_parts net w s p n f i.1
 
 next_obeys : (net : Net) (w : World) (l : Line) → IsNet net → 1 ≤ net.quiet → WorldFits net w → StepIn net l.step → StepObeys net w l (next net w l).lines
 unfolding next_by calls_of called_in

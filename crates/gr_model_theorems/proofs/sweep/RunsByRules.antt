@@ -17,21 +17,22 @@ use Rattle.gr_model.specs.declared.report.Report.{Report}
 use Rattle.gr_model.specs.declared.report.Report.TheVariants as line
 use Rattle.gr_tick.proofs.RunLaws.{runs_equal}
 use Rattle.gr_model.specs.Net.{Net, is_host, not_empty, numbers}
-use Rattle.gr_model.specs.Broker.{View, Log, Outcome, empty_log, log_at, log_know, started, max_tick, publish, wake, receive}
-use Rattle.gr_model.specs.World.{World, Transition, blank_view, view_of, log_of, with_view, absorbed, unchanged, followed_by, in_turn, sent_lines, wake_for, wake_all, deliver_frame, frame_at, publish_now, frames_past, sent_since, is_want, is_know_to, inwards, outwards, numbers_down, opened_lines, restarted, crash, publish_stopped, deliver_up, wake_up, hand_down, sweep_for, sweep, sweep_moment, show, next, start, run_from, run_all, report_of, wake_for_by, wake_all_by, deliver_frame_by, publish_now_by, publish_stopped_by, deliver_up_by, wake_up_by, hand_down_by, sweep_for_by, sweep_by, next_by, run_from_by, report_of_by}
+use Rattle.gr_model.specs.Broker.{joining, with_joins, View, Log, Outcome, empty_log, log_at, log_know, started, max_tick, publish, wake, receive}
+use Rattle.gr_model.specs.World.{join_now, join_now_by, World, Transition, blank_view, view_of, log_of, with_view, absorbed, unchanged, followed_by, in_turn, sent_lines, wake_for, wake_all, deliver_frame, frame_at, publish_now, frames_past, sent_since, is_want, is_know_to, inwards, outwards, numbers_down, opened_lines, restarted, crash, publish_stopped, deliver_up, wake_up, hand_down, sweep_for, sweep, sweep_moment, show, next, start, run_from, run_all, report_of, wake_for_by, wake_all_by, deliver_frame_by, publish_now_by, publish_stopped_by, deliver_up_by, wake_up_by, hand_down_by, sweep_for_by, sweep_by, next_by, run_from_by, report_of_by}
 use Rattle.gr_model.specs.Opening.{reopened_log, over_logs}
 use Rattle.gr_model.specs.Tree.{IsNet}
 use Rattle.gr_model_calls.specs.Fits.{WorldFits, FrameTrue, StepIn, StepsIn, reached_in}
-use Rattle.gr_model_calls.specs.Rules.{HasKnown, Publishes, Wakes, Comes, RulesDetermine}
+use Rattle.gr_model_calls.specs.Rules.{TakesJoin, HasKnown, Publishes, Wakes, Comes, RulesDetermine}
 use Rattle.gr_model_theorems.specs.Settles.{is_accepted, at_sweep}
 use Rattle.gr_model_theorems.specs.Obeys.{is_next_of}
-use Rattle.gr_model_theorems.specs.ByRules.{Tells, Then, EachInTurn, Starts, StartsAll, BeginsOver, Begins, StartsAgain, Calls, IsPublished, IsWoken, Arrives, SetsClock, Crashes, fate, logs_left, Stops, upward_since, AtOnce, WakesUp, HandsDown, SweepsFor, SweepsAll, Sweeps, shown, Delivers, ShowsBytes, Happens, RunByRules, ScheduleByRules, ReportByRules}
-use Rattle.gr_model_calls.proofs.runs.Worlds.{Kept, IsLaterWorld, FrameTrue-later, Each, wake_for_kept, deliver_kept, wake_up_kept, hand_down_kept, sweep_for_kept, in_turn_kept, frames_past_true, filter_frames, depths_in, numbers_below}
+use Rattle.gr_model_theorems.specs.ByRules.{IsJoined, Tells, Then, EachInTurn, Starts, StartsAll, BeginsOver, Begins, StartsAgain, Calls, IsPublished, IsWoken, Arrives, SetsClock, Crashes, fate, logs_left, Stops, upward_since, AtOnce, WakesUp, HandsDown, SweepsFor, SweepsAll, Sweeps, shown, Delivers, ShowsBytes, Happens, RunByRules, ScheduleByRules, ReportByRules}
+use Rattle.gr_model_calls.proofs.runs.Worlds.{held_by_host, Kept, IsLaterWorld, FrameTrue-later, Each, wake_for_kept, deliver_kept, wake_up_kept, hand_down_kept, sweep_for_kept, in_turn_kept, frames_past_true, filter_frames, depths_in, numbers_below}
 use Rattle.gr_model_calls.proofs.runs.Schedules.{log_know-is, get_numbers, length_numbers, clocked_fits, frame_at_true, next_kept, start_fits}
-use Rattle.gr_model_calls.proofs.rules.HostRules.{wakes_rule, publishes_rule, comes_rule}
+use Rattle.gr_model_calls.proofs.rules.HostRules.{joins_rule, wakes_rule, publishes_rule, comes_rule}
 use Rattle.gr_model_calls.proofs.rules.Determined.{determined}
 use Rattle.gr_model_theorems.proofs.sweep.Pending.{sent_up, delivered_up, one_kept, up_true, Each-weaker}
 use Rattle.gr_model_theorems.proofs.sweep.Upward.{rank_of, ranks, sent_up_less}
+use Rattle.gr_event.specs.Joins.{longer}
 use Rattle.gr_model_theorems.proofs.sweep.Obeying.{told_at}
 
 -- What leaves no choice
@@ -108,13 +109,13 @@ wake_exactly : (net : Net) (w : World) (b p : ℕ) → IsNet net → 1 ≤ net.q
 unfolding wake_for_by
 wake_exactly net w b p n quiet f i j =
     let o = wake net p b w.clock (view_of w b p) (log_of w p) in
-    let r = wakes_rule net p b w.clock (view_of w b p) (log_of w p) (reached_in net w p) n quiet j i (f.logs p j) (f.views p b j i) in
+    let r = wakes_rule net p b w.clock (view_of w b p) (log_of w p) (reached_in net w p) n quiet j i (f.logs p j) (f.views p b j i) (held_by_host net w b p f j) in
     let d = determined net p b n j i in
     let x = call_exactly b p (Wakes net p b w.clock) w o r (λ u s. d.wakes w.clock (view_of w b p) (log_of w p) u o s r) in
     record { holds = x.holds; only = x.only }
 
 comes_once : (net : Net) (p from to now : ℕ) (y : Body) (v : View) (log : Log) (o u : Outcome) → RulesDetermine net p to → Comes net p from to now y v log o → Comes net p from to now y v log u → o ≡ u
-comes_once net p from to now (body.Knowledge runs js) v log o u d a c = d.new_ticks runs v log o u a c
+comes_once net p from to now (body.Knowledge runs js) v log o u d a c = d.new_ticks runs (with_joins v (longer v.joins js)) log o u a c
 comes_once net p from to now (body.Curiosity runs) v log o u d a c = d.child_asks now from runs v log o u a c
 comes_once net p from to now (body.Expect tick) v log o u d a c = d.expects now tick v log o u a c
 
@@ -141,6 +142,19 @@ publish_exactly net w p number e n f j =
     let r = publishes_rule net p b w.clock number e v log (reached_in net w p) n j i (eq-eqb b b refl) (f.logs p j) (f.views p b j i) in
     let d = determined net p b n j i in
     let x = call_exactly b p (Publishes net p b w.clock number e) w o r (λ u s. d.publishes w.clock number e v log u o s r) in
+    record { holds = x.holds; only = x.only }
+
+join_exactly : (net : Net) (w : World) (s p : ℕ) → IsNet net → WorldFits net w → p < net.publishers → Exactly (IsJoined net s p) w (join_now net w s p)
+unfolding join_now_by
+join_exactly net w s p n f j =
+    let b = net.host p in
+    let i = n.host_in p j in
+    let v = view_of w b p in
+    let log = log_of w p in
+    let o = joining net p b w.clock s v log in
+    let r = joins_rule net p b w.clock s v log (reached_in net w p) n j i (f.logs p j) (f.views p b j i) in
+    let d = determined net p b n j i in
+    let x = call_exactly b p (TakesJoin net p b w.clock s) w o r (λ u q. d.joins w.clock s v log u o q r) in
     record { holds = x.holds; only = x.only }
 
 -- Sweeps
@@ -306,7 +320,8 @@ starts_holds net p b log = record {
   wants = refl;
   asks = refl;
   horizon = refl;
-  joins = refl;
+  joins_at_host = λ e. ap (λ q. if q then log.joins else []) e;
+  joins_below = λ e. ap (λ q. if q then log.joins else []) e;
 }
 
 starts_once : (net : Net) (p b : ℕ) (log : Log) (v u : View) → Starts net p b log v → Starts net p b log u → v ≡ u
@@ -314,7 +329,10 @@ starts_once net p b log v u a c =
     view_equal v u (elim (cases_Bool (is_host net p b)) [
       | inl e ↦ let x = a.at_host e in let y = c.at_host e in runs_equal Q 1 1 v.know u.know x.runs y.runs (λ t. x.each t ∙ sym (y.each t))
       | inr e ↦ a.below e ∙ sym (c.below e)
-    ]) (a.wants ∙ sym c.wants) (a.asks ∙ sym c.asks) (a.horizon ∙ sym c.horizon) (a.joins ∙ sym c.joins)
+    ]) (a.wants ∙ sym c.wants) (a.asks ∙ sym c.asks) (a.horizon ∙ sym c.horizon) (elim (cases_Bool (is_host net p b)) [
+      | inl e ↦ a.joins_at_host e ∙ sym (c.joins_at_host e)
+      | inr e ↦ a.joins_below e ∙ sym (c.joins_below e)
+    ])
 
 -- lists of one length with the same at each place
 lists_same : {X : Type 0} (d : X) (xs ys : List X) → length xs ≡ length ys → ((i : ℕ) → i < length xs → get_or xs i d ≡ get_or ys i d) → xs ≡ ys
@@ -455,7 +473,7 @@ step_exactly net w number (step.Crash b) n quiet f i = let x = crash_exactly net
 step_exactly net w number step.Sweep n quiet f i = let x = sweep_exactly net w number n quiet f in record { holds = x.holds; only = x.only }
 step_exactly net w number step.Show n quiet f i = let x = show_exactly net w in record { holds = x.holds; only = x.only }
 step_exactly net w number (step.Bytes k) n quiet f i = let x = bytes_exactly net w number k in record { holds = x.holds; only = x.only }
-step_exactly net w number (step.Join q p) n quiet f i = absurd i
+step_exactly net w number (step.Join s p) n quiet f i = let x = join_exactly net w s p n f i.1 in record { holds = x.holds; only = x.only }
 
 next_exactly : (net : Net) (w : World) (l : Line) → IsNet net → 1 ≤ net.quiet → WorldFits net w → StepIn net l.step → Exactly (Happens net l.number l.step) w (next net w l)
 unfolding next_by

@@ -17,7 +17,7 @@ use Rattle.gr_model.specs.Tree.{IsNet}
 use Rattle.gr_model_calls.specs.Fits.{WorldFits, FrameTrue, reached_in}
 use Rattle.gr_model_calls.proofs.calls.Calls.{wake_call, receive_call}
 use Rattle.gr_model_theorems.proofs.heard.Heard.{cases_Q, is_Q_at, not_done}
-use Rattle.gr_model_calls.proofs.runs.Worlds.{Each, depths_in, numbers_below}
+use Rattle.gr_model_calls.proofs.runs.Worlds.{held_by_host, Each, depths_in, numbers_below}
 use Rattle.gr_model_calls.proofs.asks.AskMoments.{Taken, absorbed_taken}
 use Rattle.gr_model_calls.proofs.rules.SweepAsks.{sweep_for_now}
 use Rattle.gr_model_calls.proofs.runs.Closed.{Goes, IsCallClosed, in_turn_goes, wake_up_goes, sweep_for_goes}
@@ -91,7 +91,7 @@ wake_since : (net : Net) (b p : ℕ) (old w : World) (c q : ℕ) → IsNet net �
 unfolding wake_for_by
 wake_since net b p old w c q n f i j h =
     let o = wake net q c w.clock (view_of w c q) (log_of w q) in
-    let call = wake_call net q c w.clock (view_of w c q) (log_of w q) (reached_in net w q) n j i (f.logs q j) (f.views q c j i) in
+    let call = wake_call net q c w.clock (view_of w c q) (log_of w q) (reached_in net w q) n j i (f.logs q j) (f.views q c j i) (held_by_host net w c q f j) in
     since_taken net b p c q old w (absorbed w c q o).world o call.horizon (absorbed_taken net w c q o f i j) h
 
 deliver_since : (net : Net) (b p : ℕ) (old w : World) (x : Frame) → IsNet net → WorldFits net w → FrameTrue net w x → Since net b p old w → Since net b p old (deliver_frame net w x).world

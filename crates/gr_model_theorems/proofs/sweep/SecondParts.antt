@@ -9,7 +9,7 @@ use Rattle.gr_model.specs.World.{World, view_of, log_of, absorbed, followed_by, 
 use Rattle.gr_model.specs.Tree.{IsNet}
 use Rattle.gr_model_calls.specs.Fits.{WorldFits, FrameTrue, AllFit, AllFramesTrue, reached_in}
 use Rattle.gr_model_calls.proofs.calls.Calls.{wake_call, receive_call}
-use Rattle.gr_model_calls.proofs.runs.Worlds.{Kept-refl, Each, IsLaterWorld, FrameTrue-later, wake_for_kept, deliver_kept, depths_in, frames_past_true, filter_frames}
+use Rattle.gr_model_calls.proofs.runs.Worlds.{held_by_host, Kept-refl, Each, IsLaterWorld, FrameTrue-later, wake_for_kept, deliver_kept, depths_in, frames_past_true, filter_frames}
 use Rattle.gr_model_calls.proofs.runs.Closed.{Goes, Goes-after, in_turn_goes, Each-both}
 use Rattle.gr_model_calls.proofs.rules.Serves.{frames_past_all}
 use Rattle.gr_model_theorems.proofs.sweep.SecondTurn.{IsKnowTo, all_know_to}
@@ -48,7 +48,7 @@ unfolding wake_for_by
 wake_sends net w b p n f i j =
     let o = wake net p b w.clock (view_of w b p) (log_of w p) in
     let y = (absorbed w b p o).world in
-    let c = wake_call net p b w.clock (view_of w b p) (log_of w p) (reached_in net w p) n j i (f.logs p j) (f.views p b j i) in
+    let c = wake_call net p b w.clock (view_of w b p) (log_of w p) (reached_in net w p) n j i (f.logs p j) (f.views p b j i) (held_by_host net w b p f j) in
     ups net p y (sent_since w y) (sent_fit net w b p o c.fits) (frames_past_true net y (length w.frames) y.frames (wake_for_kept net w b p n f i j).fits.frames)
 
 deliver_sends : (net : Net) (p : ℕ) (w : World) (x : Frame) → IsNet net → WorldFits net w → FrameTrue net w x → x.head.publisher ≡ p → Each (IsUp net p (deliver_frame net w x).world) (filter is_want (sent_since w (deliver_frame net w x).world))

@@ -4,7 +4,7 @@ use Rattle.std.specs.Prelude.{nat_eq, filter, if◌then◌else◌}
 use Rattle.std.specs.List.{list_any}
 use Rattle.std.proofs.lemmas.List.{length-append}
 use Rattle.std.proofs.lemmas.Bool.{cases_Bool, cases_lt, false≢true, or_cases, or_left, or_right, and_parts, eqb-true, eq-eqb}
-use Rattle.gr_event.specs.Joins.{Joins}
+use Rattle.gr_event.specs.Joins.{longer, Joins}
 use Rattle.gr_know.specs.declared.values.K.{K}
 use Rattle.gr_know.specs.declared.values.K.TheVariants.{Q, F}
 use Rattle.gr_curio.specs.declared.values.Q3.{Q3}
@@ -16,15 +16,15 @@ use Rattle.gr_tick.specs.Runs.{AreRuns, first_bottom_from, zip_runs}
 use Rattle.gr_know.specs.Values.{Known, known_at, is_Q, join_K, same_K}
 use Rattle.gr_curio.specs.Values.{Wanted, wanted_at, asked_at, is_C}
 use Rattle.gr_model.specs.Net.{Net, keeps_horizon, pass}
-use Rattle.gr_model.specs.Broker.{View, Log, Outcome, learn, receive, clashes, any_C, is_consolidated_by, forward, forward_wants, new_ticks, still_wanted, consolidated, finished}
+use Rattle.gr_model.specs.Broker.{with_joins, drops, View, Log, Outcome, learn, receive, clashes, any_C, is_consolidated_by, forward, forward_wants, new_ticks, still_wanted, consolidated, finished}
 use Rattle.gr_model.specs.World.{World, view_of, log_of, absorbed, in_turn, deliver_frame, hand_down, frames_past, is_know_to, deliver_frame_by, hand_down_by}
-use Rattle.gr_model_calls.specs.Truth.{Facts, KnowsTruth, AllWantTruth}
+use Rattle.gr_model_calls.specs.Truth.{HasEvent, Facts, KnowsTruth, AllWantTruth}
 use Rattle.gr_model.specs.Tree.{IsNet, IsPlace}
 use Rattle.gr_model_calls.specs.Fits.{WorldFits, FrameTrue, BodyTrue, ViewTrue, facts_of, reached_in}
 use Rattle.gr_tick.proofs.RunLaws.{first_bottom_from-is}
-use Rattle.gr_model_calls.proofs.calls.CallTruth.{learned_horizon, joined-is, learn_wants, new_ticks-is, forward-is, quenched-is, finished-is, done_runs}
+use Rattle.gr_model_calls.proofs.calls.CallTruth.{ViewTrue-taken, learned_horizon, joined-is, learn_wants, new_ticks-is, forward-is, quenched-is, finished-is, done_runs}
 use Rattle.gr_model_calls.proofs.calls.Calls.{CallTrue, receive_call, join_not_Q}
-use Rattle.gr_model_calls.proofs.runs.Clash.{true_pieces}
+use Rattle.gr_model_calls.proofs.runs.Clash.{nothing_drops, true_pieces}
 use Rattle.gr_model_theorems.proofs.heard.Heard.{cases_Q, horizon_keeps, learn_above}
 use Rattle.gr_model_calls.proofs.runs.Worlds.{Each, IsLaterWorld, FrameTrue-later, deliver_kept, filter_frames, frames_past_true}
 use Rattle.gr_model_calls.proofs.asks.AskMoments.{Taken, absorbed_taken}
@@ -79,9 +79,9 @@ learn_edge net f p b piece v log place keeps h k =
     let u : suc (learned_horizon net p b piece v) ≡ first_bottom_from know (suc v.horizon) = omega (arith, g, i.reached) in
     learn_above net f p b piece v log (suc (learned_horizon net p b piece v)) place keeps h k (omega arith) ∙ (sym (j.same_at (suc (learned_horizon net p b piece v))) ∙ subst (λ z. known_at know z ≡ Q) (sym u) i.stops)
 
-receive_know : {js : Joins} (net : Net) (now : ℕ) (f : Frame) (runs : Known) (v : View) (log : Log) → f.body ≡ body.Knowledge runs js → clashes v.know runs ≡ false → receive net now f v log ≡ learn net f.head.publisher f.head.to runs v log
+receive_know : (net : Net) (now : ℕ) (f : Frame) (runs : Known) (js : Joins) (v : View) (log : Log) → f.body ≡ body.Knowledge runs js → drops v runs js ≡ false → receive net now f v log ≡ learn net f.head.publisher f.head.to runs (with_joins v (longer v.joins js)) log
 unfolding receive
-receive_know net now f runs v log e c = rw (e, receive, c) refl
+receive_know net now f runs js v log e c = rw (e, receive, c) refl
 
 -- what it does, by ticks
 pub record DeliveredKnow (net : Net) (w y : World) (x : Frame) (runs : Known) (o : Outcome) : Type 0 where
@@ -95,34 +95,37 @@ pub record DeliveredKnow (net : Net) (w y : World) (x : Frame) (runs : Known) (o
   pub old : (t : ℕ) → any_C o.view.wants t ≡ true → any_C (view_of w x.head.to x.head.publisher).wants t ≡ true
 
 -- what the call leaves
-abbrev pub learned : Net → World → Frame → Known → Outcome
-learned net w x runs = learn net x.head.publisher x.head.to runs (view_of w x.head.to x.head.publisher) (log_of w x.head.publisher)
+abbrev pub learned : Net → World → Frame → Known → Joins → Outcome
+learned net w x runs js = let v = view_of w x.head.to x.head.publisher in
+    learn net x.head.publisher x.head.to runs (with_joins v (longer v.joins js)) (log_of w x.head.publisher)
 
 learn_log : (net : Net) (p b : ℕ) (piece : Known) (v : View) (log : Log) → (learn net p b piece v log).log ≡ log
 unfolding learn
 learn_log net p b piece v log = refl
 
-pub delivered_know : {js : Joins} (net : Net) (w : World) (x : Frame) (runs : Known) → IsNet net → WorldFits net w → FrameTrue net w x → x.body ≡ body.Knowledge runs js → DeliveredKnow net w (deliver_frame net w x).world x runs (learned net w x runs)
+pub delivered_know : (net : Net) (w : World) (x : Frame) (runs : Known) (js : Joins) → IsNet net → WorldFits net w → FrameTrue net w x → x.body ≡ body.Knowledge runs js → DeliveredKnow net w (deliver_frame net w x).world x runs (learned net w x runs js)
 unfolding deliver_frame_by
-delivered_know net w x runs n f tr e =
+delivered_know net w x runs js n f tr e =
     let p = x.head.publisher in
     let b = x.head.to in
     let v = view_of w b p in
+    let u = with_joins v (longer v.joins js) in
     let place = n.place p b tr.publisher_in tr.fits.to_in in
     let h = f.views p b tr.publisher_in tr.fits.to_in in
-    let k : KnowsTruth net (facts_of net w p) p b runs = subst (BodyTrue net (facts_of net w p) p x.head.from b) e tr.told in
-    let is : receive net w.clock x v (log_of w p) ≡ learned net w x runs = receive_know net w.clock x runs v (log_of w p) e (true_pieces net (facts_of net w p) p b v.know runs h.know k) in
-    let ticks = learn_ticks net (facts_of net w p) p b runs v (log_of w p) place h k in
-    let call : CallTrue net p b v (log_of w p) (reached_in net w p) (learned net w x runs) = subst (CallTrue net p b v (log_of w p) (reached_in net w p)) is (receive_call net w.clock x v (log_of w p) (reached_in net w p) n tr.publisher_in tr.fits tr.told (f.logs p tr.publisher_in) h) in
+    let k : BodyTrue net (facts_of net w p) p x.head.from b (body.Knowledge runs js) = subst (BodyTrue net (facts_of net w p) p x.head.from b) e tr.told in
+    let h' : ViewTrue net (facts_of net w p) p b u = ViewTrue-taken net (facts_of net w p) p b v js (HasEvent runs) h k.1 in
+    let is : receive net w.clock x v (log_of w p) ≡ learned net w x runs js = receive_know net w.clock x runs js v (log_of w p) e (nothing_drops net (facts_of net w p) p b v runs js h.know h.held k.0 k.1) in
+    let ticks = learn_ticks net (facts_of net w p) p b runs u (log_of w p) place h' k.0 in
+    let call : CallTrue net p b v (log_of w p) (reached_in net w p) (learned net w x runs js) = subst (CallTrue net p b v (log_of w p) (reached_in net w p)) is (receive_call net w.clock x v (log_of w p) (reached_in net w p) n tr.publisher_in tr.fits tr.told (f.logs p tr.publisher_in) h) in
     record {
-      ticks = ticks;
+      ticks = record { forwarded = ticks.forwarded; wants = ticks.wants; horizon = ticks.horizon; asks = ticks.asks; know = ticks.know };
       taken = subst (λ o. Taken net w (absorbed w b p (receive net w.clock x v (log_of w p))).world b p o) is (absorbed_taken net w b p (receive net w.clock x v (log_of w p)) f tr.fits.to_in tr.publisher_in);
       fits = (deliver_kept net w x n f tr).fits;
-      log = learn_log net p b runs v (log_of w p);
-      above = λ t keeps l. learn_above net (facts_of net w p) p b runs v (log_of w p) t place keeps h k (subst (λ z. z < t) ticks.horizon l);
-      edge = λ keeps. subst (λ z. known_at (learned net w x runs).view.know (suc z) ≡ Q) (sym ticks.horizon) (learn_edge net (facts_of net w p) p b runs v (log_of w p) place keeps h k);
+      log = learn_log net p b runs u (log_of w p);
+      above = λ t keeps l. learn_above net (facts_of net w p) p b runs u (log_of w p) t place keeps h' k.0 (subst (λ z. z < t) ticks.horizon l);
+      edge = λ keeps. subst (λ z. known_at (learned net w x runs js).view.know (suc z) ≡ Q) (sym ticks.horizon) (learn_edge net (facts_of net w p) p b runs u (log_of w p) place keeps h' k.0);
       rises = call.horizon;
-      old = λ t c. learn_old net (facts_of net w p) p b t runs v (log_of w p) place h k c;
+      old = λ t c. learn_old net (facts_of net w p) p b t runs u (log_of w p) place h' k.0 c;
     }
 
 -- A property of a world and of the frames still to come to a broker, kept over its turn
@@ -207,10 +210,10 @@ waits_step net c t first n w x runs js fs f tr e h = record {
     y = (deliver_frame net w x).world
 
     o : Outcome
-    o = learned net w x runs
+    o = learned net w x runs js
 
     d : DeliveredKnow net w y x runs o
-    d = delivered_know net w x runs n f tr e
+    d = delivered_know net w x runs js n f tr e
 
     longer : (k : ℕ) (xs ys : List Frame) → k ≤ length xs → k ≤ length (xs ++ ys)
     longer k xs ys l = omega (arith, l, length-append xs ys)
@@ -277,8 +280,8 @@ rising_step net m n w x runs js fs f tr e h = record {
     y : World
     y = (deliver_frame net w x).world
 
-    d : DeliveredKnow net w y x runs (learned net w x runs)
-    d = delivered_know net w x runs n f tr e
+    d : DeliveredKnow net w y x runs (learned net w x runs js)
+    d = delivered_know net w x runs js n f tr e
 
     rises : v.horizon ≤ (view_of y b p).horizon
     rises = subst (λ z. v.horizon ≤ z.horizon) (sym d.taken.view) d.rises
@@ -317,8 +320,8 @@ leaves_step net old n w x runs js fs f tr e h =
     let p = x.head.publisher in
     let b = x.head.to in
     let y = (deliver_frame net w x).world in
-    let o = learned net w x runs in
-    let d = delivered_know net w x runs n f tr e in
+    let o = learned net w x runs js in
+    let d = delivered_know net w x runs js n f tr e in
     let unknown = (unknown_calls net n).delivered w x f tr tt h.unknown in
     let before : (t : ℕ) → any_C (view_of y b p).wants t ≡ true → any_C (view_of w b p).wants t ≡ true = λ t c. d.old t (subst (λ z. any_C z.wants t ≡ true) d.taken.view c) in
     record {

@@ -21,6 +21,7 @@ use Rattle.gr_tick.proofs.RunLaws.{AreRunsOf, runs_equal}
 use Rattle.gr_model_calls.proofs.asks.CallTicks.{due-at}
 use Rattle.gr_model_calls.proofs.rules.Forwarding.{wants_of}
 use Rattle.gr_model_calls.proofs.rules.Answering.{SameLength, wants_true_at, acknowledged-is, answers-is, stored-is, curiosity_wanted}
+use Rattle.gr_event.specs.Joins.{Joins}
 use Rattle.gr_model_calls.proofs.calls.Calls.{trimmed_wants}
 
 -- Lists of runs in which nothing stands
@@ -39,9 +40,9 @@ up_none net p b = go (net.up p b)
     go None = refl
     go (Some u) = refl
 
-know_none : (b c p : ℕ) → know_frames [] b c p [] ≡ []
+know_none : (js : Joins) (b c p : ℕ) → know_frames js b c p [] ≡ []
 unfolding cut_frames
-know_none b c p = refl
+know_none js b c p = refl
 
 answer_quiet : (k : K) (a x : Q3) → x ≢ C → answer k a x ≡ Q
 answer_quiet k a N h = refl
@@ -58,7 +59,7 @@ pub quiet_frames : (net : Net) (f : Facts) (p b now c : ℕ) (piece : Wanted) (v
     (curiosity net p b now c (place_of c (net.children p b)) piece v log).frames ≡ []
 unfolding curiosity
 quiet_frames net f p b now c piece v log h child wt quiet =
-    ap₂ (λ x y. know_frames [] b c p x ++ up_frames net p b y) reply_none (asked_none (is_host net p b)) ∙ (ap (λ x. x ++ up_frames net p b []) (know_none b c p) ∙ up_none net p b)
+    ap₂ (λ x y. know_frames v.joins b c p x ++ up_frames net p b y) reply_none (asked_none (is_host net p b)) ∙ (ap (λ x. x ++ up_frames net p b []) (know_none v.joins b c p) ∙ up_none net p b)
   where
     w : Wanted
     w = acknowledged (wants_of net p b v c) piece

@@ -18,7 +18,7 @@ use Rattle.gr_model_theorems.proofs.records.Records.{core_of, receive_log, wake_
 use Rattle.gr_model_theorems.proofs.records.Recorded.{RecordsFit, Sweeps, sweeps_from, marked_now, settled_below}
 use Rattle.gr_model_theorems.proofs.records.RecordLines.{sweeps_recs}
 use Rattle.gr_model_theorems.proofs.hosts.HostHorizon.{wake_meets}
-use Rattle.gr_model_calls.proofs.runs.Worlds.{Each, absorbed_changed}
+use Rattle.gr_model_calls.proofs.runs.Worlds.{held_by_host, Each, absorbed_changed}
 use Rattle.gr_model_calls.proofs.asks.AskMoments.{ExpectFits}
 use Rattle.gr_model_calls.proofs.runs.Chains.{Chains, sweeps_chain}
 use Rattle.gr_model_calls.proofs.runs.Schedules.{clocked_fits}
@@ -65,12 +65,12 @@ wake_moves : (net : Net) (p : ℕ) (w : World) (b q : ℕ) → IsNet net → Wor
 unfolding wake_for_by
 wake_moves net p w b q n f i j keeps =
     let o = wake net q b w.clock (view_of w b q) (log_of w q) in
-    call_moves net p w b q o f i j (wake_call net q b w.clock (view_of w b q) (log_of w q) (reached_in net w q) n j i (f.logs q j) (f.views q b j i))
+    call_moves net p w b q o f i j (wake_call net q b w.clock (view_of w b q) (log_of w q) (reached_in net w q) n j i (f.logs q j) (f.views q b j i) (held_by_host net w b q f j))
     (λ e g.
     let yes = eq-eqb (net.host q) b g in
     let kept : keeps_horizon net q b ≡ true = subst (λ z. keeps_horizon net q z ≡ true) g (subst (λ z. keeps_horizon net z (net.host z) ≡ true) (sym e) keeps) in
     elim (cases_Bool (nat_le (host_settled q w + net.quiet) w.clock)) [
-      | inl y ↦ inr (wake_meets net q b w.clock (view_of w b q) (log_of w q) (reached_in net w q) n j i yes kept (f.logs q j) (f.views q b j i) (subst (λ a. HostKnows (view_of w a q) (log_of w q).settled) g (f.known q j)) (λ x. absurd (both_ways (nat_le (host_settled q w + net.quiet) w.clock) x y)))
+      | inl y ↦ inr (wake_meets net q b w.clock (view_of w b q) (log_of w q) (reached_in net w q) n j i yes kept (f.logs q j) (f.views q b j i) (held_by_host net w b q f j yes) (subst (λ a. HostKnows (view_of w a q) (log_of w q).settled) g (f.known q j)) (λ x. absurd (both_ways (nat_le (host_settled q w + net.quiet) w.clock) x y)))
       | inr y ↦ inl (ap (λ r. r.settled) (wake_core net q b w.clock (view_of w b q) (log_of w q)) ∙ rw (yes, y) refl)
     ])
 

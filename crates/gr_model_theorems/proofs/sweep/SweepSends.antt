@@ -3,15 +3,15 @@
 use Rattle.std.proofs.Common.{◌≡◌, ℕ, suc, zero, Bool, true, false, ◌&&◌, List, [], ◌∷◌, ◌++◌, map, length, refl, sym, ap, ◌∙◌, subst, append-nil, append_assoc}
 use Rattle.std.specs.Prelude.{nat_eq, nat_lt, filter, if◌then◌else◌}
 use Rattle.std.proofs.lemmas.Bool.{false≢true, and_parts, eqb-true, eq-eqb, or_left, or_right}
-use Rattle.gr_event.specs.Joins.{Joins}
+use Rattle.gr_event.specs.Joins.{longer, Joins}
 use Rattle.gr_know.specs.Values.{Known}
 use Rattle.gr_curio.specs.Values.{Wanted}
-use Rattle.gr_frame.specs.Bytes.{cut_frames, known_run_size}
+use Rattle.gr_frame.specs.Bytes.{head_size, cut_frames, known_run_size}
 use Rattle.gr_frame.specs.declared.Body.{Body}
 use Rattle.gr_frame.specs.declared.Body.TheVariants as body
 use Rattle.gr_frame.specs.declared.Frame.{Frame}
 use Rattle.gr_model.specs.Net.{Net, is_host}
-use Rattle.gr_model.specs.Broker.{View, Log, Outcome, head, know_frames, forward, new_ticks, forward_frames, learn, curiosity, expect, place_of, clashes, receive, marking, cutting, silence, with_mark, wake, wake_host, wake_below, expect_frames}
+use Rattle.gr_model.specs.Broker.{with_joins, drops, View, Log, Outcome, head, know_frames, forward, new_ticks, forward_frames, learn, curiosity, expect, place_of, clashes, receive, marking, cutting, silence, with_mark, wake, wake_host, wake_below, expect_frames}
 use Rattle.gr_model.specs.World.{World, Transition, view_of, log_of, absorbed, followed_by, in_turn, wake_for, deliver_frame, frames_past, sent_since, is_want, is_know_to, deliver_up, wake_up, hand_down, deliver_frame_by, deliver_up_by, hand_down_by, wake_for_by, wake_up_by}
 use Rattle.gr_model_calls.proofs.calls.HostCases.{marking_cases}
 use Rattle.gr_model_calls.proofs.runs.Worlds.{Each}
@@ -78,12 +78,12 @@ wake_each net p b now R v log s = go (is_host net p b)
 
 wake_of : (net : Net) (w : World) (b p : ℕ) → AddsFrames (Of p) w (wake_for net w b p).world
 unfolding wake_for_by
-wake_of net w b p = absorbed_adds (Of p) w b p (wake net p b w.clock (view_of w b p) (log_of w p)) (wake_each net p b w.clock (Of p) (view_of w b p) (log_of w p) (record { know = λ c part. refl; want = λ u part e. refl; expect = λ c tick. refl }))
+wake_of net w b p = absorbed_adds (Of p) w b p (wake net p b w.clock (view_of w b p) (log_of w p)) (wake_each net p b w.clock (Of p) (view_of w b p) (log_of w p) (record { know = λ c part js. refl; want = λ u part e. refl; expect = λ c tick. refl }))
 
 pub deliver_of : (net : Net) (p : ℕ) (w : World) (f : Frame) → Of p f → AddsFrames (Of p) w (deliver_frame net w f).world
 unfolding deliver_frame_by
 deliver_of net p w f e = absorbed_adds (Of p) w f.head.to f.head.publisher (receive net w.clock f (view_of w f.head.to f.head.publisher) (log_of w f.head.publisher))
-    (receive_each net w.clock (Of p) f (view_of w f.head.to f.head.publisher) (log_of w f.head.publisher) (record { know = λ c part. e; want = λ u part h. e; expect = λ c tick. e }))
+    (receive_each net w.clock (Of p) f (view_of w f.head.to f.head.publisher) (log_of w f.head.publisher) (record { know = λ c part js. e; want = λ u part h. e; expect = λ c tick. e }))
 
 pub deliver_up_of : (net : Net) (p fuel : ℕ) (fs : List Frame) (w : World) → Each (Of p) fs → AddsFrames (Of p) w (deliver_up net fuel fs w).world
 unfolding deliver_up_by
@@ -122,33 +122,33 @@ pub record Down (net : Net) (p b : ℕ) (f : Frame) : Type 0 where
   pub publisher : f.head.publisher ≡ p
   pub child : stands (net.children p b) f.head.to ≡ true
 
-know_down : (net : Net) (p b c : ℕ) (runs : Known) → stands (net.children p b) c ≡ true → Each (Down net p b) (know_frames [] b c p runs)
-know_down net p b c runs m = go (cut_frames 12 known_run_size runs)
+know_down : (js : Joins) (net : Net) (p b c : ℕ) (runs : Known) → stands (net.children p b) c ≡ true → Each (Down net p b) (know_frames js b c p runs)
+know_down js net p b c runs m = go (cut_frames (head_size js) known_run_size runs)
   where
-    go : (parts : List Known) → Each (Down net p b) (map (λ part. record { head = head b c p; body = body.Knowledge part [] }) parts)
+    go : (parts : List Known) → Each (Down net p b) (map (λ part. record { head = head b c p; body = body.Knowledge part js }) parts)
     go [] = tt
     go (x ∷ xs) = (record { know = refl; publisher = refl; child = m }, go xs)
 
-forward_down : (net : Net) (p b : ℕ) (new : Known) (cs : List ℕ) (ws : List Wanted) → ((c : ℕ) → stands cs c ≡ true → stands (net.children p b) c ≡ true) → Each (Down net p b) (forward_frames [] net p b new cs ws)
-forward_down net p b new [] ws m = tt
-forward_down net p b new (c ∷ cs) [] m = tt
-forward_down net p b new (c ∷ cs) (w ∷ ws) m = Each-on (Down net p b) (know_frames [] b c p (forward net p c w new)) (forward_frames [] net p b new cs ws) (know_down net p b c (forward net p c w new) (m c (or_left (nat_eq c c) (stands cs c) (eq-eqb c c refl)))) (forward_down net p b new cs ws (λ d h. m d (or_right (nat_eq c d) (stands cs d) h)))
+forward_down : (js : Joins) (net : Net) (p b : ℕ) (new : Known) (cs : List ℕ) (ws : List Wanted) → ((c : ℕ) → stands cs c ≡ true → stands (net.children p b) c ≡ true) → Each (Down net p b) (forward_frames js net p b new cs ws)
+forward_down js net p b new [] ws m = tt
+forward_down js net p b new (c ∷ cs) [] m = tt
+forward_down js net p b new (c ∷ cs) (w ∷ ws) m = Each-on (Down net p b) (know_frames js b c p (forward net p c w new)) (forward_frames js net p b new cs ws) (know_down js net p b c (forward net p c w new) (m c (or_left (nat_eq c c) (stands cs c) (eq-eqb c c refl)))) (forward_down js net p b new cs ws (λ d h. m d (or_right (nat_eq c d) (stands cs d) h)))
 
 learn_down : (net : Net) (p b : ℕ) (piece : Known) (v : View) (log : Log) → Each (Down net p b) (learn net p b piece v log).frames
 unfolding learn
-learn_down net p b piece v log = forward_down net p b (new_ticks v.know piece) (net.children p b) v.wants (λ c h. h)
+learn_down net p b piece v log = forward_down v.joins net p b (new_ticks v.know piece) (net.children p b) v.wants (λ c h. h)
 
 receive_down : {js : Joins} (net : Net) (now : ℕ) (f : Frame) (runs : Known) (v : View) (log : Log) → f.body ≡ body.Knowledge runs js → Each (Down net f.head.publisher f.head.to) (receive net now f v log).frames
 unfolding receive
-receive_down net now f runs v log e = subst (λ y. Each (Down net f.head.publisher f.head.to) (let o : Outcome = elim y [
-  | body.Knowledge runs js ↦ elim (clashes v.know runs) [ true ↦ record { view = v; log = log; lines = []; frames = [] } | false ↦ learn net f.head.publisher f.head.to runs v log ]
+receive_down {js} net now f runs v log e = subst (λ y. Each (Down net f.head.publisher f.head.to) (let o : Outcome = elim y [
+  | body.Knowledge runs js ↦ elim (drops v runs js) [ true ↦ record { view = v; log = log; lines = []; frames = [] } | false ↦ learn net f.head.publisher f.head.to runs (with_joins v (longer v.joins js)) log ]
   | body.Curiosity runs ↦ curiosity net f.head.publisher f.head.to now f.head.from (place_of f.head.from (net.children f.head.publisher f.head.to)) runs v log
   | body.Expect tick ↦ expect net f.head.publisher f.head.to now tick v log
-] in o.frames)) (sym e) (learned (clashes v.know runs))
+] in o.frames)) (sym e) (learned (drops v runs js))
   where
-    learned : (q : Bool) → Each (Down net f.head.publisher f.head.to) (let o : Outcome = elim q [ true ↦ record { view = v; log = log; lines = []; frames = [] } | false ↦ learn net f.head.publisher f.head.to runs v log ] in o.frames)
+    learned : (q : Bool) → Each (Down net f.head.publisher f.head.to) (let o : Outcome = elim q [ true ↦ record { view = v; log = log; lines = []; frames = [] } | false ↦ learn net f.head.publisher f.head.to runs (with_joins v (longer v.joins js)) log ] in o.frames)
     learned true = tt
-    learned false = learn_down net f.head.publisher f.head.to runs v log
+    learned false = learn_down net f.head.publisher f.head.to runs (with_joins v (longer v.joins js)) log
 
 -- a frame that brings b knowledge of p
 pub record KnowTo (p b : ℕ) (f : Frame) : Type 0 where

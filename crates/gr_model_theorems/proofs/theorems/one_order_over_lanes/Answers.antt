@@ -3,10 +3,10 @@ use Rattle.gr_model_theorems.proofs.order.Served.{ordered_served_lanes, one_orde
 use Rattle.gr_model_theorems.proofs.theorems.one_order_over_lanes.Goals as goal
 
 pub returns-clause-schedules : goal.returns-clause-schedules
-returns-clause-schedules c = λ net totals late lanes steps r a. one_order_lanes net totals late lanes steps r.asked.tree r.asked.quiet r.follow r.asked.steps_in a.apart a.there
+returns-clause-schedules c = λ net totals lanes steps r a. one_order_lanes net totals lanes steps r.asked.tree r.asked.quiet r.few r.follow r.asked.steps_in a.apart a.there
 
 pub returns-clause-served : goal.returns-clause-served
-returns-clause-served c = λ net totals late lanes steps arrivals r a.
+returns-clause-served c = λ net totals lanes steps arrivals r a.
     let o = r.over in
     one_order_served net totals lanes steps arrivals
-    (ordered_served_lanes net totals late lanes steps arrivals o.asked.tree (record { brokers = r.brokers; publishers = r.publishers }) o.asked.quiet o.asked.retry o.follow o.asked.steps_in r.numbers_in r.bytes a.apart a.there r.honest)
+    (ordered_served_lanes net totals lanes steps arrivals o.asked.tree (record { brokers = r.brokers; publishers = r.publishers; late = r.late }) o.asked.quiet o.asked.retry o.follow o.asked.steps_in r.numbers_in r.bytes a.apart a.there r.honest)

@@ -1,0 +1,2 @@
+-- Runs with joins
+pub mod Owing
