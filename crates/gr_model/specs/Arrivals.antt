@@ -25,7 +25,7 @@ use Rattle.gr_sched.specs.declared.step.Step.TheVariants as step
 use Rattle.gr_model.specs.declared.report.Report.{Report}
 use Rattle.gr_model.specs.declared.report.Report.TheVariants as line
 use Rattle.gr_model.specs.Net.{Net, all_late, keeps_horizon, numbers}
-use Rattle.gr_model.specs.Broker.{View, Log, max_tick}
+use Rattle.gr_model.specs.Broker.{View, Log, max_tick, seen}
 use Rattle.gr_model.specs.World.{World, Transition, view_of, log_of, unchanged, followed_by, in_turn, deliver_frame}
 use Rattle.gr_model.specs.World.{publish_now, wake_all, kept_events, deliver_frame_by, publish_now_by, wake_all_by}
 use Rattle.gr_model.specs.Opening.{opening, opening_by}
@@ -128,7 +128,7 @@ takes_by see net w b f =
     ]
 
 abbrev pub takes : Net → World → ℕ → Frame → Transition
-takes net = takes_by (λ _. net) net
+takes net = takes_by (seen net) net
 
 -- A datagram is decoded, then it must fit, then its joins must not split from those that are held, then it must not
 -- clash; one that fails changes nothing
@@ -141,7 +141,7 @@ receives_by see net w b (Ok f) =
     ]
 
 abbrev pub receives : Net → World → ℕ → Result Frame FrameFault → Transition
-receives net = receives_by (λ _. net) net
+receives net = receives_by (seen net) net
 
 -- A note
 
@@ -176,7 +176,7 @@ notes_by see net w b (Err fault) = unchanged w (line.DroppedBadNote b (note.faul
 notes_by see net w b (Ok n) = submits_by see net w b n
 
 abbrev pub notes : Net → World → ℕ → Result Note NoteFault → Transition
-notes net = notes_by (λ _. net) net
+notes net = notes_by (seen net) net
 
 -- a datagram is a note by its first bytes, and else is to be a frame
 abbrev pub reads_by : (View → Net) → Net → World → ℕ → List ℕ → Transition
@@ -187,7 +187,7 @@ reads_by see net w b bytes =
     ]
 
 abbrev pub reads : Net → World → ℕ → List ℕ → Transition
-reads net = reads_by (λ _. net) net
+reads net = reads_by (seen net) net
 
 -- A quiet moment: the first publish that is left, and then each hosted broker is woken for each publisher
 
@@ -196,14 +196,14 @@ published_first_by see net w [] = unchanged w []
 published_first_by see net w (x ∷ left) = publish_now_by see net w x.0 x.1.0 x.1.1
 
 abbrev pub published_first : Net → World → List Publish → Transition
-published_first net = published_first_by (λ _. net) net
+published_first net = published_first_by (seen net) net
 
 unfoldable pub quieted_by : (View → Net) → Net → List ℕ → World → List Publish → Transition
 quieted_by see net hosted w left =
     followed_by (published_first_by see net w left) (in_turn (wake_all_by see net) hosted)
 
 abbrev pub quieted : Net → List ℕ → World → List Publish → Transition
-quieted net = quieted_by (λ _. net) net
+quieted net = quieted_by (seen net) net
 
 -- The run
 
@@ -212,7 +212,7 @@ comes_by see net hosted w left (datagram b bytes moment) = reads_by see net (at_
 comes_by see net hosted w left (quiet moment) = quieted_by see net hosted (at_moment w moment) left
 
 abbrev pub comes : Net → List ℕ → World → List Publish → Arrival → Transition
-comes net = comes_by (λ _. net) net
+comes net = comes_by (seen net) net
 
 -- what is shown at the end, of the hosted brokers and publishers
 unfoldable pub show_hosted : Net → List ℕ → World → List Report
@@ -230,7 +230,7 @@ served_from_by see net hosted w left (a ∷ arrivals) = let t = comes_by see net
     t.lines ∷ served_from_by see net hosted t.world (left_after left a) arrivals
 
 abbrev pub served_from : Net → List ℕ → World → List Publish → List Arrival → List (List Report)
-served_from net = served_from_by (λ _. net) net
+served_from net = served_from_by (seen net) net
 
 -- the world after arrivals: its frames are what was offered to the network, in order, and its logs what the lanes hold
 unfoldable pub arrived_by : (View → Net) → Net → List ℕ → World → List Publish → List Arrival → World
@@ -239,7 +239,7 @@ arrived_by see net hosted w left (a ∷ arrivals) = let t = comes_by see net hos
     arrived_by see net hosted t.world (left_after left a) arrivals
 
 abbrev pub arrived : Net → List ℕ → World → List Publish → List Arrival → World
-arrived net = arrived_by (λ _. net) net
+arrived net = arrived_by (seen net) net
 
 -- A run over a journal: the opening, then each arrival in turn, then what is shown. The hosted brokers are given in
 -- rising order; of a publisher that is not hosted no log is looked at; and the journal ends with the list
@@ -248,4 +248,4 @@ served_by see net hosted logs steps arrivals = let o = opening_by see net hosted
     o.lines ∷ served_from_by see net hosted o.world (publishes_of net hosted steps) arrivals
 
 abbrev pub served : Net → List ℕ → List Log → List Line → List Arrival → List (List Report)
-served net = served_by (λ _. net) net
+served net = served_by (seen net) net

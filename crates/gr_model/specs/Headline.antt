@@ -491,7 +491,7 @@ Holds_from_by at net h [] (r ∷ rs) = ⊥
 Holds_from_by at net h (l ∷ ls) [] = ⊥
 
 abbrev pub Holds_from : Net → History → List Line → List (List Report) → Type 0
-Holds_from net = Holds_from_by (λ _. net) net
+Holds_from net = Holds_from_by (recorded_net net) net
 
 -- the headline: every step of a report says what the record, the frames heard and the topology demand
 abbrev pub Headline : Net → List Line → List (List Report) → Type 0

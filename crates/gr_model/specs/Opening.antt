@@ -4,7 +4,7 @@ use Rattle.std.specs.Prelude.{replicate, None, flat_map}
 use Rattle.gr_model.specs.declared.report.Report.{Report}
 use Rattle.gr_model.specs.declared.report.Report.TheVariants as line
 use Rattle.gr_model.specs.Net.{Net, is_host, not_empty, numbers}
-use Rattle.gr_model.specs.Broker.{View, Log, empty_log, got_line, learn, started}
+use Rattle.gr_model.specs.Broker.{View, Log, empty_log, got_line, learn, started, seen}
 use Rattle.gr_model.specs.World.{World, Transition, view_of, log_of, absorbed, unchanged, followed_by, in_turn}
 use Rattle.gr_model.specs.Headline.{Recorded, History}
 
@@ -37,7 +37,7 @@ opened_for_by see net w p =
     ])
 
 abbrev pub opened_for : Net → World → ℕ → Transition
-opened_for net = opened_for_by (λ _. net) net
+opened_for net = opened_for_by (seen net) net
 
 -- the publishers of some brokers, broker by broker, and those of a broker in order
 abbrev pub publishers_at : Net → List ℕ → List ℕ
@@ -48,7 +48,7 @@ unfoldable pub opening_by : (View → Net) → Net → List ℕ → List Log →
 opening_by see net hosted logs = in_turn (opened_for_by see net) (publishers_at net hosted) (over_logs net logs)
 
 abbrev pub opening : Net → List ℕ → List Log → Transition
-opening net = opening_by (λ _. net) net
+opening net = opening_by (seen net) net
 
 -- The history where logs were found: the record begins with what they say
 

@@ -13,7 +13,7 @@ use Rattle.gr_model.specs.declared.report.Report.{Report}
 use Rattle.gr_model.specs.declared.report.Report.TheVariants as line
 use Rattle.gr_model.specs.Net.{Net, keeps_horizon, not_empty, numbers}
 use Rattle.gr_model.specs.Broker.{max_tick, View, Log, Outcome, empty_log, with_event, publish, wake, receive, started}
-use Rattle.gr_model.specs.Broker.{taking, joining, view_joined}
+use Rattle.gr_model.specs.Broker.{taking, joining, view_joined, seen}
 use Rattle.gr_model.specs.Broker.{is_kept}
 
 pub record World : Type 0 where
@@ -88,13 +88,13 @@ unfoldable pub wake_for_by : (View → Net) → Net → World → ℕ → ℕ �
 wake_for_by see net w b p = absorbed w b p (wake (see (view_of w b p)) p b w.clock (view_of w b p) (log_of w p))
 
 abbrev pub wake_for : Net → World → ℕ → ℕ → Transition
-wake_for net = wake_for_by (λ _. net) net
+wake_for net = wake_for_by (seen net) net
 
 unfoldable pub wake_all_by : (View → Net) → Net → World → ℕ → Transition
 wake_all_by see net w b = in_turn (λ u p. wake_for_by see net u b p) (numbers net.publishers) w
 
 abbrev pub wake_all : Net → World → ℕ → Transition
-wake_all net = wake_all_by (λ _. net) net
+wake_all net = wake_all_by (seen net) net
 
 -- a frame reaches its receiver
 unfoldable pub deliver_frame_by : (View → Net) → Net → World → Frame → Transition
@@ -103,7 +103,7 @@ deliver_frame_by see net w f =
     (view_of w f.head.to f.head.publisher) (log_of w f.head.publisher))
 
 abbrev pub deliver_frame : Net → World → Frame → Transition
-deliver_frame net = deliver_frame_by (λ _. net) net
+deliver_frame net = deliver_frame_by (seen net) net
 
 -- the frame of this number, from 1
 abbrev pub frame_at : World → ℕ → Option Frame
@@ -117,7 +117,7 @@ publish_now_by see net w p number e =
     (view_of w (net.host p) p) (log_of w p))
 
 abbrev pub publish_now : Net → World → ℕ → ℕ → Event → Transition
-publish_now net = publish_now_by (λ _. net) net
+publish_now net = publish_now_by (seen net) net
 
 -- a join at the host
 unfoldable pub join_now_by : (View → Net) → Net → World → ℕ → ℕ → Transition
@@ -126,7 +126,7 @@ join_now_by see net w s p =
     (net.host p) w.clock s (view_of w (net.host p) p) (log_of w p))
 
 abbrev pub join_now : Net → World → ℕ → ℕ → Transition
-join_now net = join_now_by (λ _. net) net
+join_now net = join_now_by (seen net) net
 
 -- the opened lines of a broker's publishers
 unfoldable pub opened_lines : Net → List Log → ℕ → List Report
@@ -177,7 +177,7 @@ publish_stopped_by see net w number_of_line p number stop e =
     ]
 
 abbrev pub publish_stopped : Net → World → ℕ → ℕ → ℕ → Stop → Event → Transition
-publish_stopped net = publish_stopped_by (λ _. net) net
+publish_stopped net = publish_stopped_by (seen net) net
 
 -- The sweep
 
@@ -235,7 +235,7 @@ deliver_up_by see net (suc fuel) fs w = in_turn (λ u f. followed_by (deliver_fr
     deliver_up_by see net fuel (filter is_want (sent_since u x)) x)) fs w
 
 abbrev pub deliver_up : Net → ℕ → List Frame → World → Transition
-deliver_up net = deliver_up_by (λ _. net) net
+deliver_up net = deliver_up_by (seen net) net
 
 -- a broker is woken, and the upward frames that this sends are delivered at once
 unfoldable pub wake_up_by : (View → Net) → Net → ℕ → World → ℕ → Transition
@@ -243,7 +243,7 @@ wake_up_by see net p w b = followed_by (wake_for_by see net w b p) (λ u.
     deliver_up_by see net net.brokers (filter is_want (sent_since w u)) u)
 
 abbrev pub wake_up : Net → ℕ → World → ℕ → Transition
-wake_up net = wake_up_by (λ _. net) net
+wake_up net = wake_up_by (seen net) net
 
 -- the knowledge sent to a broker in this sweep is delivered
 unfoldable pub hand_down_by : (View → Net) → Net → ℕ → ℕ → World → ℕ → Transition
@@ -251,7 +251,7 @@ hand_down_by see net p first w b =
     in_turn (deliver_frame_by see net) (filter (is_know_to p b) (frames_past first w.frames)) w
 
 abbrev pub hand_down : Net → ℕ → ℕ → World → ℕ → Transition
-hand_down net = hand_down_by (λ _. net) net
+hand_down net = hand_down_by (seen net) net
 
 -- the three phases for a publisher
 unfoldable pub sweep_for_by : (View → Net) → Net → World → ℕ → Transition
@@ -261,7 +261,7 @@ sweep_for_by see net w p =
     (in_turn (hand_down_by see net p first) (outwards net p))) (in_turn (wake_up_by see net p) (inwards net p))
 
 abbrev pub sweep_for : Net → World → ℕ → Transition
-sweep_for net = sweep_for_by (λ _. net) net
+sweep_for net = sweep_for_by (seen net) net
 
 -- a sweep moves the clock far ahead and settles each publisher, unless the clock would pass the last tick
 unfoldable pub sweep_by : (View → Net) → Net → World → ℕ → Transition
@@ -281,7 +281,7 @@ sweep_by see net w number_of_line =
     ]
 
 abbrev pub sweep : Net → World → ℕ → Transition
-sweep net = sweep_by (λ _. net) net
+sweep net = sweep_by (seen net) net
 
 -- What is shown
 
@@ -335,7 +335,7 @@ next_by see net w l =
     ]
 
 abbrev pub next : Net → World → Line → Transition
-next net = next_by (λ _. net) net
+next net = next_by (seen net) net
 
 -- the world before the first step
 unfoldable pub start : Net → World
@@ -353,14 +353,14 @@ run_from_by see net w [] = []
 run_from_by see net w (l ∷ ls) = let s = next_by see net w l in s.lines ∷ run_from_by see net s.world ls
 
 abbrev pub run_from : Net → World → List Line → List (List Report)
-run_from net = run_from_by (λ _. net) net
+run_from net = run_from_by (seen net) net
 
 -- the lines of each step, the first for the start
 unfoldable pub report_of_by : (View → Net) → Net → List Line → List (List Report)
 report_of_by see net steps = [] ∷ run_from_by see net (start net) steps
 
 abbrev pub report_of : Net → List Line → List (List Report)
-report_of net = report_of_by (λ _. net) net
+report_of net = report_of_by (seen net) net
 
 -- a whole schedule: the world after it, and all that is told
 abbrev pub run_all_by : (View → Net) → Net → World → List Line → Transition
@@ -368,4 +368,4 @@ run_all_by see net w [] = unchanged w []
 run_all_by see net w (l ∷ ls) = followed_by (next_by see net w l) (λ u. run_all_by see net u ls)
 
 abbrev pub run_all : Net → World → List Line → Transition
-run_all net = run_all_by (λ _. net) net
+run_all net = run_all_by (seen net) net

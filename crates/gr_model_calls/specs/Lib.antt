@@ -1,3 +1,4 @@
+pub mod OneNet
 pub mod Truth
 pub mod Said
 pub mod Steady

@@ -6,7 +6,8 @@ use Rattle.gr_model.specs.declared.report.Report.{Report}
 use Rattle.gr_model.specs.Net.{Net}
 use Rattle.gr_model.specs.World.{World, Transition, start, sent_lines}
 use Rattle.gr_model.specs.Headline.{History, Delivered, InOrder, is_sent}
-use Rattle.gr_model.specs.Arrivals.{Arrival, Publish, publishes_of, left_after, comes}
+use Rattle.gr_model.specs.Arrivals.{Arrival, Publish, publishes_of, left_after}
+use Rattle.gr_model_calls.specs.OneNet.{comes}
 use Rattle.gr_model_theorems.specs.Spelled.{LateIn, NumbersIn}
 use Rattle.gr_model_theorems.specs.Statements.{IsAskedRun}
 use Rattle.gr_model_theorems.specs.Served.{IsOfBytes, IsHonestAt, steps_at, DoesStepsAt, ArrivalHoldsAt}

@@ -11,8 +11,8 @@ use Rattle.gr_model.specs.Net.{Net, numbers}
 use Rattle.gr_model.specs.Broker.{Log}
 use Rattle.gr_model.specs.World.{World, Transition}
 use Rattle.gr_model.specs.Opening.{begin_over}
-use Rattle.gr_model.specs.Headline.{Holds_from}
-use Rattle.gr_model.specs.Arrivals.{Arrival, publishes_of, served, arrived}
+use Rattle.gr_model_calls.specs.OneNet.{Holds_from, served, arrived}
+use Rattle.gr_model.specs.Arrivals.{Arrival, publishes_of}
 use Rattle.gr_model_theorems.specs.Spelled.{LateIn, NumbersIn}
 use Rattle.gr_model_theorems.specs.Statements.{IsAskedRun, opened_over}
 use Rattle.gr_model_theorems.specs.OverLogs.{world_over, report_over}

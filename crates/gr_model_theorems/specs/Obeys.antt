@@ -9,9 +9,9 @@ use Rattle.gr_model.specs.declared.report.Report.{Report}
 use Rattle.gr_model.specs.declared.report.Report.TheVariants as line
 use Rattle.gr_model.specs.Net.{Net, not_empty, numbers}
 use Rattle.gr_model.specs.Broker.{View, Log, Outcome, max_tick, started}
-use Rattle.gr_model.specs.World.{World, Transition, view_of, log_of, with_view, sent_lines, in_turn, publish_now}
-use Rattle.gr_model.specs.World.{join_now}
-use Rattle.gr_model.specs.World.{frame_at, next, start}
+use Rattle.gr_model.specs.World.{World, Transition, view_of, log_of, with_view, sent_lines, in_turn}
+use Rattle.gr_model_calls.specs.OneNet.{publish_now, join_now, next}
+use Rattle.gr_model.specs.World.{frame_at, start}
 use Rattle.gr_model.specs.Headline.{says_kept}
 use Rattle.gr_model_theorems.specs.Settles.{Call, wakes, delivers, made, at_sweep, sweep_calls, is_accepted}
 use Rattle.gr_model_calls.specs.Rules.{TakesJoin, Publishes, Wakes, Comes}

@@ -7,7 +7,8 @@ use Rattle.gr_model.specs.Net.{Net, numbers}
 use Rattle.gr_model.specs.Broker.{Log}
 use Rattle.gr_model.specs.World.{Transition}
 use Rattle.gr_model.specs.Opening.{begin_over}
-use Rattle.gr_model.specs.Arrivals.{Arrival, Publish, publishes_of, left_after, served}
+use Rattle.gr_model.specs.Arrivals.{Arrival, Publish, publishes_of, left_after}
+use Rattle.gr_model_calls.specs.OneNet.{served}
 use Rattle.gr_model.specs.Headline.{History}
 use Rattle.gr_model.specs.Orders.{orders_over, ordered_steps}
 use Rattle.gr_model.specs.Ordered.{IsOrdered, TotallyOrdered_from, OneOrder}

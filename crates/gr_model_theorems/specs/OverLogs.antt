@@ -7,9 +7,10 @@ use Rattle.gr_sched.specs.declared.step.Line.{Line}
 use Rattle.gr_model.specs.declared.report.Report.{Report}
 use Rattle.gr_model.specs.Net.{Net, numbers}
 use Rattle.gr_model.specs.Broker.{Log, clashes}
-use Rattle.gr_model.specs.World.{World, Transition, view_of, frame_at, run_all, run_from}
+use Rattle.gr_model.specs.World.{World, Transition, view_of, frame_at}
+use Rattle.gr_model_calls.specs.OneNet.{run_all, run_from, opening}
 use Rattle.gr_model.specs.Headline.{History, history}
-use Rattle.gr_model.specs.Opening.{opening, begin_over}
+use Rattle.gr_model.specs.Opening.{begin_over}
 use Rattle.gr_model_theorems.specs.Statements.{opened_over, NothingClashes}
 use Rattle.gr_model_theorems.specs.Standing.{Fits}
 use Rattle.gr_model_theorems.specs.Obeys.{StepsObey}

@@ -19,12 +19,13 @@ use Rattle.gr_model.specs.Net.{Net, numbers, numbers_from}
 use Rattle.gr_model.specs.Broker.{Log, max_tick}
 use Rattle.gr_model.specs.Opening.{publishers_at, begin_over}
 use Rattle.gr_model_theorems.specs.Found.{told_at_opening}
-use Rattle.gr_model.specs.World.{World, Transition, sent_lines, run_from, run_all}
+use Rattle.gr_model.specs.World.{World, Transition, sent_lines}
+use Rattle.gr_model_calls.specs.OneNet.{run_from, run_all, comes, Holds_from}
 use Rattle.gr_model_theorems.specs.Obeys.{StepsObey}
 use Rattle.gr_model_theorems.specs.ByRules.{RunByRules}
 use Rattle.gr_model.specs.Arrivals.{Arrival, datagram, quiet, Publish, publishes_of, left_after, fault_number}
-use Rattle.gr_model.specs.Arrivals.{publisher_of, submitted_in, comes}
-use Rattle.gr_model.specs.Headline.{History, history, Holds_from, is_record_line, is_doubt_line, is_sent, sent_number}
+use Rattle.gr_model.specs.Arrivals.{publisher_of, submitted_in}
+use Rattle.gr_model.specs.Headline.{History, history, is_record_line, is_doubt_line, is_sent, sent_number}
 use Rattle.gr_model.specs.Headline.{sent_count}
 use Rattle.gr_model_theorems.specs.Replies.{frame_of_line, is_reply}
 

@@ -6,9 +6,10 @@ use Rattle.gr_frame.specs.declared.Frame.{Frame}
 use Rattle.gr_model.specs.declared.report.Report.TheVariants as line
 use Rattle.gr_model.specs.Net.{Net, keeps_horizon, numbers}
 use Rattle.gr_model.specs.Broker.{max_tick}
-use Rattle.gr_model.specs.World.{World, Transition, view_of, log_of, unchanged, followed_by, in_turn, wake_for}
-use Rattle.gr_model.specs.World.{deliver_frame, frame_at, frames_past, is_want, is_know_to, inwards, outwards}
-use Rattle.gr_model.specs.World.{sweep_moment, sweep}
+use Rattle.gr_model.specs.World.{World, Transition, view_of, log_of, unchanged, followed_by, in_turn}
+use Rattle.gr_model_calls.specs.OneNet.{wake_for, deliver_frame, sweep}
+use Rattle.gr_model.specs.World.{frame_at, frames_past, is_want, is_know_to, inwards, outwards}
+use Rattle.gr_model.specs.World.{sweep_moment}
 use Rattle.gr_model.specs.Headline.{History, record_of, last_cut, last_horizon, delivered_events}
 
 -- a call within a sweep: a broker is woken for a publisher, or the frame of a number reaches its receiver

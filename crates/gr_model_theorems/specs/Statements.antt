@@ -14,10 +14,11 @@ use Rattle.gr_model.specs.declared.report.Report.{Report}
 use Rattle.gr_model.specs.Net.{Net, not_empty, numbers}
 use Rattle.gr_model.specs.Tree.{IsNet, IsSubscriber, IsDistinct}
 use Rattle.gr_model.specs.Broker.{Log, clashes}
-use Rattle.gr_model.specs.World.{World, Transition, view_of, log_of, frame_at, run_all, run_from, start, next}
-use Rattle.gr_model.specs.Opening.{opening, publishers_at, begin_over}
-use Rattle.gr_model.specs.Arrivals.{Arrival, publishes_of, served, clash_runs, first_of}
-use Rattle.gr_model.specs.Headline.{History, GetsExactly, Holds_from, is_doubt_line, doubt_place, doubts_shown}
+use Rattle.gr_model.specs.World.{World, Transition, view_of, log_of, frame_at, start}
+use Rattle.gr_model_calls.specs.OneNet.{run_all, run_from, next, opening, served, Holds_from}
+use Rattle.gr_model.specs.Opening.{publishers_at, begin_over}
+use Rattle.gr_model.specs.Arrivals.{Arrival, publishes_of, clash_runs, first_of}
+use Rattle.gr_model.specs.Headline.{History, GetsExactly, is_doubt_line, doubt_place, doubts_shown}
 use Rattle.gr_model_calls.specs.Fits.{StepsIn}
 use Rattle.gr_model_theorems.specs.Order.{CutsInOrder}
 use Rattle.gr_model_calls.specs.Edges.{GoesOverEdge}

@@ -6,7 +6,8 @@ use Rattle.gr_sched.specs.declared.step.Line.{Line}
 use Rattle.gr_model.specs.declared.report.Report.{Report}
 use Rattle.gr_model.specs.Net.{Net, with_wants, wants_with}
 use Rattle.gr_model.specs.Broker.{View, seen}
-use Rattle.gr_model.specs.World.{World, Transition, log_of, start, run_all, run_all_by, report_of, report_of_by}
+use Rattle.gr_model.specs.World.{World, Transition, log_of, start, run_all_by, report_of_by}
+use Rattle.gr_model_calls.specs.OneNet.{run_all, report_of}
 use Rattle.gr_model.specs.Tree.{IsNet, IsPlace}
 use Rattle.gr_model_calls.specs.Truth.{Grows}
 use Rattle.gr_model_calls.specs.Fits.{WorldFits, StepsIn}

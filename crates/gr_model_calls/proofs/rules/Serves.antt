@@ -15,7 +15,8 @@ use Rattle.gr_know.specs.Values.{known_at, is_Q}
 use Rattle.gr_curio.specs.Values.{Wanted, wanted_at, asked_at, is_A, is_outstanding}
 use Rattle.gr_model.specs.Net.{Net, is_host, keeps_horizon, pass}
 use Rattle.gr_model.specs.Broker.{View, Log, Outcome, place_of, curiosity, receive, is_consolidated_by}
-use Rattle.gr_model.specs.World.{World, view_of, log_of, absorbed, deliver_frame, frames_past, sent_since, deliver_frame_by}
+use Rattle.gr_model.specs.World.{World, view_of, log_of, absorbed, frames_past, sent_since, deliver_frame_by}
+use Rattle.gr_model_calls.specs.OneNet.{deliver_frame}
 use Rattle.gr_model_calls.specs.Truth.{WantsTruth}
 use Rattle.gr_model_calls.specs.Fits.{facts_of, WorldFits, FrameTrue, BodyTrue, BodyFits}
 use Rattle.gr_model.specs.Tree.{IsNet}

@@ -6,7 +6,8 @@ use Rattle.gr_frame.specs.declared.Frame.{Frame}
 use Rattle.gr_curio.specs.Values.{asked_at, is_outstanding}
 use Rattle.gr_model.specs.Net.{Net}
 use Rattle.gr_model.specs.Broker.{Outcome, wake, receive}
-use Rattle.gr_model.specs.World.{World, view_of, log_of, absorbed, wake_for, deliver_frame, sweep_for, sweep_moment, deliver_frame_by, wake_for_by}
+use Rattle.gr_model.specs.World.{World, view_of, log_of, absorbed, sweep_moment, deliver_frame_by, wake_for_by}
+use Rattle.gr_model_calls.specs.OneNet.{wake_for, deliver_frame, sweep_for}
 use Rattle.gr_model.specs.Tree.{IsNet}
 use Rattle.gr_model_calls.specs.Fits.{WorldFits, FrameTrue}
 use Rattle.gr_model_calls.proofs.runs.Worlds.{Each}

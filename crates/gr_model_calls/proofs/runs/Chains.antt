@@ -3,7 +3,8 @@ use Rattle.std.proofs.Common.{◌≡◌, ℕ, suc, zero, ◌<◌, List, [], ◌�
 use Rattle.std.specs.Prelude.{filter}
 use Rattle.gr_frame.specs.declared.Frame.{Frame}
 use Rattle.gr_model.specs.Net.{Net, numbers}
-use Rattle.gr_model.specs.World.{World, Transition, unchanged, followed_by, in_turn, wake_for, wake_all, deliver_frame, deliver_up, wake_up, hand_down, sweep_for, frames_past, sent_since, is_want, is_know_to, outwards, inwards, numbers_down, deliver_up_by, hand_down_by, sweep_for_by, wake_all_by, wake_up_by}
+use Rattle.gr_model.specs.World.{World, Transition, unchanged, followed_by, in_turn, frames_past, sent_since, is_want, is_know_to, outwards, inwards, numbers_down, deliver_up_by, hand_down_by, sweep_for_by, wake_all_by, wake_up_by}
+use Rattle.gr_model_calls.specs.OneNet.{wake_for, wake_all, deliver_frame, deliver_up, wake_up, hand_down, sweep_for}
 use Rattle.gr_model.specs.Tree.{IsNet}
 use Rattle.gr_model_calls.specs.Fits.{WorldFits, FrameTrue}
 use Rattle.gr_model_calls.proofs.runs.Worlds.{Kept, Kept-refl, Kept-after, wake_for_kept, deliver_kept, Each, IsLaterWorld, FrameTrue-later, frames_past_true, filter_frames, depths_in, numbers_below}

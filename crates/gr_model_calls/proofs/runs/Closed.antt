@@ -11,7 +11,8 @@ use Rattle.gr_sched.specs.declared.step.Line.{Line}
 use Rattle.gr_model.specs.declared.report.Report.TheVariants as line
 use Rattle.gr_model.specs.Net.{Net, is_late, not_empty, numbers}
 use Rattle.gr_model.specs.Broker.{Log, with_event, is_kept, max_tick}
-use Rattle.gr_model.specs.World.{World, Transition, log_of, unchanged, followed_by, in_turn, wake_for, wake_all, deliver_frame, publish_now, join_now, deliver_up, wake_up, hand_down, sweep_for, sweep, sweep_moment, frames_past, sent_since, is_want, is_know_to, outwards, inwards, numbers_down, frame_at, restarted, crash, publish_stopped, next, start, show, run_all, opened_lines, deliver_up_by, hand_down_by, next_by, publish_stopped_by, sweep_by, sweep_for_by, wake_all_by, wake_up_by}
+use Rattle.gr_model.specs.World.{World, Transition, log_of, unchanged, followed_by, in_turn, sweep_moment, frames_past, sent_since, is_want, is_know_to, outwards, inwards, numbers_down, frame_at, restarted, crash, start, show, opened_lines, deliver_up_by, hand_down_by, next_by, publish_stopped_by, sweep_by, sweep_for_by, wake_all_by, wake_up_by}
+use Rattle.gr_model_calls.specs.OneNet.{wake_for, wake_all, deliver_frame, publish_now, join_now, deliver_up, wake_up, hand_down, sweep_for, sweep, publish_stopped, next, run_all}
 use Rattle.gr_frame.specs.Bytes.{frame_bytes}
 use Rattle.gr_model.specs.Tree.{IsNet}
 use Rattle.gr_model_calls.specs.Fits.{WorldFits, FrameTrue, StepIn, StepsIn}

@@ -19,7 +19,8 @@ use Rattle.gr_tick.specs.Runs.{IsNone}
 use Rattle.gr_know.specs.Values.{same_K}
 use Rattle.gr_model.specs.Net.{Net, is_late, all_late, is_host, not_empty, numbers, numbers_from, keeps_horizon}
 use Rattle.gr_model.specs.Broker.{View, Log, empty_log, with_event, event_at, log_at, event_points, log_know, started, is_kept, max_tick}
-use Rattle.gr_model.specs.World.{World, Transition, blank_view, view_of, log_of, unchanged, followed_by, in_turn, deliver_frame, frame_at, publish_now, join_now, restarted, crash, publish_stopped, wake_all, sweep_for, sweep, sweep_moment, next, start, show, opened_lines, run_from, kept_events, run_all, next_by, publish_stopped_by, run_from_by, sweep_by}
+use Rattle.gr_model.specs.World.{World, Transition, blank_view, view_of, log_of, unchanged, followed_by, in_turn, frame_at, restarted, crash, sweep_moment, start, show, opened_lines, kept_events, next_by, publish_stopped_by, run_from_by, sweep_by}
+use Rattle.gr_model_calls.specs.OneNet.{deliver_frame, publish_now, join_now, publish_stopped, wake_all, sweep_for, sweep, next, run_from, run_all}
 use Rattle.gr_frame.specs.Bytes.{frame_bytes}
 use Rattle.gr_model_calls.specs.Truth.{Holds, HasEvent, Grows, Facts, IsTrueAt, KnowsTruth, AllWantTruth, IsLater}
 use Rattle.gr_model_calls.specs.Said.{said_at, due_upto}

@@ -12,7 +12,8 @@ use Rattle.gr_model.specs.declared.report.Report.{Report}
 use Rattle.gr_model.specs.declared.report.Report.TheVariants as line
 use Rattle.gr_model.specs.Net.{Net, not_empty, numbers, with_wants}
 use Rattle.gr_model.specs.Broker.{View, Log, started, with_event, is_kept, max_tick}
-use Rattle.gr_model.specs.World.{World, Transition, log_of, unchanged, followed_by, in_turn, wake_for, wake_for_by, wake_all, wake_all_by, deliver_frame, deliver_frame_by, publish_now, publish_now_by, join_now, join_now_by, deliver_up, deliver_up_by, wake_up, wake_up_by, hand_down, hand_down_by, sweep_for, sweep_for_by, sweep, sweep_by, sweep_moment, frames_past, sent_since, is_want, is_know_to, outwards, inwards, numbers_down, frame_at, restarted, crash, publish_stopped, publish_stopped_by, next, next_by, start, show, run_from, run_from_by, run_all, run_all_by, report_of, report_of_by, opened_lines}
+use Rattle.gr_model.specs.World.{World, Transition, log_of, unchanged, followed_by, in_turn, wake_for_by, wake_all_by, deliver_frame_by, publish_now_by, join_now_by, deliver_up_by, wake_up_by, hand_down_by, sweep_for_by, sweep_by, sweep_moment, frames_past, sent_since, is_want, is_know_to, outwards, inwards, numbers_down, frame_at, restarted, crash, publish_stopped_by, next_by, start, show, run_from_by, run_all_by, report_of_by, opened_lines}
+use Rattle.gr_model_calls.specs.OneNet.{wake_for, wake_all, deliver_frame, publish_now, join_now, deliver_up, wake_up, hand_down, sweep_for, sweep, publish_stopped, next, run_from, run_all, report_of}
 use Rattle.gr_model.specs.Tree.{IsNet}
 use Rattle.gr_model_calls.specs.Fits.{WorldFits, FrameTrue, StepIn, StepsIn}
 use Rattle.gr_model_calls.proofs.runs.Worlds.{Kept, Kept-after, Each, IsLaterWorld, FrameTrue-later, numbers_below, depths_in, wake_for_kept, deliver_kept, in_turn_kept, wake_all_kept, deliver_up_kept, wake_up_kept, hand_down_kept, sweep_for_kept, frames_past_true, filter_frames}

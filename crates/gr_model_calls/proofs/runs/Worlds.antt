@@ -11,7 +11,8 @@ use Rattle.gr_frame.specs.declared.Frame.{Frame}
 use Rattle.gr_model.specs.declared.report.Report.{Report}
 use Rattle.gr_model.specs.Net.{Net, is_late, all_late, is_host, numbers, numbers_from}
 use Rattle.gr_model.specs.Broker.{View, Outcome, empty_log, publish, wake, receive, joining}
-use Rattle.gr_model.specs.World.{World, Transition, blank_view, view_of, log_of, with_view, absorbed, unchanged, followed_by, in_turn, wake_for, wake_all, deliver_frame, publish_now, join_now, join_now_by, deliver_up, wake_up, hand_down, sweep_for, frames_past, sent_lines, sent_since, is_want, is_know_to, at_depth, outwards, inwards, numbers_down, deliver_frame_by, deliver_up_by, hand_down_by, publish_now_by, sweep_for_by, wake_all_by, wake_for_by, wake_up_by}
+use Rattle.gr_model.specs.World.{World, Transition, blank_view, view_of, log_of, with_view, absorbed, unchanged, followed_by, in_turn, join_now_by, frames_past, sent_lines, sent_since, is_want, is_know_to, at_depth, outwards, inwards, numbers_down, deliver_frame_by, deliver_up_by, hand_down_by, publish_now_by, sweep_for_by, wake_all_by, wake_for_by, wake_up_by}
+use Rattle.gr_model_calls.specs.OneNet.{wake_for, wake_all, deliver_frame, publish_now, join_now, deliver_up, wake_up, hand_down, sweep_for}
 use Rattle.gr_model_calls.specs.Truth.{HasEvent, Grows, Facts, IsLater}
 use Rattle.gr_model_calls.proofs.calls.Held.{holds_later, grows_not, grows_on}
 use Rattle.gr_model_calls.specs.Said.{said_at, due_upto, due_between}

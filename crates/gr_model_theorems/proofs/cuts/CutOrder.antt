@@ -9,7 +9,8 @@ use Rattle.gr_sched.specs.declared.step.Line.{Line}
 use Rattle.gr_model.specs.declared.report.Report.{Report}
 use Rattle.gr_model.specs.declared.report.Report.TheVariants as line
 use Rattle.gr_model.specs.Net.{Net}
-use Rattle.gr_model.specs.World.{log_of, start, run_all, run_from}
+use Rattle.gr_model.specs.World.{log_of, start}
+use Rattle.gr_model_calls.specs.OneNet.{run_all, run_from}
 use Rattle.gr_model.specs.Headline.{History, history_after, begin, reopened_cut, history, record_of, delivered_events}
 use Rattle.gr_model_calls.specs.Said.{said_at, TicksRise}
 use Rattle.gr_model.specs.Broker.{started}

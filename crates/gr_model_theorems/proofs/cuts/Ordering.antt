@@ -13,7 +13,8 @@ use Rattle.gr_model.specs.declared.report.Report.{Report}
 use Rattle.gr_model.specs.declared.report.Report.TheVariants as line
 use Rattle.gr_model.specs.Net.{is_late, Net, not_empty, numbers, keeps_horizon}
 use Rattle.gr_model.specs.Broker.{joining, Log, empty_log, with_event, is_kept, max_tick, wake, receive, publish}
-use Rattle.gr_model.specs.World.{join_now, join_now_by, World, Transition, blank_view, view_of, log_of, unchanged, followed_by, in_turn, wake_for, wake_all, deliver_frame, frame_at, publish_now, restarted, crash, publish_stopped, sweep_for, sweep, sweep_moment, next, show, opened_lines, kept_events, run_all, deliver_frame_by, next_by, publish_now_by, publish_stopped_by, sweep_by, wake_for_by}
+use Rattle.gr_model.specs.World.{join_now_by, World, Transition, blank_view, view_of, log_of, unchanged, followed_by, in_turn, frame_at, restarted, crash, sweep_moment, show, opened_lines, kept_events, deliver_frame_by, next_by, publish_now_by, publish_stopped_by, sweep_by, wake_for_by}
+use Rattle.gr_model_calls.specs.OneNet.{join_now, wake_for, wake_all, deliver_frame, publish_now, publish_stopped, sweep_for, sweep, next, run_all}
 use Rattle.gr_frame.specs.Bytes.{frame_bytes}
 use Rattle.gr_model_calls.specs.Truth.{IsLater}
 use Rattle.gr_model_calls.specs.Fits.{facts_of, reached_in, WorldFits, LinesFit, FrameTrue, StepIn, StepsIn}

@@ -15,8 +15,9 @@ use Rattle.gr_know.specs.Values.{known_at}
 use Rattle.gr_model.specs.declared.report.Report.TheVariants as line
 use Rattle.gr_model.specs.Net.{Net, is_host, keeps_horizon, numbers}
 use Rattle.gr_model.specs.Broker.{max_tick}
-use Rattle.gr_model.specs.World.{World, Transition, view_of, log_of, unchanged, followed_by, in_turn, sweep, sweep_for, sweep_moment, next, start, report_of, run_from, run_all, next_by, report_of_by, sweep_by}
-use Rattle.gr_model.specs.Headline.{Headline, Holds_from, begin, history, History, heard_after, hearing, hearing_all, is_swept, sweep_at}
+use Rattle.gr_model.specs.World.{World, Transition, view_of, log_of, unchanged, followed_by, in_turn, sweep_moment, start, next_by, report_of_by, sweep_by}
+use Rattle.gr_model_calls.specs.OneNet.{sweep, sweep_for, next, report_of, run_from, run_all, Headline, Holds_from}
+use Rattle.gr_model.specs.Headline.{begin, history, History, heard_after, hearing, hearing_all, is_swept, sweep_at}
 use Rattle.gr_model.specs.Tree.{IsNet}
 use Rattle.gr_model_calls.specs.Truth.{Facts, IsTrueAt}
 use Rattle.gr_model_calls.specs.Fits.{StepIn, StepsIn, WorldFits, FrameTrue, AllFramesTrue, BodyTrue, facts_of}

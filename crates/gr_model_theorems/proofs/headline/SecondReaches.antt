@@ -8,8 +8,8 @@ use Rattle.gr_sched.specs.declared.step.Line.{Line}
 use Rattle.gr_model.specs.declared.report.Report.TheVariants as line
 use Rattle.gr_model.specs.Net.{Net, numbers}
 use Rattle.gr_model.specs.Broker.{max_tick}
-use Rattle.gr_model.specs.World.{World, Transition, view_of, log_of, unchanged, followed_by, in_turn, sweep, sweep_for, sweep_moment, report_of, frames_past, sweep_by}
-use Rattle.gr_model.specs.Headline.{Headline}
+use Rattle.gr_model.specs.World.{World, Transition, view_of, log_of, unchanged, followed_by, in_turn, sweep_moment, frames_past, sweep_by}
+use Rattle.gr_model_calls.specs.OneNet.{sweep, sweep_for, report_of, Headline}
 use Rattle.gr_model.specs.Tree.{IsNet}
 use Rattle.gr_model_calls.specs.Fits.{StepsIn, WorldFits}
 use Rattle.gr_model_calls.proofs.runs.Closed.{clocked}

@@ -8,7 +8,8 @@ use Rattle.gr_model.specs.declared.report.Report.{Report}
 use Rattle.gr_model.specs.declared.report.Report.TheVariants as line
 use Rattle.gr_model.specs.Net.{Net, keeps_horizon, is_empty, not_empty, numbers, numbers_from}
 use Rattle.gr_model.specs.Broker.{Outcome, wake, receive, max_tick}
-use Rattle.gr_model.specs.World.{World, Transition, view_of, log_of, absorbed, unchanged, followed_by, in_turn, wake_for, deliver_frame, frame_at, sweep_for, sweep_moment, sweep, deliver_frame_by, sweep_for_by, wake_for_by}
+use Rattle.gr_model.specs.World.{World, Transition, view_of, log_of, absorbed, unchanged, followed_by, in_turn, frame_at, sweep_moment, deliver_frame_by, sweep_for_by, wake_for_by}
+use Rattle.gr_model_calls.specs.OneNet.{wake_for, deliver_frame, sweep_for, sweep}
 use Rattle.gr_model.specs.Headline.{is_record_line, last_cut, last_horizon}
 use Rattle.gr_model_theorems.specs.Settles.{all_made, calls_in_turn, sweep_calls_for, sweep_calls, at_sweep, sent_past, times, is_expect, SweepSettles}
 use Rattle.gr_model.specs.Tree.{IsNet, IsSubscriber}

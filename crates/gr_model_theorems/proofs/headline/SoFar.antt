@@ -8,7 +8,8 @@ use Rattle.gr_sched.specs.declared.step.Line.{Line}
 use Rattle.gr_model.specs.declared.report.Report.{Report}
 use Rattle.gr_model.specs.declared.report.Report.TheVariants as line
 use Rattle.gr_model.specs.Net.{keeps_horizon, Net, is_host}
-use Rattle.gr_model.specs.World.{sent_lines, World, view_of, log_of, start, next, run_all, run_from, run_from_by}
+use Rattle.gr_model.specs.World.{sent_lines, World, view_of, log_of, start, run_from_by}
+use Rattle.gr_model_calls.specs.OneNet.{next, run_all, run_from}
 use Rattle.gr_model.specs.Headline.{GetsExactly, unlogged_after, InOrder, History, history, reopened_cut, record_of, history_after, begin, last_horizon, may_crash, HorizonsRise, sent_count, is_sent}
 use Rattle.gr_model_theorems.proofs.records.RecordLines.{sent_lines-append}
 use Rattle.gr_model_theorems.proofs.records.RecordSteps.{step_sends}

@@ -7,7 +7,8 @@ use Rattle.gr_know.specs.Values.{known_at}
 use Rattle.gr_sched.specs.declared.step.Line.{Line}
 use Rattle.gr_model.specs.Net.{Net}
 use Rattle.gr_model.specs.Broker.{event_at}
-use Rattle.gr_model.specs.World.{World, view_of, log_of, run_all, run_from, start}
+use Rattle.gr_model.specs.World.{World, view_of, log_of, start}
+use Rattle.gr_model_calls.specs.OneNet.{run_all, run_from}
 use Rattle.gr_model.specs.Headline.{History, history, begin}
 use Rattle.gr_model.specs.Tree.{IsNet}
 use Rattle.gr_model_calls.specs.Truth.{Facts, IsTrueAt}

@@ -7,8 +7,9 @@ use Rattle.gr_sched.specs.declared.step.Line.{Line}
 use Rattle.gr_model.specs.declared.report.Report.TheVariants as line
 use Rattle.gr_model.specs.Net.{Net, keeps_horizon, not_empty, is_empty}
 use Rattle.gr_model.specs.Broker.{empty_log}
-use Rattle.gr_model.specs.World.{World, view_of, start, next, run_from, run_all, run_from_by}
-use Rattle.gr_model.specs.Headline.{heard_after, history, History, history_after, begin, is_heard, IsDoubt, Delivered, StepReports, Holds_from}
+use Rattle.gr_model.specs.World.{World, view_of, start, run_from_by}
+use Rattle.gr_model_calls.specs.OneNet.{next, run_from, run_all, Holds_from}
+use Rattle.gr_model.specs.Headline.{heard_after, history, History, history_after, begin, is_heard, IsDoubt, Delivered, StepReports}
 use Rattle.gr_model.specs.Tree.{IsNet}
 use Rattle.gr_model_calls.specs.Fits.{StepIn, StepsIn, WorldFits}
 use Rattle.gr_model_theorems.proofs.records.RecordSteps.{step_records}

@@ -13,7 +13,8 @@ use Rattle.gr_know.specs.Values.{Known, known_at}
 use Rattle.gr_curio.specs.Values.{Wanted}
 use Rattle.gr_model.specs.Net.{Net, is_host, keeps_horizon, numbers}
 use Rattle.gr_model.specs.Broker.{joining, with_joins, drops, View, Log, Outcome, empty_log, learn, asking, expect, curiosity, wake, wake_host, wake_below, receive, clashes, stored, acknowledged, place_of, due, noted, publish, started}
-use Rattle.gr_model.specs.World.{join_now, join_now_by, World, blank_view, view_of, log_of, absorbed, wake_for, deliver_frame, publish_now, restarted, deliver_frame_by, publish_now_by, wake_for_by}
+use Rattle.gr_model.specs.World.{join_now_by, World, blank_view, view_of, log_of, absorbed, restarted, deliver_frame_by, publish_now_by, wake_for_by}
+use Rattle.gr_model_calls.specs.OneNet.{join_now, wake_for, deliver_frame, publish_now}
 use Rattle.gr_model_calls.specs.Truth.{HasEvent, Facts, AllWantTruth}
 use Rattle.gr_model.specs.Tree.{IsNet, IsPlace}
 use Rattle.gr_model_calls.specs.Fits.{WorldFits, ViewTrue, FrameTrue, BodyTrue, BodyFits, facts_of}

@@ -20,7 +20,8 @@ use Rattle.gr_model.specs.declared.report.Report.{Report}
 use Rattle.gr_model.specs.declared.report.Report.TheVariants as line
 use Rattle.gr_model.specs.Net.{Net, numbers, not_empty}
 use Rattle.gr_model.specs.Broker.{Log, with_event, is_kept, max_tick}
-use Rattle.gr_model.specs.World.{World, Transition, log_of, unchanged, wake_for, wake_all, deliver_frame, frame_at, publish_now, publish_stopped, restarted, crash, next, sent_line, sent_lines, opened_lines, next_by, publish_stopped_by, wake_all_by}
+use Rattle.gr_model.specs.World.{World, Transition, log_of, unchanged, frame_at, restarted, crash, sent_line, sent_lines, opened_lines, next_by, publish_stopped_by, wake_all_by}
+use Rattle.gr_model_calls.specs.OneNet.{wake_for, wake_all, deliver_frame, publish_now, publish_stopped, next}
 use Rattle.gr_model.specs.Headline.{History, is_sent, sent_number, line_of_frame, know_of_line, hearing, heard_nothing, is_heard, heard_after, may_crash, is_next}
 use Rattle.gr_model.specs.Tree.{IsNet}
 use Rattle.gr_model_calls.specs.Fits.{WorldFits, BodyTrue, StepIn, facts_of}

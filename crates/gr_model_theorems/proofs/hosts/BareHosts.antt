@@ -17,7 +17,8 @@ use Rattle.gr_model.specs.declared.report.Report.{Report}
 use Rattle.gr_model.specs.declared.report.Report.TheVariants as line
 use Rattle.gr_model.specs.Net.{is_late, Net, is_host, keeps_horizon, numbers, numbers_from, not_empty}
 use Rattle.gr_model.specs.Broker.{joining, with_joins, drops, View, Log, Outcome, empty_log, learn, publish, wake, wake_host, wake_below, curiosity, receive, clashes, expect, place_of, with_event, is_kept, max_tick, started}
-use Rattle.gr_model.specs.World.{join_now, join_now_by, World, Transition, blank_view, view_of, log_of, absorbed, unchanged, followed_by, in_turn, wake_for, deliver_frame, frame_at, publish_now, publish_stopped, restarted, crash, next, show, opened_lines, kept_events, deliver_frame_by, next_by, publish_now_by, publish_stopped_by, wake_all_by, wake_for_by}
+use Rattle.gr_model.specs.World.{join_now_by, World, Transition, blank_view, view_of, log_of, absorbed, unchanged, followed_by, in_turn, frame_at, restarted, crash, show, opened_lines, kept_events, deliver_frame_by, next_by, publish_now_by, publish_stopped_by, wake_all_by, wake_for_by}
+use Rattle.gr_model_calls.specs.OneNet.{join_now, wake_for, deliver_frame, publish_now, publish_stopped, next}
 use Rattle.gr_model.specs.Headline.{join_line, Recorded, History, is_record_line, is_record_of, publish_line, unlogged_after, each_flag, may_crash, is_next}
 use Rattle.gr_model.specs.Tree.{IsNet}
 use Rattle.gr_model_calls.specs.Fits.{WorldFits, FrameTrue, HostKnows, StepIn, reached_in}

@@ -12,7 +12,8 @@ use Rattle.gr_know.specs.declared.values.K.TheVariants.{Q, F}
 use Rattle.gr_know.specs.Values.{Known, known_at, is_D}
 use Rattle.gr_model.specs.Net.{Net, is_host, is_empty, keeps_horizon, not_empty, numbers}
 use Rattle.gr_model.specs.Broker.{joining, View, Log, Outcome, empty_log, is_consolidated_by, all_A, publish, wake, receive, started, max_tick}
-use Rattle.gr_model.specs.World.{join_now, join_now_by, World, blank_view, view_of, log_of, absorbed, wake_for, deliver_frame, publish_now, restarted, start, wake_for_by, deliver_frame_by, publish_now_by}
+use Rattle.gr_model.specs.World.{join_now_by, World, blank_view, view_of, log_of, absorbed, restarted, start, wake_for_by, deliver_frame_by, publish_now_by}
+use Rattle.gr_model_calls.specs.OneNet.{join_now, wake_for, deliver_frame, publish_now}
 use Rattle.gr_model.specs.Tree.{IsNet}
 use Rattle.gr_model_calls.specs.Rules.{TakesJoin, Forgets, Knows, Asks, HostWakes, Wakes, Publishes, Comes}
 use Rattle.gr_model_calls.specs.Fits.{WorldFits, FrameTrue, reached_in}

@@ -10,7 +10,8 @@ use Rattle.gr_tick.specs.Runs.{zip_runs, first_bottom_from}
 use Rattle.gr_know.specs.Values.{Known, known_at, join_K, same_K}
 use Rattle.gr_model.specs.Net.{is_late, Net, is_host, keeps_horizon, not_empty, is_empty}
 use Rattle.gr_model.specs.Broker.{joining, with_join, with_joins, View, Log, Outcome, learn, publish, marking, wake, wake_host, wake_below, receive, silence, with_event, with_mark, max_tick}
-use Rattle.gr_model.specs.World.{join_now, join_now_by, World, view_of, log_of, absorbed, wake_for, deliver_frame, publish_now, deliver_frame_by, publish_now_by, wake_for_by}
+use Rattle.gr_model.specs.World.{join_now_by, World, view_of, log_of, absorbed, deliver_frame_by, publish_now_by, wake_for_by}
+use Rattle.gr_model_calls.specs.OneNet.{join_now, wake_for, deliver_frame, publish_now}
 use Rattle.gr_model_calls.specs.Truth.{Grows, HasEvent, KnowsTruth}
 use Rattle.gr_model_calls.specs.Fits.{facts, reached_in, LogFits, ViewTrue, HostKnows, FrameTrue, WorldFits}
 use Rattle.gr_model.specs.Tree.{IsNet}

@@ -11,7 +11,8 @@ use Rattle.gr_sched.specs.declared.step.Line.{Line}
 use Rattle.gr_model.specs.declared.report.Report.{Report}
 use Rattle.gr_model.specs.declared.report.Report.TheVariants as line
 use Rattle.gr_model.specs.Net.{Net, is_host, is_late, with_wants, wants_with}
-use Rattle.gr_model.specs.Headline.{Recorded, nothing_recorded, History, record_of, tick_of, is_next, recording, settling, marked, each_record, may_enter, with_joined, sweep_at, is_swept, greatest, says_kept, records_after, clock_after, most_after, gates_after, heard_after, unlogged_after, history_after, history, begin, expected, record_lines, IsDoubt, StepReports, Delivered, InOrder, Holds_from_by, Holds_from, recorded_net, last_horizon, delivered_events}
+use Rattle.gr_model.specs.Headline.{Recorded, nothing_recorded, History, record_of, tick_of, is_next, recording, settling, marked, each_record, may_enter, with_joined, sweep_at, is_swept, greatest, says_kept, records_after, clock_after, most_after, gates_after, heard_after, unlogged_after, history_after, history, begin, expected, record_lines, IsDoubt, StepReports, Delivered, InOrder, Holds_from_by, recorded_net, last_horizon, delivered_events}
+use Rattle.gr_model_calls.specs.OneNet.{Holds_from}
 use Rattle.gr_model_calls.specs.Truth.{Grows, Holds}
 use Rattle.gr_model_calls.proofs.calls.Told.{TicksUpto}
 use Rattle.gr_model_calls.proofs.calls.Held.{shows, grows_not, grows_on, NoneBelow-lower}

@@ -27,7 +27,8 @@ use Rattle.gr_sched.specs.declared.step.Line.{Line}
 use Rattle.gr_model.specs.declared.report.Report.TheVariants as line
 use Rattle.gr_model.specs.Net.{Net, is_late, not_empty, numbers}
 use Rattle.gr_model.specs.Broker.{Log, Outcome, max_tick, empty_log, with_event, is_kept, publish, joining, wake, receive, started}
-use Rattle.gr_model.specs.World.{World, Transition, blank_view, view_of, log_of, absorbed, unchanged, followed_by, in_turn, wake_for, wake_all, deliver_frame, publish_now, sweep_for, sweep, sweep_moment, frame_at, join_now, join_now_by, restarted, crash, publish_stopped, opened_lines, next, start, show, run_all, deliver_frame_by, next_by, publish_now_by, publish_stopped_by, sweep_by, wake_for_by}
+use Rattle.gr_model.specs.World.{World, Transition, blank_view, view_of, log_of, absorbed, unchanged, followed_by, in_turn, sweep_moment, frame_at, join_now_by, restarted, crash, opened_lines, start, show, deliver_frame_by, next_by, publish_now_by, publish_stopped_by, sweep_by, wake_for_by}
+use Rattle.gr_model_calls.specs.OneNet.{wake_for, wake_all, deliver_frame, publish_now, sweep_for, sweep, join_now, publish_stopped, next, run_all}
 use Rattle.gr_model_calls.specs.Truth.{Facts}
 use Rattle.gr_model.specs.Tree.{IsNet}
 use Rattle.gr_model_calls.specs.Fits.{facts_of, BodyTrue, FrameTrue, AllFramesTrue, WorldFits, StepIn, StepsIn}

@@ -8,7 +8,8 @@ use Rattle.gr_model.specs.declared.report.Report.{Report}
 use Rattle.gr_model.specs.Net.{Net}
 use Rattle.gr_model.specs.Broker.{Log}
 use Rattle.gr_model.specs.Tree.{IsNet, IsDistinct}
-use Rattle.gr_model.specs.World.{Transition, run_from}
+use Rattle.gr_model.specs.World.{Transition}
+use Rattle.gr_model_calls.specs.OneNet.{run_from}
 use Rattle.gr_model.specs.Opening.{begin_over}
 use Rattle.gr_model.specs.Orders.{Order, fed, ordered, without_ordered, orders_over, ordered_steps}
 use Rattle.gr_model.specs.Ordered.{OneOrder}

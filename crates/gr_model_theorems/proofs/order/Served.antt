@@ -17,10 +17,11 @@ use Rattle.gr_model.specs.declared.report.Report.{Report}
 use Rattle.gr_model.specs.Net.{Net, numbers}
 use Rattle.gr_model.specs.Tree.{IsNet, IsSubscriber, IsDistinct}
 use Rattle.gr_model.specs.Broker.{Log}
-use Rattle.gr_model.specs.World.{World, Transition, next, run_all, run_from}
+use Rattle.gr_model.specs.World.{World, Transition}
+use Rattle.gr_model_calls.specs.OneNet.{next, run_all, run_from, comes, served_from, served}
 use Rattle.gr_model.specs.Opening.{begin_over}
 use Rattle.gr_model.specs.Headline.{History, history}
-use Rattle.gr_model.specs.Arrivals.{Arrival, datagram, quiet, Publish, publisher_of, submitted_in, publishes_of, left_after, comes, show_hosted, served_from, served, served_from_by, served_by}
+use Rattle.gr_model.specs.Arrivals.{Arrival, datagram, quiet, Publish, publisher_of, submitted_in, publishes_of, left_after, show_hosted, served_from_by, served_by}
 use Rattle.gr_model.specs.Orders.{Order, fed, ordered, without_ordered, orders_over, ordered_steps}
 use Rattle.gr_model_calls.specs.Fits.{WorldFits, StepIn, StepsIn}
 use Rattle.gr_model_theorems.specs.Found.{AreReopened}

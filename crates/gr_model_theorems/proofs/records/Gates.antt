@@ -18,7 +18,8 @@ use Rattle.gr_model.specs.declared.report.Report.{Report}
 use Rattle.gr_model.specs.declared.report.Report.TheVariants as line
 use Rattle.gr_model.specs.Net.{Net, is_host, keeps_horizon, not_empty, numbers, numbers_from}
 use Rattle.gr_model.specs.Broker.{joining, with_join, View, Log, Outcome, empty_log, learn, publish, marking, cutting, wake, wake_host, wake_below, asking, receive, done_upto, consolidated, silence, with_event, with_mark, with_cut, is_kept, max_tick}
-use Rattle.gr_model.specs.World.{join_now, join_now_by, World, Transition, view_of, log_of, absorbed, unchanged, followed_by, in_turn, sent_line, sent_lines, wake_for, wake_all, deliver_frame, frame_at, publish_now, publish_stopped, crash, restarted, opened_lines, sweep, sweep_for, sweep_moment, next, start, next_by, publish_now_by, publish_stopped_by, deliver_frame_by, sweep_by, wake_for_by}
+use Rattle.gr_model.specs.World.{join_now_by, World, Transition, view_of, log_of, absorbed, unchanged, followed_by, in_turn, sent_line, sent_lines, frame_at, crash, restarted, opened_lines, sweep_moment, start, next_by, publish_now_by, publish_stopped_by, deliver_frame_by, sweep_by, wake_for_by}
+use Rattle.gr_model_calls.specs.OneNet.{join_now, wake_for, wake_all, deliver_frame, publish_now, publish_stopped, sweep, sweep_for, next}
 use Rattle.gr_model.specs.Headline.{may_enter, join_room, History, record_of, is_next, is_mark_of, first_gate, event_room, mark_room, gates_told, gates_after, says_kept, may_crash, begin}
 use Rattle.gr_model.specs.Headline as headline
 use Rattle.gr_model.specs.Opening.{reopened_log, begin_over}

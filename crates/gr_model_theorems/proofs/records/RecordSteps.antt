@@ -15,7 +15,8 @@ use Rattle.gr_model.specs.declared.report.Report.{Report}
 use Rattle.gr_model.specs.declared.report.Report.TheVariants as line
 use Rattle.gr_model.specs.Net.{Net, keeps_horizon, numbers, numbers_from, not_empty}
 use Rattle.gr_model.specs.Broker.{Log, empty_log, with_event, is_kept, max_tick}
-use Rattle.gr_model.specs.World.{World, Transition, view_of, log_of, unchanged, followed_by, in_turn, wake_all, deliver_frame, frame_at, publish_now, publish_stopped, crash, restarted, opened_lines, sweep, sweep_for, sweep_moment, next, show, kept_events, next_by, publish_stopped_by, sweep_by, wake_all_by}
+use Rattle.gr_model.specs.World.{World, Transition, view_of, log_of, unchanged, followed_by, in_turn, frame_at, crash, restarted, opened_lines, sweep_moment, show, kept_events, next_by, publish_stopped_by, sweep_by, wake_all_by}
+use Rattle.gr_model_calls.specs.OneNet.{wake_all, deliver_frame, publish_now, publish_stopped, sweep, sweep_for, next}
 use Rattle.gr_model.specs.Headline.{join_line, Recorded, History, nothing_recorded, reopened_cut, record_of, is_record_line, is_sent, sent_count, record_lines, records_after, publish_line, opened_of, last_cut, count_past, is_next, tick_of, says_kept, may_crash, is_swept, sweep_at}
 use Rattle.gr_model.specs.Headline as headline
 use Rattle.gr_model.specs.Tree.{IsNet}

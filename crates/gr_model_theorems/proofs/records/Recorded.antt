@@ -15,7 +15,8 @@ use Rattle.gr_model.specs.declared.report.Report.TheVariants as line
 use Rattle.gr_model.specs.Net.{Net, is_host, not_empty, numbers, numbers_from}
 use Rattle.gr_model.specs.Broker.{joining, Log, empty_log, publish, with_event, is_kept, max_tick}
 use Rattle.gr_model.specs.World as world
-use Rattle.gr_model.specs.World.{join_now, join_now_by, World, Transition, view_of, log_of, absorbed, unchanged, in_turn, wake_for, wake_all, deliver_frame, frame_at, publish_now, publish_stopped, crash, restarted, sweep, sweep_for, sweep_moment, next, start, opened_lines, run_all, run_from, next_by, publish_now_by, publish_stopped_by, run_from_by, sweep_by, wake_all_by}
+use Rattle.gr_model.specs.World.{join_now_by, World, Transition, view_of, log_of, absorbed, unchanged, in_turn, frame_at, crash, restarted, sweep_moment, start, opened_lines, next_by, publish_now_by, publish_stopped_by, run_from_by, sweep_by, wake_all_by}
+use Rattle.gr_model_calls.specs.OneNet.{join_now, wake_for, wake_all, deliver_frame, publish_now, publish_stopped, sweep, sweep_for, next, run_all, run_from}
 use Rattle.gr_model.specs.Headline.{may_enter, with_joined, Recorded, History, nothing_recorded, record_of, recording, settling, marked, is_next, greatest, sweep_at, is_swept, each_record, records_after, clock_after, most_after, history_after, history, begin, expected, delivered_events, last_horizon, HorizonsRise, GetsExactly, says_kept}
 use Rattle.gr_model_calls.proofs.calls.Telling.{steady_rises}
 use Rattle.gr_model_calls.specs.Said.{due_upto}

@@ -23,11 +23,12 @@ use Rattle.gr_model.specs.declared.report.Report.{Report}
 use Rattle.gr_model.specs.declared.report.Report.TheVariants as line
 use Rattle.gr_model.specs.Net.{Net, not_empty, numbers}
 use Rattle.gr_model.specs.Broker.{max_tick, clashes}
-use Rattle.gr_model.specs.World.{World, Transition, view_of, unchanged, followed_by, in_turn, deliver_frame, frame_at, publish_now, wake_all, sent_line, sent_lines, next, run_all, next_by}
+use Rattle.gr_model.specs.World.{World, Transition, view_of, unchanged, followed_by, in_turn, frame_at, sent_line, sent_lines, next_by}
+use Rattle.gr_model_calls.specs.OneNet.{deliver_frame, publish_now, wake_all, next, run_all, takes, receives, notes, reads, published_first, quieted, comes}
 use Rattle.gr_model_calls.specs.Edges.{GoesBetween, GoesOverEdge}
 use Rattle.gr_model.specs.Headline.{is_sent, sent_number}
 use Rattle.gr_model_theorems.specs.Replies.{frame_of_line}
-use Rattle.gr_model.specs.Arrivals.{joins_in, split_line, Arrival, datagram, quiet, Publish, at_moment, fits_broker, clash_runs, first_of, least_clash, clash_line, fault_number, publisher_of, submitted_in, takes, receives, notes, reads, published_first, quieted, comes, comes_by, quieted_by, receives_by, takes_by, notes_by}
+use Rattle.gr_model.specs.Arrivals.{joins_in, split_line, Arrival, datagram, quiet, Publish, at_moment, fits_broker, clash_runs, first_of, least_clash, clash_line, fault_number, publisher_of, submitted_in, comes_by, quieted_by, receives_by, takes_by, notes_by}
 use Rattle.gr_model_theorems.specs.Served.{tells_bytes, number_of_bytes, as_line, publish_step, delivery_step, is_frame, submitted_step, note_step, datagram_step, steps_at, dropped_as, unsubmitted_as, note_dropped_as, datagram_dropped, dropped_line}
 use Rattle.gr_model.specs.Tree.{IsNet}
 use Rattle.gr_model_calls.specs.Fits.{WorldFits}

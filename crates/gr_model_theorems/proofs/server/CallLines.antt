@@ -14,10 +14,11 @@ use Rattle.gr_model.specs.declared.report.Report.{Report}
 use Rattle.gr_model.specs.declared.report.Report.TheVariants as line
 use Rattle.gr_model.specs.Net.{Net, is_host, numbers}
 use Rattle.gr_model.specs.Broker.{View, Log, Outcome, max_tick, marking, cutting, wake, wake_host, wake_below, asking, publish, receive}
-use Rattle.gr_model.specs.World.{World, Transition, view_of, log_of, absorbed, in_turn, sent_line, sent_lines, wake_for, wake_all, deliver_frame, publish_now, deliver_frame_by, publish_now_by, wake_all_by, wake_for_by}
+use Rattle.gr_model.specs.World.{World, Transition, view_of, log_of, absorbed, in_turn, sent_line, sent_lines, deliver_frame_by, publish_now_by, wake_all_by, wake_for_by}
+use Rattle.gr_model_calls.specs.OneNet.{wake_for, wake_all, deliver_frame, publish_now, published_first, quieted}
 use Rattle.gr_model.specs.Headline.{Recorded, publish_line}
 use Rattle.gr_model_theorems.specs.Replies.{is_reply}
-use Rattle.gr_model.specs.Arrivals.{Publish, published_first, quieted, quieted_by}
+use Rattle.gr_model.specs.Arrivals.{Publish, quieted_by}
 use Rattle.gr_model_theorems.specs.Served.{is_dropped}
 use Rattle.gr_model_theorems.proofs.records.Records.{core}
 use Rattle.gr_model_theorems.proofs.records.RecordLines.{Skips, host_lines, receive_none, publish_some, marking_none}

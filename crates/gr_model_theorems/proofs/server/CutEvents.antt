@@ -21,7 +21,8 @@ use Rattle.gr_model.specs.declared.report.Report.TheVariants as line
 use Rattle.gr_pubend.specs.declared.answers.Joined.TheVariants as joins
 use Rattle.gr_model.specs.Net.{Net, is_host, keeps_horizon, not_empty, numbers}
 use Rattle.gr_model.specs.Broker.{joining, joining_by, joined_at, with_join, with_joins, drops, View, Log, Outcome, empty_log, event_at, log_at, log_know, with_event, with_mark, with_cut, silence, learn, receive, clashes, curiosity, expect, asking, place_of, published, quieted, publish, publish_by, marking, marking_by, cutting, wake, wake_host, wake_below, expect_frames, started, done_upto, consolidated, is_kept, max_tick}
-use Rattle.gr_model.specs.World.{join_now, join_now_by, World, Transition, view_of, log_of, absorbed, unchanged, followed_by, in_turn, wake_for, wake_all, deliver_frame, frame_at, publish_now, publish_stopped, opened_lines, restarted, crash, greatest_settled, sweep_moment, sweep, sweep_for, deliver_up, wake_up, hand_down, is_want, is_know_to, inwards, outwards, frames_past, sent_since, kept_events, show, next, run_from, wake_for_by, wake_all_by, deliver_frame_by, publish_now_by, publish_stopped_by, deliver_up_by, wake_up_by, hand_down_by, sweep_for_by, sweep_by, next_by, run_from_by}
+use Rattle.gr_model.specs.World.{join_now_by, World, Transition, view_of, log_of, absorbed, unchanged, followed_by, in_turn, frame_at, opened_lines, restarted, crash, greatest_settled, sweep_moment, is_want, is_know_to, inwards, outwards, frames_past, sent_since, kept_events, show, wake_for_by, wake_all_by, deliver_frame_by, publish_now_by, publish_stopped_by, deliver_up_by, wake_up_by, hand_down_by, sweep_for_by, sweep_by, next_by, run_from_by}
+use Rattle.gr_model_calls.specs.OneNet.{join_now, wake_for, wake_all, deliver_frame, publish_now, publish_stopped, sweep, sweep_for, deliver_up, wake_up, hand_down, next, run_from}
 use Rattle.gr_pubend.specs.declared.answers.Published.TheVariants.{Logged, Already, Gap, Exhausted}
 use Rattle.gr_pubend.specs.declared.answers.Quieted.TheVariants.{NotYet, Marked}
 use Rattle.gr_model_calls.proofs.calls.HostCases.{news_of}

@@ -11,7 +11,8 @@ use Rattle.gr_sched.specs.declared.step.Line.{Line}
 use Rattle.gr_model.specs.declared.report.Report.{Report}
 use Rattle.gr_model.specs.Net.{Net}
 use Rattle.gr_model.specs.Tree.{IsNet}
-use Rattle.gr_model.specs.World.{World, Transition, start, next, run_all, run_from, run_from_by}
+use Rattle.gr_model.specs.World.{World, Transition, start, run_from_by}
+use Rattle.gr_model_calls.specs.OneNet.{next, run_all, run_from}
 use Rattle.gr_model.specs.Headline.{History, history, begin, is_sent}
 use Rattle.gr_model.specs.Arrivals.{Arrival, Publish, left_after}
 use Rattle.gr_model_calls.specs.Fits.{WorldFits, StepIn, StepsIn}

@@ -30,10 +30,10 @@ use Rattle.gr_model.specs.declared.report.Report.{Report}
 use Rattle.gr_model.specs.declared.report.Report.TheVariants as line
 use Rattle.gr_model.specs.Net.{Net, keeps_horizon, not_empty, numbers}
 use Rattle.gr_model.specs.Broker.{View, Log, empty_log, with_event, max_tick, learn, started}
-use Rattle.gr_model.specs.World.{World, Transition, view_of, log_of, unchanged, in_turn, absorbed, wake_all, deliver_frame, publish_now, kept_events, next, run_all, run_from}
-use Rattle.gr_model.specs.Opening.{reopened_log, over_logs, reopened_line, opened_for, publishers_at, opening, begin_over, opened_for_by, opening_by}
-use Rattle.gr_model.specs.Headline.{Holds_from}
-use Rattle.gr_model.specs.Arrivals.{joins_in, split_line, Arrival, datagram, quiet, Publish, publishes_of, left_after, at_moment, fits_broker, least_clash, clash_line, fault_number, publisher_of, submitted_in, takes, receives, notes, reads, published_first, quieted, comes, is_hosted, show_hosted, served_from, served, arrived, takes_by, receives_by, notes_by, quieted_by, comes_by, served_from_by, arrived_by, served_by}
+use Rattle.gr_model.specs.World.{World, Transition, view_of, log_of, unchanged, in_turn, absorbed, kept_events}
+use Rattle.gr_model_calls.specs.OneNet.{wake_all, deliver_frame, publish_now, next, run_all, run_from, opened_for, opening, Holds_from, takes, receives, notes, reads, published_first, quieted, comes, served_from, served, arrived}
+use Rattle.gr_model.specs.Opening.{reopened_log, over_logs, reopened_line, publishers_at, begin_over, opened_for_by, opening_by}
+use Rattle.gr_model.specs.Arrivals.{joins_in, split_line, Arrival, datagram, quiet, Publish, publishes_of, left_after, at_moment, fits_broker, least_clash, clash_line, fault_number, publisher_of, submitted_in, is_hosted, show_hosted, takes_by, receives_by, notes_by, quieted_by, comes_by, served_from_by, arrived_by, served_by}
 use Rattle.gr_model.specs.Tree.{IsNet}
 use Rattle.gr_model_calls.specs.Said.{said_at, TicksRise}
 use Rattle.gr_model_calls.specs.Fits.{StepsIn}

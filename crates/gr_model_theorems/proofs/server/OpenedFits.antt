@@ -6,7 +6,8 @@ use Rattle.gr_model.specs.declared.report.Report.{Report}
 use Rattle.gr_model.specs.Net.{Net, not_empty, numbers}
 use Rattle.gr_model.specs.Broker.{Log, learn}
 use Rattle.gr_model.specs.World.{World, Transition, view_of, log_of, absorbed, unchanged, in_turn}
-use Rattle.gr_model.specs.Opening.{reopened_log, over_logs, opened_for, publishers_at, opened_for_by, opening_by}
+use Rattle.gr_model.specs.Opening.{reopened_log, over_logs, publishers_at, opened_for_by, opening_by}
+use Rattle.gr_model_calls.specs.OneNet.{opened_for}
 use Rattle.gr_model.specs.Tree.{IsNet}
 use Rattle.gr_model_calls.specs.Fits.{StepsIn}
 use Rattle.gr_model_theorems.specs.Found.{AreReopened}

@@ -19,8 +19,9 @@ use Rattle.gr_model.specs.declared.report.Report.{Report}
 use Rattle.gr_model.specs.declared.report.Report.TheVariants as line
 use Rattle.gr_model.specs.Net.{all_late, Net, keeps_horizon, not_empty, is_empty, numbers}
 use Rattle.gr_model.specs.Broker.{with_joins, drops, View, Log, Outcome, empty_log, head, learn, receive, clashes, new_ticks, forward, forward_frames, know_frames, started}
-use Rattle.gr_model.specs.World.{World, Transition, blank_view, view_of, log_of, absorbed, unchanged, in_turn, deliver_frame, sent_lines, deliver_frame_by}
-use Rattle.gr_model.specs.Opening.{reopened_log, over_logs, reopened_line, opened_for, opened_for_by}
+use Rattle.gr_model.specs.World.{World, Transition, blank_view, view_of, log_of, absorbed, unchanged, in_turn, sent_lines, deliver_frame_by}
+use Rattle.gr_model_calls.specs.OneNet.{deliver_frame, opened_for}
+use Rattle.gr_model.specs.Opening.{reopened_log, over_logs, reopened_line, opened_for_by}
 use Rattle.gr_model_theorems.specs.Found.{IsReopened, AreReopened}
 use Rattle.gr_model_calls.specs.Truth.{Holds, HasEvent, Facts, KnowsTruth, AllWantTruth}
 use Rattle.gr_model_calls.specs.Said.{TicksRise, due_upto}

@@ -7,8 +7,9 @@ use Rattle.gr_sched.specs.declared.step.Line.{Line}
 use Rattle.gr_model.specs.declared.report.Report.{Report}
 use Rattle.gr_model.specs.Net.{Net, not_empty, numbers}
 use Rattle.gr_model.specs.Broker.{with_joins, Log}
-use Rattle.gr_model.specs.World.{view_of, World, Transition, log_of, absorbed, unchanged, run_from, run_all}
-use Rattle.gr_model.specs.Opening.{over_logs, reopened_line, opened_for, opened_for_by, publishers_at, opening, opening_by}
+use Rattle.gr_model.specs.World.{view_of, World, Transition, log_of, absorbed, unchanged}
+use Rattle.gr_model_calls.specs.OneNet.{run_from, run_all, opened_for, opening}
+use Rattle.gr_model.specs.Opening.{over_logs, reopened_line, opened_for_by, publishers_at, opening_by}
 use Rattle.gr_model.specs.Tree.{IsNet}
 use Rattle.gr_model_calls.specs.Fits.{WorldFits, StepsIn}
 use Rattle.gr_model_theorems.specs.Found.{AreReopened}

@@ -8,10 +8,11 @@ use Rattle.gr_sched.specs.declared.step.Line.{Line}
 use Rattle.gr_model.specs.declared.report.Report.{Report}
 use Rattle.gr_model.specs.Net.{Net, is_host, not_empty, numbers}
 use Rattle.gr_model.specs.Broker.{Log}
-use Rattle.gr_model.specs.World.{Transition, view_of, log_of, sent_lines, run_from}
-use Rattle.gr_model.specs.Opening.{reopened_log, over_logs, publishers_at, opening, recorded_of, begin_over, opening_by}
+use Rattle.gr_model.specs.World.{Transition, view_of, log_of, sent_lines}
+use Rattle.gr_model_calls.specs.OneNet.{run_from, opening, Holds_from}
+use Rattle.gr_model.specs.Opening.{reopened_log, over_logs, publishers_at, recorded_of, begin_over, opening_by}
 use Rattle.gr_model_theorems.specs.Found.{AreReopened}
-use Rattle.gr_model.specs.Headline.{Holds_from, reopened_cut, Recorded}
+use Rattle.gr_model.specs.Headline.{reopened_cut, Recorded}
 use Rattle.gr_model.specs.Tree.{IsNet}
 use Rattle.gr_model_calls.specs.Fits.{StepsIn}
 use Rattle.gr_model_calls.proofs.runs.Worlds.{Each, numbers_below}

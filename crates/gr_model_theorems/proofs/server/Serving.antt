@@ -26,9 +26,10 @@ use Rattle.gr_model.specs.declared.report.Report.{Report}
 use Rattle.gr_model.specs.declared.report.Report.TheVariants as line
 use Rattle.gr_model.specs.Net.{Net, keeps_horizon, numbers, numbers_from}
 use Rattle.gr_model.specs.Broker.{max_tick}
-use Rattle.gr_model.specs.World.{World, Transition, view_of, log_of, unchanged, sent_lines, next, show, run_from, run_all, kept_events, next_by, run_from_by}
+use Rattle.gr_model.specs.World.{World, Transition, view_of, log_of, unchanged, sent_lines, show, kept_events, next_by, run_from_by}
+use Rattle.gr_model_calls.specs.OneNet.{next, run_from, run_all, comes, served_from}
 use Rattle.gr_model_calls.specs.Edges.{GoesOverEdge}
-use Rattle.gr_model.specs.Arrivals.{Arrival, datagram, quiet, Publish, fault_number, publisher_of, takes_notes, submitted_in, is_hosted, is_scheduled, publishes_in, publishes_of, left_after, comes, show_hosted, served_from, served_from_by}
+use Rattle.gr_model.specs.Arrivals.{Arrival, datagram, quiet, Publish, fault_number, publisher_of, takes_notes, submitted_in, is_hosted, is_scheduled, publishes_in, publishes_of, left_after, show_hosted, served_from_by}
 use Rattle.gr_model_theorems.specs.Served.{IsOfBytes, number_of_bytes, IsHonestAt, IsHonest, DoesSteps, AllDoSteps, as_line, publish_step, delivery_step, is_frame, submitted_step, note_step, datagram_step, steps_at, steps_of_arrival, dropped_as, unsubmitted_as, note_dropped_as, dropped_line, is_dropped, ArrivalTold, ArrivalHoldsAt, ShowHolds, HoldsServed}
 use Rattle.gr_model_theorems.specs.Spelled.{IsInLimits, NumbersIn, IsSpelled}
 use Rattle.gr_model.specs.Headline.{History, history, is_record_line, is_doubt_line, is_sent, sent_number}

@@ -10,7 +10,8 @@ use Rattle.gr_know.specs.Values.{Known, known_at}
 use Rattle.gr_curio.specs.Values.{wanted_at}
 use Rattle.gr_model.specs.Net.{Net, is_host, pass}
 use Rattle.gr_model.specs.Broker.{View, Log, Outcome, learn, marking, cutting, silence, with_mark, wake, wake_host, wake_below, expect_frames}
-use Rattle.gr_model.specs.World.{World, view_of, log_of, wake_for, wake_up, deliver_up, frames_past, sent_since, is_want, deliver_up_by, wake_for_by, wake_up_by}
+use Rattle.gr_model.specs.World.{World, view_of, log_of, frames_past, sent_since, is_want, deliver_up_by, wake_for_by, wake_up_by}
+use Rattle.gr_model_calls.specs.OneNet.{wake_for, wake_up, deliver_up}
 use Rattle.gr_model.specs.Tree.{IsNet, IsPlace}
 use Rattle.gr_model_calls.specs.Fits.{WorldFits, ViewTrue, LogFits, facts}
 use Rattle.gr_model_calls.proofs.calls.HostCases.{marking_cases}

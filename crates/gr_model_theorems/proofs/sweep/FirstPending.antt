@@ -13,7 +13,8 @@ use Rattle.gr_know.specs.Values.{known_at, is_Q}
 use Rattle.gr_curio.specs.Values.{Wanted, wanted_at, asked_at, is_C, is_outstanding}
 use Rattle.gr_model.specs.Net.{Net, is_host, keeps_horizon}
 use Rattle.gr_model.specs.Broker.{View, Outcome, any_C, is_consolidated_by, place_of, curiosity, receive}
-use Rattle.gr_model.specs.World.{World, view_of, log_of, deliver_frame, frames_past, sent_since, is_want}
+use Rattle.gr_model.specs.World.{World, view_of, log_of, frames_past, sent_since, is_want}
+use Rattle.gr_model_calls.specs.OneNet.{deliver_frame}
 use Rattle.gr_model.specs.Tree.{IsNet}
 use Rattle.gr_model_calls.specs.Fits.{WorldFits, FrameTrue, BodyTrue, BodyFits, facts_of}
 use Rattle.gr_model_calls.proofs.runs.Worlds.{Each}

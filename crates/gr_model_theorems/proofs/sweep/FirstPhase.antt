@@ -10,7 +10,8 @@ use Rattle.gr_know.specs.Values.{known_at, is_Q}
 use Rattle.gr_curio.specs.Values.{wanted_at, asked_at}
 use Rattle.gr_model.specs.Net.{Net, is_host, keeps_horizon}
 use Rattle.gr_model.specs.Broker.{View, Outcome, any_C, wake}
-use Rattle.gr_model.specs.World.{World, blank_view, view_of, log_of, in_turn, wake_for, wake_up, frames_past}
+use Rattle.gr_model.specs.World.{World, blank_view, view_of, log_of, in_turn, frames_past}
+use Rattle.gr_model_calls.specs.OneNet.{wake_for, wake_up}
 use Rattle.gr_model.specs.Tree.{IsNet}
 use Rattle.gr_model_calls.specs.Fits.{WorldFits, facts_of, reached_in}
 use Rattle.gr_model_calls.proofs.calls.CallTruth.{true_settled}

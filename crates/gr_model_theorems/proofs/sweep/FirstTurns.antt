@@ -6,7 +6,8 @@ use Rattle.std.specs.List.{list_any}
 use Rattle.std.proofs.lemmas.Bool.{eq-eqb, false≢true, or_left, or_right, or_cases}
 use Rattle.gr_model.specs.Headline.{Recorded}
 use Rattle.gr_model.specs.Net.{Net, is_host}
-use Rattle.gr_model.specs.World.{World, in_turn, wake_for, wake_up, sent_since, is_want, wake_up_by}
+use Rattle.gr_model.specs.World.{World, in_turn, sent_since, is_want, wake_up_by}
+use Rattle.gr_model_calls.specs.OneNet.{wake_for, wake_up}
 use Rattle.gr_model.specs.Tree.{IsNet}
 use Rattle.gr_model_calls.specs.Fits.{WorldFits}
 use Rattle.gr_model_calls.proofs.runs.Worlds.{Each, wake_for_kept, wake_up_kept, filter_frames, frames_past_true}

@@ -13,7 +13,8 @@ use Rattle.gr_curio.specs.Values.{Wanted, wanted_at, asked_at, is_C, is_outstand
 use Rattle.gr_tick.specs.Runs.{top_of}
 use Rattle.gr_model.specs.Net.{Net, is_host, keeps_horizon}
 use Rattle.gr_model.specs.Broker.{View, Outcome, any_C, is_consolidated_by, wake, up_frames, wanted_at_wake}
-use Rattle.gr_model.specs.World.{World, view_of, log_of, wake_for, wake_up, frames_past, sent_since, is_want, wake_up_by}
+use Rattle.gr_model.specs.World.{World, view_of, log_of, frames_past, sent_since, is_want, wake_up_by}
+use Rattle.gr_model_calls.specs.OneNet.{wake_for, wake_up}
 use Rattle.gr_model.specs.Tree.{IsNet}
 use Rattle.gr_model_calls.specs.Fits.{WorldFits}
 use Rattle.gr_model_calls.proofs.runs.Worlds.{Each, wake_for_kept, filter_frames, frames_past_true}

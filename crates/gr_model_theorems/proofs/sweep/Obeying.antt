@@ -15,7 +15,8 @@ use Rattle.gr_frame.specs.Bytes.{frame_bytes}
 use Rattle.gr_model.specs.Net.{Net, keeps_horizon, not_empty, numbers}
 use Rattle.gr_model_calls.specs.Rules.{TakesJoin, Publishes, Wakes, Comes}
 use Rattle.gr_model.specs.Broker.{joining, View, Log, Outcome, started, with_event, is_kept, max_tick, publish, wake, receive}
-use Rattle.gr_model.specs.World.{join_now, join_now_by, absorbed, World, Transition, is_want, inwards, outwards, view_of, log_of, unchanged, in_turn, wake_for, wake_all, deliver_frame, frame_at, publish_now, opened_lines, restarted, crash, publish_stopped, sweep, sweep_moment, kept_events, show, next, start, run_from, report_of, deliver_frame_by, next_by, publish_now_by, publish_stopped_by, report_of_by, run_from_by, sweep_by, wake_all_by, wake_for_by}
+use Rattle.gr_model.specs.World.{join_now_by, absorbed, World, Transition, is_want, inwards, outwards, view_of, log_of, unchanged, in_turn, frame_at, opened_lines, restarted, crash, sweep_moment, kept_events, show, start, deliver_frame_by, next_by, publish_now_by, publish_stopped_by, report_of_by, run_from_by, sweep_by, wake_all_by, wake_for_by}
+use Rattle.gr_model_calls.specs.OneNet.{join_now, wake_for, wake_all, deliver_frame, publish_now, publish_stopped, sweep, next, run_from, report_of}
 use Rattle.gr_model.specs.Tree.{IsNet}
 use Rattle.gr_model_calls.specs.Fits.{WorldFits, StepIn, StepsIn, reached_in}
 use Rattle.gr_model.specs.Headline.{says_kept}

@@ -11,7 +11,8 @@ use Rattle.gr_frame.specs.declared.Frame.{Frame}
 use Rattle.gr_curio.specs.Values.{Wanted, wanted_at, asked_at}
 use Rattle.gr_model.specs.Net.{Net, is_host}
 use Rattle.gr_model.specs.Broker.{receive}
-use Rattle.gr_model.specs.World.{World, view_of, log_of, deliver_frame, frames_past, sent_since, is_want}
+use Rattle.gr_model.specs.World.{World, view_of, log_of, frames_past, sent_since, is_want}
+use Rattle.gr_model_calls.specs.OneNet.{deliver_frame}
 use Rattle.gr_model.specs.Tree.{IsNet}
 use Rattle.gr_model_calls.specs.Fits.{WorldFits, FrameTrue}
 use Rattle.gr_model_calls.proofs.rules.SweepAsks.{AsksNow}

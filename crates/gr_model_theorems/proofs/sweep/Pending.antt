@@ -4,7 +4,8 @@ use Rattle.std.proofs.Common.{◌≡◌, ℕ, suc, zero, ◌<◌, List, [], ◌�
 use Rattle.std.specs.Prelude.{filter}
 use Rattle.gr_frame.specs.declared.Frame.{Frame}
 use Rattle.gr_model.specs.Net.{Net}
-use Rattle.gr_model.specs.World.{World, Transition, deliver_frame, deliver_up, followed_by, in_turn, sent_since, is_want, deliver_up_by}
+use Rattle.gr_model.specs.World.{World, Transition, followed_by, in_turn, sent_since, is_want, deliver_up_by}
+use Rattle.gr_model_calls.specs.OneNet.{deliver_frame, deliver_up}
 use Rattle.gr_model.specs.Tree.{IsNet}
 use Rattle.gr_model_calls.specs.Fits.{WorldFits, FrameTrue}
 use Rattle.gr_model_calls.proofs.runs.Worlds.{Each, Kept, Kept-after, FrameTrue-later, deliver_kept, deliver_up_kept, filter_frames, frames_past_true}

@@ -12,7 +12,8 @@ use Rattle.gr_know.specs.Values.{known_at}
 use Rattle.gr_curio.specs.Values.{Wanted, asked_at}
 use Rattle.gr_model.specs.Net.{Net, is_host, keeps_horizon, numbers_from}
 use Rattle.gr_model.specs.Broker.{View, Outcome, wake, receive, is_consolidated_by}
-use Rattle.gr_model.specs.World.{World, view_of, log_of, absorbed, in_turn, wake_for, deliver_frame, wake_up, sweep_for, inwards, numbers_down, frames_past, is_want, deliver_frame_by, sweep_for_by, wake_for_by}
+use Rattle.gr_model.specs.World.{World, view_of, log_of, absorbed, in_turn, inwards, numbers_down, frames_past, is_want, deliver_frame_by, sweep_for_by, wake_for_by}
+use Rattle.gr_model_calls.specs.OneNet.{wake_for, deliver_frame, wake_up, sweep_for}
 use Rattle.gr_model.specs.Tree.{IsNet}
 use Rattle.gr_model_calls.specs.Fits.{WorldFits, FrameTrue, reached_in}
 use Rattle.gr_model_calls.proofs.calls.Calls.{wake_call, receive_call}

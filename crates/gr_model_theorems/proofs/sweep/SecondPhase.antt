@@ -12,7 +12,8 @@ use Rattle.gr_know.specs.Values.{known_at, is_Q}
 use Rattle.gr_curio.specs.Values.{Wanted, wanted_at, asked_at, is_C}
 use Rattle.gr_model.specs.Net.{Net, is_host, keeps_horizon}
 use Rattle.gr_model.specs.Broker.{View, any_C, place_of}
-use Rattle.gr_model.specs.World.{World, view_of, log_of, hand_down, frames_past}
+use Rattle.gr_model.specs.World.{World, view_of, log_of, frames_past}
+use Rattle.gr_model_calls.specs.OneNet.{hand_down}
 use Rattle.gr_model.specs.Tree.{IsNet}
 use Rattle.gr_model_calls.specs.Fits.{WorldFits}
 use Rattle.gr_model_theorems.proofs.heard.Heard.{cases_Q}

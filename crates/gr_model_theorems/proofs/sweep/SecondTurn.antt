@@ -17,7 +17,8 @@ use Rattle.gr_know.specs.Values.{Known, known_at, is_Q, join_K, same_K}
 use Rattle.gr_curio.specs.Values.{Wanted, wanted_at, asked_at, is_C}
 use Rattle.gr_model.specs.Net.{Net, keeps_horizon, pass}
 use Rattle.gr_model.specs.Broker.{with_joins, drops, View, Log, Outcome, learn, receive, clashes, any_C, is_consolidated_by, forward, forward_wants, new_ticks, still_wanted, consolidated, finished}
-use Rattle.gr_model.specs.World.{World, view_of, log_of, absorbed, in_turn, deliver_frame, hand_down, frames_past, is_know_to, deliver_frame_by, hand_down_by}
+use Rattle.gr_model.specs.World.{World, view_of, log_of, absorbed, in_turn, frames_past, is_know_to, deliver_frame_by, hand_down_by}
+use Rattle.gr_model_calls.specs.OneNet.{deliver_frame, hand_down}
 use Rattle.gr_model_calls.specs.Truth.{HasEvent, Facts, KnowsTruth, AllWantTruth}
 use Rattle.gr_model.specs.Tree.{IsNet, IsPlace}
 use Rattle.gr_model_calls.specs.Fits.{WorldFits, FrameTrue, BodyTrue, ViewTrue, facts_of, reached_in}

@@ -15,7 +15,8 @@ use Rattle.gr_know.specs.Values.{Known, known_at, is_Q}
 use Rattle.gr_curio.specs.Values.{Wanted, wanted_at, asked_at, is_C, is_outstanding}
 use Rattle.gr_model.specs.Net.{Net, is_host, keeps_horizon}
 use Rattle.gr_model.specs.Broker.{View, Log, Outcome, any_C, horizon_if, is_reached, is_consolidated_by, consolidated, up_frames, want_frames, place_of, head, wake, wake_host, wake_below, asking, marking, cutting, with_cut, done_upto, expect_frames, expect_frame, covers, curious, receive}
-use Rattle.gr_model.specs.World.{World, view_of, log_of, wake_for, deliver_frame, sent_since, frames_past, is_want, wake_for_by}
+use Rattle.gr_model.specs.World.{World, view_of, log_of, sent_since, frames_past, is_want, wake_for_by}
+use Rattle.gr_model_calls.specs.OneNet.{wake_for, deliver_frame}
 use Rattle.gr_model_calls.specs.Truth.{Facts, AllWantTruth}
 use Rattle.gr_model.specs.Tree.{IsNet}
 use Rattle.gr_model_calls.specs.Fits.{WorldFits, FrameTrue, BodyFits, BodyTrue, facts_of}

@@ -12,7 +12,8 @@ use Rattle.gr_know.specs.Values.{known_at}
 use Rattle.gr_curio.specs.Values.{Wanted, wanted_at, asked_at, is_A}
 use Rattle.gr_model.specs.Net.{Net, is_host, keeps_horizon}
 use Rattle.gr_model.specs.Broker.{Outcome, place_of, receive, curious, is_consolidated_by, wake, wake_below, wake_host}
-use Rattle.gr_model.specs.World.{World, view_of, log_of, deliver_frame, wake_for, deliver_frame_by, wake_for_by}
+use Rattle.gr_model.specs.World.{World, view_of, log_of, deliver_frame_by, wake_for_by}
+use Rattle.gr_model_calls.specs.OneNet.{deliver_frame, wake_for}
 use Rattle.gr_model_calls.specs.Fits.{facts_of, WorldFits, FrameTrue, BodyTrue, BodyFits}
 use Rattle.gr_model.specs.Tree.{IsNet}
 use Rattle.gr_model_calls.proofs.runs.Worlds.{deliver_kept}

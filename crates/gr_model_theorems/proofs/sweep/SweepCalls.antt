@@ -7,7 +7,8 @@ use Rattle.gr_frame.specs.declared.Frame.{Frame}
 use Rattle.gr_model.specs.declared.report.Report.TheVariants as line
 use Rattle.gr_model.specs.Net.{Net, numbers}
 use Rattle.gr_model.specs.Broker.{Outcome, max_tick, wake, receive}
-use Rattle.gr_model.specs.World.{World, Transition, view_of, log_of, absorbed, unchanged, followed_by, in_turn, wake_for, deliver_frame, frame_at, frames_past, sent_since, is_want, is_know_to, deliver_up, wake_up, hand_down, sweep_for, inwards, outwards, sweep_moment, sweep, deliver_frame_by, deliver_up_by, hand_down_by, sweep_by, sweep_for_by, wake_for_by, wake_up_by}
+use Rattle.gr_model.specs.World.{World, Transition, view_of, log_of, absorbed, unchanged, followed_by, in_turn, frame_at, frames_past, sent_since, is_want, is_know_to, inwards, outwards, sweep_moment, deliver_frame_by, deliver_up_by, hand_down_by, sweep_by, sweep_for_by, wake_for_by, wake_up_by}
+use Rattle.gr_model_calls.specs.OneNet.{wake_for, deliver_frame, deliver_up, wake_up, hand_down, sweep_for, sweep}
 use Rattle.gr_model_theorems.specs.Settles.{Call, wakes, delivers, made, EachSent, all_made, numbers_of, sent_past, calls_in_turn, up_calls, wake_calls, down_calls, sweep_calls_for, at_sweep, sweep_calls}
 
 -- Frames are only added

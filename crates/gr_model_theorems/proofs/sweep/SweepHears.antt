@@ -13,7 +13,8 @@ use Rattle.gr_model.specs.declared.report.Report.{Report}
 use Rattle.gr_model.specs.declared.report.Report.TheVariants as line
 use Rattle.gr_model.specs.Net.{Net, is_host, numbers}
 use Rattle.gr_model.specs.Broker.{View, Log, Outcome, marking, cutting, wake, wake_host, wake_below, asking, receive, max_tick}
-use Rattle.gr_model.specs.World.{World, Transition, view_of, log_of, absorbed, unchanged, followed_by, in_turn, sent_lines, wake_for, deliver_frame, sweep, sweep_for, sweep_moment, deliver_frame_by, sweep_by, wake_for_by}
+use Rattle.gr_model.specs.World.{World, Transition, view_of, log_of, absorbed, unchanged, followed_by, in_turn, sent_lines, sweep_moment, deliver_frame_by, sweep_by, wake_for_by}
+use Rattle.gr_model_calls.specs.OneNet.{wake_for, deliver_frame, sweep, sweep_for}
 use Rattle.gr_model.specs.Headline.{know_of_line, hearing, hearing_all}
 use Rattle.gr_model.specs.Tree.{IsNet}
 use Rattle.gr_model_calls.specs.Fits.{WorldFits, FrameTrue}

@@ -6,7 +6,8 @@ use Rattle.gr_frame.specs.declared.Frame.{Frame}
 use Rattle.gr_model.specs.declared.report.Report.TheVariants as line
 use Rattle.gr_model.specs.Net.{Net, keeps_horizon, numbers, numbers_from}
 use Rattle.gr_model.specs.Broker.{Outcome, wake, receive, max_tick}
-use Rattle.gr_model.specs.World.{World, Transition, view_of, log_of, absorbed, unchanged, followed_by, in_turn, wake_for, deliver_frame, sweep, sweep_for, sweep_moment, next, deliver_frame_by, next_by, sweep_by, wake_for_by}
+use Rattle.gr_model.specs.World.{World, Transition, view_of, log_of, absorbed, unchanged, followed_by, in_turn, sweep_moment, deliver_frame_by, next_by, sweep_by, wake_for_by}
+use Rattle.gr_model_calls.specs.OneNet.{wake_for, deliver_frame, sweep, sweep_for, next}
 use Rattle.gr_model.specs.Headline.{History, unlogged_after}
 use Rattle.gr_model.specs.Tree.{IsNet}
 use Rattle.gr_sched.specs.declared.step.Step.{Step}

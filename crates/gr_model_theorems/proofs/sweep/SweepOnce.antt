@@ -6,7 +6,8 @@ use Rattle.gr_frame.specs.declared.Body.{Body}
 use Rattle.gr_frame.specs.declared.Body.TheVariants as body
 use Rattle.gr_frame.specs.declared.Frame.{Frame}
 use Rattle.gr_model.specs.Net.{Net}
-use Rattle.gr_model.specs.World.{World, Transition, in_turn, wake_for, deliver_frame, frames_past, sent_since, is_want, is_know_to, deliver_up, wake_up, hand_down, sweep_for, inwards, outwards, numbers_down, deliver_up_by, sweep_for_by, wake_up_by}
+use Rattle.gr_model.specs.World.{World, Transition, in_turn, frames_past, sent_since, is_want, is_know_to, inwards, outwards, numbers_down, deliver_up_by, sweep_for_by, wake_up_by}
+use Rattle.gr_model_calls.specs.OneNet.{wake_for, deliver_frame, deliver_up, wake_up, hand_down, sweep_for}
 use Rattle.gr_model_theorems.specs.Settles.{Call, delivers, made, all_made, numbers_of, sent_past, calls_in_turn, up_calls, wake_calls, down_calls, sweep_calls_for, times, is_expect}
 use Rattle.gr_model.specs.Tree.{IsNet, IsDistinct}
 use Rattle.gr_model_calls.specs.Fits.{WorldFits, FrameTrue, AllFramesTrue}

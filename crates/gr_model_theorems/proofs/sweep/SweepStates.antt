@@ -7,7 +7,8 @@ use Rattle.gr_know.specs.Values.{known_at}
 use Rattle.gr_curio.specs.Values.{wanted_at, asked_at}
 use Rattle.gr_model.specs.Net.{Net, is_host, keeps_horizon}
 use Rattle.gr_model.specs.Broker.{any_C}
-use Rattle.gr_model.specs.World.{World, view_of, log_of, in_turn, wake_up, inwards, hand_down, outwards, frames_past}
+use Rattle.gr_model.specs.World.{World, view_of, log_of, in_turn, inwards, outwards, frames_past}
+use Rattle.gr_model_calls.specs.OneNet.{wake_up, hand_down}
 use Rattle.gr_model_calls.specs.Fits.{WorldFits}
 pub use Rattle.gr_model_calls.specs.Rules.{IsChild}
 use Rattle.gr_model_calls.proofs.rules.SweepAsks.{AsksNow}

@@ -5,7 +5,8 @@ use Rattle.std.specs.List.{list_any}
 use Rattle.std.proofs.lemmas.Bool.{cases_Bool, both_ways}
 use Rattle.gr_frame.specs.declared.Frame.{Frame}
 use Rattle.gr_model.specs.Net.{Net, is_host, keeps_horizon}
-use Rattle.gr_model.specs.World.{World, view_of, log_of, in_turn, wake_for, wake_up, inwards, numbers_down, sent_since, is_want, wake_up_by}
+use Rattle.gr_model.specs.World.{World, view_of, log_of, in_turn, inwards, numbers_down, sent_since, is_want, wake_up_by}
+use Rattle.gr_model_calls.specs.OneNet.{wake_for, wake_up}
 use Rattle.gr_model.specs.Tree.{IsNet}
 use Rattle.gr_model_calls.specs.Fits.{WorldFits}
 use Rattle.gr_model_calls.proofs.runs.Worlds.{Each, wake_for_kept, wake_up_kept, filter_frames, frames_past_true, depths_in}

@@ -1,4 +1,5 @@
-use Rattle.gr_model.specs.World.{start, run_all}
+use Rattle.gr_model.specs.World.{start}
+use Rattle.gr_model_calls.specs.OneNet.{run_all}
 use Rattle.gr_model_calls.proofs.runs.Schedules.{always_true}
 use Rattle.gr_model_theorems.proofs.records.Doubtlines.{doubts_stand as by_step}
 use Rattle.gr_model_theorems.proofs.theorems.doubts_stand.Goals as goal

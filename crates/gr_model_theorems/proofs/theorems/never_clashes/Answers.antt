@@ -1,4 +1,5 @@
-use Rattle.gr_model.specs.World.{start, run_all}
+use Rattle.gr_model.specs.World.{start}
+use Rattle.gr_model_calls.specs.OneNet.{run_all}
 use Rattle.gr_model_calls.proofs.runs.Schedules.{always_true}
 use Rattle.gr_model_calls.proofs.runs.Clash.{no_frame_clashes, no_frame_splits}
 use Rattle.gr_model_theorems.proofs.theorems.never_clashes.Goals as goal
