@@ -11,7 +11,7 @@ use Rattle.gr_sched.specs.declared.step.Line.{Line}
 use Rattle.gr_model.specs.declared.report.Report.{Report}
 use Rattle.gr_model.specs.declared.report.Report.TheVariants as line
 use Rattle.gr_model.specs.Net.{Net, numbers}
-use Rattle.gr_model.specs.Headline.{History, expected, last_horizon, history_after, begin}
+use Rattle.gr_model.specs.Headline.{History, expected, last_horizon, history_after, begin, recorded_net}
 
 -- what lines tell a subscriber in its one list
 abbrev pub ordered_item : ℕ → Report → List Item
@@ -33,18 +33,26 @@ pub record IsMergedOf (net : Net) (h : History) (s n : ℕ) (items : List Item) 
       ↔ ((i.publisher < net.publishers) × Contains (expected net h s i.publisher n) (i.tick, i.event))
   pub rises : IsRising items
 
--- each of these subscribers was told exactly what all publishers have up to where it has heard them all
+-- each of these subscribers was told exactly what all publishers have up to where it has heard them all; whom an event
+-- concerns is asked of a net that the history shows
+abbrev pub IsOrdered_by : (History → Net) → Net → List ℕ → History → List Report → Type 0
+IsOrdered_by at net totals h told = (s : ℕ) → list_any (λ x. nat_eq x s) totals ≡ true
+    → IsMergedOf (at h) h s (heard_upto net h.lines s) (ordered_items s told)
+
 abbrev pub IsOrdered : Net → List ℕ → History → List Report → Type 0
-IsOrdered net totals h told = (s : ℕ) → list_any (λ x. nat_eq x s) totals ≡ true
-    → IsMergedOf net h s (heard_upto net h.lines s) (ordered_items s told)
+IsOrdered net = IsOrdered_by (recorded_net net) net
 
 -- the same after each step: steps, the lines of each, and what is told in one order behind each
+abbrev pub TotallyOrdered_from_by : (History → Net) → Net → List ℕ → History → List Report → List Line
+    → List (List Report) → List (List Report) → Type 0
+TotallyOrdered_from_by at net totals h told [] [] [] = IsOrdered_by at net totals h told
+TotallyOrdered_from_by at net totals h told (l ∷ ls) (r ∷ rs) (o ∷ os) = IsOrdered_by at net totals h told
+    × TotallyOrdered_from_by at net totals (history_after net h l r) (told ++ o) ls rs os
+TotallyOrdered_from_by at net totals h told _ _ _ = ⊥
+
 abbrev pub TotallyOrdered_from : Net → List ℕ → History → List Report → List Line → List (List Report)
     → List (List Report) → Type 0
-TotallyOrdered_from net totals h told [] [] [] = IsOrdered net totals h told
-TotallyOrdered_from net totals h told (l ∷ ls) (r ∷ rs) (o ∷ os) = IsOrdered net totals h told
-    × TotallyOrdered_from net totals (history_after net h l r) (told ++ o) ls rs os
-TotallyOrdered_from net totals h told _ _ _ = ⊥
+TotallyOrdered_from net = TotallyOrdered_from_by (recorded_net net) net
 
 -- of every step of a report that begins with nothing
 abbrev pub TotallyOrdered : Net → List ℕ → List Line → List (List Report) → List (List Report) → Type 0

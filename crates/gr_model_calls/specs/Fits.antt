@@ -10,8 +10,7 @@ use Rattle.gr_tick.specs.Runs.{AreRuns}
 use Rattle.gr_know.specs.Values.{known_at}
 use Rattle.gr_model.specs.Net.{Net, is_late, all_late}
 use Rattle.gr_model.specs.Broker.{View, Log}
-use Rattle.gr_model.specs.World.{World, view_of, log_of, start}
-use Rattle.gr_model_calls.specs.OneNet.{run_from}
+use Rattle.gr_model.specs.World.{World, view_of, log_of, start, run_from}
 use Rattle.gr_sched.specs.declared.step.Step.{Step}
 use Rattle.gr_sched.specs.declared.step.Step.TheVariants as step
 use Rattle.gr_sched.specs.declared.step.Line.{Line}

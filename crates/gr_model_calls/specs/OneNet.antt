@@ -8,15 +8,20 @@ use Rattle.gr_note.specs.declared.fault.NoteFault.{NoteFault}
 use Rattle.gr_sched.specs.declared.step.Stop.{Stop}
 use Rattle.gr_sched.specs.declared.step.Line.{Line}
 use Rattle.gr_model.specs.declared.report.Report.{Report}
-use Rattle.gr_model.specs.Net.{Net}
+use Rattle.gr_model.specs.Net.{Net, with_wants, wants_with}
 use Rattle.gr_model.specs.Broker.{Log}
-use Rattle.gr_model.specs.World.{World, Transition, wake_for_by, wake_all_by, deliver_frame_by, publish_now_by, join_now_by}
+use Rattle.gr_model.specs.World.{World, Transition, log_of, start, wake_for_by, wake_all_by, deliver_frame_by, publish_now_by, join_now_by}
 use Rattle.gr_model.specs.World.{publish_stopped_by, deliver_up_by, wake_up_by, hand_down_by, sweep_for_by, sweep_by}
 use Rattle.gr_model.specs.World.{next_by, run_from_by, report_of_by, run_all_by}
 use Rattle.gr_model.specs.Opening.{opened_for_by, opening_by}
 use Rattle.gr_model.specs.Arrivals.{Arrival, Publish, takes_by, receives_by, notes_by, reads_by, published_first_by}
 use Rattle.gr_model.specs.Arrivals.{quieted_by, comes_by, served_from_by, arrived_by, served_by}
-use Rattle.gr_model.specs.Headline.{History, begin, Holds_from_by}
+use Rattle.gr_model.specs.Headline.{History, begin, history, Holds_from_by}
+use Rattle.gr_model.specs.Ordered.{IsOrdered_by, TotallyOrdered_from_by}
+
+-- the net in which a late subscriber wants what is past its join, by the joins that the logs of a world have
+abbrev pub last_net : Net → World → Net
+last_net net w = with_wants net (λ p s t e. wants_with net (log_of w p).joins p s t e)
 
 abbrev pub wake_for : Net → World → ℕ → ℕ → Transition
 wake_for net = wake_for_by (λ _. net) net
@@ -99,6 +104,10 @@ arrived net = arrived_by (λ _. net) net
 abbrev pub served : Net → List ℕ → List Log → List Line → List Arrival → List (List Report)
 served net = served_by (λ _. net) net
 
+-- the history of a whole schedule and its report, of which the steps' lines are all but the first, empty list
+abbrev pub history_of : Net → List Line → History
+history_of net ls = history net (begin net) ls (run_from net (start net) ls)
+
 -- The headline, where whom an event concerns is asked of that net
 
 abbrev pub Holds_from : Net → History → List Line → List (List Report) → Type 0
@@ -107,3 +116,16 @@ Holds_from net = Holds_from_by (λ _. net) net
 abbrev pub Headline : Net → List Line → List (List Report) → Type 0
 Headline net steps [] = ⊥
 Headline net steps (r ∷ rs) = (r ≡ []) × Holds_from net (begin net) steps rs
+
+-- So is one order over all publishers
+
+abbrev pub IsOrdered : Net → List ℕ → History → List Report → Type 0
+IsOrdered net = IsOrdered_by (λ _. net) net
+
+abbrev pub TotallyOrdered_from : Net → List ℕ → History → List Report → List Line → List (List Report)
+    → List (List Report) → Type 0
+TotallyOrdered_from net = TotallyOrdered_from_by (λ _. net) net
+
+abbrev pub TotallyOrdered : Net → List ℕ → List Line → List (List Report) → List (List Report) → Type 0
+TotallyOrdered net totals steps (r ∷ rs) (o ∷ os) = (o ≡ []) × TotallyOrdered_from net totals (begin net) [] steps rs os
+TotallyOrdered net totals steps _ _ = ⊥

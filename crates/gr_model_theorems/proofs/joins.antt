@@ -1,2 +1,4 @@
 -- Runs with joins
 pub mod Owing
+pub mod AsOne
+pub mod Always

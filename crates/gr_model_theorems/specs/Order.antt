@@ -9,8 +9,7 @@ use Rattle.gr_sched.specs.declared.step.Step.{Step}
 use Rattle.gr_sched.specs.declared.step.Step.TheVariants as step
 use Rattle.gr_model.specs.Headline.{History, record_of, reopened_cut, last_cut, is_sent}
 use Rattle.gr_model.specs.Tree.{IsSubscriber}
-use Rattle.gr_model.specs.World.{start, sent_lines}
-use Rattle.gr_model_calls.specs.OneNet.{run_all}
+use Rattle.gr_model.specs.World.{start, run_all, sent_lines}
 use Rattle.gr_model_calls.specs.Fits.{history_of}
 
 -- discarded only after delivery, for one publisher: cuts rise strictly, none is past what is settled, and each event up

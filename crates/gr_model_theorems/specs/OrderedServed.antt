@@ -8,10 +8,10 @@ use Rattle.gr_model.specs.Broker.{Log}
 use Rattle.gr_model.specs.World.{Transition}
 use Rattle.gr_model.specs.Opening.{begin_over}
 use Rattle.gr_model.specs.Arrivals.{Arrival, Publish, publishes_of, left_after}
-use Rattle.gr_model_calls.specs.OneNet.{served}
+use Rattle.gr_model_calls.specs.OneNet.{served, IsOrdered, TotallyOrdered_from}
 use Rattle.gr_model.specs.Headline.{History}
 use Rattle.gr_model.specs.Orders.{orders_over, ordered_steps}
-use Rattle.gr_model.specs.Ordered.{IsOrdered, TotallyOrdered_from, OneOrder}
+use Rattle.gr_model.specs.Ordered.{OneOrder}
 use Rattle.gr_model_theorems.specs.Served.{ArrivalHolds}
 use Rattle.gr_model_theorems.specs.Statements.{opened_over}
 use Rattle.gr_model_theorems.specs.OverLogs.{report_over}

@@ -14,11 +14,12 @@ use Rattle.gr_model.specs.declared.report.Report.{Report}
 use Rattle.gr_model.specs.Net.{Net, not_empty, numbers}
 use Rattle.gr_model.specs.Tree.{IsNet, IsSubscriber, IsDistinct}
 use Rattle.gr_model.specs.Broker.{Log, clashes}
-use Rattle.gr_model.specs.World.{World, Transition, view_of, log_of, frame_at, start}
-use Rattle.gr_model_calls.specs.OneNet.{run_all, run_from, next, opening, served, Holds_from}
+use Rattle.gr_model.specs.World.{World, Transition, view_of, log_of, frame_at, start, run_all, next, sweep}
+use Rattle.gr_model_calls.specs.OneNet.{last_net}
+use Rattle.gr_model_calls.specs.OneNet as one
 use Rattle.gr_model.specs.Opening.{publishers_at, begin_over}
 use Rattle.gr_model.specs.Arrivals.{Arrival, publishes_of, clash_runs, first_of}
-use Rattle.gr_model.specs.Headline.{History, GetsExactly, is_doubt_line, doubt_place, doubts_shown}
+use Rattle.gr_model.specs.Headline.{History, GetsExactly, recorded_net, is_doubt_line, doubt_place, doubts_shown}
 use Rattle.gr_model_calls.specs.Fits.{StepsIn}
 use Rattle.gr_model_theorems.specs.Order.{CutsInOrder}
 use Rattle.gr_model_calls.specs.Edges.{GoesOverEdge}
@@ -80,11 +81,15 @@ pub record IsServedRun (net : Net) (logs : List Log) (steps : List Line) (arriva
   pub late : LateIn net
   pub numbers_in : NumbersIn steps
   pub bytes : AllByRecursion IsOfBytes arrivals
-  pub honest : IsHonestRun arrivals (served net (numbers net.brokers) logs steps arrivals)
+  pub honest : IsHonestRun arrivals (one.served net (numbers net.brokers) logs steps arrivals)
 
 -- the world after all steps
 abbrev pub world_after : Net → List Line → World
 world_after net steps = (run_all net (start net) steps).world
+
+-- the net as it is where a late subscriber wants what is past its join, by the joins that the logs have after all steps
+abbrev pub joined_net : Net → List Line → Net
+joined_net net steps = last_net net (world_after net steps)
 
 -- Frames that were sent
 
@@ -114,13 +119,13 @@ AllDecode w = (k : ℕ) (f : Frame) → frame_at w k ≡ Some f → frame_decode
 
 -- Subscribers, cuts and horizons
 
--- each subscriber gets of each publisher exactly what it is owed
+-- each subscriber gets of each publisher exactly what it is owed, by the joins that are recorded
 abbrev pub AllGetExactly : Net → History → Type 0
-AllGetExactly net h = (s p : ℕ) → p < net.publishers → IsSubscriber net s → GetsExactly net h s p
+AllGetExactly net h = (s p : ℕ) → p < net.publishers → IsSubscriber net s → GetsExactly (recorded_net net h) h s p
 
 -- each publisher's cuts are in order
 abbrev pub AllCutsInOrder : Net → History → Type 0
-AllCutsInOrder net h = (p : ℕ) → p < net.publishers → CutsInOrder net h p
+AllCutsInOrder net h = (p : ℕ) → p < net.publishers → CutsInOrder (recorded_net net h) h p
 
 -- a host with subscribers has its horizon where its log is settled
 abbrev pub HostsMeet : Net → World → Type 0
@@ -132,17 +137,22 @@ HostsMeet net w =
 abbrev pub DoubtsStand : Net → World → Line → Type 0
 DoubtsStand net w l = map doubt_place (filter is_doubt_line (next net w l).lines) ≡ doubts_shown net l
 
+-- the next sweep is that of the net of the joins so far
+abbrev pub SweepsAsOne : Net → List Line → ℕ → Type 0
+SweepsAsOne net steps k =
+    sweep net (world_after net steps) k ≡ one.sweep (joined_net net steps) (world_after net steps) k
+
 -- Over old logs, and at a server
 
 -- all brokers start over these logs
 abbrev pub opened_over : Net → List Log → Transition
-opened_over net logs = opening net (numbers net.brokers) logs
+opened_over net logs = one.opening net (numbers net.brokers) logs
 
 -- of a schedule that begins on these logs the headline holds
 abbrev pub HoldsOverLogs : Net → List Log → List Line → Type 0
 HoldsOverLogs net logs steps =
     let o : Transition = opened_over net logs in
-    Holds_from net (begin_over net logs o.lines) steps (run_from net o.world steps)
+    one.Holds_from net (begin_over net logs o.lines) steps (one.run_from net o.world steps)
 
 -- the opening tells each log that is not empty, and what the subscribers at its host get at once
 abbrev pub OpeningTells : Net → List Log → Type 0
@@ -158,19 +168,19 @@ OpeningSendsNothing net logs = let o : Transition = opened_over net logs in o.wo
 abbrev pub RunsOverByRules : Net → List Log → List Line → Type 0
 RunsOverByRules net logs steps =
     let o : Transition = opened_over net logs in
-    RunsOver net logs steps o.lines (run_from net o.world steps) (run_all net o.world steps).world
+    RunsOver net logs steps o.lines (one.run_from net o.world steps) (one.run_all net o.world steps).world
 
 -- and nothing else is
 abbrev pub RunsOverByNoOther : Net → List Log → List Line → Type 0
 RunsOverByNoOther net logs steps =
     (told : List Report) (rs : List (List Report)) (w : World) → RunsOver net logs steps told rs w →
     (let o : Transition = opened_over net logs in
-    (told ≡ o.lines) × (rs ≡ run_from net o.world steps) × (w ≡ (run_all net o.world steps).world))
+    (told ≡ o.lines) × (rs ≡ one.run_from net o.world steps) × (w ≡ (one.run_all net o.world steps).world))
 
 -- what a server of all brokers reports meets the headline
 abbrev pub MeetsHeadlineServed : Net → List Log → List Line → List Arrival → Type 0
 MeetsHeadlineServed net logs steps arrivals =
-    HeadlineServed net logs steps arrivals (served net (numbers net.brokers) logs steps arrivals)
+    HeadlineServed net logs steps arrivals (one.served net (numbers net.brokers) logs steps arrivals)
 
 -- each arrival does its steps
 abbrev pub ArrivalsDoSteps : Net → List Log → List Line → List Arrival → Type 0

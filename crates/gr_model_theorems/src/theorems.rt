@@ -11,10 +11,10 @@ ghost use Rattle.gr_sched.specs.declared.step.Line.{Line};
 ghost use Rattle.gr_model.specs.Net.{Net};
 ghost use Rattle.gr_model.specs.Tree.{IsNet};
 ghost use Rattle.gr_model.specs.Broker.{Log};
-ghost use Rattle.gr_model.specs.World.{World, start};
-ghost use Rattle.gr_model_calls.specs.OneNet.{report_of, Headline};
+ghost use Rattle.gr_model.specs.World.{World, start, report_of};
+ghost use Rattle.gr_model_calls.specs.OneNet.{last_net};
 ghost use Rattle.gr_model.specs.Arrivals.{Arrival};
-ghost use Rattle.gr_model.specs.Headline.{begin};
+ghost use Rattle.gr_model.specs.Headline.{Headline, begin};
 ghost use Rattle.gr_model.specs.Blank.{net0};
 ghost use Rattle.gr_model.specs.declared.report.Report.{Report};
 ghost use Rattle.gr_model_calls.specs.Fits.{StepIn, WorldFits, history_of};
@@ -40,7 +40,7 @@ ghost use Rattle.gr_model.specs.Ordered.{OneOrder, TotallyOrdered};
 ghost use Rattle.gr_model_theorems.specs.Statements.{IsRun, IsMarkedRun, IsAskedRun, IsSweptRun, IsSpelledRun, IsRunOverLogs};
 ghost use Rattle.gr_model_theorems.specs.Statements.{AreTotals};
 ghost use Rattle.gr_model_theorems.specs.Statements.{IsServedRun, world_after, NothingClashes, NothingStrays};
-ghost use Rattle.gr_model_theorems.specs.Statements.{NothingSplits, AllSpelled};
+ghost use Rattle.gr_model_theorems.specs.Statements.{NothingSplits, AllSpelled, joined_net, SweepsAsOne};
 ghost use Rattle.gr_model_theorems.specs.Statements.{AllDecode, AllGetExactly, AllCutsInOrder, HostsMeet, DoubtsStand};
 ghost use Rattle.gr_model_theorems.specs.Statements.{HoldsOverLogs, OpeningTells, OpeningSendsNothing, RunsOverByRules};
 ghost use Rattle.gr_model_theorems.specs.Statements.{RunsOverByNoOther, MeetsHeadlineServed, ArrivalsDoSteps, FirstClash};
@@ -58,7 +58,8 @@ pub fn worked_examples()
 /// After every schedule all that any broker knows, all that any frame says and all that was cut is true, and each
 /// host knows every tick up to where its log is settled.
 pub fn always_true()
-    ensures { (net : Net) (steps : List Line) → IsRun net steps → WorldFits net (world_after net steps) }
+    ensures { (net : Net) (steps : List Line) → IsRun net steps →
+        WorldFits (joined_net net steps) (world_after net steps) }
 {}
 
 /// No frame of knowledge that was ever sent clashes with what its receiver knows, nor do its joins split from those
@@ -116,7 +117,8 @@ pub fn frames_sent()
 /// and then its own; and what each call keeps, tells and sends, and to whom, is what the rules say tick by tick of the
 /// broker's view and the publisher's log at that moment.
 pub fn calls_obey_rules()
-    ensures { (net : Net) (steps : List Line) → IsMarkedRun net steps → CallsObey net steps (report_of net steps) }
+    ensures { (net : Net) (steps : List Line) → IsMarkedRun net steps →
+        CallsObey (joined_net net steps) steps (report_of net steps) }
 {}
 
 /// The rules leave nothing open: what a call does is the only outcome by its rule, of one view, one log and one moment.
@@ -131,9 +133,9 @@ pub fn rules_determine()
 /// The same of a schedule that begins on logs that were found, and of what the start over them tells.
 pub fn runs_by_rules()
     ensures allowed { (net : Net) (steps : List Line) → IsMarkedRun net steps →
-        ScheduleByRules net steps (report_of net steps) (world_after net steps) }
+        ScheduleByRules (joined_net net steps) steps (report_of net steps) (world_after net steps) }
     ensures alone { (net : Net) (steps : List Line) (rs : List (List Report)) (w : World) → IsMarkedRun net steps →
-        ScheduleByRules net steps rs w → (rs ≡ report_of net steps) × (w ≡ world_after net steps) }
+        ScheduleByRules (last_net net w) steps rs w → (rs ≡ report_of net steps) × (w ≡ world_after net steps) }
     ensures over_logs { (net : Net) (logs : List Log) (steps : List Line) → IsMarkedRun net steps →
         AreReopened net logs →
         RunsOverByRules net logs steps }
@@ -167,21 +169,23 @@ pub fn ordered_always()
 /// way round. So no two of them are ever told events in different orders.
 pub fn one_order_always()
     ensures { (net : Net) (totals : List ℕ) (steps : List Line) → IsAskedRun net steps → AreTotals net totals →
-        OneOrder net totals (ordered_steps (orders_over net.publishers totals) (report_of net steps)) }
+        OneOrder (joined_net net steps) totals
+        (ordered_steps (orders_over net.publishers totals) (report_of net steps)) }
 {}
 
 /// A sweep settles everything: after every schedule, a sweep that is not refused ends with every kept horizon, what is
 /// settled of every log, and every cut at its moment; each frame that it sends but an Expect is delivered in it exactly
 /// once; and its lines say so.
 pub fn sweep_settles()
-    ensures { (net : Net) (steps : List Line) (k : ℕ) → IsSweptRun net steps →
-        SweepSettles net (world_after net steps) k }
+    ensures settles { (net : Net) (steps : List Line) (k : ℕ) → IsSweptRun net steps →
+        SweepSettles (joined_net net steps) (world_after net steps) k }
+    ensures same { (net : Net) (steps : List Line) (k : ℕ) → IsMarkedRun net steps → SweepsAsOne net steps k }
 {}
 
 /// After a sweep that is not refused, each subscriber has got exactly what is recorded that it wants.
 pub fn sweep_hands_over()
     ensures { (net : Net) (steps : List Line) (k : ℕ) → IsSweptRun net steps →
-        AllGot net (history_of net steps) (world_after net steps) k }
+        AllGot (joined_net net steps) (history_of net steps) (world_after net steps) k }
 {}
 
 /// What a layer above may use, after every schedule: all that is known and sent is true, each log is the record, each
@@ -189,7 +193,7 @@ pub fn sweep_hands_over()
 /// host knows what its log says, and no ask is of a moment past the greatest.
 pub fn fits_always()
     ensures { (net : Net) (steps : List Line) → IsAskedRun net steps →
-        Fits net (history_of net steps) (world_after net steps) }
+        Fits (joined_net net steps) (history_of net steps) (world_after net steps) }
 {}
 
 /// The same of every schedule that begins on logs that were found; and its calls obey their rules, its steps are

@@ -333,7 +333,7 @@ module _ (net : Net) (wants : ℕ → ℕ → ℕ → Event → Bool) (see : Vie
       host_at true = Runs-same B (unchanged w (line.RefusedHosts k (net.host p) ∷ []))
       host_at false = number_at (nat_eq number (suc log.last) && nat_le tick max_tick)
 
-  next_runs : (w : World) (l : Line) → WorldFits one w → StepIn one l.step → Runs B (next_by see net w l) (next one w l)
+  pub next_runs : (w : World) (l : Line) → WorldFits one w → StepIn one l.step → Runs B (next_by see net w l) (next one w l)
   unfolding next_by crash restarted started opened_lines show
   next_runs w l f i = go l.step i
     where

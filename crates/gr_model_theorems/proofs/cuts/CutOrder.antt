@@ -10,12 +10,12 @@ use Rattle.gr_model.specs.declared.report.Report.{Report}
 use Rattle.gr_model.specs.declared.report.Report.TheVariants as line
 use Rattle.gr_model.specs.Net.{Net}
 use Rattle.gr_model.specs.World.{log_of, start}
-use Rattle.gr_model_calls.specs.OneNet.{run_all, run_from}
+use Rattle.gr_model_calls.specs.OneNet.{run_all, run_from, history_of}
 use Rattle.gr_model.specs.Headline.{History, history_after, begin, reopened_cut, history, record_of, delivered_events}
 use Rattle.gr_model_calls.specs.Said.{said_at, TicksRise}
 use Rattle.gr_model.specs.Broker.{started}
 use Rattle.gr_model.specs.Tree.{IsNet}
-use Rattle.gr_model_calls.specs.Fits.{StepsIn, history_of}
+use Rattle.gr_model_calls.specs.Fits.{StepsIn}
 use Rattle.gr_model_theorems.specs.Order.{CutsInOrder}
 use Rattle.gr_model_calls.proofs.calls.Told.{said_at-here, said_at-past}
 use Rattle.gr_model_theorems.proofs.records.Records.{core_of}

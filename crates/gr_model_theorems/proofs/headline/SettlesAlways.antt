@@ -7,12 +7,12 @@ use Rattle.gr_model.specs.declared.report.Report.TheVariants as line
 use Rattle.gr_model.specs.Net.{Net, numbers, numbers_from}
 use Rattle.gr_model.specs.Broker.{max_tick}
 use Rattle.gr_model.specs.World.{World, Transition, log_of, unchanged, followed_by, in_turn, sweep_moment, start, sweep_by}
-use Rattle.gr_model_calls.specs.OneNet.{sweep_for, sweep, run_all}
+use Rattle.gr_model_calls.specs.OneNet.{sweep_for, sweep, run_all, history_of}
 use Rattle.gr_model_calls.specs.Said.{said_at, TicksRise, due_upto}
 use Rattle.gr_model.specs.Headline.{History, reopened_cut, begin, record_of, settling}
 use Rattle.gr_model_theorems.specs.Settles.{SweepSettles, AllGot, is_accepted, at_sweep}
 use Rattle.gr_model.specs.Tree.{IsNet}
-use Rattle.gr_model_calls.specs.Fits.{StepsIn, WorldFits, reached_in, history_of}
+use Rattle.gr_model_calls.specs.Fits.{StepsIn, WorldFits, reached_in}
 use Rattle.gr_sched.specs.declared.step.Line.{Line}
 use Rattle.gr_model_calls.proofs.calls.Told.{said_at-here, said_at-past}
 use Rattle.gr_model_calls.proofs.runs.Schedules.{clocked_fits, sweep_kept}

@@ -9,7 +9,7 @@ use Rattle.gr_model.specs.declared.report.Report.{Report}
 use Rattle.gr_model.specs.declared.report.Report.TheVariants as line
 use Rattle.gr_model.specs.Net.{keeps_horizon, Net, is_host}
 use Rattle.gr_model.specs.World.{sent_lines, World, view_of, log_of, start, run_from_by}
-use Rattle.gr_model_calls.specs.OneNet.{next, run_all, run_from}
+use Rattle.gr_model_calls.specs.OneNet.{next, run_all, run_from, history_of}
 use Rattle.gr_model.specs.Headline.{GetsExactly, unlogged_after, InOrder, History, history, reopened_cut, record_of, history_after, begin, last_horizon, may_crash, HorizonsRise, sent_count, is_sent}
 use Rattle.gr_model_theorems.proofs.records.RecordLines.{sent_lines-append}
 use Rattle.gr_model_theorems.proofs.records.RecordSteps.{step_sends}
@@ -17,7 +17,7 @@ use Rattle.gr_model_calls.proofs.calls.Telling.{steady_rises}
 use Rattle.gr_model_calls.specs.Said.{due_upto}
 use Rattle.gr_model.specs.Tree.{IsNet, IsSubscriber}
 use Rattle.gr_model_calls.specs.Fits.{WorldFits, LinesFit, StepIn, StepsIn}
-use Rattle.gr_model_theorems.specs.Order.{FramesSent, CutsInOrder}
+use Rattle.gr_model_theorems.specs.Order.{CutsInOrder}
 use Rattle.gr_model_theorems.proofs.records.Records.{core_of}
 use Rattle.gr_model_theorems.proofs.records.Recorded.{RecordsFit, record_core, next_records, begin_fits, begin_lines, after_lines}
 use Rattle.gr_model_theorems.proofs.records.Gates.{GatesFit, next_gates, start_gates}
@@ -200,5 +200,5 @@ stands_run net w h [] n z i k = k
 stands_run net w h (l ∷ ls) n z i k = stands_run net (next net w l).world (history_after net h l (next net w l).lines) ls n z i.1 (next_stands net w h l n z i.0 k)
 
 -- over every schedule the sent lines are those of the frames that the steps send
-pub frames_sent : (net : Net) (ls : List Line) → IsNet net → 1 ≤ net.quiet → StepsIn net ls → FramesSent net ls
+pub frames_sent : (net : Net) (ls : List Line) → IsNet net → 1 ≤ net.quiet → StepsIn net ls → filter is_sent (history_of net ls).lines ≡ sent_lines 1 (run_all net (start net) ls).world.frames
 frames_sent net ls n z i = (stands_run net (start net) (begin net) ls n z i (start_stands net n)).sent

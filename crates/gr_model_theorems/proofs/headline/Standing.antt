@@ -8,12 +8,12 @@ use Rattle.gr_sched.specs.declared.step.Line.{Line}
 use Rattle.gr_model.specs.Net.{Net}
 use Rattle.gr_model.specs.Broker.{event_at}
 use Rattle.gr_model.specs.World.{World, view_of, log_of, start}
-use Rattle.gr_model_calls.specs.OneNet.{run_all, run_from}
+use Rattle.gr_model_calls.specs.OneNet.{run_all, run_from, history_of}
 use Rattle.gr_model.specs.Headline.{History, history, begin}
 use Rattle.gr_model.specs.Tree.{IsNet}
 use Rattle.gr_model_calls.specs.Truth.{Facts, IsTrueAt}
 use Rattle.gr_model_calls.specs.Said.{due_upto}
-use Rattle.gr_model_calls.specs.Fits.{StepsIn, facts_of, history_of}
+use Rattle.gr_model_calls.specs.Fits.{StepsIn, facts_of}
 use Rattle.gr_model_theorems.specs.Standing.{KnowsLog, Fits}
 use Rattle.gr_model_calls.proofs.asks.AskMoments.{asked_upto}
 use Rattle.gr_model_theorems.proofs.records.Recorded.{record_core}

@@ -90,7 +90,7 @@ records_on net h l ls q = go l.step
 abbrev pub RecordedAhead : (ℕ → Joins) → History → Type 0
 RecordedAhead last h = (p : ℕ) → Grows (record_of h p).joined (last p) (record_of h p).settled
 
-ahead_back : (net : Net) (last : ℕ → Joins) (h : History) (l : Line) (ls : List Report) → RecordedAhead last (history_after net h l ls) → RecordedAhead last h
+pub ahead_back : (net : Net) (last : ℕ → Joins) (h : History) (l : Line) (ls : List Report) → RecordedAhead last (history_after net h l ls) → RecordedAhead last h
 unfolding history_after
 ahead_back net last h l ls a p = let o = records_on net h l ls p in grows_on (record_of h p).joined (get_or (records_after net h l ls) p nothing_recorded).joined (last p) (record_of h p).settled (get_or (records_after net h l ls) p nothing_recorded).settled o.settled o.joined (a p)
 
@@ -127,7 +127,7 @@ settling_upto m [] l u p = tt
 settling_upto m (r ∷ rs) l u zero = upto_later r.settled m r.events (omega (arith, l)) (u zero)
 settling_upto m (r ∷ rs) l u (suc p) = settling_upto m rs (omega (arith, l)) (λ q. u (suc q)) p
 
-records_upto : (net : Net) (h : History) (l : Line) (ls : List Report) → RecordsUpto h.records → RecordsUpto (records_after net h l ls)
+pub records_upto : (net : Net) (h : History) (l : Line) (ls : List Report) → RecordsUpto h.records → RecordsUpto (records_after net h l ls)
 unfolding records_after
 records_upto net h l ls u q = go l.step
   where
@@ -169,12 +169,12 @@ records_upto net h l ls u q = go l.step
 -- Whom an event concerns
 
 -- of a settled event the joins so far say what the last ones do
-wants_so_far : (net : Net) (last now : Joins) (settled p s t : ℕ) (e : Event) → Grows now last settled → t ≤ settled → wants_with net last p s t e ≡ wants_with net now p s t e
+pub wants_so_far : (net : Net) (last now : Joins) (settled p s t : ℕ) (e : Event) → Grows now last settled → t ≤ settled → wants_with net last p s t e ≡ wants_with net now p s t e
 wants_so_far net last now settled p s t e g l =
     ap (λ b. elim (is_late net s) as (λ _. Bool) [ true ↦ net.wants p s t e && b | false ↦ net.wants p s t e ])
     (sym (shows last now (λ u. u ≤ settled) s t (record { rest = g.0; front = g.1; above = λ u k. NoneBelow-lower u settled g.0 k g.2 }) l))
 
-owed_same : (f g : ℕ → Event → Bool) (m n : ℕ) (xs : List (ℕ × Event)) → TicksUpto m xs → ((t : ℕ) (e : Event) → t ≤ m → f t e ≡ g t e) → filter (λ x. nat_le x.0 n && f x.0 x.1) xs ≡ filter (λ x. nat_le x.0 n && g x.0 x.1) xs
+pub owed_same : (f g : ℕ → Event → Bool) (m n : ℕ) (xs : List (ℕ × Event)) → TicksUpto m xs → ((t : ℕ) (e : Event) → t ≤ m → f t e ≡ g t e) → filter (λ x. nat_le x.0 n && f x.0 x.1) xs ≡ filter (λ x. nat_le x.0 n && g x.0 x.1) xs
 owed_same f g m n [] u h = refl
 owed_same f g m n (x ∷ xs) u h = ap₂ (λ (b : Bool) (ys : List (ℕ × Event)). if (nat_le x.0 n && b) then x ∷ ys else ys) (h x.0 x.1 u.0) (owed_same f g m n xs u.1 h)
 
@@ -193,9 +193,13 @@ module _ (net : Net) (last : ℕ → Joins) where
   doubt_on : (h : History) (b p n : ℕ) → IsDoubt one h b p n → IsDoubt (recorded_net net h) h b p n
   doubt_on h b p n d = record { at_host = d.at_host; below = d.below; ends = d.ends }
 
+  -- so what is expected is the same
+  pub expected_on : (h : History) (s p n : ℕ) → RecordedAhead last h → RecordsUpto h.records → expected one h s p n ≡ expected (recorded_net net h) h s p n
+  expected_on h s p n a u = owed_same (λ t e. wants_with net (last p) p s t e) (λ t e. wants_with net (record_of h p).joined p s t e) (record_of h p).settled n (record_of h p).events (u p) (λ t e l. wants_so_far net (last p) (record_of h p).joined (record_of h p).settled p s t e (a p) l)
+
   delivered_on : (h : History) → RecordedAhead last h → RecordsUpto h.records → Delivered one h → Delivered (recorded_net net h) h
   delivered_on h a u d = record {
-    got = λ s p i j. d.got s p i j ∙ owed_same (λ t e. wants_with net (last p) p s t e) (λ t e. wants_with net (record_of h p).joined p s t e) (record_of h p).settled (last_horizon s p 0 h.lines) (record_of h p).events (u p) (λ t e l. wants_so_far net (last p) (record_of h p).joined (record_of h p).settled p s t e (a p) l);
+    got = λ s p i j. d.got s p i j ∙ expected_on h s p (last_horizon s p 0 h.lines) a u;
     doubt = λ s p i j. doubt_on h (net.at s) p (last_horizon s p 0 h.lines) (d.doubt s p i j);
   }
 
@@ -207,7 +211,7 @@ module _ (net : Net) (last : ℕ → Joins) where
     cut_got = λ p t xs ys e s v ev c l i w. d.cut_got p t xs ys e s v ev c l i (subst (λ b. IsTrue b) (sym (wants_so_far net (last p) (record_of h p).joined (record_of h p).settled p s v ev (a p) (upto_at (record_of h p).settled (record_of h p).events v ev (u p) c))) w);
   }
 
-  after_same : (h : History) (l : Line) (ls : List Report) → history_after one h l ls ≡ history_after net h l ls
+  pub after_same : (h : History) (l : Line) (ls : List Report) → history_after one h l ls ≡ history_after net h l ls
   unfolding history_after clock_after most_after records_after heard_after unlogged_after gates_after
   after_same h l ls = refl
 
@@ -219,7 +223,7 @@ module _ (net : Net) (last : ℕ → Joins) where
   LastOf h ls rs = (p : ℕ) → (record_of (history net h ls rs) p).joined ≡ last p
 
   -- what is ahead at the end is ahead before
-  ahead_at : (h : History) (ls : List Line) (rs : List (List Report)) → LastOf h ls rs → RecordedAhead last h
+  pub ahead_at : (h : History) (ls : List Line) (rs : List (List Report)) → LastOf h ls rs → RecordedAhead last h
   ahead_at h [] rs e p = subst (λ z. Grows (record_of h p).joined z (record_of h p).settled) (e p) (grows_not (record_of h p).joined (record_of h p).settled)
   ahead_at h (l ∷ ls) [] e p = subst (λ z. Grows (record_of h p).joined z (record_of h p).settled) (e p) (grows_not (record_of h p).joined (record_of h p).settled)
   ahead_at h (l ∷ ls) (r ∷ rs) e p = ahead_back net last h l r (ahead_at (history_after net h l r) ls rs e) p

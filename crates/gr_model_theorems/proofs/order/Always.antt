@@ -10,10 +10,10 @@ use Rattle.gr_model.specs.declared.report.Report.{Report}
 use Rattle.gr_model.specs.Net.{Net}
 use Rattle.gr_model.specs.Tree.{IsNet, IsSubscriber, IsDistinct}
 use Rattle.gr_model.specs.World.{World, Transition, start, run_from_by, report_of_by}
-use Rattle.gr_model_calls.specs.OneNet.{next, run_from, report_of}
+use Rattle.gr_model_calls.specs.OneNet.{next, run_from, report_of, IsOrdered, TotallyOrdered_from, TotallyOrdered}
 use Rattle.gr_model.specs.Headline.{History, history_after, begin}
 use Rattle.gr_model.specs.Orders.{Order, fed, ordered, without_ordered, fresh_order, orders_over, ordered_steps}
-use Rattle.gr_model.specs.Ordered.{ordered_items, items_told, IsMergedOf, heard_upto, IsOrdered, TotallyOrdered_from, TotallyOrdered}
+use Rattle.gr_model.specs.Ordered.{ordered_items, items_told, IsMergedOf, heard_upto}
 use Rattle.gr_model_calls.specs.Fits.{StepsIn}
 use Rattle.gr_model_calls.specs.Steady.{Steady}
 use Rattle.gr_model_theorems.proofs.records.Recorded.{begin_lines, after_lines}

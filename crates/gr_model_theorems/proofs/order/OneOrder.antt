@@ -12,10 +12,10 @@ use Rattle.gr_sched.specs.declared.step.Line.{Line}
 use Rattle.gr_model.specs.declared.report.Report.{Report}
 use Rattle.gr_model.specs.Net.{Net}
 use Rattle.gr_model.specs.Tree.{IsNet, IsDistinct}
-use Rattle.gr_model_calls.specs.OneNet.{report_of}
+use Rattle.gr_model_calls.specs.OneNet.{report_of, IsOrdered, TotallyOrdered_from, TotallyOrdered}
 use Rattle.gr_model.specs.Headline.{History, expected, record_of, history_after, begin}
 use Rattle.gr_model.specs.Orders.{orders_over, ordered_steps}
-use Rattle.gr_model.specs.Ordered.{ordered_item, ordered_items, items_told, IsMergedOf, heard_upto, IsOrdered, TotallyOrdered_from, TotallyOrdered, OneOrder}
+use Rattle.gr_model.specs.Ordered.{ordered_item, ordered_items, items_told, IsMergedOf, heard_upto, OneOrder}
 use Rattle.gr_model_calls.specs.Fits.{StepsIn}
 use Rattle.gr_model_theorems.proofs.order.Hearing.{joined}
 use Rattle.gr_model_theorems.proofs.order.Merged.{kept, cut_off}

@@ -16,12 +16,12 @@ use Rattle.gr_model.specs.Net.{Net, is_host, not_empty, numbers, numbers_from}
 use Rattle.gr_model.specs.Broker.{joining, Log, empty_log, publish, with_event, is_kept, max_tick}
 use Rattle.gr_model.specs.World as world
 use Rattle.gr_model.specs.World.{join_now_by, World, Transition, view_of, log_of, absorbed, unchanged, in_turn, frame_at, crash, restarted, sweep_moment, start, opened_lines, next_by, publish_now_by, publish_stopped_by, run_from_by, sweep_by, wake_all_by}
-use Rattle.gr_model_calls.specs.OneNet.{join_now, wake_for, wake_all, deliver_frame, publish_now, publish_stopped, sweep, sweep_for, next, run_all, run_from}
+use Rattle.gr_model_calls.specs.OneNet.{join_now, wake_for, wake_all, deliver_frame, publish_now, publish_stopped, sweep, sweep_for, next, run_all, run_from, history_of}
 use Rattle.gr_model.specs.Headline.{may_enter, with_joined, Recorded, History, nothing_recorded, record_of, recording, settling, marked, is_next, greatest, sweep_at, is_swept, each_record, records_after, clock_after, most_after, history_after, history, begin, expected, delivered_events, last_horizon, HorizonsRise, GetsExactly, says_kept}
 use Rattle.gr_model_calls.proofs.calls.Telling.{steady_rises}
 use Rattle.gr_model_calls.specs.Said.{due_upto}
 use Rattle.gr_model.specs.Tree.{IsNet, IsSubscriber}
-use Rattle.gr_model_calls.specs.Fits.{WorldFits, StepIn, StepsIn, FrameTrue, history_of}
+use Rattle.gr_model_calls.specs.Fits.{WorldFits, StepIn, StepsIn, FrameTrue}
 use Rattle.gr_model_calls.proofs.runs.Worlds.{wake_for_kept}
 use Rattle.gr_model_calls.proofs.runs.Schedules.{next_kept, start_fits, lines_always, frame_at_true, clocked_fits}
 use Rattle.gr_model_theorems.proofs.records.Records.{joining_core, core, core_of, absorbed_cores, publish_core, wake_for_core, wake_for_clock, wake_for_most, deliver_core, deliver_clock, deliver_most, sweep_for_marks, sweep_for_marked}

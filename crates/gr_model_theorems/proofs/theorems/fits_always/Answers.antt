@@ -1,4 +1,4 @@
-use Rattle.gr_model_theorems.proofs.headline.Standing.{fits_always as by_steps}
+use Rattle.gr_model_theorems.proofs.joins.Always.{fits_always as by_steps}
 use Rattle.gr_model_theorems.proofs.theorems.fits_always.Goals as goal
 
 pub returns : goal.returns

@@ -1,4 +1,4 @@
-use Rattle.gr_model_theorems.proofs.headline.SoFar.{frames_sent as by_steps}
+use Rattle.gr_model_theorems.proofs.joins.Always.{frames_sent as by_steps}
 use Rattle.gr_model_theorems.proofs.theorems.frames_sent.Goals as goal
 
 pub returns : goal.returns

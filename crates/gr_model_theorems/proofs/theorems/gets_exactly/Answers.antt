@@ -1,4 +1,4 @@
-use Rattle.gr_model_theorems.proofs.records.Recorded.{gets_exactly as by_record}
+use Rattle.gr_model_theorems.proofs.joins.Always.{gets_exactly as by_record}
 use Rattle.gr_model_theorems.proofs.theorems.gets_exactly.Goals as goal
 
 pub returns : goal.returns

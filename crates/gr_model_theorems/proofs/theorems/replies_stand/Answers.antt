@@ -1,4 +1,4 @@
-use Rattle.gr_model_theorems.proofs.headline.ReplyLines.{replied_always}
+use Rattle.gr_model_theorems.proofs.joins.Always.{replied_always}
 use Rattle.gr_model_theorems.proofs.theorems.replies_stand.Goals as goal
 
 pub returns : goal.returns

@@ -1,4 +1,4 @@
-use Rattle.gr_model_theorems.proofs.sweep.RunsByRules.{schedule_by_rules, schedule_once}
+use Rattle.gr_model_theorems.proofs.joins.Always.{schedule_by_rules, schedule_once}
 use Rattle.gr_model_theorems.proofs.server.OpensByRules.{over_by_rules, over_once}
 use Rattle.gr_model_theorems.proofs.theorems.runs_by_rules.Goals as goal
 

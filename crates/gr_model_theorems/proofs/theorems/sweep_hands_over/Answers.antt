@@ -1,4 +1,4 @@
-use Rattle.gr_model_theorems.proofs.headline.SettlesAlways.{sweep_hands_over as by_phases}
+use Rattle.gr_model_theorems.proofs.joins.Always.{sweep_hands_over as by_phases}
 use Rattle.gr_model_theorems.proofs.theorems.sweep_hands_over.Goals as goal
 
 pub returns : goal.returns
